@@ -1,0 +1,14 @@
+-- The values of a base table are texts, each as its bytes in UTF-8. Texts are compared by their bytes.
+use Rattle.std.specs.Prelude.{ℕ, Bool, List}
+use Rattle.std.specs.declared.cmp.Ordering.{Ordering}
+use Rattle.std.specs.Ordering.{nat_cmp, eq_by_cmp}
+use Rattle.std.specs.Cmp.Lexicographic.{slice_cmp}
+
+abbrev pub Text : Type 0
+Text = List ℕ
+
+abbrev pub text_cmp : Text → Text → Ordering
+text_cmp = slice_cmp nat_cmp
+
+abbrev pub text_eq : Text → Text → Bool
+text_eq = eq_by_cmp text_cmp
