@@ -1,0 +1,9 @@
+pub mod Cells
+pub mod Orders
+pub mod Closures
+pub mod Covered
+pub mod Columns
+pub mod Divisors
+pub mod Recoded
+pub mod SameRows
+pub mod Unchanged

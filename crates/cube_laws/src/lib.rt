@@ -1,0 +1,2 @@
+//! The laws of the cube, over any value type.
+#![tactic(auto)]
