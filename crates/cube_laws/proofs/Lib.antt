@@ -1,9 +1,12 @@
-pub mod Cells
+pub mod Lists
+pub mod Distinct
 pub mod Orders
+pub mod Cells
 pub mod Closures
-pub mod Covered
 pub mod Columns
-pub mod Divisors
-pub mod Recoded
+pub mod Covered
+pub mod Nodes
 pub mod SameRows
+pub mod Recoded
+pub mod Divisors
 pub mod Unchanged
