@@ -15,7 +15,7 @@ use Rattle.cube_defs.specs.Tree.{generalizations, covered}
 use Rattle.cube_laws.proofs.Cells.{IsEquality, length-cell_of, length-meet}
 use Rattle.cube_laws.proofs.Closures.{cells_of}
 use Rattle.cube_laws.specs.Lists.{Among, Rises}
-use Rattle.cube_laws.proofs.Lists.{among_append, among_map, map_among, among_flat_map}
+use Rattle.cube_laws.proofs.Lists.{among_filter, among_append, among_map, map_among, among_flat_map}
 use Rattle.cube_laws.proofs.Distinct.{among_distinct, rises_distinct}
 
 module _ {A : Type 0} {eq : A → A → Bool} (law : IsEquality eq) where
@@ -91,3 +91,11 @@ module _ {A : Type 0} (eq : A → A → Bool) (n : ℕ) where
           → (s : Row A) × Among s (r ∷ rows) × (covers eq c s ≡ true)
       go more true is k = (r, inl refl, is)
       go more false is k = let m : (r : Row A) × Among r rows × (covers eq c r ≡ true) = more k in (m.0, inr m.1, m.2)
+
+-- a cell that covers a row has a closure
+pub covered_some : {A : Type 0} (eq : A → A → Bool) (rows : List (Row A)) (c : Cell A) (s : Row A) → Among s rows → covers eq c s ≡ true → (z : Cell A) × (closure eq rows c ≡ Some z)
+covered_some {A = A} eq rows c s h k = go (cov eq rows c) refl (among_filter (covers eq c) s rows h k)
+  where
+    go : (l : List (Row A)) → cov eq rows c ≡ l → Among s l → (z : Cell A) × (closure eq rows c ≡ Some z)
+    go [] e m = absurd m
+    go (x ∷ l) e m = (_, ap (λ l. meet_all eq (cells_of l)) e)

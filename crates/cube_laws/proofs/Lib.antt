@@ -7,6 +7,11 @@ pub mod Columns
 pub mod Covered
 pub mod Nodes
 pub mod SameRows
+pub mod Totals
+pub mod RowTotals
+pub mod Partition
+pub mod OneRow
+pub mod Deletion
 pub mod Recoded
 pub mod Divisors
 pub mod Unchanged

@@ -1,7 +1,7 @@
 -- Lists: filters, facts of all items, and items among others.
-use Rattle.std.proofs.Common.{◌≡◌, ◌↔◌, ◌⊎◌, Bool, true, false, cond, List, [], ◌∷◌, ◌++◌, map, filter, flat_map, refl, sym, ap, ap₂, subst, ◌∙◌, arith, true≢false, inl, inr}
+use Rattle.std.proofs.Common.{◌≡◌, ◌↔◌, ◌⊎◌, Bool, true, false, ◌&&◌, cond, Option, Some, None, List, [], ◌∷◌, ◌++◌, map, filter, filter_map, flat_map, refl, sym, ap, ap₂, subst, ◌∙◌, arith, true≢false, inl, inr}
 use Rattle.std.proofs.lemmas.Bool.{cond-true, cond-false}
-use Rattle.std.specs.List.{AllByRecursion}
+use Rattle.std.specs.List.{AllByRecursion, cons_option}
 use Rattle.cube_laws.specs.Lists.{Among}
 
 -- a map after a filter by what it makes
@@ -92,3 +92,63 @@ module _ {X : Type 0} where
   pub all_from : (P : X → Type 0) (xs : List X) → ((x : X) → Among x xs → P x) → AllByRecursion P xs
   all_from P [] h = tt
   all_from P (x ∷ xs) h = (h x (inl refl), all_from P xs (λ y k. h y (inr k)))
+
+pub filter_none : {X : Type 0} (p : X → Bool) (xs : List X) → AllByRecursion (λ x. p x ≡ false) xs → filter p xs ≡ []
+filter_none p [] h = refl
+filter_none p (x ∷ xs) h = cond-false _ _ _ h.0 ∙ filter_none p xs h.1
+
+-- a filter behind one that it implies
+pub filter_filter : {X : Type 0} (p q : X → Bool) (xs : List X) → ((x : X) → p x ≡ true → q x ≡ true) → filter p (filter q xs) ≡ filter p xs
+filter_filter p q [] h = refl
+filter_filter p q (x ∷ xs) h = go (filter_filter p q xs h) (p x) (q x) refl refl (h x)
+  where
+    go : filter p (filter q xs) ≡ filter p xs → (b d : Bool) → p x ≡ b → q x ≡ d → (p x ≡ true → q x ≡ true) → filter p (cond d (x ∷ filter q xs) (filter q xs)) ≡ cond b (x ∷ filter p xs) (filter p xs)
+    go more true true e k i = cond-true _ _ _ e ∙ ap (λ ys. x ∷ ys) more
+    go more true false e k i = absurd (true≢false (sym (i e) ∙ k))
+    go more false true e k i = cond-false _ _ _ e ∙ more
+    go more false false e k i = more
+
+-- a filter by two tests is two filters
+pub filter_and : {X : Type 0} (p q : X → Bool) (xs : List X) → filter (λ x. p x && q x) xs ≡ filter q (filter p xs)
+filter_and p q [] = refl
+filter_and p q (x ∷ xs) = go (p x) (q x) refl (filter_and p q xs)
+  where
+    go : (b d : Bool) → q x ≡ d → filter (λ x. p x && q x) xs ≡ filter q (filter p xs) → cond (b && d) (x ∷ filter (λ x. p x && q x) xs) (filter (λ x. p x && q x) xs) ≡ filter q (cond b (x ∷ filter p xs) (filter p xs))
+    go true true e more = ap (λ ys. x ∷ ys) more ∙ sym (cond-true _ _ _ e)
+    go true false e more = more ∙ sym (cond-false _ _ _ e)
+    go false d e more = more
+
+module _ {X : Type 0} where
+  pub filter-insert_apart : (p : X → Bool) (xs : List X) (r : X) (ys : List X) → p r ≡ false → filter p (xs ++ r ∷ ys) ≡ filter p (xs ++ ys)
+  filter-insert_apart p [] r ys h = cond-false _ _ _ h
+  filter-insert_apart p (x ∷ xs) r ys h = ap (λ zs. cond (p x) (x ∷ zs) zs) (filter-insert_apart p xs r ys h)
+
+  pub all-insert : (P : X → Type 0) (xs : List X) (r : X) (ys : List X) → AllByRecursion P (xs ++ r ∷ ys) → AllByRecursion P (xs ++ ys) × P r
+  all-insert P [] r ys h = (h.1, h.0)
+  all-insert P (x ∷ xs) r ys h = let m = all-insert P xs r ys h.1 in ((h.0, m.0), m.1)
+
+pub insert-all : {X : Type 0} (P : X → Type 0) (xs : List X) (r : X) (ys : List X) → AllByRecursion P (xs ++ ys) → P r → AllByRecursion P (xs ++ r ∷ ys)
+insert-all P [] r ys h k = (k, h)
+insert-all P (x ∷ xs) r ys h k = (h.0, insert-all P xs r ys h.1 k)
+
+pub among_insert : {X : Type 0} (x : X) (xs : List X) (r : X) (ys : List X) → Among x (xs ++ r ∷ ys) ↔ ((x ≡ r) ⊎ Among x (xs ++ ys))
+among_insert x [] r ys = (λ h. h, λ h. h)
+among_insert x (y ∷ xs) r ys =
+    let m = among_insert x xs r ys in (
+      λ h. elim h [ inl e ↦ inr (inl e) | inr k ↦ elim (m.0 k) [ inl a ↦ inl a | inr b ↦ inr (inr b) ] ],
+      λ h. elim h [ inl e ↦ inr (m.1 (inl e)) | inr k ↦ elim k [ inl a ↦ inl a | inr b ↦ inr (m.1 (inr b)) ] ],
+    )
+
+pub among_filter_map : {X Y : Type 0} (g : X → Option Y) (y : Y) (xs : List X) → Among y (filter_map g xs) ↔ ((x : X) × Among x xs × (g x ≡ Some y))
+among_filter_map g y [] = (λ h. absurd h, λ h. absurd h.1)
+among_filter_map {X = X} {Y = Y} g y (x ∷ xs) = go (g x) refl (among_filter_map g y xs)
+  where
+    go : (o : Option Y) → g x ≡ o → Among y (filter_map g xs) ↔ ((z : X) × Among z xs × (g z ≡ Some y)) → Among y (cons_option o (filter_map g xs)) ↔ ((z : X) × Among z (x ∷ xs) × (g z ≡ Some y))
+    go None e m = (
+      λ h. let r = m.0 h in (r.0, inr r.1, r.2),
+      λ h. m.1 (elim h.1 [ inl a ↦ (let no_value : None ≡ Some y = sym e ∙ sym (ap g a) ∙ h.2 in cc) | inr b ↦ (h.0, b, h.2) ]),
+    )
+    go (Some z) e m = (
+      λ h. elim h [ inl a ↦ (x, inl refl, e ∙ ap (λ w. Some w) (sym a)) | inr b ↦ let r = m.0 b in (r.0, inr r.1, r.2) ],
+      λ h. elim h.1 [ inl a ↦ inl (let is : Some y ≡ Some z = sym h.2 ∙ ap g a ∙ e in cc) | inr b ↦ inr (m.1 (h.0, b, h.2)) ],
+    )
