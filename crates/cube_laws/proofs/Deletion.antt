@@ -1,17 +1,15 @@
 -- A class loses the row r: its new closure and aggregate, from those of more specific classes.
-use Rattle.std.proofs.Common.{◌≡◌, ℕ, zero, suc, ◌<◌, ◌≤◌, Bool, true, false, cond, Option, Some, None, List, [], ◌∷◌, ◌++◌, filter, refl, sym, ap, subst, ◌∙◌, true≢false, arith, slice_get}
-use Rattle.std.proofs.lemmas.Bool.{and_parts, and_from, cond-true, cond-false, cond_both, and_right}
-use Rattle.std.specs.List.{AllByRecursion}
-use Rattle.std.specs.Option.{option_eq, option_map}
-use Rattle.cube_defs.specs.Cell.{Cell, leq, entry_leq, cell_of, cell_eq, with_value, keep, depth}
-use Rattle.cube_defs.specs.Rows.{Row, covers, cov, closure, meet_next, is_class, is_node, agg, agg_of}
+use Rattle.std.proofs.Common.{◌≡◌, ℕ, zero, suc, ◌<◌, ◌≤◌, Bool, true, false, cond, Option, Some, None, List, [], ◌∷◌, ◌++◌, refl, sym, ap, ◌∙◌, true≢false, arith, slice_get}
+use Rattle.std.proofs.lemmas.Bool.{and_parts, and_from, cond-true, cond_both, and_right}
+use Rattle.cube_defs.specs.Cell.{Cell, leq, entry_leq, cell_of, with_value}
+use Rattle.cube_defs.specs.Rows.{Row, covers, cov, closure, meet_next}
 use Rattle.cube_laws.specs.Lists.{Once}
 use Rattle.cube_laws.specs.Total.{total, join_aggs, join_cells, agg_at, agg_some}
-use Rattle.cube_laws.proofs.Lists.{filter_same, always, filter-insert_apart, all-insert}
-use Rattle.cube_laws.proofs.Cells.{IsEquality, leq_antisymm, leq_refl}
-use Rattle.cube_laws.proofs.Closures.{all_cells, closure_covers, leq-closure, meet_next_below, meet_next_rest, is_class-is}
-use Rattle.cube_laws.proofs.Totals.{total_same, total_filter-insert}
-use Rattle.cube_laws.proofs.RowTotals.{cells_add, aggs_add, row_cell, row_agg, closure_total, agg_total}
+use Rattle.cube_laws.proofs.Lists.{filter_same, always, all-insert}
+use Rattle.cube_laws.proofs.Cells.{IsEquality}
+use Rattle.cube_laws.proofs.Closures.{all_cells, closure_covers, leq-closure}
+use Rattle.cube_laws.proofs.Totals.{total_same}
+use Rattle.cube_laws.proofs.RowTotals.{cells_add, aggs_add, row_cell, closure_total}
 use Rattle.cube_laws.specs.Parts.{has_value, HasAll}
 use Rattle.cube_laws.proofs.Partition.{closure_parts, agg_parts, covers_with, alone}
 use Rattle.cube_laws.proofs.OneRow.{closure-insert, closure_stays, cov_stays, below_row}

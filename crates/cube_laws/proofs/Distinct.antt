@@ -1,5 +1,5 @@
 -- The items of a list in order, each once.
-use Rattle.std.proofs.Common.{◌≡◌, ◌↔◌, ◌⊎◌, List, [], ◌∷◌, refl, sym, ap, subst, ◌∙◌, inl, inr}
+use Rattle.std.proofs.Common.{◌≡◌, ◌↔◌, ◌⊎◌, List, [], ◌∷◌, refl, sym, ap, ap₂, subst, ◌∙◌, inl, inr}
 use Rattle.std.specs.declared.cmp.Ordering.{Ordering}
 use Rattle.std.specs.declared.cmp.Ordering.TheVariants.{Less, Equal, Greater}
 use Rattle.std.specs.Ordering.{ordering_reverse}
@@ -8,6 +8,7 @@ use Rattle.std.specs.FinMap.{IsAntisymmetric}
 use Rattle.std.specs.List.{AllByRecursion}
 use Rattle.cube_defs.specs.Tree.{put_in, distinct}
 use Rattle.cube_laws.specs.Lists.{Among, Rises}
+use Rattle.cube_laws.proofs.Lists.{all_at}
 
 -- what `put_in` gives by the order of x and y
 abbrev pub put_by : {X : Type 0} → Ordering → X → X → List X → List X → List X
@@ -63,3 +64,25 @@ module _ {X : Type 0} {cmp : X → X → Ordering} (total : IsTotalOrder cmp) (a
   pub rises_distinct : (xs : List X) → Rises cmp (distinct cmp xs)
   rises_distinct [] = tt
   rises_distinct (x ∷ xs) = rises_put_in x (distinct cmp xs) (rises_distinct xs)
+
+  both_less : (x y : X) → cmp x y ≡ Less → cmp y x ≡ Less → ⊥
+  both_less x y h k = let e : Less ≡ Greater = sym k ∙ total.antisymm y x ∙ ap ordering_reverse h in cc
+
+  pub self_less : (x : X) → cmp x x ≡ Less → ⊥
+  self_less x h = both_less x x h h
+
+  -- lists that rise and have the same items are the same
+  pub rises_same : (xs ys : List X) → Rises cmp xs → Rises cmp ys → ((z : X) → Among z xs → Among z ys) → ((z : X) → Among z ys → Among z xs) → xs ≡ ys
+  rises_same [] [] h k f g = refl
+  rises_same [] (y ∷ ys) h k f g = absurd (g y (inl refl))
+  rises_same (x ∷ xs) [] h k f g = absurd (f x (inl refl))
+  rises_same (x ∷ xs) (y ∷ ys) h k f g =
+      ap₂ (λ b bs. b ∷ bs) first (rises_same xs ys h.1 k.1
+      (λ z m. elim (f z (inr m)) [ inl e ↦ absurd (self_less x (subst (λ a. cmp x a ≡ Less) (e ∙ sym first) (all_at (λ a. cmp x a ≡ Less) z xs h.0 m))) | inr n ↦ n ])
+      (λ z m. elim (g z (inr m)) [ inl e ↦ absurd (self_less y (subst (λ a. cmp y a ≡ Less) (e ∙ first) (all_at (λ a. cmp y a ≡ Less) z ys k.0 m))) | inr n ↦ n ]))
+    where
+      first : x ≡ y
+      first = elim (f x (inl refl)) [
+        | inl e ↦ e
+        | inr m ↦ elim (g y (inl refl)) [ inl e ↦ sym e | inr n ↦ absurd (both_less x y (all_at (λ a. cmp x a ≡ Less) y xs h.0 n) (all_at (λ a. cmp y a ≡ Less) x ys k.0 m)) ]
+      ]

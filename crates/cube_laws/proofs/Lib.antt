@@ -4,6 +4,7 @@ pub mod Orders
 pub mod Cells
 pub mod Closures
 pub mod Columns
+pub mod Bounds
 pub mod Covered
 pub mod Nodes
 pub mod SameRows

@@ -8,7 +8,8 @@ use Rattle.cube_defs.specs.Cell.{Cell, leq, meet, cell_of}
 use Rattle.cube_defs.specs.Rows.{Row, meet_next, meet_all, closure}
 use Rattle.cube_laws.specs.Recoding.{coded, coded_tuple, coded_row, TellsApart, AreKnown, RowsAreKnown}
 use Rattle.cube_laws.proofs.Cells.{IsEquality}
-use Rattle.cube_laws.proofs.Closures.{cells_of, all_cells, closure-cells}
+use Rattle.cube_laws.specs.Tuples.{cells_of}
+use Rattle.cube_laws.proofs.Closures.{all_cells, closure-cells}
 
 module _ {A B : Type 0} {eq : A → A → Bool} {eq' : B → B → Bool} (law : IsEquality eq) (law' : IsEquality eq') {known : ℕ → A → Bool} {codes : ℕ → A → B} (tells : TellsApart known codes) where
   pub same_test : (k : ℕ) (v w : A) → known k v ≡ true → known k w ≡ true → eq' (codes k v) (codes k w) ≡ eq v w

@@ -1,4 +1,10 @@
-//! The laws of the cube, over any type of values.
+//! The laws of the cube, over any type of values. Each is the contract of a function that has nothing
+//! to do. What they speak of stands in the definitions of `cube_defs` and in this crate's `specs/`.
 #![tactic(auto)]
 
+pub mod closure_operator;
+pub mod lattice;
+pub mod one_row_more;
+pub mod same_rows;
+pub mod upper_bounds;
 pub mod values;
