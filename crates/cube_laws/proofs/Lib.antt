@@ -11,6 +11,8 @@ pub mod SameRows
 pub mod Totals
 pub mod RowTotals
 pub mod Partition
+pub mod Labels
+pub mod LastAny
 pub mod OneRow
 pub mod Deletion
 pub mod Recoded

@@ -3,3 +3,4 @@ pub mod Total
 pub mod Parts
 pub mod Recoding
 pub mod Tuples
+pub mod Step

@@ -3,8 +3,10 @@
 #![tactic(auto)]
 
 pub mod closure_operator;
+pub mod deletion_step;
 pub mod lattice;
 pub mod one_row_more;
+pub mod parts_of_a_class;
 pub mod same_rows;
 pub mod upper_bounds;
 pub mod values;
