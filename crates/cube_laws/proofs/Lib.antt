@@ -16,5 +16,6 @@ pub mod LastAny
 pub mod OneRow
 pub mod Deletion
 pub mod Recoded
+pub mod RecodedRows
 pub mod Divisors
 pub mod Unchanged

@@ -11,6 +11,7 @@ use Rattle.cube_laws.specs.Tuples.{cells_of}
 use Rattle.cube_laws.specs.Total.{total, agg_at, combine_part, combine_parts, combine, join_aggs, join_cells, agg_some}
 use Rattle.cube_laws.proofs.Cells.{IsEquality, meet_assoc, meet_comm}
 use Rattle.cube_laws.proofs.Totals.{IsAddition}
+use Rattle.cube_laws.proofs.Lists.{map_same}
 
 pub min_comm : (x y : ℤ) → int_min x y ≡ int_min y x
 min_comm x y = grind (arith, ints)
@@ -109,10 +110,6 @@ part_more a b xs = part_same _ _ (fold_first (λ x y. x +ℤ y) +ℤ_assoc a b x
 parts_more : (f g : ℕ → Part) (is : List ℕ) → map (λ m. combine_part (f m) (g m)) is ≡ combine_parts (map f is) (map g is)
 parts_more f g [] = refl
 parts_more f g (i ∷ is) = ap (λ ps. combine_part (f i) (g i) ∷ ps) (parts_more f g is)
-
-map_same : {X Y : Type 0} (f g : X → Y) (xs : List X) → ((x : X) → f x ≡ g x) → map f xs ≡ map g xs
-map_same f g [] h = refl
-map_same f g (x ∷ xs) h = ap₂ (λ y ys. y ∷ ys) (h x) (map_same f g xs h)
 
 agg_more : {A : Type 0} (measures : ℕ) (r s : Row A) (rows : List (Row A)) → agg_of measures (r ∷ s ∷ rows) ≡ combine (agg_of measures (r ∷ [])) (agg_of measures (s ∷ rows))
 agg_more measures r s rows =
