@@ -17,5 +17,6 @@ pub mod OneRow
 pub mod Deletion
 pub mod Recoded
 pub mod RecodedRows
+pub mod RecodedLists
 pub mod Divisors
 pub mod Unchanged
