@@ -18,5 +18,6 @@ pub mod Deletion
 pub mod Recoded
 pub mod RecodedRows
 pub mod RecodedLists
+pub mod Icebergs
 pub mod Divisors
 pub mod Unchanged

@@ -1,11 +1,12 @@
 -- Other values for the values of each dimension, as codes for texts.
-use Rattle.std.specs.Prelude.{◌≡◌, ℕ, suc, Bool, true, Some, None, List, [], ◌∷◌, map}
+use Rattle.std.specs.Prelude.{◌≡◌, ◌↔◌, ℕ, suc, Bool, true, Some, None, List, [], ◌∷◌, map}
 use Rattle.std.specs.Bool.{⊤}
 use Rattle.std.specs.List.{AllByRecursion}
 use Rattle.std.specs.Option.{option_map}
 use Rattle.cube_defs.specs.Cell.{Cell, cell_of}
 use Rattle.cube_defs.specs.Rows.{Row}
-use Rattle.cube_defs.specs.Answers.{Box, Hit}
+use Rattle.cube_laws.specs.Lists.{Among}
+use Rattle.cube_defs.specs.Answers.{Box, Hit, ClassHit}
 
 -- codes i v: the code of the value v in dimension i
 module _ {A B : Type 0} (codes : ℕ → A → B) where
@@ -50,3 +51,9 @@ module _ {A : Type 0} (known : ℕ → A → Bool) where
   BoxIsKnown k [] = ⊤
   BoxIsKnown k (None ∷ box) = BoxIsKnown (suc k) box
   BoxIsKnown k (Some vs ∷ box) = AllByRecursion (λ v. known k v ≡ true) vs × BoxIsKnown (suc k) box
+
+-- a class of an answer, and the same class under its code; its lower bounds may stand in another order
+pub record IsCodedClass {A B : Type 0} (codes : ℕ → A → B) (found : ClassHit A) (hit : ClassHit B) : Type 0 where
+  pub upper : hit.upper ≡ coded codes 0 found.upper
+  pub agg : hit.agg ≡ found.agg
+  pub lowers : (d : Cell B) → Among d hit.lowers ↔ ((c : Cell A) × Among c found.lowers × (d ≡ coded codes 0 c))
