@@ -1,17 +1,17 @@
 -- The iceberg answer has just the classes that pass; so it is the same under other values, up to the order.
-use Rattle.std.proofs.Common.{◌≡◌, ◌↔◌, ℕ, Bool, true, Option, Some, None, List, [], ◌∷◌, map, filter, refl, sym, ap, ap₂, subst, ◌∙◌}
+use Rattle.std.proofs.Common.{◌≡◌, ◌↔◌, ℕ, Bool, true, List, map, filter, refl, sym, ap, subst, ◌∙◌}
 use Rattle.std.specs.declared.cmp.Ordering.{Ordering}
 use Rattle.std.specs.declared.cmp.Ordering.TheVariants.{Less, Equal, Greater}
 use Rattle.std.specs.Ordering.{eq_by_cmp, ordering_then, ordering_reverse}
 use Rattle.std.specs.Cmp.{IsTotalOrder}
 use Rattle.std.specs.FinMap.{IsAntisymmetric}
 use Rattle.cube_defs.specs.Cell.{Cell, cell_cmp}
-use Rattle.cube_defs.specs.Rows.{Row, Agg, Fraction, agg, is_class}
+use Rattle.cube_defs.specs.Rows.{Row, Fraction, agg, is_class}
 use Rattle.cube_defs.specs.Tree.{covered, classes}
 use Rattle.cube_defs.specs.Answers.{Ask, AggKind, Bound, ClassHit, fraction_cmp, value_of, is_asked, lower_bounds, asked, answer_cmp, iceberg}
 use Rattle.cube_defs.specs.Answers.Bound.{AtLeast, AtMost}
 use Rattle.cube_laws.specs.Lists.{Among}
-use Rattle.cube_laws.specs.Recoding.{coded, coded_row, TellsApart, AreKnown, RowsAreKnown, IsCodedClass}
+use Rattle.cube_laws.specs.Recoding.{coded, coded_row, TellsApart, RowsAreKnown, IsCodedClass}
 use Rattle.cube_laws.proofs.Lists.{among_filter, filter_among, among_map, map_among}
 use Rattle.cube_laws.proofs.Distinct.{among_distinct-told}
 use Rattle.cube_laws.proofs.Orders.{equality_by}
@@ -72,10 +72,9 @@ module _ {A B : Type 0} {cmp : A → A → Ordering} {cmp' : B → B → Orderin
   pub iceberg-decoded : (hit : ClassHit B) → Among hit (iceberg cmp' measures (map (coded_row codes) rows) ask) → (found : ClassHit A) × Among found (iceberg cmp measures rows ask) × IsCodedClass codes found hit
   iceberg-decoded hit m =
       let p : (d : Cell B) × Among d (classes cmp' (map (coded_row codes) rows)) × (is_asked ask (agg (eq_by_cmp cmp') measures (map (coded_row codes) rows) d) ≡ true) × (hit ≡ hit_of cmp' measures (map (coded_row codes) rows) d) =
-          (asked-is total' anti' measures (map (coded_row codes) rows) ask hit).0 ((iceberg-asked total' anti' measures (map (coded_row codes) rows) ask hit).0 m) in
+      (asked-is total' anti' measures (map (coded_row codes) rows) ask hit).0 ((iceberg-asked total' anti' measures (map (coded_row codes) rows) ask hit).0 m) in
       let c : (u : Cell A) × Among u (classes cmp rows) × (p.0 ≡ coded codes 0 u) = (classes-coded total anti total' anti' tells rows h p.0).0 p.1 in
-      let pass : is_asked ask (agg (eq_by_cmp cmp) measures rows c.0) ≡ true = ap (is_asked ask) (sym (same_agg c.0 c.1) ∙ ap (agg (eq_by_cmp cmp') measures (map (coded_row codes) rows)) (sym c.2)) ∙ p.2 in
-      (
+      let pass : is_asked ask (agg (eq_by_cmp cmp) measures rows c.0) ≡ true = ap (is_asked ask) (sym (same_agg c.0 c.1) ∙ ap (agg (eq_by_cmp cmp') measures (map (coded_row codes) rows)) (sym c.2)) ∙ p.2 in (
         hit_of cmp measures rows c.0,
         (iceberg-asked total anti measures rows ask _).1 ((asked-is total anti measures rows ask _).1 (c.0, c.1, pass, refl)),
         subst (IsCodedClass codes (hit_of cmp measures rows c.0)) (ap (hit_of cmp' measures (map (coded_row codes) rows)) (sym c.2) ∙ sym p.3) (coded_hits c.0 (class_covered c.0 c.1)),
@@ -84,10 +83,9 @@ module _ {A B : Type 0} {cmp : A → A → Ordering} {cmp' : B → B → Orderin
   pub iceberg-coded : (found : ClassHit A) → Among found (iceberg cmp measures rows ask) → (hit : ClassHit B) × Among hit (iceberg cmp' measures (map (coded_row codes) rows) ask) × IsCodedClass codes found hit
   iceberg-coded found m =
       let p : (u : Cell A) × Among u (classes cmp rows) × (is_asked ask (agg (eq_by_cmp cmp) measures rows u) ≡ true) × (found ≡ hit_of cmp measures rows u) =
-          (asked-is total anti measures rows ask found).0 ((iceberg-asked total anti measures rows ask found).0 m) in
-      (
+      (asked-is total anti measures rows ask found).0 ((iceberg-asked total anti measures rows ask found).0 m) in (
         hit_of cmp' measures (map (coded_row codes) rows) (coded codes 0 p.0),
         (iceberg-asked total' anti' measures (map (coded_row codes) rows) ask _).1
-        ((asked-is total' anti' measures (map (coded_row codes) rows) ask _).1 (coded codes 0 p.0, (classes-coded total anti total' anti' tells rows h _).1 (p.0, p.1, refl), ap (is_asked ask) (same_agg p.0 p.1) ∙ p.2, refl)),
+            ((asked-is total' anti' measures (map (coded_row codes) rows) ask _).1 (coded codes 0 p.0, (classes-coded total anti total' anti' tells rows h _).1 (p.0, p.1, refl), ap (is_asked ask) (same_agg p.0 p.1) ∙ p.2, refl)),
         subst (λ (f : ClassHit A). IsCodedClass codes f (hit_of cmp' measures (map (coded_row codes) rows) (coded codes 0 p.0))) (sym p.3) (coded_hits p.0 (class_covered p.0 p.1)),
       )

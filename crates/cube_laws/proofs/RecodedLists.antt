@@ -1,15 +1,15 @@
 -- The lists of cells, and the answers, under other values: the same up to the order.
-use Rattle.std.proofs.Common.{◌≡◌, ◌↔◌, ℕ, suc, Bool, true, false, ◌&&◌, ◌||◌, Option, Some, None, List, [], ◌∷◌, map, filter, length, refl, sym, ap, ap₂, subst, ◌∙◌, true≢false, arith}
+use Rattle.std.proofs.Common.{◌≡◌, ◌↔◌, ℕ, suc, Bool, true, ◌&&◌, ◌||◌, Some, None, List, [], ◌∷◌, map, filter, length, refl, sym, ap, ap₂, subst, ◌∙◌, true≢false, arith}
 use Rattle.std.proofs.lemmas.Bool.{and_parts, and_from}
 use Rattle.std.specs.declared.cmp.Ordering.{Ordering}
 use Rattle.std.specs.Ordering.{eq_by_cmp}
 use Rattle.std.specs.Cmp.{IsTotalOrder}
 use Rattle.std.specs.FinMap.{IsAntisymmetric}
 use Rattle.std.specs.List.{AllByRecursion, list_any}
-use Rattle.cube_defs.specs.Cell.{Cell, leq, entry_leq, cell_of}
-use Rattle.cube_defs.specs.Rows.{Row, Agg, covers, is_class, is_node, is_lower_bound, agg}
+use Rattle.cube_defs.specs.Cell.{Cell, leq, cell_of}
+use Rattle.cube_defs.specs.Rows.{Row, Agg, covers, agg}
 use Rattle.cube_defs.specs.Tree.{covered, classes, nodes}
-use Rattle.cube_defs.specs.Answers.{Box, Hit, allows, in_box, range, lower_bounds}
+use Rattle.cube_defs.specs.Answers.{Box, Hit, in_box, range, lower_bounds}
 use Rattle.cube_laws.specs.Lists.{Among}
 use Rattle.cube_laws.specs.Recoding.{coded, coded_tuple, coded_row, coded_box, coded_hit, TellsApart, AreKnown, RowsAreKnown, BoxIsKnown}
 use Rattle.cube_laws.proofs.Lists.{among_filter, filter_among, among_map, map_among, all_at}
@@ -79,22 +79,22 @@ module _ {A B : Type 0} {cmp : A → A → Ordering} {cmp' : B → B → Orderin
   pub covered-coded : (d : Cell B) → Among d (covered cmp' (map (coded_row codes) rows)) ↔ ((c : Cell A) × Among c (covered cmp rows) × (d ≡ coded codes 0 c))
   covered-coded d = (
     λ m.
-    let q : (r : Row B) × Among r (map (coded_row codes) rows) × (length d ≡ length r.tuple) × (covers (eq_by_cmp cmp') d r ≡ true) = (covered-is total' anti' (map (coded_row codes) rows) d).0 m in
-    let s : (r : Row A) × Among r rows × (q.0 ≡ coded_row codes r) = among_map (coded_row codes) q.0 rows q.1 in
-    let long : length d ≡ length (coded_tuple codes 0 s.0.tuple) = q.2 ∙ ap (λ (r : Row B). length r.tuple) s.2 in
-    let low : leq (eq_by_cmp cmp') d (cell_of (coded_tuple codes 0 s.0.tuple)) ≡ true = ap (λ (r : Row B). leq (eq_by_cmp cmp') d (cell_of r.tuple)) (sym s.2) ∙ q.3 in
-    let c = decoded law law' codes 0 d s.0.tuple long low in
-    (c.0, (covered-is total anti rows c.0).1 (s.0, s.1, c.2, c.3), c.1),
+        let q : (r : Row B) × Among r (map (coded_row codes) rows) × (length d ≡ length r.tuple) × (covers (eq_by_cmp cmp') d r ≡ true) = (covered-is total' anti' (map (coded_row codes) rows) d).0 m in
+        let s : (r : Row A) × Among r rows × (q.0 ≡ coded_row codes r) = among_map (coded_row codes) q.0 rows q.1 in
+        let long : length d ≡ length (coded_tuple codes 0 s.0.tuple) = q.2 ∙ ap (λ (r : Row B). length r.tuple) s.2 in
+        let low : leq (eq_by_cmp cmp') d (cell_of (coded_tuple codes 0 s.0.tuple)) ≡ true = ap (λ (r : Row B). leq (eq_by_cmp cmp') d (cell_of r.tuple)) (sym s.2) ∙ q.3 in
+        let c = decoded law law' codes 0 d s.0.tuple long low in
+        (c.0, (covered-is total anti rows c.0).1 (s.0, s.1, c.2, c.3), c.1),
     λ m.
-    let q : (r : Row A) × Among r rows × (length m.0 ≡ length r.tuple) × (covers (eq_by_cmp cmp) m.0 r ≡ true) = (covered-is total anti rows m.0).0 m.1 in
-    (covered-is total' anti' (map (coded_row codes) rows) d).1 (
-      coded_row codes q.0,
-      map_among (coded_row codes) q.0 rows q.1,
-      ap length m.2 ∙ length-coded codes 0 m.0 ∙ q.2 ∙ sym (length-coded_tuple codes 0 q.0.tuple),
-      ap (λ x. leq (eq_by_cmp cmp') x (cell_of (coded_tuple codes 0 q.0.tuple))) m.2
-      ∙ covers-coded law law' tells m.0 q.0 (known-covered m.0 m.1) (all_at (λ (r : Row A). AreKnown known 0 (cell_of r.tuple)) q.0 rows h q.1)
-      ∙ q.3,
-    ),
+        let q : (r : Row A) × Among r rows × (length m.0 ≡ length r.tuple) × (covers (eq_by_cmp cmp) m.0 r ≡ true) = (covered-is total anti rows m.0).0 m.1 in
+        (covered-is total' anti' (map (coded_row codes) rows) d).1 (
+          coded_row codes q.0,
+          map_among (coded_row codes) q.0 rows q.1,
+          ap length m.2 ∙ length-coded codes 0 m.0 ∙ q.2 ∙ sym (length-coded_tuple codes 0 q.0.tuple),
+          ap (λ x. leq (eq_by_cmp cmp') x (cell_of (coded_tuple codes 0 q.0.tuple))) m.2
+              ∙ covers-coded law law' tells m.0 q.0 (known-covered m.0 m.1) (all_at (λ (r : Row A). AreKnown known 0 (cell_of r.tuple)) q.0 rows h q.1)
+              ∙ q.3,
+        ),
   )
 
   -- and so are those of them that pass a test
@@ -102,12 +102,12 @@ module _ {A B : Type 0} {cmp : A → A → Ordering} {cmp' : B → B → Orderin
       → (d : Cell B) → Among d (filter p' (covered cmp' (map (coded_row codes) rows))) ↔ ((c : Cell A) × Among c (filter p (covered cmp rows)) × (d ≡ coded codes 0 c))
   passing-coded p p' same d = (
     λ m.
-    let f = filter_among p' d (covered cmp' (map (coded_row codes) rows)) m in
-    let c : (c : Cell A) × Among c (covered cmp rows) × (d ≡ coded codes 0 c) = (covered-coded d).0 f.0 in
-    (c.0, among_filter p c.0 (covered cmp rows) c.1 (sym (same c.0 (known-covered c.0 c.1)) ∙ ap p' (sym c.2) ∙ f.1), c.2),
+        let f = filter_among p' d (covered cmp' (map (coded_row codes) rows)) m in
+        let c : (c : Cell A) × Among c (covered cmp rows) × (d ≡ coded codes 0 c) = (covered-coded d).0 f.0 in
+        (c.0, among_filter p c.0 (covered cmp rows) c.1 (sym (same c.0 (known-covered c.0 c.1)) ∙ ap p' (sym c.2) ∙ f.1), c.2),
     λ m.
-    let f = filter_among p m.0 (covered cmp rows) m.1 in
-    among_filter p' d (covered cmp' (map (coded_row codes) rows)) ((covered-coded d).1 (m.0, f.0, m.2)) (ap p' m.2 ∙ same m.0 (known-covered m.0 f.0) ∙ f.1),
+        let f = filter_among p m.0 (covered cmp rows) m.1 in
+        among_filter p' d (covered cmp' (map (coded_row codes) rows)) ((covered-coded d).1 (m.0, f.0, m.2)) (ap p' m.2 ∙ same m.0 (known-covered m.0 f.0) ∙ f.1),
   )
 
   pub classes-coded : (d : Cell B) → Among d (classes cmp' (map (coded_row codes) rows)) ↔ ((c : Cell A) × Among c (classes cmp rows) × (d ≡ coded codes 0 c))
@@ -126,14 +126,14 @@ module _ {A B : Type 0} {cmp : A → A → Ordering} {cmp' : B → B → Orderin
   range-coded measures box k hit =
       let cells = passing-coded (in_box (eq_by_cmp cmp) box) (in_box (eq_by_cmp cmp') (coded_box codes 0 box)) (λ c g. in_box-coded law law' tells 0 box c k g) in (
         λ m.
-        let d : (d : Cell B) × Among d (filter (in_box (eq_by_cmp cmp') (coded_box codes 0 box)) (covered cmp' (map (coded_row codes) rows))) × (hit ≡ hit_at' d) = among_map hit_at' hit _ m in
-        let c : (c : Cell A) × Among c (filter (in_box (eq_by_cmp cmp) box) (covered cmp rows)) × (d.0 ≡ coded codes 0 c) = (cells d.0).0 d.1 in
-        (hit_at c.0, map_among hit_at c.0 _ c.1, d.2 ∙ ap hit_at' c.2 ∙ same_hit c.0 (filter_among (in_box (eq_by_cmp cmp) box) c.0 (covered cmp rows) c.1).0),
+            let d : (d : Cell B) × Among d (filter (in_box (eq_by_cmp cmp') (coded_box codes 0 box)) (covered cmp' (map (coded_row codes) rows))) × (hit ≡ hit_at' d) = among_map hit_at' hit _ m in
+            let c : (c : Cell A) × Among c (filter (in_box (eq_by_cmp cmp) box) (covered cmp rows)) × (d.0 ≡ coded codes 0 c) = (cells d.0).0 d.1 in
+            (hit_at c.0, map_among hit_at c.0 _ c.1, d.2 ∙ ap hit_at' c.2 ∙ same_hit c.0 (filter_among (in_box (eq_by_cmp cmp) box) c.0 (covered cmp rows) c.1).0),
         λ m.
-        let c : (c : Cell A) × Among c (filter (in_box (eq_by_cmp cmp) box) (covered cmp rows)) × (m.0 ≡ hit_at c) = among_map hit_at m.0 _ m.1 in
-        let there : Among (hit_at' (coded codes 0 c.0)) (range cmp' measures (map (coded_row codes) rows) (coded_box codes 0 box)) = map_among hit_at' (coded codes 0 c.0) _ ((cells (coded codes 0 c.0)).1 (c.0, c.1, refl)) in
-        subst (λ x. Among x (range cmp' measures (map (coded_row codes) rows) (coded_box codes 0 box)))
-        (same_hit c.0 (filter_among (in_box (eq_by_cmp cmp) box) c.0 (covered cmp rows) c.1).0 ∙ ap (coded_hit codes) (sym c.2) ∙ sym m.2) there,
+            let c : (c : Cell A) × Among c (filter (in_box (eq_by_cmp cmp) box) (covered cmp rows)) × (m.0 ≡ hit_at c) = among_map hit_at m.0 _ m.1 in
+            let there : Among (hit_at' (coded codes 0 c.0)) (range cmp' measures (map (coded_row codes) rows) (coded_box codes 0 box)) = map_among hit_at' (coded codes 0 c.0) _ ((cells (coded codes 0 c.0)).1 (c.0, c.1, refl)) in
+            subst (λ x. Among x (range cmp' measures (map (coded_row codes) rows) (coded_box codes 0 box)))
+            (same_hit c.0 (filter_among (in_box (eq_by_cmp cmp) box) c.0 (covered cmp rows) c.1).0 ∙ ap (coded_hit codes) (sym c.2) ∙ sym m.2) there,
       )
     where
       hit_at : Cell A → Hit A

@@ -1,11 +1,10 @@
 -- What rows say of a cell stays under other values for the values of each dimension.
-use Rattle.std.proofs.Common.{◌≡◌, ℕ, zero, suc, Bool, true, false, not, ◌&&◌, ◌||◌, cond, Option, Some, None, List, [], ◌∷◌, map, filter, length, is_none, pos, refl, sym, ap, ap₂, subst, ◌∙◌, slice_index_or, slice_set}
+use Rattle.std.proofs.Common.{◌≡◌, ℕ, zero, suc, Bool, true, false, not, ◌&&◌, ◌||◌, cond, Option, Some, None, List, [], ◌∷◌, map, length, is_none, pos, refl, ap, ap₂, subst, ◌∙◌, slice_index_or}
 use Rattle.std.specs.List.{list_all, range_with_len}
 use Rattle.std.specs.Option.{option_map, option_eq}
-use Rattle.std.specs.List.{AllByRecursion}
 use Rattle.cube_defs.specs.Cell.{Cell, leq, cell_of, cell_eq, keep, depth, one_deeper, without}
 use Rattle.cube_defs.specs.Rows.{Row, Agg, Part, covers, cov, closure, has_closure, is_class, is_node, is_lower_bound, agg, agg_of, amounts_of, part_of}
-use Rattle.cube_laws.specs.Recoding.{coded, coded_tuple, coded_row, TellsApart, AreKnown, RowsAreKnown}
+use Rattle.cube_laws.specs.Recoding.{coded, coded_row, TellsApart, AreKnown, RowsAreKnown}
 use Rattle.cube_laws.proofs.Lists.{map_same, list_all_same}
 use Rattle.cube_laws.proofs.Cells.{IsEquality}
 use Rattle.cube_laws.proofs.Recoded.{leq-coded, cell_of-coded, closure-coded, known-closure, option_eq-coded}
@@ -108,7 +107,7 @@ module _ {A B : Type 0} {eq : A → A → Bool} {eq' : B → B → Bool} (law : 
         ap₂ (λ a b. a && b) (has_closure-coded c u k g)
         (ap (λ n. list_all minimal' (range_with_len 0 n)) (length-coded codes 0 c)
         ∙ list_all_same minimal' minimal (range_with_len 0 (length c)) (λ i. ap₂ (λ a b. a || not b) (is_none-coded codes 0 c i)
-          (ap (λ x. has_closure eq' (map (coded_row codes) rows) x (coded codes 0 u)) (without-coded codes 0 c i) ∙ has_closure-coded (without c i) u (known-without known 0 c i k) g)))
+        (ap (λ x. has_closure eq' (map (coded_row codes) rows) x (coded codes 0 u)) (without-coded codes 0 c i) ∙ has_closure-coded (without c i) u (known-without known 0 c i k) g)))
       where
         minimal : ℕ → Bool
         minimal i = is_none (slice_index_or c i None) || not (has_closure eq rows (without c i) u)

@@ -5,8 +5,10 @@
 pub mod closure_operator;
 pub mod deletion_step;
 pub mod lattice;
+pub mod lists_of_answers;
 pub mod one_row_more;
 pub mod parts_of_a_class;
+pub mod recoding;
 pub mod same_rows;
 pub mod upper_bounds;
 pub mod values;
