@@ -20,4 +20,5 @@ pub mod RecodedRows
 pub mod RecodedLists
 pub mod Icebergs
 pub mod Divisors
+pub mod FractionOrder
 pub mod Unchanged
