@@ -10,11 +10,14 @@ use super::values::Value;
 
 /// Rows with the same tuples have the same closures, upper bounds and nodes (own).
 pub fn order_and_repetition_of_rows<V: Value>()
-    ensures closures { (rows more : List (Row V)) (c : Cell V) → TuplesAmong rows more → TuplesAmong more rows →
+    ensures closures { (rows more : List (Row V)) (c : Cell V) → TuplesAmong rows more →
+        TuplesAmong more rows →
         closure V.eq rows c ≡ closure V.eq more c }
-    ensures classes { (rows more : List (Row V)) (u : Cell V) → TuplesAmong rows more → TuplesAmong more rows →
+    ensures classes { (rows more : List (Row V)) (u : Cell V) → TuplesAmong rows more →
+        TuplesAmong more rows →
         is_class V.eq rows u ≡ is_class V.eq more u }
-    ensures nodes { (rows more : List (Row V)) (p : Cell V) → TuplesAmong rows more → TuplesAmong more rows →
+    ensures nodes { (rows more : List (Row V)) (p : Cell V) → TuplesAmong rows more →
+        TuplesAmong more rows →
         is_node V.eq rows p ≡ is_node V.eq more p }
 {}
 
