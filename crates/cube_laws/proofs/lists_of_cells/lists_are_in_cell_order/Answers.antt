@@ -1,7 +1,10 @@
-use Rattle.cube_laws.proofs.Covered.{cell_anti, cell_total}
+use Rattle.cube_laws.proofs.Covered.{cell_anti, cell_total, covered_rises}
 use Rattle.cube_laws.proofs.Distinct.{rises_same}
 use Rattle.cube_laws.proofs.Listed.{classes_rise, lower_bounds_rise, nodes_rise, range_rises}
-use Rattle.cube_laws.proofs.lists_of_answers.lists_are_in_cell_order.Goals as goal
+use Rattle.cube_laws.proofs.lists_of_cells.lists_are_in_cell_order.Goals as goal
+
+pub returns-clause-covered : goal.returns-clause-covered
+returns-clause-covered g c = covered_rises g.met.V.Ord.total g.met.V.Value.apart
 
 pub returns-clause-upper_bounds : goal.returns-clause-upper_bounds
 returns-clause-upper_bounds g c = classes_rise g.met.V.Ord.total g.met.V.Value.apart

@@ -1,6 +1,6 @@
-//! What stands in the lists of cells and in the answers.
+//! What stands in the lists of cells and in a range answer, and in which order.
 ghost use Rattle.std.specs.Prelude.{IsTrue, List, length, ℕ, ◌↔◌, ◌≡◌};
-ghost use Rattle.cube_defs.specs.Answers.{Ask, Box, ClassHit, Hit, answer_cmp, asked, iceberg, in_box, lower_bounds, range};
+ghost use Rattle.cube_defs.specs.Answers.{Box, Hit, in_box, lower_bounds, range};
 ghost use Rattle.cube_defs.specs.Cell.{Cell, cell_cmp};
 ghost use Rattle.cube_defs.specs.Rows.{Row, agg, closure, covers, is_class, is_lower_bound, is_node};
 ghost use Rattle.cube_defs.specs.Tree.{classes, covered, nodes};
@@ -9,30 +9,12 @@ ghost use Rattle.std.specs.Ordering.{on};
 
 use super::values::Value;
 
-/// The list of covered cells has exactly the cells of all dimensions that cover some row, and
-/// rises in cell order (own).
+/// The list of covered cells has exactly the cells that cover some row of as many dimensions
+/// (own).
 pub fn covered_cells_are_listed<V: Value>()
-    ensures listed { (rows : List (Row V)) (c : Cell V) →
+    ensures { (rows : List (Row V)) (c : Cell V) →
         Among c (covered V.cmp rows)
         ↔ ((r : Row V) × Among r rows × (length c ≡ length r.tuple) × IsTrue (covers V.eq c r)) }
-    ensures in_order { (rows : List (Row V)) → Rises (cell_cmp V.cmp) (covered V.cmp rows) }
-{}
-
-/// Sorting loses no class of an iceberg answer and adds none (own).
-pub fn iceberg_has_the_classes_that_pass<V: Value>()
-    ensures { (measures : ℕ) (rows : List (Row V)) (ask : Ask) (hit : ClassHit V) →
-        Among hit (iceberg V.cmp measures rows ask) ↔ Among hit (asked V.cmp measures rows ask) }
-{}
-
-/// An iceberg answer stands in the order of the values, falling or rising as it was asked, and
-/// in cell order where they are equal; no other list of the same classes stands so (own).
-pub fn iceberg_is_in_order<V: Value>()
-    ensures in_order { (measures : ℕ) (rows : List (Row V)) (ask : Ask) →
-        Rises (answer_cmp V.cmp ask) (iceberg V.cmp measures rows ask) }
-    ensures only_one { (measures : ℕ) (rows : List (Row V)) (ask : Ask) (hits : List (ClassHit V)) →
-        Rises (answer_cmp V.cmp ask) hits →
-        ((hit : ClassHit V) → Among hit hits ↔ Among hit (asked V.cmp measures rows ask)) →
-        hits ≡ iceberg V.cmp measures rows ask }
 {}
 
 /// Among rows of n dimensions the lists of upper bounds and of nodes have all of them, and no
@@ -66,9 +48,10 @@ pub fn range_has_the_covered_cells_of_the_box<V: Value>()
         × (hit.agg ≡ agg V.eq measures rows hit.cell)) }
 {}
 
-/// The lists of upper bounds, of nodes and of lower bounds, and a range answer by its cells,
-/// rise in cell order; no other list of the same cells does (own).
+/// The lists of covered cells, of upper bounds, of nodes and of lower bounds, and a range
+/// answer by its cells, rise in cell order; no other list of the same cells does (own).
 pub fn lists_are_in_cell_order<V: Value>()
+    ensures covered { (rows : List (Row V)) → Rises (cell_cmp V.cmp) (covered V.cmp rows) }
     ensures upper_bounds { (rows : List (Row V)) → Rises (cell_cmp V.cmp) (classes V.cmp rows) }
     ensures nodes { (rows : List (Row V)) → Rises (cell_cmp V.cmp) (nodes V.cmp rows) }
     ensures lower_bounds { (rows : List (Row V)) (u : Cell V) →
