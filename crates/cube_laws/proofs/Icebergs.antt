@@ -6,7 +6,7 @@ use Rattle.std.specs.Ordering.{eq_by_cmp, ordering_then, ordering_reverse}
 use Rattle.std.specs.Cmp.{IsTotalOrder}
 use Rattle.std.specs.FinMap.{IsAntisymmetric}
 use Rattle.cube_defs.specs.Cell.{Cell, cell_cmp}
-use Rattle.cube_defs.specs.Rows.{Row, Fraction, agg, is_class}
+use Rattle.cube_defs.specs.Rows.{Row, Agg, Fraction, agg, is_class}
 use Rattle.cube_defs.specs.Tree.{covered, classes}
 use Rattle.cube_defs.specs.Answers.{Ask, AggKind, Bound, ClassHit, fraction_cmp, value_of, is_asked, lower_bounds, asked, answer_cmp, iceberg}
 use Rattle.cube_defs.specs.Answers.Bound.{AtLeast, AtMost}
