@@ -35,15 +35,9 @@ module _ {A : Type 0} {eq : A → A → Bool} (law : IsEquality eq) where
   pub entry_leq_trans : (e f g : Option A) → entry_leq eq e f ≡ true → entry_leq eq f g ≡ true → entry_leq eq e g ≡ true
   entry_leq_trans e f g h k = grind (arith, law.exact, law.same, cond-true, cond-false)
 
-  entry_leq_antisymm : (e f : Option A) → entry_leq eq e f ≡ true → entry_leq eq f e ≡ true → e ≡ f
-  entry_leq_antisymm e f h k = grind (arith, law.exact, law.same, cond-true, cond-false)
-
   -- the meet is the greatest lower bound
   entry_meet_left : (e f : Option A) → entry_leq eq (entry_meet eq e f) e ≡ true
   entry_meet_left e f = grind (arith, law.exact, law.same, cond-true, cond-false)
-
-  entry_meet_great : (e f g : Option A) → entry_leq eq e f ≡ true → entry_leq eq e g ≡ true → entry_leq eq e (entry_meet eq f g) ≡ true
-  entry_meet_great e f g h k = grind (arith, law.exact, law.same, cond-true, cond-false)
 
   pub meet_comm : (c d : Cell A) → meet eq c d ≡ meet eq d c
   meet_comm [] [] = refl
