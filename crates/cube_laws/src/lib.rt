@@ -1,2 +1,17 @@
-//! The laws of the cube, over any value type.
+//! The laws of the cube, over any type of values. Each is the contract of a function that has nothing
+//! to do. What they speak of stands in the definitions of `cube_defs` and in this crate's `specs/`.
 #![tactic(auto)]
+
+pub mod closure_operator;
+pub mod deletion_step;
+pub mod fractions;
+pub mod iceberg_answers;
+pub mod lattice;
+pub mod lists_of_cells;
+pub mod one_row_more;
+pub mod parts_of_a_class;
+pub mod recoding;
+pub mod same_rows;
+pub mod upper_bounds;
+pub mod values;
+pub mod witnesses;

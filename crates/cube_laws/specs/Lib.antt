@@ -1,0 +1,7 @@
+pub mod Lists
+pub mod Total
+pub mod Parts
+pub mod Recoding
+pub mod Tuples
+pub mod Step
+pub mod Counts

@@ -1,0 +1,59 @@
+//! Cells under generalization: an order with a greatest lower bound of each two cells.
+ghost use Rattle.std.specs.Prelude.{IsTrue, List, [], length, suc, ℕ, ◌++◌, ◌↔◌, ◌∷◌, ◌≡◌, ◌≤◌};
+ghost use Rattle.cube_defs.specs.Cell.{Cell, cell_eq, depth, keep, last, leq, meet};
+ghost use Rattle.cube_defs.specs.Rows.{meet_all, with_more};
+
+use super::values::Value;
+
+/// The generalization of cells is an order, and the test of two cells tells them apart
+/// (Lakshmanan, Pei, Han, VLDB 2002).
+pub fn cells_are_ordered<V: Value>()
+    ensures reflexive { (c : Cell V) → IsTrue (leq V.eq c c) }
+    ensures transitive { (c d e : Cell V) →
+        IsTrue (leq V.eq c d) → IsTrue (leq V.eq d e) → IsTrue (leq V.eq c e) }
+    ensures antisymmetric { (c d : Cell V) → IsTrue (leq V.eq c d) → IsTrue (leq V.eq d c) → c ≡ d }
+    ensures told_apart { (c d : Cell V) → IsTrue (cell_eq V.eq c d) ↔ (c ≡ d) }
+{}
+
+/// The meet of two cells is the greatest of the cells that are below both (Lakshmanan, Pei,
+/// Han, VLDB 2002).
+pub fn meet_is_the_greatest_lower_bound<V: Value>()
+    ensures left { (c d : Cell V) → IsTrue (leq V.eq (meet V.eq c d) c) }
+    ensures right { (c d : Cell V) → IsTrue (leq V.eq (meet V.eq c d) d) }
+    ensures greatest { (b c d : Cell V) →
+        IsTrue (leq V.eq b c) → IsTrue (leq V.eq b d) → IsTrue (leq V.eq b (meet V.eq c d)) }
+{}
+
+/// The meet in algebra: in whichever order cells are met, and how often. One cell is below
+/// another where it is their meet.
+pub fn meet_of_cells<V: Value>()
+    ensures commutative { (c d : Cell V) → meet V.eq c d ≡ meet V.eq d c }
+    ensures associative { (c d e : Cell V) →
+        meet V.eq (meet V.eq c d) e ≡ meet V.eq c (meet V.eq d e) }
+    ensures idempotent { (c : Cell V) → meet V.eq c c ≡ c }
+    ensures order { (c d : Cell V) → IsTrue (leq V.eq c d) ↔ (meet V.eq c d ≡ c) }
+{}
+
+/// The front of a cell is below it, of a greater cell the front is greater, and a cell is its
+/// own front up to its last value (Lakshmanan, Pei, Zhao, SIGMOD 2003).
+pub fn fronts_of_cells<V: Value>()
+    ensures below { (n : ℕ) (c : Cell V) → IsTrue (leq V.eq (keep n c) c) }
+    ensures monotone { (n : ℕ) (c d : Cell V) →
+        IsTrue (leq V.eq c d) → IsTrue (leq V.eq (keep n c) (keep n d)) }
+    ensures whole { (c : Cell V) → keep (depth c) c ≡ c }
+{}
+
+/// The depth of a cell is one more than its last dimension with a value, or 0 where it has
+/// none; it is that of its front where the front ends (own).
+pub fn depth_of_cells<V: Value>()
+    ensures last { (c : Cell V) (j : ℕ) → last c ≡ Some j → depth c ≡ suc j }
+    ensures none { (c : Cell V) → last c ≡ None → depth c ≡ 0 }
+    ensures within { (c : Cell V) → depth c ≤ length c }
+    ensures front { (n : ℕ) (c : Cell V) → keep (depth (keep n c)) c ≡ keep n c }
+{}
+
+/// The meet of some cells and one more, put behind them, is the meet so far with it (own).
+pub fn meet_of_one_cell_more<V: Value>()
+    ensures { (cs : List (Cell V)) (c : Cell V) →
+        meet_all V.eq (cs ++ c ∷ []) ≡ Some (with_more V.eq (meet_all V.eq cs) c) }
+{}
