@@ -28,7 +28,7 @@ impl CallList {
         ensures { IfOk result (λ s. s ≡ first_call fails.now) }
     {
         Ok(CallList {
-            fails: fails.to_vec(alloc)?,
+            fails: Vec::from_slice(alloc, fails)?,
             number: 0,
             faults: 0,
         })

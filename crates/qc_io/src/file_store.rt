@@ -62,6 +62,21 @@ fn find(files: &[Named], name: &str) -> Option<usize>
     position_of(files, name)
 }
 
+fn put(alloc: Global, files: &mut Vec<Named>, name: &str, bytes: &[u8]) -> Result<(), Memory>
+    ensures ok { OnOk result (map entry_of files.new.items ≡ adding name.now bytes.now (map entry_of files.old.items)) }
+    ensures err { OnErr result (files.new.items ≡ files.old.items) }
+{
+    let bytes = Vec::from_slice(alloc, bytes)?;
+    match find(files, name) {
+        Some(i) => files[i].bytes = bytes,
+        None => {
+            let name = String::from_str(alloc, name)?;
+            files.push(Named { name, bytes })?;
+        }
+    }
+    Ok(())
+}
+
 impl FileStore {
     pub(crate) fn new(alloc: Global, piece: usize) -> Self
         requires { 1 ≤ piece }
@@ -82,14 +97,7 @@ impl FileStore {
         ensures ok { OnOk result (self.new ≡ record self.old { entries = adding name.now bytes.now self.old.entries }) }
         ensures err { OnErr result (self.new ≡ self.old) }
     {
-        let bytes = bytes.to_vec(self.alloc)?;
-        match find(&self.files, name) {
-            Some(i) => self.files[i].bytes = bytes,
-            None => {
-                let name = String::from_str(self.alloc, name)?;
-                self.files.push(Named { name, bytes })?;
-            }
-        }
+        put(self.alloc, &mut self.files, name, bytes)?;
         Ok(())
     }
 
