@@ -41,10 +41,10 @@ impl Model for FileStore {
     ghost use Rattle.qc_io.specs.Kept.{entry_of, current_of, open_name_of, IsPlaced};
 
     ghost view = { λ s. record {
-        entries = map entry_of s.files.items;
-        open_name = open_name_of (map entry_of s.files.items) s.opened;
-        current = current_of (map entry_of s.files.items) s.opened s.place;
-        piece = s.piece
+      entries = map entry_of s.files.items;
+      open_name = open_name_of (map entry_of s.files.items) s.opened;
+      current = current_of (map entry_of s.files.items) s.opened s.place;
+      piece = s.piece;
     } };
 
     ghost invariant = { λ s. IsPlaced (map entry_of s.files.items) s.opened s.place s.piece };

@@ -9,4 +9,4 @@ returns-in-Some-clause-ok c =
 pub returns-in_ok-push-in-None-clause-ok : goal.returns-in_ok-push-in-None-clause-ok
 returns-in_ok-push-in-None-clause-ok c =
     rw (c.in_ok-push-in-None.ensures.items, ← c.in_ok-bytes.ensures.items, ← c.in_ok-name-in-None.ensures.ok)
-      (adding-pushed c.args.files.now.items _ (rw (c.in_ok-name-in-None.ensures.ok, ← c.deref.ensures.value) c.in-None.ensures))
+    (adding-pushed c.args.files.now.items _ (rw (c.in_ok-name-in-None.ensures.ok, ← c.deref.ensures.value) c.in-None.ensures))
