@@ -3,7 +3,7 @@ use Rattle.std.specs.Prelude.{ℕ, Bool, Option, None}
 use Rattle.qc_io.specs.Outside.{Cursor}
 
 -- whether a file is open, and the count of faults
-pub record Unknown : Type 0 where
+pub record SystemFiles : Type 0 where
   pub is_open : Bool
   pub faults : ℕ
 

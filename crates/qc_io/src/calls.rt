@@ -1,7 +1,7 @@
 // Which calls are to fail, and how many have.
 ghost use Rattle.std.specs.Prelude.{◌≡◌, ◌≤◌, IfOk, IsTrue, false, true};
 ghost use Rattle.qc_io.specs.Outside.{Rose};
-ghost use Rattle.qc_io.specs.Memory.{Calls, call_made, counted, first_call, is_listed, none_to_come};
+ghost use Rattle.qc_io.specs.Memory.{Calls, next_calls, next_count, first_call, is_listed, none_to_come};
 
 use crate::outside::{Failed, Memory};
 use std::alloc::Global;
@@ -38,7 +38,7 @@ impl CallList {
     #[tactic(auto, using(crate::proofs::Counts::counts))]
     pub(crate) fn next_fails(&mut self) -> bool
         ensures listed { result ≡ is_listed self.old }
-        ensures after { self.new ≡ call_made false self.old }
+        ensures after { self.new ≡ next_calls false self.old }
         ensures steady { IsTrue (none_to_come self.old) → IsTrue (none_to_come self.new) }
         ensures free { IsTrue (none_to_come self.old) → result ≡ false }
     {
@@ -49,7 +49,7 @@ impl CallList {
 
     /// Counts a fault.
     pub(crate) fn fail(&mut self) -> Failed
-        ensures after { self.new ≡ record self.old { faults = counted self.old.faults } }
+        ensures after { self.new ≡ record self.old { faults = next_count self.old.faults } }
         ensures rose { Rose self.old.faults self.new.faults }
         ensures later { self.old.faults ≤ self.new.faults }
     {

@@ -2,7 +2,7 @@
 ghost use Rattle.std.specs.Prelude.{◌≡◌, ◌≢◌, ◌≤◌, ◌<◌, Some, IsSome, IfSome, OnOk, OnErr, is_some, length, map, position, string_bytes};
 ghost use Rattle.std.specs.Str.{bytes_eq};
 ghost use Rattle.qc_io.specs.Outside.{Gives, bytes_left};
-ghost use Rattle.qc_io.specs.Memory.{Store, adding, closed, empty_store, lookup, opened, opened_surely, read_count, read_on};
+ghost use Rattle.qc_io.specs.Memory.{Store, adding, closed_store, empty_store, lookup, opened_store, read_count, read_store, sure_store};
 ghost use Rattle.qc_io.specs.Kept.{Finds, entry_of};
 
 use crate::outside::Memory;
@@ -33,7 +33,7 @@ pub(crate) struct FileStore {
 }
 
 impl Model for FileStore {
-    ghost use Rattle.std.specs.Prelude.{map};
+    ghost use Rattle.std.specs.Prelude.{◌≤◌, map};
     ghost use Rattle.qc_io.specs.Memory.{Store};
 
     ghost Value = { Store };
@@ -47,7 +47,7 @@ impl Model for FileStore {
       piece = s.piece;
     } };
 
-    ghost invariant = { λ s. IsPlaced (map entry_of s.files.items) s.opened s.place s.piece };
+    ghost invariant = { λ s. (1 ≤ s.piece) × IsPlaced (map entry_of s.files.items) s.opened s.place };
 }
 
 fn position_of(files: &[Named], name: &str) -> Option<usize>
@@ -104,7 +104,7 @@ impl FileStore {
     /// Opens the bytes under a name, or answers that there are none.
     pub(crate) fn open(&mut self, name: &str) -> bool
         ensures found { result ≡ is_some (lookup self.old.entries name.now) }
-        ensures after { self.new ≡ opened name.now self.old }
+        ensures after { self.new ≡ opened_store name.now self.old }
     {
         self.place = 0;
         match find(&self.files, name) {
@@ -121,7 +121,7 @@ impl FileStore {
 
     /// Opens the bytes under a name, or no bytes where there are none.
     pub(crate) fn open_surely(&mut self, name: &str)
-        ensures { self.new ≡ opened_surely name.now self.old }
+        ensures { self.new ≡ sure_store name.now self.old }
     {
         if !self.open(name) {
             self.opened = Opened::Empty;
@@ -129,7 +129,7 @@ impl FileStore {
     }
 
     pub(crate) fn close(&mut self)
-        ensures { self.new ≡ closed self.old }
+        ensures { self.new ≡ closed_store self.old }
     {
         self.opened = Opened::Nothing;
     }
@@ -141,7 +141,7 @@ impl FileStore {
         ensures count { result ≡ read_count self.old (length buf.old) }
         ensures bound { result ≤ length buf.new }
         ensures bytes { IfSome self.old.current (λ c. Gives (bytes_left c) result buf.new) }
-        ensures after { self.new ≡ read_on result self.old }
+        ensures after { self.new ≡ read_store result self.old }
     {
         let Opened::At(i) = self.opened else {
             return 0;

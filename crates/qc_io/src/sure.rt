@@ -1,7 +1,7 @@
 // Files and a sink that never fail.
 ghost use Rattle.std.specs.Prelude.{◌≡◌, ◌≢◌, ◌≤◌, ◌<◌, [], Some, None, Ok, IfOk, IfSome, IsOk, IsSome, OnErr, OnOk, is_some, length, refl, true, unwrap_or};
 ghost use Rattle.qc_io.specs.Outside.{Gives, bytes_left};
-ghost use Rattle.qc_io.specs.Memory.{Store, adding, empty_store, lookup, opened_surely, read_count, read_on};
+ghost use Rattle.qc_io.specs.Memory.{Store, adding, empty_store, lookup, sure_store, read_count, read_store};
 
 use crate::file_store::FileStore;
 use crate::outside::{Failed, Files, Memory, Sink};
@@ -60,7 +60,7 @@ impl Files for SureFiles {
 
     fn open(&mut self, name: &str) -> Result<(), Failed>
         ensures opens { IsOk result }
-        ensures after { self.new ≡ opened_surely name.now self.old }
+        ensures after { self.new ≡ sure_store name.now self.old }
     {
         self.store.open_surely(name);
         Ok(())
@@ -71,7 +71,7 @@ impl Files for SureFiles {
         requires room { 0 < length buf.old }
         ensures count { result ≡ Ok (read_count self.old (length buf.old)) }
         ensures bytes { IfOk result (λ n. IfSome self.old.current (λ c. Gives (bytes_left c) n buf.new)) }
-        ensures after { self.new ≡ read_on (read_count self.old (length buf.old)) self.old }
+        ensures after { self.new ≡ read_store (read_count self.old (length buf.old)) self.old }
     {
         Ok(self.store.read(buf))
     }
