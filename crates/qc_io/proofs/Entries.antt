@@ -1,5 +1,5 @@
 -- What is under a name after a file was added.
-use Rattle.std.proofs.Common.{◌≡◌, ◌≢◌, ℕ, List, [], ◌∷◌, Some, true, false, refl, ap, sym, ◌∙◌, Bool}
+use Rattle.std.proofs.Common.{◌≡◌, ◌≢◌, ℕ, List, [], ◌∷◌, Some, true, false, refl, Bool}
 use Rattle.std.specs.Str.{bytes_eq}
 use Rattle.std.proofs.lemmas.Slice.Eq.{bytes_eq-Decides}
 use Rattle.qc_io.specs.Memory.{Entry, adding, lookup}
