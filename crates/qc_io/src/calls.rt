@@ -1,5 +1,5 @@
 // Which calls are to fail, and how many have.
-ghost use Rattle.std.specs.Prelude.{◌≡◌, ◌≤◌, IfOk, IsTrue, false, true};
+ghost use Rattle.std.specs.Prelude.{◌≡◌, ◌≤◌, IfOk, IsTrue, false};
 ghost use Rattle.qc_io.specs.Outside.{Rose};
 ghost use Rattle.qc_io.specs.Memory.{Calls, next_calls, next_count, first_call, is_listed, none_to_come};
 

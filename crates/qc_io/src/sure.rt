@@ -82,6 +82,7 @@ impl Files for SureFiles {
 pub struct SureSink;
 
 impl SureSink {
+    /// The one sink of this kind.
     pub fn new() -> Self {
         SureSink
     }
