@@ -1,0 +1,21 @@
+//! Reads a schema and a base file of comma-separated values: which columns there are, and the rows.
+#![tactic(auto)]
+
+mod texts;
+mod lines;
+mod schema;
+mod numbers;
+mod rows;
+mod batch;
+mod columns;
+mod base;
+
+#[cfg(test)]
+mod tests;
+
+pub use base::{LoadRefused, read_base};
+pub use batch::RawBatch;
+pub use schema::{Schema, ThinRefused, read_schema};
+
+/// Memory ran out.
+pub type Memory = std::alloc::AllocError;

@@ -1,0 +1,1 @@
+// Thin schemas and base files, good and bad.
