@@ -1,7 +1,7 @@
 -- The rows of a thin base file.
-use Rattle.std.specs.Prelude.{ℕ, Bool, not, ◌&&◌, ◌||◌, ◌==◌, ◌≡◌, ◌+◌, List, [], ◌∷◌, ◌++◌, length, map, nat_eq, nat_le, Option, Some, None, option_and_then, ℤ, slice_index_or, slice_range, is_utf8, if◌then◌else◌}
+use Rattle.std.specs.Prelude.{ℕ, Bool, not, ◌&&◌, ◌||◌, ◌==◌, ◌≡◌, ◌+◌, List, [], ◌∷◌, ◌++◌, length, map, nat_eq, nat_le, Option, Some, None, option_and_then, ℤ, slice_index_or, slice_range, if◌then◌else◌}
 use Rattle.std.specs.List.{list_all, list_any}
-use Rattle.std.specs.Str.{bytes_eq}
+use Rattle.std.specs.Str.{is_utf8}
 use Rattle.csv.specs.Reading.{default_config, records}
 use Rattle.cube_defs.specs.Rows.{Row}
 use Rattle.cube_defs.specs.Text.{Text}
@@ -55,6 +55,6 @@ base_of columns text = if is_plain text then option_and_then distinct (rows_behi
 
 -- ids, texts and amounts after a row was put behind them
 pub record AddsRow (row : Row Text) (ids ids' : List ℕ) (texts texts' : List Text) (amounts amounts' : List ℤ) : Type 0 where
-  pub id : ids' ≡ ids ++ row.id ∷ []
-  pub texts : texts' ≡ texts ++ row.tuple
-  pub amounts : amounts' ≡ amounts ++ row.amounts
+  pub with_id : ids' ≡ ids ++ row.id ∷ []
+  pub with_texts : texts' ≡ texts ++ row.tuple
+  pub with_amount : amounts' ≡ amounts ++ row.amounts

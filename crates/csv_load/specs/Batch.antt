@@ -59,6 +59,6 @@ batch_of dims ids texts amounts = record { dims = dims; rows = rows_of_columns d
 
 -- the columns are whole, and the rows are those of a batch
 pub record AreColumns (dims : ℕ) (ids : List ℕ) (texts : List Text) (amounts : List ℤ) : Type 0 where
-  pub texts : length texts ≡ length ids * dims
-  pub amounts : length amounts ≡ length ids
-  pub batch : IsBatch (batch_of dims ids texts amounts)
+  pub texts_fit : length texts ≡ length ids * dims
+  pub amounts_fit : length amounts ≡ length ids
+  pub is_batch : IsBatch (batch_of dims ids texts amounts)

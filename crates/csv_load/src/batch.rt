@@ -1,5 +1,6 @@
 // The rows that a file brings.
-ghost use Rattle.std.specs.Prelude.{◌≡◌, ◌≤◌, ◌<◌, [], length, map, nat_cmp, nat_eq, IfOk, IsSorted};
+ghost use Rattle.std.specs.Prelude.{◌≡◌, ◌≤◌, ◌<◌, [], length, map, nat_eq, IfOk, IsSorted};
+ghost use Rattle.std.specs.Ordering.{nat_cmp};
 ghost use Rattle.csv_load.specs.Schema.{all_different};
 ghost use Rattle.csv_load.specs.Batch.{AreColumns, IsBatch, amount_at, batch_of, row_at, text_at};
 

@@ -1,5 +1,5 @@
 // The rows of a base file, read into columns.
-ghost use Rattle.std.specs.Prelude.{◌≡◌, ◌<◌, ◌+◌, ◌++◌, [], Some, None, length, true, false, IfOk, OnOk, IsErrOf, slice_index_or, slice_range};
+ghost use Rattle.std.specs.Prelude.{◌≡◌, ◌≤◌, ◌<◌, ◌+◌, ◌++◌, [], Some, None, length, true, false, IfOk, OnOk, IsErrOf, slice_index_or, slice_range};
 ghost use Rattle.std.specs.List.{list_all};
 ghost use Rattle.csv.specs.Records.{fields_of};
 ghost use Rattle.cube_defs.specs.Rows.{Row};

@@ -107,7 +107,8 @@ fn comes_again(names: &Texts, at: usize) -> bool
     requires { at < length names.now }
     ensures { result ≡ list_any (λ y. bytes_eq y (slice_index_or names.now at [])) (drop (at + 1) names.now) }
 {
-    for i in at + 1..names.len() {
+    let len = names.len();
+    for i in at + 1..len {
         if names.get(i) == names.get(at) {
             return true;
         }
