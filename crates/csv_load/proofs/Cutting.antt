@@ -9,6 +9,7 @@ use Rattle.std.proofs.lemmas.Str.{IsCharBoundary-at_seam, IsCharBoundary-end}
 use Rattle.std.proofs.lemmas.Bool.Decides.{nat_tests}
 use Rattle.std.proofs.lemmas.Bool.{cases_lt}
 use Rattle.std.proofs.lemmas.Grind.{common_steps}
+use Rattle.csv_load.proofs.Ranges.{range-append, range-behind, same-below}
 use Rattle.csv_load.specs.Texts.{IsCut, start_at, text_between, texts_of}
 
 pub length-texts_of : (ends bytes : List ℕ) → length (texts_of ends bytes) ≡ length ends
@@ -17,24 +18,8 @@ length-texts_of ends bytes = length-map-range_with_len (text_between ends bytes)
 pub get_or-texts_of : (ends bytes : List ℕ) (k : ℕ) → k < length ends → get_or (texts_of ends bytes) k [] ≡ text_between ends bytes k
 get_or-texts_of ends bytes k h = get_or-map-range_with_len (text_between ends bytes) 0 (length ends) k k [] h (omega arith)
 
--- two functions that agree below n
-same-below : (f g : ℕ → List ℕ) (n : ℕ) → ((k : ℕ) → k < n → f k ≡ g k) → map f (range_with_len 0 n) ≡ map g (range_with_len 0 n)
-same-below f g n same =
-    fill_by_all g (map f (range_with_len 0 n)) n [] (length-map-range_with_len f 0 n) (λ k h. get_or-map-range_with_len f 0 n k k [] h (omega arith) ∙ same k h)
-
-start-zero : (ends : List ℕ) → start_at ends 0 ≡ 0
-start-zero ends = refl
-
 start-push : (ends : List ℕ) (end k : ℕ) → k ≤ length ends → start_at (ends ++ end ∷ []) k ≡ start_at ends k
 start-push ends end k h = grind (arith, nat_tests, get_or_append_left ends (end ∷ []) 0 (k - 1))
-
-range-append : (xs ys : List ℕ) (i j : ℕ) → i ≤ j → j ≤ length xs → slice_range (xs ++ ys) i j ≡ slice_range xs i j
-range-append xs ys i j low high =
-    ap (λ (zs : List ℕ). take (j - i) zs) (drop-append-le i xs ys (omega arith)) ∙ take-append-le (j - i) (drop i xs) ys (omega (arith, length-drop i xs))
-
-range-behind : (xs ys : List ℕ) → slice_range (xs ++ ys) (length xs) (length xs + length ys) ≡ ys
-range-behind xs ys =
-    ap (λ (zs : List ℕ). take (length xs + length ys - length xs) zs) (drop_at xs ys (length xs) refl) ∙ take_all (length xs + length ys - length xs) ys (omega arith)
 
 pub text-push : (ends bytes text : List ℕ) (end : ℕ) → IsCut ends bytes → end ≡ length bytes + length text
     → texts_of (ends ++ end ∷ []) (bytes ++ text) ≡ texts_of ends bytes ++ text ∷ []
@@ -42,9 +27,9 @@ text-push ends bytes text end cut is =
     ap (λ (n : ℕ). map (text_between (ends ++ end ∷ []) (bytes ++ text)) (range_with_len 0 n)) (length_push ends end)
     ∙ map-range_with_len_more (text_between (ends ++ end ∷ []) (bytes ++ text)) 0 (length ends) (length ends) (omega arith)
     ∙ ap₂ (λ (xs : List (List ℕ)) (x : List ℕ). xs ++ x ∷ [])
-        (same-below (text_between (ends ++ end ∷ []) (bytes ++ text)) (text_between ends bytes) (length ends)
+        (same-below [] (text_between (ends ++ end ∷ []) (bytes ++ text)) (text_between ends bytes) (length ends)
           (λ k h. ap₂ (λ (i j : ℕ). slice_range (bytes ++ text) i j) (start-push ends end k (omega arith)) (get_or_append_left ends (end ∷ []) 0 k h) ∙ range-append bytes text _ _ (cut.rise k h) (cut.within k h)))
-        (ap₂ (λ (i j : ℕ). slice_range (bytes ++ text) i j) (start-push ends end (length ends) (omega arith) ∙ cut.last) (get_or_push ends end 0 (length ends) refl ∙ is) ∙ range-behind bytes text)
+        (ap₂ (λ (i j : ℕ). slice_range (bytes ++ text) i j) (start-push ends end (length ends) (omega arith) ∙ cut.last) (get_or_push ends end 0 (length ends) refl ∙ is) ∙ range-behind bytes text (length bytes) (length bytes + length text) refl refl)
 
 boundary-append : (xs ys : List ℕ) (i : ℕ) → IsUtf8 ys → IsCharBoundary xs i → IsCharBoundary (xs ++ ys) i
 boundary-append xs ys i utf8 at = ⊎_elim (λ lt. inside lt) (λ le. outside le) (cases_lt i (length xs))
