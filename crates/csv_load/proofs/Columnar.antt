@@ -58,8 +58,8 @@ rows-push dims ids texts amounts row fit as_many full one =
         (same-below empty_row (row_of_columns dims (ids ++ row.id ∷ []) (texts ++ row.tuple) (amounts ++ row.amounts)) (row_of_columns dims ids texts amounts) (length ids) (λ k h. before k h))
         here
   where
-    same-row : (i j : ℕ) (s t : List Text) (as bs : List ℤ) → i ≡ j → s ≡ t → as ≡ bs → (let r : Row Text = record { id = i; tuple = s; amounts = as } in r) ≡ record { id = j; tuple = t; amounts = bs }
-    same-row i j s t as bs e f g = rw (e, f, g) refl
+    same-row : (i j : ℕ) (s t : List Text) (a b : List ℤ) → i ≡ j → s ≡ t → a ≡ b → (let r : Row Text = record { id = i; tuple = s; amounts = a } in r) ≡ record { id = j; tuple = t; amounts = b }
+    same-row i j s t a b e f g = rw (e, f, g) refl
     before : (k : ℕ) → k < length ids → row_of_columns dims (ids ++ row.id ∷ []) (texts ++ row.tuple) (amounts ++ row.amounts) k ≡ row_of_columns dims ids texts amounts k
     before k h = same-row _ _ _ _ _ _ (get_or_append_left ids (row.id ∷ []) 0 k h)
         (range-append texts row.tuple (k * dims) (k * dims + dims) (omega arith) (omega (arith, fit, below-all dims (length ids) k dims h (omega arith))))

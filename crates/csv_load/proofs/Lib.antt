@@ -1,6 +1,9 @@
 pub mod Records
 pub mod Ranges
 pub mod Fields
+pub mod Distinct
+pub mod Rowing
+pub mod Thin
 pub mod Cutting
 pub mod Columnar
 pub mod Digits

@@ -9,20 +9,12 @@ ghost use Rattle.csv_load.specs.Base.{AddsRow, few_rows_in, is_value, row_in};
 use crate::base::LoadRefused;
 use crate::batch::RawBatch;
 use crate::numbers::{amount, number};
-use crate::rows::Rows;
+use crate::rows::{Rows, field};
 use crate::texts::Texts;
 use csv::ByteRecord;
 use std::alloc::Global;
 
 const MOST_ROWS: usize = 1_000_000;
-
-// The field at a place, counted from 0.
-fn field(row: &ByteRecord, at: usize) -> &[u8]
-    requires { at < length (fields_of row.now) }
-    ensures { result.now ≡ slice_index_or (fields_of row.now) at [] }
-{
-    row.get(at).unwrap()
-}
 
 // Puts the texts of a record's dimensions behind the others.
 fn push_texts(dims: u8, row: &ByteRecord, texts: &mut Texts) -> Result<(), LoadRefused>

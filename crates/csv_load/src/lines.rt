@@ -17,9 +17,10 @@ pub fn split_line(text: &[u8]) -> Option<(&[u8], &[u8])>
 fn is_good_name(name: &[u8]) -> bool
     ensures { result ≡ is_name name.now }
 {
-    let begins = !name.is_empty() && name[0].is_ascii_alphabetic();
-    let goes_on = name.iter().all(|b| b.is_ascii_alphanumeric() || *b == b'_');
-    begins && goes_on && name.len() <= 32 && name != b"op".as_slice()
+    if name.is_empty() || name.len() > 32 || name == b"op".as_slice() {
+        return false;
+    }
+    name[0].is_ascii_alphabetic() && name.iter().all(|b| b.is_ascii_alphanumeric() || *b == b'_')
 }
 
 /// The name behind a word that the line begins with.

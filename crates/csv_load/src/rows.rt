@@ -1,5 +1,5 @@
 // The records of a CSV text in turn.
-ghost use Rattle.std.specs.Prelude.{false, ◌≡◌, ◌≤◌, length, [], ◌∷◌, IfOk, OnErr, MatchBool};
+ghost use Rattle.std.specs.Prelude.{false, ◌≡◌, ◌≤◌, ◌<◌, length, [], ◌∷◌, IfOk, OnErr, MatchBool, slice_index_or};
 ghost use Rattle.csv.specs.Reading.{default_config, records};
 ghost use Rattle.csv.specs.Records.{fields_of};
 ghost use Rattle.csv_load.specs.Records.{begins_with_mark};
@@ -28,6 +28,14 @@ impl<'a> Model for Rows<'a> {
 }
 
 ghost use Rattle.csv_load.specs.Records.{IsPlain, Steps};
+
+/// The field at a place, counted from 0.
+pub fn field(row: &ByteRecord, at: usize) -> &[u8]
+    requires { at < length (fields_of row.now) }
+    ensures { result.now ≡ slice_index_or (fields_of row.now) at [] }
+{
+    row.get(at).unwrap()
+}
 
 // Reads a record of a reader that is between two.
 fn read_plain(rdr: &mut Reader<&[u8]>, row: &mut ByteRecord) -> Result<bool, AllocError>

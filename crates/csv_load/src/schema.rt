@@ -8,6 +8,7 @@ ghost use Rattle.csv_load.specs.Schema.{all_different, columns_in, lines_of, nam
 ghost use Rattle.csv.specs.Records.{fields_of};
 
 use crate::lines::{measure_of, name_after, split_line};
+use crate::rows::field;
 use crate::texts::Texts;
 use csv::ByteRecord;
 use std::alloc::{AllocError, Global};
@@ -95,7 +96,7 @@ fn are_fields(names: &Texts, row: &ByteRecord) -> bool
         return false;
     }
     for i in 0..names.len() {
-        if row.get(i) != Some(names.get(i).as_bytes()) {
+        if field(row, i) != names.get(i).as_bytes() {
             return false;
         }
     }

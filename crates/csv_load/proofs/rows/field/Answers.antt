@@ -2,7 +2,7 @@ use Rattle.std.proofs.Common.{◌∙◌, ◌≡◌, sym, ap, get_or, [], Some, B
 use Rattle.std.specs.Prelude.{option_map, unwrap_or, Option}
 use Rattle.csv.specs.Records.{fields_of}
 use Rattle.csv_load.proofs.Fields.{field-at, mapped-some}
-use Rattle.csv_load.proofs.columns.field.Goals as goal
+use Rattle.csv_load.proofs.rows.field.Goals as goal
 
 pub unwrap-requires : goal.unwrap-requires
 unwrap-requires c = mapped-some (λ (s : Bor (List ℕ)). s.now) c.get.result (get_or (fields_of c.args.row.now) c.args.at []) (c.get.ensures.value ∙ field-at (fields_of c.args.row.now) c.args.at c.requires)

@@ -1,0 +1,5 @@
+use Rattle.csv_load.proofs.Thin.{found-none}
+use Rattle.csv_load.proofs.base.is_thin.Goals as goal
+
+pub returns-then-not-begins_with_bom : goal.returns-then-not-begins_with_bom
+returns-then-not-begins_with_bom c = let h = found-none c.args.text.now c.memchr2.result c.memchr2.ensures in ?
