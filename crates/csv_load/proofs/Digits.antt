@@ -1,5 +1,5 @@
 -- Numbers read from the left.
-use Rattle.std.proofs.Common.{◌≡◌, ◌<◌, ◌≤◌, ◌+◌, ◌-◌, ◌*◌, ◌^◌, ◌∙◌, ℕ, ℤ, pos, suc, List, [], ◌∷◌, length, refl, sym, ap, arith, true, false, Bool, Some, None, cond, nat_eq, zero}
+use Rattle.std.proofs.Common.{◌≡◌, ◌<◌, ◌≤◌, ◌+◌, ◌-◌, ◌*◌, ◌^◌, ◌∙◌, ℕ, ℤ, pos, suc, List, [], ◌∷◌, length, refl, sym, ap, arith, true, false, Bool, Some, None, cond, nat_eq, zero, get_or, drop}
 use Rattle.std.specs.Prelude.{Option, option_map, neg_ℤ, nat_lt, nat_le, ◌&&◌, ◌==◌, if◌then◌else◌, nat_abs}
 use Rattle.std.specs.Char.{digit_value, is_ascii_digit}
 use Rattle.std.specs.Str.{all_ascii_digits}
@@ -7,6 +7,7 @@ use Rattle.std.specs.Str.Parse.{digits_value, digits_value_after}
 use Rattle.std.proofs.lemmas.Bool.{le-leb, lt-leb, leb-true, leb-false, lt-ltb, le-ltb, ltb-true, and_parts, cond-true, cond-false}
 use Rattle.std.proofs.lemmas.Bool.Decides.{nat_tests}
 use Rattle.std.proofs.Math.Nat.{pow-le-pow_right, pow-suc}
+use Rattle.std.proofs.lemmas.List.{drop_more}
 use Rattle.csv_load.specs.Numbers.{amount_in, id_in, is_number, short_number_in}
 
 -- what the digits that are left give, after those of a number
@@ -112,3 +113,11 @@ amount-small (b ∷ bs) a e = by (b == 45) e
     by : (c : Bool) → cond c (option_map (λ n. neg_ℤ (pos n)) (short_number_in bs)) (option_map pos (short_number_in (b ∷ bs))) ≡ Some a → nat_abs a ≤ 999999999999
     by true m = mapped-small (λ n. neg_ℤ (pos n)) abs-neg bs _ a refl m
     by false m = mapped-small pos (λ n. refl) (b ∷ bs) _ a refl m
+
+pub step-digit : (text : List ℕ) (i n : ℕ) → i < length text → is_ascii_digit (get_or text i 0) ≡ true
+    → read_on n (drop i text) ≡ read_on (n * 10 + (get_or text i 0 - 48)) (drop (i + 1) text)
+step-digit text i n h e = ap (read_on n) (drop_more text i 0 h) ∙ read-digit n (get_or text i 0) (drop (i + 1) text) e
+
+pub step-over : (text : List ℕ) (i n : ℕ) → i < length text → is_ascii_digit (get_or text i 0) ≡ true → 18446744073709551616 ≤ n * 10 + (get_or text i 0 - 48)
+    → read_on n (drop i text) ≡ None
+step-over text i n h e over = step-digit text i n h e ∙ read-large (n * 10 + (get_or text i 0 - 48)) (drop (i + 1) text) over

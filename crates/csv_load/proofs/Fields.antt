@@ -1,10 +1,12 @@
 -- The fields of a record.
-use Rattle.std.proofs.Common.{◌≡◌, ◌<◌, ◌≤◌, ◌∙◌, ℕ, zero, suc, List, [], ◌∷◌, length, get_or, refl, sym, ap, arith, Some, None, true, false, Bool}
-use Rattle.std.specs.Prelude.{Option, option_map, IsSome, IsUtf8, nat_le, ◌&&◌}
+use Rattle.std.proofs.Common.{◌≡◌, ◌<◌, ◌≤◌, ◌∙◌, ℕ, zero, suc, List, [], ◌∷◌, length, get_or, refl, sym, ap, arith, Some, None, true, false, Bool, ◌++◌, ◌+◌, append_assoc}
+use Rattle.std.specs.Prelude.{Option, option_map, IsSome, IsUtf8, nat_le, ◌&&◌, slice_range}
+use Rattle.std.specs.List.{list_all}
 use Rattle.std.specs.Str.{is_utf8}
 use Rattle.std.proofs.lemmas.Str.{IsUtf8-from_is_utf8, is_utf8-from_IsUtf8}
 use Rattle.std.proofs.lemmas.Bool.{le-leb, lt-leb}
 use Rattle.csv.specs.Records.{field_at}
+use Rattle.csv_load.proofs.Ranges.{range-more}
 use Rattle.csv_load.specs.Base.{is_value}
 
 pub field-at : (fields : List (List ℕ)) (i : ℕ) → i < length fields → field_at fields i ≡ Some (get_or fields i [])
@@ -33,3 +35,15 @@ no-value text h = by (is_utf8 text) refl
 
 pub good-value : (text : List ℕ) → IsUtf8 text → length text ≤ 255 → is_value text ≡ true
 good-value text h short = rw (is_utf8-from_IsUtf8 text h, le-leb (length text) 255 short) refl
+
+pub bad-first : (fields : List (List ℕ)) (i j : ℕ) → i < j → j ≤ length fields → is_value (get_or fields i []) ≡ false → list_all is_value (slice_range fields i j) ≡ false
+bad-first fields i j low high e = ap (list_all is_value) (range-more fields i j [] low high) ∙ rw e refl
+
+pub good-first : (fields : List (List ℕ)) (i j : ℕ) → i < j → j ≤ length fields → is_value (get_or fields i []) ≡ true
+    → list_all is_value (slice_range fields i j) ≡ list_all is_value (slice_range fields (i + 1) j)
+good-first fields i j low high e = ap (list_all is_value) (range-more fields i j [] low high) ∙ rw e refl
+
+pub texts-more : (texts fields : List (List ℕ)) (i j : ℕ) → i < j → j ≤ length fields
+    → texts ++ slice_range fields i j ≡ (texts ++ get_or fields i [] ∷ []) ++ slice_range fields (i + 1) j
+texts-more texts fields i j low high =
+    ap (λ (more : List (List ℕ)). texts ++ more) (range-more fields i j [] low high) ∙ sym (append_assoc texts (get_or fields i [] ∷ []) (slice_range fields (i + 1) j))

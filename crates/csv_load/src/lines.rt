@@ -1,6 +1,7 @@
 // The lines of a schema, and the names in them.
 ghost use Rattle.std.specs.Prelude.{◌≡◌, ◌<◌, ◌⊎◌, [], Some, None, length, IsUtf8, MatchOption, option_map};
-ghost use Rattle.csv_load.specs.Schema.{cons_some, is_name, lines_of, measure_in, name_behind};
+ghost use Rattle.std.specs.List.{list_all};
+ghost use Rattle.csv_load.specs.Schema.{cons_some, is_name, is_name_byte, lines_of, measure_in, name_behind};
 
 // The first line, which ends with LF, and what is behind it.
 pub fn split_line(text: &[u8]) -> Option<(&[u8], &[u8])>
@@ -14,13 +15,20 @@ pub fn split_line(text: &[u8]) -> Option<(&[u8], &[u8])>
     None
 }
 
+fn has_name_bytes(name: &[u8]) -> bool
+    ensures { result ≡ list_all is_name_byte name.now }
+{
+    name.iter()
+        .all(|b| b.is_ascii_alphanumeric() || *b == b'_')
+}
+
 fn is_good_name(name: &[u8]) -> bool
     ensures { result ≡ is_name name.now }
 {
     if name.is_empty() || name.len() > 32 || name == b"op".as_slice() {
         return false;
     }
-    name[0].is_ascii_alphabetic() && name.iter().all(|b| b.is_ascii_alphanumeric() || *b == b'_')
+    name[0].is_ascii_alphabetic() && has_name_bytes(name)
 }
 
 /// The name behind a word that the line begins with.

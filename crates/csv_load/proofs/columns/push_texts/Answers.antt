@@ -1,0 +1,18 @@
+use Rattle.std.proofs.Common.{◌∙◌, ◌≡◌, ◌<◌, ◌+◌, sym, ap, arith, false, get_or, []}
+use Rattle.csv.specs.Records.{fields_of}
+use Rattle.csv_load.specs.Base.{is_value}
+use Rattle.csv_load.proofs.Fields.{bad-first, good-first, good-value, long-value, no-value, texts-more}
+use Rattle.csv_load.proofs.columns.push_texts.Goals as goal
+
+pub returns-then-field-gt255-clause-form : goal.returns-then-field-gt255-clause-form
+returns-then-field-gt255-clause-form c = λ _.
+    let bad : is_value (get_or (fields_of c.args.row.now) (1 + c.loop-dim.dim) []) ≡ false = rw c.field-field.ensures at (long-value _ c.if-field-gt255.true) in
+    sym c.loop-dim.invariant.good ∙ bad-first (fields_of c.args.row.now) (1 + c.loop-dim.dim) (1 + c.args.dims) (omega arith) (omega arith) bad
+
+pub returns-in_default-clause-form : goal.returns-in_default-clause-form
+returns-in_default-clause-form c = λ _.
+    let bad : is_value (get_or (fields_of c.args.row.now) (1 + c.loop-dim.dim) []) ≡ false = rw c.field-field.ensures at (no-value _ c.in_default.ensures.cases.0) in
+    sym c.loop-dim.invariant.good ∙ bad-first (fields_of c.args.row.now) (1 + c.loop-dim.dim) (1 + c.args.dims) (omega arith) (omega arith) bad
+
+pub loop-dim-preserved : goal.loop-dim-preserved
+loop-dim-preserved c = ?
