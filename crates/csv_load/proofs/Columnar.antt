@@ -1,6 +1,6 @@
 -- Rows that lie in columns, one behind the other.
 use Rattle.std.proofs.Common.{◌≡◌, ◌<◌, ◌≤◌, ◌+◌, ◌-◌, ◌*◌, ◌^◌, ◌∙◌, ℕ, ℤ, pos, List, [], ◌∷◌, ◌++◌, length, get_or, refl, sym, ap, ap₂, arith, map, subst, suc}
-use Rattle.std.specs.Prelude.{slice_index, slice_range}
+use Rattle.std.specs.Prelude.{nat_abs, slice_index, slice_range}
 use Rattle.std.specs.List.{All, range_with_len}
 use Rattle.std.proofs.lemmas.List.{length_push, get_or_push, get_or_append_left, get_or-append_right, length-append, get_or-map}
 use Rattle.std.proofs.lemmas.List.Elements.{All-push}
@@ -84,3 +84,9 @@ columns-push dims ids texts amounts row are is room =
         loaded = subst P (sym rows) (All-push (IsLoaded dims) (rows_of_columns dims ids texts amounts) row are.is_batch.loaded is)
       }
     }
+
+pub amount-at : (dims : ℕ) (ids : List ℕ) (texts : List Text) (amounts : List ℤ) (k : ℕ) → AreColumns dims ids texts amounts → k < length ids → nat_abs (get_or amounts k (pos 0)) ≤ 999999999999
+amount-at dims ids texts amounts k are h =
+    let at : IsLoaded dims (row_of_columns dims ids texts amounts k)
+          = subst (IsLoaded dims) (row-at dims ids texts amounts k h) (are.is_batch.loaded k empty_row (omega (arith, h, length-rows dims ids texts amounts))) in
+    at.small 0 (pos 0) (omega arith)

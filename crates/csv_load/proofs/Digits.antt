@@ -1,6 +1,8 @@
 -- Numbers read from the left.
 use Rattle.std.proofs.Common.{◌≡◌, ◌<◌, ◌≤◌, ◌+◌, ◌-◌, ◌*◌, ◌^◌, ◌∙◌, ℕ, ℤ, pos, suc, List, [], ◌∷◌, length, refl, sym, ap, arith, true, false, Bool, Some, None, cond, nat_eq, zero, get_or, drop}
-use Rattle.std.specs.Prelude.{Option, option_map, neg_ℤ, nat_lt, nat_le, ◌&&◌, ◌==◌, if◌then◌else◌, nat_abs}
+use Rattle.std.proofs.lemmas.Int.{ints}
+use Rattle.std.proofs.Common.{w64, negsuc}
+use Rattle.std.specs.Prelude.{FitsSigned, Option, option_map, neg_ℤ, nat_lt, nat_le, ◌&&◌, ◌==◌, if◌then◌else◌, nat_abs}
 use Rattle.std.specs.Char.{digit_value, is_ascii_digit}
 use Rattle.std.specs.Str.{all_ascii_digits}
 use Rattle.std.specs.Str.Parse.{digits_value, digits_value_after}
@@ -121,3 +123,7 @@ step-digit text i n h e = ap (read_on n) (drop_more text i 0 h) ∙ read-digit n
 pub step-over : (text : List ℕ) (i n : ℕ) → i < length text → is_ascii_digit (get_or text i 0) ≡ true → 18446744073709551616 ≤ n * 10 + (get_or text i 0 - 48)
     → read_on n (drop i text) ≡ None
 step-over text i n h e over = step-digit text i n h e ∙ read-large (n * 10 + (get_or text i 0 - 48)) (drop (i + 1) text) over
+
+pub abs-fits : (z : ℤ) → nat_abs z ≤ 999999999999 → FitsSigned w64 z
+abs-fits (pos n) h = omega (arith, ints)
+abs-fits (negsuc n) h = omega (arith, ints)

@@ -4,6 +4,7 @@ pub mod Fields
 pub mod Distinct
 pub mod Rowing
 pub mod Thin
+pub mod Naming
 pub mod Cutting
 pub mod Columnar
 pub mod Digits

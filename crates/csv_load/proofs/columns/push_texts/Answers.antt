@@ -1,4 +1,4 @@
-use Rattle.std.proofs.Common.{◌∙◌, ◌≡◌, ◌<◌, ◌+◌, sym, ap, arith, false, get_or, []}
+use Rattle.std.proofs.Common.{◌∙◌, ◌≡◌, ◌<◌, ◌+◌, sym, ap, arith, true, false, get_or, []}
 use Rattle.csv.specs.Records.{fields_of}
 use Rattle.csv_load.specs.Base.{is_value}
 use Rattle.csv_load.proofs.Fields.{bad-first, good-first, good-value, long-value, no-value, texts-more}
@@ -15,4 +15,11 @@ returns-in_default-clause-form c = λ _.
     sym c.loop-dim.invariant.good ∙ bad-first (fields_of c.args.row.now) (1 + c.loop-dim.dim) (1 + c.args.dims) (omega arith) (omega arith) bad
 
 pub loop-dim-preserved : goal.loop-dim-preserved
-loop-dim-preserved c = ?
+loop-dim-preserved c =
+    let one : c.in-Ok.text.now ≡ get_or (fields_of c.args.row.now) (1 + c.loop-dim.dim) [] = c.in-Ok.ensures.cases.0 ∙ c.field-field.ensures in
+    let good : is_value (get_or (fields_of c.args.row.now) (1 + c.loop-dim.dim) []) ≡ true = rw c.field-field.ensures at (good-value c.field-field.result.now c.in-Ok.ensures.cases.1 c.if-field-gt255.false) in
+    let place : 1 + (c.loop-dim.dim + 1) ≡ 1 + c.loop-dim.dim + 1 = omega arith in
+    record {
+      texts = rw (c.in_ok-push.ensures.ok, one, place) (sym (texts-more c.loop-dim.texts (fields_of c.args.row.now) (1 + c.loop-dim.dim) (1 + c.args.dims) (omega arith) (omega arith)) ∙ c.loop-dim.invariant.texts);
+      good = rw place (sym (good-first (fields_of c.args.row.now) (1 + c.loop-dim.dim) (1 + c.args.dims) (omega arith) (omega arith) good) ∙ c.loop-dim.invariant.good)
+    }

@@ -1,0 +1,10 @@
+use Rattle.std.proofs.Common.{◌∙◌, ◌≡◌, sym, ap, true, Some}
+use Rattle.csv_load.specs.Schema.{is_name, name_behind}
+use Rattle.csv_load.proofs.Naming.{name-utf8, text-known}
+use Rattle.csv_load.proofs.lines.name_after.Goals as goal
+
+pub returns : goal.returns
+returns c =
+    let good : is_name c.in_ok-name.name.now ≡ true = sym c.if-not-is_good_name.ensures in
+    let cut = c.in_ok-name.ensures.cases in
+    rw c.ok.ensures.value (text-known c.from_utf8.result c.in_ok-name.name.now c.from_utf8.ensures.cases (name-utf8 c.in_ok-name.name.now good)) ∙ ?
