@@ -10,7 +10,7 @@ use Rattle.std.proofs.lemmas.Bool.Decides.{nat_tests}
 use Rattle.std.proofs.lemmas.List.{drop_more, get_or_past}
 use Rattle.std.proofs.lemmas.Str.{IsUtf8-from_ascii}
 use Rattle.csv_load.specs.Records.{fields_eq}
-use Rattle.csv_load.specs.Schema.{all_different, are_columns, columns_in, cons_some, is_name, is_name_byte, lines_of, measure_in, name_behind, names_behind, names_left, names_of, with_first}
+use Rattle.csv_load.specs.Schema.{all_different, columns_in, columns_of, cons_some, is_name, is_name_byte, lines_of, measure_in, name_behind, names_behind, names_left, names_of, with_first}
 
 -- a name is ASCII
 name-byte : (b : ℕ) → is_name_byte b ≡ true → b < 128
@@ -29,9 +29,9 @@ name-utf8 name h =
     IsUtf8-from_ascii name (bytes-ascii name r.1)
 
 -- what is known to be text is read as text
-pub text-known : {E : Type 0} (r : Result (Bor (List ℕ)) E) (text : List ℕ) {Q : E → Type 0} → MatchResult r (λ s. (s.now ≡ text) × IsUtf8 text) (λ e. ¬ (IsUtf8 text) × Q e) → IsUtf8 text → option_map (λ s. s.now) (result_ok r) ≡ Some text
-text-known (Ok s) text h utf8 = ap Some h.0
-text-known (Err e) text h utf8 = absurd (h.0 utf8)
+pub text-known : {E : Type 0} (r : Result (Bor (List ℕ)) E) (text : List ℕ) (Q : E → Type 0) → MatchResult r (λ s. (s.now ≡ text) × IsUtf8 text) (λ e. ¬ (IsUtf8 text) × Q e) → IsUtf8 text → option_map (λ s. s.now) (result_ok r) ≡ Some text
+text-known (Ok s) text Q h utf8 = ap Some h.0
+text-known (Err e) text Q h utf8 = absurd (h.0 utf8)
 
 -- the lines of a text that isn't empty are some, where each ends
 lines-some : (text : List ℕ) → 0 < length text → lines_of text ≡ Some [] → ⊥
@@ -87,7 +87,7 @@ left-one (l ∷ next ∷ more) names e = by (name_behind (codes "dim ") l) (name
 pub too-many : (names : List (List ℕ)) → 14 < length names → columns_in names ≡ None
 too-many names h = rw (lt-leb (length names) 14 h) (by (nat_le 3 (length names)))
   where
-    by : (b : Bool) → cond ((b && false) && all_different bytes_eq names) (Some _) None ≡ None
+    by : (b : Bool) → cond ((b && false) && all_different bytes_eq names) (Some (columns_of names)) None ≡ None
     by true = refl
     by false = refl
 
