@@ -5,6 +5,7 @@ pub mod Distinct
 pub mod Rowing
 pub mod Thin
 pub mod Naming
+pub mod Sizes
 pub mod Cutting
 pub mod Columnar
 pub mod Digits

@@ -1,6 +1,6 @@
 -- The names in the lines of a schema.
 use Rattle.std.proofs.Common.{◌≡◌, ◌<◌, ◌≤◌, ◌+◌, ◌-◌, ◌∙◌, ℕ, zero, suc, List, [], ◌∷◌, ◌++◌, length, get_or, take, drop, refl, sym, ap, arith, Some, None, true, false, Bool, cond, append_assoc, nat_eq, Bor, Result, Ok, Err, length-append}
-use Rattle.std.specs.Prelude.{Option, option_map, option_and_then, codes, ◌==◌, ◌&&◌, ◌||◌, not, nat_le, IsUtf8, MatchResult, if◌then◌else◌}
+use Rattle.std.specs.Prelude.{Option, option_map, option_and_then, codes, ◌==◌, ◌&&◌, ◌||◌, not, nat_le, IsUtf8, MatchResult, IfSome, if◌then◌else◌}
 use Rattle.std.specs.Char.{is_ascii_alphabetic, is_ascii_alphanumeric}
 use Rattle.std.specs.List.{list_all, list_any}
 use Rattle.std.specs.Result.{result_ok}
@@ -27,6 +27,15 @@ name-utf8 name h =
     let q = and_parts (is_ascii_alphabetic (get_or name 0 0) && list_all is_name_byte name) (nat_le (length name) 32) p.0 in
     let r = and_parts (is_ascii_alphabetic (get_or name 0 0)) (list_all is_name_byte name) q.0 in
     IsUtf8-from_ascii name (bytes-ascii name r.1)
+
+pub name-short : (name : List ℕ) → is_name name ≡ true → length name ≤ 32
+name-short name h =
+    let p = and_parts (is_ascii_alphabetic (get_or name 0 0) && list_all is_name_byte name && nat_le (length name) 32) (not (bytes_eq name (codes "op"))) h in
+    leb-true (length name) 32 (and_parts (is_ascii_alphabetic (get_or name 0 0) && list_all is_name_byte name) (nat_le (length name) 32) p.0).1
+
+pub short-text : (o : Option (Bor (List ℕ))) (text : List ℕ) → option_map (λ s. s.now) o ≡ Some text → length text ≤ 32 → IfSome o (λ s. length s.now ≤ 32)
+short-text None text e h = absurd (cc e)
+short-text (Some s) text e h = let same : s.now ≡ text = cc in omega (arith, ap length same)
 
 -- what is known to be text is read as text
 pub text-known : {E : Type 0} (r : Result (Bor (List ℕ)) E) (text : List ℕ) (Q : E → Type 0) → MatchResult r (λ s. (s.now ≡ text) × IsUtf8 text) (λ e. ¬ (IsUtf8 text) × Q e) → IsUtf8 text → option_map (λ s. s.now) (result_ok r) ≡ Some text

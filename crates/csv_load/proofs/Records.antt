@@ -161,21 +161,6 @@ pub stepped : (a b : Reader (Bor (List ℕ))) (f : Bool) (fields : List (List �
 stepped a b true fields plain r on = found a b fields plain r (on refl)
 stepped a b false fields plain r on = ended a b fields plain r
 
--- each record takes a byte at least
-few : (n : ℕ) (s : State) (xs : List ℕ) → ends_at_end s ≡ false → length (records_from default_config n s xs) ≤ length xs
-unfolding records_from
-few zero s xs b = omega arith
-few (suc n) s xs b = by (next_record default_config s [] [] xs) refl (λ p e. let l = leaves-between s xs p b e in omega (arith, few n p.1 p.2 l.between, l.left))
-  where
-    by : (o : Option Read) → next_record default_config s [] [] xs ≡ o
-      → ((p : Read) → next_record default_config s [] [] xs ≡ Some p → length (records_from default_config n p.1 p.2) + 1 ≤ length xs)
-      → length (records_from default_config (suc n) s xs) ≤ length xs
-    by None e more = rw e (omega arith)
-    by (Some p) e more = rw e (omega (arith, more p e))
-
-pub few_records : (xs : List ℕ) → length (records default_config xs) ≤ length xs
-few_records xs = few (length xs + 1) st.StartRecord xs refl
-
 -- a text with no mark at its front stays as it is
 pub unmarked : (xs : List ℕ) → begins_with_mark xs ≡ false → strip_bom xs ≡ xs
 unfolding strip_bom

@@ -72,6 +72,15 @@ row-loaded dims fields row e = by _ _ _ refl refl refl e
         small = All-cons IsSmall amount [] (amount-small (get_or fields (1 + dims) []) amount ea) (λ k d lt. absurd (omega arith))
       })
 
+pub row-tuple : (dims : ℕ) (fields : List (List ℕ)) (row : Row Text) → row_in dims fields ≡ Some row → row.tuple ≡ slice_range fields 1 (1 + dims)
+row-tuple dims fields row e = by ((length fields == dims + 2) && list_all is_value (slice_range fields 1 (1 + dims))) (id_in (get_or fields 0 [])) (amount_in (get_or fields (1 + dims) [])) e
+  where
+    by : (b : Bool) (id : Option ℕ) (amount : Option ℤ) → cond b (row_with id (slice_range fields 1 (1 + dims)) amount) None ≡ Some row → row.tuple ≡ slice_range fields 1 (1 + dims)
+    by false id amount m = absurd (cc m)
+    by true None amount m = absurd (cc m)
+    by true (Some id) None m = absurd (cc m)
+    by true (Some id) (Some amount) m = sym (ap (λ (o : Option (Row Text)). (unwrap_or o row).tuple) m)
+
 -- with the rows before, those of the records that are left are all
 abbrev pub rows_with : ℕ → List (Row Text) → List (List (List ℕ)) → Option (List (Row Text))
 rows_with dims before left = option_map (λ more. before ++ more) (rows_in dims left)

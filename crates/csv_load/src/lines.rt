@@ -1,5 +1,5 @@
 // The lines of a schema, and the names in them.
-ghost use Rattle.std.specs.Prelude.{◌≡◌, ◌<◌, ◌⊎◌, [], Some, None, length, IsUtf8, MatchOption, option_map};
+ghost use Rattle.std.specs.Prelude.{◌≡◌, ◌≤◌, ◌<◌, ◌⊎◌, [], Some, None, length, IfSome, MatchOption, option_map};
 ghost use Rattle.std.specs.List.{list_all};
 ghost use Rattle.csv_load.specs.Schema.{cons_some, is_name, is_name_byte, lines_of, measure_in, name_behind};
 
@@ -33,7 +33,8 @@ fn is_good_name(name: &[u8]) -> bool
 
 /// The name behind a word that the line begins with.
 pub fn name_after<'a>(line: &'a [u8], word: &[u8]) -> Option<&'a str>
-    ensures { option_map (λ s. s.now) result ≡ name_behind word.now line.now }
+    ensures name { option_map (λ s. s.now) result ≡ name_behind word.now line.now }
+    ensures short { IfSome result (λ s. length s.now ≤ 32) }
 {
     let name = line.strip_prefix(word)?;
     if !is_good_name(name) {
@@ -44,7 +45,8 @@ pub fn name_after<'a>(line: &'a [u8], word: &[u8]) -> Option<&'a str>
 
 /// The name in a line of a measure, whose scale is 0.
 pub fn measure_of(line: &[u8]) -> Option<&str>
-    ensures { option_map (λ s. s.now) result ≡ measure_in line.now }
+    ensures name { option_map (λ s. s.now) result ≡ measure_in line.now }
+    ensures short { IfSome result (λ s. length s.now ≤ 32) }
 {
     let front = line.strip_suffix(b" 0")?;
     name_after(front, b"measure ")

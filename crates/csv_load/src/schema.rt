@@ -5,6 +5,7 @@ ghost use Rattle.std.specs.Str.{bytes_eq};
 ghost use Rattle.csv_load.specs.Base.{header_of};
 ghost use Rattle.csv_load.specs.Records.{fields_eq};
 ghost use Rattle.csv_load.specs.Schema.{all_different, columns_in, lines_of, names_left, names_of, schema_of};
+ghost use Rattle.csv_load.specs.Texts.{bytes_in};
 ghost use Rattle.csv.specs.Records.{fields_of};
 
 use crate::lines::{measure_of, name_after, split_line};
@@ -130,7 +131,8 @@ fn are_different(names: &Texts) -> bool
 
 // Reads the names of the dimensions and of the measure.
 fn read_dims(names: &mut Texts, text: &[u8]) -> Result<(), ThinRefused>
-    requires { length names.old ≡ 1 }
+    requires one { length names.old ≡ 1 }
+    requires short { bytes_in names.old ≤ 32 }
     ensures ok { OnOk result (option_map (λ more. names.old ++ more) (names_left text.now) ≡ Some names.new) }
     ensures few { OnOk result (length names.new ≤ 14) }
     ensures form { IsErrOf result ThinRefused.Form → option_and_then columns_in (option_map (λ more. names.old ++ more) (names_left text.now)) ≡ None }

@@ -1,6 +1,6 @@
 // Texts that lie one behind the other in one buffer.
-ghost use Rattle.std.specs.Prelude.{◌≡◌, ◌≤◌, ◌<◌, ◌++◌, [], ◌∷◌, length, OnOk, OnErr, IfOk, slice_index_or, string_bytes, IsUtf8};
-ghost use Rattle.csv_load.specs.Texts.{IsCut, text_between, texts_of};
+ghost use Rattle.std.specs.Prelude.{◌≡◌, ◌<◌, ◌+◌, ◌^◌, ◌++◌, [], ◌∷◌, length, OnOk, OnErr, IfOk, slice_index_or, string_bytes};
+ghost use Rattle.csv_load.specs.Texts.{IsCut, bytes_in, text_between, texts_of};
 
 use std::alloc::{AllocError, Global};
 use std::marker::Model;
@@ -25,17 +25,16 @@ impl Model for Texts {
 
 // Puts a text behind the others, or leaves them as they are.
 fn push_text(bytes: &mut String, ends: &mut Vec<u32>, text: &str) -> Result<(), AllocError>
-    requires { IsCut ends.old.items (string_bytes bytes.old) }
+    requires cut { IsCut ends.old.items (string_bytes bytes.old) }
+    requires room { length (string_bytes bytes.old) + length text.now < 2 ^ 32 }
     ensures cut { IsCut ends.new.items (string_bytes bytes.new) }
     ensures ok { OnOk result (texts_of ends.new.items (string_bytes bytes.new) ≡ texts_of ends.old.items (string_bytes bytes.old) ++ text.now ∷ []) }
     ensures err { OnErr result (texts_of ends.new.items (string_bytes bytes.new) ≡ texts_of ends.old.items (string_bytes bytes.old)) }
 {
-    let Ok(end) = u32::try_from(bytes.len() + text.len()) else {
-        return Err(AllocError);
-    };
+    let end = bytes.len() + text.len();
     ends.reserve(1)?;
     bytes.push_str(text)?;
-    ends.push(end).unwrap();
+    ends.push(end as u32).unwrap();
     Ok(())
 }
 
@@ -76,6 +75,7 @@ impl Texts {
     }
 
     pub fn push(&mut self, text: &str) -> Result<(), AllocError>
+        requires { bytes_in self.old + length text.now < 2 ^ 32 }
         ensures ok { OnOk result (self.new ≡ self.old ++ text.now ∷ []) }
         ensures err { OnErr result (self.new ≡ self.old) }
     {

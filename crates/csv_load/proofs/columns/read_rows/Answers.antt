@@ -1,11 +1,13 @@
-use Rattle.std.proofs.Common.{◌∙◌, ◌≡◌, ◌<◌, ◌≤◌, ◌∷◌, [], ◌++◌, List, ℕ, sym, ap, arith, refl, length}
+use Rattle.std.proofs.Common.{◌∙◌, ◌≡◌, ◌<◌, ◌≤◌, ◌∷◌, [], ◌++◌, List, ℕ, sym, ap, arith, refl, length, ◌+◌}
 use Rattle.std.proofs.lemmas.List.{length_push}
 use Rattle.csv.specs.Records.{fields_of}
 use Rattle.cube_defs.specs.Rows.{Row}
 use Rattle.cube_defs.specs.Text.{Text}
 use Rattle.csv_load.specs.Batch.{rows_of_columns}
 use Rattle.csv_load.proofs.Columnar.{columns-push, length-rows, rows-push}
-use Rattle.csv_load.proofs.Rowing.{few-all, row-loaded, rows_with, with-all, with-more}
+use Rattle.csv_load.proofs.Rowing.{few-all, row-loaded, row-tuple, rows_with, with-all, with-more}
+use Rattle.csv_load.specs.Texts.{bytes_in_all}
+use Rattle.csv_load.proofs.Sizes.{room-all}
 use Rattle.csv_load.proofs.columns.read_rows.Goals as goal
 
 pub records-preserved : goal.records-preserved
@@ -21,7 +23,8 @@ records-preserved c =
         (ap (λ (rows : List (Row Text)). rows_with c.args.dims rows c.next.new.self) (rows-push c.args.dims c.records.ids.items c.records.texts c.records.amounts.items e.0 inv.columns.texts_fit inv.columns.amounts_fit is.tuple is.one)
           ∙ sym (with-more c.args.dims before (fields_of c.next.new.row) c.next.new.self e.0 e.1) ∙ rw left at inv.rows);
       count = omega (arith, inv.count, ap length left, ap length e.2.with_id, length_push c.records.ids.items e.0.id);
-      columns = rw (e.2.with_id, e.2.with_texts, e.2.with_amount) (columns-push c.args.dims c.records.ids.items c.records.texts c.records.amounts.items e.0 inv.columns is room)
+      columns = rw (e.2.with_id, e.2.with_texts, e.2.with_amount) (columns-push c.args.dims c.records.ids.items c.records.texts c.records.amounts.items e.0 inv.columns is room);
+      room = omega (arith, inv.room, ap bytes_in_all left, room-all c.push_row.new.texts c.records.texts (fields_of c.next.new.row) 1 (1 + c.args.dims) (e.2.with_texts ∙ ap (λ (texts : List Text). c.records.texts ++ texts) (row-tuple c.args.dims (fields_of c.next.new.row) e.0 e.1)))
     }
 
 pub returns-clause-ok : goal.returns-clause-ok
