@@ -55,15 +55,17 @@ rows-push dims ids texts amounts row fit as_many full one =
     ap (λ (n : ℕ). map (row_of_columns dims (ids ++ row.id ∷ []) (texts ++ row.tuple) (amounts ++ row.amounts)) (range_with_len 0 n)) (length_push ids row.id)
     ∙ map-range_with_len_more (row_of_columns dims (ids ++ row.id ∷ []) (texts ++ row.tuple) (amounts ++ row.amounts)) 0 (length ids) (length ids) (omega arith)
     ∙ ap₂ (λ (xs : List (Row Text)) (x : Row Text). xs ++ x ∷ [])
-        (same-below empty_row (row_of_columns dims (ids ++ row.id ∷ []) (texts ++ row.tuple) (amounts ++ row.amounts)) (row_of_columns dims ids texts amounts) (length ids) (λ k h. before k h))
-        here
+    (same-below empty_row (row_of_columns dims (ids ++ row.id ∷ []) (texts ++ row.tuple) (amounts ++ row.amounts)) (row_of_columns dims ids texts amounts) (length ids) (λ k h. before k h))
+    here
   where
     same-row : (i j : ℕ) (s t : List Text) (a b : List ℤ) → i ≡ j → s ≡ t → a ≡ b → (let r : Row Text = record { id = i; tuple = s; amounts = a } in r) ≡ record { id = j; tuple = t; amounts = b }
     same-row i j s t a b e f g = rw (e, f, g) refl
+
     before : (k : ℕ) → k < length ids → row_of_columns dims (ids ++ row.id ∷ []) (texts ++ row.tuple) (amounts ++ row.amounts) k ≡ row_of_columns dims ids texts amounts k
     before k h = same-row _ _ _ _ _ _ (get_or_append_left ids (row.id ∷ []) 0 k h)
         (range-append texts row.tuple (k * dims) (k * dims + dims) (omega arith) (omega (arith, fit, below-all dims (length ids) k dims h (omega arith))))
         (ap (λ (a : ℤ). a ∷ []) (get_or_append_left amounts row.amounts (pos 0) k (omega arith)))
+
     here : row_of_columns dims (ids ++ row.id ∷ []) (texts ++ row.tuple) (amounts ++ row.amounts) (length ids) ≡ row
     here = same-row _ _ _ _ _ _ (get_or_push ids row.id 0 (length ids) refl) (range-behind texts row.tuple (length ids * dims) (length ids * dims + dims) fit (omega arith)) (last-amount amounts row.amounts (length ids) as_many one)
 
@@ -71,7 +73,7 @@ pub columns-push : (dims : ℕ) (ids : List ℕ) (texts : List Text) (amounts : 
     → AreColumns dims (ids ++ row.id ∷ []) (texts ++ row.tuple) (amounts ++ row.amounts)
 columns-push dims ids texts amounts row are is room =
     let rows : rows_of_columns dims (ids ++ row.id ∷ []) (texts ++ row.tuple) (amounts ++ row.amounts) ≡ rows_of_columns dims ids texts amounts ++ row ∷ []
-          = rows-push dims ids texts amounts row are.texts_fit are.amounts_fit is.tuple is.one in
+    = rows-push dims ids texts amounts row are.texts_fit are.amounts_fit is.tuple is.one in
     let few : length (ids ++ row.id ∷ []) ≡ length ids + 1 = length_push ids row.id in
     let P : List (Row Text) → Type 0 = λ rs. All (IsLoaded dims) rs in
     record {
@@ -81,12 +83,12 @@ columns-push dims ids texts amounts row are is room =
         some = are.is_batch.some;
         few = are.is_batch.few;
         most = omega (arith, length-rows dims (ids ++ row.id ∷ []) (texts ++ row.tuple) (amounts ++ row.amounts), few);
-        loaded = subst P (sym rows) (All-push (IsLoaded dims) (rows_of_columns dims ids texts amounts) row are.is_batch.loaded is)
-      }
+        loaded = subst P (sym rows) (All-push (IsLoaded dims) (rows_of_columns dims ids texts amounts) row are.is_batch.loaded is);
+      };
     }
 
 pub amount-at : (dims : ℕ) (ids : List ℕ) (texts : List Text) (amounts : List ℤ) (k : ℕ) → AreColumns dims ids texts amounts → k < length ids → nat_abs (get_or amounts k (pos 0)) ≤ 999999999999
 amount-at dims ids texts amounts k are h =
     let at : IsLoaded dims (row_of_columns dims ids texts amounts k)
-          = subst (IsLoaded dims) (row-at dims ids texts amounts k h) (are.is_batch.loaded k empty_row (omega (arith, h, length-rows dims ids texts amounts))) in
+    = subst (IsLoaded dims) (row-at dims ids texts amounts k h) (are.is_batch.loaded k empty_row (omega (arith, h, length-rows dims ids texts amounts))) in
     at.small 0 (pos 0) (omega arith)

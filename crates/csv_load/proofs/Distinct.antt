@@ -38,13 +38,13 @@ once v (x ∷ xs) h = rw (sum_by-cons (one_at v) x xs) (by (nat_eq x v) refl (on
   where
     by : (b : Bool) → nat_eq x v ≡ b → (all_different nat_eq xs ≡ true → sum_by (one_at v) xs ≤ 1) → cond b 1 0 + sum_by (one_at v) xs ≤ 1
     by true e more =
-      let p = and_parts (not (list_any (λ y. nat_eq y x) xs)) (all_different nat_eq xs) h in
-      let same : x ≡ v = eqb-true x v e in
-      let none : list_any (λ y. nat_eq y v) xs ≡ false = rw same at (not-true (list_any (λ y. nat_eq y x) xs) p.0) in
-      omega (arith, none-there v xs none)
+        let p = and_parts (not (list_any (λ y. nat_eq y x) xs)) (all_different nat_eq xs) h in
+        let same : x ≡ v = eqb-true x v e in
+        let none : list_any (λ y. nat_eq y v) xs ≡ false = rw same at (not-true (list_any (λ y. nat_eq y x) xs) p.0) in
+        omega (arith, none-there v xs none)
     by false e more =
-      let p = and_parts (not (list_any (λ y. nat_eq y x) xs)) (all_different nat_eq xs) h in
-      omega (arith, more p.1)
+        let p = and_parts (not (list_any (λ y. nat_eq y x) xs)) (all_different nat_eq xs) h in
+        omega (arith, more p.1)
 
 from-once : (xs : List ℕ) → ((v : ℕ) → sum_by (one_at v) xs ≤ 1) → all_different nat_eq xs ≡ true
 unfolding one_at
@@ -84,7 +84,7 @@ rises-more xs i sorted low high apart =
     let next : get_or xs (i - 1) 0 ≤ get_or xs i 0 = up (i - 1) i 0 (omega arith) high in
     let at : i - 1 + 1 ≡ i = omega arith in
     let none : list_any (λ y. nat_eq y (get_or xs (i - 1) 0)) (drop i xs) ≡ false
-          = not-above (get_or xs (i - 1) 0) (drop i xs) (λ k h. let far : get_or xs i 0 ≤ get_or xs (i + k) 0 = up i (i + k) 0 (omega arith) (omega (arith, length-drop i xs)) in omega (arith, get_or-drop i xs k 0)) in
+    = not-above (get_or xs (i - 1) 0) (drop i xs) (λ k h. let far : get_or xs i 0 ≤ get_or xs (i + k) 0 = up i (i + k) 0 (omega arith) (omega (arith, length-drop i xs)) in omega (arith, get_or-drop i xs k 0)) in
     ap (all_different nat_eq) (drop_more xs (i - 1) 0 (omega arith)) ∙ rw (at, none) refl
 
 pub rises-all : (xs : List ℕ) (i : ℕ) → length xs ≤ i → all_different nat_eq (drop (i - 1) xs) ≡ true

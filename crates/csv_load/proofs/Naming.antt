@@ -108,6 +108,7 @@ left-many before (Some name) behind h = by (lines_of behind)
     both : (p : Option (List (List ℕ))) → ((names : List (List ℕ)) → p ≡ Some names → 1 ≤ length names) → option_and_then columns_in (option_map (λ more. before ++ more) (cons_some (Some name) p)) ≡ None
     both None some = refl
     both (Some names) some = too-many (before ++ name ∷ names) (omega (arith, length-append before (name ∷ names), some names refl))
+
     by : (q : Option (List (List ℕ))) → option_and_then columns_in (option_map (λ more. before ++ more) (cons_some (Some name) (option_and_then names_behind q))) ≡ None
     by None = refl
     by (Some lines) = both (names_behind lines) (λ names e. left-one lines names e)

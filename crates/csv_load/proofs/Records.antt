@@ -65,7 +65,7 @@ at_end fields false p e = absurd (cc e)
 -- one byte, and then what the rest leaves
 one : (s : State) (fields : List (List ℕ)) (field rest : List ℕ) (c : ℕ) (p : Read) (b : Bool) → is_end (step default_config s c).1 ≡ b
     → cond b (Some (fields_after (step default_config s c).1 fields field, (step default_config s c).0, rest))
-        (next_record default_config (step default_config s c).0 (fields_after (step default_config s c).1 fields field) (field_after (step default_config s c).1 c field) rest) ≡ Some p
+    (next_record default_config (step default_config s c).0 (fields_after (step default_config s c).1 fields field) (field_after (step default_config s c).1 c field) rest) ≡ Some p
     → (next_record default_config (step default_config s c).0 (fields_after (step default_config s c).1 fields field) (field_after (step default_config s c).1 c field) rest ≡ Some p → Leaves (length rest) p)
     → Leaves (length rest) p
 one s fields field rest c p true h e more = is_leaves _ _ p e (record { left = omega arith; between = (good-step s c).is h })
@@ -97,8 +97,8 @@ enough (suc n) zero s xs b h k = absurd (omega arith)
 enough (suc n) (suc m) s xs b h k = by (next_record default_config s [] [] xs) refl (λ p e. let l = leaves-between s xs p b e in enough n m p.1 p.2 l.between (omega (arith, l.left)) (omega (arith, l.left)))
   where
     by : (o : Option Read) → next_record default_config s [] [] xs ≡ o
-      → ((p : Read) → next_record default_config s [] [] xs ≡ Some p → records_from default_config n p.1 p.2 ≡ records_from default_config m p.1 p.2)
-      → records_from default_config (suc n) s xs ≡ records_from default_config (suc m) s xs
+        → ((p : Read) → next_record default_config s [] [] xs ≡ Some p → records_from default_config n p.1 p.2 ≡ records_from default_config m p.1 p.2)
+        → records_from default_config (suc n) s xs ≡ records_from default_config (suc m) s xs
     by None e more = rw e refl
     by (Some p) e more = rw e (ap (λ (rows : List (List (List ℕ))). p.0 ∷ rows) (more p e))
 
@@ -118,7 +118,7 @@ next-found s s2 xs None fields b h = absurd h
 next-found s s2 xs (Some ys) fields b h = by (next_record default_config s [] [] xs) refl h
   where
     by : (o : Option Read) → next_record default_config s [] [] xs ≡ o → NextIs o true fields s2 ys
-      → (zs : List ℕ) × (Some ys ≡ Some zs) × (records_rest s xs ≡ fields ∷ records_rest s2 zs) × (ends_at_end s2 ≡ false)
+        → (zs : List ℕ) × (Some ys ≡ Some zs) × (records_rest s xs ≡ fields ∷ records_rest s2 zs) × (ends_at_end s2 ≡ false)
     by None e n = absurd (cc n)
     by (Some p) e n = let f = rest-found s xs p b e in (ys, refl, rw (n.1, n.2, n.3) f.0, rw n.2 f.1)
 
@@ -138,16 +138,18 @@ found a b fields plain r on = by (text_left a) refl plain.known
     by : (o : Option (List ℕ)) → text_left a ≡ o → IsSome o → (rows_left a ≡ fields ∷ rows_left b) × IsPlain b
     by None e k = absurd (cc k)
     by (Some xs) e k =
-      let n = next-found a.state b.state xs (pending_of (Some b.rdr.now) b) fields plain.between (rw (plain.config, e) at r.0) in
-      let left : text_left b ≡ Some n.0 = rw r.1 n.1 in
-      (rw (e, left) n.2, record {
-        trim = on.1 ∙ plain.trim;
-        ready = (on.4 plain.ready).0;
-        config = on.0 ∙ plain.config;
-        flexible = on.2 ∙ plain.flexible;
-        between = n.3;
-        known = rw left refl
-      })
+        let n = next-found a.state b.state xs (pending_of (Some b.rdr.now) b) fields plain.between (rw (plain.config, e) at r.0) in
+        let left : text_left b ≡ Some n.0 = rw r.1 n.1 in (
+          rw (e, left) n.2,
+          record {
+            trim = on.1 ∙ plain.trim;
+            ready = (on.4 plain.ready).0;
+            config = on.0 ∙ plain.config;
+            flexible = on.2 ∙ plain.flexible;
+            between = n.3;
+            known = rw left refl;
+          },
+        )
 
 -- a read that found none
 pub ended : (a b : Reader (Bor (List ℕ))) (fields : List (List ℕ)) → IsPlain a → ReadRecord (λ s. Some s.now) a b false fields → rows_left a ≡ []

@@ -56,21 +56,21 @@ pub row-loaded : (dims : ℕ) (fields : List (List ℕ)) (row : Row Text) → ro
 row-loaded dims fields row e = by _ _ _ refl refl refl e
   where
     by : (b : Bool) (id : Option ℕ) (amount : Option ℤ) → ((length fields == dims + 2) && list_all is_value (slice_range fields 1 (1 + dims))) ≡ b → id_in (get_or fields 0 []) ≡ id → amount_in (get_or fields (1 + dims) []) ≡ amount
-      → cond b (row_with id (slice_range fields 1 (1 + dims)) amount) None ≡ Some row → IsLoaded dims row
+        → cond b (row_with id (slice_range fields 1 (1 + dims)) amount) None ≡ Some row → IsLoaded dims row
     by false id amount eb ei ea m = absurd (cc m)
     by true None amount eb ei ea m = absurd (cc m)
     by true (Some id) None eb ei ea m = absurd (cc m)
     by true (Some id) (Some amount) eb ei ea m =
-      let same : (let r : Row Text = record { id = id; tuple = slice_range fields 1 (1 + dims); amounts = amount ∷ [] } in r) ≡ row = ap (λ (o : Option (Row Text)). unwrap_or o row) m in
-      let p = and_parts (length fields == dims + 2) (list_all is_value (slice_range fields 1 (1 + dims))) eb in
-      let many : length fields ≡ dims + 2 = eqb-true (length fields) (dims + 2) p.0 in
-      subst (IsLoaded dims) same (record {
-        id = id-small (get_or fields 0 []) id ei;
-        tuple = length-range fields 1 (1 + dims) (omega arith) (omega arith) ∙ omega arith;
-        texts = all-values (slice_range fields 1 (1 + dims)) p.1;
-        one = refl;
-        small = All-cons IsSmall amount [] (amount-small (get_or fields (1 + dims) []) amount ea) (λ k d lt. absurd (omega arith))
-      })
+        let same : (let r : Row Text = record { id = id; tuple = slice_range fields 1 (1 + dims); amounts = amount ∷ [] } in r) ≡ row = ap (λ (o : Option (Row Text)). unwrap_or o row) m in
+        let p = and_parts (length fields == dims + 2) (list_all is_value (slice_range fields 1 (1 + dims))) eb in
+        let many : length fields ≡ dims + 2 = eqb-true (length fields) (dims + 2) p.0 in
+        subst (IsLoaded dims) same (record {
+          id = id-small (get_or fields 0 []) id ei;
+          tuple = length-range fields 1 (1 + dims) (omega arith) (omega arith) ∙ omega arith;
+          texts = all-values (slice_range fields 1 (1 + dims)) p.1;
+          one = refl;
+          small = All-cons IsSmall amount [] (amount-small (get_or fields (1 + dims) []) amount ea) (λ k d lt. absurd (omega arith));
+        })
 
 pub row-tuple : (dims : ℕ) (fields : List (List ℕ)) (row : Row Text) → row_in dims fields ≡ Some row → row.tuple ≡ slice_range fields 1 (1 + dims)
 row-tuple dims fields row e = by ((length fields == dims + 2) && list_all is_value (slice_range fields 1 (1 + dims))) (id_in (get_or fields 0 [])) (amount_in (get_or fields (1 + dims) [])) e

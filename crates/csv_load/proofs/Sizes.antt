@@ -46,10 +46,10 @@ record-within (c ∷ rest) s fields field p e =
     by (is_end (step default_config s c).1) e (record-within rest (step default_config s c).0 (fields_after (step default_config s c).1 fields field) (field_after (step default_config s c).1 c field) p)
   where
     by : (b : Bool) → cond b (Some (fields_after (step default_config s c).1 fields field, (step default_config s c).0, rest))
-          (next_record default_config (step default_config s c).0 (fields_after (step default_config s c).1 fields field) (field_after (step default_config s c).1 c field) rest) ≡ Some p
-      → (next_record default_config (step default_config s c).0 (fields_after (step default_config s c).1 fields field) (field_after (step default_config s c).1 c field) rest ≡ Some p
-          → bytes_in p.0 + length p.2 ≤ bytes_in (fields_after (step default_config s c).1 fields field) + length (field_after (step default_config s c).1 c field) + length rest)
-      → bytes_in p.0 + length p.2 ≤ bytes_in fields + length field + suc (length rest)
+        (next_record default_config (step default_config s c).0 (fields_after (step default_config s c).1 fields field) (field_after (step default_config s c).1 c field) rest) ≡ Some p
+        → (next_record default_config (step default_config s c).0 (fields_after (step default_config s c).1 fields field) (field_after (step default_config s c).1 c field) rest ≡ Some p
+        → bytes_in p.0 + length p.2 ≤ bytes_in (fields_after (step default_config s c).1 fields field) + length (field_after (step default_config s c).1 c field) + length rest)
+        → bytes_in p.0 + length p.2 ≤ bytes_in fields + length field + suc (length rest)
     by true m more = is-within _ _ p m (omega (arith, acted (step default_config s c).1 c fields field))
     by false m more = omega (arith, more m, acted (step default_config s c).1 c fields field)
 
@@ -59,7 +59,7 @@ records-within zero s xs = omega arith
 records-within (suc n) s xs = by (next_record default_config s [] [] xs) refl (λ p. records-within n p.1 p.2)
   where
     by : (o : Option Read) → next_record default_config s [] [] xs ≡ o → ((p : Read) → bytes_in_all (records_from default_config n p.1 p.2) ≤ length p.2)
-      → bytes_in_all (records_from default_config (suc n) s xs) ≤ length xs
+        → bytes_in_all (records_from default_config (suc n) s xs) ≤ length xs
     by None e more = rw e (omega arith)
     by (Some p) e more = rw e (omega (arith, more p, record-within xs s [] [] p e))
 

@@ -1,17 +1,16 @@
 //! Reads a schema and a base file of comma-separated values: which columns there are, and the rows.
 #![tactic(auto)]
 
-mod texts;
-mod lines;
-mod schema;
-mod numbers;
-mod rows;
+mod base;
 mod batch;
 mod columns;
-mod base;
-
+mod lines;
+mod numbers;
+mod rows;
+mod schema;
 #[cfg(test)]
 mod tests;
+mod texts;
 
 pub use base::{LoadRefused, read_base};
 pub use batch::RawBatch;

@@ -18,8 +18,7 @@ pub fn split_line(text: &[u8]) -> Option<(&[u8], &[u8])>
 fn has_name_bytes(name: &[u8]) -> bool
     ensures { result ≡ list_all is_name_byte name.now }
 {
-    name.iter()
-        .all(|b| b.is_ascii_alphanumeric() || *b == b'_')
+    name.iter().all(|b| b.is_ascii_alphanumeric() || *b == b'_')
 }
 
 fn is_good_name(name: &[u8]) -> bool

@@ -14,9 +14,7 @@ pub fn number(digits: &[u8]) -> Option<u64>
         if !digit.is_ascii_digit() {
             return None;
         }
-        value = value
-            .checked_mul(10)?
-            .checked_add((*digit - b'0') as u64)?;
+        value = value.checked_mul(10)?.checked_add((*digit - b'0') as u64)?;
     }
     Some(value)
 }

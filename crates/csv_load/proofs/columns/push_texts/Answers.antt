@@ -27,5 +27,5 @@ loop-dim-preserved c =
     let place : 1 + (c.loop-dim.dim + 1) ≡ 1 + c.loop-dim.dim + 1 = omega arith in
     record {
       texts = rw (c.in_ok-push.ensures.ok, one, place) (sym (texts-more c.loop-dim.texts (fields_of c.args.row.now) (1 + c.loop-dim.dim) (1 + c.args.dims) (omega arith) (omega arith)) ∙ c.loop-dim.invariant.texts);
-      good = rw place (sym (good-first (fields_of c.args.row.now) (1 + c.loop-dim.dim) (1 + c.args.dims) (omega arith) (omega arith) good) ∙ c.loop-dim.invariant.good)
+      good = rw place (sym (good-first (fields_of c.args.row.now) (1 + c.loop-dim.dim) (1 + c.args.dims) (omega arith) (omega arith) good) ∙ c.loop-dim.invariant.good);
     }

@@ -7,6 +7,6 @@ use Rattle.csv_load.proofs.columns.push_texts.Given as goal
 
 abbrev pub invariant-loop-dim : goal.invariant-loop-dim
 invariant-loop-dim l = record {
-      texts : l.texts ++ slice_range (fields_of l.row) (1 + l.dim) (1 + l.dims) ≡ l.initial.texts ++ slice_range (fields_of l.row) 1 (1 + l.dims);
-      good : list_all is_value (slice_range (fields_of l.row) (1 + l.dim) (1 + l.dims)) ≡ list_all is_value (slice_range (fields_of l.row) 1 (1 + l.dims))
-    }
+  texts : l.texts ++ slice_range (fields_of l.row) (1 + l.dim) (1 + l.dims) ≡ l.initial.texts ++ slice_range (fields_of l.row) 1 (1 + l.dims);
+  good : list_all is_value (slice_range (fields_of l.row) (1 + l.dim) (1 + l.dims)) ≡ list_all is_value (slice_range (fields_of l.row) 1 (1 + l.dims));
+}

@@ -28,11 +28,11 @@ lines-preserved c =
     let some : 0 < length c.in-Some.behind.now = omega (arith, eqb-false (length c.in-Some.behind.now) 0 (sym c.if-is_empty.ensures)) in
     record {
       names =
-        ap (λ (before : List Text). option_map (λ more. before ++ more) (names_left c.in-Some.behind.now)) c.in_ok-push-2.ensures.ok
-        ∙ sym (join-more c.lines.names c.in-Some-name_after.name.now (names_left c.in-Some.behind.now))
-        ∙ ap (λ (o : Option Text). option_map (λ more. c.lines.names ++ more) (cons_some o (names_left c.in-Some.behind.now))) c.in-Some-name_after.ensures.name
-        ∙ ap (option_map (λ more. c.lines.names ++ more)) (sym (left-more c.lines.rest.now c.in-Some.line.now c.in-Some.behind.now c.in-Some.ensures.0 some))
-        ∙ c.lines.invariant.names;
+          ap (λ (before : List Text). option_map (λ more. before ++ more) (names_left c.in-Some.behind.now)) c.in_ok-push-2.ensures.ok
+          ∙ sym (join-more c.lines.names c.in-Some-name_after.name.now (names_left c.in-Some.behind.now))
+          ∙ ap (λ (o : Option Text). option_map (λ more. c.lines.names ++ more) (cons_some o (names_left c.in-Some.behind.now))) c.in-Some-name_after.ensures.name
+          ∙ ap (option_map (λ more. c.lines.names ++ more)) (sym (left-more c.lines.rest.now c.in-Some.line.now c.in-Some.behind.now c.in-Some.ensures.0 some))
+          ∙ c.lines.invariant.names;
       few = omega (arith, ap length c.in_ok-push-2.ensures.ok, length_push c.lines.names c.in-Some-name_after.name.now, c.if-len-gt12.false, c.len.ensures);
-      size = omega (arith, ap bytes_in c.in_ok-push-2.ensures.ok, bytes-push c.lines.names c.in-Some-name_after.name.now, ap length c.in_ok-push-2.ensures.ok, length_push c.lines.names c.in-Some-name_after.name.now, c.in-Some-name_after.ensures.short, c.lines.invariant.size)
+      size = omega (arith, ap bytes_in c.in_ok-push-2.ensures.ok, bytes-push c.lines.names c.in-Some-name_after.name.now, ap length c.in_ok-push-2.ensures.ok, length_push c.lines.names c.in-Some-name_after.name.now, c.in-Some-name_after.ensures.short, c.lines.invariant.size);
     }

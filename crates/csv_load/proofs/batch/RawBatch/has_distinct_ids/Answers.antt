@@ -10,5 +10,5 @@ use Rattle.csv_load.proofs.batch.RawBatch.has_distinct_ids.Goals as goal
 pub returns : goal.returns
 returns c =
     IfOk-weaker c.are_distinct.result _ _
-      (λ b h. h ∙ ap (all_different nat_eq) (c.as_slice.ensures.value ∙ sym (ids-of c.self.inside.dims c.self.inside.ids.items c.self.inside.texts c.self.inside.amounts.items) ∙ ap (λ (b : Batch). map (λ (row : Row Text). row.id) b.rows) c.self.view_is))
-      c.are_distinct.ensures
+    (λ b h. h ∙ ap (all_different nat_eq) (c.as_slice.ensures.value ∙ sym (ids-of c.self.inside.dims c.self.inside.ids.items c.self.inside.texts c.self.inside.amounts.items) ∙ ap (λ (b : Batch). map (λ (row : Row Text). row.id) b.rows) c.self.view_is))
+    c.are_distinct.ensures
