@@ -1,14 +1,14 @@
 -- Rows that lie in columns, one behind the other.
-use Rattle.std.proofs.Common.{◌≡◌, ◌<◌, ◌≤◌, ◌+◌, ◌-◌, ◌*◌, ◌^◌, ◌∙◌, ℕ, ℤ, pos, List, [], ◌∷◌, ◌++◌, length, get_or, refl, sym, ap, ap₂, arith, map, subst, suc}
-use Rattle.std.specs.Prelude.{nat_abs, slice_index, slice_range}
+use Rattle.std.proofs.Common.{◌≡◌, ◌<◌, ◌≤◌, ◌+◌, ◌*◌, ◌∙◌, ℕ, ℤ, pos, List, [], ◌∷◌, ◌++◌, length, get_or, refl, sym, ap, ap₂, arith, map, subst, suc}
+use Rattle.std.specs.Prelude.{nat_abs}
 use Rattle.std.specs.List.{All, range_with_len}
-use Rattle.std.proofs.lemmas.List.{length_push, get_or_push, get_or_append_left, get_or-append_right, length-append, get_or-map}
+use Rattle.std.proofs.lemmas.List.{length_push, get_or_push, get_or_append_left, get_or-append_right, length-append}
 use Rattle.std.proofs.lemmas.List.Elements.{All-push}
-use Rattle.std.proofs.lemmas.List.FromFn.{length-map-range_with_len, get_or-map-range_with_len, map-range_with_len_more, fill_by_all, length-range_with_len}
+use Rattle.std.proofs.lemmas.List.FromFn.{length-map-range_with_len, get_or-map-range_with_len, map-range_with_len_more}
 use Rattle.std.proofs.Math.Nat.{mul-le-mul_left}
 use Rattle.cube_defs.specs.Rows.{Row}
 use Rattle.cube_defs.specs.Text.{Text}
-use Rattle.csv_load.specs.Batch.{AreColumns, Batch, IsBatch, IsLoaded, batch_of, empty_row, row_of_columns, rows_of_columns}
+use Rattle.csv_load.specs.Batch.{AreColumns, IsLoaded, empty_row, row_of_columns, rows_of_columns}
 use Rattle.csv_load.proofs.Ranges.{range-append, range-behind, same-below, get_or-range}
 
 pub length-rows : (dims : ℕ) (ids : List ℕ) (texts : List Text) (amounts : List ℤ) → length (rows_of_columns dims ids texts amounts) ≡ length ids

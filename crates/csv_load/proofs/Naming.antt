@@ -1,16 +1,16 @@
 -- The names in the lines of a schema.
-use Rattle.std.proofs.Common.{◌≡◌, ◌<◌, ◌≤◌, ◌+◌, ◌-◌, ◌∙◌, ℕ, zero, suc, List, [], ◌∷◌, ◌++◌, length, get_or, take, drop, refl, sym, ap, arith, Some, None, true, false, Bool, cond, append_assoc, nat_eq, Bor, Result, Ok, Err, length-append}
-use Rattle.std.specs.Prelude.{Option, option_map, option_and_then, codes, ◌==◌, ◌&&◌, ◌||◌, not, nat_le, IsUtf8, MatchResult, IfSome, if◌then◌else◌}
-use Rattle.std.specs.Char.{is_ascii_alphabetic, is_ascii_alphanumeric}
+use Rattle.std.proofs.Common.{◌≡◌, ◌<◌, ◌≤◌, ◌+◌, ◌∙◌, ℕ, zero, suc, List, [], ◌∷◌, ◌++◌, length, get_or, drop, refl, sym, ap, arith, Some, None, true, false, Bool, cond, append_assoc, Bor, Result, Ok, Err, length-append}
+use Rattle.std.specs.Prelude.{Option, option_map, option_and_then, codes, ◌==◌, ◌&&◌, not, nat_le, IsUtf8, MatchResult, IfSome}
+use Rattle.std.specs.Char.{is_ascii_alphabetic}
 use Rattle.std.specs.List.{list_all, list_any}
 use Rattle.std.specs.Result.{result_ok}
 use Rattle.std.specs.Str.{bytes_eq}
-use Rattle.std.proofs.lemmas.Bool.{and_parts, le-leb, lt-leb, leb-true}
+use Rattle.std.proofs.lemmas.Bool.{and_parts, lt-leb, leb-true}
 use Rattle.std.proofs.lemmas.Bool.Decides.{nat_tests}
-use Rattle.std.proofs.lemmas.List.{drop_more, get_or_past}
+use Rattle.std.proofs.lemmas.List.{drop_more}
 use Rattle.std.proofs.lemmas.Str.{IsUtf8-from_ascii}
 use Rattle.csv_load.specs.Records.{fields_eq}
-use Rattle.csv_load.specs.Schema.{all_different, columns_in, columns_of, cons_some, is_name, is_name_byte, lines_of, measure_in, name_behind, names_behind, names_left, names_of, with_first}
+use Rattle.csv_load.specs.Schema.{all_different, columns_in, columns_of, cons_some, is_name, is_name_byte, lines_of, measure_in, name_behind, names_behind, names_left, with_first}
 
 -- a name is ASCII
 name-byte : (b : ℕ) → is_name_byte b ≡ true → b < 128

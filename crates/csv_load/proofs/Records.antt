@@ -1,8 +1,8 @@
 -- The records that a reader gives in turn are the records of the text.
-use Rattle.std.proofs.Common.{◌≡◌, ◌<◌, ◌≤◌, ◌+◌, ◌∙◌, ℕ, zero, suc, List, [], ◌∷◌, ◌++◌, length, Some, None, true, false, refl, sym, ap, arith, Bool, cond, Bor, add-one}
-use Rattle.std.specs.Prelude.{Option, ◌==◌, ◌||◌, if◌then◌else◌, unwrap_or, IsSome}
+use Rattle.std.proofs.Common.{◌≡◌, ◌<◌, ◌≤◌, ◌+◌, ◌∙◌, ℕ, zero, suc, List, [], ◌∷◌, length, Some, None, true, false, refl, sym, ap, arith, Bool, cond, Bor, add-one}
+use Rattle.std.specs.Prelude.{Option, ◌==◌, unwrap_or, IsSome}
 use Rattle.csv.specs.Machine.{Read, next_record, step, is_end, ends_at_end, fields_after, field_after, after_end, ends_with, in_field, start_field, start_record}
-use Rattle.csv.specs.Reading.{NextIs, ReadRecord, ReadsNext, ReadsOn, default_config, pending_of, records, records_from, source_of, strip_bom}
+use Rattle.csv.specs.Reading.{NextIs, ReadRecord, ReadsNext, ReadsOn, default_config, pending_of, records_from, strip_bom}
 use Rattle.csv.specs.declared.reader.Reader.{Reader}
 use Rattle.csv_load.specs.Records.{IsPlain, Steps, begins_with_mark, records_rest, rows_left, text_left}
 use Rattle.csv.specs.declared.parser.State.{State}

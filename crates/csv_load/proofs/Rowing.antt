@@ -1,6 +1,6 @@
 -- The row that a record spells, and the rows of the records that are left.
-use Rattle.std.proofs.Common.{◌≡◌, ◌<◌, ◌≤◌, ◌+◌, ◌-◌, ◌^◌, ◌∙◌, ℕ, ℤ, zero, suc, List, [], ◌∷◌, ◌++◌, length, get_or, refl, sym, ap, arith, Some, None, true, false, Bool, cond, subst, append_assoc}
-use Rattle.std.specs.Prelude.{Option, option_map, ◌==◌, ◌&&◌, nat_le, slice_range, unwrap_or, if◌then◌else◌}
+use Rattle.std.proofs.Common.{◌≡◌, ◌<◌, ◌≤◌, ◌+◌, ◌∙◌, ℕ, ℤ, List, [], ◌∷◌, ◌++◌, length, get_or, refl, sym, ap, arith, Some, None, true, false, Bool, cond, subst, append_assoc}
+use Rattle.std.specs.Prelude.{Option, option_map, ◌==◌, ◌&&◌, nat_le, slice_range, unwrap_or}
 use Rattle.std.specs.List.{All, list_all}
 use Rattle.std.proofs.lemmas.Bool.{and_parts, eq-eqb, ne_eqb, eqb-true, le-leb, lt-leb, leb-true}
 use Rattle.std.proofs.lemmas.List.{append-nil}

@@ -1,5 +1,5 @@
 -- The columns of a cube, and the text of a thin schema.
-use Rattle.std.specs.Prelude.{ℕ, Bool, not, ◌&&◌, ◌||◌, ◌==◌, ◌-◌, true, List, [], ◌∷◌, ◌++◌, take, drop, length, codes, nat_le, Option, Some, None, option_map, option_and_then, slice_index, slice_index_or, slice_range, if◌then◌else◌}
+use Rattle.std.specs.Prelude.{ℕ, Bool, not, ◌&&◌, ◌||◌, ◌==◌, ◌-◌, true, List, [], ◌∷◌, take, drop, length, codes, nat_le, Option, Some, None, option_and_then, slice_index, slice_index_or, slice_range, if◌then◌else◌}
 use Rattle.std.specs.Char.{is_ascii_alphabetic, is_ascii_alphanumeric}
 use Rattle.std.specs.List.{list_all, list_any}
 use Rattle.std.specs.Str.{bytes_eq}

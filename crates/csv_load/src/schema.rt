@@ -82,7 +82,7 @@ impl Schema {
     }
 
     /// Whether a record's fields are the names of the columns, in the schema's order.
-    pub fn is_header(&self, row: &ByteRecord) -> bool
+    pub(crate) fn is_header(&self, row: &ByteRecord) -> bool
         ensures { result ≡ fields_eq (fields_of row.now) (header_of self.now) }
     {
         are_fields(&self.names, row)

@@ -1,4 +1,4 @@
-use Rattle.std.proofs.Common.{◌∙◌, sym, arith}
+use Rattle.std.proofs.Common.{arith}
 use Rattle.csv_load.proofs.Thin.{found-none}
 use Rattle.csv_load.proofs.base.is_thin.Goals as goal
 

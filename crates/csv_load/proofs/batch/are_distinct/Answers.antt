@@ -1,4 +1,4 @@
-use Rattle.std.proofs.Common.{◌∙◌, ◌≡◌, sym, ap, rules, nat_eq, List, ℕ}
+use Rattle.std.proofs.Common.{◌∙◌, ◌≡◌, ap, rules, nat_eq}
 use Rattle.csv_load.specs.Schema.{all_different}
 use Rattle.csv_load.proofs.Distinct.{different-moved}
 use Rattle.csv_load.proofs.batch.are_distinct.Goals as goal

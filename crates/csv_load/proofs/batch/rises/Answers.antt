@@ -1,4 +1,4 @@
-use Rattle.std.proofs.Common.{◌∙◌, ◌+◌, ◌-◌, sym, ap, arith, drop, nat_eq, ℕ}
+use Rattle.std.proofs.Common.{◌∙◌, sym, ap, arith, drop, nat_eq, ℕ}
 use Rattle.csv_load.specs.Schema.{all_different}
 use Rattle.csv_load.proofs.Distinct.{rises-all, rises-more}
 use Rattle.csv_load.proofs.batch.rises.Goals as goal

@@ -1,4 +1,4 @@
-use Rattle.std.proofs.Common.{◌∙◌, ◌≡◌, ◌<◌, ◌+◌, sym, ap, arith, true, false, get_or, [], length}
+use Rattle.std.proofs.Common.{◌∙◌, ◌≡◌, ◌+◌, sym, ap, arith, true, false, get_or, [], length}
 use Rattle.csv.specs.Records.{fields_of}
 use Rattle.csv_load.specs.Base.{is_value}
 use Rattle.csv_load.proofs.Fields.{bad-first, good-first, good-value, long-value, no-value, texts-more}

@@ -1,7 +1,7 @@
-use Rattle.std.proofs.Common.{◌∙◌, ◌≡◌, sym, ap, refl, true, Some}
+use Rattle.std.proofs.Common.{◌≡◌, sym, refl, true, Some}
 use Rattle.std.specs.Prelude.{option_map}
 use Rattle.std.specs.Result.{result_ok}
-use Rattle.csv_load.specs.Schema.{is_name, name_behind}
+use Rattle.csv_load.specs.Schema.{is_name}
 use Rattle.csv_load.proofs.Naming.{name-short, name-utf8, short-text, text-known}
 use Rattle.csv_load.proofs.lines.name_after.Goals as goal
 

@@ -1,4 +1,4 @@
-use Rattle.std.proofs.Common.{arith, sym, ◌∙◌, ◌+◌, inl, inr, ⊎_elim, length}
+use Rattle.std.proofs.Common.{arith, ◌+◌, inl, inr, ⊎_elim, length}
 use Rattle.std.proofs.lemmas.Bool.{cases_lt}
 use Rattle.std.proofs.lemmas.List.{take_rest, length-drop, nil_from_length}
 use Rattle.csv_load.proofs.Splits.{split-at, split-none}

@@ -1,4 +1,4 @@
-use Rattle.std.proofs.Common.{◌∙◌, ◌≡◌, ◌≤◌, ◌+◌, ◌*◌, sym, arith, true, get_or}
+use Rattle.std.proofs.Common.{◌∙◌, ◌≡◌, sym, arith, true, get_or}
 use Rattle.std.specs.Char.{is_ascii_digit}
 use Rattle.csv_load.proofs.Digits.{step-over}
 use Rattle.csv_load.proofs.numbers.number.Goals as goal

@@ -1,6 +1,6 @@
 use Rattle.std.proofs.Common.{◌∙◌, ◌≡◌, ◌<◌, sym, arith, refl, Some, None, ap, ℤ, pos, w64}
 use Rattle.csv_load.specs.Numbers.{short_number_in}
-use Rattle.csv_load.proofs.Digits.{long-number, short-number, short-small, abs-fits}
+use Rattle.csv_load.proofs.Digits.{short-number, short-small, abs-fits}
 use Rattle.std.proofs.lemmas.Int.{to_z_pos}
 use Rattle.csv_load.proofs.numbers.short_number.Goals as goal
 

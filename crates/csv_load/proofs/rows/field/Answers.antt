@@ -1,5 +1,4 @@
-use Rattle.std.proofs.Common.{◌∙◌, ◌≡◌, sym, ap, get_or, [], Some, Bor, List, ℕ}
-use Rattle.std.specs.Prelude.{option_map, unwrap_or, Option}
+use Rattle.std.proofs.Common.{◌∙◌, ◌≡◌, get_or, [], Some, Bor, List, ℕ}
 use Rattle.csv.specs.Records.{fields_of}
 use Rattle.csv_load.proofs.Fields.{field-at, mapped-some}
 use Rattle.csv_load.proofs.rows.field.Goals as goal

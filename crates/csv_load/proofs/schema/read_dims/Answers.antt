@@ -1,9 +1,9 @@
-use Rattle.std.proofs.Common.{◌∙◌, ◌≡◌, ◌<◌, ◌++◌, ◌∷◌, [], List, ℕ, Some, None, sym, ap, arith, length}
+use Rattle.std.proofs.Common.{◌∙◌, ◌<◌, ◌++◌, List, sym, ap, arith, length}
 use Rattle.std.specs.Prelude.{Option, codes, option_and_then, option_map}
 use Rattle.std.proofs.lemmas.Bool.{eqb-false}
 use Rattle.std.proofs.lemmas.List.{length_push}
 use Rattle.cube_defs.specs.Text.{Text}
-use Rattle.csv_load.specs.Schema.{columns_in, cons_some, lines_of, name_behind, names_left}
+use Rattle.csv_load.specs.Schema.{columns_in, cons_some, name_behind, names_left}
 use Rattle.csv_load.specs.Texts.{bytes_in}
 use Rattle.csv_load.proofs.Sizes.{bytes-push}
 use Rattle.csv_load.proofs.Naming.{join-more, left-many, left-more}

@@ -1,4 +1,4 @@
-use Rattle.std.proofs.Common.{◌∙◌, ◌≡◌, ◌<◌, ◌-◌, ◌*◌, ◌+◌, sym, ap, List, ℕ, arith, length, get_or, []}
+use Rattle.std.proofs.Common.{◌∙◌, ◌≡◌, ◌<◌, ◌-◌, sym, ap, arith, length, get_or}
 use Rattle.std.proofs.Common.{pos, w64}
 use Rattle.std.proofs.lemmas.Int.{to_z-of_z}
 use Rattle.std.proofs.lemmas.List.{get_or_read}
@@ -6,7 +6,7 @@ use Rattle.csv_load.proofs.Digits.{abs-fits}
 use Rattle.cube_defs.specs.Rows.{Row}
 use Rattle.cube_defs.specs.Text.{Text}
 use Rattle.csv_load.specs.Batch.{empty_row, Batch}
-use Rattle.csv_load.proofs.Columnar.{amount-at, below-all, length-rows, row-at, text-at}
+use Rattle.csv_load.proofs.Columnar.{amount-at, length-rows, row-at}
 use Rattle.csv_load.proofs.batch.RawBatch.amount.Goals as goal
 
 pub index-requires : goal.index-requires

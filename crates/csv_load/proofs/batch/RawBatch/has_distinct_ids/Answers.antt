@@ -1,4 +1,4 @@
-use Rattle.std.proofs.Common.{◌∙◌, ◌≡◌, sym, ap, nat_eq, List, ℕ, map}
+use Rattle.std.proofs.Common.{◌∙◌, sym, ap, nat_eq, map}
 use Rattle.std.proofs.lemmas.Result.{IfOk-weaker}
 use Rattle.cube_defs.specs.Rows.{Row}
 use Rattle.cube_defs.specs.Text.{Text}

@@ -1,9 +1,9 @@
-use Rattle.std.proofs.Common.{◌∙◌, ◌≡◌, ◌<◌, ◌-◌, ◌*◌, ◌+◌, sym, ap, List, ℕ, arith, length, get_or, []}
+use Rattle.std.proofs.Common.{◌∙◌, ◌<◌, ◌-◌, sym, ap, arith, length, get_or}
 use Rattle.std.proofs.lemmas.List.{get_or_read}
 use Rattle.cube_defs.specs.Rows.{Row}
 use Rattle.cube_defs.specs.Text.{Text}
 use Rattle.csv_load.specs.Batch.{empty_row, Batch}
-use Rattle.csv_load.proofs.Columnar.{below-all, length-rows, row-at, text-at}
+use Rattle.csv_load.proofs.Columnar.{length-rows, row-at}
 use Rattle.csv_load.proofs.batch.RawBatch.id.Goals as goal
 
 pub index-requires : goal.index-requires

@@ -1,8 +1,6 @@
-use Rattle.std.proofs.Common.{◌∙◌, ◌≡◌, ◌<◌, ◌-◌, ◌*◌, ◌+◌, sym, ap, List, ℕ, arith, length, get_or, []}
-use Rattle.cube_defs.specs.Rows.{Row}
-use Rattle.cube_defs.specs.Text.{Text}
-use Rattle.csv_load.specs.Batch.{empty_row, Batch}
-use Rattle.csv_load.proofs.Columnar.{below-all, length-rows, row-at, text-at}
+use Rattle.std.proofs.Common.{ap, arith, length}
+use Rattle.csv_load.specs.Batch.{Batch}
+use Rattle.csv_load.proofs.Columnar.{length-rows}
 use Rattle.csv_load.proofs.batch.RawBatch.len.Goals as goal
 
 pub overflow_cast-result : goal.overflow_cast-result

@@ -1,8 +1,6 @@
-use Rattle.std.proofs.Common.{◌∙◌, ◌≡◌, ◌<◌, ◌≤◌, ◌-◌, ◌*◌, ◌+◌, sym, ap, List, ℕ, arith, length, get_or, []}
-use Rattle.cube_defs.specs.Rows.{Row}
-use Rattle.cube_defs.specs.Text.{Text}
+use Rattle.std.proofs.Common.{◌∙◌, ◌<◌, ◌≤◌, ◌-◌, ◌+◌, sym, ap, arith, length, get_or, []}
 use Rattle.csv_load.specs.Batch.{empty_row, Batch}
-use Rattle.csv_load.proofs.Columnar.{below-all, length-rows, row-at, text-at}
+use Rattle.csv_load.proofs.Columnar.{below-all, length-rows, text-at}
 use Rattle.csv_load.proofs.batch.RawBatch.text.Goals as goal
 
 pub get-requires : goal.get-requires

@@ -1,4 +1,4 @@
-use Rattle.std.proofs.Common.{◌≡◌, ◌<◌, ◌∙◌, sym, arith, ap, length, get_or, List, [], ℕ}
+use Rattle.std.proofs.Common.{◌<◌, ◌∙◌, sym, arith, ap, length, get_or, List, [], ℕ}
 use Rattle.std.specs.Prelude.{string_bytes}
 use Rattle.csv_load.proofs.Cutting.{get_or-texts_of, length-texts_of}
 use Rattle.csv_load.proofs.texts.Texts.get.Goals as goal

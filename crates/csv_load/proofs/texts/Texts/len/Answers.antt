@@ -1,4 +1,4 @@
-use Rattle.std.proofs.Common.{◌∙◌, sym, ap, length, arith}
+use Rattle.std.proofs.Common.{ap, length, arith}
 use Rattle.std.specs.Prelude.{string_bytes}
 use Rattle.csv_load.proofs.Cutting.{length-texts_of}
 use Rattle.csv_load.proofs.texts.Texts.len.Goals as goal
