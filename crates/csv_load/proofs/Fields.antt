@@ -1,0 +1,49 @@
+-- The fields of a record.
+use Rattle.std.proofs.Common.{◌≡◌, ◌<◌, ◌≤◌, ◌∙◌, ℕ, zero, suc, List, [], ◌∷◌, length, get_or, refl, sym, ap, arith, Some, None, true, false, Bool, ◌++◌, ◌+◌, append_assoc}
+use Rattle.std.specs.Prelude.{Option, option_map, IsSome, IsUtf8, nat_le, ◌&&◌, slice_range}
+use Rattle.std.specs.List.{list_all}
+use Rattle.std.specs.Str.{is_utf8}
+use Rattle.std.proofs.lemmas.Str.{IsUtf8-from_is_utf8, is_utf8-from_IsUtf8}
+use Rattle.std.proofs.lemmas.Bool.{le-leb, lt-leb}
+use Rattle.csv.specs.Records.{field_at}
+use Rattle.csv_load.proofs.Ranges.{range-more}
+use Rattle.csv_load.specs.Base.{is_value}
+
+pub field-at : (fields : List (List ℕ)) (i : ℕ) → i < length fields → field_at fields i ≡ Some (get_or fields i [])
+unfolding field_at
+field-at [] i h = absurd (omega arith)
+field-at (f ∷ fs) zero h = refl
+field-at (f ∷ fs) (suc i) h = field-at fs i (omega arith)
+
+pub mapped-some : {A B : Type 0} (f : A → B) (o : Option A) (x : B) → option_map f o ≡ Some x → IsSome o
+mapped-some f None x e = absurd (cc e)
+mapped-some f (Some a) x e = refl
+
+pub long-value : (text : List ℕ) → 255 < length text → is_value text ≡ false
+long-value text h = by (is_utf8 text)
+  where
+    by : (b : Bool) → (b && nat_le (length text) 255) ≡ false
+    by true = lt-leb (length text) 255 h
+    by false = refl
+
+pub no-value : (text : List ℕ) → ¬ (IsUtf8 text) → is_value text ≡ false
+no-value text h = by (is_utf8 text) refl
+  where
+    by : (b : Bool) → is_utf8 text ≡ b → is_value text ≡ false
+    by true e = absurd (h (IsUtf8-from_is_utf8 text e))
+    by false e = rw e refl
+
+pub good-value : (text : List ℕ) → IsUtf8 text → length text ≤ 255 → is_value text ≡ true
+good-value text h short = rw (is_utf8-from_IsUtf8 text h, le-leb (length text) 255 short) refl
+
+pub bad-first : (fields : List (List ℕ)) (i j : ℕ) → i < j → j ≤ length fields → is_value (get_or fields i []) ≡ false → list_all is_value (slice_range fields i j) ≡ false
+bad-first fields i j low high e = ap (list_all is_value) (range-more fields i j [] low high) ∙ rw e refl
+
+pub good-first : (fields : List (List ℕ)) (i j : ℕ) → i < j → j ≤ length fields → is_value (get_or fields i []) ≡ true
+    → list_all is_value (slice_range fields i j) ≡ list_all is_value (slice_range fields (i + 1) j)
+good-first fields i j low high e = ap (list_all is_value) (range-more fields i j [] low high) ∙ rw e refl
+
+pub texts-more : (texts fields : List (List ℕ)) (i j : ℕ) → i < j → j ≤ length fields
+    → texts ++ slice_range fields i j ≡ (texts ++ get_or fields i [] ∷ []) ++ slice_range fields (i + 1) j
+texts-more texts fields i j low high =
+    ap (λ (more : List (List ℕ)). texts ++ more) (range-more fields i j [] low high) ∙ sym (append_assoc texts (get_or fields i [] ∷ []) (slice_range fields (i + 1) j))

@@ -1,0 +1,12 @@
+pub mod Records
+pub mod Ranges
+pub mod Fields
+pub mod Distinct
+pub mod Rowing
+pub mod Thin
+pub mod Naming
+pub mod Sizes
+pub mod Cutting
+pub mod Columnar
+pub mod Digits
+pub mod Splits

@@ -1,0 +1,6 @@
+pub mod Batch
+pub mod Numbers
+pub mod Schema
+pub mod Base
+pub mod Texts
+pub mod Records
