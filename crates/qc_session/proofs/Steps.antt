@@ -1,0 +1,251 @@
+-- How one line goes on from those before.
+use Rattle.std.proofs.Common.{◌≡◌, ◌<◌, ◌≤◌, ◌+◌, ◌∙◌, ℕ, zero, suc, List, [], ◌∷◌, ◌++◌, length, take, get_or, true, false, refl, sym, arith, ap, subst, Some, None, IfSome, Bool, inl, inr, append-nil, append_assoc, length-append, ◌⊎◌, add-one}
+use Rattle.std.specs.Prelude.{Option, ◌==◌, ◌||◌, fold, IsTrue}
+use Rattle.std.specs.List.{list_any, AllByRecursion}
+use Rattle.std.proofs.lemmas.List.Folds.{list_any-append}
+use Rattle.std.proofs.lemmas.List.Sums.{fold-append}
+use Rattle.std.proofs.lemmas.Bool.Decides.{nat_tests}
+use Rattle.std.proofs.Math.Seq.{take-append-add}
+use Rattle.qc_io.specs.Outside.{Told, taking}
+use Rattle.csv_load.specs.Schema.{Columns}
+use Rattle.qc_session.specs.Lines.{is_passed}
+use Rattle.qc_session.specs.Replies.{memory_text}
+use Rattle.qc_session.specs.Answers.{State, Load, answer, empty, command_of}
+use Rattle.qc_session.specs.Transcript.{Item, Run, is_skipped, item, items, run_at, step, transcript}
+use Rattle.qc_session.specs.Runs.{AreRising, AreSkipped, StoppedAt, StoppedWriting, Took, Wrote, WroteFront, line_at, may_skip}
+use Rattle.std.specs.Prelude.{⊤}
+use Rattle.qc_session.specs.declared.session.Stop.{Stop}
+use Rattle.qc_session.specs.declared.session.Stop.TheVariants as stops
+use Rattle.qc_session.specs.Session.{AreUpTo, IfStop, Replies, Skips, WroteLine, WrotePart}
+
+not_skipped : (number : ℕ) (skipped : List ℕ) → AreUpTo number skipped → is_skipped skipped (number + 1) ≡ false
+not_skipped number [] h = refl
+not_skipped number (k ∷ ks) h = rw (not_skipped number ks h.1) (grind (arith, nat_tests, h.0))
+
+skipped_now : (number : ℕ) (skipped : List ℕ) → is_skipped (skipped ++ (number + 1) ∷ []) (number + 1) ≡ true
+skipped_now number [] = grind (arith, nat_tests)
+skipped_now number (k ∷ ks) = rw (skipped_now number ks) (grind (arith, nat_tests))
+
+replies-answer : (t : Told) (skipped : List ℕ) (number : ℕ) (state : State) (line : List ℕ) (state2 : State) (reply : List ℕ) → is_passed line ≡ false → AreUpTo number skipped
+    → answer state t (number + 1) line ≡ Some (record { state = state2; reply = reply }) → Replies t skipped (number + 1) state line state2 reply
+replies-answer t skipped number state line state2 reply passed up e = record { is = λ replies. rw (passed, not_skipped number skipped up, e) refl }
+
+replies-memory : (t : Told) (skipped : List ℕ) (number : ℕ) (state : State) (line : List ℕ) → is_passed line ≡ false
+    → Replies t (skipped ++ (number + 1) ∷ []) (number + 1) state line state (memory_text (number + 1))
+replies-memory t skipped number state line passed = record { is = λ replies. rw (passed, skipped_now number skipped) refl }
+
+replies-passed : (t : Told) (skipped : List ℕ) (number : ℕ) (state : State) (line : List ℕ) → is_passed line ≡ true → Replies t skipped (number + 1) state line state []
+replies-passed t skipped number state line passed = record { is = λ replies. rw (passed, append-nil replies) refl }
+
+pub wrote-answer : (told : Option Told) (skipped : List ℕ) (number : ℕ) (state : State) (line : List ℕ) (state2 : State) (reply : List ℕ) (before now : Option (List ℕ)) → is_passed line ≡ false → AreUpTo number skipped
+    → IfSome told (λ t. answer state t (number + 1) line ≡ Some (record { state = state2; reply = reply })) → now ≡ taking reply before → WroteLine told skipped (number + 1) state line state2 before now
+wrote-answer None skipped number state line state2 reply before now passed up e w = tt
+wrote-answer (Some t) skipped number state line state2 reply before now passed up e w = (reply, replies-answer t skipped number state line state2 reply passed up e, w)
+
+pub part-answer : (told : Option Told) (skipped : List ℕ) (number : ℕ) (state : State) (line : List ℕ) (state2 : State) (reply : List ℕ) (n : ℕ) (before now : Option (List ℕ)) → is_passed line ≡ false → AreUpTo number skipped
+    → IfSome told (λ t. answer state t (number + 1) line ≡ Some (record { state = state2; reply = reply })) → now ≡ taking (take n reply) before → WrotePart told skipped (number + 1) state line state2 before now
+part-answer None skipped number state line state2 reply n before now passed up e w = tt
+part-answer (Some t) skipped number state line state2 reply n before now passed up e w = (reply, n, replies-answer t skipped number state line state2 reply passed up e, w)
+
+pub wrote-memory : (told : Option Told) (skipped new : List ℕ) (number : ℕ) (state state2 : State) (line : List ℕ) (before now : Option (List ℕ)) → is_passed line ≡ false → new ≡ skipped ++ (number + 1) ∷ []
+    → state2 ≡ state → now ≡ taking (memory_text (number + 1)) before → WroteLine told new (number + 1) state line state2 before now
+wrote-memory None skipped new number state state2 line before now passed is same w = tt
+wrote-memory (Some t) skipped new number state state2 line before now passed is same w = (memory_text (number + 1), rw (is, same) (replies-memory t skipped number state line passed), w)
+
+pub part-memory : (told : Option Told) (skipped new : List ℕ) (number : ℕ) (state state2 : State) (line : List ℕ) (n : ℕ) (before now : Option (List ℕ)) → is_passed line ≡ false → new ≡ skipped ++ (number + 1) ∷ []
+    → state2 ≡ state → now ≡ taking (take n (memory_text (number + 1))) before → WrotePart told new (number + 1) state line state2 before now
+part-memory None skipped new number state state2 line n before now passed is same w = tt
+part-memory (Some t) skipped new number state state2 line n before now passed is same w = (memory_text (number + 1), n, rw (is, same) (replies-memory t skipped number state line passed), w)
+
+taking-taking : (a b : List ℕ) (taken : Option (List ℕ)) → taking b (taking a taken) ≡ taking (a ++ b) taken
+taking-taking a b None = refl
+taking-taking a b (Some xs) = ap Some (append_assoc xs a b)
+
+taking-nil : (taken : Option (List ℕ)) → taken ≡ taking [] taken
+taking-nil None = refl
+taking-nil (Some xs) = ap Some (sym (append-nil xs))
+
+pub wrote-passed : (told : Option Told) (skipped : List ℕ) (number : ℕ) (state : State) (line : List ℕ) (before : Option (List ℕ)) → is_passed line ≡ true → WroteLine told skipped (number + 1) state line state before before
+wrote-passed None skipped number state line before passed = tt
+wrote-passed (Some t) skipped number state line before passed = ([], replies-passed t skipped number state line passed, taking-nil before)
+
+-- a number past all lines makes no difference
+items-later : (skipped : List ℕ) (n k : ℕ) (lines : List (List ℕ)) → n + length lines < k → items (skipped ++ k ∷ []) n lines ≡ items skipped n lines
+unfolding items
+items-later skipped n k [] h = refl
+items-later skipped n k (line ∷ lines) h = rw (later skipped, items-later skipped (n + 1) k lines (omega arith)) refl
+  where
+    later : (ks : List ℕ) → is_skipped (ks ++ k ∷ []) (n + 1) ≡ is_skipped ks (n + 1)
+    later [] = grind (arith, nat_tests)
+    later (j ∷ js) = rw (later js) refl
+
+-- one line more
+items-push : (skipped : List ℕ) (n : ℕ) (lines : List (List ℕ)) (line : List ℕ) → items skipped n (lines ++ line ∷ []) ≡ items skipped n lines ++ item skipped (n + length lines + 1) line ∷ []
+unfolding items
+items-push skipped n [] line = let same : n + 1 ≡ n + 0 + 1 = omega arith in ap (λ m. item skipped m line ∷ []) same
+items-push skipped n (l ∷ lines) line =
+    let same : (n + 1) + length lines + 1 ≡ n + length (l ∷ lines) + 1 = omega arith in
+    ap (λ (more : List Item). item skipped (n + 1) l ∷ more) (items-push skipped (n + 1) lines line ∙ ap (λ m. items skipped (n + 1) lines ++ item skipped m line ∷ []) same)
+
+-- the transcript with one line more
+took-push : (t : Told) (schema : Columns) (skipped : List ℕ) (lines : List (List ℕ)) (line : List ℕ) (state : State) (replies : List ℕ) (state2 : State) (reply : List ℕ) → Took t schema skipped lines state replies
+    → Replies t skipped (length lines + 1) state line state2 reply → Took t schema skipped (lines ++ line ∷ []) state2 (replies ++ reply)
+unfolding transcript
+took-push t schema skipped lines line state replies state2 reply took r =
+    let num : 0 + length lines + 1 ≡ length lines + 1 = omega arith in
+    record {
+      is = ap (λ (xs : List Item). fold (step t) (run_at (empty schema) []) xs) (items-push skipped 0 lines line)
+        ∙ fold-append (step t) (run_at (empty schema) []) (items skipped 0 lines) (item skipped (0 + length lines + 1) line ∷ [])
+        ∙ ap (λ (r : Run). step t r (item skipped (0 + length lines + 1) line)) took.is
+        ∙ ap (λ m. step t (run_at state replies) (item skipped m line)) num
+        ∙ r.is replies
+    }
+
+took-skips : (t : Told) (schema : Columns) (skipped new : List ℕ) (lines : List (List ℕ)) (line : List ℕ) (state : State) (replies : List ℕ) → Skips skipped (length lines + 1) line new → Took t schema skipped lines state replies → Took t schema new lines state replies
+unfolding transcript
+took-skips t schema skipped new lines line state replies (inl same) took = rw same took
+took-skips t schema skipped new lines line state replies (inr more) took =
+    let past : 0 + length lines < length lines + 1 = omega arith in
+    record { is = rw (more.0, items-later skipped 0 (length lines + 1) lines past) took.is }
+
+-- what a loop over the lines knows: out took the replies of the lines so far, in this state
+pub record WroteTo (told : Told) (schema : Columns) (skipped : List ℕ) (lines : List (List ℕ)) (state : State) (before now : Option (List ℕ)) : Type 0 where
+  pub replies : List ℕ
+  pub took : Took told schema skipped lines state replies
+  pub wrote : now ≡ taking replies before
+
+abbrev pub WroteSoFar : Option Told → Columns → List ℕ → List (List ℕ) → State → Option (List ℕ) → Option (List ℕ) → Type 0
+WroteSoFar told schema skipped lines state before now = IfSome told (λ t. WroteTo t schema skipped lines state before now)
+
+pub so_far-none : (told : Option Told) (schema : Columns) (state : State) (first : Option (List ℕ)) → state ≡ empty schema → WroteSoFar told schema [] [] state first first
+unfolding transcript items
+so_far-none None schema state first e = tt
+so_far-none (Some t) schema state first e = record { replies = []; took = record { is = ap (λ (s : State). run_at s []) (sym e) }; wrote = taking-nil first }
+
+-- the lines so far with one line more
+pub so_far-push : (told : Option Told) (schema : Columns) (skipped new : List ℕ) (lines : List (List ℕ)) (line : List ℕ) (number : ℕ) (state state2 : State) (first before now : Option (List ℕ)) → length lines ≡ number
+    → Skips skipped (number + 1) line new → WroteSoFar told schema skipped lines state first before → WroteLine told new (number + 1) state line state2 before now → WroteSoFar told schema new (lines ++ line ∷ []) state2 first now
+so_far-push None schema skipped new lines line number state state2 first before now len skips w h = tt
+so_far-push (Some t) schema skipped new lines line number state state2 first before now len skips w h =
+    let (reply, gives, is) = h in
+    record {
+      replies = w.replies ++ reply;
+      took = took-push t schema new lines line state w.replies state2 reply (took-skips t schema skipped new lines line state w.replies (rw len skips) w.took) (rw len gives);
+      wrote = is ∙ ap (taking reply) w.wrote ∙ taking-taking w.replies reply first
+    }
+
+-- the lines so far with a part of one line's reply
+pub front-push : (told : Option Told) (schema : Columns) (skipped new : List ℕ) (lines : List (List ℕ)) (line : List ℕ) (rest : List (List ℕ)) (number : ℕ) (state state2 : State) (first before now : Option (List ℕ)) → length lines ≡ number
+    → Skips skipped (number + 1) line new → WroteSoFar told schema skipped lines state first before → WrotePart told new (number + 1) state line state2 before now → (all : List (List ℕ)) → all ≡ (lines ++ line ∷ []) ++ rest
+    → IfSome told (λ t. StoppedWriting t schema new all first now)
+front-push None schema skipped new lines line rest number state state2 first before now len skips w h all split = tt
+front-push (Some t) schema skipped new lines line rest number state state2 first before now len skips w h all split =
+    let (reply, n, gives, is) = h in
+    record {
+      done = lines ++ line ∷ [];
+      rest = rest;
+      split = split;
+      wrote = record {
+        state = state2;
+        replies = w.replies ++ reply;
+        count = length w.replies + n;
+        took = took-push t schema new lines line state w.replies state2 reply (took-skips t schema skipped new lines line state w.replies (rw len skips) w.took) (rw len gives);
+        wrote = is ∙ ap (taking (take n reply)) w.wrote ∙ taking-taking w.replies (take n reply) first ∙ ap (λ (xs : List ℕ). taking xs first) (sym (take-append-add w.replies reply n))
+      }
+    }
+
+pub stopped-at : (told : Option Told) (sure : Type 0) (schema : Columns) (skipped new : List ℕ) (lines : List (List ℕ)) (line : List ℕ) (rest : List (List ℕ)) (name : List ℕ) (state : State) (first before now : Option (List ℕ))
+    → command_of line ≡ Load name → new ≡ skipped → now ≡ before → WroteSoFar told schema skipped lines state first before
+    → (sure → IfSome told (λ t. t name ≡ None)) → (all : List (List ℕ)) → all ≡ lines ++ line ∷ rest
+    → IfSome told (λ t. StoppedAt t sure schema new all name first now)
+stopped-at None sure schema skipped new lines line rest name state first before now names is stays w untold all split = tt
+stopped-at (Some t) sure schema skipped new lines line rest name state first before now names is stays w untold all split = record {
+  done = lines;
+  line = line;
+  rest = rest;
+  split = split;
+  names = names;
+  wrote = record { state = state; replies = w.replies; took = rw is w.took; wrote = stays ∙ w.wrote };
+  untold = untold
+}
+
+pub wrote-all : (told : Option Told) (schema : Columns) (skipped : List ℕ) (lines all : List (List ℕ)) (state : State) (first now : Option (List ℕ)) → all ≡ lines ++ [] → WroteSoFar told schema skipped lines state first now
+    → IfSome told (λ t. Wrote t schema skipped all first now)
+wrote-all None schema skipped lines all state first now e w = tt
+wrote-all (Some t) schema skipped lines all state first now e w =
+    let same : all ≡ lines = e ∙ append-nil lines in
+    record { state = state; replies = w.replies; took = rw same w.took; wrote = w.wrote }
+
+pub skips-up_to : (number : ℕ) (line old new : List ℕ) → AreUpTo number old → Skips old (number + 1) line new → AreUpTo (number + 1) new
+skips-up_to number line old new up (inl same) = rw same (wider old up)
+  where
+    wider : (ks : List ℕ) → AreUpTo number ks → AreUpTo (number + 1) ks
+    wider [] h = tt
+    wider (k ∷ ks) h = (omega (arith, h.0), wider ks h.1)
+skips-up_to number line old new up (inr more) = rw more.0 (pushed old up)
+  where
+    pushed : (ks : List ℕ) → AreUpTo number ks → AreUpTo (number + 1) (ks ++ (number + 1) ∷ [])
+    pushed [] h = (omega arith, tt)
+    pushed (k ∷ ks) h = (omega (arith, h.0), pushed ks h.1)
+
+-- rising numbers up to this one, and the next
+rising-push : (n number : ℕ) (ks : List ℕ) → n ≤ number → AreUpTo number ks → AreRising n ks → AreRising n (ks ++ (number + 1) ∷ [])
+rising-push n number [] le up h = (omega arith, tt)
+rising-push n number (k ∷ ks) le up h = (h.0, rising-push k number ks up.0 up.1 h.1)
+
+line_at-front : (lines more : List (List ℕ)) (k : ℕ) → k ≤ length lines → line_at (lines ++ more) k ≡ line_at lines k
+line_at-front lines more zero le = refl
+line_at-front lines more (suc k) le = by lines k (omega arith)
+  where
+    by : (lines : List (List ℕ)) (k : ℕ) → k < length lines → get_or (lines ++ more) k [] ≡ get_or lines k []
+    by [] k lt = absurd (omega arith)
+    by (l ∷ ls) zero lt = refl
+    by (l ∷ ls) (suc k) lt = by ls k (omega arith)
+
+line_at-end : (lines : List (List ℕ)) (line : List ℕ) (k : ℕ) → k ≡ length lines → line_at (lines ++ line ∷ []) (suc k) ≡ line
+line_at-end [] line zero e = refl
+line_at-end [] line (suc k) e = absurd (omega arith)
+line_at-end (l ∷ ls) line zero e = absurd (omega arith)
+line_at-end (l ∷ ls) line (suc k) e = line_at-end ls line k (omega arith)
+
+-- numbers of lines that may be skipped stay such where lines come behind
+commands-front : (lines more : List (List ℕ)) (ks : List ℕ) → AreUpTo (length lines) ks → AllByRecursion (λ k. may_skip (line_at lines k) ≡ true) ks → AllByRecursion (λ k. may_skip (line_at (lines ++ more) k) ≡ true) ks
+commands-front lines more [] up h = tt
+commands-front lines more (k ∷ ks) up h = (ap may_skip (line_at-front lines more k up.0) ∙ h.0, commands-front lines more ks up.1 h.1)
+
+all-push : (P : ℕ → Type 0) (ks : List ℕ) (k : ℕ) → AllByRecursion P ks → P k → AllByRecursion P (ks ++ k ∷ [])
+all-push P [] k h p = (p, tt)
+all-push P (j ∷ js) k h p = (h.0, all-push P js k h.1 p)
+
+pub skipped-push : (number : ℕ) (line old new : List ℕ) (lines : List (List ℕ)) → length lines ≡ number → AreUpTo number old → Skips old (number + 1) line new → AreSkipped lines old → AreSkipped (lines ++ line ∷ []) new
+skipped-push number line old new lines len up (inl same) h = record {
+  rising = rw same h.rising;
+  commands = rw same (commands-front lines (line ∷ []) old (rw len up) h.commands)
+}
+skipped-push number line old new lines len up (inr more) h = record {
+  rising = rw more.0 (rising-push 0 number old (omega arith) up h.rising);
+  commands =
+    let here : line_at (lines ++ line ∷ []) (number + 1) ≡ line = rw add-one (line_at-end lines line number (sym len)) in
+    rw more.0 (all-push _ old (number + 1) (commands-front lines (line ∷ []) old (rw len up) h.commands) (ap may_skip here ∙ more.1))
+}
+
+pub skipped-front : (lines more all : List (List ℕ)) (number : ℕ) (ks : List ℕ) → length lines ≡ number → AreUpTo number ks → all ≡ lines ++ more → AreSkipped lines ks → AreSkipped all ks
+skipped-front lines more all number ks len up split h = record {
+  rising = h.rising;
+  commands = rw split (commands-front lines more ks (rw len up) h.commands)
+}
+
+pub lines-regroup : (done : List (List ℕ)) (line : List ℕ) (all rest behind : List (List ℕ)) → all ≡ done ++ rest → rest ≡ line ∷ behind → all ≡ (done ++ line ∷ []) ++ behind
+lines-regroup done line all rest behind e f = e ∙ ap (λ (xs : List (List ℕ)). done ++ xs) f ∙ sym (append_assoc done (line ∷ []) behind)
+
+pub length-push : (done : List (List ℕ)) (line : List ℕ) (number number2 : ℕ) → length done ≡ number → number2 ≡ number + 1 → length (done ++ line ∷ []) ≡ number2
+length-push done line number number2 e f = omega (arith, length-append done (line ∷ []), e, f)
+
+-- facts for each reason to stop
+pub if_write : (stop : Stop) (Q R : Type 0) → (Q → R) → IfStop stop (λ name. ⊤) Q → IfStop stop (λ name. ⊤) R
+if_write (stops.Read name) Q R f h = tt
+if_write stops.Write Q R f h = f h
+
+pub if_read : (stop : Stop) (P Q R S : List ℕ → Type 0) → ((name : List ℕ) → P name → Q name → R name → S name) → IfStop stop P ⊤ → IfStop stop Q ⊤ → IfStop stop R ⊤ → IfStop stop S ⊤
+if_read (stops.Read name) P Q R S f p q r = f name.now p q r
+if_read stops.Write P Q R S f p q r = tt

@@ -1,0 +1,10 @@
+pub mod Lines
+pub mod Replies
+pub mod Reply
+pub mod Answers
+pub mod Points
+pub mod Transcript
+pub mod Runs
+pub mod Stops
+pub mod Session
+pub mod Failures

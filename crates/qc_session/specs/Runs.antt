@@ -1,0 +1,197 @@
+-- How a run ends.
+use Rattle.std.specs.Prelude.{◌≡◌, ◌≤◌, ◌<◌, ◌&&◌, ◌||◌, ◌⊎◌, ◌++◌, ◌-◌, ℕ, zero, suc, Bool, true, false, not, List, [], ◌∷◌, length, take, Option, Some, None, IfSome, IsSomeAnd, codes, string_bytes, slice_index_or, nat_lt, is_none, ⊤, String, if◌then◌else◌}
+use Rattle.std.specs.declared.alloc.Global.{Global}
+use Rattle.std.specs.List.{AllByRecursion}
+use Rattle.std.specs.Str.{bytes_eq, is_utf8}
+use Rattle.csv_load.specs.Schema.{Columns, schema_of}
+use Rattle.qc_io.specs.Outside.{Told, taking}
+use Rattle.qc_session.specs.Lines.{is_passed, script_lines, word_of}
+use Rattle.qc_session.specs.Answers.{Command, Load, Point, Refused, State, command_of, limit}
+use Rattle.qc_session.specs.Transcript.{Run, run_at, step, item, transcript}
+
+-- the words `run SCHEMA SCRIPT`: the names of two files
+pub record Names : Type 0 where
+  pub schema : List ℕ
+  pub script : List ℕ
+
+abbrev pub names_of : List (String Global) → Option Names
+names_of [] = None
+names_of (a ∷ []) = None
+names_of (a ∷ b ∷ []) = None
+names_of (a ∷ b ∷ c ∷ []) = if bytes_eq (string_bytes a) (codes "run") then Some (record { schema = string_bytes b; script = string_bytes c }) else None
+names_of (a ∷ b ∷ c ∷ d ∷ more) = None
+
+abbrev pub IsStatus : ℕ → Type 0
+IsStatus s = (s ≡ 0) ⊎ (s ≡ 2) ⊎ (s ≡ 3) ⊎ (s ≡ 4) ⊎ (s ≡ 5) ⊎ (s ≡ 6)
+
+-- why a run ended before the end of its script
+pub data Cause : Type 0 where
+  Usage : Cause
+  CannotRead : List ℕ → Cause
+  CannotWrite : Cause
+  OutOfMemory : Cause
+  SchemaForm : Cause
+  TooLong : List ℕ → Cause
+
+abbrev pub status_of : Cause → ℕ
+status_of Usage = 2
+status_of (CannotRead name) = 3
+status_of CannotWrite = 4
+status_of OutOfMemory = 5
+status_of SchemaForm = 6
+status_of (TooLong name) = 6
+
+-- the line that tells it
+abbrev pub error_text : Cause → List ℕ
+error_text Usage = codes "usage: qcube run SCHEMA SCRIPT | qcube gen ROWS SEED\n"
+error_text (CannotRead name) = codes "qcube: cannot read " ++ name ++ 10 ∷ []
+error_text CannotWrite = codes "qcube: cannot write\n"
+error_text OutOfMemory = codes "qcube: out of memory\n"
+error_text SchemaForm = codes "qcube: schema form\n"
+error_text (TooLong name) = codes "qcube: " ++ name ++ codes " is too long\n"
+
+-- a schema that is read: the file is there, is no longer than a file may be, and spells it
+pub record IsSchemaOf (told : Told) (name : List ℕ) (schema : Columns) : Type 0 where
+  pub bytes : List ℕ
+  pub is_told : told name ≡ Some bytes
+  pub within : length bytes ≤ limit
+  pub spelled : schema_of bytes ≡ Some schema
+
+-- a script that is read
+pub record IsScriptOf (told : Told) (name bytes : List ℕ) : Type 0 where
+  pub is_told : told name ≡ Some bytes
+  pub within : length bytes ≤ limit
+
+-- Why a run is refused before its first line: the schema is too long or isn't thin, or else the script is too long.
+abbrev pub refusal_of : Option (List ℕ) → Names → Option (List ℕ) → Option Cause
+refusal_of None names script = None
+refusal_of (Some schema) names None =
+    if nat_lt limit (length schema) then Some (TooLong names.schema)
+    else if is_none (schema_of schema) then Some SchemaForm
+    else None
+refusal_of (Some schema) names (Some script) =
+    if nat_lt limit (length schema) then Some (TooLong names.schema)
+    else if is_none (schema_of schema) then Some SchemaForm
+    else if nat_lt limit (length script) then Some (TooLong names.script)
+    else None
+
+-- the line with a number, counted from 1, and no bytes where there is none
+abbrev pub line_at : List (List ℕ) → ℕ → List ℕ
+line_at lines zero = []
+line_at lines (suc k) = slice_index_or lines k []
+
+-- a line that may be skipped for want of memory: one that is read as a command
+abbrev pub is_command : Command → Bool
+is_command (Load name) = true
+is_command (Point rest) = true
+is_command (Refused refusal) = false
+
+abbrev pub may_skip : List ℕ → Bool
+may_skip line = not (is_passed line) && is_command (command_of line)
+
+-- rising numbers of lines that may be skipped
+abbrev pub AreRising : ℕ → List ℕ → Type 0
+AreRising n [] = ⊤
+AreRising n (k ∷ ks) = (n < k) × AreRising k ks
+
+pub record AreSkipped (lines : List (List ℕ)) (skipped : List ℕ) : Type 0 where
+  pub rising : AreRising 0 skipped
+  pub commands : AllByRecursion (λ k. may_skip (line_at lines k) ≡ true) skipped
+
+-- these lines were taken, and these were their replies
+pub record Took (told : Told) (schema : Columns) (skipped : List ℕ) (lines : List (List ℕ)) (state : State) (replies : List ℕ) : Type 0 where
+  pub is : transcript told schema skipped lines ≡ run_at state replies
+
+-- out took the replies of these lines
+pub record Wrote (told : Told) (schema : Columns) (skipped : List ℕ) (lines : List (List ℕ)) (before now : Option (List ℕ)) : Type 0 where
+  pub state : State
+  pub replies : List ℕ
+  pub took : Took told schema skipped lines state replies
+  pub wrote : now ≡ taking replies before
+
+-- out took a front of the replies of these lines
+pub record WroteFront (told : Told) (schema : Columns) (skipped : List ℕ) (lines : List (List ℕ)) (before now : Option (List ℕ)) : Type 0 where
+  pub state : State
+  pub replies : List ℕ
+  pub count : ℕ
+  pub took : Took told schema skipped lines state replies
+  pub wrote : now ≡ taking (take count replies) before
+
+-- out took the replies of the lines before one whose file couldn't be read
+pub record StoppedAt (told : Told) (sure : Type 0) (schema : Columns) (skipped : List ℕ) (lines : List (List ℕ)) (name : List ℕ) (before now : Option (List ℕ)) : Type 0 where
+  pub done : List (List ℕ)
+  pub line : List ℕ
+  pub rest : List (List ℕ)
+  pub split : lines ≡ done ++ line ∷ rest
+  pub names : command_of line ≡ Load name
+  pub wrote : Wrote told schema skipped done before now
+  pub untold : sure → told name ≡ None
+
+-- out took a front of the replies of some first lines
+pub record StoppedWriting (told : Told) (schema : Columns) (skipped : List ℕ) (lines : List (List ℕ)) (before now : Option (List ℕ)) : Type 0 where
+  pub done : List (List ℕ)
+  pub rest : List (List ℕ)
+  pub split : lines ≡ done ++ rest
+  pub wrote : WroteFront told schema skipped done before now
+
+-- where err's count didn't rise, it took the line that tells a cause
+abbrev pub Said : Type 0 → Cause → Option (List ℕ) → Option (List ℕ) → Type 0
+Said rose cause before now = (rose → ⊥) → now ≡ taking (error_text cause) before
+
+-- why a file of the words wasn't read: a fault, want of memory, or what it holds
+abbrev pub ReadFails : Option Told → List ℕ → Type 0 → Type 0 → (Told → Type 0) → Cause → Type 0
+ReadFails told name rose sure form Usage = ⊥
+ReadFails told name rose sure form (CannotRead file) = (file ≡ name) × rose × IfSome told (λ t. sure → t name ≡ None)
+ReadFails told name rose sure form CannotWrite = ⊥
+ReadFails told name rose sure form OutOfMemory = ⊤
+ReadFails told name rose sure form SchemaForm = IfSome told form
+ReadFails told name rose sure form (TooLong file) = (file ≡ name) × IfSome told (λ t. IsSomeAnd (t name) (λ bytes. limit < length bytes))
+
+-- the bytes of a schema that isn't thin
+abbrev pub IsNoSchema : List ℕ → Told → Type 0
+IsNoSchema name t = IsSomeAnd (t name) (λ bytes. (length bytes ≤ limit) × (schema_of bytes ≡ None))
+
+abbrev pub IsNever : Told → Type 0
+IsNever t = ⊥
+
+-- the whole transcript of the script's lines was written
+pub record Finished (told : Told) (names : Names) (skipped : List ℕ) (before now : Option (List ℕ)) : Type 0 where
+  pub schema : Columns
+  pub script : List ℕ
+  pub schema_read : IsSchemaOf told names.schema schema
+  pub script_read : IsScriptOf told names.script script
+  pub wrote : Wrote told schema skipped (script_lines script) before now
+
+-- a reply couldn't be written
+pub record BrokenOff (told : Told) (names : Names) (skipped : List ℕ) (before now : Option (List ℕ)) : Type 0 where
+  pub schema : Columns
+  pub script : List ℕ
+  pub schema_read : IsSchemaOf told names.schema schema
+  pub script_read : IsScriptOf told names.script script
+  pub wrote : StoppedWriting told schema skipped (script_lines script) before now
+
+-- a file that a line names couldn't be read
+pub record LineUnread (told : Told) (sure : Type 0) (names : Names) (skipped : List ℕ) (name : List ℕ) (before now : Option (List ℕ)) : Type 0 where
+  pub schema : Columns
+  pub script : List ℕ
+  pub schema_read : IsSchemaOf told names.schema schema
+  pub script_read : IsScriptOf told names.script script
+  pub stopped : StoppedAt told sure schema skipped (script_lines script) name before now
+
+-- the schema couldn't be read
+pub record SchemaUnread (told : Told) (sure : Type 0) (names : Names) (name : List ℕ) (before now : Option (List ℕ)) : Type 0 where
+  pub is_schema : name ≡ names.schema
+  pub nothing : now ≡ before
+  pub untold : sure → told name ≡ None
+
+-- the script couldn't be read, and the schema was
+pub record ScriptUnread (told : Told) (sure : Type 0) (names : Names) (name : List ℕ) (before now : Option (List ℕ)) : Type 0 where
+  pub is_script : name ≡ names.script
+  pub schema : Columns
+  pub schema_read : IsSchemaOf told names.schema schema
+  pub nothing : now ≡ before
+  pub untold : sure → told name ≡ None
+
+abbrev pub Unread : Told → Type 0 → Names → List ℕ → List ℕ → Option (List ℕ) → Option (List ℕ) → Type 0
+Unread told sure names skipped name before now =
+    SchemaUnread told sure names name before now ⊎ ScriptUnread told sure names name before now ⊎ LineUnread told sure names skipped name before now

@@ -1,0 +1,17 @@
+//! The top call: a script over a base table, with its transcript.
+#![tactic(auto)]
+
+mod answer;
+mod answer_text;
+mod command;
+mod failure;
+mod lines;
+mod mean;
+mod point;
+mod reply;
+mod scripts;
+mod session;
+mod store;
+mod total;
+
+pub use scripts::{Outcome, run};

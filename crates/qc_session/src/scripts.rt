@@ -1,0 +1,231 @@
+// The top call.
+ghost use Rattle.std.specs.Prelude.{◌≡◌, ◌≤◌, ◌<◌, ◌^◌, ◌⊎◌, ◌↔◌, [], Some, None, IfOk, IfErr, IfSome, IsSome, IsNone, IsTrue, option_map, MatchOption, length, map};
+ghost use Rattle.qc_io.specs.Outside.{Rose};
+ghost use Rattle.csv_load.specs.Schema.{schema_of};
+ghost use Rattle.qc_session.specs.Lines.{lines_of, script_lines, without_cr};
+ghost use Rattle.qc_session.specs.Runs.{AreSkipped, BrokenOff, Cause, CannotRead, CannotWrite, Finished, IsNever, IsNoSchema, IsSchemaOf, IsScriptOf, IsStatus, Names, OutOfMemory, ReadFails, Said, StoppedAt, StoppedWriting, Unread, Usage, Wrote, names_of, refusal_of, status_of};
+
+use crate::answer::LIMIT;
+use crate::failure::{Failure, tell};
+use crate::lines::{split_line, trim_mark};
+use crate::session::{Session, Stop, take_lines};
+use crate::store::Store;
+use csv_load::{Schema, ThinRefused, read_schema};
+use qc_io::{Files, ReadRefused, Sink, read_all};
+use std::alloc::Global;
+
+/// How a run ended.
+#[derive(Drop)]
+pub struct Outcome {
+    /// 0 where the script was read to its end, and else the status of the failure that `err` tells.
+    pub status: u8,
+    /// The numbers of the lines that found no memory.
+    pub skipped: Vec<u32>,
+}
+
+ghost use Rattle.qc_session.specs.Failures.{cause_of};
+
+// How many lines a text has.
+fn count_lines(text: &[u8]) -> usize
+    ensures count { result ≡ length (lines_of text.now) }
+    ensures bound { result ≤ length text.now }
+{
+    let mut rest = text;
+    let mut count = 0;
+    'lines: while !rest.is_empty() {
+        let (_, behind) = split_line(rest);
+        rest = behind;
+        count += 1;
+    }
+    count
+}
+
+// The names of the schema and the script in the words.
+fn names_in(words: &[String]) -> Option<(&str, &str)>
+    ensures { option_map (λ p. record { schema = p.0.now; script = p.1.now }) result ≡ names_of words.now }
+{
+    match words {
+        [word, schema, script] if word.as_str() == "run" => Some((schema.as_str(), script.as_str())),
+        _ => None,
+    }
+}
+
+// Ends a run before its first line.
+fn fail<E: Sink>(alloc: Global, err: &mut E, failure: &Failure<'_>) -> Outcome
+    ensures status { result.status ≡ status_of (cause_of failure.now) }
+    ensures skipped { result.skipped.items ≡ [] }
+    ensures said { Said (Rose (E.faults err.old) (E.faults err.new)) (cause_of failure.now) (E.taken err.old) (E.taken err.new) }
+{
+    tell(err, failure);
+    Outcome {
+        status: failure.status(),
+        skipped: Vec::new(alloc),
+    }
+}
+
+// Reads a file that the words name.
+fn read_named<'a, F: Files>(
+    alloc: Global,
+    files: &mut F,
+    name: &'a str,
+) -> Result<Vec<u8>, Failure<'a>>
+    ensures later { F.faults files.old ≤ F.faults files.new }
+    ensures told { F.told files.new ≡ F.told files.old }
+    ensures steady { IsTrue (F.steady files.old) → IsTrue (F.steady files.new) }
+    ensures ok { IfOk result (λ bytes. IfSome (F.told files.old) (λ t. IsScriptOf t name.now bytes.items)) }
+    ensures short { IfOk result (λ bytes. length bytes.items ≤ 268435456) }
+    ensures err { IfErr result (λ f. ReadFails (F.told files.old) name.now (Rose (F.faults files.old) (F.faults files.new)) (IsTrue (F.steady files.old)) IsNever (cause_of f)) }
+{
+    match read_all(alloc, files, name, LIMIT) {
+        Ok(bytes) => Ok(bytes),
+        Err(ReadRefused::Failed) => Err(Failure::CannotRead(name)),
+        Err(ReadRefused::TooLong) => Err(Failure::TooLong(name)),
+        Err(ReadRefused::Memory) => Err(Failure::OutOfMemory),
+    }
+}
+
+// Reads the schema that the words name.
+fn read_named_schema<'a, F: Files>(
+    alloc: Global,
+    files: &mut F,
+    name: &'a str,
+) -> Result<Schema, Failure<'a>>
+    ensures later { F.faults files.old ≤ F.faults files.new }
+    ensures told { F.told files.new ≡ F.told files.old }
+    ensures steady { IsTrue (F.steady files.old) → IsTrue (F.steady files.new) }
+    ensures ok { IfOk result (λ schema. IfSome (F.told files.old) (λ t. IsSchemaOf t name.now schema)) }
+    ensures err { IfErr result (λ f. ReadFails (F.told files.old) name.now (Rose (F.faults files.old) (F.faults files.new)) (IsTrue (F.steady files.old)) (IsNoSchema name.now) (cause_of f)) }
+{
+    let bytes = match read_named(alloc, files, name) {
+        Ok(bytes) => bytes,
+        Err(failure) => return Err(failure),
+    };
+    match read_schema(alloc, &bytes) {
+        Ok(schema) => Ok(schema),
+        Err(ThinRefused::Form) => Err(Failure::SchemaForm),
+        Err(ThinRefused::Memory) => Err(Failure::OutOfMemory),
+    }
+}
+
+// Takes the lines of a script over a schema.
+fn run_script<F: Files, O: Sink, E: Sink>(
+    alloc: Global,
+    files: &mut F,
+    out: &mut O,
+    err: &mut E,
+    schema: Schema,
+    script: &[u8],
+) -> Outcome
+    requires { length script.now ≤ 268435456 }
+    ensures known { (result.status ≡ 0) ⊎ (result.status ≡ 3) ⊎ (result.status ≡ 4) ⊎ (result.status ≡ 5) }
+    ensures skipped { AreSkipped (script_lines script.now) result.skipped.items }
+    ensures all { result.status ≡ 0 → IfSome (F.told files.old) (λ t. Wrote t schema result.skipped.items (script_lines script.now) (O.taken out.old) (O.taken out.new)) }
+    ensures silent { result.status ≡ 0 → err.new ≡ err.old }
+    ensures read_fault { result.status ≡ 3 → Rose (F.faults files.old) (F.faults files.new) }
+    ensures unread { result.status ≡ 3 → IfSome (F.told files.old) (λ t. (name : List ℕ)
+        × StoppedAt t (IsTrue (F.steady files.old)) schema result.skipped.items (script_lines script.now) name (O.taken out.old) (O.taken out.new)
+        × Said (Rose (E.faults err.old) (E.faults err.new)) (CannotRead name) (E.taken err.old) (E.taken err.new)) }
+    ensures write_fault { result.status ≡ 4 → Rose (O.faults out.old) (O.faults out.new) }
+    ensures broken { result.status ≡ 4 → IfSome (F.told files.old) (λ t. StoppedWriting t schema result.skipped.items (script_lines script.now) (O.taken out.old) (O.taken out.new)) }
+    ensures said_write { result.status ≡ 4 → Said (Rose (E.faults err.old) (E.faults err.new)) CannotWrite (E.taken err.old) (E.taken err.new) }
+    ensures nothing { result.status ≡ 5 → (O.taken out.new ≡ O.taken out.old) × (result.skipped.items ≡ []) }
+    ensures said_memory { result.status ≡ 5 → Said (Rose (E.faults err.old) (E.faults err.new)) OutOfMemory (E.taken err.old) (E.taken err.new) }
+{
+    let script = trim_mark(script);
+    let Ok(skipped) = Vec::with_capacity(alloc, count_lines(script)) else {
+        return fail(alloc, err, &Failure::OutOfMemory);
+    };
+    let mut session = Session {
+        number: 0,
+        store: Store::new(alloc, schema),
+        skipped,
+    };
+    let status = match take_lines(alloc, files, out, &mut session, script) {
+        Ok(()) => 0,
+        Err(Stop::Read(name)) => {
+            tell(err, &Failure::CannotRead(name));
+            3
+        }
+        Err(Stop::Write) => {
+            tell(err, &Failure::CannotWrite);
+            4
+        }
+    };
+    Outcome {
+        status,
+        skipped: session.skipped,
+    }
+}
+
+ghost use Rattle.std.specs.Prelude.{List, ℕ};
+
+/// Runs `qcube` with these words: `run SCHEMA SCRIPT` reads a schema, and then takes the lines of a
+/// script in order, each with its reply on `out`.
+///
+/// Status 0 says that the script was read to its end. Status 2: the words are no listed form. Status
+/// 3: a file couldn't be read. Status 4: a reply couldn't be written. Status 5: memory ran out before
+/// the first line. Status 6: the schema isn't in the form that is read, or the schema or the script has
+/// more than 268,435,456 bytes. `err` gets one line at each status but 0.
+///
+/// A line that finds no memory changes nothing; its number is put into `skipped`, and its reply says so.
+pub fn run<F: Files, O: Sink, E: Sink>(
+    alloc: Global,
+    words: &[String],
+    files: &mut F,
+    out: &mut O,
+    err: &mut E,
+) -> Outcome
+    ensures known { IsStatus result.status }
+
+    // Status 0: the transcript, whole.
+    ensures transcript { result.status ≡ 0 → IfSome (names_of words.now) (λ names. IfSome (F.told files.old)
+        (λ t. Finished t names result.skipped.items (O.taken out.old) (O.taken out.new))) }
+    ensures silent { result.status ≡ 0 → err.new ≡ err.old }
+    ensures skipped { IfSome (names_of words.now) (λ names. IfSome (F.told files.old)
+        (λ t. MatchOption (t names.script) (result.skipped.items ≡ []) (λ script. AreSkipped (script_lines script) result.skipped.items))) }
+
+    // Status 2: the words.
+    ensures usage { result.status ≡ 2 ↔ IsNone (names_of words.now) }
+    ensures unopened { result.status ≡ 2 → (files.new ≡ files.old) × (out.new ≡ out.old) × (result.skipped.items ≡ []) }
+    ensures said_usage { result.status ≡ 2 → Said (Rose (E.faults err.old) (E.faults err.new)) Usage (E.taken err.old) (E.taken err.new) }
+
+    // Status 3: a fault of the files.
+    ensures read_fault { result.status ≡ 3 → Rose (F.faults files.old) (F.faults files.new) }
+    ensures unread { result.status ≡ 3 → IfSome (names_of words.now) (λ names. IfSome (F.told files.old) (λ t. (name : List ℕ)
+        × Unread t (IsTrue (F.steady files.old)) names result.skipped.items name (O.taken out.old) (O.taken out.new)
+        × Said (Rose (E.faults err.old) (E.faults err.new)) (CannotRead name) (E.taken err.old) (E.taken err.new))) }
+
+    // Status 4: a fault of out.
+    ensures write_fault { result.status ≡ 4 → Rose (O.faults out.old) (O.faults out.new) }
+    ensures broken_off { result.status ≡ 4 → IfSome (names_of words.now) (λ names. IfSome (F.told files.old)
+        (λ t. BrokenOff t names result.skipped.items (O.taken out.old) (O.taken out.new))) }
+    ensures said_write { result.status ≡ 4 → Said (Rose (E.faults err.old) (E.faults err.new)) CannotWrite (E.taken err.old) (E.taken err.new) }
+
+    // Status 5 and 6: nothing was begun.
+    ensures nothing { (result.status ≡ 5) ⊎ (result.status ≡ 6) → (O.taken out.new ≡ O.taken out.old) × (result.skipped.items ≡ []) }
+    ensures said_memory { result.status ≡ 5 → Said (Rose (E.faults err.old) (E.faults err.new)) OutOfMemory (E.taken err.old) (E.taken err.new) }
+    ensures refused { result.status ≡ 6 → IfSome (names_of words.now) (λ names. IfSome (F.told files.old) (λ t. (cause : Cause)
+        × (refusal_of (t names.schema) names (t names.script) ≡ Some cause)
+        × Said (Rose (E.faults err.old) (E.faults err.new)) cause (E.taken err.old) (E.taken err.new))) }
+
+    // A refused schema or script ends with 6, unless memory or a fault came first. All else is carried out.
+    ensures refusal { IfSome (names_of words.now) (λ names. IfSome (F.told files.old) (λ t.
+        IsSome (refusal_of (t names.schema) names (t names.script)) → (result.status ≡ 6) ⊎ (result.status ≡ 5) ⊎ (result.status ≡ 3))) }
+    ensures complete { IfSome (names_of words.now) (λ names. IfSome (F.told files.old) (λ t.
+        IsNone (refusal_of (t names.schema) names (t names.script))
+        → (Rose (F.faults files.old) (F.faults files.new) → ⊥) → (Rose (O.faults out.old) (O.faults out.new) → ⊥)
+        → (result.status ≡ 0) ⊎ (result.status ≡ 5))) }
+{
+    let Some((schema_name, script_name)) = names_in(words) else {
+        return fail(alloc, err, &Failure::Usage);
+    };
+    let schema = match read_named_schema(alloc, files, schema_name) {
+        Ok(schema) => schema,
+        Err(failure) => return fail(alloc, err, &failure),
+    };
+    let script = match read_named(alloc, files, script_name) {
+        Ok(script) => script,
+        Err(failure) => return fail(alloc, err, &failure),
+    };
+    run_script(alloc, files, out, err, schema, &script)
+}

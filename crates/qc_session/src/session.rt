@@ -1,0 +1,117 @@
+// The lines of a script, in order.
+ghost use Rattle.std.specs.Prelude.{◌≡◌, ◌≤◌, ◌<◌, ◌^◌, ◌+◌, ◌++◌, ◌∷◌, ℕ, List, [], Some, None, IfOk, IfErr, IfSome, OnOk, OnErr, IsTrue, length, map, vec_len, vec_capacity, ⊤};
+ghost use Rattle.qc_io.specs.Outside.{Rose, Told};
+ghost use Rattle.qc_session.specs.Lines.{lines_of, without_cr};
+ghost use Rattle.qc_session.specs.Answers.{Load, State, command_of, empty};
+ghost use Rattle.qc_session.specs.Runs.{AreSkipped, StoppedAt, StoppedWriting, Wrote};
+
+use crate::answer::{LineStop, answer_line};
+use crate::lines::{is_passed_over, split_line, trim_cr};
+use crate::reply;
+use crate::store::Store;
+use qc_io::{Files, Sink, write_all};
+use std::alloc::Global;
+
+/// Why a script ended before its last line.
+#[derive(Clone, Copy, Debug)]
+pub enum Stop<'a> {
+    /// The file of this name couldn't be read.
+    Read(&'a str),
+    /// A reply couldn't be written.
+    Write,
+}
+
+/// How far a script has come.
+#[derive(Drop)]
+pub struct Session {
+    pub number: u32,
+    pub store: Store,
+    pub skipped: Vec<u32>,
+}
+
+ghost use Rattle.qc_session.specs.Session.{IfStop, Skips, WroteLine, WrotePart, AreUpTo};
+
+// Takes one line.
+fn take_line<'a, F: Files, O: Sink>(
+    alloc: Global,
+    files: &mut F,
+    out: &mut O,
+    session: &mut Session,
+    line: &'a [u8],
+) -> Result<(), Stop<'a>>
+    requires room { vec_len session.old.skipped < vec_capacity session.old.skipped }
+    requires number { session.old.number + 1 < 2 ^ 32 }
+    requires up_to { AreUpTo session.old.number session.old.skipped.items }
+    ensures later_files { F.faults files.old ≤ F.faults files.new }
+    ensures later_out { O.faults out.old ≤ O.faults out.new }
+    ensures told { F.told files.new ≡ F.told files.old }
+    ensures steady { IsTrue (F.steady files.old) → IsTrue (F.steady files.new) }
+    ensures read_fault { IfErr result (λ stop. IfStop stop (λ name. Rose (F.faults files.old) (F.faults files.new)) ⊤) }
+    ensures names { IfErr result (λ stop. IfStop stop (λ name. command_of line.now ≡ Load name) ⊤) }
+    ensures untold { IfErr result (λ stop. IfStop stop (λ name. IsTrue (F.steady files.old) → IfSome (F.told files.old) (λ t. t name ≡ None)) ⊤) }
+    ensures write_fault { IfErr result (λ stop. IfStop stop (λ name. ⊤) (Rose (O.faults out.old) (O.faults out.new))) }
+    ensures stays { IfErr result (λ stop. IfStop stop (λ name. (O.taken out.new ≡ O.taken out.old) × (session.new.skipped.items ≡ session.old.skipped.items)) ⊤) }
+    ensures wrote { OnOk result (WroteLine (F.told files.old) session.new.skipped.items (session.old.number + 1) session.old.store line.now
+        session.new.store (O.taken out.old) (O.taken out.new)) }
+    ensures part { IfErr result (λ stop. IfStop stop (λ name. ⊤) (WrotePart (F.told files.old) session.new.skipped.items (session.old.number + 1) session.old.store line.now
+        session.new.store (O.taken out.old) (O.taken out.new))) }
+    ensures skips { Skips session.old.skipped.items (session.old.number + 1) line.now session.new.skipped.items }
+    ensures number { OnOk result (session.new.number ≡ session.old.number + 1) }
+    ensures capacity { vec_capacity session.old.skipped ≤ vec_capacity session.new.skipped }
+    ensures length { vec_len session.new.skipped ≤ vec_len session.old.skipped + 1 }
+{
+    let number = session.number + 1;
+    session.number = number;
+    if is_passed_over(line) {
+        return Ok(());
+    }
+    match answer_line(alloc, files, &mut session.store, number, line) {
+        Ok(reply) => match write_all(out, reply.as_bytes()) {
+            Ok(()) => Ok(()),
+            Err(_) => Err(Stop::Write),
+        },
+        Err(LineStop::Memory) => {
+            session.skipped.push(number).unwrap();
+            let reply = reply::memory(number);
+            match write_all(out, reply.as_bytes()) {
+                Ok(()) => Ok(()),
+                Err(_) => Err(Stop::Write),
+            }
+        }
+        Err(LineStop::Fault(name)) => Err(Stop::Read(name)),
+    }
+}
+
+/// Takes the lines of a script in order, from its first line on.
+pub fn take_lines<'a, F: Files, O: Sink>(
+    alloc: Global,
+    files: &mut F,
+    out: &mut O,
+    session: &mut Session,
+    script: &'a [u8],
+) -> Result<(), Stop<'a>>
+    requires room { length (lines_of script.now) ≤ vec_capacity session.old.skipped }
+    requires few { length (lines_of script.now) < 2 ^ 32 }
+    requires fresh { (session.old.number ≡ 0) × (session.old.skipped.items ≡ []) }
+    requires state { session.old.store ≡ empty session.old.store.schema }
+    ensures later_files { F.faults files.old ≤ F.faults files.new }
+    ensures later_out { O.faults out.old ≤ O.faults out.new }
+    ensures read_fault { IfErr result (λ stop. IfStop stop (λ name. Rose (F.faults files.old) (F.faults files.new)) ⊤) }
+    ensures write_fault { IfErr result (λ stop. IfStop stop (λ name. ⊤) (Rose (O.faults out.old) (O.faults out.new))) }
+    ensures skipped { AreSkipped (map without_cr (lines_of script.now)) session.new.skipped.items }
+    ensures all { OnOk result (IfSome (F.told files.old) (λ t. Wrote t session.old.store.schema session.new.skipped.items (map without_cr (lines_of script.now)) (O.taken out.old) (O.taken out.new))) }
+    ensures before { IfErr result (λ stop. IfStop stop (λ name. IfSome (F.told files.old) (λ t. StoppedAt t (IsTrue (F.steady files.old)) session.old.store.schema session.new.skipped.items
+        (map without_cr (lines_of script.now)) name (O.taken out.old) (O.taken out.new))) ⊤) }
+    ensures part { IfErr result (λ stop. IfStop stop (λ name. ⊤) (IfSome (F.told files.old) (λ t. StoppedWriting t session.old.store.schema session.new.skipped.items
+        (map without_cr (lines_of script.now)) (O.taken out.old) (O.taken out.new)))) }
+{
+    let mut rest = script;
+    'lines: while !rest.is_empty() {
+        let (line, behind) = split_line(rest);
+        match take_line(alloc, files, out, session, trim_cr(line)) {
+            Ok(()) => rest = behind,
+            Err(stop) => return Err(stop),
+        }
+    }
+    Ok(())
+}

@@ -1,0 +1,33 @@
+//! The program `qcube`: its words, the files and the streams of the system, and the status of the run.
+#![tactic(auto)]
+
+use qc_io::{RealFiles, RealSink};
+use qc_session::run;
+use std::alloc::AllocError;
+use std::env;
+use std::process::ExitCode;
+
+const OUT_OF_MEMORY: u8 = 5;
+
+// The words after the program's name, and none where they can't be had as texts.
+fn words_of(rt: &HostRuntime) -> Result<Vec<String>, AllocError> {
+    let mut words = Vec::new(rt.alloc());
+    let Ok(args) = env::args(rt) else {
+        return Ok(words);
+    };
+    for word in args.skip(1) {
+        words.push(word)?;
+    }
+    Ok(words)
+}
+
+fn main(rt: HostRuntime) -> ExitCode {
+    let Ok(words) = words_of(&rt) else {
+        return ExitCode::from(OUT_OF_MEMORY);
+    };
+    let mut files = RealFiles::new(&rt);
+    let mut out = RealSink::new(rt.stdout());
+    let mut err = RealSink::new(rt.stderr());
+    let outcome = run(rt.alloc(), &words, &mut files, &mut out, &mut err);
+    ExitCode::from(outcome.status)
+}
