@@ -46,12 +46,12 @@ rows_behind columns [] = None
 rows_behind columns (header ∷ more) = if fields_eq header (header_of columns) then few_rows_in (length columns.dims) more else None
 
 -- rows whose ids are all different
-abbrev pub distinct : List (Row Text) → Option (List (Row Text))
-distinct rows = if all_different nat_eq (map (λ row. row.id) rows) then Some rows else None
+abbrev pub with_distinct_ids : List (Row Text) → Option (List (Row Text))
+with_distinct_ids rows = if all_different nat_eq (map (λ row. row.id) rows) then Some rows else None
 
 -- the rows of a thin base file, in its order
 abbrev pub base_of : Columns → List ℕ → Option (List (Row Text))
-base_of columns text = if is_plain text then option_and_then distinct (rows_behind columns (records default_config text)) else None
+base_of columns text = if is_plain text then option_and_then with_distinct_ids (rows_behind columns (records default_config text)) else None
 
 -- ids, texts and amounts after a row was put behind them
 pub record AddsRow (row : Row Text) (ids ids' : List ℕ) (texts texts' : List Text) (amounts amounts' : List ℤ) : Type 0 where
