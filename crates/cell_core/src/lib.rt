@@ -5,9 +5,8 @@ mod fields;
 mod texts;
 
 pub use fields::{Field, Fields};
-pub use texts::{Text, Texts};
-
 use std::alloc::AllocError;
+pub use texts::{Text, Texts};
 
 /// Memory ran out.
 pub type Memory = AllocError;

@@ -12,5 +12,6 @@ not_utf8 line h = elim (cases_Bool (is_utf8 line)) [ inl e ↦ absurd (h (IsUtf8
 
 pub command-text : (line : List ℕ) → IsUtf8 line → command_of line ≡ command_named (word_of line) (rest_of line)
 command-text line u = rw (is_utf8-from_IsUtf8 line u) refl
+
 pub command-bytes : (line : List ℕ) → (IsUtf8 line → ⊥) → command_of line ≡ Refused refusals.Utf8
 command-bytes line h = rw (not_utf8 line h) refl

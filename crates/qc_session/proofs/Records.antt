@@ -33,8 +33,9 @@ cell-more cell k f e = rw add-one (by cell k e)
   where
     some : {f g : Field} → Some f ≡ Some g → f ≡ g
     some e = cc
+
     by : (cell : List Field) (k : ℕ) → slice_get cell k ≡ Some f
-      → fields_text (map entry_text (cell_of_fields (take (suc k) cell))) ≡ fields_text (map entry_text (cell_of_fields (take k cell))) ++ 44 ∷ entry_text (entry_asked f)
+        → fields_text (map entry_text (cell_of_fields (take (suc k) cell))) ≡ fields_text (map entry_text (cell_of_fields (take k cell))) ++ 44 ∷ entry_text (entry_asked f)
     by [] k e = cc
     by (g ∷ cell) zero e = rw (some e) (ap (λ (z : List ℕ). 44 ∷ z) (append-nil (entry_text (entry_asked f))))
     by (g ∷ cell) (suc k) e = ap (λ (z : List ℕ). 44 ∷ entry_text (entry_asked g) ++ z) (by cell k e) ∙ ap (λ (z : List ℕ). 44 ∷ z) (sym (append_assoc (entry_text (entry_asked g)) _ _))
@@ -43,5 +44,5 @@ cell-more cell k f e = rw add-one (by cell k e)
 pub record-written : (word line : Text) (cell agg : List Text) → ((word ++ 44 ∷ line) ++ fields_text cell) ++ fields_text agg ++ 10 ∷ [] ≡ record_text (word ∷ line ∷ cell ++ agg)
 record-written word line cell agg =
     ap (λ (z : List ℕ). z ++ 10 ∷ []) (regroup-three word (44 ∷ line) (fields_text cell) (fields_text agg)
-      ∙ ap (λ (z : List ℕ). word ++ ((44 ∷ line) ++ z)) (sym (fields-append cell agg))
-      ∙ sym (record-fields word (line ∷ (cell ++ agg))))
+    ∙ ap (λ (z : List ℕ). word ++ ((44 ∷ line) ++ z)) (sym (fields-append cell agg))
+    ∙ sym (record-fields word (line ∷ (cell ++ agg))))

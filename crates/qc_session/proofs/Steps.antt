@@ -95,10 +95,10 @@ took-push t schema skipped lines line state replies state2 reply took r =
     let num : 0 + length lines + 1 ≡ length lines + 1 = omega arith in
     record {
       is = ap (λ (xs : List Item). fold (step t) (run_at (empty schema) []) xs) (items-push skipped 0 lines line)
-        ∙ fold-append (step t) (run_at (empty schema) []) (items skipped 0 lines) (item skipped (0 + length lines + 1) line ∷ [])
-        ∙ ap (λ (r : Run). step t r (item skipped (0 + length lines + 1) line)) took.is
-        ∙ ap (λ m. step t (run_at state replies) (item skipped m line)) num
-        ∙ r.is replies
+          ∙ fold-append (step t) (run_at (empty schema) []) (items skipped 0 lines) (item skipped (0 + length lines + 1) line ∷ [])
+          ∙ ap (λ (r : Run). step t r (item skipped (0 + length lines + 1) line)) took.is
+          ∙ ap (λ m. step t (run_at state replies) (item skipped m line)) num
+          ∙ r.is replies;
     }
 
 took-skips : (t : Told) (schema : Columns) (skipped new : List ℕ) (lines : List (List ℕ)) (line : List ℕ) (state : State) (replies : List ℕ) → Skips skipped (length lines + 1) line new → Took t schema skipped lines state replies → Took t schema new lines state replies
@@ -131,7 +131,7 @@ so_far-push (Some t) schema skipped new lines line number state state2 first bef
     record {
       replies = w.replies ++ reply;
       took = took-push t schema new lines line state w.replies state2 reply (took-skips t schema skipped new lines line state w.replies (rw len skips) w.took) (rw len gives);
-      wrote = is ∙ ap (taking reply) w.wrote ∙ taking-taking w.replies reply first
+      wrote = is ∙ ap (taking reply) w.wrote ∙ taking-taking w.replies reply first;
     }
 
 -- the lines so far with a part of one line's reply
@@ -150,8 +150,8 @@ front-push (Some t) schema skipped new lines line rest number state state2 first
         replies = w.replies ++ reply;
         count = length w.replies + n;
         took = took-push t schema new lines line state w.replies state2 reply (took-skips t schema skipped new lines line state w.replies (rw len skips) w.took) (rw len gives);
-        wrote = is ∙ ap (taking (take n reply)) w.wrote ∙ taking-taking w.replies (take n reply) first ∙ ap (λ (xs : List ℕ). taking xs first) (sym (take-append-add w.replies reply n))
-      }
+        wrote = is ∙ ap (taking (take n reply)) w.wrote ∙ taking-taking w.replies (take n reply) first ∙ ap (λ (xs : List ℕ). taking xs first) (sym (take-append-add w.replies reply n));
+      };
     }
 
 pub stopped-at : (told : Option Told) (sure : Type 0) (schema : Columns) (skipped new : List ℕ) (lines : List (List ℕ)) (line : List ℕ) (rest : List (List ℕ)) (name : List ℕ) (state : State) (first before now : Option (List ℕ))
@@ -166,7 +166,7 @@ stopped-at (Some t) sure schema skipped new lines line rest name state first bef
   split = split;
   names = names;
   wrote = record { state = state; replies = w.replies; took = rw is w.took; wrote = stays ∙ w.wrote };
-  untold = untold
+  untold = untold;
 }
 
 pub wrote-all : (told : Option Told) (schema : Columns) (skipped : List ℕ) (lines all : List (List ℕ)) (state : State) (first now : Option (List ℕ)) → all ≡ lines ++ [] → WroteSoFar told schema skipped lines state first now
@@ -220,19 +220,19 @@ all-push P (j ∷ js) k h p = (h.0, all-push P js k h.1 p)
 pub skipped-push : (number : ℕ) (line old new : List ℕ) (lines : List (List ℕ)) → length lines ≡ number → AreUpTo number old → Skips old (number + 1) line new → AreSkipped lines old → AreSkipped (lines ++ line ∷ []) new
 skipped-push number line old new lines len up (inl same) h = record {
   rising = rw same h.rising;
-  commands = rw same (commands-front lines (line ∷ []) old (rw len up) h.commands)
+  commands = rw same (commands-front lines (line ∷ []) old (rw len up) h.commands);
 }
 skipped-push number line old new lines len up (inr more) h = record {
   rising = rw more.0 (rising-push 0 number old (omega arith) up h.rising);
   commands =
-    let here : line_at (lines ++ line ∷ []) (number + 1) ≡ line = rw add-one (line_at-end lines line number (sym len)) in
-    rw more.0 (all-push _ old (number + 1) (commands-front lines (line ∷ []) old (rw len up) h.commands) (ap may_skip here ∙ more.1))
+      let here : line_at (lines ++ line ∷ []) (number + 1) ≡ line = rw add-one (line_at-end lines line number (sym len)) in
+      rw more.0 (all-push _ old (number + 1) (commands-front lines (line ∷ []) old (rw len up) h.commands) (ap may_skip here ∙ more.1));
 }
 
 pub skipped-front : (lines more all : List (List ℕ)) (number : ℕ) (ks : List ℕ) → length lines ≡ number → AreUpTo number ks → all ≡ lines ++ more → AreSkipped lines ks → AreSkipped all ks
 skipped-front lines more all number ks len up split h = record {
   rising = h.rising;
-  commands = rw split (commands-front lines more ks (rw len up) h.commands)
+  commands = rw split (commands-front lines more ks (rw len up) h.commands);
 }
 
 pub lines-regroup : (done : List (List ℕ)) (line : List ℕ) (all rest behind : List (List ℕ)) → all ≡ done ++ rest → rest ≡ line ∷ behind → all ≡ (done ++ line ∷ []) ++ behind

@@ -68,12 +68,12 @@ total-push t rows r a is some e =
     let many : 0 < length (amounts_of 0 rows) = rw length-map some in
     let was : record { sum = t.sum; least = t.least; greatest = t.greatest } ≡ part_of (amounts_of 0 rows) = ap (λ (x : Agg). get_or x.parts 0 (part_of [])) e in
     let now : part_of (amounts_of 0 (rows ++ r ∷ [])) ≡ record { sum = t.sum +ℤ a; least = int_min t.least a; greatest = int_max t.greatest a } =
-      ap part_of (amounts ∙ ap (λ (z : ℤ). amounts_of 0 rows ++ z ∷ []) (sym is)) ∙ part-push (amounts_of 0 rows) a many
-      ∙ ap (λ (x : Part). record { sum = x.sum +ℤ a; least = int_min x.least a; greatest = int_max x.greatest a }) (sym was) in
+    ap part_of (amounts ∙ ap (λ (z : ℤ). amounts_of 0 rows ++ z ∷ []) (sym is)) ∙ part-push (amounts_of 0 rows) a many
+    ∙ ap (λ (x : Part). record { sum = x.sum +ℤ a; least = int_min x.least a; greatest = int_max x.greatest a }) (sym was) in
     let count : t.count ≡ length rows = ap (λ (x : Agg). x.count) e in
     let more : t.count + 1 ≡ length (rows ++ r ∷ []) = omega (arith, length-append rows (r ∷ []), count) in
     ap (λ k. agg_at k (record { sum = t.sum +ℤ a; least = int_min t.least a; greatest = int_max t.greatest a })) more
-      ∙ ap (λ (x : Part). agg_at (length (rows ++ r ∷ [])) x) (sym now)
+    ∙ ap (λ (x : Part). agg_at (length (rows ++ r ∷ [])) x) (sym now)
 
 pub total_is : (t : Total) (a sum least greatest : ℤ) → sum ≡ t.sum +ℤ a → least ≡ int_min t.least a → greatest ≡ int_max t.greatest a
     → record { count = t.count + 1; sum = sum; least = least; greatest = greatest } ≡ total_with t a

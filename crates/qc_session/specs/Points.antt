@@ -37,11 +37,11 @@ agg_of_total t = record { count = t.count; parts = part_of_total t ∷ [] }
 -- a total with one amount more
 abbrev pub total_with : Total → ℤ → Total
 total_with t amount = record {
-    count = t.count + 1;
-    sum = t.sum +ℤ amount;
-    least = int_min t.least amount;
-    greatest = int_max t.greatest amount
-  }
+  count = t.count + 1;
+  sum = t.sum +ℤ amount;
+  least = int_min t.least amount;
+  greatest = int_max t.greatest amount;
+}
 
 -- a sum of so many amounts of at most twelve digits
 abbrev pub IsBounded : ℕ → ℤ → Type 0

@@ -2,14 +2,13 @@
 ghost use Rattle.std.specs.Prelude.{◌≡◌, ◌<◌, ◌≤◌, ◌++◌, ◌∷◌, [], ◌*◌, IfOk, OnOk, codes, decimal, map, take, length};
 ghost use Rattle.std.specs.Fmt.{signed_decimal};
 ghost use Rattle.qc_session.specs.Replies.{agg_texts, entry_text, fraction_text, point_text};
+ghost use Rattle.qc_session.specs.Points.{agg_of_total, cell_of_fields, entry_asked, fields_text, fraction_of};
 
 use crate::mean::Mean;
 use crate::total::Total;
 use cell_core::{Field, Fields, Memory};
 use itoa::Buffer;
 use std::alloc::Global;
-
-ghost use Rattle.qc_session.specs.Points.{agg_of_total, cell_of_fields, entry_asked, fields_text, fraction_of};
 
 // A field behind a comma.
 fn push_field(out: &mut Vec<u8>, field: &[u8]) -> Result<(), Memory>
@@ -76,7 +75,12 @@ fn push_cell(out: &mut Vec<u8>, cell: &Fields) -> Result<(), Memory>
 }
 
 /// The reply to a point that covers some row.
-pub fn point_reply(alloc: Global, line: u32, cell: &Fields, total: &Total) -> Result<Vec<u8>, Memory>
+pub fn point_reply(
+    alloc: Global,
+    line: u32,
+    cell: &Fields,
+    total: &Total,
+) -> Result<Vec<u8>, Memory>
     requires { 0 < total.now.count }
     ensures { IfOk result (λ reply. reply.items ≡ point_text line (cell_of_fields cell.now) (agg_of_total total.now)) }
 {

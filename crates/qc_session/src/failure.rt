@@ -43,7 +43,11 @@ impl<'a> Failure<'a> {
         ensures { result.0.now ++ (result.1.now ++ result.2.now) ≡ error_text (cause_of self.now) }
     {
         match self {
-            Failure::Usage => ("usage: qcube run SCHEMA SCRIPT | qcube gen ROWS SEED\n", "", ""),
+            Failure::Usage => (
+                "usage: qcube run SCHEMA SCRIPT | qcube gen ROWS SEED\n",
+                "",
+                "",
+            ),
             Failure::CannotRead(name) => ("qcube: cannot read ", name, "\n"),
             Failure::CannotWrite => ("qcube: cannot write\n", "", ""),
             Failure::OutOfMemory => ("qcube: out of memory\n", "", ""),

@@ -15,3 +15,6 @@ mod store;
 mod total;
 
 pub use scripts::{Outcome, run};
+
+#[cfg(test)]
+mod tests;

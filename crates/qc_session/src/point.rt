@@ -3,11 +3,10 @@ ghost use Rattle.std.specs.Prelude.{count_by, IsTrue, ◌==◌, ◌||◌, nat_eq
 ghost use Rattle.std.specs.List.{list_all, list_any, starts_with};
 ghost use Rattle.qc_session.specs.Lines.{mark};
 ghost use Rattle.qc_session.specs.Answers.{entry_of, fields_of, is_plain, is_thin_point};
+ghost use Rattle.qc_session.specs.Points.{cell_of_fields, entry_asked, more_fields};
 
 use cell_core::{Field, Fields, Memory, Text};
 use std::alloc::Global;
-
-ghost use Rattle.qc_session.specs.Points.{cell_of_fields, entry_asked, more_fields};
 
 // Whether a field stands for a value or for Any.
 fn is_plain_field(field: &str) -> bool

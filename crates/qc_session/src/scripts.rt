@@ -45,7 +45,10 @@ fn names_in(words: &[String]) -> Option<(&str, &str)>
     ensures { option_map (λ p. record { schema = p.0.now; script = p.1.now }) result ≡ names_of words.now }
 {
     match words {
-        [word, schema, script] if word.as_str() == "run" => Some((schema.as_str(), script.as_str())),
+        [word, schema, script] if word.as_str() == "run" => Some((
+            schema.as_str(),
+            script.as_str(),
+        )),
         _ => None,
     }
 }

@@ -10,5 +10,5 @@ loop-k-preserved c =
     ∙ ap (λ (z : List ℕ). z ++ 44 ∷ c.text_of.result.now) c.loop-k.invariant
     ∙ append_assoc c.args.out.now.items (fields_text (map entry_text (cell_of_fields (take c.loop-k.k c.args.cell.now)))) (44 ∷ c.text_of.result.now)
     ∙ ap (λ (z : List ℕ). c.args.out.now.items ++ z)
-      (ap (λ (z : List ℕ). fields_text (map entry_text (cell_of_fields (take c.loop-k.k c.args.cell.now))) ++ 44 ∷ z) c.text_of.ensures
-      ∙ sym (cell-more c.args.cell.now c.loop-k.k c.get.result.now c.get.ensures))
+    (ap (λ (z : List ℕ). fields_text (map entry_text (cell_of_fields (take c.loop-k.k c.args.cell.now))) ++ 44 ∷ z) c.text_of.ensures
+    ∙ sym (cell-more c.args.cell.now c.loop-k.k c.get.result.now c.get.ensures))

@@ -7,9 +7,9 @@ use Rattle.qc_session.proofs.point.cell_of_rest.Given as goal
 
 abbrev pub invariant-fields : goal.invariant-fields
 invariant-fields l = record {
-    cell : cell_of_fields l.cell ++ map entry_of (more_fields (option_map (λ s. s.now) l.left)) ≡ map entry_of (fields_of l.rest);
-    count : length l.cell + length (more_fields (option_map (λ s. s.now) l.left)) ≡ length (fields_of l.rest)
-  }
+  cell : cell_of_fields l.cell ++ map entry_of (more_fields (option_map (λ s. s.now) l.left)) ≡ map entry_of (fields_of l.rest);
+  count : length l.cell + length (more_fields (option_map (λ s. s.now) l.left)) ≡ length (fields_of l.rest);
+}
 
 abbrev pub decreases-fields : goal.decreases-fields
 decreases-fields l = size_left (option_map (λ s. s.now) l.left)

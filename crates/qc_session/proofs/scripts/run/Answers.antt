@@ -7,27 +7,27 @@ use Rattle.qc_session.proofs.scripts.run.Goals as goal
 pub returns-in-Err-clause-unread : goal.returns-in-Err-clause-unread
 returns-in-Err-clause-unread g c is =
     rw (← c.in-Some.ensures) (unread-schema (g.F.Files.told c.args.files.now) (record { schema = c.in-Some.schema_name.now; script = c.in-Some.script_name.now }) _ _ _
-      (cause_of c.in-Err.failure) c.fail-in-Err.result.skipped.items _ _ _ _ c.in-Err.ensures.err (sym c.fail-in-Err.ensures.status ∙ is) refl c.fail-in-Err.ensures.said)
+    (cause_of c.in-Err.failure) c.fail-in-Err.result.skipped.items _ _ _ _ c.in-Err.ensures.err (sym c.fail-in-Err.ensures.status ∙ is) refl c.fail-in-Err.ensures.said)
 
 pub returns-in-Err-clause-refused : goal.returns-in-Err-clause-refused
 returns-in-Err-clause-refused g c is =
     rw (← c.in-Some.ensures) (refused-schema (g.F.Files.told c.args.files.now) (record { schema = c.in-Some.schema_name.now; script = c.in-Some.script_name.now }) _ _ _
-      (cause_of c.in-Err.failure) _ _ c.in-Err.ensures.err (sym c.fail-in-Err.ensures.status ∙ is) c.fail-in-Err.ensures.said)
+    (cause_of c.in-Err.failure) _ _ c.in-Err.ensures.err (sym c.fail-in-Err.ensures.status ∙ is) c.fail-in-Err.ensures.said)
 
 pub returns-in-Err-read_named-clause-unread : goal.returns-in-Err-read_named-clause-unread
 returns-in-Err-read_named-clause-unread g c is =
     let names : Names = record { schema = c.in-Some.schema_name.now; script = c.in-Some.script_name.now } in
     let fails = rw c.in-Ok.ensures.told at c.in-Err-read_named.ensures.err in
     rw (← c.in-Some.ensures) (unread-script (g.F.Files.told c.args.files.now) names c.in-Ok.schema _ (IsTrue (g.F.Files.steady c.args.files.now)) (IsTrue (g.F.Files.steady c.read_named_schema.new.files)) _
-      (cause_of c.in-Err-read_named.failure) c.fail-in-Err-read_named.result.skipped.items _ _ _ _ c.in-Ok.ensures.ok c.in-Ok.ensures.steady fails
-      (sym c.fail-in-Err-read_named.ensures.status ∙ is) refl c.fail-in-Err-read_named.ensures.said)
+    (cause_of c.in-Err-read_named.failure) c.fail-in-Err-read_named.result.skipped.items _ _ _ _ c.in-Ok.ensures.ok c.in-Ok.ensures.steady fails
+    (sym c.fail-in-Err-read_named.ensures.status ∙ is) refl c.fail-in-Err-read_named.ensures.said)
 
 pub returns-in-Err-read_named-clause-refused : goal.returns-in-Err-read_named-clause-refused
 returns-in-Err-read_named-clause-refused g c is =
     let names : Names = record { schema = c.in-Some.schema_name.now; script = c.in-Some.script_name.now } in
     let fails = rw c.in-Ok.ensures.told at c.in-Err-read_named.ensures.err in
     rw (← c.in-Some.ensures) (refused-script (g.F.Files.told c.args.files.now) names c.in-Ok.schema _ _ _
-      (cause_of c.in-Err-read_named.failure) _ _ c.in-Ok.ensures.ok fails (sym c.fail-in-Err-read_named.ensures.status ∙ is) c.fail-in-Err-read_named.ensures.said)
+    (cause_of c.in-Err-read_named.failure) _ _ c.in-Ok.ensures.ok fails (sym c.fail-in-Err-read_named.ensures.status ∙ is) c.fail-in-Err-read_named.ensures.said)
 
 pub returns-clause-unread : goal.returns-clause-unread
 returns-clause-unread g c is =
@@ -35,4 +35,4 @@ returns-clause-unread g c is =
     let is_script = rw c.in-Ok.ensures.told at c.in-Ok-read_named.ensures.ok in
     let stopped = rw (c.in-Ok-read_named.ensures.told, c.in-Ok.ensures.told, c.deref.ensures.value) at (c.run_script.ensures.unread is) in
     rw (← c.in-Some.ensures) (unread-line (g.F.Files.told c.args.files.now) names c.in-Ok.schema c.in-Ok-read_named.script.items (IsTrue (g.F.Files.steady c.args.files.now)) (IsTrue (g.F.Files.steady c.read_named.new.files)) _
-      c.run_script.result.skipped.items _ _ _ _ c.in-Ok.ensures.ok is_script (λ s. c.in-Ok-read_named.ensures.steady (c.in-Ok.ensures.steady s)) stopped)
+    c.run_script.result.skipped.items _ _ _ _ c.in-Ok.ensures.ok is_script (λ s. c.in-Ok-read_named.ensures.steady (c.in-Ok.ensures.steady s)) stopped)

@@ -10,16 +10,21 @@ use Rattle.qc_session.proofs.session.take_lines.Goals as goal
 
 pub lines-init : goal.lines-init
 lines-init g c = record {
-    later_files = omega arith;
-    later_out = omega arith;
-    told = refl;
-    steady = λ h. h;
-    room = grind (arith, common_steps);
-    few = grind (arith, common_steps);
-    up_to = rw c.requires.fresh.1 tt;
-    so_far = ([], refl, sym c.requires.fresh.0, rw c.requires.fresh.1 (record { rising = tt; commands = tt }),
-      rw c.requires.fresh.1 (so_far-none _ _ _ _ c.requires.state))
-  }
+  later_files = omega arith;
+  later_out = omega arith;
+  told = refl;
+  steady = λ h. h;
+  room = grind (arith, common_steps);
+  few = grind (arith, common_steps);
+  up_to = rw c.requires.fresh.1 tt;
+  so_far = (
+    [],
+    refl,
+    sym c.requires.fresh.0,
+    rw c.requires.fresh.1 (record { rising = tt; commands = tt }),
+    rw c.requires.fresh.1 (so_far-none _ _ _ _ c.requires.state),
+  );
+}
 
 pub lines-preserved : goal.lines-preserved
 lines-preserved g c =
@@ -27,7 +32,7 @@ lines-preserved g c =
     let e = c.in-Ok.ensures in
     let split : length (lines_of c.lines.rest.now) ≡ length (lines_of c.split_line.result.1.now) + 1 = rw c.split_line.ensures.lines (omega arith) in
     let cut : map without_cr (lines_of c.lines.rest.now) ≡ c.trim_cr.result.now ∷ map without_cr (lines_of c.split_line.result.1.now) =
-      ap (map without_cr) c.split_line.ensures.lines ∙ ap (λ (line : List ℕ). line ∷ map without_cr (lines_of c.split_line.result.1.now)) (sym c.trim_cr.ensures) in
+    ap (map without_cr) c.split_line.ensures.lines ∙ ap (λ (line : List ℕ). line ∷ map without_cr (lines_of c.split_line.result.1.now)) (sym c.trim_cr.ensures) in
     record {
       later_files = omega arith;
       later_out = omega arith;
@@ -37,10 +42,13 @@ lines-preserved g c =
       few = omega (arith, inv.few, e.number, split);
       up_to = rw e.number (skips-up_to _ c.trim_cr.result.now _ _ inv.up_to e.skips);
       so_far =
-        let (done, all, len, skipped, wrote) = inv.so_far in
-        (done ++ c.trim_cr.result.now ∷ [], lines-regroup done _ _ _ _ all cut, length-push done _ _ _ len e.number,
-          skipped-push c.lines.session.number c.trim_cr.result.now _ _ done len inv.up_to e.skips skipped,
-          so_far-push _ _ _ _ done _ c.lines.session.number _ _ _ _ _ len e.skips wrote (rw inv.told at e.wrote))
+          let (done, all, len, skipped, wrote) = inv.so_far in (
+            done ++ c.trim_cr.result.now ∷ [],
+            lines-regroup done _ _ _ _ all cut,
+            length-push done _ _ _ len e.number,
+            skipped-push c.lines.session.number c.trim_cr.result.now _ _ done len inv.up_to e.skips skipped,
+            so_far-push _ _ _ _ done _ c.lines.session.number _ _ _ _ _ len e.skips wrote (rw inv.told at e.wrote),
+          );
     }
 
 pub returns-in-Err-clause-skipped : goal.returns-in-Err-clause-skipped
@@ -48,10 +56,10 @@ returns-in-Err-clause-skipped g c =
     let inv = c.lines.invariant in
     let e = c.in-Err.ensures in
     let cut : map without_cr (lines_of c.lines.rest.now) ≡ c.trim_cr.result.now ∷ map without_cr (lines_of c.split_line.result.1.now) =
-      ap (map without_cr) c.split_line.ensures.lines ∙ ap (λ (line : List ℕ). line ∷ map without_cr (lines_of c.split_line.result.1.now)) (sym c.trim_cr.ensures) in
+    ap (map without_cr) c.split_line.ensures.lines ∙ ap (λ (line : List ℕ). line ∷ map without_cr (lines_of c.split_line.result.1.now)) (sym c.trim_cr.ensures) in
     let (done, all, len, skipped, wrote) = inv.so_far in
     skipped-front (done ++ c.trim_cr.result.now ∷ []) (map without_cr (lines_of c.split_line.result.1.now)) _ (c.lines.session.number + 1) _
-      (length-push done _ _ _ len refl) (skips-up_to _ c.trim_cr.result.now _ _ inv.up_to e.skips) (lines-regroup done _ _ _ _ all cut) (skipped-push c.lines.session.number c.trim_cr.result.now _ _ done len inv.up_to e.skips skipped)
+    (length-push done _ _ _ len refl) (skips-up_to _ c.trim_cr.result.now _ _ inv.up_to e.skips) (lines-regroup done _ _ _ _ all cut) (skipped-push c.lines.session.number c.trim_cr.result.now _ _ done len inv.up_to e.skips skipped)
 
 pub returns-in-Err-clause-part : goal.returns-in-Err-clause-part
 returns-in-Err-clause-part g c =
@@ -59,14 +67,14 @@ returns-in-Err-clause-part g c =
     let e = c.in-Err.ensures in
     let told = g.F.Files.told c.args.files.now in
     let cut : map without_cr (lines_of c.lines.rest.now) ≡ c.trim_cr.result.now ∷ map without_cr (lines_of c.split_line.result.1.now) =
-      ap (map without_cr) c.split_line.ensures.lines ∙ ap (λ (line : List ℕ). line ∷ map without_cr (lines_of c.split_line.result.1.now)) (sym c.trim_cr.ensures) in
+    ap (map without_cr) c.split_line.ensures.lines ∙ ap (λ (line : List ℕ). line ∷ map without_cr (lines_of c.split_line.result.1.now)) (sym c.trim_cr.ensures) in
     let (done, all, len, skipped, wrote) = inv.so_far in
     if_write c.in-Err.stop _ _
-      (λ (h : WrotePart told c.take_line.new.session.skipped.items (c.lines.session.number + 1) c.lines.session.store c.trim_cr.result.now c.take_line.new.session.store
-          (g.O.Sink.taken c.lines.out) (g.O.Sink.taken c.take_line.new.out)).
-        front-push told _ _ _ done c.trim_cr.result.now (map without_cr (lines_of c.split_line.result.1.now)) c.lines.session.number _ _ _ _ _ len e.skips wrote h
-          (map without_cr (lines_of c.args.script.now)) (lines-regroup done _ _ _ _ all cut))
-      (rw inv.told at e.part)
+    (λ (h : WrotePart told c.take_line.new.session.skipped.items (c.lines.session.number + 1) c.lines.session.store c.trim_cr.result.now c.take_line.new.session.store
+    (g.O.Sink.taken c.lines.out) (g.O.Sink.taken c.take_line.new.out)).
+    front-push told _ _ _ done c.trim_cr.result.now (map without_cr (lines_of c.split_line.result.1.now)) c.lines.session.number _ _ _ _ _ len e.skips wrote h
+    (map without_cr (lines_of c.args.script.now)) (lines-regroup done _ _ _ _ all cut))
+    (rw inv.told at e.part)
 
 pub returns-in-Err-clause-before : goal.returns-in-Err-clause-before
 returns-in-Err-clause-before g c =
@@ -74,14 +82,14 @@ returns-in-Err-clause-before g c =
     let e = c.in-Err.ensures in
     let told = g.F.Files.told c.args.files.now in
     let cut : map without_cr (lines_of c.lines.rest.now) ≡ c.trim_cr.result.now ∷ map without_cr (lines_of c.split_line.result.1.now) =
-      ap (map without_cr) c.split_line.ensures.lines ∙ ap (λ (line : List ℕ). line ∷ map without_cr (lines_of c.split_line.result.1.now)) (sym c.trim_cr.ensures) in
+    ap (map without_cr) c.split_line.ensures.lines ∙ ap (λ (line : List ℕ). line ∷ map without_cr (lines_of c.split_line.result.1.now)) (sym c.trim_cr.ensures) in
     let (done, all, len, skipped, wrote) = inv.so_far in
     if_read c.in-Err.stop
-      (λ name. command_of c.trim_cr.result.now ≡ Load name)
-      (λ name. (g.O.Sink.taken c.take_line.new.out ≡ g.O.Sink.taken c.lines.out) × (c.take_line.new.session.skipped.items ≡ c.lines.session.skipped.items))
-      (λ name. IsTrue (g.F.Files.steady c.lines.files) → IfSome told (λ t. t name ≡ None))
-      _
-      (λ name names stays untold.
-        stopped-at told (IsTrue (g.F.Files.steady c.args.files.now)) _ c.lines.session.skipped.items _ done c.trim_cr.result.now (map without_cr (lines_of c.split_line.result.1.now)) name _ _ _ _
-          names stays.1 stays.0 wrote (λ h. untold (inv.steady h)) (map without_cr (lines_of c.args.script.now)) (all ∙ ap (λ (xs : List (List ℕ)). done ++ xs) cut))
-      e.names e.stays (rw inv.told at e.untold)
+    (λ name. command_of c.trim_cr.result.now ≡ Load name)
+    (λ name. (g.O.Sink.taken c.take_line.new.out ≡ g.O.Sink.taken c.lines.out) × (c.take_line.new.session.skipped.items ≡ c.lines.session.skipped.items))
+    (λ name. IsTrue (g.F.Files.steady c.lines.files) → IfSome told (λ t. t name ≡ None))
+    _
+    (λ name names stays untold.
+    stopped-at told (IsTrue (g.F.Files.steady c.args.files.now)) _ c.lines.session.skipped.items _ done c.trim_cr.result.now (map without_cr (lines_of c.split_line.result.1.now)) name _ _ _ _
+    names stays.1 stays.0 wrote (λ h. untold (inv.steady h)) (map without_cr (lines_of c.args.script.now)) (all ∙ ap (λ (xs : List (List ℕ)). done ++ xs) cut))
+    e.names e.stays (rw inv.told at e.untold)

@@ -11,7 +11,7 @@ returns-then-not-allows c =
     let values = row_values c.args.rows.now c.args.row c.len-count.ensures.valid c.requires.first c.requires.last in
     let many : length (cell_of_fields c.args.cell.now) ≡ length c.args.cell.now = length-map c.args.cell.now entry_asked in
     sym (leq-fails (cell_of_fields c.args.cell.now) _ c.loop-dim.dim (omega (arith, many)) (omega (arith, values))
-      (rw (asked_at c.args.cell.now c.loop-dim.dim c.get.result.now c.get.ensures, ← c.text.ensures) (sym c.allows.ensures ∙ c.if-not-allows.true)))
+    (rw (asked_at c.args.cell.now c.loop-dim.dim c.get.result.now c.get.ensures, ← c.text.ensures) (sym c.allows.ensures ∙ c.if-not-allows.true)))
 
 pub returns : goal.returns
 returns c =

@@ -13,15 +13,15 @@ loop-before-preserved c =
     let inv = c.loop-before.invariant in
     let p = covers text_eq (cell_of_fields c.args.cell.now) in
     elim c.if-covers.branch [
-      then-covers w ↦
-        let amount : to_z w64 (of_z w64 w.amount.result) ≡ amount_at c.args.rows.now.rows (c.loop-before.before + 1) = omega (arith, ints, w.amount.ensures) in
-        let small = amount_small c.args.rows.now (c.loop-before.before + 1) c.len-before-end.ensures.valid (omega arith) (omega arith) in
-        record {
-          total = rw (w.total-is, w.next_total.ensures, amount) (covered-yes c.loop-before.total p c.args.rows.now c.loop-before.before (omega arith) (sym c.covers.ensures ∙ w.if-covers.true) inv.total);
-          within = rw (w.total-is, w.next_total.ensures, amount) (within-next c.loop-before.total c.loop-before.before _ small inv.within)
-        }
+      | then-covers w ↦
+          let amount : to_z w64 (of_z w64 w.amount.result) ≡ amount_at c.args.rows.now.rows (c.loop-before.before + 1) = omega (arith, ints, w.amount.ensures) in
+          let small = amount_small c.args.rows.now (c.loop-before.before + 1) c.len-before-end.ensures.valid (omega arith) (omega arith) in
+          record {
+            total = rw (w.total-is, w.next_total.ensures, amount) (covered-yes c.loop-before.total p c.args.rows.now c.loop-before.before (omega arith) (sym c.covers.ensures ∙ w.if-covers.true) inv.total);
+            within = rw (w.total-is, w.next_total.ensures, amount) (within-next c.loop-before.total c.loop-before.before _ small inv.within);
+          }
       | else-covers w ↦ record {
         total = rw w.total-is (covered-no c.loop-before.total p c.args.rows.now c.loop-before.before (omega arith) (sym c.covers.ensures ∙ w.if-covers.false) inv.total);
-        within = rw w.total-is (within-more c.loop-before.total c.loop-before.before inv.within)
+        within = rw w.total-is (within-more c.loop-before.total c.loop-before.before inv.within);
       }
     ]

@@ -6,6 +6,6 @@ use Rattle.qc_session.proofs.total.total_at.Given as goal
 
 abbrev pub invariant-loop-before : goal.invariant-loop-before
 invariant-loop-before l = record {
-    total : IsTotal l.total (filter (covers text_eq (cell_of_fields l.cell)) (take l.before l.rows.rows));
-    within : IsWithin l.total l.before
-  }
+  total : IsTotal l.total (filter (covers text_eq (cell_of_fields l.cell)) (take l.before l.rows.rows));
+  within : IsWithin l.total l.before;
+}

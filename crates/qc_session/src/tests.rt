@@ -1,0 +1,283 @@
+use crate::run;
+use qc_io::{MemoryFiles, MemorySink};
+use std::alloc::{AllocError, Global};
+use std::process::Abort;
+use std::test::Fail;
+
+const SCHEMA: &str = "qcube 1\nid id\ndim store\ndim product\ndim season\nmeasure sale 0\n";
+
+const BASE: &[u8] = b"id,store,product,season,sale\n1,S1,P1,s,6\n2,S1,P2,s,12\n3,S2,P1,f,9\n";
+
+// The words, each a text of its own.
+fn words(alloc: Global, texts: &[&str]) -> Result<Vec<String>, AllocError> {
+    let mut words = Vec::new(alloc);
+    for text in texts {
+        words.push(String::from_str(alloc, text)?)?;
+    }
+    Ok(words)
+}
+
+// How a run ended, what it wrote and what it told.
+#[derive(Drop)]
+struct Ran {
+    status: u8,
+    skipped: usize,
+    out: MemorySink,
+    err: MemorySink,
+}
+
+// Runs a script over files in memory. The calls of the files and the writes to out that are listed fail.
+fn run_over(
+    alloc: Global,
+    schema: &[u8],
+    base: &[u8],
+    script: &[u8],
+    reads: &[u64],
+    writes: &[u64],
+) -> Result<Ran, AllocError> {
+    let mut files = MemoryFiles::new(alloc, reads, 7)?;
+    files.add("s.schema", schema)?;
+    files.add("base.csv", base)?;
+    files.add("script", script)?;
+    let mut out = MemorySink::new(alloc, writes, 1000, 2000)?;
+    let mut err = MemorySink::new(alloc, &[], 5, 200)?;
+    let words = words(alloc, &["run", "s.schema", "script"])?;
+    let outcome = run(alloc, &words, &mut files, &mut out, &mut err);
+    Ok(Ran {
+        status: outcome.status,
+        skipped: outcome.skipped.len(),
+        out,
+        err,
+    })
+}
+
+// With ample memory a script has these replies, and no line is skipped.
+fn replies(
+    rt: &impl Abort,
+    alloc: Global,
+    schema: &str,
+    base: &[u8],
+    script: &[u8],
+    out: &str,
+) -> Result<(), AllocError> {
+    let ran = run_over(alloc, schema.as_bytes(), base, script, &[], &[])?;
+    assert_eq!(rt; ran.status, 0);
+    assert_eq!(rt; ran.skipped, 0);
+    assert_eq!(rt; ran.out.bytes(), out.as_bytes());
+    assert!(rt; ran.err.bytes().is_empty());
+    Ok(())
+}
+
+// A run ends with this status, and err has this line.
+fn ends(rt: &impl Abort, ran: &Ran, status: u8, out: &str, err: &str) {
+    assert_eq!(rt; ran.status, status);
+    assert_eq!(rt; ran.out.bytes(), out.as_bytes());
+    assert_eq!(rt; ran.err.bytes(), err.as_bytes());
+}
+
+#[test]
+fn points_of_the_worked_table(rt: HostRuntime) -> Result<(), Fail> {
+    let script =
+        b"load base.csv\npoint *,*,*\npoint S1,*,*\npoint *,P2,f\npoint *,P2,*\npoint S2,P1,f\npoint S3,*,*";
+    let out = "applied,1,3\npoint,2,*,*,*,3,27,6,12,9/1\npoint,3,S1,*,*,2,18,6,12,9/1\nnone,4\n\
+        point,5,*,P2,*,1,12,12,12,12/1\npoint,6,S2,P1,f,1,9,9,9,9/1\nnone,7\n";
+    replies(&rt, rt.alloc(), SCHEMA, BASE, script, out)?;
+    Ok(())
+}
+
+#[test]
+fn scripts_that_are_odd_but_good(rt: HostRuntime) -> Result<(), Fail> {
+    let cases: [(&[u8], &str); 7] = [
+        (b"", ""),
+        (b"# nothing\n\n", ""),
+        (
+            b"\xEF\xBB\xBFload base.csv\r\npoint *,*,*\r",
+            "applied,1,3\npoint,2,*,*,*,3,27,6,12,9/1\n",
+        ),
+        (b"\n#\n\r\nload base.csv", "applied,4,3\n"),
+        (b"point *,*,*\n", "none,1\n"),
+        (
+            b"load base.csv\npoint ,*,*\npoint **,*,*\npoint a b,*,*\n",
+            "applied,1,3\nnone,2\nnone,3\nnone,4\n",
+        ),
+        (
+            b"load base.csv\npoint *,\xC3\xA9,*\n",
+            "applied,1,3\nnone,2\n",
+        ),
+    ];
+    for (script, out) in cases {
+        replies(&rt, rt.alloc(), SCHEMA, BASE, script, out)?;
+    }
+    Ok(())
+}
+
+#[test]
+fn lines_that_are_refused(rt: HostRuntime) -> Result<(), Fail> {
+    let cases: [(&[u8], &str); 16] = [
+        (
+            b"frobnicate\n\xFF\nstats\n",
+            "refused,1,command\nrefused,2,utf8\nrefused,3,command\n",
+        ),
+        (b" \n", "refused,1,command\n"),
+        (b"Load base.csv\n", "refused,1,command\n"),
+        (b"load\n", "refused,1,form\n"),
+        (b"load \n", "refused,1,form\n"),
+        (
+            b"load base.csv\nload base.csv\n",
+            "applied,1,3\nrefused,2,not-empty\n",
+        ),
+        (b"point\n", "refused,1,form\n"),
+        (b"point *,*\n", "refused,1,form\n"),
+        (b"point *,*,*,*\n", "refused,1,form\n"),
+        (b"point \"S1\",*,*\n", "refused,1,form\n"),
+        (b"point ?,*,*\n", "refused,1,form\n"),
+        (b"point *,|a,*\n", "refused,1,form\n"),
+        (b"point *,~a~b,*\n", "refused,1,form\n"),
+        (b"point *,*,=s\n", "refused,1,form\n"),
+        (b"point \xEF\xBB\xBF*,*,*\n", "refused,1,form\n"),
+        (b"point *,*,a\rb\n", "refused,1,form\n"),
+    ];
+    for (script, out) in cases {
+        replies(&rt, rt.alloc(), SCHEMA, BASE, script, out)?;
+    }
+    Ok(())
+}
+
+#[test]
+fn base_files_that_are_refused(rt: HostRuntime) -> Result<(), Fail> {
+    let cases: [&[u8]; 10] = [
+        b"",
+        b"id,product,store,season,sale\n1,S1,P1,s,6\n",
+        b"id,store,product,season,sale\n1,S1,P1,6\n",
+        b"id,store,product,season,sale\n1,S1,P1,s,6\n01,S1,P1,s,6\n",
+        b"id,store,product,season,sale\n1,S1,P1,s,1000000000000\n",
+        b"id,store,product,season,sale\n18446744073709551616,S1,P1,s,6\n",
+        b"id,store,product,season,sale\n1,\xFF,P1,s,6\n",
+        b"id,store,product,season,sale\n1,\"S1\",P1,s,6\n",
+        b"id,store,product,season,sale\r\n1,S1,P1,s,6\r\n",
+        b"\xEF\xBB\xBFid,store,product,season,sale\n1,S1,P1,s,6\n",
+    ];
+    for base in cases {
+        replies(
+            &rt,
+            rt.alloc(),
+            SCHEMA,
+            base,
+            b"load base.csv\npoint *,*,*",
+            "refused,1,form\nnone,2\n",
+        )?;
+    }
+    Ok(())
+}
+
+#[test]
+fn base_files_that_are_odd_but_good(rt: HostRuntime) -> Result<(), Fail> {
+    let cases: [(&[u8], &str); 5] = [
+        (b"id,store,product,season,sale", "applied,1,0\nnone,2\n"),
+        (
+            b"id,store,product,season,sale\n1,S1,P1,s,6",
+            "applied,1,1\npoint,2,*,*,*,1,6,6,6,6/1\n",
+        ),
+        (
+            b"id,store,product,season,sale\n\n18446744073709551615,S1,P1,s,-999999999999\n\n",
+            "applied,1,1\npoint,2,*,*,*,1,-999999999999,-999999999999,-999999999999,-999999999999/1\n",
+        ),
+        (
+            b"id,store,product,season,sale\n1,,P1,s,5\n002,*,P1,s,-5\n",
+            "applied,1,2\npoint,2,*,*,*,2,0,-5,5,0/1\n",
+        ),
+        (
+            b"id,store,product,season,sale\n1,a,b,c,-1\n2,a,b,c,-4\n",
+            "applied,1,2\npoint,2,*,*,*,2,-5,-4,-1,-5/2\n",
+        ),
+    ];
+    for (base, out) in cases {
+        replies(
+            &rt,
+            rt.alloc(),
+            SCHEMA,
+            base,
+            b"load base.csv\npoint *,*,*",
+            out,
+        )?;
+    }
+    Ok(())
+}
+
+#[test]
+fn schemas_that_are_refused(rt: HostRuntime) -> Result<(), Fail> {
+    let cases: [&[u8]; 9] = [
+        b"",
+        b"qcube 1\nid id\ndim v\nmeasure m 0",
+        b"qcube 1\nid  id\ndim v\nmeasure m 0\n",
+        b"qcube 1\nid id\nmeasure m 0\n",
+        b"qcube 1\nid id\ndim v\ndim v\nmeasure m 0\n",
+        b"qcube 1\nid id\ndim op\nmeasure m 0\n",
+        b"qcube 1\nid id\ndim v\nmeasure m 2\n",
+        b"\xEF\xBB\xBFqcube 1\nid id\ndim v\nmeasure m 0\n",
+        b"qcube 1\nid i\ndim a\ndim b\ndim c\ndim d\ndim e\ndim f\ndim g\ndim h\ndim j\ndim k\ndim l\ndim n\ndim o\nmeasure m 0\n",
+    ];
+    for schema in cases {
+        let ran = run_over(rt.alloc(), schema, BASE, b"load base.csv", &[], &[])?;
+        ends(&rt, &ran, 6, "", "qcube: schema form\n");
+    }
+    Ok(())
+}
+
+#[test]
+fn words_that_are_no_form(rt: HostRuntime) -> Result<(), Fail> {
+    let alloc = rt.alloc();
+    let cases: [&[&str]; 5] = [
+        &[],
+        &["run"],
+        &["run", "s.schema"],
+        &["walk", "s.schema", "script"],
+        &["run", "a", "b", "c"],
+    ];
+    for texts in cases {
+        let mut files = MemoryFiles::new(alloc, &[], 7)?;
+        let mut out = MemorySink::new(alloc, &[], 7, 100)?;
+        let mut err = MemorySink::new(alloc, &[], 7, 100)?;
+        let outcome = run(alloc, &words(alloc, texts)?, &mut files, &mut out, &mut err);
+        assert_eq!(rt; outcome.status, 2);
+        assert!(rt; out.bytes().is_empty());
+        assert_eq!(rt;
+            err.bytes(),
+            b"usage: qcube run SCHEMA SCRIPT | qcube gen ROWS SEED\n".as_slice()
+        );
+    }
+    Ok(())
+}
+
+#[test]
+fn faults_of_the_files_and_of_out(rt: HostRuntime) -> Result<(), Fail> {
+    let alloc = rt.alloc();
+    let schema = SCHEMA.as_bytes();
+    let gone = run_over(
+        alloc,
+        schema,
+        BASE,
+        b"load base.csv\nload gone.csv\npoint *,*,*",
+        &[],
+        &[],
+    )?;
+    ends(
+        &rt,
+        &gone,
+        3,
+        "applied,1,3\n",
+        "qcube: cannot read gone.csv\n",
+    );
+    let first = run_over(alloc, schema, BASE, b"load base.csv", &[0], &[])?;
+    ends(&rt, &first, 3, "", "qcube: cannot read s.schema\n");
+    let second = run_over(
+        alloc,
+        schema,
+        BASE,
+        b"load base.csv\npoint *,*,*",
+        &[],
+        &[1],
+    )?;
+    ends(&rt, &second, 4, "applied,1,3\n", "qcube: cannot write\n");
+    Ok(())
+}
