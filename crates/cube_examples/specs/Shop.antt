@@ -46,6 +46,12 @@ module _ {A : Type 0} where
   class_hit upper agg lowers = record { upper = upper; agg = agg; lowers = lowers }
 
   module _ (n : Names A) where
+    -- the first store's record
+    abbrev pub store_record : Node A (Cell A)
+    store_record =
+        inner (cell (Some n.S1) any any) (cell any any any) (edge 2 n.s (cell (Some n.S1) any (Some n.s)))
+        (edge 1 n.P1 (cell (Some n.S1) (Some n.P1) any) ∷ edge 1 n.P2 (cell (Some n.S1) (Some n.P2) any) ∷ [])
+
     abbrev pub base : List (Row A)
     base = row 1 n.S1 n.P1 n.s (pos 6) ∷ row 2 n.S1 n.P2 n.s (pos 12) ∷ row 3 n.S2 n.P1 n.f (pos 9) ∷ []
 
@@ -63,8 +69,7 @@ module _ {A : Type 0} where
         ∷ ordered (edge 2 n.s (cell (Some n.S1) any (Some n.s))) (edge 2 n.f (cell (Some n.S2) (Some n.P1) (Some n.f))))
         ∷ class (cell any (Some n.P1) any) (Some (cell any any any)) (sums 2 (pos 15) (pos 6) (pos 9))
         (ordered (edge 2 n.s (cell (Some n.S1) (Some n.P1) (Some n.s))) (edge 2 n.f (cell (Some n.S2) (Some n.P1) (Some n.f))))
-        ∷ inner (cell (Some n.S1) any any) (cell any any any) (edge 2 n.s (cell (Some n.S1) any (Some n.s)))
-        (edge 1 n.P1 (cell (Some n.S1) (Some n.P1) any) ∷ edge 1 n.P2 (cell (Some n.S1) (Some n.P2) any) ∷ [])
+        ∷ store_record
         ∷ class (cell (Some n.S1) any (Some n.s)) (Some (cell (Some n.S1) any any)) (sums 2 (pos 18) (pos 6) (pos 12)) []
         ∷ inner (cell (Some n.S1) (Some n.P1) any) (cell (Some n.S1) any any) (edge 2 n.s (cell (Some n.S1) (Some n.P1) (Some n.s))) []
         ∷ class (cell (Some n.S1) (Some n.P1) (Some n.s)) (Some (cell (Some n.S1) (Some n.P1) any)) (sums 1 (pos 6) (pos 6) (pos 6)) []
@@ -86,8 +91,7 @@ module _ {A : Type 0} where
         (ordered (edge 2 n.s (cell (Some n.S1) (Some n.P1) (Some n.s))) (edge 2 n.f (cell (Some n.S2) (Some n.P1) (Some n.f))))
         ∷ class (cell any (Some n.P2) any) (Some (cell any any any)) (sums 2 (pos 15) (pos 3) (pos 12))
         (ordered (edge 2 n.s (cell (Some n.S1) (Some n.P2) (Some n.s))) (edge 2 n.f (cell (Some n.S2) (Some n.P2) (Some n.f))))
-        ∷ inner (cell (Some n.S1) any any) (cell any any any) (edge 2 n.s (cell (Some n.S1) any (Some n.s)))
-        (edge 1 n.P1 (cell (Some n.S1) (Some n.P1) any) ∷ edge 1 n.P2 (cell (Some n.S1) (Some n.P2) any) ∷ [])
+        ∷ store_record
         ∷ class (cell (Some n.S1) any (Some n.s)) (Some (cell (Some n.S1) any any)) (sums 2 (pos 18) (pos 6) (pos 12)) []
         ∷ inner (cell (Some n.S1) (Some n.P1) any) (cell (Some n.S1) any any) (edge 2 n.s (cell (Some n.S1) (Some n.P1) (Some n.s))) []
         ∷ class (cell (Some n.S1) (Some n.P1) (Some n.s)) (Some (cell (Some n.S1) (Some n.P1) any)) (sums 1 (pos 6) (pos 6) (pos 6)) []

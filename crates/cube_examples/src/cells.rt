@@ -1,8 +1,9 @@
 //! Cells of three dimensions.
 
-ghost use Rattle.std.specs.Prelude.{◌≡◌, Some, None, true, false};
+ghost use Rattle.std.specs.Prelude.{◌≡◌, Some, None, true, false, codes};
 ghost use Rattle.std.specs.Ordering.{nat_cmp, eq_by_cmp};
 ghost use Rattle.std.specs.declared.cmp.Ordering.TheVariants.{Less, Equal, Greater};
+ghost use Rattle.cube_defs.specs.Text.{text_cmp, text_eq};
 ghost use Rattle.cube_defs.specs.Cell.{last, depth, upto, with_value, without, leq, meet, cell_eq, cell_cmp, mask};
 ghost use Rattle.cube_examples.specs.Shop.{any};
 ghost use Rattle.cube_examples.specs.Codes.{code_cell};
@@ -56,4 +57,14 @@ pub fn masks()
     ensures none { mask (code_cell any any any) ≡ 0 }
     ensures first_and_last { mask (code_cell (Some 3) any (Some 7)) ≡ 5 }
     ensures middle { mask (code_cell any (Some 0) any) ≡ 2 }
+{}
+
+/// Texts are compared by their bytes, and not by their lengths or as numbers.
+pub fn text_order()
+    ensures first_byte { text_cmp (codes "S2") (codes "s") ≡ Less }
+    ensures later_byte { text_cmp (codes "S10") (codes "S2") ≡ Less }
+    ensures front { text_cmp (codes "S1") (codes "S") ≡ Greater }
+    ensures capitals { text_cmp (codes "a") (codes "B") ≡ Greater }
+    ensures same { text_eq (codes "S1") (codes "S1") ≡ true }
+    ensures other { text_eq (codes "S1") (codes "s1") ≡ false }
 {}

@@ -2,9 +2,9 @@
 
 ghost use Rattle.std.specs.Prelude.{◌≡◌, ◌∷◌, [], length, pos, negsuc};
 ghost use Rattle.std.specs.Ordering.{nat_cmp};
-ghost use Rattle.cube_defs.specs.Tree.{classes, nodes, tree_edges, links, tree, above, IsCanonical};
-ghost use Rattle.cube_examples.specs.Shop.{base, plus4, base_table, plus4_table, row};
-ghost use Rattle.cube_examples.specs.Codes.{coded, s_first, numbered_table};
+ghost use Rattle.cube_defs.specs.Tree.{classes, nodes, tree_edges, links, tree, above, renamed, IsCanonical};
+ghost use Rattle.cube_examples.specs.Shop.{base, plus4, base_table, plus4_table, row, store_record};
+ghost use Rattle.cube_examples.specs.Codes.{coded, s_first, table, place_from, numbered_table, numbered_store, no_tree, doubled_table, altered_table};
 
 /// The rows have six classes, eleven nodes, ten edges to children and five links.
 pub fn base_counts()
@@ -50,4 +50,27 @@ pub fn above_the_fourth()
 #[tactic(auto, using(crate::proofs::Numbered::numbered_is_canonical))]
 pub fn canonical_base()
     ensures { IsCanonical nat_cmp 1 (base coded) numbered_table }
+{}
+
+/// A record has the numbers of its parent, its forced child and its targets.
+pub fn record_with_numbers()
+    ensures { renamed (place_from 0 table) (store_record coded) ≡ numbered_store }
+{}
+
+/// A map that lacks a node isn't canonical.
+#[tactic(auto, using(crate::proofs::Refused::lacks_nodes))]
+pub fn missing_node()
+    ensures { IsCanonical nat_cmp 1 (base coded) no_tree → ⊥ }
+{}
+
+/// A map with a node under two numbers isn't canonical.
+#[tactic(auto, using(crate::proofs::Refused::has_a_node_twice))]
+pub fn node_twice()
+    ensures { IsCanonical nat_cmp 1 (base coded) doubled_table → ⊥ }
+{}
+
+/// A map with a record that isn't the node's isn't canonical.
+#[tactic(auto, using(crate::proofs::Refused::has_a_wrong_record))]
+pub fn wrong_record()
+    ensures { IsCanonical nat_cmp 1 (base coded) altered_table → ⊥ }
 {}
