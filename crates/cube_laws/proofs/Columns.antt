@@ -5,7 +5,8 @@ use Rattle.std.specs.List.{AllByRecursion}
 use Rattle.cube_defs.specs.Cell.{Cell, entry_leq, leq, cell_of}
 use Rattle.cube_defs.specs.Rows.{Row, cov, meet_all, closure}
 use Rattle.cube_laws.proofs.Cells.{IsEquality, leq_trans}
-use Rattle.cube_laws.proofs.Closures.{cells_of, all_map, meet_all_above, meet_all_below}
+use Rattle.cube_laws.proofs.Lists.{all_map}
+use Rattle.cube_laws.proofs.Closures.{cells_of, all_cells, meet_all_above, meet_all_below}
 
 module _ {A : Type 0} where
   -- the cell with one value, in its last dimension
@@ -17,10 +18,6 @@ module _ {A : Type 0} where
   slice_get-cell_of [] i v = (λ h. cc, λ h. cc)
   slice_get-cell_of (x ∷ t) zero v = (λ h. cc, λ h. cc)
   slice_get-cell_of (x ∷ t) (suc i) v = slice_get-cell_of t i v
-
-  each_map : (P : Cell A → Type 0) (Q : Row A → Type 0) (rows : List (Row A)) → ((r : Row A) → P (cell_of r.tuple) ↔ Q r) → AllByRecursion P (cells_of rows) ↔ AllByRecursion Q rows
-  each_map P Q [] f = (λ h. h, λ h. h)
-  each_map P Q (r ∷ rows) f = (λ h. ((f r).0 h.0, (each_map P Q rows f).0 h.1), λ h. ((f r).1 h.0, (each_map P Q rows f).1 h.1))
 
 module _ {A : Type 0} {eq : A → A → Bool} (law : IsEquality eq) where
   pub entry_of_leq : (v : A) (f : Option A) → entry_leq eq (Some v) f ≡ true → f ≡ Some v
@@ -44,5 +41,7 @@ module _ {A : Type 0} {eq : A → A → Bool} (law : IsEquality eq) where
   pub closure-entry : (rows : List (Row A)) (c u : Cell A) (i : ℕ) (v : A) → closure eq rows c ≡ Some u → (slice_get u i ≡ Some (Some v)) ↔ AllByRecursion (λ row. slice_get row.tuple i ≡ Some v) (cov eq rows c)
   closure-entry rows c u i v e =
       let m = meet_all-entry (cells_of (cov eq rows c)) u i v e in
-      let f = each_map (λ d. slice_get d i ≡ Some (Some v)) (λ row. slice_get row.tuple i ≡ Some v) (cov eq rows c) (λ r. slice_get-cell_of r.tuple i v) in
-      (λ h. f.0 (m.0 h), λ h. m.1 (f.1 h))
+      let f = all_cells (λ d. slice_get d i ≡ Some (Some v)) (cov eq rows c) in (
+        λ h. all_map _ _ (cov eq rows c) (λ r k. (slice_get-cell_of r.tuple i v).0 k) (f.0 (m.0 h)),
+        λ h. m.1 (f.1 (all_map _ _ (cov eq rows c) (λ r k. (slice_get-cell_of r.tuple i v).1 k) h)),
+      )

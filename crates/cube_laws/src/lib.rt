@@ -1,2 +1,4 @@
-//! The laws of the cube, over any value type.
+//! The laws of the cube, over any type of values.
 #![tactic(auto)]
+
+pub mod values;

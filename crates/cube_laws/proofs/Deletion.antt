@@ -1,0 +1,93 @@
+-- A class loses the row r: its new closure and aggregate, from those of more specific classes.
+use Rattle.std.proofs.Common.{◌≡◌, ℕ, zero, suc, ◌<◌, ◌≤◌, Bool, true, false, cond, Option, Some, None, List, [], ◌∷◌, ◌++◌, filter, refl, sym, ap, subst, ◌∙◌, true≢false, arith, slice_get}
+use Rattle.std.proofs.lemmas.Bool.{and_parts, and_from, cond-true, cond-false, cond_both, and_right}
+use Rattle.std.specs.List.{AllByRecursion}
+use Rattle.std.specs.Option.{option_eq, option_map}
+use Rattle.cube_defs.specs.Cell.{Cell, leq, entry_leq, cell_of, cell_eq, with_value, keep, depth}
+use Rattle.cube_defs.specs.Rows.{Row, covers, cov, closure, meet_next, is_class, is_node, agg, agg_of}
+use Rattle.cube_laws.specs.Lists.{Once}
+use Rattle.cube_laws.specs.Total.{total, join_aggs, join_cells, agg_at, agg_some}
+use Rattle.cube_laws.proofs.Lists.{filter_same, always, filter-insert_apart, all-insert}
+use Rattle.cube_laws.proofs.Cells.{IsEquality, leq_antisymm, leq_refl}
+use Rattle.cube_laws.proofs.Closures.{all_cells, closure_covers, leq-closure, meet_next_below, meet_next_rest, is_class-is}
+use Rattle.cube_laws.proofs.Totals.{total_same, total_filter-insert}
+use Rattle.cube_laws.proofs.RowTotals.{cells_add, aggs_add, row_cell, row_agg, closure_total, agg_total}
+use Rattle.cube_laws.specs.Parts.{has_value, HasAll}
+use Rattle.cube_laws.proofs.Partition.{closure_parts, agg_parts, covers_with, alone}
+use Rattle.cube_laws.proofs.OneRow.{closure-insert, closure_stays, cov_stays, below_row}
+
+-- the number of dimensions with a value
+abbrev pub values : {A : Type 0} → Cell A → ℕ
+values [] = 0
+values (None ∷ c) = values c
+values (Some v ∷ c) = suc (values c)
+
+module _ {A : Type 0} {eq : A → A → Bool} (law : IsEquality eq) where
+  entry_values : (e f : Option A) (c d : Cell A) → entry_leq eq e f ≡ true → values c ≤ values d → values (e ∷ c) ≤ values (f ∷ d)
+  entry_values None None c d h k = k
+  entry_values None (Some w) c d h k = omega arith
+  entry_values (Some v) None c d h k = absurd (true≢false (sym h))
+  entry_values (Some v) (Some w) c d h k = omega arith
+
+  pub values_mono : (c d : Cell A) → leq eq c d ≡ true → values c ≤ values d
+  values_mono [] d h = omega arith
+  values_mono (e ∷ c) [] h = absurd (true≢false (sym h))
+  values_mono (e ∷ c) (f ∷ d) h = let p = and_parts (entry_leq eq e f) (leq eq c d) h in entry_values e f c d p.0 (values_mono c d p.1)
+
+  pub values_with : (c : Cell A) (i : ℕ) (v : A) → slice_get c i ≡ Some None → values (with_value c i v) ≡ suc (values c)
+  values_with [] i v h = cc
+  values_with (None ∷ c) zero v h = refl
+  values_with (Some w ∷ c) zero v h = cc
+  values_with (None ∷ c) (suc i) v h = values_with c i v h
+  values_with (Some w ∷ c) (suc i) v h = ap suc (values_with c i v h)
+
+  module _ (xs : List (Row A)) (r : Row A) (ys : List (Row A)) where
+    -- a cell and its old closure cover the same rows afterwards
+    pub cov_after : (c w : Cell A) → closure eq (xs ++ r ∷ ys) c ≡ Some w → cov eq (xs ++ ys) c ≡ cov eq (xs ++ ys) w
+    cov_after c w e =
+        filter_same (covers eq c) (covers eq w) (xs ++ ys)
+        (all-insert (λ row. covers eq c row ≡ covers eq w row) xs r ys ((all_cells (λ d. leq eq c d ≡ leq eq w d) (xs ++ r ∷ ys)).0 (closure_covers law (xs ++ r ∷ ys) c w e))).0
+
+    pub closure_after : (c w : Cell A) → closure eq (xs ++ r ∷ ys) c ≡ Some w → closure eq (xs ++ ys) c ≡ closure eq (xs ++ ys) w
+    closure_after c w e = closure_total eq (xs ++ ys) c ∙ ap (total (join_cells eq) None row_cell) (cov_after c w e) ∙ sym (closure_total eq (xs ++ ys) w)
+
+    pub agg_after : (measures : ℕ) (c w : Cell A) → closure eq (xs ++ r ∷ ys) c ≡ Some w → agg_at eq measures (xs ++ ys) c ≡ agg_at eq measures (xs ++ ys) w
+    agg_after measures c w e = ap (agg_some measures) (cov_after c w e)
+
+    -- u has Any in dimension i, u <= r, and t is r's value there: the step of the induction on the falling number of values
+    module _ (u : Cell A) (i : ℕ) (t : A) (any : slice_get u i ≡ Some None) (above : covers eq u r ≡ true) (has : has_value eq i t r ≡ true) where
+      with_above : covers eq (with_value u i t) r ≡ true
+      with_above = covers_with law u i t r any ∙ and_from _ _ above has
+
+      pub step_exists : (w : Cell A) × (closure eq (xs ++ r ∷ ys) (with_value u i t) ≡ Some w)
+      step_exists = (meet_next eq (cell_of r.tuple) (closure eq (xs ++ ys) (with_value u i t)), closure-insert law xs r ys (with_value u i t) ∙ cond-true _ _ _ with_above)
+
+      pub step_above : (w : Cell A) → closure eq (xs ++ r ∷ ys) (with_value u i t) ≡ Some w → covers eq w r ≡ true
+      step_above w e = below_row law xs r ys (with_value u i t) w with_above e
+
+      pub step_more : (w : Cell A) → closure eq (xs ++ r ∷ ys) (with_value u i t) ≡ Some w → values u < values w
+      step_more w e =
+          let a : values (with_value u i t) ≤ values w = values_mono (with_value u i t) w (leq-closure law (xs ++ r ∷ ys) (with_value u i t) w e) in
+          let b : values (with_value u i t) ≡ suc (values u) = values_with u i t any in
+          omega arith
+
+      -- the part of another value stays
+      pub other_below : (v : A) → eq v t ≡ false → covers eq (with_value u i v) r ≡ false
+      other_below v apart = covers_with law u i v r any ∙ and_right (covers eq u r) (has_value eq i v r) (alone law i v t r apart has)
+
+      -- the new closure and aggregate by the values, from the new ones of w and the old ones of the other parts
+      pub closure_by : (w : Cell A) (vs : List A) → closure eq (xs ++ r ∷ ys) (with_value u i t) ≡ Some w → Once eq vs → HasAll eq (xs ++ ys) u i vs
+          → closure eq (xs ++ ys) u ≡ total (join_cells eq) None (λ v. cond (eq v t) (closure eq (xs ++ ys) w) (closure eq (xs ++ r ∷ ys) (with_value u i v))) vs
+      closure_by w vs e once all =
+          closure_parts law (xs ++ ys) u i vs any once all
+          ∙ total_same (join_cells eq) None (cells_add law) _ _ vs (always _ vs (λ v. cond_both (eq v t) _ _ (λ o. closure eq (xs ++ ys) (with_value u i v) ≡ o)
+          (λ h. ap (λ x. closure eq (xs ++ ys) (with_value u i x)) (law.exact v t h) ∙ closure_after (with_value u i t) w e)
+          (λ h. sym (closure_stays law xs r ys (with_value u i v) (other_below v h)))))
+
+      pub agg_by : (measures : ℕ) (w : Cell A) (vs : List A) → closure eq (xs ++ r ∷ ys) (with_value u i t) ≡ Some w → Once eq vs → HasAll eq (xs ++ ys) u i vs
+          → agg_at eq measures (xs ++ ys) u ≡ total join_aggs None (λ v. cond (eq v t) (agg_at eq measures (xs ++ ys) w) (agg_at eq measures (xs ++ r ∷ ys) (with_value u i v))) vs
+      agg_by measures w vs e once all =
+          agg_parts law measures (xs ++ ys) u i vs any once all
+          ∙ total_same join_aggs None aggs_add _ _ vs (always _ vs (λ v. cond_both (eq v t) _ _ (λ o. agg_at eq measures (xs ++ ys) (with_value u i v) ≡ o)
+          (λ h. ap (λ x. agg_at eq measures (xs ++ ys) (with_value u i x)) (law.exact v t h) ∙ agg_after measures (with_value u i t) w e)
+          (λ h. sym (ap (agg_some measures) (cov_stays law xs r ys (with_value u i v) (other_below v h))))))

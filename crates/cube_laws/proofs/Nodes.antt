@@ -1,0 +1,57 @@
+-- A node is the front of a class.
+use Rattle.std.proofs.Common.{◌≡◌, ◌↔◌, ℕ, Bool, true, Option, Some, None, List, length, refl, sym, ap, subst, ◌∙◌, true≢false}
+use Rattle.std.specs.declared.cmp.Ordering.{Ordering}
+use Rattle.std.specs.Ordering.{eq_by_cmp}
+use Rattle.std.specs.Cmp.{IsTotalOrder}
+use Rattle.std.specs.FinMap.{IsAntisymmetric}
+use Rattle.std.specs.List.{AllByRecursion}
+use Rattle.std.specs.Option.{option_eq, option_map}
+use Rattle.cube_defs.specs.Cell.{Cell, leq, cell_eq, depth, keep}
+use Rattle.cube_defs.specs.Rows.{Row, covers, closure, is_class, is_node}
+use Rattle.cube_defs.specs.Tree.{covered, nodes}
+use Rattle.cube_laws.proofs.Cells.{IsEquality, leq_antisymm, keep-leq, keep_mono, keep-depth, keep-depth_keep, length-keep}
+use Rattle.cube_laws.proofs.Closures.{leq-closure, closure_idem, closure_mono, closure_some, option_eq-is, is_class-is}
+use Rattle.cube_laws.proofs.Covered.{covered-is, closure_length, some_covered}
+use Rattle.cube_laws.specs.Lists.{Among}
+use Rattle.cube_laws.proofs.Lists.{among_filter, filter_among, all_at}
+use Rattle.cube_laws.proofs.Orders.{equality_by}
+
+module _ {A : Type 0} {eq : A → A → Bool} (law : IsEquality eq) where
+  -- a node is its closure's front
+  pub is_node-is : (rows : List (Row A)) (p : Cell A) → (is_node eq rows p ≡ true) ↔ (option_map (keep (depth p)) (closure eq rows p) ≡ Some p)
+  is_node-is rows p = option_eq-is law _ p
+
+  -- the nodes are the fronts of the classes
+  pub front_of_class : (rows : List (Row A)) (p u : Cell A) → closure eq rows p ≡ Some u → is_node eq rows p ≡ true → (is_class eq rows u ≡ true) × (keep (depth p) u ≡ p)
+  front_of_class rows p u e h =
+      let f : Some (keep (depth p) u) ≡ Some p = ap (option_map (keep (depth p))) (sym e) ∙ (is_node-is rows p).0 h in
+      ((is_class-is law rows u).1 (closure_idem law rows p u e), cc)
+
+  pub class_fronts : (rows : List (Row A)) (k : ℕ) (u : Cell A) → is_class eq rows u ≡ true → is_node eq rows (keep k u) ≡ true
+  class_fronts rows k u h = go (closure_some law rows (keep k u) u u (keep-leq law k u) is)
+    where
+      is : closure eq rows u ≡ Some u
+      is = (is_class-is law rows u).0 h
+
+      go : (w : Cell A) × (closure eq rows (keep k u) ≡ Some w) → is_node eq rows (keep k u) ≡ true
+      go (w, e) =
+          let low : leq eq (keep k u) (keep (depth (keep k u)) w) ≡ true = subst (λ x. leq eq x (keep (depth (keep k u)) w) ≡ true) (keep-depth (keep k u)) (keep_mono law (depth (keep k u)) _ _ (leq-closure law rows (keep k u) w e)) in
+          let high : leq eq (keep (depth (keep k u)) w) (keep k u) ≡ true =
+          subst (λ x. leq eq (keep (depth (keep k u)) w) x ≡ true) (keep-depth_keep k u) (keep_mono law (depth (keep k u)) w u (closure_mono law rows (keep k u) u w u (keep-leq law k u) e is)) in
+          (is_node-is rows (keep k u)).1 (ap (option_map (keep (depth (keep k u)))) e ∙ ap (λ x. Some x) (leq_antisymm law _ _ high low))
+
+module _ {A : Type 0} {cmp : A → A → Ordering} (total : IsTotalOrder cmp) (anti : IsAntisymmetric cmp) (n : ℕ) where
+  -- each node stands in the list of nodes
+  pub nodes-is : (rows : List (Row A)) → AllByRecursion (λ r. length r.tuple ≡ n) rows → (p : Cell A) → Among p (nodes cmp rows) ↔ (is_node (eq_by_cmp cmp) rows p ≡ true)
+  nodes-is rows a p = (λ h. (filter_among (is_node (eq_by_cmp cmp) rows) p (covered cmp rows) h).1, λ h. go (closure (eq_by_cmp cmp) rows p) refl h)
+    where
+      law : IsEquality (eq_by_cmp cmp)
+      law = equality_by total anti
+
+      go : (o : Option (Cell A)) → closure (eq_by_cmp cmp) rows p ≡ o → is_node (eq_by_cmp cmp) rows p ≡ true → Among p (nodes cmp rows)
+      go None e h = absurd (true≢false (sym h ∙ ap (λ o. option_eq (cell_eq (eq_by_cmp cmp)) (option_map (keep (depth p)) o) (Some p)) e))
+      go (Some u) e h =
+          let c : (r : Row A) × Among r rows × (covers (eq_by_cmp cmp) p r ≡ true) = some_covered (eq_by_cmp cmp) n p u rows e in
+          let front : keep (depth p) u ≡ p = (front_of_class law rows p u e h).1 in
+          let long : length p ≡ n = sym (ap length front) ∙ length-keep (depth p) u ∙ closure_length (eq_by_cmp cmp) n p u rows a e in
+          among_filter (is_node (eq_by_cmp cmp) rows) p (covered cmp rows) ((covered-is total anti rows p).1 (c.0, c.1, long ∙ sym (all_at (λ r. length r.tuple ≡ n) c.0 rows a c.1), c.2)) h

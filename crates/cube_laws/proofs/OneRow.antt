@@ -1,0 +1,81 @@
+-- The rows xs ++ r ∷ ys are the rows xs ++ ys and one more: what an insertion adds, and a deletion takes away.
+use Rattle.std.proofs.Common.{◌≡◌, ℕ, zero, suc, ◌<◌, ◌≤◌, Bool, true, false, cond, Option, Some, None, List, [], ◌∷◌, ◌++◌, filter, refl, sym, ap, subst, ◌∙◌, true≢false, arith, slice_get}
+use Rattle.std.proofs.lemmas.Bool.{and_parts, and_from, cond-true, cond-false, cond_both, and_right}
+use Rattle.std.specs.List.{AllByRecursion}
+use Rattle.std.specs.Option.{option_eq, option_map}
+use Rattle.cube_defs.specs.Cell.{Cell, leq, entry_leq, cell_of, cell_eq, with_value, keep, depth}
+use Rattle.cube_defs.specs.Rows.{Row, covers, cov, closure, meet_next, is_class, is_node, agg, agg_of}
+use Rattle.cube_laws.specs.Lists.{Once}
+use Rattle.cube_laws.specs.Total.{total, join_aggs, join_cells, agg_at, agg_some}
+use Rattle.cube_laws.proofs.Lists.{filter_same, always, filter-insert_apart, all-insert}
+use Rattle.cube_laws.proofs.Cells.{IsEquality, leq_antisymm, leq_refl}
+use Rattle.cube_laws.proofs.Closures.{all_cells, closure_covers, leq-closure, meet_next_below, meet_next_rest, is_class-is}
+use Rattle.cube_laws.proofs.Totals.{total_same, total_filter-insert}
+use Rattle.cube_laws.proofs.RowTotals.{cells_add, aggs_add, row_cell, row_agg, closure_total, agg_total}
+use Rattle.cube_laws.proofs.Nodes.{front_of_class, class_fronts}
+
+module _ {A : Type 0} {eq : A → A → Bool} (law : IsEquality eq) where
+  module _ (xs : List (Row A)) (r : Row A) (ys : List (Row A)) where
+    -- what a cell that does not cover r says, stays
+    pub cov_stays : (c : Cell A) → covers eq c r ≡ false → cov eq (xs ++ r ∷ ys) c ≡ cov eq (xs ++ ys) c
+    cov_stays c h = filter-insert_apart (covers eq c) xs r ys h
+
+    pub closure_stays : (c : Cell A) → covers eq c r ≡ false → closure eq (xs ++ r ∷ ys) c ≡ closure eq (xs ++ ys) c
+    closure_stays c h = closure_total eq (xs ++ r ∷ ys) c ∙ ap (total (join_cells eq) None row_cell) (cov_stays c h) ∙ sym (closure_total eq (xs ++ ys) c)
+
+    pub agg_stays : (measures : ℕ) (c : Cell A) → covers eq c r ≡ false → agg eq measures (xs ++ r ∷ ys) c ≡ agg eq measures (xs ++ ys) c
+    agg_stays measures c h = ap (agg_of measures) (cov_stays c h)
+
+    pub class_stays : (c : Cell A) → covers eq c r ≡ false → is_class eq (xs ++ r ∷ ys) c ≡ is_class eq (xs ++ ys) c
+    class_stays c h = ap (λ o. option_eq (cell_eq eq) o (Some c)) (closure_stays c h)
+
+    pub node_stays : (c : Cell A) → covers eq c r ≡ false → is_node eq (xs ++ r ∷ ys) c ≡ is_node eq (xs ++ ys) c
+    node_stays c h = ap (λ o. option_eq (cell_eq eq) (option_map (keep (depth c)) o) (Some c)) (closure_stays c h)
+
+    -- what the row added to the cells that cover it
+    pub closure-insert : (c : Cell A) → closure eq (xs ++ r ∷ ys) c ≡ cond (covers eq c r) (Some (meet_next eq (cell_of r.tuple) (closure eq (xs ++ ys) c))) (closure eq (xs ++ ys) c)
+    closure-insert c =
+        closure_total eq (xs ++ r ∷ ys) c
+        ∙ total_filter-insert (join_cells eq) None (cells_add law) row_cell (covers eq c) xs r ys
+        ∙ ap (λ o. cond (covers eq c r) (Some (meet_next eq (cell_of r.tuple) o)) o) (sym (closure_total eq (xs ++ ys) c))
+
+    pub agg_at-insert : (measures : ℕ) (c : Cell A) → agg_at eq measures (xs ++ r ∷ ys) c ≡ cond (covers eq c r) (join_aggs (row_agg measures r) (agg_at eq measures (xs ++ ys) c)) (agg_at eq measures (xs ++ ys) c)
+    agg_at-insert measures c =
+        agg_total measures (cov eq (xs ++ r ∷ ys) c)
+        ∙ total_filter-insert join_aggs None aggs_add (row_agg measures) (covers eq c) xs r ys
+        ∙ ap (λ o. cond (covers eq c r) (join_aggs (row_agg measures r) o) o) (sym (agg_total measures (cov eq (xs ++ ys) c)))
+
+    -- the closure of a cell that covers r is below r
+    pub below_row : (c w : Cell A) → covers eq c r ≡ true → closure eq (xs ++ r ∷ ys) c ≡ Some w → covers eq w r ≡ true
+    below_row c w h e =
+        let is : meet_next eq (cell_of r.tuple) (closure eq (xs ++ ys) c) ≡ w = let k : Some w ≡ Some (meet_next eq (cell_of r.tuple) (closure eq (xs ++ ys) c)) = sym e ∙ closure-insert c ∙ cond-true _ _ _ h in cc in
+        subst (λ x. leq eq x (cell_of r.tuple) ≡ true) is (meet_next_below law (cell_of r.tuple) (closure eq (xs ++ ys) c))
+
+    -- a closure gets no smaller
+    pub closure_grows : (c u w : Cell A) → closure eq (xs ++ r ∷ ys) c ≡ Some u → closure eq (xs ++ ys) c ≡ Some w → leq eq u w ≡ true
+    closure_grows c u w e f = cond_both (covers eq c r) _ _ (λ o. o ≡ Some u → leq eq u w ≡ true)
+        (λ h k. let is : meet_next eq (cell_of r.tuple) (closure eq (xs ++ ys) c) ≡ u = cc in subst (λ x. leq eq x w ≡ true) is (meet_next_rest law (cell_of r.tuple) (closure eq (xs ++ ys) c) w f))
+        (λ h k. let is : w ≡ u = let z : Some w ≡ Some u = sym f ∙ k in cc in subst (λ x. leq eq x w ≡ true) is (leq_refl law w))
+        (sym (closure-insert c) ∙ e)
+
+    -- a cell that covers a row still, covered one before
+    pub covered-insert : (c w : Cell A) → closure eq (xs ++ ys) c ≡ Some w → (u : Cell A) × (closure eq (xs ++ r ∷ ys) c ≡ Some u)
+    covered-insert c w e = cond_both (covers eq c r) _ _ (λ o. closure eq (xs ++ r ∷ ys) c ≡ o → (u : Cell A) × (closure eq (xs ++ r ∷ ys) c ≡ Some u)) (λ h k. (_, k)) (λ h k. (w, k ∙ e)) (closure-insert c)
+
+    -- no class is added
+    pub class-insert : (u : Cell A) → is_class eq (xs ++ ys) u ≡ true → is_class eq (xs ++ r ∷ ys) u ≡ true
+    class-insert u h =
+        let e : closure eq (xs ++ ys) u ≡ Some u = (is_class-is law (xs ++ ys) u).0 h in
+        let b : (w : Cell A) × (closure eq (xs ++ r ∷ ys) u ≡ Some w) = covered-insert u u e in
+        let same : u ≡ b.0 = leq_antisymm law u b.0 (leq-closure law (xs ++ r ∷ ys) u b.0 b.1) (closure_grows u b.0 u b.1 e) in
+        (is_class-is law (xs ++ r ∷ ys) u).1 (b.1 ∙ ap (λ x. Some x) (sym same))
+
+    -- and no node
+    pub node-insert : (p : Cell A) → is_node eq (xs ++ ys) p ≡ true → is_node eq (xs ++ r ∷ ys) p ≡ true
+    node-insert p h = go (closure eq (xs ++ ys) p) refl
+      where
+        go : (o : Option (Cell A)) → closure eq (xs ++ ys) p ≡ o → is_node eq (xs ++ r ∷ ys) p ≡ true
+        go None e = absurd (true≢false (sym h ∙ ap (λ o. option_eq (cell_eq eq) (option_map (keep (depth p)) o) (Some p)) e))
+        go (Some u) e =
+            let f = front_of_class law (xs ++ ys) p u e h in
+            subst (λ x. is_node eq (xs ++ r ∷ ys) x ≡ true) f.1 (class_fronts law (xs ++ r ∷ ys) (depth p) u (class-insert u f.0))

@@ -1,0 +1,4 @@
+pub mod Lists
+pub mod Total
+pub mod Parts
+pub mod Recoding

@@ -1,0 +1,36 @@
+-- Other values for the values of each dimension, as codes for texts.
+use Rattle.std.specs.Prelude.{◌≡◌, ℕ, suc, Bool, true, Some, None, List, [], ◌∷◌}
+use Rattle.std.specs.Bool.{⊤}
+use Rattle.std.specs.List.{AllByRecursion}
+use Rattle.std.specs.Option.{option_map}
+use Rattle.cube_defs.specs.Cell.{Cell, cell_of}
+use Rattle.cube_defs.specs.Rows.{Row}
+
+-- codes i v: the code of the value v in dimension i
+module _ {A B : Type 0} (codes : ℕ → A → B) where
+  -- a cell's entries, the first of which stands in dimension k
+  abbrev pub coded : ℕ → Cell A → Cell B
+  coded k [] = []
+  coded k (e ∷ c) = option_map (codes k) e ∷ coded (suc k) c
+
+  abbrev pub coded_tuple : ℕ → List A → List B
+  coded_tuple k [] = []
+  coded_tuple k (v ∷ t) = codes k v ∷ coded_tuple (suc k) t
+
+  abbrev pub coded_row : Row A → Row B
+  coded_row r = record { id = r.id; tuple = coded_tuple 0 r.tuple; amounts = r.amounts }
+
+-- no two known values of a dimension have one code
+pub record TellsApart {A B : Type 0} (known : ℕ → A → Bool) (codes : ℕ → A → B) : Type 0 where
+  pub apart : (i : ℕ) (v w : A) → known i v ≡ true → known i w ≡ true → codes i v ≡ codes i w → v ≡ w
+
+module _ {A : Type 0} (known : ℕ → A → Bool) where
+  -- the values of a cell are known, the first of its entries standing in dimension k
+  abbrev pub AreKnown : ℕ → Cell A → Type 0
+  AreKnown k [] = ⊤
+  AreKnown k (None ∷ c) = AreKnown (suc k) c
+  AreKnown k (Some v ∷ c) = (known k v ≡ true) × AreKnown (suc k) c
+
+  -- those of each row
+  abbrev pub RowsAreKnown : List (Row A) → Type 0
+  RowsAreKnown rows = AllByRecursion (λ row. AreKnown 0 (cell_of row.tuple)) rows

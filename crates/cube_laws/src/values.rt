@@ -1,0 +1,14 @@
+//! The values of a base table.
+ghost use Rattle.std.specs.FinMap.{IsAntisymmetric, nat_cmp-IsAntisymmetric};
+
+/// A type of values whose order tells them apart. Each law of this crate holds over every such
+/// type.
+pub trait Value: Ord {
+    /// Values that compare as equal are the same.
+    ghost apart: { IsAntisymmetric Self.cmp };
+}
+
+/// The codes of texts.
+impl Value for u32 {
+    ghost apart = { nat_cmp-IsAntisymmetric };
+}
