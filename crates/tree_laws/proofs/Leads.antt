@@ -1,0 +1,66 @@
+-- How a row that comes changes where labels lead.
+use Rattle.std.proofs.Common.{◌≡◌, ℕ, ◌≤◌, ◌<◌, Bool, true, false, ◌&&◌, cond, Option, Some, None, List, [], ◌∷◌, ◌++◌, length, refl, sym, ap, ◌∙◌}
+use Rattle.std.specs.List.{AllByRecursion}
+use Rattle.std.specs.Option.{option_map}
+use Rattle.cube_defs.specs.Cell.{Cell, leq, meet, cell_of, depth, keep, upto, with_value}
+use Rattle.cube_defs.specs.Rows.{Row, covers, closure, meet_next, meet_all}
+use Rattle.cube_laws.proofs.Lists.{filter_same}
+use Rattle.cube_laws.proofs.Cells.{IsEquality, leq_antisymm, meet_comm, keep-leq, keep_mono}
+use Rattle.cube_laws.proofs.Closures.{cells_of, closure-cells, closure_covers, closure_some, closure_mono, closure_idem, leq-closure}
+use Rattle.cube_laws.proofs.OneRow.{closure-insert}
+use Rattle.cube_laws.proofs.Columns.{one_value}
+use Rattle.tree_laws.specs.Labels.{lead, moved}
+use Rattle.tree_laws.proofs.Fronts.{depth-keep-le, keep-beyond, with_value-leq, keep-meet}
+
+module _ {A : Type 0} {eq : A → A → Bool} (law : IsEquality eq) where
+  -- between a cell and its closure all have that closure
+  pub closure_between : (rows : List (Row A)) (p q u : Cell A) → closure eq rows p ≡ Some u → leq eq p q ≡ true → leq eq q u ≡ true → closure eq rows q ≡ Some u
+  closure_between rows p q u e h k = go (closure_some law rows q u u k (closure_idem law rows p u e))
+    where
+      go : (w : Cell A) × (closure eq rows q ≡ Some w) → closure eq rows q ≡ Some u
+      go (w, is) = is ∙ ap (λ x. Some x) (leq_antisymm law w u (closure_mono law rows q u w u k is (closure_idem law rows p u e)) (closure_mono law rows p q u w h e is))
+
+  -- a value leads from both to the same, where both have one closure
+  pub closure_with : (rows : List (Row A)) (p q u : Cell A) (i : ℕ) (v : A) → closure eq rows p ≡ Some u → closure eq rows q ≡ Some u
+      → depth p ≤ i → depth q ≤ i → i < length p → i < length q → closure eq rows (with_value p i v) ≡ closure eq rows (with_value q i v)
+  closure_with rows p q u i v e f h k l m =
+      closure-cells eq rows (with_value p i v)
+      ∙ ap (meet_all eq) (filter_same (leq eq (with_value p i v)) (leq eq (with_value q i v)) (cells_of rows) (both (cells_of rows) (closure_covers law rows p u e) (closure_covers law rows q u f)))
+      ∙ sym (closure-cells eq rows (with_value q i v))
+    where
+      both : (cs : List (Cell A)) → AllByRecursion (λ d. leq eq p d ≡ leq eq u d) cs → AllByRecursion (λ d. leq eq q d ≡ leq eq u d) cs → AllByRecursion (λ d. leq eq (with_value p i v) d ≡ leq eq (with_value q i v) d) cs
+      both [] a b = tt
+      both (d ∷ cs) a b = (with_value-leq law p d i v h l ∙ ap (λ x. x && leq eq (one_value i v) d) (a.0 ∙ sym b.0) ∙ sym (with_value-leq law q d i v k m), both cs a.1 b.1)
+
+  pub leq-chain : (rows : List (Row A)) (p u : Cell A) (i : ℕ) → closure eq rows p ≡ Some u → depth p ≤ i → leq eq p (keep i u) ≡ true
+  leq-chain rows p u i e h = ap (λ x. leq eq x (keep i u)) (sym (keep-beyond i p h)) ∙ keep_mono law i p u (leq-closure law rows p u e)
+
+  -- each label of p in the dimension i is one of the chain node, which is p's closure cut before i
+  pub lead_chain : (rows : List (Row A)) (p u : Cell A) (i : ℕ) (v : A) → closure eq rows p ≡ Some u → depth p ≤ i → i < length p → i < length (keep i u) → lead eq rows p i v ≡ lead eq rows (keep i u) i v
+  lead_chain rows p u i v e h l m =
+      ap (option_map (λ w. upto w i)) (closure_with rows p (keep i u) u i v e (closure_between rows p (keep i u) u e (leq-chain rows p u i e h) (keep-leq law i u)) h (depth-keep-le i u) l m)
+
+  upto-meet_next : (o : Option (Cell A)) (t : Cell A) (i : ℕ) → upto (meet_next eq t o) i ≡ moved eq (option_map (λ w. upto w i) o) t i
+  upto-meet_next None t i = refl
+  upto-meet_next (Some w) t i = ap (λ x. upto x i) (meet_comm law t w) ∙ keep-meet law _ w t
+
+  covers_with : (p : Cell A) (r : Row A) (i : ℕ) (v : A) → covers eq p r ≡ true → depth p ≤ i → i < length p → covers eq (with_value p i v) r ≡ leq eq (one_value i v) (cell_of r.tuple)
+  covers_with p r i v c h l = with_value-leq law p (cell_of r.tuple) i v h l ∙ ap (λ x. x && leq eq (one_value i v) (cell_of r.tuple)) c
+
+  -- a label with another value than the row's leads where it led; one with its own leads to what both share
+  pub lead-insert : (xs : List (Row A)) (r : Row A) (ys : List (Row A)) (p : Cell A) (i : ℕ) (v : A) → covers eq p r ≡ true → depth p ≤ i → i < length p
+      → lead eq (xs ++ r ∷ ys) p i v ≡ cond (leq eq (one_value i v) (cell_of r.tuple)) (Some (moved eq (lead eq (xs ++ ys) p i v) (cell_of r.tuple) i)) (lead eq (xs ++ ys) p i v)
+  lead-insert xs r ys p i v c h l =
+      ap (option_map (λ w. upto w i)) (closure-insert law xs r ys (with_value p i v) ∙ ap (λ b. cond b (Some (meet_next eq (cell_of r.tuple) (closure eq (xs ++ ys) (with_value p i v)))) (closure eq (xs ++ ys) (with_value p i v))) (covers_with p r i v c h l))
+      ∙ go (leq eq (one_value i v) (cell_of r.tuple)) (closure eq (xs ++ ys) (with_value p i v))
+    where
+      go : (b : Bool) (o : Option (Cell A)) → option_map (λ w. upto w i) (cond b (Some (meet_next eq (cell_of r.tuple) o)) o) ≡ cond b (Some (moved eq (option_map (λ w. upto w i) o) (cell_of r.tuple) i)) (option_map (λ w. upto w i) o)
+      go true o = ap (λ x. Some x) (upto-meet_next o (cell_of r.tuple) i)
+      go false o = refl
+
+  -- the labels of p after the row, by those of the chain node before it
+  pub lead_chain-insert : (xs : List (Row A)) (r : Row A) (ys : List (Row A)) (p u : Cell A) (i : ℕ) (v : A) → covers eq p r ≡ true → closure eq (xs ++ ys) p ≡ Some u → depth p ≤ i → i < length p → i < length (keep i u)
+      → lead eq (xs ++ r ∷ ys) p i v ≡ cond (leq eq (one_value i v) (cell_of r.tuple)) (Some (moved eq (lead eq (xs ++ ys) (keep i u) i v) (cell_of r.tuple) i)) (lead eq (xs ++ ys) (keep i u) i v)
+  lead_chain-insert xs r ys p u i v c e h l m =
+      lead-insert xs r ys p i v c h l
+      ∙ ap (λ o. cond (leq eq (one_value i v) (cell_of r.tuple)) (Some (moved eq o (cell_of r.tuple) i)) o) (lead_chain (xs ++ ys) p u i v e h l m)

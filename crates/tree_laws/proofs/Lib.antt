@@ -1,0 +1,9 @@
+pub mod Lists
+pub mod Fronts
+pub mod Nexts
+pub mod Leads
+pub mod Edges
+pub mod Children
+pub mod Apart
+pub mod Records
+pub mod OneRow

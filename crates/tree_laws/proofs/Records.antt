@@ -1,0 +1,42 @@
+-- The laws of labels, said of the records of nodes.
+use Rattle.std.proofs.Common.{◌≡◌, ◌↔◌, ℕ, true, false, Option, Some, None, List, length, refl, sym, ap, subst, ◌∙◌, ◌≤◌, ◌<◌}
+use Rattle.std.specs.declared.cmp.Ordering.{Ordering}
+use Rattle.std.specs.Ordering.{eq_by_cmp}
+use Rattle.std.specs.Cmp.{IsTotalOrder}
+use Rattle.std.specs.FinMap.{IsAntisymmetric}
+use Rattle.std.specs.Option.{option_map}
+use Rattle.cube_defs.specs.Cell.{Cell, depth, keep}
+use Rattle.cube_defs.specs.Rows.{Row, covers, closure, is_node}
+use Rattle.cube_defs.specs.Tree.{Edge, Node, node_of, node_with, next_value}
+use Rattle.cube_laws.specs.Lists.{Among}
+use Rattle.cube_laws.proofs.Orders.{equality_by}
+use Rattle.cube_laws.proofs.Nodes.{front_of_class}
+use Rattle.tree_laws.specs.Labels.{IsLabel}
+use Rattle.tree_laws.proofs.Edges.{edges-are, law_by}
+use Rattle.tree_laws.proofs.Children.{lead_node}
+use Rattle.tree_laws.proofs.Apart.{lead_apart}
+
+module _ {A : Type 0} {cmp : A → A → Ordering} (total : IsTotalOrder cmp) (anti : IsAntisymmetric cmp) (measures : ℕ) (rows : List (Row A)) (p : Cell A) (n : Node A (Cell A)) (node : is_node (eq_by_cmp cmp) rows p ≡ true) (is : node_of cmp measures rows p ≡ Some n) where
+  -- a record, by the closure
+  pub record_with : (u : Cell A) → closure (eq_by_cmp cmp) rows p ≡ Some u → n ≡ node_with cmp measures rows p u (next_value cmp (depth p) u)
+  record_with u e = let made : node_of cmp measures rows p ≡ Some (node_with cmp measures rows p u (next_value cmp (depth p) u)) = ap (option_map (λ u. node_with cmp measures rows p u (next_value cmp (depth p) u))) e in cc
+
+  pub record_closure : (u : Cell A) × (closure (eq_by_cmp cmp) rows p ≡ Some u)
+  record_closure = go (closure (eq_by_cmp cmp) rows p) refl
+    where
+      go : (o : Option (Cell A)) → closure (eq_by_cmp cmp) rows p ≡ o → (u : Cell A) × (closure (eq_by_cmp cmp) rows p ≡ Some u)
+      go None e = let made : node_of cmp measures rows p ≡ None = ap (option_map (λ u. node_with cmp measures rows p u (next_value cmp (depth p) u))) e in cc
+      go (Some u) e = (u, e)
+
+  pub record_edges : (u : Cell A) (x : Edge A (Cell A)) → closure (eq_by_cmp cmp) rows p ≡ Some u → Among x n.edges ↔ IsLabel cmp rows p (next_value cmp (depth p) u) x
+  record_edges u x e =
+      let are : Among x (node_with cmp measures rows p u (next_value cmp (depth p) u)).edges ↔ IsLabel cmp rows p (next_value cmp (depth p) u) x = edges-are total anti measures rows p u e (front_of_class (law_by total anti) rows p u e node).1 x in
+      subst (λ m. Among x m.edges ↔ IsLabel cmp rows p (next_value cmp (depth p) u) x) (sym (record_with u e)) are
+
+  pub target_node : (x : Edge A (Cell A)) → Among x n.edges → is_node (eq_by_cmp cmp) rows x.target ≡ true
+  target_node x m = lead_node (law_by total anti) rows p x.dim x.value x.target ((record_edges record_closure.0 x record_closure.1).0 m).leads
+
+  pub target_apart : (r : Row A) (x : Edge A (Cell A)) → covers (eq_by_cmp cmp) p r ≡ false → Among x n.edges → covers (eq_by_cmp cmp) x.target r ≡ false
+  target_apart r x h m =
+      let l : IsLabel cmp rows p (next_value cmp (depth p) record_closure.0) x = (record_edges record_closure.0 x record_closure.1).0 m in
+      lead_apart cmp (law_by total anti) measures rows r rows rows p x.dim x.value x.target l.behind l.within l.leads h

@@ -1,0 +1,24 @@
+-- Where the labels of a node lead.
+use Rattle.std.specs.Prelude.{◌≡◌, ℕ, ◌<◌, ◌≤◌, Bool, Option, Some, None, List, length}
+use Rattle.std.specs.Option.{option_map}
+use Rattle.std.specs.declared.cmp.Ordering.{Ordering}
+use Rattle.std.specs.Ordering.{eq_by_cmp}
+use Rattle.cube_defs.specs.Cell.{Cell, meet, depth, upto, with_value}
+use Rattle.cube_defs.specs.Rows.{Row, closure}
+use Rattle.cube_defs.specs.Tree.{Edge}
+
+-- the closure of p with the value v in dimension i, cut behind i, where p + (i, v) covers a row
+abbrev pub lead : {A : Type 0} → (A → A → Bool) → List (Row A) → Cell A → ℕ → A → Option (Cell A)
+lead eq rows p i v = option_map (λ u. upto u i) (closure eq rows (with_value p i v))
+
+-- where a label with the value of a row that comes leads, whose tuple is t: from where it led, if it did
+abbrev pub moved : {A : Type 0} → (A → A → Bool) → Option (Cell A) → Cell A → ℕ → Cell A
+moved eq None t i = upto t i
+moved eq (Some c) t i = meet eq c t
+
+-- an edge of p's record, which reaches up to the dimension e
+pub record IsLabel {A : Type 0} (cmp : A → A → Ordering) (rows : List (Row A)) (p : Cell A) (e : ℕ) (x : Edge A (Cell A)) : Type 0 where
+  pub behind : depth p ≤ x.dim
+  pub before : x.dim ≤ e
+  pub within : x.dim < length p
+  pub leads : lead (eq_by_cmp cmp) rows p x.dim x.value ≡ Some x.target
