@@ -61,13 +61,13 @@ module _ {A : Type 0} {cmp : A → A → Ordering} (total : IsTotalOrder cmp) (a
           (among_filter_map made x (values_at cmp rows p i)).1 (x.value, leads_value rows p w i x.value h l e, ap (option_map (λ u. record { dim = i; value = x.value; target = upto u i })) e ∙ ap₂ (λ a b. Some (record { dim = a; value = x.value; target = b })) (sym d) (cc))
 
   -- in the dimension of the closure's value there is one label, which leads to the forced child
-  forced_lead : (rows : List (Row A)) (p u : Cell A) (e : ℕ) (w : A) → closure (eq_by_cmp cmp) rows p ≡ Some u → depth p ≤ e → e < length p → slice_get u e ≡ Some (Some w)
+  pub forced_lead : (rows : List (Row A)) (p u : Cell A) (e : ℕ) (w : A) → closure (eq_by_cmp cmp) rows p ≡ Some u → depth p ≤ e → e < length p → slice_get u e ≡ Some (Some w)
       → closure (eq_by_cmp cmp) rows (with_value p e w) ≡ Some u
   forced_lead rows p u e w is h l k =
       closure_between law_by rows p (with_value p e w) u is (leq-with_value law_by p e w h)
       (with_value-leq law_by p u e w h l ∙ and_from _ _ (leq-closure law_by rows p u is) ((one_value-leq law_by e w u).1 k))
 
-  only_forced : (rows : List (Row A)) (p u d : Cell A) (e : ℕ) (w v : A) → closure (eq_by_cmp cmp) rows p ≡ Some u → depth p ≤ e → e < length p → slice_get u e ≡ Some (Some w)
+  pub only_forced : (rows : List (Row A)) (p u d : Cell A) (e : ℕ) (w v : A) → closure (eq_by_cmp cmp) rows p ≡ Some u → depth p ≤ e → e < length p → slice_get u e ≡ Some (Some w)
       → closure (eq_by_cmp cmp) rows (with_value p e v) ≡ Some d → v ≡ w
   only_forced rows p u d e w v is h l k m =
       let above = closure_mono law_by rows p (with_value p e v) u d (leq-with_value law_by p e v h) is m in

@@ -7,3 +7,5 @@ pub mod Children
 pub mod Apart
 pub mod Records
 pub mod OneRow
+pub mod Steps
+pub mod Search
