@@ -113,6 +113,9 @@ module _ {A : Type 0} {eq : A → A → Bool} (law : IsEquality eq) where
       entry_eq-same : (e : Option A) → option_eq eq e e ≡ true
       entry_eq-same e = grind (arith, law.same)
 
+  pub cell_eq-from : (c d : Cell A) → c ≡ d → cell_eq eq c d ≡ true
+  cell_eq-from c d e = ap (cell_eq eq c) (sym e) ∙ cell_eq-same c
+
   pub keep-leq : (n : ℕ) (c : Cell A) → leq eq (keep n c) c ≡ true
   keep-leq n [] = refl
   keep-leq zero (e ∷ c) = keep-leq zero c

@@ -5,13 +5,10 @@ use Rattle.std.specs.Cmp.{both_ways}
 use Rattle.std.specs.Option.{option_eq}
 use Rattle.std.specs.List.{AllByRecursion}
 use Rattle.cube_defs.specs.Cell.{Cell, leq, meet, cell_eq, cell_of}
-use Rattle.cube_defs.specs.Rows.{Row, covers, cov, meet_next, with_more, meet_all, closure, has_closure, is_class, agg}
+use Rattle.cube_defs.specs.Rows.{Row, covers, cov, meet_next, with_more, meet_all, closure, has_closure, is_class, agg, agg_of}
+use Rattle.cube_laws.specs.Tuples.{cells_of}
 use Rattle.cube_laws.proofs.Lists.{map-filter, filter_same, from_filter, to_filter, all_map, always}
 use Rattle.cube_laws.proofs.Cells.{IsEquality, meet_assoc, leq_refl, leq_trans, meet_left, meet_right, meet_great, cell_eq-exact, cell_eq-same}
-
--- the rows as cells
-abbrev pub cells_of : {A : Type 0} → List (Row A) → List (Cell A)
-cells_of rows = map (λ row. cell_of row.tuple) rows
 
 pub all_cells : {A : Type 0} (P : Cell A → Type 0) (rows : List (Row A)) → AllByRecursion P (cells_of rows) ↔ AllByRecursion (λ row. P (cell_of row.tuple)) rows
 all_cells P [] = (λ h. h, λ h. h)
@@ -70,8 +67,11 @@ module _ {A : Type 0} {eq : A → A → Bool} (law : IsEquality eq) where
   closure_idem rows c u e = ap (λ covered. meet_all eq (map (λ row. cell_of row.tuple) covered)) (sym (cov-closure rows c u e)) ∙ e
 
   -- two cells with one closure cover the same rows, so have the same aggregates
+  pub cov_same : (rows : List (Row A)) (c d u : Cell A) → closure eq rows c ≡ Some u → closure eq rows d ≡ Some u → cov eq rows c ≡ cov eq rows d
+  cov_same rows c d u e f = cov-closure rows c u e ∙ sym (cov-closure rows d u f)
+
   pub agg_same : (measures : ℕ) (rows : List (Row A)) (c d u : Cell A) → closure eq rows c ≡ Some u → closure eq rows d ≡ Some u → agg eq measures rows c ≡ agg eq measures rows d
-  agg_same measures rows c d u e f = let same : cov eq rows c ≡ cov eq rows d = cov-closure rows c u e ∙ sym (cov-closure rows d u f) in cc
+  agg_same measures rows c d u e f = ap (agg_of measures) (cov_same rows c d u e f)
 
   -- a smaller cell has a smaller closure
   pub closure_mono : (rows : List (Row A)) (c d u w : Cell A) → leq eq c d ≡ true → closure eq rows c ≡ Some u → closure eq rows d ≡ Some w → leq eq u w ≡ true

@@ -13,7 +13,7 @@ use Rattle.cube_defs.specs.Cell.{Cell, leq, cell_of, cell_cmp}
 use Rattle.cube_defs.specs.Rows.{Row, covers, cov, closure, meet_all, meet_next}
 use Rattle.cube_defs.specs.Tree.{generalizations, covered}
 use Rattle.cube_laws.proofs.Cells.{IsEquality, length-cell_of, length-meet}
-use Rattle.cube_laws.proofs.Closures.{cells_of}
+use Rattle.cube_laws.specs.Tuples.{cells_of}
 use Rattle.cube_laws.specs.Lists.{Among, Rises}
 use Rattle.cube_laws.proofs.Lists.{among_filter, among_append, among_map, map_among, among_flat_map}
 use Rattle.cube_laws.proofs.Distinct.{among_distinct, rises_distinct}

@@ -1,26 +1,19 @@
 -- A class loses the row r: its new closure and aggregate, from those of more specific classes.
-use Rattle.std.proofs.Common.{◌≡◌, ℕ, zero, suc, ◌<◌, ◌≤◌, Bool, true, false, cond, Option, Some, None, List, [], ◌∷◌, ◌++◌, filter, refl, sym, ap, subst, ◌∙◌, true≢false, arith, slice_get}
-use Rattle.std.proofs.lemmas.Bool.{and_parts, and_from, cond-true, cond-false, cond_both, and_right}
-use Rattle.std.specs.List.{AllByRecursion}
-use Rattle.std.specs.Option.{option_eq, option_map}
-use Rattle.cube_defs.specs.Cell.{Cell, leq, entry_leq, cell_of, cell_eq, with_value, keep, depth}
-use Rattle.cube_defs.specs.Rows.{Row, covers, cov, closure, meet_next, is_class, is_node, agg, agg_of}
+use Rattle.std.proofs.Common.{length, ◌+◌, ◌≡◌, ℕ, zero, suc, ◌<◌, ◌≤◌, Bool, true, false, cond, Option, Some, None, List, [], ◌∷◌, ◌++◌, refl, sym, ap, ◌∙◌, true≢false, arith, slice_get}
+use Rattle.std.proofs.lemmas.Bool.{and_parts, and_from, cond-true, cond_both, and_right}
+use Rattle.cube_defs.specs.Cell.{Cell, leq, entry_leq, cell_of, with_value}
+use Rattle.cube_defs.specs.Rows.{Row, covers, cov, closure, meet_next}
 use Rattle.cube_laws.specs.Lists.{Once}
+use Rattle.cube_laws.specs.Step.{IsStep}
 use Rattle.cube_laws.specs.Total.{total, join_aggs, join_cells, agg_at, agg_some}
-use Rattle.cube_laws.proofs.Lists.{filter_same, always, filter-insert_apart, all-insert}
-use Rattle.cube_laws.proofs.Cells.{IsEquality, leq_antisymm, leq_refl}
-use Rattle.cube_laws.proofs.Closures.{all_cells, closure_covers, leq-closure, meet_next_below, meet_next_rest, is_class-is}
-use Rattle.cube_laws.proofs.Totals.{total_same, total_filter-insert}
-use Rattle.cube_laws.proofs.RowTotals.{cells_add, aggs_add, row_cell, row_agg, closure_total, agg_total}
-use Rattle.cube_laws.specs.Parts.{has_value, HasAll}
+use Rattle.cube_laws.proofs.Lists.{filter_same, always, all-insert}
+use Rattle.cube_laws.proofs.Cells.{IsEquality}
+use Rattle.cube_laws.proofs.Closures.{cov-closure, all_cells, closure_covers, leq-closure}
+use Rattle.cube_laws.proofs.Totals.{total_same}
+use Rattle.cube_laws.proofs.RowTotals.{cells_add, aggs_add, row_cell, closure_total}
+use Rattle.cube_laws.specs.Parts.{values, has_value, HasAll}
 use Rattle.cube_laws.proofs.Partition.{closure_parts, agg_parts, covers_with, alone}
 use Rattle.cube_laws.proofs.OneRow.{closure-insert, closure_stays, cov_stays, below_row}
-
--- the number of dimensions with a value
-abbrev pub values : {A : Type 0} → Cell A → ℕ
-values [] = 0
-values (None ∷ c) = values c
-values (Some v ∷ c) = suc (values c)
 
 module _ {A : Type 0} {eq : A → A → Bool} (law : IsEquality eq) where
   entry_values : (e f : Option A) (c d : Cell A) → entry_leq eq e f ≡ true → values c ≤ values d → values (e ∷ c) ≤ values (f ∷ d)
@@ -40,6 +33,12 @@ module _ {A : Type 0} {eq : A → A → Bool} (law : IsEquality eq) where
   values_with (Some w ∷ c) zero v h = cc
   values_with (None ∷ c) (suc i) v h = values_with c i v h
   values_with (Some w ∷ c) (suc i) v h = ap suc (values_with c i v h)
+
+  pub values-tuple : (c : Cell A) (t : List A) → leq eq c (cell_of t) ≡ true → values c ≤ length t
+  values-tuple [] t h = omega arith
+  values-tuple (e ∷ c) [] h = absurd (true≢false (sym h))
+  values-tuple (None ∷ c) (x ∷ t) h = let m : values c ≤ length t = values-tuple c t (and_parts true (leq eq c (cell_of t)) h).1 in omega arith
+  values-tuple (Some v ∷ c) (x ∷ t) h = let m : values c ≤ length t = values-tuple c t (and_parts (eq v x) (leq eq c (cell_of t)) h).1 in omega arith
 
   module _ (xs : List (Row A)) (r : Row A) (ys : List (Row A)) where
     -- a cell and its old closure cover the same rows afterwards
@@ -91,3 +90,31 @@ module _ {A : Type 0} {eq : A → A → Bool} (law : IsEquality eq) where
           ∙ total_same join_aggs None aggs_add _ _ vs (always _ vs (λ v. cond_both (eq v t) _ _ (λ o. agg_at eq measures (xs ++ ys) (with_value u i v) ≡ o)
           (λ h. ap (λ x. agg_at eq measures (xs ++ ys) (with_value u i x)) (law.exact v t h) ∙ agg_after measures (with_value u i t) w e)
           (λ h. sym (ap (agg_some measures) (cov_stays law xs r ys (with_value u i v) (other_below v h))))))
+
+      -- the step as a whole
+      pub step : (w : Cell A) × IsStep eq xs r ys u i t w
+      step = (
+        step_exists.0,
+        record {
+          closes = step_exists.1;
+          covers_r = step_above step_exists.0 step_exists.1;
+          more_values = step_more step_exists.0 step_exists.1;
+          same_before = cov-closure law (xs ++ r ∷ ys) (with_value u i t) step_exists.0 step_exists.1;
+          same_after = cov_after (with_value u i t) step_exists.0 step_exists.1;
+          others = other_below;
+          new_closure = λ vs once all. closure_by step_exists.0 vs step_exists.1 once all;
+          new_aggregate = λ measures vs once all. agg_by measures step_exists.0 vs step_exists.1 once all;
+        },
+      )
+
+  -- an induction from the most specific cell below a tuple upwards
+  module _ (P : Cell A → Type 0) (t : List A) (by : (u : Cell A) → leq eq u (cell_of t) ≡ true → ((w : Cell A) → leq eq w (cell_of t) ≡ true → values u < values w → P w) → P u) where
+    within : (n : ℕ) (u : Cell A) → leq eq u (cell_of t) ≡ true → length t ≤ values u + n → P u
+    within zero u h l = by u h (λ w k m. absurd (let a : values w ≤ length t = values_le w k in omega arith))
+      where
+        values_le : (w : Cell A) → leq eq w (cell_of t) ≡ true → values w ≤ length t
+        values_le w k = values-tuple w t k
+    within (suc n) u h l = by u h (λ w k m. within n w k (omega arith))
+
+    pub from_most_specific : (u : Cell A) → leq eq u (cell_of t) ≡ true → P u
+    from_most_specific u h = within (length t) u h (omega arith)

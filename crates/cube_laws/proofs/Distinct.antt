@@ -1,5 +1,5 @@
 -- The items of a list in order, each once.
-use Rattle.std.proofs.Common.{◌≡◌, ◌↔◌, ◌⊎◌, List, [], ◌∷◌, refl, sym, ap, subst, ◌∙◌, inl, inr}
+use Rattle.std.proofs.Common.{◌≡◌, ◌↔◌, ◌⊎◌, List, [], ◌∷◌, refl, sym, ap, ap₂, subst, ◌∙◌, inl, inr}
 use Rattle.std.specs.declared.cmp.Ordering.{Ordering}
 use Rattle.std.specs.declared.cmp.Ordering.TheVariants.{Less, Equal, Greater}
 use Rattle.std.specs.Ordering.{ordering_reverse}
@@ -8,6 +8,7 @@ use Rattle.std.specs.FinMap.{IsAntisymmetric}
 use Rattle.std.specs.List.{AllByRecursion}
 use Rattle.cube_defs.specs.Tree.{put_in, distinct}
 use Rattle.cube_laws.specs.Lists.{Among, Rises}
+use Rattle.cube_laws.proofs.Lists.{all_at}
 
 -- what `put_in` gives by the order of x and y
 abbrev pub put_by : {X : Type 0} → Ordering → X → X → List X → List X → List X
@@ -18,25 +19,34 @@ put_by Greater x y ys later = y ∷ later
 pub put_in-by : {X : Type 0} (cmp : X → X → Ordering) (x y : X) (ys : List X) → put_in cmp x (y ∷ ys) ≡ put_by (cmp x y) x y ys (put_in cmp x ys)
 put_in-by cmp x y ys = elim (cmp x y) as (λ r. elim r [ Less ↦ x ∷ y ∷ ys | Equal ↦ y ∷ ys | Greater ↦ y ∷ put_in cmp x ys ] ≡ put_by r x y ys (put_in cmp x ys)) [ Less ↦ refl | Equal ↦ refl | Greater ↦ refl ]
 
-module _ {X : Type 0} {cmp : X → X → Ordering} (total : IsTotalOrder cmp) (anti : IsAntisymmetric cmp) where
-  pub among_put_in : (z x : X) (ys : List X) → Among z (put_in cmp x ys) ↔ ((z ≡ x) ⊎ Among z ys)
-  among_put_in z x [] = (λ h. h, λ h. h)
-  among_put_in z x (y ∷ ys) = subst (λ l. Among z l ↔ ((z ≡ x) ⊎ Among z (y ∷ ys))) (sym (put_in-by cmp x y ys)) (go (among_put_in z x ys) (cmp x y) refl)
+module _ {X : Type 0} (cmp : X → X → Ordering) where
+  -- an item put in, where it is told apart from the others
+  pub among_put_in-told : (z x : X) (ys : List X) → ((y : X) → Among y ys → cmp x y ≡ Equal → x ≡ y) → Among z (put_in cmp x ys) ↔ ((z ≡ x) ⊎ Among z ys)
+  among_put_in-told z x [] told = (λ h. h, λ h. h)
+  among_put_in-told z x (y ∷ ys) told = subst (λ l. Among z l ↔ ((z ≡ x) ⊎ Among z (y ∷ ys))) (sym (put_in-by cmp x y ys)) (go (among_put_in-told z x ys (λ w m. told w (inr m))) (cmp x y) refl)
     where
       go : Among z (put_in cmp x ys) ↔ ((z ≡ x) ⊎ Among z ys) → (r : Ordering) → cmp x y ≡ r → Among z (put_by r x y ys (put_in cmp x ys)) ↔ ((z ≡ x) ⊎ Among z (y ∷ ys))
       go more Less e = (λ h. h, λ h. h)
-      go more Equal e = (λ h. inr h, λ h. elim h [ inl k ↦ inl (k ∙ anti x y e) | inr k ↦ k ])
+      go more Equal e = (λ h. inr h, λ h. elim h [ inl k ↦ inl (k ∙ told y (inl refl) e) | inr k ↦ k ])
       go more Greater e = (
         λ h. elim h [ inl k ↦ inr (inl k) | inr k ↦ elim (more.0 k) [ inl a ↦ inl a | inr b ↦ inr (inr b) ] ],
         λ h. elim h [ inl k ↦ inr (more.1 (inl k)) | inr k ↦ elim k [ inl a ↦ inl a | inr b ↦ inr (more.1 (inr b)) ] ],
       )
 
+  -- no item is lost where the order tells the items apart
+  pub among_distinct-told : (xs : List X) → ((x y : X) → Among x xs → Among y xs → cmp x y ≡ Equal → x ≡ y) → (z : X) → Among z (distinct cmp xs) ↔ Among z xs
+  among_distinct-told [] told z = (λ h. h, λ h. h)
+  among_distinct-told (x ∷ xs) told z =
+      let same : (w : X) → Among w (distinct cmp xs) ↔ Among w xs = among_distinct-told xs (λ a b m n. told a b (inr m) (inr n)) in
+      let p = among_put_in-told z x (distinct cmp xs) (λ y m. told x y (inl refl) (inr ((same y).0 m))) in
+      (λ h. elim (p.0 h) [ inl a ↦ inl a | inr b ↦ inr ((same z).0 b) ], λ h. p.1 (elim h [ inl a ↦ inl a | inr b ↦ inr ((same z).1 b) ]))
+
+module _ {X : Type 0} {cmp : X → X → Ordering} (total : IsTotalOrder cmp) (anti : IsAntisymmetric cmp) where
+  pub among_put_in : (z x : X) (ys : List X) → Among z (put_in cmp x ys) ↔ ((z ≡ x) ⊎ Among z ys)
+  among_put_in z x ys = among_put_in-told cmp z x ys (λ y m. anti x y)
+
   pub among_distinct : (z : X) (xs : List X) → Among z (distinct cmp xs) ↔ Among z xs
-  among_distinct z [] = (λ h. h, λ h. h)
-  among_distinct z (x ∷ xs) =
-      let p = among_put_in z x (distinct cmp xs) in
-      let q = among_distinct z xs in
-      (λ h. elim (p.0 h) [ inl a ↦ inl a | inr b ↦ inr (q.0 b) ], λ h. p.1 (elim h [ inl a ↦ inl a | inr b ↦ inr (q.1 b) ]))
+  among_distinct z xs = among_distinct-told cmp xs (λ x y m n. anti x y) z
 
   all_put_in : (P : X → Type 0) (x : X) (ys : List X) → P x → AllByRecursion P ys → AllByRecursion P (put_in cmp x ys)
   all_put_in P x [] h g = (h, tt)
@@ -63,3 +73,25 @@ module _ {X : Type 0} {cmp : X → X → Ordering} (total : IsTotalOrder cmp) (a
   pub rises_distinct : (xs : List X) → Rises cmp (distinct cmp xs)
   rises_distinct [] = tt
   rises_distinct (x ∷ xs) = rises_put_in x (distinct cmp xs) (rises_distinct xs)
+
+  both_less : (x y : X) → cmp x y ≡ Less → cmp y x ≡ Less → ⊥
+  both_less x y h k = let e : Less ≡ Greater = sym k ∙ total.antisymm y x ∙ ap ordering_reverse h in cc
+
+  pub self_less : (x : X) → cmp x x ≡ Less → ⊥
+  self_less x h = both_less x x h h
+
+  -- lists that rise and have the same items are the same
+  pub rises_same : (xs ys : List X) → Rises cmp xs → Rises cmp ys → ((z : X) → Among z xs → Among z ys) → ((z : X) → Among z ys → Among z xs) → xs ≡ ys
+  rises_same [] [] h k f g = refl
+  rises_same [] (y ∷ ys) h k f g = absurd (g y (inl refl))
+  rises_same (x ∷ xs) [] h k f g = absurd (f x (inl refl))
+  rises_same (x ∷ xs) (y ∷ ys) h k f g =
+      ap₂ (λ b bs. b ∷ bs) first (rises_same xs ys h.1 k.1
+      (λ z m. elim (f z (inr m)) [ inl e ↦ absurd (self_less x (subst (λ a. cmp x a ≡ Less) (e ∙ sym first) (all_at (λ a. cmp x a ≡ Less) z xs h.0 m))) | inr n ↦ n ])
+      (λ z m. elim (g z (inr m)) [ inl e ↦ absurd (self_less y (subst (λ a. cmp y a ≡ Less) (e ∙ first) (all_at (λ a. cmp y a ≡ Less) z ys k.0 m))) | inr n ↦ n ]))
+    where
+      first : x ≡ y
+      first = elim (f x (inl refl)) [
+        | inl e ↦ e
+        | inr m ↦ elim (g y (inl refl)) [ inl e ↦ sym e | inr n ↦ absurd (both_less x y (all_at (λ a. cmp x a ≡ Less) y xs h.0 n) (all_at (λ a. cmp y a ≡ Less) x ys k.0 m)) ]
+      ]

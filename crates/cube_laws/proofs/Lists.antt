@@ -1,7 +1,7 @@
 -- Lists: filters, facts of all items, and items among others.
 use Rattle.std.proofs.Common.{◌≡◌, ◌↔◌, ◌⊎◌, Bool, true, false, ◌&&◌, cond, Option, Some, None, List, [], ◌∷◌, ◌++◌, map, filter, filter_map, flat_map, refl, sym, ap, ap₂, subst, ◌∙◌, arith, true≢false, inl, inr}
 use Rattle.std.proofs.lemmas.Bool.{cond-true, cond-false}
-use Rattle.std.specs.List.{AllByRecursion, cons_option}
+use Rattle.std.specs.List.{AllByRecursion, cons_option, list_all}
 use Rattle.cube_laws.specs.Lists.{Among}
 
 -- a map after a filter by what it makes
@@ -152,3 +152,11 @@ among_filter_map {X = X} {Y = Y} g y (x ∷ xs) = go (g x) refl (among_filter_ma
       λ h. elim h [ inl a ↦ (x, inl refl, e ∙ ap (λ w. Some w) (sym a)) | inr b ↦ let r = m.0 b in (r.0, inr r.1, r.2) ],
       λ h. elim h.1 [ inl a ↦ inl (let is : Some y ≡ Some z = sym h.2 ∙ ap g a ∙ e in cc) | inr b ↦ inr (m.1 (h.0, b, h.2)) ],
     )
+
+pub map_same : {X Y : Type 0} (f g : X → Y) (xs : List X) → ((x : X) → f x ≡ g x) → map f xs ≡ map g xs
+map_same f g [] h = refl
+map_same f g (x ∷ xs) h = ap₂ (λ y ys. y ∷ ys) (h x) (map_same f g xs h)
+
+pub list_all_same : {X : Type 0} (p q : X → Bool) (xs : List X) → ((x : X) → p x ≡ q x) → list_all p xs ≡ list_all q xs
+list_all_same p q [] h = refl
+list_all_same p q (x ∷ xs) h = ap₂ (λ a b. a && b) (h x) (list_all_same p q xs h)

@@ -40,6 +40,13 @@ module _ {A : Type 0} {eq : A → A → Bool} (law : IsEquality eq) where
           subst (λ x. leq eq (keep (depth (keep k u)) w) x ≡ true) (keep-depth_keep k u) (keep_mono law (depth (keep k u)) w u (closure_mono law rows (keep k u) u w u (keep-leq law k u) e is)) in
           (is_node-is rows (keep k u)).1 (ap (option_map (keep (depth (keep k u)))) e ∙ ap (λ x. Some x) (leq_antisymm law _ _ high low))
 
+  pub node-front : (rows : List (Row A)) (p : Cell A) → is_node eq rows p ≡ true → (u : Cell A) × (is_class eq rows u ≡ true) × (keep (depth p) u ≡ p)
+  node-front rows p h = go (closure eq rows p) refl
+    where
+      go : (o : Option (Cell A)) → closure eq rows p ≡ o → (u : Cell A) × (is_class eq rows u ≡ true) × (keep (depth p) u ≡ p)
+      go None e = absurd (true≢false (sym h ∙ ap (λ o. option_eq (cell_eq eq) (option_map (keep (depth p)) o) (Some p)) e))
+      go (Some u) e = let f = front_of_class rows p u e h in (u, f.0, f.1)
+
 module _ {A : Type 0} {cmp : A → A → Ordering} (total : IsTotalOrder cmp) (anti : IsAntisymmetric cmp) (n : ℕ) where
   -- each node stands in the list of nodes
   pub nodes-is : (rows : List (Row A)) → AllByRecursion (λ r. length r.tuple ≡ n) rows → (p : Cell A) → Among p (nodes cmp rows) ↔ (is_node (eq_by_cmp cmp) rows p ≡ true)

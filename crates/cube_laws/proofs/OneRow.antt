@@ -1,17 +1,15 @@
 -- The rows xs ++ r ∷ ys are the rows xs ++ ys and one more: what an insertion adds, and a deletion takes away.
-use Rattle.std.proofs.Common.{◌≡◌, ℕ, zero, suc, ◌<◌, ◌≤◌, Bool, true, false, cond, Option, Some, None, List, [], ◌∷◌, ◌++◌, filter, refl, sym, ap, subst, ◌∙◌, true≢false, arith, slice_get}
-use Rattle.std.proofs.lemmas.Bool.{and_parts, and_from, cond-true, cond-false, cond_both, and_right}
-use Rattle.std.specs.List.{AllByRecursion}
+use Rattle.std.proofs.Common.{◌≡◌, ℕ, Bool, true, false, cond, Option, Some, None, List, [], ◌∷◌, ◌++◌, refl, sym, ap, subst, ◌∙◌, true≢false}
+use Rattle.std.proofs.lemmas.Bool.{cond-true, cond_both}
 use Rattle.std.specs.Option.{option_eq, option_map}
-use Rattle.cube_defs.specs.Cell.{Cell, leq, entry_leq, cell_of, cell_eq, with_value, keep, depth}
+use Rattle.cube_defs.specs.Cell.{Cell, leq, meet, cell_of, cell_eq, keep, depth}
 use Rattle.cube_defs.specs.Rows.{Row, covers, cov, closure, meet_next, is_class, is_node, agg, agg_of}
-use Rattle.cube_laws.specs.Lists.{Once}
-use Rattle.cube_laws.specs.Total.{total, join_aggs, join_cells, agg_at, agg_some}
-use Rattle.cube_laws.proofs.Lists.{filter_same, always, filter-insert_apart, all-insert}
-use Rattle.cube_laws.proofs.Cells.{IsEquality, leq_antisymm, leq_refl}
-use Rattle.cube_laws.proofs.Closures.{all_cells, closure_covers, leq-closure, meet_next_below, meet_next_rest, is_class-is}
-use Rattle.cube_laws.proofs.Totals.{total_same, total_filter-insert}
-use Rattle.cube_laws.proofs.RowTotals.{cells_add, aggs_add, row_cell, row_agg, closure_total, agg_total}
+use Rattle.cube_laws.specs.Total.{total, join_aggs, join_cells, combine, agg_at}
+use Rattle.cube_laws.proofs.Lists.{filter-insert_apart}
+use Rattle.cube_laws.proofs.Cells.{IsEquality, leq_antisymm, leq_refl, meet_comm}
+use Rattle.cube_laws.proofs.Closures.{leq-closure, meet_next_below, meet_next_rest, is_class-is}
+use Rattle.cube_laws.proofs.Totals.{total_filter-insert}
+use Rattle.cube_laws.proofs.RowTotals.{cells_add, aggs_add, row_cell, row_agg, closure_total, agg_total, agg_where, agg_none}
 use Rattle.cube_laws.proofs.Nodes.{front_of_class, class_fronts}
 
 module _ {A : Type 0} {eq : A → A → Bool} (law : IsEquality eq) where
@@ -79,3 +77,21 @@ module _ {A : Type 0} {eq : A → A → Bool} (law : IsEquality eq) where
         go (Some u) e =
             let f = front_of_class law (xs ++ ys) p u e h in
             subst (λ x. is_node eq (xs ++ r ∷ ys) x ≡ true) f.1 (class_fronts law (xs ++ r ∷ ys) (depth p) u (class-insert u f.0))
+
+    -- the closure of a cell that covers r: r's tuple where it covers no other row, else the meet with it
+    pub closure-insert_alone : (c : Cell A) → covers eq c r ≡ true → closure eq (xs ++ ys) c ≡ None → closure eq (xs ++ r ∷ ys) c ≡ Some (cell_of r.tuple)
+    closure-insert_alone c h e = closure-insert c ∙ cond-true _ _ _ h ∙ ap (λ o. Some (meet_next eq (cell_of r.tuple) o)) e
+
+    pub closure-insert_more : (c u : Cell A) → covers eq c r ≡ true → closure eq (xs ++ ys) c ≡ Some u → closure eq (xs ++ r ∷ ys) c ≡ Some (meet eq u (cell_of r.tuple))
+    closure-insert_more c u h e = closure-insert c ∙ cond-true _ _ _ h ∙ ap (λ o. Some (meet_next eq (cell_of r.tuple) o)) e ∙ ap (λ x. Some x) (meet_comm law (cell_of r.tuple) u)
+
+    -- and its aggregate: that of r alone, else both put together
+    pub agg-insert_alone : (measures : ℕ) (c : Cell A) → covers eq c r ≡ true → closure eq (xs ++ ys) c ≡ None → agg eq measures (xs ++ r ∷ ys) c ≡ agg_of measures (r ∷ [])
+    agg-insert_alone measures c h e =
+        let k : Some (agg eq measures (xs ++ r ∷ ys) c) ≡ Some (agg_of measures (r ∷ [])) =
+        sym (agg_where eq measures (xs ++ r ∷ ys) c (cell_of r.tuple) (closure-insert_alone c h e)) ∙ agg_at-insert measures c ∙ cond-true _ _ _ h ∙ ap (join_aggs (row_agg measures r)) (agg_none eq measures (xs ++ ys) c e) in cc
+
+    pub agg-insert_more : (measures : ℕ) (c u : Cell A) → covers eq c r ≡ true → closure eq (xs ++ ys) c ≡ Some u → agg eq measures (xs ++ r ∷ ys) c ≡ combine (agg_of measures (r ∷ [])) (agg eq measures (xs ++ ys) c)
+    agg-insert_more measures c u h e =
+        let k : Some (agg eq measures (xs ++ r ∷ ys) c) ≡ Some (combine (agg_of measures (r ∷ [])) (agg eq measures (xs ++ ys) c)) =
+        sym (agg_where eq measures (xs ++ r ∷ ys) c (meet eq u (cell_of r.tuple)) (closure-insert_more c u h e)) ∙ agg_at-insert measures c ∙ cond-true _ _ _ h ∙ ap (join_aggs (row_agg measures r)) (agg_where eq measures (xs ++ ys) c u e) in cc

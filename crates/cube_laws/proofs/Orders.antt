@@ -1,5 +1,5 @@
 -- Equalities that come from orders.
-use Rattle.std.proofs.Common.{◌≡◌, ap, sym, refl, true, true≢false}
+use Rattle.std.proofs.Common.{◌≡◌, Bool, ◌∙◌, ap, sym, refl, true, true≢false}
 use Rattle.std.specs.Cmp.{IsTotalOrder, tied_itself}
 use Rattle.std.specs.FinMap.{IsAntisymmetric}
 use Rattle.std.specs.Ordering.{eq_by_cmp, is_eq}
@@ -15,3 +15,11 @@ equality_by {cmp = cmp} total anti = record { exact = λ x y h. anti x y (tied (
     tied Less h = absurd (true≢false (sym h))
     tied Equal h = refl
     tied Greater h = absurd (true≢false (sym h))
+
+-- and so does the test that goes by it
+pub equality_of : {A : Type 0} {cmp : A → A → Ordering} {eq : A → A → Bool} → IsTotalOrder cmp → IsAntisymmetric cmp → ((x y : A) → eq x y ≡ is_eq (cmp x y)) → IsEquality eq
+equality_of total anti by = record { exact = λ x y h. (equality_by total anti).exact x y (sym (by x y) ∙ h); same = λ x. by x x ∙ (equality_by total anti).same x }
+
+-- both are one test
+pub equality-path : {A : Type 0} (cmp : A → A → Ordering) {eq : A → A → Bool} → ((x y : A) → eq x y ≡ is_eq (cmp x y)) → eq_by_cmp cmp ≡ eq
+equality-path cmp by = λ i x y. sym (by x y) i

@@ -1,7 +1,6 @@
 -- The rows that a cell with Any in a dimension covers are parted by their values there: its closure is the meet of the parts' closures, and its aggregate is the parts' put together.
-use Rattle.std.proofs.Common.{◌≡◌, ℕ, zero, suc, Bool, true, false, ◌&&◌, cond, Option, Some, None, List, [], ◌∷◌, filter, refl, sym, ap, ◌∙◌, true≢false, slice_get}
-use Rattle.std.proofs.lemmas.Bool.{and_parts, and_from, cond-true, cond-false}
-use Rattle.std.specs.List.{AllByRecursion}
+use Rattle.std.proofs.Common.{◌≡◌, ℕ, zero, suc, Bool, true, false, ◌&&◌, Option, Some, None, List, [], ◌∷◌, filter, refl, sym, ap, ◌∙◌, true≢false, slice_get}
+use Rattle.std.proofs.lemmas.Bool.{and_parts, and_from}
 use Rattle.std.specs.Option.{option_eq}
 use Rattle.cube_defs.specs.Cell.{Cell, leq, entry_leq, cell_of, with_value}
 use Rattle.cube_defs.specs.Rows.{Row, covers, cov, closure}

@@ -1,14 +1,15 @@
 -- Closures under another code for the values of each dimension.
 use Rattle.std.proofs.Common.{◌≡◌, ℕ, suc, Bool, true, false, ◌&&◌, cond, Option, Some, None, List, [], ◌∷◌, map, filter, refl, sym, ap, ap₂, subst, ◌∙◌, arith}
 use Rattle.std.specs.List.{AllByRecursion}
-use Rattle.std.specs.Option.{option_map}
+use Rattle.std.specs.Option.{option_map, option_eq}
 use Rattle.std.proofs.lemmas.Bool.{cond-true, cond-false}
 use Rattle.std.specs.Cmp.{both_ways}
-use Rattle.cube_defs.specs.Cell.{Cell, leq, meet, cell_of}
+use Rattle.cube_defs.specs.Cell.{Cell, leq, meet, cell_eq, cell_of}
 use Rattle.cube_defs.specs.Rows.{Row, meet_next, meet_all, closure}
 use Rattle.cube_laws.specs.Recoding.{coded, coded_tuple, coded_row, TellsApart, AreKnown, RowsAreKnown}
-use Rattle.cube_laws.proofs.Cells.{IsEquality}
-use Rattle.cube_laws.proofs.Closures.{cells_of, all_cells, closure-cells}
+use Rattle.cube_laws.proofs.Cells.{IsEquality, cell_eq-leq, cell_eq-exact, cell_eq-from}
+use Rattle.cube_laws.specs.Tuples.{cells_of}
+use Rattle.cube_laws.proofs.Closures.{all_cells, closure-cells}
 
 module _ {A B : Type 0} {eq : A → A → Bool} {eq' : B → B → Bool} (law : IsEquality eq) (law' : IsEquality eq') {known : ℕ → A → Bool} {codes : ℕ → A → B} (tells : TellsApart known codes) where
   pub same_test : (k : ℕ) (v w : A) → known k v ≡ true → known k w ≡ true → eq' (codes k v) (codes k w) ≡ eq v w
@@ -99,3 +100,23 @@ module _ {A B : Type 0} {eq : A → A → Bool} {eq' : B → B → Bool} (law : 
       ∙ ap (meet_all eq') (filter-coded c (cells_of rows) g h)
       ∙ meet_all-coded (filter (leq eq c) (cells_of rows)) (known-filter _ (cells_of rows) h)
       ∙ ap (option_map (coded codes 0)) (sym (closure-cells eq rows c))
+
+  pub known-closure : (rows : List (Row A)) (c u : Cell A) → RowsAreKnown known rows → closure eq rows c ≡ Some u → AreKnown known 0 u
+  known-closure rows c u h e = known_meet_all-of (filter (leq eq c) (cells_of rows)) (known-filter _ (cells_of rows) ((all_cells (AreKnown known 0) rows).1 h)) (sym (closure-cells eq rows c) ∙ e)
+    where
+      known_meet_all-of : (cs : List (Cell A)) → AllByRecursion (AreKnown known 0) cs → meet_all eq cs ≡ Some u → AreKnown known 0 u
+      known_meet_all-of cs k f = known-meet_all cs u k f
+
+  pub cell_eq-coded : (c d : Cell A) → AreKnown known 0 c → AreKnown known 0 d → cell_eq eq' (coded codes 0 c) (coded codes 0 d) ≡ cell_eq eq c d
+  cell_eq-coded c d h g =
+      cell_eq-leq law' (coded codes 0 c) (coded codes 0 d)
+      ∙ ap₂ (λ a b. a && b) (leq-coded 0 c d h g) (leq-coded 0 d c g h)
+      ∙ sym (cell_eq-leq law c d)
+
+  -- known cells with one code are the same
+  pub coded-apart : (c d : Cell A) → AreKnown known 0 c → AreKnown known 0 d → coded codes 0 c ≡ coded codes 0 d → c ≡ d
+  coded-apart c d h g e = cell_eq-exact law c d (sym (cell_eq-coded c d h g) ∙ cell_eq-from law' _ _ e)
+
+  pub option_eq-coded : (o : Option (Cell A)) (u : Cell A) → ((w : Cell A) → o ≡ Some w → AreKnown known 0 w) → AreKnown known 0 u → option_eq (cell_eq eq') (option_map (coded codes 0) o) (Some (coded codes 0 u)) ≡ option_eq (cell_eq eq) o (Some u)
+  option_eq-coded None u h g = refl
+  option_eq-coded (Some w) u h g = cell_eq-coded w u (h w refl) g

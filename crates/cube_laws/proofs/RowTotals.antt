@@ -6,10 +6,12 @@ use Rattle.std.proofs.Math.Nat.{add_assoc, add_comm}
 use Rattle.std.specs.Int.{int_min, int_max}
 use Rattle.std.specs.List.{fold, range_with_len}
 use Rattle.cube_defs.specs.Cell.{Cell, cell_of}
-use Rattle.cube_defs.specs.Rows.{Row, Part, Agg, part_of, amounts_of, agg_of, meet_next, meet_all, closure, cov}
-use Rattle.cube_laws.specs.Total.{total, combine_part, combine_parts, combine, join_aggs, join_cells, agg_some}
+use Rattle.cube_defs.specs.Rows.{Row, Part, Agg, part_of, amounts_of, agg_of, meet_next, meet_all, closure, cov, agg}
+use Rattle.cube_laws.specs.Tuples.{cells_of}
+use Rattle.cube_laws.specs.Total.{total, agg_at, combine_part, combine_parts, combine, join_aggs, join_cells, agg_some}
 use Rattle.cube_laws.proofs.Cells.{IsEquality, meet_assoc, meet_comm}
 use Rattle.cube_laws.proofs.Totals.{IsAddition}
+use Rattle.cube_laws.proofs.Lists.{map_same}
 
 pub min_comm : (x y : ℤ) → int_min x y ≡ int_min y x
 min_comm x y = grind (arith, ints)
@@ -109,10 +111,6 @@ parts_more : (f g : ℕ → Part) (is : List ℕ) → map (λ m. combine_part (f
 parts_more f g [] = refl
 parts_more f g (i ∷ is) = ap (λ ps. combine_part (f i) (g i) ∷ ps) (parts_more f g is)
 
-map_same : {X Y : Type 0} (f g : X → Y) (xs : List X) → ((x : X) → f x ≡ g x) → map f xs ≡ map g xs
-map_same f g [] h = refl
-map_same f g (x ∷ xs) h = ap₂ (λ y ys. y ∷ ys) (h x) (map_same f g xs h)
-
 agg_more : {A : Type 0} (measures : ℕ) (r s : Row A) (rows : List (Row A)) → agg_of measures (r ∷ s ∷ rows) ≡ combine (agg_of measures (r ∷ [])) (agg_of measures (s ∷ rows))
 agg_more measures r s rows =
     ap₂ (λ (n : ℕ) (ps : List Part). let x : Agg = record { count = n; parts = ps } in x)
@@ -124,3 +122,18 @@ pub agg_total : {A : Type 0} (measures : ℕ) (rows : List (Row A)) → agg_some
 agg_total measures [] = refl
 agg_total measures (r ∷ []) = refl
 agg_total measures (r ∷ s ∷ rows) = ap (λ x. Some x) (agg_more measures r s rows) ∙ ap (join_aggs (row_agg measures r)) (agg_total measures (s ∷ rows))
+
+module _ {A : Type 0} (eq : A → A → Bool) where
+  pub agg_where : (measures : ℕ) (rows : List (Row A)) (c w : Cell A) → closure eq rows c ≡ Some w → agg_at eq measures rows c ≡ Some (agg eq measures rows c)
+  agg_where measures rows c w e = go (cov eq rows c) e
+    where
+      go : (l : List (Row A)) → meet_all eq (cells_of l) ≡ Some w → agg_some measures l ≡ Some (agg_of measures l)
+      go [] k = cc
+      go (x ∷ l) k = refl
+
+  pub agg_none : (measures : ℕ) (rows : List (Row A)) (c : Cell A) → closure eq rows c ≡ None → agg_at eq measures rows c ≡ None
+  agg_none measures rows c e = go (cov eq rows c) e
+    where
+      go : (l : List (Row A)) → meet_all eq (cells_of l) ≡ None → agg_some measures l ≡ None
+      go [] k = refl
+      go (x ∷ l) k = cc

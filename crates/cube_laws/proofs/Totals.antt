@@ -1,6 +1,5 @@
 -- What is added up over items can be added up part by part, the parts by the values of a key.
 use Rattle.std.proofs.Common.{◌≡◌, Bool, true, false, not, cond, List, [], ◌∷◌, ◌++◌, filter, refl, sym, ap, ap₂, ◌∙◌, true≢false, inl, inr}
-use Rattle.std.proofs.lemmas.Bool.{cond-true, cond-false}
 use Rattle.std.specs.List.{AllByRecursion}
 use Rattle.cube_laws.specs.Lists.{Among, Once}
 use Rattle.cube_laws.specs.Total.{total}

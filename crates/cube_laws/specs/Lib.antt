@@ -2,3 +2,5 @@ pub mod Lists
 pub mod Total
 pub mod Parts
 pub mod Recoding
+pub mod Tuples
+pub mod Step

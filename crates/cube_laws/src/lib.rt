@@ -1,4 +1,14 @@
-//! The laws of the cube, over any type of values.
+//! The laws of the cube, over any type of values. Each is the contract of a function that has nothing
+//! to do. What they speak of stands in the definitions of `cube_defs` and in this crate's `specs/`.
 #![tactic(auto)]
 
+pub mod closure_operator;
+pub mod deletion_step;
+pub mod lattice;
+pub mod lists_of_answers;
+pub mod one_row_more;
+pub mod parts_of_a_class;
+pub mod recoding;
+pub mod same_rows;
+pub mod upper_bounds;
 pub mod values;

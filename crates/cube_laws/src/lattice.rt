@@ -1,0 +1,42 @@
+//! Cells under generalization: an order with a greatest lower bound of each two cells.
+ghost use Rattle.std.specs.Prelude.{IsTrue, ℕ, ◌↔◌, ◌≡◌};
+ghost use Rattle.cube_defs.specs.Cell.{Cell, cell_eq, depth, keep, leq, meet};
+
+use super::values::Value;
+
+/// The generalization of cells is an order, and the test of two cells tells them apart
+/// (Lakshmanan, Pei, Han, VLDB 2002).
+pub fn cells_are_ordered<V: Value>()
+    ensures reflexive { (c : Cell V) → IsTrue (leq V.eq c c) }
+    ensures transitive { (c d e : Cell V) →
+        IsTrue (leq V.eq c d) → IsTrue (leq V.eq d e) → IsTrue (leq V.eq c e) }
+    ensures antisymmetric { (c d : Cell V) → IsTrue (leq V.eq c d) → IsTrue (leq V.eq d c) → c ≡ d }
+    ensures told_apart { (c d : Cell V) → IsTrue (cell_eq V.eq c d) ↔ (c ≡ d) }
+{}
+
+/// The meet of two cells is the greatest of the cells that are below both (Lakshmanan, Pei,
+/// Han, VLDB 2002).
+pub fn meet_is_the_greatest_lower_bound<V: Value>()
+    ensures left { (c d : Cell V) → IsTrue (leq V.eq (meet V.eq c d) c) }
+    ensures right { (c d : Cell V) → IsTrue (leq V.eq (meet V.eq c d) d) }
+    ensures greatest { (b c d : Cell V) →
+        IsTrue (leq V.eq b c) → IsTrue (leq V.eq b d) → IsTrue (leq V.eq b (meet V.eq c d)) }
+{}
+
+/// The meet in algebra: in whichever order cells are met, and how often. One cell is below
+/// another where it is their meet.
+pub fn meet_of_cells<V: Value>()
+    ensures commutative { (c d : Cell V) → meet V.eq c d ≡ meet V.eq d c }
+    ensures associative { (c d e : Cell V) → meet V.eq (meet V.eq c d) e ≡ meet V.eq c (meet V.eq d e) }
+    ensures idempotent { (c : Cell V) → meet V.eq c c ≡ c }
+    ensures order { (c d : Cell V) → IsTrue (leq V.eq c d) ↔ (meet V.eq c d ≡ c) }
+{}
+
+/// The front of a cell is below it, of a greater cell the front is greater, and a cell is its
+/// own front up to its last value (Lakshmanan, Pei, Zhao, SIGMOD 2003).
+pub fn fronts_of_cells<V: Value>()
+    ensures below { (n : ℕ) (c : Cell V) → IsTrue (leq V.eq (keep n c) c) }
+    ensures monotone { (n : ℕ) (c d : Cell V) →
+        IsTrue (leq V.eq c d) → IsTrue (leq V.eq (keep n c) (keep n d)) }
+    ensures whole { (c : Cell V) → keep (depth c) c ≡ c }
+{}

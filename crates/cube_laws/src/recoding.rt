@@ -1,0 +1,99 @@
+//! Other values for the values of each dimension, as codes for texts: what is known of the one
+//! holds of the other, if no two known values of a dimension have one code.
+ghost use Rattle.std.specs.Prelude.{Bool, List, map, ℕ, ◌↔◌, ◌≡◌};
+ghost use Rattle.cube_defs.specs.Answers.{Ask, Box, ClassHit, Hit, iceberg, lower_bounds, range};
+ghost use Rattle.cube_defs.specs.Cell.{Cell, leq, meet};
+ghost use Rattle.cube_defs.specs.Rows.{Row, agg, closure, cov, is_class, is_lower_bound, is_node};
+ghost use Rattle.cube_defs.specs.Tree.{classes, covered, nodes};
+ghost use Rattle.cube_laws.specs.Lists.{Among};
+ghost use Rattle.cube_laws.specs.Recoding.{AreKnown, BoxIsKnown, IsCodedClass, RowsAreKnown, TellsApart, coded, coded_box, coded_hit, coded_row};
+ghost use Rattle.std.specs.Option.{option_map};
+
+use super::values::Value;
+
+/// The codes of cells are ordered, and meet, as the cells do (own).
+pub fn cells_under_recoding<A: Value, B: Value>()
+    ensures order { (known : ℕ → A → Bool) (codes : ℕ → A → B) → TellsApart known codes →
+        (c d : Cell A) → AreKnown known 0 c → AreKnown known 0 d →
+        leq B.eq (coded codes 0 c) (coded codes 0 d) ≡ leq A.eq c d }
+    ensures meet { (known : ℕ → A → Bool) (codes : ℕ → A → B) → TellsApart known codes →
+        (c d : Cell A) → AreKnown known 0 c → AreKnown known 0 d →
+        meet B.eq (coded codes 0 c) (coded codes 0 d) ≡ coded codes 0 (meet A.eq c d) }
+    ensures apart { (known : ℕ → A → Bool) (codes : ℕ → A → B) → TellsApart known codes →
+        (c d : Cell A) → AreKnown known 0 c → AreKnown known 0 d →
+        coded codes 0 c ≡ coded codes 0 d → c ≡ d }
+{}
+
+/// The rows that a code covers are the codes of the rows that the cell covers, and its closure
+/// is the code of the cell's (own).
+pub fn closure_under_recoding<A: Value, B: Value>()
+    ensures rows { (known : ℕ → A → Bool) (codes : ℕ → A → B) → TellsApart known codes →
+        (rows : List (Row A)) (c : Cell A) → RowsAreKnown known rows → AreKnown known 0 c →
+        cov B.eq (map (coded_row codes) rows) (coded codes 0 c) ≡ map (coded_row codes) (cov A.eq rows c) }
+    ensures closure { (known : ℕ → A → Bool) (codes : ℕ → A → B) → TellsApart known codes →
+        (rows : List (Row A)) (c : Cell A) → RowsAreKnown known rows → AreKnown known 0 c →
+        closure B.eq (map (coded_row codes) rows) (coded codes 0 c) ≡ option_map (coded codes 0) (closure A.eq rows c) }
+    ensures aggregate { (known : ℕ → A → Bool) (codes : ℕ → A → B) → TellsApart known codes →
+        (measures : ℕ) (rows : List (Row A)) (c : Cell A) → RowsAreKnown known rows → AreKnown known 0 c →
+        agg B.eq measures (map (coded_row codes) rows) (coded codes 0 c) ≡ agg A.eq measures rows c }
+{}
+
+/// A code is an upper bound, a node or a lower bound exactly where the cell is (own).
+pub fn classes_under_recoding<A: Value, B: Value>()
+    ensures upper_bound { (known : ℕ → A → Bool) (codes : ℕ → A → B) → TellsApart known codes →
+        (rows : List (Row A)) (u : Cell A) → RowsAreKnown known rows → AreKnown known 0 u →
+        is_class B.eq (map (coded_row codes) rows) (coded codes 0 u) ≡ is_class A.eq rows u }
+    ensures node { (known : ℕ → A → Bool) (codes : ℕ → A → B) → TellsApart known codes →
+        (rows : List (Row A)) (p : Cell A) → RowsAreKnown known rows → AreKnown known 0 p →
+        is_node B.eq (map (coded_row codes) rows) (coded codes 0 p) ≡ is_node A.eq rows p }
+    ensures lower_bound { (known : ℕ → A → Bool) (codes : ℕ → A → B) → TellsApart known codes →
+        (rows : List (Row A)) (u c : Cell A) → RowsAreKnown known rows →
+        AreKnown known 0 u → AreKnown known 0 c →
+        is_lower_bound B.eq (map (coded_row codes) rows) (coded codes 0 u) (coded codes 0 c) ≡ is_lower_bound A.eq rows u c }
+{}
+
+/// The cells that cover coded rows are the codes of those that cover the rows, and so it is for
+/// the upper bounds, the nodes and the lower bounds of a class; their order is that of the
+/// codes (own).
+pub fn lists_under_recoding<A: Value, B: Value>()
+    ensures covered { (known : ℕ → A → Bool) (codes : ℕ → A → B) → TellsApart known codes →
+        (rows : List (Row A)) (d : Cell B) → RowsAreKnown known rows →
+        Among d (covered B.cmp (map (coded_row codes) rows))
+        ↔ ((c : Cell A) × Among c (covered A.cmp rows) × (d ≡ coded codes 0 c)) }
+    ensures upper_bounds { (known : ℕ → A → Bool) (codes : ℕ → A → B) → TellsApart known codes →
+        (rows : List (Row A)) (d : Cell B) → RowsAreKnown known rows →
+        Among d (classes B.cmp (map (coded_row codes) rows))
+        ↔ ((c : Cell A) × Among c (classes A.cmp rows) × (d ≡ coded codes 0 c)) }
+    ensures nodes { (known : ℕ → A → Bool) (codes : ℕ → A → B) → TellsApart known codes →
+        (rows : List (Row A)) (d : Cell B) → RowsAreKnown known rows →
+        Among d (nodes B.cmp (map (coded_row codes) rows))
+        ↔ ((c : Cell A) × Among c (nodes A.cmp rows) × (d ≡ coded codes 0 c)) }
+    ensures lower_bounds { (known : ℕ → A → Bool) (codes : ℕ → A → B) → TellsApart known codes →
+        (rows : List (Row A)) (u : Cell A) (d : Cell B) → RowsAreKnown known rows → AreKnown known 0 u →
+        Among d (lower_bounds B.cmp (map (coded_row codes) rows) (coded codes 0 u))
+        ↔ ((c : Cell A) × Among c (lower_bounds A.cmp rows u) × (d ≡ coded codes 0 c)) }
+{}
+
+/// The hits of a coded box are the codes of the hits of the box, if the values of the box are
+/// known; their order is that of the codes (own).
+pub fn range_under_recoding<A: Value, B: Value>()
+    ensures { (known : ℕ → A → Bool) (codes : ℕ → A → B) → TellsApart known codes →
+        (measures : ℕ) (rows : List (Row A)) (box : Box A) (hit : Hit B) →
+        RowsAreKnown known rows → BoxIsKnown known 0 box →
+        Among hit (range B.cmp measures (map (coded_row codes) rows) (coded_box codes 0 box))
+        ↔ ((found : Hit A) × Among found (range A.cmp measures rows box) × (hit ≡ coded_hit codes found)) }
+{}
+
+/// The classes of an iceberg answer over coded rows are those of the answer over the rows, with
+/// the same aggregates and the codes of the same lower bounds; classes of one value, and lower
+/// bounds, may stand in another order (own).
+pub fn iceberg_under_recoding<A: Value, B: Value>()
+    ensures no_more { (known : ℕ → A → Bool) (codes : ℕ → A → B) → TellsApart known codes →
+        (measures : ℕ) (rows : List (Row A)) (ask : Ask) (hit : ClassHit B) → RowsAreKnown known rows →
+        Among hit (iceberg B.cmp measures (map (coded_row codes) rows) ask) →
+        (found : ClassHit A) × Among found (iceberg A.cmp measures rows ask) × IsCodedClass codes found hit }
+    ensures no_less { (known : ℕ → A → Bool) (codes : ℕ → A → B) → TellsApart known codes →
+        (measures : ℕ) (rows : List (Row A)) (ask : Ask) (found : ClassHit A) → RowsAreKnown known rows →
+        Among found (iceberg A.cmp measures rows ask) →
+        (hit : ClassHit B) × Among hit (iceberg B.cmp measures (map (coded_row codes) rows) ask) × IsCodedClass codes found hit }
+{}

@@ -1,0 +1,29 @@
+//! Rows with the same tuples, in whichever order they stand and how often.
+ghost use Rattle.std.specs.Prelude.{List, ◌≡◌};
+ghost use Rattle.cube_defs.specs.Cell.{Cell};
+ghost use Rattle.cube_defs.specs.Rows.{Row, closure, is_class, is_node};
+ghost use Rattle.cube_defs.specs.Tree.{classes, covered, nodes};
+ghost use Rattle.cube_laws.specs.Tuples.{TuplesAmong};
+
+use super::values::Value;
+
+/// Rows with the same tuples have the same closures, upper bounds and nodes (own).
+pub fn order_and_repetition_of_rows<V: Value>()
+    ensures closures { (rows more : List (Row V)) (c : Cell V) → TuplesAmong rows more → TuplesAmong more rows →
+        closure V.eq rows c ≡ closure V.eq more c }
+    ensures classes { (rows more : List (Row V)) (u : Cell V) → TuplesAmong rows more → TuplesAmong more rows →
+        is_class V.eq rows u ≡ is_class V.eq more u }
+    ensures nodes { (rows more : List (Row V)) (p : Cell V) → TuplesAmong rows more → TuplesAmong more rows →
+        is_node V.eq rows p ≡ is_node V.eq more p }
+{}
+
+/// The cells that cover some row, the upper bounds and the nodes, in cell order, are the same
+/// lists for rows with the same tuples (own).
+pub fn lists_of_cells_in_order<V: Value>()
+    ensures covered { (rows more : List (Row V)) → TuplesAmong rows more → TuplesAmong more rows →
+        covered V.cmp rows ≡ covered V.cmp more }
+    ensures classes { (rows more : List (Row V)) → TuplesAmong rows more → TuplesAmong more rows →
+        classes V.cmp rows ≡ classes V.cmp more }
+    ensures nodes { (rows more : List (Row V)) → TuplesAmong rows more → TuplesAmong more rows →
+        nodes V.cmp rows ≡ nodes V.cmp more }
+{}

@@ -1,0 +1,37 @@
+//! The upper bounds of the classes: the cells that are their own closures.
+ghost use Rattle.std.specs.Prelude.{IsTrue, List, ℕ, ◌++◌, ◌∷◌, ◌≡◌};
+ghost use Rattle.cube_defs.specs.Cell.{Cell, depth, keep};
+ghost use Rattle.cube_defs.specs.Rows.{Row, is_class, is_node, meet_all};
+ghost use Rattle.cube_laws.specs.Lists.{Among};
+ghost use Rattle.cube_laws.specs.Tuples.{cells_of};
+
+use super::values::Value;
+
+/// The upper bounds are the meets of some rows, one at least, and no other cells (Lakshmanan,
+/// Pei, Han, VLDB 2002).
+pub fn upper_bounds_are_meets_of_rows<V: Value>()
+    ensures meets { (rows some : List (Row V)) (u : Cell V) →
+        ((r : Row V) → Among r some → Among r rows) →
+        meet_all V.eq (cells_of some) ≡ Some u → IsTrue (is_class V.eq rows u) }
+    ensures no_others { (rows : List (Row V)) (u : Cell V) → IsTrue (is_class V.eq rows u) →
+        (some : List (Row V)) × ((r : Row V) → Among r some → Among r rows)
+        × (meet_all V.eq (cells_of some) ≡ Some u) }
+{}
+
+/// The nodes are the fronts of the upper bounds, and no other cells (Lakshmanan, Pei, Zhao,
+/// SIGMOD 2003).
+pub fn nodes_are_fronts_of_upper_bounds<V: Value>()
+    ensures fronts { (rows : List (Row V)) (n : ℕ) (u : Cell V) →
+        IsTrue (is_class V.eq rows u) → IsTrue (is_node V.eq rows (keep n u)) }
+    ensures no_others { (rows : List (Row V)) (p : Cell V) → IsTrue (is_node V.eq rows p) →
+        (u : Cell V) × IsTrue (is_class V.eq rows u) × (keep (depth p) u ≡ p) }
+{}
+
+/// A row more, wherever it stands, takes no upper bound away and no node; so a row less adds
+/// none (own).
+pub fn upper_bounds_stay_as_a_row_comes<V: Value>()
+    ensures classes { (xs ys : List (Row V)) (r : Row V) (u : Cell V) →
+        IsTrue (is_class V.eq (xs ++ ys) u) → IsTrue (is_class V.eq (xs ++ r ∷ ys) u) }
+    ensures nodes { (xs ys : List (Row V)) (r : Row V) (p : Cell V) →
+        IsTrue (is_node V.eq (xs ++ ys) p) → IsTrue (is_node V.eq (xs ++ r ∷ ys) p) }
+{}
