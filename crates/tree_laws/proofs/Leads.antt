@@ -1,14 +1,16 @@
 -- How a row that comes changes where labels lead.
-use Rattle.std.proofs.Common.{◌≡◌, ℕ, ◌≤◌, ◌<◌, Bool, true, false, ◌&&◌, cond, Option, Some, None, List, [], ◌∷◌, ◌++◌, length, refl, sym, ap, ◌∙◌}
+use Rattle.std.proofs.Common.{◌≡◌, ℕ, ◌≤◌, ◌<◌, Bool, true, false, ◌&&◌, cond, Option, Some, None, List, [], ◌∷◌, ◌++◌, length, slice_get, ◌↔◌, ◌≢◌, refl, sym, ap, ◌∙◌}
+use Rattle.std.proofs.lemmas.Bool.{cond-true, cond-false, false_from_ne_true}
 use Rattle.std.specs.List.{AllByRecursion}
 use Rattle.std.specs.Option.{option_map}
 use Rattle.cube_defs.specs.Cell.{Cell, leq, meet, cell_of, depth, keep, upto, with_value}
 use Rattle.cube_defs.specs.Rows.{Row, covers, closure, meet_next, meet_all}
 use Rattle.cube_laws.proofs.Lists.{filter_same}
 use Rattle.cube_laws.proofs.Cells.{IsEquality, leq_antisymm, meet_comm, keep-leq, keep_mono}
-use Rattle.cube_laws.proofs.Closures.{cells_of, closure-cells, closure_covers, closure_some, closure_mono, closure_idem, leq-closure}
+use Rattle.cube_laws.specs.Tuples.{cells_of}
+use Rattle.cube_laws.proofs.Closures.{closure-cells, closure_covers, closure_some, closure_mono, closure_idem, leq-closure}
 use Rattle.cube_laws.proofs.OneRow.{closure-insert}
-use Rattle.cube_laws.proofs.Columns.{one_value}
+use Rattle.cube_laws.proofs.Columns.{one_value, one_value-leq, slice_get-cell_of}
 use Rattle.tree_laws.specs.Labels.{lead, moved}
 use Rattle.tree_laws.proofs.Fronts.{depth-keep-le, keep-beyond, with_value-leq, keep-meet}
 
@@ -64,3 +66,14 @@ module _ {A : Type 0} {eq : A → A → Bool} (law : IsEquality eq) where
   lead_chain-insert xs r ys p u i v c e h l m =
       lead-insert xs r ys p i v c h l
       ∙ ap (λ o. cond (leq eq (one_value i v) (cell_of r.tuple)) (Some (moved eq o (cell_of r.tuple) i)) o) (lead_chain (xs ++ ys) p u i v e h l m)
+
+  -- the two cases
+  own_value : (r : Row A) (i : ℕ) (v : A) → (leq eq (one_value i v) (cell_of r.tuple) ≡ true) ↔ (slice_get r.tuple i ≡ Some v)
+  own_value r i v = let a = one_value-leq law i v (cell_of r.tuple) in let b = slice_get-cell_of r.tuple i v in (λ h. b.0 (a.0 h), λ h. a.1 (b.1 h))
+
+  pub lead_other : (xs : List (Row A)) (r : Row A) (ys : List (Row A)) (p : Cell A) (i : ℕ) (v : A) → covers eq p r ≡ true → depth p ≤ i → i < length p → slice_get r.tuple i ≢ Some v → lead eq (xs ++ r ∷ ys) p i v ≡ lead eq (xs ++ ys) p i v
+  lead_other xs r ys p i v c h l o = lead-insert xs r ys p i v c h l ∙ cond-false _ _ _ (false_from_ne_true _ (λ k. o ((own_value r i v).0 k)))
+
+  pub lead_own : (xs : List (Row A)) (r : Row A) (ys : List (Row A)) (p : Cell A) (i : ℕ) (v : A) → covers eq p r ≡ true → depth p ≤ i → i < length p → slice_get r.tuple i ≡ Some v
+      → lead eq (xs ++ r ∷ ys) p i v ≡ Some (moved eq (lead eq (xs ++ ys) p i v) (cell_of r.tuple) i)
+  lead_own xs r ys p i v c h l o = lead-insert xs r ys p i v c h l ∙ cond-true _ _ _ ((own_value r i v).1 o)

@@ -8,4 +8,5 @@ pub mod Apart
 pub mod Records
 pub mod OneRow
 pub mod Steps
-pub mod Search
+pub mod Walks
+pub mod RowsLess

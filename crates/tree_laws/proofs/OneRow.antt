@@ -22,7 +22,7 @@ use Rattle.tree_laws.proofs.Nexts.{keep-between, next-chain}
 use Rattle.tree_laws.proofs.Leads.{closure_between, leq-chain, lead-insert, lead_chain, lead_chain-insert}
 use Rattle.tree_laws.proofs.Edges.{law_by, edges-are}
 
-module _ {A : Type 0} {cmp : A → A → Ordering} (total : IsTotalOrder cmp) (anti : IsAntisymmetric cmp) (measures : ℕ) (xs : List (Row A)) (r : Row A) (ys : List (Row A)) where
+module _ {A : Type 0} {cmp : A → A → Ordering} (total : IsTotalOrder cmp) (anti : IsAntisymmetric cmp) (xs : List (Row A)) (r : Row A) (ys : List (Row A)) where
   law : IsEquality (eq_by_cmp cmp)
   law = law_by total anti
 
@@ -39,22 +39,6 @@ module _ {A : Type 0} {cmp : A → A → Ordering} (total : IsTotalOrder cmp) (a
       let is : keep i (meet (eq_by_cmp cmp) u (cell_of r.tuple)) ≡ p = keep-between cmp (depth p) i (meet (eq_by_cmp cmp) u (cell_of r.tuple)) h k ∙ front in
       leq_antisymm law (keep i u) p (ap₂ (λ x y. leq (eq_by_cmp cmp) x y) (sym same) (sym is) ∙ below) (leq-chain law (xs ++ ys) p u i e h)
 
-  -- the chain node is a node, and has p's closure
-  pub chain_node : (p u : Cell A) (i : ℕ) → closure (eq_by_cmp cmp) (xs ++ ys) p ≡ Some u → depth p ≤ i → (closure (eq_by_cmp cmp) (xs ++ ys) (keep i u) ≡ Some u) × (is_node (eq_by_cmp cmp) (xs ++ ys) (keep i u) ≡ true)
-  chain_node p u i e h = (
-    closure_between law (xs ++ ys) p (keep i u) u e (leq-chain law (xs ++ ys) p u i e h) (keep-leq law i u),
-    class_fronts law (xs ++ ys) i u ((is_class-is law (xs ++ ys) u).1 (closure_idem law (xs ++ ys) p u e)),
-  )
-
-  -- a label of the chain node's record is what leads somewhere
-  pub chain_label : (p u : Cell A) (x : Edge A (Cell A)) → closure (eq_by_cmp cmp) (xs ++ ys) p ≡ Some u → depth p ≤ x.dim → x.dim < length u
-      → Among x (node_with cmp measures (xs ++ ys) (keep x.dim u) u (next_value cmp (depth (keep x.dim u)) u)).edges ↔ (lead (eq_by_cmp cmp) (xs ++ ys) (keep x.dim u) x.dim x.value ≡ Some x.target)
-  chain_label p u x e h l =
-      let are = edges-are total anti measures (xs ++ ys) (keep x.dim u) u (chain_node p u x.dim e h).0 (keep-depth_keep x.dim u) x in (
-        λ m. (are.0 m).leads,
-        λ k. are.1 (record { behind = depth-keep-le x.dim u; before = next-chain cmp x.dim u (omega arith); within = omega (arith, length-keep x.dim u); leads = k }),
-      )
-
   -- which cells are nodes after the row
   pub node_met : (p u : Cell A) → covers (eq_by_cmp cmp) p r ≡ true → closure (eq_by_cmp cmp) (xs ++ ys) p ≡ Some u → (is_node (eq_by_cmp cmp) (xs ++ r ∷ ys) p ≡ true) ↔ (keep (depth p) (meet (eq_by_cmp cmp) u (cell_of r.tuple)) ≡ p)
   node_met p u c e = node_by (closure_met p u c e)
@@ -68,3 +52,20 @@ module _ {A : Type 0} {cmp : A → A → Ordering} (total : IsTotalOrder cmp) (a
       let is = is_node-is law (xs ++ r ∷ ys) p in
       let g = ap (option_map (keep (depth p))) f in
       (λ h. some_same (sym g ∙ is.0 h), λ h. is.1 (g ∙ ap (λ y. Some y) h))
+
+module _ {A : Type 0} {cmp : A → A → Ordering} (total : IsTotalOrder cmp) (anti : IsAntisymmetric cmp) (measures : ℕ) (rows : List (Row A)) where
+  -- the chain node is a node, and has p's closure
+  pub chain_node : (p u : Cell A) (i : ℕ) → closure (eq_by_cmp cmp) rows p ≡ Some u → depth p ≤ i → (closure (eq_by_cmp cmp) rows (keep i u) ≡ Some u) × (is_node (eq_by_cmp cmp) rows (keep i u) ≡ true)
+  chain_node p u i e h = (
+    closure_between (law_by total anti) rows p (keep i u) u e (leq-chain (law_by total anti) rows p u i e h) (keep-leq (law_by total anti) i u),
+    class_fronts (law_by total anti) rows i u ((is_class-is (law_by total anti) rows u).1 (closure_idem (law_by total anti) rows p u e)),
+  )
+
+  -- a label of the chain node's record is what leads somewhere
+  pub chain_label : (p u : Cell A) (x : Edge A (Cell A)) → closure (eq_by_cmp cmp) rows p ≡ Some u → depth p ≤ x.dim → x.dim < length u
+      → Among x (node_with cmp measures rows (keep x.dim u) u (next_value cmp (depth (keep x.dim u)) u)).edges ↔ (lead (eq_by_cmp cmp) rows (keep x.dim u) x.dim x.value ≡ Some x.target)
+  chain_label p u x e h l =
+      let are = edges-are total anti measures rows (keep x.dim u) u (chain_node p u x.dim e h).0 (keep-depth_keep x.dim u) x in (
+        λ m. (are.0 m).leads,
+        λ k. are.1 (record { behind = depth-keep-le x.dim u; before = next-chain cmp x.dim u (omega arith); within = omega (arith, length-keep x.dim u); leads = k }),
+      )

@@ -1,5 +1,5 @@
 -- Where the labels of a node lead.
-use Rattle.std.specs.Prelude.{◌≡◌, ℕ, ◌<◌, ◌≤◌, Bool, Option, Some, None, List, length}
+use Rattle.std.specs.Prelude.{◌≡◌, ℕ, suc, ◌<◌, ◌≤◌, Bool, Option, Some, None, List, [], ◌∷◌, length}
 use Rattle.std.specs.Option.{option_map}
 use Rattle.std.specs.declared.cmp.Ordering.{Ordering}
 use Rattle.std.specs.Ordering.{eq_by_cmp}
@@ -22,3 +22,11 @@ pub record IsLabel {A : Type 0} (cmp : A → A → Ordering) (rows : List (Row A
   pub before : x.dim ≤ e
   pub within : x.dim < length p
   pub leads : lead (eq_by_cmp cmp) rows p x.dim x.value ≡ Some x.target
+
+-- the first dimension in which w has a value and u has none, or the number of dimensions
+abbrev pub first_new : {A : Type 0} → Cell A → Cell A → ℕ
+first_new [] w = 0
+first_new (e ∷ u) [] = 0
+first_new (None ∷ u) (Some v ∷ w) = 0
+first_new (None ∷ u) (None ∷ w) = suc (first_new u w)
+first_new (Some a ∷ u) (f ∷ w) = suc (first_new u w)

@@ -4,3 +4,5 @@
 
 pub mod apart_from_a_row;
 pub mod labels;
+pub mod one_row_more;
+pub mod search;
