@@ -10,3 +10,5 @@ pub mod OneRow
 pub mod Steps
 pub mod Walks
 pub mod RowsLess
+pub mod SameTree
+pub mod SameRecords

@@ -6,3 +6,4 @@ pub mod apart_from_a_row;
 pub mod labels;
 pub mod one_row_more;
 pub mod search;
+pub mod same_rows;
