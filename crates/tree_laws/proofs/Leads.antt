@@ -1,5 +1,5 @@
 -- How a row that comes changes where labels lead.
-use Rattle.std.proofs.Common.{◌≡◌, ℕ, ◌≤◌, ◌<◌, Bool, true, false, ◌&&◌, cond, Option, Some, None, List, [], ◌∷◌, ◌++◌, length, slice_get, ◌↔◌, ◌≢◌, refl, sym, ap, ◌∙◌}
+use Rattle.std.proofs.Common.{◌≡◌, ℕ, ◌≤◌, ◌<◌, Bool, true, false, ◌&&◌, cond, Option, Some, None, List, [], ◌∷◌, ◌++◌, length, slice_get, ◌↔◌, ◌≢◌, refl, sym, ap, ap₂, ◌∙◌, suc, arith}
 use Rattle.std.proofs.lemmas.Bool.{cond-true, cond-false, false_from_ne_true}
 use Rattle.std.specs.List.{AllByRecursion}
 use Rattle.std.specs.Option.{option_map}
@@ -9,10 +9,12 @@ use Rattle.cube_laws.proofs.Lists.{filter_same}
 use Rattle.cube_laws.proofs.Cells.{IsEquality, leq_antisymm, meet_comm, keep-leq, keep_mono}
 use Rattle.cube_laws.specs.Tuples.{cells_of}
 use Rattle.cube_laws.proofs.Closures.{closure-cells, closure_covers, closure_some, closure_mono, closure_idem, leq-closure}
-use Rattle.cube_laws.proofs.OneRow.{closure-insert}
+use Rattle.cube_laws.proofs.OneRow.{closure-insert, covered-insert}
+use Rattle.cube_laws.proofs.Deletion.{closure_after}
+use Rattle.tree_laws.proofs.Lists.{some_same}
 use Rattle.cube_laws.proofs.Columns.{one_value, one_value-leq, slice_get-cell_of}
 use Rattle.tree_laws.specs.Labels.{lead, moved}
-use Rattle.tree_laws.proofs.Fronts.{depth-keep-le, keep-beyond, with_value-leq, keep-meet}
+use Rattle.tree_laws.proofs.Fronts.{depth-keep-le, depth-with_value, keep-beyond, with_value-leq, keep-meet}
 
 module _ {A : Type 0} {eq : A → A → Bool} (law : IsEquality eq) where
   -- between a cell and its closure all have that closure
@@ -77,3 +79,28 @@ module _ {A : Type 0} {eq : A → A → Bool} (law : IsEquality eq) where
   pub lead_own : (xs : List (Row A)) (r : Row A) (ys : List (Row A)) (p : Cell A) (i : ℕ) (v : A) → covers eq p r ≡ true → depth p ≤ i → i < length p → slice_get r.tuple i ≡ Some v
       → lead eq (xs ++ r ∷ ys) p i v ≡ Some (moved eq (lead eq (xs ++ ys) p i v) (cell_of r.tuple) i)
   lead_own xs r ys p i v c h l o = lead-insert xs r ys p i v c h l ∙ cond-true _ _ _ ((own_value r i v).1 o)
+
+  found : (o : Option (Cell A)) (i : ℕ) (c : Cell A) → option_map (λ w. upto w i) o ≡ Some c → (w : Cell A) × (o ≡ Some w) × (upto w i ≡ c)
+  found None i c h = cc
+  found (Some w) i c h = (w, refl, some_same h)
+
+  -- after a row has gone, where the old target's closure is now
+  pub lead_less : (xs : List (Row A)) (r : Row A) (ys : List (Row A)) (p c : Cell A) (i : ℕ) (v : A) → depth p ≤ i → i < length p → lead eq (xs ++ r ∷ ys) p i v ≡ Some c
+      → lead eq (xs ++ ys) p i v ≡ option_map (λ u. upto u i) (closure eq (xs ++ ys) c)
+  lead_less xs r ys p c i v d l h =
+      let f : (w : Cell A) × (closure eq (xs ++ r ∷ ys) (with_value p i v) ≡ Some w) × (upto w i ≡ c) = found (closure eq (xs ++ r ∷ ys) (with_value p i v)) i c h in
+      let short : keep (suc i) (with_value p i v) ≡ with_value p i v = keep-beyond (suc i) (with_value p i v) (omega (arith, depth-with_value p i v d l)) in
+      let up : leq eq (with_value p i v) c ≡ true = ap₂ (λ x y. leq eq x y) (sym short) (sym f.2) ∙ keep_mono law (suc i) (with_value p i v) f.0 (leq-closure law (xs ++ r ∷ ys) (with_value p i v) f.0 f.1) in
+      let down : leq eq c f.0 ≡ true = ap (λ x. leq eq x f.0) (sym f.2) ∙ keep-leq law (suc i) f.0 in
+      let own : closure eq (xs ++ r ∷ ys) c ≡ Some f.0 = closure_between (xs ++ r ∷ ys) (with_value p i v) c f.0 f.1 up down in
+      ap (option_map (λ u. upto u i)) (closure_after law xs r ys (with_value p i v) f.0 f.1 ∙ sym (closure_after law xs r ys c f.0 own))
+
+  pub lead_none : (xs : List (Row A)) (r : Row A) (ys : List (Row A)) (p : Cell A) (i : ℕ) (v : A) → lead eq (xs ++ r ∷ ys) p i v ≡ None → lead eq (xs ++ ys) p i v ≡ None
+  lead_none xs r ys p i v h = go (closure eq (xs ++ ys) (with_value p i v)) refl
+    where
+      go : (o : Option (Cell A)) → closure eq (xs ++ ys) (with_value p i v) ≡ o → option_map (λ u. upto u i) (closure eq (xs ++ ys) (with_value p i v)) ≡ None
+      go None e = ap (option_map (λ u. upto u i)) e
+      go (Some w) e =
+          let b : (u : Cell A) × (closure eq (xs ++ r ∷ ys) (with_value p i v) ≡ Some u) = covered-insert law xs r ys (with_value p i v) w e in
+          let bad : None ≡ Some (upto b.0 i) = sym h ∙ ap (option_map (λ u. upto u i)) b.1 in
+          cc

@@ -12,3 +12,6 @@ pub mod Walks
 pub mod RowsLess
 pub mod SameTree
 pub mod SameRecords
+pub mod Sums
+pub mod Entries
+pub mod Counted

@@ -44,9 +44,10 @@ module _ {A : Type 0} {eq : A → A → Bool} (law : IsEquality eq) where
       let was : Some (keep (depth p) u) ≡ Some p = ap (option_map (keep (depth p))) (sym e) ∙ (is_node-is law before p).0 h in
       let front : keep (depth p) u ≡ p = cc in
       let d = keep_new (depth p) u w up l (omega (arith, depth-le p, length-keep (depth p) u, ap length front)) in
-      let n = is_node-is law after p in
-      (λ k. let now : Some (keep (depth p) w) ≡ Some p = ap (option_map (keep (depth p))) (sym f) ∙ n.0 k in let is : keep (depth p) w ≡ p = cc in d.0 (is ∙ sym front),
-      λ k. n.1 (ap (option_map (keep (depth p))) f ∙ ap (λ x. Some x) (d.1 k ∙ front)))
+      let n = is_node-is law after p in (
+        λ k. let now : Some (keep (depth p) w) ≡ Some p = ap (option_map (keep (depth p))) (sym f) ∙ n.0 k in let is : keep (depth p) w ≡ p = cc in d.0 (is ∙ sym front),
+        λ k. n.1 (ap (option_map (keep (depth p))) f ∙ ap (λ x. Some x) (d.1 k ∙ front)),
+      )
 
   first_value : (u w : Cell A) → leq eq u w ≡ true → length u ≡ length w → position_or_len is_some w ≡ min (position_or_len is_some u) (first_new u w)
   first_value [] [] h l = omega arith

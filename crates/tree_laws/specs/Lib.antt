@@ -1,3 +1,4 @@
 pub mod Labels
 pub mod Walk
 pub mod Renaming
+pub mod Counts

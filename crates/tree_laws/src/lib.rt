@@ -3,7 +3,8 @@
 #![tactic(auto)]
 
 pub mod apart_from_a_row;
+pub mod counting;
 pub mod labels;
 pub mod one_row_more;
-pub mod search;
 pub mod same_rows;
+pub mod search;

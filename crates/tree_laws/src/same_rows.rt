@@ -13,38 +13,25 @@ use cube_laws::values::Value;
 /// Two canonical trees of the same rows are equal up to the numbers of their nodes (Lakshmanan, Pei,
 /// Zhao, SIGMOD 2003).
 pub fn trees_of_the_same_rows<V: Value>()
-    ensures {
-        (measures : ℕ) (rows : List (Row V)) (tree other : Tree V) →
+    ensures { (measures : ℕ) (rows : List (Row V)) (tree other : Tree V) →
         IsCanonical V.cmp measures rows tree → IsCanonical V.cmp measures rows other →
-        (name : ℕ → ℕ) × IsRenaming name tree other
-    }
-{
-}
+        (name : ℕ → ℕ) × IsRenaming name tree other }
+{}
 
 /// Rows with the same tuples, in whichever order they stand and how often, have the same records but
 /// for what the rows come to, and wherever this is the same too, the same records (own).
 pub fn records_of_the_same_tuples<V: Value>()
-    ensures shapes {
-        (measures : ℕ) (rows more : List (Row V)) (p : Cell V) → TuplesAmong rows more → TuplesAmong more rows →
-        option_map shape (node_of V.cmp measures rows p) ≡ option_map shape (node_of V.cmp measures more p)
-    }
-    ensures records {
-        (measures : ℕ) (rows more : List (Row V)) (p : Cell V) → TuplesAmong rows more → TuplesAmong more rows →
+    ensures shapes { (measures : ℕ) (rows more : List (Row V)) (p : Cell V) → TuplesAmong rows more → TuplesAmong more rows →
+        option_map shape (node_of V.cmp measures rows p) ≡ option_map shape (node_of V.cmp measures more p) }
+    ensures records { (measures : ℕ) (rows more : List (Row V)) (p : Cell V) → TuplesAmong rows more → TuplesAmong more rows →
         agg (eq_by_cmp V.cmp) measures rows p ≡ agg (eq_by_cmp V.cmp) measures more p →
-        node_of V.cmp measures rows p ≡ node_of V.cmp measures more p
-    }
-{
-}
+        node_of V.cmp measures rows p ≡ node_of V.cmp measures more p }
+{}
 
 /// A row may stand anywhere among the others: the canonical trees are the same (own).
 pub fn a_row_may_stand_anywhere<V: Value>()
-    ensures to_front {
-        (measures : ℕ) (xs ys : List (Row V)) (r : Row V) (tree : Tree V) →
-        IsCanonical V.cmp measures (xs ++ r ∷ ys) tree → IsCanonical V.cmp measures (r ∷ (xs ++ ys)) tree
-    }
-    ensures from_front {
-        (measures : ℕ) (xs ys : List (Row V)) (r : Row V) (tree : Tree V) →
-        IsCanonical V.cmp measures (r ∷ (xs ++ ys)) tree → IsCanonical V.cmp measures (xs ++ r ∷ ys) tree
-    }
-{
-}
+    ensures to_front { (measures : ℕ) (xs ys : List (Row V)) (r : Row V) (tree : Tree V) →
+        IsCanonical V.cmp measures (xs ++ r ∷ ys) tree → IsCanonical V.cmp measures (r ∷ (xs ++ ys)) tree }
+    ensures from_front { (measures : ℕ) (xs ys : List (Row V)) (r : Row V) (tree : Tree V) →
+        IsCanonical V.cmp measures (r ∷ (xs ++ ys)) tree → IsCanonical V.cmp measures (xs ++ r ∷ ys) tree }
+{}

@@ -17,31 +17,23 @@ use cube_laws::values::Value;
 /// From the root a search comes to the node of the cell's closure, and it comes nowhere exactly where
 /// the cell covers no row. Where there is no root, no cell covers a row.
 pub fn search_finds_the_closure<V: Value>()
-    ensures found {
-        (dims measures : ℕ) (rows : List (Row V)) (tree : Tree V) (root : ℕ) (c : Cell V) →
+    ensures found { (dims measures : ℕ) (rows : List (Row V)) (tree : Tree V) (root : ℕ) (c : Cell V) →
         AllByRecursion (λ row. length row.tuple ≡ dims) rows → IsCanonical V.cmp measures rows tree →
         length c ≡ dims → cell_at tree root ≡ Some (replicate dims None) →
-        option_and_then (cell_at tree) (walk (eq_by_cmp V.cmp) tree c root 0) ≡ closure (eq_by_cmp V.cmp) rows c
-    }
-    ensures no_root {
-        (dims measures : ℕ) (rows : List (Row V)) (tree : Tree V) (c : Cell V) →
+        option_and_then (cell_at tree) (walk (eq_by_cmp V.cmp) tree c root 0) ≡ closure (eq_by_cmp V.cmp) rows c }
+    ensures no_root { (dims measures : ℕ) (rows : List (Row V)) (tree : Tree V) (c : Cell V) →
         AllByRecursion (λ row. length row.tuple ≡ dims) rows → IsCanonical V.cmp measures rows tree →
         length c ≡ dims → ((k : ℕ) → cell_at tree k ≢ Some (replicate dims None)) →
-        closure (eq_by_cmp V.cmp) rows c ≡ None
-    }
-{
-}
+        closure (eq_by_cmp V.cmp) rows c ≡ None }
+{}
 
 /// One dimension of a search leads from the front of the closure of the cell's first entries to the
 /// front that is one dimension longer, and nowhere exactly where those entries cover no row.
 pub fn one_dimension_of_a_search<V: Value>()
-    ensures {
-        (dims measures : ℕ) (rows : List (Row V)) (tree : Tree V) (k : ℕ) (n : Node V ℕ) (c : Cell V) (i : ℕ) (a : Option V) →
+    ensures { (dims measures : ℕ) (rows : List (Row V)) (tree : Tree V) (k : ℕ) (n : Node V ℕ) (c : Cell V) (i : ℕ) (a : Option V) →
         AllByRecursion (λ row. length row.tuple ≡ dims) rows → IsCanonical V.cmp measures rows tree →
         length c ≡ dims → slice_get c i ≡ Some a → i < dims →
         map.get tree k ≡ Some n → Some n.cell ≡ front (eq_by_cmp V.cmp) rows c i →
         option_map (cell_at tree) (walk_on (eq_by_cmp V.cmp) k n i a)
-        ≡ option_map (λ d. Some d) (front (eq_by_cmp V.cmp) rows c (suc i))
-    }
-{
-}
+        ≡ option_map (λ d. Some d) (front (eq_by_cmp V.cmp) rows c (suc i)) }
+{}

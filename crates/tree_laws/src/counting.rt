@@ -1,0 +1,27 @@
+//! The numbers of classes, nodes and edges of a canonical tree are told by its rows.
+ghost use Rattle.std.specs.FinMap as map;
+ghost use Rattle.std.specs.List.{AllByRecursion};
+ghost use Rattle.std.specs.Prelude.{List, length, ℕ, ◌≡◌};
+ghost use Rattle.cube_defs.specs.Rows.{Row};
+ghost use Rattle.cube_defs.specs.Tree.{IsCanonical, Tree, classes, links, nodes, tree_edges};
+ghost use Rattle.tree_laws.specs.Counts.{classes_in, links_in, tree_edges_in};
+
+use cube_laws::values::Value;
+
+/// A canonical tree has as many records as the rows have nodes, as many records with an aggregate as
+/// they have classes, and as many edges to children and other edges as they have tree edges and links
+/// (own).
+pub fn counts_of_a_tree<V: Value>()
+    ensures nodes { (dims measures : ℕ) (rows : List (Row V)) (tree : Tree V) →
+        AllByRecursion (λ row. length row.tuple ≡ dims) rows → IsCanonical V.cmp measures rows tree →
+        map.len tree ≡ length (nodes V.cmp rows) }
+    ensures classes { (dims measures : ℕ) (rows : List (Row V)) (tree : Tree V) →
+        AllByRecursion (λ row. length row.tuple ≡ dims) rows → IsCanonical V.cmp measures rows tree →
+        classes_in V.cmp tree ≡ length (classes V.cmp rows) }
+    ensures tree_edges { (dims measures : ℕ) (rows : List (Row V)) (tree : Tree V) →
+        AllByRecursion (λ row. length row.tuple ≡ dims) rows → IsCanonical V.cmp measures rows tree →
+        tree_edges_in V.cmp tree ≡ tree_edges V.cmp rows }
+    ensures links { (dims measures : ℕ) (rows : List (Row V)) (tree : Tree V) →
+        AllByRecursion (λ row. length row.tuple ≡ dims) rows → IsCanonical V.cmp measures rows tree →
+        links_in V.cmp tree ≡ links V.cmp rows }
+{}
