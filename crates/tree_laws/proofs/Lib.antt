@@ -15,3 +15,5 @@ pub mod SameRecords
 pub mod Sums
 pub mod Entries
 pub mod Counted
+pub mod EdgesRise
+pub mod Recoded

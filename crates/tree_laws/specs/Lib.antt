@@ -2,3 +2,4 @@ pub mod Labels
 pub mod Walk
 pub mod Renaming
 pub mod Counts
+pub mod Edges
