@@ -13,12 +13,11 @@ use Rattle.cube_defs.specs.Tree.{Edge, Node, Tree, IsCanonical, node_of, node_wi
 use Rattle.cube_laws.specs.Lists.{Among}
 use Rattle.cube_laws.proofs.Lists.{among_map, map_among, filter_filter}
 use Rattle.cube_laws.proofs.Cells.{IsEquality, keep-depth}
-use Rattle.cube_laws.proofs.Covered.{covered_rises, cell_total, cell_anti}
 use Rattle.cube_laws.proofs.Nodes.{nodes-is, class_fronts}
 use Rattle.cube_laws.proofs.Orders.{equality_by}
 use Rattle.tree_laws.specs.Counts.{is_under, classes_in, tree_edges_in, links_in}
 use Rattle.tree_laws.proofs.Lists.{some_same}
-use Rattle.tree_laws.proofs.Sums.{EachOnce, sum_same, once_filter, rises_once, sum_ones, sum_alike, sum_by-map, or_nothing, sum_by-filter_map}
+use Rattle.tree_laws.proofs.Sums.{EachOnce, sum_same, once_filter, sum_ones, sum_alike, sum_by-map, length-map, covered_once, or_nothing, sum_by-filter_map}
 use Rattle.tree_laws.proofs.Entries.{entry_get, get_entry, entries_once}
 
 module _ {A : Type 0} {cmp : A → A → Ordering} (total : IsTotalOrder cmp) (anti : numbers.IsAntisymmetric cmp) (dims measures : ℕ) (rows : List (Row A)) (wide : AllByRecursion (λ row. length row.tuple ≡ dims) rows) (kept : Tree A) (canonical : IsCanonical cmp measures rows kept) where
@@ -33,7 +32,7 @@ module _ {A : Type 0} {cmp : A → A → Ordering} (total : IsTotalOrder cmp) (a
   cell_once = entries_once kept (λ n. n.cell) (λ k l n m g h e. canonical.once k l m.cell (ap (option_map (λ x. x.cell)) g ∙ ap (λ x. Some x) e) (ap (option_map (λ x. x.cell)) h))
 
   node_once : EachOnce (nodes cmp rows)
-  node_once = once_filter (is_node (eq_by_cmp cmp) rows) (covered cmp rows) (rises_once (cell_total total anti) (cell_anti total anti) (covered cmp rows) (covered_rises total anti rows))
+  node_once = once_filter (is_node (eq_by_cmp cmp) rows) (covered cmp rows) (covered_once total anti rows)
 
   to_nodes : (c : Cell A) → Among c cells → Among c (nodes cmp rows)
   unfolding cells
@@ -60,16 +59,9 @@ module _ {A : Type 0} {cmp : A → A → Ordering} (total : IsTotalOrder cmp) (a
       ∙ sym (sum_by-map f (λ (e : ℕ × Node A ℕ). e.1.cell) (numbers.entries kept))
       ∙ sum_same f cells (nodes cmp rows) cell_once node_once to_nodes from_nodes
 
-  ones_map : {X Y : Type 0} (f : X → Y) (xs : List X) → length (map f xs) ≡ length xs
-  ones_map f [] = refl
-  ones_map f (x ∷ xs) = ap (λ n. suc_of n) (ones_map f xs)
-    where
-      suc_of : ℕ → ℕ
-      suc_of n = suc n
-
   pub nodes_counted : numbers.len kept ≡ length (nodes cmp rows)
   nodes_counted =
-      numbers.len-entries kept ∙ sym (ones_map (λ e. e.1) (numbers.entries kept)) ∙ sym (sum_ones (numbers.values kept))
+      numbers.len-entries kept ∙ sym (length-map (λ e. e.1) (numbers.entries kept)) ∙ sym (sum_ones (numbers.values kept))
       ∙ sum_records (λ c. 1) (λ n. 1) (λ k n g. refl) ∙ sum_ones (nodes cmp rows)
 
   -- a record is marked where its cell is a class

@@ -17,3 +17,4 @@ pub mod Entries
 pub mod Counted
 pub mod EdgesRise
 pub mod Recoded
+pub mod RecodedCounts

@@ -28,7 +28,7 @@ use Rattle.tree_laws.proofs.Nexts.{next-nil, next-suc, next-none}
 use Rattle.tree_laws.proofs.Records.{record_with, record_closure, record_edges}
 
 module _ {A B : Type 0} (codes : ℕ → A → B) where
-  with_value-coded : (k : ℕ) (c : Cell A) (i j : ℕ) (v : A) → j ≡ k + i → with_value (coded codes k c) i (codes j v) ≡ coded codes k (with_value c i v)
+  pub with_value-coded : (k : ℕ) (c : Cell A) (i j : ℕ) (v : A) → j ≡ k + i → with_value (coded codes k c) i (codes j v) ≡ coded codes k (with_value c i v)
   with_value-coded k [] i j v e = refl
   with_value-coded k (f ∷ c) zero j v e = ap (λ n. Some (codes n v) ∷ coded codes (suc k) c) (let s : j ≡ k = omega arith in s)
   with_value-coded k (f ∷ c) (suc i) j v e = ap (λ x. option_map (codes k) f ∷ x) (with_value-coded (suc k) c i j v (omega arith))
@@ -82,8 +82,16 @@ module _ {A B : Type 0} {cmp : A → A → Ordering} {cmp' : B → B → Orderin
       cut None = refl
       cut (Some w) = ap (λ x. Some x) (keep-coded codes (suc i) 0 w)
 
+  -- where a label leads is known
+  pub known-target : (p : Cell A) (i : ℕ) (v : A) (c : Cell A) → lead (eq_by_cmp cmp) rows p i v ≡ Some c → AreKnown known 0 c
+  known-target p i v c e = go (closure (eq_by_cmp cmp) rows (with_value p i v)) refl e
+    where
+      go : (o : Option (Cell A)) → closure (eq_by_cmp cmp) rows (with_value p i v) ≡ o → option_map (λ w. upto w i) o ≡ Some c → AreKnown known 0 c
+      go None q k = cc
+      go (Some w) q k = subst (AreKnown known 0) (some_same k) (known-keep known (suc i) 0 w (known-closure law law' tells rows (with_value p i v) w h q))
+
   -- what leads somewhere is known
-  known-label : (p : Cell A) (i : ℕ) (v : A) (c : Cell A) → lead (eq_by_cmp cmp) rows p i v ≡ Some c → AreKnown known 0 (with_value p i v)
+  pub known-label : (p : Cell A) (i : ℕ) (v : A) (c : Cell A) → lead (eq_by_cmp cmp) rows p i v ≡ Some c → AreKnown known 0 (with_value p i v)
   known-label p i v c e = go (closure (eq_by_cmp cmp) rows (with_value p i v)) refl e
     where
       go : (o : Option (Cell A)) → closure (eq_by_cmp cmp) rows (with_value p i v) ≡ o → option_map (λ w. upto w i) o ≡ Some c → AreKnown known 0 (with_value p i v)
@@ -109,6 +117,13 @@ module _ {A B : Type 0} {cmp : A → A → Ordering} {cmp' : B → B → Orderin
           by r m None q k = cc
           by r m (Some v) q k = (v, sym (some_same k), ap (λ n. known n v) (let s : i ≡ 0 + i = omega arith in s) ∙ known-value known 0 r.tuple i v (all_at (λ row. AreKnown known 0 (cell_of row.tuple)) r rows h m) q)
 
+  pub parent-coded : (p : Cell A) → cut_last cmp' (coded codes 0 p) ≡ option_map (coded codes 0) (cut_last cmp p)
+  parent-coded p = ap (λ d. cond (d == 0) None (Some (keep (d - 1) (coded codes 0 p)))) (depth-coded codes 0 p) ∙ go (depth p == 0)
+    where
+      go : (b : Bool) → cond b None (Some (keep (depth p - 1) (coded codes 0 p))) ≡ option_map (coded codes 0) (cond b None (Some (keep (depth p - 1) p)))
+      go true = refl
+      go false = ap (λ x. Some x) (keep-coded codes (depth p - 1) 0 p)
+
   module _ (measures : ℕ) (p : Cell A) (kp : AreKnown known 0 p) (n : Node A (Cell A)) (node : is_node (eq_by_cmp cmp) rows p ≡ true) (is : node_of cmp measures rows p ≡ Some n) where
     closed : (u : Cell A) × (closure (eq_by_cmp cmp) rows p ≡ Some u)
     closed = record_closure total anti measures rows p n is
@@ -128,13 +143,6 @@ module _ {A B : Type 0} {cmp : A → A → Ordering} {cmp' : B → B → Orderin
 
     same_next : next_value cmp' (depth (coded codes 0 p)) (coded codes 0 closed.0) ≡ next_value cmp (depth p) closed.0
     same_next = ap (λ d. next_value cmp' d (coded codes 0 closed.0)) (depth-coded codes 0 p) ∙ next-coded codes cmp cmp' (depth p) 0 closed.0
-
-    parent-coded : cut_last cmp' (coded codes 0 p) ≡ option_map (coded codes 0) (cut_last cmp p)
-    parent-coded = ap (λ d. cond (d == 0) None (Some (keep (d - 1) (coded codes 0 p)))) (depth-coded codes 0 p) ∙ go (depth p == 0)
-      where
-        go : (b : Bool) → cond b None (Some (keep (depth p - 1) (coded codes 0 p))) ≡ option_map (coded codes 0) (cond b None (Some (keep (depth p - 1) p)))
-        go true = refl
-        go false = ap (λ x. Some x) (keep-coded codes (depth p - 1) 0 p)
 
     class-coded : cond (cell_eq (eq_by_cmp cmp') (coded codes 0 closed.0) (coded codes 0 p)) (Some (agg (eq_by_cmp cmp') measures (map (coded_row codes) rows) (coded codes 0 p))) None ≡ cond (cell_eq (eq_by_cmp cmp) closed.0 p) (Some (agg (eq_by_cmp cmp) measures rows p)) None
     class-coded = ap₂ (λ b a. cond b (Some a) None) (cell_eq-coded law law' tells closed.0 p u_known kp) (agg-coded law law' tells rows h measures p kp)
@@ -199,13 +207,17 @@ module _ {A B : Type 0} {cmp : A → A → Ordering} {cmp' : B → B → Orderin
             same a b = λ i. record { dim = y.dim; value = a i; target = b i }
 
     pub record-coded : (m : Node B (Cell B)) × (node_of cmp' measures (map (coded_row codes) rows) (coded codes 0 p) ≡ Some m) × IsCodedNode codes n m
-    record-coded = (coded_record, record_there, subst (λ x. IsCodedNode codes x coded_record) (sym (record_with total anti measures rows p n is closed.0 closed.1)) (record {
-      cell = refl;
-      parent = parent-coded;
-      class = class-coded;
-      forced = ap (forced_child cmp' (coded codes 0 p) (coded codes 0 closed.0)) same_next ∙ forced-coded (next_value cmp (depth p) closed.0);
-      edges = λ y. (
-        λ m. let r = from_codes y m in (r.0, subst (λ x. Among r.0 x.edges) (record_with total anti measures rows p n is closed.0 closed.1) r.1, r.2),
-        λ r. subst (λ z. Among z coded_record.edges) (sym r.2) (to_codes r.0 (subst (λ x. Among r.0 x.edges) (sym (record_with total anti measures rows p n is closed.0 closed.1)) r.1)),
-      );
-    }))
+    record-coded = (
+      coded_record,
+      record_there,
+      subst (λ x. IsCodedNode codes x coded_record) (sym (record_with total anti measures rows p n is closed.0 closed.1)) (record {
+        cell = refl;
+        parent = parent-coded p;
+        class = class-coded;
+        forced = ap (forced_child cmp' (coded codes 0 p) (coded codes 0 closed.0)) same_next ∙ forced-coded (next_value cmp (depth p) closed.0);
+        edges = λ y. (
+          λ m. let r = from_codes y m in (r.0, subst (λ x. Among r.0 x.edges) (record_with total anti measures rows p n is closed.0 closed.1) r.1, r.2),
+          λ r. subst (λ z. Among z coded_record.edges) (sym r.2) (to_codes r.0 (subst (λ x. Among r.0 x.edges) (sym (record_with total anti measures rows p n is closed.0 closed.1)) r.1)),
+        );
+      }),
+    )

@@ -7,8 +7,11 @@ use Rattle.std.specs.FinMap.{IsAntisymmetric}
 use Rattle.std.specs.List.{sum_by, cons_option}
 use Rattle.std.proofs.lemmas.List.Sums.{sum_by-cons}
 use Rattle.cube_laws.specs.Lists.{Among, Rises}
-use Rattle.cube_laws.proofs.Lists.{all_at, filter_among}
+use Rattle.cube_laws.proofs.Lists.{all_at, filter_among, among_map}
 use Rattle.cube_laws.proofs.Distinct.{self_less}
+use Rattle.cube_laws.proofs.Covered.{covered_rises, cell_total, cell_anti}
+use Rattle.cube_defs.specs.Rows.{Row}
+use Rattle.cube_defs.specs.Tree.{covered}
 
 module _ {X : Type 0} where
   -- no item twice
@@ -67,7 +70,22 @@ abbrev pub or_nothing : {Y : Type 0} → (Y → ℕ) → Option Y → ℕ
 or_nothing f None = 0
 or_nothing f (Some y) = f y
 
+-- the cells that cover some row stand there once
+pub covered_once : {A : Type 0} {cmp : A → A → Ordering} → IsTotalOrder cmp → IsAntisymmetric cmp → (rows : List (Row A)) → EachOnce (covered cmp rows)
+covered_once {cmp = cmp} total anti rows = rises_once (cell_total total anti) (cell_anti total anti) (covered cmp rows) (covered_rises total anti rows)
+
 module _ {X Y : Type 0} where
+  pub once_map : (f : X → Y) (xs : List X) → ((x z : X) → Among x xs → Among z xs → f x ≡ f z → x ≡ z) → EachOnce xs → EachOnce (map f xs)
+  once_map f [] apart h = tt
+  once_map f (x ∷ xs) apart h = (
+    λ m. let r : (z : X) × Among z xs × (f x ≡ f z) = among_map f (f x) xs m in h.0 (subst (λ w. Among w xs) (sym (apart x r.0 (inl refl) (inr r.1) r.2)) r.1),
+    once_map f xs (λ z w m k. apart z w (inr m) (inr k)) h.1,
+  )
+
+  pub length-map : (f : X → Y) (xs : List X) → length (map f xs) ≡ length xs
+  length-map f [] = refl
+  length-map f (x ∷ xs) = ap suc (length-map f xs)
+
   pub sum_by-map : (f : Y → ℕ) (h : X → Y) (xs : List X) → sum_by f (map h xs) ≡ sum_by (λ x. f (h x)) xs
   sum_by-map f h [] = refl
   sum_by-map f h (x ∷ xs) = sum_by-cons f (h x) (map h xs) ∙ ap (λ n. f (h x) + n) (sum_by-map f h xs) ∙ sym (sum_by-cons (λ y. f (h y)) x xs)

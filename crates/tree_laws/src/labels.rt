@@ -5,7 +5,8 @@ ghost use Rattle.std.specs.Ordering.{eq_by_cmp};
 ghost use Rattle.cube_defs.specs.Cell.{Cell, depth, keep, leq, with_value};
 ghost use Rattle.cube_defs.specs.Rows.{Row, closure, is_node};
 ghost use Rattle.cube_defs.specs.Tree.{Edge, Node, next_value, node_of};
-ghost use Rattle.cube_laws.specs.Lists.{Among};
+ghost use Rattle.cube_laws.specs.Lists.{Among, Rises};
+ghost use Rattle.tree_laws.specs.Edges.{edge_cmp};
 ghost use Rattle.tree_laws.specs.Labels.{IsLabel, lead};
 
 use cube_laws::values::Value;
@@ -17,6 +18,12 @@ pub fn edges_are_the_labels_that_lead_somewhere<V: Value>()
         IsTrue (is_node (eq_by_cmp V.cmp) rows p) → closure (eq_by_cmp V.cmp) rows p ≡ Some u →
         node_of V.cmp measures rows p ≡ Some n →
         Among x n.edges ↔ IsLabel V.cmp rows p (next_value V.cmp (depth p) u) x }
+{}
+
+/// The edges of a record rise by dimension and then by value, so no label stands twice.
+pub fn edges_are_in_order<V: Value>()
+    ensures { (measures : ℕ) (rows : List (Row V)) (p : Cell V) (n : Node V (Cell V)) →
+        node_of V.cmp measures rows p ≡ Some n → Rises (edge_cmp V.cmp) n.edges }
 {}
 
 /// A label leads to a node that has the node's values and the label's.

@@ -6,5 +6,6 @@ pub mod apart_from_a_row;
 pub mod counting;
 pub mod labels;
 pub mod one_row_more;
+pub mod recoding;
 pub mod same_rows;
 pub mod search;
