@@ -5,7 +5,7 @@ use Rattle.std.specs.Cmp.{both_ways}
 use Rattle.std.specs.Option.{option_eq}
 use Rattle.std.specs.List.{AllByRecursion}
 use Rattle.cube_defs.specs.Cell.{Cell, leq, meet, cell_eq, cell_of}
-use Rattle.cube_defs.specs.Rows.{Row, covers, cov, meet_next, with_more, meet_all, closure, has_closure, is_class, agg, agg_of}
+use Rattle.cube_defs.specs.Rows.{Row, covers, cov, meet_next, with_more, meet_all, closure, is_class, agg, agg_of}
 use Rattle.cube_laws.specs.Tuples.{cells_of}
 use Rattle.cube_laws.proofs.Lists.{map-filter, filter_same, from_filter, to_filter, all_map, always}
 use Rattle.cube_laws.proofs.Cells.{IsEquality, meet_assoc, leq_refl, leq_trans, meet_left, meet_right, meet_great, cell_eq-exact, cell_eq-same}
@@ -125,9 +125,6 @@ module _ {A : Type 0} {eq : A → A → Bool} (law : IsEquality eq) where
   pub option_eq-is : (o : Option (Cell A)) (u : Cell A) → (option_eq (cell_eq eq) o (Some u) ≡ true) ↔ (o ≡ Some u)
   option_eq-is None u = (λ h. absurd (true≢false (sym h)), λ e. cc)
   option_eq-is (Some w) u = (λ h. ap (λ x. Some x) (cell_eq-exact law w u h), λ e. ap (λ x. option_eq (cell_eq eq) x (Some u)) e ∙ cell_eq-same law u)
-
-  pub has_closure-is : (rows : List (Row A)) (c u : Cell A) → (has_closure eq rows c u ≡ true) ↔ (closure eq rows c ≡ Some u)
-  has_closure-is rows c u = option_eq-is (closure eq rows c) u
 
   pub is_class-is : (rows : List (Row A)) (u : Cell A) → (is_class eq rows u ≡ true) ↔ (closure eq rows u ≡ Some u)
   is_class-is rows u = option_eq-is (closure eq rows u) u

@@ -1,8 +1,8 @@
 -- The items of a list in order, each once.
-use Rattle.std.proofs.Common.{◌≡◌, ◌↔◌, ◌⊎◌, List, [], ◌∷◌, refl, sym, ap, ap₂, subst, ◌∙◌, inl, inr}
+use Rattle.std.proofs.Common.{◌≡◌, ◌↔◌, ◌⊎◌, List, [], ◌∷◌, map, refl, sym, ap, ap₂, subst, ◌∙◌, inl, inr}
 use Rattle.std.specs.declared.cmp.Ordering.{Ordering}
 use Rattle.std.specs.declared.cmp.Ordering.TheVariants.{Less, Equal, Greater}
-use Rattle.std.specs.Ordering.{ordering_reverse}
+use Rattle.std.specs.Ordering.{ordering_reverse, on}
 use Rattle.std.specs.Cmp.{IsTotalOrder}
 use Rattle.std.specs.FinMap.{IsAntisymmetric}
 use Rattle.std.specs.List.{AllByRecursion}
@@ -41,13 +41,7 @@ module _ {X : Type 0} (cmp : X → X → Ordering) where
       let p = among_put_in-told z x (distinct cmp xs) (λ y m. told x y (inl refl) (inr ((same y).0 m))) in
       (λ h. elim (p.0 h) [ inl a ↦ inl a | inr b ↦ inr ((same z).0 b) ], λ h. p.1 (elim h [ inl a ↦ inl a | inr b ↦ inr ((same z).1 b) ]))
 
-module _ {X : Type 0} {cmp : X → X → Ordering} (total : IsTotalOrder cmp) (anti : IsAntisymmetric cmp) where
-  pub among_put_in : (z x : X) (ys : List X) → Among z (put_in cmp x ys) ↔ ((z ≡ x) ⊎ Among z ys)
-  among_put_in z x ys = among_put_in-told cmp z x ys (λ y m. anti x y)
-
-  pub among_distinct : (z : X) (xs : List X) → Among z (distinct cmp xs) ↔ Among z xs
-  among_distinct z xs = among_distinct-told cmp xs (λ x y m n. anti x y) z
-
+module _ {X : Type 0} {cmp : X → X → Ordering} (total : IsTotalOrder cmp) where
   all_put_in : (P : X → Type 0) (x : X) (ys : List X) → P x → AllByRecursion P ys → AllByRecursion P (put_in cmp x ys)
   all_put_in P x [] h g = (h, tt)
   all_put_in P x (y ∷ ys) h g = subst (AllByRecursion P) (sym (put_in-by cmp x y ys)) (go (all_put_in P x ys h g.1) (cmp x y))
@@ -57,41 +51,87 @@ module _ {X : Type 0} {cmp : X → X → Ordering} (total : IsTotalOrder cmp) (a
       go more Equal = g
       go more Greater = (g.0, more)
 
-  pub below_all : (x y : X) (ys : List X) → cmp x y ≡ Less → AllByRecursion (λ z. cmp y z ≡ Less) ys → AllByRecursion (λ z. cmp x z ≡ Less) ys
-  below_all x y [] e h = tt
-  below_all x y (z ∷ ys) e h = (total.trans x y z e h.0, below_all x y ys e h.1)
+  pub below_all-by_order : (x y : X) (ys : List X) → cmp x y ≡ Less → AllByRecursion (λ z. cmp y z ≡ Less) ys → AllByRecursion (λ z. cmp x z ≡ Less) ys
+  below_all-by_order x y [] e h = tt
+  below_all-by_order x y (z ∷ ys) e h = (total.trans x y z e h.0, below_all-by_order x y ys e h.1)
 
-  pub rises_put_in : (x : X) (ys : List X) → Rises cmp ys → Rises cmp (put_in cmp x ys)
-  rises_put_in x [] h = (tt, tt)
-  rises_put_in x (y ∷ ys) h = subst (Rises cmp) (sym (put_in-by cmp x y ys)) (go (rises_put_in x ys h.1) (cmp x y) refl)
+  pub rises_put_in-by_order : (x : X) (ys : List X) → Rises cmp ys → Rises cmp (put_in cmp x ys)
+  rises_put_in-by_order x [] h = (tt, tt)
+  rises_put_in-by_order x (y ∷ ys) h = subst (Rises cmp) (sym (put_in-by cmp x y ys)) (go (rises_put_in-by_order x ys h.1) (cmp x y) refl)
     where
       go : Rises cmp (put_in cmp x ys) → (r : Ordering) → cmp x y ≡ r → Rises cmp (put_by r x y ys (put_in cmp x ys))
-      go more Less e = ((e, below_all x y ys e h.0), h)
+      go more Less e = ((e, below_all-by_order x y ys e h.0), h)
       go more Equal e = h
       go more Greater e = (all_put_in (λ z. cmp y z ≡ Less) x ys (total.antisymm y x ∙ ap ordering_reverse e) h.0, more)
 
-  pub rises_distinct : (xs : List X) → Rises cmp (distinct cmp xs)
-  rises_distinct [] = tt
-  rises_distinct (x ∷ xs) = rises_put_in x (distinct cmp xs) (rises_distinct xs)
+  pub rises_distinct-by_order : (xs : List X) → Rises cmp (distinct cmp xs)
+  rises_distinct-by_order [] = tt
+  rises_distinct-by_order (x ∷ xs) = rises_put_in-by_order x (distinct cmp xs) (rises_distinct-by_order xs)
 
+module _ {X : Type 0} {cmp : X → X → Ordering} (turn : (x y : X) → cmp x y ≡ ordering_reverse (cmp y x)) where
   both_less : (x y : X) → cmp x y ≡ Less → cmp y x ≡ Less → ⊥
-  both_less x y h k = let e : Less ≡ Greater = sym k ∙ total.antisymm y x ∙ ap ordering_reverse h in cc
+  both_less x y h k = let e : Less ≡ Greater = sym k ∙ turn y x ∙ ap ordering_reverse h in cc
 
-  pub self_less : (x : X) → cmp x x ≡ Less → ⊥
-  self_less x h = both_less x x h h
+  pub self_less-by_turn : (x : X) → cmp x x ≡ Less → ⊥
+  self_less-by_turn x h = both_less x x h h
 
   -- lists that rise and have the same items are the same
-  pub rises_same : (xs ys : List X) → Rises cmp xs → Rises cmp ys → ((z : X) → Among z xs → Among z ys) → ((z : X) → Among z ys → Among z xs) → xs ≡ ys
-  rises_same [] [] h k f g = refl
-  rises_same [] (y ∷ ys) h k f g = absurd (g y (inl refl))
-  rises_same (x ∷ xs) [] h k f g = absurd (f x (inl refl))
-  rises_same (x ∷ xs) (y ∷ ys) h k f g =
-      ap₂ (λ b bs. b ∷ bs) first (rises_same xs ys h.1 k.1
-      (λ z m. elim (f z (inr m)) [ inl e ↦ absurd (self_less x (subst (λ a. cmp x a ≡ Less) (e ∙ sym first) (all_at (λ a. cmp x a ≡ Less) z xs h.0 m))) | inr n ↦ n ])
-      (λ z m. elim (g z (inr m)) [ inl e ↦ absurd (self_less y (subst (λ a. cmp y a ≡ Less) (e ∙ first) (all_at (λ a. cmp y a ≡ Less) z ys k.0 m))) | inr n ↦ n ]))
+  pub rises_same-by_turn : (xs ys : List X) → Rises cmp xs → Rises cmp ys → ((z : X) → Among z xs → Among z ys) → ((z : X) → Among z ys → Among z xs) → xs ≡ ys
+  rises_same-by_turn [] [] h k f g = refl
+  rises_same-by_turn [] (y ∷ ys) h k f g = absurd (g y (inl refl))
+  rises_same-by_turn (x ∷ xs) [] h k f g = absurd (f x (inl refl))
+  rises_same-by_turn (x ∷ xs) (y ∷ ys) h k f g =
+      ap₂ (λ b bs. b ∷ bs) first (rises_same-by_turn xs ys h.1 k.1
+      (λ z m. elim (f z (inr m)) [ inl e ↦ absurd (self_less-by_turn x (subst (λ a. cmp x a ≡ Less) (e ∙ sym first) (all_at (λ a. cmp x a ≡ Less) z xs h.0 m))) | inr n ↦ n ])
+      (λ z m. elim (g z (inr m)) [ inl e ↦ absurd (self_less-by_turn y (subst (λ a. cmp y a ≡ Less) (e ∙ first) (all_at (λ a. cmp y a ≡ Less) z ys k.0 m))) | inr n ↦ n ]))
     where
       first : x ≡ y
       first = elim (f x (inl refl)) [
         | inl e ↦ e
         | inr m ↦ elim (g y (inl refl)) [ inl e ↦ sym e | inr n ↦ absurd (both_less x y (all_at (λ a. cmp x a ≡ Less) y xs h.0 n) (all_at (λ a. cmp y a ≡ Less) x ys k.0 m)) ]
       ]
+
+module _ {X : Type 0} {cmp : X → X → Ordering} (total : IsTotalOrder cmp) (anti : IsAntisymmetric cmp) where
+  pub among_put_in : (z x : X) (ys : List X) → Among z (put_in cmp x ys) ↔ ((z ≡ x) ⊎ Among z ys)
+  among_put_in z x ys = among_put_in-told cmp z x ys (λ y m. anti x y)
+
+  pub among_distinct : (z : X) (xs : List X) → Among z (distinct cmp xs) ↔ Among z xs
+  among_distinct z xs = among_distinct-told cmp xs (λ x y m n. anti x y) z
+
+  pub below_all : (x y : X) (ys : List X) → cmp x y ≡ Less → AllByRecursion (λ z. cmp y z ≡ Less) ys → AllByRecursion (λ z. cmp x z ≡ Less) ys
+  below_all = below_all-by_order total
+
+  pub rises_put_in : (x : X) (ys : List X) → Rises cmp ys → Rises cmp (put_in cmp x ys)
+  rises_put_in = rises_put_in-by_order total
+
+  pub rises_distinct : (xs : List X) → Rises cmp (distinct cmp xs)
+  rises_distinct = rises_distinct-by_order total
+
+  pub self_less : (x : X) → cmp x x ≡ Less → ⊥
+  self_less = self_less-by_turn total.antisymm
+
+  pub rises_same : (xs ys : List X) → Rises cmp xs → Rises cmp ys → ((z : X) → Among z xs → Among z ys) → ((z : X) → Among z ys → Among z xs) → xs ≡ ys
+  rises_same = rises_same-by_turn total.antisymm
+
+-- sorted by what a function makes of the items
+module _ {X Y : Type 0} (f : X → Y) (cmp : Y → Y → Ordering) where
+  put_in-map : (x : X) (ys : List X) → put_in cmp (f x) (map f ys) ≡ map f (put_in (on f cmp) x ys)
+  put_in-map x [] = refl
+  put_in-map x (y ∷ ys) = put_in-by cmp (f x) (f y) (map f ys) ∙ go (cmp (f x) (f y)) (put_in-map x ys) ∙ ap (map f) (sym (put_in-by (on f cmp) x y ys))
+    where
+      go : (r : Ordering) → put_in cmp (f x) (map f ys) ≡ map f (put_in (on f cmp) x ys) → put_by r (f x) (f y) (map f ys) (put_in cmp (f x) (map f ys)) ≡ map f (put_by r x y ys (put_in (on f cmp) x ys))
+      go Less more = refl
+      go Equal more = refl
+      go Greater more = ap (λ zs. f y ∷ zs) more
+
+  pub distinct-map : (xs : List X) → distinct cmp (map f xs) ≡ map f (distinct (on f cmp) xs)
+  distinct-map [] = refl
+  distinct-map (x ∷ xs) = ap (put_in cmp (f x)) (distinct-map xs) ∙ put_in-map x (distinct (on f cmp) xs)
+
+  pub rises-map : (xs : List X) → Rises (on f cmp) xs → Rises cmp (map f xs)
+  rises-map [] h = tt
+  rises-map (x ∷ xs) h = (below x xs h.0, rises-map xs h.1)
+    where
+      below : (x : X) (xs : List X) → AllByRecursion (λ y. on f cmp x y ≡ Less) xs → AllByRecursion (λ y. cmp (f x) y ≡ Less) (map f xs)
+      below x [] h = tt
+      below x (y ∷ xs) h = (h.0, below x xs h.1)

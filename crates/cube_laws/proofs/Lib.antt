@@ -19,5 +19,7 @@ pub mod Recoded
 pub mod RecodedRows
 pub mod RecodedLists
 pub mod Icebergs
+pub mod IcebergOrder
 pub mod Divisors
+pub mod FractionOrder
 pub mod Unchanged

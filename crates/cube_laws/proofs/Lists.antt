@@ -1,8 +1,9 @@
 -- Lists: filters, facts of all items, and items among others.
 use Rattle.std.proofs.Common.{◌≡◌, ◌↔◌, ◌⊎◌, Bool, true, false, ◌&&◌, cond, Option, Some, None, List, [], ◌∷◌, ◌++◌, map, filter, filter_map, flat_map, refl, sym, ap, ap₂, subst, ◌∙◌, arith, true≢false, inl, inr}
 use Rattle.std.proofs.lemmas.Bool.{cond-true, cond-false}
+use Rattle.std.proofs.lemmas.List.Elements.{filter-append}
 use Rattle.std.specs.List.{AllByRecursion, cons_option, list_all}
-use Rattle.cube_laws.specs.Lists.{Among}
+use Rattle.cube_laws.specs.Lists.{Among, Reordered}
 
 -- a map after a filter by what it makes
 pub map-filter : {X Y : Type 0} (f : X → Y) (p : Y → Bool) (xs : List X) → map f (filter (λ x. p (f x)) xs) ≡ filter p (map f xs)
@@ -160,3 +161,24 @@ map_same f g (x ∷ xs) h = ap₂ (λ y ys. y ∷ ys) (h x) (map_same f g xs h)
 pub list_all_same : {X : Type 0} (p q : X → Bool) (xs : List X) → ((x : X) → p x ≡ q x) → list_all p xs ≡ list_all q xs
 list_all_same p q [] h = refl
 list_all_same p q (x ∷ xs) h = ap₂ (λ a b. a && b) (h x) (list_all_same p q xs h)
+
+-- filters keep the order
+pub filter-insert : {X : Type 0} (p : X → Bool) (xs : List X) (r : X) (ys : List X) → p r ≡ true → filter p (xs ++ r ∷ ys) ≡ filter p xs ++ r ∷ filter p ys
+filter-insert p xs r ys h = filter-append p xs (r ∷ ys) ∙ ap (λ zs. filter p xs ++ zs) (cond-true _ _ _ h)
+
+pub filter-reordered : {X : Type 0} (p : X → Bool) (xs ys : List X) → Reordered xs ys → Reordered (filter p xs) (filter p ys)
+filter-reordered p [] ys h = ap (filter p) h
+filter-reordered {X} p (x ∷ xs) ys (front, back, e, more) = go (filter-reordered p xs (front ++ back) more) (p x) refl
+  where
+    go : Reordered (filter p xs) (filter p (front ++ back)) → (b : Bool) → p x ≡ b → Reordered (cond b (x ∷ filter p xs) (filter p xs)) (filter p ys)
+    go rest true is = (filter p front, filter p back, ap (filter p) e ∙ filter-insert p front x back is, subst (Reordered (filter p xs)) (filter-append p front back) rest)
+    go rest false is = subst (Reordered (filter p xs)) (sym (filter-insert_apart p front x back is) ∙ ap (filter p) (sym e)) rest
+
+pub among-reordered : {X : Type 0} (xs ys : List X) → Reordered xs ys → (z : X) → Among z ys ↔ Among z xs
+among-reordered [] ys h z = (λ m. subst (Among z) h m, λ m. absurd m)
+among-reordered (x ∷ xs) ys (front, back, e, more) z =
+    let i = among_insert z front x back in
+    let m = among-reordered xs (front ++ back) more z in (
+      λ k. elim (i.0 (subst (Among z) e k)) [ inl a ↦ inl a | inr b ↦ inr (m.0 b) ],
+      λ k. subst (Among z) (sym e) (i.1 (elim k [ inl a ↦ inl a | inr b ↦ inr (m.1 b) ])),
+    )

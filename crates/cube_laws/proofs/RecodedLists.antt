@@ -1,5 +1,5 @@
 -- The lists of cells, and the answers, under other values: the same up to the order.
-use Rattle.std.proofs.Common.{◌≡◌, ◌↔◌, ℕ, suc, Bool, true, ◌&&◌, ◌||◌, Some, None, List, [], ◌∷◌, map, filter, length, refl, sym, ap, ap₂, subst, ◌∙◌, true≢false, arith}
+use Rattle.std.proofs.Common.{false, cond, ◌≡◌, ◌↔◌, ℕ, suc, Bool, true, ◌&&◌, ◌||◌, Some, None, List, [], ◌∷◌, map, filter, length, refl, sym, ap, ap₂, subst, ◌∙◌, true≢false, arith}
 use Rattle.std.proofs.lemmas.Bool.{and_parts, and_from}
 use Rattle.std.specs.declared.cmp.Ordering.{Ordering}
 use Rattle.std.specs.Ordering.{eq_by_cmp}
@@ -7,15 +7,15 @@ use Rattle.std.specs.Cmp.{IsTotalOrder}
 use Rattle.std.specs.FinMap.{IsAntisymmetric}
 use Rattle.std.specs.List.{AllByRecursion, list_any}
 use Rattle.cube_defs.specs.Cell.{Cell, leq, cell_of}
-use Rattle.cube_defs.specs.Rows.{Row, Agg, covers, agg}
+use Rattle.cube_defs.specs.Rows.{Row, Agg, covers, agg, closure}
 use Rattle.cube_defs.specs.Tree.{covered, classes, nodes}
 use Rattle.cube_defs.specs.Answers.{Box, Hit, in_box, range, lower_bounds}
 use Rattle.cube_laws.specs.Lists.{Among}
-use Rattle.cube_laws.specs.Recoding.{coded, coded_tuple, coded_row, coded_box, coded_hit, TellsApart, AreKnown, RowsAreKnown, BoxIsKnown}
-use Rattle.cube_laws.proofs.Lists.{among_filter, filter_among, among_map, map_among, all_at}
+use Rattle.cube_laws.specs.Recoding.{coded, coded_tuple, coded_row, coded_box, coded_hit, TellsApart, AreKnown, RowsAreKnown, BoxIsKnown, known_box}
+use Rattle.cube_laws.proofs.Lists.{among_filter, filter_among, among_map, map_among, all_at, all_from, always, filter_same, to_filter}
 use Rattle.cube_laws.proofs.Cells.{IsEquality}
 use Rattle.cube_laws.proofs.Orders.{equality_by}
-use Rattle.cube_laws.proofs.Covered.{covered-is}
+use Rattle.cube_laws.proofs.Covered.{covered-is, some_covered}
 use Rattle.cube_laws.proofs.Recoded.{same_test}
 use Rattle.cube_laws.proofs.RecodedRows.{length-coded, covers-coded, agg-coded, is_class-coded, is_node-coded, is_lower_bound-coded}
 
@@ -44,6 +44,49 @@ module _ {A B : Type 0} {eq : A → A → Bool} {eq' : B → B → Bool} (law : 
       let r = decoded (suc k) d t (omega arith) p.1 in
       (Some v ∷ r.0, ap₂ (λ x y. Some x ∷ y) (law'.exact w (codes k v) p.0) r.1, ap suc r.2, and_from _ _ (law.same v) r.3)
 
+module _ {A : Type 0} {eq : A → A → Bool} (law : IsEquality eq) (known : ℕ → A → Bool) where
+  -- so a cell that covers rows of known values has known values
+  pub known-closed : (rows : List (Row A)) (c u : Cell A) → RowsAreKnown known rows → closure eq rows c ≡ Some u → AreKnown known 0 c
+  known-closed rows c u h e =
+      let r : (r : Row A) × Among r rows × (covers eq c r ≡ true) = some_covered eq 0 c u rows e in
+      known-below law known 0 c (cell_of r.0.tuple) r.2 (all_at (λ (r : Row A). AreKnown known 0 (cell_of r.tuple)) r.0 rows h r.1)
+
+  any-known : (k : ℕ) (v : A) (vs : List A) → known k v ≡ true → list_any (eq v) (filter (known k) vs) ≡ list_any (eq v) vs
+  any-known k v [] h = refl
+  any-known k v (w ∷ vs) h = go (any-known k v vs h) (known k w) refl (eq v w) refl
+    where
+      go : list_any (eq v) (filter (known k) vs) ≡ list_any (eq v) vs → (b : Bool) → known k w ≡ b → (d : Bool) → eq v w ≡ d → list_any (eq v) (cond b (w ∷ filter (known k) vs) (filter (known k) vs)) ≡ (eq v w || list_any (eq v) vs)
+      go more true is d e = ap (λ x. eq v w || x) more
+      go more false is true e = absurd (true≢false (sym h ∙ ap (known k) (law.exact v w e) ∙ is))
+      go more false is false e = more ∙ ap (λ x. x || list_any (eq v) vs) (sym e)
+
+  pub in_box-known : (k : ℕ) (box : Box A) (c : Cell A) → AreKnown known k c → in_box eq (known_box known k box) c ≡ in_box eq box c
+  in_box-known k [] [] g = refl
+  in_box-known k [] (e ∷ c) g = refl
+  in_box-known k (a ∷ box) [] g = refl
+  in_box-known k (None ∷ box) (None ∷ c) g = in_box-known (suc k) box c g
+  in_box-known k (None ∷ box) (Some v ∷ c) g = refl
+  in_box-known k (Some vs ∷ box) (None ∷ c) g = refl
+  in_box-known k (Some vs ∷ box) (Some v ∷ c) g = ap₂ (λ a b. a && b) (any-known k v vs g.0) (in_box-known (suc k) box c g.1)
+
+  pub known_box-known : (k : ℕ) (box : Box A) → BoxIsKnown known k (known_box known k box)
+  known_box-known k [] = tt
+  known_box-known k (None ∷ box) = known_box-known (suc k) box
+  known_box-known k (Some vs ∷ box) = (to_filter (λ v. known k v ≡ true) (known k) vs (always _ vs (λ v h. h)), known_box-known (suc k) box)
+
+module _ {A : Type 0} {cmp : A → A → Ordering} (total : IsTotalOrder cmp) (anti : IsAntisymmetric cmp) (known : ℕ → A → Bool) (rows : List (Row A)) (h : RowsAreKnown known rows) where
+  covered_known : (c : Cell A) → Among c (covered cmp rows) → AreKnown known 0 c
+  covered_known c m =
+      let q : (r : Row A) × Among r rows × (length c ≡ length r.tuple) × (covers (eq_by_cmp cmp) c r ≡ true) = (covered-is total anti rows c).0 m in
+      known-below (equality_by total anti) known 0 c (cell_of q.0.tuple) q.3 (all_at (λ (r : Row A). AreKnown known 0 (cell_of r.tuple)) q.0 rows h q.1)
+
+  -- values that are not known can be left out of a box
+  pub range-known : (measures : ℕ) (box : Box A) → range cmp measures rows (known_box known 0 box) ≡ range cmp measures rows box
+  range-known measures box =
+      ap (map (λ (c : Cell A). let x : Hit A = record { cell = c; agg = agg (eq_by_cmp cmp) measures rows c } in x))
+      (filter_same (in_box (eq_by_cmp cmp) (known_box known 0 box)) (in_box (eq_by_cmp cmp) box) (covered cmp rows)
+      (all_from _ (covered cmp rows) (λ c m. in_box-known (equality_by total anti) known 0 box c (covered_known c m))))
+
 length-coded_tuple : {A B : Type 0} (codes : ℕ → A → B) (k : ℕ) (t : List A) → length (coded_tuple codes k t) ≡ length t
 length-coded_tuple codes k [] = refl
 length-coded_tuple codes k (v ∷ t) = ap suc (length-coded_tuple codes (suc k) t)
@@ -71,9 +114,7 @@ module _ {A B : Type 0} {cmp : A → A → Ordering} {cmp' : B → B → Orderin
   law' = equality_by total' anti'
 
   pub known-covered : (c : Cell A) → Among c (covered cmp rows) → AreKnown known 0 c
-  known-covered c m =
-      let q : (r : Row A) × Among r rows × (length c ≡ length r.tuple) × (covers (eq_by_cmp cmp) c r ≡ true) = (covered-is total anti rows c).0 m in
-      known-below law known 0 c (cell_of q.0.tuple) q.3 (all_at (λ (r : Row A). AreKnown known 0 (cell_of r.tuple)) q.0 rows h q.1)
+  known-covered = covered_known total anti known rows h
 
   -- the cells that cover coded rows are the codes of those that cover the rows
   pub covered-coded : (d : Cell B) → Among d (covered cmp' (map (coded_row codes) rows)) ↔ ((c : Cell A) × Among c (covered cmp rows) × (d ≡ coded codes 0 c))

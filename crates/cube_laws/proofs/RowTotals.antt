@@ -1,17 +1,18 @@
 -- The closure and the aggregate are totals over the covered rows.
-use Rattle.std.proofs.Common.{◌≡◌, ℕ, Bool, Option, Some, None, List, [], ◌∷◌, map, refl, ap, ap₂, ◌∙◌, arith, ℤ, pos, ◌+ℤ◌, slice_index_or}
+use Rattle.std.proofs.Common.{◌≡◌, ℕ, Bool, Option, Some, None, List, [], ◌∷◌, map, refl, sym, ap, ap₂, ◌∙◌, arith, ℤ, pos, ◌+ℤ◌, slice_index_or}
 use Rattle.std.proofs.lemmas.Int.{ints}
 use Rattle.std.proofs.Math.IntN.{+ℤ_assoc, +ℤ_comm}
 use Rattle.std.proofs.Math.Nat.{add_assoc, add_comm}
 use Rattle.std.specs.Int.{int_min, int_max}
 use Rattle.std.specs.List.{fold, range_with_len}
 use Rattle.cube_defs.specs.Cell.{Cell, cell_of}
-use Rattle.cube_defs.specs.Rows.{Row, Part, Agg, part_of, amounts_of, agg_of, meet_next, meet_all, closure, cov, agg}
+use Rattle.cube_defs.specs.Rows.{Row, Part, Agg, part_of, amounts_of, agg_of, meet_next, meet_all, closure, covers, cov, agg}
 use Rattle.cube_laws.specs.Tuples.{cells_of}
 use Rattle.cube_laws.specs.Total.{total, agg_at, combine_part, combine_parts, combine, join_aggs, join_cells, agg_some}
 use Rattle.cube_laws.proofs.Cells.{IsEquality, meet_assoc, meet_comm}
-use Rattle.cube_laws.proofs.Totals.{IsAddition}
-use Rattle.cube_laws.proofs.Lists.{map_same}
+use Rattle.cube_laws.specs.Lists.{Reordered}
+use Rattle.cube_laws.proofs.Totals.{IsAddition, total-reordered}
+use Rattle.cube_laws.proofs.Lists.{map_same, filter-reordered}
 
 pub min_comm : (x y : ℤ) → int_min x y ≡ int_min y x
 min_comm x y = grind (arith, ints)
@@ -137,3 +138,20 @@ module _ {A : Type 0} (eq : A → A → Bool) where
       go : (l : List (Row A)) → meet_all eq (cells_of l) ≡ None → agg_some measures l ≡ None
       go [] k = refl
       go (x ∷ l) k = cc
+
+module _ {A : Type 0} (eq : A → A → Bool) where
+  -- in whichever order the rows stand
+  pub agg_at-reordered : (measures : ℕ) (rows more : List (Row A)) (c : Cell A) → Reordered rows more → agg_at eq measures more c ≡ agg_at eq measures rows c
+  agg_at-reordered measures rows more c h =
+      agg_total measures (cov eq more c)
+      ∙ total-reordered join_aggs None aggs_add (row_agg measures) (cov eq rows c) (cov eq more c) (filter-reordered (covers eq c) rows more h)
+      ∙ sym (agg_total measures (cov eq rows c))
+
+  pub agg-reordered : (measures : ℕ) (rows more : List (Row A)) (c : Cell A) → Reordered rows more → agg eq measures more c ≡ agg eq measures rows c
+  agg-reordered measures rows more c h = by_total (cov eq rows c) (cov eq more c) (agg_at-reordered measures rows more c h)
+    where
+      by_total : (xs ys : List (Row A)) → agg_some measures ys ≡ agg_some measures xs → agg_of measures ys ≡ agg_of measures xs
+      by_total [] [] e = refl
+      by_total [] (y ∷ ys) e = cc
+      by_total (x ∷ xs) [] e = cc
+      by_total (x ∷ xs) (y ∷ ys) e = cc

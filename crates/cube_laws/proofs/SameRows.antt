@@ -1,6 +1,5 @@
--- A closure depends on the set of the rows alone, and a class stays as rows come.
-use Rattle.std.proofs.Common.{◌≡◌, Bool, true, Some, List, [], ◌∷◌, ◌++◌, filter, length, refl, sym, ap, subst, ◌∙◌, inl}
-use Rattle.std.proofs.lemmas.Bool.{cond_both}
+-- Closures, classes and nodes depend on the tuples of the rows alone.
+use Rattle.std.proofs.Common.{◌≡◌, Bool, true, Some, List, [], ◌∷◌, filter, length, refl, sym, ap, subst, ◌∙◌, inl}
 use Rattle.std.specs.declared.cmp.Ordering.{Ordering}
 use Rattle.std.specs.Ordering.{eq_by_cmp}
 use Rattle.std.specs.Cmp.{IsTotalOrder}
@@ -8,9 +7,9 @@ use Rattle.std.specs.FinMap.{IsAntisymmetric}
 use Rattle.std.specs.Option.{option_eq, option_map}
 use Rattle.cube_defs.specs.Cell.{Cell, leq, cell_of, cell_eq, keep, depth}
 use Rattle.cube_defs.specs.Tree.{covered, classes, nodes}
-use Rattle.cube_defs.specs.Rows.{Row, covers, closure, meet_all, is_class, is_node, with_more}
-use Rattle.cube_laws.proofs.Cells.{IsEquality, leq_antisymm, meet_of_leq}
-use Rattle.cube_laws.proofs.Closures.{closure-cells, closure-push, meet_all_above, meet_all_below, is_class-is}
+use Rattle.cube_defs.specs.Rows.{Row, covers, closure, meet_all, is_class, is_node}
+use Rattle.cube_laws.proofs.Cells.{IsEquality, leq_antisymm}
+use Rattle.cube_laws.proofs.Closures.{closure-cells, meet_all_above, meet_all_below}
 use Rattle.cube_laws.specs.Lists.{Among}
 use Rattle.cube_laws.specs.Tuples.{TuplesAmong, cells_of}
 use Rattle.cube_laws.proofs.Lists.{among_filter, filter_among, all_at, all_from, among_map, map_among, filter_same, always}
@@ -36,13 +35,6 @@ module _ {A : Type 0} {eq : A → A → Bool} (law : IsEquality eq) where
       (λ d k. let p = filter_among (leq eq c) d (cells_of rows) k in among_filter (leq eq c) d (cells_of more) (f d p.0) p.1)
       (λ d k. let p = filter_among (leq eq c) d (cells_of more) k in among_filter (leq eq c) d (cells_of rows) (g d p.0) p.1)
       ∙ sym (closure-cells eq more c)
-
-  -- a row more takes no class away
-  pub class_kept : (rows : List (Row A)) (r : Row A) (u : Cell A) → is_class eq rows u ≡ true → is_class eq (rows ++ r ∷ []) u ≡ true
-  class_kept rows r u h =
-      let e : closure eq rows u ≡ Some u = (is_class-is law rows u).0 h in
-      (is_class-is law (rows ++ r ∷ []) u).1
-      (closure-push law rows r u ∙ cond_both (covers eq u r) _ _ (λ o. o ≡ Some u) (λ t. ap (λ o. Some (with_more eq o (cell_of r.tuple))) e ∙ ap (λ x. Some x) (meet_of_leq law u (cell_of r.tuple) t)) (λ t. e))
 
 module _ {A : Type 0} where
   cells_among : (rows more : List (Row A)) → TuplesAmong rows more → (d : Cell A) → Among d (cells_of rows) → Among d (cells_of more)

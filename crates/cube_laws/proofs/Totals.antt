@@ -1,7 +1,7 @@
 -- What is added up over items can be added up part by part, the parts by the values of a key.
 use Rattle.std.proofs.Common.{◌≡◌, Bool, true, false, not, cond, List, [], ◌∷◌, ◌++◌, filter, refl, sym, ap, ap₂, ◌∙◌, true≢false, inl, inr}
 use Rattle.std.specs.List.{AllByRecursion}
-use Rattle.cube_laws.specs.Lists.{Among, Once}
+use Rattle.cube_laws.specs.Lists.{Among, Once, Reordered}
 use Rattle.cube_laws.specs.Total.{total}
 use Rattle.cube_laws.proofs.Lists.{to_filter, all_map, filter_filter}
 
@@ -76,3 +76,8 @@ module _ {X M : Type 0} (op : M → M → M) (none : M) (law : IsAddition op non
       go true more true = ap (op (f x)) more ∙ swap op none law f (f x) (f r) _
       go false more true = ap (op (f x)) more
       go d more false = more
+
+  -- and so in whichever order they stand
+  pub total-reordered : (xs ys : List X) → Reordered xs ys → total op none f ys ≡ total op none f xs
+  total-reordered [] ys h = ap (total op none f) h
+  total-reordered (x ∷ xs) ys (front, back, e, more) = ap (total op none f) e ∙ total-insert front x back ∙ ap (op (f x)) (total-reordered xs (front ++ back) more)

@@ -1,5 +1,5 @@
 -- Words for lists.
-use Rattle.std.specs.Prelude.{◌≡◌, ◌⊎◌, Bool, false, List, [], ◌∷◌}
+use Rattle.std.specs.Prelude.{◌≡◌, ◌⊎◌, Bool, false, List, [], ◌∷◌, ◌++◌}
 use Rattle.std.specs.declared.cmp.Ordering.{Ordering}
 use Rattle.std.specs.declared.cmp.Ordering.TheVariants.{Less}
 use Rattle.std.specs.List.{AllByRecursion}
@@ -19,3 +19,8 @@ Rises cmp (x ∷ xs) = AllByRecursion (λ y. cmp x y ≡ Less) xs × Rises cmp x
 abbrev pub Once : {X : Type 0} → (X → X → Bool) → List X → Type 0
 Once eq [] = ⊤
 Once eq (x ∷ xs) = AllByRecursion (λ y. eq x y ≡ false) xs × Once eq xs
+
+-- the items of the one list in an order of their own: the first of them stands somewhere in the other, and so on with the rest
+abbrev pub Reordered : {X : Type 0} → List X → List X → Type 0
+Reordered [] ys = ys ≡ []
+Reordered {X} (x ∷ xs) ys = (front : List X) × (back : List X) × (ys ≡ front ++ x ∷ back) × Reordered xs (front ++ back)

@@ -1,5 +1,5 @@
 -- Other values for the values of each dimension, as codes for texts.
-use Rattle.std.specs.Prelude.{◌≡◌, ◌↔◌, ℕ, suc, Bool, true, Some, None, List, [], ◌∷◌, map}
+use Rattle.std.specs.Prelude.{◌≡◌, ◌↔◌, ℕ, suc, Bool, true, Some, None, List, [], ◌∷◌, map, filter}
 use Rattle.std.specs.Bool.{⊤}
 use Rattle.std.specs.List.{AllByRecursion}
 use Rattle.std.specs.Option.{option_map}
@@ -51,6 +51,11 @@ module _ {A : Type 0} (known : ℕ → A → Bool) where
   BoxIsKnown k [] = ⊤
   BoxIsKnown k (None ∷ box) = BoxIsKnown (suc k) box
   BoxIsKnown k (Some vs ∷ box) = AllByRecursion (λ v. known k v ≡ true) vs × BoxIsKnown (suc k) box
+
+-- a box without the values that are not known, the first of its choices standing for dimension k
+abbrev pub known_box : {A : Type 0} → (ℕ → A → Bool) → ℕ → Box A → Box A
+known_box known k [] = []
+known_box known k (choice ∷ box) = option_map (filter (known k)) choice ∷ known_box known (suc k) box
 
 -- a class of an answer, and the same class under its code; its lower bounds may stand in another order
 pub record IsCodedClass {A B : Type 0} (codes : ℕ → A → B) (found : ClassHit A) (hit : ClassHit B) : Type 0 where

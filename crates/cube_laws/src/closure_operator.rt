@@ -20,13 +20,15 @@ pub fn closure_is_a_closure_operator<V: Value>()
 /// A cell has a closure exactly where it covers some row (own).
 pub fn closure_is_where_a_row_is_covered<V: Value>()
     ensures { (rows : List (Row V)) (c : Cell V) →
-        ((u : Cell V) × (closure V.eq rows c ≡ Some u)) ↔ ((r : Row V) × Among r rows × IsTrue (covers V.eq c r)) }
+        ((u : Cell V) × (closure V.eq rows c ≡ Some u))
+        ↔ ((r : Row V) × Among r rows × IsTrue (covers V.eq c r)) }
 {}
 
 /// The closure covers the rows that the cell covers, and each cell that covers them all is
 /// below it (Lakshmanan, Pei, Han, VLDB 2002).
 pub fn closure_is_the_greatest_shared_cell<V: Value>()
-    ensures shared { (rows : List (Row V)) (c u : Cell V) (r : Row V) → closure V.eq rows c ≡ Some u →
+    ensures shared { (rows : List (Row V)) (c u : Cell V) (r : Row V) →
+        closure V.eq rows c ≡ Some u →
         Among r rows → IsTrue (covers V.eq c r) → IsTrue (covers V.eq u r) }
     ensures greatest { (rows : List (Row V)) (c d u : Cell V) → closure V.eq rows c ≡ Some u →
         ((r : Row V) → Among r rows → IsTrue (covers V.eq c r) → IsTrue (covers V.eq d r)) →
@@ -37,7 +39,8 @@ pub fn closure_is_the_greatest_shared_cell<V: Value>()
 /// (Lakshmanan, Pei, Han, VLDB 2002).
 pub fn closure_by_columns<V: Value>()
     ensures { (rows : List (Row V)) (c u : Cell V) (i : ℕ) (v : V) → closure V.eq rows c ≡ Some u →
-        (slice_get u i ≡ Some (Some v)) ↔ ((r : Row V) → Among r (cov V.eq rows c) → slice_get r.tuple i ≡ Some v) }
+        (slice_get u i ≡ Some (Some v))
+        ↔ ((r : Row V) → Among r (cov V.eq rows c) → slice_get r.tuple i ≡ Some v) }
 {}
 
 /// Two cells with one closure cover the same rows, so they have the same aggregates

@@ -11,7 +11,8 @@ use super::values::Value;
 /// A cell below a tuple is the tuple itself or has a last dimension of Any, and its front
 /// before that dimension tells which cell it is (own).
 pub fn last_any_of_a_cell<V: Value>()
-    ensures there { (t : List V) (u : Cell V) → IsTrue (leq V.eq u (cell_of t)) → length u ≡ length t →
+    ensures there { (t : List V) (u : Cell V) → IsTrue (leq V.eq u (cell_of t)) →
+        length u ≡ length t →
         (u ≡ cell_of t) ⊎ ((i : ℕ) × IsLastAny u i) }
     ensures determines { (t : List V) (u w : Cell V) (i : ℕ) →
         IsTrue (leq V.eq u (cell_of t)) → IsTrue (leq V.eq w (cell_of t)) → length u ≡ length w →
@@ -21,7 +22,8 @@ pub fn last_any_of_a_cell<V: Value>()
 /// The new closure and aggregate of a cell that covers the row that goes, from the new ones of
 /// one cell with more values and the old ones of cells that do not cover the row (own).
 pub fn class_after_a_row_has_gone<V: Value>()
-    ensures { (xs ys : List (Row V)) (r : Row V) (u : Cell V) (i : ℕ) (t : V) → slice_get u i ≡ Some None →
+    ensures { (xs ys : List (Row V)) (r : Row V) (u : Cell V) (i : ℕ) (t : V) →
+        slice_get u i ≡ Some None →
         IsTrue (covers V.eq u r) → slice_get r.tuple i ≡ Some t →
         (w : Cell V) × IsStep V.eq xs r ys u i t w }
 {}

@@ -27,7 +27,8 @@ pub fn meet_is_the_greatest_lower_bound<V: Value>()
 /// another where it is their meet.
 pub fn meet_of_cells<V: Value>()
     ensures commutative { (c d : Cell V) → meet V.eq c d ≡ meet V.eq d c }
-    ensures associative { (c d e : Cell V) → meet V.eq (meet V.eq c d) e ≡ meet V.eq c (meet V.eq d e) }
+    ensures associative { (c d e : Cell V) →
+        meet V.eq (meet V.eq c d) e ≡ meet V.eq c (meet V.eq d e) }
     ensures idempotent { (c : Cell V) → meet V.eq c c ≡ c }
     ensures order { (c d : Cell V) → IsTrue (leq V.eq c d) ↔ (meet V.eq c d ≡ c) }
 {}

@@ -4,6 +4,7 @@
 
 pub mod closure_operator;
 pub mod deletion_step;
+pub mod fractions;
 pub mod lattice;
 pub mod lists_of_answers;
 pub mod one_row_more;

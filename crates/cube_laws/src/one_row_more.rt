@@ -2,7 +2,7 @@
 //! Read backwards it is what one row less changes.
 ghost use Rattle.std.specs.Prelude.{IsTrue, List, [], false, ℕ, ◌++◌, ◌∷◌, ◌≡◌};
 ghost use Rattle.cube_defs.specs.Cell.{Cell, cell_of, meet};
-ghost use Rattle.cube_defs.specs.Rows.{Row, agg, agg_of, closure, covers};
+ghost use Rattle.cube_defs.specs.Rows.{Row, agg, agg_of, closure, cov, covers, is_class, is_node};
 ghost use Rattle.cube_laws.specs.Total.{combine};
 
 use super::values::Value;
@@ -14,8 +14,21 @@ pub fn closure_with_one_row_more<V: Value>()
         closure V.eq (xs ++ r ∷ ys) c ≡ closure V.eq (xs ++ ys) c }
     ensures alone { (xs ys : List (Row V)) (r : Row V) (c : Cell V) → IsTrue (covers V.eq c r) →
         closure V.eq (xs ++ ys) c ≡ None → closure V.eq (xs ++ r ∷ ys) c ≡ Some (cell_of r.tuple) }
-    ensures with_others { (xs ys : List (Row V)) (r : Row V) (c u : Cell V) → IsTrue (covers V.eq c r) →
-        closure V.eq (xs ++ ys) c ≡ Some u → closure V.eq (xs ++ r ∷ ys) c ≡ Some (meet V.eq u (cell_of r.tuple)) }
+    ensures with_others { (xs ys : List (Row V)) (r : Row V) (c u : Cell V) →
+        IsTrue (covers V.eq c r) →
+        closure V.eq (xs ++ ys) c ≡ Some u →
+        closure V.eq (xs ++ r ∷ ys) c ≡ Some (meet V.eq u (cell_of r.tuple)) }
+{}
+
+/// A cell that does not cover the row covers the same rows as before, and is an upper bound or
+/// a node exactly where it was (own).
+pub fn what_does_not_cover_the_row_stays<V: Value>()
+    ensures rows { (xs ys : List (Row V)) (r : Row V) (c : Cell V) → covers V.eq c r ≡ false →
+        cov V.eq (xs ++ r ∷ ys) c ≡ cov V.eq (xs ++ ys) c }
+    ensures classes { (xs ys : List (Row V)) (r : Row V) (u : Cell V) → covers V.eq u r ≡ false →
+        is_class V.eq (xs ++ r ∷ ys) u ≡ is_class V.eq (xs ++ ys) u }
+    ensures nodes { (xs ys : List (Row V)) (r : Row V) (p : Cell V) → covers V.eq p r ≡ false →
+        is_node V.eq (xs ++ r ∷ ys) p ≡ is_node V.eq (xs ++ ys) p }
 {}
 
 /// The aggregate of a cell after a row has come: the same where the cell does not cover it,
@@ -30,5 +43,6 @@ pub fn aggregate_with_one_row_more<V: Value>()
         agg V.eq measures (xs ++ r ∷ ys) c ≡ agg_of measures (r ∷ []) }
     ensures with_others { (measures : ℕ) (xs ys : List (Row V)) (r : Row V) (c u : Cell V) →
         IsTrue (covers V.eq c r) → closure V.eq (xs ++ ys) c ≡ Some u →
-        agg V.eq measures (xs ++ r ∷ ys) c ≡ combine (agg_of measures (r ∷ [])) (agg V.eq measures (xs ++ ys) c) }
+        agg V.eq measures (xs ++ r ∷ ys) c
+        ≡ combine (agg_of measures (r ∷ [])) (agg V.eq measures (xs ++ ys) c) }
 {}

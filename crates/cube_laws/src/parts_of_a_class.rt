@@ -14,21 +14,25 @@ use super::values::Value;
 pub fn closure_by_parts<V: Value>()
     ensures { (rows : List (Row V)) (u : Cell V) (i : ℕ) (vs : List V) → slice_get u i ≡ Some None →
         Once V.eq vs → HasAll V.eq rows u i vs →
-        closure V.eq rows u ≡ total (join_cells V.eq) None (λ v. closure V.eq rows (with_value u i v)) vs }
+        closure V.eq rows u
+        ≡ total (join_cells V.eq) None (λ v. closure V.eq rows (with_value u i v)) vs }
 {}
 
 /// The aggregate of a cell with Any in a dimension is those of its parts put together: counts
 /// and sums added, the least of the least and the greatest of the greatest (own).
 pub fn aggregate_by_parts<V: Value>()
-    ensures { (measures : ℕ) (rows : List (Row V)) (u : Cell V) (i : ℕ) (vs : List V) → slice_get u i ≡ Some None →
+    ensures { (measures : ℕ) (rows : List (Row V)) (u : Cell V) (i : ℕ) (vs : List V) →
+        slice_get u i ≡ Some None →
         Once V.eq vs → HasAll V.eq rows u i vs →
-        agg_at V.eq measures rows u ≡ total join_aggs None (λ v. agg_at V.eq measures rows (with_value u i v)) vs }
+        agg_at V.eq measures rows u
+        ≡ total join_aggs None (λ v. agg_at V.eq measures rows (with_value u i v)) vs }
 {}
 
 /// The aggregate that parts are put together by is that of the cell where it covers some row,
 /// and nothing where it covers none.
 pub fn aggregate_where_rows_are_covered<V: Value>()
-    ensures covered { (measures : ℕ) (rows : List (Row V)) (c u : Cell V) → closure V.eq rows c ≡ Some u →
+    ensures covered { (measures : ℕ) (rows : List (Row V)) (c u : Cell V) →
+        closure V.eq rows c ≡ Some u →
         agg_at V.eq measures rows c ≡ Some (agg V.eq measures rows c) }
     ensures none { (measures : ℕ) (rows : List (Row V)) (c : Cell V) → closure V.eq rows c ≡ None →
         agg_at V.eq measures rows c ≡ None }

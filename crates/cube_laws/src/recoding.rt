@@ -6,7 +6,7 @@ ghost use Rattle.cube_defs.specs.Cell.{Cell, leq, meet};
 ghost use Rattle.cube_defs.specs.Rows.{Row, agg, closure, cov, is_class, is_lower_bound, is_node};
 ghost use Rattle.cube_defs.specs.Tree.{classes, covered, nodes};
 ghost use Rattle.cube_laws.specs.Lists.{Among};
-ghost use Rattle.cube_laws.specs.Recoding.{AreKnown, BoxIsKnown, IsCodedClass, RowsAreKnown, TellsApart, coded, coded_box, coded_hit, coded_row};
+ghost use Rattle.cube_laws.specs.Recoding.{AreKnown, BoxIsKnown, IsCodedClass, RowsAreKnown, TellsApart, coded, coded_box, coded_hit, coded_row, known_box};
 ghost use Rattle.std.specs.Option.{option_map};
 
 use super::values::Value;
@@ -29,12 +29,15 @@ pub fn cells_under_recoding<A: Value, B: Value>()
 pub fn closure_under_recoding<A: Value, B: Value>()
     ensures rows { (known : ℕ → A → Bool) (codes : ℕ → A → B) → TellsApart known codes →
         (rows : List (Row A)) (c : Cell A) → RowsAreKnown known rows → AreKnown known 0 c →
-        cov B.eq (map (coded_row codes) rows) (coded codes 0 c) ≡ map (coded_row codes) (cov A.eq rows c) }
+        cov B.eq (map (coded_row codes) rows) (coded codes 0 c)
+        ≡ map (coded_row codes) (cov A.eq rows c) }
     ensures closure { (known : ℕ → A → Bool) (codes : ℕ → A → B) → TellsApart known codes →
         (rows : List (Row A)) (c : Cell A) → RowsAreKnown known rows → AreKnown known 0 c →
-        closure B.eq (map (coded_row codes) rows) (coded codes 0 c) ≡ option_map (coded codes 0) (closure A.eq rows c) }
+        closure B.eq (map (coded_row codes) rows) (coded codes 0 c)
+        ≡ option_map (coded codes 0) (closure A.eq rows c) }
     ensures aggregate { (known : ℕ → A → Bool) (codes : ℕ → A → B) → TellsApart known codes →
-        (measures : ℕ) (rows : List (Row A)) (c : Cell A) → RowsAreKnown known rows → AreKnown known 0 c →
+        (measures : ℕ) (rows : List (Row A)) (c : Cell A) → RowsAreKnown known rows →
+        AreKnown known 0 c →
         agg B.eq measures (map (coded_row codes) rows) (coded codes 0 c) ≡ agg A.eq measures rows c }
 {}
 
@@ -49,7 +52,8 @@ pub fn classes_under_recoding<A: Value, B: Value>()
     ensures lower_bound { (known : ℕ → A → Bool) (codes : ℕ → A → B) → TellsApart known codes →
         (rows : List (Row A)) (u c : Cell A) → RowsAreKnown known rows →
         AreKnown known 0 u → AreKnown known 0 c →
-        is_lower_bound B.eq (map (coded_row codes) rows) (coded codes 0 u) (coded codes 0 c) ≡ is_lower_bound A.eq rows u c }
+        is_lower_bound B.eq (map (coded_row codes) rows) (coded codes 0 u) (coded codes 0 c)
+        ≡ is_lower_bound A.eq rows u c }
 {}
 
 /// The cells that cover coded rows are the codes of those that cover the rows, and so it is for
@@ -69,9 +73,22 @@ pub fn lists_under_recoding<A: Value, B: Value>()
         Among d (nodes B.cmp (map (coded_row codes) rows))
         ↔ ((c : Cell A) × Among c (nodes A.cmp rows) × (d ≡ coded codes 0 c)) }
     ensures lower_bounds { (known : ℕ → A → Bool) (codes : ℕ → A → B) → TellsApart known codes →
-        (rows : List (Row A)) (u : Cell A) (d : Cell B) → RowsAreKnown known rows → AreKnown known 0 u →
+        (rows : List (Row A)) (u : Cell A) (d : Cell B) → RowsAreKnown known rows →
+        AreKnown known 0 u →
         Among d (lower_bounds B.cmp (map (coded_row codes) rows) (coded codes 0 u))
         ↔ ((c : Cell A) × Among c (lower_bounds A.cmp rows u) × (d ≡ coded codes 0 c)) }
+{}
+
+/// Among rows of known values a cell that covers a row has known values alone, and a value that
+/// is not known can be left out of a box (own).
+pub fn unknown_values_cover_nothing<A: Value>()
+    ensures cells { (known : ℕ → A → Bool) (rows : List (Row A)) (c u : Cell A) →
+        RowsAreKnown known rows → closure A.eq rows c ≡ Some u → AreKnown known 0 c }
+    ensures boxes { (known : ℕ → A → Bool) (measures : ℕ) (rows : List (Row A)) (box : Box A) →
+        RowsAreKnown known rows →
+        range A.cmp measures rows (known_box known 0 box) ≡ range A.cmp measures rows box }
+    ensures known { (known : ℕ → A → Bool) (box : Box A) →
+        BoxIsKnown known 0 (known_box known 0 box) }
 {}
 
 /// The hits of a coded box are the codes of the hits of the box, if the values of the box are
@@ -81,7 +98,8 @@ pub fn range_under_recoding<A: Value, B: Value>()
         (measures : ℕ) (rows : List (Row A)) (box : Box A) (hit : Hit B) →
         RowsAreKnown known rows → BoxIsKnown known 0 box →
         Among hit (range B.cmp measures (map (coded_row codes) rows) (coded_box codes 0 box))
-        ↔ ((found : Hit A) × Among found (range A.cmp measures rows box) × (hit ≡ coded_hit codes found)) }
+        ↔ ((found : Hit A) × Among found (range A.cmp measures rows box)
+        × (hit ≡ coded_hit codes found)) }
 {}
 
 /// The classes of an iceberg answer over coded rows are those of the answer over the rows, with
@@ -89,11 +107,15 @@ pub fn range_under_recoding<A: Value, B: Value>()
 /// bounds, may stand in another order (own).
 pub fn iceberg_under_recoding<A: Value, B: Value>()
     ensures no_more { (known : ℕ → A → Bool) (codes : ℕ → A → B) → TellsApart known codes →
-        (measures : ℕ) (rows : List (Row A)) (ask : Ask) (hit : ClassHit B) → RowsAreKnown known rows →
+        (measures : ℕ) (rows : List (Row A)) (ask : Ask) (hit : ClassHit B) →
+        RowsAreKnown known rows →
         Among hit (iceberg B.cmp measures (map (coded_row codes) rows) ask) →
-        (found : ClassHit A) × Among found (iceberg A.cmp measures rows ask) × IsCodedClass codes found hit }
+        (found : ClassHit A) × Among found (iceberg A.cmp measures rows ask)
+        × IsCodedClass codes found hit }
     ensures no_less { (known : ℕ → A → Bool) (codes : ℕ → A → B) → TellsApart known codes →
-        (measures : ℕ) (rows : List (Row A)) (ask : Ask) (found : ClassHit A) → RowsAreKnown known rows →
+        (measures : ℕ) (rows : List (Row A)) (ask : Ask) (found : ClassHit A) →
+        RowsAreKnown known rows →
         Among found (iceberg A.cmp measures rows ask) →
-        (hit : ClassHit B) × Among hit (iceberg B.cmp measures (map (coded_row codes) rows) ask) × IsCodedClass codes found hit }
+        (hit : ClassHit B) × Among hit (iceberg B.cmp measures (map (coded_row codes) rows) ask)
+        × IsCodedClass codes found hit }
 {}

@@ -1,20 +1,30 @@
 //! Rows with the same tuples, in whichever order they stand and how often.
-ghost use Rattle.std.specs.Prelude.{List, ◌≡◌};
+ghost use Rattle.std.specs.Prelude.{List, ℕ, ◌≡◌};
 ghost use Rattle.cube_defs.specs.Cell.{Cell};
-ghost use Rattle.cube_defs.specs.Rows.{Row, closure, is_class, is_node};
+ghost use Rattle.cube_defs.specs.Rows.{Row, agg, closure, is_class, is_node};
 ghost use Rattle.cube_defs.specs.Tree.{classes, covered, nodes};
+ghost use Rattle.cube_laws.specs.Lists.{Reordered};
 ghost use Rattle.cube_laws.specs.Tuples.{TuplesAmong};
 
 use super::values::Value;
 
 /// Rows with the same tuples have the same closures, upper bounds and nodes (own).
 pub fn order_and_repetition_of_rows<V: Value>()
-    ensures closures { (rows more : List (Row V)) (c : Cell V) → TuplesAmong rows more → TuplesAmong more rows →
+    ensures closures { (rows more : List (Row V)) (c : Cell V) → TuplesAmong rows more →
+        TuplesAmong more rows →
         closure V.eq rows c ≡ closure V.eq more c }
-    ensures classes { (rows more : List (Row V)) (u : Cell V) → TuplesAmong rows more → TuplesAmong more rows →
+    ensures classes { (rows more : List (Row V)) (u : Cell V) → TuplesAmong rows more →
+        TuplesAmong more rows →
         is_class V.eq rows u ≡ is_class V.eq more u }
-    ensures nodes { (rows more : List (Row V)) (p : Cell V) → TuplesAmong rows more → TuplesAmong more rows →
+    ensures nodes { (rows more : List (Row V)) (p : Cell V) → TuplesAmong rows more →
+        TuplesAmong more rows →
         is_node V.eq rows p ≡ is_node V.eq more p }
+{}
+
+/// The aggregate of a cell is the same in whichever order the rows stand (own).
+pub fn aggregates_in_any_order<V: Value>()
+    ensures { (measures : ℕ) (rows more : List (Row V)) (c : Cell V) → Reordered rows more →
+        agg V.eq measures more c ≡ agg V.eq measures rows c }
 {}
 
 /// The cells that cover some row, the upper bounds and the nodes, in cell order, are the same

@@ -1,5 +1,5 @@
 //! The values of a base table.
-ghost use Rattle.std.specs.FinMap.{IsAntisymmetric, nat_cmp-IsAntisymmetric};
+ghost use Rattle.std.specs.FinMap.{IsAntisymmetric, nat_cmp-IsAntisymmetric, slice_cmp-IsAntisymmetric};
 
 /// A type of values whose order tells them apart. Each law of this crate holds over every such
 /// type.
@@ -11,4 +11,9 @@ pub trait Value: Ord {
 /// The codes of texts.
 impl Value for u32 {
     ghost apart = { nat_cmp-IsAntisymmetric };
+}
+
+/// Texts of one length, as their bytes.
+impl<const N: usize> Value for [u8; N] {
+    ghost apart = { slice_cmp-IsAntisymmetric nat_cmp-IsAntisymmetric };
 }
