@@ -22,7 +22,7 @@ module _ {X : Type 0} (cmp : X → X → Ordering) where
   all_append P [] ys a b = b
   all_append P (x ∷ xs) ys a b = (a.0, all_append P xs ys a.1 b)
 
-  rises_append : (xs ys : List X) → Rises cmp xs → Rises cmp ys → ((x y : X) → Among x xs → Among y ys → cmp x y ≡ Less) → Rises cmp (xs ++ ys)
+  pub rises_append : (xs ys : List X) → Rises cmp xs → Rises cmp ys → ((x y : X) → Among x xs → Among y ys → cmp x y ≡ Less) → Rises cmp (xs ++ ys)
   rises_append [] ys a b f = b
   rises_append (x ∷ xs) ys a b f = (all_append (λ y. cmp x y ≡ Less) xs ys a.0 (all_from (λ y. cmp x y ≡ Less) ys (λ y m. f x y (inl refl) m)), rises_append xs ys a.1 b (λ y z m k. f y z (inr m) k))
 

@@ -123,3 +123,9 @@ module _ {A : Type 0} where
   pub depth-one_value : (i : ℕ) (v : A) → depth (one_value i v) ≡ suc i
   depth-one_value zero v = refl
   depth-one_value (suc i) v = ap (one_deeper {A = A} None) (depth-one_value i v)
+
+  pub get-keep : (k n : ℕ) (c : Cell A) → k < n → slice_get (keep n c) k ≡ slice_get c k
+  get-keep k n [] h = refl
+  get-keep k zero (e ∷ c) h = absurd (omega arith)
+  get-keep zero (suc n) (e ∷ c) h = refl
+  get-keep (suc k) (suc n) (e ∷ c) h = get-keep k n c (omega arith)

@@ -18,3 +18,5 @@ pub mod Counted
 pub mod EdgesRise
 pub mod Recoded
 pub mod RecodedCounts
+pub mod Climbs
+pub mod LowerBounds

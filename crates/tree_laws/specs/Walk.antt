@@ -1,8 +1,8 @@
 -- How a search walks a tree: dimension by dimension from the root.
-use Rattle.std.specs.Prelude.{ℕ, suc, Bool, ◌&&◌, Option, Some, None, List, [], ◌∷◌, nat_eq, if◌then◌else◌}
+use Rattle.std.specs.Prelude.{ℕ, zero, suc, Bool, ◌&&◌, Option, Some, None, List, [], ◌∷◌, nat_eq, slice_index_or, if◌then◌else◌}
 use Rattle.std.specs.Option.{option_map, option_and_then}
 use Rattle.std.specs.FinMap as map
-use Rattle.cube_defs.specs.Cell.{Cell, keep}
+use Rattle.cube_defs.specs.Cell.{Cell, keep, last, with_value}
 use Rattle.cube_defs.specs.Rows.{Row, closure}
 use Rattle.cube_defs.specs.Tree.{Edge, Node, Tree}
 
@@ -39,3 +39,22 @@ module _ {A : Type 0} (eq : A → A → Bool) where
   -- where a walk to c stands before dimension i: the front, i dimensions long, of the closure of c's front
   abbrev pub front : List (Row A) → Cell A → ℕ → Option (Cell A)
   front rows c i = option_map (keep i) (closure eq rows (keep i c))
+
+-- a cell's last dimension with a value, and that value
+abbrev pub last_label : {A : Type 0} → Cell A → Option (ℕ × A)
+last_label c = option_and_then (λ i. option_map (λ v. (i, v)) (slice_index_or c i None)) (last c)
+
+-- on the way up: the cell so far with a node's last value, and then on from its parent
+abbrev pub climb_on : {A : Type 0} → (ℕ → Cell A → Cell A) → Cell A → Option (ℕ × A) → Option ℕ → Cell A
+climb_on more out None parent = out
+climb_on more out (Some label) None = with_value out label.0 label.1
+climb_on more out (Some label) (Some l) = more l (with_value out label.0 label.1)
+
+abbrev pub climb_from : {A : Type 0} → (ℕ → Cell A → Cell A) → Cell A → Option (Node A ℕ) → Cell A
+climb_from more out None = out
+climb_from more out (Some n) = climb_on more out (last_label n.cell) n.parent
+
+-- up from the node k by at most so many values
+abbrev pub climb : {A : Type 0} → Tree A → ℕ → ℕ → Cell A → Cell A
+climb tree zero k out = out
+climb tree (suc steps) k out = climb_from (climb tree steps) out (map.get tree k)
