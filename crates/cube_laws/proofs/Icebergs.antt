@@ -1,12 +1,12 @@
 -- The iceberg answer has just the classes that pass; so it is the same under other values, up to the order.
-use Rattle.std.proofs.Common.{◌≡◌, ◌↔◌, ℕ, Bool, true, List, map, filter, refl, sym, ap, subst, ◌∙◌}
+use Rattle.std.proofs.Common.{ap₂, ◌≡◌, ◌↔◌, ℕ, Bool, true, List, map, filter, refl, sym, ap, subst, ◌∙◌}
 use Rattle.std.specs.declared.cmp.Ordering.{Ordering}
 use Rattle.std.specs.declared.cmp.Ordering.TheVariants.{Less, Equal, Greater}
 use Rattle.std.specs.Ordering.{eq_by_cmp, ordering_then, ordering_reverse}
 use Rattle.std.specs.Cmp.{IsTotalOrder}
 use Rattle.std.specs.FinMap.{IsAntisymmetric}
 use Rattle.cube_defs.specs.Cell.{Cell, cell_cmp}
-use Rattle.cube_defs.specs.Rows.{Row, Fraction, agg, is_class}
+use Rattle.cube_defs.specs.Rows.{Row, Agg, Fraction, agg, is_class}
 use Rattle.cube_defs.specs.Tree.{covered, classes}
 use Rattle.cube_defs.specs.Answers.{Ask, AggKind, Bound, ClassHit, fraction_cmp, value_of, is_asked, lower_bounds, asked, answer_cmp, iceberg}
 use Rattle.cube_defs.specs.Answers.Bound.{AtLeast, AtMost}
@@ -52,6 +52,14 @@ module _ {A : Type 0} {cmp : A → A → Ordering} (total : IsTotalOrder cmp) (a
   asked-is ask hit = (
     λ m. let p : (u : Cell A) × Among u (passing ask) × (hit ≡ hit_of cmp measures rows u) = among_map (hit_of cmp measures rows) hit _ m in let f = filter_among (λ u. is_asked ask (agg (eq_by_cmp cmp) measures rows u)) p.0 (classes cmp rows) p.1 in (p.0, f.0, f.1, p.2),
     λ m. subst (λ x. Among x (asked cmp measures rows ask)) (sym m.3) (map_among (hit_of cmp measures rows) m.0 _ (among_filter (λ u. is_asked ask (agg (eq_by_cmp cmp) measures rows u)) m.0 (classes cmp rows) m.1 m.2)),
+  )
+
+  pub asked-has : (ask : Ask) (hit : ClassHit A) → Among hit (asked cmp measures rows ask)
+      ↔ (Among hit.upper (classes cmp rows) × (is_asked ask hit.agg ≡ true) × (hit.agg ≡ agg (eq_by_cmp cmp) measures rows hit.upper) × (hit.lowers ≡ lower_bounds cmp rows hit.upper))
+  asked-has ask hit = (
+    λ m. let p = (asked-is ask hit).0 m in
+        subst (λ (h : ClassHit A). Among h.upper (classes cmp rows) × (is_asked ask h.agg ≡ true) × (h.agg ≡ agg (eq_by_cmp cmp) measures rows h.upper) × (h.lowers ≡ lower_bounds cmp rows h.upper)) (sym p.3) (p.1, p.2, refl, refl),
+    λ m. (asked-is ask hit).1 (hit.upper, m.0, ap (is_asked ask) (sym m.2) ∙ m.1, ap₂ (λ (a : Agg) (ls : List (Cell A)). let x : ClassHit A = record { upper = hit.upper; agg = a; lowers = ls } in x) m.2 m.3),
   )
 
 module _ {A B : Type 0} {cmp : A → A → Ordering} {cmp' : B → B → Ordering} (total : IsTotalOrder cmp) (anti : IsAntisymmetric cmp) (total' : IsTotalOrder cmp') (anti' : IsAntisymmetric cmp')

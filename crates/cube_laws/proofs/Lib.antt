@@ -7,6 +7,7 @@ pub mod Columns
 pub mod Bounds
 pub mod Covered
 pub mod Nodes
+pub mod Listed
 pub mod SameRows
 pub mod Totals
 pub mod RowTotals

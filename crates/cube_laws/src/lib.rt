@@ -5,8 +5,9 @@
 pub mod closure_operator;
 pub mod deletion_step;
 pub mod fractions;
+pub mod iceberg_answers;
 pub mod lattice;
-pub mod lists_of_answers;
+pub mod lists_of_cells;
 pub mod one_row_more;
 pub mod parts_of_a_class;
 pub mod recoding;

@@ -1,0 +1,31 @@
+//! What stands in an iceberg answer, and in which order.
+ghost use Rattle.std.specs.Prelude.{IsTrue, List, ℕ, ◌↔◌, ◌≡◌};
+ghost use Rattle.cube_defs.specs.Answers.{Ask, ClassHit, answer_cmp, asked, iceberg, is_asked, lower_bounds};
+ghost use Rattle.cube_defs.specs.Rows.{Row, agg};
+ghost use Rattle.cube_defs.specs.Tree.{classes};
+ghost use Rattle.cube_laws.specs.Lists.{Among, Rises};
+
+use super::values::Value;
+
+/// An iceberg answer has the upper bounds that pass, each with its aggregate and its lower
+/// bounds in cell order, and no others: sorting loses none (own).
+pub fn iceberg_has_the_classes_that_pass<V: Value>()
+    ensures sorted { (measures : ℕ) (rows : List (Row V)) (ask : Ask) (hit : ClassHit V) →
+        Among hit (iceberg V.cmp measures rows ask) ↔ Among hit (asked V.cmp measures rows ask) }
+    ensures asked { (measures : ℕ) (rows : List (Row V)) (ask : Ask) (hit : ClassHit V) →
+        Among hit (asked V.cmp measures rows ask)
+        ↔ (Among hit.upper (classes V.cmp rows) × IsTrue (is_asked ask hit.agg)
+        × (hit.agg ≡ agg V.eq measures rows hit.upper)
+        × (hit.lowers ≡ lower_bounds V.cmp rows hit.upper)) }
+{}
+
+/// An iceberg answer stands in the order of the values, falling or rising as it was asked, and
+/// in cell order where they are equal; no other list of the same classes stands so (own).
+pub fn iceberg_is_in_order<V: Value>()
+    ensures in_order { (measures : ℕ) (rows : List (Row V)) (ask : Ask) →
+        Rises (answer_cmp V.cmp ask) (iceberg V.cmp measures rows ask) }
+    ensures only_one { (measures : ℕ) (rows : List (Row V)) (ask : Ask) (hits : List (ClassHit V)) →
+        Rises (answer_cmp V.cmp ask) hits →
+        ((hit : ClassHit V) → Among hit hits ↔ Among hit (asked V.cmp measures rows ask)) →
+        hits ≡ iceberg V.cmp measures rows ask }
+{}

@@ -1,0 +1,65 @@
+//! What stands in the lists of cells and in a range answer, and in which order.
+ghost use Rattle.std.specs.Prelude.{IsTrue, List, length, ℕ, ◌↔◌, ◌≡◌};
+ghost use Rattle.cube_defs.specs.Answers.{Box, Hit, in_box, lower_bounds, range};
+ghost use Rattle.cube_defs.specs.Cell.{Cell, cell_cmp};
+ghost use Rattle.cube_defs.specs.Rows.{Row, agg, closure, covers, is_class, is_lower_bound, is_node};
+ghost use Rattle.cube_defs.specs.Tree.{classes, covered, nodes};
+ghost use Rattle.cube_laws.specs.Lists.{Among, Rises};
+ghost use Rattle.std.specs.Ordering.{on};
+
+use super::values::Value;
+
+/// The list of covered cells has exactly the cells that cover some row of as many dimensions
+/// (own).
+pub fn covered_cells_are_listed<V: Value>()
+    ensures { (rows : List (Row V)) (c : Cell V) →
+        Among c (covered V.cmp rows)
+        ↔ ((r : Row V) × Among r rows × (length c ≡ length r.tuple) × IsTrue (covers V.eq c r)) }
+{}
+
+/// Among rows of n dimensions the lists of upper bounds and of nodes have all of them, and no
+/// others (own).
+pub fn upper_bounds_and_nodes_are_listed<V: Value>()
+    ensures upper_bounds { (n : ℕ) (rows : List (Row V)) (u : Cell V) →
+        ((r : Row V) → Among r rows → length r.tuple ≡ n) →
+        Among u (classes V.cmp rows) ↔ IsTrue (is_class V.eq rows u) }
+    ensures nodes { (n : ℕ) (rows : List (Row V)) (p : Cell V) →
+        ((r : Row V) → Among r rows → length r.tuple ≡ n) →
+        Among p (nodes V.cmp rows) ↔ IsTrue (is_node V.eq rows p) }
+{}
+
+/// Among rows of n dimensions the list of lower bounds of u has all of them that have n
+/// dimensions, and no others (own).
+pub fn lower_bounds_are_listed<V: Value>()
+    ensures { (n : ℕ) (rows : List (Row V)) (u c : Cell V) →
+        ((r : Row V) → Among r rows → length r.tuple ≡ n) →
+        Among c (lower_bounds V.cmp rows u)
+        ↔ ((length c ≡ n) × IsTrue (is_lower_bound V.eq rows u c)) }
+{}
+
+/// Among rows of n dimensions a range answer has all cells of n dimensions in the box that
+/// cover a row, each with its aggregate, and no others (own).
+pub fn range_has_the_covered_cells_of_the_box<V: Value>()
+    ensures { (n measures : ℕ) (rows : List (Row V)) (box : Box V) (hit : Hit V) →
+        ((r : Row V) → Among r rows → length r.tuple ≡ n) →
+        Among hit (range V.cmp measures rows box)
+        ↔ ((length hit.cell ≡ n) × IsTrue (in_box V.eq box hit.cell)
+        × ((u : Cell V) × (closure V.eq rows hit.cell ≡ Some u))
+        × (hit.agg ≡ agg V.eq measures rows hit.cell)) }
+{}
+
+/// The lists of covered cells, of upper bounds, of nodes and of lower bounds, and a range
+/// answer by its cells, rise in cell order; no other list of the same cells does (own).
+pub fn lists_are_in_cell_order<V: Value>()
+    ensures covered { (rows : List (Row V)) → Rises (cell_cmp V.cmp) (covered V.cmp rows) }
+    ensures upper_bounds { (rows : List (Row V)) → Rises (cell_cmp V.cmp) (classes V.cmp rows) }
+    ensures nodes { (rows : List (Row V)) → Rises (cell_cmp V.cmp) (nodes V.cmp rows) }
+    ensures lower_bounds { (rows : List (Row V)) (u : Cell V) →
+        Rises (cell_cmp V.cmp) (lower_bounds V.cmp rows u) }
+    ensures range { (measures : ℕ) (rows : List (Row V)) (box : Box V) →
+        Rises (on (λ hit. hit.cell) (cell_cmp V.cmp)) (range V.cmp measures rows box) }
+    ensures only_one { (cells more : List (Cell V)) → Rises (cell_cmp V.cmp) cells →
+        Rises (cell_cmp V.cmp) more →
+        ((c : Cell V) → Among c cells → Among c more) →
+        ((c : Cell V) → Among c more → Among c cells) → cells ≡ more }
+{}
