@@ -22,7 +22,7 @@ less Less h = refl
 less Equal h = absurd h
 less Greater h = absurd h
 
-at_tie : (q k : ℕ) → eq_by_cmp nat_cmp q k ≡ true → q ≡ k
+pub at_tie : (q k : ℕ) → eq_by_cmp nat_cmp q k ≡ true → q ≡ k
 at_tie q k h = numbers.nat_cmp-IsAntisymmetric q k (tied (nat_cmp q k) h)
   where
     tied : (o : Ordering) → is_eq o ≡ true → o ≡ Equal

@@ -20,3 +20,4 @@ pub mod Recoded
 pub mod RecodedCounts
 pub mod Climbs
 pub mod LowerBounds
+pub mod Existence

@@ -1,5 +1,5 @@
 -- Rows with the same tuples have the same records, but for what the rows come to.
-use Rattle.std.proofs.Common.{◌≡◌, ℕ, ◌-◌, true, Bool, false, cond, Option, Some, None, List, [], ◌∷◌, ◌++◌, filter_map, flat_map, refl, sym, ap, ap₂, subst, ◌∙◌, slice_get, inl, inr}
+use Rattle.std.proofs.Common.{◌≡◌, ◌↔◌, ℕ, ◌-◌, true, Bool, false, cond, Option, Some, None, List, [], ◌∷◌, ◌++◌, filter_map, flat_map, refl, sym, ap, ap₂, subst, ◌∙◌, slice_get, inl, inr}
 use Rattle.std.specs.declared.cmp.Ordering.{Ordering}
 use Rattle.std.specs.Ordering.{eq_by_cmp}
 use Rattle.std.specs.Cmp.{IsTotalOrder}
@@ -9,13 +9,12 @@ use Rattle.std.specs.Option.{option_map}
 use Rattle.cube_defs.specs.Cell.{Cell, leq, cell_of, depth, upto, with_value, cell_eq}
 use Rattle.cube_defs.specs.Rows.{Row, Agg, covers, cov, closure, is_node, agg, agg_of}
 use Rattle.cube_defs.specs.Tree.{Node, Tree, IsCanonical, node_of, node_with, edges_in, values_at, next_value, as_list, forced_child, cut_last, renamed, cell_at}
-use Rattle.cube_laws.specs.Lists.{Among}
-use Rattle.cube_laws.specs.Total.{agg_at, agg_some}
+use Rattle.cube_laws.specs.Lists.{Among, Reordered}
 use Rattle.cube_laws.specs.Tuples.{TuplesAmong}
-use Rattle.cube_laws.proofs.Lists.{among_filter, filter_among, among_filter_map, among_insert}
+use Rattle.cube_laws.proofs.Lists.{among_filter, filter_among, among_filter_map, among-reordered}
 use Rattle.cube_laws.proofs.Distinct.{among_distinct, rises_distinct, rises_same}
 use Rattle.cube_laws.proofs.Orders.{equality_by}
-use Rattle.cube_laws.proofs.OneRow.{agg_at-insert}
+use Rattle.cube_laws.proofs.RowTotals.{agg-reordered}
 use Rattle.cube_laws.proofs.SameRows.{closure_by_tuples, node_by_tuples}
 use Rattle.tree_laws.specs.Renaming.{shape}
 use Rattle.tree_laws.proofs.Lists.{filter_map_same, flat_map_range, option_map_same}
@@ -75,27 +74,19 @@ module _ {A : Type 0} {cmp : A → A → Ordering} (total : IsTotalOrder cmp) (a
       all = λ c e. h.all c (node_by_tuples (equality_by total anti) rows more f g c ∙ e);
     }
 
-  -- a row may stand anywhere among the others
-  module _ (measures : ℕ) (xs : List (Row A)) (r : Row A) (ys : List (Row A)) where
-    to_front : TuplesAmong (xs ++ r ∷ ys) (r ∷ (xs ++ ys))
-    to_front s m = (s, (among_insert s xs r ys).0 m, refl)
+  module _ (measures : ℕ) (rows more : List (Row A)) (h : Reordered rows more) where
+    there : TuplesAmong rows more
+    there r m = (r, (among-reordered rows more h r).1 m, refl)
 
-    from_front : TuplesAmong (r ∷ (xs ++ ys)) (xs ++ r ∷ ys)
-    from_front s m = (s, (among_insert s xs r ys).1 m, refl)
+    back : TuplesAmong more rows
+    back r m = (r, (among-reordered rows more h r).0 m, refl)
 
-    agg_of_some : (rows more : List (Row A)) → agg_some measures rows ≡ agg_some measures more → agg_of measures rows ≡ agg_of measures more
-    agg_of_some [] [] e = refl
-    agg_of_some [] (m ∷ more) e = cc
-    agg_of_some (s ∷ rows) [] e = cc
-    agg_of_some (s ∷ rows) (m ∷ more) e = cc
+    same : (p : Cell A) → agg (eq_by_cmp cmp) measures rows p ≡ agg (eq_by_cmp cmp) measures more p
+    same p = sym (agg-reordered (eq_by_cmp cmp) measures rows more p h)
 
-    agg_anywhere : (c : Cell A) → agg (eq_by_cmp cmp) measures (xs ++ r ∷ ys) c ≡ agg (eq_by_cmp cmp) measures (r ∷ (xs ++ ys)) c
-    agg_anywhere c =
-        let law = equality_by total anti in
-        agg_of_some (cov (eq_by_cmp cmp) (xs ++ r ∷ ys) c) (cov (eq_by_cmp cmp) (r ∷ (xs ++ ys)) c) (agg_at-insert law xs r ys measures c ∙ sym (agg_at-insert law [] r (xs ++ ys) measures c))
+    -- in whichever order the rows stand
+    pub record-reordered : (p : Cell A) → node_of cmp measures rows p ≡ node_of cmp measures more p
+    record-reordered p = record_by_tuples measures rows more there back p (same p)
 
-    pub canonical_to_front : (tree : Tree A) → IsCanonical cmp measures (xs ++ r ∷ ys) tree → IsCanonical cmp measures (r ∷ (xs ++ ys)) tree
-    canonical_to_front = canonical_by_tuples measures (xs ++ r ∷ ys) (r ∷ (xs ++ ys)) to_front from_front agg_anywhere
-
-    pub canonical_from_front : (tree : Tree A) → IsCanonical cmp measures (r ∷ (xs ++ ys)) tree → IsCanonical cmp measures (xs ++ r ∷ ys) tree
-    canonical_from_front = canonical_by_tuples measures (r ∷ (xs ++ ys)) (xs ++ r ∷ ys) from_front to_front (λ c. sym (agg_anywhere c))
+    pub canonical-reordered : (tree : Tree A) → IsCanonical cmp measures rows tree ↔ IsCanonical cmp measures more tree
+    canonical-reordered tree = (canonical_by_tuples measures rows more there back same tree, canonical_by_tuples measures more rows back there (λ p. sym (same p)) tree)

@@ -1,10 +1,12 @@
 //! The canonical tree is told by its rows, but for the numbers of its nodes.
+ghost use Rattle.std.specs.List.{AllByRecursion};
 ghost use Rattle.std.specs.Option.{option_map};
 ghost use Rattle.std.specs.Ordering.{eq_by_cmp};
-ghost use Rattle.std.specs.Prelude.{List, ℕ, ◌++◌, ◌∷◌, ◌≡◌};
+ghost use Rattle.std.specs.Prelude.{List, length, ℕ, ◌↔◌, ◌≡◌};
 ghost use Rattle.cube_defs.specs.Cell.{Cell};
 ghost use Rattle.cube_defs.specs.Rows.{Row, agg};
 ghost use Rattle.cube_defs.specs.Tree.{IsCanonical, Tree, node_of};
+ghost use Rattle.cube_laws.specs.Lists.{Reordered};
 ghost use Rattle.cube_laws.specs.Tuples.{TuplesAmong};
 ghost use Rattle.tree_laws.specs.Renaming.{IsRenaming, shape};
 
@@ -28,10 +30,24 @@ pub fn records_of_the_same_tuples<V: Value>()
         node_of V.cmp measures rows p ≡ node_of V.cmp measures more p }
 {}
 
-/// A row may stand anywhere among the others: the canonical trees are the same (own).
-pub fn a_row_may_stand_anywhere<V: Value>()
-    ensures to_front { (measures : ℕ) (xs ys : List (Row V)) (r : Row V) (tree : Tree V) →
-        IsCanonical V.cmp measures (xs ++ r ∷ ys) tree → IsCanonical V.cmp measures (r ∷ (xs ++ ys)) tree }
-    ensures from_front { (measures : ℕ) (xs ys : List (Row V)) (r : Row V) (tree : Tree V) →
-        IsCanonical V.cmp measures (r ∷ (xs ++ ys)) tree → IsCanonical V.cmp measures (xs ++ r ∷ ys) tree }
-{}
+/// In whichever order the rows stand, they have the same records and the same canonical trees (own).
+pub fn rows_in_any_order<V: Value>()
+    ensures records {
+        (measures : ℕ) (rows more : List (Row V)) (p : Cell V) → Reordered rows more →
+        node_of V.cmp measures rows p ≡ node_of V.cmp measures more p
+    }
+    ensures trees {
+        (measures : ℕ) (rows more : List (Row V)) (tree : Tree V) → Reordered rows more →
+        IsCanonical V.cmp measures rows tree ↔ IsCanonical V.cmp measures more tree
+    }
+{
+}
+
+/// Rows that all have as many values as there are dimensions have a canonical tree (own).
+pub fn rows_have_a_tree<V: Value>()
+    ensures {
+        (dims measures : ℕ) (rows : List (Row V)) → AllByRecursion (λ row. length row.tuple ≡ dims) rows →
+        (tree : Tree V) × IsCanonical V.cmp measures rows tree
+    }
+{
+}
