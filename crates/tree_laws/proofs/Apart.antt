@@ -1,5 +1,5 @@
 -- A node that doesn't cover a row keeps its record as the row comes or goes, and leads to none that covers it.
-use Rattle.std.proofs.Common.{◌≡◌, ℕ, ◌-◌, ◌≤◌, ◌<◌, true, false, cond, Option, Some, None, List, ◌∷◌, ◌++◌, filter_map, length, slice_get, sym, ap, ap₂, ◌∙◌, true≢false}
+use Rattle.std.proofs.Common.{◌≡◌, ℕ, ◌-◌, ◌≤◌, ◌<◌, false, cond, Some, None, List, ◌∷◌, ◌++◌, filter_map, length, slice_get, sym, ap, ap₂, ◌∙◌, true≢false}
 use Rattle.std.proofs.lemmas.Bool.{false_from_ne_true}
 use Rattle.std.specs.declared.cmp.Ordering.{Ordering}
 use Rattle.std.specs.Ordering.{eq_by_cmp}

@@ -1,5 +1,5 @@
 -- Labels lead to nodes, and each node but the root is a child of the node without its last value.
-use Rattle.std.proofs.Common.{◌≡◌, ◌↔◌, inl, inr, ℕ, zero, suc, ◌≤◌, ◌<◌, Bool, true, Option, Some, None, List, [], ◌∷◌, length, slice_get, refl, sym, ap, ap₂, subst, ◌∙◌, arith}
+use Rattle.std.proofs.Common.{◌≡◌, ◌↔◌, inl, inr, ℕ, suc, ◌≤◌, ◌<◌, Bool, true, Option, Some, None, List, length, slice_get, refl, sym, ap, ap₂, subst, ◌∙◌, arith}
 use Rattle.std.specs.Option.{option_map}
 use Rattle.std.specs.declared.cmp.Ordering.{Ordering}
 use Rattle.cube_defs.specs.Cell.{Cell, leq, depth, keep, upto, with_value}

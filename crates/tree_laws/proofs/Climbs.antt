@@ -1,5 +1,5 @@
 -- A cell read from its end to its front, and a node's cell on the way up to the root.
-use Rattle.std.proofs.Common.{◌≡◌, ℕ, zero, suc, ◌-◌, ◌≤◌, ◌<◌, ◌==◌, Option, Some, None, List, [], ◌∷◌, length, replicate, refl, sym, ap, ap₂, subst, ◌∙◌, slice_get, arith, true≢false, eqb-true, eq-eqb}
+use Rattle.std.proofs.Common.{◌≡◌, ℕ, zero, suc, ◌-◌, ◌≤◌, ◌==◌, Option, Some, None, List, [], ◌∷◌, length, replicate, refl, sym, ap, ap₂, subst, ◌∙◌, slice_get, arith, eqb-true, eq-eqb}
 use Rattle.std.specs.Prelude.{slice_index_or}
 use Rattle.std.proofs.lemmas.Bool.{cond-true, cond-false, false_from_ne_true}
 use Rattle.std.specs.List.{AllByRecursion}

@@ -1,15 +1,15 @@
 -- What is counted in a canonical tree is what the rows say.
-use Rattle.std.proofs.Common.{◌≡◌, ◌↔◌, ℕ, suc, ◌-◌, Bool, true, false, cond, not, Option, Some, None, List, [], ◌∷◌, ◌++◌, map, filter, filter_map, flat_map, length, is_some, refl, sym, ap, ap₂, subst, ◌∙◌, nat_cmp, sum}
+use Rattle.std.proofs.Common.{◌≡◌, ℕ, Bool, true, false, cond, not, Option, Some, None, List, map, length, is_some, refl, sym, ap, subst, ◌∙◌, sum}
 use Rattle.std.specs.declared.cmp.Ordering.{Ordering}
 use Rattle.std.specs.Ordering.{eq_by_cmp}
 use Rattle.std.specs.Cmp.{IsTotalOrder}
 use Rattle.std.specs.FinMap as numbers
-use Rattle.std.specs.List.{AllByRecursion, count_by, sum_by, range_with_len}
-use Rattle.std.specs.Option.{option_map, option_and_then, option_eq}
+use Rattle.std.specs.List.{AllByRecursion, count_by, sum_by}
+use Rattle.std.specs.Option.{option_map, option_eq}
 use Rattle.std.proofs.lemmas.List.Sums.{length-filter}
 use Rattle.cube_defs.specs.Cell.{Cell, cell_eq, depth}
 use Rattle.cube_defs.specs.Rows.{Row, closure, is_class, is_node, agg}
-use Rattle.cube_defs.specs.Tree.{Edge, Node, Tree, IsCanonical, node_of, node_with, next_value, edges_in, forced_child, as_list, cell_at, cut_last, renamed, renamed_edge, tree, tree_edges, links, classes, nodes, covered, is_tree_edge}
+use Rattle.cube_defs.specs.Tree.{Edge, Node, Tree, IsCanonical, node_of, node_with, next_value, cell_at, renamed, renamed_edge, tree, tree_edges, links, classes, nodes, covered}
 use Rattle.cube_laws.specs.Lists.{Among}
 use Rattle.cube_laws.proofs.Lists.{among_map, map_among, filter_filter}
 use Rattle.cube_laws.proofs.Cells.{IsEquality, keep-depth}

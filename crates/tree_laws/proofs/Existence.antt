@@ -1,11 +1,11 @@
 -- The nodes numbered by their places in cell order are a canonical tree.
-use Rattle.std.proofs.Common.{◌≡◌, ℕ, zero, suc, ◌+◌, ◌-◌, ◌==◌, Bool, true, false, cond, Option, Some, None, List, [], ◌∷◌, ◌++◌, map, flat_map, length, slice_get, refl, sym, ap, ap₂, subst, ◌∙◌, inl, inr, arith, true≢false, nat_cmp}
+use Rattle.std.proofs.Common.{◌≡◌, ℕ, zero, suc, ◌+◌, ◌-◌, ◌==◌, Bool, true, false, cond, Option, Some, None, List, [], ◌∷◌, map, flat_map, length, slice_get, refl, sym, ap, ap₂, subst, ◌∙◌, inl, inr, arith, true≢false, nat_cmp}
 use Rattle.std.specs.declared.cmp.Ordering.{Ordering}
 use Rattle.std.specs.Ordering.{eq_by_cmp, is_eq}
 use Rattle.std.specs.Cmp.{IsTotalOrder, nat_cmp_total, tied_itself}
 use Rattle.std.specs.FinMap as numbers
 use Rattle.std.specs.List.{AllByRecursion, range_with_len}
-use Rattle.std.specs.Option.{option_map, option_and_then}
+use Rattle.std.specs.Option.{option_map}
 use Rattle.cube_defs.specs.Cell.{Cell, cell_eq, depth, keep}
 use Rattle.cube_defs.specs.Rows.{Row, closure, is_node}
 use Rattle.cube_defs.specs.Tree.{Edge, Node, Tree, IsCanonical, node_of, node_with, next_value, edges_in, forced_child, as_list, cut_last, nodes, covered, cell_at, renamed, renamed_edge}
@@ -18,7 +18,7 @@ use Rattle.tree_laws.proofs.Lists.{some_same}
 use Rattle.tree_laws.proofs.Sums.{EachOnce, once_filter, covered_once}
 use Rattle.tree_laws.proofs.Entries.{at_tie}
 use Rattle.tree_laws.proofs.Children.{node_fronts}
-use Rattle.tree_laws.proofs.Records.{record_with, record_closure, target_node}
+use Rattle.tree_laws.proofs.Records.{target_node}
 
 module _ {X : Type 0} where
   get_among : (xs : List X) (k : ℕ) (x : X) → slice_get xs k ≡ Some x → Among x xs

@@ -1,5 +1,5 @@
 -- The fronts of cells, and cells with a value more.
-use Rattle.std.proofs.Common.{◌≡◌, ◌↔◌, ℕ, zero, suc, ◌≤◌, ◌<◌, Bool, true, ◌&&◌, Option, Some, None, List, [], ◌∷◌, length, slice_get, refl, sym, ap, ◌∙◌, arith}
+use Rattle.std.proofs.Common.{◌≡◌, ℕ, zero, suc, ◌≤◌, ◌<◌, Bool, true, ◌&&◌, Option, Some, None, [], ◌∷◌, length, slice_get, refl, sym, ap, ◌∙◌, arith}
 use Rattle.std.proofs.lemmas.Bool.{and_parts, and_from}
 use Rattle.cube_defs.specs.Cell.{Cell, entry_leq, leq, entry_meet, meet, depth, one_deeper, keep, upto, with_value}
 use Rattle.cube_laws.proofs.Cells.{IsEquality, leq_refl, depth-keep_zero, one_deeper-le}

@@ -3,7 +3,7 @@ use Rattle.std.proofs.Common.{◌≡◌, ℕ, ◌≤◌, ◌<◌, Bool, true, fa
 use Rattle.std.proofs.lemmas.Bool.{cond-true, cond-false, false_from_ne_true}
 use Rattle.std.specs.List.{AllByRecursion}
 use Rattle.std.specs.Option.{option_map}
-use Rattle.cube_defs.specs.Cell.{Cell, leq, meet, cell_of, depth, keep, upto, with_value}
+use Rattle.cube_defs.specs.Cell.{Cell, leq, cell_of, depth, keep, upto, with_value}
 use Rattle.cube_defs.specs.Rows.{Row, covers, closure, meet_next, meet_all}
 use Rattle.cube_laws.proofs.Lists.{filter_same}
 use Rattle.cube_laws.proofs.Cells.{IsEquality, leq_antisymm, meet_comm, keep-leq, keep_mono}
@@ -61,13 +61,6 @@ module _ {A : Type 0} {eq : A → A → Bool} (law : IsEquality eq) where
       go : (b : Bool) (o : Option (Cell A)) → option_map (λ w. upto w i) (cond b (Some (meet_next eq (cell_of r.tuple) o)) o) ≡ cond b (Some (moved eq (option_map (λ w. upto w i) o) (cell_of r.tuple) i)) (option_map (λ w. upto w i) o)
       go true o = ap (λ x. Some x) (upto-meet_next o (cell_of r.tuple) i)
       go false o = refl
-
-  -- the labels of p after the row, by those of the chain node before it
-  pub lead_chain-insert : (xs : List (Row A)) (r : Row A) (ys : List (Row A)) (p u : Cell A) (i : ℕ) (v : A) → covers eq p r ≡ true → closure eq (xs ++ ys) p ≡ Some u → depth p ≤ i → i < length p → i < length (keep i u)
-      → lead eq (xs ++ r ∷ ys) p i v ≡ cond (leq eq (one_value i v) (cell_of r.tuple)) (Some (moved eq (lead eq (xs ++ ys) (keep i u) i v) (cell_of r.tuple) i)) (lead eq (xs ++ ys) (keep i u) i v)
-  lead_chain-insert xs r ys p u i v c e h l m =
-      lead-insert xs r ys p i v c h l
-      ∙ ap (λ o. cond (leq eq (one_value i v) (cell_of r.tuple)) (Some (moved eq o (cell_of r.tuple) i)) o) (lead_chain (xs ++ ys) p u i v e h l m)
 
   -- the two cases
   own_value : (r : Row A) (i : ℕ) (v : A) → (leq eq (one_value i v) (cell_of r.tuple) ≡ true) ↔ (slice_get r.tuple i ≡ Some v)

@@ -1,6 +1,6 @@
 -- The labels of a node after a row that it covers, by those before.
-use Rattle.std.proofs.Common.{◌≡◌, ◌↔◌, ℕ, ◌≤◌, ◌<◌, true, false, cond, Option, Some, None, List, [], ◌∷◌, ◌++◌, length, refl, sym, ap, ap₂, subst, ◌∙◌, arith}
-use Rattle.std.proofs.lemmas.Bool.{cond-true, cond-false}
+use Rattle.std.proofs.Common.{◌≡◌, ◌↔◌, ℕ, ◌≤◌, ◌<◌, true, Some, None, List, ◌∷◌, ◌++◌, ◌≢◌, slice_get, length, sym, ap, ap₂, ◌∙◌, arith}
+use Rattle.std.proofs.lemmas.Bool.{cond-true}
 use Rattle.std.specs.declared.cmp.Ordering.{Ordering}
 use Rattle.std.specs.Ordering.{eq_by_cmp}
 use Rattle.std.specs.Cmp.{IsTotalOrder}
@@ -12,14 +12,13 @@ use Rattle.cube_defs.specs.Tree.{Edge, node_with, next_value}
 use Rattle.cube_laws.specs.Lists.{Among}
 use Rattle.cube_laws.proofs.Cells.{IsEquality, leq_antisymm, meet_comm, meet_great, keep-leq, keep_mono, length-keep, keep-depth_keep}
 use Rattle.cube_laws.proofs.Closures.{closure_idem, is_class-is}
-use Rattle.cube_laws.proofs.Columns.{one_value}
 use Rattle.cube_laws.proofs.Nodes.{is_node-is, class_fronts}
 use Rattle.cube_laws.proofs.OneRow.{closure-insert}
-use Rattle.tree_laws.specs.Labels.{lead, moved, IsLabel}
+use Rattle.tree_laws.specs.Labels.{lead, moved, IsWithin}
 use Rattle.tree_laws.proofs.Lists.{some_same}
 use Rattle.tree_laws.proofs.Fronts.{depth-keep-le, keep-beyond}
 use Rattle.tree_laws.proofs.Nexts.{keep-between, next-chain}
-use Rattle.tree_laws.proofs.Leads.{closure_between, leq-chain, lead-insert, lead_chain, lead_chain-insert}
+use Rattle.tree_laws.proofs.Leads.{closure_between, leq-chain, lead_chain, lead_other, lead_own}
 use Rattle.tree_laws.proofs.Edges.{law_by, edges-are}
 
 module _ {A : Type 0} {cmp : A → A → Ordering} (total : IsTotalOrder cmp) (anti : IsAntisymmetric cmp) (xs : List (Row A)) (r : Row A) (ys : List (Row A)) where
@@ -69,3 +68,43 @@ module _ {A : Type 0} {cmp : A → A → Ordering} (total : IsTotalOrder cmp) (a
         λ m. (are.0 m).leads,
         λ k. are.1 (record { behind = depth-keep-le x.dim u; before = next-chain cmp x.dim u (omega arith); within = omega (arith, length-keep x.dim u); leads = k }),
       )
+
+module _ {A : Type 0} {cmp : A → A → Ordering} (total : IsTotalOrder cmp) (anti : IsAntisymmetric cmp) (measures : ℕ) (xs : List (Row A)) (r : Row A) (ys : List (Row A)) (p u : Cell A) (c : covers (eq_by_cmp cmp) p r ≡ true) (e : closure (eq_by_cmp cmp) (xs ++ ys) p ≡ Some u) (node : is_node (eq_by_cmp cmp) (xs ++ r ∷ ys) p ≡ true) where
+  front : keep (depth p) (meet (eq_by_cmp cmp) u (cell_of r.tuple)) ≡ p
+  front = (node_met total anti xs r ys p u c e).0 node
+
+  after : (x : Edge A (Cell A)) → Among x (node_with cmp measures (xs ++ r ∷ ys) p (meet (eq_by_cmp cmp) u (cell_of r.tuple)) (next_value cmp (depth p) (meet (eq_by_cmp cmp) u (cell_of r.tuple)))).edges
+      ↔ (IsWithin p (next_value cmp (depth p) (meet (eq_by_cmp cmp) u (cell_of r.tuple))) x.dim × (lead (eq_by_cmp cmp) (xs ++ r ∷ ys) p x.dim x.value ≡ Some x.target))
+  after x =
+      let are = edges-are total anti measures (xs ++ r ∷ ys) p (meet (eq_by_cmp cmp) u (cell_of r.tuple)) (closure_met total anti xs r ys p u c e) front x in (
+        λ m. let l = are.0 m in (record { behind = l.behind; before = l.before; within = l.within }, l.leads),
+        λ h. are.1 (record { behind = h.0.behind; before = h.0.before; within = h.0.within; leads = h.1 }),
+      )
+
+  module _ (x : Edge A (Cell A)) (long : length p ≡ length u) where
+    chain : IsWithin p (next_value cmp (depth p) (meet (eq_by_cmp cmp) u (cell_of r.tuple))) x.dim → lead (eq_by_cmp cmp) (xs ++ ys) p x.dim x.value ≡ lead (eq_by_cmp cmp) (xs ++ ys) (keep x.dim u) x.dim x.value
+    chain w = lead_chain (law_by total anti) (xs ++ ys) p u x.dim x.value e w.behind w.within (omega (arith, w.within, length-keep x.dim u, long))
+
+    -- an edge with another value than the row's is one of the old chain node
+    pub other_edge : slice_get r.tuple x.dim ≢ Some x.value
+        → Among x (node_with cmp measures (xs ++ r ∷ ys) p (meet (eq_by_cmp cmp) u (cell_of r.tuple)) (next_value cmp (depth p) (meet (eq_by_cmp cmp) u (cell_of r.tuple)))).edges
+        ↔ (IsWithin p (next_value cmp (depth p) (meet (eq_by_cmp cmp) u (cell_of r.tuple))) x.dim × Among x (node_with cmp measures (xs ++ ys) (keep x.dim u) u (next_value cmp (depth (keep x.dim u)) u)).edges)
+    other_edge o = (
+      λ m. let a = (after x).0 m in (a.0, (chain_label total anti measures (xs ++ ys) p u x e a.0.behind (omega (arith, a.0.within, long))).1 (sym (led a.0) ∙ a.1)),
+      λ h. (after x).1 (h.0, led h.0 ∙ (chain_label total anti measures (xs ++ ys) p u x e h.0.behind (omega (arith, h.0.within, long))).0 h.1),
+    )
+      where
+        led : IsWithin p (next_value cmp (depth p) (meet (eq_by_cmp cmp) u (cell_of r.tuple))) x.dim → lead (eq_by_cmp cmp) (xs ++ r ∷ ys) p x.dim x.value ≡ lead (eq_by_cmp cmp) (xs ++ ys) (keep x.dim u) x.dim x.value
+        led w = lead_other (law_by total anti) xs r ys p x.dim x.value c w.behind w.within o ∙ chain w
+
+    -- the one with the row's value leads to what the old chain node's target and the row share, or to the row's front
+    pub own_edge : slice_get r.tuple x.dim ≡ Some x.value
+        → Among x (node_with cmp measures (xs ++ r ∷ ys) p (meet (eq_by_cmp cmp) u (cell_of r.tuple)) (next_value cmp (depth p) (meet (eq_by_cmp cmp) u (cell_of r.tuple)))).edges
+        ↔ (IsWithin p (next_value cmp (depth p) (meet (eq_by_cmp cmp) u (cell_of r.tuple))) x.dim × (moved (eq_by_cmp cmp) (lead (eq_by_cmp cmp) (xs ++ ys) (keep x.dim u) x.dim x.value) (cell_of r.tuple) x.dim ≡ x.target))
+    own_edge o = (
+      λ m. let a = (after x).0 m in (a.0, some_same (sym (led a.0) ∙ a.1)),
+      λ h. (after x).1 (h.0, led h.0 ∙ ap (λ y. Some y) h.1),
+    )
+      where
+        led : IsWithin p (next_value cmp (depth p) (meet (eq_by_cmp cmp) u (cell_of r.tuple))) x.dim → lead (eq_by_cmp cmp) (xs ++ r ∷ ys) p x.dim x.value ≡ Some (moved (eq_by_cmp cmp) (lead (eq_by_cmp cmp) (xs ++ ys) (keep x.dim u) x.dim x.value) (cell_of r.tuple) x.dim)
+        led w = lead_own (law_by total anti) xs r ys p x.dim x.value c w.behind w.within o ∙ ap (λ q. Some (moved (eq_by_cmp cmp) q (cell_of r.tuple) x.dim)) (chain w)

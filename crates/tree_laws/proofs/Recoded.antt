@@ -1,5 +1,5 @@
 -- The records of coded rows are the codes of the records.
-use Rattle.std.proofs.Common.{◌≡◌, ◌↔◌, ℕ, zero, suc, ◌+◌, ◌-◌, ◌==◌, ◌≤◌, ◌<◌, Bool, true, false, cond, Option, Some, None, List, [], ◌∷◌, ◌++◌, map, length, slice_get, refl, sym, ap, ap₂, subst, ◌∙◌, arith}
+use Rattle.std.proofs.Common.{◌≡◌, ◌↔◌, ℕ, zero, suc, ◌+◌, ◌-◌, ◌==◌, ◌≤◌, ◌<◌, Bool, true, false, cond, Option, Some, None, List, [], ◌∷◌, map, length, slice_get, refl, sym, ap, ap₂, subst, ◌∙◌, arith}
 use Rattle.std.proofs.lemmas.Bool.{and_parts}
 use Rattle.std.specs.declared.cmp.Ordering.{Ordering}
 use Rattle.std.specs.Ordering.{eq_by_cmp}
@@ -7,7 +7,7 @@ use Rattle.std.specs.Cmp.{IsTotalOrder}
 use Rattle.std.specs.FinMap.{IsAntisymmetric}
 use Rattle.std.specs.Option.{option_map, option_and_then}
 use Rattle.cube_defs.specs.Cell.{Cell, leq, cell_of, depth, keep, upto, with_value, cell_eq}
-use Rattle.cube_defs.specs.Rows.{Row, Agg, covers, closure, agg, is_node}
+use Rattle.cube_defs.specs.Rows.{Row, covers, closure, agg, is_node}
 use Rattle.cube_defs.specs.Tree.{Edge, Node, node_of, node_with, next_value, forced_child, cut_last}
 use Rattle.cube_laws.specs.Lists.{Among}
 use Rattle.cube_laws.specs.Recoding.{coded, coded_tuple, coded_row, TellsApart, AreKnown, RowsAreKnown}

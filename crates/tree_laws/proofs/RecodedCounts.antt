@@ -1,11 +1,11 @@
 -- Coded rows have as many classes, nodes and edges of both kinds as the rows.
-use Rattle.std.proofs.Common.{◌≡◌, ℕ, suc, ◌-◌, ◌==◌, ◌≤◌, ◌<◌, Bool, true, false, cond, not, Option, Some, None, List, [], ◌∷◌, map, filter, length, slice_get, refl, sym, ap, ap₂, subst, ◌∙◌, ◌+◌, arith, sum}
+use Rattle.std.proofs.Common.{◌≡◌, ℕ, ◌-◌, ◌==◌, Bool, true, false, cond, not, Option, Some, None, List, map, filter, length, slice_get, refl, sym, ap, subst, ◌∙◌, ◌+◌, arith, sum}
 use Rattle.std.specs.declared.cmp.Ordering.{Ordering}
 use Rattle.std.specs.Ordering.{eq_by_cmp}
 use Rattle.std.specs.Cmp.{IsTotalOrder}
 use Rattle.std.specs.FinMap.{IsAntisymmetric}
 use Rattle.std.specs.List.{count_by, sum_by}
-use Rattle.std.specs.Option.{option_map, option_and_then, option_eq}
+use Rattle.std.specs.Option.{option_map, option_eq}
 use Rattle.cube_defs.specs.Cell.{Cell, depth, keep, with_value, cell_eq}
 use Rattle.cube_defs.specs.Rows.{Row, closure, is_node, is_class}
 use Rattle.cube_defs.specs.Tree.{Edge, Node, node_of, node_with, next_value, tree, tree_edges, links, classes, nodes, covered, cut_last}
@@ -19,11 +19,11 @@ use Rattle.cube_laws.proofs.Recoded.{coded-apart, option_eq-coded}
 use Rattle.cube_laws.proofs.RecodedRows.{known-keep}
 use Rattle.cube_laws.proofs.RecodedLists.{known-covered, classes-coded, nodes-coded}
 use Rattle.tree_laws.specs.Counts.{is_under}
-use Rattle.tree_laws.specs.Edges.{edge_cmp, coded_edge, IsCodedNode}
+use Rattle.tree_laws.specs.Edges.{coded_edge, IsCodedNode}
 use Rattle.tree_laws.specs.Labels.{lead, IsLabel}
 use Rattle.tree_laws.proofs.Lists.{some_same}
 use Rattle.tree_laws.proofs.Fronts.{with_value-there}
-use Rattle.tree_laws.proofs.Sums.{EachOnce, sum_same, once_filter, once_map, covered_once, length-map, sum_ones, sum_alike, sum_by-map, or_nothing, sum_by-filter_map}
+use Rattle.tree_laws.proofs.Sums.{sum_same, once_filter, once_map, covered_once, sum_ones, sum_alike, sum_by-map, or_nothing, sum_by-filter_map}
 use Rattle.tree_laws.proofs.EdgesRise.{rising_edges_once}
 use Rattle.tree_laws.proofs.Records.{record_rises, record_closure, record_edges}
 use Rattle.tree_laws.proofs.Recoded.{record-coded, parent-coded, known-label, known-target, with_value-coded}

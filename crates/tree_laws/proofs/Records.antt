@@ -1,15 +1,14 @@
 -- The laws of labels, said of the records of nodes.
-use Rattle.std.proofs.Common.{◌≡◌, ◌↔◌, ℕ, true, false, Option, Some, None, List, length, refl, sym, ap, subst, ◌∙◌, ◌≤◌, ◌<◌}
+use Rattle.std.proofs.Common.{◌≡◌, ◌↔◌, ℕ, true, false, Option, Some, None, List, refl, sym, ap, subst}
 use Rattle.std.specs.declared.cmp.Ordering.{Ordering}
 use Rattle.std.specs.Ordering.{eq_by_cmp}
 use Rattle.std.specs.Cmp.{IsTotalOrder}
 use Rattle.std.specs.FinMap.{IsAntisymmetric}
 use Rattle.std.specs.Option.{option_map}
-use Rattle.cube_defs.specs.Cell.{Cell, depth, keep}
+use Rattle.cube_defs.specs.Cell.{Cell, depth}
 use Rattle.cube_defs.specs.Rows.{Row, covers, closure, is_node}
 use Rattle.cube_defs.specs.Tree.{Edge, Node, node_of, node_with, next_value}
 use Rattle.cube_laws.specs.Lists.{Among, Rises}
-use Rattle.cube_laws.proofs.Orders.{equality_by}
 use Rattle.cube_laws.proofs.Nodes.{front_of_class}
 use Rattle.tree_laws.specs.Labels.{IsLabel}
 use Rattle.tree_laws.specs.Edges.{edge_cmp}

@@ -1,5 +1,5 @@
 -- Rows with the same tuples have the same records, but for what the rows come to.
-use Rattle.std.proofs.Common.{◌≡◌, ◌↔◌, ℕ, ◌-◌, true, Bool, false, cond, Option, Some, None, List, [], ◌∷◌, ◌++◌, filter_map, flat_map, refl, sym, ap, ap₂, subst, ◌∙◌, slice_get, inl, inr}
+use Rattle.std.proofs.Common.{◌≡◌, ◌↔◌, ℕ, ◌-◌, true, Bool, false, cond, Option, Some, None, List, [], ◌++◌, filter_map, flat_map, refl, sym, ap, ap₂, ◌∙◌, slice_get}
 use Rattle.std.specs.declared.cmp.Ordering.{Ordering}
 use Rattle.std.specs.Ordering.{eq_by_cmp}
 use Rattle.std.specs.Cmp.{IsTotalOrder}
@@ -7,8 +7,8 @@ use Rattle.std.specs.FinMap.{IsAntisymmetric}
 use Rattle.std.specs.List.{range_with_len}
 use Rattle.std.specs.Option.{option_map}
 use Rattle.cube_defs.specs.Cell.{Cell, leq, cell_of, depth, upto, with_value, cell_eq}
-use Rattle.cube_defs.specs.Rows.{Row, Agg, covers, cov, closure, is_node, agg, agg_of}
-use Rattle.cube_defs.specs.Tree.{Node, Tree, IsCanonical, node_of, node_with, edges_in, values_at, next_value, as_list, forced_child, cut_last, renamed, cell_at}
+use Rattle.cube_defs.specs.Rows.{Row, Agg, covers, cov, closure, agg}
+use Rattle.cube_defs.specs.Tree.{Tree, IsCanonical, node_of, node_with, edges_in, values_at, next_value, as_list, forced_child, cut_last, renamed}
 use Rattle.cube_laws.specs.Lists.{Among, Reordered}
 use Rattle.cube_laws.specs.Tuples.{TuplesAmong}
 use Rattle.cube_laws.proofs.Lists.{among_filter, filter_among, among_filter_map, among-reordered}

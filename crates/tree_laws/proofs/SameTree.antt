@@ -1,11 +1,10 @@
 -- Two canonical trees of the same rows are equal up to the numbers of their nodes.
-use Rattle.std.proofs.Common.{◌≡◌, ℕ, true, Option, Some, None, List, [], ◌∷◌, map, refl, sym, ap, ap₂, subst, ◌∙◌}
+use Rattle.std.proofs.Common.{◌≡◌, ℕ, Option, Some, None, List, [], ◌∷◌, map, refl, sym, ap, ap₂, ◌∙◌}
 use Rattle.std.specs.declared.cmp.Ordering.{Ordering}
-use Rattle.std.specs.Ordering.{eq_by_cmp}
 use Rattle.std.specs.FinMap as numbers
 use Rattle.std.specs.Option.{option_map}
 use Rattle.cube_defs.specs.Cell.{Cell}
-use Rattle.cube_defs.specs.Rows.{Row, Agg, is_node}
+use Rattle.cube_defs.specs.Rows.{Row}
 use Rattle.cube_defs.specs.Tree.{Edge, Node, Tree, IsCanonical, node_of, cell_at, renamed, renamed_edge}
 use Rattle.tree_laws.specs.Renaming.{IsRenaming}
 use Rattle.tree_laws.proofs.Lists.{some_same}

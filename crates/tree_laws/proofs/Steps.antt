@@ -1,21 +1,20 @@
 -- One step of a search, from the front of a closure to the next.
-use Rattle.std.proofs.Common.{◌≡◌, ◌≢◌, inl, inr, ℕ, zero, suc, ◌≤◌, ◌<◌, Bool, true, false, cond, ◌&&◌, Option, Some, None, List, [], ◌∷◌, map, length, slice_get, refl, sym, ap, ap₂, subst, ◌∙◌, arith, nat_eq, eqb-true, eq-eqb, true≢false}
+use Rattle.std.proofs.Common.{◌≡◌, inl, inr, ℕ, zero, suc, ◌<◌, Bool, true, false, cond, ◌&&◌, Option, Some, None, List, [], ◌∷◌, map, length, slice_get, refl, sym, ap, ap₂, subst, ◌∙◌, arith, nat_eq, eqb-true, eq-eqb, true≢false}
 use Rattle.std.proofs.lemmas.Bool.{and_parts, and_from, cond-true, cond-false, false_from_ne_true}
 use Rattle.std.specs.declared.cmp.Ordering.{Ordering}
 use Rattle.std.specs.Ordering.{eq_by_cmp}
 use Rattle.std.specs.Cmp.{IsTotalOrder}
 use Rattle.std.specs.FinMap.{IsAntisymmetric}
 use Rattle.std.specs.Option.{option_map, option_and_then}
-use Rattle.cube_defs.specs.Cell.{Cell, leq, depth, keep, upto, with_value}
+use Rattle.cube_defs.specs.Cell.{Cell, depth, keep, upto, with_value}
 use Rattle.cube_defs.specs.Rows.{Row, closure}
 use Rattle.cube_defs.specs.Tree.{Edge, Node, node_with, next_value, forced_child, renamed, renamed_edge}
 use Rattle.cube_laws.specs.Lists.{Among}
 use Rattle.cube_laws.proofs.Cells.{IsEquality, keep-leq, length-keep, keep-depth_keep}
-use Rattle.cube_laws.proofs.Closures.{closure_idem}
 use Rattle.tree_laws.specs.Labels.{lead, IsLabel}
 use Rattle.tree_laws.specs.Walk.{target_at, by_entry, to_child, by_forced, walk_on, front}
-use Rattle.tree_laws.proofs.Lists.{some_same, le_or, first_of_range}
-use Rattle.tree_laws.proofs.Fronts.{depth-keep-le, keep-beyond, upto-entry, upto-none}
+use Rattle.tree_laws.proofs.Lists.{some_same, first_of_range}
+use Rattle.tree_laws.proofs.Fronts.{depth-keep-le, upto-entry, upto-none}
 use Rattle.tree_laws.proofs.Nexts.{next-chain, before-next}
 use Rattle.tree_laws.proofs.Leads.{closure_between, closure_with, leq-chain}
 use Rattle.tree_laws.proofs.Edges.{law_by, edges-are, forced_lead, only_forced}

@@ -1,5 +1,5 @@
 -- The cells below a cell.
-use Rattle.std.specs.Prelude.{Option, Some, None, List, [], ◌∷◌, ◌++◌, map}
+use Rattle.std.specs.Prelude.{Some, None, List, [], ◌∷◌, ◌++◌, map}
 use Rattle.cube_defs.specs.Cell.{Cell}
 
 -- all cells below one, as long as it, in cell order

@@ -1,12 +1,12 @@
 -- What is counted in a tree that is kept by numbers.
-use Rattle.std.specs.Prelude.{ℕ, Bool, not, Option, Some, List, map, is_some, sum}
+use Rattle.std.specs.Prelude.{ℕ, Bool, not, Option, Some, map, is_some, sum}
 use Rattle.std.specs.declared.cmp.Ordering.{Ordering}
 use Rattle.std.specs.Ordering.{eq_by_cmp}
 use Rattle.std.specs.FinMap as numbers
 use Rattle.std.specs.List.{count_by}
 use Rattle.std.specs.Option.{option_and_then, option_eq}
 use Rattle.cube_defs.specs.Cell.{Cell, cell_eq}
-use Rattle.cube_defs.specs.Tree.{Edge, Node, Tree, cell_at, cut_last}
+use Rattle.cube_defs.specs.Tree.{Tree, cell_at, cut_last}
 
 module _ {A : Type 0} (cmp : A → A → Ordering) where
   -- a cell without its last value is p, if there is a cell

@@ -23,6 +23,12 @@ pub record IsLabel {A : Type 0} (cmp : A → A → Ordering) (rows : List (Row A
   pub within : x.dim < length p
   pub leads : lead (eq_by_cmp cmp) rows p x.dim x.value ≡ Some x.target
 
+-- the dimensions of the edges of p's record, which reaches up to the dimension e
+pub record IsWithin {A : Type 0} (p : Cell A) (e : ℕ) (i : ℕ) : Type 0 where
+  pub behind : depth p ≤ i
+  pub before : i ≤ e
+  pub within : i < length p
+
 -- the first dimension in which w has a value and u has none, or the number of dimensions
 abbrev pub first_new : {A : Type 0} → Cell A → Cell A → ℕ
 first_new [] w = 0

@@ -2,7 +2,6 @@
 use Rattle.std.specs.Prelude.{◌≡◌, ℕ, Some, []}
 use Rattle.std.specs.FinMap as map
 use Rattle.std.specs.Option.{option_map}
-use Rattle.cube_defs.specs.Rows.{Agg}
 use Rattle.cube_defs.specs.Tree.{Node, Tree, renamed}
 
 -- `name` leads from the numbers of the one to those of the other, one to one, and from record to record

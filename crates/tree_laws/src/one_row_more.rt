@@ -7,7 +7,7 @@ ghost use Rattle.cube_defs.specs.Cell.{Cell, cell_of, depth, keep, leq, meet, up
 ghost use Rattle.cube_defs.specs.Rows.{Row, closure, covers, is_node};
 ghost use Rattle.cube_defs.specs.Tree.{Edge, next_value, node_with};
 ghost use Rattle.cube_laws.specs.Lists.{Among};
-ghost use Rattle.tree_laws.specs.Labels.{first_new, lead, moved};
+ghost use Rattle.tree_laws.specs.Labels.{IsWithin, first_new, lead, moved};
 
 use cube_laws::values::Value;
 
@@ -37,6 +37,26 @@ pub fn labels_along_the_closure<V: Value>()
         keep (depth p) (meet (eq_by_cmp V.cmp) u (cell_of r.tuple)) ≡ p →
         depth p ≤ i → i ≤ next_value V.cmp (depth p) (meet (eq_by_cmp V.cmp) u (cell_of r.tuple)) →
         IsTrue (covers (eq_by_cmp V.cmp) (keep i u) r) → keep i u ≡ p }
+{}
+
+/// The edges of a node's record after a row has come, by the records before: with another value than the
+/// row's those of the node that its old closure has as front in their dimension, and with the row's
+/// value the one that leads to what that node's old target and the row share.
+pub fn edges_with_one_row_more<V: Value>()
+    ensures other { (measures : ℕ) (xs ys : List (Row V)) (r : Row V) (p u : Cell V) (x : Edge V (Cell V)) →
+        IsTrue (covers (eq_by_cmp V.cmp) p r) → closure (eq_by_cmp V.cmp) (xs ++ ys) p ≡ Some u →
+        IsTrue (is_node (eq_by_cmp V.cmp) (xs ++ r ∷ ys) p) → length p ≡ length u →
+        slice_get r.tuple x.dim ≢ Some x.value →
+        let w = meet (eq_by_cmp V.cmp) u (cell_of r.tuple) in let e = next_value V.cmp (depth p) w in
+        Among x (node_with V.cmp measures (xs ++ r ∷ ys) p w e).edges
+        ↔ (IsWithin p e x.dim × Among x (node_with V.cmp measures (xs ++ ys) (keep x.dim u) u (next_value V.cmp (depth (keep x.dim u)) u)).edges) }
+    ensures own { (measures : ℕ) (xs ys : List (Row V)) (r : Row V) (p u : Cell V) (x : Edge V (Cell V)) →
+        IsTrue (covers (eq_by_cmp V.cmp) p r) → closure (eq_by_cmp V.cmp) (xs ++ ys) p ≡ Some u →
+        IsTrue (is_node (eq_by_cmp V.cmp) (xs ++ r ∷ ys) p) → length p ≡ length u →
+        slice_get r.tuple x.dim ≡ Some x.value →
+        let w = meet (eq_by_cmp V.cmp) u (cell_of r.tuple) in let e = next_value V.cmp (depth p) w in
+        Among x (node_with V.cmp measures (xs ++ r ∷ ys) p w e).edges
+        ↔ (IsWithin p e x.dim × (moved (eq_by_cmp V.cmp) (lead (eq_by_cmp V.cmp) (xs ++ ys) (keep x.dim u) x.dim x.value) (cell_of r.tuple) x.dim ≡ x.target)) }
 {}
 
 /// After a row has gone, a label leads to the front of the closure that its old target has now, where

@@ -32,22 +32,14 @@ pub fn records_of_the_same_tuples<V: Value>()
 
 /// In whichever order the rows stand, they have the same records and the same canonical trees (own).
 pub fn rows_in_any_order<V: Value>()
-    ensures records {
-        (measures : ℕ) (rows more : List (Row V)) (p : Cell V) → Reordered rows more →
-        node_of V.cmp measures rows p ≡ node_of V.cmp measures more p
-    }
-    ensures trees {
-        (measures : ℕ) (rows more : List (Row V)) (tree : Tree V) → Reordered rows more →
-        IsCanonical V.cmp measures rows tree ↔ IsCanonical V.cmp measures more tree
-    }
-{
-}
+    ensures records { (measures : ℕ) (rows more : List (Row V)) (p : Cell V) → Reordered rows more →
+        node_of V.cmp measures rows p ≡ node_of V.cmp measures more p }
+    ensures trees { (measures : ℕ) (rows more : List (Row V)) (tree : Tree V) → Reordered rows more →
+        IsCanonical V.cmp measures rows tree ↔ IsCanonical V.cmp measures more tree }
+{}
 
 /// Rows that all have as many values as there are dimensions have a canonical tree (own).
 pub fn rows_have_a_tree<V: Value>()
-    ensures {
-        (dims measures : ℕ) (rows : List (Row V)) → AllByRecursion (λ row. length row.tuple ≡ dims) rows →
-        (tree : Tree V) × IsCanonical V.cmp measures rows tree
-    }
-{
-}
+    ensures { (dims measures : ℕ) (rows : List (Row V)) → AllByRecursion (λ row. length row.tuple ≡ dims) rows →
+        (tree : Tree V) × IsCanonical V.cmp measures rows tree }
+{}
