@@ -35,15 +35,9 @@ module _ {A : Type 0} {eq : A → A → Bool} (law : IsEquality eq) where
   pub entry_leq_trans : (e f g : Option A) → entry_leq eq e f ≡ true → entry_leq eq f g ≡ true → entry_leq eq e g ≡ true
   entry_leq_trans e f g h k = grind (arith, law.exact, law.same, cond-true, cond-false)
 
-  entry_leq_antisymm : (e f : Option A) → entry_leq eq e f ≡ true → entry_leq eq f e ≡ true → e ≡ f
-  entry_leq_antisymm e f h k = grind (arith, law.exact, law.same, cond-true, cond-false)
-
-  -- the meet is the greatest lower bound
+  -- the meet is below both
   entry_meet_left : (e f : Option A) → entry_leq eq (entry_meet eq e f) e ≡ true
   entry_meet_left e f = grind (arith, law.exact, law.same, cond-true, cond-false)
-
-  entry_meet_great : (e f g : Option A) → entry_leq eq e f ≡ true → entry_leq eq e g ≡ true → entry_leq eq e (entry_meet eq f g) ≡ true
-  entry_meet_great e f g h k = grind (arith, law.exact, law.same, cond-true, cond-false)
 
   pub meet_comm : (c d : Cell A) → meet eq c d ≡ meet eq d c
   meet_comm [] [] = refl
@@ -115,6 +109,13 @@ module _ {A : Type 0} {eq : A → A → Bool} (law : IsEquality eq) where
 
   pub cell_eq-from : (c d : Cell A) → c ≡ d → cell_eq eq c d ≡ true
   cell_eq-from c d e = ap (cell_eq eq c) (sym e) ∙ cell_eq-same c
+
+  -- a tuple covers no other of its length
+  pub tuple-leq : (s t : List A) → length s ≡ length t → leq eq (cell_of s) (cell_of t) ≡ true → s ≡ t
+  tuple-leq [] [] l h = refl
+  tuple-leq [] (y ∷ t) l h = absurd (omega arith)
+  tuple-leq (x ∷ s) [] l h = absurd (omega arith)
+  tuple-leq (x ∷ s) (y ∷ t) l h = let p = and_parts (eq x y) (leq eq (cell_of s) (cell_of t)) h in ap₂ (λ v vs. v ∷ vs) (law.exact x y p.0) (tuple-leq s t (omega arith) p.1)
 
   pub keep-leq : (n : ℕ) (c : Cell A) → leq eq (keep n c) c ≡ true
   keep-leq n [] = refl

@@ -98,9 +98,6 @@ module _ {X : Type 0} {cmp : X → X → Ordering} (total : IsTotalOrder cmp) (a
   pub among_distinct : (z : X) (xs : List X) → Among z (distinct cmp xs) ↔ Among z xs
   among_distinct z xs = among_distinct-told cmp xs (λ x y m n. anti x y) z
 
-  pub below_all : (x y : X) (ys : List X) → cmp x y ≡ Less → AllByRecursion (λ z. cmp y z ≡ Less) ys → AllByRecursion (λ z. cmp x z ≡ Less) ys
-  below_all = below_all-by_order total
-
   pub rises_put_in : (x : X) (ys : List X) → Rises cmp ys → Rises cmp (put_in cmp x ys)
   rises_put_in = rises_put_in-by_order total
 

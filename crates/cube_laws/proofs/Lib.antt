@@ -16,6 +16,8 @@ pub mod Labels
 pub mod LastAny
 pub mod OneRow
 pub mod Deletion
+pub mod Counts
+pub mod Witness
 pub mod Recoded
 pub mod RecodedRows
 pub mod RecodedLists

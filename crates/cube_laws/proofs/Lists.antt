@@ -1,5 +1,5 @@
 -- Lists: filters, facts of all items, and items among others.
-use Rattle.std.proofs.Common.{◌≡◌, ◌↔◌, ◌⊎◌, Bool, true, false, ◌&&◌, cond, Option, Some, None, List, [], ◌∷◌, ◌++◌, map, filter, filter_map, flat_map, refl, sym, ap, ap₂, subst, ◌∙◌, arith, true≢false, inl, inr}
+use Rattle.std.proofs.Common.{suc, length, ◌≤◌, ◌≡◌, ◌↔◌, ◌⊎◌, Bool, true, false, ◌&&◌, cond, Option, Some, None, List, [], ◌∷◌, ◌++◌, map, filter, filter_map, flat_map, refl, sym, ap, ap₂, subst, ◌∙◌, arith, true≢false, inl, inr}
 use Rattle.std.proofs.lemmas.Bool.{cond-true, cond-false}
 use Rattle.std.proofs.lemmas.List.Elements.{filter-append}
 use Rattle.std.specs.List.{AllByRecursion, cons_option, list_all}
@@ -182,3 +182,43 @@ among-reordered (x ∷ xs) ys (front, back, e, more) z =
       λ k. elim (i.0 (subst (Among z) e k)) [ inl a ↦ inl a | inr b ↦ inr (m.0 b) ],
       λ k. subst (Among z) (sym e) (i.1 (elim k [ inl a ↦ inl a | inr b ↦ inr (m.1 b) ])),
     )
+
+module _ {X : Type 0} where
+  pub filter-le : (p : X → Bool) (xs : List X) → length (filter p xs) ≤ length xs
+  filter-le p [] = omega arith
+  filter-le p (x ∷ xs) = go (p x) (filter-le p xs)
+    where
+      go : (b : Bool) → length (filter p xs) ≤ length xs → length (cond b (x ∷ filter p xs) (filter p xs)) ≤ suc (length xs)
+      go true h = omega arith
+      go false h = omega arith
+
+  -- a filter that takes nothing away
+  pub filter_all : (p : X → Bool) (xs : List X) → AllByRecursion (λ x. p x ≡ true) xs → filter p xs ≡ xs
+  filter_all p [] h = refl
+  filter_all p (x ∷ xs) h = cond-true _ _ _ h.0 ∙ ap (λ ys. x ∷ ys) (filter_all p xs h.1)
+
+  pub all_passed : (p : X → Bool) (xs : List X) → length (filter p xs) ≡ length xs → AllByRecursion (λ x. p x ≡ true) xs
+  all_passed p [] h = tt
+  all_passed p (x ∷ xs) h = go (p x) refl (all_passed p xs) h
+    where
+      go : (b : Bool) → p x ≡ b → (length (filter p xs) ≡ length xs → AllByRecursion (λ y. p y ≡ true) xs) → length (cond b (x ∷ filter p xs) (filter p xs)) ≡ suc (length xs) → AllByRecursion (λ y. p y ≡ true) (x ∷ xs)
+      go true e more k = (e, more (omega arith))
+      go false e more k = let l : length (filter p xs) ≤ length xs = filter-le p xs in absurd (omega arith)
+
+  pub length_filter-insert : (p : X → Bool) (xs : List X) (r : X) (ys : List X) → p r ≡ true → length (filter p (xs ++ r ∷ ys)) ≡ suc (length (filter p (xs ++ ys)))
+  length_filter-insert p [] r ys h = ap length (cond-true _ _ _ h)
+  length_filter-insert p (x ∷ xs) r ys h = go (p x) (length_filter-insert p xs r ys h)
+    where
+      go : (b : Bool) → length (filter p (xs ++ r ∷ ys)) ≡ suc (length (filter p (xs ++ ys))) → length (cond b (x ∷ filter p (xs ++ r ∷ ys)) (filter p (xs ++ r ∷ ys))) ≡ suc (length (cond b (x ∷ filter p (xs ++ ys)) (filter p (xs ++ ys))))
+      go true more = ap suc more
+      go false more = more
+
+-- all items pass, or there is one that does not
+pub all_or_one : {X : Type 0} (p : X → Bool) (xs : List X) → AllByRecursion (λ x. p x ≡ true) xs ⊎ ((x : X) × Among x xs × (p x ≡ false))
+all_or_one p [] = inl tt
+all_or_one {X = X} p (x ∷ xs) = go (p x) refl (all_or_one p xs)
+  where
+    go : (b : Bool) → p x ≡ b → AllByRecursion (λ y. p y ≡ true) xs ⊎ ((y : X) × Among y xs × (p y ≡ false)) → AllByRecursion (λ y. p y ≡ true) (x ∷ xs) ⊎ ((y : X) × Among y (x ∷ xs) × (p y ≡ false))
+    go true e (inl h) = inl (e, h)
+    go true e (inr h) = inr (h.0, inr h.1, h.2)
+    go false e h = inr (x, inl refl, e)

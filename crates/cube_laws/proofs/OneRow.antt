@@ -1,15 +1,18 @@
 -- The rows xs ++ r ∷ ys are the rows xs ++ ys and one more: what an insertion adds, and a deletion takes away.
-use Rattle.std.proofs.Common.{◌≡◌, ℕ, Bool, true, false, cond, Option, Some, None, List, [], ◌∷◌, ◌++◌, refl, sym, ap, subst, ◌∙◌, true≢false}
+use Rattle.std.proofs.Common.{ℤ, pos, ◌+ℤ◌, ◌-ℤ◌, ◌<◌, suc, arith, slice_index_or, ◌≡◌, ℕ, Bool, true, false, cond, Option, Some, None, List, [], ◌∷◌, ◌++◌, refl, sym, ap, subst, ◌∙◌, true≢false}
 use Rattle.std.proofs.lemmas.Bool.{cond-true, cond_both}
 use Rattle.std.specs.Option.{option_eq, option_map}
 use Rattle.cube_defs.specs.Cell.{Cell, leq, meet, cell_of, cell_eq, keep, depth}
-use Rattle.cube_defs.specs.Rows.{Row, covers, cov, closure, meet_next, is_class, is_node, agg, agg_of}
-use Rattle.cube_laws.specs.Total.{total, join_aggs, join_cells, combine, agg_at}
-use Rattle.cube_laws.proofs.Lists.{filter-insert_apart}
+use Rattle.std.specs.Int.{int_min, int_max}
+use Rattle.std.proofs.lemmas.Int.{ints}
+use Rattle.cube_defs.specs.Answers.{part}
+use Rattle.cube_defs.specs.Rows.{Part, part_of, Row, covers, cov, closure, meet_next, is_class, is_node, agg, agg_of}
+use Rattle.cube_laws.specs.Total.{total, join_aggs, join_cells, combine, combine_part, agg_at}
+use Rattle.cube_laws.proofs.Lists.{length_filter-insert, filter-insert_apart}
 use Rattle.cube_laws.proofs.Cells.{IsEquality, leq_antisymm, leq_refl, meet_comm}
 use Rattle.cube_laws.proofs.Closures.{leq-closure, meet_next_below, meet_next_rest, is_class-is}
 use Rattle.cube_laws.proofs.Totals.{total_filter-insert}
-use Rattle.cube_laws.proofs.RowTotals.{cells_add, aggs_add, row_cell, row_agg, closure_total, agg_total, agg_where, agg_none}
+use Rattle.cube_laws.proofs.RowTotals.{cells_add, aggs_add, row_cell, row_agg, closure_total, agg_total, agg_where, agg_none, part-agg_of, part-combine}
 use Rattle.cube_laws.proofs.Nodes.{front_of_class, class_fronts}
 
 module _ {A : Type 0} {eq : A → A → Bool} (law : IsEquality eq) where
@@ -95,3 +98,39 @@ module _ {A : Type 0} {eq : A → A → Bool} (law : IsEquality eq) where
     agg-insert_more measures c u h e =
         let k : Some (agg eq measures (xs ++ r ∷ ys) c) ≡ Some (combine (agg_of measures (r ∷ [])) (agg eq measures (xs ++ ys) c)) =
         sym (agg_where eq measures (xs ++ r ∷ ys) c (meet eq u (cell_of r.tuple)) (closure-insert_more c u h e)) ∙ agg_at-insert measures c ∙ cond-true _ _ _ h ∙ ap (join_aggs (row_agg measures r)) (agg_where eq measures (xs ++ ys) c u e) in cc
+
+    pub count-insert : (measures : ℕ) (c : Cell A) → covers eq c r ≡ true → (agg eq measures (xs ++ r ∷ ys) c).count ≡ suc (agg eq measures (xs ++ ys) c).count
+    count-insert measures c h = length_filter-insert (covers eq c) xs r ys h
+
+    -- a measure of a cell that covers r and other rows, r's amount being a
+    abbrev amount : ℕ → ℤ
+    amount m = slice_index_or r.amounts m (pos 0)
+
+    pub part-insert : (measures m : ℕ) (c u : Cell A) → m < measures → covers eq c r ≡ true → closure eq (xs ++ ys) c ≡ Some u
+        → part (agg eq measures (xs ++ r ∷ ys) c) m ≡ combine_part (part_of (amount m ∷ [])) (part (agg eq measures (xs ++ ys) c) m)
+    part-insert measures m c u l h e =
+        ap (λ a. part a m) (agg-insert_more measures c u h e)
+        ∙ part-combine measures m (r ∷ []) (cov eq (xs ++ ys) c) l
+        ∙ ap (combine_part (part_of (amount m ∷ []))) (sym (part-agg_of measures m (cov eq (xs ++ ys) c) l))
+
+    pub sum-insert : (measures m : ℕ) (c u : Cell A) → m < measures → covers eq c r ≡ true → closure eq (xs ++ ys) c ≡ Some u
+        → (part (agg eq measures (xs ++ r ∷ ys) c) m).sum ≡ (amount m +ℤ (part (agg eq measures (xs ++ ys) c) m).sum)
+    sum-insert measures m c u l h e = ap (λ (p : Part). p.sum) (part-insert measures m c u l h e)
+
+    pub least-insert : (measures m : ℕ) (c u : Cell A) → m < measures → covers eq c r ≡ true → closure eq (xs ++ ys) c ≡ Some u
+        → (part (agg eq measures (xs ++ r ∷ ys) c) m).least ≡ int_min (amount m) (part (agg eq measures (xs ++ ys) c) m).least
+    least-insert measures m c u l h e = ap (λ (p : Part). p.least) (part-insert measures m c u l h e)
+
+    pub greatest-insert : (measures m : ℕ) (c u : Cell A) → m < measures → covers eq c r ≡ true → closure eq (xs ++ ys) c ≡ Some u
+        → (part (agg eq measures (xs ++ r ∷ ys) c) m).greatest ≡ int_max (amount m) (part (agg eq measures (xs ++ ys) c) m).greatest
+    greatest-insert measures m c u l h e = ap (λ (p : Part). p.greatest) (part-insert measures m c u l h e)
+
+-- what is left of a measure when a row of amount a has gone: the sum less a, and the same least where a was not it
+pub sum_left : (a s t : ℤ) → s ≡ (a +ℤ t) → t ≡ (s -ℤ a)
+sum_left a s t e = grind (arith, ints)
+
+pub least_left : (a l m : ℤ) → l ≡ int_min a m → (l ≡ a → ⊥) → m ≡ l
+least_left a l m e h = grind (arith, ints)
+
+pub greatest_left : (a l m : ℤ) → l ≡ int_max a m → (l ≡ a → ⊥) → m ≡ l
+greatest_left a l m e h = grind (arith, ints)

@@ -1,11 +1,13 @@
 -- The closure and the aggregate are totals over the covered rows.
-use Rattle.std.proofs.Common.{◌≡◌, ℕ, Bool, Option, Some, None, List, [], ◌∷◌, map, refl, sym, ap, ap₂, ◌∙◌, arith, ℤ, pos, ◌+ℤ◌, slice_index_or}
+use Rattle.std.proofs.Common.{◌<◌, ◌≡◌, ℕ, Bool, Option, Some, None, List, [], ◌∷◌, map, refl, sym, ap, ap₂, ◌∙◌, arith, ℤ, pos, ◌+ℤ◌, slice_index_or}
 use Rattle.std.proofs.lemmas.Int.{ints}
 use Rattle.std.proofs.Math.IntN.{+ℤ_assoc, +ℤ_comm}
 use Rattle.std.proofs.Math.Nat.{add_assoc, add_comm}
 use Rattle.std.specs.Int.{int_min, int_max}
 use Rattle.std.specs.List.{fold, range_with_len}
 use Rattle.cube_defs.specs.Cell.{Cell, cell_of}
+use Rattle.std.proofs.lemmas.List.FromFn.{get_or-map-range_with_len}
+use Rattle.cube_defs.specs.Answers.{part}
 use Rattle.cube_defs.specs.Rows.{Row, Part, Agg, part_of, amounts_of, agg_of, meet_next, meet_all, closure, covers, cov, agg}
 use Rattle.cube_laws.specs.Tuples.{cells_of}
 use Rattle.cube_laws.specs.Total.{total, agg_at, combine_part, combine_parts, combine, join_aggs, join_cells, agg_some}
@@ -155,3 +157,13 @@ module _ {A : Type 0} (eq : A → A → Bool) where
       by_total [] (y ∷ ys) e = cc
       by_total (x ∷ xs) [] e = cc
       by_total (x ∷ xs) (y ∷ ys) e = cc
+
+module _ {A : Type 0} where
+  -- the part of a measure
+  pub part-agg_of : (measures m : ℕ) (rows : List (Row A)) → m < measures → part (agg_of measures rows) m ≡ part_of (amounts_of m rows)
+  part-agg_of measures m rows h = get_or-map-range_with_len (λ k. part_of (amounts_of k rows)) 0 measures m m (part_of []) h (omega arith)
+
+  pub part-combine : (measures m : ℕ) (rows more : List (Row A)) → m < measures → part (combine (agg_of measures rows) (agg_of measures more)) m ≡ combine_part (part_of (amounts_of m rows)) (part_of (amounts_of m more))
+  part-combine measures m rows more h =
+      ap (λ (ps : List Part). slice_index_or ps m (part_of [])) (sym (parts_more (λ k. part_of (amounts_of k rows)) (λ k. part_of (amounts_of k more)) (range_with_len 0 measures)))
+      ∙ get_or-map-range_with_len (λ k. combine_part (part_of (amounts_of k rows)) (part_of (amounts_of k more))) 0 measures m m (part_of []) h (omega arith)

@@ -1,5 +1,5 @@
 -- Closures, classes and nodes depend on the tuples of the rows alone.
-use Rattle.std.proofs.Common.{◌≡◌, Bool, true, Some, List, [], ◌∷◌, filter, length, refl, sym, ap, subst, ◌∙◌, inl}
+use Rattle.std.proofs.Common.{◌++◌, inr, ◌≡◌, Bool, true, Some, List, [], ◌∷◌, filter, length, refl, sym, ap, subst, ◌∙◌, inl}
 use Rattle.std.specs.declared.cmp.Ordering.{Ordering}
 use Rattle.std.specs.Ordering.{eq_by_cmp}
 use Rattle.std.specs.Cmp.{IsTotalOrder}
@@ -12,7 +12,7 @@ use Rattle.cube_laws.proofs.Cells.{IsEquality, leq_antisymm}
 use Rattle.cube_laws.proofs.Closures.{closure-cells, meet_all_above, meet_all_below}
 use Rattle.cube_laws.specs.Lists.{Among}
 use Rattle.cube_laws.specs.Tuples.{TuplesAmong, cells_of}
-use Rattle.cube_laws.proofs.Lists.{among_filter, filter_among, all_at, all_from, among_map, map_among, filter_same, always}
+use Rattle.cube_laws.proofs.Lists.{among_insert, among_filter, filter_among, all_at, all_from, among_map, map_among, filter_same, always}
 use Rattle.cube_laws.proofs.Distinct.{rises_same}
 use Rattle.cube_laws.proofs.Orders.{equality_by}
 use Rattle.cube_laws.proofs.Covered.{covered-is, covered_rises, cell_total, cell_anti}
@@ -69,3 +69,11 @@ module _ {A : Type 0} {cmp : A → A → Ordering} (total : IsTotalOrder cmp) (a
 
   pub nodes_by_tuples : nodes cmp rows ≡ nodes cmp more
   nodes_by_tuples = filter_same _ _ (covered cmp rows) (always _ (covered cmp rows) (λ u. node_by_tuples (equality_by total anti) rows more f g u)) ∙ ap (filter (is_node (eq_by_cmp cmp) more)) covered_by_tuples
+
+module _ {A : Type 0} {eq : A → A → Bool} (law : IsEquality eq) (xs : List (Row A)) (r : Row A) (ys : List (Row A)) (s : Row A) (there : Among s (xs ++ ys)) (same : s.tuple ≡ r.tuple) where
+  -- a second row of a tuple
+  pub twin_closure : (c : Cell A) → closure eq (xs ++ r ∷ ys) c ≡ closure eq (xs ++ ys) c
+  twin_closure c = closure_by_tuples law (xs ++ r ∷ ys) (xs ++ ys)
+      (λ x m. elim ((among_insert x xs r ys).0 m) [ inl e ↦ (s, there, same ∙ ap (λ (row : Row A). row.tuple) (sym e)) | inr k ↦ (x, k, refl) ])
+      (λ x m. (x, (among_insert x xs r ys).1 (inr m), refl))
+      c

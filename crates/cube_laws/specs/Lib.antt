@@ -4,3 +4,4 @@ pub mod Parts
 pub mod Recoding
 pub mod Tuples
 pub mod Step
+pub mod Counts

@@ -1,6 +1,6 @@
 //! Cells under generalization: an order with a greatest lower bound of each two cells.
-ghost use Rattle.std.specs.Prelude.{IsTrue, ℕ, ◌↔◌, ◌≡◌};
-ghost use Rattle.cube_defs.specs.Cell.{Cell, cell_eq, depth, keep, leq, meet};
+ghost use Rattle.std.specs.Prelude.{IsTrue, length, suc, ℕ, ◌↔◌, ◌≡◌, ◌≤◌};
+ghost use Rattle.cube_defs.specs.Cell.{Cell, cell_eq, depth, keep, last, leq, meet};
 
 use super::values::Value;
 
@@ -40,4 +40,13 @@ pub fn fronts_of_cells<V: Value>()
     ensures monotone { (n : ℕ) (c d : Cell V) →
         IsTrue (leq V.eq c d) → IsTrue (leq V.eq (keep n c) (keep n d)) }
     ensures whole { (c : Cell V) → keep (depth c) c ≡ c }
+{}
+
+/// The depth of a cell is one more than its last dimension with a value, or 0 where it has
+/// none; it is that of its front where the front ends (own).
+pub fn depth_of_cells<V: Value>()
+    ensures last { (c : Cell V) (j : ℕ) → last c ≡ Some j → depth c ≡ suc j }
+    ensures none { (c : Cell V) → last c ≡ None → depth c ≡ 0 }
+    ensures within { (c : Cell V) → depth c ≤ length c }
+    ensures front { (n : ℕ) (c : Cell V) → keep (depth (keep n c)) c ≡ keep n c }
 {}

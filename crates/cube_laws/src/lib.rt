@@ -14,3 +14,4 @@ pub mod recoding;
 pub mod same_rows;
 pub mod upper_bounds;
 pub mod values;
+pub mod witnesses;

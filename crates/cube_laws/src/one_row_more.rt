@@ -1,9 +1,12 @@
 //! What one row more changes: `xs ++ ys` are the other rows, and `xs ++ r ∷ ys` are they and r.
 //! Read backwards it is what one row less changes.
-ghost use Rattle.std.specs.Prelude.{IsTrue, List, [], false, ℕ, ◌++◌, ◌∷◌, ◌≡◌};
+ghost use Rattle.std.specs.Prelude.{IsTrue, List, [], false, pos, slice_index_or, suc, ℕ, ◌++◌, ◌+ℤ◌, ◌-ℤ◌, ◌<◌, ◌∷◌, ◌≡◌};
+ghost use Rattle.cube_defs.specs.Answers.{part};
 ghost use Rattle.cube_defs.specs.Cell.{Cell, cell_of, meet};
 ghost use Rattle.cube_defs.specs.Rows.{Row, agg, agg_of, closure, cov, covers, is_class, is_node};
+ghost use Rattle.cube_laws.specs.Counts.{count};
 ghost use Rattle.cube_laws.specs.Total.{combine};
+ghost use Rattle.std.specs.Int.{int_max, int_min};
 
 use super::values::Value;
 
@@ -45,4 +48,51 @@ pub fn aggregate_with_one_row_more<V: Value>()
         IsTrue (covers V.eq c r) → closure V.eq (xs ++ ys) c ≡ Some u →
         agg V.eq measures (xs ++ r ∷ ys) c
         ≡ combine (agg_of measures (r ∷ [])) (agg V.eq measures (xs ++ ys) c) }
+{}
+
+/// Each measure of a cell that covers the row and others: a row more in the count, the amount
+/// more in the sum, and the lesser and the greater of it and the others' (own).
+pub fn measures_with_one_row_more<V: Value>()
+    ensures count { (measures : ℕ) (xs ys : List (Row V)) (r : Row V) (c : Cell V) →
+        IsTrue (covers V.eq c r) →
+        (agg V.eq measures (xs ++ r ∷ ys) c).count ≡ suc (agg V.eq measures (xs ++ ys) c).count }
+    ensures sum { (measures m : ℕ) (xs ys : List (Row V)) (r : Row V) (c u : Cell V) →
+        m < measures →
+        IsTrue (covers V.eq c r) → closure V.eq (xs ++ ys) c ≡ Some u →
+        (part (agg V.eq measures (xs ++ r ∷ ys) c) m).sum
+        ≡ (slice_index_or r.amounts m (pos 0) +ℤ (part (agg V.eq measures (xs ++ ys) c) m).sum) }
+    ensures least { (measures m : ℕ) (xs ys : List (Row V)) (r : Row V) (c u : Cell V) →
+        m < measures →
+        IsTrue (covers V.eq c r) → closure V.eq (xs ++ ys) c ≡ Some u →
+        (part (agg V.eq measures (xs ++ r ∷ ys) c) m).least
+        ≡ int_min (slice_index_or r.amounts m (pos 0)) (part (agg V.eq measures (xs ++ ys) c) m).least }
+    ensures greatest { (measures m : ℕ) (xs ys : List (Row V)) (r : Row V) (c u : Cell V) →
+        m < measures →
+        IsTrue (covers V.eq c r) → closure V.eq (xs ++ ys) c ≡ Some u →
+        (part (agg V.eq measures (xs ++ r ∷ ys) c) m).greatest
+        ≡ int_max (slice_index_or r.amounts m (pos 0)) (part (agg V.eq measures (xs ++ ys) c) m).greatest }
+{}
+
+/// Each measure of a cell that covers the row that goes, and others: the sum is less by the
+/// amount, and the least and the greatest stay where the amount was not equal to them (own).
+pub fn measures_with_one_row_less<V: Value>()
+    ensures sum { (measures m : ℕ) (xs ys : List (Row V)) (r : Row V) (c u : Cell V) →
+        m < measures →
+        IsTrue (covers V.eq c r) → closure V.eq (xs ++ ys) c ≡ Some u →
+        (part (agg V.eq measures (xs ++ ys) c) m).sum
+        ≡ ((part (agg V.eq measures (xs ++ r ∷ ys) c) m).sum -ℤ slice_index_or r.amounts m (pos 0)) }
+    ensures least { (measures m : ℕ) (xs ys : List (Row V)) (r : Row V) (c u : Cell V) →
+        m < measures →
+        IsTrue (covers V.eq c r) → closure V.eq (xs ++ ys) c ≡ Some u →
+        ((part (agg V.eq measures (xs ++ r ∷ ys) c) m).least ≡ slice_index_or r.amounts m (pos 0) →
+        ⊥) →
+        (part (agg V.eq measures (xs ++ ys) c) m).least
+        ≡ (part (agg V.eq measures (xs ++ r ∷ ys) c) m).least }
+    ensures greatest { (measures m : ℕ) (xs ys : List (Row V)) (r : Row V) (c u : Cell V) →
+        m < measures →
+        IsTrue (covers V.eq c r) → closure V.eq (xs ++ ys) c ≡ Some u →
+        ((part (agg V.eq measures (xs ++ r ∷ ys) c) m).greatest
+        ≡ slice_index_or r.amounts m (pos 0) → ⊥) →
+        (part (agg V.eq measures (xs ++ ys) c) m).greatest
+        ≡ (part (agg V.eq measures (xs ++ r ∷ ys) c) m).greatest }
 {}

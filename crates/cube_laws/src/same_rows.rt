@@ -1,9 +1,9 @@
 //! Rows with the same tuples, in whichever order they stand and how often.
-ghost use Rattle.std.specs.Prelude.{List, ℕ, ◌≡◌};
+ghost use Rattle.std.specs.Prelude.{List, ℕ, ◌++◌, ◌∷◌, ◌≡◌};
 ghost use Rattle.cube_defs.specs.Cell.{Cell};
 ghost use Rattle.cube_defs.specs.Rows.{Row, agg, closure, is_class, is_node};
 ghost use Rattle.cube_defs.specs.Tree.{classes, covered, nodes};
-ghost use Rattle.cube_laws.specs.Lists.{Reordered};
+ghost use Rattle.cube_laws.specs.Lists.{Among, Reordered};
 ghost use Rattle.cube_laws.specs.Tuples.{TuplesAmong};
 
 use super::values::Value;
@@ -36,4 +36,12 @@ pub fn lists_of_cells_in_order<V: Value>()
         classes V.cmp rows ≡ classes V.cmp more }
     ensures nodes { (rows more : List (Row V)) → TuplesAmong rows more → TuplesAmong more rows →
         nodes V.cmp rows ≡ nodes V.cmp more }
+{}
+
+/// A row more or less of a tuple that another row has changes no closure, so no upper bound and
+/// no node (own).
+pub fn second_row_of_a_tuple<V: Value>()
+    ensures { (xs ys : List (Row V)) (r s : Row V) (c : Cell V) → Among s (xs ++ ys) →
+        s.tuple ≡ r.tuple →
+        closure V.eq (xs ++ r ∷ ys) c ≡ closure V.eq (xs ++ ys) c }
 {}

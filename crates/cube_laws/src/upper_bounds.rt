@@ -1,7 +1,7 @@
 //! The upper bounds of the classes: the cells that are their own closures.
-ghost use Rattle.std.specs.Prelude.{IsTrue, List, ℕ, ◌++◌, ◌∷◌, ◌≡◌};
-ghost use Rattle.cube_defs.specs.Cell.{Cell, depth, keep};
-ghost use Rattle.cube_defs.specs.Rows.{Row, is_class, is_node, meet_all};
+ghost use Rattle.std.specs.Prelude.{IsTrue, List, length, ℕ, ◌++◌, ◌↔◌, ◌∷◌, ◌≡◌};
+ghost use Rattle.cube_defs.specs.Cell.{Cell, cell_of, depth, keep};
+ghost use Rattle.cube_defs.specs.Rows.{Row, covers, is_class, is_node, meet_all};
 ghost use Rattle.cube_laws.specs.Lists.{Among};
 ghost use Rattle.cube_laws.specs.Tuples.{cells_of};
 
@@ -34,4 +34,13 @@ pub fn upper_bounds_stay_as_a_row_comes<V: Value>()
         IsTrue (is_class V.eq (xs ++ ys) u) → IsTrue (is_class V.eq (xs ++ r ∷ ys) u) }
     ensures nodes { (xs ys : List (Row V)) (r : Row V) (p : Cell V) →
         IsTrue (is_node V.eq (xs ++ ys) p) → IsTrue (is_node V.eq (xs ++ r ∷ ys) p) }
+{}
+
+/// The tuple of a row is an upper bound, the most specific of its rows'; it covers the rows of
+/// this tuple alone (own).
+pub fn tuples_of_rows_are_upper_bounds<V: Value>()
+    ensures upper_bound { (rows : List (Row V)) (r : Row V) → Among r rows →
+        IsTrue (is_class V.eq rows (cell_of r.tuple)) }
+    ensures alone { (t : List V) (r : Row V) → length t ≡ length r.tuple →
+        IsTrue (covers V.eq (cell_of t) r) ↔ (t ≡ r.tuple) }
 {}
