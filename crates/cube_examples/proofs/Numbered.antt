@@ -9,7 +9,8 @@ use Rattle.cube_defs.specs.Cell.{Cell}
 use Rattle.cube_defs.specs.Rows.{is_node}
 use Rattle.cube_defs.specs.Tree.{Node, node_of, nodes, renamed, cell_at, IsCanonical}
 use Rattle.cube_laws.proofs.Orders.{equality_by}
-use Rattle.cube_laws.proofs.Covered.{all_at, nodes-is}
+use Rattle.cube_laws.proofs.Lists.{all_at}
+use Rattle.cube_laws.proofs.Nodes.{nodes-is}
 use Rattle.cube_examples.specs.Shop.{base}
 use Rattle.cube_examples.specs.Codes.{coded, table, place_from, entries, numbered_table}
 
