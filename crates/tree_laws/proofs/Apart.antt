@@ -9,7 +9,7 @@ use Rattle.cube_defs.specs.Rows.{Row, covers, closure, agg_of}
 use Rattle.cube_defs.specs.Tree.{node_of, node_with, edges_in, values_at, next_value, as_list, forced_child, distinct, cut_last}
 use Rattle.cube_laws.proofs.Cells.{IsEquality, leq_trans}
 use Rattle.cube_laws.proofs.OneRow.{cov_stays, closure_stays}
-use Rattle.tree_laws.specs.Labels.{lead}
+use Rattle.tree_laws.specs.Labels.{lead, record_of}
 use Rattle.tree_laws.proofs.Lists.{filter_map_same, option_map_same, flat_map_range}
 use Rattle.tree_laws.proofs.Fronts.{leq-with_value}
 use Rattle.tree_laws.proofs.Children.{lead_above}
@@ -38,7 +38,7 @@ module _ {A : Type 0} (cmp : A → A → Ordering) (law : IsEquality (eq_by_cmp 
 
   pub record_stays : (p : Cell A) → covers (eq_by_cmp cmp) p r ≡ false → node_of cmp measures (xs ++ r ∷ ys) p ≡ node_of cmp measures (xs ++ ys) p
   record_stays p h =
-      ap (λ o. option_map (λ u. node_with cmp measures (xs ++ r ∷ ys) p u (next_value cmp (depth p) u)) o) (closure_stays law xs r ys p h)
+      ap (λ o. option_map (λ u. record_of cmp measures (xs ++ r ∷ ys) p u) o) (closure_stays law xs r ys p h)
       ∙ option_map_same _ _ (closure (eq_by_cmp cmp) (xs ++ ys) p) (λ u. with_stays p u (next_value cmp (depth p) u) h)
 
   -- a node that doesn't cover the row leads to none that does, with or without the row

@@ -10,7 +10,8 @@ use Rattle.cube_laws.proofs.Closures.{closure_idem, closure_mono, leq-closure, i
 use Rattle.cube_laws.proofs.Columns.{one_value, one_value-leq}
 use Rattle.cube_laws.proofs.Nodes.{is_node-is, class_fronts, front_of_class}
 use Rattle.tree_laws.specs.Labels.{lead}
-use Rattle.tree_laws.proofs.Lists.{some_same, le_or, first_of_range}
+use Rattle.tree_laws.proofs.Leads.{led_from}
+use Rattle.tree_laws.proofs.Lists.{le_or, first_of_range}
 use Rattle.tree_laws.proofs.Fronts.{depth-keep-le, keep-beyond, depth-with_value, depth-one_value, split_last, keep-keep, any_behind, leq-with_value, with_value-there, with_value-other}
 use Rattle.tree_laws.proofs.Nexts.{next-ge, next-entry}
 
@@ -28,20 +29,16 @@ module _ {A : Type 0} {eq : A → A → Bool} (law : IsEquality eq) (rows : List
             | inr l ↦ subst (λ x. is_node eq rows x ≡ true) (sym (keep-beyond k c l)) h
           ]
 
-  pub found : (o : Option (Cell A)) (i : ℕ) (c : Cell A) → option_map (λ w. upto w i) o ≡ Some c → (w : Cell A) × (o ≡ Some w) × (upto w i ≡ c)
-  found None i c h = cc
-  found (Some w) i c h = (w, refl, some_same h)
-
   -- a label leads to a node
   pub lead_node : (p : Cell A) (i : ℕ) (v : A) (c : Cell A) → lead eq rows p i v ≡ Some c → is_node eq rows c ≡ true
   lead_node p i v c h =
-      let f : (w : Cell A) × (closure eq rows (with_value p i v) ≡ Some w) × (upto w i ≡ c) = found (closure eq rows (with_value p i v)) i c h in
+      let f : (w : Cell A) × (closure eq rows (with_value p i v) ≡ Some w) × (upto w i ≡ c) = led_from law (closure eq rows (with_value p i v)) i c h in
       subst (λ x. is_node eq rows x ≡ true) f.2 (class_fronts law rows (suc i) f.0 ((is_class-is law rows f.0).1 (closure_idem law rows (with_value p i v) f.0 f.1)))
 
   -- which is above p with the value
   pub lead_above : (p : Cell A) (i : ℕ) (v : A) (c : Cell A) → depth p ≤ i → i < length p → lead eq rows p i v ≡ Some c → leq eq (with_value p i v) c ≡ true
   lead_above p i v c d l h =
-      let f : (w : Cell A) × (closure eq rows (with_value p i v) ≡ Some w) × (upto w i ≡ c) = found (closure eq rows (with_value p i v)) i c h in
+      let f : (w : Cell A) × (closure eq rows (with_value p i v) ≡ Some w) × (upto w i ≡ c) = led_from law (closure eq rows (with_value p i v)) i c h in
       ap₂ (λ x y. leq eq x y) (sym (keep-beyond (suc i) (with_value p i v) (omega (arith, depth-with_value p i v d l)))) (sym f.2)
       ∙ keep_mono law (suc i) (with_value p i v) f.0 (leq-closure law rows (with_value p i v) f.0 f.1)
 
@@ -66,7 +63,7 @@ module _ {A : Type 0} {eq : A → A → Bool} (law : IsEquality eq) (rows : List
     -- and it has each value of the closure up to its own dimension
     child_shares : (e : ℕ) (a : A) → e ≤ i → slice_get u e ≡ Some (Some a) → slice_get (with_value p i v) e ≡ Some (Some a)
     child_shares e a h k =
-        let f : (w : Cell A) × (closure eq rows (with_value p i v) ≡ Some w) × (upto w i ≡ with_value p i v) = found (closure eq rows (with_value p i v)) i (with_value p i v) ((child-is p i v d l).0 node) in
+        let f : (w : Cell A) × (closure eq rows (with_value p i v) ≡ Some w) × (upto w i ≡ with_value p i v) = led_from law (closure eq rows (with_value p i v)) i (with_value p i v) ((child-is p i v d l).0 node) in
         let above : leq eq u f.0 ≡ true = closure_mono law rows p (with_value p i v) u f.0 (leq-with_value law p i v d) is f.1 in
         let one : leq eq (one_value e a) f.0 ≡ true = leq_trans law (one_value e a) u f.0 ((one_value-leq law e a u).1 k) above in
         let short : keep (suc i) (one_value e a) ≡ one_value e a = keep-beyond (suc i) (one_value e a) (omega (arith, depth-one_value e a)) in

@@ -10,16 +10,17 @@ use Rattle.std.specs.Cmp.{IsTotalOrder}
 use Rattle.std.specs.FinMap as map
 use Rattle.cube_defs.specs.Cell.{Cell, cell_eq, keep, depth, one_deeper, index_below, with_value}
 use Rattle.cube_defs.specs.Rows.{Row, closure, agg}
-use Rattle.cube_defs.specs.Tree.{Node, Tree, IsCanonical, cell_at, node_with, renamed, next_value, cut_last}
+use Rattle.cube_defs.specs.Tree.{Node, Tree, IsCanonical, cell_at, renamed, cut_last}
 use Rattle.cube_laws.proofs.Cells.{IsEquality, length-keep, keep-depth_keep, keep-depth, cell_eq-same, depth-le}
 use Rattle.cube_laws.proofs.Closures.{closure_idem, agg_same}
 use Rattle.cube_laws.proofs.Covered.{closure_length}
 use Rattle.cube_laws.proofs.Nodes.{is_node-is}
 use Rattle.cube_laws.proofs.Orders.{equality_by}
+use Rattle.tree_laws.specs.Labels.{record_of}
 use Rattle.tree_laws.specs.Walk.{last_label, climb, climb_from, climb_on}
 use Rattle.tree_laws.proofs.Lists.{some_same}
 use Rattle.tree_laws.proofs.Fronts.{depth-keep-le, keep-keep, get-keep, split_last}
-use Rattle.tree_laws.proofs.Walks.{record_of}
+use Rattle.tree_laws.proofs.Walks.{record_read}
 
 module _ {A : Type 0} where
   -- the entries from dimension n on, and Any before
@@ -126,8 +127,8 @@ module _ {A : Type 0} {cmp : A → A → Ordering} (total : IsTotalOrder cmp) (a
         go None e f = let z : option_map (keep (depth n.cell)) (closure (eq_by_cmp cmp) rows n.cell) ≡ None = ap (option_map (keep (depth n.cell))) e in cc
         go (Some u) e f = (u, e, some_same (sym (ap (option_map (keep (depth n.cell))) e) ∙ f))
 
-    record_is : renamed (cell_at tree) n ≡ renamed (λ c. Some c) (node_with cmp measures rows n.cell node_closure.0 (next_value cmp (depth n.cell) node_closure.0))
-    record_is = record_of total anti dims measures rows wide tree canonical k n node_closure.0 g node_closure.1
+    record_is : renamed (cell_at tree) n ≡ renamed (λ c. Some c) (record_of cmp measures rows n.cell node_closure.0)
+    record_is = record_read total anti dims measures rows wide tree canonical k n node_closure.0 g node_closure.1
 
     -- a node's cell has all dimensions
     pub node_wide : length n.cell ≡ dims

@@ -9,12 +9,13 @@ use Rattle.std.specs.Option.{option_map, option_eq}
 use Rattle.std.proofs.lemmas.List.Sums.{length-filter}
 use Rattle.cube_defs.specs.Cell.{Cell, cell_eq, depth}
 use Rattle.cube_defs.specs.Rows.{Row, closure, is_class, is_node, agg}
-use Rattle.cube_defs.specs.Tree.{Edge, Node, Tree, IsCanonical, node_of, node_with, next_value, cell_at, renamed, renamed_edge, tree, tree_edges, links, classes, nodes, covered}
+use Rattle.cube_defs.specs.Tree.{Edge, Node, Tree, IsCanonical, node_of, cell_at, renamed, renamed_edge, tree, tree_edges, links, classes, nodes, covered}
 use Rattle.cube_laws.specs.Lists.{Among}
 use Rattle.cube_laws.proofs.Lists.{among_map, map_among, filter_filter}
 use Rattle.cube_laws.proofs.Cells.{IsEquality, keep-depth}
 use Rattle.cube_laws.proofs.Nodes.{nodes-is, class_fronts}
 use Rattle.cube_laws.proofs.Orders.{equality_by}
+use Rattle.tree_laws.specs.Labels.{record_of}
 use Rattle.tree_laws.specs.Counts.{is_under, classes_in, tree_edges_in, links_in}
 use Rattle.tree_laws.proofs.Lists.{some_same}
 use Rattle.tree_laws.proofs.Sums.{EachOnce, sum_same, once_filter, sum_ones, sum_alike, sum_by-map, length-map, covered_once, or_nothing, sum_by-filter_map}
@@ -69,7 +70,7 @@ module _ {A : Type 0} {cmp : A → A → Ordering} (total : IsTotalOrder cmp) (a
   marked k n g = go (closure (eq_by_cmp cmp) rows n.cell) refl (canonical.each k n g).1
     where
       go : (o : Option (Cell A)) → closure (eq_by_cmp cmp) rows n.cell ≡ o
-          → Some (renamed (cell_at kept) n) ≡ option_map (renamed (λ c. Some c)) (option_map (λ u. node_with cmp measures rows n.cell u (next_value cmp (depth n.cell) u)) o) → is_some n.class ≡ is_class (eq_by_cmp cmp) rows n.cell
+          → Some (renamed (cell_at kept) n) ≡ option_map (renamed (λ c. Some c)) (option_map (λ u. record_of cmp measures rows n.cell u) o) → is_some n.class ≡ is_class (eq_by_cmp cmp) rows n.cell
       go None e r = cc
       go (Some u) e r =
           ap (λ x. is_some x.class) (some_same r) ∙ by (cell_eq (eq_by_cmp cmp) u n.cell) (agg (eq_by_cmp cmp) measures rows n.cell) ∙ sym (ap (λ o. option_eq (cell_eq (eq_by_cmp cmp)) o (Some n.cell)) e)
@@ -96,7 +97,7 @@ module _ {A : Type 0} {cmp : A → A → Ordering} (total : IsTotalOrder cmp) (a
   unfolding passing
   same_edges test p = go (closure (eq_by_cmp cmp) rows p)
     where
-      go : (o : Option (Cell A)) → or_nothing (passing test (λ c. Some c)) (option_map (λ u. node_with cmp measures rows p u (next_value cmp (depth p) u)) o) ≡ or_nothing (passing test (λ c. Some c)) (option_map (λ u. node_with cmp 0 rows p u (next_value cmp (depth p) u)) o)
+      go : (o : Option (Cell A)) → or_nothing (passing test (λ c. Some c)) (option_map (λ u. record_of cmp measures rows p u) o) ≡ or_nothing (passing test (λ c. Some c)) (option_map (λ u. record_of cmp 0 rows p u) o)
       go None = refl
       go (Some u) = refl
 

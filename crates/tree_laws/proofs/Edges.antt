@@ -10,7 +10,7 @@ use Rattle.std.specs.Option.{option_map, option_and_then}
 use Rattle.std.proofs.lemmas.Option.{slice_get_within}
 use Rattle.cube_defs.specs.Cell.{Cell, leq, cell_of, depth, keep, upto, with_value}
 use Rattle.cube_defs.specs.Rows.{Row, covers, cov, closure}
-use Rattle.cube_defs.specs.Tree.{Edge, node_with, edges_in, values_at, next_value, as_list, forced_child}
+use Rattle.cube_defs.specs.Tree.{Edge, edges_in, values_at, next_value, as_list, forced_child}
 use Rattle.cube_laws.specs.Lists.{Among}
 use Rattle.cube_laws.proofs.Lists.{among_append, among_flat_map, among_filter, among_filter_map}
 use Rattle.cube_laws.proofs.Distinct.{among_distinct}
@@ -19,22 +19,22 @@ use Rattle.cube_laws.proofs.Closures.{closure_mono, leq-closure}
 use Rattle.cube_laws.proofs.Columns.{one_value, one_value-leq, slice_get-cell_of}
 use Rattle.cube_laws.proofs.Orders.{equality_by}
 use Rattle.cube_laws.proofs.Covered.{some_covered}
-use Rattle.tree_laws.specs.Labels.{lead, IsLabel}
+use Rattle.tree_laws.specs.Labels.{lead, IsLabel, record_of}
 use Rattle.tree_laws.proofs.Lists.{first_of_range, among_range}
 use Rattle.tree_laws.proofs.Fronts.{leq-with_value, with_value-leq, upto-entry}
 use Rattle.tree_laws.proofs.Nexts.{next-ge, next-le, keep-next, next-entry}
 use Rattle.tree_laws.proofs.Leads.{closure_between}
 
 module _ {A : Type 0} {cmp : A → A → Ordering} (total : IsTotalOrder cmp) (anti : IsAntisymmetric cmp) where
-  pub law_by : IsEquality (eq_by_cmp cmp)
-  law_by = equality_by total anti
+  law : IsEquality (eq_by_cmp cmp)
+  law = equality_by total anti
 
   -- what leads somewhere is a value of a covered row
   pub leads_value : (rows : List (Row A)) (p w : Cell A) (i : ℕ) (v : A) → depth p ≤ i → i < length p → closure (eq_by_cmp cmp) rows (with_value p i v) ≡ Some w → Among v (values_at cmp rows p i)
   leads_value rows p w i v h l e =
       let c : (r : Row A) × Among r rows × (covers (eq_by_cmp cmp) (with_value p i v) r ≡ true) = some_covered (eq_by_cmp cmp) 0 (with_value p i v) w rows e in
-      let both = and_parts (leq (eq_by_cmp cmp) p (cell_of c.0.tuple)) (leq (eq_by_cmp cmp) (one_value i v) (cell_of c.0.tuple)) (sym (with_value-leq law_by p (cell_of c.0.tuple) i v h l) ∙ c.2) in
-      let has : slice_get c.0.tuple i ≡ Some v = (slice_get-cell_of c.0.tuple i v).0 ((one_value-leq law_by i v (cell_of c.0.tuple)).0 both.1) in
+      let both = and_parts (leq (eq_by_cmp cmp) p (cell_of c.0.tuple)) (leq (eq_by_cmp cmp) (one_value i v) (cell_of c.0.tuple)) (sym (with_value-leq law p (cell_of c.0.tuple) i v h l) ∙ c.2) in
+      let has : slice_get c.0.tuple i ≡ Some v = (slice_get-cell_of c.0.tuple i v).0 ((one_value-leq law i v (cell_of c.0.tuple)).0 both.1) in
       (among_distinct total anti v _).1 ((among_filter_map (λ (row : Row A). slice_get row.tuple i) v (cov (eq_by_cmp cmp) rows p)).1 (c.0, among_filter (covers (eq_by_cmp cmp) p) c.0 rows c.1 both.0, has))
 
   -- the edges in a dimension are what leads somewhere
@@ -64,16 +64,16 @@ module _ {A : Type 0} {cmp : A → A → Ordering} (total : IsTotalOrder cmp) (a
   pub forced_lead : (rows : List (Row A)) (p u : Cell A) (e : ℕ) (w : A) → closure (eq_by_cmp cmp) rows p ≡ Some u → depth p ≤ e → e < length p → slice_get u e ≡ Some (Some w)
       → closure (eq_by_cmp cmp) rows (with_value p e w) ≡ Some u
   forced_lead rows p u e w is h l k =
-      closure_between law_by rows p (with_value p e w) u is (leq-with_value law_by p e w h)
-      (with_value-leq law_by p u e w h l ∙ and_from _ _ (leq-closure law_by rows p u is) ((one_value-leq law_by e w u).1 k))
+      closure_between law rows p (with_value p e w) u is (leq-with_value law p e w h)
+      (with_value-leq law p u e w h l ∙ and_from _ _ (leq-closure law rows p u is) ((one_value-leq law e w u).1 k))
 
   pub only_forced : (rows : List (Row A)) (p u d : Cell A) (e : ℕ) (w v : A) → closure (eq_by_cmp cmp) rows p ≡ Some u → depth p ≤ e → e < length p → slice_get u e ≡ Some (Some w)
       → closure (eq_by_cmp cmp) rows (with_value p e v) ≡ Some d → v ≡ w
   only_forced rows p u d e w v is h l k m =
-      let above = closure_mono law_by rows p (with_value p e v) u d (leq-with_value law_by p e v h) is m in
-      let a : slice_get d e ≡ Some (Some w) = (one_value-leq law_by e w d).0 (leq_trans law_by (one_value e w) u d ((one_value-leq law_by e w u).1 k) above) in
-      let b = and_parts (leq (eq_by_cmp cmp) p d) (leq (eq_by_cmp cmp) (one_value e v) d) (sym (with_value-leq law_by p d e v h l) ∙ leq-closure law_by rows (with_value p e v) d m) in
-      let c : slice_get d e ≡ Some (Some v) = (one_value-leq law_by e v d).0 b.1 in
+      let above = closure_mono law rows p (with_value p e v) u d (leq-with_value law p e v h) is m in
+      let a : slice_get d e ≡ Some (Some w) = (one_value-leq law e w d).0 (leq_trans law (one_value e w) u d ((one_value-leq law e w u).1 k) above) in
+      let b = and_parts (leq (eq_by_cmp cmp) p d) (leq (eq_by_cmp cmp) (one_value e v) d) (sym (with_value-leq law p d e v h l) ∙ leq-closure law rows (with_value p e v) d m) in
+      let c : slice_get d e ≡ Some (Some v) = (one_value-leq law e v d).0 b.1 in
       cc
 
   module _ (measures : ℕ) (rows : List (Row A)) (p u : Cell A) (is : closure (eq_by_cmp cmp) rows p ≡ Some u) (front : keep (depth p) u ≡ p) where
@@ -97,9 +97,7 @@ module _ {A : Type 0} {cmp : A → A → Ordering} (total : IsTotalOrder cmp) (a
         go (Some None) e k = absurd k
         go (Some (Some w)) e k = elim k [
           | inl same ↦ subst (λ y. IsLabel cmp rows p (next_value cmp (depth p) u) y) (sym same) (record {
-            behind = next-ge cmp (depth p) u;
-            before = omega arith;
-            within = inside e;
+            place = record { behind = next-ge cmp (depth p) u; before = omega arith; within = inside e };
             leads = ap (option_map (λ w. upto w (next_value cmp (depth p) u))) (forced_lead rows p u _ w is (next-ge cmp (depth p) u) (inside e) e) ∙ ap (λ c. Some c) (at_next w e);
           })
           | inr none ↦ absurd none
@@ -108,13 +106,13 @@ module _ {A : Type 0} {cmp : A → A → Ordering} (total : IsTotalOrder cmp) (a
             inside : slice_get u (next_value cmp (depth p) u) ≡ Some (Some w) → next_value cmp (depth p) u < length p
             inside e = omega (arith, slice_get_within u (next_value cmp (depth p) u) (Some w) e, long)
 
-    pub edges-are : (x : Edge A (Cell A)) → Among x (node_with cmp measures rows p u (next_value cmp (depth p) u)).edges ↔ IsLabel cmp rows p (next_value cmp (depth p) u) x
+    pub edges-are : (x : Edge A (Cell A)) → Among x (record_of cmp measures rows p u).edges ↔ IsLabel cmp rows p (next_value cmp (depth p) u) x
     edges-are x = (
       λ m. elim ((among_append x (flat_map (edges_in cmp rows p) (range_with_len (depth p) (next_value cmp (depth p) u - depth p))) (as_list cmp (forced_child cmp p u (next_value cmp (depth p) u)))).0 m) [
         | inl a ↦ let r : (i : ℕ) × Among i (range_with_len (depth p) (next_value cmp (depth p) u - depth p)) × Among x (edges_in cmp rows p i) = (among_flat_map (edges_in cmp rows p) x _).0 a in inner r.0 ((among_range r.0 _ _).0 r.1) r.2
         | inr b ↦ forced-is x b
       ],
-      λ h. elim (first_of_range (next_value cmp (depth p) u) x.dim h.before) [ inl e ↦ (among_append x _ _).1 (inr (at_end h (sym e) (next-entry cmp (depth p) u (omega (arith, e, h.within, long))))) | inr k ↦ (among_append x _ _).1 (inl (early h k)) ],
+      λ h. elim (first_of_range (next_value cmp (depth p) u) x.dim h.place.before) [ inl e ↦ (among_append x _ _).1 (inr (at_end h (sym e) (next-entry cmp (depth p) u (omega (arith, e, h.place.within, long))))) | inr k ↦ (among_append x _ _).1 (inl (early h k)) ],
     )
       where
         inner : (i : ℕ) → (depth p ≤ i) × (i < depth p + (next_value cmp (depth p) u - depth p)) → Among x (edges_in cmp rows p i) → IsLabel cmp rows p (next_value cmp (depth p) u) x
@@ -124,14 +122,12 @@ module _ {A : Type 0} {cmp : A → A → Ordering} (total : IsTotalOrder cmp) (a
             let l : i < length p = omega (arith, b.1, ge, le, long) in
             let e = (edges_in-are rows p i x b.0 l).0 a in
             record {
-              behind = omega (arith, e.0, b.0);
-              before = omega (arith, e.0, b.1, ge);
-              within = omega (arith, e.0, l);
+              place = record { behind = omega (arith, e.0, b.0); before = omega (arith, e.0, b.1, ge); within = omega (arith, e.0, l) };
               leads = subst (λ j. lead (eq_by_cmp cmp) rows p j x.value ≡ Some x.target) (sym e.0) e.1;
             }
 
         early : IsLabel cmp rows p (next_value cmp (depth p) u) x → x.dim + 1 ≤ next_value cmp (depth p) u → Among x (flat_map (edges_in cmp rows p) (range_with_len (depth p) (next_value cmp (depth p) u - depth p)))
-        early h k = (among_flat_map (edges_in cmp rows p) x _).1 (x.dim, (among_range x.dim _ _).1 (h.behind, omega (arith, h.behind, k)), (edges_in-are rows p x.dim x h.behind h.within).1 (refl, h.leads))
+        early h k = (among_flat_map (edges_in cmp rows p) x _).1 (x.dim, (among_range x.dim _ _).1 (h.place.behind, omega (arith, h.place.behind, k)), (edges_in-are rows p x.dim x h.place.behind h.place.within).1 (refl, h.leads))
 
         at_end : IsLabel cmp rows p (next_value cmp (depth p) u) x → x.dim ≡ next_value cmp (depth p) u → (w : A) × (slice_get u (next_value cmp (depth p) u) ≡ Some (Some w)) → Among x (as_list cmp (forced_child cmp p u (next_value cmp (depth p) u)))
         at_end h d (w, k) = subst (λ o. Among x (as_list cmp (made_forced o))) (sym k) (inl (found (closure (eq_by_cmp cmp) rows (with_value p x.dim x.value)) refl))
@@ -142,8 +138,8 @@ module _ {A : Type 0} {cmp : A → A → Ordering} (total : IsTotalOrder cmp) (a
             found : (o : Option (Cell A)) → closure (eq_by_cmp cmp) rows (with_value p x.dim x.value) ≡ o → x ≡ record { dim = next_value cmp (depth p) u; value = w; target = with_value p (next_value cmp (depth p) u) w }
             found None e = let bad : None ≡ Some x.target = sym (ap (option_map (λ c. upto c x.dim)) e) ∙ h.leads in cc
             found (Some c) e =
-                let v : x.value ≡ w = only_forced rows p u c x.dim w x.value is h.behind h.within entry e in
-                let closed : Some c ≡ Some u = sym e ∙ ap (λ y. closure (eq_by_cmp cmp) rows (with_value p x.dim y)) v ∙ forced_lead rows p u x.dim w is h.behind h.within entry in
+                let v : x.value ≡ w = only_forced rows p u c x.dim w x.value is h.place.behind h.place.within entry e in
+                let closed : Some c ≡ Some u = sym e ∙ ap (λ y. closure (eq_by_cmp cmp) rows (with_value p x.dim y)) v ∙ forced_lead rows p u x.dim w is h.place.behind h.place.within entry in
                 let t : Some (upto u (next_value cmp (depth p) u)) ≡ Some x.target = sym (ap (option_map (λ c. upto c (next_value cmp (depth p) u))) (e ∙ closed)) ∙ ap (λ j. option_map (λ c. upto c j) (closure (eq_by_cmp cmp) rows (with_value p x.dim x.value))) (sym d) ∙ h.leads in
                 let target : x.target ≡ with_value p (next_value cmp (depth p) u) w = some_inj (sym t) ∙ at_next w k in
                 edge_same d v target

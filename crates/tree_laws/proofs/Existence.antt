@@ -8,12 +8,13 @@ use Rattle.std.specs.List.{AllByRecursion, range_with_len}
 use Rattle.std.specs.Option.{option_map}
 use Rattle.cube_defs.specs.Cell.{Cell, cell_eq, depth, keep}
 use Rattle.cube_defs.specs.Rows.{Row, closure, is_node}
-use Rattle.cube_defs.specs.Tree.{Edge, Node, Tree, IsCanonical, node_of, node_with, next_value, edges_in, forced_child, as_list, cut_last, nodes, covered, cell_at, renamed, renamed_edge}
+use Rattle.cube_defs.specs.Tree.{Edge, Node, Tree, IsCanonical, node_of, next_value, edges_in, forced_child, as_list, cut_last, nodes, covered, cell_at, renamed, renamed_edge}
 use Rattle.cube_laws.specs.Lists.{Among}
 use Rattle.cube_laws.proofs.Lists.{among_append}
 use Rattle.cube_laws.proofs.Cells.{IsEquality, cell_eq-exact, cell_eq-same}
 use Rattle.cube_laws.proofs.Nodes.{nodes-is, is_node-is}
 use Rattle.cube_laws.proofs.Orders.{equality_by}
+use Rattle.tree_laws.specs.Labels.{record_of}
 use Rattle.tree_laws.proofs.Lists.{some_same}
 use Rattle.tree_laws.proofs.Sums.{EachOnce, once_filter, covered_once}
 use Rattle.tree_laws.proofs.Entries.{at_tie}
@@ -122,7 +123,7 @@ module _ {A : Type 0} {cmp : A → A → Ordering} (total : IsTotalOrder cmp) (a
   unfolding record_at numbered_by
   record_cell c = go (closure (eq_by_cmp cmp) rows c)
     where
-      go : (o : Option (Cell A)) → (numbered_by c (option_map (λ u. node_with cmp measures rows c u (next_value cmp (depth c) u)) o)).cell ≡ c
+      go : (o : Option (Cell A)) → (numbered_by c (option_map (λ u. record_of cmp measures rows c u) o)).cell ≡ c
       go None = refl
       go (Some u) = refl
 
@@ -164,12 +165,12 @@ module _ {A : Type 0} {cmp : A → A → Ordering} (total : IsTotalOrder cmp) (a
         go (Some u) e = subst (λ o. Some (renamed (cell_at made) (numbered_by c o)) ≡ option_map (renamed (λ d. Some d)) o) (sym is) (ap (λ x. Some x) (record_back place (cell_at made) n up first (λ x m. there x.target (target_node total anti measures rows c n h is x m))))
           where
             n : Node A (Cell A)
-            n = node_with cmp measures rows c u (next_value cmp (depth c) u)
+            n = record_of cmp measures rows c u
 
-            is : node_of cmp measures rows c ≡ Some (node_with cmp measures rows c u (next_value cmp (depth c) u))
-            is = ap (option_map (λ u. node_with cmp measures rows c u (next_value cmp (depth c) u))) e
+            is : node_of cmp measures rows c ≡ Some (record_of cmp measures rows c u)
+            is = ap (option_map (λ u. record_of cmp measures rows c u)) e
 
-            first : (x : Edge A (Cell A)) → forced_child cmp c u (next_value cmp (depth c) u) ≡ Some x → Among x (node_with cmp measures rows c u (next_value cmp (depth c) u)).edges
+            first : (x : Edge A (Cell A)) → forced_child cmp c u (next_value cmp (depth c) u) ≡ Some x → Among x (record_of cmp measures rows c u).edges
             first x q = (among_append x (flat_map (edges_in cmp rows c) (range_with_len (depth c) (next_value cmp (depth c) u - depth c))) (as_list cmp (forced_child cmp c u (next_value cmp (depth c) u)))).1 (inr (subst (λ o. Among x (as_list cmp o)) (sym q) (inl refl)))
 
     pub made_canonical : IsCanonical cmp measures rows made

@@ -73,15 +73,15 @@ module _ {A : Type 0} {eq : A → A → Bool} (law : IsEquality eq) where
       → lead eq (xs ++ r ∷ ys) p i v ≡ Some (moved eq (lead eq (xs ++ ys) p i v) (cell_of r.tuple) i)
   lead_own xs r ys p i v c h l o = lead-insert xs r ys p i v c h l ∙ cond-true _ _ _ ((own_value r i v).1 o)
 
-  found : (o : Option (Cell A)) (i : ℕ) (c : Cell A) → option_map (λ w. upto w i) o ≡ Some c → (w : Cell A) × (o ≡ Some w) × (upto w i ≡ c)
-  found None i c h = cc
-  found (Some w) i c h = (w, refl, some_same h)
+  pub led_from : (o : Option (Cell A)) (i : ℕ) (c : Cell A) → option_map (λ w. upto w i) o ≡ Some c → (w : Cell A) × (o ≡ Some w) × (upto w i ≡ c)
+  led_from None i c h = cc
+  led_from (Some w) i c h = (w, refl, some_same h)
 
   -- after a row has gone, where the old target's closure is now
   pub lead_less : (xs : List (Row A)) (r : Row A) (ys : List (Row A)) (p c : Cell A) (i : ℕ) (v : A) → depth p ≤ i → i < length p → lead eq (xs ++ r ∷ ys) p i v ≡ Some c
       → lead eq (xs ++ ys) p i v ≡ option_map (λ u. upto u i) (closure eq (xs ++ ys) c)
   lead_less xs r ys p c i v d l h =
-      let f : (w : Cell A) × (closure eq (xs ++ r ∷ ys) (with_value p i v) ≡ Some w) × (upto w i ≡ c) = found (closure eq (xs ++ r ∷ ys) (with_value p i v)) i c h in
+      let f : (w : Cell A) × (closure eq (xs ++ r ∷ ys) (with_value p i v) ≡ Some w) × (upto w i ≡ c) = led_from (closure eq (xs ++ r ∷ ys) (with_value p i v)) i c h in
       let short : keep (suc i) (with_value p i v) ≡ with_value p i v = keep-beyond (suc i) (with_value p i v) (omega (arith, depth-with_value p i v d l)) in
       let up : leq eq (with_value p i v) c ≡ true = ap₂ (λ x y. leq eq x y) (sym short) (sym f.2) ∙ keep_mono law (suc i) (with_value p i v) f.0 (leq-closure law (xs ++ r ∷ ys) (with_value p i v) f.0 f.1) in
       let down : leq eq c f.0 ≡ true = ap (λ x. leq eq x f.0) (sym f.2) ∙ keep-leq law (suc i) f.0 in

@@ -8,7 +8,7 @@ use Rattle.std.specs.FinMap.{IsAntisymmetric}
 use Rattle.std.specs.Option.{option_map, option_and_then}
 use Rattle.cube_defs.specs.Cell.{Cell, leq, cell_of, depth, keep, upto, with_value, cell_eq}
 use Rattle.cube_defs.specs.Rows.{Row, covers, closure, agg, is_node}
-use Rattle.cube_defs.specs.Tree.{Edge, Node, node_of, node_with, next_value, forced_child, cut_last}
+use Rattle.cube_defs.specs.Tree.{Edge, Node, node_of, next_value, forced_child, cut_last}
 use Rattle.cube_laws.specs.Lists.{Among}
 use Rattle.cube_laws.specs.Recoding.{coded, coded_tuple, coded_row, TellsApart, AreKnown, RowsAreKnown}
 use Rattle.cube_laws.proofs.Lists.{all_at, among_map}
@@ -20,7 +20,7 @@ use Rattle.cube_laws.proofs.Orders.{equality_by}
 use Rattle.cube_laws.proofs.Recoded.{closure-coded, known-closure, cell_eq-coded}
 use Rattle.cube_laws.proofs.RecodedRows.{length-coded, depth-coded, keep-coded, known-keep, agg-coded, is_node-coded}
 use Rattle.cube_laws.proofs.RecodedLists.{known-below}
-use Rattle.tree_laws.specs.Labels.{lead, IsLabel}
+use Rattle.tree_laws.specs.Labels.{lead, IsLabel, record_of}
 use Rattle.tree_laws.specs.Edges.{coded_edge, IsCodedNode}
 use Rattle.tree_laws.proofs.Lists.{some_same}
 use Rattle.tree_laws.proofs.Fronts.{with_value-leq}
@@ -136,10 +136,10 @@ module _ {A B : Type 0} {cmp : A → A → Ordering} {cmp' : B → B → Orderin
 
     -- the codes' record
     abbrev coded_record : Node B (Cell B)
-    coded_record = node_with cmp' measures (map (coded_row codes) rows) (coded codes 0 p) (coded codes 0 closed.0) (next_value cmp' (depth (coded codes 0 p)) (coded codes 0 closed.0))
+    coded_record = record_of cmp' measures (map (coded_row codes) rows) (coded codes 0 p) (coded codes 0 closed.0)
 
     record_there : node_of cmp' measures (map (coded_row codes) rows) (coded codes 0 p) ≡ Some coded_record
-    record_there = ap (option_map (λ w. node_with cmp' measures (map (coded_row codes) rows) (coded codes 0 p) w (next_value cmp' (depth (coded codes 0 p)) w))) closed'
+    record_there = ap (option_map (λ w. record_of cmp' measures (map (coded_row codes) rows) (coded codes 0 p) w)) closed'
 
     same_next : next_value cmp' (depth (coded codes 0 p)) (coded codes 0 closed.0) ≡ next_value cmp (depth p) closed.0
     same_next = ap (λ d. next_value cmp' d (coded codes 0 closed.0)) (depth-coded codes 0 p) ∙ next-coded codes cmp cmp' (depth p) 0 closed.0
@@ -169,9 +169,11 @@ module _ {A B : Type 0} {cmp : A → A → Ordering} {cmp' : B → B → Orderin
     to_codes x m =
         let l = (labels x).0 m in
         (labels' (coded_edge codes x)).1 (record {
-          behind = omega (arith, depth-coded codes 0 p, l.behind);
-          before = omega (arith, same_next, l.before);
-          within = omega (arith, length-coded codes 0 p, l.within);
+          place = record {
+            behind = omega (arith, depth-coded codes 0 p, l.place.behind);
+            before = omega (arith, same_next, l.place.before);
+            within = omega (arith, length-coded codes 0 p, l.place.within);
+          };
           leads = lead-with p x.dim x.value (known-label p x.dim x.value x.target l.leads) ∙ ap (option_map (coded codes 0)) l.leads;
         })
 
@@ -182,10 +184,10 @@ module _ {A B : Type 0} {cmp : A → A → Ordering} {cmp' : B → B → Orderin
         l = (labels' y).0 m
 
         behind : depth p ≤ y.dim
-        behind = omega (arith, depth-coded codes 0 p, l.behind)
+        behind = omega (arith, depth-coded codes 0 p, l.place.behind)
 
         within : y.dim < length p
-        within = omega (arith, length-coded codes 0 p, l.within)
+        within = omega (arith, length-coded codes 0 p, l.place.within)
 
         v : (v : A) × (y.value ≡ codes y.dim v) × (known y.dim v ≡ true)
         v = value-of p y.dim y.value y.target kp behind within l.leads
@@ -199,7 +201,7 @@ module _ {A B : Type 0} {cmp : A → A → Ordering} {cmp' : B → B → Orderin
         go None q k = cc
         go (Some c) q k = (
           record { dim = y.dim; value = v.0; target = c },
-          (labels (record { dim = y.dim; value = v.0; target = c })).1 (record { behind = behind; before = omega (arith, same_next, l.before); within = within; leads = q }),
+          (labels (record { dim = y.dim; value = v.0; target = c })).1 (record { place = record { behind = behind; before = omega (arith, same_next, l.place.before); within = within }; leads = q }),
           same v.1 (sym (some_same k)),
         )
           where

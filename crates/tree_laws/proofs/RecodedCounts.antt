@@ -8,7 +8,7 @@ use Rattle.std.specs.List.{count_by, sum_by}
 use Rattle.std.specs.Option.{option_map, option_eq}
 use Rattle.cube_defs.specs.Cell.{Cell, depth, keep, with_value, cell_eq}
 use Rattle.cube_defs.specs.Rows.{Row, closure, is_node, is_class}
-use Rattle.cube_defs.specs.Tree.{Edge, Node, node_of, node_with, next_value, tree, tree_edges, links, classes, nodes, covered, cut_last}
+use Rattle.cube_defs.specs.Tree.{Edge, Node, node_of, next_value, tree, tree_edges, links, classes, nodes, covered, cut_last}
 use Rattle.cube_laws.specs.Lists.{Among}
 use Rattle.cube_laws.specs.Recoding.{coded, coded_row, TellsApart, AreKnown, RowsAreKnown}
 use Rattle.cube_laws.proofs.Lists.{among_map, map_among, filter_among}
@@ -20,7 +20,7 @@ use Rattle.cube_laws.proofs.RecodedRows.{known-keep}
 use Rattle.cube_laws.proofs.RecodedLists.{known-covered, classes-coded, nodes-coded}
 use Rattle.tree_laws.specs.Counts.{is_under}
 use Rattle.tree_laws.specs.Edges.{coded_edge, IsCodedNode}
-use Rattle.tree_laws.specs.Labels.{lead, IsLabel}
+use Rattle.tree_laws.specs.Labels.{lead, IsLabel, record_of}
 use Rattle.tree_laws.proofs.Lists.{some_same}
 use Rattle.tree_laws.proofs.Fronts.{with_value-there}
 use Rattle.tree_laws.proofs.Sums.{sum_same, once_filter, once_map, covered_once, sum_ones, sum_alike, sum_by-map, or_nothing, sum_by-filter_map}
@@ -90,7 +90,7 @@ module _ {A B : Type 0} {cmp : A → A → Ordering} {cmp' : B → B → Orderin
         let cells : with_value p x.dim x.value ≡ with_value p x.dim z.value = coded-apart law law' tells (with_value p x.dim x.value) (with_value p x.dim z.value)
         (known-label total anti total' anti' tells rows h p x.dim x.value x.target a.leads) (known-label total anti total' anti' tells rows h p x.dim z.value z.target moved)
         (sym (with_value-coded codes 0 p x.dim x.dim x.value (at_zero x.dim)) ∙ ap (with_value (coded codes 0 p) x.dim) (ap (λ y. y.value) e ∙ ap (λ i. codes i z.value) (sym dim)) ∙ with_value-coded codes 0 p x.dim x.dim z.value (at_zero x.dim)) in
-        let value : x.value ≡ z.value = some_same (some_same (sym (with_value-there p x.dim x.value a.within) ∙ ap (λ c. slice_get c x.dim) cells ∙ with_value-there p x.dim z.value a.within)) in
+        let value : x.value ≡ z.value = some_same (some_same (sym (with_value-there p x.dim x.value a.place.within) ∙ ap (λ c. slice_get c x.dim) cells ∙ with_value-there p x.dim z.value a.place.within)) in
         λ i. record { dim = dim i; value = value i; target = target i }
       where
         at_zero : (i : ℕ) → i ≡ 0 + i
@@ -130,7 +130,7 @@ module _ {A B : Type 0} {cmp : A → A → Ordering} {cmp' : B → B → Orderin
 
       go : (o : Option (Cell A)) → closure (eq_by_cmp cmp) rows p ≡ o → or_nothing (weight cmp' test) (node_of cmp' 0 (map (coded_row codes) rows) (coded codes 0 p)) ≡ or_nothing (weight cmp test) (node_of cmp 0 rows p)
       go None e = let bad : None ≡ Some p = sym (ap (option_map (keep (depth p))) e) ∙ (is_node-is law rows p).0 f.1 in cc
-      go (Some u) e = by (node_with cmp 0 rows p u (next_value cmp (depth p) u)) (ap (option_map (λ u. node_with cmp 0 rows p u (next_value cmp (depth p) u))) e) refl
+      go (Some u) e = by (record_of cmp 0 rows p u) (ap (option_map (λ u. record_of cmp 0 rows p u)) e) refl
 
   weight_sum : {X : Type 0} (order : X → X → Ordering) (test : Bool → Bool) (some : List (Row X)) → sum (map (weight order test) (tree order 0 some)) ≡ sum_by (λ c. or_nothing (weight order test) (node_of order 0 some c)) (nodes order some)
   weight_sum order test some = sum_by-map (λ x. x) (weight order test) (tree order 0 some) ∙ sum_by-filter_map (weight order test) (node_of order 0 some) (nodes order some)

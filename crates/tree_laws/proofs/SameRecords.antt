@@ -16,6 +16,7 @@ use Rattle.cube_laws.proofs.Distinct.{among_distinct, rises_distinct, rises_same
 use Rattle.cube_laws.proofs.Orders.{equality_by}
 use Rattle.cube_laws.proofs.RowTotals.{agg-reordered}
 use Rattle.cube_laws.proofs.SameRows.{closure_by_tuples, node_by_tuples}
+use Rattle.tree_laws.specs.Labels.{record_of}
 use Rattle.tree_laws.specs.Renaming.{shape}
 use Rattle.tree_laws.proofs.Lists.{filter_map_same, flat_map_range, option_map_same}
 
@@ -51,9 +52,9 @@ module _ {A : Type 0} {cmp : A → A → Ordering} (total : IsTotalOrder cmp) (a
         marked false x y = refl
 
     pub shape_by_tuples : (p : Cell A) → option_map shape (node_of cmp measures rows p) ≡ option_map shape (node_of cmp measures more p)
-    shape_by_tuples p = shaped (closure (eq_by_cmp cmp) rows p) ∙ ap (λ o. option_map shape (option_map (λ u. node_with cmp measures more p u (next_value cmp (depth p) u)) o)) (closure_by_tuples (equality_by total anti) rows more f g p)
+    shape_by_tuples p = shaped (closure (eq_by_cmp cmp) rows p) ∙ ap (λ o. option_map shape (option_map (λ u. record_of cmp measures more p u) o)) (closure_by_tuples (equality_by total anti) rows more f g p)
       where
-        shaped : (o : Option (Cell A)) → option_map shape (option_map (λ u. node_with cmp measures rows p u (next_value cmp (depth p) u)) o) ≡ option_map shape (option_map (λ u. node_with cmp measures more p u (next_value cmp (depth p) u)) o)
+        shaped : (o : Option (Cell A)) → option_map shape (option_map (λ u. record_of cmp measures rows p u) o) ≡ option_map shape (option_map (λ u. record_of cmp measures more p u) o)
         shaped None = refl
         shaped (Some u) = ap (λ x. Some x) (shape_with p u (next_value cmp (depth p) u))
 
@@ -63,7 +64,7 @@ module _ {A : Type 0} {cmp : A → A → Ordering} (total : IsTotalOrder cmp) (a
         option_map_same _ _ (closure (eq_by_cmp cmp) rows p) (λ u.
         ap₂ (λ a es. record { cell = p; parent = cut_last cmp p; class = cond (cell_eq (eq_by_cmp cmp) u p) (Some a) None; forced = forced_child cmp p u (next_value cmp (depth p) u); edges = es ++ as_list cmp (forced_child cmp p u (next_value cmp (depth p) u)) })
         same (all_edges p u (next_value cmp (depth p) u)))
-        ∙ ap (λ o. option_map (λ u. node_with cmp measures more p u (next_value cmp (depth p) u)) o) (closure_by_tuples (equality_by total anti) rows more f g p)
+        ∙ ap (λ o. option_map (λ u. record_of cmp measures more p u) o) (closure_by_tuples (equality_by total anti) rows more f g p)
 
     pub canonical_by_tuples : ((p : Cell A) → agg (eq_by_cmp cmp) measures rows p ≡ agg (eq_by_cmp cmp) measures more p) → (tree : Tree A) → IsCanonical cmp measures rows tree → IsCanonical cmp measures more tree
     canonical_by_tuples same tree h = record {

@@ -8,16 +8,17 @@ use Rattle.std.specs.FinMap.{IsAntisymmetric}
 use Rattle.std.specs.Option.{option_map, option_and_then}
 use Rattle.cube_defs.specs.Cell.{Cell, depth, keep, upto, with_value}
 use Rattle.cube_defs.specs.Rows.{Row, closure}
-use Rattle.cube_defs.specs.Tree.{Edge, Node, node_with, next_value, forced_child, renamed, renamed_edge}
+use Rattle.cube_defs.specs.Tree.{Edge, Node, next_value, forced_child, renamed, renamed_edge}
 use Rattle.cube_laws.specs.Lists.{Among}
 use Rattle.cube_laws.proofs.Cells.{IsEquality, keep-leq, length-keep, keep-depth_keep}
-use Rattle.tree_laws.specs.Labels.{lead, IsLabel}
+use Rattle.cube_laws.proofs.Orders.{equality_by}
+use Rattle.tree_laws.specs.Labels.{lead, IsLabel, record_of}
 use Rattle.tree_laws.specs.Walk.{target_at, by_entry, to_child, by_forced, walk_on, front}
 use Rattle.tree_laws.proofs.Lists.{some_same, first_of_range}
 use Rattle.tree_laws.proofs.Fronts.{depth-keep-le, upto-entry, upto-none}
 use Rattle.tree_laws.proofs.Nexts.{next-chain, before-next}
 use Rattle.tree_laws.proofs.Leads.{closure_between, closure_with, leq-chain}
-use Rattle.tree_laws.proofs.Edges.{law_by, edges-are, forced_lead, only_forced}
+use Rattle.tree_laws.proofs.Edges.{edges-are, forced_lead, only_forced}
 
 module _ {A : Type 0} {eq : A → A → Bool} (law : IsEquality eq) where
   module _ {T : Type 0} (i : ℕ) (v : A) where
@@ -72,11 +73,11 @@ module _ {A : Type 0} {eq : A → A → Bool} (law : IsEquality eq) where
 
 module _ {A : Type 0} {cmp : A → A → Ordering} (total : IsTotalOrder cmp) (anti : IsAntisymmetric cmp) (measures : ℕ) (rows : List (Row A)) where
   law : IsEquality (eq_by_cmp cmp)
-  law = law_by total anti
+  law = equality_by total anti
 
   module _ (c u : Cell A) (i : ℕ) (is : closure (eq_by_cmp cmp) rows (keep i c) ≡ Some u) (lc : i < length c) (lu : i < length u) where
     here : Node A (Cell A)
-    here = node_with cmp measures rows (keep i u) u (next_value cmp (depth (keep i u)) u)
+    here = record_of cmp measures rows (keep i u) u
 
     within : i < length (keep i u)
     within = omega (arith, length-keep i u)
@@ -85,7 +86,7 @@ module _ {A : Type 0} {cmp : A → A → Ordering} (total : IsTotalOrder cmp) (a
     pub front_closure : closure (eq_by_cmp cmp) rows (keep i u) ≡ Some u
     front_closure = closure_between law rows (keep i c) (keep i u) u is (leq-chain law rows (keep i c) u i is (depth-keep-le i c)) (keep-leq law i u)
 
-    label : (x : Edge A (Cell A)) → Among x (node_with cmp measures rows (keep i u) u (next_value cmp (depth (keep i u)) u)).edges → IsLabel cmp rows (keep i u) (next_value cmp (depth (keep i u)) u) x
+    label : (x : Edge A (Cell A)) → Among x (record_of cmp measures rows (keep i u) u).edges → IsLabel cmp rows (keep i u) (next_value cmp (depth (keep i u)) u) x
     label x = (edges-are total anti measures rows (keep i u) u front_closure (keep-depth_keep i u) x).0
 
     -- where the closure has a value in dimension i, the forced child has it
@@ -158,10 +159,10 @@ module _ {A : Type 0} {cmp : A → A → Ordering} (total : IsTotalOrder cmp) (a
             at_label None k = target_none law i v here.edges (λ x m d w. let bad : None ≡ Some x.target = sym k ∙ leads x m d w in cc) ∙ sym k
             at_label (Some t) k =
                 target_some law i v t here.edges (λ x m d w. some_same (sym (leads x m d w) ∙ k))
-                ((edges-are total anti measures rows (keep i u) u front_closure (keep-depth_keep i u) _).1 (record { behind = depth-keep-le i u; before = next-chain cmp i u (omega arith); within = within; leads = k }))
+                ((edges-are total anti measures rows (keep i u) u front_closure (keep-depth_keep i u) _).1 (record { place = record { behind = depth-keep-le i u; before = next-chain cmp i u (omega arith); within = within }; leads = k }))
                 ∙ sym k
 
-    pub step : (a : Option A) → slice_get c i ≡ Some a → walk_on (eq_by_cmp cmp) (keep i u) (node_with cmp measures rows (keep i u) u (next_value cmp (depth (keep i u)) u)) i a ≡ front (eq_by_cmp cmp) rows c (suc i)
+    pub step : (a : Option A) → slice_get c i ≡ Some a → walk_on (eq_by_cmp cmp) (keep i u) (record_of cmp measures rows (keep i u) u) i a ≡ front (eq_by_cmp cmp) rows c (suc i)
     unfolding here
     step a q = go (slice_get u i) refl
       where

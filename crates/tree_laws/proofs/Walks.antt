@@ -8,15 +8,16 @@ use Rattle.std.specs.List.{AllByRecursion}
 use Rattle.std.specs.Option.{option_map, option_and_then}
 use Rattle.cube_defs.specs.Cell.{Cell, depth, keep}
 use Rattle.cube_defs.specs.Rows.{Row, closure, is_node}
-use Rattle.cube_defs.specs.Tree.{Node, Tree, IsCanonical, node_of, node_with, next_value, cell_at, renamed}
+use Rattle.cube_defs.specs.Tree.{Node, Tree, IsCanonical, node_of, cell_at, renamed}
 use Rattle.cube_laws.proofs.Cells.{IsEquality, keep-leq, keep_zero, depth-le}
 use Rattle.cube_laws.proofs.Closures.{closure_some, closure_idem, is_class-is}
 use Rattle.cube_laws.proofs.Covered.{closure_length}
 use Rattle.cube_laws.proofs.Nodes.{is_node-is, class_fronts}
+use Rattle.cube_laws.proofs.Orders.{equality_by}
+use Rattle.tree_laws.specs.Labels.{record_of}
 use Rattle.tree_laws.specs.Walk.{walk_on, walk, front}
 use Rattle.tree_laws.proofs.Lists.{some_same}
 use Rattle.tree_laws.proofs.Fronts.{keep-beyond}
-use Rattle.tree_laws.proofs.Edges.{law_by}
 use Rattle.tree_laws.proofs.Steps.{step, front_closure, walk_on-renamed}
 
 module _ {X : Type 0} where
@@ -33,21 +34,21 @@ module _ {X : Type 0} where
 
 module _ {A : Type 0} {cmp : A → A → Ordering} (total : IsTotalOrder cmp) (anti : map.IsAntisymmetric cmp) (dims measures : ℕ) (rows : List (Row A)) (wide : AllByRecursion (λ row. length row.tuple ≡ dims) rows) (tree : Tree A) (canonical : IsCanonical cmp measures rows tree) where
   law : IsEquality (eq_by_cmp cmp)
-  law = law_by total anti
+  law = equality_by total anti
 
   -- the record of a node, whose closure is u
-  pub record_of : (k : ℕ) (n : Node A ℕ) (u : Cell A) → map.get tree k ≡ Some n → closure (eq_by_cmp cmp) rows n.cell ≡ Some u → renamed (cell_at tree) n ≡ renamed (λ c. Some c) (node_with cmp measures rows n.cell u (next_value cmp (depth n.cell) u))
-  record_of k n u g e =
+  pub record_read : (k : ℕ) (n : Node A ℕ) (u : Cell A) → map.get tree k ≡ Some n → closure (eq_by_cmp cmp) rows n.cell ≡ Some u → renamed (cell_at tree) n ≡ renamed (λ c. Some c) (record_of cmp measures rows n.cell u)
+  record_read k n u g e =
       let r : Some (renamed (cell_at tree) n) ≡ option_map (renamed (λ c. Some c)) (node_of cmp measures rows n.cell) = (canonical.each k n g).1 in
-      let s : option_map (renamed (λ c. Some c)) (node_of cmp measures rows n.cell) ≡ Some (renamed (λ c. Some c) (node_with cmp measures rows n.cell u (next_value cmp (depth n.cell) u)))
-      = ap (λ o. option_map (renamed (λ c. Some c)) (option_map (λ u. node_with cmp measures rows n.cell u (next_value cmp (depth n.cell) u)) o)) e in
+      let s : option_map (renamed (λ c. Some c)) (node_of cmp measures rows n.cell) ≡ Some (renamed (λ c. Some c) (record_of cmp measures rows n.cell u))
+      = ap (λ o. option_map (renamed (λ c. Some c)) (option_map (λ u. record_of cmp measures rows n.cell u) o)) e in
       cc
 
   module _ (k : ℕ) (n : Node A ℕ) (c u : Cell A) (i : ℕ) (g : map.get tree k ≡ Some n) (is : closure (eq_by_cmp cmp) rows (keep i c) ≡ Some u) (cell : n.cell ≡ keep i u) (lc : i < length c) (lu : i < length u) where
-    record_is : renamed (cell_at tree) n ≡ renamed (λ c. Some c) (node_with cmp measures rows (keep i u) u (next_value cmp (depth (keep i u)) u))
+    record_is : renamed (cell_at tree) n ≡ renamed (λ c. Some c) (record_of cmp measures rows (keep i u) u)
     record_is =
-        subst (λ p. renamed (cell_at tree) n ≡ renamed (λ c. Some c) (node_with cmp measures rows p u (next_value cmp (depth p) u))) cell
-        (record_of k n u g (ap (closure (eq_by_cmp cmp) rows) cell ∙ front_closure total anti measures rows c u i is lc lu))
+        subst (λ p. renamed (cell_at tree) n ≡ renamed (λ c. Some c) (record_of cmp measures rows p u)) cell
+        (record_read k n u g (ap (closure (eq_by_cmp cmp) rows) cell ∙ front_closure total anti measures rows c u i is lc lu))
 
     number_is : cell_at tree k ≡ Some (keep i u)
     number_is = ap (option_map (λ n. n.cell)) g ∙ ap (λ x. Some x) cell
@@ -57,7 +58,7 @@ module _ {A : Type 0} {cmp : A → A → Ordering} (total : IsTotalOrder cmp) (a
         sym (walk_on-renamed law (cell_at tree) k n i a)
         ∙ ap (λ l. walk_on (eq_by_cmp cmp) l (renamed (cell_at tree) n) i a) number_is
         ∙ ap (λ m. walk_on (eq_by_cmp cmp) (Some (keep i u)) m i a) record_is
-        ∙ walk_on-renamed law (λ c. Some c) (keep i u) (node_with cmp measures rows (keep i u) u (next_value cmp (depth (keep i u)) u)) i a
+        ∙ walk_on-renamed law (λ c. Some c) (keep i u) (record_of cmp measures rows (keep i u) u) i a
         ∙ ap (option_map (λ c. Some c)) (step total anti measures rows c u i is lc lu a q)
 
   -- one dimension on: from the front of c's closure to the front that is one longer

@@ -5,9 +5,9 @@ ghost use Rattle.std.specs.Ordering.{eq_by_cmp};
 ghost use Rattle.std.specs.Prelude.{IsTrue, List, None, Some, length, min, slice_get, ℕ, ◌++◌, ◌<◌, ◌≤◌, ◌↔◌, ◌∷◌, ◌≡◌, ◌≢◌};
 ghost use Rattle.cube_defs.specs.Cell.{Cell, cell_of, depth, keep, leq, meet, upto};
 ghost use Rattle.cube_defs.specs.Rows.{Row, closure, covers, is_node};
-ghost use Rattle.cube_defs.specs.Tree.{Edge, next_value, node_with};
+ghost use Rattle.cube_defs.specs.Tree.{Edge, next_value};
 ghost use Rattle.cube_laws.specs.Lists.{Among};
-ghost use Rattle.tree_laws.specs.Labels.{IsWithin, first_new, lead, moved};
+ghost use Rattle.tree_laws.specs.Labels.{IsWithin, first_new, lead, moved, record_of};
 
 use cube_laws::values::Value;
 
@@ -31,7 +31,7 @@ pub fn labels_along_the_closure<V: Value>()
         lead (eq_by_cmp V.cmp) rows p i v ≡ lead (eq_by_cmp V.cmp) rows (keep i u) i v }
     ensures record { (measures : ℕ) (rows : List (Row V)) (p u : Cell V) (x : Edge V (Cell V)) →
         closure (eq_by_cmp V.cmp) rows p ≡ Some u → depth p ≤ x.dim → x.dim < length u →
-        Among x (node_with V.cmp measures rows (keep x.dim u) u (next_value V.cmp (depth (keep x.dim u)) u)).edges
+        Among x (record_of V.cmp measures rows (keep x.dim u) u).edges
         ↔ (lead (eq_by_cmp V.cmp) rows (keep x.dim u) x.dim x.value ≡ Some x.target) }
     ensures own { (xs ys : List (Row V)) (r : Row V) (p u : Cell V) (i : ℕ) → closure (eq_by_cmp V.cmp) (xs ++ ys) p ≡ Some u →
         keep (depth p) (meet (eq_by_cmp V.cmp) u (cell_of r.tuple)) ≡ p →
@@ -47,16 +47,16 @@ pub fn edges_with_one_row_more<V: Value>()
         IsTrue (covers (eq_by_cmp V.cmp) p r) → closure (eq_by_cmp V.cmp) (xs ++ ys) p ≡ Some u →
         IsTrue (is_node (eq_by_cmp V.cmp) (xs ++ r ∷ ys) p) → length p ≡ length u →
         slice_get r.tuple x.dim ≢ Some x.value →
-        let w = meet (eq_by_cmp V.cmp) u (cell_of r.tuple) in let e = next_value V.cmp (depth p) w in
-        Among x (node_with V.cmp measures (xs ++ r ∷ ys) p w e).edges
-        ↔ (IsWithin p e x.dim × Among x (node_with V.cmp measures (xs ++ ys) (keep x.dim u) u (next_value V.cmp (depth (keep x.dim u)) u)).edges) }
+        let w = meet (eq_by_cmp V.cmp) u (cell_of r.tuple) in
+        Among x (record_of V.cmp measures (xs ++ r ∷ ys) p w).edges
+        ↔ (IsWithin p (next_value V.cmp (depth p) w) x.dim × Among x (record_of V.cmp measures (xs ++ ys) (keep x.dim u) u).edges) }
     ensures own { (measures : ℕ) (xs ys : List (Row V)) (r : Row V) (p u : Cell V) (x : Edge V (Cell V)) →
         IsTrue (covers (eq_by_cmp V.cmp) p r) → closure (eq_by_cmp V.cmp) (xs ++ ys) p ≡ Some u →
         IsTrue (is_node (eq_by_cmp V.cmp) (xs ++ r ∷ ys) p) → length p ≡ length u →
         slice_get r.tuple x.dim ≡ Some x.value →
-        let w = meet (eq_by_cmp V.cmp) u (cell_of r.tuple) in let e = next_value V.cmp (depth p) w in
-        Among x (node_with V.cmp measures (xs ++ r ∷ ys) p w e).edges
-        ↔ (IsWithin p e x.dim × (moved (eq_by_cmp V.cmp) (lead (eq_by_cmp V.cmp) (xs ++ ys) (keep x.dim u) x.dim x.value) (cell_of r.tuple) x.dim ≡ x.target)) }
+        let w = meet (eq_by_cmp V.cmp) u (cell_of r.tuple) in
+        Among x (record_of V.cmp measures (xs ++ r ∷ ys) p w).edges
+        ↔ (IsWithin p (next_value V.cmp (depth p) w) x.dim × (moved (eq_by_cmp V.cmp) (lead (eq_by_cmp V.cmp) (xs ++ ys) (keep x.dim u) x.dim x.value) (cell_of r.tuple) x.dim ≡ x.target)) }
 {}
 
 /// After a row has gone, a label leads to the front of the closure that its old target has now, where
