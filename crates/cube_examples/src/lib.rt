@@ -6,5 +6,6 @@ pub mod answers;
 pub mod cells;
 pub mod rows;
 pub mod sales;
+pub mod search;
 pub mod texts;
 pub mod tree;
