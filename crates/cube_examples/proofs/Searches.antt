@@ -27,3 +27,9 @@ without_edge = simp look refl
 
 pub upwards : climb numbered_table 3 7 (code_cell None None None) ≡ code_cell (Some coded.S1) (Some coded.P2) (Some coded.s)
 upwards = simp look refl
+
+pub past_forced : walk (eq_by_cmp nat_cmp) numbered_table (code_cell (Some coded.S1) (Some coded.P1) None) 0 0 ≡ Some 5
+past_forced = simp look refl
+
+pub to_no_store : walk (eq_by_cmp nat_cmp) numbered_table (code_cell (Some 2) None None) 0 0 ≡ None
+to_no_store = simp look refl

@@ -40,3 +40,15 @@ pub fn search_without_an_edge()
 pub fn way_up()
     ensures { climb numbered_table 3 7 (code_cell None None None) ≡ code_cell (Some coded.S1) (Some coded.P2) (Some coded.s) }
 {}
+
+/// The first store's forced child stands behind the asked product, so the edge P1 comes first.
+#[tactic(auto, using(crate::proofs::Searches::past_forced))]
+pub fn search_past_a_forced_child()
+    ensures { walk (eq_by_cmp nat_cmp) numbered_table (code_cell (Some coded.S1) (Some coded.P1) None) 0 0 ≡ Some 5 }
+{}
+
+/// The root has no edge to a third store.
+#[tactic(auto, using(crate::proofs::Searches::to_no_store))]
+pub fn search_for_no_store()
+    ensures { walk (eq_by_cmp nat_cmp) numbered_table (code_cell (Some 2) None None) 0 0 ≡ None }
+{}
