@@ -21,3 +21,4 @@ pub mod RecodedCounts
 pub mod Climbs
 pub mod LowerBounds
 pub mod Existence
+pub mod MoreCounts

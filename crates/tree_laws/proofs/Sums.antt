@@ -33,7 +33,7 @@ module _ {X : Type 0} where
       swapped a b c d h = omega arith
 
   -- a sum over different items is no more than one over a list that has them all
-  sum_within : (f : X → ℕ) (xs ys : List X) → EachOnce xs → ((x : X) → Among x xs → Among x ys) → sum_by f xs ≤ sum_by f ys
+  pub sum_within : (f : X → ℕ) (xs ys : List X) → EachOnce xs → ((x : X) → Among x xs → Among x ys) → sum_by f xs ≤ sum_by f ys
   sum_within f [] ys d g = omega arith
   sum_within f (x ∷ xs) ys d g = subst (λ n. n ≤ sum_by f ys) (sym (sum_by-cons f x xs)) (go (taken f x ys (g x (inl refl))) (λ zs h. sum_within f xs zs d.1 h))
     where

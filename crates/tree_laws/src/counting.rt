@@ -1,7 +1,7 @@
 //! The numbers of classes, nodes and edges of a canonical tree are told by its rows.
 ghost use Rattle.std.specs.FinMap as map;
 ghost use Rattle.std.specs.List.{AllByRecursion};
-ghost use Rattle.std.specs.Prelude.{List, length, ℕ, ◌≡◌};
+ghost use Rattle.std.specs.Prelude.{List, length, ℕ, ◌++◌, ◌≤◌, ◌∷◌, ◌≡◌};
 ghost use Rattle.cube_defs.specs.Rows.{Row};
 ghost use Rattle.cube_defs.specs.Tree.{IsCanonical, Tree, classes, links, nodes, tree_edges};
 ghost use Rattle.tree_laws.specs.Counts.{classes_in, links_in, tree_edges_in};
@@ -24,4 +24,10 @@ pub fn counts_of_a_tree<V: Value>()
     ensures links { (dims measures : ℕ) (rows : List (Row V)) (tree : Tree V) →
         AllByRecursion (λ row. length row.tuple ≡ dims) rows → IsCanonical V.cmp measures rows tree →
         links_in V.cmp tree ≡ links V.cmp rows }
+{}
+
+/// A row more leaves no fewer classes and nodes, so one less leaves no more (own).
+pub fn counts_with_one_row_more<V: Value>()
+    ensures classes { (xs ys : List (Row V)) (r : Row V) → length (classes V.cmp (xs ++ ys)) ≤ length (classes V.cmp (xs ++ r ∷ ys)) }
+    ensures nodes { (xs ys : List (Row V)) (r : Row V) → length (nodes V.cmp (xs ++ ys)) ≤ length (nodes V.cmp (xs ++ r ∷ ys)) }
 {}
