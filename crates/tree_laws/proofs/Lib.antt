@@ -22,3 +22,4 @@ pub mod Climbs
 pub mod LowerBounds
 pub mod Existence
 pub mod MoreCounts
+pub mod TreeEdges

@@ -1,5 +1,5 @@
 -- A row more takes no class and no node away, so there are no fewer of them.
-use Rattle.std.proofs.Common.{◌≡◌, ℕ, ◌≤◌, Bool, true, List, ◌∷◌, ◌++◌, filter, length, subst, inr}
+use Rattle.std.proofs.Common.{◌≡◌, ◌≤◌, Bool, true, List, ◌∷◌, ◌++◌, filter, length, subst, inr}
 use Rattle.std.specs.declared.cmp.Ordering.{Ordering}
 use Rattle.std.specs.Ordering.{eq_by_cmp}
 use Rattle.std.specs.Cmp.{IsTotalOrder}

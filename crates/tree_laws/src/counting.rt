@@ -1,9 +1,10 @@
 //! The numbers of classes, nodes and edges of a canonical tree are told by its rows.
 ghost use Rattle.std.specs.FinMap as map;
 ghost use Rattle.std.specs.List.{AllByRecursion};
-ghost use Rattle.std.specs.Prelude.{List, length, ℕ, ◌++◌, ◌≤◌, ◌∷◌, ◌≡◌};
+ghost use Rattle.std.specs.Prelude.{List, length, suc, ℕ, ◌++◌, ◌≤◌, ◌∷◌, ◌≡◌};
 ghost use Rattle.cube_defs.specs.Rows.{Row};
 ghost use Rattle.cube_defs.specs.Tree.{IsCanonical, Tree, classes, links, nodes, tree_edges};
+ghost use Rattle.cube_laws.specs.Lists.{Among};
 ghost use Rattle.tree_laws.specs.Counts.{classes_in, links_in, tree_edges_in};
 
 use cube_laws::values::Value;
@@ -30,4 +31,11 @@ pub fn counts_of_a_tree<V: Value>()
 pub fn counts_with_one_row_more<V: Value>()
     ensures classes { (xs ys : List (Row V)) (r : Row V) → length (classes V.cmp (xs ++ ys)) ≤ length (classes V.cmp (xs ++ r ∷ ys)) }
     ensures nodes { (xs ys : List (Row V)) (r : Row V) → length (nodes V.cmp (xs ++ ys)) ≤ length (nodes V.cmp (xs ++ r ∷ ys)) }
+{}
+
+/// Where there are rows there is one node more than edges to children: each node but the root is the
+/// child of one node (Lakshmanan, Pei, Zhao, SIGMOD 2003).
+pub fn tree_edges_make_one_tree<V: Value>()
+    ensures { (dims : ℕ) (rows : List (Row V)) (r : Row V) → AllByRecursion (λ row. length row.tuple ≡ dims) rows →
+        Among r rows → suc (tree_edges V.cmp rows) ≡ length (nodes V.cmp rows) }
 {}
