@@ -1,6 +1,5 @@
 -- The laws of closures.
-use Rattle.std.proofs.Common.{◌≡◌, ◌↔◌, ℕ, Bool, true, false, cond, Option, Some, None, List, [], ◌∷◌, ◌++◌, map, filter, refl, sym, ap, subst, ◌∙◌, arith, true≢false}
-use Rattle.std.proofs.lemmas.Bool.{cond-true, cond-false}
+use Rattle.std.proofs.Common.{◌≡◌, ◌↔◌, ℕ, Bool, true, false, cond, Option, Some, None, List, [], ◌∷◌, ◌++◌, map, filter, refl, sym, ap, subst, ◌∙◌, true≢false}
 use Rattle.std.specs.Cmp.{both_ways}
 use Rattle.std.specs.Option.{option_eq}
 use Rattle.std.specs.List.{AllByRecursion}
@@ -87,23 +86,6 @@ module _ {A : Type 0} {eq : A → A → Bool} (law : IsEquality eq) where
   pub meet_all-push : (cs : List (Cell A)) (t : Cell A) → meet_all eq (cs ++ t ∷ []) ≡ Some (with_more eq (meet_all eq cs) t)
   meet_all-push [] t = refl
   meet_all-push (c ∷ cs) t = ap (λ o. Some (meet_next eq c o)) (meet_all-push cs t) ∙ ap (λ d. Some d) (meet_next-more c t (meet_all eq cs))
-
-  pub cov-push : (rows : List (Row A)) (r : Row A) (c : Cell A) → cov eq (rows ++ r ∷ []) c ≡ cond (covers eq c r) (cov eq rows c ++ r ∷ []) (cov eq rows c)
-  cov-push [] r c = refl
-  cov-push (x ∷ rows) r c = grind (arith, cov-push rows r c, cond-true, cond-false)
-
-  -- after a row more, the closure of a cell that covers it is its meet with the row, or the row itself; every other closure stays
-  pub closure-push : (rows : List (Row A)) (r : Row A) (c : Cell A)
-      → closure eq (rows ++ r ∷ []) c ≡ cond (covers eq c r) (Some (with_more eq (closure eq rows c) (cell_of r.tuple))) (closure eq rows c)
-  closure-push rows r c = ap (λ covered. meet_all eq (map (λ row. cell_of row.tuple) covered)) (cov-push rows r c) ∙ go (covers eq c r)
-    where
-      map-push : (xs : List (Row A)) → cells_of (xs ++ r ∷ []) ≡ cells_of xs ++ cell_of r.tuple ∷ []
-      map-push [] = refl
-      map-push (x ∷ xs) = ap (λ ys. cell_of x.tuple ∷ ys) (map-push xs)
-
-      go : (b : Bool) → meet_all eq (cells_of (cond b (cov eq rows c ++ r ∷ []) (cov eq rows c))) ≡ cond b (Some (with_more eq (closure eq rows c) (cell_of r.tuple))) (closure eq rows c)
-      go true = ap (meet_all eq) (map-push (cov eq rows c)) ∙ meet_all-push (cells_of (cov eq rows c)) (cell_of r.tuple)
-      go false = refl
 
   -- a cell below one that covers a row covers a row
   pub meet_all_some : (c d : Cell A) (cs : List (Cell A)) (w : Cell A) → leq eq c d ≡ true → meet_all eq (filter (leq eq d) cs) ≡ Some w → (u : Cell A) × (meet_all eq (filter (leq eq c) cs) ≡ Some u)

@@ -25,4 +25,3 @@ pub mod Icebergs
 pub mod IcebergOrder
 pub mod Divisors
 pub mod FractionOrder
-pub mod Unchanged

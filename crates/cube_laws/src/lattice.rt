@@ -1,6 +1,7 @@
 //! Cells under generalization: an order with a greatest lower bound of each two cells.
-ghost use Rattle.std.specs.Prelude.{IsTrue, length, suc, ℕ, ◌↔◌, ◌≡◌, ◌≤◌};
+ghost use Rattle.std.specs.Prelude.{IsTrue, List, [], length, suc, ℕ, ◌++◌, ◌↔◌, ◌∷◌, ◌≡◌, ◌≤◌};
 ghost use Rattle.cube_defs.specs.Cell.{Cell, cell_eq, depth, keep, last, leq, meet};
+ghost use Rattle.cube_defs.specs.Rows.{meet_all, with_more};
 
 use super::values::Value;
 
@@ -49,4 +50,10 @@ pub fn depth_of_cells<V: Value>()
     ensures none { (c : Cell V) → last c ≡ None → depth c ≡ 0 }
     ensures within { (c : Cell V) → depth c ≤ length c }
     ensures front { (n : ℕ) (c : Cell V) → keep (depth (keep n c)) c ≡ keep n c }
+{}
+
+/// The meet of some cells and one more, put behind them, is the meet so far with it (own).
+pub fn meet_of_one_cell_more<V: Value>()
+    ensures { (cs : List (Cell V)) (c : Cell V) →
+        meet_all V.eq (cs ++ c ∷ []) ≡ Some (with_more V.eq (meet_all V.eq cs) c) }
 {}
