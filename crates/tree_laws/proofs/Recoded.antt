@@ -124,6 +124,10 @@ module _ {A B : Type 0} {cmp : A → A → Ordering} {cmp' : B → B → Orderin
       go true = refl
       go false = ap (λ x. Some x) (keep-coded codes (depth p - 1) 0 p)
 
+  -- a cell that has a closure is known
+  pub known-closed : (p u : Cell A) → closure (eq_by_cmp cmp) rows p ≡ Some u → AreKnown known 0 p
+  known-closed p u e = known-below law known 0 p u (leq-closure law rows p u e) (known-closure law law' tells rows p u h e)
+
   module _ (measures : ℕ) (p : Cell A) (kp : AreKnown known 0 p) (n : Node A (Cell A)) (node : is_node (eq_by_cmp cmp) rows p ≡ true) (is : node_of cmp measures rows p ≡ Some n) where
     closed : (u : Cell A) × (closure (eq_by_cmp cmp) rows p ≡ Some u)
     closed = record_closure total anti measures rows p n is

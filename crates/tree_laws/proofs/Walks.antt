@@ -89,20 +89,20 @@ module _ {A : Type 0} {cmp : A → A → Ordering} (total : IsTotalOrder cmp) (a
           cc
 
   -- from the front that is i dimensions long to the closure
-  walk_rest : (s c : Cell A) (i k : ℕ) (p : Cell A) → length c ≡ dims → drop i c ≡ s → cell_at tree k ≡ Some p → front (eq_by_cmp cmp) rows c i ≡ Some p → option_and_then (cell_at tree) (walk (eq_by_cmp cmp) tree s k i) ≡ closure (eq_by_cmp cmp) rows c
-  walk_rest [] c i k p long d at f = at ∙ sym f ∙ walk_end c i long (omega (arith, drop_end c i d, long))
+  walk_rest : (s c : Cell A) (i k : ℕ) (p : Cell A) → length c ≡ dims → drop i c ≡ s → cell_at tree k ≡ Some p → front (eq_by_cmp cmp) rows c i ≡ Some p → option_map (cell_at tree) (walk (eq_by_cmp cmp) tree s k i) ≡ option_map (λ u. Some u) (closure (eq_by_cmp cmp) rows c)
+  walk_rest [] c i k p long d at f = ap (λ x. Some x) at ∙ ap (option_map (λ u. Some u)) (sym f ∙ walk_end c i long (omega (arith, drop_end c i d, long)))
   walk_rest (a ∷ s) c i k p long d at f = found (λ l x e q h. walk_rest s c (suc i) l x long e q h) (map.get tree k) refl at
     where
-      found : ((l : ℕ) (x : Cell A) → drop (suc i) c ≡ s → cell_at tree l ≡ Some x → front (eq_by_cmp cmp) rows c (suc i) ≡ Some x → option_and_then (cell_at tree) (walk (eq_by_cmp cmp) tree s l (suc i)) ≡ closure (eq_by_cmp cmp) rows c)
-          → (r : Option (Node A ℕ)) → map.get tree k ≡ r → option_map (λ n. n.cell) r ≡ Some p → option_and_then (cell_at tree) (option_and_then (λ n. option_and_then (λ l. walk (eq_by_cmp cmp) tree s l (suc i)) (walk_on (eq_by_cmp cmp) k n i a)) r) ≡ closure (eq_by_cmp cmp) rows c
+      found : ((l : ℕ) (x : Cell A) → drop (suc i) c ≡ s → cell_at tree l ≡ Some x → front (eq_by_cmp cmp) rows c (suc i) ≡ Some x → option_map (cell_at tree) (walk (eq_by_cmp cmp) tree s l (suc i)) ≡ option_map (λ u. Some u) (closure (eq_by_cmp cmp) rows c))
+          → (r : Option (Node A ℕ)) → map.get tree k ≡ r → option_map (λ n. n.cell) r ≡ Some p → option_map (cell_at tree) (option_and_then (λ n. option_and_then (λ l. walk (eq_by_cmp cmp) tree s l (suc i)) (walk_on (eq_by_cmp cmp) k n i a)) r) ≡ option_map (λ u. Some u) (closure (eq_by_cmp cmp) rows c)
       found more None g at = cc
       found more (Some n) g at = go (walk_on (eq_by_cmp cmp) k n i a) (front (eq_by_cmp cmp) rows c (suc i)) refl refl (walk_step k n c i a long e.0 (omega (arith, e.2, long)) g (at ∙ sym f))
         where
           e : (slice_get c i ≡ Some a) × (drop (suc i) c ≡ s) × (i < length c)
           e = dropped c i a s d
 
-          go : (o : Option ℕ) (q : Option (Cell A)) → walk_on (eq_by_cmp cmp) k n i a ≡ o → front (eq_by_cmp cmp) rows c (suc i) ≡ q → option_map (cell_at tree) o ≡ option_map (λ c. Some c) q → option_and_then (cell_at tree) (option_and_then (λ l. walk (eq_by_cmp cmp) tree s l (suc i)) o) ≡ closure (eq_by_cmp cmp) rows c
-          go None None w h j = sym (walk_stops c (suc i) h)
+          go : (o : Option ℕ) (q : Option (Cell A)) → walk_on (eq_by_cmp cmp) k n i a ≡ o → front (eq_by_cmp cmp) rows c (suc i) ≡ q → option_map (cell_at tree) o ≡ option_map (λ c. Some c) q → option_map (cell_at tree) (option_and_then (λ l. walk (eq_by_cmp cmp) tree s l (suc i)) o) ≡ option_map (λ u. Some u) (closure (eq_by_cmp cmp) rows c)
+          go None None w h j = ap (option_map (λ u. Some u)) (sym (walk_stops c (suc i) h))
           go None (Some x) w h j = cc
           go (Some l) None w h j = cc
           go (Some l) (Some x) w h j = more l x e.1 (some_same j) h
@@ -114,7 +114,7 @@ module _ {A : Type 0} {cmp : A → A → Ordering} (total : IsTotalOrder cmp) (a
   root_front c long u e = ap (option_map (keep 0)) e ∙ ap (λ x. Some x) (root u (closure_length (eq_by_cmp cmp) dims (keep 0 c) u rows wide e))
 
   -- from the root's number
-  pub walk_found : (k : ℕ) (c : Cell A) → length c ≡ dims → cell_at tree k ≡ Some (replicate dims None) → option_and_then (cell_at tree) (walk (eq_by_cmp cmp) tree c k 0) ≡ closure (eq_by_cmp cmp) rows c
+  pub walk_found : (k : ℕ) (c : Cell A) → length c ≡ dims → cell_at tree k ≡ Some (replicate dims None) → option_map (cell_at tree) (walk (eq_by_cmp cmp) tree c k 0) ≡ option_map (λ u. Some u) (closure (eq_by_cmp cmp) rows c)
   walk_found k c long at = go (closure (eq_by_cmp cmp) rows (keep 0 c)) refl
     where
       node : is_node (eq_by_cmp cmp) rows (keep 0 c) ≡ true
@@ -124,7 +124,7 @@ module _ {A : Type 0} {cmp : A → A → Ordering} (total : IsTotalOrder cmp) (a
           by None g = let none : cell_at tree k ≡ None = ap (option_map (λ n. n.cell)) g in cc
           by (Some n) g = let s : cell_at tree k ≡ Some n.cell = ap (option_map (λ n. n.cell)) g in subst (λ p. is_node (eq_by_cmp cmp) rows p ≡ true) (some_same (sym s ∙ at) ∙ sym (root c long)) (canonical.each k n g).0
 
-      go : (o : Option (Cell A)) → closure (eq_by_cmp cmp) rows (keep 0 c) ≡ o → option_and_then (cell_at tree) (walk (eq_by_cmp cmp) tree c k 0) ≡ closure (eq_by_cmp cmp) rows c
+      go : (o : Option (Cell A)) → closure (eq_by_cmp cmp) rows (keep 0 c) ≡ o → option_map (cell_at tree) (walk (eq_by_cmp cmp) tree c k 0) ≡ option_map (λ u. Some u) (closure (eq_by_cmp cmp) rows c)
       go None e = let bad : None ≡ Some (keep 0 c) = sym (ap (option_map (keep (depth (keep 0 c)))) e) ∙ (is_node-is law rows (keep 0 c)).0 node in cc
       go (Some u) e = walk_rest c c 0 k (replicate dims None) long refl at (root_front c long u e)
 

@@ -6,7 +6,7 @@ ghost use Rattle.std.specs.Prelude.{Bool, IsTrue, List, Some, length, map, ℕ, 
 ghost use Rattle.cube_defs.specs.Cell.{Cell};
 ghost use Rattle.cube_defs.specs.Rows.{Row, is_node};
 ghost use Rattle.cube_defs.specs.Tree.{Node, classes, links, node_of, nodes, tree_edges};
-ghost use Rattle.cube_laws.specs.Recoding.{AreKnown, RowsAreKnown, TellsApart, coded, coded_row};
+ghost use Rattle.cube_laws.specs.Recoding.{RowsAreKnown, TellsApart, coded, coded_row};
 ghost use Rattle.tree_laws.specs.Edges.{IsCodedNode};
 
 use cube_laws::values::Value;
@@ -16,7 +16,7 @@ use cube_laws::values::Value;
 pub fn records_under_recoding<A: Value, B: Value>()
     ensures { (known : ℕ → A → Bool) (codes : ℕ → A → B) → TellsApart known codes →
         (measures : ℕ) (rows : List (Row A)) (p : Cell A) (n : Node A (Cell A)) →
-        RowsAreKnown known rows → AreKnown known 0 p → IsTrue (is_node (eq_by_cmp A.cmp) rows p) →
+        RowsAreKnown known rows → IsTrue (is_node (eq_by_cmp A.cmp) rows p) →
         node_of A.cmp measures rows p ≡ Some n →
         (m : Node B (Cell B)) × (node_of B.cmp measures (map (coded_row codes) rows) (coded codes 0 p) ≡ Some m) × IsCodedNode codes n m }
 {}

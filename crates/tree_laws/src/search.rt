@@ -4,7 +4,7 @@
 //! own; trees of classes are those of Lakshmanan, Pei, Zhao, SIGMOD 2003.
 ghost use Rattle.std.specs.FinMap as map;
 ghost use Rattle.std.specs.List.{AllByRecursion};
-ghost use Rattle.std.specs.Option.{option_and_then, option_map};
+ghost use Rattle.std.specs.Option.{option_map};
 ghost use Rattle.std.specs.Ordering.{eq_by_cmp};
 ghost use Rattle.std.specs.Prelude.{IsTrue, List, None, Option, Some, filter, length, replicate, slice_get, suc, ℕ, ◌<◌, ◌↔◌, ◌≡◌, ◌≢◌};
 ghost use Rattle.cube_defs.specs.Answers.{lower_bounds};
@@ -23,7 +23,8 @@ pub fn search_finds_the_closure<V: Value>()
     ensures found { (dims measures : ℕ) (rows : List (Row V)) (tree : Tree V) (root : ℕ) (c : Cell V) →
         AllByRecursion (λ row. length row.tuple ≡ dims) rows → IsCanonical V.cmp measures rows tree →
         length c ≡ dims → cell_at tree root ≡ Some (replicate dims None) →
-        option_and_then (cell_at tree) (walk (eq_by_cmp V.cmp) tree c root 0) ≡ closure (eq_by_cmp V.cmp) rows c }
+        option_map (cell_at tree) (walk (eq_by_cmp V.cmp) tree c root 0)
+        ≡ option_map (λ u. Some u) (closure (eq_by_cmp V.cmp) rows c) }
     ensures no_root { (dims measures : ℕ) (rows : List (Row V)) (tree : Tree V) (c : Cell V) →
         AllByRecursion (λ row. length row.tuple ≡ dims) rows → IsCanonical V.cmp measures rows tree →
         length c ≡ dims → ((k : ℕ) → cell_at tree k ≢ Some (replicate dims None)) →

@@ -1,6 +1,9 @@
-use Rattle.tree_laws.proofs.Recoded.{record-coded}
+use Rattle.tree_laws.proofs.Recoded.{known-closed, record-coded}
+use Rattle.tree_laws.proofs.Records.{record_closure}
 use Rattle.tree_laws.proofs.recoding.records_under_recoding.Goals as goal
 
 pub returns : goal.returns
 returns g c =
-    λ known codes tells measures rows p n h kp node is. record-coded g.met.A.Ord.total g.met.A.Value.apart g.met.B.Ord.total g.met.B.Value.apart tells rows h measures p kp n node is
+    λ known codes tells measures rows p n h node is.
+    let u = record_closure g.met.A.Ord.total g.met.A.Value.apart measures rows p n is in
+    record-coded g.met.A.Ord.total g.met.A.Value.apart g.met.B.Ord.total g.met.B.Value.apart tells rows h measures p (known-closed g.met.A.Ord.total g.met.A.Value.apart g.met.B.Ord.total g.met.B.Value.apart tells rows h p u.0 u.1) n node is
