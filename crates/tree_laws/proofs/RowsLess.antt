@@ -1,15 +1,23 @@
 -- Which nodes stay as rows go, and where their forced children stand.
-use Rattle.std.proofs.Common.{◌≡◌, ◌↔◌, ℕ, zero, suc, ◌≤◌, min, Bool, true, Some, None, List, [], ◌∷◌, length, refl, sym, ap, ap₂, ◌∙◌, true≢false, arith}
+use Rattle.std.proofs.Common.{◌≡◌, ◌≢◌, ◌↔◌, ◌++◌, ℕ, zero, suc, ◌≤◌, min, slice_get, Bool, true, Some, None, List, [], ◌∷◌, length, refl, sym, ap, ap₂, ◌∙◌, true≢false, arith}
 use Rattle.std.proofs.lemmas.Bool.{and_parts}
 use Rattle.std.specs.declared.cmp.Ordering.{Ordering}
 use Rattle.std.specs.List.{position_or_len}
 use Rattle.std.specs.Option.{option_map, is_some}
-use Rattle.cube_defs.specs.Cell.{Cell, entry_leq, leq, depth, keep}
-use Rattle.cube_defs.specs.Rows.{Row, closure, is_node}
-use Rattle.cube_defs.specs.Tree.{next_value}
+use Rattle.cube_defs.specs.Cell.{Cell, entry_leq, leq, depth, keep, upto}
+use Rattle.cube_defs.specs.Rows.{Row, covers, closure, is_node}
+use Rattle.cube_defs.specs.Tree.{Edge, next_value}
 use Rattle.cube_laws.proofs.Cells.{IsEquality, length-keep, depth-le}
-use Rattle.cube_laws.proofs.Nodes.{is_node-is}
-use Rattle.tree_laws.specs.Labels.{first_new}
+use Rattle.cube_laws.proofs.Nodes.{is_node-is, front_of_class}
+use Rattle.cube_laws.specs.Lists.{Among}
+use Rattle.cube_laws.proofs.OneRow.{closure_grows, node-insert}
+use Rattle.cube_laws.proofs.Orders.{equality_by}
+use Rattle.std.specs.Ordering.{eq_by_cmp}
+use Rattle.std.specs.Cmp.{IsTotalOrder}
+use Rattle.std.specs.FinMap.{IsAntisymmetric}
+use Rattle.tree_laws.specs.Labels.{first_new, lead, IsLabel, IsWithin, record_of}
+use Rattle.tree_laws.proofs.Edges.{edges-are}
+use Rattle.tree_laws.proofs.Leads.{lead_other, lead_less}
 
 module _ {A : Type 0} {eq : A → A → Bool} (law : IsEquality eq) where
   keep_zero_same : (u w : Cell A) → length u ≡ length w → keep zero w ≡ keep zero u
@@ -67,3 +75,55 @@ module _ {A : Type 0} {eq : A → A → Bool} (law : IsEquality eq) where
   next_after cmp (suc n) (None ∷ u) (Some v ∷ w) h l m = absurd (omega arith)
   next_after cmp (suc n) (None ∷ u) (None ∷ w) h l m = let f = next_after cmp n u w h (omega arith) (omega arith) in omega arith
   next_after cmp (suc n) (Some a ∷ u) (f ∷ w) h l m = let k : leq eq u w ≡ true = (and_parts (entry_leq eq (Some a) f) (leq eq u w) h).1 in let g = next_after cmp n u w k (omega arith) (omega arith) in omega arith
+
+-- the record of a node after a row that it covers has gone, by its record before
+module _ {A : Type 0} {cmp : A → A → Ordering} (total : IsTotalOrder cmp) (anti : IsAntisymmetric cmp) (measures : ℕ) (xs : List (Row A)) (r : Row A) (ys : List (Row A)) (p u w : Cell A) (c : covers (eq_by_cmp cmp) p r ≡ true)
+    (e : closure (eq_by_cmp cmp) (xs ++ r ∷ ys) p ≡ Some u) (f : closure (eq_by_cmp cmp) (xs ++ ys) p ≡ Some w) (node : is_node (eq_by_cmp cmp) (xs ++ ys) p ≡ true) where
+  law_by : IsEquality (eq_by_cmp cmp)
+  law_by = equality_by total anti
+
+  node_before : is_node (eq_by_cmp cmp) (xs ++ r ∷ ys) p ≡ true
+  node_before = node-insert law_by xs r ys p node
+
+  front_before : keep (depth p) u ≡ p
+  front_before = (front_of_class law_by (xs ++ r ∷ ys) p u e node_before).1
+
+  front_after : keep (depth p) w ≡ p
+  front_after = (front_of_class law_by (xs ++ ys) p w f node).1
+
+  long : length u ≡ length w
+  long = sym (length-keep (depth p) u) ∙ ap length (front_before ∙ sym front_after) ∙ length-keep (depth p) w
+
+  -- the labels reach no further than before
+  pub no_further : next_value cmp (depth p) w ≤ next_value cmp (depth p) u
+  no_further =
+      let up : leq (eq_by_cmp cmp) u w ≡ true = closure_grows law_by xs r ys p u w e f in
+      let stays : depth p ≤ first_new u w = (node_after law_by (xs ++ r ∷ ys) (xs ++ ys) p u w node_before e f up long).0 node in
+      omega (arith, next_after law_by cmp (depth p) u w up long stays)
+
+  module _ (x : Edge A (Cell A)) where
+    before : Among x (record_of cmp measures (xs ++ r ∷ ys) p u).edges ↔ IsLabel cmp (xs ++ r ∷ ys) p (next_value cmp (depth p) u) x
+    before = edges-are total anti measures (xs ++ r ∷ ys) p u e front_before x
+
+    after : Among x (record_of cmp measures (xs ++ ys) p w).edges ↔ IsLabel cmp (xs ++ ys) p (next_value cmp (depth p) w) x
+    after = edges-are total anti measures (xs ++ ys) p w f front_after x
+
+    -- an edge with another value than the row's was there
+    pub other_edge_less : slice_get r.tuple x.dim ≢ Some x.value → Among x (record_of cmp measures (xs ++ ys) p w).edges ↔ (IsWithin p (next_value cmp (depth p) w) x.dim × Among x (record_of cmp measures (xs ++ r ∷ ys) p u).edges)
+    other_edge_less o = (
+      λ m. let l = after.0 m in (l.place, before.1 (record { place = record { behind = l.place.behind; before = omega (arith, l.place.before, no_further); within = l.place.within }; leads = same l.place ∙ l.leads })),
+      λ h. after.1 (record { place = h.0; leads = sym (same h.0) ∙ (before.0 h.1).leads }),
+    )
+      where
+        same : IsWithin p (next_value cmp (depth p) w) x.dim → lead (eq_by_cmp cmp) (xs ++ r ∷ ys) p x.dim x.value ≡ lead (eq_by_cmp cmp) (xs ++ ys) p x.dim x.value
+        same i = lead_other law_by xs r ys p x.dim x.value c i.behind i.within o
+
+    -- the one with the row's value leads from its old target to the front of what closure that has now
+    pub own_edge_less : (t : Cell A) → Among (record { dim = x.dim; value = x.value; target = t }) (record_of cmp measures (xs ++ r ∷ ys) p u).edges
+        → Among x (record_of cmp measures (xs ++ ys) p w).edges ↔ (IsWithin p (next_value cmp (depth p) w) x.dim × (option_map (λ z. upto z x.dim) (closure (eq_by_cmp cmp) (xs ++ ys) t) ≡ Some x.target))
+    own_edge_less t m =
+        let l = (edges-are total anti measures (xs ++ r ∷ ys) p u e front_before (record { dim = x.dim; value = x.value; target = t })).0 m in
+        let moved : lead (eq_by_cmp cmp) (xs ++ ys) p x.dim x.value ≡ option_map (λ z. upto z x.dim) (closure (eq_by_cmp cmp) (xs ++ ys) t) = lead_less law_by xs r ys p t x.dim x.value l.place.behind l.place.within l.leads in (
+          λ k. let a = after.0 k in (a.place, sym moved ∙ a.leads),
+          λ h. after.1 (record { place = h.0; leads = moved ∙ h.1 }),
+        )

@@ -69,6 +69,30 @@ pub fn labels_with_one_row_less<V: Value>()
         lead (eq_by_cmp V.cmp) (xs ++ r ∷ ys) p i v ≡ None → lead (eq_by_cmp V.cmp) (xs ++ ys) p i v ≡ None }
 {}
 
+/// The edges of a node's record after a row that it covers has gone, by its record before: those with
+/// another value than the row's that are within its new reach, and those that lead from an old target
+/// to the front of the closure that this has now.
+pub fn edges_with_one_row_less<V: Value>()
+    ensures reach { (xs ys : List (Row V)) (r : Row V) (p u w : Cell V) → IsTrue (covers (eq_by_cmp V.cmp) p r) →
+        closure (eq_by_cmp V.cmp) (xs ++ r ∷ ys) p ≡ Some u → closure (eq_by_cmp V.cmp) (xs ++ ys) p ≡ Some w →
+        IsTrue (is_node (eq_by_cmp V.cmp) (xs ++ ys) p) →
+        next_value V.cmp (depth p) w ≤ next_value V.cmp (depth p) u }
+    ensures other { (measures : ℕ) (xs ys : List (Row V)) (r : Row V) (p u w : Cell V) (x : Edge V (Cell V)) →
+        IsTrue (covers (eq_by_cmp V.cmp) p r) →
+        closure (eq_by_cmp V.cmp) (xs ++ r ∷ ys) p ≡ Some u → closure (eq_by_cmp V.cmp) (xs ++ ys) p ≡ Some w →
+        IsTrue (is_node (eq_by_cmp V.cmp) (xs ++ ys) p) → slice_get r.tuple x.dim ≢ Some x.value →
+        Among x (record_of V.cmp measures (xs ++ ys) p w).edges
+        ↔ (IsWithin p (next_value V.cmp (depth p) w) x.dim × Among x (record_of V.cmp measures (xs ++ r ∷ ys) p u).edges) }
+    ensures led { (measures : ℕ) (xs ys : List (Row V)) (r : Row V) (p u w t : Cell V) (x : Edge V (Cell V)) →
+        IsTrue (covers (eq_by_cmp V.cmp) p r) →
+        closure (eq_by_cmp V.cmp) (xs ++ r ∷ ys) p ≡ Some u → closure (eq_by_cmp V.cmp) (xs ++ ys) p ≡ Some w →
+        IsTrue (is_node (eq_by_cmp V.cmp) (xs ++ ys) p) →
+        Among (record { dim = x.dim; value = x.value; target = t }) (record_of V.cmp measures (xs ++ r ∷ ys) p u).edges →
+        Among x (record_of V.cmp measures (xs ++ ys) p w).edges
+        ↔ (IsWithin p (next_value V.cmp (depth p) w) x.dim
+        × (option_map (λ z. upto z x.dim) (closure (eq_by_cmp V.cmp) (xs ++ ys) t) ≡ Some x.target)) }
+{}
+
 /// Which cells that cover the row are nodes after it has come.
 pub fn nodes_with_one_row_more<V: Value>()
     ensures alone { (xs ys : List (Row V)) (r : Row V) (p : Cell V) → IsTrue (covers (eq_by_cmp V.cmp) p r) →
