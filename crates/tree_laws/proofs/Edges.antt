@@ -80,9 +80,6 @@ module _ {A : Type 0} {cmp : A → A → Ordering} (total : IsTotalOrder cmp) (a
     pub long : length p ≡ length u
     long = sym (ap length front) ∙ length-keep (depth p) u
 
-    forced_at : ℕ
-    forced_at = next_value cmp (depth p) u
-
     abbrev made_forced : Option (Option A) → Option (Edge A (Cell A))
     made_forced o = option_and_then (λ entry. option_map (λ v. record { dim = next_value cmp (depth p) u; value = v; target = with_value p (next_value cmp (depth p) u) v }) entry) o
 

@@ -13,13 +13,12 @@ use Rattle.cube_laws.specs.Lists.{Among}
 use Rattle.cube_laws.specs.Recoding.{coded, coded_tuple, coded_row, TellsApart, AreKnown, RowsAreKnown}
 use Rattle.cube_laws.proofs.Lists.{all_at, among_map}
 use Rattle.cube_laws.proofs.Cells.{IsEquality}
-use Rattle.cube_laws.proofs.Closures.{leq-closure}
 use Rattle.cube_laws.proofs.Covered.{some_covered}
 use Rattle.cube_laws.proofs.Columns.{one_value, one_value-leq, slice_get-cell_of}
 use Rattle.cube_laws.proofs.Orders.{equality_by}
 use Rattle.cube_laws.proofs.Recoded.{closure-coded, known-closure, cell_eq-coded}
 use Rattle.cube_laws.proofs.RecodedRows.{length-coded, depth-coded, keep-coded, known-keep, agg-coded, is_node-coded}
-use Rattle.cube_laws.proofs.RecodedLists.{known-below}
+use Rattle.cube_laws.proofs.RecodedLists.{known-closed}
 use Rattle.tree_laws.specs.Labels.{lead, IsLabel, record_of}
 use Rattle.tree_laws.specs.Edges.{coded_edge, IsCodedNode}
 use Rattle.tree_laws.proofs.Lists.{some_same}
@@ -96,7 +95,7 @@ module _ {A B : Type 0} {cmp : A → A → Ordering} {cmp' : B → B → Orderin
     where
       go : (o : Option (Cell A)) → closure (eq_by_cmp cmp) rows (with_value p i v) ≡ o → option_map (λ w. upto w i) o ≡ Some c → AreKnown known 0 (with_value p i v)
       go None q k = cc
-      go (Some w) q k = known-below law known 0 (with_value p i v) w (leq-closure law rows (with_value p i v) w q) (known-closure law law' tells rows (with_value p i v) w h q)
+      go (Some w) q k = known-closed law known rows (with_value p i v) w h q
 
   -- and what leads somewhere among the codes is the code of a value
   value-of : (p : Cell A) (i : ℕ) (w : B) (d : Cell B) → AreKnown known 0 p → depth p ≤ i → i < length p → lead (eq_by_cmp cmp') (map (coded_row codes) rows) (coded codes 0 p) i w ≡ Some d → (v : A) × (w ≡ codes i v) × (known i v ≡ true)
@@ -123,10 +122,6 @@ module _ {A B : Type 0} {cmp : A → A → Ordering} {cmp' : B → B → Orderin
       go : (b : Bool) → cond b None (Some (keep (depth p - 1) (coded codes 0 p))) ≡ option_map (coded codes 0) (cond b None (Some (keep (depth p - 1) p)))
       go true = refl
       go false = ap (λ x. Some x) (keep-coded codes (depth p - 1) 0 p)
-
-  -- a cell that has a closure is known
-  pub known-closed : (p u : Cell A) → closure (eq_by_cmp cmp) rows p ≡ Some u → AreKnown known 0 p
-  known-closed p u e = known-below law known 0 p u (leq-closure law rows p u e) (known-closure law law' tells rows p u h e)
 
   module _ (measures : ℕ) (p : Cell A) (kp : AreKnown known 0 p) (n : Node A (Cell A)) (node : is_node (eq_by_cmp cmp) rows p ≡ true) (is : node_of cmp measures rows p ≡ Some n) where
     closed : (u : Cell A) × (closure (eq_by_cmp cmp) rows p ≡ Some u)
