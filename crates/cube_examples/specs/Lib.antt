@@ -1,0 +1,4 @@
+pub mod Shop
+pub mod Codes
+pub mod Texts
+pub mod Sales

@@ -1,0 +1,131 @@
+-- The fronts of cells, and cells with a value more.
+use Rattle.std.proofs.Common.{◌≡◌, ℕ, zero, suc, ◌≤◌, ◌<◌, Bool, true, ◌&&◌, Option, Some, None, [], ◌∷◌, length, slice_get, refl, sym, ap, ◌∙◌, arith}
+use Rattle.std.proofs.lemmas.Bool.{and_parts, and_from}
+use Rattle.cube_defs.specs.Cell.{Cell, entry_leq, leq, entry_meet, meet, depth, one_deeper, keep, upto, with_value}
+use Rattle.cube_laws.proofs.Cells.{IsEquality, leq_refl, depth-keep_zero, one_deeper-le}
+use Rattle.cube_laws.proofs.Columns.{one_value}
+
+pub shallower : {A : Type 0} (e : Option A) (n i : ℕ) → one_deeper e n ≤ suc i → n ≤ i
+shallower None zero i h = omega arith
+shallower None (suc n) i h = omega arith
+shallower (Some v) n i h = omega arith
+
+module _ {A : Type 0} where
+  pub depth-keep-le : (n : ℕ) (c : Cell A) → depth (keep n c) ≤ n
+  depth-keep-le n [] = omega arith
+  depth-keep-le zero (e ∷ c) = omega (arith, depth-keep_zero (e ∷ c))
+  depth-keep-le (suc n) (e ∷ c) = one_deeper-le e (depth (keep n c)) n (depth-keep-le n c)
+
+  pub keep-beyond : (n : ℕ) (c : Cell A) → depth c ≤ n → keep n c ≡ c
+  keep-beyond n [] h = refl
+  keep-beyond zero (None ∷ c) h = ap (λ x. None ∷ x) (keep-beyond zero c (shallower_zero (depth c) h))
+    where
+      shallower_zero : (m : ℕ) → one_deeper {A = A} None m ≤ 0 → m ≤ 0
+      shallower_zero zero h = omega arith
+      shallower_zero (suc m) h = absurd (omega arith)
+  keep-beyond zero (Some v ∷ c) h = absurd (omega arith)
+  keep-beyond (suc n) (e ∷ c) h = ap (λ x. e ∷ x) (keep-beyond n c (shallower e (depth c) n h))
+
+  pub depth-with_value : (p : Cell A) (i : ℕ) (v : A) → depth p ≤ i → i < length p → depth (with_value p i v) ≡ suc i
+  depth-with_value [] i v h l = absurd (omega arith)
+  depth-with_value (None ∷ p) zero v h l = ap suc (none_left (depth p) h)
+    where
+      none_left : (n : ℕ) → one_deeper {A = A} None n ≤ 0 → n ≡ 0
+      none_left zero h = refl
+      none_left (suc n) h = absurd (omega arith)
+  depth-with_value (Some w ∷ p) zero v h l = absurd (omega arith)
+  depth-with_value (e ∷ p) (suc i) v h l = ap (one_deeper e) (depth-with_value p i v (shallower e (depth p) i h) (omega arith)) ∙ deep e
+    where
+      deep : (e : Option A) → one_deeper e (suc i) ≡ suc (suc i)
+      deep None = refl
+      deep (Some w) = refl
+
+  -- a cell's last value stands behind its front
+  pub split_last : (c : Cell A) (i : ℕ) → depth c ≡ suc i → (v : A) × (c ≡ with_value (keep i c) i v) × (slice_get c i ≡ Some (Some v))
+  split_last [] i h = absurd (omega arith)
+  split_last (e ∷ c) i h = go (split_last c) e i (depth c) refl h
+    where
+      go : ((i : ℕ) → depth c ≡ suc i → (v : A) × (c ≡ with_value (keep i c) i v) × (slice_get c i ≡ Some (Some v))) → (e : Option A) (i n : ℕ) → depth c ≡ n → one_deeper e n ≡ suc i
+          → (v : A) × (e ∷ c ≡ with_value (keep i (e ∷ c)) i v) × (slice_get (e ∷ c) i ≡ Some (Some v))
+      go more None i zero is k = absurd (omega arith)
+      go more None zero (suc n) is k = absurd (omega arith)
+      go more None (suc i) (suc n) is k = let r : (v : A) × (c ≡ with_value (keep i c) i v) × (slice_get c i ≡ Some (Some v)) = more i (omega (arith, is, k)) in (r.0, ap (λ x. None ∷ x) r.1, r.2)
+      go more (Some v) zero n is k = (v, ap (λ x. Some v ∷ x) (sym (keep-beyond zero c (omega (arith, is, k)))), refl)
+      go more (Some w) (suc i) n is k = let r : (v : A) × (c ≡ with_value (keep i c) i v) × (slice_get c i ≡ Some (Some v)) = more i (omega (arith, is, k)) in (r.0, ap (λ x. Some w ∷ x) r.1, r.2)
+
+  pub keep-keep : (k n : ℕ) (u : Cell A) → k ≤ n → keep k (keep n u) ≡ keep k u
+  keep-keep k n [] h = refl
+  keep-keep zero zero (e ∷ u) h = ap (λ x. None ∷ x) (keep-keep zero zero u h)
+  keep-keep zero (suc n) (e ∷ u) h = ap (λ x. None ∷ x) (keep-keep zero n u (omega arith))
+  keep-keep (suc k) zero (e ∷ u) h = absurd (omega arith)
+  keep-keep (suc k) (suc n) (e ∷ u) h = ap (λ x. e ∷ x) (keep-keep k n u (omega arith))
+
+  -- behind a cell's last value there is Any
+  pub any_behind : (p : Cell A) (i : ℕ) → depth p ≤ i → i < length p → slice_get p i ≡ Some None
+  any_behind [] i h l = absurd (omega arith)
+  any_behind (None ∷ p) zero h l = refl
+  any_behind (Some v ∷ p) zero h l = absurd (omega arith)
+  any_behind (e ∷ p) (suc i) h l = any_behind p i (shallower e (depth p) i h) (omega arith)
+
+  -- a front one longer
+  pub upto-entry : (u : Cell A) (e : ℕ) (w : A) → slice_get u e ≡ Some (Some w) → upto u e ≡ with_value (keep e u) e w
+  upto-entry [] e w h = cc
+  upto-entry (f ∷ u) zero w h = ap (λ x. x ∷ keep zero u) (cc)
+  upto-entry (f ∷ u) (suc e) w h = ap (λ x. f ∷ x) (upto-entry u e w h)
+
+  pub upto-none : (u : Cell A) (e : ℕ) → slice_get u e ≡ Some None → upto u e ≡ keep e u
+  upto-none [] e h = refl
+  upto-none (f ∷ u) zero h = ap (λ x. x ∷ keep zero u) (cc)
+  upto-none (f ∷ u) (suc e) h = ap (λ x. f ∷ x) (upto-none u e h)
+
+module _ {A : Type 0} {eq : A → A → Bool} (law : IsEquality eq) where
+  -- p + (i, v) is below what p and the value are below
+  pub with_value-leq : (p d : Cell A) (i : ℕ) (v : A) → depth p ≤ i → i < length p → leq eq (with_value p i v) d ≡ (leq eq p d && leq eq (one_value i v) d)
+  with_value-leq [] d i v h l = absurd (omega arith)
+  with_value-leq (Some w ∷ p) d zero v h l = absurd (omega arith)
+  with_value-leq (None ∷ p) [] zero v h l = refl
+  with_value-leq (None ∷ p) (f ∷ d) zero v h l = turned (entry_leq eq (Some v) f) (leq eq p d)
+    where
+      turned : (a b : Bool) → (a && b) ≡ (b && (a && true))
+      turned a b = grind arith
+  with_value-leq (e ∷ p) [] (suc i) v h l = refl
+  with_value-leq (e ∷ p) (f ∷ d) (suc i) v h l = ap (λ x. entry_leq eq e f && x) (with_value-leq p d i v (shallower e (depth p) i h) (omega arith)) ∙ grouped (entry_leq eq e f) (leq eq p d) (leq eq (one_value i v) d)
+    where
+      grouped : (a b c : Bool) → (a && (b && c)) ≡ ((a && b) && c)
+      grouped a b c = grind arith
+
+  -- a value behind a cell's last leads to a greater cell
+  pub leq-with_value : (p : Cell A) (i : ℕ) (v : A) → depth p ≤ i → leq eq p (with_value p i v) ≡ true
+  leq-with_value [] i v h = refl
+  leq-with_value (None ∷ p) zero v h = leq_refl law p
+  leq-with_value (Some w ∷ p) zero v h = absurd (omega arith)
+  leq-with_value (e ∷ p) (suc i) v h = and_from _ _ (and_parts (entry_leq eq e e) (leq eq p p) (leq_refl law (e ∷ p))).0 (leq-with_value p i v (shallower e (depth p) i h))
+
+  pub keep-meet : (n : ℕ) (w d : Cell A) → keep n (meet eq w d) ≡ meet eq (keep n w) d
+  keep-meet n [] d = refl
+  keep-meet zero (e ∷ w) [] = refl
+  keep-meet (suc n) (e ∷ w) [] = refl
+  keep-meet zero (e ∷ w) (f ∷ d) = ap (λ x. None ∷ x) (keep-meet zero w d)
+  keep-meet (suc n) (e ∷ w) (f ∷ d) = ap (λ x. entry_meet eq e f ∷ x) (keep-meet n w d)
+
+module _ {A : Type 0} where
+  pub with_value-there : (p : Cell A) (i : ℕ) (v : A) → i < length p → slice_get (with_value p i v) i ≡ Some (Some v)
+  with_value-there [] i v l = absurd (omega arith)
+  with_value-there (e ∷ p) zero v l = refl
+  with_value-there (e ∷ p) (suc i) v l = with_value-there p i v (omega arith)
+
+  pub with_value-other : (p : Cell A) (i : ℕ) (v : A) (k : ℕ) → k < i → slice_get (with_value p i v) k ≡ slice_get p k
+  with_value-other [] i v k l = refl
+  with_value-other (f ∷ p) zero v k l = absurd (omega arith)
+  with_value-other (f ∷ p) (suc i) v zero l = refl
+  with_value-other (f ∷ p) (suc i) v (suc k) l = with_value-other p i v k (omega arith)
+
+  pub depth-one_value : (i : ℕ) (v : A) → depth (one_value i v) ≡ suc i
+  depth-one_value zero v = refl
+  depth-one_value (suc i) v = ap (one_deeper {A = A} None) (depth-one_value i v)
+
+  pub get-keep : (k n : ℕ) (c : Cell A) → k < n → slice_get (keep n c) k ≡ slice_get c k
+  get-keep k n [] h = refl
+  get-keep k zero (e ∷ c) h = absurd (omega arith)
+  get-keep zero (suc n) (e ∷ c) h = refl
+  get-keep (suc k) (suc n) (e ∷ c) h = get-keep k n c (omega arith)

@@ -1,0 +1,177 @@
+-- One step of a search, from the front of a closure to the next.
+use Rattle.std.proofs.Common.{◌≡◌, inl, inr, ℕ, zero, suc, ◌<◌, Bool, true, false, cond, ◌&&◌, Option, Some, None, List, [], ◌∷◌, map, length, slice_get, refl, sym, ap, ap₂, subst, ◌∙◌, arith, nat_eq, eqb-true, eq-eqb, true≢false}
+use Rattle.std.proofs.lemmas.Bool.{and_parts, and_from, cond-true, cond-false, false_from_ne_true}
+use Rattle.std.specs.declared.cmp.Ordering.{Ordering}
+use Rattle.std.specs.Ordering.{eq_by_cmp}
+use Rattle.std.specs.Cmp.{IsTotalOrder}
+use Rattle.std.specs.FinMap.{IsAntisymmetric}
+use Rattle.std.specs.Option.{option_map, option_and_then}
+use Rattle.cube_defs.specs.Cell.{Cell, depth, keep, upto, with_value}
+use Rattle.cube_defs.specs.Rows.{Row, closure}
+use Rattle.cube_defs.specs.Tree.{Edge, Node, next_value, forced_child, renamed, renamed_edge}
+use Rattle.cube_laws.specs.Lists.{Among}
+use Rattle.cube_laws.proofs.Cells.{IsEquality, keep-leq, length-keep, keep-depth_keep}
+use Rattle.cube_laws.proofs.Orders.{equality_by}
+use Rattle.tree_laws.specs.Labels.{lead, IsLabel, record_of}
+use Rattle.tree_laws.specs.Walk.{target_at, by_entry, to_child, by_forced, walk_on, front}
+use Rattle.tree_laws.proofs.Lists.{some_same, first_of_range}
+use Rattle.tree_laws.proofs.Fronts.{depth-keep-le, upto-entry, upto-none}
+use Rattle.tree_laws.proofs.Nexts.{next-chain, before-next}
+use Rattle.tree_laws.proofs.Leads.{closure_between, closure_with, leq-chain}
+use Rattle.tree_laws.proofs.Edges.{edges-are, forced_lead, only_forced}
+
+module _ {A : Type 0} {eq : A → A → Bool} (law : IsEquality eq) where
+  module _ {T : Type 0} (i : ℕ) (v : A) where
+    matches : (x : Edge A T) → (nat_eq x.dim i && eq x.value v) ≡ true → (x.dim ≡ i) × (x.value ≡ v)
+    matches x h = let p = and_parts (nat_eq x.dim i) (eq x.value v) h in (eqb-true x.dim i p.0, law.exact x.value v p.1)
+
+    target_none : (xs : List (Edge A T)) → ((x : Edge A T) → Among x xs → x.dim ≡ i → x.value ≡ v → ⊥) → target_at eq i v xs ≡ None
+    target_none [] f = refl
+    target_none (x ∷ xs) f = cond-false _ _ _ (false_from_ne_true _ (λ h. let m = matches x h in f x (inl refl) m.0 m.1)) ∙ target_none xs (λ y m. f y (inr m))
+
+    target_some : (t : T) (xs : List (Edge A T)) → ((x : Edge A T) → Among x xs → x.dim ≡ i → x.value ≡ v → x.target ≡ t) → Among (record { dim = i; value = v; target = t }) xs → target_at eq i v xs ≡ Some t
+    target_some t [] f m = absurd m
+    target_some t (x ∷ xs) f m = go (target_some t xs (λ y k. f y (inr k))) (nat_eq x.dim i && eq x.value v) refl m
+      where
+        go : (Among (record { dim = i; value = v; target = t }) xs → target_at eq i v xs ≡ Some t) → (b : Bool) → (nat_eq x.dim i && eq x.value v) ≡ b → Among (record { dim = i; value = v; target = t }) (x ∷ xs) → cond b (Some x.target) (target_at eq i v xs) ≡ Some t
+        go more true e k = let m = matches x e in ap (λ y. Some y) (f x (inl refl) m.0 m.1)
+        go more false e (inl k) = absurd (true≢false (sym (and_from _ _ (eq-eqb x.dim i (ap (λ y. y.dim) (sym k))) (subst (λ y. eq y v ≡ true) (ap (λ y. y.value) k) (law.same v))) ∙ e))
+        go more false e (inr k) = more k
+
+  -- a step under other names
+  module _ {S T : Type 0} (name : S → T) where
+    target-renamed : (i : ℕ) (v : A) (xs : List (Edge A S)) → target_at eq i v (map (renamed_edge name) xs) ≡ option_map name (target_at eq i v xs)
+    target-renamed i v [] = refl
+    target-renamed i v (x ∷ xs) = go (nat_eq x.dim i && eq x.value v) (target-renamed i v xs)
+      where
+        go : (b : Bool) → target_at eq i v (map (renamed_edge name) xs) ≡ option_map name (target_at eq i v xs) → cond b (Some (name x.target)) (target_at eq i v (map (renamed_edge name) xs)) ≡ option_map name (cond b (Some x.target) (target_at eq i v xs))
+        go true more = refl
+        go false more = more
+
+    entry-renamed : (k : S) (n : Node A S) (i : ℕ) (a : Option A) → by_entry eq (name k) (renamed name n) i a ≡ option_map name (by_entry eq k n i a)
+    entry-renamed k n i None = refl
+    entry-renamed k n i (Some v) = target-renamed i v n.edges
+
+    child-renamed : (x : Edge A S) (a : Option A) → to_child eq (renamed_edge name x) a ≡ option_map name (to_child eq x a)
+    child-renamed x None = refl
+    child-renamed x (Some v) = go (eq x.value v)
+      where
+        go : (b : Bool) → cond b (Some (name x.target)) None ≡ option_map name (cond b (Some x.target) None)
+        go true = refl
+        go false = refl
+
+    pub walk_on-renamed : (k : S) (n : Node A S) (i : ℕ) (a : Option A) → walk_on eq (name k) (renamed name n) i a ≡ option_map name (walk_on eq k n i a)
+    walk_on-renamed k n i a = go n.forced
+      where
+        go : (o : Option (Edge A S)) → by_forced eq (name k) (renamed name n) i a (option_map (renamed_edge name) o) ≡ option_map name (by_forced eq k n i a o)
+        go None = entry-renamed k n i a
+        go (Some x) = choose (nat_eq x.dim i)
+          where
+            choose : (b : Bool) → cond b (to_child eq (renamed_edge name x) a) (by_entry eq (name k) (renamed name n) i a) ≡ option_map name (cond b (to_child eq x a) (by_entry eq k n i a))
+            choose true = child-renamed x a
+            choose false = entry-renamed k n i a
+
+module _ {A : Type 0} {cmp : A → A → Ordering} (total : IsTotalOrder cmp) (anti : IsAntisymmetric cmp) (measures : ℕ) (rows : List (Row A)) where
+  law : IsEquality (eq_by_cmp cmp)
+  law = equality_by total anti
+
+  module _ (c u : Cell A) (i : ℕ) (is : closure (eq_by_cmp cmp) rows (keep i c) ≡ Some u) (lc : i < length c) (lu : i < length u) where
+    here : Node A (Cell A)
+    here = record_of cmp measures rows (keep i u) u
+
+    within : i < length (keep i u)
+    within = omega (arith, length-keep i u)
+
+    -- the front has the same closure
+    pub front_closure : closure (eq_by_cmp cmp) rows (keep i u) ≡ Some u
+    front_closure = closure_between law rows (keep i c) (keep i u) u is (leq-chain law rows (keep i c) u i is (depth-keep-le i c)) (keep-leq law i u)
+
+    label : (x : Edge A (Cell A)) → Among x (record_of cmp measures rows (keep i u) u).edges → IsLabel cmp rows (keep i u) (next_value cmp (depth (keep i u)) u) x
+    label x = (edges-are total anti measures rows (keep i u) u front_closure (keep-depth_keep i u) x).0
+
+    -- where the closure has a value in dimension i, the forced child has it
+    at_forced : (w : A) → slice_get u i ≡ Some (Some w) → next_value cmp (depth (keep i u)) u ≡ i
+    at_forced w h = elim (first_of_range (next_value cmp (depth (keep i u)) u) i (next-chain cmp i u (omega arith))) [
+      | inl k ↦ k
+      | inr k ↦ let any : slice_get u i ≡ Some None = before-next cmp (depth (keep i u)) u i (depth-keep-le i u) (omega (arith, k)) lu in absurd (both any)
+    ]
+      where
+        both : slice_get u i ≡ Some None → ⊥
+        both any = cc
+
+    behind_forced : slice_get u i ≡ Some None → (w : A) → slice_get u (next_value cmp (depth (keep i u)) u) ≡ Some (Some w) → nat_eq (next_value cmp (depth (keep i u)) u) i ≡ false
+    behind_forced h w k = false_from_ne_true _ (λ t. both (ap (slice_get u) (sym (eqb-true (next_value cmp (depth (keep i u)) u) i t))))
+      where
+        both : slice_get u i ≡ slice_get u (next_value cmp (depth (keep i u)) u) → ⊥
+        both q = cc
+
+    -- the front one dimension on
+    front_any : slice_get c i ≡ Some None → front (eq_by_cmp cmp) rows c (suc i) ≡ Some (keep (suc i) u)
+    front_any h = ap (λ d. option_map (keep (suc i)) (closure (eq_by_cmp cmp) rows d)) (upto-none c i h) ∙ ap (option_map (keep (suc i))) is
+
+    front_value : (v : A) → slice_get c i ≡ Some (Some v) → front (eq_by_cmp cmp) rows c (suc i) ≡ lead (eq_by_cmp cmp) rows (keep i u) i v
+    front_value v h =
+        ap (λ d. option_map (keep (suc i)) (closure (eq_by_cmp cmp) rows d)) (upto-entry c i v h)
+        ∙ ap (option_map (keep (suc i))) (closure_with law rows (keep i c) (keep i u) u i v is front_closure (depth-keep-le i c) (depth-keep-le i u) (omega (arith, length-keep i c)) within)
+
+    lead_same : (w : A) → slice_get u i ≡ Some (Some w) → lead (eq_by_cmp cmp) rows (keep i u) i w ≡ Some (with_value (keep i u) i w)
+    lead_same w h = ap (option_map (λ x. upto x i)) (forced_lead total anti rows (keep i u) u i w front_closure (depth-keep-le i u) within h) ∙ ap (λ x. Some x) (upto-entry u i w h)
+
+    lead_other : (w v : A) → slice_get u i ≡ Some (Some w) → eq_by_cmp cmp w v ≡ false → lead (eq_by_cmp cmp) rows (keep i u) i v ≡ None
+    lead_other w v h k = go (closure (eq_by_cmp cmp) rows (with_value (keep i u) i v)) refl
+      where
+        go : (o : Option (Cell A)) → closure (eq_by_cmp cmp) rows (with_value (keep i u) i v) ≡ o → option_map (λ x. upto x i) (closure (eq_by_cmp cmp) rows (with_value (keep i u) i v)) ≡ None
+        go None q = ap (option_map (λ x. upto x i)) q
+        go (Some d) q = let same : v ≡ w = only_forced total anti rows (keep i u) u d i w v front_closure (depth-keep-le i u) within h q in absurd (true≢false (sym (subst (λ y. eq_by_cmp cmp w y ≡ true) (sym same) (law.same w)) ∙ k))
+
+    step_forced : (w : A) (a : Option A) → slice_get u i ≡ Some (Some w) → slice_get c i ≡ Some a → walk_on (eq_by_cmp cmp) (keep i u) here i a ≡ front (eq_by_cmp cmp) rows c (suc i)
+    unfolding here
+    step_forced w a h q =
+        ap (by_forced (eq_by_cmp cmp) (keep i u) here i a) (ap (λ j. forced_child cmp (keep i u) u j) (at_forced w h) ∙ ap (λ o. option_and_then (λ entry. option_map (λ v. let x : Edge A (Cell A) = record { dim = i; value = v; target = with_value (keep i u) i v } in x) entry) o) h)
+        ∙ cond-true _ _ _ (eq-eqb i i refl) ∙ go a q
+      where
+        go : (a : Option A) → slice_get c i ≡ Some a → to_child (eq_by_cmp cmp) (record { dim = i; value = w; target = with_value (keep i u) i w }) a ≡ front (eq_by_cmp cmp) rows c (suc i)
+        go None q = ap (λ x. Some x) (sym (upto-entry u i w h)) ∙ sym (front_any q)
+        go (Some v) q = by (eq_by_cmp cmp w v) refl ∙ sym (front_value v q)
+          where
+            by : (b : Bool) → eq_by_cmp cmp w v ≡ b → cond b (Some (with_value (keep i u) i w)) None ≡ lead (eq_by_cmp cmp) rows (keep i u) i v
+            by true k = sym (ap (lead (eq_by_cmp cmp) rows (keep i u) i) (sym (law.exact w v k)) ∙ lead_same w h)
+            by false k = sym (lead_other w v h k)
+
+    step_free : (a : Option A) → slice_get u i ≡ Some None → slice_get c i ≡ Some a → walk_on (eq_by_cmp cmp) (keep i u) here i a ≡ front (eq_by_cmp cmp) rows c (suc i)
+    unfolding here
+    step_free a h q = off (slice_get u (next_value cmp (depth (keep i u)) u)) refl ∙ go a q
+      where
+        off : (o : Option (Option A)) → slice_get u (next_value cmp (depth (keep i u)) u) ≡ o
+            → by_forced (eq_by_cmp cmp) (keep i u) here i a (option_and_then (λ entry. option_map (λ v. record { dim = next_value cmp (depth (keep i u)) u; value = v; target = with_value (keep i u) (next_value cmp (depth (keep i u)) u) v }) entry) o) ≡ by_entry (eq_by_cmp cmp) (keep i u) here i a
+        off None k = refl
+        off (Some None) k = refl
+        off (Some (Some w)) k = cond-false _ _ _ (behind_forced h w k)
+
+        go : (a : Option A) → slice_get c i ≡ Some a → by_entry (eq_by_cmp cmp) (keep i u) here i a ≡ front (eq_by_cmp cmp) rows c (suc i)
+        go None q = ap (λ x. Some x) (sym (upto-none u i h)) ∙ sym (front_any q)
+        go (Some v) q = at_label (lead (eq_by_cmp cmp) rows (keep i u) i v) refl ∙ sym (front_value v q)
+          where
+            leads : (x : Edge A (Cell A)) → Among x here.edges → x.dim ≡ i → x.value ≡ v → lead (eq_by_cmp cmp) rows (keep i u) i v ≡ Some x.target
+            leads x m d w = ap₂ (lead (eq_by_cmp cmp) rows (keep i u)) (sym d) (sym w) ∙ (label x m).leads
+
+            at_label : (o : Option (Cell A)) → lead (eq_by_cmp cmp) rows (keep i u) i v ≡ o → target_at (eq_by_cmp cmp) i v here.edges ≡ lead (eq_by_cmp cmp) rows (keep i u) i v
+            at_label None k = target_none law i v here.edges (λ x m d w. let bad : None ≡ Some x.target = sym k ∙ leads x m d w in cc) ∙ sym k
+            at_label (Some t) k =
+                target_some law i v t here.edges (λ x m d w. some_same (sym (leads x m d w) ∙ k))
+                ((edges-are total anti measures rows (keep i u) u front_closure (keep-depth_keep i u) _).1 (record { place = record { behind = depth-keep-le i u; before = next-chain cmp i u (omega arith); within = within }; leads = k }))
+                ∙ sym k
+
+    pub step : (a : Option A) → slice_get c i ≡ Some a → walk_on (eq_by_cmp cmp) (keep i u) (record_of cmp measures rows (keep i u) u) i a ≡ front (eq_by_cmp cmp) rows c (suc i)
+    unfolding here
+    step a q = go (slice_get u i) refl
+      where
+        past : (u : Cell A) (i : ℕ) → i < length u → slice_get u i ≡ None → ⊥
+        past [] i l e = absurd (omega arith)
+        past (x ∷ u) zero l e = cc
+        past (x ∷ u) (suc i) l e = past u i (omega arith) e
+
+        go : (o : Option (Option A)) → slice_get u i ≡ o → walk_on (eq_by_cmp cmp) (keep i u) here i a ≡ front (eq_by_cmp cmp) rows c (suc i)
+        go None h = absurd (past u i lu h)
+        go (Some None) h = step_free a h q
+        go (Some (Some w)) h = step_forced w a h q

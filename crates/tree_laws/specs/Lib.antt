@@ -1,0 +1,6 @@
+pub mod Labels
+pub mod Walk
+pub mod Renaming
+pub mod Counts
+pub mod Edges
+pub mod Below

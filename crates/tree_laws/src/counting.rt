@@ -1,0 +1,41 @@
+//! The numbers of classes, nodes and edges of a canonical tree are told by its rows.
+ghost use Rattle.std.specs.FinMap as map;
+ghost use Rattle.std.specs.List.{AllByRecursion};
+ghost use Rattle.std.specs.Prelude.{List, length, suc, ℕ, ◌++◌, ◌≤◌, ◌∷◌, ◌≡◌};
+ghost use Rattle.cube_defs.specs.Rows.{Row};
+ghost use Rattle.cube_defs.specs.Tree.{IsCanonical, Tree, classes, links, nodes, tree_edges};
+ghost use Rattle.cube_laws.specs.Lists.{Among};
+ghost use Rattle.tree_laws.specs.Counts.{classes_in, links_in, tree_edges_in};
+
+use cube_laws::values::Value;
+
+/// A canonical tree has as many records as the rows have nodes, as many records with an aggregate as
+/// they have classes, and as many edges to children and other edges as they have tree edges and links
+/// (own).
+pub fn counts_of_a_tree<V: Value>()
+    ensures nodes { (dims measures : ℕ) (rows : List (Row V)) (tree : Tree V) →
+        AllByRecursion (λ row. length row.tuple ≡ dims) rows → IsCanonical V.cmp measures rows tree →
+        map.len tree ≡ length (nodes V.cmp rows) }
+    ensures classes { (dims measures : ℕ) (rows : List (Row V)) (tree : Tree V) →
+        AllByRecursion (λ row. length row.tuple ≡ dims) rows → IsCanonical V.cmp measures rows tree →
+        classes_in V.cmp tree ≡ length (classes V.cmp rows) }
+    ensures tree_edges { (dims measures : ℕ) (rows : List (Row V)) (tree : Tree V) →
+        AllByRecursion (λ row. length row.tuple ≡ dims) rows → IsCanonical V.cmp measures rows tree →
+        tree_edges_in V.cmp tree ≡ tree_edges V.cmp rows }
+    ensures links { (dims measures : ℕ) (rows : List (Row V)) (tree : Tree V) →
+        AllByRecursion (λ row. length row.tuple ≡ dims) rows → IsCanonical V.cmp measures rows tree →
+        links_in V.cmp tree ≡ links V.cmp rows }
+{}
+
+/// A row more leaves no fewer classes and nodes, so one less leaves no more (own).
+pub fn counts_with_one_row_more<V: Value>()
+    ensures classes { (xs ys : List (Row V)) (r : Row V) → length (classes V.cmp (xs ++ ys)) ≤ length (classes V.cmp (xs ++ r ∷ ys)) }
+    ensures nodes { (xs ys : List (Row V)) (r : Row V) → length (nodes V.cmp (xs ++ ys)) ≤ length (nodes V.cmp (xs ++ r ∷ ys)) }
+{}
+
+/// Where there are rows there is one node more than edges to children: each node but the root is the
+/// child of one node (Lakshmanan, Pei, Zhao, SIGMOD 2003).
+pub fn tree_edges_make_one_tree<V: Value>()
+    ensures { (dims : ℕ) (rows : List (Row V)) (r : Row V) → AllByRecursion (λ row. length row.tuple ≡ dims) rows →
+        Among r rows → suc (tree_edges V.cmp rows) ≡ length (nodes V.cmp rows) }
+{}

@@ -1,0 +1,116 @@
+//! What changes at the nodes that cover a row that comes or goes: `xs ++ ys` are the other rows, and
+//! `xs ++ r ∷ ys` are they and r. All of it is this project's own.
+ghost use Rattle.std.specs.Option.{option_map};
+ghost use Rattle.std.specs.Ordering.{eq_by_cmp};
+ghost use Rattle.std.specs.Prelude.{IsTrue, List, None, Some, length, min, slice_get, ℕ, ◌++◌, ◌<◌, ◌≤◌, ◌↔◌, ◌∷◌, ◌≡◌, ◌≢◌};
+ghost use Rattle.cube_defs.specs.Cell.{Cell, cell_of, depth, keep, leq, meet, upto};
+ghost use Rattle.cube_defs.specs.Rows.{Row, closure, covers, is_node};
+ghost use Rattle.cube_defs.specs.Tree.{Edge, next_value};
+ghost use Rattle.cube_laws.specs.Lists.{Among};
+ghost use Rattle.tree_laws.specs.Labels.{IsWithin, first_new, lead, moved, record_of};
+
+use cube_laws::values::Value;
+
+/// A label with another value than the row's leads where it led before. The label with the row's
+/// value leads to what the old target and the row share, or to the row's front where it led nowhere.
+pub fn labels_with_one_row_more<V: Value>()
+    ensures other { (xs ys : List (Row V)) (r : Row V) (p : Cell V) (i : ℕ) (v : V) → IsTrue (covers (eq_by_cmp V.cmp) p r) →
+        depth p ≤ i → i < length p → slice_get r.tuple i ≢ Some v →
+        lead (eq_by_cmp V.cmp) (xs ++ r ∷ ys) p i v ≡ lead (eq_by_cmp V.cmp) (xs ++ ys) p i v }
+    ensures own { (xs ys : List (Row V)) (r : Row V) (p : Cell V) (i : ℕ) (v : V) → IsTrue (covers (eq_by_cmp V.cmp) p r) →
+        depth p ≤ i → i < length p → slice_get r.tuple i ≡ Some v →
+        lead (eq_by_cmp V.cmp) (xs ++ r ∷ ys) p i v
+        ≡ Some (moved (eq_by_cmp V.cmp) (lead (eq_by_cmp V.cmp) (xs ++ ys) p i v) (cell_of r.tuple) i) }
+{}
+
+/// The labels of a node in a dimension behind its record's are those of the node that its closure has
+/// as front there, whose record has them.
+pub fn labels_along_the_closure<V: Value>()
+    ensures same { (rows : List (Row V)) (p u : Cell V) (i : ℕ) (v : V) → closure (eq_by_cmp V.cmp) rows p ≡ Some u →
+        depth p ≤ i → i < length p → i < length u →
+        lead (eq_by_cmp V.cmp) rows p i v ≡ lead (eq_by_cmp V.cmp) rows (keep i u) i v }
+    ensures record { (measures : ℕ) (rows : List (Row V)) (p u : Cell V) (x : Edge V (Cell V)) →
+        closure (eq_by_cmp V.cmp) rows p ≡ Some u → depth p ≤ x.dim → x.dim < length u →
+        Among x (record_of V.cmp measures rows (keep x.dim u) u).edges
+        ↔ (lead (eq_by_cmp V.cmp) rows (keep x.dim u) x.dim x.value ≡ Some x.target) }
+    ensures own { (xs ys : List (Row V)) (r : Row V) (p u : Cell V) (i : ℕ) → closure (eq_by_cmp V.cmp) (xs ++ ys) p ≡ Some u →
+        keep (depth p) (meet (eq_by_cmp V.cmp) u (cell_of r.tuple)) ≡ p →
+        depth p ≤ i → i ≤ next_value V.cmp (depth p) (meet (eq_by_cmp V.cmp) u (cell_of r.tuple)) →
+        IsTrue (covers (eq_by_cmp V.cmp) (keep i u) r) → keep i u ≡ p }
+{}
+
+/// The edges of a node's record after a row has come, by the records before: with another value than the
+/// row's those of the node that its old closure has as front in their dimension, and with the row's
+/// value the one that leads to what that node's old target and the row share.
+pub fn edges_with_one_row_more<V: Value>()
+    ensures other { (measures : ℕ) (xs ys : List (Row V)) (r : Row V) (p u : Cell V) (x : Edge V (Cell V)) →
+        IsTrue (covers (eq_by_cmp V.cmp) p r) → closure (eq_by_cmp V.cmp) (xs ++ ys) p ≡ Some u →
+        IsTrue (is_node (eq_by_cmp V.cmp) (xs ++ r ∷ ys) p) → length p ≡ length u →
+        slice_get r.tuple x.dim ≢ Some x.value →
+        let w = meet (eq_by_cmp V.cmp) u (cell_of r.tuple) in
+        Among x (record_of V.cmp measures (xs ++ r ∷ ys) p w).edges
+        ↔ (IsWithin p (next_value V.cmp (depth p) w) x.dim × Among x (record_of V.cmp measures (xs ++ ys) (keep x.dim u) u).edges) }
+    ensures own { (measures : ℕ) (xs ys : List (Row V)) (r : Row V) (p u : Cell V) (x : Edge V (Cell V)) →
+        IsTrue (covers (eq_by_cmp V.cmp) p r) → closure (eq_by_cmp V.cmp) (xs ++ ys) p ≡ Some u →
+        IsTrue (is_node (eq_by_cmp V.cmp) (xs ++ r ∷ ys) p) → length p ≡ length u →
+        slice_get r.tuple x.dim ≡ Some x.value →
+        let w = meet (eq_by_cmp V.cmp) u (cell_of r.tuple) in
+        Among x (record_of V.cmp measures (xs ++ r ∷ ys) p w).edges
+        ↔ (IsWithin p (next_value V.cmp (depth p) w) x.dim × (moved (eq_by_cmp V.cmp) (lead (eq_by_cmp V.cmp) (xs ++ ys) (keep x.dim u) x.dim x.value) (cell_of r.tuple) x.dim ≡ x.target)) }
+{}
+
+/// After a row has gone, a label leads to the front of the closure that its old target has now, where
+/// it covers a row still, and a label that led nowhere leads nowhere.
+pub fn labels_with_one_row_less<V: Value>()
+    ensures leads { (xs ys : List (Row V)) (r : Row V) (p c : Cell V) (i : ℕ) (v : V) → depth p ≤ i → i < length p →
+        lead (eq_by_cmp V.cmp) (xs ++ r ∷ ys) p i v ≡ Some c →
+        lead (eq_by_cmp V.cmp) (xs ++ ys) p i v ≡ option_map (λ u. upto u i) (closure (eq_by_cmp V.cmp) (xs ++ ys) c) }
+    ensures none { (xs ys : List (Row V)) (r : Row V) (p : Cell V) (i : ℕ) (v : V) →
+        lead (eq_by_cmp V.cmp) (xs ++ r ∷ ys) p i v ≡ None → lead (eq_by_cmp V.cmp) (xs ++ ys) p i v ≡ None }
+{}
+
+/// The edges of a node's record after a row that it covers has gone, by its record before: those with
+/// another value than the row's that are within its new reach, and those that lead from an old target
+/// to the front of the closure that this has now.
+pub fn edges_with_one_row_less<V: Value>()
+    ensures reach { (xs ys : List (Row V)) (r : Row V) (p u w : Cell V) → IsTrue (covers (eq_by_cmp V.cmp) p r) →
+        closure (eq_by_cmp V.cmp) (xs ++ r ∷ ys) p ≡ Some u → closure (eq_by_cmp V.cmp) (xs ++ ys) p ≡ Some w →
+        IsTrue (is_node (eq_by_cmp V.cmp) (xs ++ ys) p) →
+        next_value V.cmp (depth p) w ≤ next_value V.cmp (depth p) u }
+    ensures other { (measures : ℕ) (xs ys : List (Row V)) (r : Row V) (p u w : Cell V) (x : Edge V (Cell V)) →
+        IsTrue (covers (eq_by_cmp V.cmp) p r) →
+        closure (eq_by_cmp V.cmp) (xs ++ r ∷ ys) p ≡ Some u → closure (eq_by_cmp V.cmp) (xs ++ ys) p ≡ Some w →
+        IsTrue (is_node (eq_by_cmp V.cmp) (xs ++ ys) p) → slice_get r.tuple x.dim ≢ Some x.value →
+        Among x (record_of V.cmp measures (xs ++ ys) p w).edges
+        ↔ (IsWithin p (next_value V.cmp (depth p) w) x.dim × Among x (record_of V.cmp measures (xs ++ r ∷ ys) p u).edges) }
+    ensures led { (measures : ℕ) (xs ys : List (Row V)) (r : Row V) (p u w t : Cell V) (x : Edge V (Cell V)) →
+        IsTrue (covers (eq_by_cmp V.cmp) p r) →
+        closure (eq_by_cmp V.cmp) (xs ++ r ∷ ys) p ≡ Some u → closure (eq_by_cmp V.cmp) (xs ++ ys) p ≡ Some w →
+        IsTrue (is_node (eq_by_cmp V.cmp) (xs ++ ys) p) →
+        Among (record { dim = x.dim; value = x.value; target = t }) (record_of V.cmp measures (xs ++ r ∷ ys) p u).edges →
+        Among x (record_of V.cmp measures (xs ++ ys) p w).edges
+        ↔ (IsWithin p (next_value V.cmp (depth p) w) x.dim
+        × (option_map (λ z. upto z x.dim) (closure (eq_by_cmp V.cmp) (xs ++ ys) t) ≡ Some x.target)) }
+{}
+
+/// Which cells that cover the row are nodes after it has come.
+pub fn nodes_with_one_row_more<V: Value>()
+    ensures alone { (xs ys : List (Row V)) (r : Row V) (p : Cell V) → IsTrue (covers (eq_by_cmp V.cmp) p r) →
+        closure (eq_by_cmp V.cmp) (xs ++ ys) p ≡ None →
+        IsTrue (is_node (eq_by_cmp V.cmp) (xs ++ r ∷ ys) p) ↔ (keep (depth p) (cell_of r.tuple) ≡ p) }
+    ensures with_others { (xs ys : List (Row V)) (r : Row V) (p u : Cell V) → IsTrue (covers (eq_by_cmp V.cmp) p r) →
+        closure (eq_by_cmp V.cmp) (xs ++ ys) p ≡ Some u →
+        IsTrue (is_node (eq_by_cmp V.cmp) (xs ++ r ∷ ys) p)
+        ↔ (keep (depth p) (meet (eq_by_cmp V.cmp) u (cell_of r.tuple)) ≡ p) }
+{}
+
+/// A node whose closure grows as rows go stays a node just where the first value that the closure
+/// gains stands behind the node's last, and its forced child stands there at the latest.
+pub fn nodes_with_rows_less<V: Value>()
+    ensures node { (before after : List (Row V)) (p u w : Cell V) → IsTrue (is_node (eq_by_cmp V.cmp) before p) →
+        closure (eq_by_cmp V.cmp) before p ≡ Some u → closure (eq_by_cmp V.cmp) after p ≡ Some w →
+        IsTrue (leq (eq_by_cmp V.cmp) u w) → length u ≡ length w →
+        IsTrue (is_node (eq_by_cmp V.cmp) after p) ↔ (depth p ≤ first_new u w) }
+    ensures forced { (u w : Cell V) (n : ℕ) → IsTrue (leq (eq_by_cmp V.cmp) u w) → length u ≡ length w → n ≤ first_new u w →
+        next_value V.cmp n w ≡ min (next_value V.cmp n u) (first_new u w) }
+{}

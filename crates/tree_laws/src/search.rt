@@ -1,0 +1,74 @@
+//! How a search walks the canonical tree: from the root through the dimensions in order. At a node
+//! whose forced child lies in the dimension at hand it goes there, unless another value is asked; else
+//! it stays where Any is asked, and follows the edge with the asked value. This walk is this project's
+//! own; trees of classes are those of Lakshmanan, Pei, Zhao, SIGMOD 2003.
+ghost use Rattle.std.specs.FinMap as map;
+ghost use Rattle.std.specs.List.{AllByRecursion};
+ghost use Rattle.std.specs.Option.{option_map};
+ghost use Rattle.std.specs.Ordering.{eq_by_cmp};
+ghost use Rattle.std.specs.Prelude.{IsTrue, List, None, Option, Some, filter, length, replicate, slice_get, suc, ℕ, ◌<◌, ◌↔◌, ◌≡◌, ◌≢◌};
+ghost use Rattle.cube_defs.specs.Answers.{lower_bounds};
+ghost use Rattle.cube_defs.specs.Cell.{Cell, depth, keep, leq};
+ghost use Rattle.cube_defs.specs.Rows.{Row, agg, closure, is_lower_bound};
+ghost use Rattle.cube_defs.specs.Tree.{IsCanonical, Node, Tree, cell_at};
+ghost use Rattle.cube_laws.specs.Lists.{Among};
+ghost use Rattle.tree_laws.specs.Below.{below};
+ghost use Rattle.tree_laws.specs.Walk.{climb, front, walk, walk_on};
+
+use cube_laws::values::Value;
+
+/// From the root a search comes to the node of the cell's closure, and it comes nowhere exactly where
+/// the cell covers no row. Where there is no root, no cell covers a row.
+pub fn search_finds_the_closure<V: Value>()
+    ensures found { (dims measures : ℕ) (rows : List (Row V)) (tree : Tree V) (root : ℕ) (c : Cell V) →
+        AllByRecursion (λ row. length row.tuple ≡ dims) rows → IsCanonical V.cmp measures rows tree →
+        length c ≡ dims → cell_at tree root ≡ Some (replicate dims None) →
+        option_map (cell_at tree) (walk (eq_by_cmp V.cmp) tree c root 0)
+        ≡ option_map (λ u. Some u) (closure (eq_by_cmp V.cmp) rows c) }
+    ensures no_root { (dims measures : ℕ) (rows : List (Row V)) (tree : Tree V) (c : Cell V) →
+        AllByRecursion (λ row. length row.tuple ≡ dims) rows → IsCanonical V.cmp measures rows tree →
+        length c ≡ dims → ((k : ℕ) → cell_at tree k ≢ Some (replicate dims None)) →
+        closure (eq_by_cmp V.cmp) rows c ≡ None }
+{}
+
+/// One dimension of a search leads from the front of the closure of the cell's first entries to the
+/// front that is one dimension longer, and nowhere exactly where those entries cover no row.
+pub fn one_dimension_of_a_search<V: Value>()
+    ensures { (dims measures : ℕ) (rows : List (Row V)) (tree : Tree V) (k : ℕ) (n : Node V ℕ) (c : Cell V) (i : ℕ) (a : Option V) →
+        AllByRecursion (λ row. length row.tuple ≡ dims) rows → IsCanonical V.cmp measures rows tree →
+        length c ≡ dims → slice_get c i ≡ Some a → i < dims →
+        map.get tree k ≡ Some n → Some n.cell ≡ front (eq_by_cmp V.cmp) rows c i →
+        option_map (cell_at tree) (walk_on (eq_by_cmp V.cmp) k n i a)
+        ≡ option_map (λ d. Some d) (front (eq_by_cmp V.cmp) rows c (suc i)) }
+{}
+
+/// At the node of a cell's closure stands the cell's aggregate.
+pub fn answer_at_the_closure<V: Value>()
+    ensures { (dims measures : ℕ) (rows : List (Row V)) (tree : Tree V) (k : ℕ) (n : Node V ℕ) (c : Cell V) →
+        AllByRecursion (λ row. length row.tuple ≡ dims) rows → IsCanonical V.cmp measures rows tree →
+        map.get tree k ≡ Some n → closure (eq_by_cmp V.cmp) rows c ≡ Some n.cell →
+        n.class ≡ Some (agg (eq_by_cmp V.cmp) measures rows c) }
+{}
+
+/// On the way up from a node, the last values of the nodes put into the cell of Any alone give the
+/// node's cell; each parent has the cell without its last value, and the root has none.
+pub fn way_up_to_the_root<V: Value>()
+    ensures cell { (dims measures : ℕ) (rows : List (Row V)) (tree : Tree V) (k : ℕ) (n : Node V ℕ) →
+        AllByRecursion (λ row. length row.tuple ≡ dims) rows → IsCanonical V.cmp measures rows tree →
+        map.get tree k ≡ Some n → climb tree dims k (replicate dims None) ≡ n.cell }
+    ensures parent { (dims measures : ℕ) (rows : List (Row V)) (tree : Tree V) (k : ℕ) (n : Node V ℕ) (i : ℕ) →
+        AllByRecursion (λ row. length row.tuple ≡ dims) rows → IsCanonical V.cmp measures rows tree →
+        map.get tree k ≡ Some n → depth n.cell ≡ suc i →
+        option_map (cell_at tree) n.parent ≡ Some (Some (keep i n.cell)) }
+    ensures root { (dims measures : ℕ) (rows : List (Row V)) (tree : Tree V) (k : ℕ) (n : Node V ℕ) →
+        AllByRecursion (λ row. length row.tuple ≡ dims) rows → IsCanonical V.cmp measures rows tree →
+        map.get tree k ≡ Some n → depth n.cell ≡ 0 → n.parent ≡ None }
+{}
+
+/// The lower bounds of a class are those of the cells below it that pass the test, in cell order.
+pub fn lower_bounds_below_a_class<V: Value>()
+    ensures bounds { (dims : ℕ) (rows : List (Row V)) (u : Cell V) → AllByRecursion (λ row. length row.tuple ≡ dims) rows →
+        length u ≡ dims →
+        lower_bounds V.cmp rows u ≡ filter (is_lower_bound (eq_by_cmp V.cmp) rows u) (below u) }
+    ensures below { (c u : Cell V) → Among c (below u) ↔ ((length c ≡ length u) × IsTrue (leq (eq_by_cmp V.cmp) c u)) }
+{}
