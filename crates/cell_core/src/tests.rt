@@ -24,6 +24,8 @@ fn fields_stay_in_order(rt: HostRuntime) -> Result<(), Fail> {
     assert_eq!(rt; fields.len(), 3);
     assert!(rt; matches!(fields.get(0), Field::Any));
     assert!(rt; matches!(fields.get(1), Field::One(text) if text.as_str() == "P1"));
-    assert!(rt; matches!(fields.get(2), Field::Between(lo, hi) if lo.as_str() == "a" && hi.as_str() == "b"));
+    assert!(rt;
+        matches!(fields.get(2), Field::Between(lo, hi) if lo.as_str() == "a" && hi.as_str() == "b")
+    );
     Ok(())
 }
