@@ -51,7 +51,6 @@ cut_pointwise f (x ∷ xs) (y ∷ ys) (len ∷ lens) p q h =
     let first = h 0 x (omega arith) in
     λ j. first j ∷ rest j
 
-
 -- what holds of each image holds of each element of the mapped list
 pub all_map : {A B : Type 0} (f : A → B) (P : B → Type 0) (xs : List A) → ((k : ℕ) (d : A) → k < length xs → P (f (get_or xs k d))) → (k : ℕ) (e : B) → k < length (map f xs) → P (get_or (map f xs) k e)
 all_map f P [] h k e lt = absurd (omega arith)
@@ -61,6 +60,3 @@ all_map f P (x ∷ xs) h (suc k) e lt = all_map f P xs (λ j d l. h (suc j) d (o
 pub err_kept : {R E : Type 0} (r : Result R E) (P Q : Type 0) → (P → Q) → OnErr r P → OnErr r Q
 err_kept (Ok x) P Q f h = h
 err_kept (Err e) P Q f h = f h
-
-pub same_bytes : (bs : List ℕ) → bytes_eq bs bs ≡ true
-same_bytes bs = (bytes_decides bs bs).1 refl

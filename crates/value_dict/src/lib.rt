@@ -77,6 +77,7 @@ impl Dict {
     pub fn code(&self, dim: u8, text: &str) -> Option<Code>
         requires { dim < length self.now.lists }
         ensures value { result ≡ code_in (list_at self.now dim) text.now }
+        ensures within { IfSome result (λ code. code < length (list_at self.now dim)) }
         ensures small { IfSome result (λ code. code < 4000000) }
     {
         let place = sets::place_of(&self.lists[dim as usize], text)?;
@@ -98,6 +99,7 @@ impl Dict {
     pub fn learn(&mut self, dim: u8, text: &str) -> Result<Code, Learn>
         requires { dim < length self.old.lists }
         ensures code { IfOk result (λ code. code_in (list_at self.new dim) text.now ≡ Some code) }
+        ensures within { IfOk result (λ code. code < length (list_at self.new dim)) }
         ensures small { IfOk result (λ code. code < 4000000) }
         ensures ok { OnOk result (self.new ≡ learnt self.old dim text.now) }
         ensures err { OnErr result (self.new ≡ self.old) }

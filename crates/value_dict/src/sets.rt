@@ -55,7 +55,7 @@ pub(crate) fn learn(set: &mut IndexSet<String>, max: u32, text: &str) -> Result<
 // The last texts of each set go.
 pub(crate) fn cut_back(sets: &mut Vec<IndexSet<String>>, lens: &[u32])
     requires { length lens.now ≡ length sets.old.items }
-    ensures lists { map texts_of sets.new.items ≡ cut (map texts_of sets.old.items) lens.now }
+    ensures { map texts_of sets.new.items ≡ cut (map texts_of sets.old.items) lens.now }
 {
     for i in 0..sets.len() {
         let set = &mut sets[i];
