@@ -1,5 +1,6 @@
 -- What a contract sees of a dictionary.
-use Rattle.std.specs.Prelude.{◌≡◌, ℕ, ◌<◌, ◌≤◌, All, List, [], map, length, slice_index_or, slice_set, replicate, ◌++◌, ◌∷◌, take, Option, Some, None, String, string_bytes, position, is_some, if◌then◌else◌}
+use Rattle.std.specs.Prelude.{ℕ, ◌<◌, ◌≤◌, All, List, [], map, length, slice_index_or, slice_set, replicate, ◌++◌, ◌∷◌, take, Option, Some, None, String, string_bytes, position, is_some, if◌then◌else◌}
+use Rattle.std.specs.List.{IsDistinct}
 use Rattle.std.specs.Option.{option_map, option_and_then}
 use Rattle.std.specs.Str.{bytes_eq}
 use Rattle.indexmap.specs.IndexSet.{IndexSet}
@@ -13,10 +14,6 @@ pub record TextLists : Type 0 where
   pub lists : List (List Text)
   pub max : ℕ
 
--- no text stands at two places
-pub record IsDistinct (texts : List Text) : Type 0 where
-  pub apart : (i j : ℕ) → i < length texts → j < length texts → slice_index_or texts i [] ≡ slice_index_or texts j [] → i ≡ j
-
 -- what is true of every dictionary
 pub record IsDictionary (d : TextLists) : Type 0 where
   pub some_dims : 0 < length d.lists
@@ -24,7 +21,7 @@ pub record IsDictionary (d : TextLists) : Type 0 where
   pub some_texts : 0 < d.max
   pub few_texts : d.max ≤ 4000000
   pub within : All (λ texts. length texts ≤ d.max) d.lists
-  pub distinct : All IsDistinct d.lists
+  pub distinct : All (IsDistinct bytes_eq) d.lists
 
 -- the texts of a set, in order
 abbrev pub texts_of : {A S : Type 0} → IndexSet (String A) S → List Text
