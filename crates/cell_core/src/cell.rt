@@ -1,0 +1,141 @@
+// Cells: for each dimension a value, by its code, or Any.
+ghost use Rattle.std.specs.Prelude.{IfSome, None, length, nat_eq, replicate, slice_index_or, slice_set, ◌<◌, ◌≡◌, ◌≤◌};
+ghost use Rattle.cell_core.specs.Entry.{IsSmall, value_in};
+ghost use Rattle.cube_defs.specs.Cell as defs;
+
+use crate::codes;
+use std::alloc::Global;
+use std::marker::Model;
+
+/// The number of a value in its dimension, counted from 0. Every code is below 4,000,000.
+pub type Code = u32;
+
+/// Stands for Any where a code stands for a value.
+pub const ANY: u32 = u32::MAX;
+
+/// The number of a node.
+#[derive(Clone, Copy, Debug, PartialEq, Eq, Hash)]
+pub struct NodeNo(pub u32);
+
+/// What a cell has in a dimension.
+#[derive(Clone, Copy, Debug, PartialEq, Eq)]
+pub enum Entry {
+    /// No value.
+    Any,
+    /// The value with this code.
+    Is(Code),
+}
+
+/// For each of at most 16 dimensions a value, or Any. The entries lie in the cell itself, so no
+/// call on a cell takes memory.
+#[derive(Drop, Debug)]
+pub struct Cell {
+    codes: [u32; 16],
+    dims: u8,
+}
+
+impl Model for Cell {
+    ghost use Rattle.std.specs.Prelude.{All, IsTrue, List, Option, take, ℕ, ◌≤◌};
+    ghost use Rattle.cell_core.specs.Codes.{entries_of, is_kept};
+
+    ghost Value = { List (Option ℕ) };
+
+    ghost view = { λ c. entries_of (take c.dims c.codes) };
+
+    ghost invariant = { λ c. (c.dims ≤ 16) × All (λ code. IsTrue (is_kept code)) c.codes };
+}
+
+impl Cell {
+    /// The cell with Any in each dimension.
+    pub fn any(_alloc: Global, dims: u8) -> Cell
+        requires { dims ≤ 16 }
+        ensures value { result ≡ replicate dims None }
+        ensures dims { length result ≡ dims }
+    {
+        Cell {
+            codes: [ANY; 16],
+            dims,
+        }
+    }
+
+    /// How many dimensions the cell has.
+    pub fn dims(&self) -> u8
+        ensures value { result ≡ length self.now }
+        ensures few { length self.now ≤ 16 }
+    {
+        self.dims
+    }
+
+    /// The entry in a dimension, counted from 0.
+    pub fn get(&self, dim: u8) -> Entry
+        requires { dim < length self.now }
+        ensures value { value_in result ≡ slice_index_or self.now dim None }
+        ensures small { IsSmall result }
+    {
+        codes::entry_at(self.codes[dim as usize])
+    }
+
+    /// Puts an entry into a dimension.
+    pub fn set(&mut self, dim: u8, entry: Entry)
+        requires dim { dim < length self.old }
+        requires entry { IsSmall entry }
+        ensures value { self.new ≡ slice_set self.old dim (value_in entry) }
+        ensures dims { length self.new ≡ length self.old }
+    {
+        self.codes[dim as usize] = codes::code_of(entry);
+    }
+
+    pub fn copy(&self) -> Cell
+        ensures value { result ≡ self.now }
+        ensures dims { length result ≡ length self.now }
+    {
+        Cell {
+            codes: self.codes,
+            dims: self.dims,
+        }
+    }
+}
+
+/// Whether d has c's value wherever c has one: c covers d.
+pub fn leq(c: &Cell, d: &Cell) -> bool
+    requires { length c.now ≡ length d.now }
+    ensures { result ≡ defs.leq nat_eq c.now d.now }
+{
+    codes::leq(&c.codes[..c.dims as usize], &d.codes[..d.dims as usize])
+}
+
+/// Makes c the meet of both: the entries on which they agree, and Any elsewhere.
+pub fn meet_into(c: &mut Cell, d: &Cell)
+    requires { length c.old ≡ length d.now }
+    ensures value { c.new ≡ defs.meet nat_eq c.old d.now }
+    ensures dims { length c.new ≡ length c.old }
+{
+    codes::meet_into(&mut c.codes[..c.dims as usize], &d.codes[..d.dims as usize]);
+}
+
+/// The last dimension with a value. None where all is Any.
+pub fn last(c: &Cell) -> Option<u8>
+    ensures value { result ≡ defs.last c.now }
+    ensures within { IfSome result (λ dim. dim < length c.now) }
+{
+    match codes::last(&c.codes[..c.dims as usize]) {
+        Some(dim) => Some(dim as u8),
+        None => None,
+    }
+}
+
+/// Makes each entry behind dimension j Any.
+pub fn upto(c: &mut Cell, j: u8)
+    requires { j < length c.old }
+    ensures value { c.new ≡ defs.upto c.old j }
+    ensures dims { length c.new ≡ length c.old }
+{
+    codes::upto(&mut c.codes[..c.dims as usize], j as usize);
+}
+
+/// The dimensions with a value: bit i is set where dimension i has one.
+pub fn mask_of(c: &Cell) -> u16
+    ensures { result ≡ defs.mask c.now }
+{
+    codes::mask_of(&c.codes[..c.dims as usize])
+}

@@ -1,0 +1,155 @@
+//! Texts and codes: for each dimension a list of distinct texts, in which a text's code is its
+//! place.
+#![tactic(auto)]
+
+ghost use Rattle.cell_core.specs.Entry.{IsSmall, value_in};
+ghost use Rattle.std.specs.Option.{option_map};
+ghost use Rattle.std.specs.Prelude.{Err, IfOk, IfSome, None, OnErr, OnOk, Some, length, slice_get, ◌<◌, ◌≡◌, ◌≤◌, ◌↔◌};
+ghost use Rattle.value_dict.specs.TextLists.{IsDictionary, cell_in, code_in, cut, entry_in, learnt, list_at, no_texts};
+
+mod sets;
+#[cfg(test)]
+mod tests;
+
+use cell_core::{Cell, Code, Entry, Field, Fields};
+use indexmap::IndexSet;
+use std::alloc::{AllocError, Global};
+use std::marker::Model;
+
+/// Memory ran out.
+pub type Memory = AllocError;
+
+/// Why a text was not learnt.
+#[derive(Clone, Copy, Debug, PartialEq, Eq)]
+pub enum Learn {
+    /// The text is unknown, and the dimension has as many texts as it may have.
+    Full,
+    /// Memory ran out.
+    Memory,
+}
+
+/// For each of 1 to 16 dimensions a list of distinct texts, at most `max` each. A text's code is
+/// its place, counted from 0. Texts are found by their hash, whose seed is fixed.
+#[derive(Drop)]
+pub struct Dict {
+    lists: Vec<IndexSet<String>>,
+    max: u32,
+}
+
+impl Model for Dict {
+    ghost use Rattle.std.specs.Prelude.{map};
+    ghost use Rattle.value_dict.specs.TextLists.{IsDictionary, TextLists, texts_of};
+
+    ghost Value = { TextLists };
+
+    ghost view = { λ d. record { lists = map texts_of d.lists.items; max = d.max } };
+
+    ghost invariant = { λ d. IsDictionary (record { lists = map texts_of d.lists.items; max = d.max }) };
+}
+
+impl Dict {
+    /// No texts in any dimension.
+    pub fn new(alloc: Global, dims: u8, max: u32) -> Result<Dict, Memory>
+        requires some_dims { 0 < dims }
+        requires few_dims { dims ≤ 16 }
+        requires some_texts { 0 < max }
+        requires few_texts { max ≤ 4000000 }
+        ensures value { IfOk result (λ dict. dict ≡ no_texts dims max) }
+        ensures dictionary { IfOk result (λ dict. IsDictionary dict) }
+    {
+        let mut lists = Vec::with_capacity(alloc, dims as usize)?;
+        for _ in 0..dims {
+            lists.push(IndexSet::new(alloc))?;
+        }
+        Ok(Dict { lists, max })
+    }
+
+    /// How many texts the dimension has.
+    pub fn len(&self, dim: u8) -> u32
+        requires { dim < length self.now.lists }
+        ensures value { result ≡ length (list_at self.now dim) }
+        ensures dictionary { IsDictionary self.now }
+    {
+        self.lists[dim as usize].len() as u32
+    }
+
+    /// The code of a text, where it is there.
+    pub fn code(&self, dim: u8, text: &str) -> Option<Code>
+        requires { dim < length self.now.lists }
+        ensures value { result ≡ code_in (list_at self.now dim) text.now }
+        ensures within { IfSome result (λ code. code < length (list_at self.now dim)) }
+        ensures small { IfSome result (λ code. code < 4000000) }
+    {
+        let place = sets::place_of(&self.lists[dim as usize], text)?;
+        Some(place as u32)
+    }
+
+    /// The text of a code.
+    pub fn text(&self, dim: u8, code: Code) -> &str
+        requires dim { dim < length self.now.lists }
+        requires code { code < length (list_at self.now dim) }
+        ensures value { slice_get (list_at self.now dim) code ≡ Some result.now }
+        ensures code { code_in (list_at self.now dim) result.now ≡ Some code }
+    {
+        let texts = self.lists[dim as usize].as_slice();
+        texts[code as usize].as_str()
+    }
+
+    /// The code of a known text, or the text put last.
+    pub fn learn(&mut self, dim: u8, text: &str) -> Result<Code, Learn>
+        requires { dim < length self.old.lists }
+        ensures code { IfOk result (λ code. code_in (list_at self.new dim) text.now ≡ Some code) }
+        ensures within { IfOk result (λ code. code < length (list_at self.new dim)) }
+        ensures small { IfOk result (λ code. code < 4000000) }
+        ensures ok { OnOk result (self.new ≡ learnt self.old dim text.now) }
+        ensures err { OnErr result (self.new ≡ self.old) }
+        ensures full { (result ≡ Err Learn.Full) ↔ ((code_in (list_at self.old dim) text.now ≡ None) × (length (list_at self.old dim) ≡ self.old.max)) }
+        ensures dims { length self.new.lists ≡ length self.old.lists }
+        ensures dictionary { IsDictionary self.new }
+    {
+        let max = self.max;
+        sets::learn(&mut self.lists[dim as usize], max, text)
+    }
+
+    /// Cuts each list to its first so many texts. It takes no memory.
+    pub fn cut_back(&mut self, lens: &[u32])
+        requires { length lens.now ≡ length self.old.lists }
+        ensures lists { self.new.lists ≡ cut self.old.lists lens.now }
+        ensures max { self.new.max ≡ self.old.max }
+        ensures dims { length self.new.lists ≡ length self.old.lists }
+        ensures dictionary { IsDictionary self.new }
+    {
+        sets::cut_back(&mut self.lists, lens);
+    }
+
+    // The entry that a field asks for, where it asks for Any or for one text that is there.
+    fn entry_of(&self, dim: u8, field: &Field) -> Option<Entry>
+        requires { dim < length self.now.lists }
+        ensures value { option_map value_in result ≡ entry_in (list_at self.now dim) field.now }
+        ensures small { IfSome result (λ entry. IsSmall entry) }
+    {
+        match field {
+            Field::Any => Some(Entry::Any),
+            Field::One(text) => {
+                let code = self.code(dim, text.as_str())?;
+                Some(Entry::Is(code))
+            }
+            _ => None,
+        }
+    }
+
+    /// The cell that the fields ask for, each of them Any or one text. None where a text isn't
+    /// there, or a field asks for more than one value.
+    pub fn cell_of(&self, fields: &Fields) -> Option<Cell>
+        requires { length fields.now ≡ length self.now.lists }
+        ensures { result ≡ cell_in self.now.lists fields.now }
+    {
+        let dims = self.lists.len() as u8;
+        let mut cell = Cell::any(*self.lists.allocator(), dims);
+        for dim in 0..dims {
+            let entry = self.entry_of(dim, fields.get(dim as u32))?;
+            cell.set(dim, entry);
+        }
+        Some(cell)
+    }
+}
