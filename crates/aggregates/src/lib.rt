@@ -5,7 +5,11 @@
 mod agg;
 mod fraction;
 mod kind;
+mod read;
+mod value;
 
 pub use agg::{Agg, Part};
 pub use fraction::{Fraction, Ratio};
 pub use kind::AggKind;
+pub use read::{read_amount, read_fraction, read_id};
+pub use value::{compare, mean, value_of};
