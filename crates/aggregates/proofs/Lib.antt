@@ -3,3 +3,5 @@ pub mod Parts
 pub mod Digits
 pub mod Reading
 pub mod Places
+pub mod Printing
+pub mod Aggregates
