@@ -102,6 +102,7 @@ fn set_parts(parts: &mut [Part; 4], amounts: &[i64])
         slice_index_or parts.new k zero_part ≡ single (slice_index_or amounts.now k (pos 0)) }
     ensures others { (k : ℕ) → length amounts.now ≤ k →
         slice_index_or parts.new k zero_part ≡ slice_index_or parts.old k zero_part }
+    ensures four { length parts.new ≡ 4 }
 {
     'parts: for i in 0..amounts.len() {
         parts[i] = Part::single(amounts[i]);
@@ -118,6 +119,7 @@ fn add_amounts(parts: &mut [Part; 4], amounts: &[i64])
         ≡ joined (slice_index_or parts.old k zero_part) (single (slice_index_or amounts.now k (pos 0))) }
     ensures others { (k : ℕ) → length amounts.now ≤ k →
         slice_index_or parts.new k zero_part ≡ slice_index_or parts.old k zero_part }
+    ensures four { length parts.new ≡ 4 }
 {
     'parts: for i in 0..amounts.len() {
         parts[i] = parts[i].joined(Part::single(amounts[i]));
@@ -134,6 +136,7 @@ fn join_parts(parts: &mut [Part; 4], others: &[Part; 4], measures: u8)
         ≡ joined (slice_index_or parts.old k zero_part) (slice_index_or others.now k zero_part) }
     ensures others { (k : ℕ) → measures ≤ k →
         slice_index_or parts.new k zero_part ≡ slice_index_or parts.old k zero_part }
+    ensures four { length parts.new ≡ 4 }
 {
     'parts: for i in 0..usize::from(measures) {
         parts[i] = parts[i].joined(others[i]);
