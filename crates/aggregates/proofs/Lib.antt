@@ -5,3 +5,5 @@ pub mod Reading
 pub mod Places
 pub mod Printing
 pub mod Aggregates
+pub mod Together
+pub mod ReadBack

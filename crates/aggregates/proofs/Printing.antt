@@ -19,9 +19,9 @@ between-texts front more b = append_assoc front (b ∷ []) more
 digit-put : (xs digits more out : List ℕ) (p d : ℕ) → p < length xs → out ≡ take (p + 1) xs ++ digits ++ more → set out p d ≡ take p xs ++ d ∷ digits ++ more
 digit-put xs digits more out p d h e =
     let regrouped : out ≡ take p xs ++ get_or xs p 0 ∷ (digits ++ more) =
-        e ∙ ap (λ x. x ++ digits ++ more) (take_more xs p 0 h)
-        ∙ append_assoc (take p xs ++ get_or xs p 0 ∷ []) digits more
-        ∙ append_assoc (take p xs) (get_or xs p 0 ∷ []) (digits ++ more)
+    e ∙ ap (λ x. x ++ digits ++ more) (take_more xs p 0 h)
+    ∙ append_assoc (take p xs ++ get_or xs p 0 ∷ []) digits more
+    ∙ append_assoc (take p xs) (get_or xs p 0 ∷ []) (digits ++ more)
     in
     ap (λ l. set l p d) regrouped
     ∙ set_at (take p xs) (get_or xs p 0) (digits ++ more) d p (length-take-le p xs (omega arith))

@@ -10,7 +10,7 @@ parts-preserved c = record {
       (let lt : c.parts.i < length c.parts.parts = omega arith in rw get_or-set_same
       (c.joined.ensures
       ∙ ap₂ joined (c.parts.invariant.others c.parts.i (omega arith))
-          (c.single.ensures ∙ ap single (to_z-of_z w64 (slice_index_or c.args.amounts.now c.parts.i (pos 0)) (search rules)))));
+      (c.single.ensures ∙ ap single (to_z-of_z w64 (slice_index_or c.args.amounts.now c.parts.i (pos 0)) (search rules)))));
   others = λ k h. let ne : k ≢ c.parts.i = omega arith in rw get_or-set_other (c.parts.invariant.others k (omega arith));
   four = rw length-set c.parts.invariant.four;
 }
