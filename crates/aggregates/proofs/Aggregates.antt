@@ -1,5 +1,5 @@
 -- Parts that are joined place by place are the aggregates put together.
-use Rattle.std.proofs.Common.{◌≡◌, ℕ, zero, suc, ◌+◌, ◌*◌, ◌<◌, ◌≤◌, List, [], ◌∷◌, map, length, take, refl, sym, ap, ap₂, ◌∙◌, arith, ℤ, pos, slice_index_or}
+use Rattle.std.proofs.Common.{◌≡◌, ℕ, zero, suc, ◌<◌, ◌≤◌, List, [], ◌∷◌, map, length, take, refl, ap, ap₂, ◌∙◌, arith, ℤ, pos, slice_index_or}
 use Rattle.cube_laws.specs.Total.{combine_parts}
 use Rattle.aggregates.specs.declared.agg.Part.{Part}
 use Rattle.aggregates.specs.Bounds.{zero_part}

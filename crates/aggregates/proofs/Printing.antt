@@ -1,5 +1,5 @@
 -- Texts that are written one after another, and digits that are written from the last.
-use Rattle.std.proofs.Common.{◌≡◌, ℕ, suc, ◌+◌, ◌-◌, ◌*◌, ◌/◌, ◌%◌, ◌^◌, ◌<◌, ◌≤◌, List, [], ◌∷◌, ◌++◌, length, take, drop, get_or, refl, sym, ap, ◌∙◌, append_assoc, arith}
+use Rattle.std.proofs.Common.{◌≡◌, ℕ, suc, ◌+◌, ◌-◌, ◌/◌, ◌%◌, ◌^◌, ◌<◌, ◌≤◌, List, [], ◌∷◌, ◌++◌, length, take, drop, get_or, sym, ap, ◌∙◌, append_assoc, arith}
 use Rattle.std.specs.Prelude.{slice_set as set}
 use Rattle.std.proofs.lemmas.List.{take_at, take_more, set_at, length-take-le}
 use Rattle.std.proofs.lemmas.Slice.{drop-append-drop}

@@ -1,5 +1,5 @@
 -- What was printed is read as itself.
-use Rattle.std.proofs.Common.{◌≡◌, ℕ, zero, suc, ◌+◌, ◌-◌, ◌*◌, ◌/◌, ◌%◌, ◌^◌, ◌<◌, ◌≤◌, Bool, true, false, Option, Some, None, List, [], ◌∷◌, ◌++◌, length, drop, refl, sym, ap, ap₂, subst, ◌∙◌, arith, ℤ, pos, negsuc, neg_ℤ, nat_abs, decimal}
+use Rattle.std.proofs.Common.{◌≡◌, ℕ, zero, suc, ◌+◌, ◌-◌, ◌*◌, ◌/◌, ◌%◌, ◌^◌, ◌<◌, ◌≤◌, Bool, true, false, Some, List, [], ◌∷◌, ◌++◌, length, drop, refl, sym, ap, ap₂, ◌∙◌, arith, ℤ, pos, negsuc, neg_ℤ, nat_abs, decimal}
 use Rattle.std.specs.Prelude.{◌==◌, not}
 use Rattle.std.specs.Char.{is_ascii_digit}
 use Rattle.std.specs.List.{list_all}
@@ -11,8 +11,8 @@ use Rattle.std.proofs.Math.Nat.{div-add-mod, div-le_self, mod-one, pow-succ'}
 use Rattle.std.proofs.Math.Arith.{mod-mul}
 use Rattle.cube_defs.specs.Rows.{Fraction}
 use Rattle.aggregates.specs.Bounds.{largest_amount}
-use Rattle.aggregates.specs.Numbers.{amount_in, behind_digits, digits_front, fraction_tail, fraction_written, id_in, is_number, is_short, magnitude_in, number, places, places_in, positive_fraction, slash_tail, tail_in, within}
-use Rattle.aggregates.specs.Texts.{amount_text, last_digits, places_text, ratio_text, sign_text}
+use Rattle.aggregates.specs.Numbers.{amount_in, behind_digits, digits_front, fraction_tail, fraction_written, id_in, is_number, is_short, magnitude_in, number, places, positive_fraction, slash_tail, tail_in, within}
+use Rattle.aggregates.specs.Texts.{amount_text, last_digits, places_text, ratio_text}
 use Rattle.aggregates.proofs.Digits.{is_number-all, own, ten-pos}
 use Rattle.aggregates.proofs.Reading.{is_le, is_lt, within-is}
 

@@ -30,7 +30,8 @@ impl Agg {
     pub fn one(amounts: &[i64]) -> Agg
         requires few { length amounts.now ≤ 4 }
         requires small { All (λ a. nat_abs a ≤ largest_amount) amounts.now }
-        ensures { agg_in result ≡ agg_of_row amounts.now }
+        ensures aggregate { agg_in result ≡ agg_of_row amounts.now }
+        ensures measures { result.measures ≡ length amounts.now }
     {
         let mut parts = [ZERO; 4];
         set_parts(&mut parts, amounts);
@@ -46,7 +47,8 @@ impl Agg {
         requires measures { length amounts.now ≡ self.old.measures }
         requires small { All (λ a. nat_abs a ≤ largest_amount) amounts.now }
         requires few { self.old.count < 1000000 }
-        ensures { agg_in self.new ≡ combine (agg_in self.old) (agg_of_row amounts.now) }
+        ensures aggregate { agg_in self.new ≡ combine (agg_in self.old) (agg_of_row amounts.now) }
+        ensures measures { self.new.measures ≡ self.old.measures }
     {
         self.count += 1;
         add_amounts(&mut self.parts, amounts);
@@ -56,7 +58,8 @@ impl Agg {
     pub fn combine(&mut self, other: &Agg)
         requires measures { other.now.measures ≡ self.old.measures }
         requires few { self.old.count + other.now.count ≤ 1000000 }
-        ensures { agg_in self.new ≡ combine (agg_in self.old) (agg_in other.now) }
+        ensures aggregate { agg_in self.new ≡ combine (agg_in self.old) (agg_in other.now) }
+        ensures measures { self.new.measures ≡ self.old.measures }
     {
         self.count += other.count;
         join_parts(&mut self.parts, &other.parts, self.measures);

@@ -144,10 +144,11 @@ fn adds_rows_up(rt: HostRuntime) {
     agg.add_row(&[-1200]);
     agg.combine(&Agg::one(&[90]));
     assert_eq!(rt; agg.count, 3);
-    assert_eq!(rt; agg.parts[0].sum, -510);
-    assert_eq!(rt; agg.parts[0].least, -1200);
-    assert_eq!(rt; agg.parts[0].greatest, 600);
-    assert_eq!(rt; agg.parts[1].sum, 0);
+    let (first, second) = (agg.parts[0], agg.parts[1]);
+    assert_eq!(rt; first.sum, -510);
+    assert_eq!(rt; first.least, -1200);
+    assert_eq!(rt; first.greatest, 600);
+    assert_eq!(rt; second.sum, 0);
     assert!(rt; agg.measures == 1);
     ratio_prints_as(&rt, &mean(&agg, 0, 2), b"-17/10");
     ratio_prints_as(&rt, &value_of(&agg, AggKind::Count, 2), b"3/1");

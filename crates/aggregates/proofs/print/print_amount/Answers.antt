@@ -1,4 +1,4 @@
-use Rattle.std.proofs.Common.{◌≡◌, ℕ, ◌/◌, ◌^◌, ◌++◌, nat_abs, length, drop, ap, ap₂, ◌∙◌, length-append, arith, decimal, w64}
+use Rattle.std.proofs.Common.{◌≡◌, ◌/◌, ◌^◌, ◌++◌, nat_abs, length, drop, ap, ap₂, ◌∙◌, length-append, arith, decimal, w64}
 use Rattle.std.proofs.lemmas.Int.{to_z-of_z}
 use Rattle.aggregates.specs.Texts.{places_text, sign_text}
 use Rattle.aggregates.proofs.Printing.{put-on}

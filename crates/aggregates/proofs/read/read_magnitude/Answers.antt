@@ -1,4 +1,4 @@
-use Rattle.std.proofs.Common.{Some, None, ap, sym, ◌∙◌, arith}
+use Rattle.std.proofs.Common.{Some, None, sym, ◌∙◌, arith}
 use Rattle.aggregates.proofs.Digits.{length-digits_front}
 use Rattle.aggregates.proofs.Reading.{magnitude-large, magnitude-none, magnitude-tail, within-is, within-large}
 use Rattle.aggregates.proofs.read.read_magnitude.Goals as goal

@@ -1,4 +1,4 @@
-use Rattle.std.proofs.Common.{◌≡◌, ℕ, ◌+◌, ◌*◌, ◌/◌, get_or, arith, sym, ap, subst, Some}
+use Rattle.std.proofs.Common.{◌≡◌, ℕ, ◌+◌, ◌*◌, ◌/◌, get_or, arith, sym, ap, subst}
 use Rattle.aggregates.proofs.Places.{AtPlace, place-start, place-step, place-bad, place-nonzero, place-end, place-room}
 use Rattle.aggregates.proofs.read.read_places.Goals as goal
 use Rattle.aggregates.proofs.read.read_places.Goals.{else-unit-eq0-via-then-unit-eq0+else-digit-ne0, else-unit-eq0-via-else-unit-eq0}

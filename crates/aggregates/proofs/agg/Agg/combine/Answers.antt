@@ -5,8 +5,8 @@ use Rattle.aggregates.specs.Views.{part_in}
 use Rattle.aggregates.proofs.Aggregates.{parts-joined}
 use Rattle.aggregates.proofs.agg.Agg.combine.Goals as goal
 
-pub returns : goal.returns
-returns c =
+pub returns-clause-aggregate : goal.returns-clause-aggregate
+returns-clause-aggregate c =
     let own = c.args.self.now.parts in
     let others = c.args.other.now.parts in
     let measures = c.args.self.now.measures in
