@@ -1,0 +1,21 @@
+//! Aggregates of rows, the values that classes are asked for, and numbers as they are read and
+//! printed. No call takes memory.
+#![tactic(auto)]
+
+mod agg;
+mod fraction;
+mod kind;
+pub mod laws;
+mod print;
+mod read;
+mod value;
+
+pub use agg::{Agg, Part};
+pub use fraction::{Fraction, Ratio};
+pub use kind::AggKind;
+pub use print::{print_amount, print_number, print_ratio};
+pub use read::{read_amount, read_fraction, read_id};
+pub use value::{compare, mean, value_of};
+
+#[cfg(test)]
+mod tests;
