@@ -1,0 +1,11 @@
+//! Aggregates of rows, the values that classes are asked for, and numbers as they are read and
+//! printed. No call takes memory.
+#![tactic(auto)]
+
+mod agg;
+mod fraction;
+mod kind;
+
+pub use agg::{Agg, Part};
+pub use fraction::{Fraction, Ratio};
+pub use kind::AggKind;
