@@ -1,0 +1,4 @@
+pub mod Splits
+pub mod Naming
+pub mod Numbers
+pub mod Searching
