@@ -2,3 +2,4 @@ pub mod Splits
 pub mod Naming
 pub mod Numbers
 pub mod Searching
+pub mod Keeping

@@ -46,7 +46,7 @@ fn has_name(names: &Vec<String>, name: &[u8]) -> bool
 
 // Whether a measure has this name.
 fn has_measure(measures: &Vec<Measure>, name: &[u8]) -> bool
-    ensures { result ≡ list_any (λ y. bytes_eq y name.now) (map (λ m. string_bytes m.name) measures.now.items) }
+    ensures { result ≡ list_any (λ y. bytes_eq y name.now) (map (λ m. m.name) (map measure_in measures.now.items)) }
 {
     for measure in measures {
         if measure.name.as_bytes() == name {
@@ -131,12 +131,14 @@ impl Draft {
     }
 
     // Whether the id, a dimension or a measure has this name.
+    #[tactic(auto, using(crate::proofs::Searching::any_append))]
     fn has_column(&self, name: &[u8]) -> bool
         ensures { result ≡ is_used (layout_in self.now) name.now }
     {
-        self.id.as_bytes() == name
-            || has_name(&self.dims, name)
-            || has_measure(&self.measures, name)
+        if self.id.as_bytes() == name {
+            return true;
+        }
+        has_name(&self.dims, name) || has_measure(&self.measures, name)
     }
 
     /// The word, where it is a name that isn't used yet.

@@ -109,13 +109,14 @@ impl Reader {
         if word != b"qcube".as_slice() {
             return Err(LineRefused::Cause(SchemaCause::Version));
         }
-        match only_word(words) {
-            Ok(version) if version == b"1".as_slice() => {
-                self.stage = Stage::Qcube;
-                Ok(())
-            }
-            _ => Err(LineRefused::Cause(SchemaCause::Version)),
+        let Some((version, rest)) = split_word(words) else {
+            return Err(LineRefused::Cause(SchemaCause::Version));
+        };
+        if version != b"1".as_slice() || split_word(rest).is_some() {
+            return Err(LineRefused::Cause(SchemaCause::Version));
         }
+        self.stage = Stage::Qcube;
+        Ok(())
     }
 
     #[tactic(auto, unfolding(crate::specs::Grammar::id_line))]
