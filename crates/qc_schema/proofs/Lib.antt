@@ -3,3 +3,4 @@ pub mod Naming
 pub mod Numbers
 pub mod Searching
 pub mod Keeping
+pub mod Reading

@@ -48,6 +48,11 @@ pub data Fault : Type 0 where
   NotUtf8 : Fault
   Line : ℕ → SchemaCause → Fault
 
+-- why the text is refused where its line with this number is
+abbrev pub refused_at : ℕ → LineRefused → SchemaRefused
+refused_at line faults.Memory = refusals.Memory
+refused_at line (faults.Cause cause) = refusals.Line line cause
+
 -- The same of the whole text.
 abbrev pub FailsAs : SchemaRefused → Result Layout Fault → Type 0
 FailsAs refusals.Memory read = Unit {0}

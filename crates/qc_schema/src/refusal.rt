@@ -1,6 +1,7 @@
 // Why a text is no schema.
 ghost use Rattle.std.specs.Prelude.{◌≡◌};
 ghost use Rattle.qc_schema.specs.declared.refusal.LineRefused.TheVariants as faults;
+ghost use Rattle.qc_schema.specs.States.{refused_at};
 
 use std::alloc::{AllocError, AllocFailed};
 
@@ -38,6 +39,18 @@ pub enum SchemaRefused {
 pub enum LineRefused {
     Cause(SchemaCause),
     Memory,
+}
+
+impl LineRefused {
+    /// Why the text is refused, of which this is the line with that number.
+    pub fn at(self, line: u32) -> SchemaRefused
+        ensures { result ≡ refused_at line self }
+    {
+        match self {
+            LineRefused::Cause(cause) => SchemaRefused::Line { line, cause },
+            LineRefused::Memory => SchemaRefused::Memory,
+        }
+    }
 }
 
 impl From<AllocError> for LineRefused {

@@ -8,7 +8,7 @@ ghost use Rattle.qc_schema.specs.States.{IsRead, layout_in};
 use crate::draft::Draft;
 use crate::lines::{split_line, trim_cr, trim_mark};
 use crate::reader::Reader;
-use crate::refusal::{LineRefused, SchemaCause, SchemaRefused};
+use crate::refusal::{SchemaCause, SchemaRefused};
 use aggregates::AggKind;
 use std::alloc::Global;
 use std::marker::Model;
@@ -118,8 +118,7 @@ fn read_draft(alloc: Global, text: &[u8]) -> Result<Draft, SchemaRefused>
         let (first, behind) = split_line(rest);
         match reader.read_line(alloc, trim_cr(first)) {
             Ok(()) => {}
-            Err(LineRefused::Memory) => return Err(SchemaRefused::Memory),
-            Err(LineRefused::Cause(cause)) => return Err(SchemaRefused::Line { line, cause }),
+            Err(refused) => return Err(refused.at(line)),
         }
         rest = behind;
         line += 1;
@@ -141,9 +140,11 @@ pub fn read_schema(alloc: Global, bytes: &[u8]) -> Result<Schema, SchemaRefused>
     requires { length bytes.now ≤ 268435456 }
     ensures { IsRead (λ schema. schema) result (schema_in bytes.now) }
 {
-    if str::from_utf8(bytes).is_err() {
+    let Ok(text) = str::from_utf8(bytes) else {
         return Err(SchemaRefused::NotUtf8);
+    };
+    match read_draft(alloc, trim_mark(text.as_bytes())) {
+        Ok(draft) => Ok(Schema { draft }),
+        Err(refused) => Err(refused),
     }
-    let draft = read_draft(alloc, trim_mark(bytes))?;
-    Ok(Schema { draft })
 }
