@@ -1,0 +1,5 @@
+pub mod Ratios
+pub mod Parts
+pub mod Digits
+pub mod Reading
+pub mod Places

@@ -1,0 +1,42 @@
+-- Fractions in lowest terms are ratios.
+use Rattle.std.proofs.Common.{◌≡◌, ℕ, ◌<◌, ◌≤◌, ◌/◌, ◌*◌, ◌^◌, zero, suc, arith, ℤ, pos, nat_abs, sym, subst, ap₂, ◌∙◌}
+use Rattle.std.proofs.lemmas.Nat.Gcd.{same_from_IsGcd, le_from_IsGcd}
+use Rattle.std.proofs.Math.Nat.{div-le_self, mul-div_cancel'}
+use Rattle.std.specs.Prelude.{int_div}
+use Rattle.cube_defs.specs.Rows.{gcd, lowest_terms, Fraction}
+use Rattle.cube_laws.proofs.Divisors.{gcd-is, lowest_terms-coprime, lowest_terms-positive}
+use Rattle.aggregates.specs.Bounds.{IsRatio}
+
+pub gcd-positive : (a b : ℕ) → 0 < b → 0 < gcd a b
+gcd-positive a b h = positive (gcd a b) (b / gcd a b) (mul-div_cancel' (gcd a b) (gcd-is a b).1)
+  where
+    positive : (g x : ℕ) → g * x ≡ b → 0 < g
+    positive zero x e = omega arith
+    positive (suc g) x e = omega arith
+
+pub gcd-small : (a b : ℕ) → 0 < b → gcd a b ≤ b
+gcd-small a b h = small (gcd a b) (b / gcd a b) (mul-div_cancel' (gcd a b) (gcd-is a b).1)
+  where
+    small : (g x : ℕ) → g * x ≡ b → g ≤ b
+    small g zero e = omega arith
+    small g (suc x) e = omega arith
+
+pub lowest_terms-ratio : (a : ℤ) (b : ℕ) → 0 < b → b ≤ 10 ^ 12 → IsRatio (lowest_terms a b).num (lowest_terms a b).den
+lowest_terms-ratio a b h small = record {
+  positive = lowest_terms-positive a b h;
+  small = smaller (gcd (nat_abs a) b);
+  lowest = same_from_IsGcd (nat_abs (lowest_terms a b).num) (lowest_terms a b).den _ _ (gcd-is _ _) (lowest_terms-coprime a b h);
+}
+  where
+    smaller : (g : ℕ) → b / g ≤ 10 ^ 12
+    smaller g = omega (arith, div-le_self b g)
+
+-- the same, where the parts are known by equations
+pub ratio-from : (a x y : ℤ) (b g : ℕ) → 0 < b → b ≤ 10 ^ 12 → g ≡ gcd (nat_abs a) b → x ≡ int_div a (pos g) → y ≡ x → IsRatio y (b / g)
+ratio-from a x y b g h small e f d =
+    let P : ℕ → Type 0 = λ (k : ℕ). IsRatio (int_div a (pos k)) (b / k) in
+    let Q : ℤ → Type 0 = λ (z : ℤ). IsRatio z (b / g) in
+    subst Q (sym f ∙ sym d) (subst P (sym e) (lowest_terms-ratio a b h small))
+
+pub lowest_terms-same : (f : Fraction) (a b : ℤ) (m n : ℕ) → f ≡ lowest_terms a m → a ≡ b → m ≡ n → f ≡ lowest_terms b n
+lowest_terms-same f a b m n e p q = e ∙ ap₂ lowest_terms p q

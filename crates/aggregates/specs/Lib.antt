@@ -1,0 +1,5 @@
+pub mod Bounds
+pub mod Views
+pub mod Order
+pub mod Numbers
+pub mod Texts

@@ -1,0 +1,15 @@
+//! Aggregates of rows, the values that classes are asked for, and numbers as they are read and
+//! printed. No call takes memory.
+#![tactic(auto)]
+
+mod agg;
+mod fraction;
+mod kind;
+mod read;
+mod value;
+
+pub use agg::{Agg, Part};
+pub use fraction::{Fraction, Ratio};
+pub use kind::AggKind;
+pub use read::{read_amount, read_fraction, read_id};
+pub use value::{compare, mean, value_of};
