@@ -1,17 +1,14 @@
 -- What is read, by the digits at the front of the text.
-use Rattle.std.proofs.Common.{◌≡◌, ℕ, zero, suc, ◌+◌, ◌-◌, ◌*◌, ◌^◌, ◌<◌, ◌≤◌, ◌⊎◌, inl, inr, Bool, true, false, List, [], ◌∷◌, Option, Some, None, length, drop, get_or, refl, sym, ap, subst, ◌∙◌, arith, rules}
+use Rattle.std.proofs.Common.{◌≡◌, ℕ, zero, suc, ◌+◌, ◌-◌, ◌*◌, ◌^◌, ◌<◌, ◌≤◌, ◌⊎◌, inl, inr, Bool, true, false, List, [], ◌∷◌, Option, Some, None, length, take, drop, get_or, refl, sym, ap, subst, ◌∙◌, arith, ℤ, pos}
 use Rattle.std.specs.Prelude.{nat_lt, nat_le, ◌&&◌}
 use Rattle.std.specs.Option.{option_map}
 use Rattle.std.specs.Str.{all_ascii_digits}
 use Rattle.std.proofs.lemmas.Bool.Decides.{nat_tests}
-use Rattle.std.proofs.Math.Nat.{mul-le-mul_left, pow-suc}
-use Rattle.aggregates.specs.Bounds.{largest_amount}
+use Rattle.std.proofs.Math.Nat.{mul-le-mul, mul-le-mul_left, pow-le-pow_right}
+use Rattle.std.proofs.lemmas.List.{length-drop, take_all}
+use Rattle.aggregates.specs.Bounds.{largest_amount, IsFraction}
 use Rattle.aggregates.specs.Numbers.{number, is_number, digits_front, behind_digits, id_in, is_short, positive_fraction, fraction_tail, magnitude_in, tail_in, within}
-use Rattle.aggregates.proofs.Digits.{number-short, is_number-is, is_number-some, is_number-all, is_number-none, is_number-front, behind_digits-drop, digits_front-all, all_ascii_digits-front}
-
-pub ten-pos : (k : ℕ) → 0 < 10 ^ k
-ten-pos zero = omega arith
-ten-pos (suc k) = rw (pow-suc 10 k) (omega (arith, ten-pos k))
+use Rattle.aggregates.proofs.Digits.{number-short, is_number-is, is_number-some, is_number-all, is_number-none, is_number-front, ten-pos, behind_digits-drop, digits_front-all, all_ascii_digits-front}
 
 pub is_lt : (a b : ℕ) → a < b → nat_lt a b ≡ true
 is_lt a b h = grind (arith, nat_tests)
@@ -96,3 +93,92 @@ module _ (text : List ℕ) where
         go : (b : Bool) → is_number (digits_front text) ≡ b → magnitude_in scale text ≡ None
         go true e = rw e (large (tail_in scale (behind_digits text)))
         go false e = rw e refl
+
+-- what an answer that the text is no id says
+pub id_in-not : (text : List ℕ) → number text < 2 ^ 64 → id_in text ≡ None → is_number text ≡ false
+id_in-not text h e = go (is_number text) refl
+  where
+    go : (b : Bool) → is_number text ≡ b → is_number text ≡ false
+    go false f = f
+    go true f =
+        let g : id_in text ≡ Some (number text) = rw f (rw (is_lt (number text) (2 ^ 64) h) refl) in
+        cc
+
+pub id_in-is : (text : List ℕ) (n : ℕ) → id_in text ≡ Some n → (is_number text ≡ true) × (number text ≡ n)
+id_in-is text n e = go (is_number text) (nat_lt (number text) (2 ^ 64)) refl refl
+  where
+    go : (b d : Bool) → is_number text ≡ b → nat_lt (number text) (2 ^ 64) ≡ d → (is_number text ≡ true) × (number text ≡ n)
+    go false d f g = let none : id_in text ≡ None = rw f refl in absurd (cc)
+    go true false f g = let none : id_in text ≡ None = rw f (rw g refl) in absurd (cc)
+    go true true f g = let some : id_in text ≡ Some (number text) = rw f (rw g refl) in (f, cc)
+
+-- so many digits at most
+module _ (most : ℕ) (text : List ℕ) where
+  pub is_short-long : most < length text → is_short most text ≡ false
+  is_short-long h = rw (not_le (length text) most h) (go (is_number text))
+    where
+      go : (b : Bool) → (b && false) ≡ false
+      go true = refl
+      go false = refl
+
+  pub is_short-unread : most ≤ 18 → length text ≤ most → id_in text ≡ None → is_short most text ≡ false
+  is_short-unread m l e = go (is_number text) refl
+    where
+      small : is_number text ≡ true → number text < 2 ^ 64
+      small f = let p = number-short text 18 (is_number-some text f).0 (omega arith) in omega (arith, p)
+
+      go : (b : Bool) → is_number text ≡ b → is_short most text ≡ false
+      go false f = rw f refl
+      go true f = rw (id_in-not text (small f) e) refl
+
+  pub is_short-read : (n : ℕ) → length text ≤ most → id_in text ≡ Some n → is_short most text ≡ true
+  is_short-read n l e = rw (id_in-is text n e).0 (is_le (length text) most l)
+
+pub number-read : (k : ℕ) (text : List ℕ) (n : ℕ) → length text ≤ k → id_in text ≡ Some n → n < 10 ^ k
+number-read k text n l e =
+    let f = id_in-is text n e in
+    let p = number-short text k (is_number-some text f.0).0 l in
+    omega (arith, f.1, p)
+
+slice-rest : (text : List ℕ) (k : ℕ) → take (length text - k) (drop k text) ≡ drop k text
+slice-rest text k = take_all (length text - k) (drop k text) (omega (arith, length-drop k text))
+
+module _ (text : List ℕ) (k v : ℕ) (e : k ≡ length (digits_front text)) (f : v ≡ number (digits_front text)) where
+  rest-is : drop (length (digits_front text)) text ≡ take (length text - k) (drop k text)
+  rest-is = ap (λ j. drop j text) (sym e) ∙ sym (slice-rest text k)
+
+  pub positive-tail : 0 < k → k ≤ 18 → positive_fraction text ≡ fraction_tail v (take (length text - k) (drop k text))
+  positive-tail h l =
+      positive-some text (omega (arith, e)) (omega (arith, e))
+      ∙ ap (λ n. fraction_tail n (drop (length (digits_front text)) text)) (sym f)
+      ∙ ap (fraction_tail v) rest-is
+
+  pub positive-small : k ≤ 18 → v < 10 ^ 18
+  positive-small l = let p = number-short (digits_front text) 18 (all_ascii_digits-front text) (omega (arith, e)) in omega (arith, p, f)
+
+  pub magnitude-tail : (scale u : ℕ) (o : Option ℕ) → 0 < k → u ≡ 10 ^ scale → o ≡ tail_in scale (take (length text - k) (drop k text)) → magnitude_in scale text ≡ within (option_map (λ n. v * u + n) o)
+  magnitude-tail scale u o h g t =
+      let r : tail_in scale (drop (length (digits_front text)) text) ≡ o = ap (tail_in scale) rest-is ∙ sym t in
+      magnitude-is text scale (omega (arith, e))
+      ∙ ap (λ x. within (option_map (λ n. number (digits_front text) * 10 ^ scale + n) x)) r
+      ∙ ap (λ a. within (option_map (λ n. a * 10 ^ scale + n) o)) (sym f)
+      ∙ ap (λ b. within (option_map (λ n. v * b + n) o)) (sym g)
+
+pub within-large : (n : ℕ) → largest_amount < n → within (Some n) ≡ None
+within-large n h = rw (not_le n largest_amount h) refl
+
+pub within-is : (n : ℕ) → n ≤ largest_amount → within (Some n) ≡ Some n
+within-is n h = rw (is_le n largest_amount h) refl
+
+pub fraction-from : (y : ℤ) (n d : ℕ) → y ≡ pos n → 0 < d → d < 10 ^ 18 → n < 10 ^ 24 → IsFraction y d
+fraction-from y n d e h l m =
+    let P : ℤ → Type 0 = λ (z : ℤ). IsFraction z d in
+    subst P (sym e) (record { positive = h; small = l; numerator = m })
+
+pub numerator-small : (whole den value k : ℕ) → whole < 10 ^ 18 → k ≤ 6 → den ≡ 10 ^ k → value < 10 ^ k → whole * den + value < 10 ^ 24
+numerator-small whole den value k h l e v =
+    let p : 10 ^ k ≤ 10 ^ 6 = pow-le-pow_right (omega arith) l in
+    let w : whole ≤ 999999999999999999 = omega arith in
+    let q = mul-le-mul w p in
+    let d = ap (λ n. whole * n) e in
+    omega (arith, p, q, d)

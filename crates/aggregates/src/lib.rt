@@ -5,11 +5,13 @@
 mod agg;
 mod fraction;
 mod kind;
+mod print;
 mod read;
 mod value;
 
 pub use agg::{Agg, Part};
 pub use fraction::{Fraction, Ratio};
 pub use kind::AggKind;
+pub use print::{print_amount, print_number, print_ratio};
 pub use read::{read_amount, read_fraction, read_id};
 pub use value::{compare, mean, value_of};

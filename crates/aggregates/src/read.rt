@@ -1,5 +1,5 @@
 // Numbers as they are read.
-ghost use Rattle.std.specs.Prelude.{◌≡◌, ◌<◌, ◌≤◌, ◌*◌, ◌^◌, length, IfSome, MatchOption};
+ghost use Rattle.std.specs.Prelude.{◌≡◌, ◌<◌, ◌≤◌, ◌+◌, ◌*◌, ◌^◌, length, pos, IfSome, MatchOption};
 ghost use Rattle.std.specs.Option.{option_map};
 ghost use Rattle.aggregates.specs.Numbers.{amount_in, digits_front, fraction_written, id_in, magnitude_in, number, places_in, point_tail, positive_fraction, fraction_tail, slash_tail, tail_in};
 ghost use Rattle.aggregates.specs.Views.{fraction_in};
@@ -132,8 +132,17 @@ fn read_decimal(whole: u64, places: &[u8]) -> Option<Fraction>
     }
     let value = read_id(places)?;
     let den = power_of_ten(places.len() as u8);
-    let num = i128::from(whole) * i128::from(den) + i128::from(value);
-    Some(Fraction { num, den })
+    Some(Fraction {
+        num: numerator(whole, den, value),
+        den,
+    })
+}
+
+fn numerator(whole: u64, den: u64, value: u64) -> i128
+    requires { whole * den + value < 10 ^ 24 }
+    ensures { result ≡ pos (whole * den + value) }
+{
+    i128::from(whole) * i128::from(den) + i128::from(value)
 }
 
 fn read_quotient(whole: u64, digits: &[u8]) -> Option<Fraction>
