@@ -117,7 +117,7 @@ pub fn read_rows(
 ) -> Result<RawBatch, LoadRefused>
     requires columns { AreColumns schema.now columns.now }
     requires empty { texts ≡ [] }
-    requires few { length rows.old < 2 ^ 32 - 1 }
+    requires few { length rows.old + 1 < 2 ^ 32 }
     requires room { 14 * bytes_in_all rows.old < 2 ^ 32 }
     ensures gives { Gives result (rows_from schema.now columns.now.width columns.now.places.items 1 rows.old) }
     ensures dims { IfOk result (λ batch. batch.dims ≡ length schema.now.dims) }
