@@ -1,10 +1,12 @@
 -- The fields of a record.
 use Rattle.std.proofs.Common.{◌≡◌, ◌<◌, ◌≤◌, ◌∙◌, ℕ, zero, suc, List, [], ◌∷◌, length, get_or, refl, sym, ap, arith, Some, None, true, false, Bool, ◌++◌, ◌+◌, append_assoc}
-use Rattle.std.specs.Prelude.{Option, option_map, IsSome, IsUtf8, slice_range}
+use Rattle.std.specs.Prelude.{Option, option_map, IsSome, IsUtf8, slice_range, ◌&&◌}
 use Rattle.std.specs.List.{list_all}
 use Rattle.std.specs.Str.{is_utf8}
 use Rattle.std.proofs.lemmas.Str.{IsUtf8-from_is_utf8}
 use Rattle.csv.specs.Records.{field_at}
+use Rattle.std.proofs.lemmas.Bool.{le-leb, lt-leb}
+use Rattle.csv_load.specs.Base.{is_short}
 use Rattle.csv_load.proofs.Ranges.{range-more}
 
 pub field-at : (fields : List (List ℕ)) (i : ℕ) → i < length fields → field_at fields i ≡ Some (get_or fields i [])
@@ -36,3 +38,15 @@ pub texts-more : (texts fields : List (List ℕ)) (i j : ℕ) → i < j → j �
     → texts ++ slice_range fields i j ≡ (texts ++ get_or fields i [] ∷ []) ++ slice_range fields (i + 1) j
 texts-more texts fields i j low high =
     ap (λ (more : List (List ℕ)). texts ++ more) (range-more fields i j [] low high) ∙ sym (append_assoc texts (get_or fields i [] ∷ []) (slice_range fields (i + 1) j))
+
+-- whether all are short, when one more is looked at
+pub short-bad : (fields : List (List ℕ)) (i j : ℕ) (b x : Bool) → i < j → j ≤ length fields → 255 < length (get_or fields i []) → (b && list_all is_short (slice_range fields i j)) ≡ x → x ≡ false
+short-bad fields i j b x low high long e = sym e ∙ ap (λ (y : Bool). b && y) (bad-first is_short fields i j low high (lt-leb (length (get_or fields i [])) 255 long)) ∙ never b
+  where
+    never : (b : Bool) → (b && false) ≡ false
+    never true = refl
+    never false = refl
+
+pub short-good : (fields : List (List ℕ)) (i j : ℕ) (b x : Bool) → i < j → j ≤ length fields → length (get_or fields i []) ≤ 255 → (b && list_all is_short (slice_range fields i j)) ≡ x
+    → (b && list_all is_short (slice_range fields (i + 1) j)) ≡ x
+short-good fields i j b x low high few e = ap (λ (y : Bool). b && y) (sym (good-first is_short fields i j low high (le-leb (length (get_or fields i [])) 255 few))) ∙ e

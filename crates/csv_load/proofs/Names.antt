@@ -104,3 +104,6 @@ name-measure layout (suc column) k e h =
     ap (λ (i : ℕ). get_or (layout.dims ++ map (λ (m : Measure). m.name) layout.measures) i []) (omega (arith, e))
     ∙ get_or-append-add layout.dims (map (λ (m : Measure). m.name) layout.measures) k []
     ∙ get_or-map (λ (m : Measure). m.name) layout.measures k no_measure [] h
+
+pub length-at : (places : List ℕ) (fields : List (List ℕ)) → length (fields_at places fields) ≡ length places
+length-at places fields = length-map places (λ place. get_or fields place [])

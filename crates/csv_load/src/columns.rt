@@ -1,5 +1,5 @@
 // Where a file has the columns that a schema names.
-ghost use Rattle.std.specs.Prelude.{◌≡◌, ◌<◌, [], length, IfOk, IfSome, option_map, slice_index_or};
+ghost use Rattle.std.specs.Prelude.{◌≡◌, ◌<◌, ◌≤◌, [], length, IfOk, IfSome, option_map, slice_index_or};
 ghost use Rattle.csv.specs.Records.{fields_of};
 ghost use Rattle.qc_schema.specs.Schema.{names_of};
 ghost use Rattle.csv_load.specs.Columns.{AreColumns, fields_at, place_from, places_in};
@@ -29,8 +29,7 @@ pub fn needed_field<'a>(columns: &Columns, row: &'a ByteRecord, column: usize) -
 
 // The place of the one field that is this name.
 fn place_of(header: &ByteRecord, name: &str) -> Option<usize>
-    ensures value { result ≡ place_from 0 name.now (fields_of header.now) }
-    ensures within { IfSome result (λ place. place < length (fields_of header.now)) }
+    ensures { result ≡ place_from 0 name.now (fields_of header.now) }
 {
     let mut found = None;
     for place in 0..header.len() {
@@ -66,6 +65,7 @@ fn find_places(
     header: &ByteRecord,
 ) -> Result<Option<Vec<usize>>, AllocError>
     ensures found { IfOk result (λ found. option_map (λ places. places.items) found ≡ places_in (fields_of header.now) (names_of schema.now)) }
+    ensures few { length (names_of schema.now) ≤ 14 }
 {
     let count = 1 + schema.dims() as usize + schema.measures() as usize;
     let mut places = Vec::with_capacity(alloc, count)?;

@@ -6,6 +6,7 @@ ghost use Rattle.csv.specs.Records.{fields_of};
 ghost use Rattle.cube_defs.specs.Rows.{Row};
 ghost use Rattle.cube_defs.specs.Text.{Text};
 ghost use Rattle.csv_load.specs.Base.{AddsRow, amounts_in, is_short, row_in, rows_from};
+ghost use Rattle.csv_load.specs.Batch.{IsLoaded};
 ghost use Rattle.csv_load.specs.Columns.{AreColumns, fields_at};
 ghost use Rattle.csv_load.specs.Faults.{Fails, Gives, IsRefused};
 ghost use Rattle.csv_load.specs.Texts.{bytes_in, bytes_in_all};
@@ -88,7 +89,8 @@ fn push_row(
 ) -> Result<(), LoadRefused>
     requires columns { AreColumns schema.now columns.now }
     requires room { bytes_in texts.old + bytes_in (fields_at columns.now.places.items (fields_of row.now)) < 2 ^ 32 }
-    ensures ok { OnOk result ((added : Row Text) × (row_in schema.now columns.now.width columns.now.places.items number (fields_of row.now) ≡ Ok added) × AddsRow added ids.old.items ids.new.items texts.old texts.new amounts.old.items amounts.new.items) }
+    ensures ok { OnOk result ((added : Row Text) × (row_in schema.now columns.now.width columns.now.places.items number (fields_of row.now) ≡ Ok added) × IsLoaded (length schema.now.dims) (length schema.now.measures) added × AddsRow added ids.old.items ids.new.items texts.old texts.new amounts.old.items amounts.new.items) }
+    ensures size { OnOk result (bytes_in texts.new ≤ bytes_in texts.old + bytes_in (fields_at columns.now.places.items (fields_of row.now))) }
     ensures err { IfErr result (λ e. Fails e (row_in schema.now columns.now.width columns.now.places.items number (fields_of row.now))) }
 {
     if row.len() != columns.width {

@@ -49,7 +49,7 @@ fn read_plain(rdr: &mut Reader<&[u8]>, row: &mut ByteRecord) -> Result<bool, All
 }
 
 impl<'a> Rows<'a> {
-    #[tactic(auto, using(crate::proofs::Sizes::size_records))]
+    #[tactic(auto, using(crate::proofs::Sizes::size_records, crate::proofs::Sizes::few_records))]
     /// One byte order mark in front is passed over.
     pub fn new(alloc: Global, text: &'a [u8]) -> Self
         ensures records { result ≡ records default_config (strip_bom text.now) }
