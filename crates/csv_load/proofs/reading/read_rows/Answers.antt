@@ -1,5 +1,6 @@
 use Rattle.std.proofs.Common.{◌∙◌, ◌≡◌, ◌<◌, ◌≤◌, ◌∷◌, ◌++◌, List, [], sym, ap, arith, refl, length, ◌+◌, ◌^◌, subst, Ok}
 use Rattle.std.proofs.lemmas.List.{length_push}
+use Rattle.std.proofs.lemmas.Result.{err_from_is_err_and}
 use Rattle.csv.specs.Records.{fields_of}
 use Rattle.cube_defs.specs.Rows.{Row}
 use Rattle.cube_defs.specs.Text.{Text}
@@ -51,8 +52,11 @@ returns-in_err-push_row-clause-gives c =
     let before = rows_of_columns (length layout.dims) (length layout.measures) c.records.ids.items c.records.texts c.records.amounts.items in
     let left : c.records.rows ≡ fields_of c.next.new.row ∷ c.next.new.self = rw c.if-branch.true at c.in_ok-next.ensures.next in
     let number : c.len.result + 1 ≡ 1 + length c.records.ids.items = omega (arith, c.len.ensures) in
-    let first = rw number at c.in_err-push_row.ensures.err in
+    let first : Fails c.in_err-push_row.field-0.0 (row_in layout width places (1 + length c.records.ids.items) (fields_of c.next.new.row)) = rw number at c.in_err-push_row.ensures.err in
     let whole = rw left at c.records.invariant.rows in
-    subst (Fails c.in_err-push_row.field-0) whole
-    (fails-with c.in_err-push_row.field-0 before (rows_from layout width places (1 + length c.records.ids.items) (fields_of c.next.new.row ∷ c.next.new.self))
-    (fails-cons c.in_err-push_row.field-0 (row_in layout width places (1 + length c.records.ids.items) (fields_of c.next.new.row)) (rows_from layout width places (1 + length c.records.ids.items + 1) c.next.new.self) first))
+    let gives : Fails c.in_err-push_row.field-0.0 (rows_from layout width places 1 c.args.rows.now)
+    = rw (← whole)
+    (fails-with c.in_err-push_row.field-0.0 before (rows_from layout width places (1 + length c.records.ids.items) (fields_of c.next.new.row ∷ c.next.new.self))
+    (fails-cons c.in_err-push_row.field-0.0 (row_in layout width places (1 + length c.records.ids.items) (fields_of c.next.new.row)) (rows_from layout width places (1 + length c.records.ids.items + 1) c.next.new.self) first)) in
+    let p = err_from_is_err_and c.from_residual-in_err-push_row.result c.from_residual-in_err-push_row.ensures.1 in
+    rw (p.1, p.2) gives
