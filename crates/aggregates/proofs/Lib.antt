@@ -3,3 +3,7 @@ pub mod Parts
 pub mod Digits
 pub mod Reading
 pub mod Places
+pub mod Printing
+pub mod Aggregates
+pub mod Together
+pub mod ReadBack

@@ -1,6 +1,6 @@
 -- Fractions in lowest terms are ratios.
 use Rattle.std.proofs.Common.{◌≡◌, ℕ, ◌<◌, ◌≤◌, ◌/◌, ◌*◌, ◌^◌, zero, suc, arith, ℤ, pos, nat_abs, sym, subst, ap₂, ◌∙◌}
-use Rattle.std.proofs.lemmas.Nat.Gcd.{same_from_IsGcd, le_from_IsGcd}
+use Rattle.std.proofs.lemmas.Nat.Gcd.{same_from_IsGcd}
 use Rattle.std.proofs.Math.Nat.{div-le_self, mul-div_cancel'}
 use Rattle.std.specs.Prelude.{int_div}
 use Rattle.cube_defs.specs.Rows.{gcd, lowest_terms, Fraction}

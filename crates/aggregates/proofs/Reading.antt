@@ -1,14 +1,13 @@
 -- What is read, by the digits at the front of the text.
-use Rattle.std.proofs.Common.{◌≡◌, ℕ, zero, suc, ◌+◌, ◌-◌, ◌*◌, ◌^◌, ◌<◌, ◌≤◌, ◌⊎◌, inl, inr, Bool, true, false, List, [], ◌∷◌, Option, Some, None, length, take, drop, get_or, refl, sym, ap, subst, ◌∙◌, arith, ℤ, pos}
+use Rattle.std.proofs.Common.{◌≡◌, ℕ, ◌+◌, ◌-◌, ◌*◌, ◌^◌, ◌<◌, ◌≤◌, ◌⊎◌, Bool, true, false, List, Option, Some, None, length, take, drop, refl, sym, ap, subst, ◌∙◌, arith, ℤ, pos}
 use Rattle.std.specs.Prelude.{nat_lt, nat_le, ◌&&◌}
 use Rattle.std.specs.Option.{option_map}
-use Rattle.std.specs.Str.{all_ascii_digits}
 use Rattle.std.proofs.lemmas.Bool.Decides.{nat_tests}
 use Rattle.std.proofs.Math.Nat.{mul-le-mul, mul-le-mul_left, pow-le-pow_right}
 use Rattle.std.proofs.lemmas.List.{length-drop, take_all}
 use Rattle.aggregates.specs.Bounds.{largest_amount, IsFraction}
 use Rattle.aggregates.specs.Numbers.{number, is_number, digits_front, behind_digits, id_in, is_short, positive_fraction, fraction_tail, magnitude_in, tail_in, within}
-use Rattle.aggregates.proofs.Digits.{number-short, is_number-is, is_number-some, is_number-all, is_number-none, is_number-front, ten-pos, behind_digits-drop, digits_front-all, all_ascii_digits-front}
+use Rattle.aggregates.proofs.Digits.{number-short, is_number-is, is_number-some, is_number-none, is_number-front, ten-pos, behind_digits-drop, digits_front-all, all_ascii_digits-front}
 
 pub is_lt : (a b : ℕ) → a < b → nat_lt a b ≡ true
 is_lt a b h = grind (arith, nat_tests)

@@ -3,3 +3,4 @@ pub mod Views
 pub mod Order
 pub mod Numbers
 pub mod Texts
+pub mod Rows

@@ -1,5 +1,5 @@
 -- The notions that the types of this crate stand for.
-use Rattle.std.specs.Prelude.{ℕ, ◌<◌, List, map, take}
+use Rattle.std.specs.Prelude.{ℕ, ◌<◌, map, take}
 use Rattle.cube_defs.specs.Rows as defs
 use Rattle.cube_defs.specs.Answers as answers
 use Rattle.aggregates.specs.declared.agg.Part.{Part}

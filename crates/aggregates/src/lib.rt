@@ -5,6 +5,7 @@
 mod agg;
 mod fraction;
 mod kind;
+pub mod laws;
 mod print;
 mod read;
 mod value;
@@ -15,3 +16,6 @@ pub use kind::AggKind;
 pub use print::{print_amount, print_number, print_ratio};
 pub use read::{read_amount, read_fraction, read_id};
 pub use value::{compare, mean, value_of};
+
+#[cfg(test)]
+mod tests;

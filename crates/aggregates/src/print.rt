@@ -25,7 +25,7 @@ pub fn print_amount(value: i64, scale: u8, out: &mut [u8]) -> usize
     ensures len { result ≡ length (amount_text scale value) }
 {
     let magnitude = value.unsigned_abs();
-    let sign = put_sign(value < 0, out);
+    let sign = put_sign(value, out);
     let whole = put_number(magnitude / power_of_ten(scale), out, sign);
     put_places(magnitude, scale, out, whole)
 }

@@ -116,7 +116,10 @@ fn read_fraction_tail(whole: u64, text: &[u8]) -> Option<Fraction>
     ensures { option_map fraction_in result ≡ fraction_tail whole text.now }
 {
     match text {
-        [] => Some(Fraction { num: i128::from(whole), den: 1 }),
+        [] => Some(Fraction {
+            num: i128::from(whole),
+            den: 1,
+        }),
         [b'.', places @ ..] => read_decimal(whole, places),
         [b'/', digits @ ..] => read_quotient(whole, digits),
         _ => None,

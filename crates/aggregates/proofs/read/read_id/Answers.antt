@@ -10,8 +10,8 @@ returns-in_err-digits c = c.from_residual.ensures ∙ sym (id_in-large c.args.te
 pub returns-then-digits-eq0 : goal.returns-then-digits-eq0
 returns-then-digits-eq0 c =
     elim c.then-digits-eq0.branch [
-    | then-digits-eq0-via-then-digits-eq0 w ↦ sym (id_in-none c.args.text.now (inl (omega (arith, c.in_ok-digits.ensures))))
-    | then-digits-eq0-via-else-digits-eq0+then-digits-text w ↦ sym (id_in-none c.args.text.now (inr (omega (arith, c.in_ok-digits.ensures))))
+      | then-digits-eq0-via-then-digits-eq0 w ↦ sym (id_in-none c.args.text.now (inl (omega (arith, c.in_ok-digits.ensures))))
+      | then-digits-eq0-via-else-digits-eq0+then-digits-text w ↦ sym (id_in-none c.args.text.now (inr (omega (arith, c.in_ok-digits.ensures))))
     ]
 
 pub returns : goal.returns

@@ -1,4 +1,4 @@
-use Rattle.std.proofs.Common.{◌≡◌, ℕ, ◌+◌, ◌*◌, ◌/◌, get_or, arith, sym, ap, subst, Some}
+use Rattle.std.proofs.Common.{◌≡◌, ℕ, ◌+◌, ◌*◌, ◌/◌, get_or, arith, sym, ap, subst}
 use Rattle.aggregates.proofs.Places.{AtPlace, place-start, place-step, place-bad, place-nonzero, place-end, place-room}
 use Rattle.aggregates.proofs.read.read_places.Goals as goal
 use Rattle.aggregates.proofs.read.read_places.Goals.{else-unit-eq0-via-then-unit-eq0+else-digit-ne0, else-unit-eq0-via-else-unit-eq0}
@@ -24,10 +24,10 @@ places-init c = place-start c.args.scale c.power_of_ten-unit.result c.args.text.
 pub places-preserved : goal.places-preserved
 places-preserved c =
     let zero_if : c.places.unit / 10 ≡ 0 → get_or c.args.text.now c.places.byte-index 0 ≡ 48 =
-        λ u. elim c.else-unit-eq0.branch [
-        | else-unit-eq0-via-then-unit-eq0+else-digit-ne0 w ↦ grind arith
-        | else-unit-eq0-via-else-unit-eq0 w ↦ absurd (w.if-unit-eq0.false u)
-        ]
+    λ u. elim c.else-unit-eq0.branch [
+      | else-unit-eq0-via-then-unit-eq0+else-digit-ne0 w ↦ grind arith
+      | else-unit-eq0-via-else-unit-eq0 w ↦ absurd (w.if-unit-eq0.false u)
+    ]
     in
     let step = place-step c.args.scale c.args.text.now c.places.byte-index c.places.value c.places.unit (omega arith) c.places.invariant (grind arith) (grind arith) zero_if in
     let P : ℕ → Type 0 = λ n. AtPlace c.args.scale c.args.text.now (c.places.byte-index + 1) (c.places.value + n * (c.places.unit / 10)) (c.places.unit / 10) in

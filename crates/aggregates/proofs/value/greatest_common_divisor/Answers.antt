@@ -14,8 +14,8 @@ euclid-preserved c = λ g h. c.euclid.invariant g (IsGcd-from_mod c.euclid.a c.e
 pub returns : goal.returns
 returns c =
     let e : c.euclid.a ≡ gcd c.args.first c.args.second = same_from_IsGcd c.args.first c.args.second _ _
-        (c.euclid.invariant c.euclid.a (IsGcd-from_zero c.euclid.a c.euclid.b (omega arith)))
-        (gcd-is c.args.first c.args.second)
+    (c.euclid.invariant c.euclid.a (IsGcd-from_zero c.euclid.a c.euclid.b (omega arith)))
+    (gcd-is c.args.first c.args.second)
     in
     record {
       value = e;

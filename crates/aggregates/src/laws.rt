@@ -1,0 +1,36 @@
+//! Laws of rows that are added up, and of numbers that are printed and read again, as the
+//! contracts of functions that have nothing to do.
+ghost use Rattle.std.specs.Prelude.{◌≡◌, ℕ, ℤ, ◌<◌, ◌≤◌, ◌^◌, List, [], ◌∷◌, ◌++◌, Some, decimal, length, nat_abs};
+ghost use Rattle.cube_defs.specs.Rows.{Fraction, Row, agg_of};
+ghost use Rattle.cube_laws.specs.Total.{combine};
+ghost use Rattle.aggregates.specs.Bounds.{largest_amount};
+ghost use Rattle.aggregates.specs.Numbers.{amount_in, fraction_written, id_in};
+ghost use Rattle.aggregates.specs.Rows.{agg_of_row};
+ghost use Rattle.aggregates.specs.Texts.{amount_text, ratio_text};
+
+use cube_laws::values::Value;
+
+/// The aggregate of one row is that of its amounts, and the aggregate of rows put together is
+/// their aggregates combined.
+pub fn aggregates_of_rows_put_together<V: Value>()
+    ensures one { (row : Row V) → agg_of (length row.amounts) (row ∷ []) ≡ agg_of_row row.amounts }
+    ensures combined { (measures : ℕ) (rows more : List (Row V)) → 0 < length rows → 0 < length more →
+        agg_of measures (rows ++ more) ≡ combine (agg_of measures rows) (agg_of measures more) }
+{}
+
+/// An id that was printed is read as itself.
+pub fn printed_ids_are_read()
+    ensures { (id : ℕ) → id < 2 ^ 64 → id_in (decimal id) ≡ Some id }
+{}
+
+/// An amount that was printed is read as itself, at each scale.
+pub fn printed_amounts_are_read()
+    ensures { (scale : ℕ) (amount : ℤ) → nat_abs amount ≤ largest_amount →
+        amount_in scale (amount_text scale amount) ≡ Some amount }
+{}
+
+/// A ratio that was printed is read as itself, where both its numbers have at most 18 digits.
+pub fn printed_ratios_are_read()
+    ensures { (ratio : Fraction) → nat_abs ratio.num < 10 ^ 18 → 0 < ratio.den → ratio.den < 10 ^ 18 →
+        fraction_written (ratio_text ratio) ≡ Some ratio }
+{}
