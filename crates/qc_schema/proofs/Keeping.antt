@@ -1,0 +1,514 @@
+-- What is kept of a schema, line by line.
+use Rattle.std.proofs.Common.{◌≡◌, ◌<◌, ◌≤◌, ◌+◌, ◌∙◌, ℕ, List, [], ◌∷◌, ◌++◌, length, map, refl, sym, ap, arith, true, false, Bool, cond, Result, Ok, Err, append_assoc, subst, Some, None}
+use Rattle.std.specs.Prelude.{not, ◌&&◌, ◌||◌, ◌==◌, nat_lt, nat_le, codes, Option}
+use Rattle.std.specs.List.{list_all, list_any, AllByRecursion}
+use Rattle.std.specs.Str.{bytes_eq, all_ascii_digits}
+use Rattle.std.specs.Str.Parse.{digits_value}
+use Rattle.std.proofs.lemmas.Bool.{and_parts, leb-true, ltb-true, eqb-true}
+use Rattle.std.proofs.lemmas.Bool.Decides.{nat_tests}
+use Rattle.std.specs.Bool.{Decides}
+use Rattle.std.proofs.lemmas.Slice.Eq.{bytes_eq-Decides}
+use Rattle.std.proofs.lemmas.List.{map-append, length_push, length-append, append-nil}
+use Rattle.std.proofs.lemmas.List.Folds.{list_any-append}
+use Rattle.aggregates.specs.Views.{IsThere}
+use Rattle.aggregates.specs.declared.kind.AggKind.{AggKind}
+use Rattle.aggregates.specs.declared.kind.AggKind.TheVariants as kinds
+use Rattle.cube_defs.specs.Text.{Text}
+use Rattle.qc_schema.specs.Schema.{IsLayout, Layout, Measure, all_different, is_name, names_of, same_kind}
+use Rattle.qc_schema.specs.States.{State, Fault, Line, NotUtf8}
+use Rattle.qc_schema.specs.Lines.{is_comment, words_of}
+use Rattle.qc_schema.specs.Grammar.{◌>>=◌, and_on, count_kind, dim_line, id_line, in_order, index_line, is_start, is_used, is_version, kind_named, kind_of, limit_in, line_of_words, may_dim, may_end, may_id, may_index, may_measure, may_rows, may_values, measure_from, measure_line, named_line, new_kind, new_name, nodes_line, one_word, read_lines, rows_line, scale_in, start, take_line, two_words, values_line, version_line}
+use Rattle.qc_schema.specs.declared.reader.Stage.{Stage}
+use Rattle.qc_schema.specs.declared.reader.Stage.TheVariants as stages
+use Rattle.qc_schema.specs.declared.refusal.SchemaCause.{SchemaCause}
+use Rattle.qc_schema.specs.declared.refusal.SchemaCause.TheVariants.{End, Name, Number, Order, Version}
+
+-- what holds behind a line of each kind
+abbrev pub AtStage : Stage → Layout → Type 0
+AtStage stages.Start l = l ≡ start.layout
+AtStage stages.Qcube l = l ≡ start.layout
+AtStage stages.Id l = (is_name l.id ≡ true) × (l ≡ record start.layout { id = l.id })
+AtStage stages.Dim l = IsLayout l × (l.measures ≡ []) × (l.indexes ≡ [])
+AtStage stages.Measure l = IsLayout l × (l.indexes ≡ [])
+AtStage stages.Index l = IsLayout l
+AtStage stages.Nodes l = IsLayout l
+AtStage stages.Rows l = IsLayout l
+AtStage stages.Values l = IsLayout l
+
+pub record Keeps (s : State) : Type 0 where
+  pub holds : AtStage s.stage s.layout
+
+-- steps of reading
+bind_ok : {A B : Type 0} (r : Result A SchemaCause) (f : A → Result B SchemaCause) (y : B) → (r >>= f) ≡ Ok y → (x : A) × (r ≡ Ok x) × (f x ≡ Ok y)
+bind_ok (Ok x) f y e = (x, refl, e)
+bind_ok (Err c) f y e = absurd (cc e)
+
+cond_ok : {A : Type 0} (b : Bool) (x y : A) (c : SchemaCause) → cond b (Ok x) (Err c) ≡ Ok y → (b ≡ true) × (x ≡ y)
+cond_ok true x y c e = (refl, cc)
+cond_ok false x y c e = absurd (cc e)
+
+cond_err : {A : Type 0} (b : Bool) (x y : A) (c : SchemaCause) → cond b (Err c) (Ok x) ≡ Ok y → (b ≡ false) × (x ≡ y)
+cond_err true x y c e = absurd (cc e)
+cond_err false x y c e = (refl, cc)
+
+or-false : (a b : Bool) → (a || b) ≡ false → (a ≡ false) × (b ≡ false)
+or-false true b e = absurd (cc e)
+or-false false b e = (refl, e)
+
+not-true : (a : Bool) → not a ≡ true → a ≡ false
+not-true true e = absurd (cc e)
+not-true false e = refl
+
+-- an element more
+push-all : {X : Type 0} (p : X → Bool) (xs : List X) (y : X) → list_all p xs ≡ true → p y ≡ true → list_all p (xs ++ y ∷ []) ≡ true
+push-all p [] y all h = rw h refl
+push-all p (x ∷ xs) y all h = let parts = and_parts (p x) (list_all p xs) all in rw (parts.0, push-all p xs y parts.1 h) refl
+
+pub push-different : {X : Type 0} (eq : X → X → Bool) → ((a b : X) → eq a b ≡ false → eq b a ≡ false) → (xs : List X) (y : X)
+    → all_different eq xs ≡ true → list_any (λ x. eq x y) xs ≡ false → all_different eq (xs ++ y ∷ []) ≡ true
+push-different eq flip [] y d n = refl
+push-different eq flip (x ∷ xs) y d n =
+    let p = and_parts (not (list_any (λ z. eq z x) xs)) (all_different eq xs) d in
+    let q = or-false (eq x y) (list_any (λ z. eq z y) xs) n in
+    rw (list_any-append (λ z. eq z x) xs (y ∷ []), not-true (list_any (λ z. eq z x) xs) p.0, flip x y q.0, push-different eq flip xs y p.1 q.1) refl
+
+push-every : {X : Type 0} (P : X → Type 0) (xs : List X) (y : X) → AllByRecursion P xs → P y → AllByRecursion P (xs ++ y ∷ [])
+push-every P [] y all h = (h, tt)
+push-every P (x ∷ xs) y all h = (all.0, push-every P xs y all.1 h)
+
+flip-by : {P Q : Type 0} (a b : Bool) → Decides a P → Decides b Q → (Q → P) → a ≡ false → b ≡ false
+flip-by a true p q turn e = let same : a ≡ true = p.1 (turn (q.0 refl)) in absurd (cc same)
+flip-by a false p q turn e = refl
+
+pub bytes-flip : (a b : List ℕ) → bytes_eq a b ≡ false → bytes_eq b a ≡ false
+bytes-flip a b e = flip-by (bytes_eq a b) (bytes_eq b a) (bytes_eq-Decides a b) (bytes_eq-Decides b a) (λ same. sym same) e
+
+pub eq-flip : (m n : ℕ) → (m == n) ≡ false → (n == m) ≡ false
+eq-flip m n e = grind (arith, nat_tests)
+
+pub kind-flip : (a b : AggKind) → same_kind a b ≡ false → same_kind b a ≡ false
+kind-flip kinds.Count kinds.Count e = e
+kind-flip kinds.Count (kinds.Sum n) e = refl
+kind-flip kinds.Count (kinds.Least n) e = refl
+kind-flip kinds.Count (kinds.Greatest n) e = refl
+kind-flip kinds.Count (kinds.Mean n) e = refl
+kind-flip (kinds.Sum m) kinds.Count e = refl
+kind-flip (kinds.Sum m) (kinds.Sum n) e = eq-flip m n e
+kind-flip (kinds.Sum m) (kinds.Least n) e = refl
+kind-flip (kinds.Sum m) (kinds.Greatest n) e = refl
+kind-flip (kinds.Sum m) (kinds.Mean n) e = refl
+kind-flip (kinds.Least m) kinds.Count e = refl
+kind-flip (kinds.Least m) (kinds.Sum n) e = refl
+kind-flip (kinds.Least m) (kinds.Least n) e = eq-flip m n e
+kind-flip (kinds.Least m) (kinds.Greatest n) e = refl
+kind-flip (kinds.Least m) (kinds.Mean n) e = refl
+kind-flip (kinds.Greatest m) kinds.Count e = refl
+kind-flip (kinds.Greatest m) (kinds.Sum n) e = refl
+kind-flip (kinds.Greatest m) (kinds.Least n) e = refl
+kind-flip (kinds.Greatest m) (kinds.Greatest n) e = eq-flip m n e
+kind-flip (kinds.Greatest m) (kinds.Mean n) e = refl
+kind-flip (kinds.Mean m) kinds.Count e = refl
+kind-flip (kinds.Mean m) (kinds.Sum n) e = refl
+kind-flip (kinds.Mean m) (kinds.Least n) e = refl
+kind-flip (kinds.Mean m) (kinds.Greatest n) e = refl
+kind-flip (kinds.Mean m) (kinds.Mean n) e = eq-flip m n e
+
+-- what the parts of a line are known to be
+in-order : (b : Bool) (x : Unit {0}) → in_order b ≡ Ok x → b ≡ true
+in-order true x e = refl
+in-order false x e = absurd (cc e)
+
+name-new : (l : Layout) (word name : Text) → new_name l word ≡ Ok name → (is_name name ≡ true) × (is_used l name ≡ false)
+name-new l word name e =
+    let p = cond_ok (is_name word && not (is_used l word)) word name Name e in
+    let q = and_parts (is_name word) (not (is_used l word)) p.0 in
+    let P : Text → Type 0 = λ x. (is_name x ≡ true) × (is_used l x ≡ false) in
+    subst P p.1 (q.0, not-true (is_used l word) q.1)
+
+scale-small : (word : Text) (n : ℕ) → scale_in word ≡ Ok n → n ≤ 6
+scale-small word n e =
+    let p = cond_ok ((length word == 1) && all_ascii_digits word && nat_le (digits_value 10 word) 6) (digits_value 10 word) n Number e in
+    let q = and_parts ((length word == 1) && all_ascii_digits word) (nat_le (digits_value 10 word) 6) p.0 in
+    omega (arith, p.1, leb-true (digits_value 10 word) 6 q.1)
+
+limit-small : (most : ℕ) (word : Text) (n : ℕ) → limit_in most word ≡ Ok n → (1 ≤ n) × (n ≤ most)
+limit-small most word n e =
+    let p = cond_ok (nat_lt 0 (length word) && nat_le (length word) 7 && all_ascii_digits word && nat_lt 0 (digits_value 10 word) && nat_le (digits_value 10 word) most) (digits_value 10 word) n Number e in
+    let q = and_parts (nat_lt 0 (length word) && nat_le (length word) 7 && all_ascii_digits word && nat_lt 0 (digits_value 10 word)) (nat_le (digits_value 10 word) most) p.0 in
+    let r = and_parts (nat_lt 0 (length word) && nat_le (length word) 7 && all_ascii_digits word) (nat_lt 0 (digits_value 10 word)) q.0 in
+    (omega (arith, p.1, ltb-true 0 (digits_value 10 word) r.1), omega (arith, p.1, leb-true (digits_value 10 word) most q.1))
+
+measure-there : (ms : List Measure) (k m : ℕ) (name : Text) → measure_from ms k name ≡ Some m → m < k + length ms
+measure-there [] k m name e = absurd (cc e)
+measure-there (x ∷ xs) k m name e = by (bytes_eq x.name name) e (λ h. measure-there xs (k + 1) m name h)
+  where
+    by : (b : Bool) → cond b (Some k) (measure_from xs (k + 1) name) ≡ Some m → (measure_from xs (k + 1) name ≡ Some m → m < (k + 1) + length xs) → m < k + length (x ∷ xs)
+    by true h rest = let same : k ≡ m = cc in omega arith
+    by false h rest = omega (arith, rest h)
+
+kind-there : (ms : List Measure) (agg : Text) (o : Option ℕ) (kind : AggKind) → ((m : ℕ) → o ≡ Some m → m < length ms) → kind_named agg o ≡ Ok kind → IsThere (length ms) kind
+kind-there ms agg None kind h e = absurd (cc e)
+kind-there ms agg (Some m) kind h e =
+    by (bytes_eq agg (codes "sum")) (bytes_eq agg (codes "least")) (bytes_eq agg (codes "greatest")) (bytes_eq agg (codes "mean")) e
+  where
+    by : (a b c d : Bool) → cond a (Ok (kinds.Sum m)) (cond b (Ok (kinds.Least m)) (cond c (Ok (kinds.Greatest m)) (cond d (Ok (kinds.Mean m)) (Err Name)))) ≡ Ok kind → IsThere (length ms) kind
+    by true b c d e = let same : kinds.Sum m ≡ kind = cc in subst (IsThere (length ms)) same (h m refl)
+    by false true c d e = let same : kinds.Least m ≡ kind = cc in subst (IsThere (length ms)) same (h m refl)
+    by false false true d e = let same : kinds.Greatest m ≡ kind = cc in subst (IsThere (length ms)) same (h m refl)
+    by false false false true e = let same : kinds.Mean m ≡ kind = cc in subst (IsThere (length ms)) same (h m refl)
+    by false false false false e = absurd (cc e)
+
+count-there : (n : ℕ) (words : List Text) (kind : AggKind) → count_kind words ≡ Ok kind → IsThere n kind
+count-there n [] kind e = let same : kinds.Count ≡ kind = cc in subst (IsThere n) same tt
+count-there n (w ∷ ws) kind e = absurd (cc e)
+
+kind-of-there : (ms : List Measure) (words : List Text) (kind : AggKind) → kind_of ms words ≡ Ok kind → IsThere (length ms) kind
+unfolding kind_of
+kind-of-there ms [] kind e = absurd (cc e)
+kind-of-there ms (agg ∷ words) kind e = by (bytes_eq agg (codes "count")) e
+  where
+    by : (b : Bool) → cond b (count_kind words) (one_word words >>= λ name. kind_named agg (measure_from ms 0 name)) ≡ Ok kind → IsThere (length ms) kind
+    by true h = count-there (length ms) words kind h
+    by false h =
+        let p = bind_ok (one_word words) (λ name. kind_named agg (measure_from ms 0 name)) kind h in
+        kind-there ms agg (measure_from ms 0 p.0) kind (λ m is. omega (arith, measure-there ms 0 m p.0 is)) p.2
+
+-- the layouts that the lines leave
+first-dim : (id name : Text) → is_name id ≡ true → is_name name ≡ true → is_used (record start.layout { id = id }) name ≡ false → IsLayout (record start.layout { id = id; dims = name ∷ [] })
+first-dim id name i n u = record {
+  some_dims = omega arith;
+  few_dims = omega arith;
+  few_measures = omega arith;
+  scales = tt;
+  names = rw (i, n) refl;
+  different_names = rw (bytes-flip id name (or-false (bytes_eq id name) false u).0) refl;
+  indexes = tt;
+  different_indexes = refl;
+  some_nodes = omega arith;
+  few_nodes = omega arith;
+  some_rows = omega arith;
+  few_rows = omega arith;
+  some_values = omega arith;
+  few_values = omega arith;
+}
+
+no-more : (dims : List Text) (ms : List Measure) → ms ≡ [] → dims ++ map (λ m. m.name) ms ≡ dims
+no-more dims ms e = rw e (append-nil dims)
+
+next-dim : (l : Layout) (name : Text) → IsLayout l → l.measures ≡ [] → length l.dims < 12 → is_name name ≡ true → is_used l name ≡ false → IsLayout (record l { dims = l.dims ++ name ∷ [] })
+next-dim l name h none few n u = record {
+  some_dims = omega (arith, length_push l.dims name, h.some_dims);
+  few_dims = omega (arith, length_push l.dims name);
+  few_measures = h.few_measures;
+  scales = h.scales;
+  names = rw (no-more (l.dims ++ name ∷ []) l.measures none) (push-all is_name (l.id ∷ l.dims) name (rw (no-more l.dims l.measures none) at h.names) n);
+  different_names = rw (no-more (l.dims ++ name ∷ []) l.measures none) (push-different bytes_eq bytes-flip (l.id ∷ l.dims) name (rw (no-more l.dims l.measures none) at h.different_names) (rw (no-more l.dims l.measures none) at u));
+  indexes = h.indexes;
+  different_indexes = h.different_indexes;
+  some_nodes = h.some_nodes;
+  few_nodes = h.few_nodes;
+  some_rows = h.some_rows;
+  few_rows = h.few_rows;
+  some_values = h.some_values;
+  few_values = h.few_values;
+}
+
+more-names : (l : Layout) (m : Measure) → names_of (record l { measures = l.measures ++ m ∷ [] }) ≡ names_of l ++ m.name ∷ []
+more-names l m = ap (λ xs. l.id ∷ (l.dims ++ xs)) (map-append (λ x. x.name) l.measures (m ∷ [])) ∙ ap (λ xs. l.id ∷ xs) (sym (append_assoc l.dims (map (λ x. x.name) l.measures) (m.name ∷ [])))
+
+next-measure : (l : Layout) (m : Measure) → IsLayout l → l.indexes ≡ [] → length l.measures < 1 → m.scale ≤ 6 → is_name m.name ≡ true → is_used l m.name ≡ false → IsLayout (record l { measures = l.measures ++ m ∷ [] })
+next-measure l m h none few small n u = record {
+  some_dims = h.some_dims;
+  few_dims = h.few_dims;
+  few_measures = omega (arith, length_push l.measures m);
+  scales = push-every (λ m. m.scale ≤ 6) l.measures m h.scales small;
+  names = ap (list_all is_name) (more-names l m) ∙ push-all is_name (names_of l) m.name h.names n;
+  different_names = ap (all_different bytes_eq) (more-names l m) ∙ push-different bytes_eq bytes-flip (names_of l) m.name h.different_names u;
+  indexes = rw none tt;
+  different_indexes = h.different_indexes;
+  some_nodes = h.some_nodes;
+  few_nodes = h.few_nodes;
+  some_rows = h.some_rows;
+  few_rows = h.few_rows;
+  some_values = h.some_values;
+  few_values = h.few_values;
+}
+
+next-index : (l : Layout) (kind : AggKind) → IsLayout l → IsThere (length l.measures) kind → list_any (λ k. same_kind k kind) l.indexes ≡ false → IsLayout (record l { indexes = l.indexes ++ kind ∷ [] })
+next-index l kind h there fresh = record {
+  some_dims = h.some_dims;
+  few_dims = h.few_dims;
+  few_measures = h.few_measures;
+  scales = h.scales;
+  names = h.names;
+  different_names = h.different_names;
+  indexes = push-every (IsThere (length l.measures)) l.indexes kind h.indexes there;
+  different_indexes = push-different same_kind kind-flip l.indexes kind h.different_indexes fresh;
+  some_nodes = h.some_nodes;
+  few_nodes = h.few_nodes;
+  some_rows = h.some_rows;
+  few_rows = h.few_rows;
+  some_values = h.some_values;
+  few_values = h.few_values;
+}
+
+with-limits : (l : Layout) (nodes rows values : ℕ) → IsLayout l → (1 ≤ nodes) × (nodes ≤ 4000000) → (1 ≤ rows) × (rows ≤ 1000000) → (1 ≤ values) × (values ≤ 4000000) → IsLayout (record l { nodes = nodes; rows = rows; values = values })
+with-limits l nodes rows values h n r v = record {
+  some_dims = h.some_dims;
+  few_dims = h.few_dims;
+  few_measures = h.few_measures;
+  scales = h.scales;
+  names = h.names;
+  different_names = h.different_names;
+  indexes = h.indexes;
+  different_indexes = h.different_indexes;
+  some_nodes = n.0;
+  few_nodes = n.1;
+  some_rows = r.0;
+  few_rows = r.1;
+  some_values = v.0;
+  few_values = v.1;
+}
+
+-- what stands behind a dimension is a layout
+layout-behind : (stage : Stage) (l : Layout) → may_end stage ≡ true → AtStage stage l → IsLayout l
+layout-behind stages.Start l may h = absurd (cc may)
+layout-behind stages.Qcube l may h = absurd (cc may)
+layout-behind stages.Id l may h = absurd (cc may)
+layout-behind stages.Dim l may h = h.0
+layout-behind stages.Measure l may h = h.0
+layout-behind stages.Index l may h = h
+layout-behind stages.Nodes l may h = h
+layout-behind stages.Rows l may h = h
+layout-behind stages.Values l may h = h
+
+from-index : (stage : Stage) → may_index stage ≡ true → may_rows stage ≡ true
+from-index stages.Nodes may = refl
+from-index stages.Start may = absurd (cc may)
+from-index stages.Qcube may = absurd (cc may)
+from-index stages.Id may = absurd (cc may)
+from-index stages.Dim may = refl
+from-index stages.Measure may = refl
+from-index stages.Index may = refl
+from-index stages.Rows may = absurd (cc may)
+from-index stages.Values may = absurd (cc may)
+
+from-rows : (stage : Stage) → may_rows stage ≡ true → may_values stage ≡ true
+from-rows stages.Rows may = refl
+from-rows stages.Nodes may = refl
+from-rows stages.Start may = absurd (cc may)
+from-rows stages.Qcube may = absurd (cc may)
+from-rows stages.Id may = absurd (cc may)
+from-rows stages.Dim may = refl
+from-rows stages.Measure may = refl
+from-rows stages.Index may = refl
+from-rows stages.Values may = absurd (cc may)
+
+from-values : (stage : Stage) → may_values stage ≡ true → may_end stage ≡ true
+from-values stages.Values may = refl
+from-values stages.Rows may = may
+from-values stages.Nodes may = may
+from-values stages.Start may = may
+from-values stages.Qcube may = may
+from-values stages.Id may = may
+from-values stages.Dim may = may
+from-values stages.Measure may = may
+from-values stages.Index may = may
+
+-- the lines
+keeps-id : (stage : Stage) (l : Layout) (name : Text) → may_id stage ≡ true → AtStage stage l → is_name name ≡ true → AtStage stages.Id (record l { id = name })
+keeps-id stages.Start l name may h n = absurd (cc may)
+keeps-id stages.Qcube l name may h n = (n, ap (λ (x : Layout). record x { id = name }) h)
+keeps-id stages.Id l name may h n = absurd (cc may)
+keeps-id stages.Dim l name may h n = absurd (cc may)
+keeps-id stages.Measure l name may h n = absurd (cc may)
+keeps-id stages.Index l name may h n = absurd (cc may)
+keeps-id stages.Nodes l name may h n = absurd (cc may)
+keeps-id stages.Rows l name may h n = absurd (cc may)
+keeps-id stages.Values l name may h n = absurd (cc may)
+
+keeps-dim : (stage : Stage) (l : Layout) (name : Text) → may_dim stage ≡ true → AtStage stage l → length l.dims < 12 → is_name name ≡ true → is_used l name ≡ false → AtStage stages.Dim (record l { dims = l.dims ++ name ∷ [] })
+keeps-dim stages.Start l name may h few n u = absurd (cc may)
+keeps-dim stages.Qcube l name may h few n u = absurd (cc may)
+keeps-dim stages.Id l name may h few n u =
+    let P : Layout → Type 0 = λ x. is_used x name ≡ false → AtStage stages.Dim (record x { dims = x.dims ++ name ∷ [] }) in
+    subst P (sym h.1) (λ v. (first-dim l.id name h.0 n v, refl, refl)) u
+keeps-dim stages.Dim l name may h few n u = (next-dim l name h.0 h.1 few n u, h.1, h.2)
+keeps-dim stages.Measure l name may h few n u = absurd (cc may)
+keeps-dim stages.Index l name may h few n u = absurd (cc may)
+keeps-dim stages.Nodes l name may h few n u = absurd (cc may)
+keeps-dim stages.Rows l name may h few n u = absurd (cc may)
+keeps-dim stages.Values l name may h few n u = absurd (cc may)
+
+keeps-measure : (stage : Stage) (l : Layout) (m : Measure) → may_measure stage ≡ true → AtStage stage l → length l.measures < 1 → m.scale ≤ 6 → is_name m.name ≡ true → is_used l m.name ≡ false → AtStage stages.Measure (record l { measures = l.measures ++ m ∷ [] })
+keeps-measure stages.Start l m may h few small n u = absurd (cc may)
+keeps-measure stages.Qcube l m may h few small n u = absurd (cc may)
+keeps-measure stages.Id l m may h few small n u = absurd (cc may)
+keeps-measure stages.Dim l m may h few small n u = (next-measure l m h.0 h.2 few small n u, h.2)
+keeps-measure stages.Measure l m may h few small n u = (next-measure l m h.0 h.1 few small n u, h.1)
+keeps-measure stages.Index l m may h few small n u = absurd (cc may)
+keeps-measure stages.Nodes l m may h few small n u = absurd (cc may)
+keeps-measure stages.Rows l m may h few small n u = absurd (cc may)
+keeps-measure stages.Values l m may h few small n u = absurd (cc may)
+
+as-state : (s t : State) → s ≡ t → AtStage s.stage s.layout → Keeps t
+as-state s t same h = subst Keeps same (record { holds = h })
+
+id-kept : (s t : State) (words : List Text) → Keeps s → id_line s words ≡ Ok t → Keeps t
+unfolding id_line
+id-kept s t words k e =
+    let a = bind_ok (in_order (may_id s.stage)) _ t e in
+    let b = bind_ok (one_word words) _ t a.2 in
+    let c = bind_ok (new_name s.layout b.0) _ t b.2 in
+    let n = name-new s.layout b.0 c.0 c.1 in
+    let same : record { stage = stages.Id; layout = record s.layout { id = c.0 } } ≡ t = cc (c.2) in
+    as-state _ t same (keeps-id s.stage s.layout c.0 (in-order _ _ a.1) k.holds n.0)
+
+dim-kept : (s t : State) (words : List Text) → Keeps s → dim_line s words ≡ Ok t → Keeps t
+unfolding dim_line
+dim-kept s t words k e =
+    let a = bind_ok (in_order (may_dim s.stage && nat_lt (length s.layout.dims) 12)) _ t e in
+    let b = bind_ok (one_word words) _ t a.2 in
+    let c = bind_ok (new_name s.layout b.0) _ t b.2 in
+    let n = name-new s.layout b.0 c.0 c.1 in
+    let may = and_parts (may_dim s.stage) (nat_lt (length s.layout.dims) 12) (in-order _ _ a.1) in
+    let same : record { stage = stages.Dim; layout = record s.layout { dims = s.layout.dims ++ c.0 ∷ [] } } ≡ t = cc (c.2) in
+    as-state _ t same (keeps-dim s.stage s.layout c.0 may.0 k.holds (ltb-true (length s.layout.dims) 12 may.1) n.0 n.1)
+
+measure-kept : (s t : State) (words : List Text) → Keeps s → measure_line s words ≡ Ok t → Keeps t
+unfolding measure_line
+measure-kept s t words k e =
+    let a = bind_ok (in_order (may_measure s.stage && nat_lt (length s.layout.measures) 1)) _ t e in
+    let b = bind_ok (two_words words) _ t a.2 in
+    let c = bind_ok (new_name s.layout b.0.0) _ t b.2 in
+    let d = bind_ok (scale_in b.0.1) _ t c.2 in
+    let n = name-new s.layout b.0.0 c.0 c.1 in
+    let may = and_parts (may_measure s.stage) (nat_lt (length s.layout.measures) 1) (in-order _ _ a.1) in
+    let same : record { stage = stages.Measure; layout = record s.layout { measures = s.layout.measures ++ (record { name = c.0; scale = d.0 }) ∷ [] } } ≡ t = cc (d.2) in
+    as-state _ t same (keeps-measure s.stage s.layout (record { name = c.0; scale = d.0 }) may.0 k.holds (ltb-true (length s.layout.measures) 1 may.1) (scale-small b.0.1 d.0 d.1) n.0 n.1)
+
+index-kept : (s t : State) (words : List Text) → Keeps s → index_line s words ≡ Ok t → Keeps t
+unfolding index_line
+index-kept s t words k e =
+    let a = bind_ok (in_order (may_index s.stage)) _ t e in
+    let b = bind_ok (kind_of s.layout.measures words) _ t a.2 in
+    let c = bind_ok (new_kind s.layout b.0) _ t b.2 in
+    let p = cond_err (list_any (λ k. same_kind k b.0) s.layout.indexes) b.0 c.0 Name c.1 in
+    let there : IsThere (length s.layout.measures) b.0 = kind-of-there s.layout.measures words b.0 b.1 in
+    let whole : IsLayout s.layout = layout-behind s.stage s.layout (from-values s.stage (from-rows s.stage (from-index s.stage (in-order _ _ a.1)))) k.holds in
+    let first : record { stage = stages.Index; layout = record s.layout { indexes = s.layout.indexes ++ b.0 ∷ [] } } ≡ record { stage = stages.Index; layout = record s.layout { indexes = s.layout.indexes ++ c.0 ∷ [] } } =
+        ap (λ (x : AggKind). let r : State = record { stage = stages.Index; layout = record s.layout { indexes = s.layout.indexes ++ x ∷ [] } } in r) p.1 in
+    let same : record { stage = stages.Index; layout = record s.layout { indexes = s.layout.indexes ++ c.0 ∷ [] } } ≡ t = cc (c.2) in
+    as-state _ t (first ∙ same) (next-index s.layout b.0 whole there p.0)
+
+nodes-kept : (s t : State) (words : List Text) → Keeps s → nodes_line s words ≡ Ok t → Keeps t
+unfolding nodes_line
+nodes-kept s t words k e =
+    let a = bind_ok (in_order (may_index s.stage)) _ t e in
+    let b = bind_ok (one_word words) _ t a.2 in
+    let c = bind_ok (limit_in 4000000 b.0) _ t b.2 in
+    let whole : IsLayout s.layout = layout-behind s.stage s.layout (from-values s.stage (from-rows s.stage (from-index s.stage (in-order _ _ a.1)))) k.holds in
+    let same : record { stage = stages.Nodes; layout = record s.layout { nodes = c.0 } } ≡ t = cc (c.2) in
+    as-state _ t same (with-limits s.layout c.0 s.layout.rows s.layout.values whole (limit-small 4000000 b.0 c.0 c.1) (whole.some_rows, whole.few_rows) (whole.some_values, whole.few_values))
+
+rows-kept : (s t : State) (words : List Text) → Keeps s → rows_line s words ≡ Ok t → Keeps t
+unfolding rows_line
+rows-kept s t words k e =
+    let a = bind_ok (in_order (may_rows s.stage)) _ t e in
+    let b = bind_ok (one_word words) _ t a.2 in
+    let c = bind_ok (limit_in 1000000 b.0) _ t b.2 in
+    let whole : IsLayout s.layout = layout-behind s.stage s.layout (from-values s.stage (from-rows s.stage (in-order _ _ a.1))) k.holds in
+    let same : record { stage = stages.Rows; layout = record s.layout { rows = c.0 } } ≡ t = cc (c.2) in
+    as-state _ t same (with-limits s.layout s.layout.nodes c.0 s.layout.values whole (whole.some_nodes, whole.few_nodes) (limit-small 1000000 b.0 c.0 c.1) (whole.some_values, whole.few_values))
+
+values-kept : (s t : State) (words : List Text) → Keeps s → values_line s words ≡ Ok t → Keeps t
+unfolding values_line
+values-kept s t words k e =
+    let a = bind_ok (in_order (may_values s.stage)) _ t e in
+    let b = bind_ok (one_word words) _ t a.2 in
+    let c = bind_ok (limit_in 4000000 b.0) _ t b.2 in
+    let whole : IsLayout s.layout = layout-behind s.stage s.layout (from-values s.stage (in-order _ _ a.1)) k.holds in
+    let same : record { stage = stages.Values; layout = record s.layout { values = c.0 } } ≡ t = cc (c.2) in
+    as-state _ t same (with-limits s.layout s.layout.nodes s.layout.rows c.0 whole (whole.some_nodes, whole.few_nodes) (whole.some_rows, whole.few_rows) (limit-small 4000000 b.0 c.0 c.1))
+
+named-kept : (s t : State) (word : Text) (words : List Text) → Keeps s → named_line s word words ≡ Ok t → Keeps t
+unfolding named_line
+named-kept s t word words k e =
+    by (bytes_eq word (codes "id")) (bytes_eq word (codes "dim")) (bytes_eq word (codes "measure")) (bytes_eq word (codes "index")) (bytes_eq word (codes "nodes")) (bytes_eq word (codes "rows")) (bytes_eq word (codes "values")) e
+  where
+    by : (a b c d e f g : Bool) → cond a (id_line s words) (cond b (dim_line s words) (cond c (measure_line s words) (cond d (index_line s words) (cond e (nodes_line s words) (cond f (rows_line s words) (cond g (values_line s words) (Err Order))))))) ≡ Ok t → Keeps t
+    by true b c d e f g h = id-kept s t words k h
+    by false true c d e f g h = dim-kept s t words k h
+    by false false true d e f g h = measure-kept s t words k h
+    by false false false true e f g h = index-kept s t words k h
+    by false false false false true f g h = nodes-kept s t words k h
+    by false false false false false true g h = rows-kept s t words k h
+    by false false false false false false true h = values-kept s t words k h
+    by false false false false false false false h = absurd (cc h)
+
+at-start : (stage : Stage) (l : Layout) → is_start stage ≡ true → AtStage stage l → l ≡ start.layout
+at-start stages.Start l is h = h
+at-start stages.Qcube l is h = absurd (cc is)
+at-start stages.Id l is h = absurd (cc is)
+at-start stages.Dim l is h = absurd (cc is)
+at-start stages.Measure l is h = absurd (cc is)
+at-start stages.Index l is h = absurd (cc is)
+at-start stages.Nodes l is h = absurd (cc is)
+at-start stages.Rows l is h = absurd (cc is)
+at-start stages.Values l is h = absurd (cc is)
+
+version-kept : (s t : State) (word : Text) (words : List Text) → is_start s.stage ≡ true → Keeps s → version_line s word words ≡ Ok t → Keeps t
+unfolding version_line
+version-kept s t word words is k e =
+    let p = cond_ok (bytes_eq word (codes "qcube") && is_version words) (record { stage = stages.Qcube; layout = s.layout }) t Version e in
+    as-state _ t p.1 (at-start s.stage s.layout is k.holds)
+
+words-kept : (s t : State) (words : List Text) → Keeps s → line_of_words s words ≡ Ok t → Keeps t
+words-kept s t [] k e = let same : s ≡ t = cc in subst Keeps same k
+words-kept s t (word ∷ words) k e = by (is_start s.stage) refl e
+  where
+    by : (b : Bool) → is_start s.stage ≡ b → cond b (version_line s word words) (named_line s word words) ≡ Ok t → Keeps t
+    by true is h = version-kept s t word words is k h
+    by false is h = named-kept s t word words k h
+
+pub line-kept : (s t : State) (line : List ℕ) → Keeps s → take_line s line ≡ Ok t → Keeps t
+unfolding take_line
+line-kept s t line k e = by (is_comment line) e
+  where
+    by : (b : Bool) → cond b (Ok s) (line_of_words s (words_of line)) ≡ Ok t → Keeps t
+    by true h = let same : s ≡ t = cc in subst Keeps same k
+    by false h = words-kept s t (words_of line) k h
+
+and-on-ok : (n : ℕ) (r : Result State SchemaCause) (others : State → Result Layout Fault) (l : Layout) → and_on n r others ≡ Ok l → (t : State) × (r ≡ Ok t) × (others t ≡ Ok l)
+and-on-ok n (Ok t) others l e = (t, refl, e)
+and-on-ok n (Err c) others l e = absurd (cc e)
+
+end-ok : (b : Bool) (x y : Layout) (f : Fault) → cond b (Ok x) (Err f) ≡ Ok y → (b ≡ true) × (x ≡ y)
+end-ok true x y f e = (refl, cc)
+end-ok false x y f e = absurd (cc e)
+
+pub read-layout : (lines : List (List ℕ)) (n : ℕ) (s : State) (l : Layout) → Keeps s → read_lines lines n s ≡ Ok l → IsLayout l
+unfolding read_lines
+read-layout [] n s l k e =
+    let p = end-ok (may_end s.stage) s.layout l (Line n End) e in
+    subst IsLayout p.1 (layout-behind s.stage s.layout p.0 k.holds)
+read-layout (line ∷ lines) n s l k e =
+    let p = and-on-ok n (take_line s line) (λ t. read_lines lines (n + 1) t) l e in
+    read-layout lines (n + 1) p.0 l (line-kept s p.0 line k p.1) p.2
+
+pub start-kept : Keeps start
+start-kept = record { holds = refl }
+
+few-at : (stage : Stage) (l : Layout) → AtStage stage l → length l.measures ≤ 1
+few-at stages.Start l h = omega (arith, ap (λ (x : Layout). length x.measures) h)
+few-at stages.Qcube l h = omega (arith, ap (λ (x : Layout). length x.measures) h)
+few-at stages.Id l h = omega (arith, ap (λ (x : Layout). length x.measures) h.1)
+few-at stages.Dim l h = h.0.few_measures
+few-at stages.Measure l h = h.0.few_measures
+few-at stages.Index l h = h.few_measures
+few-at stages.Nodes l h = h.few_measures
+few-at stages.Rows l h = h.few_measures
+few-at stages.Values l h = h.few_measures
+
+pub few-kept : (s : State) → Keeps s → length s.layout.measures ≤ 1
+few-kept s k = few-at s.stage s.layout k.holds

@@ -1,0 +1,6 @@
+pub mod Splits
+pub mod Naming
+pub mod Numbers
+pub mod Searching
+pub mod Keeping
+pub mod Reading

@@ -1,0 +1,73 @@
+-- The first line of a text, and the first word of a line.
+use Rattle.std.proofs.Common.{◌≡◌, ◌<◌, ◌≤◌, ◌+◌, ◌∙◌, ℕ, zero, suc, List, [], ◌∷◌, length, get_or, take, drop, true, false, refl, sym, arith, ap, ◌≢◌, add-one}
+use Rattle.std.specs.Prelude.{◌==◌, filter}
+use Rattle.std.proofs.lemmas.Bool.Decides.{nat_tests}
+use Rattle.std.proofs.Math.Seq.{drop-cons}
+use Rattle.qc_schema.specs.Lines.{has_bytes, lines_of, pieces_of, with_first, words_of}
+
+is-byte : (a b : ℕ) → b ≡ a → (b == a) ≡ true
+is-byte a b e = grind (arith, nat_tests, e)
+
+other-byte : (a b : ℕ) → b ≢ a → (b == a) ≡ false
+other-byte a b e = grind (arith, nat_tests, e)
+
+line-suc : (xs : List ℕ) (i : ℕ) → i < length xs → get_or xs i 0 ≡ 10 → ((k : ℕ) → k < i → get_or xs k 0 ≢ 10) → lines_of xs ≡ take i xs ∷ lines_of (drop (suc i) xs)
+line-suc [] i lt here before = absurd (omega arith)
+line-suc (b ∷ bs) zero lt here before = rw (is-byte 10 b here) refl
+line-suc (b ∷ bs) (suc i) lt here before =
+    rw (other-byte 10 b (before 0 (omega arith)), line-suc bs i (omega arith) here (λ k h. before (suc k) (omega arith))) refl
+
+pub line-at : (xs : List ℕ) (i : ℕ) → i < length xs → get_or xs i 0 ≡ 10 → ((k : ℕ) → k < i → get_or xs k 0 ≢ 10) → lines_of xs ≡ take i xs ∷ lines_of (drop (i + 1) xs)
+line-at xs i lt here before = rw add-one (line-suc xs i lt here before)
+
+pub line-whole : (xs : List ℕ) → 0 < length xs → ((k : ℕ) → k < length xs → get_or xs k 0 ≢ 10) → lines_of xs ≡ xs ∷ []
+line-whole [] lt none = absurd (omega arith)
+line-whole (b ∷ []) lt none = rw (other-byte 10 b (none 0 (omega arith))) refl
+line-whole (b ∷ c ∷ bs) lt none = rw (other-byte 10 b (none 0 (omega arith)), line-whole (c ∷ bs) (omega arith) (λ k h. none (suc k) (omega arith))) refl
+
+piece-suc : (xs : List ℕ) (i : ℕ) → i < length xs → get_or xs i 0 ≡ 32 → ((k : ℕ) → k < i → get_or xs k 0 ≢ 32) → pieces_of xs ≡ take i xs ∷ pieces_of (drop (suc i) xs)
+piece-suc [] i lt here before = absurd (omega arith)
+piece-suc (b ∷ bs) zero lt here before = rw (is-byte 32 b here) refl
+piece-suc (b ∷ bs) (suc i) lt here before =
+    rw (other-byte 32 b (before 0 (omega arith)), piece-suc bs i (omega arith) here (λ k h. before (suc k) (omega arith))) refl
+
+piece-whole : (xs : List ℕ) → ((k : ℕ) → k < length xs → get_or xs k 0 ≢ 32) → pieces_of xs ≡ xs ∷ []
+piece-whole [] none = refl
+piece-whole (b ∷ bs) none = rw (other-byte 32 b (none 0 (omega arith)), piece-whole bs (λ k h. none (suc k) (omega arith))) refl
+
+-- spaces in front of the words
+pub words-skip : (xs : List ℕ) (i : ℕ) → i ≤ length xs → ((k : ℕ) → k < i → get_or xs k 0 ≡ 32) → words_of (drop i xs) ≡ words_of xs
+unfolding words_of
+words-skip xs zero le spaces = refl
+words-skip [] (suc i) le spaces = refl
+words-skip (b ∷ bs) (suc i) le spaces = rw (is-byte 32 b (spaces 0 (omega arith))) (words-skip bs i (omega arith) (λ k h. spaces (suc k) (omega arith)))
+
+-- nothing but spaces
+pub words-none : (xs : List ℕ) → ((k : ℕ) → k < length xs → get_or xs k 0 ≡ 32) → words_of [] ≡ words_of xs
+unfolding words_of
+words-none [] spaces = refl
+words-none (b ∷ bs) spaces = rw (is-byte 32 b (spaces 0 (omega arith))) (words-none bs (λ k h. spaces (suc k) (omega arith)))
+
+pub words-empty : words_of [] ≡ []
+unfolding words_of
+words-empty = refl
+
+words-space : (b : ℕ) (bs : List ℕ) → b ≡ 32 → words_of (b ∷ bs) ≡ words_of bs
+unfolding words_of
+words-space b bs e = rw (is-byte 32 b e) refl
+
+word-behind : (bs : List ℕ) (i : ℕ) → i < length bs → get_or bs i 0 ≡ 32 → words_of (drop (suc i) bs) ≡ words_of (drop i bs)
+word-behind bs i h e = sym (ap words_of (drop-cons bs i 0 h) ∙ words-space (get_or bs i 0) (drop (suc i) bs) e)
+
+pub word-at : (xs : List ℕ) (i : ℕ) → i < length xs → get_or xs 0 0 ≢ 32 → get_or xs i 0 ≡ 32 → ((k : ℕ) → k < i → get_or xs k 0 ≢ 32) → words_of xs ≡ take i xs ∷ words_of (drop i xs)
+unfolding words_of
+word-at xs zero lt first here before = absurd (first here)
+word-at [] (suc i) lt first here before = absurd (omega arith)
+word-at (b ∷ bs) (suc i) lt first here before =
+    ap (filter has_bytes) (piece-suc (b ∷ bs) (suc i) lt here before)
+    ∙ ap (λ (ws : List (List ℕ)). take (suc i) (b ∷ bs) ∷ ws) (word-behind bs i (omega arith) here)
+
+pub word-whole : (xs : List ℕ) → 0 < length xs → ((k : ℕ) → k < length xs → get_or xs k 0 ≢ 32) → words_of xs ≡ xs ∷ words_of []
+unfolding words_of
+word-whole [] lt none = absurd (omega arith)
+word-whole (b ∷ bs) lt none = ap (filter has_bytes) (piece-whole (b ∷ bs) none)

@@ -1,0 +1,68 @@
+-- What a schema says, and what the grammar keeps of each.
+use Rattle.std.specs.Prelude.{ℕ, Bool, true, false, not, ◌≡◌, ◌≤◌, ◌&&◌, ◌==◌, List, [], ◌∷◌, ◌++◌, length, map, codes, nat_le, slice_index}
+use Rattle.std.specs.Char.{is_ascii_alphabetic, is_ascii_alphanumeric}
+use Rattle.std.specs.List.{list_all, list_any, AllByRecursion}
+use Rattle.std.specs.Prelude.{◌||◌}
+use Rattle.std.specs.Str.{bytes_eq}
+use Rattle.cube_defs.specs.Text.{Text}
+use Rattle.aggregates.specs.Views.{IsThere}
+use Rattle.aggregates.specs.declared.kind.AggKind.{AggKind}
+use Rattle.aggregates.specs.declared.kind.AggKind.TheVariants as kinds
+
+pub record Measure : Type 0 where
+  pub name : Text
+  pub scale : ℕ
+
+-- what stands in place of a measure that isn't there
+abbrev pub no_measure : Measure
+no_measure = record { name = []; scale = 0 }
+
+pub record Layout : Type 0 where
+  pub id : Text
+  pub dims : List Text
+  pub measures : List Measure
+  pub indexes : List AggKind
+  pub nodes : ℕ
+  pub rows : ℕ
+  pub values : ℕ
+
+-- a name begins with a letter, goes on with letters, digits or `_`, has at most 32 bytes, and isn't `op`
+abbrev pub is_name_byte : ℕ → Bool
+is_name_byte b = is_ascii_alphanumeric b || (b == 95)
+
+abbrev pub is_name : List ℕ → Bool
+is_name name = is_ascii_alphabetic (slice_index name 0) && list_all is_name_byte name && nat_le (length name) 32 && not (bytes_eq name (codes "op"))
+
+-- the names of the id, the dimensions and the measures
+abbrev pub names_of : Layout → List Text
+names_of l = l.id ∷ (l.dims ++ map (λ m. m.name) l.measures)
+
+-- no element is equal to one behind it
+abbrev pub all_different : {X : Type 0} → (X → X → Bool) → List X → Bool
+all_different eq [] = true
+all_different eq (x ∷ xs) = not (list_any (λ y. eq y x) xs) && all_different eq xs
+
+abbrev pub same_kind : AggKind → AggKind → Bool
+same_kind kinds.Count kinds.Count = true
+same_kind (kinds.Sum m) (kinds.Sum n) = m == n
+same_kind (kinds.Least m) (kinds.Least n) = m == n
+same_kind (kinds.Greatest m) (kinds.Greatest n) = m == n
+same_kind (kinds.Mean m) (kinds.Mean n) = m == n
+same_kind j k = false
+
+-- what each schema that the grammar has is known to be
+pub record IsLayout (l : Layout) : Type 0 where
+  pub some_dims : 1 ≤ length l.dims
+  pub few_dims : length l.dims ≤ 12
+  pub few_measures : length l.measures ≤ 1
+  pub scales : AllByRecursion (λ m. m.scale ≤ 6) l.measures
+  pub names : list_all is_name (names_of l) ≡ true
+  pub different_names : all_different bytes_eq (names_of l) ≡ true
+  pub indexes : AllByRecursion (IsThere (length l.measures)) l.indexes
+  pub different_indexes : all_different same_kind l.indexes ≡ true
+  pub some_nodes : 1 ≤ l.nodes
+  pub few_nodes : l.nodes ≤ 4000000
+  pub some_rows : 1 ≤ l.rows
+  pub few_rows : l.rows ≤ 1000000
+  pub some_values : 1 ≤ l.values
+  pub few_values : l.values ≤ 4000000

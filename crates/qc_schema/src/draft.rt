@@ -1,0 +1,185 @@
+// What the lines of a schema say.
+ghost use Rattle.std.specs.Prelude.{◌≡◌, ◌≤◌, map, length, string_bytes};
+ghost use Rattle.std.specs.List.{list_any};
+ghost use Rattle.std.specs.Str.{bytes_eq};
+ghost use Rattle.qc_schema.specs.Grammar.{is_used, kind_named, kind_of, measure_from, new_kind, new_name, start};
+ghost use Rattle.qc_schema.specs.Lines.{words_of};
+ghost use Rattle.qc_schema.specs.Schema.{same_kind};
+ghost use Rattle.qc_schema.specs.States.{Gives, layout_in, measure_in};
+
+use crate::lines::{only_word, split_word};
+use crate::refusal::{LineRefused, SchemaCause};
+use crate::words::name_in;
+use aggregates::AggKind;
+use std::alloc::Global;
+
+/// A column of amounts, with so many digits behind the point.
+#[derive(Drop)]
+pub struct Measure {
+    pub name: String,
+    pub scale: u8,
+}
+
+/// What a schema says, as far as it is read.
+#[derive(Drop)]
+pub struct Draft {
+    pub id: String,
+    pub dims: Vec<String>,
+    pub measures: Vec<Measure>,
+    pub indexes: Vec<AggKind>,
+    pub nodes: u32,
+    pub rows: u32,
+    pub values: u32,
+}
+
+// Whether a name is among these.
+fn has_name(names: &Vec<String>, name: &[u8]) -> bool
+    ensures { result ≡ list_any (λ y. bytes_eq y name.now) (map string_bytes names.now.items) }
+{
+    for other in names {
+        if other.as_bytes() == name {
+            return true;
+        }
+    }
+    false
+}
+
+// Whether a measure has this name.
+fn has_measure(measures: &Vec<Measure>, name: &[u8]) -> bool
+    ensures { result ≡ list_any (λ y. bytes_eq y name.now) (map (λ m. m.name) (map measure_in measures.now.items)) }
+{
+    for measure in measures {
+        if measure.name.as_bytes() == name {
+            return true;
+        }
+    }
+    false
+}
+
+// The place of the measure with this name.
+fn measure_named(measures: &Vec<Measure>, name: &[u8]) -> Option<u8>
+    requires { length measures.now.items ≤ 1 }
+    ensures { result ≡ measure_from (map measure_in measures.now.items) 0 name.now }
+{
+    for (k, measure) in measures.iter().enumerate() {
+        if measure.name.as_bytes() == name {
+            return Some(k as u8);
+        }
+    }
+    None
+}
+
+// What the aggregate is called, of the measure.
+fn kind_with(aggregate: &[u8], measure: Option<u8>) -> Result<AggKind, LineRefused>
+    ensures { Gives (λ kind. kind) result (kind_named aggregate.now measure) }
+{
+    let Some(place) = measure else {
+        return Err(LineRefused::Cause(SchemaCause::Name));
+    };
+    if aggregate == b"sum".as_slice() {
+        Ok(AggKind::Sum(place))
+    } else if aggregate == b"least".as_slice() {
+        Ok(AggKind::Least(place))
+    } else if aggregate == b"greatest".as_slice() {
+        Ok(AggKind::Greatest(place))
+    } else if aggregate == b"mean".as_slice() {
+        Ok(AggKind::Mean(place))
+    } else {
+        Err(LineRefused::Cause(SchemaCause::Name))
+    }
+}
+
+fn is_same(kind: AggKind, other: AggKind) -> bool
+    ensures { result ≡ same_kind kind other }
+{
+    match (kind, other) {
+        (AggKind::Count, AggKind::Count) => true,
+        (AggKind::Sum(m), AggKind::Sum(n)) => m == n,
+        (AggKind::Least(m), AggKind::Least(n)) => m == n,
+        (AggKind::Greatest(m), AggKind::Greatest(n)) => m == n,
+        (AggKind::Mean(m), AggKind::Mean(n)) => m == n,
+        _ => false,
+    }
+}
+
+// Whether an aggregate is indexed already.
+fn has_kind(kinds: &Vec<AggKind>, kind: AggKind) -> bool
+    ensures { result ≡ list_any (λ k. same_kind k kind) kinds.now.items }
+{
+    for other in kinds {
+        if is_same(*other, kind) {
+            return true;
+        }
+    }
+    false
+}
+
+impl Draft {
+    /// Nothing read yet, and the limits that hold by default.
+    pub fn new(alloc: Global) -> Draft
+        ensures { layout_in result ≡ start.layout }
+    {
+        Draft {
+            id: String::new(alloc),
+            dims: Vec::new(alloc),
+            measures: Vec::new(alloc),
+            indexes: Vec::new(alloc),
+            nodes: 1_000_000,
+            rows: 1_000_000,
+            values: 4_000_000,
+        }
+    }
+
+    // Whether the id, a dimension or a measure has this name.
+    #[tactic(auto, using(crate::proofs::Searching::any_append))]
+    fn has_column(&self, name: &[u8]) -> bool
+        ensures { result ≡ is_used (layout_in self.now) name.now }
+    {
+        if self.id.as_bytes() == name {
+            return true;
+        }
+        has_name(&self.dims, name) || has_measure(&self.measures, name)
+    }
+
+    /// The word, where it is a name that isn't used yet.
+    pub fn unused_name<'a>(&self, word: &'a [u8]) -> Result<&'a str, LineRefused>
+        ensures { Gives (λ s. s.now) result (new_name (layout_in self.now) word.now) }
+    {
+        let Some(name) = name_in(word) else {
+            return Err(LineRefused::Cause(SchemaCause::Name));
+        };
+        if self.has_column(word) {
+            return Err(LineRefused::Cause(SchemaCause::Name));
+        }
+        Ok(name)
+    }
+
+    /// The aggregate that words name.
+    #[tactic(auto, unfolding(crate::specs::Grammar::kind_of))]
+    pub fn kind_in(&self, words: &[u8]) -> Result<AggKind, LineRefused>
+        requires { length self.now.measures.items ≤ 1 }
+        ensures { Gives (λ kind. kind) result (kind_of (layout_in self.now).measures (words_of words.now)) }
+    {
+        let Some((aggregate, rest)) = split_word(words) else {
+            return Err(LineRefused::Cause(SchemaCause::Words));
+        };
+        if aggregate == b"count".as_slice() {
+            if split_word(rest).is_some() {
+                return Err(LineRefused::Cause(SchemaCause::Words));
+            }
+            return Ok(AggKind::Count);
+        }
+        let name = only_word(rest)?;
+        kind_with(aggregate, measure_named(&self.measures, name))
+    }
+
+    /// The aggregate, where it isn't indexed yet.
+    pub fn unused_kind(&self, kind: AggKind) -> Result<AggKind, LineRefused>
+        ensures { Gives (λ fresh. fresh) result (new_kind (layout_in self.now) kind) }
+    {
+        if has_kind(&self.indexes, kind) {
+            return Err(LineRefused::Cause(SchemaCause::Name));
+        }
+        Ok(kind)
+    }
+}

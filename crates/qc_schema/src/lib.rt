@@ -1,0 +1,17 @@
+//! Reads and writes schemas: the names of a cube's columns, its limits, and what is indexed.
+#![tactic(auto)]
+
+mod draft;
+mod lines;
+mod reader;
+mod refusal;
+mod schema;
+mod spelling;
+mod words;
+
+pub use refusal::{SchemaCause, SchemaRefused};
+pub use schema::{Schema, read_schema};
+pub use spelling::schema_text;
+
+/// Memory ran out.
+pub type Memory = std::alloc::AllocError;

@@ -1,0 +1,252 @@
+// Reads a schema line by line.
+ghost use Rattle.std.specs.Prelude.{◌≡◌, ◌≤◌, length};
+ghost use Rattle.qc_schema.specs.Grammar.{dim_line, id_line, in_order, index_line, is_start, may_dim, may_end, may_id, may_index, may_measure, may_rows, may_values, measure_line, named_line, nodes_line, rows_line, start, take_line, values_line, version_line};
+ghost use Rattle.qc_schema.specs.Lines.{words_of};
+ghost use Rattle.qc_schema.specs.States.{Gives, state_in};
+
+use crate::draft::{Draft, Measure};
+use crate::lines::{is_comment_line, only_word, only_words, split_word};
+use crate::refusal::{LineRefused, SchemaCause};
+use crate::words::{read_limit, read_scale};
+use std::alloc::Global;
+
+/// The kind of the last line that was read.
+#[derive(Clone, Copy)]
+pub enum Stage {
+    Start,
+    Qcube,
+    Id,
+    Dim,
+    Measure,
+    Index,
+    Nodes,
+    Rows,
+    Values,
+}
+
+impl Stage {
+    fn is_start(self) -> bool
+        ensures { result ≡ is_start self }
+    {
+        matches!(self, Stage::Start)
+    }
+
+    fn may_id(self) -> bool
+        ensures { result ≡ may_id self }
+    {
+        matches!(self, Stage::Qcube)
+    }
+
+    fn may_dim(self) -> bool
+        ensures { result ≡ may_dim self }
+    {
+        matches!(self, Stage::Id | Stage::Dim)
+    }
+
+    fn may_measure(self) -> bool
+        ensures { result ≡ may_measure self }
+    {
+        matches!(self, Stage::Dim | Stage::Measure)
+    }
+
+    // The same holds for a line of nodes.
+    fn may_index(self) -> bool
+        ensures { result ≡ may_index self }
+    {
+        matches!(self, Stage::Dim | Stage::Measure | Stage::Index)
+    }
+
+    fn may_rows(self) -> bool
+        ensures { result ≡ may_rows self }
+    {
+        matches!(self, Stage::Nodes) || self.may_index()
+    }
+
+    fn may_values(self) -> bool
+        ensures { result ≡ may_values self }
+    {
+        matches!(self, Stage::Rows) || self.may_rows()
+    }
+
+    fn may_end(self) -> bool
+        ensures { result ≡ may_end self }
+    {
+        matches!(self, Stage::Values) || self.may_values()
+    }
+}
+
+/// What is read so far.
+#[derive(Drop)]
+pub struct Reader {
+    pub stage: Stage,
+    pub draft: Draft,
+}
+
+fn check_order(may: bool) -> Result<(), LineRefused>
+    ensures { Gives (λ _. tt) result (in_order may) }
+{
+    if may {
+        Ok(())
+    } else {
+        Err(LineRefused::Cause(SchemaCause::Order))
+    }
+}
+
+impl Reader {
+    pub fn new(alloc: Global) -> Reader
+        ensures { state_in result ≡ start }
+    {
+        Reader {
+            stage: Stage::Start,
+            draft: Draft::new(alloc),
+        }
+    }
+
+    #[tactic(auto, unfolding(crate::specs::Grammar::version_line))]
+    fn read_version(&mut self, word: &[u8], words: &[u8]) -> Result<(), LineRefused>
+        ensures { Gives (λ _. state_in self.new) result (version_line (state_in self.old) word.now (words_of words.now)) }
+    {
+        if word != b"qcube".as_slice() {
+            return Err(LineRefused::Cause(SchemaCause::Version));
+        }
+        let Some((version, rest)) = split_word(words) else {
+            return Err(LineRefused::Cause(SchemaCause::Version));
+        };
+        if version != b"1".as_slice() || split_word(rest).is_some() {
+            return Err(LineRefused::Cause(SchemaCause::Version));
+        }
+        self.stage = Stage::Qcube;
+        Ok(())
+    }
+
+    #[tactic(auto, unfolding(crate::specs::Grammar::id_line))]
+    fn read_id(&mut self, alloc: Global, words: &[u8]) -> Result<(), LineRefused>
+        ensures { Gives (λ _. state_in self.new) result (id_line (state_in self.old) (words_of words.now)) }
+    {
+        check_order(self.stage.may_id())?;
+        let name = self.draft.unused_name(only_word(words)?)?;
+        self.draft.id = String::from_str(alloc, name)?;
+        self.stage = Stage::Id;
+        Ok(())
+    }
+
+    #[tactic(auto, unfolding(crate::specs::Grammar::dim_line))]
+    fn read_dim(&mut self, alloc: Global, words: &[u8]) -> Result<(), LineRefused>
+        ensures { Gives (λ _. state_in self.new) result (dim_line (state_in self.old) (words_of words.now)) }
+    {
+        check_order(self.stage.may_dim() && self.draft.dims.len() < 12)?;
+        let name = self.draft.unused_name(only_word(words)?)?;
+        let dim = String::from_str(alloc, name)?;
+        self.draft.dims.push(dim)?;
+        self.stage = Stage::Dim;
+        Ok(())
+    }
+
+    #[tactic(auto, unfolding(crate::specs::Grammar::measure_line))]
+    fn read_measure(&mut self, alloc: Global, words: &[u8]) -> Result<(), LineRefused>
+        ensures { Gives (λ _. state_in self.new) result (measure_line (state_in self.old) (words_of words.now)) }
+    {
+        check_order(self.stage.may_measure() && self.draft.measures.is_empty())?;
+        let (word, digit) = only_words(words)?;
+        let name = self.draft.unused_name(word)?;
+        let scale = read_scale(digit)?;
+        let name = String::from_str(alloc, name)?;
+        self.draft.measures.push(Measure { name, scale })?;
+        self.stage = Stage::Measure;
+        Ok(())
+    }
+
+    #[tactic(auto, unfolding(crate::specs::Grammar::index_line))]
+    fn read_index(&mut self, words: &[u8]) -> Result<(), LineRefused>
+        requires { length self.old.draft.measures.items ≤ 1 }
+        ensures { Gives (λ _. state_in self.new) result (index_line (state_in self.old) (words_of words.now)) }
+    {
+        check_order(self.stage.may_index())?;
+        let kind = self.draft.kind_in(words)?;
+        let fresh = self.draft.unused_kind(kind)?;
+        self.draft.indexes.push(fresh)?;
+        self.stage = Stage::Index;
+        Ok(())
+    }
+
+    #[tactic(auto, unfolding(crate::specs::Grammar::nodes_line))]
+    fn read_nodes(&mut self, words: &[u8]) -> Result<(), LineRefused>
+        ensures { Gives (λ _. state_in self.new) result (nodes_line (state_in self.old) (words_of words.now)) }
+    {
+        check_order(self.stage.may_index())?;
+        self.draft.nodes = read_limit(4_000_000, only_word(words)?)?;
+        self.stage = Stage::Nodes;
+        Ok(())
+    }
+
+    #[tactic(auto, unfolding(crate::specs::Grammar::rows_line))]
+    fn read_rows(&mut self, words: &[u8]) -> Result<(), LineRefused>
+        ensures { Gives (λ _. state_in self.new) result (rows_line (state_in self.old) (words_of words.now)) }
+    {
+        check_order(self.stage.may_rows())?;
+        self.draft.rows = read_limit(1_000_000, only_word(words)?)?;
+        self.stage = Stage::Rows;
+        Ok(())
+    }
+
+    #[tactic(auto, unfolding(crate::specs::Grammar::values_line))]
+    fn read_values(&mut self, words: &[u8]) -> Result<(), LineRefused>
+        ensures { Gives (λ _. state_in self.new) result (values_line (state_in self.old) (words_of words.now)) }
+    {
+        check_order(self.stage.may_values())?;
+        self.draft.values = read_limit(4_000_000, only_word(words)?)?;
+        self.stage = Stage::Values;
+        Ok(())
+    }
+
+    // A line behind the first, by its first word.
+    #[tactic(auto, unfolding(crate::specs::Grammar::named_line))]
+    fn read_named(&mut self, alloc: Global, word: &[u8], words: &[u8]) -> Result<(), LineRefused>
+        requires { length self.old.draft.measures.items ≤ 1 }
+        ensures { Gives (λ _. state_in self.new) result (named_line (state_in self.old) word.now (words_of words.now)) }
+    {
+        if word == b"id".as_slice() {
+            self.read_id(alloc, words)
+        } else if word == b"dim".as_slice() {
+            self.read_dim(alloc, words)
+        } else if word == b"measure".as_slice() {
+            self.read_measure(alloc, words)
+        } else if word == b"index".as_slice() {
+            self.read_index(words)
+        } else if word == b"nodes".as_slice() {
+            self.read_nodes(words)
+        } else if word == b"rows".as_slice() {
+            self.read_rows(words)
+        } else if word == b"values".as_slice() {
+            self.read_values(words)
+        } else {
+            Err(LineRefused::Cause(SchemaCause::Order))
+        }
+    }
+
+    /// Takes a line, or names the first cause that holds.
+    #[tactic(auto, unfolding(crate::specs::Grammar::take_line))]
+    pub fn read_line(&mut self, alloc: Global, line: &[u8]) -> Result<(), LineRefused>
+        requires { length self.old.draft.measures.items ≤ 1 }
+        ensures { Gives (λ _. state_in self.new) result (take_line (state_in self.old) line.now) }
+    {
+        if is_comment_line(line) {
+            return Ok(());
+        }
+        let Some((word, words)) = split_word(line) else {
+            return Ok(());
+        };
+        if self.stage.is_start() {
+            self.read_version(word, words)
+        } else {
+            self.read_named(alloc, word, words)
+        }
+    }
+
+    /// Whether the text may end here.
+    pub fn may_end(&self) -> bool
+        ensures { result ≡ may_end self.now.stage }
+    {
+        self.stage.may_end()
+    }
+}

@@ -1,0 +1,150 @@
+// A schema, and what it says.
+ghost use Rattle.std.specs.Prelude.{◌≡◌, ◌≤◌, ◌<◌, ◌+◌, [], length, map, slice_index_or};
+ghost use Rattle.qc_schema.specs.Grammar.{read_lines, schema_in, start};
+ghost use Rattle.qc_schema.specs.Lines.{lines_of, without_cr};
+ghost use Rattle.qc_schema.specs.Schema.{IsLayout, no_measure};
+ghost use Rattle.qc_schema.specs.States.{IsRead, layout_in};
+
+use crate::draft::Draft;
+use crate::lines::{split_line, trim_cr, trim_mark};
+use crate::reader::Reader;
+use crate::refusal::{SchemaCause, SchemaRefused};
+use aggregates::AggKind;
+use std::alloc::Global;
+use std::marker::Model;
+
+/// The names of a cube's columns, the aggregates that are indexed, and the limits.
+#[derive(Drop)]
+pub struct Schema {
+    draft: Draft,
+}
+
+impl Model for Schema {
+    ghost use Rattle.qc_schema.specs.Schema.{IsLayout, Layout};
+    ghost use Rattle.qc_schema.specs.States.{layout_in};
+
+    ghost Value = { Layout };
+
+    ghost view = { λ s. layout_in s.draft };
+
+    ghost invariant = { λ s. IsLayout (layout_in s.draft) };
+}
+
+impl Schema {
+    /// The name of the column of ids.
+    pub fn id_name(&self) -> &str
+        ensures { result.now ≡ self.now.id }
+    {
+        self.draft.id.as_str()
+    }
+
+    /// How many dimensions there are.
+    pub fn dims(&self) -> u8
+        ensures count { result ≡ length self.now.dims }
+        ensures layout { IsLayout self.now }
+    {
+        self.draft.dims.len() as u8
+    }
+
+    /// The name of a dimension, counted from 0.
+    pub fn dim_name(&self, dim: u8) -> &str
+        requires { dim < length self.now.dims }
+        ensures { result.now ≡ slice_index_or self.now.dims dim [] }
+    {
+        self.draft.dims[dim as usize].as_str()
+    }
+
+    /// How many measures there are.
+    pub fn measures(&self) -> u8
+        ensures { result ≡ length self.now.measures }
+    {
+        self.draft.measures.len() as u8
+    }
+
+    /// The name of a measure, counted from 0.
+    pub fn measure_name(&self, measure: u8) -> &str
+        requires { measure < length self.now.measures }
+        ensures { result.now ≡ (slice_index_or self.now.measures measure no_measure).name }
+    {
+        self.draft.measures[measure as usize].name.as_str()
+    }
+
+    /// How many digits an amount of a measure has behind the point.
+    pub fn scale(&self, measure: u8) -> u8
+        requires { measure < length self.now.measures }
+        ensures { result ≡ (slice_index_or self.now.measures measure no_measure).scale }
+    {
+        self.draft.measures[measure as usize].scale
+    }
+
+    /// The aggregates that are indexed, in the order of their lines.
+    pub fn indexes(&self) -> &[AggKind]
+        ensures { result.now ≡ self.now.indexes }
+    {
+        self.draft.indexes.as_slice()
+    }
+
+    /// How many nodes there may be.
+    pub fn nodes(&self) -> u32
+        ensures { result ≡ self.now.nodes }
+    {
+        self.draft.nodes
+    }
+
+    /// How many rows there may be.
+    pub fn rows(&self) -> u32
+        ensures { result ≡ self.now.rows }
+    {
+        self.draft.rows
+    }
+
+    /// How many texts there may be in each dimension.
+    pub fn values(&self) -> u32
+        ensures { result ≡ self.now.values }
+    {
+        self.draft.values
+    }
+}
+
+// Reads all lines of a text without a byte order mark.
+fn read_draft(alloc: Global, text: &[u8]) -> Result<Draft, SchemaRefused>
+    requires { length text.now ≤ 268435456 }
+    ensures { IsRead layout_in result (read_lines (map without_cr (lines_of text.now)) 1 start) }
+{
+    let mut reader = Reader::new(alloc);
+    let mut rest = text;
+    let mut line: u32 = 1;
+    'lines: while !rest.is_empty() {
+        let (first, behind) = split_line(rest);
+        match reader.read_line(alloc, trim_cr(first)) {
+            Ok(()) => {}
+            Err(refused) => return Err(refused.at(line)),
+        }
+        rest = behind;
+        line += 1;
+    }
+    if !reader.may_end() {
+        return Err(SchemaRefused::Line {
+            line,
+            cause: SchemaCause::End,
+        });
+    }
+    Ok(reader.draft)
+}
+
+/// Reads the text of a schema: lines of words with spaces between them. They are `qcube 1`,
+/// `id NAME`, 1 to 12 times `dim NAME`, at most one `measure NAME SCALE`, lines `index count` or
+/// `index AGG NAME`, and at most one each of `nodes N`, `rows N` and `values N`. Lines without words
+/// and those that begin with `#` are passed over.
+pub fn read_schema(alloc: Global, bytes: &[u8]) -> Result<Schema, SchemaRefused>
+    requires { length bytes.now ≤ 268435456 }
+    ensures { IsRead (λ schema. schema) result (schema_in bytes.now) }
+{
+    let Ok(text) = str::from_utf8(bytes) else {
+        return Err(SchemaRefused::NotUtf8);
+    };
+    match read_draft(alloc, trim_mark(text.as_bytes())) {
+        Ok(draft) => Ok(Schema { draft }),
+        Err(refused) => Err(refused),
+    }
+}
