@@ -1,13 +1,13 @@
 -- The fields of a record.
 use Rattle.std.proofs.Common.{◌≡◌, ◌<◌, ◌≤◌, ◌∙◌, ℕ, zero, suc, List, [], ◌∷◌, length, get_or, refl, sym, ap, arith, Some, None, true, false, Bool, ◌++◌, ◌+◌, append_assoc}
-use Rattle.std.specs.Prelude.{Option, option_map, IsSome, IsUtf8, nat_le, ◌&&◌, slice_range}
+use Rattle.std.specs.Prelude.{Option, option_map, IsSome, IsUtf8, slice_range, ◌&&◌}
 use Rattle.std.specs.List.{list_all}
 use Rattle.std.specs.Str.{is_utf8}
-use Rattle.std.proofs.lemmas.Str.{IsUtf8-from_is_utf8, is_utf8-from_IsUtf8}
-use Rattle.std.proofs.lemmas.Bool.{le-leb, lt-leb}
+use Rattle.std.proofs.lemmas.Str.{IsUtf8-from_is_utf8}
 use Rattle.csv.specs.Records.{field_at}
+use Rattle.std.proofs.lemmas.Bool.{le-leb, lt-leb}
+use Rattle.csv_load.specs.Base.{is_short}
 use Rattle.csv_load.proofs.Ranges.{range-more}
-use Rattle.csv_load.specs.Base.{is_value}
 
 pub field-at : (fields : List (List ℕ)) (i : ℕ) → i < length fields → field_at fields i ≡ Some (get_or fields i [])
 unfolding field_at
@@ -19,31 +19,34 @@ pub mapped-some : {A B : Type 0} (f : A → B) (o : Option A) (x : B) → option
 mapped-some f None x e = absurd (cc e)
 mapped-some f (Some a) x e = refl
 
-pub long-value : (text : List ℕ) → 255 < length text → is_value text ≡ false
-long-value text h = by (is_utf8 text)
+pub not-utf8 : (text : List ℕ) → ¬ (IsUtf8 text) → is_utf8 text ≡ false
+not-utf8 text h = by (is_utf8 text) refl
   where
-    by : (b : Bool) → (b && nat_le (length text) 255) ≡ false
-    by true = lt-leb (length text) 255 h
-    by false = refl
-
-pub no-value : (text : List ℕ) → ¬ (IsUtf8 text) → is_value text ≡ false
-no-value text h = by (is_utf8 text) refl
-  where
-    by : (b : Bool) → is_utf8 text ≡ b → is_value text ≡ false
+    by : (b : Bool) → is_utf8 text ≡ b → is_utf8 text ≡ false
     by true e = absurd (h (IsUtf8-from_is_utf8 text e))
-    by false e = rw e refl
+    by false e = e
 
-pub good-value : (text : List ℕ) → IsUtf8 text → length text ≤ 255 → is_value text ≡ true
-good-value text h short = rw (is_utf8-from_IsUtf8 text h, le-leb (length text) 255 short) refl
+-- the elements of a part, of which the first passes a test or doesn't
+pub bad-first : (p : List ℕ → Bool) (fields : List (List ℕ)) (i j : ℕ) → i < j → j ≤ length fields → p (get_or fields i []) ≡ false → list_all p (slice_range fields i j) ≡ false
+bad-first p fields i j low high e = ap (list_all p) (range-more fields i j [] low high) ∙ rw e refl
 
-pub bad-first : (fields : List (List ℕ)) (i j : ℕ) → i < j → j ≤ length fields → is_value (get_or fields i []) ≡ false → list_all is_value (slice_range fields i j) ≡ false
-bad-first fields i j low high e = ap (list_all is_value) (range-more fields i j [] low high) ∙ rw e refl
-
-pub good-first : (fields : List (List ℕ)) (i j : ℕ) → i < j → j ≤ length fields → is_value (get_or fields i []) ≡ true
-    → list_all is_value (slice_range fields i j) ≡ list_all is_value (slice_range fields (i + 1) j)
-good-first fields i j low high e = ap (list_all is_value) (range-more fields i j [] low high) ∙ rw e refl
+pub good-first : (p : List ℕ → Bool) (fields : List (List ℕ)) (i j : ℕ) → i < j → j ≤ length fields → p (get_or fields i []) ≡ true
+    → list_all p (slice_range fields i j) ≡ list_all p (slice_range fields (i + 1) j)
+good-first p fields i j low high e = ap (list_all p) (range-more fields i j [] low high) ∙ rw e refl
 
 pub texts-more : (texts fields : List (List ℕ)) (i j : ℕ) → i < j → j ≤ length fields
     → texts ++ slice_range fields i j ≡ (texts ++ get_or fields i [] ∷ []) ++ slice_range fields (i + 1) j
 texts-more texts fields i j low high =
     ap (λ (more : List (List ℕ)). texts ++ more) (range-more fields i j [] low high) ∙ sym (append_assoc texts (get_or fields i [] ∷ []) (slice_range fields (i + 1) j))
+
+-- whether all are short, when one more is looked at
+pub short-bad : (fields : List (List ℕ)) (i j : ℕ) (b x : Bool) → i < j → j ≤ length fields → 255 < length (get_or fields i []) → (b && list_all is_short (slice_range fields i j)) ≡ x → x ≡ false
+short-bad fields i j b x low high long e = sym e ∙ ap (λ (y : Bool). b && y) (bad-first is_short fields i j low high (lt-leb (length (get_or fields i [])) 255 long)) ∙ never b
+  where
+    never : (b : Bool) → (b && false) ≡ false
+    never true = refl
+    never false = refl
+
+pub short-good : (fields : List (List ℕ)) (i j : ℕ) (b x : Bool) → i < j → j ≤ length fields → length (get_or fields i []) ≤ 255 → (b && list_all is_short (slice_range fields i j)) ≡ x
+    → (b && list_all is_short (slice_range fields (i + 1) j)) ≡ x
+short-good fields i j b x low high few e = ap (λ (y : Bool). b && y) (sym (good-first is_short fields i j low high (le-leb (length (get_or fields i [])) 255 few))) ∙ e

@@ -1,12 +1,10 @@
 pub mod Records
 pub mod Ranges
 pub mod Fields
-pub mod Distinct
+pub mod Names
+pub mod Amounts
 pub mod Rowing
-pub mod Thin
-pub mod Naming
+pub mod Refusals
 pub mod Sizes
 pub mod Cutting
 pub mod Columnar
-pub mod Digits
-pub mod Splits

@@ -2,9 +2,9 @@
 use Rattle.std.proofs.Common.{◌≡◌, ◌<◌, ◌≤◌, ◌+◌, ◌∙◌, ℕ, zero, suc, List, [], ◌∷◌, length, Some, None, true, false, refl, sym, ap, arith, Bool, cond, Bor, add-one}
 use Rattle.std.specs.Prelude.{Option, ◌==◌, unwrap_or, IsSome}
 use Rattle.csv.specs.Machine.{Read, next_record, step, is_end, ends_at_end, fields_after, field_after, after_end, ends_with, in_field, start_field, start_record}
-use Rattle.csv.specs.Reading.{NextIs, ReadRecord, ReadsNext, ReadsOn, default_config, pending_of, records_from, strip_bom}
+use Rattle.csv.specs.Reading.{NextIs, ReadRecord, ReadsNext, ReadsOn, default_config, pending_of, records_from}
 use Rattle.csv.specs.declared.reader.Reader.{Reader}
-use Rattle.csv_load.specs.Records.{IsPlain, Steps, begins_with_mark, records_rest, rows_left, text_left}
+use Rattle.csv_load.specs.Records.{IsPlain, Steps, records_rest, rows_left, text_left}
 use Rattle.csv.specs.declared.parser.State.{State}
 use Rattle.csv.specs.declared.parser.State.TheVariants as st
 use Rattle.csv.specs.declared.parser.Action.{Action}
@@ -80,11 +80,11 @@ leaves [] c s fields field p e = one s fields field [] c p _ refl e (λ h. at_en
 leaves (d ∷ rest) c s fields field p e = one s fields field (d ∷ rest) c p _ refl e (λ h. wider _ p (leaves rest d _ _ _ p h))
 
 -- the same, from between two records
-record Falls (size : ℕ) (p : Read) : Type 0 where
-  left : length p.2 < size
-  between : ends_at_end p.1 ≡ false
+pub record Falls (size : ℕ) (p : Read) : Type 0 where
+  pub left : length p.2 < size
+  pub between : ends_at_end p.1 ≡ false
 
-leaves-between : (s : State) (xs : List ℕ) (p : Read) → ends_at_end s ≡ false → next_record default_config s [] [] xs ≡ Some p → Falls (length xs) p
+pub leaves-between : (s : State) (xs : List ℕ) (p : Read) → ends_at_end s ≡ false → next_record default_config s [] [] xs ≡ Some p → Falls (length xs) p
 unfolding next_record
 leaves-between s [] p b e = absurd (cc (rw b at e))
 leaves-between s (c ∷ rest) p b e = let l = leaves rest c s [] [] p e in record { left = omega (arith, l.left); between = l.between }
@@ -162,11 +162,3 @@ ended a b fields plain r = by (text_left a) refl plain.known
 pub stepped : (a b : Reader (Bor (List ℕ))) (f : Bool) (fields : List (List ℕ)) → IsPlain a → ReadRecord (λ s. Some s.now) a b f fields → (f ≡ true → ReadsOn a b) → Steps a b f fields
 stepped a b true fields plain r on = found a b fields plain r (on refl)
 stepped a b false fields plain r on = ended a b fields plain r
-
--- a text with no mark at its front stays as it is
-pub unmarked : (xs : List ℕ) → begins_with_mark xs ≡ false → strip_bom xs ≡ xs
-unfolding strip_bom
-unmarked [] h = refl
-unmarked (a ∷ []) h = refl
-unmarked (a ∷ b ∷ []) h = refl
-unmarked (a ∷ b ∷ c ∷ rest) h = rw h refl

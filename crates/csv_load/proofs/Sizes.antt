@@ -1,18 +1,21 @@
 -- How many bytes texts and records have.
-use Rattle.std.proofs.Common.{◌≡◌, ◌<◌, ◌≤◌, ◌+◌, ◌-◌, ◌∙◌, ℕ, zero, suc, List, [], ◌∷◌, ◌++◌, length, get_or, refl, sym, ap, arith, Some, None, true, false, Bool, cond, map, take, drop}
+use Rattle.std.proofs.Common.{◌≡◌, ◌<◌, ◌≤◌, ◌+◌, ◌-◌, ◌*◌, ◌∙◌, ℕ, zero, suc, List, [], ◌∷◌, ◌++◌, length, get_or, refl, sym, ap, arith, Some, None, true, false, Bool, cond, map, take, drop}
 use Rattle.std.specs.Prelude.{Option, unwrap_or, slice_range}
 use Rattle.std.specs.List.{range_with_len}
 use Rattle.std.proofs.lemmas.List.{length_push}
 use Rattle.std.proofs.lemmas.List.FromFn.{map-range_with_len_more}
 use Rattle.std.proofs.lemmas.Bool.Decides.{nat_tests}
 use Rattle.csv.specs.Machine.{Read, ends_at_end, field_after, fields_after, is_end, next_record, step}
-use Rattle.csv.specs.Reading.{default_config, records, records_from}
+use Rattle.csv.specs.Reading.{default_config, is_bom, records, records_from, strip_bom}
 use Rattle.csv.specs.declared.parser.Action.{Action}
 use Rattle.csv.specs.declared.parser.Action.TheVariants as act
 use Rattle.csv.specs.declared.parser.State.{State}
 use Rattle.csv.specs.declared.parser.State.TheVariants as st
 use Rattle.csv_load.specs.Texts.{IsCut, bytes_in, bytes_in_all, start_at, text_between, texts_of}
+use Rattle.std.proofs.Math.Nat.{mul-le-mul_left}
+use Rattle.csv_load.specs.Columns.{fields_at}
 use Rattle.csv_load.proofs.Ranges.{length-range, range-more}
+use Rattle.csv_load.proofs.Records.{leaves-between}
 
 pub bytes-append : (xs ys : List (List ℕ)) → bytes_in (xs ++ ys) ≡ bytes_in xs + bytes_in ys
 bytes-append [] ys = omega arith
@@ -63,9 +66,34 @@ records-within (suc n) s xs = by (next_record default_config s [] [] xs) refl (�
     by None e more = rw e (omega arith)
     by (Some p) e more = rw e (omega (arith, more p, record-within xs s [] [] p e))
 
+unmarked : (text : List ℕ) → length (strip_bom text) ≤ length text
+unfolding strip_bom
+unmarked [] = omega arith
+unmarked (a ∷ []) = omega arith
+unmarked (a ∷ b ∷ []) = omega arith
+unmarked (a ∷ b ∷ c ∷ rest) = by (is_bom a b c)
+  where
+    by : (m : Bool) → length (cond m rest (a ∷ b ∷ c ∷ rest)) ≤ suc (suc (suc (length rest)))
+    by true = omega arith
+    by false = omega arith
+
 -- the records of a text have no more bytes than the text
-pub size_records : (text : List ℕ) → bytes_in_all (records default_config text) ≤ length text
-size_records text = records-within (length text + 1) st.StartRecord text
+pub size_records : (text : List ℕ) → bytes_in_all (records default_config (strip_bom text)) ≤ length text
+size_records text = omega (arith, records-within (length (strip_bom text) + 1) st.StartRecord (strip_bom text), unmarked text)
+
+records-few : (n : ℕ) (s : State) (xs : List ℕ) → ends_at_end s ≡ false → length (records_from default_config n s xs) ≤ length xs
+unfolding records_from
+records-few zero s xs b = omega arith
+records-few (suc n) s xs b = by (next_record default_config s [] [] xs) refl (λ p e. let l = leaves-between s xs p b e in omega (arith, l.left, records-few n p.1 p.2 l.between))
+  where
+    by : (o : Option Read) → next_record default_config s [] [] xs ≡ o → ((p : Read) → next_record default_config s [] [] xs ≡ Some p → length (records_from default_config n p.1 p.2) < length xs)
+        → length (records_from default_config (suc n) s xs) ≤ length xs
+    by None e more = rw e (omega arith)
+    by (Some p) e more = rw e (omega (arith, more p e))
+
+-- and it has no more records than bytes
+pub few_records : (text : List ℕ) → length (records default_config (strip_bom text)) ≤ length text
+few_records text = omega (arith, records-few (length (strip_bom text) + 1) st.StartRecord (strip_bom text) refl, unmarked text)
 
 start-suc : (ends : List ℕ) (n : ℕ) → start_at ends (suc n) ≡ get_or ends n 0
 start-suc ends n = grind (arith, nat_tests)
@@ -106,3 +134,18 @@ room-more texts before fields i j k low high same =
 
 pub room-all : (texts before fields : List (List ℕ)) (k j : ℕ) → texts ≡ before ++ slice_range fields k j → bytes_in texts ≤ bytes_in before + bytes_in fields
 room-all texts before fields k j same = omega (arith, ap bytes_in same, bytes-append before (slice_range fields k j), bytes-part fields k j)
+
+one-within : (fields : List (List ℕ)) (i : ℕ) → length (get_or fields i []) ≤ bytes_in fields
+one-within [] i = omega arith
+one-within (f ∷ fs) zero = omega arith
+one-within (f ∷ fs) (suc i) = omega (arith, one-within fs i)
+
+each-within : (places : List ℕ) (fields : List (List ℕ)) → bytes_in (fields_at places fields) ≤ bytes_in fields * length places
+each-within [] fields = omega arith
+each-within (p ∷ ps) fields = let here = one-within fields p in let more = each-within ps fields in grind (arith, here, more)
+
+-- how many bytes the fields at a few places have
+pub bytes-at : (places : List ℕ) (fields : List (List ℕ)) → length places ≤ 14 → bytes_in (fields_at places fields) ≤ 14 * bytes_in fields
+bytes-at places fields few =
+    let most : bytes_in fields * length places ≤ bytes_in fields * 14 = mul-le-mul_left (bytes_in fields) few in
+    omega (arith, each-within places fields, most)

@@ -4,9 +4,10 @@ use Rattle.std.specs.List.{All, range_with_len}
 use Rattle.cube_defs.specs.Rows.{Row}
 use Rattle.cube_defs.specs.Text.{Text}
 
--- rows that are not yet in a table, each with as many texts as there are dimensions
+-- rows that are not yet in a table, each with as many texts as there are dimensions, and as many amounts as measures
 pub record Batch : Type 0 where
   pub dims : ℕ
+  pub measures : ℕ
   pub rows : List (Row Text)
 
 abbrev pub empty_row : Row Text
@@ -20,9 +21,9 @@ row_at rows k = slice_index_or rows (k - 1) empty_row
 abbrev pub text_at : List (Row Text) → ℕ → ℕ → Text
 text_at rows k dim = slice_index_or (row_at rows k).tuple dim []
 
--- its one amount
-abbrev pub amount_at : List (Row Text) → ℕ → ℤ
-amount_at rows k = slice_index_or (row_at rows k).amounts 0 (pos 0)
+-- its amount in a measure, counted from 0
+abbrev pub amount_at : List (Row Text) → ℕ → ℕ → ℤ
+amount_at rows k measure = slice_index_or (row_at rows k).amounts measure (pos 0)
 
 -- a text that a dimension may have
 pub record IsValue (text : Text) : Type 0 where
@@ -33,32 +34,31 @@ pub record IsValue (text : Text) : Type 0 where
 abbrev pub IsSmall : ℤ → Type 0
 IsSmall amount = nat_abs amount ≤ 999999999999
 
--- a row of a batch with so many dimensions
-pub record IsLoaded (dims : ℕ) (row : Row Text) : Type 0 where
+-- a row of a batch with so many dimensions and measures
+pub record IsLoaded (dims measures : ℕ) (row : Row Text) : Type 0 where
   pub id : row.id < 2 ^ 64
   pub tuple : length row.tuple ≡ dims
   pub texts : All IsValue row.tuple
-  pub one : length row.amounts ≡ 1
+  pub amounts : length row.amounts ≡ measures
   pub small : All IsSmall row.amounts
 
 pub record IsBatch (batch : Batch) : Type 0 where
-  pub some : 1 ≤ batch.dims
-  pub few : batch.dims ≤ 12
-  pub most : length batch.rows ≤ 1000000
-  pub loaded : All (IsLoaded batch.dims) batch.rows
+  pub few : length batch.rows < 2 ^ 32
+  pub loaded : All (IsLoaded batch.dims batch.measures) batch.rows
 
 -- the row at a place, counted from 0, of ids, texts and amounts that lie row behind row
-abbrev pub row_of_columns : ℕ → List ℕ → List Text → List ℤ → ℕ → Row Text
-row_of_columns dims ids texts amounts k = record { id = slice_index ids k; tuple = slice_range texts (k * dims) (k * dims + dims); amounts = slice_index_or amounts k (pos 0) ∷ [] }
+abbrev pub row_of_columns : ℕ → ℕ → List ℕ → List Text → List ℤ → ℕ → Row Text
+row_of_columns dims measures ids texts amounts k =
+    record { id = slice_index ids k; tuple = slice_range texts (k * dims) (k * dims + dims); amounts = slice_range amounts (k * measures) (k * measures + measures) }
 
-abbrev pub rows_of_columns : ℕ → List ℕ → List Text → List ℤ → List (Row Text)
-rows_of_columns dims ids texts amounts = map (row_of_columns dims ids texts amounts) (range_with_len 0 (length ids))
+abbrev pub rows_of_columns : ℕ → ℕ → List ℕ → List Text → List ℤ → List (Row Text)
+rows_of_columns dims measures ids texts amounts = map (row_of_columns dims measures ids texts amounts) (range_with_len 0 (length ids))
 
-abbrev pub batch_of : ℕ → List ℕ → List Text → List ℤ → Batch
-batch_of dims ids texts amounts = record { dims = dims; rows = rows_of_columns dims ids texts amounts }
+abbrev pub batch_of : ℕ → ℕ → List ℕ → List Text → List ℤ → Batch
+batch_of dims measures ids texts amounts = record { dims = dims; measures = measures; rows = rows_of_columns dims measures ids texts amounts }
 
 -- the columns are whole, and the rows are those of a batch
-pub record AreColumns (dims : ℕ) (ids : List ℕ) (texts : List Text) (amounts : List ℤ) : Type 0 where
+pub record AreRows (dims measures : ℕ) (ids : List ℕ) (texts : List Text) (amounts : List ℤ) : Type 0 where
   pub texts_fit : length texts ≡ length ids * dims
-  pub amounts_fit : length amounts ≡ length ids
-  pub is_batch : IsBatch (batch_of dims ids texts amounts)
+  pub amounts_fit : length amounts ≡ length ids * measures
+  pub is_batch : IsBatch (batch_of dims measures ids texts amounts)

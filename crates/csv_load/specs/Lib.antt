@@ -1,6 +1,6 @@
 pub mod Batch
-pub mod Numbers
-pub mod Schema
-pub mod Base
 pub mod Texts
 pub mod Records
+pub mod Faults
+pub mod Columns
+pub mod Base

@@ -1,7 +1,6 @@
 -- The records that a reader of a text has left.
-use Rattle.std.specs.Prelude.{◌≡◌, ◌+◌, ◌==◌, ◌&&◌, ℕ, Bool, true, false, List, [], ◌∷◌, length, Option, Some, option_map, unwrap_or, IsSome}
+use Rattle.std.specs.Prelude.{◌≡◌, ◌+◌, ◌==◌, ◌&&◌, ℕ, Bool, true, false, List, [], ◌∷◌, drop, length, Option, Some, option_map, unwrap_or, IsSome}
 use Rattle.std.proofs.Common.{Bor}
-use Rattle.std.specs.Str.{bytes_eq}
 use Rattle.csv.specs.Machine.{ends_at_end}
 use Rattle.csv.specs.Reading.{Ready, default_config, is_flexible, reader_config, reader_state, reader_trim, records_from, source_of}
 use Rattle.csv.specs.declared.parser.State.{State}
@@ -15,12 +14,9 @@ begins_with_mark (a ∷ []) = false
 begins_with_mark (a ∷ b ∷ []) = false
 begins_with_mark (a ∷ b ∷ c ∷ rest) = (a == 0xEF) && (b == 0xBB) && (c == 0xBF)
 
--- whether two records have the same fields
-abbrev pub fields_eq : List (List ℕ) → List (List ℕ) → Bool
-fields_eq [] [] = true
-fields_eq [] (y ∷ ys) = false
-fields_eq (x ∷ xs) [] = false
-fields_eq (x ∷ xs) (y ∷ ys) = bytes_eq x y && fields_eq xs ys
+-- the byte order mark, and directly behind it another
+abbrev pub begins_with_two_marks : List ℕ → Bool
+begins_with_two_marks text = begins_with_mark text && begins_with_mark (drop 3 text)
 
 -- the records of the rest of a text
 abbrev pub records_rest : State → List ℕ → List (List (List ℕ))

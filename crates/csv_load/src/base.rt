@@ -1,22 +1,36 @@
 // A base file.
-ghost use Rattle.std.specs.Prelude.{◌≡◌, ◌≤◌, Some, None, false, length, IfOk, IsErrOf};
-ghost use Rattle.csv_load.specs.Base.{base_of, is_plain};
-ghost use Rattle.csv_load.specs.Records.{begins_with_mark};
+ghost use Rattle.std.specs.Prelude.{◌≡◌, ◌≤◌, length, IfOk};
+ghost use Rattle.csv_load.specs.Base.{base_in};
+ghost use Rattle.csv_load.specs.Faults.{Gives};
+ghost use Rattle.csv_load.specs.Records.{begins_with_mark, begins_with_two_marks};
 
 use crate::batch::RawBatch;
-use crate::columns::read_rows;
+use crate::columns::find_columns;
+use crate::reading::read_rows;
 use crate::rows::Rows;
-use crate::schema::Schema;
 use crate::texts::Texts;
 use csv::ByteRecord;
-use memchr::memchr2;
+use qc_schema::Schema;
 use std::alloc::{AllocError, AllocFailed, Global};
 
-/// Why the bytes of a base file give no rows.
+/// Why a file gives no rows. A number is that of the first record that is wrong, counted from 1
+/// without the header; of several faults the first in this order is named.
 #[derive(Clone, Copy, Debug, PartialEq, Eq)]
 pub enum LoadRefused {
-    /// The text is no thin base file of the schema.
-    Form,
+    /// There is no header, or a needed column isn't there just once.
+    Header,
+    /// The record has another number of fields than the header.
+    Fields(u32),
+    /// The text of a dimension isn't UTF-8.
+    Utf8(u32),
+    /// The operation is none. A base file has none, so reading one never answers this.
+    Op(u32),
+    /// The id is no number that fits 64 bits.
+    Id(u32),
+    /// An amount is none of its measure's scale, or is too large.
+    Amount(u32),
+    /// The text of a dimension has more than 255 bytes.
+    Value(u32),
     /// Memory ran out.
     Memory,
 }
@@ -41,38 +55,37 @@ impl<T: Drop> From<AllocFailed<T>> for LoadRefused {
     }
 }
 
-// Whether a text has no byte order mark at its start, no double quote and no CR.
-fn is_thin(text: &[u8]) -> bool
-    ensures { result ≡ is_plain text.now }
-{
-    !begins_with_bom(text) && memchr2(b'"', b'\r', text).is_none()
-}
-
 fn begins_with_bom(text: &[u8]) -> bool
     ensures { result ≡ begins_with_mark text.now }
 {
     matches!(text, [0xEF, 0xBB, 0xBF, ..])
 }
 
-/// Reads a thin base file: a header with the names of the schema in their order, and records of an
-/// id, a text in each dimension and an amount of at most 12 digits, without quotes.
+fn begins_with_two_boms(text: &[u8]) -> bool
+    ensures { result ≡ begins_with_two_marks text.now }
+{
+    begins_with_bom(text) && begins_with_bom(&text[3..])
+}
+
+/// Reads a file of comma-separated values whose header has the columns of the schema, in any order
+/// and among others. A text is kept as it stands; the same id may come twice.
 pub fn read_base(alloc: Global, schema: &Schema, bytes: &[u8]) -> Result<RawBatch, LoadRefused>
     requires { length bytes.now ≤ 268435456 }
-    ensures ok { IfOk result (λ batch. (batch.dims ≡ length schema.now.dims) × (base_of schema.now bytes.now ≡ Some batch.rows)) }
-    ensures form { IsErrOf result LoadRefused.Form → base_of schema.now bytes.now ≡ None }
+    ensures gives { Gives result (base_in schema.now bytes.now) }
+    ensures dims { IfOk result (λ batch. batch.dims ≡ length schema.now.dims) }
+    ensures measures { IfOk result (λ batch. batch.measures ≡ length schema.now.measures) }
 {
-    if !is_thin(bytes) {
-        return Err(LoadRefused::Form);
+    if begins_with_two_boms(bytes) {
+        return Err(LoadRefused::Header);
     }
     let mut rows = Rows::new(alloc, bytes);
     let mut row = ByteRecord::new(alloc);
-    if !rows.next(&mut row)? || !schema.is_header(&row) {
-        return Err(LoadRefused::Form);
+    if !rows.next(&mut row)? {
+        return Err(LoadRefused::Header);
     }
+    let Some(columns) = find_columns(alloc, schema, &row)? else {
+        return Err(LoadRefused::Header);
+    };
     let texts = Texts::with_room(alloc, bytes.len())?;
-    let batch = read_rows(alloc, schema.dims(), &mut rows, &mut row, texts)?;
-    if !batch.has_distinct_ids(alloc)? {
-        return Err(LoadRefused::Form);
-    }
-    Ok(batch)
+    read_rows(alloc, schema, &columns, &mut rows, &mut row, texts)
 }

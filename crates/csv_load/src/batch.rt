@@ -1,64 +1,40 @@
 // The rows that a file brings.
-ghost use Rattle.std.specs.Prelude.{◌≡◌, ◌≤◌, ◌<◌, [], length, map, nat_eq, IfOk, IsSorted};
-ghost use Rattle.std.specs.Ordering.{nat_cmp};
-ghost use Rattle.csv_load.specs.Schema.{all_different};
-ghost use Rattle.csv_load.specs.Batch.{AreColumns, IsBatch, amount_at, batch_of, row_at, text_at};
+ghost use Rattle.std.specs.Prelude.{◌≡◌, ◌≤◌, ◌<◌, [], length};
+ghost use Rattle.csv_load.specs.Batch.{AreRows, IsBatch, amount_at, batch_of, row_at, text_at};
 
 use crate::texts::Texts;
-use std::alloc::{AllocError, Global};
+use std::alloc::Global;
 use std::marker::Model;
 
-/// Rows that are not yet in a table, each with an id, a text in each dimension, and an amount. Their
-/// number and their place are counted from 1, dimensions from 0.
+/// Rows that are not yet in a table, each with an id, a text in each dimension, and an amount of
+/// each measure. Rows are counted from 1, dimensions and measures from 0.
 #[derive(Drop)]
 pub struct RawBatch {
     dims: u8,
+    measures: u8,
     ids: Vec<u64>,
     texts: Texts,
     amounts: Vec<i64>,
 }
 
 impl Model for RawBatch {
-    ghost use Rattle.csv_load.specs.Batch.{AreColumns, Batch, batch_of};
+    ghost use Rattle.csv_load.specs.Batch.{AreRows, Batch, batch_of};
 
     ghost Value = { Batch };
 
-    ghost view = { λ b. batch_of b.dims b.ids.items b.texts b.amounts.items };
+    ghost view = { λ b. batch_of b.dims b.measures b.ids.items b.texts b.amounts.items };
 
-    ghost invariant = { λ b. AreColumns b.dims b.ids.items b.texts b.amounts.items };
-}
-
-// Whether no number stands twice, found by sorting a copy.
-fn are_distinct(alloc: Global, numbers: &[u64]) -> Result<bool, AllocError>
-    ensures { IfOk result (λ b. b ≡ all_different nat_eq numbers.now) }
-{
-    let mut sorted = numbers.to_vec(alloc)?;
-    sorted.sort_unstable();
-    Ok(rises(sorted.as_slice()))
-}
-
-// Whether each number is below the next.
-fn rises(numbers: &[u64]) -> bool
-    requires { IsSorted nat_cmp numbers.now }
-    ensures { result ≡ all_different nat_eq numbers.now }
-{
-    for i in 1..numbers.len() {
-        if numbers[i - 1] == numbers[i] {
-            return false;
-        }
-    }
-    true
+    ghost invariant = { λ b. AreRows b.dims b.measures b.ids.items b.texts b.amounts.items };
 }
 
 impl RawBatch {
     /// No rows. It takes no memory.
-    pub fn empty(alloc: Global, dims: u8) -> RawBatch
-        requires some { 1 ≤ dims }
-        requires few { dims ≤ 12 }
-        ensures { result ≡ record { dims = dims; rows = [] } }
+    pub fn empty(alloc: Global, dims: u8, measures: u8) -> RawBatch
+        ensures { result ≡ record { dims = dims; measures = measures; rows = [] } }
     {
         RawBatch {
             dims,
+            measures,
             ids: Vec::new(alloc),
             texts: Texts::new(alloc),
             amounts: Vec::new(alloc),
@@ -66,23 +42,23 @@ impl RawBatch {
     }
 
     /// The rows whose ids, texts and amounts lie row behind row.
-    pub(crate) fn of_columns(dims: u8, ids: Vec<u64>, texts: Texts, amounts: Vec<i64>) -> RawBatch
-        requires { AreColumns dims ids.items texts amounts.items }
-        ensures { result ≡ batch_of dims ids.items texts amounts.items }
+    pub(crate) fn of_columns(
+        dims: u8,
+        measures: u8,
+        ids: Vec<u64>,
+        texts: Texts,
+        amounts: Vec<i64>,
+    ) -> RawBatch
+        requires { AreRows dims measures ids.items texts amounts.items }
+        ensures { result ≡ batch_of dims measures ids.items texts amounts.items }
     {
         RawBatch {
             dims,
+            measures,
             ids,
             texts,
             amounts,
         }
-    }
-
-    /// Whether no two rows have the same id.
-    pub(crate) fn has_distinct_ids(&self, alloc: Global) -> Result<bool, AllocError>
-        ensures { IfOk result (λ b. b ≡ all_different nat_eq (map (λ row. row.id) self.now.rows)) }
-    {
-        are_distinct(alloc, self.ids.as_slice())
     }
 
     /// How many rows there are.
@@ -113,12 +89,13 @@ impl RawBatch {
         self.texts.get(at)
     }
 
-    /// The amount of a row.
-    pub fn amount(&self, k: u32) -> i64
+    /// The amount of a row in a measure, in units of the last place of its scale.
+    pub fn amount(&self, k: u32, measure: u8) -> i64
         requires first { 1 ≤ k }
         requires last { k ≤ length self.now.rows }
-        ensures { result ≡ amount_at self.now.rows k }
+        requires measure { measure < self.now.measures }
+        ensures { result ≡ amount_at self.now.rows k measure }
     {
-        self.amounts[k as usize - 1]
+        self.amounts[(k as usize - 1) * self.measures as usize + measure as usize]
     }
 }

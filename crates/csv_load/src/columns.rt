@@ -1,92 +1,96 @@
-// The rows of a base file, read into columns.
-ghost use Rattle.std.specs.Prelude.{◌≡◌, ◌≤◌, ◌<◌, ◌+◌, ◌^◌, ◌++◌, [], Some, None, length, true, false, IfOk, OnOk, IsErrOf, slice_index_or, slice_range};
-ghost use Rattle.std.specs.List.{list_all};
+// Where a file has the columns that a schema names.
+ghost use Rattle.std.specs.Prelude.{◌≡◌, ◌<◌, ◌≤◌, [], length, IfOk, IfSome, option_map, slice_index_or};
 ghost use Rattle.csv.specs.Records.{fields_of};
-ghost use Rattle.cube_defs.specs.Rows.{Row};
-ghost use Rattle.cube_defs.specs.Text.{Text};
-ghost use Rattle.csv_load.specs.Base.{AddsRow, few_rows_in, is_value, row_in};
-ghost use Rattle.csv_load.specs.Texts.{bytes_in, bytes_in_all};
+ghost use Rattle.qc_schema.specs.Schema.{names_of};
+ghost use Rattle.csv_load.specs.Columns.{AreColumns, fields_at, place_from, places_in};
 
-use crate::base::LoadRefused;
-use crate::batch::RawBatch;
-use crate::numbers::{amount, number};
-use crate::rows::{Rows, field};
-use crate::texts::Texts;
+use crate::rows::field;
 use csv::ByteRecord;
-use std::alloc::Global;
+use qc_schema::Schema;
+use std::alloc::{AllocError, Global};
 
-const MOST_ROWS: usize = 1_000_000;
+/// The columns of a header.
+#[derive(Drop)]
+pub struct Columns {
+    /// How many columns there are.
+    pub width: usize,
+    /// The places of those of the id, the dimensions and the measures, in the schema's order.
+    pub places: Vec<usize>,
+}
 
-// Puts the texts of a record's dimensions behind the others.
-fn push_texts(dims: u8, row: &ByteRecord, texts: &mut Texts) -> Result<(), LoadRefused>
-    requires fields { length (fields_of row.now) ≡ dims + 2 }
-    requires room { bytes_in texts.old + bytes_in (fields_of row.now) < 2 ^ 32 }
-    ensures ok { OnOk result (texts.new ≡ texts.old ++ slice_range (fields_of row.now) 1 (1 + dims)) }
-    ensures good { OnOk result (list_all is_value (slice_range (fields_of row.now) 1 (1 + dims)) ≡ true) }
-    ensures form { IsErrOf result LoadRefused.Form → list_all is_value (slice_range (fields_of row.now) 1 (1 + dims)) ≡ false }
+/// The field of a record in a needed column, counted from 0 in the schema's order.
+pub fn needed_field<'a>(columns: &Columns, row: &'a ByteRecord, column: usize) -> &'a [u8]
+    requires there { column < length columns.now.places.items }
+    requires within { slice_index_or columns.now.places.items column 0 < length (fields_of row.now) }
+    ensures { result.now ≡ slice_index_or (fields_at columns.now.places.items (fields_of row.now)) column [] }
 {
-    for dim in 0..dims {
-        let field = field(row, 1 + dim as usize);
-        if field.len() > 255 {
-            return Err(LoadRefused::Form);
+    field(row, columns.places[column])
+}
+
+// The place of the one field that is this name.
+fn place_of(header: &ByteRecord, name: &str) -> Option<usize>
+    ensures { result ≡ place_from 0 name.now (fields_of header.now) }
+{
+    let mut found = None;
+    for place in 0..header.len() {
+        if field(header, place) == name.as_bytes() {
+            if found.is_some() {
+                return None;
+            }
+            found = Some(place);
         }
-        let Ok(text) = str::from_utf8(field) else {
-            return Err(LoadRefused::Form);
-        };
-        texts.push(text)?;
     }
-    Ok(())
+    found
 }
 
-// Puts the row that a record spells behind the others.
-fn push_row(
-    dims: u8,
-    row: &ByteRecord,
-    ids: &mut Vec<u64>,
-    texts: &mut Texts,
-    amounts: &mut Vec<i64>,
-) -> Result<(), LoadRefused>
-    requires { bytes_in texts.old + bytes_in (fields_of row.now) < 2 ^ 32 }
-    ensures ok { OnOk result ((added : Row Text) × (row_in dims (fields_of row.now) ≡ Some added) × AddsRow added ids.old.items ids.new.items texts.old texts.new amounts.old.items amounts.new.items) }
-    ensures form { IsErrOf result LoadRefused.Form → row_in dims (fields_of row.now) ≡ None }
+// The name of a needed column, counted from 0.
+fn needed_name(schema: &Schema, column: usize) -> &str
+    requires { column < length (names_of schema.now) }
+    ensures { result.now ≡ slice_index_or (names_of schema.now) column [] }
 {
-    if row.len() != dims as usize + 2 {
-        return Err(LoadRefused::Form);
+    let dims = schema.dims() as usize;
+    if column == 0 {
+        schema.id_name()
+    } else if column <= dims {
+        schema.dim_name((column - 1) as u8)
+    } else {
+        schema.measure_name((column - 1 - dims) as u8)
     }
-    let Some(id) = number(field(row, 0)) else {
-        return Err(LoadRefused::Form);
-    };
-    let Some(amount) = amount(field(row, 1 + dims as usize)) else {
-        return Err(LoadRefused::Form);
-    };
-    push_texts(dims, row, texts)?;
-    ids.push(id)?;
-    amounts.push(amount)?;
-    Ok(())
 }
 
-/// Reads the rows of the records that are left. `texts` has room for their texts.
-pub fn read_rows(
+// The places of the needed columns, where each stands once.
+fn find_places(
     alloc: Global,
-    dims: u8,
-    rows: &mut Rows,
-    row: &mut ByteRecord,
-    mut texts: Texts,
-) -> Result<RawBatch, LoadRefused>
-    requires some { 1 ≤ dims }
-    requires few { dims ≤ 12 }
-    requires empty { texts ≡ [] }
-    requires room { bytes_in_all rows.old < 2 ^ 32 }
-    ensures ok { IfOk result (λ batch. (batch.dims ≡ dims) × (few_rows_in dims rows.old ≡ Some batch.rows)) }
-    ensures form { IsErrOf result LoadRefused.Form → few_rows_in dims rows.old ≡ None }
+    schema: &Schema,
+    header: &ByteRecord,
+) -> Result<Option<Vec<usize>>, AllocError>
+    ensures found { IfOk result (λ found. option_map (λ places. places.items) found ≡ places_in (fields_of header.now) (names_of schema.now)) }
+    ensures few { length (names_of schema.now) ≤ 14 }
 {
-    let mut ids = Vec::new(alloc);
-    let mut amounts = Vec::new(alloc);
-    'records: while rows.next(row)? {
-        if ids.len() >= MOST_ROWS {
-            return Err(LoadRefused::Form);
-        }
-        push_row(dims, row, &mut ids, &mut texts, &mut amounts)?;
+    let count = 1 + schema.dims() as usize + schema.measures() as usize;
+    let mut places = Vec::with_capacity(alloc, count)?;
+    'names: for column in 0..count {
+        let Some(place) = place_of(header, needed_name(schema, column)) else {
+            return Ok(None);
+        };
+        places.push(place)?;
     }
-    Ok(RawBatch::of_columns(dims, ids, texts, amounts))
+    Ok(Some(places))
+}
+
+/// Finds the columns of the schema in a header, where each stands just once.
+pub fn find_columns(
+    alloc: Global,
+    schema: &Schema,
+    header: &ByteRecord,
+) -> Result<Option<Columns>, AllocError>
+    ensures found { IfOk result (λ found. option_map (λ columns. columns.places.items) found ≡ places_in (fields_of header.now) (names_of schema.now)) }
+    ensures width { IfOk result (λ found. IfSome found (λ columns. columns.width ≡ length (fields_of header.now))) }
+    ensures are { IfOk result (λ found. IfSome found (λ columns. AreColumns schema.now columns)) }
+{
+    let Some(places) = find_places(alloc, schema, header)? else {
+        return Ok(None);
+    };
+    let width = header.len();
+    Ok(Some(Columns { width, places }))
 }

@@ -1,8 +1,7 @@
 // The records of a CSV text in turn.
 ghost use Rattle.std.specs.Prelude.{false, ◌≡◌, ◌≤◌, ◌<◌, length, [], ◌∷◌, IfOk, OnErr, MatchBool, slice_index_or};
-ghost use Rattle.csv.specs.Reading.{default_config, records};
+ghost use Rattle.csv.specs.Reading.{default_config, records, strip_bom};
 ghost use Rattle.csv.specs.Records.{fields_of};
-ghost use Rattle.csv_load.specs.Records.{begins_with_mark};
 ghost use Rattle.csv_load.specs.Texts.{bytes_in_all};
 
 use csv::{ByteRecord, Reader, ReaderBuilder};
@@ -50,19 +49,18 @@ fn read_plain(rdr: &mut Reader<&[u8]>, row: &mut ByteRecord) -> Result<bool, All
 }
 
 impl<'a> Rows<'a> {
-    #[tactic(auto, using(crate::proofs::Sizes::size_records))]
+    #[tactic(auto, using(crate::proofs::Sizes::size_records, crate::proofs::Sizes::few_records))]
+    /// One byte order mark in front is passed over.
     pub fn new(alloc: Global, text: &'a [u8]) -> Self
-        requires { begins_with_mark text.now ≡ false }
-        ensures records { result ≡ records default_config text.now }
+        ensures records { result ≡ records default_config (strip_bom text.now) }
         ensures size { bytes_in_all result ≤ length text.now }
+        ensures few { length result ≤ length text.now }
     {
         Rows::start(alloc, text)
     }
 
-    #[tactic(auto, using(crate::proofs::Records::unmarked))]
     fn start(alloc: Global, text: &'a [u8]) -> Self
-        requires { begins_with_mark text.now ≡ false }
-        ensures { result ≡ records default_config text.now }
+        ensures { result ≡ records default_config (strip_bom text.now) }
     {
         let rdr = ReaderBuilder::new()
             .has_headers(false)

@@ -1,0 +1,109 @@
+-- The places of names in a header.
+use Rattle.std.proofs.Common.{◌≡◌, ◌<◌, ◌≤◌, ◌+◌, ◌-◌, ◌∙◌, ℕ, zero, suc, List, [], ◌∷◌, ◌++◌, length, get_or, drop, map, refl, sym, ap, arith, Some, None, true, false, Bool, cond, append_assoc}
+use Rattle.std.specs.Prelude.{Option, option_map, IfSome, ◌||◌, unwrap_or}
+use Rattle.std.specs.List.{All, list_any}
+use Rattle.std.specs.Str.{bytes_eq}
+use Rattle.std.proofs.lemmas.Bool.{cond-true, cond-false}
+use Rattle.std.proofs.lemmas.List.{drop_more, length-map, get_or-map, get_or_append_left, get_or-append-add, length-append, append-nil}
+use Rattle.std.proofs.lemmas.List.Elements.{All-cons}
+use Rattle.cube_defs.specs.Text.{Text}
+use Rattle.qc_schema.specs.Schema.{Layout, Measure, names_of, no_measure}
+use Rattle.csv_load.specs.Columns.{cons_some, fields_at, place_from, places_in}
+
+pub fields-at : (places : List ℕ) (fields : List (List ℕ)) (i : ℕ) → i < length places → get_or (fields_at places fields) i [] ≡ get_or fields (get_or places i 0) []
+fields-at places fields i h = get_or-map (λ place. get_or fields place []) places i 0 [] h
+
+-- ---- one name
+
+-- where the name stands, when it was found or not before the i-th field
+abbrev pub place_left : Option ℕ → ℕ → Text → List (List ℕ) → Option ℕ
+place_left None i name fields = place_from i name fields
+place_left (Some place) i name fields = cond (list_any (λ other. bytes_eq other name) fields) None (Some place)
+
+pub left-first : (i : ℕ) (name field : Text) (fields : List (List ℕ)) → bytes_eq field name ≡ true → place_left None i name (field ∷ fields) ≡ place_left (Some i) (i + 1) name fields
+left-first i name field fields e = rw e refl
+
+pub left-again : (place i : ℕ) (name field : Text) (fields : List (List ℕ)) → bytes_eq field name ≡ true → place_left (Some place) i name (field ∷ fields) ≡ None
+left-again place i name field fields e = rw e refl
+
+pub left-other : (found : Option ℕ) (i : ℕ) (name field : Text) (fields : List (List ℕ)) → bytes_eq field name ≡ false → place_left found i name (field ∷ fields) ≡ place_left found (i + 1) name fields
+left-other None i name field fields e = rw e refl
+left-other (Some place) i name field fields e = rw e refl
+
+pub left-end : (found : Option ℕ) (i : ℕ) (name : Text) → place_left found i name [] ≡ found
+left-end None i name = refl
+left-end (Some place) i name = refl
+
+place-within : (fields : List (List ℕ)) (k : ℕ) (name : Text) (place : ℕ) → place_from k name fields ≡ Some place → place < k + length fields
+place-within [] k name place e = absurd (cc e)
+place-within (f ∷ fs) k name place e = by (bytes_eq f name) e (place-within fs (k + 1) name place)
+  where
+    alone : (b : Bool) → cond b None (Some k) ≡ Some place → place < k + suc (length fs)
+    alone true m = absurd (cc m)
+    alone false m = let same : k ≡ place = cc in omega (arith, same)
+
+    by : (b : Bool) → cond b (cond (list_any (λ other. bytes_eq other name) fs) None (Some k)) (place_from (k + 1) name fs) ≡ Some place
+        → (place_from (k + 1) name fs ≡ Some place → place < k + 1 + length fs) → place < k + suc (length fs)
+    by true m more = alone (list_any (λ other. bytes_eq other name) fs) m
+    by false m more = omega (arith, more m)
+
+-- ---- all names
+
+pub places-split : (o : Option ℕ) (p : Option (List ℕ)) (places : List ℕ) → cons_some o p ≡ Some places → (place : ℕ) × (more : List ℕ) × (o ≡ Some place) × (p ≡ Some more) × (place ∷ more ≡ places)
+places-split None p places e = absurd (cc e)
+places-split (Some place) None places e = absurd (cc e)
+places-split (Some place) (Some more) places e = (place, more, refl, refl, ap (λ (q : Option (List ℕ)). unwrap_or q places) e)
+
+pub places-all : (header names : List (List ℕ)) (places : List ℕ) → places_in header names ≡ Some places → length places ≡ length names
+places-all header [] places e = let same : [] ≡ places = ap (λ (q : Option (List ℕ)). unwrap_or q places) e in omega (arith, ap length same)
+places-all header (n ∷ ns) places e =
+    let s = places-split (place_from 0 n header) (places_in header ns) places e in
+    omega (arith, ap length s.4, places-all header ns s.1 s.3)
+
+pub places-within : (header names : List (List ℕ)) (places : List ℕ) → places_in header names ≡ Some places → All (λ place. place < length header) places
+places-within header [] places e = let same : [] ≡ places = ap (λ (q : Option (List ℕ)). unwrap_or q places) e in rw (← same) (λ k d lt. absurd (omega arith))
+places-within header (n ∷ ns) places e =
+    let s = places-split (place_from 0 n header) (places_in header ns) places e in
+    rw (← s.4) (All-cons (λ place. place < length header) s.0 s.1 (omega (arith, place-within header 0 n s.0 s.2)) (places-within header ns s.1 s.3))
+
+-- with the places before, those of the names that are left are all
+abbrev pub places_with : List ℕ → Option (List ℕ) → Option (List ℕ)
+places_with before more = option_map (λ places. before ++ places) more
+
+pub places-start : (more : Option (List ℕ)) → places_with [] more ≡ more
+places-start None = refl
+places-start (Some places) = refl
+
+pub places-step : (header names : List (List ℕ)) (before : List ℕ) (i place : ℕ) → i < length names → place_from 0 (get_or names i []) header ≡ Some place
+    → places_with before (places_in header (drop i names)) ≡ places_with (before ++ place ∷ []) (places_in header (drop (i + 1) names))
+places-step header names before i place h e = ap (λ (ns : List Text). places_with before (places_in header ns)) (drop_more names i [] h) ∙ rw e (by (places_in header (drop (i + 1) names)))
+  where
+    by : (more : Option (List ℕ)) → places_with before (cons_some (Some place) more) ≡ places_with (before ++ place ∷ []) more
+    by None = refl
+    by (Some places) = ap Some (sym (append_assoc before (place ∷ []) places))
+
+pub places-none : (header names : List (List ℕ)) (before : List ℕ) (i : ℕ) → i < length names → place_from 0 (get_or names i []) header ≡ None
+    → places_with before (places_in header (drop i names)) ≡ None
+places-none header names before i h e = ap (λ (ns : List Text). places_with before (places_in header ns)) (drop_more names i [] h) ∙ rw e refl
+
+pub places-end : (header : List (List ℕ)) (before : List ℕ) → places_with before (places_in header []) ≡ Some before
+places-end header before = ap Some (append-nil before)
+
+-- ---- the names of a schema
+
+pub names-all : (layout : Layout) → length (names_of layout) ≡ 1 + length layout.dims + length layout.measures
+names-all layout = omega (arith, length-append layout.dims (map (λ (m : Measure). m.name) layout.measures), length-map layout.measures (λ (m : Measure). m.name))
+
+pub name-dim : (layout : Layout) (column : ℕ) → 1 ≤ column → column ≤ length layout.dims → get_or (names_of layout) column [] ≡ get_or layout.dims (column - 1) []
+name-dim layout zero low high = absurd (omega arith)
+name-dim layout (suc k) low high = get_or_append_left layout.dims (map (λ (m : Measure). m.name) layout.measures) [] k (omega arith) ∙ ap (λ (i : ℕ). get_or layout.dims i []) (omega arith)
+
+pub name-measure : (layout : Layout) (column k : ℕ) → column ≡ 1 + length layout.dims + k → k < length layout.measures → get_or (names_of layout) column [] ≡ (get_or layout.measures k no_measure).name
+name-measure layout zero k e h = absurd (omega (arith, e))
+name-measure layout (suc column) k e h =
+    ap (λ (i : ℕ). get_or (layout.dims ++ map (λ (m : Measure). m.name) layout.measures) i []) (omega (arith, e))
+    ∙ get_or-append-add layout.dims (map (λ (m : Measure). m.name) layout.measures) k []
+    ∙ get_or-map (λ (m : Measure). m.name) layout.measures k no_measure [] h
+
+pub length-at : (places : List ℕ) (fields : List (List ℕ)) → length (fields_at places fields) ≡ length places
+length-at places fields = length-map places (λ place. get_or fields place [])
