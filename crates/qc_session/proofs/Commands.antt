@@ -5,7 +5,7 @@ use Rattle.std.proofs.lemmas.Str.{is_utf8-from_IsUtf8, IsUtf8-from_is_utf8}
 use Rattle.std.proofs.lemmas.Bool.{cases_Bool}
 use Rattle.qc_session.specs.Lines.{rest_of, word_of}
 use Rattle.qc_session.specs.Answers.{Command, Refused, command_named, command_of}
-use Rattle.qc_session.specs.declared.reply.Refusal.TheVariants as refusals
+use Rattle.qc_session.specs.Replies as refusals
 
 not_utf8 : (line : List ℕ) → (IsUtf8 line → ⊥) → is_utf8 line ≡ false
 not_utf8 line h = elim (cases_Bool (is_utf8 line)) [ inl e ↦ absurd (h (IsUtf8-from_is_utf8 line e)) | inr e ↦ e ]

@@ -1,8 +1,11 @@
 pub mod Splits
 pub mod Texts
-pub mod Totals
-pub mod Divisors
 pub mod Records
 pub mod Commands
 pub mod Steps
 pub mod Refusals
+pub mod Totals
+pub mod FirstFull
+pub mod Learnt
+pub mod Twice
+pub mod Stores

@@ -1,21 +1,26 @@
 -- Records written field by field.
-use Rattle.std.proofs.Common.{◌≡◌, ◌<◌, ◌+◌, ◌∙◌, ℕ, zero, suc, List, [], ◌∷◌, ◌++◌, map, take, Some, None, refl, sym, ap, append_assoc, append-nil, arith, add-one, Option}
-use Rattle.std.specs.Prelude.{slice_get, flat_map}
+use Rattle.std.proofs.Common.{◌≡◌, ◌<◌, ◌+◌, ◌∙◌, ℕ, zero, suc, List, [], ◌∷◌, ◌++◌, map, take, length, get_or, Some, refl, sym, ap, append_assoc, append-nil, arith, add-one}
+use Rattle.std.specs.Prelude.{slice_get}
 use Rattle.std.specs.List.{join_with_byte}
+use Rattle.std.proofs.lemmas.List.{length-map, length-take}
+use Rattle.aggregates.specs.Views.{agg_in, part_in}
+use Rattle.aggregates.specs.declared.agg.Agg.{Agg}
 use Rattle.cube_defs.specs.Text.{Text}
+use Rattle.cube_defs.specs.Rows.{Part, part_of}
+use Rattle.qc_schema.specs.Schema.{Measure, no_measure}
 use Rattle.cell_core.specs.declared.fields.Field.{Field}
-use Rattle.qc_session.specs.Replies.{entry_text, record_text}
+use Rattle.qc_session.specs.Replies.{entry_text, part_texts, parts_texts, record_text}
 use Rattle.qc_session.specs.Points.{cell_of_fields, entry_asked, fields_text}
 
 regroup-three : (w x y z : List ℕ) → ((w ++ x) ++ y) ++ z ≡ w ++ (x ++ (y ++ z))
 regroup-three w x y z = simp append_assoc
 
-regroup-five : (out v w x y z : List ℕ) → ((((out ++ v) ++ w) ++ x) ++ y) ++ z ≡ out ++ (v ++ (w ++ (x ++ (y ++ z))))
-regroup-five out v w x y z = simp append_assoc
+regroup-four : (out w x y z : List ℕ) → (((out ++ w) ++ x) ++ y) ++ z ≡ out ++ (w ++ (x ++ (y ++ z)))
+regroup-four out w x y z = simp append_assoc
 
-pub five-fields : (out a b c d e : List ℕ) → ((((out ++ 44 ∷ a) ++ 44 ∷ b) ++ 44 ∷ c) ++ 44 ∷ d) ++ 44 ∷ e ≡ out ++ fields_text (a ∷ b ∷ c ∷ d ∷ e ∷ [])
-five-fields out a b c d e = regroup-five out (44 ∷ a) (44 ∷ b) (44 ∷ c) (44 ∷ d) (44 ∷ e)
-    ∙ ap (λ (z : List ℕ). out ++ ((44 ∷ a) ++ ((44 ∷ b) ++ ((44 ∷ c) ++ ((44 ∷ d) ++ (44 ∷ z)))))) (sym (append-nil e))
+pub four-fields : (out a b c d : List ℕ) → (((out ++ 44 ∷ a) ++ 44 ∷ b) ++ 44 ∷ c) ++ 44 ∷ d ≡ out ++ fields_text (a ∷ b ∷ c ∷ d ∷ [])
+four-fields out a b c d = regroup-four out (44 ∷ a) (44 ∷ b) (44 ∷ c) (44 ∷ d)
+    ∙ ap (λ (z : List ℕ). out ++ ((44 ∷ a) ++ ((44 ∷ b) ++ ((44 ∷ c) ++ (44 ∷ z))))) (sym (append-nil d))
 
 pub fields-append : (xs ys : List Text) → fields_text (xs ++ ys) ≡ fields_text xs ++ fields_text ys
 fields-append [] ys = refl
@@ -39,6 +44,26 @@ cell-more cell k f e = rw add-one (by cell k e)
     by [] k e = cc
     by (g ∷ cell) zero e = rw (some e) (ap (λ (z : List ℕ). 44 ∷ z) (append-nil (entry_text (entry_asked f))))
     by (g ∷ cell) (suc k) e = ap (λ (z : List ℕ). 44 ∷ entry_text (entry_asked g) ++ z) (by cell k e) ∙ ap (λ (z : List ℕ). 44 ∷ z) (sym (append_assoc (entry_text (entry_asked g)) _ _))
+
+-- the numbers of the first measures with one more
+pub parts-more : (count : ℕ) (measures : List Measure) (parts : List Part) (k : ℕ) → k < length measures → k < length parts
+    → parts_texts count (take (k + 1) measures) (take (k + 1) parts)
+    ≡ parts_texts count (take k measures) (take k parts) ++ part_texts count (get_or measures k no_measure).scale (get_or parts k (part_of []))
+parts-more count measures parts k h l = rw add-one (by measures parts k h l)
+  where
+    by : (measures : List Measure) (parts : List Part) (k : ℕ) → k < length measures → k < length parts
+        → parts_texts count (take (suc k) measures) (take (suc k) parts)
+        ≡ parts_texts count (take k measures) (take k parts) ++ part_texts count (get_or measures k no_measure).scale (get_or parts k (part_of []))
+    by [] parts k h l = absurd (omega arith)
+    by (m ∷ measures) [] k h l = absurd (omega arith)
+    by (m ∷ measures) (p ∷ parts) zero h l = append-nil (part_texts count m.scale p)
+    by (m ∷ measures) (p ∷ parts) (suc k) h l =
+        ap (λ (z : List Text). part_texts count m.scale p ++ z) (by measures parts k (omega arith) (omega arith))
+        ∙ sym (append_assoc (part_texts count m.scale p) (parts_texts count (take k measures) (take k parts)) (part_texts count (get_or measures k no_measure).scale (get_or parts k (part_of []))))
+
+-- a measure of an aggregate has its part
+pub part-there : (a : Agg) (k : ℕ) → k < a.measures → k < length a.parts → k < length (agg_in a).parts
+part-there a k h l = omega (arith, length-map (take a.measures a.parts) part_in, length-take a.measures a.parts)
 
 -- a record that was written field by field
 pub record-written : (word line : Text) (cell agg : List Text) → ((word ++ 44 ∷ line) ++ fields_text cell) ++ fields_text agg ++ 10 ∷ [] ≡ record_text (word ∷ line ∷ cell ++ agg)

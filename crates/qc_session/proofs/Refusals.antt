@@ -1,13 +1,15 @@
 -- What follows where a file of the words wasn't read.
 use Rattle.std.proofs.Common.{◌≡◌, ◌<◌, ◌≤◌, ℕ, List, refl, sym, ap, ◌∙◌, Some, None, IfSome, true, false, inl, inr, arith, Bool, length}
-use Rattle.std.specs.Prelude.{Option, IsSomeAnd, is_none, nat_lt}
+use Rattle.std.specs.Prelude.{Option, IsSomeAnd, Result, Ok, Err, nat_lt}
 use Rattle.std.proofs.lemmas.Bool.{le-ltb}
 use Rattle.std.proofs.lemmas.Bool.Decides.{nat_tests}
-use Rattle.csv_load.specs.Schema.{Columns, schema_of}
 use Rattle.qc_io.specs.Outside.{Told}
+use Rattle.qc_schema.specs.Grammar.{schema_in}
+use Rattle.qc_schema.specs.Schema.{Layout}
+use Rattle.qc_schema.specs.States.{Fault}
 use Rattle.qc_session.specs.Lines.{script_lines}
 use Rattle.qc_session.specs.Answers.{limit}
-use Rattle.qc_session.specs.Runs.{Cause, Usage, CannotRead, CannotWrite, OutOfMemory, SchemaForm, TooLong, IsNever, IsNoSchema, IsSchemaOf, IsScriptOf, StoppedAt, Names, ReadFails, Said, Unread, refusal_of, status_of}
+use Rattle.qc_session.specs.Runs.{Cause, Usage, CannotRead, CannotWrite, OutOfMemory, NoSchema, TooLong, IsNever, IsNoSchema, IsSchemaOf, IsScriptOf, StoppedAt, Names, ReadFails, Said, Unread, refusal_of, status_of}
 
 long : (n : ℕ) → limit < n → nat_lt limit n ≡ true
 long n h = grind (arith, nat_tests, h)
@@ -21,13 +23,13 @@ unread-schema (Some t) names rose sure r (CannotRead file) skipped before now er
     (file, inl (record { is_schema = h.0; nothing = same; untold = λ s. rw h.0 (h.2 s) }), said)
 unread-schema told names rose sure r CannotWrite skipped before now err err2 h is same said = absurd h
 unread-schema told names rose sure r OutOfMemory skipped before now err err2 h is same said = absurd (omega (arith, is))
-unread-schema told names rose sure r SchemaForm skipped before now err err2 h is same said = absurd (omega (arith, is))
+unread-schema told names rose sure r (NoSchema fault) skipped before now err err2 h is same said = absurd (omega (arith, is))
 unread-schema told names rose sure r (TooLong file) skipped before now err err2 h is same said = absurd (omega (arith, is))
 
-refusal-form : (names : Names) (schema script : Option (List ℕ)) → IsSomeAnd schema (λ bytes. (length bytes ≤ limit) × (schema_of bytes ≡ None)) → refusal_of schema names script ≡ Some SchemaForm
-refusal-form names None script h = absurd h
-refusal-form names (Some bytes) None h = rw (le-ltb limit (length bytes) h.0, h.1) refl
-refusal-form names (Some bytes) (Some more) h = rw (le-ltb limit (length bytes) h.0, h.1) refl
+refusal-none : (names : Names) (schema script : Option (List ℕ)) (fault : Fault) → IsSomeAnd schema (λ bytes. (length bytes ≤ limit) × (schema_in bytes ≡ Err fault)) → refusal_of schema names script ≡ Some (NoSchema fault)
+refusal-none names None script fault h = absurd h
+refusal-none names (Some bytes) None fault h = rw (le-ltb limit (length bytes) h.0, h.1) refl
+refusal-none names (Some bytes) (Some more) fault h = rw (le-ltb limit (length bytes) h.0, h.1) refl
 
 refusal-long : (names : Names) (schema script : Option (List ℕ)) → IsSomeAnd schema (λ bytes. limit < length bytes) → refusal_of schema names script ≡ Some (TooLong names.schema)
 refusal-long names None script h = absurd h
@@ -41,13 +43,13 @@ refused-schema told names rose sure r Usage err err2 h is said = absurd h
 refused-schema told names rose sure r (CannotRead file) err err2 h is said = absurd (omega (arith, is))
 refused-schema told names rose sure r CannotWrite err err2 h is said = absurd h
 refused-schema told names rose sure r OutOfMemory err err2 h is said = absurd (omega (arith, is))
-refused-schema None names rose sure r SchemaForm err err2 h is said = tt
-refused-schema (Some t) names rose sure r SchemaForm err err2 h is said = (SchemaForm, refusal-form names (t names.schema) (t names.script) h, said)
+refused-schema None names rose sure r (NoSchema fault) err err2 h is said = tt
+refused-schema (Some t) names rose sure r (NoSchema fault) err err2 h is said = (NoSchema fault, refusal-none names (t names.schema) (t names.script) fault h, said)
 refused-schema None names rose sure r (TooLong file) err err2 h is said = tt
 refused-schema (Some t) names rose sure r (TooLong file) err err2 h is said =
     (TooLong names.schema, refusal-long names (t names.schema) (t names.script) h.1, rw h.0 at said)
 
-pub unread-script : (told : Option Told) (names : Names) (schema : Columns) (rose sure sure2 told_on_err : Type 0) (cause : Cause) (skipped : List ℕ) (before now err err2 : Option (List ℕ))
+pub unread-script : (told : Option Told) (names : Names) (schema : Layout) (rose sure sure2 told_on_err : Type 0) (cause : Cause) (skipped : List ℕ) (before now err err2 : Option (List ℕ))
     → IfSome told (λ t. IsSchemaOf t names.schema schema)
     → (sure → sure2) → ReadFails told names.script rose sure2 IsNever cause → status_of cause ≡ 3 → now ≡ before → Said told_on_err cause err err2
     → IfSome told (λ t. (name : List ℕ) × Unread t sure names skipped name before now × Said told_on_err (CannotRead name) err err2)
@@ -57,15 +59,15 @@ unread-script (Some t) names schema rose sure sure2 r (CannotRead file) skipped 
     (file, inr (inl (record { is_script = h.0; schema = schema; schema_read = is_read; nothing = same; untold = λ s. rw h.0 (h.2 (surer s)) })), said)
 unread-script told names schema rose sure sure2 r CannotWrite skipped before now err err2 is_read surer h is same said = absurd h
 unread-script told names schema rose sure sure2 r OutOfMemory skipped before now err err2 is_read surer h is same said = absurd (omega (arith, is))
-unread-script told names schema rose sure sure2 r SchemaForm skipped before now err err2 is_read surer h is same said = absurd (omega (arith, is))
+unread-script told names schema rose sure sure2 r (NoSchema fault) skipped before now err err2 is_read surer h is same said = absurd (omega (arith, is))
 unread-script told names schema rose sure sure2 r (TooLong file) skipped before now err err2 is_read surer h is same said = absurd (omega (arith, is))
 
-refusal-script : (t : Told) (names : Names) (schema : Columns) (script : Option (List ℕ)) → IsSchemaOf t names.schema schema → IsSomeAnd script (λ bytes. limit < length bytes)
+refusal-script : (t : Told) (names : Names) (schema : Layout) (script : Option (List ℕ)) → IsSchemaOf t names.schema schema → IsSomeAnd script (λ bytes. limit < length bytes)
     → refusal_of (t names.schema) names script ≡ Some (TooLong names.script)
 refusal-script t names schema None is_read h = absurd h
 refusal-script t names schema (Some bytes) is_read h = rw (is_read.is_told, le-ltb limit (length is_read.bytes) is_read.within, is_read.spelled, long (length bytes) h) refl
 
-pub refused-script : (told : Option Told) (names : Names) (schema : Columns) (rose sure r : Type 0) (cause : Cause) (err err2 : Option (List ℕ))
+pub refused-script : (told : Option Told) (names : Names) (schema : Layout) (rose sure r : Type 0) (cause : Cause) (err err2 : Option (List ℕ))
     → IfSome told (λ t. IsSchemaOf t names.schema schema)
     → ReadFails told names.script rose sure IsNever cause → status_of cause ≡ 6 → Said r cause err err2
     → IfSome told (λ t. (found : Cause) × (refusal_of (t names.schema) names (t names.script) ≡ Some found) × Said r found err err2)
@@ -73,13 +75,13 @@ refused-script told names schema rose sure r Usage err err2 is_read h is said = 
 refused-script told names schema rose sure r (CannotRead file) err err2 is_read h is said = absurd (omega (arith, is))
 refused-script told names schema rose sure r CannotWrite err err2 is_read h is said = absurd h
 refused-script told names schema rose sure r OutOfMemory err err2 is_read h is said = absurd (omega (arith, is))
-refused-script None names schema rose sure r SchemaForm err err2 is_read h is said = tt
-refused-script (Some t) names schema rose sure r SchemaForm err err2 is_read h is said = absurd h
+refused-script None names schema rose sure r (NoSchema fault) err err2 is_read h is said = tt
+refused-script (Some t) names schema rose sure r (NoSchema fault) err err2 is_read h is said = absurd h
 refused-script None names schema rose sure r (TooLong file) err err2 is_read h is said = tt
 refused-script (Some t) names schema rose sure r (TooLong file) err err2 is_read h is said =
     (TooLong names.script, refusal-script t names schema (t names.script) is_read h.1, rw h.0 at said)
 
-pub unread-line : (told : Option Told) (names : Names) (schema : Columns) (script : List ℕ) (sure sure2 r : Type 0) (skipped : List ℕ) (before now err err2 : Option (List ℕ))
+pub unread-line : (told : Option Told) (names : Names) (schema : Layout) (script : List ℕ) (sure sure2 r : Type 0) (skipped : List ℕ) (before now err err2 : Option (List ℕ))
     → IfSome told (λ t. IsSchemaOf t names.schema schema) → IfSome told (λ t. IsScriptOf t names.script script)
     → (sure → sure2) → IfSome told (λ t. (name : List ℕ) × StoppedAt t sure2 schema skipped (script_lines script) name before now × Said r (CannotRead name) err err2)
     → IfSome told (λ t. (name : List ℕ) × Unread t sure names skipped name before now × Said r (CannotRead name) err err2)

@@ -7,7 +7,7 @@ use Rattle.std.proofs.lemmas.List.Sums.{fold-append}
 use Rattle.std.proofs.lemmas.Bool.Decides.{nat_tests}
 use Rattle.std.proofs.Math.Seq.{take-append-add}
 use Rattle.qc_io.specs.Outside.{Told, taking}
-use Rattle.csv_load.specs.Schema.{Columns}
+use Rattle.qc_schema.specs.Schema.{Layout}
 use Rattle.qc_session.specs.Lines.{is_passed}
 use Rattle.qc_session.specs.Replies.{memory_text}
 use Rattle.qc_session.specs.Answers.{State, Load, answer, empty, command_of}
@@ -88,7 +88,7 @@ items-push skipped n (l ∷ lines) line =
     ap (λ (more : List Item). item skipped (n + 1) l ∷ more) (items-push skipped (n + 1) lines line ∙ ap (λ m. items skipped (n + 1) lines ++ item skipped m line ∷ []) same)
 
 -- the transcript with one line more
-took-push : (t : Told) (schema : Columns) (skipped : List ℕ) (lines : List (List ℕ)) (line : List ℕ) (state : State) (replies : List ℕ) (state2 : State) (reply : List ℕ) → Took t schema skipped lines state replies
+took-push : (t : Told) (schema : Layout) (skipped : List ℕ) (lines : List (List ℕ)) (line : List ℕ) (state : State) (replies : List ℕ) (state2 : State) (reply : List ℕ) → Took t schema skipped lines state replies
     → Replies t skipped (length lines + 1) state line state2 reply → Took t schema skipped (lines ++ line ∷ []) state2 (replies ++ reply)
 unfolding transcript
 took-push t schema skipped lines line state replies state2 reply took r =
@@ -101,7 +101,7 @@ took-push t schema skipped lines line state replies state2 reply took r =
           ∙ r.is replies;
     }
 
-took-skips : (t : Told) (schema : Columns) (skipped new : List ℕ) (lines : List (List ℕ)) (line : List ℕ) (state : State) (replies : List ℕ) → Skips skipped (length lines + 1) line new → Took t schema skipped lines state replies → Took t schema new lines state replies
+took-skips : (t : Told) (schema : Layout) (skipped new : List ℕ) (lines : List (List ℕ)) (line : List ℕ) (state : State) (replies : List ℕ) → Skips skipped (length lines + 1) line new → Took t schema skipped lines state replies → Took t schema new lines state replies
 unfolding transcript
 took-skips t schema skipped new lines line state replies (inl same) took = rw same took
 took-skips t schema skipped new lines line state replies (inr more) took =
@@ -109,21 +109,21 @@ took-skips t schema skipped new lines line state replies (inr more) took =
     record { is = rw (more.0, items-later skipped 0 (length lines + 1) lines past) took.is }
 
 -- what a loop over the lines knows: out took the replies of the lines so far, in this state
-pub record WroteTo (told : Told) (schema : Columns) (skipped : List ℕ) (lines : List (List ℕ)) (state : State) (before now : Option (List ℕ)) : Type 0 where
+pub record WroteTo (told : Told) (schema : Layout) (skipped : List ℕ) (lines : List (List ℕ)) (state : State) (before now : Option (List ℕ)) : Type 0 where
   pub replies : List ℕ
   pub took : Took told schema skipped lines state replies
   pub wrote : now ≡ taking replies before
 
-abbrev pub WroteSoFar : Option Told → Columns → List ℕ → List (List ℕ) → State → Option (List ℕ) → Option (List ℕ) → Type 0
+abbrev pub WroteSoFar : Option Told → Layout → List ℕ → List (List ℕ) → State → Option (List ℕ) → Option (List ℕ) → Type 0
 WroteSoFar told schema skipped lines state before now = IfSome told (λ t. WroteTo t schema skipped lines state before now)
 
-pub so_far-none : (told : Option Told) (schema : Columns) (state : State) (first : Option (List ℕ)) → state ≡ empty schema → WroteSoFar told schema [] [] state first first
+pub so_far-none : (told : Option Told) (schema : Layout) (state : State) (first : Option (List ℕ)) → state ≡ empty schema → WroteSoFar told schema [] [] state first first
 unfolding transcript items
 so_far-none None schema state first e = tt
 so_far-none (Some t) schema state first e = record { replies = []; took = record { is = ap (λ (s : State). run_at s []) (sym e) }; wrote = taking-nil first }
 
 -- the lines so far with one line more
-pub so_far-push : (told : Option Told) (schema : Columns) (skipped new : List ℕ) (lines : List (List ℕ)) (line : List ℕ) (number : ℕ) (state state2 : State) (first before now : Option (List ℕ)) → length lines ≡ number
+pub so_far-push : (told : Option Told) (schema : Layout) (skipped new : List ℕ) (lines : List (List ℕ)) (line : List ℕ) (number : ℕ) (state state2 : State) (first before now : Option (List ℕ)) → length lines ≡ number
     → Skips skipped (number + 1) line new → WroteSoFar told schema skipped lines state first before → WroteLine told new (number + 1) state line state2 before now → WroteSoFar told schema new (lines ++ line ∷ []) state2 first now
 so_far-push None schema skipped new lines line number state state2 first before now len skips w h = tt
 so_far-push (Some t) schema skipped new lines line number state state2 first before now len skips w h =
@@ -135,7 +135,7 @@ so_far-push (Some t) schema skipped new lines line number state state2 first bef
     }
 
 -- the lines so far with a part of one line's reply
-pub front-push : (told : Option Told) (schema : Columns) (skipped new : List ℕ) (lines : List (List ℕ)) (line : List ℕ) (rest : List (List ℕ)) (number : ℕ) (state state2 : State) (first before now : Option (List ℕ)) → length lines ≡ number
+pub front-push : (told : Option Told) (schema : Layout) (skipped new : List ℕ) (lines : List (List ℕ)) (line : List ℕ) (rest : List (List ℕ)) (number : ℕ) (state state2 : State) (first before now : Option (List ℕ)) → length lines ≡ number
     → Skips skipped (number + 1) line new → WroteSoFar told schema skipped lines state first before → WrotePart told new (number + 1) state line state2 before now → (all : List (List ℕ)) → all ≡ (lines ++ line ∷ []) ++ rest
     → IfSome told (λ t. StoppedWriting t schema new all first now)
 front-push None schema skipped new lines line rest number state state2 first before now len skips w h all split = tt
@@ -154,7 +154,7 @@ front-push (Some t) schema skipped new lines line rest number state state2 first
       };
     }
 
-pub stopped-at : (told : Option Told) (sure : Type 0) (schema : Columns) (skipped new : List ℕ) (lines : List (List ℕ)) (line : List ℕ) (rest : List (List ℕ)) (name : List ℕ) (state : State) (first before now : Option (List ℕ))
+pub stopped-at : (told : Option Told) (sure : Type 0) (schema : Layout) (skipped new : List ℕ) (lines : List (List ℕ)) (line : List ℕ) (rest : List (List ℕ)) (name : List ℕ) (state : State) (first before now : Option (List ℕ))
     → command_of line ≡ Load name → new ≡ skipped → now ≡ before → WroteSoFar told schema skipped lines state first before
     → (sure → IfSome told (λ t. t name ≡ None)) → (all : List (List ℕ)) → all ≡ lines ++ line ∷ rest
     → IfSome told (λ t. StoppedAt t sure schema new all name first now)
@@ -169,7 +169,7 @@ stopped-at (Some t) sure schema skipped new lines line rest name state first bef
   untold = untold;
 }
 
-pub wrote-all : (told : Option Told) (schema : Columns) (skipped : List ℕ) (lines all : List (List ℕ)) (state : State) (first now : Option (List ℕ)) → all ≡ lines ++ [] → WroteSoFar told schema skipped lines state first now
+pub wrote-all : (told : Option Told) (schema : Layout) (skipped : List ℕ) (lines all : List (List ℕ)) (state : State) (first now : Option (List ℕ)) → all ≡ lines ++ [] → WroteSoFar told schema skipped lines state first now
     → IfSome told (λ t. Wrote t schema skipped all first now)
 wrote-all None schema skipped lines all state first now e w = tt
 wrote-all (Some t) schema skipped lines all state first now e w =

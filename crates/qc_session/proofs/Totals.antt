@@ -1,21 +1,21 @@
 -- The total of the rows so far, and of one more.
-use Rattle.std.proofs.Common.{◌≡◌, ◌<◌, ◌≤◌, ◌+◌, ◌-◌, ◌∙◌, ℕ, zero, suc, ℤ, pos, negsuc, ◌≤ℤ◌, ◌+ℤ◌, List, [], ◌∷◌, ◌++◌, length, get_or, take, map, filter, Option, Some, None, Bool, true, false, refl, sym, ap, arith, length-append, subst, add-one, append-nil}
-use Rattle.std.specs.Prelude.{slice_get, slice_index_or, ◌&&◌, fold}
+use Rattle.std.proofs.Common.{◌≡◌, ◌<◌, ◌≤◌, ◌+◌, ◌-◌, ◌∙◌, ℕ, zero, suc, ℤ, pos, List, [], ◌∷◌, ◌++◌, length, get_or, take, filter, Option, Some, None, Bool, true, false, refl, sym, ap, ap₂, arith, add-one, length-append, append-nil}
+use Rattle.std.specs.Prelude.{slice_get, slice_set, ◌&&◌}
 use Rattle.std.specs.List.{All}
-use Rattle.std.specs.Int.{int_min, int_max}
 use Rattle.std.proofs.lemmas.List.Elements.{filter-append}
-use Rattle.std.proofs.lemmas.List.Sums.{fold-append}
-use Rattle.std.proofs.lemmas.List.{map-append, length-map, take_more}
-use Rattle.std.proofs.Math.Seq.{take-suc}
-use Rattle.std.proofs.lemmas.Int.{ints}
-use Rattle.std.specs.Prelude.{nat_abs}
+use Rattle.std.proofs.lemmas.List.{take_more}
 use Rattle.cube_defs.specs.Text.{Text, text_eq}
 use Rattle.cube_defs.specs.Cell.{Cell, cell_of, entry_leq, leq}
-use Rattle.cube_defs.specs.Rows.{Row, Part, Agg, agg_of, amounts_of, part_of, covers, cov}
-use Rattle.csv_load.specs.Batch.{Batch, IsBatch, IsLoaded, IsSmall, empty_row, row_at, amount_at}
+use Rattle.cube_defs.specs.Rows.{Row, agg_of}
+use Rattle.cube_defs.specs.Rows as defs
+use Rattle.cube_laws.specs.Total.{combine}
+use Rattle.aggregates.specs.Rows.{agg_of_row}
+use Rattle.aggregates.specs.Views.{agg_in}
+use Rattle.aggregates.specs.declared.agg.Agg.{Agg}
+use Rattle.aggregates.proofs.Together.{agg_of-append, agg_of-one}
+use Rattle.csv_load.specs.Batch.{Batch, IsBatch, IsLoaded, IsSmall, empty_row, row_at}
 use Rattle.cell_core.specs.declared.fields.Field.{Field}
-use Rattle.qc_session.specs.Points.{IsBounded, IsTotal, IsWithin, total_next, agg_of_total, cell_of_fields, entry_asked, total_with}
-use Rattle.qc_session.specs.declared.total.Total.{Total}
+use Rattle.qc_session.specs.Points.{IsTotal, IsWithin, agg_next, cell_of_fields, entry_asked}
 
 -- an entry of the asked cell
 pub asked_at : (fields : List Field) (k : ℕ) (f : Field) → slice_get fields k ≡ Some f → get_or (cell_of_fields fields) k None ≡ entry_asked f
@@ -42,64 +42,63 @@ leq-all (x ∷ c) [] e h = absurd (omega arith)
 leq-all (x ∷ c) (v ∷ t) e h = rw (h 0 (omega arith), leq-all c t (omega arith) (λ k lt. h (suc k) (omega arith))) refl
 
 -- what a batch says of its row with a number
-pub loaded_at : (batch : Batch) (k : ℕ) → IsBatch batch → 1 ≤ k → k ≤ length batch.rows → IsLoaded batch.dims (row_at batch.rows k)
+pub loaded_at : (batch : Batch) (k : ℕ) → IsBatch batch → 1 ≤ k → k ≤ length batch.rows → IsLoaded batch.dims batch.measures (row_at batch.rows k)
 loaded_at batch k is low high = is.loaded (k - 1) empty_row (omega arith)
 
 pub row_values : (batch : Batch) (k : ℕ) → IsBatch batch → 1 ≤ k → k ≤ length batch.rows → length (row_at batch.rows k).tuple ≡ batch.dims
 row_values batch k is low high = (loaded_at batch k is low high).tuple
 
-pub amount_small : (batch : Batch) (k : ℕ) → IsBatch batch → 1 ≤ k → k ≤ length batch.rows → IsSmall (amount_at batch.rows k)
-amount_small batch k is low high = let row = loaded_at batch k is low high in row.small 0 (pos 0) (omega (arith, row.one))
+pub row_amounts : (batch : Batch) (k : ℕ) → IsBatch batch → 1 ≤ k → k ≤ length batch.rows → length (row_at batch.rows k).amounts ≡ batch.measures
+row_amounts batch k is low high = (loaded_at batch k is low high).amounts
 
-abs-add : (x y : ℤ) → nat_abs (x +ℤ y) ≤ nat_abs x + nat_abs y
-abs-add x y = omega (arith, ints)
+pub row_small : (batch : Batch) (k : ℕ) → IsBatch batch → 1 ≤ k → k ≤ length batch.rows → All IsSmall (row_at batch.rows k).amounts
+row_small batch k is low high = (loaded_at batch k is low high).small
 
-part-push : (xs : List ℤ) (a : ℤ) → 0 < length xs → part_of (xs ++ a ∷ []) ≡ record { sum = (part_of xs).sum +ℤ a; least = int_min (part_of xs).least a; greatest = int_max (part_of xs).greatest a }
-part-push [] a h = absurd (omega arith)
-part-push (x ∷ xs) a h = rw (fold-append (λ y z. y +ℤ z) x xs (a ∷ []), fold-append int_min x xs (a ∷ []), fold-append int_max x xs (a ∷ [])) refl
+-- one amount more of those of a row
+pub amount-more : (xs ys : List ℤ) (k : ℕ) (a : ℤ) → k < length xs → k < length ys → a ≡ get_or ys k (pos 0) → take k xs ≡ take k ys → take (k + 1) (slice_set xs k a) ≡ take (k + 1) ys
+amount-more xs ys k a h l e same = rw add-one (by xs ys k h l e same)
+  where
+    first : {x y : ℤ} {xs ys : List ℤ} → x ∷ xs ≡ y ∷ ys → x ≡ y
+    first e = cc
 
-abbrev agg_at : ℕ → Part → Agg
-agg_at k x = record { count = k; parts = x ∷ [] }
+    rest : {x y : ℤ} {xs ys : List ℤ} → x ∷ xs ≡ y ∷ ys → xs ≡ ys
+    rest e = cc
 
-pub total-push : (t : Total) (rows : List (Row Text)) (r : Row Text) (a : ℤ) → a ≡ slice_index_or r.amounts 0 (pos 0) → 0 < length rows → agg_of_total t ≡ agg_of 1 rows
-    → agg_of_total (total_with t a) ≡ agg_of 1 (rows ++ r ∷ [])
-total-push t rows r a is some e =
-    let amounts = map-append (λ (row : Row Text). slice_index_or row.amounts 0 (pos 0)) rows (r ∷ []) in
-    let many : 0 < length (amounts_of 0 rows) = rw length-map some in
-    let was : record { sum = t.sum; least = t.least; greatest = t.greatest } ≡ part_of (amounts_of 0 rows) = ap (λ (x : Agg). get_or x.parts 0 (part_of [])) e in
-    let now : part_of (amounts_of 0 (rows ++ r ∷ [])) ≡ record { sum = t.sum +ℤ a; least = int_min t.least a; greatest = int_max t.greatest a } =
-    ap part_of (amounts ∙ ap (λ (z : ℤ). amounts_of 0 rows ++ z ∷ []) (sym is)) ∙ part-push (amounts_of 0 rows) a many
-    ∙ ap (λ (x : Part). record { sum = x.sum +ℤ a; least = int_min x.least a; greatest = int_max x.greatest a }) (sym was) in
-    let count : t.count ≡ length rows = ap (λ (x : Agg). x.count) e in
-    let more : t.count + 1 ≡ length (rows ++ r ∷ []) = omega (arith, length-append rows (r ∷ []), count) in
-    ap (λ k. agg_at k (record { sum = t.sum +ℤ a; least = int_min t.least a; greatest = int_max t.greatest a })) more
-    ∙ ap (λ (x : Part). agg_at (length (rows ++ r ∷ [])) x) (sym now)
+    by : (xs ys : List ℤ) (k : ℕ) → k < length xs → k < length ys → a ≡ get_or ys k (pos 0) → take k xs ≡ take k ys → take (suc k) (slice_set xs k a) ≡ take (suc k) ys
+    by [] ys k h l e same = absurd (omega arith)
+    by (x ∷ xs) [] k h l e same = absurd (omega arith)
+    by (x ∷ xs) (y ∷ ys) zero h l e same = ap (λ (z : ℤ). z ∷ []) e
+    by (x ∷ xs) (y ∷ ys) (suc k) h l e same = ap₂ (λ (z : ℤ) (zs : List ℤ). z ∷ zs) (first same) (by xs ys k (omega arith) (omega arith) e (rest same))
 
-pub total_is : (t : Total) (a sum least greatest : ℤ) → sum ≡ t.sum +ℤ a → least ≡ int_min t.least a → greatest ≡ int_max t.greatest a
-    → record { count = t.count + 1; sum = sum; least = least; greatest = greatest } ≡ total_with t a
-total_is t a sum least greatest e f g = rw (e, f, g) refl
+pub within-up : (o : Option Agg) (n m : ℕ) → n ≤ m → IsWithin o n → IsWithin o m
+within-up None n m le h = tt
+within-up (Some t) n m le h = omega (arith, le, h)
 
-pub within-next : (o : Option Total) (n : ℕ) (a : ℤ) → IsSmall a → IsWithin o n → IsWithin (Some (total_next o a)) (n + 1)
-within-next None n a small h = (omega arith, omega (arith, small))
-within-next (Some t) n a small h = (omega (arith, h.0), omega (arith, abs-add t.sum a, small, h.1))
+pub within-next : (o : Option Agg) (n : ℕ) (amounts : List ℤ) (t : Agg) → agg_in t ≡ agg_next o amounts → IsWithin o n → t.count ≤ n + 1
+within-next None n amounts t e h = omega (arith, ap (λ (x : defs.Agg). x.count) e)
+within-next (Some s) n amounts t e h = omega (arith, ap (λ (x : defs.Agg). x.count) e, h)
 
-total-next : (o : Option Total) (rows : List (Row Text)) (r : Row Text) (a : ℤ) → a ≡ slice_index_or r.amounts 0 (pos 0) → IsTotal o rows → IsTotal (Some (total_next o a)) (rows ++ r ∷ [])
-total-next None rows r a is h = rw (h, is) (omega arith, refl)
-total-next (Some t) rows r a is h = (omega arith, total-push t rows r a is (rw (← ap (λ (x : Agg). x.count) h.1) h.0) h.1)
+total-next : (o : Option Agg) (measures : ℕ) (rows : List (Row Text)) (r : Row Text) (t : Agg) → length r.amounts ≡ measures → agg_in t ≡ agg_next o r.amounts
+    → IsTotal o measures rows → IsTotal (Some t) measures (rows ++ r ∷ [])
+total-next None measures rows r t many e h = rw (h, ← many) (omega arith, e ∙ sym (agg_of-one r))
+total-next (Some s) measures rows r t many e h =
+    let one : agg_of measures (r ∷ []) ≡ agg_of_row r.amounts = rw (← many) (agg_of-one r) in (
+      omega (arith, length-append rows (r ∷ [])),
+      e ∙ ap (λ (a : defs.Agg). combine a (agg_of_row r.amounts)) h.1
+          ∙ ap (combine (agg_of measures rows)) (sym one)
+          ∙ sym (agg_of-append measures rows (r ∷ []) h.0 (omega arith)),
+    )
 
 covered-next : (p : Row Text → Bool) (rows : List (Row Text)) (k : ℕ) → k < length rows → filter p (take (k + 1) rows) ≡ filter p (take k rows) ++ filter p (row_at rows (k + 1) ∷ [])
 covered-next p rows k lt = let same : k + 1 - 1 ≡ k = omega arith in rw same (ap (filter p) (take_more rows k empty_row lt) ∙ filter-append p (take k rows) _)
 
 -- a row more that the cell covers
-pub covered-yes : (o : Option Total) (p : Row Text → Bool) (batch : Batch) (k : ℕ) → k < length batch.rows → p (row_at batch.rows (k + 1)) ≡ true
-    → IsTotal o (filter p (take k batch.rows)) → IsTotal (Some (total_next o (amount_at batch.rows (k + 1)))) (filter p (take (k + 1) batch.rows))
-covered-yes o p batch k lt passes h = rw (covered-next p batch.rows k lt, passes) (total-next o (filter p (take k batch.rows)) (row_at batch.rows (k + 1)) _ refl h)
+pub covered-yes : (o : Option Agg) (p : Row Text → Bool) (batch : Batch) (k : ℕ) (t : Agg) → k < length batch.rows → p (row_at batch.rows (k + 1)) ≡ true
+    → length (row_at batch.rows (k + 1)).amounts ≡ batch.measures → agg_in t ≡ agg_next o (row_at batch.rows (k + 1)).amounts
+    → IsTotal o batch.measures (filter p (take k batch.rows)) → IsTotal (Some t) batch.measures (filter p (take (k + 1) batch.rows))
+covered-yes o p batch k t lt passes many e h = rw (covered-next p batch.rows k lt, passes) (total-next o batch.measures (filter p (take k batch.rows)) (row_at batch.rows (k + 1)) t many e h)
 
 -- a row more that it doesn't cover
-pub covered-no : (o : Option Total) (p : Row Text → Bool) (batch : Batch) (k : ℕ) → k < length batch.rows → p (row_at batch.rows (k + 1)) ≡ false
-    → IsTotal o (filter p (take k batch.rows)) → IsTotal o (filter p (take (k + 1) batch.rows))
+pub covered-no : (o : Option Agg) (p : Row Text → Bool) (batch : Batch) (k : ℕ) → k < length batch.rows → p (row_at batch.rows (k + 1)) ≡ false
+    → IsTotal o batch.measures (filter p (take k batch.rows)) → IsTotal o batch.measures (filter p (take (k + 1) batch.rows))
 covered-no o p batch k lt fails h = rw (covered-next p batch.rows k lt, fails, append-nil) h
-
-pub within-more : (o : Option Total) (n : ℕ) → IsWithin o n → IsWithin o (n + 1)
-within-more None n h = tt
-within-more (Some t) n h = (omega (arith, h.0), h.1)

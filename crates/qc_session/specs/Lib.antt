@@ -1,7 +1,9 @@
 pub mod Lines
 pub mod Replies
 pub mod Reply
+pub mod Learning
 pub mod Answers
+pub mod Stores
 pub mod Points
 pub mod Transcript
 pub mod Runs

@@ -1,10 +1,14 @@
 -- How a run ends.
-use Rattle.std.specs.Prelude.{◌≡◌, ◌≤◌, ◌<◌, ◌&&◌, ◌||◌, ◌⊎◌, ◌++◌, ◌-◌, ℕ, zero, suc, Bool, true, false, not, List, [], ◌∷◌, length, take, Option, Some, None, IfSome, IsSomeAnd, codes, string_bytes, slice_index_or, nat_lt, is_none, ⊤, String, if◌then◌else◌}
+use Rattle.std.specs.Prelude.{◌≡◌, ◌≤◌, ◌<◌, ◌&&◌, ◌||◌, ◌⊎◌, ◌++◌, ◌-◌, ℕ, zero, suc, Bool, true, false, not, List, [], ◌∷◌, length, take, Option, Some, None, IfSome, IsSomeAnd, codes, string_bytes, slice_index_or, decimal, Result, Ok, Err, nat_lt, ⊤, String, if◌then◌else◌}
 use Rattle.std.specs.declared.alloc.Global.{Global}
 use Rattle.std.specs.List.{AllByRecursion}
 use Rattle.std.specs.Str.{bytes_eq, is_utf8}
-use Rattle.csv_load.specs.Schema.{Columns, schema_of}
 use Rattle.qc_io.specs.Outside.{Told, taking}
+use Rattle.qc_schema.specs.Grammar.{schema_in}
+use Rattle.qc_schema.specs.Schema.{Layout}
+use Rattle.qc_schema.specs.States as schemas
+use Rattle.qc_schema.specs.declared.refusal.SchemaCause.{SchemaCause}
+use Rattle.qc_schema.specs.declared.refusal.SchemaCause.TheVariants as causes
 use Rattle.qc_session.specs.Lines.{is_passed, script_lines, word_of}
 use Rattle.qc_session.specs.Answers.{Command, Load, Point, Refused, State, command_of, limit}
 use Rattle.qc_session.specs.Transcript.{Run, run_at, step, item, transcript}
@@ -30,7 +34,7 @@ pub data Cause : Type 0 where
   CannotRead : List ℕ → Cause
   CannotWrite : Cause
   OutOfMemory : Cause
-  SchemaForm : Cause
+  NoSchema : schemas.Fault → Cause
   TooLong : List ℕ → Cause
 
 abbrev pub status_of : Cause → ℕ
@@ -38,8 +42,21 @@ status_of Usage = 2
 status_of (CannotRead name) = 3
 status_of CannotWrite = 4
 status_of OutOfMemory = 5
-status_of SchemaForm = 6
+status_of (NoSchema fault) = 6
 status_of (TooLong name) = 6
+
+abbrev pub cause_text : SchemaCause → List ℕ
+cause_text causes.Version = codes "version"
+cause_text causes.Order = codes "order"
+cause_text causes.Words = codes "words"
+cause_text causes.Name = codes "name"
+cause_text causes.Number = codes "number"
+cause_text causes.End = codes "end"
+
+-- what is wrong with a schema
+abbrev pub fault_text : schemas.Fault → List ℕ
+fault_text schemas.NotUtf8 = codes "not UTF-8"
+fault_text (schemas.Line line cause) = codes "line " ++ decimal line ++ codes ": " ++ cause_text cause
 
 -- the line that tells it
 abbrev pub error_text : Cause → List ℕ
@@ -47,33 +64,34 @@ error_text Usage = codes "usage: qcube run SCHEMA SCRIPT | qcube gen ROWS SEED\n
 error_text (CannotRead name) = codes "qcube: cannot read " ++ name ++ 10 ∷ []
 error_text CannotWrite = codes "qcube: cannot write\n"
 error_text OutOfMemory = codes "qcube: out of memory\n"
-error_text SchemaForm = codes "qcube: schema form\n"
+error_text (NoSchema fault) = codes "qcube: schema " ++ fault_text fault ++ 10 ∷ []
 error_text (TooLong name) = codes "qcube: " ++ name ++ codes " is too long\n"
 
 -- a schema that is read: the file is there, is no longer than a file may be, and spells it
-pub record IsSchemaOf (told : Told) (name : List ℕ) (schema : Columns) : Type 0 where
+pub record IsSchemaOf (told : Told) (name : List ℕ) (schema : Layout) : Type 0 where
   pub bytes : List ℕ
   pub is_told : told name ≡ Some bytes
   pub within : length bytes ≤ limit
-  pub spelled : schema_of bytes ≡ Some schema
+  pub spelled : schema_in bytes ≡ Ok schema
 
 -- a script that is read
 pub record IsScriptOf (told : Told) (name bytes : List ℕ) : Type 0 where
   pub is_told : told name ≡ Some bytes
   pub within : length bytes ≤ limit
 
--- Why a run is refused before its first line: the schema is too long or isn't thin, or else the script is too long.
+-- Why a run is refused before its first line: the schema is too long or is none, or else the script is too long.
+abbrev pub fault_or : Result Layout schemas.Fault → Option Cause → Option Cause
+fault_or (Ok schema) other = other
+fault_or (Err fault) other = Some (NoSchema fault)
+
 abbrev pub refusal_of : Option (List ℕ) → Names → Option (List ℕ) → Option Cause
 refusal_of None names script = None
 refusal_of (Some schema) names None =
     if nat_lt limit (length schema) then Some (TooLong names.schema)
-    else if is_none (schema_of schema) then Some SchemaForm
-    else None
+    else fault_or (schema_in schema) None
 refusal_of (Some schema) names (Some script) =
     if nat_lt limit (length schema) then Some (TooLong names.schema)
-    else if is_none (schema_of schema) then Some SchemaForm
-    else if nat_lt limit (length script) then Some (TooLong names.script)
-    else None
+    else fault_or (schema_in schema) (if nat_lt limit (length script) then Some (TooLong names.script) else None)
 
 -- the line with a number, counted from 1, and no bytes where there is none
 abbrev pub line_at : List (List ℕ) → ℕ → List ℕ
@@ -99,18 +117,18 @@ pub record AreSkipped (lines : List (List ℕ)) (skipped : List ℕ) : Type 0 wh
   pub commands : AllByRecursion (λ k. may_skip (line_at lines k) ≡ true) skipped
 
 -- these lines were taken, and these were their replies
-pub record Took (told : Told) (schema : Columns) (skipped : List ℕ) (lines : List (List ℕ)) (state : State) (replies : List ℕ) : Type 0 where
+pub record Took (told : Told) (schema : Layout) (skipped : List ℕ) (lines : List (List ℕ)) (state : State) (replies : List ℕ) : Type 0 where
   pub is : transcript told schema skipped lines ≡ run_at state replies
 
 -- out took the replies of these lines
-pub record Wrote (told : Told) (schema : Columns) (skipped : List ℕ) (lines : List (List ℕ)) (before now : Option (List ℕ)) : Type 0 where
+pub record Wrote (told : Told) (schema : Layout) (skipped : List ℕ) (lines : List (List ℕ)) (before now : Option (List ℕ)) : Type 0 where
   pub state : State
   pub replies : List ℕ
   pub took : Took told schema skipped lines state replies
   pub wrote : now ≡ taking replies before
 
 -- out took a front of the replies of these lines
-pub record WroteFront (told : Told) (schema : Columns) (skipped : List ℕ) (lines : List (List ℕ)) (before now : Option (List ℕ)) : Type 0 where
+pub record WroteFront (told : Told) (schema : Layout) (skipped : List ℕ) (lines : List (List ℕ)) (before now : Option (List ℕ)) : Type 0 where
   pub state : State
   pub replies : List ℕ
   pub count : ℕ
@@ -118,7 +136,7 @@ pub record WroteFront (told : Told) (schema : Columns) (skipped : List ℕ) (lin
   pub wrote : now ≡ taking (take count replies) before
 
 -- out took the replies of the lines before one whose file couldn't be read
-pub record StoppedAt (told : Told) (sure : Type 0) (schema : Columns) (skipped : List ℕ) (lines : List (List ℕ)) (name : List ℕ) (before now : Option (List ℕ)) : Type 0 where
+pub record StoppedAt (told : Told) (sure : Type 0) (schema : Layout) (skipped : List ℕ) (lines : List (List ℕ)) (name : List ℕ) (before now : Option (List ℕ)) : Type 0 where
   pub done : List (List ℕ)
   pub line : List ℕ
   pub rest : List (List ℕ)
@@ -128,7 +146,7 @@ pub record StoppedAt (told : Told) (sure : Type 0) (schema : Columns) (skipped :
   pub untold : sure → told name ≡ None
 
 -- out took a front of the replies of some first lines
-pub record StoppedWriting (told : Told) (schema : Columns) (skipped : List ℕ) (lines : List (List ℕ)) (before now : Option (List ℕ)) : Type 0 where
+pub record StoppedWriting (told : Told) (schema : Layout) (skipped : List ℕ) (lines : List (List ℕ)) (before now : Option (List ℕ)) : Type 0 where
   pub done : List (List ℕ)
   pub rest : List (List ℕ)
   pub split : lines ≡ done ++ rest
@@ -139,24 +157,24 @@ abbrev pub Said : Type 0 → Cause → Option (List ℕ) → Option (List ℕ) �
 Said rose cause before now = (rose → ⊥) → now ≡ taking (error_text cause) before
 
 -- why a file of the words wasn't read: a fault, want of memory, or what it holds
-abbrev pub ReadFails : Option Told → List ℕ → Type 0 → Type 0 → (Told → Type 0) → Cause → Type 0
+abbrev pub ReadFails : Option Told → List ℕ → Type 0 → Type 0 → (schemas.Fault → Told → Type 0) → Cause → Type 0
 ReadFails told name rose sure form Usage = ⊥
 ReadFails told name rose sure form (CannotRead file) = (file ≡ name) × rose × IfSome told (λ t. sure → t name ≡ None)
 ReadFails told name rose sure form CannotWrite = ⊥
 ReadFails told name rose sure form OutOfMemory = ⊤
-ReadFails told name rose sure form SchemaForm = IfSome told form
+ReadFails told name rose sure form (NoSchema fault) = IfSome told (form fault)
 ReadFails told name rose sure form (TooLong file) = (file ≡ name) × IfSome told (λ t. IsSomeAnd (t name) (λ bytes. limit < length bytes))
 
--- the bytes of a schema that isn't thin
-abbrev pub IsNoSchema : List ℕ → Told → Type 0
-IsNoSchema name t = IsSomeAnd (t name) (λ bytes. (length bytes ≤ limit) × (schema_of bytes ≡ None))
+-- the bytes of a file with this fault of a schema
+abbrev pub IsNoSchema : List ℕ → schemas.Fault → Told → Type 0
+IsNoSchema name fault t = IsSomeAnd (t name) (λ bytes. (length bytes ≤ limit) × (schema_in bytes ≡ Err fault))
 
-abbrev pub IsNever : Told → Type 0
-IsNever t = ⊥
+abbrev pub IsNever : schemas.Fault → Told → Type 0
+IsNever fault t = ⊥
 
 -- the whole transcript of the script's lines was written
 pub record Finished (told : Told) (names : Names) (skipped : List ℕ) (before now : Option (List ℕ)) : Type 0 where
-  pub schema : Columns
+  pub schema : Layout
   pub script : List ℕ
   pub schema_read : IsSchemaOf told names.schema schema
   pub script_read : IsScriptOf told names.script script
@@ -164,7 +182,7 @@ pub record Finished (told : Told) (names : Names) (skipped : List ℕ) (before n
 
 -- a reply couldn't be written
 pub record BrokenOff (told : Told) (names : Names) (skipped : List ℕ) (before now : Option (List ℕ)) : Type 0 where
-  pub schema : Columns
+  pub schema : Layout
   pub script : List ℕ
   pub schema_read : IsSchemaOf told names.schema schema
   pub script_read : IsScriptOf told names.script script
@@ -172,7 +190,7 @@ pub record BrokenOff (told : Told) (names : Names) (skipped : List ℕ) (before 
 
 -- a file that a line names couldn't be read
 pub record LineUnread (told : Told) (sure : Type 0) (names : Names) (skipped : List ℕ) (name : List ℕ) (before now : Option (List ℕ)) : Type 0 where
-  pub schema : Columns
+  pub schema : Layout
   pub script : List ℕ
   pub schema_read : IsSchemaOf told names.schema schema
   pub script_read : IsScriptOf told names.script script
@@ -187,7 +205,7 @@ pub record SchemaUnread (told : Told) (sure : Type 0) (names : Names) (name : Li
 -- the script couldn't be read, and the schema was
 pub record ScriptUnread (told : Told) (sure : Type 0) (names : Names) (name : List ℕ) (before now : Option (List ℕ)) : Type 0 where
   pub is_script : name ≡ names.script
-  pub schema : Columns
+  pub schema : Layout
   pub schema_read : IsSchemaOf told names.schema schema
   pub nothing : now ≡ before
   pub untold : sure → told name ≡ None

@@ -1,6 +1,7 @@
 -- Why a line, or a script, stopped.
 use Rattle.std.specs.Prelude.{ℕ, List}
 use Rattle.qc_session.specs.Answers as lines
+use Rattle.qc_session.specs.Reply.{refusal_in}
 use Rattle.qc_session.specs.declared.command.Command.{Command}
 use Rattle.qc_session.specs.declared.command.Command.TheVariants as commands
 use Rattle.qc_session.specs.declared.answer.LineStop.{LineStop}
@@ -14,4 +15,4 @@ MatchLineStop (stops.Fault name) P Q = Q name.now
 abbrev pub command_in : Command → lines.Command
 command_in (commands.Load name) = lines.Load name.now
 command_in (commands.Point rest) = lines.Point rest.now
-command_in (commands.Refused refusal) = lines.Refused refusal
+command_in (commands.Refused refusal) = lines.Refused (refusal_in refusal)

@@ -1,8 +1,8 @@
 -- What a script answers, over the files that are told.
 use Rattle.std.specs.Prelude.{◌≡◌, ◌+◌, ◌==◌, ◌&&◌, ◌++◌, ℕ, Bool, true, false, not, List, [], ◌∷◌, Option, Some, None, if◌then◌else◌, fold}
 use Rattle.std.specs.List.{list_any}
-use Rattle.csv_load.specs.Schema.{Columns}
 use Rattle.qc_io.specs.Outside.{Told}
+use Rattle.qc_schema.specs.Schema.{Layout}
 use Rattle.qc_session.specs.Lines.{is_passed}
 use Rattle.qc_session.specs.Replies.{memory_text}
 use Rattle.qc_session.specs.Answers.{State, empty, Answered, answer}
@@ -47,5 +47,5 @@ step told run item =
     else if item.skipped then record run { replies = run.replies ++ memory_text item.number }
     else answered run (answer run.state told item.number item.line)
 
-unfoldable pub transcript : Told → Columns → List ℕ → List (List ℕ) → Run
+unfoldable pub transcript : Told → Layout → List ℕ → List (List ℕ) → Run
 transcript told schema skipped lines = fold (step told) (run_at (empty schema) []) (items skipped 0 lines)

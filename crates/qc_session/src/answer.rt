@@ -42,7 +42,7 @@ fn load_file<'a, F: Files>(
     ensures answered { IfOk result (λ reply. IfSome (F.told files.old) (λ t. answer_to store.old t number (Load name.now) ≡ Some (record { state = store.new; reply = reply }))) }
 {
     if name.is_empty() {
-        return Ok(refused(number, Refusal::Form));
+        return Ok(refused(number, Refusal::Field(1)));
     }
     match read_all(alloc, files, name, LIMIT) {
         Ok(bytes) => match store.load(alloc, number, &bytes) {

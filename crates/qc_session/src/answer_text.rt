@@ -1,13 +1,14 @@
 // The bytes of a point's reply.
-ghost use Rattle.std.specs.Prelude.{◌≡◌, ◌<◌, ◌≤◌, ◌++◌, ◌∷◌, [], ◌*◌, IfOk, OnOk, codes, decimal, map, take, length};
-ghost use Rattle.std.specs.Fmt.{signed_decimal};
-ghost use Rattle.qc_session.specs.Replies.{agg_texts, entry_text, fraction_text, point_text};
-ghost use Rattle.qc_session.specs.Points.{agg_of_total, cell_of_fields, entry_asked, fields_text, fraction_of};
+ghost use Rattle.std.specs.Prelude.{◌≡◌, ◌<◌, ◌≤◌, ◌++◌, ◌∷◌, IfOk, OnOk, decimal, length, map};
+ghost use Rattle.aggregates.specs.Texts.{amount_text, ratio_text};
+ghost use Rattle.aggregates.specs.Views.{agg_in, part_in, ratio_in};
+ghost use Rattle.cube_defs.specs.Answers.{part};
+ghost use Rattle.qc_session.specs.Replies.{agg_texts, entry_text, part_texts, parts_texts, point_text};
+ghost use Rattle.qc_session.specs.Points.{cell_of_fields, entry_asked, fields_text};
 
-use crate::mean::Mean;
-use crate::total::Total;
+use aggregates::{Agg, Part, Ratio, mean, print_amount, print_number, print_ratio};
 use cell_core::{Field, Fields, Memory};
-use itoa::Buffer;
+use qc_schema::Schema;
 use std::alloc::Global;
 
 // A field behind a comma.
@@ -22,37 +23,69 @@ fn push_field(out: &mut Vec<u8>, field: &[u8]) -> Result<(), Memory>
 fn push_number(out: &mut Vec<u8>, number: u64) -> Result<(), Memory>
     ensures { OnOk result (out.new.items ≡ out.old.items ++ 44 ∷ decimal number) }
 {
-    let mut buffer = Buffer::new();
-    push_field(out, buffer.format(number).as_bytes())
+    let mut text = [0; 48];
+    let len = print_number(number, &mut text);
+    push_field(out, &text[..len])
 }
 
-fn push_amount(out: &mut Vec<u8>, amount: i64) -> Result<(), Memory>
-    ensures { OnOk result (out.new.items ≡ out.old.items ++ 44 ∷ signed_decimal amount) }
+fn push_amount(out: &mut Vec<u8>, amount: i64, scale: u8) -> Result<(), Memory>
+    requires { scale ≤ 6 }
+    ensures { OnOk result (out.new.items ≡ out.old.items ++ 44 ∷ amount_text scale amount) }
 {
-    let mut buffer = Buffer::new();
-    push_field(out, buffer.format(amount).as_bytes())
+    let mut text = [0; 48];
+    let len = print_amount(amount, scale, &mut text);
+    push_field(out, &text[..len])
 }
 
-fn push_mean(out: &mut Vec<u8>, mean: &Mean) -> Result<(), Memory>
-    ensures { OnOk result (out.new.items ≡ out.old.items ++ 44 ∷ fraction_text (fraction_of mean.now)) }
+fn push_ratio(out: &mut Vec<u8>, ratio: &Ratio) -> Result<(), Memory>
+    ensures { OnOk result (out.new.items ≡ out.old.items ++ 44 ∷ ratio_text (ratio_in ratio.now)) }
 {
-    push_amount(out, mean.num)?;
-    out.push(b'/')?;
-    let mut buffer = Buffer::new();
-    out.extend_from_slice(buffer.format(mean.den).as_bytes())?;
+    let mut text = [0; 48];
+    let len = print_ratio(ratio, &mut text);
+    push_field(out, &text[..len])
+}
+
+fn part_at(agg: &Agg, measure: u8) -> Part
+    requires { measure < agg.now.measures }
+    ensures part { part_in result ≡ part (agg_in agg.now) measure }
+    ensures there { measure < length (agg_in agg.now).parts }
+{
+    agg.parts[usize::from(measure)]
+}
+
+// The four numbers of a measure.
+fn push_part(out: &mut Vec<u8>, agg: &Agg, measure: u8, scale: u8) -> Result<(), Memory>
+    requires there { measure < agg.now.measures }
+    requires scale { scale ≤ 6 }
+    ensures there { measure < length (agg_in agg.now).parts }
+    ensures numbers { OnOk result (out.new.items ≡ out.old.items ++ fields_text (part_texts agg.now.count scale (part (agg_in agg.now) measure))) }
+{
+    let part = part_at(agg, measure);
+    push_amount(out, part.sum, scale)?;
+    push_amount(out, part.least, scale)?;
+    push_amount(out, part.greatest, scale)?;
+    push_ratio(out, &mean(agg, measure, scale))?;
     Ok(())
 }
 
-fn push_total(out: &mut Vec<u8>, total: &Total) -> Result<(), Memory>
-    requires { 0 < total.now.count }
-    ensures { OnOk result (out.new.items ≡ out.old.items ++ fields_text (agg_texts (agg_of_total total.now))) }
+// The four numbers of each measure.
+fn push_parts(out: &mut Vec<u8>, schema: &Schema, agg: &Agg) -> Result<(), Memory>
+    requires { agg.now.measures ≡ length schema.now.measures }
+    ensures { OnOk result (out.new.items ≡ out.old.items ++ fields_text (parts_texts agg.now.count schema.now.measures (agg_in agg.now).parts)) }
 {
-    push_number(out, total.count as u64)?;
-    push_amount(out, total.sum)?;
-    push_amount(out, total.least)?;
-    push_amount(out, total.greatest)?;
-    push_mean(out, &Mean::of(total))?;
+    let dims = schema.dims();
+    for measure in 0..agg.measures {
+        push_part(out, agg, measure, schema.scale(measure))?;
+    }
     Ok(())
+}
+
+fn push_agg(out: &mut Vec<u8>, schema: &Schema, agg: &Agg) -> Result<(), Memory>
+    requires { agg.now.measures ≡ length schema.now.measures }
+    ensures { OnOk result (out.new.items ≡ out.old.items ++ fields_text (agg_texts schema.now.measures (agg_in agg.now))) }
+{
+    push_number(out, u64::from(agg.count))?;
+    push_parts(out, schema, agg)
 }
 
 // What a field asks, as it is written.
@@ -79,15 +112,16 @@ pub fn point_reply(
     alloc: Global,
     line: u32,
     cell: &Fields,
-    total: &Total,
+    schema: &Schema,
+    total: &Agg,
 ) -> Result<Vec<u8>, Memory>
-    requires { 0 < total.now.count }
-    ensures { IfOk result (λ reply. reply.items ≡ point_text line (cell_of_fields cell.now) (agg_of_total total.now)) }
+    requires { total.now.measures ≡ length schema.now.measures }
+    ensures { IfOk result (λ reply. reply.items ≡ point_text line (cell_of_fields cell.now) schema.now.measures (agg_in total.now)) }
 {
     let mut out = Vec::from_slice(alloc, b"point")?;
-    push_number(&mut out, line as u64)?;
+    push_number(&mut out, u64::from(line))?;
     push_cell(&mut out, cell)?;
-    push_total(&mut out, total)?;
+    push_agg(&mut out, schema, total)?;
     out.push(b'\n')?;
     Ok(out)
 }

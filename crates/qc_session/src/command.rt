@@ -13,7 +13,7 @@ pub enum Command<'a> {
     Load(&'a str),
     /// Answer the point with this rest.
     Point(&'a str),
-    Refused(Refusal),
+    Refused(Refusal<'a>),
 }
 
 ghost use Rattle.qc_session.specs.Stops.{command_in};

@@ -1,9 +1,20 @@
 // Why a run ended before the end of its script, and the line that tells it.
-ghost use Rattle.std.specs.Prelude.{◌≡◌, ◌≤◌, ◌++◌, OnOk};
+ghost use Rattle.std.specs.Prelude.{◌≡◌, ◌≤◌, ◌++◌, OnOk, length};
 ghost use Rattle.qc_io.specs.Outside.{HasCause, Rose, taking};
-ghost use Rattle.qc_session.specs.Runs.{Said, error_text, status_of};
+ghost use Rattle.qc_session.specs.Runs.{Said, cause_text, error_text, fault_text, status_of};
 
+use arrayvec::ArrayString;
+use itoa::Buffer;
 use qc_io::{Sink, WriteFailed, write_all};
+use qc_schema::SchemaCause;
+
+/// What is wrong with the text of a schema.
+#[derive(Clone, Copy, Debug, PartialEq, Eq)]
+pub enum SchemaFault {
+    NotUtf8,
+    /// The first line that isn't right, counted from 1.
+    Line(u32, SchemaCause),
+}
 
 /// Why a run ended before the end of its script.
 #[derive(Clone, Copy, Debug)]
@@ -16,13 +27,46 @@ pub enum Failure<'a> {
     CannotWrite,
     /// Memory ran out before the first line.
     OutOfMemory,
-    /// The schema isn't in the form that is read.
-    SchemaForm,
+    /// The schema's text has this fault.
+    NoSchema(SchemaFault),
     /// The file of this name has more bytes than a file may have.
     TooLong(&'a str),
 }
 
-ghost use Rattle.qc_session.specs.Failures.{cause_of};
+ghost use Rattle.qc_session.specs.Failures.{TellsSchema, cause_of, fault_in};
+
+fn cause_word(cause: SchemaCause) -> &'static str
+    ensures text { result.now ≡ cause_text cause }
+    ensures short { length result.now ≤ 7 }
+{
+    match cause {
+        SchemaCause::Version => "version",
+        SchemaCause::Order => "order",
+        SchemaCause::Words => "words",
+        SchemaCause::Name => "name",
+        SchemaCause::Number => "number",
+        SchemaCause::End => "end",
+    }
+}
+
+impl SchemaFault {
+    // The words that tell it.
+    fn text(self) -> ArrayString<32>
+        ensures { result.bytes ≡ fault_text (fault_in self) }
+    {
+        let mut text = ArrayString::new();
+        match self {
+            SchemaFault::NotUtf8 => text.push_str("not UTF-8"),
+            SchemaFault::Line(line, cause) => {
+                text.push_str("line ");
+                text.push_str(Buffer::new().format(line));
+                text.push_str(": ");
+                text.push_str(cause_word(cause));
+            }
+        }
+        text
+    }
+}
 
 impl<'a> Failure<'a> {
     /// The status with which the run ends.
@@ -34,12 +78,23 @@ impl<'a> Failure<'a> {
             Failure::CannotRead(_) => 3,
             Failure::CannotWrite => 4,
             Failure::OutOfMemory => 5,
-            Failure::SchemaForm | Failure::TooLong(_) => 6,
+            Failure::NoSchema(_) | Failure::TooLong(_) => 6,
+        }
+    }
+
+    // The words that tell the fault of a schema, where it is one.
+    fn schema_text(&self) -> ArrayString<32>
+        ensures { TellsSchema self.now result.bytes }
+    {
+        match self {
+            Failure::NoSchema(fault) => fault.text(),
+            _ => ArrayString::new(),
         }
     }
 
     // The line that tells it, in three parts.
-    fn parts(&self) -> (&'static str, &'a str, &'static str)
+    fn parts<'b>(&'b self, schema_text: &'b str) -> (&'b str, &'b str, &'b str)
+        requires { TellsSchema self.now schema_text.now }
         ensures { result.0.now ++ (result.1.now ++ result.2.now) ≡ error_text (cause_of self.now) }
     {
         match self {
@@ -51,7 +106,7 @@ impl<'a> Failure<'a> {
             Failure::CannotRead(name) => ("qcube: cannot read ", name, "\n"),
             Failure::CannotWrite => ("qcube: cannot write\n", "", ""),
             Failure::OutOfMemory => ("qcube: out of memory\n", "", ""),
-            Failure::SchemaForm => ("qcube: schema form\n", "", ""),
+            Failure::NoSchema(_) => ("qcube: schema ", schema_text, "\n"),
             Failure::TooLong(name) => ("qcube: ", name, " is too long\n"),
         }
     }
@@ -73,6 +128,7 @@ pub fn tell<E: Sink>(err: &mut E, failure: &Failure<'_>)
     ensures later { E.faults err.old ≤ E.faults err.new }
     ensures said { Said (Rose (E.faults err.old) (E.faults err.new)) (cause_of failure.now) (E.taken err.old) (E.taken err.new) }
 {
-    let (front, name, back) = failure.parts();
+    let schema_text = failure.schema_text();
+    let (front, name, back) = failure.parts(schema_text.as_str());
     let _ = write_parts(err, front, name, back);
 }

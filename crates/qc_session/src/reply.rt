@@ -1,38 +1,99 @@
 // Replies that are made without memory.
 ghost use Rattle.std.specs.Prelude.{◌≡◌, ◌<◌, ◌≤◌, ◌^◌, ◌++◌, length};
-ghost use Rattle.qc_session.specs.Replies.{applied_text, code_of, memory_text, none_text, refused_text};
+ghost use Rattle.qc_session.specs.Replies.{applied_text, fault_code, memory_text, none_text, refusal_texts, refused_text};
 
 use arrayvec::ArrayString;
 use itoa::Buffer;
 use std::marker::Model;
 
-/// Why a line is refused.
+/// What is wrong with a record of a file.
 #[derive(Clone, Copy, Debug, PartialEq, Eq)]
-pub enum Refusal {
+pub enum RecordFault {
+    /// It has another number of fields than the header.
+    Fields,
+    /// The text of a dimension isn't UTF-8.
+    Utf8,
+    /// The id is none, or is too large.
+    Id,
+    /// An amount is none at its measure's scale, or is too large.
+    Amount,
+    /// The text of a dimension is too long.
+    Value,
+    /// An earlier record has the same id.
+    Twice,
+}
+
+impl RecordFault {
+    // The word for it in a reply.
+    fn code(self) -> &'static str
+        ensures text { result.now ≡ fault_code self }
+        ensures short { length result.now ≤ 9 }
+    {
+        match self {
+            RecordFault::Fields => "fields",
+            RecordFault::Utf8 => "utf8",
+            RecordFault::Id => "id",
+            RecordFault::Amount => "amount",
+            RecordFault::Value => "value",
+            RecordFault::Twice => "twice",
+        }
+    }
+}
+
+/// Why a line is refused.
+#[derive(Clone, Copy, Debug)]
+pub enum Refusal<'a> {
     /// The line isn't UTF-8.
     Utf8,
     /// The line's first word is no command.
     Command,
+    /// The field at this place, counted from 1, is missing.
+    Field(u32),
+    /// The rest of a point isn't in the form that is read.
+    Form,
     /// The named file has more bytes than a file may have.
     Size,
     /// A base file is loaded where a row is present.
     NotEmpty,
-    /// A file name is empty, or a base file or the rest of a point isn't in the form that is read.
-    Form,
+    /// The base file has no header, or a needed column isn't there just once.
+    Header,
+    /// The record with this number, counted from 1 behind the header, is the first with a fault.
+    Record(RecordFault, u32),
+    /// There would be more rows than the schema allows.
+    Rows,
+    /// The dimension of this name would have more texts than the schema allows.
+    Values(&'a str),
 }
 
-impl Refusal {
-    // The word for it in a reply.
-    fn code(self) -> &'static str
-        ensures text { result.now ≡ code_of self }
-        ensures short { length result.now ≤ 9 }
+// What a refusal says of its code.
+#[derive(Clone, Copy, Debug)]
+enum Detail<'a> {
+    Nothing,
+    Number(u32),
+    Name(&'a str),
+}
+
+ghost use Rattle.qc_session.specs.Reply.{IsShort, IsShortDetail, detail_texts, refusal_in};
+
+impl<'a> Refusal<'a> {
+    // The word for it in a reply, and what it says of it.
+    fn texts(self) -> (&'static str, Detail<'a>)
+        requires { IsShort self }
+        ensures texts { result.0.now ∷ detail_texts result.1 ≡ refusal_texts (refusal_in self.entry) }
+        ensures short { length result.0.now ≤ 9 }
+        ensures name { IsShortDetail result.1 }
     {
         match self {
-            Refusal::Utf8 => "utf8",
-            Refusal::Command => "command",
-            Refusal::Size => "size",
-            Refusal::NotEmpty => "not-empty",
-            Refusal::Form => "form",
+            Refusal::Utf8 => ("utf8", Detail::Nothing),
+            Refusal::Command => ("command", Detail::Nothing),
+            Refusal::Field(k) => ("field", Detail::Number(k)),
+            Refusal::Form => ("form", Detail::Nothing),
+            Refusal::Size => ("size", Detail::Nothing),
+            Refusal::NotEmpty => ("not-empty", Detail::Nothing),
+            Refusal::Header => ("header", Detail::Nothing),
+            Refusal::Record(fault, k) => (fault.code(), Detail::Number(k)),
+            Refusal::Rows => ("rows", Detail::Nothing),
+            Refusal::Values(name) => ("values", Detail::Name(name)),
         }
     }
 }
@@ -121,10 +182,17 @@ pub fn applied(line: u32, records: u32) -> ShortReply
 }
 
 /// A line was refused, and changed nothing.
-pub fn refused(line: u32, refusal: Refusal) -> ShortReply
-    ensures { result ≡ refused_text line refusal }
+pub fn refused(line: u32, refusal: Refusal<'_>) -> ShortReply
+    requires { IsShort refusal }
+    ensures { result ≡ refused_text line (refusal_in refusal.entry) }
 {
+    let (code, detail) = refusal.texts();
     let mut reply = begun("refused", line);
-    reply.field(refusal.code());
+    reply.field(code);
+    match detail {
+        Detail::Nothing => {}
+        Detail::Number(k) => reply.field(Buffer::new().format(k)),
+        Detail::Name(name) => reply.field(name),
+    }
     reply.ended()
 }

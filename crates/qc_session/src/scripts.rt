@@ -1,17 +1,16 @@
 // The top call.
 ghost use Rattle.std.specs.Prelude.{◌≡◌, ◌≤◌, ◌<◌, ◌^◌, ◌⊎◌, ◌↔◌, [], Some, None, IfOk, IfErr, IfSome, IsSome, IsNone, IsTrue, option_map, MatchOption, length, map};
 ghost use Rattle.qc_io.specs.Outside.{Rose};
-ghost use Rattle.csv_load.specs.Schema.{schema_of};
 ghost use Rattle.qc_session.specs.Lines.{lines_of, script_lines, without_cr};
 ghost use Rattle.qc_session.specs.Runs.{AreSkipped, BrokenOff, Cause, CannotRead, CannotWrite, Finished, IsNever, IsNoSchema, IsSchemaOf, IsScriptOf, IsStatus, Names, OutOfMemory, ReadFails, Said, StoppedAt, StoppedWriting, Unread, Usage, Wrote, names_of, refusal_of, status_of};
 
 use crate::answer::LIMIT;
-use crate::failure::{Failure, tell};
+use crate::failure::{Failure, SchemaFault, tell};
 use crate::lines::{split_line, trim_mark};
 use crate::session::{Session, Stop, take_lines};
 use crate::store::Store;
-use csv_load::{Schema, ThinRefused, read_schema};
 use qc_io::{Files, ReadRefused, Sink, read_all};
+use qc_schema::{Schema, SchemaRefused, read_schema};
 use std::alloc::Global;
 
 /// How a run ended.
@@ -105,8 +104,11 @@ fn read_named_schema<'a, F: Files>(
     };
     match read_schema(alloc, &bytes) {
         Ok(schema) => Ok(schema),
-        Err(ThinRefused::Form) => Err(Failure::SchemaForm),
-        Err(ThinRefused::Memory) => Err(Failure::OutOfMemory),
+        Err(SchemaRefused::NotUtf8) => Err(Failure::NoSchema(SchemaFault::NotUtf8)),
+        Err(SchemaRefused::Line { line, cause }) => Err(Failure::NoSchema(SchemaFault::Line(
+            line, cause,
+        ))),
+        Err(SchemaRefused::Memory) => Err(Failure::OutOfMemory),
     }
 }
 
@@ -138,9 +140,12 @@ fn run_script<F: Files, O: Sink, E: Sink>(
     let Ok(skipped) = Vec::with_capacity(alloc, count_lines(script)) else {
         return fail(alloc, err, &Failure::OutOfMemory);
     };
+    let Ok(store) = Store::new(alloc, schema) else {
+        return fail(alloc, err, &Failure::OutOfMemory);
+    };
     let mut session = Session {
         number: 0,
-        store: Store::new(alloc, schema),
+        store,
         skipped,
     };
     let status = match take_lines(alloc, files, out, &mut session, script) {
@@ -167,8 +172,8 @@ ghost use Rattle.std.specs.Prelude.{List, ℕ};
 ///
 /// Status 0 says that the script was read to its end. Status 2: the words are no listed form. Status
 /// 3: a file couldn't be read. Status 4: a reply couldn't be written. Status 5: memory ran out before
-/// the first line. Status 6: the schema isn't in the form that is read, or the schema or the script has
-/// more than 268,435,456 bytes. `err` gets one line at each status but 0.
+/// the first line. Status 6: the schema's text is none, or the schema or the script has more than
+/// 268,435,456 bytes. `err` gets one line at each status but 0.
 ///
 /// A line that finds no memory changes nothing; its number is put into `skipped`, and its reply says so.
 pub fn run<F: Files, O: Sink, E: Sink>(

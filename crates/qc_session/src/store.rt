@@ -1,16 +1,20 @@
 // The rows that are present, and the replies about them.
-ghost use Rattle.std.specs.Prelude.{◌≡◌, ◌≤◌, IfOk, OnErr, length};
-ghost use Rattle.csv_load.specs.Schema.{Columns};
-ghost use Rattle.qc_session.specs.Answers.{cell_asked, empty, loaded, pointed};
+ghost use Rattle.std.specs.Prelude.{◌≡◌, ◌≤◌, [], Ok, IfOk, OnErr, length};
+ghost use Rattle.csv_load.specs.Faults.{Fails};
+ghost use Rattle.qc_session.specs.Answers.{cell_asked, empty, loaded, loaded_from, pointed};
 
 use crate::answer_text::point_reply;
 use crate::point::{cell_of_rest, is_thin};
-use crate::reply::{Refusal, ShortReply, applied, none, refused};
+use crate::learn::{LearnRefused, learn_rows};
+use crate::repeats::first_repeat;
+use crate::reply::{RecordFault, Refusal, ShortReply, applied, none, refused};
 use crate::total::total_at;
 use cell_core::Memory;
-use csv_load::{LoadRefused, RawBatch, Schema, read_base};
+use csv_load::{LoadRefused, RawBatch, read_base};
+use qc_schema::Schema;
 use std::alloc::{AllocError, Global};
 use std::marker::Model;
+use value_dict::Dict;
 
 /// A reply to a line.
 #[derive(Drop)]
@@ -20,6 +24,7 @@ pub enum Reply {
 }
 
 ghost use Rattle.qc_session.specs.Reply.{reply_bytes};
+ghost use Rattle.qc_session.specs.Stores.{IsOfBase, RefusesFile};
 
 impl Reply {
     pub fn as_bytes(&self) -> &[u8]
@@ -32,31 +37,51 @@ impl Reply {
     }
 }
 
-/// A schema and the rows that are present, seen as the state of a script.
+/// A schema, the rows that are present, and the texts that they have in each dimension, seen as the state of a script.
 #[derive(Drop)]
 pub struct Store {
     schema: Schema,
+    dict: Dict,
     rows: RawBatch,
 }
 
 impl Model for Store {
-    ghost use Rattle.std.specs.Prelude.{◌≡◌, length};
     ghost use Rattle.qc_session.specs.Answers.{State};
+    ghost use Rattle.qc_session.specs.Stores.{IsStore};
 
     ghost Value = { State };
 
     ghost view = { λ s. record { schema = s.schema; rows = s.rows.rows } };
 
-    ghost invariant = { λ s. s.rows.dims ≡ length s.schema.dims };
+    ghost invariant = { λ s. IsStore s.schema s.dict s.rows };
+}
+
+// The refusal for a base file that gives no rows.
+fn base_refused(line: u32, refused_file: LoadRefused) -> Result<ShortReply, Memory>
+    requires { IsOfBase refused_file }
+    ensures { IfOk result (λ reply. RefusesFile line refused_file reply) }
+{
+    let (fault, record) = match refused_file {
+        LoadRefused::Header => return Ok(refused(line, Refusal::Header)),
+        LoadRefused::Op(_) => unreachable!(),
+        LoadRefused::Memory => return Err(AllocError),
+        LoadRefused::Fields(k) => (RecordFault::Fields, k),
+        LoadRefused::Utf8(k) => (RecordFault::Utf8, k),
+        LoadRefused::Id(k) => (RecordFault::Id, k),
+        LoadRefused::Amount(k) => (RecordFault::Amount, k),
+        LoadRefused::Value(k) => (RecordFault::Value, k),
+    };
+    Ok(refused(line, Refusal::Record(fault, record)))
 }
 
 impl Store {
     /// No rows.
-    pub fn new(alloc: Global, schema: Schema) -> Store
-        ensures { result ≡ empty schema }
+    pub fn new(alloc: Global, schema: Schema) -> Result<Store, Memory>
+        ensures { IfOk result (λ store. store ≡ empty schema) }
     {
-        let rows = RawBatch::empty(alloc, schema.dims());
-        Store { schema, rows }
+        let dict = Dict::new(alloc, schema.dims(), schema.values())?;
+        let rows = RawBatch::empty(alloc, schema.dims(), schema.measures());
+        Ok(Store { schema, dict, rows })
     }
 
     /// Loads a base file where no row is present. The reply is made before the rows are kept.
@@ -69,27 +94,53 @@ impl Store {
             return Ok(refused(line, Refusal::NotEmpty));
         }
         match read_base(alloc, &self.schema, bytes) {
-            Ok(rows) => {
+            Ok(rows) => self.keep(alloc, line, rows),
+            Err(refused_file) => base_refused(line, refused_file),
+        }
+    }
+
+    // Keeps the rows of a file where no row is present, unless they are refused.
+    fn keep(&mut self, alloc: Global, line: u32, rows: RawBatch) -> Result<ShortReply, Memory>
+        requires none { self.old.rows ≡ [] }
+        requires dims { rows.dims ≡ length self.old.schema.dims }
+        requires measures { rows.measures ≡ length self.old.schema.measures }
+        ensures ok { IfOk result (λ reply. loaded_from self.old line (Ok rows.rows) ≡ record { state = self.new; reply = reply }) }
+        ensures err { OnErr result (self.new ≡ self.old) }
+    {
+        if let Some(k) = first_repeat(alloc, &rows)? {
+            return Ok(refused(line, Refusal::Record(RecordFault::Twice, k)));
+        }
+        if rows.len() > self.schema.rows() {
+            return Ok(refused(line, Refusal::Rows));
+        }
+        match learn_rows(&mut self.dict, &rows, self.schema.dims()) {
+            Ok(()) => {
                 let reply = applied(line, rows.len());
                 self.rows = rows;
                 Ok(reply)
             }
-            Err(LoadRefused::Form) => Ok(refused(line, Refusal::Form)),
-            Err(LoadRefused::Memory) => Err(AllocError),
+            Err(LearnRefused::Full(dim)) => {
+                let name = self.schema.dim_name(dim);
+                Ok(refused(line, Refusal::Values(name)))
+            }
+            Err(LearnRefused::Memory) => Err(AllocError),
         }
     }
 
     /// Answers a point.
     pub fn point(&self, alloc: Global, line: u32, rest: &str) -> Result<Reply, Memory>
-        ensures { IfOk result (λ reply. reply_bytes reply ≡ pointed self.now.rows line (cell_asked (length self.now.schema.dims) rest.now)) }
+        ensures { IfOk result (λ reply. reply_bytes reply ≡ pointed self.now.schema.measures self.now.rows line (cell_asked (length self.now.schema.dims) rest.now)) }
     {
         if !is_thin(self.schema.dims(), rest) {
             return Ok(Reply::Short(refused(line, Refusal::Form)));
         }
         let cell = cell_of_rest(alloc, rest)?;
-        match total_at(&self.rows, &cell) {
+        match total_at(&self.rows, &cell, self.schema.measures()) {
             None => Ok(Reply::Short(none(line))),
-            Some(total) => Ok(Reply::Long(point_reply(alloc, line, &cell, &total)?)),
+            Some(total) => {
+                let reply = point_reply(alloc, line, &cell, &self.schema, &total)?;
+                Ok(Reply::Long(reply))
+            }
         }
     }
 }

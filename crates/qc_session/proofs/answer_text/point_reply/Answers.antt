@@ -1,13 +1,14 @@
 use Rattle.std.proofs.Common.{◌∙◌, codes, decimal, map}
+use Rattle.aggregates.specs.Views.{agg_in}
 use Rattle.qc_session.specs.Replies.{agg_texts, entry_text}
-use Rattle.qc_session.specs.Points.{agg_of_total, cell_of_fields}
+use Rattle.qc_session.specs.Points.{cell_of_fields}
 use Rattle.qc_session.proofs.Records.{record-written}
 use Rattle.qc_session.proofs.answer_text.point_reply.Goals as goal
 
 pub returns : goal.returns
 returns c =
-    let number = rw c.in_ok-out.ensures.items at c.in_ok-push_number.ensures in
+    let number = rw (c.from.ensures, c.in_ok-out.ensures.items) at c.in_ok-push_number.ensures in
     let cell = rw number at c.in_ok-push_cell.ensures in
-    let total = rw cell at c.in_ok-push_total.ensures in
-    rw total at c.in_ok-push.ensures.items
-    ∙ record-written (codes "point") (decimal c.args.line) (map entry_text (cell_of_fields c.args.cell.now)) (agg_texts (agg_of_total c.args.total.now))
+    let agg = rw cell at c.in_ok-push_agg.ensures in
+    rw agg at c.in_ok-push.ensures.items
+    ∙ record-written (codes "point") (decimal c.args.line) (map entry_text (cell_of_fields c.args.cell.now)) (agg_texts c.args.schema.now.measures (agg_in c.args.total.now))

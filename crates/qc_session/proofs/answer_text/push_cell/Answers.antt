@@ -1,4 +1,4 @@
-use Rattle.std.proofs.Common.{◌≡◌, ◌∙◌, sym, ap, ◌++◌, ◌∷◌, ℕ, List, append_assoc, take, map}
+use Rattle.std.proofs.Common.{◌∙◌, sym, ap, ◌++◌, ◌∷◌, ℕ, List, append_assoc, take, map}
 use Rattle.qc_session.specs.Replies.{entry_text}
 use Rattle.qc_session.specs.Points.{cell_of_fields, fields_text}
 use Rattle.qc_session.proofs.Records.{cell-more}

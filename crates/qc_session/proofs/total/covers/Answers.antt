@@ -1,7 +1,5 @@
-use Rattle.std.proofs.Common.{arith, below_more, ◌≡◌, ◌<◌, ◌∙◌, length, sym, ap, Some}
+use Rattle.std.proofs.Common.{arith, below_more, ◌≡◌, ◌∙◌, length, sym}
 use Rattle.std.proofs.lemmas.List.{length-map}
-use Rattle.cube_defs.specs.Text.{text_eq}
-use Rattle.cube_defs.specs.Cell.{entry_leq}
 use Rattle.qc_session.specs.Points.{cell_of_fields, entry_asked}
 use Rattle.qc_session.proofs.Totals.{asked_at, leq-all, leq-fails, row_values}
 use Rattle.qc_session.proofs.total.covers.Goals as goal
