@@ -39,7 +39,7 @@ pub record Keeps (s : State) : Type 0 where
   pub holds : AtStage s.stage s.layout
 
 -- steps of reading
-bind_ok : {A B : Type 0} (r : Result A SchemaCause) (f : A → Result B SchemaCause) (y : B) → (r >>= f) ≡ Ok y → (x : A) × (r ≡ Ok x) × (f x ≡ Ok y)
+pub bind_ok : {A B : Type 0} (r : Result A SchemaCause) (f : A → Result B SchemaCause) (y : B) → (r >>= f) ≡ Ok y → (x : A) × (r ≡ Ok x) × (f x ≡ Ok y)
 bind_ok (Ok x) f y e = (x, refl, e)
 bind_ok (Err c) f y e = absurd (cc e)
 
@@ -51,11 +51,11 @@ cond_err : {A : Type 0} (b : Bool) (x y : A) (c : SchemaCause) → cond b (Err c
 cond_err true x y c e = absurd (cc e)
 cond_err false x y c e = (refl, cc)
 
-or-false : (a b : Bool) → (a || b) ≡ false → (a ≡ false) × (b ≡ false)
+pub or-false : (a b : Bool) → (a || b) ≡ false → (a ≡ false) × (b ≡ false)
 or-false true b e = absurd (cc e)
 or-false false b e = (refl, e)
 
-not-true : (a : Bool) → not a ≡ true → a ≡ false
+pub not-true : (a : Bool) → not a ≡ true → a ≡ false
 not-true true e = absurd (cc e)
 not-true false e = refl
 
