@@ -1,6 +1,6 @@
 -- The canonical text of a schema is read as this schema.
-use Rattle.std.proofs.Common.{◌≡◌, ◌<◌, ◌≤◌, ◌+◌, ◌∙◌, ◌^◌, ℕ, zero, suc, List, [], ◌∷◌, ◌++◌, length, refl, sym, ap, ap₂, arith, true, false, Bool, append_assoc, Result, Ok, Err, subst, map, Some}
-use Rattle.std.specs.Prelude.{◌==◌, ◌||◌, ◌&&◌, not, codes, decimal}
+use Rattle.std.proofs.Common.{◌≡◌, ◌<◌, ◌≤◌, ◌+◌, ◌∙◌, ℕ, zero, suc, List, [], ◌∷◌, ◌++◌, length, refl, sym, ap, ap₂, arith, true, false, Bool, append_assoc, Result, Ok, map, Some}
+use Rattle.std.specs.Prelude.{not, codes, decimal}
 use Rattle.std.specs.List.{list_all, list_any, flat_map, AllByRecursion}
 use Rattle.std.specs.Str.{all_ascii_digits, bytes_eq}
 use Rattle.std.specs.Str.Parse.{digits_value}
@@ -16,9 +16,9 @@ use Rattle.aggregates.specs.declared.kind.AggKind.TheVariants as kinds
 use Rattle.cube_defs.specs.Text.{Text}
 use Rattle.qc_schema.specs.Grammar.{◌>>=◌, and_on, dim_line, id_line, index_line, is_start, kind_of, limit_in, line_of_words, may_dim, may_end, may_index, measure_from, measure_line, named_line, nodes_line, read_lines, rows_line, scale_in, schema_in, start, take_line, values_line, version_line}
 use Rattle.qc_schema.specs.Lines.{lines_of, without_cr}
-use Rattle.qc_schema.specs.Schema.{IsLayout, Layout, Measure, all_different, is_name, is_name_byte, names_of, same_kind}
+use Rattle.qc_schema.specs.Schema.{IsLayout, Layout, Measure, all_different, is_name, is_name_byte, same_kind}
 use Rattle.qc_schema.specs.Spelling.{dim_words, index_words, layout_text, layout_words, limit_words, line_text, measure_words, name_at}
-use Rattle.qc_schema.specs.States.{Fault, State}
+use Rattle.qc_schema.specs.States.{State}
 use Rattle.qc_schema.specs.declared.reader.Stage.{Stage}
 use Rattle.qc_schema.specs.declared.reader.Stage.TheVariants as stages
 use Rattle.qc_schema.specs.declared.refusal.SchemaCause.{SchemaCause}
@@ -208,8 +208,8 @@ layout-run l h =
     let n = and_parts (is_name l.id) (list_all is_name (l.dims ++ map (λ m. m.name) l.measures)) h.names in
     let parts = all-parts is_name l.dims (map (λ m. m.name) l.measures) n.1 in
     let dims : after (map dim_words l.dims) (at stages.Id l.id [] [] []) ≡ Ok (at stages.Dim l.id l.dims [] []) =
-        dims-run l.dims stages.Id l.id [] refl refl (omega (arith, h.few_dims)) parts.0 (different-front bytes_eq (l.id ∷ l.dims) (map (λ m. m.name) l.measures) h.different_names)
-        ∙ ap (λ (s : Stage). Ok (at s l.id l.dims [] [])) (behind-some stages.Id stages.Dim l.dims h.some_dims) in
+    dims-run l.dims stages.Id l.id [] refl refl (omega (arith, h.few_dims)) parts.0 (different-front bytes_eq (l.id ∷ l.dims) (map (λ m. m.name) l.measures) h.different_names)
+    ∙ ap (λ (s : Stage). Ok (at s l.id l.dims [] [])) (behind-some stages.Id stages.Dim l.dims h.some_dims) in
     let measures = measures-run l.measures l.id l.dims h.few_measures h.scales parts.1 h.different_names in
     let at_dim : MayIndex stages.Dim = record { begun = refl; index = refl } in
     let at_measure : MayIndex stages.Measure = record { begun = refl; index = refl } in
@@ -273,20 +273,26 @@ index-lines ms [] there h = tt
 index-lines ms (k ∷ ks) there h = (index-line ms k there.0 h, index-lines ms ks there.1 h)
 
 limit-lines : (l : Layout) → IsLayout l → AllByRecursion IsLine (limit_words l)
-limit-lines l h =
-    (pair-line (codes "nodes") (decimal l.nodes) (keyword (codes "nodes") (omega arith) refl) (number-word l.nodes (omega (arith, h.few_nodes))),
-    (pair-line (codes "rows") (decimal l.rows) (keyword (codes "rows") (omega arith) refl) (number-word l.rows (omega (arith, h.few_rows))),
-    (pair-line (codes "values") (decimal l.values) (keyword (codes "values") (omega arith) refl) (number-word l.values (omega (arith, h.few_values))), tt)))
+limit-lines l h = (
+  pair-line (codes "nodes") (decimal l.nodes) (keyword (codes "nodes") (omega arith) refl) (number-word l.nodes (omega (arith, h.few_nodes))),
+  (
+    pair-line (codes "rows") (decimal l.rows) (keyword (codes "rows") (omega arith) refl) (number-word l.rows (omega (arith, h.few_rows))),
+    (pair-line (codes "values") (decimal l.values) (keyword (codes "values") (omega arith) refl) (number-word l.values (omega (arith, h.few_values))), tt),
+  ),
+)
 
 layout-lines : (l : Layout) → IsLayout l → AllByRecursion IsLine (layout_words l)
 layout-lines l h =
     let n = and_parts (is_name l.id) (list_all is_name (l.dims ++ map (λ m. m.name) l.measures)) h.names in
-    let parts = all-parts is_name l.dims (map (λ m. m.name) l.measures) n.1 in
-    (pair-line (codes "qcube") (codes "1") (keyword (codes "qcube") (omega arith) refl) (keyword (codes "1") (omega arith) refl),
-    (pair-line (codes "id") l.id (keyword (codes "id") (omega arith) refl) (name-word l.id n.0),
-    every-append IsLine (map dim_words l.dims) _ (dim-lines l.dims parts.0)
-    (every-append IsLine (map measure_words l.measures) _ (measure-lines l.measures h.scales parts.1)
-    (every-append IsLine (map (index_words l.measures) l.indexes) _ (index-lines l.measures l.indexes h.indexes parts.1) (limit-lines l h)))))
+    let parts = all-parts is_name l.dims (map (λ m. m.name) l.measures) n.1 in (
+      pair-line (codes "qcube") (codes "1") (keyword (codes "qcube") (omega arith) refl) (keyword (codes "1") (omega arith) refl),
+      (
+        pair-line (codes "id") l.id (keyword (codes "id") (omega arith) refl) (name-word l.id n.0),
+        every-append IsLine (map dim_words l.dims) _ (dim-lines l.dims parts.0)
+            (every-append IsLine (map measure_words l.measures) _ (measure-lines l.measures h.scales parts.1)
+            (every-append IsLine (map (index_words l.measures) l.indexes) _ (index-lines l.measures l.indexes h.indexes parts.1) (limit-lines l h))),
+      ),
+    )
 
 -- the text is read as the schema that it spells
 pub read-again : (l : Layout) → IsLayout l → schema_in (layout_text l) ≡ Ok l

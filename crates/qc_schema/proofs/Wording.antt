@@ -1,6 +1,6 @@
 -- Lines that are made of words are cut into these words again.
-use Rattle.std.proofs.Common.{◌≡◌, ◌<◌, ◌≤◌, ◌+◌, ◌-◌, ◌∙◌, ◌≢◌, ℕ, zero, suc, List, [], ◌∷◌, ◌++◌, length, get_or, take, refl, sym, ap, arith, true, false, Bool, append_assoc}
-use Rattle.std.specs.Prelude.{◌==◌, ◌||◌, ◌&&◌, filter, map, IsUtf8}
+use Rattle.std.proofs.Common.{◌≡◌, ◌<◌, ◌-◌, ◌∙◌, ℕ, zero, suc, List, [], ◌∷◌, ◌++◌, length, get_or, refl, sym, ap, arith, true, false, append_assoc}
+use Rattle.std.specs.Prelude.{◌==◌, filter, map, IsUtf8}
 use Rattle.std.specs.Char.{is_ascii_digit}
 use Rattle.std.specs.List.{list_all, flat_map, AllByRecursion}
 use Rattle.std.specs.Str.{all_ascii_digits}
@@ -8,7 +8,7 @@ use Rattle.std.proofs.lemmas.Bool.{and_parts}
 use Rattle.std.proofs.lemmas.Bool.Decides.{nat_tests}
 use Rattle.std.proofs.lemmas.Str.{IsUtf8-from_ascii}
 use Rattle.cube_defs.specs.Text.{Text}
-use Rattle.qc_schema.specs.Lines.{has_bytes, is_comment, lines_of, pieces_of, with_first, without_cr, words_of}
+use Rattle.qc_schema.specs.Lines.{has_bytes, is_comment, lines_of, pieces_of, without_cr, words_of}
 use Rattle.qc_schema.specs.Schema.{is_name_byte}
 use Rattle.qc_schema.specs.Spelling.{line_text}
 
@@ -27,7 +27,6 @@ abbrev pub joined : List Text → List ℕ
 joined [] = []
 joined (word ∷ []) = word
 joined (word ∷ next ∷ words) = word ++ 32 ∷ joined (next ∷ words)
-
 
 name-ascii : (b : ℕ) → is_name_byte b ≡ true → b < 128
 name-ascii b h = grind (arith, nat_tests)
