@@ -22,6 +22,6 @@ pub returns-in-Err : goal.returns-in-Err
 returns-in-Err c =
     let same : schema_lines c.args.bytes.now ≡ map without_cr (lines_of c.trim_mark.result.now) = ap (λ (bs : List ℕ). map without_cr (lines_of bs)) (ap without_mark (sym c.in-Ok.ensures.cases.0 ∙ sym c.as_bytes.ensures.value) ∙ sym c.trim_mark.ensures) in
     let whole : schema_in c.args.bytes.now ≡ read_lines (map without_cr (lines_of c.trim_mark.result.now)) 1 start =
-        schema-text c.args.bytes.now c.in-Ok.ensures.cases.1 ∙ ap (λ (ls : List (List ℕ)). read_lines ls 1 start) same in
+    schema-text c.args.bytes.now c.in-Ok.ensures.cases.1 ∙ ap (λ (ls : List (List ℕ)). read_lines ls 1 start) same in
     let P : Result Layout Fault → Type 0 = λ read. FailsAs c.in-Err.refused read in
     subst P (sym whole) c.in-Err.ensures
