@@ -397,7 +397,7 @@ index-kept s t words k e =
     let there : IsThere (length s.layout.measures) b.0 = kind-of-there s.layout.measures words b.0 b.1 in
     let whole : IsLayout s.layout = layout-behind s.stage s.layout (from-values s.stage (from-rows s.stage (from-index s.stage (in-order _ _ a.1)))) k.holds in
     let first : record { stage = stages.Index; layout = record s.layout { indexes = s.layout.indexes ++ b.0 ∷ [] } } ≡ record { stage = stages.Index; layout = record s.layout { indexes = s.layout.indexes ++ c.0 ∷ [] } } =
-        ap (λ (x : AggKind). let r : State = record { stage = stages.Index; layout = record s.layout { indexes = s.layout.indexes ++ x ∷ [] } } in r) p.1 in
+    ap (λ (x : AggKind). let r : State = record { stage = stages.Index; layout = record s.layout { indexes = s.layout.indexes ++ x ∷ [] } } in r) p.1 in
     let same : record { stage = stages.Index; layout = record s.layout { indexes = s.layout.indexes ++ c.0 ∷ [] } } ≡ t = cc (c.2) in
     as-state _ t (first ∙ same) (next-index s.layout b.0 whole there p.0)
 

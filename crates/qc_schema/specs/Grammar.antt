@@ -87,11 +87,11 @@ measure_from (m ∷ ms) k name = if bytes_eq m.name name then Some k else measur
 abbrev pub kind_named : Text → Option ℕ → Result AggKind SchemaCause
 kind_named agg None = Err Name
 kind_named agg (Some m) =
-  if bytes_eq agg (codes "sum") then Ok (kinds.Sum m)
-  else if bytes_eq agg (codes "least") then Ok (kinds.Least m)
-  else if bytes_eq agg (codes "greatest") then Ok (kinds.Greatest m)
-  else if bytes_eq agg (codes "mean") then Ok (kinds.Mean m)
-  else Err Name
+    if bytes_eq agg (codes "sum") then Ok (kinds.Sum m)
+    else if bytes_eq agg (codes "least") then Ok (kinds.Least m)
+    else if bytes_eq agg (codes "greatest") then Ok (kinds.Greatest m)
+    else if bytes_eq agg (codes "mean") then Ok (kinds.Mean m)
+    else Err Name
 
 abbrev pub count_kind : List Text → Result AggKind SchemaCause
 count_kind [] = Ok kinds.Count
@@ -101,8 +101,8 @@ count_kind (word ∷ words) = Err Words
 unfoldable pub kind_of : List Measure → List Text → Result AggKind SchemaCause
 kind_of measures [] = Err Words
 kind_of measures (agg ∷ words) =
-  if bytes_eq agg (codes "count") then count_kind words
-  else one_word words >>= λ name. kind_named agg (measure_from measures 0 name)
+    if bytes_eq agg (codes "count") then count_kind words
+    else one_word words >>= λ name. kind_named agg (measure_from measures 0 name)
 
 abbrev pub new_kind : Layout → AggKind → Result AggKind SchemaCause
 new_kind l kind = if list_any (λ k. same_kind k kind) l.indexes then Err Name else Ok kind
@@ -168,14 +168,14 @@ version_line s word words = if bytes_eq word (codes "qcube") && is_version words
 
 unfoldable pub named_line : State → Text → List Text → Result State SchemaCause
 named_line s word words =
-  if bytes_eq word (codes "id") then id_line s words
-  else if bytes_eq word (codes "dim") then dim_line s words
-  else if bytes_eq word (codes "measure") then measure_line s words
-  else if bytes_eq word (codes "index") then index_line s words
-  else if bytes_eq word (codes "nodes") then nodes_line s words
-  else if bytes_eq word (codes "rows") then rows_line s words
-  else if bytes_eq word (codes "values") then values_line s words
-  else Err Order
+    if bytes_eq word (codes "id") then id_line s words
+    else if bytes_eq word (codes "dim") then dim_line s words
+    else if bytes_eq word (codes "measure") then measure_line s words
+    else if bytes_eq word (codes "index") then index_line s words
+    else if bytes_eq word (codes "nodes") then nodes_line s words
+    else if bytes_eq word (codes "rows") then rows_line s words
+    else if bytes_eq word (codes "values") then values_line s words
+    else Err Order
 
 abbrev pub is_start : Stage → Bool
 is_start stages.Start = true

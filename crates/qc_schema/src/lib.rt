@@ -7,6 +7,8 @@ mod reader;
 mod refusal;
 mod schema;
 mod spelling;
+#[cfg(test)]
+mod tests;
 mod words;
 
 pub use refusal::{SchemaCause, SchemaRefused};

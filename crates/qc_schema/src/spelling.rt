@@ -69,7 +69,12 @@ fn push_index(text: &mut Vec<u8>, schema: &Schema, kind: AggKind) -> Result<(), 
         AggKind::Greatest(m) => ("greatest", m),
         AggKind::Mean(m) => ("mean", m),
     };
-    push_triple(text, b"index", word.as_bytes(), schema.measure_name(measure).as_bytes())
+    push_triple(
+        text,
+        b"index",
+        word.as_bytes(),
+        schema.measure_name(measure).as_bytes(),
+    )
 }
 
 fn push_indexes(text: &mut Vec<u8>, schema: &Schema) -> Result<(), Memory>

@@ -12,8 +12,7 @@ use crate::refusal::{LineRefused, SchemaCause};
 fn has_name_bytes(word: &[u8]) -> bool
     ensures { result ≡ list_all is_name_byte word.now }
 {
-    word.iter()
-        .all(|b| b.is_ascii_alphanumeric() || *b == b'_')
+    word.iter().all(|b| b.is_ascii_alphanumeric() || *b == b'_')
 }
 
 fn is_good_name(word: &[u8]) -> bool
