@@ -1,5 +1,5 @@
 // Base files, good and bad.
-ghost use Rattle.std.specs.Prelude.{◌≡◌, ◌≤◌, ◌<◌, length};
+ghost use Rattle.std.specs.Prelude.{◌≡◌, ◌≤◌, length};
 
 use crate::{LoadRefused, RawBatch, read_base};
 use qc_schema::{Schema, read_schema};
@@ -16,14 +16,14 @@ fn list_row(
     alloc: Global,
     schema: &Schema,
     batch: &RawBatch,
-    place: u32,
+    k: u32,
     list: &mut String,
 ) -> Result<(), AllocError>
     requires dims { batch.now.dims ≡ length schema.now.dims }
     requires measures { batch.now.measures ≡ length schema.now.measures }
-    requires there { place < length batch.now.rows }
+    requires first { 1 ≤ k }
+    requires last { k ≤ length batch.now.rows }
 {
-    let k = place + 1;
     let id = batch.id(k);
     list.push_str(&format!(in alloc; "{id};")?)?;
     for dim in 0..schema.dims() {
@@ -44,7 +44,7 @@ fn list(alloc: Global, schema: &Schema, batch: &RawBatch) -> Result<String, Allo
 {
     let mut list = String::new(alloc);
     for place in 0..batch.len() {
-        list_row(alloc, schema, batch, place, &mut list)?;
+        list_row(alloc, schema, batch, place + 1, &mut list)?;
     }
     Ok(list)
 }
