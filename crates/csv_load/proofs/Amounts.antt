@@ -1,5 +1,5 @@
 -- Ids and amounts are small.
-use Rattle.std.proofs.Common.{◌≡◌, ◌<◌, ◌≤◌, ◌+◌, ◌*◌, ◌^◌, ◌∙◌, ℕ, zero, suc, List, [], ◌∷◌, ◌++◌, length, get_or, drop, refl, sym, ap, arith, Some, None, true, false, Bool, cond, pos, negsuc, w64, ℤ, append_assoc}
+use Rattle.std.proofs.Common.{◌≡◌, ◌<◌, ◌≤◌, ◌+◌, ◌*◌, ◌^◌, ℕ, zero, suc, List, [], ◌∷◌, ◌++◌, length, get_or, drop, refl, sym, ap, arith, Some, None, true, false, Bool, cond, pos, negsuc, w64, ℤ, append_assoc}
 use Rattle.std.specs.Prelude.{Option, option_map, unwrap_or, nat_abs, neg_ℤ, nat_lt, nat_le, ◌&&◌, ◌==◌, FitsSigned}
 use Rattle.std.specs.List.{All, AllByRecursion}
 use Rattle.std.proofs.lemmas.Bool.{and_parts, ltb-true, leb-true}

@@ -1,9 +1,8 @@
 -- The places of names in a header.
 use Rattle.std.proofs.Common.{◌≡◌, ◌<◌, ◌≤◌, ◌+◌, ◌-◌, ◌∙◌, ℕ, zero, suc, List, [], ◌∷◌, ◌++◌, length, get_or, drop, map, refl, sym, ap, arith, Some, None, true, false, Bool, cond, append_assoc}
-use Rattle.std.specs.Prelude.{Option, option_map, IfSome, ◌||◌, unwrap_or}
+use Rattle.std.specs.Prelude.{Option, option_map, unwrap_or}
 use Rattle.std.specs.List.{All, list_any}
 use Rattle.std.specs.Str.{bytes_eq}
-use Rattle.std.proofs.lemmas.Bool.{cond-true, cond-false}
 use Rattle.std.proofs.lemmas.List.{drop_more, length-map, get_or-map, get_or_append_left, get_or-append-add, length-append, append-nil}
 use Rattle.std.proofs.lemmas.List.Elements.{All-cons}
 use Rattle.cube_defs.specs.Text.{Text}

@@ -1,7 +1,7 @@
 -- A fault of what is read first is that of the whole.
-use Rattle.std.proofs.Common.{◌≡◌, List, ◌++◌, refl, sym, ap, cond, true, false, Bool, inl, inr}
-use Rattle.std.specs.Prelude.{Result, Ok, Err, ◌⊎◌}
-use Rattle.csv_load.specs.Faults.{Fails, Fault, IsRefused, cons_ok, Header, Fields, Utf8, Id, Amount, Value}
+use Rattle.std.proofs.Common.{List, ◌++◌, refl}
+use Rattle.std.specs.Prelude.{Result, Ok, Err}
+use Rattle.csv_load.specs.Faults.{Fails, Fault, cons_ok}
 use Rattle.csv_load.specs.declared.base.LoadRefused.{LoadRefused}
 use Rattle.csv_load.specs.declared.base.LoadRefused.TheVariants as refusals
 

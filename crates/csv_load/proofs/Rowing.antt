@@ -1,6 +1,6 @@
 -- The row that a record spells, and the rows of the records that are left.
-use Rattle.std.proofs.Common.{◌≡◌, ◌<◌, ◌≤◌, ◌+◌, ◌∙◌, ℕ, ℤ, List, [], ◌∷◌, ◌++◌, length, get_or, drop, refl, sym, ap, arith, Some, None, true, false, Bool, cond, subst, append_assoc}
-use Rattle.std.specs.Prelude.{Option, ◌==◌, nat_le, slice_range, unwrap_or, Result, Ok, Err}
+use Rattle.std.proofs.Common.{◌≡◌, ◌≤◌, ◌+◌, ◌∙◌, ℕ, ℤ, List, [], ◌∷◌, ◌++◌, length, get_or, drop, refl, sym, ap, arith, Some, None, true, false, append_assoc}
+use Rattle.std.specs.Prelude.{Option, slice_range, Result, Ok, Err}
 use Rattle.std.specs.List.{All, list_all}
 use Rattle.std.specs.Str.{is_utf8}
 use Rattle.std.proofs.lemmas.Bool.{and_parts, eq-eqb, ne_eqb, leb-true}

@@ -1,5 +1,5 @@
 -- A batch of rows as contracts see it.
-use Rattle.std.specs.Prelude.{◌≡◌, ◌≤◌, ◌<◌, ◌^◌, ◌-◌, ◌*◌, ◌+◌, ℕ, List, [], ◌∷◌, length, ℤ, pos, nat_abs, map, slice_index, slice_index_or, slice_range, IsUtf8}
+use Rattle.std.specs.Prelude.{◌≡◌, ◌≤◌, ◌<◌, ◌^◌, ◌-◌, ◌*◌, ◌+◌, ℕ, List, [], length, ℤ, pos, nat_abs, map, slice_index, slice_index_or, slice_range, IsUtf8}
 use Rattle.std.specs.List.{All, range_with_len}
 use Rattle.cube_defs.specs.Rows.{Row}
 use Rattle.cube_defs.specs.Text.{Text}

@@ -1,6 +1,6 @@
-use Rattle.std.proofs.Common.{◌∙◌, ◌≡◌, ◌<◌, ◌+◌, ◌++◌, ◌∷◌, sym, ap, arith, length, get_or, drop, [], Some, ℤ, List, w64}
+use Rattle.std.proofs.Common.{◌∙◌, ◌≡◌, ◌<◌, ◌+◌, ◌++◌, ◌∷◌, sym, ap, arith, length, get_or, drop, [], Some, ℤ, w64}
 use Rattle.std.proofs.lemmas.Int.{to_z-of_z}
-use Rattle.std.proofs.lemmas.List.{append-nil, drop_all, length-map}
+use Rattle.std.proofs.lemmas.List.{append-nil, drop_all}
 use Rattle.csv.specs.Records.{fields_of}
 use Rattle.aggregates.specs.Numbers.{amount_in}
 use Rattle.qc_schema.specs.Schema.{no_measure}

@@ -1,4 +1,4 @@
-use Rattle.std.proofs.Common.{◌∙◌, ◌≡◌, ◌<◌, ◌≤◌, ◌∷◌, ◌++◌, List, [], sym, ap, arith, refl, length, ◌+◌, ◌^◌, subst, Ok}
+use Rattle.std.proofs.Common.{◌∙◌, ◌≡◌, ◌<◌, ◌∷◌, ◌++◌, List, [], sym, ap, arith, length, ◌+◌, ◌^◌, Ok}
 use Rattle.std.proofs.lemmas.List.{length_push}
 use Rattle.std.proofs.lemmas.Result.{err_from_is_err_and}
 use Rattle.csv.specs.Records.{fields_of}

@@ -21,7 +21,7 @@ returns c =
     let here : c.index.result.now ≡ get_or c.self.inside.amounts.items ((c.args.k - 1) * c.self.inside.measures + c.args.measure) (pos 0)
     = get_or_read c.self.inside.amounts.items ((c.args.k - 1) * c.self.inside.measures + c.args.measure) c.index.result.now within c.index.ensures (pos 0) in
     let fits = abs-fits (get_or c.self.inside.amounts.items ((c.args.k - 1) * c.self.inside.measures + c.args.measure) (pos 0))
-        (amount-small c.self.inside.dims c.self.inside.measures c.self.inside.ids.items c.self.inside.texts c.self.inside.amounts.items (c.args.k - 1) c.args.measure c.self.invariant lt measure) in
+    (amount-small c.self.inside.dims c.self.inside.measures c.self.inside.ids.items c.self.inside.texts c.self.inside.amounts.items (c.args.k - 1) c.args.measure c.self.invariant lt measure) in
     rw here (to_z-of_z w64 (get_or c.self.inside.amounts.items ((c.args.k - 1) * c.self.inside.measures + c.args.measure) (pos 0)) fits)
     ∙ sym (amount-at c.self.inside.dims c.self.inside.measures c.self.inside.ids.items c.self.inside.texts c.self.inside.amounts.items (c.args.k - 1) c.args.measure lt measure)
     ∙ ap (λ (b : Batch). get_or (get_or b.rows (c.args.k - 1) empty_row).amounts c.args.measure (pos 0)) c.self.view_is
