@@ -38,6 +38,7 @@ fn run_over(
     let mut files = MemoryFiles::new(alloc, reads, 7)?;
     files.add("s.schema", schema)?;
     files.add("base.csv", base)?;
+    files.add("good.csv", BASE)?;
     files.add("script", script)?;
     let mut out = MemorySink::new(alloc, writes, 1000, 2000)?;
     let mut err = MemorySink::new(alloc, &[], 5, 200)?;
@@ -120,8 +121,8 @@ fn lines_that_are_refused(rt: HostRuntime) -> Result<(), Fail> {
         ),
         (b" \n", "refused,1,command\n"),
         (b"Load base.csv\n", "refused,1,command\n"),
-        (b"load\n", "refused,1,form\n"),
-        (b"load \n", "refused,1,form\n"),
+        (b"load\n", "refused,1,field,1\n"),
+        (b"load \n", "refused,1,field,1\n"),
         (
             b"load base.csv\nload base.csv\n",
             "applied,1,3\nrefused,2,not-empty\n",
@@ -143,37 +144,78 @@ fn lines_that_are_refused(rt: HostRuntime) -> Result<(), Fail> {
     Ok(())
 }
 
+// A load of a base file is refused with this code, and keeps nothing: a point finds no row, and a good file is loaded.
+fn refuses(rt: &impl Abort, alloc: Global, schema: &str, base: &[u8], code: &str) -> Result<(), AllocError> {
+    let mut out = String::from_str(alloc, "refused,1,")?;
+    out.push_str(code)?;
+    out.push_str("\nnone,2\napplied,3,3\n")?;
+    let script = b"load base.csv\npoint *,*,*\nload good.csv";
+    replies(rt, alloc, schema, base, script, out.as_str())
+}
+
 #[test]
 fn base_files_that_are_refused(rt: HostRuntime) -> Result<(), Fail> {
-    let cases: [&[u8]; 10] = [
-        b"",
-        b"id,product,store,season,sale\n1,S1,P1,s,6\n",
-        b"id,store,product,season,sale\n1,S1,P1,6\n",
-        b"id,store,product,season,sale\n1,S1,P1,s,6\n01,S1,P1,s,6\n",
-        b"id,store,product,season,sale\n1,S1,P1,s,1000000000000\n",
-        b"id,store,product,season,sale\n18446744073709551616,S1,P1,s,6\n",
-        b"id,store,product,season,sale\n1,\xFF,P1,s,6\n",
-        b"id,store,product,season,sale\n1,\"S1\",P1,s,6\n",
-        b"id,store,product,season,sale\r\n1,S1,P1,s,6\r\n",
-        b"\xEF\xBB\xBFid,store,product,season,sale\n1,S1,P1,s,6\n",
+    let cases: [(&[u8], &str); 20] = [
+        (b"", "header"),
+        (b"id,store,product,season\n1,S1,P1,s\n", "header"),
+        (b"id,store,store,product,season,sale\n", "header"),
+        (b"\xEF\xBB\xBF\xEF\xBB\xBFid,store,product,season,sale\n", "header"),
+        (b"id,store,product,season,sale\n1,S1,P1,6\n", "fields,1"),
+        (b"id,store,product,season,sale\n1,S1,P1,s,6\n2,S1,P1,s\n", "fields,2"),
+        (b"id,store,product,season,sale\n1,\"S1,P1", "fields,1"),
+        (b"id,store,product,season,sale\n1,\xFF,P1,s,6\n", "utf8,1"),
+        (b"id,store,product,season,sale\nx,\xFF,P1,s,6\n", "utf8,1"),
+        (b"id,store,product,season,sale\n18446744073709551616,S1,P1,s,6\n", "id,1"),
+        (b"id,store,product,season,sale\n-1,S1,P1,s,1e3\n", "id,1"),
+        (b"id,store,product,season,sale\n1,S1,P1,s,1000000000000\n", "amount,1"),
+        (b"id,store,product,season,sale\n1,S1,P1,s,6\n2,S1,P1,s,6.5\n", "amount,2"),
+        (b"id,store,product,season,sale\n1,S1,P1,s,.5\n", "amount,1"),
+        (b"id,store,product,season,sale\n1,S1,P1,s,6.\n", "amount,1"),
+        (b"id,store,product,season,sale\n1,S1,P1,s,\n2,S1\n", "amount,1"),
+        (b"id,store,product,season,sale\n1,aaaaaaaaaaaaaaaaaaaaaaaaaaaaaaaaaaaaaaaaaaaaaaaaaaaaaaaaaaaaaaaaaaaaaaaaaaaaaaaaaaaaaaaaaaaaaaaaaaaaaaaaaaaaaaaaaaaaaaaaaaaaaaaaaaaaaaaaaaaaaaaaaaaaaaaaaaaaaaaaaaaaaaaaaaaaaaaaaaaaaaaaaaaaaaaaaaaaaaaaaaaaaaaaaaaaaaaaaaaaaaaaaaaaaaaaaaaaaaaaaaaaaaaaaaaaaaaa,P1,s,6\n", "value,1"),
+        (b"id,store,product,season,sale\n1,S1,P1,s,6\n01,S1,P1,s,6\n", "twice,2"),
+        (b"id,store,product,season,sale\n7,S1,P1,s,6\n8,S1,P1,s,6\n7,S1,P1,s,6\n8,S1,P1,s,6\n", "twice,3"),
+        (b"id,store,product,season,sale\n1,S1,P1,s,6\n1,S1,P1,s,6\n2,S1,P1,s,x\n", "amount,3"),
     ];
-    for base in cases {
-        replies(
-            &rt,
-            rt.alloc(),
-            SCHEMA,
-            base,
-            b"load base.csv\npoint *,*,*",
-            "refused,1,form\nnone,2\n",
-        )?;
+    for (base, code) in cases {
+        refuses(&rt, rt.alloc(), SCHEMA, base, code)?;
     }
     Ok(())
 }
 
 #[test]
+fn rows_and_texts_that_are_too_many(rt: HostRuntime) -> Result<(), Fail> {
+    let alloc = rt.alloc();
+    let four = b"id,store,product,season,sale\n1,a,P,s,6\n2,b,P,s,6\n3,b,Q,s,6\n4,b,R,s,6\n";
+    let rows = "qcube 1\nid id\ndim store\ndim product\ndim season\nmeasure sale 0\nrows 3\n";
+    refuses(&rt, alloc, rows, four, "rows")?;
+    let values = "qcube 1\nid id\ndim store\ndim product\ndim season\nmeasure sale 0\nvalues 2\n";
+    refuses(&rt, alloc, values, four, "values,product")?;
+    let both = "qcube 1\nid id\ndim store\ndim product\ndim season\nmeasure sale 0\nrows 3\nvalues 2\n";
+    refuses(&rt, alloc, both, four, "rows")?;
+    let stores = b"id,store,product,season,sale\n1,a,P,s,6\n2,b,Q,s,6\n3,c,R,s,6\n";
+    refuses(&rt, alloc, values, stores, "values,store")?;
+    let full = b"id,store,product,season,sale\n1,a,P,s,6\n2,b,Q,s,6\n3,a,Q,s,6\n";
+    replies(&rt, alloc, both, full, b"load base.csv", "applied,1,3\n")?;
+    Ok(())
+}
+
+#[test]
 fn base_files_that_are_odd_but_good(rt: HostRuntime) -> Result<(), Fail> {
-    let cases: [(&[u8], &str); 5] = [
+    let cases: [(&[u8], &str); 8] = [
         (b"id,store,product,season,sale", "applied,1,0\nnone,2\n"),
+        (
+            b"\xEF\xBB\xBFid,store,product,season,sale\r\n1,\"S,1\",P1,s,6.00\r\n",
+            "applied,1,1\npoint,2,*,*,*,1,6,6,6,6/1\n",
+        ),
+        (
+            b"sale,\xFF,season,op,product,id,store\n+6,x,s,-,P1,1,S1\n-0,x,s,-,P1,2,S1\n",
+            "applied,1,2\npoint,2,*,*,*,2,6,0,6,3/1\n",
+        ),
+        (
+            b"id,store,product,season,sale\n1,\"S\n1\",P1,s,0000000000000000000000000000000000000007.0\n",
+            "applied,1,1\npoint,2,*,*,*,1,7,7,7,7/1\n",
+        ),
         (
             b"id,store,product,season,sale\n1,S1,P1,s,6",
             "applied,1,1\npoint,2,*,*,*,1,6,6,6,6/1\n",
@@ -206,20 +248,51 @@ fn base_files_that_are_odd_but_good(rt: HostRuntime) -> Result<(), Fail> {
 
 #[test]
 fn schemas_that_are_refused(rt: HostRuntime) -> Result<(), Fail> {
-    let cases: [&[u8]; 9] = [
-        b"",
-        b"qcube 1\nid id\ndim v\nmeasure m 0",
-        b"qcube 1\nid  id\ndim v\nmeasure m 0\n",
-        b"qcube 1\nid id\nmeasure m 0\n",
-        b"qcube 1\nid id\ndim v\ndim v\nmeasure m 0\n",
-        b"qcube 1\nid id\ndim op\nmeasure m 0\n",
-        b"qcube 1\nid id\ndim v\nmeasure m 2\n",
-        b"\xEF\xBB\xBFqcube 1\nid id\ndim v\nmeasure m 0\n",
-        b"qcube 1\nid i\ndim a\ndim b\ndim c\ndim d\ndim e\ndim f\ndim g\ndim h\ndim j\ndim k\ndim l\ndim n\ndim o\nmeasure m 0\n",
+    let cases: [(&[u8], &str); 12] = [
+        (b"", "qcube: schema line 1: end\n"),
+        (b"qcube 1\nid id\n", "qcube: schema line 3: end\n"),
+        (b"# none\n\nqcube 2\nid id\ndim v\n", "qcube: schema line 3: version\n"),
+        (b"qcube 1\nid id\nmeasure m 0\n", "qcube: schema line 3: order\n"),
+        (b"qcube 1\nid id\ndim v\nmeasure m 0\nmeasure n 0\n", "qcube: schema line 5: order\n"),
+        (b"qcube 1\nid id\ndim v w\n", "qcube: schema line 3: words\n"),
+        (b"qcube 1\nid id\ndim v\ndim v\nmeasure m 0\n", "qcube: schema line 4: name\n"),
+        (b"qcube 1\nid id\ndim op\nmeasure m 0\n", "qcube: schema line 3: name\n"),
+        (b"qcube 1\nid id\ndim v\nmeasure m 7\n", "qcube: schema line 4: number\n"),
+        (b"qcube 1\nid id\ndim v\nrows 0\n", "qcube: schema line 4: number\n"),
+        (b"qcube 1\nid i\ndim a\ndim b\ndim c\ndim d\ndim e\ndim f\ndim g\ndim h\ndim j\ndim k\ndim l\ndim n\ndim o\nmeasure m 0\n", "qcube: schema line 15: order\n"),
+        (b"qcube 1\nid \xFF\n", "qcube: schema not UTF-8\n"),
     ];
-    for schema in cases {
+    for (schema, line) in cases {
         let ran = run_over(rt.alloc(), schema, BASE, b"load base.csv", &[], &[])?;
-        ends(&rt, &ran, 6, "", "qcube: schema form\n");
+        ends(&rt, &ran, 6, "", line);
+    }
+    Ok(())
+}
+
+#[test]
+fn schemas_that_are_odd_but_good(rt: HostRuntime) -> Result<(), Fail> {
+    let cases = [
+        (
+            "\u{FEFF}# a shop\r\n  qcube   1 \r\n\r\nid id\r\ndim store\r\nindex count\r\nvalues 0000001",
+            b"id,store\n1,a\n2,a\n".as_slice(),
+            b"load base.csv\npoint a\npoint *".as_slice(),
+            "applied,1,2\npoint,2,a,2\npoint,3,*,2\n",
+        ),
+        (
+            "qcube 1\nid id\ndim store\nmeasure sale 2\nindex mean sale\n",
+            b"id,store,sale\n1,a,6.5\n2,a,+6.500\n3,b,-0.07\n",
+            b"load base.csv\npoint a\npoint b\npoint *",
+            "applied,1,3\npoint,2,a,2,13.00,6.50,6.50,13/2\npoint,3,b,1,-0.07,-0.07,-0.07,-7/100\npoint,4,*,3,12.93,-0.07,6.50,431/100\n",
+        ),
+        (
+            "qcube 1\nid order\ndim store\ndim product\ndim season\nmeasure sale 2\nindex sum sale\n",
+            b"\xEF\xBB\xBFseason,order,note,sale,product,store,clerk\r\n*,100,first,6.00,=x,\"Smith, Sons\",Ann\r\n*,101,,6.5,=x,\"Smith, Sons\",Bob\r\nf,102,,10,P1,S2,Ann\r\n",
+            b"load base.csv\npoint *,*,*",
+            "applied,1,3\npoint,2,*,*,*,3,22.50,6.00,10.00,15/2\n",
+        ),
+    ];
+    for (schema, base, script, out) in cases {
+        replies(&rt, rt.alloc(), schema, base, script, out)?;
     }
     Ok(())
 }

@@ -1,8 +1,0 @@
-//! Rows that are learnt.
-#![tactic(auto)]
-
-mod learn;
-mod repeats;
-
-pub use learn::{LearnRefused, learn_rows};
-pub use repeats::first_repeat;
