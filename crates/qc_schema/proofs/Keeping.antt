@@ -4,18 +4,18 @@ use Rattle.std.specs.Prelude.{not, ◌&&◌, ◌||◌, ◌==◌, nat_lt, nat_le,
 use Rattle.std.specs.List.{list_all, list_any, AllByRecursion}
 use Rattle.std.specs.Str.{bytes_eq, all_ascii_digits}
 use Rattle.std.specs.Str.Parse.{digits_value}
-use Rattle.std.proofs.lemmas.Bool.{and_parts, leb-true, ltb-true, eqb-true}
+use Rattle.std.proofs.lemmas.Bool.{and_parts, leb-true, ltb-true}
 use Rattle.std.proofs.lemmas.Bool.Decides.{nat_tests}
 use Rattle.std.specs.Bool.{Decides}
 use Rattle.std.proofs.lemmas.Slice.Eq.{bytes_eq-Decides}
-use Rattle.std.proofs.lemmas.List.{map-append, length_push, length-append, append-nil}
+use Rattle.std.proofs.lemmas.List.{map-append, length_push, append-nil}
 use Rattle.std.proofs.lemmas.List.Folds.{list_any-append}
 use Rattle.aggregates.specs.Views.{IsThere}
 use Rattle.aggregates.specs.declared.kind.AggKind.{AggKind}
 use Rattle.aggregates.specs.declared.kind.AggKind.TheVariants as kinds
 use Rattle.cube_defs.specs.Text.{Text}
 use Rattle.qc_schema.specs.Schema.{IsLayout, Layout, Measure, all_different, is_name, names_of, same_kind}
-use Rattle.qc_schema.specs.States.{State, Fault, Line, NotUtf8}
+use Rattle.qc_schema.specs.States.{State, Fault, Line}
 use Rattle.qc_schema.specs.Lines.{is_comment, words_of}
 use Rattle.qc_schema.specs.Grammar.{◌>>=◌, and_on, count_kind, dim_line, id_line, in_order, index_line, is_start, is_used, is_version, kind_named, kind_of, limit_in, line_of_words, may_dim, may_end, may_id, may_index, may_measure, may_rows, may_values, measure_from, measure_line, named_line, new_kind, new_name, nodes_line, one_word, read_lines, rows_line, scale_in, start, take_line, two_words, values_line, version_line}
 use Rattle.qc_schema.specs.declared.reader.Stage.{Stage}
@@ -39,7 +39,7 @@ pub record Keeps (s : State) : Type 0 where
   pub holds : AtStage s.stage s.layout
 
 -- steps of reading
-bind_ok : {A B : Type 0} (r : Result A SchemaCause) (f : A → Result B SchemaCause) (y : B) → (r >>= f) ≡ Ok y → (x : A) × (r ≡ Ok x) × (f x ≡ Ok y)
+pub bind_ok : {A B : Type 0} (r : Result A SchemaCause) (f : A → Result B SchemaCause) (y : B) → (r >>= f) ≡ Ok y → (x : A) × (r ≡ Ok x) × (f x ≡ Ok y)
 bind_ok (Ok x) f y e = (x, refl, e)
 bind_ok (Err c) f y e = absurd (cc e)
 
@@ -51,11 +51,11 @@ cond_err : {A : Type 0} (b : Bool) (x y : A) (c : SchemaCause) → cond b (Err c
 cond_err true x y c e = absurd (cc e)
 cond_err false x y c e = (refl, cc)
 
-or-false : (a b : Bool) → (a || b) ≡ false → (a ≡ false) × (b ≡ false)
+pub or-false : (a b : Bool) → (a || b) ≡ false → (a ≡ false) × (b ≡ false)
 or-false true b e = absurd (cc e)
 or-false false b e = (refl, e)
 
-not-true : (a : Bool) → not a ≡ true → a ≡ false
+pub not-true : (a : Bool) → not a ≡ true → a ≡ false
 not-true true e = absurd (cc e)
 not-true false e = refl
 
@@ -396,9 +396,9 @@ index-kept s t words k e =
     let p = cond_err (list_any (λ k. same_kind k b.0) s.layout.indexes) b.0 c.0 Name c.1 in
     let there : IsThere (length s.layout.measures) b.0 = kind-of-there s.layout.measures words b.0 b.1 in
     let whole : IsLayout s.layout = layout-behind s.stage s.layout (from-values s.stage (from-rows s.stage (from-index s.stage (in-order _ _ a.1)))) k.holds in
+    let same : record { stage = stages.Index; layout = record s.layout { indexes = s.layout.indexes ++ c.0 ∷ [] } } ≡ t = cc (c.2) in
     let first : record { stage = stages.Index; layout = record s.layout { indexes = s.layout.indexes ++ b.0 ∷ [] } } ≡ record { stage = stages.Index; layout = record s.layout { indexes = s.layout.indexes ++ c.0 ∷ [] } } =
     ap (λ (x : AggKind). let r : State = record { stage = stages.Index; layout = record s.layout { indexes = s.layout.indexes ++ x ∷ [] } } in r) p.1 in
-    let same : record { stage = stages.Index; layout = record s.layout { indexes = s.layout.indexes ++ c.0 ∷ [] } } ≡ t = cc (c.2) in
     as-state _ t (first ∙ same) (next-index s.layout b.0 whole there p.0)
 
 nodes-kept : (s t : State) (words : List Text) → Keeps s → nodes_line s words ≡ Ok t → Keeps t

@@ -4,3 +4,5 @@ pub mod Numbers
 pub mod Searching
 pub mod Keeping
 pub mod Reading
+pub mod Wording
+pub mod Returning

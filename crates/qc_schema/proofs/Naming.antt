@@ -1,11 +1,11 @@
 -- The names in the lines of a schema.
-use Rattle.std.proofs.Common.{◌≡◌, ◌<◌, ◌≤◌, ◌∙◌, ℕ, zero, suc, List, [], ◌∷◌, length, get_or, refl, sym, ap, arith, Some, None, true, false, Bool, Bor, Result, Ok, Err}
-use Rattle.std.specs.Prelude.{Option, option_map, codes, ◌&&◌, not, nat_le, IsUtf8, MatchResult}
+use Rattle.std.proofs.Common.{◌≡◌, ◌<◌, ℕ, zero, suc, List, [], ◌∷◌, length, get_or, ap, arith, Some, true, Bor, Result, Ok, Err}
+use Rattle.std.specs.Prelude.{option_map, codes, ◌&&◌, not, nat_le, IsUtf8, MatchResult}
 use Rattle.std.specs.Char.{is_ascii_alphabetic}
 use Rattle.std.specs.List.{list_all}
 use Rattle.std.specs.Result.{result_ok}
 use Rattle.std.specs.Str.{bytes_eq}
-use Rattle.std.proofs.lemmas.Bool.{and_parts, leb-true}
+use Rattle.std.proofs.lemmas.Bool.{and_parts}
 use Rattle.std.proofs.lemmas.Bool.Decides.{nat_tests}
 use Rattle.std.proofs.lemmas.Str.{IsUtf8-from_ascii}
 use Rattle.qc_schema.specs.Schema.{is_name, is_name_byte}

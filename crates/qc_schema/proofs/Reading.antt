@@ -1,5 +1,5 @@
 -- The lines of a text, one after the other.
-use Rattle.std.proofs.Common.{◌≡◌, ◌+◌, ◌∙◌, ℕ, List, [], ◌∷◌, length, map, refl, sym, ap, true, false, Bool, Result, Ok, Err}
+use Rattle.std.proofs.Common.{◌≡◌, ◌+◌, ℕ, List, ◌∷◌, length, map, refl, true, false, Ok, Err}
 use Rattle.std.specs.Prelude.{IsUtf8}
 use Rattle.std.specs.Str.{is_utf8}
 use Rattle.std.proofs.lemmas.Bool.{cases_Bool}
@@ -7,9 +7,8 @@ use Rattle.std.proofs.lemmas.List.{nil_from_length}
 use Rattle.std.proofs.lemmas.Str.{is_utf8-from_IsUtf8, IsUtf8-from_is_utf8}
 use Rattle.std.proofs.Common.{inl, inr}
 use Rattle.qc_schema.specs.Grammar.{may_end, read_lines, schema_in, start, take_line}
-use Rattle.qc_schema.specs.Lines.{lines_of, schema_lines, without_cr, without_mark}
-use Rattle.qc_schema.specs.Schema.{Layout}
-use Rattle.qc_schema.specs.States.{Fails, FailsAs, Fault, Line, NotUtf8, State, refused_at}
+use Rattle.qc_schema.specs.Lines.{lines_of, schema_lines, without_cr}
+use Rattle.qc_schema.specs.States.{Fails, FailsAs, Line, NotUtf8, State, refused_at}
 use Rattle.qc_schema.specs.declared.refusal.LineRefused.{LineRefused}
 use Rattle.qc_schema.specs.declared.refusal.LineRefused.TheVariants as faults
 use Rattle.qc_schema.specs.declared.refusal.SchemaCause.{SchemaCause}

@@ -3,7 +3,7 @@ use Rattle.std.proofs.Common.{◌≡◌, ◌<◌, ◌≤◌, ◌+◌, ◌∙◌,
 use Rattle.std.specs.Prelude.{◌==◌, filter}
 use Rattle.std.proofs.lemmas.Bool.Decides.{nat_tests}
 use Rattle.std.proofs.Math.Seq.{drop-cons}
-use Rattle.qc_schema.specs.Lines.{has_bytes, lines_of, pieces_of, with_first, words_of}
+use Rattle.qc_schema.specs.Lines.{has_bytes, lines_of, pieces_of, words_of}
 
 is-byte : (a b : ℕ) → b ≡ a → (b == a) ≡ true
 is-byte a b e = grind (arith, nat_tests, e)

@@ -1,5 +1,5 @@
 -- The lines of a schema, and the words of a line.
-use Rattle.std.specs.Prelude.{ℕ, Bool, true, false, not, List, [], ◌∷◌, ◌==◌, map, filter, take, drop, length, slice_index, ◌-◌, nat_eq, if◌then◌else◌}
+use Rattle.std.specs.Prelude.{ℕ, Bool, true, false, List, [], ◌∷◌, ◌==◌, map, filter, take, drop, length, slice_index, ◌-◌, nat_eq, if◌then◌else◌}
 use Rattle.std.specs.List.{starts_with}
 
 abbrev pub with_first : ℕ → List (List ℕ) → List (List ℕ)

@@ -1,11 +1,10 @@
 -- What a reader has read so far, and what its functions answer.
-use Rattle.std.specs.Prelude.{ℕ, Bool, true, false, ◌≡◌, List, [], map, Result, Ok, Err, string_bytes}
+use Rattle.std.specs.Prelude.{ℕ, ◌≡◌, map, Result, Ok, Err, string_bytes}
 use Rattle.qc_schema.specs.Schema.{Layout, Measure}
 use Rattle.qc_schema.specs.declared.draft.Measure as declared
 use Rattle.qc_schema.specs.declared.draft.Draft.{Draft}
 use Rattle.qc_schema.specs.declared.reader.Reader.{Reader}
 use Rattle.qc_schema.specs.declared.reader.Stage.{Stage}
-use Rattle.qc_schema.specs.declared.reader.Stage.TheVariants as stages
 use Rattle.qc_schema.specs.declared.refusal.SchemaCause.{SchemaCause}
 use Rattle.qc_schema.specs.declared.refusal.SchemaRefused.{SchemaRefused}
 use Rattle.qc_schema.specs.declared.refusal.SchemaRefused.TheVariants as refusals

@@ -99,6 +99,8 @@ fn push_limits(text: &mut Vec<u8>, schema: &Schema) -> Result<(), Memory>
 /// three limits.
 pub fn schema_text(alloc: Global, schema: &Schema) -> Result<Vec<u8>, Memory>
     ensures text { IfOk result (λ text. text.items ≡ layout_text schema.now) }
+    // It is read as the same schema.
+    ensures again { IfOk result (λ text. schema_in text.items ≡ Ok schema.now) }
 {
     let dims = schema.dims();
     let mut text = Vec::with_capacity(alloc, 64 + 16 * dims as usize)?;

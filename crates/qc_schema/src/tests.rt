@@ -71,6 +71,7 @@ fn refused_lines(rt: HostRuntime) -> Result<(), Fail> {
         (b"qcube 1\nid i\ndim a\nvalues +1\n", 4, Number),
     ];
     for (text, line, cause) in cases {
+        assert!(rt; text.len() < 1000);
         let refused = read_schema(rt.alloc(), text).err();
         let want = Some(SchemaRefused::Line { line, cause });
         assert_eq!(rt; refused, want, "line {line}");

@@ -1,5 +1,5 @@
-use Rattle.std.proofs.Common.{◌≡◌, ◌∙◌, ◌+◌, ◌<◌, length, map, ap, sym, subst, arith, List, ℕ, Ok, true, false, Result}
-use Rattle.std.proofs.lemmas.Bool.{eqb-false, eqb-true}
+use Rattle.std.proofs.Common.{◌≡◌, ◌∙◌, length, map, ap, sym, subst, arith, List, ℕ, Ok, Result}
+use Rattle.std.proofs.lemmas.Bool.{eqb-true}
 use Rattle.std.proofs.lemmas.List.{length-map}
 use Rattle.qc_schema.specs.Grammar.{read_lines, start, take_line}
 use Rattle.qc_schema.specs.Lines.{lines_of, without_cr}

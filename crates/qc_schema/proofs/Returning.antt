@@ -1,0 +1,302 @@
+-- The canonical text of a schema is read as this schema.
+use Rattle.std.proofs.Common.{◌≡◌, ◌<◌, ◌≤◌, ◌+◌, ◌∙◌, ℕ, zero, suc, List, [], ◌∷◌, ◌++◌, length, refl, sym, ap, ap₂, arith, true, false, Bool, append_assoc, Result, Ok, map, Some}
+use Rattle.std.specs.Prelude.{not, codes, decimal}
+use Rattle.std.specs.List.{list_all, list_any, flat_map, AllByRecursion}
+use Rattle.std.specs.Str.{all_ascii_digits, bytes_eq}
+use Rattle.std.specs.Str.Parse.{digits_value}
+use Rattle.std.proofs.lemmas.Bool.{and_parts, le-leb, lt-ltb}
+use Rattle.std.proofs.lemmas.Fmt.{decimal_digit, decimal_nonempty, digits_decimal, digits_value-decimal, length-decimal-le}
+use Rattle.std.proofs.lemmas.Str.Parse.{IsNumeralModel, numerals_by_value, tells_all_ascii_digits}
+use Rattle.std.proofs.lemmas.List.{append-nil, length_push}
+use Rattle.std.proofs.lemmas.List.Folds.{list_any-append}
+use Rattle.std.proofs.lemmas.Slice.Eq.{bytes_eq-Decides}
+use Rattle.aggregates.specs.Views.{IsThere}
+use Rattle.aggregates.specs.declared.kind.AggKind.{AggKind}
+use Rattle.aggregates.specs.declared.kind.AggKind.TheVariants as kinds
+use Rattle.cube_defs.specs.Text.{Text}
+use Rattle.qc_schema.specs.Grammar.{◌>>=◌, and_on, dim_line, id_line, index_line, is_start, kind_of, limit_in, line_of_words, may_dim, may_end, may_index, measure_from, measure_line, named_line, nodes_line, read_lines, rows_line, scale_in, schema_in, start, take_line, values_line, version_line}
+use Rattle.qc_schema.specs.Lines.{lines_of, without_cr}
+use Rattle.qc_schema.specs.Schema.{IsLayout, Layout, Measure, all_different, is_name, is_name_byte, same_kind}
+use Rattle.qc_schema.specs.Spelling.{dim_words, index_words, layout_text, layout_words, limit_words, line_text, measure_words, name_at}
+use Rattle.qc_schema.specs.States.{State}
+use Rattle.qc_schema.specs.declared.reader.Stage.{Stage}
+use Rattle.qc_schema.specs.declared.reader.Stage.TheVariants as stages
+use Rattle.qc_schema.specs.declared.refusal.SchemaCause.{SchemaCause}
+use Rattle.qc_schema.proofs.Keeping.{bind_ok, bytes-flip, kind-flip, not-true, or-false}
+use Rattle.qc_schema.proofs.Naming.{name-bytes}
+use Rattle.qc_schema.proofs.Reading.{schema-text}
+use Rattle.qc_schema.proofs.Wording.{IsLine, IsWord, digits-bytes, joined, lines-more, not-comment, text-utf8, words-joined}
+
+-- a state in which the limits are those by default
+abbrev at : Stage → Text → List Text → List Measure → List AggKind → State
+at stage id dims ms ks = record { stage = stage; layout = record { id = id; dims = dims; measures = ms; indexes = ks; nodes = 1000000; rows = 1000000; values = 4000000 } }
+
+-- the state behind lines of these words
+abbrev after : List (List Text) → State → Result State SchemaCause
+after [] s = Ok s
+after (words ∷ lines) s = line_of_words s words >>= λ t. after lines t
+
+after-append : (xs ys : List (List Text)) (s t : State) → after xs s ≡ Ok t → after (xs ++ ys) s ≡ after ys t
+after-append [] ys s t e = let same : s ≡ t = cc in ap (after ys) same
+after-append (x ∷ xs) ys s t e =
+    let p = bind_ok (line_of_words s x) (λ u. after xs u) t e in
+    ap (λ (r : Result State SchemaCause). r >>= λ u. after (xs ++ ys) u) p.1 ∙ after-append xs ys p.0 t p.2
+
+taken : (words : List Text) (s t : State) → IsLine words → line_of_words s words ≡ Ok t → take_line s (joined words) ≡ Ok t
+unfolding take_line
+taken words s t h e = rw (not-comment words h, words-joined words h.each) e
+
+read-after : (lines : List (List Text)) → AllByRecursion IsLine lines → (n : ℕ) (s t : State) → after lines s ≡ Ok t → may_end t.stage ≡ true
+    → read_lines (map without_cr (lines_of (flat_map line_text lines))) n s ≡ Ok t.layout
+unfolding read_lines
+read-after [] h n s t e may = let same : s ≡ t = cc in ap (read_lines [] n) same ∙ rw may refl
+read-after (words ∷ lines) h n s t e may =
+    let p = bind_ok (line_of_words s words) (λ u. after lines u) t e in
+    ap (λ (ls : List (List ℕ)). read_lines ls n s) (lines-more words (flat_map line_text lines) h.0)
+    ∙ ap (λ (r : Result State SchemaCause). and_on n r (λ u. read_lines (map without_cr (lines_of (flat_map line_text lines))) (n + 1) u)) (taken words s p.0 h.0 p.1)
+    ∙ read-after lines h.1 (n + 1) p.0 t p.2 may
+
+-- elements that are all different, or all of a kind
+at-middle : {X : Type 0} (p : X → Bool) (xs : List X) (y : X) (ys : List X) → list_any p (xs ++ y ∷ ys) ≡ false → p y ≡ false
+at-middle p xs y ys h =
+    let q = or-false (list_any p xs) (list_any p (y ∷ ys)) (sym (list_any-append p xs (y ∷ ys)) ∙ h) in
+    (or-false (p y) (list_any p ys) q.1).0
+
+different-middle : {X : Type 0} (eq : X → X → Bool) → ((a b : X) → eq a b ≡ false → eq b a ≡ false) → (xs : List X) (y : X) (ys : List X)
+    → all_different eq (xs ++ y ∷ ys) ≡ true → list_any (λ x. eq x y) xs ≡ false
+different-middle eq flip [] y ys h = refl
+different-middle eq flip (x ∷ xs) y ys h =
+    let p = and_parts (not (list_any (λ z. eq z x) (xs ++ y ∷ ys))) (all_different eq (xs ++ y ∷ ys)) h in
+    let other : eq x y ≡ false = flip y x (at-middle (λ z. eq z x) xs y ys (not-true (list_any (λ z. eq z x) (xs ++ y ∷ ys)) p.0)) in
+    rw (other, different-middle eq flip xs y ys p.1) refl
+
+different-front : {X : Type 0} (eq : X → X → Bool) (xs ys : List X) → all_different eq (xs ++ ys) ≡ true → all_different eq xs ≡ true
+different-front eq [] ys h = refl
+different-front eq (x ∷ xs) ys h =
+    let p = and_parts (not (list_any (λ z. eq z x) (xs ++ ys))) (all_different eq (xs ++ ys)) h in
+    let q = or-false (list_any (λ z. eq z x) xs) (list_any (λ z. eq z x) ys) (sym (list_any-append (λ z. eq z x) xs ys) ∙ not-true (list_any (λ z. eq z x) (xs ++ ys)) p.0) in
+    rw (q.0, different-front eq xs ys p.1) refl
+
+all-parts : {X : Type 0} (p : X → Bool) (xs ys : List X) → list_all p (xs ++ ys) ≡ true → (list_all p xs ≡ true) × (list_all p ys ≡ true)
+all-parts p [] ys h = (refl, h)
+all-parts p (x ∷ xs) ys h =
+    let q = and_parts (p x) (list_all p (xs ++ ys)) h in
+    let r = all-parts p xs ys q.1 in
+    (rw (q.0, r.0) refl, r.1)
+
+every-append : {X : Type 0} (P : X → Type 0) (xs ys : List X) → AllByRecursion P xs → AllByRecursion P ys → AllByRecursion P (xs ++ ys)
+every-append P [] ys a b = b
+every-append P (x ∷ xs) ys a b = (a.0, every-append P xs ys a.1 b)
+
+bytes-same : (a : List ℕ) → bytes_eq a a ≡ true
+bytes-same a = (bytes_eq-Decides a a).1 refl
+
+-- numbers are read as they are written
+own : IsNumeralModel (λ ds. all_ascii_digits ds ≡ true) (digits_value 10)
+own = numerals_by_value (λ ds. all_ascii_digits ds ≡ true) tells_all_ascii_digits
+
+scale-again : (n : ℕ) → n ≤ 6 → scale_in (decimal n) ≡ Ok n
+scale-again n h =
+    let one : length (decimal n) ≡ 1 = ap length (decimal_digit n (omega arith)) in
+    rw (one, digits_decimal own n (omega arith), digits_value-decimal own n (omega arith), le-leb n 6 h) refl
+
+limit-again : (most n : ℕ) → 1 ≤ n → n ≤ most → most < 10000000 → limit_in most (decimal n) ≡ Ok n
+limit-again most n some few small =
+    rw (lt-ltb 0 (length (decimal n)) (decimal_nonempty n (omega arith)), le-leb (length (decimal n)) 7 (length-decimal-le 7 n (omega arith) (omega arith) (omega arith)), digits_decimal own n (omega arith), digits_value-decimal own n (omega arith), lt-ltb 0 n some, le-leb n most few) refl
+
+-- the kind of the last line, behind lines of one kind
+abbrev stage_behind : {X : Type 0} → Stage → Stage → List X → Stage
+stage_behind before stage [] = before
+stage_behind before stage (x ∷ xs) = stage
+
+behind-same : {X : Type 0} (stage : Stage) (xs : List X) → stage_behind stage stage xs ≡ stage
+behind-same stage [] = refl
+behind-same stage (x ∷ xs) = refl
+
+behind-some : {X : Type 0} (before stage : Stage) (xs : List X) → 1 ≤ length xs → stage_behind before stage xs ≡ stage
+behind-some before stage [] h = absurd (omega arith)
+behind-some before stage (x ∷ xs) h = refl
+
+pub record MayIndex (stage : Stage) : Type 0 where
+  begun : is_start stage ≡ false
+  index : may_index stage ≡ true
+
+behind-index : {X : Type 0} (before stage : Stage) (xs : List X) → MayIndex before → MayIndex stage → MayIndex (stage_behind before stage xs)
+behind-index before stage [] a b = a
+behind-index before stage (x ∷ xs) a b = b
+
+-- the lines of dimensions
+dim-step : (stage : Stage) (id : Text) (done : List Text) (name : Text) → is_start stage ≡ false → may_dim stage ≡ true → length done < 12 → is_name name ≡ true
+    → list_any (λ y. bytes_eq y name) (id ∷ done) ≡ false → line_of_words (at stage id done [] []) (dim_words name) ≡ Ok (at stages.Dim id (done ++ name ∷ []) [] [])
+unfolding named_line dim_line
+dim-step stage id done name begun may few n u =
+    let fresh : list_any (λ y. bytes_eq y name) (id ∷ (done ++ [])) ≡ false = ap (λ (xs : List Text). list_any (λ y. bytes_eq y name) (id ∷ xs)) (append-nil done) ∙ u in
+    rw (begun, may, lt-ltb (length done) 12 few, n, fresh) refl
+
+dims-run : (dims : List Text) (stage : Stage) (id : Text) (done : List Text) → is_start stage ≡ false → may_dim stage ≡ true → length done + length dims ≤ 12 → list_all is_name dims ≡ true
+    → all_different bytes_eq (id ∷ (done ++ dims)) ≡ true → after (map dim_words dims) (at stage id done [] []) ≡ Ok (at (stage_behind stage stages.Dim dims) id (done ++ dims) [] [])
+dims-run [] stage id done begun may few n d = ap (λ (xs : List Text). Ok (at stage id xs [] [])) (sym (append-nil done))
+dims-run (x ∷ xs) stage id done begun may few n d =
+    let p = and_parts (is_name x) (list_all is_name xs) n in
+    let joined_up : (done ++ x ∷ []) ++ xs ≡ done ++ x ∷ xs = append_assoc done (x ∷ []) xs in
+    let fresh : list_any (λ y. bytes_eq y x) (id ∷ done) ≡ false = different-middle bytes_eq bytes-flip (id ∷ done) x xs d in
+    let others : all_different bytes_eq (id ∷ ((done ++ x ∷ []) ++ xs)) ≡ true = ap (λ (ys : List Text). all_different bytes_eq (id ∷ ys)) joined_up ∙ d in
+    ap (λ (r : Result State SchemaCause). r >>= λ t. after (map dim_words xs) t) (dim-step stage id done x begun may (omega arith) p.0 fresh)
+    ∙ dims-run xs stages.Dim id (done ++ x ∷ []) refl refl (omega (arith, length_push done x)) p.1 others
+    ∙ ap₂ (λ (s : Stage) (ys : List Text). Ok (at s id ys [] [])) (behind-same stages.Dim xs) joined_up
+
+-- the line of a measure
+measure-step : (id : Text) (dims : List Text) (m : Measure) → m.scale ≤ 6 → is_name m.name ≡ true → list_any (λ y. bytes_eq y m.name) (id ∷ dims) ≡ false
+    → line_of_words (at stages.Dim id dims [] []) (measure_words m) ≡ Ok (at stages.Measure id dims (m ∷ []) [])
+unfolding named_line measure_line
+measure-step id dims m small n u =
+    let fresh : list_any (λ y. bytes_eq y m.name) (id ∷ (dims ++ [])) ≡ false = ap (λ (xs : List Text). list_any (λ y. bytes_eq y m.name) (id ∷ xs)) (append-nil dims) ∙ u in
+    rw (n, fresh, scale-again m.scale small) refl
+
+measures-run : (ms : List Measure) (id : Text) (dims : List Text) → length ms ≤ 1 → AllByRecursion (λ m. m.scale ≤ 6) ms → list_all is_name (map (λ m. m.name) ms) ≡ true
+    → all_different bytes_eq (id ∷ (dims ++ map (λ m. m.name) ms)) ≡ true → after (map measure_words ms) (at stages.Dim id dims [] []) ≡ Ok (at (stage_behind stages.Dim stages.Measure ms) id dims ms [])
+measures-run [] id dims few small n d = refl
+measures-run (m ∷ []) id dims few small n d =
+    ap (λ (r : Result State SchemaCause). r >>= λ t. Ok t) (measure-step id dims m small.0 (and_parts (is_name m.name) true n).0 (different-middle bytes_eq bytes-flip (id ∷ dims) m.name [] d))
+measures-run (m ∷ n ∷ ms) id dims few small h d = absurd (omega arith)
+
+-- the lines of indexes
+found-again : (ms : List Measure) (m : ℕ) → length ms ≤ 1 → m < length ms → measure_from ms 0 (name_at ms m) ≡ Some m
+found-again [] m few h = absurd (omega arith)
+found-again (x ∷ []) zero few h = rw (bytes-same x.name) refl
+found-again (x ∷ []) (suc m) few h = absurd (omega arith)
+found-again (x ∷ y ∷ ms) m few h = absurd (omega arith)
+
+index-step : (stage : Stage) (id : Text) (dims : List Text) (ms : List Measure) (done : List AggKind) (kind : AggKind) → MayIndex stage → length ms ≤ 1 → IsThere (length ms) kind
+    → list_any (λ k. same_kind k kind) done ≡ false → line_of_words (at stage id dims ms done) (index_words ms kind) ≡ Ok (at stages.Index id dims ms (done ++ kind ∷ []))
+unfolding named_line index_line kind_of
+index-step stage id dims ms done kinds.Count may few there fresh = rw (may.begun, may.index, fresh) refl
+index-step stage id dims ms done (kinds.Sum m) may few there fresh = rw (may.begun, may.index, found-again ms m few there, fresh) refl
+index-step stage id dims ms done (kinds.Least m) may few there fresh = rw (may.begun, may.index, found-again ms m few there, fresh) refl
+index-step stage id dims ms done (kinds.Greatest m) may few there fresh = rw (may.begun, may.index, found-again ms m few there, fresh) refl
+index-step stage id dims ms done (kinds.Mean m) may few there fresh = rw (may.begun, may.index, found-again ms m few there, fresh) refl
+
+at-index : MayIndex stages.Index
+at-index = record { begun = refl; index = refl }
+
+indexes-run : (ks : List AggKind) (stage : Stage) (id : Text) (dims : List Text) (ms : List Measure) (done : List AggKind) → MayIndex stage → length ms ≤ 1 → AllByRecursion (IsThere (length ms)) ks
+    → all_different same_kind (done ++ ks) ≡ true → after (map (index_words ms) ks) (at stage id dims ms done) ≡ Ok (at (stage_behind stage stages.Index ks) id dims ms (done ++ ks))
+indexes-run [] stage id dims ms done may few there d = ap (λ (xs : List AggKind). Ok (at stage id dims ms xs)) (sym (append-nil done))
+indexes-run (k ∷ ks) stage id dims ms done may few there d =
+    let joined_up : (done ++ k ∷ []) ++ ks ≡ done ++ k ∷ ks = append_assoc done (k ∷ []) ks in
+    ap (λ (r : Result State SchemaCause). r >>= λ t. after (map (index_words ms) ks) t) (index-step stage id dims ms done k may few there.0 (different-middle same_kind kind-flip done k ks d))
+    ∙ indexes-run ks stages.Index id dims ms (done ++ k ∷ []) at-index few there.1 (ap (all_different same_kind) joined_up ∙ d)
+    ∙ ap₂ (λ (s : Stage) (xs : List AggKind). Ok (at s id dims ms xs)) (behind-same stages.Index ks) joined_up
+
+-- the lines of the limits
+limits-run : (stage : Stage) (l : Layout) → MayIndex stage → IsLayout l → after (limit_words l) (at stage l.id l.dims l.measures l.indexes) ≡ Ok (record { stage = stages.Values; layout = l })
+unfolding named_line nodes_line rows_line values_line
+limits-run stage l may h = rw (may.begun, may.index, limit-again 4000000 l.nodes h.some_nodes h.few_nodes (omega arith), limit-again 1000000 l.rows h.some_rows h.few_rows (omega arith), limit-again 4000000 l.values h.some_values h.few_values (omega arith)) refl
+
+-- the first two lines
+id-fresh : (id : Text) → is_name id ≡ true → bytes_eq [] id ≡ false
+id-fresh [] h = absurd (cc h)
+id-fresh (b ∷ bs) h = refl
+
+id-run : (id : Text) (lines : List (List Text)) → is_name id ≡ true → after ((codes "qcube" ∷ codes "1" ∷ []) ∷ (codes "id" ∷ id ∷ []) ∷ lines) start ≡ after lines (at stages.Id id [] [] [])
+unfolding version_line named_line id_line
+id-run id lines h = rw (h, id-fresh id h) refl
+
+-- all lines
+pub layout-run : (l : Layout) → IsLayout l → after (layout_words l) start ≡ Ok (record { stage = stages.Values; layout = l })
+layout-run l h =
+    let n = and_parts (is_name l.id) (list_all is_name (l.dims ++ map (λ m. m.name) l.measures)) h.names in
+    let parts = all-parts is_name l.dims (map (λ m. m.name) l.measures) n.1 in
+    let dims : after (map dim_words l.dims) (at stages.Id l.id [] [] []) ≡ Ok (at stages.Dim l.id l.dims [] []) =
+    dims-run l.dims stages.Id l.id [] refl refl (omega (arith, h.few_dims)) parts.0 (different-front bytes_eq (l.id ∷ l.dims) (map (λ m. m.name) l.measures) h.different_names)
+    ∙ ap (λ (s : Stage). Ok (at s l.id l.dims [] [])) (behind-some stages.Id stages.Dim l.dims h.some_dims) in
+    let measures = measures-run l.measures l.id l.dims h.few_measures h.scales parts.1 h.different_names in
+    let at_dim : MayIndex stages.Dim = record { begun = refl; index = refl } in
+    let at_measure : MayIndex stages.Measure = record { begun = refl; index = refl } in
+    let behind_measures : MayIndex (stage_behind stages.Dim stages.Measure l.measures) = behind-index stages.Dim stages.Measure l.measures at_dim at_measure in
+    let behind_all : MayIndex (stage_behind (stage_behind stages.Dim stages.Measure l.measures) stages.Index l.indexes) = behind-index (stage_behind stages.Dim stages.Measure l.measures) stages.Index l.indexes behind_measures at-index in
+    let indexes = indexes-run l.indexes (stage_behind stages.Dim stages.Measure l.measures) l.id l.dims l.measures [] behind_measures h.few_measures h.indexes h.different_indexes in
+    let index_text : List (List Text) = map (index_words l.measures) l.indexes ++ limit_words l in
+    let measure_text : List (List Text) = map measure_words l.measures ++ index_text in
+    let measured : Stage = stage_behind stages.Dim stages.Measure l.measures in
+    let indexed : Stage = stage_behind measured stages.Index l.indexes in
+    id-run l.id (map dim_words l.dims ++ measure_text) n.0
+    ∙ after-append (map dim_words l.dims) measure_text (at stages.Id l.id [] [] []) (at stages.Dim l.id l.dims [] []) dims
+    ∙ after-append (map measure_words l.measures) index_text (at stages.Dim l.id l.dims [] []) (at measured l.id l.dims l.measures []) measures
+    ∙ after-append (map (index_words l.measures) l.indexes) (limit_words l) (at measured l.id l.dims l.measures []) (at indexed l.id l.dims l.measures l.indexes) indexes
+    ∙ limits-run indexed l behind_all h
+
+-- each line is one of words
+keyword : (word : Text) → 0 < length word → list_all is_name_byte word ≡ true → IsWord word
+keyword word some bytes = record { some = some; bytes = bytes }
+
+name-word : (name : Text) → is_name name ≡ true → IsWord name
+name-word [] h = absurd (cc h)
+name-word (b ∷ bs) h = record { some = omega arith; bytes = name-bytes (b ∷ bs) h }
+
+number-word : (n : ℕ) → n < 10000000 → IsWord (decimal n)
+number-word n h = record { some = decimal_nonempty n (omega arith); bytes = digits-bytes (decimal n) (digits_decimal own n (omega arith)) }
+
+pair-line : (first second : Text) → IsWord first → IsWord second → IsLine (first ∷ second ∷ [])
+pair-line first second a b = record { some = omega arith; each = (a, (b, tt)) }
+
+triple-line : (first second third : Text) → IsWord first → IsWord second → IsWord third → IsLine (first ∷ second ∷ third ∷ [])
+triple-line first second third a b c = record { some = omega arith; each = (a, (b, (c, tt))) }
+
+dim-lines : (dims : List Text) → list_all is_name dims ≡ true → AllByRecursion IsLine (map dim_words dims)
+dim-lines [] h = tt
+dim-lines (x ∷ xs) h =
+    let p = and_parts (is_name x) (list_all is_name xs) h in
+    (pair-line (codes "dim") x (keyword (codes "dim") (omega arith) refl) (name-word x p.0), dim-lines xs p.1)
+
+measure-lines : (ms : List Measure) → AllByRecursion (λ m. m.scale ≤ 6) ms → list_all is_name (map (λ m. m.name) ms) ≡ true → AllByRecursion IsLine (map measure_words ms)
+measure-lines [] small h = tt
+measure-lines (m ∷ ms) small h =
+    let p = and_parts (is_name m.name) (list_all is_name (map (λ m. m.name) ms)) h in
+    let few : m.scale ≤ 6 = small.0 in
+    (triple-line (codes "measure") m.name (decimal m.scale) (keyword (codes "measure") (omega arith) refl) (name-word m.name p.0) (number-word m.scale (omega arith)), measure-lines ms small.1 p.1)
+
+name-there : (ms : List Measure) (m : ℕ) → m < length ms → list_all is_name (map (λ m. m.name) ms) ≡ true → IsWord (name_at ms m)
+name-there [] m lt h = absurd (omega arith)
+name-there (x ∷ xs) zero lt h = name-word x.name (and_parts (is_name x.name) (list_all is_name (map (λ m. m.name) xs)) h).0
+name-there (x ∷ xs) (suc m) lt h = name-there xs m (omega arith) (and_parts (is_name x.name) (list_all is_name (map (λ m. m.name) xs)) h).1
+
+index-line : (ms : List Measure) (kind : AggKind) → IsThere (length ms) kind → list_all is_name (map (λ m. m.name) ms) ≡ true → IsLine (index_words ms kind)
+index-line ms kinds.Count there h = pair-line (codes "index") (codes "count") (keyword (codes "index") (omega arith) refl) (keyword (codes "count") (omega arith) refl)
+index-line ms (kinds.Sum m) there h = triple-line (codes "index") (codes "sum") (name_at ms m) (keyword (codes "index") (omega arith) refl) (keyword (codes "sum") (omega arith) refl) (name-there ms m there h)
+index-line ms (kinds.Least m) there h = triple-line (codes "index") (codes "least") (name_at ms m) (keyword (codes "index") (omega arith) refl) (keyword (codes "least") (omega arith) refl) (name-there ms m there h)
+index-line ms (kinds.Greatest m) there h = triple-line (codes "index") (codes "greatest") (name_at ms m) (keyword (codes "index") (omega arith) refl) (keyword (codes "greatest") (omega arith) refl) (name-there ms m there h)
+index-line ms (kinds.Mean m) there h = triple-line (codes "index") (codes "mean") (name_at ms m) (keyword (codes "index") (omega arith) refl) (keyword (codes "mean") (omega arith) refl) (name-there ms m there h)
+
+index-lines : (ms : List Measure) (ks : List AggKind) → AllByRecursion (IsThere (length ms)) ks → list_all is_name (map (λ m. m.name) ms) ≡ true → AllByRecursion IsLine (map (index_words ms) ks)
+index-lines ms [] there h = tt
+index-lines ms (k ∷ ks) there h = (index-line ms k there.0 h, index-lines ms ks there.1 h)
+
+limit-lines : (l : Layout) → IsLayout l → AllByRecursion IsLine (limit_words l)
+limit-lines l h = (
+  pair-line (codes "nodes") (decimal l.nodes) (keyword (codes "nodes") (omega arith) refl) (number-word l.nodes (omega (arith, h.few_nodes))),
+  (
+    pair-line (codes "rows") (decimal l.rows) (keyword (codes "rows") (omega arith) refl) (number-word l.rows (omega (arith, h.few_rows))),
+    (pair-line (codes "values") (decimal l.values) (keyword (codes "values") (omega arith) refl) (number-word l.values (omega (arith, h.few_values))), tt),
+  ),
+)
+
+layout-lines : (l : Layout) → IsLayout l → AllByRecursion IsLine (layout_words l)
+layout-lines l h =
+    let n = and_parts (is_name l.id) (list_all is_name (l.dims ++ map (λ m. m.name) l.measures)) h.names in
+    let parts = all-parts is_name l.dims (map (λ m. m.name) l.measures) n.1 in (
+      pair-line (codes "qcube") (codes "1") (keyword (codes "qcube") (omega arith) refl) (keyword (codes "1") (omega arith) refl),
+      (
+        pair-line (codes "id") l.id (keyword (codes "id") (omega arith) refl) (name-word l.id n.0),
+        every-append IsLine (map dim_words l.dims) _ (dim-lines l.dims parts.0)
+            (every-append IsLine (map measure_words l.measures) _ (measure-lines l.measures h.scales parts.1)
+            (every-append IsLine (map (index_words l.measures) l.indexes) _ (index-lines l.measures l.indexes h.indexes parts.1) (limit-lines l h))),
+      ),
+    )
+
+-- the text is read as the schema that it spells
+pub read-again : (l : Layout) → IsLayout l → schema_in (layout_text l) ≡ Ok l
+read-again l h =
+    let lines : AllByRecursion IsLine (layout_words l) = layout-lines l h in
+    schema-text (layout_text l) (text-utf8 (layout_words l) lines)
+    ∙ read-after (layout_words l) lines 1 start (record { stage = stages.Values; layout = l }) (layout-run l h) refl
