@@ -7,3 +7,4 @@ pub mod Printing
 pub mod Aggregates
 pub mod Together
 pub mod ReadBack
+pub mod Values

@@ -1,10 +1,11 @@
 //! Laws of rows that are added up, and of numbers that are printed and read again, as the
 //! contracts of functions that have nothing to do.
-ghost use Rattle.std.specs.Prelude.{◌≡◌, ℕ, ℤ, ◌<◌, ◌≤◌, ◌^◌, List, [], ◌∷◌, ◌++◌, Some, decimal, length, nat_abs};
+ghost use Rattle.std.specs.Prelude.{◌≡◌, ℕ, ℤ, ◌*◌, ◌<◌, ◌≤◌, ◌^◌, ◌==◌, IsTrue, List, [], ◌∷◌, ◌++◌, Some, decimal, drop, length, nat_abs};
+ghost use Rattle.std.specs.List.{list_all};
 ghost use Rattle.cube_defs.specs.Rows.{Fraction, Row, agg_of};
 ghost use Rattle.cube_laws.specs.Total.{combine};
 ghost use Rattle.aggregates.specs.Bounds.{largest_amount};
-ghost use Rattle.aggregates.specs.Numbers.{amount_in, fraction_written, id_in};
+ghost use Rattle.aggregates.specs.Numbers.{amount_in, fraction_written, id_in, number, places};
 ghost use Rattle.aggregates.specs.Rows.{agg_of_row};
 ghost use Rattle.aggregates.specs.Texts.{amount_text, ratio_text};
 
@@ -23,9 +24,12 @@ pub fn printed_ids_are_read()
     ensures { (id : ℕ) → id < 2 ^ 64 → id_in (decimal id) ≡ Some id }
 {}
 
-/// An amount that was printed is read as itself, at each scale.
+/// An amount that was printed is read as itself, at each scale, and no two amounts have one text.
 pub fn printed_amounts_are_read()
-    ensures { (scale : ℕ) (amount : ℤ) → nat_abs amount ≤ largest_amount →
+    ensures apart { (scale : ℕ) (amount other : ℤ) → nat_abs amount ≤ largest_amount →
+        nat_abs other ≤ largest_amount → amount_text scale amount ≡ amount_text scale other →
+        amount ≡ other }
+    ensures read { (scale : ℕ) (amount : ℤ) → nat_abs amount ≤ largest_amount →
         amount_in scale (amount_text scale amount) ≡ Some amount }
 {}
 
@@ -33,4 +37,11 @@ pub fn printed_amounts_are_read()
 pub fn printed_ratios_are_read()
     ensures { (ratio : Fraction) → nat_abs ratio.num < 10 ^ 18 → 0 < ratio.den → ratio.den < 10 ^ 18 →
         fraction_written (ratio_text ratio) ≡ Some ratio }
+{}
+
+/// The digits behind a point stand for their number over a power of ten, in units of the scale's
+/// last place, where those behind that place are all 0.
+pub fn places_are_a_number()
+    ensures { (scale : ℕ) (text : List ℕ) → IsTrue (list_all (λ c. c == 48) (drop scale text)) →
+        places scale text * 10 ^ length text ≡ number text * 10 ^ scale }
 {}
