@@ -1,6 +1,6 @@
 -- What follows where a file of the words wasn't read.
-use Rattle.std.proofs.Common.{◌≡◌, ◌<◌, ◌≤◌, ℕ, List, refl, sym, ap, ◌∙◌, Some, None, IfSome, true, false, inl, inr, arith, Bool, length}
-use Rattle.std.specs.Prelude.{Option, IsSomeAnd, Result, Ok, Err, nat_lt}
+use Rattle.std.proofs.Common.{◌≡◌, ◌<◌, ◌≤◌, ℕ, List, refl, Some, None, IfSome, true, inl, inr, arith, length}
+use Rattle.std.specs.Prelude.{Option, IsSomeAnd, Err, nat_lt}
 use Rattle.std.proofs.lemmas.Bool.{le-ltb}
 use Rattle.std.proofs.lemmas.Bool.Decides.{nat_tests}
 use Rattle.qc_io.specs.Outside.{Told}

@@ -1,11 +1,11 @@
 -- The first line of a text.
-use Rattle.std.proofs.Common.{◌≡◌, ◌<◌, ◌+◌, ℕ, zero, suc, List, [], ◌∷◌, length, get_or, take, drop, true, false, refl, arith, ap, ◌≢◌, add-one, Bool, Option, Some, None}
+use Rattle.std.proofs.Common.{◌≡◌, ◌<◌, ◌+◌, ℕ, zero, suc, List, [], ◌∷◌, length, get_or, take, drop, true, false, refl, arith, ◌≢◌, add-one, Bool, Option, Some, None}
 use Rattle.std.specs.Prelude.{count_by, ◌==◌}
 use Rattle.std.proofs.lemmas.Bool.Decides.{nat_tests}
 use Rattle.std.specs.List.{before_first, after_first, position_or_len}
 use Rattle.std.proofs.lemmas.List.Splits.{slice_split_first, length-slice_split}
 use Rattle.qc_session.specs.Answers.{fields_of}
-use Rattle.qc_session.specs.Lines.{lines_of, with_first}
+use Rattle.qc_session.specs.Lines.{lines_of}
 
 lf : (b : ℕ) → b ≡ 10 → (b == 10) ≡ true
 lf b e = grind (arith, nat_tests, e)

@@ -1,8 +1,7 @@
 -- How one line goes on from those before.
-use Rattle.std.proofs.Common.{◌≡◌, ◌<◌, ◌≤◌, ◌+◌, ◌∙◌, ℕ, zero, suc, List, [], ◌∷◌, ◌++◌, length, take, get_or, true, false, refl, sym, arith, ap, subst, Some, None, IfSome, Bool, inl, inr, append-nil, append_assoc, length-append, ◌⊎◌, add-one}
-use Rattle.std.specs.Prelude.{Option, ◌==◌, ◌||◌, fold, IsTrue}
-use Rattle.std.specs.List.{list_any, AllByRecursion}
-use Rattle.std.proofs.lemmas.List.Folds.{list_any-append}
+use Rattle.std.proofs.Common.{◌≡◌, ◌<◌, ◌≤◌, ◌+◌, ◌∙◌, ℕ, zero, suc, List, [], ◌∷◌, ◌++◌, length, take, get_or, true, false, refl, sym, arith, ap, Some, None, IfSome, inl, inr, append-nil, append_assoc, length-append, add-one}
+use Rattle.std.specs.Prelude.{Option, fold}
+use Rattle.std.specs.List.{AllByRecursion}
 use Rattle.std.proofs.lemmas.List.Sums.{fold-append}
 use Rattle.std.proofs.lemmas.Bool.Decides.{nat_tests}
 use Rattle.std.proofs.Math.Seq.{take-append-add}
@@ -12,7 +11,7 @@ use Rattle.qc_session.specs.Lines.{is_passed}
 use Rattle.qc_session.specs.Replies.{memory_text}
 use Rattle.qc_session.specs.Answers.{State, Load, answer, empty, command_of}
 use Rattle.qc_session.specs.Transcript.{Item, Run, is_skipped, item, items, run_at, step, transcript}
-use Rattle.qc_session.specs.Runs.{AreRising, AreSkipped, StoppedAt, StoppedWriting, Took, Wrote, WroteFront, line_at, may_skip}
+use Rattle.qc_session.specs.Runs.{AreRising, AreSkipped, StoppedAt, StoppedWriting, Took, Wrote, line_at, may_skip}
 use Rattle.std.specs.Prelude.{⊤}
 use Rattle.qc_session.specs.declared.session.Stop.{Stop}
 use Rattle.qc_session.specs.declared.session.Stop.TheVariants as stops

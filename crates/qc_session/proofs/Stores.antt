@@ -7,7 +7,7 @@ use Rattle.std.specs.Str.{bytes_eq}
 use Rattle.std.proofs.lemmas.Bool.{and_parts, leb-true}
 use Rattle.cube_defs.specs.Text.{Text}
 use Rattle.qc_schema.specs.Schema.{IsLayout, Layout, is_name, is_name_byte}
-use Rattle.qc_session.specs.Learning.{texts_in, texts_of_rows}
+use Rattle.qc_session.specs.Learning.{texts_in}
 
 pub no-texts : (dims first : ℕ) → replicate {A = List Text} dims [] ≡ map (texts_in []) (range_with_len first dims)
 no-texts zero first = refl

@@ -1,5 +1,5 @@
 -- The answer to a line: a filter and a sum over the rows that are present.
-use Rattle.std.specs.Prelude.{ℕ, ◌==◌, ◌||◌, ◌&&◌, Bool, true, false, not, Option, Some, None, List, [], ◌∷◌, map, length, codes, nat_eq, nat_lt, slice_index_or, Result, Ok, Err, Contains, if◌then◌else◌}
+use Rattle.std.specs.Prelude.{ℕ, ◌==◌, ◌||◌, ◌&&◌, Bool, true, not, Option, Some, None, List, [], ◌∷◌, map, length, codes, nat_eq, nat_lt, slice_index_or, Result, Ok, Err, if◌then◌else◌}
 use Rattle.std.specs.List.{list_any, list_all, slice_split, starts_with}
 use Rattle.std.specs.Str.{is_utf8, bytes_eq}
 use Rattle.std.specs.Option.{option_map}
@@ -70,8 +70,8 @@ or_else (Some first) second = Some first
 abbrev pub refusal_of_rows : Layout → List (Row Text) → Option Refusal
 refusal_of_rows schema rows =
     or_else (option_map (λ k. refusals.Record faults.Twice k) (first_twice rows))
-        (or_else (if nat_lt schema.rows (length rows) then Some refusals.Rows else None)
-            (option_map (λ dim. refusals.Values (slice_index_or schema.dims dim [])) (full_dim schema.values (length schema.dims) rows)))
+    (or_else (if nat_lt schema.rows (length rows) then Some refusals.Rows else None)
+    (option_map (λ dim. refusals.Values (slice_index_or schema.dims dim [])) (full_dim schema.values (length schema.dims) rows)))
 
 -- rows are kept, unless there is a refusal
 abbrev pub kept_unless : Option Refusal → State → ℕ → List (Row Text) → Answered

@@ -1,17 +1,17 @@
 -- How a run ends.
-use Rattle.std.specs.Prelude.{◌≡◌, ◌≤◌, ◌<◌, ◌&&◌, ◌||◌, ◌⊎◌, ◌++◌, ◌-◌, ℕ, zero, suc, Bool, true, false, not, List, [], ◌∷◌, length, take, Option, Some, None, IfSome, IsSomeAnd, codes, string_bytes, slice_index_or, decimal, Result, Ok, Err, nat_lt, ⊤, String, if◌then◌else◌}
+use Rattle.std.specs.Prelude.{◌≡◌, ◌≤◌, ◌<◌, ◌&&◌, ◌⊎◌, ◌++◌, ℕ, zero, suc, Bool, true, false, not, List, [], ◌∷◌, length, take, Option, Some, None, IfSome, IsSomeAnd, codes, string_bytes, slice_index_or, decimal, Result, Ok, Err, nat_lt, ⊤, String, if◌then◌else◌}
 use Rattle.std.specs.declared.alloc.Global.{Global}
 use Rattle.std.specs.List.{AllByRecursion}
-use Rattle.std.specs.Str.{bytes_eq, is_utf8}
+use Rattle.std.specs.Str.{bytes_eq}
 use Rattle.qc_io.specs.Outside.{Told, taking}
 use Rattle.qc_schema.specs.Grammar.{schema_in}
 use Rattle.qc_schema.specs.Schema.{Layout}
 use Rattle.qc_schema.specs.States as schemas
 use Rattle.qc_schema.specs.declared.refusal.SchemaCause.{SchemaCause}
 use Rattle.qc_schema.specs.declared.refusal.SchemaCause.TheVariants as causes
-use Rattle.qc_session.specs.Lines.{is_passed, script_lines, word_of}
+use Rattle.qc_session.specs.Lines.{is_passed, script_lines}
 use Rattle.qc_session.specs.Answers.{Command, Load, Point, Refused, State, command_of, limit}
-use Rattle.qc_session.specs.Transcript.{Run, run_at, step, item, transcript}
+use Rattle.qc_session.specs.Transcript.{run_at, transcript}
 
 -- the words `run SCHEMA SCRIPT`: the names of two files
 pub record Names : Type 0 where

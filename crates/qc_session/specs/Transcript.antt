@@ -1,5 +1,5 @@
 -- What a script answers, over the files that are told.
-use Rattle.std.specs.Prelude.{◌≡◌, ◌+◌, ◌==◌, ◌&&◌, ◌++◌, ℕ, Bool, true, false, not, List, [], ◌∷◌, Option, Some, None, if◌then◌else◌, fold}
+use Rattle.std.specs.Prelude.{◌+◌, ◌==◌, ◌++◌, ℕ, Bool, true, false, List, [], ◌∷◌, Option, Some, None, if◌then◌else◌, fold}
 use Rattle.std.specs.List.{list_any}
 use Rattle.qc_io.specs.Outside.{Told}
 use Rattle.qc_schema.specs.Schema.{Layout}

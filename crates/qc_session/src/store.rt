@@ -4,8 +4,8 @@ ghost use Rattle.csv_load.specs.Faults.{Fails};
 ghost use Rattle.qc_session.specs.Answers.{cell_asked, empty, loaded, loaded_from, pointed};
 
 use crate::answer_text::point_reply;
-use crate::point::{cell_of_rest, is_thin};
 use crate::learn::{LearnRefused, learn_rows};
+use crate::point::{cell_of_rest, is_thin};
 use crate::repeats::first_repeat;
 use crate::reply::{RecordFault, Refusal, ShortReply, applied, none, refused};
 use crate::total::total_at;

@@ -145,7 +145,13 @@ fn lines_that_are_refused(rt: HostRuntime) -> Result<(), Fail> {
 }
 
 // A load of a base file is refused with this code, and keeps nothing: a point finds no row, and a good file is loaded.
-fn refuses(rt: &impl Abort, alloc: Global, schema: &str, base: &[u8], code: &str) -> Result<(), AllocError> {
+fn refuses(
+    rt: &impl Abort,
+    alloc: Global,
+    schema: &str,
+    base: &[u8],
+    code: &str,
+) -> Result<(), AllocError> {
     let mut out = String::from_str(alloc, "refused,1,")?;
     out.push_str(code)?;
     out.push_str("\nnone,2\napplied,3,3\n")?;
@@ -159,23 +165,53 @@ fn base_files_that_are_refused(rt: HostRuntime) -> Result<(), Fail> {
         (b"", "header"),
         (b"id,store,product,season\n1,S1,P1,s\n", "header"),
         (b"id,store,store,product,season,sale\n", "header"),
-        (b"\xEF\xBB\xBF\xEF\xBB\xBFid,store,product,season,sale\n", "header"),
+        (
+            b"\xEF\xBB\xBF\xEF\xBB\xBFid,store,product,season,sale\n",
+            "header",
+        ),
         (b"id,store,product,season,sale\n1,S1,P1,6\n", "fields,1"),
-        (b"id,store,product,season,sale\n1,S1,P1,s,6\n2,S1,P1,s\n", "fields,2"),
+        (
+            b"id,store,product,season,sale\n1,S1,P1,s,6\n2,S1,P1,s\n",
+            "fields,2",
+        ),
         (b"id,store,product,season,sale\n1,\"S1,P1", "fields,1"),
         (b"id,store,product,season,sale\n1,\xFF,P1,s,6\n", "utf8,1"),
         (b"id,store,product,season,sale\nx,\xFF,P1,s,6\n", "utf8,1"),
-        (b"id,store,product,season,sale\n18446744073709551616,S1,P1,s,6\n", "id,1"),
+        (
+            b"id,store,product,season,sale\n18446744073709551616,S1,P1,s,6\n",
+            "id,1",
+        ),
         (b"id,store,product,season,sale\n-1,S1,P1,s,1e3\n", "id,1"),
-        (b"id,store,product,season,sale\n1,S1,P1,s,1000000000000\n", "amount,1"),
-        (b"id,store,product,season,sale\n1,S1,P1,s,6\n2,S1,P1,s,6.5\n", "amount,2"),
+        (
+            b"id,store,product,season,sale\n1,S1,P1,s,1000000000000\n",
+            "amount,1",
+        ),
+        (
+            b"id,store,product,season,sale\n1,S1,P1,s,6\n2,S1,P1,s,6.5\n",
+            "amount,2",
+        ),
         (b"id,store,product,season,sale\n1,S1,P1,s,.5\n", "amount,1"),
         (b"id,store,product,season,sale\n1,S1,P1,s,6.\n", "amount,1"),
-        (b"id,store,product,season,sale\n1,S1,P1,s,\n2,S1\n", "amount,1"),
-        (b"id,store,product,season,sale\n1,aaaaaaaaaaaaaaaaaaaaaaaaaaaaaaaaaaaaaaaaaaaaaaaaaaaaaaaaaaaaaaaaaaaaaaaaaaaaaaaaaaaaaaaaaaaaaaaaaaaaaaaaaaaaaaaaaaaaaaaaaaaaaaaaaaaaaaaaaaaaaaaaaaaaaaaaaaaaaaaaaaaaaaaaaaaaaaaaaaaaaaaaaaaaaaaaaaaaaaaaaaaaaaaaaaaaaaaaaaaaaaaaaaaaaaaaaaaaaaaaaaaaaaaaaaaaaaaa,P1,s,6\n", "value,1"),
-        (b"id,store,product,season,sale\n1,S1,P1,s,6\n01,S1,P1,s,6\n", "twice,2"),
-        (b"id,store,product,season,sale\n7,S1,P1,s,6\n8,S1,P1,s,6\n7,S1,P1,s,6\n8,S1,P1,s,6\n", "twice,3"),
-        (b"id,store,product,season,sale\n1,S1,P1,s,6\n1,S1,P1,s,6\n2,S1,P1,s,x\n", "amount,3"),
+        (
+            b"id,store,product,season,sale\n1,S1,P1,s,\n2,S1\n",
+            "amount,1",
+        ),
+        (
+            b"id,store,product,season,sale\n1,aaaaaaaaaaaaaaaaaaaaaaaaaaaaaaaaaaaaaaaaaaaaaaaaaaaaaaaaaaaaaaaaaaaaaaaaaaaaaaaaaaaaaaaaaaaaaaaaaaaaaaaaaaaaaaaaaaaaaaaaaaaaaaaaaaaaaaaaaaaaaaaaaaaaaaaaaaaaaaaaaaaaaaaaaaaaaaaaaaaaaaaaaaaaaaaaaaaaaaaaaaaaaaaaaaaaaaaaaaaaaaaaaaaaaaaaaaaaaaaaaaaaaaaaaaaaaaaa,P1,s,6\n",
+            "value,1",
+        ),
+        (
+            b"id,store,product,season,sale\n1,S1,P1,s,6\n01,S1,P1,s,6\n",
+            "twice,2",
+        ),
+        (
+            b"id,store,product,season,sale\n7,S1,P1,s,6\n8,S1,P1,s,6\n7,S1,P1,s,6\n8,S1,P1,s,6\n",
+            "twice,3",
+        ),
+        (
+            b"id,store,product,season,sale\n1,S1,P1,s,6\n1,S1,P1,s,6\n2,S1,P1,s,x\n",
+            "amount,3",
+        ),
     ];
     for (base, code) in cases {
         refuses(&rt, rt.alloc(), SCHEMA, base, code)?;
@@ -191,7 +227,8 @@ fn rows_and_texts_that_are_too_many(rt: HostRuntime) -> Result<(), Fail> {
     refuses(&rt, alloc, rows, four, "rows")?;
     let values = "qcube 1\nid id\ndim store\ndim product\ndim season\nmeasure sale 0\nvalues 2\n";
     refuses(&rt, alloc, values, four, "values,product")?;
-    let both = "qcube 1\nid id\ndim store\ndim product\ndim season\nmeasure sale 0\nrows 3\nvalues 2\n";
+    let both =
+        "qcube 1\nid id\ndim store\ndim product\ndim season\nmeasure sale 0\nrows 3\nvalues 2\n";
     refuses(&rt, alloc, both, four, "rows")?;
     let stores = b"id,store,product,season,sale\n1,a,P,s,6\n2,b,Q,s,6\n3,c,R,s,6\n";
     refuses(&rt, alloc, values, stores, "values,store")?;
@@ -251,15 +288,42 @@ fn schemas_that_are_refused(rt: HostRuntime) -> Result<(), Fail> {
     let cases: [(&[u8], &str); 12] = [
         (b"", "qcube: schema line 1: end\n"),
         (b"qcube 1\nid id\n", "qcube: schema line 3: end\n"),
-        (b"# none\n\nqcube 2\nid id\ndim v\n", "qcube: schema line 3: version\n"),
-        (b"qcube 1\nid id\nmeasure m 0\n", "qcube: schema line 3: order\n"),
-        (b"qcube 1\nid id\ndim v\nmeasure m 0\nmeasure n 0\n", "qcube: schema line 5: order\n"),
-        (b"qcube 1\nid id\ndim v w\n", "qcube: schema line 3: words\n"),
-        (b"qcube 1\nid id\ndim v\ndim v\nmeasure m 0\n", "qcube: schema line 4: name\n"),
-        (b"qcube 1\nid id\ndim op\nmeasure m 0\n", "qcube: schema line 3: name\n"),
-        (b"qcube 1\nid id\ndim v\nmeasure m 7\n", "qcube: schema line 4: number\n"),
-        (b"qcube 1\nid id\ndim v\nrows 0\n", "qcube: schema line 4: number\n"),
-        (b"qcube 1\nid i\ndim a\ndim b\ndim c\ndim d\ndim e\ndim f\ndim g\ndim h\ndim j\ndim k\ndim l\ndim n\ndim o\nmeasure m 0\n", "qcube: schema line 15: order\n"),
+        (
+            b"# none\n\nqcube 2\nid id\ndim v\n",
+            "qcube: schema line 3: version\n",
+        ),
+        (
+            b"qcube 1\nid id\nmeasure m 0\n",
+            "qcube: schema line 3: order\n",
+        ),
+        (
+            b"qcube 1\nid id\ndim v\nmeasure m 0\nmeasure n 0\n",
+            "qcube: schema line 5: order\n",
+        ),
+        (
+            b"qcube 1\nid id\ndim v w\n",
+            "qcube: schema line 3: words\n",
+        ),
+        (
+            b"qcube 1\nid id\ndim v\ndim v\nmeasure m 0\n",
+            "qcube: schema line 4: name\n",
+        ),
+        (
+            b"qcube 1\nid id\ndim op\nmeasure m 0\n",
+            "qcube: schema line 3: name\n",
+        ),
+        (
+            b"qcube 1\nid id\ndim v\nmeasure m 7\n",
+            "qcube: schema line 4: number\n",
+        ),
+        (
+            b"qcube 1\nid id\ndim v\nrows 0\n",
+            "qcube: schema line 4: number\n",
+        ),
+        (
+            b"qcube 1\nid i\ndim a\ndim b\ndim c\ndim d\ndim e\ndim f\ndim g\ndim h\ndim j\ndim k\ndim l\ndim n\ndim o\nmeasure m 0\n",
+            "qcube: schema line 15: order\n",
+        ),
         (b"qcube 1\nid \xFF\n", "qcube: schema not UTF-8\n"),
     ];
     for (schema, line) in cases {

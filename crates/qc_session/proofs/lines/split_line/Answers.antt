@@ -1,4 +1,4 @@
-use Rattle.std.proofs.Common.{arith, sym, ◌∙◌}
+use Rattle.std.proofs.Common.{arith}
 use Rattle.std.proofs.lemmas.List.{take_rest}
 use Rattle.qc_session.proofs.Splits.{split-at, split-none}
 use Rattle.qc_session.proofs.lines.split_line.Goals as goal

@@ -1,4 +1,4 @@
-use Rattle.std.proofs.Common.{◌≡◌, ◌++◌, ◌+◌, ◌≤◌, length, map}
+use Rattle.std.proofs.Common.{◌≡◌, ◌++◌, ◌+◌, length, map}
 use Rattle.std.specs.Prelude.{option_map}
 use Rattle.qc_session.specs.Answers.{fields_of, entry_of}
 use Rattle.qc_session.specs.Points.{cell_of_fields, more_fields}

@@ -1,4 +1,4 @@
-use Rattle.std.proofs.Common.{◌∙◌, sym, rules}
+use Rattle.std.proofs.Common.{◌∙◌, sym}
 use Rattle.qc_session.proofs.Steps.{part-answer, part-memory, wrote-answer, wrote-memory}
 use Rattle.qc_session.proofs.session.take_line.Goals as goal
 

@@ -1,11 +1,9 @@
 use Rattle.std.proofs.Common.{arith, refl, ◌∙◌, sym, ap, [], ◌∷◌, ◌++◌, ◌≡◌, ◌+◌, length, map, List, ℕ, None, IfSome, IsTrue}
 use Rattle.std.proofs.lemmas.Grind.{common_steps}
-use Rattle.std.proofs.lemmas.List.{length-map}
 use Rattle.qc_session.specs.Lines.{lines_of, without_cr}
-use Rattle.qc_session.specs.Runs.{AreSkipped}
 use Rattle.qc_session.specs.Session.{WrotePart}
 use Rattle.qc_session.specs.Answers.{Load, command_of}
-use Rattle.qc_session.proofs.Steps.{front-push, if_read, if_write, length-push, lines-regroup, skipped-front, skipped-push, skips-up_to, so_far-none, so_far-push, stopped-at, wrote-all}
+use Rattle.qc_session.proofs.Steps.{front-push, if_read, if_write, length-push, lines-regroup, skipped-front, skipped-push, skips-up_to, so_far-none, so_far-push, stopped-at}
 use Rattle.qc_session.proofs.session.take_lines.Goals as goal
 
 pub lines-init : goal.lines-init
