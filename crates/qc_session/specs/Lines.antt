@@ -1,26 +1,7 @@
 -- The lines of a script.
-use Rattle.std.specs.Prelude.{ℕ, Bool, true, List, [], ◌∷◌, ◌==◌, map, take, drop, length, slice_index, ◌-◌, nat_eq, if◌then◌else◌}
-use Rattle.std.specs.List.{starts_with, before_first, after_first}
-
-abbrev pub with_first : ℕ → List (List ℕ) → List (List ℕ)
-with_first b [] = (b ∷ []) ∷ []
-with_first b (line ∷ lines) = (b ∷ line) ∷ lines
-
--- each line ends with LF, or with the text
-abbrev pub lines_of : List ℕ → List (List ℕ)
-lines_of [] = []
-lines_of (b ∷ bs) = if b == 10 then [] ∷ lines_of bs else with_first b (lines_of bs)
-
--- a line without the CR at its end, where it has one
-abbrev pub without_cr : List ℕ → List ℕ
-without_cr line = if slice_index line (length line - 1) == 13 then take (length line - 1) line else line
-
-abbrev pub mark : List ℕ
-mark = 0xEF ∷ 0xBB ∷ 0xBF ∷ []
-
--- a text without the byte order mark at its front, where it has one
-abbrev pub without_mark : List ℕ → List ℕ
-without_mark bs = if starts_with nat_eq bs mark then drop 3 bs else bs
+use Rattle.std.specs.Prelude.{ℕ, Bool, true, List, [], ◌∷◌, ◌==◌, map}
+use Rattle.std.specs.List.{before_first, after_first}
+pub use Rattle.qc_schema.specs.Lines.{lines_of, mark, with_first, without_cr, without_mark}
 
 -- the lines of a script, numbered from 1
 abbrev pub script_lines : List ℕ → List (List ℕ)
