@@ -8,7 +8,7 @@ use Rattle.std.proofs.lemmas.List.{drop_more}
 use Rattle.std.proofs.lemmas.List.Elements.{All-cons}
 use Rattle.aggregates.specs.Numbers.{amount_in, behind_digits, digits_front, id_in, is_number, magnitude_in, number, tail_in, within}
 use Rattle.qc_schema.specs.Schema.{Measure, no_measure}
-use Rattle.csv_load.specs.Base.{amounts_in}
+use Rattle.csv_load.specs.Files.{amounts_in}
 use Rattle.csv_load.specs.Batch.{IsSmall}
 use Rattle.csv_load.specs.Columns.{cons_some}
 

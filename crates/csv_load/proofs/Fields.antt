@@ -6,7 +6,7 @@ use Rattle.std.specs.Str.{is_utf8}
 use Rattle.std.proofs.lemmas.Str.{IsUtf8-from_is_utf8}
 use Rattle.csv.specs.Records.{field_at}
 use Rattle.std.proofs.lemmas.Bool.{le-leb, lt-leb}
-use Rattle.csv_load.specs.Base.{is_short}
+use Rattle.csv_load.specs.Files.{is_short}
 use Rattle.csv_load.proofs.Ranges.{range-more}
 
 pub field-at : (fields : List (List ℕ)) (i : ℕ) → i < length fields → field_at fields i ≡ Some (get_or fields i [])

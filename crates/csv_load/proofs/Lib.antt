@@ -3,7 +3,8 @@ pub mod Ranges
 pub mod Fields
 pub mod Names
 pub mod Amounts
-pub mod Rowing
+pub mod Changing
+pub mod Bases
 pub mod Refusals
 pub mod Sizes
 pub mod Cutting

@@ -1,13 +1,13 @@
 -- The places of names in a header.
 use Rattle.std.proofs.Common.{◌≡◌, ◌<◌, ◌≤◌, ◌+◌, ◌-◌, ◌∙◌, ℕ, zero, suc, List, [], ◌∷◌, ◌++◌, length, get_or, drop, map, refl, sym, ap, arith, Some, None, true, false, Bool, cond, append_assoc}
-use Rattle.std.specs.Prelude.{Option, option_map, unwrap_or}
+use Rattle.std.specs.Prelude.{Option, option_map, unwrap_or, codes}
 use Rattle.std.specs.List.{All, list_any}
 use Rattle.std.specs.Str.{bytes_eq}
-use Rattle.std.proofs.lemmas.List.{drop_more, length-map, get_or-map, get_or_append_left, get_or-append-add, length-append, append-nil}
+use Rattle.std.proofs.lemmas.List.{drop_more, get_or_push, length-map, get_or-map, get_or_append_left, get_or-append-add, length-append, append-nil}
 use Rattle.std.proofs.lemmas.List.Elements.{All-cons}
 use Rattle.cube_defs.specs.Text.{Text}
 use Rattle.qc_schema.specs.Schema.{Layout, Measure, names_of, no_measure}
-use Rattle.csv_load.specs.Columns.{cons_some, fields_at, place_from, places_in}
+use Rattle.csv_load.specs.Columns.{cons_some, fields_at, needed_names, place_from, places_in}
 
 pub fields-at : (places : List ℕ) (fields : List (List ℕ)) (i : ℕ) → i < length places → get_or (fields_at places fields) i [] ≡ get_or fields (get_or places i 0) []
 fields-at places fields i h = get_or-map (λ place. get_or fields place []) places i 0 [] h
@@ -92,6 +92,24 @@ places-end header before = ap Some (append-nil before)
 
 pub names-all : (layout : Layout) → length (names_of layout) ≡ 1 + length layout.dims + length layout.measures
 names-all layout = omega (arith, length-append layout.dims (map (λ (m : Measure). m.name) layout.measures), length-map layout.measures (λ (m : Measure). m.name))
+
+pub needed-all : (has_op : Bool) (layout : Layout) → length (needed_names has_op layout) ≡ 1 + length layout.dims + length layout.measures + cond has_op 1 0
+needed-all false layout = omega (arith, names-all layout)
+needed-all true layout = omega (arith, names-all layout, length-append (names_of layout) (codes "op" ∷ []))
+
+pub needed-some : (has_op : Bool) (layout : Layout) → 1 + length layout.dims + length layout.measures ≤ length (needed_names has_op layout)
+needed-some has_op layout = omega (arith, needed-all has_op layout)
+
+-- the needed names are the first of those with the op
+pub needed-name : (has_op : Bool) (layout : Layout) (column : ℕ) → column < length (needed_names has_op layout) → get_or (needed_names has_op layout) column [] ≡ get_or (names_of layout ++ codes "op" ∷ []) column []
+needed-name false layout column h = sym (get_or_append_left (names_of layout) (codes "op" ∷ []) [] column h)
+needed-name true layout column h = refl
+
+pub name-op : (layout : Layout) (column : ℕ) → column ≡ length (names_of layout) → get_or (names_of layout ++ codes "op" ∷ []) column [] ≡ codes "op"
+name-op layout column e = get_or_push (names_of layout) (codes "op") [] column (sym e)
+
+pub name-schema : (layout : Layout) (column : ℕ) → column < length (names_of layout) → get_or (names_of layout ++ codes "op" ∷ []) column [] ≡ get_or (names_of layout) column []
+name-schema layout column h = get_or_append_left (names_of layout) (codes "op" ∷ []) [] column h
 
 pub name-dim : (layout : Layout) (column : ℕ) → 1 ≤ column → column ≤ length layout.dims → get_or (names_of layout) column [] ≡ get_or layout.dims (column - 1) []
 name-dim layout zero low high = absurd (omega arith)

@@ -2,8 +2,8 @@
 use Rattle.std.proofs.Common.{List, ◌++◌, refl}
 use Rattle.std.specs.Prelude.{Result, Ok, Err}
 use Rattle.csv_load.specs.Faults.{Fails, Fault, cons_ok}
-use Rattle.csv_load.specs.declared.base.LoadRefused.{LoadRefused}
-use Rattle.csv_load.specs.declared.base.LoadRefused.TheVariants as refusals
+use Rattle.csv_load.specs.declared.files.LoadRefused.{LoadRefused}
+use Rattle.csv_load.specs.declared.files.LoadRefused.TheVariants as refusals
 
 -- the elements before, and then what a reading gives
 abbrev pub ok_with : {X : Type 0} → List X → Result (List X) Fault → Result (List X) Fault
@@ -14,7 +14,7 @@ pub fails-cons : {X : Type 0} (refused : LoadRefused) (first : Result X Fault) (
 fails-cons refusals.Header first more h = rw h refl
 fails-cons (refusals.Fields k) first more h = rw h refl
 fails-cons (refusals.Utf8 k) first more h = rw h refl
-fails-cons (refusals.Op k) first more h = h
+fails-cons (refusals.Op k) first more h = rw h refl
 fails-cons (refusals.Id k) first more h = rw h refl
 fails-cons (refusals.Amount k) first more h = rw h refl
 fails-cons (refusals.Value k) first more h = rw h refl
@@ -24,7 +24,7 @@ pub fails-with : {X : Type 0} (refused : LoadRefused) (before : List X) (more : 
 fails-with refusals.Header before more h = rw h refl
 fails-with (refusals.Fields k) before more h = rw h refl
 fails-with (refusals.Utf8 k) before more h = rw h refl
-fails-with (refusals.Op k) before more h = h
+fails-with (refusals.Op k) before more h = rw h refl
 fails-with (refusals.Id k) before more h = rw h refl
 fails-with (refusals.Amount k) before more h = rw h refl
 fails-with (refusals.Value k) before more h = rw h refl

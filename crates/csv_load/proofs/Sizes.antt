@@ -145,7 +145,7 @@ each-within [] fields = omega arith
 each-within (p ∷ ps) fields = let here = one-within fields p in let more = each-within ps fields in grind (arith, here, more)
 
 -- how many bytes the fields at a few places have
-pub bytes-at : (places : List ℕ) (fields : List (List ℕ)) → length places ≤ 14 → bytes_in (fields_at places fields) ≤ 14 * bytes_in fields
+pub bytes-at : (places : List ℕ) (fields : List (List ℕ)) → length places ≤ 15 → bytes_in (fields_at places fields) ≤ 15 * bytes_in fields
 bytes-at places fields few =
-    let most : bytes_in fields * length places ≤ bytes_in fields * 14 = mul-le-mul_left (bytes_in fields) few in
+    let most : bytes_in fields * length places ≤ bytes_in fields * 15 = mul-le-mul_left (bytes_in fields) few in
     omega (arith, each-within places fields, most)

@@ -1,5 +1,5 @@
 -- The columns of a file that a schema names.
-use Rattle.std.specs.Prelude.{◌≡◌, ◌<◌, ◌≤◌, ◌+◌, ℕ, List, [], ◌∷◌, length, map, Option, Some, None, slice_index_or, if◌then◌else◌}
+use Rattle.std.specs.Prelude.{◌≡◌, ◌<◌, ◌≤◌, ◌+◌, ℕ, Bool, true, false, codes, List, [], ◌∷◌, ◌++◌, length, map, Option, Some, None, slice_index_or, if◌then◌else◌}
 use Rattle.std.specs.List.{All, list_any}
 use Rattle.std.specs.Str.{bytes_eq}
 use Rattle.cube_defs.specs.Text.{Text}
@@ -29,8 +29,13 @@ places_in header (name ∷ names) = cons_some (place_from 0 name header) (places
 abbrev pub fields_at : List ℕ → List (List ℕ) → List (List ℕ)
 fields_at places fields = map (λ place. slice_index_or fields place []) places
 
--- a place in the header for each name of the schema, which are few
+-- the columns that a file must have: those of the schema, and behind them the op of a batch
+abbrev pub needed_names : Bool → Layout → List Text
+needed_names false layout = names_of layout
+needed_names true layout = names_of layout ++ codes "op" ∷ []
+
+-- a place in the header for each of these names, which are few
 pub record AreColumns (layout : Layout) (columns : Columns) : Type 0 where
-  pub all : length columns.places.items ≡ length (names_of layout)
-  pub few : length columns.places.items ≤ 14
+  pub all : length columns.places.items ≡ length (needed_names columns.has_op layout)
+  pub few : length columns.places.items ≤ 15
   pub within : All (λ place. place < columns.width) columns.places.items

@@ -3,4 +3,4 @@ pub mod Texts
 pub mod Records
 pub mod Faults
 pub mod Columns
-pub mod Base
+pub mod Files

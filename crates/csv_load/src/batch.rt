@@ -1,101 +1,128 @@
-// The rows that a file brings.
-ghost use Rattle.std.specs.Prelude.{◌≡◌, ◌≤◌, ◌<◌, [], length};
-ghost use Rattle.csv_load.specs.Batch.{AreRows, IsBatch, amount_at, batch_of, row_at, text_at};
+// The changes that a file brings.
+ghost use Rattle.std.specs.Prelude.{◌≡◌, ◌≤◌, ◌<◌, [], length, false, not, count_by};
+ghost use Rattle.csv_load.specs.Batch.{AreChanges, IsBatch, amount_at, batch_of, change_at, id_of, inserted, is_deletion, row_of, text_at};
 
-use crate::texts::Texts;
+use crate::changes::Changes;
 use std::alloc::Global;
 use std::marker::Model;
 
-/// Rows that are not yet in a table, each with an id, a text in each dimension, and an amount of
-/// each measure. Rows are counted from 1, dimensions and measures from 0.
+/// Changes that are not yet made to a table: deletions by id, and insertions of rows, each with an
+/// id, a text in each dimension, and an amount of each measure. Changes are counted from 1,
+/// dimensions and measures from 0.
 #[derive(Drop)]
 pub struct RawBatch {
     dims: u8,
     measures: u8,
-    ids: Vec<u64>,
-    texts: Texts,
-    amounts: Vec<i64>,
+    changes: Changes,
 }
 
 impl Model for RawBatch {
-    ghost use Rattle.csv_load.specs.Batch.{AreRows, Batch, batch_of};
+    ghost use Rattle.csv_load.specs.Batch.{AreChanges, Batch, batch_of};
 
     ghost Value = { Batch };
 
-    ghost view = { λ b. batch_of b.dims b.measures b.ids.items b.texts b.amounts.items };
+    ghost view = { λ b. batch_of b.dims b.measures b.changes };
 
-    ghost invariant = { λ b. AreRows b.dims b.measures b.ids.items b.texts b.amounts.items };
+    ghost invariant = { λ b. AreChanges b.dims b.measures b.changes };
+}
+
+// How many flags are not set.
+fn count_false(flags: &[bool]) -> usize
+    ensures { result ≡ count_by not flags.now }
+{
+    flags.iter().filter(|flag| !**flag).count()
 }
 
 impl RawBatch {
-    /// No rows. It takes no memory.
+    /// No changes. It takes no memory.
     pub fn empty(alloc: Global, dims: u8, measures: u8) -> RawBatch
-        ensures { result ≡ record { dims = dims; measures = measures; rows = [] } }
+        ensures { result ≡ record { dims = dims; measures = measures; changes = [] } }
+    {
+        let changes = Changes::new(alloc);
+        RawBatch {
+            dims,
+            measures,
+            changes,
+        }
+    }
+
+    /// The changes that lie one behind the other.
+    pub(crate) fn of_changes(dims: u8, measures: u8, changes: Changes) -> RawBatch
+        requires { AreChanges dims measures changes }
+        ensures { result ≡ batch_of dims measures changes }
     {
         RawBatch {
             dims,
             measures,
-            ids: Vec::new(alloc),
-            texts: Texts::new(alloc),
-            amounts: Vec::new(alloc),
+            changes,
         }
     }
 
-    /// The rows whose ids, texts and amounts lie row behind row.
-    pub(crate) fn of_columns(
-        dims: u8,
-        measures: u8,
-        ids: Vec<u64>,
-        texts: Texts,
-        amounts: Vec<i64>,
-    ) -> RawBatch
-        requires { AreRows dims measures ids.items texts amounts.items }
-        ensures { result ≡ batch_of dims measures ids.items texts amounts.items }
-    {
-        RawBatch {
-            dims,
-            measures,
-            ids,
-            texts,
-            amounts,
-        }
-    }
-
-    /// How many rows there are.
+    /// How many changes there are.
     pub fn len(&self) -> u32
-        ensures count { result ≡ length self.now.rows }
+        ensures count { result ≡ length self.now.changes }
         ensures valid { IsBatch self.now }
     {
-        self.ids.len() as u32
+        self.changes.ids.len() as u32
     }
 
-    /// The id of a row.
+    /// How many of them are insertions.
+    pub fn insertions(&self) -> u32
+        ensures { result ≡ length (inserted self.now.changes) }
+    {
+        count_false(&self.changes.deletes) as u32
+    }
+
+    /// Whether a change is a deletion.
+    pub fn is_delete(&self, k: u32) -> bool
+        requires first { 1 ≤ k }
+        requires last { k ≤ length self.now.changes }
+        ensures { result ≡ is_deletion (change_at self.now.changes k) }
+    {
+        self.changes.deletes[k as usize - 1]
+    }
+
+    /// The id of the row that goes or comes.
     pub fn id(&self, k: u32) -> u64
         requires first { 1 ≤ k }
-        requires last { k ≤ length self.now.rows }
-        ensures { result ≡ (row_at self.now.rows k).id }
+        requires last { k ≤ length self.now.changes }
+        ensures { result ≡ id_of (change_at self.now.changes k) }
     {
-        self.ids[k as usize - 1]
+        self.changes.ids[k as usize - 1]
     }
 
-    /// The text of a row in a dimension.
+    /// The text of an inserted row in a dimension.
     pub fn text(&self, k: u32, dim: u8) -> &str
         requires first { 1 ≤ k }
-        requires last { k ≤ length self.now.rows }
+        requires last { k ≤ length self.now.changes }
+        requires insertion { is_deletion (change_at self.now.changes k) ≡ false }
         requires dim { dim < self.now.dims }
-        ensures { result.now ≡ text_at self.now.rows k dim }
+        ensures { result.now ≡ text_at self.now.changes k dim }
     {
         let at = (k as usize - 1) * self.dims as usize + dim as usize;
-        self.texts.get(at)
+        self.changes.texts.get(at)
     }
 
-    /// The amount of a row in a measure, in units of the last place of its scale.
+    /// The amounts of an inserted row, each in units of the last place of its measure's scale.
+    pub fn amounts(&self, k: u32) -> &[i64]
+        requires first { 1 ≤ k }
+        requires last { k ≤ length self.now.changes }
+        requires insertion { is_deletion (change_at self.now.changes k) ≡ false }
+        ensures { result.now ≡ (row_of (change_at self.now.changes k)).amounts }
+    {
+        let measures = self.measures as usize;
+        let start = (k as usize - 1) * measures;
+        &self.changes.amounts[start..start + measures]
+    }
+
+    /// The amount of an inserted row in a measure, in units of the last place of its scale.
     pub fn amount(&self, k: u32, measure: u8) -> i64
         requires first { 1 ≤ k }
-        requires last { k ≤ length self.now.rows }
+        requires last { k ≤ length self.now.changes }
+        requires insertion { is_deletion (change_at self.now.changes k) ≡ false }
         requires measure { measure < self.now.measures }
-        ensures { result ≡ amount_at self.now.rows k measure }
+        ensures { result ≡ amount_at self.now.changes k measure }
     {
-        self.amounts[(k as usize - 1) * self.measures as usize + measure as usize]
+        self.changes.amounts[(k as usize - 1) * self.measures as usize + measure as usize]
     }
 }

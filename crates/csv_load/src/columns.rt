@@ -1,10 +1,10 @@
 // Where a file has the columns that a schema names.
-ghost use Rattle.std.specs.Prelude.{◌≡◌, ◌<◌, ◌≤◌, [], length, IfOk, IfSome, option_map, slice_index_or};
+ghost use Rattle.std.specs.Prelude.{◌≡◌, ◌<◌, ◌≤◌, [], ◌∷◌, ◌++◌, codes, length, IfOk, IfSome, option_map, slice_index_or};
 ghost use Rattle.csv.specs.Records.{fields_of};
 ghost use Rattle.qc_schema.specs.Schema.{names_of};
-ghost use Rattle.csv_load.specs.Columns.{AreColumns, fields_at, place_from, places_in};
+ghost use Rattle.csv_load.specs.Columns.{AreColumns, fields_at, needed_names, place_from, places_in};
 
-use crate::rows::field;
+use crate::reader::field;
 use csv::ByteRecord;
 use qc_schema::Schema;
 use std::alloc::{AllocError, Global};
@@ -14,8 +14,11 @@ use std::alloc::{AllocError, Global};
 pub struct Columns {
     /// How many columns there are.
     pub width: usize,
-    /// The places of those of the id, the dimensions and the measures, in the schema's order.
+    /// The places of those of the id, the dimensions and the measures, in the schema's order, and
+    /// behind them that of the operation.
     pub places: Vec<usize>,
+    /// Whether records have an operation.
+    pub has_op: bool,
 }
 
 /// The field of a record in a needed column, counted from 0 in the schema's order.
@@ -43,31 +46,46 @@ fn place_of(header: &ByteRecord, name: &str) -> Option<usize>
     found
 }
 
-// The name of a needed column, counted from 0.
+// The name of a needed column, counted from 0; that of the operation stands behind the others.
 fn needed_name(schema: &Schema, column: usize) -> &str
-    requires { column < length (names_of schema.now) }
-    ensures { result.now ≡ slice_index_or (names_of schema.now) column [] }
+    requires { column ≤ length (names_of schema.now) }
+    ensures { result.now ≡ slice_index_or (names_of schema.now ++ codes "op" ∷ []) column [] }
 {
     let dims = schema.dims() as usize;
+    let measures = schema.measures() as usize;
     if column == 0 {
         schema.id_name()
     } else if column <= dims {
         schema.dim_name((column - 1) as u8)
-    } else {
+    } else if column <= dims + measures {
         schema.measure_name((column - 1 - dims) as u8)
+    } else {
+        "op"
     }
 }
 
-// The places of the needed columns, where each stands once.
-fn find_places(
+// How many columns are needed.
+fn needed_count(schema: &Schema, has_op: bool) -> usize
+    ensures count { result ≡ length (needed_names has_op schema.now) }
+    ensures few { result ≤ 15 }
+{
+    let count = 1 + schema.dims() as usize + schema.measures() as usize;
+    if has_op { count + 1 } else { count }
+}
+
+/// Finds the needed columns in a header, where each stands just once.
+pub fn find_columns(
     alloc: Global,
     schema: &Schema,
     header: &ByteRecord,
-) -> Result<Option<Vec<usize>>, AllocError>
-    ensures found { IfOk result (λ found. option_map (λ places. places.items) found ≡ places_in (fields_of header.now) (names_of schema.now)) }
-    ensures few { length (names_of schema.now) ≤ 14 }
+    has_op: bool,
+) -> Result<Option<Columns>, AllocError>
+    ensures found { IfOk result (λ found. option_map (λ columns. columns.places.items) found ≡ places_in (fields_of header.now) (needed_names has_op schema.now)) }
+    ensures width { IfOk result (λ found. IfSome found (λ columns. columns.width ≡ length (fields_of header.now))) }
+    ensures op { IfOk result (λ found. IfSome found (λ columns. columns.has_op ≡ has_op)) }
+    ensures are { IfOk result (λ found. IfSome found (λ columns. AreColumns schema.now columns)) }
 {
-    let count = 1 + schema.dims() as usize + schema.measures() as usize;
+    let count = needed_count(schema, has_op);
     let mut places = Vec::with_capacity(alloc, count)?;
     'names: for column in 0..count {
         let Some(place) = place_of(header, needed_name(schema, column)) else {
@@ -75,22 +93,10 @@ fn find_places(
         };
         places.push(place)?;
     }
-    Ok(Some(places))
-}
-
-/// Finds the columns of the schema in a header, where each stands just once.
-pub fn find_columns(
-    alloc: Global,
-    schema: &Schema,
-    header: &ByteRecord,
-) -> Result<Option<Columns>, AllocError>
-    ensures found { IfOk result (λ found. option_map (λ columns. columns.places.items) found ≡ places_in (fields_of header.now) (names_of schema.now)) }
-    ensures width { IfOk result (λ found. IfSome found (λ columns. columns.width ≡ length (fields_of header.now))) }
-    ensures are { IfOk result (λ found. IfSome found (λ columns. AreColumns schema.now columns)) }
-{
-    let Some(places) = find_places(alloc, schema, header)? else {
-        return Ok(None);
-    };
     let width = header.len();
-    Ok(Some(Columns { width, places }))
+    Ok(Some(Columns {
+        width,
+        places,
+        has_op,
+    }))
 }

@@ -1,17 +1,19 @@
-//! Reads files of comma-separated values into rows, by the columns of a schema.
+//! Reads files of comma-separated values into changes of a table, by the columns of a schema.
 #![tactic(auto)]
 
-mod base;
 mod batch;
+mod changes;
 mod columns;
+mod files;
+mod reader;
 mod reading;
-mod rows;
 #[cfg(test)]
 mod tests;
 mod texts;
 
-pub use base::{LoadRefused, read_base};
 pub use batch::RawBatch;
+pub use files::{LoadRefused, read_base, read_batch};
+pub use reader::{Rows, field};
 
 /// Memory ran out.
 pub type Memory = std::alloc::AllocError;

@@ -1,25 +1,26 @@
-// The rows of a file's records, read into columns.
-ghost use Rattle.std.specs.Prelude.{◌≡◌, ◌≤◌, ◌<◌, ◌+◌, ◌*◌, ◌^◌, ◌++◌, [], List, ℤ, Some, None, Ok, length, drop, true, false, IfOk, IfErr, OnOk, slice_range};
+// The changes of a file's records, read into columns.
+ghost use Rattle.std.specs.Prelude.{◌≡◌, ◌≤◌, ◌<◌, ◌+◌, ◌*◌, ◌^◌, ◌++◌, ℕ, [], Bool, List, ℤ, Some, None, Ok, length, true, false, IfOk, IfErr, OnOk};
 ghost use Rattle.std.specs.List.{list_all};
 ghost use Rattle.std.specs.Str.{is_utf8};
 ghost use Rattle.csv.specs.Records.{fields_of};
 ghost use Rattle.cube_defs.specs.Rows.{Row};
 ghost use Rattle.cube_defs.specs.Text.{Text};
-ghost use Rattle.csv_load.specs.Base.{AddsRow, amounts_in, is_short, row_in, rows_from};
-ghost use Rattle.csv_load.specs.Batch.{IsLoaded};
+ghost use Rattle.csv_load.specs.Batch.{Adds, change_with};
 ghost use Rattle.csv_load.specs.Columns.{AreColumns, fields_at};
 ghost use Rattle.csv_load.specs.Faults.{Fails, Gives, IsRefused};
+ghost use Rattle.csv_load.specs.Files.{Makes, amounts_of, change_in, change_with_id, changes_from, deletion_of, is_short, tuple_of};
 ghost use Rattle.csv_load.specs.Texts.{bytes_in, bytes_in_all};
 
-use crate::base::LoadRefused;
 use crate::batch::RawBatch;
+use crate::changes::Changes;
 use crate::columns::{Columns, needed_field};
-use crate::rows::Rows;
+use crate::files::LoadRefused;
+use crate::reader::Rows;
 use crate::texts::Texts;
 use aggregates::{read_amount, read_id};
 use csv::ByteRecord;
 use qc_schema::Schema;
-use std::alloc::Global;
+use std::alloc::AllocError;
 
 const LONGEST_TEXT: usize = 255;
 
@@ -34,10 +35,10 @@ fn push_texts(
     requires columns { AreColumns schema.now columns.now }
     requires width { length (fields_of row.now) ≡ columns.now.width }
     requires room { bytes_in texts.old + bytes_in (fields_at columns.now.places.items (fields_of row.now)) < 2 ^ 32 }
-    ensures ok { OnOk result (texts.new ≡ texts.old ++ slice_range (fields_at columns.now.places.items (fields_of row.now)) 1 (1 + length schema.now.dims)) }
-    ensures utf8 { OnOk result (list_all is_utf8 (slice_range (fields_at columns.now.places.items (fields_of row.now)) 1 (1 + length schema.now.dims)) ≡ true) }
-    ensures short { IfOk result (λ short. short ≡ list_all is_short (slice_range (fields_at columns.now.places.items (fields_of row.now)) 1 (1 + length schema.now.dims))) }
-    ensures err { IfErr result (λ e. IsRefused e (LoadRefused.Utf8 number) (list_all is_utf8 (slice_range (fields_at columns.now.places.items (fields_of row.now)) 1 (1 + length schema.now.dims)) ≡ false)) }
+    ensures ok { OnOk result (texts.new ≡ texts.old ++ tuple_of schema.now (fields_at columns.now.places.items (fields_of row.now))) }
+    ensures utf8 { OnOk result (list_all is_utf8 (tuple_of schema.now (fields_at columns.now.places.items (fields_of row.now))) ≡ true) }
+    ensures short { IfOk result (λ short. short ≡ list_all is_short (tuple_of schema.now (fields_at columns.now.places.items (fields_of row.now)))) }
+    ensures err { IfErr result (λ e. IsRefused e (LoadRefused.Utf8 number) (list_all is_utf8 (tuple_of schema.now (fields_at columns.now.places.items (fields_of row.now))) ≡ false)) }
 {
     let mut are_short = true;
     for dim in 0..schema.dims() {
@@ -53,6 +54,23 @@ fn push_texts(
     Ok(are_short)
 }
 
+// Whether a record is a deletion, where it has an operation that is one.
+fn read_kind(schema: &Schema, columns: &Columns, row: &ByteRecord) -> Option<bool>
+    requires columns { AreColumns schema.now columns.now }
+    requires width { length (fields_of row.now) ≡ columns.now.width }
+    ensures { result ≡ deletion_of columns.now.has_op schema.now (fields_at columns.now.places.items (fields_of row.now)) }
+{
+    if !columns.has_op {
+        return Some(false);
+    }
+    let place = 1 + schema.dims() as usize + schema.measures() as usize;
+    match needed_field(columns, row, place) {
+        b"-" => Some(true),
+        b"+" => Some(false),
+        _ => None,
+    }
+}
+
 // Puts the amounts of a record behind the others.
 fn push_amounts(
     schema: &Schema,
@@ -63,8 +81,8 @@ fn push_amounts(
 ) -> Result<(), LoadRefused>
     requires columns { AreColumns schema.now columns.now }
     requires width { length (fields_of row.now) ≡ columns.now.width }
-    ensures ok { OnOk result ((more : List ℤ) × (amounts_in schema.now.measures (drop (1 + length schema.now.dims) (fields_at columns.now.places.items (fields_of row.now))) ≡ Some more) × (amounts.new.items ≡ amounts.old.items ++ more)) }
-    ensures err { IfErr result (λ e. IsRefused e (LoadRefused.Amount number) (amounts_in schema.now.measures (drop (1 + length schema.now.dims) (fields_at columns.now.places.items (fields_of row.now))) ≡ None)) }
+    ensures ok { OnOk result ((more : List ℤ) × (amounts_of schema.now (fields_at columns.now.places.items (fields_of row.now)) ≡ Some more) × (amounts.new.items ≡ amounts.old.items ++ more)) }
+    ensures err { IfErr result (λ e. IsRefused e (LoadRefused.Amount number) (amounts_of schema.now (fields_at columns.now.places.items (fields_of row.now)) ≡ None)) }
 {
     let first = 1 + schema.dims() as usize;
     for measure in 0..schema.measures() {
@@ -77,67 +95,96 @@ fn push_amounts(
     Ok(())
 }
 
-// Puts the row of a record behind the others. After a refusal they are of no use.
-fn push_row(
+// Puts zeros behind the others.
+fn push_zeros(count: u8, amounts: &mut Vec<i64>) -> Result<(), AllocError>
+    ensures { OnOk result ((zeros : List ℤ) × (length zeros ≡ count) × (amounts.new.items ≡ amounts.old.items ++ zeros)) }
+{
+    'zeros: for _ in 0..count {
+        amounts.push(0)?;
+    }
+    Ok(())
+}
+
+// Puts the amounts of an insertion behind the others, where its texts are short, and zeros for a
+// deletion.
+fn push_amounts_or_zeros(
     schema: &Schema,
     columns: &Columns,
     row: &ByteRecord,
     number: u32,
-    ids: &mut Vec<u64>,
-    texts: &mut Texts,
+    deletes: bool,
+    are_short: bool,
     amounts: &mut Vec<i64>,
 ) -> Result<(), LoadRefused>
     requires columns { AreColumns schema.now columns.now }
-    requires room { bytes_in texts.old + bytes_in (fields_at columns.now.places.items (fields_of row.now)) < 2 ^ 32 }
-    ensures ok { OnOk result ((added : Row Text) × (row_in schema.now columns.now.width columns.now.places.items number (fields_of row.now) ≡ Ok added) × IsLoaded (length schema.now.dims) (length schema.now.measures) added × AddsRow added ids.old.items ids.new.items texts.old texts.new amounts.old.items amounts.new.items) }
-    ensures size { OnOk result (bytes_in texts.new ≤ bytes_in texts.old + bytes_in (fields_at columns.now.places.items (fields_of row.now))) }
-    ensures err { IfErr result (λ e. Fails e (row_in schema.now columns.now.width columns.now.places.items number (fields_of row.now))) }
+    requires width { length (fields_of row.now) ≡ columns.now.width }
+    requires short { are_short ≡ list_all is_short (tuple_of schema.now (fields_at columns.now.places.items (fields_of row.now))) }
+    ensures ok { OnOk result ((more : List ℤ) × (length more ≡ length schema.now.measures) × (amounts.new.items ≡ amounts.old.items ++ more) × Makes schema.now number (fields_at columns.now.places.items (fields_of row.now)) deletes more) }
+    ensures err { IfErr result (λ e. (id : ℕ) → Fails e (change_with_id number (Some deletes) (Some id) (tuple_of schema.now (fields_at columns.now.places.items (fields_of row.now))) (amounts_of schema.now (fields_at columns.now.places.items (fields_of row.now))))) }
 {
-    if row.len() != columns.width {
-        return Err(LoadRefused::Fields(number));
+    if deletes {
+        push_zeros(schema.measures(), amounts)?;
+        return Ok(());
     }
-    let are_short = push_texts(schema, columns, row, number, texts)?;
-    let Some(id) = read_id(needed_field(columns, row, 0)) else {
-        return Err(LoadRefused::Id(number));
-    };
     push_amounts(schema, columns, row, number, amounts)?;
     if !are_short {
         return Err(LoadRefused::Value(number));
     }
-    ids.push(id)?;
     Ok(())
 }
 
-/// Reads the rows of the records that are left. `texts` has room for their texts.
-pub fn read_rows(
-    alloc: Global,
+// Puts the change of a record behind the others. After a refusal they are of no use.
+fn push_change(
+    schema: &Schema,
+    columns: &Columns,
+    row: &ByteRecord,
+    number: u32,
+    changes: &mut Changes,
+) -> Result<(), LoadRefused>
+    requires columns { AreColumns schema.now columns.now }
+    requires room { bytes_in changes.old.texts + bytes_in (fields_at columns.now.places.items (fields_of row.now)) < 2 ^ 32 }
+    ensures ok { OnOk result ((deletes : Bool) × (added : Row Text) × (change_in columns.now.has_op schema.now columns.now.width columns.now.places.items number (fields_of row.now) ≡ Ok (change_with deletes added)) × (length added.tuple ≡ length schema.now.dims) × (length added.amounts ≡ length schema.now.measures) × Adds deletes added changes.old changes.new) }
+    ensures size { OnOk result (bytes_in changes.new.texts ≤ bytes_in changes.old.texts + bytes_in (fields_at columns.now.places.items (fields_of row.now))) }
+    ensures err { IfErr result (λ e. Fails e (change_in columns.now.has_op schema.now columns.now.width columns.now.places.items number (fields_of row.now))) }
+{
+    if row.len() != columns.width {
+        return Err(LoadRefused::Fields(number));
+    }
+    let are_short = push_texts(schema, columns, row, number, &mut changes.texts)?;
+    let Some(deletes) = read_kind(schema, columns, row) else {
+        return Err(LoadRefused::Op(number));
+    };
+    let Some(id) = read_id(needed_field(columns, row, 0)) else {
+        return Err(LoadRefused::Id(number));
+    };
+    let amounts = &mut changes.amounts;
+    push_amounts_or_zeros(schema, columns, row, number, deletes, are_short, amounts)?;
+    changes.push_id(id, deletes)?;
+    Ok(())
+}
+
+/// Reads the changes of the records that are left, and puts them into `changes`.
+pub fn read_changes(
     schema: &Schema,
     columns: &Columns,
     rows: &mut Rows,
     row: &mut ByteRecord,
-    mut texts: Texts,
+    mut changes: Changes,
 ) -> Result<RawBatch, LoadRefused>
     requires columns { AreColumns schema.now columns.now }
-    requires empty { texts ≡ [] }
+    requires ids { changes.ids.items ≡ [] }
+    requires deletes { changes.deletes.items ≡ [] }
+    requires texts { changes.texts ≡ [] }
+    requires amounts { changes.amounts.items ≡ [] }
     requires few { length rows.old + 1 < 2 ^ 32 }
-    requires room { 14 * bytes_in_all rows.old < 2 ^ 32 }
-    ensures gives { Gives result (rows_from schema.now columns.now.width columns.now.places.items 1 rows.old) }
+    requires room { 15 * bytes_in_all rows.old < 2 ^ 32 }
+    ensures gives { Gives result (changes_from columns.now.has_op schema.now columns.now.width columns.now.places.items 1 rows.old) }
     ensures dims { IfOk result (λ batch. batch.dims ≡ length schema.now.dims) }
     ensures measures { IfOk result (λ batch. batch.measures ≡ length schema.now.measures) }
 {
-    let mut ids = Vec::new(alloc);
-    let mut amounts = Vec::new(alloc);
     'records: while rows.next(row)? {
-        let number = ids.len() as u32 + 1;
-        push_row(
-            schema,
-            columns,
-            row,
-            number,
-            &mut ids,
-            &mut texts,
-            &mut amounts,
-        )?;
+        let number = changes.ids.len() as u32 + 1;
+        push_change(schema, columns, row, number, &mut changes)?;
     }
-    Ok(RawBatch::of_columns(schema.dims(), schema.measures(), ids, texts, amounts))
+    Ok(RawBatch::of_changes(schema.dims(), schema.measures(), changes))
 }

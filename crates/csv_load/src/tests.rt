@@ -1,7 +1,7 @@
-// Base files, good and bad.
-ghost use Rattle.std.specs.Prelude.{◌≡◌, ◌≤◌, length};
+// Base files and batches, good and bad.
+ghost use Rattle.std.specs.Prelude.{◌≡◌, ◌≤◌, length, IfOk};
 
-use crate::{LoadRefused, RawBatch, read_base};
+use crate::{LoadRefused, RawBatch, read_base, read_batch};
 use qc_schema::{Schema, read_schema};
 use std::alloc::{AllocError, Global};
 use std::test::Fail;
@@ -11,8 +11,9 @@ const ONE_DIM: &[u8] = b"qcube 1\nid id\ndim a\nmeasure m 2\n";
 const SHOP: &[u8] =
     b"qcube 1\nid order\ndim store\ndim product\ndim season\nmeasure sale 2\nindex sum sale\n";
 
-// Puts the id, the texts and the amounts of a row behind a text, and `;` behind each.
-fn list_row(
+// Puts a change behind a text: `-` and the id of a deletion, or the id, the texts and the amounts of
+// a row, with `;` behind each.
+fn list_change(
     alloc: Global,
     schema: &Schema,
     batch: &RawBatch,
@@ -22,9 +23,12 @@ fn list_row(
     requires dims { batch.now.dims ≡ length schema.now.dims }
     requires measures { batch.now.measures ≡ length schema.now.measures }
     requires first { 1 ≤ k }
-    requires last { k ≤ length batch.now.rows }
+    requires last { k ≤ length batch.now.changes }
 {
     let id = batch.id(k);
+    if batch.is_delete(k) {
+        return list.push_str(&format!(in alloc; "-{id}\n")?);
+    }
     list.push_str(&format!(in alloc; "{id};")?)?;
     for dim in 0..schema.dims() {
         list.push_str(batch.text(k, dim))?;
@@ -37,19 +41,38 @@ fn list_row(
     list.push_str("\n")
 }
 
-// The rows, a line each.
+// The changes, a line each.
 fn list(alloc: Global, schema: &Schema, batch: &RawBatch) -> Result<String, AllocError>
     requires dims { batch.now.dims ≡ length schema.now.dims }
     requires measures { batch.now.measures ≡ length schema.now.measures }
 {
     let mut list = String::new(alloc);
     for place in 0..batch.len() {
-        list_row(alloc, schema, batch, place + 1, &mut list)?;
+        list_change(alloc, schema, batch, place + 1, &mut list)?;
     }
     Ok(list)
 }
 
-// Whether the file has these rows, or is refused so.
+// Whether a reading has these changes, or this refusal.
+fn agrees(
+    alloc: Global,
+    schema: &Schema,
+    read: Result<RawBatch, LoadRefused>,
+    want: Result<&str, LoadRefused>,
+) -> Result<bool, AllocError>
+    requires dims { IfOk read (λ batch. batch.dims ≡ length schema.now.dims) }
+    requires measures { IfOk read (λ batch. batch.measures ≡ length schema.now.measures) }
+{
+    match read {
+        Ok(batch) => match want {
+            Ok(changes) => Ok(list(alloc, schema, &batch)?.as_str() == changes),
+            Err(_) => Ok(false),
+        },
+        Err(refused) => Ok(want == Err(refused)),
+    }
+}
+
+// Whether the base file has these rows, or is refused so.
 fn reads_as(
     alloc: Global,
     schema: &Schema,
@@ -58,13 +81,19 @@ fn reads_as(
 ) -> Result<bool, AllocError>
     requires { length file.now ≤ 10000 }
 {
-    match read_base(alloc, schema, file) {
-        Ok(batch) => match want {
-            Ok(rows) => Ok(list(alloc, schema, &batch)?.as_str() == rows),
-            Err(_) => Ok(false),
-        },
-        Err(refused) => Ok(want == Err(refused)),
-    }
+    agrees(alloc, schema, read_base(alloc, schema, file), want)
+}
+
+// Whether the batch has these changes, or is refused so.
+fn batch_reads_as(
+    alloc: Global,
+    schema: &Schema,
+    file: &[u8],
+    want: Result<&str, LoadRefused>,
+) -> Result<bool, AllocError>
+    requires { length file.now ≤ 10000 }
+{
+    agrees(alloc, schema, read_batch(alloc, schema, file), want)
 }
 
 #[test]
@@ -177,9 +206,83 @@ fn numbers(rt: HostRuntime) -> Result<(), Fail> {
     Ok(())
 }
 
+#[test]
+fn batches(rt: HostRuntime) -> Result<(), Fail> {
+    let schema = read_schema(rt.alloc(), ONE_DIM).map_err(|_| "schema")?;
+    let cases = [
+        (
+            b"op,id,a,m\n+,1,x,5\n-,2,y,6\n".as_slice(),
+            Ok("1;x;500;\n-2\n"),
+        ),
+        (
+            b"m,note,a,op,id\n5,?,x,+,1\n,\xff,,-,2\n",
+            Ok("1;x;500;\n-2\n"),
+        ),
+        (
+            b"op,id,a,m\n-,7,x,1\n+,7,x,1\n-,7,x,1\n",
+            Ok("-7\n7;x;100;\n-7\n"),
+        ),
+        (b"\"op\",id,a,m\n\"+\",1,x,5\n", Ok("1;x;500;\n")),
+        (b"\xef\xbb\xbfop,id,a,m\n-,1,x,5\n", Ok("-1\n")),
+        (b"op,id,a,m\n", Ok("")),
+        (b"", Err(LoadRefused::Header)),
+        (
+            b"\xef\xbb\xbf\xef\xbb\xbfop,id,a,m\n",
+            Err(LoadRefused::Header),
+        ),
+        (b"id,a,m\n1,x,5\n", Err(LoadRefused::Header)),
+        (b"Op,id,a,m\n+,1,x,5\n", Err(LoadRefused::Header)),
+        (b"op,id,a,m,op\n+,1,x,5,+\n", Err(LoadRefused::Header)),
+        (b"op,id,a\n-,1,x\n", Err(LoadRefused::Header)),
+        (b"op,id,a,m\n+,1,x\n", Err(LoadRefused::Fields(1))),
+        (b"op,id,a,m\n+,1,\xff,5\n", Err(LoadRefused::Utf8(1))),
+        (b"op,id,a,m\n-,1,\xff,5\n", Err(LoadRefused::Utf8(1))),
+        (b"op,id,a,m\nx,1,x,5\n", Err(LoadRefused::Op(1))),
+        (b"op,id,a,m\n +,1,x,5\n", Err(LoadRefused::Op(1))),
+        (b"op,id,a,m\n++,1,x,5\n", Err(LoadRefused::Op(1))),
+        (b"op,id,a,m\n,1,x,5\n", Err(LoadRefused::Op(1))),
+        (
+            b"op,id,a,m\n+,1,x,5\n-,2,y,6\n?,3,z,7\n",
+            Err(LoadRefused::Op(3)),
+        ),
+        (b"op,id,a,m\n+,4a,x,5\n", Err(LoadRefused::Id(1))),
+        (b"op,id,a,m\n-,4a,x,5\n", Err(LoadRefused::Id(1))),
+        (
+            b"op,id,a,m\n-,18446744073709551615,x,5\n",
+            Ok("-18446744073709551615\n"),
+        ),
+        (
+            b"op,id,a,m\n-,18446744073709551616,x,5\n",
+            Err(LoadRefused::Id(1)),
+        ),
+        (
+            b"op,id,a,m\n+,1,x,1000000000000\n",
+            Err(LoadRefused::Amount(1)),
+        ),
+        (b"op,id,a,m\n-,1,x,1000000000000\n", Ok("-1\n")),
+        (b"op,id,a,m\n-,1,x,y\n", Ok("-1\n")),
+        (b"op,id,a,m\nx,1,\xff\n", Err(LoadRefused::Fields(1))),
+        (b"op,id,a,m\nx,1,\xff,5\n", Err(LoadRefused::Utf8(1))),
+        (b"m,a,id,op\n5,x,4a,x\n", Err(LoadRefused::Op(1))),
+        (b"m,a,id,op\ny,x,4a,+\n", Err(LoadRefused::Id(1))),
+        (
+            b"op,id,a,m\n+,1,x,y\nx,1,x,5\n",
+            Err(LoadRefused::Amount(1)),
+        ),
+    ];
+    for (case, (file, want)) in cases.into_iter().enumerate() {
+        assert!(rt; file.len() < 10_000);
+        assert!(rt;
+            batch_reads_as(rt.alloc(), &schema, file, want)?,
+            "batch {case}"
+        );
+    }
+    Ok(())
+}
+
 // A file of one record, whose one text has so many bytes.
-fn with_text(rt: &HostRuntime, size: usize, amount: &[u8]) -> Result<Vec<u8>, Fail> {
-    let mut file = b"id,a,m\n1,".to_vec(rt.alloc())?;
+fn with_text(rt: &HostRuntime, front: &[u8], size: usize, amount: &[u8]) -> Result<Vec<u8>, Fail> {
+    let mut file = front.to_vec(rt.alloc())?;
     for _ in 0..size {
         file.push(b'x')?;
     }
@@ -192,15 +295,38 @@ fn with_text(rt: &HostRuntime, size: usize, amount: &[u8]) -> Result<Vec<u8>, Fa
 fn long_texts(rt: HostRuntime) -> Result<(), Fail> {
     let schema = read_schema(rt.alloc(), ONE_DIM).map_err(|_| "schema")?;
     let cases = [
-        (255, b"5".as_slice(), None),
-        (256, b"5", Some(LoadRefused::Value(1))),
-        (256, b"y", Some(LoadRefused::Amount(1))),
+        (b"id,a,m\n1,".as_slice(), 255, b"5".as_slice(), None),
+        (b"id,a,m\n1,", 256, b"5", Some(LoadRefused::Value(1))),
+        (b"id,a,m\n1,", 256, b"y", Some(LoadRefused::Amount(1))),
     ];
-    for (size, amount, want) in cases {
-        let file = with_text(&rt, size, amount)?;
+    for (front, size, amount, want) in cases {
+        let file = with_text(&rt, front, size, amount)?;
         assert!(rt; file.len() < 10_000);
         assert_eq!(rt;
             read_base(rt.alloc(), &schema, &file).err(),
+            want,
+            "{size} bytes"
+        );
+    }
+    Ok(())
+}
+
+#[test]
+fn long_texts_of_batches(rt: HostRuntime) -> Result<(), Fail> {
+    let schema = read_schema(rt.alloc(), ONE_DIM).map_err(|_| "schema")?;
+    let cases = [
+        (b"op,id,a,m\n+,1,".as_slice(), 255, b"5".as_slice(), None),
+        (b"op,id,a,m\n+,1,", 256, b"5", Some(LoadRefused::Value(1))),
+        (b"op,id,a,m\n+,1,", 256, b"y", Some(LoadRefused::Amount(1))),
+        (b"op,id,a,m\n-,1,", 256, b"y", None),
+        (b"op,id,a,m\nx,1,", 256, b"5", Some(LoadRefused::Op(1))),
+        (b"op,id,a,m\n+,x,", 256, b"5", Some(LoadRefused::Id(1))),
+    ];
+    for (front, size, amount, want) in cases {
+        let file = with_text(&rt, front, size, amount)?;
+        assert!(rt; file.len() < 10_000);
+        assert_eq!(rt;
+            read_batch(rt.alloc(), &schema, &file).err(),
             want,
             "{size} bytes"
         );
@@ -224,6 +350,18 @@ fn a_spreadsheet(rt: HostRuntime) -> Result<(), Fail> {
 fn without_a_measure(rt: HostRuntime) -> Result<(), Fail> {
     let schema = read_schema(rt.alloc(), b"qcube 1\nid id\ndim a\ndim b\n").map_err(|_| "schema")?;
     assert!(rt; reads_as(rt.alloc(), &schema, b"b,m,id,a\ny,?,1,x\n", Ok("1;x;y;\n"))?);
+    Ok(())
+}
+
+#[test]
+fn counts(rt: HostRuntime) -> Result<(), Fail> {
+    let schema = read_schema(rt.alloc(), ONE_DIM).map_err(|_| "schema")?;
+    let file = b"op,id,a,m\n+,1,x,5\n-,2,y,6\n+,3,z,-7\n";
+    let batch = read_batch(rt.alloc(), &schema, file).map_err(|_| "batch")?;
+    assert_eq!(rt; batch.len(), 3);
+    assert_eq!(rt; batch.insertions(), 2);
+    assert!(rt; !batch.is_delete(3));
+    assert!(rt; batch.amounts(3) == [-700].as_slice());
     Ok(())
 }
 

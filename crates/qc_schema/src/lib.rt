@@ -11,6 +11,7 @@ mod spelling;
 mod tests;
 mod words;
 
+pub use lines::{split_line, trim_cr, trim_mark};
 pub use refusal::{SchemaCause, SchemaRefused};
 pub use schema::{Schema, read_schema};
 pub use spelling::schema_text;

@@ -11,6 +11,7 @@ pub fn split_line(text: &[u8]) -> (&[u8], &[u8])
     requires { 0 < length text.now }
     ensures lines { lines_of text.now ≡ result.0.now ∷ lines_of result.1.now }
     ensures shorter { length result.1.now < length text.now }
+    ensures within { length result.0.now ≤ length text.now }
 {
     for (i, b) in text.iter().enumerate() {
         if *b == b'\n' {
@@ -22,7 +23,8 @@ pub fn split_line(text: &[u8]) -> (&[u8], &[u8])
 
 /// A line without the CR at its end.
 pub fn trim_cr(line: &[u8]) -> &[u8]
-    ensures { result.now ≡ without_cr line.now }
+    ensures value { result.now ≡ without_cr line.now }
+    ensures within { length result.now ≤ length line.now }
 {
     if let Some(b'\r') = line.last() {
         &line[..line.len() - 1]

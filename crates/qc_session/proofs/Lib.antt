@@ -1,11 +1,7 @@
-pub mod Splits
-pub mod Texts
+pub mod Asked
+pub mod Ended
+pub mod Names
+pub mod Refused
 pub mod Records
-pub mod Commands
 pub mod Steps
 pub mod Refusals
-pub mod Totals
-pub mod FirstFull
-pub mod Learnt
-pub mod Twice
-pub mod Stores

@@ -10,7 +10,8 @@ use Rattle.cube_defs.specs.Rows.{Part, part_of}
 use Rattle.qc_schema.specs.Schema.{Measure, no_measure}
 use Rattle.cell_core.specs.declared.fields.Field.{Field}
 use Rattle.qc_session.specs.Replies.{entry_text, part_texts, parts_texts, record_text}
-use Rattle.qc_session.specs.Points.{cell_of_fields, entry_asked, fields_text}
+use Rattle.qc_session.specs.Points.{fields_text}
+use Rattle.qc_session.specs.Answers.{cell_asked, entry_asked}
 
 regroup-three : (w x y z : List ℕ) → ((w ++ x) ++ y) ++ z ≡ w ++ (x ++ (y ++ z))
 regroup-three w x y z = simp append_assoc
@@ -33,14 +34,14 @@ record-fields x (y ∷ ys) = ap (λ (z : List ℕ). x ++ 44 ∷ z) (record-field
 
 -- the asked fields with one more
 pub cell-more : (cell : List Field) (k : ℕ) (f : Field) → slice_get cell k ≡ Some f
-    → fields_text (map entry_text (cell_of_fields (take (k + 1) cell))) ≡ fields_text (map entry_text (cell_of_fields (take k cell))) ++ 44 ∷ entry_text (entry_asked f)
+    → fields_text (map entry_text (cell_asked (take (k + 1) cell))) ≡ fields_text (map entry_text (cell_asked (take k cell))) ++ 44 ∷ entry_text (entry_asked f)
 cell-more cell k f e = rw add-one (by cell k e)
   where
     some : {f g : Field} → Some f ≡ Some g → f ≡ g
     some e = cc
 
     by : (cell : List Field) (k : ℕ) → slice_get cell k ≡ Some f
-        → fields_text (map entry_text (cell_of_fields (take (suc k) cell))) ≡ fields_text (map entry_text (cell_of_fields (take k cell))) ++ 44 ∷ entry_text (entry_asked f)
+        → fields_text (map entry_text (cell_asked (take (suc k) cell))) ≡ fields_text (map entry_text (cell_asked (take k cell))) ++ 44 ∷ entry_text (entry_asked f)
     by [] k e = cc
     by (g ∷ cell) zero e = rw (some e) (ap (λ (z : List ℕ). 44 ∷ z) (append-nil (entry_text (entry_asked f))))
     by (g ∷ cell) (suc k) e = ap (λ (z : List ℕ). 44 ∷ entry_text (entry_asked g) ++ z) (by cell k e) ∙ ap (λ (z : List ℕ). 44 ∷ z) (sym (append_assoc (entry_text (entry_asked g)) _ _))

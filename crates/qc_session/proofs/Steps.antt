@@ -9,9 +9,10 @@ use Rattle.qc_io.specs.Outside.{Told, taking}
 use Rattle.qc_schema.specs.Schema.{Layout}
 use Rattle.qc_session.specs.Lines.{is_passed}
 use Rattle.qc_session.specs.Replies.{memory_text}
-use Rattle.qc_session.specs.Answers.{State, Load, answer, empty, command_of}
+use Rattle.qc_session.specs.Answers.{answer, file_of}
+use Rattle.warehouse.specs.State.{State, empty}
 use Rattle.qc_session.specs.Transcript.{Item, Run, is_skipped, item, items, run_at, step, transcript}
-use Rattle.qc_session.specs.Runs.{AreRising, AreSkipped, StoppedAt, StoppedWriting, Took, Wrote, line_at, may_skip}
+use Rattle.qc_session.specs.Runs.{AreRising, AreSkipped, StoppedAt, StoppedWriting, Took, Wrote, WroteAll, line_at, may_skip}
 use Rattle.std.specs.Prelude.{⊤}
 use Rattle.qc_session.specs.declared.session.Stop.{Stop}
 use Rattle.qc_session.specs.declared.session.Stop.TheVariants as stops
@@ -154,7 +155,7 @@ front-push (Some t) schema skipped new lines line rest number state state2 first
     }
 
 pub stopped-at : (told : Option Told) (sure : Type 0) (schema : Layout) (skipped new : List ℕ) (lines : List (List ℕ)) (line : List ℕ) (rest : List (List ℕ)) (name : List ℕ) (state : State) (first before now : Option (List ℕ))
-    → command_of line ≡ Load name → new ≡ skipped → now ≡ before → WroteSoFar told schema skipped lines state first before
+    → file_of (length state.schema.dims) line ≡ Some name → new ≡ skipped → now ≡ before → WroteSoFar told schema skipped lines state first before
     → (sure → IfSome told (λ t. t name ≡ None)) → (all : List (List ℕ)) → all ≡ lines ++ line ∷ rest
     → IfSome told (λ t. StoppedAt t sure schema new all name first now)
 stopped-at None sure schema skipped new lines line rest name state first before now names is stays w untold all split = tt
@@ -169,11 +170,11 @@ stopped-at (Some t) sure schema skipped new lines line rest name state first bef
 }
 
 pub wrote-all : (told : Option Told) (schema : Layout) (skipped : List ℕ) (lines all : List (List ℕ)) (state : State) (first now : Option (List ℕ)) → all ≡ lines ++ [] → WroteSoFar told schema skipped lines state first now
-    → IfSome told (λ t. Wrote t schema skipped all first now)
+    → IfSome told (λ t. WroteAll t schema skipped all (Some state) first now)
 wrote-all None schema skipped lines all state first now e w = tt
 wrote-all (Some t) schema skipped lines all state first now e w =
     let same : all ≡ lines = e ∙ append-nil lines in
-    record { state = state; replies = w.replies; took = rw same w.took; wrote = w.wrote }
+    record { wrote = record { state = state; replies = w.replies; took = rw same w.took; wrote = w.wrote }; ended = refl }
 
 pub skips-up_to : (number : ℕ) (line old new : List ℕ) → AreUpTo number old → Skips old (number + 1) line new → AreUpTo (number + 1) new
 skips-up_to number line old new up (inl same) = rw same (wider old up)
@@ -246,5 +247,5 @@ if_write (stops.Read name) Q R f h = tt
 if_write stops.Write Q R f h = f h
 
 pub if_read : (stop : Stop) (P Q R S : List ℕ → Type 0) → ((name : List ℕ) → P name → Q name → R name → S name) → IfStop stop P ⊤ → IfStop stop Q ⊤ → IfStop stop R ⊤ → IfStop stop S ⊤
-if_read (stops.Read name) P Q R S f p q r = f name.now p q r
+if_read (stops.Read name) P Q R S f p q r = f name p q r
 if_read stops.Write P Q R S f p q r = tt

@@ -1,9 +1,7 @@
 pub mod Lines
 pub mod Replies
 pub mod Reply
-pub mod Learning
 pub mod Answers
-pub mod Stores
 pub mod Points
 pub mod Transcript
 pub mod Runs

@@ -1,58 +1,61 @@
 -- The bytes of replies.
-use Rattle.std.specs.Prelude.{ℕ, Option, Some, None, List, [], ◌∷◌, ◌++◌, map, codes, decimal}
-use Rattle.std.specs.List.{join_with_byte}
+use Rattle.std.specs.Prelude.{ℕ, Bool, false, ◌==◌, ◌||◌, Option, Some, None, List, [], ◌∷◌, ◌++◌, map, codes, decimal, slice_index_or, if◌then◌else◌}
+use Rattle.std.specs.List.{flat_map, join_with_byte, list_any}
+use Rattle.std.specs.Str.{bytes_eq}
 use Rattle.cube_defs.specs.Text.{Text}
 use Rattle.cube_defs.specs.Cell.{Cell}
 use Rattle.cube_defs.specs.Rows.{Agg, Part, mean_of}
 use Rattle.aggregates.specs.Texts.{amount_text, ratio_text}
-use Rattle.qc_schema.specs.Schema.{Measure}
-use Rattle.qc_session.specs.declared.reply.RecordFault.{RecordFault}
-use Rattle.qc_session.specs.declared.reply.RecordFault.TheVariants as faults
+use Rattle.csv_load.specs.Faults as files
+use Rattle.qc_schema.specs.Schema.{Layout, Measure}
+use Rattle.query_script.specs.Faults as lines
+use Rattle.query_script.specs.Fields.{is_several}
+use Rattle.warehouse.specs.Batch as batches
 
 -- fields joined by commas, ended by LF
 abbrev pub record_text : List Text → List ℕ
 record_text fields = join_with_byte 44 fields ++ 10 ∷ []
 
--- what is wrong with a record of a file
-abbrev pub fault_code : RecordFault → Text
-fault_code faults.Fields = codes "fields"
-fault_code faults.Utf8 = codes "utf8"
-fault_code faults.Id = codes "id"
-fault_code faults.Amount = codes "amount"
-fault_code faults.Value = codes "value"
-fault_code faults.Twice = codes "twice"
+-- a word, and a number behind it
+abbrev pub numbered : Text → ℕ → List Text
+numbered word k = word ∷ decimal k ∷ []
 
--- why a line is refused: for what the line is, or for the file or the rows that it names
-pub data Refusal : Type 0 where
-  Utf8 : Refusal
-  Command : Refusal
-  Field : ℕ → Refusal
-  Form : Refusal
-  Size : Refusal
-  NotEmpty : Refusal
-  Header : Refusal
-  Record : RecordFault → ℕ → Refusal
-  Rows : Refusal
-  Values : Text → Refusal
+-- the code of a refusal, and what it says of it: for what the line is
+abbrev pub line_texts : lines.LineFault → List Text
+line_texts lines.Utf8 = codes "utf8" ∷ []
+line_texts lines.Command = codes "command" ∷ []
+line_texts (lines.Field k) = numbered (codes "field") k
+line_texts lines.Number = codes "number" ∷ []
 
--- its code, and what it says of it
-abbrev pub refusal_texts : Refusal → List Text
-refusal_texts Utf8 = codes "utf8" ∷ []
-refusal_texts Command = codes "command" ∷ []
-refusal_texts (Field k) = codes "field" ∷ decimal k ∷ []
-refusal_texts Form = codes "form" ∷ []
-refusal_texts Size = codes "size" ∷ []
-refusal_texts NotEmpty = codes "not-empty" ∷ []
-refusal_texts Header = codes "header" ∷ []
-refusal_texts (Record fault k) = fault_code fault ∷ decimal k ∷ []
-refusal_texts Rows = codes "rows" ∷ []
-refusal_texts (Values name) = codes "values" ∷ name ∷ []
+-- for what the file is
+abbrev pub fault_texts : files.Fault → List Text
+fault_texts files.Header = codes "header" ∷ []
+fault_texts (files.Fields k) = numbered (codes "fields") k
+fault_texts (files.Utf8 k) = numbered (codes "utf8") k
+fault_texts (files.Op k) = numbered (codes "op") k
+fault_texts (files.Id k) = numbered (codes "id") k
+fault_texts (files.Amount k) = numbered (codes "amount") k
+fault_texts (files.Value k) = numbered (codes "value") k
 
-abbrev pub refused_text : ℕ → Refusal → List ℕ
-refused_text line refusal = record_text (codes "refused" ∷ decimal line ∷ refusal_texts refusal)
+-- for what its changes would do
+abbrev pub batch_texts : Layout → batches.Refusal → List Text
+batch_texts schema batches.NotEmpty = codes "not-empty" ∷ []
+batch_texts schema (batches.File fault) = fault_texts fault
+batch_texts schema (batches.Twice k) = numbered (codes "twice") k
+batch_texts schema (batches.Missing k) = numbered (codes "missing") k
+batch_texts schema (batches.Present k) = numbered (codes "present") k
+batch_texts schema batches.RowsFull = codes "rows" ∷ []
+batch_texts schema (batches.ValuesFull dim) = codes "values" ∷ slice_index_or schema.dims dim [] ∷ []
 
-abbrev pub applied_text : ℕ → ℕ → List ℕ
-applied_text line records = record_text (codes "applied" ∷ decimal line ∷ decimal records ∷ [])
+-- for its size
+abbrev pub size_texts : List Text
+size_texts = codes "size" ∷ []
+
+abbrev pub refused_text : ℕ → List Text → List ℕ
+refused_text line refusal = record_text (codes "refused" ∷ decimal line ∷ refusal)
+
+abbrev pub applied_text : ℕ → ℕ → ℕ → List ℕ
+applied_text line records classes = record_text (codes "applied" ∷ decimal line ∷ decimal records ∷ decimal classes ∷ [])
 
 abbrev pub none_text : ℕ → List ℕ
 none_text line = record_text (codes "none" ∷ decimal line ∷ [])
@@ -60,10 +63,34 @@ none_text line = record_text (codes "none" ∷ decimal line ∷ [])
 abbrev pub memory_text : ℕ → List ℕ
 memory_text line = record_text (codes "memory" ∷ decimal line ∷ [])
 
+-- a quote stands twice
+abbrev pub doubled : ℕ → List ℕ
+doubled b = if b == 34 then 34 ∷ 34 ∷ [] else b ∷ []
+
+-- comma, quote, CR and LF
+abbrev pub wants_quotes : ℕ → Bool
+wants_quotes b = (b == 44) || (b == 34) || (b == 13) || (b == 10)
+
+-- a field that holds such a byte stands in quotes; of the fields of a reply only values may
+abbrev pub quoted : Text → Text
+quoted field = if list_any wants_quotes field then 34 ∷ flat_map doubled field ++ 34 ∷ [] else field
+
+-- a value that would be read as Any, as several values, or without its first byte
+abbrev pub begins_with_equals : Text → Bool
+begins_with_equals [] = false
+begins_with_equals (b ∷ bs) = b == 61
+
+abbrev pub is_marked : Text → Bool
+is_marked value = bytes_eq value (codes "*") || is_several value || begins_with_equals value
+
+-- a value as it is asked: such a one has `=` in front
+abbrev pub value_text : Text → Text
+value_text value = if is_marked value then 61 ∷ value else value
+
 -- Any is written as a star
 abbrev pub entry_text : Option Text → Text
 entry_text None = codes "*"
-entry_text (Some value) = value
+entry_text (Some value) = quoted (value_text value)
 
 -- sum, least, greatest and mean of a measure of this scale
 abbrev pub part_texts : ℕ → ℕ → Part → List Text

@@ -1,25 +1,19 @@
 -- Refusals and replies of the code.
-use Rattle.std.specs.Prelude.{ℕ, List, [], ◌∷◌, ◌≤◌, length, decimal, ⊤}
+use Rattle.std.specs.Prelude.{ℕ, Option, Some, None, List, [], ◌∷◌, ◌<◌, ◌≤◌, length, decimal, ⊤}
 use Rattle.cube_defs.specs.Text.{Text}
+use Rattle.query_script.specs.Faults as lines
+use Rattle.query_script.specs.declared.line.LineRefused.{LineRefused}
+use Rattle.query_script.specs.declared.line.LineRefused.TheVariants as refusals
+use Rattle.warehouse.specs.Batch as batches
+use Rattle.warehouse.specs.declared.refused.Refused.{Refused}
+use Rattle.warehouse.specs.declared.refused.Refused.TheVariants as files
 use Rattle.qc_session.specs.declared.reply.Detail.{Detail}
 use Rattle.qc_session.specs.declared.reply.Detail.TheVariants as details
-use Rattle.qc_session.specs.Replies as texts
-use Rattle.qc_session.specs.declared.reply.Refusal.{Refusal}
-use Rattle.qc_session.specs.declared.reply.Refusal.TheVariants as refusals
-use Rattle.qc_session.specs.declared.store.Reply.{Reply}
-use Rattle.qc_session.specs.declared.store.Reply.TheVariants as replies
-
-abbrev pub refusal_in : Refusal → texts.Refusal
-refusal_in refusals.Utf8 = texts.Utf8
-refusal_in refusals.Command = texts.Command
-refusal_in (refusals.Field k) = texts.Field k
-refusal_in refusals.Form = texts.Form
-refusal_in refusals.Size = texts.Size
-refusal_in refusals.NotEmpty = texts.NotEmpty
-refusal_in refusals.Header = texts.Header
-refusal_in (refusals.Record fault k) = texts.Record fault k
-refusal_in refusals.Rows = texts.Rows
-refusal_in (refusals.Values name) = texts.Values name.now
+use Rattle.qc_session.specs.declared.reply.Words.{Words}
+use Rattle.qc_session.specs.declared.reply.Reply.{Reply}
+use Rattle.qc_session.specs.declared.reply.Reply.TheVariants as replies
+use Rattle.qc_session.specs.declared.answer.Kind.{Kind}
+use Rattle.qc_session.specs.declared.answer.Kind.TheVariants as kinds
 
 -- what a refusal says of its code
 abbrev pub detail_texts : Detail → List Text
@@ -27,14 +21,34 @@ detail_texts details.Nothing = []
 detail_texts (details.Number k) = decimal k ∷ []
 detail_texts (details.Name name) = name.now ∷ []
 
+abbrev pub texts_of : Words → List Text
+texts_of words = words.code.now ∷ detail_texts words.detail
+
+-- a name that stands in a reply is short
 abbrev pub IsShortDetail : Detail → Type 0
 IsShortDetail (details.Name name) = length name.now ≤ 32
 IsShortDetail detail = ⊤
 
--- the name of a dimension is short
-abbrev pub IsShort : Refusal → Type 0
-IsShort (refusals.Values name) = length name.now ≤ 32
-IsShort refusal = ⊤
+pub record IsShort (words : Words) : Type 0 where
+  pub code : length words.code.now ≤ 9
+  pub detail : IsShortDetail words.detail
+
+-- a refusal that names one of so many dimensions, if it names one
+abbrev pub IsDimension : Refused → ℕ → Type 0
+IsDimension (files.ValuesFull dim) dims = dim < dims
+IsDimension refused dims = ⊤
+
+-- what a line's refusal says, but for want of memory
+abbrev pub fault_in : LineRefused → Option lines.LineFault
+fault_in refusals.Utf8 = Some lines.Utf8
+fault_in refusals.Command = Some lines.Command
+fault_in (refusals.Field k) = Some (lines.Field k)
+fault_in refusals.Number = Some lines.Number
+fault_in refusals.Memory = None
+
+abbrev pub kind_in : Kind → batches.Kind
+kind_in kinds.Load = batches.Load
+kind_in kinds.Apply = batches.Apply
 
 abbrev pub reply_bytes : Reply → List ℕ
 reply_bytes (replies.Short reply) = reply

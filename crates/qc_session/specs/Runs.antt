@@ -10,7 +10,9 @@ use Rattle.qc_schema.specs.States as schemas
 use Rattle.qc_schema.specs.declared.refusal.SchemaCause.{SchemaCause}
 use Rattle.qc_schema.specs.declared.refusal.SchemaCause.TheVariants as causes
 use Rattle.qc_session.specs.Lines.{is_passed, script_lines}
-use Rattle.qc_session.specs.Answers.{Command, Load, Point, Refused, State, command_of, limit}
+use Rattle.query_script.specs.Lines.{may_want_memory}
+use Rattle.warehouse.specs.State.{State}
+use Rattle.qc_session.specs.Answers.{file_of, limit}
 use Rattle.qc_session.specs.Transcript.{run_at, transcript}
 
 -- the words `run SCHEMA SCRIPT`: the names of two files
@@ -98,14 +100,9 @@ abbrev pub line_at : List (List ℕ) → ℕ → List ℕ
 line_at lines zero = []
 line_at lines (suc k) = slice_index_or lines k []
 
--- a line that may be skipped for want of memory: one that is read as a command
-abbrev pub is_command : Command → Bool
-is_command (Load name) = true
-is_command (Point rest) = true
-is_command (Refused refusal) = false
-
+-- a line that may be skipped for want of memory: a text whose word is a command
 abbrev pub may_skip : List ℕ → Bool
-may_skip line = not (is_passed line) && is_command (command_of line)
+may_skip line = not (is_passed line) && may_want_memory line
 
 -- rising numbers of lines that may be skipped
 abbrev pub AreRising : ℕ → List ℕ → Type 0
@@ -127,6 +124,11 @@ pub record Wrote (told : Told) (schema : Layout) (skipped : List ℕ) (lines : L
   pub took : Took told schema skipped lines state replies
   pub wrote : now ≡ taking replies before
 
+-- the same, and this is the state that they left
+pub record WroteAll (told : Told) (schema : Layout) (skipped : List ℕ) (lines : List (List ℕ)) (end : Option State) (before now : Option (List ℕ)) : Type 0 where
+  pub wrote : Wrote told schema skipped lines before now
+  pub ended : end ≡ Some wrote.state
+
 -- out took a front of the replies of these lines
 pub record WroteFront (told : Told) (schema : Layout) (skipped : List ℕ) (lines : List (List ℕ)) (before now : Option (List ℕ)) : Type 0 where
   pub state : State
@@ -141,8 +143,8 @@ pub record StoppedAt (told : Told) (sure : Type 0) (schema : Layout) (skipped : 
   pub line : List ℕ
   pub rest : List (List ℕ)
   pub split : lines ≡ done ++ line ∷ rest
-  pub names : command_of line ≡ Load name
   pub wrote : Wrote told schema skipped done before now
+  pub names : file_of (length wrote.state.schema.dims) line ≡ Some name
   pub untold : sure → told name ≡ None
 
 -- out took a front of the replies of some first lines
@@ -172,13 +174,13 @@ IsNoSchema name fault t = IsSomeAnd (t name) (λ bytes. (length bytes ≤ limit)
 abbrev pub IsNever : schemas.Fault → Told → Type 0
 IsNever fault t = ⊥
 
--- the whole transcript of the script's lines was written
-pub record Finished (told : Told) (names : Names) (skipped : List ℕ) (before now : Option (List ℕ)) : Type 0 where
+-- the whole transcript of the script's lines was written, and the run hands back the state at its end
+pub record Finished (told : Told) (names : Names) (skipped : List ℕ) (end : Option State) (before now : Option (List ℕ)) : Type 0 where
   pub schema : Layout
   pub script : List ℕ
   pub schema_read : IsSchemaOf told names.schema schema
   pub script_read : IsScriptOf told names.script script
-  pub wrote : Wrote told schema skipped (script_lines script) before now
+  pub wrote : WroteAll told schema skipped (script_lines script) end before now
 
 -- a reply couldn't be written
 pub record BrokenOff (told : Told) (names : Names) (skipped : List ℕ) (before now : Option (List ℕ)) : Type 0 where

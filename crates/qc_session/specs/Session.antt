@@ -1,7 +1,7 @@
 -- How one line goes on from those before it.
 use Rattle.std.specs.Prelude.{◌≡◌, ◌≤◌, ◌⊎◌, ◌++◌, ℕ, true, List, [], ◌∷◌, take, Option, IfSome, ⊤}
 use Rattle.qc_io.specs.Outside.{Told, taking}
-use Rattle.qc_session.specs.Answers.{State}
+use Rattle.warehouse.specs.State.{State}
 use Rattle.qc_session.specs.Transcript.{item, run_at, step}
 use Rattle.qc_session.specs.Runs.{may_skip}
 use Rattle.qc_session.specs.declared.session.Stop.{Stop}
@@ -9,7 +9,7 @@ use Rattle.qc_session.specs.declared.session.Stop.TheVariants as stops
 
 -- a fact for each reason to stop
 abbrev pub IfStop : Stop → (List ℕ → Type 0) → Type 0 → Type 0
-IfStop (stops.Read name) P Q = P name.now
+IfStop (stops.Read name) P Q = P name
 IfStop stops.Write P Q = Q
 
 -- the numbers are of lines up to this one

@@ -5,7 +5,8 @@ use Rattle.qc_io.specs.Outside.{Told}
 use Rattle.qc_schema.specs.Schema.{Layout}
 use Rattle.qc_session.specs.Lines.{is_passed}
 use Rattle.qc_session.specs.Replies.{memory_text}
-use Rattle.qc_session.specs.Answers.{State, empty, Answered, answer}
+use Rattle.warehouse.specs.State.{State, empty}
+use Rattle.qc_session.specs.Answers.{Answered, answer}
 
 -- how far a script has come: the state, the replies, and whether a file lacked
 pub record Run : Type 0 where

@@ -1,86 +1,157 @@
 // The answer to one line.
-ghost use Rattle.std.specs.Prelude.{◌≡◌, ◌≤◌, ⊤, ℕ, Some, None, IfOk, IfErr, IfSome, OnErr, IsTrue, true};
+ghost use Rattle.std.specs.Prelude.{Err, IfErr, IfOk, IfSome, IsTrue, None, Ok, OnErr, Some, length, option_map, true, ⊤, ◌≡◌, ◌≤◌};
 ghost use Rattle.qc_io.specs.Outside.{Rose};
-ghost use Rattle.qc_session.specs.Answers.{answer, answer_to, command_of, Load};
-ghost use Rattle.qc_session.specs.Runs.{is_command};
+ghost use Rattle.query_script.specs.Commands.{IsCommand};
+ghost use Rattle.query_script.specs.Lines.{may_want_memory};
+ghost use Rattle.warehouse.specs.Batch as batches;
+ghost use Rattle.qc_session.specs.Answers.{answer, answer_to, changed, file_answer, file_named, file_of};
 
-use crate::command::{Command, read_command};
-use crate::reply::{Refusal, ShortReply, refused};
-use crate::store::{Reply, Store};
+use crate::point::answer_point;
+use crate::reply::{
+    Reply, ShortReply, applied, refused, words_of_file, words_of_line, words_of_size,
+};
+use cell_core::{Memory, Text};
 use qc_io::{Files, ReadRefused, read_all};
-use std::alloc::Global;
+use query_script::{Command, read_line};
+use std::alloc::{AllocError, Global};
+use warehouse::{Applied, Refused, Warehouse};
+
+/// What a file is taken for.
+#[derive(Clone, Copy, Debug, PartialEq, Eq)]
+pub enum Kind {
+    /// A base file.
+    Load,
+    /// A batch of corrections.
+    Apply,
+}
 
 /// Why a line has no reply.
-#[derive(Clone, Copy, Debug)]
-pub enum LineStop<'a> {
+#[derive(Drop)]
+pub enum LineStop {
     /// Memory ran out. The line changed nothing.
     Memory,
     /// The file of this name couldn't be read.
-    Fault(&'a str),
+    Fault(Text),
 }
 
-ghost use Rattle.qc_session.specs.Reply.{reply_bytes};
+ghost use Rattle.qc_session.specs.Reply.{kind_in, reply_bytes};
 ghost use Rattle.qc_session.specs.Stops.{MatchLineStop};
+ghost use Rattle.warehouse.specs.Stored.{refusal_in};
 
 /// The most bytes of a file.
 pub const LIMIT: usize = 268_435_456;
 
-// Loads the base file of a name.
-fn load_file<'a, F: Files>(
+// Takes the bytes of a file.
+fn take_file(warehouse: &mut Warehouse, kind: Kind, bytes: &[u8]) -> Result<Applied, Refused>
+    requires { length bytes.now ≤ 268435456 }
+    ensures applied { IfOk result (λ applied. batches.result warehouse.old (kind_in kind) bytes.now ≡ Ok (record { records = applied.records; classes = applied.classes; state = warehouse.new })) }
+    ensures refused { IfErr result (λ e. IfSome (refusal_in e) (λ refusal. batches.result warehouse.old (kind_in kind) bytes.now ≡ Err refusal)) }
+    ensures err { OnErr result (warehouse.new ≡ warehouse.old) }
+{
+    match kind {
+        Kind::Load => warehouse.load(bytes),
+        Kind::Apply => warehouse.apply(bytes),
+    }
+}
+
+// The same, with its reply.
+fn change(
+    warehouse: &mut Warehouse,
+    number: u32,
+    kind: Kind,
+    bytes: &[u8],
+) -> Result<ShortReply, Memory>
+    requires { length bytes.now ≤ 268435456 }
+    ensures ok { IfOk result (λ reply. changed warehouse.old number (batches.result warehouse.old (kind_in kind) bytes.now) ≡ record { state = warehouse.new; reply = reply }) }
+    ensures err { OnErr result (warehouse.new ≡ warehouse.old) }
+{
+    match take_file(warehouse, kind, bytes) {
+        Ok(taken) => Ok(applied(number, taken.records, taken.classes)),
+        Err(cause) => match words_of_file(cause, warehouse.schema()) {
+            Some(words) => Ok(refused(number, words)),
+            None => Err(AllocError),
+        },
+    }
+}
+
+// Takes the file of a name.
+fn answer_file<F: Files>(
     alloc: Global,
     files: &mut F,
-    store: &mut Store,
+    warehouse: &mut Warehouse,
     number: u32,
-    name: &'a str,
-) -> Result<ShortReply, LineStop<'a>>
+    kind: Kind,
+    name: Text,
+) -> Result<Reply, LineStop>
     ensures later { F.faults files.old ≤ F.faults files.new }
     ensures told { F.told files.new ≡ F.told files.old }
     ensures steady { IsTrue (F.steady files.old) → IsTrue (F.steady files.new) }
-    ensures kept { OnErr result (store.new ≡ store.old) }
-    ensures fault { IfErr result (λ stop. MatchLineStop stop ⊤ (λ file. (file ≡ name.now) × Rose (F.faults files.old) (F.faults files.new))) }
+    ensures kept { OnErr result (warehouse.new ≡ warehouse.old) }
+    ensures fault { IfErr result (λ stop. MatchLineStop stop ⊤ (λ file. (file ≡ name) × Rose (F.faults files.old) (F.faults files.new))) }
     ensures untold { IfErr result (λ stop. MatchLineStop stop ⊤ (λ file. IsTrue (F.steady files.old) → IfSome (F.told files.old) (λ t. t file ≡ None))) }
-    ensures answered { IfOk result (λ reply. IfSome (F.told files.old) (λ t. answer_to store.old t number (Load name.now) ≡ Some (record { state = store.new; reply = reply }))) }
+    ensures answered { IfOk result (λ reply. IfSome (F.told files.old) (λ t. option_map (file_answer warehouse.old number (kind_in kind)) (t name) ≡ Some (record { state = warehouse.new; reply = reply_bytes reply }))) }
 {
-    if name.is_empty() {
-        return Ok(refused(number, Refusal::Field(1)));
-    }
-    match read_all(alloc, files, name, LIMIT) {
-        Ok(bytes) => match store.load(alloc, number, &bytes) {
-            Ok(reply) => Ok(reply),
+    match read_all(alloc, files, name.as_str(), LIMIT) {
+        Ok(bytes) => match change(warehouse, number, kind, &bytes) {
+            Ok(reply) => Ok(Reply::Short(reply)),
             Err(_) => Err(LineStop::Memory),
         },
-        Err(ReadRefused::TooLong) => Ok(refused(number, Refusal::Size)),
+        Err(ReadRefused::TooLong) => Ok(Reply::Short(refused(number, words_of_size()))),
         Err(ReadRefused::Failed) => Err(LineStop::Fault(name)),
         Err(ReadRefused::Memory) => Err(LineStop::Memory),
     }
 }
 
-/// Carries out a line that isn't passed over, and gives its reply.
-pub fn answer_line<'a, F: Files>(
+// Carries out a command, and gives its reply.
+fn answer_command<F: Files>(
     alloc: Global,
     files: &mut F,
-    store: &mut Store,
+    warehouse: &mut Warehouse,
     number: u32,
-    line: &'a [u8],
-) -> Result<Reply, LineStop<'a>>
+    command: Command,
+) -> Result<Reply, LineStop>
+    requires { IsCommand (length warehouse.old.schema.dims) command }
     ensures later { F.faults files.old ≤ F.faults files.new }
     ensures told { F.told files.new ≡ F.told files.old }
     ensures steady { IsTrue (F.steady files.old) → IsTrue (F.steady files.new) }
-    ensures kept { OnErr result (store.new ≡ store.old) }
-    ensures skips { IfErr result (λ stop. MatchLineStop stop (is_command (command_of line.now) ≡ true) (λ file. command_of line.now ≡ Load file)) }
-    ensures fault { IfErr result (λ stop. MatchLineStop stop ⊤ (λ file. Rose (F.faults files.old) (F.faults files.new))) }
+    ensures kept { OnErr result (warehouse.new ≡ warehouse.old) }
+    ensures fault { IfErr result (λ stop. MatchLineStop stop ⊤ (λ file. (file_named (Ok command) ≡ Some file) × Rose (F.faults files.old) (F.faults files.new))) }
     ensures untold { IfErr result (λ stop. MatchLineStop stop ⊤ (λ file. IsTrue (F.steady files.old) → IfSome (F.told files.old) (λ t. t file ≡ None))) }
-    ensures answered { IfOk result (λ reply. IfSome (F.told files.old) (λ t. answer store.old t number line.now ≡ Some (record { state = store.new; reply = reply_bytes reply }))) }
+    ensures answered { IfOk result (λ reply. IfSome (F.told files.old) (λ t. answer_to warehouse.old t number (Ok command) ≡ Some (record { state = warehouse.new; reply = reply_bytes reply }))) }
 {
-    match read_command(line) {
-        Command::Load(name) => match load_file(alloc, files, store, number, name) {
-            Ok(reply) => Ok(Reply::Short(reply)),
-            Err(stop) => Err(stop),
-        },
-        Command::Point(rest) => match store.point(alloc, number, rest) {
+    match command {
+        Command::Load(name) => answer_file(alloc, files, warehouse, number, Kind::Load, name),
+        Command::Apply(name) => answer_file(alloc, files, warehouse, number, Kind::Apply, name),
+        Command::Point(asked) => match answer_point(alloc, warehouse, number, &asked) {
             Ok(reply) => Ok(reply),
             Err(_) => Err(LineStop::Memory),
         },
-        Command::Refused(refusal) => Ok(Reply::Short(refused(number, refusal))),
+    }
+}
+
+/// Carries out a line that isn't passed over, and gives its reply.
+pub fn answer_line<F: Files>(
+    alloc: Global,
+    files: &mut F,
+    warehouse: &mut Warehouse,
+    number: u32,
+    line: &[u8],
+) -> Result<Reply, LineStop>
+    requires { length line.now ≤ 268435456 }
+    ensures later { F.faults files.old ≤ F.faults files.new }
+    ensures told { F.told files.new ≡ F.told files.old }
+    ensures steady { IsTrue (F.steady files.old) → IsTrue (F.steady files.new) }
+    ensures kept { OnErr result (warehouse.new ≡ warehouse.old) }
+    ensures skips { IfErr result (λ stop. MatchLineStop stop (may_want_memory line.now ≡ true) (λ file. file_of (length warehouse.old.schema.dims) line.now ≡ Some file)) }
+    ensures fault { IfErr result (λ stop. MatchLineStop stop ⊤ (λ file. Rose (F.faults files.old) (F.faults files.new))) }
+    ensures untold { IfErr result (λ stop. MatchLineStop stop ⊤ (λ file. IsTrue (F.steady files.old) → IfSome (F.told files.old) (λ t. t file ≡ None))) }
+    ensures answered { IfOk result (λ reply. IfSome (F.told files.old) (λ t. answer warehouse.old t number line.now ≡ Some (record { state = warehouse.new; reply = reply_bytes reply }))) }
+{
+    match read_line(alloc, warehouse.schema(), line) {
+        Ok(command) => answer_command(alloc, files, warehouse, number, command),
+        Err(cause) => match words_of_line(cause) {
+            Some(words) => Ok(Reply::Short(refused(number, words))),
+            None => Err(LineStop::Memory),
+        },
     }
 }

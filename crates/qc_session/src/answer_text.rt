@@ -1,10 +1,12 @@
 // The bytes of a point's reply.
-ghost use Rattle.std.specs.Prelude.{◌≡◌, ◌<◌, ◌≤◌, ◌++◌, ◌∷◌, IfOk, OnOk, decimal, length, map};
+ghost use Rattle.std.specs.Prelude.{◌≡◌, ◌<◌, ◌≤◌, ◌++◌, ◌∷◌, IfOk, OnOk, decimal, false, length, map, true};
+ghost use Rattle.std.specs.List.{flat_map, list_any};
 ghost use Rattle.aggregates.specs.Texts.{amount_text, ratio_text};
 ghost use Rattle.aggregates.specs.Views.{agg_in, part_in, ratio_in};
 ghost use Rattle.cube_defs.specs.Answers.{part};
-ghost use Rattle.qc_session.specs.Replies.{agg_texts, entry_text, part_texts, parts_texts, point_text};
-ghost use Rattle.qc_session.specs.Points.{cell_of_fields, entry_asked, fields_text};
+ghost use Rattle.qc_session.specs.Answers.{cell_asked, entry_asked};
+ghost use Rattle.qc_session.specs.Replies.{agg_texts, doubled, entry_text, is_marked, part_texts, parts_texts, point_text, quoted, value_text, wants_quotes};
+ghost use Rattle.qc_session.specs.Points.{fields_text};
 
 use aggregates::{Agg, Part, Ratio, mean, print_amount, print_number, print_ratio};
 use cell_core::{Field, Fields, Memory};
@@ -88,21 +90,81 @@ fn push_agg(out: &mut Vec<u8>, schema: &Schema, agg: &Agg) -> Result<(), Memory>
     push_parts(out, schema, agg)
 }
 
-// What a field asks, as it is written.
-fn text_of(field: &Field) -> &[u8]
-    ensures { result.now ≡ entry_text (entry_asked field.now) }
+// Whether a value would be read as Any, as several values, or without its first byte.
+fn is_special(value: &[u8]) -> bool
+    ensures { result ≡ is_marked value.now }
 {
-    match field {
-        Field::One(text) => text.as_str().as_bytes(),
-        _ => b"*",
+    matches!(value, b"*" | b"?" | [b'|' | b'~' | b'=', ..])
+}
+
+fn needs_quotes(value: &[u8]) -> bool
+    ensures { result ≡ list_any wants_quotes value.now }
+{
+    value
+        .iter()
+        .any(|b| *b == b',' || *b == b'"' || *b == b'\r' || *b == b'\n')
+}
+
+// The bytes of a value, each quote twice.
+fn push_doubled(out: &mut Vec<u8>, value: &[u8]) -> Result<(), Memory>
+    ensures { OnOk result (out.new.items ≡ out.old.items ++ flat_map doubled value.now) }
+{
+    for b in value {
+        if *b == b'"' {
+            out.push(b'"')?;
+        }
+        out.push(*b)?;
+    }
+    Ok(())
+}
+
+// A value behind a comma, in quotes.
+fn push_quoted(out: &mut Vec<u8>, value: &[u8]) -> Result<(), Memory>
+    requires { list_any wants_quotes value.now ≡ true }
+    ensures { OnOk result (out.new.items ≡ out.old.items ++ 44 ∷ quoted (value_text value.now)) }
+{
+    out.extend_from_slice(b",\"")?;
+    if is_special(value) {
+        out.push(b'=')?;
+    }
+    push_doubled(out, value)?;
+    out.push(b'"')?;
+    Ok(())
+}
+
+// A value behind a comma, as it stands.
+fn push_plain(out: &mut Vec<u8>, value: &[u8]) -> Result<(), Memory>
+    requires { list_any wants_quotes value.now ≡ false }
+    ensures { OnOk result (out.new.items ≡ out.old.items ++ 44 ∷ quoted (value_text value.now)) }
+{
+    out.push(b',')?;
+    if is_special(value) {
+        out.push(b'=')?;
+    }
+    out.extend_from_slice(value)?;
+    Ok(())
+}
+
+// What a field asks, behind a comma.
+fn push_asked(out: &mut Vec<u8>, field: &Field) -> Result<(), Memory>
+    ensures { OnOk result (out.new.items ≡ out.old.items ++ 44 ∷ entry_text (entry_asked field.now)) }
+{
+    let Field::One(text) = field else {
+        return push_field(out, b"*");
+    };
+    let value = text.as_str().as_bytes();
+    if needs_quotes(value) {
+        push_quoted(out, value)
+    } else {
+        push_plain(out, value)
     }
 }
 
 fn push_cell(out: &mut Vec<u8>, cell: &Fields) -> Result<(), Memory>
-    ensures { OnOk result (out.new.items ≡ out.old.items ++ fields_text (map entry_text (cell_of_fields cell.now))) }
+    ensures { OnOk result (out.new.items ≡ out.old.items ++ fields_text (map entry_text (cell_asked cell.now))) }
 {
     for k in 0..cell.len() {
-        push_field(out, text_of(cell.get(k)))?;
+        push_asked(out, cell.get(k))?;
     }
     Ok(())
 }
@@ -116,7 +178,7 @@ pub fn point_reply(
     total: &Agg,
 ) -> Result<Vec<u8>, Memory>
     requires { total.now.measures ≡ length schema.now.measures }
-    ensures { IfOk result (λ reply. reply.items ≡ point_text line (cell_of_fields cell.now) schema.now.measures (agg_in total.now)) }
+    ensures { IfOk result (λ reply. reply.items ≡ point_text line (cell_asked cell.now) schema.now.measures (agg_in total.now)) }
 {
     let mut out = Vec::from_slice(alloc, b"point")?;
     push_number(&mut out, u64::from(line))?;

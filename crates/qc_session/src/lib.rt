@@ -3,17 +3,12 @@
 
 mod answer;
 mod answer_text;
-mod command;
 mod failure;
-mod learn;
 mod lines;
 mod point;
-mod repeats;
 mod reply;
 mod scripts;
 mod session;
-mod store;
-mod total;
 
 pub use scripts::{Outcome, run};
 

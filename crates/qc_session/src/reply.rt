@@ -1,101 +1,133 @@
 // Replies that are made without memory.
-ghost use Rattle.std.specs.Prelude.{◌≡◌, ◌<◌, ◌≤◌, ◌^◌, ◌++◌, length};
-ghost use Rattle.qc_session.specs.Replies.{applied_text, fault_code, memory_text, none_text, refusal_texts, refused_text};
+ghost use Rattle.std.specs.Prelude.{IfSome, length, option_map, ◌++◌, ◌<◌, ◌≡◌, ◌≤◌, ◌^◌};
+ghost use Rattle.qc_session.specs.Replies.{applied_text, batch_texts, line_texts, memory_text, none_text, numbered, refused_text, size_texts};
 
 use arrayvec::ArrayString;
 use itoa::Buffer;
+use qc_schema::Schema;
+use query_script::LineRefused;
 use std::marker::Model;
+use warehouse::Refused;
 
-/// What is wrong with a record of a file.
-#[derive(Clone, Copy, Debug, PartialEq, Eq)]
-pub enum RecordFault {
-    /// It has another number of fields than the header.
-    Fields,
-    /// The text of a dimension isn't UTF-8.
-    Utf8,
-    /// The id is none, or is too large.
-    Id,
-    /// An amount is none at its measure's scale, or is too large.
-    Amount,
-    /// The text of a dimension is too long.
-    Value,
-    /// An earlier record has the same id.
-    Twice,
+/// A reply to a line.
+#[derive(Drop)]
+pub enum Reply {
+    Short(ShortReply),
+    Long(Vec<u8>),
 }
 
-impl RecordFault {
-    // The word for it in a reply.
-    fn code(self) -> &'static str
-        ensures text { result.now ≡ fault_code self }
-        ensures short { length result.now ≤ 9 }
-    {
-        match self {
-            RecordFault::Fields => "fields",
-            RecordFault::Utf8 => "utf8",
-            RecordFault::Id => "id",
-            RecordFault::Amount => "amount",
-            RecordFault::Value => "value",
-            RecordFault::Twice => "twice",
-        }
-    }
-}
-
-/// Why a line is refused.
+/// What a refusal says of its code.
 #[derive(Clone, Copy, Debug)]
-pub enum Refusal<'a> {
-    /// The line isn't UTF-8.
-    Utf8,
-    /// The line's first word is no command.
-    Command,
-    /// The field at this place, counted from 1, is missing.
-    Field(u32),
-    /// The rest of a point isn't in the form that is read.
-    Form,
-    /// The named file has more bytes than a file may have.
-    Size,
-    /// A base file is loaded where a row is present.
-    NotEmpty,
-    /// The base file has no header, or a needed column isn't there just once.
-    Header,
-    /// The record with this number, counted from 1 behind the header, is the first with a fault.
-    Record(RecordFault, u32),
-    /// There would be more rows than the schema allows.
-    Rows,
-    /// The dimension of this name would have more texts than the schema allows.
-    Values(&'a str),
-}
-
-// What a refusal says of its code.
-#[derive(Clone, Copy, Debug)]
-enum Detail<'a> {
+pub enum Detail<'a> {
     Nothing,
     Number(u32),
     Name(&'a str),
 }
 
-ghost use Rattle.qc_session.specs.Reply.{IsShort, IsShortDetail, detail_texts, refusal_in};
+/// The code of a refusal, and what it says of it.
+#[derive(Clone, Copy, Debug)]
+pub struct Words<'a> {
+    code: &'static str,
+    detail: Detail<'a>,
+}
 
-impl<'a> Refusal<'a> {
-    // The word for it in a reply, and what it says of it.
-    fn texts(self) -> (&'static str, Detail<'a>)
-        requires { IsShort self }
-        ensures texts { result.0.now ∷ detail_texts result.1 ≡ refusal_texts (refusal_in self.entry) }
-        ensures short { length result.0.now ≤ 9 }
-        ensures name { IsShortDetail result.1 }
+ghost use Rattle.qc_session.specs.Reply.{IsDimension, IsShort, fault_in, reply_bytes, texts_of};
+ghost use Rattle.qc_schema.specs.Schema.{IsLayout};
+ghost use Rattle.warehouse.specs.Stored.{refusal_in};
+
+impl Reply {
+    /// The reply's bytes.
+    pub fn as_bytes(&self) -> &[u8]
+        ensures { result.now ≡ reply_bytes self.now }
     {
         match self {
-            Refusal::Utf8 => ("utf8", Detail::Nothing),
-            Refusal::Command => ("command", Detail::Nothing),
-            Refusal::Field(k) => ("field", Detail::Number(k)),
-            Refusal::Form => ("form", Detail::Nothing),
-            Refusal::Size => ("size", Detail::Nothing),
-            Refusal::NotEmpty => ("not-empty", Detail::Nothing),
-            Refusal::Header => ("header", Detail::Nothing),
-            Refusal::Record(fault, k) => (fault.code(), Detail::Number(k)),
-            Refusal::Rows => ("rows", Detail::Nothing),
-            Refusal::Values(name) => ("values", Detail::Name(name)),
+            Reply::Short(reply) => reply.as_bytes(),
+            Reply::Long(bytes) => bytes.as_slice(),
         }
     }
+}
+
+impl<'a> Words<'a> {
+    fn code(code: &'static str) -> Words<'a>
+        requires { length code.now ≤ 9 }
+        ensures texts { texts_of result ≡ code.now ∷ [] }
+        ensures short { IsShort result }
+    {
+        Words {
+            code,
+            detail: Detail::Nothing,
+        }
+    }
+
+    fn number(code: &'static str, k: u32) -> Words<'a>
+        requires { length code.now ≤ 9 }
+        ensures texts { texts_of result ≡ numbered code.now k }
+        ensures short { IsShort result }
+    {
+        Words {
+            code,
+            detail: Detail::Number(k),
+        }
+    }
+
+    fn name(code: &'static str, name: &'a str) -> Words<'a>
+        requires code { length code.now ≤ 9 }
+        requires name { length name.now ≤ 32 }
+        ensures texts { texts_of result ≡ code.now ∷ name.now ∷ [] }
+        ensures short { IsShort result }
+    {
+        Words {
+            code,
+            detail: Detail::Name(name),
+        }
+    }
+}
+
+/// Why a line is no command. None for want of memory.
+pub fn words_of_line(refused: LineRefused) -> Option<Words<'static>>
+    ensures texts { option_map texts_of result ≡ option_map line_texts (fault_in refused) }
+    ensures short { IfSome result (λ words. IsShort words) }
+{
+    match refused {
+        LineRefused::Utf8 => Some(Words::code("utf8")),
+        LineRefused::Command => Some(Words::code("command")),
+        LineRefused::Field(k) => Some(Words::number("field", k)),
+        LineRefused::Number => Some(Words::code("number")),
+        LineRefused::Memory => None,
+    }
+}
+
+/// Why a file of changes is refused. None for want of memory.
+pub fn words_of_file(refused: Refused, schema: &Schema) -> Option<Words<'_>>
+    requires dim { IsDimension refused (length schema.now.dims) }
+    requires layout { IsLayout schema.now }
+    ensures texts { option_map texts_of result ≡ option_map (batch_texts schema.now) (refusal_in refused) }
+    ensures short { IfSome result (λ words. IsShort words) }
+{
+    match refused {
+        Refused::NotEmpty => Some(Words::code("not-empty")),
+        Refused::Header => Some(Words::code("header")),
+        Refused::Fields(k) => Some(Words::number("fields", k)),
+        Refused::Utf8(k) => Some(Words::number("utf8", k)),
+        Refused::Op(k) => Some(Words::number("op", k)),
+        Refused::Id(k) => Some(Words::number("id", k)),
+        Refused::Amount(k) => Some(Words::number("amount", k)),
+        Refused::Value(k) => Some(Words::number("value", k)),
+        Refused::Twice(k) => Some(Words::number("twice", k)),
+        Refused::Missing(k) => Some(Words::number("missing", k)),
+        Refused::Present(k) => Some(Words::number("present", k)),
+        Refused::RowsFull => Some(Words::code("rows")),
+        Refused::ValuesFull(dim) => Some(Words::name("values", schema.dim_name(dim))),
+        Refused::Memory => None,
+    }
+}
+
+/// The file has too many bytes.
+pub fn words_of_size() -> Words<'static>
+    ensures texts { texts_of result ≡ size_texts }
+    ensures short { IsShort result }
+{
+    Words::code("size")
 }
 
 const ROOM: usize = 64;
@@ -172,24 +204,24 @@ pub fn none(line: u32) -> ShortReply
     begun("none", line).ended()
 }
 
-/// A base file of so many records was loaded.
-pub fn applied(line: u32, records: u32) -> ShortReply
-    ensures { result ≡ applied_text line records }
+/// A file of so many records was taken, and so many classes are there after it.
+pub fn applied(line: u32, records: u32, classes: u32) -> ShortReply
+    ensures { result ≡ applied_text line records classes }
 {
     let mut reply = begun("applied", line);
     reply.field(Buffer::new().format(records));
+    reply.field(Buffer::new().format(classes));
     reply.ended()
 }
 
 /// A line was refused, and changed nothing.
-pub fn refused(line: u32, refusal: Refusal<'_>) -> ShortReply
-    requires { IsShort refusal }
-    ensures { result ≡ refused_text line (refusal_in refusal.entry) }
+pub fn refused(line: u32, words: Words<'_>) -> ShortReply
+    requires { IsShort words }
+    ensures { result ≡ refused_text line (texts_of words.entry) }
 {
-    let (code, detail) = refusal.texts();
     let mut reply = begun("refused", line);
-    reply.field(code);
-    match detail {
+    reply.field(words.code);
+    match words.detail {
         Detail::Nothing => {}
         Detail::Number(k) => reply.field(Buffer::new().format(k)),
         Detail::Name(name) => reply.field(name),

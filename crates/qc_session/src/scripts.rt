@@ -1,17 +1,16 @@
 // The top call.
-ghost use Rattle.std.specs.Prelude.{◌≡◌, ◌≤◌, ◌<◌, ◌^◌, ◌⊎◌, ◌↔◌, [], Some, None, IfOk, IfErr, IfSome, IsSome, IsNone, IsTrue, option_map, MatchOption, length, map};
+ghost use Rattle.std.specs.Prelude.{◌≡◌, ◌≤◌, ◌<◌, ◌^◌, ◌⊎◌, ◌↔◌, [], Some, None, IfOk, IfErr, IfSome, IsSome, IsNone, IsTrue, is_some, true, option_map, MatchOption, length, map};
 ghost use Rattle.qc_io.specs.Outside.{Rose};
 ghost use Rattle.qc_session.specs.Lines.{lines_of, script_lines, without_cr};
-ghost use Rattle.qc_session.specs.Runs.{AreSkipped, BrokenOff, Cause, CannotRead, CannotWrite, Finished, IsNever, IsNoSchema, IsSchemaOf, IsScriptOf, IsStatus, Names, OutOfMemory, ReadFails, Said, StoppedAt, StoppedWriting, Unread, Usage, Wrote, names_of, refusal_of, status_of};
+ghost use Rattle.qc_session.specs.Runs.{AreSkipped, BrokenOff, Cause, CannotRead, CannotWrite, Finished, IsNever, IsNoSchema, IsSchemaOf, IsScriptOf, IsStatus, Names, OutOfMemory, ReadFails, Said, StoppedAt, StoppedWriting, Unread, Usage, WroteAll, names_of, refusal_of, status_of};
 
 use crate::answer::LIMIT;
 use crate::failure::{Failure, SchemaFault, tell};
-use crate::lines::{split_line, trim_mark};
 use crate::session::{Session, Stop, take_lines};
-use crate::store::Store;
 use qc_io::{Files, ReadRefused, Sink, read_all};
-use qc_schema::{Schema, SchemaRefused, read_schema};
+use qc_schema::{Schema, SchemaRefused, read_schema, split_line, trim_mark};
 use std::alloc::Global;
+use warehouse::Warehouse;
 
 /// How a run ended.
 #[derive(Drop)]
@@ -20,6 +19,8 @@ pub struct Outcome {
     pub status: u8,
     /// The numbers of the lines that found no memory.
     pub skipped: Vec<u32>,
+    /// At status 0 the warehouse as the run leaves it.
+    pub end: Option<Warehouse>,
 }
 
 ghost use Rattle.qc_session.specs.Failures.{cause_of};
@@ -56,12 +57,14 @@ fn names_in(words: &[String]) -> Option<(&str, &str)>
 fn fail<E: Sink>(alloc: Global, err: &mut E, failure: &Failure<'_>) -> Outcome
     ensures status { result.status ≡ status_of (cause_of failure.now) }
     ensures skipped { result.skipped.items ≡ [] }
+    ensures none { result.end ≡ None }
     ensures said { Said (Rose (E.faults err.old) (E.faults err.new)) (cause_of failure.now) (E.taken err.old) (E.taken err.new) }
 {
     tell(err, failure);
     Outcome {
         status: failure.status(),
         skipped: Vec::new(alloc),
+        end: None,
     }
 }
 
@@ -112,6 +115,32 @@ fn read_named_schema<'a, F: Files>(
     }
 }
 
+// Ends a run at the end of its script.
+fn finished(session: Session) -> Outcome
+    ensures status { result.status ≡ 0 }
+    ensures skipped { result.skipped.items ≡ session.skipped.items }
+    ensures end { result.end ≡ Some session.warehouse }
+{
+    Outcome {
+        status: 0,
+        skipped: session.skipped,
+        end: Some(session.warehouse),
+    }
+}
+
+// Ends a run before the end of its script.
+fn stopped(status: u8, session: Session) -> Outcome
+    ensures status { result.status ≡ status }
+    ensures skipped { result.skipped.items ≡ session.skipped.items }
+    ensures end { result.end ≡ None }
+{
+    Outcome {
+        status,
+        skipped: session.skipped,
+        end: None,
+    }
+}
+
 // Takes the lines of a script over a schema.
 fn run_script<F: Files, O: Sink, E: Sink>(
     alloc: Global,
@@ -124,7 +153,9 @@ fn run_script<F: Files, O: Sink, E: Sink>(
     requires { length script.now ≤ 268435456 }
     ensures known { (result.status ≡ 0) ⊎ (result.status ≡ 3) ⊎ (result.status ≡ 4) ⊎ (result.status ≡ 5) }
     ensures skipped { AreSkipped (script_lines script.now) result.skipped.items }
-    ensures all { result.status ≡ 0 → IfSome (F.told files.old) (λ t. Wrote t schema result.skipped.items (script_lines script.now) (O.taken out.old) (O.taken out.new)) }
+    ensures all { result.status ≡ 0 → IfSome (F.told files.old) (λ t. WroteAll t schema result.skipped.items (script_lines script.now) result.end (O.taken out.old) (O.taken out.new)) }
+    ensures there { result.status ≡ 0 → is_some result.end ≡ true }
+    ensures none { (result.status ≡ 0 → ⊥) → result.end ≡ None }
     ensures silent { result.status ≡ 0 → err.new ≡ err.old }
     ensures read_fault { result.status ≡ 3 → Rose (F.faults files.old) (F.faults files.new) }
     ensures unread { result.status ≡ 3 → IfSome (F.told files.old) (λ t. (name : List ℕ)
@@ -140,28 +171,24 @@ fn run_script<F: Files, O: Sink, E: Sink>(
     let Ok(skipped) = Vec::with_capacity(alloc, count_lines(script)) else {
         return fail(alloc, err, &Failure::OutOfMemory);
     };
-    let Ok(store) = Store::new(alloc, schema) else {
+    let Ok(warehouse) = Warehouse::new(alloc, schema) else {
         return fail(alloc, err, &Failure::OutOfMemory);
     };
     let mut session = Session {
         number: 0,
-        store,
+        warehouse,
         skipped,
     };
-    let status = match take_lines(alloc, files, out, &mut session, script) {
-        Ok(()) => 0,
+    match take_lines(alloc, files, out, &mut session, script) {
+        Ok(()) => finished(session),
         Err(Stop::Read(name)) => {
-            tell(err, &Failure::CannotRead(name));
-            3
+            tell(err, &Failure::CannotRead(name.as_str()));
+            stopped(3, session)
         }
         Err(Stop::Write) => {
             tell(err, &Failure::CannotWrite);
-            4
+            stopped(4, session)
         }
-    };
-    Outcome {
-        status,
-        skipped: session.skipped,
     }
 }
 
@@ -187,8 +214,10 @@ pub fn run<F: Files, O: Sink, E: Sink>(
 
     // Status 0: the transcript, whole.
     ensures transcript { result.status ≡ 0 → IfSome (names_of words.now) (λ names. IfSome (F.told files.old)
-        (λ t. Finished t names result.skipped.items (O.taken out.old) (O.taken out.new))) }
+        (λ t. Finished t names result.skipped.items result.end (O.taken out.old) (O.taken out.new))) }
     ensures silent { result.status ≡ 0 → err.new ≡ err.old }
+    ensures ended { result.status ≡ 0 → is_some result.end ≡ true }
+    ensures no_end { (result.status ≡ 0 → ⊥) → result.end ≡ None }
     ensures skipped { IfSome (names_of words.now) (λ names. IfSome (F.told files.old)
         (λ t. MatchOption (t names.script) (result.skipped.items ≡ []) (λ script. AreSkipped (script_lines script) result.skipped.items))) }
 

@@ -2,21 +2,24 @@
 ghost use Rattle.std.specs.Prelude.{◌≡◌, ◌≤◌, ◌<◌, ◌^◌, ◌+◌, ◌++◌, ◌∷◌, ℕ, List, [], Some, None, IfOk, IfErr, IfSome, OnOk, OnErr, IsTrue, length, map, vec_len, vec_capacity, ⊤};
 ghost use Rattle.qc_io.specs.Outside.{Rose, Told};
 ghost use Rattle.qc_session.specs.Lines.{lines_of, without_cr};
-ghost use Rattle.qc_session.specs.Answers.{Load, State, command_of, empty};
-ghost use Rattle.qc_session.specs.Runs.{AreSkipped, StoppedAt, StoppedWriting, Wrote};
+ghost use Rattle.qc_session.specs.Answers.{file_of};
+ghost use Rattle.warehouse.specs.State.{State, empty};
+ghost use Rattle.qc_session.specs.Runs.{AreSkipped, StoppedAt, StoppedWriting, WroteAll};
 
 use crate::answer::{LineStop, answer_line};
-use crate::lines::{is_passed_over, split_line, trim_cr};
+use crate::lines::is_passed_over;
 use crate::reply;
-use crate::store::Store;
+use cell_core::Text;
 use qc_io::{Files, Sink, write_all};
+use qc_schema::{split_line, trim_cr};
 use std::alloc::Global;
+use warehouse::Warehouse;
 
 /// Why a script ended before its last line.
-#[derive(Clone, Copy, Debug)]
-pub enum Stop<'a> {
+#[derive(Drop)]
+pub enum Stop {
     /// The file of this name couldn't be read.
-    Read(&'a str),
+    Read(Text),
     /// A reply couldn't be written.
     Write,
 }
@@ -25,21 +28,22 @@ pub enum Stop<'a> {
 #[derive(Drop)]
 pub struct Session {
     pub number: u32,
-    pub store: Store,
+    pub warehouse: Warehouse,
     pub skipped: Vec<u32>,
 }
 
 ghost use Rattle.qc_session.specs.Session.{IfStop, Skips, WroteLine, WrotePart, AreUpTo};
 
 // Takes one line.
-fn take_line<'a, F: Files, O: Sink>(
+fn take_line<F: Files, O: Sink>(
     alloc: Global,
     files: &mut F,
     out: &mut O,
     session: &mut Session,
-    line: &'a [u8],
-) -> Result<(), Stop<'a>>
+    line: &[u8],
+) -> Result<(), Stop>
     requires room { vec_len session.old.skipped < vec_capacity session.old.skipped }
+    requires short { length line.now ≤ 268435456 }
     requires number { session.old.number + 1 < 2 ^ 32 }
     requires up_to { AreUpTo session.old.number session.old.skipped.items }
     ensures later_files { F.faults files.old ≤ F.faults files.new }
@@ -47,14 +51,14 @@ fn take_line<'a, F: Files, O: Sink>(
     ensures told { F.told files.new ≡ F.told files.old }
     ensures steady { IsTrue (F.steady files.old) → IsTrue (F.steady files.new) }
     ensures read_fault { IfErr result (λ stop. IfStop stop (λ name. Rose (F.faults files.old) (F.faults files.new)) ⊤) }
-    ensures names { IfErr result (λ stop. IfStop stop (λ name. command_of line.now ≡ Load name) ⊤) }
+    ensures names { IfErr result (λ stop. IfStop stop (λ name. file_of (length session.old.warehouse.schema.dims) line.now ≡ Some name) ⊤) }
     ensures untold { IfErr result (λ stop. IfStop stop (λ name. IsTrue (F.steady files.old) → IfSome (F.told files.old) (λ t. t name ≡ None)) ⊤) }
     ensures write_fault { IfErr result (λ stop. IfStop stop (λ name. ⊤) (Rose (O.faults out.old) (O.faults out.new))) }
     ensures stays { IfErr result (λ stop. IfStop stop (λ name. (O.taken out.new ≡ O.taken out.old) × (session.new.skipped.items ≡ session.old.skipped.items)) ⊤) }
-    ensures wrote { OnOk result (WroteLine (F.told files.old) session.new.skipped.items (session.old.number + 1) session.old.store line.now
-        session.new.store (O.taken out.old) (O.taken out.new)) }
-    ensures part { IfErr result (λ stop. IfStop stop (λ name. ⊤) (WrotePart (F.told files.old) session.new.skipped.items (session.old.number + 1) session.old.store line.now
-        session.new.store (O.taken out.old) (O.taken out.new))) }
+    ensures wrote { OnOk result (WroteLine (F.told files.old) session.new.skipped.items (session.old.number + 1) session.old.warehouse line.now
+        session.new.warehouse (O.taken out.old) (O.taken out.new)) }
+    ensures part { IfErr result (λ stop. IfStop stop (λ name. ⊤) (WrotePart (F.told files.old) session.new.skipped.items (session.old.number + 1) session.old.warehouse line.now
+        session.new.warehouse (O.taken out.old) (O.taken out.new))) }
     ensures skips { Skips session.old.skipped.items (session.old.number + 1) line.now session.new.skipped.items }
     ensures number { OnOk result (session.new.number ≡ session.old.number + 1) }
     ensures capacity { vec_capacity session.old.skipped ≤ vec_capacity session.new.skipped }
@@ -65,7 +69,7 @@ fn take_line<'a, F: Files, O: Sink>(
     if is_passed_over(line) {
         return Ok(());
     }
-    match answer_line(alloc, files, &mut session.store, number, line) {
+    match answer_line(alloc, files, &mut session.warehouse, number, line) {
         Ok(reply) => match write_all(out, reply.as_bytes()) {
             Ok(()) => Ok(()),
             Err(_) => Err(Stop::Write),
@@ -83,26 +87,27 @@ fn take_line<'a, F: Files, O: Sink>(
 }
 
 /// Takes the lines of a script in order, from its first line on.
-pub fn take_lines<'a, F: Files, O: Sink>(
+pub fn take_lines<F: Files, O: Sink>(
     alloc: Global,
     files: &mut F,
     out: &mut O,
     session: &mut Session,
-    script: &'a [u8],
-) -> Result<(), Stop<'a>>
+    script: &[u8],
+) -> Result<(), Stop>
     requires room { length (lines_of script.now) ≤ vec_capacity session.old.skipped }
     requires few { length (lines_of script.now) < 2 ^ 32 }
+    requires short { length script.now ≤ 268435456 }
     requires fresh { (session.old.number ≡ 0) × (session.old.skipped.items ≡ []) }
-    requires state { session.old.store ≡ empty session.old.store.schema }
+    requires state { session.old.warehouse ≡ empty session.old.warehouse.schema }
     ensures later_files { F.faults files.old ≤ F.faults files.new }
     ensures later_out { O.faults out.old ≤ O.faults out.new }
     ensures read_fault { IfErr result (λ stop. IfStop stop (λ name. Rose (F.faults files.old) (F.faults files.new)) ⊤) }
     ensures write_fault { IfErr result (λ stop. IfStop stop (λ name. ⊤) (Rose (O.faults out.old) (O.faults out.new))) }
     ensures skipped { AreSkipped (map without_cr (lines_of script.now)) session.new.skipped.items }
-    ensures all { OnOk result (IfSome (F.told files.old) (λ t. Wrote t session.old.store.schema session.new.skipped.items (map without_cr (lines_of script.now)) (O.taken out.old) (O.taken out.new))) }
-    ensures before { IfErr result (λ stop. IfStop stop (λ name. IfSome (F.told files.old) (λ t. StoppedAt t (IsTrue (F.steady files.old)) session.old.store.schema session.new.skipped.items
+    ensures all { OnOk result (IfSome (F.told files.old) (λ t. WroteAll t session.old.warehouse.schema session.new.skipped.items (map without_cr (lines_of script.now)) (Some session.new.warehouse) (O.taken out.old) (O.taken out.new))) }
+    ensures before { IfErr result (λ stop. IfStop stop (λ name. IfSome (F.told files.old) (λ t. StoppedAt t (IsTrue (F.steady files.old)) session.old.warehouse.schema session.new.skipped.items
         (map without_cr (lines_of script.now)) name (O.taken out.old) (O.taken out.new))) ⊤) }
-    ensures part { IfErr result (λ stop. IfStop stop (λ name. ⊤) (IfSome (F.told files.old) (λ t. StoppedWriting t session.old.store.schema session.new.skipped.items
+    ensures part { IfErr result (λ stop. IfStop stop (λ name. ⊤) (IfSome (F.told files.old) (λ t. StoppedWriting t session.old.warehouse.schema session.new.skipped.items
         (map without_cr (lines_of script.now)) (O.taken out.old) (O.taken out.new)))) }
 {
     let mut rest = script;

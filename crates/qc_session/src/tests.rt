@@ -8,6 +8,9 @@ const SCHEMA: &str = "qcube 1\nid id\ndim store\ndim product\ndim season\nmeasur
 
 const BASE: &[u8] = b"id,store,product,season,sale\n1,S1,P1,s,6\n2,S1,P2,s,12\n3,S2,P1,f,9\n";
 
+// No batches.
+const NONE: [&[u8]; 3] = [b"", b"", b""];
+
 // The words, each a text of its own.
 fn words(alloc: Global, texts: &[&str]) -> Result<Vec<String>, AllocError> {
     let mut words = Vec::new(alloc);
@@ -31,15 +34,19 @@ fn run_over(
     alloc: Global,
     schema: &[u8],
     base: &[u8],
+    batches: [&[u8]; 3],
     script: &[u8],
     reads: &[u64],
     writes: &[u64],
 ) -> Result<Ran, AllocError> {
     let mut files = MemoryFiles::new(alloc, reads, 7)?;
     files.add("s.schema", schema)?;
+    files.add("script", script)?;
     files.add("base.csv", base)?;
     files.add("good.csv", BASE)?;
-    files.add("script", script)?;
+    files.add("b.csv", batches[0])?;
+    files.add("c.csv", batches[1])?;
+    files.add("d.csv", batches[2])?;
     let mut out = MemorySink::new(alloc, writes, 1000, 2000)?;
     let mut err = MemorySink::new(alloc, &[], 5, 200)?;
     let words = words(alloc, &["run", "s.schema", "script"])?;
@@ -58,10 +65,11 @@ fn replies(
     alloc: Global,
     schema: &str,
     base: &[u8],
+    batches: [&[u8]; 3],
     script: &[u8],
     out: &str,
 ) -> Result<(), AllocError> {
-    let ran = run_over(alloc, schema.as_bytes(), base, script, &[], &[])?;
+    let ran = run_over(alloc, schema.as_bytes(), base, batches, script, &[], &[])?;
     assert_eq!(rt; ran.status, 0);
     assert_eq!(rt; ran.skipped, 0);
     assert_eq!(rt; ran.out.bytes(), out.as_bytes());
@@ -80,9 +88,9 @@ fn ends(rt: &impl Abort, ran: &Ran, status: u8, out: &str, err: &str) {
 fn points_of_the_worked_table(rt: HostRuntime) -> Result<(), Fail> {
     let script =
         b"load base.csv\npoint *,*,*\npoint S1,*,*\npoint *,P2,f\npoint *,P2,*\npoint S2,P1,f\npoint S3,*,*";
-    let out = "applied,1,3\npoint,2,*,*,*,3,27,6,12,9/1\npoint,3,S1,*,*,2,18,6,12,9/1\nnone,4\n\
+    let out = "applied,1,3,6\npoint,2,*,*,*,3,27,6,12,9/1\npoint,3,S1,*,*,2,18,6,12,9/1\nnone,4\n\
         point,5,*,P2,*,1,12,12,12,12/1\npoint,6,S2,P1,f,1,9,9,9,9/1\nnone,7\n";
-    replies(&rt, rt.alloc(), SCHEMA, BASE, script, out)?;
+    replies(&rt, rt.alloc(), SCHEMA, BASE, NONE, script, out)?;
     Ok(())
 }
 
@@ -93,21 +101,21 @@ fn scripts_that_are_odd_but_good(rt: HostRuntime) -> Result<(), Fail> {
         (b"# nothing\n\n", ""),
         (
             b"\xEF\xBB\xBFload base.csv\r\npoint *,*,*\r",
-            "applied,1,3\npoint,2,*,*,*,3,27,6,12,9/1\n",
+            "applied,1,3,6\npoint,2,*,*,*,3,27,6,12,9/1\n",
         ),
-        (b"\n#\n\r\nload base.csv", "applied,4,3\n"),
+        (b"\n#\n\r\nload base.csv", "applied,4,3,6\n"),
         (b"point *,*,*\n", "none,1\n"),
         (
             b"load base.csv\npoint ,*,*\npoint **,*,*\npoint a b,*,*\n",
-            "applied,1,3\nnone,2\nnone,3\nnone,4\n",
+            "applied,1,3,6\nnone,2\nnone,3\nnone,4\n",
         ),
         (
             b"load base.csv\npoint *,\xC3\xA9,*\n",
-            "applied,1,3\nnone,2\n",
+            "applied,1,3,6\nnone,2\n",
         ),
     ];
     for (script, out) in cases {
-        replies(&rt, rt.alloc(), SCHEMA, BASE, script, out)?;
+        replies(&rt, rt.alloc(), SCHEMA, BASE, NONE, script, out)?;
     }
     Ok(())
 }
@@ -125,21 +133,21 @@ fn lines_that_are_refused(rt: HostRuntime) -> Result<(), Fail> {
         (b"load \n", "refused,1,field,1\n"),
         (
             b"load base.csv\nload base.csv\n",
-            "applied,1,3\nrefused,2,not-empty\n",
+            "applied,1,3,6\nrefused,2,not-empty\n",
         ),
-        (b"point\n", "refused,1,form\n"),
-        (b"point *,*\n", "refused,1,form\n"),
-        (b"point *,*,*,*\n", "refused,1,form\n"),
-        (b"point \"S1\",*,*\n", "refused,1,form\n"),
-        (b"point ?,*,*\n", "refused,1,form\n"),
-        (b"point *,|a,*\n", "refused,1,form\n"),
-        (b"point *,~a~b,*\n", "refused,1,form\n"),
-        (b"point *,*,=s\n", "refused,1,form\n"),
-        (b"point \xEF\xBB\xBF*,*,*\n", "refused,1,form\n"),
-        (b"point *,*,a\rb\n", "refused,1,form\n"),
+        (b"point\n", "refused,1,field,1\n"),
+        (b"point *,*\n", "refused,1,field,3\n"),
+        (b"point *,*,*,*\n", "refused,1,field,4\n"),
+        (b"point ?,*,*\n", "refused,1,field,1\n"),
+        (b"point *,|a,*\n", "refused,1,field,2\n"),
+        (b"point *,*,~a~b\n", "refused,1,field,3\n"),
+        (b"point \xEF\xBB\xBF*,*,*\n", "refused,1,field,1\n"),
+        (b"point *,*,a\rb\n", "refused,1,field,4\n"),
+        (b"apply \n", "refused,1,field,1\n"),
+        (b"apply\n", "refused,1,field,1\n"),
     ];
     for (script, out) in cases {
-        replies(&rt, rt.alloc(), SCHEMA, BASE, script, out)?;
+        replies(&rt, rt.alloc(), SCHEMA, BASE, NONE, script, out)?;
     }
     Ok(())
 }
@@ -154,9 +162,9 @@ fn refuses(
 ) -> Result<(), AllocError> {
     let mut out = String::from_str(alloc, "refused,1,")?;
     out.push_str(code)?;
-    out.push_str("\nnone,2\napplied,3,3\n")?;
+    out.push_str("\nnone,2\napplied,3,3,6\n")?;
     let script = b"load base.csv\npoint *,*,*\nload good.csv";
-    replies(rt, alloc, schema, base, script, out.as_str())
+    replies(rt, alloc, schema, base, NONE, script, out.as_str())
 }
 
 #[test]
@@ -233,52 +241,54 @@ fn rows_and_texts_that_are_too_many(rt: HostRuntime) -> Result<(), Fail> {
     let stores = b"id,store,product,season,sale\n1,a,P,s,6\n2,b,Q,s,6\n3,c,R,s,6\n";
     refuses(&rt, alloc, values, stores, "values,store")?;
     let full = b"id,store,product,season,sale\n1,a,P,s,6\n2,b,Q,s,6\n3,a,Q,s,6\n";
-    replies(&rt, alloc, both, full, b"load base.csv", "applied,1,3\n")?;
+    replies(
+        &rt,
+        alloc,
+        both,
+        BASE,
+        NONE,
+        b"load base.csv",
+        "applied,1,3,6\n",
+    )?;
     Ok(())
 }
 
 #[test]
 fn base_files_that_are_odd_but_good(rt: HostRuntime) -> Result<(), Fail> {
     let cases: [(&[u8], &str); 8] = [
-        (b"id,store,product,season,sale", "applied,1,0\nnone,2\n"),
+        (b"id,store,product,season,sale", "applied,1,0,0\nnone,2\n"),
         (
             b"\xEF\xBB\xBFid,store,product,season,sale\r\n1,\"S,1\",P1,s,6.00\r\n",
-            "applied,1,1\npoint,2,*,*,*,1,6,6,6,6/1\n",
+            "applied,1,1,1\npoint,2,*,*,*,1,6,6,6,6/1\n",
         ),
         (
             b"sale,\xFF,season,op,product,id,store\n+6,x,s,-,P1,1,S1\n-0,x,s,-,P1,2,S1\n",
-            "applied,1,2\npoint,2,*,*,*,2,6,0,6,3/1\n",
+            "applied,1,2,1\npoint,2,*,*,*,2,6,0,6,3/1\n",
         ),
         (
             b"id,store,product,season,sale\n1,\"S\n1\",P1,s,0000000000000000000000000000000000000007.0\n",
-            "applied,1,1\npoint,2,*,*,*,1,7,7,7,7/1\n",
+            "applied,1,1,1\npoint,2,*,*,*,1,7,7,7,7/1\n",
         ),
         (
             b"id,store,product,season,sale\n1,S1,P1,s,6",
-            "applied,1,1\npoint,2,*,*,*,1,6,6,6,6/1\n",
+            "applied,1,1,1\npoint,2,*,*,*,1,6,6,6,6/1\n",
         ),
         (
             b"id,store,product,season,sale\n\n18446744073709551615,S1,P1,s,-999999999999\n\n",
-            "applied,1,1\npoint,2,*,*,*,1,-999999999999,-999999999999,-999999999999,-999999999999/1\n",
+            "applied,1,1,1\npoint,2,*,*,*,1,-999999999999,-999999999999,-999999999999,-999999999999/1\n",
         ),
         (
             b"id,store,product,season,sale\n1,,P1,s,5\n002,*,P1,s,-5\n",
-            "applied,1,2\npoint,2,*,*,*,2,0,-5,5,0/1\n",
+            "applied,1,2,3\npoint,2,*,*,*,2,0,-5,5,0/1\n",
         ),
         (
             b"id,store,product,season,sale\n1,a,b,c,-1\n2,a,b,c,-4\n",
-            "applied,1,2\npoint,2,*,*,*,2,-5,-4,-1,-5/2\n",
+            "applied,1,2,1\npoint,2,*,*,*,2,-5,-4,-1,-5/2\n",
         ),
     ];
     for (base, out) in cases {
-        replies(
-            &rt,
-            rt.alloc(),
-            SCHEMA,
-            base,
-            b"load base.csv\npoint *,*,*",
-            out,
-        )?;
+        let script = b"load base.csv\npoint *,*,*";
+        replies(&rt, rt.alloc(), SCHEMA, base, NONE, script, out)?;
     }
     Ok(())
 }
@@ -327,7 +337,7 @@ fn schemas_that_are_refused(rt: HostRuntime) -> Result<(), Fail> {
         (b"qcube 1\nid \xFF\n", "qcube: schema not UTF-8\n"),
     ];
     for (schema, line) in cases {
-        let ran = run_over(rt.alloc(), schema, BASE, b"load base.csv", &[], &[])?;
+        let ran = run_over(rt.alloc(), schema, BASE, NONE, b"load base.csv", &[], &[])?;
         ends(&rt, &ran, 6, "", line);
     }
     Ok(())
@@ -340,23 +350,196 @@ fn schemas_that_are_odd_but_good(rt: HostRuntime) -> Result<(), Fail> {
             "\u{FEFF}# a shop\r\n  qcube   1 \r\n\r\nid id\r\ndim store\r\nindex count\r\nvalues 0000001",
             b"id,store\n1,a\n2,a\n".as_slice(),
             b"load base.csv\npoint a\npoint *".as_slice(),
-            "applied,1,2\npoint,2,a,2\npoint,3,*,2\n",
+            "applied,1,2,1\npoint,2,a,2\npoint,3,*,2\n",
         ),
         (
             "qcube 1\nid id\ndim store\nmeasure sale 2\nindex mean sale\n",
             b"id,store,sale\n1,a,6.5\n2,a,+6.500\n3,b,-0.07\n",
             b"load base.csv\npoint a\npoint b\npoint *",
-            "applied,1,3\npoint,2,a,2,13.00,6.50,6.50,13/2\npoint,3,b,1,-0.07,-0.07,-0.07,-7/100\npoint,4,*,3,12.93,-0.07,6.50,431/100\n",
+            "applied,1,3,3\npoint,2,a,2,13.00,6.50,6.50,13/2\npoint,3,b,1,-0.07,-0.07,-0.07,-7/100\npoint,4,*,3,12.93,-0.07,6.50,431/100\n",
         ),
         (
             "qcube 1\nid order\ndim store\ndim product\ndim season\nmeasure sale 2\nindex sum sale\n",
             b"\xEF\xBB\xBFseason,order,note,sale,product,store,clerk\r\n*,100,first,6.00,=x,\"Smith, Sons\",Ann\r\n*,101,,6.5,=x,\"Smith, Sons\",Bob\r\nf,102,,10,P1,S2,Ann\r\n",
-            b"load base.csv\npoint *,*,*",
-            "applied,1,3\npoint,2,*,*,*,3,22.50,6.00,10.00,15/2\n",
+            b"load base.csv\npoint \"Smith, Sons\",==x,=*\npoint *,*,*",
+            "applied,1,3,3\npoint,2,\"Smith, Sons\",==x,=*,2,12.50,6.00,6.50,25/4\npoint,3,*,*,*,3,22.50,6.00,10.00,15/2\n",
         ),
     ];
     for (schema, base, script, out) in cases {
-        replies(&rt, rt.alloc(), schema, base, script, out)?;
+        replies(&rt, rt.alloc(), schema, base, NONE, script, out)?;
+    }
+    Ok(())
+}
+
+#[test]
+fn batches_that_are_applied(rt: HostRuntime) -> Result<(), Fail> {
+    let cases: [([&[u8]; 3], &[u8], &str); 6] = [
+        (
+            [
+                b"op,id,store,product,season,sale\n+,1,S2,P2,s,4\n-,1,,,,\n",
+                b"",
+                b"",
+            ],
+            b"load base.csv\napply b.csv\npoint S2,*,*\npoint S1,P1,*",
+            "applied,1,3,6\napplied,2,2,6\npoint,3,S2,*,*,2,13,4,9,13/2\nnone,4\n",
+        ),
+        (
+            [
+                b"op,id,store,product,season,sale\n-,1,,,,\n-,003,,,,x\n-,2,,,,\n",
+                b"op,id,store,product,season,sale\n-,2,,,,\n",
+                b"op,id,store,product,season,sale\n",
+            ],
+            b"load base.csv\napply b.csv\npoint *,*,*\napply c.csv\napply d.csv\nload base.csv\npoint *,*,s",
+            "applied,1,3,6\napplied,2,3,0\nnone,3\nrefused,4,missing,1\napplied,5,0,0\napplied,6,3,6\npoint,7,*,*,s,2,18,6,12,9/1\n",
+        ),
+        (
+            [
+                b"op,id,store,product,season,sale\n+,4,S2,P2,f,3\n",
+                b"op,id,store,product,season,sale\n-,4,,,,\n",
+                b"op,id,store,product,season,sale\n+,5,S1,P1,s,-6\n",
+            ],
+            b"load base.csv\napply b.csv\npoint *,P2,*\napply c.csv\napply d.csv\npoint S1,P1,s\npoint S2,*,*",
+            "applied,1,3,6\napplied,2,1,9\npoint,3,*,P2,*,2,15,3,12,15/2\napplied,4,1,6\napplied,5,1,6\npoint,6,S1,P1,s,2,0,-6,6,0/1\npoint,7,S2,*,*,1,9,9,9,9/1\n",
+        ),
+        (
+            [
+                b"op,id,store,product,season,sale\n+,18446744073709551615,S1,P1,s,999999999999\n",
+                b"\xEF\xBB\xBFsale,clerk,op,product,store,id,season\r\n7,Ann,+,\"P,3\",\"S\"\"3\",7,=\r\n",
+                b"",
+            ],
+            b"apply b.csv\napply c.csv\npoint \"S\"\"3\",*,*\npoint *,*,==\npoint *,*,*",
+            "applied,1,1,1\napplied,2,1,3\npoint,3,\"S\"\"3\",*,*,1,7,7,7,7/1\npoint,4,*,*,==,1,7,7,7,7/1\npoint,5,*,*,*,2,1000000000006,7,999999999999,500000000003/1\n",
+        ),
+        (
+            [
+                b"op,id,store,product,season,sale\n+,4,?,|x,~y,1\n+,5,\"*\",,\"a\rb\",2\n",
+                b"",
+                b"",
+            ],
+            b"apply b.csv\npoint =?,*,*\npoint *,=|x,*\npoint *,*,=~y\npoint =*,,*\npoint =*,*,*",
+            "applied,1,2,3\npoint,2,=?,*,*,1,1,1,1,1/1\npoint,3,*,=|x,*,1,1,1,1,1/1\npoint,4,*,*,=~y,1,1,1,1,1/1\npoint,5,=*,,*,1,2,2,2,2/1\npoint,6,=*,*,*,1,2,2,2,2/1\n",
+        ),
+        (
+            [
+                b"op,id,store,product,season,sale\n+,4,aaaaaaaaaaaaaaaaaaaaaaaaaaaaaaaaaaaaaaaaaaaaaaaaaaaaaaaaaaaaaaaaaaaaaaaaaaaaaaaaaaaaaaaaaaaaaaaaaaaaaaaaaaaaaaaaaaaaaaaaaaaaaaaaaaaaaaaaaaaaaaaaaaaaaaaaaaaaaaaaaaaaaaaaaaaaaaaaaaaaaaaaaaaaaaaaaaaaaaaaaaaaaaaaaaaaaaaaaaaaaaaaaaaaaaaaaaaaaaaaaaaaaaaaaaaaaaa,P1,s,1\n",
+                b"op,id,store,product,season,sale\n+,5,aaaaaaaaaaaaaaaaaaaaaaaaaaaaaaaaaaaaaaaaaaaaaaaaaaaaaaaaaaaaaaaaaaaaaaaaaaaaaaaaaaaaaaaaaaaaaaaaaaaaaaaaaaaaaaaaaaaaaaaaaaaaaaaaaaaaaaaaaaaaaaaaaaaaaaaaaaaaaaaaaaaaaaaaaaaaaaaaaaaaaaaaaaaaaaaaaaaaaaaaaaaaaaaaaaaaaaaaaaaaaaaaaaaaaaaaaaaaaaaaaaaaaaaaaaaaaaaa,P1,s,1\n",
+                b"op,id,store,product,season,sale\n-,4,aaaaaaaaaaaaaaaaaaaaaaaaaaaaaaaaaaaaaaaaaaaaaaaaaaaaaaaaaaaaaaaaaaaaaaaaaaaaaaaaaaaaaaaaaaaaaaaaaaaaaaaaaaaaaaaaaaaaaaaaaaaaaaaaaaaaaaaaaaaaaaaaaaaaaaaaaaaaaaaaaaaaaaaaaaaaaaaaaaaaaaaaaaaaaaaaaaaaaaaaaaaaaaaaaaaaaaaaaaaaaaaaaaaaaaaaaaaaaaaaaaaaaaaaaaaaaaaaaaaaaaaaaaaaaaaaaaaaaaaaaaaaaaaaaaaaaaaaaaaa,P1,s,x\n",
+            ],
+            b"apply b.csv\napply c.csv\napply d.csv",
+            "applied,1,1,1\nrefused,2,value,1\napplied,3,1,0\n",
+        ),
+    ];
+    for (batches, script, out) in cases {
+        replies(&rt, rt.alloc(), SCHEMA, BASE, batches, script, out)?;
+    }
+    Ok(())
+}
+
+// A batch over the worked table is refused with this code, and changes nothing.
+fn refuses_batch(
+    rt: &impl Abort,
+    alloc: Global,
+    schema: &str,
+    batch: &[u8],
+    code: &str,
+) -> Result<(), AllocError> {
+    let mut out = String::from_str(alloc, "applied,1,3,6\nrefused,2,")?;
+    out.push_str(code)?;
+    out.push_str("\npoint,3,*,*,*,3,27,6,12,9/1\nnone,4\npoint,5,S2,*,*,1,9,9,9,9/1\n")?;
+    let script = b"load base.csv\napply b.csv\npoint *,*,*\npoint S9,*,*\npoint S2,*,*";
+    let batches = [batch, b"", b""];
+    replies(rt, alloc, schema, BASE, batches, script, out.as_str())
+}
+
+#[test]
+fn batches_that_are_refused(rt: HostRuntime) -> Result<(), Fail> {
+    let cases: [(&[u8], &str); 19] = [
+        (b"", "header"),
+        (b"id,store,product,season,sale\n4,S9,P1,s,1\n", "header"),
+        (b"op,op,id,store,product,season,sale\n", "header"),
+        (
+            b"op,id,store,product,season,sale\n+,7,S9,P1,s,1\n+,8,S1,P9,s,2\n+,9,S1,P1,s,x\n",
+            "amount,3",
+        ),
+        (
+            b"op,id,store,product,season,sale\n+,4,S9,P1,s,1\n-,2\n",
+            "fields,2",
+        ),
+        (b"op,id,store,product,season,sale\nx,4a,S9,P1,s,1\n", "op,1"),
+        (b"op,id,store,product,season,sale\n ,4,S9,P1,s,1\n", "op,1"),
+        (b"op,id,store,product,season,sale\n+,4a,S9,P1,s,x\n", "id,1"),
+        (
+            b"op,id,store,product,season,sale\n-,18446744073709551616,,,,\n",
+            "id,1",
+        ),
+        (
+            b"sale,season,op,id,store,product\nx,s,x,4a,\xFF,P1\n",
+            "utf8,1",
+        ),
+        (
+            b"op,id,store,product,season,sale\n-,1,S9,\xFF,s,1\n",
+            "utf8,1",
+        ),
+        (
+            b"op,id,store,product,season,sale\n+,4,S9,P1,s,1000000000000\n",
+            "amount,1",
+        ),
+        (
+            b"op,id,store,product,season,sale\n+,4,S9,P1,s,1\n+,4,S9,P1,s,1\n-,9,,,,\n",
+            "twice,2",
+        ),
+        (
+            b"op,id,store,product,season,sale\n-,9,,,,\n+,1,S9,P1,s,1\n-,1,,,,\n-,1,,,,\n",
+            "twice,4",
+        ),
+        (
+            b"op,id,store,product,season,sale\n+,3,S9,P1,s,1\n-,1,,,,\n-,9,,,,\n",
+            "missing,3",
+        ),
+        (
+            b"op,id,store,product,season,sale\n+,4,S9,P1,s,1\n-,4,,,,\n",
+            "missing,2",
+        ),
+        (
+            b"op,id,store,product,season,sale\n-,4,,,,\n+,4,S9,P1,s,1\n",
+            "missing,1",
+        ),
+        (
+            b"op,id,store,product,season,sale\n+,4,S9,P1,s,1\n-,2,,,,\n+,2,S9,P1,s,1\n+,01,S9,P1,s,1\n",
+            "present,4",
+        ),
+        (
+            b"op,id,store,product,season,sale\n+,1,S9,P1,s,1\n+,2,S9,P1,s,x\n",
+            "amount,2",
+        ),
+    ];
+    for (batch, code) in cases {
+        refuses_batch(&rt, rt.alloc(), SCHEMA, batch, code)?;
+    }
+    let limits = [
+        (
+            "qcube 1\nid id\ndim store\ndim product\ndim season\nmeasure sale 0\nrows 3\n",
+            b"op,id,store,product,season,sale\n+,4,S9,P2,f,3\n".as_slice(),
+            "rows",
+        ),
+        (
+            "qcube 1\nid id\ndim store\ndim product\ndim season\nmeasure sale 0\nvalues 2\n",
+            b"op,id,store,product,season,sale\n-,3,,,,\n+,4,S9,P1,s,1\n",
+            "values,store",
+        ),
+        (
+            "qcube 1\nid id\ndim store\ndim product\ndim season\nmeasure sale 0\nrows 4\nvalues 2\n",
+            b"op,product,season,id,store,sale\n+,P9,s,4,S1,1\n-,,,1,,\n+,P1,s,5,S9,1\n",
+            "values,store",
+        ),
+        (
+            "qcube 1\nid id\ndim store\ndim product\ndim season\nmeasure sale 0\nrows 3\nvalues 2\n",
+            b"op,id,store,product,season,sale\n-,1,,,,\n+,4,S2,P9,f,3\n",
+            "values,product",
+        ),
+    ];
+    for (schema, batch, code) in limits {
+        refuses_batch(&rt, rt.alloc(), schema, batch, code)?;
     }
     Ok(())
 }
@@ -394,7 +577,8 @@ fn faults_of_the_files_and_of_out(rt: HostRuntime) -> Result<(), Fail> {
         alloc,
         schema,
         BASE,
-        b"load base.csv\nload gone.csv\npoint *,*,*",
+        NONE,
+        b"load base.csv\napply gone.csv\npoint *,*,*",
         &[],
         &[],
     )?;
@@ -402,19 +586,20 @@ fn faults_of_the_files_and_of_out(rt: HostRuntime) -> Result<(), Fail> {
         &rt,
         &gone,
         3,
-        "applied,1,3\n",
+        "applied,1,3,6\n",
         "qcube: cannot read gone.csv\n",
     );
-    let first = run_over(alloc, schema, BASE, b"load base.csv", &[0], &[])?;
+    let first = run_over(alloc, schema, BASE, NONE, b"load base.csv", &[0], &[])?;
     ends(&rt, &first, 3, "", "qcube: cannot read s.schema\n");
     let second = run_over(
         alloc,
         schema,
         BASE,
+        NONE,
         b"load base.csv\npoint *,*,*",
         &[],
         &[1],
     )?;
-    ends(&rt, &second, 4, "applied,1,3\n", "qcube: cannot write\n");
+    ends(&rt, &second, 4, "applied,1,3,6\n", "qcube: cannot write\n");
     Ok(())
 }

@@ -1,12 +1,23 @@
-use Rattle.std.proofs.Common.{◌≡◌, arith, sym, Some}
+use Rattle.std.proofs.Common.{◌∙◌, ◌≡◌, ◌<◌, sym, arith, length, get_or, drop, [], Some}
+use Rattle.std.proofs.lemmas.List.{drop_all}
 use Rattle.csv.specs.Records.{fields_of}
-use Rattle.qc_schema.specs.Schema.{names_of}
-use Rattle.csv_load.specs.Columns.{places_in}
-use Rattle.csv_load.proofs.Names.{places-all, places-within}
+use Rattle.csv_load.specs.Columns.{needed_names, place_from, places_in}
+use Rattle.csv_load.proofs.Names.{needed-name, places-all, places-end, places-step, places-within}
 use Rattle.csv_load.proofs.columns.find_columns.Goals as goal
+
+pub names-preserved : goal.names-preserved
+names-preserved c =
+    let names = needed_names c.args.has_op c.args.schema.now in
+    let lt : c.names.column < length names = omega (arith, c.needed_count-count.ensures.count) in
+    let here : place_from 0 (get_or names c.names.column []) (fields_of c.args.header.now) ≡ Some c.in-Some.place
+    = rw (needed-name c.args.has_op c.args.schema.now c.names.column lt) (rw c.needed_name.ensures at (sym c.in-Some.ensures)) in
+    rw c.in_ok-push.ensures.items (sym (places-step (fields_of c.args.header.now) names c.names.places.items c.names.column c.in-Some.place lt here) ∙ c.names.invariant)
 
 pub returns-clause-are : goal.returns-clause-are
 returns-clause-are c =
-    let is : places_in (fields_of c.args.header.now) (names_of c.args.schema.now) ≡ Some c.in-Some.places.items = sym (rw c.in-Some.is at c.in_ok-places.ensures.found) in
-    let all = places-all (fields_of c.args.header.now) (names_of c.args.schema.now) c.in-Some.places.items is in
-    record { all = all; few = omega (arith, all, c.in_ok-places.ensures.few); within = rw c.len-width.ensures (places-within (fields_of c.args.header.now) (names_of c.args.schema.now) c.in-Some.places.items is) }
+    let header = fields_of c.args.header.now in
+    let names = needed_names c.args.has_op c.args.schema.now in
+    let end : drop c.names.column names ≡ [] = drop_all c.names.column names (omega (arith, c.needed_count-count.ensures.count)) in
+    let is : places_in header names ≡ Some c.names.places.items = sym (rw end at c.names.invariant) ∙ places-end header c.names.places.items in
+    let all = places-all header names c.names.places.items is in
+    record { all = all; few = omega (arith, all, c.needed_count-count.ensures); within = rw c.len-width.ensures (places-within header names c.names.places.items is) }

@@ -1,13 +1,13 @@
-use Rattle.std.proofs.Common.{◌∙◌, ◌≡◌, ◌<◌, ◌+◌, ◌++◌, ◌∷◌, sym, ap, arith, length, get_or, drop, [], Some, ℤ, w64}
+use Rattle.std.proofs.Common.{◌∙◌, ◌≡◌, ◌<◌, ◌+◌, ◌++◌, ◌∷◌, sym, ap, arith, length, get_or, drop, [], Some, None, ℤ, w64, inr, refl}
 use Rattle.std.proofs.lemmas.Int.{to_z-of_z}
 use Rattle.std.proofs.lemmas.List.{append-nil, drop_all}
 use Rattle.csv.specs.Records.{fields_of}
 use Rattle.aggregates.specs.Numbers.{amount_in}
 use Rattle.qc_schema.specs.Schema.{no_measure}
-use Rattle.csv_load.specs.Base.{amounts_in}
+use Rattle.csv_load.specs.Files.{amounts_in, amounts_of}
 use Rattle.csv_load.specs.Columns.{fields_at}
-use Rattle.csv_load.proofs.Amounts.{abs-fits, amount-small, amounts-step, amounts_with, some-with}
-use Rattle.csv_load.proofs.Names.{length-at, names-all}
+use Rattle.csv_load.proofs.Amounts.{abs-fits, amount-small, amounts-none, amounts-step, amounts_with, none-with, some-with}
+use Rattle.csv_load.proofs.Names.{length-at, needed-some}
 use Rattle.csv_load.proofs.reading.push_amounts.Goals as goal
 
 pub loop-measure-preserved : goal.loop-measure-preserved
@@ -20,7 +20,7 @@ loop-measure-preserved c =
     let fits = abs-fits c.in-Some.amount (amount-small (get_or c.args.schema.now.measures c.loop-measure.measure no_measure).scale (get_or fields (1 + length c.args.schema.now.dims + c.loop-measure.measure) []) c.in-Some.amount here) in
     let lt : c.loop-measure.measure < length c.args.schema.now.measures = omega (arith, c.measures-measure-end.ensures) in
     let within : 1 + length c.args.schema.now.dims + c.loop-measure.measure < length fields
-    = omega (arith, lt, c.requires.columns.all, names-all c.args.schema.now, length-at c.args.columns.now.places.items (fields_of c.args.row.now)) in
+    = omega (arith, lt, c.requires.columns.all, needed-some c.args.columns.now.has_op c.args.schema.now, length-at c.args.columns.now.places.items (fields_of c.args.row.now)) in
     let pushed : c.push.new.self.items ≡ c.loop-measure.amounts.items ++ c.in-Some.amount ∷ [] = c.in_ok-push.ensures.items ∙ ap (λ (z : ℤ). c.loop-measure.amounts.items ++ z ∷ []) (to_z-of_z w64 c.in-Some.amount fits) in
     rw (pushed, place) (sym (amounts-step c.args.schema.now.measures fields c.loop-measure.amounts.items c.loop-measure.measure (1 + length c.args.schema.now.dims + c.loop-measure.measure) c.in-Some.amount lt within here) ∙ c.loop-measure.invariant)
 
@@ -31,3 +31,18 @@ returns-clause-ok c =
     let done : Some (c.loop-measure.amounts.items ++ []) ≡ amounts_with c.args.amounts.now.items (amounts_in c.args.schema.now.measures (drop (1 + length c.args.schema.now.dims) fields)) = rw end at c.loop-measure.invariant in
     let s = some-with c.args.amounts.now.items (c.loop-measure.amounts.items ++ []) (amounts_in c.args.schema.now.measures (drop (1 + length c.args.schema.now.dims) fields)) (sym done) in
     (s.0, s.1, sym (append-nil c.loop-measure.amounts.items) ∙ s.2)
+
+pub returns-in_default-clause-err : goal.returns-in_default-clause-err
+returns-in_default-clause-err c =
+    let fields = fields_at c.args.columns.now.places.items (fields_of c.args.row.now) in
+    let first : 1 + c.dims.result + c.loop-measure.measure ≡ 1 + length c.args.schema.now.dims + c.loop-measure.measure = omega (arith, c.dims.ensures.count) in
+    let none : amount_in (get_or c.args.schema.now.measures c.loop-measure.measure no_measure).scale (get_or fields (1 + length c.args.schema.now.dims + c.loop-measure.measure) []) ≡ None
+    = rw (c.needed_field-field.ensures, c.scale.ensures, first) at (sym c.in_default.ensures) in
+    let lt : c.loop-measure.measure < length c.args.schema.now.measures = omega (arith, c.measures-measure-end.ensures) in
+    let within : 1 + length c.args.schema.now.dims + c.loop-measure.measure < length fields
+    = omega (arith, lt, c.requires.columns.all, needed-some c.args.columns.now.has_op c.args.schema.now, length-at c.args.columns.now.places.items (fields_of c.args.row.now)) in
+    inr (
+      refl,
+      none-with c.args.amounts.now.items (amounts_of c.args.schema.now fields)
+          (sym c.loop-measure.invariant ∙ amounts-none c.args.schema.now.measures fields c.loop-measure.amounts.items c.loop-measure.measure (1 + length c.args.schema.now.dims + c.loop-measure.measure) lt within none),
+    )

@@ -1,6 +1,6 @@
 use Rattle.std.proofs.Common.{◌≡◌, ◌+◌, length, drop}
 use Rattle.csv.specs.Records.{fields_of}
-use Rattle.csv_load.specs.Base.{amounts_in}
+use Rattle.csv_load.specs.Files.{amounts_in}
 use Rattle.csv_load.specs.Columns.{fields_at}
 use Rattle.csv_load.proofs.Amounts.{amounts_with}
 use Rattle.csv_load.proofs.reading.push_amounts.Given as goal

@@ -4,7 +4,7 @@ use Rattle.std.proofs.lemmas.Str.{is_utf8-from_IsUtf8}
 use Rattle.csv.specs.Records.{fields_of}
 use Rattle.csv_load.specs.Columns.{fields_at}
 use Rattle.csv_load.proofs.Fields.{bad-first, good-first, not-utf8, short-bad, short-good, texts-more}
-use Rattle.csv_load.proofs.Names.{length-at, names-all}
+use Rattle.csv_load.proofs.Names.{length-at, needed-some}
 use Rattle.csv_load.proofs.Sizes.{room-more}
 use Rattle.csv_load.proofs.reading.push_texts.Goals as goal
 use Rattle.csv_load.proofs.reading.push_texts.Goals.{then-text-gt-LONGEST_TEXT, else-text-gt-LONGEST_TEXT}
@@ -13,7 +13,7 @@ pub returns-in_default-clause-err : goal.returns-in_default-clause-err
 returns-in_default-clause-err c =
     let fields = fields_at c.args.columns.now.places.items (fields_of c.args.row.now) in
     let low : 1 + c.loop-dim.dim < 1 + length c.args.schema.now.dims = omega (arith, c.dims-dim-end.ensures.count) in
-    let high : 1 + length c.args.schema.now.dims ≤ length fields = omega (arith, c.requires.columns.all, names-all c.args.schema.now, length-at c.args.columns.now.places.items (fields_of c.args.row.now)) in
+    let high : 1 + length c.args.schema.now.dims ≤ length fields = omega (arith, c.requires.columns.all, needed-some c.args.columns.now.has_op c.args.schema.now, length-at c.args.columns.now.places.items (fields_of c.args.row.now)) in
     let bad : is_utf8 (get_or fields (1 + c.loop-dim.dim) []) ≡ false = rw c.needed_field-field.ensures at (not-utf8 _ c.in_default.ensures.cases.0) in
     inr (refl, sym c.loop-dim.invariant.utf8 ∙ bad-first is_utf8 fields (1 + c.loop-dim.dim) (1 + length c.args.schema.now.dims) low high bad)
 
@@ -21,7 +21,7 @@ pub push-requires : goal.push-requires
 push-requires c =
     let fields = fields_at c.args.columns.now.places.items (fields_of c.args.row.now) in
     let low : 1 + c.loop-dim.dim < 1 + length c.args.schema.now.dims = omega (arith, c.dims-dim-end.ensures.count) in
-    let high : 1 + length c.args.schema.now.dims ≤ length fields = omega (arith, c.requires.columns.all, names-all c.args.schema.now, length-at c.args.columns.now.places.items (fields_of c.args.row.now)) in
+    let high : 1 + length c.args.schema.now.dims ≤ length fields = omega (arith, c.requires.columns.all, needed-some c.args.columns.now.has_op c.args.schema.now, length-at c.args.columns.now.places.items (fields_of c.args.row.now)) in
     let one : c.in-Ok.text.now ≡ get_or fields (1 + c.loop-dim.dim) [] = c.in-Ok.ensures.cases.0 ∙ c.needed_field-field.ensures in
     omega (arith, c.requires.room, ap length one, room-more c.loop-dim.texts c.args.texts.now fields (1 + c.loop-dim.dim) (1 + length c.args.schema.now.dims) 1 low high c.loop-dim.invariant.texts)
 
@@ -29,7 +29,7 @@ pub loop-dim-preserved : goal.loop-dim-preserved
 loop-dim-preserved c =
     let fields = fields_at c.args.columns.now.places.items (fields_of c.args.row.now) in
     let low : 1 + c.loop-dim.dim < 1 + length c.args.schema.now.dims = omega (arith, c.dims-dim-end.ensures.count) in
-    let high : 1 + length c.args.schema.now.dims ≤ length fields = omega (arith, c.requires.columns.all, names-all c.args.schema.now, length-at c.args.columns.now.places.items (fields_of c.args.row.now)) in
+    let high : 1 + length c.args.schema.now.dims ≤ length fields = omega (arith, c.requires.columns.all, needed-some c.args.columns.now.has_op c.args.schema.now, length-at c.args.columns.now.places.items (fields_of c.args.row.now)) in
     let one : c.in-Ok.text.now ≡ get_or fields (1 + c.loop-dim.dim) [] = c.in-Ok.ensures.cases.0 ∙ c.needed_field-field.ensures in
     let good : is_utf8 (get_or fields (1 + c.loop-dim.dim) []) ≡ true = rw c.needed_field-field.ensures at (is_utf8-from_IsUtf8 c.needed_field-field.result.now c.in-Ok.ensures.cases.1) in
     let place : 1 + (c.loop-dim.dim + 1) ≡ 1 + c.loop-dim.dim + 1 = omega arith in

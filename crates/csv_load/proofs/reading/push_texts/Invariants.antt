@@ -3,7 +3,7 @@ use Rattle.std.specs.Prelude.{slice_range, ◌&&◌}
 use Rattle.std.specs.List.{list_all}
 use Rattle.std.specs.Str.{is_utf8}
 use Rattle.csv.specs.Records.{fields_of}
-use Rattle.csv_load.specs.Base.{is_short}
+use Rattle.csv_load.specs.Files.{is_short}
 use Rattle.csv_load.specs.Columns.{fields_at}
 use Rattle.csv_load.proofs.reading.push_texts.Given as goal
 

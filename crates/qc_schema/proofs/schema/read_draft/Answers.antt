@@ -26,12 +26,12 @@ returns-in-Err c =
     let P : List ℕ → Type 0 = λ line. Fails c.in-Err.refused (take_line (state_in c.lines.reader) line) in
     let Q : Result Layout Fault → Type 0 = λ read. FailsAs (refused_at c.lines.line c.in-Err.refused) read in
     rw c.at.ensures (subst Q c.lines.invariant.read
-    (read-fails c.lines.rest.now c.split_line.result.0.now c.split_line.result.1.now c.lines.line (state_in c.lines.reader) c.in-Err.refused c.split_line.ensures.lines (subst P c.trim_cr.ensures c.in-Err.ensures)))
+    (read-fails c.lines.rest.now c.split_line.result.0.now c.split_line.result.1.now c.lines.line (state_in c.lines.reader) c.in-Err.refused c.split_line.ensures.lines (subst P c.trim_cr.ensures.value c.in-Err.ensures)))
 
 pub lines-preserved : goal.lines-preserved
 lines-preserved c =
     let taken : take_line (state_in c.lines.reader) (without_cr c.split_line.result.0.now) ≡ Ok (state_in c.read_line.new.self) =
-    ap (take_line (state_in c.lines.reader)) (sym c.trim_cr.ensures) ∙ c.in-Ok.ensures in
+    ap (take_line (state_in c.lines.reader)) (sym c.trim_cr.ensures.value) ∙ c.in-Ok.ensures in
     record {
       read = sym (read-more c.lines.rest.now c.split_line.result.0.now c.split_line.result.1.now c.lines.line (state_in c.lines.reader) (state_in c.read_line.new.self) c.split_line.ensures.lines taken) ∙ c.lines.invariant.read;
       keeps = line-kept (state_in c.lines.reader) (state_in c.read_line.new.self) (without_cr c.split_line.result.0.now) c.lines.invariant.keeps taken;

@@ -1,7 +1,7 @@
 use Rattle.std.proofs.Common.{◌∙◌, codes, decimal, map}
 use Rattle.aggregates.specs.Views.{agg_in}
 use Rattle.qc_session.specs.Replies.{agg_texts, entry_text}
-use Rattle.qc_session.specs.Points.{cell_of_fields}
+use Rattle.qc_session.specs.Answers.{cell_asked}
 use Rattle.qc_session.proofs.Records.{record-written}
 use Rattle.qc_session.proofs.answer_text.point_reply.Goals as goal
 
@@ -11,4 +11,4 @@ returns c =
     let cell = rw number at c.in_ok-push_cell.ensures in
     let agg = rw cell at c.in_ok-push_agg.ensures in
     rw agg at c.in_ok-push.ensures.items
-    ∙ record-written (codes "point") (decimal c.args.line) (map entry_text (cell_of_fields c.args.cell.now)) (agg_texts c.args.schema.now.measures (agg_in c.args.total.now))
+    ∙ record-written (codes "point") (decimal c.args.line) (map entry_text (cell_asked c.args.cell.now)) (agg_texts c.args.schema.now.measures (agg_in c.args.total.now))

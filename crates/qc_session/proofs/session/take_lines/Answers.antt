@@ -1,9 +1,10 @@
-use Rattle.std.proofs.Common.{arith, refl, ◌∙◌, sym, ap, [], ◌∷◌, ◌++◌, ◌≡◌, ◌+◌, length, map, List, ℕ, None, IfSome, IsTrue}
+use Rattle.std.proofs.Common.{◌==◌, true, arith, refl, ◌∙◌, sym, ap, [], ◌∷◌, ◌++◌, ◌≡◌, ◌+◌, length, map, List, ℕ, None, Some, IfSome, IsTrue}
+use Rattle.std.proofs.lemmas.Bool.Decides.{nat_tests}
 use Rattle.std.proofs.lemmas.Grind.{common_steps}
 use Rattle.qc_session.specs.Lines.{lines_of, without_cr}
 use Rattle.qc_session.specs.Session.{WrotePart}
-use Rattle.qc_session.specs.Answers.{Load, command_of}
-use Rattle.qc_session.proofs.Steps.{front-push, if_read, if_write, length-push, lines-regroup, skipped-front, skipped-push, skips-up_to, so_far-none, so_far-push, stopped-at}
+use Rattle.qc_session.specs.Answers.{file_of}
+use Rattle.qc_session.proofs.Steps.{front-push, if_read, if_write, length-push, lines-regroup, skipped-front, skipped-push, skips-up_to, so_far-none, so_far-push, stopped-at, wrote-all}
 use Rattle.qc_session.proofs.session.take_lines.Goals as goal
 
 pub lines-init : goal.lines-init
@@ -13,6 +14,7 @@ lines-init g c = record {
   told = refl;
   steady = λ h. h;
   room = grind (arith, common_steps);
+  short = grind (arith, common_steps);
   few = grind (arith, common_steps);
   up_to = rw c.requires.fresh.1 tt;
   so_far = (
@@ -30,13 +32,14 @@ lines-preserved g c =
     let e = c.in-Ok.ensures in
     let split : length (lines_of c.lines.rest.now) ≡ length (lines_of c.split_line.result.1.now) + 1 = rw c.split_line.ensures.lines (omega arith) in
     let cut : map without_cr (lines_of c.lines.rest.now) ≡ c.trim_cr.result.now ∷ map without_cr (lines_of c.split_line.result.1.now) =
-    ap (map without_cr) c.split_line.ensures.lines ∙ ap (λ (line : List ℕ). line ∷ map without_cr (lines_of c.split_line.result.1.now)) (sym c.trim_cr.ensures) in
+    ap (map without_cr) c.split_line.ensures.lines ∙ ap (λ (line : List ℕ). line ∷ map without_cr (lines_of c.split_line.result.1.now)) (sym c.trim_cr.ensures.value) in
     record {
       later_files = omega arith;
       later_out = omega arith;
       told = e.told ∙ inv.told;
       steady = λ h. e.steady (inv.steady h);
       room = omega (arith, inv.room, e.capacity, e.length, split);
+      short = omega (arith, inv.short, c.split_line.ensures.shorter);
       few = omega (arith, inv.few, e.number, split);
       up_to = rw e.number (skips-up_to _ c.trim_cr.result.now _ _ inv.up_to e.skips);
       so_far =
@@ -54,7 +57,7 @@ returns-in-Err-clause-skipped g c =
     let inv = c.lines.invariant in
     let e = c.in-Err.ensures in
     let cut : map without_cr (lines_of c.lines.rest.now) ≡ c.trim_cr.result.now ∷ map without_cr (lines_of c.split_line.result.1.now) =
-    ap (map without_cr) c.split_line.ensures.lines ∙ ap (λ (line : List ℕ). line ∷ map without_cr (lines_of c.split_line.result.1.now)) (sym c.trim_cr.ensures) in
+    ap (map without_cr) c.split_line.ensures.lines ∙ ap (λ (line : List ℕ). line ∷ map without_cr (lines_of c.split_line.result.1.now)) (sym c.trim_cr.ensures.value) in
     let (done, all, len, skipped, wrote) = inv.so_far in
     skipped-front (done ++ c.trim_cr.result.now ∷ []) (map without_cr (lines_of c.split_line.result.1.now)) _ (c.lines.session.number + 1) _
     (length-push done _ _ _ len refl) (skips-up_to _ c.trim_cr.result.now _ _ inv.up_to e.skips) (lines-regroup done _ _ _ _ all cut) (skipped-push c.lines.session.number c.trim_cr.result.now _ _ done len inv.up_to e.skips skipped)
@@ -65,10 +68,10 @@ returns-in-Err-clause-part g c =
     let e = c.in-Err.ensures in
     let told = g.F.Files.told c.args.files.now in
     let cut : map without_cr (lines_of c.lines.rest.now) ≡ c.trim_cr.result.now ∷ map without_cr (lines_of c.split_line.result.1.now) =
-    ap (map without_cr) c.split_line.ensures.lines ∙ ap (λ (line : List ℕ). line ∷ map without_cr (lines_of c.split_line.result.1.now)) (sym c.trim_cr.ensures) in
+    ap (map without_cr) c.split_line.ensures.lines ∙ ap (λ (line : List ℕ). line ∷ map without_cr (lines_of c.split_line.result.1.now)) (sym c.trim_cr.ensures.value) in
     let (done, all, len, skipped, wrote) = inv.so_far in
     if_write c.in-Err.stop _ _
-    (λ (h : WrotePart told c.take_line.new.session.skipped.items (c.lines.session.number + 1) c.lines.session.store c.trim_cr.result.now c.take_line.new.session.store
+    (λ (h : WrotePart told c.take_line.new.session.skipped.items (c.lines.session.number + 1) c.lines.session.warehouse c.trim_cr.result.now c.take_line.new.session.warehouse
     (g.O.Sink.taken c.lines.out) (g.O.Sink.taken c.take_line.new.out)).
     front-push told _ _ _ done c.trim_cr.result.now (map without_cr (lines_of c.split_line.result.1.now)) c.lines.session.number _ _ _ _ _ len e.skips wrote h
     (map without_cr (lines_of c.args.script.now)) (lines-regroup done _ _ _ _ all cut))
@@ -80,10 +83,10 @@ returns-in-Err-clause-before g c =
     let e = c.in-Err.ensures in
     let told = g.F.Files.told c.args.files.now in
     let cut : map without_cr (lines_of c.lines.rest.now) ≡ c.trim_cr.result.now ∷ map without_cr (lines_of c.split_line.result.1.now) =
-    ap (map without_cr) c.split_line.ensures.lines ∙ ap (λ (line : List ℕ). line ∷ map without_cr (lines_of c.split_line.result.1.now)) (sym c.trim_cr.ensures) in
+    ap (map without_cr) c.split_line.ensures.lines ∙ ap (λ (line : List ℕ). line ∷ map without_cr (lines_of c.split_line.result.1.now)) (sym c.trim_cr.ensures.value) in
     let (done, all, len, skipped, wrote) = inv.so_far in
     if_read c.in-Err.stop
-    (λ name. command_of c.trim_cr.result.now ≡ Load name)
+    (λ name. file_of (length c.lines.session.warehouse.schema.dims) c.trim_cr.result.now ≡ Some name)
     (λ name. (g.O.Sink.taken c.take_line.new.out ≡ g.O.Sink.taken c.lines.out) × (c.take_line.new.session.skipped.items ≡ c.lines.session.skipped.items))
     (λ name. IsTrue (g.F.Files.steady c.lines.files) → IfSome told (λ t. t name ≡ None))
     _
@@ -91,3 +94,13 @@ returns-in-Err-clause-before g c =
     stopped-at told (IsTrue (g.F.Files.steady c.args.files.now)) _ c.lines.session.skipped.items _ done c.trim_cr.result.now (map without_cr (lines_of c.split_line.result.1.now)) name _ _ _ _
     names stays.1 stays.0 wrote (λ h. untold (inv.steady h)) (map without_cr (lines_of c.args.script.now)) (all ∙ ap (λ (xs : List (List ℕ)). done ++ xs) cut))
     e.names e.stays (rw inv.told at e.untold)
+
+pub returns-clause-all : goal.returns-clause-all
+returns-clause-all g c =
+    let inv = c.lines.invariant in
+    let (done, all, len, skipped, wrote) = inv.so_far in
+    wrote-all (g.F.Files.told c.args.files.now) _ _ done _ _ _ _ (all ∙ ap (λ (rest : List ℕ). done ++ map without_cr (lines_of rest)) (no_rest c.lines.rest.now (sym c.is_empty.ensures ∙ c.lines-test.false))) wrote
+  where
+    no_rest : (rest : List ℕ) → (length rest == 0) ≡ true → rest ≡ []
+    no_rest [] h = refl
+    no_rest (b ∷ bs) h = grind (arith, nat_tests, h)

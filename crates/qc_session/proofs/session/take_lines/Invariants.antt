@@ -12,12 +12,13 @@ invariant-lines g l = record {
   told : g.F.Files.told l.files ≡ g.F.Files.told l.fn.files;
   steady : g.F.Files.steady l.fn.files ≡ true → g.F.Files.steady l.files ≡ true;
   room : vec_len l.session.skipped + length (lines_of l.rest) ≤ vec_capacity l.session.skipped;
+  short : length l.rest ≤ 268435456;
   few : l.session.number + length (lines_of l.rest) < 2 ^ 32;
   up_to : AreUpTo l.session.number l.session.skipped.items;
   so_far : (done : List (List ℕ)) × (map without_cr (lines_of l.script) ≡ done ++ map without_cr (lines_of l.rest))
       × (length done ≡ l.session.number)
       × AreSkipped done l.session.skipped.items
-      × WroteSoFar (g.F.Files.told l.fn.files) l.fn.session.store.schema l.session.skipped.items done l.session.store (g.O.Sink.taken l.fn.out) (g.O.Sink.taken l.out);
+      × WroteSoFar (g.F.Files.told l.fn.files) l.fn.session.warehouse.schema l.session.skipped.items done l.session.warehouse (g.O.Sink.taken l.fn.out) (g.O.Sink.taken l.out);
 }
 
 abbrev pub decreases-lines : goal.decreases-lines

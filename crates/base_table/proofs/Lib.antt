@@ -1,0 +1,10 @@
+pub mod Batches
+pub mod Chain
+pub mod Columns
+pub mod Groups
+pub mod Holding
+pub mod Keep
+pub mod LastPlaces
+pub mod Numbers
+pub mod Placed
+pub mod Widths

@@ -1,0 +1,10 @@
+use Rattle.base_table.proofs.Columns.{ids-view}
+use Rattle.std.proofs.Common.{◌∙◌, ap}
+use Rattle.base_table.proofs.store.Store.last.Goals as goal
+use Rattle.std.proofs.Common.{nat_eq}
+use Rattle.base_table.specs.Last.{last_of}
+
+pub returns : goal.returns
+returns c =
+    let m = c.self.inside in
+    c.last.ensures.value ∙ ap (last_of (nat_eq c.args.id)) (ids-view m.dims m.measures m.ids m.prints m.codes.items m.amounts.items c.self.invariant c.args.self.now c.self.view_is)

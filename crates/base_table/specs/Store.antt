@@ -1,0 +1,119 @@
+-- What a store of rows keeps: the ids, the codes and the amounts of its rows, each in one list; and
+-- what a table keeps: a store, and for each row of it whether the row is still there.
+use Rattle.std.specs.Prelude.{◌≡◌, ℕ, ℤ, ◌+◌, ◌*◌, ◌%◌, ◌^◌, ◌<◌, ◌≤◌, ◌++◌, Bool, true, false, cond, ◌&&◌, if◌then◌else◌, Option, Some, None, List, [], ◌∷◌, length, map, take, drop, fold, nat_eq, slice_index_or, slice_set}
+use Rattle.std.specs.List.{All}
+use Rattle.aggregates.specs.Rows.{agg_of_row}
+use Rattle.cube_defs.specs.Cell.{Cell, cell_eq, cell_of}
+use Rattle.cube_defs.specs.Rows.{Agg, Row}
+use Rattle.base_table.specs.Last.{last_of, picked}
+use Rattle.base_table.specs.Places.{IsRow, Places}
+
+-- rows in the order in which they came
+pub record Rows : Type 0 where
+  pub dims : ℕ
+  pub measures : ℕ
+  pub rows : List (Row ℕ)
+
+-- the rows with these ids, whose codes and amounts lie one after another
+abbrev pub rows_from : ℕ → ℕ → List ℕ → List ℕ → List ℤ → List (Row ℕ)
+rows_from dims measures [] codes amounts = []
+rows_from dims measures (id ∷ ids) codes amounts =
+    record { id = id; tuple = take dims codes; amounts = take measures amounts } ∷ rows_from dims measures ids (drop dims codes) (drop measures amounts)
+
+-- of lists of one width that lie one after another, those whose mark is set
+abbrev pub picked_lines : {A : Type 0} → ℕ → List Bool → List A → List A
+picked_lines width [] cells = []
+picked_lines width (b ∷ kept) cells = cond b (take width cells) [] ++ picked_lines width kept (drop width cells)
+
+-- the code of an entry, and of Any a number that no code is
+abbrev pub code_or_any : Option ℕ → ℕ
+code_or_any None = 4294967295
+code_or_any (Some code) = code
+
+-- a number that equal cells share
+abbrev pub fingerprint : Cell ℕ → ℕ
+fingerprint cell = fold (λ h entry. (h * 2654435761 % 4294967296 + code_or_any entry) % 4294967296) 0 cell
+
+-- a row's id, and its tuple's number
+abbrev pub id_of : Row ℕ → ℕ
+id_of row = row.id
+
+abbrev pub print_of : Row ℕ → ℕ
+print_of row = fingerprint (cell_of row.tuple)
+
+-- each row has its codes, its amounts and its tuple's number
+pub record IsStore (dims measures : ℕ) (ids prints codes : List ℕ) (amounts : List ℤ) : Type 0 where
+  pub few_dims : dims ≤ 16
+  pub few_measures : measures ≤ 4
+  pub codes_len : length codes ≡ length ids * dims
+  pub amounts_len : length amounts ≡ length ids * measures
+  pub prints_are : prints ≡ map print_of (rows_from dims measures ids codes amounts)
+  pub each : All (IsRow dims measures) (rows_from dims measures ids codes amounts)
+
+-- the rows that are here at their places
+abbrev pub placed : List Bool → List (Row ℕ) → List (Option (Row ℕ))
+placed [] rows = []
+placed (b ∷ here) [] = []
+placed (b ∷ here) (row ∷ rows) = (if b then Some row else None) ∷ placed here rows
+
+-- the marks once those at these places are set again
+abbrev pub restored : List ℕ → List Bool → List Bool
+restored touched here = fold (λ marks k. slice_set marks k true) here touched
+
+-- the marks of a time with so many places, since which the rows at these places went
+abbrev pub marks_then : List Bool → List ℕ → ℕ → List Bool
+marks_then here touched begun = restored touched (take begun here)
+
+-- what the row at a place adds to the rows here that have just this tuple
+abbrev pub added : List Bool → List (Row ℕ) → Cell ℕ → ℕ → Row ℕ → Option Agg
+added here rows tuple k d =
+    let row = slice_index_or rows k d in
+    if slice_index_or here k false && cell_eq nat_eq (cell_of row.tuple) tuple then Some (agg_of_row row.amounts) else None
+
+-- a row that is here is the last of its id
+pub record AreLast (here : List Bool) (rows : List (Row ℕ)) : Type 0 where
+  pub last : (k : ℕ) (d : Row ℕ) → k < length here → slice_index_or here k false ≡ true → last_of (nat_eq (slice_index_or rows k d).id) (map id_of rows) ≡ k + 1
+
+-- the row at k is the one that is here under the id
+pub record IsFound (here : List Bool) (rows : List (Row ℕ)) (id k : ℕ) : Type 0 where
+  pub within : k < length here
+  pub there : slice_index_or here k false ≡ true
+  pub named : (d : Row ℕ) → (slice_index_or rows k d).id ≡ id
+  pub only : (i : ℕ) (d : Row ℕ) → i < length here → slice_index_or here i false ≡ true → (slice_index_or rows i d).id ≡ id → i ≡ k
+
+-- the marks, the store and the number of rows that are here are in step
+pub record IsMarked (here : List Bool) (rows : List (Row ℕ)) (count max : ℕ) : Type 0 where
+  pub last : AreLast here rows
+  pub count_is : count ≡ length (picked here rows)
+  pub few : count ≤ max
+
+-- the table now, and as it was when the batch began, or where none is open, as it is
+pub record IsHolding (store : Rows) (here : List Bool) (touched : List ℕ) (room begun count_then : ℕ) (is_open : Bool) (count max : ℕ) : Type 0 where
+  pub some_dims : 0 < store.dims
+  pub few_dims : store.dims ≤ 16
+  pub few_measures : store.measures ≤ 4
+  pub some_rows : 0 < max
+  pub few_rows : max ≤ 1000000
+  pub few_places : length here < 2 ^ 32
+  pub places : length store.rows ≡ length here
+  pub each : All (IsRow store.dims store.measures) store.rows
+  pub is_now : IsMarked here store.rows count max
+  pub was_then : IsMarked (marks_then here touched begun) (take begun store.rows) count_then max
+  pub begun_le : begun ≤ length here
+  -- at most half of the places were empty
+  pub dense : begun ≤ 2 * count_then
+  pub closed : is_open ≡ false → (begun ≡ length here) × (touched ≡ [])
+  pub touched_below : All (λ k. k < begun) touched
+  -- so a deletion takes no memory
+  pub touched_le : length touched + count ≤ length here
+  pub room_for_all : length here ≤ room
+
+-- the places of a table, and where a batch is open the rows at its begin
+abbrev pub places_with : Rows → List Bool → List ℕ → ℕ → Bool → ℕ → Places
+places_with store here touched begun is_open max = record {
+  dims = store.dims;
+  measures = store.measures;
+  max = max;
+  places = placed here store.rows;
+  was = if is_open then Some (picked (marks_then here touched begun) store.rows) else None;
+}

@@ -1,0 +1,208 @@
+// A list of keys that finds the last place of a key, and from each place the one before of the same key.
+ghost use Rattle.std.specs.Prelude.{◌≡◌, ℕ, ◌+◌, ◌-◌, ◌^◌, ◌<◌, ◌≤◌, length, Some, OnOk, OnErr, slice_index_or, take, ◌++◌, ◌∷◌, [], is_some, true, Option};
+ghost use Rattle.std.specs.Option.{unwrap_or};
+ghost use Rattle.indexmap.specs.IndexMap.{get, UpdatesBy};
+ghost use Rattle.base_table.specs.Last.{last_of, AreChains, picked, IsHeld};
+
+use indexmap::IndexMap;
+use std::alloc::{AllocError, Global};
+use std::hash::Hash;
+use std::marker::Model;
+
+/// A list of keys. Each key's last place is found in one step, and from a place the one before of the same key.
+#[derive(Drop)]
+pub struct Chains<K: Eq + Hash> {
+    heads: IndexMap<K, u32>,
+    keys: Vec<K>,
+    before: Vec<u32>,
+}
+
+impl<K: Eq + Hash> Model for Chains<K> {
+    ghost use Rattle.std.specs.Prelude.{List};
+    ghost use Rattle.base_table.specs.Last.{AreChains};
+
+    ghost Value = { List K };
+
+    ghost view = { λ c. c.keys.items };
+
+    ghost invariant = { λ c. AreChains K.eq c.heads c.keys.items c.before.items };
+}
+
+// Writes the last place of a key that has one, or takes the key out.
+fn set_head<K: Eq + Hash + Drop>(heads: &mut IndexMap<K, u32>, key: &K, head: u32)
+    requires { 0 < unwrap_or (get K.eq heads.old key.now) 0 }
+    ensures { (w : Option ℕ) × UpdatesBy K.eq (K.eq key.now) heads.old heads.new w × (unwrap_or w 0 ≡ head) }
+{
+    if head == 0 {
+        heads.swap_remove(key);
+        return;
+    }
+    if let Some(place) = heads.get_mut(key) {
+        *place = head;
+    }
+}
+
+// Writes no last place for every key. The keys stay.
+fn blank<K: Eq + Hash>(heads: &mut IndexMap<K, u32>)
+    ensures zero { (k : K) → unwrap_or (get K.eq heads.new k) 0 ≡ 0 }
+    ensures held { (k : K) → is_some (get K.eq heads.new k) ≡ is_some (get K.eq heads.old k) }
+{
+    let len = heads.len();
+    for i in 0..len {
+        heads[i] = 0;
+    }
+}
+
+// Writes the last place of a key that the map has, and gives the one that stood there.
+fn put_head<K: Eq + Hash>(heads: &mut IndexMap<K, u32>, key: &K, head: u32) -> u32
+    requires { is_some (get K.eq heads.old key.now) ≡ true }
+    ensures was { result ≡ unwrap_or (get K.eq heads.old key.now) 0 }
+    ensures updates { UpdatesBy K.eq (K.eq key.now) heads.old heads.new (Some head) }
+{
+    let mut was = 0;
+    if let Some(place) = heads.get_mut(key) {
+        was = *place;
+        *place = head;
+    }
+    was
+}
+
+// Moves the kept keys to the front, and writes their places anew.
+fn repack<K: Eq + Hash + Copy + Drop>(
+    heads: &mut IndexMap<K, u32>,
+    keys: &mut [K],
+    before: &mut [u32],
+    kept: &[bool],
+) -> usize
+    requires few { length keys.old < 2 ^ 32 }
+    requires before { length before.old ≡ length keys.old }
+    requires kept { length kept.now ≡ length keys.old }
+    requires zero { (k : K) → unwrap_or (get K.eq heads.old k) 0 ≡ 0 }
+    requires held { IsHeld K.eq heads.old keys.old }
+    ensures within { result ≤ length keys.old }
+    ensures picked { take result keys.new ≡ picked kept.now keys.old }
+    ensures chains { AreChains K.eq heads.new (take result keys.new) (take result before.new) }
+{
+    let mut len = 0;
+    for i in 0..kept.len() {
+        if !kept[i] {
+            continue;
+        }
+        let key = keys[i];
+        let head = put_head(heads, &key, len as u32 + 1);
+        keys[len] = key;
+        before[len] = head;
+        len += 1;
+    }
+    len
+}
+
+// Takes out the keys that have no place.
+fn sweep<K: Eq + Hash + Drop>(heads: &mut IndexMap<K, u32>)
+    ensures { (k : K) → unwrap_or (get K.eq heads.new k) 0 ≡ unwrap_or (get K.eq heads.old k) 0 }
+{
+    let mut i = heads.len();
+    while i > 0 {
+        i -= 1;
+        drop_blank(heads, i);
+    }
+}
+
+// Takes out the key at the index where it has no place.
+fn drop_blank<K: Eq + Hash + Drop>(heads: &mut IndexMap<K, u32>, index: usize)
+    ensures { (k : K) → unwrap_or (get K.eq heads.new k) 0 ≡ unwrap_or (get K.eq heads.old k) 0 }
+{
+    if let Some((_, place)) = heads.get_index(index) {
+        if *place == 0 {
+            heads.swap_remove_index(index);
+        }
+    }
+}
+
+// Takes keys away down to a length. It takes no memory.
+pub(crate) fn cut<K: Eq + Hash + Copy + Drop>(chains: &mut Chains<K>, len: u32)
+    requires { len ≤ length chains.old }
+    ensures { chains.new ≡ take len chains.old }
+{
+    'keys: while chains.len() > len {
+        chains.pop();
+    }
+}
+
+impl<K: Eq + Hash + Copy + Drop> Chains<K> {
+    /// No keys.
+    pub fn new(alloc: Global) -> Self
+        ensures { result ≡ [] }
+    {
+        Chains {
+            heads: IndexMap::new(alloc),
+            keys: Vec::new(alloc),
+            before: Vec::new(alloc),
+        }
+    }
+
+    /// How many keys there are.
+    pub fn len(&self) -> u32
+        ensures { result ≡ length self.now }
+    {
+        self.keys.len() as u32
+    }
+
+    /// One more than the last place of the key, or 0.
+    pub fn last(&self, key: &K) -> u32
+        ensures value { result ≡ last_of (K.eq key.now) self.now }
+    {
+        self.heads.get(key).copied().unwrap_or(0)
+    }
+
+    /// One more than the last place of the same key below the place, or 0.
+    pub fn before(&self, place: u32) -> u32
+        requires { place < length self.now }
+        ensures { (d : K) → result ≡ last_of (K.eq (slice_index_or self.now place d)) (take place self.now) }
+    {
+        self.before[place as usize]
+    }
+
+    /// Puts a key last.
+    pub fn push(&mut self, key: K) -> Result<(), AllocError>
+        requires { length self.old + 1 < 2 ^ 32 }
+        ensures ok { OnOk result (self.new ≡ self.old ++ key ∷ []) }
+        ensures err { OnErr result (self.new ≡ self.old) }
+    {
+        let head = self.last(&key);
+        self.keys.reserve(1)?;
+        self.before.reserve(1)?;
+        let len = self.keys.len() as u32;
+        self.heads.insert(key, len + 1)?;
+        self.before.push_reserved(head);
+        self.keys.push_reserved(key);
+        Ok(())
+    }
+
+    /// Takes the last key away. It takes no memory.
+    pub fn pop(&mut self)
+        requires { 0 < length self.old }
+        ensures { self.new ≡ take (length self.old - 1) self.old }
+    {
+        let key = self.keys.pop().unwrap();
+        let head = self.before.pop().unwrap();
+        set_head(&mut self.heads, &key, head);
+    }
+
+    /// Keeps the marked places alone, in order. It takes no memory.
+    pub fn keep(&mut self, kept: &[bool])
+        requires { length kept.now ≡ length self.old }
+        ensures { self.new ≡ picked kept.now self.old }
+    {
+        blank(&mut self.heads);
+        let len = repack(
+            &mut self.heads,
+            self.keys.as_mut_slice(),
+            self.before.as_mut_slice(),
+            kept,
+        );
+        self.keys.truncate(len);
+        self.before.truncate(len);
+        sweep(&mut self.heads);
+    }
+}

@@ -1,0 +1,17 @@
+//! Rows under their ids, in the order in which they came; a batch of changes can be taken back.
+#![tactic(auto)]
+
+mod chains;
+mod group;
+mod lines;
+mod marks;
+mod store;
+mod table;
+
+pub use table::{Missing, RowNo, Table, TableRefused, Taken};
+
+/// Memory ran out.
+pub type Memory = std::alloc::AllocError;
+
+#[cfg(test)]
+mod tests;

@@ -1,0 +1,109 @@
+// Lists of one width that lie one after another in a vector.
+ghost use Rattle.std.specs.Prelude.{length, vec_capacity, vec_len, ◌*◌, ◌+◌, ◌++◌, ◌≡◌, ◌≤◌, All, ◌<◌, nat_eq, is_some, true, take, drop};
+ghost use Rattle.base_table.specs.Places.{values_of};
+ghost use Rattle.base_table.specs.Store.{code_or_any, fingerprint, picked_lines};
+ghost use Rattle.cell_core.specs.Entry.{value_in};
+ghost use Rattle.cube_defs.specs.Cell.{cell_eq, cell_of};
+
+use cell_core::{ANY, Cell, Entry};
+use std::alloc::Global;
+
+// The list at a place.
+pub(crate) fn line<T: Copy>(cells: &Vec<T>, place: u32, width: u8) -> &[T]
+    requires { place * width + width ≤ length cells.now.items }
+    ensures value { result.now ≡ take width (drop (place * width) cells.now.items) }
+    ensures len { length result.now ≡ width }
+{
+    let width = width as usize;
+    let from = place as usize * width;
+    &cells.as_slice()[from..from + width]
+}
+
+// Keeps the lists whose mark is set, in order. It takes no memory.
+pub(crate) fn keep_lines<T: Copy + Drop>(cells: &mut Vec<T>, width: usize, kept: &[bool])
+    requires { length cells.old.items ≡ length kept.now * width }
+    ensures { cells.new.items ≡ picked_lines width kept.now cells.old.items }
+{
+    let mut from = 0;
+    let mut to = 0;
+    'lines: for i in 0..kept.len() {
+        if kept[i] {
+            cells.copy_within(from..from + width, to);
+            to += width;
+        }
+        from += width;
+    }
+    cells.truncate(to);
+}
+
+// The code of an entry, and of Any a number that no code is.
+fn code_or_any(entry: Entry) -> u32
+    ensures { result ≡ code_or_any (value_in entry) }
+{
+    match entry {
+        Entry::Any => ANY,
+        Entry::Is(code) => code,
+    }
+}
+
+// Puts the codes of a tuple last, for which there is room.
+pub(crate) fn push_codes(codes: &mut Vec<u32>, tuple: &Cell)
+    requires room { vec_len codes.old + length tuple.now ≤ vec_capacity codes.old }
+    requires full { All (λ entry. is_some entry ≡ true) tuple.now }
+    ensures items { codes.new.items ≡ codes.old.items ++ values_of tuple.now }
+    ensures small { All (λ code. code < 4000000) (values_of tuple.now) }
+    ensures dims { length (values_of tuple.now) ≡ length tuple.now }
+{
+    'codes: for dim in 0..tuple.dims() {
+        codes.push_reserved(code_or_any(tuple.get(dim)));
+    }
+}
+
+// Puts amounts last, for which there is room.
+pub(crate) fn push_amounts(amounts: &mut Vec<i64>, more: &[i64])
+    requires { vec_len amounts.old + length more.now ≤ vec_capacity amounts.old }
+    ensures { amounts.new.items ≡ amounts.old.items ++ more.now }
+{
+    amounts.extend_from_slice(more).unwrap();
+}
+
+// A number that equal cells share.
+pub(crate) fn fingerprint(tuple: &Cell) -> u32
+    ensures { result ≡ fingerprint tuple.now }
+{
+    let mut print: u32 = 0;
+    'entries: for dim in 0..tuple.dims() {
+        print = print
+            .wrapping_mul(2_654_435_761)
+            .wrapping_add(code_or_any(tuple.get(dim)));
+    }
+    print
+}
+
+// The cell with these codes.
+pub(crate) fn cell_with(alloc: Global, codes: &[u32]) -> Cell
+    requires few { length codes.now ≤ 16 }
+    requires small { All (λ code. code < 4000000) codes.now }
+    ensures { result ≡ cell_of codes.now }
+{
+    let mut cell = Cell::any(alloc, codes.len() as u8);
+    'codes: for i in 0..codes.len() {
+        cell.set(i as u8, Entry::Is(codes[i]));
+    }
+    cell
+}
+
+// Whether the codes are just those of the cell.
+pub(crate) fn is_cell(codes: &[u32], tuple: &Cell) -> bool
+    requires dims { length codes.now ≡ length tuple.now }
+    requires few { length codes.now ≤ 16 }
+    requires small { All (λ code. code < 4000000) codes.now }
+    ensures { result ≡ cell_eq nat_eq (cell_of codes.now) tuple.now }
+{
+    'codes: for i in 0..codes.len() {
+        if code_or_any(tuple.get(i as u8)) != codes[i] {
+            return false;
+        }
+    }
+    true
+}

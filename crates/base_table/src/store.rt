@@ -1,0 +1,199 @@
+// Rows in the order in which they came, whether they are still there or not.
+ghost use Rattle.std.specs.Prelude.{All, [], length, map, nat_abs, nat_eq, pos, slice_index_or, take, true, ℕ, ◌+◌, ◌++◌, ◌<◌, ◌∷◌, ◌^◌, ◌≡◌, ◌≤◌, OnErr, OnOk, is_some};
+ghost use Rattle.aggregates.specs.Bounds.{largest_amount};
+ghost use Rattle.cube_defs.specs.Cell.{cell_eq, cell_of};
+ghost use Rattle.cube_defs.specs.Rows.{Row};
+ghost use Rattle.base_table.specs.Last.{last_of, picked};
+ghost use Rattle.base_table.specs.Places.{IsRow, row_of};
+ghost use Rattle.base_table.specs.Store.{fingerprint, id_of, print_of};
+
+use crate::chains::{self, Chains};
+use crate::{Memory, lines};
+use cell_core::Cell;
+use std::alloc::{AllocError, Global};
+use std::marker::Model;
+
+/// Rows in the order in which they came. The last row of an id and of a tuple is found in one step,
+/// and from a row the one before of the same tuple.
+#[derive(Drop)]
+pub struct Store {
+    dims: u8,
+    measures: u8,
+    ids: Chains<u64>,
+    // A number for each tuple, that equal tuples share.
+    prints: Chains<u32>,
+    codes: Vec<u32>,
+    amounts: Vec<i64>,
+}
+
+impl Model for Store {
+    ghost use Rattle.base_table.specs.Store.{IsStore, Rows, rows_from};
+
+    ghost Value = { Rows };
+
+    ghost view = { λ s. record { dims = s.dims; measures = s.measures; rows = rows_from s.dims s.measures s.ids s.codes.items s.amounts.items } };
+
+    ghost invariant = { λ s. IsStore s.dims s.measures s.ids s.prints s.codes.items s.amounts.items };
+}
+
+impl Store {
+    pub fn new(alloc: Global, dims: u8, measures: u8) -> Store
+        requires dims { dims ≤ 16 }
+        requires measures { measures ≤ 4 }
+        ensures { result ≡ record { dims = dims; measures = measures; rows = [] } }
+    {
+        Store {
+            dims,
+            measures,
+            ids: Chains::new(alloc),
+            prints: Chains::new(alloc),
+            codes: Vec::new(alloc),
+            amounts: Vec::new(alloc),
+        }
+    }
+
+    pub fn dims(&self) -> u8
+        ensures { result ≡ self.now.dims }
+    {
+        self.dims
+    }
+
+    pub fn measures(&self) -> u8
+        ensures { result ≡ self.now.measures }
+    {
+        self.measures
+    }
+
+    /// How many rows there are.
+    pub fn len(&self) -> u32
+        ensures { result ≡ length self.now.rows }
+    {
+        self.ids.len()
+    }
+
+    /// One more than the place of the last row with the id, or 0.
+    pub fn last(&self, id: u64) -> u32
+        ensures { result ≡ last_of (nat_eq id) (map id_of self.now.rows) }
+    {
+        self.ids.last(&id)
+    }
+
+    /// One more than the last place of a tuple that shares its number with the cell, or 0.
+    pub fn last_alike(&self, tuple: &Cell) -> u32
+        ensures { result ≡ last_of (nat_eq (fingerprint tuple.now)) (map print_of self.now.rows) }
+    {
+        self.prints.last(&lines::fingerprint(tuple))
+    }
+
+    /// The same for the row at the place, among the rows before it.
+    pub fn alike_before(&self, place: u32) -> u32
+        requires { place < length self.now.rows }
+        ensures { (d : Row ℕ) → result ≡ last_of (nat_eq (print_of (slice_index_or self.now.rows place d))) (take place (map print_of self.now.rows)) }
+    {
+        self.prints.before(place)
+    }
+
+    // The codes of a row.
+    fn codes(&self, place: u32) -> &[u32]
+        requires { place < length self.now.rows }
+        ensures value { (d : Row ℕ) → result.now ≡ (slice_index_or self.now.rows place d).tuple }
+        ensures dims { length result.now ≡ self.now.dims }
+        ensures few { self.now.dims ≤ 16 }
+        ensures small { All (λ code. code < 4000000) result.now }
+    {
+        lines::line(&self.codes, place, self.dims)
+    }
+
+    /// The amounts of a row.
+    pub fn amounts(&self, place: u32) -> &[i64]
+        requires { place < length self.now.rows }
+        ensures value { (d : Row ℕ) → result.now ≡ (slice_index_or self.now.rows place d).amounts }
+        ensures measures { length result.now ≡ self.now.measures }
+        ensures few { self.now.measures ≤ 4 }
+        ensures small { All (λ a. nat_abs a ≤ largest_amount) result.now }
+    {
+        lines::line(&self.amounts, place, self.measures)
+    }
+
+    /// The amount of a row in a measure.
+    pub fn amount(&self, place: u32, measure: u8) -> i64
+        requires place { place < length self.now.rows }
+        requires measure { measure < self.now.measures }
+        ensures { (d : Row ℕ) → result ≡ slice_index_or (slice_index_or self.now.rows place d).amounts measure (pos 0) }
+    {
+        self.amounts(place)[measure as usize]
+    }
+
+    /// The code of a row in a dimension.
+    pub fn code(&self, place: u32, dim: u8) -> u32
+        requires place { place < length self.now.rows }
+        requires dim { dim < self.now.dims }
+        ensures value { (d : Row ℕ) → result ≡ slice_index_or (slice_index_or self.now.rows place d).tuple dim 0 }
+        ensures small { result < 4000000 }
+    {
+        self.codes(place)[dim as usize]
+    }
+
+    /// The tuple of a row.
+    pub fn tuple(&self, place: u32) -> Cell
+        requires { place < length self.now.rows }
+        ensures value { (d : Row ℕ) → result ≡ cell_of (slice_index_or self.now.rows place d).tuple }
+        ensures dims { length result ≡ self.now.dims }
+    {
+        lines::cell_with(*self.codes.allocator(), self.codes(place))
+    }
+
+    /// Whether a row has just this tuple.
+    pub fn has_tuple(&self, place: u32, tuple: &Cell) -> bool
+        requires place { place < length self.now.rows }
+        requires dims { length tuple.now ≡ self.now.dims }
+        ensures { (d : Row ℕ) → result ≡ cell_eq nat_eq (cell_of (slice_index_or self.now.rows place d).tuple) tuple.now }
+    {
+        lines::is_cell(self.codes(place), tuple)
+    }
+
+    /// Puts a row last.
+    pub fn push(&mut self, id: u64, tuple: &Cell, amounts: &[i64]) -> Result<(), Memory>
+        requires dims { length tuple.now ≡ self.old.dims }
+        requires full { All (λ entry. is_some entry ≡ true) tuple.now }
+        requires measures { length amounts.now ≡ self.old.measures }
+        requires small { All (λ a. nat_abs a ≤ largest_amount) amounts.now }
+        requires few { length self.old.rows + 1 < 2 ^ 32 }
+        ensures ok { OnOk result (self.new ≡ record self.old { rows = self.old.rows ++ row_of id tuple.now amounts.now ∷ [] }) }
+        ensures row { OnOk result (IsRow self.old.dims self.old.measures (row_of id tuple.now amounts.now)) }
+        ensures err { OnErr result (self.new ≡ self.old) }
+    {
+        self.codes.reserve(self.dims as usize)?;
+        self.amounts.reserve(self.measures as usize)?;
+        self.ids.push(id)?;
+        let Ok(()) = self.prints.push(lines::fingerprint(tuple)) else {
+            self.ids.pop();
+            return Err(AllocError);
+        };
+        lines::push_codes(&mut self.codes, tuple);
+        lines::push_amounts(&mut self.amounts, amounts);
+        Ok(())
+    }
+
+    /// Takes rows away from the end, down to so many. It takes no memory.
+    pub fn cut(&mut self, len: u32)
+        requires { len ≤ length self.old.rows }
+        ensures { self.new ≡ record self.old { rows = take len self.old.rows } }
+    {
+        chains::cut(&mut self.ids, len);
+        chains::cut(&mut self.prints, len);
+        self.codes.truncate(len as usize * self.dims as usize);
+        self.amounts.truncate(len as usize * self.measures as usize);
+    }
+
+    /// Keeps the rows whose mark is set, in order. It takes no memory.
+    pub fn keep(&mut self, kept: &[bool])
+        requires { length kept.now ≡ length self.old.rows }
+        ensures { self.new ≡ record self.old { rows = picked kept.now self.old.rows } }
+    {
+        self.ids.keep(kept);
+        self.prints.keep(kept);
+        lines::keep_lines(&mut self.codes, self.dims as usize, kept);
+        lines::keep_lines(&mut self.amounts, self.measures as usize, kept);
+    }
+}

@@ -1,0 +1,332 @@
+// Rows at places, and a batch that can be taken back.
+ghost use Rattle.std.specs.Prelude.{All, nat_abs, pos, true, false, Err, IfOk, IfSome, None, OnErr, OnOk, Some, [], length, map, slice_index_or, ◌++◌, ◌<◌, ◌∷◌, ◌≡◌, ◌≤◌, ◌↔◌, is_some};
+ghost use Rattle.base_table.specs.Places.{AreThere, IsTable, cleared, has_id, named, numbers, padded, row_at, row_of, row_with_id, rows_of, total_of, with_tuple, without_id};
+ghost use Rattle.std.specs.Option.{option_map};
+ghost use Rattle.cube_defs.specs.Cell.{cell_of};
+ghost use Rattle.aggregates.specs.Bounds.{largest_amount};
+ghost use Rattle.aggregates.specs.Views.{agg_in};
+
+use crate::store::Store;
+use crate::{Memory, group, marks};
+use aggregates::Agg;
+use cell_core::{Cell, Code};
+use std::alloc::{AllocError, Global};
+use std::marker::Model;
+
+/// The number of a row: its place in the table.
+#[derive(Clone, Copy, Debug, PartialEq, Eq)]
+pub struct RowNo(pub u32);
+
+/// Why a row wasn't put in.
+#[derive(Clone, Copy, Debug, PartialEq, Eq)]
+pub enum TableRefused {
+    /// A row with this id is there.
+    Present,
+    /// There are as many rows as there may be.
+    Full,
+    /// Memory ran out.
+    Memory,
+}
+
+/// No row has the id.
+#[derive(Clone, Copy, Debug, PartialEq, Eq)]
+pub struct Missing;
+
+/// What a row had that was taken out. The amounts behind those of the measures are zero.
+#[derive(Drop, Debug)]
+pub struct Taken {
+    pub tuple: Cell,
+    pub amounts: [i64; 4],
+}
+
+/// Rows under distinct ids, each with a code in every dimension and an amount of every measure, in
+/// the order in which they came.
+#[derive(Drop)]
+pub struct Table {
+    store: Store,
+    // Whether the row at each place is there. A row that was taken out stays in the store.
+    here: Vec<bool>,
+    // The places of the rows that were there when the batch began, and went since. It has room for
+    // every place, so that a deletion takes no memory.
+    touched: Vec<u32>,
+    // How many places and rows there were when the batch began; where none is open, as there are.
+    begun: u32,
+    count_then: u32,
+    is_open: bool,
+    count: u32,
+    max: u32,
+}
+
+impl Model for Table {
+    ghost use Rattle.std.specs.Prelude.{vec_capacity};
+    ghost use Rattle.base_table.specs.Places.{Places};
+    ghost use Rattle.base_table.specs.Store.{IsHolding, places_with};
+
+    ghost Value = { Places };
+
+    ghost view = { λ t. places_with t.store t.here.items t.touched.items t.begun t.is_open t.max };
+
+    ghost invariant = { λ t. IsHolding t.store t.here.items t.touched.items (vec_capacity t.touched) t.begun t.count_then t.is_open t.count t.max };
+}
+
+// The numbers of so many places fit. Only a batch that puts rows in and takes them out without end
+// needs more, and that is want of memory.
+const MOST_PLACES: usize = 4_000_000_000;
+
+impl Table {
+    /// No rows, and no batch is open.
+    pub fn new(alloc: Global, dims: u8, measures: u8, max: u32) -> Result<Table, Memory>
+        requires some_dims { 0 < dims }
+        requires few_dims { dims ≤ 16 }
+        requires few_measures { measures ≤ 4 }
+        requires some_rows { 0 < max }
+        requires few_rows { max ≤ 1000000 }
+        ensures value { IfOk result (λ table. table ≡ record { dims = dims; measures = measures; max = max; places = []; was = None }) }
+    {
+        Ok(Table {
+            store: Store::new(alloc, dims, measures),
+            here: Vec::new(alloc),
+            touched: Vec::new(alloc),
+            begun: 0,
+            count_then: 0,
+            is_open: false,
+            count: 0,
+            max,
+        })
+    }
+
+    /// How many dimensions a row has.
+    pub fn dims(&self) -> u8
+        ensures value { result ≡ self.now.dims }
+        ensures valid { IsTable self.now }
+    {
+        self.store.dims()
+    }
+
+    /// How many measures a row has.
+    pub fn measures(&self) -> u8
+        ensures value { result ≡ self.now.measures }
+        ensures valid { IsTable self.now }
+    {
+        self.store.measures()
+    }
+
+    /// How many rows there are.
+    pub fn count(&self) -> u32
+        ensures value { result ≡ length (rows_of self.now) }
+        ensures valid { IsTable self.now }
+    {
+        self.count
+    }
+
+    /// Whether a row has the id.
+    pub fn has(&self, id: u64) -> bool
+        ensures { result ≡ has_id (rows_of self.now) id }
+    {
+        match marks::find(&self.store, &self.here, id) {
+            Some(_) => true,
+            None => false,
+        }
+    }
+
+    /// How many places there are, with a row or empty.
+    pub fn places(&self) -> u32
+        ensures value { result ≡ length self.now.places }
+        ensures valid { IsTable self.now }
+    {
+        self.here.len() as u32
+    }
+
+    /// The row at a place, counted from 0, where one is there.
+    pub fn at(&self, place: u32) -> Option<RowNo>
+        requires { place < length self.now.places }
+        ensures some { IfSome result (λ no. (no.0 ≡ place) × (is_some (row_at self.now place) ≡ true)) }
+        ensures none { result ≡ None → row_at self.now place ≡ None }
+    {
+        if self.here[place as usize] {
+            Some(RowNo(place))
+        } else {
+            None
+        }
+    }
+
+    /// The code of a row in a dimension.
+    pub fn code(&self, row: RowNo, dim: u8) -> Code
+        requires row { is_some (row_at self.now row.0) ≡ true }
+        requires dim { dim < self.now.dims }
+        ensures value { IfSome (row_at self.now row.0) (λ r. result ≡ slice_index_or r.tuple dim 0) }
+        ensures small { result < 4000000 }
+    {
+        self.store.code(row.0, dim)
+    }
+
+    /// The tuple of a row.
+    pub fn tuple(&self, row: RowNo) -> Cell
+        requires row { is_some (row_at self.now row.0) ≡ true }
+        ensures value { IfSome (row_at self.now row.0) (λ r. result ≡ cell_of r.tuple) }
+        ensures dims { length result ≡ self.now.dims }
+    {
+        self.store.tuple(row.0)
+    }
+
+    /// The amount of a row in a measure, in units of the last place of its scale.
+    pub fn amount(&self, row: RowNo, measure: u8) -> i64
+        requires row { is_some (row_at self.now row.0) ≡ true }
+        requires measure { measure < self.now.measures }
+        ensures { IfSome (row_at self.now row.0) (λ r. result ≡ slice_index_or r.amounts measure (pos 0)) }
+    {
+        self.store.amount(row.0, measure)
+    }
+
+    /// The amounts of a row, one of each measure.
+    pub fn amounts(&self, row: RowNo) -> &[i64]
+        requires row { is_some (row_at self.now row.0) ≡ true }
+        ensures value { IfSome (row_at self.now row.0) (λ r. result.now ≡ r.amounts) }
+        ensures measures { length result.now ≡ self.now.measures }
+        ensures small { All (λ a. nat_abs a ≤ largest_amount) result.now }
+    {
+        self.store.amounts(row.0)
+    }
+
+    /// What the rows with just this tuple come to. None where there are none.
+    pub fn group(&self, tuple: &Cell) -> Option<Agg>
+        requires { length tuple.now ≡ self.now.dims }
+        ensures value { option_map agg_in result ≡ total_of self.now.measures (with_tuple (rows_of self.now) tuple.now) }
+        ensures measures { IfSome result (λ agg. agg.measures ≡ self.now.measures) }
+    {
+        group::group_in(&self.store, &self.here, tuple)
+    }
+
+    /// The numbers of all rows, in their order. A row's number stays until the batch that is open
+    /// is kept or taken back, or until another begins and is.
+    pub fn all(&self, alloc: Global) -> Result<Vec<RowNo>, Memory>
+        ensures numbers { IfOk result (λ nos. map (λ no. no.0) nos.items ≡ numbers self.now) }
+        ensures rows { IfOk result (λ nos. named self.now nos.items ≡ rows_of self.now) }
+        ensures there { IfOk result (λ nos. AreThere self.now nos.items) }
+    {
+        marks::numbers_in(alloc, &self.here)
+    }
+
+    /// A batch is open from now on. It takes no memory.
+    pub fn begin(&mut self)
+        requires closed { self.old.was ≡ None }
+        ensures value { self.new ≡ record self.old { was = Some (rows_of self.old) } }
+    {
+        self.is_open = true;
+    }
+
+    /// Puts a row last.
+    pub fn insert(&mut self, id: u64, tuple: &Cell, amounts: &[i64]) -> Result<(), TableRefused>
+        requires is_open { is_some self.old.was ≡ true }
+        requires dims { length tuple.now ≡ self.old.dims }
+        requires full { All (λ entry. is_some entry ≡ true) tuple.now }
+        requires measures { length amounts.now ≡ self.old.measures }
+        requires small { All (λ a. nat_abs a ≤ largest_amount) amounts.now }
+        ensures ok { OnOk result (self.new ≡ record self.old { places = self.old.places ++ Some (row_of id tuple.now amounts.now) ∷ [] }) }
+        ensures rows { OnOk result (rows_of self.new ≡ rows_of self.old ++ row_of id tuple.now amounts.now ∷ []) }
+        ensures err { OnErr result (self.new ≡ self.old) }
+        ensures present { (result ≡ Err TableRefused.Present) ↔ (has_id (rows_of self.old) id ≡ true) }
+        ensures full { (result ≡ Err TableRefused.Full) ↔ ((has_id (rows_of self.old) id ≡ false) × (length (rows_of self.old) ≡ self.old.max)) }
+    {
+        if self.has(id) {
+            return Err(TableRefused::Present);
+        }
+        if self.count >= self.max {
+            return Err(TableRefused::Full);
+        }
+        match self.put(id, tuple, amounts) {
+            Ok(()) => Ok(()),
+            Err(_) => Err(TableRefused::Memory),
+        }
+    }
+
+    /// Takes the row of an id out. No other row moves, and it takes no memory.
+    pub fn delete(&mut self, id: u64) -> Result<Taken, Missing>
+        requires is_open { is_some self.old.was ≡ true }
+        ensures ok { OnOk result (self.new ≡ record self.old { places = map (cleared id) self.old.places }) }
+        ensures rows { OnOk result (rows_of self.new ≡ without_id (rows_of self.old) id) }
+        ensures taken { IfOk result (λ taken. IfSome (row_with_id (rows_of self.old) id) (λ row. (taken.tuple ≡ cell_of row.tuple) × (taken.amounts ≡ padded row.amounts))) }
+        ensures there { OnOk result (has_id (rows_of self.old) id ≡ true) }
+        ensures missing { OnErr result (has_id (rows_of self.old) id ≡ false) }
+        ensures err { OnErr result (self.new ≡ self.old) }
+    {
+        match marks::find(&self.store, &self.here, id) {
+            Some(place) => Ok(self.take_out(place)),
+            None => Err(Missing),
+        }
+    }
+
+    /// Keeps the batch. Rows may get other numbers. It takes no memory.
+    pub fn commit(&mut self)
+        requires is_open { is_some self.old.was ≡ true }
+        ensures rows { rows_of self.new ≡ rows_of self.old }
+        ensures was { self.new.was ≡ None }
+        ensures dims { self.new.dims ≡ self.old.dims }
+        ensures measures { self.new.measures ≡ self.old.measures }
+        ensures max { self.new.max ≡ self.old.max }
+    {
+        self.is_open = false;
+        self.touched.clear();
+        marks::thin_out(&mut self.store, &mut self.here, self.count);
+        self.begun = self.here.len() as u32;
+        self.count_then = self.count;
+    }
+
+    /// Takes the batch back: the rows are those at its begin. It takes no memory.
+    pub fn rollback(&mut self)
+        requires is_open { is_some self.old.was ≡ true }
+        ensures rows { Some (rows_of self.new) ≡ self.old.was }
+        ensures was { self.new.was ≡ None }
+        ensures dims { self.new.dims ≡ self.old.dims }
+        ensures measures { self.new.measures ≡ self.old.measures }
+        ensures max { self.new.max ≡ self.old.max }
+    {
+        self.is_open = false;
+        self.store.cut(self.begun);
+        self.here.truncate(self.begun as usize);
+        marks::restore(&mut self.here, &self.touched);
+        self.touched.clear();
+        self.count = self.count_then;
+    }
+
+    // Puts a row last that isn't there, and for which there is a number.
+    fn put(&mut self, id: u64, tuple: &Cell, amounts: &[i64]) -> Result<(), Memory>
+        requires is_open { is_some self.old.was ≡ true }
+        requires dims { length tuple.now ≡ self.old.dims }
+        requires full { All (λ entry. is_some entry ≡ true) tuple.now }
+        requires measures { length amounts.now ≡ self.old.measures }
+        requires small { All (λ a. nat_abs a ≤ largest_amount) amounts.now }
+        requires absent { has_id (rows_of self.old) id ≡ false }
+        requires room { length (rows_of self.old) < self.old.max }
+        ensures ok { OnOk result (self.new ≡ record self.old { places = self.old.places ++ Some (row_of id tuple.now amounts.now) ∷ [] }) }
+        ensures err { OnErr result (self.new ≡ self.old) }
+    {
+        if self.here.len() >= MOST_PLACES {
+            return Err(AllocError);
+        }
+        self.here.reserve(1)?;
+        self.touched
+            .reserve(self.here.len() + 1 - self.touched.len())?;
+        self.store.push(id, tuple, amounts)?;
+        self.here.push_reserved(true);
+        self.count += 1;
+        Ok(())
+    }
+
+    // The row at a place goes.
+    fn take_out(&mut self, place: u32) -> Taken
+        requires is_open { is_some self.old.was ≡ true }
+        requires there { is_some (row_at self.old place) ≡ true }
+        ensures table { IfSome (row_at self.old place) (λ row. self.new ≡ record self.old { places = map (cleared row.id) self.old.places }) }
+        ensures taken { IfSome (row_at self.old place) (λ row. (result.tuple ≡ cell_of row.tuple) × (result.amounts ≡ padded row.amounts)) }
+    {
+        let taken = Taken {
+            tuple: self.store.tuple(place),
+            amounts: marks::padded(self.store.amounts(place)),
+        };
+        marks::note(&mut self.touched, place, self.begun);
+        self.here[place as usize] = false;
+        self.count -= 1;
+        taken
+    }
+}

@@ -1,0 +1,44 @@
+-- Numbers in order.
+use Rattle.std.proofs.Common.{◌≡◌, ◌⊎◌, ℕ, zero, suc, ◌+◌, ◌<◌, ◌≤◌, List, [], ◌∷◌, length, nat_cmp, inl, inr, ap, ◌∙◌, arith}
+use Rattle.std.specs.Cmp.{IsTotalOrder, nat_cmp_total, nat_cmp_is}
+use Rattle.std.specs.FinMap.{IsAntisymmetric, nat_cmp-IsAntisymmetric}
+use Rattle.std.specs.List.{AllByRecursion}
+use Rattle.std.specs.declared.cmp.Ordering.TheVariants.{Less, Equal, Greater}
+use Rattle.cube_laws.specs.Lists.{Rises}
+use Rattle.cube_laws.proofs.Lists.{all_map}
+
+pub nat_total : IsTotalOrder nat_cmp
+nat_total = nat_cmp_total
+
+pub nat_anti : IsAntisymmetric nat_cmp
+nat_anti = nat_cmp-IsAntisymmetric
+
+pub three_ways : (x y : ℕ) → (x < y) ⊎ ((x ≡ y) ⊎ (y < x))
+three_ways zero zero = inr (inl (omega arith))
+three_ways zero (suc y) = inl (omega arith)
+three_ways (suc x) zero = inr (inr (omega arith))
+three_ways (suc x) (suc y) = elim (three_ways x y) [ inl a ↦ inl (omega arith) | inr b ↦ elim b [ inl e ↦ inr (inl (ap suc e)) | inr c ↦ inr (inr (omega arith)) ] ]
+
+pub less_below : (x y : ℕ) → nat_cmp x y ≡ Less → x < y
+less_below x y e = elim (three_ways x y) [
+  | inl a ↦ a
+  | inr b ↦ elim b [ inl s ↦ absurd (let q : Equal ≡ nat_cmp x y = nat_cmp_is x y Equal s in let r : Equal ≡ Less = q ∙ e in cc) | inr g ↦ absurd (let q : Greater ≡ nat_cmp x y = nat_cmp_is x y Greater g in let r : Greater ≡ Less = q ∙ e in cc) ]
+]
+
+pub greater_above : (x y : ℕ) → nat_cmp x y ≡ Greater → y < x
+greater_above x y e = elim (three_ways x y) [
+  | inl a ↦ absurd (let q : Less ≡ nat_cmp x y = nat_cmp_is x y Less a in let r : Less ≡ Greater = q ∙ e in cc)
+  | inr b ↦ elim b [ inl s ↦ absurd (let q : Equal ≡ nat_cmp x y = nat_cmp_is x y Equal s in let r : Equal ≡ Greater = q ∙ e in cc) | inr g ↦ g ]
+]
+
+-- numbers from a up to n that rise are at most n - a
+rising : (a n : ℕ) (xs : List ℕ) → a ≤ n → Rises nat_cmp xs → AllByRecursion (λ x. a ≤ x) xs → AllByRecursion (λ x. x < n) xs → length xs + a ≤ n
+rising a n [] l r low high = omega arith
+rising a n (x ∷ xs) l r low high =
+    let s : x < n = high.0 in
+    let t : a ≤ x = low.0 in
+    let more : length xs + suc x ≤ n = rising (suc x) n xs (omega arith) r.1 (all_map (λ y. nat_cmp x y ≡ Less) (λ y. suc x ≤ y) xs (λ y e. let h = less_below x y e in omega arith) r.0) high.1 in
+    omega arith
+
+pub few_rise : (n : ℕ) (xs : List ℕ) → Rises nat_cmp xs → AllByRecursion (λ x. x < n) xs → length xs ≤ n
+few_rise n xs r high = let h : length xs + 0 ≤ n = rising 0 n xs (omega arith) r (all_map (λ x. x < n) (λ x. 0 ≤ x) xs (λ x l. omega arith) high) high in omega arith

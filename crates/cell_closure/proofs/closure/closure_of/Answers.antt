@@ -1,0 +1,18 @@
+use Rattle.std.proofs.Common.{◌≤◌, ◌<◌, arith}
+use Rattle.cell_closure.proofs.Rows.{there}
+use Rattle.cell_closure.proofs.Closing.{closing_step, closing_end, is_meet}
+use Rattle.cell_closure.proofs.closure.closure_of.Goals as goal
+
+pub dims-preserved : goal.dims-preserved
+dims-preserved c =
+    let lt : c.dims.dim < c.args.table.now.dims = omega arith in
+    let s = closing_step c.args.table.now c.dims-dim-end.ensures.valid c.args.rows.now (there c.args.table.now c.args.rows.now c.requires.there) c.requires.some c.dims.dim _ c.dims.shared c.set.new.self lt c.shared_entry-entry.ensures.value
+    (record { long = c.dims.invariant.long; done = c.dims.invariant.done }) c.set.ensures.value in
+    record { long = s.long; done = s.done }
+
+pub returns-clause-closure : goal.returns-clause-closure
+returns-clause-closure c =
+    let le : c.args.table.now.dims ≤ c.dims.dim = omega arith in
+    is_meet c.args.table.now c.dims-dim-end.ensures.valid c.args.rows.now (there c.args.table.now c.args.rows.now c.requires.there) c.requires.some c.dims.shared
+    (closing_end c.args.table.now c.dims-dim-end.ensures.valid c.args.rows.now (there c.args.table.now c.args.rows.now c.requires.there) c.requires.some c.dims.dim c.dims.shared le
+    (record { long = c.dims.invariant.long; done = c.dims.invariant.done }))

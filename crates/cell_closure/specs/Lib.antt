@@ -1,0 +1,4 @@
+pub mod Parts
+pub mod Runs
+pub mod Shared
+pub mod Counts

@@ -1,0 +1,58 @@
+// What rows share.
+ghost use Rattle.std.specs.Prelude.{None, Some, length, map, nat_eq, slice_index_or, ◌<◌, ◌==◌, ◌≡◌};
+ghost use Rattle.std.specs.List.{list_all};
+ghost use Rattle.cube_defs.specs.Cell.{cell_of};
+ghost use Rattle.cube_defs.specs.Rows.{meet_all};
+ghost use Rattle.cell_core.specs.Entry.{IsSmall, value_in};
+ghost use Rattle.base_table.specs.Places.{AreThere, IsTable, named};
+ghost use Rattle.cell_closure.specs.Parts.{code_at};
+ghost use Rattle.cell_closure.specs.Shared.{shared_by};
+
+use base_table::{RowNo, Table};
+use cell_core::{Cell, Code, Entry};
+
+/// Whether all the rows have the code in the dimension.
+fn all_have(table: &Table, rows: &[RowNo], dim: u8, code: Code) -> bool
+    requires there { AreThere table.now rows.now }
+    requires dim { dim < table.now.dims }
+    ensures { result ≡ list_all (λ no. code_at table.now dim no == code) rows.now }
+{
+    'rows: for row in rows {
+        if table.code(*row, dim) != code {
+            return false;
+        }
+    }
+    true
+}
+
+/// The value that all the rows have in the dimension, or Any where they differ.
+pub fn shared_entry(table: &Table, rows: &[RowNo], dim: u8) -> Entry
+    requires table { IsTable table.now }
+    requires some { 0 < length rows.now }
+    requires there { AreThere table.now rows.now }
+    requires dim { dim < table.now.dims }
+    ensures value { value_in result ≡ slice_index_or (shared_by (named table.now rows.now)) dim None }
+    ensures small { IsSmall result }
+{
+    let code = table.code(rows[0], dim);
+    if all_have(table, &rows[1..], dim, code) {
+        Entry::Is(code)
+    } else {
+        Entry::Any
+    }
+}
+
+/// The values that all the rows have, and Any where they differ.
+pub fn closure_of(table: &Table, rows: &[RowNo]) -> Cell
+    requires some { 0 < length rows.now }
+    requires there { AreThere table.now rows.now }
+    ensures closure { Some result ≡ meet_all nat_eq (map (λ row. cell_of row.tuple) (named table.now rows.now)) }
+    ensures dims { length result ≡ table.now.dims }
+{
+    let mut shared = table.tuple(rows[0]);
+    'dims: for dim in 0..table.dims() {
+        let entry = shared_entry(table, rows, dim);
+        shared.set(dim, entry);
+    }
+    shared
+}

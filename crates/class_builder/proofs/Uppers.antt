@@ -1,0 +1,28 @@
+-- What the rows of a part share, where a cell covers them.
+use Rattle.std.proofs.Common.{◌≡◌, ℕ, ◌<◌, true, false, Some, List, length, nat_eq, subst}
+use Rattle.std.proofs.lemmas.Bool.{false_from_ne_true}
+use Rattle.std.specs.List.{AllByRecursion}
+use Rattle.cube_defs.specs.Cell.{Cell, leq, keep, cell_eq}
+use Rattle.cube_defs.specs.Rows.{Row, covers}
+use Rattle.cube_laws.specs.Tuples.{cells_of}
+use Rattle.cube_laws.proofs.Cells.{nat_equality, cell_eq-exact, cell_eq-same}
+use Rattle.cube_laws.proofs.Closures.{all_cells, meet_all_above}
+use Rattle.cell_closure.proofs.Shared.{IsShared, entry}
+use Rattle.class_builder.specs.Walk.{same_front}
+use Rattle.class_builder.proofs.Fronts.{leq_entry, front_from_points, front_points}
+
+abbrev pub AreCovered : Cell ℕ → List (Row ℕ) → Type 0
+AreCovered c rows = AllByRecursion (λ row. covers nat_eq c row ≡ true) rows
+
+pub covered_entry : (rows : List (Row ℕ)) (u c : Cell ℕ) (k x : ℕ) → IsShared rows u → AreCovered c rows → entry c k ≡ Some x → entry u k ≡ Some x
+covered_entry rows u c k x e h f = leq_entry k x c u (meet_all_above nat_equality c (cells_of rows) u ((all_cells (λ d. leq nat_eq c d ≡ true) rows).1 h) e) f
+
+-- cells with the same entries before a dimension, or not
+pub same_at : (k : ℕ) (c d : Cell ℕ) → length c ≡ length d → ((j : ℕ) → j < k → entry c j ≡ entry d j) → same_front k c d ≡ true
+same_at k c d l h = subst (λ x. cell_eq nat_eq (keep k c) x ≡ true) (front_from_points k c d l h) (cell_eq-same nat_equality (keep k c))
+
+pub differs_at : (k j : ℕ) (c d : Cell ℕ) → j < k → (entry c j ≡ entry d j → ⊥) → same_front k c d ≡ false
+differs_at k j c d l h = false_from_ne_true _ (λ t. h (front_points k j c d (cell_eq-exact nat_equality _ _ t) l))
+
+pub front_at : (k j : ℕ) (c d : Cell ℕ) → same_front k c d ≡ true → j < k → entry c j ≡ entry d j
+front_at k j c d t l = front_points k j c d (cell_eq-exact nat_equality _ _ t) l

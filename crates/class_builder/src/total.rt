@@ -1,0 +1,23 @@
+// What rows come to.
+ghost use Rattle.std.specs.Prelude.{length, ◌<◌, ◌≡◌, ◌≤◌};
+ghost use Rattle.cube_defs.specs.Rows.{agg_of};
+ghost use Rattle.base_table.specs.Places.{AreThere, IsTable, named};
+ghost use Rattle.aggregates.specs.Views.{agg_in};
+
+use aggregates::Agg;
+use base_table::{RowNo, Table};
+
+/// What the rows come to.
+pub(crate) fn total(table: &Table, rows: &[RowNo]) -> Agg
+    requires table { IsTable table.now }
+    requires some { 0 < length rows.now }
+    requires few { length rows.now ≤ 1000000 }
+    requires there { AreThere table.now rows.now }
+    ensures { agg_in result ≡ agg_of table.now.measures (named table.now rows.now) }
+{
+    let mut agg = Agg::one(table.amounts(rows[0]));
+    'rows: for i in 1..rows.len() {
+        agg.add_row(table.amounts(rows[i]));
+    }
+    agg
+}

@@ -1,0 +1,109 @@
+// What the rows of a part share.
+ghost use Rattle.std.specs.Prelude.{None, Some, false, is_some, length, nat_eq, not, slice_index_or, true, if◌then◌else◌, ◌<◌, ◌≡◌};
+ghost use Rattle.std.specs.List.{AllByRecursion};
+ghost use Rattle.cube_defs.specs.Rows.{covers};
+ghost use Rattle.cell_core.specs.Entry.{IsSmall, value_in};
+ghost use Rattle.base_table.specs.Places.{AreThere, IsTable, named};
+ghost use Rattle.cell_closure.specs.Shared.{shared_by};
+ghost use Rattle.class_builder.specs.Walk.{same_front};
+
+use base_table::{RowNo, Table};
+use cell_closure::shared_entry;
+use cell_core::{Cell, Entry};
+
+/// What the rows share in the dimension. All of them are covered by `upper`.
+fn entry_of(table: &Table, rows: &[RowNo], upper: &Cell, dim: u8) -> Entry
+    requires table { IsTable table.now }
+    requires some { 0 < length rows.now }
+    requires there { AreThere table.now rows.now }
+    requires covered { AllByRecursion (λ row. covers nat_eq upper.now row ≡ true) (named table.now rows.now) }
+    requires long { length upper.now ≡ table.now.dims }
+    requires dim { dim < table.now.dims }
+    ensures value { value_in result ≡ slice_index_or (shared_by (named table.now rows.now)) dim None }
+    ensures small { IsSmall result }
+{
+    match upper.get(dim) {
+        Entry::Is(code) => Entry::Is(code),
+        Entry::Any => shared_entry(table, rows, dim),
+    }
+}
+
+/// Whether the rows share a value in the dimension where `upper`, which covers them, has Any.
+fn gains(table: &Table, rows: &[RowNo], upper: &Cell, dim: u8) -> bool
+    requires table { IsTable table.now }
+    requires some { 0 < length rows.now }
+    requires there { AreThere table.now rows.now }
+    requires covered { AllByRecursion (λ row. covers nat_eq upper.now row ≡ true) (named table.now rows.now) }
+    requires long { length upper.now ≡ table.now.dims }
+    requires dim { dim < table.now.dims }
+    ensures same { result ≡ false →
+        slice_index_or (shared_by (named table.now rows.now)) dim None ≡ slice_index_or upper.now dim None }
+    ensures other { result ≡ true →
+        slice_index_or (shared_by (named table.now rows.now)) dim None ≡ slice_index_or upper.now dim None → ⊥ }
+{
+    match upper.get(dim) {
+        Entry::Is(_) => false,
+        Entry::Any => match shared_entry(table, rows, dim) {
+            Entry::Is(_) => true,
+            Entry::Any => false,
+        },
+    }
+}
+
+/// Whether the rows share a value before the dimension that `upper`, which covers them, lacks.
+fn gains_before(table: &Table, rows: &[RowNo], upper: &Cell, dim: u8) -> bool
+    requires table { IsTable table.now }
+    requires some { 0 < length rows.now }
+    requires there { AreThere table.now rows.now }
+    requires covered { AllByRecursion (λ row. covers nat_eq upper.now row ≡ true) (named table.now rows.now) }
+    requires long { length upper.now ≡ table.now.dims }
+    requires dim { dim < table.now.dims }
+    ensures { result ≡ not (same_front dim (shared_by (named table.now rows.now)) upper.now) }
+{
+    'dims: for i in 0..dim {
+        if gains(table, rows, upper, i) {
+            return true;
+        }
+    }
+    false
+}
+
+/// What the rows share, who share no more before the dimension than `upper` has, and a value there.
+fn narrowed(table: &Table, rows: &[RowNo], upper: &Cell, dim: u8) -> Cell
+    requires table { IsTable table.now }
+    requires some { 0 < length rows.now }
+    requires there { AreThere table.now rows.now }
+    requires covered { AllByRecursion (λ row. covers nat_eq upper.now row ≡ true) (named table.now rows.now) }
+    requires long { length upper.now ≡ table.now.dims }
+    requires dim { dim < table.now.dims }
+    requires value { is_some (slice_index_or (shared_by (named table.now rows.now)) dim None) ≡ true }
+    requires front { same_front dim (shared_by (named table.now rows.now)) upper.now ≡ true }
+    ensures { result ≡ shared_by (named table.now rows.now) }
+{
+    let mut next = upper.copy();
+    next.set(dim, Entry::Is(table.code(rows[0], dim)));
+    'dims: for i in dim + 1..table.dims() {
+        let entry = entry_of(table, rows, upper, i);
+        next.set(i, entry);
+    }
+    next
+}
+
+/// What the rows share, where they share no more before the dimension than `upper` has, which
+/// covers them. They share a value in the dimension.
+pub(crate) fn upper_of(table: &Table, rows: &[RowNo], upper: &Cell, dim: u8) -> Option<Cell>
+    requires table { IsTable table.now }
+    requires some { 0 < length rows.now }
+    requires there { AreThere table.now rows.now }
+    requires covered { AllByRecursion (λ row. covers nat_eq upper.now row ≡ true) (named table.now rows.now) }
+    requires long { length upper.now ≡ table.now.dims }
+    requires dim { dim < table.now.dims }
+    requires value { is_some (slice_index_or (shared_by (named table.now rows.now)) dim None) ≡ true }
+    ensures { result ≡ (if same_front dim (shared_by (named table.now rows.now)) upper.now
+        then Some (shared_by (named table.now rows.now)) else None) }
+{
+    if gains_before(table, rows, upper, dim) {
+        return None;
+    }
+    Some(narrowed(table, rows, upper, dim))
+}

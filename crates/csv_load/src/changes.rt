@@ -1,0 +1,56 @@
+// Changes as they lie one behind the other.
+ghost use Rattle.std.specs.Prelude.{◌≡◌, ◌++◌, [], ◌∷◌, IfOk, OnOk};
+
+use crate::texts::Texts;
+use std::alloc::{AllocError, Global};
+
+/// The ids, texts and amounts of changes. A deletion has texts and amounts as well, which say
+/// nothing, so that those of the k-th change lie at the k-th place.
+#[derive(Drop)]
+pub struct Changes {
+    pub ids: Vec<u64>,
+    pub deletes: Vec<bool>,
+    pub texts: Texts,
+    pub amounts: Vec<i64>,
+}
+
+impl Changes {
+    pub fn new(alloc: Global) -> Changes
+        ensures ids { result.ids.items ≡ [] }
+        ensures deletes { result.deletes.items ≡ [] }
+        ensures texts { result.texts ≡ [] }
+        ensures amounts { result.amounts.items ≡ [] }
+    {
+        Changes {
+            ids: Vec::new(alloc),
+            deletes: Vec::new(alloc),
+            texts: Texts::new(alloc),
+            amounts: Vec::new(alloc),
+        }
+    }
+
+    /// No changes yet, and room for texts of so many bytes.
+    pub fn with_room(alloc: Global, size: usize) -> Result<Changes, AllocError>
+        ensures ids { IfOk result (λ changes. changes.ids.items ≡ []) }
+        ensures deletes { IfOk result (λ changes. changes.deletes.items ≡ []) }
+        ensures texts { IfOk result (λ changes. changes.texts ≡ []) }
+        ensures amounts { IfOk result (λ changes. changes.amounts.items ≡ []) }
+    {
+        Ok(Changes {
+            texts: Texts::with_room(alloc, size)?,
+            ..Changes::new(alloc)
+        })
+    }
+
+    /// Puts an id behind the others, whose texts and amounts are there already.
+    pub fn push_id(&mut self, id: u64, deletes: bool) -> Result<(), AllocError>
+        ensures ids { OnOk result (self.new.ids.items ≡ self.old.ids.items ++ id ∷ []) }
+        ensures deletes { OnOk result (self.new.deletes.items ≡ self.old.deletes.items ++ deletes ∷ []) }
+        ensures texts { self.new.texts ≡ self.old.texts }
+        ensures amounts { self.new.amounts.items ≡ self.old.amounts.items }
+    {
+        self.deletes.push(deletes)?;
+        self.ids.push(id)?;
+        Ok(())
+    }
+}

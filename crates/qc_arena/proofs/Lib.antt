@@ -1,0 +1,10 @@
+pub mod ArenaSteps
+pub mod Cuts
+pub mod EdgeCounts
+pub mod EdgeSteps
+pub mod Halving
+pub mod Images
+pub mod KeptSteps
+pub mod Labels
+pub mod SlotMaps
+pub mod Totals

@@ -1,0 +1,373 @@
+// Nodes under numbers; a batch can be taken back, numbers included.
+ghost use Rattle.std.specs.Prelude.{Err, IfOk, IfSome, IsSome, None, Ok, OnErr, OnOk, Some, false, nat_eq, true, ℕ, ◌+◌, ◌<◌, ◌||◌, ◌↔◌, ◌≡◌, ◌≢◌, ◌≤◌};
+ghost use Rattle.std.specs.FinMap as map;
+ghost use Rattle.std.specs.Option.{option_map};
+ghost use Rattle.std.specs.Ordering.{nat_cmp};
+ghost use Rattle.aggregates.specs.Views.{agg_in};
+ghost use Rattle.tree_laws.specs.Counts.{classes_in, links_in, tree_edges_in};
+ghost use Rattle.qc_arena.specs.Edges.{with_edge};
+ghost use Rattle.qc_arena.specs.Map.{IsPlace, is_touched, new_record, no_nodes, was_at, with_class, with_forced};
+ghost use Rattle.qc_arena.specs.Seen.{edge_of, record_at};
+
+use crate::edges::EdgeTo;
+use crate::kept::{Counts, Kept};
+use crate::nodes::{Forced, Nodes};
+use crate::records::Rec;
+use crate::slots::{
+    add_record, is_child, kind_at, let_go, put_back, put_was, record_of, set_class_at, set_edge_at,
+    set_forced_at,
+};
+use crate::Memory;
+use aggregates::Agg;
+use cell_core::{Code, NodeNo, Steps};
+use indexmap::IndexMap;
+use slab::Slab;
+use std::alloc::{AllocError, Global};
+use std::marker::Model;
+use std::sync::ledger::Ledger;
+
+/// Why a node was not added.
+#[derive(Clone, Copy, Debug, PartialEq, Eq)]
+pub enum ArenaRefused {
+    /// There are as many nodes as there may be.
+    Full,
+    /// Memory ran out.
+    Memory,
+}
+
+/// Nodes under numbers. While a batch is open, the record that a node had before is kept when the
+/// node is touched, and so the batch can be taken back without memory.
+#[derive(Drop)]
+pub struct QcArena {
+    nodes: Slab<Option<Rec>>,
+    images: IndexMap<u32, Option<Rec>>,
+    is_open: bool,
+    dims: u8,
+    max: u32,
+    kept: Kept,
+    was: Kept,
+}
+
+impl Model for QcArena {
+    ghost use Rattle.std.specs.FinMap as map;
+    ghost use Rattle.qc_arena.specs.Inside.{IsArena, now_of};
+    ghost use Rattle.qc_arena.specs.Map.{Arena, arena_code};
+
+    ghost Value = { Arena };
+
+    ghost coded = { arena_code };
+
+    ghost view = { λ a. record { width = a.dims; max = a.max; now = now_of a.nodes; images = map.from_entries a.images.entries; is_open = a.is_open } };
+
+    ghost invariant = { λ a. IsArena a.dims a.max a.nodes a.images a.is_open a.kept a.was };
+}
+
+impl QcArena {
+    /// No nodes, of which there may be so many, and no batch is open.
+    pub fn new(alloc: Global, dims: u8, max: u32) -> Result<QcArena, Memory>
+        requires some_dims { 0 < dims }
+        requires few_dims { dims ≤ 16 }
+        requires some { 0 < max }
+        requires few { max ≤ 4000000 }
+        ensures { IfOk result (λ a. a ≡ no_nodes dims max) }
+    {
+        let none = Kept {
+            root: None,
+            counts: Counts {
+                nodes: 0,
+                classes: 0,
+                tree_edges: 0,
+                links: 0,
+            },
+        };
+        Ok(QcArena {
+            nodes: Slab::new(alloc),
+            images: IndexMap::new(alloc),
+            is_open: false,
+            dims,
+            max,
+            kept: none,
+            was: none,
+        })
+    }
+
+    /// A batch is open, and no node is touched.
+    pub fn begin(&mut self)
+        requires { self.old.is_open ≡ false }
+        ensures now { self.new.now ≡ self.old.now }
+        ensures was { (q : ℕ) → was_at self.new q ≡ map.get self.old.now q }
+        ensures touched { (q : ℕ) → is_touched self.new q ≡ false }
+        ensures opened { self.new.is_open ≡ true }
+        ensures width { self.new.width ≡ self.old.width }
+        ensures max { self.new.max ≡ self.old.max }
+    {
+        self.is_open = true;
+    }
+
+    // The record of a node that is to come.
+    fn new_rec(&self, under: Option<(NodeNo, u8, Code)>) -> Rec
+        requires { IsPlace self.now.width self.now.now under }
+        ensures { result ≡ new_record self.now.width self.now.now under }
+    {
+        match under {
+            None => Rec::root(*self.images.allocator(), self.dims),
+            Some((node, dim, code)) => record_of(&self.nodes, node.0).child(node, dim, code),
+        }
+    }
+
+    /// Adds the root, or the node with one later value than its parent, under a number that no
+    /// node has nor had at `begin`. It counts as touched.
+    pub fn add_node<L: Ledger>(
+        &mut self,
+        under: Option<(NodeNo, u8, Code)>,
+        steps: &mut Steps<L>,
+    ) -> Result<NodeNo, ArenaRefused>
+        requires opened { self.old.is_open ≡ true }
+        requires under { IsPlace self.old.width self.old.now under }
+        ensures here { IfOk result (λ k. map.get self.new.now k.0 ≡ Some (new_record self.old.width self.old.now under)) }
+        ensures others { IfOk result (λ k. (q : ℕ) → q ≢ k.0 → map.get self.new.now q ≡ map.get self.old.now q) }
+        ensures free { IfOk result (λ k. map.get self.old.now k.0 ≡ None) }
+        ensures untouched { IfOk result (λ k. is_touched self.old k.0 ≡ false) }
+        ensures touched { IfOk result (λ k. (q : ℕ) → is_touched self.new q ≡ (nat_eq k.0 q || is_touched self.old q)) }
+        ensures was { (q : ℕ) → was_at self.new q ≡ was_at self.old q }
+        ensures opened { self.new.is_open ≡ true }
+        ensures width { self.new.width ≡ self.old.width }
+        ensures max { self.new.max ≡ self.old.max }
+        ensures full { (result ≡ Err ArenaRefused.Full) ↔ (map.len self.old.now ≡ self.old.max) }
+        ensures err { OnErr result (self.new ≡ self.old) }
+        ensures steps { steps.new ≡ steps.old + 1 }
+    {
+        steps.tick();
+        if self.kept.counts.nodes >= self.max {
+            return Err(ArenaRefused::Full);
+        }
+        let new = self.new_rec(under);
+        match add_record(&mut self.nodes, &mut self.images, new) {
+            Ok(node) => {
+                self.kept = self.kept.with_node(under, node);
+                Ok(NodeNo(node))
+            }
+            Err(_) => Err(ArenaRefused::Memory),
+        }
+    }
+
+    /// Keeps the record of the node as it was at `begin`, so that it may be changed.
+    pub fn touch<L: Ledger>(&mut self, node: NodeNo, steps: &mut Steps<L>) -> Result<(), Memory>
+        requires opened { self.old.is_open ≡ true }
+        requires node { IsSome (map.get self.old.now node.0) }
+        ensures touched { OnOk result ((q : ℕ) → is_touched self.new q ≡ (nat_eq node.0 q || is_touched self.old q)) }
+        ensures now { self.new.now ≡ self.old.now }
+        ensures was { (q : ℕ) → was_at self.new q ≡ was_at self.old q }
+        ensures opened { self.new.is_open ≡ true }
+        ensures width { self.new.width ≡ self.old.width }
+        ensures max { self.new.max ≡ self.old.max }
+        ensures err { OnErr result (self.new ≡ self.old) }
+        ensures steps { steps.new ≡ steps.old + 1 }
+    {
+        steps.tick();
+        if self.images.contains_key(&node.0) {
+            return Ok(());
+        }
+        let image = record_of(&self.nodes, node.0).copy()?;
+        put_was(&mut self.images, node.0, image)
+    }
+
+    /// Adds an edge with this label, or gives the one that is there another target.
+    pub fn set_edge<L: Ledger>(
+        &mut self,
+        node: NodeNo,
+        dim: u8,
+        code: Code,
+        target: NodeNo,
+        steps: &mut Steps<L>,
+    ) -> Result<(), Memory>
+        requires opened { self.old.is_open ≡ true }
+        requires node { IsSome (map.get self.old.now node.0) }
+        requires touched { is_touched self.old node.0 ≡ true }
+        requires target { IsSome (map.get self.old.now target.0) }
+        requires dim { dim < self.old.width }
+        requires code { code < 4000000 }
+        ensures here { OnOk result (map.get self.new.now node.0 ≡ option_map (with_edge (record { dim = dim; value = code; target = target.0 })) (map.get self.old.now node.0)) }
+        ensures others { (q : ℕ) → q ≢ node.0 → map.get self.new.now q ≡ map.get self.old.now q }
+        ensures touched { (q : ℕ) → is_touched self.new q ≡ is_touched self.old q }
+        ensures was { (q : ℕ) → was_at self.new q ≡ was_at self.old q }
+        ensures opened { self.new.is_open ≡ true }
+        ensures width { self.new.width ≡ self.old.width }
+        ensures max { self.new.max ≡ self.old.max }
+        ensures err { OnErr result (self.new ≡ self.old) }
+        ensures steps { steps.new ≡ steps.old + 1 }
+    {
+        steps.tick();
+        let edge = EdgeTo {
+            dim,
+            code,
+            target: target.0,
+        };
+        let had = kind_at(&self.nodes, node.0, dim, code);
+        let is_tree = is_child(&self.nodes, node.0, target.0);
+        if !self.kept.has_room() {
+            return Err(AllocError);
+        }
+        match set_edge_at(&mut self.nodes, node.0, edge) {
+            Ok(()) => {
+                self.kept = self.kept.with_edge(had, is_tree);
+                Ok(())
+            }
+            Err(error) => Err(error),
+        }
+    }
+
+    /// Sets the forced child, or takes it away.
+    pub fn set_forced<L: Ledger>(
+        &mut self,
+        node: NodeNo,
+        forced: Option<Forced>,
+        steps: &mut Steps<L>,
+    )
+        requires opened { self.old.is_open ≡ true }
+        requires node { IsSome (map.get self.old.now node.0) }
+        requires touched { is_touched self.old node.0 ≡ true }
+        requires code { IfSome forced (λ f. f.code < 4000000) }
+        ensures here { map.get self.new.now node.0 ≡ option_map (with_forced (option_map edge_of forced)) (map.get self.old.now node.0) }
+        ensures others { (q : ℕ) → q ≢ node.0 → map.get self.new.now q ≡ map.get self.old.now q }
+        ensures touched { (q : ℕ) → is_touched self.new q ≡ is_touched self.old q }
+        ensures was { (q : ℕ) → was_at self.new q ≡ was_at self.old q }
+        ensures opened { self.new.is_open ≡ true }
+        ensures width { self.new.width ≡ self.old.width }
+        ensures max { self.new.max ≡ self.old.max }
+        ensures steps { steps.new ≡ steps.old + 1 }
+    {
+        steps.tick();
+        set_forced_at(&mut self.nodes, node.0, forced);
+    }
+
+    /// Sets what the rows of the node come to, or marks it as no class.
+    pub fn set_class<L: Ledger>(&mut self, node: NodeNo, class: Option<Agg>, steps: &mut Steps<L>)
+        requires opened { self.old.is_open ≡ true }
+        requires node { IsSome (map.get self.old.now node.0) }
+        requires touched { is_touched self.old node.0 ≡ true }
+        ensures here { map.get self.new.now node.0 ≡ option_map (with_class (option_map agg_in class)) (map.get self.old.now node.0) }
+        ensures others { (q : ℕ) → q ≢ node.0 → map.get self.new.now q ≡ map.get self.old.now q }
+        ensures touched { (q : ℕ) → is_touched self.new q ≡ is_touched self.old q }
+        ensures was { (q : ℕ) → was_at self.new q ≡ was_at self.old q }
+        ensures opened { self.new.is_open ≡ true }
+        ensures width { self.new.width ≡ self.old.width }
+        ensures max { self.new.max ≡ self.old.max }
+        ensures steps { steps.new ≡ steps.old + 1 }
+    {
+        steps.tick();
+        let had = record_of(&self.nodes, node.0).class().is_some();
+        set_class_at(&mut self.nodes, node.0, class);
+        self.kept = self.kept.with_class(had, class.is_some());
+    }
+
+    /// The map stays as it is, and the batch is closed.
+    pub fn commit(&mut self)
+        requires { self.old.is_open ≡ true }
+        ensures now { self.new.now ≡ self.old.now }
+        ensures closed { self.new.is_open ≡ false }
+        ensures width { self.new.width ≡ self.old.width }
+        ensures max { self.new.max ≡ self.old.max }
+    {
+        let_go(&mut self.nodes, &mut self.images);
+        self.is_open = false;
+        self.was = self.kept;
+    }
+
+    /// The map is that at `begin`, numbers included, and the batch is closed.
+    pub fn rollback(&mut self)
+        requires { self.old.is_open ≡ true }
+        ensures now { (q : ℕ) → map.get self.new.now q ≡ was_at self.old q }
+        ensures closed { self.new.is_open ≡ false }
+        ensures width { self.new.width ≡ self.old.width }
+        ensures max { self.new.max ≡ self.old.max }
+    {
+        put_back(&mut self.nodes, &mut self.images);
+        self.is_open = false;
+        self.kept = self.was;
+    }
+
+    /// How many nodes there are.
+    pub fn live(&self) -> u32
+        ensures value { result ≡ map.len self.now.now }
+        ensures few { result ≤ self.now.max }
+    {
+        self.kept.counts.nodes
+    }
+
+    /// How many nodes, classes, tree edges and links there are.
+    pub fn counts(&self) -> Counts
+        ensures nodes { result.nodes ≡ map.len self.now.now }
+        ensures classes { result.classes ≡ classes_in nat_cmp self.now.now }
+        ensures tree_edges { result.tree_edges ≡ tree_edges_in nat_cmp self.now.now }
+        ensures links { result.links ≡ links_in nat_cmp self.now.now }
+    {
+        self.kept.counts
+    }
+}
+
+impl QcArena {
+    // The record of a node.
+    fn record(&self, node: NodeNo) -> &Rec
+        requires { IsSome (map.get self.now.now node.0) }
+        ensures { result.now ≡ record_at self.now.now node.0 }
+    {
+        record_of(&self.nodes, node.0)
+    }
+}
+
+impl Nodes for QcArena {
+    ghost width = { λ a. a.width };
+
+    ghost tree = { λ a. a.now };
+
+    fn dims(&self) -> u8 {
+        self.dims
+    }
+
+    fn root<L: Ledger>(&self, steps: &mut Steps<L>) -> Option<NodeNo> {
+        steps.tick();
+        self.kept.root
+    }
+
+    fn end_of<L: Ledger>(&self, node: NodeNo, steps: &mut Steps<L>) -> Option<(u8, Code)> {
+        steps.tick();
+        self.record(node).end_of()
+    }
+
+    fn parent<L: Ledger>(&self, node: NodeNo, steps: &mut Steps<L>) -> Option<NodeNo> {
+        steps.tick();
+        self.record(node).parent()
+    }
+
+    fn forced<L: Ledger>(&self, node: NodeNo, steps: &mut Steps<L>) -> Option<Forced> {
+        steps.tick();
+        self.record(node).forced()
+    }
+
+    fn edge<L: Ledger>(
+        &self,
+        node: NodeNo,
+        dim: u8,
+        code: Code,
+        steps: &mut Steps<L>,
+    ) -> Option<NodeNo> {
+        steps.tick();
+        self.record(node).edge(dim, code)
+    }
+
+    fn edge_count<L: Ledger>(&self, node: NodeNo, steps: &mut Steps<L>) -> u32 {
+        steps.tick();
+        self.record(node).edge_count()
+    }
+
+    fn edge_at<L: Ledger>(&self, node: NodeNo, k: u32, steps: &mut Steps<L>) -> (u8, Code, NodeNo) {
+        steps.tick();
+        self.record(node).edge_at(k)
+    }
+
+    fn class<L: Ledger>(&self, node: NodeNo, steps: &mut Steps<L>) -> Option<Agg> {
+        steps.tick();
+        self.record(node).class()
+    }
+}

@@ -1,0 +1,212 @@
+-- The cell that a point asks, and its codes.
+use Rattle.std.proofs.Common.{◌≡◌, ◌<◌, ◌≤◌, ◌+◌, ◌∙◌, ℕ, zero, suc, Bool, true, false, cond, Option, Some, None, List, [], ◌∷◌, map, length, get_or, ◌⊎◌, inl, inr, refl, sym, ap, ap₂, subst, arith}
+use Rattle.std.specs.Prelude.{⊤, nat_eq, nat_lt, option_map}
+use Rattle.std.specs.Option.{option_and_then}
+use Rattle.std.specs.List.{All, list_any, position_or_len}
+use Rattle.std.proofs.lemmas.List.Elements.{All-head, All-tail}
+use Rattle.std.specs.Str.{bytes_eq}
+use Rattle.std.specs.Cmp.Lexicographic.{bytes_decides}
+use Rattle.std.proofs.lemmas.Bool.{ltb-false, ltb-true}
+use Rattle.std.proofs.lemmas.List.Sums.{passes_at_first}
+use Rattle.std.proofs.lemmas.Map.Text.{is_eq-slice_cmp}
+use Rattle.cell_core.specs.declared.fields.Field.{Field}
+use Rattle.cell_core.specs.declared.fields.Field.TheVariants as fields
+use Rattle.cube_defs.specs.Text.{Text, text_eq}
+use Rattle.cube_defs.specs.Cell.{Cell, cell_of}
+use Rattle.cube_defs.specs.Rows.{Row, covers, cov}
+use Rattle.cube_laws.specs.Recoding.{AreKnown, RowsAreKnown, TellsApart, coded, coded_row}
+use Rattle.cube_laws.specs.Total.{agg_at, agg_some}
+use Rattle.cube_laws.proofs.Cells.{IsEquality, nat_equality}
+use Rattle.cube_laws.proofs.RecodedRows.{agg_of-coded, cov-coded}
+use Rattle.cube_laws.proofs.RecodedLists.{known-below}
+use Rattle.query_script.specs.Commands.{IsPointField}
+use Rattle.value_dict.specs.TextLists.{cell_in, entry_in}
+use Rattle.warehouse.specs.State.{has_text, place_in}
+use Rattle.warehouse.proofs.Apart.{any-within, places-apart, text_equality}
+use Rattle.qc_session.specs.Answers.{cell_asked, entry_asked}
+
+within-any : {X : Type 0} (p : X → Bool) (xs : List X) → position_or_len p xs < length xs → list_any p xs ≡ true
+within-any p [] h = absurd (omega arith)
+within-any p (x ∷ xs) h = go (p x) refl (within-any p xs)
+  where
+    go : (b : Bool) → p x ≡ b → (position_or_len p xs < length xs → list_any p xs ≡ true) → list_any p (x ∷ xs) ≡ true
+    go true e more = rw e refl
+    go false e more = let h2 = rw e at h in rw e (more (omega (arith, h2)))
+
+-- what is known where an entry is found
+record IsEntry (texts : List Text) (asked : Option Text) (entry : Option ℕ) : Type 0 where
+  pub coded : entry ≡ option_map (λ v. position_or_len (bytes_eq v) texts) asked
+  pub known : (v : Text) → asked ≡ Some v → list_any (bytes_eq v) texts ≡ true
+
+entry-found : (texts : List Text) (field : Field) (entry : Option ℕ) → IsPointField field → entry_in texts field ≡ Some entry → IsEntry texts (entry_asked field) entry
+entry-found texts fields.Any entry is e = record { coded = cc; known = λ v h. cc }
+entry-found texts fields.All entry is e = absurd is
+entry-found texts (fields.Among more) entry is e = absurd is
+entry-found texts (fields.Between low high) entry is e = absurd is
+entry-found texts (fields.One text) entry is e = go (nat_lt (position_or_len (bytes_eq text) texts) (length texts)) refl e
+  where
+    some : {x y : Option ℕ} → Some x ≡ Some y → y ≡ x
+    some h = cc
+
+    same : {x y : Text} → Some x ≡ Some y → x ≡ y
+    same h = cc
+
+    go : (b : Bool) → nat_lt (position_or_len (bytes_eq text) texts) (length texts) ≡ b → option_map (λ code. Some code) (cond b (Some (position_or_len (bytes_eq text) texts)) None) ≡ Some entry → IsEntry texts (Some text) entry
+    go true t h = record {
+      coded = some h;
+      known = λ v g. subst (λ x. list_any (bytes_eq x) texts ≡ true) (same g) (within-any (bytes_eq text) texts (ltb-true _ _ t));
+    }
+    go false t h = cc
+
+entry-missing : (texts : List Text) (field : Field) (v : Text) → IsPointField field → entry_in texts field ≡ None → (entry_asked field ≡ Some v) × (list_any (bytes_eq v) texts ≡ true) → ⊥
+entry-missing texts fields.Any v is e h = cc
+entry-missing texts fields.All v is e h = absurd is
+entry-missing texts (fields.Among more) v is e h = absurd is
+entry-missing texts (fields.Between low high) v is e h = absurd is
+entry-missing texts (fields.One text) v is e h = go (nat_lt (position_or_len (bytes_eq text) texts) (length texts)) refl e
+  where
+    same : {x y : Text} → Some x ≡ Some y → y ≡ x
+    same h = cc
+
+    go : (b : Bool) → nat_lt (position_or_len (bytes_eq text) texts) (length texts) ≡ b → option_map (λ (code : ℕ). Some code) (cond b (Some (position_or_len (bytes_eq text) texts)) None) ≡ None → ⊥
+    go true t g = cc
+    go false t g = omega (arith, ltb-false _ _ t, any-within (bytes_eq text) texts (subst (λ x. list_any (bytes_eq x) texts ≡ true) (same h.0) h.1))
+
+-- the lists from dimension k on
+abbrev pub Fits : List (List Text) → ℕ → List (List Text) → Type 0
+Fits texts k [] = ⊤
+Fits texts k (list ∷ lists) = (get_or texts k [] ≡ list) × Fits texts (suc k) lists
+
+fits-from : (texts : List (List Text)) (k : ℕ) (lists : List (List Text)) → ((i : ℕ) → get_or texts (k + i) [] ≡ get_or lists i []) → Fits texts k lists
+fits-from texts k [] h = tt
+fits-from texts k (list ∷ lists) h =
+    let first : k + 0 ≡ k = omega arith in
+    (subst (λ n. get_or texts n [] ≡ list) first (h 0), fits-from texts (suc k) lists later)
+  where
+    later : (i : ℕ) → get_or texts (suc k + i) [] ≡ get_or lists i []
+    later i = let next : k + suc i ≡ suc k + i = omega arith in subst (λ n. get_or texts n [] ≡ get_or lists i []) next (h (suc i))
+
+fits : (texts : List (List Text)) → Fits texts 0 texts
+fits texts = fits-from texts 0 texts (λ i. let same : 0 + i ≡ i = omega arith in ap (λ n. get_or texts n []) same)
+
+-- an entry, and the cell behind it
+abbrev joined : Option (Option ℕ) → Option (Cell ℕ) → Option (Cell ℕ)
+joined entry rest = option_and_then (λ e. option_map (λ c. e ∷ c) rest) entry
+
+record AreJoined (entry : Option (Option ℕ)) (rest : Option (Cell ℕ)) (cell : Cell ℕ) : Type 0 where
+  pub first : Option ℕ
+  pub more : Cell ℕ
+  pub entry_is : entry ≡ Some first
+  pub rest_is : rest ≡ Some more
+  pub cell_is : cell ≡ first ∷ more
+
+some-joined : (entry : Option (Option ℕ)) (rest : Option (Cell ℕ)) (cell : Cell ℕ) → joined entry rest ≡ Some cell → AreJoined entry rest cell
+some-joined None rest cell h = cc
+some-joined (Some e) None cell h = cc
+some-joined (Some e) (Some c) cell h = record { first = e; more = c; entry_is = refl; rest_is = refl; cell_is = cc }
+
+-- where each field's entry is there, the cell is the code of the asked cell, which is known
+pub record IsFound (texts : List (List Text)) (k : ℕ) (asked : Cell Text) (cell : Cell ℕ) : Type 0 where
+  pub code : cell ≡ coded (place_in texts) k asked
+  pub known : AreKnown (has_text texts) k asked
+
+found-more : (texts : List (List Text)) (k : ℕ) (list : List Text) (entry : Option Text) (asked : Cell Text) (e : Option ℕ) (c : Cell ℕ) → get_or texts k [] ≡ list → IsEntry list entry e → IsFound texts (suc k) asked c
+    → IsFound texts k (entry ∷ asked) (e ∷ c)
+found-more texts k list None asked e c fit is more = record { code = ap₂ (λ x xs. x ∷ xs) is.coded more.code; known = more.known }
+found-more texts k list (Some v) asked e c fit is more = record {
+  code = ap₂ (λ x xs. x ∷ xs) (is.coded ∙ ap (λ l. Some (position_or_len (bytes_eq v) l)) (sym fit)) more.code;
+  known = (subst (λ l. list_any (bytes_eq v) l ≡ true) (sym fit) (is.known v refl), more.known);
+}
+
+pub cell-found : (texts : List (List Text)) (k : ℕ) (lists : List (List Text)) (asked : List Field) (cell : Cell ℕ) → Fits texts k lists → All IsPointField asked → cell_in lists asked ≡ Some cell
+    → IsFound texts k (cell_asked asked) cell
+cell-found texts k [] [] cell fit point e = record { code = cc; known = tt }
+cell-found texts k [] (f ∷ asked) cell fit point e = cc
+cell-found texts k (list ∷ lists) [] cell fit point e = cc
+cell-found texts k (list ∷ lists) (f ∷ asked) cell fit point e =
+    let j = some-joined (entry_in list f) (cell_in lists asked) cell e in
+    subst (IsFound texts k (cell_asked (f ∷ asked))) (sym j.cell_is)
+    (found-more texts k list (entry_asked f) (cell_asked asked) j.first j.more fit.0 (entry-found list f j.first (All-head IsPointField f asked point) j.entry_is) (cell-found texts (suc k) lists asked j.more fit.1 (All-tail IsPointField f asked point) j.rest_is))
+
+none-joined : (entry : Option (Option ℕ)) (rest : Option (Cell ℕ)) → joined entry rest ≡ None → (entry ≡ None) ⊎ (rest ≡ None)
+none-joined None rest h = inl refl
+none-joined (Some e) None h = inr refl
+none-joined (Some e) (Some c) h = cc
+
+missing-first : (texts : List (List Text)) (k : ℕ) (list : List Text) (f : Field) (asked : List Field) → get_or texts k [] ≡ list → IsPointField f → entry_in list f ≡ None → AreKnown (has_text texts) k (entry_asked f ∷ cell_asked asked) → ⊥
+missing-first texts k list f asked fit point e known = go (entry_asked f) refl known
+  where
+    go : (o : Option Text) → entry_asked f ≡ o → AreKnown (has_text texts) k (o ∷ cell_asked asked) → ⊥
+    go None h known = asks-any f point e h
+      where
+        asks-any : (f : Field) → IsPointField f → entry_in list f ≡ None → entry_asked f ≡ None → ⊥
+        asks-any fields.Any point e h = cc
+        asks-any fields.All point e h = absurd point
+        asks-any (fields.One text) point e h = cc
+        asks-any (fields.Among more) point e h = absurd point
+        asks-any (fields.Between low high) point e h = absurd point
+    go (Some v) h known = entry-missing list f v point e (h, subst (λ l. list_any (bytes_eq v) l ≡ true) fit known.0)
+
+known-behind : (texts : List (List Text)) (k : ℕ) (e : Option Text) (asked : Cell Text) → AreKnown (has_text texts) k (e ∷ asked) → AreKnown (has_text texts) (suc k) asked
+known-behind texts k None asked h = h
+known-behind texts k (Some v) asked h = h.1
+
+-- where a field's value isn't there, the asked cell isn't known
+pub cell-missing : (texts : List (List Text)) (k : ℕ) (lists : List (List Text)) (asked : List Field) → length asked ≡ length lists → Fits texts k lists → All IsPointField asked → cell_in lists asked ≡ None
+    → AreKnown (has_text texts) k (cell_asked asked) → ⊥
+cell-missing texts k [] [] same fit point e known = cc
+cell-missing texts k [] (f ∷ asked) same fit point e known = omega (arith, same)
+cell-missing texts k (list ∷ lists) [] same fit point e known = omega (arith, same)
+cell-missing texts k (list ∷ lists) (f ∷ asked) same fit point e known = elim (none-joined (entry_in list f) (cell_in lists asked) e) [
+  | inl h ↦ missing-first texts k list f asked fit.0 (All-head IsPointField f asked point) h known
+  | inr h ↦ cell-missing texts (suc k) lists asked (omega (arith, same)) fit.1 (All-tail IsPointField f asked point) h (known-behind texts k (entry_asked f) (cell_asked asked) known)
+]
+
+module _ (texts : List (List Text)) (measures : ℕ) where
+  some-coded : (rows : List (Row Text)) → agg_some measures (map (coded_row (place_in texts)) rows) ≡ agg_some measures rows
+  some-coded [] = refl
+  some-coded (r ∷ rows) = ap (λ a. Some a) (agg_of-coded (place_in texts) measures (r ∷ rows))
+
+  -- what the coded cell covers among coded rows comes to the same
+  pub total-coded : (rows : List (Row Text)) (c : Cell Text) → RowsAreKnown (has_text texts) rows → AreKnown (has_text texts) 0 c
+      → agg_at nat_eq measures (map (coded_row (place_in texts)) rows) (coded (place_in texts) 0 c) ≡ agg_at text_eq measures rows c
+  total-coded rows c h known =
+      ap (agg_some measures) (cov-coded text_equality nat_equality (places-apart texts) rows c h known) ∙ some-coded (cov text_eq rows c)
+
+  covered-known : (rows : List (Row Text)) (c : Cell Text) (r : Row Text) (rest : List (Row Text)) → RowsAreKnown (has_text texts) rows → cov text_eq rows c ≡ r ∷ rest → AreKnown (has_text texts) 0 c
+  covered-known [] c r rest h e = cc
+  covered-known (q ∷ rows) c r rest h e = go (covers text_eq c q) refl (covered-known rows c r rest h.1)
+    where
+      go : (b : Bool) → covers text_eq c q ≡ b → (cov text_eq rows c ≡ r ∷ rest → AreKnown (has_text texts) 0 c) → AreKnown (has_text texts) 0 c
+      go true t more = known-below text_equality (has_text texts) 0 c (cell_of q.tuple) t h.0
+      go false t more = more (rw t at e)
+
+  -- a cell that isn't known covers nothing
+  pub total-missing : (rows : List (Row Text)) (c : Cell Text) → RowsAreKnown (has_text texts) rows → (AreKnown (has_text texts) 0 c → ⊥) → agg_at text_eq measures rows c ≡ None
+  total-missing rows c h unknown = go (cov text_eq rows c) refl
+    where
+      go : (covered : List (Row Text)) → cov text_eq rows c ≡ covered → agg_some measures covered ≡ None
+      go [] e = refl
+      go (r ∷ rest) e = absurd (unknown (covered-known rows c r rest h e))
+
+-- what a point's cell comes to, by its codes
+pub total-found : (texts lists : List (List Text)) (measures : ℕ) (rows : List (Row Text)) (asked : List Field) (cell : Cell ℕ) → lists ≡ texts → RowsAreKnown (has_text texts) rows → All IsPointField asked
+    → cell_in lists asked ≡ Some cell → agg_at nat_eq measures (map (coded_row (place_in texts)) rows) cell ≡ agg_at text_eq measures rows (cell_asked asked)
+total-found texts lists measures rows asked cell same h point e =
+    let found = cell-found texts 0 texts asked cell (fits texts) point (rw same at e) in
+    ap (agg_at nat_eq measures (map (coded_row (place_in texts)) rows)) found.code
+    ∙ total-coded texts measures rows (cell_asked asked) h found.known
+
+pub total-none : (texts lists : List (List Text)) (measures : ℕ) (rows : List (Row Text)) (asked : List Field) → lists ≡ texts → length asked ≡ length texts → RowsAreKnown (has_text texts) rows → All IsPointField asked
+    → cell_in lists asked ≡ None → agg_at text_eq measures rows (cell_asked asked) ≡ None
+total-none texts lists measures rows asked same len h point e =
+    total-missing texts measures rows (cell_asked asked) h (cell-missing texts 0 texts asked len (fits texts) point (rw same at e))
+
+-- a cell that fields ask for has an entry for each of them
+pub length-found : (lists : List (List Text)) (asked : List Field) (cell : Cell ℕ) → cell_in lists asked ≡ Some cell → length cell ≡ length asked
+length-found [] [] cell e = cc
+length-found [] (f ∷ asked) cell e = cc
+length-found (list ∷ lists) [] cell e = cc
+length-found (list ∷ lists) (f ∷ asked) cell e =
+    let j = some-joined (entry_in list f) (cell_in lists asked) cell e in
+    ap length j.cell_is ∙ ap suc (length-found lists asked j.more j.rest_is)

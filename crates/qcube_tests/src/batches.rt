@@ -1,0 +1,302 @@
+// Batches of corrections, beside a plain list of rows that follows the same batches.
+
+ghost use Rattle.std.specs.Prelude.{None, ◌<◌, ◌≡◌};
+
+use qc_io::{MemoryFiles, MemorySink};
+use qc_session::run;
+use std::alloc::{AllocError, Global};
+use std::test::Fail;
+
+const SCHEMA: &[u8] = b"qcube 1\nid id\ndim a\ndim b\nmeasure m 0\n";
+
+// Four values as they stand in a file, and as they are asked; the last entry asks Any.
+const WRITTEN: [&str; 4] = ["", "*", "\"x,y\"", "\u{E9}"];
+
+const ASKED: [&str; 5] = ["", "=*", "\"x,y\"", "\u{E9}", "*"];
+
+const ANY: u8 = 4;
+
+// A row, or a change that brings one or takes one away.
+#[derive(Clone, Copy)]
+struct Row {
+    deletes: bool,
+    id: u8,
+    a: u8,
+    b: u8,
+    amount: i16,
+}
+
+// Numbers that look drawn.
+#[derive(Drop)]
+struct Draw {
+    state: u64,
+}
+
+impl Draw {
+    fn below(&mut self, most: u64) -> u8 {
+        self.state = self
+            .state
+            .wrapping_mul(6_364_136_223_846_793_005)
+            .wrapping_add(1_442_695_040_888_963_407);
+        ((self.state >> 33) % most.max(1)).min(255) as u8
+    }
+
+    fn change(&mut self) -> Row {
+        Row {
+            deletes: self.below(5) < 2,
+            id: self.below(24),
+            a: self.below(4),
+            b: self.below(4),
+            amount: i16::from(self.below(200)) - 100,
+        }
+    }
+}
+
+fn has(rows: &[Row], id: u8) -> bool {
+    rows.iter().any(|row| row.id == id)
+}
+
+fn deletes(batch: &[Row], id: u8) -> bool {
+    batch.iter().any(|change| change.deletes && change.id == id)
+}
+
+fn is_among(before: &[Row], change: Row) -> bool {
+    before.iter().any(|other| other.deletes == change.deletes && other.id == change.id)
+}
+
+fn is_missing(rows: &[Row], change: Row) -> bool {
+    change.deletes && !has(rows, change.id)
+}
+
+fn is_present(rows: &[Row], batch: &[Row], change: Row) -> bool {
+    !change.deletes && has(rows, change.id) && !deletes(batch, change.id)
+}
+
+// The code of the first refusal, and the number of its change.
+fn refusal(rows: &[Row], batch: &[Row]) -> Option<(&'static str, usize)> {
+    if let Some(k) = (0..batch.len()).position(|k| is_among(&batch[..k], batch[k])) {
+        return Some(("twice", k));
+    }
+    if let Some(k) = batch.iter().position(|change| is_missing(rows, *change)) {
+        return Some(("missing", k));
+    }
+    if let Some(k) = batch
+        .iter()
+        .position(|change| is_present(rows, batch, *change))
+    {
+        return Some(("present", k));
+    }
+    None
+}
+
+// What a batch that isn't refused does to the rows.
+fn follow(rows: &mut Vec<Row>, batch: &[Row]) -> Result<(), AllocError> {
+    rows.retain(|row| !deletes(batch, row.id));
+    for change in batch {
+        if !change.deletes {
+            rows.push(*change)?;
+        }
+    }
+    Ok(())
+}
+
+fn covers(a: u8, b: u8, row: Row) -> bool {
+    (a == ANY || a == row.a) && (b == ANY || b == row.b)
+}
+
+// Whether a cell covers a row, and has in each dimension the value that all the covered rows share.
+fn is_class(rows: &[Row], a: u8, b: u8) -> bool {
+    let Some(first) = rows.iter().find(|row| covers(a, b, **row)) else {
+        return false;
+    };
+    let first = *first;
+    let shares_a = rows
+        .iter()
+        .all(|row| !covers(a, b, *row) || row.a == first.a);
+    let shares_b = rows
+        .iter()
+        .all(|row| !covers(a, b, *row) || row.b == first.b);
+    shares_a == (a != ANY) && shares_b == (b != ANY)
+}
+
+fn count_classes(rows: &[Row]) -> u32 {
+    let mut count: u32 = 0;
+    for a in 0..=ANY {
+        for b in 0..=ANY {
+            if is_class(rows, a, b) {
+                count = count.wrapping_add(1);
+            }
+        }
+    }
+    count
+}
+
+fn gcd(a: u64, b: u64) -> u64
+    ensures { 0 < result }
+{
+    let mut rest = (a, b);
+    for _ in 0..64 {
+        if rest.1 == 0 {
+            return rest.0.max(1);
+        }
+        rest = (rest.1, rest.0 % rest.1);
+    }
+    1
+}
+
+// The reply to a point, by one pass over the rows.
+fn point_reply(alloc: Global, line: u32, rows: &[Row], a: u8, b: u8) -> Result<String, AllocError> {
+    let mut count: u64 = 0;
+    let mut sum: i64 = 0;
+    let mut least = i64::MAX;
+    let mut greatest = i64::MIN;
+    for row in rows {
+        if covers(a, b, *row) {
+            count = count.wrapping_add(1);
+            sum = sum.wrapping_add(i64::from(row.amount));
+            least = least.min(i64::from(row.amount));
+            greatest = greatest.max(i64::from(row.amount));
+        }
+    }
+    if count == 0 {
+        return format!(in alloc; "none,{line}\n");
+    }
+    let by = gcd(sum.unsigned_abs(), count);
+    let sign = if sum < 0 { "-" } else { "" };
+    let (num, den) = (sum.unsigned_abs() / by, count / by);
+    let cell_a = ASKED[usize::from(a.min(ANY))];
+    let cell_b = ASKED[usize::from(b.min(ANY))];
+    format!(in alloc;
+        "point,{line},{cell_a},{cell_b},{count},{sum},{least},{greatest},{sign}{num}/{den}\n"
+    )
+}
+
+// A batch as a file, its columns in an order of their own.
+fn file_of(alloc: Global, batch: &[Row]) -> Result<String, AllocError> {
+    let mut file = String::from_str(alloc, "b,op,note,id,m,a\n")?;
+    for change in batch {
+        let (id, amount) = (change.id, change.amount);
+        let a = WRITTEN[usize::from(change.a % 4)];
+        let b = WRITTEN[usize::from(change.b % 4)];
+        let line = if change.deletes {
+            format!(in alloc; "{b},-,,{id},none,\n")?
+        } else {
+            format!(in alloc; "{b},+,,0{id},{amount},{a}\n")?
+        };
+        file.push_str(line.as_str())?;
+    }
+    Ok(file)
+}
+
+// A script and the transcript that it is to have.
+#[derive(Drop)]
+struct Written {
+    script: String,
+    transcript: String,
+    line: u32,
+}
+
+impl Written {
+    fn push(&mut self, command: &str, reply: &str) -> Result<(), AllocError> {
+        self.script.push_str(command)?;
+        self.script.push_str("\n")?;
+        self.transcript.push_str(reply)?;
+        Ok(())
+    }
+
+    fn next_line(&mut self) -> u32 {
+        self.line = self.line.wrapping_add(1);
+        self.line
+    }
+
+    // A batch of this name.
+    fn push_batch(
+        &mut self,
+        alloc: Global,
+        name: &str,
+        rows: &mut Vec<Row>,
+        batch: &[Row],
+    ) -> Result<(), AllocError> {
+        let line = self.next_line();
+        let command = format!(in alloc; "apply {name}")?;
+        let reply = match refusal(rows, batch) {
+            Some((code, k)) => {
+                let number = k.wrapping_add(1);
+                format!(in alloc; "refused,{line},{code},{number}\n")?
+            }
+            None => {
+                follow(rows, batch)?;
+                let (records, classes) = (batch.len(), count_classes(rows));
+                format!(in alloc; "applied,{line},{records},{classes}\n")?
+            }
+        };
+        self.push(command.as_str(), reply.as_str())
+    }
+
+    // The points of all cells.
+    fn push_points(&mut self, alloc: Global, rows: &[Row]) -> Result<(), AllocError> {
+        for a in 0..=ANY {
+            for b in 0..=ANY {
+                let line = self.next_line();
+                let cell_a = ASKED[usize::from(a.min(ANY))];
+                let cell_b = ASKED[usize::from(b.min(ANY))];
+                let command = format!(in alloc; "point {cell_a},{cell_b}")?;
+                let reply = point_reply(alloc, line, rows, a, b)?;
+                self.push(command.as_str(), reply.as_str())?;
+            }
+        }
+        Ok(())
+    }
+}
+
+// A batch more, as a file, and the points of all cells after it.
+fn push_round(
+    alloc: Global,
+    files: &mut MemoryFiles,
+    written: &mut Written,
+    draw: &mut Draw,
+    rows: &mut Vec<Row>,
+    round: u32,
+) -> Result<(), AllocError>
+    requires { files.old.store.open_name ≡ None }
+    ensures { files.new.store.open_name ≡ None }
+{
+    let mut batch = Vec::new(alloc);
+    for _ in 0..draw.below(7) {
+        batch.push(draw.change())?;
+    }
+    let name = format!(in alloc; "batch {round}.csv")?;
+    let file = file_of(alloc, &batch)?;
+    files.add(name.as_str(), file.as_bytes())?;
+    written.push_batch(alloc, name.as_str(), rows, &batch)?;
+    written.push_points(alloc, rows)
+}
+
+#[test]
+fn batches_follow_a_plain_list(rt: HostRuntime) -> Result<(), Fail> {
+    let alloc = rt.alloc();
+    let mut files = MemoryFiles::new(alloc, &[], 4096)?;
+    let mut written = Written {
+        script: String::new(alloc),
+        transcript: String::new(alloc),
+        line: 0,
+    };
+    let mut draw = Draw { state: 7 };
+    let mut rows = Vec::new(alloc);
+    'rounds: for round in 0..60 {
+        push_round(alloc, &mut files, &mut written, &mut draw, &mut rows, round)?;
+    }
+    files.add("schema", SCHEMA)?;
+    files.add("script", written.script.as_bytes())?;
+    let mut out = MemorySink::new(alloc, &[], 4096, 1_000_000)?;
+    let mut err = MemorySink::new(alloc, &[], 4096, 1000)?;
+    let mut words = Vec::new(alloc);
+    for word in ["run", "schema", "script"] {
+        words.push(String::from_str(alloc, word)?)?;
+    }
+    let outcome = run(alloc, &words, &mut files, &mut out, &mut err);
+    assert_eq!(rt; outcome.status, 0);
+    assert_eq!(rt; out.bytes(), written.transcript.as_bytes());
+    assert!(rt; rows.len() > 3);
+    Ok(())
+}

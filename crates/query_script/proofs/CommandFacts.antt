@@ -1,0 +1,63 @@
+-- Lines as commands.
+use Rattle.std.proofs.Common.{◌≡◌, ℕ, List, [], ◌∷◌, refl, arith, Ok, Err, true, false, Bool, cond, IsUtf8}
+use Rattle.std.specs.Prelude.{Result, IfOk, codes}
+use Rattle.std.specs.Str.{bytes_eq, is_utf8}
+use Rattle.std.proofs.lemmas.Str.{IsUtf8-from_is_utf8, is_utf8-from_IsUtf8}
+use Rattle.std.proofs.lemmas.Bool.{and_from}
+use Rattle.cube_defs.specs.Text.{Text}
+use Rattle.cell_core.specs.declared.fields.Field as asked
+use Rattle.query_script.specs.Faults as faults
+use Rattle.query_script.specs.Faults.{Gives, LineFault}
+use Rattle.query_script.specs.Lines.{is_command, may_want_memory, rest_of, word_of}
+use Rattle.query_script.specs.Commands.{IsCommand, command_in, command_named, command_with, name_in, point_in}
+use Rattle.query_script.specs.declared.line.Command.{Command}
+use Rattle.query_script.specs.declared.line.Command.TheVariants.{Load, Apply, Point}
+use Rattle.query_script.specs.declared.line.LineRefused.{LineRefused}
+use Rattle.query_script.proofs.Points.{point-fields}
+
+pub text-line : (dims : ℕ) (line : List ℕ) → IsUtf8 line → command_in dims line ≡ command_named dims (word_of line) (rest_of line)
+text-line dims line u = rw (is_utf8-from_IsUtf8 line u) refl
+
+pub no-text-line : (dims : ℕ) (line : List ℕ) → (IsUtf8 line → ⊥) → command_in dims line ≡ Err faults.Utf8
+no-text-line dims line h = by (is_utf8 line) refl
+  where
+    by : (b : Bool) → is_utf8 line ≡ b → cond b (command_named dims (word_of line) (rest_of line)) (Err faults.Utf8) ≡ Err faults.Utf8
+    by true e = absurd (h (IsUtf8-from_is_utf8 line e))
+    by false e = refl
+
+pub wants-memory : (line : List ℕ) → IsUtf8 line → is_command (word_of line) ≡ true → may_want_memory line ≡ true
+wants-memory line u e = and_from _ _ (is_utf8-from_IsUtf8 line u) e
+
+-- ---- what each command is
+
+load-is : (dims : ℕ) (rest : List ℕ) (command : Command) → command_with Load (name_in rest) ≡ Ok command → IsCommand dims command
+load-is dims [] command e = absurd (cc e)
+load-is dims (b ∷ bs) command e = let same : Load (b ∷ bs) ≡ command = cc in rw (← same) (omega arith)
+
+apply-is : (dims : ℕ) (rest : List ℕ) (command : Command) → command_with Apply (name_in rest) ≡ Ok command → IsCommand dims command
+apply-is dims [] command e = absurd (cc e)
+apply-is dims (b ∷ bs) command e = let same : Apply (b ∷ bs) ≡ command = cc in rw (← same) (omega arith)
+
+point-is : (dims : ℕ) (rest : List ℕ) (command : Command) → command_with Point (point_in dims rest) ≡ Ok command → IsCommand dims command
+point-is dims rest command e = by (point_in dims rest) refl e
+  where
+    by : (read : Result (List asked.Field) LineFault) → point_in dims rest ≡ read → command_with Point read ≡ Ok command → IsCommand dims command
+    by (Err fault) is m = absurd (cc m)
+    by (Ok fields) is m = let same : Point fields ≡ command = cc in rw (← same) (point-fields dims rest fields is)
+
+named-is : (dims : ℕ) (word : Text) (rest : List ℕ) (command : Command) → command_named dims word rest ≡ Ok command → IsCommand dims command
+named-is dims word rest command e = by (bytes_eq word (codes "load")) (bytes_eq word (codes "apply")) (bytes_eq word (codes "point")) e
+  where
+    by : (load apply point : Bool) → cond load (command_with Load (name_in rest)) (cond apply (command_with Apply (name_in rest)) (cond point (command_with Point (point_in dims rest)) (Err faults.Command))) ≡ Ok command → IsCommand dims command
+    by true apply point m = load-is dims rest command m
+    by false true point m = apply-is dims rest command m
+    by false false true m = point-is dims rest command m
+    by false false false m = absurd (cc m)
+
+pub line-is : (dims : ℕ) (line : List ℕ) (r : Result Command LineRefused) → Gives r (command_in dims line) → IfOk r (IsCommand dims)
+line-is dims line (Err refused) h = tt
+line-is dims line (Ok command) h = by (is_utf8 line) h
+  where
+    by : (b : Bool) → cond b (command_named dims (word_of line) (rest_of line)) (Err faults.Utf8) ≡ Ok command → IsCommand dims command
+    by true m = named-is dims (word_of line) (rest_of line) command m
+    by false m = absurd (cc m)

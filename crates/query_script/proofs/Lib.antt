@@ -1,0 +1,4 @@
+pub mod Asking
+pub mod TextRecords
+pub mod Points
+pub mod CommandFacts

@@ -1,0 +1,59 @@
+-- The command that a line is, or its fault.
+use Rattle.std.specs.Prelude.{◌≡◌, ◌<◌, ⊤, ℕ, List, [], ◌∷◌, length, codes, All, Result, Ok, Err, if◌then◌else◌}
+use Rattle.std.specs.List.{flat_map}
+use Rattle.std.specs.Str.{bytes_eq, is_utf8}
+use Rattle.csv.specs.Reading.{default_config, records}
+use Rattle.cube_defs.specs.Text.{Text}
+use Rattle.cell_core.specs.declared.fields.Field as asked
+use Rattle.cell_core.specs.declared.fields.Field.TheVariants as asks
+use Rattle.csv_load.specs.Records.{begins_with_mark}
+use Rattle.query_script.specs.Faults as faults
+use Rattle.query_script.specs.Faults.{LineFault}
+use Rattle.query_script.specs.Fields.{fields_from, point_field}
+use Rattle.query_script.specs.Lines.{rest_of, word_of}
+use Rattle.query_script.specs.declared.line.Command.{Command}
+use Rattle.query_script.specs.declared.line.Command.TheVariants.{Load, Apply, Point}
+
+-- the name of a file, which is not empty
+abbrev pub name_in : List ℕ → Result Text LineFault
+name_in [] = Err (faults.Field 1)
+name_in (b ∷ bs) = Ok (b ∷ bs)
+
+-- the fields of all records of a text, one after another
+abbrev pub fields_in : List ℕ → List Text
+fields_in rest = flat_map (λ fields. fields) (records default_config rest)
+
+-- what a point asks of so many dimensions; a byte order mark in front makes the first field none that is allowed
+abbrev pub point_in : ℕ → List ℕ → Result (List asked.Field) LineFault
+point_in dims rest = if begins_with_mark rest then Err (faults.Field 1) else fields_from point_field 1 dims (fields_in rest)
+
+-- the command of what was read, or the fault
+abbrev pub command_with : {X : Type 0} → (X → Command) → Result X LineFault → Result Command LineFault
+command_with make (Ok x) = Ok (make x)
+command_with make (Err fault) = Err fault
+
+-- what a command word and its rest ask, over so many dimensions
+abbrev pub command_named : ℕ → Text → List ℕ → Result Command LineFault
+command_named dims word rest =
+    if bytes_eq word (codes "load") then command_with Load (name_in rest)
+    else if bytes_eq word (codes "apply") then command_with Apply (name_in rest)
+    else if bytes_eq word (codes "point") then command_with Point (point_in dims rest)
+    else Err faults.Command
+
+-- what a line asks
+abbrev pub command_in : ℕ → List ℕ → Result Command LineFault
+command_in dims line = if is_utf8 line then command_named dims (word_of line) (rest_of line) else Err faults.Utf8
+
+-- what a point may ask of a dimension
+abbrev pub IsPointField : asked.Field → Type 0
+IsPointField asks.Any = ⊤
+IsPointField asks.All = ⊥
+IsPointField (asks.One text) = ⊤
+IsPointField (asks.Among texts) = ⊥
+IsPointField (asks.Between low high) = ⊥
+
+-- a name isn't empty, and a point asks something of each dimension
+abbrev pub IsCommand : ℕ → Command → Type 0
+IsCommand dims (Load name) = 0 < length name
+IsCommand dims (Apply name) = 0 < length name
+IsCommand dims (Point fields) = (length fields ≡ dims) × All IsPointField fields

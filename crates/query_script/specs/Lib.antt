@@ -1,0 +1,5 @@
+pub mod Lines
+pub mod Faults
+pub mod Fields
+pub mod Progress
+pub mod Commands

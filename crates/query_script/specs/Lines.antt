@@ -1,0 +1,24 @@
+-- The command word of a line, and what follows it.
+use Rattle.std.specs.Prelude.{ℕ, Bool, ◌==◌, ◌||◌, ◌&&◌, List, codes}
+use Rattle.std.specs.List.{before_first, after_first}
+use Rattle.std.specs.Str.{bytes_eq, is_utf8}
+
+-- what ends a command word
+abbrev pub is_space : ℕ → Bool
+is_space b = b == 32
+
+-- the command word runs to the first space or the end of the line
+abbrev pub word_of : List ℕ → List ℕ
+word_of line = before_first is_space line
+
+-- the rest is what follows that one space
+abbrev pub rest_of : List ℕ → List ℕ
+rest_of line = after_first is_space line
+
+-- the words of the commands
+abbrev pub is_command : List ℕ → Bool
+is_command word = bytes_eq word (codes "load") || bytes_eq word (codes "apply") || bytes_eq word (codes "point")
+
+-- whether the reading of a line may want memory: it is UTF-8 and begins with a command word
+abbrev pub may_want_memory : List ℕ → Bool
+may_want_memory line = is_utf8 line && is_command (word_of line)

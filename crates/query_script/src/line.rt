@@ -1,0 +1,103 @@
+// A line of a script.
+ghost use Rattle.std.specs.Prelude.{◌≡◌, ◌≤◌, true, length, IfOk, IfErr};
+ghost use Rattle.query_script.specs.Commands.{IsCommand, command_in, command_named, name_in};
+ghost use Rattle.query_script.specs.Faults.{Gives};
+ghost use Rattle.query_script.specs.Lines.{is_command, may_want_memory, rest_of, word_of};
+
+use crate::point::read_point;
+use cell_core::{Fields, Text};
+use qc_schema::Schema;
+use std::alloc::{AllocError, Global};
+
+/// What a line asks for.
+#[derive(Drop)]
+pub enum Command {
+    /// Load the base file of this name.
+    Load(Text),
+    /// Apply the batch of this name.
+    Apply(Text),
+    /// Answer the point of these fields, one for each dimension.
+    Point(Fields),
+}
+
+/// Why a line is no command.
+#[derive(Clone, Copy, Debug, PartialEq, Eq)]
+pub enum LineRefused {
+    /// The line isn't UTF-8.
+    Utf8,
+    /// The first word is no command.
+    Command,
+    /// The field at this place, counted from 1, is missing, isn't allowed or is one too many.
+    Field(u32),
+    /// A value is no number.
+    Number,
+    /// Memory ran out.
+    Memory,
+}
+
+impl From<AllocError> for LineRefused {
+    ghost use Rattle.query_script.specs.declared.line.LineRefused.TheVariants as refusals;
+
+    ghost from_gives = { λ _ e. e ≡ refusals.Memory };
+
+    fn from(_: AllocError) -> Self {
+        LineRefused::Memory
+    }
+}
+
+// The command word, and what follows the space behind it.
+fn split_word(line: &str) -> (&str, &str)
+    ensures word { result.0.now ≡ word_of line.now }
+    ensures rest { result.1.now ≡ rest_of line.now }
+{
+    match line.split_once(' ') {
+        Some((word, rest)) => (word, rest),
+        None => (line, ""),
+    }
+}
+
+// The name of a file.
+fn read_name(alloc: Global, rest: &str) -> Result<Text, LineRefused>
+    ensures { Gives result (name_in rest.now) }
+{
+    if rest.is_empty() {
+        return Err(LineRefused::Field(1));
+    }
+    Ok(Text::new(alloc, rest)?)
+}
+
+fn read_command(
+    alloc: Global,
+    schema: &Schema,
+    word: &str,
+    rest: &str,
+) -> Result<Command, LineRefused>
+    ensures gives { Gives result (command_named (length schema.now.dims) word.now rest.now) }
+    ensures memory { IfErr result (λ e. e ≡ LineRefused.Memory → is_command word.now ≡ true) }
+{
+    match word {
+        "load" => Ok(Command::Load(read_name(alloc, rest)?)),
+        "apply" => Ok(Command::Apply(read_name(alloc, rest)?)),
+        "point" => Ok(Command::Point(read_point(alloc, schema, rest)?)),
+        _ => Err(LineRefused::Command),
+    }
+}
+
+/// Reads a line without its end. The first word runs to the first space. Behind `load` and `apply`
+/// stands the name of a file, which may hold spaces. Behind `point` stand fields as in a CSV file:
+/// `*` is Any, `=` stands in front of a value of any bytes, and each other field is that value, but
+/// `?` and fields that begin with `|` or `~` are not allowed.
+pub fn read_line(alloc: Global, schema: &Schema, line: &[u8]) -> Result<Command, LineRefused>
+    requires { length line.now ≤ 268435456 }
+    ensures gives { Gives result (command_in (length schema.now.dims) line.now) }
+    ensures memory { IfErr result (λ e. e ≡ LineRefused.Memory → may_want_memory line.now ≡ true) }
+    ensures command { IfOk result (λ command. IsCommand (length schema.now.dims) command) }
+{
+    match str::from_utf8(line) {
+        Ok(text) => {
+            let (word, rest) = split_word(text);
+            read_command(alloc, schema, word, rest)
+        }
+        Err(_) => Err(LineRefused::Utf8),
+    }
+}

@@ -1,0 +1,112 @@
+// The fields of a point.
+ghost use Rattle.std.specs.Prelude.{◌≡◌, ◌≤◌, ◌++◌, ◌∷◌, [], List, All, length, IfOk, IfErr, OnOk, IsUtf8};
+ghost use Rattle.csv.specs.Records.{fields_of};
+ghost use Rattle.csv_load.specs.Records.{begins_with_mark};
+ghost use Rattle.cube_defs.specs.Text.{Text};
+ghost use Rattle.query_script.specs.Commands.{point_in};
+ghost use Rattle.query_script.specs.Faults.{Fails, Gives};
+ghost use Rattle.query_script.specs.Fields.{point_field, value_of};
+ghost use Rattle.query_script.specs.Progress.{asked_after};
+
+use crate::line::LineRefused;
+use cell_core::{Field, Fields, Memory, Text};
+use csv::ByteRecord;
+use csv_load::{Rows, field};
+use qc_schema::Schema;
+use std::alloc::Global;
+
+fn has_mark(rest: &str) -> bool
+    ensures { result ≡ begins_with_mark rest.now }
+{
+    matches!(rest.as_bytes(), [0xEF, 0xBB, 0xBF, ..])
+}
+
+// The value that a field names.
+fn named_value(field: &str) -> &str
+    ensures { result.now ≡ value_of field.now }
+{
+    match field.strip_prefix('=') {
+        Some(value) => value,
+        None => field,
+    }
+}
+
+// What a field asks, if it is allowed in a point.
+fn read_field(alloc: Global, field: &str) -> Result<Option<Field>, Memory>
+    ensures { IfOk result (λ asked. asked ≡ point_field field.now) }
+{
+    match field.as_bytes() {
+        b"*" => Ok(Some(Field::Any)),
+        b"?" | [b'|' | b'~', ..] => Ok(None),
+        _ => Ok(Some(Field::One(Text::new(alloc, named_value(field))?))),
+    }
+}
+
+// Puts what a field asks behind what those before it ask.
+fn push_field(alloc: Global, dims: u8, text: &[u8], fields: &mut Fields) -> Result<(), LineRefused>
+    requires text { IsUtf8 text.now }
+    requires few { length fields.old ≤ dims }
+    ensures ok { OnOk result ((more : List Text) → asked_after point_field dims fields.new more ≡ asked_after point_field dims fields.old (text.now ∷ more)) }
+    ensures few { OnOk result (length fields.new ≤ dims) }
+    ensures err { IfErr result (λ e. (more : List Text) → Fails e (asked_after point_field dims fields.old (text.now ∷ more))) }
+{
+    let place = fields.len() + 1;
+    if place > u32::from(dims) {
+        return Err(LineRefused::Field(place));
+    }
+    let text = str::from_utf8(text).unwrap();
+    let Some(asked) = read_field(alloc, text)? else {
+        return Err(LineRefused::Field(place));
+    };
+    fields.push(asked)?;
+    Ok(())
+}
+
+// The same of each field of a record.
+fn push_fields(
+    alloc: Global,
+    dims: u8,
+    row: &ByteRecord,
+    fields: &mut Fields,
+) -> Result<(), LineRefused>
+    requires text { All IsUtf8 (fields_of row.now) }
+    requires few { length fields.old ≤ dims }
+    ensures ok { OnOk result ((more : List Text) → asked_after point_field dims fields.new more ≡ asked_after point_field dims fields.old (fields_of row.now ++ more)) }
+    ensures few { OnOk result (length fields.new ≤ dims) }
+    ensures err { IfErr result (λ e. (more : List Text) → Fails e (asked_after point_field dims fields.old (fields_of row.now ++ more))) }
+{
+    'fields: for at in 0..row.len() {
+        push_field(alloc, dims, field(row, at), fields)?;
+    }
+    Ok(())
+}
+
+#[tactic(auto, using(crate::proofs::Asking::asks_all, crate::proofs::Asking::asks_too_few))]
+// Hands the fields back where none is missing.
+fn check_count(dims: u8, fields: Fields) -> Result<Fields, LineRefused>
+    requires { length fields ≤ dims }
+    ensures { Gives result (asked_after point_field dims fields []) }
+{
+    let count = fields.len();
+    if count < u32::from(dims) {
+        return Err(LineRefused::Field(count + 1));
+    }
+    Ok(fields)
+}
+
+/// Reads what follows the command word of a point.
+pub fn read_point(alloc: Global, schema: &Schema, rest: &str) -> Result<Fields, LineRefused>
+    ensures { Gives result (point_in (length schema.now.dims) rest.now) }
+{
+    if has_mark(rest) {
+        return Err(LineRefused::Field(1));
+    }
+    let dims = schema.dims();
+    let mut rows = Rows::new(alloc, rest.as_bytes());
+    let mut row = ByteRecord::new(alloc);
+    let mut fields = Fields::new(alloc);
+    'records: while rows.next(&mut row)? {
+        push_fields(alloc, dims, &row, &mut fields)?;
+    }
+    check_count(dims, fields)
+}

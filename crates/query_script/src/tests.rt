@@ -1,0 +1,158 @@
+// Lines, good and bad.
+ghost use Rattle.std.specs.Prelude.{◌≤◌, length};
+
+use crate::{Command, LineRefused, read_line};
+use cell_core::{Field, Fields};
+use qc_schema::{Schema, read_schema};
+use std::alloc::{AllocError, Global};
+use std::test::Fail;
+
+const SHOP: &[u8] = b"qcube 1\nid order\ndim store\ndim product\ndim season\n";
+
+// What a field asks: `*`, or `is`, a space and the value.
+fn list_field(field: &Field, list: &mut String) -> Result<(), AllocError> {
+    match field {
+        Field::Any => list.push_str("*"),
+        Field::One(text) => {
+            list.push_str("is ")?;
+            list.push_str(text.as_str())
+        }
+        Field::All | Field::Among(_) | Field::Between(_, _) => list.push_str("several"),
+    }
+}
+
+// The fields, with `;` behind each.
+fn list_fields(fields: &Fields, list: &mut String) -> Result<(), AllocError> {
+    for k in 0..fields.len() {
+        list_field(fields.get(k), list)?;
+        list.push_str(";")?;
+    }
+    Ok(())
+}
+
+// The command, with `:` behind its name.
+fn list_command(alloc: Global, command: &Command) -> Result<String, AllocError> {
+    let mut list = String::new(alloc);
+    match command {
+        Command::Load(name) => {
+            list.push_str("load:")?;
+            list.push_str(name.as_str())?;
+        }
+        Command::Apply(name) => {
+            list.push_str("apply:")?;
+            list.push_str(name.as_str())?;
+        }
+        Command::Point(fields) => {
+            list.push_str("point:")?;
+            list_fields(fields, &mut list)?;
+        }
+    }
+    Ok(list)
+}
+
+// Whether the line is this command, or is refused so.
+fn reads_as(
+    alloc: Global,
+    schema: &Schema,
+    line: &[u8],
+    want: Result<&str, LineRefused>,
+) -> Result<bool, AllocError>
+    requires { length line.now ≤ 10000 }
+{
+    match read_line(alloc, schema, line) {
+        Ok(command) => match want {
+            Ok(listed) => Ok(list_command(alloc, &command)?.as_str() == listed),
+            Err(_) => Ok(false),
+        },
+        Err(refused) => Ok(want == Err(refused)),
+    }
+}
+
+#[test]
+fn words_and_names(rt: HostRuntime) -> Result<(), Fail> {
+    let schema = read_schema(rt.alloc(), SHOP).map_err(|_| "schema")?;
+    let cases = [
+        (b"load a.csv".as_slice(), Ok("load:a.csv")),
+        (b"load a b.csv", Ok("load:a b.csv")),
+        (b"load  a", Ok("load: a")),
+        (b"load \"a\"", Ok("load:\"a\"")),
+        (b"load \xef\xbb\xbfa", Ok("load:\u{feff}a")),
+        (b"apply b.csv", Ok("apply:b.csv")),
+        (b"apply *,?", Ok("apply:*,?")),
+        (b"load", Err(LineRefused::Field(1))),
+        (b"load ", Err(LineRefused::Field(1))),
+        (b"apply", Err(LineRefused::Field(1))),
+        (b"apply ", Err(LineRefused::Field(1))),
+        (b"frobnicate", Err(LineRefused::Command)),
+        (b"stats", Err(LineRefused::Command)),
+        (b" load x", Err(LineRefused::Command)),
+        (b"points x", Err(LineRefused::Command)),
+        (b"load\tx", Err(LineRefused::Command)),
+        (b"Load x", Err(LineRefused::Command)),
+        (b"\xef\xbb\xbfload x", Err(LineRefused::Command)),
+        (b"", Err(LineRefused::Command)),
+        (b"\xff", Err(LineRefused::Utf8)),
+        (b"load \xff", Err(LineRefused::Utf8)),
+        (b"point a,\xc3,b", Err(LineRefused::Utf8)),
+        (b"frobnicate \xed\xa0\x80", Err(LineRefused::Utf8)),
+    ];
+    for (case, (line, want)) in cases.into_iter().enumerate() {
+        assert!(rt; line.len() < 10_000);
+        assert!(rt; reads_as(rt.alloc(), &schema, line, want)?, "line {case}");
+    }
+    Ok(())
+}
+
+#[test]
+fn points(rt: HostRuntime) -> Result<(), Fail> {
+    let schema = read_schema(rt.alloc(), SHOP).map_err(|_| "schema")?;
+    let cases = [
+        (b"point S1,P1,s".as_slice(), Ok("point:is S1;is P1;is s;")),
+        (b"point *,*,*", Ok("point:*;*;*;")),
+        (b"point =x,==x,=*", Ok("point:is x;is =x;is *;")),
+        (b"point =?,=|a,=~a~b", Ok("point:is ?;is |a;is ~a~b;")),
+        (b"point =,**,?x", Ok("point:is ;is **;is ?x;")),
+        (b"point ,,", Ok("point:is ;is ;is ;")),
+        (b"point  a , b,c", Ok("point:is  a ;is  b;is c;")),
+        (b"point a|b,a~b,a=b", Ok("point:is a|b;is a~b;is a=b;")),
+        (
+            b"point \"Smith, Sons\",==x,=*",
+            Ok("point:is Smith, Sons;is =x;is *;"),
+        ),
+        (b"point \"*\",\"\",\"a\"\"b\"", Ok("point:*;is ;is a\"b;")),
+        (
+            b"point \xc3\xa9,\"\xc3\xa9,\",c",
+            Ok("point:is é;is é,;is c;"),
+        ),
+        (
+            b"point a,\xef\xbb\xbf*,c",
+            Ok("point:is a;is \u{feff}*;is c;"),
+        ),
+        (b"point a,b\rc", Ok("point:is a;is b;is c;")),
+        (b"point a,\"b,c", Err(LineRefused::Field(3))),
+        (b"point", Err(LineRefused::Field(1))),
+        (b"point ", Err(LineRefused::Field(1))),
+        (b"point \r", Err(LineRefused::Field(1))),
+        (b"point S1", Err(LineRefused::Field(2))),
+        (b"point S1,P1", Err(LineRefused::Field(3))),
+        (b"point S1,P1,s,x", Err(LineRefused::Field(4))),
+        (b"point S1,P1,s,", Err(LineRefused::Field(4))),
+        (b"point S1,P1,s,?,x", Err(LineRefused::Field(4))),
+        (b"point ?,b,c", Err(LineRefused::Field(1))),
+        (b"point a,?,c", Err(LineRefused::Field(2))),
+        (b"point a,b,\"?\"", Err(LineRefused::Field(3))),
+        (b"point |a,b,c", Err(LineRefused::Field(1))),
+        (b"point a,|a,c", Err(LineRefused::Field(2))),
+        (b"point a,b,|a", Err(LineRefused::Field(3))),
+        (b"point ~a~b,b,c", Err(LineRefused::Field(1))),
+        (b"point a,~a~b", Err(LineRefused::Field(2))),
+        (b"point a,b,~", Err(LineRefused::Field(3))),
+        (b"point \xef\xbb\xbfa,b,c", Err(LineRefused::Field(1))),
+        (b"point \xef\xbb\xbf", Err(LineRefused::Field(1))),
+    ];
+    for (case, (line, want)) in cases.into_iter().enumerate() {
+        assert!(rt; line.len() < 10_000);
+        assert!(rt; reads_as(rt.alloc(), &schema, line, want)?, "point {case}");
+    }
+    Ok(())
+}

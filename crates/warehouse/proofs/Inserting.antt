@@ -1,0 +1,51 @@
+-- Why a row can be put in: its id is new, and there is room.
+use Rattle.std.proofs.Common.{◌≡◌, ◌<◌, ◌≤◌, ◌+◌, ◌∙◌, ℕ, List, ◌++◌, Bool, false, None, length, map, take, drop, sym, ap, ap₂, arith, nat_eq}
+use Rattle.std.specs.Prelude.{◌||◌}
+use Rattle.std.proofs.lemmas.List.{length-append, take-append-drop}
+use Rattle.std.proofs.lemmas.List.Folds.{list_any-append}
+use Rattle.cube_defs.specs.Rows.{Row}
+use Rattle.cube_defs.specs.Text.{Text}
+use Rattle.base_table.specs.Places.{has_id}
+use Rattle.csv_load.specs.Batch.{Change, change_at, id_of, inserted, is_deletion}
+use Rattle.warehouse.specs.Batch.{first_number, first_twice, is_among}
+use Rattle.warehouse.specs.State.{ids_of}
+use Rattle.warehouse.specs.Steps.{is_there}
+use Rattle.warehouse.specs.Stored.{decoded_row}
+use Rattle.warehouse.proofs.Changes.{ids-append, inserted-append, insertion-more, insertion-there, new-insertion, none-at}
+use Rattle.warehouse.proofs.Decoding.{ids-decoded, length-rows}
+use Rattle.warehouse.proofs.Rows.{has-ids}
+
+pub new-row : (lists lists0 : List (List Text)) (rows rows0 : List (Row ℕ)) (changes : List (Change Text)) (k : ℕ) → map (decoded_row lists) rows ≡ map (decoded_row lists0) rows0 ++ inserted (take k changes)
+    → first_twice changes ≡ None → first_number (is_there rows0) changes ≡ None → k < length changes → is_deletion (change_at changes (k + 1)) ≡ false → has_id rows (id_of (change_at changes (k + 1))) ≡ false
+new-row lists lists0 rows rows0 changes k same once none lt is =
+    has-ids rows id
+    ∙ ap (is_among id) ids
+    ∙ list_any-append (λ (other : ℕ). nat_eq other id) (ids_of rows0) (ids_of (inserted (take k changes)))
+    ∙ ap₂ (λ (a b : Bool). a || b) absent (new-insertion changes k once lt is)
+  where
+    id : ℕ
+    id = id_of (change_at changes (k + 1))
+
+    ids : ids_of rows ≡ ids_of rows0 ++ ids_of (inserted (take k changes))
+    ids =
+        sym (ids-decoded lists rows)
+        ∙ ap (λ (rs : List (Row Text)). ids_of rs) same
+        ∙ ids-append (map (decoded_row lists0) rows0) (inserted (take k changes))
+        ∙ ap (λ (ns : List ℕ). ns ++ ids_of (inserted (take k changes))) (ids-decoded lists0 rows0)
+
+    absent : is_among id (ids_of rows0) ≡ false
+    absent = sym (has-ids rows0 id) ∙ sym (insertion-there rows0 (change_at changes (k + 1)) is) ∙ none-at (is_there rows0) changes k none lt
+
+pub room-row : (lists lists0 : List (List Text)) (rows rows0 : List (Row ℕ)) (changes : List (Change Text)) (k max : ℕ) → map (decoded_row lists) rows ≡ map (decoded_row lists0) rows0 ++ inserted (take k changes)
+    → length rows0 + length (inserted changes) ≤ max → k < length changes → is_deletion (change_at changes (k + 1)) ≡ false → length rows < max
+room-row lists lists0 rows rows0 changes k max same room lt is =
+    let whole : length (inserted changes) ≡ length (inserted (take (k + 1) changes)) + length (inserted (drop (k + 1) changes)) =
+    ap (λ (cs : List (Change Text)). length (inserted cs)) (sym (take-append-drop (k + 1) changes))
+    ∙ ap (λ (rs : List (Row Text)). length rs) (inserted-append (take (k + 1) changes) (drop (k + 1) changes))
+    ∙ length-append (inserted (take (k + 1) changes)) (inserted (drop (k + 1) changes)) in
+    let now : length rows ≡ length rows0 + length (inserted (take k changes)) =
+    sym (length-rows lists rows)
+    ∙ ap (λ (rs : List (Row Text)). length rs) same
+    ∙ length-append (map (decoded_row lists0) rows0) (inserted (take k changes))
+    ∙ ap (λ (n : ℕ). n + length (inserted (take k changes))) (length-rows lists0 rows0) in
+    omega (arith, whole, now, room, insertion-more changes k lt is)

@@ -1,0 +1,12 @@
+pub mod Apart
+pub mod Counted
+pub mod Causes
+pub mod Changes
+pub mod Decoding
+pub mod Growing
+pub mod Inserting
+pub mod Texts
+pub mod Values
+pub mod Rows
+pub mod States
+pub mod Sums

@@ -1,0 +1,77 @@
+-- What is true of each state.
+use Rattle.std.proofs.Common.{◌<◌, ◌≤◌, ◌∙◌, ℕ, List, [], ◌∷◌, length, map, nat_eq, sym, subst, arith, refl, replicate, None, lit<}
+use Rattle.std.specs.List.{All, IsDistinct}
+use Rattle.std.proofs.lemmas.List.Elements.{All-cons, All-head, All-nil, All-replicate, All-tail}
+use Rattle.std.proofs.lemmas.List.{length-replicate}
+use Rattle.cube_defs.specs.Rows.{Row}
+use Rattle.cube_defs.specs.Text.{Text}
+use Rattle.base_table.specs.Places.{IsRow, IsTable, Places, rows_of}
+use Rattle.csv_load.specs.Batch.{IsLoaded, IsValue}
+use Rattle.qc_schema.specs.Schema.{IsLayout, Layout}
+use Rattle.value_dict.specs.TextLists.{IsDictionary, TextLists, no_texts}
+use Rattle.warehouse.specs.State.{IsState}
+use Rattle.warehouse.specs.Stored.{AreCodes, IsStored, RowsAreCodes, decoded_row, state_of}
+use Rattle.warehouse.proofs.Decoding.{ids-decoded, length-decoded, length-rows, rows-known, values-decoded}
+
+loaded-row : (lists : List (List Text)) (dims measures : ℕ) (row : Row ℕ) → AreCodes lists row.tuple → All (All IsValue) lists → IsRow dims measures row → IsLoaded dims measures (decoded_row lists row)
+loaded-row lists dims measures row are values is = record {
+  id = is.id;
+  tuple = length-decoded lists row.tuple are ∙ is.tuple;
+  texts = values-decoded lists row.tuple are values;
+  amounts = is.amounts;
+  small = is.small;
+}
+
+loaded-rows : (lists : List (List Text)) (dims measures : ℕ) (rows : List (Row ℕ)) → RowsAreCodes lists rows → All (All IsValue) lists → All (IsRow dims measures) rows → All (IsLoaded dims measures) (map (decoded_row lists) rows)
+loaded-rows lists dims measures [] are values all = All-nil (IsLoaded dims measures)
+loaded-rows lists dims measures (row ∷ rows) are values all =
+    All-cons (IsLoaded dims measures) (decoded_row lists row) (map (decoded_row lists) rows)
+    (loaded-row lists dims measures row (All-head (λ (r : Row ℕ). AreCodes lists r.tuple) row rows are) values (All-head (IsRow dims measures) row rows all))
+    (loaded-rows lists dims measures rows (All-tail (λ (r : Row ℕ). AreCodes lists r.tuple) row rows are) values (All-tail (IsRow dims measures) row rows all))
+
+pub is-state : (schema : Layout) (dict : TextLists) (table : Places) → IsStored schema dict table → IsState (state_of schema dict table)
+is-state schema dict table is = record {
+  layout = is.layout;
+  rows =
+      let all : All (IsRow (length schema.dims) (length schema.measures)) (rows_of table) = rw (is.dims, is.measures) at is.are_rows.rows.each in
+      loaded-rows dict.lists (length schema.dims) (length schema.measures) (rows_of table) is.known is.values all;
+  ids = subst (λ (ids : List ℕ). IsDistinct nat_eq ids) (sym (ids-decoded dict.lists (rows_of table))) is.are_rows.rows.distinct;
+  few_rows = omega (arith, length-rows dict.lists (rows_of table), is.are_rows.rows.few, is.most_rows);
+  lists = is.lists;
+  values = is.values;
+  distinct = is.dictionary.distinct;
+  few_texts = subst (λ (n : ℕ). All (λ (texts : List Text). length texts ≤ n) dict.lists) is.most_texts is.dictionary.within;
+  known = rows-known dict.lists (rows_of table) is.known;
+}
+
+-- a table without rows
+abbrev pub no_rows : ℕ → ℕ → ℕ → Places
+no_rows dims measures max = record { dims = dims; measures = measures; max = max; places = []; was = None }
+
+table-empty : (dims measures max : ℕ) → 0 < dims → dims ≤ 16 → measures ≤ 4 → 0 < max → max ≤ 1000000 → IsTable (no_rows dims measures max)
+unfolding IsDistinct
+table-empty dims measures max some_dims few_dims few_measures some_rows few_rows = record {
+  some_dims = some_dims;
+  few_dims = few_dims;
+  few_measures = few_measures;
+  some_rows = some_rows;
+  few_rows = few_rows;
+  few_places = lit< tt;
+  rows = record { few = omega arith; each = All-nil (IsRow dims measures); distinct = tt };
+  were = tt;
+}
+
+pub stored-empty : (schema : Layout) → IsLayout schema → IsDictionary (no_texts (length schema.dims) schema.values) → IsStored schema (no_texts (length schema.dims) schema.values) (no_rows (length schema.dims) (length schema.measures) schema.rows)
+stored-empty schema layout dictionary = record {
+  layout = layout;
+  lists = length-replicate {A = List Text} (length schema.dims) [];
+  most_texts = refl;
+  dims = refl;
+  measures = refl;
+  most_rows = refl;
+  closed = refl;
+  values = All-replicate (All IsValue) (length schema.dims) [] (All-nil IsValue);
+  known = All-nil (λ (row : Row ℕ). AreCodes (replicate (length schema.dims) []) row.tuple);
+  dictionary = dictionary;
+  are_rows = table-empty (length schema.dims) (length schema.measures) schema.rows (omega (arith, layout.some_dims)) (omega (arith, layout.few_dims)) (omega (arith, layout.few_measures)) (omega (arith, layout.some_rows)) layout.few_rows;
+}

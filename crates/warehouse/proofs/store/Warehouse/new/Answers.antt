@@ -1,0 +1,11 @@
+use Rattle.std.proofs.Common.{◌≡◌, ◌∙◌, ap₂, length, subst}
+use Rattle.value_dict.specs.TextLists.{IsDictionary, no_texts}
+use Rattle.warehouse.proofs.States.{no_rows, stored-empty}
+use Rattle.warehouse.proofs.store.Warehouse.new.Goals as goal
+
+pub invariant_of-result : goal.invariant_of-result
+invariant_of-result c =
+    let schema = c.args.schema in
+    let dict : c.in_ok-dict.dict ≡ no_texts (length schema.dims) schema.values = c.in_ok-dict.ensures.value ∙ ap₂ no_texts c.dims.ensures.count c.values.ensures in
+    let table : c.in_ok-table.table ≡ no_rows (length schema.dims) (length schema.measures) schema.rows = c.in_ok-table.ensures.value ∙ (λ j. no_rows (c.dims-2.ensures.count j) (c.measures.ensures j) (c.rows.ensures j)) in
+    rw (dict, table) (stored-empty schema c.dims.ensures.layout (subst IsDictionary dict c.in_ok-dict.ensures.dictionary))

@@ -1,0 +1,4 @@
+pub mod State
+pub mod Batch
+pub mod Stored
+pub mod Steps

@@ -1,0 +1,47 @@
+-- The state of a warehouse.
+use Rattle.std.specs.Prelude.{ℕ, Bool, ◌≡◌, ◌≤◌, nat_eq, List, [], length, map, replicate, slice_index_or}
+use Rattle.std.specs.List.{All, IsDistinct, list_any, position_or_len}
+use Rattle.std.specs.Str.{bytes_eq}
+use Rattle.cube_defs.specs.Text.{Text}
+use Rattle.cube_defs.specs.Rows.{Row}
+use Rattle.cube_laws.specs.Recoding.{coded_row, RowsAreKnown}
+use Rattle.csv_load.specs.Batch.{IsLoaded, IsValue}
+use Rattle.qc_schema.specs.Schema.{Layout, IsLayout}
+
+-- a schema, the rows in the order in which they were accepted, and for each dimension the texts that were ever accepted, in that order
+pub record State : Type 0 where
+  pub schema : Layout
+  pub rows : List (Row Text)
+  pub texts : List (List Text)
+
+-- no rows, and no texts in any dimension
+abbrev pub empty : Layout → State
+empty schema = record { schema = schema; rows = []; texts = replicate (length schema.dims) [] }
+
+-- the ids of the rows, in their order
+abbrev pub ids_of : {A : Type 0} → List (Row A) → List ℕ
+ids_of rows = map (λ row. row.id) rows
+
+-- the place of a text among those of a dimension, counted from 0
+abbrev pub place_in : List (List Text) → ℕ → Text → ℕ
+place_in texts dim text = position_or_len (bytes_eq text) (slice_index_or texts dim [])
+
+-- the rows with the place of each text in place of the text
+abbrev pub coded : State → List (Row ℕ)
+coded s = map (coded_row (place_in s.texts)) s.rows
+
+-- whether a dimension has a text
+abbrev pub has_text : List (List Text) → ℕ → Text → Bool
+has_text texts dim text = list_any (bytes_eq text) (slice_index_or texts dim [])
+
+-- what is true of every state
+pub record IsState (s : State) : Type 0 where
+  pub layout : IsLayout s.schema
+  pub rows : All (IsLoaded (length s.schema.dims) (length s.schema.measures)) s.rows
+  pub ids : IsDistinct nat_eq (ids_of s.rows)
+  pub few_rows : length s.rows ≤ s.schema.rows
+  pub lists : length s.texts ≡ length s.schema.dims
+  pub values : All (All IsValue) s.texts
+  pub distinct : All (IsDistinct bytes_eq) s.texts
+  pub few_texts : All (λ texts. length texts ≤ s.schema.values) s.texts
+  pub known : RowsAreKnown (has_text s.texts) s.rows

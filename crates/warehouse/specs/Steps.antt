@@ -1,0 +1,63 @@
+-- The steps of a change, as far as they have come.
+use Rattle.std.specs.Prelude.{ℕ, ◌≡◌, Bool, true, false, List, [], length, map, fold, is_some, slice_index_or, Some, None, option_map, ⊤}
+use Rattle.std.specs.List.{All}
+use Rattle.cube_defs.specs.Cell.{Cell}
+use Rattle.cube_defs.specs.Rows.{Row}
+use Rattle.cube_defs.specs.Text.{Text}
+use Rattle.base_table.specs.Places.{Places, has_id, values_of}
+use Rattle.csv_load.specs.Batch.{Change, Delete, Insert, deleted, inserted}
+use Rattle.value_dict.specs.TextLists.{cut, learnt_in}
+use Rattle.warehouse.specs.Batch as batches
+use Rattle.warehouse.specs.Batch.{full_dim, refusal_of, texts_after, with_tuple}
+use Rattle.warehouse.specs.State.{State, ids_of}
+use Rattle.warehouse.specs.Stored.{AreCodes, decoded}
+use Rattle.warehouse.specs.declared.changing.Stopped.{Stopped}
+use Rattle.warehouse.specs.declared.changing.Stopped.TheVariants as stops
+
+-- a table but for its places
+abbrev pub frame : Places → Places
+frame table = record table { places = [] }
+
+-- a table in which no batch is open
+abbrev pub closed : Places → Places
+closed table = record table { was = None }
+
+-- the ids of some deletions, and those of some insertions
+pub record AreSeen (gone come : List ℕ) (changes : List (Change Text)) : Type 0 where
+  pub deletions : gone ≡ deleted changes
+  pub insertions : come ≡ ids_of (inserted changes)
+
+-- an insertion of an id that one of the rows has
+abbrev pub is_there : List (Row ℕ) → Change Text → Bool
+is_there rows (Delete id) = false
+is_there rows (Insert row) = has_id rows row.id
+
+-- a tuple's texts are learnt, and the cell has their codes
+pub record IsLearnt (before now : List (List Text)) (tuple : List Text) (cell : Cell ℕ) : Type 0 where
+  pub lists : now ≡ with_tuple before tuple
+  pub texts : decoded now (values_of cell) ≡ tuple
+  pub codes : AreCodes now (values_of cell)
+  pub whole : All (λ entry. is_some entry ≡ true) cell
+
+-- all texts are where they were, and others may stand behind them
+pub record AreLonger (before now : List (List Text)) : Type 0 where
+  pub dims : length now ≡ length before
+  pub fronts : cut now (map length before) ≡ before
+
+-- the texts of a dimension after those of the inserted rows are learnt
+abbrev pub column_after : List Text → ℕ → List (Change Text) → List Text
+column_after texts dim changes = fold learnt_in texts (map (λ row. slice_index_or row.tuple dim []) (inserted changes))
+
+-- some dimension would have too many texts
+abbrev pub IsOver : ℕ → List (List Text) → Type 0
+IsOver max lists = is_some (full_dim max lists) ≡ true
+
+-- why changes weren't made to a state
+abbrev pub IsCause : Stopped → State → List (Change Text) → Type 0
+IsCause (stops.Missing k) s changes = refusal_of s changes ≡ Some (batches.Missing k)
+IsCause (stops.Present k) s changes = refusal_of s changes ≡ Some (batches.Present k)
+IsCause stops.RowsFull s changes = refusal_of s changes ≡ Some batches.RowsFull
+IsCause stops.ValuesFull s changes =
+    (refusal_of s changes ≡ option_map (λ dim. batches.ValuesFull dim) (full_dim s.schema.values (texts_after s.texts changes)))
+    × IsOver s.schema.values (texts_after s.texts changes)
+IsCause stops.Memory s changes = ⊤

@@ -1,0 +1,73 @@
+-- How a warehouse keeps its state: rows of codes beside a dictionary.
+use Rattle.std.specs.Prelude.{ℕ, ◌≡◌, ◌<◌, List, [], ◌∷◌, length, map, slice_index_or, Option, Some, None, ⊤}
+use Rattle.std.specs.List.{All}
+use Rattle.cube_defs.specs.Text.{Text}
+use Rattle.cube_defs.specs.Rows.{Row}
+use Rattle.base_table.specs.Places.{IsTable, Places, rows_of}
+use Rattle.csv_load.specs.Batch.{IsValue}
+use Rattle.csv_load.specs.Faults as files
+use Rattle.qc_schema.specs.Schema.{Layout, IsLayout}
+use Rattle.value_dict.specs.TextLists.{IsDictionary, TextLists}
+use Rattle.warehouse.specs.Batch as batches
+use Rattle.warehouse.specs.State.{State}
+use Rattle.warehouse.specs.declared.refused.Refused.{Refused}
+use Rattle.warehouse.specs.declared.refused.Refused.TheVariants as refusals
+
+-- the texts of codes
+abbrev pub decoded : List (List Text) → List ℕ → List Text
+decoded lists [] = []
+decoded [] (code ∷ codes) = []
+decoded (texts ∷ lists) (code ∷ codes) = slice_index_or texts code [] ∷ decoded lists codes
+
+-- a row with the texts of its codes
+abbrev pub decoded_row : List (List Text) → Row ℕ → Row Text
+decoded_row lists row = record { id = row.id; tuple = decoded lists row.tuple; amounts = row.amounts }
+
+-- each code is that of a text
+abbrev pub AreCodes : List (List Text) → List ℕ → Type 0
+AreCodes lists [] = ⊤
+AreCodes [] (code ∷ codes) = ⊥
+AreCodes (texts ∷ lists) (code ∷ codes) = (code < length texts) × AreCodes lists codes
+
+-- the rows of a table, with the texts of their codes
+abbrev pub decoded_rows : List (List Text) → Places → List (Row Text)
+decoded_rows lists table = map (decoded_row lists) (rows_of table)
+
+-- the state that a schema, a dictionary and a table stand for
+abbrev pub state_of : Layout → TextLists → Places → State
+state_of schema dict table = record { schema = schema; rows = decoded_rows dict.lists table; texts = dict.lists }
+
+-- the codes of some rows are those of texts
+abbrev pub RowsAreCodes : List (List Text) → List (Row ℕ) → Type 0
+RowsAreCodes lists rows = All (λ row. AreCodes lists row.tuple) rows
+
+-- what is true of the three in every warehouse
+pub record IsStored (schema : Layout) (dict : TextLists) (table : Places) : Type 0 where
+  pub layout : IsLayout schema
+  pub lists : length dict.lists ≡ length schema.dims
+  pub most_texts : dict.max ≡ schema.values
+  pub dims : table.dims ≡ length schema.dims
+  pub measures : table.measures ≡ length schema.measures
+  pub most_rows : table.max ≡ schema.rows
+  pub closed : table.was ≡ None
+  pub values : All (All IsValue) dict.lists
+  pub known : RowsAreCodes dict.lists (rows_of table)
+  pub dictionary : IsDictionary dict
+  pub are_rows : IsTable table
+
+-- what a refusal of the code says, but for want of memory
+abbrev pub refusal_in : Refused → Option batches.Refusal
+refusal_in refusals.NotEmpty = Some batches.NotEmpty
+refusal_in refusals.Header = Some (batches.File files.Header)
+refusal_in (refusals.Fields k) = Some (batches.File (files.Fields k))
+refusal_in (refusals.Utf8 k) = Some (batches.File (files.Utf8 k))
+refusal_in (refusals.Op k) = Some (batches.File (files.Op k))
+refusal_in (refusals.Id k) = Some (batches.File (files.Id k))
+refusal_in (refusals.Amount k) = Some (batches.File (files.Amount k))
+refusal_in (refusals.Value k) = Some (batches.File (files.Value k))
+refusal_in (refusals.Twice k) = Some (batches.Twice k)
+refusal_in (refusals.Missing k) = Some (batches.Missing k)
+refusal_in (refusals.Present k) = Some (batches.Present k)
+refusal_in refusals.RowsFull = Some batches.RowsFull
+refusal_in (refusals.ValuesFull dim) = Some (batches.ValuesFull dim)
+refusal_in refusals.Memory = None

@@ -1,0 +1,289 @@
+// Changes are made to rows and texts, all of them or none.
+ghost use Rattle.std.specs.Prelude.{Err, IfErr, IfOk, IfSome, None, Ok, OnErr, OnOk, Some, [], false, filter, is_some, length, map, not, true, ◌+◌, ◌++◌, ◌<◌, ◌∷◌, ◌≡◌, ◌≤◌};
+ghost use Rattle.base_table.specs.Places.{has_id, rows_of};
+ghost use Rattle.csv_load.specs.Batch.{IsBatch, change_at, deleted, id_of, inserted, is_deletion, row_of};
+ghost use Rattle.cube_defs.specs.Tree.{classes};
+ghost use Rattle.std.specs.Ordering.{nat_cmp};
+ghost use Rattle.value_dict.specs.TextLists.{IsDictionary};
+ghost use Rattle.warehouse.specs.Batch.{after, first_number, first_twice, is_among, is_missing, refusal_of, result_of, texts_after, with_tuple};
+ghost use Rattle.warehouse.specs.State.{State, ids_of};
+ghost use Rattle.warehouse.specs.Steps.{AreLonger, IsCause, IsOver, closed, frame, is_there};
+ghost use Rattle.warehouse.specs.Stored.{IsStored, RowsAreCodes, decoded_rows, refusal_in, state_of};
+
+use crate::Memory;
+use crate::checks::{first_present, first_repeat, is_full};
+use crate::learning::{learn_tuple, lengths, values_full};
+use crate::refused::{Applied, Refused};
+use base_table::{Table, TableRefused};
+use cell_core::Cell;
+use class_builder::list_classes;
+use csv_load::RawBatch;
+use qc_schema::Schema;
+use std::alloc::{AllocError, Global};
+use value_dict::{Dict, Learn};
+
+/// Why changes were not made.
+#[derive(Clone, Copy)]
+pub(crate) enum Stopped {
+    Missing(u32),
+    Present(u32),
+    RowsFull,
+    ValuesFull,
+    Memory,
+}
+
+// Takes the rows out that are deleted. Err has the number of the first deletion of an id that
+// isn't there.
+fn delete_rows(table: &mut Table, batch: &RawBatch) -> Result<(), u32>
+    requires is_open { is_some table.old.was ≡ true }
+    requires once { first_twice batch.now.changes ≡ None }
+    ensures none { OnOk result (first_number (is_missing (ids_of (rows_of table.old))) batch.now.changes ≡ None) }
+    ensures missing { IfErr result (λ k. first_number (is_missing (ids_of (rows_of table.old))) batch.now.changes ≡ Some k) }
+    ensures rows { OnOk result (rows_of table.new ≡ filter (λ row. not (is_among row.id (deleted batch.now.changes))) (rows_of table.old)) }
+    ensures frame { frame table.new ≡ frame table.old }
+{
+    'changes: for before in 0..batch.len() {
+        let number = before + 1;
+        if batch.is_delete(number) {
+            match table.delete(batch.id(number)) {
+                Ok(_) => {}
+                Err(_) => return Err(number),
+            }
+        }
+    }
+    Ok(())
+}
+
+// Puts a row in whose id isn't there, where there is room.
+fn insert_row(
+    table: &mut Table,
+    dict: &mut Dict,
+    cell: &mut Cell,
+    batch: &RawBatch,
+    k: u32,
+) -> Result<(), Learn>
+    requires first { 1 ≤ k }
+    requires last { k ≤ length batch.now.changes }
+    requires inserts { is_deletion (change_at batch.now.changes k) ≡ false }
+    requires lists { length dict.old.lists ≡ batch.now.dims }
+    requires cell_dims { length cell.old ≡ batch.now.dims }
+    requires dims { table.old.dims ≡ batch.now.dims }
+    requires measures { table.old.measures ≡ batch.now.measures }
+    requires is_open { is_some table.old.was ≡ true }
+    requires dictionary { IsDictionary dict.old }
+    requires known { RowsAreCodes dict.old.lists (rows_of table.old) }
+    requires new { has_id (rows_of table.old) (id_of (change_at batch.now.changes k)) ≡ false }
+    requires room { length (rows_of table.old) < table.old.max }
+    requires valid { IsBatch batch.now }
+    ensures rows { OnOk result (decoded_rows dict.new.lists table.new ≡ decoded_rows dict.old.lists table.old ++ inserted (change_at batch.now.changes k ∷ [])) }
+    ensures lists { OnOk result (dict.new.lists ≡ with_tuple dict.old.lists (row_of (change_at batch.now.changes k)).tuple) }
+    ensures known { OnOk result (RowsAreCodes dict.new.lists (rows_of table.new)) }
+    ensures full { result ≡ Err Learn.Full → IsOver dict.old.max (with_tuple dict.old.lists (row_of (change_at batch.now.changes k)).tuple) }
+    ensures longer { AreLonger dict.old.lists dict.new.lists }
+    ensures max { dict.new.max ≡ dict.old.max }
+    ensures cell_dims { length cell.new ≡ length cell.old }
+    ensures dictionary { IsDictionary dict.new }
+    ensures frame { frame table.new ≡ frame table.old }
+{
+    match learn_tuple(dict, cell, batch, k) {
+        Ok(()) => {}
+        Err(refused) => return Err(refused),
+    }
+    match table.insert(batch.id(k), cell, batch.amounts(k)) {
+        Ok(()) => Ok(()),
+        Err(TableRefused::Memory) => Err(Learn::Memory),
+        Err(TableRefused::Present) => unreachable!(),
+        Err(TableRefused::Full) => unreachable!(),
+    }
+}
+
+// Puts the rows in that are inserted. None of their ids is there, and there is room.
+fn insert_rows(
+    table: &mut Table,
+    dict: &mut Dict,
+    cell: &mut Cell,
+    batch: &RawBatch,
+) -> Result<(), Learn>
+    requires lists { length dict.old.lists ≡ batch.now.dims }
+    requires cell_dims { length cell.old ≡ batch.now.dims }
+    requires dims { table.old.dims ≡ batch.now.dims }
+    requires measures { table.old.measures ≡ batch.now.measures }
+    requires is_open { is_some table.old.was ≡ true }
+    requires dictionary { IsDictionary dict.old }
+    requires known { RowsAreCodes dict.old.lists (rows_of table.old) }
+    requires once { first_twice batch.now.changes ≡ None }
+    requires new { first_number (is_there (rows_of table.old)) batch.now.changes ≡ None }
+    requires room { length (rows_of table.old) + length (inserted batch.now.changes) ≤ table.old.max }
+    ensures rows { OnOk result (decoded_rows dict.new.lists table.new ≡ decoded_rows dict.old.lists table.old ++ inserted batch.now.changes) }
+    ensures lists { OnOk result (dict.new.lists ≡ texts_after dict.old.lists batch.now.changes) }
+    ensures known { OnOk result (RowsAreCodes dict.new.lists (rows_of table.new)) }
+    ensures full { result ≡ Err Learn.Full → IsOver dict.old.max (texts_after dict.old.lists batch.now.changes) }
+    ensures longer { AreLonger dict.old.lists dict.new.lists }
+    ensures max { dict.new.max ≡ dict.old.max }
+    ensures dictionary { IsDictionary dict.new }
+    ensures frame { frame table.new ≡ frame table.old }
+{
+    'changes: for before in 0..batch.len() {
+        let number = before + 1;
+        if !batch.is_delete(number) {
+            match insert_row(table, dict, cell, batch, number) {
+                Ok(()) => {}
+                Err(refused) => return Err(refused),
+            }
+        }
+    }
+    Ok(())
+}
+
+// Makes the changes in a batch that is open. After a refusal some of them are made.
+fn change_rows(
+    schema: &Schema,
+    table: &mut Table,
+    dict: &mut Dict,
+    batch: &RawBatch,
+    alloc: Global,
+) -> Result<(), Stopped>
+    requires stored { IsStored schema.now dict.old (closed table.old) }
+    requires is_open { is_some table.old.was ≡ true }
+    requires dims { batch.now.dims ≡ length schema.now.dims }
+    requires measures { batch.now.measures ≡ length schema.now.measures }
+    requires once { first_twice batch.now.changes ≡ None }
+    ensures none { OnOk result (refusal_of (state_of schema.now dict.old table.old) batch.now.changes ≡ None) }
+    ensures made { OnOk result (state_of schema.now dict.new table.new ≡ after (state_of schema.now dict.old table.old) batch.now.changes) }
+    ensures known { OnOk result (RowsAreCodes dict.new.lists (rows_of table.new)) }
+    ensures cause { IfErr result (λ stopped. IsCause stopped (state_of schema.now dict.old table.old) batch.now.changes) }
+    ensures longer { AreLonger dict.old.lists dict.new.lists }
+    ensures max { dict.new.max ≡ dict.old.max }
+    ensures dictionary { IsDictionary dict.new }
+    ensures frame { frame table.new ≡ frame table.old }
+{
+    match delete_rows(table, batch) {
+        Ok(()) => {}
+        Err(k) => return Err(Stopped::Missing(k)),
+    }
+    if let Some(k) = first_present(table, batch) {
+        return Err(Stopped::Present(k));
+    }
+    if is_full(table, batch, schema.rows()) {
+        return Err(Stopped::RowsFull);
+    }
+    let mut cell = Cell::any(alloc, schema.dims());
+    match insert_rows(table, dict, &mut cell, batch) {
+        Ok(()) => Ok(()),
+        Err(Learn::Full) => Err(Stopped::ValuesFull),
+        Err(Learn::Memory) => Err(Stopped::Memory),
+    }
+}
+
+// How many classes of cells the rows have.
+fn count_classes(alloc: Global, table: &Table) -> Result<u32, Memory>
+    ensures { IfOk result (λ count. count ≡ length (classes nat_cmp (rows_of table.now))) }
+{
+    let list = list_classes(alloc, table)?;
+    match u32::try_from(list.len()) {
+        Ok(count) => Ok(count),
+        Err(_) => Err(AllocError),
+    }
+}
+
+// Makes the changes in a batch of their own, and counts the classes after them. After a refusal the
+// rows are as they were, and some texts are learnt.
+fn change_table(
+    schema: &Schema,
+    table: &mut Table,
+    dict: &mut Dict,
+    batch: &RawBatch,
+    alloc: Global,
+) -> Result<u32, Stopped>
+    requires stored { IsStored schema.now dict.old table.old }
+    requires dims { batch.now.dims ≡ length schema.now.dims }
+    requires measures { batch.now.measures ≡ length schema.now.measures }
+    requires once { first_twice batch.now.changes ≡ None }
+    requires valid { IsBatch batch.now }
+    ensures none { OnOk result (refusal_of (state_of schema.now dict.old table.old) batch.now.changes ≡ None) }
+    ensures made { OnOk result (state_of schema.now dict.new table.new ≡ after (state_of schema.now dict.old table.old) batch.now.changes) }
+    ensures classes { IfOk result (λ count. count ≡ length (classes nat_cmp (rows_of table.new))) }
+    ensures stored { OnOk result (IsStored schema.now dict.new table.new) }
+    ensures cause { IfErr result (λ stopped. IsCause stopped (state_of schema.now dict.old table.old) batch.now.changes) }
+    ensures kept { OnErr result (rows_of table.new ≡ rows_of table.old) }
+    ensures same { OnErr result (IsStored schema.now dict.old table.new) }
+    ensures longer { AreLonger dict.old.lists dict.new.lists }
+    ensures max { dict.new.max ≡ dict.old.max }
+    ensures dictionary { IsDictionary dict.new }
+{
+    table.begin();
+    match change_rows(schema, table, dict, batch, alloc) {
+        Ok(()) => match count_classes(alloc, table) {
+            Ok(classes) => {
+                table.commit();
+                // The count is not needed, but what it says of every table.
+                let _rows = table.count();
+                Ok(classes)
+            }
+            Err(_) => {
+                table.rollback();
+                let _rows = table.count();
+                Err(Stopped::Memory)
+            }
+        },
+        Err(cause) => {
+            table.rollback();
+            let _rows = table.count();
+            Err(cause)
+        }
+    }
+}
+
+// The refusal that says why changes were not made.
+fn refuse(stopped: Stopped, dict: &mut Dict, batch: &RawBatch, lens: &[u32]) -> Refused
+    requires over { stopped ≡ Stopped.ValuesFull → IsOver dict.old.max (texts_after dict.old.lists batch.now.changes) }
+    requires lens { lens.now ≡ map length dict.old.lists }
+    requires lists { length dict.old.lists ≡ batch.now.dims }
+    requires dictionary { IsDictionary dict.old }
+    requires valid { IsBatch batch.now }
+    ensures refusal { (s : State) → s.texts ≡ dict.old.lists → s.schema.values ≡ dict.old.max → IsCause stopped s batch.now.changes
+        → IfSome (refusal_in result) (λ refusal. refusal_of s batch.now.changes ≡ Some refusal) }
+    ensures dict { dict.new ≡ dict.old }
+{
+    match stopped {
+        Stopped::Missing(k) => Refused::Missing(k),
+        Stopped::Present(k) => Refused::Present(k),
+        Stopped::RowsFull => Refused::RowsFull,
+        Stopped::ValuesFull => values_full(dict, batch, lens),
+        Stopped::Memory => Refused::Memory,
+    }
+}
+
+/// Makes the changes, all of them or none.
+pub(crate) fn change(
+    schema: &Schema,
+    table: &mut Table,
+    dict: &mut Dict,
+    batch: &RawBatch,
+    alloc: Global,
+) -> Result<Applied, Refused>
+    requires stored { IsStored schema.now dict.old table.old }
+    requires dims { batch.now.dims ≡ length schema.now.dims }
+    requires measures { batch.now.measures ≡ length schema.now.measures }
+    ensures applied { IfOk result (λ applied. result_of (state_of schema.now dict.old table.old) (Ok batch.now.changes) ≡ Ok (record { records = applied.records; classes = applied.classes; state = state_of schema.now dict.new table.new })) }
+    ensures refused { IfErr result (λ e. IfSome (refusal_in e) (λ refusal. result_of (state_of schema.now dict.old table.old) (Ok batch.now.changes) ≡ Err refusal)) }
+    ensures err { OnErr result (state_of schema.now dict.new table.new ≡ state_of schema.now dict.old table.old) }
+    ensures stored { IsStored schema.now dict.new table.new }
+{
+    match first_repeat(alloc, batch) {
+        Ok(None) => {}
+        Ok(Some(k)) => return Err(Refused::Twice(k)),
+        Err(_) => return Err(Refused::Memory),
+    }
+    let records = batch.len();
+    let dims = schema.dims();
+    let lens = lengths(dict, dims);
+    match change_table(schema, table, dict, batch, alloc) {
+        Ok(classes) => Ok(Applied { records, classes }),
+        Err(stopped) => {
+            let lens = &lens[..usize::from(dims)];
+            dict.cut_back(lens);
+            Err(refuse(stopped, dict, batch, lens))
+        }
+    }
+}

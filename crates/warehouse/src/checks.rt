@@ -1,0 +1,85 @@
+// What is looked for before rows are put in.
+ghost use Rattle.std.specs.Prelude.{IfOk, Ok, OnOk, [], length, nat_lt, not, true, ◌+◌, ◌-◌, ◌≡◌, ◌≤◌, take};
+ghost use Rattle.std.specs.List.{list_any};
+ghost use Rattle.base_table.specs.Places.{rows_of};
+ghost use Rattle.csv_load.specs.Batch.{change_at, inserted};
+ghost use Rattle.warehouse.specs.Batch.{first_number, first_twice, same_change};
+ghost use Rattle.warehouse.specs.Steps.{AreSeen, is_there};
+
+use crate::Memory;
+use base_table::Table;
+use csv_load::RawBatch;
+use indexmap::IndexSet;
+use std::alloc::Global;
+
+// The ids of the deletions so far, and those of the insertions.
+#[derive(Drop)]
+struct Seen {
+    gone: IndexSet<u64>,
+    come: IndexSet<u64>,
+}
+
+impl Seen {
+    fn with_capacity(alloc: Global, capacity: usize) -> Result<Seen, Memory>
+        ensures { IfOk result (λ seen. AreSeen seen.gone.keys seen.come.keys []) }
+    {
+        let gone = IndexSet::with_capacity(alloc, capacity)?;
+        let come = IndexSet::with_capacity(alloc, capacity)?;
+        Ok(Seen { gone, come })
+    }
+
+    // Whether a change is none of those so far. It is noted as one of them.
+    fn is_new(&mut self, batch: &RawBatch, k: u32) -> Result<bool, Memory>
+        requires first { 1 ≤ k }
+        requires last { k ≤ length batch.now.changes }
+        requires seen { AreSeen self.old.gone.keys self.old.come.keys (take (k - 1) batch.now.changes) }
+        ensures new { IfOk result (λ new. new ≡ not (list_any (same_change (change_at batch.now.changes k)) (take (k - 1) batch.now.changes))) }
+        ensures seen { result ≡ Ok true → AreSeen self.new.gone.keys self.new.come.keys (take k batch.now.changes) }
+    {
+        let id = batch.id(k);
+        let new = if batch.is_delete(k) {
+            self.gone.insert(id)?
+        } else {
+            self.come.insert(id)?
+        };
+        Ok(new)
+    }
+}
+
+/// The number of the first change with the operation and the id of an earlier one.
+pub(crate) fn first_repeat(alloc: Global, batch: &RawBatch) -> Result<Option<u32>, Memory>
+    ensures { IfOk result (λ k. k ≡ first_twice batch.now.changes) }
+{
+    let count = batch.len();
+    let mut seen = Seen::with_capacity(alloc, count as usize)?;
+    'changes: for before in 0..count {
+        let number = before + 1;
+        if !seen.is_new(batch, number)? {
+            return Ok(Some(number));
+        }
+    }
+    Ok(None)
+}
+
+/// The number of the first insertion whose id a row of the table has.
+pub(crate) fn first_present(table: &Table, batch: &RawBatch) -> Option<u32>
+    ensures { result ≡ first_number (is_there (rows_of table.now)) batch.now.changes }
+{
+    if table.count() == 0 {
+        return None;
+    }
+    'changes: for before in 0..batch.len() {
+        let number = before + 1;
+        if !batch.is_delete(number) && table.has(batch.id(number)) {
+            return Some(number);
+        }
+    }
+    None
+}
+
+/// Whether the rows of a table and those that come are too many.
+pub(crate) fn is_full(table: &Table, batch: &RawBatch, most: u32) -> bool
+    ensures { result ≡ nat_lt most (length (rows_of table.now) + length (inserted batch.now.changes)) }
+{
+    u64::from(table.count()) + u64::from(batch.insertions()) > u64::from(most)
+}

@@ -1,0 +1,44 @@
+// What a file of changes does, or why it is refused.
+
+/// A file of changes was taken.
+#[derive(Clone, Copy, Debug, PartialEq, Eq)]
+pub struct Applied {
+    /// How many records the file has.
+    pub records: u32,
+    /// How many classes of cells the rows have after it (Lakshmanan, Pei, Han, VLDB 2002).
+    pub classes: u32,
+}
+
+/// Why a file of changes is refused. Of several causes the first in this order is named. A number
+/// is that of a record, counted from 1 without the header; a dimension is counted from 0.
+#[derive(Clone, Copy, Debug, PartialEq, Eq)]
+pub enum Refused {
+    /// A base file is loaded where a row is present.
+    NotEmpty,
+    /// There is no header, or a needed column isn't there just once.
+    Header,
+    /// The record has another number of fields than the header.
+    Fields(u32),
+    /// The text of a dimension isn't UTF-8.
+    Utf8(u32),
+    /// The operation is neither `+` nor `-`.
+    Op(u32),
+    /// The id is no number that fits 64 bits.
+    Id(u32),
+    /// An amount is none of its measure's scale, or is too large.
+    Amount(u32),
+    /// The text of a dimension has more than 255 bytes.
+    Value(u32),
+    /// An earlier record has the same operation and the same id.
+    Twice(u32),
+    /// A deletion's id isn't present before the file.
+    Missing(u32),
+    /// An insertion's id is present before the file, and isn't deleted in it.
+    Present(u32),
+    /// There would be more rows than the schema allows.
+    RowsFull,
+    /// The dimension would have more texts than the schema allows.
+    ValuesFull(u8),
+    /// Memory ran out.
+    Memory,
+}

@@ -1,0 +1,212 @@
+use crate::{Applied, Refused, Warehouse};
+use cell_core::Cell;
+use qc_schema::read_schema;
+use std::alloc::Global;
+use std::process::Abort;
+use std::test::Fail;
+
+// At most three rows, and two texts in each dimension.
+const SCHEMA: &[u8] = b"qcube 1\nid id\ndim city\ndim item\nmeasure sale 0\nrows 3\nvalues 2\n";
+
+// The rows 1 and 2. City has the text Bonn alone, item has ink and pen.
+const BASE: &[u8] = b"id,city,item,sale\n1,Bonn,ink,5\n2,Bonn,pen,7\n";
+
+fn shop(alloc: Global) -> Result<Warehouse, Fail> {
+    let Ok(schema) = read_schema(alloc, SCHEMA) else {
+        return Err(Fail::new("no schema"));
+    };
+    let mut shop = Warehouse::new(alloc, schema)?;
+    match shop.load(BASE) {
+        Ok(_) => Ok(shop),
+        Err(_) => Err(Fail::new("no rows")),
+    }
+}
+
+// How many rows there are, and what their amounts come to.
+fn total(alloc: Global, shop: &Warehouse) -> (u32, i64) {
+    let all = Cell::any(alloc, shop.schema().dims());
+    match shop.cell_sum(&all) {
+        Some(sum) => {
+            let part = sum.parts[0];
+            (sum.count, part.sum)
+        }
+        None => (0, 0),
+    }
+}
+
+fn code(shop: &Warehouse, dim: u8, text: &str) -> Option<u32> {
+    if dim < shop.schema().dims() {
+        shop.dict().code(dim, text)
+    } else {
+        None
+    }
+}
+
+// What a batch answers, if it is short.
+fn apply(shop: &mut Warehouse, file: &[u8]) -> Result<u32, Refused> {
+    if file.len() > 1000 {
+        return Err(Refused::Memory);
+    }
+    match shop.apply(file) {
+        Ok(applied) => Ok(applied.records),
+        Err(refused) => Err(refused),
+    }
+}
+
+// A batch is taken, and the rows come to this.
+fn takes(
+    rt: &impl Abort,
+    alloc: Global,
+    file: &[u8],
+    records: u32,
+    after: (u32, i64),
+) -> Result<(), Fail> {
+    let mut shop = shop(alloc)?;
+    assert_eq!(rt; apply(&mut shop, file), Ok(records));
+    assert_eq!(rt; total(alloc, &shop), after);
+    Ok(())
+}
+
+// A batch is refused so, and nothing changes.
+fn refuses(rt: &impl Abort, alloc: Global, file: &[u8], refused: Refused) -> Result<(), Fail> {
+    let mut shop = shop(alloc)?;
+    assert_eq!(rt; apply(&mut shop, file), Err(refused));
+    assert_eq!(rt; total(alloc, &shop), (2, 12));
+    assert_eq!(rt; code(&shop, 0, "Ulm"), None);
+    assert_eq!(rt; code(&shop, 1, "cup"), None);
+    Ok(())
+}
+
+#[test]
+fn batches_that_are_taken(rt: HostRuntime) -> Result<(), Fail> {
+    let cases: [(&[u8], u32, (u32, i64)); 7] = [
+        // Nothing.
+        (b"op,id,city,item,sale\n", 0, (2, 12)),
+        // A deletion and an insertion of one id, in either order.
+        (
+            b"op,id,city,item,sale\n-,1,,,\n+,1,Bonn,ink,6\n",
+            2,
+            (2, 13),
+        ),
+        (
+            b"op,id,city,item,sale\n+,1,Bonn,ink,6\n-,1,,,\n",
+            2,
+            (2, 13),
+        ),
+        // As many rows as there may be, and as many texts.
+        (b"op,id,city,item,sale\n+,3,Ulm,ink,1\n", 1, (3, 13)),
+        (
+            b"op,id,city,item,sale\n+,3,Ulm,ink,1\n+,4,Ulm,pen,1\n-,2,,,\n",
+            3,
+            (3, 7),
+        ),
+        // Only deletions.
+        (b"op,id,city,item,sale\n-,2,,,\n", 1, (1, 5)),
+        (b"op,id,city,item,sale\n-,2,,,\n-,1,,,\n", 2, (0, 0)),
+    ];
+    for (file, records, after) in cases {
+        takes(&rt, rt.alloc(), file, records, after)?;
+    }
+    Ok(())
+}
+
+#[test]
+fn batches_that_are_refused(rt: HostRuntime) -> Result<(), Fail> {
+    let cases: [(&[u8], Refused); 16] = [
+        (b"", Refused::Header),
+        (b"op,id,city,item,sale\n-,1,,,\n*,2,,,\n", Refused::Op(2)),
+        (b"op,id,city,item,sale\n-,1,,,\n-,1,,,\n", Refused::Twice(2)),
+        (
+            b"op,id,city,item,sale\n-,9,,,\n+,3,Bonn,ink,1\n+,3,Ulm,pen,2\n",
+            Refused::Twice(3),
+        ),
+        (
+            b"op,id,city,item,sale\n-,1,,,\n-,3,,,\n",
+            Refused::Missing(2),
+        ),
+        // Its own insertion is not there before it.
+        (
+            b"op,id,city,item,sale\n+,3,Bonn,ink,1\n-,3,,,\n",
+            Refused::Missing(2),
+        ),
+        // A later deletion is looked at before an insertion.
+        (
+            b"op,id,city,item,sale\n+,1,Bonn,ink,1\n-,3,,,\n",
+            Refused::Missing(2),
+        ),
+        (
+            b"op,id,city,item,sale\n+,1,Bonn,ink,1\n",
+            Refused::Present(1),
+        ),
+        (
+            b"op,id,city,item,sale\n-,1,,,\n+,1,Bonn,ink,1\n+,2,Bonn,ink,1\n",
+            Refused::Present(3),
+        ),
+        // Present comes before too many rows.
+        (
+            b"op,id,city,item,sale\n+,3,Bonn,ink,1\n+,4,Bonn,ink,1\n+,2,Bonn,ink,1\n",
+            Refused::Present(3),
+        ),
+        (
+            b"op,id,city,item,sale\n+,3,Bonn,ink,1\n+,4,Bonn,ink,1\n",
+            Refused::RowsFull,
+        ),
+        // Too many rows come before too many texts.
+        (
+            b"op,id,city,item,sale\n+,3,Bonn,cup,1\n+,4,Bonn,ink,1\n",
+            Refused::RowsFull,
+        ),
+        (
+            b"op,id,city,item,sale\n+,3,Bonn,cup,1\n",
+            Refused::ValuesFull(1),
+        ),
+        // The texts of rows that go stay.
+        (
+            b"op,id,city,item,sale\n-,1,,,\n-,2,,,\n+,3,Bonn,cup,1\n",
+            Refused::ValuesFull(1),
+        ),
+        // Item is full first, and stands first in the file; city is first in the schema.
+        (
+            b"item,op,city,sale,id\n,-,,,1\ncup,+,Ulm,1,3\nink,+,Jena,1,4\n",
+            Refused::ValuesFull(0),
+        ),
+        (b"op,id,city,item\n", Refused::Header),
+    ];
+    for (file, refused) in cases {
+        refuses(&rt, rt.alloc(), file, refused)?;
+    }
+    Ok(())
+}
+
+#[test]
+fn texts_of_a_refused_batch_leave_no_codes(rt: HostRuntime) -> Result<(), Fail> {
+    let mut shop = shop(rt.alloc())?;
+    let refused = apply(&mut shop, b"op,id,city,item,sale\n+,3,Ulm,cup,1\n");
+    assert_eq!(rt; refused, Err(Refused::ValuesFull(1)));
+    let applied = apply(&mut shop, b"op,id,city,item,sale\n+,3,Jena,ink,1\n");
+    assert_eq!(rt; applied, Ok(1));
+    assert_eq!(rt; code(&shop, 0, "Bonn"), Some(0));
+    assert_eq!(rt; code(&shop, 0, "Jena"), Some(1));
+    Ok(())
+}
+
+#[test]
+fn a_base_file_is_loaded_where_no_row_is(rt: HostRuntime) -> Result<(), Fail> {
+    let mut shop = shop(rt.alloc())?;
+    assert_eq!(rt; shop.load(b"x"), Err(Refused::NotEmpty));
+    let applied = apply(&mut shop, b"op,id,city,item,sale\n-,2,,,\n-,1,,,\n");
+    assert_eq!(rt; applied, Ok(2));
+    let refused = shop.load(b"id,city,item,sale\n7,Ulm,ink,1\n7,Ulm,pen,1\n");
+    assert_eq!(rt; refused, Err(Refused::Twice(2)));
+    let loaded = shop.load(b"op,id,city,item,sale\n-,7,Ulm,ink,20\n+,1,Ulm,pen,1\n");
+    assert_eq!(rt;
+        loaded,
+        Ok(Applied {
+            records: 2,
+            classes: 3
+        })
+    );
+    assert_eq!(rt; total(rt.alloc(), &shop), (2, 21));
+    assert_eq!(rt; code(&shop, 0, "Ulm"), Some(1));
+    Ok(())
+}
