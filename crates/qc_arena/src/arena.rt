@@ -9,6 +9,7 @@ ghost use Rattle.qc_arena.specs.Edges.{with_edge};
 ghost use Rattle.qc_arena.specs.Map.{IsPlace, is_touched, new_record, no_nodes, was_at, with_class, with_forced};
 ghost use Rattle.qc_arena.specs.Seen.{edge_of, record_at};
 
+use crate::Memory;
 use crate::edges::EdgeTo;
 use crate::kept::{Counts, Kept};
 use crate::nodes::{Forced, Nodes};
@@ -17,7 +18,6 @@ use crate::slots::{
     add_record, is_child, kind_at, let_go, put_back, put_was, record_of, set_class_at, set_edge_at,
     set_forced_at,
 };
-use crate::Memory;
 use aggregates::Agg;
 use cell_core::{Code, NodeNo, Steps};
 use indexmap::IndexMap;
