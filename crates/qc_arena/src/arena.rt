@@ -11,6 +11,7 @@ ghost use Rattle.qc_arena.specs.Seen.{edge_of, record_at};
 
 use crate::Memory;
 use crate::edges::EdgeTo;
+use crate::image::Image;
 use crate::kept::{Counts, Kept};
 use crate::nodes::{Forced, Nodes};
 use crate::records::Rec;
@@ -40,7 +41,7 @@ pub enum ArenaRefused {
 #[derive(Drop)]
 pub struct QcArena {
     nodes: Slab<Option<Rec>>,
-    images: IndexMap<u32, Option<Rec>>,
+    images: IndexMap<u32, Image>,
     is_open: bool,
     dims: u8,
     max: u32,

@@ -3,6 +3,7 @@
 
 mod arena;
 mod edges;
+mod image;
 mod kept;
 mod nodes;
 mod records;

@@ -81,6 +81,10 @@ impl Rec {
         }
     }
 
+    pub(crate) fn allocator(&self) -> Global {
+        *self.edges.allocator()
+    }
+
     pub(crate) fn copy(&self) -> Result<Rec, Memory>
         ensures { IfOk result (λ r. r ≡ self.now) }
     {

@@ -14,6 +14,7 @@ ghost use Rattle.qc_arena.specs.Seen.{edge_of, record_or};
 
 use crate::Memory;
 use crate::edges::EdgeTo;
+use crate::image::Image;
 use crate::nodes::Forced;
 use crate::records::Rec;
 use aggregates::Agg;
@@ -23,7 +24,7 @@ use slab::Slab;
 use std::alloc::AllocError;
 
 // Takes the last image out.
-fn pop_image(images: &mut IndexMap<u32, Option<Rec>>) -> Option<(u32, Option<Rec>)>
+fn pop_image(images: &mut IndexMap<u32, Image>) -> Option<(u32, Image)>
     ensures none { IfNone result ((images.old.entries ≡ []) × (images.new.entries ≡ [])) }
     ensures took { IfSome result (λ p. index.get nat_eq images.old p.0 ≡ Some p.1) }
     ensures rest { IfSome result (λ p. (q : ℕ) → index.get nat_eq images.new q ≡ (if nat_eq p.0 q then None else index.get nat_eq images.old q)) }
@@ -36,13 +37,13 @@ fn pop_image(images: &mut IndexMap<u32, Option<Rec>>) -> Option<(u32, Option<Rec
 }
 
 // Gives a node its image: the record that it had, or nothing.
-fn put_image(nodes: &mut Slab<Option<Rec>>, node: u32, image: Option<Rec>)
+fn put_image(nodes: &mut Slab<Option<Rec>>, node: u32, image: Image)
     requires { slots.ContainsKey nodes.old node }
     ensures now { join (slots.get nodes.new node) ≡ image }
     ensures here { slots.get nodes.new node ≢ Some None }
     ensures others { (q : ℕ) → q ≢ node → slots.get nodes.new q ≡ slots.get nodes.old q }
 {
-    match image {
+    match image.into_record() {
         Some(record) => nodes[node as usize] = Some(record),
         None => {
             nodes.remove(node as usize);
@@ -63,7 +64,7 @@ fn clear_killed(nodes: &mut Slab<Option<Rec>>, node: u32)
 }
 
 // Puts back what each touched node had, and takes away the nodes that are new.
-pub(crate) fn put_back(nodes: &mut Slab<Option<Rec>>, images: &mut IndexMap<u32, Option<Rec>>)
+pub(crate) fn put_back(nodes: &mut Slab<Option<Rec>>, images: &mut IndexMap<u32, Image>)
     requires placed { (q : ℕ) → IsSome (index.get nat_eq images.old q) → slots.ContainsKey nodes.old q }
     requires killed { (q : ℕ) → slots.get nodes.old q ≡ Some None → IsSome (index.get nat_eq images.old q) }
     ensures nodes { (q : ℕ) → join (slots.get nodes.new q) ≡ image_or nodes.old images.old q }
@@ -76,7 +77,7 @@ pub(crate) fn put_back(nodes: &mut Slab<Option<Rec>>, images: &mut IndexMap<u32,
 }
 
 // Takes the places of the killed nodes away, and lets the images go.
-pub(crate) fn let_go(nodes: &mut Slab<Option<Rec>>, images: &mut IndexMap<u32, Option<Rec>>)
+pub(crate) fn let_go(nodes: &mut Slab<Option<Rec>>, images: &mut IndexMap<u32, Image>)
     requires placed { (q : ℕ) → IsSome (index.get nat_eq images.old q) → slots.ContainsKey nodes.old q }
     requires killed { (q : ℕ) → slots.get nodes.old q ≡ Some None → IsSome (index.get nat_eq images.old q) }
     ensures nodes { (q : ℕ) → join (slots.get nodes.new q) ≡ join (slots.get nodes.old q) }
@@ -113,33 +114,30 @@ fn fill_slot(nodes: &mut Slab<Option<Rec>>, new: Rec)
 }
 
 // Notes that a node is new.
-fn put_new(images: &mut IndexMap<u32, Option<Rec>>, node: u32) -> Result<(), Memory>
+fn put_new(images: &mut IndexMap<u32, Image>, node: u32) -> Result<(), Memory>
     requires { index.get nat_eq images.old node ≡ None }
     ensures ok { OnOk result ((q : ℕ) → index.get nat_eq images.new q ≡ (if nat_eq node q then Some None else index.get nat_eq images.old q)) }
     ensures err { OnErr result (images.new.entries ≡ images.old.entries) }
 {
-    images.insert(node, None)?;
+    images.insert(node, Image::new_node())?;
     Ok(())
 }
 
 // Keeps what a node was.
-pub(crate) fn put_was(
-    images: &mut IndexMap<u32, Option<Rec>>,
-    node: u32,
-    was: Rec,
-) -> Result<(), Memory>
+pub(crate) fn put_was(images: &mut IndexMap<u32, Image>, node: u32, was: Rec) -> Result<(), Memory>
     requires { index.get nat_eq images.old node ≡ None }
     ensures ok { OnOk result ((q : ℕ) → index.get nat_eq images.new q ≡ (if nat_eq node q then Some (Some was) else index.get nat_eq images.old q)) }
     ensures err { OnErr result (images.new.entries ≡ images.old.entries) }
 {
-    images.insert(node, Some(was))?;
+    let image = Image::of(was)?;
+    images.insert(node, image)?;
     Ok(())
 }
 
 // Puts a new record at a free number, and notes that it is new.
 pub(crate) fn add_record(
     nodes: &mut Slab<Option<Rec>>,
-    images: &mut IndexMap<u32, Option<Rec>>,
+    images: &mut IndexMap<u32, Image>,
     new: Rec,
 ) -> Result<u32, Memory>
     requires { (q : ℕ) → IsSome (index.get nat_eq images.old q) → slots.ContainsKey nodes.old q }
