@@ -1,104 +1,11 @@
--- The entries of cells, and cells with the same front.
-use Rattle.std.proofs.Common.{◌≡◌, ◌⊎◌, inl, inr, ℕ, zero, suc, ◌<◌, ◌≤◌, true, Option, Some, None, List, [], ◌∷◌, length, nat_eq, slice_index_or, refl, sym, ap, ap₂, subst, ◌∙◌, arith, true≢false, eqb-true}
-use Rattle.std.proofs.lemmas.Bool.{and_parts}
-use Rattle.cube_defs.specs.Cell.{Cell, leq, entry_leq, keep, cell_of, depth, one_deeper}
+-- Cells with the same front.
+use Rattle.std.proofs.Common.{◌≡◌, ℕ, zero, suc, ◌<◌, ◌≤◌, Some, [], ◌∷◌, length, refl, sym, ap, ◌∙◌, arith}
+use Rattle.cube_defs.specs.Cell.{Cell, keep, with_value}
+use Rattle.tree_laws.proofs.Fronts.{keep-keep}
 use Rattle.cell_closure.proofs.Shared.{entry}
-use Rattle.cube_laws.proofs.Cells.{nat_equality, depth-keep_zero, keep_mono, leq_antisymm}
-
-pub keep_next : (k : ℕ) (c d : Cell ℕ) → length c ≡ length d → keep k c ≡ keep k d → entry c k ≡ entry d k → keep (suc k) c ≡ keep (suc k) d
-keep_next k [] [] l h e = refl
-keep_next k [] (f ∷ d) l h e = absurd (omega arith)
-keep_next k (x ∷ c) [] l h e = absurd (omega arith)
-keep_next zero (x ∷ c) (y ∷ d) l h e = ap₂ (λ a b. a ∷ b) e (cc)
-keep_next (suc k) (x ∷ c) (y ∷ d) l h e = ap₂ (λ a b. a ∷ b) (cc) (keep_next k c d (omega arith) (cc) e)
-
-pub keep_back : (k : ℕ) (c d : Cell ℕ) → keep (suc k) c ≡ keep (suc k) d → keep k c ≡ keep k d
-keep_back k [] [] h = refl
-keep_back k [] (f ∷ d) h = cc
-keep_back k (x ∷ c) [] h = cc
-keep_back zero (x ∷ c) (y ∷ d) h = ap (λ b. None ∷ b) (cc)
-keep_back (suc k) (x ∷ c) (y ∷ d) h = ap₂ (λ a b. a ∷ b) (cc) (keep_back k c d (cc))
-
-pub keep_entry : (k : ℕ) (c d : Cell ℕ) → keep (suc k) c ≡ keep (suc k) d → entry c k ≡ entry d k
-keep_entry k [] [] h = refl
-keep_entry k [] (f ∷ d) h = cc
-keep_entry k (x ∷ c) [] h = cc
-keep_entry zero (x ∷ c) (y ∷ d) h = cc
-keep_entry (suc k) (x ∷ c) (y ∷ d) h = keep_entry k c d (cc)
-
-pub keep_all : (k : ℕ) (c : Cell ℕ) → length c ≤ k → keep k c ≡ c
-keep_all k [] l = refl
-keep_all zero (x ∷ c) l = absurd (omega arith)
-keep_all (suc k) (x ∷ c) l = ap (λ b. x ∷ b) (keep_all k c (omega arith))
-
-entry_of_leq : (x : ℕ) (f : Option ℕ) → entry_leq nat_eq (Some x) f ≡ true → f ≡ Some x
-entry_of_leq x None h = absurd (true≢false (sym h))
-entry_of_leq x (Some y) h = ap (λ v. Some v) (sym (eqb-true x y h))
-
-pub leq_entry : (k x : ℕ) (c d : Cell ℕ) → leq nat_eq c d ≡ true → entry c k ≡ Some x → entry d k ≡ Some x
-leq_entry k x [] d h e = cc
-leq_entry k x (f ∷ c) [] h e = absurd (true≢false (sym h))
-leq_entry zero x (f ∷ c) (g ∷ d) h e = entry_of_leq x g (subst (λ z. entry_leq nat_eq z g ≡ true) e (and_parts (entry_leq nat_eq f g) (leq nat_eq c d) h).0)
-leq_entry (suc k) x (f ∷ c) (g ∷ d) h e = leq_entry k x c d (and_parts (entry_leq nat_eq f g) (leq nat_eq c d) h).1 e
-
--- a cell that covers a row has the row's codes
-pub covers_code : (k x : ℕ) (c : Cell ℕ) (t : List ℕ) → leq nat_eq c (cell_of t) ≡ true → entry c k ≡ Some x → slice_index_or t k 0 ≡ x
-covers_code k x [] t h e = cc
-covers_code k x (f ∷ c) [] h e = absurd (true≢false (sym h))
-covers_code zero x (f ∷ c) (v ∷ t) h e = let r : Some v ≡ Some x = entry_of_leq x (Some v) (subst (λ z. entry_leq nat_eq z (Some v) ≡ true) e (and_parts (entry_leq nat_eq f (Some v)) (leq nat_eq c (cell_of t)) h).0) in cc
-covers_code (suc k) x (f ∷ c) (v ∷ t) h e = covers_code k x c t (and_parts (entry_leq nat_eq f (Some v)) (leq nat_eq c (cell_of t)) h).1 e
-
--- what lies between two cells with the same front has it too
-pub front_between : (k : ℕ) (a b c : Cell ℕ) → leq nat_eq a b ≡ true → leq nat_eq b c ≡ true → keep k c ≡ keep k a → keep k b ≡ keep k a
-front_between k a b c h g e =
-    leq_antisymm nat_equality _ _
-    (subst (λ x. leq nat_eq (keep k b) x ≡ true) e (keep_mono nat_equality k b c g))
-    (keep_mono nat_equality k a b h)
-
-pub entry_keep : (k d : ℕ) (c : Cell ℕ) → k < d → entry (keep d c) k ≡ entry c k
-entry_keep k zero c l = absurd (omega arith)
-entry_keep k (suc d) [] l = refl
-entry_keep zero (suc d) (x ∷ c) l = refl
-entry_keep (suc k) (suc d) (x ∷ c) l = entry_keep k d c (omega arith)
-
-deeper : (e : Option ℕ) (n m : ℕ) → n ≡ suc m → one_deeper e n ≡ suc (suc m)
-deeper None n m h = ap (one_deeper {A = ℕ} None) h
-deeper (Some v) n m h = ap suc h
-
-pub depth_keep : (d v : ℕ) (c : Cell ℕ) → entry c d ≡ Some v → depth (keep (suc d) c) ≡ suc d
-depth_keep d v [] e = cc
-depth_keep zero v (x ∷ c) e = ap (λ y. one_deeper y (depth (keep 0 c))) e ∙ ap suc (depth-keep_zero c)
-depth_keep (suc d) v (x ∷ c) e = deeper x (depth (keep (suc d) c)) d (depth_keep d v c e)
-
--- the last value
-pub last_entry : (d : ℕ) (c : Cell ℕ) → depth c ≡ suc d → entry c d ≡ None → ⊥
-last_entry d [] h e = absurd (omega arith)
-last_entry zero (None ∷ c) h e = go (depth c) h
-  where
-    go : (n : ℕ) → one_deeper {A = ℕ} None n ≡ 1 → ⊥
-    go zero h = absurd (omega arith)
-    go (suc n) h = absurd (omega arith)
-last_entry zero (Some v ∷ c) h e = cc
-last_entry (suc d) (x ∷ c) h e = last_entry d c (go x (depth c) h) e
-  where
-    go : (x : Option ℕ) (n : ℕ) → one_deeper x n ≡ suc (suc d) → n ≡ suc d
-    go None zero h = absurd (omega arith)
-    go None (suc n) h = omega arith
-    go (Some v) n h = omega arith
-
-pub deeper_or : (k d : ℕ) → k < d → (d ≡ suc k) ⊎ (suc k < d)
-deeper_or k zero h = absurd (omega arith)
-deeper_or zero (suc zero) h = inl refl
-deeper_or zero (suc (suc d)) h = inr (omega arith)
-deeper_or (suc k) (suc d) h = elim (deeper_or k d (omega arith)) [ inl e ↦ inl (ap suc e) | inr g ↦ inr (omega arith) ]
+use Rattle.build_trace.proofs.Fronts.{keep_next, zero_front}
 
 -- cells with the same entries before a dimension
-pub zero_front : (c d : Cell ℕ) → length c ≡ length d → keep 0 c ≡ keep 0 d
-zero_front [] [] h = refl
-zero_front [] (f ∷ d) h = absurd (omega arith)
-zero_front (x ∷ c) [] h = absurd (omega arith)
-zero_front (x ∷ c) (y ∷ d) h = ap (λ b. None ∷ b) (zero_front c d (omega arith))
-
 pub front_from_points : (k : ℕ) (c d : Cell ℕ) → length c ≡ length d → ((j : ℕ) → j < k → entry c j ≡ entry d j) → keep k c ≡ keep k d
 front_from_points zero c d l h = zero_front c d l
 front_from_points (suc k) c d l h = keep_next k c d l (front_from_points k c d l (λ j m. h j (omega arith))) (h k (omega arith))
@@ -110,3 +17,12 @@ front_points (suc k) j [] (f ∷ d) e l = cc
 front_points (suc k) j (x ∷ c) [] e l = cc
 front_points (suc k) zero (x ∷ c) (y ∷ d) e l = cc
 front_points (suc k) (suc j) (x ∷ c) (y ∷ d) e l = front_points k j c d (cc) (omega arith)
+
+-- a front that ends with a value
+pub front_value : (k v : ℕ) (c : Cell ℕ) → entry c k ≡ Some v → keep (suc k) c ≡ with_value (keep k c) k v
+front_value k v [] e = cc
+front_value zero v (x ∷ c) e = ap (λ y. y ∷ keep 0 c) e
+front_value (suc k) v (x ∷ c) e = ap (λ d. x ∷ d) (front_value k v c e)
+
+pub front_less : (k n : ℕ) (c d : Cell ℕ) → k ≤ n → keep n c ≡ keep n d → keep k c ≡ keep k d
+front_less k n c d l e = sym (keep-keep k n c l) ∙ ap (λ b. keep k b) e ∙ keep-keep k n d l

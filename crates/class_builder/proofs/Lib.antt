@@ -1,8 +1,6 @@
-pub mod Lists
 pub mod Fronts
-pub mod Parting
-pub mod Visited
 pub mod Uppers
 pub mod Adding
+pub mod Building
 pub mod Steps
-pub mod Listing
+pub mod Whole

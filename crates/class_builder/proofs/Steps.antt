@@ -1,84 +1,58 @@
--- The steps of the walk in code.
-use Rattle.std.proofs.Common.{◌≡◌, ℕ, zero, suc, ◌+◌, ◌-◌, ◌<◌, ◌≤◌, Bool, true, false, Option, Some, None, List, [], ◌∷◌, ◌++◌, ◌==◌, map, filter, flat_map, length, nat_eq, get_or, is_some, drop, drop-cons, append-nil, append_assoc, refl, sym, ap, ap₂, subst, ◌∙◌, arith, true≢false, inl, inr}
-use Rattle.std.specs.Bool.{if◌then◌else◌}
-use Rattle.std.specs.Prelude.{is_none}
+-- The steps of the walk.
+use Rattle.std.proofs.Common.{◌≡◌, ℕ, zero, suc, ◌+◌, ◌-◌, ◌<◌, ◌≤◌, true, false, Option, Some, None, List, [], ◌∷◌, ◌++◌, ◌==◌, map, filter, flat_map, length, nat_eq, get_or, is_some, drop, drop-cons, refl, sym, ap, ap₂, subst, ◌∙◌, arith, inl, inr, eqb-true}
+use Rattle.std.specs.List.{AllByRecursion, cons_option}
 use Rattle.std.specs.Ordering.{nat_cmp}
 use Rattle.std.proofs.lemmas.Bool.{cond-true, cond-false}
 use Rattle.std.proofs.lemmas.List.{drop_all}
-use Rattle.cube_defs.specs.Cell.{Cell}
+use Rattle.cube_defs.specs.Cell.{Cell, keep}
 use Rattle.cube_defs.specs.Rows as defs
 use Rattle.cube_defs.specs.Rows.{Row, covers}
 use Rattle.cube_defs.specs.Tree.{distinct}
 use Rattle.cube_laws.specs.Lists.{Among}
-use Rattle.cube_laws.proofs.Lists.{all_map, to_filter, filter-le}
-use Rattle.aggregates.specs.Views.{agg_in}
-use Rattle.aggregates.specs.declared.agg.Agg.{Agg}
-use Rattle.base_table.specs.Places.{Places, IsTable, named, row_at}
+use Rattle.cube_laws.proofs.Lists.{all_at, all_map, to_filter, filter-le}
+use Rattle.cube_laws.proofs.Cells.{nat_equality, cell_eq-exact}
+use Rattle.base_table.specs.Places.{Places, IsRow, IsTable, named, row_at}
 use Rattle.base_table.specs.declared.table.RowNo.{RowNo}
-use Rattle.cell_closure.specs.Parts.{no_part, code_at, with_code, parted}
+use Rattle.cell_closure.specs.Parts.{no_part, code_in, code_at, with_code, parted}
 use Rattle.cell_closure.specs.Shared.{shared_by}
-use Rattle.cell_closure.proofs.Shared.{IsShared, entry, shared_covers}
-use Rattle.cell_closure.proofs.Rows.{There, length-named, codes_named, named-filter, named_dims}
+use Rattle.cell_closure.proofs.Shared.{IsShared, HaveDims, closure-shared, entry, shared_covers}
+use Rattle.cell_closure.proofs.Rows.{There, length-named, codes_named, named-filter, named_dims, is_row}
 use Rattle.cell_closure.proofs.Stable.{length-mapped}
-use Rattle.class_builder.specs.Walk.{Visit, Visit.{Made, Marked}, part_at, codes_in, same_front, visit_part, visit_at, visit, marks, found_in}
-use Rattle.class_builder.proofs.Parting.{has_code, part_code, code_among}
+use Rattle.build_trace.specs.Trace.{Act, Act.{Add, Label, Mark}, acts, acts_at, part_acts}
+use Rattle.build_trace.specs.Walk.{part_at, codes_in, same_front}
+use Rattle.class_builder.specs.Walk.{acts_from, front_acts}
+use Rattle.build_trace.proofs.Parting.{has_code, part_entry, shared_among, code_among}
 use Rattle.class_builder.proofs.Uppers.{AreCovered}
 
-pub marks-append : (xs ys : List Visit) → marks (xs ++ ys) ≡ marks xs ++ marks ys
-marks-append [] ys = refl
-marks-append (Made p ∷ xs) ys = marks-append xs ys
-marks-append (Marked u a ∷ xs) ys = ap (λ ms. (u, a) ∷ ms) (marks-append xs ys)
-
-pub found_in-push : (xs : List (Cell ℕ × Agg)) (u : Cell ℕ) (a : Agg) → found_in (xs ++ (u, a) ∷ []) ≡ found_in xs ++ (u, agg_in a) ∷ []
-found_in-push [] u a = refl
-found_in-push (x ∷ xs) u a = ap (λ ys. (x.0, agg_in x.1) ∷ ys) (found_in-push xs u a)
-
-abbrev pub Marks : Type 0
-Marks = List (Cell ℕ × defs.Agg)
-
--- the walk in a dimension, and then in those behind it
-visit_here : (m n k : ℕ) (rows : List (Row ℕ)) → k < n → visit m (n - k) k rows ≡ visit_at (visit m (n - (k + 1)) (k + 1)) k (shared_by rows) (entry (shared_by rows) k) rows ++ visit m (n - (k + 1)) (k + 1) rows
-unfolding visit
-visit_here m n k rows h =
-    let e : n - k ≡ suc (n - (k + 1)) = omega arith in
+-- the acts in a dimension, and then those behind it
+pub acts_here : (t : Places) (k : ℕ) (u : Cell ℕ) (rows : List (Row ℕ)) → k < t.dims → u ≡ shared_by rows
+    → acts_from t k rows ≡ acts_at (acts_from t (k + 1)) k u (entry u k) rows ++ acts_from t (k + 1) rows
+unfolding acts
+acts_here t k u rows h is =
+    let e : t.dims - k ≡ suc (t.dims - (k + 1)) = omega arith in
     let f : suc k ≡ k + 1 = omega arith in
-    ap (λ j. visit m j k rows) e ∙ ap (λ j. visit_at (visit m (n - (k + 1)) j) k (shared_by rows) (entry (shared_by rows) k) rows ++ visit m (n - (k + 1)) j rows) f
+    ap (λ j. acts t.measures j k rows) e ∙ ap (λ j. acts_at (acts t.measures (t.dims - (k + 1)) j) k (shared_by rows) (entry (shared_by rows) k) rows ++ acts t.measures (t.dims - (k + 1)) j rows) f
+    ∙ ap (λ w. acts_at (acts_from t (k + 1)) k w (entry w k) rows ++ acts_from t (k + 1) rows) (sym is)
 
-visit_end : (m n k : ℕ) (rows : List (Row ℕ)) → n ≤ k → marks (visit m (n - k) k rows) ≡ (shared_by rows, defs.agg_of m rows) ∷ []
-unfolding visit
-visit_end m n k rows h = let e : n - k ≡ 0 = omega arith in ap (λ j. marks (visit m j k rows)) e
+pub acts_end : (t : Places) (k : ℕ) (rows : List (Row ℕ)) → t.dims ≤ k → acts_from t k rows ≡ Mark (shared_by rows) (defs.agg_of t.measures rows) ∷ []
+unfolding acts
+acts_end t k rows h = let e : t.dims - k ≡ 0 = omega arith in ap (λ j. acts t.measures j k rows) e
 
-pub step_any : (m n k : ℕ) (u : Cell ℕ) (rows : List (Row ℕ)) (out more all : Marks) → k < n → u ≡ shared_by rows → true ≡ is_none (entry u k)
-    → out ++ marks (visit m (n - k) k rows) ≡ all → more ≡ out ++ marks (visit_at (visit m (n - (k + 1)) (k + 1)) k u None rows) → more ++ marks (visit m (n - (k + 1)) (k + 1) rows) ≡ all
-step_any m n k u rows out more all h is e before f =
-    ap (λ xs. xs ++ marks (visit m (n - (k + 1)) (k + 1) rows)) f
-    ∙ append_assoc out _ _
-    ∙ ap (λ w. out ++ (marks (visit_at (visit m (n - (k + 1)) (k + 1)) k w None rows) ++ marks (visit m (n - (k + 1)) (k + 1) rows))) is
-    ∙ ap (λ o. out ++ (marks (visit_at (visit m (n - (k + 1)) (k + 1)) k (shared_by rows) o rows) ++ marks (visit m (n - (k + 1)) (k + 1) rows))) (sym (none (entry u k) e) ∙ ap (λ w. entry w k) is)
-    ∙ ap (λ xs. out ++ xs) (sym (marks-append (visit_at (visit m (n - (k + 1)) (k + 1)) k (shared_by rows) (entry (shared_by rows) k) rows) (visit m (n - (k + 1)) (k + 1) rows)))
-    ∙ ap (λ vs. out ++ marks vs) (sym (visit_here m n k rows h))
-    ∙ before
-  where
-    none : (o : Option ℕ) → true ≡ is_none o → o ≡ None
-    none None h = refl
-    none (Some x) h = absurd (true≢false h)
+-- a part whose rows share no more before the dimension than u has, and one whose rows do
+pub part_new : (more : List (Row ℕ) → List Act) (k : ℕ) (u : Cell ℕ) (v : ℕ) (rows : List (Row ℕ)) → same_front k (shared_by rows) u ≡ true
+    → part_acts more k u v rows ≡ front_acts false (shared_by rows) k v ++ more rows
+part_new more k u v rows h =
+    let s : keep k u ≡ keep k (shared_by rows) = sym (cell_eq-exact nat_equality _ _ h) in
+    ap₂ (λ xs ys. xs ++ Label false (keep k u) k v (keep (suc k) (shared_by rows)) ∷ ys) (cond-true _ _ _ h) (cond-true _ _ _ h)
+    ∙ ap (λ f. Add (keep (suc k) (shared_by rows)) ∷ Label false f k v (keep (suc k) (shared_by rows)) ∷ more rows) s
 
-pub step_skip : (m n k : ℕ) (u : Cell ℕ) (rows : List (Row ℕ)) (out all : Marks) → k < n → u ≡ shared_by rows → false ≡ is_none (entry u k)
-    → out ++ marks (visit m (n - k) k rows) ≡ all → out ++ marks (visit m (n - (k + 1)) (k + 1) rows) ≡ all
-step_skip m n k u rows out all h is e before =
-    ap (λ ms. out ++ (ms ++ marks (visit m (n - (k + 1)) (k + 1) rows))) (sym (nothing (entry (shared_by rows) k) (e ∙ ap (λ w. is_none (entry w k)) is)))
-    ∙ ap (λ xs. out ++ xs) (sym (marks-append (visit_at (visit m (n - (k + 1)) (k + 1)) k (shared_by rows) (entry (shared_by rows) k) rows) (visit m (n - (k + 1)) (k + 1) rows)))
-    ∙ ap (λ vs. out ++ marks vs) (sym (visit_here m n k rows h))
-    ∙ before
-  where
-    nothing : (o : Option ℕ) → false ≡ is_none o → marks (visit_at (visit m (n - (k + 1)) (k + 1)) k (shared_by rows) o rows) ≡ []
-    nothing None h = absurd (true≢false (sym h))
-    nothing (Some x) h = refl
+pub part_old : (more : List (Row ℕ) → List Act) (k : ℕ) (u : Cell ℕ) (v : ℕ) (rows : List (Row ℕ)) → same_front k (shared_by rows) u ≡ false
+    → part_acts more k u v rows ≡ Label false (keep k u) k v (keep (suc k) (shared_by rows)) ∷ []
+part_old more k u v rows h = ap₂ (λ xs ys. xs ++ Label false (keep k u) k v (keep (suc k) (shared_by rows)) ∷ ys) (cond-false _ _ _ h) (cond-false _ _ _ h)
 
-pub walk_end : (m n k : ℕ) (u : Cell ℕ) (a : Agg) (rows : List (Row ℕ)) (found new : List (Cell ℕ × Agg)) (all : Marks) → n ≤ k → u ≡ shared_by rows → agg_in a ≡ defs.agg_of m rows
-    → new ≡ found ++ (u, a) ∷ [] → found_in found ++ marks (visit m (n - k) k rows) ≡ all → found_in new ≡ all
-walk_end m n k u a rows found new all h is e push before =
-    ap found_in push ∙ found_in-push found u a ∙ ap₂ (λ w b. found_in found ++ (w, b) ∷ []) is e ∙ ap (λ ms. found_in found ++ ms) (sym (visit_end m n k rows h)) ∙ before
+-- the acts for the parts from the i-th on
+abbrev pub parts_from : Places → ℕ → Cell ℕ → List (Row ℕ) → ℕ → List Act
+parts_from t k u rows i = flat_map (λ v. part_acts (acts_from t (k + 1)) k u v (part_at k rows v)) (drop i (codes_in k rows))
 
 -- parts
 
@@ -95,6 +69,22 @@ get_among (x ∷ xs) (suc i) h = inr (get_among xs i (omega arith))
 among_length : {X : Type 0} (x : X) (xs : List X) → Among x xs → 0 < length xs
 among_length x [] h = absurd h
 among_length x (y ∷ xs) h = omega arith
+
+-- what a part shares has the part's code
+part_code : (n k v : ℕ) (rows : List (Row ℕ)) (r : Row ℕ) → Among r (part_at k rows v) → HaveDims n rows → k < n → entry (shared_by (part_at k rows v)) k ≡ Some v
+part_code n k v rows r a long lt =
+    part_entry n k v rows (shared_by (part_at k rows v)) (shared_by (part_at k rows v)) long lt (closure-shared (part_at k rows v) (shared_by (part_at k rows v)) (shared_among (part_at k rows v) r a))
+
+codes_small : (t : Places) → IsTable t → (k : ℕ) → k < t.dims → (nos : List RowNo) → AllByRecursion (λ r. code_in k r < 4000000) (named t nos)
+codes_small t valid k lt [] = tt
+codes_small t valid k lt (x ∷ nos) = go (row_at t x.0) refl (codes_small t valid k lt nos)
+  where
+    go : (o : Option (Row ℕ)) → row_at t x.0 ≡ o → AllByRecursion (λ r. code_in k r < 4000000) (named t nos) → AllByRecursion (λ r. code_in k r < 4000000) (cons_option o (named t nos))
+    go None e more = more
+    go (Some r) e more =
+        let is : IsRow t.dims t.measures r = is_row t valid x.0 r e in
+        let long : length r.tuple ≡ t.dims = is.tuple in
+        (is.codes k 0 (omega arith), more)
 
 module _ (t : Places) (valid : IsTable t) (nos : List RowNo) (there : There t nos) (k : ℕ) where
   pub length-parted : length (parted t nos k) ≡ length (codes_in k (named t nos))
@@ -137,41 +127,32 @@ module _ (t : Places) (valid : IsTable t) (nos : List RowNo) (there : There t no
     pub part_covered : (u : Cell ℕ) → IsShared (named t nos) u → AreCovered u (named t part)
     part_covered u s = subst (AreCovered u) (sym part_named) (to_filter (λ r. covers nat_eq u r ≡ true) (has_code k code) (named t nos) (all_map _ _ (named t nos) (λ r h _. h) (shared_covers (named t nos) u s)))
 
-    pub part_value : k < t.dims → is_some (entry (shared_by (named t part)) k) ≡ true
-    part_value h = ap (λ rows. is_some (entry (shared_by rows) k)) part_named ∙ ap is_some (part_code t.dims k code (named t nos) row_there.0 row_there.1 (named_dims t valid nos) h)
+    pub part_value : k < t.dims → entry (shared_by (named t part)) k ≡ Some code
+    part_value h = ap (λ rows. entry (shared_by rows) k) part_named ∙ part_code t.dims k code (named t nos) row_there.0 row_there.1 (named_dims t valid nos) h
 
-    -- one part more
-    pub step_part : (m n : ℕ) (u : Cell ℕ) (out more all : Marks)
-        → out ++ marks (flat_map (λ v. visit_part (visit m (n - (k + 1)) (k + 1)) k u (part_at k (named t nos) v)) (drop i (codes_in k (named t nos)))) ≡ all
-        → more ≡ out ++ marks (visit_part (visit m (n - (k + 1)) (k + 1)) k u (named t part))
-        → more ++ marks (flat_map (λ v. visit_part (visit m (n - (k + 1)) (k + 1)) k u (part_at k (named t nos) v)) (drop (i + 1) (codes_in k (named t nos)))) ≡ all
-    step_part m n u out more all before f =
+    pub part_small : k < t.dims → code < 4000000
+    part_small h =
+        all_at (λ r. code < 4000000) row_there.0 (part_at k (named t nos) code)
+        (to_filter (λ r. code < 4000000) (has_code k code) (named t nos)
+        (all_map (λ r. code_in k r < 4000000) _ (named t nos) (λ r small has. subst (λ v. v < 4000000) (eqb-true (code_in k r) code has) small) (codes_small t valid k h nos)))
+        row_there.1
+
+    pub part_is : (get_or (parted t nos k) i no_part).code ≡ code
+    part_is =
+        let l : length (parted t nos k) ≡ length (distinct nat_cmp (map (code_at t k) nos)) = length-mapped (with_code t nos k) (distinct nat_cmp (map (code_at t k) nos)) in
+        ap (λ p. p.code) (get-mapped (with_code t nos k) (distinct nat_cmp (map (code_at t k) nos)) i no_part 0 (omega arith))
+        ∙ ap (λ vs. get_or (distinct nat_cmp vs) i 0) (codes_named t k nos there)
+
+    pub parts_here : (u : Cell ℕ) → parts_from t k u (named t nos) i ≡ part_acts (acts_from t (k + 1)) k u (get_or (parted t nos k) i no_part).code (named t part) ++ parts_from t k u (named t nos) (i + 1)
+    parts_here u =
         let l = length-parted in
-        let codes = codes_in k (named t nos) in
         let here : i < length (codes_in k (named t nos)) = omega arith in
         let j : suc i ≡ i + 1 = omega arith in
-        ap (λ xs. xs ++ marks (flat_map (λ v. visit_part (visit m (n - (k + 1)) (k + 1)) k u (part_at k (named t nos) v)) (drop (i + 1) (codes_in k (named t nos))))) f
-        ∙ append_assoc out _ _
-        ∙ ap (λ rows. out ++ (marks (visit_part (visit m (n - (k + 1)) (k + 1)) k u rows) ++ marks (flat_map (λ v. visit_part (visit m (n - (k + 1)) (k + 1)) k u (part_at k (named t nos) v)) (drop (i + 1) (codes_in k (named t nos)))))) part_named
-        ∙ ap (λ ms. out ++ ms) (sym (marks-append (visit_part (visit m (n - (k + 1)) (k + 1)) k u (part_at k (named t nos) code)) (flat_map (λ v. visit_part (visit m (n - (k + 1)) (k + 1)) k u (part_at k (named t nos) v)) (drop (i + 1) (codes_in k (named t nos))))))
-        ∙ ap (λ x. out ++ marks (visit_part (visit m (n - (k + 1)) (k + 1)) k u (part_at k (named t nos) code) ++ flat_map (λ v. visit_part (visit m (n - (k + 1)) (k + 1)) k u (part_at k (named t nos) v)) (drop x (codes_in k (named t nos))))) (sym j)
-        ∙ ap (λ vs. out ++ marks (flat_map (λ v. visit_part (visit m (n - (k + 1)) (k + 1)) k u (part_at k (named t nos) v)) vs)) (sym (drop-cons (codes_in k (named t nos)) i 0 here))
-        ∙ before
+        ap (λ vs. flat_map (λ v. part_acts (acts_from t (k + 1)) k u v (part_at k (named t nos) v)) vs) (drop-cons (codes_in k (named t nos)) i 0 here)
+        ∙ ap (λ x. part_acts (acts_from t (k + 1)) k u code (part_at k (named t nos) code) ++ parts_from t k u (named t nos) x) j
+        ∙ ap₂ (λ v rows. part_acts (acts_from t (k + 1)) k u v rows ++ parts_from t k u (named t nos) (i + 1)) (sym part_is) (sym part_named)
 
-  pub parts_end : (m n i : ℕ) (u : Cell ℕ) (out all : Marks) → length (parted t nos k) ≤ i
-      → out ++ marks (flat_map (λ v. visit_part (visit m (n - (k + 1)) (k + 1)) k u (part_at k (named t nos) v)) (drop i (codes_in k (named t nos)))) ≡ all → out ≡ all
-  parts_end m n i u out all h before =
+  pub parts_end : (i : ℕ) (u : Cell ℕ) → length (parted t nos k) ≤ i → parts_from t k u (named t nos) i ≡ []
+  parts_end i u h =
       let l = length-parted in
-      let none : drop i (codes_in k (named t nos)) ≡ [] = drop_all i (codes_in k (named t nos)) (omega arith) in
-      sym (append-nil out) ∙ ap (λ vs. out ++ marks (flat_map (λ v. visit_part (visit m (n - (k + 1)) (k + 1)) k u (part_at k (named t nos) v)) vs)) (sym none) ∙ before
-
--- a part with the front of u
-pub part_taken : (m n k : ℕ) (u w : Cell ℕ) (rows : List (Row ℕ)) (b : Bool) (old new : Marks) → (if_some : (if b then Some (shared_by rows) else None) ≡ Some w) → b ≡ same_front k (shared_by rows) u
-    → new ≡ old ++ marks (visit m (n - (k + 1)) (k + 1) rows) → new ≡ old ++ marks (visit_part (visit m (n - (k + 1)) (k + 1)) k u rows)
-part_taken m n k u w rows true old new is e f = f ∙ ap (λ vs. old ++ marks vs) (sym (cond-true (same_front k (shared_by rows) u) _ _ (sym e)))
-part_taken m n k u w rows false old new is e f = cc
-
-pub part_left : (m n k : ℕ) (u : Cell ℕ) (rows : List (Row ℕ)) (b : Bool) (old : Marks) → (if_none : (if b then Some (shared_by rows) else None) ≡ None) → b ≡ same_front k (shared_by rows) u
-    → old ≡ old ++ marks (visit_part (visit m (n - (k + 1)) (k + 1)) k u rows)
-part_left m n k u rows true old is e = cc
-part_left m n k u rows false old is e = sym (append-nil old) ∙ ap (λ vs. old ++ marks vs) (sym (cond-false (same_front k (shared_by rows) u) _ _ (sym e)))
+      ap (λ vs. flat_map (λ v. part_acts (acts_from t (k + 1)) k u v (part_at k (named t nos) v)) vs) (drop_all i (codes_in k (named t nos)) (omega arith))

@@ -1,5 +1,5 @@
 -- What the rows of a part share, where a cell covers them.
-use Rattle.std.proofs.Common.{◌≡◌, ℕ, ◌<◌, true, false, Some, List, length, nat_eq, subst}
+use Rattle.std.proofs.Common.{◌≡◌, ℕ, suc, ◌<◌, ◌≤◌, true≢false, sym, ◌∙◌, arith, true, false, Some, List, length, nat_eq, subst}
 use Rattle.std.proofs.lemmas.Bool.{false_from_ne_true}
 use Rattle.std.specs.List.{AllByRecursion}
 use Rattle.cube_defs.specs.Cell.{Cell, leq, keep, cell_eq}
@@ -7,9 +7,11 @@ use Rattle.cube_defs.specs.Rows.{Row, covers}
 use Rattle.cube_laws.specs.Tuples.{cells_of}
 use Rattle.cube_laws.proofs.Cells.{nat_equality, cell_eq-exact, cell_eq-same}
 use Rattle.cube_laws.proofs.Closures.{all_cells, meet_all_above}
+use Rattle.tree_laws.proofs.Fronts.{keep-keep}
 use Rattle.cell_closure.proofs.Shared.{IsShared, entry}
-use Rattle.class_builder.specs.Walk.{same_front}
-use Rattle.class_builder.proofs.Fronts.{leq_entry, front_from_points, front_points}
+use Rattle.build_trace.specs.Walk.{same_front}
+use Rattle.build_trace.proofs.Fronts.{leq_entry}
+use Rattle.class_builder.proofs.Fronts.{front_from_points, front_less, front_points}
 
 abbrev pub AreCovered : Cell ℕ → List (Row ℕ) → Type 0
 AreCovered c rows = AllByRecursion (λ row. covers nat_eq c row ≡ true) rows
@@ -26,3 +28,10 @@ differs_at k j c d l h = false_from_ne_true _ (λ t. h (front_points k j c d (ce
 
 pub front_at : (k j : ℕ) (c d : Cell ℕ) → same_front k c d ≡ true → j < k → entry c j ≡ entry d j
 front_at k j c d t l = front_points k j c d (cell_eq-exact nat_equality _ _ t) l
+
+pub differs_behind : (j k : ℕ) (c d : Cell ℕ) → j < k → same_front (suc j) c d ≡ false → same_front k c d ≡ false
+differs_behind j k c d l h = false_from_ne_true _ (λ t. true≢false (sym (subst (λ x. cell_eq nat_eq (keep (suc j) c) x ≡ true) (front_less (suc j) k c d (omega arith) (cell_eq-exact nat_equality _ _ t)) (cell_eq-same nat_equality (keep (suc j) c))) ∙ h))
+
+-- a front is none of a cell that differs before it
+pub front_apart : (k n : ℕ) (c d : Cell ℕ) → k ≤ n → same_front k c d ≡ false → keep k (keep n c) ≡ keep k d → ⊥
+front_apart k n c d l h e = true≢false (sym (subst (λ x. cell_eq nat_eq (keep k c) x ≡ true) (sym (keep-keep k n c l) ∙ e) (cell_eq-same nat_equality (keep k c))) ∙ h)

@@ -1,12 +1,15 @@
-//! The classes of a table's rows.
+//! The tree of a table's rows, built by one walk.
 #![tactic(auto)]
 
-mod classes;
+mod labels;
+mod path;
+mod room;
 mod total;
+mod tree;
 mod upper;
 mod walk;
 
-pub use classes::list_classes;
+pub use tree::build_classes;
 
 /// Memory ran out.
 pub type Memory = std::alloc::AllocError;

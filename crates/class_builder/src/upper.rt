@@ -1,11 +1,12 @@
 // What the rows of a part share.
-ghost use Rattle.std.specs.Prelude.{None, Some, false, is_some, length, nat_eq, not, slice_index_or, true, if◌then◌else◌, ◌<◌, ◌≡◌};
+ghost use Rattle.std.specs.Prelude.{IfNone, IfSome, None, false, is_some, length, nat_eq, slice_index_or, suc, true, ◌<◌, ◌≡◌, ◌≤◌};
 ghost use Rattle.std.specs.List.{AllByRecursion};
+ghost use Rattle.cube_defs.specs.Cell.{keep};
 ghost use Rattle.cube_defs.specs.Rows.{covers};
 ghost use Rattle.cell_core.specs.Entry.{IsSmall, value_in};
 ghost use Rattle.base_table.specs.Places.{AreThere, IsTable, named};
 ghost use Rattle.cell_closure.specs.Shared.{shared_by};
-ghost use Rattle.class_builder.specs.Walk.{same_front};
+ghost use Rattle.build_trace.specs.Walk.{same_front};
 
 use base_table::{RowNo, Table};
 use cell_closure::shared_entry;
@@ -50,26 +51,30 @@ fn gains(table: &Table, rows: &[RowNo], upper: &Cell, dim: u8) -> bool
     }
 }
 
-/// Whether the rows share a value before the dimension that `upper`, which covers them, lacks.
-fn gains_before(table: &Table, rows: &[RowNo], upper: &Cell, dim: u8) -> bool
+/// The first dimension before `dim` in which the rows share a value where `upper`, which covers
+/// them, has Any. None where there is none.
+pub(crate) fn first_gain(table: &Table, rows: &[RowNo], upper: &Cell, dim: u8) -> Option<u8>
     requires table { IsTable table.now }
     requires some { 0 < length rows.now }
     requires there { AreThere table.now rows.now }
     requires covered { AllByRecursion (λ row. covers nat_eq upper.now row ≡ true) (named table.now rows.now) }
     requires long { length upper.now ≡ table.now.dims }
     requires dim { dim < table.now.dims }
-    ensures { result ≡ not (same_front dim (shared_by (named table.now rows.now)) upper.now) }
+    ensures none { IfNone result (same_front dim (shared_by (named table.now rows.now)) upper.now ≡ true) }
+    ensures before { IfSome result (λ at. at < dim) }
+    ensures front { IfSome result (λ at. same_front at (shared_by (named table.now rows.now)) upper.now ≡ true) }
+    ensures gains { IfSome result (λ at. same_front (suc at) (shared_by (named table.now rows.now)) upper.now ≡ false) }
 {
     'dims: for i in 0..dim {
         if gains(table, rows, upper, i) {
-            return true;
+            return Some(i);
         }
     }
-    false
+    None
 }
 
 /// What the rows share, who share no more before the dimension than `upper` has, and a value there.
-fn narrowed(table: &Table, rows: &[RowNo], upper: &Cell, dim: u8) -> Cell
+pub(crate) fn narrowed(table: &Table, rows: &[RowNo], upper: &Cell, dim: u8) -> Cell
     requires table { IsTable table.now }
     requires some { 0 < length rows.now }
     requires there { AreThere table.now rows.now }
@@ -89,21 +94,24 @@ fn narrowed(table: &Table, rows: &[RowNo], upper: &Cell, dim: u8) -> Cell
     next
 }
 
-/// What the rows share, where they share no more before the dimension than `upper` has, which
-/// covers them. They share a value in the dimension.
-pub(crate) fn upper_of(table: &Table, rows: &[RowNo], upper: &Cell, dim: u8) -> Option<Cell>
+/// The front with dimension `dim` of what the rows share, who share no more before dimension `at`
+/// than `upper` has. Behind it are the entries of `upper`.
+pub(crate) fn front_of(table: &Table, rows: &[RowNo], upper: &Cell, at: u8, dim: u8) -> Cell
     requires table { IsTable table.now }
     requires some { 0 < length rows.now }
     requires there { AreThere table.now rows.now }
     requires covered { AllByRecursion (λ row. covers nat_eq upper.now row ≡ true) (named table.now rows.now) }
     requires long { length upper.now ≡ table.now.dims }
+    requires at { at ≤ dim }
     requires dim { dim < table.now.dims }
-    requires value { is_some (slice_index_or (shared_by (named table.now rows.now)) dim None) ≡ true }
-    ensures { result ≡ (if same_front dim (shared_by (named table.now rows.now)) upper.now
-        then Some (shared_by (named table.now rows.now)) else None) }
+    requires front { same_front at (shared_by (named table.now rows.now)) upper.now ≡ true }
+    ensures front { keep (suc dim) result ≡ keep (suc dim) (shared_by (named table.now rows.now)) }
+    ensures dims { length result ≡ table.now.dims }
 {
-    if gains_before(table, rows, upper, dim) {
-        return None;
+    let mut front = upper.copy();
+    'dims: for i in at..dim + 1 {
+        let entry = entry_of(table, rows, upper, i);
+        front.set(i, entry);
     }
-    Some(narrowed(table, rows, upper, dim))
+    front
 }

@@ -1,0 +1,40 @@
+use Rattle.std.proofs.Common.{◌∷◌, [], Some, ap, true, false, subst, sym, ◌∙◌, ℕ}
+use Rattle.std.specs.FinMap as map
+use Rattle.std.specs.Option.{option_map}
+use Rattle.cube_defs.specs.Tree.{Edge}
+use Rattle.build_trace.specs.Trace.Act.{Label}
+use Rattle.qc_arena.specs.Edges.{with_edge}
+use Rattle.qc_arena.specs.Map.{with_forced}
+use Rattle.build_acts.specs.Going.{Does}
+use Rattle.build_acts.proofs.Steps.{does_label, some_there}
+use Rattle.build_acts.proofs.labels.put_label.Goals as goal
+
+pub returns-then-is_forced-clause-made : goal.returns-then-is_forced-clause-made
+returns-then-is_forced-clause-made g c = λ measures rows f t at target.
+    let a = c.args.arena.now in
+    let b = c.set_forced.new.self in
+    let k = c.args.node.0 in
+    let e : Edge ℕ ℕ = record { dim = c.args.dim; value = c.args.code; target = c.args.target.0 } in
+    let m = some_there (map.get a.now k) c.requires.node in
+    let edged = c.in-Ok.ensures.here ∙ ap (option_map (with_edge e)) m.1 in
+    subst (λ forced. Does measures rows (Label forced f c.args.dim c.args.code t ∷ []) a b) (sym c.if-is_forced.true)
+    (does_label measures rows a b k true f t c.args.dim c.args.code c.args.target.0 at target m.0 m.1
+    (record {
+      here = c.set_forced.ensures.here ∙ ap (option_map (with_forced (Some e))) edged;
+      others = λ q n. c.set_forced.ensures.others q n ∙ c.in-Ok.ensures.others q n;
+      opened = c.set_forced.ensures.opened;
+      width = c.set_forced.ensures.width ∙ c.in-Ok.ensures.width;
+    })
+    (λ q. c.set_forced.ensures.touched q ∙ c.in-Ok.ensures.touched q))
+
+pub returns-else-is_forced-clause-made : goal.returns-else-is_forced-clause-made
+returns-else-is_forced-clause-made g c = λ measures rows f t at target.
+    let a = c.args.arena.now in
+    let b = c.set_edge.new.self in
+    let k = c.args.node.0 in
+    let e : Edge ℕ ℕ = record { dim = c.args.dim; value = c.args.code; target = c.args.target.0 } in
+    let m = some_there (map.get a.now k) c.requires.node in
+    subst (λ forced. Does measures rows (Label forced f c.args.dim c.args.code t ∷ []) a b) (sym c.if-is_forced.false)
+    (does_label measures rows a b k false f t c.args.dim c.args.code c.args.target.0 at target m.0 m.1
+    (record { here = c.in-Ok.ensures.here ∙ ap (option_map (with_edge e)) m.1; others = c.in-Ok.ensures.others; opened = c.in-Ok.ensures.opened; width = c.in-Ok.ensures.width })
+    c.in-Ok.ensures.touched)

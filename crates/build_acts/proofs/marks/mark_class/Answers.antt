@@ -1,0 +1,14 @@
+use Rattle.std.proofs.Common.{Some, ap, ◌∙◌}
+use Rattle.std.specs.FinMap as map
+use Rattle.std.specs.Option.{option_map}
+use Rattle.aggregates.specs.Views.{agg_in}
+use Rattle.qc_arena.specs.Map.{with_class}
+use Rattle.build_acts.proofs.Steps.{does_mark, some_there}
+use Rattle.build_acts.proofs.marks.mark_class.Goals as goal
+
+pub returns-clause-made : goal.returns-clause-made
+returns-clause-made g c = λ measures rows w at.
+    let m = some_there (map.get c.args.arena.now.now c.args.node.0) c.requires.node in
+    does_mark measures rows c.args.arena.now c.set_class.new.self c.args.node.0 w (agg_in c.args.agg) at m.0 m.1
+    (record { here = c.set_class.ensures.here ∙ ap (option_map (with_class (Some (agg_in c.args.agg)))) m.1; others = c.set_class.ensures.others; opened = c.set_class.ensures.opened; width = c.set_class.ensures.width })
+    c.set_class.ensures.touched

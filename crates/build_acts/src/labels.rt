@@ -1,0 +1,77 @@
+// Edges to nodes that are there already.
+ghost use Rattle.std.specs.FinMap as map;
+ghost use Rattle.std.specs.Prelude.{IsSome, List, OnOk, Some, [], false, true, ℕ, ◌<◌, ◌∷◌, ◌≡◌};
+ghost use Rattle.cube_defs.specs.Cell.{Cell};
+ghost use Rattle.cube_defs.specs.Rows.{Row};
+ghost use Rattle.cube_defs.specs.Tree.{cell_at};
+ghost use Rattle.build_trace.specs.Trace.{Act.{Label}};
+ghost use Rattle.qc_arena.specs.Map.{is_touched, was_at};
+ghost use Rattle.build_acts.specs.Going.{Does};
+
+use crate::Memory;
+use cell_core::{Code, NodeNo, Steps};
+use qc_arena::{Forced, QcArena};
+use std::sync::ledger::Ledger;
+
+/// Sets an edge to a node that isn't the one with one value more.
+pub fn set_link<L: Ledger>(
+    arena: &mut QcArena,
+    node: NodeNo,
+    dim: u8,
+    code: Code,
+    target: NodeNo,
+    steps: &mut Steps<L>,
+) -> Result<(), Memory>
+    requires opened { arena.old.is_open ≡ true }
+    requires node { IsSome (map.get arena.old.now node.0) }
+    requires touched { is_touched arena.old node.0 ≡ true }
+    requires target { IsSome (map.get arena.old.now target.0) }
+    requires dim { dim < arena.old.width }
+    requires code { code < 4000000 }
+    ensures made { OnOk result ((measures : ℕ) (rows : List (Row ℕ)) (f t : Cell ℕ) → cell_at arena.old.now node.0 ≡ Some f → cell_at arena.old.now target.0 ≡ Some t
+        → Does measures rows (Label false f dim code t ∷ []) arena.old arena.new) }
+    ensures was { (q : ℕ) → was_at arena.new q ≡ was_at arena.old q }
+    ensures opened { arena.new.is_open ≡ true }
+    ensures width { arena.new.width ≡ arena.old.width }
+    ensures max { arena.new.max ≡ arena.old.max }
+{
+    put_label(arena, node, dim, code, target, false, steps)
+}
+
+// Sets an edge, to the forced child or not.
+pub(crate) fn put_label<L: Ledger>(
+    arena: &mut QcArena,
+    node: NodeNo,
+    dim: u8,
+    code: Code,
+    target: NodeNo,
+    is_forced: bool,
+    steps: &mut Steps<L>,
+) -> Result<(), Memory>
+    requires opened { arena.old.is_open ≡ true }
+    requires node { IsSome (map.get arena.old.now node.0) }
+    requires touched { is_touched arena.old node.0 ≡ true }
+    requires target { IsSome (map.get arena.old.now target.0) }
+    requires dim { dim < arena.old.width }
+    requires code { code < 4000000 }
+    ensures made { OnOk result ((measures : ℕ) (rows : List (Row ℕ)) (f t : Cell ℕ) → cell_at arena.old.now node.0 ≡ Some f → cell_at arena.old.now target.0 ≡ Some t
+        → Does measures rows (Label is_forced f dim code t ∷ []) arena.old arena.new) }
+    ensures was { (q : ℕ) → was_at arena.new q ≡ was_at arena.old q }
+    ensures opened { arena.new.is_open ≡ true }
+    ensures width { arena.new.width ≡ arena.old.width }
+    ensures max { arena.new.max ≡ arena.old.max }
+{
+    match arena.set_edge(node, dim, code, target, steps) {
+        Ok(()) => {}
+        Err(error) => return Err(error),
+    }
+    if is_forced {
+        let forced = Forced {
+            dim,
+            code,
+            child: target,
+        };
+        arena.set_forced(node, Some(forced), steps);
+    }
+    Ok(())
+}

@@ -1,0 +1,72 @@
+// Nodes are added.
+ghost use Rattle.std.specs.FinMap as map;
+ghost use Rattle.std.specs.Ordering.{nat_cmp};
+ghost use Rattle.std.specs.Prelude.{Err, IfOk, IsSome, List, None, OnOk, Some, [], length, replicate, true, ℕ, ◌<◌, ◌∷◌, ◌≡◌, ◌≢◌, ◌≤◌};
+ghost use Rattle.cube_defs.specs.Cell.{Cell, depth, with_value};
+ghost use Rattle.cube_defs.specs.Rows.{Row};
+ghost use Rattle.cube_defs.specs.Tree.{cell_at, nodes};
+ghost use Rattle.build_trace.specs.Trace.{Act.{Add, Label}};
+ghost use Rattle.qc_arena.specs.Map.{is_touched, was_at};
+ghost use Rattle.qc_arena.specs.Seen.{record_at};
+ghost use Rattle.build_acts.specs.Going.{Does, IsNext};
+
+use crate::labels::put_label;
+use cell_core::{Code, NodeNo, Steps};
+use qc_arena::{ArenaRefused, QcArena};
+use std::sync::ledger::Ledger;
+
+/// Adds the node without values.
+pub fn add_root<L: Ledger>(
+    arena: &mut QcArena,
+    steps: &mut Steps<L>,
+) -> Result<NodeNo, ArenaRefused>
+    requires opened { arena.old.is_open ≡ true }
+    requires none { (k : ℕ) → cell_at arena.old.now k ≢ Some (replicate arena.old.width None) }
+    ensures made { OnOk result ((measures : ℕ) (rows : List (Row ℕ)) → Does measures rows (Add (replicate arena.old.width None) ∷ []) arena.old arena.new) }
+    ensures here { IfOk result (λ k. cell_at arena.new.now k.0 ≡ Some (replicate arena.old.width None)) }
+    ensures full { result ≡ Err ArenaRefused.Full → (measures : ℕ) (rows : List (Row ℕ)) → IsNext measures rows (Add (replicate arena.old.width None) ∷ []) arena.old
+        → arena.old.max < length (nodes nat_cmp rows) }
+    ensures was { (q : ℕ) → was_at arena.new q ≡ was_at arena.old q }
+    ensures opened { arena.new.is_open ≡ true }
+    ensures width { arena.new.width ≡ arena.old.width }
+    ensures max { arena.new.max ≡ arena.old.max }
+{
+    arena.add_node(None, steps)
+}
+
+/// Adds the node with one value more than its parent, and the edge that leads to it, to the forced
+/// child or not.
+pub fn add_child<L: Ledger>(
+    arena: &mut QcArena,
+    parent: NodeNo,
+    dim: u8,
+    code: Code,
+    is_forced: bool,
+    steps: &mut Steps<L>,
+) -> Result<NodeNo, ArenaRefused>
+    requires opened { arena.old.is_open ≡ true }
+    requires parent { IsSome (map.get arena.old.now parent.0) }
+    requires touched { is_touched arena.old parent.0 ≡ true }
+    requires behind { depth (record_at arena.old.now parent.0).cell ≤ dim }
+    requires dim { dim < arena.old.width }
+    requires code { code < 4000000 }
+    ensures made { OnOk result ((measures : ℕ) (rows : List (Row ℕ)) (f : Cell ℕ) → cell_at arena.old.now parent.0 ≡ Some f
+        → Does measures rows (Add (with_value f dim code) ∷ Label is_forced f dim code (with_value f dim code) ∷ []) arena.old arena.new) }
+    ensures here { IfOk result (λ k. (f : Cell ℕ) → cell_at arena.old.now parent.0 ≡ Some f → cell_at arena.new.now k.0 ≡ Some (with_value f dim code)) }
+    ensures full { result ≡ Err ArenaRefused.Full → (measures : ℕ) (rows : List (Row ℕ)) (f : Cell ℕ) → cell_at arena.old.now parent.0 ≡ Some f
+        → IsNext measures rows (Add (with_value f dim code) ∷ Label is_forced f dim code (with_value f dim code) ∷ []) arena.old
+        → arena.old.max < length (nodes nat_cmp rows) }
+    ensures was { (q : ℕ) → was_at arena.new q ≡ was_at arena.old q }
+    ensures opened { arena.new.is_open ≡ true }
+    ensures width { arena.new.width ≡ arena.old.width }
+    ensures max { arena.new.max ≡ arena.old.max }
+{
+    let child = match arena.add_node(Some((parent, dim, code)), steps) {
+        Ok(child) => child,
+        Err(error) => return Err(error),
+    };
+    match put_label(arena, parent, dim, code, child, is_forced, steps) {
+        Ok(()) => Ok(child),
+        Err(_) => Err(ArenaRefused::Memory),
+    }
+}

@@ -1,0 +1,4 @@
+pub mod Walk
+pub mod Trace
+pub mod Follows
+pub mod Ready

@@ -1,0 +1,19 @@
+use Rattle.std.proofs.Common.{◌∙◌, sym, ap, suc, arith}
+use Rattle.cell_closure.proofs.Shared.{entry}
+use Rattle.cell_closure.proofs.Rows.{there}
+use Rattle.cell_closure.proofs.Closing.{shared_long}
+use Rattle.class_builder.proofs.Fronts.{front_from_points}
+use Rattle.class_builder.proofs.Uppers.{front_at}
+use Rattle.class_builder.proofs.upper.front_of.Goals as goal
+
+pub dims-init : goal.dims-init
+dims-init c = record {
+  long = c.copy-front.ensures.dims ∙ c.requires.long;
+  done = λ j l. ap (λ d. entry d j) c.copy-front.ensures.value ∙ sym (front_at c.args.at j _ c.args.upper.now c.requires.front l);
+}
+
+pub returns : goal.returns
+returns c = record {
+  front = front_from_points (suc c.args.dim) c.dims.front _ (c.dims.invariant.long ∙ sym (shared_long c.args.table.now c.requires.table c.args.rows.now (there c.args.table.now c.args.rows.now c.requires.there) c.requires.some)) (λ j l. c.dims.invariant.done j (omega arith));
+  dims = c.dims.invariant.long;
+}

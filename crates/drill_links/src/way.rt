@@ -1,0 +1,34 @@
+// The way down to a node that is there.
+ghost use Rattle.std.specs.Prelude.{Some, length, suc, ◌<◌, ◌≡◌};
+ghost use Rattle.cube_defs.specs.Cell.{keep};
+ghost use Rattle.cube_defs.specs.Tree.{cell_at};
+ghost use Rattle.drill_links.specs.Way.{IsWay};
+
+use cell_core::{Cell, Entry, NodeNo, Steps};
+use qc_arena::{Nodes, QcArena};
+use std::sync::ledger::Ledger;
+
+/// The node of the target's front with the last dimension, gone down to from that of its front
+/// before the first one.
+pub fn descend<L: Ledger>(
+    arena: &QcArena,
+    from: NodeNo,
+    target: &Cell,
+    first: u8,
+    last: u8,
+    steps: &mut Steps<L>,
+) -> NodeNo
+    requires way { IsWay arena.now target.now first last from.0 }
+    requires long { length target.now ≡ arena.now.width }
+    requires last { last < arena.now.width }
+    ensures { cell_at arena.now.now result.0 ≡ Some (keep (suc last) target.now) }
+{
+    let mut node = from;
+    'down: for dim in first..=last {
+        match target.get(dim) {
+            Entry::Any => {}
+            Entry::Is(code) => node = arena.edge(node, dim, code, steps).unwrap(),
+        }
+    }
+    node
+}
