@@ -1,0 +1,18 @@
+//! The lower bounds of a class: the least cells whose closure is the class, found by searches in a
+//! tree of nodes.
+#![tactic(auto)]
+
+mod bounds;
+mod closed;
+mod least;
+mod marks;
+mod numbers;
+
+pub use bounds::lower_bounds;
+use std::alloc::AllocError;
+
+/// Memory ran out.
+type Memory = AllocError;
+
+#[cfg(test)]
+mod tests;
