@@ -1,17 +1,18 @@
 -- The causes in their order, as the passes over a batch find them.
-use Rattle.std.proofs.Common.{◌≡◌, ◌+◌, ◌∙◌, ℕ, List, ◌++◌, Bool, true, false, Option, Some, None, length, map, nat_lt, refl, sym, ap, ap₂}
+use Rattle.std.proofs.Common.{◌≡◌, ◌<◌, ◌≤◌, ◌+◌, ◌∙◌, ℕ, List, ◌++◌, Bool, true, false, Option, Some, None, length, map, nat_lt, is_some, refl, sym, ap, ap₂, arith}
 use Rattle.std.specs.Prelude.{option_map, not}
 use Rattle.std.proofs.lemmas.List.{length-append}
 use Rattle.cube_defs.specs.Rows.{Row}
-use Rattle.cube_defs.specs.Text.{Text}
+use Rattle.cube_defs.specs.Text.{Text, text_cmp}
+use Rattle.cube_defs.specs.Tree.{nodes}
 use Rattle.csv_load.specs.Batch.{Change, Delete, Insert, deleted, inserted}
 use Rattle.base_table.specs.Places.{Places, rows_of}
 use Rattle.qc_schema.specs.Schema.{Layout}
 use Rattle.value_dict.specs.TextLists.{TextLists}
 use Rattle.warehouse.specs.Batch as batches
-use Rattle.warehouse.specs.Batch.{first_number, first_twice, full_dim, is_among, is_missing, is_present, refusal_of, rows_after, texts_after}
+use Rattle.warehouse.specs.Batch.{Refusal, first_number, first_twice, full_dim, is_among, is_missing, is_present, or_else, refusal_of, rows_after, texts_after}
 use Rattle.warehouse.specs.State.{State, ids_of}
-use Rattle.warehouse.specs.Steps.{is_there}
+use Rattle.warehouse.specs.Steps.{is_there, last_refusal}
 use Rattle.warehouse.specs.Stored.{decoded_row, state_of}
 use Rattle.warehouse.proofs.Changes.{number-same}
 use Rattle.warehouse.proofs.Decoding.{filter-decoded, ids-decoded, length-rows}
@@ -30,8 +31,13 @@ cause-rows s changes once there new full = rw (once, there, new, full) refl
 
 pub cause-values : (s : State) (changes : List (Change Text)) → first_twice changes ≡ None → first_number (is_missing (ids_of s.rows)) changes ≡ None
     → first_number (is_present (ids_of s.rows) (deleted changes)) changes ≡ None → nat_lt s.schema.rows (length (rows_after s.rows changes)) ≡ false
-    → refusal_of s changes ≡ option_map (λ dim. batches.ValuesFull dim) (full_dim s.schema.values (texts_after s.texts changes))
+    → refusal_of s changes ≡ or_else (option_map (λ dim. batches.ValuesFull dim) (full_dim s.schema.values (texts_after s.texts changes))) (last_refusal s changes)
 cause-values s changes once there new room = rw (once, there, new, room) refl
+
+-- a cause that is there goes before those behind it
+pub first-cause : (f : ℕ → Refusal) (o : Option ℕ) (second : Option Refusal) → is_some o ≡ true → or_else (option_map f o) second ≡ option_map f o
+first-cause f None second is = cc
+first-cause f (Some x) second is = refl
 
 -- these ids are those of the rows with their texts
 pub missing-decoded : (lists : List (List Text)) (rows : List (Row ℕ)) (changes : List (Change Text)) → first_number (is_missing (ids_of (map (decoded_row lists) rows))) changes ≡ first_number (is_missing (ids_of rows)) changes
@@ -60,13 +66,28 @@ count-decoded lists rows rows' changes left =
     ∙ length-append (map (decoded_row lists) rows') (inserted changes)
     ∙ ap (λ (n : ℕ). n + length (inserted changes)) (length-rows lists rows')
 
--- what is left where only texts can be too many
+-- what is left where only texts and nodes can be too many
 pub passed : (schema : Layout) (dict : TextLists) (table left : Places) (changes : List (Change Text)) (present : Option ℕ) (most : ℕ) (full : Bool)
     → first_twice changes ≡ None → first_number (is_missing (ids_of (rows_of table))) changes ≡ None → rows_of left ≡ kept (deleted changes) (rows_of table)
     → present ≡ first_number (is_there (rows_of left)) changes → present ≡ None → most ≡ schema.rows → full ≡ nat_lt most (length (rows_of left) + length (inserted changes)) → full ≡ false
-    → refusal_of (state_of schema dict table) changes ≡ option_map (λ dim. batches.ValuesFull dim) (full_dim schema.values (texts_after dict.lists changes))
+    → refusal_of (state_of schema dict table) changes ≡ or_else (option_map (λ dim. batches.ValuesFull dim) (full_dim schema.values (texts_after dict.lists changes))) (last_refusal (state_of schema dict table) changes)
 passed schema dict table left changes present most full once none rows is_present new is_most is_full room =
     cause-values (state_of schema dict table) changes once
     (missing-decoded dict.lists (rows_of table) changes ∙ none)
     (present-decoded dict.lists (rows_of table) (rows_of left) changes rows ∙ sym is_present ∙ new)
     (ap₂ nat_lt (sym is_most) (count-decoded dict.lists (rows_of table) (rows_of left) changes rows) ∙ sym is_full ∙ room)
+
+-- whether there are too many nodes, by those of the rows after the changes
+module _ (s : State) (changes : List (Change Text)) (rows : List (Row Text)) (count : ℕ) (are : rows ≡ rows_after s.rows changes) (is : count ≡ length (nodes text_cmp rows)) where
+  is-over : nat_lt s.schema.nodes (length (nodes text_cmp (rows_after s.rows changes))) ≡ nat_lt s.schema.nodes count
+  is-over = ap (λ (rs : List (Row Text)). nat_lt s.schema.nodes (length (nodes text_cmp rs))) (sym are) ∙ ap (nat_lt s.schema.nodes) (sym is)
+
+  pub last-none : count ≤ s.schema.nodes → last_refusal s changes ≡ None
+  last-none fits =
+      let test : nat_lt s.schema.nodes count ≡ false = grind (arith, fits) in
+      rw (is-over, test) refl
+
+  pub last-full : s.schema.nodes < count → last_refusal s changes ≡ Some batches.NodesFull
+  last-full over =
+      let test : nat_lt s.schema.nodes count ≡ true = grind (arith, over) in
+      rw (is-over, test) refl

@@ -1,22 +1,59 @@
--- Rows of texts have as many classes as their codes.
+-- Rows of texts have as many classes, nodes and edges as their codes, and as the tree that is kept.
 use Rattle.std.proofs.Common.{◌≡◌, ◌∙◌, ℕ, List, length, map, sym, ap}
+use Rattle.std.specs.List.{All, IsDistinct}
 use Rattle.std.specs.Ordering.{nat_cmp}
+use Rattle.std.specs.Str.{bytes_eq}
 use Rattle.std.specs.Cmp.{nat_cmp_total}
 use Rattle.std.specs.Cmp.Lexicographic.{lists_total}
+use Rattle.std.specs.FinMap as finmap
 use Rattle.std.specs.FinMap.{nat_cmp-IsAntisymmetric, slice_cmp-IsAntisymmetric}
-use Rattle.base_table.specs.Places.{Places, rows_of}
 use Rattle.cube_defs.specs.Rows.{Row}
-use Rattle.cube_defs.specs.Text.{text_cmp}
-use Rattle.cube_defs.specs.Tree.{classes}
-use Rattle.qc_schema.specs.Schema.{Layout}
-use Rattle.tree_laws.proofs.RecodedCounts.{classes_as_many}
-use Rattle.value_dict.specs.TextLists.{TextLists}
-use Rattle.warehouse.specs.Stored.{IsStored, decoded_rows}
+use Rattle.cube_defs.specs.Text.{Text, text_cmp}
+use Rattle.cube_defs.specs.Tree.{Tree, classes, links, nodes, tree_edges}
+use Rattle.tree_search.specs.Found.{IsFrom}
+use Rattle.cube_laws.specs.Recoding.{coded_row}
+use Rattle.tree_laws.specs.Counts.{classes_in, links_in, tree_edges_in}
+use Rattle.tree_laws.proofs.Counted.{classes_counted, links_counted, nodes_counted, tree_edges_counted}
+use Rattle.tree_laws.proofs.RecodedCounts.{classes_as_many, links_as_many, nodes_as_many, tree_edges_as_many}
+use Rattle.warehouse.specs.State.{place_in}
+use Rattle.warehouse.specs.Stored.{RowsAreCodes, decoded_row}
 use Rattle.warehouse.proofs.Apart.{places-apart}
 use Rattle.warehouse.proofs.Decoding.{rows-back, rows-known}
 
-pub classes-decoded : (schema : Layout) (dict : TextLists) (table : Places) → IsStored schema dict table → length (classes nat_cmp (rows_of table)) ≡ length (classes text_cmp (decoded_rows dict.lists table))
-classes-decoded schema dict table is =
-    ap (λ (rows : List (Row ℕ)). length (classes nat_cmp rows)) (sym (rows-back dict.lists (rows_of table) is.known is.dictionary.distinct))
-    ∙ classes_as_many (lists_total nat_cmp_total) (slice_cmp-IsAntisymmetric nat_cmp-IsAntisymmetric) nat_cmp_total nat_cmp-IsAntisymmetric (places-apart dict.lists)
-    (decoded_rows dict.lists table) (rows-known dict.lists (rows_of table) is.known)
+module _ (lists : List (List Text)) (rows : List (Row ℕ)) (known : RowsAreCodes lists rows) (distinct : All (IsDistinct bytes_eq) lists) where
+  -- what is counted of the codes is counted of the coded texts
+  again : (count : List (Row ℕ) → ℕ) → count rows ≡ count (map (coded_row (place_in lists)) (map (decoded_row lists) rows))
+  again count = ap count (sym (rows-back lists rows known distinct))
+
+  pub classes-decoded : length (classes nat_cmp rows) ≡ length (classes text_cmp (map (decoded_row lists) rows))
+  classes-decoded =
+      again (λ rows. length (classes nat_cmp rows))
+      ∙ classes_as_many (lists_total nat_cmp_total) (slice_cmp-IsAntisymmetric nat_cmp-IsAntisymmetric) nat_cmp_total nat_cmp-IsAntisymmetric (places-apart lists) (map (decoded_row lists) rows) (rows-known lists rows known)
+
+  pub nodes-decoded : length (nodes nat_cmp rows) ≡ length (nodes text_cmp (map (decoded_row lists) rows))
+  nodes-decoded =
+      again (λ rows. length (nodes nat_cmp rows))
+      ∙ nodes_as_many (lists_total nat_cmp_total) (slice_cmp-IsAntisymmetric nat_cmp-IsAntisymmetric) nat_cmp_total nat_cmp-IsAntisymmetric (places-apart lists) (map (decoded_row lists) rows) (rows-known lists rows known)
+
+  pub tree_edges-decoded : tree_edges nat_cmp rows ≡ tree_edges text_cmp (map (decoded_row lists) rows)
+  tree_edges-decoded =
+      again (λ rows. tree_edges nat_cmp rows)
+      ∙ tree_edges_as_many (lists_total nat_cmp_total) (slice_cmp-IsAntisymmetric nat_cmp-IsAntisymmetric) nat_cmp_total nat_cmp-IsAntisymmetric (places-apart lists) (map (decoded_row lists) rows) (rows-known lists rows known)
+
+  pub links-decoded : links nat_cmp rows ≡ links text_cmp (map (decoded_row lists) rows)
+  links-decoded =
+      again (λ rows. links nat_cmp rows)
+      ∙ links_as_many (lists_total nat_cmp_total) (slice_cmp-IsAntisymmetric nat_cmp-IsAntisymmetric) nat_cmp_total nat_cmp-IsAntisymmetric (places-apart lists) (map (decoded_row lists) rows) (rows-known lists rows known)
+
+  module _ (dims measures : ℕ) (tree : Tree ℕ) (from : IsFrom dims tree (record { measures = measures; rows = rows })) where
+    pub classes-kept : classes_in nat_cmp tree ≡ length (classes text_cmp (map (decoded_row lists) rows))
+    classes-kept = classes_counted nat_cmp_total nat_cmp-IsAntisymmetric dims measures rows from.wide tree from.canonical ∙ classes-decoded
+
+    pub nodes-kept : finmap.len tree ≡ length (nodes text_cmp (map (decoded_row lists) rows))
+    nodes-kept = nodes_counted nat_cmp_total nat_cmp-IsAntisymmetric dims measures rows from.wide tree from.canonical ∙ nodes-decoded
+
+    pub tree_edges-kept : tree_edges_in nat_cmp tree ≡ tree_edges text_cmp (map (decoded_row lists) rows)
+    tree_edges-kept = tree_edges_counted nat_cmp_total nat_cmp-IsAntisymmetric dims measures rows from.wide tree from.canonical ∙ tree_edges-decoded
+
+    pub links-kept : links_in nat_cmp tree ≡ links text_cmp (map (decoded_row lists) rows)
+    links-kept = links_counted nat_cmp_total nat_cmp-IsAntisymmetric dims measures rows from.wide tree from.canonical ∙ links-decoded

@@ -9,4 +9,5 @@ pub mod Texts
 pub mod Values
 pub mod Rows
 pub mod States
-pub mod Sums
+pub mod Targets
+pub mod Trees

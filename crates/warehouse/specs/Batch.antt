@@ -3,7 +3,7 @@ use Rattle.std.specs.Prelude.{ℕ, suc, ◌+◌, ◌==◌, ◌&&◌, Bool, false
 use Rattle.std.specs.List.{list_any}
 use Rattle.cube_defs.specs.Text.{Text, text_cmp}
 use Rattle.cube_defs.specs.Rows.{Row}
-use Rattle.cube_defs.specs.Tree.{classes}
+use Rattle.cube_defs.specs.Tree.{classes, nodes}
 use Rattle.csv_load.specs.Files.{base_in, batch_in}
 use Rattle.csv_load.specs.Batch.{Change, Delete, Insert, deleted, inserted}
 use Rattle.csv_load.specs.Faults.{Fault}
@@ -24,6 +24,7 @@ pub data Refusal : Type 0 where
   Present : ℕ → Refusal
   RowsFull : Refusal
   ValuesFull : ℕ → Refusal
+  NodesFull : Refusal
 
 abbrev pub is_among : ℕ → List ℕ → Bool
 is_among id ids = list_any (λ other. other == id) ids
@@ -91,7 +92,8 @@ refusal_of s changes =
     (or_else (option_map (λ k. Missing k) (first_number (is_missing (ids_of s.rows)) changes))
     (or_else (option_map (λ k. Present k) (first_number (is_present (ids_of s.rows) (deleted changes)) changes))
     (or_else (if nat_lt s.schema.rows (length (rows_after s.rows changes)) then Some RowsFull else None)
-    (option_map (λ dim. ValuesFull dim) (full_dim s.schema.values (texts_after s.texts changes))))))
+    (or_else (option_map (λ dim. ValuesFull dim) (full_dim s.schema.values (texts_after s.texts changes)))
+    (if nat_lt s.schema.nodes (length (nodes text_cmp (rows_after s.rows changes))) then Some NodesFull else None)))))
 
 -- the state after some changes
 abbrev pub after : State → List (Change Text) → State

@@ -4,9 +4,11 @@ use Rattle.std.specs.List.{All, IsDistinct, list_any, position_or_len}
 use Rattle.std.specs.Str.{bytes_eq}
 use Rattle.cube_defs.specs.Text.{Text}
 use Rattle.cube_defs.specs.Rows.{Row}
+use Rattle.cube_defs.specs.Tree.{Tree}
 use Rattle.cube_laws.specs.Recoding.{coded_row, RowsAreKnown}
 use Rattle.csv_load.specs.Batch.{IsLoaded, IsValue}
 use Rattle.qc_schema.specs.Schema.{Layout, IsLayout}
+use Rattle.tree_search.specs.Found.{Source, IsFrom}
 
 -- a schema, the rows in the order in which they were accepted, and for each dimension the texts that were ever accepted, in that order
 pub record State : Type 0 where
@@ -45,3 +47,17 @@ pub record IsState (s : State) : Type 0 where
   pub distinct : All (IsDistinct bytes_eq) s.texts
   pub few_texts : All (λ texts. length texts ≤ s.schema.values) s.texts
   pub known : RowsAreKnown (has_text s.texts) s.rows
+
+-- a state, and the tree that is kept of its rows
+pub record Held : Type 0 where
+  pub state : State
+  pub tree : Tree ℕ
+
+-- the rows with codes for their texts
+abbrev pub source_of : State → Source
+source_of s = record { measures = length s.schema.measures; rows = coded s }
+
+-- what is true of every warehouse: the tree is the canonical tree of the rows
+pub record IsHeld (held : Held) : Type 0 where
+  pub state : IsState held.state
+  pub tree : IsFrom (length held.state.schema.dims) held.tree (source_of held.state)

@@ -1,14 +1,15 @@
 -- The steps of a change, as far as they have come.
-use Rattle.std.specs.Prelude.{ℕ, ◌≡◌, Bool, true, false, List, [], length, map, fold, is_some, slice_index_or, Some, None, option_map, ⊤}
+use Rattle.std.specs.Prelude.{ℕ, ◌≡◌, Bool, true, false, List, [], length, map, fold, is_some, nat_lt, slice_index_or, Option, Some, None, option_map, if◌then◌else◌, ⊤}
 use Rattle.std.specs.List.{All}
 use Rattle.cube_defs.specs.Cell.{Cell}
 use Rattle.cube_defs.specs.Rows.{Row}
-use Rattle.cube_defs.specs.Text.{Text}
+use Rattle.cube_defs.specs.Text.{Text, text_cmp}
+use Rattle.cube_defs.specs.Tree.{nodes}
 use Rattle.base_table.specs.Places.{Places, has_id, values_of}
 use Rattle.csv_load.specs.Batch.{Change, Delete, Insert, deleted, inserted}
 use Rattle.value_dict.specs.TextLists.{cut, learnt_in}
 use Rattle.warehouse.specs.Batch as batches
-use Rattle.warehouse.specs.Batch.{full_dim, refusal_of, texts_after, with_tuple}
+use Rattle.warehouse.specs.Batch.{Refusal, full_dim, refusal_of, rows_after, texts_after, with_tuple}
 use Rattle.warehouse.specs.State.{State, ids_of}
 use Rattle.warehouse.specs.Stored.{AreCodes, decoded}
 use Rattle.warehouse.specs.declared.changing.Stopped.{Stopped}
@@ -52,6 +53,10 @@ column_after texts dim changes = fold learnt_in texts (map (λ row. slice_index_
 abbrev pub IsOver : ℕ → List (List Text) → Type 0
 IsOver max lists = is_some (full_dim max lists) ≡ true
 
+-- the last of the causes: what is refused where there is no other
+abbrev pub last_refusal : State → List (Change Text) → Option Refusal
+last_refusal s changes = if nat_lt s.schema.nodes (length (nodes text_cmp (rows_after s.rows changes))) then Some batches.NodesFull else None
+
 -- why changes weren't made to a state
 abbrev pub IsCause : Stopped → State → List (Change Text) → Type 0
 IsCause (stops.Missing k) s changes = refusal_of s changes ≡ Some (batches.Missing k)
@@ -60,4 +65,5 @@ IsCause stops.RowsFull s changes = refusal_of s changes ≡ Some batches.RowsFul
 IsCause stops.ValuesFull s changes =
     (refusal_of s changes ≡ option_map (λ dim. batches.ValuesFull dim) (full_dim s.schema.values (texts_after s.texts changes)))
     × IsOver s.schema.values (texts_after s.texts changes)
+IsCause stops.NodesFull s changes = refusal_of s changes ≡ Some batches.NodesFull
 IsCause stops.Memory s changes = ⊤

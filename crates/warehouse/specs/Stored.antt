@@ -1,12 +1,14 @@
--- How a warehouse keeps its state: rows of codes beside a dictionary.
-use Rattle.std.specs.Prelude.{ℕ, ◌≡◌, ◌<◌, List, [], ◌∷◌, length, map, slice_index_or, Option, Some, None, ⊤}
+-- How a warehouse keeps its state: rows of codes beside a dictionary, and the tree of the rows.
+use Rattle.std.specs.Prelude.{ℕ, ◌≡◌, ◌<◌, List, [], ◌∷◌, false, length, map, slice_index_or, Option, Some, None, ⊤}
 use Rattle.std.specs.List.{All}
 use Rattle.cube_defs.specs.Text.{Text}
 use Rattle.cube_defs.specs.Rows.{Row}
 use Rattle.base_table.specs.Places.{IsTable, Places, rows_of}
 use Rattle.csv_load.specs.Batch.{IsValue}
 use Rattle.csv_load.specs.Faults as files
+use Rattle.qc_arena.specs.Map.{Arena}
 use Rattle.qc_schema.specs.Schema.{Layout, IsLayout}
+use Rattle.tree_search.specs.Found.{IsFrom}
 use Rattle.value_dict.specs.TextLists.{IsDictionary, TextLists}
 use Rattle.warehouse.specs.Batch as batches
 use Rattle.warehouse.specs.State.{State}
@@ -55,6 +57,13 @@ pub record IsStored (schema : Layout) (dict : TextLists) (table : Places) : Type
   pub dictionary : IsDictionary dict
   pub are_rows : IsTable table
 
+-- the tree that is kept is that of the rows
+pub record IsKept (schema : Layout) (table : Places) (tree : Arena) : Type 0 where
+  pub closed : tree.is_open ≡ false
+  pub width : tree.width ≡ length schema.dims
+  pub max : tree.max ≡ schema.nodes
+  pub from : IsFrom (length schema.dims) tree.now (record { measures = length schema.measures; rows = rows_of table })
+
 -- what a refusal of the code says, but for want of memory
 abbrev pub refusal_in : Refused → Option batches.Refusal
 refusal_in refusals.NotEmpty = Some batches.NotEmpty
@@ -70,4 +79,5 @@ refusal_in (refusals.Missing k) = Some (batches.Missing k)
 refusal_in (refusals.Present k) = Some (batches.Present k)
 refusal_in refusals.RowsFull = Some batches.RowsFull
 refusal_in (refusals.ValuesFull dim) = Some (batches.ValuesFull dim)
+refusal_in refusals.NodesFull = Some batches.NodesFull
 refusal_in refusals.Memory = None

@@ -1,25 +1,27 @@
-// Changes are made to rows and texts, all of them or none.
+// Changes are made to rows and texts, all of them or none, and the tree is made anew.
 ghost use Rattle.std.specs.Prelude.{Err, IfErr, IfOk, IfSome, None, Ok, OnErr, OnOk, Some, [], false, filter, is_some, length, map, not, true, ◌+◌, ◌++◌, ◌<◌, ◌∷◌, ◌≡◌, ◌≤◌};
 ghost use Rattle.base_table.specs.Places.{has_id, rows_of};
 ghost use Rattle.csv_load.specs.Batch.{IsBatch, change_at, deleted, id_of, inserted, is_deletion, row_of};
-ghost use Rattle.cube_defs.specs.Tree.{classes};
+ghost use Rattle.cube_defs.specs.Tree.{nodes};
 ghost use Rattle.std.specs.Ordering.{nat_cmp};
 ghost use Rattle.value_dict.specs.TextLists.{IsDictionary};
 ghost use Rattle.warehouse.specs.Batch.{after, first_number, first_twice, is_among, is_missing, refusal_of, result_of, texts_after, with_tuple};
 ghost use Rattle.warehouse.specs.State.{State, ids_of};
-ghost use Rattle.warehouse.specs.Steps.{AreLonger, IsCause, IsOver, closed, frame, is_there};
-ghost use Rattle.warehouse.specs.Stored.{IsStored, RowsAreCodes, decoded_rows, refusal_in, state_of};
+ghost use Rattle.warehouse.specs.Steps.{AreLonger, IsCause, IsOver, closed, frame, is_there, last_refusal};
+ghost use Rattle.warehouse.specs.Stored.{IsKept, IsStored, RowsAreCodes, decoded_rows, refusal_in, state_of};
 
-use crate::Memory;
 use crate::checks::{first_present, first_repeat, is_full};
 use crate::learning::{learn_tuple, lengths, values_full};
 use crate::refused::{Applied, Refused};
 use base_table::{Table, TableRefused};
-use cell_core::Cell;
-use class_builder::list_classes;
+use cell_core::{Cell, Steps};
+use class_builder::build_classes;
 use csv_load::RawBatch;
+use drill_links::link_all;
+use qc_arena::{ArenaRefused, QcArena};
 use qc_schema::Schema;
-use std::alloc::{AllocError, Global};
+use std::alloc::Global;
+use std::sync::ledger::Ledger;
 use value_dict::{Dict, Learn};
 
 /// Why changes were not made.
@@ -29,6 +31,7 @@ pub(crate) enum Stopped {
     Present(u32),
     RowsFull,
     ValuesFull,
+    NodesFull,
     Memory,
 }
 
@@ -148,7 +151,7 @@ fn change_rows(
     requires dims { batch.now.dims ≡ length schema.now.dims }
     requires measures { batch.now.measures ≡ length schema.now.measures }
     requires once { first_twice batch.now.changes ≡ None }
-    ensures none { OnOk result (refusal_of (state_of schema.now dict.old table.old) batch.now.changes ≡ None) }
+    ensures last { OnOk result (refusal_of (state_of schema.now dict.old table.old) batch.now.changes ≡ last_refusal (state_of schema.now dict.old table.old) batch.now.changes) }
     ensures made { OnOk result (state_of schema.now dict.new table.new ≡ after (state_of schema.now dict.old table.old) batch.now.changes) }
     ensures known { OnOk result (RowsAreCodes dict.new.lists (rows_of table.new)) }
     ensures cause { IfErr result (λ stopped. IsCause stopped (state_of schema.now dict.old table.old) batch.now.changes) }
@@ -175,26 +178,83 @@ fn change_rows(
     }
 }
 
-// How many classes of cells the rows have.
-fn count_classes(alloc: Global, table: &Table) -> Result<u32, Memory>
-    ensures { IfOk result (λ count. count ≡ length (classes nat_cmp (rows_of table.now))) }
+// The tree of the table's rows, made anew.
+fn tree_of<L: Ledger>(
+    schema: &Schema,
+    table: &Table,
+    alloc: Global,
+    steps: &mut Steps<L>,
+) -> Result<QcArena, ArenaRefused>
+    requires dims { table.now.dims ≡ length schema.now.dims }
+    requires measures { table.now.measures ≡ length schema.now.measures }
+    ensures tree { IfOk result (λ tree. IsKept schema.now table.now tree) }
+    ensures fits { OnOk result (length (nodes nat_cmp (rows_of table.now)) ≤ schema.now.nodes) }
+    ensures full { result ≡ Err ArenaRefused.Full → schema.now.nodes < length (nodes nat_cmp (rows_of table.now)) }
 {
-    let list = list_classes(alloc, table)?;
-    match u32::try_from(list.len()) {
-        Ok(count) => Ok(count),
-        Err(_) => Err(AllocError),
+    let Ok(mut tree) = QcArena::new(alloc, schema.dims(), schema.nodes()) else {
+        return Err(ArenaRefused::Memory);
+    };
+    tree.begin();
+    match build_classes(alloc, table, &mut tree, steps) {
+        Ok(()) => {}
+        Err(refused) => return Err(refused),
     }
+    match link_all(alloc, table, &mut tree, steps) {
+        Ok(()) => {}
+        Err(_) => return Err(ArenaRefused::Memory),
+    }
+    tree.commit();
+    // The count is not needed, but what it says of every table.
+    let _rows = table.count();
+    Ok(tree)
 }
 
-// Makes the changes in a batch of their own, and counts the classes after them. After a refusal the
-// rows are as they were, and some texts are learnt.
-fn change_table(
+// Makes the changes in a batch that is open, and the tree of the rows after them. After a refusal some
+// of them are made.
+fn change_and_build<L: Ledger>(
     schema: &Schema,
     table: &mut Table,
     dict: &mut Dict,
     batch: &RawBatch,
     alloc: Global,
-) -> Result<u32, Stopped>
+    steps: &mut Steps<L>,
+) -> Result<QcArena, Stopped>
+    requires stored { IsStored schema.now dict.old (closed table.old) }
+    requires is_open { is_some table.old.was ≡ true }
+    requires dims { batch.now.dims ≡ length schema.now.dims }
+    requires measures { batch.now.measures ≡ length schema.now.measures }
+    requires once { first_twice batch.now.changes ≡ None }
+    ensures none { OnOk result (refusal_of (state_of schema.now dict.old table.old) batch.now.changes ≡ None) }
+    ensures made { OnOk result (state_of schema.now dict.new table.new ≡ after (state_of schema.now dict.old table.old) batch.now.changes) }
+    ensures tree { IfOk result (λ tree. IsKept schema.now table.new tree) }
+    ensures known { OnOk result (RowsAreCodes dict.new.lists (rows_of table.new)) }
+    ensures cause { IfErr result (λ stopped. IsCause stopped (state_of schema.now dict.old table.old) batch.now.changes) }
+    ensures longer { AreLonger dict.old.lists dict.new.lists }
+    ensures max { dict.new.max ≡ dict.old.max }
+    ensures dictionary { IsDictionary dict.new }
+    ensures frame { frame table.new ≡ frame table.old }
+{
+    match change_rows(schema, table, dict, batch, alloc) {
+        Ok(()) => {}
+        Err(cause) => return Err(cause),
+    }
+    match tree_of(schema, table, alloc, steps) {
+        Ok(tree) => Ok(tree),
+        Err(ArenaRefused::Full) => Err(Stopped::NodesFull),
+        Err(ArenaRefused::Memory) => Err(Stopped::Memory),
+    }
+}
+
+// Makes the changes in a batch of their own, and the tree of the rows after them. After a refusal the
+// rows are as they were, and some texts are learnt.
+fn change_table<L: Ledger>(
+    schema: &Schema,
+    table: &mut Table,
+    dict: &mut Dict,
+    batch: &RawBatch,
+    alloc: Global,
+    steps: &mut Steps<L>,
+) -> Result<QcArena, Stopped>
     requires stored { IsStored schema.now dict.old table.old }
     requires dims { batch.now.dims ≡ length schema.now.dims }
     requires measures { batch.now.measures ≡ length schema.now.measures }
@@ -202,7 +262,7 @@ fn change_table(
     requires valid { IsBatch batch.now }
     ensures none { OnOk result (refusal_of (state_of schema.now dict.old table.old) batch.now.changes ≡ None) }
     ensures made { OnOk result (state_of schema.now dict.new table.new ≡ after (state_of schema.now dict.old table.old) batch.now.changes) }
-    ensures classes { IfOk result (λ count. count ≡ length (classes nat_cmp (rows_of table.new))) }
+    ensures tree { IfOk result (λ tree. IsKept schema.now table.new tree) }
     ensures stored { OnOk result (IsStored schema.now dict.new table.new) }
     ensures cause { IfErr result (λ stopped. IsCause stopped (state_of schema.now dict.old table.old) batch.now.changes) }
     ensures kept { OnErr result (rows_of table.new ≡ rows_of table.old) }
@@ -212,20 +272,13 @@ fn change_table(
     ensures dictionary { IsDictionary dict.new }
 {
     table.begin();
-    match change_rows(schema, table, dict, batch, alloc) {
-        Ok(()) => match count_classes(alloc, table) {
-            Ok(classes) => {
-                table.commit();
-                // The count is not needed, but what it says of every table.
-                let _rows = table.count();
-                Ok(classes)
-            }
-            Err(_) => {
-                table.rollback();
-                let _rows = table.count();
-                Err(Stopped::Memory)
-            }
-        },
+    match change_and_build(schema, table, dict, batch, alloc, steps) {
+        Ok(tree) => {
+            table.commit();
+            // The count is not needed, but what it says of every table.
+            let _rows = table.count();
+            Ok(tree)
+        }
         Err(cause) => {
             table.rollback();
             let _rows = table.count();
@@ -250,25 +303,32 @@ fn refuse(stopped: Stopped, dict: &mut Dict, batch: &RawBatch, lens: &[u32]) -> 
         Stopped::Present(k) => Refused::Present(k),
         Stopped::RowsFull => Refused::RowsFull,
         Stopped::ValuesFull => values_full(dict, batch, lens),
+        Stopped::NodesFull => Refused::NodesFull,
         Stopped::Memory => Refused::Memory,
     }
 }
 
-/// Makes the changes, all of them or none.
-pub(crate) fn change(
+/// Makes the changes, all of them or none, and puts the tree of the rows after them in the place of
+/// that before.
+pub(crate) fn change<L: Ledger>(
     schema: &Schema,
     table: &mut Table,
     dict: &mut Dict,
+    tree: &mut QcArena,
     batch: &RawBatch,
     alloc: Global,
+    steps: &mut Steps<L>,
 ) -> Result<Applied, Refused>
     requires stored { IsStored schema.now dict.old table.old }
+    requires kept { IsKept schema.now table.old tree.old }
     requires dims { batch.now.dims ≡ length schema.now.dims }
     requires measures { batch.now.measures ≡ length schema.now.measures }
     ensures applied { IfOk result (λ applied. result_of (state_of schema.now dict.old table.old) (Ok batch.now.changes) ≡ Ok (record { records = applied.records; classes = applied.classes; state = state_of schema.now dict.new table.new })) }
     ensures refused { IfErr result (λ e. IfSome (refusal_in e) (λ refusal. result_of (state_of schema.now dict.old table.old) (Ok batch.now.changes) ≡ Err refusal)) }
     ensures err { OnErr result (state_of schema.now dict.new table.new ≡ state_of schema.now dict.old table.old) }
+    ensures tree { OnErr result (tree.new ≡ tree.old) }
     ensures stored { IsStored schema.now dict.new table.new }
+    ensures kept { IsKept schema.now table.new tree.new }
 {
     match first_repeat(alloc, batch) {
         Ok(None) => {}
@@ -278,8 +338,12 @@ pub(crate) fn change(
     let records = batch.len();
     let dims = schema.dims();
     let lens = lengths(dict, dims);
-    match change_table(schema, table, dict, batch, alloc) {
-        Ok(classes) => Ok(Applied { records, classes }),
+    match change_table(schema, table, dict, batch, alloc, steps) {
+        Ok(new) => {
+            let classes = new.counts().classes;
+            *tree = new;
+            Ok(Applied { records, classes })
+        }
         Err(stopped) => {
             let lens = &lens[..usize::from(dims)];
             dict.cut_back(lens);

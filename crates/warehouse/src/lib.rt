@@ -1,4 +1,5 @@
-//! The state of a cube of data: a schema, its rows and their texts, changed by whole files.
+//! The state of a cube of data: a schema, its rows, their texts and their tree, changed by whole
+//! files.
 #![tactic(auto)]
 
 mod changing;
@@ -6,11 +7,12 @@ mod checks;
 mod learning;
 mod refused;
 mod store;
-mod sum;
 #[cfg(test)]
 mod tests;
+#[cfg(test)]
+mod tree_tests;
 
-pub use refused::{Applied, Refused};
+pub use refused::{Applied, Refused, Stats};
 pub use store::Warehouse;
 
 /// Memory ran out.

@@ -1,4 +1,4 @@
-// What a file of changes does, or why it is refused.
+// What a file of changes does, or why it is refused; and what is counted.
 
 /// A file of changes was taken.
 #[derive(Clone, Copy, Debug, PartialEq, Eq)]
@@ -39,6 +39,21 @@ pub enum Refused {
     RowsFull,
     /// The dimension would have more texts than the schema allows.
     ValuesFull(u8),
+    /// The tree would have more nodes than the schema allows.
+    NodesFull,
     /// Memory ran out.
     Memory,
+}
+
+/// What is counted of the rows and of their tree (Lakshmanan, Pei, Zhao, SIGMOD 2003; which links
+/// are kept is own).
+#[derive(Clone, Copy, Debug, PartialEq, Eq)]
+pub struct Stats {
+    pub rows: u32,
+    pub classes: u32,
+    pub nodes: u32,
+    /// Edges that lead from a node to the node with one value more.
+    pub tree_edges: u64,
+    /// All other edges.
+    pub links: u64,
 }

@@ -1,47 +1,51 @@
-// The state, and what files do to it.
-ghost use Rattle.std.specs.Prelude.{Err, IfErr, IfOk, IfSome, List, Ok, OnErr, Result, length, nat_eq, option_map, ◌≡◌, ◌≤◌};
-ghost use Rattle.aggregates.specs.Views.{agg_in};
-ghost use Rattle.cube_laws.specs.Total.{agg_at};
+// The state, the tree of its rows, and what files do to them.
+ghost use Rattle.std.specs.Prelude.{Err, IfErr, IfOk, IfSome, List, Ok, OnErr, Result, length, ◌≡◌, ◌≤◌};
 ghost use Rattle.csv_load.specs.Batch.{Change};
 ghost use Rattle.csv_load.specs.Faults.{Fails, Fault};
-ghost use Rattle.cube_defs.specs.Text.{Text};
+ghost use Rattle.cube_defs.specs.Text.{Text, text_cmp};
+ghost use Rattle.cube_defs.specs.Tree as trees;
 ghost use Rattle.warehouse.specs.Batch as batches;
 ghost use Rattle.warehouse.specs.Batch.{result_of};
-ghost use Rattle.warehouse.specs.State.{IsState, State, coded, empty};
+ghost use Rattle.warehouse.specs.State.{IsHeld, State, empty};
 ghost use Rattle.warehouse.specs.Stored.{refusal_in};
 
 use crate::Memory;
 use crate::changing::change;
-use crate::refused::{Applied, Refused};
-use crate::sum::sum_at;
-use aggregates::Agg;
+use crate::refused::{Applied, Refused, Stats};
 use base_table::Table;
-use cell_core::Cell;
+use cell_core::Steps;
 use csv_load::{LoadRefused, RawBatch, read_base, read_batch};
+use qc_arena::QcArena;
 use qc_schema::Schema;
 use std::alloc::Global;
 use std::marker::Model;
+use std::sync::ledger::Ledger;
 use value_dict::Dict;
 
-/// A schema, the rows that are present, and for each dimension the texts that were ever accepted,
-/// in the order in which they were accepted.
+/// A schema, the rows that are present, for each dimension the texts that were ever accepted, in
+/// the order in which they were accepted, and the tree of the rows.
 #[derive(Drop)]
 pub struct Warehouse {
     schema: Schema,
     dict: Dict,
     table: Table,
+    tree: QcArena,
     alloc: Global,
 }
 
 impl Model for Warehouse {
-    ghost use Rattle.warehouse.specs.State.{State};
-    ghost use Rattle.warehouse.specs.Stored.{IsStored, state_of};
+    ghost use Rattle.std.specs.Coded.{codes};
+    ghost use Rattle.qc_arena.specs.Codes.{tree_code};
+    ghost use Rattle.warehouse.specs.State.{Held};
+    ghost use Rattle.warehouse.specs.Stored.{IsKept, IsStored, state_of};
 
-    ghost Value = { State };
+    ghost Value = { Held };
 
-    ghost view = { λ w. state_of w.schema w.dict w.table };
+    ghost coded = { Prim.hlevel (codes, tree_code) };
 
-    ghost invariant = { λ w. IsStored w.schema w.dict w.table };
+    ghost view = { λ w. record { state = state_of w.schema w.dict w.table; tree = w.tree.now } };
+
+    ghost invariant = { λ w. IsStored w.schema w.dict w.table × IsKept w.schema w.table w.tree };
 }
 
 // The refusal for a file that gives no rows.
@@ -63,88 +67,125 @@ fn refused_file(refused: LoadRefused) -> Refused
 impl Warehouse {
     /// No rows, and no texts.
     pub fn new(alloc: Global, schema: Schema) -> Result<Warehouse, Memory>
-        ensures { IfOk result (λ warehouse. warehouse ≡ empty schema) }
+        ensures { IfOk result (λ warehouse. warehouse.state ≡ empty schema) }
     {
         let dict = Dict::new(alloc, schema.dims(), schema.values())?;
         let table = Table::new(alloc, schema.dims(), schema.measures(), schema.rows())?;
+        let tree = QcArena::new(alloc, schema.dims(), schema.nodes())?;
         Ok(Warehouse {
             schema,
             dict,
             table,
+            tree,
             alloc,
         })
     }
 
     /// The schema.
     pub fn schema(&self) -> &Schema
-        ensures value { result.now ≡ self.now.schema }
-        ensures valid { IsState self.now }
+        ensures value { result.now ≡ self.now.state.schema }
+        ensures valid { IsHeld self.now }
     {
         &self.schema
     }
 
     /// The texts that were ever accepted, each under its code.
     pub fn dict(&self) -> &Dict
-        ensures texts { result.now.lists ≡ self.now.texts }
-        ensures most { result.now.max ≡ self.now.schema.values }
-        ensures valid { IsState self.now }
+        ensures texts { result.now.lists ≡ self.now.state.texts }
+        ensures most { result.now.max ≡ self.now.state.schema.values }
+        ensures valid { IsHeld self.now }
     {
         &self.dict
     }
 
+    /// The tree of the rows.
+    pub fn tree(&self) -> &QcArena
+        ensures value { result.now.now ≡ self.now.tree }
+        ensures width { result.now.width ≡ length self.now.state.schema.dims }
+        ensures valid { IsHeld self.now }
+    {
+        &self.tree
+    }
+
+    /// What is counted of the rows and of their tree, without counting anew.
+    pub fn stats(&self) -> Stats
+        ensures rows { result.rows ≡ length self.now.state.rows }
+        ensures classes { result.classes ≡ length (trees.classes text_cmp self.now.state.rows) }
+        ensures nodes { result.nodes ≡ length (trees.nodes text_cmp self.now.state.rows) }
+        ensures tree_edges { result.tree_edges ≡ trees.tree_edges text_cmp self.now.state.rows }
+        ensures links { result.links ≡ trees.links text_cmp self.now.state.rows }
+    {
+        let counts = self.tree.counts();
+        Stats {
+            rows: self.table.count(),
+            classes: counts.classes,
+            nodes: counts.nodes,
+            tree_edges: counts.tree_edges,
+            links: counts.links,
+        }
+    }
+
     // Makes changes, all of them or none.
-    fn change(&mut self, batch: &RawBatch) -> Result<Applied, Refused>
-        requires dims { batch.now.dims ≡ length self.old.schema.dims }
-        requires measures { batch.now.measures ≡ length self.old.schema.measures }
-        ensures applied { IfOk result (λ applied. result_of self.old (Ok batch.now.changes) ≡ Ok (record { records = applied.records; classes = applied.classes; state = self.new })) }
-        ensures refused { IfErr result (λ e. IfSome (refusal_in e) (λ refusal. result_of self.old (Ok batch.now.changes) ≡ Err refusal)) }
+    fn change<L: Ledger>(
+        &mut self,
+        batch: &RawBatch,
+        steps: &mut Steps<L>,
+    ) -> Result<Applied, Refused>
+        requires dims { batch.now.dims ≡ length self.old.state.schema.dims }
+        requires measures { batch.now.measures ≡ length self.old.state.schema.measures }
+        ensures applied { IfOk result (λ applied. result_of self.old.state (Ok batch.now.changes) ≡ Ok (record { records = applied.records; classes = applied.classes; state = self.new.state })) }
+        ensures refused { IfErr result (λ e. IfSome (refusal_in e) (λ refusal. result_of self.old.state (Ok batch.now.changes) ≡ Err refusal)) }
+        ensures valid { IsHeld self.new }
         ensures err { OnErr result (self.new ≡ self.old) }
     {
         change(
             &self.schema,
             &mut self.table,
             &mut self.dict,
+            &mut self.tree,
             batch,
             self.alloc,
+            steps,
         )
     }
 
     /// Loads a base file. All of its rows are taken, or it is refused and nothing changes.
-    pub fn load(&mut self, bytes: &[u8]) -> Result<Applied, Refused>
+    pub fn load<L: Ledger>(
+        &mut self,
+        bytes: &[u8],
+        steps: &mut Steps<L>,
+    ) -> Result<Applied, Refused>
         requires { length bytes.now ≤ 268435456 }
-        ensures applied { IfOk result (λ applied. batches.result self.old batches.Load bytes.now ≡ Ok (record { records = applied.records; classes = applied.classes; state = self.new })) }
-        ensures refused { IfErr result (λ e. IfSome (refusal_in e) (λ refusal. batches.result self.old batches.Load bytes.now ≡ Err refusal)) }
+        ensures applied { IfOk result (λ applied. batches.result self.old.state batches.Load bytes.now ≡ Ok (record { records = applied.records; classes = applied.classes; state = self.new.state })) }
+        ensures refused { IfErr result (λ e. IfSome (refusal_in e) (λ refusal. batches.result self.old.state batches.Load bytes.now ≡ Err refusal)) }
+        ensures valid { IsHeld self.new }
         ensures err { OnErr result (self.new ≡ self.old) }
     {
         if self.table.count() != 0 {
             return Err(Refused::NotEmpty);
         }
         match read_base(self.alloc, &self.schema, bytes) {
-            Ok(batch) => self.change(&batch),
+            Ok(batch) => self.change(&batch, steps),
             Err(refused) => Err(refused_file(refused)),
         }
     }
 
     /// Applies a batch of corrections: its deletions, and then its insertions in their order. It
     /// is taken whole, or refused and nothing changes.
-    pub fn apply(&mut self, bytes: &[u8]) -> Result<Applied, Refused>
+    pub fn apply<L: Ledger>(
+        &mut self,
+        bytes: &[u8],
+        steps: &mut Steps<L>,
+    ) -> Result<Applied, Refused>
         requires { length bytes.now ≤ 268435456 }
-        ensures applied { IfOk result (λ applied. batches.result self.old batches.Apply bytes.now ≡ Ok (record { records = applied.records; classes = applied.classes; state = self.new })) }
-        ensures refused { IfErr result (λ e. IfSome (refusal_in e) (λ refusal. batches.result self.old batches.Apply bytes.now ≡ Err refusal)) }
+        ensures applied { IfOk result (λ applied. batches.result self.old.state batches.Apply bytes.now ≡ Ok (record { records = applied.records; classes = applied.classes; state = self.new.state })) }
+        ensures refused { IfErr result (λ e. IfSome (refusal_in e) (λ refusal. batches.result self.old.state batches.Apply bytes.now ≡ Err refusal)) }
+        ensures valid { IsHeld self.new }
         ensures err { OnErr result (self.new ≡ self.old) }
     {
         match read_batch(self.alloc, &self.schema, bytes) {
-            Ok(batch) => self.change(&batch),
+            Ok(batch) => self.change(&batch, steps),
             Err(refused) => Err(refused_file(refused)),
         }
-    }
-
-    /// What the rows that a cell covers come to. None where it covers none.
-    pub fn cell_sum(&self, cell: &Cell) -> Option<Agg>
-        requires { length cell.now ≡ length self.now.schema.dims }
-        ensures value { option_map agg_in result ≡ agg_at nat_eq (length self.now.schema.measures) (coded self.now) cell.now }
-        ensures measures { IfSome result (λ agg. agg.measures ≡ length self.now.schema.measures) }
-    {
-        sum_at(&self.table, cell)
     }
 }

@@ -1,9 +1,14 @@
+ghost use Rattle.std.specs.Prelude.{length, ◌<◌, ◌≡◌, ◌≤◌};
+
 use crate::{Applied, Refused, Warehouse};
-use cell_core::Cell;
+use cell_core::{Cell, Steps};
 use qc_schema::read_schema;
 use std::alloc::Global;
+use std::marker::Brand;
 use std::process::Abort;
+use std::sync::ledger::{Blank, Ledger};
 use std::test::Fail;
+use tree_search::total_uncounted;
 
 // At most three rows, and two texts in each dimension.
 const SCHEMA: &[u8] = b"qcube 1\nid id\ndim city\ndim item\nmeasure sale 0\nrows 3\nvalues 2\n";
@@ -11,21 +16,29 @@ const SCHEMA: &[u8] = b"qcube 1\nid id\ndim city\ndim item\nmeasure sale 0\nrows
 // The rows 1 and 2. City has the text Bonn alone, item has ink and pen.
 const BASE: &[u8] = b"id,city,item,sale\n1,Bonn,ink,5\n2,Bonn,pen,7\n";
 
-fn shop(alloc: Global) -> Result<Warehouse, Fail> {
-    let Ok(schema) = read_schema(alloc, SCHEMA) else {
+// A warehouse that has taken a base file.
+pub(crate) fn opened(alloc: Global, schema: &[u8], base: &[u8]) -> Result<Warehouse, Fail> {
+    if schema.len() > 1000 {
+        return Err(Fail::new("long schema"));
+    }
+    let Ok(schema) = read_schema(alloc, schema) else {
         return Err(Fail::new("no schema"));
     };
     let mut shop = Warehouse::new(alloc, schema)?;
-    match shop.load(BASE) {
+    match load(&mut shop, base) {
         Ok(_) => Ok(shop),
         Err(_) => Err(Fail::new("no rows")),
     }
 }
 
+fn shop(alloc: Global) -> Result<Warehouse, Fail> {
+    opened(alloc, SCHEMA, BASE)
+}
+
 // How many rows there are, and what their amounts come to.
 fn total(alloc: Global, shop: &Warehouse) -> (u32, i64) {
     let all = Cell::any(alloc, shop.schema().dims());
-    match shop.cell_sum(&all) {
+    match total_uncounted(shop.tree(), &all) {
         Some(sum) => {
             let part = sum.parts[0];
             (sum.count, part.sum)
@@ -34,7 +47,7 @@ fn total(alloc: Global, shop: &Warehouse) -> (u32, i64) {
     }
 }
 
-fn code(shop: &Warehouse, dim: u8, text: &str) -> Option<u32> {
+pub(crate) fn code(shop: &Warehouse, dim: u8, text: &str) -> Option<u32> {
     if dim < shop.schema().dims() {
         shop.dict().code(dim, text)
     } else {
@@ -42,12 +55,40 @@ fn code(shop: &Warehouse, dim: u8, text: &str) -> Option<u32> {
     }
 }
 
-// What a batch answers, if it is short.
-fn apply(shop: &mut Warehouse, file: &[u8]) -> Result<u32, Refused> {
+// What a base file or a batch answers, if it is short.
+fn answer<L: Ledger>(
+    shop: &mut Warehouse,
+    is_base: bool,
+    file: &[u8],
+    blank: Blank,
+) -> Result<Applied, Refused>
+    requires name { blank.name ≡ L.name }
+    requires parts { blank.parts ≡ L.parts }
+    requires some { 0 < L.parts }
+{
     if file.len() > 1000 {
         return Err(Refused::Memory);
     }
-    match shop.apply(file) {
+    let mut steps = Steps::<L>::start(blank);
+    if is_base {
+        shop.load(file, &mut steps)
+    } else {
+        shop.apply(file, &mut steps)
+    }
+}
+
+// The same, where no steps are counted.
+fn answer_of(shop: &mut Warehouse, is_base: bool, file: &[u8]) -> Result<Applied, Refused> {
+    answer::<Brand>(shop, is_base, file, Blank::new(1))
+}
+
+pub(crate) fn load(shop: &mut Warehouse, file: &[u8]) -> Result<Applied, Refused> {
+    answer_of(shop, true, file)
+}
+
+// How many records a batch has, where it is taken.
+pub(crate) fn apply(shop: &mut Warehouse, file: &[u8]) -> Result<u32, Refused> {
+    match answer_of(shop, false, file) {
         Ok(applied) => Ok(applied.records),
         Err(refused) => Err(refused),
     }
@@ -193,12 +234,15 @@ fn texts_of_a_refused_batch_leave_no_codes(rt: HostRuntime) -> Result<(), Fail> 
 #[test]
 fn a_base_file_is_loaded_where_no_row_is(rt: HostRuntime) -> Result<(), Fail> {
     let mut shop = shop(rt.alloc())?;
-    assert_eq!(rt; shop.load(b"x"), Err(Refused::NotEmpty));
+    assert_eq!(rt; load(&mut shop, b"x"), Err(Refused::NotEmpty));
     let applied = apply(&mut shop, b"op,id,city,item,sale\n-,2,,,\n-,1,,,\n");
     assert_eq!(rt; applied, Ok(2));
-    let refused = shop.load(b"id,city,item,sale\n7,Ulm,ink,1\n7,Ulm,pen,1\n");
+    let refused = load(&mut shop, b"id,city,item,sale\n7,Ulm,ink,1\n7,Ulm,pen,1\n");
     assert_eq!(rt; refused, Err(Refused::Twice(2)));
-    let loaded = shop.load(b"op,id,city,item,sale\n-,7,Ulm,ink,20\n+,1,Ulm,pen,1\n");
+    let loaded = load(
+        &mut shop,
+        b"op,id,city,item,sale\n-,7,Ulm,ink,20\n+,1,Ulm,pen,1\n",
+    );
     assert_eq!(rt;
         loaded,
         Ok(Applied {

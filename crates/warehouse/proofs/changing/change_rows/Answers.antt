@@ -1,4 +1,4 @@
-use Rattle.std.proofs.Common.{Err, ◌≡◌, ◌∙◌, ℕ, List, None, ap, ap₂, nat_lt, sym}
+use Rattle.std.proofs.Common.{Err, ◌≡◌, ◌∙◌, ℕ, List, Option, None, ap, ap₂, nat_lt, sym}
 use Rattle.std.specs.Prelude.{not, option_map}
 use Rattle.std.proofs.lemmas.List.Elements.{All-filter}
 use Rattle.base_table.specs.Places.{rows_of}
@@ -6,11 +6,11 @@ use Rattle.csv_load.specs.Batch.{deleted}
 use Rattle.cube_defs.specs.Rows.{Row}
 use Rattle.cube_defs.specs.Text.{Text}
 use Rattle.warehouse.specs.Batch as batches
-use Rattle.warehouse.specs.Batch.{first_number, full_dim, is_among, is_missing, is_present, rows_after, texts_after}
+use Rattle.warehouse.specs.Batch.{first_number, full_dim, is_among, is_missing, is_present, or_else, rows_after, texts_after}
 use Rattle.warehouse.specs.State.{State}
-use Rattle.warehouse.specs.Steps.{IsOver}
+use Rattle.warehouse.specs.Steps.{IsOver, last_refusal}
 use Rattle.warehouse.specs.Stored.{AreCodes, decoded_rows, state_of}
-use Rattle.warehouse.proofs.Causes.{cause-missing, cause-present, cause-rows, count-decoded, missing-decoded, passed, present-decoded, rows-decoded}
+use Rattle.warehouse.proofs.Causes.{cause-missing, cause-present, cause-rows, count-decoded, first-cause, missing-decoded, passed, present-decoded, rows-decoded}
 use Rattle.warehouse.proofs.Texts.{full-none, longer-same}
 use Rattle.warehouse.proofs.changing.change_rows.Goals as goal
 
@@ -59,22 +59,26 @@ insert_rows-requires-clause-known c =
 
 pub returns-in-Err-Full-clause-cause : goal.returns-in-Err-Full-clause-cause
 returns-in-Err-Full-clause-cause c =
+    let s = state_of c.args.schema.now c.args.dict.now c.args.table.now in
     let changes = c.args.batch.now.changes in
-    let over : IsOver c.args.schema.now.values (texts_after c.args.dict.now.lists changes) = rw c.requires.stored.most_texts at (c.in-Err-Full.ensures.full (ap Err c.in-Err-Full.field-0-is)) in (
+    let texts = texts_after c.args.dict.now.lists changes in
+    let over : IsOver c.args.schema.now.values texts = rw c.requires.stored.most_texts at (c.in-Err-Full.ensures.full (ap Err c.in-Err-Full.field-0-is)) in (
       passed c.args.schema.now c.args.dict.now c.args.table.now c.delete_rows.new.table changes c.first_present.result c.rows.result c.is_full.result
-          c.requires.once c.in-Ok.ensures.none c.in-Ok.ensures.rows c.first_present.ensures c.in_default.is c.rows.ensures c.is_full.ensures c.if-is_full.false,
+          c.requires.once c.in-Ok.ensures.none c.in-Ok.ensures.rows c.first_present.ensures c.in_default.is c.rows.ensures c.is_full.ensures c.if-is_full.false
+          ∙ first-cause (λ (dim : ℕ). batches.ValuesFull dim) (full_dim c.args.schema.now.values texts) (last_refusal s changes) over,
       over,
     )
 
-pub returns-in-Ok-insert_rows-clause-none : goal.returns-in-Ok-insert_rows-clause-none
-returns-in-Ok-insert_rows-clause-none c =
+pub returns-in-Ok-insert_rows-clause-last : goal.returns-in-Ok-insert_rows-clause-last
+returns-in-Ok-insert_rows-clause-last c =
+    let s = state_of c.args.schema.now c.args.dict.now c.args.table.now in
     let changes = c.args.batch.now.changes in
     let now = c.insert_rows.new.dict in
     let within : full_dim c.args.schema.now.values (texts_after c.args.dict.now.lists changes) ≡ None =
     ap₂ full_dim (sym (c.in-Ok-insert_rows.ensures.max ∙ c.requires.stored.most_texts)) (sym c.in-Ok-insert_rows.ensures.lists) ∙ full-none now.max now.lists c.in-Ok-insert_rows.ensures.dictionary.within in
     passed c.args.schema.now c.args.dict.now c.args.table.now c.delete_rows.new.table changes c.first_present.result c.rows.result c.is_full.result
     c.requires.once c.in-Ok.ensures.none c.in-Ok.ensures.rows c.first_present.ensures c.in_default.is c.rows.ensures c.is_full.ensures c.if-is_full.false
-    ∙ ap (option_map (λ (dim : ℕ). batches.ValuesFull dim)) within
+    ∙ ap (λ (o : Option ℕ). or_else (option_map (λ (dim : ℕ). batches.ValuesFull dim) o) (last_refusal s changes)) within
 
 pub returns-in-Ok-insert_rows-clause-made : goal.returns-in-Ok-insert_rows-clause-made
 returns-in-Ok-insert_rows-clause-made c =

@@ -6,15 +6,15 @@ use Rattle.warehouse.specs.Stored.{state_of}
 use Rattle.warehouse.proofs.Values.{values-after}
 use Rattle.warehouse.proofs.changing.change_table.Goals as goal
 
-pub returns-in-Ok-count_classes-clause-none : goal.returns-in-Ok-count_classes-clause-none
-returns-in-Ok-count_classes-clause-none c =
+pub returns-in-Ok-clause-none : goal.returns-in-Ok-clause-none
+returns-in-Ok-clause-none g c =
     sym (ap (λ (t : Places). refusal_of (state_of c.args.schema.now c.args.dict.now t) c.args.batch.now.changes) c.begin.ensures.value) ∙ c.in-Ok.ensures.none
 
-pub returns-in-Ok-count_classes-clause-stored : goal.returns-in-Ok-count_classes-clause-stored
-returns-in-Ok-count_classes-clause-stored c =
+pub returns-in-Ok-clause-stored : goal.returns-in-Ok-clause-stored
+returns-in-Ok-clause-stored g c =
     let is = c.requires.stored in
     let same = c.in-Ok.ensures.frame in
-    let texts : c.change_rows.new.dict.lists ≡ texts_after c.args.dict.now.lists c.args.batch.now.changes = ap (λ (s : State). s.texts) c.in-Ok.ensures.made in
+    let texts : c.change_and_build.new.dict.lists ≡ texts_after c.args.dict.now.lists c.args.batch.now.changes = ap (λ (s : State). s.texts) c.in-Ok.ensures.made in
     record {
       layout = is.layout;
       lists = c.in-Ok.ensures.longer.dims ∙ is.lists;

@@ -1,5 +1,5 @@
-use Rattle.warehouse.proofs.States.{is-state}
+use Rattle.warehouse.proofs.Trees.{is-held}
 use Rattle.warehouse.proofs.store.Warehouse.schema.Goals as goal
 
 pub returns-clause-valid : goal.returns-clause-valid
-returns-clause-valid c = rw (← c.self.view_is) (is-state c.self.inside.schema c.self.inside.dict c.self.inside.table c.self.invariant)
+returns-clause-valid c = rw (← c.self.view_is) (is-held c.self.inside.schema c.self.inside.dict c.self.inside.table c.self.inside.tree c.self.invariant.0 c.self.invariant.1)

@@ -1,0 +1,66 @@
+-- The tree that is kept beside the rows.
+use Rattle.std.proofs.Common.{◌≡◌, ◌∙◌, ℕ, List, [], false, None, Some, length, true≢false, refl, sym, ap, subst}
+use Rattle.std.specs.FinMap as finmap
+use Rattle.std.specs.Ordering.{nat_cmp}
+use Rattle.std.specs.Prelude.{option_map}
+use Rattle.std.specs.List.{AllByRecursion}
+use Rattle.cube_defs.specs.Rows.{Row}
+use Rattle.cube_defs.specs.Tree.{IsCanonical, Node}
+use Rattle.base_table.specs.Places.{IsRow, IsTable, Places, rows_of}
+use Rattle.cell_closure.proofs.Rows.{all_recursion}
+use Rattle.cube_laws.proofs.Lists.{all_map}
+use Rattle.qc_arena.specs.Map.{Arena, no_nodes}
+use Rattle.qc_schema.specs.Schema.{Layout}
+use Rattle.tree_search.specs.Found.{IsFrom}
+use Rattle.value_dict.specs.TextLists.{TextLists}
+use Rattle.warehouse.specs.State.{IsHeld}
+use Rattle.warehouse.specs.Stored.{IsKept, IsStored, state_of}
+use Rattle.warehouse.proofs.Decoding.{rows-back}
+use Rattle.warehouse.proofs.States.{is-state, no_rows}
+
+-- a tree without nodes is that of no rows
+pub none-from : (dims measures : ℕ) → IsFrom dims finmap.empty (record { measures = measures; rows = [] })
+none-from dims measures = record {
+  wide = tt;
+  canonical = record {
+    each = λ k n h. let bad : None ≡ Some n = sym (finmap.get-empty nat_cmp k) ∙ h in cc;
+    once = λ k l c h g. let bad : None ≡ Some c = sym (ap (option_map (λ (n : Node ℕ ℕ). n.cell)) (finmap.get-empty nat_cmp k)) ∙ h in cc;
+    all = λ c h. absurd (true≢false (sym h));
+  };
+}
+
+-- each row of a table has a code in each dimension
+pub rows-wide : (table : Places) → IsTable table → AllByRecursion (λ (row : Row ℕ). length row.tuple ≡ table.dims) (rows_of table)
+rows-wide table is = all_map (IsRow table.dims table.measures) (λ row. length row.tuple ≡ table.dims) (rows_of table) (λ row is. is.tuple) (all_recursion (IsRow table.dims table.measures) (rows_of table) is.rows.each)
+
+pub kept-empty : (schema : Layout) → IsKept schema (no_rows (length schema.dims) (length schema.measures) schema.rows) (no_nodes (length schema.dims) schema.nodes)
+kept-empty schema = record { closed = refl; width = refl; max = refl; from = none-from (length schema.dims) (length schema.measures) }
+
+pub kept-canonical : (schema : Layout) (table : Places) (tree : Arena) → IsTable table → table.dims ≡ length schema.dims → table.measures ≡ length schema.measures
+    → tree.is_open ≡ false → tree.width ≡ length schema.dims → tree.max ≡ schema.nodes → IsCanonical nat_cmp table.measures (rows_of table) tree.now → IsKept schema table tree
+kept-canonical schema table tree is dims measures closed width max canonical = record {
+  closed = closed;
+  width = width;
+  max = max;
+  from = record {
+    wide = subst (λ (n : ℕ). AllByRecursion (λ (row : Row ℕ). length row.tuple ≡ n) (rows_of table)) dims (rows-wide table is);
+    canonical = subst (λ (n : ℕ). IsCanonical nat_cmp n (rows_of table) tree.now) measures canonical;
+  };
+}
+
+-- the tree stays that of the rows where these stay
+pub kept-rows : (schema : Layout) (before after : Places) (tree : Arena) → rows_of after ≡ rows_of before → IsKept schema before tree → IsKept schema after tree
+kept-rows schema before after tree same kept = record {
+  closed = kept.closed;
+  width = kept.width;
+  max = kept.max;
+  from = subst (λ (rows : List (Row ℕ)). IsFrom (length schema.dims) tree.now (record { measures = length schema.measures; rows = rows })) (sym same) kept.from;
+}
+
+pub is-held : (schema : Layout) (dict : TextLists) (table : Places) (tree : Arena) → IsStored schema dict table → IsKept schema table tree → IsHeld (record { state = state_of schema dict table; tree = tree.now })
+is-held schema dict table tree stored kept = record {
+  state = is-state schema dict table stored;
+  tree =
+      subst (λ (rows : List (Row ℕ)). IsFrom (length schema.dims) tree.now (record { measures = length schema.measures; rows = rows }))
+      (sym (rows-back dict.lists (rows_of table) stored.known stored.dictionary.distinct)) kept.from;
+}
