@@ -1,29 +1,38 @@
 -- The cell that a point asks, and its codes.
-use Rattle.std.proofs.Common.{◌≡◌, ◌<◌, ◌≤◌, ◌+◌, ◌∙◌, ℕ, zero, suc, Bool, true, false, cond, Option, Some, None, List, [], ◌∷◌, map, length, get_or, ◌⊎◌, inl, inr, refl, sym, ap, ap₂, subst, arith}
-use Rattle.std.specs.Prelude.{⊤, nat_eq, nat_lt, option_map}
+use Rattle.std.proofs.Common.{◌≡◌, ◌<◌, ◌+◌, ◌∙◌, ℕ, suc, Bool, true, false, cond, Option, Some, None, List, [], ◌∷◌, map, length, get_or, ◌⊎◌, inl, inr, refl, sym, ap, ap₂, subst, arith}
+use Rattle.std.specs.Prelude.{⊤, IfSome, nat_lt, option_map}
+use Rattle.std.specs.Ordering.{eq_by_cmp, nat_cmp}
 use Rattle.std.specs.Option.{option_and_then}
 use Rattle.std.specs.List.{All, list_any, position_or_len}
+use Rattle.std.proofs.lemmas.List.FromFn.{length-map-range_with_len}
 use Rattle.std.proofs.lemmas.List.Elements.{All-head, All-tail}
 use Rattle.std.specs.Str.{bytes_eq}
-use Rattle.std.specs.Cmp.Lexicographic.{bytes_decides}
 use Rattle.std.proofs.lemmas.Bool.{ltb-false, ltb-true}
-use Rattle.std.proofs.lemmas.List.Sums.{passes_at_first}
-use Rattle.std.proofs.lemmas.Map.Text.{is_eq-slice_cmp}
 use Rattle.cell_core.specs.declared.fields.Field.{Field}
 use Rattle.cell_core.specs.declared.fields.Field.TheVariants as fields
 use Rattle.cube_defs.specs.Text.{Text, text_eq}
 use Rattle.cube_defs.specs.Cell.{Cell, cell_of}
-use Rattle.cube_defs.specs.Rows.{Row, covers, cov}
-use Rattle.cube_laws.specs.Recoding.{AreKnown, RowsAreKnown, TellsApart, coded, coded_row}
+use Rattle.aggregates.specs.declared.agg.Agg as shown
+use Rattle.aggregates.specs.Views.{agg_in}
+use Rattle.cube_defs.specs.Rows.{Agg, Row, agg_of, amounts_of, covers, cov, meet_all, part_of}
+use Rattle.cube_laws.specs.Recoding.{AreKnown, RowsAreKnown, coded, coded_row}
 use Rattle.cube_laws.specs.Total.{agg_at, agg_some}
-use Rattle.cube_laws.proofs.Cells.{IsEquality, nat_equality}
+use Rattle.cube_laws.proofs.Cells.{IsEquality}
+use Rattle.cube_laws.proofs.Orders.{equality_by}
+use Rattle.std.specs.Cmp.{nat_cmp_total}
+use Rattle.std.specs.FinMap.{nat_cmp-IsAntisymmetric}
 use Rattle.cube_laws.proofs.RecodedRows.{agg_of-coded, cov-coded}
 use Rattle.cube_laws.proofs.RecodedLists.{known-below}
 use Rattle.query_script.specs.Commands.{IsPointField}
+use Rattle.tree_search.specs.Found.{Source, total_in}
 use Rattle.value_dict.specs.TextLists.{cell_in, entry_in}
 use Rattle.warehouse.specs.State.{has_text, place_in}
-use Rattle.warehouse.proofs.Apart.{any-within, places-apart, text_equality}
+use Rattle.qc_session.proofs.Apart.{any-within, places-apart, text_equality}
 use Rattle.qc_session.specs.Answers.{cell_asked, entry_asked}
+
+-- codes are equal where their order says so
+code_equality : IsEquality (eq_by_cmp nat_cmp)
+code_equality = equality_by nat_cmp_total nat_cmp-IsAntisymmetric
 
 within-any : {X : Type 0} (p : X → Bool) (xs : List X) → position_or_len p xs < length xs → list_any p xs ≡ true
 within-any p [] h = absurd (omega arith)
@@ -169,9 +178,9 @@ module _ (texts : List (List Text)) (measures : ℕ) where
 
   -- what the coded cell covers among coded rows comes to the same
   pub total-coded : (rows : List (Row Text)) (c : Cell Text) → RowsAreKnown (has_text texts) rows → AreKnown (has_text texts) 0 c
-      → agg_at nat_eq measures (map (coded_row (place_in texts)) rows) (coded (place_in texts) 0 c) ≡ agg_at text_eq measures rows c
+      → agg_at (eq_by_cmp nat_cmp) measures (map (coded_row (place_in texts)) rows) (coded (place_in texts) 0 c) ≡ agg_at text_eq measures rows c
   total-coded rows c h known =
-      ap (agg_some measures) (cov-coded text_equality nat_equality (places-apart texts) rows c h known) ∙ some-coded (cov text_eq rows c)
+      ap (agg_some measures) (cov-coded text_equality code_equality (places-apart texts) rows c h known) ∙ some-coded (cov text_eq rows c)
 
   covered-known : (rows : List (Row Text)) (c : Cell Text) (r : Row Text) (rest : List (Row Text)) → RowsAreKnown (has_text texts) rows → cov text_eq rows c ≡ r ∷ rest → AreKnown (has_text texts) 0 c
   covered-known [] c r rest h e = cc
@@ -191,16 +200,35 @@ module _ (texts : List (List Text)) (measures : ℕ) where
 
 -- what a point's cell comes to, by its codes
 pub total-found : (texts lists : List (List Text)) (measures : ℕ) (rows : List (Row Text)) (asked : List Field) (cell : Cell ℕ) → lists ≡ texts → RowsAreKnown (has_text texts) rows → All IsPointField asked
-    → cell_in lists asked ≡ Some cell → agg_at nat_eq measures (map (coded_row (place_in texts)) rows) cell ≡ agg_at text_eq measures rows (cell_asked asked)
+    → cell_in lists asked ≡ Some cell → agg_at (eq_by_cmp nat_cmp) measures (map (coded_row (place_in texts)) rows) cell ≡ agg_at text_eq measures rows (cell_asked asked)
 total-found texts lists measures rows asked cell same h point e =
     let found = cell-found texts 0 texts asked cell (fits texts) point (rw same at e) in
-    ap (agg_at nat_eq measures (map (coded_row (place_in texts)) rows)) found.code
+    ap (agg_at (eq_by_cmp nat_cmp) measures (map (coded_row (place_in texts)) rows)) found.code
     ∙ total-coded texts measures rows (cell_asked asked) h found.known
 
 pub total-none : (texts lists : List (List Text)) (measures : ℕ) (rows : List (Row Text)) (asked : List Field) → lists ≡ texts → length asked ≡ length texts → RowsAreKnown (has_text texts) rows → All IsPointField asked
     → cell_in lists asked ≡ None → agg_at text_eq measures rows (cell_asked asked) ≡ None
 total-none texts lists measures rows asked same len h point e =
     total-missing texts measures rows (cell_asked asked) h (cell-missing texts 0 texts asked len (fits texts) point (rw same at e))
+
+-- what rows come to, with the meet of their tuples or without
+total-some : (measures : ℕ) (covered : List (Row ℕ)) → option_map (λ _. agg_of measures covered) (meet_all (eq_by_cmp nat_cmp) (map (λ row. cell_of row.tuple) covered)) ≡ agg_some measures covered
+total-some measures [] = refl
+total-some measures (r ∷ rows) = refl
+
+pub total-at : (source : Source) (cell : Cell ℕ) → total_in source cell ≡ agg_at (eq_by_cmp nat_cmp) source.measures source.rows cell
+total-at source cell = total-some source.measures (cov (eq_by_cmp nat_cmp) source.rows cell)
+
+-- what some rows come to has a part for each measure
+length-some : (measures : ℕ) (rows : List (Row Text)) (a : Agg) → agg_some measures rows ≡ Some a → length a.parts ≡ measures
+length-some measures [] a e = cc
+length-some measures (r ∷ rows) a e =
+    let same : agg_of measures (r ∷ rows) ≡ a = cc in
+    rw (← same) (length-map-range_with_len (λ m. part_of (amounts_of m (r ∷ rows))) 0 measures)
+
+pub measured : (measures : ℕ) (rows : List (Row Text)) (cell : Cell Text) (total : Option shown.Agg) → option_map agg_in total ≡ agg_at text_eq measures rows cell → IfSome total (λ agg. length (agg_in agg).parts ≡ measures)
+measured measures rows cell None e = tt
+measured measures rows cell (Some agg) e = length-some measures (cov text_eq rows cell) (agg_in agg) (sym e)
 
 -- a cell that fields ask for has an entry for each of them
 pub length-found : (lists : List (List Text)) (asked : List Field) (cell : Cell ℕ) → cell_in lists asked ≡ Some cell → length cell ≡ length asked

@@ -1,5 +1,5 @@
 -- How a script ended, over the names that the run has for it.
-use Rattle.std.proofs.Common.{◌≡◌, ℕ, List, Option, Some, None, IfSome, refl, sym}
+use Rattle.std.proofs.Common.{◌≡◌, ℕ, List, Option, Some, None, IfSome, sym}
 use Rattle.std.specs.Prelude.{⊤}
 use Rattle.qc_io.specs.Outside.{Told}
 use Rattle.qc_schema.specs.Schema.{Layout}

@@ -1,28 +1,23 @@
 -- Files and lines that are refused.
-use Rattle.std.proofs.Common.{◌==◌, ◌≡◌, ◌<◌, ◌∙◌, ◌⊎◌, ℕ, zero, suc, Bool, true, false, cond, Option, Some, None, IfSome, List, [], ◌∷◌, length, refl, sym, ap, inl, inr, arith, Result, Ok, Err}
-use Rattle.std.specs.Prelude.{⊤, nat_lt, fold, option_map}
+use Rattle.std.proofs.Common.{◌==◌, ◌≡◌, ◌<◌, ◌∙◌, ℕ, suc, Bool, true, false, cond, Option, Some, None, IfSome, List, [], ◌∷◌, length, refl, ap, arith, Result, Ok, Err}
+use Rattle.std.specs.Prelude.{nat_lt, fold, option_map}
 use Rattle.std.specs.List.{position_or_len}
 use Rattle.std.proofs.lemmas.Bool.{ltb-true}
 use Rattle.cube_defs.specs.Text.{Text, text_cmp}
-use Rattle.cube_defs.specs.Tree.{classes}
+use Rattle.cube_defs.specs.Tree.{classes, nodes}
 use Rattle.cube_defs.specs.Rows.{Row}
 use Rattle.csv_load.specs.Batch.{Change, deleted, inserted}
 use Rattle.csv_load.specs.Files.{base_in, batch_in}
 use Rattle.csv_load.specs.Faults.{Fault}
-use Rattle.qc_io.specs.Outside.{Told}
-use Rattle.query_script.specs.Commands.{command_in}
-use Rattle.query_script.specs.Faults as lines
-use Rattle.query_script.specs.declared.line.LineRefused.{LineRefused}
-use Rattle.query_script.specs.declared.line.LineRefused.TheVariants as refusals
 use Rattle.warehouse.specs.Batch as batches
 use Rattle.warehouse.specs.Batch.{Applied, Kind, Refusal, after, first_number, first_twice, full_dim, is_missing, is_present, or_else, refusal_of, result, result_of, rows_after, texts_after, unless, with_row, with_tuple}
 use Rattle.warehouse.specs.State.{IsState, State, ids_of}
 use Rattle.warehouse.specs.Stored.{refusal_in}
 use Rattle.warehouse.specs.declared.refused.Refused.{Refused}
 use Rattle.warehouse.specs.declared.refused.Refused.TheVariants as files
-use Rattle.qc_session.specs.Answers.{Answered, answer, changed}
-use Rattle.qc_session.specs.Replies.{batch_texts, line_texts, refused_text}
-use Rattle.qc_session.specs.Reply.{IsDimension, fault_in}
+use Rattle.qc_session.specs.Answers.{changed}
+use Rattle.qc_session.specs.Replies.{batch_texts, refused_text}
+use Rattle.qc_session.specs.Reply.{IsDimension}
 
 pub file-refused : (s : State) (line : ℕ) (outcome : Result Applied Refusal) (cause : Option Refusal) (words : List Text) (reply : List ℕ) → IfSome cause (λ r. outcome ≡ Err r)
     → Some words ≡ option_map (batch_texts s.schema) cause → reply ≡ refused_text line words → changed s line outcome ≡ record { state = s; reply = reply }
@@ -68,6 +63,10 @@ not-rows : (b : Bool) (dim : ℕ) → cond b (Some batches.RowsFull) None ≡ So
 not-rows true dim e = cc
 not-rows false dim e = cc
 
+not-nodes : (b : Bool) (dim : ℕ) → cond b (Some batches.NodesFull) None ≡ Some (batches.ValuesFull dim) → ⊥
+not-nodes true dim e = cc
+not-nodes false dim e = cc
+
 values-within : (s : State) (changes : List (Change Text)) (dim : ℕ) → IsState s → refusal_of s changes ≡ Some (batches.ValuesFull dim) → dim < length s.schema.dims
 values-within s changes dim is e =
     let rest = or-second (option_map (λ k. batches.Twice k) (first_twice changes)) _ _ (not-numbered _ _ (first_twice changes) (λ k h. cc)) e in
@@ -76,8 +75,12 @@ values-within s changes dim is e =
     let rest4 = or-second (cond (nat_lt s.schema.rows (length (rows_after s.rows changes))) (Some batches.RowsFull) None) _ _ (not-rows _ dim) rest3 in
     values (full_dim s.schema.values (texts_after s.texts changes)) refl rest4
   where
-    values : (o : Option ℕ) → full_dim s.schema.values (texts_after s.texts changes) ≡ o → option_map (λ d. batches.ValuesFull d) o ≡ Some (batches.ValuesFull dim) → dim < length s.schema.dims
-    values None e h = cc
+    full : Bool
+    full = nat_lt s.schema.nodes (length (nodes text_cmp (rows_after s.rows changes)))
+
+    values : (o : Option ℕ) → full_dim s.schema.values (texts_after s.texts changes) ≡ o
+        → or_else (option_map (λ d. batches.ValuesFull d) o) (cond full (Some batches.NodesFull) None) ≡ Some (batches.ValuesFull dim) → dim < length s.schema.dims
+    values None e h = absurd (not-nodes full dim h)
     values (Some d) e h =
         let same : d ≡ dim = cc in
         let within = full-within s.schema.values (texts_after s.texts changes) d e in
@@ -116,4 +119,5 @@ dim-within s kind bytes (files.Missing k) is h = tt
 dim-within s kind bytes (files.Present k) is h = tt
 dim-within s kind bytes files.RowsFull is h = tt
 dim-within s kind bytes (files.ValuesFull dim) is h = result-within s kind bytes dim is h
+dim-within s kind bytes files.NodesFull is h = tt
 dim-within s kind bytes files.Memory is h = tt

@@ -12,7 +12,7 @@ use Rattle.qc_session.specs.Replies.{memory_text}
 use Rattle.qc_session.specs.Answers.{answer, file_of}
 use Rattle.warehouse.specs.State.{State, empty}
 use Rattle.qc_session.specs.Transcript.{Item, Run, is_skipped, item, items, run_at, step, transcript}
-use Rattle.qc_session.specs.Runs.{AreRising, AreSkipped, StoppedAt, StoppedWriting, Took, Wrote, WroteAll, line_at, may_skip}
+use Rattle.qc_session.specs.Runs.{AreRising, AreSkipped, StoppedAt, StoppedWriting, Took, WroteAll, line_at, may_skip}
 use Rattle.std.specs.Prelude.{⊤}
 use Rattle.qc_session.specs.declared.session.Stop.{Stop}
 use Rattle.qc_session.specs.declared.session.Stop.TheVariants as stops

@@ -1,9 +1,10 @@
 -- The answer to a line: a filter and a sum over the rows that are present, or what a file does to them.
 use Rattle.std.specs.Prelude.{ℕ, Option, Some, None, List, length, map, nat_lt, Result, Ok, Err, if◌then◌else◌}
 use Rattle.std.specs.Option.{option_map}
-use Rattle.cube_defs.specs.Text.{Text, text_eq}
+use Rattle.cube_defs.specs.Text.{Text, text_cmp, text_eq}
 use Rattle.cube_defs.specs.Cell.{Cell}
 use Rattle.cube_defs.specs.Rows.{Agg}
+use Rattle.cube_defs.specs.Tree.{classes, links, nodes, tree_edges}
 use Rattle.cube_laws.specs.Total.{agg_at}
 use Rattle.cell_core.specs.declared.fields.Field.{Field}
 use Rattle.cell_core.specs.declared.fields.Field.TheVariants as fields
@@ -15,7 +16,7 @@ use Rattle.query_script.specs.declared.line.Command.{Command}
 use Rattle.query_script.specs.declared.line.Command.TheVariants as commands
 use Rattle.warehouse.specs.Batch.{Applied, Kind, Load, Apply, Refusal, result}
 use Rattle.warehouse.specs.State.{State}
-use Rattle.qc_session.specs.Replies.{applied_text, batch_texts, line_texts, none_text, point_text, refused_text, size_texts}
+use Rattle.qc_session.specs.Replies.{applied_text, batch_texts, line_texts, none_text, point_text, refused_text, size_texts, stats_text}
 
 -- the most bytes of a file
 abbrev pub limit : ℕ
@@ -58,12 +59,18 @@ point_reply schema line cell (Some agg) = point_text line cell schema.measures a
 abbrev pub pointed : State → ℕ → Cell Text → List ℕ
 pointed state line cell = point_reply state.schema line cell (agg_at text_eq (length state.schema.measures) state.rows cell)
 
+-- the reply to `stats`: what is counted of the rows and of their canonical tree
+abbrev pub counted : State → ℕ → List ℕ
+counted state line =
+    stats_text line (length state.rows) (length (classes text_cmp state.rows)) (length (nodes text_cmp state.rows)) (tree_edges text_cmp state.rows) (links text_cmp state.rows)
+
 -- the answer to a command or to a line that is none, and nothing where the file that it names isn't told
 abbrev pub answer_to : State → Told → ℕ → Result Command LineFault → Option Answered
 answer_to state told line (Err fault) = Some (stays state (refused_text line (line_texts fault)))
 answer_to state told line (Ok (commands.Load name)) = option_map (file_answer state line Load) (told name)
 answer_to state told line (Ok (commands.Apply name)) = option_map (file_answer state line Apply) (told name)
 answer_to state told line (Ok (commands.Point asked)) = Some (stays state (pointed state line (cell_asked asked)))
+answer_to state told line (Ok commands.Stats) = Some (stays state (counted state line))
 
 abbrev pub answer : State → Told → ℕ → List ℕ → Option Answered
 answer state told number line = answer_to state told number (command_in (length state.schema.dims) line)
@@ -74,6 +81,7 @@ file_named (Err fault) = None
 file_named (Ok (commands.Load name)) = Some name
 file_named (Ok (commands.Apply name)) = Some name
 file_named (Ok (commands.Point asked)) = None
+file_named (Ok commands.Stats) = None
 
 -- the file that a line names, over so many dimensions
 abbrev pub file_of : ℕ → List ℕ → Option Text

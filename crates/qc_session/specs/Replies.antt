@@ -46,6 +46,7 @@ batch_texts schema (batches.Missing k) = numbered (codes "missing") k
 batch_texts schema (batches.Present k) = numbered (codes "present") k
 batch_texts schema batches.RowsFull = codes "rows" ∷ []
 batch_texts schema (batches.ValuesFull dim) = codes "values" ∷ slice_index_or schema.dims dim [] ∷ []
+batch_texts schema batches.NodesFull = codes "nodes" ∷ []
 
 -- for its size
 abbrev pub size_texts : List Text
@@ -56,6 +57,11 @@ refused_text line refusal = record_text (codes "refused" ∷ decimal line ∷ re
 
 abbrev pub applied_text : ℕ → ℕ → ℕ → List ℕ
 applied_text line records classes = record_text (codes "applied" ∷ decimal line ∷ decimal records ∷ decimal classes ∷ [])
+
+-- how many rows, classes and nodes there are, how many edges lead to a node with one value more, and how many others
+abbrev pub stats_text : ℕ → ℕ → ℕ → ℕ → ℕ → ℕ → List ℕ
+stats_text line rows classes nodes tree_edges links =
+    record_text (codes "stats" ∷ decimal line ∷ decimal rows ∷ decimal classes ∷ decimal nodes ∷ decimal tree_edges ∷ decimal links ∷ [])
 
 abbrev pub none_text : ℕ → List ℕ
 none_text line = record_text (codes "none" ∷ decimal line ∷ [])

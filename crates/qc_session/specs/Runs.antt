@@ -1,5 +1,5 @@
 -- How a run ends.
-use Rattle.std.specs.Prelude.{◌≡◌, ◌≤◌, ◌<◌, ◌&&◌, ◌⊎◌, ◌++◌, ℕ, zero, suc, Bool, true, false, not, List, [], ◌∷◌, length, take, Option, Some, None, IfSome, IsSomeAnd, codes, string_bytes, slice_index_or, decimal, Result, Ok, Err, nat_lt, ⊤, String, if◌then◌else◌}
+use Rattle.std.specs.Prelude.{◌≡◌, ◌≤◌, ◌<◌, ◌&&◌, ◌⊎◌, ◌++◌, ℕ, zero, suc, Bool, true, not, List, [], ◌∷◌, length, take, Option, Some, None, IfSome, IsSomeAnd, codes, string_bytes, slice_index_or, decimal, Result, Ok, Err, nat_lt, option_map, ⊤, String, if◌then◌else◌}
 use Rattle.std.specs.declared.alloc.Global.{Global}
 use Rattle.std.specs.List.{AllByRecursion}
 use Rattle.std.specs.Str.{bytes_eq}
@@ -11,7 +11,7 @@ use Rattle.qc_schema.specs.declared.refusal.SchemaCause.{SchemaCause}
 use Rattle.qc_schema.specs.declared.refusal.SchemaCause.TheVariants as causes
 use Rattle.qc_session.specs.Lines.{is_passed, script_lines}
 use Rattle.query_script.specs.Lines.{may_want_memory}
-use Rattle.warehouse.specs.State.{State}
+use Rattle.warehouse.specs.State.{Held, State}
 use Rattle.qc_session.specs.Answers.{file_of, limit}
 use Rattle.qc_session.specs.Transcript.{run_at, transcript}
 
@@ -100,7 +100,7 @@ abbrev pub line_at : List (List ℕ) → ℕ → List ℕ
 line_at lines zero = []
 line_at lines (suc k) = slice_index_or lines k []
 
--- a line that may be skipped for want of memory: a text whose word is a command
+-- a line that may be skipped for want of memory: a text whose word is a command other than `stats`
 abbrev pub may_skip : List ℕ → Bool
 may_skip line = not (is_passed line) && may_want_memory line
 
@@ -112,6 +112,10 @@ AreRising n (k ∷ ks) = (n < k) × AreRising k ks
 pub record AreSkipped (lines : List (List ℕ)) (skipped : List ℕ) : Type 0 where
   pub rising : AreRising 0 skipped
   pub commands : AllByRecursion (λ k. may_skip (line_at lines k) ≡ true) skipped
+
+-- the state of the warehouse that a run hands back
+abbrev pub state_in : Option Held → Option State
+state_in end = option_map (λ held. held.state) end
 
 -- these lines were taken, and these were their replies
 pub record Took (told : Told) (schema : Layout) (skipped : List ℕ) (lines : List (List ℕ)) (state : State) (replies : List ℕ) : Type 0 where

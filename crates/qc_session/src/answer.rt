@@ -1,19 +1,21 @@
 // The answer to one line.
-ghost use Rattle.std.specs.Prelude.{Err, IfErr, IfOk, IfSome, IsTrue, None, Ok, OnErr, Some, length, option_map, true, ⊤, ◌≡◌, ◌≤◌};
+ghost use Rattle.std.specs.Prelude.{Err, IfErr, IfOk, IfSome, IsTrue, None, Ok, OnErr, Some, length, option_map, true, ⊤, ◌<◌, ◌≡◌, ◌≤◌};
 ghost use Rattle.qc_io.specs.Outside.{Rose};
-ghost use Rattle.query_script.specs.Commands.{IsCommand};
+ghost use Rattle.query_script.specs.Commands.{IsCommand, wants_memory};
 ghost use Rattle.query_script.specs.Lines.{may_want_memory};
 ghost use Rattle.warehouse.specs.Batch as batches;
 ghost use Rattle.qc_session.specs.Answers.{answer, answer_to, changed, file_answer, file_named, file_of};
 
 use crate::point::answer_point;
 use crate::reply::{
-    Reply, ShortReply, applied, refused, words_of_file, words_of_line, words_of_size,
+    Reply, ShortReply, applied, refused, stats, words_of_file, words_of_line, words_of_size,
 };
-use cell_core::{Memory, Text};
+use cell_core::{Memory, Steps, Text};
 use qc_io::{Files, ReadRefused, read_all};
 use query_script::{Command, read_line};
 use std::alloc::{AllocError, Global};
+use std::marker::Brand;
+use std::sync::ledger::{Blank, Ledger};
 use warehouse::{Applied, Refused, Warehouse};
 
 /// What a file is taken for.
@@ -41,17 +43,36 @@ ghost use Rattle.warehouse.specs.Stored.{refusal_in};
 /// The most bytes of a file.
 pub const LIMIT: usize = 268_435_456;
 
-// Takes the bytes of a file.
-fn take_file(warehouse: &mut Warehouse, kind: Kind, bytes: &[u8]) -> Result<Applied, Refused>
-    requires { length bytes.now ≤ 268435456 }
-    ensures applied { IfOk result (λ applied. batches.result warehouse.old (kind_in kind) bytes.now ≡ Ok (record { records = applied.records; classes = applied.classes; state = warehouse.new })) }
-    ensures refused { IfErr result (λ e. IfSome (refusal_in e) (λ refusal. batches.result warehouse.old (kind_in kind) bytes.now ≡ Err refusal)) }
+// Takes the bytes of a file, with a count of steps under the blank's name.
+fn take_counted<L: Ledger>(
+    warehouse: &mut Warehouse,
+    kind: Kind,
+    bytes: &[u8],
+    blank: Blank,
+) -> Result<Applied, Refused>
+    requires name { blank.name ≡ L.name }
+    requires parts { blank.parts ≡ L.parts }
+    requires some { 0 < L.parts }
+    requires short { length bytes.now ≤ 268435456 }
+    ensures applied { IfOk result (λ applied. batches.result warehouse.old.state (kind_in kind) bytes.now ≡ Ok (record { records = applied.records; classes = applied.classes; state = warehouse.new.state })) }
+    ensures refused { IfErr result (λ e. IfSome (refusal_in e) (λ refusal. batches.result warehouse.old.state (kind_in kind) bytes.now ≡ Err refusal)) }
     ensures err { OnErr result (warehouse.new ≡ warehouse.old) }
 {
+    let mut steps = Steps::<L>::start(blank);
     match kind {
-        Kind::Load => warehouse.load(bytes),
-        Kind::Apply => warehouse.apply(bytes),
+        Kind::Load => warehouse.load(bytes, &mut steps),
+        Kind::Apply => warehouse.apply(bytes, &mut steps),
     }
+}
+
+// The same, where nobody looks at the count.
+fn take_file(warehouse: &mut Warehouse, kind: Kind, bytes: &[u8]) -> Result<Applied, Refused>
+    requires { length bytes.now ≤ 268435456 }
+    ensures applied { IfOk result (λ applied. batches.result warehouse.old.state (kind_in kind) bytes.now ≡ Ok (record { records = applied.records; classes = applied.classes; state = warehouse.new.state })) }
+    ensures refused { IfErr result (λ e. IfSome (refusal_in e) (λ refusal. batches.result warehouse.old.state (kind_in kind) bytes.now ≡ Err refusal)) }
+    ensures err { OnErr result (warehouse.new ≡ warehouse.old) }
+{
+    take_counted::<Brand>(warehouse, kind, bytes, Blank::new(1))
 }
 
 // The same, with its reply.
@@ -62,7 +83,7 @@ fn change(
     bytes: &[u8],
 ) -> Result<ShortReply, Memory>
     requires { length bytes.now ≤ 268435456 }
-    ensures ok { IfOk result (λ reply. changed warehouse.old number (batches.result warehouse.old (kind_in kind) bytes.now) ≡ record { state = warehouse.new; reply = reply }) }
+    ensures ok { IfOk result (λ reply. changed warehouse.old.state number (batches.result warehouse.old.state (kind_in kind) bytes.now) ≡ record { state = warehouse.new.state; reply = reply }) }
     ensures err { OnErr result (warehouse.new ≡ warehouse.old) }
 {
     match take_file(warehouse, kind, bytes) {
@@ -89,7 +110,7 @@ fn answer_file<F: Files>(
     ensures kept { OnErr result (warehouse.new ≡ warehouse.old) }
     ensures fault { IfErr result (λ stop. MatchLineStop stop ⊤ (λ file. (file ≡ name) × Rose (F.faults files.old) (F.faults files.new))) }
     ensures untold { IfErr result (λ stop. MatchLineStop stop ⊤ (λ file. IsTrue (F.steady files.old) → IfSome (F.told files.old) (λ t. t file ≡ None))) }
-    ensures answered { IfOk result (λ reply. IfSome (F.told files.old) (λ t. option_map (file_answer warehouse.old number (kind_in kind)) (t name) ≡ Some (record { state = warehouse.new; reply = reply_bytes reply }))) }
+    ensures answered { IfOk result (λ reply. IfSome (F.told files.old) (λ t. option_map (file_answer warehouse.old.state number (kind_in kind)) (t name) ≡ Some (record { state = warehouse.new.state; reply = reply_bytes reply }))) }
 {
     match read_all(alloc, files, name.as_str(), LIMIT) {
         Ok(bytes) => match change(warehouse, number, kind, &bytes) {
@@ -110,14 +131,15 @@ fn answer_command<F: Files>(
     number: u32,
     command: Command,
 ) -> Result<Reply, LineStop>
-    requires { IsCommand (length warehouse.old.schema.dims) command }
+    requires { IsCommand (length warehouse.old.state.schema.dims) command }
     ensures later { F.faults files.old ≤ F.faults files.new }
     ensures told { F.told files.new ≡ F.told files.old }
     ensures steady { IsTrue (F.steady files.old) → IsTrue (F.steady files.new) }
     ensures kept { OnErr result (warehouse.new ≡ warehouse.old) }
+    ensures memory { IfErr result (λ stop. MatchLineStop stop (wants_memory command ≡ true) (λ file. ⊤)) }
     ensures fault { IfErr result (λ stop. MatchLineStop stop ⊤ (λ file. (file_named (Ok command) ≡ Some file) × Rose (F.faults files.old) (F.faults files.new))) }
     ensures untold { IfErr result (λ stop. MatchLineStop stop ⊤ (λ file. IsTrue (F.steady files.old) → IfSome (F.told files.old) (λ t. t file ≡ None))) }
-    ensures answered { IfOk result (λ reply. IfSome (F.told files.old) (λ t. answer_to warehouse.old t number (Ok command) ≡ Some (record { state = warehouse.new; reply = reply_bytes reply }))) }
+    ensures answered { IfOk result (λ reply. IfSome (F.told files.old) (λ t. answer_to warehouse.old.state t number (Ok command) ≡ Some (record { state = warehouse.new.state; reply = reply_bytes reply }))) }
 {
     match command {
         Command::Load(name) => answer_file(alloc, files, warehouse, number, Kind::Load, name),
@@ -126,6 +148,7 @@ fn answer_command<F: Files>(
             Ok(reply) => Ok(reply),
             Err(_) => Err(LineStop::Memory),
         },
+        Command::Stats => Ok(Reply::Short(stats(number, warehouse.stats()))),
     }
 }
 
@@ -142,10 +165,10 @@ pub fn answer_line<F: Files>(
     ensures told { F.told files.new ≡ F.told files.old }
     ensures steady { IsTrue (F.steady files.old) → IsTrue (F.steady files.new) }
     ensures kept { OnErr result (warehouse.new ≡ warehouse.old) }
-    ensures skips { IfErr result (λ stop. MatchLineStop stop (may_want_memory line.now ≡ true) (λ file. file_of (length warehouse.old.schema.dims) line.now ≡ Some file)) }
+    ensures skips { IfErr result (λ stop. MatchLineStop stop (may_want_memory line.now ≡ true) (λ file. file_of (length warehouse.old.state.schema.dims) line.now ≡ Some file)) }
     ensures fault { IfErr result (λ stop. MatchLineStop stop ⊤ (λ file. Rose (F.faults files.old) (F.faults files.new))) }
     ensures untold { IfErr result (λ stop. MatchLineStop stop ⊤ (λ file. IsTrue (F.steady files.old) → IfSome (F.told files.old) (λ t. t file ≡ None))) }
-    ensures answered { IfOk result (λ reply. IfSome (F.told files.old) (λ t. answer warehouse.old t number line.now ≡ Some (record { state = warehouse.new; reply = reply_bytes reply }))) }
+    ensures answered { IfOk result (λ reply. IfSome (F.told files.old) (λ t. answer warehouse.old.state t number line.now ≡ Some (record { state = warehouse.new.state; reply = reply_bytes reply }))) }
 {
     match read_line(alloc, warehouse.schema(), line) {
         Ok(command) => answer_command(alloc, files, warehouse, number, command),

@@ -70,20 +70,27 @@ fn push_part(out: &mut Vec<u8>, agg: &Agg, measure: u8, scale: u8) -> Result<(),
     Ok(())
 }
 
+fn measures_of(agg: &Agg) -> u8
+    ensures value { result ≡ agg.now.measures }
+    ensures parts { result ≡ length (agg_in agg.now).parts }
+{
+    agg.parts[..usize::from(agg.measures)].len() as u8
+}
+
 // The four numbers of each measure.
 fn push_parts(out: &mut Vec<u8>, schema: &Schema, agg: &Agg) -> Result<(), Memory>
-    requires { agg.now.measures ≡ length schema.now.measures }
+    requires { length (agg_in agg.now).parts ≡ length schema.now.measures }
     ensures { OnOk result (out.new.items ≡ out.old.items ++ fields_text (parts_texts agg.now.count schema.now.measures (agg_in agg.now).parts)) }
 {
     let dims = schema.dims();
-    for measure in 0..agg.measures {
+    for measure in 0..measures_of(agg) {
         push_part(out, agg, measure, schema.scale(measure))?;
     }
     Ok(())
 }
 
 fn push_agg(out: &mut Vec<u8>, schema: &Schema, agg: &Agg) -> Result<(), Memory>
-    requires { agg.now.measures ≡ length schema.now.measures }
+    requires { length (agg_in agg.now).parts ≡ length schema.now.measures }
     ensures { OnOk result (out.new.items ≡ out.old.items ++ fields_text (agg_texts schema.now.measures (agg_in agg.now))) }
 {
     push_number(out, u64::from(agg.count))?;
@@ -177,7 +184,7 @@ pub fn point_reply(
     schema: &Schema,
     total: &Agg,
 ) -> Result<Vec<u8>, Memory>
-    requires { total.now.measures ≡ length schema.now.measures }
+    requires { length (agg_in total.now).parts ≡ length schema.now.measures }
     ensures { IfOk result (λ reply. reply.items ≡ point_text line (cell_asked cell.now) schema.now.measures (agg_in total.now)) }
 {
     let mut out = Vec::from_slice(alloc, b"point")?;

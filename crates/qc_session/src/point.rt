@@ -12,17 +12,18 @@ use crate::reply::{Reply, none};
 use aggregates::Agg;
 use cell_core::{Fields, Memory};
 use std::alloc::Global;
+use tree_search::total_uncounted;
 use warehouse::Warehouse;
 
 // What the rows that the asked cell covers come to. None where it covers none.
 fn total_at(warehouse: &Warehouse, asked: &Fields) -> Option<Agg>
-    requires dims { length asked.now ≡ length warehouse.now.schema.dims }
+    requires dims { length asked.now ≡ length warehouse.now.state.schema.dims }
     requires point { All IsPointField asked.now }
-    ensures value { option_map agg_in result ≡ agg_at text_eq (length warehouse.now.schema.measures) warehouse.now.rows (cell_asked asked.now) }
-    ensures measures { IfSome result (λ agg. agg.measures ≡ length warehouse.now.schema.measures) }
+    ensures value { option_map agg_in result ≡ agg_at text_eq (length warehouse.now.state.schema.measures) warehouse.now.state.rows (cell_asked asked.now) }
+    ensures measures { IfSome result (λ agg. length (agg_in agg).parts ≡ length warehouse.now.state.schema.measures) }
 {
     let cell = warehouse.dict().cell_of(asked)?;
-    warehouse.cell_sum(&cell)
+    total_uncounted(warehouse.tree(), &cell)
 }
 
 /// Answers a point that asks Any or a value of each dimension.
@@ -32,9 +33,9 @@ pub fn answer_point(
     number: u32,
     asked: &Fields,
 ) -> Result<Reply, Memory>
-    requires dims { length asked.now ≡ length warehouse.now.schema.dims }
+    requires dims { length asked.now ≡ length warehouse.now.state.schema.dims }
     requires point { All IsPointField asked.now }
-    ensures { IfOk result (λ reply. reply_bytes reply ≡ pointed warehouse.now number (cell_asked asked.now)) }
+    ensures { IfOk result (λ reply. reply_bytes reply ≡ pointed warehouse.now.state number (cell_asked asked.now)) }
 {
     let Some(total) = total_at(warehouse, asked) else {
         return Ok(Reply::Short(none(number)));

@@ -1,13 +1,13 @@
 // Replies that are made without memory.
 ghost use Rattle.std.specs.Prelude.{IfSome, length, option_map, ◌++◌, ◌<◌, ◌≡◌, ◌≤◌, ◌^◌};
-ghost use Rattle.qc_session.specs.Replies.{applied_text, batch_texts, line_texts, memory_text, none_text, numbered, refused_text, size_texts};
+ghost use Rattle.qc_session.specs.Replies.{applied_text, batch_texts, line_texts, memory_text, none_text, numbered, refused_text, size_texts, stats_text};
 
 use arrayvec::ArrayString;
 use itoa::Buffer;
 use qc_schema::Schema;
 use query_script::LineRefused;
 use std::marker::Model;
-use warehouse::Refused;
+use warehouse::{Refused, Stats};
 
 /// A reply to a line.
 #[derive(Drop)]
@@ -118,6 +118,7 @@ pub fn words_of_file(refused: Refused, schema: &Schema) -> Option<Words<'_>>
         Refused::Present(k) => Some(Words::number("present", k)),
         Refused::RowsFull => Some(Words::code("rows")),
         Refused::ValuesFull(dim) => Some(Words::name("values", schema.dim_name(dim))),
+        Refused::NodesFull => Some(Words::code("nodes")),
         Refused::Memory => None,
     }
 }
@@ -130,7 +131,7 @@ pub fn words_of_size() -> Words<'static>
     Words::code("size")
 }
 
-const ROOM: usize = 64;
+const ROOM: usize = 96;
 
 /// A reply in a fixed buffer, seen as its bytes.
 #[derive(Drop)]
@@ -173,7 +174,7 @@ fn begun(word: &str, line: u32) -> ShortReply
 impl ShortReply {
     // A field more.
     fn field(&mut self, field: &str)
-        requires { length self.old + length field.now < 64 }
+        requires { length self.old + length field.now < 95 }
         ensures text { self.new ≡ self.old ++ 44 ∷ field.now }
     {
         self.text.push_str(",");
@@ -182,7 +183,7 @@ impl ShortReply {
 
     // The end of the record.
     fn ended(mut self) -> ShortReply
-        requires { length self < 64 }
+        requires { length self < 96 }
         ensures { result ≡ self ++ 10 ∷ [] }
     {
         self.text.push_str("\n");
@@ -211,6 +212,19 @@ pub fn applied(line: u32, records: u32, classes: u32) -> ShortReply
     let mut reply = begun("applied", line);
     reply.field(Buffer::new().format(records));
     reply.field(Buffer::new().format(classes));
+    reply.ended()
+}
+
+/// What is counted of the rows and of their tree.
+pub fn stats(line: u32, counts: Stats) -> ShortReply
+    ensures { result ≡ stats_text line counts.rows counts.classes counts.nodes counts.tree_edges counts.links }
+{
+    let mut reply = begun("stats", line);
+    reply.field(Buffer::new().format(counts.rows));
+    reply.field(Buffer::new().format(counts.classes));
+    reply.field(Buffer::new().format(counts.nodes));
+    reply.field(Buffer::new().format(counts.tree_edges));
+    reply.field(Buffer::new().format(counts.links));
     reply.ended()
 }
 

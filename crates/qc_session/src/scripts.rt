@@ -2,7 +2,8 @@
 ghost use Rattle.std.specs.Prelude.{◌≡◌, ◌≤◌, ◌<◌, ◌^◌, ◌⊎◌, ◌↔◌, [], Some, None, IfOk, IfErr, IfSome, IsSome, IsNone, IsTrue, is_some, true, option_map, MatchOption, length, map};
 ghost use Rattle.qc_io.specs.Outside.{Rose};
 ghost use Rattle.qc_session.specs.Lines.{lines_of, script_lines, without_cr};
-ghost use Rattle.qc_session.specs.Runs.{AreSkipped, BrokenOff, Cause, CannotRead, CannotWrite, Finished, IsNever, IsNoSchema, IsSchemaOf, IsScriptOf, IsStatus, Names, OutOfMemory, ReadFails, Said, StoppedAt, StoppedWriting, Unread, Usage, WroteAll, names_of, refusal_of, status_of};
+ghost use Rattle.qc_session.specs.Runs.{AreSkipped, BrokenOff, Cause, CannotRead, CannotWrite, Finished, IsNever, IsNoSchema, IsSchemaOf, IsScriptOf, IsStatus, Names, OutOfMemory, ReadFails, Said, StoppedAt, StoppedWriting, Unread, Usage, WroteAll, names_of, refusal_of, state_in, status_of};
+ghost use Rattle.warehouse.specs.State.{IsHeld};
 
 use crate::answer::LIMIT;
 use crate::failure::{Failure, SchemaFault, tell};
@@ -120,7 +121,9 @@ fn finished(session: Session) -> Outcome
     ensures status { result.status ≡ 0 }
     ensures skipped { result.skipped.items ≡ session.skipped.items }
     ensures end { result.end ≡ Some session.warehouse }
+    ensures held { IsHeld session.warehouse }
 {
+    let _tree = session.warehouse.tree();
     Outcome {
         status: 0,
         skipped: session.skipped,
@@ -153,7 +156,8 @@ fn run_script<F: Files, O: Sink, E: Sink>(
     requires { length script.now ≤ 268435456 }
     ensures known { (result.status ≡ 0) ⊎ (result.status ≡ 3) ⊎ (result.status ≡ 4) ⊎ (result.status ≡ 5) }
     ensures skipped { AreSkipped (script_lines script.now) result.skipped.items }
-    ensures all { result.status ≡ 0 → IfSome (F.told files.old) (λ t. WroteAll t schema result.skipped.items (script_lines script.now) result.end (O.taken out.old) (O.taken out.new)) }
+    ensures all { result.status ≡ 0 → IfSome (F.told files.old) (λ t. WroteAll t schema result.skipped.items (script_lines script.now) (state_in result.end) (O.taken out.old) (O.taken out.new)) }
+    ensures held { IfSome result.end IsHeld }
     ensures there { result.status ≡ 0 → is_some result.end ≡ true }
     ensures none { (result.status ≡ 0 → ⊥) → result.end ≡ None }
     ensures silent { result.status ≡ 0 → err.new ≡ err.old }
@@ -214,9 +218,10 @@ pub fn run<F: Files, O: Sink, E: Sink>(
 
     // Status 0: the transcript, whole.
     ensures transcript { result.status ≡ 0 → IfSome (names_of words.now) (λ names. IfSome (F.told files.old)
-        (λ t. Finished t names result.skipped.items result.end (O.taken out.old) (O.taken out.new))) }
+        (λ t. Finished t names result.skipped.items (state_in result.end) (O.taken out.old) (O.taken out.new))) }
     ensures silent { result.status ≡ 0 → err.new ≡ err.old }
     ensures ended { result.status ≡ 0 → is_some result.end ≡ true }
+    ensures held { IfSome result.end IsHeld }
     ensures no_end { (result.status ≡ 0 → ⊥) → result.end ≡ None }
     ensures skipped { IfSome (names_of words.now) (λ names. IfSome (F.told files.old)
         (λ t. MatchOption (t names.script) (result.skipped.items ≡ []) (λ script. AreSkipped (script_lines script) result.skipped.items))) }

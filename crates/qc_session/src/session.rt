@@ -51,14 +51,14 @@ fn take_line<F: Files, O: Sink>(
     ensures told { F.told files.new ≡ F.told files.old }
     ensures steady { IsTrue (F.steady files.old) → IsTrue (F.steady files.new) }
     ensures read_fault { IfErr result (λ stop. IfStop stop (λ name. Rose (F.faults files.old) (F.faults files.new)) ⊤) }
-    ensures names { IfErr result (λ stop. IfStop stop (λ name. file_of (length session.old.warehouse.schema.dims) line.now ≡ Some name) ⊤) }
+    ensures names { IfErr result (λ stop. IfStop stop (λ name. file_of (length session.old.warehouse.state.schema.dims) line.now ≡ Some name) ⊤) }
     ensures untold { IfErr result (λ stop. IfStop stop (λ name. IsTrue (F.steady files.old) → IfSome (F.told files.old) (λ t. t name ≡ None)) ⊤) }
     ensures write_fault { IfErr result (λ stop. IfStop stop (λ name. ⊤) (Rose (O.faults out.old) (O.faults out.new))) }
     ensures stays { IfErr result (λ stop. IfStop stop (λ name. (O.taken out.new ≡ O.taken out.old) × (session.new.skipped.items ≡ session.old.skipped.items)) ⊤) }
-    ensures wrote { OnOk result (WroteLine (F.told files.old) session.new.skipped.items (session.old.number + 1) session.old.warehouse line.now
-        session.new.warehouse (O.taken out.old) (O.taken out.new)) }
-    ensures part { IfErr result (λ stop. IfStop stop (λ name. ⊤) (WrotePart (F.told files.old) session.new.skipped.items (session.old.number + 1) session.old.warehouse line.now
-        session.new.warehouse (O.taken out.old) (O.taken out.new))) }
+    ensures wrote { OnOk result (WroteLine (F.told files.old) session.new.skipped.items (session.old.number + 1) session.old.warehouse.state line.now
+        session.new.warehouse.state (O.taken out.old) (O.taken out.new)) }
+    ensures part { IfErr result (λ stop. IfStop stop (λ name. ⊤) (WrotePart (F.told files.old) session.new.skipped.items (session.old.number + 1) session.old.warehouse.state line.now
+        session.new.warehouse.state (O.taken out.old) (O.taken out.new))) }
     ensures skips { Skips session.old.skipped.items (session.old.number + 1) line.now session.new.skipped.items }
     ensures number { OnOk result (session.new.number ≡ session.old.number + 1) }
     ensures capacity { vec_capacity session.old.skipped ≤ vec_capacity session.new.skipped }
@@ -98,16 +98,16 @@ pub fn take_lines<F: Files, O: Sink>(
     requires few { length (lines_of script.now) < 2 ^ 32 }
     requires short { length script.now ≤ 268435456 }
     requires fresh { (session.old.number ≡ 0) × (session.old.skipped.items ≡ []) }
-    requires state { session.old.warehouse ≡ empty session.old.warehouse.schema }
+    requires state { session.old.warehouse.state ≡ empty session.old.warehouse.state.schema }
     ensures later_files { F.faults files.old ≤ F.faults files.new }
     ensures later_out { O.faults out.old ≤ O.faults out.new }
     ensures read_fault { IfErr result (λ stop. IfStop stop (λ name. Rose (F.faults files.old) (F.faults files.new)) ⊤) }
     ensures write_fault { IfErr result (λ stop. IfStop stop (λ name. ⊤) (Rose (O.faults out.old) (O.faults out.new))) }
     ensures skipped { AreSkipped (map without_cr (lines_of script.now)) session.new.skipped.items }
-    ensures all { OnOk result (IfSome (F.told files.old) (λ t. WroteAll t session.old.warehouse.schema session.new.skipped.items (map without_cr (lines_of script.now)) (Some session.new.warehouse) (O.taken out.old) (O.taken out.new))) }
-    ensures before { IfErr result (λ stop. IfStop stop (λ name. IfSome (F.told files.old) (λ t. StoppedAt t (IsTrue (F.steady files.old)) session.old.warehouse.schema session.new.skipped.items
+    ensures all { OnOk result (IfSome (F.told files.old) (λ t. WroteAll t session.old.warehouse.state.schema session.new.skipped.items (map without_cr (lines_of script.now)) (Some session.new.warehouse.state) (O.taken out.old) (O.taken out.new))) }
+    ensures before { IfErr result (λ stop. IfStop stop (λ name. IfSome (F.told files.old) (λ t. StoppedAt t (IsTrue (F.steady files.old)) session.old.warehouse.state.schema session.new.skipped.items
         (map without_cr (lines_of script.now)) name (O.taken out.old) (O.taken out.new))) ⊤) }
-    ensures part { IfErr result (λ stop. IfStop stop (λ name. ⊤) (IfSome (F.told files.old) (λ t. StoppedWriting t session.old.warehouse.schema session.new.skipped.items
+    ensures part { IfErr result (λ stop. IfStop stop (λ name. ⊤) (IfSome (F.told files.old) (λ t. StoppedWriting t session.old.warehouse.state.schema session.new.skipped.items
         (map without_cr (lines_of script.now)) (O.taken out.old) (O.taken out.new)))) }
 {
     let mut rest = script;

@@ -1,3 +1,5 @@
+ghost use Rattle.std.specs.Prelude.{None, ◌≡◌};
+
 use crate::run;
 use qc_io::{MemoryFiles, MemorySink};
 use std::alloc::{AllocError, Global};
@@ -29,6 +31,44 @@ struct Ran {
     err: MemorySink,
 }
 
+// Adds the files of a script: its schema, a base file, the worked table and batches.
+fn add_files(
+    files: &mut MemoryFiles,
+    schema: &[u8],
+    base: &[u8],
+    batches: [&[u8]; 3],
+    script: &[u8],
+) -> Result<(), AllocError>
+    requires { files.old.store.open_name ≡ None }
+{
+    files.add("s.schema", schema)?;
+    files.add("script", script)?;
+    files.add("base.csv", base)?;
+    files.add("good.csv", BASE)?;
+    files.add("b.csv", batches[0])?;
+    files.add("c.csv", batches[1])?;
+    files.add("d.csv", batches[2])
+}
+
+// Runs with these words. The writes to out that are listed fail.
+fn run_words(
+    alloc: Global,
+    texts: &[&str],
+    files: &mut MemoryFiles,
+    writes: &[u64],
+) -> Result<Ran, AllocError> {
+    let words = words(alloc, texts)?;
+    let mut out = MemorySink::new(alloc, writes, 1000, 2000)?;
+    let mut err = MemorySink::new(alloc, &[], 5, 200)?;
+    let outcome = run(alloc, &words, files, &mut out, &mut err);
+    Ok(Ran {
+        status: outcome.status,
+        skipped: outcome.skipped.len(),
+        out,
+        err,
+    })
+}
+
 // Runs a script over files in memory. The calls of the files and the writes to out that are listed fail.
 fn run_over(
     alloc: Global,
@@ -40,23 +80,8 @@ fn run_over(
     writes: &[u64],
 ) -> Result<Ran, AllocError> {
     let mut files = MemoryFiles::new(alloc, reads, 7)?;
-    files.add("s.schema", schema)?;
-    files.add("script", script)?;
-    files.add("base.csv", base)?;
-    files.add("good.csv", BASE)?;
-    files.add("b.csv", batches[0])?;
-    files.add("c.csv", batches[1])?;
-    files.add("d.csv", batches[2])?;
-    let mut out = MemorySink::new(alloc, writes, 1000, 2000)?;
-    let mut err = MemorySink::new(alloc, &[], 5, 200)?;
-    let words = words(alloc, &["run", "s.schema", "script"])?;
-    let outcome = run(alloc, &words, &mut files, &mut out, &mut err);
-    Ok(Ran {
-        status: outcome.status,
-        skipped: outcome.skipped.len(),
-        out,
-        err,
-    })
+    add_files(&mut files, schema, base, batches, script)?;
+    run_words(alloc, &["run", "s.schema", "script"], &mut files, writes)
 }
 
 // With ample memory a script has these replies, and no line is skipped.
@@ -94,6 +119,99 @@ fn points_of_the_worked_table(rt: HostRuntime) -> Result<(), Fail> {
     Ok(())
 }
 
+// The fourth row of the worked table comes, and goes.
+const PLUS: &[u8] = b"op,id,store,product,season,sale\n+,4,S2,P2,f,3\n";
+
+const MINUS: &[u8] = b"op,id,store,product,season,sale\n-,4,,,,\n";
+
+#[test]
+fn what_is_counted(rt: HostRuntime) -> Result<(), Fail> {
+    let all = b"op,id,store,product,season,sale\n-,1,,,,\n-,2,,,,\n-,3,,,,\n";
+    let two = b"id,store,product,season,sale\n1,S1,P1,s,5\n2,S1,P1,s,-5\n";
+    let second = b"op,id,store,product,season,sale\n-,2,,,,\n";
+    let odd = b"op,id,store,product,season,sale\n+,7,S9,P1,s,1\n+,8,S1,P9,s,2\n+,9,S1,P1,s,x\n";
+    let cases: [([&[u8]; 3], &[u8], &str); 7] = [
+        (NONE, b"stats\n", "stats,1,0,0,0,0,0\n"),
+        (
+            NONE,
+            b"load base.csv\nstats",
+            "applied,1,3,6\nstats,2,3,6,11,10,5\n",
+        ),
+        (
+            [PLUS, b"", b""],
+            b"load base.csv\napply b.csv\nstats\npoint *,P2,*\npoint S2,*,*",
+            "applied,1,3,6\napplied,2,1,9\nstats,3,4,9,15,14,6\npoint,4,*,P2,*,2,15,3,12,15/2\npoint,5,S2,*,*,2,12,3,9,6/1\n",
+        ),
+        (
+            [PLUS, MINUS, b""],
+            b"load base.csv\napply b.csv\napply c.csv\nstats",
+            "applied,1,3,6\napplied,2,1,9\napplied,3,1,6\nstats,4,3,6,11,10,5\n",
+        ),
+        (
+            [all, b"", b""],
+            b"load base.csv\napply b.csv\nstats\npoint *,*,*\nload base.csv",
+            "applied,1,3,6\napplied,2,3,0\nstats,3,0,0,0,0,0\nnone,4\napplied,5,3,6\n",
+        ),
+        (
+            [two, second, b""],
+            b"load b.csv\nstats\npoint *,*,*\napply c.csv\npoint *,*,*",
+            "applied,1,2,1\nstats,2,2,1,4,3,0\npoint,3,*,*,*,2,0,-5,5,0/1\napplied,4,1,1\npoint,5,*,*,*,1,5,5,5,5/1\n",
+        ),
+        (
+            [odd, b"", b""],
+            b"load base.csv\napply b.csv\nstats\npoint S9,*,*",
+            "applied,1,3,6\nrefused,2,amount,3\nstats,3,3,6,11,10,5\nnone,4\n",
+        ),
+    ];
+    for (batches, script, out) in cases {
+        replies(&rt, rt.alloc(), SCHEMA, BASE, batches, script, out)?;
+    }
+    Ok(())
+}
+
+// The schema of the worked table, with limits behind it.
+fn limited(alloc: Global, limits: &str) -> Result<String, AllocError> {
+    let mut schema = String::from_str(alloc, SCHEMA)?;
+    schema.push_str(limits)?;
+    Ok(schema)
+}
+
+#[test]
+fn nodes_that_are_too_many(rt: HostRuntime) -> Result<(), Fail> {
+    let cases = [
+        (
+            "nodes 11\n",
+            "applied,1,3,6\nrefused,2,nodes\nstats,3,3,6,11,10,5\n",
+        ),
+        (
+            "nodes 14\n",
+            "applied,1,3,6\nrefused,2,nodes\nstats,3,3,6,11,10,5\n",
+        ),
+        (
+            "nodes 15\n",
+            "applied,1,3,6\napplied,2,1,9\nstats,3,4,9,15,14,6\n",
+        ),
+        (
+            "nodes 10\n",
+            "refused,1,nodes\napplied,2,1,1\nstats,3,1,1,4,3,0\n",
+        ),
+    ];
+    let script = b"load base.csv\napply b.csv\nstats";
+    for (limits, out) in cases {
+        let schema = limited(rt.alloc(), limits)?;
+        replies(
+            &rt,
+            rt.alloc(),
+            schema.as_str(),
+            BASE,
+            [PLUS, b"", b""],
+            script,
+            out,
+        )?;
+    }
+    Ok(())
+}
+
 #[test]
 fn scripts_that_are_odd_but_good(rt: HostRuntime) -> Result<(), Fail> {
     let cases: [(&[u8], &str); 7] = [
@@ -122,28 +240,24 @@ fn scripts_that_are_odd_but_good(rt: HostRuntime) -> Result<(), Fail> {
 
 #[test]
 fn lines_that_are_refused(rt: HostRuntime) -> Result<(), Fail> {
-    let cases: [(&[u8], &str); 16] = [
+    let cases: [(&[u8], &str); 12] = [
         (
-            b"frobnicate\n\xFF\nstats\n",
-            "refused,1,command\nrefused,2,utf8\nrefused,3,command\n",
+            b"load base.csv\nfrobnicate\npoint S1,P1\n\xFF\nstats\n",
+            "applied,1,3,6\nrefused,2,command\nrefused,3,field,3\nrefused,4,utf8\nstats,5,3,6,11,10,5\n",
         ),
-        (b" \n", "refused,1,command\n"),
+        (b" \nstats now", "refused,1,command\nrefused,2,command\n"),
         (b"Load base.csv\n", "refused,1,command\n"),
-        (b"load\n", "refused,1,field,1\n"),
         (b"load \n", "refused,1,field,1\n"),
         (
             b"load base.csv\nload base.csv\n",
             "applied,1,3,6\nrefused,2,not-empty\n",
         ),
         (b"point\n", "refused,1,field,1\n"),
-        (b"point *,*\n", "refused,1,field,3\n"),
         (b"point *,*,*,*\n", "refused,1,field,4\n"),
         (b"point ?,*,*\n", "refused,1,field,1\n"),
-        (b"point *,|a,*\n", "refused,1,field,2\n"),
         (b"point *,*,~a~b\n", "refused,1,field,3\n"),
         (b"point \xEF\xBB\xBF*,*,*\n", "refused,1,field,1\n"),
         (b"point *,*,a\rb\n", "refused,1,field,4\n"),
-        (b"apply \n", "refused,1,field,1\n"),
         (b"apply\n", "refused,1,field,1\n"),
     ];
     for (script, out) in cases {
@@ -169,7 +283,7 @@ fn refuses(
 
 #[test]
 fn base_files_that_are_refused(rt: HostRuntime) -> Result<(), Fail> {
-    let cases: [(&[u8], &str); 20] = [
+    let cases: [(&[u8], &str); 14] = [
         (b"", "header"),
         (b"id,store,product,season\n1,S1,P1,s\n", "header"),
         (b"id,store,store,product,season,sale\n", "header"),
@@ -177,19 +291,16 @@ fn base_files_that_are_refused(rt: HostRuntime) -> Result<(), Fail> {
             b"\xEF\xBB\xBF\xEF\xBB\xBFid,store,product,season,sale\n",
             "header",
         ),
-        (b"id,store,product,season,sale\n1,S1,P1,6\n", "fields,1"),
         (
             b"id,store,product,season,sale\n1,S1,P1,s,6\n2,S1,P1,s\n",
             "fields,2",
         ),
         (b"id,store,product,season,sale\n1,\"S1,P1", "fields,1"),
-        (b"id,store,product,season,sale\n1,\xFF,P1,s,6\n", "utf8,1"),
         (b"id,store,product,season,sale\nx,\xFF,P1,s,6\n", "utf8,1"),
         (
-            b"id,store,product,season,sale\n18446744073709551616,S1,P1,s,6\n",
+            b"id,store,product,season,sale\n18446744073709551616,S1,P1,s,1e3\n",
             "id,1",
         ),
-        (b"id,store,product,season,sale\n-1,S1,P1,s,1e3\n", "id,1"),
         (
             b"id,store,product,season,sale\n1,S1,P1,s,1000000000000\n",
             "amount,1",
@@ -198,8 +309,6 @@ fn base_files_that_are_refused(rt: HostRuntime) -> Result<(), Fail> {
             b"id,store,product,season,sale\n1,S1,P1,s,6\n2,S1,P1,s,6.5\n",
             "amount,2",
         ),
-        (b"id,store,product,season,sale\n1,S1,P1,s,.5\n", "amount,1"),
-        (b"id,store,product,season,sale\n1,S1,P1,s,6.\n", "amount,1"),
         (
             b"id,store,product,season,sale\n1,S1,P1,s,\n2,S1\n",
             "amount,1",
@@ -209,11 +318,7 @@ fn base_files_that_are_refused(rt: HostRuntime) -> Result<(), Fail> {
             "value,1",
         ),
         (
-            b"id,store,product,season,sale\n1,S1,P1,s,6\n01,S1,P1,s,6\n",
-            "twice,2",
-        ),
-        (
-            b"id,store,product,season,sale\n7,S1,P1,s,6\n8,S1,P1,s,6\n7,S1,P1,s,6\n8,S1,P1,s,6\n",
+            b"id,store,product,season,sale\n7,S1,P1,s,6\n8,S1,P1,s,6\n07,S1,P1,s,6\n8,S1,P1,s,6\n",
             "twice,3",
         ),
         (
@@ -230,26 +335,20 @@ fn base_files_that_are_refused(rt: HostRuntime) -> Result<(), Fail> {
 #[test]
 fn rows_and_texts_that_are_too_many(rt: HostRuntime) -> Result<(), Fail> {
     let alloc = rt.alloc();
-    let four = b"id,store,product,season,sale\n1,a,P,s,6\n2,b,P,s,6\n3,b,Q,s,6\n4,b,R,s,6\n";
-    let rows = "qcube 1\nid id\ndim store\ndim product\ndim season\nmeasure sale 0\nrows 3\n";
-    refuses(&rt, alloc, rows, four, "rows")?;
-    let values = "qcube 1\nid id\ndim store\ndim product\ndim season\nmeasure sale 0\nvalues 2\n";
-    refuses(&rt, alloc, values, four, "values,product")?;
-    let both =
-        "qcube 1\nid id\ndim store\ndim product\ndim season\nmeasure sale 0\nrows 3\nvalues 2\n";
-    refuses(&rt, alloc, both, four, "rows")?;
+    let four =
+        b"id,store,product,season,sale\n1,a,P,s,6\n2,b,P,s,6\n3,b,Q,s,6\n4,b,R,s,6\n".as_slice();
     let stores = b"id,store,product,season,sale\n1,a,P,s,6\n2,b,Q,s,6\n3,c,R,s,6\n";
-    refuses(&rt, alloc, values, stores, "values,store")?;
-    let full = b"id,store,product,season,sale\n1,a,P,s,6\n2,b,Q,s,6\n3,a,Q,s,6\n";
-    replies(
-        &rt,
-        alloc,
-        both,
-        BASE,
-        NONE,
-        b"load base.csv",
-        "applied,1,3,6\n",
-    )?;
+    let cases = [
+        ("rows 3\n", four, "rows"),
+        ("nodes 11\nrows 3\nvalues 2\n", four, "rows"),
+        ("values 2\n", stores, "values,store"),
+        ("nodes 11\nvalues 2\n", four, "values,product"),
+        ("nodes 14\n", four, "nodes"),
+    ];
+    for (limits, base, code) in cases {
+        let schema = limited(alloc, limits)?;
+        refuses(&rt, alloc, schema.as_str(), base, code)?;
+    }
     Ok(())
 }
 
@@ -295,9 +394,8 @@ fn base_files_that_are_odd_but_good(rt: HostRuntime) -> Result<(), Fail> {
 
 #[test]
 fn schemas_that_are_refused(rt: HostRuntime) -> Result<(), Fail> {
-    let cases: [(&[u8], &str); 12] = [
+    let cases: [(&[u8], &str); 8] = [
         (b"", "qcube: schema line 1: end\n"),
-        (b"qcube 1\nid id\n", "qcube: schema line 3: end\n"),
         (
             b"# none\n\nqcube 2\nid id\ndim v\n",
             "qcube: schema line 3: version\n",
@@ -305,10 +403,6 @@ fn schemas_that_are_refused(rt: HostRuntime) -> Result<(), Fail> {
         (
             b"qcube 1\nid id\nmeasure m 0\n",
             "qcube: schema line 3: order\n",
-        ),
-        (
-            b"qcube 1\nid id\ndim v\nmeasure m 0\nmeasure n 0\n",
-            "qcube: schema line 5: order\n",
         ),
         (
             b"qcube 1\nid id\ndim v w\n",
@@ -319,15 +413,7 @@ fn schemas_that_are_refused(rt: HostRuntime) -> Result<(), Fail> {
             "qcube: schema line 4: name\n",
         ),
         (
-            b"qcube 1\nid id\ndim op\nmeasure m 0\n",
-            "qcube: schema line 3: name\n",
-        ),
-        (
             b"qcube 1\nid id\ndim v\nmeasure m 7\n",
-            "qcube: schema line 4: number\n",
-        ),
-        (
-            b"qcube 1\nid id\ndim v\nrows 0\n",
             "qcube: schema line 4: number\n",
         ),
         (
@@ -453,31 +539,21 @@ fn refuses_batch(
 
 #[test]
 fn batches_that_are_refused(rt: HostRuntime) -> Result<(), Fail> {
-    let cases: [(&[u8], &str); 19] = [
+    let cases: [(&[u8], &str); 14] = [
         (b"", "header"),
         (b"id,store,product,season,sale\n4,S9,P1,s,1\n", "header"),
         (b"op,op,id,store,product,season,sale\n", "header"),
-        (
-            b"op,id,store,product,season,sale\n+,7,S9,P1,s,1\n+,8,S1,P9,s,2\n+,9,S1,P1,s,x\n",
-            "amount,3",
-        ),
         (
             b"op,id,store,product,season,sale\n+,4,S9,P1,s,1\n-,2\n",
             "fields,2",
         ),
         (b"op,id,store,product,season,sale\nx,4a,S9,P1,s,1\n", "op,1"),
-        (b"op,id,store,product,season,sale\n ,4,S9,P1,s,1\n", "op,1"),
-        (b"op,id,store,product,season,sale\n+,4a,S9,P1,s,x\n", "id,1"),
         (
             b"op,id,store,product,season,sale\n-,18446744073709551616,,,,\n",
             "id,1",
         ),
         (
             b"sale,season,op,id,store,product\nx,s,x,4a,\xFF,P1\n",
-            "utf8,1",
-        ),
-        (
-            b"op,id,store,product,season,sale\n-,1,S9,\xFF,s,1\n",
             "utf8,1",
         ),
         (
@@ -501,10 +577,6 @@ fn batches_that_are_refused(rt: HostRuntime) -> Result<(), Fail> {
             "missing,2",
         ),
         (
-            b"op,id,store,product,season,sale\n-,4,,,,\n+,4,S9,P1,s,1\n",
-            "missing,1",
-        ),
-        (
             b"op,id,store,product,season,sale\n+,4,S9,P1,s,1\n-,2,,,,\n+,2,S9,P1,s,1\n+,01,S9,P1,s,1\n",
             "present,4",
         ),
@@ -517,29 +589,27 @@ fn batches_that_are_refused(rt: HostRuntime) -> Result<(), Fail> {
         refuses_batch(&rt, rt.alloc(), SCHEMA, batch, code)?;
     }
     let limits = [
+        ("nodes 11\nrows 3\n", PLUS, "rows"),
+        ("nodes 14\n", PLUS, "nodes"),
         (
-            "qcube 1\nid id\ndim store\ndim product\ndim season\nmeasure sale 0\nrows 3\n",
-            b"op,id,store,product,season,sale\n+,4,S9,P2,f,3\n".as_slice(),
-            "rows",
-        ),
-        (
-            "qcube 1\nid id\ndim store\ndim product\ndim season\nmeasure sale 0\nvalues 2\n",
+            "nodes 11\nvalues 2\n",
             b"op,id,store,product,season,sale\n-,3,,,,\n+,4,S9,P1,s,1\n",
             "values,store",
         ),
         (
-            "qcube 1\nid id\ndim store\ndim product\ndim season\nmeasure sale 0\nrows 4\nvalues 2\n",
+            "rows 4\nvalues 2\n",
             b"op,product,season,id,store,sale\n+,P9,s,4,S1,1\n-,,,1,,\n+,P1,s,5,S9,1\n",
             "values,store",
         ),
         (
-            "qcube 1\nid id\ndim store\ndim product\ndim season\nmeasure sale 0\nrows 3\nvalues 2\n",
+            "rows 3\nvalues 2\n",
             b"op,id,store,product,season,sale\n-,1,,,,\n+,4,S2,P9,f,3\n",
             "values,product",
         ),
     ];
-    for (schema, batch, code) in limits {
-        refuses_batch(&rt, rt.alloc(), schema, batch, code)?;
+    for (limits, batch, code) in limits {
+        let schema = limited(rt.alloc(), limits)?;
+        refuses_batch(&rt, rt.alloc(), schema.as_str(), batch, code)?;
     }
     Ok(())
 }
@@ -554,52 +624,47 @@ fn words_that_are_no_form(rt: HostRuntime) -> Result<(), Fail> {
         &["walk", "s.schema", "script"],
         &["run", "a", "b", "c"],
     ];
+    let usage = "usage: qcube run SCHEMA SCRIPT | qcube gen ROWS SEED\n";
     for texts in cases {
         let mut files = MemoryFiles::new(alloc, &[], 7)?;
-        let mut out = MemorySink::new(alloc, &[], 7, 100)?;
-        let mut err = MemorySink::new(alloc, &[], 7, 100)?;
-        let outcome = run(alloc, &words(alloc, texts)?, &mut files, &mut out, &mut err);
-        assert_eq!(rt; outcome.status, 2);
-        assert!(rt; out.bytes().is_empty());
-        assert_eq!(rt;
-            err.bytes(),
-            b"usage: qcube run SCHEMA SCRIPT | qcube gen ROWS SEED\n".as_slice()
-        );
+        let ran = run_words(alloc, texts, &mut files, &[])?;
+        ends(&rt, &ran, 2, "", usage);
     }
     Ok(())
 }
 
 #[test]
 fn faults_of_the_files_and_of_out(rt: HostRuntime) -> Result<(), Fail> {
-    let alloc = rt.alloc();
-    let schema = SCHEMA.as_bytes();
-    let gone = run_over(
-        alloc,
-        schema,
-        BASE,
-        NONE,
-        b"load base.csv\napply gone.csv\npoint *,*,*",
-        &[],
-        &[],
-    )?;
-    ends(
-        &rt,
-        &gone,
-        3,
-        "applied,1,3,6\n",
-        "qcube: cannot read gone.csv\n",
-    );
-    let first = run_over(alloc, schema, BASE, NONE, b"load base.csv", &[0], &[])?;
-    ends(&rt, &first, 3, "", "qcube: cannot read s.schema\n");
-    let second = run_over(
-        alloc,
-        schema,
-        BASE,
-        NONE,
-        b"load base.csv\npoint *,*,*",
-        &[],
-        &[1],
-    )?;
-    ends(&rt, &second, 4, "applied,1,3,6\n", "qcube: cannot write\n");
+    let cases: [(&[u8], &[u64], &[u64], u8, &str, &str); 3] = [
+        (
+            b"load base.csv\napply gone.csv\npoint *,*,*",
+            &[],
+            &[],
+            3,
+            "applied,1,3,6\n",
+            "qcube: cannot read gone.csv\n",
+        ),
+        (
+            b"load base.csv",
+            &[0],
+            &[],
+            3,
+            "",
+            "qcube: cannot read s.schema\n",
+        ),
+        (
+            b"load base.csv\npoint *,*,*",
+            &[],
+            &[1],
+            4,
+            "applied,1,3,6\n",
+            "qcube: cannot write\n",
+        ),
+    ];
+    for (script, reads, writes, status, out, err) in cases {
+        let schema = SCHEMA.as_bytes();
+        let ran = run_over(rt.alloc(), schema, BASE, NONE, script, reads, writes)?;
+        ends(&rt, &ran, status, out, err);
+    }
     Ok(())
 }

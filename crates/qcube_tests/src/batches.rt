@@ -104,31 +104,79 @@ fn covers(a: u8, b: u8, row: Row) -> bool {
     (a == ANY || a == row.a) && (b == ANY || b == row.b)
 }
 
-// Whether a cell covers a row, and has in each dimension the value that all the covered rows share.
-fn is_class(rows: &[Row], a: u8, b: u8) -> bool {
-    let Some(first) = rows.iter().find(|row| covers(a, b, **row)) else {
-        return false;
-    };
-    let first = *first;
+// The values that the covered rows share, where the cell covers any.
+fn closure(rows: &[Row], a: u8, b: u8) -> Option<(u8, u8)> {
+    let first = *rows.iter().find(|row| covers(a, b, **row))?;
     let shares_a = rows
         .iter()
         .all(|row| !covers(a, b, *row) || row.a == first.a);
     let shares_b = rows
         .iter()
         .all(|row| !covers(a, b, *row) || row.b == first.b);
-    shares_a == (a != ANY) && shares_b == (b != ANY)
+    let closed_a = if shares_a { first.a } else { ANY };
+    let closed_b = if shares_b { first.b } else { ANY };
+    Some((closed_a, closed_b))
 }
 
-fn count_classes(rows: &[Row]) -> u32 {
-    let mut count: u32 = 0;
-    for a in 0..=ANY {
-        for b in 0..=ANY {
-            if is_class(rows, a, b) {
-                count = count.wrapping_add(1);
-            }
+// What is counted of some rows and of their tree.
+#[derive(Clone, Copy)]
+struct Counts {
+    classes: u32,
+    nodes: u32,
+    tree_edges: u32,
+    links: u32,
+}
+
+impl Counts {
+    // A class is its own closure. A node is a class, or a cell with Any in the last dimension.
+    fn add_cell(&mut self, rows: &[Row], a: u8, b: u8) {
+        let Some(closed) = closure(rows, a, b) else {
+            return;
+        };
+        let is_class = closed == (a, b);
+        if is_class {
+            self.classes = self.classes.wrapping_add(1);
+        }
+        if is_class || b == ANY {
+            self.nodes = self.nodes.wrapping_add(1);
         }
     }
-    count
+
+    // The edge by the cell's last value: from the root by one of a, and else from (a, Any) by one of
+    // b. Where all rows share a value of a, the root has no edge by one of b.
+    fn add_edge(&mut self, rows: &[Row], shared: u8, a: u8, b: u8) {
+        let Some((closed_a, _)) = closure(rows, a, b) else {
+            return;
+        };
+        if a == ANY && (b == ANY || shared != ANY) {
+            return;
+        }
+        if closed_a == a {
+            self.tree_edges = self.tree_edges.wrapping_add(1);
+        } else {
+            self.links = self.links.wrapping_add(1);
+        }
+    }
+}
+
+// The same, by going over all cells.
+fn count(rows: &[Row]) -> Counts {
+    let mut counts = Counts {
+        classes: 0,
+        nodes: 0,
+        tree_edges: 0,
+        links: 0,
+    };
+    let Some((shared, _)) = closure(rows, ANY, ANY) else {
+        return counts;
+    };
+    for a in 0..=ANY {
+        for b in 0..=ANY {
+            counts.add_cell(rows, a, b);
+            counts.add_edge(rows, shared, a, b);
+        }
+    }
+    counts
 }
 
 fn gcd(a: u64, b: u64) -> u64
@@ -226,11 +274,23 @@ impl Written {
             }
             None => {
                 follow(rows, batch)?;
-                let (records, classes) = (batch.len(), count_classes(rows));
+                let (records, classes) = (batch.len(), count(rows).classes);
                 format!(in alloc; "applied,{line},{records},{classes}\n")?
             }
         };
         self.push(command.as_str(), reply.as_str())
+    }
+
+    // The counts.
+    fn push_stats(&mut self, alloc: Global, rows: &[Row]) -> Result<(), AllocError> {
+        let line = self.next_line();
+        let (present, counts) = (rows.len(), count(rows));
+        let (classes, nodes) = (counts.classes, counts.nodes);
+        let (tree_edges, links) = (counts.tree_edges, counts.links);
+        let reply = format!(in alloc;
+            "stats,{line},{present},{classes},{nodes},{tree_edges},{links}\n"
+        )?;
+        self.push("stats", reply.as_str())
     }
 
     // The points of all cells.
@@ -249,7 +309,7 @@ impl Written {
     }
 }
 
-// A batch more, as a file, and the points of all cells after it.
+// A batch more, as a file, and the counts and the points of all cells after it.
 fn push_round(
     alloc: Global,
     files: &mut MemoryFiles,
@@ -269,7 +329,51 @@ fn push_round(
     let file = file_of(alloc, &batch)?;
     files.add(name.as_str(), file.as_bytes())?;
     written.push_batch(alloc, name.as_str(), rows, &batch)?;
+    written.push_stats(alloc, rows)?;
     written.push_points(alloc, rows)
+}
+
+// Sixty batches. Gives how many rows are left.
+fn push_rounds(
+    alloc: Global,
+    files: &mut MemoryFiles,
+    written: &mut Written,
+) -> Result<usize, AllocError>
+    requires { files.old.store.open_name ≡ None }
+    ensures { files.new.store.open_name ≡ None }
+{
+    let mut draw = Draw { state: 7 };
+    let mut rows = Vec::new(alloc);
+    'rounds: for round in 0..60 {
+        push_round(alloc, files, written, &mut draw, &mut rows, round)?;
+    }
+    Ok(rows.len())
+}
+
+// How a run ended, and what it wrote.
+#[derive(Drop)]
+struct Ran {
+    status: u8,
+    out: MemorySink,
+}
+
+fn words(alloc: Global) -> Result<Vec<String>, AllocError> {
+    let mut words = Vec::new(alloc);
+    for word in ["run", "schema", "script"] {
+        words.push(String::from_str(alloc, word)?)?;
+    }
+    Ok(words)
+}
+
+fn run_over(alloc: Global, files: &mut MemoryFiles) -> Result<Ran, AllocError> {
+    let words = words(alloc)?;
+    let mut out = MemorySink::new(alloc, &[], 4096, 1_000_000)?;
+    let mut err = MemorySink::new(alloc, &[], 4096, 1000)?;
+    let outcome = run(alloc, &words, files, &mut out, &mut err);
+    Ok(Ran {
+        status: outcome.status,
+        out,
+    })
 }
 
 #[test]
@@ -281,22 +385,12 @@ fn batches_follow_a_plain_list(rt: HostRuntime) -> Result<(), Fail> {
         transcript: String::new(alloc),
         line: 0,
     };
-    let mut draw = Draw { state: 7 };
-    let mut rows = Vec::new(alloc);
-    'rounds: for round in 0..60 {
-        push_round(alloc, &mut files, &mut written, &mut draw, &mut rows, round)?;
-    }
+    let left = push_rounds(alloc, &mut files, &mut written)?;
     files.add("schema", SCHEMA)?;
     files.add("script", written.script.as_bytes())?;
-    let mut out = MemorySink::new(alloc, &[], 4096, 1_000_000)?;
-    let mut err = MemorySink::new(alloc, &[], 4096, 1000)?;
-    let mut words = Vec::new(alloc);
-    for word in ["run", "schema", "script"] {
-        words.push(String::from_str(alloc, word)?)?;
-    }
-    let outcome = run(alloc, &words, &mut files, &mut out, &mut err);
-    assert_eq!(rt; outcome.status, 0);
-    assert_eq!(rt; out.bytes(), written.transcript.as_bytes());
-    assert!(rt; rows.len() > 3);
+    let ran = run_over(alloc, &mut files)?;
+    assert_eq!(rt; ran.status, 0);
+    assert_eq!(rt; ran.out.bytes(), written.transcript.as_bytes());
+    assert!(rt; left > 3);
     Ok(())
 }

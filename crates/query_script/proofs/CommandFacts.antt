@@ -1,6 +1,6 @@
 -- Lines as commands.
 use Rattle.std.proofs.Common.{◌≡◌, ℕ, List, [], ◌∷◌, refl, arith, Ok, Err, true, false, Bool, cond, IsUtf8}
-use Rattle.std.specs.Prelude.{Result, IfOk, codes}
+use Rattle.std.specs.Prelude.{◌&&◌, ◌||◌, Result, IfOk, codes}
 use Rattle.std.specs.Str.{bytes_eq, is_utf8}
 use Rattle.std.proofs.lemmas.Str.{IsUtf8-from_is_utf8, is_utf8-from_IsUtf8}
 use Rattle.std.proofs.lemmas.Bool.{and_from}
@@ -8,24 +8,27 @@ use Rattle.cube_defs.specs.Text.{Text}
 use Rattle.cell_core.specs.declared.fields.Field as asked
 use Rattle.query_script.specs.Faults as faults
 use Rattle.query_script.specs.Faults.{Gives, LineFault}
-use Rattle.query_script.specs.Lines.{is_command, may_want_memory, rest_of, word_of}
-use Rattle.query_script.specs.Commands.{IsCommand, command_in, command_named, command_with, name_in, point_in}
+use Rattle.query_script.specs.Lines.{may_want_memory, names_more, rest_of, stats_line, word_of}
+use Rattle.query_script.specs.Commands.{IsCommand, command_in, command_named, command_with, name_in, point_in, wants_memory}
 use Rattle.query_script.specs.declared.line.Command.{Command}
-use Rattle.query_script.specs.declared.line.Command.TheVariants.{Load, Apply, Point}
+use Rattle.query_script.specs.declared.line.Command.TheVariants.{Load, Apply, Point, Stats}
 use Rattle.query_script.specs.declared.line.LineRefused.{LineRefused}
 use Rattle.query_script.proofs.Points.{point-fields}
 
-pub text-line : (dims : ℕ) (line : List ℕ) → IsUtf8 line → command_in dims line ≡ command_named dims (word_of line) (rest_of line)
-text-line dims line u = rw (is_utf8-from_IsUtf8 line u) refl
+pub stats-line : (dims : ℕ) (line : List ℕ) → IsUtf8 line → bytes_eq line stats_line ≡ true → command_in dims line ≡ Ok Stats
+stats-line dims line u e = rw (is_utf8-from_IsUtf8 line u, e) refl
+
+pub text-line : (dims : ℕ) (line : List ℕ) → IsUtf8 line → bytes_eq line stats_line ≡ false → command_in dims line ≡ command_named dims (word_of line) (rest_of line)
+text-line dims line u e = rw (is_utf8-from_IsUtf8 line u, e) refl
 
 pub no-text-line : (dims : ℕ) (line : List ℕ) → (IsUtf8 line → ⊥) → command_in dims line ≡ Err faults.Utf8
 no-text-line dims line h = by (is_utf8 line) refl
   where
-    by : (b : Bool) → is_utf8 line ≡ b → cond b (command_named dims (word_of line) (rest_of line)) (Err faults.Utf8) ≡ Err faults.Utf8
+    by : (b : Bool) → is_utf8 line ≡ b → cond b (cond (bytes_eq line stats_line) (Ok Stats) (command_named dims (word_of line) (rest_of line))) (Err faults.Utf8) ≡ Err faults.Utf8
     by true e = absurd (h (IsUtf8-from_is_utf8 line e))
     by false e = refl
 
-pub wants-memory : (line : List ℕ) → IsUtf8 line → is_command (word_of line) ≡ true → may_want_memory line ≡ true
+pub wants-memory : (line : List ℕ) → IsUtf8 line → names_more (word_of line) ≡ true → may_want_memory line ≡ true
 wants-memory line u e = and_from _ _ (is_utf8-from_IsUtf8 line u) e
 
 -- ---- what each command is
@@ -56,8 +59,35 @@ named-is dims word rest command e = by (bytes_eq word (codes "load")) (bytes_eq 
 
 pub line-is : (dims : ℕ) (line : List ℕ) (r : Result Command LineRefused) → Gives r (command_in dims line) → IfOk r (IsCommand dims)
 line-is dims line (Err refused) h = tt
-line-is dims line (Ok command) h = by (is_utf8 line) h
+line-is dims line (Ok command) h = by (is_utf8 line) (bytes_eq line stats_line) h
   where
-    by : (b : Bool) → cond b (command_named dims (word_of line) (rest_of line)) (Err faults.Utf8) ≡ Ok command → IsCommand dims command
-    by true m = named-is dims (word_of line) (rest_of line) command m
-    by false m = absurd (cc m)
+    by : (b stats : Bool) → cond b (cond stats (Ok Stats) (command_named dims (word_of line) (rest_of line))) (Err faults.Utf8) ≡ Ok command → IsCommand dims command
+    by true true m = let same : Stats ≡ command = cc in rw (← same) tt
+    by true false m = named-is dims (word_of line) (rest_of line) command m
+    by false stats m = absurd (cc m)
+
+-- ---- which lines want memory
+
+named-wants : (dims : ℕ) (word : Text) (rest : List ℕ) (command : Command) → command_named dims word rest ≡ Ok command → names_more word ≡ true
+named-wants dims word rest command e = by (bytes_eq word (codes "load")) (bytes_eq word (codes "apply")) (bytes_eq word (codes "point")) e
+  where
+    by : (load apply point : Bool) → cond load (command_with Load (name_in rest)) (cond apply (command_with Apply (name_in rest)) (cond point (command_with Point (point_in dims rest)) (Err faults.Command))) ≡ Ok command → (load || apply || point) ≡ true
+    by true apply point m = refl
+    by false true point m = refl
+    by false false true m = refl
+    by false false false m = absurd (cc m)
+
+line-wants : (dims : ℕ) (line : List ℕ) (command : Command) → command_in dims line ≡ Ok command → wants_memory command ≡ true → may_want_memory line ≡ true
+line-wants dims line command h wants = by (is_utf8 line) (bytes_eq line stats_line) h
+  where
+    by : (b stats : Bool) → cond b (cond stats (Ok Stats) (command_named dims (word_of line) (rest_of line))) (Err faults.Utf8) ≡ Ok command → (b && names_more (word_of line)) ≡ true
+    by true true m = let same : Stats ≡ command = cc in absurd (never (rw (← same) at wants))
+      where
+        never : wants_memory Stats ≡ true → ⊥
+        never e = cc
+    by true false m = named-wants dims (word_of line) (rest_of line) command m
+    by false stats m = absurd (cc m)
+
+pub reading-wants : (dims : ℕ) (line : List ℕ) (r : Result Command LineRefused) → Gives r (command_in dims line) → IfOk r (λ command. wants_memory command ≡ true → may_want_memory line ≡ true)
+reading-wants dims line (Err refused) h = tt
+reading-wants dims line (Ok command) h = line-wants dims line command h

@@ -1,5 +1,5 @@
 -- The command that a line is, or its fault.
-use Rattle.std.specs.Prelude.{◌≡◌, ◌<◌, ⊤, ℕ, List, [], ◌∷◌, length, codes, All, Result, Ok, Err, if◌then◌else◌}
+use Rattle.std.specs.Prelude.{◌≡◌, ◌<◌, ⊤, ℕ, Bool, true, false, List, [], ◌∷◌, length, codes, All, Result, Ok, Err, if◌then◌else◌}
 use Rattle.std.specs.List.{flat_map}
 use Rattle.std.specs.Str.{bytes_eq, is_utf8}
 use Rattle.csv.specs.Reading.{default_config, records}
@@ -10,9 +10,9 @@ use Rattle.csv_load.specs.Records.{begins_with_mark}
 use Rattle.query_script.specs.Faults as faults
 use Rattle.query_script.specs.Faults.{LineFault}
 use Rattle.query_script.specs.Fields.{fields_from, point_field}
-use Rattle.query_script.specs.Lines.{rest_of, word_of}
+use Rattle.query_script.specs.Lines.{rest_of, stats_line, word_of}
 use Rattle.query_script.specs.declared.line.Command.{Command}
-use Rattle.query_script.specs.declared.line.Command.TheVariants.{Load, Apply, Point}
+use Rattle.query_script.specs.declared.line.Command.TheVariants.{Load, Apply, Point, Stats}
 
 -- the name of a file, which is not empty
 abbrev pub name_in : List ℕ → Result Text LineFault
@@ -40,9 +40,18 @@ command_named dims word rest =
     else if bytes_eq word (codes "point") then command_with Point (point_in dims rest)
     else Err faults.Command
 
--- what a line asks
+-- what a line asks; `stats` with anything behind it is no command
 abbrev pub command_in : ℕ → List ℕ → Result Command LineFault
-command_in dims line = if is_utf8 line then command_named dims (word_of line) (rest_of line) else Err faults.Utf8
+command_in dims line =
+    if is_utf8 line then (if bytes_eq line stats_line then Ok Stats else command_named dims (word_of line) (rest_of line))
+    else Err faults.Utf8
+
+-- whether carrying out a command may want memory
+abbrev pub wants_memory : Command → Bool
+wants_memory (Load name) = true
+wants_memory (Apply name) = true
+wants_memory (Point fields) = true
+wants_memory Stats = false
 
 -- what a point may ask of a dimension
 abbrev pub IsPointField : asked.Field → Type 0
@@ -57,3 +66,4 @@ abbrev pub IsCommand : ℕ → Command → Type 0
 IsCommand dims (Load name) = 0 < length name
 IsCommand dims (Apply name) = 0 < length name
 IsCommand dims (Point fields) = (length fields ≡ dims) × All IsPointField fields
+IsCommand dims Stats = ⊤

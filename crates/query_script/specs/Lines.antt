@@ -15,10 +15,14 @@ word_of line = before_first is_space line
 abbrev pub rest_of : List ℕ → List ℕ
 rest_of line = after_first is_space line
 
--- the words of the commands
-abbrev pub is_command : List ℕ → Bool
-is_command word = bytes_eq word (codes "load") || bytes_eq word (codes "apply") || bytes_eq word (codes "point")
+-- the line that is a command by itself
+abbrev pub stats_line : List ℕ
+stats_line = codes "stats"
 
--- whether the reading of a line may want memory: it is UTF-8 and begins with a command word
+-- the words of the commands that name something behind them
+abbrev pub names_more : List ℕ → Bool
+names_more word = bytes_eq word (codes "load") || bytes_eq word (codes "apply") || bytes_eq word (codes "point")
+
+-- Whether a line may want memory: it is UTF-8 and begins with such a word. The line `stats` wants none.
 abbrev pub may_want_memory : List ℕ → Bool
-may_want_memory line = is_utf8 line && is_command (word_of line)
+may_want_memory line = is_utf8 line && names_more (word_of line)

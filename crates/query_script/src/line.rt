@@ -1,8 +1,9 @@
 // A line of a script.
 ghost use Rattle.std.specs.Prelude.{◌≡◌, ◌≤◌, true, length, IfOk, IfErr};
-ghost use Rattle.query_script.specs.Commands.{IsCommand, command_in, command_named, name_in};
+ghost use Rattle.std.specs.Str.{bytes_eq};
+ghost use Rattle.query_script.specs.Commands.{IsCommand, command_in, command_named, name_in, wants_memory};
 ghost use Rattle.query_script.specs.Faults.{Gives};
-ghost use Rattle.query_script.specs.Lines.{is_command, may_want_memory, rest_of, word_of};
+ghost use Rattle.query_script.specs.Lines.{may_want_memory, names_more, rest_of, stats_line, word_of};
 
 use crate::point::read_point;
 use cell_core::{Fields, Text};
@@ -18,6 +19,8 @@ pub enum Command {
     Apply(Text),
     /// Answer the point of these fields, one for each dimension.
     Point(Fields),
+    /// Tell what is counted of the rows and of their tree.
+    Stats,
 }
 
 /// Why a line is no command.
@@ -66,6 +69,14 @@ fn read_name(alloc: Global, rest: &str) -> Result<Text, LineRefused>
     Ok(Text::new(alloc, rest)?)
 }
 
+// Whether the line is the one word that stands alone.
+fn is_stats(line: &str) -> bool
+    ensures { result ≡ bytes_eq line.now stats_line }
+{
+    line == "stats"
+}
+
+// The command of a word with something behind it.
 fn read_command(
     alloc: Global,
     schema: &Schema,
@@ -73,7 +84,7 @@ fn read_command(
     rest: &str,
 ) -> Result<Command, LineRefused>
     ensures gives { Gives result (command_named (length schema.now.dims) word.now rest.now) }
-    ensures memory { IfErr result (λ e. e ≡ LineRefused.Memory → is_command word.now ≡ true) }
+    ensures memory { IfErr result (λ e. e ≡ LineRefused.Memory → names_more word.now ≡ true) }
 {
     match word {
         "load" => Ok(Command::Load(read_name(alloc, rest)?)),
@@ -83,18 +94,22 @@ fn read_command(
     }
 }
 
-/// Reads a line without its end. The first word runs to the first space. Behind `load` and `apply`
-/// stands the name of a file, which may hold spaces. Behind `point` stand fields as in a CSV file:
-/// `*` is Any, `=` stands in front of a value of any bytes, and each other field is that value, but
-/// `?` and fields that begin with `|` or `~` are not allowed.
+/// Reads a line without its end. The line `stats` is just that word. Else the first word runs to the
+/// first space. Behind `load` and `apply` stands the name of a file, which may hold spaces. Behind
+/// `point` stand fields as in a CSV file: `*` is Any, `=` stands in front of a value of any bytes, and
+/// each other field is that value, but `?` and fields that begin with `|` or `~` are not allowed.
 pub fn read_line(alloc: Global, schema: &Schema, line: &[u8]) -> Result<Command, LineRefused>
     requires { length line.now ≤ 268435456 }
     ensures gives { Gives result (command_in (length schema.now.dims) line.now) }
     ensures memory { IfErr result (λ e. e ≡ LineRefused.Memory → may_want_memory line.now ≡ true) }
     ensures command { IfOk result (λ command. IsCommand (length schema.now.dims) command) }
+    ensures wants { IfOk result (λ command. wants_memory command ≡ true → may_want_memory line.now ≡ true) }
 {
     match str::from_utf8(line) {
         Ok(text) => {
+            if is_stats(text) {
+                return Ok(Command::Stats);
+            }
             let (word, rest) = split_word(text);
             read_command(alloc, schema, word, rest)
         }

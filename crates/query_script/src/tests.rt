@@ -46,6 +46,7 @@ fn list_command(alloc: Global, command: &Command) -> Result<String, AllocError> 
             list.push_str("point:")?;
             list_fields(fields, &mut list)?;
         }
+        Command::Stats => list.push_str("stats")?,
     }
     Ok(list)
 }
@@ -84,7 +85,14 @@ fn words_and_names(rt: HostRuntime) -> Result<(), Fail> {
         (b"apply", Err(LineRefused::Field(1))),
         (b"apply ", Err(LineRefused::Field(1))),
         (b"frobnicate", Err(LineRefused::Command)),
-        (b"stats", Err(LineRefused::Command)),
+        (b"stats", Ok("stats")),
+        (b"stats ", Err(LineRefused::Command)),
+        (b"stats now", Err(LineRefused::Command)),
+        (b" stats", Err(LineRefused::Command)),
+        (b"stats\r", Err(LineRefused::Command)),
+        (b"Stats", Err(LineRefused::Command)),
+        (b"stat", Err(LineRefused::Command)),
+        (b"stats\xff", Err(LineRefused::Utf8)),
         (b" load x", Err(LineRefused::Command)),
         (b"points x", Err(LineRefused::Command)),
         (b"load\tx", Err(LineRefused::Command)),

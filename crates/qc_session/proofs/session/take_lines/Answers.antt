@@ -71,7 +71,7 @@ returns-in-Err-clause-part g c =
     ap (map without_cr) c.split_line.ensures.lines ∙ ap (λ (line : List ℕ). line ∷ map without_cr (lines_of c.split_line.result.1.now)) (sym c.trim_cr.ensures.value) in
     let (done, all, len, skipped, wrote) = inv.so_far in
     if_write c.in-Err.stop _ _
-    (λ (h : WrotePart told c.take_line.new.session.skipped.items (c.lines.session.number + 1) c.lines.session.warehouse c.trim_cr.result.now c.take_line.new.session.warehouse
+    (λ (h : WrotePart told c.take_line.new.session.skipped.items (c.lines.session.number + 1) c.lines.session.warehouse.state c.trim_cr.result.now c.take_line.new.session.warehouse.state
     (g.O.Sink.taken c.lines.out) (g.O.Sink.taken c.take_line.new.out)).
     front-push told _ _ _ done c.trim_cr.result.now (map without_cr (lines_of c.split_line.result.1.now)) c.lines.session.number _ _ _ _ _ len e.skips wrote h
     (map without_cr (lines_of c.args.script.now)) (lines-regroup done _ _ _ _ all cut))
@@ -86,7 +86,7 @@ returns-in-Err-clause-before g c =
     ap (map without_cr) c.split_line.ensures.lines ∙ ap (λ (line : List ℕ). line ∷ map without_cr (lines_of c.split_line.result.1.now)) (sym c.trim_cr.ensures.value) in
     let (done, all, len, skipped, wrote) = inv.so_far in
     if_read c.in-Err.stop
-    (λ name. file_of (length c.lines.session.warehouse.schema.dims) c.trim_cr.result.now ≡ Some name)
+    (λ name. file_of (length c.lines.session.warehouse.state.schema.dims) c.trim_cr.result.now ≡ Some name)
     (λ name. (g.O.Sink.taken c.take_line.new.out ≡ g.O.Sink.taken c.lines.out) × (c.take_line.new.session.skipped.items ≡ c.lines.session.skipped.items))
     (λ name. IsTrue (g.F.Files.steady c.lines.files) → IfSome told (λ t. t name ≡ None))
     _

@@ -18,7 +18,7 @@ invariant-lines g l = record {
   so_far : (done : List (List ℕ)) × (map without_cr (lines_of l.script) ≡ done ++ map without_cr (lines_of l.rest))
       × (length done ≡ l.session.number)
       × AreSkipped done l.session.skipped.items
-      × WroteSoFar (g.F.Files.told l.fn.files) l.fn.session.warehouse.schema l.session.skipped.items done l.session.warehouse (g.O.Sink.taken l.fn.out) (g.O.Sink.taken l.out);
+      × WroteSoFar (g.F.Files.told l.fn.files) l.fn.session.warehouse.state.schema l.session.skipped.items done l.session.warehouse.state (g.O.Sink.taken l.fn.out) (g.O.Sink.taken l.out);
 }
 
 abbrev pub decreases-lines : goal.decreases-lines
