@@ -1,9 +1,10 @@
 // What a plain program does with the same files: `rows FILE` reads the records and keeps them, `texts FILE` learns the
 // distinct texts of the second column, `batches SCRIPT` keeps rows of codes under their ids and follows the batches,
-// `classes FILE` lists the classes of its rows five times, and tells their number and the least seconds of a listing.
-mod classes;
+// `tree FILE` builds the tree of its rows, and tells how many nodes it has; `points FILE` builds it too, and asks 500,000
+// points of cells above its rows, and tells how many of them cover a row and how many seconds they took.
+mod tree;
 
-use classes::{Row, Walk};
+use tree::{Row, Tree};
 use csv::{ReaderBuilder, StringRecord};
 use indexmap::{IndexMap, IndexSet};
 use std::error::Error;
@@ -69,22 +70,32 @@ fn follow(script: &str) -> Result<usize, Box<dyn Error>> {
     Ok(table.rows.iter().flatten().count())
 }
 
-fn list(file: &str) -> Result<usize, Box<dyn Error>> {
+fn build(word: &str, file: &str) -> Result<usize, Box<dyn Error>> {
     let mut table = Table::default();
     table.read(&std::fs::read(file)?, false)?;
     let rows: Vec<Row> = table.rows.iter().flatten().map(|(_, codes, amount)| Row { codes: *codes, amount: *amount }).collect();
-    let mut least = f64::MAX;
-    let mut count = 0;
-    for _ in 0..5 {
-        let begin = std::time::Instant::now();
-        let found = Walk::over(&rows).found;
-        least = least.min(begin.elapsed().as_secs_f64());
-        count = found.len();
-        let seen: u64 = found.iter().map(|class| u64::from(class.count) + u64::from(class.upper[0] % 2) + class.parts[0].0 as u64 % 2).sum();
-        eprintln!("{seen}");
+    let tree = Tree::of(&rows);
+    if word == "tree" {
+        let children = tree.nodes.iter().filter(|node| node.parent == 0).count();
+        let sum: i64 = tree.nodes.iter().filter_map(|node| node.class).map(|class| class.parts[0].0).sum();
+        eprintln!("{children} {sum}");
+        return Ok(tree.nodes.len());
     }
-    println!("{least:.4}");
-    Ok(count)
+    let mut state = 7_u64;
+    let mut found = 0;
+    let begin = std::time::Instant::now();
+    for _ in 0..500_000 {
+        state = state.wrapping_mul(6_364_136_223_846_793_005).wrapping_add(1_442_695_040_888_963_407);
+        let mut asked = rows[(state >> 33) as usize % rows.len()].codes;
+        for (dim, code) in asked.iter_mut().enumerate() {
+            if state >> dim & 1 == 1 {
+                *code = u32::MAX;
+            }
+        }
+        found += usize::from(tree.find(&asked).is_some_and(|class| class.count > 0));
+    }
+    println!("{:.4}", begin.elapsed().as_secs_f64());
+    Ok(found)
 }
 
 fn read(word: &str, bytes: &[u8]) -> Result<usize, Box<dyn Error>> {
@@ -110,7 +121,7 @@ fn main() -> Result<(), Box<dyn Error>> {
     let words: Vec<String> = std::env::args().collect();
     let count = match words[1].as_str() {
         "batches" => follow(&words[2])?,
-        "classes" => list(&words[2])?,
+        "tree" | "points" => build(&words[1], &words[2])?,
         word => read(word, &std::fs::read(&words[2])?)?,
     };
     println!("{count}");

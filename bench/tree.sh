@@ -1,0 +1,87 @@
+#!/usr/bin/env bash
+# Loads 300,000 rows of 6 dimensions and builds their tree, asks points of it, and runs a whole day of points over 500,000
+# rows of one dimension: time and memory, beside a plain Rust program of the same building and search.
+#
+#     bench/tree.sh [PROGRAM]
+#
+# PROGRAM is the built program, by default crates/qcube/out/qcube. The inputs are generated anew from a fixed seed; values
+# are drawn by a Zipf law from 500, 200, 80, 30, 12 and 5. Times are those of the processor, the least of three runs. The
+# plain program (bench/plain) is built by cargo where Debian's librust-csv-dev and librust-indexmap-dev are installed, and
+# is left out elsewhere.
+set -eu
+top=$(cd "$(dirname "$0")/.." && pwd)
+program=$(realpath "${1:-$top/crates/qcube/out/qcube}")
+folder=$(mktemp -d)
+trap 'rm -rf "$folder"' EXIT
+
+plain=
+registry=/usr/share/cargo/registry
+if command -v cargo > /dev/null && compgen -G "$registry/csv-1*" > /dev/null && compgen -G "$registry/indexmap-*" > /dev/null; then
+    cargo build --quiet --release --offline --manifest-path "$top/bench/plain/Cargo.toml" --target-dir "$folder/target" \
+        --config 'source.crates-io.replace-with="debian"' --config "source.debian.directory=\"$registry\""
+    plain="$folder/target/release/plain"
+fi
+cd "$folder"
+
+python3 - <<'PY'
+import random
+counts = (500, 200, 80, 30, 12, 5)
+draw = random.Random(7)
+columns = [draw.choices(range(n), [1 / (k + 1) for k in range(n)], k=300_000) for n in counts]
+rows = [[f"{name}{value}" for name, value in zip("abcdef", values)] for values in zip(*columns)]
+with open("zipf.csv", "w") as file:
+    file.write("id,a,b,c,d,e,f,sale\n")
+    for row, texts in enumerate(rows, 1):
+        file.write(f"{row},{','.join(texts)},{draw.randrange(-50_000, 50_001) / 100:.2f}\n")
+with open("load", "w") as file:
+    file.write("load zipf.csv\nstats\n")
+with open("points", "w") as file:
+    file.write("load zipf.csv\nstats\n")
+    for _ in range(500_000):
+        row = rows[draw.randrange(len(rows))]
+        file.write("point " + ",".join(text if draw.random() < 0.5 else "*" for text in row) + "\n")
+with open("zipf.schema", "w") as file:
+    file.write("qcube 1\nid id\n" + "".join(f"dim {name}\n" for name in "abcdef") + "measure sale 2\nnodes 4000000\n")
+with open("day.csv", "w") as file:
+    file.write("id,v\n" + "".join(f"{k},v{k % 1000:03}\n" for k in range(1, 500_001)))
+with open("day", "w") as file:
+    file.write("load day.csv\n" + "".join(f"point v{line % 1000:03}\n" for line in range(2, 500_002)) + "stats\n")
+with open("day.schema", "w") as file:
+    file.write("qcube 1\nid id\ndim v\n")
+PY
+
+python3 - "$program" "$plain" <<'PY'
+import os, subprocess, sys
+
+def best(*words):
+    """The least processor seconds of three runs, what the last wrote, and its peak memory in bytes."""
+    least = None
+    for _ in range(3):
+        process = subprocess.Popen(words, stdout=subprocess.PIPE, stderr=subprocess.DEVNULL)
+        out = process.stdout.read().decode()
+        _, status, usage = os.wait4(process.pid, 0)
+        assert status == 0, words
+        took = usage.ru_utime + usage.ru_stime
+        least = took if least is None else min(least, took)
+    return least, out.splitlines(), usage.ru_maxrss * 1024
+
+program, plain = sys.argv[1:]
+load, out, peak = best(program, "run", "zipf.schema", "load")
+rows, classes, nodes, tree_edges, links = map(int, out[-1].split(",")[2:])
+print(f"{rows:,} rows: {classes:,} classes, {nodes:,} nodes, {tree_edges:,} tree edges, {links:,} links")
+print(f"load and build {load:.2f} s; peak {peak / nodes:.0f} bytes a node in all (at most 400)")
+if plain:
+    seconds, out, plain_peak = best(plain, "tree", "zipf.csv")
+    assert int(out[-1]) == nodes, out
+    print(f"    a plain program: {seconds:.2f} s, {plain_peak / nodes:.0f} bytes a node; {load / seconds:.2f} times (at most 2.5)")
+whole, out, _ = best(program, "run", "zipf.schema", "points")
+assert sum(line.startswith("point,") for line in out) == 500_000
+print(f"a point, with its line and its reply: {(whole - load) / 0.5:.2f} microseconds (at most 4 beside these)")
+if plain:
+    _, out, _ = best(plain, "points", "zipf.csv")
+    assert int(out[-1]) == 500_000, out
+    print(f"    a search of the plain program, without line and reply: {float(out[0]) / 0.5:.2f} microseconds")
+day, out, _ = best(program, "run", "day.schema", "day")
+assert out[0] == "applied,1,500000,1001" and out[1] == "point,2,v002,500" and out[-1] == "stats,500002,500000,1001,1001,1000,0"
+print(f"500,000 rows and 500,000 points of one dimension: {day:.2f} s (at most 10)")
+PY
