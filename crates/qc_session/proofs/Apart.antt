@@ -25,7 +25,7 @@ any-within p (x ∷ xs) h = go (p x) refl (any-within p xs)
     go false e more = rw e (omega (arith, more (rw e at h)))
 
 -- a text that is there stands at its place
-text-at : (text : Text) (texts : List Text) → list_any (bytes_eq text) texts ≡ true → text ≡ get_or texts (position_or_len (bytes_eq text) texts) []
+pub text-at : (text : Text) (texts : List Text) → list_any (bytes_eq text) texts ≡ true → text ≡ get_or texts (position_or_len (bytes_eq text) texts) []
 text-at text texts h = (bytes_decides text _).0 (passes_at_first (bytes_eq text) texts [] (any-within (bytes_eq text) texts h))
 
 pub places-apart : (texts : List (List Text)) → TellsApart (has_text texts) (place_in texts)

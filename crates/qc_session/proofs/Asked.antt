@@ -31,7 +31,7 @@ use Rattle.qc_session.proofs.Apart.{any-within, places-apart, text_equality}
 use Rattle.qc_session.specs.Answers.{cell_asked, entry_asked}
 
 -- codes are equal where their order says so
-code_equality : IsEquality (eq_by_cmp nat_cmp)
+pub code_equality : IsEquality (eq_by_cmp nat_cmp)
 code_equality = equality_by nat_cmp_total nat_cmp-IsAntisymmetric
 
 within-any : {X : Type 0} (p : X → Bool) (xs : List X) → position_or_len p xs < length xs → list_any p xs ≡ true
@@ -95,7 +95,7 @@ fits-from texts k (list ∷ lists) h =
     later : (i : ℕ) → get_or texts (suc k + i) [] ≡ get_or lists i []
     later i = let next : k + suc i ≡ suc k + i = omega arith in subst (λ n. get_or texts n [] ≡ get_or lists i []) next (h (suc i))
 
-fits : (texts : List (List Text)) → Fits texts 0 texts
+pub fits : (texts : List (List Text)) → Fits texts 0 texts
 fits texts = fits-from texts 0 texts (λ i. let same : 0 + i ≡ i = omega arith in ap (λ n. get_or texts n []) same)
 
 -- an entry, and the cell behind it

@@ -6,3 +6,7 @@ pub mod Refused
 pub mod Records
 pub mod Steps
 pub mod Refusals
+pub mod Told
+pub mod ClassFound
+pub mod LowersRecoded
+pub mod ClassTold

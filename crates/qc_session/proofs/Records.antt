@@ -72,3 +72,20 @@ record-written word line cell agg =
     ap (λ (z : List ℕ). z ++ 10 ∷ []) (regroup-three word (44 ∷ line) (fields_text cell) (fields_text agg)
     ∙ ap (λ (z : List ℕ). word ++ ((44 ∷ line) ++ z)) (sym (fields-append cell agg))
     ∙ sym (record-fields word (line ∷ (cell ++ agg))))
+
+-- a record behind other bytes, whose first fields were written before
+pub record-more : (out word line : Text) (cell more : List Text) → (((out ++ word) ++ fields_text (line ∷ cell)) ++ fields_text more) ++ 10 ∷ [] ≡ out ++ record_text (word ∷ line ∷ cell ++ more)
+record-more out word line cell more =
+    regroup out word (fields_text (line ∷ cell)) (fields_text more) (10 ∷ [])
+    ∙ ap (λ (z : List ℕ). out ++ (z ++ 10 ∷ []))
+    (ap (λ (z : List ℕ). word ++ z) (sym (fields-append (line ∷ cell) more))
+    ∙ sym (record-fields word (line ∷ (cell ++ more))))
+  where
+    regroup : (v w x y z : List ℕ) → (((v ++ w) ++ x) ++ y) ++ z ≡ v ++ ((w ++ (x ++ y)) ++ z)
+    regroup v w x y z = simp append_assoc
+
+-- with a cell alone
+pub record-end : (out word line : Text) (cell : List Text) → ((out ++ word) ++ fields_text (line ∷ cell)) ++ 10 ∷ [] ≡ out ++ record_text (word ∷ line ∷ cell ++ [])
+record-end out word line cell =
+    ap (λ (z : List ℕ). z ++ 10 ∷ []) (sym (append-nil ((out ++ word) ++ fields_text (line ∷ cell))))
+    ∙ record-more out word line cell []

@@ -1,9 +1,12 @@
 -- The answer to a line: a filter and a sum over the rows that are present, or what a file does to them.
 use Rattle.std.specs.Prelude.{ℕ, Option, Some, None, List, length, map, nat_lt, Result, Ok, Err, if◌then◌else◌}
 use Rattle.std.specs.Option.{option_map}
+use Rattle.std.specs.Ordering.{eq_by_cmp}
+use Rattle.std.specs.declared.cmp.Ordering.{Ordering}
 use Rattle.cube_defs.specs.Text.{Text, text_cmp, text_eq}
 use Rattle.cube_defs.specs.Cell.{Cell}
-use Rattle.cube_defs.specs.Rows.{Agg}
+use Rattle.cube_defs.specs.Rows.{Agg, Row, agg, closure}
+use Rattle.cube_defs.specs.Answers.{ClassHit, lower_bounds}
 use Rattle.cube_defs.specs.Tree.{classes, links, nodes, tree_edges}
 use Rattle.cube_laws.specs.Total.{agg_at}
 use Rattle.cell_core.specs.declared.fields.Field.{Field}
@@ -16,7 +19,7 @@ use Rattle.query_script.specs.declared.line.Command.{Command}
 use Rattle.query_script.specs.declared.line.Command.TheVariants as commands
 use Rattle.warehouse.specs.Batch.{Applied, Kind, Load, Apply, Refusal, result}
 use Rattle.warehouse.specs.State.{State}
-use Rattle.qc_session.specs.Replies.{applied_text, batch_texts, line_texts, none_text, point_text, refused_text, size_texts, stats_text}
+use Rattle.qc_session.specs.Replies.{applied_text, batch_texts, bounds_text, line_texts, none_text, point_text, refused_text, size_texts, stats_text}
 
 -- the most bytes of a file
 abbrev pub limit : ℕ
@@ -59,6 +62,22 @@ point_reply schema line cell (Some agg) = point_text line cell schema.measures a
 abbrev pub pointed : State → ℕ → Cell Text → List ℕ
 pointed state line cell = point_reply state.schema line cell (agg_at text_eq (length state.schema.measures) state.rows cell)
 
+-- the class of an upper bound: what its rows come to, and its lower bounds in cell order
+abbrev pub class_at : {A : Type 0} → (A → A → Ordering) → ℕ → List (Row A) → Cell A → ClassHit A
+class_at cmp measures rows u = record { upper = u; agg = agg (eq_by_cmp cmp) measures rows u; lowers = lower_bounds cmp rows u }
+
+-- the class of a cell, whose upper bound is what the rows share that the cell covers, where it covers any
+abbrev pub class_of : {A : Type 0} → (A → A → Ordering) → ℕ → List (Row A) → Cell A → Option (ClassHit A)
+class_of cmp measures rows cell = option_map (class_at cmp measures rows) (closure (eq_by_cmp cmp) rows cell)
+
+-- the reply to `bounds`, where the asked cell has this class, or none
+abbrev pub bounds_reply : Layout → ℕ → Option (ClassHit Text) → List ℕ
+bounds_reply schema line None = none_text line
+bounds_reply schema line (Some class) = bounds_text line schema.measures class
+
+abbrev pub bounded : State → ℕ → Cell Text → List ℕ
+bounded state line cell = bounds_reply state.schema line (class_of text_cmp (length state.schema.measures) state.rows cell)
+
 -- the reply to `stats`: what is counted of the rows and of their canonical tree
 abbrev pub counted : State → ℕ → List ℕ
 counted state line =
@@ -70,6 +89,7 @@ answer_to state told line (Err fault) = Some (stays state (refused_text line (li
 answer_to state told line (Ok (commands.Load name)) = option_map (file_answer state line Load) (told name)
 answer_to state told line (Ok (commands.Apply name)) = option_map (file_answer state line Apply) (told name)
 answer_to state told line (Ok (commands.Point asked)) = Some (stays state (pointed state line (cell_asked asked)))
+answer_to state told line (Ok (commands.Bounds asked)) = Some (stays state (bounded state line (cell_asked asked)))
 answer_to state told line (Ok commands.Stats) = Some (stays state (counted state line))
 
 abbrev pub answer : State → Told → ℕ → List ℕ → Option Answered
@@ -81,6 +101,7 @@ file_named (Err fault) = None
 file_named (Ok (commands.Load name)) = Some name
 file_named (Ok (commands.Apply name)) = Some name
 file_named (Ok (commands.Point asked)) = None
+file_named (Ok (commands.Bounds asked)) = None
 file_named (Ok commands.Stats) = None
 
 -- the file that a line names, over so many dimensions

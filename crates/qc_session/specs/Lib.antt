@@ -3,6 +3,7 @@ pub mod Replies
 pub mod Reply
 pub mod Answers
 pub mod Points
+pub mod Classes
 pub mod Transcript
 pub mod Runs
 pub mod Stops

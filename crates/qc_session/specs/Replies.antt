@@ -5,6 +5,7 @@ use Rattle.std.specs.Str.{bytes_eq}
 use Rattle.cube_defs.specs.Text.{Text}
 use Rattle.cube_defs.specs.Cell.{Cell}
 use Rattle.cube_defs.specs.Rows.{Agg, Part, mean_of}
+use Rattle.cube_defs.specs.Answers.{ClassHit}
 use Rattle.aggregates.specs.Texts.{amount_text, ratio_text}
 use Rattle.csv_load.specs.Faults as files
 use Rattle.qc_schema.specs.Schema.{Layout, Measure}
@@ -113,5 +114,23 @@ parts_texts count (measure ∷ measures) (part ∷ parts) = part_texts count mea
 abbrev pub agg_texts : List Measure → Agg → List Text
 agg_texts measures agg = decimal agg.count ∷ parts_texts agg.count measures agg.parts
 
+-- the record of a cell: a word, the line, the cell and what is told of it
+abbrev pub cell_text : Text → ℕ → Cell Text → List Text → List ℕ
+cell_text word line cell more = record_text (word ∷ decimal line ∷ map entry_text cell ++ more)
+
 abbrev pub point_text : ℕ → Cell Text → List Measure → Agg → List ℕ
-point_text line cell measures agg = record_text (codes "point" ∷ decimal line ∷ map entry_text cell ++ agg_texts measures agg)
+point_text line cell measures agg = cell_text (codes "point") line cell (agg_texts measures agg)
+
+abbrev pub lower_text : ℕ → Cell Text → List ℕ
+lower_text line cell = cell_text (codes "lower") line cell []
+
+-- a class: its upper bound with what its rows come to, and then its lower bounds
+abbrev pub class_text : ℕ → List Measure → ClassHit Text → List ℕ
+class_text line measures class = cell_text (codes "class") line class.upper (agg_texts measures class.agg) ++ flat_map (lower_text line) class.lowers
+
+-- the last record of a reply with so many classes
+abbrev pub end_text : ℕ → ℕ → List ℕ
+end_text line count = record_text (codes "end" ∷ decimal line ∷ decimal count ∷ [])
+
+abbrev pub bounds_text : ℕ → List Measure → ClassHit Text → List ℕ
+bounds_text line measures class = class_text line measures class ++ end_text line 1

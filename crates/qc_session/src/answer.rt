@@ -6,6 +6,7 @@ ghost use Rattle.query_script.specs.Lines.{may_want_memory};
 ghost use Rattle.warehouse.specs.Batch as batches;
 ghost use Rattle.qc_session.specs.Answers.{answer, answer_to, changed, file_answer, file_named, file_of};
 
+use crate::bounds::answer_bounds;
 use crate::point::answer_point;
 use crate::reply::{
     Reply, ShortReply, applied, refused, stats, words_of_file, words_of_line, words_of_size,
@@ -145,6 +146,10 @@ fn answer_command<F: Files>(
         Command::Load(name) => answer_file(alloc, files, warehouse, number, Kind::Load, name),
         Command::Apply(name) => answer_file(alloc, files, warehouse, number, Kind::Apply, name),
         Command::Point(asked) => match answer_point(alloc, warehouse, number, &asked) {
+            Ok(reply) => Ok(reply),
+            Err(_) => Err(LineStop::Memory),
+        },
+        Command::Bounds(asked) => match answer_bounds(alloc, warehouse, number, &asked) {
             Ok(reply) => Ok(reply),
             Err(_) => Err(LineStop::Memory),
         },

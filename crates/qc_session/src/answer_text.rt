@@ -1,4 +1,4 @@
-// The bytes of a point's reply.
+// Replies with a cell, and the reply to a point.
 ghost use Rattle.std.specs.Prelude.{◌≡◌, ◌<◌, ◌≤◌, ◌++◌, ◌∷◌, IfOk, OnOk, decimal, false, length, map, true};
 ghost use Rattle.std.specs.List.{flat_map, list_any};
 ghost use Rattle.aggregates.specs.Texts.{amount_text, ratio_text};
@@ -13,8 +13,8 @@ use cell_core::{Field, Fields, Memory};
 use qc_schema::Schema;
 use std::alloc::Global;
 
-// A field behind a comma.
-fn push_field(out: &mut Vec<u8>, field: &[u8]) -> Result<(), Memory>
+/// A field behind a comma.
+pub fn push_field(out: &mut Vec<u8>, field: &[u8]) -> Result<(), Memory>
     ensures { OnOk result (out.new.items ≡ out.old.items ++ 44 ∷ field.now) }
 {
     out.push(b',')?;
@@ -22,7 +22,8 @@ fn push_field(out: &mut Vec<u8>, field: &[u8]) -> Result<(), Memory>
     Ok(())
 }
 
-fn push_number(out: &mut Vec<u8>, number: u64) -> Result<(), Memory>
+/// A number behind a comma.
+pub fn push_number(out: &mut Vec<u8>, number: u64) -> Result<(), Memory>
     ensures { OnOk result (out.new.items ≡ out.old.items ++ 44 ∷ decimal number) }
 {
     let mut text = [0; 48];
@@ -89,7 +90,8 @@ fn push_parts(out: &mut Vec<u8>, schema: &Schema, agg: &Agg) -> Result<(), Memor
     Ok(())
 }
 
-fn push_agg(out: &mut Vec<u8>, schema: &Schema, agg: &Agg) -> Result<(), Memory>
+/// What some rows come to: their count, and the four numbers of each measure.
+pub fn push_agg(out: &mut Vec<u8>, schema: &Schema, agg: &Agg) -> Result<(), Memory>
     requires { length (agg_in agg.now).parts ≡ length schema.now.measures }
     ensures { OnOk result (out.new.items ≡ out.old.items ++ fields_text (agg_texts schema.now.measures (agg_in agg.now))) }
 {
@@ -152,6 +154,17 @@ fn push_plain(out: &mut Vec<u8>, value: &[u8]) -> Result<(), Memory>
     Ok(())
 }
 
+/// A value behind a comma.
+pub fn push_value(out: &mut Vec<u8>, value: &[u8]) -> Result<(), Memory>
+    ensures { OnOk result (out.new.items ≡ out.old.items ++ 44 ∷ quoted (value_text value.now)) }
+{
+    if needs_quotes(value) {
+        push_quoted(out, value)
+    } else {
+        push_plain(out, value)
+    }
+}
+
 // What a field asks, behind a comma.
 fn push_asked(out: &mut Vec<u8>, field: &Field) -> Result<(), Memory>
     ensures { OnOk result (out.new.items ≡ out.old.items ++ 44 ∷ entry_text (entry_asked field.now)) }
@@ -159,12 +172,7 @@ fn push_asked(out: &mut Vec<u8>, field: &Field) -> Result<(), Memory>
     let Field::One(text) = field else {
         return push_field(out, b"*");
     };
-    let value = text.as_str().as_bytes();
-    if needs_quotes(value) {
-        push_quoted(out, value)
-    } else {
-        push_plain(out, value)
-    }
+    push_value(out, text.as_str().as_bytes())
 }
 
 fn push_cell(out: &mut Vec<u8>, cell: &Fields) -> Result<(), Memory>

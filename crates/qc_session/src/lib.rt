@@ -3,6 +3,9 @@
 
 mod answer;
 mod answer_text;
+mod bounds;
+mod class_text;
+mod classes;
 mod failure;
 mod lines;
 mod point;

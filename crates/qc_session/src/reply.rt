@@ -198,7 +198,7 @@ pub fn memory(line: u32) -> ShortReply
     begun("memory", line).ended()
 }
 
-/// A point covers no row.
+/// The asked cell covers no row.
 pub fn none(line: u32) -> ShortReply
     ensures { result ≡ none_text line }
 {

@@ -1,4 +1,4 @@
-ghost use Rattle.std.specs.Prelude.{None, ◌≡◌};
+ghost use Rattle.std.specs.Prelude.{None, ◌≡◌, ◌≤◌};
 
 use crate::run;
 use qc_io::{MemoryFiles, MemorySink};
@@ -50,15 +50,18 @@ fn add_files(
     files.add("d.csv", batches[2])
 }
 
-// Runs with these words. The writes to out that are listed fail.
+// Runs with these words. The writes to out that are listed fail, and each takes one piece of these bytes.
 fn run_words(
     alloc: Global,
     texts: &[&str],
     files: &mut MemoryFiles,
     writes: &[u64],
-) -> Result<Ran, AllocError> {
+    piece: usize,
+) -> Result<Ran, AllocError>
+    requires { 1 ≤ piece }
+{
     let words = words(alloc, texts)?;
-    let mut out = MemorySink::new(alloc, writes, 1000, 2000)?;
+    let mut out = MemorySink::new(alloc, writes, piece, 2000)?;
     let mut err = MemorySink::new(alloc, &[], 5, 200)?;
     let outcome = run(alloc, &words, files, &mut out, &mut err);
     Ok(Ran {
@@ -81,7 +84,25 @@ fn run_over(
 ) -> Result<Ran, AllocError> {
     let mut files = MemoryFiles::new(alloc, reads, 7)?;
     add_files(&mut files, schema, base, batches, script)?;
-    run_words(alloc, &["run", "s.schema", "script"], &mut files, writes)
+    run_words(
+        alloc,
+        &["run", "s.schema", "script"],
+        &mut files,
+        writes,
+        1000,
+    )
+}
+
+// Runs a script over files that give one byte a read, with an out that takes one byte a write.
+fn run_bytewise(
+    alloc: Global,
+    base: &[u8],
+    batches: [&[u8]; 3],
+    script: &[u8],
+) -> Result<Ran, AllocError> {
+    let mut files = MemoryFiles::new(alloc, &[], 1)?;
+    add_files(&mut files, SCHEMA.as_bytes(), base, batches, script)?;
+    run_words(alloc, &["run", "s.schema", "script"], &mut files, &[], 1)
 }
 
 // With ample memory a script has these replies, and no line is skipped.
@@ -125,6 +146,16 @@ const PLUS: &[u8] = b"op,id,store,product,season,sale\n+,4,S2,P2,f,3\n";
 const MINUS: &[u8] = b"op,id,store,product,season,sale\n-,4,,,,\n";
 
 #[test]
+fn one_byte_at_a_time(rt: HostRuntime) -> Result<(), Fail> {
+    let script = b"load base.csv\napply b.csv\nstats\npoint *,P2,*\npoint S2,*,*";
+    let out =
+        "applied,1,3,6\napplied,2,1,9\nstats,3,4,9,15,14,6\npoint,4,*,P2,*,2,15,3,12,15/2\npoint,5,S2,*,*,2,12,3,9,6/1\n";
+    let ran = run_bytewise(rt.alloc(), BASE, [PLUS, b"", b""], script)?;
+    ends(&rt, &ran, 0, out, "");
+    Ok(())
+}
+
+#[test]
 fn what_is_counted(rt: HostRuntime) -> Result<(), Fail> {
     let all = b"op,id,store,product,season,sale\n-,1,,,,\n-,2,,,,\n-,3,,,,\n";
     let two = b"id,store,product,season,sale\n1,S1,P1,s,5\n2,S1,P1,s,-5\n";
@@ -165,6 +196,83 @@ fn what_is_counted(rt: HostRuntime) -> Result<(), Fail> {
     ];
     for (batches, script, out) in cases {
         replies(&rt, rt.alloc(), SCHEMA, BASE, batches, script, out)?;
+    }
+    Ok(())
+}
+
+#[test]
+fn bounds_of_the_worked_table(rt: HostRuntime) -> Result<(), Fail> {
+    let cases: [([&[u8]; 3], &[u8], &str); 6] = [
+        (
+            NONE,
+            b"load base.csv\nbounds *,*,s\nbounds S3,*,*\nbounds *,P2,f\nstats",
+            "applied,1,3,6\nclass,2,S1,*,s,2,18,6,12,9/1\nlower,2,*,*,s\nlower,2,S1,*,*\nend,2,1\nnone,3\nnone,4\nstats,5,3,6,11,10,5\n",
+        ),
+        (
+            NONE,
+            b"bounds *,*,*\nload base.csv\nbounds *,*,*\nbounds *,P1,*\nbounds *,P2,*",
+            "none,1\napplied,2,3,6\nclass,3,*,*,*,3,27,6,12,9/1\nlower,3,*,*,*\nend,3,1\n\
+            class,4,*,P1,*,2,15,6,9,15/2\nlower,4,*,P1,*\nend,4,1\nclass,5,S1,P2,s,1,12,12,12,12/1\nlower,5,*,P2,*\nend,5,1\n",
+        ),
+        (
+            NONE,
+            b"load base.csv\nbounds S1,P1,s\nbounds S2,P1,f",
+            "applied,1,3,6\nclass,2,S1,P1,s,1,6,6,6,6/1\nlower,2,*,P1,s\nlower,2,S1,P1,*\nend,2,1\n\
+            class,3,S2,P1,f,1,9,9,9,9/1\nlower,3,*,*,f\nlower,3,S2,*,*\nend,3,1\n",
+        ),
+        (
+            [PLUS, MINUS, b""],
+            b"load base.csv\napply b.csv\nbounds S2,*,*\napply c.csv\nbounds S2,*,*",
+            "applied,1,3,6\napplied,2,1,9\nclass,3,S2,*,f,2,12,3,9,6/1\nlower,3,*,*,f\nlower,3,S2,*,*\nend,3,1\n\
+            applied,4,1,6\nclass,5,S2,P1,f,1,9,9,9,9/1\nlower,5,*,*,f\nlower,5,S2,*,*\nend,5,1\n",
+        ),
+        (
+            [
+                b"op,id,store,product,season,sale\n+,4,?,|x,~y,1\n+,5,\"*\",,\"a\rb\",2\n",
+                b"",
+                b"",
+            ],
+            b"apply b.csv\nbounds =?,*,*\nbounds *,,*\nbounds *,*,*",
+            "applied,1,2,3\nclass,2,=?,=|x,=~y,1,1,1,1,1/1\nlower,2,*,*,=~y\nlower,2,*,=|x,*\nlower,2,=?,*,*\nend,2,1\n\
+            class,3,=*,,\"a\rb\",1,2,2,2,2/1\nlower,3,*,*,\"a\rb\"\nlower,3,*,,*\nlower,3,=*,*,*\nend,3,1\n\
+            class,4,*,*,*,2,3,1,2,3/2\nlower,4,*,*,*\nend,4,1\n",
+        ),
+        (
+            NONE,
+            b"load base.csv\nbounds S1,P1\nbounds ?,*,*\nbounds *,*,*,*\nbounds\nbounds \xEF\xBB\xBF*,*,*\nbounds *,~a~b,*",
+            "applied,1,3,6\nrefused,2,field,3\nrefused,3,field,1\nrefused,4,field,4\nrefused,5,field,1\nrefused,6,field,1\nrefused,7,field,2\n",
+        ),
+    ];
+    for (batches, script, out) in cases {
+        replies(&rt, rt.alloc(), SCHEMA, BASE, batches, script, out)?;
+    }
+    Ok(())
+}
+
+#[test]
+fn bounds_in_other_cubes(rt: HostRuntime) -> Result<(), Fail> {
+    let cases = [
+        (
+            "qcube 1\nid id\ndim v\n",
+            b"id,v\n1,a\n2,a\n3,b\n".as_slice(),
+            b"load base.csv\nbounds a\nbounds *\nbounds c".as_slice(),
+            "applied,1,3,3\nclass,2,a,2\nlower,2,a\nend,2,1\nclass,3,*,3\nlower,3,*\nend,3,1\nnone,4\n",
+        ),
+        (
+            "qcube 1\nid id\ndim v\n",
+            b"id,v\n1,\n2,\n",
+            b"load base.csv\nbounds *\nbounds =",
+            "applied,1,2,1\nclass,2,,2\nlower,2,*\nend,2,1\nclass,3,,2\nlower,3,*\nend,3,1\n",
+        ),
+        (
+            "qcube 1\nid order\ndim store\ndim product\ndim season\nmeasure sale 2\n",
+            b"season,order,sale,product,store\n*,100,6.00,=x,\"Smith, \"\"Sons\"\"\"\n*,101,6.5,=x,\"Smith, \"\"Sons\"\"\"\nf,102,10,P1,S2\n",
+            b"load base.csv\nbounds \"Smith, \"\"Sons\"\"\",*,*",
+            "applied,1,3,3\nclass,2,\"Smith, \"\"Sons\"\"\",==x,=*,2,12.50,6.00,6.50,25/4\nlower,2,*,*,=*\nlower,2,*,==x,*\nlower,2,\"Smith, \"\"Sons\"\"\",*,*\nend,2,1\n",
+        ),
+    ];
+    for (schema, base, script, out) in cases {
+        replies(&rt, rt.alloc(), schema, base, NONE, script, out)?;
     }
     Ok(())
 }
@@ -627,7 +735,7 @@ fn words_that_are_no_form(rt: HostRuntime) -> Result<(), Fail> {
     let usage = "usage: qcube run SCHEMA SCRIPT | qcube gen ROWS SEED\n";
     for texts in cases {
         let mut files = MemoryFiles::new(alloc, &[], 7)?;
-        let ran = run_words(alloc, texts, &mut files, &[])?;
+        let ran = run_words(alloc, texts, &mut files, &[], 1000)?;
         ends(&rt, &ran, 2, "", usage);
     }
     Ok(())

@@ -2,19 +2,12 @@
 
 ghost use Rattle.std.specs.Prelude.{None, ◌<◌, ◌≡◌};
 
-use qc_io::{MemoryFiles, MemorySink};
-use qc_session::run;
+use crate::scripts::{ANY, ASKED, Draw, WRITTEN, Written, answers};
+use qc_io::MemoryFiles;
 use std::alloc::{AllocError, Global};
 use std::test::Fail;
 
 const SCHEMA: &[u8] = b"qcube 1\nid id\ndim a\ndim b\nmeasure m 0\n";
-
-// Four values as they stand in a file, and as they are asked; the last entry asks Any.
-const WRITTEN: [&str; 4] = ["", "*", "\"x,y\"", "\u{E9}"];
-
-const ASKED: [&str; 5] = ["", "=*", "\"x,y\"", "\u{E9}", "*"];
-
-const ANY: u8 = 4;
 
 // A row, or a change that brings one or takes one away.
 #[derive(Clone, Copy)]
@@ -26,29 +19,13 @@ struct Row {
     amount: i16,
 }
 
-// Numbers that look drawn.
-#[derive(Drop)]
-struct Draw {
-    state: u64,
-}
-
-impl Draw {
-    fn below(&mut self, most: u64) -> u8 {
-        self.state = self
-            .state
-            .wrapping_mul(6_364_136_223_846_793_005)
-            .wrapping_add(1_442_695_040_888_963_407);
-        ((self.state >> 33) % most.max(1)).min(255) as u8
-    }
-
-    fn change(&mut self) -> Row {
-        Row {
-            deletes: self.below(5) < 2,
-            id: self.below(24),
-            a: self.below(4),
-            b: self.below(4),
-            amount: i16::from(self.below(200)) - 100,
-        }
+fn drawn(draw: &mut Draw) -> Row {
+    Row {
+        deletes: draw.below(5) < 2,
+        id: draw.below(24),
+        a: draw.below(4),
+        b: draw.below(4),
+        amount: i16::from(draw.below(200)) - 100,
     }
 }
 
@@ -236,77 +213,55 @@ fn file_of(alloc: Global, batch: &[Row]) -> Result<String, AllocError> {
     Ok(file)
 }
 
-// A script and the transcript that it is to have.
-#[derive(Drop)]
-struct Written {
-    script: String,
-    transcript: String,
-    line: u32,
+// A batch of this name.
+fn push_batch(
+    alloc: Global,
+    written: &mut Written,
+    name: &str,
+    rows: &mut Vec<Row>,
+    batch: &[Row],
+) -> Result<(), AllocError> {
+    let line = written.next_line();
+    let command = format!(in alloc; "apply {name}")?;
+    let reply = match refusal(rows, batch) {
+        Some((code, k)) => {
+            let number = k.wrapping_add(1);
+            format!(in alloc; "refused,{line},{code},{number}\n")?
+        }
+        None => {
+            follow(rows, batch)?;
+            let (records, classes) = (batch.len(), count(rows).classes);
+            format!(in alloc; "applied,{line},{records},{classes}\n")?
+        }
+    };
+    written.push(command.as_str(), reply.as_str())
 }
 
-impl Written {
-    fn push(&mut self, command: &str, reply: &str) -> Result<(), AllocError> {
-        self.script.push_str(command)?;
-        self.script.push_str("\n")?;
-        self.transcript.push_str(reply)?;
-        Ok(())
-    }
+// The counts.
+fn push_stats(alloc: Global, written: &mut Written, rows: &[Row]) -> Result<(), AllocError> {
+    let line = written.next_line();
+    let (present, counts) = (rows.len(), count(rows));
+    let (classes, nodes) = (counts.classes, counts.nodes);
+    let (tree_edges, links) = (counts.tree_edges, counts.links);
+    let reply = format!(in alloc;
+        "stats,{line},{present},{classes},{nodes},{tree_edges},{links}\n"
+    )?;
+    written.push("stats", reply.as_str())
+}
 
-    fn next_line(&mut self) -> u32 {
-        self.line = self.line.wrapping_add(1);
-        self.line
-    }
-
-    // A batch of this name.
-    fn push_batch(
-        &mut self,
-        alloc: Global,
-        name: &str,
-        rows: &mut Vec<Row>,
-        batch: &[Row],
-    ) -> Result<(), AllocError> {
-        let line = self.next_line();
-        let command = format!(in alloc; "apply {name}")?;
-        let reply = match refusal(rows, batch) {
-            Some((code, k)) => {
-                let number = k.wrapping_add(1);
-                format!(in alloc; "refused,{line},{code},{number}\n")?
-            }
-            None => {
-                follow(rows, batch)?;
-                let (records, classes) = (batch.len(), count(rows).classes);
-                format!(in alloc; "applied,{line},{records},{classes}\n")?
-            }
-        };
-        self.push(command.as_str(), reply.as_str())
-    }
-
-    // The counts.
-    fn push_stats(&mut self, alloc: Global, rows: &[Row]) -> Result<(), AllocError> {
-        let line = self.next_line();
-        let (present, counts) = (rows.len(), count(rows));
-        let (classes, nodes) = (counts.classes, counts.nodes);
-        let (tree_edges, links) = (counts.tree_edges, counts.links);
-        let reply = format!(in alloc;
-            "stats,{line},{present},{classes},{nodes},{tree_edges},{links}\n"
-        )?;
-        self.push("stats", reply.as_str())
-    }
-
-    // The points of all cells.
-    fn push_points(&mut self, alloc: Global, rows: &[Row]) -> Result<(), AllocError> {
-        for a in 0..=ANY {
-            for b in 0..=ANY {
-                let line = self.next_line();
-                let cell_a = ASKED[usize::from(a.min(ANY))];
-                let cell_b = ASKED[usize::from(b.min(ANY))];
-                let command = format!(in alloc; "point {cell_a},{cell_b}")?;
-                let reply = point_reply(alloc, line, rows, a, b)?;
-                self.push(command.as_str(), reply.as_str())?;
-            }
+// The points of all cells.
+fn push_points(alloc: Global, written: &mut Written, rows: &[Row]) -> Result<(), AllocError> {
+    for a in 0..=ANY {
+        for b in 0..=ANY {
+            let line = written.next_line();
+            let cell_a = ASKED[usize::from(a.min(ANY))];
+            let cell_b = ASKED[usize::from(b.min(ANY))];
+            let command = format!(in alloc; "point {cell_a},{cell_b}")?;
+            let reply = point_reply(alloc, line, rows, a, b)?;
+            written.push(command.as_str(), reply.as_str())?;
         }
-        Ok(())
     }
+    Ok(())
 }
 
 // A batch more, as a file, and the counts and the points of all cells after it.
@@ -323,14 +278,14 @@ fn push_round(
 {
     let mut batch = Vec::new(alloc);
     for _ in 0..draw.below(7) {
-        batch.push(draw.change())?;
+        batch.push(drawn(draw))?;
     }
     let name = format!(in alloc; "batch {round}.csv")?;
     let file = file_of(alloc, &batch)?;
     files.add(name.as_str(), file.as_bytes())?;
-    written.push_batch(alloc, name.as_str(), rows, &batch)?;
-    written.push_stats(alloc, rows)?;
-    written.push_points(alloc, rows)
+    push_batch(alloc, written, name.as_str(), rows, &batch)?;
+    push_stats(alloc, written, rows)?;
+    push_points(alloc, written, rows)
 }
 
 // Sixty batches. Gives how many rows are left.
@@ -350,47 +305,13 @@ fn push_rounds(
     Ok(rows.len())
 }
 
-// How a run ended, and what it wrote.
-#[derive(Drop)]
-struct Ran {
-    status: u8,
-    out: MemorySink,
-}
-
-fn words(alloc: Global) -> Result<Vec<String>, AllocError> {
-    let mut words = Vec::new(alloc);
-    for word in ["run", "schema", "script"] {
-        words.push(String::from_str(alloc, word)?)?;
-    }
-    Ok(words)
-}
-
-fn run_over(alloc: Global, files: &mut MemoryFiles) -> Result<Ran, AllocError> {
-    let words = words(alloc)?;
-    let mut out = MemorySink::new(alloc, &[], 4096, 1_000_000)?;
-    let mut err = MemorySink::new(alloc, &[], 4096, 1000)?;
-    let outcome = run(alloc, &words, files, &mut out, &mut err);
-    Ok(Ran {
-        status: outcome.status,
-        out,
-    })
-}
-
 #[test]
 fn batches_follow_a_plain_list(rt: HostRuntime) -> Result<(), Fail> {
     let alloc = rt.alloc();
     let mut files = MemoryFiles::new(alloc, &[], 4096)?;
-    let mut written = Written {
-        script: String::new(alloc),
-        transcript: String::new(alloc),
-        line: 0,
-    };
+    let mut written = Written::new(alloc);
     let left = push_rounds(alloc, &mut files, &mut written)?;
-    files.add("schema", SCHEMA)?;
-    files.add("script", written.script.as_bytes())?;
-    let ran = run_over(alloc, &mut files)?;
-    assert_eq!(rt; ran.status, 0);
-    assert_eq!(rt; ran.out.bytes(), written.transcript.as_bytes());
+    answers(&rt, alloc, &mut files, SCHEMA, &written)?;
     assert!(rt; left > 3);
     Ok(())
 }

@@ -3,3 +3,7 @@
 
 #[cfg(test)]
 mod batches;
+#[cfg(test)]
+mod bounds;
+#[cfg(test)]
+mod scripts;

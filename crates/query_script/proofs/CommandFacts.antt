@@ -11,7 +11,7 @@ use Rattle.query_script.specs.Faults.{Gives, LineFault}
 use Rattle.query_script.specs.Lines.{may_want_memory, names_more, rest_of, stats_line, word_of}
 use Rattle.query_script.specs.Commands.{IsCommand, command_in, command_named, command_with, name_in, point_in, wants_memory}
 use Rattle.query_script.specs.declared.line.Command.{Command}
-use Rattle.query_script.specs.declared.line.Command.TheVariants.{Load, Apply, Point, Stats}
+use Rattle.query_script.specs.declared.line.Command.TheVariants.{Load, Apply, Point, Bounds, Stats}
 use Rattle.query_script.specs.declared.line.LineRefused.{LineRefused}
 use Rattle.query_script.proofs.Points.{point-fields}
 
@@ -41,21 +41,32 @@ apply-is : (dims : ℕ) (rest : List ℕ) (command : Command) → command_with A
 apply-is dims [] command e = absurd (cc e)
 apply-is dims (b ∷ bs) command e = let same : Apply (b ∷ bs) ≡ command = cc in rw (← same) (omega arith)
 
-point-is : (dims : ℕ) (rest : List ℕ) (command : Command) → command_with Point (point_in dims rest) ≡ Ok command → IsCommand dims command
-point-is dims rest command e = by (point_in dims rest) refl e
+-- a command that asks a cell
+cell-is : (dims : ℕ) (rest : List ℕ) (make : List asked.Field → Command) (command : Command) → ((fields : List asked.Field) → point_in dims rest ≡ Ok fields → IsCommand dims (make fields))
+    → command_with make (point_in dims rest) ≡ Ok command → IsCommand dims command
+cell-is dims rest make command made e = by (point_in dims rest) refl e
   where
-    by : (read : Result (List asked.Field) LineFault) → point_in dims rest ≡ read → command_with Point read ≡ Ok command → IsCommand dims command
+    by : (read : Result (List asked.Field) LineFault) → point_in dims rest ≡ read → command_with make read ≡ Ok command → IsCommand dims command
     by (Err fault) is m = absurd (cc m)
-    by (Ok fields) is m = let same : Point fields ≡ command = cc in rw (← same) (point-fields dims rest fields is)
+    by (Ok fields) is m = let same : make fields ≡ command = cc in rw (← same) (made fields is)
+
+point-is : (dims : ℕ) (rest : List ℕ) (command : Command) → command_with Point (point_in dims rest) ≡ Ok command → IsCommand dims command
+point-is dims rest command e = cell-is dims rest Point command (point-fields dims rest) e
+
+bounds-is : (dims : ℕ) (rest : List ℕ) (command : Command) → command_with Bounds (point_in dims rest) ≡ Ok command → IsCommand dims command
+bounds-is dims rest command e = cell-is dims rest Bounds command (point-fields dims rest) e
 
 named-is : (dims : ℕ) (word : Text) (rest : List ℕ) (command : Command) → command_named dims word rest ≡ Ok command → IsCommand dims command
-named-is dims word rest command e = by (bytes_eq word (codes "load")) (bytes_eq word (codes "apply")) (bytes_eq word (codes "point")) e
+named-is dims word rest command e = by (bytes_eq word (codes "load")) (bytes_eq word (codes "apply")) (bytes_eq word (codes "point")) (bytes_eq word (codes "bounds")) e
   where
-    by : (load apply point : Bool) → cond load (command_with Load (name_in rest)) (cond apply (command_with Apply (name_in rest)) (cond point (command_with Point (point_in dims rest)) (Err faults.Command))) ≡ Ok command → IsCommand dims command
-    by true apply point m = load-is dims rest command m
-    by false true point m = apply-is dims rest command m
-    by false false true m = point-is dims rest command m
-    by false false false m = absurd (cc m)
+    by : (load apply point bounds : Bool)
+        → cond load (command_with Load (name_in rest)) (cond apply (command_with Apply (name_in rest)) (cond point (command_with Point (point_in dims rest)) (cond bounds (command_with Bounds (point_in dims rest)) (Err faults.Command)))) ≡ Ok command
+        → IsCommand dims command
+    by true apply point bounds m = load-is dims rest command m
+    by false true point bounds m = apply-is dims rest command m
+    by false false true bounds m = point-is dims rest command m
+    by false false false true m = bounds-is dims rest command m
+    by false false false false m = absurd (cc m)
 
 pub line-is : (dims : ℕ) (line : List ℕ) (r : Result Command LineRefused) → Gives r (command_in dims line) → IfOk r (IsCommand dims)
 line-is dims line (Err refused) h = tt
@@ -69,13 +80,16 @@ line-is dims line (Ok command) h = by (is_utf8 line) (bytes_eq line stats_line) 
 -- ---- which lines want memory
 
 named-wants : (dims : ℕ) (word : Text) (rest : List ℕ) (command : Command) → command_named dims word rest ≡ Ok command → names_more word ≡ true
-named-wants dims word rest command e = by (bytes_eq word (codes "load")) (bytes_eq word (codes "apply")) (bytes_eq word (codes "point")) e
+named-wants dims word rest command e = by (bytes_eq word (codes "load")) (bytes_eq word (codes "apply")) (bytes_eq word (codes "point")) (bytes_eq word (codes "bounds")) e
   where
-    by : (load apply point : Bool) → cond load (command_with Load (name_in rest)) (cond apply (command_with Apply (name_in rest)) (cond point (command_with Point (point_in dims rest)) (Err faults.Command))) ≡ Ok command → (load || apply || point) ≡ true
-    by true apply point m = refl
-    by false true point m = refl
-    by false false true m = refl
-    by false false false m = absurd (cc m)
+    by : (load apply point bounds : Bool)
+        → cond load (command_with Load (name_in rest)) (cond apply (command_with Apply (name_in rest)) (cond point (command_with Point (point_in dims rest)) (cond bounds (command_with Bounds (point_in dims rest)) (Err faults.Command)))) ≡ Ok command
+        → (load || apply || point || bounds) ≡ true
+    by true apply point bounds m = refl
+    by false true point bounds m = refl
+    by false false true bounds m = refl
+    by false false false true m = refl
+    by false false false false m = absurd (cc m)
 
 line-wants : (dims : ℕ) (line : List ℕ) (command : Command) → command_in dims line ≡ Ok command → wants_memory command ≡ true → may_want_memory line ≡ true
 line-wants dims line command h wants = by (is_utf8 line) (bytes_eq line stats_line) h

@@ -12,7 +12,7 @@ use Rattle.query_script.specs.Faults.{LineFault}
 use Rattle.query_script.specs.Fields.{fields_from, point_field}
 use Rattle.query_script.specs.Lines.{rest_of, stats_line, word_of}
 use Rattle.query_script.specs.declared.line.Command.{Command}
-use Rattle.query_script.specs.declared.line.Command.TheVariants.{Load, Apply, Point, Stats}
+use Rattle.query_script.specs.declared.line.Command.TheVariants.{Load, Apply, Point, Bounds, Stats}
 
 -- the name of a file, which is not empty
 abbrev pub name_in : List ℕ → Result Text LineFault
@@ -38,6 +38,7 @@ command_named dims word rest =
     if bytes_eq word (codes "load") then command_with Load (name_in rest)
     else if bytes_eq word (codes "apply") then command_with Apply (name_in rest)
     else if bytes_eq word (codes "point") then command_with Point (point_in dims rest)
+    else if bytes_eq word (codes "bounds") then command_with Bounds (point_in dims rest)
     else Err faults.Command
 
 -- what a line asks; `stats` with anything behind it is no command
@@ -51,6 +52,7 @@ abbrev pub wants_memory : Command → Bool
 wants_memory (Load name) = true
 wants_memory (Apply name) = true
 wants_memory (Point fields) = true
+wants_memory (Bounds fields) = true
 wants_memory Stats = false
 
 -- what a point may ask of a dimension
@@ -61,9 +63,10 @@ IsPointField (asks.One text) = ⊤
 IsPointField (asks.Among texts) = ⊥
 IsPointField (asks.Between low high) = ⊥
 
--- a name isn't empty, and a point asks something of each dimension
+-- a name isn't empty, and a point, or the bounds of its class, asks something of each dimension
 abbrev pub IsCommand : ℕ → Command → Type 0
 IsCommand dims (Load name) = 0 < length name
 IsCommand dims (Apply name) = 0 < length name
 IsCommand dims (Point fields) = (length fields ≡ dims) × All IsPointField fields
+IsCommand dims (Bounds fields) = (length fields ≡ dims) × All IsPointField fields
 IsCommand dims Stats = ⊤

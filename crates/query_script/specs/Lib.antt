@@ -3,3 +3,4 @@ pub mod Faults
 pub mod Fields
 pub mod Progress
 pub mod Commands
+pub mod Plain

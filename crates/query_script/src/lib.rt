@@ -2,6 +2,7 @@
 #![tactic(auto)]
 
 mod line;
+mod plain;
 mod point;
 #[cfg(test)]
 mod tests;

@@ -19,6 +19,8 @@ pub enum Command {
     Apply(Text),
     /// Answer the point of these fields, one for each dimension.
     Point(Fields),
+    /// Tell the bounds of the class of that point.
+    Bounds(Fields),
     /// Tell what is counted of the rows and of their tree.
     Stats,
 }
@@ -90,14 +92,16 @@ fn read_command(
         "load" => Ok(Command::Load(read_name(alloc, rest)?)),
         "apply" => Ok(Command::Apply(read_name(alloc, rest)?)),
         "point" => Ok(Command::Point(read_point(alloc, schema, rest)?)),
+        "bounds" => Ok(Command::Bounds(read_point(alloc, schema, rest)?)),
         _ => Err(LineRefused::Command),
     }
 }
 
 /// Reads a line without its end. The line `stats` is just that word. Else the first word runs to the
 /// first space. Behind `load` and `apply` stands the name of a file, which may hold spaces. Behind
-/// `point` stand fields as in a CSV file: `*` is Any, `=` stands in front of a value of any bytes, and
-/// each other field is that value, but `?` and fields that begin with `|` or `~` are not allowed.
+/// `point` and `bounds` stand fields as in a CSV file: `*` is Any, `=` stands in front of a value of any
+/// bytes, and each other field is that value, but `?` and fields that begin with `|` or `~` are not
+/// allowed.
 pub fn read_line(alloc: Global, schema: &Schema, line: &[u8]) -> Result<Command, LineRefused>
     requires { length line.now ≤ 268435456 }
     ensures gives { Gives result (command_in (length schema.now.dims) line.now) }

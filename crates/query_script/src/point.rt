@@ -9,6 +9,7 @@ ghost use Rattle.query_script.specs.Fields.{point_field, value_of};
 ghost use Rattle.query_script.specs.Progress.{asked_after};
 
 use crate::line::LineRefused;
+use crate::plain::{is_plain, read_plain};
 use cell_core::{Field, Fields, Memory, Text};
 use csv::ByteRecord;
 use csv_load::{Rows, field};
@@ -42,9 +43,13 @@ fn read_field(alloc: Global, field: &str) -> Result<Option<Field>, Memory>
     }
 }
 
-// Puts what a field asks behind what those before it ask.
-fn push_field(alloc: Global, dims: u8, text: &[u8], fields: &mut Fields) -> Result<(), LineRefused>
-    requires text { IsUtf8 text.now }
+/// Puts what a field asks behind what those before it ask.
+pub fn push_field(
+    alloc: Global,
+    dims: u8,
+    text: &str,
+    fields: &mut Fields,
+) -> Result<(), LineRefused>
     requires few { length fields.old ≤ dims }
     ensures ok { OnOk result ((more : List Text) → asked_after point_field dims fields.new more ≡ asked_after point_field dims fields.old (text.now ∷ more)) }
     ensures few { OnOk result (length fields.new ≤ dims) }
@@ -54,7 +59,6 @@ fn push_field(alloc: Global, dims: u8, text: &[u8], fields: &mut Fields) -> Resu
     if place > u32::from(dims) {
         return Err(LineRefused::Field(place));
     }
-    let text = str::from_utf8(text).unwrap();
     let Some(asked) = read_field(alloc, text)? else {
         return Err(LineRefused::Field(place));
     };
@@ -76,14 +80,15 @@ fn push_fields(
     ensures err { IfErr result (λ e. (more : List Text) → Fails e (asked_after point_field dims fields.old (fields_of row.now ++ more))) }
 {
     'fields: for at in 0..row.len() {
-        push_field(alloc, dims, field(row, at), fields)?;
+        let text = str::from_utf8(field(row, at)).unwrap();
+        push_field(alloc, dims, text, fields)?;
     }
     Ok(())
 }
 
 #[tactic(auto, using(crate::proofs::Asking::asks_all, crate::proofs::Asking::asks_too_few))]
-// Hands the fields back where none is missing.
-fn check_count(dims: u8, fields: Fields) -> Result<Fields, LineRefused>
+/// Hands the fields back where none is missing.
+pub fn check_count(dims: u8, fields: Fields) -> Result<Fields, LineRefused>
     requires { length fields ≤ dims }
     ensures { Gives result (asked_after point_field dims fields []) }
 {
@@ -94,7 +99,7 @@ fn check_count(dims: u8, fields: Fields) -> Result<Fields, LineRefused>
     Ok(fields)
 }
 
-/// Reads what follows the command word of a point.
+/// Reads what follows the word of a command that asks a cell, as a point does.
 pub fn read_point(alloc: Global, schema: &Schema, rest: &str) -> Result<Fields, LineRefused>
     ensures { Gives result (point_in (length schema.now.dims) rest.now) }
 {
@@ -102,6 +107,9 @@ pub fn read_point(alloc: Global, schema: &Schema, rest: &str) -> Result<Fields, 
         return Err(LineRefused::Field(1));
     }
     let dims = schema.dims();
+    if is_plain(rest) {
+        return read_plain(alloc, dims, rest);
+    }
     let mut rows = Rows::new(alloc, rest.as_bytes());
     let mut row = ByteRecord::new(alloc);
     let mut fields = Fields::new(alloc);

@@ -46,6 +46,10 @@ fn list_command(alloc: Global, command: &Command) -> Result<String, AllocError> 
             list.push_str("point:")?;
             list_fields(fields, &mut list)?;
         }
+        Command::Bounds(fields) => {
+            list.push_str("bounds:")?;
+            list_fields(fields, &mut list)?;
+        }
         Command::Stats => list.push_str("stats")?,
     }
     Ok(list)
@@ -95,6 +99,8 @@ fn words_and_names(rt: HostRuntime) -> Result<(), Fail> {
         (b"stats\xff", Err(LineRefused::Utf8)),
         (b" load x", Err(LineRefused::Command)),
         (b"points x", Err(LineRefused::Command)),
+        (b"bound *,*,*", Err(LineRefused::Command)),
+        (b"Bounds *,*,*", Err(LineRefused::Command)),
         (b"load\tx", Err(LineRefused::Command)),
         (b"Load x", Err(LineRefused::Command)),
         (b"\xef\xbb\xbfload x", Err(LineRefused::Command)),
@@ -136,7 +142,20 @@ fn points(rt: HostRuntime) -> Result<(), Fail> {
             b"point a,\xef\xbb\xbf*,c",
             Ok("point:is a;is \u{feff}*;is c;"),
         ),
+        (b"point a,b,", Ok("point:is a;is b;is ;")),
+        (
+            b"point \xc3\xa9,\xe2\x82\xac,\xf0\x9f\x98\x80",
+            Ok("point:is é;is €;is \u{1f600};"),
+        ),
+        (b"point a\"b,c\"d,\"\"", Ok("point:is a\"b;is c\"d;is ;")),
         (b"point a,b\rc", Ok("point:is a;is b;is c;")),
+        (b"point a\rb,c", Ok("point:is a;is b;is c;")),
+        (b"point \ra,b,c", Ok("point:is a;is b;is c;")),
+        (b"point a,b,\r", Ok("point:is a;is b;is ;")),
+        (b"point a\nb,c", Ok("point:is a;is b;is c;")),
+        (b"point ,", Err(LineRefused::Field(3))),
+        (b"point a,", Err(LineRefused::Field(3))),
+        (b"point a,b\"c,d\",e", Err(LineRefused::Field(4))),
         (b"point a,\"b,c", Err(LineRefused::Field(3))),
         (b"point", Err(LineRefused::Field(1))),
         (b"point ", Err(LineRefused::Field(1))),
@@ -161,6 +180,33 @@ fn points(rt: HostRuntime) -> Result<(), Fail> {
     for (case, (line, want)) in cases.into_iter().enumerate() {
         assert!(rt; line.len() < 10_000);
         assert!(rt; reads_as(rt.alloc(), &schema, line, want)?, "point {case}");
+    }
+    Ok(())
+}
+
+#[test]
+fn bounds(rt: HostRuntime) -> Result<(), Fail> {
+    let schema = read_schema(rt.alloc(), SHOP).map_err(|_| "schema")?;
+    let cases = [
+        (b"bounds *,*,s".as_slice(), Ok("bounds:*;*;is s;")),
+        (b"bounds =*,==x,", Ok("bounds:is *;is =x;is ;")),
+        (
+            b"bounds \"Smith, Sons\",\"*\",\"a\"\"b\"",
+            Ok("bounds:is Smith, Sons;*;is a\"b;"),
+        ),
+        (b"bounds", Err(LineRefused::Field(1))),
+        (b"bounds ", Err(LineRefused::Field(1))),
+        (b"bounds *,*", Err(LineRefused::Field(3))),
+        (b"bounds *,*,*,*", Err(LineRefused::Field(4))),
+        (b"bounds *,?,*", Err(LineRefused::Field(2))),
+        (b"bounds *,*,|a", Err(LineRefused::Field(3))),
+        (b"bounds ~a~b,*,*", Err(LineRefused::Field(1))),
+        (b"bounds \xef\xbb\xbf*,*,*", Err(LineRefused::Field(1))),
+        (b"bounds *,\xff,*", Err(LineRefused::Utf8)),
+    ];
+    for (case, (line, want)) in cases.into_iter().enumerate() {
+        assert!(rt; line.len() < 10_000);
+        assert!(rt; reads_as(rt.alloc(), &schema, line, want)?, "bounds {case}");
     }
     Ok(())
 }

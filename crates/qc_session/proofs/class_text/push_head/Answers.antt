@@ -1,0 +1,11 @@
+use Rattle.std.proofs.Common.{◌++◌, ◌∷◌, append_assoc, decimal, map}
+use Rattle.qc_session.specs.Classes.{told_cell}
+use Rattle.qc_session.specs.Points.{fields_text}
+use Rattle.qc_session.specs.Replies.{entry_text}
+use Rattle.qc_session.proofs.class_text.push_head.Goals as goal
+
+pub returns : goal.returns
+returns c =
+    let number = rw (c.from.ensures, c.in_ok-extend_from_slice.ensures.items) at c.in_ok-push_number.ensures in
+    let cell = rw number at c.push_cell.ensures in
+    rw (append_assoc (c.args.out.now.items ++ c.args.word.now) (44 ∷ decimal c.args.line) (fields_text (map entry_text (told_cell c.args.dict.now.lists c.args.cell.now)))) at cell

@@ -1,0 +1,119 @@
+// The bytes of classes and of their bounds.
+ghost use Rattle.std.specs.List.{All, flat_map};
+ghost use Rattle.std.specs.Option.{option_map};
+ghost use Rattle.std.specs.Prelude.{IfOk, None, OnOk, decimal, length, map, slice_index_or, ◌++◌, ◌<◌, ◌≡◌, ◌∷◌};
+ghost use Rattle.qc_session.specs.Classes.{HasTexts, IsTold, hit_in, told_cell, told_hit, text_of};
+ghost use Rattle.qc_session.specs.Points.{fields_text};
+ghost use Rattle.qc_session.specs.Replies.{bounds_text, class_text, end_text, entry_text, lower_text};
+ghost use Rattle.value_dict.specs.TextLists.{list_at};
+
+use crate::answer_text::{push_agg, push_field, push_number, push_value};
+use crate::classes::Class;
+use cell_core::{Cell, Cells, Entry, Memory};
+use qc_schema::Schema;
+use std::alloc::Global;
+use value_dict::Dict;
+
+// What a cell has in a dimension, behind a comma.
+fn push_entry(out: &mut Vec<u8>, dict: &Dict, cell: &Cell, dim: u8) -> Result<(), Memory>
+    requires dim { dim < length cell.now }
+    requires texts { HasTexts dict.now.lists cell.now }
+    ensures { OnOk result (out.new.items ≡ out.old.items ++ 44 ∷ entry_text (option_map (text_of (list_at dict.now dim)) (slice_index_or cell.now dim None))) }
+{
+    match cell.get(dim) {
+        Entry::Any => push_field(out, b"*"),
+        Entry::Is(code) => push_value(out, dict.text(dim, code).as_bytes()),
+    }
+}
+
+fn push_cell(out: &mut Vec<u8>, dict: &Dict, cell: &Cell) -> Result<(), Memory>
+    requires { HasTexts dict.now.lists cell.now }
+    ensures { OnOk result (out.new.items ≡ out.old.items ++ fields_text (map entry_text (told_cell dict.now.lists cell.now))) }
+{
+    'dims: for dim in 0..cell.dims() {
+        push_entry(out, dict, cell, dim)?;
+    }
+    Ok(())
+}
+
+// The first fields of a record: a word, the line's number and a cell.
+fn push_head(
+    out: &mut Vec<u8>,
+    word: &[u8],
+    line: u32,
+    dict: &Dict,
+    cell: &Cell,
+) -> Result<(), Memory>
+    requires { HasTexts dict.now.lists cell.now }
+    ensures { OnOk result (out.new.items ≡ out.old.items ++ word.now ++ fields_text (decimal line ∷ map entry_text (told_cell dict.now.lists cell.now))) }
+{
+    out.extend_from_slice(word)?;
+    push_number(out, u64::from(line))?;
+    push_cell(out, dict, cell)
+}
+
+// The record of a lower bound.
+fn push_lower(out: &mut Vec<u8>, line: u32, dict: &Dict, cell: &Cell) -> Result<(), Memory>
+    requires { HasTexts dict.now.lists cell.now }
+    ensures { OnOk result (out.new.items ≡ out.old.items ++ lower_text line (told_cell dict.now.lists cell.now)) }
+{
+    push_head(out, b"lower", line, dict, cell)?;
+    out.push(b'\n')?;
+    Ok(())
+}
+
+// The records of all lower bounds.
+fn push_lowers(out: &mut Vec<u8>, line: u32, dict: &Dict, cells: &Cells) -> Result<(), Memory>
+    requires { All (HasTexts dict.now.lists) cells.now }
+    ensures { OnOk result (out.new.items ≡ out.old.items ++ flat_map (lower_text line) (map (told_cell dict.now.lists) cells.now)) }
+{
+    'cells: for k in 0..cells.len() {
+        push_lower(out, line, dict, cells.get(k))?;
+    }
+    Ok(())
+}
+
+// The record of an upper bound, and those of the lower bounds.
+fn push_class(
+    out: &mut Vec<u8>,
+    line: u32,
+    schema: &Schema,
+    dict: &Dict,
+    class: &Class,
+) -> Result<(), Memory>
+    requires { IsTold dict.now.lists (length schema.now.measures) (hit_in class.now) }
+    ensures { OnOk result (out.new.items ≡ out.old.items ++ class_text line schema.now.measures (told_hit dict.now.lists (hit_in class.now))) }
+{
+    push_head(out, b"class", line, dict, &class.upper)?;
+    push_agg(out, schema, &class.total)?;
+    out.push(b'\n')?;
+    push_lowers(out, line, dict, &class.lowers)
+}
+
+// The last record of a reply with so many classes.
+fn push_end(out: &mut Vec<u8>, line: u32, count: u32) -> Result<(), Memory>
+    ensures { OnOk result (out.new.items ≡ out.old.items ++ end_text line count) }
+{
+    out.extend_from_slice(b"end")?;
+    push_number(out, u64::from(line))?;
+    push_number(out, u64::from(count))?;
+    out.push(b'\n')?;
+    Ok(())
+}
+
+/// The reply that tells the bounds of a class.
+pub fn bounds_reply(
+    alloc: Global,
+    line: u32,
+    schema: &Schema,
+    dict: &Dict,
+    class: &Class,
+) -> Result<Vec<u8>, Memory>
+    requires { IsTold dict.now.lists (length schema.now.measures) (hit_in class.now) }
+    ensures { IfOk result (λ reply. reply.items ≡ bounds_text line schema.now.measures (told_hit dict.now.lists (hit_in class.now))) }
+{
+    let mut out = Vec::new(alloc);
+    push_class(&mut out, line, schema, dict, class)?;
+    push_end(&mut out, line, 1)?;
+    Ok(out)
+}
