@@ -40,6 +40,11 @@ with open("points", "w") as file:
     for _ in range(500_000):
         row = rows[draw.randrange(len(rows))]
         file.write("point " + ",".join(text if draw.random() < 0.5 else "*" for text in row) + "\n")
+with open("lines", "w") as file:
+    file.write("load zipf.csv\nstats\n")
+    for _ in range(500_000):
+        row = rows[draw.randrange(len(rows))]
+        file.write("point " + ",".join(text if draw.random() < 0.5 else "*" for text in row[:-1]) + ",f\n")
 with open("zipf.schema", "w") as file:
     file.write("qcube 1\nid id\n" + "".join(f"dim {name}\n" for name in "abcdef") + "measure sale 2\nnodes 4000000\n")
 with open("day.csv", "w") as file:
@@ -76,7 +81,9 @@ if plain:
     print(f"    a plain program: {seconds:.2f} s, {plain_peak / nodes:.0f} bytes a node; {load / seconds:.2f} times (at most 2.5)")
 whole, out, _ = best(program, "run", "zipf.schema", "points")
 assert sum(line.startswith("point,") for line in out) == 500_000
-print(f"a point, with its line and its reply: {(whole - load) / 0.5:.2f} microseconds (at most 4 beside these)")
+lines, out, _ = best(program, "run", "zipf.schema", "lines")
+assert sum(line.startswith("none,") for line in out) == 500_000
+print(f"a point {(whole - load) / 0.5:.2f} microseconds, of which its line {(lines - load) / 0.5:.2f} (one of a value that no row has: it isn't searched, and its reply is short); beside it {(whole - lines) / 0.5:.2f} (at most 4, and the reply)")
 if plain:
     _, out, _ = best(plain, "points", "zipf.csv")
     assert int(out[-1]) == 500_000, out
