@@ -7,9 +7,9 @@
 # PROGRAM is the built program, by default crates/qcube/out/qcube. The inputs are generated anew from a fixed seed;
 # values are drawn by a Zipf law from 200, 100, 50, 20, 8 and 4. The plain program (bench/plain) is built by cargo
 # where Debian's librust-csv-dev and librust-indexmap-dev are installed, and is left out elsewhere. The time of the
-# batches is that of the whole script less that of its load alone, each the least of five runs. While each batch lists
-# the classes of all rows anew, that hides what the batch itself costs, and all this takes about half an hour; the two
-# limits hold of the program as it was before it listed classes, and are to hold again once a tree is repaired in place.
+# batches is that of the whole script less that of its load alone, each the least of five runs. While each batch builds
+# the tree of all rows anew, that hides what the batch itself costs, and all this takes long; the two limits hold of the
+# program as it was before it kept classes, and are to hold again once a tree is repaired in place.
 set -eu
 top=$(cd "$(dirname "$0")/.." && pwd)
 program=$(realpath "${1:-$top/crates/qcube/out/qcube}")
@@ -36,7 +36,7 @@ def record(draw, row):
     return f"{row},{texts},{draw.randrange(-50_000, 50_001) / 100:.2f}\n"
 
 with open("rows.schema", "w") as file:
-    file.write("qcube 1\nid id\n" + "".join(f"dim {name}\n" for name in "abcdef") + "measure sale 2\n")
+    file.write("qcube 1\nid id\n" + "".join(f"dim {name}\n" for name in "abcdef") + "measure sale 2\nnodes 4000000\n")
 for rows in (50_000, 500_000):
     draw = random.Random(rows)
     present = list(range(1, rows + 1))

@@ -1,7 +1,7 @@
 #!/usr/bin/env bash
 # Loads 500,000 rows of 6 dimensions, and learns 1,000,000 distinct texts of one dimension: time and peak memory,
-# beside a plain Rust program that only reads and keeps them. A load lists the classes of the rows too: the time of a
-# listing is a fifth of what five empty batches take, and is told apart; its memory, about 190 bytes a class, is not.
+# beside a plain Rust program that only reads and keeps them. The schema allows one node, so the load is refused when all is
+# read, learnt and kept and the tree has its root: what the tree costs is measured apart (bench/tree.sh).
 #
 #     bench/formats.sh [PROGRAM]
 #
@@ -38,47 +38,38 @@ with open("texts.csv", "w") as file:
     for row in range(1, 1_000_001):
         file.write(f"{row},text {row * 7919 % 1_000_003}\n")
 with open("rows.schema", "w") as file:
-    file.write("qcube 1\nid id\n" + "".join(f"dim {name}\n" for name in "abcdef") + "measure sale 2\n")
+    file.write("qcube 1\nid id\n" + "".join(f"dim {name}\n" for name in "abcdef") + "measure sale 2\nnodes 1\n")
 with open("texts.schema", "w") as file:
-    file.write("qcube 1\nid id\ndim a\n")
-for name, header in (("rows", "op,id,a,b,c,d,e,f,sale"), ("texts", "op,id,a")):
-    with open(f"{name}.empty", "w") as file:
-        file.write(header + "\n")
+    file.write("qcube 1\nid id\ndim a\nnodes 1\n")
+for name in ("rows", "texts"):
     with open(f"{name}.script", "w") as file:
         file.write(f"load {name}.csv\n")
-    with open(f"{name}.lists", "w") as file:
-        file.write(f"load {name}.csv\n" + f"apply {name}.empty\n" * 5)
 PY
 
 python3 - "$program" "$plain" <<'PY'
-import os, resource, subprocess, sys, time
+import os, subprocess, sys
 
 def best(*words):
-    """The least seconds of five runs, and the peak memory of one in bytes."""
+    """The least processor seconds of five runs, and the peak memory of one in bytes."""
     least = None
     for _ in range(5):
-        begin = time.monotonic()
         process = subprocess.Popen(words, stdout=subprocess.PIPE)
         out = process.stdout.read()
         _, status, usage = os.wait4(process.pid, 0)
-        took = time.monotonic() - begin
         assert status == 0, words
+        took = usage.ru_utime + usage.ru_stime
         least = took if least is None else min(least, took)
     return least, usage.ru_maxrss * 1024, out
 
 program, plain = sys.argv[1:3]
 for name, rows, most in (("rows", 500_000, 2.5), ("texts", 1_000_000, 2)):
-    whole, peak, out = best(program, "run", f"{name}.schema", f"{name}.script")
-    lists, _, _ = best(program, "run", f"{name}.schema", f"{name}.lists")
-    assert out.startswith(f"applied,1,{rows},".encode()), out
-    classes = int(out.split(b",")[3])
-    listing = (lists - whole) / 5
-    seconds = whole - listing
+    seconds, peak, out = best(program, "run", f"{name}.schema", f"{name}.script")
+    assert out == b"refused,1,nodes\n", out
     a_row = (peak - os.path.getsize(f"{name}.csv")) / rows
-    print(f"{name}.csv, {rows:,} rows: {seconds:.3f} s, and {listing:.3f} s to list {classes:,} classes; peak the file and {a_row:.0f} bytes a row")
+    print(f"{name}.csv, {rows:,} rows: {seconds:.3f} s; peak the file and {a_row:.0f} bytes a row")
     if plain:
         other, _, _ = best(plain, name, f"{name}.csv")
-        print(f"    a plain program: {other:.3f} s; {seconds / other:.2f} times without the listing (at most {most})")
+        print(f"    a plain program: {other:.3f} s; {seconds / other:.2f} times (at most {most})")
     else:
         print("    a plain program: left out, as its crates aren't installed")
 PY

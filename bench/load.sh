@@ -1,5 +1,5 @@
 #!/usr/bin/env bash
-# Loads base files of two sizes, classes listed, and answers points over the larger: time and peak memory.
+# Loads base files of two sizes, trees built, and answers points over the larger: time and peak memory.
 #
 #     bench/load.sh [PROGRAM]
 #
