@@ -10,20 +10,8 @@
 # batches is that of the whole script less that of its load alone, each the least of five runs. While each batch builds
 # the tree of all rows anew, that hides what the batch itself costs, and all this takes long; the two limits hold of the
 # program as it was before it kept classes, and are to hold again once a tree is repaired in place.
-set -eu
-top=$(cd "$(dirname "$0")/.." && pwd)
-program=$(realpath "${1:-$top/crates/qcube/out/qcube}")
-folder=$(mktemp -d)
-trap 'rm -rf "$folder"' EXIT
-
-plain=
-registry=/usr/share/cargo/registry
-if command -v cargo > /dev/null && compgen -G "$registry/csv-1*" > /dev/null && compgen -G "$registry/indexmap-*" > /dev/null; then
-    cargo build --quiet --release --offline --manifest-path "$top/bench/plain/Cargo.toml" --target-dir "$folder/target" \
-        --config 'source.crates-io.replace-with="debian"' --config "source.debian.directory=\"$registry\""
-    plain="$folder/target/release/plain"
-fi
-cd "$folder"
+source "$(dirname "${BASH_SOURCE[0]}")/common.sh"
+build_plain
 
 python3 - <<'PY'
 import random
@@ -65,31 +53,20 @@ for rows in (50_000, 500_000):
 PY
 
 python3 - "$program" "$plain" <<'PY'
-import os, subprocess, sys, time
-
-def best(*words):
-    """The least seconds of five runs, and the peak memory of one in bytes."""
-    least = None
-    for _ in range(5):
-        begin = time.monotonic()
-        process = subprocess.Popen(words, stdout=subprocess.DEVNULL)
-        _, status, usage = os.wait4(process.pid, 0)
-        took = time.monotonic() - begin
-        assert status == 0, words
-        least = took if least is None else min(least, took)
-    return least, usage.ru_maxrss * 1024
+import os, sys
+from common import best
 
 program, plain = sys.argv[1:]
 took = {}
 for rows in (50_000, 500_000):
-    load, peak = best(program, "run", "rows.schema", f"{rows}.load")
-    whole, _ = best(program, "run", "rows.schema", f"{rows}.script")
+    load, _, peak = best(program, "run", "rows.schema", f"{rows}.load", runs=5)
+    whole, _, _ = best(program, "run", "rows.schema", f"{rows}.script", runs=5)
     took[rows] = whole - load
     a_row = (peak - os.path.getsize(f"{rows}.csv")) / rows
     print(f"{rows:,} rows: load {load:.3f} s, peak the file and {a_row:.0f} bytes a row; 200 batches {took[rows]:.3f} s")
     if plain:
-        load, _ = best(plain, "batches", f"{rows}.load")
-        whole, _ = best(plain, "batches", f"{rows}.script")
+        load, _, _ = best(plain, "batches", f"{rows}.load", runs=5)
+        whole, _, _ = best(plain, "batches", f"{rows}.script", runs=5)
         print(f"    a plain program: load {load:.3f} s, 200 batches {whole - load:.3f} s; {took[rows] / (whole - load):.2f} times (at most 4)")
 print(f"over 10 times the rows the batches take {took[500_000] / took[50_000]:.2f} times as long (at most 3)")
 PY

@@ -8,27 +8,16 @@
 # are drawn by a Zipf law from 500, 200, 80, 30, 12 and 5. Times are those of the processor, the least of three runs. The
 # plain program (bench/plain) is built by cargo where Debian's librust-csv-dev and librust-indexmap-dev are installed, and
 # is left out elsewhere.
-set -eu
-top=$(cd "$(dirname "$0")/.." && pwd)
-program=$(realpath "${1:-$top/crates/qcube/out/qcube}")
-folder=$(mktemp -d)
-trap 'rm -rf "$folder"' EXIT
-
-plain=
-registry=/usr/share/cargo/registry
-if command -v cargo > /dev/null && compgen -G "$registry/csv-1*" > /dev/null && compgen -G "$registry/indexmap-*" > /dev/null; then
-    cargo build --quiet --release --offline --manifest-path "$top/bench/plain/Cargo.toml" --target-dir "$folder/target" \
-        --config 'source.crates-io.replace-with="debian"' --config "source.debian.directory=\"$registry\""
-    plain="$folder/target/release/plain"
-fi
-cd "$folder"
+source "$(dirname "${BASH_SOURCE[0]}")/common.sh"
+build_plain
 
 python3 - <<'PY'
 import random
+from common import zipf_rows
+
 counts = (500, 200, 80, 30, 12, 5)
 draw = random.Random(7)
-columns = [draw.choices(range(n), [1 / (k + 1) for k in range(n)], k=300_000) for n in counts]
-rows = [[f"{name}{value}" for name, value in zip("abcdef", values)] for values in zip(*columns)]
+rows = zipf_rows(draw, counts, 300_000)
 with open("zipf.csv", "w") as file:
     file.write("id,a,b,c,d,e,f,sale\n")
     for row, texts in enumerate(rows, 1):
@@ -56,19 +45,8 @@ with open("day.schema", "w") as file:
 PY
 
 python3 - "$program" "$plain" <<'PY'
-import os, subprocess, sys
-
-def best(*words):
-    """The least processor seconds of three runs, what the last wrote, and its peak memory in bytes."""
-    least = None
-    for _ in range(3):
-        process = subprocess.Popen(words, stdout=subprocess.PIPE, stderr=subprocess.DEVNULL)
-        out = process.stdout.read().decode()
-        _, status, usage = os.wait4(process.pid, 0)
-        assert status == 0, words
-        took = usage.ru_utime + usage.ru_stime
-        least = took if least is None else min(least, took)
-    return least, out.splitlines(), usage.ru_maxrss * 1024
+import sys
+from common import best
 
 program, plain = sys.argv[1:]
 load, out, peak = best(program, "run", "zipf.schema", "load")
