@@ -2,6 +2,7 @@
 use Rattle.std.specs.Prelude.{◌≡◌, ℕ, ◌*◌, ◌^◌, ◌<◌, ◌≤◌, List, ℤ, pos, nat_abs, slice_index_or}
 use Rattle.cube_defs.specs.Rows.{gcd}
 use Rattle.aggregates.specs.declared.agg.Part.{Part}
+use Rattle.cube_defs.specs.declared.limits.TheConstants.{MAX_MEASURES, MAX_ROWS}
 
 -- no amount has a greater magnitude
 abbrev pub largest_amount : ℕ
@@ -18,8 +19,8 @@ pub record IsZero (part : Part) : Type 0 where
 -- it is that of 1 to 1,000,000 rows with at most four measures, of amounts that are not too large
 pub record IsAggregate (count measures : ℕ) (parts : List Part) : Type 0 where
   pub some : 1 ≤ count
-  pub few : count ≤ 1000000
-  pub four : measures ≤ 4
+  pub few : count ≤ MAX_ROWS
+  pub four : measures ≤ MAX_MEASURES
   pub sums : (k : ℕ) → nat_abs (slice_index_or parts k zero_part).sum ≤ count * largest_amount
   pub unused : (k : ℕ) → measures ≤ k → IsZero (slice_index_or parts k zero_part)
 

@@ -28,7 +28,7 @@ impl Agg {
 
     /// The aggregate of one row with these amounts.
     pub fn one(amounts: &[i64]) -> Agg
-        requires few { length amounts.now ≤ 4 }
+        requires few { length amounts.now ≤ MAX_MEASURES }
         requires small { All (λ a. nat_abs a ≤ largest_amount) amounts.now }
         ensures aggregate { agg_in result ≡ agg_of_row amounts.now }
         ensures measures { result.measures ≡ length amounts.now }
@@ -46,7 +46,7 @@ impl Agg {
     pub fn add_row(&mut self, amounts: &[i64])
         requires measures { length amounts.now ≡ self.old.measures }
         requires small { All (λ a. nat_abs a ≤ largest_amount) amounts.now }
-        requires few { self.old.count < 1000000 }
+        requires few { self.old.count < MAX_ROWS }
         ensures aggregate { agg_in self.new ≡ combine (agg_in self.old) (agg_of_row amounts.now) }
         ensures measures { self.new.measures ≡ self.old.measures }
     {
@@ -57,7 +57,7 @@ impl Agg {
     /// Adds the rows of another aggregate.
     pub fn combine(&mut self, other: &Agg)
         requires measures { other.now.measures ≡ self.old.measures }
-        requires few { self.old.count + other.now.count ≤ 1000000 }
+        requires few { self.old.count + other.now.count ≤ MAX_ROWS }
         ensures aggregate { agg_in self.new ≡ combine (agg_in self.old) (agg_in other.now) }
         ensures measures { self.new.measures ≡ self.old.measures }
     {
@@ -75,6 +75,8 @@ const ZERO: Part = Part {
 ghost use Rattle.std.specs.Prelude.{◌≡◌, ℕ, ◌+◌, ◌<◌, ◌≤◌, ◌^◌, length, nat_abs, pos, slice_index_or};
 ghost use Rattle.aggregates.specs.Bounds.{zero_part};
 ghost use Rattle.aggregates.specs.Rows.{joined, single};
+
+use cube_defs::{MAX_MEASURES, MAX_ROWS};
 
 impl Part {
     fn single(amount: i64) -> Part
@@ -100,7 +102,7 @@ impl Part {
 }
 
 fn set_parts(parts: &mut [Part; 4], amounts: &[i64])
-    requires { length amounts.now ≤ 4 }
+    requires { length amounts.now ≤ MAX_MEASURES }
     ensures set { (k : ℕ) → k < length amounts.now →
         slice_index_or parts.new k zero_part ≡ single (slice_index_or amounts.now k (pos 0)) }
     ensures others { (k : ℕ) → length amounts.now ≤ k →
@@ -113,7 +115,7 @@ fn set_parts(parts: &mut [Part; 4], amounts: &[i64])
 }
 
 fn add_amounts(parts: &mut [Part; 4], amounts: &[i64])
-    requires few { length amounts.now ≤ 4 }
+    requires few { length amounts.now ≤ MAX_MEASURES }
     requires fits { (k : ℕ) → k < length amounts.now →
         nat_abs (slice_index_or parts.old k zero_part).sum
         + nat_abs (slice_index_or amounts.now k (pos 0)) < 2 ^ 63 }
@@ -130,7 +132,7 @@ fn add_amounts(parts: &mut [Part; 4], amounts: &[i64])
 }
 
 fn join_parts(parts: &mut [Part; 4], others: &[Part; 4], measures: u8)
-    requires few { measures ≤ 4 }
+    requires few { measures ≤ MAX_MEASURES }
     requires fits { (k : ℕ) → k < measures →
         nat_abs (slice_index_or parts.old k zero_part).sum
         + nat_abs (slice_index_or others.now k zero_part).sum < 2 ^ 63 }

@@ -5,6 +5,8 @@ use Rattle.aggregates.specs.Bounds.{largest_amount}
 use Rattle.cube_defs.specs.Cell.{Cell, cell_of, cell_eq}
 use Rattle.cube_defs.specs.Rows.{Row, Agg, agg_of}
 use Rattle.base_table.specs.declared.table.RowNo.{RowNo}
+use Rattle.cube_defs.specs.declared.limits.TheConstants.{MAX_DIMS, MAX_MEASURES, MAX_ROWS}
+use Rattle.cell_core.specs.Entry.{IsCode}
 
 -- the places now, and where a batch is open the rows at its begin
 pub record Places : Type 0 where
@@ -75,7 +77,7 @@ padded amounts = amounts ++ replicate (4 - length amounts) (pos 0)
 pub record IsRow (dims measures : ℕ) (row : Row ℕ) : Type 0 where
   pub id : row.id < 2 ^ 64
   pub tuple : length row.tuple ≡ dims
-  pub codes : All (λ code. code < 4000000) row.tuple
+  pub codes : All IsCode row.tuple
   pub amounts : length row.amounts ≡ measures
   pub small : All (λ a. nat_abs a ≤ largest_amount) row.amounts
 
@@ -87,10 +89,10 @@ pub record AreRows (dims measures max : ℕ) (rows : List (Row ℕ)) : Type 0 wh
 -- what is true of every table
 pub record IsTable (t : Places) : Type 0 where
   pub some_dims : 0 < t.dims
-  pub few_dims : t.dims ≤ 16
-  pub few_measures : t.measures ≤ 4
+  pub few_dims : t.dims ≤ MAX_DIMS
+  pub few_measures : t.measures ≤ MAX_MEASURES
   pub some_rows : 0 < t.max
-  pub few_rows : t.max ≤ 1000000
+  pub few_rows : t.max ≤ MAX_ROWS
   pub few_places : length t.places < 2 ^ 32
   pub rows : AreRows t.dims t.measures t.max (rows_of t)
   pub were : IfSome t.was (AreRows t.dims t.measures t.max)

@@ -7,6 +7,7 @@ use Rattle.cube_defs.specs.Cell.{Cell, cell_eq, cell_of}
 use Rattle.cube_defs.specs.Rows.{Agg, Row}
 use Rattle.base_table.specs.Last.{last_of, picked}
 use Rattle.base_table.specs.Places.{IsRow, Places}
+use Rattle.cube_defs.specs.declared.limits.TheConstants.{MAX_DIMS, MAX_MEASURES, MAX_ROWS}
 
 -- rows in the order in which they came
 pub record Rows : Type 0 where
@@ -43,8 +44,8 @@ print_of row = fingerprint (cell_of row.tuple)
 
 -- each row has its codes, its amounts and its tuple's number
 pub record IsStore (dims measures : ℕ) (ids prints codes : List ℕ) (amounts : List ℤ) : Type 0 where
-  pub few_dims : dims ≤ 16
-  pub few_measures : measures ≤ 4
+  pub few_dims : dims ≤ MAX_DIMS
+  pub few_measures : measures ≤ MAX_MEASURES
   pub codes_len : length codes ≡ length ids * dims
   pub amounts_len : length amounts ≡ length ids * measures
   pub prints_are : prints ≡ map print_of (rows_from dims measures ids codes amounts)
@@ -90,10 +91,10 @@ pub record IsMarked (here : List Bool) (rows : List (Row ℕ)) (count max : ℕ)
 -- the table now, and as it was when the batch began, or where none is open, as it is
 pub record IsHolding (store : Rows) (here : List Bool) (touched : List ℕ) (room begun count_then : ℕ) (is_open : Bool) (count max : ℕ) : Type 0 where
   pub some_dims : 0 < store.dims
-  pub few_dims : store.dims ≤ 16
-  pub few_measures : store.measures ≤ 4
+  pub few_dims : store.dims ≤ MAX_DIMS
+  pub few_measures : store.measures ≤ MAX_MEASURES
   pub some_rows : 0 < max
-  pub few_rows : max ≤ 1000000
+  pub few_rows : max ≤ MAX_ROWS
   pub few_places : length here < 2 ^ 32
   pub places : length store.rows ≡ length here
   pub each : All (IsRow store.dims store.measures) store.rows

@@ -14,13 +14,14 @@ ghost use Rattle.base_table.specs.Store.{added};
 use crate::store::Store;
 use aggregates::Agg;
 use cell_core::Cell;
+use cube_defs::{MAX_MEASURES, MAX_ROWS};
 
 // One row more.
 fn with_row(sum: Option<Agg>, amounts: &[i64]) -> Agg
-    requires four { length amounts.now ≤ 4 }
+    requires four { length amounts.now ≤ MAX_MEASURES }
     requires measures { IfSome sum (λ agg. agg.measures ≡ length amounts.now) }
     requires small { All (λ a. nat_abs a ≤ largest_amount) amounts.now }
-    requires few { IfSome sum (λ agg. agg.count < 1000000) }
+    requires few { IfSome sum (λ agg. agg.count < MAX_ROWS) }
     ensures aggregate { Some (agg_in result) ≡ join_aggs (option_map agg_in sum) (Some (agg_of_row amounts.now)) }
     ensures measures { result.measures ≡ length amounts.now }
 {
@@ -46,7 +47,7 @@ fn with_place(
     requires places { length store.now.rows ≡ length here.now.items }
     requires dims { length tuple.now ≡ store.now.dims }
     requires measures { IfSome sum (λ agg. agg.measures ≡ store.now.measures) }
-    requires few { slice_index_or here.now.items place false ≡ true → (d : Row ℕ) → cell_eq nat_eq (cell_of (slice_index_or store.now.rows place d).tuple) tuple.now ≡ true → IfSome sum (λ agg. agg.count < 1000000) }
+    requires few { slice_index_or here.now.items place false ≡ true → (d : Row ℕ) → cell_eq nat_eq (cell_of (slice_index_or store.now.rows place d).tuple) tuple.now ≡ true → IfSome sum (λ agg. agg.count < MAX_ROWS) }
     ensures aggregate { (d : Row ℕ) → option_map agg_in result ≡ join_aggs (option_map agg_in sum) (added here.now.items store.now.rows tuple.now place d) }
     ensures measures { IfSome result (λ agg. agg.measures ≡ store.now.measures) }
 {
@@ -60,7 +61,7 @@ fn with_place(
 // read.
 pub(crate) fn group_in(store: &Store, here: &Vec<bool>, tuple: &Cell) -> Option<Agg>
     requires places { length store.now.rows ≡ length here.now.items }
-    requires few { length (picked here.now.items store.now.rows) ≤ 1000000 }
+    requires few { length (picked here.now.items store.now.rows) ≤ MAX_ROWS }
     requires each { All (IsRow store.now.dims store.now.measures) store.now.rows }
     requires dims { length tuple.now ≡ store.now.dims }
     ensures value { option_map agg_in result ≡ total_of store.now.measures (with_tuple (picked here.now.items store.now.rows) tuple.now) }

@@ -8,10 +8,8 @@ mod marks;
 mod store;
 mod table;
 
+pub use cube_defs::Memory;
 pub use table::{Missing, RowNo, Table, TableRefused, Taken};
-
-/// Memory ran out.
-pub type Memory = std::alloc::AllocError;
 
 #[cfg(test)]
 mod tests;

@@ -2,10 +2,11 @@
 ghost use Rattle.std.specs.Prelude.{length, vec_capacity, vec_len, ◌*◌, ◌+◌, ◌++◌, ◌≡◌, ◌≤◌, All, ◌<◌, nat_eq, is_some, true, take, drop};
 ghost use Rattle.base_table.specs.Places.{values_of};
 ghost use Rattle.base_table.specs.Store.{code_or_any, fingerprint, picked_lines};
-ghost use Rattle.cell_core.specs.Entry.{value_in};
+ghost use Rattle.cell_core.specs.Entry.{IsCode, value_in};
 ghost use Rattle.cube_defs.specs.Cell.{cell_eq, cell_of};
 
 use cell_core::{ANY, Cell, Entry};
+use cube_defs::MAX_DIMS;
 use std::alloc::Global;
 
 // The list at a place.
@@ -51,7 +52,7 @@ pub(crate) fn push_codes(codes: &mut Vec<u32>, tuple: &Cell)
     requires room { vec_len codes.old + length tuple.now ≤ vec_capacity codes.old }
     requires full { All (λ entry. is_some entry ≡ true) tuple.now }
     ensures items { codes.new.items ≡ codes.old.items ++ values_of tuple.now }
-    ensures small { All (λ code. code < 4000000) (values_of tuple.now) }
+    ensures small { All IsCode (values_of tuple.now) }
     ensures dims { length (values_of tuple.now) ≡ length tuple.now }
 {
     'codes: for dim in 0..tuple.dims() {
@@ -82,8 +83,8 @@ pub(crate) fn fingerprint(tuple: &Cell) -> u32
 
 // The cell with these codes.
 pub(crate) fn cell_with(alloc: Global, codes: &[u32]) -> Cell
-    requires few { length codes.now ≤ 16 }
-    requires small { All (λ code. code < 4000000) codes.now }
+    requires few { length codes.now ≤ MAX_DIMS }
+    requires small { All IsCode codes.now }
     ensures { result ≡ cell_of codes.now }
 {
     let mut cell = Cell::any(alloc, codes.len() as u8);
@@ -96,8 +97,8 @@ pub(crate) fn cell_with(alloc: Global, codes: &[u32]) -> Cell
 // Whether the codes are just those of the cell.
 pub(crate) fn is_cell(codes: &[u32], tuple: &Cell) -> bool
     requires dims { length codes.now ≡ length tuple.now }
-    requires few { length codes.now ≤ 16 }
-    requires small { All (λ code. code < 4000000) codes.now }
+    requires few { length codes.now ≤ MAX_DIMS }
+    requires small { All IsCode codes.now }
     ensures { result ≡ cell_eq nat_eq (cell_of codes.now) tuple.now }
 {
     'codes: for i in 0..codes.len() {

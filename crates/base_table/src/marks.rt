@@ -8,6 +8,7 @@ ghost use Rattle.base_table.specs.Store.{AreLast, IsFound, restored};
 use crate::Memory;
 use crate::store::Store;
 use crate::table::RowNo;
+use cube_defs::MAX_MEASURES;
 use std::alloc::Global;
 
 // The place of the row that is here under the id.
@@ -31,7 +32,7 @@ pub(crate) fn find(store: &Store, here: &Vec<bool>, id: u64) -> Option<u32>
 
 // Four amounts, those behind the given ones zero.
 pub(crate) fn padded(amounts: &[i64]) -> [i64; 4]
-    requires { length amounts.now ≤ 4 }
+    requires { length amounts.now ≤ MAX_MEASURES }
     ensures { result ≡ padded amounts.now }
 {
     let mut four = [0; 4];

@@ -1,5 +1,6 @@
 // Rows in the order in which they came, whether they are still there or not.
 ghost use Rattle.std.specs.Prelude.{All, [], length, map, nat_abs, nat_eq, pos, slice_index_or, take, true, ℕ, ◌+◌, ◌++◌, ◌<◌, ◌∷◌, ◌^◌, ◌≡◌, ◌≤◌, OnErr, OnOk, is_some};
+ghost use Rattle.cell_core.specs.Entry.{IsCode};
 ghost use Rattle.aggregates.specs.Bounds.{largest_amount};
 ghost use Rattle.cube_defs.specs.Cell.{cell_eq, cell_of};
 ghost use Rattle.cube_defs.specs.Rows.{Row};
@@ -10,6 +11,7 @@ ghost use Rattle.base_table.specs.Store.{fingerprint, id_of, print_of};
 use crate::chains::{self, Chains};
 use crate::{Memory, lines};
 use cell_core::Cell;
+use cube_defs::{MAX_DIMS, MAX_MEASURES};
 use std::alloc::{AllocError, Global};
 use std::marker::Model;
 
@@ -38,8 +40,8 @@ impl Model for Store {
 
 impl Store {
     pub fn new(alloc: Global, dims: u8, measures: u8) -> Store
-        requires dims { dims ≤ 16 }
-        requires measures { measures ≤ 4 }
+        requires dims { dims ≤ MAX_DIMS }
+        requires measures { measures ≤ MAX_MEASURES }
         ensures { result ≡ record { dims = dims; measures = measures; rows = [] } }
     {
         Store {
@@ -98,8 +100,8 @@ impl Store {
         requires { place < length self.now.rows }
         ensures value { (d : Row ℕ) → result.now ≡ (slice_index_or self.now.rows place d).tuple }
         ensures dims { length result.now ≡ self.now.dims }
-        ensures few { self.now.dims ≤ 16 }
-        ensures small { All (λ code. code < 4000000) result.now }
+        ensures few { self.now.dims ≤ MAX_DIMS }
+        ensures small { All IsCode result.now }
     {
         lines::line(&self.codes, place, self.dims)
     }
@@ -109,7 +111,7 @@ impl Store {
         requires { place < length self.now.rows }
         ensures value { (d : Row ℕ) → result.now ≡ (slice_index_or self.now.rows place d).amounts }
         ensures measures { length result.now ≡ self.now.measures }
-        ensures few { self.now.measures ≤ 4 }
+        ensures few { self.now.measures ≤ MAX_MEASURES }
         ensures small { All (λ a. nat_abs a ≤ largest_amount) result.now }
     {
         lines::line(&self.amounts, place, self.measures)
@@ -129,7 +131,7 @@ impl Store {
         requires place { place < length self.now.rows }
         requires dim { dim < self.now.dims }
         ensures value { (d : Row ℕ) → result ≡ slice_index_or (slice_index_or self.now.rows place d).tuple dim 0 }
-        ensures small { result < 4000000 }
+        ensures small { IsCode result }
     {
         self.codes(place)[dim as usize]
     }

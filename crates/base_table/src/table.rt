@@ -1,5 +1,6 @@
 // Rows at places, and a batch that can be taken back.
 ghost use Rattle.std.specs.Prelude.{All, nat_abs, pos, true, false, Err, IfOk, IfSome, None, OnErr, OnOk, Some, [], length, map, slice_index_or, ◌++◌, ◌<◌, ◌∷◌, ◌≡◌, ◌≤◌, ◌↔◌, is_some};
+ghost use Rattle.cell_core.specs.Entry.{IsCode};
 ghost use Rattle.base_table.specs.Places.{AreThere, IsTable, cleared, has_id, named, numbers, padded, row_at, row_of, row_with_id, rows_of, total_of, with_tuple, without_id};
 ghost use Rattle.std.specs.Option.{option_map};
 ghost use Rattle.cube_defs.specs.Cell.{cell_of};
@@ -10,6 +11,7 @@ use crate::store::Store;
 use crate::{Memory, group, marks};
 use aggregates::Agg;
 use cell_core::{Cell, Code};
+use cube_defs::{MAX_DIMS, MAX_MEASURES, MAX_ROWS};
 use std::alloc::{AllocError, Global};
 use std::marker::Model;
 
@@ -77,10 +79,10 @@ impl Table {
     /// No rows, and no batch is open.
     pub fn new(alloc: Global, dims: u8, measures: u8, max: u32) -> Result<Table, Memory>
         requires some_dims { 0 < dims }
-        requires few_dims { dims ≤ 16 }
-        requires few_measures { measures ≤ 4 }
+        requires few_dims { dims ≤ MAX_DIMS }
+        requires few_measures { measures ≤ MAX_MEASURES }
         requires some_rows { 0 < max }
-        requires few_rows { max ≤ 1000000 }
+        requires few_rows { max ≤ MAX_ROWS }
         ensures value { IfOk result (λ table. table ≡ record { dims = dims; measures = measures; max = max; places = []; was = None }) }
     {
         Ok(Table {
@@ -155,7 +157,7 @@ impl Table {
         requires row { is_some (row_at self.now row.0) ≡ true }
         requires dim { dim < self.now.dims }
         ensures value { IfSome (row_at self.now row.0) (λ r. result ≡ slice_index_or r.tuple dim 0) }
-        ensures small { result < 4000000 }
+        ensures small { IsCode result }
     {
         self.store.code(row.0, dim)
     }

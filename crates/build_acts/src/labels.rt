@@ -1,5 +1,6 @@
 // Edges to nodes that are there already.
 ghost use Rattle.std.specs.FinMap as map;
+ghost use Rattle.cell_core.specs.Entry.{IsCode};
 ghost use Rattle.std.specs.Prelude.{IsSome, List, OnOk, Some, [], false, true, ℕ, ◌<◌, ◌∷◌, ◌≡◌};
 ghost use Rattle.cube_defs.specs.Cell.{Cell};
 ghost use Rattle.cube_defs.specs.Rows.{Row};
@@ -27,7 +28,7 @@ pub fn set_link<L: Ledger>(
     requires touched { is_touched arena.old node.0 ≡ true }
     requires target { IsSome (map.get arena.old.now target.0) }
     requires dim { dim < arena.old.width }
-    requires code { code < 4000000 }
+    requires code { IsCode code }
     ensures made { OnOk result ((measures : ℕ) (rows : List (Row ℕ)) (f t : Cell ℕ) → cell_at arena.old.now node.0 ≡ Some f → cell_at arena.old.now target.0 ≡ Some t
         → Does measures rows (Label false f dim code t ∷ []) arena.old arena.new) }
     ensures was { (q : ℕ) → was_at arena.new q ≡ was_at arena.old q }
@@ -53,7 +54,7 @@ pub(crate) fn put_label<L: Ledger>(
     requires touched { is_touched arena.old node.0 ≡ true }
     requires target { IsSome (map.get arena.old.now target.0) }
     requires dim { dim < arena.old.width }
-    requires code { code < 4000000 }
+    requires code { IsCode code }
     ensures made { OnOk result ((measures : ℕ) (rows : List (Row ℕ)) (f t : Cell ℕ) → cell_at arena.old.now node.0 ≡ Some f → cell_at arena.old.now target.0 ≡ Some t
         → Does measures rows (Label is_forced f dim code t ∷ []) arena.old arena.new) }
     ensures was { (q : ℕ) → was_at arena.new q ≡ was_at arena.old q }

@@ -5,12 +5,10 @@ mod labels;
 mod marks;
 mod nodes;
 
+pub use cube_defs::Memory;
 pub use labels::set_link;
 pub use marks::mark_class;
 pub use nodes::{add_child, add_root};
-
-/// Memory ran out.
-pub type Memory = std::alloc::AllocError;
 
 #[cfg(test)]
 mod tests;

@@ -1,5 +1,6 @@
 // Nodes are added.
 ghost use Rattle.std.specs.FinMap as map;
+ghost use Rattle.cell_core.specs.Entry.{IsCode};
 ghost use Rattle.std.specs.Ordering.{nat_cmp};
 ghost use Rattle.std.specs.Prelude.{Err, IfOk, IsSome, List, None, OnOk, Some, [], length, replicate, true, ℕ, ◌<◌, ◌∷◌, ◌≡◌, ◌≢◌, ◌≤◌};
 ghost use Rattle.cube_defs.specs.Cell.{Cell, depth, with_value};
@@ -49,7 +50,7 @@ pub fn add_child<L: Ledger>(
     requires touched { is_touched arena.old parent.0 ≡ true }
     requires behind { depth (record_at arena.old.now parent.0).cell ≤ dim }
     requires dim { dim < arena.old.width }
-    requires code { code < 4000000 }
+    requires code { IsCode code }
     ensures made { OnOk result ((measures : ℕ) (rows : List (Row ℕ)) (f : Cell ℕ) → cell_at arena.old.now parent.0 ≡ Some f
         → Does measures rows (Add (with_value f dim code) ∷ Label is_forced f dim code (with_value f dim code) ∷ []) arena.old arena.new) }
     ensures here { IfOk result (λ k. (f : Cell ℕ) → cell_at arena.old.now parent.0 ≡ Some f → cell_at arena.new.now k.0 ≡ Some (with_value f dim code)) }

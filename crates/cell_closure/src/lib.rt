@@ -6,10 +6,8 @@ mod closure;
 mod parts;
 
 pub use closure::{closure_of, shared_entry};
+pub use cube_defs::Memory;
 pub use parts::{Parts, part};
-
-/// Memory ran out.
-pub type Memory = std::alloc::AllocError;
 
 #[cfg(test)]
 mod tests;

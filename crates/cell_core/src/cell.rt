@@ -4,6 +4,7 @@ ghost use Rattle.cell_core.specs.Entry.{IsSmall, value_in};
 ghost use Rattle.cube_defs.specs.Cell as defs;
 
 use crate::codes;
+use cube_defs::MAX_DIMS;
 use std::alloc::Global;
 use std::marker::Model;
 
@@ -37,18 +38,19 @@ pub struct Cell {
 impl Model for Cell {
     ghost use Rattle.std.specs.Prelude.{All, IsTrue, List, Option, take, ℕ, ◌≤◌};
     ghost use Rattle.cell_core.specs.Codes.{entries_of, is_kept};
+    ghost use Rattle.cube_defs.specs.declared.limits.TheConstants.{MAX_DIMS};
 
     ghost Value = { List (Option ℕ) };
 
     ghost view = { λ c. entries_of (take c.dims c.codes) };
 
-    ghost invariant = { λ c. (c.dims ≤ 16) × All (λ code. IsTrue (is_kept code)) c.codes };
+    ghost invariant = { λ c. (c.dims ≤ MAX_DIMS) × All (λ code. IsTrue (is_kept code)) c.codes };
 }
 
 impl Cell {
     /// The cell with Any in each dimension.
     pub fn any(_alloc: Global, dims: u8) -> Cell
-        requires { dims ≤ 16 }
+        requires { dims ≤ MAX_DIMS }
         ensures value { result ≡ replicate dims None }
         ensures dims { length result ≡ dims }
     {
@@ -61,7 +63,7 @@ impl Cell {
     /// How many dimensions the cell has.
     pub fn dims(&self) -> u8
         ensures value { result ≡ length self.now }
-        ensures few { length self.now ≤ 16 }
+        ensures few { length self.now ≤ MAX_DIMS }
     {
         self.dims
     }

@@ -5,6 +5,7 @@ ghost use Rattle.cell_core.specs.Entry.{IsSmall, value_in};
 ghost use Rattle.cube_defs.specs.Cell as defs;
 
 use crate::{ANY, Entry};
+use cube_defs::MAX_DIMS;
 
 pub(crate) fn entry_at(code: u32) -> Entry
     requires { IsTrue (is_kept code) }
@@ -76,7 +77,7 @@ pub(crate) fn upto(c: &mut [u32], j: usize)
 }
 
 pub(crate) fn mask_of(c: &[u32]) -> u16
-    requires { length c.now ≤ 16 }
+    requires { length c.now ≤ MAX_DIMS }
     ensures { result ≡ defs.mask (entries_of c.now) }
 {
     let mut mask = 0;

@@ -10,13 +10,10 @@ mod texts;
 
 pub use cell::{ANY, Cell, Code, Entry, NodeNo, last, leq, mask_of, meet_into, upto};
 pub use cells::Cells;
+pub use cube_defs::Memory;
 pub use fields::{Field, Fields};
-use std::alloc::AllocError;
 pub use steps::Steps;
 pub use texts::{Text, Texts};
-
-/// Memory ran out.
-pub type Memory = AllocError;
 
 #[cfg(test)]
 mod tests;

@@ -1,5 +1,6 @@
 // Labels under the nodes of fronts, to nodes that are added or there.
 ghost use Rattle.std.specs.FinMap as map;
+ghost use Rattle.cell_core.specs.Entry.{IsCode};
 ghost use Rattle.std.specs.Ordering.{nat_cmp};
 ghost use Rattle.std.specs.Prelude.{Err, IsSome, List, None, OnOk, Some, [], false, length, nat_eq, slice_index_or, suc, true, ℕ, ◌+◌, ◌<◌, ◌∷◌, ◌≡◌, ◌≤◌};
 ghost use Rattle.std.specs.List.{AllByRecursion};
@@ -20,6 +21,7 @@ use crate::upper::front_of;
 use base_table::{RowNo, Table};
 use build_acts::{add_child, set_link};
 use cell_core::{Cell, Code, Steps};
+use cube_defs::MAX_DIMS;
 use drill_links::descend;
 use qc_arena::{ArenaRefused, QcArena};
 use std::sync::ledger::Ledger;
@@ -38,10 +40,10 @@ pub(crate) fn add_front<L: Ledger>(
     requires opened { arena.old.is_open ≡ true }
     requires touched { (k : ℕ) → IsSome (map.get arena.old.now k) → is_touched arena.old k ≡ true }
     requires long { length cell.now ≡ arena.old.width }
-    requires few { arena.old.width ≤ 16 }
+    requires few { arena.old.width ≤ MAX_DIMS }
     requires dim { dim < arena.old.width }
     requires value { slice_index_or cell.now dim None ≡ Some code }
-    requires small { code < 4000000 }
+    requires small { IsCode code }
     requires path { IsOnPath arena.old path.old cell.now dim }
     ensures does { OnOk result ((measures : ℕ) (rows : List (Row ℕ)) → Does measures rows (front_acts is_forced cell.now dim code) arena.old arena.new) }
     ensures path { OnOk result (IsOnPath arena.new path.new cell.now (dim + 1)) }
@@ -78,7 +80,7 @@ pub(crate) fn link_part<L: Ledger>(
     requires long { length upper.now ≡ table.now.dims }
     requires dim { dim < table.now.dims }
     requires value { slice_index_or (shared_by (named table.now part.now)) dim None ≡ Some code }
-    requires small { code < 4000000 }
+    requires small { IsCode code }
     requires at { at < dim }
     requires front { same_front at (shared_by (named table.now part.now)) upper.now ≡ true }
     requires gains { same_front (suc at) (shared_by (named table.now part.now)) upper.now ≡ false }

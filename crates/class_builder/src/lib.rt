@@ -9,10 +9,8 @@ mod tree;
 mod upper;
 mod walk;
 
+pub use cube_defs::Memory;
 pub use tree::build_classes;
-
-/// Memory ran out.
-pub type Memory = std::alloc::AllocError;
 
 #[cfg(test)]
 mod tests;

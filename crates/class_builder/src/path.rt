@@ -3,6 +3,7 @@ ghost use Rattle.std.specs.Prelude.{ℕ, ◌≡◌, ◌≢◌, ◌≤◌};
 ghost use Rattle.class_builder.specs.Walk.{node_on};
 
 use cell_core::NodeNo;
+use cube_defs::MAX_DIMS;
 
 /// The nodes of a cell's fronts, by how many dimensions a front has.
 #[derive(Clone, Copy)]
@@ -20,14 +21,14 @@ impl Path {
 
     /// The node of the front with so many dimensions.
     pub(crate) fn at(&self, dims: u8) -> NodeNo
-        requires { dims ≤ 16 }
+        requires { dims ≤ MAX_DIMS }
         ensures { result.0 ≡ node_on self.now dims }
     {
         self.nodes[dims as usize]
     }
 
     pub(crate) fn set(&mut self, dims: u8, node: NodeNo)
-        requires { dims ≤ 16 }
+        requires { dims ≤ MAX_DIMS }
         ensures here { node_on self.new dims ≡ node.0 }
         ensures others { (j : ℕ) → j ≢ dims → node_on self.new j ≡ node_on self.old j }
     {

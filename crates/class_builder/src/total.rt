@@ -6,12 +6,13 @@ ghost use Rattle.aggregates.specs.Views.{agg_in};
 
 use aggregates::Agg;
 use base_table::{RowNo, Table};
+use cube_defs::MAX_ROWS;
 
 /// What the rows come to.
 pub(crate) fn total(table: &Table, rows: &[RowNo]) -> Agg
     requires table { IsTable table.now }
     requires some { 0 < length rows.now }
-    requires few { length rows.now ≤ 1000000 }
+    requires few { length rows.now ≤ MAX_ROWS }
     requires there { AreThere table.now rows.now }
     ensures { agg_in result ≡ agg_of table.now.measures (named table.now rows.now) }
 {

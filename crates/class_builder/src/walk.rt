@@ -1,5 +1,6 @@
 // The walk over the classes, depth first (Lakshmanan, Pei, Han, VLDB 2002).
 ghost use Rattle.std.specs.Ordering.{nat_cmp};
+ghost use Rattle.cell_core.specs.Entry.{IsCode};
 ghost use Rattle.std.specs.Prelude.{Err, None, OnOk, Some, length, nat_eq, slice_index_or, true, ◌+◌, ◌<◌, ◌≡◌, ◌≤◌};
 ghost use Rattle.std.specs.List.{AllByRecursion};
 ghost use Rattle.cube_defs.specs.Rows.{covers};
@@ -18,6 +19,7 @@ use crate::upper::{first_gain, narrowed};
 use base_table::{RowNo, Table};
 use build_acts::mark_class;
 use cell_core::{Cell, Code, Entry, Steps};
+use cube_defs::MAX_ROWS;
 use qc_arena::{ArenaRefused, QcArena};
 use std::sync::ledger::Ledger;
 
@@ -35,7 +37,7 @@ pub(crate) fn drill<L: Ledger>(
     steps: &mut Steps<L>,
 ) -> Result<(), ArenaRefused>
     requires some { 0 < length rows.now }
-    requires few { length rows.now ≤ 1000000 }
+    requires few { length rows.now ≤ MAX_ROWS }
     requires there { AreThere table.now rows.now }
     requires upper { upper ≡ shared_by (named table.now rows.now) }
     requires first { first ≤ table.now.dims }
@@ -72,7 +74,7 @@ fn drill_at<L: Ledger>(
 ) -> Result<(), ArenaRefused>
     requires table { IsTable table.now }
     requires some { 0 < length rows.now }
-    requires few { length rows.now ≤ 1000000 }
+    requires few { length rows.now ≤ MAX_ROWS }
     requires there { AreThere table.now rows.now }
     requires upper { upper.now ≡ shared_by (named table.now rows.now) }
     requires dim { dim < table.now.dims }
@@ -110,7 +112,7 @@ fn drill_in<L: Ledger>(
 ) -> Result<(), ArenaRefused>
     requires table { IsTable table.now }
     requires some { 0 < length rows.now }
-    requires few { length rows.now ≤ 1000000 }
+    requires few { length rows.now ≤ MAX_ROWS }
     requires there { AreThere table.now rows.now }
     requires upper { upper.now ≡ shared_by (named table.now rows.now) }
     requires dim { dim < table.now.dims }
@@ -162,13 +164,13 @@ fn drill_part<L: Ledger>(
 ) -> Result<(), ArenaRefused>
     requires table { IsTable table.now }
     requires some { 0 < length part.now }
-    requires few { length part.now ≤ 1000000 }
+    requires few { length part.now ≤ MAX_ROWS }
     requires there { AreThere table.now part.now }
     requires covered { AllByRecursion (λ row. covers nat_eq upper.now row ≡ true) (named table.now part.now) }
     requires long { length upper.now ≡ table.now.dims }
     requires dim { dim < table.now.dims }
     requires value { slice_index_or (shared_by (named table.now part.now)) dim None ≡ Some code }
-    requires small { code < 4000000 }
+    requires small { IsCode code }
     requires width { arena.old.width ≡ table.now.dims }
     requires next { IsNext table.now.measures (rows_of table.now) (part_acts (acts_from table.now (dim + 1)) dim upper.now code (named table.now part.now)) arena.old }
     requires path { IsOnPath arena.old path.now upper.now dim }

@@ -11,6 +11,7 @@ use crate::columns::find_columns;
 use crate::reader::Rows;
 use crate::reading::read_changes;
 use csv::ByteRecord;
+use cube_defs::MAX_FILE;
 use qc_schema::Schema;
 use std::alloc::{AllocError, AllocFailed, Global};
 
@@ -75,7 +76,7 @@ fn read_file(
     bytes: &[u8],
     has_op: bool,
 ) -> Result<RawBatch, LoadRefused>
-    requires { length bytes.now ≤ 268435456 }
+    requires { length bytes.now ≤ MAX_FILE }
     ensures gives { Gives result (file_in has_op schema.now bytes.now) }
     ensures dims { IfOk result (λ batch. batch.dims ≡ length schema.now.dims) }
     ensures measures { IfOk result (λ batch. batch.measures ≡ length schema.now.measures) }
@@ -99,7 +100,7 @@ fn read_file(
 /// and among others. Each record is an insertion; a text is kept as it stands, and the same id may
 /// come twice.
 pub fn read_base(alloc: Global, schema: &Schema, bytes: &[u8]) -> Result<RawBatch, LoadRefused>
-    requires { length bytes.now ≤ 268435456 }
+    requires { length bytes.now ≤ MAX_FILE }
     ensures gives { Gives result (base_in schema.now bytes.now) }
     ensures dims { IfOk result (λ batch. batch.dims ≡ length schema.now.dims) }
     ensures measures { IfOk result (λ batch. batch.measures ≡ length schema.now.measures) }
@@ -112,7 +113,7 @@ pub fn read_base(alloc: Global, schema: &Schema, bytes: &[u8]) -> Result<RawBatc
 /// Reads a batch of corrections: such a file with the column `op`, which has `+` in an insertion
 /// and `-` in a deletion. The same id may come any number of times.
 pub fn read_batch(alloc: Global, schema: &Schema, bytes: &[u8]) -> Result<RawBatch, LoadRefused>
-    requires { length bytes.now ≤ 268435456 }
+    requires { length bytes.now ≤ MAX_FILE }
     ensures gives { Gives result (batch_in schema.now bytes.now) }
     ensures dims { IfOk result (λ batch. batch.dims ≡ length schema.now.dims) }
     ensures measures { IfOk result (λ batch. batch.measures ≡ length schema.now.measures) }

@@ -12,8 +12,6 @@ mod tests;
 mod texts;
 
 pub use batch::RawBatch;
+pub use cube_defs::Memory;
 pub use files::{LoadRefused, read_base, read_batch};
 pub use reader::{Rows, field};
-
-/// Memory ran out.
-pub type Memory = std::alloc::AllocError;

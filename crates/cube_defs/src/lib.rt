@@ -1,3 +1,11 @@
 //! The definitions of the cube: cells, rows, closures, classes, nodes, the canonical tree, and the
-//! answers to queries. It has no functions; contracts of the other crates cite its `specs/`.
+//! answers to queries, with what a cube may have at most. It has no functions; contracts of the other
+//! crates cite its `specs/`.
 #![tactic(auto)]
+
+mod limits;
+
+pub use limits::{MAX_CODES, MAX_DIMS, MAX_FILE, MAX_MEASURES, MAX_NODES, MAX_ROWS};
+
+/// Memory ran out.
+pub type Memory = std::alloc::AllocError;

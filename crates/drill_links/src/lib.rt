@@ -4,11 +4,9 @@
 mod linking;
 mod way;
 
+pub use cube_defs::Memory;
 pub use linking::link_all;
 pub use way::descend;
-
-/// Memory ran out.
-pub type Memory = std::alloc::AllocError;
 
 #[cfg(test)]
 mod tests;

@@ -10,6 +10,7 @@ use crate::least::least;
 use crate::marks::Marks;
 use crate::numbers::put_cell;
 use cell_core::{Cell, NodeNo, Steps};
+use cube_defs::MAX_DIMS;
 use qc_arena::Nodes;
 use std::sync::ledger::Ledger;
 use tree_search::find;
@@ -74,7 +75,7 @@ pub(crate) fn bounds_at<T: Nodes, L: Ledger>(
     requires upper { cell_at (T.tree tree.now) node.0 ≡ Some u.now }
     requires dims { length cell.old ≡ length u.now }
     requires values { d ≡ values u.now }
-    requires few { d ≤ 16 }
+    requires few { d ≤ MAX_DIMS }
     requires number { m < 2 ^ d }
     requires room { 2 ^ d ≤ length marks.old }
     requires below { (source : Source) → IsFrom (T.width tree.now) (T.tree tree.now) source →

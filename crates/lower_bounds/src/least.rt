@@ -4,10 +4,11 @@ ghost use Rattle.lower_bounds.specs.Marks.{is_least};
 
 use crate::marks::Marks;
 use crate::numbers::{has, turn};
+use cube_defs::MAX_DIMS;
 
 // Of numbers with d bits: whether none with one bit less is marked.
 pub(crate) fn least(marks: &Marks, d: u32, m: u32) -> bool
-    requires few { d ≤ 16 }
+    requires few { d ≤ MAX_DIMS }
     requires number { m < 2 ^ d }
     requires room { 2 ^ d ≤ length marks.now }
     ensures { result ≡ is_least marks.now d m }

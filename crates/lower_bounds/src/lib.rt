@@ -9,10 +9,7 @@ mod marks;
 mod numbers;
 
 pub use bounds::lower_bounds;
-use std::alloc::AllocError;
-
-/// Memory ran out.
-type Memory = AllocError;
+use cube_defs::Memory;
 
 #[cfg(test)]
 mod tests;

@@ -4,6 +4,7 @@ ghost use Rattle.cell_core.specs.Entry.{IsSmall, value_in};
 ghost use Rattle.lower_bounds.specs.Numbers.{cell_of_number, has_bit, turned, values};
 
 use cell_core::{Cell, Entry};
+use cube_defs::MAX_DIMS;
 
 // Whether a number has a bit.
 pub(crate) fn has(m: u32, k: u32) -> bool
@@ -24,7 +25,7 @@ pub(crate) fn turn(m: u32, k: u32) -> u32
 // How many values a cell has.
 pub(crate) fn count_values(u: &Cell) -> u32
     ensures value { result ≡ values u.now }
-    ensures few { result ≤ 16 }
+    ensures few { result ≤ MAX_DIMS }
 {
     let mut count = 0;
     'dims: for dim in (0..u.dims()).rev() {

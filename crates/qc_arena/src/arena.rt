@@ -1,27 +1,32 @@
 // Nodes under numbers; a batch can be taken back, numbers included.
 ghost use Rattle.std.specs.Prelude.{Err, IfOk, IfSome, IsSome, None, Ok, OnErr, OnOk, Some, false, nat_eq, true, ℕ, ◌+◌, ◌<◌, ◌||◌, ◌↔◌, ◌≡◌, ◌≢◌, ◌≤◌};
+ghost use Rattle.cell_core.specs.Entry.{IsCode};
 ghost use Rattle.std.specs.FinMap as map;
 ghost use Rattle.std.specs.Option.{option_map};
 ghost use Rattle.std.specs.Ordering.{nat_cmp};
 ghost use Rattle.aggregates.specs.Views.{agg_in};
 ghost use Rattle.tree_laws.specs.Counts.{classes_in, links_in, tree_edges_in};
-ghost use Rattle.qc_arena.specs.Edges.{with_edge};
-ghost use Rattle.qc_arena.specs.Map.{IsPlace, is_touched, new_record, no_nodes, was_at, with_class, with_forced};
+ghost use Rattle.qc_arena.specs.Changes.{AreNew, class_now, class_was};
+ghost use Rattle.qc_arena.specs.Edges.{with_edge, without_edge};
+ghost use Rattle.qc_arena.specs.Map.{AreRooted, IsPlace, edges_in, is_touched, new_record, no_nodes, was_at, with_class, with_forced};
 ghost use Rattle.qc_arena.specs.Seen.{edge_of, record_at};
 
 use crate::Memory;
+use crate::changes::changed;
+use crate::counted::tree_edges_of;
 use crate::edges::EdgeTo;
-use crate::image::Image;
 use crate::kept::{Counts, Kept};
 use crate::nodes::{Forced, Nodes};
+use crate::parts::Parts;
 use crate::records::Rec;
 use crate::slots::{
-    add_record, is_child, kind_at, let_go, put_back, put_was, record_of, set_class_at, set_edge_at,
-    set_forced_at,
+    add_record, class_at, copy_at, drop_edge_at, kill_at, let_go, put_back, record_of,
+    set_class_at, set_edge_at, set_forced_at,
 };
+use crate::touched::Images;
 use aggregates::Agg;
 use cell_core::{Code, NodeNo, Steps};
-use indexmap::IndexMap;
+use cube_defs::{MAX_DIMS, MAX_NODES};
 use slab::Slab;
 use std::alloc::{AllocError, Global};
 use std::marker::Model;
@@ -41,7 +46,8 @@ pub enum ArenaRefused {
 #[derive(Drop)]
 pub struct QcArena {
     nodes: Slab<Option<Rec>>,
-    images: IndexMap<u32, Image>,
+    parts: Parts,
+    images: Images,
     is_open: bool,
     dims: u8,
     max: u32,
@@ -52,38 +58,37 @@ pub struct QcArena {
 impl Model for QcArena {
     ghost use Rattle.std.specs.FinMap as map;
     ghost use Rattle.qc_arena.specs.Inside.{IsArena, now_of};
+    ghost use Rattle.qc_arena.specs.Parts.{IsStored};
     ghost use Rattle.qc_arena.specs.Map.{Arena, arena_code};
 
     ghost Value = { Arena };
 
     ghost coded = { arena_code };
 
-    ghost view = { λ a. record { width = a.dims; max = a.max; now = now_of a.nodes; images = map.from_entries a.images.entries; is_open = a.is_open } };
+    ghost view = { λ a. record { width = a.dims; max = a.max; now = now_of a.nodes; images = map.from_entries a.images; is_open = a.is_open } };
 
-    ghost invariant = { λ a. IsArena a.dims a.max a.nodes a.images a.is_open a.kept a.was };
+    ghost invariant = { λ a. IsArena a.dims a.max a.nodes a.images a.is_open a.kept a.was × IsStored a.nodes a.parts };
 }
 
 impl QcArena {
     /// No nodes, of which there may be so many, and no batch is open.
     pub fn new(alloc: Global, dims: u8, max: u32) -> Result<QcArena, Memory>
         requires some_dims { 0 < dims }
-        requires few_dims { dims ≤ 16 }
+        requires few_dims { dims ≤ MAX_DIMS }
         requires some { 0 < max }
-        requires few { max ≤ 4000000 }
+        requires few { max ≤ MAX_NODES }
         ensures { IfOk result (λ a. a ≡ no_nodes dims max) }
     {
         let none = Kept {
             root: None,
-            counts: Counts {
-                nodes: 0,
-                classes: 0,
-                tree_edges: 0,
-                links: 0,
-            },
+            nodes: 0,
+            classes: 0,
+            edges: 0,
         };
         Ok(QcArena {
             nodes: Slab::new(alloc),
-            images: IndexMap::new(alloc),
+            parts: Parts::new(alloc),
+            images: Images::new(alloc),
             is_open: false,
             dims,
             max,
@@ -111,7 +116,7 @@ impl QcArena {
         ensures { result ≡ new_record self.now.width self.now.now under }
     {
         match under {
-            None => Rec::root(*self.images.allocator(), self.dims),
+            None => Rec::root(self.images.allocator(), self.dims),
             Some((node, dim, code)) => record_of(&self.nodes, node.0).child(node, dim, code),
         }
     }
@@ -139,11 +144,11 @@ impl QcArena {
         ensures steps { steps.new ≡ steps.old + 1 }
     {
         steps.tick();
-        if self.kept.counts.nodes >= self.max {
+        if self.kept.nodes >= self.max {
             return Err(ArenaRefused::Full);
         }
         let new = self.new_rec(under);
-        match add_record(&mut self.nodes, &mut self.images, new) {
+        match add_record(&mut self.nodes, &mut self.parts, &mut self.images, new) {
             Ok(node) => {
                 self.kept = self.kept.with_node(under, node);
                 Ok(NodeNo(node))
@@ -166,11 +171,11 @@ impl QcArena {
         ensures steps { steps.new ≡ steps.old + 1 }
     {
         steps.tick();
-        if self.images.contains_key(&node.0) {
+        if self.images.has(node.0) {
             return Ok(());
         }
-        let image = record_of(&self.nodes, node.0).copy()?;
-        put_was(&mut self.images, node.0, image)
+        let image = copy_at(&self.nodes, &self.parts, node.0)?;
+        self.images.add_was(node.0, image)
     }
 
     /// Adds an edge with this label, or gives the one that is there another target.
@@ -187,7 +192,7 @@ impl QcArena {
         requires touched { is_touched self.old node.0 ≡ true }
         requires target { IsSome (map.get self.old.now target.0) }
         requires dim { dim < self.old.width }
-        requires code { code < 4000000 }
+        requires code { IsCode code }
         ensures here { OnOk result (map.get self.new.now node.0 ≡ option_map (with_edge (record { dim = dim; value = code; target = target.0 })) (map.get self.old.now node.0)) }
         ensures others { (q : ℕ) → q ≢ node.0 → map.get self.new.now q ≡ map.get self.old.now q }
         ensures touched { (q : ℕ) → is_touched self.new q ≡ is_touched self.old q }
@@ -204,18 +209,60 @@ impl QcArena {
             code,
             target: target.0,
         };
-        let had = kind_at(&self.nodes, node.0, dim, code);
-        let is_tree = is_child(&self.nodes, node.0, target.0);
         if !self.kept.has_room() {
             return Err(AllocError);
         }
         match set_edge_at(&mut self.nodes, node.0, edge) {
-            Ok(()) => {
-                self.kept = self.kept.with_edge(had, is_tree);
+            Ok((had, has)) => {
+                self.kept = self.kept.with_edges(had, has);
                 Ok(())
             }
             Err(error) => Err(error),
         }
+    }
+
+    /// Takes the edge with this label away, if there is one.
+    pub fn drop_edge<L: Ledger>(&mut self, node: NodeNo, dim: u8, code: Code, steps: &mut Steps<L>)
+        requires opened { self.old.is_open ≡ true }
+        requires node { IsSome (map.get self.old.now node.0) }
+        requires touched { is_touched self.old node.0 ≡ true }
+        ensures here { map.get self.new.now node.0 ≡ option_map (without_edge dim code) (map.get self.old.now node.0) }
+        ensures others { (q : ℕ) → q ≢ node.0 → map.get self.new.now q ≡ map.get self.old.now q }
+        ensures touched { (q : ℕ) → is_touched self.new q ≡ is_touched self.old q }
+        ensures was { (q : ℕ) → was_at self.new q ≡ was_at self.old q }
+        ensures opened { self.new.is_open ≡ true }
+        ensures width { self.new.width ≡ self.old.width }
+        ensures max { self.new.max ≡ self.old.max }
+        ensures steps { steps.new ≡ steps.old + 1 }
+    {
+        steps.tick();
+        let had = record_of(&self.nodes, node.0).edge_count();
+        drop_edge_at(&mut self.nodes, node.0, dim, code);
+        let has = record_of(&self.nodes, node.0).edge_count();
+        self.kept = self.kept.with_edges(had, has);
+    }
+
+    /// Takes a node out of the map. Edges may lead to it still: from now on they lead nowhere. Its
+    /// number is given to no other node before `commit`.
+    pub fn kill<L: Ledger>(&mut self, node: NodeNo, steps: &mut Steps<L>)
+        requires opened { self.old.is_open ≡ true }
+        requires node { IsSome (map.get self.old.now node.0) }
+        requires touched { is_touched self.old node.0 ≡ true }
+        ensures here { map.get self.new.now node.0 ≡ None }
+        ensures others { (q : ℕ) → q ≢ node.0 → map.get self.new.now q ≡ map.get self.old.now q }
+        ensures touched { (q : ℕ) → is_touched self.new q ≡ is_touched self.old q }
+        ensures was { (q : ℕ) → was_at self.new q ≡ was_at self.old q }
+        ensures opened { self.new.is_open ≡ true }
+        ensures width { self.new.width ≡ self.old.width }
+        ensures max { self.new.max ≡ self.old.max }
+        ensures steps { steps.new ≡ steps.old + 1 }
+    {
+        steps.tick();
+        let record = record_of(&self.nodes, node.0);
+        let had = record.edge_count();
+        let is_class = record.is_class();
+        kill_at(&mut self.nodes, node.0);
+        self.kept = self.kept.without_node(node.0, is_class, had);
     }
 
     /// Sets the forced child, or takes it away.
@@ -228,7 +275,7 @@ impl QcArena {
         requires opened { self.old.is_open ≡ true }
         requires node { IsSome (map.get self.old.now node.0) }
         requires touched { is_touched self.old node.0 ≡ true }
-        requires code { IfSome forced (λ f. f.code < 4000000) }
+        requires code { IfSome forced (λ f. IsCode f.code) }
         ensures here { map.get self.new.now node.0 ≡ option_map (with_forced (option_map edge_of forced)) (map.get self.old.now node.0) }
         ensures others { (q : ℕ) → q ≢ node.0 → map.get self.new.now q ≡ map.get self.old.now q }
         ensures touched { (q : ℕ) → is_touched self.new q ≡ is_touched self.old q }
@@ -257,7 +304,8 @@ impl QcArena {
         ensures steps { steps.new ≡ steps.old + 1 }
     {
         steps.tick();
-        let had = record_of(&self.nodes, node.0).class().is_some();
+        let had = record_of(&self.nodes, node.0).is_class();
+        self.parts.put_class(node.0, &class);
         set_class_at(&mut self.nodes, node.0, class);
         self.kept = self.kept.with_class(had, class.is_some());
     }
@@ -283,7 +331,7 @@ impl QcArena {
         ensures width { self.new.width ≡ self.old.width }
         ensures max { self.new.max ≡ self.old.max }
     {
-        put_back(&mut self.nodes, &mut self.images);
+        put_back(&mut self.nodes, &mut self.parts, &mut self.images);
         self.is_open = false;
         self.kept = self.was;
     }
@@ -293,17 +341,57 @@ impl QcArena {
         ensures value { result ≡ map.len self.now.now }
         ensures few { result ≤ self.now.max }
     {
-        self.kept.counts.nodes
+        self.kept.nodes
     }
 
-    /// How many nodes, classes, tree edges and links there are.
+    /// The pairs of a node and what its rows come to that are there now and were not at `begin`, each
+    /// once.
+    pub fn classes_added(&self, alloc: Global) -> Result<Vec<(NodeNo, Agg)>, Memory>
+        requires { self.now.is_open ≡ true }
+        ensures { IfOk result (λ pairs. AreNew (class_was self.now) (class_now self.now) pairs.items) }
+    {
+        changed(alloc, &self.nodes, &self.parts, &self.images, true)
+    }
+
+    /// The pairs of a node and what its rows come to that were there at `begin` and are not now, each
+    /// once.
+    pub fn classes_removed(&self, alloc: Global) -> Result<Vec<(NodeNo, Agg)>, Memory>
+        requires { self.now.is_open ≡ true }
+        ensures { IfOk result (λ pairs. AreNew (class_now self.now) (class_was self.now) pairs.items) }
+    {
+        changed(alloc, &self.nodes, &self.parts, &self.images, false)
+    }
+
+    /// How many nodes are classes.
+    pub fn class_count(&self) -> u32
+        ensures { result ≡ classes_in nat_cmp self.now.now }
+    {
+        self.kept.classes
+    }
+
+    /// How many edges there are: tree edges and links together.
+    pub fn edge_total(&self) -> u64
+        ensures value { result ≡ edges_in self.now.now }
+        ensures kinds { result ≡ tree_edges_in nat_cmp self.now.now + links_in nat_cmp self.now.now }
+    {
+        self.kept.edges
+    }
+
+    /// How many nodes, classes, tree edges and links there are. It goes through all edges.
     pub fn counts(&self) -> Counts
+        requires { AreRooted self.now.now }
         ensures nodes { result.nodes ≡ map.len self.now.now }
         ensures classes { result.classes ≡ classes_in nat_cmp self.now.now }
         ensures tree_edges { result.tree_edges ≡ tree_edges_in nat_cmp self.now.now }
         ensures links { result.links ≡ links_in nat_cmp self.now.now }
     {
-        self.kept.counts
+        let tree_edges = tree_edges_of(&self.nodes, self.kept.edges);
+        Counts {
+            nodes: self.kept.nodes,
+            classes: self.kept.classes,
+            tree_edges,
+            links: self.kept.edges - tree_edges,
+        }
     }
 }
 
@@ -369,6 +457,6 @@ impl Nodes for QcArena {
 
     fn class<L: Ledger>(&self, node: NodeNo, steps: &mut Steps<L>) -> Option<Agg> {
         steps.tick();
-        self.record(node).class()
+        class_at(&self.nodes, &self.parts, node.0)
     }
 }

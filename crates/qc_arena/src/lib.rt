@@ -2,19 +2,23 @@
 #![tactic(auto)]
 
 mod arena;
+mod changes;
+mod counted;
 mod edges;
 mod image;
 mod kept;
 mod nodes;
+mod parts;
 mod records;
+mod same;
 mod slots;
+mod touched;
+mod trail;
 
 pub use arena::{ArenaRefused, QcArena};
+pub use cube_defs::Memory;
 pub use kept::Counts;
 pub use nodes::{Forced, Nodes};
-
-/// Memory ran out.
-pub type Memory = std::alloc::AllocError;
 
 #[cfg(test)]
 mod tests;

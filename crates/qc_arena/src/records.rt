@@ -1,33 +1,51 @@
 // What is kept of a node.
-ghost use Rattle.std.specs.Prelude.{IfOk, IfSome, None, OnErr, OnOk, Some, [], length, replicate, slice_get, true, ℕ, ◌<◌, ◌≡◌, ◌≤◌};
+ghost use Rattle.std.specs.Prelude.{IfOk, IfSome, None, OnErr, OnOk, Some, [], is_some, length, replicate, slice_get, true, false, ℕ, ◌<◌, ◌≡◌, ◌≢◌, ◌≤◌};
+ghost use Rattle.cell_core.specs.Entry.{IsCode};
 ghost use Rattle.std.specs.Option.{option_map};
 ghost use Rattle.std.specs.Ordering.{eq_by_cmp, nat_cmp};
 ghost use Rattle.aggregates.specs.Views.{agg_in};
-ghost use Rattle.cube_defs.specs.Cell.{with_value};
-ghost use Rattle.tree_laws.specs.Counts.{is_under};
+ghost use Rattle.cube_defs.specs.Cell.{depth, with_value};
 ghost use Rattle.tree_laws.specs.Walk.{last_label, target_at};
-ghost use Rattle.qc_arena.specs.Edges.{edge_to, rises, with_edge};
+ghost use Rattle.qc_arena.specs.Edges.{edge_to, rises, with_edge, without_edge};
 ghost use Rattle.qc_arena.specs.Map.{bare, with_class, with_forced};
 ghost use Rattle.qc_arena.specs.Seen.{edge_of, label_lt, number};
 
 use crate::Memory;
-use crate::edges::{EdgeTo, put, target_in};
+use crate::edges::{EdgeTo, put, take, target_in};
 use crate::nodes::Forced;
+use crate::trail::Trail;
 use aggregates::Agg;
-use cell_core::{Cell, Code, Entry, NodeNo, last, leq};
+use cell_core::{Code, NodeNo};
+use cube_defs::MAX_DIMS;
 use smallvec::SmallVec;
 use std::alloc::Global;
 use std::marker::Model;
 
-/// What is known of a node. Up to four edges lie in the record itself.
+/// Stands for the dimension of the last value at the root, which has none.
+const ROOT: u8 = 255;
+
+/// Stands for the code of a forced child where there is none.
+const NO_CODE: u32 = u32::MAX;
+
+/// What is known of a node. Its cell isn't kept, but follows from the labels on the way down to it:
+/// the record has the last label and the parent. Of a class it has the heading, and no row count
+/// where there is none. Up to two edges lie in the record itself.
 #[derive(Drop)]
 pub(crate) struct Rec {
-    cell: Cell,
-    parent: Option<NodeNo>,
-    forced: Option<Forced>,
-    class: Option<Agg>,
-    edges: SmallVec<EdgeTo, 4>,
+    trail: Trail<u8, u32>,
+    noted: Trail<u32, Agg>,
+    edges: SmallVec<EdgeTo, 2>,
+    parent: u32,
+    code: Code,
+    forced_code: u32,
+    forced_child: u32,
+    count: u32,
+    dim: u8,
+    forced_dim: u8,
+    measures: u8,
 }
+
+const _: () = prove!(size_of::<Rec>() == 64);
 
 impl Model for Rec {
     ghost use Rattle.std.specs.Prelude.{ℕ};
@@ -41,43 +59,54 @@ impl Model for Rec {
     ghost coded = { node_code };
 
     ghost use Rattle.qc_arena.specs.Edges.{edges_to};
-    ghost use Rattle.qc_arena.specs.Rec.{IsRec};
-    ghost use Rattle.qc_arena.specs.Seen.{edge_of, number};
+    ghost use Rattle.qc_arena.specs.Rec.{IsRec, cell_on, class_on, forced_in, parent_in};
 
-    ghost view = { λ r. record { cell = r.cell; parent = option_map number r.parent; class = option_map agg_in r.class; forced = option_map edge_of r.forced; edges = edges_to r.edges.items } };
+    ghost view = { λ r. record { cell = cell_on r.trail.items; parent = parent_in r.dim r.parent; class = class_on r.noted.items; forced = forced_in r.forced_dim r.forced_code r.forced_child; edges = edges_to r.edges.items } };
 
-    ghost invariant = { λ r. IsRec r.cell r.forced r.edges.items };
+    ghost invariant = { λ r. IsRec r.trail.items r.noted.items r.dim r.code r.forced_code r.count r.measures r.edges.items };
 }
 
 impl Rec {
     // The record of the root, whose cell has no value.
     pub(crate) fn root(alloc: Global, dims: u8) -> Rec
-        requires { dims ≤ 16 }
+        requires { dims ≤ MAX_DIMS }
         ensures { result ≡ bare (replicate dims None) None }
     {
+        let nothing = Trail::<u8, u32>::new();
         Rec {
-            cell: Cell::any(alloc, dims),
-            parent: None,
-            forced: None,
-            class: None,
+            trail: nothing.and(&dims, &0),
+            noted: Trail::<u32, Agg>::new(),
             edges: SmallVec::new(alloc),
+            parent: 0,
+            code: 0,
+            forced_code: NO_CODE,
+            forced_child: 0,
+            count: 0,
+            dim: ROOT,
+            forced_dim: 0,
+            measures: 0,
         }
     }
 
     // The record of the node with one value more, which has this node for its parent.
     pub(crate) fn child(&self, node: NodeNo, dim: u8, code: Code) -> Rec
+        requires behind { depth self.now.cell ≤ dim }
         requires dim { dim < length self.now.cell }
-        requires code { code < 4000000 }
+        requires code { IsCode code }
         ensures { result ≡ bare (with_value self.now.cell dim code) (Some node.0) }
     {
-        let mut cell = self.cell.copy();
-        cell.set(dim, Entry::Is(code));
         Rec {
-            cell,
-            parent: Some(node),
-            forced: None,
-            class: None,
+            trail: self.trail.and(&dim, &code),
+            noted: Trail::<u32, Agg>::new(),
             edges: SmallVec::new(*self.edges.allocator()),
+            parent: node.0,
+            code,
+            forced_code: NO_CODE,
+            forced_child: 0,
+            count: 0,
+            dim,
+            forced_dim: 0,
+            measures: 0,
         }
     }
 
@@ -90,81 +119,138 @@ impl Rec {
     {
         let edges = SmallVec::from_slice(*self.edges.allocator(), self.edges.as_slice())?;
         Ok(Rec {
-            cell: self.cell.copy(),
-            parent: self.parent,
-            forced: self.forced,
-            class: self.class,
+            trail: self.trail.copy(),
+            noted: self.noted.copy(),
             edges,
+            parent: self.parent,
+            code: self.code,
+            forced_code: self.forced_code,
+            forced_child: self.forced_child,
+            count: self.count,
+            dim: self.dim,
+            forced_dim: self.forced_dim,
+            measures: self.measures,
         })
     }
 
-    // Adds an edge in its place, or gives the edge with its label another target.
-    pub(crate) fn set_edge(&mut self, edge: EdgeTo) -> Result<(), Memory>
-        requires { edge.code < 4000000 }
+    // Adds an edge in its place, or gives the edge with its label another target. It tells how many
+    // edges there were, and how many there are.
+    pub(crate) fn set_edge(&mut self, edge: EdgeTo) -> Result<(u32, u32), Memory>
+        requires { IsCode edge.code }
         ensures ok { OnOk result (self.new ≡ with_edge (edge_to edge) self.old) }
+        ensures had { IfOk result (λ n. n.0 ≡ length self.old.edges) }
+        ensures has { IfOk result (λ n. n.1 ≡ length self.new.edges) }
         ensures err { OnErr result (self.new ≡ self.old) }
     {
-        put(&mut self.edges, edge)
+        let had = self.edges.len() as u32;
+        match put(&mut self.edges, edge) {
+            Ok(()) => Ok((had, self.edges.len() as u32)),
+            Err(error) => Err(error),
+        }
+    }
+
+    // Takes the edge with a label away, if there is one.
+    pub(crate) fn drop_edge(&mut self, dim: u8, code: Code)
+        ensures { self.new ≡ without_edge dim code self.old }
+    {
+        take(&mut self.edges, dim, code);
     }
 
     pub(crate) fn set_forced(&mut self, forced: Option<Forced>)
-        requires { IfSome forced (λ f. f.code < 4000000) }
+        requires { IfSome forced (λ f. IsCode f.code) }
         ensures { self.new ≡ with_forced (option_map edge_of forced) self.old }
     {
-        self.forced = forced;
+        match forced {
+            Some(edge) => {
+                self.forced_dim = edge.dim;
+                self.forced_code = edge.code;
+                self.forced_child = edge.child.0;
+            }
+            None => self.forced_code = NO_CODE,
+        }
     }
 
+    // Sets the class. Its parts are kept elsewhere.
     pub(crate) fn set_class(&mut self, class: Option<Agg>)
+        requires { IfSome class (λ a. length a.parts ≡ 4) }
         ensures { self.new ≡ with_class (option_map agg_in class) self.old }
     {
-        self.class = class;
+        let none = Trail::<u32, Agg>::new();
+        match class {
+            Some(agg) => {
+                self.noted = none.and(&0, &agg);
+                self.count = agg.count;
+                self.measures = agg.measures;
+            }
+            None => {
+                self.noted = none;
+                self.count = 0;
+            }
+        }
     }
 
     pub(crate) fn end_of(&self) -> Option<(u8, Code)>
         ensures value { result ≡ last_label self.now.cell }
-        ensures small { IfSome result (λ label. label.1 < 4000000) }
+        ensures small { IfSome result (λ label. IsCode label.1) }
     {
-        match last(&self.cell) {
-            None => None,
-            Some(dim) => match self.cell.get(dim) {
-                Entry::Any => None,
-                Entry::Is(code) => Some((dim, code)),
-            },
+        if self.dim == ROOT {
+            return None;
         }
+        Some((self.dim, self.code))
     }
 
-    // Whether the cell without its last value is that of another node.
-    pub(crate) fn is_under(&self, parent: &Rec) -> bool
-        requires { length self.now.cell ≡ length parent.now.cell }
-        ensures { result ≡ is_under nat_cmp parent.now.cell (Some self.now.cell) }
+    // Whether another node has the same last value, or none either.
+    pub(crate) fn shares_end(&self, other: &Rec) -> bool
+        ensures same { result ≡ true → last_label self.now.cell ≡ last_label other.now.cell }
+        ensures apart { result ≡ false → last_label self.now.cell ≢ last_label other.now.cell }
     {
-        match last(&self.cell) {
-            None => false,
-            Some(dim) => {
-                let mut cut = self.cell.copy();
-                cut.set(dim, Entry::Any);
-                leq(&cut, &parent.cell) && leq(&parent.cell, &cut)
-            }
+        match self.end_of() {
+            None => other.end_of().is_none(),
+            Some(end) => match other.end_of() {
+                None => false,
+                Some(other_end) => end.0 == other_end.0 && end.1 == other_end.1,
+            },
         }
     }
 
     pub(crate) fn parent(&self) -> Option<NodeNo>
         ensures { option_map number result ≡ self.now.parent }
     {
-        self.parent
+        if self.dim == ROOT {
+            return None;
+        }
+        Some(NodeNo(self.parent))
     }
 
     pub(crate) fn forced(&self) -> Option<Forced>
         ensures value { option_map edge_of result ≡ self.now.forced }
-        ensures small { IfSome result (λ edge. edge.code < 4000000) }
+        ensures small { IfSome result (λ edge. IsCode edge.code) }
     {
-        self.forced
+        if self.forced_code == NO_CODE {
+            return None;
+        }
+        Some(Forced {
+            dim: self.forced_dim,
+            code: self.forced_code,
+            child: NodeNo(self.forced_child),
+        })
     }
 
-    pub(crate) fn class(&self) -> Option<Agg>
-        ensures { option_map agg_in result ≡ self.now.class }
+    pub(crate) fn is_class(&self) -> bool
+        ensures { result ≡ is_some self.now.class }
     {
-        self.class
+        self.count != 0
+    }
+
+    // Of how many rows and measures the class is. None where the node is no class.
+    pub(crate) fn heading(&self) -> Option<(u32, u8)>
+        ensures count { option_map (λ h. h.0) result ≡ option_map (λ a. a.count) self.now.class }
+        ensures measures { option_map (λ h. h.1) result ≡ option_map (λ a. length a.parts) self.now.class }
+    {
+        if self.count == 0 {
+            return None;
+        }
+        Some((self.count, self.measures))
     }
 
     pub(crate) fn edge(&self, dim: u8, code: Code) -> Option<NodeNo>
@@ -184,7 +270,7 @@ impl Rec {
     pub(crate) fn edge_at(&self, k: u32) -> (u8, Code, NodeNo)
         requires { k < length self.now.edges }
         ensures value { slice_get self.now.edges k ≡ Some (record { dim = result.0; value = result.1; target = result.2.0 }) }
-        ensures small { result.1 < 4000000 }
+        ensures small { IsCode result.1 }
     {
         let edges = self.edges.as_slice();
         let edge = edges[k as usize];

@@ -1,50 +1,54 @@
 // The work on the places of nodes, and on what was in them at `begin`.
 ghost use Rattle.std.specs.Prelude.{IfNone, IfOk, IfSome, IsSome, None, OnErr, OnOk, OnSome, Some, [], if◌then◌else◌, length, nat_eq, true, ℕ, ◌<◌, ◌≡◌, ◌≢◌};
+ghost use Rattle.cell_core.specs.Entry.{IsCode};
 ghost use Rattle.std.specs.Option.{option_map};
-ghost use Rattle.std.specs.Ordering.{eq_by_cmp, nat_cmp};
+ghost use Rattle.std.specs.Ordering.{nat_cmp};
 ghost use Rattle.aggregates.specs.Views.{agg_in};
-ghost use Rattle.indexmap.specs.IndexMap as index;
 ghost use Rattle.slab.specs.Slab as slots;
+ghost use Rattle.cube_defs.specs.Cell.{cell_eq};
 ghost use Rattle.tree_laws.specs.Counts.{is_under};
-ghost use Rattle.tree_laws.specs.Walk.{target_at};
-ghost use Rattle.qc_arena.specs.Edges.{edge_to, rises, with_edge};
-ghost use Rattle.qc_arena.specs.Inside.{image_or, join};
+ghost use Rattle.qc_arena.specs.Edges.{edge_to, with_edge, without_edge};
+ghost use Rattle.qc_arena.specs.Inside.{IsRooted, image_at, image_or, join};
 ghost use Rattle.qc_arena.specs.Map.{with_class, with_forced};
+ghost use Rattle.qc_arena.specs.Parts.{HasRoom, IsShown, IsStored, shown};
 ghost use Rattle.qc_arena.specs.Seen.{edge_of, record_or};
 
 use crate::Memory;
 use crate::edges::EdgeTo;
-use crate::image::Image;
+use crate::image::{Image, Was};
 use crate::nodes::Forced;
+use crate::parts::Parts;
 use crate::records::Rec;
+use crate::touched::Images;
 use aggregates::Agg;
 use cell_core::Code;
-use indexmap::IndexMap;
 use slab::Slab;
 use std::alloc::AllocError;
 
-// Takes the last image out.
-fn pop_image(images: &mut IndexMap<u32, Image>) -> Option<(u32, Image)>
-    ensures none { IfNone result ((images.old.entries ≡ []) × (images.new.entries ≡ [])) }
-    ensures took { IfSome result (λ p. index.get nat_eq images.old p.0 ≡ Some p.1) }
-    ensures rest { IfSome result (λ p. (q : ℕ) → index.get nat_eq images.new q ≡ (if nat_eq p.0 q then None else index.get nat_eq images.old q)) }
-    ensures fewer { OnSome result (index.index_map_len images.new < index.index_map_len images.old) }
+// Writes a record into a place.
+fn write_slot(nodes: &mut Slab<Option<Rec>>, node: u32, rec: Rec)
+    requires { slots.ContainsKey nodes.old node }
+    ensures here { slots.get nodes.new node ≡ Some (Some rec) }
+    ensures others { (q : ℕ) → q ≢ node → slots.get nodes.new q ≡ slots.get nodes.old q }
 {
-    match images.pop() {
-        None => None,
-        Some((node, image)) => Some((node, image)),
-    }
+    nodes[node as usize] = Some(rec);
 }
 
 // Gives a node its image: the record that it had, or nothing.
-fn put_image(nodes: &mut Slab<Option<Rec>>, node: u32, image: Image)
-    requires { slots.ContainsKey nodes.old node }
+fn put_image(nodes: &mut Slab<Option<Rec>>, parts: &mut Parts, node: u32, image: Image)
+    requires placed { slots.ContainsKey nodes.old node }
+    requires stored { IsStored nodes.old parts.old }
     ensures now { join (slots.get nodes.new node) ≡ image }
     ensures here { slots.get nodes.new node ≢ Some None }
     ensures others { (q : ℕ) → q ≢ node → slots.get nodes.new q ≡ slots.get nodes.old q }
+    ensures stored { IsStored nodes.new parts.new }
 {
     match image.into_record() {
-        Some(record) => nodes[node as usize] = Some(record),
+        Some(was) => {
+            let (record, shows) = was.split();
+            parts.put(node, &shows);
+            write_slot(nodes, node, record);
+        }
         None => {
             nodes.remove(node as usize);
         }
@@ -64,27 +68,29 @@ fn clear_killed(nodes: &mut Slab<Option<Rec>>, node: u32)
 }
 
 // Puts back what each touched node had, and takes away the nodes that are new.
-pub(crate) fn put_back(nodes: &mut Slab<Option<Rec>>, images: &mut IndexMap<u32, Image>)
-    requires placed { (q : ℕ) → IsSome (index.get nat_eq images.old q) → slots.ContainsKey nodes.old q }
-    requires killed { (q : ℕ) → slots.get nodes.old q ≡ Some None → IsSome (index.get nat_eq images.old q) }
+pub(crate) fn put_back(nodes: &mut Slab<Option<Rec>>, parts: &mut Parts, images: &mut Images)
+    requires stored { IsStored nodes.old parts.old }
+    requires placed { (q : ℕ) → IsSome (image_at images.old q) → slots.ContainsKey nodes.old q }
+    requires killed { (q : ℕ) → slots.get nodes.old q ≡ Some None → IsSome (image_at images.old q) }
     ensures nodes { (q : ℕ) → join (slots.get nodes.new q) ≡ image_or nodes.old images.old q }
+    ensures stored { IsStored nodes.new parts.new }
     ensures none_killed { (q : ℕ) → slots.get nodes.new q ≢ Some None }
-    ensures images { images.new.entries ≡ [] }
+    ensures images { images.new ≡ [] }
 {
-    'images: while let Some((node, image)) = pop_image(images) {
-        put_image(nodes, node, image);
+    'images: while let Some((node, image)) = images.pop() {
+        put_image(nodes, parts, node, image);
     }
 }
 
 // Takes the places of the killed nodes away, and lets the images go.
-pub(crate) fn let_go(nodes: &mut Slab<Option<Rec>>, images: &mut IndexMap<u32, Image>)
-    requires placed { (q : ℕ) → IsSome (index.get nat_eq images.old q) → slots.ContainsKey nodes.old q }
-    requires killed { (q : ℕ) → slots.get nodes.old q ≡ Some None → IsSome (index.get nat_eq images.old q) }
+pub(crate) fn let_go(nodes: &mut Slab<Option<Rec>>, images: &mut Images)
+    requires placed { (q : ℕ) → IsSome (image_at images.old q) → slots.ContainsKey nodes.old q }
+    requires killed { (q : ℕ) → slots.get nodes.old q ≡ Some None → IsSome (image_at images.old q) }
     ensures nodes { (q : ℕ) → join (slots.get nodes.new q) ≡ join (slots.get nodes.old q) }
     ensures none_killed { (q : ℕ) → slots.get nodes.new q ≢ Some None }
-    ensures images { images.new.entries ≡ [] }
+    ensures images { images.new ≡ [] }
 {
-    'images: while let Some((node, _)) = pop_image(images) {
+    'images: while let Some((node, _)) = images.pop() {
         clear_killed(nodes, node);
     }
 }
@@ -113,43 +119,27 @@ fn fill_slot(nodes: &mut Slab<Option<Rec>>, new: Rec)
     nodes.insert_reserved(Some(new));
 }
 
-// Notes that a node is new.
-fn put_new(images: &mut IndexMap<u32, Image>, node: u32) -> Result<(), Memory>
-    requires { index.get nat_eq images.old node ≡ None }
-    ensures ok { OnOk result ((q : ℕ) → index.get nat_eq images.new q ≡ (if nat_eq node q then Some None else index.get nat_eq images.old q)) }
-    ensures err { OnErr result (images.new.entries ≡ images.old.entries) }
-{
-    images.insert(node, Image::new_node())?;
-    Ok(())
-}
-
-// Keeps what a node was.
-pub(crate) fn put_was(images: &mut IndexMap<u32, Image>, node: u32, was: Rec) -> Result<(), Memory>
-    requires { index.get nat_eq images.old node ≡ None }
-    ensures ok { OnOk result ((q : ℕ) → index.get nat_eq images.new q ≡ (if nat_eq node q then Some (Some was) else index.get nat_eq images.old q)) }
-    ensures err { OnErr result (images.new.entries ≡ images.old.entries) }
-{
-    let image = Image::of(was)?;
-    images.insert(node, image)?;
-    Ok(())
-}
-
 // Puts a new record at a free number, and notes that it is new.
 pub(crate) fn add_record(
     nodes: &mut Slab<Option<Rec>>,
-    images: &mut IndexMap<u32, Image>,
+    parts: &mut Parts,
+    images: &mut Images,
     new: Rec,
 ) -> Result<u32, Memory>
-    requires { (q : ℕ) → IsSome (index.get nat_eq images.old q) → slots.ContainsKey nodes.old q }
+    requires { (q : ℕ) → IsSome (image_at images.old q) → slots.ContainsKey nodes.old q }
+    ensures parts { (q : ℕ) → shown parts.new q ≡ shown parts.old q }
+    ensures room { (q : ℕ) → HasRoom parts.old q → HasRoom parts.new q }
+    ensures room_here { IfOk result (λ k. HasRoom parts.new k) }
     ensures free { IfOk result (λ k. slots.get nodes.old k ≡ None) }
     ensures here { IfOk result (λ k. slots.get nodes.new k ≡ Some (Some new)) }
     ensures others { IfOk result (λ k. (q : ℕ) → q ≢ k → slots.get nodes.new q ≡ slots.get nodes.old q) }
-    ensures images { IfOk result (λ k. (q : ℕ) → index.get nat_eq images.new q ≡ (if nat_eq k q then Some None else index.get nat_eq images.old q)) }
+    ensures images { IfOk result (λ k. (q : ℕ) → image_at images.new q ≡ (if nat_eq k q then Some None else image_at images.old q)) }
     ensures err_nodes { OnErr result (nodes.new.slots ≡ nodes.old.slots) }
-    ensures err_images { OnErr result (images.new.entries ≡ images.old.entries) }
+    ensures err_images { OnErr result (images.new ≡ images.old) }
 {
     let node = reserve_slot(nodes)?;
-    put_new(images, node)?;
+    parts.reserve(node)?;
+    images.add_new(node)?;
     fill_slot(nodes, new);
     Ok(node)
 }
@@ -165,41 +155,98 @@ pub(crate) fn record_of(nodes: &Slab<Option<Rec>>, node: u32) -> &Rec
     }
 }
 
-// Whether an edge between two nodes is a tree edge.
-pub(crate) fn is_child(nodes: &Slab<Option<Rec>>, node: u32, target: u32) -> bool
-    requires node { IsSome (join (slots.get nodes.now node)) }
-    requires target { IsSome (join (slots.get nodes.now target)) }
-    requires cells { length (record_or (join (slots.get nodes.now target))).cell ≡ length (record_or (join (slots.get nodes.now node))).cell }
-    ensures { result ≡ is_under nat_cmp (record_or (join (slots.get nodes.now node))).cell (Some (record_or (join (slots.get nodes.now target))).cell) }
+// The record at a place that has one.
+fn record_at(nodes: &Slab<Option<Rec>>, place: usize) -> &Rec
+    requires { IsSome (join (slots.get nodes.now place)) }
+    ensures { join (slots.get nodes.now place) ≡ Some result.now }
 {
-    record_of(nodes, target).is_under(record_of(nodes, node))
-}
-
-// Whether the edge with a label is a tree edge, if there is one.
-pub(crate) fn kind_at(nodes: &Slab<Option<Rec>>, node: u32, dim: u8, code: Code) -> Option<bool>
-    requires node { IsSome (join (slots.get nodes.now node)) }
-    requires target { (k : ℕ) → target_at (eq_by_cmp nat_cmp) dim code (record_or (join (slots.get nodes.now node))).edges ≡ Some k → IsSome (join (slots.get nodes.now k)) }
-    requires cells { (k : ℕ) → IsSome (join (slots.get nodes.now k)) → length (record_or (join (slots.get nodes.now k))).cell ≡ length (record_or (join (slots.get nodes.now node))).cell }
-    ensures value { result ≡ option_map (λ k. is_under nat_cmp (record_or (join (slots.get nodes.now node))).cell (Some (record_or (join (slots.get nodes.now k))).cell)) (target_at (eq_by_cmp nat_cmp) dim code (record_or (join (slots.get nodes.now node))).edges) }
-    ensures rising { rises (record_or (join (slots.get nodes.now node))).edges ≡ true }
-{
-    match record_of(nodes, node).edge(dim, code) {
-        None => None,
-        Some(target) => Some(is_child(nodes, node, target.0)),
+    match nodes.get(place) {
+        Some(Some(record)) => record,
+        _ => unreachable!(),
     }
 }
 
-// Sets an edge of a node.
+// Whether two nodes have one cell: their labels on the way up are the same.
+fn same_cell(nodes: &Slab<Option<Rec>>, node: usize, other: usize) -> bool
+    requires node { IsSome (join (slots.get nodes.now node)) }
+    requires other { IsSome (join (slots.get nodes.now other)) }
+    requires cells { (k : ℕ) → IsSome (join (slots.get nodes.now k)) → length (record_or (join (slots.get nodes.now k))).cell ≡ length (record_or (join (slots.get nodes.now node))).cell }
+    requires rooted { IsRooted nodes.now }
+    ensures { result ≡ cell_eq nat_eq (record_or (join (slots.get nodes.now node))).cell (record_or (join (slots.get nodes.now other))).cell }
+{
+    let mut left = node;
+    let mut right = other;
+    'up: while left != right {
+        let first = record_at(nodes, left);
+        let second = record_at(nodes, right);
+        if !first.shares_end(second) {
+            return false;
+        }
+        let Some(above) = first.parent() else {
+            return true;
+        };
+        let Some(beside) = second.parent() else {
+            return true;
+        };
+        left = above.0 as usize;
+        right = beside.0 as usize;
+    }
+    true
+}
+
+// Whether an edge between two nodes is a tree edge.
+pub(crate) fn is_child(nodes: &Slab<Option<Rec>>, node: usize, target: u32) -> bool
+    requires node { IsSome (join (slots.get nodes.now node)) }
+    requires target { IsSome (join (slots.get nodes.now target)) }
+    requires cells { (k : ℕ) → IsSome (join (slots.get nodes.now k)) → length (record_or (join (slots.get nodes.now k))).cell ≡ length (record_or (join (slots.get nodes.now node))).cell }
+    requires rooted { IsRooted nodes.now }
+    ensures { result ≡ is_under nat_cmp (record_or (join (slots.get nodes.now node))).cell (Some (record_or (join (slots.get nodes.now target))).cell) }
+{
+    match record_of(nodes, target).parent() {
+        None => false,
+        Some(parent) => same_cell(nodes, parent.0 as usize, node),
+    }
+}
+
+// What the rows of a node come to, where it is a class.
+pub(crate) fn class_at(nodes: &Slab<Option<Rec>>, parts: &Parts, node: u32) -> Option<Agg>
+    requires node { IsSome (join (slots.get nodes.now node)) }
+    requires parts { IfSome (record_or (join (slots.get nodes.now node))).class (λ a. IsShown (shown parts.now node) a) }
+    ensures { option_map agg_in result ≡ (record_or (join (slots.get nodes.now node))).class }
+{
+    match record_of(nodes, node).heading() {
+        None => None,
+        Some((count, measures)) => Some(Agg {
+            count,
+            measures,
+            parts: parts.at(node),
+        }),
+    }
+}
+
+// A copy of what a node has.
+pub(crate) fn copy_at(nodes: &Slab<Option<Rec>>, parts: &Parts, node: u32) -> Result<Was, Memory>
+    requires node { IsSome (join (slots.get nodes.now node)) }
+    requires parts { IfSome (record_or (join (slots.get nodes.now node))).class (λ a. IsShown (shown parts.now node) a) }
+    ensures { IfOk result (λ w. join (slots.get nodes.now node) ≡ Some w) }
+{
+    let record = record_of(nodes, node).copy()?;
+    Ok(Was::new(record, parts.at(node)))
+}
+
+// Sets an edge of a node, and tells how many edges it had, and how many it has.
 pub(crate) fn set_edge_at(
     nodes: &mut Slab<Option<Rec>>,
     node: u32,
     edge: EdgeTo,
-) -> Result<(), Memory>
+) -> Result<(u32, u32), Memory>
     requires node { IsSome (join (slots.get nodes.old node)) }
-    requires code { edge.code < 4000000 }
+    requires code { IsCode edge.code }
     ensures others { (q : ℕ) → q ≢ node → slots.get nodes.new q ≡ slots.get nodes.old q }
     ensures here { IsSome (join (slots.get nodes.new node)) }
     ensures ok { OnOk result (join (slots.get nodes.new node) ≡ option_map (with_edge (edge_to edge)) (join (slots.get nodes.old node))) }
+    ensures had { IfOk result (λ n. n.0 ≡ length (record_or (join (slots.get nodes.old node))).edges) }
+    ensures has { IfOk result (λ n. n.1 ≡ length (record_or (join (slots.get nodes.new node))).edges) }
     ensures err { OnErr result (join (slots.get nodes.new node) ≡ join (slots.get nodes.old node)) }
 {
     let slot = &mut nodes[node as usize];
@@ -209,10 +256,32 @@ pub(crate) fn set_edge_at(
     }
 }
 
+// Takes an edge of a node away.
+pub(crate) fn drop_edge_at(nodes: &mut Slab<Option<Rec>>, node: u32, dim: u8, code: Code)
+    requires { IsSome (join (slots.get nodes.old node)) }
+    ensures others { (q : ℕ) → q ≢ node → slots.get nodes.new q ≡ slots.get nodes.old q }
+    ensures here { join (slots.get nodes.new node) ≡ option_map (without_edge dim code) (join (slots.get nodes.old node)) }
+{
+    let slot = &mut nodes[node as usize];
+    match slot {
+        Some(record) => record.drop_edge(dim, code),
+        None => unreachable!(),
+    }
+}
+
+// Takes a node's record out of its place.
+pub(crate) fn kill_at(nodes: &mut Slab<Option<Rec>>, node: u32)
+    requires { IsSome (join (slots.get nodes.old node)) }
+    ensures others { (q : ℕ) → q ≢ node → slots.get nodes.new q ≡ slots.get nodes.old q }
+    ensures here { slots.get nodes.new node ≡ Some None }
+{
+    nodes[node as usize] = None;
+}
+
 // Sets the forced child of a node.
 pub(crate) fn set_forced_at(nodes: &mut Slab<Option<Rec>>, node: u32, forced: Option<Forced>)
     requires node { IsSome (join (slots.get nodes.old node)) }
-    requires code { IfSome forced (λ f. f.code < 4000000) }
+    requires code { IfSome forced (λ f. IsCode f.code) }
     ensures others { (q : ℕ) → q ≢ node → slots.get nodes.new q ≡ slots.get nodes.old q }
     ensures here { join (slots.get nodes.new node) ≡ option_map (with_forced (option_map edge_of forced)) (join (slots.get nodes.old node)) }
 {
@@ -225,7 +294,8 @@ pub(crate) fn set_forced_at(nodes: &mut Slab<Option<Rec>>, node: u32, forced: Op
 
 // Sets the class of a node.
 pub(crate) fn set_class_at(nodes: &mut Slab<Option<Rec>>, node: u32, class: Option<Agg>)
-    requires { IsSome (join (slots.get nodes.old node)) }
+    requires node { IsSome (join (slots.get nodes.old node)) }
+    requires four { IfSome class (λ a. length a.parts ≡ 4) }
     ensures others { (q : ℕ) → q ≢ node → slots.get nodes.new q ≡ slots.get nodes.old q }
     ensures here { join (slots.get nodes.new node) ≡ option_map (with_class (option_map agg_in class)) (join (slots.get nodes.old node)) }
 {

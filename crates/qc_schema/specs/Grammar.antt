@@ -13,6 +13,7 @@ use Rattle.qc_schema.specs.declared.reader.Stage.{Stage}
 use Rattle.qc_schema.specs.declared.reader.Stage.TheVariants as stages
 use Rattle.qc_schema.specs.declared.refusal.SchemaCause.{SchemaCause}
 use Rattle.qc_schema.specs.declared.refusal.SchemaCause.TheVariants.{Version, Order, Words, Name, Number, End}
+use Rattle.cube_defs.specs.declared.limits.TheConstants.{MAX_CODES, MAX_NODES, MAX_ROWS}
 
 infixl 10 ◌>>=◌
 abbrev pub ◌>>=◌ : {A B : Type 0} → Result A SchemaCause → (A → Result B SchemaCause) → Result B SchemaCause
@@ -141,21 +142,21 @@ unfoldable pub nodes_line : State → List Text → Result State SchemaCause
 nodes_line s words = do
   _ ← in_order (may_index s.stage)
   word ← one_word words
-  nodes ← limit_in 4000000 word
+  nodes ← limit_in MAX_NODES word
   Ok (record { stage = stages.Nodes; layout = record s.layout { nodes = nodes } })
 
 unfoldable pub rows_line : State → List Text → Result State SchemaCause
 rows_line s words = do
   _ ← in_order (may_rows s.stage)
   word ← one_word words
-  rows ← limit_in 1000000 word
+  rows ← limit_in MAX_ROWS word
   Ok (record { stage = stages.Rows; layout = record s.layout { rows = rows } })
 
 unfoldable pub values_line : State → List Text → Result State SchemaCause
 values_line s words = do
   _ ← in_order (may_values s.stage)
   word ← one_word words
-  values ← limit_in 4000000 word
+  values ← limit_in MAX_CODES word
   Ok (record { stage = stages.Values; layout = record s.layout { values = values } })
 
 abbrev pub is_version : List Text → Bool
@@ -200,7 +201,7 @@ read_lines (line ∷ lines) n s = and_on n (take_line s line) (λ t. read_lines 
 
 -- nothing read yet, and the limits that hold by default
 abbrev pub start : State
-start = record { stage = stages.Start; layout = record { id = []; dims = []; measures = []; indexes = []; nodes = 1000000; rows = 1000000; values = 4000000 } }
+start = record { stage = stages.Start; layout = record { id = []; dims = []; measures = []; indexes = []; nodes = 1000000; rows = MAX_ROWS; values = MAX_CODES } }
 
 -- The schema that a text spells, or its fault.
 abbrev pub schema_in : List ℕ → Result Layout Fault

@@ -8,6 +8,7 @@ use Rattle.cube_defs.specs.Text.{Text}
 use Rattle.aggregates.specs.Views.{IsThere}
 use Rattle.aggregates.specs.declared.kind.AggKind.{AggKind}
 use Rattle.aggregates.specs.declared.kind.AggKind.TheVariants as kinds
+use Rattle.cube_defs.specs.declared.limits.TheConstants.{MAX_CODES, MAX_NODES, MAX_ROWS}
 
 pub record Measure : Type 0 where
   pub name : Text
@@ -61,8 +62,8 @@ pub record IsLayout (l : Layout) : Type 0 where
   pub indexes : AllByRecursion (IsThere (length l.measures)) l.indexes
   pub different_indexes : all_different same_kind l.indexes ≡ true
   pub some_nodes : 1 ≤ l.nodes
-  pub few_nodes : l.nodes ≤ 4000000
+  pub few_nodes : l.nodes ≤ MAX_NODES
   pub some_rows : 1 ≤ l.rows
-  pub few_rows : l.rows ≤ 1000000
+  pub few_rows : l.rows ≤ MAX_ROWS
   pub some_values : 1 ≤ l.values
-  pub few_values : l.values ≤ 4000000
+  pub few_values : l.values ≤ MAX_CODES

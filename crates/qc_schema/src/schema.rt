@@ -10,6 +10,7 @@ use crate::lines::{split_line, trim_cr, trim_mark};
 use crate::reader::Reader;
 use crate::refusal::{SchemaCause, SchemaRefused};
 use aggregates::AggKind;
+use cube_defs::MAX_FILE;
 use std::alloc::Global;
 use std::marker::Model;
 
@@ -108,7 +109,7 @@ impl Schema {
 
 // Reads all lines of a text without a byte order mark.
 fn read_draft(alloc: Global, text: &[u8]) -> Result<Draft, SchemaRefused>
-    requires { length text.now ≤ 268435456 }
+    requires { length text.now ≤ MAX_FILE }
     ensures { IsRead layout_in result (read_lines (map without_cr (lines_of text.now)) 1 start) }
 {
     let mut reader = Reader::new(alloc);
@@ -137,7 +138,7 @@ fn read_draft(alloc: Global, text: &[u8]) -> Result<Draft, SchemaRefused>
 /// `index AGG NAME`, and at most one each of `nodes N`, `rows N` and `values N`. Lines without words
 /// and those that begin with `#` are passed over.
 pub fn read_schema(alloc: Global, bytes: &[u8]) -> Result<Schema, SchemaRefused>
-    requires { length bytes.now ≤ 268435456 }
+    requires { length bytes.now ≤ MAX_FILE }
     ensures { IsRead (λ schema. schema) result (schema_in bytes.now) }
 {
     let Ok(text) = str::from_utf8(bytes) else {

@@ -20,10 +20,11 @@ use Rattle.query_script.specs.declared.line.Command.TheVariants as commands
 use Rattle.warehouse.specs.Batch.{Applied, Kind, Load, Apply, Refusal, result}
 use Rattle.warehouse.specs.State.{State}
 use Rattle.qc_session.specs.Replies.{applied_text, batch_texts, bounds_text, line_texts, none_text, point_text, refused_text, size_texts, stats_text}
+use Rattle.cube_defs.specs.declared.limits.TheConstants.{MAX_FILE}
 
 -- the most bytes of a file
 abbrev pub limit : ℕ
-limit = 268435456
+limit = MAX_FILE
 
 -- a state and a reply
 pub record Answered : Type 0 where

@@ -12,6 +12,7 @@ use crate::reply::{
     Reply, ShortReply, applied, refused, stats, words_of_file, words_of_line, words_of_size,
 };
 use cell_core::{Memory, Steps, Text};
+use cube_defs::MAX_FILE;
 use qc_io::{Files, ReadRefused, read_all};
 use query_script::{Command, read_line};
 use std::alloc::{AllocError, Global};
@@ -54,7 +55,7 @@ fn take_counted<L: Ledger>(
     requires name { blank.name ≡ L.name }
     requires parts { blank.parts ≡ L.parts }
     requires some { 0 < L.parts }
-    requires short { length bytes.now ≤ 268435456 }
+    requires short { length bytes.now ≤ MAX_FILE }
     ensures applied { IfOk result (λ applied. batches.result warehouse.old.state (kind_in kind) bytes.now ≡ Ok (record { records = applied.records; classes = applied.classes; state = warehouse.new.state })) }
     ensures refused { IfErr result (λ e. IfSome (refusal_in e) (λ refusal. batches.result warehouse.old.state (kind_in kind) bytes.now ≡ Err refusal)) }
     ensures err { OnErr result (warehouse.new ≡ warehouse.old) }
@@ -68,7 +69,7 @@ fn take_counted<L: Ledger>(
 
 // The same, where nobody looks at the count.
 fn take_file(warehouse: &mut Warehouse, kind: Kind, bytes: &[u8]) -> Result<Applied, Refused>
-    requires { length bytes.now ≤ 268435456 }
+    requires { length bytes.now ≤ MAX_FILE }
     ensures applied { IfOk result (λ applied. batches.result warehouse.old.state (kind_in kind) bytes.now ≡ Ok (record { records = applied.records; classes = applied.classes; state = warehouse.new.state })) }
     ensures refused { IfErr result (λ e. IfSome (refusal_in e) (λ refusal. batches.result warehouse.old.state (kind_in kind) bytes.now ≡ Err refusal)) }
     ensures err { OnErr result (warehouse.new ≡ warehouse.old) }
@@ -83,7 +84,7 @@ fn change(
     kind: Kind,
     bytes: &[u8],
 ) -> Result<ShortReply, Memory>
-    requires { length bytes.now ≤ 268435456 }
+    requires { length bytes.now ≤ MAX_FILE }
     ensures ok { IfOk result (λ reply. changed warehouse.old.state number (batches.result warehouse.old.state (kind_in kind) bytes.now) ≡ record { state = warehouse.new.state; reply = reply }) }
     ensures err { OnErr result (warehouse.new ≡ warehouse.old) }
 {
@@ -165,7 +166,7 @@ pub fn answer_line<F: Files>(
     number: u32,
     line: &[u8],
 ) -> Result<Reply, LineStop>
-    requires { length line.now ≤ 268435456 }
+    requires { length line.now ≤ MAX_FILE }
     ensures later { F.faults files.old ≤ F.faults files.new }
     ensures told { F.told files.new ≡ F.told files.old }
     ensures steady { IsTrue (F.steady files.old) → IsTrue (F.steady files.new) }

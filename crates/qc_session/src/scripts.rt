@@ -8,6 +8,7 @@ ghost use Rattle.warehouse.specs.State.{IsHeld};
 use crate::answer::LIMIT;
 use crate::failure::{Failure, SchemaFault, tell};
 use crate::session::{Session, Stop, take_lines};
+use cube_defs::MAX_FILE;
 use qc_io::{Files, ReadRefused, Sink, read_all};
 use qc_schema::{Schema, SchemaRefused, read_schema, split_line, trim_mark};
 use std::alloc::Global;
@@ -79,7 +80,7 @@ fn read_named<'a, F: Files>(
     ensures told { F.told files.new ≡ F.told files.old }
     ensures steady { IsTrue (F.steady files.old) → IsTrue (F.steady files.new) }
     ensures ok { IfOk result (λ bytes. IfSome (F.told files.old) (λ t. IsScriptOf t name.now bytes.items)) }
-    ensures short { IfOk result (λ bytes. length bytes.items ≤ 268435456) }
+    ensures short { IfOk result (λ bytes. length bytes.items ≤ MAX_FILE) }
     ensures err { IfErr result (λ f. ReadFails (F.told files.old) name.now (Rose (F.faults files.old) (F.faults files.new)) (IsTrue (F.steady files.old)) IsNever (cause_of f)) }
 {
     match read_all(alloc, files, name, LIMIT) {
@@ -153,7 +154,7 @@ fn run_script<F: Files, O: Sink, E: Sink>(
     schema: Schema,
     script: &[u8],
 ) -> Outcome
-    requires { length script.now ≤ 268435456 }
+    requires { length script.now ≤ MAX_FILE }
     ensures known { (result.status ≡ 0) ⊎ (result.status ≡ 3) ⊎ (result.status ≡ 4) ⊎ (result.status ≡ 5) }
     ensures skipped { AreSkipped (script_lines script.now) result.skipped.items }
     ensures all { result.status ≡ 0 → IfSome (F.told files.old) (λ t. WroteAll t schema result.skipped.items (script_lines script.now) (state_in result.end) (O.taken out.old) (O.taken out.new)) }

@@ -10,6 +10,7 @@ use crate::answer::{LineStop, answer_line};
 use crate::lines::is_passed_over;
 use crate::reply;
 use cell_core::Text;
+use cube_defs::MAX_FILE;
 use qc_io::{Files, Sink, write_all};
 use qc_schema::{split_line, trim_cr};
 use std::alloc::Global;
@@ -43,7 +44,7 @@ fn take_line<F: Files, O: Sink>(
     line: &[u8],
 ) -> Result<(), Stop>
     requires room { vec_len session.old.skipped < vec_capacity session.old.skipped }
-    requires short { length line.now ≤ 268435456 }
+    requires short { length line.now ≤ MAX_FILE }
     requires number { session.old.number + 1 < 2 ^ 32 }
     requires up_to { AreUpTo session.old.number session.old.skipped.items }
     ensures later_files { F.faults files.old ≤ F.faults files.new }
@@ -96,7 +97,7 @@ pub fn take_lines<F: Files, O: Sink>(
 ) -> Result<(), Stop>
     requires room { length (lines_of script.now) ≤ vec_capacity session.old.skipped }
     requires few { length (lines_of script.now) < 2 ^ 32 }
-    requires short { length script.now ≤ 268435456 }
+    requires short { length script.now ≤ MAX_FILE }
     requires fresh { (session.old.number ≡ 0) × (session.old.skipped.items ≡ []) }
     requires state { session.old.warehouse.state ≡ empty session.old.warehouse.state.schema }
     ensures later_files { F.faults files.old ≤ F.faults files.new }

@@ -7,6 +7,7 @@ ghost use Rattle.query_script.specs.Lines.{may_want_memory, names_more, rest_of,
 
 use crate::point::read_point;
 use cell_core::{Fields, Text};
+use cube_defs::MAX_FILE;
 use qc_schema::Schema;
 use std::alloc::{AllocError, Global};
 
@@ -103,7 +104,7 @@ fn read_command(
 /// bytes, and each other field is that value, but `?` and fields that begin with `|` or `~` are not
 /// allowed.
 pub fn read_line(alloc: Global, schema: &Schema, line: &[u8]) -> Result<Command, LineRefused>
-    requires { length line.now ≤ 268435456 }
+    requires { length line.now ≤ MAX_FILE }
     ensures gives { Gives result (command_in (length schema.now.dims) line.now) }
     ensures memory { IfErr result (λ e. e ≡ LineRefused.Memory → may_want_memory line.now ≡ true) }
     ensures command { IfOk result (λ command. IsCommand (length schema.now.dims) command) }

@@ -8,6 +8,7 @@ use Rattle.cube_defs.specs.Text.{Text}
 use Rattle.cube_defs.specs.Cell.{Cell}
 use Rattle.cell_core.specs.declared.fields.Field.{Field}
 use Rattle.cell_core.specs.declared.fields.Field.TheVariants.{Any, One}
+use Rattle.cube_defs.specs.declared.limits.TheConstants.{MAX_CODES, MAX_DIMS}
 
 -- a list of texts for each dimension, and how many texts a list may have
 pub record TextLists : Type 0 where
@@ -17,9 +18,9 @@ pub record TextLists : Type 0 where
 -- what is true of every dictionary
 pub record IsDictionary (d : TextLists) : Type 0 where
   pub some_dims : 0 < length d.lists
-  pub few_dims : length d.lists ≤ 16
+  pub few_dims : length d.lists ≤ MAX_DIMS
   pub some_texts : 0 < d.max
-  pub few_texts : d.max ≤ 4000000
+  pub few_texts : d.max ≤ MAX_CODES
   pub within : All (λ texts. length texts ≤ d.max) d.lists
   pub distinct : All (IsDistinct bytes_eq) d.lists
 

@@ -2,7 +2,7 @@
 //! place.
 #![tactic(auto)]
 
-ghost use Rattle.cell_core.specs.Entry.{IsSmall, value_in};
+ghost use Rattle.cell_core.specs.Entry.{IsCode, IsSmall, value_in};
 ghost use Rattle.std.specs.Option.{option_map};
 ghost use Rattle.std.specs.Prelude.{Err, IfOk, IfSome, None, OnErr, OnOk, Some, length, slice_get, ◌<◌, ◌≡◌, ◌≤◌, ◌↔◌};
 ghost use Rattle.value_dict.specs.TextLists.{IsDictionary, cell_in, code_in, cut, entry_in, learnt, list_at, no_texts};
@@ -12,12 +12,11 @@ mod sets;
 mod tests;
 
 use cell_core::{Cell, Code, Entry, Field, Fields};
+pub use cube_defs::Memory;
+use cube_defs::{MAX_CODES, MAX_DIMS};
 use indexmap::IndexSet;
 use std::alloc::{AllocError, Global};
 use std::marker::Model;
-
-/// Memory ran out.
-pub type Memory = AllocError;
 
 /// Why a text was not learnt.
 #[derive(Clone, Copy, Debug, PartialEq, Eq)]
@@ -51,9 +50,9 @@ impl Dict {
     /// No texts in any dimension.
     pub fn new(alloc: Global, dims: u8, max: u32) -> Result<Dict, Memory>
         requires some_dims { 0 < dims }
-        requires few_dims { dims ≤ 16 }
+        requires few_dims { dims ≤ MAX_DIMS }
         requires some_texts { 0 < max }
-        requires few_texts { max ≤ 4000000 }
+        requires few_texts { max ≤ MAX_CODES }
         ensures value { IfOk result (λ dict. dict ≡ no_texts dims max) }
         ensures dictionary { IfOk result (λ dict. IsDictionary dict) }
     {
@@ -78,7 +77,7 @@ impl Dict {
         requires { dim < length self.now.lists }
         ensures value { result ≡ code_in (list_at self.now dim) text.now }
         ensures within { IfSome result (λ code. code < length (list_at self.now dim)) }
-        ensures small { IfSome result (λ code. code < 4000000) }
+        ensures small { IfSome result IsCode }
     {
         let place = sets::place_of(&self.lists[dim as usize], text)?;
         Some(place as u32)
@@ -100,7 +99,7 @@ impl Dict {
         requires { dim < length self.old.lists }
         ensures code { IfOk result (λ code. code_in (list_at self.new dim) text.now ≡ Some code) }
         ensures within { IfOk result (λ code. code < length (list_at self.new dim)) }
-        ensures small { IfOk result (λ code. code < 4000000) }
+        ensures small { IfOk result IsCode }
         ensures ok { OnOk result (self.new ≡ learnt self.old dim text.now) }
         ensures err { OnErr result (self.new ≡ self.old) }
         ensures full { (result ≡ Err Learn.Full) ↔ ((code_in (list_at self.old dim) text.now ≡ None) × (length (list_at self.old dim) ≡ self.old.max)) }

@@ -11,12 +11,13 @@ use crate::Memory;
 use crate::refused::Refused;
 use cell_core::{Cell, Entry};
 use csv_load::RawBatch;
+use cube_defs::MAX_DIMS;
 use value_dict::{Dict, Learn};
 
 /// How many texts each dimension has.
 pub(crate) fn lengths(dict: &Dict, dims: u8) -> [u32; 16]
     requires dims { dims ≡ length dict.now.lists }
-    requires few { dims ≤ 16 }
+    requires few { dims ≤ MAX_DIMS }
     ensures lengths { take dims result ≡ map length dict.now.lists }
 {
     let mut lens = [0; 16];

@@ -12,8 +12,6 @@ mod tests;
 #[cfg(test)]
 mod tree_tests;
 
+pub use cube_defs::Memory;
 pub use refused::{Applied, Refused, Stats};
 pub use store::Warehouse;
-
-/// Memory ran out.
-pub type Memory = std::alloc::AllocError;

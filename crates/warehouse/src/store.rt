@@ -15,6 +15,7 @@ use crate::refused::{Applied, Refused, Stats};
 use base_table::Table;
 use cell_core::Steps;
 use csv_load::{LoadRefused, RawBatch, read_base, read_batch};
+use cube_defs::MAX_FILE;
 use qc_arena::QcArena;
 use qc_schema::Schema;
 use std::alloc::Global;
@@ -155,7 +156,7 @@ impl Warehouse {
         bytes: &[u8],
         steps: &mut Steps<L>,
     ) -> Result<Applied, Refused>
-        requires { length bytes.now ≤ 268435456 }
+        requires { length bytes.now ≤ MAX_FILE }
         ensures applied { IfOk result (λ applied. batches.result self.old.state batches.Load bytes.now ≡ Ok (record { records = applied.records; classes = applied.classes; state = self.new.state })) }
         ensures refused { IfErr result (λ e. IfSome (refusal_in e) (λ refusal. batches.result self.old.state batches.Load bytes.now ≡ Err refusal)) }
         ensures valid { IsHeld self.new }
@@ -177,7 +178,7 @@ impl Warehouse {
         bytes: &[u8],
         steps: &mut Steps<L>,
     ) -> Result<Applied, Refused>
-        requires { length bytes.now ≤ 268435456 }
+        requires { length bytes.now ≤ MAX_FILE }
         ensures applied { IfOk result (λ applied. batches.result self.old.state batches.Apply bytes.now ≡ Ok (record { records = applied.records; classes = applied.classes; state = self.new.state })) }
         ensures refused { IfErr result (λ e. IfSome (refusal_in e) (λ refusal. batches.result self.old.state batches.Apply bytes.now ≡ Err refusal)) }
         ensures valid { IsHeld self.new }

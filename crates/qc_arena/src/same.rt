@@ -1,0 +1,60 @@
+// Whether two classes come to the same.
+ghost use Rattle.std.specs.Prelude.{false, length, slice_index_or, true, ℕ, ◌<◌, ◌≡◌, ◌≢◌, ◌≤◌};
+ghost use Rattle.std.specs.Option.{option_map};
+ghost use Rattle.aggregates.specs.Bounds.{zero_part};
+ghost use Rattle.aggregates.specs.Views.{agg_in, part_in};
+
+use aggregates::{Agg, Part};
+use cube_defs::MAX_MEASURES;
+
+fn same_part(a: Part, b: Part) -> bool
+    ensures same { result ≡ true → part_in a ≡ part_in b }
+    ensures other { result ≡ false → part_in a ≢ part_in b }
+{
+    a.sum == b.sum && a.least == b.least && a.greatest == b.greatest
+}
+
+fn same_parts(a: &[Part; 4], b: &[Part; 4], measures: u8) -> bool
+    requires { measures ≤ MAX_MEASURES }
+    ensures same { result ≡ true → (k : ℕ) → k < measures →
+        part_in (slice_index_or a.now k zero_part) ≡ part_in (slice_index_or b.now k zero_part) }
+    ensures other { result ≡ false → (k : ℕ) × (k < measures)
+        × (part_in (slice_index_or a.now k zero_part) ≢ part_in (slice_index_or b.now k zero_part)) }
+    ensures four_a { length a.now ≡ 4 }
+    ensures four_b { length b.now ≡ 4 }
+{
+    'parts: for k in 0..usize::from(measures) {
+        if !same_part(a[k], b[k]) {
+            return false;
+        }
+    }
+    true
+}
+
+fn same_agg(a: &Agg, b: &Agg) -> bool
+    ensures same { result ≡ true → agg_in a.now ≡ agg_in b.now }
+    ensures other { result ≡ false → agg_in a.now ≢ agg_in b.now }
+{
+    if a.count != b.count {
+        return false;
+    }
+    let same = same_parts(&a.parts, &b.parts, a.measures);
+    if a.measures != b.measures {
+        return false;
+    }
+    same
+}
+
+/// Whether two classes, if they are ones, come to the same.
+pub(crate) fn same_class(a: Option<Agg>, b: Option<Agg>) -> bool
+    ensures same { result ≡ true → option_map agg_in a ≡ option_map agg_in b }
+    ensures other { result ≡ false → option_map agg_in a ≢ option_map agg_in b }
+{
+    match a {
+        None => b.is_none(),
+        Some(one) => match b {
+            None => false,
+            Some(two) => same_agg(&one, &two),
+        },
+    }
+}
