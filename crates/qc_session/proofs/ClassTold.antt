@@ -24,8 +24,10 @@ use Rattle.warehouse.specs.State.{IsState, State, has_text, place_in, source_of}
 use Rattle.cell_core.specs.declared.fields.Field.{Field}
 use Rattle.query_script.specs.Commands.{IsPointField}
 use Rattle.value_dict.specs.TextLists.{cell_in}
-use Rattle.qc_session.specs.Answers.{cell_asked, class_at, class_of}
-use Rattle.qc_session.specs.Classes.{HasTexts, IsTold, hit_in, text_of, told_cell, told_hit}
+use Rattle.qc_session.specs.Answers.{cell_asked}
+use Rattle.cube_defs.specs.Answers.{class_at, class_of}
+use Rattle.qc_session.specs.Classes.{hit_in}
+use Rattle.value_dict.specs.Told.{HasTexts, IsTold, text_of, told_cell, told_hit}
 use Rattle.qc_session.specs.declared.classes.Class.{Class}
 use Rattle.qc_session.proofs.Apart.{any-within, places-apart, text-at, text_equality}
 use Rattle.qc_session.proofs.Asked.{Fits, cell-found, cell-missing, code_equality, fits}

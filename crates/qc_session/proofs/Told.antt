@@ -5,7 +5,7 @@ use Rattle.std.specs.List.{All, flat_map}
 use Rattle.std.proofs.lemmas.List.Elements.{All-head, All-tail}
 use Rattle.cube_defs.specs.Text.{Text}
 use Rattle.cube_defs.specs.Cell.{Cell}
-use Rattle.qc_session.specs.Classes.{HasTexts, text_of, told_cell}
+use Rattle.value_dict.specs.Told.{HasTexts, text_of, told_cell}
 use Rattle.qc_session.specs.Points.{fields_text}
 use Rattle.qc_session.specs.Replies.{entry_text, lower_text}
 

@@ -1,12 +1,10 @@
 -- The answer to a line: a filter and a sum over the rows that are present, or what a file does to them.
 use Rattle.std.specs.Prelude.{ℕ, Option, Some, None, List, length, map, nat_lt, Result, Ok, Err, if◌then◌else◌}
 use Rattle.std.specs.Option.{option_map}
-use Rattle.std.specs.Ordering.{eq_by_cmp}
-use Rattle.std.specs.declared.cmp.Ordering.{Ordering}
 use Rattle.cube_defs.specs.Text.{Text, text_cmp, text_eq}
 use Rattle.cube_defs.specs.Cell.{Cell}
-use Rattle.cube_defs.specs.Rows.{Agg, Row, agg, closure}
-use Rattle.cube_defs.specs.Answers.{ClassHit, lower_bounds}
+use Rattle.cube_defs.specs.Rows.{Agg}
+use Rattle.cube_defs.specs.Answers.{ClassHit, class_of}
 use Rattle.cube_defs.specs.Tree.{classes, links, nodes, tree_edges}
 use Rattle.cube_laws.specs.Total.{agg_at}
 use Rattle.cell_core.specs.declared.fields.Field.{Field}
@@ -62,14 +60,6 @@ point_reply schema line cell (Some agg) = point_text line cell schema.measures a
 
 abbrev pub pointed : State → ℕ → Cell Text → List ℕ
 pointed state line cell = point_reply state.schema line cell (agg_at text_eq (length state.schema.measures) state.rows cell)
-
--- the class of an upper bound: what its rows come to, and its lower bounds in cell order
-abbrev pub class_at : {A : Type 0} → (A → A → Ordering) → ℕ → List (Row A) → Cell A → ClassHit A
-class_at cmp measures rows u = record { upper = u; agg = agg (eq_by_cmp cmp) measures rows u; lowers = lower_bounds cmp rows u }
-
--- the class of a cell, whose upper bound is what the rows share that the cell covers, where it covers any
-abbrev pub class_of : {A : Type 0} → (A → A → Ordering) → ℕ → List (Row A) → Cell A → Option (ClassHit A)
-class_of cmp measures rows cell = option_map (class_at cmp measures rows) (closure (eq_by_cmp cmp) rows cell)
 
 -- the reply to `bounds`, where the asked cell has this class, or none
 abbrev pub bounds_reply : Layout → ℕ → Option (ClassHit Text) → List ℕ

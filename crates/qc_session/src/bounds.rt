@@ -3,8 +3,10 @@ ghost use Rattle.std.specs.Option.{option_map};
 ghost use Rattle.std.specs.Prelude.{All, IfOk, IfSome, length, ◌≡◌};
 ghost use Rattle.cube_defs.specs.Text.{text_cmp};
 ghost use Rattle.query_script.specs.Commands.{IsPointField};
-ghost use Rattle.qc_session.specs.Answers.{bounded, cell_asked, class_of};
-ghost use Rattle.qc_session.specs.Classes.{IsTold, hit_in, told_hit};
+ghost use Rattle.qc_session.specs.Answers.{bounded, cell_asked};
+ghost use Rattle.cube_defs.specs.Answers.{class_of};
+ghost use Rattle.qc_session.specs.Classes.{hit_in};
+ghost use Rattle.value_dict.specs.Told.{IsTold, told_hit};
 ghost use Rattle.qc_session.specs.Reply.{reply_bytes};
 
 use crate::class_text::bounds_reply;

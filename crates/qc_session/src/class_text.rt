@@ -2,7 +2,8 @@
 ghost use Rattle.std.specs.List.{All, flat_map};
 ghost use Rattle.std.specs.Option.{option_map};
 ghost use Rattle.std.specs.Prelude.{IfOk, None, OnOk, decimal, length, map, slice_index_or, ◌++◌, ◌<◌, ◌≡◌, ◌∷◌};
-ghost use Rattle.qc_session.specs.Classes.{HasTexts, IsTold, hit_in, told_cell, told_hit, text_of};
+ghost use Rattle.qc_session.specs.Classes.{hit_in};
+ghost use Rattle.value_dict.specs.Told.{HasTexts, IsTold, told_cell, told_hit, text_of};
 ghost use Rattle.qc_session.specs.Points.{fields_text};
 ghost use Rattle.qc_session.specs.Replies.{bounds_text, class_text, end_text, entry_text, lower_text};
 ghost use Rattle.value_dict.specs.TextLists.{list_at};

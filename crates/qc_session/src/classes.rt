@@ -3,7 +3,7 @@ ghost use Rattle.std.specs.Ordering.{nat_cmp};
 ghost use Rattle.std.specs.Option.{option_map};
 ghost use Rattle.std.specs.Prelude.{IfOk, length, ◌<◌, ◌≡◌};
 ghost use Rattle.tree_search.specs.Found.{IsFrom, IsTree, Source};
-ghost use Rattle.qc_session.specs.Answers.{class_of};
+ghost use Rattle.cube_defs.specs.Answers.{class_of};
 
 use aggregates::Agg;
 use cell_core::{Cell, Cells, Memory, Steps};

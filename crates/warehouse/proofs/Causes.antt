@@ -13,7 +13,8 @@ use Rattle.warehouse.specs.Batch as batches
 use Rattle.warehouse.specs.Batch.{Refusal, first_number, first_twice, full_dim, is_among, is_missing, is_present, or_else, refusal_of, rows_after, texts_after}
 use Rattle.warehouse.specs.State.{State, ids_of}
 use Rattle.warehouse.specs.Steps.{is_there, last_refusal}
-use Rattle.warehouse.specs.Stored.{decoded_row, state_of}
+use Rattle.warehouse.specs.Stored.{state_of}
+use Rattle.value_dict.specs.Told.{decoded_row}
 use Rattle.warehouse.proofs.Changes.{number-same}
 use Rattle.warehouse.proofs.Decoding.{filter-decoded, ids-decoded, length-rows}
 use Rattle.warehouse.proofs.Rows.{has-kept, kept}

@@ -11,7 +11,7 @@ use Rattle.cube_laws.specs.Recoding.{AreKnown, coded_row, coded_tuple}
 use Rattle.csv_load.specs.Batch.{IsValue}
 use Rattle.value_dict.proofs.Distinct.{code_of_place, same_bytes}
 use Rattle.warehouse.specs.State.{has_text, ids_of, place_in}
-use Rattle.warehouse.specs.Stored.{AreCodes, RowsAreCodes, decoded, decoded_row}
+use Rattle.value_dict.specs.Told.{AreCodes, RowsAreCodes, decoded, decoded_row}
 
 pub length-decoded : (lists : List (List Text)) (codes : List ℕ) → AreCodes lists codes → length (decoded lists codes) ≡ length codes
 length-decoded lists [] are = refl

@@ -9,7 +9,7 @@ use Rattle.base_table.specs.Places.{row_of, values_of}
 use Rattle.csv_load.specs.Batch.{Change, Delete, Insert, id_of, inserted, is_deletion}
 use Rattle.warehouse.proofs.Changes.{amounts_of, tuple_of}
 use Rattle.warehouse.specs.Steps.{AreLonger}
-use Rattle.warehouse.specs.Stored.{AreCodes, RowsAreCodes, decoded, decoded_row}
+use Rattle.value_dict.specs.Told.{AreCodes, RowsAreCodes, decoded, decoded_row}
 use Rattle.warehouse.proofs.Texts.{front-length, longer-head, longer-tail}
 
 pub decoded-longer : (before now : List (List Text)) (codes : List ℕ) → AreLonger before now → AreCodes before codes → decoded now codes ≡ decoded before codes

@@ -10,7 +10,7 @@ use Rattle.csv_load.specs.Batch.{Change, change_at, id_of, inserted, is_deletion
 use Rattle.warehouse.specs.Batch.{first_number, first_twice, is_among}
 use Rattle.warehouse.specs.State.{ids_of}
 use Rattle.warehouse.specs.Steps.{is_there}
-use Rattle.warehouse.specs.Stored.{decoded_row}
+use Rattle.value_dict.specs.Told.{decoded_row}
 use Rattle.warehouse.proofs.Changes.{ids-append, inserted-append, insertion-more, insertion-there, new-insertion, none-at}
 use Rattle.warehouse.proofs.Decoding.{ids-decoded, length-rows}
 use Rattle.warehouse.proofs.Rows.{has-ids}

@@ -10,7 +10,8 @@ use Rattle.csv_load.specs.Batch.{IsLoaded, IsValue}
 use Rattle.qc_schema.specs.Schema.{IsLayout, Layout}
 use Rattle.value_dict.specs.TextLists.{IsDictionary, TextLists, no_texts}
 use Rattle.warehouse.specs.State.{IsState}
-use Rattle.warehouse.specs.Stored.{AreCodes, IsStored, RowsAreCodes, decoded_row, state_of}
+use Rattle.warehouse.specs.Stored.{IsStored, state_of}
+use Rattle.value_dict.specs.Told.{AreCodes, RowsAreCodes, decoded_row}
 use Rattle.warehouse.proofs.Decoding.{ids-decoded, length-decoded, length-rows, rows-known, values-decoded}
 
 loaded-row : (lists : List (List Text)) (dims measures : ℕ) (row : Row ℕ) → AreCodes lists row.tuple → All (All IsValue) lists → IsRow dims measures row → IsLoaded dims measures (decoded_row lists row)

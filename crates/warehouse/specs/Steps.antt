@@ -11,7 +11,7 @@ use Rattle.value_dict.specs.TextLists.{cut, learnt_in}
 use Rattle.warehouse.specs.Batch as batches
 use Rattle.warehouse.specs.Batch.{Refusal, full_dim, refusal_of, rows_after, texts_after, with_tuple}
 use Rattle.warehouse.specs.State.{State, ids_of}
-use Rattle.warehouse.specs.Stored.{AreCodes, decoded}
+use Rattle.value_dict.specs.Told.{AreCodes, decoded}
 use Rattle.warehouse.specs.declared.changing.Stopped.{Stopped}
 use Rattle.warehouse.specs.declared.changing.Stopped.TheVariants as stops
 

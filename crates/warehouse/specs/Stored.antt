@@ -1,5 +1,5 @@
 -- How a warehouse keeps its state: rows of codes beside a dictionary, and the tree of the rows.
-use Rattle.std.specs.Prelude.{ℕ, ◌≡◌, ◌<◌, List, [], ◌∷◌, false, length, map, slice_index_or, Option, Some, None, ⊤}
+use Rattle.std.specs.Prelude.{ℕ, ◌≡◌, List, false, length, map, Option, Some, None}
 use Rattle.std.specs.List.{All}
 use Rattle.cube_defs.specs.Text.{Text}
 use Rattle.cube_defs.specs.Rows.{Row}
@@ -10,26 +10,11 @@ use Rattle.qc_arena.specs.Map.{Arena}
 use Rattle.qc_schema.specs.Schema.{Layout, IsLayout}
 use Rattle.tree_search.specs.Found.{IsFrom}
 use Rattle.value_dict.specs.TextLists.{IsDictionary, TextLists}
+use Rattle.value_dict.specs.Told.{RowsAreCodes, decoded_row}
 use Rattle.warehouse.specs.Batch as batches
 use Rattle.warehouse.specs.State.{State}
 use Rattle.warehouse.specs.declared.refused.Refused.{Refused}
 use Rattle.warehouse.specs.declared.refused.Refused.TheVariants as refusals
-
--- the texts of codes
-abbrev pub decoded : List (List Text) → List ℕ → List Text
-decoded lists [] = []
-decoded [] (code ∷ codes) = []
-decoded (texts ∷ lists) (code ∷ codes) = slice_index_or texts code [] ∷ decoded lists codes
-
--- a row with the texts of its codes
-abbrev pub decoded_row : List (List Text) → Row ℕ → Row Text
-decoded_row lists row = record { id = row.id; tuple = decoded lists row.tuple; amounts = row.amounts }
-
--- each code is that of a text
-abbrev pub AreCodes : List (List Text) → List ℕ → Type 0
-AreCodes lists [] = ⊤
-AreCodes [] (code ∷ codes) = ⊥
-AreCodes (texts ∷ lists) (code ∷ codes) = (code < length texts) × AreCodes lists codes
 
 -- the rows of a table, with the texts of their codes
 abbrev pub decoded_rows : List (List Text) → Places → List (Row Text)
@@ -38,10 +23,6 @@ decoded_rows lists table = map (decoded_row lists) (rows_of table)
 -- the state that a schema, a dictionary and a table stand for
 abbrev pub state_of : Layout → TextLists → Places → State
 state_of schema dict table = record { schema = schema; rows = decoded_rows dict.lists table; texts = dict.lists }
-
--- the codes of some rows are those of texts
-abbrev pub RowsAreCodes : List (List Text) → List (Row ℕ) → Type 0
-RowsAreCodes lists rows = All (λ row. AreCodes lists row.tuple) rows
 
 -- what is true of the three in every warehouse
 pub record IsStored (schema : Layout) (dict : TextLists) (table : Places) : Type 0 where

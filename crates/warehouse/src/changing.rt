@@ -8,7 +8,8 @@ ghost use Rattle.value_dict.specs.TextLists.{IsDictionary};
 ghost use Rattle.warehouse.specs.Batch.{after, first_number, first_twice, is_among, is_missing, refusal_of, result_of, texts_after, with_tuple};
 ghost use Rattle.warehouse.specs.State.{State, ids_of};
 ghost use Rattle.warehouse.specs.Steps.{AreLonger, IsCause, IsOver, closed, frame, is_there, last_refusal};
-ghost use Rattle.warehouse.specs.Stored.{IsKept, IsStored, RowsAreCodes, decoded_rows, refusal_in, state_of};
+ghost use Rattle.warehouse.specs.Stored.{IsKept, IsStored, decoded_rows, refusal_in, state_of};
+ghost use Rattle.value_dict.specs.Told.{RowsAreCodes};
 
 use crate::checks::{first_present, first_repeat, is_full};
 use crate::learning::{learn_tuple, lengths, values_full};

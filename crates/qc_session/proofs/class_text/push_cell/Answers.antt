@@ -1,6 +1,6 @@
 use Rattle.std.proofs.Common.{◌∙◌, sym, ap, arith, ◌++◌, ◌∷◌, [], ℕ, List, append_assoc, take, map, slice_index_or, None}
 use Rattle.std.specs.Prelude.{option_map}
-use Rattle.qc_session.specs.Classes.{text_of, told_cell}
+use Rattle.value_dict.specs.Told.{text_of, told_cell}
 use Rattle.qc_session.specs.Points.{fields_text}
 use Rattle.qc_session.specs.Replies.{entry_text}
 use Rattle.qc_session.proofs.Told.{told-behind}

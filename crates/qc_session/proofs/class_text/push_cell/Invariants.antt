@@ -1,5 +1,5 @@
 use Rattle.std.proofs.Common.{◌≡◌, ◌++◌, map, take}
-use Rattle.qc_session.specs.Classes.{told_cell}
+use Rattle.value_dict.specs.Told.{told_cell}
 use Rattle.qc_session.specs.Points.{fields_text}
 use Rattle.qc_session.specs.Replies.{entry_text}
 use Rattle.qc_session.proofs.class_text.push_cell.Given as goal

@@ -2,7 +2,7 @@ use Rattle.std.proofs.Common.{◌∙◌, append_assoc, decimal, map}
 use Rattle.std.specs.Prelude.{codes}
 use Rattle.std.specs.List.{flat_map}
 use Rattle.aggregates.specs.Views.{agg_in}
-use Rattle.qc_session.specs.Classes.{told_cell}
+use Rattle.value_dict.specs.Told.{told_cell}
 use Rattle.qc_session.specs.Replies.{agg_texts, cell_text, entry_text, lower_text}
 use Rattle.qc_session.proofs.Records.{record-more}
 use Rattle.qc_session.proofs.class_text.push_class.Goals as goal

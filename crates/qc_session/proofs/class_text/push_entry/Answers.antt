@@ -1,5 +1,5 @@
 use Rattle.std.proofs.Common.{◌≡◌, arith}
-use Rattle.qc_session.specs.Classes.{text_of}
+use Rattle.value_dict.specs.Told.{text_of}
 use Rattle.qc_session.proofs.Told.{told-long, told-text, told-within}
 use Rattle.value_dict.specs.TextLists.{list_at}
 use Rattle.qc_session.proofs.class_text.push_entry.Goals as goal

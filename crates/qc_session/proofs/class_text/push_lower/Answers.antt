@@ -1,6 +1,6 @@
 use Rattle.std.proofs.Common.{◌∙◌, decimal, map}
 use Rattle.std.specs.Prelude.{codes}
-use Rattle.qc_session.specs.Classes.{told_cell}
+use Rattle.value_dict.specs.Told.{told_cell}
 use Rattle.qc_session.specs.Replies.{entry_text}
 use Rattle.qc_session.proofs.Records.{record-end}
 use Rattle.qc_session.proofs.class_text.push_lower.Goals as goal

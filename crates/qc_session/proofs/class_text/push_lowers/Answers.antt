@@ -1,6 +1,6 @@
 use Rattle.std.proofs.Common.{◌∙◌, sym, ap, ◌++◌, ℕ, List, append_assoc, take, map}
 use Rattle.std.specs.List.{flat_map}
-use Rattle.qc_session.specs.Classes.{told_cell}
+use Rattle.value_dict.specs.Told.{told_cell}
 use Rattle.qc_session.specs.Replies.{lower_text}
 use Rattle.qc_session.proofs.Told.{lower-behind, told-at}
 use Rattle.qc_session.proofs.class_text.push_lowers.Goals as goal

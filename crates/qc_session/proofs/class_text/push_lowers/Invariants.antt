@@ -1,6 +1,6 @@
 use Rattle.std.proofs.Common.{◌≡◌, ◌++◌, map, take}
 use Rattle.std.specs.List.{flat_map}
-use Rattle.qc_session.specs.Classes.{told_cell}
+use Rattle.value_dict.specs.Told.{told_cell}
 use Rattle.qc_session.specs.Replies.{lower_text}
 use Rattle.qc_session.proofs.class_text.push_lowers.Given as goal
 

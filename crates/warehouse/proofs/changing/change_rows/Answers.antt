@@ -9,7 +9,8 @@ use Rattle.warehouse.specs.Batch as batches
 use Rattle.warehouse.specs.Batch.{first_number, full_dim, is_among, is_missing, is_present, or_else, rows_after, texts_after}
 use Rattle.warehouse.specs.State.{State}
 use Rattle.warehouse.specs.Steps.{IsOver, last_refusal}
-use Rattle.warehouse.specs.Stored.{AreCodes, decoded_rows, state_of}
+use Rattle.warehouse.specs.Stored.{decoded_rows, state_of}
+use Rattle.value_dict.specs.Told.{AreCodes}
 use Rattle.warehouse.proofs.Causes.{cause-missing, cause-present, cause-rows, count-decoded, first-cause, missing-decoded, passed, present-decoded, rows-decoded}
 use Rattle.warehouse.proofs.Texts.{full-none, longer-same}
 use Rattle.warehouse.proofs.changing.change_rows.Goals as goal

@@ -3,7 +3,7 @@ use Rattle.std.proofs.lemmas.List.Elements.{All-push}
 use Rattle.base_table.specs.Places.{row_of, rows_of}
 use Rattle.csv_load.specs.Batch.{change_at}
 use Rattle.cube_defs.specs.Rows.{Row}
-use Rattle.warehouse.specs.Stored.{AreCodes}
+use Rattle.value_dict.specs.Told.{AreCodes}
 use Rattle.warehouse.proofs.Growing.{known-longer, row-inserted}
 use Rattle.warehouse.proofs.changing.insert_row.Goals as goal
 

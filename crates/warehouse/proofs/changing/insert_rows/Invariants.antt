@@ -4,7 +4,8 @@ use Rattle.csv_load.specs.Batch.{inserted}
 use Rattle.value_dict.specs.TextLists.{IsDictionary}
 use Rattle.warehouse.specs.Batch.{texts_after}
 use Rattle.warehouse.specs.Steps.{AreLonger, frame}
-use Rattle.warehouse.specs.Stored.{RowsAreCodes, decoded_rows}
+use Rattle.warehouse.specs.Stored.{decoded_rows}
+use Rattle.value_dict.specs.Told.{RowsAreCodes}
 use Rattle.warehouse.proofs.changing.insert_rows.Given as goal
 
 abbrev pub invariant-changes : goal.invariant-changes
