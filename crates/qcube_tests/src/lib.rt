@@ -6,4 +6,8 @@ mod batches;
 #[cfg(test)]
 mod bounds;
 #[cfg(test)]
+mod many;
+#[cfg(test)]
 mod scripts;
+#[cfg(test)]
+mod worked;

@@ -1,7 +1,7 @@
 // What the tests share: values, and scripts with the transcripts that they are to have.
-ghost use Rattle.std.specs.Prelude.{None, ◌≡◌};
+ghost use Rattle.std.specs.Prelude.{None, ◌≡◌, ◌≤◌};
 
-use qc_io::{MemoryFiles, MemorySink};
+use qc_io::{MemoryFiles, MemorySink, SureFiles, SureSink};
 use qc_session::run;
 use std::alloc::{AllocError, Global};
 use std::process::Abort;
@@ -59,11 +59,13 @@ impl Written {
     }
 }
 
-// How a run ended, and what it wrote.
+/// How a run ended, what it wrote and what it told.
 #[derive(Drop)]
-struct Ran {
-    status: u8,
-    out: MemorySink,
+pub struct Ran {
+    pub status: u8,
+    pub skipped: usize,
+    pub out: MemorySink,
+    pub err: MemorySink,
 }
 
 fn words(alloc: Global) -> Result<Vec<String>, AllocError> {
@@ -74,15 +76,34 @@ fn words(alloc: Global) -> Result<Vec<String>, AllocError> {
     Ok(words)
 }
 
-fn run_over(alloc: Global, files: &mut MemoryFiles) -> Result<Ran, AllocError> {
+/// Runs over these files. The writes to out that are listed fail, and each takes at most so many bytes.
+pub fn run_over(
+    alloc: Global,
+    files: &mut MemoryFiles,
+    writes: &[u64],
+    piece: usize,
+) -> Result<Ran, AllocError>
+    requires { 1 ≤ piece }
+{
     let words = words(alloc)?;
-    let mut out = MemorySink::new(alloc, &[], 4096, 1_000_000)?;
-    let mut err = MemorySink::new(alloc, &[], 4096, 1000)?;
+    let mut out = MemorySink::new(alloc, writes, piece, 16_000_000)?;
+    let mut err = MemorySink::new(alloc, &[], piece, 1000)?;
     let outcome = run(alloc, &words, files, &mut out, &mut err);
     Ok(Ran {
         status: outcome.status,
+        skipped: outcome.skipped.len(),
         out,
+        err,
     })
+}
+
+/// Runs over files and sinks that never fail. Gives the status, and how many lines were skipped.
+pub fn run_surely(alloc: Global, files: &mut SureFiles) -> Result<(u8, usize), AllocError> {
+    let words = words(alloc)?;
+    let mut out = SureSink::new();
+    let mut err = SureSink::new();
+    let outcome = run(alloc, &words, files, &mut out, &mut err);
+    Ok((outcome.status, outcome.skipped.len()))
 }
 
 /// Over these files and a schema the script has just that transcript.
@@ -97,7 +118,7 @@ pub fn answers(
 {
     files.add("schema", schema)?;
     files.add("script", written.script.as_bytes())?;
-    let ran = run_over(alloc, files)?;
+    let ran = run_over(alloc, files, &[], 4096)?;
     assert_eq!(rt; ran.status, 0);
     assert_eq!(rt; ran.out.bytes(), written.transcript.as_bytes());
     Ok(())
