@@ -10,7 +10,7 @@ use Rattle.cube_defs.specs.Cell.{Cell, depth, with_value}
 use Rattle.cube_defs.specs.Rows.{Row, Agg}
 use Rattle.cube_defs.specs.Tree.{Edge, Tree, cell_at, cut_last, nodes}
 use Rattle.cube_laws.specs.Lists.{Among}
-use Rattle.cell_closure.proofs.Shared.{shared_some}
+use Rattle.cube_laws.proofs.Shared.{shared_some}
 use Rattle.build_trace.specs.Trace.{Act, Act.{Add, Label, Mark}, trace, adds_of}
 use Rattle.build_trace.specs.Follows.{Look, Follows, cell_by}
 use Rattle.qc_arena.specs.Map.{Arena, Known, bare, is_touched, with_class}

@@ -14,8 +14,8 @@ use Rattle.cube_laws.proofs.Closures.{is_class-is}
 use Rattle.cube_laws.proofs.Nodes.{is_node-is, class_fronts}
 use Rattle.tree_laws.proofs.Fronts.{depth-keep-le}
 use Rattle.tree_laws.proofs.Sums.{EachOnce}
-use Rattle.cell_closure.proofs.Shared.{IsShared, HaveDims, closure-shared}
-use Rattle.cell_closure.specs.Shared.{shared_by}
+use Rattle.cube_laws.proofs.Shared.{IsShared, HaveDims, closure-shared}
+use Rattle.cube_laws.specs.Parting.{shared_by}
 use Rattle.build_trace.specs.Trace.{Act.{Add}, acts, trace, read}
 use Rattle.build_trace.specs.Follows.{Follows}
 use Rattle.build_trace.proofs.Fronts.{zero_front}

@@ -7,9 +7,9 @@ use Rattle.cube_defs.specs.Tree.{nodes, covered}
 use Rattle.cube_laws.specs.Lists.{Among}
 use Rattle.cube_laws.proofs.Nodes.{nodes-is}
 use Rattle.tree_laws.proofs.Sums.{EachOnce, once_filter, covered_once, sum_ones, sum_same}
-use Rattle.cell_closure.proofs.Numbers.{nat_total, nat_anti}
-use Rattle.cell_closure.proofs.Shared.{IsShared, HaveDims}
-use Rattle.cell_closure.specs.Shared.{shared_by}
+use Rattle.cube_laws.proofs.Numbers.{nat_total, nat_anti}
+use Rattle.cube_laws.proofs.Shared.{IsShared, HaveDims}
+use Rattle.cube_laws.specs.Parting.{shared_by}
 use Rattle.build_trace.specs.Trace.{Act, Act.{Add, Label, Mark}, trace, adds_of}
 use Rattle.build_trace.proofs.Visits.{Visit.{Made}, visits_of, visit_add}
 use Rattle.build_trace.proofs.Labels.{same_test}

@@ -13,9 +13,9 @@ use Rattle.cube_laws.specs.Lists.{Among, Rises}
 use Rattle.cube_laws.proofs.Cells.{nat_equality, cell_eq-same}
 use Rattle.cube_laws.proofs.Lists.{all_map}
 use Rattle.tree_laws.specs.Edges.{edge_cmp}
-use Rattle.cell_closure.proofs.Numbers.{nat_total, nat_anti, less_below}
-use Rattle.cell_closure.proofs.Shared.{IsShared, HaveDims}
-use Rattle.cell_closure.specs.Shared.{shared_by}
+use Rattle.cube_laws.proofs.Numbers.{nat_total, nat_anti, less_below}
+use Rattle.cube_laws.proofs.Shared.{IsShared, HaveDims}
+use Rattle.cube_laws.specs.Parting.{shared_by}
 use Rattle.build_trace.specs.Trace.{Act, Act.{Add, Label}, trace, labels_of}
 use Rattle.build_trace.proofs.Lists.{among_left}
 use Rattle.build_trace.proofs.Links.{node_parts}

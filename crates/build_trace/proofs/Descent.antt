@@ -10,9 +10,9 @@ use Rattle.cube_laws.proofs.Covered.{closure_length, some_covered}
 use Rattle.tree_laws.proofs.Fronts.{keep-keep, depth-keep-le}
 use Rattle.tree_laws.proofs.Sums.{EachOnce}
 use Rattle.tree_laws.proofs.Lists.{some_same}
-use Rattle.cell_closure.proofs.Shared.{IsShared, HaveDims, entry, closure-shared}
-use Rattle.cell_closure.specs.Shared.{shared_by}
-use Rattle.build_trace.specs.Walk.{part_at, codes_in, same_front}
+use Rattle.cube_laws.proofs.Shared.{IsShared, HaveDims, entry, closure-shared}
+use Rattle.cube_laws.specs.Parting.{shared_by, part_at, codes_in}
+use Rattle.build_trace.specs.Walk.{same_front}
 use Rattle.build_trace.specs.Trace.{Act, Act.{Add, Label}, Put, part_acts, acts_at, acts, puts_of}
 use Rattle.build_trace.proofs.Lists.{below_or}
 use Rattle.build_trace.proofs.Fronts.{keep_next, keep_entry, leq_entry, covers_code, front_between, entry_keep}

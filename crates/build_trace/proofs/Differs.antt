@@ -2,7 +2,7 @@
 use Rattle.std.proofs.Common.{◌≡◌, ℕ, zero, suc, ◌<◌, Bool, true, false, Option, Some, None, length, nat_eq, refl, sym, ap, ◌∙◌, arith, true≢false}
 use Rattle.cube_defs.specs.Cell.{Cell, leq, keep, cell_eq}
 use Rattle.cube_laws.proofs.Cells.{nat_equality, cell_eq-exact, cell_eq-same}
-use Rattle.cell_closure.proofs.Shared.{entry}
+use Rattle.cube_laws.proofs.Shared.{entry}
 use Rattle.build_trace.proofs.Fronts.{keep_next, leq_entry, zero_front}
 
 -- the first dimension in which w has a value that u lacks

@@ -17,9 +17,9 @@ use Rattle.cube_laws.proofs.Cells.{nat_equality, cell_eq-same}
 use Rattle.cube_laws.proofs.Lists.{all_at, map_among, among_map}
 use Rattle.tree_laws.specs.Walk.{target_at}
 use Rattle.tree_laws.specs.Edges.{edge_cmp}
-use Rattle.cell_closure.proofs.Numbers.{nat_total}
-use Rattle.cell_closure.proofs.Shared.{IsShared, HaveDims}
-use Rattle.cell_closure.specs.Shared.{shared_by}
+use Rattle.cube_laws.proofs.Numbers.{nat_total}
+use Rattle.cube_laws.proofs.Shared.{IsShared, HaveDims}
+use Rattle.cube_laws.specs.Parting.{shared_by}
 use Rattle.build_trace.specs.Trace.{Act, Act.{Add, Label, Mark}, put_of, trace, puts_of, labels_of}
 use Rattle.build_trace.specs.Follows.{Look, Follows, cell_by}
 use Rattle.build_trace.specs.Ready.{HasPath}

@@ -7,8 +7,8 @@ use Rattle.cube_defs.specs.Rows.{Row, Agg}
 use Rattle.cube_laws.specs.Lists.{Among}
 use Rattle.cube_laws.proofs.Cells.{nat_equality, cell_eq-exact, keep-depth}
 use Rattle.tree_laws.proofs.Sums.{EachOnce}
-use Rattle.cell_closure.proofs.Shared.{IsShared, HaveDims, entry}
-use Rattle.cell_closure.specs.Shared.{shared_by}
+use Rattle.cube_laws.proofs.Shared.{IsShared, HaveDims, entry}
+use Rattle.cube_laws.specs.Parting.{shared_by}
 use Rattle.build_trace.specs.Trace.{Act, Act.{Add, Label, Mark}, acts, trace, puts_of, mark_by, mark_of}
 use Rattle.build_trace.specs.Ready.{HasPath, Ready}
 use Rattle.build_trace.proofs.Lists.{among_left, among_right}

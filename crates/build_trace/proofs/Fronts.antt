@@ -2,7 +2,7 @@
 use Rattle.std.proofs.Common.{◌≡◌, ◌⊎◌, inl, inr, ℕ, zero, suc, ◌<◌, ◌≤◌, true, Option, Some, None, List, [], ◌∷◌, length, nat_eq, slice_index_or, refl, sym, ap, ap₂, subst, ◌∙◌, arith, true≢false, eqb-true}
 use Rattle.std.proofs.lemmas.Bool.{and_parts}
 use Rattle.cube_defs.specs.Cell.{Cell, leq, entry_leq, keep, cell_of, depth, one_deeper}
-use Rattle.cell_closure.proofs.Shared.{entry}
+use Rattle.cube_laws.proofs.Shared.{entry}
 use Rattle.cube_laws.proofs.Cells.{nat_equality, depth-keep_zero, keep_mono, leq_antisymm}
 
 pub keep_next : (k : ℕ) (c d : Cell ℕ) → length c ≡ length d → keep k c ≡ keep k d → entry c k ≡ entry d k → keep (suc k) c ≡ keep (suc k) d

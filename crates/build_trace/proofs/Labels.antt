@@ -12,10 +12,8 @@ use Rattle.cube_laws.specs.Lists.{Among}
 use Rattle.cube_laws.specs.Tuples.{cells_of}
 use Rattle.cube_laws.proofs.Cells.{nat_equality, leq_trans, leq_refl}
 use Rattle.cube_laws.proofs.Lists.{all_map, all_from}
-use Rattle.cell_closure.proofs.Shared.{HaveDims, entry}
-use Rattle.cell_closure.specs.Parts.{code_in}
-use Rattle.cell_closure.specs.Shared.{shared_by}
-use Rattle.build_trace.specs.Walk.{part_at, codes_in}
+use Rattle.cube_laws.proofs.Shared.{HaveDims, entry}
+use Rattle.cube_laws.specs.Parting.{code_in, shared_by, part_at, codes_in}
 use Rattle.build_trace.proofs.Fronts.{covers_code}
 use Rattle.build_trace.proofs.Parting.{has_code, dims_filter, shared_among, code_among}
 use Rattle.build_trace.proofs.Links.{filter_pair, long}

@@ -12,9 +12,8 @@ use Rattle.cube_laws.proofs.Covered.{closure_length}
 use Rattle.cube_laws.proofs.Closures.{closure_some, closure_mono, closure_idem, cov-closure}
 use Rattle.cube_laws.proofs.Nodes.{is_node-is}
 use Rattle.tree_laws.proofs.Fronts.{keep-keep}
-use Rattle.cell_closure.proofs.Shared.{IsShared, HaveDims, entry, closure-shared}
-use Rattle.cell_closure.specs.Parts.{code_in}
-use Rattle.build_trace.specs.Walk.{part_at}
+use Rattle.cube_laws.proofs.Shared.{IsShared, HaveDims, entry, closure-shared}
+use Rattle.cube_laws.specs.Parting.{code_in, part_at}
 use Rattle.build_trace.proofs.Fronts.{covers_code, entry_keep}
 use Rattle.build_trace.proofs.Parting.{has_code, dims_filter, closure-part, part_entry, shared_part}
 

@@ -11,11 +11,9 @@ use Rattle.cube_laws.proofs.Cells.{nat_equality, leq_trans}
 use Rattle.cube_laws.proofs.Closures.{all_cells, closure-cells, meet_all_above, meet_all_below}
 use Rattle.cube_laws.proofs.Columns.{closure-entry}
 use Rattle.tree_laws.proofs.Sums.{EachOnce, rises_once}
-use Rattle.cell_closure.specs.Parts.{code_in}
-use Rattle.cell_closure.specs.Shared.{shared_by}
-use Rattle.cell_closure.proofs.Numbers.{nat_total, nat_anti}
-use Rattle.cell_closure.proofs.Shared.{IsShared, HaveDims, entry, got_entry, shared_covers}
-use Rattle.build_trace.specs.Walk.{part_at, codes_in}
+use Rattle.cube_laws.specs.Parting.{code_in, shared_by, part_at, codes_in}
+use Rattle.cube_laws.proofs.Numbers.{nat_total, nat_anti}
+use Rattle.cube_laws.proofs.Shared.{IsShared, HaveDims, entry, got_entry, shared_covers}
 use Rattle.build_trace.proofs.Fronts.{covers_code}
 
 abbrev pub has_code : ℕ → ℕ → Row ℕ → Bool

@@ -11,9 +11,9 @@ use Rattle.cube_laws.proofs.Covered.{closure_length}
 use Rattle.cube_laws.proofs.Closures.{is_class-is}
 use Rattle.cube_laws.proofs.Nodes.{class_fronts}
 use Rattle.tree_laws.proofs.Fronts.{keep-keep}
-use Rattle.cell_closure.proofs.Shared.{IsShared, HaveDims, entry, closure-shared}
-use Rattle.cell_closure.specs.Shared.{shared_by}
-use Rattle.build_trace.specs.Walk.{part_at, codes_in, same_front}
+use Rattle.cube_laws.proofs.Shared.{IsShared, HaveDims, entry, closure-shared}
+use Rattle.cube_laws.specs.Parting.{shared_by, part_at, codes_in}
+use Rattle.build_trace.specs.Walk.{same_front}
 use Rattle.build_trace.specs.Trace.{Act, Act.{Add, Label, Mark}, part_acts, acts_at, acts, trace}
 use Rattle.build_trace.specs.Ready.{There, HasPath, IsNew, Ok, Ready}
 use Rattle.build_trace.proofs.Lists.{among_left, among_right, among_either, among_flat, flat_among, below_or}

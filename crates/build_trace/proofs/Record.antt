@@ -13,8 +13,8 @@ use Rattle.cube_laws.proofs.Cells.{nat_equality, cell_eq-exact, cell_eq-same, ke
 use Rattle.cube_laws.proofs.Lists.{all_map, all_at, filter_all}
 use Rattle.cube_laws.proofs.Covered.{closure_length}
 use Rattle.tree_laws.proofs.Lists.{some_same}
-use Rattle.cell_closure.proofs.Shared.{IsShared, HaveDims, entry, closure-shared, shared_covers}
-use Rattle.cell_closure.specs.Shared.{shared_by}
+use Rattle.cube_laws.proofs.Shared.{IsShared, HaveDims, entry, closure-shared, shared_covers}
+use Rattle.cube_laws.specs.Parting.{shared_by}
 use Rattle.build_trace.specs.Trace.{Act, Act.{Add, Label, Mark}, Put, acts, trace, puts_of, labels_of, forced_by, forced_in, mark_by, mark_of, read}
 use Rattle.build_trace.proofs.Fronts.{zero_front, keep_still}
 use Rattle.build_trace.proofs.Visits.{Visit.{Marked}, visits_of, acts_visits}

@@ -9,9 +9,9 @@ use Rattle.cube_laws.proofs.Lists.{all_map, all_at}
 use Rattle.cube_laws.proofs.Covered.{closure_length, some_covered}
 use Rattle.tree_laws.proofs.Fronts.{keep-keep, depth-keep-le}
 use Rattle.tree_laws.proofs.Sums.{EachOnce}
-use Rattle.cell_closure.proofs.Shared.{IsShared, HaveDims, entry, cov-shared, closure-shared}
-use Rattle.cell_closure.specs.Shared.{shared_by}
-use Rattle.build_trace.specs.Walk.{part_at, codes_in, same_front}
+use Rattle.cube_laws.proofs.Shared.{IsShared, HaveDims, entry, cov-shared, closure-shared}
+use Rattle.cube_laws.specs.Parting.{shared_by, part_at, codes_in}
+use Rattle.build_trace.specs.Walk.{same_front}
 use Rattle.build_trace.proofs.Lists.{among_left, among_right, all_append, once_append, all_flat, among_flat, once_flat}
 use Rattle.build_trace.proofs.Fronts.{keep_next, keep_back, keep_entry, keep_all, leq_entry, covers_code, front_between, entry_keep, depth_keep, last_entry, deeper_or}
 use Rattle.build_trace.proofs.Parting.{has_code, dims_filter, cov-part, closure-part, part_entry, shared_below, shared_part, shared_among, closure_low, among_codes, code_among, once_codes}

@@ -6,9 +6,9 @@ use Rattle.std.proofs.Common.{◌≡◌, ℕ, zero, suc, Bool, true, false, cond
 use Rattle.cube_defs.specs.Cell.{Cell, keep}
 use Rattle.cube_defs.specs.Rows.{Row, Agg}
 use Rattle.cube_laws.specs.Lists.{Among}
-use Rattle.cell_closure.proofs.Shared.{entry}
-use Rattle.cell_closure.specs.Shared.{shared_by}
-use Rattle.build_trace.specs.Walk.{part_at, codes_in, same_front}
+use Rattle.cube_laws.proofs.Shared.{entry}
+use Rattle.cube_laws.specs.Parting.{shared_by, part_at, codes_in}
+use Rattle.build_trace.specs.Walk.{same_front}
 use Rattle.build_trace.specs.Trace.{Act, Act.{Add, Label, Mark}, part_acts, acts_at, acts}
 
 pub data Visit : Type 0 where

@@ -4,8 +4,8 @@ use Rattle.std.specs.List.{AllByRecursion}
 use Rattle.cube_defs.specs.Cell.{Cell, keep}
 use Rattle.cube_defs.specs.Rows.{Row}
 use Rattle.cube_defs.specs.Tree.{Edge, Node, renamed_edge}
-use Rattle.cell_closure.specs.Shared.{shared_by}
-use Rattle.cell_closure.proofs.Shared.{IsShared, HaveDims}
+use Rattle.cube_laws.specs.Parting.{shared_by}
+use Rattle.cube_laws.proofs.Shared.{IsShared, HaveDims}
 use Rattle.build_trace.specs.Trace.{Act, Act.{Label}, trace, labels_of}
 use Rattle.build_trace.specs.Follows.{Look, Follows, cell_by}
 use Rattle.build_trace.specs.Ready.{HasPath}

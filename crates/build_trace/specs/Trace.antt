@@ -4,8 +4,8 @@ use Rattle.std.specs.Ordering.{nat_cmp}
 use Rattle.cube_defs.specs.Cell.{Cell, keep, cell_eq}
 use Rattle.cube_defs.specs.Rows.{Row, Agg, agg_of}
 use Rattle.cube_defs.specs.Tree.{Edge, Node, cut_last}
-use Rattle.cell_closure.specs.Shared.{shared_by}
-use Rattle.build_trace.specs.Walk.{part_at, codes_in, same_front}
+use Rattle.cube_laws.specs.Parting.{shared_by, part_at, codes_in}
+use Rattle.build_trace.specs.Walk.{same_front}
 
 -- a node is added; a label of a node is set, first whether to its forced child, then the node, the dimension, the value and the target; a class is marked
 pub data Act : Type 0 where

@@ -9,8 +9,8 @@ use Rattle.cube_defs.specs.Rows.{meet_all}
 use Rattle.base_table.specs.Places.{Places, IsTable, named}
 use Rattle.base_table.specs.declared.table.RowNo.{RowNo}
 use Rattle.cell_closure.specs.Parts.{code_at}
-use Rattle.cell_closure.specs.Shared.{shared_by}
-use Rattle.cell_closure.proofs.Shared.{IsShared, entry, shared_some, shared-entry, length-shared, same_entries}
+use Rattle.cube_laws.specs.Parting.{shared_by}
+use Rattle.cube_laws.proofs.Shared.{IsShared, entry, shared_some, shared-entry, length-shared, same_entries}
 use Rattle.cell_closure.proofs.Rows.{There, length-named, named_dims, all_same, same_all}
 
 lt_or_same : (j k : ℕ) → j < k + 1 → (j < k) ⊎ (j ≡ k)

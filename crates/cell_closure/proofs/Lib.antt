@@ -1,5 +1,3 @@
-pub mod Numbers
-pub mod Shared
 pub mod Rows
 pub mod Closing
 mod Runs

@@ -10,8 +10,9 @@ use Rattle.cube_laws.specs.Lists.{Among}
 use Rattle.cube_laws.proofs.Lists.{all_at, among_filter_map}
 use Rattle.base_table.specs.Places.{Places, AreThere, IsRow, IsTable, named, row_at, rows_of}
 use Rattle.base_table.specs.declared.table.RowNo.{RowNo}
-use Rattle.cell_closure.specs.Parts.{code_in, code_of, code_at}
-use Rattle.cell_closure.proofs.Shared.{HaveDims, entry, cell-entry}
+use Rattle.cube_laws.specs.Parting.{code_in}
+use Rattle.cell_closure.specs.Parts.{code_of, code_at}
+use Rattle.cube_laws.proofs.Shared.{HaveDims, entry, cell-entry}
 
 pub all_recursion : {X : Type 0} (P : X → Type 0) (xs : List X) → ((k : ℕ) (d : X) → k < length xs → P (get_or xs k d)) → AllByRecursion P xs
 all_recursion P [] h = tt

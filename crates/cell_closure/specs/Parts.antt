@@ -1,8 +1,9 @@
 -- Rows parted by their codes in a dimension.
-use Rattle.std.specs.Prelude.{ℕ, ◌==◌, List, [], map, filter, Option, Some, None, slice_index_or}
+use Rattle.std.specs.Prelude.{ℕ, ◌==◌, List, [], map, filter, Option, Some, None}
 use Rattle.std.specs.Ordering.{nat_cmp}
 use Rattle.cube_defs.specs.Rows.{Row}
 use Rattle.cube_defs.specs.Tree.{distinct}
+use Rattle.cube_laws.specs.Parting.{code_in}
 use Rattle.base_table.specs.Places.{Places, row_at}
 use Rattle.base_table.specs.declared.table.RowNo.{RowNo}
 
@@ -15,11 +16,7 @@ pub record PartOf : Type 0 where
 abbrev pub no_part : PartOf
 no_part = record { code = 0; rows = [] }
 
--- the row's code in dimension k
-abbrev pub code_in : ℕ → Row ℕ → ℕ
-code_in k row = slice_index_or row.tuple k 0
-
--- the same, and 0 where there is no row
+-- the row's code in dimension k, and 0 where there is no row
 abbrev pub code_of : ℕ → Option (Row ℕ) → ℕ
 code_of k None = 0
 code_of k (Some row) = code_in k row

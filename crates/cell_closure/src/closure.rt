@@ -6,7 +6,7 @@ ghost use Rattle.cube_defs.specs.Rows.{meet_all};
 ghost use Rattle.cell_core.specs.Entry.{IsSmall, value_in};
 ghost use Rattle.base_table.specs.Places.{AreThere, IsTable, named};
 ghost use Rattle.cell_closure.specs.Parts.{code_at};
-ghost use Rattle.cell_closure.specs.Shared.{shared_by};
+ghost use Rattle.cube_laws.specs.Parting.{shared_by};
 
 use base_table::{RowNo, Table};
 use cell_core::{Cell, Code, Entry};

@@ -2,7 +2,7 @@
 use Rattle.std.proofs.Common.{◌≡◌, ℕ, zero, suc, ◌<◌, ◌≤◌, Some, [], ◌∷◌, length, refl, sym, ap, ◌∙◌, arith}
 use Rattle.cube_defs.specs.Cell.{Cell, keep, with_value}
 use Rattle.tree_laws.proofs.Fronts.{keep-keep}
-use Rattle.cell_closure.proofs.Shared.{entry}
+use Rattle.cube_laws.proofs.Shared.{entry}
 use Rattle.build_trace.proofs.Fronts.{keep_next, zero_front}
 
 -- cells with the same entries before a dimension

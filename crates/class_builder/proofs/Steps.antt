@@ -13,13 +13,13 @@ use Rattle.cube_laws.proofs.Lists.{all_at, all_map, to_filter, filter-le}
 use Rattle.cube_laws.proofs.Cells.{nat_equality, cell_eq-exact}
 use Rattle.base_table.specs.Places.{Places, IsRow, IsTable, named, row_at}
 use Rattle.base_table.specs.declared.table.RowNo.{RowNo}
-use Rattle.cell_closure.specs.Parts.{no_part, code_in, code_at, with_code, parted}
-use Rattle.cell_closure.specs.Shared.{shared_by}
-use Rattle.cell_closure.proofs.Shared.{IsShared, HaveDims, closure-shared, entry, shared_covers}
+use Rattle.cube_laws.specs.Parting.{code_in, shared_by, part_at, codes_in}
+use Rattle.cell_closure.specs.Parts.{no_part, code_at, with_code, parted}
+use Rattle.cube_laws.proofs.Shared.{IsShared, HaveDims, closure-shared, entry, shared_covers}
 use Rattle.cell_closure.proofs.Rows.{There, length-named, codes_named, named-filter, named_dims, is_row}
 use Rattle.cell_closure.proofs.Stable.{length-mapped}
 use Rattle.build_trace.specs.Trace.{Act, Act.{Add, Label, Mark}, acts, acts_at, part_acts}
-use Rattle.build_trace.specs.Walk.{part_at, codes_in, same_front}
+use Rattle.build_trace.specs.Walk.{same_front}
 use Rattle.class_builder.specs.Walk.{acts_from, front_acts}
 use Rattle.build_trace.proofs.Parting.{has_code, part_entry, shared_among, code_among}
 use Rattle.class_builder.proofs.Uppers.{AreCovered}

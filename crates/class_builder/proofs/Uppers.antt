@@ -8,7 +8,7 @@ use Rattle.cube_laws.specs.Tuples.{cells_of}
 use Rattle.cube_laws.proofs.Cells.{nat_equality, cell_eq-exact, cell_eq-same}
 use Rattle.cube_laws.proofs.Closures.{all_cells, meet_all_above}
 use Rattle.tree_laws.proofs.Fronts.{keep-keep}
-use Rattle.cell_closure.proofs.Shared.{IsShared, entry}
+use Rattle.cube_laws.proofs.Shared.{IsShared, entry}
 use Rattle.build_trace.specs.Walk.{same_front}
 use Rattle.build_trace.proofs.Fronts.{leq_entry}
 use Rattle.class_builder.proofs.Fronts.{front_from_points, front_less, front_points}

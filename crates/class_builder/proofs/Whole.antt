@@ -9,9 +9,9 @@ use Rattle.cube_laws.proofs.Cells.{keep_zero}
 use Rattle.cube_laws.proofs.Lists.{all_map}
 use Rattle.base_table.specs.Places.{IsRow, IsTable, Places, named, rows_of}
 use Rattle.base_table.specs.declared.table.RowNo.{RowNo}
-use Rattle.cell_closure.specs.Shared.{shared_by}
+use Rattle.cube_laws.specs.Parting.{shared_by}
 use Rattle.cell_closure.proofs.Rows.{There, length-named, all_recursion}
-use Rattle.cell_closure.proofs.Shared.{HaveDims, length-shared, shared_some}
+use Rattle.cube_laws.proofs.Shared.{HaveDims, length-shared, shared_some}
 use Rattle.qc_arena.specs.Map.{Arena}
 use Rattle.build_trace.specs.Trace.{Act, Act.{Add}, acts, trace, adds_of}
 use Rattle.build_trace.specs.Follows.{Follows}

@@ -8,7 +8,7 @@ ghost use Rattle.cube_defs.specs.Cell.{keep};
 ghost use Rattle.cube_defs.specs.Rows.{Row, covers};
 ghost use Rattle.cube_defs.specs.Tree.{nodes};
 ghost use Rattle.base_table.specs.Places.{AreThere, IsTable, named, rows_of};
-ghost use Rattle.cell_closure.specs.Shared.{shared_by};
+ghost use Rattle.cube_laws.specs.Parting.{shared_by};
 ghost use Rattle.build_trace.specs.Trace.{Act.{Label}};
 ghost use Rattle.build_trace.specs.Walk.{same_front};
 ghost use Rattle.qc_arena.specs.Map.{is_touched};

@@ -4,7 +4,7 @@ ghost use Rattle.std.specs.Ordering.{nat_cmp};
 ghost use Rattle.std.specs.Prelude.{Err, OnOk, length, true, ℕ, ◌<◌, ◌≡◌, ◌≤◌};
 ghost use Rattle.cube_defs.specs.Tree.{IsCanonical, nodes};
 ghost use Rattle.base_table.specs.Places.{AreThere, IsTable, named, rows_of};
-ghost use Rattle.cell_closure.specs.Shared.{shared_by};
+ghost use Rattle.cube_laws.specs.Parting.{shared_by};
 ghost use Rattle.qc_arena.specs.Map.{was_at};
 ghost use Rattle.class_builder.specs.Walk.{StaysOpen};
 

@@ -5,7 +5,7 @@ ghost use Rattle.cube_defs.specs.Cell.{keep};
 ghost use Rattle.cube_defs.specs.Rows.{covers};
 ghost use Rattle.cell_core.specs.Entry.{IsSmall, value_in};
 ghost use Rattle.base_table.specs.Places.{AreThere, IsTable, named};
-ghost use Rattle.cell_closure.specs.Shared.{shared_by};
+ghost use Rattle.cube_laws.specs.Parting.{shared_by};
 ghost use Rattle.build_trace.specs.Walk.{same_front};
 
 use base_table::{RowNo, Table};

@@ -6,7 +6,7 @@ ghost use Rattle.std.specs.List.{AllByRecursion};
 ghost use Rattle.cube_defs.specs.Rows.{covers};
 ghost use Rattle.cube_defs.specs.Tree.{nodes};
 ghost use Rattle.base_table.specs.Places.{AreThere, IsTable, named, rows_of};
-ghost use Rattle.cell_closure.specs.Shared.{shared_by};
+ghost use Rattle.cube_laws.specs.Parting.{shared_by};
 ghost use Rattle.build_trace.specs.Trace.{acts_at, part_acts};
 ghost use Rattle.build_acts.specs.Going.{Does, IsNext};
 ghost use Rattle.class_builder.specs.Walk.{IsOnPath, StaysOpen, acts_from};

@@ -1,4 +1,5 @@
 pub mod Lists
+pub mod Numbers
 pub mod Distinct
 pub mod Orders
 pub mod Cells
@@ -6,6 +7,7 @@ pub mod Closures
 pub mod Columns
 pub mod Bounds
 pub mod Covered
+pub mod Shared
 pub mod Nodes
 pub mod Listed
 pub mod SameRows

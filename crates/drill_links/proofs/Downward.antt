@@ -8,7 +8,7 @@ use Rattle.cube_defs.specs.Cell.{Cell, keep}
 use Rattle.cube_defs.specs.Tree.{Tree, cell_at}
 use Rattle.tree_laws.specs.Walk.{target_at}
 use Rattle.tree_laws.proofs.Fronts.{keep-keep}
-use Rattle.cell_closure.proofs.Shared.{shared_some}
+use Rattle.cube_laws.proofs.Shared.{shared_some}
 use Rattle.build_trace.proofs.Fronts.{entry_keep, keep_still}
 use Rattle.build_trace.proofs.Wanted.{go_down}
 use Rattle.qc_arena.specs.Map.{Arena, Known}

@@ -4,10 +4,10 @@ use Rattle.cube_laws.proofs.Cells.{nat_equality, cell_eq-exact}
 use Rattle.base_table.specs.Places.{named, rows_of}
 use Rattle.build_trace.specs.Ready.{HasPath}
 use Rattle.build_trace.specs.Trace.{Act.{Label}}
-use Rattle.cell_closure.specs.Shared.{shared_by}
+use Rattle.cube_laws.specs.Parting.{shared_by}
 use Rattle.class_builder.proofs.Building.{on_path}
 use Rattle.build_trace.proofs.Wanted.{link_ready}
-use Rattle.cell_closure.proofs.Shared.{shared_some}
+use Rattle.cube_laws.proofs.Shared.{shared_some}
 use Rattle.class_builder.proofs.Uppers.{differs_behind, front_apart}
 use Rattle.class_builder.proofs.Fronts.{front_less}
 use Rattle.class_builder.proofs.labels.link_part.Goals as goal

@@ -1,5 +1,5 @@
 use Rattle.std.proofs.Common.{◌∙◌, sym, ap, suc, arith}
-use Rattle.cell_closure.proofs.Shared.{entry}
+use Rattle.cube_laws.proofs.Shared.{entry}
 use Rattle.cell_closure.proofs.Rows.{there}
 use Rattle.cell_closure.proofs.Closing.{shared_long}
 use Rattle.class_builder.proofs.Fronts.{front_from_points}

@@ -1,7 +1,7 @@
 use Rattle.std.proofs.Common.{◌≡◌, ◌≤◌, ◌∙◌, sym, ap, get_or, is_some, true, Some, arith}
 use Rattle.base_table.specs.Places.{row_at}
 use Rattle.cell_closure.specs.Parts.{code_at}
-use Rattle.cell_closure.proofs.Shared.{entry}
+use Rattle.cube_laws.proofs.Shared.{entry}
 use Rattle.cell_closure.proofs.Rows.{there, code_is}
 use Rattle.cell_closure.proofs.Closing.{zeroth, first_share, closing_step, closing_end}
 use Rattle.class_builder.proofs.Uppers.{front_at}

@@ -4,8 +4,8 @@ use Rattle.cube_defs.specs.Cell.{keep}
 use Rattle.cube_laws.proofs.Cells.{nat_equality, cell_eq-exact}
 use Rattle.base_table.specs.Places.{named, row_at, rows_of}
 use Rattle.cell_closure.specs.Parts.{no_part, parted}
-use Rattle.cell_closure.specs.Shared.{shared_by}
-use Rattle.cell_closure.proofs.Shared.{entry}
+use Rattle.cube_laws.specs.Parting.{shared_by}
+use Rattle.cube_laws.proofs.Shared.{entry}
 use Rattle.cell_closure.proofs.Rows.{There, there, recursion_all}
 use Rattle.cell_closure.proofs.Closing.{shared_there, shared_long}
 use Rattle.build_trace.specs.Trace.{Act.{Mark}, acts_at, part_acts}

@@ -9,7 +9,7 @@ use Rattle.cube_laws.proofs.Cells.{nat_equality}
 use Rattle.cube_laws.proofs.Closures.{all_cells, meet_all_below}
 use Rattle.cube_laws.proofs.Columns.{closure-entry}
 use Rattle.cube_laws.proofs.Covered.{closure_length}
-use Rattle.cell_closure.specs.Shared.{shared_by}
+use Rattle.cube_laws.specs.Parting.{shared_by}
 
 -- u is what the rows share
 abbrev pub IsShared : List (Row ℕ) → Cell ℕ → Type 0
