@@ -113,6 +113,11 @@ impl Table {
         self.store.measures()
     }
 
+    /// Says what is true of every table. It does nothing.
+    pub fn is_valid(&self)
+        ensures { IsTable self.now }
+    {}
+
     /// How many rows there are.
     pub fn count(&self) -> u32
         ensures value { result ≡ length (rows_of self.now) }
