@@ -116,7 +116,9 @@ impl Table {
     /// Says what is true of every table. It does nothing.
     pub fn is_valid(&self)
         ensures { IsTable self.now }
-    {}
+    {
+        let _read = self.max;
+    }
 
     /// How many rows there are.
     pub fn count(&self) -> u32
