@@ -4,7 +4,7 @@ use Rattle.std.proofs.Math.Pow.{pow_mono}
 use Rattle.std.proofs.lemmas.Nat.{pow_pos}
 use Rattle.std.proofs.Math.Nat.{le-mul_of_pos_right, mul-le-mul_right}
 use Rattle.cube_defs.specs.Cell.{Cell}
-use Rattle.lower_bounds.specs.Numbers.{values}
+use Rattle.cells_below.specs.Numbers.{values}
 
 -- a cell has no more values than dimensions
 pub few_values : (u : Cell ℕ) → values u ≤ length u

@@ -20,6 +20,7 @@ pub mod Recoded
 pub mod RecodedCounts
 pub mod Climbs
 pub mod LowerBounds
+pub mod LowersRecoded
 pub mod Existence
 pub mod MoreCounts
 pub mod TreeEdges

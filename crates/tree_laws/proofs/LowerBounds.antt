@@ -49,7 +49,7 @@ module _ {X Y : Type 0} (f : X → Y) where
 
 module _ {A : Type 0} {cmp : A → A → Ordering} (total : IsTotalOrder cmp) where
   -- the cells below a cell stand in order
-  below_rises : (u : Cell A) → Rises (cell_cmp cmp) (below u)
+  pub below_rises : (u : Cell A) → Rises (cell_cmp cmp) (below u)
   below_rises [] = (tt, tt)
   below_rises (None ∷ u) = rises_map (λ c. None ∷ c) (cell_cmp cmp) (cell_cmp cmp) (below u) (λ x y h. h) (below_rises u)
   below_rises (Some v ∷ u) =

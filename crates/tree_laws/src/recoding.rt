@@ -1,12 +1,14 @@
 //! Other values for the values of each dimension, as codes for texts: the tree over the codes is the
 //! tree over the values, if no two known values of a dimension have one code. All of it is this
 //! project's own.
+ghost use Rattle.std.specs.List.{AllByRecursion};
 ghost use Rattle.std.specs.Ordering.{eq_by_cmp};
 ghost use Rattle.std.specs.Prelude.{Bool, IsTrue, List, Some, length, map, ℕ, ◌≡◌};
+ghost use Rattle.cube_defs.specs.Answers.{lower_bounds};
 ghost use Rattle.cube_defs.specs.Cell.{Cell};
 ghost use Rattle.cube_defs.specs.Rows.{Row, is_node};
 ghost use Rattle.cube_defs.specs.Tree.{Node, classes, links, node_of, nodes, tree_edges};
-ghost use Rattle.cube_laws.specs.Recoding.{RowsAreKnown, TellsApart, coded, coded_row};
+ghost use Rattle.cube_laws.specs.Recoding.{AreKnown, RowsAreKnown, TellsApart, coded, coded_row};
 ghost use Rattle.tree_laws.specs.Edges.{IsCodedNode};
 
 use cube_laws::values::Value;
@@ -35,4 +37,14 @@ pub fn counts_under_recoding<A: Value, B: Value>()
     ensures links { (known : ℕ → A → Bool) (codes : ℕ → A → B) → TellsApart known codes →
         (rows : List (Row A)) → RowsAreKnown known rows →
         links B.cmp (map (coded_row codes) rows) ≡ links A.cmp rows }
+{}
+
+/// The lower bounds of a coded class are the codes of its lower bounds, in the same order, since each
+/// has the class's values alone.
+pub fn lower_bounds_under_recoding<A: Value, B: Value>()
+    ensures { (known : ℕ → A → Bool) (codes : ℕ → A → B) → TellsApart known codes →
+        (dims : ℕ) (rows : List (Row A)) (u : Cell A) → RowsAreKnown known rows →
+        AllByRecursion (λ row. length row.tuple ≡ dims) rows → AreKnown known 0 u → length u ≡ dims →
+        lower_bounds B.cmp (map (coded_row codes) rows) (coded codes 0 u)
+        ≡ map (coded codes 0) (lower_bounds A.cmp rows u) }
 {}

@@ -9,6 +9,3 @@ mod totals;
 pub use climb::upper_into;
 pub use search::{find, step};
 pub use totals::total_at;
-
-#[cfg(test)]
-mod tests;

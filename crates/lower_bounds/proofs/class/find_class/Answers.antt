@@ -1,5 +1,5 @@
 use Rattle.std.proofs.Common.{◌≡◌, ◌+◌, ◌*◌, ◌^◌, ◌≤◌, ◌∙◌, arith, length}
-use Rattle.lower_bounds.specs.Numbers.{values}
+use Rattle.cells_below.specs.Numbers.{values}
 use Rattle.lower_bounds.proofs.Counted.{few_values, steps_in_all}
 use Rattle.lower_bounds.proofs.ClassFound.{class-there, some-total}
 use Rattle.lower_bounds.proofs.class.find_class.Goals as goal

@@ -1,0 +1,95 @@
+-- The cells of numbers are the cells below a cell, in order.
+use Rattle.std.proofs.Common.{◌≡◌, ℕ, suc, ◌+◌, ◌-◌, ◌*◌, ◌^◌, ◌<◌, ◌≤◌, pow-suc, Bool, true, false, Option, Some, None, [], ◌∷◌, ◌++◌, map, length, refl, sym, ap, ap₂, ◌∙◌, arith, true≢false}
+use Rattle.std.specs.Prelude.{if◌then◌else◌, nat_eq}
+use Rattle.std.proofs.lemmas.Bool.{and_from}
+use Rattle.std.specs.Int.{bit_at}
+use Rattle.std.specs.List.{range_with_len}
+use Rattle.std.proofs.lemmas.Nat.Bits.{bit_at_above, bit_at_cat_low, bit_at_cat_high, bit_at_lowest}
+use Rattle.cube_defs.specs.Cell.{Cell, leq, entry_leq}
+use Rattle.cube_laws.proofs.Cells.{IsEquality}
+use Rattle.cube_laws.proofs.Lists.{map_same}
+use Rattle.tree_laws.specs.Below.{below}
+use Rattle.cells_below.specs.Numbers.{cell_of_number, has_bit, values}
+use Rattle.cells_below.proofs.Ranges.{range-append, range-shift, map-map, map-append, map_range}
+
+pub none_kept : {A : Type 0} (b : Bool) → ◌≡◌ {A = Option A} (if b then None else None) None
+none_kept true = refl
+none_kept false = refl
+
+pub values-le : {A : Type 0} (u : Cell A) → values u ≤ length u
+values-le [] = omega arith
+values-le (None ∷ u) = let l = values-le u in omega arith
+values-le (Some v ∷ u) = let l = values-le u in omega arith
+
+pub length-cell : {A : Type 0} (u : Cell A) (m : ℕ) → length (cell_of_number u m) ≡ length u
+length-cell [] m = refl
+length-cell (e ∷ u) m = ap suc (length-cell u m)
+
+low_bits : (d m k : ℕ) → k < d → has_bit (2 ^ d + m) k ≡ has_bit m k
+low_bits d m k l = let e : 2 ^ d + m ≡ 1 * 2 ^ d + m = omega arith in ap (λ b. nat_eq b 1) (ap (λ n. bit_at n k) e ∙ bit_at_cat_low 1 d m k l)
+
+high_bit : (d m : ℕ) → m < 2 ^ d → has_bit (2 ^ d + m) d ≡ true
+high_bit d m l =
+    let e : 2 ^ d + m ≡ 1 * 2 ^ d + m = omega arith in
+    let f : d - d ≡ 0 = omega arith in
+    ap (λ b. nat_eq b 1) (ap (λ n. bit_at n d) e ∙ bit_at_cat_high 1 d m d l (omega arith) ∙ ap (bit_at 1) f ∙ bit_at_lowest 1)
+
+no_bit : (d m : ℕ) → m < 2 ^ d → has_bit m d ≡ false
+no_bit d m l = ap (λ b. nat_eq b 1) (bit_at_above m d d l (omega arith))
+
+module _ {A : Type 0} where
+  -- the bits of the values alone count
+  pub same_cell : (u : Cell A) (m n : ℕ) → ((k : ℕ) → k < values u → has_bit m k ≡ has_bit n k) → cell_of_number u m ≡ cell_of_number u n
+  same_cell [] m n h = refl
+  same_cell (None ∷ u) m n h = ap₂ (λ e c. e ∷ c) (none_kept (has_bit m (values u)) ∙ sym (none_kept (has_bit n (values u)))) (same_cell u m n h)
+  same_cell (Some v ∷ u) m n h = ap₂ (λ e c. e ∷ c) (ap (λ b. if b then Some v else None) (h (values u) (omega arith))) (same_cell u m n (λ k l. h k (omega arith)))
+
+  low : (v : A) (u : Cell A) → map (cell_of_number (Some v ∷ u)) (range_with_len 0 (2 ^ values u)) ≡ map (λ c. None ∷ c) (map (cell_of_number u) (range_with_len 0 (2 ^ values u)))
+  low v u =
+      map_range (cell_of_number (Some v ∷ u)) (λ m. None ∷ cell_of_number u m) 0 (2 ^ values u) (λ m l k. ap (λ b. (if b then Some v else None) ∷ cell_of_number u m) (no_bit (values u) m (omega arith)))
+      ∙ sym (map-map (λ c. None ∷ c) (cell_of_number u) (range_with_len 0 (2 ^ values u)))
+
+  high : (v : A) (u : Cell A) → map (cell_of_number (Some v ∷ u)) (range_with_len (0 + 2 ^ values u) (2 ^ values u)) ≡ map (λ c. Some v ∷ c) (map (cell_of_number u) (range_with_len 0 (2 ^ values u)))
+  high v u =
+      let e : 0 + 2 ^ values u ≡ 2 ^ values u + 0 = omega arith in
+      ap (λ a. map (cell_of_number (Some v ∷ u)) (range_with_len a (2 ^ values u))) e
+      ∙ ap (map (cell_of_number (Some v ∷ u))) (range-shift (2 ^ values u) 0 (2 ^ values u))
+      ∙ map-map (cell_of_number (Some v ∷ u)) (λ m. 2 ^ values u + m) (range_with_len 0 (2 ^ values u))
+      ∙ map_range (λ m. cell_of_number (Some v ∷ u) (2 ^ values u + m)) (λ m. Some v ∷ cell_of_number u m) 0 (2 ^ values u)
+      (λ m l k. ap₂ (λ b c. (if b then Some v else None) ∷ c) (high_bit (values u) m (omega arith)) (same_cell u (2 ^ values u + m) m (λ j q. low_bits (values u) m j q)))
+      ∙ sym (map-map (λ c. Some v ∷ c) (cell_of_number u) (range_with_len 0 (2 ^ values u)))
+
+  -- the cells of all numbers are the cells below, in their order
+  pub cells_below : (u : Cell A) → map (cell_of_number u) (range_with_len 0 (2 ^ values u)) ≡ below u
+  cells_below [] = refl
+  cells_below (None ∷ u) =
+      map_same _ (λ m. None ∷ cell_of_number u m) (range_with_len 0 (2 ^ values u)) (λ m. ap (λ e. e ∷ cell_of_number u m) (none_kept (has_bit m (values u))))
+      ∙ sym (map-map (λ c. None ∷ c) (cell_of_number u) (range_with_len 0 (2 ^ values u)))
+      ∙ ap (map (λ c. None ∷ c)) (cells_below u)
+  cells_below (Some v ∷ u) =
+      let twice : 2 ^ suc (values u) ≡ 2 ^ values u + 2 ^ values u = omega (arith, pow-suc 2 (values u)) in
+      ap (λ n. map (cell_of_number (Some v ∷ u)) (range_with_len 0 n)) twice
+      ∙ ap (map (cell_of_number (Some v ∷ u))) (range-append 0 (2 ^ values u) (2 ^ values u))
+      ∙ map-append (cell_of_number (Some v ∷ u)) (range_with_len 0 (2 ^ values u)) (range_with_len (0 + 2 ^ values u) (2 ^ values u))
+      ∙ ap₂ (λ xs ys. xs ++ ys) (low v u ∙ ap (map (λ c. None ∷ c)) (cells_below u)) (high v u ∙ ap (map (λ c. Some v ∷ c)) (cells_below u))
+
+module _ {A : Type 0} {eq : A → A → Bool} (law : IsEquality eq) where
+  entry_below : (b : Bool) (e : Option A) → entry_leq eq (if b then e else None) e ≡ true
+  entry_below false e = refl
+  entry_below true None = refl
+  entry_below true (Some v) = law.same v
+
+  -- the cell of a number is below the cell, and more bits make a greater cell
+  pub cell_below : (u : Cell A) (m : ℕ) → leq eq (cell_of_number u m) u ≡ true
+  cell_below [] m = refl
+  cell_below (e ∷ u) m = and_from _ _ (entry_below (has_bit m (values u)) e) (cell_below u m)
+
+  entry_more : (b d : Bool) (e : Option A) → (b ≡ true → d ≡ true) → entry_leq eq (if b then e else None) (if d then e else None) ≡ true
+  entry_more false d e h = refl
+  entry_more true false e h = absurd (true≢false (sym (h refl)))
+  entry_more true true None h = refl
+  entry_more true true (Some v) h = law.same v
+
+  pub more_bits : (u : Cell A) (m n : ℕ) → ((k : ℕ) → has_bit m k ≡ true → has_bit n k ≡ true) → leq eq (cell_of_number u m) (cell_of_number u n) ≡ true
+  more_bits [] m n h = refl
+  more_bits (e ∷ u) m n h = and_from _ _ (entry_more (has_bit m (values u)) (has_bit n (values u)) e (h (values u))) (more_bits u m n h)

@@ -1,0 +1,24 @@
+use Rattle.std.proofs.Common.{◌≡◌, ◌^◌, ◌<◌, ◌+◌, true, false, subst, sym, arith}
+use Rattle.cells_below.specs.Closed.{IsMarkedBelow}
+use Rattle.cells_below.specs.Marks.{is_least}
+use Rattle.cells_below.specs.Numbers.{values}
+use Rattle.cells_below.proofs.Between.{is_bound, marked_more, no_bound, not_least}
+use Rattle.cells_below.proofs.closed.bounds_at.Goals as goal
+
+pub returns-then-not-least-clause-value : goal.returns-then-not-least-clause-value
+returns-then-not-least-clause-value g c = λ source h.
+    no_bound source c.args.u.now c.args.marks.now c.args.m (subst (λ d. c.args.m < 2 ^ d) c.requires.values c.requires.number) (c.requires.below source h)
+    (subst (λ d. is_least c.args.marks.now d c.args.m ≡ false) c.requires.values (sym c.if-not-least.ensures))
+
+pub returns-then-not-least-clause-below : goal.returns-then-not-least-clause-below
+returns-then-not-least-clause-below g c = λ source h.
+    let l : c.args.m < 2 ^ values c.args.u.now = subst (λ d. c.args.m < 2 ^ d) c.requires.values c.requires.number in
+    subst (λ marks. IsMarkedBelow source c.args.u.now marks (c.args.m + 1)) (sym c.set.ensures)
+    (marked_more source c.args.u.now c.args.marks.now c.args.m l (c.requires.below source h) (omega arith)
+    (not_least source c.args.u.now c.args.marks.now c.args.m l (c.requires.below source h) (subst (λ d. is_least c.args.marks.now d c.args.m ≡ false) c.requires.values (sym c.if-not-least.ensures))))
+
+pub returns-clause-value : goal.returns-clause-value
+returns-clause-value g c = λ source h.
+    is_bound source c.args.u.now c.args.marks.now c.args.m (subst (λ d. c.args.m < 2 ^ d) c.requires.values c.requires.number) (c.requires.below source h)
+    (sym (c.if-not-closes_at.ensures.value source h))
+    (subst (λ d. is_least c.args.marks.now d c.args.m ≡ true) c.requires.values (sym c.if-not-least.ensures))

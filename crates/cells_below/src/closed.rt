@@ -1,0 +1,103 @@
+// Whether cells below a class are lower bounds of it.
+ghost use Rattle.std.specs.Prelude.{IsTrue, Some, false, length, ℕ, ◌*◌, ◌+◌, ◌<◌, ◌^◌, ◌≡◌, ◌≤◌};
+ghost use Rattle.cube_defs.specs.Tree.{cell_at};
+ghost use Rattle.tree_search.specs.Found.{IsFrom, IsTree, Source};
+ghost use Rattle.cells_below.specs.Closed.{IsMarkedBelow, bounds, closes, has_closure_in};
+ghost use Rattle.cells_below.specs.Marks.{is_marked};
+ghost use Rattle.cells_below.specs.Numbers.{cell_of_number, values};
+
+use crate::marks::Marks;
+use crate::numbers::put_cell;
+use crate::pruned::least;
+use cell_core::{Cell, NodeNo, Steps};
+use cube_defs::MAX_DIMS;
+use qc_arena::Nodes;
+use std::sync::ledger::Ledger;
+use tree_search::find;
+
+// Whether the node, whose cell is u, is that of the cell's closure.
+fn leads_to<T: Nodes, L: Ledger>(
+    tree: &T,
+    node: NodeNo,
+    u: &Cell,
+    cell: &Cell,
+    steps: &mut Steps<L>,
+) -> bool
+    requires tree { IsTree (T.width tree.now) (T.tree tree.now) }
+    requires upper { cell_at (T.tree tree.now) node.0 ≡ Some u.now }
+    requires dims { length cell.now ≡ T.width tree.now }
+    ensures value { (source : Source) → IsFrom (T.width tree.now) (T.tree tree.now) source →
+        result ≡ has_closure_in source u.now cell.now }
+    ensures steps { steps.new ≤ steps.old + (2 * length cell.now + 2) }
+{
+    match find(tree, cell, steps) {
+        Some(found) => found.0 == node.0,
+        None => false,
+    }
+}
+
+// Makes `cell` the cell of a number, and says whether its closure is u.
+fn closes_at<T: Nodes, L: Ledger>(
+    tree: &T,
+    node: NodeNo,
+    u: &Cell,
+    m: u32,
+    cell: &mut Cell,
+    steps: &mut Steps<L>,
+) -> bool
+    requires tree { IsTree (T.width tree.now) (T.tree tree.now) }
+    requires upper { cell_at (T.tree tree.now) node.0 ≡ Some u.now }
+    requires dims { length cell.old ≡ length u.now }
+    ensures value { (source : Source) → IsFrom (T.width tree.now) (T.tree tree.now) source →
+        result ≡ closes source u.now m }
+    ensures cell { cell.new ≡ cell_of_number u.now m }
+    ensures dims { length cell.new ≡ length u.now }
+    ensures steps { steps.new ≤ steps.old + (2 * length u.now + 2) }
+{
+    put_cell(u, m, cell);
+    leads_to(tree, node, u, cell, steps)
+}
+
+/// Whether the cell of a number is a lower bound of u; `cell` is then that cell. Marks the number where
+/// its cell has the closure u, as it is known of the smaller numbers. Each cell between a cell with
+/// that closure and u has it too: so no search is needed where a number with one bit less is marked.
+pub fn bounds_at<T: Nodes, L: Ledger>(
+    tree: &T,
+    node: NodeNo,
+    u: &Cell,
+    marks: &mut Marks,
+    d: u32,
+    m: u32,
+    cell: &mut Cell,
+    steps: &mut Steps<L>,
+) -> bool
+    requires tree { IsTree (T.width tree.now) (T.tree tree.now) }
+    requires upper { cell_at (T.tree tree.now) node.0 ≡ Some u.now }
+    requires dims { length cell.old ≡ length u.now }
+    requires values { d ≡ values u.now }
+    requires few { d ≤ MAX_DIMS }
+    requires number { m < 2 ^ d }
+    requires room { 2 ^ d ≤ length marks.old }
+    requires below { (source : Source) → IsFrom (T.width tree.now) (T.tree tree.now) source →
+        IsMarkedBelow source u.now marks.old m }
+    requires above { (j : ℕ) → m ≤ j → is_marked marks.old j ≡ false }
+    ensures value { (source : Source) → IsFrom (T.width tree.now) (T.tree tree.now) source →
+        result ≡ bounds source u.now m }
+    ensures cell { IsTrue result → cell.new ≡ cell_of_number u.now m }
+    ensures dims { length cell.new ≡ length u.now }
+    ensures room { length marks.new ≡ length marks.old }
+    ensures below { (source : Source) → IsFrom (T.width tree.now) (T.tree tree.now) source →
+        IsMarkedBelow source u.now marks.new (m + 1) }
+    ensures above { (j : ℕ) → m + 1 ≤ j → is_marked marks.new j ≡ false }
+    ensures steps { steps.new ≤ steps.old + (2 * length u.now + 2) }
+{
+    if !least(marks, d, m) {
+        marks.set(m);
+        return false;
+    }
+    if !closes_at(tree, node, u, m, cell, steps) {
+        return false;
+    }
+    marks.set(m);
+    true
+}

@@ -1,0 +1,63 @@
+// The cells below a cell, told by numbers.
+ghost use Rattle.std.specs.Prelude.{None, if◌then◌else◌, length, ◌<◌, ◌≡◌, ◌≤◌};
+ghost use Rattle.cell_core.specs.Entry.{IsSmall, value_in};
+ghost use Rattle.cells_below.specs.Numbers.{cell_of_number, has_bit, turned, values};
+
+use cell_core::{Cell, Entry};
+use cube_defs::MAX_DIMS;
+
+/// Whether a number has a bit.
+pub fn has(m: u32, k: u32) -> bool
+    requires { k < 32 }
+    ensures { result ≡ has_bit m k }
+{
+    (m >> k) & 1 == 1
+}
+
+/// The number with one bit the other way.
+pub fn turn(m: u32, k: u32) -> u32
+    requires { k < 32 }
+    ensures { result ≡ turned m k }
+{
+    m ^ (1 << k)
+}
+
+/// How many values a cell has.
+pub fn count_values(u: &Cell) -> u32
+    ensures value { result ≡ values u.now }
+    ensures few { result ≤ MAX_DIMS }
+{
+    let mut count = 0;
+    'dims: for dim in (0..u.dims()).rev() {
+        if u.get(dim) != Entry::Any {
+            count += 1;
+        }
+    }
+    count
+}
+
+// An entry of a cell where the number has the bit, and Any elsewhere.
+fn kept(entry: Entry, m: u32, k: u32) -> Entry
+    requires bit { k < 32 }
+    requires small { IsSmall entry }
+    ensures value { value_in result ≡ (if has_bit m k then value_in entry else None) }
+    ensures small { IsSmall result }
+{
+    if has(m, k) { entry } else { Entry::Any }
+}
+
+/// Makes a cell, whatever it has, the cell of a number below u.
+pub fn put_cell(u: &Cell, m: u32, out: &mut Cell)
+    requires { length out.old ≡ length u.now }
+    ensures value { out.new ≡ cell_of_number u.now m }
+    ensures dims { length out.new ≡ length u.now }
+{
+    let mut k = 0;
+    'dims: for dim in (0..u.dims()).rev() {
+        let entry = u.get(dim);
+        out.set(dim, kept(entry, m, k));
+        if entry != Entry::Any {
+            k += 1;
+        }
+    }
+}

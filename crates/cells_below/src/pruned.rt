@@ -1,0 +1,22 @@
+// The numbers with which no smaller set of bits is marked.
+ghost use Rattle.std.specs.Prelude.{length, ◌<◌, ◌^◌, ◌≡◌, ◌≤◌};
+ghost use Rattle.cells_below.specs.Marks.{is_least};
+
+use crate::marks::Marks;
+use crate::numbers::{has, turn};
+use cube_defs::MAX_DIMS;
+
+/// Of numbers with d bits: whether none with one bit less is marked.
+pub fn least(marks: &Marks, d: u32, m: u32) -> bool
+    requires few { d ≤ MAX_DIMS }
+    requires number { m < 2 ^ d }
+    requires room { 2 ^ d ≤ length marks.now }
+    ensures { result ≡ is_least marks.now d m }
+{
+    'bits: for k in 0..d {
+        if has(m, k) && marks.get(turn(m, k)) {
+            return false;
+        }
+    }
+    true
+}

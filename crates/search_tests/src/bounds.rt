@@ -1,0 +1,77 @@
+// Lower bounds of classes.
+ghost use Rattle.std.specs.Prelude.{length, ◌<◌, ◌≡◌};
+
+use crate::shop::{Shop, cell};
+use cell_core::{Cell, Cells, Entry, Memory, Steps};
+use lower_bounds::lower_bounds;
+use qc_arena::Nodes;
+use std::alloc::Global;
+use std::marker::Brand;
+use std::sync::ledger::{Blank, Ledger};
+use std::test::Fail;
+use tree_search::find;
+
+// The lower bounds of the cell's closure. None where the cell covers no row.
+fn lowers<L: Ledger>(alloc: Global, cell: &Cell, blank: Blank) -> Result<Option<Cells>, Memory>
+    requires name { blank.name ≡ L.name }
+    requires parts { blank.parts ≡ L.parts }
+    requires some { 0 < L.parts }
+    requires dims { length cell.now ≡ 3 }
+{
+    let mut steps = Steps::<L>::start(blank);
+    let Some(node) = find(&Shop, cell, &mut steps) else {
+        return Ok(None);
+    };
+    let Some(_agg) = Shop.class(node, &mut steps) else {
+        return Ok(None);
+    };
+    Ok(Some(lower_bounds(alloc, &Shop, node, &mut steps)?))
+}
+
+fn lowers_of(alloc: Global, cell: &Cell) -> Result<Option<Cells>, Memory>
+    requires { length cell.now ≡ 3 }
+{
+    lowers::<Brand>(alloc, cell, Blank::new(1))
+}
+
+#[test]
+fn classes_have_their_lower_bounds(rt: HostRuntime) -> Result<(), Fail> {
+    const ANY: Entry = Entry::Any;
+    const ZERO: Entry = Entry::Is(0);
+    const ONE: Entry = Entry::Is(1);
+    // A cell of the class, how many lower bounds the class has, and these.
+    let table: [([Entry; 3], u32, [[Entry; 3]; 2]); 7] = [
+        ([ANY, ANY, ANY], 1, [[ANY, ANY, ANY], [ANY, ANY, ANY]]),
+        ([ANY, ZERO, ANY], 1, [[ANY, ZERO, ANY], [ANY, ANY, ANY]]),
+        ([ZERO, ANY, ZERO], 2, [[ANY, ANY, ZERO], [ZERO, ANY, ANY]]),
+        ([ZERO, ANY, ANY], 2, [[ANY, ANY, ZERO], [ZERO, ANY, ANY]]),
+        (
+            [ZERO, ZERO, ZERO],
+            2,
+            [[ANY, ZERO, ZERO], [ZERO, ZERO, ANY]],
+        ),
+        ([ZERO, ONE, ZERO], 1, [[ANY, ONE, ANY], [ANY, ANY, ANY]]),
+        ([ONE, ZERO, ONE], 2, [[ANY, ANY, ONE], [ONE, ANY, ANY]]),
+    ];
+    for (asked, count, expected) in &table {
+        let bounds = lowers_of(rt.alloc(), &cell(rt.alloc(), *asked))?.expect(&rt, "a class");
+        assert_eq!(rt; bounds.len(), *count);
+        assert!(rt; bounds.len() <= 2);
+        for k in 0..bounds.len() {
+            let bound = bounds.get(k);
+            assert_eq!(rt; bound.dims(), 3);
+            assert_eq!(rt;
+                [bound.get(0), bound.get(1), bound.get(2)],
+                expected[k as usize]
+            );
+        }
+    }
+    Ok(())
+}
+
+#[test]
+fn cells_without_rows_have_none(rt: HostRuntime) -> Result<(), Fail> {
+    let cell = cell(rt.alloc(), [Entry::Is(1), Entry::Is(1), Entry::Any]);
+    assert!(rt; lowers_of(rt.alloc(), &cell)?.is_none());
+    Ok(())
+}

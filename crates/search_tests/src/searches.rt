@@ -1,0 +1,70 @@
+// Closures of cells, and what the rows come to that they cover.
+ghost use Rattle.std.specs.Prelude.{length, ◌<◌, ◌≡◌};
+
+use crate::shop::{Shop, cell};
+use aggregates::Agg;
+use cell_core::{Cell, Entry, Steps};
+use std::marker::Brand;
+use std::sync::ledger::{Blank, Ledger};
+use tree_search::{find, total_at, upper_into};
+
+// Makes of a cell its closure, and gives what the rows come to that it covers, where it covers any.
+fn close<L: Ledger>(cell: &mut Cell, blank: Blank) -> Option<Agg>
+    requires name { blank.name ≡ L.name }
+    requires parts { blank.parts ≡ L.parts }
+    requires some { 0 < L.parts }
+    requires dims { length cell.old ≡ 3 }
+    ensures { length cell.new ≡ 3 }
+{
+    let mut steps = Steps::<L>::start(blank);
+    let total = total_at(&Shop, cell, &mut steps)?;
+    let node = find(&Shop, cell, &mut steps)?;
+    upper_into(&Shop, node, cell, &mut steps);
+    Some(total)
+}
+
+fn closed(cell: &mut Cell) -> Option<Agg>
+    requires { length cell.old ≡ 3 }
+    ensures { length cell.new ≡ 3 }
+{
+    close::<Brand>(cell, Blank::new(1))
+}
+
+#[test]
+fn cells_have_closures_and_totals(rt: HostRuntime) {
+    const ANY: Entry = Entry::Any;
+    const ZERO: Entry = Entry::Is(0);
+    const ONE: Entry = Entry::Is(1);
+    // The cell, and its closure with how many rows it covers and their sum.
+    let table: [([Entry; 3], [Entry; 3], u32, i64); 8] = [
+        ([ANY, ANY, ANY], [ANY, ANY, ANY], 3, 27),
+        ([ZERO, ANY, ANY], [ZERO, ANY, ZERO], 2, 18),
+        ([ANY, ZERO, ANY], [ANY, ZERO, ANY], 2, 15),
+        ([ANY, ONE, ANY], [ZERO, ONE, ZERO], 1, 12),
+        ([ANY, ANY, ONE], [ONE, ZERO, ONE], 1, 9),
+        ([ONE, ANY, ANY], [ONE, ZERO, ONE], 1, 9),
+        ([ZERO, ZERO, ANY], [ZERO, ZERO, ZERO], 1, 6),
+        ([ANY, ANY, ZERO], [ZERO, ANY, ZERO], 2, 18),
+    ];
+    for (asked, upper, count, sum) in &table {
+        let mut cell = cell(rt.alloc(), *asked);
+        let sums = closed(&mut cell).expect(&rt, "a class");
+        assert_eq!(rt; [cell.get(0), cell.get(1), cell.get(2)], *upper);
+        assert_eq!(rt; sums.count, *count);
+        let parts = sums.parts;
+        assert_eq!(rt; parts[0].sum, *sum);
+    }
+}
+
+#[test]
+fn cells_without_rows_are_not_found(rt: HostRuntime) {
+    let table: [[Entry; 3]; 3] = [
+        [Entry::Is(1), Entry::Is(1), Entry::Any],
+        [Entry::Any, Entry::Is(1), Entry::Is(1)],
+        [Entry::Is(2), Entry::Any, Entry::Any],
+    ];
+    for asked in &table {
+        let mut cell = cell(rt.alloc(), *asked);
+        assert!(rt; closed(&mut cell).is_none());
+    }
+}
