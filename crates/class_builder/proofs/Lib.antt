@@ -4,3 +4,4 @@ pub mod Adding
 pub mod Building
 pub mod Steps
 pub mod Whole
+pub mod Ways

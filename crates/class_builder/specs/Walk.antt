@@ -1,9 +1,14 @@
 -- Where the walk stands, and what it leaves as it is.
-use Rattle.std.specs.Prelude.{◌≡◌, ◌≤◌, ℕ, suc, ◌-◌, Bool, true, Some, List, [], ◌∷◌, slice_index_or}
+use Rattle.std.specs.Prelude.{◌≡◌, ◌<◌, ◌≤◌, ℕ, suc, ◌-◌, Bool, true, Some, None, List, [], ◌∷◌, length, nat_eq, slice_index_or}
+use Rattle.std.specs.List.{AllByRecursion}
 use Rattle.cube_defs.specs.Cell.{Cell, keep}
-use Rattle.cube_defs.specs.Rows.{Row}
+use Rattle.cube_defs.specs.Rows.{Row, covers}
 use Rattle.cube_defs.specs.Tree.{cell_at}
-use Rattle.base_table.specs.Places.{Places}
+use Rattle.cube_defs.specs.declared.limits.TheConstants.{MAX_ROWS}
+use Rattle.cube_laws.specs.Parting.{shared_by}
+use Rattle.cell_core.specs.Entry.{IsCode}
+use Rattle.base_table.specs.Places.{Places, AreThere, IsTable, named}
+use Rattle.base_table.specs.declared.table.RowNo.{RowNo}
 use Rattle.qc_arena.specs.Map.{Arena, was_at}
 use Rattle.build_trace.specs.Trace.{Act, Act.{Add, Label}, acts}
 use Rattle.class_builder.specs.declared.path.Path.{Path}
@@ -30,3 +35,23 @@ pub record StaysOpen (before after : Arena) : Type 0 where
   pub opened : after.is_open ≡ true
   pub width : after.width ≡ before.width
   pub max : after.max ≡ before.max
+
+-- rows of a table, of which there are some, and what they share
+pub record IsPart (t : Places) (nos : List RowNo) (u : Cell ℕ) : Type 0 where
+  pub table : IsTable t
+  pub some : 0 < length nos
+  pub few : length nos ≤ MAX_ROWS
+  pub there : AreThere t nos
+  pub shared : u ≡ shared_by (named t nos)
+
+-- rows of a table, of which there are some, that share the code in dimension k and are covered by the cell
+pub record IsGroup (t : Places) (nos : List RowNo) (code : ℕ) (upper : Cell ℕ) (k : ℕ) : Type 0 where
+  pub table : IsTable t
+  pub some : 0 < length nos
+  pub few : length nos ≤ MAX_ROWS
+  pub there : AreThere t nos
+  pub covered : AllByRecursion (λ row. covers nat_eq upper row ≡ true) (named t nos)
+  pub long : length upper ≡ t.dims
+  pub dim : k < t.dims
+  pub value : slice_index_or (shared_by (named t nos)) k None ≡ Some code
+  pub small : IsCode code

@@ -13,45 +13,52 @@ ghost use Rattle.build_trace.specs.Trace.{Act.{Label}};
 ghost use Rattle.build_trace.specs.Walk.{same_front};
 ghost use Rattle.qc_arena.specs.Map.{is_touched};
 ghost use Rattle.build_acts.specs.Going.{Does, IsNext};
-ghost use Rattle.class_builder.specs.Walk.{IsOnPath, StaysOpen, front_acts};
+ghost use Rattle.class_builder.specs.Walk.{IsGroup, IsOnPath, StaysOpen, front_acts};
 
 use crate::Memory;
+use crate::builder::Builder;
+use crate::part::{ChildEdge, Group};
 use crate::path::Path;
 use crate::upper::front_of;
-use base_table::{RowNo, Table};
 use build_acts::{add_child, set_link};
-use cell_core::{Cell, Code, Steps};
+use cell_core::Cell;
 use cube_defs::MAX_DIMS;
 use drill_links::descend;
-use qc_arena::{ArenaRefused, QcArena};
+use qc_arena::ArenaRefused;
 use std::sync::ledger::Ledger;
 
-/// Adds the node of the cell's front with the dimension, in which the cell has the code, below that
-/// of the front before it, as its forced child or not. The path goes on to it.
+/// Adds the node of the cell's front with the dimension, in which the cell has the edge's code,
+/// below that of the front before it. The path goes on to it.
 pub(crate) fn add_front<L: Ledger>(
+    builder: &mut Builder<'_, L>,
     cell: &Cell,
     dim: u8,
-    code: Code,
-    is_forced: bool,
+    edge: ChildEdge,
     path: &mut Path,
-    arena: &mut QcArena,
-    steps: &mut Steps<L>,
 ) -> Result<(), ArenaRefused>
-    requires opened { arena.old.is_open ≡ true }
-    requires touched { (k : ℕ) → IsSome (map.get arena.old.now k) → is_touched arena.old k ≡ true }
-    requires long { length cell.now ≡ arena.old.width }
-    requires few { arena.old.width ≤ MAX_DIMS }
-    requires dim { dim < arena.old.width }
-    requires value { slice_index_or cell.now dim None ≡ Some code }
-    requires small { IsCode code }
-    requires path { IsOnPath arena.old path.old cell.now dim }
-    ensures does { OnOk result ((measures : ℕ) (rows : List (Row ℕ)) → Does measures rows (front_acts is_forced cell.now dim code) arena.old arena.new) }
-    ensures path { OnOk result (IsOnPath arena.new path.new cell.now (dim + 1)) }
-    ensures full { result ≡ Err ArenaRefused.Full → (measures : ℕ) (rows : List (Row ℕ)) → IsNext measures rows (front_acts is_forced cell.now dim code) arena.old
-        → arena.old.max < length (nodes nat_cmp rows) }
-    ensures stays { StaysOpen arena.old arena.new }
+    requires opened { builder.old.arena.now.is_open ≡ true }
+    requires touched { (k : ℕ) → IsSome (map.get builder.old.arena.now.now k) → is_touched builder.old.arena.now k ≡ true }
+    requires long { length cell.now ≡ builder.old.arena.now.width }
+    requires few { builder.old.arena.now.width ≤ MAX_DIMS }
+    requires dim { dim < builder.old.arena.now.width }
+    requires value { slice_index_or cell.now dim None ≡ Some edge.code }
+    requires small { IsCode edge.code }
+    requires path { IsOnPath builder.old.arena.now path.old cell.now dim }
+    ensures does { OnOk result ((measures : ℕ) (rows : List (Row ℕ)) → Does measures rows (front_acts edge.is_forced cell.now dim edge.code) builder.old.arena.now builder.new.arena.now) }
+    ensures path { OnOk result (IsOnPath builder.new.arena.now path.new cell.now (dim + 1)) }
+    ensures full { result ≡ Err ArenaRefused.Full → (measures : ℕ) (rows : List (Row ℕ)) → IsNext measures rows (front_acts edge.is_forced cell.now dim edge.code) builder.old.arena.now
+        → builder.old.arena.now.max < length (nodes nat_cmp rows) }
+    ensures stays { StaysOpen builder.old.arena.now builder.new.arena.now }
+    ensures same { builder.new.arena.ghost_name ≡ builder.old.arena.ghost_name }
 {
-    match add_child(arena, path.at(dim), dim, code, is_forced, steps) {
+    match add_child(
+        builder.arena,
+        path.at(dim),
+        dim,
+        edge.code,
+        edge.is_forced,
+        builder.steps,
+    ) {
         Ok(node) => {
             path.set(dim + 1, node);
             Ok(())
@@ -60,37 +67,34 @@ pub(crate) fn add_front<L: Ledger>(
     }
 }
 
-/// Sets the edge that a part with the code takes, whose rows share a value in dimension `at` that
-/// `upper` lacks: its node is there already.
+/// Sets the edge that a group takes, whose rows share a value in dimension `at` that `upper` lacks:
+/// its node is there already.
 pub(crate) fn link_part<L: Ledger>(
-    table: &Table,
-    part: &[RowNo],
-    code: Code,
-    upper: &Cell,
+    builder: &mut Builder<'_, L>,
+    group: &Group<'_>,
     at: u8,
     dim: u8,
     path: &Path,
-    arena: &mut QcArena,
-    steps: &mut Steps<L>,
 ) -> Result<(), Memory>
-    requires table { IsTable table.now }
-    requires some { 0 < length part.now }
-    requires there { AreThere table.now part.now }
-    requires covered { AllByRecursion (λ row. covers nat_eq upper.now row ≡ true) (named table.now part.now) }
-    requires long { length upper.now ≡ table.now.dims }
-    requires dim { dim < table.now.dims }
-    requires value { slice_index_or (shared_by (named table.now part.now)) dim None ≡ Some code }
-    requires small { IsCode code }
+    requires group { IsGroup group.now.table.now group.now.rows.now group.now.code group.now.upper.now dim }
     requires at { at < dim }
-    requires front { same_front at (shared_by (named table.now part.now)) upper.now ≡ true }
-    requires gains { same_front (suc at) (shared_by (named table.now part.now)) upper.now ≡ false }
-    requires width { arena.old.width ≡ table.now.dims }
-    requires next { IsNext table.now.measures (rows_of table.now) (Label false (keep dim upper.now) dim code (keep (suc dim) (shared_by (named table.now part.now))) ∷ []) arena.old }
-    requires path { IsOnPath arena.old path.now upper.now dim }
-    ensures does { OnOk result (Does table.now.measures (rows_of table.now) (Label false (keep dim upper.now) dim code (keep (suc dim) (shared_by (named table.now part.now))) ∷ []) arena.old arena.new) }
-    ensures stays { StaysOpen arena.old arena.new }
+    requires front { same_front at (shared_by (named group.now.table.now group.now.rows.now)) group.now.upper.now ≡ true }
+    requires gains { same_front (suc at) (shared_by (named group.now.table.now group.now.rows.now)) group.now.upper.now ≡ false }
+    requires width { builder.old.arena.now.width ≡ group.now.table.now.dims }
+    requires next { IsNext group.now.table.now.measures (rows_of group.now.table.now) (Label false (keep dim group.now.upper.now) dim group.now.code (keep (suc dim) (shared_by (named group.now.table.now group.now.rows.now))) ∷ []) builder.old.arena.now }
+    requires path { IsOnPath builder.old.arena.now path.now group.now.upper.now dim }
+    ensures does { OnOk result (Does group.now.table.now.measures (rows_of group.now.table.now) (Label false (keep dim group.now.upper.now) dim group.now.code (keep (suc dim) (shared_by (named group.now.table.now group.now.rows.now))) ∷ []) builder.old.arena.now builder.new.arena.now) }
+    ensures stays { StaysOpen builder.old.arena.now builder.new.arena.now }
+    ensures same { builder.new.arena.ghost_name ≡ builder.old.arena.ghost_name }
 {
-    let target = front_of(table, part, upper, at, dim);
-    let to = descend(arena, path.at(at), &target, at, dim, steps);
-    set_link(arena, path.at(dim), dim, code, to, steps)
+    let target = front_of(group.table, group.rows, group.upper, at, dim);
+    let to = descend(builder.arena, path.at(at), &target, at, dim, builder.steps);
+    set_link(
+        builder.arena,
+        path.at(dim),
+        dim,
+        group.code,
+        to,
+        builder.steps,
+    )
 }

@@ -1,7 +1,9 @@
 //! The tree of a table's rows, built by one walk.
 #![tactic(auto)]
 
+mod builder;
 mod labels;
+mod part;
 mod path;
 mod room;
 mod total;

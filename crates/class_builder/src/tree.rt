@@ -3,18 +3,19 @@ ghost use Rattle.std.specs.FinMap as map;
 ghost use Rattle.std.specs.Ordering.{nat_cmp};
 ghost use Rattle.std.specs.Prelude.{Err, OnOk, length, true, ℕ, ◌<◌, ◌≡◌, ◌≤◌};
 ghost use Rattle.cube_defs.specs.Tree.{IsCanonical, nodes};
-ghost use Rattle.base_table.specs.Places.{AreThere, IsTable, named, rows_of};
-ghost use Rattle.cube_laws.specs.Parting.{shared_by};
+ghost use Rattle.base_table.specs.Places.{named, rows_of};
 ghost use Rattle.qc_arena.specs.Map.{was_at};
-ghost use Rattle.class_builder.specs.Walk.{StaysOpen};
+ghost use Rattle.class_builder.specs.Walk.{IsPart, StaysOpen};
 
+use crate::builder::Builder;
+use crate::part::Part;
 use crate::path::Path;
 use crate::room::Room;
 use crate::walk::drill;
-use base_table::{RowNo, Table};
+use base_table::Table;
 use build_acts::add_root;
 use cell_closure::closure_of;
-use cell_core::{Cell, Steps};
+use cell_core::Steps;
 use qc_arena::{ArenaRefused, QcArena};
 use std::alloc::Global;
 use std::sync::ledger::Ledger;
@@ -44,49 +45,46 @@ pub fn build_classes<L: Ledger>(
     let Ok(rows) = table.all(alloc) else {
         return Err(ArenaRefused::Memory);
     };
-    let upper = closure_of(table, &rows);
-    build_all(alloc, table, &rows, upper, arena, steps)
+    let part = Part {
+        table,
+        rows: &rows,
+        shared: closure_of(table, &rows),
+    };
+    let mut room = Room::new(alloc);
+    let mut builder = Builder {
+        arena,
+        room: &mut room,
+        steps,
+    };
+    build_all(&mut builder, &part)
 }
 
-/// Does so for all the rows of the table, of which there are some; `upper` is what they share.
-fn build_all<L: Ledger>(
-    alloc: Global,
-    table: &Table,
-    rows: &[RowNo],
-    upper: Cell,
-    arena: &mut QcArena,
-    steps: &mut Steps<L>,
-) -> Result<(), ArenaRefused>
-    requires table { IsTable table.now }
-    requires some { 0 < length rows.now }
-    requires there { AreThere table.now rows.now }
-    requires all { named table.now rows.now ≡ rows_of table.now }
-    requires upper { upper ≡ shared_by (named table.now rows.now) }
-    requires opened { arena.old.is_open ≡ true }
-    requires empty { arena.old.now ≡ map.empty }
-    requires width { arena.old.width ≡ table.now.dims }
-    ensures tree { OnOk result (IsCanonical nat_cmp table.now.measures (rows_of table.now) arena.new.now) }
-    ensures fits { OnOk result (length (nodes nat_cmp (rows_of table.now)) ≤ arena.old.max) }
-    ensures full { result ≡ Err ArenaRefused.Full → arena.old.max < length (nodes nat_cmp (rows_of table.now)) }
-    ensures stays { StaysOpen arena.old arena.new }
+/// Does so for the part of all rows of the table.
+fn build_all<L: Ledger>(builder: &mut Builder<'_, L>, part: &Part<'_>) -> Result<(), ArenaRefused>
+    requires part { IsPart part.now.table.now part.now.rows.now part.now.shared }
+    requires all { named part.now.table.now part.now.rows.now ≡ rows_of part.now.table.now }
+    requires opened { builder.old.arena.now.is_open ≡ true }
+    requires empty { builder.old.arena.now.now ≡ map.empty }
+    requires width { builder.old.arena.now.width ≡ part.now.table.now.dims }
+    ensures tree { OnOk result (IsCanonical nat_cmp part.now.table.now.measures (rows_of part.now.table.now) builder.new.arena.now.now) }
+    ensures fits { OnOk result (length (nodes nat_cmp (rows_of part.now.table.now)) ≤ builder.old.arena.now.max) }
+    ensures full { result ≡ Err ArenaRefused.Full → builder.old.arena.now.max < length (nodes nat_cmp (rows_of part.now.table.now)) }
+    ensures stays { StaysOpen builder.old.arena.now builder.new.arena.now }
+    ensures same { builder.new.arena.ghost_name ≡ builder.old.arena.ghost_name }
 {
-    match add_root(arena, steps) {
+    match add_root(builder.arena, builder.steps) {
         Ok(root) => {
-            let mut room = Room::new(alloc);
-            let built = drill(
-                table,
-                rows,
-                upper,
-                0,
-                Path::start(root),
-                &mut room,
-                arena,
-                steps,
-            );
-            // There are no more than may be.
-            let _nodes = arena.live();
+            let built = drill(builder, part, 0, Path::start(root));
+            is_within(builder.arena);
             built
         }
         Err(error) => Err(error),
     }
+}
+
+/// There are no more nodes than may be.
+fn is_within(arena: &QcArena)
+    ensures { map.len arena.now.now ≤ arena.now.max }
+{
+    let _nodes = arena.live();
 }

@@ -1,58 +1,53 @@
--- The way down the tree of one row.
-use Rattle.std.proofs.Common.{◌≡◌, ℕ, zero, suc, ◌+◌, ◌-◌, ◌<◌, true, Some, None, is_some, [], ◌∷◌, ◌++◌, slice_index_or, nat_cmp, refl, sym, ap, ◌∙◌, arith, true≢false, inl, inr}
+-- The way down a root and a node under it.
+use Rattle.std.proofs.Common.{◌≡◌, ◌≢◌, ℕ, zero, suc, Option, Some, None, is_some, [], ◌∷◌, replicate, slice_index_or, nat_cmp, refl, sym, ap, subst, ◌∙◌, true≢false, inl, inr}
+use Rattle.std.proofs.lemmas.Bool.Decides.{eqb_tells}
 use Rattle.std.specs.FinMap as map
-use Rattle.cube_defs.specs.Cell.{keep, with_value}
-use Rattle.cube_defs.specs.Tree.{cell_at}
-use Rattle.build_trace.specs.Trace.{Act.{Add, Label}, acts, trace}
-use Rattle.build_trace.specs.Ready.{There, HasPath}
-use Rattle.build_trace.proofs.Following.{follow_none}
-use Rattle.qc_arena.specs.Map.{Arena, Known}
-use Rattle.build_acts.specs.Going.{Going, Does}
-use Rattle.drill_links.specs.Single.{only, upper, done_to, rest_from}
-use Rattle.drill_links.specs.Way.{IsWay}
+use Rattle.std.specs.Option.{option_map}
+use Rattle.std.specs.Ordering.{eq_by_cmp}
+use Rattle.cube_defs.specs.Cell.{Cell, keep}
+use Rattle.cube_defs.specs.Tree.{Edge, Tree, cell_at}
+use Rattle.tree_laws.specs.Walk.{target_at}
+use Rattle.qc_arena.specs.Map.{Known, bare}
+use Rattle.qc_arena.specs.Edges.{with_edge}
+use Rattle.qc_arena.specs.Seen.{record_at, record_or}
+use Rattle.drill_links.specs.Single.{single}
+use Rattle.drill_links.specs.Way.{IsWay, LeadsTo}
 
-whole : trace 0 3 only ≡ done_to 0 ++ rest_from 3 0
-unfolding acts
-whole = refl
+-- a root alone, a node more, and the edge to it
+module _ (alone grown linked : Tree ℕ) (root child : ℕ)
+    (root_is : map.get alone root ≡ Some (bare (replicate 3 None) None)) (no_other : (q : ℕ) → q ≢ root → map.get alone q ≡ None)
+    (free : map.get alone child ≡ None) (child_is : map.get grown child ≡ Some (bare single (Some root))) (kept : (q : ℕ) → q ≢ child → map.get grown q ≡ map.get alone q)
+    (edge : map.get linked root ≡ option_map (with_edge (record { dim = 1; value = 7; target = child })) (map.get grown root)) (others : (q : ℕ) → q ≢ root → map.get linked q ≡ map.get grown q) where
+  apart : root ≢ child
+  apart e = true≢false (ap is_some (sym root_is) ∙ ap (λ k. is_some (map.get alone k)) e ∙ ap is_some free)
 
--- before the root comes
-pub starts : (a : Arena) → a.width ≡ 3 → a.is_open ≡ true → a.now ≡ map.empty → Going 0 only [] (done_to 0 ++ rest_from 3 0) a
-starts a width opened empty = record {
-  wide = (sym width, tt);
-  some = omega arith;
-  whole = ap (λ w. trace 0 w only) width ∙ whole;
-  opened = opened;
-  follows = follow_none (λ k. map.get a.now k) none;
-  count = ap (λ t. map.len t) empty ∙ map.len-empty nat_cmp Known;
-  touched = λ k h. absurd (true≢false (sym h ∙ ap is_some (none k)));
-}
-  where
-    none : (k : ℕ) → map.get a.now k ≡ None
-    none k = ap (λ t. map.get t k) empty ∙ map.get-empty nat_cmp k
+  root_now : map.get linked root ≡ Some (with_edge (record { dim = 1; value = 7; target = child }) (bare (replicate 3 None) None))
+  root_now = edge ∙ ap (option_map (with_edge (record { dim = 1; value = 7; target = child }))) (kept root apart ∙ root_is)
 
--- a node more
-pub grows : (k : ℕ) (a b : Arena) → k < 3 → Does 0 only (Add (with_value (keep k upper) k (k + 1)) ∷ Label true (keep k upper) k (k + 1) (with_value (keep k upper) k (k + 1)) ∷ []) a b
-    → Going 0 only (done_to k) (rest_from (3 - k) k) a → Going 0 only (done_to (suc k)) (rest_from (3 - suc k) (suc k)) b
-grows zero a b l d g = d.acts (done_to 0) (rest_from 2 1) g
-grows (suc zero) a b l d g = d.acts (done_to 1) (rest_from 1 2) g
-grows (suc (suc zero)) a b l d g = d.acts (done_to 2) (rest_from 0 3) g
-grows (suc (suc (suc k))) a b l d g = absurd (omega arith)
+  child_now : map.get linked child ≡ Some (bare single (Some root))
+  child_now = others child (λ e. apart (sym e)) ∙ child_is
 
-pub child_cell : (k : ℕ) → k < 3 → with_value (keep k upper) k (k + 1) ≡ keep (suc k) upper
-child_cell zero l = refl
-child_cell (suc zero) l = refl
-child_cell (suc (suc zero)) l = refl
-child_cell (suc (suc (suc k))) l = absurd (omega arith)
+  pub root_cell : cell_at linked root ≡ Some (keep 0 single)
+  root_cell = ap (option_map (λ (n : Known). n.cell)) root_now
 
-path : HasPath (done_to 3) (keep 3 upper)
-path = record { root = inl refl; there = there_at }
-  where
-    there_at : (j v : ℕ) → slice_index_or (keep 3 upper) j None ≡ Some v → There (done_to 3) (keep (suc j) (keep 3 upper))
-    there_at zero v e = record { added = inr (inl refl); at = 0; value = 1; forced = true; deep = refl; entry = refl; label = inr (inr (inl refl)) }
-    there_at (suc zero) v e = record { added = inr (inr (inr (inl refl))); at = 1; value = 2; forced = true; deep = refl; entry = refl; label = inr (inr (inr (inr (inl refl)))) }
-    there_at (suc (suc zero)) v e = record { added = inr (inr (inr (inr (inr (inl refl))))); at = 2; value = 3; forced = true; deep = refl; entry = refl; label = inr (inr (inr (inr (inr (inr (inl refl)))))) }
-    there_at (suc (suc (suc j))) v e = cc
+  leads_on : (k : ℕ) → cell_at linked k ≡ Some (keep 1 single) → LeadsTo linked k 1 7 (keep 2 single)
+  leads_on k at = elim (eqb_tells k root) [
+    | inl e ↦ record {
+      target = child;
+      edge = ap (λ n. target_at (eq_by_cmp nat_cmp) 1 7 (record_at linked n).edges) e.1 ∙ ap (λ o. target_at (eq_by_cmp nat_cmp) 1 7 (record_or o).edges) root_now;
+      is = ap (option_map (λ (n : Known). n.cell)) child_now;
+    }
+    | inr e ↦ elim (eqb_tells k child) [
+      | inl f ↦ absurd (let bad : Some single ≡ Some (keep 1 single) = sym (ap (option_map (λ (n : Known). n.cell)) (ap (map.get linked) f.1 ∙ child_now)) ∙ at in cc)
+      | inr f ↦ absurd (let bad : None ≡ Some (keep 1 single) = sym (ap (option_map (λ (n : Known). n.cell)) (others k e.1 ∙ kept k f.1 ∙ no_other k e.1)) ∙ at in cc)
+    ]
+  ]
 
--- the whole way
-pub way : (a : Arena) (root : ℕ) → Going 0 only (done_to 3) (rest_from 0 3) a → cell_at a.now root ≡ Some (keep 0 upper) → IsWay a upper 0 2 root
-way a root g at = record { measures = 0; rows = only; done = done_to 3; rest = rest_from 0 3; going = g; from = at; path = path; order = omega arith }
+  pub way : IsWay linked single 0 2
+  way = record { leads = λ j v k from within has at. go j v k has at }
+    where
+      go : (j v k : ℕ) → slice_index_or single j None ≡ Some v → cell_at linked k ≡ Some (keep j single) → LeadsTo linked k j v (keep (suc j) single)
+      go zero v k has at = cc
+      go (suc zero) v k has at = let seven : 7 ≡ v = cc in subst (λ x. LeadsTo linked k 1 x (keep 2 single)) seven (leads_on k at)
+      go (suc (suc zero)) v k has at = cc
+      go (suc (suc (suc j))) v k has at = cc

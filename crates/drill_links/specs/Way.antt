@@ -1,20 +1,17 @@
 -- The way down to a node that is there.
-use Rattle.std.specs.Prelude.{◌≡◌, ◌≤◌, ℕ, suc, Some, List}
+use Rattle.std.specs.Prelude.{◌≡◌, ◌≤◌, ℕ, suc, Some, None, slice_index_or}
+use Rattle.std.specs.Ordering.{eq_by_cmp, nat_cmp}
 use Rattle.cube_defs.specs.Cell.{Cell, keep}
-use Rattle.cube_defs.specs.Rows.{Row}
-use Rattle.cube_defs.specs.Tree.{cell_at}
-use Rattle.build_trace.specs.Trace.{Act}
-use Rattle.build_trace.specs.Ready.{HasPath}
-use Rattle.build_acts.specs.Going.{Going}
-use Rattle.qc_arena.specs.Map.{Arena}
+use Rattle.cube_defs.specs.Tree.{Tree, cell_at}
+use Rattle.tree_laws.specs.Walk.{target_at}
+use Rattle.qc_arena.specs.Seen.{record_at}
 
--- while a tree is built: the node is that of t's front before the first dimension, and t's front with the last one can be gone down to
-pub record IsWay (a : Arena) (t : Cell ℕ) (first last node : ℕ) : Type 0 where
-  pub measures : ℕ
-  pub rows : List (Row ℕ)
-  pub done : List Act
-  pub rest : List Act
-  pub going : Going measures rows done rest a
-  pub from : cell_at a.now node ≡ Some (keep first t)
-  pub path : HasPath done (keep (suc last) t)
-  pub order : first ≤ last
+-- the node's edge with this label leads to a node with the cell
+pub record LeadsTo (tree : Tree ℕ) (node dim value : ℕ) (cell : Cell ℕ) : Type 0 where
+  pub target : ℕ
+  pub edge : target_at (eq_by_cmp nat_cmp) dim value (record_at tree node).edges ≡ Some target
+  pub is : cell_at tree target ≡ Some cell
+
+-- in each of these dimensions that has a value in t, t's front before it has an edge with the value to t's front with it
+pub record IsWay (tree : Tree ℕ) (t : Cell ℕ) (first last : ℕ) : Type 0 where
+  pub leads : (dim value node : ℕ) → first ≤ dim → dim ≤ last → slice_index_or t dim None ≡ Some value → cell_at tree node ≡ Some (keep dim t) → LeadsTo tree node dim value (keep (suc dim) t)

@@ -20,6 +20,7 @@ pub fn link_all<L: Ledger>(
 ) -> Result<(), Memory>
     requires opened { arena.old.is_open ≡ true }
     requires built { IsCanonical nat_cmp table.now.measures (rows_of table.now) arena.old.now }
+    ensures same { OnOk result (arena.new ≡ arena.old) }
     ensures tree { OnOk result (IsCanonical nat_cmp table.now.measures (rows_of table.now) arena.new.now) }
     ensures was { (q : ℕ) → was_at arena.new q ≡ was_at arena.old q }
     ensures opened { arena.new.is_open ≡ true }

@@ -1,5 +1,5 @@
 // The way down to a node that is there.
-ghost use Rattle.std.specs.Prelude.{Some, length, suc, ◌<◌, ◌≡◌};
+ghost use Rattle.std.specs.Prelude.{Some, length, suc, ◌<◌, ◌≡◌, ◌≤◌};
 ghost use Rattle.cube_defs.specs.Cell.{keep};
 ghost use Rattle.cube_defs.specs.Tree.{cell_at};
 ghost use Rattle.drill_links.specs.Way.{IsWay};
@@ -18,9 +18,10 @@ pub fn descend<L: Ledger>(
     last: u8,
     steps: &mut Steps<L>,
 ) -> NodeNo
-    requires way { IsWay arena.now target.now first last from.0 }
-    requires long { length target.now ≡ arena.now.width }
-    requires last { last < arena.now.width }
+    requires order { first ≤ last }
+    requires last { last < length target.now }
+    requires from { cell_at arena.now.now from.0 ≡ Some (keep first target.now) }
+    requires way { IsWay arena.now.now target.now first last }
     ensures { cell_at arena.now.now result.0 ≡ Some (keep (suc last) target.now) }
 {
     let mut node = from;

@@ -9,24 +9,24 @@ use Rattle.class_builder.proofs.labels.add_front.Goals as goal
 
 pub add_child-requires-clause-behind : goal.add_child-requires-clause-behind
 add_child-requires-clause-behind g c =
-    front_depth c.args.arena.now.now c.at.result.0 c.args.dim c.args.cell.now (on_path c.args.arena.now c.args.path.now c.args.cell.now c.args.dim c.args.dim c.at.result.0 c.requires.path (omega arith) c.at.ensures)
+    front_depth c.args.builder.now.arena.now.now c.at.result.0 c.args.dim c.args.cell.now (on_path c.args.builder.now.arena.now c.args.path.now c.args.cell.now c.args.dim c.args.dim c.at.result.0 c.requires.path (omega arith) c.at.ensures)
 
 pub returns-in-Ok-clause-does : goal.returns-in-Ok-clause-does
 returns-in-Ok-clause-does g c = λ measures rows.
-    subst (λ p. Does measures rows (Add p ∷ Label c.args.is_forced (keep c.args.dim c.args.cell.now) c.args.dim c.args.code p ∷ []) c.args.arena.now c.add_child.new.arena)
-    (sym (front_value c.args.dim c.args.code c.args.cell.now c.requires.value))
-    (c.in-Ok.ensures.made measures rows (keep c.args.dim c.args.cell.now) (on_path c.args.arena.now c.args.path.now c.args.cell.now c.args.dim c.args.dim c.at.result.0 c.requires.path (omega arith) c.at.ensures))
+    subst (λ p. Does measures rows (Add p ∷ Label c.args.edge.is_forced (keep c.args.dim c.args.cell.now) c.args.dim c.args.edge.code p ∷ []) c.args.builder.now.arena.now c.add_child.new.arena)
+    (sym (front_value c.args.dim c.args.edge.code c.args.cell.now c.requires.value))
+    (c.in-Ok.ensures.made measures rows (keep c.args.dim c.args.cell.now) (on_path c.args.builder.now.arena.now c.args.path.now c.args.cell.now c.args.dim c.args.dim c.at.result.0 c.requires.path (omega arith) c.at.ensures))
 
 pub returns-in-Ok-clause-path : goal.returns-in-Ok-clause-path
 returns-in-Ok-clause-path g c =
-    let on = on_path c.args.arena.now c.args.path.now c.args.cell.now c.args.dim c.args.dim c.at.result.0 c.requires.path (omega arith) c.at.ensures in
+    let on = on_path c.args.builder.now.arena.now c.args.path.now c.args.cell.now c.args.dim c.args.dim c.at.result.0 c.requires.path (omega arith) c.at.ensures in
     path_on c.add_child.new.arena c.args.path.now c.set.new.self c.args.cell.now c.args.dim
-    (path_stays _ c.args.arena.now c.add_child.new.arena c.args.path.now c.args.cell.now c.args.dim (c.in-Ok.ensures.made 0 [] (keep c.args.dim c.args.cell.now) on) c.requires.path)
+    (path_stays _ c.args.builder.now.arena.now c.add_child.new.arena c.args.path.now c.args.cell.now c.args.dim (c.in-Ok.ensures.made 0 [] (keep c.args.dim c.args.cell.now) on) c.requires.path)
     c.set.ensures.others
-    (ap (λ n. cell_at c.add_child.new.arena.now n) c.set.ensures.here ∙ c.in-Ok.ensures.here (keep c.args.dim c.args.cell.now) on ∙ ap (λ p. Some p) (sym (front_value c.args.dim c.args.code c.args.cell.now c.requires.value)))
+    (ap (λ n. cell_at c.add_child.new.arena.now n) c.set.ensures.here ∙ c.in-Ok.ensures.here (keep c.args.dim c.args.cell.now) on ∙ ap (λ p. Some p) (sym (front_value c.args.dim c.args.edge.code c.args.cell.now c.requires.value)))
 
 pub returns-in-Err-clause-full : goal.returns-in-Err-clause-full
 returns-in-Err-clause-full g c = λ e measures rows next.
     c.in-Err.ensures.full (err_again c.in-Err.error _ e) measures rows (keep c.args.dim c.args.cell.now)
-    (on_path c.args.arena.now c.args.path.now c.args.cell.now c.args.dim c.args.dim c.at.result.0 c.requires.path (omega arith) c.at.ensures)
-    (subst (λ p. IsNext measures rows (Add p ∷ Label c.args.is_forced (keep c.args.dim c.args.cell.now) c.args.dim c.args.code p ∷ []) c.args.arena.now) (front_value c.args.dim c.args.code c.args.cell.now c.requires.value) next)
+    (on_path c.args.builder.now.arena.now c.args.path.now c.args.cell.now c.args.dim c.args.dim c.at.result.0 c.requires.path (omega arith) c.at.ensures)
+    (subst (λ p. IsNext measures rows (Add p ∷ Label c.args.edge.is_forced (keep c.args.dim c.args.cell.now) c.args.dim c.args.edge.code p ∷ []) c.args.builder.now.arena.now) (front_value c.args.dim c.args.edge.code c.args.cell.now c.requires.value) next)

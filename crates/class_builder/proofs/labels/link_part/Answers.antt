@@ -1,33 +1,30 @@
-use Rattle.std.proofs.Common.{false, ◌≡◌, ◌∷◌, Some, suc, sym, ap, subst, ◌∙◌, arith}
+use Rattle.std.proofs.Common.{false, ◌≡◌, Some, suc, sym, ap, subst, ◌∙◌, arith}
 use Rattle.cube_defs.specs.Cell.{keep}
 use Rattle.cube_laws.proofs.Cells.{nat_equality, cell_eq-exact}
 use Rattle.base_table.specs.Places.{named, rows_of}
 use Rattle.build_trace.specs.Ready.{HasPath}
-use Rattle.build_trace.specs.Trace.{Act.{Label}}
 use Rattle.cube_laws.specs.Parting.{shared_by}
 use Rattle.class_builder.proofs.Building.{on_path}
 use Rattle.build_trace.proofs.Wanted.{link_ready}
 use Rattle.cube_laws.proofs.Shared.{shared_some}
 use Rattle.class_builder.proofs.Uppers.{differs_behind, front_apart}
 use Rattle.class_builder.proofs.Fronts.{front_less}
+use Rattle.class_builder.proofs.Ways.{way_down}
 use Rattle.class_builder.proofs.labels.link_part.Goals as goal
+
+pub descend-to-requires-clause-from : goal.descend-to-requires-clause-from
+descend-to-requires-clause-from g c =
+    let shared = shared_by (named c.args.group.now.table.now c.args.group.now.rows.now) in
+    let same : keep c.args.at shared ≡ keep c.args.at c.args.group.now.upper.now = cell_eq-exact nat_equality _ _ c.requires.front in
+    on_path c.args.builder.now.arena.now c.args.path.now c.args.group.now.upper.now c.args.dim c.args.at c.at.result.0 c.requires.path (omega arith) c.at.ensures
+    ∙ ap (λ b. Some b) (sym same ∙ sym (front_less c.args.at (suc c.args.dim) _ shared (omega arith) c.front_of-target.ensures.front))
 
 pub descend-to-requires-clause-way : goal.descend-to-requires-clause-way
 descend-to-requires-clause-way g c =
-    let shared = shared_by (named c.args.table.now c.args.part.now) in
-    let same : keep c.args.at shared ≡ keep c.args.at c.args.upper.now = cell_eq-exact nat_equality _ _ c.requires.front in
+    let shared = shared_by (named c.args.group.now.table.now c.args.group.now.rows.now) in
     let going = c.requires.next.going in
-    record {
-      measures = c.args.table.now.measures;
-      rows = rows_of c.args.table.now;
-      done = c.requires.next.done;
-      rest = Label false (keep c.args.dim c.args.upper.now) c.args.dim c.args.code (keep (suc c.args.dim) shared) ∷ c.requires.next.rest;
-      going = going;
-      from = on_path c.args.arena.now c.args.path.now c.args.upper.now c.args.dim c.args.at c.at.result.0 c.requires.path (omega arith) c.at.ensures
-          ∙ ap (λ b. Some b) (sym same ∙ sym (front_less c.args.at (suc c.args.dim) _ shared (omega arith) c.front_of-target.ensures.front));
-      path = subst (HasPath c.requires.next.done) (sym c.front_of-target.ensures.front)
-          (link_ready c.args.table.now.measures c.args.arena.now.width (rows_of c.args.table.now) going.wide (shared_some (rows_of c.args.table.now) going.some) c.requires.next.done c.requires.next.rest false
-          (keep c.args.dim c.args.upper.now) c.args.dim c.args.code (keep (suc c.args.dim) shared) going.whole
-          (front_apart c.args.dim (suc c.args.dim) shared c.args.upper.now (omega arith) (differs_behind c.args.at c.args.dim shared c.args.upper.now c.requires.at c.requires.gains)));
-      order = omega arith;
-    }
+    way_down c.args.group.now.table.now.measures (rows_of c.args.group.now.table.now) c.requires.next.done _ c.args.builder.now.arena.now going c.front_of-target.result c.args.at c.args.dim
+    (subst (HasPath c.requires.next.done) (sym c.front_of-target.ensures.front)
+    (link_ready c.args.group.now.table.now.measures c.args.builder.now.arena.now.width (rows_of c.args.group.now.table.now) going.wide (shared_some (rows_of c.args.group.now.table.now) going.some) c.requires.next.done c.requires.next.rest false
+    (keep c.args.dim c.args.group.now.upper.now) c.args.dim c.args.group.now.code (keep (suc c.args.dim) shared) going.whole
+    (front_apart c.args.dim (suc c.args.dim) shared c.args.group.now.upper.now (omega arith) (differs_behind c.args.at c.args.dim shared c.args.group.now.upper.now c.requires.at c.requires.gains))))

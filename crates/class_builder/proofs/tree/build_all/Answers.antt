@@ -7,56 +7,53 @@ use Rattle.cell_closure.proofs.Rows.{there}
 use Rattle.cell_closure.proofs.Closing.{shared_long}
 use Rattle.build_trace.specs.Trace.{Act.{Add}}
 use Rattle.class_builder.specs.Walk.{acts_from}
-use Rattle.class_builder.proofs.Building.{does_then, err_again, next_behind, next_front}
-use Rattle.class_builder.proofs.Whole.{first_next, no_cell, nodes_counted, root_going, root_path, rows_few, tree_built}
+use Rattle.class_builder.proofs.Building.{does_then, err_again, next_behind, next_front, stays_then}
+use Rattle.class_builder.proofs.Whole.{first_next, no_cell, nodes_counted, root_going, root_path, tree_built}
 use Rattle.class_builder.proofs.tree.build_all.Goals as goal
 
 pub add_root-requires-clause-none : goal.add_root-requires-clause-none
-add_root-requires-clause-none g c = no_cell c.args.arena.now.now (replicate c.args.arena.now.width None) c.requires.empty
-
-pub drill-built-requires-clause-few : goal.drill-built-requires-clause-few
-drill-built-requires-clause-few g c = rows_few c.args.table.now c.requires.table c.args.rows.now (there c.args.table.now c.args.rows.now c.requires.there) c.requires.all
+add_root-requires-clause-none g c = no_cell c.args.builder.now.arena.now.now (replicate c.args.builder.now.arena.now.width None) c.requires.empty
 
 pub drill-built-requires-clause-next : goal.drill-built-requires-clause-next
 drill-built-requires-clause-next g c =
-    let rows = named c.args.table.now c.args.rows.now in
-    let going = root_going c.args.table.now c.args.rows.now c.args.arena.now (there c.args.table.now c.args.rows.now c.requires.there) c.requires.all c.requires.table c.requires.some c.requires.width c.requires.opened c.requires.empty in
-    next_behind (Add (replicate c.args.arena.now.width None) ∷ []) (acts_from c.args.table.now 0 rows) c.args.arena.now c.add_root.new.arena
-    (first_next c.args.table.now.measures (rows_of c.args.table.now) _ c.args.arena.now going) (c.in-Ok.ensures.made c.args.table.now.measures (rows_of c.args.table.now))
+    let rows = named c.args.part.now.table.now c.args.part.now.rows.now in
+    let going = root_going c.args.part.now.table.now c.args.part.now.rows.now c.args.builder.now.arena.now (there c.args.part.now.table.now c.args.part.now.rows.now c.requires.part.there) c.requires.all c.requires.part.table c.requires.part.some c.requires.width c.requires.opened c.requires.empty in
+    next_behind (Add (replicate c.args.builder.now.arena.now.width None) ∷ []) (acts_from c.args.part.now.table.now 0 rows) c.args.builder.now.arena.now c.add_root.new.arena
+    (first_next c.args.part.now.table.now.measures (rows_of c.args.part.now.table.now) _ c.args.builder.now.arena.now going) (c.in-Ok.ensures.made c.args.part.now.table.now.measures (rows_of c.args.part.now.table.now))
 
 pub drill-built-requires-clause-path : goal.drill-built-requires-clause-path
 drill-built-requires-clause-path g c =
-    let long : length c.args.upper ≡ c.args.table.now.dims = ap length c.requires.upper ∙ shared_long c.args.table.now c.requires.table c.args.rows.now (there c.args.table.now c.args.rows.now c.requires.there) c.requires.some in
-    root_path c.add_root.new.arena c.start.result c.args.upper c.args.arena.now.width (long ∙ sym c.requires.width)
+    let long : length c.args.part.now.shared ≡ c.args.part.now.table.now.dims = ap length c.requires.part.shared ∙ shared_long c.args.part.now.table.now c.requires.part.table c.args.part.now.rows.now (there c.args.part.now.table.now c.args.part.now.rows.now c.requires.part.there) c.requires.part.some in
+    root_path c.add_root.new.arena c.start.result c.args.part.now.shared c.args.builder.now.arena.now.width (long ∙ sym c.requires.width)
     (ap (λ k. cell_at c.add_root.new.arena.now k) c.start.ensures ∙ c.in-Ok.ensures.here)
 
 pub returns-in-Ok-clause-tree : goal.returns-in-Ok-clause-tree
 returns-in-Ok-clause-tree g c =
-    let rows = named c.args.table.now c.args.rows.now in
-    let going = root_going c.args.table.now c.args.rows.now c.args.arena.now (there c.args.table.now c.args.rows.now c.requires.there) c.requires.all c.requires.table c.requires.some c.requires.width c.requires.opened c.requires.empty in
-    let root = Add (replicate c.args.arena.now.width None) ∷ [] in
+    let rows = named c.args.part.now.table.now c.args.part.now.rows.now in
+    let going = root_going c.args.part.now.table.now c.args.part.now.rows.now c.args.builder.now.arena.now (there c.args.part.now.table.now c.args.part.now.rows.now c.requires.part.there) c.requires.all c.requires.part.table c.requires.part.some c.requires.width c.requires.opened c.requires.empty in
+    let root = Add (replicate c.args.builder.now.arena.now.width None) ∷ [] in
     on_ok_weaker c.drill-built.result
-    (λ d. tree_built c.args.table.now.measures (rows_of c.args.table.now) _ c.args.arena.now c.drill-built.new.arena going
-    (does_then root (acts_from c.args.table.now 0 rows) c.args.arena.now c.add_root.new.arena c.drill-built.new.arena (c.in-Ok.ensures.made c.args.table.now.measures (rows_of c.args.table.now)) d))
+    (λ d. tree_built c.args.part.now.table.now.measures (rows_of c.args.part.now.table.now) _ c.args.builder.now.arena.now c.drill-built.new.builder.arena.now going
+    (does_then root (acts_from c.args.part.now.table.now 0 rows) c.args.builder.now.arena.now c.add_root.new.arena c.drill-built.new.builder.arena.now (c.in-Ok.ensures.made c.args.part.now.table.now.measures (rows_of c.args.part.now.table.now)) d))
     c.drill-built.ensures.does
 
 pub returns-in-Ok-clause-fits : goal.returns-in-Ok-clause-fits
 returns-in-Ok-clause-fits g c =
-    let rows = named c.args.table.now c.args.rows.now in
-    let going = root_going c.args.table.now c.args.rows.now c.args.arena.now (there c.args.table.now c.args.rows.now c.requires.there) c.requires.all c.requires.table c.requires.some c.requires.width c.requires.opened c.requires.empty in
-    let root = Add (replicate c.args.arena.now.width None) ∷ [] in
-    let few : map.len c.drill-built.new.arena.now ≤ c.drill-built.new.arena.max = subst (λ n. n ≤ c.drill-built.new.arena.max) c.live-nodes.ensures.value c.live-nodes.ensures.few in
-    let max : c.drill-built.new.arena.max ≡ c.args.arena.now.max = c.drill-built.ensures.stays.max ∙ c.in-Ok.ensures.max in
+    let rows = named c.args.part.now.table.now c.args.part.now.rows.now in
+    let going = root_going c.args.part.now.table.now c.args.part.now.rows.now c.args.builder.now.arena.now (there c.args.part.now.table.now c.args.part.now.rows.now c.requires.part.there) c.requires.all c.requires.part.table c.requires.part.some c.requires.width c.requires.opened c.requires.empty in
+    let root = Add (replicate c.args.builder.now.arena.now.width None) ∷ [] in
+    let few : map.len c.drill-built.new.builder.arena.now.now ≤ c.drill-built.new.builder.arena.now.max = c.is_within.ensures in
+    let max : c.drill-built.new.builder.arena.now.max ≡ c.args.builder.now.arena.now.max = c.drill-built.ensures.stays.max ∙ c.in-Ok.ensures.max in
     on_ok_weaker c.drill-built.result
     (λ d.
-    let count : map.len c.drill-built.new.arena.now ≡ length (nodes nat_cmp (rows_of c.args.table.now)) = nodes_counted c.args.table.now.measures (rows_of c.args.table.now) _ c.args.arena.now c.drill-built.new.arena going
-    (does_then root (acts_from c.args.table.now 0 rows) c.args.arena.now c.add_root.new.arena c.drill-built.new.arena (c.in-Ok.ensures.made c.args.table.now.measures (rows_of c.args.table.now)) d) in
+    let count : map.len c.drill-built.new.builder.arena.now.now ≡ length (nodes nat_cmp (rows_of c.args.part.now.table.now)) = nodes_counted c.args.part.now.table.now.measures (rows_of c.args.part.now.table.now) _ c.args.builder.now.arena.now c.drill-built.new.builder.arena.now going
+    (does_then root (acts_from c.args.part.now.table.now 0 rows) c.args.builder.now.arena.now c.add_root.new.arena c.drill-built.new.builder.arena.now (c.in-Ok.ensures.made c.args.part.now.table.now.measures (rows_of c.args.part.now.table.now)) d) in
     omega arith)
     c.drill-built.ensures.does
 
 pub returns-in-Err-clause-full : goal.returns-in-Err-clause-full
 returns-in-Err-clause-full g c = λ e.
-    let rows = named c.args.table.now c.args.rows.now in
-    let going = root_going c.args.table.now c.args.rows.now c.args.arena.now (there c.args.table.now c.args.rows.now c.requires.there) c.requires.all c.requires.table c.requires.some c.requires.width c.requires.opened c.requires.empty in
-    c.in-Err.ensures.full (err_again c.in-Err.error _ e) c.args.table.now.measures (rows_of c.args.table.now)
-    (next_front (Add (replicate c.args.arena.now.width None) ∷ []) (acts_from c.args.table.now 0 rows) c.args.arena.now (first_next c.args.table.now.measures (rows_of c.args.table.now) _ c.args.arena.now going))
+    let rows = named c.args.part.now.table.now c.args.part.now.rows.now in
+    let going = root_going c.args.part.now.table.now c.args.part.now.rows.now c.args.builder.now.arena.now (there c.args.part.now.table.now c.args.part.now.rows.now c.requires.part.there) c.requires.all c.requires.part.table c.requires.part.some c.requires.width c.requires.opened c.requires.empty in
+    c.in-Err.ensures.full (err_again c.in-Err.error _ e) c.args.part.now.table.now.measures (rows_of c.args.part.now.table.now)
+    (next_front (Add (replicate c.args.builder.now.arena.now.width None) ∷ []) (acts_from c.args.part.now.table.now 0 rows) c.args.builder.now.arena.now (first_next c.args.part.now.table.now.measures (rows_of c.args.part.now.table.now) _ c.args.builder.now.arena.now going))

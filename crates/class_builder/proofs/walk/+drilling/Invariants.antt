@@ -1,4 +1,4 @@
-use Rattle.std.proofs.Common.{◌+◌, ◌*◌, ◌-◌, None}
+use Rattle.std.proofs.Common.{◌≡◌, ◌+◌, ◌*◌, ◌-◌, None}
 use Rattle.base_table.specs.Places.{named, rows_of}
 use Rattle.qc_arena.specs.Map.{Arena}
 use Rattle.build_trace.specs.Trace.{acts_at}
@@ -8,32 +8,34 @@ use Rattle.class_builder.proofs.Steps.{parts_from}
 use Rattle.class_builder.proofs.walk.+drilling.Given as goal
 
 abbrev pub decreases-drill : goal.decreases-drill
-decreases-drill g l = 4 * (l.table.now.dims - l.first) + 3
+decreases-drill g l = 4 * (l.part.now.table.now.dims - l.first) + 3
 
 abbrev pub decreases-drill_at : goal.decreases-drill_at
-decreases-drill_at g l = 4 * (l.table.now.dims - l.dim) + 2
+decreases-drill_at g l = 4 * (l.part.now.table.now.dims - l.dim) + 2
 
 abbrev pub decreases-drill_in : goal.decreases-drill_in
-decreases-drill_in g l = 4 * (l.table.now.dims - l.dim) + 1
+decreases-drill_in g l = 4 * (l.part.now.table.now.dims - l.dim) + 1
 
 abbrev pub decreases-drill_part : goal.decreases-drill_part
-decreases-drill_part g l = 4 * (l.table.now.dims - l.dim)
+decreases-drill_part g l = 4 * (l.group.now.table.now.dims - l.dim)
 
 -- who does what is to come has done the whole
 abbrev pub invariant-drill-dims : goal.invariant-drill-dims
 invariant-drill-dims g l = record {
-  whole : (c : Arena) → Does l.table.measures (rows_of l.table) (acts_from l.table l.dim (named l.table l.rows)) l.arena c
-      → Does l.table.measures (rows_of l.table) (acts_from l.table l.first (named l.table l.rows)) l.fn.arena c;
-  next : IsNext l.table.measures (rows_of l.table) (acts_from l.table l.dim (named l.table l.rows)) l.arena;
-  path : IsOnPath l.arena l.path l.upper l.dim;
-  stays : StaysOpen l.fn.arena l.arena;
+  whole : (c : Arena) → Does l.part.table.now.measures (rows_of l.part.table.now) (acts_from l.part.table.now l.dim (named l.part.table.now l.part.rows.now)) l.builder.arena.now c
+      → Does l.part.table.now.measures (rows_of l.part.table.now) (acts_from l.part.table.now l.first (named l.part.table.now l.part.rows.now)) l.fn.builder.arena.now c;
+  next : IsNext l.part.table.now.measures (rows_of l.part.table.now) (acts_from l.part.table.now l.dim (named l.part.table.now l.part.rows.now)) l.builder.arena.now;
+  path : IsOnPath l.builder.arena.now l.path l.part.shared l.dim;
+  stays : StaysOpen l.fn.builder.arena.now l.builder.arena.now;
+  same : l.builder.arena.ghost_name ≡ l.fn.builder.arena.ghost_name;
 }
 
 abbrev pub invariant-drill_in-parts : goal.invariant-drill_in-parts
 invariant-drill_in-parts g l = record {
-  whole : (c : Arena) → Does l.table.measures (rows_of l.table) (parts_from l.table l.dim l.upper (named l.table l.rows) l.k) l.arena c
-      → Does l.table.measures (rows_of l.table) (acts_at (acts_from l.table (l.dim + 1)) l.dim l.upper None (named l.table l.rows)) l.fn.arena c;
-  next : IsNext l.table.measures (rows_of l.table) (parts_from l.table l.dim l.upper (named l.table l.rows) l.k) l.arena;
-  path : IsOnPath l.arena l.path l.upper l.dim;
-  stays : StaysOpen l.fn.arena l.arena;
+  whole : (c : Arena) → Does l.part.table.now.measures (rows_of l.part.table.now) (parts_from l.part.table.now l.dim l.part.shared (named l.part.table.now l.part.rows.now) l.k) l.builder.arena.now c
+      → Does l.part.table.now.measures (rows_of l.part.table.now) (acts_at (acts_from l.part.table.now (l.dim + 1)) l.dim l.part.shared None (named l.part.table.now l.part.rows.now)) l.fn.builder.arena.now c;
+  next : IsNext l.part.table.now.measures (rows_of l.part.table.now) (parts_from l.part.table.now l.dim l.part.shared (named l.part.table.now l.part.rows.now) l.k) l.builder.arena.now;
+  path : IsOnPath l.builder.arena.now l.path l.part.shared l.dim;
+  stays : StaysOpen l.fn.builder.arena.now l.builder.arena.now;
+  same : l.builder.arena.ghost_name ≡ l.fn.builder.arena.ghost_name;
 }

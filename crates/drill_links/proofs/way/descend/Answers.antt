@@ -8,7 +8,7 @@ use Rattle.drill_links.proofs.way.descend.Goals.{in-Any, in-Is}
 
 pub unwrap-node-requires : goal.unwrap-node-requires
 unwrap-node-requires g c =
-    edge_there c.args.arena.now c.args.target.now c.args.first c.args.last c.args.from.0 c.requires.way c.down.dim c.down.node.0 c.in-Is.code (omega arith) c.in-Is.ensures.value c.down.invariant c.edge.result c.edge.ensures.value
+    edge_there c.args.arena.now.now c.args.target.now c.args.first c.args.last c.requires.way c.down.dim c.down.node.0 c.in-Is.code (omega arith) (omega arith) c.in-Is.ensures.value c.down.invariant c.edge.result c.edge.ensures.value
 
 pub down-preserved : goal.down-preserved
 down-preserved g c = elim c.match-get.branch [
@@ -17,7 +17,7 @@ down-preserved g c = elim c.match-get.branch [
       ∙ stays c.args.target.now c.down.dim (cell_at c.args.arena.now.now c.down.node.0) w.in-Any.ensures.value c.down.invariant
   | in-Is w ↦
       ap (λ (k : NodeNo). cell_at c.args.arena.now.now k.0) w.node-is
-      ∙ edge_to c.args.arena.now c.args.target.now c.args.first c.args.last c.args.from.0 c.requires.way c.down.dim c.down.node.0 w.in-Is.code (omega arith) w.in-Is.ensures.value c.down.invariant w.edge.result w.unwrap-node.result w.edge.ensures.value w.unwrap-node.ensures
+      ∙ edge_to c.args.arena.now.now c.args.target.now c.args.first c.args.last c.requires.way c.down.dim c.down.node.0 w.in-Is.code (omega arith) (omega arith) w.in-Is.ensures.value c.down.invariant w.edge.result w.unwrap-node.result w.edge.ensures.value w.unwrap-node.ensures
 ]
 
 pub returns-after-get : goal.returns-after-get
@@ -30,6 +30,6 @@ returns-after-get g c =
           ∙ ap (λ i. Some (keep i c.args.target.now)) next
       | in-Is w ↦
           ap (λ (k : NodeNo). cell_at c.args.arena.now.now k.0) w.node-is
-          ∙ edge_to c.args.arena.now c.args.target.now c.args.first c.args.last c.args.from.0 c.requires.way c.down.dim c.down.node.0 w.in-Is.code (omega arith) w.in-Is.ensures.value c.down.invariant w.edge.result w.unwrap-node.result w.edge.ensures.value w.unwrap-node.ensures
+          ∙ edge_to c.args.arena.now.now c.args.target.now c.args.first c.args.last c.requires.way c.down.dim c.down.node.0 w.in-Is.code (omega arith) (omega arith) w.in-Is.ensures.value c.down.invariant w.edge.result w.unwrap-node.result w.edge.ensures.value w.unwrap-node.ensures
           ∙ ap (λ i. Some (keep i c.args.target.now)) next
     ]

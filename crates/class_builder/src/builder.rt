@@ -1,0 +1,27 @@
+// What the walk changes.
+ghost use Rattle.std.specs.Prelude.{◌≡◌};
+
+use crate::room::Room;
+use cell_core::Steps;
+use qc_arena::QcArena;
+use std::sync::ledger::Ledger;
+
+/// The arena in which a tree is built, room to part rows in, and the steps so far.
+pub(crate) struct Builder<'a, L: Ledger> {
+    pub(crate) arena: &'a mut QcArena,
+    pub(crate) room: &'a mut Room,
+    pub(crate) steps: &'a mut Steps<L>,
+}
+
+/// What is lent goes back as it is.
+impl<L: Ledger> Drop for Builder<'_, L> {
+    fn drop(self)
+        ensures { self.exit.0.now ≡ self.entry.arena.now }
+    {
+        let Builder {
+            arena: _arena,
+            room: _room,
+            steps: _steps,
+        } = self;
+    }
+}
