@@ -327,7 +327,7 @@ pub(crate) fn change<L: Ledger>(
     ensures applied { IfOk result (λ applied. result_of (state_of schema.now dict.old table.old) (Ok batch.now.changes) ≡ Ok (record { records = applied.records; classes = applied.classes; state = state_of schema.now dict.new table.new })) }
     ensures refused { IfErr result (λ e. IfSome (refusal_in e) (λ refusal. result_of (state_of schema.now dict.old table.old) (Ok batch.now.changes) ≡ Err refusal)) }
     ensures err { OnErr result (state_of schema.now dict.new table.new ≡ state_of schema.now dict.old table.old) }
-    ensures tree { OnErr result (tree.new ≡ tree.old) }
+    ensures tree { OnErr result (tree.new.now ≡ tree.old.now) }
     ensures stored { IsStored schema.now dict.new table.new }
     ensures kept { IsKept schema.now table.new tree.new }
 {
@@ -341,7 +341,7 @@ pub(crate) fn change<L: Ledger>(
     let lens = lengths(dict, dims);
     match change_table(schema, table, dict, batch, alloc, steps) {
         Ok(new) => {
-            let classes = new.counts().classes;
+            let classes = new.class_count();
             *tree = new;
             Ok(Applied { records, classes })
         }

@@ -103,6 +103,7 @@ impl Warehouse {
     pub fn tree(&self) -> &QcArena
         ensures value { result.now.now ≡ self.now.tree }
         ensures width { result.now.width ≡ length self.now.state.schema.dims }
+        ensures max { result.now.max ≡ self.now.state.schema.nodes }
         ensures valid { IsHeld self.now }
     {
         &self.tree
@@ -116,13 +117,15 @@ impl Warehouse {
         ensures tree_edges { result.tree_edges ≡ trees.tree_edges text_cmp self.now.state.rows }
         ensures links { result.links ≡ trees.links text_cmp self.now.state.rows }
     {
-        let counts = self.tree.counts();
+        let nodes = self.tree.live();
+        // Each node but the root is the child of one node.
+        let tree_edges = u64::from(nodes.saturating_sub(1));
         Stats {
             rows: self.table.count(),
-            classes: counts.classes,
-            nodes: counts.nodes,
-            tree_edges: counts.tree_edges,
-            links: counts.links,
+            classes: self.tree.class_count(),
+            nodes,
+            tree_edges,
+            links: self.tree.edge_total() - tree_edges,
         }
     }
 
@@ -137,7 +140,8 @@ impl Warehouse {
         ensures applied { IfOk result (λ applied. result_of self.old.state (Ok batch.now.changes) ≡ Ok (record { records = applied.records; classes = applied.classes; state = self.new.state })) }
         ensures refused { IfErr result (λ e. IfSome (refusal_in e) (λ refusal. result_of self.old.state (Ok batch.now.changes) ≡ Err refusal)) }
         ensures valid { IsHeld self.new }
-        ensures err { OnErr result (self.new ≡ self.old) }
+        ensures state { OnErr result (self.new.state ≡ self.old.state) }
+        ensures tree { OnErr result (self.new.tree ≡ self.old.tree) }
     {
         change(
             &self.schema,
@@ -160,7 +164,8 @@ impl Warehouse {
         ensures applied { IfOk result (λ applied. batches.result self.old.state batches.Load bytes.now ≡ Ok (record { records = applied.records; classes = applied.classes; state = self.new.state })) }
         ensures refused { IfErr result (λ e. IfSome (refusal_in e) (λ refusal. batches.result self.old.state batches.Load bytes.now ≡ Err refusal)) }
         ensures valid { IsHeld self.new }
-        ensures err { OnErr result (self.new ≡ self.old) }
+        ensures state { OnErr result (self.new.state ≡ self.old.state) }
+        ensures tree { OnErr result (self.new.tree ≡ self.old.tree) }
     {
         if self.table.count() != 0 {
             return Err(Refused::NotEmpty);
@@ -182,7 +187,8 @@ impl Warehouse {
         ensures applied { IfOk result (λ applied. batches.result self.old.state batches.Apply bytes.now ≡ Ok (record { records = applied.records; classes = applied.classes; state = self.new.state })) }
         ensures refused { IfErr result (λ e. IfSome (refusal_in e) (λ refusal. batches.result self.old.state batches.Apply bytes.now ≡ Err refusal)) }
         ensures valid { IsHeld self.new }
-        ensures err { OnErr result (self.new ≡ self.old) }
+        ensures state { OnErr result (self.new.state ≡ self.old.state) }
+        ensures tree { OnErr result (self.new.tree ≡ self.old.tree) }
     {
         match read_batch(self.alloc, &self.schema, bytes) {
             Ok(batch) => self.change(&batch, steps),

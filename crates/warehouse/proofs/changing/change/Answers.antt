@@ -22,7 +22,7 @@ pub returns-in-Ok-clause-applied : goal.returns-in-Ok-clause-applied
 returns-in-Ok-clause-applied g c =
     let e = c.in-Ok.ensures in
     let old = state_of c.args.schema.now c.args.dict.now c.args.table.now in
-    let count : length (classes text_cmp (rows_after old.rows c.args.batch.now.changes)) ≡ c.counts-classes.result.classes =
+    let count : length (classes text_cmp (rows_after old.rows c.args.batch.now.changes)) ≡ c.class_count-classes.result =
     ap (λ (s : State). length (classes text_cmp s.rows)) (sym e.made)
-    ∙ sym (c.counts-classes.ensures.classes ∙ classes-kept c.change_table.new.dict.lists (rows_of c.change_table.new.table) e.stored.known e.stored.dictionary.distinct _ _ c.in-Ok.new.now e.tree.from) in
+    ∙ sym (c.class_count-classes.ensures ∙ classes-kept c.change_table.new.dict.lists (rows_of c.change_table.new.table) e.stored.known e.stored.dictionary.distinct _ _ c.in-Ok.new.now e.tree.from) in
     rw (e.none, count, sym e.made, c.len-records.ensures.count) refl
