@@ -15,6 +15,7 @@ use Rattle.value_dict.specs.TextLists.{IsDictionary, TextLists}
 use Rattle.value_dict.specs.Told.{RowsAreCodes, decoded_row}
 use Rattle.warehouse.specs.Batch as batches
 use Rattle.warehouse.specs.State.{State}
+use Rattle.warehouse.specs.declared.refused.Applied.{Applied}
 use Rattle.warehouse.specs.declared.refused.Refused.{Refused}
 use Rattle.warehouse.specs.declared.refused.Refused.TheVariants as refusals
 
@@ -47,6 +48,10 @@ pub record IsKept (schema : Layout) (table : Places) (tree : Arena) : Type 0 whe
   pub max : tree.max ≡ schema.nodes
   pub few : length (nodes nat_cmp (rows_of table)) ≤ schema.nodes
   pub from : IsFrom (length schema.dims) tree.now (record { measures = length schema.measures; rows = rows_of table })
+
+-- what a file did that was taken, with the state after it
+abbrev pub applied_in : State → Applied → batches.Applied
+applied_in s applied = record { records = applied.records; classes = applied.classes; state = s }
 
 -- what a refusal of the code says, but for want of memory
 abbrev pub refusal_in : Refused → Option batches.Refusal

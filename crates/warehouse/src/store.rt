@@ -1,5 +1,6 @@
 // The state, the tree of its rows, and what files do to them.
-ghost use Rattle.std.specs.Prelude.{Err, IfErr, IfOk, IfSome, List, Ok, OnErr, Result, length, ◌≡◌, ◌≤◌};
+ghost use Rattle.std.specs.Prelude.{Err, IfOk, IfSome, List, Ok, OnErr, Result, length, ◌≡◌, ◌≤◌};
+ghost use Rattle.cell_core.specs.Gives.{Gives};
 ghost use Rattle.csv_load.specs.Batch.{Change};
 ghost use Rattle.csv_load.specs.Faults.{Fails, Fault};
 ghost use Rattle.cube_defs.specs.Text.{Text, text_cmp};
@@ -7,7 +8,7 @@ ghost use Rattle.cube_defs.specs.Tree as trees;
 ghost use Rattle.warehouse.specs.Batch as batches;
 ghost use Rattle.warehouse.specs.Batch.{result_of};
 ghost use Rattle.warehouse.specs.State.{IsHeld, State, empty};
-ghost use Rattle.warehouse.specs.Stored.{refusal_in};
+ghost use Rattle.warehouse.specs.Stored.{applied_in, refusal_in};
 
 use crate::Memory;
 use crate::changing::change;
@@ -137,8 +138,7 @@ impl Warehouse {
     ) -> Result<Applied, Refused>
         requires dims { batch.now.dims ≡ length self.old.state.schema.dims }
         requires measures { batch.now.measures ≡ length self.old.state.schema.measures }
-        ensures applied { IfOk result (λ applied. result_of self.old.state (Ok batch.now.changes) ≡ Ok (record { records = applied.records; classes = applied.classes; state = self.new.state })) }
-        ensures refused { IfErr result (λ e. IfSome (refusal_in e) (λ refusal. result_of self.old.state (Ok batch.now.changes) ≡ Err refusal)) }
+        ensures gives { Gives refusal_in (applied_in self.new.state) result (result_of self.old.state (Ok batch.now.changes)) }
         ensures valid { IsHeld self.new }
         ensures state { OnErr result (self.new.state ≡ self.old.state) }
         ensures tree { OnErr result (self.new.tree ≡ self.old.tree) }
@@ -161,8 +161,7 @@ impl Warehouse {
         steps: &mut Steps<L>,
     ) -> Result<Applied, Refused>
         requires { length bytes.now ≤ MAX_FILE }
-        ensures applied { IfOk result (λ applied. batches.result self.old.state batches.Load bytes.now ≡ Ok (record { records = applied.records; classes = applied.classes; state = self.new.state })) }
-        ensures refused { IfErr result (λ e. IfSome (refusal_in e) (λ refusal. batches.result self.old.state batches.Load bytes.now ≡ Err refusal)) }
+        ensures gives { Gives refusal_in (applied_in self.new.state) result (batches.result self.old.state batches.Load bytes.now) }
         ensures valid { IsHeld self.new }
         ensures state { OnErr result (self.new.state ≡ self.old.state) }
         ensures tree { OnErr result (self.new.tree ≡ self.old.tree) }
@@ -184,8 +183,7 @@ impl Warehouse {
         steps: &mut Steps<L>,
     ) -> Result<Applied, Refused>
         requires { length bytes.now ≤ MAX_FILE }
-        ensures applied { IfOk result (λ applied. batches.result self.old.state batches.Apply bytes.now ≡ Ok (record { records = applied.records; classes = applied.classes; state = self.new.state })) }
-        ensures refused { IfErr result (λ e. IfSome (refusal_in e) (λ refusal. batches.result self.old.state batches.Apply bytes.now ≡ Err refusal)) }
+        ensures gives { Gives refusal_in (applied_in self.new.state) result (batches.result self.old.state batches.Apply bytes.now) }
         ensures valid { IsHeld self.new }
         ensures state { OnErr result (self.new.state ≡ self.old.state) }
         ensures tree { OnErr result (self.new.tree ≡ self.old.tree) }
