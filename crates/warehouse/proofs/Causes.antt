@@ -1,6 +1,6 @@
 -- The causes in their order, as the passes over a batch find them.
-use Rattle.std.proofs.Common.{◌≡◌, ◌<◌, ◌≤◌, ◌+◌, ◌∙◌, ℕ, List, ◌++◌, Bool, true, false, Option, Some, None, length, map, nat_lt, is_some, refl, sym, ap, ap₂, arith}
-use Rattle.std.specs.Prelude.{option_map, not}
+use Rattle.std.proofs.Common.{◌≡◌, ◌<◌, ◌≤◌, ◌+◌, ◌∙◌, ℕ, List, ◌++◌, Bool, true, false, Option, Some, None, length, map, nat_lt, refl, sym, ap, ap₂, arith}
+use Rattle.std.specs.Prelude.{Err, IfSome, Ok, option_map, not}
 use Rattle.std.proofs.lemmas.List.{length-append}
 use Rattle.cube_defs.specs.Rows.{Row}
 use Rattle.cube_defs.specs.Text.{Text, text_cmp}
@@ -10,7 +10,7 @@ use Rattle.base_table.specs.Places.{Places, rows_of}
 use Rattle.qc_schema.specs.Schema.{Layout}
 use Rattle.value_dict.specs.TextLists.{TextLists}
 use Rattle.warehouse.specs.Batch as batches
-use Rattle.warehouse.specs.Batch.{Refusal, first_number, first_twice, full_dim, is_among, is_missing, is_present, or_else, refusal_of, rows_after, texts_after}
+use Rattle.warehouse.specs.Batch.{Refusal, first_number, first_twice, full_dim, is_among, is_missing, is_present, or_else, refusal_of, result_of, rows_after, texts_after}
 use Rattle.warehouse.specs.State.{State, ids_of}
 use Rattle.warehouse.specs.Steps.{is_there, last_refusal}
 use Rattle.warehouse.specs.Stored.{state_of}
@@ -35,10 +35,16 @@ pub cause-values : (s : State) (changes : List (Change Text)) → first_twice ch
     → refusal_of s changes ≡ or_else (option_map (λ dim. batches.ValuesFull dim) (full_dim s.schema.values (texts_after s.texts changes))) (last_refusal s changes)
 cause-values s changes once there new room = rw (once, there, new, room) refl
 
--- a cause that is there goes before those behind it
-pub first-cause : (f : ℕ → Refusal) (o : Option ℕ) (second : Option Refusal) → is_some o ≡ true → or_else (option_map f o) second ≡ option_map f o
-first-cause f None second is = cc
-first-cause f (Some x) second is = refl
+-- what is named is the first cause, where those before it aren't there
+pub caused : (s : State) (changes : List (Change Text)) (named first : Option Refusal) → refusal_of s changes ≡ or_else first (last_refusal s changes)
+    → IfSome named (λ refusal. first ≡ Some refusal) → IfSome named (λ refusal. refusal_of s changes ≡ Some refusal)
+caused s changes None first is h = h
+caused s changes (Some refusal) first is h = is ∙ ap (λ (o : Option Refusal). or_else o (last_refusal s changes)) h
+
+-- what is caused so is the answer
+pub refused-so : (s : State) (changes : List (Change Text)) (named : Option Refusal) → IfSome named (λ refusal. refusal_of s changes ≡ Some refusal) → IfSome named (λ refusal. result_of s (Ok changes) ≡ Err refusal)
+refused-so s changes None h = h
+refused-so s changes (Some refusal) h = rw h refl
 
 -- these ids are those of the rows with their texts
 pub missing-decoded : (lists : List (List Text)) (rows : List (Row ℕ)) (changes : List (Change Text)) → first_number (is_missing (ids_of (map (decoded_row lists) rows))) changes ≡ first_number (is_missing (ids_of rows)) changes

@@ -1,6 +1,6 @@
 -- Rows of texts have as many classes, nodes and edges as their codes, and as the tree that is kept.
-use Rattle.std.proofs.Common.{◌≡◌, ◌∙◌, ℕ, List, length, map, sym, ap}
-use Rattle.std.specs.List.{All, IsDistinct}
+use Rattle.std.proofs.Common.{◌≡◌, ◌-◌, ◌∙◌, ℕ, suc, List, [], ◌∷◌, length, map, refl, sym, ap, arith, inl}
+use Rattle.std.specs.List.{All, AllByRecursion, IsDistinct}
 use Rattle.std.specs.Ordering.{nat_cmp}
 use Rattle.std.specs.Str.{bytes_eq}
 use Rattle.std.specs.Cmp.{nat_cmp_total}
@@ -13,12 +13,20 @@ use Rattle.cube_defs.specs.Tree.{Tree, classes, links, nodes, tree_edges}
 use Rattle.tree_search.specs.Found.{IsFrom}
 use Rattle.cube_laws.specs.Recoding.{coded_row}
 use Rattle.tree_laws.specs.Counts.{classes_in, links_in, tree_edges_in}
+use Rattle.tree_laws.proofs.TreeEdges.{one_tree}
 use Rattle.tree_laws.proofs.Counted.{classes_counted, links_counted, nodes_counted, tree_edges_counted}
 use Rattle.tree_laws.proofs.RecodedCounts.{classes_as_many, links_as_many, nodes_as_many, tree_edges_as_many}
 use Rattle.warehouse.specs.State.{place_in}
 use Rattle.value_dict.specs.Told.{RowsAreCodes, decoded_row}
 use Rattle.warehouse.proofs.Apart.{places-apart}
 use Rattle.warehouse.proofs.Decoding.{rows-back, rows-known}
+
+-- there is one tree edge fewer than nodes, or none of both
+edges-less : (dims : ℕ) (rows : List (Row ℕ)) → AllByRecursion (λ row. length row.tuple ≡ dims) rows → tree_edges nat_cmp rows ≡ length (nodes nat_cmp rows) - 1
+edges-less dims [] wide = refl
+edges-less dims (row ∷ rows) wide =
+    let one : suc (tree_edges nat_cmp (row ∷ rows)) ≡ length (nodes nat_cmp (row ∷ rows)) = one_tree nat_cmp_total nat_cmp-IsAntisymmetric dims (row ∷ rows) wide row (inl refl) in
+    omega (arith, one)
 
 module _ (lists : List (List Text)) (rows : List (Row ℕ)) (known : RowsAreCodes lists rows) (distinct : All (IsDistinct bytes_eq) lists) where
   -- what is counted of the codes is counted of the coded texts
@@ -51,6 +59,12 @@ module _ (lists : List (List Text)) (rows : List (Row ℕ)) (known : RowsAreCode
 
     pub nodes-kept : finmap.len tree ≡ length (nodes text_cmp (map (decoded_row lists) rows))
     nodes-kept = nodes_counted nat_cmp_total nat_cmp-IsAntisymmetric dims measures rows from.wide tree from.canonical ∙ nodes-decoded
+
+    pub tree_edges-less : tree_edges_in nat_cmp tree ≡ finmap.len tree - 1
+    tree_edges-less =
+        tree_edges_counted nat_cmp_total nat_cmp-IsAntisymmetric dims measures rows from.wide tree from.canonical
+        ∙ edges-less dims rows from.wide
+        ∙ ap (λ (n : ℕ). n - 1) (sym (nodes_counted nat_cmp_total nat_cmp-IsAntisymmetric dims measures rows from.wide tree from.canonical))
 
     pub tree_edges-kept : tree_edges_in nat_cmp tree ≡ tree_edges text_cmp (map (decoded_row lists) rows)
     tree_edges-kept = tree_edges_counted nat_cmp_total nat_cmp-IsAntisymmetric dims measures rows from.wide tree from.canonical ∙ tree_edges-decoded

@@ -7,10 +7,16 @@ use Rattle.cube_defs.specs.Rows.{Row}
 use Rattle.cube_defs.specs.Text.{Text}
 use Rattle.base_table.specs.Places.{row_of, values_of}
 use Rattle.csv_load.specs.Batch.{Change, Delete, Insert, id_of, inserted, is_deletion}
+use Rattle.value_dict.specs.TextLists.{TextLists, cut}
+use Rattle.value_dict.proofs.Dictionaries.{with_lists}
 use Rattle.warehouse.proofs.Changes.{amounts_of, tuple_of}
 use Rattle.warehouse.specs.Steps.{AreLonger}
 use Rattle.value_dict.specs.Told.{AreCodes, RowsAreCodes, decoded, decoded_row}
 use Rattle.warehouse.proofs.Texts.{front-length, longer-head, longer-tail}
+
+-- a dictionary cut back to the lengths that its lists had is as it was
+pub cut-back : (was now back : TextLists) (lens : List ℕ) → lens ≡ map (λ (texts : List Text). length texts) was.lists → back.lists ≡ cut now.lists lens → back.max ≡ now.max → now.max ≡ was.max → AreLonger was.lists now.lists → back ≡ was
+cut-back was now back lens are cuts max same longer = ap₂ with_lists (max ∙ same) (cuts ∙ ap (cut now.lists) are ∙ longer.fronts)
 
 pub decoded-longer : (before now : List (List Text)) (codes : List ℕ) → AreLonger before now → AreCodes before codes → decoded now codes ≡ decoded before codes
 decoded-longer before now [] longer are = refl

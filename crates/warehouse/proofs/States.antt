@@ -1,10 +1,12 @@
 -- What is true of each state.
 use Rattle.std.proofs.Common.{◌<◌, ◌≤◌, ◌∙◌, ℕ, List, [], ◌∷◌, length, map, nat_eq, sym, subst, arith, refl, replicate, None, lit<}
 use Rattle.std.specs.List.{All, IsDistinct}
+use Rattle.std.specs.Ordering.{nat_cmp}
 use Rattle.std.proofs.lemmas.List.Elements.{All-cons, All-head, All-nil, All-replicate, All-tail}
 use Rattle.std.proofs.lemmas.List.{length-replicate}
 use Rattle.cube_defs.specs.Rows.{Row}
 use Rattle.cube_defs.specs.Text.{Text}
+use Rattle.cube_defs.specs.Tree.{nodes}
 use Rattle.base_table.specs.Places.{IsRow, IsTable, Places, rows_of}
 use Rattle.csv_load.specs.Batch.{IsLoaded, IsValue}
 use Rattle.qc_schema.specs.Schema.{IsLayout, Layout}
@@ -12,6 +14,7 @@ use Rattle.value_dict.specs.TextLists.{IsDictionary, TextLists, no_texts}
 use Rattle.warehouse.specs.State.{IsState}
 use Rattle.warehouse.specs.Stored.{IsStored, state_of}
 use Rattle.value_dict.specs.Told.{AreCodes, RowsAreCodes, decoded_row}
+use Rattle.warehouse.proofs.Counted.{nodes-decoded}
 use Rattle.warehouse.proofs.Decoding.{ids-decoded, length-decoded, length-rows, rows-known, values-decoded}
 
 loaded-row : (lists : List (List Text)) (dims measures : ℕ) (row : Row ℕ) → AreCodes lists row.tuple → All (All IsValue) lists → IsRow dims measures row → IsLoaded dims measures (decoded_row lists row)
@@ -30,8 +33,8 @@ loaded-rows lists dims measures (row ∷ rows) are values all =
     (loaded-row lists dims measures row (All-head (λ (r : Row ℕ). AreCodes lists r.tuple) row rows are) values (All-head (IsRow dims measures) row rows all))
     (loaded-rows lists dims measures rows (All-tail (λ (r : Row ℕ). AreCodes lists r.tuple) row rows are) values (All-tail (IsRow dims measures) row rows all))
 
-pub is-state : (schema : Layout) (dict : TextLists) (table : Places) → IsStored schema dict table → IsState (state_of schema dict table)
-is-state schema dict table is = record {
+pub is-state : (schema : Layout) (dict : TextLists) (table : Places) → IsStored schema dict table → length (nodes nat_cmp (rows_of table)) ≤ schema.nodes → IsState (state_of schema dict table)
+is-state schema dict table is few = record {
   layout = is.layout;
   rows =
       let all : All (IsRow (length schema.dims) (length schema.measures)) (rows_of table) = rw (is.dims, is.measures) at is.are_rows.rows.each in
@@ -43,6 +46,7 @@ is-state schema dict table is = record {
   distinct = is.dictionary.distinct;
   few_texts = subst (λ (n : ℕ). All (λ (texts : List Text). length texts ≤ n) dict.lists) is.most_texts is.dictionary.within;
   known = rows-known dict.lists (rows_of table) is.known;
+  few_nodes = subst (λ (n : ℕ). n ≤ schema.nodes) (nodes-decoded dict.lists (rows_of table) is.known is.dictionary.distinct) few;
 }
 
 -- a table without rows

@@ -1,11 +1,11 @@
 -- The tree that is kept beside the rows.
-use Rattle.std.proofs.Common.{◌≡◌, ◌∙◌, ℕ, List, [], false, None, Some, length, true≢false, refl, sym, ap, subst}
+use Rattle.std.proofs.Common.{◌≡◌, ◌∙◌, ◌≤◌, ℕ, List, [], false, None, Some, arith, length, true≢false, refl, sym, ap, subst}
 use Rattle.std.specs.FinMap as finmap
 use Rattle.std.specs.Ordering.{nat_cmp}
 use Rattle.std.specs.Prelude.{option_map}
 use Rattle.std.specs.List.{AllByRecursion}
 use Rattle.cube_defs.specs.Rows.{Row}
-use Rattle.cube_defs.specs.Tree.{IsCanonical, Node}
+use Rattle.cube_defs.specs.Tree.{IsCanonical, Node, nodes}
 use Rattle.base_table.specs.Places.{IsRow, IsTable, Places, rows_of}
 use Rattle.cell_closure.proofs.Rows.{all_recursion}
 use Rattle.cube_laws.proofs.Lists.{all_map}
@@ -34,14 +34,15 @@ pub rows-wide : (table : Places) → IsTable table → AllByRecursion (λ (row :
 rows-wide table is = all_map (IsRow table.dims table.measures) (λ row. length row.tuple ≡ table.dims) (rows_of table) (λ row is. is.tuple) (all_recursion (IsRow table.dims table.measures) (rows_of table) is.rows.each)
 
 pub kept-empty : (schema : Layout) → IsKept schema (no_rows (length schema.dims) (length schema.measures) schema.rows) (no_nodes (length schema.dims) schema.nodes)
-kept-empty schema = record { closed = refl; width = refl; max = refl; from = none-from (length schema.dims) (length schema.measures) }
+kept-empty schema = record { closed = refl; width = refl; max = refl; few = let none : 0 ≤ schema.nodes = omega arith in none; from = none-from (length schema.dims) (length schema.measures) }
 
 pub kept-canonical : (schema : Layout) (table : Places) (tree : Arena) → IsTable table → table.dims ≡ length schema.dims → table.measures ≡ length schema.measures
-    → tree.is_open ≡ false → tree.width ≡ length schema.dims → tree.max ≡ schema.nodes → IsCanonical nat_cmp table.measures (rows_of table) tree.now → IsKept schema table tree
-kept-canonical schema table tree is dims measures closed width max canonical = record {
+    → tree.is_open ≡ false → tree.width ≡ length schema.dims → tree.max ≡ schema.nodes → length (nodes nat_cmp (rows_of table)) ≤ schema.nodes → IsCanonical nat_cmp table.measures (rows_of table) tree.now → IsKept schema table tree
+kept-canonical schema table tree is dims measures closed width max few canonical = record {
   closed = closed;
   width = width;
   max = max;
+  few = few;
   from = record {
     wide = subst (λ (n : ℕ). AllByRecursion (λ (row : Row ℕ). length row.tuple ≡ n) (rows_of table)) dims (rows-wide table is);
     canonical = subst (λ (n : ℕ). IsCanonical nat_cmp n (rows_of table) tree.now) measures canonical;
@@ -54,12 +55,13 @@ kept-rows schema before after tree same kept = record {
   closed = kept.closed;
   width = kept.width;
   max = kept.max;
+  few = subst (λ (rows : List (Row ℕ)). length (nodes nat_cmp rows) ≤ schema.nodes) (sym same) kept.few;
   from = subst (λ (rows : List (Row ℕ)). IsFrom (length schema.dims) tree.now (record { measures = length schema.measures; rows = rows })) (sym same) kept.from;
 }
 
 pub is-held : (schema : Layout) (dict : TextLists) (table : Places) (tree : Arena) → IsStored schema dict table → IsKept schema table tree → IsHeld (record { state = state_of schema dict table; tree = tree.now })
 is-held schema dict table tree stored kept = record {
-  state = is-state schema dict table stored;
+  state = is-state schema dict table stored kept.few;
   tree =
       subst (λ (rows : List (Row ℕ)). IsFrom (length schema.dims) tree.now (record { measures = length schema.measures; rows = rows }))
       (sym (rows-back dict.lists (rows_of table) stored.known stored.dictionary.distinct)) kept.from;

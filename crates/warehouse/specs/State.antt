@@ -2,9 +2,9 @@
 use Rattle.std.specs.Prelude.{ℕ, Bool, ◌≡◌, ◌≤◌, nat_eq, List, [], length, map, replicate, slice_index_or}
 use Rattle.std.specs.List.{All, IsDistinct, list_any, position_or_len}
 use Rattle.std.specs.Str.{bytes_eq}
-use Rattle.cube_defs.specs.Text.{Text}
+use Rattle.cube_defs.specs.Text.{Text, text_cmp}
 use Rattle.cube_defs.specs.Rows.{Row}
-use Rattle.cube_defs.specs.Tree.{Tree}
+use Rattle.cube_defs.specs.Tree.{Tree, nodes}
 use Rattle.cube_laws.specs.Recoding.{coded_row, RowsAreKnown}
 use Rattle.csv_load.specs.Batch.{IsLoaded, IsValue}
 use Rattle.qc_schema.specs.Schema.{Layout, IsLayout}
@@ -47,6 +47,7 @@ pub record IsState (s : State) : Type 0 where
   pub distinct : All (IsDistinct bytes_eq) s.texts
   pub few_texts : All (λ texts. length texts ≤ s.schema.values) s.texts
   pub known : RowsAreKnown (has_text s.texts) s.rows
+  pub few_nodes : length (nodes text_cmp s.rows) ≤ s.schema.nodes
 
 -- a state, and the tree that is kept of its rows
 pub record Held : Type 0 where

@@ -1,5 +1,5 @@
 -- The steps of a change, as far as they have come.
-use Rattle.std.specs.Prelude.{ℕ, ◌≡◌, Bool, true, false, List, [], length, map, fold, is_some, nat_lt, slice_index_or, Option, Some, None, option_map, if◌then◌else◌, ⊤}
+use Rattle.std.specs.Prelude.{ℕ, ◌≡◌, Bool, true, false, List, [], length, map, fold, is_some, nat_lt, slice_index_or, Option, IfSome, Some, None, if◌then◌else◌}
 use Rattle.std.specs.List.{All}
 use Rattle.cube_defs.specs.Cell.{Cell}
 use Rattle.cube_defs.specs.Rows.{Row}
@@ -12,8 +12,8 @@ use Rattle.warehouse.specs.Batch as batches
 use Rattle.warehouse.specs.Batch.{Refusal, full_dim, refusal_of, rows_after, texts_after, with_tuple}
 use Rattle.warehouse.specs.State.{State, ids_of}
 use Rattle.value_dict.specs.Told.{AreCodes, decoded}
-use Rattle.warehouse.specs.declared.changing.Stopped.{Stopped}
-use Rattle.warehouse.specs.declared.changing.Stopped.TheVariants as stops
+use Rattle.warehouse.specs.Stored.{refusal_in}
+use Rattle.warehouse.specs.declared.refused.Refused.{Refused}
 
 -- a table but for its places
 abbrev pub frame : Places → Places
@@ -57,13 +57,6 @@ IsOver max lists = is_some (full_dim max lists) ≡ true
 abbrev pub last_refusal : State → List (Change Text) → Option Refusal
 last_refusal s changes = if nat_lt s.schema.nodes (length (nodes text_cmp (rows_after s.rows changes))) then Some batches.NodesFull else None
 
--- why changes weren't made to a state
-abbrev pub IsCause : Stopped → State → List (Change Text) → Type 0
-IsCause (stops.Missing k) s changes = refusal_of s changes ≡ Some (batches.Missing k)
-IsCause (stops.Present k) s changes = refusal_of s changes ≡ Some (batches.Present k)
-IsCause stops.RowsFull s changes = refusal_of s changes ≡ Some batches.RowsFull
-IsCause stops.ValuesFull s changes =
-    (refusal_of s changes ≡ option_map (λ dim. batches.ValuesFull dim) (full_dim s.schema.values (texts_after s.texts changes)))
-    × IsOver s.schema.values (texts_after s.texts changes)
-IsCause stops.NodesFull s changes = refusal_of s changes ≡ Some batches.NodesFull
-IsCause stops.Memory s changes = ⊤
+-- why changes are refused, unless memory ran out
+abbrev pub IsCause : Refused → State → List (Change Text) → Type 0
+IsCause refused s changes = IfSome (refusal_in refused) (λ refusal. refusal_of s changes ≡ Some refusal)

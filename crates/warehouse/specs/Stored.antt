@@ -1,8 +1,10 @@
 -- How a warehouse keeps its state: rows of codes beside a dictionary, and the tree of the rows.
-use Rattle.std.specs.Prelude.{ℕ, ◌≡◌, List, false, length, map, Option, Some, None}
+use Rattle.std.specs.Prelude.{◌≡◌, ◌≤◌, List, false, length, map, Option, Some, None}
+use Rattle.std.specs.Ordering.{nat_cmp}
 use Rattle.std.specs.List.{All}
 use Rattle.cube_defs.specs.Text.{Text}
 use Rattle.cube_defs.specs.Rows.{Row}
+use Rattle.cube_defs.specs.Tree.{nodes}
 use Rattle.base_table.specs.Places.{IsTable, Places, rows_of}
 use Rattle.csv_load.specs.Batch.{IsValue}
 use Rattle.csv_load.specs.Faults as files
@@ -13,6 +15,7 @@ use Rattle.value_dict.specs.TextLists.{IsDictionary, TextLists}
 use Rattle.value_dict.specs.Told.{RowsAreCodes, decoded_row}
 use Rattle.warehouse.specs.Batch as batches
 use Rattle.warehouse.specs.State.{State}
+use Rattle.warehouse.specs.declared.refused.Applied.{Applied}
 use Rattle.warehouse.specs.declared.refused.Refused.{Refused}
 use Rattle.warehouse.specs.declared.refused.Refused.TheVariants as refusals
 
@@ -43,7 +46,12 @@ pub record IsKept (schema : Layout) (table : Places) (tree : Arena) : Type 0 whe
   pub closed : tree.is_open ≡ false
   pub width : tree.width ≡ length schema.dims
   pub max : tree.max ≡ schema.nodes
+  pub few : length (nodes nat_cmp (rows_of table)) ≤ schema.nodes
   pub from : IsFrom (length schema.dims) tree.now (record { measures = length schema.measures; rows = rows_of table })
+
+-- what a file did that was taken, with the state after it
+abbrev pub applied_in : State → Applied → batches.Applied
+applied_in s applied = record { records = applied.records; classes = applied.classes; state = s }
 
 -- what a refusal of the code says, but for want of memory
 abbrev pub refusal_in : Refused → Option batches.Refusal

@@ -1,14 +1,16 @@
 // Changes are made to rows and texts, all of them or none, and the tree is made anew.
-ghost use Rattle.std.specs.Prelude.{Err, IfErr, IfOk, IfSome, None, Ok, OnErr, OnOk, Some, [], false, filter, is_some, length, map, not, true, ◌+◌, ◌++◌, ◌<◌, ◌∷◌, ◌≡◌, ◌≤◌};
+ghost use Rattle.std.specs.Prelude.{Err, IfErr, IfOk, IfSome, None, Ok, OnErr, OnOk, Some, [], false, filter, is_some, length, not, option_map, true, ◌+◌, ◌++◌, ◌<◌, ◌∷◌, ◌≡◌, ◌≤◌};
 ghost use Rattle.base_table.specs.Places.{has_id, rows_of};
+ghost use Rattle.cell_core.specs.Gives.{Gives};
 ghost use Rattle.csv_load.specs.Batch.{IsBatch, change_at, deleted, id_of, inserted, is_deletion, row_of};
 ghost use Rattle.cube_defs.specs.Tree.{nodes};
 ghost use Rattle.std.specs.Ordering.{nat_cmp};
 ghost use Rattle.value_dict.specs.TextLists.{IsDictionary};
-ghost use Rattle.warehouse.specs.Batch.{after, first_number, first_twice, is_among, is_missing, refusal_of, result_of, texts_after, with_tuple};
-ghost use Rattle.warehouse.specs.State.{State, ids_of};
+ghost use Rattle.warehouse.specs.Batch as batches;
+ghost use Rattle.warehouse.specs.Batch.{after, first_number, first_twice, full_dim, is_among, is_missing, refusal_of, result_of, texts_after, with_tuple};
+ghost use Rattle.warehouse.specs.State.{ids_of};
 ghost use Rattle.warehouse.specs.Steps.{AreLonger, IsCause, IsOver, closed, frame, is_there, last_refusal};
-ghost use Rattle.warehouse.specs.Stored.{IsKept, IsStored, decoded_rows, refusal_in, state_of};
+ghost use Rattle.warehouse.specs.Stored.{IsKept, IsStored, applied_in, decoded_rows, refusal_in, state_of};
 ghost use Rattle.value_dict.specs.Told.{RowsAreCodes};
 
 use crate::checks::{first_present, first_repeat, is_full};
@@ -24,17 +26,6 @@ use qc_schema::Schema;
 use std::alloc::Global;
 use std::sync::ledger::Ledger;
 use value_dict::{Dict, Learn};
-
-/// Why changes were not made.
-#[derive(Clone, Copy)]
-pub(crate) enum Stopped {
-    Missing(u32),
-    Present(u32),
-    RowsFull,
-    ValuesFull,
-    NodesFull,
-    Memory,
-}
 
 // Takes the rows out that are deleted. Err has the number of the first deletion of an id that
 // isn't there.
@@ -139,6 +130,50 @@ fn insert_rows(
     Ok(())
 }
 
+// Puts the rows in that are inserted, if no dimension would have too many texts. None of their ids
+// is there, and there is room.
+fn add_rows(
+    schema: &Schema,
+    table: &mut Table,
+    dict: &mut Dict,
+    batch: &RawBatch,
+    alloc: Global,
+) -> Result<(), Refused>
+    requires dims { batch.now.dims ≡ length schema.now.dims }
+    requires measures { batch.now.measures ≡ length schema.now.measures }
+    requires lists { length dict.old.lists ≡ batch.now.dims }
+    requires table_dims { table.old.dims ≡ batch.now.dims }
+    requires table_measures { table.old.measures ≡ batch.now.measures }
+    requires is_open { is_some table.old.was ≡ true }
+    requires dictionary { IsDictionary dict.old }
+    requires known { RowsAreCodes dict.old.lists (rows_of table.old) }
+    requires once { first_twice batch.now.changes ≡ None }
+    requires new { first_number (is_there (rows_of table.old)) batch.now.changes ≡ None }
+    requires room { length (rows_of table.old) + length (inserted batch.now.changes) ≤ table.old.max }
+    requires valid { IsBatch batch.now }
+    ensures rows { OnOk result (decoded_rows dict.new.lists table.new ≡ decoded_rows dict.old.lists table.old ++ inserted batch.now.changes) }
+    ensures lists { OnOk result (dict.new.lists ≡ texts_after dict.old.lists batch.now.changes) }
+    ensures known { OnOk result (RowsAreCodes dict.new.lists (rows_of table.new)) }
+    ensures full { IfErr result (λ refused. IfSome (refusal_in refused) (λ refusal. option_map (λ dim. batches.ValuesFull dim) (full_dim dict.old.max (texts_after dict.old.lists batch.now.changes)) ≡ Some refusal)) }
+    ensures longer { AreLonger dict.old.lists dict.new.lists }
+    ensures max { dict.new.max ≡ dict.old.max }
+    ensures dictionary { IsDictionary dict.new }
+    ensures frame { frame table.new ≡ frame table.old }
+{
+    let dims = schema.dims();
+    let lens = lengths(dict, dims);
+    let mut cell = Cell::any(alloc, dims);
+    match insert_rows(table, dict, &mut cell, batch) {
+        Ok(()) => Ok(()),
+        Err(Learn::Full) => {
+            let lens = &lens[..usize::from(dims)];
+            dict.cut_back(lens);
+            Err(values_full(dict, batch, lens))
+        }
+        Err(Learn::Memory) => Err(Refused::Memory),
+    }
+}
+
 // Makes the changes in a batch that is open. After a refusal some of them are made.
 fn change_rows(
     schema: &Schema,
@@ -146,16 +181,17 @@ fn change_rows(
     dict: &mut Dict,
     batch: &RawBatch,
     alloc: Global,
-) -> Result<(), Stopped>
+) -> Result<(), Refused>
     requires stored { IsStored schema.now dict.old (closed table.old) }
     requires is_open { is_some table.old.was ≡ true }
     requires dims { batch.now.dims ≡ length schema.now.dims }
     requires measures { batch.now.measures ≡ length schema.now.measures }
     requires once { first_twice batch.now.changes ≡ None }
+    requires valid { IsBatch batch.now }
     ensures last { OnOk result (refusal_of (state_of schema.now dict.old table.old) batch.now.changes ≡ last_refusal (state_of schema.now dict.old table.old) batch.now.changes) }
     ensures made { OnOk result (state_of schema.now dict.new table.new ≡ after (state_of schema.now dict.old table.old) batch.now.changes) }
     ensures known { OnOk result (RowsAreCodes dict.new.lists (rows_of table.new)) }
-    ensures cause { IfErr result (λ stopped. IsCause stopped (state_of schema.now dict.old table.old) batch.now.changes) }
+    ensures cause { IfErr result (λ refused. IsCause refused (state_of schema.now dict.old table.old) batch.now.changes) }
     ensures longer { AreLonger dict.old.lists dict.new.lists }
     ensures max { dict.new.max ≡ dict.old.max }
     ensures dictionary { IsDictionary dict.new }
@@ -163,20 +199,16 @@ fn change_rows(
 {
     match delete_rows(table, batch) {
         Ok(()) => {}
-        Err(k) => return Err(Stopped::Missing(k)),
+        Err(k) => return Err(Refused::Missing(k)),
     }
     if let Some(k) = first_present(table, batch) {
-        return Err(Stopped::Present(k));
+        return Err(Refused::Present(k));
     }
     if is_full(table, batch, schema.rows()) {
-        return Err(Stopped::RowsFull);
+        return Err(Refused::RowsFull);
     }
-    let mut cell = Cell::any(alloc, schema.dims());
-    match insert_rows(table, dict, &mut cell, batch) {
-        Ok(()) => Ok(()),
-        Err(Learn::Full) => Err(Stopped::ValuesFull),
-        Err(Learn::Memory) => Err(Stopped::Memory),
-    }
+    add_rows(schema, table, dict, batch, alloc)?;
+    Ok(())
 }
 
 // The tree of the table's rows, made anew.
@@ -219,30 +251,28 @@ fn change_and_build<L: Ledger>(
     batch: &RawBatch,
     alloc: Global,
     steps: &mut Steps<L>,
-) -> Result<QcArena, Stopped>
+) -> Result<QcArena, Refused>
     requires stored { IsStored schema.now dict.old (closed table.old) }
     requires is_open { is_some table.old.was ≡ true }
     requires dims { batch.now.dims ≡ length schema.now.dims }
     requires measures { batch.now.measures ≡ length schema.now.measures }
     requires once { first_twice batch.now.changes ≡ None }
+    requires valid { IsBatch batch.now }
     ensures none { OnOk result (refusal_of (state_of schema.now dict.old table.old) batch.now.changes ≡ None) }
     ensures made { OnOk result (state_of schema.now dict.new table.new ≡ after (state_of schema.now dict.old table.old) batch.now.changes) }
     ensures tree { IfOk result (λ tree. IsKept schema.now table.new tree) }
     ensures known { OnOk result (RowsAreCodes dict.new.lists (rows_of table.new)) }
-    ensures cause { IfErr result (λ stopped. IsCause stopped (state_of schema.now dict.old table.old) batch.now.changes) }
+    ensures cause { IfErr result (λ refused. IsCause refused (state_of schema.now dict.old table.old) batch.now.changes) }
     ensures longer { AreLonger dict.old.lists dict.new.lists }
     ensures max { dict.new.max ≡ dict.old.max }
     ensures dictionary { IsDictionary dict.new }
     ensures frame { frame table.new ≡ frame table.old }
 {
-    match change_rows(schema, table, dict, batch, alloc) {
-        Ok(()) => {}
-        Err(cause) => return Err(cause),
-    }
+    change_rows(schema, table, dict, batch, alloc)?;
     match tree_of(schema, table, alloc, steps) {
         Ok(tree) => Ok(tree),
-        Err(ArenaRefused::Full) => Err(Stopped::NodesFull),
-        Err(ArenaRefused::Memory) => Err(Stopped::Memory),
+        Err(ArenaRefused::Full) => Err(Refused::NodesFull),
+        Err(ArenaRefused::Memory) => Err(Refused::Memory),
     }
 }
 
@@ -255,7 +285,7 @@ fn change_table<L: Ledger>(
     batch: &RawBatch,
     alloc: Global,
     steps: &mut Steps<L>,
-) -> Result<QcArena, Stopped>
+) -> Result<QcArena, Refused>
     requires stored { IsStored schema.now dict.old table.old }
     requires dims { batch.now.dims ≡ length schema.now.dims }
     requires measures { batch.now.measures ≡ length schema.now.measures }
@@ -265,7 +295,7 @@ fn change_table<L: Ledger>(
     ensures made { OnOk result (state_of schema.now dict.new table.new ≡ after (state_of schema.now dict.old table.old) batch.now.changes) }
     ensures tree { IfOk result (λ tree. IsKept schema.now table.new tree) }
     ensures stored { OnOk result (IsStored schema.now dict.new table.new) }
-    ensures cause { IfErr result (λ stopped. IsCause stopped (state_of schema.now dict.old table.old) batch.now.changes) }
+    ensures cause { IfErr result (λ refused. IsCause refused (state_of schema.now dict.old table.old) batch.now.changes) }
     ensures kept { OnErr result (rows_of table.new ≡ rows_of table.old) }
     ensures same { OnErr result (IsStored schema.now dict.old table.new) }
     ensures longer { AreLonger dict.old.lists dict.new.lists }
@@ -280,32 +310,11 @@ fn change_table<L: Ledger>(
             let _rows = table.count();
             Ok(tree)
         }
-        Err(cause) => {
+        Err(refused) => {
             table.rollback();
             let _rows = table.count();
-            Err(cause)
+            Err(refused)
         }
-    }
-}
-
-// The refusal that says why changes were not made.
-fn refuse(stopped: Stopped, dict: &mut Dict, batch: &RawBatch, lens: &[u32]) -> Refused
-    requires over { stopped ≡ Stopped.ValuesFull → IsOver dict.old.max (texts_after dict.old.lists batch.now.changes) }
-    requires lens { lens.now ≡ map length dict.old.lists }
-    requires lists { length dict.old.lists ≡ batch.now.dims }
-    requires dictionary { IsDictionary dict.old }
-    requires valid { IsBatch batch.now }
-    ensures refusal { (s : State) → s.texts ≡ dict.old.lists → s.schema.values ≡ dict.old.max → IsCause stopped s batch.now.changes
-        → IfSome (refusal_in result) (λ refusal. refusal_of s batch.now.changes ≡ Some refusal) }
-    ensures dict { dict.new ≡ dict.old }
-{
-    match stopped {
-        Stopped::Missing(k) => Refused::Missing(k),
-        Stopped::Present(k) => Refused::Present(k),
-        Stopped::RowsFull => Refused::RowsFull,
-        Stopped::ValuesFull => values_full(dict, batch, lens),
-        Stopped::NodesFull => Refused::NodesFull,
-        Stopped::Memory => Refused::Memory,
     }
 }
 
@@ -324,31 +333,27 @@ pub(crate) fn change<L: Ledger>(
     requires kept { IsKept schema.now table.old tree.old }
     requires dims { batch.now.dims ≡ length schema.now.dims }
     requires measures { batch.now.measures ≡ length schema.now.measures }
-    ensures applied { IfOk result (λ applied. result_of (state_of schema.now dict.old table.old) (Ok batch.now.changes) ≡ Ok (record { records = applied.records; classes = applied.classes; state = state_of schema.now dict.new table.new })) }
-    ensures refused { IfErr result (λ e. IfSome (refusal_in e) (λ refusal. result_of (state_of schema.now dict.old table.old) (Ok batch.now.changes) ≡ Err refusal)) }
-    ensures err { OnErr result (state_of schema.now dict.new table.new ≡ state_of schema.now dict.old table.old) }
-    ensures tree { OnErr result (tree.new ≡ tree.old) }
+    ensures gives { Gives refusal_in (applied_in (state_of schema.now dict.new table.new)) result (result_of (state_of schema.now dict.old table.old) (Ok batch.now.changes)) }
+    ensures state { OnErr result (state_of schema.now dict.new table.new ≡ state_of schema.now dict.old table.old) }
+    ensures tree { OnErr result (tree.new.now ≡ tree.old.now) }
     ensures stored { IsStored schema.now dict.new table.new }
     ensures kept { IsKept schema.now table.new tree.new }
 {
-    match first_repeat(alloc, batch) {
-        Ok(None) => {}
-        Ok(Some(k)) => return Err(Refused::Twice(k)),
-        Err(_) => return Err(Refused::Memory),
+    if let Some(k) = first_repeat(alloc, batch)? {
+        return Err(Refused::Twice(k));
     }
     let records = batch.len();
     let dims = schema.dims();
     let lens = lengths(dict, dims);
     match change_table(schema, table, dict, batch, alloc, steps) {
         Ok(new) => {
-            let classes = new.counts().classes;
+            let classes = new.class_count();
             *tree = new;
             Ok(Applied { records, classes })
         }
-        Err(stopped) => {
-            let lens = &lens[..usize::from(dims)];
-            dict.cut_back(lens);
-            Err(refuse(stopped, dict, batch, lens))
+        Err(refused) => {
+            dict.cut_back(&lens[..usize::from(dims)]);
+            Err(refused)
         }
     }
 }

@@ -1,4 +1,5 @@
 // What a file of changes does, or why it is refused; and what is counted.
+use crate::Memory;
 
 /// A file of changes was taken.
 #[derive(Clone, Copy, Debug, PartialEq, Eq)]
@@ -43,6 +44,17 @@ pub enum Refused {
     NodesFull,
     /// Memory ran out.
     Memory,
+}
+
+impl From<Memory> for Refused {
+    ghost use Rattle.std.specs.Prelude.{◌≡◌};
+    ghost use Rattle.warehouse.specs.declared.refused.Refused.TheVariants as refusals;
+
+    ghost from_gives = { λ _ refused. refused ≡ refusals.Memory };
+
+    fn from(_memory: Memory) -> Refused {
+        Refused::Memory
+    }
 }
 
 /// What is counted of the rows and of their tree (Lakshmanan, Pei, Zhao, SIGMOD 2003; which links

@@ -1,5 +1,6 @@
 // The state, the tree of its rows, and what files do to them.
-ghost use Rattle.std.specs.Prelude.{Err, IfErr, IfOk, IfSome, List, Ok, OnErr, Result, length, ◌≡◌, ◌≤◌};
+ghost use Rattle.std.specs.Prelude.{Err, IfOk, IfSome, List, Ok, OnErr, Result, length, ◌≡◌, ◌≤◌};
+ghost use Rattle.cell_core.specs.Gives.{Gives};
 ghost use Rattle.csv_load.specs.Batch.{Change};
 ghost use Rattle.csv_load.specs.Faults.{Fails, Fault};
 ghost use Rattle.cube_defs.specs.Text.{Text, text_cmp};
@@ -7,7 +8,7 @@ ghost use Rattle.cube_defs.specs.Tree as trees;
 ghost use Rattle.warehouse.specs.Batch as batches;
 ghost use Rattle.warehouse.specs.Batch.{result_of};
 ghost use Rattle.warehouse.specs.State.{IsHeld, State, empty};
-ghost use Rattle.warehouse.specs.Stored.{refusal_in};
+ghost use Rattle.warehouse.specs.Stored.{applied_in, refusal_in};
 
 use crate::Memory;
 use crate::changing::change;
@@ -103,6 +104,7 @@ impl Warehouse {
     pub fn tree(&self) -> &QcArena
         ensures value { result.now.now ≡ self.now.tree }
         ensures width { result.now.width ≡ length self.now.state.schema.dims }
+        ensures max { result.now.max ≡ self.now.state.schema.nodes }
         ensures valid { IsHeld self.now }
     {
         &self.tree
@@ -116,13 +118,15 @@ impl Warehouse {
         ensures tree_edges { result.tree_edges ≡ trees.tree_edges text_cmp self.now.state.rows }
         ensures links { result.links ≡ trees.links text_cmp self.now.state.rows }
     {
-        let counts = self.tree.counts();
+        let nodes = self.tree.live();
+        // Each node but the root is the child of one node.
+        let tree_edges = u64::from(nodes.saturating_sub(1));
         Stats {
             rows: self.table.count(),
-            classes: counts.classes,
-            nodes: counts.nodes,
-            tree_edges: counts.tree_edges,
-            links: counts.links,
+            classes: self.tree.class_count(),
+            nodes,
+            tree_edges,
+            links: self.tree.edge_total() - tree_edges,
         }
     }
 
@@ -134,10 +138,10 @@ impl Warehouse {
     ) -> Result<Applied, Refused>
         requires dims { batch.now.dims ≡ length self.old.state.schema.dims }
         requires measures { batch.now.measures ≡ length self.old.state.schema.measures }
-        ensures applied { IfOk result (λ applied. result_of self.old.state (Ok batch.now.changes) ≡ Ok (record { records = applied.records; classes = applied.classes; state = self.new.state })) }
-        ensures refused { IfErr result (λ e. IfSome (refusal_in e) (λ refusal. result_of self.old.state (Ok batch.now.changes) ≡ Err refusal)) }
+        ensures gives { Gives refusal_in (applied_in self.new.state) result (result_of self.old.state (Ok batch.now.changes)) }
         ensures valid { IsHeld self.new }
-        ensures err { OnErr result (self.new ≡ self.old) }
+        ensures state { OnErr result (self.new.state ≡ self.old.state) }
+        ensures tree { OnErr result (self.new.tree ≡ self.old.tree) }
     {
         change(
             &self.schema,
@@ -157,10 +161,10 @@ impl Warehouse {
         steps: &mut Steps<L>,
     ) -> Result<Applied, Refused>
         requires { length bytes.now ≤ MAX_FILE }
-        ensures applied { IfOk result (λ applied. batches.result self.old.state batches.Load bytes.now ≡ Ok (record { records = applied.records; classes = applied.classes; state = self.new.state })) }
-        ensures refused { IfErr result (λ e. IfSome (refusal_in e) (λ refusal. batches.result self.old.state batches.Load bytes.now ≡ Err refusal)) }
+        ensures gives { Gives refusal_in (applied_in self.new.state) result (batches.result self.old.state batches.Load bytes.now) }
         ensures valid { IsHeld self.new }
-        ensures err { OnErr result (self.new ≡ self.old) }
+        ensures state { OnErr result (self.new.state ≡ self.old.state) }
+        ensures tree { OnErr result (self.new.tree ≡ self.old.tree) }
     {
         if self.table.count() != 0 {
             return Err(Refused::NotEmpty);
@@ -179,10 +183,10 @@ impl Warehouse {
         steps: &mut Steps<L>,
     ) -> Result<Applied, Refused>
         requires { length bytes.now ≤ MAX_FILE }
-        ensures applied { IfOk result (λ applied. batches.result self.old.state batches.Apply bytes.now ≡ Ok (record { records = applied.records; classes = applied.classes; state = self.new.state })) }
-        ensures refused { IfErr result (λ e. IfSome (refusal_in e) (λ refusal. batches.result self.old.state batches.Apply bytes.now ≡ Err refusal)) }
+        ensures gives { Gives refusal_in (applied_in self.new.state) result (batches.result self.old.state batches.Apply bytes.now) }
         ensures valid { IsHeld self.new }
-        ensures err { OnErr result (self.new ≡ self.old) }
+        ensures state { OnErr result (self.new.state ≡ self.old.state) }
+        ensures tree { OnErr result (self.new.tree ≡ self.old.tree) }
     {
         match read_batch(self.alloc, &self.schema, bytes) {
             Ok(batch) => self.change(&batch, steps),

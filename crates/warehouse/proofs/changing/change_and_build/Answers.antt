@@ -8,20 +8,20 @@ use Rattle.warehouse.proofs.Causes.{last-full, last-none}
 use Rattle.warehouse.proofs.Counted.{nodes-decoded}
 use Rattle.warehouse.proofs.changing.change_and_build.Goals as goal
 
-pub returns-in-Ok-tree_of-clause-none : goal.returns-in-Ok-tree_of-clause-none
-returns-in-Ok-tree_of-clause-none g c =
+pub returns-in-Ok-clause-none : goal.returns-in-Ok-clause-none
+returns-in-Ok-clause-none g c =
     let s = state_of c.args.schema.now c.args.dict.now c.args.table.now in
     let dict = c.change_rows.new.dict in
     let table = c.change_rows.new.table in
-    c.in-Ok.ensures.last
-    ∙ last-none s c.args.batch.now.changes (decoded_rows dict.lists table) (length (nodes nat_cmp (rows_of table))) (ap (λ (t : State). t.rows) c.in-Ok.ensures.made)
-    (nodes-decoded dict.lists (rows_of table) c.in-Ok.ensures.known c.in-Ok.ensures.dictionary.distinct) c.in-Ok-tree_of.ensures.fits
+    c.in_ok-change_rows.ensures.last
+    ∙ last-none s c.args.batch.now.changes (decoded_rows dict.lists table) (length (nodes nat_cmp (rows_of table))) (ap (λ (t : State). t.rows) c.in_ok-change_rows.ensures.made)
+    (nodes-decoded dict.lists (rows_of table) c.in_ok-change_rows.ensures.known c.in_ok-change_rows.ensures.dictionary.distinct) c.in-Ok.ensures.fits
 
 pub returns-in-Err-Full-clause-cause : goal.returns-in-Err-Full-clause-cause
 returns-in-Err-Full-clause-cause g c =
     let s = state_of c.args.schema.now c.args.dict.now c.args.table.now in
     let dict = c.change_rows.new.dict in
     let table = c.change_rows.new.table in
-    c.in-Ok.ensures.last
-    ∙ last-full s c.args.batch.now.changes (decoded_rows dict.lists table) (length (nodes nat_cmp (rows_of table))) (ap (λ (t : State). t.rows) c.in-Ok.ensures.made)
-    (nodes-decoded dict.lists (rows_of table) c.in-Ok.ensures.known c.in-Ok.ensures.dictionary.distinct) (c.in-Err-Full.ensures.full (ap Err c.in-Err-Full.field-0-is))
+    c.in_ok-change_rows.ensures.last
+    ∙ last-full s c.args.batch.now.changes (decoded_rows dict.lists table) (length (nodes nat_cmp (rows_of table))) (ap (λ (t : State). t.rows) c.in_ok-change_rows.ensures.made)
+    (nodes-decoded dict.lists (rows_of table) c.in_ok-change_rows.ensures.known c.in_ok-change_rows.ensures.dictionary.distinct) (c.in-Err-Full.ensures.full (ap Err c.in-Err-Full.field-0-is))

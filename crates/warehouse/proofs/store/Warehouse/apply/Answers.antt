@@ -3,8 +3,8 @@ use Rattle.warehouse.specs.Stored.{state_of}
 use Rattle.warehouse.proofs.Trees.{is-held}
 use Rattle.warehouse.proofs.store.Warehouse.apply.Goals as goal
 
-pub returns-in-Err-clause-refused : goal.returns-in-Err-clause-refused
-returns-in-Err-clause-refused g c =
+pub returns-in-Err-clause-gives : goal.returns-in-Err-clause-gives
+returns-in-Err-clause-gives g c =
     let inside = c.self.inside in
     rw (← c.self.view_is) (c.refused_file.ensures (state_of inside.schema inside.dict inside.table) (batch_in inside.schema c.args.bytes.now) c.in-Err.ensures.gives)
 
