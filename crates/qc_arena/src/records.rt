@@ -29,12 +29,12 @@ const NO_CODE: u32 = u32::MAX;
 
 /// What is known of a node. Its cell isn't kept, but follows from the labels on the way down to it:
 /// the record has the last label and the parent. Of a class it has the heading, and no row count
-/// where there is none. Up to two edges lie in the record itself.
+/// where there is none. One edge lies in the record itself, and more do elsewhere.
 #[derive(Drop)]
 pub(crate) struct Rec {
     trail: Trail<u8, u32>,
     noted: Trail<u32, Agg>,
-    edges: SmallVec<EdgeTo, 2>,
+    edges: SmallVec<EdgeTo, 1>,
     parent: u32,
     code: Code,
     forced_code: u32,
@@ -45,7 +45,7 @@ pub(crate) struct Rec {
     measures: u8,
 }
 
-const _: () = prove!(size_of::<Rec>() == 64);
+const _: () = prove!(size_of::<Rec>() == 56);
 
 impl Model for Rec {
     ghost use Rattle.std.specs.Prelude.{ℕ};
