@@ -18,6 +18,7 @@ use crate::edges::EdgeTo;
 use crate::kept::{Counts, Kept};
 use crate::nodes::{Forced, Nodes};
 use crate::parts::Parts;
+use crate::place::Place;
 use crate::records::Rec;
 use crate::slots::{
     add_record, class_at, copy_at, drop_edge_at, kill_at, let_go, put_back, record_of,
@@ -45,7 +46,7 @@ pub enum ArenaRefused {
 /// node is touched, and so the batch can be taken back without memory.
 #[derive(Drop)]
 pub struct QcArena {
-    nodes: Slab<Option<Rec>>,
+    nodes: Slab<Place>,
     parts: Parts,
     images: Images,
     is_open: bool,
@@ -113,7 +114,7 @@ impl QcArena {
     // The record of a node that is to come.
     fn new_rec(&self, under: Option<(NodeNo, u8, Code)>) -> Rec
         requires { IsPlace self.now.width self.now.now under }
-        ensures { result ≡ new_record self.now.width self.now.now under }
+        ensures { result.node ≡ new_record self.now.width self.now.now under }
     {
         match under {
             None => Rec::root(self.images.allocator(), self.dims),
@@ -236,9 +237,7 @@ impl QcArena {
         ensures steps { steps.new ≡ steps.old + 1 }
     {
         steps.tick();
-        let had = record_of(&self.nodes, node.0).edge_count();
-        drop_edge_at(&mut self.nodes, node.0, dim, code);
-        let has = record_of(&self.nodes, node.0).edge_count();
+        let (had, has) = drop_edge_at(&mut self.nodes, node.0, dim, code);
         self.kept = self.kept.with_edges(had, has);
     }
 
@@ -258,10 +257,7 @@ impl QcArena {
         ensures steps { steps.new ≡ steps.old + 1 }
     {
         steps.tick();
-        let record = record_of(&self.nodes, node.0);
-        let had = record.edge_count();
-        let is_class = record.is_class();
-        kill_at(&mut self.nodes, node.0);
+        let (is_class, had) = kill_at(&mut self.nodes, node.0);
         self.kept = self.kept.without_node(node.0, is_class, had);
     }
 
@@ -399,7 +395,7 @@ impl QcArena {
     // The record of a node.
     fn record(&self, node: NodeNo) -> &Rec
         requires { IsSome (map.get self.now.now node.0) }
-        ensures { result.now ≡ record_at self.now.now node.0 }
+        ensures { result.now.node ≡ record_at self.now.now node.0 }
     {
         record_of(&self.nodes, node.0)
     }

@@ -9,6 +9,7 @@ mod image;
 mod kept;
 mod nodes;
 mod parts;
+mod place;
 mod records;
 mod same;
 mod slots;

@@ -29,12 +29,12 @@ const NO_CODE: u32 = u32::MAX;
 
 /// What is known of a node. Its cell isn't kept, but follows from the labels on the way down to it:
 /// the record has the last label and the parent. Of a class it has the heading, and no row count
-/// where there is none. Up to two edges lie in the record itself.
+/// where there is none. A killed node keeps its record under a mark. One edge lies in the record itself, and more do elsewhere.
 #[derive(Drop)]
 pub(crate) struct Rec {
     trail: Trail<u8, u32>,
     noted: Trail<u32, Agg>,
-    edges: SmallVec<EdgeTo, 2>,
+    edges: SmallVec<EdgeTo, 1>,
     parent: u32,
     code: Code,
     forced_code: u32,
@@ -43,25 +43,24 @@ pub(crate) struct Rec {
     dim: u8,
     forced_dim: u8,
     measures: u8,
+    is_killed: bool,
 }
-
-const _: () = prove!(size_of::<Rec>() == 64);
 
 impl Model for Rec {
     ghost use Rattle.std.specs.Prelude.{ℕ};
     ghost use Rattle.std.specs.Option.{option_map};
     ghost use Rattle.aggregates.specs.Views.{agg_in};
     ghost use Rattle.cube_defs.specs.Tree.{Node};
-    ghost use Rattle.qc_arena.specs.Codes.{node_code};
+    ghost use Rattle.qc_arena.specs.Held.{Held, held_code};
 
-    ghost Value = { Node ℕ ℕ };
+    ghost Value = { Held };
 
-    ghost coded = { node_code };
+    ghost coded = { held_code };
 
     ghost use Rattle.qc_arena.specs.Edges.{edges_to};
     ghost use Rattle.qc_arena.specs.Rec.{IsRec, cell_on, class_on, forced_in, parent_in};
 
-    ghost view = { λ r. record { cell = cell_on r.trail.items; parent = parent_in r.dim r.parent; class = class_on r.noted.items; forced = forced_in r.forced_dim r.forced_code r.forced_child; edges = edges_to r.edges.items } };
+    ghost view = { λ r. record { node = record { cell = cell_on r.trail.items; parent = parent_in r.dim r.parent; class = class_on r.noted.items; forced = forced_in r.forced_dim r.forced_code r.forced_child; edges = edges_to r.edges.items }; is_killed = r.is_killed } };
 
     ghost invariant = { λ r. IsRec r.trail.items r.noted.items r.dim r.code r.forced_code r.count r.measures r.edges.items };
 }
@@ -70,7 +69,7 @@ impl Rec {
     // The record of the root, whose cell has no value.
     pub(crate) fn root(alloc: Global, dims: u8) -> Rec
         requires { dims ≤ MAX_DIMS }
-        ensures { result ≡ bare (replicate dims None) None }
+        ensures { result.node ≡ bare (replicate dims None) None }
     {
         let nothing = Trail::<u8, u32>::new();
         Rec {
@@ -85,15 +84,16 @@ impl Rec {
             dim: ROOT,
             forced_dim: 0,
             measures: 0,
+            is_killed: false,
         }
     }
 
     // The record of the node with one value more, which has this node for its parent.
     pub(crate) fn child(&self, node: NodeNo, dim: u8, code: Code) -> Rec
-        requires behind { depth self.now.cell ≤ dim }
-        requires dim { dim < length self.now.cell }
+        requires behind { depth self.now.node.cell ≤ dim }
+        requires dim { dim < length self.now.node.cell }
         requires code { IsCode code }
-        ensures { result ≡ bare (with_value self.now.cell dim code) (Some node.0) }
+        ensures { result.node ≡ bare (with_value self.now.node.cell dim code) (Some node.0) }
     {
         Rec {
             trail: self.trail.and(&dim, &code),
@@ -107,6 +107,7 @@ impl Rec {
             dim,
             forced_dim: 0,
             measures: 0,
+            is_killed: false,
         }
     }
 
@@ -115,7 +116,7 @@ impl Rec {
     }
 
     pub(crate) fn copy(&self) -> Result<Rec, Memory>
-        ensures { IfOk result (λ r. r ≡ self.now) }
+        ensures { IfOk result (λ r. r.node ≡ self.now.node) }
     {
         let edges = SmallVec::from_slice(*self.edges.allocator(), self.edges.as_slice())?;
         Ok(Rec {
@@ -130,6 +131,7 @@ impl Rec {
             dim: self.dim,
             forced_dim: self.forced_dim,
             measures: self.measures,
+            is_killed: false,
         })
     }
 
@@ -137,9 +139,9 @@ impl Rec {
     // edges there were, and how many there are.
     pub(crate) fn set_edge(&mut self, edge: EdgeTo) -> Result<(u32, u32), Memory>
         requires { IsCode edge.code }
-        ensures ok { OnOk result (self.new ≡ with_edge (edge_to edge) self.old) }
-        ensures had { IfOk result (λ n. n.0 ≡ length self.old.edges) }
-        ensures has { IfOk result (λ n. n.1 ≡ length self.new.edges) }
+        ensures ok { OnOk result (self.new ≡ record self.old { node = with_edge (edge_to edge) self.old.node }) }
+        ensures had { IfOk result (λ n. n.0 ≡ length self.old.node.edges) }
+        ensures has { IfOk result (λ n. n.1 ≡ length self.new.node.edges) }
         ensures err { OnErr result (self.new ≡ self.old) }
     {
         let had = self.edges.len() as u32;
@@ -149,16 +151,21 @@ impl Rec {
         }
     }
 
-    // Takes the edge with a label away, if there is one.
-    pub(crate) fn drop_edge(&mut self, dim: u8, code: Code)
-        ensures { self.new ≡ without_edge dim code self.old }
+    // Takes the edge with a label away, if there is one. It tells how many edges there were, and how
+    // many there are.
+    pub(crate) fn drop_edge(&mut self, dim: u8, code: Code) -> (u32, u32)
+        ensures dropped { self.new ≡ record self.old { node = without_edge dim code self.old.node } }
+        ensures had { result.0 ≡ length self.old.node.edges }
+        ensures has { result.1 ≡ length self.new.node.edges }
     {
+        let had = self.edges.len() as u32;
         take(&mut self.edges, dim, code);
+        (had, self.edges.len() as u32)
     }
 
     pub(crate) fn set_forced(&mut self, forced: Option<Forced>)
         requires { IfSome forced (λ f. IsCode f.code) }
-        ensures { self.new ≡ with_forced (option_map edge_of forced) self.old }
+        ensures { self.new ≡ record self.old { node = with_forced (option_map edge_of forced) self.old.node } }
     {
         match forced {
             Some(edge) => {
@@ -173,7 +180,7 @@ impl Rec {
     // Sets the class. Its parts are kept elsewhere.
     pub(crate) fn set_class(&mut self, class: Option<Agg>)
         requires { IfSome class (λ a. length a.parts ≡ 4) }
-        ensures { self.new ≡ with_class (option_map agg_in class) self.old }
+        ensures { self.new ≡ record self.old { node = with_class (option_map agg_in class) self.old.node } }
     {
         let none = Trail::<u32, Agg>::new();
         match class {
@@ -189,8 +196,31 @@ impl Rec {
         }
     }
 
+    // Marks the node as killed.
+    pub(crate) fn kill(&mut self)
+        ensures { self.new ≡ record self.old { is_killed = true } }
+    {
+        self.is_killed = true;
+    }
+
+    // The same record of a node that is there.
+    pub(crate) fn alive(self) -> Rec
+        ensures node { result.node ≡ self.node }
+        ensures alive { result.is_killed ≡ false }
+    {
+        let mut alive = self;
+        alive.is_killed = false;
+        alive
+    }
+
+    pub(crate) fn is_killed(&self) -> bool
+        ensures { result ≡ self.now.is_killed }
+    {
+        self.is_killed
+    }
+
     pub(crate) fn end_of(&self) -> Option<(u8, Code)>
-        ensures value { result ≡ last_label self.now.cell }
+        ensures value { result ≡ last_label self.now.node.cell }
         ensures small { IfSome result (λ label. IsCode label.1) }
     {
         if self.dim == ROOT {
@@ -201,8 +231,8 @@ impl Rec {
 
     // Whether another node has the same last value, or none either.
     pub(crate) fn shares_end(&self, other: &Rec) -> bool
-        ensures same { result ≡ true → last_label self.now.cell ≡ last_label other.now.cell }
-        ensures apart { result ≡ false → last_label self.now.cell ≢ last_label other.now.cell }
+        ensures same { result ≡ true → last_label self.now.node.cell ≡ last_label other.now.node.cell }
+        ensures apart { result ≡ false → last_label self.now.node.cell ≢ last_label other.now.node.cell }
     {
         match self.end_of() {
             None => other.end_of().is_none(),
@@ -214,7 +244,7 @@ impl Rec {
     }
 
     pub(crate) fn parent(&self) -> Option<NodeNo>
-        ensures { option_map number result ≡ self.now.parent }
+        ensures { option_map number result ≡ self.now.node.parent }
     {
         if self.dim == ROOT {
             return None;
@@ -223,7 +253,7 @@ impl Rec {
     }
 
     pub(crate) fn forced(&self) -> Option<Forced>
-        ensures value { option_map edge_of result ≡ self.now.forced }
+        ensures value { option_map edge_of result ≡ self.now.node.forced }
         ensures small { IfSome result (λ edge. IsCode edge.code) }
     {
         if self.forced_code == NO_CODE {
@@ -237,15 +267,15 @@ impl Rec {
     }
 
     pub(crate) fn is_class(&self) -> bool
-        ensures { result ≡ is_some self.now.class }
+        ensures { result ≡ is_some self.now.node.class }
     {
         self.count != 0
     }
 
     // Of how many rows and measures the class is. None where the node is no class.
     pub(crate) fn heading(&self) -> Option<(u32, u8)>
-        ensures count { option_map (λ h. h.0) result ≡ option_map (λ a. a.count) self.now.class }
-        ensures measures { option_map (λ h. h.1) result ≡ option_map (λ a. length a.parts) self.now.class }
+        ensures count { option_map (λ h. h.0) result ≡ option_map (λ a. a.count) self.now.node.class }
+        ensures measures { option_map (λ h. h.1) result ≡ option_map (λ a. length a.parts) self.now.node.class }
     {
         if self.count == 0 {
             return None;
@@ -254,22 +284,22 @@ impl Rec {
     }
 
     pub(crate) fn edge(&self, dim: u8, code: Code) -> Option<NodeNo>
-        ensures value { option_map number result ≡ target_at (eq_by_cmp nat_cmp) dim code self.now.edges }
-        ensures rising { rises self.now.edges ≡ true }
+        ensures value { option_map number result ≡ target_at (eq_by_cmp nat_cmp) dim code self.now.node.edges }
+        ensures rising { rises self.now.node.edges ≡ true }
     {
         target_in(self.edges.as_slice(), dim, code)
     }
 
     pub(crate) fn edge_count(&self) -> u32
-        ensures value { result ≡ length self.now.edges }
-        ensures rising { (i j : ℕ) (e f : _) → i < j → slice_get self.now.edges i ≡ Some e → slice_get self.now.edges j ≡ Some f → label_lt e f ≡ true }
+        ensures value { result ≡ length self.now.node.edges }
+        ensures rising { (i j : ℕ) (e f : _) → i < j → slice_get self.now.node.edges i ≡ Some e → slice_get self.now.node.edges j ≡ Some f → label_lt e f ≡ true }
     {
         self.edges.len() as u32
     }
 
     pub(crate) fn edge_at(&self, k: u32) -> (u8, Code, NodeNo)
-        requires { k < length self.now.edges }
-        ensures value { slice_get self.now.edges k ≡ Some (record { dim = result.0; value = result.1; target = result.2.0 }) }
+        requires { k < length self.now.node.edges }
+        ensures value { slice_get self.now.node.edges k ≡ Some (record { dim = result.0; value = result.1; target = result.2.0 }) }
         ensures small { IsCode result.1 }
     {
         let edges = self.edges.as_slice();

@@ -1,5 +1,5 @@
 // The work on the places of nodes, and on what was in them at `begin`.
-ghost use Rattle.std.specs.Prelude.{IfNone, IfOk, IfSome, IsSome, None, OnErr, OnOk, OnSome, Some, [], if◌then◌else◌, length, nat_eq, true, ℕ, ◌<◌, ◌≡◌, ◌≢◌};
+ghost use Rattle.std.specs.Prelude.{IfNone, IfOk, IfSome, IsSome, None, OnErr, OnOk, OnSome, Some, [], if◌then◌else◌, is_some, length, nat_eq, true, ℕ, ◌<◌, ◌≡◌, ◌≢◌};
 ghost use Rattle.cell_core.specs.Entry.{IsCode};
 ghost use Rattle.std.specs.Option.{option_map};
 ghost use Rattle.std.specs.Ordering.{nat_cmp};
@@ -18,6 +18,7 @@ use crate::edges::EdgeTo;
 use crate::image::{Image, Was};
 use crate::nodes::Forced;
 use crate::parts::Parts;
+use crate::place::Place;
 use crate::records::Rec;
 use crate::touched::Images;
 use aggregates::Agg;
@@ -26,16 +27,16 @@ use slab::Slab;
 use std::alloc::AllocError;
 
 // Writes a record into a place.
-fn write_slot(nodes: &mut Slab<Option<Rec>>, node: u32, rec: Rec)
+fn write_slot(nodes: &mut Slab<Place>, node: u32, rec: Rec)
     requires { slots.ContainsKey nodes.old node }
-    ensures here { slots.get nodes.new node ≡ Some (Some rec) }
+    ensures here { slots.get nodes.new node ≡ Some (Some rec.node) }
     ensures others { (q : ℕ) → q ≢ node → slots.get nodes.new q ≡ slots.get nodes.old q }
 {
-    nodes[node as usize] = Some(rec);
+    nodes[node as usize] = Place::of(rec);
 }
 
 // Gives a node its image: the record that it had, or nothing.
-fn put_image(nodes: &mut Slab<Option<Rec>>, parts: &mut Parts, node: u32, image: Image)
+fn put_image(nodes: &mut Slab<Place>, parts: &mut Parts, node: u32, image: Image)
     requires placed { slots.ContainsKey nodes.old node }
     requires stored { IsStored nodes.old parts.old }
     ensures now { join (slots.get nodes.new node) ≡ image }
@@ -56,19 +57,19 @@ fn put_image(nodes: &mut Slab<Option<Rec>>, parts: &mut Parts, node: u32, image:
 }
 
 // Takes the place of a killed node away.
-fn clear_killed(nodes: &mut Slab<Option<Rec>>, node: u32)
+fn clear_killed(nodes: &mut Slab<Place>, node: u32)
     requires { slots.ContainsKey nodes.old node }
     ensures now { (q : ℕ) → join (slots.get nodes.new q) ≡ join (slots.get nodes.old q) }
     ensures here { slots.get nodes.new node ≢ Some None }
     ensures others { (q : ℕ) → q ≢ node → slots.get nodes.new q ≡ slots.get nodes.old q }
 {
-    if nodes[node as usize].is_none() {
+    if nodes[node as usize].is_killed() {
         nodes.remove(node as usize);
     }
 }
 
 // Puts back what each touched node had, and takes away the nodes that are new.
-pub(crate) fn put_back(nodes: &mut Slab<Option<Rec>>, parts: &mut Parts, images: &mut Images)
+pub(crate) fn put_back(nodes: &mut Slab<Place>, parts: &mut Parts, images: &mut Images)
     requires stored { IsStored nodes.old parts.old }
     requires placed { (q : ℕ) → IsSome (image_at images.old q) → slots.ContainsKey nodes.old q }
     requires killed { (q : ℕ) → slots.get nodes.old q ≡ Some None → IsSome (image_at images.old q) }
@@ -83,7 +84,7 @@ pub(crate) fn put_back(nodes: &mut Slab<Option<Rec>>, parts: &mut Parts, images:
 }
 
 // Takes the places of the killed nodes away, and lets the images go.
-pub(crate) fn let_go(nodes: &mut Slab<Option<Rec>>, images: &mut Images)
+pub(crate) fn let_go(nodes: &mut Slab<Place>, images: &mut Images)
     requires placed { (q : ℕ) → IsSome (image_at images.old q) → slots.ContainsKey nodes.old q }
     requires killed { (q : ℕ) → slots.get nodes.old q ≡ Some None → IsSome (image_at images.old q) }
     ensures nodes { (q : ℕ) → join (slots.get nodes.new q) ≡ join (slots.get nodes.old q) }
@@ -96,7 +97,7 @@ pub(crate) fn let_go(nodes: &mut Slab<Option<Rec>>, images: &mut Images)
 }
 
 // Makes room for a node, and tells its number.
-fn reserve_slot(nodes: &mut Slab<Option<Rec>>) -> Result<u32, Memory>
+fn reserve_slot(nodes: &mut Slab<Place>) -> Result<u32, Memory>
     ensures number { IfOk result (λ k. k ≡ nodes.new.vacant_key) }
     ensures free { IfOk result (λ k. slots.get nodes.new k ≡ None) }
     ensures room { OnOk result (slots.HasRoomFor nodes.new 1) }
@@ -111,17 +112,17 @@ fn reserve_slot(nodes: &mut Slab<Option<Rec>>) -> Result<u32, Memory>
 }
 
 // Puts a record at the number that is next.
-fn fill_slot(nodes: &mut Slab<Option<Rec>>, new: Rec)
+fn fill_slot(nodes: &mut Slab<Place>, new: Rec)
     requires { slots.HasRoomFor nodes.old 1 }
-    ensures here { slots.get nodes.new nodes.old.vacant_key ≡ Some (Some new) }
+    ensures here { slots.get nodes.new nodes.old.vacant_key ≡ Some (Some new.node) }
     ensures others { (q : ℕ) → q ≢ nodes.old.vacant_key → slots.get nodes.new q ≡ slots.get nodes.old q }
 {
-    nodes.insert_reserved(Some(new));
+    nodes.insert_reserved(Place::of(new));
 }
 
 // Puts a new record at a free number, and notes that it is new.
 pub(crate) fn add_record(
-    nodes: &mut Slab<Option<Rec>>,
+    nodes: &mut Slab<Place>,
     parts: &mut Parts,
     images: &mut Images,
     new: Rec,
@@ -131,7 +132,7 @@ pub(crate) fn add_record(
     ensures room { (q : ℕ) → HasRoom parts.old q → HasRoom parts.new q }
     ensures room_here { IfOk result (λ k. HasRoom parts.new k) }
     ensures free { IfOk result (λ k. slots.get nodes.old k ≡ None) }
-    ensures here { IfOk result (λ k. slots.get nodes.new k ≡ Some (Some new)) }
+    ensures here { IfOk result (λ k. slots.get nodes.new k ≡ Some (Some new.node)) }
     ensures others { IfOk result (λ k. (q : ℕ) → q ≢ k → slots.get nodes.new q ≡ slots.get nodes.old q) }
     ensures images { IfOk result (λ k. (q : ℕ) → image_at images.new q ≡ (if nat_eq k q then Some None else image_at images.old q)) }
     ensures err_nodes { OnErr result (nodes.new.slots ≡ nodes.old.slots) }
@@ -145,29 +146,29 @@ pub(crate) fn add_record(
 }
 
 // The record of a node.
-pub(crate) fn record_of(nodes: &Slab<Option<Rec>>, node: u32) -> &Rec
+pub(crate) fn record_of(nodes: &Slab<Place>, node: u32) -> &Rec
     requires { IsSome (join (slots.get nodes.now node)) }
-    ensures { join (slots.get nodes.now node) ≡ Some result.now }
+    ensures { join (slots.get nodes.now node) ≡ Some result.now.node }
 {
     match nodes.get(node as usize) {
-        Some(Some(record)) => record,
-        _ => unreachable!(),
+        Some(place) => place.standing(),
+        None => unreachable!(),
     }
 }
 
 // The record at a place that has one.
-fn record_at(nodes: &Slab<Option<Rec>>, place: usize) -> &Rec
+fn record_at(nodes: &Slab<Place>, place: usize) -> &Rec
     requires { IsSome (join (slots.get nodes.now place)) }
-    ensures { join (slots.get nodes.now place) ≡ Some result.now }
+    ensures { join (slots.get nodes.now place) ≡ Some result.now.node }
 {
     match nodes.get(place) {
-        Some(Some(record)) => record,
-        _ => unreachable!(),
+        Some(place) => place.standing(),
+        None => unreachable!(),
     }
 }
 
 // Whether two nodes have one cell: their labels on the way up are the same.
-fn same_cell(nodes: &Slab<Option<Rec>>, node: usize, other: usize) -> bool
+fn same_cell(nodes: &Slab<Place>, node: usize, other: usize) -> bool
     requires node { IsSome (join (slots.get nodes.now node)) }
     requires other { IsSome (join (slots.get nodes.now other)) }
     requires cells { (k : ℕ) → IsSome (join (slots.get nodes.now k)) → length (record_or (join (slots.get nodes.now k))).cell ≡ length (record_or (join (slots.get nodes.now node))).cell }
@@ -195,7 +196,7 @@ fn same_cell(nodes: &Slab<Option<Rec>>, node: usize, other: usize) -> bool
 }
 
 // Whether an edge between two nodes is a tree edge.
-pub(crate) fn is_child(nodes: &Slab<Option<Rec>>, node: usize, target: u32) -> bool
+pub(crate) fn is_child(nodes: &Slab<Place>, node: usize, target: u32) -> bool
     requires node { IsSome (join (slots.get nodes.now node)) }
     requires target { IsSome (join (slots.get nodes.now target)) }
     requires cells { (k : ℕ) → IsSome (join (slots.get nodes.now k)) → length (record_or (join (slots.get nodes.now k))).cell ≡ length (record_or (join (slots.get nodes.now node))).cell }
@@ -209,7 +210,7 @@ pub(crate) fn is_child(nodes: &Slab<Option<Rec>>, node: usize, target: u32) -> b
 }
 
 // What the rows of a node come to, where it is a class.
-pub(crate) fn class_at(nodes: &Slab<Option<Rec>>, parts: &Parts, node: u32) -> Option<Agg>
+pub(crate) fn class_at(nodes: &Slab<Place>, parts: &Parts, node: u32) -> Option<Agg>
     requires node { IsSome (join (slots.get nodes.now node)) }
     requires parts { IfSome (record_or (join (slots.get nodes.now node))).class (λ a. IsShown (shown parts.now node) a) }
     ensures { option_map agg_in result ≡ (record_or (join (slots.get nodes.now node))).class }
@@ -225,7 +226,7 @@ pub(crate) fn class_at(nodes: &Slab<Option<Rec>>, parts: &Parts, node: u32) -> O
 }
 
 // A copy of what a node has.
-pub(crate) fn copy_at(nodes: &Slab<Option<Rec>>, parts: &Parts, node: u32) -> Result<Was, Memory>
+pub(crate) fn copy_at(nodes: &Slab<Place>, parts: &Parts, node: u32) -> Result<Was, Memory>
     requires node { IsSome (join (slots.get nodes.now node)) }
     requires parts { IfSome (record_or (join (slots.get nodes.now node))).class (λ a. IsShown (shown parts.now node) a) }
     ensures { IfOk result (λ w. join (slots.get nodes.now node) ≡ Some w) }
@@ -236,7 +237,7 @@ pub(crate) fn copy_at(nodes: &Slab<Option<Rec>>, parts: &Parts, node: u32) -> Re
 
 // Sets an edge of a node, and tells how many edges it had, and how many it has.
 pub(crate) fn set_edge_at(
-    nodes: &mut Slab<Option<Rec>>,
+    nodes: &mut Slab<Place>,
     node: u32,
     edge: EdgeTo,
 ) -> Result<(u32, u32), Memory>
@@ -249,59 +250,47 @@ pub(crate) fn set_edge_at(
     ensures has { IfOk result (λ n. n.1 ≡ length (record_or (join (slots.get nodes.new node))).edges) }
     ensures err { OnErr result (join (slots.get nodes.new node) ≡ join (slots.get nodes.old node)) }
 {
-    let slot = &mut nodes[node as usize];
-    match slot {
-        Some(record) => record.set_edge(edge),
-        None => unreachable!(),
-    }
+    nodes[node as usize].set_edge(edge)
 }
 
-// Takes an edge of a node away.
-pub(crate) fn drop_edge_at(nodes: &mut Slab<Option<Rec>>, node: u32, dim: u8, code: Code)
+// Takes an edge of a node away, and tells how many edges it had, and how many it has.
+pub(crate) fn drop_edge_at(nodes: &mut Slab<Place>, node: u32, dim: u8, code: Code) -> (u32, u32)
     requires { IsSome (join (slots.get nodes.old node)) }
     ensures others { (q : ℕ) → q ≢ node → slots.get nodes.new q ≡ slots.get nodes.old q }
     ensures here { join (slots.get nodes.new node) ≡ option_map (without_edge dim code) (join (slots.get nodes.old node)) }
+    ensures had { result.0 ≡ length (record_or (join (slots.get nodes.old node))).edges }
+    ensures has { result.1 ≡ length (record_or (join (slots.get nodes.new node))).edges }
 {
-    let slot = &mut nodes[node as usize];
-    match slot {
-        Some(record) => record.drop_edge(dim, code),
-        None => unreachable!(),
-    }
+    nodes[node as usize].drop_edge(dim, code)
 }
 
-// Takes a node's record out of its place.
-pub(crate) fn kill_at(nodes: &mut Slab<Option<Rec>>, node: u32)
+// Takes a node out of its place. It tells whether that was a class, and how many edges it had.
+pub(crate) fn kill_at(nodes: &mut Slab<Place>, node: u32) -> (bool, u32)
     requires { IsSome (join (slots.get nodes.old node)) }
     ensures others { (q : ℕ) → q ≢ node → slots.get nodes.new q ≡ slots.get nodes.old q }
     ensures here { slots.get nodes.new node ≡ Some None }
+    ensures class { result.0 ≡ is_some (record_or (join (slots.get nodes.old node))).class }
+    ensures edges { result.1 ≡ length (record_or (join (slots.get nodes.old node))).edges }
 {
-    nodes[node as usize] = None;
+    nodes[node as usize].kill()
 }
 
 // Sets the forced child of a node.
-pub(crate) fn set_forced_at(nodes: &mut Slab<Option<Rec>>, node: u32, forced: Option<Forced>)
+pub(crate) fn set_forced_at(nodes: &mut Slab<Place>, node: u32, forced: Option<Forced>)
     requires node { IsSome (join (slots.get nodes.old node)) }
     requires code { IfSome forced (λ f. IsCode f.code) }
     ensures others { (q : ℕ) → q ≢ node → slots.get nodes.new q ≡ slots.get nodes.old q }
     ensures here { join (slots.get nodes.new node) ≡ option_map (with_forced (option_map edge_of forced)) (join (slots.get nodes.old node)) }
 {
-    let slot = &mut nodes[node as usize];
-    match slot {
-        Some(record) => record.set_forced(forced),
-        None => unreachable!(),
-    }
+    nodes[node as usize].set_forced(forced);
 }
 
 // Sets the class of a node.
-pub(crate) fn set_class_at(nodes: &mut Slab<Option<Rec>>, node: u32, class: Option<Agg>)
+pub(crate) fn set_class_at(nodes: &mut Slab<Place>, node: u32, class: Option<Agg>)
     requires node { IsSome (join (slots.get nodes.old node)) }
     requires four { IfSome class (λ a. length a.parts ≡ 4) }
     ensures others { (q : ℕ) → q ≢ node → slots.get nodes.new q ≡ slots.get nodes.old q }
     ensures here { join (slots.get nodes.new node) ≡ option_map (with_class (option_map agg_in class)) (join (slots.get nodes.old node)) }
 {
-    let slot = &mut nodes[node as usize];
-    match slot {
-        Some(record) => record.set_class(class),
-        None => unreachable!(),
-    }
+    nodes[node as usize].set_class(class);
 }

@@ -1,0 +1,124 @@
+// What a number has.
+ghost use Rattle.std.specs.Prelude.{IfOk, IfSome, IsSome, None, OnErr, OnOk, Some, is_some, length, not, ◌≡◌};
+ghost use Rattle.cell_core.specs.Entry.{IsCode};
+ghost use Rattle.std.specs.Option.{option_copied, option_map};
+ghost use Rattle.aggregates.specs.Views.{agg_in};
+ghost use Rattle.qc_arena.specs.Edges.{edge_to, with_edge, without_edge};
+ghost use Rattle.qc_arena.specs.Held.{node_in};
+ghost use Rattle.qc_arena.specs.Map.{with_class, with_forced};
+ghost use Rattle.qc_arena.specs.Seen.{edge_of, record_or};
+
+use crate::Memory;
+use crate::edges::EdgeTo;
+use crate::nodes::Forced;
+use crate::records::Rec;
+use aggregates::Agg;
+use cell_core::Code;
+use std::marker::Model;
+
+/// A number's place: the record of its node, or nothing once the node was killed. The record of a
+/// killed node stays in memory, but nobody sees it.
+#[derive(Drop)]
+pub(crate) struct Place {
+    rec: Rec,
+}
+
+const _: () = prove!(size_of::<Place>() == 56);
+
+impl Model for Place {
+    ghost use Rattle.std.specs.Prelude.{Option, ℕ};
+    ghost use Rattle.std.specs.Coded.{coded_option};
+    ghost use Rattle.cube_defs.specs.Tree.{Node};
+    ghost use Rattle.qc_arena.specs.Codes.{node_code};
+
+    ghost Value = { Option (Node ℕ ℕ) };
+
+    ghost coded = { coded_option node_code };
+
+    ghost use Rattle.qc_arena.specs.Held.{standing};
+
+    ghost view = { λ p. standing p.rec };
+}
+
+impl Place {
+    pub(crate) fn of(rec: Rec) -> Place
+        ensures { result ≡ Some rec.node }
+    {
+        Place { rec: rec.alive() }
+    }
+
+    pub(crate) fn is_killed(&self) -> bool
+        ensures { result ≡ not (is_some self.now) }
+    {
+        self.rec.is_killed()
+    }
+
+    // The record, if there is one.
+    pub(crate) fn record(&self) -> Option<&Rec>
+        ensures { option_map node_in (option_copied result) ≡ self.now }
+    {
+        if self.rec.is_killed() {
+            return None;
+        }
+        Some(&self.rec)
+    }
+
+    // The record that is there.
+    pub(crate) fn standing(&self) -> &Rec
+        requires { IsSome self.now }
+        ensures { self.now ≡ Some result.now.node }
+    {
+        &self.rec
+    }
+
+    // Takes the node away. It tells whether that was a class, and how many edges it had.
+    pub(crate) fn kill(&mut self) -> (bool, u32)
+        requires { IsSome self.old }
+        ensures killed { self.new ≡ None }
+        ensures class { result.0 ≡ is_some (record_or self.old).class }
+        ensures edges { result.1 ≡ length (record_or self.old).edges }
+    {
+        let was = (self.rec.is_class(), self.rec.edge_count());
+        self.rec.kill();
+        was
+    }
+
+    // Sets an edge, and tells how many edges there were, and how many there are.
+    pub(crate) fn set_edge(&mut self, edge: EdgeTo) -> Result<(u32, u32), Memory>
+        requires there { IsSome self.old }
+        requires code { IsCode edge.code }
+        ensures here { IsSome self.new }
+        ensures ok { OnOk result (self.new ≡ option_map (with_edge (edge_to edge)) self.old) }
+        ensures had { IfOk result (λ n. n.0 ≡ length (record_or self.old).edges) }
+        ensures has { IfOk result (λ n. n.1 ≡ length (record_or self.new).edges) }
+        ensures err { OnErr result (self.new ≡ self.old) }
+    {
+        self.rec.set_edge(edge)
+    }
+
+    // Takes an edge away, and tells how many edges there were, and how many there are.
+    pub(crate) fn drop_edge(&mut self, dim: u8, code: Code) -> (u32, u32)
+        requires { IsSome self.old }
+        ensures dropped { self.new ≡ option_map (without_edge dim code) self.old }
+        ensures had { result.0 ≡ length (record_or self.old).edges }
+        ensures has { result.1 ≡ length (record_or self.new).edges }
+    {
+        self.rec.drop_edge(dim, code)
+    }
+
+    pub(crate) fn set_forced(&mut self, forced: Option<Forced>)
+        requires there { IsSome self.old }
+        requires code { IfSome forced (λ f. IsCode f.code) }
+        ensures { self.new ≡ option_map (with_forced (option_map edge_of forced)) self.old }
+    {
+        self.rec.set_forced(forced);
+    }
+
+    pub(crate) fn set_class(&mut self, class: Option<Agg>)
+        requires there { IsSome self.old }
+        requires four { IfSome class (λ a. length a.parts ≡ 4) }
+        ensures { self.new ≡ option_map (with_class (option_map agg_in class)) self.old }
+    {
+        self.rec.set_class(class);
+    }
+}
