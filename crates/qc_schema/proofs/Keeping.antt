@@ -16,7 +16,8 @@ use Rattle.aggregates.specs.declared.kind.AggKind.TheVariants as kinds
 use Rattle.cube_defs.specs.Text.{Text}
 use Rattle.qc_schema.specs.Schema.{IsLayout, Layout, Measure, all_different, is_name, names_of, same_kind}
 use Rattle.qc_schema.specs.States.{State, Fault, Line}
-use Rattle.qc_schema.specs.Lines.{is_comment, words_of}
+use Rattle.qc_schema.specs.Lines.{words_of}
+use Rattle.text_lines.specs.Lines.{is_comment}
 use Rattle.qc_schema.specs.Grammar.{◌>>=◌, and_on, count_kind, dim_line, id_line, in_order, index_line, is_start, is_used, is_version, kind_named, kind_of, limit_in, line_of_words, may_dim, may_end, may_id, may_index, may_measure, may_rows, may_values, measure_from, measure_line, named_line, new_kind, new_name, nodes_line, one_word, read_lines, rows_line, scale_in, start, take_line, two_words, values_line, version_line}
 use Rattle.qc_schema.specs.declared.reader.Stage.{Stage}
 use Rattle.qc_schema.specs.declared.reader.Stage.TheVariants as stages

@@ -7,7 +7,8 @@ use Rattle.std.proofs.lemmas.List.{nil_from_length}
 use Rattle.std.proofs.lemmas.Str.{is_utf8-from_IsUtf8, IsUtf8-from_is_utf8}
 use Rattle.std.proofs.Common.{inl, inr}
 use Rattle.qc_schema.specs.Grammar.{may_end, read_lines, schema_in, start, take_line}
-use Rattle.qc_schema.specs.Lines.{lines_of, schema_lines, without_cr}
+use Rattle.qc_schema.specs.Lines.{schema_lines}
+use Rattle.text_lines.specs.Lines.{lines_of, without_cr}
 use Rattle.qc_schema.specs.States.{Fails, FailsAs, Line, NotUtf8, State, refused_at}
 use Rattle.qc_schema.specs.declared.refusal.LineRefused.{LineRefused}
 use Rattle.qc_schema.specs.declared.refusal.LineRefused.TheVariants as faults

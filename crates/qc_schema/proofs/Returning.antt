@@ -15,7 +15,7 @@ use Rattle.aggregates.specs.declared.kind.AggKind.{AggKind}
 use Rattle.aggregates.specs.declared.kind.AggKind.TheVariants as kinds
 use Rattle.cube_defs.specs.Text.{Text}
 use Rattle.qc_schema.specs.Grammar.{◌>>=◌, and_on, dim_line, id_line, index_line, is_start, kind_of, limit_in, line_of_words, may_dim, may_end, may_index, measure_from, measure_line, named_line, nodes_line, read_lines, rows_line, scale_in, schema_in, start, take_line, values_line, version_line}
-use Rattle.qc_schema.specs.Lines.{lines_of, without_cr}
+use Rattle.text_lines.specs.Lines.{lines_of, without_cr}
 use Rattle.qc_schema.specs.Schema.{IsLayout, Layout, Measure, all_different, is_name, is_name_byte, same_kind}
 use Rattle.qc_schema.specs.Spelling.{dim_words, index_words, layout_text, layout_words, limit_words, line_text, measure_words, name_at}
 use Rattle.qc_schema.specs.States.{State}

@@ -8,7 +8,8 @@ use Rattle.std.proofs.lemmas.Bool.{and_parts}
 use Rattle.std.proofs.lemmas.Bool.Decides.{nat_tests}
 use Rattle.std.proofs.lemmas.Str.{IsUtf8-from_ascii}
 use Rattle.cube_defs.specs.Text.{Text}
-use Rattle.qc_schema.specs.Lines.{has_bytes, is_comment, lines_of, pieces_of, without_cr, words_of}
+use Rattle.qc_schema.specs.Lines.{has_bytes, pieces_of, words_of}
+use Rattle.text_lines.specs.Lines.{is_comment, lines_of, without_cr}
 use Rattle.qc_schema.specs.Schema.{is_name_byte}
 use Rattle.qc_schema.specs.Spelling.{line_text}
 

@@ -12,7 +12,7 @@ mod tests;
 mod words;
 
 pub use cube_defs::Memory;
-pub use lines::{split_line, trim_cr, trim_mark};
 pub use refusal::{SchemaCause, SchemaRefused};
 pub use schema::{Schema, read_schema};
 pub use spelling::schema_text;
+pub use text_lines::{split_line, trim_cr, trim_mark};

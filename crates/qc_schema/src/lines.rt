@@ -1,54 +1,10 @@
-// The lines of a schema, and the words of a line.
-ghost use Rattle.std.specs.Prelude.{◌≡◌, ◌≢◌, ◌<◌, ◌≤◌, [], ◌∷◌, length, slice_index, MatchOption};
+// The words of a line.
+ghost use Rattle.std.specs.Prelude.{◌≡◌, ◌≢◌, ◌<◌, [], ◌∷◌, length, slice_index, MatchOption};
 ghost use Rattle.qc_schema.specs.Grammar.{one_word, two_words};
-ghost use Rattle.qc_schema.specs.Lines.{is_comment, lines_of, without_cr, without_mark, words_of};
+ghost use Rattle.qc_schema.specs.Lines.{words_of};
 ghost use Rattle.qc_schema.specs.States.{Gives};
 
 use crate::refusal::{LineRefused, SchemaCause};
-
-/// The first line, and what is behind it.
-pub fn split_line(text: &[u8]) -> (&[u8], &[u8])
-    requires { 0 < length text.now }
-    ensures lines { lines_of text.now ≡ result.0.now ∷ lines_of result.1.now }
-    ensures shorter { length result.1.now < length text.now }
-    ensures within { length result.0.now ≤ length text.now }
-{
-    for (i, b) in text.iter().enumerate() {
-        if *b == b'\n' {
-            return (&text[..i], &text[i + 1..]);
-        }
-    }
-    (text, &[])
-}
-
-/// A line without the CR at its end.
-pub fn trim_cr(line: &[u8]) -> &[u8]
-    ensures value { result.now ≡ without_cr line.now }
-    ensures within { length result.now ≤ length line.now }
-{
-    if let Some(b'\r') = line.last() {
-        &line[..line.len() - 1]
-    } else {
-        line
-    }
-}
-
-/// A text without the byte order mark at its front.
-pub fn trim_mark(text: &[u8]) -> &[u8]
-    ensures { result.now ≡ without_mark text.now }
-{
-    match text {
-        [0xEF, 0xBB, 0xBF, behind @ ..] => behind,
-        _ => text,
-    }
-}
-
-/// Whether a line begins with `#`.
-pub fn is_comment_line(line: &[u8]) -> bool
-    ensures { result ≡ is_comment line.now }
-{
-    matches!(line, [b'#', ..])
-}
 
 // A line without the spaces at its front.
 fn trim_spaces(line: &[u8]) -> &[u8]

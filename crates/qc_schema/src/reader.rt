@@ -5,10 +5,11 @@ ghost use Rattle.qc_schema.specs.Lines.{words_of};
 ghost use Rattle.qc_schema.specs.States.{Gives, state_in};
 
 use crate::draft::{Draft, Measure};
-use crate::lines::{is_comment_line, only_word, only_words, split_word};
+use crate::lines::{only_word, only_words, split_word};
 use crate::refusal::{LineRefused, SchemaCause};
 use crate::words::{read_limit, read_scale};
 use std::alloc::Global;
+use text_lines::is_comment_line;
 
 /// The kind of the last line that was read.
 #[derive(Clone, Copy)]

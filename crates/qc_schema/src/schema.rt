@@ -1,18 +1,18 @@
 // A schema, and what it says.
 ghost use Rattle.std.specs.Prelude.{◌≡◌, ◌≤◌, ◌<◌, ◌+◌, [], length, map, slice_index_or};
 ghost use Rattle.qc_schema.specs.Grammar.{read_lines, schema_in, start};
-ghost use Rattle.qc_schema.specs.Lines.{lines_of, without_cr};
+ghost use Rattle.text_lines.specs.Lines.{lines_of, without_cr};
 ghost use Rattle.qc_schema.specs.Schema.{IsLayout, no_measure};
 ghost use Rattle.qc_schema.specs.States.{IsRead, layout_in};
 
 use crate::draft::Draft;
-use crate::lines::{split_line, trim_cr, trim_mark};
 use crate::reader::Reader;
 use crate::refusal::{SchemaCause, SchemaRefused};
 use aggregates::AggKind;
 use cube_defs::MAX_FILE;
 use std::alloc::Global;
 use std::marker::Model;
+use text_lines::{split_line, trim_cr, trim_mark};
 
 /// The names of a cube's columns, the aggregates that are indexed, and the limits.
 #[derive(Drop)]

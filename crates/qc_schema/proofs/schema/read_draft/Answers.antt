@@ -2,7 +2,7 @@ use Rattle.std.proofs.Common.{◌≡◌, ◌∙◌, length, map, ap, sym, subst,
 use Rattle.std.proofs.lemmas.Bool.{eqb-true}
 use Rattle.std.proofs.lemmas.List.{length-map}
 use Rattle.qc_schema.specs.Grammar.{read_lines, start, take_line}
-use Rattle.qc_schema.specs.Lines.{lines_of, without_cr}
+use Rattle.text_lines.specs.Lines.{lines_of, without_cr}
 use Rattle.qc_schema.specs.Schema.{Layout}
 use Rattle.qc_schema.specs.States.{Fails, FailsAs, Fault, State, measure_in, refused_at, state_in}
 use Rattle.qc_schema.proofs.Keeping.{few-kept, line-kept, start-kept}

@@ -1,6 +1,6 @@
 use Rattle.std.proofs.Common.{◌≡◌, ◌≤◌, ◌+◌, length, map}
 use Rattle.qc_schema.specs.Grammar.{read_lines, start}
-use Rattle.qc_schema.specs.Lines.{lines_of, without_cr}
+use Rattle.text_lines.specs.Lines.{lines_of, without_cr}
 use Rattle.qc_schema.specs.States.{state_in}
 use Rattle.qc_schema.proofs.Keeping.{Keeps}
 use Rattle.qc_schema.proofs.schema.read_draft.Given as goal

@@ -1,6 +1,7 @@
 use Rattle.std.proofs.Common.{◌≡◌, ◌∙◌, map, ap, sym, subst, List, ℕ, Result}
 use Rattle.qc_schema.specs.Grammar.{read_lines, schema_in, start}
-use Rattle.qc_schema.specs.Lines.{lines_of, schema_lines, without_cr, without_mark}
+use Rattle.qc_schema.specs.Lines.{schema_lines}
+use Rattle.text_lines.specs.Lines.{lines_of, without_cr, without_mark}
 use Rattle.qc_schema.specs.Schema.{Layout}
 use Rattle.qc_schema.specs.States.{FailsAs, Fault}
 use Rattle.qc_schema.proofs.Keeping.{read-layout, start-kept}

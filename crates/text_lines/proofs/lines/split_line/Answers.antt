@@ -1,7 +1,7 @@
 use Rattle.std.proofs.Common.{arith}
 use Rattle.std.proofs.lemmas.List.{take_rest}
-use Rattle.qc_schema.proofs.Splits.{line-at, line-whole}
-use Rattle.qc_schema.proofs.lines.split_line.Goals as goal
+use Rattle.text_lines.proofs.Splits.{line-at, line-whole}
+use Rattle.text_lines.proofs.lines.split_line.Goals as goal
 
 pub returns-then-b-eq10-clause-lines : goal.returns-then-b-eq10-clause-lines
 returns-then-b-eq10-clause-lines c = rw take_rest (line-at c.args.text.now c.loop-i.i (omega arith) (omega arith) c.loop-i.invariant)

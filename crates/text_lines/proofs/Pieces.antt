@@ -1,0 +1,123 @@
+-- A text without quotes and ends of lines is one record, the pieces between its commas.
+use Rattle.std.proofs.Common.{◌≡◌, ◌≢◌, ◌<◌, ◌+◌, ◌∙◌, ℕ, zero, suc, List, [], ◌∷◌, ◌++◌, length, get_or, refl, sym, ap, arith, Some, None, true, false, Bool, cond, append_assoc, append-nil}
+use Rattle.std.specs.Borrow.{Bor}
+use Rattle.std.specs.Prelude.{MatchOption, Option, ◌==◌}
+use Rattle.std.specs.List.{list_all}
+use Rattle.std.proofs.lemmas.Bool.{and_parts}
+use Rattle.std.proofs.lemmas.Bool.Decides.{nat_tests}
+use Rattle.std.proofs.lemmas.Str.Pattern.{IsSplitOnceResult, split_parts}
+use Rattle.csv.specs.Machine.{ends_at_end, next_record, step}
+use Rattle.csv.specs.Reading.{default_config, records, records_from}
+use Rattle.csv.specs.declared.parser.Action.TheVariants as act
+use Rattle.csv.specs.declared.parser.State.{State}
+use Rattle.csv.specs.declared.parser.State.TheVariants as st
+use Rattle.cube_defs.specs.Text.{Text}
+use Rattle.text_lines.specs.Lines.{with_first}
+use Rattle.text_lines.specs.Plain.{is_plain_byte, pieces}
+
+-- ---- the machine
+
+-- the bytes of a field in front of the first piece
+abbrev behind : Text → List Text → List Text
+behind field [] = field ∷ []
+behind field (piece ∷ more) = (field ++ piece) ∷ more
+
+behind-nothing : (text : List ℕ) → behind [] (pieces text) ≡ pieces text
+behind-nothing [] = refl
+behind-nothing (b ∷ bs) = by (b == 44) (pieces bs)
+  where
+    by : (comma : Bool) (more : List Text) → behind [] (cond comma ([] ∷ more) (with_first b more)) ≡ cond comma ([] ∷ more) (with_first b more)
+    by true more = refl
+    by false [] = refl
+    by false (piece ∷ more) = refl
+
+behind-byte : (field : Text) (b : ℕ) (more : List Text) → behind (field ++ b ∷ []) more ≡ behind field (with_first b more)
+behind-byte field b [] = refl
+behind-byte field b (piece ∷ more) = ap (λ (f : Text). f ∷ more) (append_assoc field (b ∷ []) piece)
+
+-- a state between two bytes of a plain text
+abbrev IsInside : State → Type 0
+IsInside s = (b : ℕ) → is_plain_byte b ≡ true → step default_config s b ≡ cond (b == 44) (st.StartField, act.EndField) (st.InField, act.Copy)
+
+start-record : IsInside st.StartRecord
+start-record b h = grind (arith, nat_tests)
+
+start-field : IsInside st.StartField
+start-field b h = grind (arith, nat_tests)
+
+in-field : IsInside st.InField
+in-field b h = grind (arith, nat_tests)
+
+-- the read of a plain text behind the fields so far and the bytes of the field at hand
+abbrev ReadsPieces : List ℕ → State → Type 0
+ReadsPieces text s = (fields : List Text) (field : Text) → next_record default_config s fields field text ≡ Some (fields ++ behind field (pieces text), st.StartRecord, [])
+
+reads-end : (s : State) → ends_at_end s ≡ true → ReadsPieces [] s
+unfolding next_record
+reads-end s e fields field = rw (e, append-nil field) refl
+
+reads-byte : (b : ℕ) (bs : List ℕ) (s : State) → is_plain_byte b ≡ true → IsInside s → ReadsPieces bs st.StartField → ReadsPieces bs st.InField → ReadsPieces (b ∷ bs) s
+unfolding next_record
+reads-byte b bs s plain inside comma other fields field = by (b == 44) refl
+  where
+    by : (m : Bool) → (b == 44) ≡ m → next_record default_config s fields field (b ∷ bs) ≡ Some (fields ++ behind field (pieces (b ∷ bs)), st.StartRecord, [])
+    by true e =
+        let before : (fields ++ field ∷ []) ++ behind [] (pieces bs) ≡ fields ++ (field ++ []) ∷ pieces bs =
+        ap (λ (more : List Text). (fields ++ field ∷ []) ++ more) (behind-nothing bs) ∙ append_assoc fields (field ∷ []) (pieces bs) ∙ ap (λ (f : Text). fields ++ f ∷ pieces bs) (sym (append-nil field)) in
+        rw (inside b plain, e) (comma (fields ++ field ∷ []) [] ∙ ap (λ (all : List Text). Some (all, st.StartRecord, [])) before)
+    by false e =
+        rw (inside b plain, e) (other fields (field ++ b ∷ []) ∙ ap (λ (more : List Text). Some (fields ++ more, st.StartRecord, [])) (behind-byte field b (pieces bs)))
+
+record ReadsInside (text : List ℕ) : Type 0 where
+  start : ReadsPieces text st.StartField
+  «in» : ReadsPieces text st.InField
+
+reads-inside : (text : List ℕ) → list_all is_plain_byte text ≡ true → ReadsInside text
+reads-inside [] plain = record { start = reads-end st.StartField refl; «in» = reads-end st.InField refl }
+reads-inside (b ∷ bs) plain =
+    let p = and_parts (is_plain_byte b) (list_all is_plain_byte bs) plain in
+    let more = reads-inside bs p.1 in
+    record { start = reads-byte b bs st.StartField p.0 start-field more.start more.«in»; «in» = reads-byte b bs st.InField p.0 in-field more.start more.«in» }
+
+-- ---- the records
+
+none-behind : (n : ℕ) → records_from default_config n st.StartRecord [] ≡ []
+unfolding records_from next_record
+none-behind zero = refl
+none-behind (suc n) = refl
+
+pub no-records : records default_config [] ≡ []
+no-records = none-behind 1
+
+one-record : (n : ℕ) (text : List ℕ) (fields : List Text) → next_record default_config st.StartRecord [] [] text ≡ Some (fields, st.StartRecord, []) → records_from default_config (suc n) st.StartRecord text ≡ fields ∷ []
+unfolding records_from
+one-record n text fields e = rw e (ap (λ (more : List (List Text)). fields ∷ more) (none-behind n))
+
+pub plain-record : (b : ℕ) (bs : List ℕ) → list_all is_plain_byte (b ∷ bs) ≡ true → records default_config (b ∷ bs) ≡ pieces (b ∷ bs) ∷ []
+plain-record b bs plain =
+    let p = and_parts (is_plain_byte b) (list_all is_plain_byte bs) plain in
+    let more = reads-inside bs p.1 in
+    let read = reads-byte b bs st.StartRecord p.0 start-record more.start more.«in» [] [] in
+    let whole = read ∙ ap (λ (all : List Text). Some (all, st.StartRecord, [])) (behind-nothing (b ∷ bs)) in
+    let size : length (b ∷ bs) + 1 ≡ suc (length (b ∷ bs)) = omega arith in
+    rw size (one-record (length (b ∷ bs)) (b ∷ bs) (pieces (b ∷ bs)) whole)
+
+-- ---- cutting at the first comma
+
+pub no-comma : (text : List ℕ) → ((i : ℕ) → i < length text → get_or text i 0 ≢ 44) → pieces text ≡ text ∷ []
+no-comma [] none = refl
+no-comma (b ∷ bs) none =
+    let other : (b == 44) ≡ false = let h = none 0 (omega arith) in grind (arith, nat_tests, h) in
+    rw (other, no-comma bs (λ i l. none (suc i) (omega arith))) refl
+
+pub first-comma : (piece rest : List ℕ) → ((i : ℕ) → i < length piece → get_or piece i 0 ≢ 44) → pieces (piece ++ 44 ∷ rest) ≡ piece ∷ pieces rest
+first-comma [] rest none = refl
+first-comma (b ∷ bs) rest none =
+    let other : (b == 44) ≡ false = let h = none 0 (omega arith) in grind (arith, nat_tests, h) in
+    rw (other, first-comma bs rest (λ i l. none (suc i) (omega arith))) refl
+
+pub split-pieces : (text : List ℕ) (r : Option (Bor (List ℕ) × Bor (List ℕ))) → IsSplitOnceResult 44 text r → MatchOption r (pieces text ≡ text ∷ []) (λ x. pieces text ≡ x.0.now ∷ pieces x.1.now)
+split-pieces text None h = no-comma text (split_parts 44 text None h (omega arith))
+split-pieces text (Some x) h =
+    let p = split_parts 44 text (Some x) h (omega arith) in
+    ap pieces p.0 ∙ first-comma x.0.now x.1.now p.1

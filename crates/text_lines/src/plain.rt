@@ -1,0 +1,13 @@
+// Texts that have nothing but commas between their fields.
+ghost use Rattle.std.specs.Prelude.{◌≡◌};
+ghost use Rattle.std.specs.List.{list_all};
+ghost use Rattle.text_lines.specs.Plain.{is_plain_byte};
+
+/// Whether a text neither quotes nor ends a line.
+pub fn is_plain(text: &str) -> bool
+    ensures { result ≡ list_all is_plain_byte text.now }
+{
+    text.as_bytes()
+        .iter()
+        .all(|b| !matches!(b, b'"' | b'\r' | b'\n'))
+}
