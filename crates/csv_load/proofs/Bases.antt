@@ -1,18 +1,19 @@
 -- A base file has only insertions, and no fault in an op.
 use Rattle.std.proofs.Common.{◌≡◌, ◌+◌, ℕ, ℤ, Bool, true, false, cond, List, [], ◌∷◌, length, get_or, refl, arith, Some, None, subst}
-use Rattle.std.specs.Prelude.{Option, Result, Ok, Err, IfErr, IfOk, ◌==◌}
+use Rattle.std.specs.Prelude.{Option, Result, Ok, Err, IfErr, IfOk, IfSome, ◌==◌}
 use Rattle.std.specs.List.{list_all}
 use Rattle.std.specs.Str.{is_utf8}
 use Rattle.std.proofs.lemmas.List.Elements.{All-cons}
-use Rattle.csv.specs.Reading.{default_config, records, strip_bom}
+use Rattle.csv.specs.Reading.{default_config, records}
 use Rattle.cube_defs.specs.Text.{Text}
+use Rattle.cell_core.specs.Gives.{Gives}
 use Rattle.aggregates.specs.Numbers.{id_in}
 use Rattle.qc_schema.specs.Schema.{Layout, names_of}
 use Rattle.csv_load.specs.Batch.{AreInsertions, Batch, Change, Insert, is_deletion}
 use Rattle.csv_load.specs.Columns.{fields_at, places_in}
-use Rattle.csv_load.specs.Faults.{Fails, Fault, Gives, Header, Fields, Utf8, Op, Value, cons_ok}
+use Rattle.csv_load.specs.Faults.{Fault, fault_in, Header, Fields, Utf8, Op, Value, cons_ok}
 use Rattle.csv_load.specs.Files.{amounts_of, base_in, change_in, change_of, change_with_id, changes_from, changes_of, changes_under, insertion, is_short, tuple_of}
-use Rattle.csv_load.specs.Records.{begins_with_two_marks}
+use Rattle.text_lines.specs.Lines.{begins_with_two_marks, without_mark}
 use Rattle.csv_load.specs.declared.files.LoadRefused.{LoadRefused}
 use Rattle.csv_load.specs.declared.files.LoadRefused.TheVariants as refusals
 
@@ -71,20 +72,20 @@ reads-all layout (header ∷ left) = reads-under layout (length header) (places_
 reads-base : (layout : Layout) (text : List ℕ) → Reads AreInsertions (base_in layout text)
 reads-base layout text = by (begins_with_two_marks text)
   where
-    by : (b : Bool) → Reads AreInsertions (cond b (Err Header) (changes_of false layout (records default_config (strip_bom text))))
+    by : (b : Bool) → Reads AreInsertions (cond b (Err Header) (changes_of false layout (records default_config (without_mark text))))
     by true = λ n e. absurd (cc e)
-    by false = reads-all layout (records default_config (strip_bom text))
+    by false = reads-all layout (records default_config (without_mark text))
 
-pub no-op : (result : Result Batch LoadRefused) (layout : Layout) (text : List ℕ) → Gives result (base_in layout text) → IfErr result (λ refused. (k : ℕ) → refused ≡ refusals.Op k → ⊥)
+pub no-op : (result : Result Batch LoadRefused) (layout : Layout) (text : List ℕ) → Gives fault_in (λ batch. batch.changes) result (base_in layout text) → IfErr result (λ refused. (k : ℕ) → refused ≡ refusals.Op k → ⊥)
 no-op (Ok batch) layout text gives = tt
 no-op (Err refused) layout text gives = λ k e.
-    let P : LoadRefused → Type 0 = λ r. Fails r (base_in layout text) in
+    let P : LoadRefused → Type 0 = λ r. IfSome (fault_in r) (λ fault. base_in layout text ≡ Err fault) in
     let fails : base_in layout text ≡ Err (Op k) = subst P e gives in
     let Q : Result (List (Change Text)) Fault → Type 0 = λ read. Reads AreInsertions read in
     let never : (n : ℕ) → Op k ≡ Op n → ⊥ = subst Q fails (reads-base layout text) in
     never k refl
 
-pub insertions : (result : Result Batch LoadRefused) (layout : Layout) (text : List ℕ) → Gives result (base_in layout text) → IfOk result (λ batch. AreInsertions batch.changes)
+pub insertions : (result : Result Batch LoadRefused) (layout : Layout) (text : List ℕ) → Gives fault_in (λ batch. batch.changes) result (base_in layout text) → IfOk result (λ batch. AreInsertions batch.changes)
 insertions (Ok batch) layout text gives =
     let Q : Result (List (Change Text)) Fault → Type 0 = λ read. Reads AreInsertions read in
     subst Q gives (reads-base layout text)

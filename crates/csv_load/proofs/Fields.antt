@@ -1,23 +1,12 @@
 -- The fields of a record.
-use Rattle.std.proofs.Common.{◌≡◌, ◌<◌, ◌≤◌, ◌∙◌, ℕ, zero, suc, List, [], ◌∷◌, length, get_or, refl, sym, ap, arith, Some, None, true, false, Bool, ◌++◌, ◌+◌, append_assoc}
-use Rattle.std.specs.Prelude.{Option, option_map, IsSome, IsUtf8, slice_range, ◌&&◌}
+use Rattle.std.proofs.Common.{◌≡◌, ◌<◌, ◌≤◌, ◌∙◌, ℕ, List, [], ◌∷◌, length, get_or, refl, sym, ap, arith, true, false, Bool, ◌++◌, ◌+◌, append_assoc}
+use Rattle.std.specs.Prelude.{IsUtf8, slice_range, ◌&&◌}
 use Rattle.std.specs.List.{list_all}
 use Rattle.std.specs.Str.{is_utf8}
 use Rattle.std.proofs.lemmas.Str.{IsUtf8-from_is_utf8}
-use Rattle.csv.specs.Records.{field_at}
 use Rattle.std.proofs.lemmas.Bool.{le-leb, lt-leb}
 use Rattle.csv_load.specs.Files.{is_short}
 use Rattle.csv_load.proofs.Ranges.{range-more}
-
-pub field-at : (fields : List (List ℕ)) (i : ℕ) → i < length fields → field_at fields i ≡ Some (get_or fields i [])
-unfolding field_at
-field-at [] i h = absurd (omega arith)
-field-at (f ∷ fs) zero h = refl
-field-at (f ∷ fs) (suc i) h = field-at fs i (omega arith)
-
-pub mapped-some : {A B : Type 0} (f : A → B) (o : Option A) (x : B) → option_map f o ≡ Some x → IsSome o
-mapped-some f None x e = absurd (cc e)
-mapped-some f (Some a) x e = refl
 
 pub not-utf8 : (text : List ℕ) → ¬ (IsUtf8 text) → is_utf8 text ≡ false
 not-utf8 text h = by (is_utf8 text) refl

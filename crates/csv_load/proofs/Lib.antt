@@ -1,11 +1,10 @@
-pub mod Records
-pub mod Ranges
-pub mod Fields
-pub mod Names
-pub mod Amounts
-pub mod Changing
-pub mod Bases
-pub mod Refusals
-pub mod Sizes
-pub mod Cutting
-pub mod Columnar
+mod Ranges
+mod Fields
+mod Names
+mod Amounts
+mod Changing
+mod Bases
+mod Refusals
+mod Sizes
+mod Cutting
+mod Columnar

@@ -1,7 +1,5 @@
--- What is wrong with a file, and what a reading of it gives.
-use Rattle.std.specs.Prelude.{◌≡◌, ◌⊎◌, ℕ, List, ◌∷◌, Result, Ok, Err}
-use Rattle.cube_defs.specs.Text.{Text}
-use Rattle.csv_load.specs.Batch.{Batch, Change}
+-- What is wrong with a file.
+use Rattle.std.specs.Prelude.{ℕ, List, ◌∷◌, Option, Some, None, Result, Ok, Err}
 use Rattle.csv_load.specs.declared.files.LoadRefused.{LoadRefused}
 use Rattle.csv_load.specs.declared.files.LoadRefused.TheVariants as refusals
 
@@ -15,25 +13,16 @@ pub data Fault : Type 0 where
   Amount : ℕ → Fault
   Value : ℕ → Fault
 
--- a reading answers with the fault that the refusal names; want of memory says nothing of the file
-abbrev pub Fails : {X : Type 0} → LoadRefused → Result X Fault → Type 0
-Fails refusals.Header read = read ≡ Err Header
-Fails (refusals.Fields k) read = read ≡ Err (Fields k)
-Fails (refusals.Utf8 k) read = read ≡ Err (Utf8 k)
-Fails (refusals.Op k) read = read ≡ Err (Op k)
-Fails (refusals.Id k) read = read ≡ Err (Id k)
-Fails (refusals.Amount k) read = read ≡ Err (Amount k)
-Fails (refusals.Value k) read = read ≡ Err (Value k)
-Fails refusals.Memory read = Unit {0}
-
--- memory ran out, or the refusal is this one, for this cause
-abbrev pub IsRefused : LoadRefused → LoadRefused → Type 0 → Type 0
-IsRefused refused refusal Cause = (refused ≡ refusals.Memory) ⊎ ((refused ≡ refusal) × Cause)
-
--- what a call answers, with memory, is what the reading of a file gives
-abbrev pub Gives : Result Batch LoadRefused → Result (List (Change Text)) Fault → Type 0
-Gives (Ok batch) read = read ≡ Ok batch.changes
-Gives (Err refused) read = Fails refused read
+-- the fault that a refusal names; want of memory is none
+abbrev pub fault_in : LoadRefused → Option Fault
+fault_in refusals.Header = Some Header
+fault_in (refusals.Fields k) = Some (Fields k)
+fault_in (refusals.Utf8 k) = Some (Utf8 k)
+fault_in (refusals.Op k) = Some (Op k)
+fault_in (refusals.Id k) = Some (Id k)
+fault_in (refusals.Amount k) = Some (Amount k)
+fault_in (refusals.Value k) = Some (Value k)
+fault_in refusals.Memory = None
 
 -- the row in front of the others, or the first fault
 abbrev pub cons_ok : {X : Type 0} → Result X Fault → Result (List X) Fault → Result (List X) Fault

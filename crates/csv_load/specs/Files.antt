@@ -2,14 +2,14 @@
 use Rattle.std.specs.Prelude.{◌≡◌, ℕ, Bool, true, false, ◌==◌, ◌+◌, List, [], ◌∷◌, length, drop, nat_le, codes, Option, Some, None, Result, Ok, Err, ℤ, slice_index_or, slice_range, if◌then◌else◌}
 use Rattle.std.specs.List.{list_all}
 use Rattle.std.specs.Str.{bytes_eq, is_utf8}
-use Rattle.csv.specs.Reading.{default_config, records, strip_bom}
+use Rattle.csv.specs.Reading.{default_config, records}
 use Rattle.cube_defs.specs.Text.{Text}
 use Rattle.aggregates.specs.Numbers.{amount_in, id_in}
 use Rattle.qc_schema.specs.Schema.{Layout, Measure, names_of}
 use Rattle.csv_load.specs.Batch.{Change, Delete, Insert, change_with}
 use Rattle.csv_load.specs.Columns.{cons_some, fields_at, needed_names, places_in}
 use Rattle.csv_load.specs.Faults.{Fault, Header, Fields, Utf8, Op, Id, Amount, Value, cons_ok}
-use Rattle.csv_load.specs.Records.{begins_with_two_marks}
+use Rattle.text_lines.specs.Lines.{begins_with_two_marks, without_mark}
 
 -- at most 255 bytes
 abbrev pub is_short : Text → Bool
@@ -78,7 +78,7 @@ changes_of has_op layout (header ∷ more) = changes_under has_op layout (length
 
 -- the changes of a file, with the column `op` or without it; one byte order mark may stand in front
 abbrev pub file_in : Bool → Layout → List ℕ → Result (List (Change Text)) Fault
-file_in has_op layout text = if begins_with_two_marks text then Err Header else changes_of has_op layout (records default_config (strip_bom text))
+file_in has_op layout text = if begins_with_two_marks text then Err Header else changes_of has_op layout (records default_config (without_mark text))
 
 -- the insertions of a base file, in its order
 abbrev pub base_in : Layout → List ℕ → Result (List (Change Text)) Fault

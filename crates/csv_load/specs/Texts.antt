@@ -1,5 +1,5 @@
 -- Texts that lie one behind the other in a buffer, with the place where each ends.
-use Rattle.std.specs.Prelude.{◌≡◌, ◌≤◌, ◌<◌, ◌+◌, ◌-◌, ◌==◌, ℕ, List, [], ◌∷◌, map, length, slice_index, slice_range, if◌then◌else◌}
+use Rattle.std.specs.Prelude.{◌≡◌, ◌≤◌, ◌<◌, ◌-◌, ◌==◌, ℕ, List, [], ◌∷◌, map, length, slice_index, slice_range, if◌then◌else◌}
 use Rattle.std.specs.List.{range_with_len}
 use Rattle.std.specs.Str.{IsCharBoundary}
 
@@ -19,12 +19,3 @@ pub record IsCut (ends bytes : List ℕ) : Type 0 where
   pub rise : (k : ℕ) → k < length ends → start_at ends k ≤ slice_index ends k
   pub within : (k : ℕ) → k < length ends → slice_index ends k ≤ length bytes
   pub cut : (k : ℕ) → k < length ends → IsCharBoundary bytes (slice_index ends k)
-
--- how many bytes some texts have, and how many some records have
-abbrev pub bytes_in : List (List ℕ) → ℕ
-bytes_in [] = 0
-bytes_in (text ∷ texts) = length text + bytes_in texts
-
-abbrev pub bytes_in_all : List (List (List ℕ)) → ℕ
-bytes_in_all [] = 0
-bytes_in_all (fields ∷ records) = bytes_in fields + bytes_in_all records

@@ -4,10 +4,10 @@ ghost use Rattle.csv.specs.Records.{fields_of};
 ghost use Rattle.qc_schema.specs.Schema.{names_of};
 ghost use Rattle.csv_load.specs.Columns.{AreColumns, fields_at, needed_names, place_from, places_in};
 
-use crate::reader::field;
 use csv::ByteRecord;
 use qc_schema::Schema;
 use std::alloc::{AllocError, Global};
+use text_lines::field;
 
 /// The columns of a header.
 #[derive(Drop)]

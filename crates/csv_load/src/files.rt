@@ -2,18 +2,18 @@
 ghost use Rattle.std.specs.Prelude.{◌≡◌, ◌≢◌, ◌≤◌, ℕ, length, IfOk, IfErr};
 ghost use Rattle.csv_load.specs.Files.{base_in, batch_in, file_in};
 ghost use Rattle.csv_load.specs.Batch.{AreInsertions};
-ghost use Rattle.csv_load.specs.Faults.{Gives};
-ghost use Rattle.csv_load.specs.Records.{begins_with_mark, begins_with_two_marks};
+ghost use Rattle.cell_core.specs.Gives.{Gives};
+ghost use Rattle.csv_load.specs.Faults.{fault_in};
 
 use crate::batch::RawBatch;
 use crate::changes::Changes;
 use crate::columns::find_columns;
-use crate::reader::Rows;
 use crate::reading::read_changes;
 use csv::ByteRecord;
 use cube_defs::MAX_FILE;
 use qc_schema::Schema;
 use std::alloc::{AllocError, AllocFailed, Global};
+use text_lines::{Rows, has_two_marks, trim_mark};
 
 /// Why a file gives no changes. A number is that of the first record that is wrong, counted from 1
 /// without the header; of several faults the first in this order is named.
@@ -57,19 +57,8 @@ impl<T: Drop> From<AllocFailed<T>> for LoadRefused {
     }
 }
 
-fn begins_with_bom(text: &[u8]) -> bool
-    ensures { result ≡ begins_with_mark text.now }
-{
-    matches!(text, [0xEF, 0xBB, 0xBF, ..])
-}
-
-fn begins_with_two_boms(text: &[u8]) -> bool
-    ensures { result ≡ begins_with_two_marks text.now }
-{
-    begins_with_bom(text) && begins_with_bom(&text[3..])
-}
-
 // Reads a file whose records have an operation, or are all insertions.
+#[tactic(auto, using(text_lines::proofs::Unmarked::no_second))]
 fn read_file(
     alloc: Global,
     schema: &Schema,
@@ -77,14 +66,14 @@ fn read_file(
     has_op: bool,
 ) -> Result<RawBatch, LoadRefused>
     requires { length bytes.now ≤ MAX_FILE }
-    ensures gives { Gives result (file_in has_op schema.now bytes.now) }
+    ensures gives { Gives fault_in (λ batch. batch.changes) result (file_in has_op schema.now bytes.now) }
     ensures dims { IfOk result (λ batch. batch.dims ≡ length schema.now.dims) }
     ensures measures { IfOk result (λ batch. batch.measures ≡ length schema.now.measures) }
 {
-    if begins_with_two_boms(bytes) {
+    if has_two_marks(bytes) {
         return Err(LoadRefused::Header);
     }
-    let mut rows = Rows::new(alloc, bytes);
+    let mut rows = Rows::new(alloc, trim_mark(bytes));
     let mut row = ByteRecord::new(alloc);
     if !rows.next(&mut row)? {
         return Err(LoadRefused::Header);
@@ -101,7 +90,7 @@ fn read_file(
 /// come twice.
 pub fn read_base(alloc: Global, schema: &Schema, bytes: &[u8]) -> Result<RawBatch, LoadRefused>
     requires { length bytes.now ≤ MAX_FILE }
-    ensures gives { Gives result (base_in schema.now bytes.now) }
+    ensures gives { Gives fault_in (λ batch. batch.changes) result (base_in schema.now bytes.now) }
     ensures dims { IfOk result (λ batch. batch.dims ≡ length schema.now.dims) }
     ensures measures { IfOk result (λ batch. batch.measures ≡ length schema.now.measures) }
     ensures insertions { IfOk result (λ batch. AreInsertions batch.changes) }
@@ -114,7 +103,7 @@ pub fn read_base(alloc: Global, schema: &Schema, bytes: &[u8]) -> Result<RawBatc
 /// and `-` in a deletion. The same id may come any number of times.
 pub fn read_batch(alloc: Global, schema: &Schema, bytes: &[u8]) -> Result<RawBatch, LoadRefused>
     requires { length bytes.now ≤ MAX_FILE }
-    ensures gives { Gives result (batch_in schema.now bytes.now) }
+    ensures gives { Gives fault_in (λ batch. batch.changes) result (batch_in schema.now bytes.now) }
     ensures dims { IfOk result (λ batch. batch.dims ≡ length schema.now.dims) }
     ensures measures { IfOk result (λ batch. batch.measures ≡ length schema.now.measures) }
 {

@@ -5,7 +5,6 @@ mod batch;
 mod changes;
 mod columns;
 mod files;
-mod reader;
 mod reading;
 #[cfg(test)]
 mod tests;
@@ -14,4 +13,3 @@ mod texts;
 pub use batch::RawBatch;
 pub use cube_defs::Memory;
 pub use files::{LoadRefused, read_base, read_batch};
-pub use reader::{Rows, field};

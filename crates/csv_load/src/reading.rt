@@ -1,5 +1,5 @@
 // The changes of a file's records, read into columns.
-ghost use Rattle.std.specs.Prelude.{◌≡◌, ◌≤◌, ◌<◌, ◌+◌, ◌*◌, ◌^◌, ◌++◌, ℕ, [], Bool, List, ℤ, Some, None, Ok, length, true, false, IfOk, IfErr, OnOk};
+ghost use Rattle.std.specs.Prelude.{◌≡◌, ◌≤◌, ◌<◌, ◌+◌, ◌*◌, ◌^◌, ◌++◌, ℕ, [], Bool, List, ℤ, Some, None, Ok, Err, length, true, false, IfOk, IfErr, IfSome, OnOk};
 ghost use Rattle.std.specs.List.{list_all};
 ghost use Rattle.std.specs.Str.{is_utf8};
 ghost use Rattle.csv.specs.Records.{fields_of};
@@ -7,20 +7,21 @@ ghost use Rattle.cube_defs.specs.Rows.{Row};
 ghost use Rattle.cube_defs.specs.Text.{Text};
 ghost use Rattle.csv_load.specs.Batch.{Adds, change_with};
 ghost use Rattle.csv_load.specs.Columns.{AreColumns, fields_at};
-ghost use Rattle.csv_load.specs.Faults.{Fails, Gives, IsRefused};
+ghost use Rattle.cell_core.specs.Gives.{Gives};
+ghost use Rattle.csv_load.specs.Faults.{Amount, Utf8, fault_in};
 ghost use Rattle.csv_load.specs.Files.{Makes, amounts_of, change_in, change_with_id, changes_from, deletion_of, is_short, tuple_of};
-ghost use Rattle.csv_load.specs.Texts.{bytes_in, bytes_in_all};
+ghost use Rattle.text_lines.specs.Records.{bytes_in, bytes_in_all};
 
 use crate::batch::RawBatch;
 use crate::changes::Changes;
 use crate::columns::{Columns, needed_field};
 use crate::files::LoadRefused;
-use crate::reader::Rows;
 use crate::texts::Texts;
 use aggregates::{read_amount, read_id};
 use csv::ByteRecord;
 use qc_schema::Schema;
 use std::alloc::AllocError;
+use text_lines::Rows;
 
 const LONGEST_TEXT: usize = 255;
 
@@ -38,7 +39,7 @@ fn push_texts(
     ensures ok { OnOk result (texts.new ≡ texts.old ++ tuple_of schema.now (fields_at columns.now.places.items (fields_of row.now))) }
     ensures utf8 { OnOk result (list_all is_utf8 (tuple_of schema.now (fields_at columns.now.places.items (fields_of row.now))) ≡ true) }
     ensures short { IfOk result (λ short. short ≡ list_all is_short (tuple_of schema.now (fields_at columns.now.places.items (fields_of row.now)))) }
-    ensures err { IfErr result (λ e. IsRefused e (LoadRefused.Utf8 number) (list_all is_utf8 (tuple_of schema.now (fields_at columns.now.places.items (fields_of row.now))) ≡ false)) }
+    ensures err { IfErr result (λ e. IfSome (fault_in e) (λ fault. (fault ≡ Utf8 number) × (list_all is_utf8 (tuple_of schema.now (fields_at columns.now.places.items (fields_of row.now))) ≡ false))) }
 {
     let mut are_short = true;
     for dim in 0..schema.dims() {
@@ -82,7 +83,7 @@ fn push_amounts(
     requires columns { AreColumns schema.now columns.now }
     requires width { length (fields_of row.now) ≡ columns.now.width }
     ensures ok { OnOk result ((more : List ℤ) × (amounts_of schema.now (fields_at columns.now.places.items (fields_of row.now)) ≡ Some more) × (amounts.new.items ≡ amounts.old.items ++ more)) }
-    ensures err { IfErr result (λ e. IsRefused e (LoadRefused.Amount number) (amounts_of schema.now (fields_at columns.now.places.items (fields_of row.now)) ≡ None)) }
+    ensures err { IfErr result (λ e. IfSome (fault_in e) (λ fault. (fault ≡ Amount number) × (amounts_of schema.now (fields_at columns.now.places.items (fields_of row.now)) ≡ None))) }
 {
     let first = 1 + schema.dims() as usize;
     for measure in 0..schema.measures() {
@@ -120,7 +121,7 @@ fn push_amounts_or_zeros(
     requires width { length (fields_of row.now) ≡ columns.now.width }
     requires short { are_short ≡ list_all is_short (tuple_of schema.now (fields_at columns.now.places.items (fields_of row.now))) }
     ensures ok { OnOk result ((more : List ℤ) × (length more ≡ length schema.now.measures) × (amounts.new.items ≡ amounts.old.items ++ more) × Makes schema.now number (fields_at columns.now.places.items (fields_of row.now)) deletes more) }
-    ensures err { IfErr result (λ e. (id : ℕ) → Fails e (change_with_id number (Some deletes) (Some id) (tuple_of schema.now (fields_at columns.now.places.items (fields_of row.now))) (amounts_of schema.now (fields_at columns.now.places.items (fields_of row.now))))) }
+    ensures err { IfErr result (λ e. (id : ℕ) → IfSome (fault_in e) (λ fault. change_with_id number (Some deletes) (Some id) (tuple_of schema.now (fields_at columns.now.places.items (fields_of row.now))) (amounts_of schema.now (fields_at columns.now.places.items (fields_of row.now))) ≡ Err fault)) }
 {
     if deletes {
         push_zeros(schema.measures(), amounts)?;
@@ -145,7 +146,7 @@ fn push_change(
     requires room { bytes_in changes.old.texts + bytes_in (fields_at columns.now.places.items (fields_of row.now)) < 2 ^ 32 }
     ensures ok { OnOk result ((deletes : Bool) × (added : Row Text) × (change_in columns.now.has_op schema.now columns.now.width columns.now.places.items number (fields_of row.now) ≡ Ok (change_with deletes added)) × (length added.tuple ≡ length schema.now.dims) × (length added.amounts ≡ length schema.now.measures) × Adds deletes added changes.old changes.new) }
     ensures size { OnOk result (bytes_in changes.new.texts ≤ bytes_in changes.old.texts + bytes_in (fields_at columns.now.places.items (fields_of row.now))) }
-    ensures err { IfErr result (λ e. Fails e (change_in columns.now.has_op schema.now columns.now.width columns.now.places.items number (fields_of row.now))) }
+    ensures err { IfErr result (λ e. IfSome (fault_in e) (λ fault. change_in columns.now.has_op schema.now columns.now.width columns.now.places.items number (fields_of row.now) ≡ Err fault)) }
 {
     if row.len() != columns.width {
         return Err(LoadRefused::Fields(number));
@@ -178,7 +179,7 @@ pub fn read_changes(
     requires amounts { changes.amounts.items ≡ [] }
     requires few { length rows.old + 1 < 2 ^ 32 }
     requires room { 15 * bytes_in_all rows.old < 2 ^ 32 }
-    ensures gives { Gives result (changes_from columns.now.has_op schema.now columns.now.width columns.now.places.items 1 rows.old) }
+    ensures gives { Gives fault_in (λ batch. batch.changes) result (changes_from columns.now.has_op schema.now columns.now.width columns.now.places.items 1 rows.old) }
     ensures dims { IfOk result (λ batch. batch.dims ≡ length schema.now.dims) }
     ensures measures { IfOk result (λ batch. batch.measures ≡ length schema.now.measures) }
 {

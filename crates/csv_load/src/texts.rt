@@ -1,6 +1,7 @@
 // Texts that lie one behind the other in one buffer.
 ghost use Rattle.std.specs.Prelude.{◌≡◌, ◌<◌, ◌+◌, ◌^◌, ◌++◌, [], ◌∷◌, length, OnOk, OnErr, IfOk, slice_index_or, string_bytes};
-ghost use Rattle.csv_load.specs.Texts.{IsCut, bytes_in, text_between, texts_of};
+ghost use Rattle.text_lines.specs.Records.{bytes_in};
+ghost use Rattle.csv_load.specs.Texts.{IsCut, text_between, texts_of};
 
 use std::alloc::{AllocError, Global};
 use std::marker::Model;

@@ -1,8 +1,8 @@
-pub mod Splits
-pub mod Naming
-pub mod Numbers
-pub mod Searching
-pub mod Keeping
-pub mod Reading
-pub mod Wording
+mod Splits
+mod Naming
+mod Numbers
+mod Searching
+mod Keeping
+mod Reading
+mod Wording
 pub mod Returning

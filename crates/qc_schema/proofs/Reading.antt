@@ -1,6 +1,6 @@
 -- The lines of a text, one after the other.
 use Rattle.std.proofs.Common.{◌≡◌, ◌+◌, ℕ, List, ◌∷◌, length, map, refl, true, false, Ok, Err}
-use Rattle.std.specs.Prelude.{IsUtf8}
+use Rattle.std.specs.Prelude.{IfSome, IsUtf8}
 use Rattle.std.specs.Str.{is_utf8}
 use Rattle.std.proofs.lemmas.Bool.{cases_Bool}
 use Rattle.std.proofs.lemmas.List.{nil_from_length}
@@ -9,7 +9,7 @@ use Rattle.std.proofs.Common.{inl, inr}
 use Rattle.qc_schema.specs.Grammar.{may_end, read_lines, schema_in, start, take_line}
 use Rattle.qc_schema.specs.Lines.{schema_lines}
 use Rattle.text_lines.specs.Lines.{lines_of, without_cr}
-use Rattle.qc_schema.specs.States.{Fails, FailsAs, Line, NotUtf8, State, refused_at}
+use Rattle.qc_schema.specs.States.{Line, NotUtf8, State, cause_in, refused_at, schema_fault_in}
 use Rattle.qc_schema.specs.declared.refusal.LineRefused.{LineRefused}
 use Rattle.qc_schema.specs.declared.refusal.LineRefused.TheVariants as faults
 use Rattle.qc_schema.specs.declared.refusal.SchemaCause.{SchemaCause}
@@ -25,8 +25,8 @@ read-fault : (text first behind : List ℕ) (n : ℕ) (s : State) (cause : Schem
 unfolding read_lines
 read-fault text first behind n s cause e h = rw (e, h) refl
 
-pub read-fails : (text first behind : List ℕ) (n : ℕ) (s : State) (refused : LineRefused) → lines_of text ≡ first ∷ lines_of behind → Fails refused (take_line s (without_cr first))
-    → FailsAs (refused_at n refused) (read_lines (map without_cr (lines_of text)) n s)
+pub read-fails : (text first behind : List ℕ) (n : ℕ) (s : State) (refused : LineRefused) → lines_of text ≡ first ∷ lines_of behind → IfSome (cause_in refused) (λ cause. take_line s (without_cr first) ≡ Err cause)
+    → IfSome (schema_fault_in (refused_at n refused)) (λ fault. read_lines (map without_cr (lines_of text)) n s ≡ Err fault)
 read-fails text first behind n s faults.Memory e h = tt
 read-fails text first behind n s (faults.Cause cause) e h = read-fault text first behind n s cause e h
 

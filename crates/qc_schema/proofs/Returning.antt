@@ -14,6 +14,7 @@ use Rattle.aggregates.specs.Views.{IsThere}
 use Rattle.aggregates.specs.declared.kind.AggKind.{AggKind}
 use Rattle.aggregates.specs.declared.kind.AggKind.TheVariants as kinds
 use Rattle.cube_defs.specs.Text.{Text}
+use Rattle.cube_defs.specs.declared.limits.TheConstants.{MAX_CODES, MAX_NODES, MAX_ROWS}
 use Rattle.qc_schema.specs.Grammar.{◌>>=◌, and_on, dim_line, id_line, index_line, is_start, kind_of, limit_in, line_of_words, may_dim, may_end, may_index, measure_from, measure_line, named_line, nodes_line, read_lines, rows_line, scale_in, schema_in, start, take_line, values_line, version_line}
 use Rattle.text_lines.specs.Lines.{lines_of, without_cr}
 use Rattle.qc_schema.specs.Schema.{IsLayout, Layout, Measure, all_different, is_name, is_name_byte, same_kind}
@@ -191,7 +192,7 @@ indexes-run (k ∷ ks) stage id dims ms done may few there d =
 -- the lines of the limits
 limits-run : (stage : Stage) (l : Layout) → MayIndex stage → IsLayout l → after (limit_words l) (at stage l.id l.dims l.measures l.indexes) ≡ Ok (record { stage = stages.Values; layout = l })
 unfolding named_line nodes_line rows_line values_line
-limits-run stage l may h = rw (may.begun, may.index, limit-again 4000000 l.nodes h.some_nodes h.few_nodes (omega arith), limit-again 1000000 l.rows h.some_rows h.few_rows (omega arith), limit-again 4000000 l.values h.some_values h.few_values (omega arith)) refl
+limits-run stage l may h = rw (may.begun, may.index, limit-again MAX_NODES l.nodes h.some_nodes h.few_nodes (omega arith), limit-again MAX_ROWS l.rows h.some_rows h.few_rows (omega arith), limit-again MAX_CODES l.values h.some_values h.few_values (omega arith)) refl
 
 -- the first two lines
 id-fresh : (id : Text) → is_name id ≡ true → bytes_eq [] id ≡ false

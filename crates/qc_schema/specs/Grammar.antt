@@ -14,6 +14,7 @@ use Rattle.qc_schema.specs.declared.reader.Stage.{Stage}
 use Rattle.qc_schema.specs.declared.reader.Stage.TheVariants as stages
 use Rattle.qc_schema.specs.declared.refusal.SchemaCause.{SchemaCause}
 use Rattle.qc_schema.specs.declared.refusal.SchemaCause.TheVariants.{Version, Order, Words, Name, Number, End}
+use Rattle.qc_schema.specs.declared.limits.TheConstants.{DEFAULT_NODES, VERSION_1_DIMS, VERSION_1_MEASURES}
 use Rattle.cube_defs.specs.declared.limits.TheConstants.{MAX_CODES, MAX_NODES, MAX_ROWS}
 
 infixl 10 ◌>>=◌
@@ -119,14 +120,14 @@ id_line s words = do
 
 unfoldable pub dim_line : State → List Text → Result State SchemaCause
 dim_line s words = do
-  _ ← in_order (may_dim s.stage && nat_lt (length s.layout.dims) 12)
+  _ ← in_order (may_dim s.stage && nat_lt (length s.layout.dims) VERSION_1_DIMS)
   word ← one_word words
   name ← new_name s.layout word
   Ok (record { stage = stages.Dim; layout = record s.layout { dims = s.layout.dims ++ name ∷ [] } })
 
 unfoldable pub measure_line : State → List Text → Result State SchemaCause
 measure_line s words = do
-  _ ← in_order (may_measure s.stage && nat_lt (length s.layout.measures) 1)
+  _ ← in_order (may_measure s.stage && nat_lt (length s.layout.measures) VERSION_1_MEASURES)
   pair ← two_words words
   name ← new_name s.layout pair.0
   scale ← scale_in pair.1
@@ -202,7 +203,7 @@ read_lines (line ∷ lines) n s = and_on n (take_line s line) (λ t. read_lines 
 
 -- nothing read yet, and the limits that hold by default
 abbrev pub start : State
-start = record { stage = stages.Start; layout = record { id = []; dims = []; measures = []; indexes = []; nodes = 1000000; rows = MAX_ROWS; values = MAX_CODES } }
+start = record { stage = stages.Start; layout = record { id = []; dims = []; measures = []; indexes = []; nodes = DEFAULT_NODES; rows = MAX_ROWS; values = MAX_CODES } }
 
 -- The schema that a text spells, or its fault.
 abbrev pub schema_in : List ℕ → Result Layout Fault

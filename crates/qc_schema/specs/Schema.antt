@@ -8,6 +8,7 @@ use Rattle.cube_defs.specs.Text.{Text}
 use Rattle.aggregates.specs.Views.{IsThere}
 use Rattle.aggregates.specs.declared.kind.AggKind.{AggKind}
 use Rattle.aggregates.specs.declared.kind.AggKind.TheVariants as kinds
+use Rattle.qc_schema.specs.declared.limits.TheConstants.{VERSION_1_DIMS, VERSION_1_MEASURES}
 use Rattle.cube_defs.specs.declared.limits.TheConstants.{MAX_CODES, MAX_NODES, MAX_ROWS}
 
 pub record Measure : Type 0 where
@@ -54,8 +55,8 @@ same_kind j k = false
 -- what each schema that the grammar has is known to be
 pub record IsLayout (l : Layout) : Type 0 where
   pub some_dims : 1 ≤ length l.dims
-  pub few_dims : length l.dims ≤ 12
-  pub few_measures : length l.measures ≤ 1
+  pub few_dims : length l.dims ≤ VERSION_1_DIMS
+  pub few_measures : length l.measures ≤ VERSION_1_MEASURES
   pub scales : AllByRecursion (λ m. m.scale ≤ 6) l.measures
   pub names : list_all is_name (names_of l) ≡ true
   pub different_names : all_different bytes_eq (names_of l) ≡ true

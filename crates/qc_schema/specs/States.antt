@@ -1,5 +1,5 @@
--- What a reader has read so far, and what its functions answer.
-use Rattle.std.specs.Prelude.{ℕ, ◌≡◌, map, Result, Ok, Err, string_bytes}
+-- What a reader has read so far, and what its refusals name.
+use Rattle.std.specs.Prelude.{ℕ, map, Option, Some, None, string_bytes}
 use Rattle.qc_schema.specs.Schema.{Layout, Measure}
 use Rattle.qc_schema.specs.declared.draft.Measure as declared
 use Rattle.qc_schema.specs.declared.draft.Draft.{Draft}
@@ -33,14 +33,10 @@ layout_in d = record {
 abbrev pub state_in : Reader → State
 state_in r = record { stage = r.stage; layout = layout_in r.draft }
 
--- What a function answers, seen by view, is what reading gives, unless memory ran out.
-abbrev pub Fails : {Y : Type 0} → LineRefused → Result Y SchemaCause → Type 0
-Fails faults.Memory read = Unit {0}
-Fails (faults.Cause cause) read = read ≡ Err cause
-
-abbrev pub Gives : {X Y : Type 0} → (X → Y) → Result X LineRefused → Result Y SchemaCause → Type 0
-Gives view (Ok x) read = read ≡ Ok (view x)
-Gives view (Err e) read = Fails e read
+-- the cause that a refusal of a line names; want of memory is none
+abbrev pub cause_in : LineRefused → Option SchemaCause
+cause_in faults.Memory = None
+cause_in (faults.Cause cause) = Some cause
 
 -- why a text is no schema: the first line outside the grammar, counted from 1, with the first cause that holds
 pub data Fault : Type 0 where
@@ -52,12 +48,8 @@ abbrev pub refused_at : ℕ → LineRefused → SchemaRefused
 refused_at line faults.Memory = refusals.Memory
 refused_at line (faults.Cause cause) = refusals.Line line cause
 
--- The same of the whole text.
-abbrev pub FailsAs : SchemaRefused → Result Layout Fault → Type 0
-FailsAs refusals.Memory read = Unit {0}
-FailsAs refusals.NotUtf8 read = read ≡ Err NotUtf8
-FailsAs (refusals.Line line cause) read = read ≡ Err (Line line cause)
-
-abbrev pub IsRead : {X : Type 0} → (X → Layout) → Result X SchemaRefused → Result Layout Fault → Type 0
-IsRead view (Ok x) read = read ≡ Ok (view x)
-IsRead view (Err e) read = FailsAs e read
+-- the fault that the refusal of a text names; want of memory is none
+abbrev pub schema_fault_in : SchemaRefused → Option Fault
+schema_fault_in refusals.Memory = None
+schema_fault_in refusals.NotUtf8 = Some NotUtf8
+schema_fault_in (refusals.Line line cause) = Some (Line line cause)

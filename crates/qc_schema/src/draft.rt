@@ -5,12 +5,15 @@ ghost use Rattle.std.specs.Str.{bytes_eq};
 ghost use Rattle.qc_schema.specs.Grammar.{is_used, kind_named, kind_of, measure_from, new_kind, new_name, start};
 ghost use Rattle.qc_schema.specs.Lines.{words_of};
 ghost use Rattle.qc_schema.specs.Schema.{same_kind};
-ghost use Rattle.qc_schema.specs.States.{Gives, layout_in, measure_in};
+ghost use Rattle.cell_core.specs.Gives.{Gives};
+ghost use Rattle.qc_schema.specs.States.{cause_in, layout_in, measure_in};
 
+use crate::limits::{DEFAULT_NODES, VERSION_1_MEASURES};
 use crate::lines::{only_word, split_word};
 use crate::refusal::{LineRefused, SchemaCause};
 use crate::words::name_in;
 use aggregates::AggKind;
+use cube_defs::{MAX_CODES, MAX_ROWS};
 use std::alloc::Global;
 
 /// A column of amounts, with so many digits behind the point.
@@ -58,7 +61,7 @@ fn has_measure(measures: &Vec<Measure>, name: &[u8]) -> bool
 
 // The place of the measure with this name.
 fn measure_named(measures: &Vec<Measure>, name: &[u8]) -> Option<u8>
-    requires { length measures.now.items ≤ 1 }
+    requires { length measures.now.items ≤ VERSION_1_MEASURES }
     ensures { result ≡ measure_from (map measure_in measures.now.items) 0 name.now }
 {
     for (k, measure) in measures.iter().enumerate() {
@@ -71,7 +74,7 @@ fn measure_named(measures: &Vec<Measure>, name: &[u8]) -> Option<u8>
 
 // What the aggregate is called, of the measure.
 fn kind_with(aggregate: &[u8], measure: Option<u8>) -> Result<AggKind, LineRefused>
-    ensures { Gives (λ kind. kind) result (kind_named aggregate.now measure) }
+    ensures { Gives cause_in (λ kind. kind) result (kind_named aggregate.now measure) }
 {
     let Some(place) = measure else {
         return Err(LineRefused::Cause(SchemaCause::Name));
@@ -124,9 +127,9 @@ impl Draft {
             dims: Vec::new(alloc),
             measures: Vec::new(alloc),
             indexes: Vec::new(alloc),
-            nodes: 1_000_000,
-            rows: 1_000_000,
-            values: 4_000_000,
+            nodes: DEFAULT_NODES,
+            rows: MAX_ROWS,
+            values: MAX_CODES,
         }
     }
 
@@ -143,7 +146,7 @@ impl Draft {
 
     /// The word, where it is a name that isn't used yet.
     pub fn unused_name<'a>(&self, word: &'a [u8]) -> Result<&'a str, LineRefused>
-        ensures { Gives (λ s. s.now) result (new_name (layout_in self.now) word.now) }
+        ensures { Gives cause_in (λ s. s.now) result (new_name (layout_in self.now) word.now) }
     {
         let Some(name) = name_in(word) else {
             return Err(LineRefused::Cause(SchemaCause::Name));
@@ -157,8 +160,8 @@ impl Draft {
     /// The aggregate that words name.
     #[tactic(auto, unfolding(crate::specs::Grammar::kind_of))]
     pub fn kind_in(&self, words: &[u8]) -> Result<AggKind, LineRefused>
-        requires { length self.now.measures.items ≤ 1 }
-        ensures { Gives (λ kind. kind) result (kind_of (layout_in self.now).measures (words_of words.now)) }
+        requires { length self.now.measures.items ≤ VERSION_1_MEASURES }
+        ensures { Gives cause_in (λ kind. kind) result (kind_of (layout_in self.now).measures (words_of words.now)) }
     {
         let Some((aggregate, rest)) = split_word(words) else {
             return Err(LineRefused::Cause(SchemaCause::Words));
@@ -175,7 +178,7 @@ impl Draft {
 
     /// The aggregate, where it isn't indexed yet.
     pub fn unused_kind(&self, kind: AggKind) -> Result<AggKind, LineRefused>
-        ensures { Gives (λ fresh. fresh) result (new_kind (layout_in self.now) kind) }
+        ensures { Gives cause_in (λ fresh. fresh) result (new_kind (layout_in self.now) kind) }
     {
         if has_kind(&self.indexes, kind) {
             return Err(LineRefused::Cause(SchemaCause::Name));

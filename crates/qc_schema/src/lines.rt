@@ -2,7 +2,8 @@
 ghost use Rattle.std.specs.Prelude.{◌≡◌, ◌≢◌, ◌<◌, [], ◌∷◌, length, slice_index, MatchOption};
 ghost use Rattle.qc_schema.specs.Grammar.{one_word, two_words};
 ghost use Rattle.qc_schema.specs.Lines.{words_of};
-ghost use Rattle.qc_schema.specs.States.{Gives};
+ghost use Rattle.cell_core.specs.Gives.{Gives};
+ghost use Rattle.qc_schema.specs.States.{cause_in};
 
 use crate::refusal::{LineRefused, SchemaCause};
 
@@ -37,7 +38,7 @@ pub fn split_word(line: &[u8]) -> Option<(&[u8], &[u8])>
 
 /// The one word that a text has.
 pub fn only_word(text: &[u8]) -> Result<&[u8], LineRefused>
-    ensures { Gives (λ word. word.now) result (one_word (words_of text.now)) }
+    ensures { Gives cause_in (λ word. word.now) result (one_word (words_of text.now)) }
 {
     let Some((word, behind)) = split_word(text) else {
         return Err(LineRefused::Cause(SchemaCause::Words));
@@ -50,7 +51,7 @@ pub fn only_word(text: &[u8]) -> Result<&[u8], LineRefused>
 
 /// The two words that a text has.
 pub fn only_words(text: &[u8]) -> Result<(&[u8], &[u8]), LineRefused>
-    ensures { Gives (λ p. (p.0.now, p.1.now)) result (two_words (words_of text.now)) }
+    ensures { Gives cause_in (λ p. (p.0.now, p.1.now)) result (two_words (words_of text.now)) }
 {
     let Some((first, behind)) = split_word(text) else {
         return Err(LineRefused::Cause(SchemaCause::Words));

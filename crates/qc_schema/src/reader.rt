@@ -2,12 +2,15 @@
 ghost use Rattle.std.specs.Prelude.{◌≡◌, ◌≤◌, length};
 ghost use Rattle.qc_schema.specs.Grammar.{dim_line, id_line, in_order, index_line, is_start, may_dim, may_end, may_id, may_index, may_measure, may_rows, may_values, measure_line, named_line, nodes_line, rows_line, start, take_line, values_line, version_line};
 ghost use Rattle.qc_schema.specs.Lines.{words_of};
-ghost use Rattle.qc_schema.specs.States.{Gives, state_in};
+ghost use Rattle.cell_core.specs.Gives.{Gives};
+ghost use Rattle.qc_schema.specs.States.{cause_in, state_in};
 
 use crate::draft::{Draft, Measure};
+use crate::limits::{VERSION_1_DIMS, VERSION_1_MEASURES};
 use crate::lines::{only_word, only_words, split_word};
 use crate::refusal::{LineRefused, SchemaCause};
 use crate::words::{read_limit, read_scale};
+use cube_defs::{MAX_CODES, MAX_NODES, MAX_ROWS};
 use std::alloc::Global;
 use text_lines::is_comment_line;
 
@@ -84,7 +87,7 @@ pub struct Reader {
 }
 
 fn check_order(may: bool) -> Result<(), LineRefused>
-    ensures { Gives (λ _. tt) result (in_order may) }
+    ensures { Gives cause_in (λ _. tt) result (in_order may) }
 {
     if may {
         Ok(())
@@ -105,7 +108,7 @@ impl Reader {
 
     #[tactic(auto, unfolding(crate::specs::Grammar::version_line))]
     fn read_version(&mut self, word: &[u8], words: &[u8]) -> Result<(), LineRefused>
-        ensures { Gives (λ _. state_in self.new) result (version_line (state_in self.old) word.now (words_of words.now)) }
+        ensures { Gives cause_in (λ _. state_in self.new) result (version_line (state_in self.old) word.now (words_of words.now)) }
     {
         if word != b"qcube".as_slice() {
             return Err(LineRefused::Cause(SchemaCause::Version));
@@ -122,7 +125,7 @@ impl Reader {
 
     #[tactic(auto, unfolding(crate::specs::Grammar::id_line))]
     fn read_id(&mut self, alloc: Global, words: &[u8]) -> Result<(), LineRefused>
-        ensures { Gives (λ _. state_in self.new) result (id_line (state_in self.old) (words_of words.now)) }
+        ensures { Gives cause_in (λ _. state_in self.new) result (id_line (state_in self.old) (words_of words.now)) }
     {
         check_order(self.stage.may_id())?;
         let name = self.draft.unused_name(only_word(words)?)?;
@@ -133,9 +136,9 @@ impl Reader {
 
     #[tactic(auto, unfolding(crate::specs::Grammar::dim_line))]
     fn read_dim(&mut self, alloc: Global, words: &[u8]) -> Result<(), LineRefused>
-        ensures { Gives (λ _. state_in self.new) result (dim_line (state_in self.old) (words_of words.now)) }
+        ensures { Gives cause_in (λ _. state_in self.new) result (dim_line (state_in self.old) (words_of words.now)) }
     {
-        check_order(self.stage.may_dim() && self.draft.dims.len() < 12)?;
+        check_order(self.stage.may_dim() && self.draft.dims.len() < VERSION_1_DIMS)?;
         let name = self.draft.unused_name(only_word(words)?)?;
         let dim = String::from_str(alloc, name)?;
         self.draft.dims.push(dim)?;
@@ -145,9 +148,9 @@ impl Reader {
 
     #[tactic(auto, unfolding(crate::specs::Grammar::measure_line))]
     fn read_measure(&mut self, alloc: Global, words: &[u8]) -> Result<(), LineRefused>
-        ensures { Gives (λ _. state_in self.new) result (measure_line (state_in self.old) (words_of words.now)) }
+        ensures { Gives cause_in (λ _. state_in self.new) result (measure_line (state_in self.old) (words_of words.now)) }
     {
-        check_order(self.stage.may_measure() && self.draft.measures.is_empty())?;
+        check_order(self.stage.may_measure() && self.draft.measures.len() < VERSION_1_MEASURES)?;
         let (word, digit) = only_words(words)?;
         let name = self.draft.unused_name(word)?;
         let scale = read_scale(digit)?;
@@ -159,8 +162,8 @@ impl Reader {
 
     #[tactic(auto, unfolding(crate::specs::Grammar::index_line))]
     fn read_index(&mut self, words: &[u8]) -> Result<(), LineRefused>
-        requires { length self.old.draft.measures.items ≤ 1 }
-        ensures { Gives (λ _. state_in self.new) result (index_line (state_in self.old) (words_of words.now)) }
+        requires { length self.old.draft.measures.items ≤ VERSION_1_MEASURES }
+        ensures { Gives cause_in (λ _. state_in self.new) result (index_line (state_in self.old) (words_of words.now)) }
     {
         check_order(self.stage.may_index())?;
         let kind = self.draft.kind_in(words)?;
@@ -172,30 +175,30 @@ impl Reader {
 
     #[tactic(auto, unfolding(crate::specs::Grammar::nodes_line))]
     fn read_nodes(&mut self, words: &[u8]) -> Result<(), LineRefused>
-        ensures { Gives (λ _. state_in self.new) result (nodes_line (state_in self.old) (words_of words.now)) }
+        ensures { Gives cause_in (λ _. state_in self.new) result (nodes_line (state_in self.old) (words_of words.now)) }
     {
         check_order(self.stage.may_index())?;
-        self.draft.nodes = read_limit(4_000_000, only_word(words)?)?;
+        self.draft.nodes = read_limit(MAX_NODES, only_word(words)?)?;
         self.stage = Stage::Nodes;
         Ok(())
     }
 
     #[tactic(auto, unfolding(crate::specs::Grammar::rows_line))]
     fn read_rows(&mut self, words: &[u8]) -> Result<(), LineRefused>
-        ensures { Gives (λ _. state_in self.new) result (rows_line (state_in self.old) (words_of words.now)) }
+        ensures { Gives cause_in (λ _. state_in self.new) result (rows_line (state_in self.old) (words_of words.now)) }
     {
         check_order(self.stage.may_rows())?;
-        self.draft.rows = read_limit(1_000_000, only_word(words)?)?;
+        self.draft.rows = read_limit(MAX_ROWS, only_word(words)?)?;
         self.stage = Stage::Rows;
         Ok(())
     }
 
     #[tactic(auto, unfolding(crate::specs::Grammar::values_line))]
     fn read_values(&mut self, words: &[u8]) -> Result<(), LineRefused>
-        ensures { Gives (λ _. state_in self.new) result (values_line (state_in self.old) (words_of words.now)) }
+        ensures { Gives cause_in (λ _. state_in self.new) result (values_line (state_in self.old) (words_of words.now)) }
     {
         check_order(self.stage.may_values())?;
-        self.draft.values = read_limit(4_000_000, only_word(words)?)?;
+        self.draft.values = read_limit(MAX_CODES, only_word(words)?)?;
         self.stage = Stage::Values;
         Ok(())
     }
@@ -203,8 +206,8 @@ impl Reader {
     // A line behind the first, by its first word.
     #[tactic(auto, unfolding(crate::specs::Grammar::named_line))]
     fn read_named(&mut self, alloc: Global, word: &[u8], words: &[u8]) -> Result<(), LineRefused>
-        requires { length self.old.draft.measures.items ≤ 1 }
-        ensures { Gives (λ _. state_in self.new) result (named_line (state_in self.old) word.now (words_of words.now)) }
+        requires { length self.old.draft.measures.items ≤ VERSION_1_MEASURES }
+        ensures { Gives cause_in (λ _. state_in self.new) result (named_line (state_in self.old) word.now (words_of words.now)) }
     {
         if word == b"id".as_slice() {
             self.read_id(alloc, words)
@@ -228,8 +231,8 @@ impl Reader {
     /// Takes a line, or names the first cause that holds.
     #[tactic(auto, unfolding(crate::specs::Grammar::take_line))]
     pub fn read_line(&mut self, alloc: Global, line: &[u8]) -> Result<(), LineRefused>
-        requires { length self.old.draft.measures.items ≤ 1 }
-        ensures { Gives (λ _. state_in self.new) result (take_line (state_in self.old) line.now) }
+        requires { length self.old.draft.measures.items ≤ VERSION_1_MEASURES }
+        ensures { Gives cause_in (λ _. state_in self.new) result (take_line (state_in self.old) line.now) }
     {
         if is_comment_line(line) {
             return Ok(());

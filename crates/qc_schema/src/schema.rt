@@ -3,7 +3,8 @@ ghost use Rattle.std.specs.Prelude.{◌≡◌, ◌≤◌, ◌<◌, ◌+◌, [], 
 ghost use Rattle.qc_schema.specs.Grammar.{read_lines, schema_in, start};
 ghost use Rattle.text_lines.specs.Lines.{lines_of, without_cr};
 ghost use Rattle.qc_schema.specs.Schema.{IsLayout, no_measure};
-ghost use Rattle.qc_schema.specs.States.{IsRead, layout_in};
+ghost use Rattle.cell_core.specs.Gives.{Gives};
+ghost use Rattle.qc_schema.specs.States.{layout_in, schema_fault_in};
 
 use crate::draft::Draft;
 use crate::reader::Reader;
@@ -110,7 +111,7 @@ impl Schema {
 // Reads all lines of a text without a byte order mark.
 fn read_draft(alloc: Global, text: &[u8]) -> Result<Draft, SchemaRefused>
     requires { length text.now ≤ MAX_FILE }
-    ensures { IsRead layout_in result (read_lines (map without_cr (lines_of text.now)) 1 start) }
+    ensures { Gives schema_fault_in layout_in result (read_lines (map without_cr (lines_of text.now)) 1 start) }
 {
     let mut reader = Reader::new(alloc);
     let mut rest = text;
@@ -139,7 +140,7 @@ fn read_draft(alloc: Global, text: &[u8]) -> Result<Draft, SchemaRefused>
 /// and those that begin with `#` are passed over.
 pub fn read_schema(alloc: Global, bytes: &[u8]) -> Result<Schema, SchemaRefused>
     requires { length bytes.now ≤ MAX_FILE }
-    ensures { IsRead (λ schema. schema) result (schema_in bytes.now) }
+    ensures { Gives schema_fault_in (λ schema. schema) result (schema_in bytes.now) }
 {
     let Ok(text) = str::from_utf8(bytes) else {
         return Err(SchemaRefused::NotUtf8);

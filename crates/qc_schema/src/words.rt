@@ -5,7 +5,8 @@ ghost use Rattle.std.specs.Str.Parse.{digits_value};
 ghost use Rattle.std.specs.Str.{all_ascii_digits};
 ghost use Rattle.qc_schema.specs.Grammar.{limit_in, scale_in};
 ghost use Rattle.qc_schema.specs.Schema.{is_name, is_name_byte};
-ghost use Rattle.qc_schema.specs.States.{Gives};
+ghost use Rattle.cell_core.specs.Gives.{Gives};
+ghost use Rattle.qc_schema.specs.States.{cause_in};
 
 use crate::refusal::{LineRefused, SchemaCause};
 
@@ -51,7 +52,7 @@ fn short_number(word: &[u8]) -> Option<u32>
 
 /// The scale that a word spells.
 pub fn read_scale(word: &[u8]) -> Result<u8, LineRefused>
-    ensures { Gives (λ n. n) result (scale_in word.now) }
+    ensures { Gives cause_in (λ n. n) result (scale_in word.now) }
 {
     if word.len() == 1
         && let Some(value) = short_number(word)
@@ -64,7 +65,7 @@ pub fn read_scale(word: &[u8]) -> Result<u8, LineRefused>
 
 /// The limit that a word spells, from 1 to the most.
 pub fn read_limit(most: u32, word: &[u8]) -> Result<u32, LineRefused>
-    ensures { Gives (λ n. n) result (limit_in most word.now) }
+    ensures { Gives cause_in (λ n. n) result (limit_in most word.now) }
 {
     if word.is_empty() || word.len() > 7 {
         return Err(LineRefused::Cause(SchemaCause::Number));

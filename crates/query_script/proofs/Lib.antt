@@ -1,5 +1,4 @@
-pub mod Asking
-pub mod TextRecords
-pub mod Pieces
-pub mod Points
-pub mod CommandFacts
+mod Asking
+mod PlainFields
+mod Points
+mod CommandFacts

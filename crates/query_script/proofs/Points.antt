@@ -4,32 +4,29 @@ use Rattle.std.specs.Prelude.{Option, Result}
 use Rattle.std.specs.List.{flat_map}
 use Rattle.std.specs.Str.{bytes_eq}
 use Rattle.std.proofs.lemmas.List.Elements.{All-cons, All-nil}
-use Rattle.csv.specs.Reading.{default_config, records, strip_bom}
+use Rattle.csv.specs.Reading.{default_config, records}
 use Rattle.cube_defs.specs.Text.{Text}
 use Rattle.cell_core.specs.declared.fields.Field as asked
 use Rattle.cell_core.specs.declared.fields.Field.TheVariants as asks
-use Rattle.csv_load.specs.Records.{begins_with_mark}
+use Rattle.text_lines.specs.Lines.{begins_with_mark}
 use Rattle.query_script.specs.Faults as faults
 use Rattle.query_script.specs.Faults.{LineFault}
 use Rattle.query_script.specs.Fields.{cons_asked, fields_from, is_several, point_field, value_of}
 use Rattle.query_script.specs.Progress.{asked_after}
 use Rattle.query_script.specs.Commands.{IsPointField, fields_in, point_in}
 use Rattle.query_script.proofs.Asking.{asks-first}
-use Rattle.query_script.proofs.TextRecords.{text-records, unmarked}
+use Rattle.text_lines.proofs.TextRecords.{text-records}
 
 -- the records that are read are those of the rest
-rows-are : (rest bytes : List ℕ) (rows : List (List Text)) → bytes ≡ rest → begins_with_mark rest ≡ false → rows ≡ records default_config (strip_bom bytes) → rows ≡ records default_config rest
-rows-are rest bytes rows same mark e = e ∙ ap (λ (bs : List ℕ). records default_config (strip_bom bs)) same ∙ ap (records default_config) (unmarked rest mark)
-
-pub point-asks : (dims : ℕ) (rest bytes : List ℕ) (rows : List (List Text)) → bytes ≡ rest → begins_with_mark rest ≡ false → rows ≡ records default_config (strip_bom bytes)
+pub point-asks : (dims : ℕ) (rest bytes : List ℕ) (rows : List (List Text)) → bytes ≡ rest → begins_with_mark rest ≡ false → rows ≡ records default_config bytes
     → point_in dims rest ≡ asked_after point_field dims [] (flat_map (λ fields. fields) rows)
 point-asks dims rest bytes rows same mark e =
-    let here = rows-are rest bytes rows same mark e in
+    let here : rows ≡ records default_config rest = e ∙ ap (records default_config) same in
     rw (mark, here) (sym (asks-first point_field dims (fields_in rest)))
 
-pub rows-text : (rest bytes : List ℕ) (rows : List (List Text)) → IsUtf8 rest → bytes ≡ rest → begins_with_mark rest ≡ false → rows ≡ records default_config (strip_bom bytes) → All (All IsUtf8) rows
-rows-text rest bytes rows text same mark e =
-    let here = rows-are rest bytes rows same mark e in
+pub rows-text : (rest bytes : List ℕ) (rows : List (List Text)) → IsUtf8 rest → bytes ≡ rest → rows ≡ records default_config bytes → All (All IsUtf8) rows
+rows-text rest bytes rows text same e =
+    let here : rows ≡ records default_config rest = e ∙ ap (records default_config) same in
     rw here (text-records rest text)
 
 -- ---- each field asks Any or one value

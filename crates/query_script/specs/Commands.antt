@@ -6,7 +6,8 @@ use Rattle.csv.specs.Reading.{default_config, records}
 use Rattle.cube_defs.specs.Text.{Text}
 use Rattle.cell_core.specs.declared.fields.Field as asked
 use Rattle.cell_core.specs.declared.fields.Field.TheVariants as asks
-use Rattle.csv_load.specs.Records.{begins_with_mark}
+use Rattle.text_lines.specs.Lines.{begins_with_mark}
+use Rattle.qc_schema.specs.Schema.{Layout}
 use Rattle.query_script.specs.Faults as faults
 use Rattle.query_script.specs.Faults.{LineFault}
 use Rattle.query_script.specs.Fields.{fields_from, point_field}
@@ -32,19 +33,19 @@ abbrev pub command_with : {X : Type 0} → (X → Command) → Result X LineFaul
 command_with make (Ok x) = Ok (make x)
 command_with make (Err fault) = Err fault
 
--- what a command word and its rest ask, over so many dimensions
-abbrev pub command_named : ℕ → Text → List ℕ → Result Command LineFault
-command_named dims word rest =
+-- what a command word and its rest ask of a cube of this schema
+abbrev pub command_named : Layout → Text → List ℕ → Result Command LineFault
+command_named layout word rest =
     if bytes_eq word (codes "load") then command_with Load (name_in rest)
     else if bytes_eq word (codes "apply") then command_with Apply (name_in rest)
-    else if bytes_eq word (codes "point") then command_with Point (point_in dims rest)
-    else if bytes_eq word (codes "bounds") then command_with Bounds (point_in dims rest)
+    else if bytes_eq word (codes "point") then command_with Point (point_in (length layout.dims) rest)
+    else if bytes_eq word (codes "bounds") then command_with Bounds (point_in (length layout.dims) rest)
     else Err faults.Command
 
--- what a line asks; `stats` with anything behind it is no command
-abbrev pub command_in : ℕ → List ℕ → Result Command LineFault
-command_in dims line =
-    if is_utf8 line then (if bytes_eq line stats_line then Ok Stats else command_named dims (word_of line) (rest_of line))
+-- what a line asks of a cube of this schema; `stats` with anything behind it is no command
+abbrev pub command_in : Layout → List ℕ → Result Command LineFault
+command_in layout line =
+    if is_utf8 line then (if bytes_eq line stats_line then Ok Stats else command_named layout (word_of line) (rest_of line))
     else Err faults.Utf8
 
 -- whether carrying out a command may want memory
@@ -64,9 +65,9 @@ IsPointField (asks.Among texts) = ⊥
 IsPointField (asks.Between low high) = ⊥
 
 -- a name isn't empty, and a point, or the bounds of its class, asks something of each dimension
-abbrev pub IsCommand : ℕ → Command → Type 0
-IsCommand dims (Load name) = 0 < length name
-IsCommand dims (Apply name) = 0 < length name
-IsCommand dims (Point fields) = (length fields ≡ dims) × All IsPointField fields
-IsCommand dims (Bounds fields) = (length fields ≡ dims) × All IsPointField fields
-IsCommand dims Stats = ⊤
+abbrev pub IsCommand : Layout → Command → Type 0
+IsCommand layout (Load name) = 0 < length name
+IsCommand layout (Apply name) = 0 < length name
+IsCommand layout (Point fields) = (length fields ≡ length layout.dims) × All IsPointField fields
+IsCommand layout (Bounds fields) = (length fields ≡ length layout.dims) × All IsPointField fields
+IsCommand layout Stats = ⊤

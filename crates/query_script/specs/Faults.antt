@@ -1,5 +1,5 @@
--- What is wrong with a line, and what a reading of it gives.
-use Rattle.std.specs.Prelude.{ℕ, ◌≡◌, Result, Ok, Err}
+-- What is wrong with a line.
+use Rattle.std.specs.Prelude.{ℕ, Option, Some, None}
 use Rattle.query_script.specs.declared.line.LineRefused.{LineRefused}
 use Rattle.query_script.specs.declared.line.LineRefused.TheVariants as refusals
 
@@ -10,15 +10,10 @@ pub data LineFault : Type 0 where
   Field : ℕ → LineFault
   Number : LineFault
 
--- a reading answers with the fault that the refusal names; want of memory says nothing of the line
-abbrev pub Fails : {X : Type 0} → LineRefused → Result X LineFault → Type 0
-Fails refusals.Utf8 read = read ≡ Err Utf8
-Fails refusals.Command read = read ≡ Err Command
-Fails (refusals.Field k) read = read ≡ Err (Field k)
-Fails refusals.Number read = read ≡ Err Number
-Fails refusals.Memory read = Unit {0}
-
--- what a call answers, with memory, is what the reading gives
-abbrev pub Gives : {X : Type 0} → Result X LineRefused → Result X LineFault → Type 0
-Gives (Ok x) read = read ≡ Ok x
-Gives (Err refused) read = Fails refused read
+-- the fault that a refusal names; want of memory is none
+abbrev pub line_fault_in : LineRefused → Option LineFault
+line_fault_in refusals.Utf8 = Some Utf8
+line_fault_in refusals.Command = Some Command
+line_fault_in (refusals.Field k) = Some (Field k)
+line_fault_in refusals.Number = Some Number
+line_fault_in refusals.Memory = None

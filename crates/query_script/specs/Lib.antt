@@ -3,4 +3,3 @@ pub mod Faults
 pub mod Fields
 pub mod Progress
 pub mod Commands
-pub mod Plain

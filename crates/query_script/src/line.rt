@@ -2,7 +2,8 @@
 ghost use Rattle.std.specs.Prelude.{◌≡◌, ◌≤◌, true, length, IfOk, IfErr};
 ghost use Rattle.std.specs.Str.{bytes_eq};
 ghost use Rattle.query_script.specs.Commands.{IsCommand, command_in, command_named, name_in, wants_memory};
-ghost use Rattle.query_script.specs.Faults.{Gives};
+ghost use Rattle.cell_core.specs.Gives.{Gives};
+ghost use Rattle.query_script.specs.Faults.{line_fault_in};
 ghost use Rattle.query_script.specs.Lines.{may_want_memory, names_more, rest_of, stats_line, word_of};
 
 use crate::point::read_point;
@@ -64,7 +65,7 @@ fn split_word(line: &str) -> (&str, &str)
 
 // The name of a file.
 fn read_name(alloc: Global, rest: &str) -> Result<Text, LineRefused>
-    ensures { Gives result (name_in rest.now) }
+    ensures { Gives line_fault_in (λ name. name) result (name_in rest.now) }
 {
     if rest.is_empty() {
         return Err(LineRefused::Field(1));
@@ -86,7 +87,7 @@ fn read_command(
     word: &str,
     rest: &str,
 ) -> Result<Command, LineRefused>
-    ensures gives { Gives result (command_named (length schema.now.dims) word.now rest.now) }
+    ensures gives { Gives line_fault_in (λ command. command) result (command_named schema.now word.now rest.now) }
     ensures memory { IfErr result (λ e. e ≡ LineRefused.Memory → names_more word.now ≡ true) }
 {
     match word {
@@ -105,9 +106,9 @@ fn read_command(
 /// allowed.
 pub fn read_line(alloc: Global, schema: &Schema, line: &[u8]) -> Result<Command, LineRefused>
     requires { length line.now ≤ MAX_FILE }
-    ensures gives { Gives result (command_in (length schema.now.dims) line.now) }
+    ensures gives { Gives line_fault_in (λ command. command) result (command_in schema.now line.now) }
     ensures memory { IfErr result (λ e. e ≡ LineRefused.Memory → may_want_memory line.now ≡ true) }
-    ensures command { IfOk result (λ command. IsCommand (length schema.now.dims) command) }
+    ensures command { IfOk result (λ command. IsCommand schema.now command) }
     ensures wants { IfOk result (λ command. wants_memory command ≡ true → may_want_memory line.now ≡ true) }
 {
     match str::from_utf8(line) {

@@ -1,11 +1,12 @@
 // Fields that have nothing but commas between them, read where they stand.
-ghost use Rattle.std.specs.Prelude.{◌≡◌, ◌≤◌, ◌++◌, [], true, List, length, IfErr, OnOk};
+ghost use Rattle.std.specs.Prelude.{◌≡◌, ◌≤◌, ◌++◌, [], true, List, length, Err, IfErr, IfSome, OnOk};
 ghost use Rattle.std.specs.List.{list_all};
 ghost use Rattle.cube_defs.specs.Text.{Text};
 ghost use Rattle.query_script.specs.Commands.{fields_in};
-ghost use Rattle.query_script.specs.Faults.{Fails, Gives};
+ghost use Rattle.cell_core.specs.Gives.{Gives};
+ghost use Rattle.query_script.specs.Faults.{line_fault_in};
 ghost use Rattle.query_script.specs.Fields.{fields_from, point_field};
-ghost use Rattle.query_script.specs.Plain.{is_plain_byte, pieces};
+ghost use Rattle.text_lines.specs.Plain.{is_plain_byte, pieces};
 ghost use Rattle.query_script.specs.Progress.{asked_after};
 
 use crate::line::LineRefused;
@@ -13,21 +14,12 @@ use crate::point::{check_count, push_field};
 use cell_core::Fields;
 use std::alloc::Global;
 
-/// Whether a text neither quotes nor ends a line.
-pub fn is_plain(text: &str) -> bool
-    ensures { result ≡ list_all is_plain_byte text.now }
-{
-    text.as_bytes()
-        .iter()
-        .all(|b| !matches!(b, b'"' | b'\r' | b'\n'))
-}
-
 // Puts what the pieces between commas ask behind what those before them ask.
 fn push_pieces(alloc: Global, dims: u8, text: &str, fields: &mut Fields) -> Result<(), LineRefused>
     requires few { length fields.old ≤ dims }
     ensures ok { OnOk result ((more : List Text) → asked_after point_field dims fields.new more ≡ asked_after point_field dims fields.old (pieces text.now ++ more)) }
     ensures few { OnOk result (length fields.new ≤ dims) }
-    ensures err { IfErr result (λ e. (more : List Text) → Fails e (asked_after point_field dims fields.old (pieces text.now ++ more))) }
+    ensures err { IfErr result (λ e. (more : List Text) → IfSome (line_fault_in e) (λ fault. asked_after point_field dims fields.old (pieces text.now ++ more) ≡ Err fault)) }
 {
     let mut left = text;
     'pieces: while let Some((piece, behind)) = left.split_once(',') {
@@ -40,7 +32,7 @@ fn push_pieces(alloc: Global, dims: u8, text: &str, fields: &mut Fields) -> Resu
 /// Reads the fields of a plain text. An empty one has none.
 pub fn read_plain(alloc: Global, dims: u8, text: &str) -> Result<Fields, LineRefused>
     requires { list_all is_plain_byte text.now ≡ true }
-    ensures { Gives result (fields_from point_field 1 dims (fields_in text.now)) }
+    ensures { Gives line_fault_in (λ fields. fields) result (fields_from point_field 1 dims (fields_in text.now)) }
 {
     let mut fields = Fields::new(alloc);
     if text.is_empty() {

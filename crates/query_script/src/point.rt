@@ -1,26 +1,20 @@
 // The fields of a point.
-ghost use Rattle.std.specs.Prelude.{◌≡◌, ◌≤◌, ◌++◌, ◌∷◌, [], List, All, length, IfOk, IfErr, OnOk, IsUtf8};
+ghost use Rattle.std.specs.Prelude.{◌≡◌, ◌≤◌, ◌++◌, ◌∷◌, [], List, All, length, IfOk, Err, IfErr, IfSome, OnOk, IsUtf8};
 ghost use Rattle.csv.specs.Records.{fields_of};
-ghost use Rattle.csv_load.specs.Records.{begins_with_mark};
 ghost use Rattle.cube_defs.specs.Text.{Text};
 ghost use Rattle.query_script.specs.Commands.{point_in};
-ghost use Rattle.query_script.specs.Faults.{Fails, Gives};
+ghost use Rattle.cell_core.specs.Gives.{Gives};
+ghost use Rattle.query_script.specs.Faults.{line_fault_in};
 ghost use Rattle.query_script.specs.Fields.{point_field, value_of};
 ghost use Rattle.query_script.specs.Progress.{asked_after};
 
 use crate::line::LineRefused;
-use crate::plain::{is_plain, read_plain};
+use crate::plain::read_plain;
 use cell_core::{Field, Fields, Memory, Text};
 use csv::ByteRecord;
-use csv_load::{Rows, field};
 use qc_schema::Schema;
 use std::alloc::Global;
-
-fn has_mark(rest: &str) -> bool
-    ensures { result ≡ begins_with_mark rest.now }
-{
-    matches!(rest.as_bytes(), [0xEF, 0xBB, 0xBF, ..])
-}
+use text_lines::{Rows, field, has_mark, is_plain};
 
 // The value that a field names.
 fn named_value(field: &str) -> &str
@@ -53,7 +47,7 @@ pub fn push_field(
     requires few { length fields.old ≤ dims }
     ensures ok { OnOk result ((more : List Text) → asked_after point_field dims fields.new more ≡ asked_after point_field dims fields.old (text.now ∷ more)) }
     ensures few { OnOk result (length fields.new ≤ dims) }
-    ensures err { IfErr result (λ e. (more : List Text) → Fails e (asked_after point_field dims fields.old (text.now ∷ more))) }
+    ensures err { IfErr result (λ e. (more : List Text) → IfSome (line_fault_in e) (λ fault. asked_after point_field dims fields.old (text.now ∷ more) ≡ Err fault)) }
 {
     let place = fields.len() + 1;
     if place > u32::from(dims) {
@@ -77,7 +71,7 @@ fn push_fields(
     requires few { length fields.old ≤ dims }
     ensures ok { OnOk result ((more : List Text) → asked_after point_field dims fields.new more ≡ asked_after point_field dims fields.old (fields_of row.now ++ more)) }
     ensures few { OnOk result (length fields.new ≤ dims) }
-    ensures err { IfErr result (λ e. (more : List Text) → Fails e (asked_after point_field dims fields.old (fields_of row.now ++ more))) }
+    ensures err { IfErr result (λ e. (more : List Text) → IfSome (line_fault_in e) (λ fault. asked_after point_field dims fields.old (fields_of row.now ++ more) ≡ Err fault)) }
 {
     'fields: for at in 0..row.len() {
         let text = str::from_utf8(field(row, at)).unwrap();
@@ -90,7 +84,7 @@ fn push_fields(
 /// Hands the fields back where none is missing.
 pub fn check_count(dims: u8, fields: Fields) -> Result<Fields, LineRefused>
     requires { length fields ≤ dims }
-    ensures { Gives result (asked_after point_field dims fields []) }
+    ensures { Gives line_fault_in (λ fields. fields) result (asked_after point_field dims fields []) }
 {
     let count = fields.len();
     if count < u32::from(dims) {
@@ -101,16 +95,17 @@ pub fn check_count(dims: u8, fields: Fields) -> Result<Fields, LineRefused>
 
 /// Reads what follows the word of a command that asks a cell, as a point does.
 pub fn read_point(alloc: Global, schema: &Schema, rest: &str) -> Result<Fields, LineRefused>
-    ensures { Gives result (point_in (length schema.now.dims) rest.now) }
+    ensures { Gives line_fault_in (λ fields. fields) result (point_in (length schema.now.dims) rest.now) }
 {
-    if has_mark(rest) {
+    let text = rest.as_bytes();
+    if has_mark(text) {
         return Err(LineRefused::Field(1));
     }
     let dims = schema.dims();
     if is_plain(rest) {
         return read_plain(alloc, dims, rest);
     }
-    let mut rows = Rows::new(alloc, rest.as_bytes());
+    let mut rows = Rows::new(alloc, text);
     let mut row = ByteRecord::new(alloc);
     let mut fields = Fields::new(alloc);
     'records: while rows.next(&mut row)? {

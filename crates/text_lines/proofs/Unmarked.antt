@@ -1,7 +1,8 @@
 -- What csv drops at the front of a text.
-use Rattle.std.proofs.Common.{◌≡◌, ◌∙◌, ℕ, List, [], ◌∷◌, refl, sym, ap, true, false, Bool, cond, eqb-true}
+use Rattle.std.proofs.Common.{◌≡◌, ◌≤◌, arith, length, ◌∙◌, ℕ, List, [], ◌∷◌, refl, sym, ap, true, false, Bool, cond, eqb-true}
 use Rattle.std.specs.Prelude.{◌&&◌, ◌==◌, drop}
 use Rattle.std.proofs.lemmas.Bool.{and_parts}
+use Rattle.std.proofs.lemmas.List.{length-drop}
 use Rattle.csv.specs.Reading.{default_config, is_bom, records, strip_bom}
 use Rattle.text_lines.specs.Lines.{begins_with_mark, begins_with_two_marks, without_mark}
 
@@ -34,3 +35,11 @@ no_second text e = by (begins_with_mark text) refl e
     by : (b : Bool) → begins_with_mark text ≡ b → (b && begins_with_mark (drop 3 text)) ≡ false → begins_with_mark (cond b (drop 3 text) text) ≡ false
     by true is m = m
     by false is m = is
+
+-- no byte comes to a text
+pub no_longer : (text : List ℕ) → length (without_mark text) ≤ length text
+no_longer text = by (begins_with_mark text)
+  where
+    by : (b : Bool) → length (cond b (drop 3 text) text) ≤ length text
+    by true = omega (arith, length-drop 3 text)
+    by false = omega arith

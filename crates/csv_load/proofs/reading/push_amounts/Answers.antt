@@ -1,4 +1,4 @@
-use Rattle.std.proofs.Common.{◌∙◌, ◌≡◌, ◌<◌, ◌+◌, ◌++◌, ◌∷◌, sym, ap, arith, length, get_or, drop, [], Some, None, ℤ, w64, inr, refl}
+use Rattle.std.proofs.Common.{◌∙◌, ◌≡◌, ◌<◌, ◌+◌, ◌++◌, ◌∷◌, sym, ap, arith, length, get_or, drop, [], Some, None, ℤ, w64, refl}
 use Rattle.std.proofs.lemmas.Int.{to_z-of_z}
 use Rattle.std.proofs.lemmas.List.{append-nil, drop_all}
 use Rattle.csv.specs.Records.{fields_of}
@@ -40,8 +40,7 @@ returns-in_default-clause-err c =
     = rw (c.needed_field-field.ensures, c.scale.ensures, first) at (sym c.in_default.ensures) in
     let lt : c.loop-measure.measure < length c.args.schema.now.measures = omega (arith, c.measures-measure-end.ensures) in
     let within : 1 + length c.args.schema.now.dims + c.loop-measure.measure < length fields
-    = omega (arith, lt, c.requires.columns.all, needed-some c.args.columns.now.has_op c.args.schema.now, length-at c.args.columns.now.places.items (fields_of c.args.row.now)) in
-    inr (
+    = omega (arith, lt, c.requires.columns.all, needed-some c.args.columns.now.has_op c.args.schema.now, length-at c.args.columns.now.places.items (fields_of c.args.row.now)) in (
       refl,
       none-with c.args.amounts.now.items (amounts_of c.args.schema.now fields)
           (sym c.loop-measure.invariant ∙ amounts-none c.args.schema.now.measures fields c.loop-measure.amounts.items c.loop-measure.measure (1 + length c.args.schema.now.dims + c.loop-measure.measure) lt within none),

@@ -1,4 +1,4 @@
-use Rattle.std.proofs.Common.{◌∙◌, ◌≡◌, ◌<◌, ◌≤◌, ◌+◌, sym, ap, arith, true, false, get_or, [], length, inr, refl}
+use Rattle.std.proofs.Common.{◌∙◌, ◌≡◌, ◌<◌, ◌≤◌, ◌+◌, sym, ap, arith, true, false, get_or, [], length, refl}
 use Rattle.std.specs.Str.{is_utf8}
 use Rattle.std.proofs.lemmas.Str.{is_utf8-from_IsUtf8}
 use Rattle.csv.specs.Records.{fields_of}
@@ -15,7 +15,7 @@ returns-in_default-clause-err c =
     let low : 1 + c.loop-dim.dim < 1 + length c.args.schema.now.dims = omega (arith, c.dims-dim-end.ensures.count) in
     let high : 1 + length c.args.schema.now.dims ≤ length fields = omega (arith, c.requires.columns.all, needed-some c.args.columns.now.has_op c.args.schema.now, length-at c.args.columns.now.places.items (fields_of c.args.row.now)) in
     let bad : is_utf8 (get_or fields (1 + c.loop-dim.dim) []) ≡ false = rw c.needed_field-field.ensures at (not-utf8 _ c.in_default.ensures.cases.0) in
-    inr (refl, sym c.loop-dim.invariant.utf8 ∙ bad-first is_utf8 fields (1 + c.loop-dim.dim) (1 + length c.args.schema.now.dims) low high bad)
+    (refl, sym c.loop-dim.invariant.utf8 ∙ bad-first is_utf8 fields (1 + c.loop-dim.dim) (1 + length c.args.schema.now.dims) low high bad)
 
 pub push-requires : goal.push-requires
 push-requires c =

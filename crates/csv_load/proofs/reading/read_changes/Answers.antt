@@ -1,12 +1,13 @@
 use Rattle.std.proofs.Common.{◌∙◌, ◌≡◌, ◌<◌, ◌∷◌, List, sym, ap, arith, length, ◌+◌, ◌^◌, Ok}
+use Rattle.std.specs.Prelude.{Err, IfSome}
 use Rattle.std.proofs.lemmas.List.{length_push}
 use Rattle.std.proofs.lemmas.Result.{err_from_is_err_and}
 use Rattle.csv.specs.Records.{fields_of}
 use Rattle.cube_defs.specs.Text.{Text}
 use Rattle.csv_load.specs.Batch.{Change, change_with}
-use Rattle.csv_load.specs.Faults.{Fails}
+use Rattle.csv_load.specs.Faults.{fault_in}
 use Rattle.csv_load.specs.Files.{change_in, changes_from}
-use Rattle.csv_load.specs.Texts.{bytes_in_all}
+use Rattle.text_lines.specs.Records.{bytes_in_all}
 use Rattle.csv_load.proofs.Changing.{good-change, with-more}
 use Rattle.csv_load.proofs.Columnar.{all-push, all_in, are-push}
 use Rattle.csv_load.proofs.Names.{needed-some}
@@ -50,15 +51,16 @@ pub returns-in_err-push_change-clause-gives : goal.returns-in_err-push_change-cl
 returns-in_err-push_change-clause-gives c =
     let layout = c.args.schema.now in
     let columns = c.args.columns.now in
+    let named = fault_in c.in_err-push_change.field-0.0 in
     let before = all_in (length layout.dims) (length layout.measures) c.records.changes in
     let fields = fields_of c.next.new.row in
     let left : c.records.rows ≡ fields ∷ c.next.new.self = rw c.if-branch.true at c.in_ok-next.ensures.next in
     let number : c.len.result + 1 ≡ 1 + length c.records.changes.ids.items = omega (arith, c.len.ensures) in
-    let first : Fails c.in_err-push_change.field-0.0 (change_in columns.has_op layout columns.width columns.places.items (1 + length c.records.changes.ids.items) fields) = rw number at c.in_err-push_change.ensures.err in
+    let first : IfSome named (λ fault. change_in columns.has_op layout columns.width columns.places.items (1 + length c.records.changes.ids.items) fields ≡ Err fault) = rw number at c.in_err-push_change.ensures.err in
     let whole = rw left at c.records.invariant.changes in
-    let gives : Fails c.in_err-push_change.field-0.0 (changes_from columns.has_op layout columns.width columns.places.items 1 c.args.rows.now)
+    let gives : IfSome named (λ fault. changes_from columns.has_op layout columns.width columns.places.items 1 c.args.rows.now ≡ Err fault)
     = rw (← whole)
-    (fails-with c.in_err-push_change.field-0.0 before (changes_from columns.has_op layout columns.width columns.places.items (1 + length c.records.changes.ids.items) (fields ∷ c.next.new.self))
-    (fails-cons c.in_err-push_change.field-0.0 (change_in columns.has_op layout columns.width columns.places.items (1 + length c.records.changes.ids.items) fields) (changes_from columns.has_op layout columns.width columns.places.items (1 + length c.records.changes.ids.items + 1) c.next.new.self) first)) in
+    (fails-with named before (changes_from columns.has_op layout columns.width columns.places.items (1 + length c.records.changes.ids.items) (fields ∷ c.next.new.self))
+    (fails-cons named (change_in columns.has_op layout columns.width columns.places.items (1 + length c.records.changes.ids.items) fields) (changes_from columns.has_op layout columns.width columns.places.items (1 + length c.records.changes.ids.items + 1) c.next.new.self) first)) in
     let p = err_from_is_err_and c.from_residual-in_err-push_change.result c.from_residual-in_err-push_change.ensures.1 in
     rw (p.1, p.2) gives

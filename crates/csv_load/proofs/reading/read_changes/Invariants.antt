@@ -1,7 +1,7 @@
 use Rattle.std.proofs.Common.{◌≡◌, ◌<◌, ◌^◌, ◌+◌, ◌*◌, length}
 use Rattle.csv_load.specs.Batch.{AreChanges}
 use Rattle.csv_load.specs.Files.{changes_from}
-use Rattle.csv_load.specs.Texts.{bytes_in, bytes_in_all}
+use Rattle.text_lines.specs.Records.{bytes_in, bytes_in_all}
 use Rattle.csv_load.proofs.Columnar.{all_in}
 use Rattle.csv_load.proofs.Refusals.{ok_with}
 use Rattle.csv_load.proofs.reading.read_changes.Given as goal

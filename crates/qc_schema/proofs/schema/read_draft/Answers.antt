@@ -1,10 +1,11 @@
-use Rattle.std.proofs.Common.{◌≡◌, ◌∙◌, length, map, ap, sym, subst, arith, List, ℕ, Ok, Result}
+use Rattle.std.proofs.Common.{◌≡◌, ◌∙◌, length, map, ap, sym, subst, arith, List, ℕ, Ok, Err, Result}
+use Rattle.std.specs.Prelude.{IfSome}
 use Rattle.std.proofs.lemmas.Bool.{eqb-true}
 use Rattle.std.proofs.lemmas.List.{length-map}
 use Rattle.qc_schema.specs.Grammar.{read_lines, start, take_line}
 use Rattle.text_lines.specs.Lines.{lines_of, without_cr}
 use Rattle.qc_schema.specs.Schema.{Layout}
-use Rattle.qc_schema.specs.States.{Fails, FailsAs, Fault, State, measure_in, refused_at, state_in}
+use Rattle.qc_schema.specs.States.{Fault, State, cause_in, measure_in, refused_at, schema_fault_in, state_in}
 use Rattle.qc_schema.proofs.Keeping.{few-kept, line-kept, start-kept}
 use Rattle.qc_schema.proofs.Reading.{read-end, read-fails, read-more, read-short}
 use Rattle.qc_schema.proofs.schema.read_draft.Goals as goal
@@ -23,8 +24,8 @@ read_line-requires c = omega (arith, length-map c.lines.reader.draft.measures.it
 
 pub returns-in-Err : goal.returns-in-Err
 returns-in-Err c =
-    let P : List ℕ → Type 0 = λ line. Fails c.in-Err.refused (take_line (state_in c.lines.reader) line) in
-    let Q : Result Layout Fault → Type 0 = λ read. FailsAs (refused_at c.lines.line c.in-Err.refused) read in
+    let P : List ℕ → Type 0 = λ line. IfSome (cause_in c.in-Err.refused) (λ cause. take_line (state_in c.lines.reader) line ≡ Err cause) in
+    let Q : Result Layout Fault → Type 0 = λ read. IfSome (schema_fault_in (refused_at c.lines.line c.in-Err.refused)) (λ fault. read ≡ Err fault) in
     rw c.at.ensures (subst Q c.lines.invariant.read
     (read-fails c.lines.rest.now c.split_line.result.0.now c.split_line.result.1.now c.lines.line (state_in c.lines.reader) c.in-Err.refused c.split_line.ensures.lines (subst P c.trim_cr.ensures.value c.in-Err.ensures)))
 

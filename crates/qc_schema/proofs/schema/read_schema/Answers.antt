@@ -1,9 +1,10 @@
-use Rattle.std.proofs.Common.{◌≡◌, ◌∙◌, map, ap, sym, subst, List, ℕ, Result}
+use Rattle.std.proofs.Common.{◌≡◌, ◌∙◌, map, ap, sym, subst, List, ℕ, Result, Err}
+use Rattle.std.specs.Prelude.{IfSome}
 use Rattle.qc_schema.specs.Grammar.{read_lines, schema_in, start}
 use Rattle.qc_schema.specs.Lines.{schema_lines}
 use Rattle.text_lines.specs.Lines.{lines_of, without_cr, without_mark}
 use Rattle.qc_schema.specs.Schema.{Layout}
-use Rattle.qc_schema.specs.States.{FailsAs, Fault}
+use Rattle.qc_schema.specs.States.{Fault, schema_fault_in}
 use Rattle.qc_schema.proofs.Keeping.{read-layout, start-kept}
 use Rattle.qc_schema.proofs.Reading.{schema-bytes, schema-text}
 use Rattle.qc_schema.proofs.schema.read_schema.Goals as goal
@@ -24,5 +25,5 @@ returns-in-Err c =
     let same : schema_lines c.args.bytes.now ≡ map without_cr (lines_of c.trim_mark.result.now) = ap (λ (bs : List ℕ). map without_cr (lines_of bs)) (ap without_mark (sym c.in-Ok.ensures.cases.0 ∙ sym c.as_bytes.ensures.value) ∙ sym c.trim_mark.ensures) in
     let whole : schema_in c.args.bytes.now ≡ read_lines (map without_cr (lines_of c.trim_mark.result.now)) 1 start =
     schema-text c.args.bytes.now c.in-Ok.ensures.cases.1 ∙ ap (λ (ls : List (List ℕ)). read_lines ls 1 start) same in
-    let P : Result Layout Fault → Type 0 = λ read. FailsAs c.in-Err.refused read in
+    let P : Result Layout Fault → Type 0 = λ read. IfSome (schema_fault_in c.in-Err.refused) (λ fault. read ≡ Err fault) in
     subst P (sym whole) c.in-Err.ensures

@@ -8,14 +8,14 @@ use Rattle.query_script.proofs.line.read_line.Goals as goal
 pub returns-then-is_stats-clause-gives : goal.returns-then-is_stats-clause-gives
 returns-then-is_stats-clause-gives c =
     let stats : bytes_eq c.args.line.now stats_line ≡ true = ap (λ text. bytes_eq text stats_line) (sym c.in-Ok.ensures.cases.0) ∙ sym c.is_stats.ensures ∙ c.if-is_stats.true in
-    stats-line (length c.args.schema.now.dims) c.args.line.now c.in-Ok.ensures.cases.1 stats
+    stats-line c.args.schema.now c.args.line.now c.in-Ok.ensures.cases.1 stats
 
 pub returns-else-is_stats-clause-gives : goal.returns-else-is_stats-clause-gives
 returns-else-is_stats-clause-gives c =
     let stats : bytes_eq c.args.line.now stats_line ≡ false = ap (λ text. bytes_eq text stats_line) (sym c.in-Ok.ensures.cases.0) ∙ sym c.is_stats.ensures ∙ c.if-is_stats.false in
     let word : c.split_word.result.0.now ≡ word_of c.args.line.now = c.split_word.ensures.word ∙ ap word_of c.in-Ok.ensures.cases.0 in
     let rest : c.split_word.result.1.now ≡ rest_of c.args.line.now = c.split_word.ensures.rest ∙ ap rest_of c.in-Ok.ensures.cases.0 in
-    rw (text-line (length c.args.schema.now.dims) c.args.line.now c.in-Ok.ensures.cases.1 stats) (rw (word, rest) at c.read_command.ensures.gives)
+    rw (text-line c.args.schema.now c.args.line.now c.in-Ok.ensures.cases.1 stats) (rw (word, rest) at c.read_command.ensures.gives)
 
 pub returns-else-is_stats-clause-memory : goal.returns-else-is_stats-clause-memory
 returns-else-is_stats-clause-memory c =
@@ -23,10 +23,10 @@ returns-else-is_stats-clause-memory c =
     IfErr-weaker c.read_command.result _ _ (λ refused named is. wants-memory c.args.line.now c.in-Ok.ensures.cases.1 (rw word at (named is))) c.read_command.ensures.memory
 
 pub returns-else-is_stats-clause-command : goal.returns-else-is_stats-clause-command
-returns-else-is_stats-clause-command c = line-is (length c.args.schema.now.dims) c.args.line.now c.read_command.result (returns-else-is_stats-clause-gives c)
+returns-else-is_stats-clause-command c = line-is c.args.schema.now c.args.line.now c.read_command.result (returns-else-is_stats-clause-gives c)
 
 pub returns-in-Err-clause-gives : goal.returns-in-Err-clause-gives
-returns-in-Err-clause-gives c = no-text-line (length c.args.schema.now.dims) c.args.line.now c.in-Err.ensures.cases.0
+returns-in-Err-clause-gives c = no-text-line c.args.schema.now c.args.line.now c.in-Err.ensures.cases.0
 
 pub returns-else-is_stats-clause-wants : goal.returns-else-is_stats-clause-wants
-returns-else-is_stats-clause-wants c = reading-wants (length c.args.schema.now.dims) c.args.line.now c.read_command.result (returns-else-is_stats-clause-gives c)
+returns-else-is_stats-clause-wants c = reading-wants c.args.schema.now c.args.line.now c.read_command.result (returns-else-is_stats-clause-gives c)

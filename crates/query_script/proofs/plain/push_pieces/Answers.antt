@@ -2,9 +2,9 @@ use Rattle.std.proofs.Common.{rules, ◌∙◌, ◌≡◌, ◌∷◌, ◌++◌, 
 use Rattle.std.proofs.lemmas.Result.{IfErr-weaker, on_ok_weaker, err_from_is_err_and}
 use Rattle.cube_defs.specs.Text.{Text}
 use Rattle.query_script.specs.Fields.{point_field}
-use Rattle.query_script.specs.Plain.{pieces}
+use Rattle.text_lines.specs.Plain.{pieces}
 use Rattle.query_script.specs.Progress.{asked_after}
-use Rattle.query_script.proofs.Pieces.{split-pieces}
+use Rattle.text_lines.proofs.Pieces.{split-pieces}
 use Rattle.query_script.proofs.plain.push_pieces.Goals as goal
 
 pub pieces-preserved : goal.pieces-preserved

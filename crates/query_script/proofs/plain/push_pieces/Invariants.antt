@@ -3,7 +3,7 @@ use denote.Shadow.{shadow}
 use denote.Text.{Utf8}
 use Rattle.cube_defs.specs.Text.{Text}
 use Rattle.query_script.specs.Fields.{point_field}
-use Rattle.query_script.specs.Plain.{pieces}
+use Rattle.text_lines.specs.Plain.{pieces}
 use Rattle.query_script.specs.Progress.{asked_after}
 use Rattle.query_script.proofs.plain.push_pieces.Given as goal
 

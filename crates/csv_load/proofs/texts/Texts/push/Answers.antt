@@ -1,6 +1,6 @@
 use Rattle.std.proofs.Common.{arith, ap}
 use Rattle.std.specs.Prelude.{string_bytes}
-use Rattle.csv_load.specs.Texts.{bytes_in}
+use Rattle.text_lines.specs.Records.{bytes_in}
 use Rattle.csv_load.proofs.Sizes.{size-texts}
 use Rattle.csv_load.proofs.texts.Texts.push.Goals as goal
 
