@@ -1,3 +1,3 @@
-pub mod Cuts
-pub mod Maps
-pub mod Steps
+mod Cuts
+mod Maps
+mod Steps

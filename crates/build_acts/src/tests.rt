@@ -1,5 +1,6 @@
 ghost use Rattle.std.specs.FinMap as map;
 ghost use Rattle.std.specs.Prelude.{IfSome, IsSome, None, OnSome, Some, replicate, true, ◌<◌, ◌≡◌};
+ghost use Rattle.cell_core.specs.Entry.{IsCode};
 ghost use Rattle.cube_defs.specs.Tree.{cell_at};
 
 use crate::{add_child, add_root, mark_class, set_link};
@@ -40,7 +41,7 @@ fn grown<L: Ledger>(
     requires opened { arena.old.is_open ≡ true }
     requires root { cell_at arena.old.now root.0 ≡ Some (replicate 3 None) }
     requires dim { dim < 3 }
-    requires code { code < 4000000 }
+    requires code { IsCode code }
     ensures width { arena.new.width ≡ 3 }
     ensures opened { arena.new.is_open ≡ true }
     ensures root { OnSome result (cell_at arena.new.now root.0 ≡ Some (replicate 3 None)) }
@@ -69,7 +70,7 @@ fn linked<L: Ledger>(
     requires root { cell_at arena.old.now root.0 ≡ Some (replicate 3 None) }
     requires target { IsSome (map.get arena.old.now target.0) }
     requires dim { dim < 3 }
-    requires code { code < 4000000 }
+    requires code { IsCode code }
     ensures width { arena.new.width ≡ 3 }
     ensures opened { arena.new.is_open ≡ true }
     ensures root { OnSome result (cell_at arena.new.now root.0 ≡ Some (replicate 3 None)) }

@@ -1,21 +1,21 @@
-pub mod Lists
+mod Lists
 pub mod Fronts
 pub mod Parting
-pub mod Names
+mod Names
 pub mod Steps
 pub mod Following
-pub mod Visits
-pub mod Visited
-pub mod Differs
-pub mod Links
-pub mod Labels
-pub mod Acted
-pub mod Descent
-pub mod Record
-pub mod Canonical
-pub mod Ready
+mod Visits
+mod Visited
+mod Differs
+mod Links
+mod Labels
+mod Acted
+mod Descent
+mod Record
+mod Canonical
+mod Ready
 pub mod Fresh
-pub mod Descending
-pub mod Down
-pub mod Counting
+mod Descending
+mod Down
+mod Counting
 pub mod Wanted

@@ -73,15 +73,3 @@ visit_add q [] h = absurd h
 visit_add q (Add p ∷ es) h = elim h [ inl e ↦ inl (cc) | inr k ↦ inr (visit_add q es k) ]
 visit_add q (Label b f i v t ∷ es) h = inr (visit_add q es h)
 visit_add q (Mark w a ∷ es) h = elim h [ inl e ↦ absurd (cc) | inr k ↦ inr (visit_add q es k) ]
-
-pub mark_visit : (q : Cell ℕ) (a : Agg) (es : List Act) → Among (Mark q a) es → Among (Marked q a) (visits_of es)
-mark_visit q a [] h = absurd h
-mark_visit q a (Add p ∷ es) h = elim h [ inl e ↦ absurd (cc) | inr k ↦ inr (mark_visit q a es k) ]
-mark_visit q a (Label b f i v t ∷ es) h = elim h [ inl e ↦ absurd (cc) | inr k ↦ mark_visit q a es k ]
-mark_visit q a (Mark w b ∷ es) h = elim h [ inl e ↦ inl (cc) | inr k ↦ inr (mark_visit q a es k) ]
-
-pub visit_mark : (q : Cell ℕ) (a : Agg) (es : List Act) → Among (Marked q a) (visits_of es) → Among (Mark q a) es
-visit_mark q a [] h = absurd h
-visit_mark q a (Add p ∷ es) h = elim h [ inl e ↦ absurd (cc) | inr k ↦ inr (visit_mark q a es k) ]
-visit_mark q a (Label b f i v t ∷ es) h = inr (visit_mark q a es h)
-visit_mark q a (Mark w b ∷ es) h = elim h [ inl e ↦ inl (cc) | inr k ↦ inr (visit_mark q a es k) ]

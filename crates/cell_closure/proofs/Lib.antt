@@ -3,4 +3,4 @@ pub mod Closing
 mod Runs
 mod Sorted
 pub mod Stable
-pub mod Counting
+mod Counting

@@ -97,13 +97,6 @@ pub code_is : (o : Option (Row ℕ)) (k v : ℕ) → is_some o ≡ true → IfSo
 code_is None k v h e = absurd (true≢false (sym h))
 code_is (Some r) k v h e = e
 
-pub tuple-entry : (t : Places) (n k : ℕ) (c : Cell ℕ) → IsTable t → k < t.dims → is_some (row_at t n) ≡ true → IfSome (row_at t n) (λ r. c ≡ cell_of r.tuple) → entry c k ≡ Some (code_of k (row_at t n))
-tuple-entry t n k c valid lt h e = go (row_at t n) refl h e
-  where
-    go : (o : Option (Row ℕ)) → row_at t n ≡ o → is_some o ≡ true → IfSome o (λ r. c ≡ cell_of r.tuple) → entry c k ≡ Some (code_of k o)
-    go None q h e = absurd (true≢false (sym h))
-    go (Some r) q h e = let l : length r.tuple ≡ t.dims = (is_row t valid n r q).tuple in ap (λ d. entry d k) e ∙ cell-entry r.tuple k (omega arith)
-
 -- rows all of which have a code
 pub all_same : (t : Places) → IsTable t → (k v : ℕ) (nos : List RowNo) → k < t.dims → list_all (λ n. code_at t k n == v) nos ≡ true → AllByRecursion (λ row. slice_get row.tuple k ≡ Some v) (named t nos)
 all_same t valid k v [] lt h = tt

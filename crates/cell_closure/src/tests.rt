@@ -1,7 +1,7 @@
 // Rows of two dimensions, whose numbers are their places.
 ghost use Rattle.std.specs.Prelude.{All, IfOk, is_some, length, true, ◌≡◌};
 
-use crate::{Parts, closure_of, part};
+use crate::{Parts, closure_of};
 use base_table::Table;
 use cell_core::{Cell, Entry};
 use std::alloc::{AllocError, Global};
@@ -50,7 +50,8 @@ fn rows_are_parted(rt: HostRuntime) -> Result<(), Fail> {
     let alloc = rt.alloc();
     let table = table_of(alloc, &[(2, 7), (0, 7), (2, 8), (1, 7), (0, 7)])?;
     let rows = table.all(alloc)?;
-    let mut parts = part(alloc, &table, &rows, 0)?;
+    let mut parts = Parts::new(alloc);
+    parts.part_into(&table, &rows, 0)?;
     assert_eq!(rt; parts.len(), 3);
     assert!(rt; is_part(&parts, 0, 0, &[1, 4]));
     assert!(rt; is_part(&parts, 1, 1, &[3]));
@@ -70,7 +71,8 @@ fn many_rows_are_parted(rt: HostRuntime) -> Result<(), Fail> {
     rows[20] = (4, 0);
     rows[23] = (0, 0);
     let table = table_of(alloc, &rows)?;
-    let parts = part(alloc, &table, &table.all(alloc)?, 0)?;
+    let mut parts = Parts::new(alloc);
+    parts.part_into(&table, &table.all(alloc)?, 0)?;
     assert_eq!(rt; parts.len(), 3);
     assert!(rt; is_part(&parts, 0, 0, &[23]));
     assert!(rt; is_part(&parts, 1, 4, &[3, 20]));

@@ -1,7 +1,7 @@
-pub mod Fronts
-pub mod Uppers
-pub mod Adding
-pub mod Building
-pub mod Steps
-pub mod Whole
-pub mod Ways
+mod Fronts
+mod Uppers
+mod Adding
+mod Building
+mod Steps
+mod Whole
+mod Ways

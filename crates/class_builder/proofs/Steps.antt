@@ -11,6 +11,7 @@ use Rattle.cube_defs.specs.Tree.{distinct}
 use Rattle.cube_laws.specs.Lists.{Among}
 use Rattle.cube_laws.proofs.Lists.{all_at, all_map, to_filter, filter-le}
 use Rattle.cube_laws.proofs.Cells.{nat_equality, cell_eq-exact}
+use Rattle.cell_core.specs.Entry.{IsCode}
 use Rattle.base_table.specs.Places.{Places, IsRow, IsTable, named, row_at}
 use Rattle.base_table.specs.declared.table.RowNo.{RowNo}
 use Rattle.cube_laws.specs.Parting.{code_in, shared_by, part_at, codes_in}
@@ -75,11 +76,11 @@ part_code : (n k v : ℕ) (rows : List (Row ℕ)) (r : Row ℕ) → Among r (par
 part_code n k v rows r a long lt =
     part_entry n k v rows (shared_by (part_at k rows v)) (shared_by (part_at k rows v)) long lt (closure-shared (part_at k rows v) (shared_by (part_at k rows v)) (shared_among (part_at k rows v) r a))
 
-codes_small : (t : Places) → IsTable t → (k : ℕ) → k < t.dims → (nos : List RowNo) → AllByRecursion (λ r. code_in k r < 4000000) (named t nos)
+codes_small : (t : Places) → IsTable t → (k : ℕ) → k < t.dims → (nos : List RowNo) → AllByRecursion (λ r. IsCode (code_in k r)) (named t nos)
 codes_small t valid k lt [] = tt
 codes_small t valid k lt (x ∷ nos) = go (row_at t x.0) refl (codes_small t valid k lt nos)
   where
-    go : (o : Option (Row ℕ)) → row_at t x.0 ≡ o → AllByRecursion (λ r. code_in k r < 4000000) (named t nos) → AllByRecursion (λ r. code_in k r < 4000000) (cons_option o (named t nos))
+    go : (o : Option (Row ℕ)) → row_at t x.0 ≡ o → AllByRecursion (λ r. IsCode (code_in k r)) (named t nos) → AllByRecursion (λ r. IsCode (code_in k r)) (cons_option o (named t nos))
     go None e more = more
     go (Some r) e more =
         let is : IsRow t.dims t.measures r = is_row t valid x.0 r e in
@@ -130,11 +131,11 @@ module _ (t : Places) (valid : IsTable t) (nos : List RowNo) (there : There t no
     pub part_value : k < t.dims → entry (shared_by (named t part)) k ≡ Some code
     part_value h = ap (λ rows. entry (shared_by rows) k) part_named ∙ part_code t.dims k code (named t nos) row_there.0 row_there.1 (named_dims t valid nos) h
 
-    pub part_small : k < t.dims → code < 4000000
+    pub part_small : k < t.dims → IsCode code
     part_small h =
-        all_at (λ r. code < 4000000) row_there.0 (part_at k (named t nos) code)
-        (to_filter (λ r. code < 4000000) (has_code k code) (named t nos)
-        (all_map (λ r. code_in k r < 4000000) _ (named t nos) (λ r small has. subst (λ v. v < 4000000) (eqb-true (code_in k r) code has) small) (codes_small t valid k h nos)))
+        all_at (λ r. IsCode code) row_there.0 (part_at k (named t nos) code)
+        (to_filter (λ r. IsCode code) (has_code k code) (named t nos)
+        (all_map (λ r. IsCode (code_in k r)) _ (named t nos) (λ r small has. subst IsCode (eqb-true (code_in k r) code has) small) (codes_small t valid k h nos)))
         row_there.1
 
     pub part_is : (get_or (parted t nos k) i no_part).code ≡ code

@@ -7,6 +7,7 @@ use Rattle.cube_defs.specs.Rows.{Row}
 use Rattle.cube_defs.specs.Tree.{IsCanonical, Node, Tree, cell_at, nodes}
 use Rattle.cube_laws.proofs.Cells.{keep_zero}
 use Rattle.cube_laws.proofs.Lists.{all_map}
+use Rattle.cube_defs.specs.declared.limits.TheConstants.{MAX_ROWS}
 use Rattle.base_table.specs.Places.{IsRow, IsTable, Places, named, rows_of}
 use Rattle.base_table.specs.declared.table.RowNo.{RowNo}
 use Rattle.cube_laws.specs.Parting.{shared_by}
@@ -30,12 +31,13 @@ no_cell tree c e k h = true≢false (sym (ap is_some (sym (ap (option_map (λ n.
 pub rows_long : (t : Places) → IsTable t → HaveDims t.dims (rows_of t)
 rows_long t valid = all_map (IsRow t.dims t.measures) (λ row. length row.tuple ≡ t.dims) (rows_of t) (λ row is. is.tuple) (all_recursion (IsRow t.dims t.measures) (rows_of t) valid.rows.each)
 
-pub rows_few : (t : Places) → IsTable t → (nos : List RowNo) → There t nos → named t nos ≡ rows_of t → length nos ≤ 1000000
+pub rows_few : (t : Places) → IsTable t → (nos : List RowNo) → There t nos → named t nos ≡ rows_of t → length nos ≤ MAX_ROWS
 rows_few t valid nos there all =
     let few : length (rows_of t) ≤ t.max = valid.rows.few in
     let most : t.max ≤ 1000000 = valid.few_rows in
     let e : length nos ≡ length (rows_of t) = sym (length-named t nos there) ∙ ap length all in
-    omega arith
+    let all_few : length nos ≤ 1000000 = omega arith in
+    all_few
 
 -- nothing is done yet
 pub going_none : (measures : ℕ) (rows : List (Row ℕ)) (a : Arena) → HaveDims a.width rows → 0 < length rows → a.is_open ≡ true → a.now ≡ map.empty → Going measures rows [] (trace measures a.width rows) a

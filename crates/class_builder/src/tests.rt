@@ -9,6 +9,7 @@ use crate::build_classes;
 use aggregates::Agg;
 use base_table::Table;
 use cell_core::{Cell, Entry, NodeNo, Steps};
+use cube_defs::MAX_DIMS;
 use qc_arena::{ArenaRefused, Forced, Nodes, QcArena};
 use std::alloc::{AllocError, Global};
 use std::marker::Brand;
@@ -412,7 +413,7 @@ fn built<L: Ledger>(
     steps: &mut Steps<L>,
 ) -> Result<QcArena, ArenaRefused>
     requires some_dims { 0 < table.now.dims }
-    requires few_dims { table.now.dims ≤ 16 }
+    requires few_dims { table.now.dims ≤ MAX_DIMS }
     requires some { 0 < max }
     requires few { max ≤ 4000 }
     ensures tree { IfOk result (λ arena. IsCanonical nat_cmp table.now.measures (rows_of table.now) arena.now) }
@@ -452,7 +453,7 @@ fn is_built_right<L: Ledger>(alloc: Global, dims: u8, rows: &[Line], blank: Blan
 // Whether there may be so many nodes, and not one fewer.
 fn is_full_below<L: Ledger>(alloc: Global, table: &Table, nodes: u32, steps: &mut Steps<L>) -> bool
     requires some_dims { 0 < table.now.dims }
-    requires few_dims { table.now.dims ≤ 16 }
+    requires few_dims { table.now.dims ≤ MAX_DIMS }
     requires few { nodes ≤ 4000 }
 {
     if nodes < 2 {

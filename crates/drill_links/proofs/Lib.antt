@@ -1,2 +1,2 @@
-pub mod Downward
-pub mod Single
+mod Downward
+mod Single

@@ -16,7 +16,7 @@ is_parted c =
 pub invariant_of-self-2 : goal.invariant_of-self-2
 invariant_of-self-2 c =
     let few : length (parted c.args.table.now c.args.rows.now c.args.dim) ≤ c.in_ok-most.most = few_parts c.args.table.now c.args.rows.now c.args.dim c.in_ok-most.most c.read_codes.new.keyed.items c.in_ok-most.ensures.keyed (all_recursion (λ k. k.code < c.in_ok-most.most) c.read_codes.new.keyed.items c.in_ok-most.ensures.below) in
-    let small : c.in_ok-most.most < 4000001 = c.in_ok-most.ensures.small in
+    let small : c.in_ok-most.most ≤ 4000000 = c.in_ok-most.ensures.small in
     let l : length (pieces c.list_cuts.new.cuts.items c.list_rows.new.rows.items) ≡ length c.list_cuts.new.cuts.items = length-mapped _ c.list_cuts.new.cuts.items in
     let m : length (pieces c.list_cuts.new.cuts.items c.list_rows.new.rows.items) ≡ length (parted c.args.table.now c.args.rows.now c.args.dim) = ap length (is_parted c) in
     let rows : length c.list_rows.new.rows.items ≡ length c.sort_by_code.new.sorter.keyed.items = ap length c.in_ok-list_rows.ensures ∙ length-mapped (λ k. k.row) c.deref.result.now ∙ ap length c.deref.ensures.value in
