@@ -93,6 +93,17 @@ impl Parts {
     }
 }
 
+/// The rows parted by their codes in the dimension, each part in the given order.
+pub fn part(alloc: Global, table: &Table, rows: &[RowNo], dim: u8) -> Result<Parts, Memory>
+    requires there { AreThere table.now rows.now }
+    requires dim { dim < table.now.dims }
+    ensures { IfOk result (λ parts. parts ≡ parted table.now rows.now dim) }
+{
+    let mut parts = Parts::new(alloc);
+    parts.part_into(table, rows, dim)?;
+    Ok(parts)
+}
+
 fn list_rows(rows: &mut Vec<RowNo>, keyed: &[Keyed]) -> Result<(), Memory>
     ensures { IfOk result (λ _. rows.new.items ≡ map (λ k. k.row) keyed.now) }
 {
