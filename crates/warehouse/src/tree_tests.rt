@@ -1,7 +1,6 @@
 // The worked tree: each node with its record, before and after a batch.
 ghost use Rattle.std.specs.FinMap as map;
 ghost use Rattle.std.specs.Prelude.{IfSome, IsSome, length, ◌<◌, ◌≡◌};
-ghost use Rattle.qc_arena.specs.Seen.{record_at};
 
 use crate::tests::{apply, code, opened};
 use crate::{Refused, Stats, Warehouse};
@@ -10,7 +9,6 @@ use cell_core::{Cell, Code, Entry, NodeNo, Steps, leq};
 use qc_arena::Nodes;
 use std::alloc::Global;
 use std::marker::Brand;
-use std::process::Abort;
 use std::sync::ledger::{Blank, Ledger};
 use std::test::Fail;
 use tree_search::{find, upper_into};
@@ -65,9 +63,9 @@ type Line = (
     Option<Texts>,
 );
 
-// The node with an edge, its label's dimension and text, and where it leads. Those of a node stand
-// in the order of their labels.
-type Lead = (Texts, u8, &'static str, Texts);
+// The node with an edge, its place among the edges of the node, which stand in the order of their
+// labels, its label's dimension and text, and where it leads.
+type Lead = (Texts, u32, u8, &'static str, Texts);
 
 static NODES: [Line; 11] = [
     (ALL, None, Some((3, 27, 6, 12)), None),
@@ -84,21 +82,21 @@ static NODES: [Line; 11] = [
 ];
 
 static EDGES: [Lead; 15] = [
-    (ALL, 0, "S1", S1),
-    (ALL, 0, "S2", S2),
-    (ALL, 1, "P1", P1),
-    (ALL, 1, "P2", S1_P2),
-    (ALL, 2, "s", S1_S),
-    (ALL, 2, "f", S2_P1_F),
-    (S1, 1, "P1", S1_P1),
-    (S1, 1, "P2", S1_P2),
-    (S1, 2, "s", S1_S),
-    (S1_P1, 2, "s", S1_P1_S),
-    (S1_P2, 2, "s", S1_P2_S),
-    (S2, 1, "P1", S2_P1),
-    (S2_P1, 2, "f", S2_P1_F),
-    (P1, 2, "s", S1_P1_S),
-    (P1, 2, "f", S2_P1_F),
+    (ALL, 0, 0, "S1", S1),
+    (ALL, 1, 0, "S2", S2),
+    (ALL, 2, 1, "P1", P1),
+    (ALL, 3, 1, "P2", S1_P2),
+    (ALL, 4, 2, "s", S1_S),
+    (ALL, 5, 2, "f", S2_P1_F),
+    (S1, 0, 1, "P1", S1_P1),
+    (S1, 1, 1, "P2", S1_P2),
+    (S1, 2, 2, "s", S1_S),
+    (S1_P1, 0, 2, "s", S1_P1_S),
+    (S1_P2, 0, 2, "s", S1_P2_S),
+    (S2, 0, 1, "P1", S2_P1),
+    (S2_P1, 0, 2, "f", S2_P1_F),
+    (P1, 0, 2, "s", S1_P1_S),
+    (P1, 1, 2, "f", S2_P1_F),
 ];
 
 // Those after a fourth row.
@@ -121,26 +119,26 @@ static NODES_AFTER: [Line; 15] = [
 ];
 
 static EDGES_AFTER: [Lead; 20] = [
-    (ALL, 0, "S1", S1),
-    (ALL, 0, "S2", S2),
-    (ALL, 1, "P1", P1),
-    (ALL, 1, "P2", P2),
-    (ALL, 2, "s", S1_S),
-    (ALL, 2, "f", S2_F),
-    (S1, 1, "P1", S1_P1),
-    (S1, 1, "P2", S1_P2),
-    (S1, 2, "s", S1_S),
-    (S1_P1, 2, "s", S1_P1_S),
-    (S1_P2, 2, "s", S1_P2_S),
-    (S2, 1, "P1", S2_P1),
-    (S2, 1, "P2", S2_P2),
-    (S2, 2, "f", S2_F),
-    (S2_P1, 2, "f", S2_P1_F),
-    (S2_P2, 2, "f", S2_P2_F),
-    (P1, 2, "s", S1_P1_S),
-    (P1, 2, "f", S2_P1_F),
-    (P2, 2, "s", S1_P2_S),
-    (P2, 2, "f", S2_P2_F),
+    (ALL, 0, 0, "S1", S1),
+    (ALL, 1, 0, "S2", S2),
+    (ALL, 2, 1, "P1", P1),
+    (ALL, 3, 1, "P2", P2),
+    (ALL, 4, 2, "s", S1_S),
+    (ALL, 5, 2, "f", S2_F),
+    (S1, 0, 1, "P1", S1_P1),
+    (S1, 1, 1, "P2", S1_P2),
+    (S1, 2, 2, "s", S1_S),
+    (S1_P1, 0, 2, "s", S1_P1_S),
+    (S1_P2, 0, 2, "s", S1_P2_S),
+    (S2, 0, 1, "P1", S2_P1),
+    (S2, 1, 1, "P2", S2_P2),
+    (S2, 2, 2, "f", S2_F),
+    (S2_P1, 0, 2, "f", S2_P1_F),
+    (S2_P2, 0, 2, "f", S2_P2_F),
+    (P1, 0, 2, "s", S1_P1_S),
+    (P1, 1, 2, "f", S2_P1_F),
+    (P2, 0, 2, "s", S1_P2_S),
+    (P2, 1, 2, "f", S2_P2_F),
 ];
 
 const COUNTS: Stats = Stats {
@@ -291,77 +289,58 @@ fn is_line<L: Ledger>(alloc: Global, shop: &Warehouse, line: &Line, steps: &mut 
         && is_number(alloc, shop, forced, &line.3, steps)
 }
 
-// Whether the node has just these of the edges, in this order.
-fn has_edges<L: Ledger>(
-    alloc: Global,
-    shop: &Warehouse,
-    line: &Line,
-    leads: &[Lead],
-    steps: &mut Steps<L>,
-) -> bool {
-    let Some(node) = node_of(alloc, shop, &line.0, steps) else {
+// Whether the edge at this place of its node is there, with this label and target.
+fn is_lead<L: Ledger>(alloc: Global, shop: &Warehouse, lead: &Lead, steps: &mut Steps<L>) -> bool {
+    let Some(node) = node_of(alloc, shop, &lead.0, steps) else {
         return false;
     };
-    let count = shop.tree().edge_count(node, steps);
-    let mut k = 0;
-    'leads: for lead in leads {
-        if is_node(alloc, shop, node, &lead.0, steps) {
-            if k >= count || !is_lead(alloc, shop, node, k, lead, steps) {
-                return false;
-            }
-            k += 1;
-        }
+    if lead.1 >= shop.tree().edge_count(node, steps) {
+        return false;
     }
-    k == count
+    let (dim, label, target) = shop.tree().edge_at(node, lead.1, steps);
+    dim == lead.2
+        && code(shop, lead.2, lead.3) == Some(label)
+        && is_node(alloc, shop, target, &lead.4, steps)
 }
 
-// Whether the k-th edge of a node is this one.
-fn is_lead<L: Ledger>(
-    alloc: Global,
-    shop: &Warehouse,
-    node: NodeNo,
-    k: u32,
-    lead: &Lead,
-    steps: &mut Steps<L>,
-) -> bool
-    requires node { IsSome (map.get shop.now.tree node.0) }
-    requires k { k < length (record_at shop.now.tree node.0).edges }
-{
-    let (dim, label, target) = shop.tree().edge_at(node, k, steps);
-    dim == lead.1
-        && code(shop, lead.1, lead.2) == Some(label)
-        && is_node(alloc, shop, target, &lead.3, steps)
-}
-
-// Whether these nodes are there, each with its record and just those of the edges that it has.
-fn has_nodes<L: Ledger>(
-    alloc: Global,
-    shop: &Warehouse,
-    lines: &[Line],
-    leads: &[Lead],
-    blank: Blank,
-) -> bool
+// Whether these nodes are there, each with its record, its edges aside.
+fn has_lines<L: Ledger>(alloc: Global, shop: &Warehouse, lines: &[Line], blank: Blank) -> bool
     requires name { blank.name ≡ L.name }
     requires parts { blank.parts ≡ L.parts }
     requires some { 0 < L.parts }
 {
     let mut steps = Steps::<L>::start(blank);
     'lines: for line in lines {
-        if !is_line(alloc, shop, line, &mut steps)
-            || !has_edges(alloc, shop, line, leads, &mut steps)
-        {
+        if !is_line(alloc, shop, line, &mut steps) {
             return false;
         }
     }
     true
 }
 
-// The same, where no steps are counted.
-fn is_tree(alloc: Global, shop: &Warehouse, lines: &[Line], leads: &[Lead]) -> bool {
-    has_nodes::<Brand>(alloc, shop, lines, leads, Blank::new(1))
+// Whether these edges are there.
+fn has_leads<L: Ledger>(alloc: Global, shop: &Warehouse, leads: &[Lead], blank: Blank) -> bool
+    requires name { blank.name ≡ L.name }
+    requires parts { blank.parts ≡ L.parts }
+    requires some { 0 < L.parts }
+{
+    let mut steps = Steps::<L>::start(blank);
+    'leads: for lead in leads {
+        if !is_lead(alloc, shop, lead, &mut steps) {
+            return false;
+        }
+    }
+    true
 }
 
-// Whether the tree is that of the base file. There are no other nodes, by what is counted.
+// Whether these nodes and edges are there, where no steps are counted.
+fn is_tree(alloc: Global, shop: &Warehouse, lines: &[Line], leads: &[Lead]) -> bool {
+    has_lines::<Brand>(alloc, shop, lines, Blank::new(1))
+        && has_leads::<Brand>(alloc, shop, leads, Blank::new(1))
+}
+
+// Whether the tree is that of the base file. There are no other nodes and
+// edges, by what is counted.
 fn is_before(alloc: Global, shop: &Warehouse) -> bool {
     shop.stats() == COUNTS && is_tree(alloc, shop, &NODES, &EDGES)
 }
@@ -371,35 +350,79 @@ fn is_after(alloc: Global, shop: &Warehouse) -> bool {
     shop.stats() == COUNTS_AFTER && is_tree(alloc, shop, &NODES_AFTER, &EDGES_AFTER)
 }
 
+// A warehouse that has taken the base file and these batches, of one record each.
+fn grown(alloc: Global, schema: &[u8], batches: &[&[u8]]) -> Result<Warehouse, Fail> {
+    let mut shop = opened(alloc, schema, BASE)?;
+    'batches: for batch in batches {
+        if apply(&mut shop, batch) != Ok(1) {
+            return Err(Fail::new("refused batch"));
+        }
+    }
+    Ok(shop)
+}
+
 #[test]
 fn the_worked_tree(rt: HostRuntime) -> Result<(), Fail> {
-    let alloc = rt.alloc();
-    let mut shop = opened(alloc, SCHEMA, BASE)?;
-    assert!(rt; is_before(alloc, &shop));
-    assert_eq!(rt; apply(&mut shop, PLUS), Ok(1));
-    assert!(rt; is_after(alloc, &shop));
-    assert_eq!(rt; apply(&mut shop, MINUS), Ok(1));
-    assert!(rt; is_before(alloc, &shop));
+    let shop = grown(rt.alloc(), SCHEMA, &[])?;
+    assert!(rt; is_before(rt.alloc(), &shop));
     Ok(())
 }
 
-// The batch needs so many nodes, of which there may be as many or one fewer.
+#[test]
+fn the_worked_tree_after_a_fourth_row(rt: HostRuntime) -> Result<(), Fail> {
+    let shop = grown(rt.alloc(), SCHEMA, &[PLUS])?;
+    assert!(rt; is_after(rt.alloc(), &shop));
+    Ok(())
+}
+
+#[test]
+fn the_worked_tree_once_the_fourth_row_is_gone(rt: HostRuntime) -> Result<(), Fail> {
+    let shop = grown(rt.alloc(), SCHEMA, &[PLUS, MINUS])?;
+    assert!(rt; is_before(rt.alloc(), &shop));
+    Ok(())
+}
+
+// The fourth row needs as many nodes.
+const JUST: &[u8] =
+    b"qcube 1\nid id\ndim store\ndim product\ndim season\nmeasure sale 0\nnodes 15\n";
+
+// One node fewer.
+const FEWER: &[u8] =
+    b"qcube 1\nid id\ndim store\ndim product\ndim season\nmeasure sale 0\nnodes 14\n";
+
+// A deletion, and rows with texts that are new.
+const MIXED: &[u8] =
+    b"op,id,store,product,season,sale\n-,1,,,,\n+,4,S2,P2,f,3\n+,5,S3,P3,t,1\n+,6,S4,P3,t,1\n";
+
+#[test]
+fn as_many_nodes_as_there_may_be(rt: HostRuntime) -> Result<(), Fail> {
+    let shop = grown(rt.alloc(), JUST, &[PLUS])?;
+    assert_eq!(rt; shop.stats(), COUNTS_AFTER);
+    Ok(())
+}
+
+// Whether a batch is refused for its nodes, and the tree and the texts are as they were.
+fn is_nodes_full(alloc: Global, batch: &[u8]) -> Result<bool, Fail> {
+    let mut shop = opened(alloc, FEWER, BASE)?;
+    let answer = apply(&mut shop, batch);
+    let codes = (code(&shop, 0, "S3"), code(&shop, 2, "t"));
+    Ok(answer == Err(Refused::NodesFull) && codes == (None, None) && is_before(alloc, &shop))
+}
+
 #[test]
 fn too_many_nodes_leave_all_as_it_was(rt: HostRuntime) -> Result<(), Fail> {
-    let alloc = rt.alloc();
-    let just = b"qcube 1\nid id\ndim store\ndim product\ndim season\nmeasure sale 0\nnodes 15\n";
-    let fewer = b"qcube 1\nid id\ndim store\ndim product\ndim season\nmeasure sale 0\nnodes 14\n";
-    let mut shop = opened(alloc, just, BASE)?;
-    assert_eq!(rt; apply(&mut shop, PLUS), Ok(1));
-    let mut shop = opened(alloc, fewer, BASE)?;
-    let row =
-        b"op,id,store,product,season,sale\n-,1,,,,\n+,4,S2,P2,f,3\n+,5,S3,P3,t,1\n+,6,S4,P3,t,1\n";
-    for batch in [PLUS, row] {
-        assert_eq!(rt; apply(&mut shop, batch), Err(Refused::NodesFull));
-        assert!(rt; is_before(alloc, &shop));
-        assert_eq!(rt; code(&shop, 0, "S3"), None);
-        assert_eq!(rt; code(&shop, 2, "t"), None);
+    'batches: for batch in [PLUS, MIXED] {
+        assert!(rt; is_nodes_full(rt.alloc(), batch)?);
     }
-    assert_eq!(rt; apply(&mut shop, MINUS), Err(Refused::Missing(1)));
+    Ok(())
+}
+
+#[test]
+fn a_row_with_too_many_nodes_is_not_there(rt: HostRuntime) -> Result<(), Fail> {
+    let mut shop = opened(rt.alloc(), FEWER, BASE)?;
+    let plus = apply(&mut shop, PLUS);
+    let minus = apply(&mut shop, MINUS);
+    let wanted = (Err(Refused::NodesFull), Err(Refused::Missing(1)));
+    assert_eq!(rt; (plus, minus), wanted);
     Ok(())
 }
