@@ -3,12 +3,14 @@
 #![tactic(auto)]
 
 mod bounds;
+mod class;
 mod closed;
 mod least;
 mod marks;
 mod numbers;
 
 pub use bounds::lower_bounds;
+pub use class::{Class, find_class};
 use cube_defs::Memory;
 
 #[cfg(test)]

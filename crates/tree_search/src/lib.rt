@@ -7,8 +7,8 @@ mod search;
 mod totals;
 
 pub use climb::upper_into;
-pub use search::find;
-pub use totals::{total_at, total_uncounted};
+pub use search::{find, step};
+pub use totals::total_at;
 
 #[cfg(test)]
 mod tests;

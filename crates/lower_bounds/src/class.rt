@@ -1,0 +1,56 @@
+// The class of a cell.
+ghost use Rattle.std.specs.Ordering.{nat_cmp};
+ghost use Rattle.std.specs.Option.{option_map};
+ghost use Rattle.std.specs.Prelude.{IfOk, length, ◌*◌, ◌+◌, ◌<◌, ◌^◌, ◌≡◌, ◌≤◌};
+ghost use Rattle.cube_defs.specs.Answers.{class_of};
+ghost use Rattle.tree_search.specs.Found.{IsFrom, IsTree, Source};
+
+use crate::Memory;
+use crate::bounds::bounds_below;
+use aggregates::Agg;
+use cell_core::{Cell, Cells, Steps};
+use qc_arena::Nodes;
+use std::alloc::Global;
+use std::sync::ledger::Ledger;
+use tree_search::{find, upper_into};
+
+/// A class of the rows, by codes.
+#[derive(Drop)]
+pub struct Class {
+    /// Its upper bound.
+    pub upper: Cell,
+    /// What its rows come to.
+    pub total: Agg,
+    /// Its lower bounds, in cell order.
+    pub lowers: Cells,
+}
+
+ghost use Rattle.lower_bounds.specs.Classes.{hit_in};
+
+/// The class that the cell's closure names. None where the cell covers no row. With n dimensions it
+/// takes at most 7 (n + 1) 2^n steps.
+pub fn find_class<T: Nodes, L: Ledger>(
+    alloc: Global,
+    tree: &T,
+    cell: &Cell,
+    steps: &mut Steps<L>,
+) -> Result<Option<Class>, Memory>
+    requires dims { length cell.now ≡ T.width tree.now }
+    requires tree { IsTree (T.width tree.now) (T.tree tree.now) }
+    ensures class { (source : Source) → IsFrom (T.width tree.now) (T.tree tree.now) source →
+        IfOk result (λ class. option_map hit_in class ≡ class_of nat_cmp source.measures source.rows cell.now) }
+    ensures steps { steps.new ≤ steps.old + 7 * (T.width tree.now + 1) * 2 ^ T.width tree.now }
+{
+    let Some(node) = find(tree, cell, steps) else {
+        return Ok(None);
+    };
+    let mut upper = Cell::any(alloc, tree.dims());
+    upper_into(tree, node, &mut upper, steps);
+    let total = tree.class(node, steps).unwrap();
+    let lowers = bounds_below(alloc, tree, node, &upper, steps)?;
+    Ok(Some(Class {
+        upper,
+        total,
+        lowers,
+    }))
+}
