@@ -6,6 +6,7 @@ use Rattle.std.proofs.lemmas.Cmp.{nat_list_cmp_total}
 use Rattle.std.specs.FinMap.{nat_cmp-IsAntisymmetric, slice_cmp-IsAntisymmetric}
 use Rattle.std.specs.Ordering.{eq_by_cmp, nat_cmp}
 use Rattle.std.specs.List.{All, AllByRecursion}
+use Rattle.std.proofs.lemmas.List.{length-map}
 use Rattle.std.proofs.lemmas.List.Elements.{All-from_recursion, recursion_from_All}
 use Rattle.std.proofs.lemmas.List.FromFn.{length-map-range_with_len}
 use Rattle.cube_defs.specs.Text.{Text, text_cmp, text_eq}
@@ -24,11 +25,11 @@ use Rattle.warehouse.specs.State.{IsState, State, has_text, place_in, source_of}
 use Rattle.cell_core.specs.declared.fields.Field.{Field}
 use Rattle.query_script.specs.Commands.{IsPointField}
 use Rattle.value_dict.specs.TextLists.{cell_in}
-use Rattle.qc_session.specs.Answers.{cell_asked}
+use Rattle.qc_session.specs.Answers.{cell_asked, entry_asked}
 use Rattle.cube_defs.specs.Answers.{class_at, class_of}
-use Rattle.qc_session.specs.Classes.{hit_in}
+use Rattle.lower_bounds.specs.Classes.{hit_in}
 use Rattle.value_dict.specs.Told.{HasTexts, IsTold, text_of, told_cell, told_hit}
-use Rattle.qc_session.specs.declared.classes.Class.{Class}
+use Rattle.lower_bounds.specs.declared.class.Class.{Class}
 use Rattle.qc_session.proofs.Apart.{any-within, places-apart, text-at, text_equality}
 use Rattle.qc_session.proofs.Asked.{Fits, cell-found, cell-missing, code_equality, fits}
 use Rattle.qc_session.proofs.LowersRecoded.{lowers-coded, lowers-known}
@@ -145,3 +146,14 @@ module _ (s : State) (is : IsState s) where
   pub state-none : (lists : List (List Text)) (asked : List Field) → lists ≡ s.texts → length asked ≡ length s.schema.dims → All IsPointField asked → None ≡ cell_in lists asked
       → None ≡ class_of text_cmp (length s.schema.measures) s.rows (cell_asked asked)
   state-none lists asked same len point e = class-none s.texts (length s.schema.measures) s.rows is.known wide lists asked same (len ∙ sym is.lists) point (sym e)
+
+-- the codes of the asked cell tell it
+pub asked-told : (texts lists : List (List Text)) (asked : List Field) (cell : Cell ℕ) → lists ≡ texts → length asked ≡ length texts → All IsPointField asked → cell_in lists asked ≡ Some cell → told_cell texts cell ≡ cell_asked asked
+asked-told texts lists asked cell same len point e =
+    let found = cell-found texts 0 texts asked cell (fits texts) point (rw same at e) in
+    ap (told_cell texts) found.code ∙ told-coded texts 0 texts (cell_asked asked) (fits texts) found.known (omega (arith, length-map asked entry_asked, len))
+
+pub asked-texts : (texts lists : List (List Text)) (asked : List Field) (cell : Cell ℕ) → lists ≡ texts → length asked ≡ length texts → All IsPointField asked → cell_in lists asked ≡ Some cell → HasTexts texts cell
+asked-texts texts lists asked cell same len point e =
+    let found = cell-found texts 0 texts asked cell (fits texts) point (rw same at e) in
+    subst (HasTexts texts) (sym found.code) (has-texts texts 0 texts (cell_asked asked) (fits texts) found.known (omega (arith, length-map asked entry_asked, len)))

@@ -1,26 +1,82 @@
 -- How a script ended, over the names that the run has for it.
-use Rattle.std.proofs.Common.{◌≡◌, ℕ, List, Option, Some, None, IfSome, sym}
-use Rattle.std.specs.Prelude.{⊤}
-use Rattle.qc_io.specs.Outside.{Told}
-use Rattle.qc_schema.specs.Schema.{Layout}
+use Rattle.std.proofs.Common.{◌≡◌, ◌≤◌, ◌⊎◌, ℕ, Bool, true, false, cond, List, [], Option, Some, None, IfSome, sym, refl, inl, inr, arith, length, drop, length-drop}
+use Rattle.std.specs.Prelude.{⊤, IsNone, IsSome, MatchOption, nat_eq}
+use Rattle.std.specs.List.{starts_with}
+use Rattle.std.proofs.lemmas.Bool.{le-ltb}
+use Rattle.cube_defs.specs.declared.limits.TheConstants.{MAX_FILE}
+use Rattle.qc_io.specs.Outside.{Rose, Told}
 use Rattle.warehouse.specs.State.{State}
-use Rattle.qc_session.specs.Runs.{CannotRead, Cause, Said, StoppedAt, WroteAll}
+use Rattle.qc_session.specs.Forms.{Names}
+use Rattle.qc_session.specs.Lines.{mark, script_lines, without_mark}
+use Rattle.qc_session.specs.Runs.{AreSkipped, CannotRead, Cause, Finished, IsScriptOf, IsStartOf, Said, StoppedAt, StoppedWriting, WroteAll, refusal_of}
 use Rattle.qc_session.specs.Session.{IfStop}
 use Rattle.qc_session.specs.declared.session.Stop.{Stop}
 use Rattle.qc_session.specs.declared.session.Stop.TheVariants as stops
 
-pub all-ended : (told : Option Told) (schema schema2 : Layout) (skipped skipped2 : List ℕ) (lines lines2 : List (List ℕ)) (end end2 : Option State) (before now : Option (List ℕ))
-    → schema2 ≡ schema → skipped2 ≡ skipped → lines2 ≡ lines → end2 ≡ end
-    → IfSome told (λ t. WroteAll t schema2 skipped lines2 end before now) → IfSome told (λ t. WroteAll t schema skipped2 lines end2 before now)
-all-ended None schema schema2 skipped skipped2 lines lines2 end end2 before now s k l e h = tt
-all-ended (Some t) schema schema2 skipped skipped2 lines lines2 end end2 before now s k l e h = rw (sym s, k, sym l, e) h
+pub all-ended : (told : Option Told) (start start2 : State) (skipped skipped2 : List ℕ) (lines lines2 : List (List ℕ)) (end end2 : Option State) (before now : Option (List ℕ))
+    → start2 ≡ start → skipped2 ≡ skipped → lines2 ≡ lines → end2 ≡ end
+    → IfSome told (λ t. WroteAll t start2 skipped lines2 end before now) → IfSome told (λ t. WroteAll t start skipped2 lines end2 before now)
+all-ended None start start2 skipped skipped2 lines lines2 end end2 before now s k l e h = tt
+all-ended (Some t) start start2 skipped skipped2 lines lines2 end end2 before now s k l e h = rw (sym s, k, sym l, e) h
 
-pub read-ended : (stop : Stop) (name : List ℕ) (told : Option Told) (sure rose : Type 0) (schema schema2 : Layout) (skipped skipped2 : List ℕ) (lines lines2 : List (List ℕ)) (cause : Cause) (before now err err2 : Option (List ℕ))
-    → stop ≡ stops.Read name → schema2 ≡ schema → skipped2 ≡ skipped → lines2 ≡ lines → cause ≡ CannotRead name
-    → IfStop stop (λ n. IfSome told (λ t. StoppedAt t sure schema2 skipped lines2 n before now)) ⊤ → Said rose cause err err2
-    → IfSome told (λ t. (n : List ℕ) × StoppedAt t sure schema skipped2 lines n before now × Said rose (CannotRead n) err err2)
-read-ended stop name told sure rose schema schema2 skipped skipped2 lines lines2 cause before now err err2 is s k l c h said = by told (rw is at h)
+pub read-ended : (stop : Stop) (name : List ℕ) (told : Option Told) (sure rose : Type 0) (start start2 : State) (skipped skipped2 : List ℕ) (lines lines2 : List (List ℕ)) (cause : Cause) (before now err err2 : Option (List ℕ))
+    → stop ≡ stops.Read name → start2 ≡ start → skipped2 ≡ skipped → lines2 ≡ lines → cause ≡ CannotRead name
+    → IfStop stop (λ n. IfSome told (λ t. StoppedAt t sure start2 skipped lines2 n before now)) ⊤ → Said rose cause err err2
+    → IfSome told (λ t. (n : List ℕ) × StoppedAt t sure start skipped2 lines n before now × Said rose (CannotRead n) err err2)
+read-ended stop name told sure rose start start2 skipped skipped2 lines lines2 cause before now err err2 is s k l c h said = by told (rw is at h)
   where
-    by : (told : Option Told) → IfSome told (λ t. StoppedAt t sure schema2 skipped lines2 name before now) → IfSome told (λ t. (n : List ℕ) × StoppedAt t sure schema skipped2 lines n before now × Said rose (CannotRead n) err err2)
+    by : (told : Option Told) → IfSome told (λ t. StoppedAt t sure start2 skipped lines2 name before now) → IfSome told (λ t. (n : List ℕ) × StoppedAt t sure start skipped2 lines n before now × Said rose (CannotRead n) err err2)
     by None h = tt
     by (Some t) h = (name, rw (sym s, k, sym l) h, rw c at said)
+
+pub broken-ended : (stop : Stop) (told : Option Told) (start start2 : State) (skipped skipped2 : List ℕ) (lines lines2 : List (List ℕ)) (before now : Option (List ℕ)) → stop ≡ stops.Write → start2 ≡ start → skipped2 ≡ skipped → lines2 ≡ lines
+    → IfStop stop (λ name. ⊤) (IfSome told (λ t. StoppedWriting t start2 skipped lines2 before now)) → IfSome told (λ t. StoppedWriting t start skipped2 lines before now)
+broken-ended stop told start start2 skipped skipped2 lines lines2 before now is s k l h = go told (rw is at h)
+  where
+    go : (told : Option Told) → IfSome told (λ t. StoppedWriting t start2 skipped lines2 before now) → IfSome told (λ t. StoppedWriting t start skipped2 lines before now)
+    go None h = tt
+    go (Some t) h = rw (sym s, k, sym l) h
+
+-- a text is no longer without its mark
+pub length-unmarked : (bs : List ℕ) → length (without_mark bs) ≤ length bs
+length-unmarked bs = go (starts_with nat_eq bs mark)
+  where
+    go : (b : Bool) → length (cond b (drop 3 bs) bs) ≤ length bs
+    go true = omega (arith, length-drop 3 bs)
+    go false = omega arith
+
+pub finished-run : (told : Option Told) (names : Names) (start : State) (script skipped : List ℕ) (end : Option State) (before now : Option (List ℕ)) → IfSome told (λ t. IsStartOf t names.schema start) → IfSome told (λ t. IsScriptOf t names.script script)
+    → IfSome told (λ t. WroteAll t start skipped (script_lines script) end before now) → IfSome told (λ t. Finished t names skipped end before now)
+finished-run None names start script skipped end before now is is_script wrote = tt
+finished-run (Some t) names start script skipped end before now is is_script wrote = record { start = start; script = script; start_read = is; script_read = is_script; wrote = wrote }
+
+pub skipped-run : (told : Option Told) (names : Names) (script skipped : List ℕ) → IfSome told (λ t. IsScriptOf t names.script script) → AreSkipped (script_lines script) skipped
+    → IfSome told (λ t. MatchOption (t names.script) (skipped ≡ []) (λ bytes. AreSkipped (script_lines bytes) skipped))
+skipped-run None names script skipped is_script are = tt
+skipped-run (Some t) names script skipped is_script are = rw is_script.is_told are
+
+unrefused : (t : Told) (names : Names) (start : State) (script : List ℕ) → IsStartOf t names.schema start → IsScriptOf t names.script script → refusal_of (t names.schema) names (t names.script) ≡ None
+unrefused t names start script is is_script = rw (is.is_told, is_script.is_told, le-ltb MAX_FILE (length is.bytes) is.within, is.read, le-ltb MAX_FILE (length script) is_script.within) refl
+
+pub refusal-run : (told : Option Told) (names : Names) (start : State) (script : List ℕ) (ends : Type 0) → IfSome told (λ t. IsStartOf t names.schema start) → IfSome told (λ t. IsScriptOf t names.script script)
+    → IfSome told (λ t. IsSome (refusal_of (t names.schema) names (t names.script)) → ends)
+refusal-run None names start script ends is is_script = tt
+refusal-run (Some t) names start script ends is is_script = λ refused. absurd (go (refusal_of (t names.schema) names (t names.script)) (unrefused t names start script is is_script) refused)
+  where
+    go : (o : Option Cause) → o ≡ None → IsSome o → ⊥
+    go None e h = cc
+    go (Some cause) e h = cc
+
+pub rose-later : (first before now : ℕ) → first ≤ before → Rose before now → Rose first now
+rose-later first before now le h = omega (arith, le, h)
+
+pub complete-run : (told : Option Told) (names : Names) (status : ℕ) (files out : Type 0) → ((status ≡ 0) ⊎ (status ≡ 3) ⊎ (status ≡ 4) ⊎ (status ≡ 5)) → (status ≡ 3 → files) → (status ≡ 4 → out)
+    → IfSome told (λ t. IsNone (refusal_of (t names.schema) names (t names.script)) → (files → ⊥) → (out → ⊥) → (status ≡ 0) ⊎ (status ≡ 5))
+complete-run None names status files out known f o = tt
+complete-run (Some t) names status files out known f o = λ fine no_files no_out. go known no_files no_out
+  where
+    go : ((status ≡ 0) ⊎ (status ≡ 3) ⊎ (status ≡ 4) ⊎ (status ≡ 5)) → (files → ⊥) → (out → ⊥) → (status ≡ 0) ⊎ (status ≡ 5)
+    go (inl h) no_files no_out = inl h
+    go (inr (inl h)) no_files no_out = absurd (no_files (f h))
+    go (inr (inr (inl h))) no_files no_out = absurd (no_out (o h))
+    go (inr (inr (inr h))) no_files no_out = inr h

@@ -1,12 +1,10 @@
-pub mod Apart
-pub mod Asked
-pub mod Ended
-pub mod Names
-pub mod Refused
-pub mod Records
-pub mod Steps
-pub mod Refusals
-pub mod Told
-pub mod ClassFound
-pub mod LowersRecoded
-pub mod ClassTold
+mod Apart
+mod Asked
+mod ClassTold
+mod Ended
+mod Found
+mod Kept
+mod LowersRecoded
+mod Refusals
+mod Refused
+mod Steps

@@ -16,8 +16,8 @@ use Rattle.warehouse.specs.Stored.{refusal_in}
 use Rattle.warehouse.specs.declared.refused.Refused.{Refused}
 use Rattle.warehouse.specs.declared.refused.Refused.TheVariants as files
 use Rattle.qc_session.specs.Answers.{changed}
-use Rattle.qc_session.specs.Replies.{batch_texts, refused_text}
-use Rattle.qc_session.specs.Reply.{IsDimension}
+use Rattle.reply_text.specs.Replies.{batch_texts, refused_text}
+use Rattle.reply_text.specs.Words.{IsDimension}
 
 pub file-refused : (s : State) (line : ℕ) (outcome : Result Applied Refusal) (cause : Option Refusal) (words : List Text) (reply : List ℕ) → IfSome cause (λ r. outcome ≡ Err r)
     → Some words ≡ option_map (batch_texts s.schema) cause → reply ≡ refused_text line words → changed s line outcome ≡ record { state = s; reply = reply }

@@ -6,11 +6,10 @@ use Rattle.std.proofs.lemmas.List.Sums.{fold-append}
 use Rattle.std.proofs.lemmas.Bool.Decides.{nat_tests}
 use Rattle.std.proofs.Math.Seq.{take-append-add}
 use Rattle.qc_io.specs.Outside.{Told, taking}
-use Rattle.qc_schema.specs.Schema.{Layout}
 use Rattle.qc_session.specs.Lines.{is_passed}
-use Rattle.qc_session.specs.Replies.{memory_text}
+use Rattle.reply_text.specs.Replies.{memory_text}
 use Rattle.qc_session.specs.Answers.{answer, file_of}
-use Rattle.warehouse.specs.State.{State, empty}
+use Rattle.warehouse.specs.State.{State}
 use Rattle.qc_session.specs.Transcript.{Item, Run, is_skipped, item, items, run_at, step, transcript}
 use Rattle.qc_session.specs.Runs.{AreRising, AreSkipped, StoppedAt, StoppedWriting, Took, WroteAll, line_at, may_skip}
 use Rattle.std.specs.Prelude.{⊤}
@@ -88,58 +87,58 @@ items-push skipped n (l ∷ lines) line =
     ap (λ (more : List Item). item skipped (n + 1) l ∷ more) (items-push skipped (n + 1) lines line ∙ ap (λ m. items skipped (n + 1) lines ++ item skipped m line ∷ []) same)
 
 -- the transcript with one line more
-took-push : (t : Told) (schema : Layout) (skipped : List ℕ) (lines : List (List ℕ)) (line : List ℕ) (state : State) (replies : List ℕ) (state2 : State) (reply : List ℕ) → Took t schema skipped lines state replies
-    → Replies t skipped (length lines + 1) state line state2 reply → Took t schema skipped (lines ++ line ∷ []) state2 (replies ++ reply)
+took-push : (t : Told) (start : State) (skipped : List ℕ) (lines : List (List ℕ)) (line : List ℕ) (state : State) (replies : List ℕ) (state2 : State) (reply : List ℕ) → Took t start skipped lines state replies
+    → Replies t skipped (length lines + 1) state line state2 reply → Took t start skipped (lines ++ line ∷ []) state2 (replies ++ reply)
 unfolding transcript
-took-push t schema skipped lines line state replies state2 reply took r =
+took-push t start skipped lines line state replies state2 reply took r =
     let num : 0 + length lines + 1 ≡ length lines + 1 = omega arith in
     record {
-      is = ap (λ (xs : List Item). fold (step t) (run_at (empty schema) []) xs) (items-push skipped 0 lines line)
-          ∙ fold-append (step t) (run_at (empty schema) []) (items skipped 0 lines) (item skipped (0 + length lines + 1) line ∷ [])
+      is = ap (λ (xs : List Item). fold (step t) (run_at start []) xs) (items-push skipped 0 lines line)
+          ∙ fold-append (step t) (run_at start []) (items skipped 0 lines) (item skipped (0 + length lines + 1) line ∷ [])
           ∙ ap (λ (r : Run). step t r (item skipped (0 + length lines + 1) line)) took.is
           ∙ ap (λ m. step t (run_at state replies) (item skipped m line)) num
           ∙ r.is replies;
     }
 
-took-skips : (t : Told) (schema : Layout) (skipped new : List ℕ) (lines : List (List ℕ)) (line : List ℕ) (state : State) (replies : List ℕ) → Skips skipped (length lines + 1) line new → Took t schema skipped lines state replies → Took t schema new lines state replies
+took-skips : (t : Told) (start : State) (skipped new : List ℕ) (lines : List (List ℕ)) (line : List ℕ) (state : State) (replies : List ℕ) → Skips skipped (length lines + 1) line new → Took t start skipped lines state replies → Took t start new lines state replies
 unfolding transcript
-took-skips t schema skipped new lines line state replies (inl same) took = rw same took
-took-skips t schema skipped new lines line state replies (inr more) took =
+took-skips t start skipped new lines line state replies (inl same) took = rw same took
+took-skips t start skipped new lines line state replies (inr more) took =
     let past : 0 + length lines < length lines + 1 = omega arith in
     record { is = rw (more.0, items-later skipped 0 (length lines + 1) lines past) took.is }
 
 -- what a loop over the lines knows: out took the replies of the lines so far, in this state
-pub record WroteTo (told : Told) (schema : Layout) (skipped : List ℕ) (lines : List (List ℕ)) (state : State) (before now : Option (List ℕ)) : Type 0 where
+pub record WroteTo (told : Told) (start : State) (skipped : List ℕ) (lines : List (List ℕ)) (state : State) (before now : Option (List ℕ)) : Type 0 where
   pub replies : List ℕ
-  pub took : Took told schema skipped lines state replies
+  pub took : Took told start skipped lines state replies
   pub wrote : now ≡ taking replies before
 
-abbrev pub WroteSoFar : Option Told → Layout → List ℕ → List (List ℕ) → State → Option (List ℕ) → Option (List ℕ) → Type 0
-WroteSoFar told schema skipped lines state before now = IfSome told (λ t. WroteTo t schema skipped lines state before now)
+abbrev pub WroteSoFar : Option Told → State → List ℕ → List (List ℕ) → State → Option (List ℕ) → Option (List ℕ) → Type 0
+WroteSoFar told start skipped lines state before now = IfSome told (λ t. WroteTo t start skipped lines state before now)
 
-pub so_far-none : (told : Option Told) (schema : Layout) (state : State) (first : Option (List ℕ)) → state ≡ empty schema → WroteSoFar told schema [] [] state first first
+pub so_far-none : (told : Option Told) (start : State) (first : Option (List ℕ)) → WroteSoFar told start [] [] start first first
 unfolding transcript items
-so_far-none None schema state first e = tt
-so_far-none (Some t) schema state first e = record { replies = []; took = record { is = ap (λ (s : State). run_at s []) (sym e) }; wrote = taking-nil first }
+so_far-none None start first = tt
+so_far-none (Some t) start first = record { replies = []; took = record { is = refl }; wrote = taking-nil first }
 
 -- the lines so far with one line more
-pub so_far-push : (told : Option Told) (schema : Layout) (skipped new : List ℕ) (lines : List (List ℕ)) (line : List ℕ) (number : ℕ) (state state2 : State) (first before now : Option (List ℕ)) → length lines ≡ number
-    → Skips skipped (number + 1) line new → WroteSoFar told schema skipped lines state first before → WroteLine told new (number + 1) state line state2 before now → WroteSoFar told schema new (lines ++ line ∷ []) state2 first now
-so_far-push None schema skipped new lines line number state state2 first before now len skips w h = tt
-so_far-push (Some t) schema skipped new lines line number state state2 first before now len skips w h =
+pub so_far-push : (told : Option Told) (start : State) (skipped new : List ℕ) (lines : List (List ℕ)) (line : List ℕ) (number : ℕ) (state state2 : State) (first before now : Option (List ℕ)) → length lines ≡ number
+    → Skips skipped (number + 1) line new → WroteSoFar told start skipped lines state first before → WroteLine told new (number + 1) state line state2 before now → WroteSoFar told start new (lines ++ line ∷ []) state2 first now
+so_far-push None start skipped new lines line number state state2 first before now len skips w h = tt
+so_far-push (Some t) start skipped new lines line number state state2 first before now len skips w h =
     let (reply, gives, is) = h in
     record {
       replies = w.replies ++ reply;
-      took = took-push t schema new lines line state w.replies state2 reply (took-skips t schema skipped new lines line state w.replies (rw len skips) w.took) (rw len gives);
+      took = took-push t start new lines line state w.replies state2 reply (took-skips t start skipped new lines line state w.replies (rw len skips) w.took) (rw len gives);
       wrote = is ∙ ap (taking reply) w.wrote ∙ taking-taking w.replies reply first;
     }
 
 -- the lines so far with a part of one line's reply
-pub front-push : (told : Option Told) (schema : Layout) (skipped new : List ℕ) (lines : List (List ℕ)) (line : List ℕ) (rest : List (List ℕ)) (number : ℕ) (state state2 : State) (first before now : Option (List ℕ)) → length lines ≡ number
-    → Skips skipped (number + 1) line new → WroteSoFar told schema skipped lines state first before → WrotePart told new (number + 1) state line state2 before now → (all : List (List ℕ)) → all ≡ (lines ++ line ∷ []) ++ rest
-    → IfSome told (λ t. StoppedWriting t schema new all first now)
-front-push None schema skipped new lines line rest number state state2 first before now len skips w h all split = tt
-front-push (Some t) schema skipped new lines line rest number state state2 first before now len skips w h all split =
+pub front-push : (told : Option Told) (start : State) (skipped new : List ℕ) (lines : List (List ℕ)) (line : List ℕ) (rest : List (List ℕ)) (number : ℕ) (state state2 : State) (first before now : Option (List ℕ)) → length lines ≡ number
+    → Skips skipped (number + 1) line new → WroteSoFar told start skipped lines state first before → WrotePart told new (number + 1) state line state2 before now → (all : List (List ℕ)) → all ≡ (lines ++ line ∷ []) ++ rest
+    → IfSome told (λ t. StoppedWriting t start new all first now)
+front-push None start skipped new lines line rest number state state2 first before now len skips w h all split = tt
+front-push (Some t) start skipped new lines line rest number state state2 first before now len skips w h all split =
     let (reply, n, gives, is) = h in
     record {
       done = lines ++ line ∷ [];
@@ -149,17 +148,17 @@ front-push (Some t) schema skipped new lines line rest number state state2 first
         state = state2;
         replies = w.replies ++ reply;
         count = length w.replies + n;
-        took = took-push t schema new lines line state w.replies state2 reply (took-skips t schema skipped new lines line state w.replies (rw len skips) w.took) (rw len gives);
+        took = took-push t start new lines line state w.replies state2 reply (took-skips t start skipped new lines line state w.replies (rw len skips) w.took) (rw len gives);
         wrote = is ∙ ap (taking (take n reply)) w.wrote ∙ taking-taking w.replies (take n reply) first ∙ ap (λ (xs : List ℕ). taking xs first) (sym (take-append-add w.replies reply n));
       };
     }
 
-pub stopped-at : (told : Option Told) (sure : Type 0) (schema : Layout) (skipped new : List ℕ) (lines : List (List ℕ)) (line : List ℕ) (rest : List (List ℕ)) (name : List ℕ) (state : State) (first before now : Option (List ℕ))
-    → file_of (length state.schema.dims) line ≡ Some name → new ≡ skipped → now ≡ before → WroteSoFar told schema skipped lines state first before
+pub stopped-at : (told : Option Told) (sure : Type 0) (start : State) (skipped new : List ℕ) (lines : List (List ℕ)) (line : List ℕ) (rest : List (List ℕ)) (name : List ℕ) (state : State) (first before now : Option (List ℕ))
+    → file_of state.schema line ≡ Some name → new ≡ skipped → now ≡ before → WroteSoFar told start skipped lines state first before
     → (sure → IfSome told (λ t. t name ≡ None)) → (all : List (List ℕ)) → all ≡ lines ++ line ∷ rest
-    → IfSome told (λ t. StoppedAt t sure schema new all name first now)
-stopped-at None sure schema skipped new lines line rest name state first before now names is stays w untold all split = tt
-stopped-at (Some t) sure schema skipped new lines line rest name state first before now names is stays w untold all split = record {
+    → IfSome told (λ t. StoppedAt t sure start new all name first now)
+stopped-at None sure start skipped new lines line rest name state first before now names is stays w untold all split = tt
+stopped-at (Some t) sure start skipped new lines line rest name state first before now names is stays w untold all split = record {
   done = lines;
   line = line;
   rest = rest;
@@ -169,10 +168,10 @@ stopped-at (Some t) sure schema skipped new lines line rest name state first bef
   untold = untold;
 }
 
-pub wrote-all : (told : Option Told) (schema : Layout) (skipped : List ℕ) (lines all : List (List ℕ)) (state : State) (first now : Option (List ℕ)) → all ≡ lines ++ [] → WroteSoFar told schema skipped lines state first now
-    → IfSome told (λ t. WroteAll t schema skipped all (Some state) first now)
-wrote-all None schema skipped lines all state first now e w = tt
-wrote-all (Some t) schema skipped lines all state first now e w =
+pub wrote-all : (told : Option Told) (start : State) (skipped : List ℕ) (lines all : List (List ℕ)) (state : State) (first now : Option (List ℕ)) → all ≡ lines ++ [] → WroteSoFar told start skipped lines state first now
+    → IfSome told (λ t. WroteAll t start skipped all (Some state) first now)
+wrote-all None start skipped lines all state first now e w = tt
+wrote-all (Some t) start skipped lines all state first now e w =
     let same : all ≡ lines = e ∙ append-nil lines in
     record { wrote = record { state = state; replies = w.replies; took = rw same w.took; wrote = w.wrote }; ended = refl }
 

@@ -3,8 +3,7 @@ use Rattle.std.specs.Prelude.{ℕ, Option, Some, None, List, length, map, nat_lt
 use Rattle.std.specs.Option.{option_map}
 use Rattle.cube_defs.specs.Text.{Text, text_cmp, text_eq}
 use Rattle.cube_defs.specs.Cell.{Cell}
-use Rattle.cube_defs.specs.Rows.{Agg}
-use Rattle.cube_defs.specs.Answers.{ClassHit, class_of}
+use Rattle.cube_defs.specs.Answers.{class_of}
 use Rattle.cube_defs.specs.Tree.{classes, links, nodes, tree_edges}
 use Rattle.cube_laws.specs.Total.{agg_at}
 use Rattle.cell_core.specs.declared.fields.Field.{Field}
@@ -17,12 +16,8 @@ use Rattle.query_script.specs.declared.line.Command.{Command}
 use Rattle.query_script.specs.declared.line.Command.TheVariants as commands
 use Rattle.warehouse.specs.Batch.{Applied, Kind, Load, Apply, Refusal, result}
 use Rattle.warehouse.specs.State.{State}
-use Rattle.qc_session.specs.Replies.{applied_text, batch_texts, bounds_text, line_texts, none_text, point_text, refused_text, size_texts, stats_text}
+use Rattle.reply_text.specs.Replies.{applied_text, batch_texts, bounds_reply, line_texts, point_reply, refused_text, size_texts, stats_text}
 use Rattle.cube_defs.specs.declared.limits.TheConstants.{MAX_FILE}
-
--- the most bytes of a file
-abbrev pub limit : ℕ
-limit = MAX_FILE
 
 -- a state and a reply
 pub record Answered : Type 0 where
@@ -39,7 +34,7 @@ changed state line (Err refusal) = stays state (refused_text line (batch_texts s
 
 abbrev pub file_answer : State → ℕ → Kind → List ℕ → Answered
 file_answer state line kind bytes =
-    if nat_lt limit (length bytes) then stays state (refused_text line size_texts)
+    if nat_lt MAX_FILE (length bytes) then stays state (refused_text line size_texts)
     else changed state line (result state kind bytes)
 
 -- what a field of a point asks of its dimension: Any, or a value
@@ -53,19 +48,11 @@ entry_asked (fields.Between low high) = None
 abbrev pub cell_asked : List Field → Cell Text
 cell_asked asked = map entry_asked asked
 
--- the reply to a point, where the asked cell covers rows that come to this, or none
-abbrev pub point_reply : Layout → ℕ → Cell Text → Option Agg → List ℕ
-point_reply schema line cell None = none_text line
-point_reply schema line cell (Some agg) = point_text line cell schema.measures agg
-
+-- the answer to a point
 abbrev pub pointed : State → ℕ → Cell Text → List ℕ
 pointed state line cell = point_reply state.schema line cell (agg_at text_eq (length state.schema.measures) state.rows cell)
 
--- the reply to `bounds`, where the asked cell has this class, or none
-abbrev pub bounds_reply : Layout → ℕ → Option (ClassHit Text) → List ℕ
-bounds_reply schema line None = none_text line
-bounds_reply schema line (Some class) = bounds_text line schema.measures class
-
+-- the answer to `bounds`
 abbrev pub bounded : State → ℕ → Cell Text → List ℕ
 bounded state line cell = bounds_reply state.schema line (class_of text_cmp (length state.schema.measures) state.rows cell)
 
@@ -95,6 +82,6 @@ file_named (Ok (commands.Point asked)) = None
 file_named (Ok (commands.Bounds asked)) = None
 file_named (Ok commands.Stats) = None
 
--- the file that a line names, over so many dimensions
-abbrev pub file_of : ℕ → List ℕ → Option Text
-file_of dims line = file_named (command_in dims line)
+-- the file that a line names, over a schema
+abbrev pub file_of : Layout → List ℕ → Option Text
+file_of schema line = file_named (command_in (length schema.dims) line)

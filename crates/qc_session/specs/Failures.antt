@@ -1,25 +1,35 @@
 -- The failures of the code as causes.
-use Rattle.std.specs.Prelude.{ℕ, List, ◌≡◌, ⊤}
+use Rattle.std.specs.Prelude.{ℕ, List, ◌≡◌, Option, Some, None, IfSome, ⊤}
 use Rattle.qc_session.specs.Runs as runs
 use Rattle.qc_schema.specs.States.{Fault, NotUtf8, Line}
-use Rattle.qc_session.specs.declared.failure.SchemaFault.{SchemaFault}
-use Rattle.qc_session.specs.declared.failure.SchemaFault.TheVariants as faults
+use Rattle.qc_schema.specs.declared.refusal.SchemaRefused.{SchemaRefused}
+use Rattle.qc_schema.specs.declared.refusal.SchemaRefused.TheVariants as refusals
 use Rattle.qc_session.specs.declared.failure.Failure.{Failure}
 use Rattle.qc_session.specs.declared.failure.Failure.TheVariants as failures
 
-abbrev pub fault_in : SchemaFault → Fault
-fault_in faults.NotUtf8 = NotUtf8
-fault_in (faults.Line line cause) = Line line cause
+-- what is wrong with a text that is no schema, and nothing where memory ran out
+abbrev pub schema_fault_in : SchemaRefused → Option Fault
+schema_fault_in refusals.NotUtf8 = Some NotUtf8
+schema_fault_in (refusals.Line line cause) = Some (Line line cause)
+schema_fault_in refusals.Memory = None
+
+abbrev pub schema_cause : Option Fault → runs.Cause
+schema_cause None = runs.OutOfMemory
+schema_cause (Some fault) = runs.NoSchema fault
 
 abbrev pub cause_of : Failure → runs.Cause
 cause_of failures.Usage = runs.Usage
 cause_of (failures.CannotRead name) = runs.CannotRead name.now
 cause_of failures.CannotWrite = runs.CannotWrite
 cause_of failures.OutOfMemory = runs.OutOfMemory
-cause_of (failures.NoSchema fault) = runs.NoSchema (fault_in fault)
+cause_of (failures.NoSchema refused) = schema_cause (schema_fault_in refused)
 cause_of (failures.TooLong name) = runs.TooLong name.now
 
--- a text that tells the fault of a schema, where the failure is one
+-- a text that tells the fault of a schema, where there is one
+abbrev pub TellsFault : SchemaRefused → List ℕ → Type 0
+TellsFault refused text = IfSome (schema_fault_in refused) (λ fault. text ≡ runs.fault_text fault)
+
+-- the same, where the failure is one of a schema
 abbrev pub TellsSchema : Failure → List ℕ → Type 0
-TellsSchema (failures.NoSchema fault) text = text ≡ runs.fault_text (fault_in fault)
+TellsSchema (failures.NoSchema refused) text = TellsFault refused text
 TellsSchema failure text = ⊤

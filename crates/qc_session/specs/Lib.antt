@@ -1,11 +1,9 @@
 pub mod Lines
-pub mod Replies
-pub mod Reply
 pub mod Answers
-pub mod Points
-pub mod Classes
 pub mod Transcript
 pub mod Runs
 pub mod Stops
 pub mod Session
 pub mod Failures
+pub mod Forms
+pub mod Words

@@ -1,31 +1,19 @@
 -- How a run ends.
-use Rattle.std.specs.Prelude.{◌≡◌, ◌≤◌, ◌<◌, ◌&&◌, ◌⊎◌, ◌++◌, ℕ, zero, suc, Bool, true, not, List, [], ◌∷◌, length, take, Option, Some, None, IfSome, IsSomeAnd, codes, string_bytes, slice_index_or, decimal, Result, Ok, Err, nat_lt, option_map, ⊤, String, if◌then◌else◌}
-use Rattle.std.specs.declared.alloc.Global.{Global}
-use Rattle.std.specs.List.{AllByRecursion}
-use Rattle.std.specs.Str.{bytes_eq}
+use Rattle.std.specs.Prelude.{◌≡◌, ◌≤◌, ◌<◌, ◌&&◌, ◌⊎◌, ◌++◌, ℕ, zero, suc, Bool, true, not, List, [], ◌∷◌, length, take, Option, Some, None, IfSome, IsSome, IsSomeAnd, codes, slice_index_or, decimal, Result, Ok, Err, nat_lt, option_map, ⊤, if◌then◌else◌}
+use Rattle.std.specs.List.{All, AllByRecursion}
+use Rattle.cube_defs.specs.declared.limits.TheConstants.{MAX_FILE}
 use Rattle.qc_io.specs.Outside.{Told, taking}
 use Rattle.qc_schema.specs.Grammar.{schema_in}
 use Rattle.qc_schema.specs.Schema.{Layout}
 use Rattle.qc_schema.specs.States as schemas
 use Rattle.qc_schema.specs.declared.refusal.SchemaCause.{SchemaCause}
 use Rattle.qc_schema.specs.declared.refusal.SchemaCause.TheVariants as causes
-use Rattle.qc_session.specs.Lines.{is_passed, script_lines}
 use Rattle.query_script.specs.Lines.{may_want_memory}
-use Rattle.warehouse.specs.State.{Held, State}
-use Rattle.qc_session.specs.Answers.{file_of, limit}
+use Rattle.warehouse.specs.State.{Held, State, empty}
+use Rattle.qc_session.specs.Answers.{file_of}
+use Rattle.qc_session.specs.Forms.{Names}
+use Rattle.qc_session.specs.Lines.{is_passed, script_lines}
 use Rattle.qc_session.specs.Transcript.{run_at, transcript}
-
--- the words `run SCHEMA SCRIPT`: the names of two files
-pub record Names : Type 0 where
-  pub schema : List ℕ
-  pub script : List ℕ
-
-abbrev pub names_of : List (String Global) → Option Names
-names_of [] = None
-names_of (a ∷ []) = None
-names_of (a ∷ b ∷ []) = None
-names_of (a ∷ b ∷ c ∷ []) = if bytes_eq (string_bytes a) (codes "run") then Some (record { schema = string_bytes b; script = string_bytes c }) else None
-names_of (a ∷ b ∷ c ∷ d ∷ more) = None
 
 abbrev pub IsStatus : ℕ → Type 0
 IsStatus s = (s ≡ 0) ⊎ (s ≡ 2) ⊎ (s ≡ 3) ⊎ (s ≡ 4) ⊎ (s ≡ 5) ⊎ (s ≡ 6)
@@ -69,31 +57,39 @@ error_text OutOfMemory = codes "qcube: out of memory\n"
 error_text (NoSchema fault) = codes "qcube: schema " ++ fault_text fault ++ 10 ∷ []
 error_text (TooLong name) = codes "qcube: " ++ name ++ codes " is too long\n"
 
--- a schema that is read: the file is there, is no longer than a file may be, and spells it
-pub record IsSchemaOf (told : Told) (name : List ℕ) (schema : Layout) : Type 0 where
+-- the state at which a run starts, as the bytes of its first file tell it: they are a schema, and there are no rows
+abbrev pub at_start : Result Layout schemas.Fault → Result State schemas.Fault
+at_start (Ok schema) = Ok (empty schema)
+at_start (Err fault) = Err fault
+
+abbrev pub start_in : List ℕ → Result State schemas.Fault
+start_in bytes = at_start (schema_in bytes)
+
+-- a start that is read: the file is there, is no longer than a file may be, and tells it
+pub record IsStartOf (told : Told) (name : List ℕ) (start : State) : Type 0 where
   pub bytes : List ℕ
   pub is_told : told name ≡ Some bytes
-  pub within : length bytes ≤ limit
-  pub spelled : schema_in bytes ≡ Ok schema
+  pub within : length bytes ≤ MAX_FILE
+  pub read : start_in bytes ≡ Ok start
 
 -- a script that is read
 pub record IsScriptOf (told : Told) (name bytes : List ℕ) : Type 0 where
   pub is_told : told name ≡ Some bytes
-  pub within : length bytes ≤ limit
+  pub within : length bytes ≤ MAX_FILE
 
--- Why a run is refused before its first line: the schema is too long or is none, or else the script is too long.
-abbrev pub fault_or : Result Layout schemas.Fault → Option Cause → Option Cause
-fault_or (Ok schema) other = other
+-- Why a run is refused before its first line: the first file is too long or tells no start, or else the script is too long.
+abbrev pub fault_or : Result State schemas.Fault → Option Cause → Option Cause
+fault_or (Ok start) other = other
 fault_or (Err fault) other = Some (NoSchema fault)
 
 abbrev pub refusal_of : Option (List ℕ) → Names → Option (List ℕ) → Option Cause
 refusal_of None names script = None
 refusal_of (Some schema) names None =
-    if nat_lt limit (length schema) then Some (TooLong names.schema)
-    else fault_or (schema_in schema) None
+    if nat_lt MAX_FILE (length schema) then Some (TooLong names.schema)
+    else fault_or (start_in schema) None
 refusal_of (Some schema) names (Some script) =
-    if nat_lt limit (length schema) then Some (TooLong names.schema)
-    else fault_or (schema_in schema) (if nat_lt limit (length script) then Some (TooLong names.script) else None)
+    if nat_lt MAX_FILE (length schema) then Some (TooLong names.schema)
+    else fault_or (start_in schema) (if nat_lt MAX_FILE (length script) then Some (TooLong names.script) else None)
 
 -- the line with a number, counted from 1, and no bytes where there is none
 abbrev pub line_at : List (List ℕ) → ℕ → List ℕ
@@ -118,45 +114,45 @@ abbrev pub state_in : Option Held → Option State
 state_in end = option_map (λ held. held.state) end
 
 -- these lines were taken, and these were their replies
-pub record Took (told : Told) (schema : Layout) (skipped : List ℕ) (lines : List (List ℕ)) (state : State) (replies : List ℕ) : Type 0 where
-  pub is : transcript told schema skipped lines ≡ run_at state replies
+pub record Took (told : Told) (start : State) (skipped : List ℕ) (lines : List (List ℕ)) (state : State) (replies : List ℕ) : Type 0 where
+  pub is : transcript told start skipped lines ≡ run_at state replies
 
 -- out took the replies of these lines
-pub record Wrote (told : Told) (schema : Layout) (skipped : List ℕ) (lines : List (List ℕ)) (before now : Option (List ℕ)) : Type 0 where
+pub record Wrote (told : Told) (start : State) (skipped : List ℕ) (lines : List (List ℕ)) (before now : Option (List ℕ)) : Type 0 where
   pub state : State
   pub replies : List ℕ
-  pub took : Took told schema skipped lines state replies
+  pub took : Took told start skipped lines state replies
   pub wrote : now ≡ taking replies before
 
 -- the same, and this is the state that they left
-pub record WroteAll (told : Told) (schema : Layout) (skipped : List ℕ) (lines : List (List ℕ)) (end : Option State) (before now : Option (List ℕ)) : Type 0 where
-  pub wrote : Wrote told schema skipped lines before now
+pub record WroteAll (told : Told) (start : State) (skipped : List ℕ) (lines : List (List ℕ)) (end : Option State) (before now : Option (List ℕ)) : Type 0 where
+  pub wrote : Wrote told start skipped lines before now
   pub ended : end ≡ Some wrote.state
 
 -- out took a front of the replies of these lines
-pub record WroteFront (told : Told) (schema : Layout) (skipped : List ℕ) (lines : List (List ℕ)) (before now : Option (List ℕ)) : Type 0 where
+pub record WroteFront (told : Told) (start : State) (skipped : List ℕ) (lines : List (List ℕ)) (before now : Option (List ℕ)) : Type 0 where
   pub state : State
   pub replies : List ℕ
   pub count : ℕ
-  pub took : Took told schema skipped lines state replies
+  pub took : Took told start skipped lines state replies
   pub wrote : now ≡ taking (take count replies) before
 
 -- out took the replies of the lines before one whose file couldn't be read
-pub record StoppedAt (told : Told) (sure : Type 0) (schema : Layout) (skipped : List ℕ) (lines : List (List ℕ)) (name : List ℕ) (before now : Option (List ℕ)) : Type 0 where
+pub record StoppedAt (told : Told) (sure : Type 0) (start : State) (skipped : List ℕ) (lines : List (List ℕ)) (name : List ℕ) (before now : Option (List ℕ)) : Type 0 where
   pub done : List (List ℕ)
   pub line : List ℕ
   pub rest : List (List ℕ)
   pub split : lines ≡ done ++ line ∷ rest
-  pub wrote : Wrote told schema skipped done before now
-  pub names : file_of (length wrote.state.schema.dims) line ≡ Some name
+  pub wrote : Wrote told start skipped done before now
+  pub names : file_of wrote.state.schema line ≡ Some name
   pub untold : sure → told name ≡ None
 
 -- out took a front of the replies of some first lines
-pub record StoppedWriting (told : Told) (schema : Layout) (skipped : List ℕ) (lines : List (List ℕ)) (before now : Option (List ℕ)) : Type 0 where
+pub record StoppedWriting (told : Told) (start : State) (skipped : List ℕ) (lines : List (List ℕ)) (before now : Option (List ℕ)) : Type 0 where
   pub done : List (List ℕ)
   pub rest : List (List ℕ)
   pub split : lines ≡ done ++ rest
-  pub wrote : WroteFront told schema skipped done before now
+  pub wrote : WroteFront told start skipped done before now
 
 -- where err's count didn't rise, it took the line that tells a cause
 abbrev pub Said : Type 0 → Cause → Option (List ℕ) → Option (List ℕ) → Type 0
@@ -169,38 +165,38 @@ ReadFails told name rose sure form (CannotRead file) = (file ≡ name) × rose �
 ReadFails told name rose sure form CannotWrite = ⊥
 ReadFails told name rose sure form OutOfMemory = ⊤
 ReadFails told name rose sure form (NoSchema fault) = IfSome told (form fault)
-ReadFails told name rose sure form (TooLong file) = (file ≡ name) × IfSome told (λ t. IsSomeAnd (t name) (λ bytes. limit < length bytes))
+ReadFails told name rose sure form (TooLong file) = (file ≡ name) × IfSome told (λ t. IsSomeAnd (t name) (λ bytes. MAX_FILE < length bytes))
 
 -- the bytes of a file with this fault of a schema
 abbrev pub IsNoSchema : List ℕ → schemas.Fault → Told → Type 0
-IsNoSchema name fault t = IsSomeAnd (t name) (λ bytes. (length bytes ≤ limit) × (schema_in bytes ≡ Err fault))
+IsNoSchema name fault t = IsSomeAnd (t name) (λ bytes. (length bytes ≤ MAX_FILE) × (start_in bytes ≡ Err fault))
 
 abbrev pub IsNever : schemas.Fault → Told → Type 0
 IsNever fault t = ⊥
 
 -- the whole transcript of the script's lines was written, and the run hands back the state at its end
 pub record Finished (told : Told) (names : Names) (skipped : List ℕ) (end : Option State) (before now : Option (List ℕ)) : Type 0 where
-  pub schema : Layout
+  pub start : State
   pub script : List ℕ
-  pub schema_read : IsSchemaOf told names.schema schema
+  pub start_read : IsStartOf told names.schema start
   pub script_read : IsScriptOf told names.script script
-  pub wrote : WroteAll told schema skipped (script_lines script) end before now
+  pub wrote : WroteAll told start skipped (script_lines script) end before now
 
 -- a reply couldn't be written
 pub record BrokenOff (told : Told) (names : Names) (skipped : List ℕ) (before now : Option (List ℕ)) : Type 0 where
-  pub schema : Layout
+  pub start : State
   pub script : List ℕ
-  pub schema_read : IsSchemaOf told names.schema schema
+  pub start_read : IsStartOf told names.schema start
   pub script_read : IsScriptOf told names.script script
-  pub wrote : StoppedWriting told schema skipped (script_lines script) before now
+  pub wrote : StoppedWriting told start skipped (script_lines script) before now
 
 -- a file that a line names couldn't be read
 pub record LineUnread (told : Told) (sure : Type 0) (names : Names) (skipped : List ℕ) (name : List ℕ) (before now : Option (List ℕ)) : Type 0 where
-  pub schema : Layout
+  pub start : State
   pub script : List ℕ
-  pub schema_read : IsSchemaOf told names.schema schema
+  pub start_read : IsStartOf told names.schema start
   pub script_read : IsScriptOf told names.script script
-  pub stopped : StoppedAt told sure schema skipped (script_lines script) name before now
+  pub stopped : StoppedAt told sure start skipped (script_lines script) name before now
 
 -- the schema couldn't be read
 pub record SchemaUnread (told : Told) (sure : Type 0) (names : Names) (name : List ℕ) (before now : Option (List ℕ)) : Type 0 where
@@ -211,11 +207,21 @@ pub record SchemaUnread (told : Told) (sure : Type 0) (names : Names) (name : Li
 -- the script couldn't be read, and the schema was
 pub record ScriptUnread (told : Told) (sure : Type 0) (names : Names) (name : List ℕ) (before now : Option (List ℕ)) : Type 0 where
   pub is_script : name ≡ names.script
-  pub schema : Layout
-  pub schema_read : IsSchemaOf told names.schema schema
+  pub start : State
+  pub start_read : IsStartOf told names.schema start
   pub nothing : now ≡ before
   pub untold : sure → told name ≡ None
 
 abbrev pub Unread : Told → Type 0 → Names → List ℕ → List ℕ → Option (List ℕ) → Option (List ℕ) → Type 0
 Unread told sure names skipped name before now =
     SchemaUnread told sure names name before now ⊎ ScriptUnread told sure names name before now ⊎ LineUnread told sure names skipped name before now
+
+-- the file that a line names is told, where it names one
+abbrev pub IsLineTold : Told → Layout → List ℕ → Type 0
+IsLineTold told schema line = IfSome (file_of schema line) (λ name. IsSome (told name))
+
+-- each file that the words and the lines name is told
+pub record AllTold (told : Told) (names : Names) : Type 0 where
+  pub schema : IsSome (told names.schema)
+  pub script : IsSome (told names.script)
+  pub lines : (start : State) (script : List ℕ) → IsStartOf told names.schema start → IsScriptOf told names.script script → All (IsLineTold told start.schema) (script_lines script)

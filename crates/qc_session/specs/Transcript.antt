@@ -2,10 +2,9 @@
 use Rattle.std.specs.Prelude.{◌+◌, ◌==◌, ◌++◌, ℕ, Bool, true, false, List, [], ◌∷◌, Option, Some, None, if◌then◌else◌, fold}
 use Rattle.std.specs.List.{list_any}
 use Rattle.qc_io.specs.Outside.{Told}
-use Rattle.qc_schema.specs.Schema.{Layout}
 use Rattle.qc_session.specs.Lines.{is_passed}
-use Rattle.qc_session.specs.Replies.{memory_text}
-use Rattle.warehouse.specs.State.{State, empty}
+use Rattle.reply_text.specs.Replies.{memory_text}
+use Rattle.warehouse.specs.State.{State}
 use Rattle.qc_session.specs.Answers.{Answered, answer}
 
 -- how far a script has come: the state, the replies, and whether a file lacked
@@ -48,5 +47,6 @@ step told run item =
     else if item.skipped then record run { replies = run.replies ++ memory_text item.number }
     else answered run (answer run.state told item.number item.line)
 
-unfoldable pub transcript : Told → Layout → List ℕ → List (List ℕ) → Run
-transcript told schema skipped lines = fold (step told) (run_at (empty schema) []) (items skipped 0 lines)
+-- from the state at which a run starts
+unfoldable pub transcript : Told → State → List ℕ → List (List ℕ) → Run
+transcript told start skipped lines = fold (step told) (run_at start []) (items skipped 0 lines)

@@ -1,5 +1,5 @@
 // The answer to one line.
-ghost use Rattle.std.specs.Prelude.{Err, IfErr, IfOk, IfSome, IsTrue, None, Ok, OnErr, Some, length, option_map, true, ⊤, ◌<◌, ◌≡◌, ◌≤◌};
+ghost use Rattle.std.specs.Prelude.{Err, IfErr, IfOk, IfSome, IsTrue, None, Ok, OnErr, Some, length, option_map, true, ⊤, ◌≡◌, ◌≤◌};
 ghost use Rattle.qc_io.specs.Outside.{Rose};
 ghost use Rattle.query_script.specs.Commands.{IsCommand, wants_memory};
 ghost use Rattle.query_script.specs.Lines.{may_want_memory};
@@ -8,16 +8,15 @@ ghost use Rattle.qc_session.specs.Answers.{answer, answer_to, changed, file_answ
 
 use crate::bounds::answer_bounds;
 use crate::point::answer_point;
-use crate::reply::{
-    Reply, ShortReply, applied, refused, stats, words_of_file, words_of_line, words_of_size,
-};
 use cell_core::{Memory, Steps, Text};
 use cube_defs::MAX_FILE;
 use qc_io::{Files, ReadRefused, read_all};
 use query_script::{Command, read_line};
+use reply_text::{
+    Reply, ShortReply, applied, refused, stats, words_of_file, words_of_line, words_of_size,
+};
 use std::alloc::{AllocError, Global};
-use std::marker::Brand;
-use std::sync::ledger::{Blank, Ledger};
+use std::sync::ledger::Ledger;
 use warehouse::{Applied, Refused, Warehouse};
 
 /// What a file is taken for.
@@ -38,57 +37,43 @@ pub enum LineStop {
     Fault(Text),
 }
 
-ghost use Rattle.qc_session.specs.Reply.{kind_in, reply_bytes};
-ghost use Rattle.qc_session.specs.Stops.{MatchLineStop};
+ghost use Rattle.qc_session.specs.Stops.{MatchLineStop, kind_in};
+ghost use Rattle.reply_text.specs.Words.{reply_bytes};
 ghost use Rattle.warehouse.specs.Stored.{refusal_in};
 
-/// The most bytes of a file.
-pub const LIMIT: usize = 268_435_456;
-
-// Takes the bytes of a file, with a count of steps under the blank's name.
-fn take_counted<L: Ledger>(
+// Takes the bytes of a file.
+fn take_file<L: Ledger>(
     warehouse: &mut Warehouse,
     kind: Kind,
     bytes: &[u8],
-    blank: Blank,
+    steps: &mut Steps<L>,
 ) -> Result<Applied, Refused>
-    requires name { blank.name ≡ L.name }
-    requires parts { blank.parts ≡ L.parts }
-    requires some { 0 < L.parts }
-    requires short { length bytes.now ≤ MAX_FILE }
-    ensures applied { IfOk result (λ applied. batches.result warehouse.old.state (kind_in kind) bytes.now ≡ Ok (record { records = applied.records; classes = applied.classes; state = warehouse.new.state })) }
-    ensures refused { IfErr result (λ e. IfSome (refusal_in e) (λ refusal. batches.result warehouse.old.state (kind_in kind) bytes.now ≡ Err refusal)) }
-    ensures err { OnErr result (warehouse.new ≡ warehouse.old) }
-{
-    let mut steps = Steps::<L>::start(blank);
-    match kind {
-        Kind::Load => warehouse.load(bytes, &mut steps),
-        Kind::Apply => warehouse.apply(bytes, &mut steps),
-    }
-}
-
-// The same, where nobody looks at the count.
-fn take_file(warehouse: &mut Warehouse, kind: Kind, bytes: &[u8]) -> Result<Applied, Refused>
     requires { length bytes.now ≤ MAX_FILE }
     ensures applied { IfOk result (λ applied. batches.result warehouse.old.state (kind_in kind) bytes.now ≡ Ok (record { records = applied.records; classes = applied.classes; state = warehouse.new.state })) }
     ensures refused { IfErr result (λ e. IfSome (refusal_in e) (λ refusal. batches.result warehouse.old.state (kind_in kind) bytes.now ≡ Err refusal)) }
-    ensures err { OnErr result (warehouse.new ≡ warehouse.old) }
+    ensures state { OnErr result (warehouse.new.state ≡ warehouse.old.state) }
+    ensures tree { OnErr result (warehouse.new.tree ≡ warehouse.old.tree) }
 {
-    take_counted::<Brand>(warehouse, kind, bytes, Blank::new(1))
+    match kind {
+        Kind::Load => warehouse.load(bytes, steps),
+        Kind::Apply => warehouse.apply(bytes, steps),
+    }
 }
 
 // The same, with its reply.
-fn change(
+fn change<L: Ledger>(
     warehouse: &mut Warehouse,
     number: u32,
     kind: Kind,
     bytes: &[u8],
+    steps: &mut Steps<L>,
 ) -> Result<ShortReply, Memory>
     requires { length bytes.now ≤ MAX_FILE }
     ensures ok { IfOk result (λ reply. changed warehouse.old.state number (batches.result warehouse.old.state (kind_in kind) bytes.now) ≡ record { state = warehouse.new.state; reply = reply }) }
-    ensures err { OnErr result (warehouse.new ≡ warehouse.old) }
+    ensures state { OnErr result (warehouse.new.state ≡ warehouse.old.state) }
+    ensures tree { OnErr result (warehouse.new.tree ≡ warehouse.old.tree) }
 {
-    match take_file(warehouse, kind, bytes) {
+    match take_file(warehouse, kind, bytes, steps) {
         Ok(taken) => Ok(applied(number, taken.records, taken.classes)),
         Err(cause) => match words_of_file(cause, warehouse.schema()) {
             Some(words) => Ok(refused(number, words)),
@@ -98,24 +83,26 @@ fn change(
 }
 
 // Takes the file of a name.
-fn answer_file<F: Files>(
+fn answer_file<F: Files, L: Ledger>(
     alloc: Global,
     files: &mut F,
     warehouse: &mut Warehouse,
     number: u32,
     kind: Kind,
     name: Text,
+    steps: &mut Steps<L>,
 ) -> Result<Reply, LineStop>
     ensures later { F.faults files.old ≤ F.faults files.new }
     ensures told { F.told files.new ≡ F.told files.old }
     ensures steady { IsTrue (F.steady files.old) → IsTrue (F.steady files.new) }
-    ensures kept { OnErr result (warehouse.new ≡ warehouse.old) }
+    ensures state { OnErr result (warehouse.new.state ≡ warehouse.old.state) }
+    ensures tree { OnErr result (warehouse.new.tree ≡ warehouse.old.tree) }
     ensures fault { IfErr result (λ stop. MatchLineStop stop ⊤ (λ file. (file ≡ name) × Rose (F.faults files.old) (F.faults files.new))) }
     ensures untold { IfErr result (λ stop. MatchLineStop stop ⊤ (λ file. IsTrue (F.steady files.old) → IfSome (F.told files.old) (λ t. t file ≡ None))) }
     ensures answered { IfOk result (λ reply. IfSome (F.told files.old) (λ t. option_map (file_answer warehouse.old.state number (kind_in kind)) (t name) ≡ Some (record { state = warehouse.new.state; reply = reply_bytes reply }))) }
 {
-    match read_all(alloc, files, name.as_str(), LIMIT) {
-        Ok(bytes) => match change(warehouse, number, kind, &bytes) {
+    match read_all(alloc, files, name.as_str(), MAX_FILE) {
+        Ok(bytes) => match change(warehouse, number, kind, &bytes, steps) {
             Ok(reply) => Ok(Reply::Short(reply)),
             Err(_) => Err(LineStop::Memory),
         },
@@ -126,31 +113,49 @@ fn answer_file<F: Files>(
 }
 
 // Carries out a command, and gives its reply.
-fn answer_command<F: Files>(
+fn answer_command<F: Files, L: Ledger>(
     alloc: Global,
     files: &mut F,
     warehouse: &mut Warehouse,
     number: u32,
     command: Command,
+    steps: &mut Steps<L>,
 ) -> Result<Reply, LineStop>
     requires { IsCommand (length warehouse.old.state.schema.dims) command }
     ensures later { F.faults files.old ≤ F.faults files.new }
     ensures told { F.told files.new ≡ F.told files.old }
     ensures steady { IsTrue (F.steady files.old) → IsTrue (F.steady files.new) }
-    ensures kept { OnErr result (warehouse.new ≡ warehouse.old) }
+    ensures state { OnErr result (warehouse.new.state ≡ warehouse.old.state) }
+    ensures tree { OnErr result (warehouse.new.tree ≡ warehouse.old.tree) }
     ensures memory { IfErr result (λ stop. MatchLineStop stop (wants_memory command ≡ true) (λ file. ⊤)) }
     ensures fault { IfErr result (λ stop. MatchLineStop stop ⊤ (λ file. (file_named (Ok command) ≡ Some file) × Rose (F.faults files.old) (F.faults files.new))) }
     ensures untold { IfErr result (λ stop. MatchLineStop stop ⊤ (λ file. IsTrue (F.steady files.old) → IfSome (F.told files.old) (λ t. t file ≡ None))) }
     ensures answered { IfOk result (λ reply. IfSome (F.told files.old) (λ t. answer_to warehouse.old.state t number (Ok command) ≡ Some (record { state = warehouse.new.state; reply = reply_bytes reply }))) }
 {
     match command {
-        Command::Load(name) => answer_file(alloc, files, warehouse, number, Kind::Load, name),
-        Command::Apply(name) => answer_file(alloc, files, warehouse, number, Kind::Apply, name),
-        Command::Point(asked) => match answer_point(alloc, warehouse, number, &asked) {
+        Command::Load(name) => answer_file(
+            alloc,
+            files,
+            warehouse,
+            number,
+            Kind::Load,
+            name,
+            steps,
+        ),
+        Command::Apply(name) => answer_file(
+            alloc,
+            files,
+            warehouse,
+            number,
+            Kind::Apply,
+            name,
+            steps,
+        ),
+        Command::Point(asked) => match answer_point(alloc, warehouse, number, &asked, steps) {
             Ok(reply) => Ok(reply),
             Err(_) => Err(LineStop::Memory),
         },
-        Command::Bounds(asked) => match answer_bounds(alloc, warehouse, number, &asked) {
+        Command::Bounds(asked) => match answer_bounds(alloc, warehouse, number, &asked, steps) {
             Ok(reply) => Ok(reply),
             Err(_) => Err(LineStop::Memory),
         },
@@ -159,25 +164,27 @@ fn answer_command<F: Files>(
 }
 
 /// Carries out a line that isn't passed over, and gives its reply.
-pub fn answer_line<F: Files>(
+pub fn answer_line<F: Files, L: Ledger>(
     alloc: Global,
     files: &mut F,
     warehouse: &mut Warehouse,
     number: u32,
     line: &[u8],
+    steps: &mut Steps<L>,
 ) -> Result<Reply, LineStop>
     requires { length line.now ≤ MAX_FILE }
     ensures later { F.faults files.old ≤ F.faults files.new }
     ensures told { F.told files.new ≡ F.told files.old }
     ensures steady { IsTrue (F.steady files.old) → IsTrue (F.steady files.new) }
-    ensures kept { OnErr result (warehouse.new ≡ warehouse.old) }
-    ensures skips { IfErr result (λ stop. MatchLineStop stop (may_want_memory line.now ≡ true) (λ file. file_of (length warehouse.old.state.schema.dims) line.now ≡ Some file)) }
+    ensures state { OnErr result (warehouse.new.state ≡ warehouse.old.state) }
+    ensures tree { OnErr result (warehouse.new.tree ≡ warehouse.old.tree) }
+    ensures skips { IfErr result (λ stop. MatchLineStop stop (may_want_memory line.now ≡ true) (λ file. file_of warehouse.old.state.schema line.now ≡ Some file)) }
     ensures fault { IfErr result (λ stop. MatchLineStop stop ⊤ (λ file. Rose (F.faults files.old) (F.faults files.new))) }
     ensures untold { IfErr result (λ stop. MatchLineStop stop ⊤ (λ file. IsTrue (F.steady files.old) → IfSome (F.told files.old) (λ t. t file ≡ None))) }
     ensures answered { IfOk result (λ reply. IfSome (F.told files.old) (λ t. answer warehouse.old.state t number line.now ≡ Some (record { state = warehouse.new.state; reply = reply_bytes reply }))) }
 {
     match read_line(alloc, warehouse.schema(), line) {
-        Ok(command) => answer_command(alloc, files, warehouse, number, command),
+        Ok(command) => answer_command(alloc, files, warehouse, number, command, steps),
         Err(cause) => match words_of_line(cause) {
             Some(words) => Ok(Reply::Short(refused(number, words))),
             None => Err(LineStop::Memory),

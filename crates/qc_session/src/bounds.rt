@@ -1,50 +1,55 @@
 // The answer to a question for bounds.
 ghost use Rattle.std.specs.Option.{option_map};
-ghost use Rattle.std.specs.Prelude.{All, IfOk, IfSome, length, ◌≡◌};
+ghost use Rattle.std.specs.Prelude.{All, IfOk, IfSome, length, ◌*◌, ◌+◌, ◌^◌, ◌≡◌, ◌≤◌};
 ghost use Rattle.cube_defs.specs.Text.{text_cmp};
 ghost use Rattle.query_script.specs.Commands.{IsPointField};
 ghost use Rattle.qc_session.specs.Answers.{bounded, cell_asked};
 ghost use Rattle.cube_defs.specs.Answers.{class_of};
-ghost use Rattle.qc_session.specs.Classes.{hit_in};
+ghost use Rattle.lower_bounds.specs.Classes.{hit_in};
 ghost use Rattle.value_dict.specs.Told.{IsTold, told_hit};
-ghost use Rattle.qc_session.specs.Reply.{reply_bytes};
+ghost use Rattle.reply_text.specs.Words.{reply_bytes};
 
-use crate::class_text::bounds_reply;
-use crate::classes::{Class, find_class_uncounted};
-use crate::reply::{Reply, none};
-use cell_core::{Fields, Memory};
+use cell_core::{Fields, Memory, Steps};
+use lower_bounds::{Class, find_class};
+use reply_text::{Reply, bounds_reply, none};
 use std::alloc::Global;
+use std::sync::ledger::Ledger;
 use warehouse::Warehouse;
 
 // The class of the asked cell. None where the cell covers no row.
-fn class_asked(
+fn class_asked<L: Ledger>(
     alloc: Global,
     warehouse: &Warehouse,
     asked: &Fields,
+    steps: &mut Steps<L>,
 ) -> Result<Option<Class>, Memory>
     requires dims { length asked.now ≡ length warehouse.now.state.schema.dims }
     requires point { All IsPointField asked.now }
     ensures value { IfOk result (λ class. option_map (λ c. told_hit warehouse.now.state.texts (hit_in c)) class ≡ class_of text_cmp (length warehouse.now.state.schema.measures) warehouse.now.state.rows (cell_asked asked.now)) }
     ensures told { IfOk result (λ class. IfSome class (λ c. IsTold warehouse.now.state.texts (length warehouse.now.state.schema.measures) (hit_in c))) }
+    ensures steps { steps.new ≤ steps.old + 7 * (length warehouse.now.state.schema.dims + 1) * 2 ^ length warehouse.now.state.schema.dims }
 {
     let Some(cell) = warehouse.dict().cell_of(asked) else {
         return Ok(None);
     };
-    find_class_uncounted(alloc, warehouse.tree(), &cell)
+    find_class(alloc, warehouse.tree(), &cell, steps)
 }
 
-/// Tells the bounds of the class of a cell with Any or a value in each dimension.
-pub fn answer_bounds(
+/// Tells the bounds of the class of a cell with Any or a value in each dimension. With n dimensions
+/// it takes at most 7 (n + 1) 2^n steps.
+pub fn answer_bounds<L: Ledger>(
     alloc: Global,
     warehouse: &Warehouse,
     number: u32,
     asked: &Fields,
+    steps: &mut Steps<L>,
 ) -> Result<Reply, Memory>
     requires dims { length asked.now ≡ length warehouse.now.state.schema.dims }
     requires point { All IsPointField asked.now }
-    ensures { IfOk result (λ reply. reply_bytes reply ≡ bounded warehouse.now.state number (cell_asked asked.now)) }
+    ensures reply { IfOk result (λ reply. reply_bytes reply ≡ bounded warehouse.now.state number (cell_asked asked.now)) }
+    ensures steps { steps.new ≤ steps.old + 7 * (length warehouse.now.state.schema.dims + 1) * 2 ^ length warehouse.now.state.schema.dims }
 {
-    let Some(class) = class_asked(alloc, warehouse, asked)? else {
+    let Some(class) = class_asked(alloc, warehouse, asked, steps)? else {
         return Ok(Reply::Short(none(number)));
     };
     let reply = bounds_reply(alloc, number, warehouse.schema(), warehouse.dict(), &class)?;

@@ -1,20 +1,12 @@
 // Why a run ended before the end of its script, and the line that tells it.
 ghost use Rattle.std.specs.Prelude.{◌≡◌, ◌≤◌, ◌++◌, OnOk, length};
 ghost use Rattle.qc_io.specs.Outside.{HasCause, Rose, taking};
-ghost use Rattle.qc_session.specs.Runs.{Said, cause_text, error_text, fault_text, status_of};
+ghost use Rattle.qc_session.specs.Runs.{Said, cause_text, error_text, status_of};
 
 use arrayvec::ArrayString;
 use itoa::Buffer;
 use qc_io::{Sink, WriteFailed, write_all};
-use qc_schema::SchemaCause;
-
-/// What is wrong with the text of a schema.
-#[derive(Clone, Copy, Debug, PartialEq, Eq)]
-pub enum SchemaFault {
-    NotUtf8,
-    /// The first line that isn't right, counted from 1.
-    Line(u32, SchemaCause),
-}
+use qc_schema::{SchemaCause, SchemaRefused};
 
 /// Why a run ended before the end of its script.
 #[derive(Clone, Copy, Debug)]
@@ -27,13 +19,13 @@ pub enum Failure<'a> {
     CannotWrite,
     /// Memory ran out before the first line.
     OutOfMemory,
-    /// The schema's text has this fault.
-    NoSchema(SchemaFault),
+    /// The bytes of the schema give none, for this cause.
+    NoSchema(SchemaRefused),
     /// The file of this name has more bytes than a file may have.
     TooLong(&'a str),
 }
 
-ghost use Rattle.qc_session.specs.Failures.{TellsSchema, cause_of, fault_in};
+ghost use Rattle.qc_session.specs.Failures.{TellsFault, TellsSchema, cause_of};
 
 fn cause_word(cause: SchemaCause) -> &'static str
     ensures text { result.now ≡ cause_text cause }
@@ -49,22 +41,31 @@ fn cause_word(cause: SchemaCause) -> &'static str
     }
 }
 
-impl SchemaFault {
-    // The words that tell it.
-    fn text(self) -> ArrayString<32>
-        ensures { result.bytes ≡ fault_text (fault_in self) }
-    {
-        let mut text = ArrayString::new();
-        match self {
-            SchemaFault::NotUtf8 => text.push_str("not UTF-8"),
-            SchemaFault::Line(line, cause) => {
-                text.push_str("line ");
-                text.push_str(Buffer::new().format(line));
-                text.push_str(": ");
-                text.push_str(cause_word(cause));
-            }
+// The words that tell why bytes give no schema, where that isn't want of memory.
+fn fault_words(refused: SchemaRefused) -> ArrayString<32>
+    ensures { TellsFault refused result.bytes }
+{
+    let mut text = ArrayString::new();
+    match refused {
+        SchemaRefused::NotUtf8 => text.push_str("not UTF-8"),
+        SchemaRefused::Line { line, cause } => {
+            text.push_str("line ");
+            text.push_str(Buffer::new().format(line));
+            text.push_str(": ");
+            text.push_str(cause_word(cause));
         }
-        text
+        SchemaRefused::Memory => {}
+    }
+    text
+}
+
+impl<'a> From<SchemaRefused> for Failure<'a> {
+    ghost use Rattle.qc_session.specs.declared.failure.Failure.TheVariants as failures;
+
+    ghost from_gives = { λ refused failure. failure ≡ failures.NoSchema refused };
+
+    fn from(refused: SchemaRefused) -> Self {
+        Failure::NoSchema(refused)
     }
 }
 
@@ -77,17 +78,17 @@ impl<'a> Failure<'a> {
             Failure::Usage => 2,
             Failure::CannotRead(_) => 3,
             Failure::CannotWrite => 4,
-            Failure::OutOfMemory => 5,
+            Failure::OutOfMemory | Failure::NoSchema(SchemaRefused::Memory) => 5,
             Failure::NoSchema(_) | Failure::TooLong(_) => 6,
         }
     }
 
-    // The words that tell the fault of a schema, where it is one.
+    // The words that tell the fault of a schema, where there is one.
     fn schema_text(&self) -> ArrayString<32>
         ensures { TellsSchema self.now result.bytes }
     {
         match self {
-            Failure::NoSchema(fault) => fault.text(),
+            Failure::NoSchema(refused) => fault_words(*refused),
             _ => ArrayString::new(),
         }
     }
@@ -106,6 +107,7 @@ impl<'a> Failure<'a> {
             Failure::CannotRead(name) => ("qcube: cannot read ", name, "\n"),
             Failure::CannotWrite => ("qcube: cannot write\n", "", ""),
             Failure::OutOfMemory => ("qcube: out of memory\n", "", ""),
+            Failure::NoSchema(SchemaRefused::Memory) => ("qcube: out of memory\n", "", ""),
             Failure::NoSchema(_) => ("qcube: schema ", schema_text, "\n"),
             Failure::TooLong(name) => ("qcube: ", name, " is too long\n"),
         }

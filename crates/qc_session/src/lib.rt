@@ -2,16 +2,13 @@
 #![tactic(auto)]
 
 mod answer;
-mod answer_text;
 mod bounds;
-mod class_text;
-mod classes;
 mod failure;
 mod lines;
 mod point;
-mod reply;
 mod scripts;
 mod session;
+mod words;
 
 pub use scripts::{Outcome, run};
 

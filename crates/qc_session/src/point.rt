@@ -1,45 +1,64 @@
 // The answer to a point.
-ghost use Rattle.std.specs.Prelude.{All, IfOk, IfSome, length, option_map, ◌≡◌};
+ghost use Rattle.std.specs.Prelude.{All, IfOk, IfSome, length, option_map, ◌*◌, ◌+◌, ◌≡◌, ◌≤◌};
 ghost use Rattle.aggregates.specs.Views.{agg_in};
 ghost use Rattle.cube_defs.specs.Text.{text_eq};
 ghost use Rattle.cube_laws.specs.Total.{agg_at};
 ghost use Rattle.query_script.specs.Commands.{IsPointField};
 ghost use Rattle.qc_session.specs.Answers.{cell_asked, pointed};
-ghost use Rattle.qc_session.specs.Reply.{reply_bytes};
+ghost use Rattle.reply_text.specs.Words.{reply_bytes};
+ghost use Rattle.value_dict.specs.Told.{HasTexts, told_cell};
 
-use crate::answer_text::point_reply;
-use crate::reply::{Reply, none};
 use aggregates::Agg;
-use cell_core::{Fields, Memory};
+use cell_core::{Cell, Fields, Memory, Steps};
+use reply_text::{Reply, none, point_reply};
 use std::alloc::Global;
-use tree_search::total_uncounted;
+use std::sync::ledger::Ledger;
+use tree_search::total_at;
 use warehouse::Warehouse;
 
-// What the rows that the asked cell covers come to. None where it covers none.
-fn total_at(warehouse: &Warehouse, asked: &Fields) -> Option<Agg>
+// The codes of the asked cell, and what the rows that it covers come to. None where it covers none.
+fn total_asked<L: Ledger>(
+    warehouse: &Warehouse,
+    asked: &Fields,
+    steps: &mut Steps<L>,
+) -> Option<(Cell, Agg)>
     requires dims { length asked.now ≡ length warehouse.now.state.schema.dims }
     requires point { All IsPointField asked.now }
-    ensures value { option_map agg_in result ≡ agg_at text_eq (length warehouse.now.state.schema.measures) warehouse.now.state.rows (cell_asked asked.now) }
-    ensures measures { IfSome result (λ agg. length (agg_in agg).parts ≡ length warehouse.now.state.schema.measures) }
+    ensures value { option_map (λ found. agg_in found.1) result ≡ agg_at text_eq (length warehouse.now.state.schema.measures) warehouse.now.state.rows (cell_asked asked.now) }
+    ensures measures { IfSome result (λ found. length (agg_in found.1).parts ≡ length warehouse.now.state.schema.measures) }
+    ensures told { IfSome result (λ found. told_cell warehouse.now.state.texts found.0 ≡ cell_asked asked.now) }
+    ensures texts { IfSome result (λ found. HasTexts warehouse.now.state.texts found.0) }
+    ensures steps { steps.new ≤ steps.old + (2 * length warehouse.now.state.schema.dims + 3) }
 {
     let cell = warehouse.dict().cell_of(asked)?;
-    total_uncounted(warehouse.tree(), &cell)
+    let total = total_at(warehouse.tree(), &cell, steps)?;
+    Some((cell, total))
 }
 
-/// Answers a point that asks Any or a value of each dimension.
-pub fn answer_point(
+/// Answers a point that asks Any or a value of each dimension. With n dimensions it takes at most
+/// 2n + 3 steps.
+pub fn answer_point<L: Ledger>(
     alloc: Global,
     warehouse: &Warehouse,
     number: u32,
     asked: &Fields,
+    steps: &mut Steps<L>,
 ) -> Result<Reply, Memory>
     requires dims { length asked.now ≡ length warehouse.now.state.schema.dims }
     requires point { All IsPointField asked.now }
-    ensures { IfOk result (λ reply. reply_bytes reply ≡ pointed warehouse.now.state number (cell_asked asked.now)) }
+    ensures reply { IfOk result (λ reply. reply_bytes reply ≡ pointed warehouse.now.state number (cell_asked asked.now)) }
+    ensures steps { steps.new ≤ steps.old + (2 * length warehouse.now.state.schema.dims + 3) }
 {
-    let Some(total) = total_at(warehouse, asked) else {
+    let Some((cell, total)) = total_asked(warehouse, asked, steps) else {
         return Ok(Reply::Short(none(number)));
     };
-    let reply = point_reply(alloc, number, asked, warehouse.schema(), &total)?;
+    let reply = point_reply(
+        alloc,
+        number,
+        warehouse.schema(),
+        warehouse.dict(),
+        &cell,
+        &total,
+    )?;
     Ok(Reply::Long(reply))
 }

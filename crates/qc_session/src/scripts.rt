@@ -2,16 +2,20 @@
 ghost use Rattle.std.specs.Prelude.{◌≡◌, ◌≤◌, ◌<◌, ◌^◌, ◌⊎◌, ◌↔◌, [], Some, None, IfOk, IfErr, IfSome, IsSome, IsNone, IsTrue, is_some, true, option_map, MatchOption, length, map};
 ghost use Rattle.qc_io.specs.Outside.{Rose};
 ghost use Rattle.qc_session.specs.Lines.{lines_of, script_lines, without_cr};
-ghost use Rattle.qc_session.specs.Runs.{AreSkipped, BrokenOff, Cause, CannotRead, CannotWrite, Finished, IsNever, IsNoSchema, IsSchemaOf, IsScriptOf, IsStatus, Names, OutOfMemory, ReadFails, Said, StoppedAt, StoppedWriting, Unread, Usage, WroteAll, names_of, refusal_of, state_in, status_of};
-ghost use Rattle.warehouse.specs.State.{IsHeld};
+ghost use Rattle.qc_session.specs.Forms.{IfRun, form_of};
+ghost use Rattle.qc_session.specs.Runs.{AllTold, AreSkipped, BrokenOff, Cause, CannotRead, CannotWrite, Finished, IsNever, IsNoSchema, IsScriptOf, IsStartOf, IsStatus, OutOfMemory, ReadFails, Said, StoppedAt, StoppedWriting, Unread, Usage, WroteAll, refusal_of, state_in, status_of};
+ghost use Rattle.warehouse.specs.State.{IsHeld, empty};
 
-use crate::answer::LIMIT;
-use crate::failure::{Failure, SchemaFault, tell};
+use crate::failure::{Failure, tell};
 use crate::session::{Session, Stop, take_lines};
+use crate::words::{Form, read_words};
+use cell_core::Steps;
 use cube_defs::MAX_FILE;
 use qc_io::{Files, ReadRefused, Sink, read_all};
-use qc_schema::{Schema, SchemaRefused, read_schema, split_line, trim_mark};
+use qc_schema::{Schema, read_schema, split_line, trim_mark};
 use std::alloc::Global;
+use std::marker::Brand;
+use std::sync::ledger::{Blank, Ledger};
 use warehouse::Warehouse;
 
 /// How a run ended.
@@ -42,19 +46,6 @@ fn count_lines(text: &[u8]) -> usize
     count
 }
 
-// The names of the schema and the script in the words.
-fn names_in(words: &[String]) -> Option<(&str, &str)>
-    ensures { option_map (λ p. record { schema = p.0.now; script = p.1.now }) result ≡ names_of words.now }
-{
-    match words {
-        [word, schema, script] if word.as_str() == "run" => Some((
-            schema.as_str(),
-            script.as_str(),
-        )),
-        _ => None,
-    }
-}
-
 // Ends a run before its first line.
 fn fail<E: Sink>(alloc: Global, err: &mut E, failure: &Failure<'_>) -> Outcome
     ensures status { result.status ≡ status_of (cause_of failure.now) }
@@ -83,7 +74,7 @@ fn read_named<'a, F: Files>(
     ensures short { IfOk result (λ bytes. length bytes.items ≤ MAX_FILE) }
     ensures err { IfErr result (λ f. ReadFails (F.told files.old) name.now (Rose (F.faults files.old) (F.faults files.new)) (IsTrue (F.steady files.old)) IsNever (cause_of f)) }
 {
-    match read_all(alloc, files, name, LIMIT) {
+    match read_all(alloc, files, name, MAX_FILE) {
         Ok(bytes) => Ok(bytes),
         Err(ReadRefused::Failed) => Err(Failure::CannotRead(name)),
         Err(ReadRefused::TooLong) => Err(Failure::TooLong(name)),
@@ -100,21 +91,11 @@ fn read_named_schema<'a, F: Files>(
     ensures later { F.faults files.old ≤ F.faults files.new }
     ensures told { F.told files.new ≡ F.told files.old }
     ensures steady { IsTrue (F.steady files.old) → IsTrue (F.steady files.new) }
-    ensures ok { IfOk result (λ schema. IfSome (F.told files.old) (λ t. IsSchemaOf t name.now schema)) }
+    ensures ok { IfOk result (λ schema. IfSome (F.told files.old) (λ t. IsStartOf t name.now (empty schema))) }
     ensures err { IfErr result (λ f. ReadFails (F.told files.old) name.now (Rose (F.faults files.old) (F.faults files.new)) (IsTrue (F.steady files.old)) (IsNoSchema name.now) (cause_of f)) }
 {
-    let bytes = match read_named(alloc, files, name) {
-        Ok(bytes) => bytes,
-        Err(failure) => return Err(failure),
-    };
-    match read_schema(alloc, &bytes) {
-        Ok(schema) => Ok(schema),
-        Err(SchemaRefused::NotUtf8) => Err(Failure::NoSchema(SchemaFault::NotUtf8)),
-        Err(SchemaRefused::Line { line, cause }) => Err(Failure::NoSchema(SchemaFault::Line(
-            line, cause,
-        ))),
-        Err(SchemaRefused::Memory) => Err(Failure::OutOfMemory),
-    }
+    let bytes = read_named(alloc, files, name)?;
+    Ok(read_schema(alloc, &bytes)?)
 }
 
 // Ends a run at the end of its script.
@@ -145,29 +126,33 @@ fn stopped(status: u8, session: Session) -> Outcome
     }
 }
 
-// Takes the lines of a script over a schema.
-fn run_script<F: Files, O: Sink, E: Sink>(
+// Takes the lines of a script over a schema, with one count of steps under the blank's name.
+fn run_script<F: Files, O: Sink, E: Sink, L: Ledger>(
     alloc: Global,
     files: &mut F,
     out: &mut O,
     err: &mut E,
     schema: Schema,
     script: &[u8],
+    blank: Blank,
 ) -> Outcome
-    requires { length script.now ≤ MAX_FILE }
+    requires short { length script.now ≤ MAX_FILE }
+    requires name { blank.name ≡ L.name }
+    requires parts { blank.parts ≡ L.parts }
+    requires some { 0 < L.parts }
     ensures known { (result.status ≡ 0) ⊎ (result.status ≡ 3) ⊎ (result.status ≡ 4) ⊎ (result.status ≡ 5) }
     ensures skipped { AreSkipped (script_lines script.now) result.skipped.items }
-    ensures all { result.status ≡ 0 → IfSome (F.told files.old) (λ t. WroteAll t schema result.skipped.items (script_lines script.now) (state_in result.end) (O.taken out.old) (O.taken out.new)) }
+    ensures all { result.status ≡ 0 → IfSome (F.told files.old) (λ t. WroteAll t (empty schema) result.skipped.items (script_lines script.now) (state_in result.end) (O.taken out.old) (O.taken out.new)) }
     ensures held { IfSome result.end IsHeld }
     ensures there { result.status ≡ 0 → is_some result.end ≡ true }
     ensures none { (result.status ≡ 0 → ⊥) → result.end ≡ None }
     ensures silent { result.status ≡ 0 → err.new ≡ err.old }
     ensures read_fault { result.status ≡ 3 → Rose (F.faults files.old) (F.faults files.new) }
     ensures unread { result.status ≡ 3 → IfSome (F.told files.old) (λ t. (name : List ℕ)
-        × StoppedAt t (IsTrue (F.steady files.old)) schema result.skipped.items (script_lines script.now) name (O.taken out.old) (O.taken out.new)
+        × StoppedAt t (IsTrue (F.steady files.old)) (empty schema) result.skipped.items (script_lines script.now) name (O.taken out.old) (O.taken out.new)
         × Said (Rose (E.faults err.old) (E.faults err.new)) (CannotRead name) (E.taken err.old) (E.taken err.new)) }
     ensures write_fault { result.status ≡ 4 → Rose (O.faults out.old) (O.faults out.new) }
-    ensures broken { result.status ≡ 4 → IfSome (F.told files.old) (λ t. StoppedWriting t schema result.skipped.items (script_lines script.now) (O.taken out.old) (O.taken out.new)) }
+    ensures broken { result.status ≡ 4 → IfSome (F.told files.old) (λ t. StoppedWriting t (empty schema) result.skipped.items (script_lines script.now) (O.taken out.old) (O.taken out.new)) }
     ensures said_write { result.status ≡ 4 → Said (Rose (E.faults err.old) (E.faults err.new)) CannotWrite (E.taken err.old) (E.taken err.new) }
     ensures nothing { result.status ≡ 5 → (O.taken out.new ≡ O.taken out.old) × (result.skipped.items ≡ []) }
     ensures said_memory { result.status ≡ 5 → Said (Rose (E.faults err.old) (E.faults err.new)) OutOfMemory (E.taken err.old) (E.taken err.new) }
@@ -184,7 +169,8 @@ fn run_script<F: Files, O: Sink, E: Sink>(
         warehouse,
         skipped,
     };
-    match take_lines(alloc, files, out, &mut session, script) {
+    let mut steps = Steps::<L>::start(blank);
+    match take_lines(alloc, files, out, &mut session, script, &mut steps) {
         Ok(()) => finished(session),
         Err(Stop::Read(name)) => {
             tell(err, &Failure::CannotRead(name.as_str()));
@@ -218,48 +204,49 @@ pub fn run<F: Files, O: Sink, E: Sink>(
     ensures known { IsStatus result.status }
 
     // Status 0: the transcript, whole.
-    ensures transcript { result.status ≡ 0 → IfSome (names_of words.now) (λ names. IfSome (F.told files.old)
+    ensures transcript { result.status ≡ 0 → IfRun (form_of words.now) (λ names. IfSome (F.told files.old)
         (λ t. Finished t names result.skipped.items (state_in result.end) (O.taken out.old) (O.taken out.new))) }
     ensures silent { result.status ≡ 0 → err.new ≡ err.old }
     ensures ended { result.status ≡ 0 → is_some result.end ≡ true }
     ensures held { IfSome result.end IsHeld }
     ensures no_end { (result.status ≡ 0 → ⊥) → result.end ≡ None }
-    ensures skipped { IfSome (names_of words.now) (λ names. IfSome (F.told files.old)
+    ensures skipped { IfRun (form_of words.now) (λ names. IfSome (F.told files.old)
         (λ t. MatchOption (t names.script) (result.skipped.items ≡ []) (λ script. AreSkipped (script_lines script) result.skipped.items))) }
 
     // Status 2: the words.
-    ensures usage { result.status ≡ 2 ↔ IsNone (names_of words.now) }
+    ensures usage { result.status ≡ 2 ↔ IsNone (form_of words.now) }
     ensures unopened { result.status ≡ 2 → (files.new ≡ files.old) × (out.new ≡ out.old) × (result.skipped.items ≡ []) }
     ensures said_usage { result.status ≡ 2 → Said (Rose (E.faults err.old) (E.faults err.new)) Usage (E.taken err.old) (E.taken err.new) }
 
     // Status 3: a fault of the files.
     ensures read_fault { result.status ≡ 3 → Rose (F.faults files.old) (F.faults files.new) }
-    ensures unread { result.status ≡ 3 → IfSome (names_of words.now) (λ names. IfSome (F.told files.old) (λ t. (name : List ℕ)
+    ensures unread { result.status ≡ 3 → IfRun (form_of words.now) (λ names. IfSome (F.told files.old) (λ t. (name : List ℕ)
         × Unread t (IsTrue (F.steady files.old)) names result.skipped.items name (O.taken out.old) (O.taken out.new)
         × Said (Rose (E.faults err.old) (E.faults err.new)) (CannotRead name) (E.taken err.old) (E.taken err.new))) }
 
     // Status 4: a fault of out.
     ensures write_fault { result.status ≡ 4 → Rose (O.faults out.old) (O.faults out.new) }
-    ensures broken_off { result.status ≡ 4 → IfSome (names_of words.now) (λ names. IfSome (F.told files.old)
+    ensures broken_off { result.status ≡ 4 → IfRun (form_of words.now) (λ names. IfSome (F.told files.old)
         (λ t. BrokenOff t names result.skipped.items (O.taken out.old) (O.taken out.new))) }
     ensures said_write { result.status ≡ 4 → Said (Rose (E.faults err.old) (E.faults err.new)) CannotWrite (E.taken err.old) (E.taken err.new) }
 
     // Status 5 and 6: nothing was begun.
     ensures nothing { (result.status ≡ 5) ⊎ (result.status ≡ 6) → (O.taken out.new ≡ O.taken out.old) × (result.skipped.items ≡ []) }
     ensures said_memory { result.status ≡ 5 → Said (Rose (E.faults err.old) (E.faults err.new)) OutOfMemory (E.taken err.old) (E.taken err.new) }
-    ensures refused { result.status ≡ 6 → IfSome (names_of words.now) (λ names. IfSome (F.told files.old) (λ t. (cause : Cause)
+    ensures refused { result.status ≡ 6 → IfRun (form_of words.now) (λ names. IfSome (F.told files.old) (λ t. (cause : Cause)
         × (refusal_of (t names.schema) names (t names.script) ≡ Some cause)
         × Said (Rose (E.faults err.old) (E.faults err.new)) cause (E.taken err.old) (E.taken err.new))) }
 
     // A refused schema or script ends with 6, unless memory or a fault came first. All else is carried out.
-    ensures refusal { IfSome (names_of words.now) (λ names. IfSome (F.told files.old) (λ t.
+    ensures refusal { IfRun (form_of words.now) (λ names. IfSome (F.told files.old) (λ t.
         IsSome (refusal_of (t names.schema) names (t names.script)) → (result.status ≡ 6) ⊎ (result.status ≡ 5) ⊎ (result.status ≡ 3))) }
-    ensures complete { IfSome (names_of words.now) (λ names. IfSome (F.told files.old) (λ t.
+    ensures complete { IfRun (form_of words.now) (λ names. IfSome (F.told files.old) (λ t.
         IsNone (refusal_of (t names.schema) names (t names.script))
         → (Rose (F.faults files.old) (F.faults files.new) → ⊥) → (Rose (O.faults out.old) (O.faults out.new) → ⊥)
         → (result.status ≡ 0) ⊎ (result.status ≡ 5))) }
+    ensures found { IsTrue (F.steady files.old) → IfRun (form_of words.now) (λ names. IfSome (F.told files.old) (λ t. AllTold t names → result.status ≡ 3 → ⊥)) }
 {
-    let Some((schema_name, script_name)) = names_in(words) else {
+    let Form::Run(schema_name, script_name) = read_words(words) else {
         return fail(alloc, err, &Failure::Usage);
     };
     let schema = match read_named_schema(alloc, files, schema_name) {
@@ -270,5 +257,5 @@ pub fn run<F: Files, O: Sink, E: Sink>(
         Ok(script) => script,
         Err(failure) => return fail(alloc, err, &failure),
     };
-    run_script(alloc, files, out, err, schema, &script)
+    run_script::<F, O, E, Brand>(alloc, files, out, err, schema, &script, Blank::new(1))
 }

@@ -3,17 +3,17 @@ ghost use Rattle.std.specs.Prelude.{◌≡◌, ◌≤◌, ◌<◌, ◌^◌, ◌+
 ghost use Rattle.qc_io.specs.Outside.{Rose, Told};
 ghost use Rattle.qc_session.specs.Lines.{lines_of, without_cr};
 ghost use Rattle.qc_session.specs.Answers.{file_of};
-ghost use Rattle.warehouse.specs.State.{State, empty};
 ghost use Rattle.qc_session.specs.Runs.{AreSkipped, StoppedAt, StoppedWriting, WroteAll};
 
 use crate::answer::{LineStop, answer_line};
 use crate::lines::is_passed_over;
-use crate::reply;
-use cell_core::Text;
+use cell_core::{Steps, Text};
 use cube_defs::MAX_FILE;
 use qc_io::{Files, Sink, write_all};
 use qc_schema::{split_line, trim_cr};
+use reply_text::memory;
 use std::alloc::Global;
+use std::sync::ledger::Ledger;
 use warehouse::Warehouse;
 
 /// Why a script ended before its last line.
@@ -36,12 +36,13 @@ pub struct Session {
 ghost use Rattle.qc_session.specs.Session.{IfStop, Skips, WroteLine, WrotePart, AreUpTo};
 
 // Takes one line.
-fn take_line<F: Files, O: Sink>(
+fn take_line<F: Files, O: Sink, L: Ledger>(
     alloc: Global,
     files: &mut F,
     out: &mut O,
     session: &mut Session,
     line: &[u8],
+    steps: &mut Steps<L>,
 ) -> Result<(), Stop>
     requires room { vec_len session.old.skipped < vec_capacity session.old.skipped }
     requires short { length line.now ≤ MAX_FILE }
@@ -52,7 +53,7 @@ fn take_line<F: Files, O: Sink>(
     ensures told { F.told files.new ≡ F.told files.old }
     ensures steady { IsTrue (F.steady files.old) → IsTrue (F.steady files.new) }
     ensures read_fault { IfErr result (λ stop. IfStop stop (λ name. Rose (F.faults files.old) (F.faults files.new)) ⊤) }
-    ensures names { IfErr result (λ stop. IfStop stop (λ name. file_of (length session.old.warehouse.state.schema.dims) line.now ≡ Some name) ⊤) }
+    ensures names { IfErr result (λ stop. IfStop stop (λ name. file_of session.old.warehouse.state.schema line.now ≡ Some name) ⊤) }
     ensures untold { IfErr result (λ stop. IfStop stop (λ name. IsTrue (F.steady files.old) → IfSome (F.told files.old) (λ t. t name ≡ None)) ⊤) }
     ensures write_fault { IfErr result (λ stop. IfStop stop (λ name. ⊤) (Rose (O.faults out.old) (O.faults out.new))) }
     ensures stays { IfErr result (λ stop. IfStop stop (λ name. (O.taken out.new ≡ O.taken out.old) × (session.new.skipped.items ≡ session.old.skipped.items)) ⊤) }
@@ -70,14 +71,14 @@ fn take_line<F: Files, O: Sink>(
     if is_passed_over(line) {
         return Ok(());
     }
-    match answer_line(alloc, files, &mut session.warehouse, number, line) {
+    match answer_line(alloc, files, &mut session.warehouse, number, line, steps) {
         Ok(reply) => match write_all(out, reply.as_bytes()) {
             Ok(()) => Ok(()),
             Err(_) => Err(Stop::Write),
         },
         Err(LineStop::Memory) => {
             session.skipped.push(number).unwrap();
-            let reply = reply::memory(number);
+            let reply = memory(number);
             match write_all(out, reply.as_bytes()) {
                 Ok(()) => Ok(()),
                 Err(_) => Err(Stop::Write),
@@ -88,33 +89,33 @@ fn take_line<F: Files, O: Sink>(
 }
 
 /// Takes the lines of a script in order, from its first line on.
-pub fn take_lines<F: Files, O: Sink>(
+pub fn take_lines<F: Files, O: Sink, L: Ledger>(
     alloc: Global,
     files: &mut F,
     out: &mut O,
     session: &mut Session,
     script: &[u8],
+    steps: &mut Steps<L>,
 ) -> Result<(), Stop>
     requires room { length (lines_of script.now) ≤ vec_capacity session.old.skipped }
     requires few { length (lines_of script.now) < 2 ^ 32 }
     requires short { length script.now ≤ MAX_FILE }
     requires fresh { (session.old.number ≡ 0) × (session.old.skipped.items ≡ []) }
-    requires state { session.old.warehouse.state ≡ empty session.old.warehouse.state.schema }
     ensures later_files { F.faults files.old ≤ F.faults files.new }
     ensures later_out { O.faults out.old ≤ O.faults out.new }
     ensures read_fault { IfErr result (λ stop. IfStop stop (λ name. Rose (F.faults files.old) (F.faults files.new)) ⊤) }
     ensures write_fault { IfErr result (λ stop. IfStop stop (λ name. ⊤) (Rose (O.faults out.old) (O.faults out.new))) }
     ensures skipped { AreSkipped (map without_cr (lines_of script.now)) session.new.skipped.items }
-    ensures all { OnOk result (IfSome (F.told files.old) (λ t. WroteAll t session.old.warehouse.state.schema session.new.skipped.items (map without_cr (lines_of script.now)) (Some session.new.warehouse.state) (O.taken out.old) (O.taken out.new))) }
-    ensures before { IfErr result (λ stop. IfStop stop (λ name. IfSome (F.told files.old) (λ t. StoppedAt t (IsTrue (F.steady files.old)) session.old.warehouse.state.schema session.new.skipped.items
+    ensures all { OnOk result (IfSome (F.told files.old) (λ t. WroteAll t session.old.warehouse.state session.new.skipped.items (map without_cr (lines_of script.now)) (Some session.new.warehouse.state) (O.taken out.old) (O.taken out.new))) }
+    ensures before { IfErr result (λ stop. IfStop stop (λ name. IfSome (F.told files.old) (λ t. StoppedAt t (IsTrue (F.steady files.old)) session.old.warehouse.state session.new.skipped.items
         (map without_cr (lines_of script.now)) name (O.taken out.old) (O.taken out.new))) ⊤) }
-    ensures part { IfErr result (λ stop. IfStop stop (λ name. ⊤) (IfSome (F.told files.old) (λ t. StoppedWriting t session.old.warehouse.state.schema session.new.skipped.items
+    ensures part { IfErr result (λ stop. IfStop stop (λ name. ⊤) (IfSome (F.told files.old) (λ t. StoppedWriting t session.old.warehouse.state session.new.skipped.items
         (map without_cr (lines_of script.now)) (O.taken out.old) (O.taken out.new)))) }
 {
     let mut rest = script;
     'lines: while !rest.is_empty() {
         let (line, behind) = split_line(rest);
-        match take_line(alloc, files, out, session, trim_cr(line)) {
+        match take_line(alloc, files, out, session, trim_cr(line), steps) {
             Ok(()) => rest = behind,
             Err(stop) => return Err(stop),
         }

@@ -1,5 +1,4 @@
-use Rattle.std.proofs.Common.{◌∙◌, ap, sym}
-use Rattle.warehouse.specs.State.{Held}
+use Rattle.std.proofs.Common.{◌∙◌, sym}
 use Rattle.qc_session.proofs.Steps.{part-answer, part-memory, wrote-answer, wrote-memory, wrote-passed}
 use Rattle.qc_session.proofs.session.take_line.Goals as goal
 
@@ -16,12 +15,12 @@ returns-in-Ok-clause-part g c =
 pub returns-in-Ok-write_all-2-clause-wrote : goal.returns-in-Ok-write_all-2-clause-wrote
 returns-in-Ok-write_all-2-clause-wrote g c =
     let w = rw (c.as_bytes-in-Err-Memory.ensures, c.memory-reply.ensures) at c.in-Ok-write_all-2.ensures.all in
-    wrote-memory (g.F.Files.told c.args.files.now) c.args.session.now.skipped.items _ c.args.session.now.number _ _ _ _ _ (sym c.is_passed_over.ensures ∙ c.if-is_passed_over.false) (rw c.unwrap.ensures at c.push.ensures.items) (ap (λ (held : Held). held.state) c.in-Err-Memory.ensures.kept) w
+    wrote-memory (g.F.Files.told c.args.files.now) c.args.session.now.skipped.items _ c.args.session.now.number _ _ _ _ _ (sym c.is_passed_over.ensures ∙ c.if-is_passed_over.false) (rw c.unwrap.ensures at c.push.ensures.items) c.in-Err-Memory.ensures.state w
 
 pub returns-in-Err-Memory-clause-part : goal.returns-in-Err-Memory-clause-part
 returns-in-Err-Memory-clause-part g c =
     let w = rw (c.as_bytes-in-Err-Memory.ensures, c.memory-reply.ensures) at c.in-Err-write_all.ensures.part in
-    part-memory (g.F.Files.told c.args.files.now) c.args.session.now.skipped.items _ c.args.session.now.number _ _ _ c.in-Err-write_all.field-0.written _ _ (sym c.is_passed_over.ensures ∙ c.if-is_passed_over.false) (rw c.unwrap.ensures at c.push.ensures.items) (ap (λ (held : Held). held.state) c.in-Err-Memory.ensures.kept) w
+    part-memory (g.F.Files.told c.args.files.now) c.args.session.now.skipped.items _ c.args.session.now.number _ _ _ c.in-Err-write_all.field-0.written _ _ (sym c.is_passed_over.ensures ∙ c.if-is_passed_over.false) (rw c.unwrap.ensures at c.push.ensures.items) c.in-Err-Memory.ensures.state w
 
 pub returns-then-is_passed_over-clause-wrote : goal.returns-then-is_passed_over-clause-wrote
 returns-then-is_passed_over-clause-wrote g c =

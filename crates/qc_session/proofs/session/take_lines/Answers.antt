@@ -22,7 +22,7 @@ lines-init g c = record {
     refl,
     sym c.requires.fresh.0,
     rw c.requires.fresh.1 (record { rising = tt; commands = tt }),
-    rw c.requires.fresh.1 (so_far-none _ _ _ _ c.requires.state),
+    rw c.requires.fresh.1 (so_far-none _ _ _),
   );
 }
 
@@ -86,7 +86,7 @@ returns-in-Err-clause-before g c =
     ap (map without_cr) c.split_line.ensures.lines ∙ ap (λ (line : List ℕ). line ∷ map without_cr (lines_of c.split_line.result.1.now)) (sym c.trim_cr.ensures.value) in
     let (done, all, len, skipped, wrote) = inv.so_far in
     if_read c.in-Err.stop
-    (λ name. file_of (length c.lines.session.warehouse.state.schema.dims) c.trim_cr.result.now ≡ Some name)
+    (λ name. file_of c.lines.session.warehouse.state.schema c.trim_cr.result.now ≡ Some name)
     (λ name. (g.O.Sink.taken c.take_line.new.out ≡ g.O.Sink.taken c.lines.out) × (c.take_line.new.session.skipped.items ≡ c.lines.session.skipped.items))
     (λ name. IsTrue (g.F.Files.steady c.lines.files) → IfSome told (λ t. t name ≡ None))
     _

@@ -1,4 +1,5 @@
 use Rattle.std.proofs.Common.{◌≡◌, ◌≤◌, ◌<◌, ◌+◌, ◌++◌, ◌^◌, ℕ, List, length, map, true, vec_len, vec_capacity}
+use Rattle.cube_defs.specs.declared.limits.TheConstants.{MAX_FILE}
 use Rattle.qc_session.specs.Lines.{lines_of, without_cr}
 use Rattle.qc_session.specs.Runs.{AreSkipped}
 use Rattle.qc_session.specs.Session.{AreUpTo}
@@ -12,13 +13,13 @@ invariant-lines g l = record {
   told : g.F.Files.told l.files ≡ g.F.Files.told l.fn.files;
   steady : g.F.Files.steady l.fn.files ≡ true → g.F.Files.steady l.files ≡ true;
   room : vec_len l.session.skipped + length (lines_of l.rest) ≤ vec_capacity l.session.skipped;
-  short : length l.rest ≤ 268435456;
+  short : length l.rest ≤ MAX_FILE;
   few : l.session.number + length (lines_of l.rest) < 2 ^ 32;
   up_to : AreUpTo l.session.number l.session.skipped.items;
   so_far : (done : List (List ℕ)) × (map without_cr (lines_of l.script) ≡ done ++ map without_cr (lines_of l.rest))
       × (length done ≡ l.session.number)
       × AreSkipped done l.session.skipped.items
-      × WroteSoFar (g.F.Files.told l.fn.files) l.fn.session.warehouse.state.schema l.session.skipped.items done l.session.warehouse.state (g.O.Sink.taken l.fn.out) (g.O.Sink.taken l.out);
+      × WroteSoFar (g.F.Files.told l.fn.files) l.fn.session.warehouse.state l.session.skipped.items done l.session.warehouse.state (g.O.Sink.taken l.fn.out) (g.O.Sink.taken l.out);
 }
 
 abbrev pub decreases-lines : goal.decreases-lines

@@ -1,6 +1,0 @@
-use Rattle.std.proofs.Common.{arith}
-use Rattle.qc_session.proofs.Records.{part-there}
-use Rattle.qc_session.proofs.answer_text.part_at.Goals as goal
-
-pub returns-clause-there : goal.returns-clause-there
-returns-clause-there c = part-there c.args.agg.now c.args.measure c.requires (omega arith)

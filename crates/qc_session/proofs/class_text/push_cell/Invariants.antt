@@ -1,8 +1,0 @@
-use Rattle.std.proofs.Common.{◌≡◌, ◌++◌, map, take}
-use Rattle.value_dict.specs.Told.{told_cell}
-use Rattle.qc_session.specs.Points.{fields_text}
-use Rattle.qc_session.specs.Replies.{entry_text}
-use Rattle.qc_session.proofs.class_text.push_cell.Given as goal
-
-abbrev pub invariant-dims : goal.invariant-dims
-invariant-dims l = l.out.items ≡ l.fn.out.items ++ fields_text (map entry_text (told_cell l.dict.lists (take l.dim l.cell)))

@@ -1,8 +1,0 @@
-use Rattle.std.proofs.Common.{◌≡◌, ◌++◌, map, take}
-use Rattle.std.specs.List.{flat_map}
-use Rattle.value_dict.specs.Told.{told_cell}
-use Rattle.qc_session.specs.Replies.{lower_text}
-use Rattle.qc_session.proofs.class_text.push_lowers.Given as goal
-
-abbrev pub invariant-cells : goal.invariant-cells
-invariant-cells l = l.out.items ≡ l.fn.out.items ++ flat_map (lower_text l.line) (map (told_cell l.dict.lists) (take l.k l.cells))

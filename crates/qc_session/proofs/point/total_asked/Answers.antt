@@ -1,0 +1,64 @@
+use Rattle.std.proofs.Common.{◌∙◌, Some, arith, sym, ap}
+use Rattle.std.specs.Prelude.{length, option_map}
+use Rattle.aggregates.specs.Views.{agg_in}
+use Rattle.warehouse.specs.State.{source_of}
+use Rattle.qc_session.specs.Answers.{cell_asked}
+use Rattle.qc_session.proofs.Asked.{length-found, measured, total-at, total-found, total-none}
+use Rattle.qc_session.proofs.ClassTold.{asked-texts, asked-told}
+use Rattle.qc_session.proofs.point.total_asked.Goals as goal
+
+pub returns-in_err-cell-clause-value : goal.returns-in_err-cell-clause-value
+returns-in_err-cell-clause-value g c =
+    let s = c.args.warehouse.now.state in
+    let none = total-none s.texts c.dict.result.now.lists (length s.schema.measures) s.rows c.args.asked.now c.dict.ensures.texts (c.requires.dims ∙ sym c.dict.ensures.valid.state.lists) c.dict.ensures.valid.state.known c.requires.point (sym c.cell_of.ensures ∙ c.in_err-cell.was) in
+    ap (option_map (λ found. agg_in found.1)) c.from_residual.ensures ∙ sym none
+
+pub total_at-requires-clause-dims : goal.total_at-requires-clause-dims
+total_at-requires-clause-dims g c =
+    length-found c.dict.result.now.lists c.args.asked.now c.in_ok-cell.cell (sym c.cell_of.ensures ∙ c.in_ok-cell.was) ∙ c.requires.dims ∙ sym c.tree.ensures.width
+
+pub total_at-requires-clause-tree : goal.total_at-requires-clause-tree
+total_at-requires-clause-tree g c =
+    (source_of c.args.warehouse.now.state, rw (c.tree.ensures.width, c.tree.ensures.value) c.tree.ensures.valid.tree)
+
+pub returns-in_err-total-clause-value : goal.returns-in_err-total-clause-value
+returns-in_err-total-clause-value g c =
+    let s = c.args.warehouse.now.state in
+    ap (option_map (λ found. agg_in found.1)) c.from_residual-in_err-total.ensures
+    ∙ sym (ap (option_map agg_in) c.in_err-total.was)
+    ∙ c.total_at.ensures.value (source_of s) (rw (c.tree.ensures.width, c.tree.ensures.value) c.tree.ensures.valid.tree)
+    ∙ total-at (source_of s) c.in_ok-cell.cell
+    ∙ total-found s.texts c.dict.result.now.lists (length s.schema.measures) s.rows c.args.asked.now c.in_ok-cell.cell c.dict.ensures.texts c.dict.ensures.valid.state.known c.requires.point (sym c.cell_of.ensures ∙ c.in_ok-cell.was)
+
+pub returns-in_err-total-clause-steps : goal.returns-in_err-total-clause-steps
+returns-in_err-total-clause-steps g c =
+    let long = length-found c.dict.result.now.lists c.args.asked.now c.in_ok-cell.cell (sym c.cell_of.ensures ∙ c.in_ok-cell.was) ∙ c.requires.dims in
+    omega (arith, c.total_at.ensures.steps, long)
+
+pub returns-clause-value : goal.returns-clause-value
+returns-clause-value g c =
+    let s = c.args.warehouse.now.state in
+    sym (ap (option_map agg_in) c.in_ok-total.was)
+    ∙ c.total_at.ensures.value (source_of s) (rw (c.tree.ensures.width, c.tree.ensures.value) c.tree.ensures.valid.tree)
+    ∙ total-at (source_of s) c.in_ok-cell.cell
+    ∙ total-found s.texts c.dict.result.now.lists (length s.schema.measures) s.rows c.args.asked.now c.in_ok-cell.cell c.dict.ensures.texts c.dict.ensures.valid.state.known c.requires.point (sym c.cell_of.ensures ∙ c.in_ok-cell.was)
+
+pub returns-clause-measures : goal.returns-clause-measures
+returns-clause-measures g c =
+    let s = c.args.warehouse.now.state in
+    measured (length s.schema.measures) s.rows (cell_asked c.args.asked.now) (Some c.in_ok-total.total) (returns-clause-value g c)
+
+pub returns-clause-told : goal.returns-clause-told
+returns-clause-told g c =
+    let s = c.args.warehouse.now.state in
+    asked-told s.texts c.dict.result.now.lists c.args.asked.now c.in_ok-cell.cell c.dict.ensures.texts (c.requires.dims ∙ sym c.dict.ensures.valid.state.lists) c.requires.point (sym c.cell_of.ensures ∙ c.in_ok-cell.was)
+
+pub returns-clause-texts : goal.returns-clause-texts
+returns-clause-texts g c =
+    let s = c.args.warehouse.now.state in
+    asked-texts s.texts c.dict.result.now.lists c.args.asked.now c.in_ok-cell.cell c.dict.ensures.texts (c.requires.dims ∙ sym c.dict.ensures.valid.state.lists) c.requires.point (sym c.cell_of.ensures ∙ c.in_ok-cell.was)
+
+pub returns-clause-steps : goal.returns-clause-steps
+returns-clause-steps g c =
+    let long = length-found c.dict.result.now.lists c.args.asked.now c.in_ok-cell.cell (sym c.cell_of.ensures ∙ c.in_ok-cell.was) ∙ c.requires.dims in
+    omega (arith, c.total_at.ensures.steps, long)

@@ -1,9 +1,0 @@
--- Classes in the code: cells of codes.
-use Rattle.std.specs.Prelude.{ℕ}
-use Rattle.cube_defs.specs.Answers.{ClassHit}
-use Rattle.aggregates.specs.Views.{agg_in}
-use Rattle.qc_session.specs.declared.classes.Class.{Class}
-
--- a class of codes
-abbrev pub hit_in : Class → ClassHit ℕ
-hit_in class = record { upper = class.upper; agg = agg_in class.total; lowers = class.lowers }

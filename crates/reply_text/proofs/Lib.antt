@@ -1,0 +1,3 @@
+mod Names
+mod Records
+mod Told

@@ -1,0 +1,23 @@
+use Rattle.std.proofs.Common.{◌∙◌, sym, ap, ◌++◌, ℕ, List, append_assoc, arith, take}
+use Rattle.aggregates.specs.Views.{agg_in}
+use Rattle.cube_defs.specs.Answers.{part}
+use Rattle.qc_schema.specs.Schema.{no_measure}
+use Rattle.std.specs.Prelude.{slice_index_or}
+use Rattle.reply_text.specs.Replies.{fields_text, part_texts, parts_texts}
+use Rattle.reply_text.proofs.Records.{fields-append, parts-more}
+use Rattle.reply_text.proofs.totals.push_parts.Goals as goal
+
+pub loop-measure-preserved : goal.loop-measure-preserved
+loop-measure-preserved c =
+    let agg = c.args.agg.now in
+    let measures = c.args.schema.now.measures in
+    let parts = (agg_in agg).parts in
+    let k = c.loop-measure.measure in
+    let out = c.args.out.now.items in
+    let first = parts_texts agg.count (take k measures) (take k parts) in
+    let next = part_texts agg.count (slice_index_or measures k no_measure).scale (part (agg_in agg) k) in
+    c.in_ok-push_part.ensures.numbers
+    ∙ ap (λ (s : ℕ). c.loop-measure.out.items ++ fields_text (part_texts agg.count s (part (agg_in agg) k))) c.scale.ensures
+    ∙ ap (λ (z : List ℕ). z ++ fields_text next) c.loop-measure.invariant
+    ∙ append_assoc out (fields_text first) (fields_text next)
+    ∙ ap (λ (z : List ℕ). out ++ z) (sym (fields-append first next) ∙ ap fields_text (sym (parts-more agg.count measures parts k (omega arith) c.push_part.ensures.there)))

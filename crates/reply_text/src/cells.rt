@@ -1,0 +1,50 @@
+// A cell of codes, told by the texts of a dictionary.
+ghost use Rattle.std.specs.Option.{option_map};
+ghost use Rattle.std.specs.Prelude.{None, OnOk, decimal, length, map, slice_index_or, ◌++◌, ◌<◌, ◌∷◌, ◌≡◌};
+ghost use Rattle.reply_text.specs.Replies.{entry_text, fields_text};
+ghost use Rattle.value_dict.specs.TextLists.{list_at};
+ghost use Rattle.value_dict.specs.Told.{HasTexts, text_of, told_cell};
+
+use crate::fields::{push_field, push_number};
+use crate::values::push_value;
+use cell_core::{Cell, Entry, Memory};
+use value_dict::Dict;
+
+// What a cell has in a dimension, behind a comma.
+fn push_entry(out: &mut Vec<u8>, dict: &Dict, cell: &Cell, dim: u8) -> Result<(), Memory>
+    requires dim { dim < length cell.now }
+    requires texts { HasTexts dict.now.lists cell.now }
+    ensures { OnOk result (out.new.items ≡ out.old.items ++ 44 ∷ entry_text (option_map (text_of (list_at dict.now dim)) (slice_index_or cell.now dim None))) }
+{
+    match cell.get(dim) {
+        Entry::Any => push_field(out, b"*"),
+        Entry::Is(code) => push_value(out, dict.text(dim, code).as_bytes()),
+    }
+}
+
+/// The cell's fields.
+pub fn push_cell(out: &mut Vec<u8>, dict: &Dict, cell: &Cell) -> Result<(), Memory>
+    requires { HasTexts dict.now.lists cell.now }
+    ensures { OnOk result (out.new.items ≡ out.old.items ++ fields_text (map entry_text (told_cell dict.now.lists cell.now))) }
+{
+    'dims: for dim in 0..cell.dims() {
+        push_entry(out, dict, cell, dim)?;
+    }
+    Ok(())
+}
+
+/// The first fields of a record: a word, the line's number and a cell.
+pub fn push_head(
+    out: &mut Vec<u8>,
+    word: &[u8],
+    line: u32,
+    dict: &Dict,
+    cell: &Cell,
+) -> Result<(), Memory>
+    requires { HasTexts dict.now.lists cell.now }
+    ensures { OnOk result (out.new.items ≡ out.old.items ++ word.now ++ fields_text (decimal line ∷ map entry_text (told_cell dict.now.lists cell.now))) }
+{
+    out.extend_from_slice(word)?;
+    push_number(out, u64::from(line))?;
+    push_cell(out, dict, cell)
+}

@@ -1,0 +1,81 @@
+// The reply that tells the bounds of a class.
+ghost use Rattle.std.specs.List.{All, flat_map};
+ghost use Rattle.std.specs.Prelude.{IfOk, OnOk, length, map, ◌++◌, ◌≡◌};
+ghost use Rattle.lower_bounds.specs.Classes.{hit_in};
+ghost use Rattle.reply_text.specs.Replies.{bounds_text, class_text, end_text, lower_text};
+ghost use Rattle.value_dict.specs.Told.{HasTexts, IsTold, told_cell, told_hit};
+
+use crate::cells::push_head;
+use crate::fields::push_number;
+use crate::totals::push_agg;
+use cell_core::{Cell, Cells, Memory};
+use lower_bounds::Class;
+use qc_schema::Schema;
+use std::alloc::Global;
+use value_dict::Dict;
+
+// The record of a lower bound.
+fn push_lower(out: &mut Vec<u8>, line: u32, dict: &Dict, cell: &Cell) -> Result<(), Memory>
+    requires { HasTexts dict.now.lists cell.now }
+    ensures { OnOk result (out.new.items ≡ out.old.items ++ lower_text line (told_cell dict.now.lists cell.now)) }
+{
+    push_head(out, b"lower", line, dict, cell)?;
+    out.push(b'\n')?;
+    Ok(())
+}
+
+// The records of all lower bounds.
+fn push_lowers(out: &mut Vec<u8>, line: u32, dict: &Dict, cells: &Cells) -> Result<(), Memory>
+    requires { All (HasTexts dict.now.lists) cells.now }
+    ensures { OnOk result (out.new.items ≡ out.old.items ++ flat_map (lower_text line) (map (told_cell dict.now.lists) cells.now)) }
+{
+    'cells: for k in 0..cells.len() {
+        push_lower(out, line, dict, cells.get(k))?;
+    }
+    Ok(())
+}
+
+// The record of an upper bound, and those of the lower bounds.
+fn push_class(
+    out: &mut Vec<u8>,
+    line: u32,
+    schema: &Schema,
+    dict: &Dict,
+    class: &Class,
+) -> Result<(), Memory>
+    requires { IsTold dict.now.lists (length schema.now.measures) (hit_in class.now) }
+    ensures { OnOk result (out.new.items ≡ out.old.items ++ class_text line schema.now.measures (told_hit dict.now.lists (hit_in class.now))) }
+{
+    push_head(out, b"class", line, dict, &class.upper)?;
+    push_agg(out, schema, &class.total)?;
+    out.push(b'\n')?;
+    push_lowers(out, line, dict, &class.lowers)
+}
+
+// The last record of a reply with so many classes.
+fn push_end(out: &mut Vec<u8>, line: u32, count: u32) -> Result<(), Memory>
+    ensures { OnOk result (out.new.items ≡ out.old.items ++ end_text line count) }
+{
+    out.extend_from_slice(b"end")?;
+    push_number(out, u64::from(line))?;
+    push_number(out, u64::from(count))?;
+    out.push(b'\n')?;
+    Ok(())
+}
+
+/// The reply that tells the bounds of a class.
+pub fn bounds_reply(
+    alloc: Global,
+    line: u32,
+    schema: &Schema,
+    dict: &Dict,
+    class: &Class,
+) -> Result<Vec<u8>, Memory>
+    requires { IsTold dict.now.lists (length schema.now.measures) (hit_in class.now) }
+    ensures { IfOk result (λ reply. reply.items ≡ bounds_text line schema.now.measures (told_hit dict.now.lists (hit_in class.now))) }
+{
+    let mut out = Vec::new(alloc);
+    push_class(&mut out, line, schema, dict, class)?;
+    push_end(&mut out, line, 1)?;
+    Ok(out)
+}

@@ -1,0 +1,23 @@
+// Fields of a record.
+ghost use Rattle.std.specs.Prelude.{OnOk, decimal, ◌++◌, ◌∷◌, ◌≡◌};
+
+use aggregates::print_number;
+use cell_core::Memory;
+
+/// A field behind a comma.
+pub fn push_field(out: &mut Vec<u8>, field: &[u8]) -> Result<(), Memory>
+    ensures { OnOk result (out.new.items ≡ out.old.items ++ 44 ∷ field.now) }
+{
+    out.push(b',')?;
+    out.extend_from_slice(field)?;
+    Ok(())
+}
+
+/// A number behind a comma.
+pub fn push_number(out: &mut Vec<u8>, number: u64) -> Result<(), Memory>
+    ensures { OnOk result (out.new.items ≡ out.old.items ++ 44 ∷ decimal number) }
+{
+    let mut text = [0; 48];
+    let len = print_number(number, &mut text);
+    push_field(out, &text[..len])
+}

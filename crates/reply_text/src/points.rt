@@ -1,0 +1,33 @@
+// The reply to a point.
+ghost use Rattle.std.specs.Prelude.{IfOk, length, ◌≡◌};
+ghost use Rattle.aggregates.specs.Views.{agg_in};
+ghost use Rattle.reply_text.specs.Replies.{point_text};
+ghost use Rattle.value_dict.specs.Told.{HasTexts, told_cell};
+
+use crate::cells::push_head;
+use crate::totals::push_agg;
+use aggregates::Agg;
+use cell_core::{Cell, Memory};
+use qc_schema::Schema;
+use std::alloc::Global;
+use value_dict::Dict;
+
+/// The reply to a point that covers some row.
+pub fn point_reply(
+    alloc: Global,
+    line: u32,
+    schema: &Schema,
+    dict: &Dict,
+    cell: &Cell,
+    total: &Agg,
+) -> Result<Vec<u8>, Memory>
+    requires texts { HasTexts dict.now.lists cell.now }
+    requires parts { length (agg_in total.now).parts ≡ length schema.now.measures }
+    ensures { IfOk result (λ reply. reply.items ≡ point_text line (told_cell dict.now.lists cell.now) schema.now.measures (agg_in total.now)) }
+{
+    let mut out = Vec::new(alloc);
+    push_head(&mut out, b"point", line, dict, cell)?;
+    push_agg(&mut out, schema, total)?;
+    out.push(b'\n')?;
+    Ok(out)
+}

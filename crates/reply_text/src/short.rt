@@ -1,0 +1,140 @@
+// Replies that are made without memory.
+ghost use Rattle.std.specs.Prelude.{[], decimal, length, ◌+◌, ◌++◌, ◌<◌, ◌∷◌, ◌≡◌, ◌≤◌};
+ghost use Rattle.reply_text.specs.Replies.{applied_text, memory_text, none_text, refused_text, stats_text};
+
+use crate::refusals::{Detail, Words};
+use arrayvec::ArrayString;
+use itoa::Buffer;
+use std::marker::Model;
+use warehouse::Stats;
+
+/// A reply to a line.
+#[derive(Drop)]
+pub enum Reply {
+    Short(ShortReply),
+    Long(Vec<u8>),
+}
+
+const ROOM: usize = 96;
+
+/// A reply in a fixed buffer, seen as its bytes.
+#[derive(Drop)]
+pub struct ShortReply {
+    text: ArrayString<ROOM>,
+}
+
+impl Model for ShortReply {
+    ghost use Rattle.std.specs.Prelude.{ℕ, List};
+
+    ghost Value = { List ℕ };
+
+    ghost view = { λ r. r.text.bytes };
+}
+
+impl ShortReply {
+    /// The reply's bytes.
+    pub fn as_bytes(&self) -> &[u8]
+        ensures { result.now ≡ self.now }
+    {
+        self.text.as_str().as_bytes()
+    }
+}
+
+ghost use Rattle.reply_text.specs.Words.{IsShort, reply_bytes, texts_of};
+
+impl Reply {
+    /// The reply's bytes.
+    pub fn as_bytes(&self) -> &[u8]
+        ensures { result.now ≡ reply_bytes self.now }
+    {
+        match self {
+            Reply::Short(reply) => reply.as_bytes(),
+            Reply::Long(bytes) => bytes.as_slice(),
+        }
+    }
+}
+
+// The word and the line's number, behind which so many bytes have room.
+fn begun(word: &str, line: u32) -> ShortReply
+    requires { length word.now ≤ 8 }
+    ensures text { result ≡ word.now ++ 44 ∷ decimal line }
+    ensures short { length result ≤ 19 }
+{
+    let mut text = ArrayString::new();
+    text.push_str(word);
+    text.push_str(",");
+    text.push_str(Buffer::new().format(line));
+    ShortReply { text }
+}
+
+impl ShortReply {
+    // A field more.
+    fn field(&mut self, field: &str)
+        requires { length self.old + length field.now < 95 }
+        ensures text { self.new ≡ self.old ++ 44 ∷ field.now }
+    {
+        self.text.push_str(",");
+        self.text.push_str(field);
+    }
+
+    // The end of the record.
+    fn ended(mut self) -> ShortReply
+        requires { length self < 96 }
+        ensures { result ≡ self ++ 10 ∷ [] }
+    {
+        self.text.push_str("\n");
+        self
+    }
+}
+
+/// A line found no memory.
+pub fn memory(line: u32) -> ShortReply
+    ensures { result ≡ memory_text line }
+{
+    begun("memory", line).ended()
+}
+
+/// The asked cell covers no row.
+pub fn none(line: u32) -> ShortReply
+    ensures { result ≡ none_text line }
+{
+    begun("none", line).ended()
+}
+
+/// A file of so many records was taken, and so many classes are there after it.
+pub fn applied(line: u32, records: u32, classes: u32) -> ShortReply
+    ensures { result ≡ applied_text line records classes }
+{
+    let mut reply = begun("applied", line);
+    reply.field(Buffer::new().format(records));
+    reply.field(Buffer::new().format(classes));
+    reply.ended()
+}
+
+/// What is counted of the rows and of their tree.
+pub fn stats(line: u32, counts: Stats) -> ShortReply
+    ensures { result ≡ stats_text line counts.rows counts.classes counts.nodes counts.tree_edges counts.links }
+{
+    let mut reply = begun("stats", line);
+    reply.field(Buffer::new().format(counts.rows));
+    reply.field(Buffer::new().format(counts.classes));
+    reply.field(Buffer::new().format(counts.nodes));
+    reply.field(Buffer::new().format(counts.tree_edges));
+    reply.field(Buffer::new().format(counts.links));
+    reply.ended()
+}
+
+/// A line was refused, and changed nothing.
+pub fn refused(line: u32, words: Words<'_>) -> ShortReply
+    requires { IsShort words }
+    ensures { result ≡ refused_text line (texts_of words.entry) }
+{
+    let mut reply = begun("refused", line);
+    reply.field(words.code);
+    match words.detail {
+        Detail::Nothing => {}
+        Detail::Number(k) => reply.field(Buffer::new().format(k)),
+        Detail::Name(name) => reply.field(name),
+    }
+    reply.ended()
+}

@@ -1,0 +1,79 @@
+// What some rows come to, as fields.
+ghost use Rattle.std.specs.Prelude.{OnOk, length, ◌++◌, ◌<◌, ◌∷◌, ◌≡◌, ◌≤◌};
+ghost use Rattle.aggregates.specs.Texts.{amount_text, ratio_text};
+ghost use Rattle.aggregates.specs.Views.{agg_in, part_in, ratio_in};
+ghost use Rattle.cube_defs.specs.Answers.{part};
+ghost use Rattle.reply_text.specs.Replies.{agg_texts, fields_text, part_texts, parts_texts};
+
+use crate::fields::{push_field, push_number};
+use aggregates::{Agg, Part, Ratio, mean, print_amount, print_ratio};
+use cell_core::Memory;
+use qc_schema::Schema;
+
+fn push_amount(out: &mut Vec<u8>, amount: i64, scale: u8) -> Result<(), Memory>
+    requires { scale ≤ 6 }
+    ensures { OnOk result (out.new.items ≡ out.old.items ++ 44 ∷ amount_text scale amount) }
+{
+    let mut text = [0; 48];
+    let len = print_amount(amount, scale, &mut text);
+    push_field(out, &text[..len])
+}
+
+fn push_ratio(out: &mut Vec<u8>, ratio: &Ratio) -> Result<(), Memory>
+    ensures { OnOk result (out.new.items ≡ out.old.items ++ 44 ∷ ratio_text (ratio_in ratio.now)) }
+{
+    let mut text = [0; 48];
+    let len = print_ratio(ratio, &mut text);
+    push_field(out, &text[..len])
+}
+
+fn part_at(agg: &Agg, measure: u8) -> Part
+    requires { measure < agg.now.measures }
+    ensures part { part_in result ≡ part (agg_in agg.now) measure }
+    ensures there { measure < length (agg_in agg.now).parts }
+{
+    agg.parts[usize::from(measure)]
+}
+
+// The four numbers of a measure.
+fn push_part(out: &mut Vec<u8>, agg: &Agg, measure: u8, scale: u8) -> Result<(), Memory>
+    requires there { measure < agg.now.measures }
+    requires scale { scale ≤ 6 }
+    ensures there { measure < length (agg_in agg.now).parts }
+    ensures numbers { OnOk result (out.new.items ≡ out.old.items ++ fields_text (part_texts agg.now.count scale (part (agg_in agg.now) measure))) }
+{
+    let part = part_at(agg, measure);
+    push_amount(out, part.sum, scale)?;
+    push_amount(out, part.least, scale)?;
+    push_amount(out, part.greatest, scale)?;
+    push_ratio(out, &mean(agg, measure, scale))?;
+    Ok(())
+}
+
+fn measures_of(agg: &Agg) -> u8
+    ensures value { result ≡ agg.now.measures }
+    ensures parts { result ≡ length (agg_in agg.now).parts }
+{
+    agg.parts[..usize::from(agg.measures)].len() as u8
+}
+
+// The four numbers of each measure.
+fn push_parts(out: &mut Vec<u8>, schema: &Schema, agg: &Agg) -> Result<(), Memory>
+    requires { length (agg_in agg.now).parts ≡ length schema.now.measures }
+    ensures { OnOk result (out.new.items ≡ out.old.items ++ fields_text (parts_texts agg.now.count schema.now.measures (agg_in agg.now).parts)) }
+{
+    let dims = schema.dims();
+    for measure in 0..measures_of(agg) {
+        push_part(out, agg, measure, schema.scale(measure))?;
+    }
+    Ok(())
+}
+
+/// What some rows come to: their count, and the four numbers of each measure.
+pub fn push_agg(out: &mut Vec<u8>, schema: &Schema, agg: &Agg) -> Result<(), Memory>
+    requires { length (agg_in agg.now).parts ≡ length schema.now.measures }
+    ensures { OnOk result (out.new.items ≡ out.old.items ++ fields_text (agg_texts schema.now.measures (agg_in agg.now))) }
+{
+    push_number(out, u64::from(agg.count))?;
+    push_parts(out, schema, agg)
+}
