@@ -2,7 +2,7 @@
 ghost use Rattle.std.specs.Prelude.{Err, IfOk, IfSome, List, Ok, OnErr, Result, length, ◌≡◌, ◌≤◌};
 ghost use Rattle.cell_core.specs.Gives.{Gives};
 ghost use Rattle.csv_load.specs.Batch.{Change};
-ghost use Rattle.csv_load.specs.Faults.{Fails, Fault};
+ghost use Rattle.csv_load.specs.Faults.{Fault, fault_in};
 ghost use Rattle.cube_defs.specs.Text.{Text, text_cmp};
 ghost use Rattle.cube_defs.specs.Tree as trees;
 ghost use Rattle.warehouse.specs.Batch as batches;
@@ -52,7 +52,7 @@ impl Model for Warehouse {
 
 // The refusal for a file that gives no rows.
 fn refused_file(refused: LoadRefused) -> Refused
-    ensures { (s : State) (read : Result (List (Change Text)) Fault) → Fails refused read → IfSome (refusal_in result) (λ refusal. result_of s read ≡ Err refusal) }
+    ensures { (s : State) (read : Result (List (Change Text)) Fault) → IfSome (fault_in refused) (λ fault. read ≡ Err fault) → IfSome (refusal_in result) (λ refusal. result_of s read ≡ Err refusal) }
 {
     match refused {
         LoadRefused::Header => Refused::Header,
