@@ -10,13 +10,7 @@ use Rattle.cube_laws.specs.Recoding.{TellsApart}
 use Rattle.cube_laws.proofs.Cells.{IsEquality}
 use Rattle.warehouse.specs.State.{has_text, place_in}
 
-pub text_equality : IsEquality text_eq
-text_equality = record {
-  exact = λ v w h. (bytes_decides v w).0 (sym (is_eq-slice_cmp v w) ∙ h);
-  same = λ v. is_eq-slice_cmp v v ∙ (bytes_decides v v).1 refl;
-}
-
-pub any-within : {X : Type 0} (p : X → Bool) (xs : List X) → list_any p xs ≡ true → position_or_len p xs < length xs
+any-within : {X : Type 0} (p : X → Bool) (xs : List X) → list_any p xs ≡ true → position_or_len p xs < length xs
 any-within p [] h = cc
 any-within p (x ∷ xs) h = go (p x) refl (any-within p xs)
   where

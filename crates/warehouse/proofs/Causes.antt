@@ -30,7 +30,7 @@ pub cause-rows : (s : State) (changes : List (Change Text)) → first_twice chan
     → first_number (is_present (ids_of s.rows) (deleted changes)) changes ≡ None → nat_lt s.schema.rows (length (rows_after s.rows changes)) ≡ true → refusal_of s changes ≡ Some batches.RowsFull
 cause-rows s changes once there new full = rw (once, there, new, full) refl
 
-pub cause-values : (s : State) (changes : List (Change Text)) → first_twice changes ≡ None → first_number (is_missing (ids_of s.rows)) changes ≡ None
+cause-values : (s : State) (changes : List (Change Text)) → first_twice changes ≡ None → first_number (is_missing (ids_of s.rows)) changes ≡ None
     → first_number (is_present (ids_of s.rows) (deleted changes)) changes ≡ None → nat_lt s.schema.rows (length (rows_after s.rows changes)) ≡ false
     → refusal_of s changes ≡ or_else (option_map (λ dim. batches.ValuesFull dim) (full_dim s.schema.values (texts_after s.texts changes))) (last_refusal s changes)
 cause-values s changes once there new room = rw (once, there, new, room) refl

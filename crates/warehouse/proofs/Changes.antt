@@ -20,13 +20,13 @@ tuple_of c = (row_of c).tuple
 abbrev pub amounts_of : Change Text → List ℤ
 amounts_of c = (row_of c).amounts
 
-pub change-at : (changes : List (Change Text)) (k : ℕ) → change_at changes (k + 1) ≡ get_or changes k (Delete 0)
+change-at : (changes : List (Change Text)) (k : ℕ) → change_at changes (k + 1) ≡ get_or changes k (Delete 0)
 change-at changes k = let same : k + 1 - 1 ≡ k = omega arith in ap (λ (n : ℕ). get_or changes n (Delete 0)) same
 
 pub one-before : (changes : List (Change Text)) (k : ℕ) → take (k + 1 - 1) changes ≡ take k changes
 one-before changes k = let same : k + 1 - 1 ≡ k = omega arith in ap (λ (n : ℕ). take n changes) same
 
-pub deleted-append : (xs ys : List (Change Text)) → deleted (xs ++ ys) ≡ deleted xs ++ deleted ys
+deleted-append : (xs ys : List (Change Text)) → deleted (xs ++ ys) ≡ deleted xs ++ deleted ys
 deleted-append [] ys = refl
 deleted-append (Delete id ∷ xs) ys = ap (λ (ids : List ℕ). id ∷ ids) (deleted-append xs ys)
 deleted-append (Insert row ∷ xs) ys = deleted-append xs ys
@@ -39,30 +39,30 @@ inserted-append (Insert row ∷ xs) ys = ap (λ (rows : List (Row Text)). row �
 pub take-change : (changes : List (Change Text)) (k : ℕ) → k < length changes → take (k + 1) changes ≡ take k changes ++ change_at changes (k + 1) ∷ []
 take-change changes k lt = take_more changes k (Delete 0) lt ∙ ap (λ (c : Change Text). take k changes ++ c ∷ []) (sym (change-at changes k))
 
-pub deleted-more : (changes : List (Change Text)) (k : ℕ) → k < length changes → deleted (take (k + 1) changes) ≡ deleted (take k changes) ++ deleted (change_at changes (k + 1) ∷ [])
+deleted-more : (changes : List (Change Text)) (k : ℕ) → k < length changes → deleted (take (k + 1) changes) ≡ deleted (take k changes) ++ deleted (change_at changes (k + 1) ∷ [])
 deleted-more changes k lt = ap (λ (cs : List (Change Text)). deleted cs) (take-change changes k lt) ∙ deleted-append (take k changes) (change_at changes (k + 1) ∷ [])
 
 pub inserted-more : (changes : List (Change Text)) (k : ℕ) → k < length changes → inserted (take (k + 1) changes) ≡ inserted (take k changes) ++ inserted (change_at changes (k + 1) ∷ [])
 inserted-more changes k lt = ap (λ (cs : List (Change Text)). inserted cs) (take-change changes k lt) ∙ inserted-append (take k changes) (change_at changes (k + 1) ∷ [])
 
 -- what a deletion alone deletes and inserts, and an insertion
-pub deletion-deletes : (c : Change Text) → is_deletion c ≡ true → deleted (c ∷ []) ≡ id_of c ∷ []
+deletion-deletes : (c : Change Text) → is_deletion c ≡ true → deleted (c ∷ []) ≡ id_of c ∷ []
 deletion-deletes (Delete id) is = refl
 deletion-deletes (Insert row) is = cc
 
-pub deletion-inserts : (c : Change Text) → is_deletion c ≡ true → inserted (c ∷ []) ≡ []
+deletion-inserts : (c : Change Text) → is_deletion c ≡ true → inserted (c ∷ []) ≡ []
 deletion-inserts (Delete id) is = refl
 deletion-inserts (Insert row) is = cc
 
-pub insertion-deletes : (c : Change Text) → is_deletion c ≡ false → deleted (c ∷ []) ≡ []
+insertion-deletes : (c : Change Text) → is_deletion c ≡ false → deleted (c ∷ []) ≡ []
 insertion-deletes (Delete id) is = cc
 insertion-deletes (Insert row) is = refl
 
-pub insertion-ids : (c : Change Text) → is_deletion c ≡ false → ids_of (inserted (c ∷ [])) ≡ id_of c ∷ []
+insertion-ids : (c : Change Text) → is_deletion c ≡ false → ids_of (inserted (c ∷ [])) ≡ id_of c ∷ []
 insertion-ids (Delete id) is = cc
 insertion-ids (Insert row) is = refl
 
-pub insertion-counts : (c : Change Text) → is_deletion c ≡ false → length (inserted (c ∷ [])) ≡ 1
+insertion-counts : (c : Change Text) → is_deletion c ≡ false → length (inserted (c ∷ [])) ≡ 1
 insertion-counts (Delete id) is = cc
 insertion-counts (Insert row) is = refl
 
@@ -83,7 +83,7 @@ same-insertion (Insert row) (Insert other ∷ before) is = ap (λ (b : Bool). na
 same-insertion (Delete id) before is = cc
 
 -- a deletion more, or an insertion more, is seen
-pub seen-deletion : (gone come : List ℕ) (changes : List (Change Text)) (k : ℕ) → k < length changes → is_deletion (change_at changes (k + 1)) ≡ true
+seen-deletion : (gone come : List ℕ) (changes : List (Change Text)) (k : ℕ) → k < length changes → is_deletion (change_at changes (k + 1)) ≡ true
     → AreSeen gone come (take k changes) → AreSeen (gone ++ id_of (change_at changes (k + 1)) ∷ []) come (take (k + 1) changes)
 seen-deletion gone come changes k lt is seen =
     let c = change_at changes (k + 1) in
@@ -92,7 +92,7 @@ seen-deletion gone come changes k lt is seen =
       insertions = seen.insertions ∙ ap (λ (rows : List (Row Text)). ids_of rows) (sym (append-nil (inserted (take k changes))) ∙ ap (λ (rows : List (Row Text)). inserted (take k changes) ++ rows) (sym (deletion-inserts c is)) ∙ sym (inserted-more changes k lt));
     }
 
-pub seen-insertion : (gone come : List ℕ) (changes : List (Change Text)) (k : ℕ) → k < length changes → is_deletion (change_at changes (k + 1)) ≡ false
+seen-insertion : (gone come : List ℕ) (changes : List (Change Text)) (k : ℕ) → k < length changes → is_deletion (change_at changes (k + 1)) ≡ false
     → AreSeen gone come (take k changes) → AreSeen gone (come ++ id_of (change_at changes (k + 1)) ∷ []) (take (k + 1) changes)
 seen-insertion gone come changes k lt is seen =
     let c = change_at changes (k + 1) in
@@ -142,7 +142,7 @@ once-from k before (c ∷ changes) i none lt = go (list_any (same_change c) befo
         let n : twice_from (k + 1) (before ++ c ∷ []) changes ≡ None = rw e at none in
         rw (sym (append_assoc before (c ∷ []) (take i changes))) (later i n (omega arith))
 
-pub once-at : (changes : List (Change Text)) (k : ℕ) → first_twice changes ≡ None → k < length changes → list_any (same_change (change_at changes (k + 1))) (take k changes) ≡ false
+once-at : (changes : List (Change Text)) (k : ℕ) → first_twice changes ≡ None → k < length changes → list_any (same_change (change_at changes (k + 1))) (take k changes) ≡ false
 once-at changes k once lt = ap (λ (c : Change Text). list_any (same_change c) (take k changes)) (change-at changes k) ∙ once-from 1 [] changes k once lt
 
 -- the first change that passes
@@ -192,7 +192,7 @@ below-more test changes k before here j lt = go (nat_eq j k) refl
     go false e = before j (let ne : j < k = grind (arith, e, lt) in ne)
 
 -- whether an insertion's id is that of a row
-pub deletion-there : (rows : List (Row ℕ)) (c : Change Text) → is_deletion c ≡ true → is_there rows c ≡ false
+deletion-there : (rows : List (Row ℕ)) (c : Change Text) → is_deletion c ≡ true → is_there rows c ≡ false
 deletion-there rows (Delete id) is = refl
 deletion-there rows (Insert row) is = cc
 

@@ -33,7 +33,7 @@ module _ (lists : List (List Text)) (rows : List (Row ℕ)) (known : RowsAreCode
   again : (count : List (Row ℕ) → ℕ) → count rows ≡ count (map (coded_row (place_in lists)) (map (decoded_row lists) rows))
   again count = ap count (sym (rows-back lists rows known distinct))
 
-  pub classes-decoded : length (classes nat_cmp rows) ≡ length (classes text_cmp (map (decoded_row lists) rows))
+  classes-decoded : length (classes nat_cmp rows) ≡ length (classes text_cmp (map (decoded_row lists) rows))
   classes-decoded =
       again (λ rows. length (classes nat_cmp rows))
       ∙ classes_as_many (lists_total nat_cmp_total) (slice_cmp-IsAntisymmetric nat_cmp-IsAntisymmetric) nat_cmp_total nat_cmp-IsAntisymmetric (places-apart lists) (map (decoded_row lists) rows) (rows-known lists rows known)
@@ -43,12 +43,12 @@ module _ (lists : List (List Text)) (rows : List (Row ℕ)) (known : RowsAreCode
       again (λ rows. length (nodes nat_cmp rows))
       ∙ nodes_as_many (lists_total nat_cmp_total) (slice_cmp-IsAntisymmetric nat_cmp-IsAntisymmetric) nat_cmp_total nat_cmp-IsAntisymmetric (places-apart lists) (map (decoded_row lists) rows) (rows-known lists rows known)
 
-  pub tree_edges-decoded : tree_edges nat_cmp rows ≡ tree_edges text_cmp (map (decoded_row lists) rows)
+  tree_edges-decoded : tree_edges nat_cmp rows ≡ tree_edges text_cmp (map (decoded_row lists) rows)
   tree_edges-decoded =
       again (λ rows. tree_edges nat_cmp rows)
       ∙ tree_edges_as_many (lists_total nat_cmp_total) (slice_cmp-IsAntisymmetric nat_cmp-IsAntisymmetric) nat_cmp_total nat_cmp-IsAntisymmetric (places-apart lists) (map (decoded_row lists) rows) (rows-known lists rows known)
 
-  pub links-decoded : links nat_cmp rows ≡ links text_cmp (map (decoded_row lists) rows)
+  links-decoded : links nat_cmp rows ≡ links text_cmp (map (decoded_row lists) rows)
   links-decoded =
       again (λ rows. links nat_cmp rows)
       ∙ links_as_many (lists_total nat_cmp_total) (slice_cmp-IsAntisymmetric nat_cmp-IsAntisymmetric) nat_cmp_total nat_cmp-IsAntisymmetric (places-apart lists) (map (decoded_row lists) rows) (rows-known lists rows known)

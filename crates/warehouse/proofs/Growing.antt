@@ -18,7 +18,7 @@ use Rattle.warehouse.proofs.Texts.{front-length, longer-head, longer-tail}
 pub cut-back : (was now back : TextLists) (lens : List ℕ) → lens ≡ map (λ (texts : List Text). length texts) was.lists → back.lists ≡ cut now.lists lens → back.max ≡ now.max → now.max ≡ was.max → AreLonger was.lists now.lists → back ≡ was
 cut-back was now back lens are cuts max same longer = ap₂ with_lists (max ∙ same) (cuts ∙ ap (cut now.lists) are ∙ longer.fronts)
 
-pub decoded-longer : (before now : List (List Text)) (codes : List ℕ) → AreLonger before now → AreCodes before codes → decoded now codes ≡ decoded before codes
+decoded-longer : (before now : List (List Text)) (codes : List ℕ) → AreLonger before now → AreCodes before codes → decoded now codes ≡ decoded before codes
 decoded-longer before now [] longer are = refl
 decoded-longer [] now (code ∷ codes) longer are = absurd are
 decoded-longer (b ∷ before) [] (code ∷ codes) longer are = absurd (omega (arith, longer.dims))
@@ -27,7 +27,7 @@ decoded-longer (b ∷ before) (n ∷ now) (code ∷ codes) longer are =
     (sym (get_or-take (length b) n code [] are.0) ∙ ap (λ (ts : List Text). get_or ts code []) (longer-head b n before now longer))
     (decoded-longer before now codes (longer-tail b n before now longer) are.1)
 
-pub codes-longer : (before now : List (List Text)) (codes : List ℕ) → AreLonger before now → AreCodes before codes → AreCodes now codes
+codes-longer : (before now : List (List Text)) (codes : List ℕ) → AreLonger before now → AreCodes before codes → AreCodes now codes
 codes-longer before now [] longer are = tt
 codes-longer [] now (code ∷ codes) longer are = absurd are
 codes-longer (b ∷ before) [] (code ∷ codes) longer are = absurd (omega (arith, longer.dims))
@@ -39,7 +39,7 @@ codes-longer (b ∷ before) (n ∷ now) (code ∷ codes) longer are = (
 pub known-longer : (before now : List (List Text)) (rows : List (Row ℕ)) → AreLonger before now → RowsAreCodes before rows → RowsAreCodes now rows
 known-longer before now rows longer are = All-weaker (λ (row : Row ℕ). AreCodes before row.tuple) (λ (row : Row ℕ). AreCodes now row.tuple) (λ row is. codes-longer before now row.tuple longer is) rows are
 
-pub rows-longer : (before now : List (List Text)) (rows : List (Row ℕ)) → AreLonger before now → RowsAreCodes before rows → map (decoded_row now) rows ≡ map (decoded_row before) rows
+rows-longer : (before now : List (List Text)) (rows : List (Row ℕ)) → AreLonger before now → RowsAreCodes before rows → map (decoded_row now) rows ≡ map (decoded_row before) rows
 rows-longer before now [] longer are = refl
 rows-longer before now (row ∷ rows) longer are =
     ap₂ (λ (r : Row Text) (rs : List (Row Text)). r ∷ rs)

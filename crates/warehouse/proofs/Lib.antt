@@ -1,13 +1,13 @@
-pub mod Apart
-pub mod Counted
-pub mod Causes
-pub mod Changes
-pub mod Decoding
-pub mod Growing
-pub mod Inserting
-pub mod Texts
-pub mod Values
-pub mod Rows
-pub mod States
-pub mod Targets
-pub mod Trees
+mod Apart
+mod Counted
+mod Causes
+mod Changes
+mod Decoding
+mod Growing
+mod Inserting
+mod Texts
+mod Values
+mod Rows
+mod States
+mod Targets
+mod Trees

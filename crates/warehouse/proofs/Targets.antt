@@ -21,7 +21,7 @@ abbrev unforced : {S : Type 0} → Node ℕ S → Node ℕ S
 unforced n = record n { forced = None }
 
 module _ (dims : ℕ) (tree : Tree ℕ) (source : Source) (h : IsFrom dims tree source) where
-  pub target-there : (k i v j : ℕ) → IsSome (map.get tree k) → target_at (eq_by_cmp nat_cmp) i v (record_at tree k).edges ≡ Some j → IsSome (map.get tree j)
+  target-there : (k i v j : ℕ) → IsSome (map.get tree k) → target_at (eq_by_cmp nat_cmp) i v (record_at tree k).edges ≡ Some j → IsSome (map.get tree j)
   target-there k i v j t e = by (node_of nat_cmp source.measures source.rows (record_at tree k).cell) (h.canonical.each k (record_at tree k) (there_is tree k t)).1
     where
       by : (o : Option (Node ℕ (Cell ℕ))) → Some (renamed (cell_at tree) (record_at tree k)) ≡ option_map (renamed (λ c. Some c)) o → IsSome (map.get tree j)

@@ -50,7 +50,7 @@ longer-longer (x ∷ a) (y ∷ b) (z ∷ c) h l =
     (sym (take-take (length x) (length y) z few) ∙ ap (λ (ts : List Text). take (length x) ts) second ∙ first)
     (longer-longer a b c (longer-tail x y a b h) (longer-tail y z b c l))
 
-pub longer-learnt_in : (texts : List Text) (text : Text) → take (length texts) (learnt_in texts text) ≡ texts
+longer-learnt_in : (texts : List Text) (text : Text) → take (length texts) (learnt_in texts text) ≡ texts
 longer-learnt_in texts text = by (is_some (code_in texts text)) refl
   where
     by : (b : Bool) → is_some (code_in texts text) ≡ b → take (length texts) (learnt_in texts text) ≡ texts
@@ -62,16 +62,16 @@ longer-set [] dim text = longer-same []
 longer-set (texts ∷ lists) zero text = longer-cons texts (learnt_in texts text) lists lists (longer-learnt_in texts text) (longer-same lists)
 longer-set (texts ∷ lists) (suc dim) text = longer-cons texts texts lists (set lists dim (learnt_in (get_or lists dim []) text)) (take_all (length texts) texts (omega arith)) (longer-set lists dim text)
 
-pub longer-tuple : (lists : List (List Text)) (tuple : List Text) → AreLonger lists (with_tuple lists tuple)
+longer-tuple : (lists : List (List Text)) (tuple : List Text) → AreLonger lists (with_tuple lists tuple)
 longer-tuple [] tuple = longer-same []
 longer-tuple (texts ∷ lists) [] = longer-same (texts ∷ lists)
 longer-tuple (texts ∷ lists) (text ∷ tuple) = longer-cons texts (learnt_in texts text) lists (with_tuple lists tuple) (longer-learnt_in texts text) (longer-tuple lists tuple)
 
-pub longer-rows : (lists : List (List Text)) (rows : List (Row Text)) → AreLonger lists (fold with_row lists rows)
+longer-rows : (lists : List (List Text)) (rows : List (Row Text)) → AreLonger lists (fold with_row lists rows)
 longer-rows lists [] = longer-same lists
 longer-rows lists (row ∷ rows) = longer-longer lists (with_tuple lists row.tuple) (fold with_row (with_tuple lists row.tuple) rows) (longer-tuple lists row.tuple) (longer-rows (with_tuple lists row.tuple) rows)
 
-pub longer-at : (before now : List (List Text)) (k : ℕ) → AreLonger before now → length (get_or before k []) ≤ length (get_or now k [])
+longer-at : (before now : List (List Text)) (k : ℕ) → AreLonger before now → length (get_or before k []) ≤ length (get_or now k [])
 longer-at [] now k h = omega arith
 longer-at (b ∷ before) [] k h = absurd (omega (arith, h.dims))
 longer-at (b ∷ before) (n ∷ now) zero h = front-length b n (longer-head b n before now h)
@@ -98,7 +98,7 @@ found-some p xs k place lt = grind (arith, place, lt)
 found-none : {X : Type 0} (p : X → Bool) (xs : List X) → position_or_len p xs ≡ length xs → position p xs ≡ None
 found-none p xs place = grind (arith, place)
 
-pub full-found : (max : ℕ) (lists : List (List Text)) → IsOver max lists → HasFull max lists
+full-found : (max : ℕ) (lists : List (List Text)) → IsOver max lists → HasFull max lists
 full-found max lists over = by (full_dim max lists) refl over
   where
     by : (o : Option ℕ) → full_dim max lists ≡ o → is_some o ≡ true → HasFull max lists
@@ -118,7 +118,7 @@ full-first max lists dim lt before over =
     let test : List Text → Bool = λ texts. nat_lt max (length texts) in
     found-some test lists dim (position_or_len_is test lists dim [] (omega arith) (λ k below. within-is max (length (get_or lists k [])) (before k below)) (λ _. is-over max (length (get_or lists dim [])) over)) lt
 
-pub some-over : (max : ℕ) (lists : List (List Text)) → HasFull max lists → IsOver max lists
+some-over : (max : ℕ) (lists : List (List Text)) → HasFull max lists → IsOver max lists
 some-over max lists h = by (full_dim max lists) refl
   where
     by : (o : Option ℕ) → full_dim max lists ≡ o → IsOver max lists
@@ -202,7 +202,7 @@ learnt-more first before now cell cell' text dim code lt in_cell left is coded p
       whole = ap (λ (e : Option ℕ). is_some e) entry;
     }
 
-pub tuple-at : (lists : List (List Text)) (tuple : List Text) (k : ℕ) → k < length lists → k < length tuple → get_or (with_tuple lists tuple) k [] ≡ learnt_in (get_or lists k []) (get_or tuple k [])
+tuple-at : (lists : List (List Text)) (tuple : List Text) (k : ℕ) → k < length lists → k < length tuple → get_or (with_tuple lists tuple) k [] ≡ learnt_in (get_or lists k []) (get_or tuple k [])
 tuple-at [] tuple k lt in_tuple = absurd (omega arith)
 tuple-at (texts ∷ lists) [] k lt in_tuple = absurd (omega arith)
 tuple-at (texts ∷ lists) (text ∷ tuple) zero lt in_tuple = refl

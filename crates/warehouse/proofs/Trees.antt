@@ -19,7 +19,7 @@ use Rattle.warehouse.proofs.Decoding.{rows-back}
 use Rattle.warehouse.proofs.States.{is-state, no_rows}
 
 -- a tree without nodes is that of no rows
-pub none-from : (dims measures : ℕ) → IsFrom dims finmap.empty (record { measures = measures; rows = [] })
+none-from : (dims measures : ℕ) → IsFrom dims finmap.empty (record { measures = measures; rows = [] })
 none-from dims measures = record {
   wide = tt;
   canonical = record {
@@ -30,7 +30,7 @@ none-from dims measures = record {
 }
 
 -- each row of a table has a code in each dimension
-pub rows-wide : (table : Places) → IsTable table → AllByRecursion (λ (row : Row ℕ). length row.tuple ≡ table.dims) (rows_of table)
+rows-wide : (table : Places) → IsTable table → AllByRecursion (λ (row : Row ℕ). length row.tuple ≡ table.dims) (rows_of table)
 rows-wide table is = all_map (IsRow table.dims table.measures) (λ row. length row.tuple ≡ table.dims) (rows_of table) (λ row is. is.tuple) (all_recursion (IsRow table.dims table.measures) (rows_of table) is.rows.each)
 
 pub kept-empty : (schema : Layout) → IsKept schema (no_rows (length schema.dims) (length schema.measures) schema.rows) (no_nodes (length schema.dims) schema.nodes)
@@ -47,16 +47,6 @@ kept-canonical schema table tree is dims measures closed width max few canonical
     wide = subst (λ (n : ℕ). AllByRecursion (λ (row : Row ℕ). length row.tuple ≡ n) (rows_of table)) dims (rows-wide table is);
     canonical = subst (λ (n : ℕ). IsCanonical nat_cmp n (rows_of table) tree.now) measures canonical;
   };
-}
-
--- the tree stays that of the rows where these stay
-pub kept-rows : (schema : Layout) (before after : Places) (tree : Arena) → rows_of after ≡ rows_of before → IsKept schema before tree → IsKept schema after tree
-kept-rows schema before after tree same kept = record {
-  closed = kept.closed;
-  width = kept.width;
-  max = kept.max;
-  few = subst (λ (rows : List (Row ℕ)). length (nodes nat_cmp rows) ≤ schema.nodes) (sym same) kept.few;
-  from = subst (λ (rows : List (Row ℕ)). IsFrom (length schema.dims) tree.now (record { measures = length schema.measures; rows = rows })) (sym same) kept.from;
 }
 
 pub is-held : (schema : Layout) (dict : TextLists) (table : Places) (tree : Arena) → IsStored schema dict table → IsKept schema table tree → IsHeld (record { state = state_of schema dict table; tree = tree.now })
