@@ -4,10 +4,8 @@ use Rattle.std.specs.List.{list_any, position_or_len}
 use Rattle.std.specs.Str.{bytes_eq}
 use Rattle.std.specs.Cmp.Lexicographic.{bytes_decides}
 use Rattle.std.proofs.lemmas.List.Sums.{passes_at_first}
-use Rattle.std.proofs.lemmas.Map.Text.{is_eq-slice_cmp}
-use Rattle.cube_defs.specs.Text.{Text, text_eq}
+use Rattle.cube_defs.specs.Text.{Text}
 use Rattle.cube_laws.specs.Recoding.{TellsApart}
-use Rattle.cube_laws.proofs.Cells.{IsEquality}
 use Rattle.warehouse.specs.State.{has_text, place_in}
 
 any-within : {X : Type 0} (p : X → Bool) (xs : List X) → list_any p xs ≡ true → position_or_len p xs < length xs

@@ -237,8 +237,7 @@ fn tree_of<L: Ledger>(
         Err(_) => return Err(ArenaRefused::Memory),
     }
     tree.commit();
-    // The count is not needed, but what it says of every table.
-    let _rows = table.count();
+    table.is_valid();
     Ok(tree)
 }
 
@@ -306,13 +305,12 @@ fn change_table<L: Ledger>(
     match change_and_build(schema, table, dict, batch, alloc, steps) {
         Ok(tree) => {
             table.commit();
-            // The count is not needed, but what it says of every table.
-            let _rows = table.count();
+            table.is_valid();
             Ok(tree)
         }
         Err(refused) => {
             table.rollback();
-            let _rows = table.count();
+            table.is_valid();
             Err(refused)
         }
     }

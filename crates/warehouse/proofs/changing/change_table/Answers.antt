@@ -26,5 +26,5 @@ returns-in-Ok-clause-stored g c =
       values = rw texts (values-after c.args.batch.now c.args.dict.now.lists c.requires.valid is.values);
       known = rw c.commit.ensures.rows c.in-Ok.ensures.known;
       dictionary = c.in-Ok.ensures.dictionary;
-      are_rows = c.count-rows.ensures.valid;
+      are_rows = c.is_valid.ensures;
     }

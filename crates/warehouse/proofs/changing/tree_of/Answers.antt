@@ -10,7 +10,7 @@ pub returns-clause-tree : goal.returns-clause-tree
 returns-clause-tree g c =
     let schema = c.args.schema.now in
     let table = c.args.table.now in
-    kept-canonical schema table c.commit.new.self c.count-rows.ensures.valid c.requires.dims c.requires.measures c.commit.ensures.closed
+    kept-canonical schema table c.commit.new.self c.is_valid.ensures c.requires.dims c.requires.measures c.commit.ensures.closed
     (c.commit.ensures.width ∙ c.in-Ok-link_all.ensures.width ∙ c.in-Ok-build_classes.ensures.width ∙ c.begin.ensures.width ∙ ap (λ (a : Arena). a.width) c.in-Ok.ensures ∙ c.dims.ensures.count)
     (c.commit.ensures.max ∙ c.in-Ok-link_all.ensures.max ∙ c.in-Ok-build_classes.ensures.max ∙ c.begin.ensures.max ∙ ap (λ (a : Arena). a.max) c.in-Ok.ensures ∙ c.nodes.ensures)
     (subst (λ (max : ℕ). length (nodes nat_cmp (rows_of table)) ≤ max) (c.begin.ensures.max ∙ ap (λ (a : Arena). a.max) c.in-Ok.ensures ∙ c.nodes.ensures) c.in-Ok-build_classes.ensures.fits)
