@@ -4,7 +4,6 @@ use Rattle.std.specs.Prelude.{IfSome}
 use Rattle.std.proofs.lemmas.Bool.{and_parts, and_from}
 use Rattle.std.proofs.lemmas.Option.{slice_get-get_or, get_or_from_slice_get}
 use Rattle.std.specs.List.{AllByRecursion, cons_option, list_all}
-use Rattle.cube_defs.specs.Cell.{Cell, cell_of}
 use Rattle.cube_defs.specs.Rows.{Row}
 use Rattle.cube_laws.specs.Lists.{Among}
 use Rattle.cube_laws.proofs.Lists.{all_at, among_filter_map}
@@ -12,7 +11,7 @@ use Rattle.base_table.specs.Places.{Places, AreThere, IsRow, IsTable, named, row
 use Rattle.base_table.specs.declared.table.RowNo.{RowNo}
 use Rattle.cube_laws.specs.Parting.{code_in}
 use Rattle.cell_closure.specs.Parts.{code_of, code_at}
-use Rattle.cube_laws.proofs.Shared.{HaveDims, entry, cell-entry}
+use Rattle.cube_laws.proofs.Shared.{HaveDims}
 
 pub all_recursion : {X : Type 0} (P : X → Type 0) (xs : List X) → ((k : ℕ) (d : X) → k < length xs → P (get_or xs k d)) → AllByRecursion P xs
 all_recursion P [] h = tt

@@ -1,5 +1,5 @@
 -- While a tree is built, its edges lead down to each cell that has a path.
-use Rattle.std.proofs.Common.{◌≡◌, ℕ, suc, Option, Some, None, List, slice_index_or, nat_cmp, refl, sym, ap, ◌∙◌, arith}
+use Rattle.std.proofs.Common.{◌≡◌, ℕ, suc, Option, Some, None, List, nat_cmp, refl, sym, ap, ◌∙◌, arith}
 use Rattle.std.specs.Ordering.{eq_by_cmp}
 use Rattle.std.specs.Option.{option_map}
 use Rattle.std.specs.FinMap as map

@@ -1,11 +1,11 @@
 -- The way down a root and a node under it.
-use Rattle.std.proofs.Common.{◌≡◌, ◌≢◌, ℕ, zero, suc, Option, Some, None, is_some, [], ◌∷◌, replicate, slice_index_or, nat_cmp, refl, sym, ap, subst, ◌∙◌, true≢false, inl, inr}
+use Rattle.std.proofs.Common.{◌≡◌, ◌≢◌, ℕ, zero, suc, Some, None, is_some, replicate, slice_index_or, nat_cmp, sym, ap, subst, ◌∙◌, true≢false, inl, inr}
 use Rattle.std.proofs.lemmas.Bool.Decides.{eqb_tells}
 use Rattle.std.specs.FinMap as map
 use Rattle.std.specs.Option.{option_map}
 use Rattle.std.specs.Ordering.{eq_by_cmp}
-use Rattle.cube_defs.specs.Cell.{Cell, keep}
-use Rattle.cube_defs.specs.Tree.{Edge, Tree, cell_at}
+use Rattle.cube_defs.specs.Cell.{keep}
+use Rattle.cube_defs.specs.Tree.{Tree, cell_at}
 use Rattle.tree_laws.specs.Walk.{target_at}
 use Rattle.qc_arena.specs.Map.{Known, bare}
 use Rattle.qc_arena.specs.Edges.{with_edge}

@@ -1,4 +1,4 @@
-use Rattle.std.proofs.Common.{◌≡◌, ◌≤◌, ◌∙◌, [], ◌∷◌, None, ap, sym, subst, arith, length, replicate, nat_cmp}
+use Rattle.std.proofs.Common.{◌≡◌, ◌≤◌, ◌∙◌, [], ◌∷◌, None, ap, sym, arith, length, replicate, nat_cmp}
 use Rattle.std.proofs.lemmas.Result.{on_ok_weaker}
 use Rattle.std.specs.FinMap as map
 use Rattle.cube_defs.specs.Tree.{cell_at, nodes}
@@ -7,7 +7,7 @@ use Rattle.cell_closure.proofs.Rows.{there}
 use Rattle.cell_closure.proofs.Closing.{shared_long}
 use Rattle.build_trace.specs.Trace.{Act.{Add}}
 use Rattle.class_builder.specs.Walk.{acts_from}
-use Rattle.class_builder.proofs.Building.{does_then, err_again, next_behind, next_front, stays_then}
+use Rattle.class_builder.proofs.Building.{does_then, err_again, next_behind, next_front}
 use Rattle.class_builder.proofs.Whole.{first_next, no_cell, nodes_counted, root_going, root_path, tree_built}
 use Rattle.class_builder.proofs.tree.build_all.Goals as goal
 
