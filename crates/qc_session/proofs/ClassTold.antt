@@ -32,7 +32,7 @@ use Rattle.value_dict.specs.Told.{HasTexts, IsTold, text_of, told_cell, told_hit
 use Rattle.lower_bounds.specs.declared.class.Class.{Class}
 use Rattle.qc_session.proofs.Apart.{any-within, places-apart, text-at, text_equality}
 use Rattle.qc_session.proofs.Asked.{Fits, cell-found, cell-missing, code_equality, fits}
-use Rattle.qc_session.proofs.LowersRecoded.{lowers-coded, lowers-known}
+use Rattle.tree_laws.proofs.LowersRecoded.{lowers-coded, lowers-known}
 
 -- what is found by codes is the class by texts
 pub record IsFoundClass (texts : List (List Text)) (measures : ℕ) (rows : List (Row Text)) (c : Cell Text) (found : Option Class) : Type 0 where

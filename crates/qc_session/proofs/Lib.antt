@@ -4,7 +4,6 @@ mod ClassTold
 mod Ended
 mod Found
 mod Kept
-mod LowersRecoded
 mod Refusals
 mod Refused
 mod Steps

@@ -5,10 +5,11 @@ use Rattle.std.proofs.lemmas.Bool.{le-ltb}
 use Rattle.std.proofs.lemmas.Bool.Decides.{nat_tests}
 use Rattle.qc_io.specs.Outside.{Told}
 use Rattle.qc_schema.specs.Grammar.{schema_in}
-use Rattle.qc_schema.specs.States.{FailsAs, Fault}
+use Rattle.qc_schema.specs.States.{Fault}
 use Rattle.qc_schema.specs.declared.refusal.SchemaRefused.{SchemaRefused}
 use Rattle.qc_schema.specs.declared.refusal.SchemaRefused.TheVariants as refusals
-use Rattle.qc_session.specs.Failures.{schema_cause, schema_fault_in}
+use Rattle.qc_session.specs.Failures.{schema_cause}
+use Rattle.qc_schema.specs.States.{schema_fault_in}
 use Rattle.qc_session.specs.Lines.{script_lines}
 use Rattle.cube_defs.specs.declared.limits.TheConstants.{MAX_FILE}
 use Rattle.qc_session.specs.Runs.{Cause, Usage, CannotRead, CannotWrite, OutOfMemory, NoSchema, TooLong, IsNever, IsNoSchema, IsStartOf, IsScriptOf, StoppedAt, ReadFails, Said, Unread, refusal_of, start_in, status_of}
@@ -97,7 +98,7 @@ unread-line (Some t) names start script sure sure2 r skipped before now err err2
     surely s = record { done = s.done; line = s.line; rest = s.rest; split = s.split; names = s.names; wrote = s.wrote; untold = λ k. s.untold (surer k) }
 
 -- bytes that are no schema
-pub no-schema : (told : Option Told) (name : List ℕ) (rose sure : Type 0) (bytes : List ℕ) (refused : SchemaRefused) → IfSome told (λ t. IsScriptOf t name bytes) → FailsAs refused (schema_in bytes)
+pub no-schema : (told : Option Told) (name : List ℕ) (rose sure : Type 0) (bytes : List ℕ) (refused : SchemaRefused) → IfSome told (λ t. IsScriptOf t name bytes) → IfSome (schema_fault_in refused) (λ fault. schema_in bytes ≡ Err fault)
     → ReadFails told name rose sure (IsNoSchema name) (schema_cause (schema_fault_in refused))
 no-schema told name rose sure bytes refusals.Memory read e = tt
 no-schema None name rose sure bytes refusals.NotUtf8 read e = tt

@@ -71,7 +71,7 @@ answer_to state told line (Ok (commands.Bounds asked)) = Some (stays state (boun
 answer_to state told line (Ok commands.Stats) = Some (stays state (counted state line))
 
 abbrev pub answer : State → Told → ℕ → List ℕ → Option Answered
-answer state told number line = answer_to state told number (command_in (length state.schema.dims) line)
+answer state told number line = answer_to state told number (command_in state.schema line)
 
 -- the file that a command names, where it names one
 abbrev pub file_named : Result Command LineFault → Option Text
@@ -84,4 +84,4 @@ file_named (Ok commands.Stats) = None
 
 -- the file that a line names, over a schema
 abbrev pub file_of : Layout → List ℕ → Option Text
-file_of schema line = file_named (command_in (length schema.dims) line)
+file_of schema line = file_named (command_in schema line)

@@ -1,18 +1,12 @@
 -- The failures of the code as causes.
 use Rattle.std.specs.Prelude.{ℕ, List, ◌≡◌, Option, Some, None, IfSome, ⊤}
 use Rattle.qc_session.specs.Runs as runs
-use Rattle.qc_schema.specs.States.{Fault, NotUtf8, Line}
+use Rattle.qc_schema.specs.States.{Fault, schema_fault_in}
 use Rattle.qc_schema.specs.declared.refusal.SchemaRefused.{SchemaRefused}
-use Rattle.qc_schema.specs.declared.refusal.SchemaRefused.TheVariants as refusals
 use Rattle.qc_session.specs.declared.failure.Failure.{Failure}
 use Rattle.qc_session.specs.declared.failure.Failure.TheVariants as failures
 
--- what is wrong with a text that is no schema, and nothing where memory ran out
-abbrev pub schema_fault_in : SchemaRefused → Option Fault
-schema_fault_in refusals.NotUtf8 = Some NotUtf8
-schema_fault_in (refusals.Line line cause) = Some (Line line cause)
-schema_fault_in refusals.Memory = None
-
+-- want of memory, or a fault of a schema, as a cause
 abbrev pub schema_cause : Option Fault → runs.Cause
 schema_cause None = runs.OutOfMemory
 schema_cause (Some fault) = runs.NoSchema fault

@@ -39,7 +39,8 @@ pub enum LineStop {
 
 ghost use Rattle.qc_session.specs.Stops.{MatchLineStop, kind_in};
 ghost use Rattle.reply_text.specs.Words.{reply_bytes};
-ghost use Rattle.warehouse.specs.Stored.{refusal_in};
+ghost use Rattle.cell_core.specs.Gives.{Gives};
+ghost use Rattle.warehouse.specs.Stored.{applied_in, refusal_in};
 
 // Takes the bytes of a file.
 fn take_file<L: Ledger>(
@@ -49,8 +50,7 @@ fn take_file<L: Ledger>(
     steps: &mut Steps<L>,
 ) -> Result<Applied, Refused>
     requires { length bytes.now ≤ MAX_FILE }
-    ensures applied { IfOk result (λ applied. batches.result warehouse.old.state (kind_in kind) bytes.now ≡ Ok (record { records = applied.records; classes = applied.classes; state = warehouse.new.state })) }
-    ensures refused { IfErr result (λ e. IfSome (refusal_in e) (λ refusal. batches.result warehouse.old.state (kind_in kind) bytes.now ≡ Err refusal)) }
+    ensures gives { Gives refusal_in (applied_in warehouse.new.state) result (batches.result warehouse.old.state (kind_in kind) bytes.now) }
     ensures state { OnErr result (warehouse.new.state ≡ warehouse.old.state) }
     ensures tree { OnErr result (warehouse.new.tree ≡ warehouse.old.tree) }
 {
@@ -121,7 +121,7 @@ fn answer_command<F: Files, L: Ledger>(
     command: Command,
     steps: &mut Steps<L>,
 ) -> Result<Reply, LineStop>
-    requires { IsCommand (length warehouse.old.state.schema.dims) command }
+    requires { IsCommand warehouse.old.state.schema command }
     ensures later { F.faults files.old ≤ F.faults files.new }
     ensures told { F.told files.new ≡ F.told files.old }
     ensures steady { IsTrue (F.steady files.old) → IsTrue (F.steady files.new) }

@@ -1,9 +1,6 @@
 -- Refusals and replies of the code, by what they say.
-use Rattle.std.specs.Prelude.{ℕ, Option, Some, None, List, [], ◌∷◌, ◌<◌, ◌≤◌, length, decimal, ⊤}
+use Rattle.std.specs.Prelude.{ℕ, List, [], ◌∷◌, ◌<◌, ◌≤◌, length, decimal, ⊤}
 use Rattle.cube_defs.specs.Text.{Text}
-use Rattle.query_script.specs.Faults as lines
-use Rattle.query_script.specs.declared.line.LineRefused.{LineRefused}
-use Rattle.query_script.specs.declared.line.LineRefused.TheVariants as refusals
 use Rattle.warehouse.specs.declared.refused.Refused.{Refused}
 use Rattle.warehouse.specs.declared.refused.Refused.TheVariants as files
 use Rattle.reply_text.specs.declared.refusals.Detail.{Detail}
@@ -34,14 +31,6 @@ pub record IsShort (words : Words) : Type 0 where
 abbrev pub IsDimension : Refused → ℕ → Type 0
 IsDimension (files.ValuesFull dim) dims = dim < dims
 IsDimension refused dims = ⊤
-
--- what a line's refusal says, but for want of memory
-abbrev pub fault_in : LineRefused → Option lines.LineFault
-fault_in refusals.Utf8 = Some lines.Utf8
-fault_in refusals.Command = Some lines.Command
-fault_in (refusals.Field k) = Some (lines.Field k)
-fault_in refusals.Number = Some lines.Number
-fault_in refusals.Memory = None
 
 abbrev pub reply_bytes : Reply → List ℕ
 reply_bytes (replies.Short reply) = reply

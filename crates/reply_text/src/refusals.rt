@@ -23,7 +23,8 @@ pub struct Words<'a> {
     pub(crate) detail: Detail<'a>,
 }
 
-ghost use Rattle.reply_text.specs.Words.{IsDimension, IsShort, fault_in, texts_of};
+ghost use Rattle.reply_text.specs.Words.{IsDimension, IsShort, texts_of};
+ghost use Rattle.query_script.specs.Faults.{line_fault_in};
 
 impl<'a> Words<'a> {
     fn code(code: &'static str) -> Words<'a>
@@ -63,7 +64,7 @@ impl<'a> Words<'a> {
 
 /// Why a line is no command. None for want of memory.
 pub fn words_of_line(refused: LineRefused) -> Option<Words<'static>>
-    ensures texts { option_map texts_of result ≡ option_map line_texts (fault_in refused) }
+    ensures texts { option_map texts_of result ≡ option_map line_texts (line_fault_in refused) }
     ensures short { IfSome result (λ words. IsShort words) }
 {
     match refused {
