@@ -93,18 +93,6 @@ fn run_over(
     )
 }
 
-// Runs a script over files that give one byte a read, with an out that takes one byte a write.
-fn run_bytewise(
-    alloc: Global,
-    base: &[u8],
-    batches: [&[u8]; 3],
-    script: &[u8],
-) -> Result<Ran, AllocError> {
-    let mut files = MemoryFiles::new(alloc, &[], 1)?;
-    add_files(&mut files, SCHEMA.as_bytes(), base, batches, script)?;
-    run_words(alloc, &["run", "s.schema", "script"], &mut files, &[], 1)
-}
-
 // With ample memory a script has these replies, and no line is skipped.
 fn replies(
     rt: &impl Abort,
@@ -130,75 +118,10 @@ fn ends(rt: &impl Abort, ran: &Ran, status: u8, out: &str, err: &str) {
     assert_eq!(rt; ran.err.bytes(), err.as_bytes());
 }
 
-#[test]
-fn points_of_the_worked_table(rt: HostRuntime) -> Result<(), Fail> {
-    let script =
-        b"load base.csv\npoint *,*,*\npoint S1,*,*\npoint *,P2,f\npoint *,P2,*\npoint S2,P1,f\npoint S3,*,*";
-    let out = "applied,1,3,6\npoint,2,*,*,*,3,27,6,12,9/1\npoint,3,S1,*,*,2,18,6,12,9/1\nnone,4\n\
-        point,5,*,P2,*,1,12,12,12,12/1\npoint,6,S2,P1,f,1,9,9,9,9/1\nnone,7\n";
-    replies(&rt, rt.alloc(), SCHEMA, BASE, NONE, script, out)?;
-    Ok(())
-}
-
 // The fourth row of the worked table comes, and goes.
 const PLUS: &[u8] = b"op,id,store,product,season,sale\n+,4,S2,P2,f,3\n";
 
 const MINUS: &[u8] = b"op,id,store,product,season,sale\n-,4,,,,\n";
-
-#[test]
-fn one_byte_at_a_time(rt: HostRuntime) -> Result<(), Fail> {
-    let script = b"load base.csv\napply b.csv\nstats\npoint *,P2,*\npoint S2,*,*";
-    let out =
-        "applied,1,3,6\napplied,2,1,9\nstats,3,4,9,15,14,6\npoint,4,*,P2,*,2,15,3,12,15/2\npoint,5,S2,*,*,2,12,3,9,6/1\n";
-    let ran = run_bytewise(rt.alloc(), BASE, [PLUS, b"", b""], script)?;
-    ends(&rt, &ran, 0, out, "");
-    Ok(())
-}
-
-#[test]
-fn what_is_counted(rt: HostRuntime) -> Result<(), Fail> {
-    let all = b"op,id,store,product,season,sale\n-,1,,,,\n-,2,,,,\n-,3,,,,\n";
-    let two = b"id,store,product,season,sale\n1,S1,P1,s,5\n2,S1,P1,s,-5\n";
-    let second = b"op,id,store,product,season,sale\n-,2,,,,\n";
-    let odd = b"op,id,store,product,season,sale\n+,7,S9,P1,s,1\n+,8,S1,P9,s,2\n+,9,S1,P1,s,x\n";
-    let cases: [([&[u8]; 3], &[u8], &str); 7] = [
-        (NONE, b"stats\n", "stats,1,0,0,0,0,0\n"),
-        (
-            NONE,
-            b"load base.csv\nstats",
-            "applied,1,3,6\nstats,2,3,6,11,10,5\n",
-        ),
-        (
-            [PLUS, b"", b""],
-            b"load base.csv\napply b.csv\nstats\npoint *,P2,*\npoint S2,*,*",
-            "applied,1,3,6\napplied,2,1,9\nstats,3,4,9,15,14,6\npoint,4,*,P2,*,2,15,3,12,15/2\npoint,5,S2,*,*,2,12,3,9,6/1\n",
-        ),
-        (
-            [PLUS, MINUS, b""],
-            b"load base.csv\napply b.csv\napply c.csv\nstats",
-            "applied,1,3,6\napplied,2,1,9\napplied,3,1,6\nstats,4,3,6,11,10,5\n",
-        ),
-        (
-            [all, b"", b""],
-            b"load base.csv\napply b.csv\nstats\npoint *,*,*\nload base.csv",
-            "applied,1,3,6\napplied,2,3,0\nstats,3,0,0,0,0,0\nnone,4\napplied,5,3,6\n",
-        ),
-        (
-            [two, second, b""],
-            b"load b.csv\nstats\npoint *,*,*\napply c.csv\npoint *,*,*",
-            "applied,1,2,1\nstats,2,2,1,4,3,0\npoint,3,*,*,*,2,0,-5,5,0/1\napplied,4,1,1\npoint,5,*,*,*,1,5,5,5,5/1\n",
-        ),
-        (
-            [odd, b"", b""],
-            b"load base.csv\napply b.csv\nstats\npoint S9,*,*",
-            "applied,1,3,6\nrefused,2,amount,3\nstats,3,3,6,11,10,5\nnone,4\n",
-        ),
-    ];
-    for (batches, script, out) in cases {
-        replies(&rt, rt.alloc(), SCHEMA, BASE, batches, script, out)?;
-    }
-    Ok(())
-}
 
 #[test]
 fn bounds_of_the_worked_table(rt: HostRuntime) -> Result<(), Fail> {
@@ -282,42 +205,6 @@ fn limited(alloc: Global, limits: &str) -> Result<String, AllocError> {
     let mut schema = String::from_str(alloc, SCHEMA)?;
     schema.push_str(limits)?;
     Ok(schema)
-}
-
-#[test]
-fn nodes_that_are_too_many(rt: HostRuntime) -> Result<(), Fail> {
-    let cases = [
-        (
-            "nodes 11\n",
-            "applied,1,3,6\nrefused,2,nodes\nstats,3,3,6,11,10,5\n",
-        ),
-        (
-            "nodes 14\n",
-            "applied,1,3,6\nrefused,2,nodes\nstats,3,3,6,11,10,5\n",
-        ),
-        (
-            "nodes 15\n",
-            "applied,1,3,6\napplied,2,1,9\nstats,3,4,9,15,14,6\n",
-        ),
-        (
-            "nodes 10\n",
-            "refused,1,nodes\napplied,2,1,1\nstats,3,1,1,4,3,0\n",
-        ),
-    ];
-    let script = b"load base.csv\napply b.csv\nstats";
-    for (limits, out) in cases {
-        let schema = limited(rt.alloc(), limits)?;
-        replies(
-            &rt,
-            rt.alloc(),
-            schema.as_str(),
-            BASE,
-            [PLUS, b"", b""],
-            script,
-            out,
-        )?;
-    }
-    Ok(())
 }
 
 #[test]
