@@ -4,4 +4,4 @@ abbrev pub ghosts-has_lines : goal.ghosts-has_lines
 ghosts-has_lines a = record { name = a.blank.name; parts = a.blank.parts }
 
 abbrev pub ghosts-has_leads : goal.ghosts-has_leads
-ghosts-has_leads a = record { name = a.blank-1.name; parts = a.blank-1.parts }
+ghosts-has_leads a = record { name = a.blank.name; parts = a.blank.parts }
