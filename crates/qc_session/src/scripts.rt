@@ -1,6 +1,6 @@
 // The top call.
 ghost use Rattle.std.specs.Prelude.{◌≡◌, ◌≤◌, ◌<◌, ◌^◌, ◌⊎◌, ◌↔◌, [], Some, None, IfOk, IfErr, IfSome, IsSome, IsNone, IsTrue, is_some, true, option_map, MatchOption, length, map};
-ghost use Rattle.qc_io.specs.Outside.{Rose};
+ghost use Rattle.qc_io.specs.Outside.{IsOpenAs, Rose};
 ghost use Rattle.qc_session.specs.Lines.{lines_of, script_lines, without_cr};
 ghost use Rattle.qc_session.specs.Forms.{IfRun, form_of};
 ghost use Rattle.qc_session.specs.Runs.{AllTold, AreSkipped, BrokenOff, Cause, CannotRead, CannotWrite, Finished, IsNever, IsNoSchema, IsScriptOf, IsStartOf, IsStatus, OutOfMemory, ReadFails, Said, StoppedAt, StoppedWriting, Unread, Usage, WroteAll, refusal_of, state_in, status_of};
@@ -72,6 +72,7 @@ fn read_named<'a, F: Files>(
     ensures steady { IsTrue (F.steady files.old) → IsTrue (F.steady files.new) }
     ensures ok { IfOk result (λ bytes. IfSome (F.told files.old) (λ t. IsScriptOf t name.now bytes.items)) }
     ensures short { IfOk result (λ bytes. length bytes.items ≤ MAX_FILE) }
+    ensures open_file { IsOpenAs (F.told files.old) (F.cursor files.new) name.now }
     ensures err { IfErr result (λ f. ReadFails (F.told files.old) name.now (Rose (F.faults files.old) (F.faults files.new)) (IsTrue (F.steady files.old)) IsNever (cause_of f)) }
 {
     match read_all(alloc, files, name, MAX_FILE) {
@@ -92,6 +93,7 @@ fn read_named_schema<'a, F: Files>(
     ensures told { F.told files.new ≡ F.told files.old }
     ensures steady { IsTrue (F.steady files.old) → IsTrue (F.steady files.new) }
     ensures ok { IfOk result (λ schema. IfSome (F.told files.old) (λ t. IsStartOf t name.now (empty schema))) }
+    ensures open_file { IsOpenAs (F.told files.old) (F.cursor files.new) name.now }
     ensures err { IfErr result (λ f. ReadFails (F.told files.old) name.now (Rose (F.faults files.old) (F.faults files.new)) (IsTrue (F.steady files.old)) (IsNoSchema name.now) (cause_of f)) }
 {
     let bytes = read_named(alloc, files, name)?;
@@ -154,6 +156,7 @@ fn run_script<F: Files, O: Sink, E: Sink, L: Ledger>(
     ensures write_fault { result.status ≡ 4 → Rose (O.faults out.old) (O.faults out.new) }
     ensures broken { result.status ≡ 4 → IfSome (F.told files.old) (λ t. StoppedWriting t (empty schema) result.skipped.items (script_lines script.now) (O.taken out.old) (O.taken out.new)) }
     ensures said_write { result.status ≡ 4 → Said (Rose (E.faults err.old) (E.faults err.new)) CannotWrite (E.taken err.old) (E.taken err.new) }
+    ensures unbegun { result.status ≡ 5 → F.cursor files.new ≡ F.cursor files.old }
     ensures nothing { result.status ≡ 5 → (O.taken out.new ≡ O.taken out.old) × (result.skipped.items ≡ []) }
     ensures said_memory { result.status ≡ 5 → Said (Rose (E.faults err.old) (E.faults err.new)) OutOfMemory (E.taken err.old) (E.taken err.new) }
 {
@@ -232,6 +235,8 @@ pub fn run<F: Files, O: Sink, E: Sink>(
 
     // Status 5 and 6: nothing was begun.
     ensures nothing { (result.status ≡ 5) ⊎ (result.status ≡ 6) → (O.taken out.new ≡ O.taken out.old) × (result.skipped.items ≡ []) }
+    ensures unbegun { result.status ≡ 5 → IfRun (form_of words.now) (λ names.
+        IsOpenAs (F.told files.old) (F.cursor files.new) names.schema ⊎ IsOpenAs (F.told files.old) (F.cursor files.new) names.script) }
     ensures said_memory { result.status ≡ 5 → Said (Rose (E.faults err.old) (E.faults err.new)) OutOfMemory (E.taken err.old) (E.taken err.new) }
     ensures refused { result.status ≡ 6 → IfRun (form_of words.now) (λ names. IfSome (F.told files.old) (λ t. (cause : Cause)
         × (refusal_of (t names.schema) names (t names.script) ≡ Some cause)
