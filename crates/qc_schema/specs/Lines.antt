@@ -1,6 +1,6 @@
 -- The lines of a schema, and the words of a line.
-pub use Rattle.text_lines.specs.Lines.{is_comment, lines_of, mark, with_first, without_cr, without_mark}
 use Rattle.std.specs.Prelude.{ℕ, Bool, true, false, List, [], ◌∷◌, ◌==◌, map, filter, if◌then◌else◌}
+use Rattle.text_lines.specs.Lines.{lines_of, with_first, without_cr, without_mark}
 
 -- the lines of a schema, the first of which has the number 1
 abbrev pub schema_lines : List ℕ → List (List ℕ)

@@ -19,4 +19,3 @@ pub use limits::{DEFAULT_NODES, VERSION_1_DIMS, VERSION_1_MEASURES};
 pub use refusal::{SchemaCause, SchemaRefused};
 pub use schema::{Schema, read_schema};
 pub use spelling::schema_text;
-pub use text_lines::{split_line, trim_cr, trim_mark};

@@ -118,9 +118,8 @@ fn read_draft(alloc: Global, text: &[u8]) -> Result<Draft, SchemaRefused>
     let mut line: u32 = 1;
     'lines: while !rest.is_empty() {
         let (first, behind) = split_line(rest);
-        match reader.read_line(alloc, trim_cr(first)) {
-            Ok(()) => {}
-            Err(refused) => return Err(refused.at(line)),
+        if let Err(refused) = reader.read_line(alloc, trim_cr(first)) {
+            return Err(refused.at(line));
         }
         rest = behind;
         line += 1;
@@ -145,8 +144,6 @@ pub fn read_schema(alloc: Global, bytes: &[u8]) -> Result<Schema, SchemaRefused>
     let Ok(text) = str::from_utf8(bytes) else {
         return Err(SchemaRefused::NotUtf8);
     };
-    match read_draft(alloc, trim_mark(text.as_bytes())) {
-        Ok(draft) => Ok(Schema { draft }),
-        Err(refused) => Err(refused),
-    }
+    let draft = read_draft(alloc, trim_mark(text.as_bytes()))?;
+    Ok(Schema { draft })
 }

@@ -1,6 +1,6 @@
 -- The lines of a script.
 use Rattle.std.specs.Prelude.{ℕ, Bool, true, List, [], ◌∷◌, ◌==◌, map}
-pub use Rattle.qc_schema.specs.Lines.{lines_of, mark, with_first, without_cr, without_mark}
+pub use Rattle.text_lines.specs.Lines.{lines_of, mark, with_first, without_cr, without_mark}
 
 -- the lines of a script, numbered from 1
 abbrev pub script_lines : List ℕ → List (List ℕ)

@@ -12,10 +12,11 @@ use crate::words::{Form, read_words};
 use cell_core::Steps;
 use cube_defs::MAX_FILE;
 use qc_io::{Files, ReadRefused, Sink, read_all};
-use qc_schema::{Schema, read_schema, split_line, trim_mark};
+use qc_schema::{Schema, read_schema};
 use std::alloc::Global;
 use std::marker::Brand;
 use std::sync::ledger::{Blank, Ledger};
+use text_lines::{split_line, trim_mark};
 use warehouse::Warehouse;
 
 /// How a run ended.

@@ -10,10 +10,10 @@ use crate::lines::is_passed_over;
 use cell_core::{Steps, Text};
 use cube_defs::MAX_FILE;
 use qc_io::{Files, Sink, write_all};
-use qc_schema::{split_line, trim_cr};
 use reply_text::memory;
 use std::alloc::Global;
 use std::sync::ledger::Ledger;
+use text_lines::{split_line, trim_cr};
 use warehouse::Warehouse;
 
 /// Why a script ended before its last line.

@@ -32,7 +32,7 @@ returns-in-Err c =
 pub lines-preserved : goal.lines-preserved
 lines-preserved c =
     let taken : take_line (state_in c.lines.reader) (without_cr c.split_line.result.0.now) ≡ Ok (state_in c.read_line.new.self) =
-    ap (take_line (state_in c.lines.reader)) (sym c.trim_cr.ensures.value) ∙ c.in-Ok.ensures in
+    ap (take_line (state_in c.lines.reader)) (sym c.trim_cr.ensures.value) ∙ c.in_default.ensures in
     record {
       read = sym (read-more c.lines.rest.now c.split_line.result.0.now c.split_line.result.1.now c.lines.line (state_in c.lines.reader) (state_in c.read_line.new.self) c.split_line.ensures.lines taken) ∙ c.lines.invariant.read;
       keeps = line-kept (state_in c.lines.reader) (state_in c.read_line.new.self) (without_cr c.split_line.result.0.now) c.lines.invariant.keeps taken;
