@@ -25,12 +25,6 @@ module _ (dims : ℕ) (tree : Tree ℕ) (k : ℕ) (u : Cell ℕ) (at : cell_at t
   upper_wide t = ap length (sym (cell_of tree k u at)) ∙ wide dims tree t.0 t.1 k (there tree k u at)
 
   module _ (source : Source) (h : IsFrom dims tree source) (c : Cell ℕ) where
-    pub leads_none : Names tree None (closure_in source c) → false ≡ has_closure_in source u c
-    leads_none e = go (closure_in source c) refl e
-      where
-        go : (o : Option (Cell ℕ)) → closure_in source c ≡ o → None ≡ option_map (λ d. Some d) o → false ≡ has_closure_in source u c
-        go None q s = sym (ap (λ x. option_eq (cell_eq (eq_by_cmp nat_cmp)) x (Some u)) q)
-        go (Some w) q s = cc
 
     -- two nodes are the same where their cells are
     pub leads_some : (m : ℕ) → Names tree (Some m) (closure_in source c) → nat_eq m k ≡ has_closure_in source u c
@@ -45,11 +39,3 @@ module _ (dims : ℕ) (tree : Tree ℕ) (k : ℕ) (u : Cell ℕ) (at : cell_at t
             ap (λ x. option_eq (cell_eq (eq_by_cmp nat_cmp)) x (Some u)) (q ∙ ap (λ x. Some x) same) ∙ cell_eq-same law u)
             (λ e. let same : w ≡ u = cell_eq-exact law w u (sym (ap (λ x. option_eq (cell_eq (eq_by_cmp nat_cmp)) x (Some u)) q) ∙ e) in
             eq-eqb m k (h.canonical.once m k u (own ∙ ap (λ x. Some x) same) at))
-
--- a node with a class is there
-pub class_there : (tree : Tree ℕ) (k : ℕ) → IsSome (record_at tree k).class → IsSome (map.get tree k)
-class_there tree k t = go (map.get tree k) t
-  where
-    go : (o : Option (Node ℕ ℕ)) → IsSome (record_or o).class → IsSome o
-    go None t = t
-    go (Some n) t = refl

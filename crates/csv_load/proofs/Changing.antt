@@ -18,13 +18,6 @@ use Rattle.csv_load.proofs.Amounts.{amounts-are, id-small}
 use Rattle.csv_load.proofs.Ranges.{length-range}
 use Rattle.csv_load.proofs.Refusals.{ok_with}
 
-pub change-fields : (has_op : Bool) (layout : Layout) (width : ℕ) (places : List ℕ) (k : ℕ) (fields : List (List ℕ)) → (length fields ≡ width → ⊥) → change_in has_op layout width places k fields ≡ Err (Fields k)
-change-fields has_op layout width places k fields h = rw (ne_eqb (length fields) width h) refl
-
-pub change-utf8 : (has_op : Bool) (layout : Layout) (width : ℕ) (places : List ℕ) (k : ℕ) (fields : List (List ℕ)) → length fields ≡ width → list_all is_utf8 (tuple_of layout (fields_at places fields)) ≡ false
-    → change_in has_op layout width places k fields ≡ Err (Utf8 k)
-change-utf8 has_op layout width places k fields w e = rw (eq-eqb (length fields) width w, e) refl
-
 -- the change of a record whose texts are UTF-8
 pub change-text : (has_op : Bool) (layout : Layout) (width : ℕ) (places : List ℕ) (k : ℕ) (fields : List (List ℕ)) → length fields ≡ width → list_all is_utf8 (tuple_of layout (fields_at places fields)) ≡ true
     → change_in has_op layout width places k fields
@@ -105,10 +98,3 @@ with-more has_op layout width places k before fields left change e = rw e (by (c
     by : (o : Result (List (Change Text)) Fault) → ok_with before (cons_ok (Ok change) o) ≡ ok_with (before ++ change ∷ []) o
     by (Err fault) = refl
     by (Ok changes) = ap Ok (sym (append_assoc before (change ∷ []) changes))
-
-pub with-all : (has_op : Bool) (layout : Layout) (width : ℕ) (places : List ℕ) (k : ℕ) (before : List (Change Text)) → ok_with before (changes_from has_op layout width places k []) ≡ Ok before
-with-all has_op layout width places k before = ap Ok (append-nil before)
-
-pub with-none : (o : Result (List (Change Text)) Fault) → ok_with [] o ≡ o
-with-none (Err fault) = refl
-with-none (Ok changes) = refl

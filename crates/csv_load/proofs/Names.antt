@@ -9,29 +9,12 @@ use Rattle.cube_defs.specs.Text.{Text}
 use Rattle.qc_schema.specs.Schema.{Layout, Measure, names_of, no_measure}
 use Rattle.csv_load.specs.Columns.{cons_some, fields_at, needed_names, place_from, places_in}
 
-pub fields-at : (places : List ℕ) (fields : List (List ℕ)) (i : ℕ) → i < length places → get_or (fields_at places fields) i [] ≡ get_or fields (get_or places i 0) []
-fields-at places fields i h = get_or-map (λ place. get_or fields place []) places i 0 [] h
-
 -- ---- one name
 
 -- where the name stands, when it was found or not before the i-th field
 abbrev pub place_left : Option ℕ → ℕ → Text → List (List ℕ) → Option ℕ
 place_left None i name fields = place_from i name fields
 place_left (Some place) i name fields = cond (list_any (λ other. bytes_eq other name) fields) None (Some place)
-
-pub left-first : (i : ℕ) (name field : Text) (fields : List (List ℕ)) → bytes_eq field name ≡ true → place_left None i name (field ∷ fields) ≡ place_left (Some i) (i + 1) name fields
-left-first i name field fields e = rw e refl
-
-pub left-again : (place i : ℕ) (name field : Text) (fields : List (List ℕ)) → bytes_eq field name ≡ true → place_left (Some place) i name (field ∷ fields) ≡ None
-left-again place i name field fields e = rw e refl
-
-pub left-other : (found : Option ℕ) (i : ℕ) (name field : Text) (fields : List (List ℕ)) → bytes_eq field name ≡ false → place_left found i name (field ∷ fields) ≡ place_left found (i + 1) name fields
-left-other None i name field fields e = rw e refl
-left-other (Some place) i name field fields e = rw e refl
-
-pub left-end : (found : Option ℕ) (i : ℕ) (name : Text) → place_left found i name [] ≡ found
-left-end None i name = refl
-left-end (Some place) i name = refl
 
 place-within : (fields : List (List ℕ)) (k : ℕ) (name : Text) (place : ℕ) → place_from k name fields ≡ Some place → place < k + length fields
 place-within [] k name place e = absurd (cc e)
@@ -69,10 +52,6 @@ places-within header (n ∷ ns) places e =
 abbrev pub places_with : List ℕ → Option (List ℕ) → Option (List ℕ)
 places_with before more = option_map (λ places. before ++ places) more
 
-pub places-start : (more : Option (List ℕ)) → places_with [] more ≡ more
-places-start None = refl
-places-start (Some places) = refl
-
 pub places-step : (header names : List (List ℕ)) (before : List ℕ) (i place : ℕ) → i < length names → place_from 0 (get_or names i []) header ≡ Some place
     → places_with before (places_in header (drop i names)) ≡ places_with (before ++ place ∷ []) (places_in header (drop (i + 1) names))
 places-step header names before i place h e = ap (λ (ns : List Text). places_with before (places_in header ns)) (drop_more names i [] h) ∙ rw e (by (places_in header (drop (i + 1) names)))
@@ -104,23 +83,6 @@ needed-some has_op layout = omega (arith, needed-all has_op layout)
 pub needed-name : (has_op : Bool) (layout : Layout) (column : ℕ) → column < length (needed_names has_op layout) → get_or (needed_names has_op layout) column [] ≡ get_or (names_of layout ++ codes "op" ∷ []) column []
 needed-name false layout column h = sym (get_or_append_left (names_of layout) (codes "op" ∷ []) [] column h)
 needed-name true layout column h = refl
-
-pub name-op : (layout : Layout) (column : ℕ) → column ≡ length (names_of layout) → get_or (names_of layout ++ codes "op" ∷ []) column [] ≡ codes "op"
-name-op layout column e = get_or_push (names_of layout) (codes "op") [] column (sym e)
-
-pub name-schema : (layout : Layout) (column : ℕ) → column < length (names_of layout) → get_or (names_of layout ++ codes "op" ∷ []) column [] ≡ get_or (names_of layout) column []
-name-schema layout column h = get_or_append_left (names_of layout) (codes "op" ∷ []) [] column h
-
-pub name-dim : (layout : Layout) (column : ℕ) → 1 ≤ column → column ≤ length layout.dims → get_or (names_of layout) column [] ≡ get_or layout.dims (column - 1) []
-name-dim layout zero low high = absurd (omega arith)
-name-dim layout (suc k) low high = get_or_append_left layout.dims (map (λ (m : Measure). m.name) layout.measures) [] k (omega arith) ∙ ap (λ (i : ℕ). get_or layout.dims i []) (omega arith)
-
-pub name-measure : (layout : Layout) (column k : ℕ) → column ≡ 1 + length layout.dims + k → k < length layout.measures → get_or (names_of layout) column [] ≡ (get_or layout.measures k no_measure).name
-name-measure layout zero k e h = absurd (omega (arith, e))
-name-measure layout (suc column) k e h =
-    ap (λ (i : ℕ). get_or (layout.dims ++ map (λ (m : Measure). m.name) layout.measures) i []) (omega (arith, e))
-    ∙ get_or-append-add layout.dims (map (λ (m : Measure). m.name) layout.measures) k []
-    ∙ get_or-map (λ (m : Measure). m.name) layout.measures k no_measure [] h
 
 pub length-at : (places : List ℕ) (fields : List (List ℕ)) → length (fields_at places fields) ≡ length places
 length-at places fields = length-map places (λ place. get_or fields place [])

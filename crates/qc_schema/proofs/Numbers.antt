@@ -24,16 +24,6 @@ read-digit n b more h = rw (h, digit-value b h) refl
 read-other : (n b : ℕ) (more : List ℕ) → is_ascii_digit b ≡ false → read_on n (b ∷ more) ≡ None
 read-other n b more h = rw h refl
 
-pub step-digit : (text : List ℕ) (i n : ℕ) → i < length text → is_ascii_digit (get_or text i 0) ≡ true
-    → read_on n (drop i text) ≡ read_on (n * 10 + (get_or text i 0 - 48)) (drop (i + 1) text)
-step-digit text i n h e = ap (read_on n) (drop_more text i 0 h) ∙ read-digit n (get_or text i 0) (drop (i + 1) text) e
-
-pub step-other : (text : List ℕ) (i n : ℕ) → i < length text → is_ascii_digit (get_or text i 0) ≡ false → read_on n (drop i text) ≡ None
-step-other text i n h e = ap (read_on n) (drop_more text i 0 h) ∙ read-other n (get_or text i 0) (drop (i + 1) text) e
-
 -- a number of i digits stays small
 pub small : (n i : ℕ) → n < 10 ^ i → i < 7 → n < 1000000
 small n i h lt = let le : i ≤ 6 = omega arith in omega (arith, pow-le-pow_right {n = 10} (omega arith) le)
-
-pub small-more : (n d i : ℕ) → n < 10 ^ i → d ≤ 9 → n * 10 + d < 10 ^ (i + 1)
-small-more n d i h le = rw add-one (omega (arith, pow-suc 10 i))

@@ -96,12 +96,3 @@ unread-line (Some t) names start script sure sure2 r skipped before now err err2
   where
     surely : StoppedAt t sure2 start skipped (script_lines script) h.0 before now → StoppedAt t sure start skipped (script_lines script) h.0 before now
     surely s = record { done = s.done; line = s.line; rest = s.rest; split = s.split; names = s.names; wrote = s.wrote; untold = λ k. s.untold (surer k) }
-
--- bytes that are no schema
-pub no-schema : (told : Option Told) (name : List ℕ) (rose sure : Type 0) (bytes : List ℕ) (refused : SchemaRefused) → IfSome told (λ t. IsScriptOf t name bytes) → IfSome (schema_fault_in refused) (λ fault. schema_in bytes ≡ Err fault)
-    → ReadFails told name rose sure (IsNoSchema name) (schema_cause (schema_fault_in refused))
-no-schema told name rose sure bytes refusals.Memory read e = tt
-no-schema None name rose sure bytes refusals.NotUtf8 read e = tt
-no-schema (Some t) name rose sure bytes refusals.NotUtf8 read e = rw read.is_told (read.within, rw e refl)
-no-schema None name rose sure bytes (refusals.Line line cause) read e = tt
-no-schema (Some t) name rose sure bytes (refusals.Line line cause) read e = rw read.is_told (read.within, rw e refl)

@@ -19,14 +19,6 @@ use Rattle.qc_session.specs.Answers.{changed}
 use Rattle.reply_text.specs.Replies.{batch_texts, refused_text}
 use Rattle.reply_text.specs.Words.{IsDimension}
 
-pub file-refused : (s : State) (line : ℕ) (outcome : Result Applied Refusal) (cause : Option Refusal) (words : List Text) (reply : List ℕ) → IfSome cause (λ r. outcome ≡ Err r)
-    → Some words ≡ option_map (batch_texts s.schema) cause → reply ≡ refused_text line words → changed s line outcome ≡ record { state = s; reply = reply }
-file-refused s line outcome None words reply h e is = cc
-file-refused s line outcome (Some r) words reply h e is = rw (h, is, some e) refl
-  where
-    some : {x y : List Text} → Some x ≡ Some y → x ≡ y
-    some e = cc
-
 -- the last of some causes, where it is none of those before
 or-second : (a b : Option Refusal) (r : Refusal) → (a ≡ Some r → ⊥) → or_else a b ≡ Some r → b ≡ Some r
 or-second None b r other e = e

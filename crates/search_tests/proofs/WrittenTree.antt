@@ -117,18 +117,6 @@ module _ (i v : ℕ) (xs : List (ℕ × ℕ × NodeNo)) (k : ℕ) (d : ℕ × �
   first : edges_in (drop k xs) ≡ edge_in (get_or xs k d) ∷ edges_in (drop (suc k) xs)
   first = ap edges_in (drop-cons xs k d l)
 
-  pub look_found : (get_or xs k d).0 ≡ i → (get_or xs k d).1 ≡ v → target_at (eq_by_cmp nat_cmp) i v (edges_in (drop k xs)) ≡ Some (get_or xs k d).2.0
-  look_found e f =
-      ap (target_at (eq_by_cmp nat_cmp) i v) first
-      ∙ cond-true _ _ _ (and_from _ _ (eq-eqb _ i e) (subst (λ y. eq_by_cmp nat_cmp (get_or xs k d).1 y ≡ true) f ((equality_by nat_cmp_total map.nat_cmp-IsAntisymmetric).same (get_or xs k d).1)))
-
-  pub look_on : ((get_or xs k d).0 ≡ i → (get_or xs k d).1 ≡ v → ⊥) → target_at (eq_by_cmp nat_cmp) i v (edges_in (drop k xs)) ≡ target_at (eq_by_cmp nat_cmp) i v (edges_in (drop (k + 1) xs))
-  look_on f =
-      let next : suc k ≡ k + 1 = omega arith in
-      ap (target_at (eq_by_cmp nat_cmp) i v) first
-      ∙ cond-false _ _ _ (false_from_ne_true _ (λ h. let p = and_parts _ _ h in f (eqb-true _ i p.0) ((equality_by nat_cmp_total map.nat_cmp-IsAntisymmetric).exact _ v p.1)))
-      ∙ ap (λ n. target_at (eq_by_cmp nat_cmp) i v (edges_in (drop n xs))) next
-
 pub length-edges : (xs : List (ℕ × ℕ × NodeNo)) → length (edges_in xs) ≡ length xs
 length-edges [] = refl
 length-edges (x ∷ xs) = ap suc (length-edges xs)

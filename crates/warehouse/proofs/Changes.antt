@@ -191,11 +191,6 @@ below-more test changes k before here j lt = go (nat_eq j k) refl
     go true e = let same : j ≡ k = grind (arith, e) in ap (λ (n : ℕ). test (get_or changes n (Delete 0))) same ∙ ap test (sym (change-at changes k)) ∙ here
     go false e = before j (let ne : j < k = grind (arith, e, lt) in ne)
 
--- whether an insertion's id is that of a row
-deletion-there : (rows : List (Row ℕ)) (c : Change Text) → is_deletion c ≡ true → is_there rows c ≡ false
-deletion-there rows (Delete id) is = refl
-deletion-there rows (Insert row) is = cc
-
 pub insertion-there : (rows : List (Row ℕ)) (c : Change Text) → is_deletion c ≡ false → is_there rows c ≡ has_id rows (id_of c)
 insertion-there rows (Delete id) is = cc
 insertion-there rows (Insert row) is = refl

@@ -100,6 +100,13 @@ impl Warehouse {
         &self.dict
     }
 
+    /// Says what is true of every warehouse. It does nothing.
+    pub fn is_valid(&self)
+        ensures { IsHeld self.now }
+    {
+        let _read = &self.tree;
+    }
+
     /// The tree of the rows.
     pub fn tree(&self) -> &QcArena
         ensures value { result.now.now ≡ self.now.tree }
