@@ -7,6 +7,7 @@ ghost use Rattle.std.specs.Option.{option_map};
 ghost use Rattle.std.specs.Prelude.{Err, IfOk, IfSome, None, OnErr, OnOk, Some, length, slice_get, ◌<◌, ◌≡◌, ◌≤◌, ◌↔◌};
 ghost use Rattle.value_dict.specs.TextLists.{IsDictionary, cell_in, code_in, cut, entry_in, learnt, list_at, no_texts};
 
+mod asked;
 mod boxes;
 mod order;
 mod sets;
