@@ -248,3 +248,7 @@ module _ {A : Type 0} {cmp : A → A → Ordering} (total : IsTotalOrder cmp) (a
   -- each cell that is met covers a row
   pub met_covered : (box : Box A) (p : Cell A) (i : ℕ) → length p ≡ i + length box → depth p ≤ i → is_covered eq rows p ≡ true → AllByRecursion (λ c. is_covered eq rows c ≡ true) (met eq rows box p i)
   met_covered box p i l d k = all_from (λ c. is_covered eq rows c ≡ true) (met eq rows box p i) (λ c m. (met_goes box p i c l d k m).covered)
+
+  -- and is as long as the cell from which the walk goes on
+  pub met_long : (box : Box A) (p : Cell A) (i : ℕ) → length p ≡ i + length box → depth p ≤ i → is_covered eq rows p ≡ true → AllByRecursion (λ c. length c ≡ length p) (met eq rows box p i)
+  met_long box p i l d k = all_from (λ c. length c ≡ length p) (met eq rows box p i) (λ c m. (met_goes box p i c l d k m).long)

@@ -1,11 +1,10 @@
 use Rattle.std.proofs.Common.{◌≡◌, ℕ, suc, ◌+◌, ◌++◌, ◌≤◌, ◌<◌, Some, None, length, map, drop, set, get_or, sym, ap, subst, ◌∙◌, arith, rules}
-use Rattle.std.proofs.lemmas.Result.{on_ok_weaker}
 use Rattle.std.specs.Ordering.{eq_by_cmp, nat_cmp}
 use Rattle.qc_arena.specs.Seen.{record_at}
 use Rattle.tree_laws.specs.Walk.{by_forced}
 use Rattle.range_query.specs.Told.{hit_at, hit_in}
 use Rattle.range_query.specs.Walk.{cost, entered, entry_cost, met}
-use Rattle.range_query.proofs.Standing.{any_cost, any_met, back, codes_cost, codes_met, entered_none, entered_some, entry_cost_some, stands_after, stands_any, stands_whole}
+use Rattle.range_query.proofs.Standing.{back, codes_cost, codes_met, entered_none, entered_some, entry_cost_some, stands_after, stands_any, stands_whole}
 use Rattle.range_query.proofs.Lists.{all_taken, append_none, some_taken, steps_taken, within_taken}
 use Rattle.range_query.proofs.walk.+walking.Goals as goal
 
