@@ -1,0 +1,31 @@
+-- Hits, and hits with the texts of their codes.
+use Rattle.std.specs.Prelude.{◌≡◌, ℕ, List, length, map}
+use Rattle.std.specs.Ordering.{nat_cmp, eq_by_cmp}
+use Rattle.cube_defs.specs.Text.{Text}
+use Rattle.cube_defs.specs.Cell.{Cell}
+use Rattle.cube_defs.specs.Rows.{agg}
+use Rattle.cube_defs.specs.Answers as answers
+use Rattle.aggregates.specs.Views.{agg_in}
+use Rattle.tree_search.specs.Found.{Source}
+use Rattle.value_dict.specs.Told.{HasTexts, told_cell}
+use Rattle.range_query.specs.declared.hit.Hit.{Hit}
+
+-- a hit of codes
+abbrev pub hit_in : Hit → answers.Hit ℕ
+hit_in hit = record { cell = hit.cell; agg = agg_in hit.agg }
+
+-- a hit with the texts of its codes
+abbrev pub told_hit : List (List Text) → answers.Hit ℕ → answers.Hit Text
+told_hit lists hit = record { cell = told_cell lists hit.cell; agg = hit.agg }
+
+abbrev pub told_hits : List (List Text) → List Hit → List (answers.Hit Text)
+told_hits lists hits = map (λ hit. told_hit lists (hit_in hit)) hits
+
+-- a hit that can be told: its codes have texts, and it has a part for each measure
+pub record IsTold (lists : List (List Text)) (measures : ℕ) (hit : answers.Hit ℕ) : Type 0 where
+  pub texts : HasTexts lists hit.cell
+  pub parts : length hit.agg.parts ≡ measures
+
+-- a cell with what its rows come to
+abbrev pub hit_at : Source → Cell ℕ → answers.Hit ℕ
+hit_at source c = record { cell = c; agg = agg (eq_by_cmp nat_cmp) source.measures source.rows c }
