@@ -26,21 +26,10 @@ use Rattle.cube_laws.proofs.RecodedLists.{known-below}
 use Rattle.query_script.specs.Commands.{IsPointField}
 use Rattle.tree_search.specs.Found.{Source, total_in}
 use Rattle.value_dict.specs.TextLists.{cell_in, entry_in}
-use Rattle.warehouse.specs.State.{has_text, place_in}
-use Rattle.qc_session.proofs.Apart.{any-within, places-apart, text_equality}
+use Rattle.value_dict.specs.Told.{has_text, place_in}
+use Rattle.value_dict.proofs.Places.{any-within, within-any}
+use Rattle.value_dict.proofs.ToldCells.{Fits, fits, total-coded, total-missing}
 use Rattle.qc_session.specs.Answers.{cell_asked, entry_asked}
-
--- codes are equal where their order says so
-pub code_equality : IsEquality (eq_by_cmp nat_cmp)
-code_equality = equality_by nat_cmp_total nat_cmp-IsAntisymmetric
-
-within-any : {X : Type 0} (p : X → Bool) (xs : List X) → position_or_len p xs < length xs → list_any p xs ≡ true
-within-any p [] h = absurd (omega arith)
-within-any p (x ∷ xs) h = go (p x) refl (within-any p xs)
-  where
-    go : (b : Bool) → p x ≡ b → (position_or_len p xs < length xs → list_any p xs ≡ true) → list_any p (x ∷ xs) ≡ true
-    go true e more = rw e refl
-    go false e more = let h2 = rw e at h in rw e (more (omega (arith, h2)))
 
 -- what is known where an entry is found
 record IsEntry (texts : List Text) (asked : Option Text) (entry : Option ℕ) : Type 0 where
@@ -80,23 +69,6 @@ entry-missing texts (fields.One text) v is e h = go (nat_lt (position_or_len (by
     go : (b : Bool) → nat_lt (position_or_len (bytes_eq text) texts) (length texts) ≡ b → option_map (λ (code : ℕ). Some code) (cond b (Some (position_or_len (bytes_eq text) texts)) None) ≡ None → ⊥
     go true t g = cc
     go false t g = omega (arith, ltb-false _ _ t, any-within (bytes_eq text) texts (subst (λ x. list_any (bytes_eq x) texts ≡ true) (same h.0) h.1))
-
--- the lists from dimension k on
-abbrev pub Fits : List (List Text) → ℕ → List (List Text) → Type 0
-Fits texts k [] = ⊤
-Fits texts k (list ∷ lists) = (get_or texts k [] ≡ list) × Fits texts (suc k) lists
-
-fits-from : (texts : List (List Text)) (k : ℕ) (lists : List (List Text)) → ((i : ℕ) → get_or texts (k + i) [] ≡ get_or lists i []) → Fits texts k lists
-fits-from texts k [] h = tt
-fits-from texts k (list ∷ lists) h =
-    let first : k + 0 ≡ k = omega arith in
-    (subst (λ n. get_or texts n [] ≡ list) first (h 0), fits-from texts (suc k) lists later)
-  where
-    later : (i : ℕ) → get_or texts (suc k + i) [] ≡ get_or lists i []
-    later i = let next : k + suc i ≡ suc k + i = omega arith in subst (λ n. get_or texts n [] ≡ get_or lists i []) next (h (suc i))
-
-pub fits : (texts : List (List Text)) → Fits texts 0 texts
-fits texts = fits-from texts 0 texts (λ i. let same : 0 + i ≡ i = omega arith in ap (λ n. get_or texts n []) same)
 
 -- an entry, and the cell behind it
 abbrev joined : Option (Option ℕ) → Option (Cell ℕ) → Option (Cell ℕ)
@@ -170,33 +142,6 @@ cell-missing texts k (list ∷ lists) (f ∷ asked) same fit point e known = eli
   | inl h ↦ missing-first texts k list f asked fit.0 (All-head IsPointField f asked point) h known
   | inr h ↦ cell-missing texts (suc k) lists asked (omega (arith, same)) fit.1 (All-tail IsPointField f asked point) h (known-behind texts k (entry_asked f) (cell_asked asked) known)
 ]
-
-module _ (texts : List (List Text)) (measures : ℕ) where
-  some-coded : (rows : List (Row Text)) → agg_some measures (map (coded_row (place_in texts)) rows) ≡ agg_some measures rows
-  some-coded [] = refl
-  some-coded (r ∷ rows) = ap (λ a. Some a) (agg_of-coded (place_in texts) measures (r ∷ rows))
-
-  -- what the coded cell covers among coded rows comes to the same
-  pub total-coded : (rows : List (Row Text)) (c : Cell Text) → RowsAreKnown (has_text texts) rows → AreKnown (has_text texts) 0 c
-      → agg_at (eq_by_cmp nat_cmp) measures (map (coded_row (place_in texts)) rows) (coded (place_in texts) 0 c) ≡ agg_at text_eq measures rows c
-  total-coded rows c h known =
-      ap (agg_some measures) (cov-coded text_equality code_equality (places-apart texts) rows c h known) ∙ some-coded (cov text_eq rows c)
-
-  covered-known : (rows : List (Row Text)) (c : Cell Text) (r : Row Text) (rest : List (Row Text)) → RowsAreKnown (has_text texts) rows → cov text_eq rows c ≡ r ∷ rest → AreKnown (has_text texts) 0 c
-  covered-known [] c r rest h e = cc
-  covered-known (q ∷ rows) c r rest h e = go (covers text_eq c q) refl (covered-known rows c r rest h.1)
-    where
-      go : (b : Bool) → covers text_eq c q ≡ b → (cov text_eq rows c ≡ r ∷ rest → AreKnown (has_text texts) 0 c) → AreKnown (has_text texts) 0 c
-      go true t more = known-below text_equality (has_text texts) 0 c (cell_of q.tuple) t h.0
-      go false t more = more (rw t at e)
-
-  -- a cell that isn't known covers nothing
-  pub total-missing : (rows : List (Row Text)) (c : Cell Text) → RowsAreKnown (has_text texts) rows → (AreKnown (has_text texts) 0 c → ⊥) → agg_at text_eq measures rows c ≡ None
-  total-missing rows c h unknown = go (cov text_eq rows c) refl
-    where
-      go : (covered : List (Row Text)) → cov text_eq rows c ≡ covered → agg_some measures covered ≡ None
-      go [] e = refl
-      go (r ∷ rest) e = absurd (unknown (covered-known rows c r rest h e))
 
 -- what a point's cell comes to, by its codes
 pub total-found : (texts lists : List (List Text)) (measures : ℕ) (rows : List (Row Text)) (asked : List Field) (cell : Cell ℕ) → lists ≡ texts → RowsAreKnown (has_text texts) rows → All IsPointField asked

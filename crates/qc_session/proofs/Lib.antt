@@ -1,4 +1,3 @@
-mod Apart
 mod Asked
 mod ClassTold
 mod Ended

@@ -1,2 +1,4 @@
 pub mod TextLists
 pub mod Told
+pub mod Recoded
+pub mod Boxes

@@ -1,11 +1,20 @@
 -- Codes as they are told: lists of texts, a list for each dimension, in which a code is a place.
-use Rattle.std.specs.Prelude.{ℕ, ◌≡◌, ◌<◌, ⊤, List, [], ◌∷◌, None, Some, map, length, slice_index_or}
-use Rattle.std.specs.List.{All}
+use Rattle.std.specs.Prelude.{ℕ, Bool, ◌≡◌, ◌<◌, ⊤, List, [], ◌∷◌, None, Some, map, length, slice_index_or}
+use Rattle.std.specs.List.{All, list_any, position_or_len}
+use Rattle.std.specs.Str.{bytes_eq}
 use Rattle.std.specs.Option.{option_map}
 use Rattle.cube_defs.specs.Text.{Text}
 use Rattle.cube_defs.specs.Cell.{Cell}
 use Rattle.cube_defs.specs.Rows.{Row}
 use Rattle.cube_defs.specs.Answers.{ClassHit}
+
+-- whether a dimension has a text
+abbrev pub has_text : List (List Text) → ℕ → Text → Bool
+has_text texts dim text = list_any (bytes_eq text) (slice_index_or texts dim [])
+
+-- the place of a text among those of a dimension, counted from 0
+abbrev pub place_in : List (List Text) → ℕ → Text → ℕ
+place_in texts dim text = position_or_len (bytes_eq text) (slice_index_or texts dim [])
 
 -- the text of a code
 abbrev pub text_of : List Text → ℕ → Text

@@ -7,10 +7,14 @@ ghost use Rattle.std.specs.Option.{option_map};
 ghost use Rattle.std.specs.Prelude.{Err, IfOk, IfSome, None, OnErr, OnOk, Some, length, slice_get, ◌<◌, ◌≡◌, ◌≤◌, ◌↔◌};
 ghost use Rattle.value_dict.specs.TextLists.{IsDictionary, cell_in, code_in, cut, entry_in, learnt, list_at, no_texts};
 
+mod asked;
+mod boxes;
+mod order;
 mod sets;
 #[cfg(test)]
 mod tests;
 
+pub use boxes::CellBox;
 use cell_core::{Cell, Code, Entry, Field, Fields};
 pub use cube_defs::Memory;
 use cube_defs::{MAX_CODES, MAX_DIMS};
@@ -61,6 +65,14 @@ impl Dict {
             lists.push(IndexSet::new(alloc))?;
         }
         Ok(Dict { lists, max })
+    }
+
+    /// How many dimensions there are.
+    pub fn dims(&self) -> u8
+        ensures value { result ≡ length self.now.lists }
+        ensures dictionary { IsDictionary self.now }
+    {
+        self.lists.len() as u8
     }
 
     /// How many texts the dimension has.

@@ -16,9 +16,8 @@ use Rattle.tree_laws.specs.Counts.{classes_in, links_in, tree_edges_in}
 use Rattle.tree_laws.proofs.TreeEdges.{one_tree}
 use Rattle.tree_laws.proofs.Counted.{classes_counted, links_counted, nodes_counted, tree_edges_counted}
 use Rattle.tree_laws.proofs.RecodedCounts.{classes_as_many, links_as_many, nodes_as_many, tree_edges_as_many}
-use Rattle.warehouse.specs.State.{place_in}
-use Rattle.value_dict.specs.Told.{RowsAreCodes, decoded_row}
-use Rattle.warehouse.proofs.Apart.{places-apart}
+use Rattle.value_dict.specs.Told.{RowsAreCodes, decoded_row, place_in}
+use Rattle.value_dict.proofs.Places.{places-apart}
 use Rattle.warehouse.proofs.Decoding.{rows-back, rows-known}
 
 -- there is one tree edge fewer than nodes, or none of both

@@ -10,8 +10,8 @@ use Rattle.cube_defs.specs.Text.{Text}
 use Rattle.cube_laws.specs.Recoding.{AreKnown, coded_row, coded_tuple}
 use Rattle.csv_load.specs.Batch.{IsValue}
 use Rattle.value_dict.proofs.Distinct.{code_of_place, same_bytes}
-use Rattle.warehouse.specs.State.{has_text, ids_of, place_in}
-use Rattle.value_dict.specs.Told.{AreCodes, RowsAreCodes, decoded, decoded_row}
+use Rattle.warehouse.specs.State.{ids_of}
+use Rattle.value_dict.specs.Told.{AreCodes, RowsAreCodes, decoded, decoded_row, has_text, place_in}
 
 pub length-decoded : (lists : List (List Text)) (codes : List ℕ) → AreCodes lists codes → length (decoded lists codes) ≡ length codes
 length-decoded lists [] are = refl

@@ -1,4 +1,3 @@
-mod Apart
 mod Counted
 mod Causes
 mod Changes

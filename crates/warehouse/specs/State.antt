@@ -1,6 +1,6 @@
 -- The state of a warehouse.
-use Rattle.std.specs.Prelude.{ℕ, Bool, ◌≡◌, ◌≤◌, nat_eq, List, [], length, map, replicate, slice_index_or}
-use Rattle.std.specs.List.{All, IsDistinct, list_any, position_or_len}
+use Rattle.std.specs.Prelude.{ℕ, ◌≡◌, ◌≤◌, nat_eq, List, [], length, map, replicate}
+use Rattle.std.specs.List.{All, IsDistinct}
 use Rattle.std.specs.Str.{bytes_eq}
 use Rattle.cube_defs.specs.Text.{Text, text_cmp}
 use Rattle.cube_defs.specs.Rows.{Row}
@@ -9,6 +9,7 @@ use Rattle.cube_laws.specs.Recoding.{coded_row, RowsAreKnown}
 use Rattle.csv_load.specs.Batch.{IsLoaded, IsValue}
 use Rattle.qc_schema.specs.Schema.{Layout, IsLayout}
 use Rattle.tree_search.specs.Found.{Source, IsFrom}
+use Rattle.value_dict.specs.Told.{has_text, place_in}
 
 -- a schema, the rows in the order in which they were accepted, and for each dimension the texts that were ever accepted, in that order
 pub record State : Type 0 where
@@ -24,17 +25,9 @@ empty schema = record { schema = schema; rows = []; texts = replicate (length sc
 abbrev pub ids_of : {A : Type 0} → List (Row A) → List ℕ
 ids_of rows = map (λ row. row.id) rows
 
--- the place of a text among those of a dimension, counted from 0
-abbrev pub place_in : List (List Text) → ℕ → Text → ℕ
-place_in texts dim text = position_or_len (bytes_eq text) (slice_index_or texts dim [])
-
 -- the rows with the place of each text in place of the text
 abbrev pub coded : State → List (Row ℕ)
 coded s = map (coded_row (place_in s.texts)) s.rows
-
--- whether a dimension has a text
-abbrev pub has_text : List (List Text) → ℕ → Text → Bool
-has_text texts dim text = list_any (bytes_eq text) (slice_index_or texts dim [])
 
 -- what is true of every state
 pub record IsState (s : State) : Type 0 where

@@ -1,0 +1,10 @@
+use Rattle.std.proofs.Common.{◌≡◌, map, take}
+use Rattle.value_dict.specs.Recoded.{HaveTexts, text_in}
+use Rattle.value_dict.specs.TextLists.{list_at}
+use Rattle.value_dict.proofs.asked.all_codes.Given as goal
+
+abbrev pub invariant-codes : goal.invariant-codes
+invariant-codes l = record {
+  texts : map (text_in l.dict.lists l.dim) l.codes.items ≡ take l.code (list_at l.dict l.dim);
+  within : HaveTexts l.dict.lists l.dim l.codes.items;
+}
