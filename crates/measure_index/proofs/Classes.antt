@@ -1,25 +1,28 @@
 -- An index of classes stays one where its entries change as the classes do.
-use Rattle.std.proofs.Common.{◌≡◌, ◌≢◌, ◌⊎◌, inl, inr, ℕ, zero, suc, ◌==◌, ◌&&◌, ◌||◌, not, Bool, true, false, Option, None, Some, List, [], ◌∷◌, ℤ, int_eq, refl, sym, ap, subst, ◌∙◌, arith, true≢false}
+use Rattle.std.proofs.Common.{◌≡◌, ◌≢◌, ◌⊎◌, inl, inr, ℕ, zero, suc, ◌==◌, ◌&&◌, ◌||◌, not, Bool, true, false, cond, Option, None, Some, List, [], ◌∷◌, ℤ, int_eq, refl, sym, ap, subst, ◌∙◌, arith, true≢false, nat_eq, eqb-true}
 use Rattle.std.specs.Prelude.{map, slice_get}
-use Rattle.std.specs.List.{AllZip}
+use Rattle.std.specs.List.{AllByRecursion, AllZip}
 use Rattle.std.specs.List.Sorted.{IsStrictlySortedBy}
 use Rattle.std.specs.Ordering.{is_eq}
 use Rattle.std.specs.Cmp.{tied_itself}
 use Rattle.std.specs.declared.cmp.Ordering.{Ordering}
 use Rattle.std.specs.declared.cmp.Ordering.TheVariants.{Less, Equal, Greater}
+use Rattle.std.proofs.lemmas.Bool.{false_from_ne_true}
+use Rattle.std.proofs.lemmas.Map.Keys.{sorted_head, sorted_tail}
 use Rattle.std.proofs.lemmas.Bool.Decides.{Decides-eqb, Decides-int_eq}
 use Rattle.cube_defs.specs.Rows as defs
 use Rattle.cube_defs.specs.Answers.{value_of}
-use Rattle.cube_laws.specs.Lists.{Among}
+use Rattle.cube_laws.specs.Lists.{Among, Once}
 use Rattle.aggregates.specs.Views.{agg_in, kind_in, ratio_in}
 use Rattle.aggregates.specs.declared.agg.Agg.{Agg}
 use Rattle.aggregates.specs.declared.kind.AggKind.{AggKind}
+use Rattle.aggregates.specs.declared.kind.AggKind.TheVariants as kinds
 use Rattle.cell_core.specs.declared.cell.NodeNo.{NodeNo}
 use Rattle.qc_arena.specs.Changes.{AreNew}
 use Rattle.measure_index.specs.declared.entry.Entry.{Entry}
 use Rattle.measure_index.specs.Changes.{HasChanged, has, lists}
 use Rattle.measure_index.specs.Entries.{AreEntries, IsEntry, entry_cmp, entry_total}
-use Rattle.measure_index.specs.Index.{empty_ranking}
+use Rattle.measure_index.specs.Index.{empty_ranking, kind_eq, ranking_of}
 use Rattle.measure_index.specs.Rankings.{IsIndex, IsRanking, Ranking}
 use Rattle.measure_index.proofs.EntryLemmas.{exact, same_entry}
 use Rattle.measure_index.proofs.LowestTerms.{same_ratio}
@@ -141,6 +144,29 @@ module _ (kind : AggKind) (scale : ℕ) where
 one_entry : (x y : Entry) → ratio_in x.value ≡ ratio_in y.value → x.node ≡ y.node → x ≡ y
 one_entry x y v n = same_entry x y (same_ratio x.value y.value (ap (λ f. f.num) v) (ap (λ f. f.den) v)) n
 
+-- a node has no two entries
+pub nodes_once : (class : ℕ → Option defs.Agg) (r : Ranking) → IsRanking class r → Once nat_eq (map (λ e. e.node) r.entries)
+nodes_once class r is = all r.entries (λ e m. m) is.rising
+  where
+    differ : (x y : Entry) → Among x r.entries → Among y r.entries → entry_cmp x y ≡ Less → nat_eq x.node y.node ≡ false
+    differ x y m n less = false_from_ne_true _ (λ e.
+        let node : x.node ≡ y.node = eqb-true x.node y.node e in
+        let a : (a : defs.Agg) × (class x.node ≡ Some a) × (ratio_in x.value ≡ value_of (kind_in r.kind) r.scale a) = is.classes x m in
+        let b : (b : defs.Agg) × (class y.node ≡ Some b) × (ratio_in y.value ≡ value_of (kind_in r.kind) r.scale b) = is.classes y n in
+        let told : Some a.0 ≡ Some b.0 = sym a.1 ∙ ap class node ∙ b.1 in
+        let same : a.0 ≡ b.0 = cc in
+        let one : x ≡ y = one_entry x y (a.2 ∙ ap (value_of (kind_in r.kind) r.scale) same ∙ sym b.2) node in
+        let bad : Less ≡ Equal = sym less ∙ ap (entry_cmp x) (sym one) ∙ tied_itself entry_total x in
+        cc)
+
+    heads : (x : Entry) → Among x r.entries → (ys : List Entry) → ((e : Entry) → Among e ys → Among e r.entries) → AllByRecursion (λ y. entry_cmp x y ≡ Less) ys → AllByRecursion (λ k. nat_eq x.node k ≡ false) (map (λ e. e.node) ys)
+    heads x m [] within h = tt
+    heads x m (y ∷ ys) within h = (differ x y m (within y (inl refl)) h.0, heads x m ys (λ e n. within e (inr n)) h.1)
+
+    all : (es : List Entry) → ((e : Entry) → Among e es → Among e r.entries) → IsStrictlySortedBy entry_cmp es → Once nat_eq (map (λ e. e.node) es)
+    all [] within h = tt
+    all (x ∷ es) within h = (heads x (within x (inl refl)) es (λ e n. within e (inr n)) (sorted_head entry_cmp x es h), all es (λ e n. within e (inr n)) (sorted_tail entry_cmp x es h))
+
 both_true : (a b : Bool) → (a && not b) ≡ true → (a ≡ true) × (b ≡ false)
 both_true true true h = absurd (true≢false (sym h))
 both_true true false h = (refl, refl)
@@ -235,3 +261,39 @@ empty_index scales (kind ∷ kinds) = behind (empty_index scales kinds)
     behind : IsIndex (λ _. None) (map (empty_ranking scales) kinds) → IsIndex (λ _. None) (map (empty_ranking scales) (kind ∷ kinds))
     behind more zero d l = none
     behind more (suc k) d l = more k d (omega (arith, l))
+
+pub same_kinds : (a b : AggKind) → kind_eq a b ≡ true → a ≡ b
+same_kinds kinds.Count kinds.Count h = refl
+same_kinds kinds.Count (kinds.Sum n) h = cc
+same_kinds kinds.Count (kinds.Least n) h = cc
+same_kinds kinds.Count (kinds.Greatest n) h = cc
+same_kinds kinds.Count (kinds.Mean n) h = cc
+same_kinds (kinds.Sum m) kinds.Count h = cc
+same_kinds (kinds.Sum m) (kinds.Sum n) h = ap (λ (i : ℕ). kinds.Sum i) (eqb-true m n h)
+same_kinds (kinds.Sum m) (kinds.Least n) h = cc
+same_kinds (kinds.Sum m) (kinds.Greatest n) h = cc
+same_kinds (kinds.Sum m) (kinds.Mean n) h = cc
+same_kinds (kinds.Least m) kinds.Count h = cc
+same_kinds (kinds.Least m) (kinds.Sum n) h = cc
+same_kinds (kinds.Least m) (kinds.Least n) h = ap (λ (i : ℕ). kinds.Least i) (eqb-true m n h)
+same_kinds (kinds.Least m) (kinds.Greatest n) h = cc
+same_kinds (kinds.Least m) (kinds.Mean n) h = cc
+same_kinds (kinds.Greatest m) kinds.Count h = cc
+same_kinds (kinds.Greatest m) (kinds.Sum n) h = cc
+same_kinds (kinds.Greatest m) (kinds.Least n) h = cc
+same_kinds (kinds.Greatest m) (kinds.Greatest n) h = ap (λ (i : ℕ). kinds.Greatest i) (eqb-true m n h)
+same_kinds (kinds.Greatest m) (kinds.Mean n) h = cc
+same_kinds (kinds.Mean m) kinds.Count h = cc
+same_kinds (kinds.Mean m) (kinds.Sum n) h = cc
+same_kinds (kinds.Mean m) (kinds.Least n) h = cc
+same_kinds (kinds.Mean m) (kinds.Greatest n) h = cc
+same_kinds (kinds.Mean m) (kinds.Mean n) h = ap (λ (i : ℕ). kinds.Mean i) (eqb-true m n h)
+
+-- the ranking that is found for a kind
+pub ranking_found : (class : ℕ → Option defs.Agg) (kind : AggKind) (index : List Ranking) (r : Ranking) → IsIndex class index → ranking_of kind index ≡ Some r → IsRanking class r × (kind ≡ r.kind)
+ranking_found class kind [] r is e = cc
+ranking_found class kind (x ∷ index) r is e = go (ranking_found class kind index r (λ k d l. is (suc k) d (omega (arith, l)))) (kind_eq kind x.kind) refl e
+  where
+    go : (ranking_of kind index ≡ Some r → IsRanking class r × (kind ≡ r.kind)) → (b : Bool) → kind_eq kind x.kind ≡ b → cond b (Some x) (ranking_of kind index) ≡ Some r → IsRanking class r × (kind ≡ r.kind)
+    go more true same f = let one : x ≡ r = cc in (subst (IsRanking class) one (is 0 x (omega arith)), same_kinds kind x.kind same ∙ ap (λ y. y.kind) one)
+    go more false other f = more f

@@ -17,13 +17,13 @@ kind_eq _ _ = false
 abbrev pub ranking_of : AggKind → List Ranking → Option Ranking
 ranking_of kind index = find (λ r. kind_eq kind r.kind) index
 
+abbrev pub entries_in : Option Ranking → List Entry
+entries_in None = []
+entries_in (Some r) = r.entries
+
 -- the entries of a kind
 abbrev pub entries_of : AggKind → List Ranking → List Entry
 entries_of kind index = entries_in (ranking_of kind index)
-  where
-    entries_in : Option Ranking → List Entry
-    entries_in None = []
-    entries_in (Some r) = r.entries
 
 -- the scale of the kind's measure; a count has none
 abbrev pub scale_of : List ℕ → AggKind → ℕ
