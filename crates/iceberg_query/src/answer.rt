@@ -3,13 +3,12 @@ ghost use Rattle.std.specs.Prelude.{IfOk, IfSome, IsSome, length, ◌*◌, ◌+�
 ghost use Rattle.cube_defs.specs.Answers as answers;
 ghost use Rattle.cube_defs.specs.Text.{text_cmp};
 ghost use Rattle.cube_laws.specs.Recoding.{RowsAreKnown};
-ghost use Rattle.aggregates.specs.Views.{IsThere};
 ghost use Rattle.tree_search.specs.Found.{IsFrom, IsTree, Source};
 ghost use Rattle.value_dict.specs.Recoded.{has_code, told_rows};
 ghost use Rattle.value_dict.specs.TextLists.{IsDictionary};
 ghost use Rattle.measure_index.specs.Index.{ranking_of};
 ghost use Rattle.measure_index.specs.Rankings.{IsIndex};
-ghost use Rattle.iceberg_query.specs.Asked.{ask_in};
+ghost use Rattle.iceberg_query.specs.Asked.{HasMeasure, ask_in};
 ghost use Rattle.iceberg_query.specs.Below.{numbers};
 ghost use Rattle.iceberg_query.specs.Hits.{told_classes};
 ghost use Rattle.iceberg_query.specs.Indexed.{class_of_node};
@@ -40,7 +39,7 @@ fn in_order<T: Nodes, L: Ledger>(
     requires dims { length dict.now.lists ≡ T.width tree.now }
     requires dictionary { IsDictionary dict.now }
     requires picked { ArePicked (T.tree tree.now) ask.now (numbers nodes.now) }
-    requires measure { (source : Source) → IsFrom (T.width tree.now) (T.tree tree.now) source → IsThere source.measures ask.now.kind }
+    requires measure { HasMeasure (T.width tree.now) (T.tree tree.now) ask.now.kind }
     requires scale { ask.now.scale ≤ 6 }
     ensures classes { (source : Source) → IsFrom (T.width tree.now) (T.tree tree.now) source → RowsAreKnown (has_code dict.now.lists) source.rows →
         IfOk result (λ classes. told_classes dict.now.lists classes.items ≡ answers.iceberg text_cmp source.measures (told_rows dict.now.lists source.rows) (ask_in ask.now)) }
@@ -65,7 +64,7 @@ fn picked<T: Nodes, L: Ledger>(
     steps: &mut Steps<L>,
 ) -> Result<Vec<NodeNo>, Memory>
     requires tree { IsTree (T.width tree.now) (T.tree tree.now) }
-    requires measure { (source : Source) → IsFrom (T.width tree.now) (T.tree tree.now) source → IsThere source.measures ask.now.kind }
+    requires measure { HasMeasure (T.width tree.now) (T.tree tree.now) ask.now.kind }
     requires scale { ask.now.scale ≤ 6 }
     ensures { IfOk result (λ nodes. ArePicked (T.tree tree.now) ask.now (numbers nodes.items)) }
 {
@@ -90,7 +89,7 @@ fn nodes_of<T: Nodes, L: Ledger>(
     requires tree { IsTree (T.width tree.now) (T.tree tree.now) }
     requires index { IsIndex (class_of_node (T.tree tree.now)) index.now }
     requires unit { IfSome (ranking_of ask.now.kind index.now) (λ r. r.scale ≡ ask.now.scale) }
-    requires measure { (source : Source) → IsFrom (T.width tree.now) (T.tree tree.now) source → IsThere source.measures ask.now.kind }
+    requires measure { HasMeasure (T.width tree.now) (T.tree tree.now) ask.now.kind }
     requires scale { ask.now.scale ≤ 6 }
     ensures picked { IfOk result (λ nodes. ArePicked (T.tree tree.now) ask.now (numbers nodes.items)) }
     ensures steps { IsSome (ranking_of ask.now.kind index.now) → steps.new ≡ steps.old }
@@ -119,7 +118,7 @@ pub fn iceberg<T: Nodes, L: Ledger>(
     requires index { IsIndex (class_of_node (T.tree tree.now)) index.now }
     requires unit { IfSome (ranking_of ask.now.kind index.now) (λ r. r.scale ≡ ask.now.scale) }
     requires dims { length dict.now.lists ≡ T.width tree.now }
-    requires measure { (source : Source) → IsFrom (T.width tree.now) (T.tree tree.now) source → IsThere source.measures ask.now.kind }
+    requires measure { HasMeasure (T.width tree.now) (T.tree tree.now) ask.now.kind }
     requires scale { ask.now.scale ≤ 6 }
     ensures classes { (source : Source) → IsFrom (T.width tree.now) (T.tree tree.now) source → RowsAreKnown (has_code dict.now.lists) source.rows →
         IfOk result (λ classes. told_classes dict.now.lists classes.items ≡ answers.iceberg text_cmp source.measures (told_rows dict.now.lists source.rows) (ask_in ask.now)) }

@@ -1,8 +1,8 @@
 // The classes of nodes, with the values that were asked for.
 ghost use Rattle.std.specs.Prelude.{All, IfOk, IsSome, OnOk, length, map, ◌*◌, ◌+◌, ◌^◌, ◌≡◌, ◌≤◌};
-ghost use Rattle.aggregates.specs.Views.{IsThere};
 ghost use Rattle.qc_arena.specs.Seen.{record_at};
 ghost use Rattle.tree_search.specs.Found.{IsFrom, IsTree, Source};
+ghost use Rattle.iceberg_query.specs.Asked.{HasMeasure};
 ghost use Rattle.iceberg_query.specs.Below.{numbers};
 ghost use Rattle.iceberg_query.specs.Hits.{AreClasses, IsValued, class_at, class_of, valued_of};
 
@@ -32,7 +32,7 @@ fn value_at<T: Nodes, L: Ledger>(
 ) -> Result<Valued, Memory>
     requires tree { IsTree (T.width tree.now) (T.tree tree.now) }
     requires class { IsSome (record_at (T.tree tree.now) node.0).class }
-    requires measure { (source : Source) → IsFrom (T.width tree.now) (T.tree tree.now) source → IsThere source.measures ask.now.kind }
+    requires measure { HasMeasure (T.width tree.now) (T.tree tree.now) ask.now.kind }
     requires scale { ask.now.scale ≤ 6 }
     ensures hit { (source : Source) → IsFrom (T.width tree.now) (T.tree tree.now) source →
         IfOk result (λ v. valued_of v ≡ class_at source (T.tree tree.now) node.0) }
@@ -63,7 +63,7 @@ pub(crate) fn values_at<T: Nodes, L: Ledger>(
 ) -> Result<Vec<Valued>, Memory>
     requires tree { IsTree (T.width tree.now) (T.tree tree.now) }
     requires classes { AreClasses (T.tree tree.now) (numbers nodes.now) }
-    requires measure { (source : Source) → IsFrom (T.width tree.now) (T.tree tree.now) source → IsThere source.measures ask.now.kind }
+    requires measure { HasMeasure (T.width tree.now) (T.tree tree.now) ask.now.kind }
     requires scale { ask.now.scale ≤ 6 }
     ensures hits { (source : Source) → IsFrom (T.width tree.now) (T.tree tree.now) source →
         IfOk result (λ vs. map valued_of vs.items ≡ map (class_at source (T.tree tree.now)) (numbers nodes.now)) }

@@ -13,5 +13,5 @@ returns-clause-steps g c = steps_within _ _ c.requires.tree.0 c.requires.tree.1 
 
 pub value_of-requires-clause-there : goal.value_of-requires-clause-there
 value_of-requires-clause-there g c =
-    there_is_measure _ _ c.requires.tree.0 c.requires.tree.1 c.args.node.0 (class_there _ c.args.node.0 c.requires.class) c.unwrap-total.result c.args.ask.now.kind
-    (ap (option_map agg_in) (sym c.unwrap-total.ensures) ∙ c.class.ensures.value) (c.requires.measure c.requires.tree.0 c.requires.tree.1)
+    there_is_measure _ _ c.requires.measure.0 c.requires.measure.1 c.args.node.0 (class_there _ c.args.node.0 c.requires.class) c.unwrap-total.result c.args.ask.now.kind
+    (ap (option_map agg_in) (sym c.unwrap-total.ensures) ∙ c.class.ensures.value) c.requires.measure.2
