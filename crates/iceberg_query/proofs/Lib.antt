@@ -1,0 +1,10 @@
+pub mod Walked
+pub mod Measures
+pub mod Reached
+pub mod Once
+pub mod Ordered
+pub mod Bounded
+pub mod Picks
+pub mod Sorted
+pub mod Told
+pub mod Index

@@ -1,0 +1,37 @@
+-- Classes in the code, by codes and with the texts of their codes.
+use Rattle.std.specs.Prelude.{◌≡◌, ℕ, List, map, IsSome}
+use Rattle.std.specs.List.{All}
+use Rattle.std.specs.Ordering.{nat_cmp}
+use Rattle.cube_defs.specs.Text.{Text}
+use Rattle.cube_defs.specs.Tree.{Tree}
+use Rattle.cube_defs.specs.Answers as answers
+use Rattle.aggregates.specs.Views.{agg_in, kind_in, ratio_in}
+use Rattle.lower_bounds.specs.Classes.{hit_in}
+use Rattle.lower_bounds.specs.declared.class.Class.{Class}
+use Rattle.qc_arena.specs.Seen.{record_at}
+use Rattle.tree_search.specs.Found.{Source}
+use Rattle.value_dict.specs.Told.{told_hit}
+use Rattle.iceberg_query.specs.declared.ask.Ask.{Ask}
+use Rattle.iceberg_query.specs.declared.hits.Valued.{Valued}
+
+abbrev pub class_of : Valued → Class
+class_of v = v.class
+
+abbrev pub valued_of : Valued → answers.ClassHit ℕ
+valued_of v = hit_in v.class
+
+-- the class of a node
+abbrev pub class_at : Source → Tree ℕ → ℕ → answers.ClassHit ℕ
+class_at source tree k = answers.class_at nat_cmp source.measures source.rows (record_at tree k).cell
+
+-- each node is a class
+abbrev pub AreClasses : Tree ℕ → List ℕ → Type 0
+AreClasses tree ks = All (λ k. IsSome (record_at tree k).class) ks
+
+-- the value is that of the class
+abbrev pub IsValued : Ask → Valued → Type 0
+IsValued ask v = ratio_in v.value ≡ answers.value_of (kind_in ask.kind) ask.scale (agg_in v.class.total)
+
+-- classes with the texts of their codes
+abbrev pub told_classes : List (List Text) → List Class → List (answers.ClassHit Text)
+told_classes lists classes = map (λ class. told_hit lists (hit_in class)) classes

@@ -1,0 +1,29 @@
+-- The classes in an index.
+use Rattle.std.specs.Prelude.{ℕ, Option, List, filter, reverse}
+use Rattle.cube_defs.specs.Rows.{Agg}
+use Rattle.cube_defs.specs.Tree.{Tree}
+use Rattle.aggregates.specs.declared.fraction.Fraction.{Fraction}
+use Rattle.measure_index.specs.declared.entry.Entry.{Entry}
+use Rattle.measure_index.specs.Index.{entries_of}
+use Rattle.measure_index.specs.Rankings.{Ranking}
+use Rattle.measure_index.specs.Walks.{is_at_least, is_at_most}
+use Rattle.qc_arena.specs.Seen.{record_at}
+use Rattle.iceberg_query.specs.declared.ask.Ask.{Ask}
+use Rattle.iceberg_query.specs.declared.ask.Bound.{Bound}
+use Rattle.iceberg_query.specs.declared.ask.Bound.TheVariants as bounds
+
+-- the class of a node of the tree, if it is one
+abbrev pub class_of_node : Tree ℕ → ℕ → Option Agg
+class_of_node tree k = (record_at tree k).class
+
+abbrev pub node_of : Entry → ℕ
+node_of e = e.node
+
+-- of rising entries those that qualify, falling for `AtLeast` and rising for `AtMost`
+abbrev pub qualifying : Bound → Fraction → List Entry → List Entry
+qualifying bounds.AtLeast value entries = reverse (filter (is_at_least value) entries)
+qualifying bounds.AtMost value entries = filter (is_at_most value) entries
+
+-- the entries of the asked kind that qualify, in the order that is asked for
+abbrev pub asked_entries : Ask → List Ranking → List Entry
+asked_entries ask index = qualifying ask.bound ask.value (entries_of ask.kind index)

@@ -1,0 +1,133 @@
+// The answer to an iceberg query.
+ghost use Rattle.std.specs.Prelude.{IfOk, IfSome, IsSome, length, ◌*◌, ◌+◌, ◌^◌, ◌≡◌, ◌≤◌};
+ghost use Rattle.cube_defs.specs.Answers as answers;
+ghost use Rattle.cube_defs.specs.Text.{text_cmp};
+ghost use Rattle.cube_laws.specs.Recoding.{RowsAreKnown};
+ghost use Rattle.tree_search.specs.Found.{IsFrom, IsTree, Source};
+ghost use Rattle.value_dict.specs.Recoded.{has_code, told_rows};
+ghost use Rattle.value_dict.specs.TextLists.{IsDictionary};
+ghost use Rattle.measure_index.specs.Index.{ranking_of};
+ghost use Rattle.measure_index.specs.Rankings.{IsIndex};
+ghost use Rattle.iceberg_query.specs.Asked.{HasMeasure, ask_in};
+ghost use Rattle.iceberg_query.specs.Below.{numbers};
+ghost use Rattle.iceberg_query.specs.Hits.{told_classes};
+ghost use Rattle.iceberg_query.specs.Indexed.{class_of_node};
+ghost use Rattle.iceberg_query.specs.Picked.{ArePicked};
+
+use crate::hits::{values_at, without_values};
+use crate::indexed::indexed_nodes;
+use crate::order::sort;
+use crate::pick::pick_below;
+use crate::{Ask, Class, Memory};
+use cell_core::{NodeNo, Steps};
+use measure_index::Index;
+use qc_arena::Nodes;
+use std::alloc::Global;
+use std::sync::ledger::Ledger;
+use value_dict::Dict;
+
+// The classes of some nodes in order.
+fn in_order<T: Nodes, L: Ledger>(
+    alloc: Global,
+    tree: &T,
+    dict: &Dict,
+    ask: &Ask,
+    nodes: &[NodeNo],
+    steps: &mut Steps<L>,
+) -> Result<Vec<Class>, Memory>
+    requires tree { IsTree (T.width tree.now) (T.tree tree.now) }
+    requires dims { length dict.now.lists ≡ T.width tree.now }
+    requires dictionary { IsDictionary dict.now }
+    requires picked { ArePicked (T.tree tree.now) ask.now (numbers nodes.now) }
+    requires measure { HasMeasure (T.width tree.now) (T.tree tree.now) ask.now.kind }
+    requires scale { ask.now.scale ≤ 6 }
+    ensures classes { (source : Source) → IsFrom (T.width tree.now) (T.tree tree.now) source → RowsAreKnown (has_code dict.now.lists) source.rows →
+        IfOk result (λ classes. told_classes dict.now.lists classes.items ≡ answers.iceberg text_cmp source.measures (told_rows dict.now.lists source.rows) (ask_in ask.now)) }
+    ensures count { IfOk result (λ classes. length classes.items ≡ length nodes.now) }
+    ensures steps { steps.new ≤ steps.old + length nodes.now * (32 * (T.width tree.now + 1) ^ 2 * 2 ^ T.width tree.now) }
+{
+    let mut values = match values_at(alloc, tree, ask, nodes, steps) {
+        Ok(values) => values,
+        Err(error) => return Err(error),
+    };
+    match sort(dict, ask.bound, &mut values) {
+        Ok(()) => without_values(alloc, values),
+        Err(error) => Err(error),
+    }
+}
+
+// The nodes of the classes that are asked for.
+fn picked<T: Nodes, L: Ledger>(
+    alloc: Global,
+    tree: &T,
+    ask: &Ask,
+    steps: &mut Steps<L>,
+) -> Result<Vec<NodeNo>, Memory>
+    requires tree { IsTree (T.width tree.now) (T.tree tree.now) }
+    requires measure { HasMeasure (T.width tree.now) (T.tree tree.now) ask.now.kind }
+    requires scale { ask.now.scale ≤ 6 }
+    ensures { IfOk result (λ nodes. ArePicked (T.tree tree.now) ask.now (numbers nodes.items)) }
+{
+    let mut nodes = Vec::new(alloc);
+    let Some(root) = tree.root(steps) else {
+        return Ok(nodes);
+    };
+    match pick_below(tree, ask, root, tree.dims(), &mut nodes, steps) {
+        Ok(()) => Ok(nodes),
+        Err(error) => Err(error),
+    }
+}
+
+// The nodes of the classes that are asked for, from the index where it has the kind.
+fn nodes_of<T: Nodes, L: Ledger>(
+    alloc: Global,
+    tree: &T,
+    index: &Index,
+    ask: &Ask,
+    steps: &mut Steps<L>,
+) -> Result<Vec<NodeNo>, Memory>
+    requires tree { IsTree (T.width tree.now) (T.tree tree.now) }
+    requires index { IsIndex (class_of_node (T.tree tree.now)) index.now }
+    requires unit { IfSome (ranking_of ask.now.kind index.now) (λ r. r.scale ≡ ask.now.scale) }
+    requires measure { HasMeasure (T.width tree.now) (T.tree tree.now) ask.now.kind }
+    requires scale { ask.now.scale ≤ 6 }
+    ensures picked { IfOk result (λ nodes. ArePicked (T.tree tree.now) ask.now (numbers nodes.items)) }
+    ensures steps { IsSome (ranking_of ask.now.kind index.now) → steps.new ≡ steps.old }
+{
+    if index.has(ask.kind) {
+        indexed_nodes(alloc, index, ask)
+    } else {
+        picked(alloc, tree, ask, steps)
+    }
+}
+
+/// The classes whose value is at least or at most what is asked, falling or rising by value, ties in
+/// cell order by the texts, each with its lower bounds in cell order. Where the index has the kind,
+/// it reads the index up to the first entry that doesn't qualify, and of the tree nothing but the
+/// answer's classes: with n dimensions at most 32 (n + 1)^2 2^n steps for each. Else it walks over
+/// all nodes of the tree once.
+pub fn iceberg<T: Nodes, L: Ledger>(
+    alloc: Global,
+    tree: &T,
+    index: &Index,
+    dict: &Dict,
+    ask: &Ask,
+    steps: &mut Steps<L>,
+) -> Result<Vec<Class>, Memory>
+    requires tree { IsTree (T.width tree.now) (T.tree tree.now) }
+    requires index { IsIndex (class_of_node (T.tree tree.now)) index.now }
+    requires unit { IfSome (ranking_of ask.now.kind index.now) (λ r. r.scale ≡ ask.now.scale) }
+    requires dims { length dict.now.lists ≡ T.width tree.now }
+    requires measure { HasMeasure (T.width tree.now) (T.tree tree.now) ask.now.kind }
+    requires scale { ask.now.scale ≤ 6 }
+    ensures classes { (source : Source) → IsFrom (T.width tree.now) (T.tree tree.now) source → RowsAreKnown (has_code dict.now.lists) source.rows →
+        IfOk result (λ classes. told_classes dict.now.lists classes.items ≡ answers.iceberg text_cmp source.measures (told_rows dict.now.lists source.rows) (ask_in ask.now)) }
+    ensures steps { IsSome (ranking_of ask.now.kind index.now) →
+        IfOk result (λ classes. steps.new ≤ steps.old + length classes.items * (32 * (T.width tree.now + 1) ^ 2 * 2 ^ T.width tree.now)) }
+{
+    let _dims = dict.dims();
+    match nodes_of(alloc, tree, index, ask, steps) {
+        Ok(nodes) => in_order(alloc, tree, dict, ask, &nodes, steps),
+        Err(error) => Err(error),
+    }
+}

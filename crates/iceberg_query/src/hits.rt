@@ -1,0 +1,93 @@
+// The classes of nodes, with the values that were asked for.
+ghost use Rattle.std.specs.Prelude.{All, IfOk, IsSome, OnOk, length, map, ◌*◌, ◌+◌, ◌^◌, ◌≡◌, ◌≤◌};
+ghost use Rattle.qc_arena.specs.Seen.{record_at};
+ghost use Rattle.tree_search.specs.Found.{IsFrom, IsTree, Source};
+ghost use Rattle.iceberg_query.specs.Asked.{HasMeasure};
+ghost use Rattle.iceberg_query.specs.Below.{numbers};
+ghost use Rattle.iceberg_query.specs.Hits.{AreClasses, IsValued, class_at, class_of, valued_of};
+
+use crate::{Ask, Memory};
+use aggregates::{Ratio, value_of};
+use cell_core::{Cell, NodeNo, Steps};
+use lower_bounds::{Class, lower_bounds};
+use qc_arena::Nodes;
+use std::alloc::Global;
+use std::sync::ledger::Ledger;
+use tree_search::upper_into;
+
+/// A class with its value.
+#[derive(Drop)]
+pub(crate) struct Valued {
+    pub(crate) value: Ratio,
+    pub(crate) class: Class,
+}
+
+// The class of a node.
+fn value_at<T: Nodes, L: Ledger>(
+    alloc: Global,
+    tree: &T,
+    ask: &Ask,
+    node: NodeNo,
+    steps: &mut Steps<L>,
+) -> Result<Valued, Memory>
+    requires tree { IsTree (T.width tree.now) (T.tree tree.now) }
+    requires class { IsSome (record_at (T.tree tree.now) node.0).class }
+    requires measure { HasMeasure (T.width tree.now) (T.tree tree.now) ask.now.kind }
+    requires scale { ask.now.scale ≤ 6 }
+    ensures hit { (source : Source) → IsFrom (T.width tree.now) (T.tree tree.now) source →
+        IfOk result (λ v. valued_of v ≡ class_at source (T.tree tree.now) node.0) }
+    ensures value { IfOk result (λ v. IsValued ask.now v) }
+    ensures steps { steps.new ≤ steps.old + 32 * (T.width tree.now + 1) ^ 2 * 2 ^ T.width tree.now }
+{
+    let mut upper = Cell::any(alloc, tree.dims());
+    upper_into(tree, node, &mut upper, steps);
+    let total = tree.class(node, steps).unwrap();
+    let lowers = lower_bounds(alloc, tree, node, steps)?;
+    Ok(Valued {
+        value: value_of(&total, ask.kind, ask.scale),
+        class: Class {
+            upper,
+            total,
+            lowers,
+        },
+    })
+}
+
+/// The classes of some nodes.
+pub(crate) fn values_at<T: Nodes, L: Ledger>(
+    alloc: Global,
+    tree: &T,
+    ask: &Ask,
+    nodes: &[NodeNo],
+    steps: &mut Steps<L>,
+) -> Result<Vec<Valued>, Memory>
+    requires tree { IsTree (T.width tree.now) (T.tree tree.now) }
+    requires classes { AreClasses (T.tree tree.now) (numbers nodes.now) }
+    requires measure { HasMeasure (T.width tree.now) (T.tree tree.now) ask.now.kind }
+    requires scale { ask.now.scale ≤ 6 }
+    ensures hits { (source : Source) → IsFrom (T.width tree.now) (T.tree tree.now) source →
+        IfOk result (λ vs. map valued_of vs.items ≡ map (class_at source (T.tree tree.now)) (numbers nodes.now)) }
+    ensures values { IfOk result (λ vs. All (IsValued ask.now) vs.items) }
+    ensures steps { steps.new ≤ steps.old + length nodes.now * (32 * (T.width tree.now + 1) ^ 2 * 2 ^ T.width tree.now) }
+{
+    let mut values = Vec::with_capacity(alloc, nodes.len())?;
+    'nodes: for node in nodes {
+        let value = match value_at(alloc, tree, ask, *node, steps) {
+            Ok(value) => value,
+            Err(error) => return Err(error),
+        };
+        values.push(value)?;
+    }
+    Ok(values)
+}
+
+/// The classes without their values.
+pub(crate) fn without_values(alloc: Global, values: Vec<Valued>) -> Result<Vec<Class>, Memory>
+    ensures { IfOk result (λ classes. classes.items ≡ map class_of values.items) }
+{
+    let mut classes = Vec::with_capacity(alloc, values.len())?;
+    'values: for value in values {
+        classes.push(value.class)?;
+    }
+    Ok(classes)
+}

@@ -1,0 +1,35 @@
+// The nodes of the classes that are asked for, from an index.
+ghost use Rattle.std.specs.Prelude.{IfOk, IsSome, map, ◌≡◌};
+ghost use Rattle.measure_index.specs.Index.{ranking_of};
+ghost use Rattle.iceberg_query.specs.Below.{numbers};
+ghost use Rattle.iceberg_query.specs.Indexed.{asked_entries, node_of};
+
+use crate::{Ask, Bound, Memory};
+use cell_core::NodeNo;
+use measure_index::{Index, Walk};
+use std::alloc::Global;
+
+// The classes that are asked for, in their order by value.
+fn walk_of<'a>(index: &'a Index, ask: &Ask) -> Walk<'a>
+    requires { IsSome (ranking_of ask.now.kind index.now) }
+    ensures { result.left ≡ asked_entries ask.now index.now }
+{
+    match ask.bound {
+        Bound::AtLeast => index.at_least(ask.kind, &ask.value),
+        Bound::AtMost => index.at_most(ask.kind, &ask.value),
+    }
+}
+
+/// The nodes of the classes that are asked for. Of the index it reads no more than their entries
+/// and one more.
+pub(crate) fn indexed_nodes(alloc: Global, index: &Index, ask: &Ask) -> Result<Vec<NodeNo>, Memory>
+    requires { IsSome (ranking_of ask.now.kind index.now) }
+    ensures { IfOk result (λ nodes. numbers nodes.items ≡ map node_of (asked_entries ask.now index.now)) }
+{
+    let mut nodes = Vec::new(alloc);
+    let mut walk = walk_of(index, ask);
+    'walk: while let Some((node, _value)) = walk.next() {
+        nodes.push(node)?;
+    }
+    Ok(nodes)
+}

@@ -1,0 +1,14 @@
+//! Iceberg queries: the classes whose value passes, in order of value.
+#![tactic(auto)]
+
+mod answer;
+mod ask;
+mod hits;
+mod indexed;
+mod order;
+mod pick;
+
+pub use answer::iceberg;
+pub use ask::{Ask, Bound};
+pub use cube_defs::Memory;
+pub use lower_bounds::Class;

@@ -1,0 +1,20 @@
+use Rattle.std.proofs.Common.{◌&&◌, not, ap, subst, sym, ◌∙◌}
+use Rattle.measure_index.specs.Entries.{HaveMeasure}
+use Rattle.measure_index.specs.Changes.{ArePlanned, lists}
+use Rattle.measure_index.proofs.column.Column.plan.Goals as goal
+
+pub entries_of-requires-clause-there : goal.entries_of-requires-clause-there
+entries_of-requires-clause-there c = subst (λ r. HaveMeasure r.kind c.args.add.now) (sym c.self.view_is) c.requires.add
+
+pub entries_of-requires-2-clause-there : goal.entries_of-requires-2-clause-there
+entries_of-requires-2-clause-there c = subst (λ r. HaveMeasure r.kind c.args.remove.now) (sym c.self.view_is) c.requires.remove
+
+pub returns : goal.returns
+returns c = subst (λ r. ArePlanned r c.args.add.now c.args.remove.now c.in_ok-coming.coming.items c.in_ok-going.going.items) c.self.view_is (record {
+  added = c.in_ok-added.added.items;
+  removed = c.in_ok-removed.removed.items;
+  adds = c.in_ok-added.ensures;
+  removes = c.in_ok-removed.ensures;
+  comes = c.in_ok-coming.ensures.has;
+  goes = λ q. c.in_ok-going.ensures.has q ∙ ap (λ b. lists c.in_ok-removed.removed.items q && not b) (c.in_ok-kept.ensures.has q);
+})

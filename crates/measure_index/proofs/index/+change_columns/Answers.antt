@@ -1,0 +1,38 @@
+use Rattle.std.proofs.Common.{ap₂, subst, sym, ◌∙◌, ◌∷◌, rules}
+use Rattle.std.specs.List.{AllZip}
+use Rattle.measure_index.specs.Changes.{HasChanged}
+use Rattle.measure_index.specs.Entries.{HaveMeasure}
+use Rattle.measure_index.proofs.Changed.{has_changed, has_gone_back}
+use Rattle.measure_index.proofs.Zips.{head_and_rest}
+use Rattle.measure_index.proofs.index.+change_columns.Goals as goal
+
+pub plan-requires-clause-add : goal.plan-requires-clause-add
+plan-requires-clause-add t c = (head_and_rest (λ r. HaveMeasure r.kind c.args.add.now) c.args.columns.now c.in-Some.first.now c.in-Some.rest.now c.in-Some.ensures.cases.0 c.requires.add).0
+
+pub plan-requires-clause-remove : goal.plan-requires-clause-remove
+plan-requires-clause-remove t c = (head_and_rest (λ r. HaveMeasure r.kind c.args.remove.now) c.args.columns.now c.in-Some.first.now c.in-Some.rest.now c.in-Some.ensures.cases.0 c.requires.remove).0
+
+pub change_columns-requires : goal.change_columns-requires
+change_columns-requires t c = (
+  search rules,
+  (
+    (head_and_rest (λ r. HaveMeasure r.kind c.args.add.now) c.args.columns.now c.in-Some.first.now c.in-Some.rest.now c.in-Some.ensures.cases.0 c.requires.add).1,
+    (head_and_rest (λ r. HaveMeasure r.kind c.args.remove.now) c.args.columns.now c.in-Some.first.now c.in-Some.rest.now c.in-Some.ensures.cases.0 c.requires.remove).1,
+  ),
+)
+
+pub returns-in-Ok-clause-ok : goal.returns-in-Ok-clause-ok
+returns-in-Ok-clause-ok t c =
+    subst (λ xs. AllZip (HasChanged c.args.add.now c.args.remove.now) xs (c.take.new.self ∷ c.change_columns.new.columns)) (sym c.in-Some.ensures.cases.0) (
+      has_changed c.args.add.now c.args.remove.now c.in-Some.first.now c.put.new.self c.take.new.self c.in_ok-plan.plan.coming.items c.in_ok-plan.plan.going.items _ _ c.in_ok-plan.ensures
+          c.deref.ensures.value c.deref-in-Ok.ensures.value c.in_ok-put.ensures.ok c.take.ensures,
+      c.in-Ok.ensures.ok,
+    )
+
+pub returns-clause-err : goal.returns-clause-err
+returns-clause-err t c =
+    ap₂ (λ x xs. x ∷ xs)
+    (has_gone_back c.args.add.now c.args.remove.now c.in-Some.first.now c.put.new.self c.take-in-Err.new.self c.in_ok-plan.plan.coming.items c.in_ok-plan.plan.going.items _ _ c.in_ok-plan.ensures
+    c.deref.ensures.value c.deref-in-Err.ensures.value c.in_ok-put.ensures.ok c.take-in-Err.ensures)
+    c.in-Err.ensures.err
+    ∙ sym c.in-Some.ensures.cases.0

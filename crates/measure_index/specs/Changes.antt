@@ -1,0 +1,54 @@
+-- Entries that come into a ranking and go out of it.
+use Rattle.std.specs.Prelude.{◌≡◌, Bool, false, not, ◌&&◌, ◌||◌, IsTrue, List}
+use Rattle.std.specs.List.{list_any}
+use Rattle.std.specs.Ordering.{is_eq}
+use Rattle.aggregates.specs.declared.agg.Agg.{Agg}
+use Rattle.cell_core.specs.declared.cell.NodeNo.{NodeNo}
+use Rattle.measure_index.specs.declared.entry.Entry.{Entry}
+use Rattle.measure_index.specs.Keys.{among}
+use Rattle.measure_index.specs.Entries.{AreEntries, entry_cmp}
+use Rattle.measure_index.specs.Rankings.{IsRising, Ranking}
+
+-- whether the ranking has an entry, and whether a list has it
+abbrev pub has : Ranking → Entry → Bool
+has r q = list_any (λ e. is_eq (entry_cmp q e)) r.entries
+
+abbrev pub lists : List Entry → Entry → Bool
+lists entries q = among entry_cmp entries q
+
+-- the ranking has none of the entries
+abbrev pub Lack : Ranking → List Entry → Type 0
+Lack r entries = (q : Entry) → IsTrue (lists entries q) → has r q ≡ false
+
+-- of the entries of a change, which come and which go
+pub record ArePlanned (r : Ranking) (add remove : List (NodeNo × Agg)) (coming going : List Entry) : Type 0 where
+  pub added : List Entry
+  pub removed : List Entry
+  pub adds : AreEntries r.kind r.scale add added
+  pub removes : AreEntries r.kind r.scale remove removed
+  pub comes : (q : Entry) → lists coming q ≡ (lists added q && not (has r q))
+  pub goes : (q : Entry) → lists going q ≡ (lists removed q && not (lists added q))
+
+-- one ranking and another of the same kind and scale
+pub record AreAlike (old new : Ranking) : Type 0 where
+  pub kind : new.kind ≡ old.kind
+  pub scale : new.scale ≡ old.scale
+  pub was_rising : IsRising old.entries
+  pub rising : IsRising new.entries
+
+pub record Came (entries : List Entry) (old new : Ranking) : Type 0 where
+  pub alike : AreAlike old new
+  pub entry : (q : Entry) → has new q ≡ (has old q || lists entries q)
+
+pub record Went (entries : List Entry) (old new : Ranking) : Type 0 where
+  pub alike : AreAlike old new
+  pub entry : (q : Entry) → has new q ≡ (has old q && not (lists entries q))
+
+-- of the entries of the one those of `remove` went, and those of `add` came
+pub record HasChanged (add remove : List (NodeNo × Agg)) (old new : Ranking) : Type 0 where
+  pub alike : AreAlike old new
+  pub added : List Entry
+  pub removed : List Entry
+  pub adds : AreEntries old.kind old.scale add added
+  pub removes : AreEntries old.kind old.scale remove removed
+  pub entry : (q : Entry) → has new q ≡ (lists added q || (has old q && not (lists removed q)))

@@ -1,0 +1,6 @@
+pub mod Keys
+pub mod Entries
+pub mod Rankings
+pub mod Changes
+pub mod Index
+pub mod Walks

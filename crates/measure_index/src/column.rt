@@ -1,0 +1,113 @@
+// The classes in order of the value of one kind.
+ghost use Rattle.std.specs.Prelude.{IfOk, OnErr, OnOk, length, ◌<◌, ◌^◌, ◌≡◌, ◌≤◌};
+ghost use Rattle.measure_index.specs.Entries.{HaveMeasure};
+ghost use Rattle.measure_index.specs.Rankings.{IsRising, Ranking, no_entries};
+ghost use Rattle.measure_index.specs.Changes.{ArePlanned, Came, Lack, Went};
+
+use crate::entry::{Entry, entries_of};
+use crate::keys::{absent_from, put_in, set_of, take_out};
+use aggregates::{Agg, AggKind};
+use cell_core::NodeNo;
+use cube_defs::Memory;
+use std::alloc::{AllocError, Global};
+use std::collections::BTreeSet;
+use std::collections::btree_set::Iter;
+use std::marker::Model;
+
+/// The entries of one kind.
+#[derive(Drop)]
+pub(crate) struct Column {
+    kind: AggKind,
+    scale: u8,
+    entries: BTreeSet<Entry, Global>,
+}
+
+impl Model for Column {
+    ghost use Rattle.measure_index.specs.Rankings.{IsKept, Ranking};
+
+    ghost Value = { Ranking };
+
+    ghost view = { λ c. record { kind = c.kind; scale = c.scale; entries = c.entries.keys } };
+
+    ghost invariant = { λ c. IsKept (record { kind = c.kind; scale = c.scale; entries = c.entries.keys }) };
+}
+
+/// What is to come into a column and what is to go out of it.
+#[derive(Drop)]
+pub(crate) struct Plan {
+    pub(crate) coming: Vec<Entry>,
+    pub(crate) going: Vec<Entry>,
+}
+
+impl Column {
+    /// No entries.
+    pub(crate) fn new(alloc: Global, kind: AggKind, scale: u8) -> Column
+        requires { scale ≤ 6 }
+        ensures { result ≡ no_entries kind scale }
+    {
+        Column {
+            kind,
+            scale,
+            entries: BTreeSet::new(alloc),
+        }
+    }
+
+    pub(crate) fn kind(&self) -> AggKind
+        ensures { result ≡ self.now.kind }
+    {
+        self.kind
+    }
+
+    pub(crate) fn len(&self) -> u32
+        ensures { result ≡ length self.now.entries }
+    {
+        self.entries.len() as u32
+    }
+
+    /// The entries in rising order.
+    pub(crate) fn iter(&self) -> Iter<'_, Entry>
+        ensures entries { result ≡ self.now.entries }
+        ensures rising { IsRising self.now.entries }
+        ensures few { length self.now.entries < 2 ^ 32 }
+    {
+        self.entries.iter()
+    }
+
+    /// What a change of classes brings and takes away: entries that are both added and removed stay.
+    pub(crate) fn plan(
+        &self,
+        alloc: Global,
+        add: &[(NodeNo, Agg)],
+        remove: &[(NodeNo, Agg)],
+    ) -> Result<Plan, Memory>
+        requires add { HaveMeasure self.now.kind add.now }
+        requires remove { HaveMeasure self.now.kind remove.now }
+        ensures { IfOk result (λ plan. ArePlanned self.now add.now remove.now plan.coming.items plan.going.items) }
+    {
+        let added = entries_of(alloc, self.kind, self.scale, add)?;
+        let removed = entries_of(alloc, self.kind, self.scale, remove)?;
+        let kept = set_of(alloc, &added)?;
+        let going = absent_from(alloc, &kept, &removed)?;
+        let coming = absent_from(alloc, &self.entries, &added)?;
+        Ok(Plan { coming, going })
+    }
+
+    /// Puts in entries that are not there, up to 4,294,967,295 in all. A refusal leaves all as it was.
+    pub(crate) fn put(&mut self, coming: &[Entry]) -> Result<(), Memory>
+        requires { Lack self.old coming.now }
+        ensures ok { OnOk result (Came coming.now self.old self.new) }
+        ensures err { OnErr result (self.new ≡ self.old) }
+    {
+        if self.entries.len() + coming.len() > u32::MAX as usize {
+            return Err(AllocError);
+        }
+        put_in(&mut self.entries, coming)
+    }
+
+    /// Takes entries out, as far as they are there.
+    pub(crate) fn take(&mut self, going: &[Entry])
+        ensures { Went going.now self.old self.new }
+    {
+        take_out(&mut self.entries, going);
+    }
+}

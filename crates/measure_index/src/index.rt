@@ -1,0 +1,165 @@
+// The classes in order of value, for each of some kinds.
+ghost use Rattle.std.specs.List.{AllZip};
+ghost use Rattle.std.specs.Option.{option_copied};
+ghost use Rattle.std.specs.Prelude.{All, IfOk, IsSome, None, OnErr, OnOk, Option, filter, is_some, length, map, reverse, ℕ, ◌≡◌, ◌≤◌};
+ghost use Rattle.aggregates.specs.Views.{IsThere};
+ghost use Rattle.cube_defs.specs.Rows as defs;
+ghost use Rattle.qc_arena.specs.Changes.{AreNew};
+ghost use Rattle.measure_index.specs.Changes.{HasChanged};
+ghost use Rattle.measure_index.specs.Entries.{HaveMeasure};
+ghost use Rattle.measure_index.specs.Index.{empty_ranking, entries_of, kind_eq, ranking_of, scale_of};
+ghost use Rattle.measure_index.specs.Rankings.{IsIndex, IsRising, Ranking};
+ghost use Rattle.measure_index.specs.Walks.{is_at_least, is_at_most};
+
+use crate::column::Column;
+use crate::walk::{Direction, Walk};
+use aggregates::{Agg, AggKind, Fraction};
+use cell_core::NodeNo;
+use cube_defs::Memory;
+use std::alloc::Global;
+use std::marker::Model;
+
+/// For some kinds of aggregates, each in the unit of its measure's scale, the values of classes
+/// with the nodes of these, in rising order of value and then of node.
+#[derive(Drop)]
+pub struct Index {
+    columns: Vec<Column>,
+}
+
+impl Model for Index {
+    ghost use Rattle.std.specs.Prelude.{List};
+    ghost use Rattle.measure_index.specs.Rankings.{Ranking};
+
+    ghost Value = { List Ranking };
+
+    ghost view = { λ x. x.columns.items };
+}
+
+fn same_kind(a: AggKind, b: AggKind) -> bool
+    ensures { result ≡ kind_eq a b }
+{
+    a == b
+}
+
+// The scale of the kind's measure. A count has none.
+fn scale_in(scales: &[u8], kind: AggKind) -> u8
+    requires there { IsThere (length scales.now) kind }
+    requires scales { All (λ scale. scale ≤ 6) scales.now }
+    ensures value { result ≡ scale_of scales.now kind }
+    ensures small { result ≤ 6 }
+{
+    match kind {
+        AggKind::Count => 0,
+        AggKind::Sum(measure) => scales[usize::from(measure)],
+        AggKind::Least(measure) => scales[usize::from(measure)],
+        AggKind::Greatest(measure) => scales[usize::from(measure)],
+        AggKind::Mean(measure) => scales[usize::from(measure)],
+    }
+}
+
+// Changes all columns, or leaves them as they were. What comes goes in first, column by column, so
+// that a refusal is undone by taking out, which needs no memory.
+fn change_columns(
+    alloc: Global,
+    columns: &mut [Column],
+    add: &[(NodeNo, Agg)],
+    remove: &[(NodeNo, Agg)],
+) -> Result<(), Memory>
+    requires add { All (λ r. HaveMeasure r.kind add.now) columns.old }
+    requires remove { All (λ r. HaveMeasure r.kind remove.now) columns.old }
+    ensures ok { OnOk result (AllZip (HasChanged add.now remove.now) columns.old columns.new) }
+    ensures err { OnErr result (columns.new ≡ columns.old) }
+{
+    let Some((first, rest)) = columns.split_first_mut() else {
+        return Ok(());
+    };
+    let plan = first.plan(alloc, add, remove)?;
+    first.put(&plan.coming)?;
+    match change_columns(alloc, rest, add, remove) {
+        Ok(()) => {
+            first.take(&plan.going);
+            Ok(())
+        }
+        Err(error) => {
+            first.take(&plan.coming);
+            Err(error)
+        }
+    }
+}
+
+impl Index {
+    /// No entries. `scales` has the scales of the measures.
+    pub fn new(alloc: Global, kinds: &[AggKind], scales: &[u8]) -> Result<Index, Memory>
+        requires there { All (IsThere (length scales.now)) kinds.now }
+        requires scales { All (λ scale. scale ≤ 6) scales.now }
+        ensures value { IfOk result (λ index. index ≡ map (empty_ranking scales.now) kinds.now) }
+        ensures classes { IfOk result (λ index. IsIndex (λ _. None) index) }
+    {
+        let mut columns = Vec::with_capacity(alloc, kinds.len())?;
+        'kinds: for kind in kinds {
+            columns.push(Column::new(alloc, *kind, scale_in(scales, *kind)))?;
+        }
+        Ok(Index { columns })
+    }
+
+    // The column of a kind.
+    fn column(&self, kind: AggKind) -> Option<&Column>
+        ensures { option_copied result ≡ ranking_of kind self.now }
+    {
+        self.columns
+            .iter()
+            .find(|column| same_kind(kind, column.kind()))
+    }
+
+    /// Whether the index has the kind.
+    pub fn has(&self, kind: AggKind) -> bool
+        ensures { result ≡ is_some (ranking_of kind self.now) }
+    {
+        self.column(kind).is_some()
+    }
+
+    /// How many entries the kind has.
+    pub fn len(&self, kind: AggKind) -> u32
+        requires { IsSome (ranking_of kind self.now) }
+        ensures { result ≡ length (entries_of kind self.now) }
+    {
+        self.column(kind).unwrap().len()
+    }
+
+    /// The classes of `remove` go and those of `add` come, in each kind; an entry that a kind keeps
+    /// stays. A class may be told under a node in both lists, with another aggregate.
+    pub fn change(&mut self, add: &[(NodeNo, Agg)], remove: &[(NodeNo, Agg)]) -> Result<(), Memory>
+        requires add { All (λ r. HaveMeasure r.kind add.now) self.old }
+        requires remove { All (λ r. HaveMeasure r.kind remove.now) self.old }
+        ensures entries { OnOk result (AllZip (HasChanged add.now remove.now) self.old self.new) }
+        ensures classes { OnOk result ((from to : ℕ → Option defs.Agg) → AreNew from to add.now → AreNew to from remove.now → IsIndex from self.old → IsIndex to self.new) }
+        ensures err { OnErr result (self.new ≡ self.old) }
+    {
+        let alloc = *self.columns.allocator();
+        change_columns(alloc, &mut self.columns, add, remove)
+    }
+
+    /// The classes with at least a value, the greatest first.
+    pub fn at_least(&self, kind: AggKind, value: &Fraction) -> Walk<'_>
+        requires { IsSome (ranking_of kind self.now) }
+        ensures left { result.left ≡ reverse (filter (is_at_least value.now) (entries_of kind self.now)) }
+        ensures rising { IsRising (entries_of kind self.now) }
+        ensures given { result.given ≡ 0 }
+        ensures taken { result.taken ≡ 0 }
+    {
+        let entries = self.column(kind).unwrap().iter();
+        Walk::new(entries, Direction::Falling, value)
+    }
+
+    /// The classes with at most a value, the least first.
+    pub fn at_most(&self, kind: AggKind, value: &Fraction) -> Walk<'_>
+        requires { IsSome (ranking_of kind self.now) }
+        ensures left { result.left ≡ filter (is_at_most value.now) (entries_of kind self.now) }
+        ensures rising { IsRising (entries_of kind self.now) }
+        ensures given { result.given ≡ 0 }
+        ensures taken { result.taken ≡ 0 }
+    {
+        let entries = self.column(kind).unwrap().iter();
+        Walk::new(entries, Direction::Rising, value)
+    }
+}

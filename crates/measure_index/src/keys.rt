@@ -1,0 +1,75 @@
+// Keys that come into a set and go out of it.
+ghost use Rattle.std.specs.Prelude.{◌≡◌, ◌≤◌, ◌+◌, ◌&&◌, ◌||◌, length, not, false, IsTrue, IfOk, OnOk, OnErr};
+ghost use Rattle.std.specs.BTreeSet.{btree_set_len, contains, IsOrdered, IsSameSet};
+ghost use Rattle.measure_index.specs.Keys.{among};
+
+use cube_defs::Memory;
+use std::alloc::{AllocError, Global};
+use std::collections::BTreeSet;
+
+/// Takes keys out, as far as they are there.
+pub(crate) fn take_out<K: Ord + Copy>(set: &mut BTreeSet<K, Global>, items: &[K])
+    requires { IsOrdered K.cmp set.old }
+    ensures has { (q : K) → contains K.cmp set.new q ≡ (contains K.cmp set.old q && not (among K.cmp items.now q)) }
+    ensures few { btree_set_len set.new ≤ btree_set_len set.old }
+    ensures ordered { IsOrdered K.cmp set.new }
+{
+    for item in items {
+        set.remove(item);
+    }
+}
+
+/// Puts keys in that are not there. A refusal leaves the set with the keys that it had.
+pub(crate) fn put_in<K: Ord + Copy>(
+    set: &mut BTreeSet<K, Global>,
+    items: &[K],
+) -> Result<(), Memory>
+    requires ordered { IsOrdered K.cmp set.old }
+    requires absent { (q : K) → IsTrue (among K.cmp items.now q) → contains K.cmp set.old q ≡ false }
+    ensures has { OnOk result ((q : K) → contains K.cmp set.new q ≡ (contains K.cmp set.old q || among K.cmp items.now q)) }
+    ensures err { OnErr result (IsSameSet K.cmp set.old set.new) }
+    ensures few { btree_set_len set.new ≤ btree_set_len set.old + length items.now }
+    ensures now_ordered { IsOrdered K.cmp set.new }
+{
+    for i in 0..items.len() {
+        match set.insert(items[i]) {
+            Ok(_) => {}
+            Err(_) => {
+                take_out(set, &items[..i]);
+                return Err(AllocError);
+            }
+        }
+    }
+    Ok(())
+}
+
+/// A set of some keys.
+pub(crate) fn set_of<K: Ord + Copy>(
+    alloc: Global,
+    items: &Vec<K>,
+) -> Result<BTreeSet<K, Global>, Memory>
+    ensures has { IfOk result (λ s. (q : K) → contains K.cmp s q ≡ among K.cmp items.now.items q) }
+{
+    let mut set = BTreeSet::new(alloc);
+    for item in items {
+        set.insert(*item)?;
+    }
+    Ok(set)
+}
+
+/// The items that a set does not have.
+pub(crate) fn absent_from<K: Ord + Copy>(
+    alloc: Global,
+    set: &BTreeSet<K, Global>,
+    items: &Vec<K>,
+) -> Result<Vec<K>, Memory>
+    ensures has { IfOk result (λ v. (q : K) → among K.cmp v.items q ≡ (among K.cmp items.now.items q && not (contains K.cmp set.now q))) }
+{
+    let mut out = Vec::new(alloc);
+    for item in items {
+        if !set.contains(item) {
+            out.push(*item)?;
+        }
+    }
+    Ok(out)
+}

@@ -1,0 +1,13 @@
+//! For some kinds of aggregates, the classes in order of their values.
+#![tactic(auto)]
+
+mod column;
+mod entry;
+mod index;
+mod keys;
+mod walk;
+
+pub use cube_defs::Memory;
+pub use entry::Entry;
+pub use index::Index;
+pub use walk::Walk;
