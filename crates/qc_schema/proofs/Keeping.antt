@@ -16,7 +16,7 @@ use Rattle.aggregates.specs.declared.kind.AggKind.TheVariants as kinds
 use Rattle.cube_defs.specs.Text.{Text}
 use Rattle.qc_schema.specs.Schema.{IsLayout, Layout, Measure, all_different, is_name, names_of, same_kind}
 use Rattle.qc_schema.specs.States.{State, Fault, Line}
-use Rattle.qc_schema.specs.Lines.{words_of}
+use Rattle.text_lines.specs.Cuts.{words_of}
 use Rattle.text_lines.specs.Lines.{is_comment}
 use Rattle.qc_schema.specs.Grammar.{◌>>=◌, and_on, count_kind, dim_line, id_line, in_order, index_line, is_start, is_used, is_version, kind_named, kind_of, limit_in, line_of_words, may_dim, may_end, may_id, may_index, may_measure, may_rows, may_values, measure_from, measure_line, named_line, new_kind, new_name, nodes_line, one_word, read_lines, rows_line, scale_in, start, take_line, two_words, values_line, version_line}
 use Rattle.qc_schema.specs.declared.reader.Stage.{Stage}
@@ -139,7 +139,7 @@ limit-small most word n e =
     let r = and_parts (nat_lt 0 (length word) && nat_le (length word) 7 && all_ascii_digits word) (nat_lt 0 (digits_value 10 word)) q.0 in
     (omega (arith, p.1, ltb-true 0 (digits_value 10 word) r.1), omega (arith, p.1, leb-true (digits_value 10 word) most q.1))
 
-measure-there : (ms : List Measure) (k m : ℕ) (name : Text) → measure_from ms k name ≡ Some m → m < k + length ms
+pub measure-there : (ms : List Measure) (k m : ℕ) (name : Text) → measure_from ms k name ≡ Some m → m < k + length ms
 measure-there [] k m name e = absurd (cc e)
 measure-there (x ∷ xs) k m name e = by (bytes_eq x.name name) e (λ h. measure-there xs (k + 1) m name h)
   where

@@ -1,8 +1,7 @@
-mod Splits
 mod Naming
 mod Numbers
 mod Searching
-mod Keeping
+pub mod Keeping
 mod Reading
 mod Wording
 pub mod Returning

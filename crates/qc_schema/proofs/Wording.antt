@@ -8,7 +8,7 @@ use Rattle.std.proofs.lemmas.Bool.{and_parts}
 use Rattle.std.proofs.lemmas.Bool.Decides.{nat_tests}
 use Rattle.std.proofs.lemmas.Str.{IsUtf8-from_ascii}
 use Rattle.cube_defs.specs.Text.{Text}
-use Rattle.qc_schema.specs.Lines.{has_bytes, pieces_of, words_of}
+use Rattle.text_lines.specs.Cuts.{cut_at, has_bytes, words_of}
 use Rattle.text_lines.specs.Lines.{is_comment, lines_of, without_cr}
 use Rattle.qc_schema.specs.Schema.{is_name_byte}
 use Rattle.qc_schema.specs.Spelling.{line_text}
@@ -105,11 +105,11 @@ lines-more words rest h =
     ∙ ap (λ (line : List ℕ). line ∷ map without_cr (lines_of rest)) (cr-none (joined words) plain)
 
 -- the words of a line
-piece-front : (word rest : List ℕ) → list_all is_name_byte word ≡ true → pieces_of (word ++ 32 ∷ rest) ≡ word ∷ pieces_of rest
+piece-front : (word rest : List ℕ) → list_all is_name_byte word ≡ true → cut_at 32 (word ++ 32 ∷ rest) ≡ word ∷ cut_at 32 rest
 piece-front [] rest h = refl
 piece-front (b ∷ bs) rest h = let p = and_parts (is_name_byte b) (list_all is_name_byte bs) h in rw (name-not-space b p.0, piece-front bs rest p.1) refl
 
-piece-last : (word : List ℕ) → list_all is_name_byte word ≡ true → pieces_of word ≡ word ∷ []
+piece-last : (word : List ℕ) → list_all is_name_byte word ≡ true → cut_at 32 word ≡ word ∷ []
 piece-last [] h = refl
 piece-last (b ∷ bs) h = let p = and_parts (is_name_byte b) (list_all is_name_byte bs) h in rw (name-not-space b p.0, piece-last bs p.1) refl
 
@@ -123,7 +123,7 @@ words-joined [] h = refl
 words-joined (word ∷ []) h = ap (filter has_bytes) (piece-last word h.0.bytes) ∙ keep-word word [] h.0.some
 words-joined (word ∷ next ∷ words) h =
     ap (filter has_bytes) (piece-front word (joined (next ∷ words)) h.0.bytes)
-    ∙ keep-word word (pieces_of (joined (next ∷ words))) h.0.some
+    ∙ keep-word word (cut_at 32 (joined (next ∷ words))) h.0.some
     ∙ ap (λ (ws : List Text). word ∷ ws) (words-joined (next ∷ words) h.1)
 
 pub not-comment : (words : List Text) → IsLine words → is_comment (joined words) ≡ false

@@ -6,7 +6,8 @@ use Rattle.std.specs.Str.Parse.{digits_value}
 use Rattle.cube_defs.specs.Text.{Text}
 use Rattle.aggregates.specs.declared.kind.AggKind.{AggKind}
 use Rattle.aggregates.specs.declared.kind.AggKind.TheVariants as kinds
-use Rattle.qc_schema.specs.Lines.{schema_lines, words_of}
+use Rattle.qc_schema.specs.Lines.{schema_lines}
+use Rattle.text_lines.specs.Cuts.{words_of}
 use Rattle.text_lines.specs.Lines.{is_comment}
 use Rattle.qc_schema.specs.Schema.{Layout, Measure, is_name, names_of, same_kind}
 use Rattle.qc_schema.specs.States.{State, Fault, NotUtf8, Line}

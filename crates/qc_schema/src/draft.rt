@@ -3,18 +3,19 @@ ghost use Rattle.std.specs.Prelude.{◌≡◌, ◌≤◌, map, length, string_by
 ghost use Rattle.std.specs.List.{list_any};
 ghost use Rattle.std.specs.Str.{bytes_eq};
 ghost use Rattle.qc_schema.specs.Grammar.{is_used, kind_named, kind_of, measure_from, new_kind, new_name, start};
-ghost use Rattle.qc_schema.specs.Lines.{words_of};
+ghost use Rattle.text_lines.specs.Cuts.{words_of};
 ghost use Rattle.qc_schema.specs.Schema.{same_kind};
 ghost use Rattle.cell_core.specs.Gives.{Gives};
 ghost use Rattle.qc_schema.specs.States.{cause_in, layout_in, measure_in};
 
 use crate::limits::{DEFAULT_NODES, VERSION_1_MEASURES};
-use crate::lines::{only_word, split_word};
+use crate::lines::only_word;
 use crate::refusal::{LineRefused, SchemaCause};
 use crate::words::name_in;
 use aggregates::AggKind;
 use cube_defs::{MAX_CODES, MAX_ROWS};
 use std::alloc::Global;
+use text_lines::split_word;
 
 /// A column of amounts, with so many digits behind the point.
 #[derive(Drop)]
@@ -59,8 +60,8 @@ fn has_measure(measures: &Vec<Measure>, name: &[u8]) -> bool
     false
 }
 
-// The place of the measure with this name.
-fn measure_named(measures: &Vec<Measure>, name: &[u8]) -> Option<u8>
+/// The place of the measure with this name.
+pub fn measure_named(measures: &Vec<Measure>, name: &[u8]) -> Option<u8>
     requires { length measures.now.items ≤ VERSION_1_MEASURES }
     ensures { result ≡ measure_from (map measure_in measures.now.items) 0 name.now }
 {

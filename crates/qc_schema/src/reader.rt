@@ -1,18 +1,18 @@
 // Reads a schema line by line.
 ghost use Rattle.std.specs.Prelude.{◌≡◌, ◌≤◌, length};
 ghost use Rattle.qc_schema.specs.Grammar.{dim_line, id_line, in_order, index_line, is_start, may_dim, may_end, may_id, may_index, may_measure, may_rows, may_values, measure_line, named_line, nodes_line, rows_line, start, take_line, values_line, version_line};
-ghost use Rattle.qc_schema.specs.Lines.{words_of};
+ghost use Rattle.text_lines.specs.Cuts.{words_of};
 ghost use Rattle.cell_core.specs.Gives.{Gives};
 ghost use Rattle.qc_schema.specs.States.{cause_in, state_in};
 
 use crate::draft::{Draft, Measure};
 use crate::limits::{VERSION_1_DIMS, VERSION_1_MEASURES};
-use crate::lines::{only_word, only_words, split_word};
+use crate::lines::{only_word, only_words};
 use crate::refusal::{LineRefused, SchemaCause};
 use crate::words::{read_limit, read_scale};
 use cube_defs::{MAX_CODES, MAX_NODES, MAX_ROWS};
 use std::alloc::Global;
-use text_lines::is_comment_line;
+use text_lines::{is_comment_line, split_word};
 
 /// The kind of the last line that was read.
 #[derive(Clone, Copy)]

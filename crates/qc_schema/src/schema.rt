@@ -1,12 +1,12 @@
 // A schema, and what it says.
 ghost use Rattle.std.specs.Prelude.{◌≡◌, ◌≤◌, ◌<◌, ◌+◌, [], length, map, slice_index_or};
-ghost use Rattle.qc_schema.specs.Grammar.{read_lines, schema_in, start};
+ghost use Rattle.qc_schema.specs.Grammar.{measure_from, read_lines, schema_in, start};
 ghost use Rattle.text_lines.specs.Lines.{lines_of, without_cr};
 ghost use Rattle.qc_schema.specs.Schema.{IsLayout, no_measure};
 ghost use Rattle.cell_core.specs.Gives.{Gives};
 ghost use Rattle.qc_schema.specs.States.{layout_in, schema_fault_in};
 
-use crate::draft::Draft;
+use crate::draft::{Draft, measure_named};
 use crate::reader::Reader;
 use crate::refusal::{SchemaCause, SchemaRefused};
 use aggregates::AggKind;
@@ -69,6 +69,13 @@ impl Schema {
         ensures { result.now ≡ (slice_index_or self.now.measures measure no_measure).name }
     {
         self.draft.measures[measure as usize].name.as_str()
+    }
+
+    /// The measure of a name, counted from 0.
+    pub fn measure_named(&self, name: &[u8]) -> Option<u8>
+        ensures { result ≡ measure_from self.now.measures 0 name.now }
+    {
+        measure_named(&self.draft.measures, name)
     }
 
     /// How many digits an amount of a measure has behind the point.

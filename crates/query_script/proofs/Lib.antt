@@ -1,4 +1,5 @@
 mod Asking
 mod PlainFields
-mod Points
+mod Asked
 mod CommandFacts
+mod Listed

@@ -4,7 +4,10 @@ use Rattle.std.specs.Str.{bytes_eq}
 use Rattle.cube_defs.specs.Text.{Text}
 use Rattle.cell_core.specs.declared.fields.Field as asked
 use Rattle.cell_core.specs.declared.fields.Field.TheVariants as asks
+use Rattle.text_lines.specs.Cuts.{cut_at}
 use Rattle.query_script.specs.Faults.{LineFault, Field}
+use Rattle.query_script.specs.declared.record.Shape.{Shape}
+use Rattle.query_script.specs.declared.record.Shape.TheVariants as shapes
 
 -- what stands for more than one value: `?`, and what begins with `|` or `~`
 abbrev pub is_several : Text → Bool
@@ -16,11 +19,29 @@ abbrev pub value_of : Text → Text
 value_of [] = []
 value_of (b ∷ bs) = if b == 61 then bs else b ∷ bs
 
--- what a field of a point asks of its dimension, if it is allowed there: `*` is Any, and else it is one value
-abbrev pub point_field : Text → Option asked.Field
-point_field field =
+-- the values from the one of two texts to the other
+abbrev pub between_of : List Text → Option asked.Field
+between_of [] = None
+between_of (low ∷ []) = None
+between_of (low ∷ high ∷ []) = Some (asks.Between low high)
+between_of (low ∷ high ∷ more ∷ texts) = None
+
+-- what a field of several values asks: behind `|` these values, cut at each further `|`; behind `~` the values between two texts with
+-- one `~` between them; and `?` each value
+abbrev pub several_of : Text → Option asked.Field
+several_of [] = Some asks.All
+several_of (b ∷ bs) = if b == 124 then Some (asks.Among (cut_at 124 bs)) else if b == 126 then between_of (cut_at 126 bs) else Some asks.All
+
+-- only a record that asks for a box may ask for several values
+abbrev pub several_in : Shape → Text → Option asked.Field
+several_in shapes.Cell field = None
+several_in shapes.Box field = several_of field
+
+-- what a field asks of its dimension, if it is allowed there: `*` is Any, and what doesn't stand for several values is one value
+abbrev pub field_of : Shape → Text → Option asked.Field
+field_of shape field =
     if bytes_eq field (codes "*") then Some asks.Any
-    else if is_several field then None
+    else if is_several field then several_in shape field
     else Some (asks.One (value_of field))
 
 -- what a field asks in front of what the others ask, or the fault at its place

@@ -21,7 +21,9 @@ stats_line = codes "stats"
 
 -- the words of the commands that name something behind them
 abbrev pub names_more : List ℕ → Bool
-names_more word = bytes_eq word (codes "load") || bytes_eq word (codes "apply") || bytes_eq word (codes "point") || bytes_eq word (codes "bounds")
+names_more word =
+    bytes_eq word (codes "load") || bytes_eq word (codes "apply") || bytes_eq word (codes "point")
+    || bytes_eq word (codes "range") || bytes_eq word (codes "bounds") || bytes_eq word (codes "iceberg")
 
 -- Whether a line may want memory: it is UTF-8 and begins with such a word. The line `stats` wants none.
 abbrev pub may_want_memory : List ℕ → Bool

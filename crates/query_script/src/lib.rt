@@ -1,10 +1,12 @@
 //! Reads the lines of a script into commands.
 #![tactic(auto)]
 
+mod iceberg;
 mod line;
 mod plain;
-mod point;
+mod record;
 #[cfg(test)]
 mod tests;
+mod values;
 
 pub use line::{Command, LineRefused, read_line};

@@ -1,14 +1,18 @@
 // A line of a script.
 ghost use Rattle.std.specs.Prelude.{◌≡◌, ◌≤◌, true, length, IfOk, IfErr};
 ghost use Rattle.std.specs.Str.{bytes_eq};
-ghost use Rattle.query_script.specs.Commands.{IsCommand, command_in, command_named, name_in, wants_memory};
+ghost use Rattle.query_script.specs.Commands.{IsQuestion, command_in, command_named, name_in, wants_memory};
 ghost use Rattle.cell_core.specs.Gives.{Gives};
 ghost use Rattle.query_script.specs.Faults.{line_fault_in};
+ghost use Rattle.query_script.specs.Questions.{question_in};
 ghost use Rattle.query_script.specs.Lines.{may_want_memory, names_more, rest_of, stats_line, word_of};
 
-use crate::point::read_point;
+use crate::iceberg::read_iceberg;
+use crate::record::{Shape, read_fields};
+use aggregates::{AggKind, Fraction};
 use cell_core::{Fields, Text};
 use cube_defs::MAX_FILE;
+use iceberg_query::Bound;
 use qc_schema::Schema;
 use std::alloc::{AllocError, Global};
 
@@ -21,8 +25,13 @@ pub enum Command {
     Apply(Text),
     /// Answer the point of these fields, one for each dimension.
     Point(Fields),
-    /// Tell the bounds of the class of that point.
+    /// Answer each cell of a box that covers a row. There is a field for each dimension.
+    Range(Fields),
+    /// Tell the bounds of the class of a point.
     Bounds(Fields),
+    /// Tell the classes whose aggregate, in the unit of the measure's scale, is at least or at most
+    /// the value.
+    Iceberg(AggKind, Bound, Fraction),
     /// Tell what is counted of the rows and of their tree.
     Stats,
 }
@@ -56,6 +65,7 @@ impl From<AllocError> for LineRefused {
 fn split_word(line: &str) -> (&str, &str)
     ensures word { result.0.now ≡ word_of line.now }
     ensures rest { result.1.now ≡ rest_of line.now }
+    ensures shorter { length result.1.now ≤ length line.now }
 {
     match line.split_once(' ') {
         Some((word, rest)) => (word, rest),
@@ -87,29 +97,35 @@ fn read_command(
     word: &str,
     rest: &str,
 ) -> Result<Command, LineRefused>
-    ensures gives { Gives line_fault_in (λ command. command) result (command_named schema.now word.now rest.now) }
+    requires { length rest.now ≤ MAX_FILE }
+    ensures gives { Gives line_fault_in question_in result (command_named schema.now word.now rest.now) }
     ensures memory { IfErr result (λ e. e ≡ LineRefused.Memory → names_more word.now ≡ true) }
 {
     match word {
         "load" => Ok(Command::Load(read_name(alloc, rest)?)),
         "apply" => Ok(Command::Apply(read_name(alloc, rest)?)),
-        "point" => Ok(Command::Point(read_point(alloc, schema, rest)?)),
-        "bounds" => Ok(Command::Bounds(read_point(alloc, schema, rest)?)),
+        "point" => Ok(Command::Point(read_fields(alloc, Shape::Cell, schema, rest)?)),
+        "range" => Ok(Command::Range(read_fields(alloc, Shape::Box, schema, rest)?)),
+        "bounds" => Ok(Command::Bounds(read_fields(alloc, Shape::Cell, schema, rest)?)),
+        "iceberg" => read_iceberg(schema, rest),
         _ => Err(LineRefused::Command),
     }
 }
 
 /// Reads a line without its end. The line `stats` is just that word. Else the first word runs to the
 /// first space. Behind `load` and `apply` stands the name of a file, which may hold spaces. Behind
-/// `point` and `bounds` stand fields as in a CSV file: `*` is Any, `=` stands in front of a value of any
-/// bytes, and each other field is that value, but `?` and fields that begin with `|` or `~` are not
-/// allowed.
+/// `point`, `bounds` and `range` stand fields as in a CSV file: `*` is Any, `=` stands in front of a
+/// value of any bytes, and each other field is that value. Only behind `range` a field may also be
+/// `?` for each value, a list of values with `|` in front of each, or two texts with `~` in front of
+/// each for the values from the one to the other by their bytes. Behind `iceberg` stand words: an
+/// aggregate (`count`, `sum`, `least`, `greatest` or `mean`), its measure but for `count`, `>=` or
+/// `<=`, and a number.
 pub fn read_line(alloc: Global, schema: &Schema, line: &[u8]) -> Result<Command, LineRefused>
     requires { length line.now ≤ MAX_FILE }
-    ensures gives { Gives line_fault_in (λ command. command) result (command_in schema.now line.now) }
+    ensures gives { Gives line_fault_in question_in result (command_in schema.now line.now) }
     ensures memory { IfErr result (λ e. e ≡ LineRefused.Memory → may_want_memory line.now ≡ true) }
-    ensures command { IfOk result (λ command. IsCommand schema.now command) }
-    ensures wants { IfOk result (λ command. wants_memory command ≡ true → may_want_memory line.now ≡ true) }
+    ensures question { IfOk result (λ command. IsQuestion schema.now (question_in command)) }
+    ensures wants { IfOk result (λ command. wants_memory (question_in command) ≡ true → may_want_memory line.now ≡ true) }
 {
     match str::from_utf8(line) {
         Ok(text) => {

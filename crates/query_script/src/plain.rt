@@ -5,39 +5,53 @@ ghost use Rattle.cube_defs.specs.Text.{Text};
 ghost use Rattle.query_script.specs.Commands.{fields_in};
 ghost use Rattle.cell_core.specs.Gives.{Gives};
 ghost use Rattle.query_script.specs.Faults.{line_fault_in};
-ghost use Rattle.query_script.specs.Fields.{fields_from, point_field};
+ghost use Rattle.query_script.specs.Fields.{field_of, fields_from};
 ghost use Rattle.text_lines.specs.Plain.{is_plain_byte, pieces};
 ghost use Rattle.query_script.specs.Progress.{asked_after};
 
 use crate::line::LineRefused;
-use crate::point::{check_count, push_field};
+use crate::record::{Shape, check_count, push_field};
 use cell_core::Fields;
+use cube_defs::MAX_FILE;
 use std::alloc::Global;
 
 // Puts what the pieces between commas ask behind what those before them ask.
-fn push_pieces(alloc: Global, dims: u8, text: &str, fields: &mut Fields) -> Result<(), LineRefused>
+fn push_pieces(
+    alloc: Global,
+    shape: Shape,
+    dims: u8,
+    text: &str,
+    fields: &mut Fields,
+) -> Result<(), LineRefused>
     requires few { length fields.old ≤ dims }
-    ensures ok { OnOk result ((more : List Text) → asked_after point_field dims fields.new more ≡ asked_after point_field dims fields.old (pieces text.now ++ more)) }
+    requires size { length text.now ≤ MAX_FILE }
+    ensures ok { OnOk result ((more : List Text) → asked_after (field_of shape) dims fields.new more ≡ asked_after (field_of shape) dims fields.old (pieces text.now ++ more)) }
     ensures few { OnOk result (length fields.new ≤ dims) }
-    ensures err { IfErr result (λ e. (more : List Text) → IfSome (line_fault_in e) (λ fault. asked_after point_field dims fields.old (pieces text.now ++ more) ≡ Err fault)) }
+    ensures err { IfErr result (λ e. (more : List Text) → IfSome (line_fault_in e) (λ fault. asked_after (field_of shape) dims fields.old (pieces text.now ++ more) ≡ Err fault)) }
 {
     let mut left = text;
     'pieces: while let Some((piece, behind)) = left.split_once(',') {
-        push_field(alloc, dims, piece, fields)?;
+        push_field(alloc, shape, dims, piece, fields)?;
         left = behind;
     }
-    push_field(alloc, dims, left, fields)
+    push_field(alloc, shape, dims, left, fields)
 }
 
 /// Reads the fields of a plain text. An empty one has none.
-pub fn read_plain(alloc: Global, dims: u8, text: &str) -> Result<Fields, LineRefused>
-    requires { list_all is_plain_byte text.now ≡ true }
-    ensures { Gives line_fault_in (λ fields. fields) result (fields_from point_field 1 dims (fields_in text.now)) }
+pub fn read_plain(
+    alloc: Global,
+    shape: Shape,
+    dims: u8,
+    text: &str,
+) -> Result<Fields, LineRefused>
+    requires plain { list_all is_plain_byte text.now ≡ true }
+    requires size { length text.now ≤ MAX_FILE }
+    ensures { Gives line_fault_in (λ fields. fields) result (fields_from (field_of shape) 1 dims (fields_in text.now)) }
 {
     let mut fields = Fields::new(alloc);
     if text.is_empty() {
-        return check_count(dims, fields);
+        return check_count(shape, dims, fields);
     }
-    push_pieces(alloc, dims, text, &mut fields)?;
-    check_count(dims, fields)
+    push_pieces(alloc, shape, dims, text, &mut fields)?;
+    check_count(shape, dims, fields)
 }

@@ -3,5 +3,6 @@ pub mod Sizes
 pub mod TextRecords
 pub mod Unmarked
 mod Splits
+mod WordSplits
 pub mod Pieces
 mod Fields

@@ -13,7 +13,9 @@ use Rattle.csv.specs.declared.parser.State.{State}
 use Rattle.csv.specs.declared.parser.State.TheVariants as st
 use Rattle.cube_defs.specs.Text.{Text}
 use Rattle.text_lines.specs.Lines.{with_first}
+use Rattle.text_lines.specs.Cuts.{cut_at}
 use Rattle.text_lines.specs.Plain.{is_plain_byte, pieces}
+use Rattle.text_lines.proofs.Splits.{is-byte, other-byte}
 
 -- ---- the machine
 
@@ -102,22 +104,18 @@ plain-record b bs plain =
     let size : length (b ∷ bs) + 1 ≡ suc (length (b ∷ bs)) = omega arith in
     rw size (one-record (length (b ∷ bs)) (b ∷ bs) (pieces (b ∷ bs)) whole)
 
--- ---- cutting at the first comma
+-- ---- cutting at the first of some bytes
 
-pub no-comma : (text : List ℕ) → ((i : ℕ) → i < length text → get_or text i 0 ≢ 44) → pieces text ≡ text ∷ []
-no-comma [] none = refl
-no-comma (b ∷ bs) none =
-    let other : (b == 44) ≡ false = let h = none 0 (omega arith) in grind (arith, nat_tests, h) in
-    rw (other, no-comma bs (λ i l. none (suc i) (omega arith))) refl
+pub no-cut : (at : ℕ) (text : List ℕ) → ((i : ℕ) → i < length text → get_or text i 0 ≢ at) → cut_at at text ≡ text ∷ []
+no-cut at [] none = refl
+no-cut at (b ∷ bs) none = rw (other-byte at b (none 0 (omega arith)), no-cut at bs (λ i l. none (suc i) (omega arith))) refl
 
-pub first-comma : (piece rest : List ℕ) → ((i : ℕ) → i < length piece → get_or piece i 0 ≢ 44) → pieces (piece ++ 44 ∷ rest) ≡ piece ∷ pieces rest
-first-comma [] rest none = refl
-first-comma (b ∷ bs) rest none =
-    let other : (b == 44) ≡ false = let h = none 0 (omega arith) in grind (arith, nat_tests, h) in
-    rw (other, first-comma bs rest (λ i l. none (suc i) (omega arith))) refl
+pub first-cut : (at : ℕ) (piece rest : List ℕ) → ((i : ℕ) → i < length piece → get_or piece i 0 ≢ at) → cut_at at (piece ++ at ∷ rest) ≡ piece ∷ cut_at at rest
+first-cut at [] rest none = rw (is-byte at at refl) refl
+first-cut at (b ∷ bs) rest none = rw (other-byte at b (none 0 (omega arith)), first-cut at bs rest (λ i l. none (suc i) (omega arith))) refl
 
-pub split-pieces : (text : List ℕ) (r : Option (Bor (List ℕ) × Bor (List ℕ))) → IsSplitOnceResult 44 text r → MatchOption r (pieces text ≡ text ∷ []) (λ x. pieces text ≡ x.0.now ∷ pieces x.1.now)
-split-pieces text None h = no-comma text (split_parts 44 text None h (omega arith))
-split-pieces text (Some x) h =
-    let p = split_parts 44 text (Some x) h (omega arith) in
-    ap pieces p.0 ∙ first-comma x.0.now x.1.now p.1
+pub split-cut : (at : ℕ) (text : List ℕ) (r : Option (Bor (List ℕ) × Bor (List ℕ))) → IsSplitOnceResult at text r → at < 128 → MatchOption r (cut_at at text ≡ text ∷ []) (λ x. cut_at at text ≡ x.0.now ∷ cut_at at x.1.now)
+split-cut at text None h low = no-cut at text (split_parts at text None h (omega (arith, low)))
+split-cut at text (Some x) h low =
+    let p = split_parts at text (Some x) h (omega (arith, low)) in
+    ap (cut_at at) p.0 ∙ first-cut at x.0.now x.1.now p.1

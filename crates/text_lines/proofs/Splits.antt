@@ -4,10 +4,10 @@ use Rattle.std.specs.Prelude.{◌==◌}
 use Rattle.std.proofs.lemmas.Bool.Decides.{nat_tests}
 use Rattle.text_lines.specs.Lines.{lines_of}
 
-is-byte : (a b : ℕ) → b ≡ a → (b == a) ≡ true
+pub is-byte : (a b : ℕ) → b ≡ a → (b == a) ≡ true
 is-byte a b e = grind (arith, nat_tests, e)
 
-other-byte : (a b : ℕ) → b ≢ a → (b == a) ≡ false
+pub other-byte : (a b : ℕ) → b ≢ a → (b == a) ≡ false
 other-byte a b e = grind (arith, nat_tests, e)
 
 line-suc : (xs : List ℕ) (i : ℕ) → i < length xs → get_or xs i 0 ≡ 10 → ((k : ℕ) → k < i → get_or xs k 0 ≢ 10) → lines_of xs ≡ take i xs ∷ lines_of (drop (suc i) xs)

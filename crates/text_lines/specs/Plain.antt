@@ -1,13 +1,12 @@
 -- Texts of fields with nothing but commas between them.
-use Rattle.std.specs.Prelude.{ℕ, Bool, not, ◌==◌, ◌||◌, List, [], ◌∷◌, if◌then◌else◌}
+use Rattle.std.specs.Prelude.{ℕ, Bool, not, ◌==◌, ◌||◌, List}
 use Rattle.cube_defs.specs.Text.{Text}
-use Rattle.text_lines.specs.Lines.{with_first}
+use Rattle.text_lines.specs.Cuts.{cut_at}
 
 -- a byte that neither quotes nor ends a line
 abbrev pub is_plain_byte : ℕ → Bool
 is_plain_byte b = not ((b == 34) || (b == 13) || (b == 10))
 
--- what stands between commas, nothing between two of them
+-- what stands between commas
 abbrev pub pieces : List ℕ → List Text
-pieces [] = [] ∷ []
-pieces (b ∷ bs) = if b == 44 then [] ∷ pieces bs else with_first b (pieces bs)
+pieces text = cut_at 44 text

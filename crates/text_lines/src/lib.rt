@@ -1,5 +1,5 @@
 //! Texts as they are read: their lines, a byte order mark in front, the records of comma-separated
-//! values, and the pieces of a plain line.
+//! values, the pieces of a plain line, and the words between spaces.
 #![tactic(auto)]
 
 mod lines;
@@ -8,8 +8,10 @@ mod plain;
 mod rows;
 #[cfg(test)]
 mod tests;
+mod words;
 
 pub use lines::{is_comment_line, split_line, trim_cr};
 pub use marks::{has_mark, has_two_marks, trim_mark};
 pub use plain::is_plain;
 pub use rows::{Rows, field};
+pub use words::split_word;

@@ -1,5 +1,5 @@
 use Rattle.std.proofs.Common.{◌<◌, ℕ, get_or, ◌≡◌}
-use Rattle.qc_schema.proofs.lines.trim_spaces.Given as goal
+use Rattle.text_lines.proofs.words.trim_spaces.Given as goal
 
 abbrev pub invariant-loop-i : goal.invariant-loop-i
 invariant-loop-i l = (k : ℕ) → k < l.i → get_or l.line k 0 ≡ 32

@@ -1,9 +1,9 @@
 use Rattle.std.proofs.Common.{arith, sym, ap, ◌∙◌, ◌<◌, ◌≡◌, length}
 use Rattle.std.proofs.lemmas.Bool.{eqb-false, eqb-true}
 use Rattle.std.proofs.lemmas.List.{nil_from_length, take_rest}
-use Rattle.qc_schema.specs.Lines.{words_of}
-use Rattle.qc_schema.proofs.Splits.{word-at, word-whole, words-empty}
-use Rattle.qc_schema.proofs.lines.split_word.Goals as goal
+use Rattle.text_lines.specs.Cuts.{words_of}
+use Rattle.text_lines.proofs.WordSplits.{word-at, word-whole, words-empty}
+use Rattle.text_lines.proofs.words.split_word.Goals as goal
 
 pub returns-then-is_empty : goal.returns-then-is_empty
 returns-then-is_empty c =

@@ -1,23 +1,17 @@
 -- The words of a line.
 use Rattle.std.proofs.Common.{◌≡◌, ◌<◌, ◌≤◌, ◌∙◌, ℕ, zero, suc, List, [], ◌∷◌, length, get_or, take, drop, true, false, refl, sym, arith, ap, ◌≢◌}
-use Rattle.std.specs.Prelude.{◌==◌, filter}
-use Rattle.std.proofs.lemmas.Bool.Decides.{nat_tests}
+use Rattle.std.specs.Prelude.{filter}
 use Rattle.std.proofs.Math.Seq.{drop-cons}
-use Rattle.qc_schema.specs.Lines.{has_bytes, pieces_of, words_of}
+use Rattle.text_lines.specs.Cuts.{cut_at, has_bytes, words_of}
+use Rattle.text_lines.proofs.Splits.{is-byte, other-byte}
 
-is-byte : (a b : ℕ) → b ≡ a → (b == a) ≡ true
-is-byte a b e = grind (arith, nat_tests, e)
-
-other-byte : (a b : ℕ) → b ≢ a → (b == a) ≡ false
-other-byte a b e = grind (arith, nat_tests, e)
-
-piece-suc : (xs : List ℕ) (i : ℕ) → i < length xs → get_or xs i 0 ≡ 32 → ((k : ℕ) → k < i → get_or xs k 0 ≢ 32) → pieces_of xs ≡ take i xs ∷ pieces_of (drop (suc i) xs)
+piece-suc : (xs : List ℕ) (i : ℕ) → i < length xs → get_or xs i 0 ≡ 32 → ((k : ℕ) → k < i → get_or xs k 0 ≢ 32) → cut_at 32 xs ≡ take i xs ∷ cut_at 32 (drop (suc i) xs)
 piece-suc [] i lt here before = absurd (omega arith)
 piece-suc (b ∷ bs) zero lt here before = rw (is-byte 32 b here) refl
 piece-suc (b ∷ bs) (suc i) lt here before =
     rw (other-byte 32 b (before 0 (omega arith)), piece-suc bs i (omega arith) here (λ k h. before (suc k) (omega arith))) refl
 
-piece-whole : (xs : List ℕ) → ((k : ℕ) → k < length xs → get_or xs k 0 ≢ 32) → pieces_of xs ≡ xs ∷ []
+piece-whole : (xs : List ℕ) → ((k : ℕ) → k < length xs → get_or xs k 0 ≢ 32) → cut_at 32 xs ≡ xs ∷ []
 piece-whole [] none = refl
 piece-whole (b ∷ bs) none = rw (other-byte 32 b (none 0 (omega arith)), piece-whole bs (λ k h. none (suc k) (omega arith))) refl
 

@@ -1,7 +1,7 @@
 use Rattle.std.proofs.Common.{arith}
 use Rattle.std.proofs.lemmas.List.{take_rest}
-use Rattle.qc_schema.proofs.Splits.{words-none, words-skip}
-use Rattle.qc_schema.proofs.lines.trim_spaces.Goals as goal
+use Rattle.text_lines.proofs.WordSplits.{words-none, words-skip}
+use Rattle.text_lines.proofs.words.trim_spaces.Goals as goal
 
 pub returns-then-b-ne32-clause-words : goal.returns-then-b-ne32-clause-words
 returns-then-b-ne32-clause-words c = rw take_rest (words-skip c.args.line.now c.loop-i.i (omega arith) c.loop-i.invariant)

@@ -1,0 +1,11 @@
+-- The aggregates of a measure, in the words of the definitions.
+use Rattle.std.specs.Prelude.{ℕ}
+use Rattle.cube_defs.specs.Answers.{AggKind, Greatest, Least, Mean, Sum}
+use Rattle.query_script.specs.declared.iceberg.OfMeasure.{OfMeasure}
+use Rattle.query_script.specs.declared.iceberg.OfMeasure.TheVariants as aggregates
+
+abbrev pub make_of : OfMeasure → ℕ → AggKind
+make_of aggregates.Sum = Sum
+make_of aggregates.Least = Least
+make_of aggregates.Greatest = Greatest
+make_of aggregates.Mean = Mean

@@ -1,0 +1,30 @@
+-- What a line asks, in the words of the definitions.
+use Rattle.std.specs.Prelude.{List, ⊤}
+use Rattle.cube_defs.specs.Text.{Text}
+use Rattle.cube_defs.specs.Rows.{Fraction}
+use Rattle.cube_defs.specs.Answers.{AggKind, Bound}
+use Rattle.cell_core.specs.declared.fields.Field as asked
+use Rattle.aggregates.specs.Views.{fraction_in, kind_in}
+use Rattle.iceberg_query.specs.Asked.{bound_in}
+use Rattle.query_script.specs.declared.line.Command.{Command}
+use Rattle.query_script.specs.declared.line.Command.TheVariants as commands
+
+-- The rows of a file come in place of none or are changed; the cell, the class of the cell or the box of some fields; the classes
+-- whose aggregate is bounded by a value; or what is counted.
+pub data Question : Type 0 where
+  Load : Text → Question
+  Apply : Text → Question
+  Point : List asked.Field → Question
+  Range : List asked.Field → Question
+  Bounds : List asked.Field → Question
+  Iceberg : AggKind → Bound → Fraction → Question
+  Stats : Question
+
+abbrev pub question_in : Command → Question
+question_in (commands.Load name) = Load name
+question_in (commands.Apply name) = Apply name
+question_in (commands.Point fields) = Point fields
+question_in (commands.Range fields) = Range fields
+question_in (commands.Bounds fields) = Bounds fields
+question_in (commands.Iceberg kind bound value) = Iceberg (kind_in kind) (bound_in bound) (fraction_in value)
+question_in commands.Stats = Stats

@@ -1,0 +1,113 @@
+// What an iceberg asks.
+ghost use Rattle.std.specs.Prelude.{◌≡◌, ◌≤◌, ◌<◌, ℕ, length};
+ghost use Rattle.std.specs.Option.{option_map};
+ghost use Rattle.cell_core.specs.Gives.{Gives};
+ghost use Rattle.aggregates.specs.Views.{kind_in};
+ghost use Rattle.text_lines.specs.Cuts.{words_of};
+ghost use Rattle.iceberg_query.specs.Asked.{bound_in};
+ghost use Rattle.query_script.specs.Faults.{line_fault_in};
+ghost use Rattle.query_script.specs.Icebergs.{bound_at, iceberg_in, makes, value_at};
+ghost use Rattle.query_script.specs.Questions.{question_in};
+
+use crate::line::{Command, LineRefused};
+use aggregates::{AggKind, read_fraction};
+use iceberg_query::Bound;
+use qc_schema::Schema;
+use text_lines::split_word;
+
+// The aggregates of a measure.
+#[derive(Clone, Copy)]
+enum OfMeasure {
+    Sum,
+    Least,
+    Greatest,
+    Mean,
+}
+
+ghost use Rattle.query_script.specs.Makes.{make_of};
+
+impl OfMeasure {
+    // The one that a word names.
+    fn named(word: &[u8]) -> Option<OfMeasure>
+        ensures { option_map make_of result ≡ makes word.now }
+    {
+        match word {
+            b"sum" => Some(OfMeasure::Sum),
+            b"least" => Some(OfMeasure::Least),
+            b"greatest" => Some(OfMeasure::Greatest),
+            b"mean" => Some(OfMeasure::Mean),
+            _ => None,
+        }
+    }
+
+    // That of a measure.
+    fn of(self, measure: u8) -> AggKind
+        ensures { kind_in result ≡ make_of self measure }
+    {
+        match self {
+            OfMeasure::Sum => AggKind::Sum(measure),
+            OfMeasure::Least => AggKind::Least(measure),
+            OfMeasure::Greatest => AggKind::Greatest(measure),
+            OfMeasure::Mean => AggKind::Mean(measure),
+        }
+    }
+}
+
+// The value, at a place, behind which no word may stand.
+fn read_value(
+    kind: AggKind,
+    bound: Bound,
+    place: u32,
+    words: &[u8],
+) -> Result<Command, LineRefused>
+    requires { place < 10 }
+    ensures { Gives line_fault_in question_in result (value_at (kind_in kind) (bound_in bound) place (words_of words.now)) }
+{
+    let Some((word, behind)) = split_word(words) else {
+        return Err(LineRefused::Field(place));
+    };
+    if split_word(behind).is_some() {
+        return Err(LineRefused::Field(place + 1));
+    }
+    match read_fraction(word) {
+        Some(value) => Ok(Command::Iceberg(kind, bound, value)),
+        None => Err(LineRefused::Number),
+    }
+}
+
+// The bound, at a place, and the value behind it.
+fn read_bound(kind: AggKind, place: u32, words: &[u8]) -> Result<Command, LineRefused>
+    requires { place < 9 }
+    ensures { Gives line_fault_in question_in result (bound_at (kind_in kind) place (words_of words.now)) }
+{
+    let Some((word, behind)) = split_word(words) else {
+        return Err(LineRefused::Field(place));
+    };
+    match word {
+        b">=" => read_value(kind, Bound::AtLeast, place + 1, behind),
+        b"<=" => read_value(kind, Bound::AtMost, place + 1, behind),
+        _ => Err(LineRefused::Field(place)),
+    }
+}
+
+/// Reads what follows the word `iceberg`.
+pub fn read_iceberg(schema: &Schema, rest: &str) -> Result<Command, LineRefused>
+    ensures { Gives line_fault_in question_in result (iceberg_in schema.now rest.now) }
+{
+    let Some((word, behind)) = split_word(rest.as_bytes()) else {
+        return Err(LineRefused::Field(1));
+    };
+    if word == b"count".as_slice() {
+        return read_bound(AggKind::Count, 2, behind);
+    }
+    let Some(aggregate) = OfMeasure::named(word) else {
+        return Err(LineRefused::Field(1));
+    };
+    let Some((name, behind)) = split_word(behind) else {
+        return Err(LineRefused::Field(2));
+    };
+    let Some(measure) = schema.measure_named(name) else {
+        return Err(LineRefused::Field(2));
+    };
+    read_bound(aggregate.of(measure), 3, behind)
+}

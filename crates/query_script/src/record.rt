@@ -1,0 +1,141 @@
+// The fields of a record that asks something of each dimension.
+ghost use Rattle.std.specs.Prelude.{◌≡◌, ◌≤◌, ◌++◌, ◌∷◌, [], List, All, length, IfOk, Err, IfErr, IfSome, OnOk, IsUtf8};
+ghost use Rattle.csv.specs.Records.{fields_of};
+ghost use Rattle.cube_defs.specs.Text.{Text};
+ghost use Rattle.query_script.specs.Commands.{record_in};
+ghost use Rattle.cell_core.specs.Gives.{Gives};
+ghost use Rattle.query_script.specs.Faults.{line_fault_in};
+ghost use Rattle.query_script.specs.Fields.{field_of, value_of};
+ghost use Rattle.query_script.specs.Progress.{asked_after};
+ghost use Rattle.text_lines.specs.Records.{bytes_in};
+
+use crate::line::LineRefused;
+use crate::plain::read_plain;
+use crate::values::read_several;
+use cell_core::{Field, Fields, Memory, Text};
+use csv::ByteRecord;
+use cube_defs::MAX_FILE;
+use qc_schema::Schema;
+use std::alloc::Global;
+use text_lines::{Rows, field, has_mark, is_plain};
+
+/// What the fields of a record ask for together.
+#[derive(Clone, Copy, Debug, PartialEq, Eq)]
+pub enum Shape {
+    /// A cell: each field is Any or one value.
+    Cell,
+    /// A box of cells: a field may also stand for several values.
+    Box,
+}
+
+// The value that a field names.
+fn named_value(field: &str) -> &str
+    ensures { result.now ≡ value_of field.now }
+{
+    match field.strip_prefix('=') {
+        Some(value) => value,
+        None => field,
+    }
+}
+
+// What a field asks, if it is allowed.
+fn read_field(alloc: Global, shape: Shape, field: &str) -> Result<Option<Field>, Memory>
+    requires { length field.now ≤ MAX_FILE }
+    ensures { IfOk result (λ asked. asked ≡ field_of shape field.now) }
+{
+    match field.as_bytes() {
+        b"*" => Ok(Some(Field::Any)),
+        b"?" | [b'|' | b'~', ..] => match shape {
+            Shape::Cell => Ok(None),
+            Shape::Box => read_several(alloc, field),
+        },
+        _ => Ok(Some(Field::One(Text::new(alloc, named_value(field))?))),
+    }
+}
+
+/// Puts what a field asks behind what those before it ask.
+pub fn push_field(
+    alloc: Global,
+    shape: Shape,
+    dims: u8,
+    text: &str,
+    fields: &mut Fields,
+) -> Result<(), LineRefused>
+    requires few { length fields.old ≤ dims }
+    requires size { length text.now ≤ MAX_FILE }
+    ensures ok { OnOk result ((more : List Text) → asked_after (field_of shape) dims fields.new more ≡ asked_after (field_of shape) dims fields.old (text.now ∷ more)) }
+    ensures few { OnOk result (length fields.new ≤ dims) }
+    ensures err { IfErr result (λ e. (more : List Text) → IfSome (line_fault_in e) (λ fault. asked_after (field_of shape) dims fields.old (text.now ∷ more) ≡ Err fault)) }
+{
+    let place = fields.len() + 1;
+    if place > u32::from(dims) {
+        return Err(LineRefused::Field(place));
+    }
+    let Some(asked) = read_field(alloc, shape, text)? else {
+        return Err(LineRefused::Field(place));
+    };
+    fields.push(asked)?;
+    Ok(())
+}
+
+// The same of each field of a record.
+fn push_fields(
+    alloc: Global,
+    shape: Shape,
+    dims: u8,
+    row: &ByteRecord,
+    fields: &mut Fields,
+) -> Result<(), LineRefused>
+    requires text { All IsUtf8 (fields_of row.now) }
+    requires size { bytes_in (fields_of row.now) ≤ MAX_FILE }
+    requires few { length fields.old ≤ dims }
+    ensures ok { OnOk result ((more : List Text) → asked_after (field_of shape) dims fields.new more ≡ asked_after (field_of shape) dims fields.old (fields_of row.now ++ more)) }
+    ensures few { OnOk result (length fields.new ≤ dims) }
+    ensures err { IfErr result (λ e. (more : List Text) → IfSome (line_fault_in e) (λ fault. asked_after (field_of shape) dims fields.old (fields_of row.now ++ more) ≡ Err fault)) }
+{
+    'fields: for at in 0..row.len() {
+        let text = str::from_utf8(field(row, at)).unwrap();
+        push_field(alloc, shape, dims, text, fields)?;
+    }
+    Ok(())
+}
+
+#[tactic(auto, using(crate::proofs::Asking::asks_all, crate::proofs::Asking::asks_too_few))]
+/// Hands the fields back where none is missing.
+pub fn check_count(shape: Shape, dims: u8, fields: Fields) -> Result<Fields, LineRefused>
+    requires { length fields ≤ dims }
+    ensures { Gives line_fault_in (λ fields. fields) result (asked_after (field_of shape) dims fields []) }
+{
+    let count = fields.len();
+    if count < u32::from(dims) {
+        return Err(LineRefused::Field(count + 1));
+    }
+    Ok(fields)
+}
+
+/// Reads what follows the word of a command that asks a cell, or a box of cells.
+pub fn read_fields(
+    alloc: Global,
+    shape: Shape,
+    schema: &Schema,
+    rest: &str,
+) -> Result<Fields, LineRefused>
+    requires { length rest.now ≤ MAX_FILE }
+    ensures { Gives line_fault_in (λ fields. fields) result (record_in shape (length schema.now.dims) rest.now) }
+{
+    let text = rest.as_bytes();
+    if has_mark(text) {
+        return Err(LineRefused::Field(1));
+    }
+    let dims = schema.dims();
+    if is_plain(rest) {
+        return read_plain(alloc, shape, dims, rest);
+    }
+    let mut rows = Rows::new(alloc, text);
+    let mut row = ByteRecord::new(alloc);
+    let mut fields = Fields::new(alloc);
+    'records: while rows.next(&mut row)? {
+        push_fields(alloc, shape, dims, &row, &mut fields)?;
+    }
+    check_count(shape, dims, fields)
+}

@@ -1,0 +1,50 @@
+// A field that stands for several values.
+ghost use Rattle.std.specs.Prelude.{◌≡◌, ◌≤◌, ◌<◌, ◌+◌, ◌++◌, length, IfOk};
+ghost use Rattle.text_lines.specs.Cuts.{cut_at};
+ghost use Rattle.query_script.specs.Fields.{between_of, several_of};
+
+use cell_core::{Field, Memory, Text, Texts};
+use cube_defs::MAX_FILE;
+use std::alloc::Global;
+
+// The texts that `|` stands between.
+fn read_list(alloc: Global, text: &str) -> Result<Texts, Memory>
+    requires { length text.now ≤ MAX_FILE }
+    ensures { IfOk result (λ list. list ≡ cut_at 124 text.now) }
+{
+    let mut list = Texts::new(alloc);
+    let mut left = text;
+    'pieces: while let Some((piece, behind)) = left.split_once('|') {
+        list.push(Text::new(alloc, piece)?)?;
+        left = behind;
+    }
+    list.push(Text::new(alloc, left)?)?;
+    Ok(list)
+}
+
+// The values between two texts with one `~` between them.
+fn read_between(alloc: Global, ends: &str) -> Result<Option<Field>, Memory>
+    ensures { IfOk result (λ asked. asked ≡ between_of (cut_at 126 ends.now)) }
+{
+    let Some((low, high)) = ends.split_once('~') else {
+        return Ok(None);
+    };
+    if high.split_once('~').is_some() {
+        return Ok(None);
+    }
+    Ok(Some(Field::Between(Text::new(alloc, low)?, Text::new(alloc, high)?)))
+}
+
+/// What a field asks that is `?`, or begins with `|` or `~`, if it is allowed.
+pub fn read_several(alloc: Global, field: &str) -> Result<Option<Field>, Memory>
+    requires { length field.now ≤ MAX_FILE }
+    ensures { IfOk result (λ asked. asked ≡ several_of field.now) }
+{
+    if let Some(list) = field.strip_prefix('|') {
+        return Ok(Some(Field::Among(read_list(alloc, list)?)));
+    }
+    match field.strip_prefix('~') {
+        Some(ends) => read_between(alloc, ends),
+        None => Ok(Some(Field::All)),
+    }
+}
