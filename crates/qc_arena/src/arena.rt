@@ -2,13 +2,14 @@
 ghost use Rattle.std.specs.Prelude.{Err, IfOk, IfSome, IsSome, None, Ok, OnErr, OnOk, Some, false, nat_eq, true, ℕ, ◌+◌, ◌<◌, ◌||◌, ◌↔◌, ◌≡◌, ◌≢◌, ◌≤◌};
 ghost use Rattle.cell_core.specs.Entry.{IsCode};
 ghost use Rattle.std.specs.FinMap as map;
+ghost use Rattle.std.specs.FinSet as set;
 ghost use Rattle.std.specs.Option.{option_map};
 ghost use Rattle.std.specs.Ordering.{nat_cmp};
 ghost use Rattle.aggregates.specs.Views.{agg_in};
 ghost use Rattle.tree_laws.specs.Counts.{classes_in, links_in, tree_edges_in};
 ghost use Rattle.qc_arena.specs.Changes.{AreNew, class_now, class_was};
 ghost use Rattle.qc_arena.specs.Edges.{with_edge, without_edge};
-ghost use Rattle.qc_arena.specs.Map.{AreRooted, IsPlace, edges_in, is_touched, new_record, no_nodes, was_at, with_class, with_forced};
+ghost use Rattle.qc_arena.specs.Map.{AreRooted, CanChange, IsPlace, edges_in, frame, is_open, is_touched, new_record, no_nodes, shape_of, was_at, with_class, with_forced};
 ghost use Rattle.qc_arena.specs.Seen.{edge_of, record_at};
 
 use crate::Memory;
@@ -57,8 +58,7 @@ pub struct QcArena {
 }
 
 impl Model for QcArena {
-    ghost use Rattle.std.specs.FinMap as map;
-    ghost use Rattle.qc_arena.specs.Inside.{IsArena, now_of};
+    ghost use Rattle.qc_arena.specs.Inside.{IsArena, begun, now_of, touched_in, was_of};
     ghost use Rattle.qc_arena.specs.Parts.{IsStored};
     ghost use Rattle.qc_arena.specs.Map.{Arena, arena_code};
 
@@ -66,7 +66,7 @@ impl Model for QcArena {
 
     ghost coded = { arena_code };
 
-    ghost view = { λ a. record { width = a.dims; max = a.max; now = now_of a.nodes; images = map.from_entries a.images; is_open = a.is_open } };
+    ghost view = { λ a. record { width = a.dims; max = a.max; now = now_of a.nodes; was = begun a.is_open a.dims (was_of (now_of a.nodes) a.images); touched = touched_in a.images } };
 
     ghost invariant = { λ a. IsArena a.dims a.max a.nodes a.images a.is_open a.kept a.was × IsStored a.nodes a.parts };
 }
@@ -100,13 +100,8 @@ impl QcArena {
 
     /// A batch is open, and no node is touched.
     pub fn begin(&mut self)
-        requires { self.old.is_open ≡ false }
-        ensures now { self.new.now ≡ self.old.now }
-        ensures was { (q : ℕ) → was_at self.new q ≡ map.get self.old.now q }
-        ensures touched { (q : ℕ) → is_touched self.new q ≡ false }
-        ensures opened { self.new.is_open ≡ true }
-        ensures width { self.new.width ≡ self.old.width }
-        ensures max { self.new.max ≡ self.old.max }
+        requires { is_open self.old ≡ false }
+        ensures { self.new ≡ record self.old { was = Some (shape_of self.old); touched = set.empty } }
     {
         self.is_open = true;
     }
@@ -129,17 +124,15 @@ impl QcArena {
         under: Option<(NodeNo, u8, Code)>,
         steps: &mut Steps<L>,
     ) -> Result<NodeNo, ArenaRefused>
-        requires opened { self.old.is_open ≡ true }
+        requires opened { is_open self.old ≡ true }
         requires under { IsPlace self.old.width self.old.now under }
         ensures here { IfOk result (λ k. map.get self.new.now k.0 ≡ Some (new_record self.old.width self.old.now under)) }
         ensures others { IfOk result (λ k. (q : ℕ) → q ≢ k.0 → map.get self.new.now q ≡ map.get self.old.now q) }
         ensures free { IfOk result (λ k. map.get self.old.now k.0 ≡ None) }
         ensures untouched { IfOk result (λ k. is_touched self.old k.0 ≡ false) }
+        ensures unused { IfOk result (λ k. was_at self.old k.0 ≡ None) }
         ensures touched { IfOk result (λ k. (q : ℕ) → is_touched self.new q ≡ (nat_eq k.0 q || is_touched self.old q)) }
-        ensures was { (q : ℕ) → was_at self.new q ≡ was_at self.old q }
-        ensures opened { self.new.is_open ≡ true }
-        ensures width { self.new.width ≡ self.old.width }
-        ensures max { self.new.max ≡ self.old.max }
+        ensures frame { frame self.new ≡ frame self.old }
         ensures full { (result ≡ Err ArenaRefused.Full) ↔ (map.len self.old.now ≡ self.old.max) }
         ensures err { OnErr result (self.new ≡ self.old) }
         ensures steps { steps.new ≡ steps.old + 1 }
@@ -160,14 +153,11 @@ impl QcArena {
 
     /// Keeps the record of the node as it was at `begin`, so that it may be changed.
     pub fn touch<L: Ledger>(&mut self, node: NodeNo, steps: &mut Steps<L>) -> Result<(), Memory>
-        requires opened { self.old.is_open ≡ true }
+        requires opened { is_open self.old ≡ true }
         requires node { IsSome (map.get self.old.now node.0) }
         ensures touched { OnOk result ((q : ℕ) → is_touched self.new q ≡ (nat_eq node.0 q || is_touched self.old q)) }
         ensures now { self.new.now ≡ self.old.now }
-        ensures was { (q : ℕ) → was_at self.new q ≡ was_at self.old q }
-        ensures opened { self.new.is_open ≡ true }
-        ensures width { self.new.width ≡ self.old.width }
-        ensures max { self.new.max ≡ self.old.max }
+        ensures frame { frame self.new ≡ frame self.old }
         ensures err { OnErr result (self.new ≡ self.old) }
         ensures steps { steps.new ≡ steps.old + 1 }
     {
@@ -188,19 +178,14 @@ impl QcArena {
         target: NodeNo,
         steps: &mut Steps<L>,
     ) -> Result<(), Memory>
-        requires opened { self.old.is_open ≡ true }
-        requires node { IsSome (map.get self.old.now node.0) }
-        requires touched { is_touched self.old node.0 ≡ true }
+        requires change { CanChange self.old node.0 }
         requires target { IsSome (map.get self.old.now target.0) }
         requires dim { dim < self.old.width }
         requires code { IsCode code }
         ensures here { OnOk result (map.get self.new.now node.0 ≡ option_map (with_edge (record { dim = dim; value = code; target = target.0 })) (map.get self.old.now node.0)) }
         ensures others { (q : ℕ) → q ≢ node.0 → map.get self.new.now q ≡ map.get self.old.now q }
         ensures touched { (q : ℕ) → is_touched self.new q ≡ is_touched self.old q }
-        ensures was { (q : ℕ) → was_at self.new q ≡ was_at self.old q }
-        ensures opened { self.new.is_open ≡ true }
-        ensures width { self.new.width ≡ self.old.width }
-        ensures max { self.new.max ≡ self.old.max }
+        ensures frame { frame self.new ≡ frame self.old }
         ensures err { OnErr result (self.new ≡ self.old) }
         ensures steps { steps.new ≡ steps.old + 1 }
     {
@@ -224,16 +209,11 @@ impl QcArena {
 
     /// Takes the edge with this label away, if there is one.
     pub fn drop_edge<L: Ledger>(&mut self, node: NodeNo, dim: u8, code: Code, steps: &mut Steps<L>)
-        requires opened { self.old.is_open ≡ true }
-        requires node { IsSome (map.get self.old.now node.0) }
-        requires touched { is_touched self.old node.0 ≡ true }
+        requires change { CanChange self.old node.0 }
         ensures here { map.get self.new.now node.0 ≡ option_map (without_edge dim code) (map.get self.old.now node.0) }
         ensures others { (q : ℕ) → q ≢ node.0 → map.get self.new.now q ≡ map.get self.old.now q }
         ensures touched { (q : ℕ) → is_touched self.new q ≡ is_touched self.old q }
-        ensures was { (q : ℕ) → was_at self.new q ≡ was_at self.old q }
-        ensures opened { self.new.is_open ≡ true }
-        ensures width { self.new.width ≡ self.old.width }
-        ensures max { self.new.max ≡ self.old.max }
+        ensures frame { frame self.new ≡ frame self.old }
         ensures steps { steps.new ≡ steps.old + 1 }
     {
         steps.tick();
@@ -244,16 +224,11 @@ impl QcArena {
     /// Takes a node out of the map. Edges may lead to it still: from now on they lead nowhere. Its
     /// number is given to no other node before `commit`.
     pub fn kill<L: Ledger>(&mut self, node: NodeNo, steps: &mut Steps<L>)
-        requires opened { self.old.is_open ≡ true }
-        requires node { IsSome (map.get self.old.now node.0) }
-        requires touched { is_touched self.old node.0 ≡ true }
+        requires change { CanChange self.old node.0 }
         ensures here { map.get self.new.now node.0 ≡ None }
         ensures others { (q : ℕ) → q ≢ node.0 → map.get self.new.now q ≡ map.get self.old.now q }
         ensures touched { (q : ℕ) → is_touched self.new q ≡ is_touched self.old q }
-        ensures was { (q : ℕ) → was_at self.new q ≡ was_at self.old q }
-        ensures opened { self.new.is_open ≡ true }
-        ensures width { self.new.width ≡ self.old.width }
-        ensures max { self.new.max ≡ self.old.max }
+        ensures frame { frame self.new ≡ frame self.old }
         ensures steps { steps.new ≡ steps.old + 1 }
     {
         steps.tick();
@@ -268,17 +243,12 @@ impl QcArena {
         forced: Option<Forced>,
         steps: &mut Steps<L>,
     )
-        requires opened { self.old.is_open ≡ true }
-        requires node { IsSome (map.get self.old.now node.0) }
-        requires touched { is_touched self.old node.0 ≡ true }
+        requires change { CanChange self.old node.0 }
         requires code { IfSome forced (λ f. IsCode f.code) }
         ensures here { map.get self.new.now node.0 ≡ option_map (with_forced (option_map edge_of forced)) (map.get self.old.now node.0) }
         ensures others { (q : ℕ) → q ≢ node.0 → map.get self.new.now q ≡ map.get self.old.now q }
         ensures touched { (q : ℕ) → is_touched self.new q ≡ is_touched self.old q }
-        ensures was { (q : ℕ) → was_at self.new q ≡ was_at self.old q }
-        ensures opened { self.new.is_open ≡ true }
-        ensures width { self.new.width ≡ self.old.width }
-        ensures max { self.new.max ≡ self.old.max }
+        ensures frame { frame self.new ≡ frame self.old }
         ensures steps { steps.new ≡ steps.old + 1 }
     {
         steps.tick();
@@ -287,16 +257,11 @@ impl QcArena {
 
     /// Sets what the rows of the node come to, or marks it as no class.
     pub fn set_class<L: Ledger>(&mut self, node: NodeNo, class: Option<Agg>, steps: &mut Steps<L>)
-        requires opened { self.old.is_open ≡ true }
-        requires node { IsSome (map.get self.old.now node.0) }
-        requires touched { is_touched self.old node.0 ≡ true }
+        requires change { CanChange self.old node.0 }
         ensures here { map.get self.new.now node.0 ≡ option_map (with_class (option_map agg_in class)) (map.get self.old.now node.0) }
         ensures others { (q : ℕ) → q ≢ node.0 → map.get self.new.now q ≡ map.get self.old.now q }
         ensures touched { (q : ℕ) → is_touched self.new q ≡ is_touched self.old q }
-        ensures was { (q : ℕ) → was_at self.new q ≡ was_at self.old q }
-        ensures opened { self.new.is_open ≡ true }
-        ensures width { self.new.width ≡ self.old.width }
-        ensures max { self.new.max ≡ self.old.max }
+        ensures frame { frame self.new ≡ frame self.old }
         ensures steps { steps.new ≡ steps.old + 1 }
     {
         steps.tick();
@@ -308,11 +273,8 @@ impl QcArena {
 
     /// The map stays as it is, and the batch is closed.
     pub fn commit(&mut self)
-        requires { self.old.is_open ≡ true }
-        ensures now { self.new.now ≡ self.old.now }
-        ensures closed { self.new.is_open ≡ false }
-        ensures width { self.new.width ≡ self.old.width }
-        ensures max { self.new.max ≡ self.old.max }
+        requires { is_open self.old ≡ true }
+        ensures { self.new ≡ record self.old { was = None; touched = set.empty } }
     {
         let_go(&mut self.nodes, &mut self.images);
         self.is_open = false;
@@ -321,10 +283,10 @@ impl QcArena {
 
     /// The map is that at `begin`, numbers included, and the batch is closed.
     pub fn rollback(&mut self)
-        requires { self.old.is_open ≡ true }
-        ensures now { (q : ℕ) → map.get self.new.now q ≡ was_at self.old q }
-        ensures closed { self.new.is_open ≡ false }
-        ensures width { self.new.width ≡ self.old.width }
+        requires { is_open self.old ≡ true }
+        ensures back { self.old.was ≡ Some (shape_of self.new) }
+        ensures closed { self.new.was ≡ None }
+        ensures untouched { self.new.touched ≡ set.empty }
         ensures max { self.new.max ≡ self.old.max }
     {
         put_back(&mut self.nodes, &mut self.parts, &mut self.images);
@@ -343,7 +305,7 @@ impl QcArena {
     /// The pairs of a node and what its rows come to that are there now and were not at `begin`, each
     /// once.
     pub fn classes_added(&self, alloc: Global) -> Result<Vec<(NodeNo, Agg)>, Memory>
-        requires { self.now.is_open ≡ true }
+        requires { is_open self.now ≡ true }
         ensures { IfOk result (λ pairs. AreNew (class_was self.now) (class_now self.now) pairs.items) }
     {
         changed(alloc, &self.nodes, &self.parts, &self.images, true)
@@ -352,7 +314,7 @@ impl QcArena {
     /// The pairs of a node and what its rows come to that were there at `begin` and are not now, each
     /// once.
     pub fn classes_removed(&self, alloc: Global) -> Result<Vec<(NodeNo, Agg)>, Memory>
-        requires { self.now.is_open ≡ true }
+        requires { is_open self.now ≡ true }
         ensures { IfOk result (λ pairs. AreNew (class_now self.now) (class_was self.now) pairs.items) }
     {
         changed(alloc, &self.nodes, &self.parts, &self.images, false)
