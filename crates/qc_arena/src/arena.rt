@@ -14,7 +14,7 @@ ghost use Rattle.qc_arena.specs.Seen.{edge_of, record_at};
 
 use crate::Memory;
 use crate::changes::changed;
-use crate::counted::tree_edges_of;
+use crate::counted::{record_in, tree_edges_of};
 use crate::edges::EdgeTo;
 use crate::kept::{Counts, Kept};
 use crate::nodes::{Forced, Nodes};
@@ -236,6 +236,41 @@ impl QcArena {
         self.kept = self.kept.without_node(node.0, is_class, had);
     }
 
+    // Takes the node at a place out, if there is one.
+    fn clear_place<L: Ledger>(&mut self, place: usize, steps: &mut Steps<L>) -> Result<(), Memory>
+        requires { is_open self.old ≡ true }
+        ensures here { OnOk result (map.get self.new.now place ≡ None) }
+        ensures others { OnOk result ((q : ℕ) → q ≢ place → map.get self.new.now q ≡ map.get self.old.now q) }
+        ensures frame { frame self.new ≡ frame self.old }
+    {
+        // So many nodes fit into no memory.
+        if place > u32::MAX as usize {
+            return Err(AllocError);
+        }
+        let node = NodeNo(place as u32);
+        if !self.has(node) {
+            return Ok(());
+        }
+        self.touch(node, steps)?;
+        self.kill(node, steps);
+        Ok(())
+    }
+
+    /// Takes all nodes out of the map. Where memory runs out, some of them are out.
+    pub fn clear<L: Ledger>(&mut self, steps: &mut Steps<L>) -> Result<(), Memory>
+        requires { is_open self.old ≡ true }
+        ensures none { OnOk result (self.new.now ≡ map.empty) }
+        ensures frame { frame self.new ≡ frame self.old }
+    {
+        'places: for place in 0..self.places() {
+            match self.clear_place(place, steps) {
+                Ok(()) => {}
+                Err(error) => return Err(error),
+            }
+        }
+        Ok(())
+    }
+
     /// Sets the forced child, or takes it away.
     pub fn set_forced<L: Ledger>(
         &mut self,
@@ -284,7 +319,7 @@ impl QcArena {
     /// The map is that at `begin`, numbers included, and the batch is closed.
     pub fn rollback(&mut self)
         requires { is_open self.old ≡ true }
-        ensures back { self.old.was ≡ Some (shape_of self.new) }
+        ensures back { Some (shape_of self.new) ≡ self.old.was }
         ensures closed { self.new.was ≡ None }
         ensures untouched { self.new.touched ≡ set.empty }
         ensures max { self.new.max ≡ self.old.max }
@@ -292,6 +327,20 @@ impl QcArena {
         put_back(&mut self.nodes, &mut self.parts, &mut self.images);
         self.is_open = false;
         self.kept = self.was;
+    }
+
+    /// Whether there is a node with the number.
+    pub fn has(&self, node: NodeNo) -> bool
+        ensures { result ≡ map.contains_key self.now.now node.0 }
+    {
+        record_in(&self.nodes, node.0 as usize).is_some()
+    }
+
+    // How many places there are at most: no node's number is this or more.
+    fn places(&self) -> usize
+        ensures { (q : ℕ) → result ≤ q → map.get self.now.now q ≡ None }
+    {
+        self.nodes.capacity()
     }
 
     /// How many nodes there are.
