@@ -10,7 +10,7 @@ use Rattle.base_table.specs.Places.{IsRow, IsTable, Places, rows_of}
 use Rattle.cell_closure.proofs.Rows.{all_recursion}
 use Rattle.cube_laws.proofs.Lists.{all_map}
 use Rattle.qc_arena.specs.Codes.{Shape}
-use Rattle.qc_arena.specs.Map.{Arena, no_nodes}
+use Rattle.qc_arena.specs.Map.{Arena, is_open, no_nodes, shape_of}
 use Rattle.qc_schema.specs.Schema.{Layout}
 use Rattle.tree_search.specs.Found.{IsFrom}
 use Rattle.value_dict.specs.TextLists.{TextLists}
@@ -38,7 +38,7 @@ pub kept-empty : (schema : Layout) → IsKept schema (no_rows (length schema.dim
 kept-empty schema = record { closed = refl; width = refl; max = refl; few = let none : 0 ≤ schema.nodes = omega arith in none; from = none-from (length schema.dims) (length schema.measures) }
 
 pub kept-canonical : (schema : Layout) (table : Places) (tree : Arena) → IsTable table → table.dims ≡ length schema.dims → table.measures ≡ length schema.measures
-    → tree.is_open ≡ false → tree.width ≡ length schema.dims → tree.max ≡ schema.nodes → length (nodes nat_cmp (rows_of table)) ≤ schema.nodes → IsCanonical nat_cmp table.measures (rows_of table) tree.now → IsKept schema table tree
+    → is_open tree ≡ false → tree.width ≡ length schema.dims → tree.max ≡ schema.nodes → length (nodes nat_cmp (rows_of table)) ≤ schema.nodes → IsCanonical nat_cmp table.measures (rows_of table) tree.now → IsKept schema table tree
 kept-canonical schema table tree is dims measures closed width max few canonical = record {
   closed = closed;
   width = width;

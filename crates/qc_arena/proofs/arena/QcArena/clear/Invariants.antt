@@ -7,6 +7,6 @@ abbrev pub invariant-places : goal.invariant-places
 invariant-places g l = record {
   opened : is_open l.self ≡ true;
   out : (q : ℕ) → q < l.place → map.get l.self.now q ≡ None;
-  none : (q : ℕ) → l.end ≤ q → map.get l.self.now q ≡ None;
+  none : (q : ℕ) → l.place-end ≤ q → map.get l.self.now q ≡ None;
   rest : frame l.self ≡ frame l.initial.self;
 }
