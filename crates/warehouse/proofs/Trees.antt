@@ -50,7 +50,7 @@ kept-canonical schema table tree is dims measures closed width max few canonical
   };
 }
 
-some_same : {X : Type 0} {x y : X} → Some x ≡ Some y → x ≡ y
+pub some_same : {X : Type 0} {x y : X} → Some x ≡ Some y → x ≡ y
 some_same h = cc
 
 -- the rows and the tree are those of before
