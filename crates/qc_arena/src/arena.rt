@@ -1,5 +1,5 @@
 // Nodes under numbers; a batch can be taken back, numbers included.
-ghost use Rattle.std.specs.Prelude.{Err, IfOk, IfSome, IsSome, None, Ok, OnErr, OnOk, Some, false, nat_eq, true, ℕ, ◌+◌, ◌<◌, ◌||◌, ◌↔◌, ◌≡◌, ◌≢◌, ◌≤◌};
+ghost use Rattle.std.specs.Prelude.{Err, IfOk, IfSome, IsSome, None, Ok, OnErr, OnOk, Some, false, if◌then◌else◌, nat_eq, true, ℕ, ◌+◌, ◌<◌, ◌||◌, ◌↔◌, ◌≡◌, ◌≢◌, ◌≤◌};
 ghost use Rattle.cell_core.specs.Entry.{IsCode};
 ghost use Rattle.std.specs.FinMap as map;
 ghost use Rattle.std.specs.FinSet as set;
@@ -9,29 +9,31 @@ ghost use Rattle.aggregates.specs.Views.{agg_in};
 ghost use Rattle.tree_laws.specs.Counts.{classes_in, links_in, tree_edges_in};
 ghost use Rattle.qc_arena.specs.Changes.{AreNew, class_now, class_was};
 ghost use Rattle.qc_arena.specs.Edges.{with_edge, without_edge};
-ghost use Rattle.qc_arena.specs.Map.{AreRooted, CanChange, IsPlace, edges_in, frame, is_open, is_touched, new_record, no_nodes, shape_of, was_at, with_class, with_forced};
+ghost use Rattle.qc_arena.specs.Map.{AreRooted, CanChange, IsPlace, edges_in, frame, is_open, is_touched, new_record, no_nodes, over, shape_of, was_at, with_class, with_forced};
 ghost use Rattle.qc_arena.specs.Seen.{edge_of, record_at};
 
 use crate::Memory;
 use crate::changes::changed;
 use crate::counted::{record_in, tree_edges_of};
 use crate::edges::EdgeTo;
+use crate::images::Images;
 use crate::kept::{Counts, Kept};
 use crate::nodes::{Forced, Nodes};
 use crate::parts::Parts;
 use crate::place::Place;
 use crate::records::Rec;
 use crate::slots::{
-    add_record, class_at, copy_at, drop_edge_at, kill_at, let_go, put_back, record_of,
+    add_record, class_at, clear_all, copy_at, drop_edge_at, kill_at, put_back, record_of,
     set_class_at, set_edge_at, set_forced_at,
 };
-use crate::touched::Images;
+use crate::touched::Touched;
 use aggregates::Agg;
 use cell_core::{Code, NodeNo, Steps};
 use cube_defs::{MAX_DIMS, MAX_NODES};
 use slab::Slab;
 use std::alloc::{AllocError, Global};
 use std::marker::Model;
+use std::mem::replace;
 use std::sync::ledger::Ledger;
 
 /// Why a node was not added.
@@ -49,7 +51,8 @@ pub enum ArenaRefused {
 pub struct QcArena {
     nodes: Slab<Place>,
     parts: Parts,
-    images: Images,
+    images: Touched,
+    last: Images,
     is_open: bool,
     dims: u8,
     max: u32,
@@ -66,7 +69,7 @@ impl Model for QcArena {
 
     ghost coded = { arena_code };
 
-    ghost view = { λ a. record { width = a.dims; max = a.max; now = now_of a.nodes; was = begun a.is_open a.dims (was_of (now_of a.nodes) a.images); touched = touched_in a.images } };
+    ghost view = { λ a. record { width = a.dims; max = a.max; now = now_of a.nodes; was = begun a.is_open a.dims (was_of (now_of a.nodes) a.images); touched = touched_in a.images; last = a.last } };
 
     ghost invariant = { λ a. IsArena a.dims a.max a.nodes a.images a.is_open a.kept a.was × IsStored a.nodes a.parts };
 }
@@ -89,7 +92,8 @@ impl QcArena {
         Ok(QcArena {
             nodes: Slab::new(alloc),
             parts: Parts::new(alloc),
-            images: Images::new(alloc),
+            images: Touched::new(alloc),
+            last: Images::none(alloc),
             is_open: false,
             dims,
             max,
@@ -101,8 +105,9 @@ impl QcArena {
     /// A batch is open, and no node is touched.
     pub fn begin(&mut self)
         requires { is_open self.old ≡ false }
-        ensures { self.new ≡ record self.old { was = Some (shape_of self.old); touched = set.empty } }
+        ensures { self.new ≡ record self.old { was = Some (shape_of self.old); touched = set.empty; last = map.empty } }
     {
+        self.last = Images::none(self.images.allocator());
         self.is_open = true;
     }
 
@@ -306,12 +311,16 @@ impl QcArena {
         self.kept = self.kept.with_class(had, class.is_some());
     }
 
-    /// The map stays as it is, and the batch is closed.
+    /// The map stays as it is, and the batch is closed. What the touched nodes were is kept until the
+    /// next batch, or until it is moved out.
     pub fn commit(&mut self)
         requires { is_open self.old ≡ true }
-        ensures { self.new ≡ record self.old { was = None; touched = set.empty } }
+        ensures value { self.new ≡ record self.old { was = None; touched = set.empty; last = self.new.last } }
+        ensures last { (q : ℕ) → map.get self.new.last q ≡ (if is_touched self.old q then Some (was_at self.old q) else None) }
+        ensures back { IfSome self.old.was (λ shape. over self.new.last self.new.now ≡ shape.tree) }
     {
-        let_go(&mut self.nodes, &mut self.images);
+        clear_all(&mut self.nodes, &self.images);
+        self.last = self.images.take();
         self.is_open = false;
         self.was = self.kept;
     }
@@ -323,10 +332,21 @@ impl QcArena {
         ensures closed { self.new.was ≡ None }
         ensures untouched { self.new.touched ≡ set.empty }
         ensures max { self.new.max ≡ self.old.max }
+        ensures last { self.new.last ≡ self.old.last }
     {
         put_back(&mut self.nodes, &mut self.parts, &mut self.images);
         self.is_open = false;
         self.kept = self.was;
+    }
+
+    /// Moves out what the nodes were that the last committed batch touched. A second call gives
+    /// nothing.
+    pub fn last_images(&mut self) -> Images
+        ensures images { result ≡ self.old.last }
+        ensures rest { self.new ≡ record self.old { last = map.empty } }
+    {
+        let none = Images::none(self.images.allocator());
+        replace(&mut self.last, none)
     }
 
     /// Whether there is a node with the number.

@@ -1,4 +1,5 @@
 // A batch on rows, texts and tree: it is opened, and then kept or taken back.
+ghost use Rattle.std.specs.FinMap as finmap;
 ghost use Rattle.std.specs.FinSet as set;
 ghost use Rattle.std.specs.Prelude.{None, Some, false, is_some, length, map, take, true, ◌≡◌, ◌≤◌};
 ghost use Rattle.base_table.specs.Places.{IsTable, rows_of};
@@ -25,7 +26,7 @@ pub(crate) fn open_batch(
     requires stored { IsStored schema.now dict.now table.old }
     requires kept { IsKept schema.now table.old tree.old }
     ensures table { table.new ≡ record table.old { was = Some (rows_of table.old) } }
-    ensures tree { tree.new ≡ record tree.old { was = Some (shape_of tree.old); touched = set.empty } }
+    ensures tree { tree.new ≡ record tree.old { was = Some (shape_of tree.old); touched = set.empty; last = finmap.empty } }
     ensures state { state_of schema.now dict.now table.new ≡ state_of schema.now dict.now table.old }
     ensures lens { take (length schema.now.dims) result ≡ map length dict.now.lists }
 {
@@ -41,11 +42,13 @@ pub(crate) fn keep(table: &mut Table, tree: &mut QcArena)
     ensures rows { rows_of table.new ≡ rows_of table.old }
     ensures frame { frame table.new ≡ frame (closed table.old) }
     ensures valid { IsTable table.new }
-    ensures tree { tree.new ≡ record tree.old { was = None; touched = set.empty } }
+    ensures tree { tree.new ≡ record tree.old { was = None; touched = set.empty; last = finmap.empty } }
 {
     table.commit();
     table.is_valid();
     tree.commit();
+    // What the nodes were is let go at once: nobody asks for it.
+    tree.last_images();
 }
 
 /// Takes the batch back: rows and tree are those at its begin, and each dimension has so many texts.
