@@ -204,9 +204,10 @@ fn found_uncounted(alloc: Global) -> Option<[[Option<NodeNo>; 9]; 4]> {
 
 #[test]
 fn cells_keep_their_numbers_where_a_batch_is_taken_back(rt: HostRuntime) -> Result<(), Fail> {
-    let Some([first, killed, in_part, whole]) = found_uncounted(rt.alloc()) else {
+    let Some(numbers) = found_uncounted(rt.alloc()) else {
         return Err(Fail::new("no such batches"));
     };
+    let first = numbers[0];
     // No row has the value 1 in both dimensions.
     assert!(rt; first[4].is_none());
     // The closure of the value 1 alone has 0 in the other dimension, and the reverse.
@@ -214,8 +215,6 @@ fn cells_keep_their_numbers_where_a_batch_is_taken_back(rt: HostRuntime) -> Resu
     assert_eq!(rt; first[7], first[1]);
     assert_eq!(rt; first[5], first[3]);
     assert!(rt; first[8] != first[2]);
-    assert_eq!(rt; killed, first);
-    assert_eq!(rt; in_part, first);
-    assert_eq!(rt; whole, first);
+    assert_eq!(rt; numbers, [first; 4]);
     Ok(())
 }
