@@ -41,7 +41,7 @@ use Rattle.batch_insert.proofs.Naming.{below_with, long_with, same_mask}
 use Rattle.batch_insert.proofs.Started.{record_known}
 
 -- labels of edges that are put
-label_put : (e : Edge ℕ ℕ) (xs : List (Edge ℕ ℕ)) (i v : ℕ) → HasLabel i v xs → HasLabel i v (put_edge e xs)
+pub label_put : (e : Edge ℕ ℕ) (xs : List (Edge ℕ ℕ)) (i v : ℕ) → HasLabel i v xs → HasLabel i v (put_edge e xs)
 label_put e xs i v h = elim (put_stays e xs h.0 h.1) [
   | inl m ↦ (h.0, m, h.2, h.3)
   | inr s ↦ (e, put_here e xs, sym s.dim ∙ h.2, sym s.value ∙ h.3)
@@ -66,23 +66,23 @@ module _ (b d : Tree ℕ) (k : ℕ) (n m : Known) (before : map.get b k ≡ Some
     | inr s ↦ ap (option_map (λ (n : Known). n.cell)) (others q s.1)
   ]
 
-  names : cell_at d ≡ cell_at b
+  pub names : cell_at d ≡ cell_at b
   names = λ i q. name q i
 
-  labels : ((i v : ℕ) → HasLabel i v n.edges → HasLabel i v m.edges) → LabelsStay b d
+  pub labels : ((i v : ℕ) → HasLabel i v n.edges → HasLabel i v m.edges) → LabelsStay b d
   labels more q i v h = elim (eqb_tells q k) [
     | inl s ↦ subst (λ (r : Known). HasLabel i v r.edges) (sym (ap (record_at d) s.1 ∙ record_known d k m after)) (more i v (subst (λ (r : Known). HasLabel i v r.edges) (ap (record_at b) s.1 ∙ record_known b k n before) h))
     | inr s ↦ subst (λ (r : Known). HasLabel i v r.edges) (ap record_or (sym (others q s.1))) h
   ]
 
-  edges : m.edges ≡ n.edges → EdgesStay b d
+  pub edges : m.edges ≡ n.edges → EdgesStay b d
   edges same q = elim (eqb_tells q k) [
     | inl s ↦ ap (λ (r : Known). r.edges) (ap (record_at d) s.1 ∙ record_known d k m after) ∙ same ∙ ap (λ (r : Known). r.edges) (sym (ap (record_at b) s.1 ∙ record_known b k n before))
     | inr s ↦ ap (λ o. (record_or o).edges) (others q s.1)
   ]
 
   module _ (t : Cell ℕ) (a : Arena) (wide : length t ≡ a.width) (c : Case t a) (f : ℕ → Option ℕ) (front : IsFront c n.cell (depth n.cell)) (more : (i v : ℕ) → HasLabel i v n.edges → HasLabel i v m.edges) where
-    staged : IsStage c b f → (IsSound c (cell_at b) n → IsSound c (cell_at b) m) → IsStage c d f
+    pub staged : IsStage c b f → (IsSound c (cell_at b) n → IsSound c (cell_at b) m) → IsStage c d f
     staged stage keeps = record {
       nodes = λ q l h. let p = stage.nodes q l h in (p.0, name l ∙ p.1, p.2, p.3);
       below = below;
@@ -113,7 +113,7 @@ module _ (t : Cell ℕ) (a : Arena) (wide : length t ≡ a.width) (c : Case t a)
   abbrev Fits : (ℕ → Option (Cell ℕ)) → Cell ℕ → Edge ℕ ℕ → Type 0
   Fits name p e = (e.dim < length t) × IsFront c p e.dim × ((new_lead c p e.dim e.value ≡ name e.target) ⊎ (slice_index_or t e.dim None ≡ Some e.value))
 
-  put_sound : (name : ℕ → Option (Cell ℕ)) (e : Edge ℕ ℕ) (n : Known) → Fits name n.cell e → IsSound c name n → IsSound c name (with_edge e n)
+  pub put_sound : (name : ℕ → Option (Cell ℕ)) (e : Edge ℕ ℕ) (n : Known) → Fits name n.cell e → IsSound c name n → IsSound c name (with_edge e n)
   put_sound name e n fits is = record {
     parent = is.parent;
     rises = rises-put e n.edges is.rises;
@@ -128,13 +128,13 @@ module _ (t : Cell ℕ) (a : Arena) (wide : length t ≡ a.width) (c : Case t a)
 
   -- the record of a number is that of the node with the mask
   module _ (f : ℕ → Option ℕ) (b : Tree ℕ) (stage : IsStage c b f) where
-    held : (p : Cell ℕ) (i m k : ℕ) → IsFront c p i → mask p ≡ m → f m ≡ Some k → (n : Known) × (map.get b k ≡ Some n) × (n.cell ≡ p)
+    pub held : (p : Cell ℕ) (i m k : ℕ) → IsFront c p i → mask p ≡ m → f m ≡ Some k → (n : Known) × (map.get b k ≡ Some n) × (n.cell ≡ p)
     held p i m k front dims number =
         let q = stage.nodes m k number in
         let n = known b k q.0 q.1 in
         (n.0, n.1, n.2 ∙ front_told t a wide c q.0 p q.3 (front_before t a wide c p (depth p) i (front_deep t a wide c p i front) (omega arith) front) (q.2 ∙ sym dims))
 
-    front_there : (p : Cell ℕ) (i : ℕ) (n : Known) → IsFront c p i → n.cell ≡ p → IsFront c n.cell (depth n.cell)
+    pub front_there : (p : Cell ℕ) (i : ℕ) (n : Known) → IsFront c p i → n.cell ≡ p → IsFront c n.cell (depth n.cell)
     front_there p i n front e = subst (λ q. IsFront c q (depth q)) (sym e) (front_before t a wide c p (depth p) i (front_deep t a wide c p i front) (omega arith) front)
 
     -- the labels of another node
