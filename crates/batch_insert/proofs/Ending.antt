@@ -106,23 +106,21 @@ module _ (t : Cell ℕ) (a : Arena) (wide : length t ≡ a.width) (c : Case t a)
             both : Some None ≡ Some (Some v) → ⊥
             both z = cc
 
-    pub ended_class : (d e : Tree ℕ) (s : defs.Agg) → x.forced ≡ None → (IsFront c is.node (length t) → s ≡ defs.agg (eq_by_cmp nat_cmp) c.measures (c.xs ++ c.row ∷ c.ys) is.node)
-        → map.get d k ≡ option_map (with_forced None) (map.get b k) → ((q : ℕ) → q ≢ k → map.get d q ≡ map.get b q)
-        → map.get e k ≡ option_map (with_class (Some s)) (map.get d k) → ((q : ℕ) → q ≢ k → map.get e q ≡ map.get d q)
-        → IsStage c e f × EdgesStay b e × IsEnded c e f x × ((y : End) → IsEnded c b f y → IsEnded c e f y)
-    ended_class d e s none sum here others then rest =
+    pub ended_class : (d : Tree ℕ) (s : defs.Agg) → x.forced ≡ None → (IsFront c is.node (length t) → s ≡ defs.agg (eq_by_cmp nat_cmp) c.measures (c.xs ++ c.row ∷ c.ys) is.node)
+        → map.get d k ≡ option_map (with_class (Some s)) (option_map (with_forced None) (map.get b k)) → ((q : ℕ) → q ≢ k → map.get d q ≡ map.get b q)
+        → IsStage c d f × EdgesStay b d × IsEnded c d f x × ((y : End) → IsEnded c b f y → IsEnded c d f y)
+    ended_class d s none sum here others =
         let whole : IsFront c is.node (length t) = (subst (λ o. IsLast c is.node o x.before) none is.last).0 in
         let n = held t a wide c f b stage is.node (length t) x.mask k whole is.dims number in
         let m : Known = with_class (Some s) (with_forced None n.0) in
-        let after : map.get e k ≡ Some m = then ∙ ap (option_map (with_class (Some s))) (here ∙ ap (option_map (with_forced None)) n.1) in
-        let apart : (q : ℕ) → q ≢ k → map.get e q ≡ map.get b q = λ q off. rest q off ∙ others q off in
+        let after : map.get d k ≡ Some m = here ∙ ap (λ o. option_map (with_class (Some s)) (option_map (with_forced None) o)) n.1 in
         let front = front_there t a wide c f b stage is.node (length t) n.0 whole n.2 in
-        let same = names b e k n.0 m n.1 after refl apart in
+        let same = names b d k n.0 m n.1 after refl others in
         let own : new_closure c n.0.cell ≡ n.0.cell = subst (λ p. new_closure c p ≡ p) (sym n.2) (front_end t a wide c is.node (length t) whole (omega arith)) in
-        let done : IsEnded c e f x = (k, m, number, after, inl (subst (λ p. IsFront c p (length t)) (sym n.2) whole, refl, ap (λ z. Some z) (sum whole ∙ ap (defs.agg (eq_by_cmp nat_cmp) c.measures (c.xs ++ c.row ∷ c.ys)) (sym n.2)))) in
+        let done : IsEnded c d f x = (k, m, number, after, inl (subst (λ p. IsFront c p (length t)) (sym n.2) whole, refl, ap (λ z. Some z) (sum whole ∙ ap (defs.agg (eq_by_cmp nat_cmp) c.measures (c.xs ++ c.row ∷ c.ys)) (sym n.2)))) in
         (
-          staged b e k n.0 m n.1 after refl apart t a wide c f front (λ i w h. h) stage (λ z. record { parent = z.parent; rises = z.rises; place = z.place; leads = z.leads; class = inr own }),
-          edges b e k n.0 m n.1 after refl apart refl,
+          staged b d k n.0 m n.1 after refl others t a wide c f front (λ i w h. h) stage (λ z. record { parent = z.parent; rises = z.rises; place = z.place; leads = z.leads; class = inr own }),
+          edges b d k n.0 m n.1 after refl others refl,
           done,
-          stays e same apart done,
+          stays d same others done,
         )

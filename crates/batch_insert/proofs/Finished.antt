@@ -65,7 +65,7 @@ label_once (z ∷ xs) h x y (inl m) (inr n) s = absurd (before_apart x y (subst 
 label_once (z ∷ xs) h x y (inr m) (inl n) s = absurd (before_apart y x (subst (λ w. IsBefore w x) (sym n) (h.0 x m)) (record { dim = sym s.dim; value = sym s.value }))
 label_once (z ∷ xs) h x y (inr m) (inr n) s = label_once xs h.1 x y m n s
 
-keep_none : (c : Cell ℕ) (n : ℕ) → length c ≡ n → keep zero c ≡ replicate n None
+pub keep_none : (c : Cell ℕ) (n : ℕ) → length c ≡ n → keep zero c ≡ replicate n None
 keep_none [] zero e = refl
 keep_none [] (suc n) e = absurd (omega arith)
 keep_none (x ∷ c) zero e = absurd (omega arith)

@@ -1,9 +1,9 @@
 -- What holds of the nodes with the row while their labels, forced children and classes are set.
-use Rattle.std.specs.Prelude.{◌≡◌, ◌⊎◌, ℕ, true, false, ◌<◌, ◌≤◌, Option, None, Some, IsSome, List, ◌∷◌, ◌++◌, length, nat_eq, slice_get, slice_index_or}
+use Rattle.std.specs.Prelude.{◌≡◌, ◌⊎◌, ℕ, ℤ, true, false, ◌<◌, ◌≤◌, Option, None, Some, IsSome, List, ◌∷◌, ◌++◌, length, nat_eq, slice_get, slice_index_or}
 use Rattle.std.specs.Ordering.{nat_cmp, eq_by_cmp}
 use Rattle.std.specs.Option.{option_map}
 use Rattle.std.specs.FinMap as map
-use Rattle.cube_defs.specs.Cell.{Cell, depth, leq, mask, with_value}
+use Rattle.cube_defs.specs.Cell.{Cell, cell_of, depth, leq, mask, with_value}
 use Rattle.cube_defs.specs.Rows as defs
 use Rattle.cube_defs.specs.Tree.{Edge, Tree, cell_at, cut_last}
 use Rattle.cube_laws.specs.Lists.{Among}
@@ -11,10 +11,13 @@ use Rattle.qc_arena.specs.Edges.{rises}
 use Rattle.qc_arena.specs.Map.{Arena, Known}
 use Rattle.qc_arena.specs.Seen.{record_at}
 use Rattle.tree_laws.specs.Labels.{lead}
+use Rattle.tree_search.specs.Found.{IsFrom}
 use Rattle.batch_insert.specs.declared.plan.Copying.{Copying}
 use Rattle.batch_insert.specs.declared.plan.Own.{Own}
 use Rattle.batch_insert.specs.declared.plan.End.{End}
+use Rattle.batch_insert.specs.declared.plan.Plan.{Plan}
 use Rattle.batch_insert.specs.Cases.{Case, IsFront, new_closure}
+use Rattle.batch_insert.specs.Whole.{IsCopyOf, IsEndFor, IsOwnOf}
 
 -- an edge has this label
 abbrev pub HasLabel : ℕ → ℕ → List (Edge ℕ ℕ) → Type 0
@@ -68,3 +71,26 @@ module _ {t : Cell ℕ} {a : Arena} (c : Case t a) where
 abbrev pub IsSet : Cell ℕ → Tree ℕ → (ℕ → Option ℕ) → Own → Type 0
 IsSet t b numbers x = (k : ℕ) × (l : ℕ) × (v : ℕ) × (numbers x.mask ≡ Some k) × (numbers x.target ≡ Some l) × (slice_index_or t x.dim None ≡ Some v)
     × Among (record { dim = x.dim; value = v; target = l }) (record_at b k).edges
+
+-- what parts of a plan have done from the map b to the map d, whatever rows and row there are
+abbrev pub HaveCopied : Cell ℕ → (ℕ → Option ℕ) → List Copying → Tree ℕ → Tree ℕ → Type 0
+HaveCopied t numbers xs b d = (a : Arena) (c : Case t a) → length t ≡ a.width → IsStage c b numbers → ((x : Copying) → Among x xs → IsCopyOf c x)
+    → IsStage c d numbers × LabelsStay b d × ((x : Copying) → Among x xs → IsCopied c d numbers x)
+
+abbrev pub HaveSet : Cell ℕ → (ℕ → Option ℕ) → List Own → Tree ℕ → Tree ℕ → Type 0
+HaveSet t numbers xs b d = (a : Arena) (c : Case t a) → length t ≡ a.width → IsStage c b numbers → ((x : Own) → Among x xs → IsOwnOf c x)
+    → IsStage c d numbers × LabelsStay b d × ((x : Own) → Among x xs → IsSet t d numbers x) × ((y : Own) → IsOwnOf c y → IsSet t b numbers y → IsSet t d numbers y)
+
+abbrev pub HaveEnded : Cell ℕ → List ℤ → (ℕ → Option ℕ) → List End → Tree ℕ → Tree ℕ → Type 0
+HaveEnded t amounts numbers xs b d = (a : Arena) (c : Case t a) → length t ≡ a.width → c.row.amounts ≡ amounts → c.measures ≡ length amounts → IsStage c b numbers → ((x : End) → Among x xs → IsEndFor c x)
+    → IsStage c d numbers × EdgesStay b d × ((x : End) → Among x xs → IsEnded c d numbers x) × ((y : End) → IsEnded c b numbers y → IsEnded c d numbers y)
+
+-- all of a plan but its nodes
+abbrev pub IsDone : Cell ℕ → List ℤ → (ℕ → Option ℕ) → Plan → Tree ℕ → Tree ℕ → Type 0
+IsDone t amounts numbers plan b d = (labels : Tree ℕ) × (owns : Tree ℕ) × HaveCopied t numbers plan.copies.items b labels × HaveSet t numbers plan.owns.items labels owns × HaveEnded t amounts numbers plan.ends.items owns d
+
+-- from the one arena to the other the row comes to whatever rows the tree is of
+abbrev pub TakesRow : Cell ℕ → List ℤ → Arena → Arena → Type 0
+TakesRow t amounts before after =
+    (xs : List (defs.Row ℕ)) (row : defs.Row ℕ) (ys : List (defs.Row ℕ)) → cell_of row.tuple ≡ t → row.amounts ≡ amounts
+    → IsFrom before.width before.now (record { measures = length amounts; rows = xs ++ ys }) → IsFrom after.width after.now (record { measures = length amounts; rows = xs ++ row ∷ ys })
