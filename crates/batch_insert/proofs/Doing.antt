@@ -1,13 +1,10 @@
 -- The parts of a plan one after another.
-use Rattle.std.proofs.Common.{◌≡◌, ◌⊎◌, inl, inr, ℕ, suc, ◌+◌, ◌<◌, ◌≤◌, All, Option, Some, None, IsSome, List, [], ◌∷◌, ◌++◌, ℤ, length, take, get_or, zero, nat_eq, replicate, refl, sym, ap, subst, ◌∙◌, arith}
+use Rattle.std.proofs.Common.{◌≡◌, inl, inr, ℕ, suc, ◌+◌, ◌<◌, All, Option, Some, None, IsSome, List, [], ◌∷◌, ◌++◌, ℤ, length, take, get_or, zero, nat_eq, replicate, refl, sym, ap, subst, ◌∙◌, arith}
 use Rattle.std.proofs.Math.Seq.{take-suc}
-use Rattle.std.proofs.lemmas.List.{take_all}
-use Rattle.std.specs.FinMap as map
 use Rattle.cube_defs.specs.Cell.{Cell, depth, mask, one_deeper}
-use Rattle.cube_defs.specs.Tree.{Tree, cell_at}
+use Rattle.cube_defs.specs.Tree.{Tree}
 use Rattle.cube_laws.specs.Lists.{Among}
 use Rattle.cube_laws.proofs.Lists.{among_append}
-use Rattle.tree_laws.proofs.Lists.{some_same}
 use Rattle.tree_search.specs.Found.{IsFrom}
 use Rattle.qc_arena.specs.Map.{Arena}
 use Rattle.batch_insert.specs.declared.plan.Spot.{Spot}
@@ -19,7 +16,7 @@ use Rattle.batch_insert.specs.Begun.{IsBegun}
 use Rattle.batch_insert.specs.Cases.{Case, IsFront}
 use Rattle.batch_insert.specs.Kept.{IsClosed, Keeps}
 use Rattle.batch_insert.specs.Planned.{IsPlan}
-use Rattle.batch_insert.specs.Stages.{EdgesStay, HasLabel, HaveCopied, HaveEnded, HaveSet, IsCopied, IsDone, IsEnded, IsSet, IsStage, LabelsStay}
+use Rattle.batch_insert.specs.Stages.{HasLabel, HaveCopied, HaveEnded, HaveSet, IsCopied, IsDone, LabelsStay}
 use Rattle.batch_insert.specs.Whole.{HasAll, IsCopyOf, IsEndFor, IsOwnOf}
 use Rattle.indexmap.specs.IndexMap as index
 use Rattle.batch_insert.proofs.Finished.{finished, keep_none}
@@ -73,11 +70,14 @@ module _ (t : Cell ℕ) (f : ℕ → Option ℕ) (b : Tree ℕ) where
     copied_then : (xs : List Copying) (x : Copying) → HaveCopied t f xs b d → HaveCopied t f (x ∷ []) d e → HaveCopied t f (xs ++ x ∷ []) b e
     copied_then xs x one two a c wide stage are =
         let p = one a c wide stage (λ y m. are y ((among_append y xs (x ∷ [])).1 (inl m))) in
-        let q = two a c wide p.0 (λ y m. are y ((among_append y xs (x ∷ [])).1 (inr m))) in
-        (q.0, λ k i v h. q.1 k i v (p.1 k i v h), λ y m. elim ((among_append y xs (x ∷ [])).0 m) [
-          | inl n ↦ copied_stays c d e f y q.1 (p.2 y n)
-          | inr n ↦ q.2 y n
-        ])
+        let q = two a c wide p.0 (λ y m. are y ((among_append y xs (x ∷ [])).1 (inr m))) in (
+          q.0,
+          λ k i v h. q.1 k i v (p.1 k i v h),
+          λ y m. elim ((among_append y xs (x ∷ [])).0 m) [
+            | inl n ↦ copied_stays c d e f y q.1 (p.2 y n)
+            | inr n ↦ q.2 y n
+          ],
+        )
 
     pub copied_next : (xs : List Copying) (k : ℕ) (z : Copying) → k < length xs → HaveCopied t f (take k xs) b d → HaveCopied t f (get_or xs k z ∷ []) d e → HaveCopied t f (take (k + 1) xs) b e
     copied_next xs k z l one two = subst (λ ys. HaveCopied t f ys b e) (sym (take_next xs k z l)) (copied_then (take k xs) (get_or xs k z) one two)
@@ -85,11 +85,15 @@ module _ (t : Cell ℕ) (f : ℕ → Option ℕ) (b : Tree ℕ) where
     set_then : (xs : List Own) (x : Own) → HaveSet t f xs b d → HaveSet t f (x ∷ []) d e → HaveSet t f (xs ++ x ∷ []) b e
     set_then xs x one two a c wide stage are =
         let p = one a c wide stage (λ y m. are y ((among_append y xs (x ∷ [])).1 (inl m))) in
-        let q = two a c wide p.0 (λ y m. are y ((among_append y xs (x ∷ [])).1 (inr m))) in
-        (q.0, λ k i v h. q.1 k i v (p.1 k i v h), λ y m. elim ((among_append y xs (x ∷ [])).0 m) [
-          | inl n ↦ q.3 y (are y m) (p.2 y n)
-          | inr n ↦ q.2 y n
-        ], λ y is h. q.3 y is (p.3 y is h))
+        let q = two a c wide p.0 (λ y m. are y ((among_append y xs (x ∷ [])).1 (inr m))) in (
+          q.0,
+          λ k i v h. q.1 k i v (p.1 k i v h),
+          λ y m. elim ((among_append y xs (x ∷ [])).0 m) [
+            | inl n ↦ q.3 y (are y m) (p.2 y n)
+            | inr n ↦ q.2 y n
+          ],
+          λ y is h. q.3 y is (p.3 y is h),
+        )
 
     pub set_next : (xs : List Own) (k : ℕ) (z : Own) → k < length xs → HaveSet t f (take k xs) b d → HaveSet t f (get_or xs k z ∷ []) d e → HaveSet t f (take (k + 1) xs) b e
     set_next xs k z l one two = subst (λ ys. HaveSet t f ys b e) (sym (take_next xs k z l)) (set_then (take k xs) (get_or xs k z) one two)
@@ -97,11 +101,15 @@ module _ (t : Cell ℕ) (f : ℕ → Option ℕ) (b : Tree ℕ) where
     ended_then : (amounts : List ℤ) (xs : List End) (x : End) → HaveEnded t amounts f xs b d → HaveEnded t amounts f (x ∷ []) d e → HaveEnded t amounts f (xs ++ x ∷ []) b e
     ended_then amounts xs x one two a c wide same many stage are =
         let p = one a c wide same many stage (λ y m. are y ((among_append y xs (x ∷ [])).1 (inl m))) in
-        let q = two a c wide same many p.0 (λ y m. are y ((among_append y xs (x ∷ [])).1 (inr m))) in
-        (q.0, λ k. q.1 k ∙ p.1 k, λ y m. elim ((among_append y xs (x ∷ [])).0 m) [
-          | inl n ↦ q.3 y (p.2 y n)
-          | inr n ↦ q.2 y n
-        ], λ y h. q.3 y (p.3 y h))
+        let q = two a c wide same many p.0 (λ y m. are y ((among_append y xs (x ∷ [])).1 (inr m))) in (
+          q.0,
+          λ k. q.1 k ∙ p.1 k,
+          λ y m. elim ((among_append y xs (x ∷ [])).0 m) [
+            | inl n ↦ q.3 y (p.2 y n)
+            | inr n ↦ q.2 y n
+          ],
+          λ y h. q.3 y (p.3 y h),
+        )
 
     pub ended_next : (amounts : List ℤ) (xs : List End) (k : ℕ) (z : End) → k < length xs → HaveEnded t amounts f (take k xs) b d → HaveEnded t amounts f (get_or xs k z ∷ []) d e → HaveEnded t amounts f (take (k + 1) xs) b e
     ended_next amounts xs k z l one two = subst (λ ys. HaveEnded t amounts f ys b e) (sym (take_next xs k z l)) (ended_then amounts (take k xs) (get_or xs k z) one two)

@@ -1,17 +1,16 @@
 -- One part of a plan.
-use Rattle.std.proofs.Common.{◌≡◌, ◌≢◌, ◌⊎◌, inl, inr, ℕ, Option, Some, None, List, [], ◌∷◌, ℤ, length, nat_eq, replicate, slice_index_or, if◌then◌else◌, cond, refl, sym, ap, subst, ◌∙◌}
+use Rattle.std.proofs.Common.{◌≡◌, ◌≢◌, inl, inr, ℕ, Option, Some, None, List, [], ◌∷◌, ℤ, length, nat_eq, replicate, slice_index_or, if◌then◌else◌, refl, sym, ap, subst, ◌∙◌}
 use Rattle.std.proofs.lemmas.Bool.{cond-true}
 use Rattle.std.proofs.lemmas.List.{length-replicate}
 use Rattle.std.specs.Ordering.{nat_cmp}
 use Rattle.std.specs.Option.{option_map}
 use Rattle.std.specs.FinMap as map
-use Rattle.cube_defs.specs.Cell.{Cell, depth, mask}
+use Rattle.cube_defs.specs.Cell.{Cell, depth}
 use Rattle.cube_defs.specs.Rows as defs
 use Rattle.cube_defs.specs.Tree.{Tree, cell_at, cut_last}
 use Rattle.cube_laws.specs.Lists.{Among}
 use Rattle.aggregates.specs.Rows.{agg_of_row}
 use Rattle.aggregates.specs.Views.{agg_in}
-use Rattle.cell_core.specs.declared.cell.NodeNo.{NodeNo}
 use Rattle.qc_arena.specs.Map.{Arena, new_record, with_class, with_forced}
 use Rattle.qc_arena.specs.Edges.{with_edge}
 use Rattle.qc_arena.specs.Seen.{record_at}
@@ -24,7 +23,7 @@ use Rattle.batch_insert.specs.Cases.{Case, IsFront}
 use Rattle.batch_insert.specs.Kept.{with_edges}
 use Rattle.batch_insert.specs.Planned.{IsOld, sum_with}
 use Rattle.batch_insert.specs.Stages.{HaveCopied, HaveEnded, HaveSet, IsCopied, IsEnded, IsSet}
-use Rattle.batch_insert.specs.Whole.{IsEndFor, IsLast}
+use Rattle.batch_insert.specs.Whole.{IsLast}
 use Rattle.batch_insert.proofs.Coming.{begun_new, begun_old}
 use Rattle.batch_insert.proofs.Ending.{ended_class, ended_forced, sum_is}
 use Rattle.batch_insert.proofs.Naming.{any_below, any_depth, any_mask, same_mask}

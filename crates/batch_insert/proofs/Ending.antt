@@ -1,5 +1,5 @@
 -- The forced children and the classes are set.
-use Rattle.std.proofs.Common.{◌≡◌, ◌≢◌, ◌⊎◌, inl, inr, ℕ, ◌<◌, Option, Some, None, List, [], ◌∷◌, ◌++◌, ℤ, length, nat_cmp, nat_eq, slice_get, slice_index_or, refl, sym, ap, ap₂, subst, true, ◌∙◌, arith}
+use Rattle.std.proofs.Common.{◌≡◌, ◌≢◌, inl, inr, ℕ, ◌<◌, Option, Some, None, List, [], ◌∷◌, ◌++◌, ℤ, length, nat_cmp, nat_eq, slice_get, slice_index_or, refl, sym, ap, subst, true, ◌∙◌, arith}
 use Rattle.std.proofs.lemmas.Bool.Decides.{eqb_tells}
 use Rattle.std.specs.Ordering.{eq_by_cmp}
 use Rattle.std.specs.Option.{option_map}
@@ -76,10 +76,23 @@ module _ (t : Cell ℕ) (a : Arena) (wide : length t ≡ a.width) (c : Case t a)
         let front = front_there t a wide c f b stage is.node g.dim n.0 last.0 n.2 in
         let same = names b d k n.0 (with_forced (Some edge) n.0) n.1 after refl others in
         let entry = (last.2 v value).0 in
-        let done : IsEnded c d f x = (k, with_forced (Some edge) n.0, number, after, inr (g.dim, v, l, subst (λ p. IsFront c p g.dim) (sym n.2) last.0, last.1, subst (λ p. slice_get (new_closure c p) g.dim ≡ Some (Some v)) (sym n.2) entry, refl,
-        ap (λ h. h l) same ∙ named g l v last.0 last.1 value (last.2 v value).1 child ∙ ap (λ p. Some (with_value p g.dim v)) (sym n.2),
-        unmarked n.0 n.2 (stage.sound k n.0 n.1 front) g v last.0 last.1 entry)) in
-        (
+        let done : IsEnded c d f x = (
+          k,
+          with_forced (Some edge) n.0,
+          number,
+          after,
+          inr (
+            g.dim,
+            v,
+            l,
+            subst (λ p. IsFront c p g.dim) (sym n.2) last.0,
+            last.1,
+            subst (λ p. slice_get (new_closure c p) g.dim ≡ Some (Some v)) (sym n.2) entry,
+            refl,
+            ap (λ h. h l) same ∙ named g l v last.0 last.1 value (last.2 v value).1 child ∙ ap (λ p. Some (with_value p g.dim v)) (sym n.2),
+            unmarked n.0 n.2 (stage.sound k n.0 n.1 front) g v last.0 last.1 entry,
+          ),
+        ) in (
           staged b d k n.0 (with_forced (Some edge) n.0) n.1 after refl others t a wide c f front (λ i w h. h) stage (λ s. record { parent = s.parent; rises = s.rises; place = s.place; leads = s.leads; class = s.class }),
           edges b d k n.0 (with_forced (Some edge) n.0) n.1 after refl others refl,
           done,
@@ -117,8 +130,7 @@ module _ (t : Cell ℕ) (a : Arena) (wide : length t ≡ a.width) (c : Case t a)
         let front = front_there t a wide c f b stage is.node (length t) n.0 whole n.2 in
         let same = names b d k n.0 m n.1 after refl others in
         let own : new_closure c n.0.cell ≡ n.0.cell = subst (λ p. new_closure c p ≡ p) (sym n.2) (front_end t a wide c is.node (length t) whole (omega arith)) in
-        let done : IsEnded c d f x = (k, m, number, after, inl (subst (λ p. IsFront c p (length t)) (sym n.2) whole, refl, ap (λ z. Some z) (sum whole ∙ ap (defs.agg (eq_by_cmp nat_cmp) c.measures (c.xs ++ c.row ∷ c.ys)) (sym n.2)))) in
-        (
+        let done : IsEnded c d f x = (k, m, number, after, inl (subst (λ p. IsFront c p (length t)) (sym n.2) whole, refl, ap (λ z. Some z) (sum whole ∙ ap (defs.agg (eq_by_cmp nat_cmp) c.measures (c.xs ++ c.row ∷ c.ys)) (sym n.2)))) in (
           staged b d k n.0 m n.1 after refl others t a wide c f front (λ i w h. h) stage (λ z. record { parent = z.parent; rises = z.rises; place = z.place; leads = z.leads; class = inr own }),
           edges b d k n.0 m n.1 after refl others refl,
           done,

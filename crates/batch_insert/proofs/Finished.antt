@@ -1,14 +1,14 @@
 -- Once the whole plan is done, the tree is that of the rows with the new one.
-use Rattle.std.proofs.Common.{◌≡◌, ◌⊎◌, inl, inr, ℕ, zero, suc, ◌<◌, ◌≤◌, true, Option, Some, None, IsSome, List, [], ◌∷◌, ◌++◌, length, nat_cmp, nat_eq, replicate, slice_index_or, refl, sym, ap, subst, ◌∙◌, arith}
+use Rattle.std.proofs.Common.{◌≡◌, ◌⊎◌, inl, inr, ℕ, zero, suc, ◌<◌, ◌≤◌, true, Option, Some, None, List, [], ◌∷◌, ◌++◌, length, nat_cmp, nat_eq, replicate, slice_index_or, refl, sym, ap, subst, ◌∙◌, arith}
 use Rattle.std.proofs.lemmas.Bool.{and_parts}
 use Rattle.std.specs.List.{AllByRecursion, list_all}
 use Rattle.std.specs.Cmp.{nat_cmp_total}
 use Rattle.std.specs.Ordering.{eq_by_cmp}
 use Rattle.std.specs.Option.{option_map}
 use Rattle.std.specs.FinMap as map
-use Rattle.cube_defs.specs.Cell.{Cell, cell_of, depth, keep, leq, mask, with_value}
+use Rattle.cube_defs.specs.Cell.{Cell, depth, keep, leq, mask, with_value}
 use Rattle.cube_defs.specs.Rows as defs
-use Rattle.cube_defs.specs.Tree.{Edge, Tree, cell_at, node_of, renamed}
+use Rattle.cube_defs.specs.Tree.{Edge, cell_at, node_of, renamed}
 use Rattle.cube_laws.specs.Lists.{Among}
 use Rattle.cube_laws.proofs.Cells.{keep-leq, leq_trans, length-cell_of, length-keep}
 use Rattle.cube_laws.proofs.Closures.{closure_some}
@@ -102,8 +102,7 @@ module _ (t : Cell ℕ) (a : Arena) (wide : length t ≡ a.width) (c : Case t a)
         let is = owns y.0 y.1 in
         let val : s.2 ≡ v = some_same (sym s.5 ∙ ap (λ j. slice_index_or t j None) y.3 ∙ value) in
         let same : (record_at b.now s.0).edges ≡ n.edges = edges_at s.0 (one_number y.0.mask s.0 y.2 s.3) in
-        let node : is.node ≡ n.cell = front_told t a wide c is.node n.cell (deep_front is.node y.0.dim is.front) front (is.dims ∙ y.2) in
-        (
+        let node : is.node ≡ n.cell = front_told t a wide c is.node n.cell (deep_front is.node y.0.dim is.front) front (is.dims ∙ y.2) in (
           s.1,
           subst (λ j. Among (record { dim = j; value = v; target = s.1 }) n.edges) y.3 (subst (λ w. Among (record { dim = y.0.dim; value = w; target = s.1 }) n.edges) val (subst (λ es. Among (record { dim = y.0.dim; value = s.2; target = s.1 }) es) same s.6)),
           led s.1 y.0.target s.4 (sym (is.target v (ap (λ j. slice_index_or t j None) y.3 ∙ value)) ∙ ap (λ j. mask (moved (eq_by_cmp nat_cmp) (old_lead c is.node j v) t j)) y.3 ∙ ap (λ p. mask (moved (eq_by_cmp nat_cmp) (old_lead c p i v) t i)) node),
@@ -128,10 +127,10 @@ module _ (t : Cell ℕ) (a : Arena) (wide : length t ≡ a.width) (c : Case t a)
         elim (node.copies i deep within place u.0 u.1) [
           | inl own ↦ own_label u.0 u.1 deep own
           | inr x ↦
-            let done = copied x.0 x.1 in
-            let r = known a.now x.0.from.0 (keep i u.0) x.3 in
-            subst (HasLabel i v) (edges_at done.0 (one_number x.0.mask done.0 x.2 done.1))
-            (done.2 i v (subst (λ (y : Known). HasLabel i v y.edges) (sym (record_known a.now x.0.from.0 r.0 r.1)) (source_has t a wide c n.cell u.0 i place u.1 x.0.from.0 r.0 r.1 r.2 v q within lead)))
+              let done = copied x.0 x.1 in
+              let r = known a.now x.0.from.0 (keep i u.0) x.3 in
+              subst (HasLabel i v) (edges_at done.0 (one_number x.0.mask done.0 x.2 done.1))
+              (done.2 i v (subst (λ (y : Known). HasLabel i v y.edges) (sym (record_known a.now x.0.from.0 r.0 r.1)) (source_has t a wide c n.cell u.0 i place u.1 x.0.from.0 r.0 r.1 r.2 v q within lead)))
         ]
       where
         own_label : (u : Cell ℕ) → old_closure c n.cell ≡ Some u → depth n.cell ≤ i → keep i u ≡ n.cell → HasLabel i v n.edges

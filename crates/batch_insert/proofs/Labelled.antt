@@ -1,17 +1,17 @@
 -- The labels of the node of a front of the old closure are labels of the node with the row, but for those with its value.
-use Rattle.std.proofs.Common.{cond, ◌≡◌, ◌⊎◌, inl, inr, ℕ, zero, suc, ◌≤◌, ◌<◌, Bool, true, false, Option, Some, None, List, [], ◌∷◌, ◌++◌, map, length, nat_cmp, nat_eq, slice_get, slice_index_or, refl, sym, ap, ap₂, subst, ◌∙◌, arith}
-use Rattle.std.proofs.lemmas.Bool.{cond-true, cond-false, and_parts, and_from}
+use Rattle.std.proofs.Common.{cond, ◌≡◌, ◌⊎◌, inl, inr, ℕ, zero, suc, ◌≤◌, ◌<◌, Bool, true, false, Option, Some, None, List, [], ◌∷◌, ◌++◌, map, length, nat_cmp, slice_get, slice_index_or, refl, sym, ap, ap₂, subst, ◌∙◌, arith}
+use Rattle.std.proofs.lemmas.Bool.{cond-true, cond-false, and_from}
 use Rattle.std.specs.List.{list_all}
 use Rattle.std.specs.Cmp.{nat_cmp_total}
 use Rattle.std.specs.Ordering.{eq_by_cmp}
 use Rattle.std.specs.Option.{option_map}
 use Rattle.std.specs.FinMap as finmap
-use Rattle.cube_defs.specs.Cell.{Cell, cell_of, depth, keep, leq, meet, with_value}
+use Rattle.cube_defs.specs.Cell.{Cell, cell_of, depth, keep, leq, meet}
 use Rattle.cube_defs.specs.Rows as defs
 use Rattle.cube_defs.specs.Tree.{Edge, cell_at, cut_last, next_value, renamed, renamed_edge}
 use Rattle.cube_laws.specs.Lists.{Among}
 use Rattle.cube_laws.proofs.Cells.{keep-depth_keep, length-keep, meet_comm}
-use Rattle.cube_laws.proofs.Columns.{one_value, one_value-leq, slice_get-cell_of}
+use Rattle.cube_laws.proofs.Columns.{one_value, one_value-leq}
 use Rattle.cube_laws.proofs.Lists.{among_map, map_among}
 use Rattle.tree_laws.specs.Labels.{lead, moved, record_of}
 use Rattle.tree_laws.proofs.Edges.{edges-are}
@@ -146,9 +146,13 @@ module _ (t : Cell ℕ) (a : Arena) (wide : length t ≡ a.width) (c : Case t a)
           let l = (edges-are nat_cmp_total finmap.nat_cmp-IsAntisymmetric c.measures (c.xs ++ c.ys) (keep i u) u is (keep-depth_keep i u) y.0).0 y.1 in
           let d : x.dim ≡ y.0.dim = ap (λ z. z.dim) y.2 in
           let v : x.value ≡ y.0.value = ap (λ z. z.value) y.2 in
-          let w : y.0.dim < length t = omega (arith, l.place.within, long) in
-          (omega (arith, d, w), subst (IsFront c p) (sym d) (source_place y.0.dim l.place.behind l.place.before),
-          y.0.target, ap (λ z. z.target) y.2, ap₂ (old_lead c p) d v ∙ sym (source_lead y.0.dim y.0.value l.place.behind l.place.before w) ∙ l.leads)
+          let w : y.0.dim < length t = omega (arith, l.place.within, long) in (
+            omega (arith, d, w),
+            subst (IsFront c p) (sym d) (source_place y.0.dim l.place.behind l.place.before),
+            y.0.target,
+            ap (λ z. z.target) y.2,
+            ap₂ (old_lead c p) d v ∙ sym (source_lead y.0.dim y.0.value l.place.behind l.place.before w) ∙ l.leads,
+          )
 
       -- each old label of p in the dimension i is there
       pub source_has : (v : ℕ) (q : Cell ℕ) → i < length t → old_lead c p i v ≡ Some q → HasLabel i v n.edges

@@ -1,5 +1,5 @@
 -- The labels with the row's value are set.
-use Rattle.std.proofs.Common.{◌≡◌, ◌≢◌, ◌⊎◌, inl, inr, ℕ, ◌<◌, Option, Some, None, length, nat_cmp, nat_eq, slice_index_or, refl, sym, ap, subst, ◌∙◌, arith}
+use Rattle.std.proofs.Common.{◌≡◌, ◌≢◌, inl, inr, ℕ, Option, Some, None, length, nat_cmp, slice_index_or, refl, sym, ap, subst, ◌∙◌, arith}
 use Rattle.std.proofs.lemmas.Bool.Decides.{eqb_tells}
 use Rattle.std.specs.Ordering.{eq_by_cmp}
 use Rattle.std.specs.Option.{option_map}
@@ -57,13 +57,21 @@ module _ (t : Cell ℕ) (a : Arena) (wide : length t ≡ a.width) (c : Case t a)
     edges_after = ap (λ (r : Known). r.edges) (record_known d k (with_edge edge n.0) after) ∙ ap (λ (r : Known). put_edge edge r.edges) (sym (record_known b k n.0 n.1))
 
     stays : (y : Own) → IsOwnOf c y → IsSet t b f y → IsSet t d f y
-    stays y also h = (h.0, h.1, h.2, h.3, h.4, h.5, elim (eqb_tells h.0 k) [
-      | inl s ↦ subst (λ es. Among (other y h.1 h.2) es) (sym (ap (λ q. (record_at d q).edges) s.1 ∙ edges_after)) (elim (put_stays edge (record_at b k).edges (other y h.1 h.2) (subst (λ q. Among (other y h.1 h.2) (record_at b q).edges) s.1 h.6)) [
-        | inl m ↦ m
-        | inr e ↦ subst (λ z. Among z (put_edge edge (record_at b k).edges)) (one e.dim e.value (masks (h.3 ∙ ap (λ q. Some q) s.1))) (put_here edge (record_at b k).edges)
-      ])
-      | inr s ↦ subst (λ (r : Known). Among (other y h.1 h.2) r.edges) (sym (ap record_or (others h.0 s.1))) h.6
-    ])
+    stays y also h = (
+      h.0,
+      h.1,
+      h.2,
+      h.3,
+      h.4,
+      h.5,
+      elim (eqb_tells h.0 k) [
+        | inl s ↦ subst (λ es. Among (other y h.1 h.2) es) (sym (ap (λ q. (record_at d q).edges) s.1 ∙ edges_after)) (elim (put_stays edge (record_at b k).edges (other y h.1 h.2) (subst (λ q. Among (other y h.1 h.2) (record_at b q).edges) s.1 h.6)) [
+          | inl m ↦ m
+          | inr e ↦ subst (λ z. Among z (put_edge edge (record_at b k).edges)) (one e.dim e.value (masks (h.3 ∙ ap (λ q. Some q) s.1))) (put_here edge (record_at b k).edges)
+        ])
+        | inr s ↦ subst (λ (r : Known). Among (other y h.1 h.2) r.edges) (sym (ap record_or (others h.0 s.1))) h.6
+      ],
+    )
       where
         -- a number has one mask
         masks : f y.mask ≡ Some k → x.mask ≡ y.mask
@@ -77,7 +85,7 @@ module _ (t : Cell ℕ) (a : Arena) (wide : length t ≡ a.width) (c : Case t a)
     pub owned : IsStage c d f × LabelsStay b d × IsSet t d f x × ((y : Own) → IsOwnOf c y → IsSet t b f y → IsSet t d f y)
     owned = (
       staged b d k n.0 (with_edge edge n.0) n.1 after refl others t a wide c f (front_there t a wide c f b stage is.node x.dim n.0 is.front n.2) more stage
-      (put_sound t a wide c (cell_at b) edge n.0 (is.within, subst (λ p. IsFront c p x.dim) (sym n.2) is.front, inr value)),
+          (put_sound t a wide c (cell_at b) edge n.0 (is.within, subst (λ p. IsFront c p x.dim) (sym n.2) is.front, inr value)),
       labels b d k n.0 (with_edge edge n.0) n.1 after refl others more,
       (k, l, v, number, target, value, subst (λ es. Among edge es) (sym edges_after) (put_here edge (record_at b k).edges)),
       stays,

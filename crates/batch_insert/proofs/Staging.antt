@@ -1,43 +1,29 @@
 -- Each write keeps the records of the nodes with the row sound.
-use Rattle.std.proofs.Common.{◌≡◌, ◌≢◌, ◌⊎◌, inl, inr, ℕ, ◌<◌, ◌≤◌, Bool, true, false, Option, Some, None, List, [], ◌∷◌, ◌++◌, length, nat_cmp, nat_eq, slice_get, slice_index_or, refl, sym, ap, subst, ◌∙◌, true≢false, arith}
+use Rattle.std.proofs.Common.{◌≡◌, ◌≢◌, ◌⊎◌, inl, inr, ℕ, ◌<◌, Bool, true, false, Option, Some, None, List, [], ◌∷◌, length, nat_cmp, nat_eq, slice_index_or, refl, sym, ap, subst, ◌∙◌, true≢false, arith}
 use Rattle.std.proofs.lemmas.Bool.Decides.{eqb_tells}
 use Rattle.std.specs.Ordering.{eq_by_cmp}
 use Rattle.std.specs.Option.{option_map}
 use Rattle.std.specs.FinMap as map
-use Rattle.cube_defs.specs.Cell.{Cell, depth, keep, leq, mask, meet, with_value}
-use Rattle.cube_defs.specs.Rows as defs
+use Rattle.cube_defs.specs.Cell.{Cell, depth, keep, leq, mask, meet}
 use Rattle.cube_defs.specs.Tree.{Edge, Tree, cell_at}
 use Rattle.cube_laws.specs.Lists.{Among}
-use Rattle.cube_laws.specs.Total.{combine}
 use Rattle.cube_laws.proofs.Cells.{meet_of_leq}
-use Rattle.cube_laws.proofs.OneRow.{agg-insert_alone, agg-insert_more}
-use Rattle.cube_laws.proofs.RowTotals.{aggs_add}
-use Rattle.tree_laws.proofs.Fronts.{any_behind}
 use Rattle.tree_laws.proofs.Lists.{some_same}
-use Rattle.aggregates.specs.Rows.{agg_of_row}
-use Rattle.aggregates.specs.Views.{agg_in}
-use Rattle.aggregates.specs.declared.agg.Agg.{Agg}
-use Rattle.aggregates.proofs.Together.{agg_of-one}
 use Rattle.qc_arena.proofs.Labels.{rises-put}
 use Rattle.qc_arena.specs.Edges.{put_edge, with_edge}
-use Rattle.qc_arena.specs.Map.{Arena, Known, with_class, with_forced}
+use Rattle.qc_arena.specs.Map.{Arena, Known}
 use Rattle.qc_arena.specs.Seen.{record_at, record_or}
 use Rattle.batch_insert.specs.declared.plan.Copying.{Copying}
-use Rattle.batch_insert.specs.declared.plan.Own.{Own}
-use Rattle.batch_insert.specs.declared.plan.Forcing.{Forcing}
-use Rattle.batch_insert.specs.declared.plan.End.{End}
-use Rattle.batch_insert.specs.Cases.{Case, IsFront, new_closure, old_closure, old_lead}
+use Rattle.batch_insert.specs.Cases.{Case, IsFront}
 use Rattle.batch_insert.specs.Kept.{put_edges, with_edges}
-use Rattle.batch_insert.specs.Planned.{sum_with}
-use Rattle.batch_insert.specs.Stages.{EdgesStay, HasEndOf, HasLabel, IsCopied, IsEnded, IsSet, IsSound, IsStage, LabelsStay, new_lead}
-use Rattle.batch_insert.specs.Whole.{IsCopyOf, IsEndFor, IsLast, IsOwnOf}
+use Rattle.batch_insert.specs.Stages.{EdgesStay, HasLabel, IsCopied, IsSound, IsStage, LabelsStay, new_lead}
+use Rattle.batch_insert.specs.Whole.{IsCopyOf}
 use Rattle.batch_insert.proofs.Assembled.{leq_is}
 use Rattle.batch_insert.proofs.Coming.{front_told}
-use Rattle.batch_insert.proofs.EdgeLists.{HasLabelOf, put_here, put_stays}
-use Rattle.batch_insert.proofs.Fronts.{codes, front_before, front_deep, front_end, front_leq, front_long}
+use Rattle.batch_insert.proofs.EdgeLists.{put_here, put_stays}
+use Rattle.batch_insert.proofs.Fronts.{codes, front_before, front_deep, front_leq}
 use Rattle.batch_insert.proofs.Keeping.{among_put, cell_known, known}
-use Rattle.batch_insert.proofs.Labelled.{covered, cut, led_or_own, source_label}
-use Rattle.batch_insert.proofs.Naming.{below_with, long_with, same_mask}
+use Rattle.batch_insert.proofs.Labelled.{cut, led_or_own, source_label}
 use Rattle.batch_insert.proofs.Started.{record_known}
 
 -- labels of edges that are put
@@ -168,8 +154,7 @@ module _ (t : Cell ℕ) (a : Arena) (wide : length t ≡ a.width) (c : Case t a)
           let after : map.get d k ≡ Some (with_edges es n.0) = here ∙ ap (option_map (with_edges es)) n.1 in
           let same : es ≡ r.0.edges = ap (λ (y : Known). y.edges) (record_known b x.from.0 r.0 r.3) in
           let fits : (e : Edge ℕ ℕ) → Among e es → Fits (cell_at b) n.0.cell e = λ e m. subst (λ p. Fits (cell_at b) p e) (sym n.2) (fit r.0 r.1 r.2 e (subst (λ ys. Among e ys) same m)) in
-          let old : (record_at a.now x.from.0).edges ≡ es = ap (λ (y : Known). y.edges) (record_known a.now x.from.0 r.0 r.1) ∙ sym same in
-          (
+          let old : (record_at a.now x.from.0).edges ≡ es = ap (λ (y : Known). y.edges) (record_known a.now x.from.0 r.0 r.1) ∙ sym same in (
             staged b d k n.0 (with_edges es n.0) n.1 after refl others t a wide c f (front_there is.node is.dim n.0 is.front n.2) (λ i v. labels_put es n.0.edges i v) stage (puts_sound (cell_at b) es n.0 fits),
             labels b d k n.0 (with_edges es n.0) n.1 after refl others (λ i v. labels_put es n.0.edges i v),
             (k, number, λ i v h. subst (λ (y : Known). HasLabel i v y.edges) (sym (record_known d k (with_edges es n.0) after)) (labels_here es n.0.edges i v (subst (HasLabel i v) old h))),

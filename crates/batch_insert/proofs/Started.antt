@@ -1,5 +1,5 @@
 -- Once all nodes with the row have their numbers, their records are sound.
-use Rattle.std.proofs.Common.{◌≡◌, ◌⊎◌, inl, inr, ℕ, ◌<◌, Bool, true, false, cond, Option, Some, None, IsSome, [], ◌∷◌, ◌++◌, length, nat_cmp, nat_eq, refl, sym, ap, slice_index_or, subst, ◌∙◌}
+use Rattle.std.proofs.Common.{◌≡◌, ◌⊎◌, inl, inr, ℕ, ◌<◌, Bool, true, false, cond, Option, Some, None, IsSome, ◌∷◌, ◌++◌, length, nat_cmp, nat_eq, refl, sym, ap, slice_index_or, subst, ◌∙◌}
 use Rattle.std.proofs.lemmas.Bool.{cond-true}
 use Rattle.std.specs.Ordering.{eq_by_cmp}
 use Rattle.std.specs.Option.{option_map}
@@ -20,7 +20,7 @@ use Rattle.batch_insert.specs.Begun.{IsBare, IsBegun}
 use Rattle.batch_insert.specs.Cases.{Case, IsFront, new_closure, old_closure, old_lead}
 use Rattle.batch_insert.specs.Stages.{HasLabel, IsSound, IsStage, new_lead}
 use Rattle.batch_insert.proofs.Assembled.{leq_is, parent_more}
-use Rattle.batch_insert.proofs.Coming.{begun_told, front_told}
+use Rattle.batch_insert.proofs.Coming.{begun_told}
 use Rattle.batch_insert.proofs.Fronts.{above_self, codes, front_leq}
 use Rattle.batch_insert.proofs.Keeping.{cell_known, known, some_there}
 use Rattle.batch_insert.proofs.Labelled.{led_or_own, read, source_label, source_parent, source_rises}
@@ -124,13 +124,13 @@ module _ (t : Cell ℕ) (a : Arena) (wide : length t ≡ a.width) (c : Case t a)
       below : (k : ℕ) (n : Known) → map.get b k ≡ Some n → leq nat_eq n.cell t ≡ true → IsFront c n.cell (depth n.cell) × (f (mask n.cell) ≡ Some k)
       below k n h l = elim (begun.left k n h) [
         | inl old ↦
-          let node = (c.from.canonical.each k n old).0 in
-          let front = front_of_node n.cell l (node-insert codes c.xs c.row c.ys n.cell node) in
-          let number = some_there (f (mask n.cell)) (all n.cell front) in
-          (front, number.1 ∙ ap (λ j. Some j) (sym (begun_told t a wide c b f k (mask n.cell) number.0 n begun h front refl number.1)))
+            let node = (c.from.canonical.each k n old).0 in
+            let front = front_of_node n.cell l (node-insert codes c.xs c.row c.ys n.cell node) in
+            let number = some_there (f (mask n.cell)) (all n.cell front) in
+            (front, number.1 ∙ ap (λ j. Some j) (sym (begun_told t a wide c b f k (mask n.cell) number.0 n begun h front refl number.1)))
         | inr numbered ↦
-          let p = begun.nodes (mask n.cell) k numbered in
-          (subst (λ q. IsFront c q (depth q)) (some_same (sym p.1 ∙ cell_known b k n h)) p.3, numbered)
+            let p = begun.nodes (mask n.cell) k numbered in
+            (subst (λ q. IsFront c q (depth q)) (some_same (sym p.1 ∙ cell_known b k n h)) p.3, numbered)
       ]
 
       pub begun_stage : IsStage c b f

@@ -1,5 +1,5 @@
 -- What holds of the nodes with the row while their labels, forced children and classes are set.
-use Rattle.std.specs.Prelude.{◌≡◌, ◌⊎◌, ℕ, ℤ, true, false, ◌<◌, ◌≤◌, Option, None, Some, IsSome, List, ◌∷◌, ◌++◌, length, nat_eq, slice_get, slice_index_or}
+use Rattle.std.specs.Prelude.{◌≡◌, ◌⊎◌, ℕ, ℤ, true, false, ◌<◌, Option, None, Some, IsSome, List, ◌∷◌, ◌++◌, length, nat_eq, slice_get, slice_index_or}
 use Rattle.std.specs.Ordering.{nat_cmp, eq_by_cmp}
 use Rattle.std.specs.Option.{option_map}
 use Rattle.std.specs.FinMap as map
