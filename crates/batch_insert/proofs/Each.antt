@@ -83,7 +83,7 @@ module _ (t : Cell ℕ) (a : Arena) (wide : length t ≡ a.width) (c : Case t a)
     records = λ m k h. no_number m k h;
   }
 
-  flat_front : IsFront c (replicate a.width None) (depth (replicate {A = Option ℕ} a.width None))
+  pub flat_front : IsFront c (replicate a.width None) (depth (replicate {A = Option ℕ} a.width None))
   flat_front = subst (IsFront c (replicate a.width None)) (sym (any_depth a.width)) (root_front t a wide c (replicate a.width None) refl)
 
   module _ (g : ℕ → Option ℕ) (k : ℕ) (more : (q : ℕ) → g q ≡ (if nat_eq 0 q then Some k else f q)) where

@@ -71,7 +71,7 @@ keep_none [] (suc n) e = absurd (omega arith)
 keep_none (x ∷ c) zero e = absurd (omega arith)
 keep_none (x ∷ c) (suc n) e = ap (λ d. None ∷ d) (keep_none c n (omega arith))
 
-all_more : {X : Type 0} (P : X → Type 0) (xs ys : List X) (y : X) → AllByRecursion P (xs ++ ys) → P y → AllByRecursion P (xs ++ y ∷ ys)
+pub all_more : {X : Type 0} (P : X → Type 0) (xs ys : List X) (y : X) → AllByRecursion P (xs ++ ys) → P y → AllByRecursion P (xs ++ y ∷ ys)
 all_more P [] ys y h p = (p, h)
 all_more P (x ∷ xs) ys y h p = (h.0, all_more P xs ys y h.1 p)
 

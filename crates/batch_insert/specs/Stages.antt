@@ -88,9 +88,3 @@ HaveEnded t amounts numbers xs b d = (a : Arena) (c : Case t a) → length t ≡
 -- all of a plan but its nodes
 abbrev pub IsDone : Cell ℕ → List ℤ → (ℕ → Option ℕ) → Plan → Tree ℕ → Tree ℕ → Type 0
 IsDone t amounts numbers plan b d = (labels : Tree ℕ) × (owns : Tree ℕ) × HaveCopied t numbers plan.copies.items b labels × HaveSet t numbers plan.owns.items labels owns × HaveEnded t amounts numbers plan.ends.items owns d
-
--- from the one arena to the other the row comes to whatever rows the tree is of
-abbrev pub TakesRow : Cell ℕ → List ℤ → Arena → Arena → Type 0
-TakesRow t amounts before after =
-    (xs : List (defs.Row ℕ)) (row : defs.Row ℕ) (ys : List (defs.Row ℕ)) → cell_of row.tuple ≡ t → row.amounts ≡ amounts
-    → IsFrom before.width before.now (record { measures = length amounts; rows = xs ++ ys }) → IsFrom after.width after.now (record { measures = length amounts; rows = xs ++ row ∷ ys })
