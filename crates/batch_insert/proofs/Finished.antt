@@ -53,7 +53,7 @@ all_before x (z ∷ xs) h y m =
     let p = and_parts (label_lt x z) (list_all (label_lt x) xs) h in
     elim m [ inl s ↦ subst (IsBefore x) (sym s) (before_of x z p.0) | inr n ↦ all_before x xs p.1 y n ]
 
-ascending : (xs : List (Edge ℕ ℕ)) → rises xs ≡ true → Ascends xs
+pub ascending : (xs : List (Edge ℕ ℕ)) → rises xs ≡ true → Ascends xs
 ascending [] h = tt
 ascending (x ∷ xs) h = let p = and_parts (list_all (label_lt x) xs) (rises xs) h in (all_before x xs p.0, ascending xs p.1)
 
