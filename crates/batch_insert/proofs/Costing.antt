@@ -19,12 +19,12 @@ use Rattle.tree_laws.specs.Labels.{lead, record_of}
 use Rattle.tree_laws.proofs.Edges.{edges-are}
 use Rattle.tree_laws.proofs.Fronts.{depth-with_value, keep-beyond, keep-keep}
 use Rattle.tree_laws.proofs.Lists.{some_same}
-use Rattle.tree_laws.proofs.Sums.{EachOnce, length-map, or_nothing, sum_ones, sum_within}
+use Rattle.tree_laws.proofs.Sums.{EachOnce, length-map, sum_ones, sum_within}
 use Rattle.qc_arena.specs.Map.{Arena, Known}
 use Rattle.qc_arena.specs.Seen.{record_at}
 use Rattle.batch_insert.specs.declared.plan.Copying.{Copying}
 use Rattle.batch_insert.specs.Cases.{Case, IsFront, new_closure}
-use Rattle.batch_insert.specs.Costs.{copy_cost, cost_below, edges_at, nodes_with, weight}
+use Rattle.batch_insert.specs.Costs.{copy_cost, cost_below, edges_at, edges_of, nodes_with, weight}
 use Rattle.batch_insert.specs.Stages.{new_lead}
 use Rattle.batch_insert.specs.Whole.{IsCopyOf}
 use Rattle.batch_insert.proofs.Counting.{rows_wide}
@@ -86,12 +86,11 @@ module _ (t : Cell ℕ) (a : Arena) (wide : length t ≡ a.width) (c : Case t a)
       ((nodes-is nat_cmp_total finmap.nat_cmp-IsAntisymmetric a.width (c.xs ++ c.row ∷ c.ys) (rows_wide t a wide c) p).1 (node_of_front t a wide c p front)) (front_leq t a wide c p (depth p) front)
 
   -- what it costs is within what all cost whose front it is
-  pub own_cost : (p : Cell ℕ) (i : ℕ) → IsFront c p i → weight c p ≤ cost_below c p i
+  pub own_cost : (p : Cell ℕ) (i : ℕ) → IsFront c p (depth p) → depth p ≤ i → weight c p ≤ cost_below c p i
   unfolding cost_below
-  own_cost p i front =
+  own_cost p i front deep =
       let f : Cell ℕ → ℕ = λ q. cond (cell_eq (eq_by_cmp nat_cmp) (keep i q) p) (weight c q) 0 in
-      let deep = front_deep t a wide c p i front in
-      let le : sum_by f (p ∷ []) ≤ sum_by f (nodes_with c) = sum_within f (p ∷ []) (nodes_with c) ((λ m. m), tt) (λ q m. elim m [ inl e ↦ subst (λ x. Among x (nodes_with c)) (sym e) (listed p (front_before t a wide c p (depth p) i deep (omega arith) front)) | inr n ↦ absurd n ]) in
+      let le : sum_by f (p ∷ []) ≤ sum_by f (nodes_with c) = sum_within f (p ∷ []) (nodes_with c) ((λ m. m), tt) (λ q m. elim m [ inl e ↦ subst (λ x. Among x (nodes_with c)) (sym e) (listed p front) | inr n ↦ absurd n ]) in
       let here : f p ≡ weight c p = cond-true _ (weight c p) 0 (subst (λ x. cell_eq (eq_by_cmp nat_cmp) x p ≡ true) (sym (keep-beyond i p deep)) (cell_eq-same codes p)) in
       omega (arith, le, here, sum_by-cons f p [])
 
@@ -118,7 +117,7 @@ module _ (t : Cell ℕ) (a : Arena) (wide : length t ≡ a.width) (c : Case t a)
       let r = known a.now x.from.0 (keep is.dim is.upper) is.from in
       let le = no_more r.0.edges new (ascending r.0.edges (source_rises t a wide c is.node is.upper is.dim is.front is.closure x.from.0 r.0 r.1 r.2)) (λ y m. has r.0 r.1 r.2 y m) in
       let same : length (record_at a.now x.from.0).edges ≡ length r.0.edges = ap (λ (n : Known). length n.edges) (record_known a.now x.from.0 r.0 r.1) in
-      let here : edges_at c is.node ≡ length new = ap (or_nothing (λ (n : Node ℕ (Cell ℕ)). length n.edges)) (ap (option_map (λ u. record_of nat_cmp 0 (c.xs ++ c.row ∷ c.ys) is.node u)) (new_is t a wide c is.node front)) in
+      let here : edges_at c is.node ≡ length new = ap edges_of (ap (option_map (λ u. record_of nat_cmp 0 (c.xs ++ c.row ∷ c.ys) is.node u)) (new_is t a wide c is.node front)) in
       omega (arith, le, same, here)
     where
       front : IsFront c is.node (depth is.node)
@@ -162,7 +161,7 @@ module _ (t : Cell ℕ) (a : Arena) (wide : length t ≡ a.width) (c : Case t a)
           → sum_by (λ q. 1 + edges_at c q) (cond b (q ∷ old) old) ≡ both_of (filter (λ n. leq (eq_by_cmp nat_cmp) n.cell u) (cons_option o (filter_map (node_of nat_cmp 0 table) qs)))
       one r None h k b d e l more = cc
       one r (Some x) h k true true e l more =
-          let len : edges_at c q ≡ length x.edges = ap (or_nothing (λ (n : Node ℕ (Cell ℕ)). length n.edges)) k in
+          let len : edges_at c q ≡ length x.edges = ap edges_of k in
           let put : both_of (cond (leq (eq_by_cmp nat_cmp) x.cell u) (x ∷ rest) rest) ≡ both_of (x ∷ rest) = ap both_of (cond-true (leq (eq_by_cmp nat_cmp) x.cell u) (x ∷ rest) rest (subst (λ (y : Node ℕ (Cell ℕ)). leq (eq_by_cmp nat_cmp) y.cell u ≡ true) (sym (some_same h)) l)) in
           grown (edges_at c q) (length x.edges) (sum_by (λ q. 1 + edges_at c q) old) (length rest) (sum (map (λ n. length n.edges) rest)) (sum_by (λ q. 1 + edges_at c q) (q ∷ old)) len more (sum_by-cons (λ q. 1 + edges_at c q) q old)
           ∙ ap (λ n. suc (length rest) + n) (sym (sum_by-cons (λ (m : ℕ). m) (length x.edges) (map (λ n. length n.edges) rest))) ∙ sym put

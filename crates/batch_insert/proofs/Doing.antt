@@ -1,4 +1,5 @@
 -- The parts of a plan one after another.
+use Rattle.batch_insert.specs.Stages.{IsStage}
 use Rattle.std.proofs.Common.{◌≡◌, inl, inr, ℕ, suc, ◌+◌, ◌<◌, All, Option, Some, None, IsSome, List, [], ◌∷◌, ◌++◌, ℤ, length, take, get_or, zero, nat_eq, replicate, refl, sym, ap, subst, ◌∙◌, arith}
 use Rattle.std.proofs.Math.Seq.{take-suc}
 use Rattle.cube_defs.specs.Cell.{Cell, depth, mask, one_deeper}
@@ -130,6 +131,9 @@ module _ (t : Cell ℕ) (a : Arena) (wide : length t ≡ a.width) (c : Case t a)
     | inl flat ↦ subst (λ m. IsSome (f m)) (sym (flat_mask q flat)) top
     | inr s ↦ subst (λ m. IsSome (f m)) s.2 (spots s.0 s.1)
   ]
+
+  pub stage_is : IsBegun c b f → IsSome (f 0) → ((s : Spot) → Among s plan.spots.items → IsSome (f s.mask)) → IsStage c b f
+  stage_is begun top spots = begun_stage t a wide c b f begun (numbered top spots)
 
   pub all_done : (amounts : List ℤ) (e : Arena) → IsBegun c b f → IsSome (f 0) → ((s : Spot) → Among s plan.spots.items → IsSome (f s.mask)) → c.row.amounts ≡ amounts → c.measures ≡ length amounts
       → IsDone t amounts f plan b e.now → Keeps t a e → IsClosed e → IsFrom a.width e.now (record { measures = c.measures; rows = c.xs ++ c.row ∷ c.ys })

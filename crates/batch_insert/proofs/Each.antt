@@ -1,5 +1,6 @@
 -- One part of a plan.
-use Rattle.std.proofs.Common.{◌≡◌, ◌≢◌, inl, inr, ℕ, Option, Some, None, List, [], ◌∷◌, ℤ, length, nat_eq, replicate, slice_index_or, if◌then◌else◌, refl, sym, ap, subst, ◌∙◌}
+use Rattle.batch_insert.specs.Whole.{IsCopyOf}
+use Rattle.std.proofs.Common.{◌+◌, ◌*◌, ◌≤◌, arith, ◌≡◌, ◌≢◌, inl, inr, ℕ, Option, Some, None, List, [], ◌∷◌, ℤ, length, nat_eq, replicate, slice_index_or, if◌then◌else◌, refl, sym, ap, subst, ◌∙◌}
 use Rattle.std.proofs.lemmas.Bool.{cond-true}
 use Rattle.std.proofs.lemmas.List.{length-replicate}
 use Rattle.std.specs.Ordering.{nat_cmp}
@@ -22,13 +23,14 @@ use Rattle.batch_insert.specs.Begun.{IsBegun}
 use Rattle.batch_insert.specs.Cases.{Case, IsFront}
 use Rattle.batch_insert.specs.Kept.{with_edges}
 use Rattle.batch_insert.specs.Planned.{IsOld, sum_with}
-use Rattle.batch_insert.specs.Stages.{HaveCopied, HaveEnded, HaveSet, IsCopied, IsEnded, IsSet}
+use Rattle.batch_insert.specs.Stages.{HaveCopied, HaveEnded, HaveSet, IsCopied, IsEnded, IsSet, IsStage}
 use Rattle.batch_insert.specs.Whole.{IsLast}
 use Rattle.batch_insert.proofs.Coming.{begun_new, begun_old}
 use Rattle.batch_insert.proofs.Ending.{ended_class, ended_forced, sum_is}
 use Rattle.batch_insert.proofs.Naming.{any_below, any_depth, any_mask, same_mask}
 use Rattle.batch_insert.proofs.Owning.{owned}
-use Rattle.batch_insert.proofs.Staging.{copied, copied_self}
+use Rattle.batch_insert.specs.Costs.{copy_cost}
+use Rattle.batch_insert.proofs.Staging.{copied, copied_self, source_edges}
 use Rattle.batch_insert.proofs.Turns.{root_front}
 
 one_among : {X : Type 0} (P : X → Type 0) (x : X) → P x → (y : X) → Among y (x ∷ []) → P y
@@ -40,6 +42,10 @@ module _ (t : Cell ℕ) (f : ℕ → Option ℕ) (b : Tree ℕ) where
   one_self x k number e a c wide stage are =
       let r = copied_self t a wide c f b stage x (are x (inl refl)) k number e in
       (r.0, r.1, one_among (IsCopied c b f) x r.2)
+
+  pub copy_steps : (x : Copying) (k : ℕ) (old new : ℕ) → f x.mask ≡ Some k → x.from.0 ≢ k → new ≤ old + (1 + 2 * length (record_at b x.from.0).edges)
+      → (a : Arena) (c : Case t a) → length t ≡ a.width → IsStage c b f → IsCopyOf c x → new ≤ old + copy_cost a.now x
+  copy_steps x k old new number off le a c wide stage is = let same = ap (λ es. length es) (source_edges t a wide c f b stage x is k number off) in omega (arith, le, same)
 
   module _ (d : Tree ℕ) where
     pub one_copied : (x : Copying) (k : ℕ) → f x.mask ≡ Some k → x.from.0 ≢ k → map.get d k ≡ option_map (with_edges (record_at b x.from.0).edges) (map.get b k) → ((q : ℕ) → q ≢ k → map.get d q ≡ map.get b q) → HaveCopied t f (x ∷ []) b d

@@ -145,6 +145,9 @@ module _ (t : Cell ℕ) (a : Arena) (wide : length t ≡ a.width) (c : Case t a)
               let told = (stage.below x.from.0 o.0 o.1 (ap (λ p. leq nat_eq p t) o.2 ∙ l)).1 in
               absurd (off (some_same (sym told ∙ ap f (ap mask (o.2 ∙ same) ∙ is.dims) ∙ number)))
 
+      pub source_edges : x.from.0 ≢ k → (record_at b x.from.0).edges ≡ (record_at a.now x.from.0).edges
+      source_edges off = let r = source off in ap (λ (y : Known). y.edges) (record_known b x.from.0 r.0 r.3) ∙ ap (λ (y : Known). y.edges) (sym (record_known a.now x.from.0 r.0 r.1))
+
       pub copied : (d : Tree ℕ) → x.from.0 ≢ k → map.get d k ≡ option_map (with_edges (record_at b x.from.0).edges) (map.get b k) → ((q : ℕ) → q ≢ k → map.get d q ≡ map.get b q)
           → IsStage c d f × LabelsStay b d × IsCopied c d f x
       copied d off here others =

@@ -1,10 +1,9 @@
 -- What a repair costs, in steps.
-use Rattle.std.specs.Prelude.{ℕ, ◌+◌, ◌*◌, List, ◌∷◌, ◌++◌, filter, length, if◌then◌else◌}
+use Rattle.std.specs.Prelude.{ℕ, Option, None, Some, ◌+◌, ◌*◌, List, ◌∷◌, ◌++◌, filter, length, if◌then◌else◌}
 use Rattle.std.specs.List.{sum_by}
 use Rattle.std.specs.Ordering.{nat_cmp, eq_by_cmp}
 use Rattle.cube_defs.specs.Cell.{Cell, cell_eq, keep, leq}
-use Rattle.cube_defs.specs.Tree.{Tree, node_of, nodes}
-use Rattle.tree_laws.proofs.Sums.{or_nothing}
+use Rattle.cube_defs.specs.Tree.{Node, Tree, node_of, nodes}
 use Rattle.qc_arena.specs.Map.{Arena}
 use Rattle.qc_arena.specs.Seen.{record_at}
 use Rattle.batch_insert.specs.declared.plan.Copying.{Copying}
@@ -19,10 +18,15 @@ copy_cost tree x = 1 + 2 * length (record_at tree x.from.0).edges
 abbrev pub cost_of : Tree ℕ → Plan → ℕ
 cost_of tree p = length p.spots.items + (sum_by (copy_cost tree) p.copies.items + (length p.owns.items + 2 * length p.ends.items))
 
+-- how many edges a record has, if there is one
+abbrev pub edges_of : Option (Node ℕ (Cell ℕ)) → ℕ
+edges_of None = 0
+edges_of (Some n) = length n.edges
+
 module _ {t : Cell ℕ} {a : Arena} (c : Case t a) where
   -- how many edges a node has with the row
   abbrev pub edges_at : Cell ℕ → ℕ
-  edges_at p = or_nothing (λ n. length n.edges) (node_of nat_cmp 0 (c.xs ++ c.row ∷ c.ys) p)
+  edges_at p = edges_of (node_of nat_cmp 0 (c.xs ++ c.row ∷ c.ys) p)
 
   -- what a node below t costs: its own plan and writes, without those of its children
   abbrev pub weight : Cell ℕ → ℕ
