@@ -129,11 +129,13 @@ module _ (t : Cell ℕ) (a : Arena) (wide : length t ≡ a.width) (c : Case t a)
       has : (r : Known) → finmap.get a.now x.from.0 ≡ Some r → r.cell ≡ keep is.dim is.upper → (y : Edge ℕ ℕ) → Among y r.edges → (z : Edge ℕ (Cell ℕ)) × Among z new × (y.dim ≡ z.dim) × (y.value ≡ z.value)
       has r g cell y m =
           let l = source_label t a wide c is.node is.upper is.dim is.front is.closure x.from.0 r g cell y m in
-          let to : (q : Cell ℕ) × (new_lead c is.node y.dim y.value ≡ Some q) = elim (led_or_own t a wide c is.node y.dim y.value l.1 l.0) [ inl e ↦ (l.2, e ∙ l.4) | inr e ↦ (_, led_own t a wide c is.node y.dim y.value l.1 l.0 e) ] in
-          (record { dim = y.dim; value = y.value; target = to.0 },
-          (edges-are nat_cmp_total finmap.nat_cmp-IsAntisymmetric 0 (c.xs ++ c.row ∷ c.ys) is.node (new_closure c is.node) (new_is t a wide c is.node front) front (record { dim = y.dim; value = y.value; target = to.0 })).1
-          (record { place = record { behind = front_deep t a wide c is.node y.dim l.1; before = next_front t a wide c is.node front y.dim l.0 l.1; within = omega (arith, l.0, front_long t a wide c is.node y.dim l.1) }; leads = to.1 }),
-          refl, refl)
+          let to : (q : Cell ℕ) × (new_lead c is.node y.dim y.value ≡ Some q) = elim (led_or_own t a wide c is.node y.dim y.value l.1 l.0) [ inl e ↦ (l.2, e ∙ l.4) | inr e ↦ (_, led_own t a wide c is.node y.dim y.value l.1 l.0 e) ] in (
+            record { dim = y.dim; value = y.value; target = to.0 },
+            (edges-are nat_cmp_total finmap.nat_cmp-IsAntisymmetric 0 (c.xs ++ c.row ∷ c.ys) is.node (new_closure c is.node) (new_is t a wide c is.node front) front (record { dim = y.dim; value = y.value; target = to.0 })).1
+                (record { place = record { behind = front_deep t a wide c is.node y.dim l.1; before = next_front t a wide c is.node front y.dim l.0 l.1; within = omega (arith, l.0, front_long t a wide c is.node y.dim l.1) }; leads = to.1 }),
+            refl,
+            refl,
+          )
 
   -- the nodes and edges below the tuple
   abbrev table : List (defs.Row ℕ)
