@@ -60,7 +60,7 @@ fields-are layout (Ok fields) make q made m = let same : make fields ≡ q = cc 
 
 -- an iceberg of a measure that is there
 module _ (layout : Layout) where
-  IsMade : answers.AggKind → Type 0
+  abbrev IsMade : answers.AggKind → Type 0
   IsMade kind = IsMeasured (length layout.measures) kind
 
   value-is : (kind : answers.AggKind) (bound : answers.Bound) (k : ℕ) (words : List Text) (q : Question) → IsMade kind → value_at kind bound k words ≡ Ok q → IsQuestion layout q

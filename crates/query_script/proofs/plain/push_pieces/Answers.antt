@@ -1,4 +1,6 @@
-use Rattle.std.proofs.Common.{rules, ◌∙◌, ◌≡◌, ◌∷◌, ◌++◌, [], List, sym, ap, Some, None}
+use Rattle.std.proofs.Common.{rules, arith, length, refl, ◌∙◌, ◌≡◌, ◌∷◌, ◌++◌, [], List, sym, ap, Some, None}
+use Rattle.std.proofs.lemmas.List.{length-append}
+use Rattle.std.proofs.lemmas.Str.Pattern.{split_parts}
 use Rattle.std.proofs.lemmas.Result.{IfErr-weaker, on_ok_weaker, err_from_is_err_and}
 use Rattle.cube_defs.specs.Text.{Text}
 use Rattle.query_script.specs.Fields.{field_of}
@@ -10,12 +12,14 @@ use Rattle.query_script.proofs.plain.push_pieces.Goals as goal
 pub pieces-preserved : goal.pieces-preserved
 pieces-preserved c =
     let cut : pieces c.pieces.left.now ≡ c.in-Some.piece.now ∷ pieces c.in-Some.behind.now = split-cut 44 c.pieces.left.now (Some (c.in-Some.piece, c.in-Some.behind)) c.in-Some.ensures.cases (omega arith) in
+    let parts = split_parts 44 c.pieces.left.now (Some (c.in-Some.piece, c.in-Some.behind)) c.in-Some.ensures.cases (omega arith) in
     record {
       asked = λ more.
           c.in_ok-push_field.ensures.ok (pieces c.in-Some.behind.now ++ more)
           ∙ ap (λ (all : List Text). asked_after (field_of c.args.shape) c.args.dims c.pieces.fields (all ++ more)) (sym cut)
           ∙ c.pieces.invariant.asked more;
       few = c.in_ok-push_field.ensures.few;
+      size = omega (arith, ap length parts.0, length-append c.in-Some.piece.now (44 ∷ c.in-Some.behind.now), c.pieces.invariant.size);
       text = search rules;
     }
 
@@ -34,3 +38,8 @@ pub returns-clause-err : goal.returns-clause-err
 returns-clause-err c =
     let cut : pieces c.pieces.left.now ≡ c.pieces.left.now ∷ [] = split-cut 44 c.pieces.left.now None c.in_default.ensures.cases (omega arith) in
     IfErr-weaker c.push_field-2.result _ _ (λ e fails more. rw (← (c.pieces.invariant.asked more), cut) (fails more)) c.push_field-2.ensures.err
+
+pub push_field-requires-clause-size : goal.push_field-requires-clause-size
+push_field-requires-clause-size c =
+    let parts = split_parts 44 c.pieces.left.now (Some (c.in-Some.piece, c.in-Some.behind)) c.in-Some.ensures.cases (omega arith) in
+    omega (arith, ap length parts.0, length-append c.in-Some.piece.now (44 ∷ c.in-Some.behind.now), c.pieces.invariant.size)

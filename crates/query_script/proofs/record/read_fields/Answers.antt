@@ -4,7 +4,8 @@ use Rattle.std.proofs.lemmas.List.Elements.{All-head, All-rest, All-same}
 use Rattle.std.proofs.lemmas.Result.{err_from_is_err_and}
 use Rattle.csv.specs.Records.{fields_of}
 use Rattle.text_lines.specs.Lines.{begins_with_mark}
-use Rattle.query_script.proofs.Asked.{point-asks, rows-text}
+use Rattle.text_lines.specs.Records.{bytes_in_all}
+use Rattle.query_script.proofs.Asked.{record-asks, rows-text}
 use Rattle.query_script.proofs.record.read_fields.Goals as goal
 
 pub records-init : goal.records-init
@@ -14,6 +15,7 @@ records-init c =
       asked = rw c.new-fields.ensures refl;
       few = omega (arith, ap length c.new-fields.ensures);
       text = rows-text c.args.rest.now c.as_bytes-text.result.now c.new-rows.result c.utf8.rest c.as_bytes-text.ensures.value c.new-rows.ensures.records;
+      size = omega (arith, c.new-rows.ensures.size, ap length c.as_bytes-text.ensures.value, c.requires);
     }
 
 pub push_fields-requires-clause-text : goal.push_fields-requires-clause-text
@@ -28,6 +30,7 @@ records-preserved c =
       asked = c.in_ok-push_fields.ensures.ok (flat_map (λ fields. fields) c.next.new.self) ∙ rw left at c.records.invariant.asked;
       few = c.in_ok-push_fields.ensures.few;
       text = All-rest (All IsUtf8) (fields_of c.next.new.row) c.next.new.self c.records.rows left c.records.invariant.text;
+      size = omega (arith, ap bytes_in_all left, c.records.invariant.size);
     }
 
 pub returns-in_err-push_fields : goal.returns-in_err-push_fields
@@ -49,3 +52,8 @@ returns c =
     let so_far = rw (none.0, c.dims-dims.ensures.count) at c.records.invariant.asked in
     let whole = record-asks c.args.shape dims c.args.rest.now c.as_bytes-text.result.now c.new-rows.result c.as_bytes-text.ensures.value mark c.new-rows.ensures.records ∙ sym so_far in
     rw whole (rw c.dims-dims.ensures.count at c.check_count.ensures)
+
+pub push_fields-requires-clause-size : goal.push_fields-requires-clause-size
+push_fields-requires-clause-size c =
+    let left : c.records.rows ≡ fields_of c.next.new.row ∷ c.next.new.self = rw c.if-branch.true at c.in_ok-next.ensures.next in
+    omega (arith, ap bytes_in_all left, c.records.invariant.size)
