@@ -1,11 +1,11 @@
 -- The trees of rows that come one by one.
-use Rattle.std.proofs.Common.{◌≡◌, ℕ, ℤ, suc, ◌+◌, ◌<◌, ◌≤◌, true, All, Option, Some, None, List, [], ◌∷◌, ◌++◌, is_some, length, append-nil, length-append, nat_cmp, refl, sym, ap, ap₂, subst, ◌∙◌, arith, true≢false}
+use Rattle.std.proofs.Common.{◌≡◌, ℕ, ℤ, suc, ◌+◌, ◌<◌, true, All, Some, None, List, [], ◌∷◌, ◌++◌, is_some, length, append-nil, length-append, nat_cmp, refl, sym, ap, subst, ◌∙◌, arith, true≢false}
 use Rattle.std.specs.FinMap as map
 use Rattle.std.specs.Option.{option_map}
 use Rattle.cube_defs.specs.Cell.{Cell, cell_of}
 use Rattle.cube_defs.specs.Rows.{Row}
-use Rattle.cube_defs.specs.Tree.{IsCanonical, Node, Tree, cell_at}
-use Rattle.tree_search.specs.Found.{IsFrom, Source}
+use Rattle.cube_defs.specs.Tree.{Node, cell_at}
+use Rattle.tree_search.specs.Found.{IsFrom}
 use Rattle.qc_arena.specs.Map.{Arena, no_nodes}
 use Rattle.batch_insert.specs.Planned.{IsSource}
 use Rattle.batch_insert.specs.RowComes.{ForRow}
