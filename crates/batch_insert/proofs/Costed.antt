@@ -1,19 +1,18 @@
 -- The steps of a plan and of its writes, part by part.
-use Rattle.std.proofs.Common.{◌≡◌, inl, inr, ℕ, zero, suc, ◌+◌, ◌*◌, ◌^◌, ◌<◌, ◌≤◌, List, [], ◌∷◌, ◌++◌, length, nat_cmp, take, get_or, refl, sym, ap, subst, ◌∙◌, arith, length-append}
+use Rattle.std.proofs.Common.{◌≡◌, inl, inr, ℕ, zero, suc, ◌+◌, ◌*◌, ◌^◌, ◌<◌, ◌≤◌, List, [], ◌∷◌, ◌++◌, length, take, get_or, refl, ap, subst, ◌∙◌, arith, length-append}
 use Rattle.std.proofs.lemmas.List.Sums.{sum_by-append, sum_by-cons}
 use Rattle.std.proofs.Math.Nat.{add-mul, mul-le-mul_right, one-le-pow}
 use Rattle.std.specs.List.{sum_by}
 use Rattle.cube_defs.specs.Cell.{Cell, depth, mask}
-use Rattle.cube_defs.specs.Tree.{Tree, above, size_below}
+use Rattle.cube_defs.specs.Tree.{Tree}
 use Rattle.cube_laws.specs.Lists.{Among}
 use Rattle.qc_arena.specs.Map.{Arena}
 use Rattle.batch_insert.specs.declared.plan.Spot.{Spot}
 use Rattle.batch_insert.specs.declared.plan.Copying.{Copying}
 use Rattle.batch_insert.specs.declared.plan.Own.{Own}
 use Rattle.batch_insert.specs.declared.plan.End.{End}
-use Rattle.batch_insert.specs.declared.plan.Plan.{Plan}
 use Rattle.batch_insert.specs.Cases.{Case, IsFront}
-use Rattle.batch_insert.specs.Costs.{copy_cost, cost_of, edges_at}
+use Rattle.batch_insert.specs.Costs.{copy_cost, edges_at}
 use Rattle.batch_insert.specs.Whole.{IsCopyOf}
 use Rattle.batch_insert.proofs.Coming.{front_told}
 use Rattle.batch_insert.proofs.Costing.{copy_within}

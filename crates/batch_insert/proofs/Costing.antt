@@ -1,5 +1,5 @@
 -- A repair costs no more than the nodes and edges below the tuple allow.
-use Rattle.std.proofs.Common.{◌≡◌, ◌⊎◌, inl, inr, ℕ, zero, suc, ◌+◌, ◌*◌, ◌^◌, ◌<◌, ◌≤◌, Bool, true, false, cond, Option, Some, None, List, [], ◌∷◌, ◌++◌, filter, map, sum, length, nat_cmp, nat_eq, replicate, refl, sym, ap, ap₂, subst, ◌∙◌, arith, true≢false}
+use Rattle.std.proofs.Common.{◌≡◌, inl, inr, ℕ, suc, ◌+◌, ◌*◌, ◌^◌, ◌<◌, ◌≤◌, Bool, true, false, cond, Option, Some, None, List, [], ◌∷◌, ◌++◌, filter, map, sum, length, nat_cmp, refl, sym, ap, ap₂, subst, ◌∙◌, arith, true≢false}
 use Rattle.std.proofs.lemmas.Bool.{cond-true, cond-false}
 use Rattle.std.proofs.lemmas.List.Sums.{sum_by-cons}
 use Rattle.std.specs.List.{cons_option, filter_map, sum_by}
@@ -10,12 +10,12 @@ use Rattle.std.specs.Option.{option_map}
 use Rattle.std.specs.FinMap as finmap
 use Rattle.cube_defs.specs.Cell.{Cell, cell_eq, cell_of, depth, keep, leq, with_value}
 use Rattle.cube_defs.specs.Rows as defs
-use Rattle.cube_defs.specs.Tree.{Edge, Node, cell_at, next_value, node_of, nodes, size_below}
+use Rattle.cube_defs.specs.Tree.{Edge, Node, node_of, nodes, size_below}
 use Rattle.cube_laws.specs.Lists.{Among}
 use Rattle.cube_laws.proofs.Cells.{cell_eq-exact, cell_eq-same}
-use Rattle.cube_laws.proofs.Lists.{among_filter, among_map, filter_among, map_among}
+use Rattle.cube_laws.proofs.Lists.{among_filter, among_map, map_among}
 use Rattle.cube_laws.proofs.Nodes.{is_node-is, nodes-is}
-use Rattle.tree_laws.specs.Labels.{lead, record_of}
+use Rattle.tree_laws.specs.Labels.{record_of}
 use Rattle.tree_laws.proofs.Edges.{edges-are}
 use Rattle.tree_laws.proofs.Fronts.{depth-with_value, keep-beyond, keep-keep}
 use Rattle.tree_laws.proofs.Lists.{some_same}

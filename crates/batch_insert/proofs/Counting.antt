@@ -1,13 +1,12 @@
 -- Where a node with the row is still to come, there are more nodes than are there.
-use Rattle.std.proofs.Common.{◌≡◌, ◌≢◌, ◌⊎◌, inl, inr, ℕ, suc, ◌<◌, ◌≤◌, true, Option, Some, None, List, [], ◌∷◌, ◌++◌, map, length, nat_cmp, nat_eq, replicate, refl, sym, ap, subst, ◌∙◌, arith}
+use Rattle.std.proofs.Common.{◌≡◌, ◌≢◌, inl, inr, ℕ, suc, ◌<◌, ◌≤◌, true, Option, Some, None, List, ◌∷◌, ◌++◌, map, length, nat_cmp, replicate, refl, sym, ap, subst, ◌∙◌, arith}
 use Rattle.std.specs.List.{AllByRecursion, sum_by}
 use Rattle.std.specs.Cmp.{nat_cmp_total}
 use Rattle.std.specs.Ordering.{eq_by_cmp}
-use Rattle.std.specs.Option.{option_map}
 use Rattle.std.specs.FinMap as numbers
-use Rattle.cube_defs.specs.Cell.{Cell, cell_of, depth, mask}
+use Rattle.cube_defs.specs.Cell.{Cell, depth, mask}
 use Rattle.cube_defs.specs.Rows.{Row, is_node}
-use Rattle.cube_defs.specs.Tree.{Node, Tree, cell_at, covered, nodes}
+use Rattle.cube_defs.specs.Tree.{Tree, cell_at, nodes}
 use Rattle.cube_laws.specs.Lists.{Among}
 use Rattle.cube_laws.proofs.Cells.{length-cell_of}
 use Rattle.cube_laws.proofs.Lists.{among_map}
@@ -16,13 +15,12 @@ use Rattle.cube_laws.proofs.OneRow.{node-insert}
 use Rattle.tree_laws.proofs.Counted.{nodes_counted}
 use Rattle.tree_laws.proofs.Entries.{entries_once, entry_get}
 use Rattle.tree_laws.proofs.Lists.{some_same}
-use Rattle.tree_laws.proofs.Sums.{EachOnce, covered_once, length-map, once_filter, sum_ones, sum_within}
+use Rattle.tree_laws.proofs.Sums.{length-map, sum_ones, sum_within}
 use Rattle.qc_arena.specs.Map.{Arena, Known}
 use Rattle.batch_insert.specs.declared.plan.Spot.{Spot}
 use Rattle.batch_insert.specs.Begun.{IsBegun}
 use Rattle.batch_insert.specs.Cases.{Case, IsFront, new_nodes}
 use Rattle.batch_insert.specs.Whole.{IsNumberOf, IsSpotOf}
-use Rattle.batch_insert.proofs.Coming.{front_told}
 use Rattle.batch_insert.proofs.Each.{flat_front, not_begun}
 use Rattle.batch_insert.proofs.Finished.{all_more}
 use Rattle.batch_insert.proofs.Fronts.{codes}

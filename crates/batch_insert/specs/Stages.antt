@@ -3,7 +3,7 @@ use Rattle.std.specs.Prelude.{◌≡◌, ◌⊎◌, ℕ, ℤ, true, false, ◌<�
 use Rattle.std.specs.Ordering.{nat_cmp, eq_by_cmp}
 use Rattle.std.specs.Option.{option_map}
 use Rattle.std.specs.FinMap as map
-use Rattle.cube_defs.specs.Cell.{Cell, cell_of, depth, leq, mask, with_value}
+use Rattle.cube_defs.specs.Cell.{Cell, depth, leq, mask, with_value}
 use Rattle.cube_defs.specs.Rows as defs
 use Rattle.cube_defs.specs.Tree.{Edge, Tree, cell_at, cut_last}
 use Rattle.cube_laws.specs.Lists.{Among}
@@ -11,7 +11,6 @@ use Rattle.qc_arena.specs.Edges.{rises}
 use Rattle.qc_arena.specs.Map.{Arena, Known}
 use Rattle.qc_arena.specs.Seen.{record_at}
 use Rattle.tree_laws.specs.Labels.{lead}
-use Rattle.tree_search.specs.Found.{IsFrom}
 use Rattle.batch_insert.specs.declared.plan.Copying.{Copying}
 use Rattle.batch_insert.specs.declared.plan.Own.{Own}
 use Rattle.batch_insert.specs.declared.plan.End.{End}
