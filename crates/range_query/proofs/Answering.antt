@@ -2,8 +2,7 @@
 use Rattle.std.proofs.Common.{◌≡◌, ◌≢◌, ℕ, zero, suc, ◌+◌, ◌*◌, ◌<◌, ◌≤◌, Bool, true, Option, Some, None, List, [], ◌∷◌, ◌++◌, length, map, filter, replicate, drop, refl, sym, ap, ap₂, subst, ◌∙◌, arith}
 use Rattle.std.specs.Prelude.{IsSome, is_some}
 use Rattle.std.specs.Cmp.{nat_cmp_total}
-use Rattle.std.specs.Cmp.Lexicographic.{lists_total}
-use Rattle.std.specs.FinMap.{nat_cmp-IsAntisymmetric, slice_cmp-IsAntisymmetric}
+use Rattle.std.specs.FinMap.{nat_cmp-IsAntisymmetric}
 use Rattle.std.specs.List.{All, AllByRecursion, IsDistinct}
 use Rattle.std.specs.Ordering.{nat_cmp, eq_by_cmp}
 use Rattle.std.specs.Str.{bytes_eq}
@@ -15,16 +14,17 @@ use Rattle.cube_defs.specs.Cell.{Cell, depth, keep, one_deeper}
 use Rattle.cube_defs.specs.Rows.{Row, Agg, agg, amounts_of, closure, cov, is_node, part_of}
 use Rattle.cube_defs.specs.Tree.{Tree, cell_at, covered}
 use Rattle.cube_defs.specs.Answers as answers
-use Rattle.cube_laws.specs.Recoding.{AreKnown, BoxIsKnown, RowsAreKnown, TellsApart, coded, coded_box, coded_row, coded_tuple}
-use Rattle.cube_laws.proofs.Cells.{IsEquality, keep_zero}
+use Rattle.cube_laws.specs.Recoding.{AreKnown, BoxIsKnown, RowsAreKnown, TellsApart, coded, coded_box}
+use Rattle.cube_laws.proofs.Cells.{keep_zero}
 use Rattle.cube_laws.proofs.Covered.{closure_length}
 use Rattle.cube_laws.proofs.Nodes.{is_node-is}
-use Rattle.cube_laws.proofs.Orders.{equality_by}
+use Rattle.cube_laws.proofs.RecodedRows.{agg-coded}
 use Rattle.tree_search.specs.Found.{IsFrom, Source}
 use Rattle.tree_search.proofs.Walked.{cell_of, there, there_is}
 use Rattle.qc_arena.specs.Seen.{record_at}
 use Rattle.tree_laws.specs.Walk.{front}
 use Rattle.tree_laws.proofs.Fronts.{keep-beyond}
+use Rattle.tree_laws.proofs.LowersRecoded.{wide-coded}
 use Rattle.tree_laws.proofs.Walks.{no_root}
 use Rattle.value_dict.specs.Boxes.{IsOrdered, told_box}
 use Rattle.value_dict.specs.Recoded.{has_code, text_in, told_rows}
@@ -37,16 +37,12 @@ use Rattle.range_query.specs.Work.{work}
 use Rattle.range_query.specs.Told.{IsTold, hit_at, hit_in, told_hit, told_hits}
 use Rattle.range_query.specs.Walk.{Stands, cost, met}
 use Rattle.range_query.proofs.Costs.{cells_within, work_is}
-use Rattle.range_query.proofs.Lists.{length-map}
+use Rattle.value_dict.proofs.AskedValues.{text_anti, text_total}
+use Rattle.value_dict.proofs.Lists.{length-map}
+use Rattle.value_dict.proofs.Places.{code_equality, text_equality}
 use Rattle.range_query.proofs.Standing.{stands_covered}
 use Rattle.range_query.proofs.MetCells.{met_covered, met_is, met_long, none_is}
-use Rattle.range_query.proofs.Recoded.{agg-coded, cost-coded, is_covered-coded, known-covered, met-coded}
-
-law : IsEquality (eq_by_cmp nat_cmp)
-law = equality_by nat_cmp_total nat_cmp-IsAntisymmetric
-
-text_law : IsEquality (eq_by_cmp text_cmp)
-text_law = equality_by (lists_total nat_cmp_total) (slice_cmp-IsAntisymmetric nat_cmp-IsAntisymmetric)
+use Rattle.range_query.proofs.Recoded.{cost-coded, is_covered-coded, known-covered, met-coded}
 
 module _ {A B : Type 0} (codes : ℕ → A → B) where
   coded-root : (k n : ℕ) → coded codes k (replicate n None) ≡ replicate n None
@@ -56,14 +52,6 @@ module _ {A B : Type 0} (codes : ℕ → A → B) where
   length-coded_box : (k : ℕ) (box : answers.Box A) → length (coded_box codes k box) ≡ length box
   length-coded_box k [] = refl
   length-coded_box k (a ∷ box) = ap suc (length-coded_box (suc k) box)
-
-  length-tuple : (k : ℕ) (t : List A) → length (coded_tuple codes k t) ≡ length t
-  length-tuple k [] = refl
-  length-tuple k (v ∷ t) = ap suc (length-tuple (suc k) t)
-
-  wide-coded : (dims : ℕ) (rows : List (Row A)) → AllByRecursion (λ row. length row.tuple ≡ dims) rows → AllByRecursion (λ row. length row.tuple ≡ dims) (map (coded_row codes) rows)
-  wide-coded dims [] h = tt
-  wide-coded dims (r ∷ rows) h = (length-tuple 0 r.tuple ∙ h.0, wide-coded dims rows h.1)
 
 known-root : {A : Type 0} (known : ℕ → A → Bool) (k n : ℕ) → AreKnown known k (replicate n None)
 known-root known k zero = tt
@@ -105,7 +93,7 @@ module _ (dims : ℕ) (tree : Tree ℕ) where
 
           go : (o : Option (Cell ℕ)) → closure (eq_by_cmp nat_cmp) source.rows (replicate dims None) ≡ o → option_map (keep 0) o ≡ Some (replicate dims None)
           go None q =
-              let bad : None ≡ Some (replicate dims (let e : Option ℕ = None in e)) = sym (ap (option_map (keep (depth (replicate dims (let e : Option ℕ = None in e))))) q) ∙ (is_node-is law source.rows (replicate dims None)).0 node in
+              let bad : None ≡ Some (replicate dims (let e : Option ℕ = None in e)) = sym (ap (option_map (keep (depth (replicate dims (let e : Option ℕ = None in e))))) q) ∙ (is_node-is code_equality source.rows (replicate dims None)).0 node in
               cc
           go (Some u) q = ap (λ c. Some c) (keep_zero u ∙ ap (λ n. replicate n None) (closure_length (eq_by_cmp nat_cmp) dims (replicate dims None) u source.rows h.wide q))
 
@@ -133,14 +121,14 @@ module _ (dims : ℕ) (tree : Tree ℕ) (lists : List (List Text)) (cells : answ
   text_fits = length-coded_box (text_in lists) 0 cells ∙ fits
 
   text_covered : is_covered (eq_by_cmp text_cmp) text_rows (replicate dims None) ≡ is_covered (eq_by_cmp nat_cmp) source.rows root
-  text_covered = ap (is_covered (eq_by_cmp text_cmp) text_rows) (sym (coded-root (text_in lists) 0 dims)) ∙ is_covered-coded law text_law tells source.rows rows_known root root_known
+  text_covered = ap (is_covered (eq_by_cmp text_cmp) text_rows) (sym (coded-root (text_in lists) 0 dims)) ∙ is_covered-coded code_equality text_equality tells source.rows rows_known root root_known
 
   module _ (some : is_covered (eq_by_cmp nat_cmp) source.rows root ≡ true) where
     text_met : map (coded (text_in lists) 0) (met source cells root 0) ≡ filter (answers.in_box (eq_by_cmp text_cmp) text_box) (covered text_cmp text_rows)
     text_met =
-        met-coded law text_law tells source.rows rows_known cells root 0 root_known known
+        met-coded code_equality text_equality tells source.rows rows_known cells root 0 root_known known
         ∙ ap (λ p. cells_met text_box p 0) (coded-root (text_in lists) 0 dims)
-        ∙ met_is (lists_total nat_cmp_total) (slice_cmp-IsAntisymmetric nat_cmp-IsAntisymmetric) text_rows dims text_wide text_box text_fits ordered (text_covered ∙ some)
+        ∙ met_is text_total text_anti text_rows dims text_wide text_box text_fits ordered (text_covered ∙ some)
       where
         cells_met : answers.Box Text → Cell Text → ℕ → List (Cell Text)
         cells_met = walks.met (eq_by_cmp text_cmp) text_rows
@@ -169,7 +157,7 @@ module _ (dims : ℕ) (tree : Tree ℕ) (lists : List (List Text)) (cells : answ
     told_all [] a = refl
     told_all (c ∷ cs) a =
         let same : agg (eq_by_cmp nat_cmp) source.measures source.rows c ≡ agg (eq_by_cmp text_cmp) source.measures text_rows (coded (text_in lists) 0 c)
-        = sym (agg-coded law text_law tells source.rows rows_known source.measures c (known-covered law text_law tells source.rows rows_known c a.0.0)) in
+        = sym (agg-coded code_equality text_equality tells source.rows rows_known source.measures c (known-covered code_equality text_equality tells source.rows rows_known c a.0.0)) in
         first (told_cell lists c) (coded (text_in lists) 0 c) (agg (eq_by_cmp nat_cmp) source.measures source.rows c) (agg (eq_by_cmp text_cmp) source.measures text_rows (coded (text_in lists) 0 c))
         (told-known lists c (within_lists c a.0.1)) same (told_all cs a.1)
       where
@@ -184,7 +172,7 @@ module _ (dims : ℕ) (tree : Tree ℕ) (lists : List (List Text)) (cells : answ
     is_told [] a = tt
     is_told (c ∷ cs) a = (
       record {
-        texts = texts-known lists c (known-covered law text_law tells source.rows rows_known c a.0.0) (within_lists c a.0.1);
+        texts = texts-known lists c (known-covered code_equality text_equality tells source.rows rows_known c a.0.0) (within_lists c a.0.1);
         parts = length-map-range_with_len (λ m. part_of (amounts_of m (cov (eq_by_cmp nat_cmp) source.rows c))) 0 source.measures;
       },
       is_told cs a.1,
@@ -217,13 +205,13 @@ module _ (dims : ℕ) (tree : Tree ℕ) (lists : List (List Text)) (cells : answ
 
     pub range_cost : cost source cells root 0 ≤ work text_cmp text_rows text_box + 2 * length (answers.range text_cmp source.measures text_rows text_box)
     range_cost =
-        let same = cost-coded law text_law tells source.rows rows_known cells root 0 root_known known ∙ ap (λ p. walks.cost (eq_by_cmp text_cmp) text_rows text_box p 0) (coded-root (text_in lists) 0 dims) in
-        let le = work_is (lists_total nat_cmp_total) (slice_cmp-IsAntisymmetric nat_cmp-IsAntisymmetric) text_rows dims text_wide text_box text_fits ordered (text_covered ∙ some) in
+        let same = cost-coded code_equality text_equality tells source.rows rows_known cells root 0 root_known known ∙ ap (λ p. walks.cost (eq_by_cmp text_cmp) text_rows text_box p 0) (coded-root (text_in lists) 0 dims) in
+        let le = work_is text_total text_anti text_rows dims text_wide text_box text_fits ordered (text_covered ∙ some) in
         omega (arith, same, le, range_hits)
 
     pub range_few : length (answers.range text_cmp source.measures text_rows text_box) ≤ 1 + work text_cmp text_rows text_box
     range_few =
-        let le = cells_within (lists_total nat_cmp_total) (slice_cmp-IsAntisymmetric nat_cmp-IsAntisymmetric) text_rows dims text_wide text_box text_fits ordered (text_covered ∙ some) in
+        let le = cells_within text_total text_anti text_rows dims text_wide text_box text_fits ordered (text_covered ∙ some) in
         omega (arith, le, range_hits)
 
   -- without a root there are no hits
@@ -231,7 +219,7 @@ module _ (dims : ℕ) (tree : Tree ℕ) (lists : List (List Text)) (cells : answ
   range_none none =
       let gone : closure (eq_by_cmp nat_cmp) source.rows root ≡ None = no_root nat_cmp_total nat_cmp-IsAntisymmetric dims source.measures source.rows h.wide tree h.canonical root (root_long dims) none in
       sym (ap (map (λ c. record { cell = c; agg = agg (eq_by_cmp text_cmp) source.measures text_rows c }))
-      (none_is (lists_total nat_cmp_total) (slice_cmp-IsAntisymmetric nat_cmp-IsAntisymmetric) text_rows dims text_wide text_box text_fits (text_covered ∙ ap is_some gone)))
+      (none_is text_total text_anti text_rows dims text_wide text_box text_fits (text_covered ∙ ap is_some gone)))
 
   pub root_covered : (node : ℕ) → Stands dims tree node root 0 → is_covered (eq_by_cmp nat_cmp) source.rows root ≡ true
   root_covered node s = stands_covered dims tree node root 0 s source h

@@ -6,13 +6,12 @@ use Rattle.std.specs.Option.{option_map}
 use Rattle.std.proofs.lemmas.List.{map-append}
 use Rattle.std.proofs.lemmas.List.Sums.{sum_by-cons}
 use Rattle.cube_defs.specs.Cell.{Cell, with_value}
-use Rattle.cube_defs.specs.Rows.{Row, agg, agg_of, closure, cov}
+use Rattle.cube_defs.specs.Rows.{Row, closure}
 use Rattle.cube_defs.specs.Answers.{Box}
 use Rattle.cube_laws.specs.Recoding.{AreKnown, BoxIsKnown, RowsAreKnown, TellsApart, coded, coded_box, coded_row}
 use Rattle.cube_laws.proofs.Cells.{IsEquality}
 use Rattle.cube_laws.proofs.Recoded.{closure-coded}
 use Rattle.cube_laws.proofs.RecodedLists.{known-closed}
-use Rattle.cube_laws.proofs.RecodedRows.{agg_of-coded, cov-coded}
 use Rattle.tree_laws.proofs.Recoded.{with_value-coded}
 use Rattle.range_query.specs.Met.{cost, if_covered, is_covered, met}
 
@@ -91,6 +90,3 @@ module _ {A B : Type 0} {eq : A → A → Bool} {eq' : B → B → Bool} (law : 
       go : (o : Option (Cell A)) → closure eq rows c ≡ o → is_some o ≡ true → AreKnown known 0 c
       go None q e = absurd (true≢false (sym e))
       go (Some u) q e = known-closed law known rows c u h q
-
-  pub agg-coded : (measures : ℕ) (c : Cell A) → AreKnown known 0 c → agg eq' measures (map (coded_row codes) rows) (coded codes 0 c) ≡ agg eq measures rows c
-  agg-coded measures c k = ap (agg_of measures) (cov-coded law law' tells rows c h k) ∙ agg_of-coded codes measures (cov eq rows c)

@@ -173,7 +173,8 @@ fn enter<T: Nodes, L: Ledger>(
     requires forced { option_map edge_of forced ≡ (record_at (T.tree tree.now) node.0).forced }
     requires few { length hits.old.items ≤ limit }
     ensures hits { (source : Source) → IsFrom (T.width tree.now) (T.tree tree.now) source →
-        OnOk result (map hit_in hits.new.items ≡ map hit_in hits.old.items ++ map (hit_at source) (entered source (drop (dim + 1) cells.now) cell.old dim (Some code))) }
+        OnOk result (map hit_in hits.new.items
+        ≡ map hit_in hits.old.items ++ map (hit_at source) (entered source (drop (dim + 1) cells.now) cell.old dim (Some code))) }
     ensures few { OnOk result (length hits.new.items ≤ limit) }
     ensures too_many { result ≡ Err RangeRefused.TooMany → (source : Source) → IsFrom (T.width tree.now) (T.tree tree.now) source →
         limit < length hits.old.items + length (entered source (drop (dim + 1) cells.now) cell.old dim (Some code)) }
