@@ -13,7 +13,7 @@ use Rattle.cube_laws.specs.Lists.{Among}
 use Rattle.cube_laws.proofs.Shared.{shared_some}
 use Rattle.build_trace.specs.Trace.{Act, Act.{Add, Label, Mark}, trace, adds_of}
 use Rattle.build_trace.specs.Follows.{Look, Follows, cell_by}
-use Rattle.qc_arena.specs.Map.{Arena, Known, bare, is_touched, with_class}
+use Rattle.qc_arena.specs.Map.{Arena, Known, bare, frame, is_open, is_touched, with_class}
 use Rattle.qc_arena.specs.Seen.{record_at, record_or}
 use Rattle.qc_arena.specs.Edges.{put_edge}
 use Rattle.build_acts.specs.Going.{Going, IsNext, Does}
@@ -31,8 +31,7 @@ some_same h = cc
 pub record OneNew (a b : Arena) (k : ℕ) (n : Known) : Type 0 where
   pub here : map.get b.now k ≡ Some n
   pub others : (q : ℕ) → q ≢ k → map.get b.now q ≡ map.get a.now q
-  pub opened : b.is_open ≡ true
-  pub width : b.width ≡ a.width
+  pub rest : frame b ≡ frame a
 
 put_of : (a b : Arena) (k : ℕ) (n : Known) → OneNew a b k n → IsPut (λ q. map.get a.now q) k n (λ q. map.get b.now q)
 put_of a b k n o = put_at a.now b.now k n o.here o.others
@@ -57,10 +56,10 @@ module _ (measures : ℕ) (rows : List (Row ℕ)) (done rest : List Act) (a b : 
       let shared = shared_some rows g.some in
       let new = add_bare measures a.width rows g.wide shared done rest p g.whole in
       record {
-        wide = subst (λ w. AllByRecursion (λ row. length row.tuple ≡ w) rows) (sym o.width) g.wide;
+        wide = subst (λ w. AllByRecursion (λ row. length row.tuple ≡ w) rows) (sym (ap (λ (v : Arena). v.width) o.rest)) g.wide;
         some = g.some;
-        whole = ap (λ w. trace measures w rows) o.width ∙ g.whole ∙ sym (append_assoc done (Add p ∷ []) rest);
-        opened = o.opened;
+        whole = ap (λ (v : Arena). trace measures v.width rows) o.rest ∙ g.whole ∙ sym (append_assoc done (Add p ∷ []) rest);
+        opened = ap is_open o.rest ∙ g.opened;
         follows = follow_add done p up (λ q. map.get a.now q) (λ q. map.get b.now q) k g.follows free put (add_fresh measures a.width rows g.wide shared done rest p g.whole) new.0 new.1 parent;
         count = len_more a.now b.now k (bare p up) put free ∙ ap suc g.count ∙ sym (more_adds (adds_of done) p) ∙ ap length (sym (adds_append done (Add p ∷ [])));
         touched = λ q h. elim (eqb_tells k q) [
@@ -73,10 +72,10 @@ module _ (measures : ℕ) (rows : List (Row ℕ)) (done rest : List Act) (a b : 
   going_change : (e : Act) (k : ℕ) (m n : Known) → Going measures rows done (e ∷ rest) a → map.get a.now k ≡ Some m → OneNew a b k n → ((q : ℕ) → is_touched b q ≡ is_touched a q) → adds_of (e ∷ []) ≡ []
       → Follows (done ++ e ∷ []) (λ q. map.get b.now q) → Going measures rows (done ++ e ∷ []) rest b
   going_change e k m n g was o touched none follows = record {
-    wide = subst (λ w. AllByRecursion (λ row. length row.tuple ≡ w) rows) (sym o.width) g.wide;
+    wide = subst (λ w. AllByRecursion (λ row. length row.tuple ≡ w) rows) (sym (ap (λ (v : Arena). v.width) o.rest)) g.wide;
     some = g.some;
-    whole = ap (λ w. trace measures w rows) o.width ∙ g.whole ∙ sym (append_assoc done (e ∷ []) rest);
-    opened = o.opened;
+    whole = ap (λ (v : Arena). trace measures v.width rows) o.rest ∙ g.whole ∙ sym (append_assoc done (e ∷ []) rest);
+    opened = ap is_open o.rest ∙ g.opened;
     follows = follows;
     count = len_same a.now b.now k n m (put_of a b k n o) was ∙ g.count ∙ sym (ap length (adds_append done (e ∷ []) ∙ ap (λ xs. adds_of done ++ xs) none ∙ append-nil (adds_of done)));
     touched = λ q h. touched q ∙ elim (eqb_tells q k) [
@@ -173,10 +172,10 @@ some_there (Some x) h = (x, refl)
 
 -- a root that was added
 pub root_made : {E : Type 0} (r : Result NodeNo E) (a b : Arena) → IfOk r (λ k. map.get a.now k.0 ≡ None) → IfOk r (λ k. map.get b.now k.0 ≡ Some (bare (replicate a.width None) None)) → IfOk r (λ k. (q : ℕ) → q ≢ k.0 → map.get b.now q ≡ map.get a.now q)
-    → IfOk r (λ k. (q : ℕ) → is_touched b q ≡ (nat_eq k.0 q || is_touched a q)) → b.is_open ≡ true → b.width ≡ a.width
+    → IfOk r (λ k. (q : ℕ) → is_touched b q ≡ (nat_eq k.0 q || is_touched a q)) → frame b ≡ frame a
     → OnOk r ((measures : ℕ) (rows : List (Row ℕ)) → Does measures rows (Add (replicate a.width None) ∷ []) a b)
-root_made (Ok k) a b free here others touched opened width = λ measures rows. does_root measures rows a b k.0 free (record { here = here; others = others; opened = opened; width = width }) touched
-root_made (Err e) a b free here others touched opened width = tt
+root_made (Ok k) a b free here others touched rest = λ measures rows. does_root measures rows a b k.0 free (record { here = here; others = others; rest = rest }) touched
+root_made (Err e) a b free here others touched rest = tt
 
 -- the cell of a record that is there
 pub cell_of_record : (t : Tree ℕ) (k : ℕ) (f : Cell ℕ) → cell_at t k ≡ Some f → (record_at t k).cell ≡ f

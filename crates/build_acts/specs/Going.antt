@@ -7,14 +7,14 @@ use Rattle.cube_defs.specs.Rows.{Row}
 use Rattle.cube_defs.specs.Tree.{cell_at}
 use Rattle.build_trace.specs.Trace.{Act, trace, adds_of}
 use Rattle.build_trace.specs.Follows.{Follows}
-use Rattle.qc_arena.specs.Map.{Arena, is_touched}
+use Rattle.qc_arena.specs.Map.{Arena, is_open, is_touched}
 
 -- the arena has just what was done, each of its nodes is touched, and what is to come is the rest of the trace of these rows
 pub record Going (measures : ℕ) (rows : List (Row ℕ)) (done rest : List Act) (a : Arena) : Type 0 where
   pub wide : AllByRecursion (λ row. length row.tuple ≡ a.width) rows
   pub some : 0 < length rows
   pub whole : trace measures a.width rows ≡ done ++ rest
-  pub opened : a.is_open ≡ true
+  pub opened : is_open a ≡ true
   pub follows : Follows done (λ k. map.get a.now k)
   pub count : map.len a.now ≡ length (adds_of done)
   pub touched : (k : ℕ) → IsSome (map.get a.now k) → is_touched a k ≡ true

@@ -6,7 +6,7 @@ ghost use Rattle.cube_defs.specs.Cell.{Cell};
 ghost use Rattle.cube_defs.specs.Rows.{Row};
 ghost use Rattle.cube_defs.specs.Tree.{cell_at};
 ghost use Rattle.build_trace.specs.Trace.{Act.{Label}};
-ghost use Rattle.qc_arena.specs.Map.{is_touched, was_at};
+ghost use Rattle.qc_arena.specs.Map.{CanChange, frame};
 ghost use Rattle.build_acts.specs.Going.{Does};
 
 use crate::Memory;
@@ -23,18 +23,13 @@ pub fn set_link<L: Ledger>(
     target: NodeNo,
     steps: &mut Steps<L>,
 ) -> Result<(), Memory>
-    requires opened { arena.old.is_open ≡ true }
-    requires node { IsSome (map.get arena.old.now node.0) }
-    requires touched { is_touched arena.old node.0 ≡ true }
+    requires change { CanChange arena.old node.0 }
     requires target { IsSome (map.get arena.old.now target.0) }
     requires dim { dim < arena.old.width }
     requires code { IsCode code }
     ensures made { OnOk result ((measures : ℕ) (rows : List (Row ℕ)) (f t : Cell ℕ) → cell_at arena.old.now node.0 ≡ Some f → cell_at arena.old.now target.0 ≡ Some t
         → Does measures rows (Label false f dim code t ∷ []) arena.old arena.new) }
-    ensures was { (q : ℕ) → was_at arena.new q ≡ was_at arena.old q }
-    ensures opened { arena.new.is_open ≡ true }
-    ensures width { arena.new.width ≡ arena.old.width }
-    ensures max { arena.new.max ≡ arena.old.max }
+    ensures frame { frame arena.new ≡ frame arena.old }
 {
     put_label(arena, node, dim, code, target, false, steps)
 }
@@ -49,18 +44,13 @@ pub(crate) fn put_label<L: Ledger>(
     is_forced: bool,
     steps: &mut Steps<L>,
 ) -> Result<(), Memory>
-    requires opened { arena.old.is_open ≡ true }
-    requires node { IsSome (map.get arena.old.now node.0) }
-    requires touched { is_touched arena.old node.0 ≡ true }
+    requires change { CanChange arena.old node.0 }
     requires target { IsSome (map.get arena.old.now target.0) }
     requires dim { dim < arena.old.width }
     requires code { IsCode code }
     ensures made { OnOk result ((measures : ℕ) (rows : List (Row ℕ)) (f t : Cell ℕ) → cell_at arena.old.now node.0 ≡ Some f → cell_at arena.old.now target.0 ≡ Some t
         → Does measures rows (Label is_forced f dim code t ∷ []) arena.old arena.new) }
-    ensures was { (q : ℕ) → was_at arena.new q ≡ was_at arena.old q }
-    ensures opened { arena.new.is_open ≡ true }
-    ensures width { arena.new.width ≡ arena.old.width }
-    ensures max { arena.new.max ≡ arena.old.max }
+    ensures frame { frame arena.new ≡ frame arena.old }
 {
     match arena.set_edge(node, dim, code, target, steps) {
         Ok(()) => {}

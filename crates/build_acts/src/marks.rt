@@ -1,12 +1,11 @@
 // Classes are marked.
-ghost use Rattle.std.specs.FinMap as map;
-ghost use Rattle.std.specs.Prelude.{IsSome, List, Some, [], true, ℕ, ◌∷◌, ◌≡◌};
+ghost use Rattle.std.specs.Prelude.{List, Some, [], ℕ, ◌∷◌, ◌≡◌};
 ghost use Rattle.aggregates.specs.Views.{agg_in};
 ghost use Rattle.cube_defs.specs.Cell.{Cell};
 ghost use Rattle.cube_defs.specs.Rows.{Row};
 ghost use Rattle.cube_defs.specs.Tree.{cell_at};
 ghost use Rattle.build_trace.specs.Trace.{Act.{Mark}};
-ghost use Rattle.qc_arena.specs.Map.{is_touched, was_at};
+ghost use Rattle.qc_arena.specs.Map.{CanChange, frame};
 ghost use Rattle.build_acts.specs.Going.{Does};
 
 use aggregates::Agg;
@@ -16,15 +15,10 @@ use std::sync::ledger::Ledger;
 
 /// Marks the class of the node with what its rows come to.
 pub fn mark_class<L: Ledger>(arena: &mut QcArena, node: NodeNo, agg: Agg, steps: &mut Steps<L>)
-    requires opened { arena.old.is_open ≡ true }
-    requires node { IsSome (map.get arena.old.now node.0) }
-    requires touched { is_touched arena.old node.0 ≡ true }
+    requires change { CanChange arena.old node.0 }
     ensures made { (measures : ℕ) (rows : List (Row ℕ)) (w : Cell ℕ) → cell_at arena.old.now node.0 ≡ Some w
         → Does measures rows (Mark w (agg_in agg) ∷ []) arena.old arena.new }
-    ensures was { (q : ℕ) → was_at arena.new q ≡ was_at arena.old q }
-    ensures opened { arena.new.is_open ≡ true }
-    ensures width { arena.new.width ≡ arena.old.width }
-    ensures max { arena.new.max ≡ arena.old.max }
+    ensures frame { frame arena.new ≡ frame arena.old }
 {
     arena.set_class(node, Some(agg), steps);
 }

@@ -1,13 +1,12 @@
 // Nodes are added.
-ghost use Rattle.std.specs.FinMap as map;
 ghost use Rattle.cell_core.specs.Entry.{IsCode};
 ghost use Rattle.std.specs.Ordering.{nat_cmp};
-ghost use Rattle.std.specs.Prelude.{Err, IfOk, IsSome, List, None, OnOk, Some, [], length, replicate, true, ℕ, ◌<◌, ◌∷◌, ◌≡◌, ◌≢◌, ◌≤◌};
+ghost use Rattle.std.specs.Prelude.{Err, IfOk, List, None, OnOk, Some, [], length, replicate, true, ℕ, ◌<◌, ◌∷◌, ◌≡◌, ◌≢◌, ◌≤◌};
 ghost use Rattle.cube_defs.specs.Cell.{Cell, depth, with_value};
 ghost use Rattle.cube_defs.specs.Rows.{Row};
 ghost use Rattle.cube_defs.specs.Tree.{cell_at, nodes};
 ghost use Rattle.build_trace.specs.Trace.{Act.{Add, Label}};
-ghost use Rattle.qc_arena.specs.Map.{is_touched, was_at};
+ghost use Rattle.qc_arena.specs.Map.{CanChange, frame, is_open};
 ghost use Rattle.qc_arena.specs.Seen.{record_at};
 ghost use Rattle.build_acts.specs.Going.{Does, IsNext};
 
@@ -21,16 +20,13 @@ pub fn add_root<L: Ledger>(
     arena: &mut QcArena,
     steps: &mut Steps<L>,
 ) -> Result<NodeNo, ArenaRefused>
-    requires opened { arena.old.is_open ≡ true }
+    requires opened { is_open arena.old ≡ true }
     requires none { (k : ℕ) → cell_at arena.old.now k ≢ Some (replicate arena.old.width None) }
     ensures made { OnOk result ((measures : ℕ) (rows : List (Row ℕ)) → Does measures rows (Add (replicate arena.old.width None) ∷ []) arena.old arena.new) }
     ensures here { IfOk result (λ k. cell_at arena.new.now k.0 ≡ Some (replicate arena.old.width None)) }
     ensures full { result ≡ Err ArenaRefused.Full → (measures : ℕ) (rows : List (Row ℕ)) → IsNext measures rows (Add (replicate arena.old.width None) ∷ []) arena.old
         → arena.old.max < length (nodes nat_cmp rows) }
-    ensures was { (q : ℕ) → was_at arena.new q ≡ was_at arena.old q }
-    ensures opened { arena.new.is_open ≡ true }
-    ensures width { arena.new.width ≡ arena.old.width }
-    ensures max { arena.new.max ≡ arena.old.max }
+    ensures frame { frame arena.new ≡ frame arena.old }
 {
     arena.add_node(None, steps)
 }
@@ -45,9 +41,7 @@ pub fn add_child<L: Ledger>(
     is_forced: bool,
     steps: &mut Steps<L>,
 ) -> Result<NodeNo, ArenaRefused>
-    requires opened { arena.old.is_open ≡ true }
-    requires parent { IsSome (map.get arena.old.now parent.0) }
-    requires touched { is_touched arena.old parent.0 ≡ true }
+    requires change { CanChange arena.old parent.0 }
     requires behind { depth (record_at arena.old.now parent.0).cell ≤ dim }
     requires dim { dim < arena.old.width }
     requires code { IsCode code }
@@ -57,10 +51,7 @@ pub fn add_child<L: Ledger>(
     ensures full { result ≡ Err ArenaRefused.Full → (measures : ℕ) (rows : List (Row ℕ)) (f : Cell ℕ) → cell_at arena.old.now parent.0 ≡ Some f
         → IsNext measures rows (Add (with_value f dim code) ∷ Label is_forced f dim code (with_value f dim code) ∷ []) arena.old
         → arena.old.max < length (nodes nat_cmp rows) }
-    ensures was { (q : ℕ) → was_at arena.new q ≡ was_at arena.old q }
-    ensures opened { arena.new.is_open ≡ true }
-    ensures width { arena.new.width ≡ arena.old.width }
-    ensures max { arena.new.max ≡ arena.old.max }
+    ensures frame { frame arena.new ≡ frame arena.old }
 {
     let child = match arena.add_node(Some((parent, dim, code)), steps) {
         Ok(child) => child,

@@ -2,6 +2,7 @@ ghost use Rattle.std.specs.FinMap as map;
 ghost use Rattle.std.specs.Prelude.{IfSome, IsSome, None, OnSome, Some, replicate, true, ◌<◌, ◌≡◌};
 ghost use Rattle.cell_core.specs.Entry.{IsCode};
 ghost use Rattle.cube_defs.specs.Tree.{cell_at};
+ghost use Rattle.qc_arena.specs.Map.{is_open};
 
 use crate::{add_child, add_root, mark_class, set_link};
 use aggregates::Agg;
@@ -15,7 +16,7 @@ use std::test::Fail;
 // An arena of at most three nodes, with its root.
 fn planted<L: Ledger>(alloc: Global, steps: &mut Steps<L>) -> Option<(QcArena, NodeNo)>
     ensures width { IfSome result (λ p. p.0.width ≡ 3) }
-    ensures opened { IfSome result (λ p. p.0.is_open ≡ true) }
+    ensures opened { IfSome result (λ p. is_open p.0 ≡ true) }
     ensures root { IfSome result (λ p. cell_at p.0.now p.1.0 ≡ Some (replicate 3 None)) }
 {
     let Ok(mut arena) = QcArena::new(alloc, 3, 3) else {
@@ -38,12 +39,12 @@ fn grown<L: Ledger>(
     steps: &mut Steps<L>,
 ) -> Option<NodeNo>
     requires width { arena.old.width ≡ 3 }
-    requires opened { arena.old.is_open ≡ true }
+    requires opened { is_open arena.old ≡ true }
     requires root { cell_at arena.old.now root.0 ≡ Some (replicate 3 None) }
     requires dim { dim < 3 }
     requires code { IsCode code }
     ensures width { arena.new.width ≡ 3 }
-    ensures opened { arena.new.is_open ≡ true }
+    ensures opened { is_open arena.new ≡ true }
     ensures root { OnSome result (cell_at arena.new.now root.0 ≡ Some (replicate 3 None)) }
     ensures child { IfSome result (λ k. IsSome (map.get arena.new.now k.0)) }
 {
@@ -66,13 +67,13 @@ fn linked<L: Ledger>(
     steps: &mut Steps<L>,
 ) -> Option<()>
     requires width { arena.old.width ≡ 3 }
-    requires opened { arena.old.is_open ≡ true }
+    requires opened { is_open arena.old ≡ true }
     requires root { cell_at arena.old.now root.0 ≡ Some (replicate 3 None) }
     requires target { IsSome (map.get arena.old.now target.0) }
     requires dim { dim < 3 }
     requires code { IsCode code }
     ensures width { arena.new.width ≡ 3 }
-    ensures opened { arena.new.is_open ≡ true }
+    ensures opened { is_open arena.new ≡ true }
     ensures root { OnSome result (cell_at arena.new.now root.0 ≡ Some (replicate 3 None)) }
 {
     if arena.touch(root, steps).is_err() {
@@ -91,7 +92,7 @@ fn marked<L: Ledger>(
     agg: Agg,
     steps: &mut Steps<L>,
 ) -> Option<()>
-    requires opened { arena.old.is_open ≡ true }
+    requires opened { is_open arena.old ≡ true }
     requires root { cell_at arena.old.now root.0 ≡ Some (replicate 3 None) }
     ensures root { OnSome result (cell_at arena.new.now root.0 ≡ Some (replicate 3 None)) }
 {

@@ -12,7 +12,7 @@ use Rattle.qc_arena.specs.Map.{Arena}
 use Rattle.qc_arena.specs.Seen.{record_at, record_or}
 use Rattle.build_trace.specs.Trace.{Act}
 use Rattle.build_acts.specs.Going.{Going, IsNext, Does}
-use Rattle.class_builder.specs.Walk.{IsOnPath, StaysOpen, node_on}
+use Rattle.class_builder.specs.Walk.{IsOnPath, node_on}
 use Rattle.class_builder.specs.declared.path.Path.{Path}
 
 module _ {measures : ℕ} {rows : List (Row ℕ)} where
@@ -64,10 +64,6 @@ cell_is tree k c h = go (map.get tree k) h
 
 pub front_depth : (tree : Tree ℕ) (k j : ℕ) (c : Cell ℕ) → cell_at tree k ≡ Some (keep j c) → depth (record_at tree k).cell ≤ j
 front_depth tree k j c h = subst (λ d. depth d ≤ j) (sym (cell_is tree k (keep j c) h)) (depth-keep-le j c)
-
--- an open batch, and then again
-pub stays_then : (a b c : Arena) → StaysOpen a b → StaysOpen b c → StaysOpen a c
-stays_then a b c p q = record { was = λ k. q.was k ∙ p.was k; opened = q.opened; width = q.width ∙ p.width; max = q.max ∙ p.max }
 
 upto_or : (j k : ℕ) → j ≤ k + 1 → (j ≤ k) ⊎ (j ≡ k + 1)
 upto_or zero k h = inl (omega arith)

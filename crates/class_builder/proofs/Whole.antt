@@ -13,7 +13,7 @@ use Rattle.base_table.specs.declared.table.RowNo.{RowNo}
 use Rattle.cube_laws.specs.Parting.{shared_by}
 use Rattle.cell_closure.proofs.Rows.{There, length-named, all_recursion}
 use Rattle.cube_laws.proofs.Shared.{HaveDims, length-shared, shared_some}
-use Rattle.qc_arena.specs.Map.{Arena}
+use Rattle.qc_arena.specs.Map.{Arena, is_open}
 use Rattle.build_trace.specs.Trace.{Act, Act.{Add}, acts, trace, adds_of}
 use Rattle.build_trace.specs.Follows.{Follows}
 use Rattle.build_trace.proofs.Following.{follow_none, none_canonical}
@@ -40,7 +40,7 @@ rows_few t valid nos there all =
     all_few
 
 -- nothing is done yet
-pub going_none : (measures : ℕ) (rows : List (Row ℕ)) (a : Arena) → HaveDims a.width rows → 0 < length rows → a.is_open ≡ true → a.now ≡ map.empty → Going measures rows [] (trace measures a.width rows) a
+pub going_none : (measures : ℕ) (rows : List (Row ℕ)) (a : Arena) → HaveDims a.width rows → 0 < length rows → is_open a ≡ true → a.now ≡ map.empty → Going measures rows [] (trace measures a.width rows) a
 going_none measures rows a long some opened none = record {
   wide = long;
   some = some;
@@ -52,7 +52,7 @@ going_none measures rows a long some opened none = record {
 }
 
 -- the root comes first
-pub root_going : (t : Places) (nos : List RowNo) (a : Arena) → There t nos → named t nos ≡ rows_of t → IsTable t → 0 < length nos → a.width ≡ t.dims → a.is_open ≡ true → a.now ≡ map.empty
+pub root_going : (t : Places) (nos : List RowNo) (a : Arena) → There t nos → named t nos ≡ rows_of t → IsTable t → 0 < length nos → a.width ≡ t.dims → is_open a ≡ true → a.now ≡ map.empty
     → Going t.measures (rows_of t) [] (Add (replicate a.width None) ∷ acts_from t 0 (named t nos)) a
 root_going t nos a there all valid some width opened none =
     let n : t.dims - 0 ≡ t.dims = omega arith in

@@ -1,4 +1,4 @@
--- Where the walk stands, and what it leaves as it is.
+-- Where the walk stands.
 use Rattle.std.specs.Prelude.{◌≡◌, ◌<◌, ◌≤◌, ℕ, suc, ◌-◌, Bool, true, Some, None, List, [], ◌∷◌, length, nat_eq, slice_index_or}
 use Rattle.std.specs.List.{AllByRecursion}
 use Rattle.cube_defs.specs.Cell.{Cell, keep}
@@ -9,7 +9,7 @@ use Rattle.cube_laws.specs.Parting.{shared_by}
 use Rattle.cell_core.specs.Entry.{IsCode}
 use Rattle.base_table.specs.Places.{Places, AreThere, IsTable, named}
 use Rattle.base_table.specs.declared.table.RowNo.{RowNo}
-use Rattle.qc_arena.specs.Map.{Arena, was_at}
+use Rattle.qc_arena.specs.Map.{Arena}
 use Rattle.build_trace.specs.Trace.{Act, Act.{Add, Label}, acts}
 use Rattle.class_builder.specs.declared.path.Path.{Path}
 
@@ -28,13 +28,6 @@ node_on path k = (slice_index_or path.nodes k (record { 0 = 0 })).0
 -- the path has the nodes of c's fronts with up to k dimensions
 pub record IsOnPath (a : Arena) (path : Path) (c : Cell ℕ) (k : ℕ) : Type 0 where
   pub each : (j : ℕ) → j ≤ k → cell_at a.now (node_on path j) ≡ Some (keep j c)
-
--- the same batch stays open
-pub record StaysOpen (before after : Arena) : Type 0 where
-  pub was : (q : ℕ) → was_at after q ≡ was_at before q
-  pub opened : after.is_open ≡ true
-  pub width : after.width ≡ before.width
-  pub max : after.max ≡ before.max
 
 -- rows of a table, of which there are some, and what they share
 pub record IsPart (t : Places) (nos : List RowNo) (u : Cell ℕ) : Type 0 where

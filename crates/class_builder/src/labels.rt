@@ -11,9 +11,9 @@ ghost use Rattle.base_table.specs.Places.{AreThere, IsTable, named, rows_of};
 ghost use Rattle.cube_laws.specs.Parting.{shared_by};
 ghost use Rattle.build_trace.specs.Trace.{Act.{Label}};
 ghost use Rattle.build_trace.specs.Walk.{same_front};
-ghost use Rattle.qc_arena.specs.Map.{is_touched};
+ghost use Rattle.qc_arena.specs.Map.{frame, is_open, is_touched};
 ghost use Rattle.build_acts.specs.Going.{Does, IsNext};
-ghost use Rattle.class_builder.specs.Walk.{IsGroup, IsOnPath, StaysOpen, front_acts};
+ghost use Rattle.class_builder.specs.Walk.{IsGroup, IsOnPath, front_acts};
 
 use crate::Memory;
 use crate::builder::Builder;
@@ -36,7 +36,7 @@ pub(crate) fn add_front<L: Ledger>(
     edge: ChildEdge,
     path: &mut Path,
 ) -> Result<(), ArenaRefused>
-    requires opened { builder.old.arena.now.is_open ≡ true }
+    requires opened { is_open builder.old.arena.now ≡ true }
     requires touched { (k : ℕ) → IsSome (map.get builder.old.arena.now.now k) → is_touched builder.old.arena.now k ≡ true }
     requires long { length cell.now ≡ builder.old.arena.now.width }
     requires few { builder.old.arena.now.width ≤ MAX_DIMS }
@@ -48,7 +48,7 @@ pub(crate) fn add_front<L: Ledger>(
     ensures path { OnOk result (IsOnPath builder.new.arena.now path.new cell.now (dim + 1)) }
     ensures full { result ≡ Err ArenaRefused.Full → (measures : ℕ) (rows : List (Row ℕ)) → IsNext measures rows (front_acts edge.is_forced cell.now dim edge.code) builder.old.arena.now
         → builder.old.arena.now.max < length (nodes nat_cmp rows) }
-    ensures stays { StaysOpen builder.old.arena.now builder.new.arena.now }
+    ensures frame { frame builder.new.arena.now ≡ frame builder.old.arena.now }
     ensures same { builder.new.arena.ghost_name ≡ builder.old.arena.ghost_name }
 {
     match add_child(
@@ -84,7 +84,7 @@ pub(crate) fn link_part<L: Ledger>(
     requires next { IsNext group.now.table.now.measures (rows_of group.now.table.now) (Label false (keep dim group.now.upper.now) dim group.now.code (keep (suc dim) (shared_by (named group.now.table.now group.now.rows.now))) ∷ []) builder.old.arena.now }
     requires path { IsOnPath builder.old.arena.now path.now group.now.upper.now dim }
     ensures does { OnOk result (Does group.now.table.now.measures (rows_of group.now.table.now) (Label false (keep dim group.now.upper.now) dim group.now.code (keep (suc dim) (shared_by (named group.now.table.now group.now.rows.now))) ∷ []) builder.old.arena.now builder.new.arena.now) }
-    ensures stays { StaysOpen builder.old.arena.now builder.new.arena.now }
+    ensures frame { frame builder.new.arena.now ≡ frame builder.old.arena.now }
     ensures same { builder.new.arena.ghost_name ≡ builder.old.arena.ghost_name }
 {
     let target = front_of(group.table, group.rows, group.upper, at, dim);

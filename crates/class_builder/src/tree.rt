@@ -1,11 +1,11 @@
 // The tree of a table's rows.
 ghost use Rattle.std.specs.FinMap as map;
 ghost use Rattle.std.specs.Ordering.{nat_cmp};
-ghost use Rattle.std.specs.Prelude.{Err, OnOk, length, true, ℕ, ◌<◌, ◌≡◌, ◌≤◌};
+ghost use Rattle.std.specs.Prelude.{Err, OnOk, length, true, ◌<◌, ◌≡◌, ◌≤◌};
 ghost use Rattle.cube_defs.specs.Tree.{IsCanonical, nodes};
 ghost use Rattle.base_table.specs.Places.{named, rows_of};
-ghost use Rattle.qc_arena.specs.Map.{was_at};
-ghost use Rattle.class_builder.specs.Walk.{IsPart, StaysOpen};
+ghost use Rattle.qc_arena.specs.Map.{frame, is_open};
+ghost use Rattle.class_builder.specs.Walk.{IsPart};
 
 use crate::builder::Builder;
 use crate::part::Part;
@@ -28,16 +28,13 @@ pub fn build_classes<L: Ledger>(
     arena: &mut QcArena,
     steps: &mut Steps<L>,
 ) -> Result<(), ArenaRefused>
-    requires opened { arena.old.is_open ≡ true }
+    requires opened { is_open arena.old ≡ true }
     requires empty { arena.old.now ≡ map.empty }
     requires width { arena.old.width ≡ table.now.dims }
     ensures tree { OnOk result (IsCanonical nat_cmp table.now.measures (rows_of table.now) arena.new.now) }
     ensures fits { OnOk result (length (nodes nat_cmp (rows_of table.now)) ≤ arena.old.max) }
     ensures full { result ≡ Err ArenaRefused.Full → arena.old.max < length (nodes nat_cmp (rows_of table.now)) }
-    ensures was { (q : ℕ) → was_at arena.new q ≡ was_at arena.old q }
-    ensures opened { arena.new.is_open ≡ true }
-    ensures width { arena.new.width ≡ arena.old.width }
-    ensures max { arena.new.max ≡ arena.old.max }
+    ensures frame { frame arena.new ≡ frame arena.old }
 {
     if table.count() == 0 {
         return Ok(());
@@ -63,13 +60,13 @@ pub fn build_classes<L: Ledger>(
 fn build_all<L: Ledger>(builder: &mut Builder<'_, L>, part: &Part<'_>) -> Result<(), ArenaRefused>
     requires part { IsPart part.now.table.now part.now.rows.now part.now.shared }
     requires all { named part.now.table.now part.now.rows.now ≡ rows_of part.now.table.now }
-    requires opened { builder.old.arena.now.is_open ≡ true }
+    requires opened { is_open builder.old.arena.now ≡ true }
     requires empty { builder.old.arena.now.now ≡ map.empty }
     requires width { builder.old.arena.now.width ≡ part.now.table.now.dims }
     ensures tree { OnOk result (IsCanonical nat_cmp part.now.table.now.measures (rows_of part.now.table.now) builder.new.arena.now.now) }
     ensures fits { OnOk result (length (nodes nat_cmp (rows_of part.now.table.now)) ≤ builder.old.arena.now.max) }
     ensures full { result ≡ Err ArenaRefused.Full → builder.old.arena.now.max < length (nodes nat_cmp (rows_of part.now.table.now)) }
-    ensures stays { StaysOpen builder.old.arena.now builder.new.arena.now }
+    ensures frame { frame builder.new.arena.now ≡ frame builder.old.arena.now }
     ensures same { builder.new.arena.ghost_name ≡ builder.old.arena.ghost_name }
 {
     match add_root(builder.arena, builder.steps) {

@@ -5,7 +5,8 @@ ghost use Rattle.cube_defs.specs.Tree.{nodes};
 ghost use Rattle.base_table.specs.Places.{named, rows_of};
 ghost use Rattle.build_trace.specs.Trace.{acts_at, part_acts};
 ghost use Rattle.build_acts.specs.Going.{Does, IsNext};
-ghost use Rattle.class_builder.specs.Walk.{IsGroup, IsOnPath, IsPart, StaysOpen, acts_from};
+ghost use Rattle.qc_arena.specs.Map.{frame};
+ghost use Rattle.class_builder.specs.Walk.{IsGroup, IsOnPath, IsPart, acts_from};
 
 use crate::builder::Builder;
 use crate::labels::{add_front, link_part};
@@ -34,7 +35,7 @@ pub(crate) fn drill<L: Ledger>(
     requires path { IsOnPath builder.old.arena.now path part.now.shared first }
     ensures does { OnOk result (Does part.now.table.now.measures (rows_of part.now.table.now) (acts_from part.now.table.now first (named part.now.table.now part.now.rows.now)) builder.old.arena.now builder.new.arena.now) }
     ensures full { result ≡ Err ArenaRefused.Full → builder.old.arena.now.max < length (nodes nat_cmp (rows_of part.now.table.now)) }
-    ensures stays { StaysOpen builder.old.arena.now builder.new.arena.now }
+    ensures frame { frame builder.new.arena.now ≡ frame builder.old.arena.now }
     ensures same { builder.new.arena.ghost_name ≡ builder.old.arena.ghost_name }
 {
     'dims: for dim in first..part.table.dims() {
@@ -70,7 +71,7 @@ fn drill_at<L: Ledger>(
     ensures does { OnOk result (Does part.now.table.now.measures (rows_of part.now.table.now) (acts_at (acts_from part.now.table.now (dim + 1)) dim part.now.shared (slice_index_or part.now.shared dim None) (named part.now.table.now part.now.rows.now)) builder.old.arena.now builder.new.arena.now) }
     ensures path { OnOk result (IsOnPath builder.new.arena.now path.new part.now.shared (dim + 1)) }
     ensures full { result ≡ Err ArenaRefused.Full → builder.old.arena.now.max < length (nodes nat_cmp (rows_of part.now.table.now)) }
-    ensures stays { StaysOpen builder.old.arena.now builder.new.arena.now }
+    ensures frame { frame builder.new.arena.now ≡ frame builder.old.arena.now }
     ensures same { builder.new.arena.ghost_name ≡ builder.old.arena.ghost_name }
 {
     match part.shared.get(dim) {
@@ -106,7 +107,7 @@ fn drill_in<L: Ledger>(
     requires path { IsOnPath builder.old.arena.now path.now part.now.shared dim }
     ensures does { OnOk result (Does part.now.table.now.measures (rows_of part.now.table.now) (acts_at (acts_from part.now.table.now (dim + 1)) dim part.now.shared None (named part.now.table.now part.now.rows.now)) builder.old.arena.now builder.new.arena.now) }
     ensures full { result ≡ Err ArenaRefused.Full → builder.old.arena.now.max < length (nodes nat_cmp (rows_of part.now.table.now)) }
-    ensures stays { StaysOpen builder.old.arena.now builder.new.arena.now }
+    ensures frame { frame builder.new.arena.now ≡ frame builder.old.arena.now }
     ensures same { builder.new.arena.ghost_name ≡ builder.old.arena.ghost_name }
 {
     let Ok(parts) = builder.room.part(part.table, part.rows, dim) else {
@@ -145,7 +146,7 @@ fn drill_part<L: Ledger>(
     requires path { IsOnPath builder.old.arena.now path.now group.now.upper.now dim }
     ensures does { OnOk result (Does group.now.table.now.measures (rows_of group.now.table.now) (part_acts (acts_from group.now.table.now (dim + 1)) dim group.now.upper.now group.now.code (named group.now.table.now group.now.rows.now)) builder.old.arena.now builder.new.arena.now) }
     ensures full { result ≡ Err ArenaRefused.Full → builder.old.arena.now.max < length (nodes nat_cmp (rows_of group.now.table.now)) }
-    ensures stays { StaysOpen builder.old.arena.now builder.new.arena.now }
+    ensures frame { frame builder.new.arena.now ≡ frame builder.old.arena.now }
     ensures same { builder.new.arena.ghost_name ≡ builder.old.arena.ghost_name }
 {
     match first_gain(group.table, group.rows, group.upper, dim) {

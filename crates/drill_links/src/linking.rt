@@ -1,9 +1,9 @@
 // What is left to link.
 ghost use Rattle.std.specs.Ordering.{nat_cmp};
-ghost use Rattle.std.specs.Prelude.{OnOk, true, ℕ, ◌≡◌};
+ghost use Rattle.std.specs.Prelude.{OnOk, true, ◌≡◌};
 ghost use Rattle.cube_defs.specs.Tree.{IsCanonical};
 ghost use Rattle.base_table.specs.Places.{rows_of};
-ghost use Rattle.qc_arena.specs.Map.{was_at};
+ghost use Rattle.qc_arena.specs.Map.{frame, is_open};
 
 use base_table::Table;
 use cell_core::Steps;
@@ -18,14 +18,11 @@ pub fn link_all<L: Ledger>(
     arena: &mut QcArena,
     steps: &mut Steps<L>,
 ) -> Result<(), Memory>
-    requires opened { arena.old.is_open ≡ true }
+    requires opened { is_open arena.old ≡ true }
     requires built { IsCanonical nat_cmp table.now.measures (rows_of table.now) arena.old.now }
     ensures same { OnOk result (arena.new ≡ arena.old) }
     ensures tree { OnOk result (IsCanonical nat_cmp table.now.measures (rows_of table.now) arena.new.now) }
-    ensures was { (q : ℕ) → was_at arena.new q ≡ was_at arena.old q }
-    ensures opened { arena.new.is_open ≡ true }
-    ensures width { arena.new.width ≡ arena.old.width }
-    ensures max { arena.new.max ≡ arena.old.max }
+    ensures frame { frame arena.new ≡ frame arena.old }
 {
     Ok(())
 }

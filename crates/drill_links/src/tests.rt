@@ -2,7 +2,7 @@ ghost use Rattle.std.specs.FinMap as map;
 ghost use Rattle.std.specs.Prelude.{IfSome, None, Some, replicate, true, ℕ, ◌<◌, ◌≡◌, ◌≢◌};
 ghost use Rattle.cube_defs.specs.Cell as defs;
 ghost use Rattle.cube_defs.specs.Tree.{cell_at};
-ghost use Rattle.qc_arena.specs.Map.{bare, is_touched};
+ghost use Rattle.qc_arena.specs.Map.{bare, is_open, is_touched};
 ghost use Rattle.drill_links.specs.Single.{single};
 ghost use Rattle.drill_links.specs.Way.{IsWay};
 
@@ -17,7 +17,7 @@ use std::test::Fail;
 // An arena with its root.
 fn planted<L: Ledger>(alloc: Global, steps: &mut Steps<L>) -> Option<(QcArena, NodeNo)>
     ensures width { IfSome result (λ p. p.0.width ≡ 3) }
-    ensures opened { IfSome result (λ p. p.0.is_open ≡ true) }
+    ensures opened { IfSome result (λ p. is_open p.0 ≡ true) }
     ensures root { IfSome result (λ p. map.get p.0.now p.1.0 ≡ Some (bare (replicate 3 None) None)) }
     ensures alone { IfSome result (λ p. (q : ℕ) → q ≢ p.1.0 → map.get p.0.now q ≡ None) }
     ensures touched { IfSome result (λ p. is_touched p.0 p.1.0 ≡ true) }

@@ -1,36 +1,39 @@
 // Nodes under numbers; a batch can be taken back, numbers included.
-ghost use Rattle.std.specs.Prelude.{Err, IfOk, IfSome, IsSome, None, Ok, OnErr, OnOk, Some, false, nat_eq, true, ℕ, ◌+◌, ◌<◌, ◌||◌, ◌↔◌, ◌≡◌, ◌≢◌, ◌≤◌};
+ghost use Rattle.std.specs.Prelude.{Err, IfOk, IfSome, IsSome, None, Ok, OnErr, OnOk, Some, false, if◌then◌else◌, nat_eq, true, ℕ, ◌+◌, ◌<◌, ◌||◌, ◌↔◌, ◌≡◌, ◌≢◌, ◌≤◌};
 ghost use Rattle.cell_core.specs.Entry.{IsCode};
 ghost use Rattle.std.specs.FinMap as map;
+ghost use Rattle.std.specs.FinSet as set;
 ghost use Rattle.std.specs.Option.{option_map};
 ghost use Rattle.std.specs.Ordering.{nat_cmp};
 ghost use Rattle.aggregates.specs.Views.{agg_in};
 ghost use Rattle.tree_laws.specs.Counts.{classes_in, links_in, tree_edges_in};
 ghost use Rattle.qc_arena.specs.Changes.{AreNew, class_now, class_was};
 ghost use Rattle.qc_arena.specs.Edges.{with_edge, without_edge};
-ghost use Rattle.qc_arena.specs.Map.{AreRooted, IsPlace, edges_in, is_touched, new_record, no_nodes, was_at, with_class, with_forced};
+ghost use Rattle.qc_arena.specs.Map.{AreRooted, CanChange, IsPlace, edges_in, frame, is_open, is_touched, new_record, no_nodes, over, shape_of, was_at, with_class, with_forced};
 ghost use Rattle.qc_arena.specs.Seen.{edge_of, record_at};
 
 use crate::Memory;
 use crate::changes::changed;
-use crate::counted::tree_edges_of;
+use crate::counted::{record_in, tree_edges_of};
 use crate::edges::EdgeTo;
+use crate::images::Images;
 use crate::kept::{Counts, Kept};
 use crate::nodes::{Forced, Nodes};
 use crate::parts::Parts;
 use crate::place::Place;
 use crate::records::Rec;
 use crate::slots::{
-    add_record, class_at, copy_at, drop_edge_at, kill_at, let_go, put_back, record_of,
+    add_record, class_at, clear_all, copy_at, drop_edge_at, kill_at, put_back, record_of,
     set_class_at, set_edge_at, set_forced_at,
 };
-use crate::touched::Images;
+use crate::touched::Touched;
 use aggregates::Agg;
 use cell_core::{Code, NodeNo, Steps};
 use cube_defs::{MAX_DIMS, MAX_NODES};
 use slab::Slab;
 use std::alloc::{AllocError, Global};
 use std::marker::Model;
+use std::mem::replace;
 use std::sync::ledger::Ledger;
 
 /// Why a node was not added.
@@ -48,7 +51,8 @@ pub enum ArenaRefused {
 pub struct QcArena {
     nodes: Slab<Place>,
     parts: Parts,
-    images: Images,
+    images: Touched,
+    last: Images,
     is_open: bool,
     dims: u8,
     max: u32,
@@ -57,8 +61,7 @@ pub struct QcArena {
 }
 
 impl Model for QcArena {
-    ghost use Rattle.std.specs.FinMap as map;
-    ghost use Rattle.qc_arena.specs.Inside.{IsArena, now_of};
+    ghost use Rattle.qc_arena.specs.Inside.{IsArena, begun, now_of, touched_in, was_of};
     ghost use Rattle.qc_arena.specs.Parts.{IsStored};
     ghost use Rattle.qc_arena.specs.Map.{Arena, arena_code};
 
@@ -66,7 +69,7 @@ impl Model for QcArena {
 
     ghost coded = { arena_code };
 
-    ghost view = { λ a. record { width = a.dims; max = a.max; now = now_of a.nodes; images = map.from_entries a.images; is_open = a.is_open } };
+    ghost view = { λ a. record { width = a.dims; max = a.max; now = now_of a.nodes; was = begun a.is_open a.dims (was_of (now_of a.nodes) a.images); touched = touched_in a.images; last = a.last } };
 
     ghost invariant = { λ a. IsArena a.dims a.max a.nodes a.images a.is_open a.kept a.was × IsStored a.nodes a.parts };
 }
@@ -89,7 +92,8 @@ impl QcArena {
         Ok(QcArena {
             nodes: Slab::new(alloc),
             parts: Parts::new(alloc),
-            images: Images::new(alloc),
+            images: Touched::new(alloc),
+            last: Images::none(alloc),
             is_open: false,
             dims,
             max,
@@ -100,14 +104,10 @@ impl QcArena {
 
     /// A batch is open, and no node is touched.
     pub fn begin(&mut self)
-        requires { self.old.is_open ≡ false }
-        ensures now { self.new.now ≡ self.old.now }
-        ensures was { (q : ℕ) → was_at self.new q ≡ map.get self.old.now q }
-        ensures touched { (q : ℕ) → is_touched self.new q ≡ false }
-        ensures opened { self.new.is_open ≡ true }
-        ensures width { self.new.width ≡ self.old.width }
-        ensures max { self.new.max ≡ self.old.max }
+        requires { is_open self.old ≡ false }
+        ensures { self.new ≡ record self.old { was = Some (shape_of self.old); touched = set.empty; last = map.empty } }
     {
+        self.last = Images::none(self.images.allocator());
         self.is_open = true;
     }
 
@@ -129,17 +129,15 @@ impl QcArena {
         under: Option<(NodeNo, u8, Code)>,
         steps: &mut Steps<L>,
     ) -> Result<NodeNo, ArenaRefused>
-        requires opened { self.old.is_open ≡ true }
+        requires opened { is_open self.old ≡ true }
         requires under { IsPlace self.old.width self.old.now under }
         ensures here { IfOk result (λ k. map.get self.new.now k.0 ≡ Some (new_record self.old.width self.old.now under)) }
         ensures others { IfOk result (λ k. (q : ℕ) → q ≢ k.0 → map.get self.new.now q ≡ map.get self.old.now q) }
         ensures free { IfOk result (λ k. map.get self.old.now k.0 ≡ None) }
         ensures untouched { IfOk result (λ k. is_touched self.old k.0 ≡ false) }
+        ensures unused { IfOk result (λ k. was_at self.old k.0 ≡ None) }
         ensures touched { IfOk result (λ k. (q : ℕ) → is_touched self.new q ≡ (nat_eq k.0 q || is_touched self.old q)) }
-        ensures was { (q : ℕ) → was_at self.new q ≡ was_at self.old q }
-        ensures opened { self.new.is_open ≡ true }
-        ensures width { self.new.width ≡ self.old.width }
-        ensures max { self.new.max ≡ self.old.max }
+        ensures frame { frame self.new ≡ frame self.old }
         ensures full { (result ≡ Err ArenaRefused.Full) ↔ (map.len self.old.now ≡ self.old.max) }
         ensures err { OnErr result (self.new ≡ self.old) }
         ensures steps { steps.new ≡ steps.old + 1 }
@@ -160,14 +158,11 @@ impl QcArena {
 
     /// Keeps the record of the node as it was at `begin`, so that it may be changed.
     pub fn touch<L: Ledger>(&mut self, node: NodeNo, steps: &mut Steps<L>) -> Result<(), Memory>
-        requires opened { self.old.is_open ≡ true }
+        requires opened { is_open self.old ≡ true }
         requires node { IsSome (map.get self.old.now node.0) }
         ensures touched { OnOk result ((q : ℕ) → is_touched self.new q ≡ (nat_eq node.0 q || is_touched self.old q)) }
         ensures now { self.new.now ≡ self.old.now }
-        ensures was { (q : ℕ) → was_at self.new q ≡ was_at self.old q }
-        ensures opened { self.new.is_open ≡ true }
-        ensures width { self.new.width ≡ self.old.width }
-        ensures max { self.new.max ≡ self.old.max }
+        ensures frame { frame self.new ≡ frame self.old }
         ensures err { OnErr result (self.new ≡ self.old) }
         ensures steps { steps.new ≡ steps.old + 1 }
     {
@@ -188,19 +183,14 @@ impl QcArena {
         target: NodeNo,
         steps: &mut Steps<L>,
     ) -> Result<(), Memory>
-        requires opened { self.old.is_open ≡ true }
-        requires node { IsSome (map.get self.old.now node.0) }
-        requires touched { is_touched self.old node.0 ≡ true }
+        requires change { CanChange self.old node.0 }
         requires target { IsSome (map.get self.old.now target.0) }
         requires dim { dim < self.old.width }
         requires code { IsCode code }
         ensures here { OnOk result (map.get self.new.now node.0 ≡ option_map (with_edge (record { dim = dim; value = code; target = target.0 })) (map.get self.old.now node.0)) }
         ensures others { (q : ℕ) → q ≢ node.0 → map.get self.new.now q ≡ map.get self.old.now q }
         ensures touched { (q : ℕ) → is_touched self.new q ≡ is_touched self.old q }
-        ensures was { (q : ℕ) → was_at self.new q ≡ was_at self.old q }
-        ensures opened { self.new.is_open ≡ true }
-        ensures width { self.new.width ≡ self.old.width }
-        ensures max { self.new.max ≡ self.old.max }
+        ensures frame { frame self.new ≡ frame self.old }
         ensures err { OnErr result (self.new ≡ self.old) }
         ensures steps { steps.new ≡ steps.old + 1 }
     {
@@ -224,16 +214,11 @@ impl QcArena {
 
     /// Takes the edge with this label away, if there is one.
     pub fn drop_edge<L: Ledger>(&mut self, node: NodeNo, dim: u8, code: Code, steps: &mut Steps<L>)
-        requires opened { self.old.is_open ≡ true }
-        requires node { IsSome (map.get self.old.now node.0) }
-        requires touched { is_touched self.old node.0 ≡ true }
+        requires change { CanChange self.old node.0 }
         ensures here { map.get self.new.now node.0 ≡ option_map (without_edge dim code) (map.get self.old.now node.0) }
         ensures others { (q : ℕ) → q ≢ node.0 → map.get self.new.now q ≡ map.get self.old.now q }
         ensures touched { (q : ℕ) → is_touched self.new q ≡ is_touched self.old q }
-        ensures was { (q : ℕ) → was_at self.new q ≡ was_at self.old q }
-        ensures opened { self.new.is_open ≡ true }
-        ensures width { self.new.width ≡ self.old.width }
-        ensures max { self.new.max ≡ self.old.max }
+        ensures frame { frame self.new ≡ frame self.old }
         ensures steps { steps.new ≡ steps.old + 1 }
     {
         steps.tick();
@@ -244,21 +229,51 @@ impl QcArena {
     /// Takes a node out of the map. Edges may lead to it still: from now on they lead nowhere. Its
     /// number is given to no other node before `commit`.
     pub fn kill<L: Ledger>(&mut self, node: NodeNo, steps: &mut Steps<L>)
-        requires opened { self.old.is_open ≡ true }
-        requires node { IsSome (map.get self.old.now node.0) }
-        requires touched { is_touched self.old node.0 ≡ true }
+        requires change { CanChange self.old node.0 }
         ensures here { map.get self.new.now node.0 ≡ None }
         ensures others { (q : ℕ) → q ≢ node.0 → map.get self.new.now q ≡ map.get self.old.now q }
         ensures touched { (q : ℕ) → is_touched self.new q ≡ is_touched self.old q }
-        ensures was { (q : ℕ) → was_at self.new q ≡ was_at self.old q }
-        ensures opened { self.new.is_open ≡ true }
-        ensures width { self.new.width ≡ self.old.width }
-        ensures max { self.new.max ≡ self.old.max }
+        ensures frame { frame self.new ≡ frame self.old }
         ensures steps { steps.new ≡ steps.old + 1 }
     {
         steps.tick();
         let (is_class, had) = kill_at(&mut self.nodes, node.0);
         self.kept = self.kept.without_node(node.0, is_class, had);
+    }
+
+    // Takes the node at a place out, if there is one.
+    fn clear_place<L: Ledger>(&mut self, place: usize, steps: &mut Steps<L>) -> Result<(), Memory>
+        requires { is_open self.old ≡ true }
+        ensures here { OnOk result (map.get self.new.now place ≡ None) }
+        ensures others { OnOk result ((q : ℕ) → q ≢ place → map.get self.new.now q ≡ map.get self.old.now q) }
+        ensures frame { frame self.new ≡ frame self.old }
+    {
+        // So many nodes fit into no memory.
+        if place > u32::MAX as usize {
+            return Err(AllocError);
+        }
+        let node = NodeNo(place as u32);
+        if !self.has(node) {
+            return Ok(());
+        }
+        self.touch(node, steps)?;
+        self.kill(node, steps);
+        Ok(())
+    }
+
+    /// Takes all nodes out of the map. Where memory runs out, some of them are out.
+    pub fn clear<L: Ledger>(&mut self, steps: &mut Steps<L>) -> Result<(), Memory>
+        requires { is_open self.old ≡ true }
+        ensures none { OnOk result (self.new.now ≡ map.empty) }
+        ensures frame { frame self.new ≡ frame self.old }
+    {
+        'places: for place in 0..self.places() {
+            match self.clear_place(place, steps) {
+                Ok(()) => {}
+                Err(error) => return Err(error),
+            }
+        }
+        Ok(())
     }
 
     /// Sets the forced child, or takes it away.
@@ -268,17 +283,12 @@ impl QcArena {
         forced: Option<Forced>,
         steps: &mut Steps<L>,
     )
-        requires opened { self.old.is_open ≡ true }
-        requires node { IsSome (map.get self.old.now node.0) }
-        requires touched { is_touched self.old node.0 ≡ true }
+        requires change { CanChange self.old node.0 }
         requires code { IfSome forced (λ f. IsCode f.code) }
         ensures here { map.get self.new.now node.0 ≡ option_map (with_forced (option_map edge_of forced)) (map.get self.old.now node.0) }
         ensures others { (q : ℕ) → q ≢ node.0 → map.get self.new.now q ≡ map.get self.old.now q }
         ensures touched { (q : ℕ) → is_touched self.new q ≡ is_touched self.old q }
-        ensures was { (q : ℕ) → was_at self.new q ≡ was_at self.old q }
-        ensures opened { self.new.is_open ≡ true }
-        ensures width { self.new.width ≡ self.old.width }
-        ensures max { self.new.max ≡ self.old.max }
+        ensures frame { frame self.new ≡ frame self.old }
         ensures steps { steps.new ≡ steps.old + 1 }
     {
         steps.tick();
@@ -287,16 +297,11 @@ impl QcArena {
 
     /// Sets what the rows of the node come to, or marks it as no class.
     pub fn set_class<L: Ledger>(&mut self, node: NodeNo, class: Option<Agg>, steps: &mut Steps<L>)
-        requires opened { self.old.is_open ≡ true }
-        requires node { IsSome (map.get self.old.now node.0) }
-        requires touched { is_touched self.old node.0 ≡ true }
+        requires change { CanChange self.old node.0 }
         ensures here { map.get self.new.now node.0 ≡ option_map (with_class (option_map agg_in class)) (map.get self.old.now node.0) }
         ensures others { (q : ℕ) → q ≢ node.0 → map.get self.new.now q ≡ map.get self.old.now q }
         ensures touched { (q : ℕ) → is_touched self.new q ≡ is_touched self.old q }
-        ensures was { (q : ℕ) → was_at self.new q ≡ was_at self.old q }
-        ensures opened { self.new.is_open ≡ true }
-        ensures width { self.new.width ≡ self.old.width }
-        ensures max { self.new.max ≡ self.old.max }
+        ensures frame { frame self.new ≡ frame self.old }
         ensures steps { steps.new ≡ steps.old + 1 }
     {
         steps.tick();
@@ -306,30 +311,56 @@ impl QcArena {
         self.kept = self.kept.with_class(had, class.is_some());
     }
 
-    /// The map stays as it is, and the batch is closed.
+    /// The map stays as it is, and the batch is closed. What the touched nodes were is kept until the
+    /// next batch, or until it is moved out.
     pub fn commit(&mut self)
-        requires { self.old.is_open ≡ true }
-        ensures now { self.new.now ≡ self.old.now }
-        ensures closed { self.new.is_open ≡ false }
-        ensures width { self.new.width ≡ self.old.width }
-        ensures max { self.new.max ≡ self.old.max }
+        requires { is_open self.old ≡ true }
+        ensures value { self.new ≡ record self.old { was = None; touched = set.empty; last = self.new.last } }
+        ensures last { (q : ℕ) → map.get self.new.last q ≡ (if is_touched self.old q then Some (was_at self.old q) else None) }
+        ensures back { IfSome self.old.was (λ shape. over self.new.last self.new.now ≡ shape.tree) }
     {
-        let_go(&mut self.nodes, &mut self.images);
+        clear_all(&mut self.nodes, &self.images);
+        self.last = self.images.take();
         self.is_open = false;
         self.was = self.kept;
     }
 
     /// The map is that at `begin`, numbers included, and the batch is closed.
     pub fn rollback(&mut self)
-        requires { self.old.is_open ≡ true }
-        ensures now { (q : ℕ) → map.get self.new.now q ≡ was_at self.old q }
-        ensures closed { self.new.is_open ≡ false }
-        ensures width { self.new.width ≡ self.old.width }
+        requires { is_open self.old ≡ true }
+        ensures back { Some (shape_of self.new) ≡ self.old.was }
+        ensures closed { self.new.was ≡ None }
+        ensures untouched { self.new.touched ≡ set.empty }
         ensures max { self.new.max ≡ self.old.max }
+        ensures last { self.new.last ≡ self.old.last }
     {
         put_back(&mut self.nodes, &mut self.parts, &mut self.images);
         self.is_open = false;
         self.kept = self.was;
+    }
+
+    /// Moves out what the nodes were that the last committed batch touched. A second call gives
+    /// nothing.
+    pub fn last_images(&mut self) -> Images
+        ensures images { result ≡ self.old.last }
+        ensures rest { self.new ≡ record self.old { last = map.empty } }
+    {
+        let none = Images::none(self.images.allocator());
+        replace(&mut self.last, none)
+    }
+
+    /// Whether there is a node with the number.
+    pub fn has(&self, node: NodeNo) -> bool
+        ensures { result ≡ map.contains_key self.now.now node.0 }
+    {
+        record_in(&self.nodes, node.0 as usize).is_some()
+    }
+
+    // How many places there are at most: no node's number is this or more.
+    fn places(&self) -> usize
+        ensures { (q : ℕ) → result ≤ q → map.get self.now.now q ≡ None }
+    {
+        self.nodes.capacity()
     }
 
     /// How many nodes there are.
@@ -343,7 +374,7 @@ impl QcArena {
     /// The pairs of a node and what its rows come to that are there now and were not at `begin`, each
     /// once.
     pub fn classes_added(&self, alloc: Global) -> Result<Vec<(NodeNo, Agg)>, Memory>
-        requires { self.now.is_open ≡ true }
+        requires { is_open self.now ≡ true }
         ensures { IfOk result (λ pairs. AreNew (class_was self.now) (class_now self.now) pairs.items) }
     {
         changed(alloc, &self.nodes, &self.parts, &self.images, true)
@@ -352,7 +383,7 @@ impl QcArena {
     /// The pairs of a node and what its rows come to that were there at `begin` and are not now, each
     /// once.
     pub fn classes_removed(&self, alloc: Global) -> Result<Vec<(NodeNo, Agg)>, Memory>
-        requires { self.now.is_open ≡ true }
+        requires { is_open self.now ≡ true }
         ensures { IfOk result (λ pairs. AreNew (class_now self.now) (class_was self.now) pairs.items) }
     {
         changed(alloc, &self.nodes, &self.parts, &self.images, false)

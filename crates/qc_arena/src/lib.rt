@@ -6,6 +6,7 @@ mod changes;
 mod counted;
 mod edges;
 mod image;
+mod images;
 mod kept;
 mod nodes;
 mod parts;
@@ -18,6 +19,7 @@ mod trail;
 
 pub use arena::{ArenaRefused, QcArena};
 pub use cube_defs::Memory;
+pub use images::Images;
 pub use kept::Counts;
 pub use nodes::{Forced, Nodes};
 

@@ -20,7 +20,7 @@ use crate::nodes::Forced;
 use crate::parts::Parts;
 use crate::place::Place;
 use crate::records::Rec;
-use crate::touched::Images;
+use crate::touched::Touched;
 use aggregates::Agg;
 use cell_core::Code;
 use slab::Slab;
@@ -69,7 +69,7 @@ fn clear_killed(nodes: &mut Slab<Place>, node: u32)
 }
 
 // Puts back what each touched node had, and takes away the nodes that are new.
-pub(crate) fn put_back(nodes: &mut Slab<Place>, parts: &mut Parts, images: &mut Images)
+pub(crate) fn put_back(nodes: &mut Slab<Place>, parts: &mut Parts, images: &mut Touched)
     requires stored { IsStored nodes.old parts.old }
     requires placed { (q : ℕ) → IsSome (image_at images.old q) → slots.ContainsKey nodes.old q }
     requires killed { (q : ℕ) → slots.get nodes.old q ≡ Some None → IsSome (image_at images.old q) }
@@ -83,16 +83,15 @@ pub(crate) fn put_back(nodes: &mut Slab<Place>, parts: &mut Parts, images: &mut 
     }
 }
 
-// Takes the places of the killed nodes away, and lets the images go.
-pub(crate) fn let_go(nodes: &mut Slab<Place>, images: &mut Images)
-    requires placed { (q : ℕ) → IsSome (image_at images.old q) → slots.ContainsKey nodes.old q }
-    requires killed { (q : ℕ) → slots.get nodes.old q ≡ Some None → IsSome (image_at images.old q) }
+// Takes the places of the killed nodes away.
+pub(crate) fn clear_all(nodes: &mut Slab<Place>, images: &Touched)
+    requires placed { (q : ℕ) → IsSome (image_at images.now q) → slots.ContainsKey nodes.old q }
+    requires killed { (q : ℕ) → slots.get nodes.old q ≡ Some None → IsSome (image_at images.now q) }
     ensures nodes { (q : ℕ) → join (slots.get nodes.new q) ≡ join (slots.get nodes.old q) }
     ensures none_killed { (q : ℕ) → slots.get nodes.new q ≢ Some None }
-    ensures images { images.new ≡ [] }
 {
-    'images: while let Some((node, _)) = images.pop() {
-        clear_killed(nodes, node);
+    'images: for k in 0..images.len() {
+        clear_killed(nodes, images.number(k));
     }
 }
 
@@ -124,7 +123,7 @@ fn fill_slot(nodes: &mut Slab<Place>, new: Rec)
 pub(crate) fn add_record(
     nodes: &mut Slab<Place>,
     parts: &mut Parts,
-    images: &mut Images,
+    images: &mut Touched,
     new: Rec,
 ) -> Result<u32, Memory>
     requires { (q : ℕ) → IsSome (image_at images.old q) → slots.ContainsKey nodes.old q }

@@ -1,5 +1,5 @@
 -- Lines as commands.
-use Rattle.std.proofs.Common.{◌≡◌, ℕ, List, [], ◌∷◌, length, refl, arith, Ok, Err, true, false, Bool, cond, IsUtf8}
+use Rattle.std.proofs.Common.{Option, ◌<◌, ◌+◌, Some, None, ◌≡◌, ℕ, List, [], ◌∷◌, length, refl, arith, Ok, Err, true, false, Bool, cond, IsUtf8}
 use Rattle.std.specs.Prelude.{◌&&◌, ◌||◌, Result, IfOk, codes}
 use Rattle.std.specs.Str.{bytes_eq, is_utf8}
 use Rattle.std.proofs.lemmas.Str.{IsUtf8-from_is_utf8, is_utf8-from_IsUtf8}
@@ -11,11 +11,20 @@ use Rattle.query_script.specs.Faults as faults
 use Rattle.cell_core.specs.Gives.{Gives}
 use Rattle.query_script.specs.Faults.{LineFault, line_fault_in}
 use Rattle.query_script.specs.Lines.{may_want_memory, names_more, rest_of, stats_line, word_of}
-use Rattle.query_script.specs.Commands.{IsCommand, command_in, command_named, command_with, name_in, point_in, wants_memory}
+use Rattle.query_script.specs.Commands.{IsMeasured, IsQuestion, asked_with, command_in, command_named, name_in, record_in, wants_memory}
+use Rattle.query_script.specs.Icebergs.{bound_at, bound_named, iceberg_in, iceberg_of, makes, value_at, with_aggregate, with_bound, with_measure, with_value}
+use Rattle.query_script.specs.Questions.{Apply, Bounds, Iceberg, Load, Point, Question, Range, Stats, question_in}
 use Rattle.query_script.specs.declared.line.Command.{Command}
-use Rattle.query_script.specs.declared.line.Command.TheVariants.{Load, Apply, Point, Bounds, Stats}
+use Rattle.query_script.specs.declared.record.Shape.TheVariants as shapes
 use Rattle.query_script.specs.declared.line.LineRefused.{LineRefused}
-use Rattle.query_script.proofs.Points.{point-fields}
+use Rattle.qc_schema.specs.Grammar.{measure_from}
+use Rattle.qc_schema.specs.Schema.{Measure}
+use Rattle.qc_schema.proofs.Keeping.{measure-there}
+use Rattle.cube_defs.specs.Answers as answers
+use Rattle.cube_defs.specs.Rows.{Fraction}
+use Rattle.aggregates.specs.Numbers.{fraction_written}
+use Rattle.text_lines.specs.Cuts.{words_of}
+use Rattle.query_script.proofs.Asked.{box-fields, cell-fields}
 
 pub stats-line : (layout : Layout) (line : List ℕ) → IsUtf8 line → bytes_eq line stats_line ≡ true → command_in layout line ≡ Ok Stats
 stats-line layout line u e = rw (is_utf8-from_IsUtf8 line u, e) refl
@@ -33,77 +42,128 @@ no-text-line layout line h = by (is_utf8 line) refl
 pub wants-memory : (line : List ℕ) → IsUtf8 line → names_more (word_of line) ≡ true → may_want_memory line ≡ true
 wants-memory line u e = and_from _ _ (is_utf8-from_IsUtf8 line u) e
 
--- ---- what each command is
+-- ---- what each line asks
 
-load-is : (layout : Layout) (rest : List ℕ) (command : Command) → command_with Load (name_in rest) ≡ Ok command → IsCommand layout command
-load-is layout [] command e = absurd (cc e)
-load-is layout (b ∷ bs) command e = let same : Load (b ∷ bs) ≡ command = cc in rw (← same) (omega arith)
+load-is : (layout : Layout) (rest : List ℕ) (q : Question) → asked_with Load (name_in rest) ≡ Ok q → IsQuestion layout q
+load-is layout [] q e = absurd (cc e)
+load-is layout (b ∷ bs) q e = let same : Load (b ∷ bs) ≡ q = cc in rw (← same) (omega arith)
 
-apply-is : (layout : Layout) (rest : List ℕ) (command : Command) → command_with Apply (name_in rest) ≡ Ok command → IsCommand layout command
-apply-is layout [] command e = absurd (cc e)
-apply-is layout (b ∷ bs) command e = let same : Apply (b ∷ bs) ≡ command = cc in rw (← same) (omega arith)
+apply-is : (layout : Layout) (rest : List ℕ) (q : Question) → asked_with Apply (name_in rest) ≡ Ok q → IsQuestion layout q
+apply-is layout [] q e = absurd (cc e)
+apply-is layout (b ∷ bs) q e = let same : Apply (b ∷ bs) ≡ q = cc in rw (← same) (omega arith)
 
--- a command that asks a cell
-cell-is : (layout : Layout) (rest : List ℕ) (make : List asked.Field → Command) (command : Command) → ((fields : List asked.Field) → point_in (length layout.dims) rest ≡ Ok fields → IsCommand layout (make fields))
-    → command_with make (point_in (length layout.dims) rest) ≡ Ok command → IsCommand layout command
-cell-is layout rest make command made e = by (point_in (length layout.dims) rest) refl e
+-- what asks for fields
+fields-are : (layout : Layout) (read : Result (List asked.Field) LineFault) (make : List asked.Field → Question) (q : Question) → ((fields : List asked.Field) → read ≡ Ok fields → IsQuestion layout (make fields))
+    → asked_with make read ≡ Ok q → IsQuestion layout q
+fields-are layout (Err fault) make q made m = absurd (cc m)
+fields-are layout (Ok fields) make q made m = let same : make fields ≡ q = cc in rw (← same) (made fields refl)
+
+-- an iceberg of a measure that is there
+module _ (layout : Layout) where
+  IsMade : answers.AggKind → Type 0
+  IsMade kind = IsMeasured (length layout.measures) kind
+
+  value-is : (kind : answers.AggKind) (bound : answers.Bound) (k : ℕ) (words : List Text) (q : Question) → IsMade kind → value_at kind bound k words ≡ Ok q → IsQuestion layout q
+  value-is kind bound k [] q made e = absurd (cc e)
+  value-is kind bound k (word ∷ []) q made e = by (fraction_written word) e
+    where
+      by : (o : Option Fraction) → with_value kind bound o ≡ Ok q → IsQuestion layout q
+      by None m = absurd (cc m)
+      by (Some value) m = let same : Iceberg kind bound value ≡ q = cc in rw (← same) made
+  value-is kind bound k (word ∷ more ∷ words) q made e = absurd (cc e)
+
+  bound-is : (kind : answers.AggKind) (k : ℕ) (words : List Text) (q : Question) → IsMade kind → bound_at kind k words ≡ Ok q → IsQuestion layout q
+  bound-is kind k [] q made e = absurd (cc e)
+  bound-is kind k (word ∷ words) q made e = by (bound_named word) e
+    where
+      by : (o : Option answers.Bound) → with_bound kind k words o ≡ Ok q → IsQuestion layout q
+      by None m = absurd (cc m)
+      by (Some bound) m = value-is kind bound (k + 1) words q made m
+
+  made-is : (word : Text) (make : ℕ → answers.AggKind) (m : ℕ) → m < length layout.measures → makes word ≡ Some make → IsMade (make m)
+  made-is word make m lt e = by (bytes_eq word (codes "sum")) (bytes_eq word (codes "least")) (bytes_eq word (codes "greatest")) (bytes_eq word (codes "mean")) e
+    where
+      by : (sum least greatest mean : Bool) → cond sum (Some answers.Sum) (cond least (Some answers.Least) (cond greatest (Some answers.Greatest) (cond mean (Some answers.Mean) None))) ≡ Some make → IsMade (make m)
+      by true least greatest mean h = let same : answers.Sum ≡ make = cc in rw (← same) lt
+      by false true greatest mean h = let same : answers.Least ≡ make = cc in rw (← same) lt
+      by false false true mean h = let same : answers.Greatest ≡ make = cc in rw (← same) lt
+      by false false false true h = let same : answers.Mean ≡ make = cc in rw (← same) lt
+      by false false false false h = absurd (cc h)
+
+  measure-is : (make : ℕ → answers.AggKind) (words : List Text) (o : Option ℕ) (q : Question) → ((m : ℕ) → o ≡ Some m → IsMade (make m)) → with_measure make words o ≡ Ok q → IsQuestion layout q
+  measure-is make words None q made e = absurd (cc e)
+  measure-is make words (Some m) q made e = bound-is (make m) 3 words q (made m refl) e
+
+  aggregate-is : (word : Text) (words : List Text) (o : Option (ℕ → answers.AggKind)) (q : Question) → makes word ≡ o → with_aggregate layout.measures words o ≡ Ok q → IsQuestion layout q
+  aggregate-is word words None q is e = absurd (cc e)
+  aggregate-is word [] (Some make) q is e = absurd (cc e)
+  aggregate-is word (name ∷ words) (Some make) q is e =
+      measure-is make words (measure_from layout.measures 0 name) q (λ m there. made-is word make m (omega (arith, measure-there layout.measures 0 m name there)) is) e
+
+  iceberg-is : (words : List Text) (q : Question) → iceberg_of layout.measures words ≡ Ok q → IsQuestion layout q
+  iceberg-is [] q e = absurd (cc e)
+  iceberg-is (word ∷ words) q e = by (bytes_eq word (codes "count")) e
+    where
+      by : (count : Bool) → cond count (bound_at answers.Count 2 words) (with_aggregate layout.measures words (makes word)) ≡ Ok q → IsQuestion layout q
+      by true m = bound-is answers.Count 2 words q tt m
+      by false m = aggregate-is word words (makes word) q refl m
+
+-- the words of the commands that name something behind them, each with what it asks
+abbrev Named : Layout → List ℕ → (load apply point range bounds iceberg : Bool) → Result Question LineFault
+Named layout rest load apply point range bounds iceberg =
+    cond load (asked_with Load (name_in rest)) (cond apply (asked_with Apply (name_in rest))
+    (cond point (asked_with Point (record_in shapes.Cell (length layout.dims) rest)) (cond range (asked_with Range (record_in shapes.Box (length layout.dims) rest))
+    (cond bounds (asked_with Bounds (record_in shapes.Cell (length layout.dims) rest)) (cond iceberg (iceberg_in layout rest) (Err faults.Command))))))
+
+named-is : (layout : Layout) (word : Text) (rest : List ℕ) (q : Question) → command_named layout word rest ≡ Ok q → IsQuestion layout q
+named-is layout word rest q e =
+    by (bytes_eq word (codes "load")) (bytes_eq word (codes "apply")) (bytes_eq word (codes "point")) (bytes_eq word (codes "range")) (bytes_eq word (codes "bounds")) (bytes_eq word (codes "iceberg")) e
   where
-    by : (read : Result (List asked.Field) LineFault) → point_in (length layout.dims) rest ≡ read → command_with make read ≡ Ok command → IsCommand layout command
-    by (Err fault) is m = absurd (cc m)
-    by (Ok fields) is m = let same : make fields ≡ command = cc in rw (← same) (made fields is)
+    by : (load apply point range bounds iceberg : Bool) → Named layout rest load apply point range bounds iceberg ≡ Ok q → IsQuestion layout q
+    by true apply point range bounds iceberg m = load-is layout rest q m
+    by false true point range bounds iceberg m = apply-is layout rest q m
+    by false false true range bounds iceberg m = fields-are layout (record_in shapes.Cell (length layout.dims) rest) Point q (cell-fields (length layout.dims) rest) m
+    by false false false true bounds iceberg m = fields-are layout (record_in shapes.Box (length layout.dims) rest) Range q (box-fields (length layout.dims) rest) m
+    by false false false false true iceberg m = fields-are layout (record_in shapes.Cell (length layout.dims) rest) Bounds q (cell-fields (length layout.dims) rest) m
+    by false false false false false true m = iceberg-is layout (words_of rest) q m
+    by false false false false false false m = absurd (cc m)
 
-point-is : (layout : Layout) (rest : List ℕ) (command : Command) → command_with Point (point_in (length layout.dims) rest) ≡ Ok command → IsCommand layout command
-point-is layout rest command e = cell-is layout rest Point command (point-fields (length layout.dims) rest) e
-
-bounds-is : (layout : Layout) (rest : List ℕ) (command : Command) → command_with Bounds (point_in (length layout.dims) rest) ≡ Ok command → IsCommand layout command
-bounds-is layout rest command e = cell-is layout rest Bounds command (point-fields (length layout.dims) rest) e
-
-named-is : (layout : Layout) (word : Text) (rest : List ℕ) (command : Command) → command_named layout word rest ≡ Ok command → IsCommand layout command
-named-is layout word rest command e = by (bytes_eq word (codes "load")) (bytes_eq word (codes "apply")) (bytes_eq word (codes "point")) (bytes_eq word (codes "bounds")) e
-  where
-    by : (load apply point bounds : Bool)
-        → cond load (command_with Load (name_in rest)) (cond apply (command_with Apply (name_in rest)) (cond point (command_with Point (point_in (length layout.dims) rest)) (cond bounds (command_with Bounds (point_in (length layout.dims) rest)) (Err faults.Command)))) ≡ Ok command
-        → IsCommand layout command
-    by true apply point bounds m = load-is layout rest command m
-    by false true point bounds m = apply-is layout rest command m
-    by false false true bounds m = point-is layout rest command m
-    by false false false true m = bounds-is layout rest command m
-    by false false false false m = absurd (cc m)
-
-pub line-is : (layout : Layout) (line : List ℕ) (r : Result Command LineRefused) → Gives line_fault_in (λ command. command) r (command_in layout line) → IfOk r (IsCommand layout)
+pub line-is : (layout : Layout) (line : List ℕ) (r : Result Command LineRefused) → Gives line_fault_in question_in r (command_in layout line) → IfOk r (λ command. IsQuestion layout (question_in command))
 line-is layout line (Err refused) h = tt
 line-is layout line (Ok command) h = by (is_utf8 line) (bytes_eq line stats_line) h
   where
-    by : (b stats : Bool) → cond b (cond stats (Ok Stats) (command_named layout (word_of line) (rest_of line))) (Err faults.Utf8) ≡ Ok command → IsCommand layout command
-    by true true m = let same : Stats ≡ command = cc in rw (← same) tt
-    by true false m = named-is layout (word_of line) (rest_of line) command m
+    by : (b stats : Bool) → cond b (cond stats (Ok Stats) (command_named layout (word_of line) (rest_of line))) (Err faults.Utf8) ≡ Ok (question_in command) → IsQuestion layout (question_in command)
+    by true true m = let same : Stats ≡ question_in command = cc in rw (← same) tt
+    by true false m = named-is layout (word_of line) (rest_of line) (question_in command) m
     by false stats m = absurd (cc m)
 
 -- ---- which lines want memory
 
-named-wants : (layout : Layout) (word : Text) (rest : List ℕ) (command : Command) → command_named layout word rest ≡ Ok command → names_more word ≡ true
-named-wants layout word rest command e = by (bytes_eq word (codes "load")) (bytes_eq word (codes "apply")) (bytes_eq word (codes "point")) (bytes_eq word (codes "bounds")) e
+named-wants : (layout : Layout) (word : Text) (rest : List ℕ) (q : Question) → command_named layout word rest ≡ Ok q → names_more word ≡ true
+named-wants layout word rest q e =
+    by (bytes_eq word (codes "load")) (bytes_eq word (codes "apply")) (bytes_eq word (codes "point")) (bytes_eq word (codes "range")) (bytes_eq word (codes "bounds")) (bytes_eq word (codes "iceberg")) e
   where
-    by : (load apply point bounds : Bool)
-        → cond load (command_with Load (name_in rest)) (cond apply (command_with Apply (name_in rest)) (cond point (command_with Point (point_in (length layout.dims) rest)) (cond bounds (command_with Bounds (point_in (length layout.dims) rest)) (Err faults.Command)))) ≡ Ok command
-        → (load || apply || point || bounds) ≡ true
-    by true apply point bounds m = refl
-    by false true point bounds m = refl
-    by false false true bounds m = refl
-    by false false false true m = refl
-    by false false false false m = absurd (cc m)
+    by : (load apply point range bounds iceberg : Bool) → Named layout rest load apply point range bounds iceberg ≡ Ok q → (load || apply || point || range || bounds || iceberg) ≡ true
+    by true apply point range bounds iceberg m = refl
+    by false true point range bounds iceberg m = refl
+    by false false true range bounds iceberg m = refl
+    by false false false true bounds iceberg m = refl
+    by false false false false true iceberg m = refl
+    by false false false false false true m = refl
+    by false false false false false false m = absurd (cc m)
 
-line-wants : (layout : Layout) (line : List ℕ) (command : Command) → command_in layout line ≡ Ok command → wants_memory command ≡ true → may_want_memory line ≡ true
-line-wants layout line command h wants = by (is_utf8 line) (bytes_eq line stats_line) h
+line-wants : (layout : Layout) (line : List ℕ) (q : Question) → command_in layout line ≡ Ok q → wants_memory q ≡ true → may_want_memory line ≡ true
+line-wants layout line q h wants = by (is_utf8 line) (bytes_eq line stats_line) h
   where
-    by : (b stats : Bool) → cond b (cond stats (Ok Stats) (command_named layout (word_of line) (rest_of line))) (Err faults.Utf8) ≡ Ok command → (b && names_more (word_of line)) ≡ true
-    by true true m = let same : Stats ≡ command = cc in absurd (never (rw (← same) at wants))
+    by : (b stats : Bool) → cond b (cond stats (Ok Stats) (command_named layout (word_of line) (rest_of line))) (Err faults.Utf8) ≡ Ok q → (b && names_more (word_of line)) ≡ true
+    by true true m = let same : Stats ≡ q = cc in absurd (never (rw (← same) at wants))
       where
         never : wants_memory Stats ≡ true → ⊥
         never e = cc
-    by true false m = named-wants layout (word_of line) (rest_of line) command m
+    by true false m = named-wants layout (word_of line) (rest_of line) q m
     by false stats m = absurd (cc m)
 
-pub reading-wants : (layout : Layout) (line : List ℕ) (r : Result Command LineRefused) → Gives line_fault_in (λ command. command) r (command_in layout line) → IfOk r (λ command. wants_memory command ≡ true → may_want_memory line ≡ true)
+pub reading-wants : (layout : Layout) (line : List ℕ) (r : Result Command LineRefused) → Gives line_fault_in question_in r (command_in layout line)
+    → IfOk r (λ command. wants_memory (question_in command) ≡ true → may_want_memory line ≡ true)
 reading-wants layout line (Err refused) h = tt
-reading-wants layout line (Ok command) h = line-wants layout line command h
+reading-wants layout line (Ok command) h = line-wants layout line (question_in command) h

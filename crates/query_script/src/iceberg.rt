@@ -31,12 +31,16 @@ impl OfMeasure {
     fn named(word: &[u8]) -> Option<OfMeasure>
         ensures { option_map make_of result ≡ makes word.now }
     {
-        match word {
-            b"sum" => Some(OfMeasure::Sum),
-            b"least" => Some(OfMeasure::Least),
-            b"greatest" => Some(OfMeasure::Greatest),
-            b"mean" => Some(OfMeasure::Mean),
-            _ => None,
+        if word == b"sum".as_slice() {
+            Some(OfMeasure::Sum)
+        } else if word == b"least".as_slice() {
+            Some(OfMeasure::Least)
+        } else if word == b"greatest".as_slice() {
+            Some(OfMeasure::Greatest)
+        } else if word == b"mean".as_slice() {
+            Some(OfMeasure::Mean)
+        } else {
+            None
         }
     }
 

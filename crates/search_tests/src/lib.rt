@@ -1,4 +1,4 @@
-//! Tests of searches in a small tree that is written out.
+//! Tests of searches: in a small tree that is written out, and in one that batches changed and left.
 #![tactic(auto)]
 
 #[cfg(test)]
@@ -7,3 +7,5 @@ mod bounds;
 mod searches;
 #[cfg(test)]
 mod shop;
+#[cfg(test)]
+mod stopped;

@@ -1,5 +1,5 @@
 -- What is true of each state.
-use Rattle.std.proofs.Common.{◌<◌, ◌≤◌, ◌∙◌, ℕ, List, [], ◌∷◌, length, map, nat_eq, sym, subst, arith, refl, replicate, None, lit<}
+use Rattle.std.proofs.Common.{◌<◌, ◌≤◌, ◌∙◌, ◌≡◌, ℕ, List, [], ◌∷◌, ap, length, map, nat_eq, sym, subst, arith, refl, replicate, None, lit<}
 use Rattle.std.specs.List.{All, IsDistinct}
 use Rattle.std.specs.Ordering.{nat_cmp}
 use Rattle.std.proofs.lemmas.List.Elements.{All-cons, All-head, All-nil, All-replicate, All-tail}
@@ -12,6 +12,7 @@ use Rattle.csv_load.specs.Batch.{IsLoaded, IsValue}
 use Rattle.qc_schema.specs.Schema.{IsLayout, Layout}
 use Rattle.value_dict.specs.TextLists.{IsDictionary, TextLists, no_texts}
 use Rattle.warehouse.specs.State.{IsState}
+use Rattle.warehouse.specs.Steps.{closed, frame}
 use Rattle.warehouse.specs.Stored.{IsStored, state_of}
 use Rattle.value_dict.specs.Told.{AreCodes, RowsAreCodes, decoded_row}
 use Rattle.warehouse.proofs.Counted.{nodes-decoded}
@@ -79,4 +80,21 @@ stored-empty schema layout dictionary = record {
   known = All-nil (λ (row : Row ℕ). AreCodes (replicate (length schema.dims) []) row.tuple);
   dictionary = dictionary;
   are_rows = table-empty (length schema.dims) (length schema.measures) schema.rows (omega (arith, layout.some_dims)) (omega (arith, layout.few_dims)) (omega (arith, layout.few_measures)) (omega (arith, layout.some_rows)) layout.few_rows;
+}
+
+-- a dictionary and a table in the place of those before
+pub stored-next : (schema : Layout) (dict dict' : TextLists) (table table' : Places) → IsStored schema dict table → frame table' ≡ frame (closed table) → IsTable table' → dict'.max ≡ dict.max → length dict'.lists ≡ length dict.lists
+    → All (All IsValue) dict'.lists → RowsAreCodes dict'.lists (rows_of table') → IsDictionary dict' → IsStored schema dict' table'
+stored-next schema dict dict' table table' is rest valid max long values known dictionary = record {
+  layout = is.layout;
+  lists = long ∙ is.lists;
+  most_texts = max ∙ is.most_texts;
+  dims = ap (λ (t : Places). t.dims) rest ∙ is.dims;
+  measures = ap (λ (t : Places). t.measures) rest ∙ is.measures;
+  most_rows = ap (λ (t : Places). t.max) rest ∙ is.most_rows;
+  closed = ap (λ (t : Places). t.was) rest;
+  values = values;
+  known = known;
+  dictionary = dictionary;
+  are_rows = valid;
 }

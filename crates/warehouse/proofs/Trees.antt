@@ -5,11 +5,12 @@ use Rattle.std.specs.Ordering.{nat_cmp}
 use Rattle.std.specs.Prelude.{option_map}
 use Rattle.std.specs.List.{AllByRecursion}
 use Rattle.cube_defs.specs.Rows.{Row}
-use Rattle.cube_defs.specs.Tree.{IsCanonical, Node, nodes}
+use Rattle.cube_defs.specs.Tree.{IsCanonical, Node, Tree, nodes}
 use Rattle.base_table.specs.Places.{IsRow, IsTable, Places, rows_of}
 use Rattle.cell_closure.proofs.Rows.{all_recursion}
 use Rattle.cube_laws.proofs.Lists.{all_map}
-use Rattle.qc_arena.specs.Map.{Arena, no_nodes}
+use Rattle.qc_arena.specs.Codes.{Shape}
+use Rattle.qc_arena.specs.Map.{Arena, is_open, no_nodes, shape_of}
 use Rattle.qc_schema.specs.Schema.{Layout}
 use Rattle.tree_search.specs.Found.{IsFrom}
 use Rattle.value_dict.specs.TextLists.{TextLists}
@@ -37,7 +38,7 @@ pub kept-empty : (schema : Layout) → IsKept schema (no_rows (length schema.dim
 kept-empty schema = record { closed = refl; width = refl; max = refl; few = let none : 0 ≤ schema.nodes = omega arith in none; from = none-from (length schema.dims) (length schema.measures) }
 
 pub kept-canonical : (schema : Layout) (table : Places) (tree : Arena) → IsTable table → table.dims ≡ length schema.dims → table.measures ≡ length schema.measures
-    → tree.is_open ≡ false → tree.width ≡ length schema.dims → tree.max ≡ schema.nodes → length (nodes nat_cmp (rows_of table)) ≤ schema.nodes → IsCanonical nat_cmp table.measures (rows_of table) tree.now → IsKept schema table tree
+    → is_open tree ≡ false → tree.width ≡ length schema.dims → tree.max ≡ schema.nodes → length (nodes nat_cmp (rows_of table)) ≤ schema.nodes → IsCanonical nat_cmp table.measures (rows_of table) tree.now → IsKept schema table tree
 kept-canonical schema table tree is dims measures closed width max few canonical = record {
   closed = closed;
   width = width;
@@ -48,6 +49,25 @@ kept-canonical schema table tree is dims measures closed width max few canonical
     canonical = subst (λ (n : ℕ). IsCanonical nat_cmp n (rows_of table) tree.now) measures canonical;
   };
 }
+
+pub some_same : {X : Type 0} {x y : X} → Some x ≡ Some y → x ≡ y
+some_same h = cc
+
+-- the rows and the tree are those of before
+pub kept-back : (schema : Layout) (table table' : Places) (tree tree' : Arena) → IsKept schema table tree → Some (rows_of table') ≡ Some (rows_of table) → Some (shape_of tree') ≡ Some (shape_of tree)
+    → is_open tree' ≡ false → tree'.max ≡ tree.max → IsKept schema table' tree'
+kept-back schema table table' tree tree' is same back closed max =
+    let rows : rows_of table' ≡ rows_of table = some_same same in
+    let shape : shape_of tree' ≡ shape_of tree = some_same back in
+    record {
+      closed = closed;
+      width = ap (λ (s : Shape). s.width) shape ∙ is.width;
+      max = max ∙ is.max;
+      few = subst (λ (rs : List (Row ℕ)). length (nodes nat_cmp rs) ≤ schema.nodes) (sym rows) is.few;
+      from =
+          subst (λ (t : Tree ℕ). IsFrom (length schema.dims) t (record { measures = length schema.measures; rows = rows_of table' })) (sym (ap (λ (s : Shape). s.tree) shape))
+          (subst (λ (rs : List (Row ℕ)). IsFrom (length schema.dims) tree.now (record { measures = length schema.measures; rows = rs })) (sym rows) is.from);
+    }
 
 pub is-held : (schema : Layout) (dict : TextLists) (table : Places) (tree : Arena) → IsStored schema dict table → IsKept schema table tree → IsHeld (record { state = state_of schema dict table; tree = tree.now })
 is-held schema dict table tree stored kept = record {

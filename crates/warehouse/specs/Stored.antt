@@ -8,7 +8,7 @@ use Rattle.cube_defs.specs.Tree.{nodes}
 use Rattle.base_table.specs.Places.{IsTable, Places, rows_of}
 use Rattle.csv_load.specs.Batch.{IsValue}
 use Rattle.csv_load.specs.Faults as files
-use Rattle.qc_arena.specs.Map.{Arena}
+use Rattle.qc_arena.specs.Map.{Arena, is_open}
 use Rattle.qc_schema.specs.Schema.{Layout, IsLayout}
 use Rattle.tree_search.specs.Found.{IsFrom}
 use Rattle.value_dict.specs.TextLists.{IsDictionary, TextLists}
@@ -43,7 +43,7 @@ pub record IsStored (schema : Layout) (dict : TextLists) (table : Places) : Type
 
 -- the tree that is kept is that of the rows
 pub record IsKept (schema : Layout) (table : Places) (tree : Arena) : Type 0 where
-  pub closed : tree.is_open ≡ false
+  pub closed : is_open tree ≡ false
   pub width : tree.width ≡ length schema.dims
   pub max : tree.max ≡ schema.nodes
   pub few : length (nodes nat_cmp (rows_of table)) ≤ schema.nodes

@@ -3,7 +3,9 @@ ghost use Rattle.std.specs.Prelude.{Err, IfErr, IfOk, IfSome, None, Ok, OnErr, O
 ghost use Rattle.base_table.specs.Places.{has_id, rows_of};
 ghost use Rattle.cell_core.specs.Gives.{Gives};
 ghost use Rattle.csv_load.specs.Batch.{IsBatch, change_at, deleted, id_of, inserted, is_deletion, row_of};
-ghost use Rattle.cube_defs.specs.Tree.{nodes};
+ghost use Rattle.cube_defs.specs.Tree.{IsCanonical, nodes};
+ghost use Rattle.qc_arena.specs.Map as arena;
+ghost use Rattle.qc_arena.specs.Map.{is_open};
 ghost use Rattle.std.specs.Ordering.{nat_cmp};
 ghost use Rattle.value_dict.specs.TextLists.{IsDictionary};
 ghost use Rattle.warehouse.specs.Batch as batches;
@@ -15,6 +17,7 @@ ghost use Rattle.value_dict.specs.Told.{RowsAreCodes};
 
 use crate::checks::{first_present, first_repeat, is_full};
 use crate::learning::{learn_tuple, lengths, values_full};
+use crate::one_batch::{go_back, keep, open_batch};
 use crate::refused::{Applied, Refused};
 use base_table::{Table, TableRefused};
 use cell_core::{Cell, Steps};
@@ -211,34 +214,32 @@ fn change_rows(
     Ok(())
 }
 
-// The tree of the table's rows, made anew.
-fn tree_of<L: Ledger>(
-    schema: &Schema,
+// Makes the tree of the table's rows anew. After a refusal the tree is none in particular.
+fn rebuild<L: Ledger>(
     table: &Table,
+    tree: &mut QcArena,
     alloc: Global,
     steps: &mut Steps<L>,
-) -> Result<QcArena, ArenaRefused>
-    requires dims { table.now.dims ≡ length schema.now.dims }
-    requires measures { table.now.measures ≡ length schema.now.measures }
-    ensures tree { IfOk result (λ tree. IsKept schema.now table.now tree) }
-    ensures fits { OnOk result (length (nodes nat_cmp (rows_of table.now)) ≤ schema.now.nodes) }
-    ensures full { result ≡ Err ArenaRefused.Full → schema.now.nodes < length (nodes nat_cmp (rows_of table.now)) }
+) -> Result<(), ArenaRefused>
+    requires opened { is_open tree.old ≡ true }
+    requires width { tree.old.width ≡ table.now.dims }
+    ensures tree { OnOk result (IsCanonical nat_cmp table.now.measures (rows_of table.now) tree.new.now) }
+    ensures fits { OnOk result (length (nodes nat_cmp (rows_of table.now)) ≤ tree.old.max) }
+    ensures full { result ≡ Err ArenaRefused.Full → tree.old.max < length (nodes nat_cmp (rows_of table.now)) }
+    ensures frame { arena.frame tree.new ≡ arena.frame tree.old }
 {
-    let Ok(mut tree) = QcArena::new(alloc, schema.dims(), schema.nodes()) else {
-        return Err(ArenaRefused::Memory);
-    };
-    tree.begin();
-    match build_classes(alloc, table, &mut tree, steps) {
-        Ok(()) => {}
-        Err(refused) => return Err(refused),
-    }
-    match link_all(alloc, table, &mut tree, steps) {
+    match tree.clear(steps) {
         Ok(()) => {}
         Err(_) => return Err(ArenaRefused::Memory),
     }
-    tree.commit();
-    table.is_valid();
-    Ok(tree)
+    match build_classes(alloc, table, tree, steps) {
+        Ok(()) => {}
+        Err(refused) => return Err(refused),
+    }
+    match link_all(alloc, table, tree, steps) {
+        Ok(()) => Ok(()),
+        Err(_) => Err(ArenaRefused::Memory),
+    }
 }
 
 // Makes the changes in a batch that is open, and the tree of the rows after them. After a refusal some
@@ -247,77 +248,42 @@ fn change_and_build<L: Ledger>(
     schema: &Schema,
     table: &mut Table,
     dict: &mut Dict,
+    tree: &mut QcArena,
     batch: &RawBatch,
     alloc: Global,
     steps: &mut Steps<L>,
-) -> Result<QcArena, Refused>
+) -> Result<(), Refused>
     requires stored { IsStored schema.now dict.old (closed table.old) }
     requires is_open { is_some table.old.was ≡ true }
+    requires opened { is_open tree.old ≡ true }
+    requires width { tree.old.width ≡ length schema.now.dims }
+    requires most_nodes { tree.old.max ≡ schema.now.nodes }
     requires dims { batch.now.dims ≡ length schema.now.dims }
     requires measures { batch.now.measures ≡ length schema.now.measures }
     requires once { first_twice batch.now.changes ≡ None }
     requires valid { IsBatch batch.now }
     ensures none { OnOk result (refusal_of (state_of schema.now dict.old table.old) batch.now.changes ≡ None) }
     ensures made { OnOk result (state_of schema.now dict.new table.new ≡ after (state_of schema.now dict.old table.old) batch.now.changes) }
-    ensures tree { IfOk result (λ tree. IsKept schema.now table.new tree) }
+    ensures tree { OnOk result (IsCanonical nat_cmp table.new.measures (rows_of table.new) tree.new.now) }
+    ensures fits { OnOk result (length (nodes nat_cmp (rows_of table.new)) ≤ schema.now.nodes) }
     ensures known { OnOk result (RowsAreCodes dict.new.lists (rows_of table.new)) }
     ensures cause { IfErr result (λ refused. IsCause refused (state_of schema.now dict.old table.old) batch.now.changes) }
     ensures longer { AreLonger dict.old.lists dict.new.lists }
     ensures max { dict.new.max ≡ dict.old.max }
     ensures dictionary { IsDictionary dict.new }
     ensures frame { frame table.new ≡ frame table.old }
+    ensures tree_frame { arena.frame tree.new ≡ arena.frame tree.old }
 {
     change_rows(schema, table, dict, batch, alloc)?;
-    match tree_of(schema, table, alloc, steps) {
-        Ok(tree) => Ok(tree),
+    match rebuild(table, tree, alloc, steps) {
+        Ok(()) => Ok(()),
         Err(ArenaRefused::Full) => Err(Refused::NodesFull),
         Err(ArenaRefused::Memory) => Err(Refused::Memory),
     }
 }
 
-// Makes the changes in a batch of their own, and the tree of the rows after them. After a refusal the
-// rows are as they were, and some texts are learnt.
-fn change_table<L: Ledger>(
-    schema: &Schema,
-    table: &mut Table,
-    dict: &mut Dict,
-    batch: &RawBatch,
-    alloc: Global,
-    steps: &mut Steps<L>,
-) -> Result<QcArena, Refused>
-    requires stored { IsStored schema.now dict.old table.old }
-    requires dims { batch.now.dims ≡ length schema.now.dims }
-    requires measures { batch.now.measures ≡ length schema.now.measures }
-    requires once { first_twice batch.now.changes ≡ None }
-    requires valid { IsBatch batch.now }
-    ensures none { OnOk result (refusal_of (state_of schema.now dict.old table.old) batch.now.changes ≡ None) }
-    ensures made { OnOk result (state_of schema.now dict.new table.new ≡ after (state_of schema.now dict.old table.old) batch.now.changes) }
-    ensures tree { IfOk result (λ tree. IsKept schema.now table.new tree) }
-    ensures stored { OnOk result (IsStored schema.now dict.new table.new) }
-    ensures cause { IfErr result (λ refused. IsCause refused (state_of schema.now dict.old table.old) batch.now.changes) }
-    ensures kept { OnErr result (rows_of table.new ≡ rows_of table.old) }
-    ensures same { OnErr result (IsStored schema.now dict.old table.new) }
-    ensures longer { AreLonger dict.old.lists dict.new.lists }
-    ensures max { dict.new.max ≡ dict.old.max }
-    ensures dictionary { IsDictionary dict.new }
-{
-    table.begin();
-    match change_and_build(schema, table, dict, batch, alloc, steps) {
-        Ok(tree) => {
-            table.commit();
-            table.is_valid();
-            Ok(tree)
-        }
-        Err(refused) => {
-            table.rollback();
-            table.is_valid();
-            Err(refused)
-        }
-    }
-}
-
-/// Makes the changes, all of them or none, and puts the tree of the rows after them in the place of
-/// that before.
+/// Makes the changes in a batch of their own, all of them or none, and the tree of the rows after
+/// them.
 pub(crate) fn change<L: Ledger>(
     schema: &Schema,
     table: &mut Table,
@@ -341,16 +307,15 @@ pub(crate) fn change<L: Ledger>(
         return Err(Refused::Twice(k));
     }
     let records = batch.len();
-    let dims = schema.dims();
-    let lens = lengths(dict, dims);
-    match change_table(schema, table, dict, batch, alloc, steps) {
-        Ok(new) => {
-            let classes = new.class_count();
-            *tree = new;
+    let lens = open_batch(schema, table, dict, tree);
+    match change_and_build(schema, table, dict, tree, batch, alloc, steps) {
+        Ok(()) => {
+            keep(table, tree);
+            let classes = tree.class_count();
             Ok(Applied { records, classes })
         }
         Err(refused) => {
-            dict.cut_back(&lens[..usize::from(dims)]);
+            go_back(table, dict, tree, &lens[..usize::from(schema.dims())]);
             Err(refused)
         }
     }

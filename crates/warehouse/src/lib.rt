@@ -5,6 +5,7 @@
 mod changing;
 mod checks;
 mod learning;
+mod one_batch;
 mod refused;
 mod store;
 #[cfg(test)]

@@ -8,7 +8,7 @@ use Rattle.build_acts.proofs.marks.mark_class.Goals as goal
 
 pub returns-clause-made : goal.returns-clause-made
 returns-clause-made g c = λ measures rows w at.
-    let m = some_there (map.get c.args.arena.now.now c.args.node.0) c.requires.node in
+    let m = some_there (map.get c.args.arena.now.now c.args.node.0) c.requires.change.there in
     does_mark measures rows c.args.arena.now c.set_class.new.self c.args.node.0 w (agg_in c.args.agg) at m.0 m.1
-    (record { here = c.set_class.ensures.here ∙ ap (option_map (with_class (Some (agg_in c.args.agg)))) m.1; others = c.set_class.ensures.others; opened = c.set_class.ensures.opened; width = c.set_class.ensures.width })
+    (record { here = c.set_class.ensures.here ∙ ap (option_map (with_class (Some (agg_in c.args.agg)))) m.1; others = c.set_class.ensures.others; rest = c.set_class.ensures.frame })
     c.set_class.ensures.touched

@@ -17,7 +17,7 @@ added g c measures rows f at =
     let e = c.in-Ok.ensures in
     let is = cell_of_record c.args.arena.now.now c.args.parent.0 f at in
     does_child measures rows c.args.arena.now c.add_node.new.self c.in-Ok.child.0 c.args.parent.0 f c.args.dim c.args.code at (subst (λ c'. depth c' ≤ c.args.dim) is c.requires.behind) e.free
-    (record { here = e.here ∙ ap (λ c'. Some (bare (with_value c' c.args.dim c.args.code) (Some c.args.parent.0))) is; others = e.others; opened = e.opened; width = e.width })
+    (record { here = e.here ∙ ap (λ c'. Some (bare (with_value c' c.args.dim c.args.code) (Some c.args.parent.0))) is; others = e.others; rest = e.frame })
     e.touched
 
 placed : (g : given.Over) (c : goal.In-Ok-put_label g) (f : Cell ℕ) → cell_at c.args.arena.now.now c.args.parent.0 ≡ Some f → cell_at c.add_node.new.self.now c.in-Ok.child.0 ≡ Some (with_value f c.args.dim c.args.code)

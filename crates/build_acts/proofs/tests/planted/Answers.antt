@@ -5,4 +5,4 @@ use Rattle.qc_arena.proofs.KeptSteps.{none_there}
 use Rattle.build_acts.proofs.tests.planted.Goals as goal
 
 pub add_root-requires-clause-none : goal.add_root-requires-clause-none
-add_root-requires-clause-none g c = λ k e. none_there k _ (sym (ap (λ t. cell_at t k) (c.begin.ensures.now ∙ ap (λ (v : Arena). v.now) c.in-Ok.ensures)) ∙ e)
+add_root-requires-clause-none g c = λ k e. none_there k _ (sym (ap (λ t. cell_at t k) (ap (λ (v : Arena). v.now) c.begin.ensures ∙ ap (λ (v : Arena). v.now) c.in-Ok.ensures)) ∙ e)

@@ -6,6 +6,7 @@ use Rattle.base_table.specs.Places.{named, rows_of}
 use Rattle.cell_closure.proofs.Rows.{there}
 use Rattle.cell_closure.proofs.Closing.{shared_long}
 use Rattle.build_trace.specs.Trace.{Act.{Add}}
+use Rattle.qc_arena.specs.Map.{Arena}
 use Rattle.class_builder.specs.Walk.{acts_from}
 use Rattle.class_builder.proofs.Building.{does_then, err_again, next_behind, next_front}
 use Rattle.class_builder.proofs.Whole.{first_next, no_cell, nodes_counted, root_going, root_path, tree_built}
@@ -43,7 +44,7 @@ returns-in-Ok-clause-fits g c =
     let going = root_going c.args.part.now.table.now c.args.part.now.rows.now c.args.builder.now.arena.now (there c.args.part.now.table.now c.args.part.now.rows.now c.requires.part.there) c.requires.all c.requires.part.table c.requires.part.some c.requires.width c.requires.opened c.requires.empty in
     let root = Add (replicate c.args.builder.now.arena.now.width None) ∷ [] in
     let few : map.len c.drill-built.new.builder.arena.now.now ≤ c.drill-built.new.builder.arena.now.max = c.is_within.ensures in
-    let max : c.drill-built.new.builder.arena.now.max ≡ c.args.builder.now.arena.now.max = c.drill-built.ensures.stays.max ∙ c.in-Ok.ensures.max in
+    let max : c.drill-built.new.builder.arena.now.max ≡ c.args.builder.now.arena.now.max = ap (λ (a : Arena). a.max) (c.drill-built.ensures.frame ∙ c.in-Ok.ensures.frame) in
     on_ok_weaker c.drill-built.result
     (λ d.
     let count : map.len c.drill-built.new.builder.arena.now.now ≡ length (nodes nat_cmp (rows_of c.args.part.now.table.now)) = nodes_counted c.args.part.now.table.now.measures (rows_of c.args.part.now.table.now) _ c.args.builder.now.arena.now c.drill-built.new.builder.arena.now going

@@ -11,10 +11,11 @@ use Rattle.cell_closure.proofs.Closing.{shared_there, shared_long}
 use Rattle.build_trace.specs.Trace.{Act.{Mark}, acts_at, part_acts}
 use Rattle.build_acts.specs.Going.{Does, IsNext}
 use Rattle.cell_core.specs.Entry.{IsCode}
+use Rattle.qc_arena.specs.Map.{Arena}
 use Rattle.class_builder.specs.Walk.{IsGroup, IsPart, acts_from, front_acts, node_on}
 use Rattle.build_trace.proofs.Fronts.{keep_all, keep_still}
 use Rattle.class_builder.proofs.Uppers.{AreCovered, differs_behind}
-use Rattle.class_builder.proofs.Building.{does_nothing, does_then, next_front, next_behind, path_stays, on_path, path_on, path_of, stays_then}
+use Rattle.class_builder.proofs.Building.{does_nothing, does_then, next_front, next_behind, path_stays, on_path, path_on, path_of}
 use Rattle.class_builder.proofs.Steps.{acts_here, acts_end, part_new, part_old, parts_from, part_there, part_some, part_few, part_covered, part_value, part_is, part_small, parts_here, parts_end}
 use Rattle.class_builder.proofs.walk.+drilling.Goals as goal
 
@@ -25,7 +26,7 @@ drill-drill_at-requires g t c =
     let lt : c.dims.dim < table.dims = omega (arith, c.dims-test.true, c.dims-dim-end.ensures.value) in
     let next = next_front (acts_at (acts_from table (c.dims.dim + 1)) c.dims.dim c.args.part.now.shared (entry c.args.part.now.shared c.dims.dim) rows) (acts_from table (c.dims.dim + 1) rows) c.dims.builder.arena.now
     (subst (λ es. IsNext table.measures (rows_of table) es c.dims.builder.arena.now) (acts_here table c.dims.dim c.args.part.now.shared rows lt c.requires.part.shared) c.dims.invariant.next) in
-    λ κs h. (search rules, (h, (c.requires.part, (lt, (c.dims.invariant.stays.width ∙ c.requires.width, (next, c.dims.invariant.path))))))
+    λ κs h. (search rules, (h, (c.requires.part, (lt, (ap (λ (a : Arena). a.width) c.dims.invariant.rest ∙ c.requires.width, (next, c.dims.invariant.path))))))
 
 pub drill-dims-preserved : goal.drill-dims-preserved
 drill-dims-preserved g t c =
@@ -39,7 +40,7 @@ drill-dims-preserved g t c =
       whole = λ b e. c.dims.invariant.whole b (subst (λ xs. Does table.measures (rows_of table) xs c.dims.builder.arena.now b) (sym here) (does_then es fs c.dims.builder.arena.now c.drill_at.new.builder.arena.now b c.in-Ok.ensures.does e));
       next = next_behind es fs c.dims.builder.arena.now c.drill_at.new.builder.arena.now (subst (λ xs. IsNext table.measures (rows_of table) xs c.dims.builder.arena.now) here c.dims.invariant.next) c.in-Ok.ensures.does;
       path = c.in-Ok.ensures.path;
-      stays = stays_then c.args.builder.now.arena.now c.dims.builder.arena.now c.drill_at.new.builder.arena.now c.dims.invariant.stays c.in-Ok.ensures.stays;
+      rest = c.in-Ok.ensures.frame ∙ c.dims.invariant.rest;
       same = c.in-Ok.ensures.same ∙ c.dims.invariant.same;
     }
 
@@ -110,7 +111,7 @@ drill_in-drill_part-requires g t c =
       value = ap (λ r. entry (shared_by (named table r)) c.args.dim) is ∙ part_value table c.requires.part.table nos here c.args.dim c.parts.k lt c.requires.dim ∙ ap (λ x. Some x) (sym v);
       small = subst IsCode (sym v) (part_small table c.requires.part.table nos here c.args.dim c.parts.k lt c.requires.dim);
     } in
-    λ κs h. (search rules, (h, (group, (c.parts.invariant.stays.width ∙ c.requires.width, (subst (λ xs. IsNext table.measures (rows_of table) xs c.parts.builder.arena.now) acts next, c.parts.invariant.path)))))
+    λ κs h. (search rules, (h, (group, (ap (λ (a : Arena). a.width) c.parts.invariant.rest ∙ c.requires.width, (subst (λ xs. IsNext table.measures (rows_of table) xs c.parts.builder.arena.now) acts next, c.parts.invariant.path)))))
 
 pub drill_in-parts-preserved : goal.drill_in-parts-preserved
 drill_in-parts-preserved g t c =
@@ -130,7 +131,7 @@ drill_in-parts-preserved g t c =
       whole = λ b e. c.parts.invariant.whole b (subst (λ xs. Does table.measures (rows_of table) xs c.parts.builder.arena.now b) (sym split) (does_then es fs c.parts.builder.arena.now c.drill_part.new.builder.arena.now b c.in-Ok-drill_part.ensures.does e));
       next = next_behind es fs c.parts.builder.arena.now c.drill_part.new.builder.arena.now (subst (λ xs. IsNext table.measures (rows_of table) xs c.parts.builder.arena.now) split c.parts.invariant.next) c.in-Ok-drill_part.ensures.does;
       path = path_stays es c.parts.builder.arena.now c.drill_part.new.builder.arena.now c.args.path.now c.args.part.now.shared c.args.dim c.in-Ok-drill_part.ensures.does c.parts.invariant.path;
-      stays = stays_then c.args.builder.now.arena.now c.parts.builder.arena.now c.drill_part.new.builder.arena.now c.parts.invariant.stays c.in-Ok-drill_part.ensures.stays;
+      rest = c.in-Ok-drill_part.ensures.frame ∙ c.parts.invariant.rest;
       same = c.in-Ok-drill_part.ensures.same ∙ c.parts.invariant.same;
     }
 
@@ -169,7 +170,7 @@ drill_part-drill-requires g t c =
       there = c.requires.group.there;
       shared = c.narrowed.ensures;
     } in
-    λ κs h. (search rules, (h, (is_part, (omega (arith, c.requires.group.dim), (c.in-Ok-add_front.ensures.stays.width ∙ c.requires.width, (next, c.in-Ok-add_front.ensures.path))))))
+    λ κs h. (search rules, (h, (is_part, (omega (arith, c.requires.group.dim), (ap (λ (a : Arena). a.width) c.in-Ok-add_front.ensures.frame ∙ c.requires.width, (next, c.in-Ok-add_front.ensures.path))))))
 
 pub drill_part-returns-in-Ok-add_front-clause-does : goal.drill_part-returns-in-Ok-add_front-clause-does
 drill_part-returns-in-Ok-add_front-clause-does g t c =

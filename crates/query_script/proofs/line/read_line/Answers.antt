@@ -22,8 +22,8 @@ returns-else-is_stats-clause-memory c =
     let word : c.split_word.result.0.now ≡ word_of c.args.line.now = c.split_word.ensures.word ∙ ap word_of c.in-Ok.ensures.cases.0 in
     IfErr-weaker c.read_command.result _ _ (λ refused named is. wants-memory c.args.line.now c.in-Ok.ensures.cases.1 (rw word at (named is))) c.read_command.ensures.memory
 
-pub returns-else-is_stats-clause-command : goal.returns-else-is_stats-clause-command
-returns-else-is_stats-clause-command c = line-is c.args.schema.now c.args.line.now c.read_command.result (returns-else-is_stats-clause-gives c)
+pub returns-else-is_stats-clause-question : goal.returns-else-is_stats-clause-question
+returns-else-is_stats-clause-question c = line-is c.args.schema.now c.args.line.now c.read_command.result (returns-else-is_stats-clause-gives c)
 
 pub returns-in-Err-clause-gives : goal.returns-in-Err-clause-gives
 returns-in-Err-clause-gives c = no-text-line c.args.schema.now c.args.line.now c.in-Err.ensures.cases.0

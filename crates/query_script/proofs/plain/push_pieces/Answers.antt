@@ -1,19 +1,19 @@
 use Rattle.std.proofs.Common.{rules, ◌∙◌, ◌≡◌, ◌∷◌, ◌++◌, [], List, sym, ap, Some, None}
 use Rattle.std.proofs.lemmas.Result.{IfErr-weaker, on_ok_weaker, err_from_is_err_and}
 use Rattle.cube_defs.specs.Text.{Text}
-use Rattle.query_script.specs.Fields.{point_field}
+use Rattle.query_script.specs.Fields.{field_of}
 use Rattle.text_lines.specs.Plain.{pieces}
 use Rattle.query_script.specs.Progress.{asked_after}
-use Rattle.text_lines.proofs.Pieces.{split-pieces}
+use Rattle.text_lines.proofs.Pieces.{split-cut}
 use Rattle.query_script.proofs.plain.push_pieces.Goals as goal
 
 pub pieces-preserved : goal.pieces-preserved
 pieces-preserved c =
-    let cut : pieces c.pieces.left.now ≡ c.in-Some.piece.now ∷ pieces c.in-Some.behind.now = split-pieces c.pieces.left.now (Some (c.in-Some.piece, c.in-Some.behind)) c.in-Some.ensures.cases in
+    let cut : pieces c.pieces.left.now ≡ c.in-Some.piece.now ∷ pieces c.in-Some.behind.now = split-cut 44 c.pieces.left.now (Some (c.in-Some.piece, c.in-Some.behind)) c.in-Some.ensures.cases (omega arith) in
     record {
       asked = λ more.
           c.in_ok-push_field.ensures.ok (pieces c.in-Some.behind.now ++ more)
-          ∙ ap (λ (all : List Text). asked_after point_field c.args.dims c.pieces.fields (all ++ more)) (sym cut)
+          ∙ ap (λ (all : List Text). asked_after (field_of c.args.shape) c.args.dims c.pieces.fields (all ++ more)) (sym cut)
           ∙ c.pieces.invariant.asked more;
       few = c.in_ok-push_field.ensures.few;
       text = search rules;
@@ -21,16 +21,16 @@ pieces-preserved c =
 
 pub returns-in_err-push_field-clause-err : goal.returns-in_err-push_field-clause-err
 returns-in_err-push_field-clause-err c =
-    let cut : pieces c.pieces.left.now ≡ c.in-Some.piece.now ∷ pieces c.in-Some.behind.now = split-pieces c.pieces.left.now (Some (c.in-Some.piece, c.in-Some.behind)) c.in-Some.ensures.cases in
+    let cut : pieces c.pieces.left.now ≡ c.in-Some.piece.now ∷ pieces c.in-Some.behind.now = split-cut 44 c.pieces.left.now (Some (c.in-Some.piece, c.in-Some.behind)) c.in-Some.ensures.cases (omega arith) in
     let p = err_from_is_err_and c.from_residual.result c.from_residual.ensures.1 in
     rw p.1 (λ more. rw (p.2, ← (c.pieces.invariant.asked more), cut) (c.in_err-push_field.ensures.err (pieces c.in-Some.behind.now ++ more)))
 
 pub returns-clause-ok : goal.returns-clause-ok
 returns-clause-ok c =
-    let cut : pieces c.pieces.left.now ≡ c.pieces.left.now ∷ [] = split-pieces c.pieces.left.now None c.in_default.ensures.cases in
-    on_ok_weaker c.push_field-2.result (λ ok more. ok more ∙ ap (λ (all : List Text). asked_after point_field c.args.dims c.pieces.fields (all ++ more)) (sym cut) ∙ c.pieces.invariant.asked more) c.push_field-2.ensures.ok
+    let cut : pieces c.pieces.left.now ≡ c.pieces.left.now ∷ [] = split-cut 44 c.pieces.left.now None c.in_default.ensures.cases (omega arith) in
+    on_ok_weaker c.push_field-2.result (λ ok more. ok more ∙ ap (λ (all : List Text). asked_after (field_of c.args.shape) c.args.dims c.pieces.fields (all ++ more)) (sym cut) ∙ c.pieces.invariant.asked more) c.push_field-2.ensures.ok
 
 pub returns-clause-err : goal.returns-clause-err
 returns-clause-err c =
-    let cut : pieces c.pieces.left.now ≡ c.pieces.left.now ∷ [] = split-pieces c.pieces.left.now None c.in_default.ensures.cases in
+    let cut : pieces c.pieces.left.now ≡ c.pieces.left.now ∷ [] = split-cut 44 c.pieces.left.now None c.in_default.ensures.cases (omega arith) in
     IfErr-weaker c.push_field-2.result _ _ (λ e fails more. rw (← (c.pieces.invariant.asked more), cut) (fails more)) c.push_field-2.ensures.err

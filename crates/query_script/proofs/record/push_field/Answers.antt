@@ -1,10 +1,10 @@
 use Rattle.std.proofs.Common.{◌≡◌, ◌<◌, sym, arith, length, Some}
-use Rattle.query_script.specs.Fields.{point_field}
+use Rattle.query_script.specs.Fields.{field_of}
 use Rattle.query_script.proofs.Asking.{asks-more}
-use Rattle.query_script.proofs.point.push_field.Goals as goal
+use Rattle.query_script.proofs.record.push_field.Goals as goal
 
 pub returns-clause-ok : goal.returns-clause-ok
 returns-clause-ok c = λ more.
-    let read : point_field c.args.text.now ≡ Some c.in-Some.asked = sym (rw c.in-Some.is at c.in_ok-asked.ensures) in
+    let read : field_of c.args.shape c.args.text.now ≡ Some c.in-Some.asked = sym (rw c.in-Some.is at c.in_ok-asked.ensures) in
     let low : length c.args.fields.now < c.args.dims = omega (arith, c.len-place.ensures, c.from.ensures, c.if-place-from.false) in
-    rw c.in_ok-push.ensures.ok (asks-more point_field c.args.dims c.args.fields.now c.in-Some.asked c.args.text.now more low read)
+    rw c.in_ok-push.ensures.ok (asks-more (field_of c.args.shape) c.args.dims c.args.fields.now c.in-Some.asked c.args.text.now more low read)

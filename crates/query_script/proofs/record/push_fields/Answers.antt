@@ -3,7 +3,7 @@ use Rattle.std.proofs.lemmas.List.{drop_more}
 use Rattle.std.proofs.lemmas.Result.{err_from_is_err_and}
 use Rattle.std.proofs.lemmas.List.Elements.{All-get_or}
 use Rattle.csv.specs.Records.{fields_of}
-use Rattle.query_script.proofs.point.push_fields.Goals as goal
+use Rattle.query_script.proofs.record.push_fields.Goals as goal
 
 pub unwrap-text-requires : goal.unwrap-text-requires
 unwrap-text-requires c =

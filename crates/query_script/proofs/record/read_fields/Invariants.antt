@@ -1,12 +1,12 @@
 use Rattle.std.proofs.Common.{◌≡◌, ◌≤◌, [], All, IsUtf8, length}
 use Rattle.std.specs.List.{flat_map}
-use Rattle.query_script.specs.Fields.{point_field}
+use Rattle.query_script.specs.Fields.{field_of}
 use Rattle.query_script.specs.Progress.{asked_after}
-use Rattle.query_script.proofs.point.read_point.Given as goal
+use Rattle.query_script.proofs.record.read_fields.Given as goal
 
 abbrev pub invariant-records : goal.invariant-records
 invariant-records l = record {
-  asked : asked_after point_field l.dims l.fields (flat_map (λ fields. fields) l.rows) ≡ asked_after point_field l.dims [] (flat_map (λ fields. fields) l.initial.rows);
+  asked : asked_after (field_of l.shape) l.dims l.fields (flat_map (λ fields. fields) l.rows) ≡ asked_after (field_of l.shape) l.dims [] (flat_map (λ fields. fields) l.initial.rows);
   few : length l.fields ≤ l.dims;
   text : All (All IsUtf8) l.rows;
 }

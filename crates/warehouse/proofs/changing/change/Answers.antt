@@ -1,33 +1,85 @@
-use Rattle.std.proofs.Common.{◌≡◌, ◌∙◌, ℕ, ap, length, refl, subst, sym, take}
-use Rattle.value_dict.specs.TextLists.{TextLists}
+use Rattle.std.proofs.Common.{◌≡◌, ◌≤◌, ◌∙◌, ℕ, List, None, Some, ap, length, map, refl, subst, sym, take}
+use Rattle.std.specs.Ordering.{nat_cmp}
+use Rattle.cube_defs.specs.Rows.{Row}
 use Rattle.cube_defs.specs.Text.{text_cmp}
-use Rattle.cube_defs.specs.Tree.{classes}
-use Rattle.base_table.specs.Places.{rows_of}
-use Rattle.warehouse.specs.Batch.{rows_after}
+use Rattle.cube_defs.specs.Tree.{IsCanonical, Tree, classes, nodes}
+use Rattle.base_table.specs.Places.{Places, rows_of}
+use Rattle.qc_arena.specs.Map.{Arena, is_open}
+use Rattle.value_dict.specs.TextLists.{TextLists}
+use Rattle.value_dict.specs.Told.{RowsAreCodes, decoded_row}
+use Rattle.warehouse.specs.Batch.{after, refusal_of, rows_after, texts_after}
 use Rattle.warehouse.specs.State.{State}
-use Rattle.warehouse.specs.Stored.{IsStored, refusal_in, state_of}
+use Rattle.warehouse.specs.Steps.{IsCause, closed, frame}
+use Rattle.warehouse.specs.Stored.{IsKept, IsStored, refusal_in, state_of}
 use Rattle.warehouse.proofs.Causes.{refused-so}
 use Rattle.warehouse.proofs.Counted.{classes-kept}
 use Rattle.warehouse.proofs.Growing.{cut-back}
+use Rattle.warehouse.proofs.States.{stored-next}
+use Rattle.warehouse.proofs.Trees.{kept-back, kept-canonical, some_same}
+use Rattle.warehouse.proofs.Values.{values-after}
 use Rattle.warehouse.proofs.changing.change.Goals as goal
 
-pub returns-in-Err-clause-stored : goal.returns-in-Err-clause-stored
-returns-in-Err-clause-stored g c =
-    let dict : c.cut_back.new.self ≡ c.args.dict.now =
-    cut-back c.args.dict.now c.change_table.new.dict c.cut_back.new.self (take c.from.result c.lengths-lens.result)
-    (ap (λ (n : ℕ). take n c.lengths-lens.result) c.from.ensures ∙ c.lengths-lens.ensures.lengths)
-    c.cut_back.ensures.lists c.cut_back.ensures.max c.in-Err.ensures.max c.in-Err.ensures.longer in
-    subst (λ (d : TextLists). IsStored c.args.schema.now d c.change_table.new.table) (sym dict) c.in-Err.ensures.same
+pub returns-in-Ok-clause-stored : goal.returns-in-Ok-clause-stored
+returns-in-Ok-clause-stored g c =
+    let dict = c.change_and_build.new.dict in
+    let texts : dict.lists ≡ texts_after c.args.dict.now.lists c.args.batch.now.changes = ap (λ (s : State). s.texts) c.in-Ok.ensures.made in
+    let rest = c.keep.ensures.frame ∙ ap closed c.change_and_build.ensures.frame ∙ ap (λ (t : Places). frame (closed t)) c.open_batch-lens.ensures.table in
+    stored-next c.args.schema.now c.args.dict.now dict c.args.table.now c.keep.new.table c.requires.stored rest c.keep.ensures.valid c.change_and_build.ensures.max c.change_and_build.ensures.longer.dims
+    (rw texts (values-after c.args.batch.now c.args.dict.now.lists c.len-records.ensures.valid c.requires.stored.values))
+    (subst (λ (rows : List (Row ℕ)). RowsAreCodes dict.lists rows) (sym c.keep.ensures.rows) c.in-Ok.ensures.known) c.change_and_build.ensures.dictionary
 
-pub returns-in-Err-clause-gives : goal.returns-in-Err-clause-gives
-returns-in-Err-clause-gives g c =
-    refused-so (state_of c.args.schema.now c.args.dict.now c.args.table.now) c.args.batch.now.changes (refusal_in c.in-Err.refused) c.in-Err.ensures.cause
+pub returns-in-Ok-clause-kept : goal.returns-in-Ok-clause-kept
+returns-in-Ok-clause-kept g c =
+    let is : IsStored c.args.schema.now c.change_and_build.new.dict c.keep.new.table = returns-in-Ok-clause-stored g c in
+    let same = c.change_and_build.ensures.tree_frame in
+    let rows = c.keep.ensures.rows in
+    kept-canonical c.args.schema.now c.keep.new.table c.keep.new.tree c.keep.ensures.valid is.dims is.measures (ap is_open c.keep.ensures.tree)
+    (ap (λ (a : Arena). a.width) c.keep.ensures.tree ∙ ap (λ (a : Arena). a.width) same ∙ ap (λ (a : Arena). a.width) c.open_batch-lens.ensures.tree ∙ c.requires.kept.width)
+    (ap (λ (a : Arena). a.max) c.keep.ensures.tree ∙ ap (λ (a : Arena). a.max) same ∙ ap (λ (a : Arena). a.max) c.open_batch-lens.ensures.tree ∙ c.requires.kept.max)
+    (subst (λ (rs : List (Row ℕ)). length (nodes nat_cmp rs) ≤ c.args.schema.now.nodes) (sym rows) c.in-Ok.ensures.fits)
+    (subst (λ (t : Tree ℕ). IsCanonical nat_cmp c.keep.new.table.measures (rows_of c.keep.new.table) t) (sym (ap (λ (a : Arena). a.now) c.keep.ensures.tree))
+    (subst (λ (rs : List (Row ℕ)). IsCanonical nat_cmp c.keep.new.table.measures rs c.change_and_build.new.tree.now) (sym rows)
+    (subst (λ (m : ℕ). IsCanonical nat_cmp m (rows_of c.change_and_build.new.table) c.change_and_build.new.tree.now) (sym (ap (λ (t : Places). t.measures) c.keep.ensures.frame)) c.in-Ok.ensures.tree)))
 
 pub returns-in-Ok-clause-gives : goal.returns-in-Ok-clause-gives
 returns-in-Ok-clause-gives g c =
-    let e = c.in-Ok.ensures in
+    let changes = c.args.batch.now.changes in
+    let dict = c.change_and_build.new.dict in
     let old = state_of c.args.schema.now c.args.dict.now c.args.table.now in
-    let count : length (classes text_cmp (rows_after old.rows c.args.batch.now.changes)) ≡ c.class_count-classes.result =
-    ap (λ (s : State). length (classes text_cmp s.rows)) (sym e.made)
-    ∙ sym (c.class_count-classes.ensures ∙ classes-kept c.change_table.new.dict.lists (rows_of c.change_table.new.table) e.stored.known e.stored.dictionary.distinct _ _ c.in-Ok.new.now e.tree.from) in
-    rw (e.none, count, sym e.made, c.len-records.ensures.count) refl
+    let with : List (Row ℕ) → State = λ rows. record { schema = c.args.schema.now; rows = map (decoded_row dict.lists) rows; texts = dict.lists } in
+    let made : state_of c.args.schema.now dict c.keep.new.table ≡ after old changes = ap with c.keep.ensures.rows ∙ c.in-Ok.ensures.made ∙ ap (λ (s : State). after s changes) c.open_batch-lens.ensures.state in
+    let none : refusal_of old changes ≡ None = ap (λ (s : State). refusal_of s changes) (sym c.open_batch-lens.ensures.state) ∙ c.in-Ok.ensures.none in
+    let is : IsStored c.args.schema.now dict c.keep.new.table = returns-in-Ok-clause-stored g c in
+    let kept : IsKept c.args.schema.now c.keep.new.table c.keep.new.tree = returns-in-Ok-clause-kept g c in
+    let count : length (classes text_cmp (rows_after old.rows changes)) ≡ c.class_count-classes.result =
+    ap (λ (s : State). length (classes text_cmp s.rows)) (sym made)
+    ∙ sym (c.class_count-classes.ensures ∙ classes-kept dict.lists (rows_of c.keep.new.table) is.known is.dictionary.distinct _ _ c.keep.new.tree.now kept.from) in
+    rw (none, count, sym made, c.len-records.ensures.count) refl
+
+pub returns-in-Err-clause-stored : goal.returns-in-Err-clause-stored
+returns-in-Err-clause-stored g c =
+    let is = c.requires.stored in
+    let dict = c.args.dict.now in
+    let rest = c.go_back.ensures.frame ∙ ap closed c.change_and_build.ensures.frame ∙ ap (λ (t : Places). frame (closed t)) c.open_batch-lens.ensures.table in
+    let rows = c.go_back.ensures.rows ∙ ap (λ (t : Places). t.was) c.change_and_build.ensures.frame ∙ ap (λ (t : Places). t.was) c.open_batch-lens.ensures.table in
+    let texts : c.go_back.new.dict ≡ dict =
+    cut-back dict c.change_and_build.new.dict c.go_back.new.dict (take c.from.result c.open_batch-lens.result)
+    (ap (λ (n : ℕ). take n c.open_batch-lens.result) (c.from.ensures ∙ c.dims.ensures.count) ∙ c.open_batch-lens.ensures.lens)
+    c.go_back.ensures.texts c.go_back.ensures.most_texts c.change_and_build.ensures.max c.change_and_build.ensures.longer in
+    subst (λ (d : TextLists). IsStored c.args.schema.now d c.go_back.new.table) (sym texts)
+    (stored-next c.args.schema.now dict dict c.args.table.now c.go_back.new.table is rest c.go_back.ensures.valid refl refl is.values
+    (subst (λ (rs : List (Row ℕ)). RowsAreCodes dict.lists rs) (sym (some_same rows)) is.known) is.dictionary)
+
+pub returns-in-Err-clause-kept : goal.returns-in-Err-clause-kept
+returns-in-Err-clause-kept g c =
+    let same = c.change_and_build.ensures.tree_frame in
+    let rows = c.go_back.ensures.rows ∙ ap (λ (t : Places). t.was) c.change_and_build.ensures.frame ∙ ap (λ (t : Places). t.was) c.open_batch-lens.ensures.table in
+    let back = c.go_back.ensures.tree ∙ ap (λ (a : Arena). a.was) same ∙ ap (λ (a : Arena). a.was) c.open_batch-lens.ensures.tree in
+    let max = c.go_back.ensures.max ∙ ap (λ (a : Arena). a.max) same ∙ ap (λ (a : Arena). a.max) c.open_batch-lens.ensures.tree in
+    kept-back c.args.schema.now c.args.table.now c.go_back.new.table c.args.tree.now c.go_back.new.tree c.requires.kept rows back c.go_back.ensures.closed max
+
+pub returns-in-Err-clause-gives : goal.returns-in-Err-clause-gives
+returns-in-Err-clause-gives g c =
+    let changes = c.args.batch.now.changes in
+    let old = state_of c.args.schema.now c.args.dict.now c.args.table.now in
+    refused-so old changes (refusal_in c.in-Err.refused) (subst (λ (s : State). IsCause c.in-Err.refused s changes) c.open_batch-lens.ensures.state c.in-Err.ensures.cause)

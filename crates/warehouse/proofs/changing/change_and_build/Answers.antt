@@ -1,6 +1,6 @@
-use Rattle.std.proofs.Common.{Err, ◌∙◌, ap, length}
+use Rattle.std.proofs.Common.{Err, ◌<◌, ◌≤◌, ◌∙◌, ℕ, ap, length, subst, sym}
 use Rattle.std.specs.Ordering.{nat_cmp}
-use Rattle.base_table.specs.Places.{rows_of}
+use Rattle.base_table.specs.Places.{Places, rows_of}
 use Rattle.cube_defs.specs.Tree.{nodes}
 use Rattle.warehouse.specs.State.{State}
 use Rattle.warehouse.specs.Stored.{decoded_rows, state_of}
@@ -15,7 +15,7 @@ returns-in-Ok-clause-none g c =
     let table = c.change_rows.new.table in
     c.in_ok-change_rows.ensures.last
     ∙ last-none s c.args.batch.now.changes (decoded_rows dict.lists table) (length (nodes nat_cmp (rows_of table))) (ap (λ (t : State). t.rows) c.in_ok-change_rows.ensures.made)
-    (nodes-decoded dict.lists (rows_of table) c.in_ok-change_rows.ensures.known c.in_ok-change_rows.ensures.dictionary.distinct) c.in-Ok.ensures.fits
+    (nodes-decoded dict.lists (rows_of table) c.in_ok-change_rows.ensures.known c.in_ok-change_rows.ensures.dictionary.distinct) (subst (λ (max : ℕ). length (nodes nat_cmp (rows_of table)) ≤ max) c.requires.most_nodes c.in-Ok.ensures.fits)
 
 pub returns-in-Err-Full-clause-cause : goal.returns-in-Err-Full-clause-cause
 returns-in-Err-Full-clause-cause g c =
@@ -24,4 +24,10 @@ returns-in-Err-Full-clause-cause g c =
     let table = c.change_rows.new.table in
     c.in_ok-change_rows.ensures.last
     ∙ last-full s c.args.batch.now.changes (decoded_rows dict.lists table) (length (nodes nat_cmp (rows_of table))) (ap (λ (t : State). t.rows) c.in_ok-change_rows.ensures.made)
-    (nodes-decoded dict.lists (rows_of table) c.in_ok-change_rows.ensures.known c.in_ok-change_rows.ensures.dictionary.distinct) (c.in-Err-Full.ensures.full (ap Err c.in-Err-Full.field-0-is))
+    (nodes-decoded dict.lists (rows_of table) c.in_ok-change_rows.ensures.known c.in_ok-change_rows.ensures.dictionary.distinct) (subst (λ (max : ℕ). max < length (nodes nat_cmp (rows_of table))) c.requires.most_nodes (c.in-Err-Full.ensures.full (ap Err c.in-Err-Full.field-0-is)))
+
+pub rebuild-requires-clause-width : goal.rebuild-requires-clause-width
+rebuild-requires-clause-width g c = c.requires.width ∙ sym (ap (λ (t : Places). t.dims) c.change_rows.ensures.frame ∙ c.requires.stored.dims)
+
+pub returns-in-Ok-clause-fits : goal.returns-in-Ok-clause-fits
+returns-in-Ok-clause-fits g c = subst (λ (max : ℕ). length (nodes nat_cmp (rows_of c.change_rows.new.table)) ≤ max) c.requires.most_nodes c.in-Ok.ensures.fits

@@ -1,0 +1,220 @@
+// Batches that stop somewhere and are taken back: each cell is found under its old number.
+ghost use Rattle.std.specs.Prelude.{All, IfSome, IsSome, false, is_some, length, true, ◌<◌, ◌≡◌, ◌≤◌};
+ghost use Rattle.std.specs.FinMap as map;
+ghost use Rattle.qc_arena.specs.Map.{frame, is_open, shape_of};
+ghost use Rattle.tree_search.specs.Found.{IsTree};
+
+use base_table::Table;
+use cell_core::{Cell, Entry, NodeNo, Steps};
+use class_builder::build_classes;
+use qc_arena::{ArenaRefused, Nodes, QcArena};
+use std::alloc::Global;
+use std::marker::Brand;
+use std::sync::ledger::{Blank, Ledger};
+use std::test::Fail;
+use tree_search::find;
+
+// A row's values in two dimensions.
+type Line = [u8; 2];
+
+// Seven nodes, of which six are classes.
+const FEW: [Line; 3] = [[0, 0], [0, 1], [1, 0]];
+
+// Nine nodes.
+const MORE: [Line; 4] = [[0, 0], [0, 1], [1, 0], [1, 1]];
+
+fn tuple(alloc: Global, row: &Line) -> Cell
+    ensures dims { length result ≡ 2 }
+    ensures full { All (λ entry. is_some entry ≡ true) result }
+{
+    let mut cell = Cell::any(alloc, 2);
+    'dims: for dim in 0..2 {
+        cell.set(dim, Entry::Is(row[dim as usize] as u32));
+    }
+    cell
+}
+
+fn table_of(alloc: Global, rows: &[Line]) -> Option<Table>
+    requires { length rows.now ≤ 9 }
+    ensures { IfSome result (λ table. table.dims ≡ 2) }
+{
+    let Ok(mut table) = Table::new(alloc, 2, 1, 9) else {
+        return None;
+    };
+    table.begin();
+    'rows: for place in 0..rows.len() {
+        let tuple = tuple(alloc, &rows[place]);
+        table.insert(place as u64, &tuple, &[1]).ok();
+    }
+    table.commit();
+    Some(table)
+}
+
+// The tree of the table's rows, in an arena of at most seven nodes.
+fn built<L: Ledger>(alloc: Global, table: &Table, steps: &mut Steps<L>) -> Option<QcArena>
+    requires { table.now.dims ≡ 2 }
+    ensures width { IfSome result (λ arena. arena.width ≡ 2) }
+    ensures closed { IfSome result (λ arena. is_open arena ≡ false) }
+    ensures tree { IfSome result (λ arena. IsTree arena.width arena.now) }
+{
+    let Ok(mut arena) = QcArena::new(alloc, 2, 7) else {
+        return None;
+    };
+    arena.begin();
+    match build_classes(alloc, table, &mut arena, steps) {
+        Ok(()) => {}
+        Err(_) => return None,
+    }
+    arena.commit();
+    table.is_valid();
+    Some(arena)
+}
+
+// A cell of two dimensions; 2 stands for Any.
+fn cell_of(alloc: Global, first: u8, second: u8) -> Cell
+    ensures { length result ≡ 2 }
+{
+    let mut cell = Cell::any(alloc, 2);
+    if first < 2 {
+        cell.set(0, Entry::Is(first as u32));
+    }
+    if second < 2 {
+        cell.set(1, Entry::Is(second as u32));
+    }
+    cell
+}
+
+// The numbers of the closures of all cells.
+fn numbers<L: Ledger>(
+    alloc: Global,
+    arena: &QcArena,
+    steps: &mut Steps<L>,
+) -> [Option<NodeNo>; 9]
+    requires width { arena.now.width ≡ 2 }
+    requires tree { IsTree arena.now.width arena.now.now }
+{
+    let mut found = [None; 9];
+    'cells: for k in 0..9u8 {
+        let cell = cell_of(alloc, k % 3, k / 3);
+        found[k as usize] = find(arena, &cell, steps);
+    }
+    found
+}
+
+// Kills a node, where memory is there.
+fn killed<L: Ledger>(arena: &mut QcArena, node: NodeNo, steps: &mut Steps<L>)
+    requires opened { is_open arena.old ≡ true }
+    requires there { IsSome (map.get arena.old.now node.0) }
+    ensures { frame arena.new ≡ frame arena.old }
+{
+    if arena.touch(node, steps).is_ok() {
+        arena.kill(node, steps);
+    }
+}
+
+// Kills the root, where memory is there.
+fn root_killed<L: Ledger>(arena: &mut QcArena, steps: &mut Steps<L>)
+    requires { is_open arena.old ≡ true }
+    ensures { frame arena.new ≡ frame arena.old }
+{
+    if let Some(root) = arena.root(steps) {
+        killed(arena, root, steps);
+    }
+}
+
+// Stops a batch after its first kill.
+fn stopped_after_a_kill<L: Ledger>(arena: &mut QcArena, steps: &mut Steps<L>)
+    requires { is_open arena.old ≡ false }
+    ensures back { shape_of arena.new ≡ shape_of arena.old }
+    ensures closed { is_open arena.new ≡ false }
+{
+    arena.begin();
+    root_killed(arena, steps);
+    arena.rollback();
+}
+
+// Takes all nodes out and builds another tree. It tells whether that has few enough nodes.
+fn rebuilt<L: Ledger>(
+    alloc: Global,
+    table: &Table,
+    arena: &mut QcArena,
+    steps: &mut Steps<L>,
+) -> Option<bool>
+    requires opened { is_open arena.old ≡ true }
+    requires width { arena.old.width ≡ table.now.dims }
+    ensures { frame arena.new ≡ frame arena.old }
+{
+    match arena.clear(steps) {
+        Ok(()) => {}
+        Err(_) => return None,
+    }
+    match build_classes(alloc, table, arena, steps) {
+        Ok(()) => Some(true),
+        Err(ArenaRefused::Full) => Some(false),
+        Err(ArenaRefused::Memory) => None,
+    }
+}
+
+// Stops a batch in building another tree, where that has too many nodes, and else after its last edge.
+fn stopped_in_building<L: Ledger>(
+    alloc: Global,
+    table: &Table,
+    arena: &mut QcArena,
+    steps: &mut Steps<L>,
+) -> Option<bool>
+    requires closed { is_open arena.old ≡ false }
+    requires width { arena.old.width ≡ table.now.dims }
+    ensures back { shape_of arena.new ≡ shape_of arena.old }
+    ensures closed { is_open arena.new ≡ false }
+{
+    arena.begin();
+    let fits = rebuilt(alloc, table, arena, steps);
+    arena.rollback();
+    fits
+}
+
+// The numbers of all cells at first, after a kill, after a tree that was built in part, and after one
+// that was built whole.
+fn found_again<L: Ledger>(alloc: Global, blank: Blank) -> Option<[[Option<NodeNo>; 9]; 4]>
+    requires name { blank.name ≡ L.name }
+    requires parts { blank.parts ≡ L.parts }
+    requires some { 0 < L.parts }
+{
+    let mut steps = Steps::<L>::start(blank);
+    let few = table_of(alloc, &FEW)?;
+    let more = table_of(alloc, &MORE)?;
+    let mut arena = built(alloc, &few, &mut steps)?;
+    let first = numbers(alloc, &arena, &mut steps);
+    stopped_after_a_kill(&mut arena, &mut steps);
+    let killed = numbers(alloc, &arena, &mut steps);
+    let Some(false) = stopped_in_building(alloc, &more, &mut arena, &mut steps) else {
+        return None;
+    };
+    let in_part = numbers(alloc, &arena, &mut steps);
+    let Some(true) = stopped_in_building(alloc, &few, &mut arena, &mut steps) else {
+        return None;
+    };
+    let whole = numbers(alloc, &arena, &mut steps);
+    Some([first, killed, in_part, whole])
+}
+
+fn found_uncounted(alloc: Global) -> Option<[[Option<NodeNo>; 9]; 4]> {
+    found_again::<Brand>(alloc, Blank::new(1))
+}
+
+#[test]
+fn cells_keep_their_numbers_where_a_batch_is_taken_back(rt: HostRuntime) -> Result<(), Fail> {
+    let Some(numbers) = found_uncounted(rt.alloc()) else {
+        return Err(Fail::new("no such batches"));
+    };
+    let first = numbers[0];
+    // No row has the value 1 in both dimensions.
+    assert!(rt; first[4].is_none());
+    // The closure of the value 1 alone has 0 in the other dimension, and the reverse.
+    assert!(rt; first[7].is_some());
+    assert_eq!(rt; first[7], first[1]);
+    assert_eq!(rt; first[5], first[3]);
+    assert!(rt; first[8] != first[2]);
+    assert_eq!(rt; numbers, [first; 4]);
+    Ok(())
+}

@@ -1,0 +1,73 @@
+// A batch on rows, texts and tree: it is opened, and then kept or taken back.
+ghost use Rattle.std.specs.FinMap as finmap;
+ghost use Rattle.std.specs.FinSet as set;
+ghost use Rattle.std.specs.Prelude.{None, Some, false, is_some, length, map, take, true, ◌≡◌, ◌≤◌};
+ghost use Rattle.base_table.specs.Places.{IsTable, rows_of};
+ghost use Rattle.cube_defs.specs.declared.limits.TheConstants.{MAX_DIMS};
+ghost use Rattle.qc_arena.specs.Map.{is_open, shape_of};
+ghost use Rattle.value_dict.specs.TextLists.{IsDictionary, cut};
+ghost use Rattle.warehouse.specs.Steps.{closed, frame};
+ghost use Rattle.warehouse.specs.Stored.{IsKept, IsStored, state_of};
+
+use crate::learning::lengths;
+use base_table::Table;
+use qc_arena::QcArena;
+use qc_schema::Schema;
+use value_dict::Dict;
+
+/// Opens a batch. The state is as it was, and so is the tree. It tells how many texts each dimension
+/// has, which is what they are cut back to when the batch is taken back.
+pub(crate) fn open_batch(
+    schema: &Schema,
+    table: &mut Table,
+    dict: &Dict,
+    tree: &mut QcArena,
+) -> [u32; 16]
+    requires stored { IsStored schema.now dict.now table.old }
+    requires kept { IsKept schema.now table.old tree.old }
+    ensures table { table.new ≡ record table.old { was = Some (rows_of table.old) } }
+    ensures tree { tree.new ≡ record tree.old { was = Some (shape_of tree.old); touched = set.empty; last = finmap.empty } }
+    ensures state { state_of schema.now dict.now table.new ≡ state_of schema.now dict.now table.old }
+    ensures lens { take (length schema.now.dims) result ≡ map length dict.now.lists }
+{
+    table.begin();
+    tree.begin();
+    lengths(dict, schema.dims())
+}
+
+/// Keeps what was done in the batch.
+pub(crate) fn keep(table: &mut Table, tree: &mut QcArena)
+    requires rows { is_some table.old.was ≡ true }
+    requires tree { is_open tree.old ≡ true }
+    ensures rows { rows_of table.new ≡ rows_of table.old }
+    ensures frame { frame table.new ≡ frame (closed table.old) }
+    ensures valid { IsTable table.new }
+    ensures tree { tree.new ≡ record tree.old { was = None; touched = set.empty; last = finmap.empty } }
+{
+    table.commit();
+    table.is_valid();
+    tree.commit();
+    // What the nodes were is let go at once: nobody asks for it.
+    tree.last_images();
+}
+
+/// Takes the batch back: rows and tree are those at its begin, and each dimension has so many texts.
+pub(crate) fn go_back(table: &mut Table, dict: &mut Dict, tree: &mut QcArena, lens: &[u32])
+    requires rows { is_some table.old.was ≡ true }
+    requires tree { is_open tree.old ≡ true }
+    requires lens { length lens.now ≡ length dict.old.lists }
+    ensures rows { Some (rows_of table.new) ≡ table.old.was }
+    ensures frame { frame table.new ≡ frame (closed table.old) }
+    ensures valid { IsTable table.new }
+    ensures texts { dict.new.lists ≡ cut dict.old.lists lens.now }
+    ensures most_texts { dict.new.max ≡ dict.old.max }
+    ensures dictionary { IsDictionary dict.new }
+    ensures tree { Some (shape_of tree.new) ≡ tree.old.was }
+    ensures closed { is_open tree.new ≡ false }
+    ensures max { tree.new.max ≡ tree.old.max }
+{
+    table.rollback();
+    table.is_valid();
+    dict.cut_back(lens);
+    tree.rollback();
+}
