@@ -23,7 +23,7 @@ use Rattle.std.specs.Cmp.{nat_cmp_total}
 use Rattle.std.specs.FinMap.{nat_cmp-IsAntisymmetric}
 use Rattle.cube_laws.proofs.RecodedRows.{agg_of-coded, cov-coded}
 use Rattle.cube_laws.proofs.RecodedLists.{known-below}
-use Rattle.query_script.specs.Commands.{IsPointField}
+use Rattle.query_script.specs.Commands.{IsCellField}
 use Rattle.tree_search.specs.Found.{Source, total_in}
 use Rattle.value_dict.specs.TextLists.{cell_in, entry_in}
 use Rattle.value_dict.specs.Told.{has_text, place_in}
@@ -36,7 +36,7 @@ record IsEntry (texts : List Text) (asked : Option Text) (entry : Option ℕ) : 
   pub coded : entry ≡ option_map (λ v. position_or_len (bytes_eq v) texts) asked
   pub known : (v : Text) → asked ≡ Some v → list_any (bytes_eq v) texts ≡ true
 
-entry-found : (texts : List Text) (field : Field) (entry : Option ℕ) → IsPointField field → entry_in texts field ≡ Some entry → IsEntry texts (entry_asked field) entry
+entry-found : (texts : List Text) (field : Field) (entry : Option ℕ) → IsCellField field → entry_in texts field ≡ Some entry → IsEntry texts (entry_asked field) entry
 entry-found texts fields.Any entry is e = record { coded = cc; known = λ v h. cc }
 entry-found texts fields.All entry is e = absurd is
 entry-found texts (fields.Among more) entry is e = absurd is
@@ -56,7 +56,7 @@ entry-found texts (fields.One text) entry is e = go (nat_lt (position_or_len (by
     }
     go false t h = cc
 
-entry-missing : (texts : List Text) (field : Field) (v : Text) → IsPointField field → entry_in texts field ≡ None → (entry_asked field ≡ Some v) × (list_any (bytes_eq v) texts ≡ true) → ⊥
+entry-missing : (texts : List Text) (field : Field) (v : Text) → IsCellField field → entry_in texts field ≡ None → (entry_asked field ≡ Some v) × (list_any (bytes_eq v) texts ≡ true) → ⊥
 entry-missing texts fields.Any v is e h = cc
 entry-missing texts fields.All v is e h = absurd is
 entry-missing texts (fields.Among more) v is e h = absurd is
@@ -99,7 +99,7 @@ found-more texts k list (Some v) asked e c fit is more = record {
   known = (subst (λ l. list_any (bytes_eq v) l ≡ true) (sym fit) (is.known v refl), more.known);
 }
 
-pub cell-found : (texts : List (List Text)) (k : ℕ) (lists : List (List Text)) (asked : List Field) (cell : Cell ℕ) → Fits texts k lists → All IsPointField asked → cell_in lists asked ≡ Some cell
+pub cell-found : (texts : List (List Text)) (k : ℕ) (lists : List (List Text)) (asked : List Field) (cell : Cell ℕ) → Fits texts k lists → All IsCellField asked → cell_in lists asked ≡ Some cell
     → IsFound texts k (cell_asked asked) cell
 cell-found texts k [] [] cell fit point e = record { code = cc; known = tt }
 cell-found texts k [] (f ∷ asked) cell fit point e = cc
@@ -107,20 +107,20 @@ cell-found texts k (list ∷ lists) [] cell fit point e = cc
 cell-found texts k (list ∷ lists) (f ∷ asked) cell fit point e =
     let j = some-joined (entry_in list f) (cell_in lists asked) cell e in
     subst (IsFound texts k (cell_asked (f ∷ asked))) (sym j.cell_is)
-    (found-more texts k list (entry_asked f) (cell_asked asked) j.first j.more fit.0 (entry-found list f j.first (All-head IsPointField f asked point) j.entry_is) (cell-found texts (suc k) lists asked j.more fit.1 (All-tail IsPointField f asked point) j.rest_is))
+    (found-more texts k list (entry_asked f) (cell_asked asked) j.first j.more fit.0 (entry-found list f j.first (All-head IsCellField f asked point) j.entry_is) (cell-found texts (suc k) lists asked j.more fit.1 (All-tail IsCellField f asked point) j.rest_is))
 
 none-joined : (entry : Option (Option ℕ)) (rest : Option (Cell ℕ)) → joined entry rest ≡ None → (entry ≡ None) ⊎ (rest ≡ None)
 none-joined None rest h = inl refl
 none-joined (Some e) None h = inr refl
 none-joined (Some e) (Some c) h = cc
 
-missing-first : (texts : List (List Text)) (k : ℕ) (list : List Text) (f : Field) (asked : List Field) → get_or texts k [] ≡ list → IsPointField f → entry_in list f ≡ None → AreKnown (has_text texts) k (entry_asked f ∷ cell_asked asked) → ⊥
+missing-first : (texts : List (List Text)) (k : ℕ) (list : List Text) (f : Field) (asked : List Field) → get_or texts k [] ≡ list → IsCellField f → entry_in list f ≡ None → AreKnown (has_text texts) k (entry_asked f ∷ cell_asked asked) → ⊥
 missing-first texts k list f asked fit point e known = go (entry_asked f) refl known
   where
     go : (o : Option Text) → entry_asked f ≡ o → AreKnown (has_text texts) k (o ∷ cell_asked asked) → ⊥
     go None h known = asks-any f point e h
       where
-        asks-any : (f : Field) → IsPointField f → entry_in list f ≡ None → entry_asked f ≡ None → ⊥
+        asks-any : (f : Field) → IsCellField f → entry_in list f ≡ None → entry_asked f ≡ None → ⊥
         asks-any fields.Any point e h = cc
         asks-any fields.All point e h = absurd point
         asks-any (fields.One text) point e h = cc
@@ -133,25 +133,25 @@ known-behind texts k None asked h = h
 known-behind texts k (Some v) asked h = h.1
 
 -- where a field's value isn't there, the asked cell isn't known
-pub cell-missing : (texts : List (List Text)) (k : ℕ) (lists : List (List Text)) (asked : List Field) → length asked ≡ length lists → Fits texts k lists → All IsPointField asked → cell_in lists asked ≡ None
+pub cell-missing : (texts : List (List Text)) (k : ℕ) (lists : List (List Text)) (asked : List Field) → length asked ≡ length lists → Fits texts k lists → All IsCellField asked → cell_in lists asked ≡ None
     → AreKnown (has_text texts) k (cell_asked asked) → ⊥
 cell-missing texts k [] [] same fit point e known = cc
 cell-missing texts k [] (f ∷ asked) same fit point e known = omega (arith, same)
 cell-missing texts k (list ∷ lists) [] same fit point e known = omega (arith, same)
 cell-missing texts k (list ∷ lists) (f ∷ asked) same fit point e known = elim (none-joined (entry_in list f) (cell_in lists asked) e) [
-  | inl h ↦ missing-first texts k list f asked fit.0 (All-head IsPointField f asked point) h known
-  | inr h ↦ cell-missing texts (suc k) lists asked (omega (arith, same)) fit.1 (All-tail IsPointField f asked point) h (known-behind texts k (entry_asked f) (cell_asked asked) known)
+  | inl h ↦ missing-first texts k list f asked fit.0 (All-head IsCellField f asked point) h known
+  | inr h ↦ cell-missing texts (suc k) lists asked (omega (arith, same)) fit.1 (All-tail IsCellField f asked point) h (known-behind texts k (entry_asked f) (cell_asked asked) known)
 ]
 
 -- what a point's cell comes to, by its codes
-pub total-found : (texts lists : List (List Text)) (measures : ℕ) (rows : List (Row Text)) (asked : List Field) (cell : Cell ℕ) → lists ≡ texts → RowsAreKnown (has_text texts) rows → All IsPointField asked
+pub total-found : (texts lists : List (List Text)) (measures : ℕ) (rows : List (Row Text)) (asked : List Field) (cell : Cell ℕ) → lists ≡ texts → RowsAreKnown (has_text texts) rows → All IsCellField asked
     → cell_in lists asked ≡ Some cell → agg_at (eq_by_cmp nat_cmp) measures (map (coded_row (place_in texts)) rows) cell ≡ agg_at text_eq measures rows (cell_asked asked)
 total-found texts lists measures rows asked cell same h point e =
     let found = cell-found texts 0 texts asked cell (fits texts) point (rw same at e) in
     ap (agg_at (eq_by_cmp nat_cmp) measures (map (coded_row (place_in texts)) rows)) found.code
     ∙ total-coded texts measures rows (cell_asked asked) h found.known
 
-pub total-none : (texts lists : List (List Text)) (measures : ℕ) (rows : List (Row Text)) (asked : List Field) → lists ≡ texts → length asked ≡ length texts → RowsAreKnown (has_text texts) rows → All IsPointField asked
+pub total-none : (texts lists : List (List Text)) (measures : ℕ) (rows : List (Row Text)) (asked : List Field) → lists ≡ texts → length asked ≡ length texts → RowsAreKnown (has_text texts) rows → All IsCellField asked
     → cell_in lists asked ≡ None → agg_at text_eq measures rows (cell_asked asked) ≡ None
 total-none texts lists measures rows asked same len h point e =
     total-missing texts measures rows (cell_asked asked) h (cell-missing texts 0 texts asked len (fits texts) point (rw same at e))

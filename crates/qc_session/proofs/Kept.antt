@@ -9,8 +9,8 @@ use Rattle.csv_load.specs.Files.{base_in, batch_in}
 use Rattle.csv_load.specs.Faults.{Fault}
 use Rattle.qc_io.specs.Outside.{Told}
 use Rattle.query_script.specs.Faults.{LineFault}
-use Rattle.query_script.specs.declared.line.Command.{Command}
-use Rattle.query_script.specs.declared.line.Command.TheVariants as commands
+use Rattle.query_script.specs.Questions as asks
+use Rattle.query_script.specs.Questions.{Question}
 use Rattle.reply_text.specs.Replies.{memory_text, refused_text, size_texts}
 use Rattle.warehouse.specs.Batch as batches
 use Rattle.warehouse.specs.Batch.{Applied, Kind, Refusal, after, refusal_of, result, result_of, rows_after, unless}
@@ -52,13 +52,15 @@ named-schema : (s : State) (line : ℕ) (kind : Kind) (bytes : Option (List ℕ)
 named-schema s line kind None = tt
 named-schema s line kind (Some bytes) = file-schema s line kind bytes
 
-answer-schema : (s : State) (t : Told) (line : ℕ) (asked : Result Command LineFault) → IfSome (answer_to s t line asked) (λ a. a.state.schema ≡ s.schema)
+answer-schema : (s : State) (t : Told) (line : ℕ) (asked : Result Question LineFault) → IfSome (answer_to s t line asked) (λ a. a.state.schema ≡ s.schema)
 answer-schema s t line (Err fault) = refl
-answer-schema s t line (Ok (commands.Load name)) = named-schema s line batches.Load (t name)
-answer-schema s t line (Ok (commands.Apply name)) = named-schema s line batches.Apply (t name)
-answer-schema s t line (Ok (commands.Point asked)) = refl
-answer-schema s t line (Ok (commands.Bounds asked)) = refl
-answer-schema s t line (Ok commands.Stats) = refl
+answer-schema s t line (Ok (asks.Load name)) = named-schema s line batches.Load (t name)
+answer-schema s t line (Ok (asks.Apply name)) = named-schema s line batches.Apply (t name)
+answer-schema s t line (Ok (asks.Point asked)) = refl
+answer-schema s t line (Ok (asks.Range asked)) = refl
+answer-schema s t line (Ok (asks.Bounds asked)) = refl
+answer-schema s t line (Ok (asks.Iceberg kind bound value)) = refl
+answer-schema s t line (Ok asks.Stats) = refl
 
 answered-schema : (run : Run) (a : Option Answered) → IfSome a (λ a. a.state.schema ≡ run.state.schema) → (answered run a).state.schema ≡ run.state.schema
 answered-schema run None h = refl

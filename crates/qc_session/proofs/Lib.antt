@@ -3,6 +3,8 @@ mod ClassTold
 mod Ended
 mod Found
 mod Kept
+mod Measured
+mod Recoded
 mod Refusals
 mod Refused
 mod Steps

@@ -1,22 +1,24 @@
 -- The answer to a line: a filter and a sum over the rows that are present, or what a file does to them.
-use Rattle.std.specs.Prelude.{ℕ, Option, Some, None, List, length, map, nat_lt, Result, Ok, Err, if◌then◌else◌}
+use Rattle.std.specs.Prelude.{ℕ, Option, Some, None, List, length, map, nat_lt, slice_index_or, Result, Ok, Err, if◌then◌else◌}
 use Rattle.std.specs.Option.{option_map}
 use Rattle.cube_defs.specs.Text.{Text, text_cmp, text_eq}
 use Rattle.cube_defs.specs.Cell.{Cell}
-use Rattle.cube_defs.specs.Answers.{class_of}
+use Rattle.cube_defs.specs.Rows.{Fraction}
+use Rattle.cube_defs.specs.Answers.{AggKind, Ask, Bound, Box, Count, Greatest, Least, Mean, Sum, class_of, iceberg, range}
 use Rattle.cube_defs.specs.Tree.{classes, links, nodes, tree_edges}
 use Rattle.cube_laws.specs.Total.{agg_at}
 use Rattle.cell_core.specs.declared.fields.Field.{Field}
 use Rattle.cell_core.specs.declared.fields.Field.TheVariants as fields
 use Rattle.qc_io.specs.Outside.{Told}
-use Rattle.qc_schema.specs.Schema.{Layout}
+use Rattle.qc_schema.specs.Schema.{Layout, Measure, no_measure}
 use Rattle.query_script.specs.Commands.{command_in}
 use Rattle.query_script.specs.Faults.{LineFault}
-use Rattle.query_script.specs.declared.line.Command.{Command}
-use Rattle.query_script.specs.declared.line.Command.TheVariants as commands
+use Rattle.query_script.specs.Questions as asks
+use Rattle.query_script.specs.Questions.{Question}
+use Rattle.value_dict.specs.Boxes.{asked_box}
 use Rattle.warehouse.specs.Batch.{Applied, Kind, Load, Apply, Refusal, result}
 use Rattle.warehouse.specs.State.{State}
-use Rattle.reply_text.specs.Replies.{applied_text, batch_texts, bounds_reply, line_texts, point_reply, refused_text, size_texts, stats_text}
+use Rattle.reply_text.specs.Replies.{applied_text, batch_texts, bounds_reply, iceberg_text, line_texts, point_reply, range_reply, refused_text, size_texts, stats_text}
 use Rattle.cube_defs.specs.declared.limits.TheConstants.{MAX_FILE}
 
 -- a state and a reply
@@ -56,31 +58,55 @@ pointed state line cell = point_reply state.schema line cell (agg_at text_eq (le
 abbrev pub bounded : State → ℕ → Cell Text → List ℕ
 bounded state line cell = bounds_reply state.schema line (class_of text_cmp (length state.schema.measures) state.rows cell)
 
+-- the answer to `range`: the cells of the box that cover rows
+abbrev pub ranged : State → ℕ → Box Text → List ℕ
+ranged state line box = range_reply state.schema line (range text_cmp (length state.schema.measures) state.rows box)
+
+-- the scale of the measure of a kind; a count has none
+abbrev pub scale_of : List Measure → AggKind → ℕ
+scale_of measures Count = 0
+scale_of measures (Sum m) = (slice_index_or measures m no_measure).scale
+scale_of measures (Least m) = (slice_index_or measures m no_measure).scale
+scale_of measures (Greatest m) = (slice_index_or measures m no_measure).scale
+scale_of measures (Mean m) = (slice_index_or measures m no_measure).scale
+
+-- what is asked of a class, in the unit of the measure
+abbrev pub asked_of : List Measure → AggKind → Bound → Fraction → Ask
+asked_of measures kind bound value = record { kind = kind; scale = scale_of measures kind; bound = bound; value = value }
+
+-- the answer to `iceberg`: the classes that pass
+abbrev pub passed : State → ℕ → Ask → List ℕ
+passed state line ask = iceberg_text line state.schema.measures (iceberg text_cmp (length state.schema.measures) state.rows ask)
+
 -- the reply to `stats`: what is counted of the rows and of their canonical tree
 abbrev pub counted : State → ℕ → List ℕ
 counted state line =
     stats_text line (length state.rows) (length (classes text_cmp state.rows)) (length (nodes text_cmp state.rows)) (tree_edges text_cmp state.rows) (links text_cmp state.rows)
 
--- the answer to a command or to a line that is none, and nothing where the file that it names isn't told
-abbrev pub answer_to : State → Told → ℕ → Result Command LineFault → Option Answered
+-- the answer to a question or to a line that asks none, and nothing where the file that it names isn't told
+abbrev pub answer_to : State → Told → ℕ → Result Question LineFault → Option Answered
 answer_to state told line (Err fault) = Some (stays state (refused_text line (line_texts fault)))
-answer_to state told line (Ok (commands.Load name)) = option_map (file_answer state line Load) (told name)
-answer_to state told line (Ok (commands.Apply name)) = option_map (file_answer state line Apply) (told name)
-answer_to state told line (Ok (commands.Point asked)) = Some (stays state (pointed state line (cell_asked asked)))
-answer_to state told line (Ok (commands.Bounds asked)) = Some (stays state (bounded state line (cell_asked asked)))
-answer_to state told line (Ok commands.Stats) = Some (stays state (counted state line))
+answer_to state told line (Ok (asks.Load name)) = option_map (file_answer state line Load) (told name)
+answer_to state told line (Ok (asks.Apply name)) = option_map (file_answer state line Apply) (told name)
+answer_to state told line (Ok (asks.Point asked)) = Some (stays state (pointed state line (cell_asked asked)))
+answer_to state told line (Ok (asks.Range asked)) = Some (stays state (ranged state line (asked_box state.texts 0 asked)))
+answer_to state told line (Ok (asks.Bounds asked)) = Some (stays state (bounded state line (cell_asked asked)))
+answer_to state told line (Ok (asks.Iceberg kind bound value)) = Some (stays state (passed state line (asked_of state.schema.measures kind bound value)))
+answer_to state told line (Ok asks.Stats) = Some (stays state (counted state line))
 
 abbrev pub answer : State → Told → ℕ → List ℕ → Option Answered
 answer state told number line = answer_to state told number (command_in state.schema line)
 
--- the file that a command names, where it names one
-abbrev pub file_named : Result Command LineFault → Option Text
+-- the file that a question names, where it names one
+abbrev pub file_named : Result Question LineFault → Option Text
 file_named (Err fault) = None
-file_named (Ok (commands.Load name)) = Some name
-file_named (Ok (commands.Apply name)) = Some name
-file_named (Ok (commands.Point asked)) = None
-file_named (Ok (commands.Bounds asked)) = None
-file_named (Ok commands.Stats) = None
+file_named (Ok (asks.Load name)) = Some name
+file_named (Ok (asks.Apply name)) = Some name
+file_named (Ok (asks.Point asked)) = None
+file_named (Ok (asks.Range asked)) = None
+file_named (Ok (asks.Bounds asked)) = None
+file_named (Ok (asks.Iceberg kind bound value)) = None
+file_named (Ok asks.Stats) = None
 
 -- the file that a line names, over a schema
 abbrev pub file_of : Layout → List ℕ → Option Text

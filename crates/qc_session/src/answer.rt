@@ -1,13 +1,16 @@
 // The answer to one line.
 ghost use Rattle.std.specs.Prelude.{Err, IfErr, IfOk, IfSome, IsTrue, None, Ok, OnErr, Some, length, option_map, true, ⊤, ◌≡◌, ◌≤◌};
 ghost use Rattle.qc_io.specs.Outside.{Rose};
-ghost use Rattle.query_script.specs.Commands.{IsCommand, wants_memory};
+ghost use Rattle.query_script.specs.Commands.{IsQuestion, wants_memory};
 ghost use Rattle.query_script.specs.Lines.{may_want_memory};
+ghost use Rattle.query_script.specs.Questions.{question_in};
 ghost use Rattle.warehouse.specs.Batch as batches;
 ghost use Rattle.qc_session.specs.Answers.{answer, answer_to, changed, file_answer, file_named, file_of};
 
 use crate::bounds::answer_bounds;
+use crate::iceberg::answer_iceberg;
 use crate::point::answer_point;
+use crate::range::answer_range;
 use cell_core::{Memory, Steps, Text};
 use cube_defs::MAX_FILE;
 use qc_io::{Files, ReadRefused, read_all};
@@ -121,16 +124,16 @@ fn answer_command<F: Files, L: Ledger>(
     command: Command,
     steps: &mut Steps<L>,
 ) -> Result<Reply, LineStop>
-    requires { IsCommand warehouse.old.state.schema command }
+    requires { IsQuestion warehouse.old.state.schema (question_in command) }
     ensures later { F.faults files.old ≤ F.faults files.new }
     ensures told { F.told files.new ≡ F.told files.old }
     ensures steady { IsTrue (F.steady files.old) → IsTrue (F.steady files.new) }
     ensures state { OnErr result (warehouse.new.state ≡ warehouse.old.state) }
     ensures tree { OnErr result (warehouse.new.tree ≡ warehouse.old.tree) }
-    ensures memory { IfErr result (λ stop. MatchLineStop stop (wants_memory command ≡ true) (λ file. ⊤)) }
-    ensures fault { IfErr result (λ stop. MatchLineStop stop ⊤ (λ file. (file_named (Ok command) ≡ Some file) × Rose (F.faults files.old) (F.faults files.new))) }
+    ensures memory { IfErr result (λ stop. MatchLineStop stop (wants_memory (question_in command) ≡ true) (λ file. ⊤)) }
+    ensures fault { IfErr result (λ stop. MatchLineStop stop ⊤ (λ file. (file_named (Ok (question_in command)) ≡ Some file) × Rose (F.faults files.old) (F.faults files.new))) }
     ensures untold { IfErr result (λ stop. MatchLineStop stop ⊤ (λ file. IsTrue (F.steady files.old) → IfSome (F.told files.old) (λ t. t file ≡ None))) }
-    ensures answered { IfOk result (λ reply. IfSome (F.told files.old) (λ t. answer_to warehouse.old.state t number (Ok command) ≡ Some (record { state = warehouse.new.state; reply = reply_bytes reply }))) }
+    ensures answered { IfOk result (λ reply. IfSome (F.told files.old) (λ t. answer_to warehouse.old.state t number (Ok (question_in command)) ≡ Some (record { state = warehouse.new.state; reply = reply_bytes reply }))) }
 {
     match command {
         Command::Load(name) => answer_file(
@@ -155,10 +158,20 @@ fn answer_command<F: Files, L: Ledger>(
             Ok(reply) => Ok(reply),
             Err(_) => Err(LineStop::Memory),
         },
+        Command::Range(asked) => match answer_range(alloc, warehouse, number, &asked, steps) {
+            Ok(reply) => Ok(reply),
+            Err(_) => Err(LineStop::Memory),
+        },
         Command::Bounds(asked) => match answer_bounds(alloc, warehouse, number, &asked, steps) {
             Ok(reply) => Ok(reply),
             Err(_) => Err(LineStop::Memory),
         },
+        Command::Iceberg(kind, bound, value) => {
+            match answer_iceberg(alloc, warehouse, number, kind, bound, value, steps) {
+                Ok(reply) => Ok(reply),
+                Err(_) => Err(LineStop::Memory),
+            }
+        }
         Command::Stats => Ok(Reply::Short(stats(number, warehouse.stats()))),
     }
 }

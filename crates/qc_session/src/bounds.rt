@@ -2,7 +2,7 @@
 ghost use Rattle.std.specs.Option.{option_map};
 ghost use Rattle.std.specs.Prelude.{All, IfOk, IfSome, length, ◌*◌, ◌+◌, ◌^◌, ◌≡◌, ◌≤◌};
 ghost use Rattle.cube_defs.specs.Text.{text_cmp};
-ghost use Rattle.query_script.specs.Commands.{IsPointField};
+ghost use Rattle.query_script.specs.Commands.{IsCellField};
 ghost use Rattle.qc_session.specs.Answers.{bounded, cell_asked};
 ghost use Rattle.cube_defs.specs.Answers.{class_of};
 ghost use Rattle.lower_bounds.specs.Classes.{hit_in};
@@ -24,7 +24,7 @@ fn class_asked<L: Ledger>(
     steps: &mut Steps<L>,
 ) -> Result<Option<Class>, Memory>
     requires dims { length asked.now ≡ length warehouse.now.state.schema.dims }
-    requires point { All IsPointField asked.now }
+    requires point { All IsCellField asked.now }
     ensures value { IfOk result (λ class. option_map (λ c. told_hit warehouse.now.state.texts (hit_in c)) class ≡ class_of text_cmp (length warehouse.now.state.schema.measures) warehouse.now.state.rows (cell_asked asked.now)) }
     ensures told { IfOk result (λ class. IfSome class (λ c. IsTold warehouse.now.state.texts (length warehouse.now.state.schema.measures) (hit_in c))) }
     ensures steps { steps.new ≤ steps.old + 7 * (length warehouse.now.state.schema.dims + 1) * 2 ^ length warehouse.now.state.schema.dims }
@@ -45,7 +45,7 @@ pub fn answer_bounds<L: Ledger>(
     steps: &mut Steps<L>,
 ) -> Result<Reply, Memory>
     requires dims { length asked.now ≡ length warehouse.now.state.schema.dims }
-    requires point { All IsPointField asked.now }
+    requires point { All IsCellField asked.now }
     ensures reply { IfOk result (λ reply. reply_bytes reply ≡ bounded warehouse.now.state number (cell_asked asked.now)) }
     ensures steps { steps.new ≤ steps.old + 7 * (length warehouse.now.state.schema.dims + 1) * 2 ^ length warehouse.now.state.schema.dims }
 {

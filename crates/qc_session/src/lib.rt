@@ -4,8 +4,10 @@
 mod answer;
 mod bounds;
 mod failure;
+mod iceberg;
 mod lines;
 mod point;
+mod range;
 mod scripts;
 mod session;
 mod words;

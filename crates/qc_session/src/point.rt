@@ -3,7 +3,7 @@ ghost use Rattle.std.specs.Prelude.{All, IfOk, IfSome, length, option_map, ◌*�
 ghost use Rattle.aggregates.specs.Views.{agg_in};
 ghost use Rattle.cube_defs.specs.Text.{text_eq};
 ghost use Rattle.cube_laws.specs.Total.{agg_at};
-ghost use Rattle.query_script.specs.Commands.{IsPointField};
+ghost use Rattle.query_script.specs.Commands.{IsCellField};
 ghost use Rattle.qc_session.specs.Answers.{cell_asked, pointed};
 ghost use Rattle.reply_text.specs.Words.{reply_bytes};
 ghost use Rattle.value_dict.specs.Told.{HasTexts, told_cell};
@@ -23,7 +23,7 @@ fn total_asked<L: Ledger>(
     steps: &mut Steps<L>,
 ) -> Option<(Cell, Agg)>
     requires dims { length asked.now ≡ length warehouse.now.state.schema.dims }
-    requires point { All IsPointField asked.now }
+    requires point { All IsCellField asked.now }
     ensures value { option_map (λ found. agg_in found.1) result ≡ agg_at text_eq (length warehouse.now.state.schema.measures) warehouse.now.state.rows (cell_asked asked.now) }
     ensures measures { IfSome result (λ found. length (agg_in found.1).parts ≡ length warehouse.now.state.schema.measures) }
     ensures told { IfSome result (λ found. told_cell warehouse.now.state.texts found.0 ≡ cell_asked asked.now) }
@@ -45,7 +45,7 @@ pub fn answer_point<L: Ledger>(
     steps: &mut Steps<L>,
 ) -> Result<Reply, Memory>
     requires dims { length asked.now ≡ length warehouse.now.state.schema.dims }
-    requires point { All IsPointField asked.now }
+    requires point { All IsCellField asked.now }
     ensures reply { IfOk result (λ reply. reply_bytes reply ≡ pointed warehouse.now.state number (cell_asked asked.now)) }
     ensures steps { steps.new ≤ steps.old + (2 * length warehouse.now.state.schema.dims + 3) }
 {

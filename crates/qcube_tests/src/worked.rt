@@ -28,6 +28,15 @@ const PLUS: File = (
 
 const MINUS: File = ("minus4.csv", b"op,id,store,product,season,sale\n-,4,,,,\n");
 
+// Icebergs of the base file: what they ask, and the classes that pass.
+const ICEBERGS: &[u8] = b"load base.csv\niceberg count >= 2\niceberg mean sale >= 15/2\n";
+
+const ICEBERG_CLASSES: &str = "applied,1,3,6\nclass,2,*,*,*,3,27,6,12,9/1\nlower,2,*,*,*\n\
+    class,2,*,P1,*,2,15,6,9,15/2\nlower,2,*,P1,*\nclass,2,S1,*,s,2,18,6,12,9/1\nlower,2,*,*,s\nlower,2,S1,*,*\nend,2,3\n\
+    class,3,S1,P2,s,1,12,12,12,12/1\nlower,3,*,P2,*\nclass,3,*,*,*,3,27,6,12,9/1\nlower,3,*,*,*\n\
+    class,3,S1,*,s,2,18,6,12,9/1\nlower,3,*,*,s\nlower,3,S1,*,*\nclass,3,S2,P1,f,1,9,9,9,9/1\nlower,3,*,*,f\nlower,3,S2,*,*\n\
+    class,3,*,P1,*,2,15,6,9,15/2\nlower,3,*,P1,*\nend,3,5\n";
+
 // Files in memory that give so many bytes a read.
 fn files_of(
     alloc: Global,
@@ -63,7 +72,7 @@ fn has_transcript(rt: &impl Abort, alloc: Global, row: &Row, piece: usize) -> Re
 
 #[test]
 fn worked_scripts(rt: HostRuntime) -> Result<(), Fail> {
-    let rows: [Row; 28] = [
+    let rows: [Row; 31] = [
         (
             SCHEMA,
             &[BASE],
@@ -193,6 +202,20 @@ fn worked_scripts(rt: HostRuntime) -> Result<(), Fail> {
             "applied,1,3,6\nrefused,2,twice,2\nrefused,3,missing,1\nrefused,4,present,1\nrefused,5,not-empty\n",
         ),
         (
+            SCHEMA,
+            &[BASE],
+            b"load base.csv\nrange ?,P1,*\nrange |S2|S1,~P1~P2,*\nrange *,P3,*\n",
+            "applied,1,3,6\ncell,2,S1,P1,*,1,6,6,6,6/1\ncell,2,S2,P1,*,1,9,9,9,9/1\nend,2,2\n\
+            cell,3,S1,P1,*,1,6,6,6,6/1\ncell,3,S1,P2,*,1,12,12,12,12/1\ncell,3,S2,P1,*,1,9,9,9,9/1\nend,3,3\nend,4,0\n",
+        ),
+        (SCHEMA, &[BASE], ICEBERGS, ICEBERG_CLASSES),
+        (
+            b"qcube 1\nid id\ndim store\ndim product\ndim season\nmeasure sale 0\nindex count\nindex mean sale\n",
+            &[BASE],
+            ICEBERGS,
+            ICEBERG_CLASSES,
+        ),
+        (
             b"qcube 1\nid order\ndim store\ndim product\ndim season\nmeasure sale 2\nindex sum sale\n",
             &[(
                 "shop.csv",
@@ -305,7 +328,7 @@ fn worked_scripts(rt: HostRuntime) -> Result<(), Fail> {
                 ),
             ],
             b"load base.csv\niceberg median sale >= 1\niceberg sum price >= 1\niceberg count > 2\niceberg count >= two\nstats now\nload\npoint \xEF\xBB\xBF*,*,*\napply marks.csv\n",
-            "applied,1,3,6\nrefused,2,command\nrefused,3,command\nrefused,4,command\nrefused,5,command\nrefused,6,command\nrefused,7,field,1\nrefused,8,field,1\nrefused,9,header\n",
+            "applied,1,3,6\nrefused,2,field,1\nrefused,3,field,2\nrefused,4,field,2\nrefused,5,number\nrefused,6,command\nrefused,7,field,1\nrefused,8,field,1\nrefused,9,header\n",
         ),
         // the session of the README, over the files of examples/store
         (

@@ -2,11 +2,12 @@
 use Rattle.std.proofs.Common.{◌≡◌, ◌<◌, ◌≤◌, ◌+◌, ◌∙◌, ℕ, zero, suc, Option, Some, None, List, [], ◌∷◌, ◌++◌, map, take, length, get_or, refl, sym, ap, subst, append_assoc, append-nil, arith, add-one}
 use Rattle.std.specs.Prelude.{slice_get, option_map}
 use Rattle.std.specs.List.{All, flat_map}
-use Rattle.std.proofs.lemmas.List.Elements.{All-head, All-tail}
+use Rattle.std.proofs.lemmas.List.Elements.{All-get_or}
+use Rattle.std.proofs.lemmas.Option.{get_or_from_slice_get, slice_get_within}
 use Rattle.cube_defs.specs.Text.{Text}
 use Rattle.cube_defs.specs.Cell.{Cell}
 use Rattle.value_dict.specs.Told.{HasTexts, text_of, told_cell}
-use Rattle.reply_text.specs.Replies.{entry_text, fields_text, lower_text}
+use Rattle.reply_text.specs.Replies.{entry_text, fields_text}
 
 -- there is a list for each entry
 pub told-long : (lists : List (List Text)) (cell : Cell ℕ) → HasTexts lists cell → length cell ≤ length lists
@@ -43,27 +44,24 @@ told-behind lists cell k l h =
     rw add-one (ap (λ (c : Cell Text). fields_text (map entry_text c)) (told-more lists cell k l (omega (arith, told-long lists cell h)))
     ∙ entry-behind (told_cell lists (take k cell)) (option_map (text_of (get_or lists k [])) (get_or cell k None)))
 
--- one lower bound more
-pub lower-behind : (line : ℕ) (lists : List (List Text)) (cells : List (Cell ℕ)) (k : ℕ) (cell : Cell ℕ) → slice_get cells k ≡ Some cell
-    → flat_map (lower_text line) (map (told_cell lists) (take (k + 1) cells)) ≡ flat_map (lower_text line) (map (told_cell lists) (take k cells)) ++ lower_text line (told_cell lists cell)
-lower-behind line lists cells k cell e = rw add-one (by cells k e)
+-- what is written of one item more
+pub item-behind : {X Y : Type 0} (text : Y → List ℕ) (f : X → Y) (xs : List X) (k : ℕ) (x : X) → slice_get xs k ≡ Some x
+    → flat_map text (map f (take (k + 1) xs)) ≡ flat_map text (map f (take k xs)) ++ text (f x)
+item-behind {X} {Y} text f xs k x e = rw add-one (by xs k e)
   where
-    some : {c d : Cell ℕ} → Some c ≡ Some d → c ≡ d
+    some : {x y : X} → Some x ≡ Some y → x ≡ y
     some e = cc
 
-    by : (cells : List (Cell ℕ)) (k : ℕ) → slice_get cells k ≡ Some cell
-        → flat_map (lower_text line) (map (told_cell lists) (take (suc k) cells)) ≡ flat_map (lower_text line) (map (told_cell lists) (take k cells)) ++ lower_text line (told_cell lists cell)
+    by : (xs : List X) (k : ℕ) → slice_get xs k ≡ Some x → flat_map text (map f (take (suc k) xs)) ≡ flat_map text (map f (take k xs)) ++ text (f x)
     by [] k e = cc
-    by (c ∷ cells) zero e = append-nil (lower_text line (told_cell lists c)) ∙ ap (λ (d : Cell ℕ). lower_text line (told_cell lists d)) (some e)
-    by (c ∷ cells) (suc k) e =
-        ap (λ (z : List ℕ). lower_text line (told_cell lists c) ++ z) (by cells k e)
-        ∙ sym (append_assoc (lower_text line (told_cell lists c)) (flat_map (lower_text line) (map (told_cell lists) (take k cells))) (lower_text line (told_cell lists cell)))
+    by (y ∷ xs) zero e = append-nil (text (f y)) ∙ ap (λ (z : X). text (f z)) (some e)
+    by (y ∷ xs) (suc k) e =
+        ap (λ (z : List ℕ). text (f y) ++ z) (by xs k e)
+        ∙ sym (append_assoc (text (f y)) (flat_map text (map f (take k xs))) (text (f x)))
 
--- each cell of a list of such has texts
-pub told-at : (lists : List (List Text)) (cells : List (Cell ℕ)) (k : ℕ) (cell : Cell ℕ) → All (HasTexts lists) cells → slice_get cells k ≡ Some cell → HasTexts lists cell
-told-at lists [] k cell h e = cc
-told-at lists (c ∷ cells) zero cell h e = let same : c ≡ cell = cc in subst (HasTexts lists) same (All-head (HasTexts lists) c cells h)
-told-at lists (c ∷ cells) (suc k) cell h e = told-at lists cells k cell (All-tail (HasTexts lists) c cells h) e
+-- what is true of each item
+pub item-at : {X : Type 0} (P : X → Type 0) (xs : List X) (k : ℕ) (x : X) → All P xs → slice_get xs k ≡ Some x → P x
+item-at P xs k x h e = subst P (get_or_from_slice_get xs k x x e) (All-get_or P xs k x (slice_get_within xs k x e) h)
 
 pub told-text : (texts : List Text) (code : ℕ) (text : Text) → slice_get texts code ≡ Some text → text_of texts code ≡ text
 told-text [] code text e = cc

@@ -1,16 +1,17 @@
 -- The bytes of replies.
-use Rattle.std.specs.Prelude.{ℕ, Bool, false, ◌==◌, ◌||◌, Option, Some, None, List, [], ◌∷◌, ◌++◌, map, codes, decimal, slice_index_or, if◌then◌else◌}
+use Rattle.std.specs.Prelude.{ℕ, Bool, false, ◌==◌, ◌||◌, Option, Some, None, List, [], ◌∷◌, ◌++◌, length, map, codes, decimal, nat_lt, slice_index_or, if◌then◌else◌}
 use Rattle.std.specs.List.{flat_map, join_with_byte, list_any}
 use Rattle.std.specs.Str.{bytes_eq}
 use Rattle.cube_defs.specs.Text.{Text}
 use Rattle.cube_defs.specs.Cell.{Cell}
 use Rattle.cube_defs.specs.Rows.{Agg, Part, mean_of}
-use Rattle.cube_defs.specs.Answers.{ClassHit}
+use Rattle.cube_defs.specs.Answers.{ClassHit, Hit}
 use Rattle.aggregates.specs.Texts.{amount_text, ratio_text}
 use Rattle.csv_load.specs.Faults as files
 use Rattle.qc_schema.specs.Schema.{Layout, Measure}
 use Rattle.query_script.specs.Faults as lines
 use Rattle.query_script.specs.Fields.{is_several}
+use Rattle.range_query.specs.declared.TheConstants.{MAX_RANGE_CELLS}
 use Rattle.warehouse.specs.Batch as batches
 
 -- fields joined by commas, ended by LF
@@ -56,6 +57,10 @@ batch_texts schema batches.NodesFull = codes "nodes" ∷ []
 -- for its size
 abbrev pub size_texts : List Text
 size_texts = codes "size" ∷ []
+
+-- for the cells of its box that cover a row: they are more than are told
+abbrev pub many_texts : List Text
+many_texts = codes "too-many-cells" ∷ []
 
 abbrev pub refused_text : ℕ → List Text → List ℕ
 refused_text line refusal = record_text (codes "refused" ∷ decimal line ∷ refusal)
@@ -139,6 +144,17 @@ end_text line count = record_text (codes "end" ∷ decimal line ∷ decimal coun
 abbrev pub bounds_text : ℕ → List Measure → ClassHit Text → List ℕ
 bounds_text line measures class = class_text line measures class ++ end_text line 1
 
+-- a cell of a box, with what its rows come to
+abbrev pub hit_text : ℕ → List Measure → Hit Text → List ℕ
+hit_text line measures hit = cell_text (codes "cell") line hit.cell (agg_texts measures hit.agg)
+
+abbrev pub range_text : ℕ → List Measure → List (Hit Text) → List ℕ
+range_text line measures hits = flat_map (hit_text line measures) hits ++ end_text line (length hits)
+
+-- the reply to `iceberg`: its classes
+abbrev pub iceberg_text : ℕ → List Measure → List (ClassHit Text) → List ℕ
+iceberg_text line measures classes = flat_map (class_text line measures) classes ++ end_text line (length classes)
+
 -- the reply to a point, where the asked cell covers rows that come to this, or none
 abbrev pub point_reply : Layout → ℕ → Cell Text → Option Agg → List ℕ
 point_reply schema line cell None = none_text line
@@ -148,3 +164,7 @@ point_reply schema line cell (Some agg) = point_text line cell schema.measures a
 abbrev pub bounds_reply : Layout → ℕ → Option (ClassHit Text) → List ℕ
 bounds_reply schema line None = none_text line
 bounds_reply schema line (Some class) = bounds_text line schema.measures class
+
+-- the reply to `range`, where these cells of the box cover rows, if they are not too many
+abbrev pub range_reply : Layout → ℕ → List (Hit Text) → List ℕ
+range_reply schema line hits = if nat_lt MAX_RANGE_CELLS (length hits) then refused_text line many_texts else range_text line schema.measures hits

@@ -24,7 +24,7 @@ IsShortDetail (details.Name name) = length name.now ≤ 32
 IsShortDetail detail = ⊤
 
 pub record IsShort (words : Words) : Type 0 where
-  pub code : length words.code.now ≤ 9
+  pub code : length words.code.now ≤ 14
   pub detail : IsShortDetail words.detail
 
 -- a refusal that names one of so many dimensions, if it names one

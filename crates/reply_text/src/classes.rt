@@ -1,12 +1,13 @@
-// The reply that tells the bounds of a class.
+// The replies that tell classes with their bounds.
 ghost use Rattle.std.specs.List.{All, flat_map};
 ghost use Rattle.std.specs.Prelude.{IfOk, OnOk, length, map, ◌++◌, ◌≡◌};
+ghost use Rattle.iceberg_query.specs.Hits.{told_classes};
 ghost use Rattle.lower_bounds.specs.Classes.{hit_in};
-ghost use Rattle.reply_text.specs.Replies.{bounds_text, class_text, end_text, lower_text};
+ghost use Rattle.reply_text.specs.Replies.{bounds_text, class_text, iceberg_text, lower_text};
 ghost use Rattle.value_dict.specs.Told.{HasTexts, IsTold, told_cell, told_hit};
 
 use crate::cells::push_head;
-use crate::fields::push_number;
+use crate::fields::push_end;
 use crate::totals::push_agg;
 use cell_core::{Cell, Cells, Memory};
 use lower_bounds::Class;
@@ -52,14 +53,20 @@ fn push_class(
     push_lowers(out, line, dict, &class.lowers)
 }
 
-// The last record of a reply with so many classes.
-fn push_end(out: &mut Vec<u8>, line: u32, count: u32) -> Result<(), Memory>
-    ensures { OnOk result (out.new.items ≡ out.old.items ++ end_text line count) }
+// The records of all classes.
+fn push_classes(
+    out: &mut Vec<u8>,
+    line: u32,
+    schema: &Schema,
+    dict: &Dict,
+    classes: &[Class],
+) -> Result<(), Memory>
+    requires { All (λ class. IsTold dict.now.lists (length schema.now.measures) (hit_in class)) classes.now }
+    ensures { OnOk result (out.new.items ≡ out.old.items ++ flat_map (class_text line schema.now.measures) (told_classes dict.now.lists classes.now)) }
 {
-    out.extend_from_slice(b"end")?;
-    push_number(out, u64::from(line))?;
-    push_number(out, u64::from(count))?;
-    out.push(b'\n')?;
+    'classes: for class in classes {
+        push_class(out, line, schema, dict, class)?;
+    }
     Ok(())
 }
 
@@ -77,5 +84,22 @@ pub fn bounds_reply(
     let mut out = Vec::new(alloc);
     push_class(&mut out, line, schema, dict, class)?;
     push_end(&mut out, line, 1)?;
+    Ok(out)
+}
+
+/// The reply that tells the classes of an iceberg.
+pub fn iceberg_reply(
+    alloc: Global,
+    line: u32,
+    schema: &Schema,
+    dict: &Dict,
+    classes: &[Class],
+) -> Result<Vec<u8>, Memory>
+    requires { All (λ class. IsTold dict.now.lists (length schema.now.measures) (hit_in class)) classes.now }
+    ensures { IfOk result (λ reply. reply.items ≡ iceberg_text line schema.now.measures (told_classes dict.now.lists classes.now)) }
+{
+    let mut out = Vec::new(alloc);
+    push_classes(&mut out, line, schema, dict, classes)?;
+    push_end(&mut out, line, classes.len() as u64)?;
     Ok(out)
 }

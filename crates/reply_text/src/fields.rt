@@ -1,5 +1,6 @@
 // Fields of a record.
 ghost use Rattle.std.specs.Prelude.{OnOk, decimal, ◌++◌, ◌∷◌, ◌≡◌};
+ghost use Rattle.reply_text.specs.Replies.{end_text};
 
 use aggregates::print_number;
 use cell_core::Memory;
@@ -20,4 +21,15 @@ pub fn push_number(out: &mut Vec<u8>, number: u64) -> Result<(), Memory>
     let mut text = [0; 48];
     let len = print_number(number, &mut text);
     push_field(out, &text[..len])
+}
+
+/// The last record of a reply that tells so many.
+pub fn push_end(out: &mut Vec<u8>, line: u32, count: u64) -> Result<(), Memory>
+    ensures { OnOk result (out.new.items ≡ out.old.items ++ end_text line count) }
+{
+    out.extend_from_slice(b"end")?;
+    push_number(out, u64::from(line))?;
+    push_number(out, count)?;
+    out.push(b'\n')?;
+    Ok(())
 }

@@ -1,7 +1,7 @@
 // What a refusal says.
 ghost use Rattle.std.specs.Prelude.{IfSome, [], length, option_map, ◌<◌, ◌∷◌, ◌≡◌, ◌≤◌};
 ghost use Rattle.qc_schema.specs.Schema.{IsLayout};
-ghost use Rattle.reply_text.specs.Replies.{batch_texts, line_texts, numbered, size_texts};
+ghost use Rattle.reply_text.specs.Replies.{batch_texts, line_texts, many_texts, numbered, size_texts};
 ghost use Rattle.warehouse.specs.Stored.{refusal_in};
 
 use qc_schema::Schema;
@@ -28,7 +28,7 @@ ghost use Rattle.query_script.specs.Faults.{line_fault_in};
 
 impl<'a> Words<'a> {
     fn code(code: &'static str) -> Words<'a>
-        requires { length code.now ≤ 9 }
+        requires { length code.now ≤ 14 }
         ensures texts { texts_of result ≡ code.now ∷ [] }
         ensures short { IsShort result }
     {
@@ -39,7 +39,7 @@ impl<'a> Words<'a> {
     }
 
     fn number(code: &'static str, k: u32) -> Words<'a>
-        requires { length code.now ≤ 9 }
+        requires { length code.now ≤ 14 }
         ensures texts { texts_of result ≡ numbered code.now k }
         ensures short { IsShort result }
     {
@@ -50,7 +50,7 @@ impl<'a> Words<'a> {
     }
 
     fn name(code: &'static str, name: &'a str) -> Words<'a>
-        requires code { length code.now ≤ 9 }
+        requires code { length code.now ≤ 14 }
         requires name { length name.now ≤ 32 }
         ensures texts { texts_of result ≡ code.now ∷ name.now ∷ [] }
         ensures short { IsShort result }
@@ -108,4 +108,12 @@ pub fn words_of_size() -> Words<'static>
     ensures short { IsShort result }
 {
     Words::code("size")
+}
+
+/// More cells of the box cover a row than are told.
+pub fn words_of_many() -> Words<'static>
+    ensures texts { texts_of result ≡ many_texts }
+    ensures short { IsShort result }
+{
+    Words::code("too-many-cells")
 }

@@ -1,0 +1,101 @@
+// The answer to an iceberg query.
+ghost use Rattle.std.specs.Prelude.{All, IfOk, [], length, ◌≡◌, ◌≤◌};
+ghost use Rattle.aggregates.specs.Views.{fraction_in, kind_in};
+ghost use Rattle.cube_defs.specs.Answers as answers;
+ghost use Rattle.cube_defs.specs.Text.{text_cmp};
+ghost use Rattle.iceberg_query.specs.Asked.{ask_in, bound_in};
+ghost use Rattle.iceberg_query.specs.Hits.{told_classes};
+ghost use Rattle.lower_bounds.specs.Classes.{hit_in};
+ghost use Rattle.qc_schema.specs.Schema.{IsLayout};
+ghost use Rattle.query_script.specs.Commands.{IsMeasured};
+ghost use Rattle.reply_text.specs.Words.{reply_bytes};
+ghost use Rattle.value_dict.specs.Told.{IsTold};
+ghost use Rattle.qc_session.specs.Answers.{asked_of, passed, scale_of};
+
+use aggregates::{AggKind, Fraction};
+use cell_core::{Memory, Steps};
+use iceberg_query::{Ask, Bound, Class, iceberg};
+use measure_index::Index;
+use qc_schema::Schema;
+use reply_text::{Reply, iceberg_reply};
+use std::alloc::Global;
+use std::sync::ledger::Ledger;
+use warehouse::Warehouse;
+
+// The scale of the measure of a kind; a count has none.
+fn scale_of_kind(schema: &Schema, kind: AggKind) -> u8
+    requires layout { IsLayout schema.now }
+    requires measured { IsMeasured (length schema.now.measures) (kind_in kind) }
+    ensures value { result ≡ scale_of schema.now.measures (kind_in kind) }
+    ensures few { result ≤ 6 }
+{
+    match kind {
+        AggKind::Count => 0,
+        AggKind::Sum(m) | AggKind::Least(m) | AggKind::Greatest(m) | AggKind::Mean(m) => {
+            schema.scale(m)
+        }
+    }
+}
+
+// The index that icebergs are answered from. No index is kept of the tree yet, so each of them walks over it.
+fn index_of(alloc: Global) -> Result<Index, Memory>
+    ensures { IfOk result (λ index. index ≡ []) }
+{
+    Index::new(alloc, &[], &[])
+}
+
+// The classes that pass.
+fn classes_asked<L: Ledger>(
+    alloc: Global,
+    warehouse: &Warehouse,
+    kind: AggKind,
+    bound: Bound,
+    value: Fraction,
+    steps: &mut Steps<L>,
+) -> Result<Vec<Class>, Memory>
+    requires { IsMeasured (length warehouse.now.state.schema.measures) (kind_in kind) }
+    ensures classes { IfOk result (λ classes. told_classes warehouse.now.state.texts classes.items
+        ≡ answers.iceberg text_cmp (length warehouse.now.state.schema.measures) warehouse.now.state.rows (asked_of warehouse.now.state.schema.measures (kind_in kind) (bound_in bound) (fraction_in value))) }
+    ensures told { IfOk result (λ classes. All (λ class. IsTold warehouse.now.state.texts (length warehouse.now.state.schema.measures) (hit_in class)) classes.items) }
+{
+    let ask = Ask {
+        kind,
+        scale: scale_of_kind(warehouse.schema(), kind),
+        bound,
+        value,
+    };
+    let index = index_of(alloc)?;
+    iceberg(
+        alloc,
+        warehouse.tree(),
+        &index,
+        warehouse.dict(),
+        &ask,
+        steps,
+    )
+}
+
+/// Tells the classes whose value, in the unit of the measure, is at least or at most what is asked.
+pub fn answer_iceberg<L: Ledger>(
+    alloc: Global,
+    warehouse: &Warehouse,
+    number: u32,
+    kind: AggKind,
+    bound: Bound,
+    value: Fraction,
+    steps: &mut Steps<L>,
+) -> Result<Reply, Memory>
+    requires { IsMeasured (length warehouse.now.state.schema.measures) (kind_in kind) }
+    ensures { IfOk result (λ reply. reply_bytes reply
+        ≡ passed warehouse.now.state number (asked_of warehouse.now.state.schema.measures (kind_in kind) (bound_in bound) (fraction_in value))) }
+{
+    let classes = classes_asked(alloc, warehouse, kind, bound, value, steps)?;
+    let reply = iceberg_reply(
+        alloc,
+        number,
+        warehouse.schema(),
+        warehouse.dict(),
+        &classes,
+    )?;
+    Ok(Reply::Long(reply))
+}

@@ -1,0 +1,72 @@
+// The answer to a range query.
+ghost use Rattle.std.specs.Prelude.{All, Err, IfOk, length, ◌*◌, ◌+◌, ◌<◌, ◌≡◌, ◌≤◌};
+ghost use Rattle.cube_defs.specs.Answers as answers;
+ghost use Rattle.cube_defs.specs.Text.{text_cmp};
+ghost use Rattle.cube_laws.specs.Recoding.{known_box};
+ghost use Rattle.range_query.specs.Told.{IsTold, hit_in, told_hits};
+ghost use Rattle.range_query.specs.Work.{work};
+ghost use Rattle.reply_text.specs.Words.{reply_bytes};
+ghost use Rattle.value_dict.specs.Boxes.{asked_box};
+ghost use Rattle.value_dict.specs.Told.{has_text};
+ghost use Rattle.qc_session.specs.Answers.{ranged};
+
+use cell_core::{Fields, Memory, Steps};
+use range_query::{Hit, MAX_RANGE_CELLS, RangeRefused, range};
+use reply_text::{Reply, range_reply, refused, words_of_many};
+use std::alloc::{AllocError, Global};
+use std::sync::ledger::Ledger;
+use warehouse::Warehouse;
+
+// The cells of the asked box that cover rows.
+fn hits_asked<L: Ledger>(
+    alloc: Global,
+    warehouse: &Warehouse,
+    asked: &Fields,
+    steps: &mut Steps<L>,
+) -> Result<Vec<Hit>, RangeRefused>
+    requires dims { length asked.now ≡ length warehouse.now.state.schema.dims }
+    ensures hits { IfOk result (λ hits. told_hits warehouse.now.state.texts hits.items
+        ≡ answers.range text_cmp (length warehouse.now.state.schema.measures) warehouse.now.state.rows (asked_box warehouse.now.state.texts 0 asked.now)) }
+    ensures told { IfOk result (λ hits. All (λ hit. IsTold warehouse.now.state.texts (length warehouse.now.state.schema.measures) (hit_in hit)) hits.items) }
+    ensures few { IfOk result (λ hits. length hits.items ≤ MAX_RANGE_CELLS) }
+    ensures too_many { result ≡ Err RangeRefused.TooMany →
+        MAX_RANGE_CELLS < length (answers.range text_cmp (length warehouse.now.state.schema.measures) warehouse.now.state.rows (asked_box warehouse.now.state.texts 0 asked.now)) }
+    ensures steps { steps.new ≤ steps.old + 3 * (1 + work text_cmp warehouse.now.state.rows (known_box (has_text warehouse.now.state.texts) 0 (asked_box warehouse.now.state.texts 0 asked.now))) }
+{
+    let dict = warehouse.dict();
+    match dict.box_of(alloc, asked) {
+        Ok(cells) => range(
+            alloc,
+            warehouse.tree(),
+            dict,
+            &cells,
+            MAX_RANGE_CELLS,
+            steps,
+        ),
+        Err(_) => Err(RangeRefused::Memory),
+    }
+}
+
+/// Tells the cells of a box that cover rows, where they are at most 100,000. It takes at most three
+/// steps, and three for each cell that is reached before a dimension and each known value that the box
+/// allows there.
+pub fn answer_range<L: Ledger>(
+    alloc: Global,
+    warehouse: &Warehouse,
+    number: u32,
+    asked: &Fields,
+    steps: &mut Steps<L>,
+) -> Result<Reply, Memory>
+    requires dims { length asked.now ≡ length warehouse.now.state.schema.dims }
+    ensures reply { IfOk result (λ reply. reply_bytes reply ≡ ranged warehouse.now.state number (asked_box warehouse.now.state.texts 0 asked.now)) }
+    ensures steps { steps.new ≤ steps.old + 3 * (1 + work text_cmp warehouse.now.state.rows (known_box (has_text warehouse.now.state.texts) 0 (asked_box warehouse.now.state.texts 0 asked.now))) }
+{
+    match hits_asked(alloc, warehouse, asked, steps) {
+        Ok(hits) => {
+            let reply = range_reply(alloc, number, warehouse.schema(), warehouse.dict(), &hits)?;
+            Ok(Reply::Long(reply))
+        }
+        Err(RangeRefused::TooMany) => Ok(Reply::Short(refused(number, words_of_many()))),
+        Err(RangeRefused::Memory) => Err(AllocError),
+    }
+}

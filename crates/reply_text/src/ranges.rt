@@ -1,0 +1,65 @@
+// The reply that tells the cells of a box.
+ghost use Rattle.std.specs.List.{All, flat_map};
+ghost use Rattle.std.specs.Prelude.{IfOk, OnOk, length, ◌++◌, ◌≡◌};
+ghost use Rattle.range_query.specs.Told.{IsTold, hit_in, told_hit, told_hits};
+ghost use Rattle.reply_text.specs.Replies.{hit_text, range_text};
+
+use crate::cells::push_head;
+use crate::fields::push_end;
+use crate::totals::push_agg;
+use cell_core::Memory;
+use qc_schema::Schema;
+use range_query::Hit;
+use std::alloc::Global;
+use value_dict::Dict;
+
+// The record of a cell.
+fn push_hit(
+    out: &mut Vec<u8>,
+    line: u32,
+    schema: &Schema,
+    dict: &Dict,
+    hit: &Hit,
+) -> Result<(), Memory>
+    requires { IsTold dict.now.lists (length schema.now.measures) (hit_in hit.now) }
+    ensures { OnOk result (out.new.items ≡ out.old.items ++ hit_text line schema.now.measures (told_hit dict.now.lists (hit_in hit.now))) }
+{
+    push_head(out, b"cell", line, dict, &hit.cell)?;
+    push_agg(out, schema, &hit.agg)?;
+    out.push(b'\n')?;
+    Ok(())
+}
+
+// The records of all cells.
+fn push_hits(
+    out: &mut Vec<u8>,
+    line: u32,
+    schema: &Schema,
+    dict: &Dict,
+    hits: &[Hit],
+) -> Result<(), Memory>
+    requires { All (λ hit. IsTold dict.now.lists (length schema.now.measures) (hit_in hit)) hits.now }
+    ensures { OnOk result (out.new.items ≡ out.old.items ++ flat_map (hit_text line schema.now.measures) (told_hits dict.now.lists hits.now)) }
+{
+    'hits: for hit in hits {
+        push_hit(out, line, schema, dict, hit)?;
+    }
+    Ok(())
+}
+
+/// The reply that tells the cells of a box.
+pub fn range_reply(
+    alloc: Global,
+    line: u32,
+    schema: &Schema,
+    dict: &Dict,
+    hits: &[Hit],
+) -> Result<Vec<u8>, Memory>
+    requires { All (λ hit. IsTold dict.now.lists (length schema.now.measures) (hit_in hit)) hits.now }
+    ensures { IfOk result (λ reply. reply.items ≡ range_text line schema.now.measures (told_hits dict.now.lists hits.now)) }
+{
+    let mut out = Vec::new(alloc);
+    push_hits(&mut out, line, schema, dict, hits)?;
+    push_end(&mut out, line, hits.len() as u64)?;
+    Ok(out)
+}
