@@ -5,7 +5,7 @@ ghost use Rattle.measure_index.specs.Rankings.{IsRising, Ranking, no_entries};
 ghost use Rattle.measure_index.specs.Changes.{ArePlanned, Came, Lack, Went};
 
 use crate::entry::{Entry, entries_of};
-use crate::keys::{absent_from, put_in, set_of, take_out};
+use crate::keys::{absent_from, lacked_by, put_in, take_out};
 use aggregates::{Agg, AggKind};
 use cell_core::NodeNo;
 use cube_defs::Memory;
@@ -86,8 +86,7 @@ impl Column {
     {
         let added = entries_of(alloc, self.kind, self.scale, add)?;
         let removed = entries_of(alloc, self.kind, self.scale, remove)?;
-        let kept = set_of(alloc, &added)?;
-        let going = absent_from(alloc, &kept, &removed)?;
+        let going = lacked_by(alloc, &added, &removed)?;
         let coming = absent_from(alloc, &self.entries, &added)?;
         Ok(Plan { coming, going })
     }

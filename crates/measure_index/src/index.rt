@@ -7,7 +7,7 @@ ghost use Rattle.cube_defs.specs.Rows as defs;
 ghost use Rattle.qc_arena.specs.Changes.{AreNew};
 ghost use Rattle.measure_index.specs.Changes.{HasChanged};
 ghost use Rattle.measure_index.specs.Entries.{HaveMeasure};
-ghost use Rattle.measure_index.specs.Index.{empty_ranking, entries_of, kind_eq, ranking_of, scale_of};
+ghost use Rattle.measure_index.specs.Index.{empty_ranking, entries_of, kind_eq, ranking_of, scale_of, units};
 ghost use Rattle.measure_index.specs.Rankings.{IsIndex, IsRising, Ranking};
 ghost use Rattle.measure_index.specs.Walks.{is_at_least, is_at_most};
 
@@ -68,6 +68,7 @@ fn change_columns(
     requires add { All (λ r. HaveMeasure r.kind add.now) columns.old }
     requires remove { All (λ r. HaveMeasure r.kind remove.now) columns.old }
     ensures ok { OnOk result (AllZip (HasChanged add.now remove.now) columns.old columns.new) }
+    ensures units { units columns.new ≡ units columns.old }
     ensures err { OnErr result (columns.new ≡ columns.old) }
 {
     let Some((first, rest)) = columns.split_first_mut() else {
@@ -133,6 +134,7 @@ impl Index {
         requires remove { All (λ r. HaveMeasure r.kind remove.now) self.old }
         ensures entries { OnOk result (AllZip (HasChanged add.now remove.now) self.old self.new) }
         ensures classes { OnOk result ((from to : ℕ → Option defs.Agg) → AreNew from to add.now → AreNew to from remove.now → IsIndex from self.old → IsIndex to self.new) }
+        ensures units { units self.new ≡ units self.old }
         ensures err { OnErr result (self.new ≡ self.old) }
     {
         let alloc = *self.columns.allocator();

@@ -1,6 +1,6 @@
-use Rattle.std.proofs.Common.{◌&&◌, not, ap, subst, sym, ◌∙◌}
+use Rattle.std.proofs.Common.{subst, sym}
 use Rattle.measure_index.specs.Entries.{HaveMeasure}
-use Rattle.measure_index.specs.Changes.{ArePlanned, lists}
+use Rattle.measure_index.specs.Changes.{ArePlanned}
 use Rattle.measure_index.proofs.column.Column.plan.Goals as goal
 
 pub entries_of-requires-clause-there : goal.entries_of-requires-clause-there
@@ -16,5 +16,5 @@ returns c = subst (λ r. ArePlanned r c.args.add.now c.args.remove.now c.in_ok-c
   adds = c.in_ok-added.ensures;
   removes = c.in_ok-removed.ensures;
   comes = c.in_ok-coming.ensures.has;
-  goes = λ q. c.in_ok-going.ensures.has q ∙ ap (λ b. lists c.in_ok-removed.removed.items q && not b) (c.in_ok-kept.ensures.has q);
+  goes = c.in_ok-going.ensures.has;
 })
