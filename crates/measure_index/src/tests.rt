@@ -109,24 +109,36 @@ fn classes_come_and_go(rt: HostRuntime) -> Result<(), Fail> {
     Ok(())
 }
 
-#[test]
-fn each_kind_has_its_values(rt: HostRuntime) -> Result<(), Fail> {
-    let table: [(AggKind, &[u8]); 5] = [
-        (AggKind::Count, b"2"),
-        (AggKind::Sum(0), b"0.5"),
-        (AggKind::Least(0), b"-3/10"),
-        (AggKind::Greatest(0), b"8/10"),
-        (AggKind::Mean(0), b"0.25"),
-    ];
+// What is asked of the one class of two rows, with the amounts -3 and 8.
+fn asked_of_two_rows<R: Abort>(
+    rt: &R,
+    alloc: Global,
+    kind: AggKind,
+    value: &[u8],
+) -> Result<[([u32; 6], u64); 2], Memory>
+    requires { IsThere 1 kind }
+{
     let mut agg = Agg::one(&[-3]);
     agg.add_row(&[8]);
-    for (kind, value) in &table {
-        let mut index = Index::new(rt.alloc(), &[*kind], &[1])?;
-        index.change(&[(NodeNo(3), agg)], &[])?;
-        assert_eq!(rt;
-            asked(&rt, &index, *kind, value),
-            [([3, 0, 0, 0, 0, 0], 1), ([3, 0, 0, 0, 0, 0], 1)]
-        );
+    let classes = [(NodeNo(3), agg)];
+    let mut index = Index::new(alloc, &[kind], &[1])?;
+    index.change(&classes, &[])?;
+    Ok(asked(rt, &index, kind, value))
+}
+
+#[test]
+fn each_kind_has_its_values(rt: HostRuntime) -> Result<(), Fail> {
+    const KINDS: [AggKind; 5] = [
+        AggKind::Count,
+        AggKind::Sum(0),
+        AggKind::Least(0),
+        AggKind::Greatest(0),
+        AggKind::Mean(0),
+    ];
+    const VALUES: [&[u8]; 5] = [b"2", b"0.5", b"-3/10", b"8/10", b"0.25"];
+    for k in 0..5 {
+        let found = asked_of_two_rows(&rt, rt.alloc(), KINDS[k], VALUES[k])?;
+        assert_eq!(rt; found, [([3, 0, 0, 0, 0, 0], 1), ([3, 0, 0, 0, 0, 0], 1)]);
     }
     Ok(())
 }
