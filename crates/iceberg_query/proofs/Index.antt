@@ -57,7 +57,7 @@ once_passing test (e ∷ es) h = go (test e) (once_passing test es h.1)
 abbrev class_of_record : Tree ℕ → ℕ → Option Agg
 class_of_record tree k = (record_at tree k).class
 
-class_same : (o : Option (Node ℕ ℕ)) → class_in o ≡ (record_or o).class
+pub class_same : (o : Option (Node ℕ ℕ)) → class_in o ≡ (record_or o).class
 class_same None = refl
 class_same (Some n) = refl
 
