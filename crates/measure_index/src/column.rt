@@ -74,6 +74,7 @@ impl Column {
     }
 
     /// What a change of classes brings and takes away: entries that are both added and removed stay.
+    /// What comes is in order, so that it goes in near to what came before it.
     pub(crate) fn plan(
         &self,
         alloc: Global,
@@ -87,7 +88,8 @@ impl Column {
         let added = entries_of(alloc, self.kind, self.scale, add)?;
         let removed = entries_of(alloc, self.kind, self.scale, remove)?;
         let going = lacked_by(alloc, &added, &removed)?;
-        let coming = absent_from(alloc, &self.entries, &added)?;
+        let mut coming = absent_from(alloc, &self.entries, &added)?;
+        coming.sort_unstable();
         Ok(Plan { coming, going })
     }
 

@@ -127,8 +127,9 @@ impl Index {
         self.column(kind).unwrap().len()
     }
 
-    /// The classes of `remove` go and those of `add` come, in each kind; an entry that a kind keeps
-    /// stays. A class may be told under a node in both lists, with another aggregate.
+    /// The classes of `remove` go and those of `add` come, in each kind; an entry that is in both
+    /// stays. It takes the time of a search in the index for each class and kind. A refusal leaves
+    /// the index as it was; it comes also where a kind would have more than 4,294,967,295 entries.
     pub fn change(&mut self, add: &[(NodeNo, Agg)], remove: &[(NodeNo, Agg)]) -> Result<(), Memory>
         requires add { All (λ r. HaveMeasure r.kind add.now) self.old }
         requires remove { All (λ r. HaveMeasure r.kind remove.now) self.old }
@@ -141,7 +142,8 @@ impl Index {
         change_columns(alloc, &mut self.columns, add, remove)
     }
 
-    /// The classes with at least a value, the greatest first.
+    /// The classes with at least a value, in the unit of the kind's measure, the greatest first. It
+    /// takes no memory, and reads the index as far as the walk goes.
     pub fn at_least(&self, kind: AggKind, value: &Fraction) -> Walk<'_>
         requires { IsSome (ranking_of kind self.now) }
         ensures left { result.left ≡ reverse (filter (is_at_least value.now) (entries_of kind self.now)) }
@@ -153,7 +155,8 @@ impl Index {
         Walk::new(entries, Direction::Falling, value)
     }
 
-    /// The classes with at most a value, the least first.
+    /// The classes with at most a value, in the unit of the kind's measure, the least first. It takes
+    /// no memory, and reads the index as far as the walk goes.
     pub fn at_most(&self, kind: AggKind, value: &Fraction) -> Walk<'_>
         requires { IsSome (ranking_of kind self.now) }
         ensures left { result.left ≡ filter (is_at_most value.now) (entries_of kind self.now) }
