@@ -1,0 +1,58 @@
+// The answer to a range query.
+ghost use Rattle.std.specs.Ordering.{nat_cmp};
+ghost use Rattle.std.specs.Prelude.{All, Err, IfOk, length, true, ◌*◌, ◌+◌, ◌<◌, ◌≡◌, ◌≤◌};
+ghost use Rattle.cube_defs.specs.Text.{text_cmp};
+ghost use Rattle.cube_laws.specs.Recoding.{BoxIsKnown, RowsAreKnown};
+ghost use Rattle.tree_search.specs.Found.{IsFrom, IsTree, Source};
+ghost use Rattle.value_dict.specs.Boxes.{IsOrdered, told_box};
+ghost use Rattle.value_dict.specs.Recoded.{has_code};
+ghost use Rattle.range_query.specs.Told.{IsTold, hit_in, told_hits, told_range, told_work};
+
+use crate::walk::visit;
+use crate::{Hit, RangeRefused};
+use cell_core::{Cell, Steps};
+use qc_arena::Nodes;
+use std::alloc::Global;
+use std::sync::ledger::Ledger;
+use value_dict::{CellBox, Dict};
+
+/// The cells of the box that cover a row, in cell order, each with what its rows come to. The order is
+/// that of the texts, in which the box's lists stand. TooMany comes where there are more than `limit`.
+/// It takes at most a step, one for each cell that is reached before a dimension and each value that the
+/// box allows there, and two for each cell of the answer.
+pub fn range<T: Nodes, L: Ledger>(
+    alloc: Global,
+    tree: &T,
+    dict: &Dict,
+    cells: &CellBox,
+    limit: u32,
+    steps: &mut Steps<L>,
+) -> Result<Vec<Hit>, RangeRefused>
+    requires tree { IsTree (T.width tree.now) (T.tree tree.now) }
+    requires dims { length cells.now ≡ T.width tree.now }
+    requires dict_dims { length dict.now.lists ≡ T.width tree.now }
+    requires known { BoxIsKnown (has_code dict.now.lists) 0 cells.now }
+    requires order { IsOrdered text_cmp (told_box dict.now.lists cells.now) }
+    ensures hits { (source : Source) → IsFrom (T.width tree.now) (T.tree tree.now) source → RowsAreKnown (has_code dict.now.lists) source.rows →
+        IfOk result (λ hits. told_hits dict.now.lists hits.items ≡ told_range dict.now.lists source cells.now) }
+    ensures told { (source : Source) → IsFrom (T.width tree.now) (T.tree tree.now) source → RowsAreKnown (has_code dict.now.lists) source.rows →
+        IfOk result (λ hits. All (λ hit. IsTold dict.now.lists source.measures (hit_in hit)) hits.items) }
+    ensures few { IfOk result (λ hits. length hits.items ≤ limit) }
+    ensures too_many { result ≡ Err RangeRefused.TooMany → (source : Source) → IsFrom (T.width tree.now) (T.tree tree.now) source →
+        RowsAreKnown (has_code dict.now.lists) source.rows → limit < length (told_range dict.now.lists source cells.now) }
+    ensures steps { (source : Source) → IsFrom (T.width tree.now) (T.tree tree.now) source → RowsAreKnown (has_code dict.now.lists) source.rows →
+        steps.new ≤ steps.old + (1 + told_work dict.now.lists source cells.now + 2 * length (told_range dict.now.lists source cells.now)) }
+    ensures bounded { (source : Source) → IsFrom (T.width tree.now) (T.tree tree.now) source → RowsAreKnown (has_code dict.now.lists) source.rows →
+        steps.new ≤ steps.old + 3 * (1 + told_work dict.now.lists source cells.now) }
+{
+    let dims = dict.dims();
+    let mut hits = Vec::new(alloc);
+    let Some(root) = tree.root(steps) else {
+        return Ok(hits);
+    };
+    let mut cell = Cell::any(alloc, dims);
+    match visit(tree, cells, limit, root, 0, &mut cell, &mut hits, steps) {
+        Ok(()) => Ok(hits),
+        Err(error) => Err(error),
+    }
+}
