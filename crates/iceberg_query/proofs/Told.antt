@@ -1,5 +1,5 @@
 -- The classes of nodes with the texts of their codes.
-use Rattle.std.proofs.Common.{◌≡◌, ◌⊎◌, ◌↔◌, inl, inr, ℕ, suc, ◌<◌, ◌≤◌, Bool, true, false, List, [], ◌∷◌, Some, length, map, get_or, None, refl, sym, ap, ap₂, subst, ◌∙◌, arith, true≢false, ltb-true, nat_eq, eq-eqb}
+use Rattle.std.proofs.Common.{◌≡◌, ◌↔◌, inl, inr, ℕ, suc, Bool, true, false, List, [], ◌∷◌, Some, length, map, refl, sym, ap, ap₂, subst, ◌∙◌, arith, true≢false, nat_eq, eq-eqb}
 use Rattle.std.specs.Prelude.{IsSome}
 use Rattle.std.specs.declared.cmp.Ordering.{Ordering}
 use Rattle.std.specs.declared.cmp.Ordering.TheVariants.{Less, Equal, Greater}
@@ -7,16 +7,15 @@ use Rattle.std.specs.Ordering.{nat_cmp, eq_by_cmp, is_eq, ordering_reverse, orde
 use Rattle.std.specs.Cmp.{nat_cmp_total}
 use Rattle.std.specs.Cmp.Lexicographic.{lists_total}
 use Rattle.std.specs.FinMap as numbers
-use Rattle.std.specs.List.{All, AllByRecursion, IsDistinct}
+use Rattle.std.specs.List.{All, AllByRecursion}
 use Rattle.std.specs.List.Sorted.{IsPermutation, IsSortedBy}
-use Rattle.std.specs.Str.{bytes_eq}
-use Rattle.std.proofs.Math.ListN.{get_or-eq_default}
-use Rattle.std.proofs.lemmas.Bool.{and_from, and_parts, cases_lt, false_from_ne_true}
-use Rattle.std.proofs.lemmas.List.Elements.{All-get_or}
+use Rattle.std.proofs.lemmas.Bool.{and_from, and_parts, false_from_ne_true}
+use Rattle.std.proofs.lemmas.List.Elements.{All-from_recursion}
+use Rattle.std.proofs.lemmas.List.FromFn.{length-map-range_with_len}
 use Rattle.std.proofs.lemmas.List.Sorted.{All-permutation, IsPermutation-sym}
 use Rattle.cube_defs.specs.Text.{Text, text_cmp}
 use Rattle.cube_defs.specs.Cell.{Cell, cell_cmp, depth, keep}
-use Rattle.cube_defs.specs.Rows.{Row, Agg, agg, is_class}
+use Rattle.cube_defs.specs.Rows.{Agg, Row, agg, amounts_of, cov, is_class, part_of}
 use Rattle.cube_defs.specs.Tree.{Tree, cell_at, classes}
 use Rattle.cube_defs.specs.Answers as answers
 use Rattle.cube_laws.specs.Lists.{Among, Once, Rises}
@@ -27,7 +26,7 @@ use Rattle.cube_laws.proofs.Covered.{cell_anti}
 use Rattle.cube_laws.proofs.IcebergOrder.{iceberg-only}
 use Rattle.cube_laws.proofs.Icebergs.{asked-is, hit_of}
 use Rattle.cube_laws.proofs.Listed.{classes-is}
-use Rattle.cube_laws.proofs.Lists.{among_map, map_among}
+use Rattle.cube_laws.proofs.Lists.{all_map, among_map, map_among}
 use Rattle.cube_laws.proofs.Nodes.{class_fronts}
 use Rattle.cube_laws.proofs.Orders.{equality_by}
 use Rattle.cube_laws.proofs.Recoded.{coded-apart}
@@ -38,13 +37,11 @@ use Rattle.aggregates.specs.Views.{fraction_in, kind_in}
 use Rattle.cell_core.specs.declared.cell.NodeNo.{NodeNo}
 use Rattle.qc_arena.specs.Seen.{number, record_at}
 use Rattle.tree_laws.proofs.Fronts.{keep-beyond}
-use Rattle.tree_laws.proofs.Lists.{some_same}
 use Rattle.tree_search.specs.Found.{IsFrom, Source}
 use Rattle.tree_search.proofs.Walked.{cell_of, cell_there, there}
-use Rattle.value_dict.specs.TextLists.{IsDictionary, TextLists, code_in, list_at}
+use Rattle.value_dict.specs.TextLists.{IsDictionary, TextLists}
 use Rattle.value_dict.specs.Recoded.{has_code, text_in, told_rows}
 use Rattle.value_dict.specs.Told as telling
-use Rattle.value_dict.proofs.Distinct.{code_of_place}
 use Rattle.iceberg_query.specs.declared.ask.Ask.{Ask}
 use Rattle.iceberg_query.specs.declared.ask.Bound.{Bound}
 use Rattle.iceberg_query.specs.declared.ask.Bound.TheVariants as bounds
@@ -58,24 +55,11 @@ use Rattle.iceberg_query.specs.Hits.{IsValued, class_at, told_classes, valued_of
 use Rattle.iceberg_query.specs.Order.{is_before, told_upper, turned, valued_cmp}
 use Rattle.iceberg_query.specs.Picked.{ArePicked}
 use Rattle.tree_laws.proofs.LowersRecoded.{lowers-coded, lowers-known}
-use Rattle.value_dict.proofs.ToldCells.{Fits, fits}
+use Rattle.value_dict.proofs.TextsApart.{told-known, texts-apart, texts-known}
 use Rattle.iceberg_query.proofs.Measures.{law, wanted_is}
 use Rattle.iceberg_query.proofs.Ordered.{valued_total}
 use Rattle.iceberg_query.proofs.Reached.{wide}
 use Rattle.iceberg_query.proofs.Sorted.{all_among, among_permutation, flips, once_permutation, sorted_rises}
-
-pub texts_apart : (dict : TextLists) → IsDictionary dict → TellsApart (has_code dict.lists) (text_in dict.lists)
-texts_apart dict is = record { apart = λ i v w hv hw e. go i v w hv hw e (cases_lt i (length dict.lists)) }
-  where
-    go : (i v w : ℕ) → has_code dict.lists i v ≡ true → has_code dict.lists i w ≡ true → text_in dict.lists i v ≡ text_in dict.lists i w → (i < length dict.lists) ⊎ (length dict.lists ≤ i) → v ≡ w
-    go i v w hv hw e (inl l) =
-        let distinct = All-get_or (IsDistinct bytes_eq) dict.lists i [] l is.distinct in
-        let a : code_in (list_at dict i) (text_in dict.lists i v) ≡ Some v = code_of_place (list_at dict i) v (ltb-true v _ hv) distinct in
-        let b : code_in (list_at dict i) (text_in dict.lists i w) ≡ Some w = code_of_place (list_at dict i) w (ltb-true w _ hw) distinct in
-        some_same (sym a ∙ ap (code_in (list_at dict i)) e ∙ b)
-    go i v w hv hw e (inr g) =
-        let none : list_at dict i ≡ [] = get_or-eq_default dict.lists [] g in
-        absurd (omega (arith, ltb-true v _ hv, ap (λ (texts : List Text). length texts) none))
 
 -- with the texts of codes by dimension, as the laws of recoding take them
 abbrev told_cell : TextLists → Cell ℕ → Cell Text
@@ -90,21 +74,13 @@ told_hits dict classes = map (λ class. told_hit dict (hit_in class)) classes
 text_law : IsEquality (eq_by_cmp text_cmp)
 text_law = equality_by (lists_total nat_cmp_total) (numbers.slice_cmp-IsAntisymmetric numbers.nat_cmp-IsAntisymmetric)
 
--- a cell is told by the lists as by their dimensions
-told_is : (all : List (List Text)) (k : ℕ) (lists : List (List Text)) (c : Cell ℕ) → Fits all k lists → length c ≤ length lists → telling.told_cell lists c ≡ coded (text_in all) k c
-told_is all k lists [] fit long = refl
-told_is all k [] (e ∷ c) fit long = absurd (omega (arith, long))
-told_is all k (texts ∷ lists) (None ∷ c) fit long = ap (λ (d : Cell Text). None ∷ d) (told_is all (suc k) lists c fit.1 (omega (arith, long)))
-told_is all k (texts ∷ lists) (Some v ∷ c) fit long =
-    ap₂ (λ (x : Text) (d : Cell Text). Some x ∷ d) (ap (λ (l : List Text). get_or l v []) (sym fit.0)) (told_is all (suc k) lists c fit.1 (omega (arith, long)))
-
 told_lowers : (dict : TextLists) (n : ℕ) (cells : List (Cell ℕ)) → n ≡ length dict.lists → AllByRecursion (λ c. AreKnown (has_code dict.lists) 0 c × (length c ≡ n)) cells → map (telling.told_cell dict.lists) cells ≡ map (told_cell dict) cells
 told_lowers dict n [] e h = refl
-told_lowers dict n (c ∷ cells) e h = ap₂ (λ (x : Cell Text) (xs : List (Cell Text)). x ∷ xs) (told_is dict.lists 0 dict.lists c (fits dict.lists) (omega (arith, e, h.0.1))) (told_lowers dict n cells e h.1)
+told_lowers dict n (c ∷ cells) e h = ap₂ (λ (x : Cell Text) (xs : List (Cell Text)). x ∷ xs) (told-known dict.lists c (omega (arith, e, h.0.1))) (told_lowers dict n cells e h.1)
 
 module _ (dims : ℕ) (tree : Tree ℕ) (dict : TextLists) (ask : Ask) (source : Source) (h : IsFrom dims tree source) (dictionary : IsDictionary dict) (rows_known : RowsAreKnown (has_code dict.lists) source.rows) (ks : List ℕ) (picked : ArePicked tree ask ks) (same_dims : length dict.lists ≡ dims) where
   tells : TellsApart (has_code dict.lists) (text_in dict.lists)
-  tells = texts_apart dict dictionary
+  tells = texts-apart dict.lists dictionary.distinct
 
   abbrev cell : ℕ → Cell ℕ
   cell k = (record_at tree k).cell
@@ -238,9 +214,38 @@ module _ (dims : ℕ) (tree : Tree ℕ) (dict : TextLists) (ask : Ask) (source :
   told_node k f =
       let long = wide dims tree source h k f.there in
       ap₂ (λ (u : Cell Text) (ls : List (Cell Text)). record { upper = u; agg = (class_at source tree k).agg; lowers = ls })
-      (told_is dict.lists 0 dict.lists (cell k) (fits dict.lists) (omega (arith, long, same_dims)))
+      (told-known dict.lists (cell k) (omega (arith, long, same_dims)))
       (told_lowers dict (length (cell k)) (answers.lower_bounds nat_cmp source.rows (cell k)) (long ∙ sym same_dims)
       (lowers-known nat_cmp_total numbers.nat_cmp-IsAntisymmetric (lists_total nat_cmp_total) (numbers.slice_cmp-IsAntisymmetric numbers.nat_cmp-IsAntisymmetric) tells dims source.rows rows_known h.wide (cell k) f.known long))
+
+  is_told_node : (k : ℕ) → IsFound k → telling.IsTold dict.lists source.measures (class_at source tree k)
+  is_told_node k f =
+      let long = wide dims tree source h k f.there in
+      let lowers = answers.lower_bounds nat_cmp source.rows (cell k) in
+      record {
+        upper = texts-known dict.lists (cell k) f.known (omega (arith, long, same_dims));
+        lowers = All-from_recursion (telling.HasTexts dict.lists) lowers
+            (all_map (λ c. AreKnown (has_code dict.lists) 0 c × (length c ≡ length (cell k))) (telling.HasTexts dict.lists) lowers (λ c k. texts-known dict.lists c k.0 (omega (arith, k.1, long, same_dims)))
+            (lowers-known nat_cmp_total numbers.nat_cmp-IsAntisymmetric (lists_total nat_cmp_total) (numbers.slice_cmp-IsAntisymmetric numbers.nat_cmp-IsAntisymmetric) tells dims source.rows rows_known h.wide (cell k) f.known long));
+        parts = length-map-range_with_len (λ m. part_of (amounts_of m (cov (eq_by_cmp nat_cmp) source.rows (cell k)))) 0 source.measures;
+      }
+
+  abbrev CanBeTold : Class → Type 0
+  CanBeTold class = telling.IsTold dict.lists source.measures (hit_in class)
+
+  all_told : (vs : List Valued) → ((v : Valued) → Among v vs → Among (valued_of v) (map (class_at source tree) ks)) → AllByRecursion CanBeTold (map hits.class_of vs)
+  all_told [] f = tt
+  all_told (v ∷ vs) f = (one (f v (inl refl)), all_told vs (λ w m. f w (inr m)))
+    where
+      one : Among (valued_of v) (map (class_at source tree) ks) → CanBeTold v.class
+      one m =
+          let b : (k : ℕ) × Among k ks × (valued_of v ≡ class_at source tree k) = among_map (class_at source tree) (valued_of v) ks m in
+          subst (telling.IsTold dict.lists source.measures) (sym b.2) (is_told_node b.0 (found b.0 b.1))
+
+  pub can_be_told : (found_values values : List Valued) (answer : List Class) → map valued_of found_values ≡ map (class_at source tree) ks → IsPermutation found_values values → answer ≡ map hits.class_of values → All CanBeTold answer
+  can_be_told found_values values answer e p is =
+      subst (All CanBeTold) (sym is)
+      (All-from_recursion CanBeTold (map hits.class_of values) (all_told values (λ v m. subst (Among (valued_of v)) e (map_among valued_of v found_values (among_permutation found_values values p v m)))))
 
   told_alike : (vs : List Valued) → ((v : Valued) → Among v vs → Among (valued_of v) (map (class_at source tree) ks)) → told_classes dict.lists (map hits.class_of vs) ≡ told_hits dict (map hits.class_of vs)
   told_alike [] f = refl
