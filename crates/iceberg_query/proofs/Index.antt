@@ -7,7 +7,7 @@ use Rattle.std.specs.List.{AllByRecursion}
 use Rattle.std.specs.List.Sorted.{IsPermutation}
 use Rattle.std.proofs.lemmas.List.Sorted.{IsPermutation-map, IsPermutation-reverse, IsPermutation-sym}
 use Rattle.cube_defs.specs.Rows.{Agg, Fraction}
-use Rattle.cube_defs.specs.Tree.{Tree}
+use Rattle.cube_defs.specs.Tree.{Node, Tree}
 use Rattle.cube_defs.specs.Answers as answers
 use Rattle.cube_laws.specs.Lists.{Among, Once}
 use Rattle.cube_laws.proofs.Lists.{among_filter, among_map, filter_among, map_among}
@@ -16,8 +16,9 @@ use Rattle.measure_index.specs.declared.entry.Entry.{Entry}
 use Rattle.measure_index.specs.Index.{entries_in, ranking_of}
 use Rattle.measure_index.specs.Rankings.{IsIndex, IsRanking, Ranking}
 use Rattle.measure_index.specs.Walks.{is_at_least, is_at_most}
-use Rattle.measure_index.proofs.Classes.{nodes_once, ranking_found}
-use Rattle.qc_arena.specs.Seen.{record_at}
+use Rattle.measure_index.proofs.Classes.{index_alike, nodes_once, ranking_found}
+use Rattle.qc_arena.specs.Changes.{class_in}
+use Rattle.qc_arena.specs.Seen.{record_at, record_or}
 use Rattle.iceberg_query.specs.declared.ask.Ask.{Ask}
 use Rattle.iceberg_query.specs.declared.ask.Bound.{Bound}
 use Rattle.iceberg_query.specs.declared.ask.Bound.TheVariants as bounds
@@ -53,7 +54,14 @@ once_passing test (e ∷ es) h = go (test e) (once_passing test es h.1)
     go true r = (all es h.0, r)
     go false r = r
 
-module _ (tree : Tree ℕ) (ask : Ask) (r : Ranking) (is : IsRanking (class_of_node tree) r) (kind : ask.kind ≡ r.kind) (unit : r.scale ≡ ask.scale) where
+abbrev class_of_record : Tree ℕ → ℕ → Option Agg
+class_of_record tree k = (record_at tree k).class
+
+pub class_same : (o : Option (Node ℕ ℕ)) → class_in o ≡ (record_or o).class
+class_same None = refl
+class_same (Some n) = refl
+
+module _ (tree : Tree ℕ) (ask : Ask) (r : Ranking) (is : IsRanking (class_of_record tree) r) (kind : ask.kind ≡ r.kind) (unit : r.scale ≡ ask.scale) where
   abbrev HasValue : Entry → Type 0
   HasValue e = (a : Agg) × ((record_at tree e.node).class ≡ Some a) × (ratio_in e.value ≡ answers.value_of (kind_in ask.kind) ask.scale a)
 
@@ -64,7 +72,7 @@ module _ (tree : Tree ℕ) (ask : Ask) (r : Ranking) (is : IsRanking (class_of_n
 
   picked_passing : (test : Entry → Bool) → ((e : Entry) → Among e r.entries → test e ≡ is_wanted ask (record_at tree e.node).class) → ArePicked tree ask (map node_of (filter test r.entries))
   picked_passing test same = record {
-    once = once_passing test r.entries (nodes_once (class_of_node tree) r is);
+    once = once_passing test r.entries (nodes_once (class_of_record tree) r is);
     each = λ k. (
       λ m.
           let g : (e : Entry) × Among e (filter test r.entries) × (k ≡ e.node) = among_map node_of k (filter test r.entries) m in
@@ -107,5 +115,6 @@ picked_indexed tree ask index is there unit ks e = go (ranking_of ask.kind index
     go : (o : Option Ranking) → ranking_of ask.kind index ≡ o → IsSome o → IfSome o (λ r. r.scale ≡ ask.scale) → ArePicked tree ask ks
     go None f t u = absurd (true≢false (sym t))
     go (Some r) f t u =
-        let found = ranking_found (class_of_node tree) ask.kind index r is f in
+        let told : IsIndex (class_of_record tree) index = index_alike (class_of_node tree) (class_of_record tree) (λ k. class_same (numbers.get tree k)) index is in
+        let found = ranking_found (class_of_record tree) ask.kind index r told f in
         subst (ArePicked tree ask) (sym (e ∙ ap (λ o. map node_of (qualifying ask.bound ask.value (entries_in o))) f)) (picked_qualifying tree ask r found.0 found.1 u ask.bound refl)

@@ -1,5 +1,6 @@
 -- The classes in an index.
 use Rattle.std.specs.Prelude.{ℕ, Option, List, filter, reverse}
+use Rattle.std.specs.FinMap as map
 use Rattle.cube_defs.specs.Rows.{Agg}
 use Rattle.cube_defs.specs.Tree.{Tree}
 use Rattle.aggregates.specs.declared.fraction.Fraction.{Fraction}
@@ -7,14 +8,14 @@ use Rattle.measure_index.specs.declared.entry.Entry.{Entry}
 use Rattle.measure_index.specs.Index.{entries_of}
 use Rattle.measure_index.specs.Rankings.{Ranking}
 use Rattle.measure_index.specs.Walks.{is_at_least, is_at_most}
-use Rattle.qc_arena.specs.Seen.{record_at}
+use Rattle.qc_arena.specs.Changes.{class_in}
 use Rattle.iceberg_query.specs.declared.ask.Ask.{Ask}
 use Rattle.iceberg_query.specs.declared.ask.Bound.{Bound}
 use Rattle.iceberg_query.specs.declared.ask.Bound.TheVariants as bounds
 
 -- the class of a node of the tree, if it is one
 abbrev pub class_of_node : Tree ℕ → ℕ → Option Agg
-class_of_node tree k = (record_at tree k).class
+class_of_node tree k = class_in (map.get tree k)
 
 abbrev pub node_of : Entry → ℕ
 node_of e = e.node

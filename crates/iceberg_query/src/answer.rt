@@ -8,6 +8,8 @@ ghost use Rattle.tree_search.specs.Found.{IsFrom, IsTree, Source};
 ghost use Rattle.value_dict.specs.Recoded.{has_code, told_rows};
 ghost use Rattle.value_dict.specs.Told.{IsTold};
 ghost use Rattle.value_dict.specs.TextLists.{IsDictionary};
+ghost use Rattle.value_dict.specs.Told.{IsTold};
+ghost use Rattle.lower_bounds.specs.Classes.{hit_in};
 ghost use Rattle.measure_index.specs.Index.{ranking_of};
 ghost use Rattle.measure_index.specs.Rankings.{IsIndex};
 ghost use Rattle.iceberg_query.specs.Asked.{HasMeasure, ask_in};

@@ -22,7 +22,7 @@ use Rattle.qc_arena.specs.Changes.{AreNew}
 use Rattle.measure_index.specs.declared.entry.Entry.{Entry}
 use Rattle.measure_index.specs.Changes.{HasChanged, has, lists}
 use Rattle.measure_index.specs.Entries.{AreEntries, IsEntry, entry_cmp, entry_total}
-use Rattle.measure_index.specs.Index.{empty_ranking, kind_eq, ranking_of}
+use Rattle.measure_index.specs.Index.{empty_ranking, kind_eq, ranking_of, scale_of, units}
 use Rattle.measure_index.specs.Rankings.{IsIndex, IsRanking, Ranking}
 use Rattle.measure_index.proofs.EntryLemmas.{exact, same_entry}
 use Rattle.measure_index.proofs.LowestTerms.{same_ratio}
@@ -297,3 +297,20 @@ ranking_found class kind (x ∷ index) r is e = go (ranking_found class kind ind
     go : (ranking_of kind index ≡ Some r → IsRanking class r × (kind ≡ r.kind)) → (b : Bool) → kind_eq kind x.kind ≡ b → cond b (Some x) (ranking_of kind index) ≡ Some r → IsRanking class r × (kind ≡ r.kind)
     go more true same f = let one : x ≡ r = cc in (subst (IsRanking class) one (is 0 x (omega arith)), same_kinds kind x.kind same ∙ ap (λ y. y.kind) one)
     go more false other f = more f
+
+-- classes that are told alike have the same index
+pub index_alike : (from to : ℕ → Option defs.Agg) → ((k : ℕ) → from k ≡ to k) → (index : List Ranking) → IsIndex from index → IsIndex to index
+index_alike from to same index is = subst (λ (class : ℕ → Option defs.Agg). IsIndex class index) (λ i k. same k i) is
+
+-- the scale of a kind
+pub scale_found : (scales : List ℕ) (kind : AggKind) (index : List Ranking) (named : List AggKind) → units index ≡ map (λ k. (k, scale_of scales k)) named → (r : Ranking) → ranking_of kind index ≡ Some r → r.scale ≡ scale_of scales kind
+scale_found scales kind [] named e r f = cc
+scale_found scales kind (x ∷ index) [] e r f = cc
+scale_found scales kind (x ∷ index) (k ∷ named) e r f =
+    let first : ◌≡◌ {A = AggKind × ℕ} (x.kind, x.scale) (k, scale_of scales k) = cc in
+    let rest : units index ≡ map (λ k. (k, scale_of scales k)) named = cc in
+    go (scale_found scales kind index named rest r) (ap (λ p. p.1) first ∙ ap (scale_of scales) (sym (ap (λ p. p.0) first))) (kind_eq kind x.kind) refl f
+  where
+    go : (ranking_of kind index ≡ Some r → r.scale ≡ scale_of scales kind) → x.scale ≡ scale_of scales x.kind → (b : Bool) → kind_eq kind x.kind ≡ b → cond b (Some x) (ranking_of kind index) ≡ Some r → r.scale ≡ scale_of scales kind
+    go more own true same g = let one : x ≡ r = cc in ap (λ y. y.scale) (sym one) ∙ own ∙ ap (scale_of scales) (sym (same_kinds kind x.kind same))
+    go more own false other g = more g

@@ -6,3 +6,4 @@ pub mod WalkLemmas
 pub mod Changed
 pub mod Listed
 pub mod Classes
+pub mod Measured

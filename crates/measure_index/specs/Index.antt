@@ -1,5 +1,5 @@
 -- The rankings of an index by their kinds.
-use Rattle.std.specs.Prelude.{ℕ, Bool, true, false, ◌==◌, Option, Some, None, List, [], slice_index_or}
+use Rattle.std.specs.Prelude.{ℕ, Bool, true, false, ◌==◌, Option, Some, None, List, [], map, slice_index_or}
 use Rattle.std.specs.List.{find}
 use Rattle.aggregates.specs.declared.kind.AggKind.{AggKind}
 use Rattle.aggregates.specs.declared.kind.AggKind.TheVariants as kinds
@@ -24,6 +24,10 @@ entries_in (Some r) = r.entries
 -- the entries of a kind
 abbrev pub entries_of : AggKind → List Ranking → List Entry
 entries_of kind index = entries_in (ranking_of kind index)
+
+-- the kinds with the scales of their measures
+abbrev pub units : List Ranking → List (AggKind × ℕ)
+units index = map (λ r. (r.kind, r.scale)) index
 
 -- the scale of the kind's measure; a count has none
 abbrev pub scale_of : List ℕ → AggKind → ℕ

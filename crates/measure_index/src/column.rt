@@ -5,7 +5,7 @@ ghost use Rattle.measure_index.specs.Rankings.{IsRising, Ranking, no_entries};
 ghost use Rattle.measure_index.specs.Changes.{ArePlanned, Came, Lack, Went};
 
 use crate::entry::{Entry, entries_of};
-use crate::keys::{absent_from, put_in, set_of, take_out};
+use crate::keys::{absent_from, lacked_by, put_in, take_out};
 use aggregates::{Agg, AggKind};
 use cell_core::NodeNo;
 use cube_defs::Memory;
@@ -74,6 +74,7 @@ impl Column {
     }
 
     /// What a change of classes brings and takes away: entries that are both added and removed stay.
+    /// What comes is in order, so that it goes in near to what came before it.
     pub(crate) fn plan(
         &self,
         alloc: Global,
@@ -86,9 +87,9 @@ impl Column {
     {
         let added = entries_of(alloc, self.kind, self.scale, add)?;
         let removed = entries_of(alloc, self.kind, self.scale, remove)?;
-        let kept = set_of(alloc, &added)?;
-        let going = absent_from(alloc, &kept, &removed)?;
-        let coming = absent_from(alloc, &self.entries, &added)?;
+        let going = lacked_by(alloc, &added, &removed)?;
+        let mut coming = absent_from(alloc, &self.entries, &added)?;
+        coming.sort_unstable();
         Ok(Plan { coming, going })
     }
 

@@ -7,7 +7,7 @@ ghost use Rattle.cube_defs.specs.Rows as defs;
 ghost use Rattle.qc_arena.specs.Changes.{AreNew};
 ghost use Rattle.measure_index.specs.Changes.{HasChanged};
 ghost use Rattle.measure_index.specs.Entries.{HaveMeasure};
-ghost use Rattle.measure_index.specs.Index.{empty_ranking, entries_of, kind_eq, ranking_of, scale_of};
+ghost use Rattle.measure_index.specs.Index.{empty_ranking, entries_of, kind_eq, ranking_of, scale_of, units};
 ghost use Rattle.measure_index.specs.Rankings.{IsIndex, IsRising, Ranking};
 ghost use Rattle.measure_index.specs.Walks.{is_at_least, is_at_most};
 
@@ -68,6 +68,7 @@ fn change_columns(
     requires add { All (λ r. HaveMeasure r.kind add.now) columns.old }
     requires remove { All (λ r. HaveMeasure r.kind remove.now) columns.old }
     ensures ok { OnOk result (AllZip (HasChanged add.now remove.now) columns.old columns.new) }
+    ensures units { units columns.new ≡ units columns.old }
     ensures err { OnErr result (columns.new ≡ columns.old) }
 {
     let Some((first, rest)) = columns.split_first_mut() else {
@@ -126,20 +127,23 @@ impl Index {
         self.column(kind).unwrap().len()
     }
 
-    /// The classes of `remove` go and those of `add` come, in each kind; an entry that a kind keeps
-    /// stays. A class may be told under a node in both lists, with another aggregate.
+    /// The classes of `remove` go and those of `add` come, in each kind; an entry that is in both
+    /// stays. It takes the time of a search in the index for each class and kind. A refusal leaves
+    /// the index as it was; it comes also where a kind would have more than 4,294,967,295 entries.
     pub fn change(&mut self, add: &[(NodeNo, Agg)], remove: &[(NodeNo, Agg)]) -> Result<(), Memory>
         requires add { All (λ r. HaveMeasure r.kind add.now) self.old }
         requires remove { All (λ r. HaveMeasure r.kind remove.now) self.old }
         ensures entries { OnOk result (AllZip (HasChanged add.now remove.now) self.old self.new) }
         ensures classes { OnOk result ((from to : ℕ → Option defs.Agg) → AreNew from to add.now → AreNew to from remove.now → IsIndex from self.old → IsIndex to self.new) }
+        ensures units { units self.new ≡ units self.old }
         ensures err { OnErr result (self.new ≡ self.old) }
     {
         let alloc = *self.columns.allocator();
         change_columns(alloc, &mut self.columns, add, remove)
     }
 
-    /// The classes with at least a value, the greatest first.
+    /// The classes with at least a value, in the unit of the kind's measure, the greatest first. It
+    /// takes no memory, and reads the index as far as the walk goes.
     pub fn at_least(&self, kind: AggKind, value: &Fraction) -> Walk<'_>
         requires { IsSome (ranking_of kind self.now) }
         ensures left { result.left ≡ reverse (filter (is_at_least value.now) (entries_of kind self.now)) }
@@ -151,7 +155,8 @@ impl Index {
         Walk::new(entries, Direction::Falling, value)
     }
 
-    /// The classes with at most a value, the least first.
+    /// The classes with at most a value, in the unit of the kind's measure, the least first. It takes
+    /// no memory, and reads the index as far as the walk goes.
     pub fn at_most(&self, kind: AggKind, value: &Fraction) -> Walk<'_>
         requires { IsSome (ranking_of kind self.now) }
         ensures left { result.left ≡ filter (is_at_most value.now) (entries_of kind self.now) }

@@ -43,11 +43,8 @@ pub(crate) fn put_in<K: Ord + Copy>(
     Ok(())
 }
 
-/// A set of some keys.
-pub(crate) fn set_of<K: Ord + Copy>(
-    alloc: Global,
-    items: &Vec<K>,
-) -> Result<BTreeSet<K, Global>, Memory>
+// A set of some keys.
+fn set_of<K: Ord + Copy>(alloc: Global, items: &Vec<K>) -> Result<BTreeSet<K, Global>, Memory>
     ensures has { IfOk result (λ s. (q : K) → contains K.cmp s q ≡ among K.cmp items.now.items q) }
 {
     let mut set = BTreeSet::new(alloc);
@@ -72,4 +69,19 @@ pub(crate) fn absent_from<K: Ord + Copy>(
         }
     }
     Ok(out)
+}
+
+/// The keys that others lack.
+pub(crate) fn lacked_by<K: Ord + Copy>(
+    alloc: Global,
+    others: &Vec<K>,
+    items: &Vec<K>,
+) -> Result<Vec<K>, Memory>
+    ensures has { IfOk result (λ v. (q : K) → among K.cmp v.items q ≡ (among K.cmp items.now.items q && not (among K.cmp others.now.items q))) }
+{
+    if items.is_empty() {
+        return Ok(Vec::new(alloc));
+    }
+    let set = set_of(alloc, others)?;
+    absent_from(alloc, &set, items)
 }

@@ -11,3 +11,6 @@ pub use cube_defs::Memory;
 pub use entry::Entry;
 pub use index::Index;
 pub use walk::Walk;
+
+#[cfg(test)]
+mod tests;
