@@ -1,5 +1,9 @@
 // Range queries beside the definition.
-ghost use Rattle.std.specs.Prelude.{length, ◌<◌, ◌≡◌};
+ghost use Rattle.std.specs.Prelude.{IfOk, length, ◌<◌, ◌≡◌};
+ghost use Rattle.cube_defs.specs.Answers as defs;
+ghost use Rattle.cube_defs.specs.Text.{text_cmp};
+ghost use Rattle.range_query.specs.Told.{told_hits};
+ghost use Rattle.value_dict.specs.Boxes.{asked_box};
 
 use crate::asked::{allow, fields};
 use crate::drawn::{Draw, Places, Row, cell_at, file_of, rows, sums, text_at};
@@ -36,6 +40,8 @@ fn answer<L: Ledger>(
     steps: &mut Steps<L>,
 ) -> Result<Vec<Hit>, RangeRefused>
     requires { length asked.now ≡ length shop.now.state.schema.dims }
+    ensures { IfOk result (λ hits. told_hits shop.now.state.texts hits.items
+        ≡ defs.range text_cmp (length shop.now.state.schema.measures) shop.now.state.rows (asked_box shop.now.state.texts 0 asked.now)) }
 {
     match shop.dict().box_of(alloc, asked) {
         Ok(cells) => range(alloc, shop.tree(), shop.dict(), &cells, limit, steps),
