@@ -85,11 +85,7 @@ fn cell_of(alloc: Global, first: u8, second: u8) -> Cell
 }
 
 // The numbers of the closures of all cells.
-fn numbers<L: Ledger>(
-    alloc: Global,
-    arena: &QcArena,
-    steps: &mut Steps<L>,
-) -> [Option<NodeNo>; 9]
+fn numbers<L: Ledger>(alloc: Global, arena: &QcArena, steps: &mut Steps<L>) -> [Option<NodeNo>; 9]
     requires width { arena.now.width ≡ 2 }
     requires tree { IsTree arena.now.width arena.now.now }
 {
