@@ -25,7 +25,6 @@ module _ (dims : ℕ) (tree : Tree ℕ) (k : ℕ) (u : Cell ℕ) (at : cell_at t
   upper_wide t = ap length (sym (cell_of tree k u at)) ∙ wide dims tree t.0 t.1 k (there tree k u at)
 
   module _ (source : Source) (h : IsFrom dims tree source) (c : Cell ℕ) where
-
     -- two nodes are the same where their cells are
     pub leads_some : (m : ℕ) → Names tree (Some m) (closure_in source c) → nat_eq m k ≡ has_closure_in source u c
     leads_some m e = go (closure_in source c) refl e

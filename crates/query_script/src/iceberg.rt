@@ -58,12 +58,7 @@ impl OfMeasure {
 }
 
 // The value, at a place, behind which no word may stand.
-fn read_value(
-    kind: AggKind,
-    bound: Bound,
-    place: u32,
-    words: &[u8],
-) -> Result<Command, LineRefused>
+fn read_value(kind: AggKind, bound: Bound, place: u32, words: &[u8]) -> Result<Command, LineRefused>
     requires { place < 10 }
     ensures { Gives line_fault_in question_in result (value_at (kind_in kind) (bound_in bound) place (words_of words.now)) }
 {

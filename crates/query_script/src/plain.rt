@@ -38,12 +38,7 @@ fn push_pieces(
 }
 
 /// Reads the fields of a plain text. An empty one has none.
-pub fn read_plain(
-    alloc: Global,
-    shape: Shape,
-    dims: u8,
-    text: &str,
-) -> Result<Fields, LineRefused>
+pub fn read_plain(alloc: Global, shape: Shape, dims: u8, text: &str) -> Result<Fields, LineRefused>
     requires plain { list_all is_plain_byte text.now ≡ true }
     requires size { length text.now ≤ MAX_FILE }
     ensures { Gives line_fault_in (λ fields. fields) result (fields_from (field_of shape) 1 dims (fields_in text.now)) }
