@@ -1,16 +1,13 @@
 -- The state's rows and a box of the state's texts, by codes and by texts.
 use Rattle.std.proofs.Common.{◌≡◌, ◌∙◌, ℕ, List, length, sym, ap, ap₂, subst}
-use Rattle.std.specs.Cmp.{nat_cmp_total}
-use Rattle.std.specs.Cmp.Lexicographic.{lists_total}
-use Rattle.std.specs.FinMap.{nat_cmp-IsAntisymmetric, slice_cmp-IsAntisymmetric}
 use Rattle.cube_defs.specs.Text.{Text, text_cmp}
 use Rattle.cube_defs.specs.Answers.{Box, range}
 use Rattle.cube_laws.specs.Recoding.{RowsAreKnown, known_box}
-use Rattle.cube_laws.proofs.RecodedLists.{range-known}
 use Rattle.cell_core.specs.declared.fields.Field.{Field}
 use Rattle.value_dict.specs.Boxes.{asked_box, told_box}
 use Rattle.value_dict.specs.Recoded.{has_code, told_rows}
 use Rattle.value_dict.specs.Told.{has_text}
+use Rattle.value_dict.proofs.AskedRanges.{range-asked}
 use Rattle.value_dict.proofs.TextsApart.{rows-back, rows-coded}
 use Rattle.range_query.specs.Work.{work}
 use Rattle.warehouse.specs.State.{IsState, State, coded}
@@ -24,13 +21,13 @@ module _ (s : State) (is : IsState s) (lists : List (List Text)) (same : lists �
 
   -- a box of the known texts that fields ask for
   module _ (cells : Box ℕ) (asked : List Field) (is_box : told_box lists cells ≡ known_box (has_text lists) 0 (asked_box lists 0 asked)) where
-    box-told : told_box lists cells ≡ known_box (has_text s.texts) 0 (asked_box s.texts 0 asked)
-    box-told = is_box ∙ ap (λ l. known_box (has_text l) 0 (asked_box l 0 asked)) same
+    box-told : told_box s.texts cells ≡ known_box (has_text s.texts) 0 (asked_box s.texts 0 asked)
+    box-told = subst (λ l. told_box l cells ≡ known_box (has_text l) 0 (asked_box l 0 asked)) same is_box
 
     pub range-told : (measures : ℕ) → range text_cmp measures (told_rows lists (coded s)) (told_box lists cells) ≡ range text_cmp measures s.rows (asked_box s.texts 0 asked)
     range-told measures =
-        ap₂ (range text_cmp measures) rows-told box-told
-        ∙ range-known (lists_total nat_cmp_total) (slice_cmp-IsAntisymmetric nat_cmp-IsAntisymmetric) (has_text s.texts) s.rows is.known measures (asked_box s.texts 0 asked)
+        ap (λ l. range text_cmp measures (told_rows l (coded s)) (told_box l cells)) same
+        ∙ range-asked s.texts measures s.rows cells (asked_box s.texts 0 asked) is.known box-told
 
     pub work-told : work text_cmp (told_rows lists (coded s)) (told_box lists cells) ≡ work text_cmp s.rows (known_box (has_text s.texts) 0 (asked_box s.texts 0 asked))
-    work-told = ap₂ (work text_cmp) rows-told box-told
+    work-told = ap₂ (work text_cmp) rows-told (ap (λ l. told_box l cells) same ∙ box-told)

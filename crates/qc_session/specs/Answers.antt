@@ -4,8 +4,9 @@ use Rattle.std.specs.Option.{option_map}
 use Rattle.cube_defs.specs.Text.{Text, text_cmp, text_eq}
 use Rattle.cube_defs.specs.Cell.{Cell}
 use Rattle.cube_defs.specs.Rows.{Fraction}
-use Rattle.cube_defs.specs.Answers.{AggKind, Ask, Bound, Box, Count, Greatest, Least, Mean, Sum, class_of, iceberg, range}
+use Rattle.cube_defs.specs.Answers.{AggKind, Ask, Bound, ClassHit, Count, Greatest, Hit, Least, Mean, Sum, class_of, iceberg, range}
 use Rattle.cube_defs.specs.Tree.{classes, links, nodes, tree_edges}
+use Rattle.cube_laws.specs.Recoding.{known_box}
 use Rattle.cube_laws.specs.Total.{agg_at}
 use Rattle.cell_core.specs.declared.fields.Field.{Field}
 use Rattle.cell_core.specs.declared.fields.Field.TheVariants as fields
@@ -15,7 +16,9 @@ use Rattle.query_script.specs.Commands.{command_in}
 use Rattle.query_script.specs.Faults.{LineFault}
 use Rattle.query_script.specs.Questions as asks
 use Rattle.query_script.specs.Questions.{Question}
+use Rattle.range_query.specs.Work.{work}
 use Rattle.value_dict.specs.Boxes.{asked_box}
+use Rattle.value_dict.specs.Told.{has_text}
 use Rattle.warehouse.specs.Batch.{Applied, Kind, Load, Apply, Refusal, result}
 use Rattle.warehouse.specs.State.{State}
 use Rattle.reply_text.specs.Replies.{applied_text, batch_texts, bounds_reply, iceberg_text, line_texts, point_reply, range_reply, refused_text, size_texts, stats_text}
@@ -58,9 +61,17 @@ pointed state line cell = point_reply state.schema line cell (agg_at text_eq (le
 abbrev pub bounded : State → ℕ → Cell Text → List ℕ
 bounded state line cell = bounds_reply state.schema line (class_of text_cmp (length state.schema.measures) state.rows cell)
 
--- the answer to `range`: the cells of the box that cover rows
-abbrev pub ranged : State → ℕ → Box Text → List ℕ
-ranged state line box = range_reply state.schema line (range text_cmp (length state.schema.measures) state.rows box)
+-- the cells that cover rows, of the box that fields ask for
+abbrev pub hits_of : State → List Field → List (Hit Text)
+hits_of state asked = range text_cmp (length state.schema.measures) state.rows (asked_box state.texts 0 asked)
+
+-- how much is looked at for them
+abbrev pub work_of : State → List Field → ℕ
+work_of state asked = work text_cmp state.rows (known_box (has_text state.texts) 0 (asked_box state.texts 0 asked))
+
+-- the answer to `range`
+abbrev pub ranged : State → ℕ → List Field → List ℕ
+ranged state line asked = range_reply state.schema line (hits_of state asked)
 
 -- the scale of the measure of a kind; a count has none
 abbrev pub scale_of : List Measure → AggKind → ℕ
@@ -71,12 +82,16 @@ scale_of measures (Greatest m) = (slice_index_or measures m no_measure).scale
 scale_of measures (Mean m) = (slice_index_or measures m no_measure).scale
 
 -- what is asked of a class, in the unit of the measure
-abbrev pub asked_of : List Measure → AggKind → Bound → Fraction → Ask
-asked_of measures kind bound value = record { kind = kind; scale = scale_of measures kind; bound = bound; value = value }
+abbrev pub ask_of : List Measure → AggKind → Bound → Fraction → Ask
+ask_of measures kind bound value = record { kind = kind; scale = scale_of measures kind; bound = bound; value = value }
 
--- the answer to `iceberg`: the classes that pass
-abbrev pub passed : State → ℕ → Ask → List ℕ
-passed state line ask = iceberg_text line state.schema.measures (iceberg text_cmp (length state.schema.measures) state.rows ask)
+-- the classes that pass
+abbrev pub classes_of : State → AggKind → Bound → Fraction → List (ClassHit Text)
+classes_of state kind bound value = iceberg text_cmp (length state.schema.measures) state.rows (ask_of state.schema.measures kind bound value)
+
+-- the answer to `iceberg`
+abbrev pub passing : State → ℕ → AggKind → Bound → Fraction → List ℕ
+passing state line kind bound value = iceberg_text line state.schema.measures (classes_of state kind bound value)
 
 -- the reply to `stats`: what is counted of the rows and of their canonical tree
 abbrev pub counted : State → ℕ → List ℕ
@@ -89,9 +104,9 @@ answer_to state told line (Err fault) = Some (stays state (refused_text line (li
 answer_to state told line (Ok (asks.Load name)) = option_map (file_answer state line Load) (told name)
 answer_to state told line (Ok (asks.Apply name)) = option_map (file_answer state line Apply) (told name)
 answer_to state told line (Ok (asks.Point asked)) = Some (stays state (pointed state line (cell_asked asked)))
-answer_to state told line (Ok (asks.Range asked)) = Some (stays state (ranged state line (asked_box state.texts 0 asked)))
+answer_to state told line (Ok (asks.Range asked)) = Some (stays state (ranged state line asked))
 answer_to state told line (Ok (asks.Bounds asked)) = Some (stays state (bounded state line (cell_asked asked)))
-answer_to state told line (Ok (asks.Iceberg kind bound value)) = Some (stays state (passed state line (asked_of state.schema.measures kind bound value)))
+answer_to state told line (Ok (asks.Iceberg kind bound value)) = Some (stays state (passing state line kind bound value))
 answer_to state told line (Ok asks.Stats) = Some (stays state (counted state line))
 
 abbrev pub answer : State → Told → ℕ → List ℕ → Option Answered

@@ -1,16 +1,14 @@
 // The answer to an iceberg query.
 ghost use Rattle.std.specs.Prelude.{All, IfOk, [], length, ◌≡◌, ◌≤◌};
 ghost use Rattle.aggregates.specs.Views.{fraction_in, kind_in};
-ghost use Rattle.cube_defs.specs.Answers as answers;
-ghost use Rattle.cube_defs.specs.Text.{text_cmp};
-ghost use Rattle.iceberg_query.specs.Asked.{ask_in, bound_in};
+ghost use Rattle.iceberg_query.specs.Asked.{bound_in};
 ghost use Rattle.iceberg_query.specs.Hits.{told_classes};
 ghost use Rattle.lower_bounds.specs.Classes.{hit_in};
 ghost use Rattle.qc_schema.specs.Schema.{IsLayout};
 ghost use Rattle.query_script.specs.Commands.{IsMeasured};
 ghost use Rattle.reply_text.specs.Words.{reply_bytes};
 ghost use Rattle.value_dict.specs.Told.{IsTold};
-ghost use Rattle.qc_session.specs.Answers.{asked_of, passed, scale_of};
+ghost use Rattle.qc_session.specs.Answers.{classes_of, passing, scale_of};
 
 use aggregates::{AggKind, Fraction};
 use cell_core::{Memory, Steps};
@@ -55,8 +53,9 @@ fn classes_asked<L: Ledger>(
 ) -> Result<Vec<Class>, Memory>
     requires { IsMeasured (length warehouse.now.state.schema.measures) (kind_in kind) }
     ensures classes { IfOk result (λ classes. told_classes warehouse.now.state.texts classes.items
-        ≡ answers.iceberg text_cmp (length warehouse.now.state.schema.measures) warehouse.now.state.rows (asked_of warehouse.now.state.schema.measures (kind_in kind) (bound_in bound) (fraction_in value))) }
-    ensures told { IfOk result (λ classes. All (λ class. IsTold warehouse.now.state.texts (length warehouse.now.state.schema.measures) (hit_in class)) classes.items) }
+        ≡ classes_of warehouse.now.state (kind_in kind) (bound_in bound) (fraction_in value)) }
+    ensures told { IfOk result (λ classes. All (λ class.
+        IsTold warehouse.now.state.texts (length warehouse.now.state.schema.measures) (hit_in class)) classes.items) }
 {
     let ask = Ask {
         kind,
@@ -87,7 +86,7 @@ pub fn answer_iceberg<L: Ledger>(
 ) -> Result<Reply, Memory>
     requires { IsMeasured (length warehouse.now.state.schema.measures) (kind_in kind) }
     ensures { IfOk result (λ reply. reply_bytes reply
-        ≡ passed warehouse.now.state number (asked_of warehouse.now.state.schema.measures (kind_in kind) (bound_in bound) (fraction_in value))) }
+        ≡ passing warehouse.now.state number (kind_in kind) (bound_in bound) (fraction_in value)) }
 {
     let classes = classes_asked(alloc, warehouse, kind, bound, value, steps)?;
     let reply = iceberg_reply(

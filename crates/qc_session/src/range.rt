@@ -1,14 +1,8 @@
 // The answer to a range query.
 ghost use Rattle.std.specs.Prelude.{All, Err, IfOk, length, ◌*◌, ◌+◌, ◌<◌, ◌≡◌, ◌≤◌};
-ghost use Rattle.cube_defs.specs.Answers as answers;
-ghost use Rattle.cube_defs.specs.Text.{text_cmp};
-ghost use Rattle.cube_laws.specs.Recoding.{known_box};
 ghost use Rattle.range_query.specs.Told.{IsTold, hit_in, told_hits};
-ghost use Rattle.range_query.specs.Work.{work};
 ghost use Rattle.reply_text.specs.Words.{reply_bytes};
-ghost use Rattle.value_dict.specs.Boxes.{asked_box};
-ghost use Rattle.value_dict.specs.Told.{has_text};
-ghost use Rattle.qc_session.specs.Answers.{ranged};
+ghost use Rattle.qc_session.specs.Answers.{hits_of, ranged, work_of};
 
 use cell_core::{Fields, Memory, Steps};
 use range_query::{Hit, MAX_RANGE_CELLS, RangeRefused, range};
@@ -25,13 +19,12 @@ fn hits_asked<L: Ledger>(
     steps: &mut Steps<L>,
 ) -> Result<Vec<Hit>, RangeRefused>
     requires dims { length asked.now ≡ length warehouse.now.state.schema.dims }
-    ensures hits { IfOk result (λ hits. told_hits warehouse.now.state.texts hits.items
-        ≡ answers.range text_cmp (length warehouse.now.state.schema.measures) warehouse.now.state.rows (asked_box warehouse.now.state.texts 0 asked.now)) }
-    ensures told { IfOk result (λ hits. All (λ hit. IsTold warehouse.now.state.texts (length warehouse.now.state.schema.measures) (hit_in hit)) hits.items) }
+    ensures hits { IfOk result (λ hits. told_hits warehouse.now.state.texts hits.items ≡ hits_of warehouse.now.state asked.now) }
+    ensures told { IfOk result (λ hits. All (λ hit.
+        IsTold warehouse.now.state.texts (length warehouse.now.state.schema.measures) (hit_in hit)) hits.items) }
     ensures few { IfOk result (λ hits. length hits.items ≤ MAX_RANGE_CELLS) }
-    ensures too_many { result ≡ Err RangeRefused.TooMany →
-        MAX_RANGE_CELLS < length (answers.range text_cmp (length warehouse.now.state.schema.measures) warehouse.now.state.rows (asked_box warehouse.now.state.texts 0 asked.now)) }
-    ensures steps { steps.new ≤ steps.old + 3 * (1 + work text_cmp warehouse.now.state.rows (known_box (has_text warehouse.now.state.texts) 0 (asked_box warehouse.now.state.texts 0 asked.now))) }
+    ensures too_many { result ≡ Err RangeRefused.TooMany → MAX_RANGE_CELLS < length (hits_of warehouse.now.state asked.now) }
+    ensures steps { steps.new ≤ steps.old + 3 * (1 + work_of warehouse.now.state asked.now) }
 {
     let dict = warehouse.dict();
     match dict.box_of(alloc, asked) {
@@ -58,8 +51,8 @@ pub fn answer_range<L: Ledger>(
     steps: &mut Steps<L>,
 ) -> Result<Reply, Memory>
     requires dims { length asked.now ≡ length warehouse.now.state.schema.dims }
-    ensures reply { IfOk result (λ reply. reply_bytes reply ≡ ranged warehouse.now.state number (asked_box warehouse.now.state.texts 0 asked.now)) }
-    ensures steps { steps.new ≤ steps.old + 3 * (1 + work text_cmp warehouse.now.state.rows (known_box (has_text warehouse.now.state.texts) 0 (asked_box warehouse.now.state.texts 0 asked.now))) }
+    ensures reply { IfOk result (λ reply. reply_bytes reply ≡ ranged warehouse.now.state number asked.now) }
+    ensures steps { steps.new ≤ steps.old + 3 * (1 + work_of warehouse.now.state asked.now) }
 {
     match hits_asked(alloc, warehouse, asked, steps) {
         Ok(hits) => {

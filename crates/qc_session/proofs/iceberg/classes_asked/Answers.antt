@@ -1,5 +1,4 @@
-use Rattle.std.proofs.Common.{◌∙◌, ap, ap₂, sym, subst, arith, [], ◌≡◌, length}
-use Rattle.std.specs.Prelude.{IfSome}
+use Rattle.std.proofs.Common.{◌∙◌, ℕ, ap, ap₂, sym, subst, arith, length}
 use Rattle.std.specs.List.{All}
 use Rattle.std.proofs.lemmas.Result.{IfOk-weaker}
 use Rattle.aggregates.specs.Views.{fraction_in, kind_in}
@@ -7,12 +6,12 @@ use Rattle.cube_defs.specs.Answers as answers
 use Rattle.cube_defs.specs.Text.{text_cmp}
 use Rattle.iceberg_query.specs.Asked.{bound_in}
 use Rattle.iceberg_query.specs.Hits.{told_classes}
-use Rattle.iceberg_query.specs.Indexed.{class_of_node}
 use Rattle.lower_bounds.specs.Classes.{hit_in}
-use Rattle.measure_index.specs.Index.{ranking_of}
 use Rattle.measure_index.specs.Rankings.{IsIndex}
+use Rattle.qc_schema.specs.Schema.{Layout}
 use Rattle.value_dict.specs.Told.{IsTold}
 use Rattle.warehouse.specs.State.{source_of}
+use Rattle.qc_session.specs.Answers.{scale_of}
 use Rattle.qc_session.proofs.Measured.{measure-there}
 use Rattle.qc_session.proofs.Recoded.{rows-known, rows-told}
 use Rattle.qc_session.proofs.iceberg.classes_asked.Goals as goal
@@ -27,7 +26,7 @@ pub iceberg-requires-clause-tree : goal.iceberg-requires-clause-tree
 iceberg-requires-clause-tree g c = (source_of c.args.warehouse.now.state, rw (c.tree.ensures.width, c.tree.ensures.value) c.tree.ensures.valid.tree)
 
 pub iceberg-requires-clause-index : goal.iceberg-requires-clause-index
-iceberg-requires-clause-index g c = subst (IsIndex _) (sym c.index_of.ensures) (λ k d l. absurd (omega arith))
+iceberg-requires-clause-index g c = subst (IsIndex _) (sym c.in_ok-index.ensures) (λ k d l. absurd (omega arith))
 
 pub iceberg-requires-clause-dims : goal.iceberg-requires-clause-dims
 iceberg-requires-clause-dims g c = ap length c.dict.ensures.texts ∙ c.dict.ensures.valid.state.lists ∙ sym c.tree.ensures.width
@@ -36,3 +35,21 @@ pub iceberg-requires-clause-measure : goal.iceberg-requires-clause-measure
 iceberg-requires-clause-measure g c =
     let s = c.args.warehouse.now.state in
     (source_of s, rw (c.tree.ensures.width, c.tree.ensures.value) c.tree.ensures.valid.tree, measure-there (length s.schema.measures) c.args.kind c.requires)
+
+pub returns-clause-classes : goal.returns-clause-classes
+returns-clause-classes g c =
+    let s = c.args.warehouse.now.state in
+    let scale = c.scale_of_kind.ensures.value ∙ ap (λ (l : Layout). scale_of l.measures (kind_in c.args.kind)) c.schema.ensures.value in
+    let ask = ap (λ (n : ℕ). let a : answers.Ask = record { kind = kind_in c.args.kind; scale = n; bound = bound_in c.args.bound; value = fraction_in c.args.value } in a) scale in
+    IfOk-weaker c.iceberg.result _ _
+    (λ classes e.
+    ap (λ l. told_classes l classes.items) (sym c.dict.ensures.texts) ∙ e
+    ∙ ap₂ (answers.iceberg text_cmp (length s.schema.measures)) (rows-told s c.dict.ensures.valid.state c.dict.result.now.lists c.dict.ensures.texts) ask)
+    (c.iceberg.ensures.classes (source_of s) (rw (c.tree.ensures.width, c.tree.ensures.value) c.tree.ensures.valid.tree) (rows-known s c.dict.ensures.valid.state c.dict.result.now.lists c.dict.ensures.texts))
+
+pub returns-clause-told : goal.returns-clause-told
+returns-clause-told g c =
+    let s = c.args.warehouse.now.state in
+    IfOk-weaker c.iceberg.result _ _
+    (λ classes e. subst (λ l. All (λ class. IsTold l (length s.schema.measures) (hit_in class)) classes.items) c.dict.ensures.texts e)
+    (c.iceberg.ensures.told (source_of s) (rw (c.tree.ensures.width, c.tree.ensures.value) c.tree.ensures.valid.tree) (rows-known s c.dict.ensures.valid.state c.dict.result.now.lists c.dict.ensures.texts))

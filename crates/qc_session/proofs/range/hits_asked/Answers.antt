@@ -7,41 +7,41 @@ use Rattle.qc_session.proofs.Recoded.{range-told, rows-known, work-told}
 use Rattle.qc_session.proofs.range.hits_asked.Goals as goal
 
 pub box_of-requires : goal.box_of-requires
-box_of-requires g c = c.requires.dims ∙ sym c.dict.ensures.valid.state.lists ∙ ap length (sym c.dict.ensures.texts)
+box_of-requires g c = c.requires.dims ∙ sym c.dict-dict.ensures.valid.state.lists ∙ ap length (sym c.dict-dict.ensures.texts)
 
 pub range-requires-clause-tree : goal.range-requires-clause-tree
 range-requires-clause-tree g c = (source_of c.args.warehouse.now.state, rw (c.tree.ensures.width, c.tree.ensures.value) c.tree.ensures.valid.tree)
 
 pub range-requires-clause-dims : goal.range-requires-clause-dims
-range-requires-clause-dims g c = c.in-Ok.ensures.dims ∙ ap length c.dict.ensures.texts ∙ c.dict.ensures.valid.state.lists ∙ sym c.tree.ensures.width
+range-requires-clause-dims g c = c.in-Ok.ensures.dims ∙ ap length c.dict-dict.ensures.texts ∙ c.dict-dict.ensures.valid.state.lists ∙ sym c.tree.ensures.width
 
 pub range-requires-clause-dict_dims : goal.range-requires-clause-dict_dims
-range-requires-clause-dict_dims g c = ap length c.dict.ensures.texts ∙ c.dict.ensures.valid.state.lists ∙ sym c.tree.ensures.width
+range-requires-clause-dict_dims g c = ap length c.dict-dict.ensures.texts ∙ c.dict-dict.ensures.valid.state.lists ∙ sym c.tree.ensures.width
 
 pub returns-in-Ok-clause-hits : goal.returns-in-Ok-clause-hits
 returns-in-Ok-clause-hits g c =
     let s = c.args.warehouse.now.state in
     IfOk-weaker c.range.result _ _
-    (λ hits e. ap (λ l. told_hits l hits.items) (sym c.dict.ensures.texts) ∙ e ∙ range-told s c.dict.ensures.valid.state c.dict.result.now.lists c.dict.ensures.texts c.in-Ok.cells c.args.asked.now c.in-Ok.ensures.value (length s.schema.measures))
-    (c.range.ensures.hits (source_of s) (rw (c.tree.ensures.width, c.tree.ensures.value) c.tree.ensures.valid.tree) (rows-known s c.dict.ensures.valid.state c.dict.result.now.lists c.dict.ensures.texts))
+    (λ hits e. ap (λ l. told_hits l hits.items) (sym c.dict-dict.ensures.texts) ∙ e ∙ range-told s c.dict-dict.ensures.valid.state c.dict-dict.result.now.lists c.dict-dict.ensures.texts c.in-Ok.cells c.args.asked.now c.in-Ok.ensures.value (length s.schema.measures))
+    (c.range.ensures.hits (source_of s) (rw (c.tree.ensures.width, c.tree.ensures.value) c.tree.ensures.valid.tree) (rows-known s c.dict-dict.ensures.valid.state c.dict-dict.result.now.lists c.dict-dict.ensures.texts))
 
 pub returns-in-Ok-clause-told : goal.returns-in-Ok-clause-told
 returns-in-Ok-clause-told g c =
     let s = c.args.warehouse.now.state in
     IfOk-weaker c.range.result _ _
-    (λ hits e. subst (λ l. All (λ hit. IsTold l (length s.schema.measures) (hit_in hit)) hits.items) c.dict.ensures.texts e)
-    (c.range.ensures.told (source_of s) (rw (c.tree.ensures.width, c.tree.ensures.value) c.tree.ensures.valid.tree) (rows-known s c.dict.ensures.valid.state c.dict.result.now.lists c.dict.ensures.texts))
+    (λ hits e. subst (λ l. All (λ hit. IsTold l (length s.schema.measures) (hit_in hit)) hits.items) c.dict-dict.ensures.texts e)
+    (c.range.ensures.told (source_of s) (rw (c.tree.ensures.width, c.tree.ensures.value) c.tree.ensures.valid.tree) (rows-known s c.dict-dict.ensures.valid.state c.dict-dict.result.now.lists c.dict-dict.ensures.texts))
 
 pub returns-in-Ok-clause-too_many : goal.returns-in-Ok-clause-too_many
 returns-in-Ok-clause-too_many g c = λ e.
     let s = c.args.warehouse.now.state in
-    let same = range-told s c.dict.ensures.valid.state c.dict.result.now.lists c.dict.ensures.texts c.in-Ok.cells c.args.asked.now c.in-Ok.ensures.value (length s.schema.measures) in
-    let more = c.range.ensures.too_many e (source_of s) (rw (c.tree.ensures.width, c.tree.ensures.value) c.tree.ensures.valid.tree) (rows-known s c.dict.ensures.valid.state c.dict.result.now.lists c.dict.ensures.texts) in
+    let same = range-told s c.dict-dict.ensures.valid.state c.dict-dict.result.now.lists c.dict-dict.ensures.texts c.in-Ok.cells c.args.asked.now c.in-Ok.ensures.value (length s.schema.measures) in
+    let more = c.range.ensures.too_many e (source_of s) (rw (c.tree.ensures.width, c.tree.ensures.value) c.tree.ensures.valid.tree) (rows-known s c.dict-dict.ensures.valid.state c.dict-dict.result.now.lists c.dict-dict.ensures.texts) in
     omega (arith, more, ap length same)
 
 pub returns-in-Ok-clause-steps : goal.returns-in-Ok-clause-steps
 returns-in-Ok-clause-steps g c =
     let s = c.args.warehouse.now.state in
-    let same = work-told s c.dict.ensures.valid.state c.dict.result.now.lists c.dict.ensures.texts c.in-Ok.cells c.args.asked.now c.in-Ok.ensures.value in
-    let taken = c.range.ensures.bounded (source_of s) (rw (c.tree.ensures.width, c.tree.ensures.value) c.tree.ensures.valid.tree) (rows-known s c.dict.ensures.valid.state c.dict.result.now.lists c.dict.ensures.texts) in
+    let same = work-told s c.dict-dict.ensures.valid.state c.dict-dict.result.now.lists c.dict-dict.ensures.texts c.in-Ok.cells c.args.asked.now c.in-Ok.ensures.value in
+    let taken = c.range.ensures.bounded (source_of s) (rw (c.tree.ensures.width, c.tree.ensures.value) c.tree.ensures.valid.tree) (rows-known s c.dict-dict.ensures.valid.state c.dict-dict.result.now.lists c.dict-dict.ensures.texts) in
     omega (arith, taken, same)
