@@ -9,12 +9,13 @@ use Rattle.cube_defs.specs.Tree.{IsCanonical, Node, Tree, nodes}
 use Rattle.base_table.specs.Places.{IsRow, IsTable, Places, rows_of}
 use Rattle.cell_closure.proofs.Rows.{all_recursion}
 use Rattle.cube_laws.proofs.Lists.{all_map}
+use Rattle.measure_index.specs.Rankings.{Ranking}
 use Rattle.qc_arena.specs.Codes.{Shape}
 use Rattle.qc_arena.specs.Map.{Arena, is_open, no_nodes, shape_of}
 use Rattle.qc_schema.specs.Schema.{Layout}
 use Rattle.tree_search.specs.Found.{IsFrom}
 use Rattle.value_dict.specs.TextLists.{TextLists}
-use Rattle.warehouse.specs.State.{IsHeld}
+use Rattle.warehouse.specs.State.{IsHeld, IsIndexed}
 use Rattle.warehouse.specs.Stored.{IsKept, IsStored, state_of}
 use Rattle.warehouse.proofs.Decoding.{rows-back}
 use Rattle.warehouse.proofs.States.{is-state, no_rows}
@@ -37,6 +38,14 @@ rows-wide table is = all_map (IsRow table.dims table.measures) (λ row. length r
 pub kept-empty : (schema : Layout) → IsKept schema (no_rows (length schema.dims) (length schema.measures) schema.rows) (no_nodes (length schema.dims) schema.nodes)
 kept-empty schema = record { closed = refl; width = refl; max = refl; few = let none : 0 ≤ schema.nodes = omega arith in none; from = none-from (length schema.dims) (length schema.measures) }
 
+-- a canonical tree of the table's rows is a tree of rows that fit the schema
+pub tree-from : (schema : Layout) (table : Places) (tree : Tree ℕ) → IsTable table → table.dims ≡ length schema.dims → table.measures ≡ length schema.measures → IsCanonical nat_cmp table.measures (rows_of table) tree
+    → IsFrom (length schema.dims) tree (record { measures = length schema.measures; rows = rows_of table })
+tree-from schema table tree is dims measures canonical = record {
+  wide = subst (λ (n : ℕ). AllByRecursion (λ (row : Row ℕ). length row.tuple ≡ n) (rows_of table)) dims (rows-wide table is);
+  canonical = subst (λ (n : ℕ). IsCanonical nat_cmp n (rows_of table) tree) measures canonical;
+}
+
 pub kept-canonical : (schema : Layout) (table : Places) (tree : Arena) → IsTable table → table.dims ≡ length schema.dims → table.measures ≡ length schema.measures
     → is_open tree ≡ false → tree.width ≡ length schema.dims → tree.max ≡ schema.nodes → length (nodes nat_cmp (rows_of table)) ≤ schema.nodes → IsCanonical nat_cmp table.measures (rows_of table) tree.now → IsKept schema table tree
 kept-canonical schema table tree is dims measures closed width max few canonical = record {
@@ -44,10 +53,7 @@ kept-canonical schema table tree is dims measures closed width max few canonical
   width = width;
   max = max;
   few = few;
-  from = record {
-    wide = subst (λ (n : ℕ). AllByRecursion (λ (row : Row ℕ). length row.tuple ≡ n) (rows_of table)) dims (rows-wide table is);
-    canonical = subst (λ (n : ℕ). IsCanonical nat_cmp n (rows_of table) tree.now) measures canonical;
-  };
+  from = tree-from schema table tree.now is dims measures canonical;
 }
 
 pub some_same : {X : Type 0} {x y : X} → Some x ≡ Some y → x ≡ y
@@ -69,10 +75,11 @@ kept-back schema table table' tree tree' is same back closed max =
           (subst (λ (rs : List (Row ℕ)). IsFrom (length schema.dims) tree.now (record { measures = length schema.measures; rows = rs })) (sym rows) is.from);
     }
 
-pub is-held : (schema : Layout) (dict : TextLists) (table : Places) (tree : Arena) → IsStored schema dict table → IsKept schema table tree → IsHeld (record { state = state_of schema dict table; tree = tree.now })
-is-held schema dict table tree stored kept = record {
+pub is-held : (schema : Layout) (dict : TextLists) (table : Places) (tree : Arena) (index : List Ranking) → IsStored schema dict table → IsKept schema table tree → IsIndexed schema tree.now index → IsHeld (record { state = state_of schema dict table; tree = tree.now; index = index })
+is-held schema dict table tree index stored kept indexed = record {
   state = is-state schema dict table stored kept.few;
   tree =
       subst (λ (rows : List (Row ℕ)). IsFrom (length schema.dims) tree.now (record { measures = length schema.measures; rows = rows }))
       (sym (rows-back dict.lists (rows_of table) stored.known stored.dictionary.distinct)) kept.from;
+  index = indexed;
 }

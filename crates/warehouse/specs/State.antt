@@ -5,8 +5,12 @@ use Rattle.std.specs.Str.{bytes_eq}
 use Rattle.cube_defs.specs.Text.{Text, text_cmp}
 use Rattle.cube_defs.specs.Rows.{Row}
 use Rattle.cube_defs.specs.Tree.{Tree, nodes}
+use Rattle.aggregates.specs.declared.kind.AggKind.{AggKind}
 use Rattle.cube_laws.specs.Recoding.{coded_row, RowsAreKnown}
 use Rattle.csv_load.specs.Batch.{IsLoaded, IsValue}
+use Rattle.iceberg_query.specs.Indexed.{class_of_node}
+use Rattle.measure_index.specs.Index.{scale_of, units}
+use Rattle.measure_index.specs.Rankings.{IsIndex, Ranking}
 use Rattle.qc_schema.specs.Schema.{Layout, IsLayout}
 use Rattle.tree_search.specs.Found.{Source, IsFrom}
 use Rattle.value_dict.specs.Told.{has_text, place_in}
@@ -42,16 +46,27 @@ pub record IsState (s : State) : Type 0 where
   pub known : RowsAreKnown (has_text s.texts) s.rows
   pub few_nodes : length (nodes text_cmp s.rows) ≤ s.schema.nodes
 
--- a state, and the tree that is kept of its rows
+-- the scale of the measure of a kind; a count has none
+abbrev pub scale_in : Layout → AggKind → ℕ
+scale_in schema kind = scale_of (map (λ m. m.scale) schema.measures) kind
+
+-- the index has the kinds that the schema names, each in the unit of its measure, and is that of the tree's classes
+pub record IsIndexed (schema : Layout) (tree : Tree ℕ) (index : List Ranking) : Type 0 where
+  pub classes : IsIndex (class_of_node tree) index
+  pub kinds : units index ≡ map (λ kind. (kind, scale_in schema kind)) schema.indexes
+
+-- a state, and the tree and the index that are kept of its rows
 pub record Held : Type 0 where
   pub state : State
   pub tree : Tree ℕ
+  pub index : List Ranking
 
 -- the rows with codes for their texts
 abbrev pub source_of : State → Source
 source_of s = record { measures = length s.schema.measures; rows = coded s }
 
--- what is true of every warehouse: the tree is the canonical tree of the rows
+-- what is true of every warehouse: the tree is the canonical tree of the rows, and the index that of its classes
 pub record IsHeld (held : Held) : Type 0 where
   pub state : IsState held.state
   pub tree : IsFrom (length held.state.schema.dims) held.tree (source_of held.state)
+  pub index : IsIndexed held.state.schema held.tree held.index

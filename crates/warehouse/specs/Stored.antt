@@ -1,10 +1,10 @@
 -- How a warehouse keeps its state: rows of codes beside a dictionary, and the tree of the rows.
-use Rattle.std.specs.Prelude.{◌≡◌, ◌≤◌, List, false, length, map, Option, Some, None}
+use Rattle.std.specs.Prelude.{ℕ, ◌≡◌, ◌≤◌, List, false, length, map, Option, Some, None}
 use Rattle.std.specs.Ordering.{nat_cmp}
 use Rattle.std.specs.List.{All}
 use Rattle.cube_defs.specs.Text.{Text}
 use Rattle.cube_defs.specs.Rows.{Row}
-use Rattle.cube_defs.specs.Tree.{nodes}
+use Rattle.cube_defs.specs.Tree.{Tree, nodes}
 use Rattle.base_table.specs.Places.{IsTable, Places, rows_of}
 use Rattle.csv_load.specs.Batch.{IsValue}
 use Rattle.csv_load.specs.Faults as files
@@ -48,6 +48,10 @@ pub record IsKept (schema : Layout) (table : Places) (tree : Arena) : Type 0 whe
   pub max : tree.max ≡ schema.nodes
   pub few : length (nodes nat_cmp (rows_of table)) ≤ schema.nodes
   pub from : IsFrom (length schema.dims) tree.now (record { measures = length schema.measures; rows = rows_of table })
+
+-- the tree is that of some rows that fit the schema
+abbrev pub IsTreeOf : Layout → Tree ℕ → Type 0
+IsTreeOf schema tree = (rows : List (Row ℕ)) × IsFrom (length schema.dims) tree (record { measures = length schema.measures; rows = rows })
 
 -- what a file did that was taken, with the state after it
 abbrev pub applied_in : State → Applied → batches.Applied

@@ -10,12 +10,13 @@ ghost use Rattle.std.specs.Ordering.{nat_cmp};
 ghost use Rattle.value_dict.specs.TextLists.{IsDictionary};
 ghost use Rattle.warehouse.specs.Batch as batches;
 ghost use Rattle.warehouse.specs.Batch.{after, first_number, first_twice, full_dim, is_among, is_missing, refusal_of, result_of, texts_after, with_tuple};
-ghost use Rattle.warehouse.specs.State.{ids_of};
+ghost use Rattle.warehouse.specs.State.{IsIndexed, ids_of};
 ghost use Rattle.warehouse.specs.Steps.{AreLonger, IsCause, IsOver, closed, frame, is_there, last_refusal};
-ghost use Rattle.warehouse.specs.Stored.{IsKept, IsStored, applied_in, decoded_rows, refusal_in, state_of};
+ghost use Rattle.warehouse.specs.Stored.{IsKept, IsStored, IsTreeOf, applied_in, decoded_rows, refusal_in, state_of};
 ghost use Rattle.value_dict.specs.Told.{RowsAreCodes};
 
 use crate::checks::{first_present, first_repeat, is_full};
+use crate::indexing::change_index;
 use crate::learning::{learn_tuple, lengths, values_full};
 use crate::one_batch::{go_back, keep, open_batch};
 use crate::refused::{Applied, Refused};
@@ -24,6 +25,7 @@ use cell_core::{Cell, Steps};
 use class_builder::build_classes;
 use csv_load::RawBatch;
 use drill_links::link_all;
+use measure_index::Index;
 use qc_arena::{ArenaRefused, QcArena};
 use qc_schema::Schema;
 use std::alloc::Global;
@@ -282,33 +284,81 @@ fn change_and_build<L: Ledger>(
     }
 }
 
-/// Makes the changes in a batch of their own, all of them or none, and the tree of the rows after
-/// them.
+// Makes the changes in a batch that is open, the tree of the rows after them, and last of all the index
+// of its classes. After a refusal some of the changes are made, and the index is as it was.
+fn change_and_index<L: Ledger>(
+    schema: &Schema,
+    table: &mut Table,
+    dict: &mut Dict,
+    tree: &mut QcArena,
+    index: &mut Index,
+    batch: &RawBatch,
+    alloc: Global,
+    steps: &mut Steps<L>,
+) -> Result<(), Refused>
+    requires stored { IsStored schema.now dict.old (closed table.old) }
+    requires is_open { is_some table.old.was ≡ true }
+    requires opened { is_open tree.old ≡ true }
+    requires width { tree.old.width ≡ length schema.now.dims }
+    requires most_nodes { tree.old.max ≡ schema.now.nodes }
+    requires dims { batch.now.dims ≡ length schema.now.dims }
+    requires measures { batch.now.measures ≡ length schema.now.measures }
+    requires once { first_twice batch.now.changes ≡ None }
+    requires valid { IsBatch batch.now }
+    requires before { IfSome tree.old.was (λ before. IsTreeOf schema.now before.tree × IsIndexed schema.now before.tree index.old) }
+    ensures none { OnOk result (refusal_of (state_of schema.now dict.old table.old) batch.now.changes ≡ None) }
+    ensures made { OnOk result (state_of schema.now dict.new table.new ≡ after (state_of schema.now dict.old table.old) batch.now.changes) }
+    ensures tree { OnOk result (IsCanonical nat_cmp table.new.measures (rows_of table.new) tree.new.now) }
+    ensures fits { OnOk result (length (nodes nat_cmp (rows_of table.new)) ≤ schema.now.nodes) }
+    ensures known { OnOk result (RowsAreCodes dict.new.lists (rows_of table.new)) }
+    ensures cause { IfErr result (λ refused. IsCause refused (state_of schema.now dict.old table.old) batch.now.changes) }
+    ensures longer { AreLonger dict.old.lists dict.new.lists }
+    ensures max { dict.new.max ≡ dict.old.max }
+    ensures dictionary { IsDictionary dict.new }
+    ensures frame { frame table.new ≡ frame table.old }
+    ensures tree_frame { arena.frame tree.new ≡ arena.frame tree.old }
+    ensures indexed { OnOk result (IsIndexed schema.now tree.new.now index.new) }
+    ensures same_index { OnErr result (index.new ≡ index.old) }
+{
+    change_and_build(schema, table, dict, tree, batch, alloc, steps)?;
+    table.is_valid();
+    match change_index(schema, tree, index, alloc) {
+        Ok(()) => Ok(()),
+        Err(_) => Err(Refused::Memory),
+    }
+}
+
+/// Makes the changes in a batch of their own, all of them or none, with the tree of the rows after
+/// them and the index of its classes.
 pub(crate) fn change<L: Ledger>(
     schema: &Schema,
     table: &mut Table,
     dict: &mut Dict,
     tree: &mut QcArena,
+    index: &mut Index,
     batch: &RawBatch,
     alloc: Global,
     steps: &mut Steps<L>,
 ) -> Result<Applied, Refused>
     requires stored { IsStored schema.now dict.old table.old }
     requires kept { IsKept schema.now table.old tree.old }
+    requires indexed { IsIndexed schema.now tree.old.now index.old }
     requires dims { batch.now.dims ≡ length schema.now.dims }
     requires measures { batch.now.measures ≡ length schema.now.measures }
     ensures gives { Gives refusal_in (applied_in (state_of schema.now dict.new table.new)) result (result_of (state_of schema.now dict.old table.old) (Ok batch.now.changes)) }
     ensures state { OnErr result (state_of schema.now dict.new table.new ≡ state_of schema.now dict.old table.old) }
     ensures tree { OnErr result (tree.new.now ≡ tree.old.now) }
+    ensures index { OnErr result (index.new ≡ index.old) }
     ensures stored { IsStored schema.now dict.new table.new }
     ensures kept { IsKept schema.now table.new tree.new }
+    ensures indexed { IsIndexed schema.now tree.new.now index.new }
 {
     if let Some(k) = first_repeat(alloc, batch)? {
         return Err(Refused::Twice(k));
     }
     let records = batch.len();
     let lens = open_batch(schema, table, dict, tree);
-    match change_and_build(schema, table, dict, tree, batch, alloc, steps) {
+    match change_and_index(schema, table, dict, tree, index, batch, alloc, steps) {
         Ok(()) => {
             keep(table, tree);
             let classes = tree.class_count();

@@ -1,9 +1,10 @@
-//! The state of a cube of data: a schema, its rows, their texts and their tree, changed by whole
-//! files.
+//! The state of a cube of data: a schema, its rows, their texts, their tree and the index of its
+//! classes, changed by whole files.
 #![tactic(auto)]
 
 mod changing;
 mod checks;
+mod indexing;
 mod learning;
 mod one_batch;
 mod refused;

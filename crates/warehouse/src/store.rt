@@ -1,22 +1,28 @@
-// The state, the tree of its rows, and what files do to them.
+// The state, the tree of its rows, the index of the tree's classes, and what files do to them.
 ghost use Rattle.std.specs.Prelude.{Err, IfOk, IfSome, List, Ok, OnErr, Result, length, ◌≡◌, ◌≤◌};
 ghost use Rattle.cell_core.specs.Gives.{Gives};
 ghost use Rattle.csv_load.specs.Batch.{Change};
 ghost use Rattle.csv_load.specs.Faults.{Fault, fault_in};
 ghost use Rattle.cube_defs.specs.Text.{Text, text_cmp};
 ghost use Rattle.cube_defs.specs.Tree as trees;
+ghost use Rattle.aggregates.specs.declared.kind.AggKind.{AggKind};
+ghost use Rattle.iceberg_query.specs.Indexed.{class_of_node};
+ghost use Rattle.measure_index.specs.Index.{ranking_of};
+ghost use Rattle.measure_index.specs.Rankings.{IsIndex};
 ghost use Rattle.warehouse.specs.Batch as batches;
 ghost use Rattle.warehouse.specs.Batch.{result_of};
-ghost use Rattle.warehouse.specs.State.{IsHeld, State, empty};
+ghost use Rattle.warehouse.specs.State.{IsHeld, State, empty, scale_in};
 ghost use Rattle.warehouse.specs.Stored.{applied_in, refusal_in};
 
 use crate::Memory;
 use crate::changing::change;
+use crate::indexing::new_index;
 use crate::refused::{Applied, Refused, Stats};
 use base_table::Table;
 use cell_core::Steps;
 use csv_load::{LoadRefused, RawBatch, read_base, read_batch};
 use cube_defs::MAX_FILE;
+use measure_index::Index;
 use qc_arena::QcArena;
 use qc_schema::Schema;
 use std::alloc::Global;
@@ -25,29 +31,30 @@ use std::sync::ledger::Ledger;
 use value_dict::Dict;
 
 /// A schema, the rows that are present, for each dimension the texts that were ever accepted, in
-/// the order in which they were accepted, and the tree of the rows.
+/// the order in which they were accepted, the tree of the rows, and the index of its classes.
 #[derive(Drop)]
 pub struct Warehouse {
     schema: Schema,
     dict: Dict,
     table: Table,
     tree: QcArena,
+    index: Index,
     alloc: Global,
 }
 
 impl Model for Warehouse {
     ghost use Rattle.std.specs.Coded.{codes};
     ghost use Rattle.qc_arena.specs.Codes.{tree_code};
-    ghost use Rattle.warehouse.specs.State.{Held};
+    ghost use Rattle.warehouse.specs.State.{Held, IsIndexed};
     ghost use Rattle.warehouse.specs.Stored.{IsKept, IsStored, state_of};
 
     ghost Value = { Held };
 
     ghost coded = { Prim.hlevel (codes, tree_code) };
 
-    ghost view = { λ w. record { state = state_of w.schema w.dict w.table; tree = w.tree.now } };
+    ghost view = { λ w. record { state = state_of w.schema w.dict w.table; tree = w.tree.now; index = w.index } };
 
-    ghost invariant = { λ w. IsStored w.schema w.dict w.table × IsKept w.schema w.table w.tree };
+    ghost invariant = { λ w. IsStored w.schema w.dict w.table × IsKept w.schema w.table w.tree × IsIndexed w.schema w.tree.now w.index };
 }
 
 // The refusal for a file that gives no rows.
@@ -74,11 +81,13 @@ impl Warehouse {
         let dict = Dict::new(alloc, schema.dims(), schema.values())?;
         let table = Table::new(alloc, schema.dims(), schema.measures(), schema.rows())?;
         let tree = QcArena::new(alloc, schema.dims(), schema.nodes())?;
+        let index = new_index(alloc, &schema)?;
         Ok(Warehouse {
             schema,
             dict,
             table,
             tree,
+            index,
             alloc,
         })
     }
@@ -117,6 +126,16 @@ impl Warehouse {
         &self.tree
     }
 
+    /// The classes of the tree in order of value, for each kind that the schema's index lines name.
+    pub fn index(&self) -> &Index
+        ensures value { result.now ≡ self.now.index }
+        ensures index { IsIndex (class_of_node self.now.tree) result.now }
+        ensures unit { (kind : AggKind) → IfSome (ranking_of kind result.now) (λ r. r.scale ≡ scale_in self.now.state.schema kind) }
+        ensures valid { IsHeld self.now }
+    {
+        &self.index
+    }
+
     /// What is counted of the rows and of their tree, without counting anew.
     pub fn stats(&self) -> Stats
         ensures rows { result.rows ≡ length self.now.state.rows }
@@ -149,12 +168,14 @@ impl Warehouse {
         ensures valid { IsHeld self.new }
         ensures state { OnErr result (self.new.state ≡ self.old.state) }
         ensures tree { OnErr result (self.new.tree ≡ self.old.tree) }
+        ensures index { OnErr result (self.new.index ≡ self.old.index) }
     {
         change(
             &self.schema,
             &mut self.table,
             &mut self.dict,
             &mut self.tree,
+            &mut self.index,
             batch,
             self.alloc,
             steps,
@@ -172,6 +193,7 @@ impl Warehouse {
         ensures valid { IsHeld self.new }
         ensures state { OnErr result (self.new.state ≡ self.old.state) }
         ensures tree { OnErr result (self.new.tree ≡ self.old.tree) }
+        ensures index { OnErr result (self.new.index ≡ self.old.index) }
     {
         if self.table.count() != 0 {
             return Err(Refused::NotEmpty);
@@ -194,6 +216,7 @@ impl Warehouse {
         ensures valid { IsHeld self.new }
         ensures state { OnErr result (self.new.state ≡ self.old.state) }
         ensures tree { OnErr result (self.new.tree ≡ self.old.tree) }
+        ensures index { OnErr result (self.new.index ≡ self.old.index) }
     {
         match read_batch(self.alloc, &self.schema, bytes) {
             Ok(batch) => self.change(&batch, steps),

@@ -1,16 +1,19 @@
-use Rattle.std.proofs.Common.{◌≡◌, ◌≤◌, ◌∙◌, ℕ, List, None, Some, ap, length, map, refl, subst, sym, take}
+use Rattle.std.proofs.Common.{◌≡◌, ◌≤◌, ◌∙◌, ℕ, List, None, Option, Some, ap, length, map, refl, subst, sym, take}
 use Rattle.std.specs.Ordering.{nat_cmp}
 use Rattle.cube_defs.specs.Rows.{Row}
 use Rattle.cube_defs.specs.Text.{text_cmp}
 use Rattle.cube_defs.specs.Tree.{IsCanonical, Tree, classes, nodes}
 use Rattle.base_table.specs.Places.{Places, rows_of}
-use Rattle.qc_arena.specs.Map.{Arena, is_open}
+use Rattle.measure_index.specs.Rankings.{Ranking}
+use Rattle.qc_arena.specs.Map.{Arena, is_open, shape_of}
 use Rattle.value_dict.specs.TextLists.{TextLists}
 use Rattle.value_dict.specs.Told.{RowsAreCodes, decoded_row}
 use Rattle.warehouse.specs.Batch.{after, refusal_of, rows_after, texts_after}
-use Rattle.warehouse.specs.State.{State}
+use Rattle.qc_arena.specs.Codes.{Shape}
+use Rattle.std.specs.Prelude.{IfSome}
+use Rattle.warehouse.specs.State.{IsIndexed, State}
 use Rattle.warehouse.specs.Steps.{IsCause, closed, frame}
-use Rattle.warehouse.specs.Stored.{IsKept, IsStored, refusal_in, state_of}
+use Rattle.warehouse.specs.Stored.{IsKept, IsStored, IsTreeOf, refusal_in, state_of}
 use Rattle.warehouse.proofs.Causes.{refused-so}
 use Rattle.warehouse.proofs.Counted.{classes-kept}
 use Rattle.warehouse.proofs.Growing.{cut-back}
@@ -21,30 +24,30 @@ use Rattle.warehouse.proofs.changing.change.Goals as goal
 
 pub returns-in-Ok-clause-stored : goal.returns-in-Ok-clause-stored
 returns-in-Ok-clause-stored g c =
-    let dict = c.change_and_build.new.dict in
+    let dict = c.change_and_index.new.dict in
     let texts : dict.lists ≡ texts_after c.args.dict.now.lists c.args.batch.now.changes = ap (λ (s : State). s.texts) c.in-Ok.ensures.made in
-    let rest = c.keep.ensures.frame ∙ ap closed c.change_and_build.ensures.frame ∙ ap (λ (t : Places). frame (closed t)) c.open_batch-lens.ensures.table in
-    stored-next c.args.schema.now c.args.dict.now dict c.args.table.now c.keep.new.table c.requires.stored rest c.keep.ensures.valid c.change_and_build.ensures.max c.change_and_build.ensures.longer.dims
+    let rest = c.keep.ensures.frame ∙ ap closed c.change_and_index.ensures.frame ∙ ap (λ (t : Places). frame (closed t)) c.open_batch-lens.ensures.table in
+    stored-next c.args.schema.now c.args.dict.now dict c.args.table.now c.keep.new.table c.requires.stored rest c.keep.ensures.valid c.change_and_index.ensures.max c.change_and_index.ensures.longer.dims
     (rw texts (values-after c.args.batch.now c.args.dict.now.lists c.len-records.ensures.valid c.requires.stored.values))
-    (subst (λ (rows : List (Row ℕ)). RowsAreCodes dict.lists rows) (sym c.keep.ensures.rows) c.in-Ok.ensures.known) c.change_and_build.ensures.dictionary
+    (subst (λ (rows : List (Row ℕ)). RowsAreCodes dict.lists rows) (sym c.keep.ensures.rows) c.in-Ok.ensures.known) c.change_and_index.ensures.dictionary
 
 pub returns-in-Ok-clause-kept : goal.returns-in-Ok-clause-kept
 returns-in-Ok-clause-kept g c =
-    let is : IsStored c.args.schema.now c.change_and_build.new.dict c.keep.new.table = returns-in-Ok-clause-stored g c in
-    let same = c.change_and_build.ensures.tree_frame in
+    let is : IsStored c.args.schema.now c.change_and_index.new.dict c.keep.new.table = returns-in-Ok-clause-stored g c in
+    let same = c.change_and_index.ensures.tree_frame in
     let rows = c.keep.ensures.rows in
     kept-canonical c.args.schema.now c.keep.new.table c.keep.new.tree c.keep.ensures.valid is.dims is.measures (ap is_open c.keep.ensures.tree)
     (ap (λ (a : Arena). a.width) c.keep.ensures.tree ∙ ap (λ (a : Arena). a.width) same ∙ ap (λ (a : Arena). a.width) c.open_batch-lens.ensures.tree ∙ c.requires.kept.width)
     (ap (λ (a : Arena). a.max) c.keep.ensures.tree ∙ ap (λ (a : Arena). a.max) same ∙ ap (λ (a : Arena). a.max) c.open_batch-lens.ensures.tree ∙ c.requires.kept.max)
     (subst (λ (rs : List (Row ℕ)). length (nodes nat_cmp rs) ≤ c.args.schema.now.nodes) (sym rows) c.in-Ok.ensures.fits)
     (subst (λ (t : Tree ℕ). IsCanonical nat_cmp c.keep.new.table.measures (rows_of c.keep.new.table) t) (sym (ap (λ (a : Arena). a.now) c.keep.ensures.tree))
-    (subst (λ (rs : List (Row ℕ)). IsCanonical nat_cmp c.keep.new.table.measures rs c.change_and_build.new.tree.now) (sym rows)
-    (subst (λ (m : ℕ). IsCanonical nat_cmp m (rows_of c.change_and_build.new.table) c.change_and_build.new.tree.now) (sym (ap (λ (t : Places). t.measures) c.keep.ensures.frame)) c.in-Ok.ensures.tree)))
+    (subst (λ (rs : List (Row ℕ)). IsCanonical nat_cmp c.keep.new.table.measures rs c.change_and_index.new.tree.now) (sym rows)
+    (subst (λ (m : ℕ). IsCanonical nat_cmp m (rows_of c.change_and_index.new.table) c.change_and_index.new.tree.now) (sym (ap (λ (t : Places). t.measures) c.keep.ensures.frame)) c.in-Ok.ensures.tree)))
 
 pub returns-in-Ok-clause-gives : goal.returns-in-Ok-clause-gives
 returns-in-Ok-clause-gives g c =
     let changes = c.args.batch.now.changes in
-    let dict = c.change_and_build.new.dict in
+    let dict = c.change_and_index.new.dict in
     let old = state_of c.args.schema.now c.args.dict.now c.args.table.now in
     let with : List (Row ℕ) → State = λ rows. record { schema = c.args.schema.now; rows = map (decoded_row dict.lists) rows; texts = dict.lists } in
     let made : state_of c.args.schema.now dict c.keep.new.table ≡ after old changes = ap with c.keep.ensures.rows ∙ c.in-Ok.ensures.made ∙ ap (λ (s : State). after s changes) c.open_batch-lens.ensures.state in
@@ -60,20 +63,20 @@ pub returns-in-Err-clause-stored : goal.returns-in-Err-clause-stored
 returns-in-Err-clause-stored g c =
     let is = c.requires.stored in
     let dict = c.args.dict.now in
-    let rest = c.go_back.ensures.frame ∙ ap closed c.change_and_build.ensures.frame ∙ ap (λ (t : Places). frame (closed t)) c.open_batch-lens.ensures.table in
-    let rows = c.go_back.ensures.rows ∙ ap (λ (t : Places). t.was) c.change_and_build.ensures.frame ∙ ap (λ (t : Places). t.was) c.open_batch-lens.ensures.table in
+    let rest = c.go_back.ensures.frame ∙ ap closed c.change_and_index.ensures.frame ∙ ap (λ (t : Places). frame (closed t)) c.open_batch-lens.ensures.table in
+    let rows = c.go_back.ensures.rows ∙ ap (λ (t : Places). t.was) c.change_and_index.ensures.frame ∙ ap (λ (t : Places). t.was) c.open_batch-lens.ensures.table in
     let texts : c.go_back.new.dict ≡ dict =
-    cut-back dict c.change_and_build.new.dict c.go_back.new.dict (take c.from.result c.open_batch-lens.result)
+    cut-back dict c.change_and_index.new.dict c.go_back.new.dict (take c.from.result c.open_batch-lens.result)
     (ap (λ (n : ℕ). take n c.open_batch-lens.result) (c.from.ensures ∙ c.dims.ensures.count) ∙ c.open_batch-lens.ensures.lens)
-    c.go_back.ensures.texts c.go_back.ensures.most_texts c.change_and_build.ensures.max c.change_and_build.ensures.longer in
+    c.go_back.ensures.texts c.go_back.ensures.most_texts c.change_and_index.ensures.max c.change_and_index.ensures.longer in
     subst (λ (d : TextLists). IsStored c.args.schema.now d c.go_back.new.table) (sym texts)
     (stored-next c.args.schema.now dict dict c.args.table.now c.go_back.new.table is rest c.go_back.ensures.valid refl refl is.values
     (subst (λ (rs : List (Row ℕ)). RowsAreCodes dict.lists rs) (sym (some_same rows)) is.known) is.dictionary)
 
 pub returns-in-Err-clause-kept : goal.returns-in-Err-clause-kept
 returns-in-Err-clause-kept g c =
-    let same = c.change_and_build.ensures.tree_frame in
-    let rows = c.go_back.ensures.rows ∙ ap (λ (t : Places). t.was) c.change_and_build.ensures.frame ∙ ap (λ (t : Places). t.was) c.open_batch-lens.ensures.table in
+    let same = c.change_and_index.ensures.tree_frame in
+    let rows = c.go_back.ensures.rows ∙ ap (λ (t : Places). t.was) c.change_and_index.ensures.frame ∙ ap (λ (t : Places). t.was) c.open_batch-lens.ensures.table in
     let back = c.go_back.ensures.tree ∙ ap (λ (a : Arena). a.was) same ∙ ap (λ (a : Arena). a.was) c.open_batch-lens.ensures.tree in
     let max = c.go_back.ensures.max ∙ ap (λ (a : Arena). a.max) same ∙ ap (λ (a : Arena). a.max) c.open_batch-lens.ensures.tree in
     kept-back c.args.schema.now c.args.table.now c.go_back.new.table c.args.tree.now c.go_back.new.tree c.requires.kept rows back c.go_back.ensures.closed max
@@ -83,3 +86,18 @@ returns-in-Err-clause-gives g c =
     let changes = c.args.batch.now.changes in
     let old = state_of c.args.schema.now c.args.dict.now c.args.table.now in
     refused-so old changes (refusal_in c.in-Err.refused) (subst (λ (s : State). IsCause c.in-Err.refused s changes) c.open_batch-lens.ensures.state c.in-Err.ensures.cause)
+
+pub change_and_index-requires-clause-before : goal.change_and_index-requires-clause-before
+change_and_index-requires-clause-before g c =
+    subst (λ (o : Option Shape). IfSome o (λ before. IsTreeOf c.args.schema.now before.tree × IsIndexed c.args.schema.now before.tree c.args.index.now)) (sym (ap (λ (a : Arena). a.was) c.open_batch-lens.ensures.tree))
+    ((rows_of c.args.table.now, c.requires.kept.from), c.requires.indexed)
+
+pub returns-in-Ok-clause-indexed : goal.returns-in-Ok-clause-indexed
+returns-in-Ok-clause-indexed g c =
+    subst (λ (t : Tree ℕ). IsIndexed c.args.schema.now t c.change_and_index.new.index) (sym (ap (λ (a : Arena). a.now) c.keep.ensures.tree)) c.in-Ok.ensures.indexed
+
+pub returns-in-Err-clause-indexed : goal.returns-in-Err-clause-indexed
+returns-in-Err-clause-indexed g c =
+    let back : Some (shape_of c.go_back.new.tree) ≡ Some (shape_of c.args.tree.now) = c.go_back.ensures.tree ∙ ap (λ (a : Arena). a.was) c.change_and_index.ensures.tree_frame ∙ ap (λ (a : Arena). a.was) c.open_batch-lens.ensures.tree in
+    subst (λ (index : List Ranking). IsIndexed c.args.schema.now c.go_back.new.tree.now index) (sym c.in-Err.ensures.same_index)
+    (subst (λ (t : Tree ℕ). IsIndexed c.args.schema.now t c.args.index.now) (sym (ap (λ (s : Shape). s.tree) (some_same back))) c.requires.indexed)

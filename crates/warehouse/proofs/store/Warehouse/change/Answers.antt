@@ -5,4 +5,4 @@ pub returns-clause-gives : goal.returns-clause-gives
 returns-clause-gives g c = rw (← c.self.view_is) c.change.ensures.gives
 
 pub returns-clause-valid : goal.returns-clause-valid
-returns-clause-valid g c = is-held c.self.inside.schema c.change.new.dict c.change.new.table c.change.new.tree c.change.ensures.stored c.change.ensures.kept
+returns-clause-valid g c = is-held c.self.inside.schema c.change.new.dict c.change.new.table c.change.new.tree c.change.new.index c.change.ensures.stored c.change.ensures.kept c.change.ensures.indexed

@@ -13,7 +13,7 @@ returns-in-Err-clause-gives g c =
     rw (← c.self.view_is, empty) (c.refused_file.ensures (state_of inside.schema inside.dict inside.table) (base_in inside.schema c.args.bytes.now) c.in-Err.ensures.gives)
 
 pub returns-then-count-ne0-clause-valid : goal.returns-then-count-ne0-clause-valid
-returns-then-count-ne0-clause-valid g c = rw (← c.self.view_is) (is-held c.self.inside.schema c.self.inside.dict c.self.inside.table c.self.inside.tree c.self.invariant.0 c.self.invariant.1)
+returns-then-count-ne0-clause-valid g c = rw (← c.self.view_is) (is-held c.self.inside.schema c.self.inside.dict c.self.inside.table c.self.inside.tree c.self.inside.index c.self.invariant.0 c.self.invariant.1 c.self.invariant.2)
 
 pub returns-in-Err-clause-valid : goal.returns-in-Err-clause-valid
-returns-in-Err-clause-valid g c = rw (← c.self.view_is) (is-held c.self.inside.schema c.self.inside.dict c.self.inside.table c.self.inside.tree c.self.invariant.0 c.self.invariant.1)
+returns-in-Err-clause-valid g c = rw (← c.self.view_is) (is-held c.self.inside.schema c.self.inside.dict c.self.inside.table c.self.inside.tree c.self.inside.index c.self.invariant.0 c.self.invariant.1 c.self.invariant.2)

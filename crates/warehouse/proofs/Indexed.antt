@@ -1,0 +1,118 @@
+-- The index of the tree's classes.
+use Rattle.std.proofs.Common.{◌≡◌, ℕ, zero, suc, ◌<◌, ◌≤◌, List, [], ◌∷◌, Option, Some, None, length, map, slice_get, refl, sym, ap, subst, true, false, is_some, true≢false, ◌∙◌, arith}
+use Rattle.std.specs.Prelude.{Err, IfOk, IfSome, IsSome, Ok, Result, slice_index_or}
+use Rattle.std.specs.FinMap as numbers
+use Rattle.std.specs.List.{All, AllByRecursion}
+use Rattle.std.specs.Option.{option_and_then}
+use Rattle.std.specs.Ordering.{nat_cmp}
+use Rattle.std.proofs.lemmas.List.Elements.{All-cons, All-nil}
+use Rattle.cube_defs.specs.Rows as defs
+use Rattle.cube_defs.specs.Tree.{Tree}
+use Rattle.aggregates.specs.Views.{IsThere, agg_in}
+use Rattle.aggregates.specs.declared.agg.Agg.{Agg}
+use Rattle.aggregates.specs.declared.kind.AggKind.{AggKind}
+use Rattle.cell_core.specs.declared.cell.NodeNo.{NodeNo}
+use Rattle.measure_index.specs.Entries.{HaveMeasure}
+use Rattle.measure_index.specs.Index.{empty_ranking, ranking_of, scale_of, units}
+use Rattle.measure_index.specs.Rankings.{IsIndex, Ranking}
+use Rattle.measure_index.proofs.Classes.{index_alike, scale_found}
+use Rattle.qc_arena.specs.Changes.{AreNew, class_in, class_now, class_was}
+use Rattle.qc_arena.specs.Codes.{Shape}
+use Rattle.qc_arena.specs.Map.{Arena, is_open}
+use Rattle.qc_schema.specs.Schema.{IsLayout, Layout, Measure}
+use Rattle.iceberg_query.specs.Indexed.{class_of_node}
+use Rattle.iceberg_query.proofs.Bounded.{class_there}
+use Rattle.iceberg_query.proofs.Index.{class_same}
+use Rattle.iceberg_query.proofs.Measures.{there_is_measure}
+use Rattle.warehouse.specs.State.{IsIndexed, scale_in}
+use Rattle.warehouse.specs.Stored.{IsTreeOf}
+
+got : {X : Type 0} (xs : List X) (k : ℕ) (d : X) → k < length xs → slice_get xs k ≡ Some (slice_index_or xs k d)
+got [] k d l = absurd (omega (arith, l))
+got (x ∷ xs) zero d l = refl
+got (x ∷ xs) (suc k) d l = got xs k d (omega (arith, l))
+
+-- the classes of a tree have the measures of the schema
+have-measure : (schema : Layout) (tree : Tree ℕ) → IsTreeOf schema tree → (from : ℕ → Option defs.Agg) (pairs : List (NodeNo × Agg)) → AreNew from (class_of_node tree) pairs → (kind : AggKind) → IsThere (length schema.measures) kind → HaveMeasure kind pairs
+have-measure schema tree is from pairs new kind there = λ k d l.
+    let x = slice_index_or pairs k d in
+    let told : class_in (numbers.get tree x.0.0) ≡ Some (agg_in x.1) = new.listed k x (got pairs k d l) in
+    let class = sym told ∙ class_same (numbers.get tree x.0.0) in
+    there_is_measure (length schema.dims) tree (record { measures = length schema.measures; rows = is.0 }) is.1 x.0.0 (class_there tree x.0.0 (subst (λ o. IsSome o) class refl)) x.1 kind class there
+
+abbrev unit-in : Layout → AggKind → AggKind × ℕ
+unit-in schema kind = (kind, scale_in schema kind)
+
+none-left : (schema : Layout) (r : Ranking) (index : List Ranking) → units (r ∷ index) ≡ map (unit-in schema) [] → ⊥
+none-left schema r index e = cc
+
+all-measured : (schema : Layout) (pairs : List (NodeNo × Agg)) → ((kind : AggKind) → IsThere (length schema.measures) kind → HaveMeasure kind pairs) → (index : List Ranking) (kinds : List AggKind)
+    → units index ≡ map (unit-in schema) kinds → AllByRecursion (IsThere (length schema.measures)) kinds → All (λ r. HaveMeasure r.kind pairs) index
+all-measured schema pairs have [] kinds e there = All-nil (λ (r : Ranking). HaveMeasure r.kind pairs)
+all-measured schema pairs have (r ∷ index) [] e there = absurd (none-left schema r index e)
+all-measured schema pairs have (r ∷ index) (kind ∷ kinds) e there =
+    let first : ◌≡◌ {A = AggKind × ℕ} (r.kind, r.scale) (kind, scale_in schema kind) = cc in
+    let rest : units index ≡ map (unit-in schema) kinds = cc in
+    All-cons (λ (s : Ranking). HaveMeasure s.kind pairs) r index (subst (λ k. HaveMeasure k pairs) (sym (ap (λ p. p.0) first)) (have kind there.0)) (all-measured schema pairs have index kinds rest there.1)
+
+-- classes of a tree of the schema have the measures of the index's kinds
+pub measured : (schema : Layout) (tree : Tree ℕ) (index : List Ranking) → IsLayout schema → IsTreeOf schema tree → units index ≡ map (unit-in schema) schema.indexes → (from : ℕ → Option defs.Agg) (pairs : List (NodeNo × Agg))
+    → AreNew from (class_of_node tree) pairs → All (λ r. HaveMeasure r.kind pairs) index
+measured schema tree index layout is e from pairs new = all-measured schema pairs (have-measure schema tree is from pairs new) index schema.indexes e layout.indexes
+
+-- the classes at the begin of a batch are those of the tree then
+was-is : (a : Arena) (before : Shape) → a.was ≡ Some before → class_was a ≡ class_of_node before.tree
+was-is a before e = λ i q. class_in (option_and_then (λ s. numbers.get s.tree q) (e i))
+
+-- what is known of an open batch, with the tree at its begin named
+pub record IsBegun (schema : Layout) (a : Arena) (index : List Ranking) : Type 0 where
+  pub tree : Tree ℕ
+  pub was : class_was a ≡ class_of_node tree
+  pub is : IsTreeOf schema tree
+  pub indexed : IsIndexed schema tree index
+
+pub begun : (schema : Layout) (a : Arena) (index : List Ranking) → is_open a ≡ true → IfSome a.was (λ before. IsTreeOf schema before.tree × IsIndexed schema before.tree index) → IsBegun schema a index
+begun schema a index opened h = go a.was refl opened h
+  where
+    go : (o : Option Shape) → a.was ≡ o → is_some o ≡ true → IfSome o (λ before. IsTreeOf schema before.tree × IsIndexed schema before.tree index) → IsBegun schema a index
+    go None e bad known = absurd (true≢false (sym bad))
+    go (Some before) e there known = record { tree = before.tree; was = was-is a before e; is = known.0; indexed = known.1 }
+
+-- of no kinds each index is that of each tree
+pub none-indexed : (schema : Layout) (tree : Tree ℕ) (index : List Ranking) → length schema.indexes ≡ 0 → units index ≡ map (unit-in schema) schema.indexes → IsIndexed schema tree index
+none-indexed schema tree [] none e = record { classes = All-nil _; kinds = e }
+none-indexed schema tree (r ∷ index) none e = absurd (go schema.indexes none e)
+  where
+    go : (kinds : List AggKind) → length kinds ≡ 0 → units (r ∷ index) ≡ map (unit-in schema) kinds → ⊥
+    go [] n f = none-left schema r index f
+    go (kind ∷ kinds) n f = omega (arith, n)
+
+-- the scale of a kind that the index has is that of its measure
+pub unit-named : (schema : Layout) (tree : Tree ℕ) (index : List Ranking) → IsIndexed schema tree index → (kind : AggKind) → IfSome (ranking_of kind index) (λ r. r.scale ≡ scale_in schema kind)
+unit-named schema tree index is kind = go (ranking_of kind index) refl
+  where
+    go : (o : Option Ranking) → ranking_of kind index ≡ o → IfSome o (λ r. r.scale ≡ scale_in schema kind)
+    go None f = tt
+    go (Some r) f = scale_found (map (λ (m : Measure). m.scale) schema.measures) kind index schema.indexes is.kinds r f
+
+-- an index without entries is that of the empty tree
+units-empty : (scales : List ℕ) (kinds : List AggKind) → units (map (empty_ranking scales) kinds) ≡ map (λ kind. (kind, scale_of scales kind)) kinds
+units-empty scales [] = refl
+units-empty scales (kind ∷ kinds) = ap (λ us. (kind, scale_of scales kind) ∷ us) (units-empty scales kinds)
+
+pub index-empty : (schema : Layout) (scales : List ℕ) (index : List Ranking) → scales ≡ map (λ (m : Measure). m.scale) schema.measures → index ≡ map (empty_ranking scales) schema.indexes → IsIndex (λ _. None) index → IsIndexed schema numbers.empty index
+index-empty schema scales index same made is = record {
+  classes = index_alike (λ _. None) (class_of_node numbers.empty) (λ k. sym (ap class_in (numbers.get-empty nat_cmp k))) index is;
+  kinds = ap units made ∙ units-empty scales schema.indexes ∙ ap (λ (ss : List ℕ). map (λ kind. (kind, scale_of ss kind)) schema.indexes) same;
+}
+
+-- the scales of a schema are those of its measures
+pub small-scales : (measures : List Measure) → AllByRecursion (λ m. m.scale ≤ 6) measures → All (λ scale. scale ≤ 6) (map (λ (m : Measure). m.scale) measures)
+small-scales [] h = All-nil (λ scale. scale ≤ 6)
+small-scales (m ∷ measures) h = All-cons (λ scale. scale ≤ 6) m.scale (map (λ (m : Measure). m.scale) measures) h.0 (small-scales measures h.1)
+
+-- the same of an index that may not be had for want of memory
+pub made-empty : {E : Type 0} (schema : Layout) (scales : List ℕ) (kinds : List AggKind) (r : Result (List Ranking) E) → scales ≡ map (λ (m : Measure). m.scale) schema.measures → kinds ≡ schema.indexes
+    → IfOk r (λ index. index ≡ map (empty_ranking scales) kinds) → IfOk r (λ index. IsIndex (λ _. None) index) → IfOk r (λ index. IsIndexed schema numbers.empty index)
+made-empty schema scales kinds (Ok index) same named made is = index-empty schema scales index same (made ∙ ap (map (empty_ranking scales)) named) is
+made-empty schema scales kinds (Err e) same named made is = tt

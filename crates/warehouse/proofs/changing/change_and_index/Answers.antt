@@ -1,0 +1,23 @@
+use Rattle.std.proofs.Common.{Option, ◌∙◌, ap, subst, sym}
+use Rattle.std.specs.Prelude.{IfSome}
+use Rattle.base_table.specs.Places.{Places, rows_of}
+use Rattle.qc_arena.specs.Codes.{Shape}
+use Rattle.qc_arena.specs.Map.{Arena}
+use Rattle.warehouse.specs.State.{IsIndexed}
+use Rattle.warehouse.specs.Stored.{IsTreeOf}
+use Rattle.warehouse.proofs.Trees.{tree-from}
+use Rattle.warehouse.proofs.changing.change_and_index.Goals as goal
+
+pub change_index-requires-clause-now : goal.change_index-requires-clause-now
+change_index-requires-clause-now g c =
+    let table = c.change_and_build.new.table in
+    let frame = c.change_and_build.ensures.frame in
+    (
+      rows_of table,
+      tree-from c.args.schema.now table c.change_and_build.new.tree.now c.is_valid.ensures (ap (λ (t : Places). t.dims) frame ∙ c.requires.stored.dims)
+      (ap (λ (t : Places). t.measures) frame ∙ c.requires.stored.measures) c.in_ok-change_and_build.ensures.tree,
+    )
+
+pub change_index-requires-clause-before : goal.change_index-requires-clause-before
+change_index-requires-clause-before g c =
+    subst (λ (o : Option Shape). IfSome o (λ before. IsTreeOf c.args.schema.now before.tree × IsIndexed c.args.schema.now before.tree c.args.index.now)) (sym (ap (λ (a : Arena). a.was) c.change_and_build.ensures.tree_frame)) c.requires.before
