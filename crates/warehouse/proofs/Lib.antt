@@ -3,6 +3,7 @@ mod Causes
 mod Changes
 mod Decoding
 mod Growing
+mod Repairing
 mod Inserting
 mod Texts
 mod Values

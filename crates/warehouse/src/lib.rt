@@ -7,6 +7,7 @@ mod checks;
 mod learning;
 mod one_batch;
 mod refused;
+mod repair;
 mod store;
 #[cfg(test)]
 mod tests;
