@@ -4,6 +4,7 @@ mod Changes
 mod Decoding
 mod Growing
 mod Indexed
+mod Repairing
 mod Inserting
 mod Texts
 mod Values

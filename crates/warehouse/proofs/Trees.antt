@@ -32,7 +32,7 @@ none-from dims measures = record {
 }
 
 -- each row of a table has a code in each dimension
-rows-wide : (table : Places) → IsTable table → AllByRecursion (λ (row : Row ℕ). length row.tuple ≡ table.dims) (rows_of table)
+pub rows-wide : (table : Places) → IsTable table → AllByRecursion (λ (row : Row ℕ). length row.tuple ≡ table.dims) (rows_of table)
 rows-wide table is = all_map (IsRow table.dims table.measures) (λ row. length row.tuple ≡ table.dims) (rows_of table) (λ row is. is.tuple) (all_recursion (IsRow table.dims table.measures) (rows_of table) is.rows.each)
 
 pub kept-empty : (schema : Layout) → IsKept schema (no_rows (length schema.dims) (length schema.measures) schema.rows) (no_nodes (length schema.dims) schema.nodes)

@@ -1,12 +1,14 @@
 -- The steps of a change, as far as they have come.
-use Rattle.std.specs.Prelude.{ℕ, ◌≡◌, Bool, true, false, List, [], length, map, fold, is_some, nat_lt, slice_index_or, Option, IfSome, Some, None, if◌then◌else◌}
+use Rattle.std.specs.Prelude.{ℕ, ◌≡◌, Bool, true, false, ◌≤◌, List, [], length, map, fold, is_some, nat_lt, slice_index_or, take, Option, IfSome, Some, None, if◌then◌else◌}
 use Rattle.std.specs.List.{All}
+use Rattle.std.specs.Ordering.{nat_cmp}
 use Rattle.cube_defs.specs.Cell.{Cell}
 use Rattle.cube_defs.specs.Rows.{Row}
 use Rattle.cube_defs.specs.Text.{Text, text_cmp}
-use Rattle.cube_defs.specs.Tree.{nodes}
-use Rattle.base_table.specs.Places.{Places, has_id, values_of}
+use Rattle.cube_defs.specs.Tree.{IsCanonical, nodes}
+use Rattle.base_table.specs.Places.{Places, has_id, rows_in, values_of}
 use Rattle.csv_load.specs.Batch.{Change, Delete, Insert, deleted, inserted}
+use Rattle.qc_arena.specs.Map.{Arena}
 use Rattle.value_dict.specs.TextLists.{cut, learnt_in}
 use Rattle.warehouse.specs.Batch as batches
 use Rattle.warehouse.specs.Batch.{Refusal, full_dim, refusal_of, rows_after, texts_after, with_tuple}
@@ -22,6 +24,20 @@ frame table = record table { places = [] }
 -- a table in which no batch is open
 abbrev pub closed : Places → Places
 closed table = record table { was = None }
+
+-- the rows before a place
+abbrev pub rows_before : Places → ℕ → List (Row ℕ)
+rows_before table place = rows_in (take place table.places)
+
+-- the tree is that of the rows before a place
+pub record IsTreeBefore (table : Places) (tree : Arena) (place : ℕ) : Type 0 where
+  pub within : place ≤ length table.places
+  pub canonical : IsCanonical nat_cmp table.measures (rows_before table place) tree.now
+  pub fits : length (nodes nat_cmp (rows_before table place)) ≤ tree.max
+
+-- all places are as they were, and others may stand behind them
+abbrev pub HasFront : Places → Places → Type 0
+HasFront before now = take (length before.places) now.places ≡ before.places
 
 -- the ids of some deletions, and those of some insertions
 pub record AreSeen (gone come : List ℕ) (changes : List (Change Text)) : Type 0 where

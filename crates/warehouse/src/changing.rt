@@ -1,8 +1,9 @@
-// Changes are made to rows and texts, all of them or none, and the tree is made anew.
+// Changes are made to rows and texts, all of them or none, and the tree is made that of the rows after
+// them: in place where rows only come, and else anew.
 ghost use Rattle.std.specs.Prelude.{Err, IfErr, IfOk, IfSome, None, Ok, OnErr, OnOk, Some, [], false, filter, is_some, length, not, option_map, true, ◌+◌, ◌++◌, ◌<◌, ◌∷◌, ◌≡◌, ◌≤◌};
 ghost use Rattle.base_table.specs.Places.{has_id, rows_of};
 ghost use Rattle.cell_core.specs.Gives.{Gives};
-ghost use Rattle.csv_load.specs.Batch.{IsBatch, change_at, deleted, id_of, inserted, is_deletion, row_of};
+ghost use Rattle.csv_load.specs.Batch.{AreInsertions, IsBatch, change_at, deleted, id_of, inserted, is_deletion, row_of};
 ghost use Rattle.cube_defs.specs.Tree.{IsCanonical, nodes};
 ghost use Rattle.qc_arena.specs.Map as arena;
 ghost use Rattle.qc_arena.specs.Map.{is_open};
@@ -11,7 +12,7 @@ ghost use Rattle.value_dict.specs.TextLists.{IsDictionary};
 ghost use Rattle.warehouse.specs.Batch as batches;
 ghost use Rattle.warehouse.specs.Batch.{after, first_number, first_twice, full_dim, is_among, is_missing, refusal_of, result_of, texts_after, with_tuple};
 ghost use Rattle.warehouse.specs.State.{IsIndexed, ids_of};
-ghost use Rattle.warehouse.specs.Steps.{AreLonger, IsCause, IsOver, closed, frame, is_there, last_refusal};
+ghost use Rattle.warehouse.specs.Steps.{AreLonger, HasFront, IsCause, IsOver, IsTreeBefore, closed, frame, is_there, last_refusal};
 ghost use Rattle.warehouse.specs.Stored.{IsKept, IsStored, IsTreeOf, applied_in, decoded_rows, refusal_in, state_of};
 ghost use Rattle.value_dict.specs.Told.{RowsAreCodes};
 
@@ -20,6 +21,7 @@ use crate::indexing::change_index;
 use crate::learning::{learn_tuple, lengths, values_full};
 use crate::one_batch::{go_back, keep, open_batch};
 use crate::refused::{Applied, Refused};
+use crate::repair::repair;
 use base_table::{Table, TableRefused};
 use cell_core::{Cell, Steps};
 use class_builder::build_classes;
@@ -40,6 +42,7 @@ fn delete_rows(table: &mut Table, batch: &RawBatch) -> Result<(), u32>
     ensures none { OnOk result (first_number (is_missing (ids_of (rows_of table.old))) batch.now.changes ≡ None) }
     ensures missing { IfErr result (λ k. first_number (is_missing (ids_of (rows_of table.old))) batch.now.changes ≡ Some k) }
     ensures rows { OnOk result (rows_of table.new ≡ filter (λ row. not (is_among row.id (deleted batch.now.changes))) (rows_of table.old)) }
+    ensures same { AreInsertions batch.now.changes → table.new ≡ table.old }
     ensures frame { frame table.new ≡ frame table.old }
 {
     'changes: for before in 0..batch.len() {
@@ -83,6 +86,7 @@ fn insert_row(
     ensures max { dict.new.max ≡ dict.old.max }
     ensures cell_dims { length cell.new ≡ length cell.old }
     ensures dictionary { IsDictionary dict.new }
+    ensures front { HasFront table.old table.new }
     ensures frame { frame table.new ≡ frame table.old }
 {
     match learn_tuple(dict, cell, batch, k) {
@@ -121,6 +125,7 @@ fn insert_rows(
     ensures longer { AreLonger dict.old.lists dict.new.lists }
     ensures max { dict.new.max ≡ dict.old.max }
     ensures dictionary { IsDictionary dict.new }
+    ensures front { HasFront table.old table.new }
     ensures frame { frame table.new ≡ frame table.old }
 {
     'changes: for before in 0..batch.len() {
@@ -163,6 +168,7 @@ fn add_rows(
     ensures longer { AreLonger dict.old.lists dict.new.lists }
     ensures max { dict.new.max ≡ dict.old.max }
     ensures dictionary { IsDictionary dict.new }
+    ensures front { HasFront table.old table.new }
     ensures frame { frame table.new ≡ frame table.old }
 {
     let dims = schema.dims();
@@ -200,6 +206,7 @@ fn change_rows(
     ensures longer { AreLonger dict.old.lists dict.new.lists }
     ensures max { dict.new.max ≡ dict.old.max }
     ensures dictionary { IsDictionary dict.new }
+    ensures front { AreInsertions batch.now.changes → HasFront table.old table.new }
     ensures frame { frame table.new ≡ frame table.old }
 {
     match delete_rows(table, batch) {
@@ -244,6 +251,40 @@ fn rebuild<L: Ledger>(
     }
 }
 
+// How many places a table has, if there are rows that a batch only adds to.
+fn places_kept(table: &Table, batch: &RawBatch) -> Option<u32>
+    ensures { IfSome result (λ first. (first ≡ length table.now.places) × AreInsertions batch.now.changes) }
+{
+    if table.count() > 0 && batch.insertions() == batch.len() {
+        Some(table.places())
+    } else {
+        None
+    }
+}
+
+// Makes the tree of the table's rows, from that of the rows before a place where the tree is that, or
+// else anew. After a refusal the tree is none in particular.
+fn make_tree<L: Ledger>(
+    table: &Table,
+    tree: &mut QcArena,
+    first: Option<u32>,
+    alloc: Global,
+    steps: &mut Steps<L>,
+) -> Result<(), ArenaRefused>
+    requires opened { is_open tree.old ≡ true }
+    requires width { tree.old.width ≡ table.now.dims }
+    requires tree { IfSome first (λ place. IsTreeBefore table.now tree.old place) }
+    ensures tree { OnOk result (IsCanonical nat_cmp table.now.measures (rows_of table.now) tree.new.now) }
+    ensures fits { OnOk result (length (nodes nat_cmp (rows_of table.now)) ≤ tree.old.max) }
+    ensures full { result ≡ Err ArenaRefused.Full → tree.old.max < length (nodes nat_cmp (rows_of table.now)) }
+    ensures frame { arena.frame tree.new ≡ arena.frame tree.old }
+{
+    match first {
+        Some(first) => repair(table, tree, first, alloc, steps),
+        None => rebuild(table, tree, alloc, steps),
+    }
+}
+
 // Makes the changes in a batch that is open, and the tree of the rows after them. After a refusal some
 // of them are made.
 fn change_and_build<L: Ledger>(
@@ -260,6 +301,8 @@ fn change_and_build<L: Ledger>(
     requires opened { is_open tree.old ≡ true }
     requires width { tree.old.width ≡ length schema.now.dims }
     requires most_nodes { tree.old.max ≡ schema.now.nodes }
+    requires tree { IsCanonical nat_cmp table.old.measures (rows_of table.old) tree.old.now }
+    requires few_nodes { length (nodes nat_cmp (rows_of table.old)) ≤ tree.old.max }
     requires dims { batch.now.dims ≡ length schema.now.dims }
     requires measures { batch.now.measures ≡ length schema.now.measures }
     requires once { first_twice batch.now.changes ≡ None }
@@ -276,8 +319,9 @@ fn change_and_build<L: Ledger>(
     ensures frame { frame table.new ≡ frame table.old }
     ensures tree_frame { arena.frame tree.new ≡ arena.frame tree.old }
 {
+    let first = places_kept(table, batch);
     change_rows(schema, table, dict, batch, alloc)?;
-    match rebuild(table, tree, alloc, steps) {
+    match make_tree(table, tree, first, alloc, steps) {
         Ok(()) => Ok(()),
         Err(ArenaRefused::Full) => Err(Refused::NodesFull),
         Err(ArenaRefused::Memory) => Err(Refused::Memory),

@@ -8,6 +8,7 @@ mod indexing;
 mod learning;
 mod one_batch;
 mod refused;
+mod repair;
 mod store;
 #[cfg(test)]
 mod tests;

@@ -22,6 +22,16 @@ use Rattle.warehouse.proofs.Trees.{kept-back, kept-canonical, some_same}
 use Rattle.warehouse.proofs.Values.{values-after}
 use Rattle.warehouse.proofs.changing.change.Goals as goal
 
+pub change_and_build-requires-clause-tree : goal.change_and_build-requires-clause-tree
+change_and_build-requires-clause-tree g c =
+    rw (c.open_batch-lens.ensures.table, c.open_batch-lens.ensures.tree)
+    (subst (λ (m : ℕ). IsCanonical nat_cmp m (rows_of c.args.table.now) c.args.tree.now.now) (sym c.requires.stored.measures) c.requires.kept.from.canonical)
+
+pub change_and_build-requires-clause-few_nodes : goal.change_and_build-requires-clause-few_nodes
+change_and_build-requires-clause-few_nodes g c =
+    rw (c.open_batch-lens.ensures.table, c.open_batch-lens.ensures.tree)
+    (subst (λ (m : ℕ). length (nodes nat_cmp (rows_of c.args.table.now)) ≤ m) (sym c.requires.kept.max) c.requires.kept.few)
+
 pub returns-in-Ok-clause-stored : goal.returns-in-Ok-clause-stored
 returns-in-Ok-clause-stored g c =
     let dict = c.change_and_index.new.dict in

@@ -6,6 +6,7 @@ use Rattle.warehouse.specs.State.{State}
 use Rattle.warehouse.specs.Stored.{decoded_rows, state_of}
 use Rattle.warehouse.proofs.Causes.{last-full, last-none}
 use Rattle.warehouse.proofs.Counted.{nodes-decoded}
+use Rattle.warehouse.proofs.Repairing.{first-kept}
 use Rattle.warehouse.proofs.changing.change_and_build.Goals as goal
 
 pub returns-in-Ok-clause-none : goal.returns-in-Ok-clause-none
@@ -26,8 +27,13 @@ returns-in-Err-Full-clause-cause g c =
     ∙ last-full s c.args.batch.now.changes (decoded_rows dict.lists table) (length (nodes nat_cmp (rows_of table))) (ap (λ (t : State). t.rows) c.in_ok-change_rows.ensures.made)
     (nodes-decoded dict.lists (rows_of table) c.in_ok-change_rows.ensures.known c.in_ok-change_rows.ensures.dictionary.distinct) (subst (λ (max : ℕ). max < length (nodes nat_cmp (rows_of table))) c.requires.most_nodes (c.in-Err-Full.ensures.full (ap Err c.in-Err-Full.field-0-is)))
 
-pub rebuild-requires-clause-width : goal.rebuild-requires-clause-width
-rebuild-requires-clause-width g c = c.requires.width ∙ sym (ap (λ (t : Places). t.dims) c.change_rows.ensures.frame ∙ c.requires.stored.dims)
+pub make_tree-requires-clause-tree : goal.make_tree-requires-clause-tree
+make_tree-requires-clause-tree g c =
+    first-kept c.args.table.now c.change_rows.new.table c.args.tree.now c.args.batch.now.changes c.places_kept-first.result c.places_kept-first.ensures c.in_ok-change_rows.ensures.front
+    (ap (λ (t : Places). t.measures) c.change_rows.ensures.frame) c.requires.tree c.requires.few_nodes
+
+pub make_tree-requires-clause-width : goal.make_tree-requires-clause-width
+make_tree-requires-clause-width g c = c.requires.width ∙ sym (ap (λ (t : Places). t.dims) c.change_rows.ensures.frame ∙ c.requires.stored.dims)
 
 pub returns-in-Ok-clause-fits : goal.returns-in-Ok-clause-fits
 returns-in-Ok-clause-fits g c = subst (λ (max : ℕ). length (nodes nat_cmp (rows_of c.change_rows.new.table)) ≤ max) c.requires.most_nodes c.in-Ok.ensures.fits

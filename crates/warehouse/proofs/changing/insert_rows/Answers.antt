@@ -9,6 +9,7 @@ use Rattle.warehouse.specs.Steps.{IsOver, frame}
 use Rattle.warehouse.specs.Stored.{decoded_rows}
 use Rattle.warehouse.proofs.Changes.{deletion-keeps, inserted-more, tuple_of}
 use Rattle.warehouse.proofs.Inserting.{new-row, room-row}
+use Rattle.warehouse.proofs.Repairing.{front-front, front-same}
 use Rattle.warehouse.proofs.Texts.{after-more, after-same, longer-after, longer-longer, longer-same, over-longer}
 use Rattle.warehouse.proofs.changing.insert_rows.Goals as goal
 use Rattle.warehouse.proofs.changing.insert_rows.Goals.{then-not-is_delete+in-Ok, else-not-is_delete}
@@ -22,6 +23,7 @@ changes-init c = record {
   dictionary = c.requires.dictionary;
   longer = longer-same c.args.dict.now.lists;
   cell = refl;
+  front = front-same c.args.table.now;
   frame = refl;
 }
 
@@ -58,6 +60,9 @@ returns-in-Err-clause-full c = λ e.
 pub returns-in-Err-clause-longer : goal.returns-in-Err-clause-longer
 returns-in-Err-clause-longer c = longer-longer c.args.dict.now.lists c.changes.dict.lists c.insert_row.new.dict.lists c.changes.invariant.longer c.in-Err.ensures.longer
 
+pub returns-in-Err-clause-front : goal.returns-in-Err-clause-front
+returns-in-Err-clause-front c = front-front c.args.table.now c.changes.table c.insert_row.new.table c.changes.invariant.front c.insert_row.ensures.front
+
 pub changes-preserved : goal.changes-preserved
 changes-preserved c =
     let inv = c.changes.invariant in
@@ -85,6 +90,7 @@ changes-preserved c =
             dictionary = rw w.dict-is w.in-Ok.ensures.dictionary;
             longer = rw w.dict-is (longer-longer lists c.changes.dict.lists w.insert_row.new.dict.lists inv.longer w.in-Ok.ensures.longer);
             cell = rw w.cell-is (w.in-Ok.ensures.cell_dims ∙ inv.cell);
+            front = rw w.table-is (front-front c.args.table.now c.changes.table w.insert_row.new.table inv.front w.insert_row.ensures.front);
             frame = ap frame w.table-is ∙ w.in-Ok.ensures.frame ∙ inv.frame;
           }
       | else-not-is_delete w ↦
@@ -97,6 +103,7 @@ changes-preserved c =
             dictionary = rw w.dict-is inv.dictionary;
             longer = rw w.dict-is inv.longer;
             cell = rw w.cell-is inv.cell;
+            front = rw w.table-is inv.front;
             frame = ap frame w.table-is ∙ inv.frame;
           }
     ]

@@ -3,7 +3,7 @@ use Rattle.base_table.specs.Places.{rows_of}
 use Rattle.csv_load.specs.Batch.{inserted}
 use Rattle.value_dict.specs.TextLists.{IsDictionary}
 use Rattle.warehouse.specs.Batch.{texts_after}
-use Rattle.warehouse.specs.Steps.{AreLonger, frame}
+use Rattle.warehouse.specs.Steps.{AreLonger, HasFront, frame}
 use Rattle.warehouse.specs.Stored.{decoded_rows}
 use Rattle.value_dict.specs.Told.{RowsAreCodes}
 use Rattle.warehouse.proofs.changing.insert_rows.Given as goal
@@ -19,5 +19,6 @@ invariant-changes l =
       dictionary : IsDictionary l.dict;
       longer : AreLonger l.initial.dict.lists l.dict.lists;
       cell : length l.cell ≡ length l.initial.cell;
+      front : HasFront l.initial.table l.table;
       frame : frame l.table ≡ frame l.initial.table;
     }

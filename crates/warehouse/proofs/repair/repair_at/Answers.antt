@@ -1,0 +1,30 @@
+use Rattle.std.proofs.Common.{ap}
+use Rattle.qc_arena.specs.Map.{Arena}
+use Rattle.warehouse.proofs.Repairing.{full-at, none-came, row-came, row-full, row-there, source-before}
+use Rattle.warehouse.proofs.repair.repair_at.Goals as goal
+
+pub returns-in_default-clause-tree : goal.returns-in_default-clause-tree
+returns-in_default-clause-tree g c = none-came c.args.table.now c.args.tree.now c.args.place c.requires.tree c.requires.place (c.at.ensures.none c.in_default.is)
+
+pub insert_row-requires-clause-full : goal.insert_row-requires-clause-full
+insert_row-requires-clause-full g c =
+    full-at c.args.table.now c.args.place c.tuple-tuple.result c.amounts.result.now
+    (row-there c.args.table.now c.args.place c.in-Some.row.0 c.tuple-tuple.result c.amounts.result.now c.in-Some.ensures.some.0 c.in-Some.ensures.some.1 c.tuple-tuple.ensures.value c.amounts.ensures.value)
+
+pub insert_row-requires-clause-tree : goal.insert_row-requires-clause-tree
+insert_row-requires-clause-tree g c =
+    source-before c.args.table.now c.args.tree.now c.args.place c.tuple-tuple.result c.amounts.result.now c.is_valid.ensures c.requires.width c.requires.tree c.requires.place
+    (row-there c.args.table.now c.args.place c.in-Some.row.0 c.tuple-tuple.result c.amounts.result.now c.in-Some.ensures.some.0 c.in-Some.ensures.some.1 c.tuple-tuple.ensures.value c.amounts.ensures.value)
+    c.amounts.ensures.measures
+
+pub returns-in-Ok-clause-tree : goal.returns-in-Ok-clause-tree
+returns-in-Ok-clause-tree g c =
+    row-came c.args.table.now c.args.tree.now c.args.place c.tuple-tuple.result c.amounts.result.now c.is_valid.ensures c.requires.width c.requires.tree c.requires.place
+    (row-there c.args.table.now c.args.place c.in-Some.row.0 c.tuple-tuple.result c.amounts.result.now c.in-Some.ensures.some.0 c.in-Some.ensures.some.1 c.tuple-tuple.ensures.value c.amounts.ensures.value)
+    c.amounts.ensures.measures c.insert_row.new.arena (ap (λ (a : Arena). a.max) c.insert_row.ensures.frame) c.in-Ok.ensures.tree c.in-Ok.ensures.fits
+
+pub returns-in-Err-clause-full : goal.returns-in-Err-clause-full
+returns-in-Err-clause-full g c = λ e.
+    row-full c.args.table.now c.args.tree.now c.args.place c.tuple-tuple.result c.amounts.result.now c.is_valid.ensures c.requires.width c.requires.tree c.requires.place
+    (row-there c.args.table.now c.args.place c.in-Some.row.0 c.tuple-tuple.result c.amounts.result.now c.in-Some.ensures.some.0 c.in-Some.ensures.some.1 c.tuple-tuple.ensures.value c.amounts.ensures.value)
+    c.amounts.ensures.measures (c.in-Err.ensures.full e)

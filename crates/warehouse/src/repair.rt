@@ -1,0 +1,69 @@
+// Rows that came are put into the tree in place, one after another.
+ghost use Rattle.std.specs.Prelude.{Err, OnOk, length, true, ◌+◌, ◌<◌, ◌≡◌, ◌≤◌};
+ghost use Rattle.base_table.specs.Places.{rows_of};
+ghost use Rattle.cube_defs.specs.Tree.{IsCanonical, nodes};
+ghost use Rattle.qc_arena.specs.Map as arena;
+ghost use Rattle.qc_arena.specs.Map.{is_open};
+ghost use Rattle.std.specs.Ordering.{nat_cmp};
+ghost use Rattle.warehouse.specs.Steps.{IsTreeBefore, rows_before};
+
+use base_table::Table;
+use batch_insert::insert_row;
+use cell_core::Steps;
+use qc_arena::{ArenaRefused, QcArena};
+use std::alloc::Global;
+use std::sync::ledger::Ledger;
+
+// Puts the row at a place, if one is there, into the tree of the rows before it.
+fn repair_at<L: Ledger>(
+    table: &Table,
+    tree: &mut QcArena,
+    place: u32,
+    alloc: Global,
+    steps: &mut Steps<L>,
+) -> Result<(), ArenaRefused>
+    requires opened { is_open tree.old ≡ true }
+    requires width { tree.old.width ≡ table.now.dims }
+    requires place { place < length table.now.places }
+    requires tree { IsTreeBefore table.now tree.old place }
+    ensures tree { OnOk result (IsTreeBefore table.now tree.new (place + 1)) }
+    ensures full { result ≡ Err ArenaRefused.Full → tree.old.max < length (nodes nat_cmp (rows_before table.now (place + 1))) }
+    ensures frame { arena.frame tree.new ≡ arena.frame tree.old }
+{
+    table.is_valid();
+    let Some(row) = table.at(place) else {
+        return Ok(());
+    };
+    let tuple = table.tuple(row);
+    match insert_row(alloc, tree, &tuple, table.amounts(row), steps) {
+        Ok(()) => Ok(()),
+        Err(refused) => Err(refused),
+    }
+}
+
+/// Puts the rows behind so many places into the tree of those before. It is refused as full exactly
+/// where the table's rows have more nodes than there may be. After a refusal the tree is none in
+/// particular.
+pub(crate) fn repair<L: Ledger>(
+    table: &Table,
+    tree: &mut QcArena,
+    first: u32,
+    alloc: Global,
+    steps: &mut Steps<L>,
+) -> Result<(), ArenaRefused>
+    requires opened { is_open tree.old ≡ true }
+    requires width { tree.old.width ≡ table.now.dims }
+    requires tree { IsTreeBefore table.now tree.old first }
+    ensures tree { OnOk result (IsCanonical nat_cmp table.now.measures (rows_of table.now) tree.new.now) }
+    ensures fits { OnOk result (length (nodes nat_cmp (rows_of table.now)) ≤ tree.old.max) }
+    ensures full { result ≡ Err ArenaRefused.Full → tree.old.max < length (nodes nat_cmp (rows_of table.now)) }
+    ensures frame { arena.frame tree.new ≡ arena.frame tree.old }
+{
+    'rows: for place in first..table.places() {
+        match repair_at(table, tree, place, alloc, steps) {
+            Ok(()) => {}
+            Err(refused) => return Err(refused),
+        }
+    }
+    Ok(())
+}
