@@ -11,8 +11,9 @@ ghost use Rattle.std.specs.Ordering.{nat_cmp};
 ghost use Rattle.value_dict.specs.TextLists.{IsDictionary};
 ghost use Rattle.warehouse.specs.Batch as batches;
 ghost use Rattle.warehouse.specs.Batch.{after, first_number, first_twice, full_dim, is_among, is_missing, refusal_of, result_of, texts_after, with_tuple};
+ghost use Rattle.warehouse.specs.InPlace.{KeepsApart, KeepsNumbers, cost_of, with_codes};
 ghost use Rattle.warehouse.specs.State.{ids_of};
-ghost use Rattle.warehouse.specs.Steps.{AreLonger, HasFront, IsCause, IsOver, IsTreeBefore, closed, frame, is_there, last_refusal};
+ghost use Rattle.warehouse.specs.Steps.{AreLonger, HasFront, IsCause, IsOver, IsTreeBefore, closed, frame, is_there, last_refusal, rows_before, rows_behind};
 ghost use Rattle.warehouse.specs.Stored.{IsKept, IsStored, applied_in, decoded_rows, refusal_in, state_of};
 ghost use Rattle.value_dict.specs.Told.{RowsAreCodes};
 
@@ -251,7 +252,8 @@ fn rebuild<L: Ledger>(
 
 // How many places a table has, if there are rows that a batch only adds to.
 fn places_kept(table: &Table, batch: &RawBatch) -> Option<u32>
-    ensures { IfSome result (λ first. (first ≡ length table.now.places) × AreInsertions batch.now.changes) }
+    ensures some { IfSome result (λ first. (first ≡ length table.now.places) × AreInsertions batch.now.changes) }
+    ensures none { result ≡ None → AreInsertions batch.now.changes → rows_of table.now ≡ [] }
 {
     if table.count() > 0 && batch.insertions() == batch.len() {
         Some(table.places())
@@ -275,6 +277,9 @@ fn make_tree<L: Ledger>(
     ensures tree { OnOk result (IsCanonical nat_cmp table.now.measures (rows_of table.now) tree.new.now) }
     ensures fits { OnOk result (length (nodes nat_cmp (rows_of table.now)) ≤ tree.old.max) }
     ensures full { result ≡ Err ArenaRefused.Full → tree.old.max < length (nodes nat_cmp (rows_of table.now)) }
+    ensures numbers { IfSome first (λ place. KeepsNumbers tree.old.now tree.new.now) }
+    ensures apart { IfSome first (λ place. KeepsApart (rows_behind table.now place) tree.old.now tree.new.now) }
+    ensures steps { OnOk result (IfSome first (λ place. steps.new ≤ steps.old + cost_of table.now.dims (rows_before table.now place) (rows_behind table.now place))) }
     ensures frame { arena.frame tree.new ≡ arena.frame tree.old }
 {
     match first {
@@ -309,6 +314,9 @@ fn change_and_build<L: Ledger>(
     ensures made { OnOk result (state_of schema.now dict.new table.new ≡ after (state_of schema.now dict.old table.old) batch.now.changes) }
     ensures tree { OnOk result (IsCanonical nat_cmp table.new.measures (rows_of table.new) tree.new.now) }
     ensures fits { OnOk result (length (nodes nat_cmp (rows_of table.new)) ≤ schema.now.nodes) }
+    ensures numbers { OnOk result (AreInsertions batch.now.changes → KeepsNumbers tree.old.now tree.new.now) }
+    ensures apart { OnOk result (AreInsertions batch.now.changes → KeepsApart (with_codes dict.new.lists (inserted batch.now.changes)) tree.old.now tree.new.now) }
+    ensures steps { OnOk result (AreInsertions batch.now.changes → 0 < length (rows_of table.old) → steps.new ≤ steps.old + cost_of (length schema.now.dims) (with_codes dict.new.lists (decoded_rows dict.old.lists table.old)) (with_codes dict.new.lists (inserted batch.now.changes))) }
     ensures known { OnOk result (RowsAreCodes dict.new.lists (rows_of table.new)) }
     ensures cause { IfErr result (λ refused. IsCause refused (state_of schema.now dict.old table.old) batch.now.changes) }
     ensures longer { AreLonger dict.old.lists dict.new.lists }
@@ -344,6 +352,9 @@ pub(crate) fn change<L: Ledger>(
     ensures gives { Gives refusal_in (applied_in (state_of schema.now dict.new table.new)) result (result_of (state_of schema.now dict.old table.old) (Ok batch.now.changes)) }
     ensures state { OnErr result (state_of schema.now dict.new table.new ≡ state_of schema.now dict.old table.old) }
     ensures tree { OnErr result (tree.new.now ≡ tree.old.now) }
+    ensures numbers { OnOk result (AreInsertions batch.now.changes → KeepsNumbers tree.old.now tree.new.now) }
+    ensures apart { OnOk result (AreInsertions batch.now.changes → KeepsApart (with_codes dict.new.lists (inserted batch.now.changes)) tree.old.now tree.new.now) }
+    ensures steps { OnOk result (AreInsertions batch.now.changes → 0 < length (decoded_rows dict.old.lists table.old) → steps.new ≤ steps.old + cost_of (length schema.now.dims) (with_codes dict.new.lists (decoded_rows dict.old.lists table.old)) (with_codes dict.new.lists (inserted batch.now.changes))) }
     ensures stored { IsStored schema.now dict.new table.new }
     ensures kept { IsKept schema.now table.new tree.new }
 {
