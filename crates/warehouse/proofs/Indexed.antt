@@ -78,15 +78,6 @@ begun schema a index opened h = go a.was refl opened h
     go None e bad known = absurd (true≢false (sym bad))
     go (Some before) e there known = record { tree = before.tree; was = was-is a before e; is = known.0; indexed = known.1 }
 
--- of no kinds each index is that of each tree
-pub none-indexed : (schema : Layout) (tree : Tree ℕ) (index : List Ranking) → length schema.indexes ≡ 0 → units index ≡ map (unit-in schema) schema.indexes → IsIndexed schema tree index
-none-indexed schema tree [] none e = record { classes = All-nil _; kinds = e }
-none-indexed schema tree (r ∷ index) none e = absurd (go schema.indexes none e)
-  where
-    go : (kinds : List AggKind) → length kinds ≡ 0 → units (r ∷ index) ≡ map (unit-in schema) kinds → ⊥
-    go [] n f = none-left schema r index f
-    go (kind ∷ kinds) n f = omega (arith, n)
-
 -- the scale of a kind that the index has is that of its measure
 pub unit-named : (schema : Layout) (tree : Tree ℕ) (index : List Ranking) → IsIndexed schema tree index → (kind : AggKind) → IfSome (ranking_of kind index) (λ r. r.scale ≡ scale_in schema kind)
 unit-named schema tree index is kind = go (ranking_of kind index) refl
