@@ -39,7 +39,7 @@ codes-longer (b ∷ before) (n ∷ now) (code ∷ codes) longer are = (
 pub known-longer : (before now : List (List Text)) (rows : List (Row ℕ)) → AreLonger before now → RowsAreCodes before rows → RowsAreCodes now rows
 known-longer before now rows longer are = All-weaker (λ (row : Row ℕ). AreCodes before row.tuple) (λ (row : Row ℕ). AreCodes now row.tuple) (λ row is. codes-longer before now row.tuple longer is) rows are
 
-rows-longer : (before now : List (List Text)) (rows : List (Row ℕ)) → AreLonger before now → RowsAreCodes before rows → map (decoded_row now) rows ≡ map (decoded_row before) rows
+pub rows-longer : (before now : List (List Text)) (rows : List (Row ℕ)) → AreLonger before now → RowsAreCodes before rows → map (decoded_row now) rows ≡ map (decoded_row before) rows
 rows-longer before now [] longer are = refl
 rows-longer before now (row ∷ rows) longer are =
     ap₂ (λ (r : Row Text) (rs : List (Row Text)). r ∷ rs)

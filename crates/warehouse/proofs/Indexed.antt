@@ -1,5 +1,5 @@
 -- The index of the tree's classes.
-use Rattle.std.proofs.Common.{◌≡◌, ℕ, zero, suc, ◌<◌, ◌≤◌, List, [], ◌∷◌, Option, Some, None, length, map, slice_get, refl, sym, ap, subst, true, false, is_some, true≢false, ◌∙◌, arith}
+use Rattle.std.proofs.Common.{◌≡◌, ℕ, zero, suc, ◌<◌, ◌≤◌, List, [], ◌∷◌, Option, Some, None, length, map, slice_get, refl, sym, ap, subst, true, is_some, true≢false, ◌∙◌, arith}
 use Rattle.std.specs.Prelude.{Err, IfOk, IfSome, IsSome, Ok, Result, slice_index_or}
 use Rattle.std.specs.FinMap as numbers
 use Rattle.std.specs.List.{All, AllByRecursion}
@@ -16,7 +16,7 @@ use Rattle.measure_index.specs.Entries.{HaveMeasure}
 use Rattle.measure_index.specs.Index.{empty_ranking, ranking_of, scale_of, units}
 use Rattle.measure_index.specs.Rankings.{IsIndex, Ranking}
 use Rattle.measure_index.proofs.Classes.{index_alike, scale_found}
-use Rattle.qc_arena.specs.Changes.{AreNew, class_in, class_now, class_was}
+use Rattle.qc_arena.specs.Changes.{AreNew, class_in, class_was}
 use Rattle.qc_arena.specs.Codes.{Shape}
 use Rattle.qc_arena.specs.Map.{Arena, is_open}
 use Rattle.qc_schema.specs.Schema.{IsLayout, Layout, Measure}

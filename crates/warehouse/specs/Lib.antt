@@ -1,4 +1,5 @@
 pub mod State
 pub mod Batch
 pub mod Stored
+pub mod InPlace
 pub mod Steps

@@ -1,12 +1,12 @@
 -- The steps of a change, as far as they have come.
-use Rattle.std.specs.Prelude.{ℕ, ◌≡◌, Bool, true, false, ◌≤◌, List, [], length, map, fold, is_some, nat_lt, slice_index_or, take, Option, IfSome, Some, None, if◌then◌else◌}
+use Rattle.std.specs.Prelude.{ℕ, ◌≡◌, Bool, true, false, ◌≤◌, List, [], ◌∷◌, drop, length, map, fold, is_some, nat_lt, slice_index_or, take, Option, IfSome, Some, None, if◌then◌else◌}
 use Rattle.std.specs.List.{All}
 use Rattle.std.specs.Ordering.{nat_cmp}
 use Rattle.cube_defs.specs.Cell.{Cell}
 use Rattle.cube_defs.specs.Rows.{Row}
 use Rattle.cube_defs.specs.Text.{Text, text_cmp}
 use Rattle.cube_defs.specs.Tree.{IsCanonical, nodes}
-use Rattle.base_table.specs.Places.{Places, has_id, rows_in, values_of}
+use Rattle.base_table.specs.Places.{Places, has_id, row_at, rows_in, values_of}
 use Rattle.csv_load.specs.Batch.{Change, Delete, Insert, deleted, inserted}
 use Rattle.qc_arena.specs.Map.{Arena}
 use Rattle.value_dict.specs.TextLists.{cut, learnt_in}
@@ -28,6 +28,17 @@ closed table = record table { was = None }
 -- the rows before a place
 abbrev pub rows_before : Places → ℕ → List (Row ℕ)
 rows_before table place = rows_in (take place table.places)
+
+-- those from a place on, and those between two places
+abbrev pub rows_behind : Places → ℕ → List (Row ℕ)
+rows_behind table place = rows_in (drop place table.places)
+
+abbrev pub rows_between : Places → ℕ → ℕ → List (Row ℕ)
+rows_between table first place = rows_in (drop first (take place table.places))
+
+-- the row at a place, as a list
+abbrev pub rows_at : Places → ℕ → List (Row ℕ)
+rows_at table place = rows_in (row_at table place ∷ [])
 
 -- the tree is that of the rows before a place
 pub record IsTreeBefore (table : Places) (tree : Arena) (place : ℕ) : Type 0 where

@@ -11,8 +11,9 @@ ghost use Rattle.std.specs.Ordering.{nat_cmp};
 ghost use Rattle.value_dict.specs.TextLists.{IsDictionary};
 ghost use Rattle.warehouse.specs.Batch as batches;
 ghost use Rattle.warehouse.specs.Batch.{after, first_number, first_twice, full_dim, is_among, is_missing, refusal_of, result_of, texts_after, with_tuple};
+ghost use Rattle.warehouse.specs.InPlace.{KeepsApart, KeepsNumbers, cost_of, with_codes};
 ghost use Rattle.warehouse.specs.State.{IsIndexed, ids_of};
-ghost use Rattle.warehouse.specs.Steps.{AreLonger, HasFront, IsCause, IsOver, IsTreeBefore, closed, frame, is_there, last_refusal};
+ghost use Rattle.warehouse.specs.Steps.{AreLonger, HasFront, IsCause, IsOver, IsTreeBefore, closed, frame, is_there, last_refusal, rows_before, rows_behind};
 ghost use Rattle.warehouse.specs.Stored.{IsKept, IsStored, IsTreeOf, applied_in, decoded_rows, refusal_in, state_of};
 ghost use Rattle.value_dict.specs.Told.{RowsAreCodes};
 
@@ -253,7 +254,8 @@ fn rebuild<L: Ledger>(
 
 // How many places a table has, if there are rows that a batch only adds to.
 fn places_kept(table: &Table, batch: &RawBatch) -> Option<u32>
-    ensures { IfSome result (λ first. (first ≡ length table.now.places) × AreInsertions batch.now.changes) }
+    ensures some { IfSome result (λ first. (first ≡ length table.now.places) × AreInsertions batch.now.changes) }
+    ensures none { result ≡ None → AreInsertions batch.now.changes → rows_of table.now ≡ [] }
 {
     if table.count() > 0 && batch.insertions() == batch.len() {
         Some(table.places())
@@ -277,6 +279,9 @@ fn make_tree<L: Ledger>(
     ensures tree { OnOk result (IsCanonical nat_cmp table.now.measures (rows_of table.now) tree.new.now) }
     ensures fits { OnOk result (length (nodes nat_cmp (rows_of table.now)) ≤ tree.old.max) }
     ensures full { result ≡ Err ArenaRefused.Full → tree.old.max < length (nodes nat_cmp (rows_of table.now)) }
+    ensures numbers { IfSome first (λ place. KeepsNumbers tree.old.now tree.new.now) }
+    ensures apart { IfSome first (λ place. KeepsApart (rows_behind table.now place) tree.old.now tree.new.now) }
+    ensures steps { OnOk result (IfSome first (λ place. steps.new ≤ steps.old + cost_of table.now.dims (rows_before table.now place) (rows_behind table.now place))) }
     ensures frame { arena.frame tree.new ≡ arena.frame tree.old }
 {
     match first {
@@ -311,6 +316,9 @@ fn change_and_build<L: Ledger>(
     ensures made { OnOk result (state_of schema.now dict.new table.new ≡ after (state_of schema.now dict.old table.old) batch.now.changes) }
     ensures tree { OnOk result (IsCanonical nat_cmp table.new.measures (rows_of table.new) tree.new.now) }
     ensures fits { OnOk result (length (nodes nat_cmp (rows_of table.new)) ≤ schema.now.nodes) }
+    ensures numbers { OnOk result (AreInsertions batch.now.changes → KeepsNumbers tree.old.now tree.new.now) }
+    ensures apart { OnOk result (AreInsertions batch.now.changes → KeepsApart (with_codes dict.new.lists (inserted batch.now.changes)) tree.old.now tree.new.now) }
+    ensures steps { OnOk result (AreInsertions batch.now.changes → 0 < length (rows_of table.old) → steps.new ≤ steps.old + cost_of (length schema.now.dims) (with_codes dict.new.lists (decoded_rows dict.old.lists table.old)) (with_codes dict.new.lists (inserted batch.now.changes))) }
     ensures known { OnOk result (RowsAreCodes dict.new.lists (rows_of table.new)) }
     ensures cause { IfErr result (λ refused. IsCause refused (state_of schema.now dict.old table.old) batch.now.changes) }
     ensures longer { AreLonger dict.old.lists dict.new.lists }
@@ -345,6 +353,8 @@ fn change_and_index<L: Ledger>(
     requires opened { is_open tree.old ≡ true }
     requires width { tree.old.width ≡ length schema.now.dims }
     requires most_nodes { tree.old.max ≡ schema.now.nodes }
+    requires tree { IsCanonical nat_cmp table.old.measures (rows_of table.old) tree.old.now }
+    requires few_nodes { length (nodes nat_cmp (rows_of table.old)) ≤ tree.old.max }
     requires dims { batch.now.dims ≡ length schema.now.dims }
     requires measures { batch.now.measures ≡ length schema.now.measures }
     requires once { first_twice batch.now.changes ≡ None }
@@ -361,6 +371,9 @@ fn change_and_index<L: Ledger>(
     ensures dictionary { IsDictionary dict.new }
     ensures frame { frame table.new ≡ frame table.old }
     ensures tree_frame { arena.frame tree.new ≡ arena.frame tree.old }
+    ensures numbers { OnOk result (AreInsertions batch.now.changes → KeepsNumbers tree.old.now tree.new.now) }
+    ensures apart { OnOk result (AreInsertions batch.now.changes → KeepsApart (with_codes dict.new.lists (inserted batch.now.changes)) tree.old.now tree.new.now) }
+    ensures steps { OnOk result (AreInsertions batch.now.changes → 0 < length (rows_of table.old) → steps.new ≤ steps.old + cost_of (length schema.now.dims) (with_codes dict.new.lists (decoded_rows dict.old.lists table.old)) (with_codes dict.new.lists (inserted batch.now.changes))) }
     ensures indexed { OnOk result (IsIndexed schema.now tree.new.now index.new) }
     ensures same_index { OnErr result (index.new ≡ index.old) }
 {
@@ -393,6 +406,9 @@ pub(crate) fn change<L: Ledger>(
     ensures state { OnErr result (state_of schema.now dict.new table.new ≡ state_of schema.now dict.old table.old) }
     ensures tree { OnErr result (tree.new.now ≡ tree.old.now) }
     ensures index { OnErr result (index.new ≡ index.old) }
+    ensures numbers { OnOk result (AreInsertions batch.now.changes → KeepsNumbers tree.old.now tree.new.now) }
+    ensures apart { OnOk result (AreInsertions batch.now.changes → KeepsApart (with_codes dict.new.lists (inserted batch.now.changes)) tree.old.now tree.new.now) }
+    ensures steps { OnOk result (AreInsertions batch.now.changes → 0 < length (decoded_rows dict.old.lists table.old) → steps.new ≤ steps.old + cost_of (length schema.now.dims) (with_codes dict.new.lists (decoded_rows dict.old.lists table.old)) (with_codes dict.new.lists (inserted batch.now.changes))) }
     ensures stored { IsStored schema.now dict.new table.new }
     ensures kept { IsKept schema.now table.new tree.new }
     ensures indexed { IsIndexed schema.now tree.new.now index.new }

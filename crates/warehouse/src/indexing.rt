@@ -1,6 +1,6 @@
 // The index of the tree's classes: it is made for a schema, and changed with a batch.
 ghost use Rattle.std.specs.FinMap as finmap;
-ghost use Rattle.std.specs.Prelude.{IfOk, IfSome, OnErr, OnOk, length, map, take, true, ◌<◌, ◌≡◌, ◌≤◌};
+ghost use Rattle.std.specs.Prelude.{IfOk, IfSome, OnErr, OnOk, length, map, take, true, ◌≡◌};
 ghost use Rattle.qc_arena.specs.Map.{is_open};
 ghost use Rattle.qc_schema.specs.Schema.{IsLayout};
 ghost use Rattle.warehouse.specs.State.{IsIndexed};

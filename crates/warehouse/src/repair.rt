@@ -5,7 +5,8 @@ ghost use Rattle.cube_defs.specs.Tree.{IsCanonical, nodes};
 ghost use Rattle.qc_arena.specs.Map as arena;
 ghost use Rattle.qc_arena.specs.Map.{is_open};
 ghost use Rattle.std.specs.Ordering.{nat_cmp};
-ghost use Rattle.warehouse.specs.Steps.{IsTreeBefore, rows_before};
+ghost use Rattle.warehouse.specs.InPlace.{KeepsApart, KeepsNumbers, cost_of};
+ghost use Rattle.warehouse.specs.Steps.{IsTreeBefore, rows_at, rows_before, rows_behind};
 
 use base_table::Table;
 use batch_insert::insert_row;
@@ -28,6 +29,9 @@ fn repair_at<L: Ledger>(
     requires tree { IsTreeBefore table.now tree.old place }
     ensures tree { OnOk result (IsTreeBefore table.now tree.new (place + 1)) }
     ensures full { result ≡ Err ArenaRefused.Full → tree.old.max < length (nodes nat_cmp (rows_before table.now (place + 1))) }
+    ensures numbers { KeepsNumbers tree.old.now tree.new.now }
+    ensures apart { KeepsApart (rows_at table.now place) tree.old.now tree.new.now }
+    ensures steps { OnOk result (steps.new ≤ steps.old + cost_of table.now.dims (rows_before table.now place) (rows_at table.now place)) }
     ensures frame { arena.frame tree.new ≡ arena.frame tree.old }
 {
     table.is_valid();
@@ -57,6 +61,9 @@ pub(crate) fn repair<L: Ledger>(
     ensures tree { OnOk result (IsCanonical nat_cmp table.now.measures (rows_of table.now) tree.new.now) }
     ensures fits { OnOk result (length (nodes nat_cmp (rows_of table.now)) ≤ tree.old.max) }
     ensures full { result ≡ Err ArenaRefused.Full → tree.old.max < length (nodes nat_cmp (rows_of table.now)) }
+    ensures numbers { KeepsNumbers tree.old.now tree.new.now }
+    ensures apart { KeepsApart (rows_behind table.now first) tree.old.now tree.new.now }
+    ensures steps { OnOk result (steps.new ≤ steps.old + cost_of table.now.dims (rows_before table.now first) (rows_behind table.now first)) }
     ensures frame { arena.frame tree.new ≡ arena.frame tree.old }
 {
     'rows: for place in first..table.places() {

@@ -1,7 +1,9 @@
-use Rattle.std.proofs.Common.{◌≡◌, ◌≤◌, ◌∙◌, ℕ, List, None, Option, Some, ap, length, map, refl, subst, sym, take}
+use Rattle.std.proofs.Common.{◌≡◌, ◌≤◌, ◌<◌, arith, ◌+◌, ◌∙◌, ℕ, List, None, Option, Some, ap, length, map, refl, subst, sym, take}
 use Rattle.std.specs.Ordering.{nat_cmp}
 use Rattle.cube_defs.specs.Rows.{Row}
-use Rattle.cube_defs.specs.Text.{text_cmp}
+use Rattle.cube_defs.specs.Text.{Text, text_cmp}
+use Rattle.csv_load.specs.Batch.{inserted}
+use Rattle.warehouse.specs.InPlace.{KeepsApart, KeepsNumbers, cost_of, with_codes}
 use Rattle.cube_defs.specs.Tree.{IsCanonical, Tree, classes, nodes}
 use Rattle.base_table.specs.Places.{Places, rows_of}
 use Rattle.measure_index.specs.Rankings.{Ranking}
@@ -16,19 +18,20 @@ use Rattle.warehouse.specs.Steps.{IsCause, closed, frame}
 use Rattle.warehouse.specs.Stored.{IsKept, IsStored, IsTreeOf, refusal_in, state_of}
 use Rattle.warehouse.proofs.Causes.{refused-so}
 use Rattle.warehouse.proofs.Counted.{classes-kept}
+use Rattle.warehouse.proofs.Decoding.{length-rows}
 use Rattle.warehouse.proofs.Growing.{cut-back}
 use Rattle.warehouse.proofs.States.{stored-next}
 use Rattle.warehouse.proofs.Trees.{kept-back, kept-canonical, some_same}
 use Rattle.warehouse.proofs.Values.{values-after}
 use Rattle.warehouse.proofs.changing.change.Goals as goal
 
-pub change_and_build-requires-clause-tree : goal.change_and_build-requires-clause-tree
-change_and_build-requires-clause-tree g c =
+pub change_and_index-requires-clause-tree : goal.change_and_index-requires-clause-tree
+change_and_index-requires-clause-tree g c =
     rw (c.open_batch-lens.ensures.table, c.open_batch-lens.ensures.tree)
     (subst (λ (m : ℕ). IsCanonical nat_cmp m (rows_of c.args.table.now) c.args.tree.now.now) (sym c.requires.stored.measures) c.requires.kept.from.canonical)
 
-pub change_and_build-requires-clause-few_nodes : goal.change_and_build-requires-clause-few_nodes
-change_and_build-requires-clause-few_nodes g c =
+pub change_and_index-requires-clause-few_nodes : goal.change_and_index-requires-clause-few_nodes
+change_and_index-requires-clause-few_nodes g c =
     rw (c.open_batch-lens.ensures.table, c.open_batch-lens.ensures.tree)
     (subst (λ (m : ℕ). length (nodes nat_cmp (rows_of c.args.table.now)) ≤ m) (sym c.requires.kept.max) c.requires.kept.few)
 
@@ -111,3 +114,25 @@ returns-in-Err-clause-indexed g c =
     let back : Some (shape_of c.go_back.new.tree) ≡ Some (shape_of c.args.tree.now) = c.go_back.ensures.tree ∙ ap (λ (a : Arena). a.was) c.change_and_index.ensures.tree_frame ∙ ap (λ (a : Arena). a.was) c.open_batch-lens.ensures.tree in
     subst (λ (index : List Ranking). IsIndexed c.args.schema.now c.go_back.new.tree.now index) (sym c.in-Err.ensures.same_index)
     (subst (λ (t : Tree ℕ). IsIndexed c.args.schema.now t c.args.index.now) (sym (ap (λ (s : Shape). s.tree) (some_same back))) c.requires.indexed)
+
+pub returns-in-Ok-clause-numbers : goal.returns-in-Ok-clause-numbers
+returns-in-Ok-clause-numbers g c = λ all.
+    let was : c.open_batch-lens.new.tree.now ≡ c.args.tree.now.now = ap (λ (a : Arena). a.now) c.open_batch-lens.ensures.tree in
+    let is : c.keep.new.tree.now ≡ c.change_and_index.new.tree.now = ap (λ (a : Arena). a.now) c.keep.ensures.tree in
+    subst (λ (b : Tree ℕ). KeepsNumbers b c.keep.new.tree.now) was (subst (λ (d : Tree ℕ). KeepsNumbers c.open_batch-lens.new.tree.now d) (sym is) (c.in-Ok.ensures.numbers all))
+
+pub returns-in-Ok-clause-apart : goal.returns-in-Ok-clause-apart
+returns-in-Ok-clause-apart g c = λ all.
+    let came = with_codes c.change_and_index.new.dict.lists (inserted c.args.batch.now.changes) in
+    let was : c.open_batch-lens.new.tree.now ≡ c.args.tree.now.now = ap (λ (a : Arena). a.now) c.open_batch-lens.ensures.tree in
+    let is : c.keep.new.tree.now ≡ c.change_and_index.new.tree.now = ap (λ (a : Arena). a.now) c.keep.ensures.tree in
+    subst (λ (b : Tree ℕ). KeepsApart came b c.keep.new.tree.now) was (subst (λ (d : Tree ℕ). KeepsApart came c.open_batch-lens.new.tree.now d) (sym is) (c.in-Ok.ensures.apart all))
+
+pub returns-in-Ok-clause-steps : goal.returns-in-Ok-clause-steps
+returns-in-Ok-clause-steps g c = λ all rows.
+    let lists = c.change_and_index.new.dict.lists in
+    subst (λ (rs : List (Row Text)). c.change_and_index.new.steps ≤ c.args.steps.now + cost_of (length c.args.schema.now.dims) (with_codes lists rs) (with_codes lists (inserted c.args.batch.now.changes)))
+    (ap (λ (s : State). s.rows) c.open_batch-lens.ensures.state)
+    (c.in-Ok.ensures.steps all
+    (let some : 0 < length (rows_of c.args.table.now) = omega (arith, rows, length-rows c.args.dict.now.lists (rows_of c.args.table.now)) in
+    subst (λ (rs : List (Row ℕ)). 0 < length rs) (sym (ap (λ (t : Places). rows_of t) c.open_batch-lens.ensures.table)) some))

@@ -11,11 +11,10 @@ use Rattle.warehouse.proofs.changing.change_and_index.Goals as goal
 pub change_index-requires-clause-now : goal.change_index-requires-clause-now
 change_index-requires-clause-now g c =
     let table = c.change_and_build.new.table in
-    let frame = c.change_and_build.ensures.frame in
-    (
+    let frame = c.change_and_build.ensures.frame in (
       rows_of table,
       tree-from c.args.schema.now table c.change_and_build.new.tree.now c.is_valid.ensures (ap (λ (t : Places). t.dims) frame ∙ c.requires.stored.dims)
-      (ap (λ (t : Places). t.measures) frame ∙ c.requires.stored.measures) c.in_ok-change_and_build.ensures.tree,
+          (ap (λ (t : Places). t.measures) frame ∙ c.requires.stored.measures) c.in_ok-change_and_build.ensures.tree,
     )
 
 pub change_index-requires-clause-before : goal.change_index-requires-clause-before
