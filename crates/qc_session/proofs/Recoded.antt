@@ -1,5 +1,5 @@
 -- The state's rows and a box of the state's texts, by codes and by texts.
-use Rattle.std.proofs.Common.{◌≡◌, ◌∙◌, ℕ, List, length, sym, ap, ap₂, subst}
+use Rattle.std.proofs.Common.{◌≡◌, ◌∙◌, ℕ, List, sym, ap, ap₂, subst}
 use Rattle.cube_defs.specs.Text.{Text, text_cmp}
 use Rattle.cube_defs.specs.Answers.{Box, range}
 use Rattle.cube_laws.specs.Recoding.{RowsAreKnown, known_box}

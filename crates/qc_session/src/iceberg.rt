@@ -1,5 +1,5 @@
 // The answer to an iceberg query.
-ghost use Rattle.std.specs.Prelude.{All, IfOk, [], length, ◌≡◌, ◌≤◌};
+ghost use Rattle.std.specs.Prelude.{All, IfOk, length, ◌≡◌, ◌≤◌};
 ghost use Rattle.aggregates.specs.Views.{fraction_in, kind_in};
 ghost use Rattle.iceberg_query.specs.Asked.{bound_in};
 ghost use Rattle.iceberg_query.specs.Hits.{told_classes};
@@ -13,7 +13,6 @@ ghost use Rattle.qc_session.specs.Answers.{classes_of, passing, scale_of};
 use aggregates::{AggKind, Fraction};
 use cell_core::{Memory, Steps};
 use iceberg_query::{Ask, Bound, Class, iceberg};
-use measure_index::Index;
 use qc_schema::Schema;
 use reply_text::{Reply, iceberg_reply};
 use std::alloc::Global;
@@ -33,13 +32,6 @@ fn scale_of_kind(schema: &Schema, kind: AggKind) -> u8
             schema.scale(m)
         }
     }
-}
-
-// The index that icebergs are answered from. No index is kept of the tree yet, so each of them walks over it.
-fn index_of(alloc: Global) -> Result<Index, Memory>
-    ensures { IfOk result (λ index. index ≡ []) }
-{
-    Index::new(alloc, &[], &[])
 }
 
 // The classes that pass.
@@ -63,18 +55,18 @@ fn classes_asked<L: Ledger>(
         bound,
         value,
     };
-    let index = index_of(alloc)?;
     iceberg(
         alloc,
         warehouse.tree(),
-        &index,
+        warehouse.index(),
         warehouse.dict(),
         &ask,
         steps,
     )
 }
 
-/// Tells the classes whose value, in the unit of the measure, is at least or at most what is asked.
+/// Tells the classes whose value, in the unit of the measure, is at least or at most what is asked. Where
+/// the schema has an index of the kind, it reads no more of the tree than these classes.
 pub fn answer_iceberg<L: Ledger>(
     alloc: Global,
     warehouse: &Warehouse,

@@ -1,4 +1,5 @@
-use Rattle.std.proofs.Common.{◌∙◌, ℕ, ap, ap₂, sym, subst, arith, length}
+use Rattle.std.proofs.Common.{◌≡◌, ◌∙◌, ℕ, ap, ap₂, sym, subst, length}
+use Rattle.std.specs.Prelude.{IfSome}
 use Rattle.std.specs.List.{All}
 use Rattle.std.proofs.lemmas.Result.{IfOk-weaker}
 use Rattle.aggregates.specs.Views.{fraction_in, kind_in}
@@ -7,12 +8,12 @@ use Rattle.cube_defs.specs.Text.{text_cmp}
 use Rattle.iceberg_query.specs.Asked.{bound_in}
 use Rattle.iceberg_query.specs.Hits.{told_classes}
 use Rattle.lower_bounds.specs.Classes.{hit_in}
-use Rattle.measure_index.specs.Rankings.{IsIndex}
+use Rattle.measure_index.specs.Index.{ranking_of}
 use Rattle.qc_schema.specs.Schema.{Layout}
 use Rattle.value_dict.specs.Told.{IsTold}
 use Rattle.warehouse.specs.State.{source_of}
 use Rattle.qc_session.specs.Answers.{scale_of}
-use Rattle.qc_session.proofs.Measured.{measure-there}
+use Rattle.qc_session.proofs.Measured.{measure-there, scale-is}
 use Rattle.qc_session.proofs.Recoded.{rows-known, rows-told}
 use Rattle.qc_session.proofs.iceberg.classes_asked.Goals as goal
 
@@ -26,7 +27,13 @@ pub iceberg-requires-clause-tree : goal.iceberg-requires-clause-tree
 iceberg-requires-clause-tree g c = (source_of c.args.warehouse.now.state, rw (c.tree.ensures.width, c.tree.ensures.value) c.tree.ensures.valid.tree)
 
 pub iceberg-requires-clause-index : goal.iceberg-requires-clause-index
-iceberg-requires-clause-index g c = subst (IsIndex _) (sym c.in_ok-index.ensures) (λ k d l. absurd (omega arith))
+iceberg-requires-clause-index g c = rw c.tree.ensures.value c.index.ensures.index
+
+pub iceberg-requires-clause-unit : goal.iceberg-requires-clause-unit
+iceberg-requires-clause-unit g c =
+    let kind = c.args.kind in
+    let scale = scale-is c.args.warehouse.now.state.schema kind ∙ sym (c.scale_of_kind.ensures.value ∙ ap (λ (l : Layout). scale_of l.measures (kind_in kind)) c.schema.ensures.value) in
+    subst (λ (n : ℕ). IfSome (ranking_of kind c.index.result.now) (λ r. r.scale ≡ n)) scale (c.index.ensures.unit kind)
 
 pub iceberg-requires-clause-dims : goal.iceberg-requires-clause-dims
 iceberg-requires-clause-dims g c = ap length c.dict.ensures.texts ∙ c.dict.ensures.valid.state.lists ∙ sym c.tree.ensures.width

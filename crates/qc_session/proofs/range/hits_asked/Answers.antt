@@ -1,4 +1,4 @@
-use Rattle.std.proofs.Common.{◌∙◌, ap, sym, subst, arith, ◌<◌, length}
+use Rattle.std.proofs.Common.{◌∙◌, ap, sym, subst, arith, length}
 use Rattle.std.specs.List.{All}
 use Rattle.std.proofs.lemmas.Result.{IfOk-weaker}
 use Rattle.range_query.specs.Told.{IsTold, hit_in, told_hits}
