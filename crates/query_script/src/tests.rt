@@ -2,14 +2,27 @@
 ghost use Rattle.std.specs.Prelude.{◌≤◌, length};
 
 use crate::{Command, LineRefused, read_line};
-use cell_core::{Field, Fields};
+use aggregates::AggKind;
+use cell_core::{Field, Fields, Texts};
+use iceberg_query::Bound;
 use qc_schema::{Schema, read_schema};
 use std::alloc::{AllocError, Global};
 use std::test::Fail;
 
 const SHOP: &[u8] = b"qcube 1\nid order\ndim store\ndim product\ndim season\n";
 
-// What a field asks: `*`, or `is`, a space and the value.
+const SALES: &[u8] = b"qcube 1\nid order\ndim store\nmeasure price 0\n";
+
+// The values, with `|` behind each.
+fn list_values(values: &Texts, list: &mut String) -> Result<(), AllocError> {
+    for k in 0..values.len() {
+        list.push_str(values.get(k).as_str())?;
+        list.push_str("|")?;
+    }
+    Ok(())
+}
+
+// What a field asks: `*`, `each`, `is`, `among` or `from` and the values.
 fn list_field(field: &Field, list: &mut String) -> Result<(), AllocError> {
     match field {
         Field::Any => list.push_str("*"),
@@ -17,7 +30,17 @@ fn list_field(field: &Field, list: &mut String) -> Result<(), AllocError> {
             list.push_str("is ")?;
             list.push_str(text.as_str())
         }
-        Field::All | Field::Among(_) | Field::Between(_, _) => list.push_str("several"),
+        Field::All => list.push_str("each"),
+        Field::Among(values) => {
+            list.push_str("among ")?;
+            list_values(values, list)
+        }
+        Field::Between(low, high) => {
+            list.push_str("from ")?;
+            list.push_str(low.as_str())?;
+            list.push_str(" to ")?;
+            list.push_str(high.as_str())
+        }
     }
 }
 
@@ -50,6 +73,11 @@ fn list_command(alloc: Global, command: &Command) -> Result<String, AllocError> 
             list.push_str("bounds:")?;
             list_fields(fields, &mut list)?;
         }
+        Command::Range(fields) => {
+            list.push_str("range:")?;
+            list_fields(fields, &mut list)?;
+        }
+        Command::Iceberg(_, _, _) => list.push_str("iceberg")?,
         Command::Stats => list.push_str("stats")?,
     }
     Ok(list)
@@ -207,6 +235,106 @@ fn bounds(rt: HostRuntime) -> Result<(), Fail> {
     for (case, (line, want)) in cases.into_iter().enumerate() {
         assert!(rt; line.len() < 10_000);
         assert!(rt; reads_as(rt.alloc(), &schema, line, want)?, "bounds {case}");
+    }
+    Ok(())
+}
+
+#[test]
+fn ranges(rt: HostRuntime) -> Result<(), Fail> {
+    let schema = read_schema(rt.alloc(), SHOP).map_err(|_| "schema")?;
+    let cases = [
+        (b"range *,?,s".as_slice(), Ok("range:*;each;is s;")),
+        (
+            b"range |a,|a|b|a,|",
+            Ok("range:among a|;among a|b|a|;among |;"),
+        ),
+        (
+            b"range ~a~b,~~,~a~",
+            Ok("range:from a to b;from  to ;from a to ;"),
+        ),
+        (b"range =?,=|a,=~a~b", Ok("range:is ?;is |a;is ~a~b;")),
+        (b"range \"|a,b|c\",??,*", Ok("range:among a,b|c|;is ??;*;")),
+        (b"range ~a,*,*", Err(LineRefused::Field(1))),
+        (b"range *,~,*", Err(LineRefused::Field(2))),
+        (b"range *,*,~a~b~c", Err(LineRefused::Field(3))),
+        (b"range *,*", Err(LineRefused::Field(3))),
+        (b"range *,*,*,*", Err(LineRefused::Field(4))),
+        (b"range", Err(LineRefused::Field(1))),
+        (b"range \xef\xbb\xbf*,*,*", Err(LineRefused::Field(1))),
+        (b"iceberg count >= 2", Ok("iceberg")),
+        (b"iceberg", Err(LineRefused::Field(1))),
+        (b"iceberg median price >= 1", Err(LineRefused::Field(1))),
+        (b"iceberg sum price >= 1", Err(LineRefused::Field(2))),
+        (b"iceberg count > 2", Err(LineRefused::Field(2))),
+        (b"iceberg count >=", Err(LineRefused::Field(3))),
+        (b"iceberg count >= 2 3", Err(LineRefused::Field(4))),
+        (b"iceberg count >= two", Err(LineRefused::Number)),
+    ];
+    for (case, (line, want)) in cases.into_iter().enumerate() {
+        assert!(rt; line.len() < 10_000);
+        assert!(rt; reads_as(rt.alloc(), &schema, line, want)?, "range {case}");
+    }
+    Ok(())
+}
+
+// Whether the line asks for these classes.
+fn bounds_by(
+    alloc: Global,
+    schema: &Schema,
+    line: &[u8],
+    kind: AggKind,
+    bound: Bound,
+    value: (i128, u64),
+) -> bool
+    requires { length line.now ≤ 10000 }
+{
+    match read_line(alloc, schema, line) {
+        Ok(Command::Iceberg(k, b, v)) => k == kind && b == bound && (v.num, v.den) == value,
+        _ => false,
+    }
+}
+
+#[test]
+fn icebergs(rt: HostRuntime) -> Result<(), Fail> {
+    let schema = read_schema(rt.alloc(), SALES).map_err(|_| "schema")?;
+    let cases = [
+        (
+            b"iceberg count >= 2".as_slice(),
+            AggKind::Count,
+            Bound::AtLeast,
+            (2, 1),
+        ),
+        (
+            b"iceberg  sum price  <= -3 ",
+            AggKind::Sum(0),
+            Bound::AtMost,
+            (-3, 1),
+        ),
+        (
+            b"iceberg least price >= 0",
+            AggKind::Least(0),
+            Bound::AtLeast,
+            (0, 1),
+        ),
+        (
+            b"iceberg greatest price <= 7",
+            AggKind::Greatest(0),
+            Bound::AtMost,
+            (7, 1),
+        ),
+        (
+            b"iceberg mean price >= 15/2",
+            AggKind::Mean(0),
+            Bound::AtLeast,
+            (15, 2),
+        ),
+    ];
+    for (case, (line, kind, bound, value)) in cases.into_iter().enumerate() {
+        assert!(rt; line.len() < 10_000);
+        assert!(rt;
+            bounds_by(rt.alloc(), &schema, line, kind, bound, value),
+            "iceberg {case}"
+        );
     }
     Ok(())
 }
