@@ -1,0 +1,293 @@
+ghost use Rattle.std.specs.Prelude.{length, ◌<◌, ◌≡◌, ◌≤◌};
+
+use crate::{Applied, Refused, Warehouse};
+use cell_core::{Cell, Steps};
+use qc_schema::read_schema;
+use std::alloc::Global;
+use std::marker::Brand;
+use std::sync::ledger::{Blank, Ledger};
+use std::test::Fail;
+use tree_search::total_at;
+
+// At most three rows, and two texts in each dimension.
+const SCHEMA: &[u8] = b"qcube 1\nid id\ndim city\ndim item\nmeasure sale 0\nrows 3\nvalues 2\n";
+
+// The rows 1 and 2. City has the text Bonn alone, item has ink and pen.
+const BASE: &[u8] = b"id,city,item,sale\n1,Bonn,ink,5\n2,Bonn,pen,7\n";
+
+// A warehouse that has taken a base file.
+pub(crate) fn opened(alloc: Global, schema: &[u8], base: &[u8]) -> Result<Warehouse, Fail> {
+    if schema.len() > 1000 {
+        return Err(Fail::new("long schema"));
+    }
+    let Ok(schema) = read_schema(alloc, schema) else {
+        return Err(Fail::new("no schema"));
+    };
+    let mut shop = Warehouse::new(alloc, schema)?;
+    match load(&mut shop, base) {
+        Ok(_) => Ok(shop),
+        Err(_) => Err(Fail::new("no rows")),
+    }
+}
+
+fn shop(alloc: Global) -> Result<Warehouse, Fail> {
+    opened(alloc, SCHEMA, BASE)
+}
+
+// How many rows there are, and what their amounts come to.
+fn total_on<L: Ledger>(alloc: Global, shop: &Warehouse, blank: Blank) -> (u32, i64)
+    requires name { blank.name ≡ L.name }
+    requires parts { blank.parts ≡ L.parts }
+    requires some { 0 < L.parts }
+{
+    let mut steps = Steps::<L>::start(blank);
+    let all = Cell::any(alloc, shop.schema().dims());
+    match total_at(shop.tree(), &all, &mut steps) {
+        Some(sum) => {
+            let part = sum.parts[0];
+            (sum.count, part.sum)
+        }
+        None => (0, 0),
+    }
+}
+
+// The same, where no steps are counted.
+fn total(alloc: Global, shop: &Warehouse) -> (u32, i64) {
+    total_on::<Brand>(alloc, shop, Blank::new(1))
+}
+
+pub(crate) fn code(shop: &Warehouse, dim: u8, text: &str) -> Option<u32> {
+    if dim < shop.schema().dims() {
+        shop.dict().code(dim, text)
+    } else {
+        None
+    }
+}
+
+// What a base file or a batch answers, if it is short.
+fn answer<L: Ledger>(
+    shop: &mut Warehouse,
+    is_base: bool,
+    file: &[u8],
+    blank: Blank,
+) -> Result<Applied, Refused>
+    requires name { blank.name ≡ L.name }
+    requires parts { blank.parts ≡ L.parts }
+    requires some { 0 < L.parts }
+{
+    if file.len() > 1000 {
+        return Err(Refused::Memory);
+    }
+    let mut steps = Steps::<L>::start(blank);
+    if is_base {
+        shop.load(file, &mut steps)
+    } else {
+        shop.apply(file, &mut steps)
+    }
+}
+
+// The same, where no steps are counted.
+fn answer_of(shop: &mut Warehouse, is_base: bool, file: &[u8]) -> Result<Applied, Refused> {
+    answer::<Brand>(shop, is_base, file, Blank::new(1))
+}
+
+pub(crate) fn load(shop: &mut Warehouse, file: &[u8]) -> Result<Applied, Refused> {
+    answer_of(shop, true, file)
+}
+
+// How many records a batch has, where it is taken.
+pub(crate) fn apply(shop: &mut Warehouse, file: &[u8]) -> Result<u32, Refused> {
+    match answer_of(shop, false, file) {
+        Ok(applied) => Ok(applied.records),
+        Err(refused) => Err(refused),
+    }
+}
+
+// How many records a batch has that is taken, and what the rows come to then.
+fn taken(alloc: Global, file: &[u8]) -> Result<Option<(u32, (u32, i64))>, Fail> {
+    let mut shop = shop(alloc)?;
+    match apply(&mut shop, file) {
+        Ok(records) => Ok(Some((records, total(alloc, &shop)))),
+        Err(_) => Ok(None),
+    }
+}
+
+// Whether the rows come to what those of the base file do, and there are only its texts.
+fn is_unchanged(alloc: Global, shop: &Warehouse) -> bool {
+    total(alloc, shop) == (2, 12)
+        && code(shop, 0, "Ulm").is_none()
+        && code(shop, 1, "cup").is_none()
+}
+
+// Why a batch is refused, where nothing changes.
+fn refusal(alloc: Global, file: &[u8]) -> Result<Option<Refused>, Fail> {
+    let mut shop = shop(alloc)?;
+    let answer = apply(&mut shop, file);
+    if is_unchanged(alloc, &shop) {
+        Ok(answer.err())
+    } else {
+        Ok(None)
+    }
+}
+
+#[test]
+fn batches_that_are_taken(rt: HostRuntime) -> Result<(), Fail> {
+    let cases: [(&[u8], u32, (u32, i64)); 7] = [
+        // Nothing.
+        (b"op,id,city,item,sale\n", 0, (2, 12)),
+        // A deletion and an insertion of one id, in either order.
+        (
+            b"op,id,city,item,sale\n-,1,,,\n+,1,Bonn,ink,6\n",
+            2,
+            (2, 13),
+        ),
+        (
+            b"op,id,city,item,sale\n+,1,Bonn,ink,6\n-,1,,,\n",
+            2,
+            (2, 13),
+        ),
+        // As many rows as there may be, and as many texts.
+        (b"op,id,city,item,sale\n+,3,Ulm,ink,1\n", 1, (3, 13)),
+        (
+            b"op,id,city,item,sale\n+,3,Ulm,ink,1\n+,4,Ulm,pen,1\n-,2,,,\n",
+            3,
+            (3, 7),
+        ),
+        // Only deletions.
+        (b"op,id,city,item,sale\n-,2,,,\n", 1, (1, 5)),
+        (b"op,id,city,item,sale\n-,2,,,\n-,1,,,\n", 2, (0, 0)),
+    ];
+    for (file, records, after) in cases {
+        assert_eq!(rt; taken(rt.alloc(), file)?, Some((records, after)));
+    }
+    Ok(())
+}
+
+#[test]
+fn batches_with_changes_that_cannot_be_made(rt: HostRuntime) -> Result<(), Fail> {
+    let cases: [(&[u8], Refused); 11] = [
+        (b"", Refused::Header),
+        (b"op,id,city,item\n", Refused::Header),
+        (b"op,id,city,item,sale\n-,1,,,\n*,2,,,\n", Refused::Op(2)),
+        (b"op,id,city,item,sale\n-,1,,,\n-,1,,,\n", Refused::Twice(2)),
+        (
+            b"op,id,city,item,sale\n-,9,,,\n+,3,Bonn,ink,1\n+,3,Ulm,pen,2\n",
+            Refused::Twice(3),
+        ),
+        (
+            b"op,id,city,item,sale\n-,1,,,\n-,3,,,\n",
+            Refused::Missing(2),
+        ),
+        // Its own insertion is not there before it.
+        (
+            b"op,id,city,item,sale\n+,3,Bonn,ink,1\n-,3,,,\n",
+            Refused::Missing(2),
+        ),
+        // A later deletion is looked at before an insertion.
+        (
+            b"op,id,city,item,sale\n+,1,Bonn,ink,1\n-,3,,,\n",
+            Refused::Missing(2),
+        ),
+        (
+            b"op,id,city,item,sale\n+,1,Bonn,ink,1\n",
+            Refused::Present(1),
+        ),
+        (
+            b"op,id,city,item,sale\n-,1,,,\n+,1,Bonn,ink,1\n+,2,Bonn,ink,1\n",
+            Refused::Present(3),
+        ),
+        // Present comes before too many rows.
+        (
+            b"op,id,city,item,sale\n+,3,Bonn,ink,1\n+,4,Bonn,ink,1\n+,2,Bonn,ink,1\n",
+            Refused::Present(3),
+        ),
+    ];
+    for (file, refused) in cases {
+        assert_eq!(rt; refusal(rt.alloc(), file)?, Some(refused));
+    }
+    Ok(())
+}
+
+#[test]
+fn batches_that_are_too_large(rt: HostRuntime) -> Result<(), Fail> {
+    let cases: [(&[u8], Refused); 5] = [
+        (
+            b"op,id,city,item,sale\n+,3,Bonn,ink,1\n+,4,Bonn,ink,1\n",
+            Refused::RowsFull,
+        ),
+        // Too many rows come before too many texts.
+        (
+            b"op,id,city,item,sale\n+,3,Bonn,cup,1\n+,4,Bonn,ink,1\n",
+            Refused::RowsFull,
+        ),
+        (
+            b"op,id,city,item,sale\n+,3,Bonn,cup,1\n",
+            Refused::ValuesFull(1),
+        ),
+        // The texts of rows that go stay.
+        (
+            b"op,id,city,item,sale\n-,1,,,\n-,2,,,\n+,3,Bonn,cup,1\n",
+            Refused::ValuesFull(1),
+        ),
+        // Item is full first, and stands first in the file; city is first in the schema.
+        (
+            b"item,op,city,sale,id\n,-,,,1\ncup,+,Ulm,1,3\nink,+,Jena,1,4\n",
+            Refused::ValuesFull(0),
+        ),
+    ];
+    for (file, refused) in cases {
+        assert_eq!(rt; refusal(rt.alloc(), file)?, Some(refused));
+    }
+    Ok(())
+}
+
+#[test]
+fn texts_of_a_refused_batch_leave_no_codes(rt: HostRuntime) -> Result<(), Fail> {
+    let mut shop = shop(rt.alloc())?;
+    let refused = apply(&mut shop, b"op,id,city,item,sale\n+,3,Ulm,cup,1\n");
+    let applied = apply(&mut shop, b"op,id,city,item,sale\n+,3,Jena,ink,1\n");
+    assert_eq!(rt; (refused, applied), (Err(Refused::ValuesFull(1)), Ok(1)));
+    let codes = (code(&shop, 0, "Bonn"), code(&shop, 0, "Jena"));
+    assert_eq!(rt; codes, (Some(0), Some(1)));
+    Ok(())
+}
+
+#[test]
+fn no_base_file_is_loaded_where_a_row_is(rt: HostRuntime) -> Result<(), Fail> {
+    let mut shop = shop(rt.alloc())?;
+    assert_eq!(rt; load(&mut shop, b"x"), Err(Refused::NotEmpty));
+    Ok(())
+}
+
+// A warehouse whose rows are deleted again.
+fn emptied(alloc: Global) -> Result<Warehouse, Fail> {
+    let mut shop = shop(alloc)?;
+    match apply(&mut shop, b"op,id,city,item,sale\n-,2,,,\n-,1,,,\n") {
+        Ok(_) => Ok(shop),
+        Err(_) => Err(Fail::new("rows not deleted")),
+    }
+}
+
+#[test]
+fn a_base_file_with_an_id_twice_is_refused(rt: HostRuntime) -> Result<(), Fail> {
+    let mut shop = emptied(rt.alloc())?;
+    let refused = load(&mut shop, b"id,city,item,sale\n7,Ulm,ink,1\n7,Ulm,pen,1\n");
+    assert_eq!(rt; refused, Err(Refused::Twice(2)));
+    assert_eq!(rt; code(&shop, 0, "Ulm"), None);
+    Ok(())
+}
+
+#[test]
+fn a_base_file_is_loaded_where_no_row_is(rt: HostRuntime) -> Result<(), Fail> {
+    let mut shop = emptied(rt.alloc())?;
+    let loaded = load(
+        &mut shop,
+        b"op,id,city,item,sale\n-,7,Ulm,ink,20\n+,1,Ulm,pen,1\n",
+    );
+    let records = 2;
+    let classes = 3;
+    assert_eq!(rt; loaded, Ok(Applied { records, classes }));
+    let after = (total(rt.alloc(), &shop), code(&shop, 0, "Ulm"));
+    assert_eq!(rt; after, ((2, 21), Some(1)));
+    Ok(())
+}
