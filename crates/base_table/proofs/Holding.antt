@@ -90,9 +90,6 @@ module _ (store : Rows) (here : List Bool) (touched : List ℕ) (room begun coun
     pub row-view : (k : ℕ) (d : Row ℕ) → IsAt here store.rows k → get_or t.places k None ≡ Some (get_or store.rows k d)
     row-view k d a = ap (λ (t : Places). get_or t.places k None) (sym view) ∙ a.row d
 
-    pub is_row : (k : ℕ) (d : Row ℕ) → IsAt here store.rows k → IsRow store.dims store.measures (get_or store.rows k d)
-    is_row k d a = h.each k d (omega (arith, a.within, h.places))
-
 -- what is read of a mark says whether the place has a row
 pub mark_read : (here : List Bool) (rows : List (Row ℕ)) (k : ℕ) (d : Row ℕ) (mark : Bool) (t : Places) → k < length here → length rows ≡ length here → placed here rows ≡ t.places → mark ≡ get_or here k mark
     → get_or t.places k None ≡ cond mark (Some (get_or rows k d)) None

@@ -1,6 +1,7 @@
 -- At each act of the trace all that it needs is there.
-use Rattle.std.proofs.Common.{◌≡◌, ℕ, zero, suc, ◌+◌, ◌<◌, ◌≤◌, Bool, true, false, cond, Option, Some, None, List, [], ◌∷◌, ◌++◌, flat_map, length, nat_eq, inl, inr, ◌⊎◌, refl, sym, ap, subst, ◌∙◌, arith, true≢false}
+use Rattle.std.proofs.Common.{◌≡◌, ℕ, zero, suc, ◌+◌, ◌<◌, Bool, true, false, cond, Option, Some, None, List, [], ◌∷◌, ◌++◌, flat_map, length, nat_eq, inl, inr, ◌⊎◌, refl, sym, ap, subst, ◌∙◌, arith, true≢false}
 use Rattle.std.proofs.lemmas.List.{append_assoc}
+use Rattle.std.proofs.lemmas.Bool.{cases_lt}
 use Rattle.cube_defs.specs.Cell.{Cell, keep, depth, cell_eq}
 use Rattle.cube_defs.specs.Rows.{Agg, Row, cov, closure, meet_all, is_node}
 use Rattle.cube_laws.specs.Lists.{Among}
@@ -164,12 +165,6 @@ two_ready b k v w u done e c o = (
   ),
 )
 
-split_at : (a b : ℕ) → (a < b) ⊎ (b ≤ a)
-split_at zero zero = inr (omega arith)
-split_at zero (suc b) = inl (omega arith)
-split_at (suc a) zero = inr (omega arith)
-split_at (suc a) (suc b) = elim (split_at a b) [ inl h ↦ inl (omega arith) | inr h ↦ inr (omega arith) ]
-
 module _ (measures n : ℕ) (table : List (Row ℕ)) (all_long : HaveDims n table) where
   module _ (m k : ℕ) (fits : suc m + k ≡ n) (lt : k < n) (rows : List (Row ℕ)) (u : Cell ℕ) (is_u : u ≡ shared_by rows) (shared : IsShared rows u) (whole : cov nat_eq table (keep k u) ≡ rows)
       (ih : (part : List (Row ℕ)) (done : List Act) → IsShared part (shared_by part) → cov nat_eq table (keep (suc k) (shared_by part)) ≡ part → OnPath (suc k) (shared_by part) done → AreBefore table (suc k) (shared_by part) done → Ready done (acts measures m (suc k) part)) where
@@ -184,7 +179,7 @@ module _ (measures n : ℕ) (table : List (Row ℕ)) (all_long : HaveDims n tabl
           there = λ j x e.
               let l : j < suc k = front_entry (suc k) j x w e in
               let has : entry w j ≡ Some x = sym (entry_keep j (suc k) w l) ∙ e in
-              subst (There done) (sym (keep-keep (suc j) (suc k) w (omega arith))) (elim (split_at j d.at) [
+              subst (There done) (sym (keep-keep (suc j) (suc k) w (omega arith))) (elim (cases_lt j d.at) [
                 | inl a ↦
                     subst (There done) (sym (keep-keep (suc j) d.at u (omega arith)) ∙ ap (keep (suc j)) (sym d.same) ∙ keep-keep (suc j) d.at w (omega arith))
                     (on.there j x (omega arith) (sym (entry_keep j d.at u a) ∙ ap (λ z. entry z j) (sym d.same) ∙ entry_keep j d.at w a ∙ has))

@@ -1,11 +1,11 @@
 -- How many bytes texts and records have.
-use Rattle.std.proofs.Common.{◌≡◌, ◌<◌, ◌≤◌, ◌+◌, ◌-◌, ◌*◌, ◌∙◌, ℕ, zero, suc, List, [], ◌∷◌, ◌++◌, length, get_or, refl, sym, ap, arith, Some, None, true, false, Bool, cond, map, take, drop}
-use Rattle.std.specs.Prelude.{Option, unwrap_or, slice_range}
+use Rattle.std.proofs.Common.{◌≡◌, ◌<◌, ◌≤◌, ◌+◌, ◌-◌, ◌*◌, ◌∙◌, ℕ, zero, suc, List, [], ◌∷◌, ◌++◌, length, get_or, refl, sym, ap, arith, map, take, drop}
+use Rattle.std.specs.Prelude.{slice_range}
 use Rattle.std.specs.List.{range_with_len}
 use Rattle.std.proofs.lemmas.List.FromFn.{map-range_with_len_more}
 use Rattle.std.proofs.lemmas.Bool.Decides.{nat_tests}
 use Rattle.csv_load.specs.Texts.{IsCut, start_at, text_between, texts_of}
-use Rattle.text_lines.specs.Records.{bytes_in, bytes_in_all}
+use Rattle.text_lines.specs.Records.{bytes_in}
 use Rattle.std.proofs.Math.Nat.{mul-le-mul_left}
 use Rattle.csv_load.specs.Columns.{fields_at}
 use Rattle.csv_load.proofs.Ranges.{length-range, range-more}

@@ -1,5 +1,5 @@
 -- The words of a line.
-use Rattle.std.proofs.Common.{◌≡◌, ◌<◌, ◌≤◌, ◌∙◌, ℕ, zero, suc, List, [], ◌∷◌, length, get_or, take, drop, true, false, refl, sym, arith, ap, ◌≢◌}
+use Rattle.std.proofs.Common.{◌≡◌, ◌<◌, ◌≤◌, ◌∙◌, ℕ, zero, suc, List, [], ◌∷◌, length, get_or, take, drop, refl, sym, arith, ap, ◌≢◌}
 use Rattle.std.specs.Prelude.{filter}
 use Rattle.std.proofs.Math.Seq.{drop-cons}
 use Rattle.text_lines.specs.Cuts.{cut_at, has_bytes, words_of}

@@ -8,7 +8,7 @@ use Rattle.cube_defs.specs.Rows.{Row}
 use Rattle.cube_defs.specs.Tree.{Edge, IsCanonical, Node, Tree, cell_at, node_of, renamed, renamed_edge}
 use Rattle.qc_arena.specs.Seen.{record_or}
 use Rattle.tree_laws.specs.Walk.{target_at}
-use Rattle.class_builder.proofs.Building.{is_there}
+use Rattle.tree_laws.proofs.Lists.{there}
 use Rattle.base_table.specs.Places.{rows_of}
 use Rattle.class_builder.proofs.tests.down.Goals as goal
 use Rattle.class_builder.proofs.tests.down.Goals.{then-value-ne-ANY+in-Some, else-value-ne-ANY}
@@ -28,7 +28,7 @@ edge_there measures rows tree k i v q is there to = at (finmap.get tree k) refl 
   where
     goes : (x : Option (Cell ℕ)) → Some (cell_at tree q) ≡ option_map (λ c. Some c) x → IsSome (finmap.get tree q)
     goes None e = absurd (true≢false (ap is_some e))
-    goes (Some c) e = let same : cell_at tree q ≡ Some c = cc in is_there tree q c same
+    goes (Some c) e = let same : cell_at tree q ≡ Some c = cc in there tree q c same
 
     reads : (n : Node ℕ ℕ) (m : Option (Node ℕ (Cell ℕ))) → Some (renamed (cell_at tree) n) ≡ option_map (renamed (λ c. Some c)) m → Some q ≡ target_at (eq_by_cmp nat_cmp) i v n.edges → IsSome (finmap.get tree q)
     reads n None e to = absurd (true≢false (ap is_some e))

@@ -21,9 +21,10 @@ use Rattle.warehouse.proofs.Counted.{classes-kept}
 use Rattle.warehouse.proofs.Decoding.{length-rows}
 use Rattle.warehouse.proofs.Growing.{cut-back}
 use Rattle.warehouse.proofs.States.{stored-next}
-use Rattle.warehouse.proofs.Trees.{kept-back, kept-canonical, some_same}
+use Rattle.warehouse.proofs.Trees.{kept-back, kept-canonical}
 use Rattle.warehouse.proofs.Values.{values-after}
 use Rattle.warehouse.proofs.changing.change.Goals as goal
+use Rattle.tree_laws.proofs.Lists.{some_same}
 
 pub change_and_index-requires-clause-tree : goal.change_and_index-requires-clause-tree
 change_and_index-requires-clause-tree g c =
