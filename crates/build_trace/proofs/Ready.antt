@@ -1,6 +1,6 @@
 -- At each act of the trace all that it needs is there.
 use Rattle.std.proofs.Common.{◌≡◌, ℕ, zero, suc, ◌+◌, ◌<◌, Bool, true, false, cond, Option, Some, None, List, [], ◌∷◌, ◌++◌, flat_map, length, nat_eq, inl, inr, ◌⊎◌, refl, sym, ap, subst, ◌∙◌, arith, true≢false}
-use Rattle.std.proofs.lemmas.List.{append_assoc}
+use Rattle.std.proofs.lemmas.List.{append_assoc, append-nil}
 use Rattle.std.proofs.lemmas.Bool.{cases_lt}
 use Rattle.cube_defs.specs.Cell.{Cell, keep, depth, cell_eq}
 use Rattle.cube_defs.specs.Rows.{Agg, Row, cov, closure, meet_all, is_node}
@@ -29,19 +29,11 @@ use Rattle.build_trace.proofs.Record.{root_whole}
 -- lists
 
 pub ready_append : (done xs ys : List Act) → Ready done xs → Ready (done ++ xs) ys → Ready done (xs ++ ys)
-ready_append done [] ys h g = subst (λ d. Ready d ys) (nil done) g
-  where
-    nil : (es : List Act) → es ++ [] ≡ es
-    nil [] = refl
-    nil (e ∷ es) = ap (λ l. e ∷ l) (nil es)
+ready_append done [] ys h g = subst (λ d. Ready d ys) (append-nil done) g
 ready_append done (x ∷ xs) ys h g = (h.0, ready_append (done ++ x ∷ []) xs ys h.1 (subst (λ d. Ready d ys) (sym (append_assoc done (x ∷ []) xs)) g))
 
 pub ready_at : (done xs : List Act) (e : Act) (ys : List Act) → Ready done (xs ++ e ∷ ys) → Ok (done ++ xs) e
-ready_at done [] e ys h = subst (λ d. Ok d e) (sym (nil done)) h.0
-  where
-    nil : (es : List Act) → es ++ [] ≡ es
-    nil [] = refl
-    nil (e ∷ es) = ap (λ l. e ∷ l) (nil es)
+ready_at done [] e ys h = subst (λ d. Ok d e) (sym (append-nil done)) h.0
 ready_at done (x ∷ xs) e ys h = subst (λ d. Ok d e) (append_assoc done (x ∷ []) xs) (ready_at (done ++ x ∷ []) xs e ys h.1)
 
 -- q's label among some acts
