@@ -48,7 +48,7 @@ pub(crate) fn keep(table: &mut Table, tree: &mut QcArena)
     table.is_valid();
     tree.commit();
     // What the nodes were is let go at once: nobody asks for it.
-    tree.last_images();
+    tree.drop_images();
 }
 
 /// Takes the batch back: rows and tree are those at its begin, and each dimension has so many texts.
