@@ -1,9 +1,9 @@
 -- Fractions in lowest terms are ratios.
-use Rattle.std.proofs.Common.{◌≡◌, ℕ, ◌<◌, ◌≤◌, ◌/◌, ◌*◌, ◌^◌, zero, suc, arith, ℤ, pos, nat_abs, sym, subst, ap₂, ◌∙◌}
+use Rattle.std.proofs.Common.{◌≡◌, ℕ, ◌<◌, ◌≤◌, ◌/◌, ◌*◌, ◌^◌, zero, suc, arith, ℤ, pos, nat_abs, sym, subst, ◌∙◌}
 use Rattle.std.proofs.lemmas.Nat.Gcd.{same_from_IsGcd}
 use Rattle.std.proofs.Math.Nat.{div-le_self, mul-div_cancel'}
 use Rattle.std.specs.Prelude.{int_div}
-use Rattle.cube_defs.specs.Rows.{gcd, lowest_terms, Fraction}
+use Rattle.cube_defs.specs.Rows.{gcd, lowest_terms}
 use Rattle.cube_laws.proofs.Divisors.{gcd-is, lowest_terms-coprime, lowest_terms-positive}
 use Rattle.aggregates.specs.Bounds.{IsRatio}
 
@@ -37,6 +37,3 @@ ratio-from a x y b g h small e f d =
     let P : ℕ → Type 0 = λ (k : ℕ). IsRatio (int_div a (pos k)) (b / k) in
     let Q : ℤ → Type 0 = λ (z : ℤ). IsRatio z (b / g) in
     subst Q (sym f ∙ sym d) (subst P (sym e) (lowest_terms-ratio a b h small))
-
-pub lowest_terms-same : (f : Fraction) (a b : ℤ) (m n : ℕ) → f ≡ lowest_terms a m → a ≡ b → m ≡ n → f ≡ lowest_terms b n
-lowest_terms-same f a b m n e p q = e ∙ ap₂ lowest_terms p q

@@ -9,12 +9,13 @@ use Rattle.std.proofs.lemmas.Bool.Decides.{nat_tests}
 use Rattle.std.proofs.lemmas.Fmt.{decimal_nonempty, digits_decimal, digits_value-decimal, length-decimal-le}
 use Rattle.std.proofs.Math.Nat.{div-add-mod, div-le_self, mod-one, pow-succ'}
 use Rattle.std.proofs.Math.Arith.{mod-mul}
+use Rattle.std.proofs.lemmas.Bool.{lt-ltb}
 use Rattle.cube_defs.specs.Rows.{Fraction}
 use Rattle.aggregates.specs.Bounds.{largest_amount}
 use Rattle.aggregates.specs.Numbers.{amount_in, behind_digits, digits_front, fraction_tail, fraction_written, id_in, is_number, is_short, magnitude_in, number, places, positive_fraction, slash_tail, tail_in, within}
 use Rattle.aggregates.specs.Texts.{amount_text, last_digits, places_text, ratio_text}
 use Rattle.aggregates.proofs.Digits.{is_number-all, own, ten-pos}
-use Rattle.aggregates.proofs.Reading.{is_le, is_lt, within-is}
+use Rattle.aggregates.proofs.Reading.{is_le, within-is}
 
 -- a text that begins with digits, which end with what follows
 pub front-append : (ds rest : List ℕ) → all_ascii_digits ds ≡ true → digits_front rest ≡ [] → digits_front (ds ++ rest) ≡ ds
@@ -46,14 +47,10 @@ module _ (n : ℕ) (h : n < 2 ^ 64) where
   pub id_in-decimal : id_in (decimal n) ≡ Some n
   id_in-decimal =
       let e = number-decimal in
-      rw is_number-decimal (rw (is_lt (number (decimal n)) (2 ^ 64) (omega (arith, e, h))) (ap (λ k. Some k) e))
+      rw is_number-decimal (rw (lt-ltb (number (decimal n)) (2 ^ 64) (omega (arith, e, h))) (ap (λ k. Some k) e))
 
 digit-is : (d : ℕ) → d < 10 → is_ascii_digit (48 + d) ≡ true
 digit-is d h = grind (arith, nat_tests)
-
-pub length-last_digits : (k n : ℕ) → length (last_digits k n) ≡ k
-length-last_digits zero n = refl
-length-last_digits (suc k) n = ap (λ m. suc m) (length-last_digits k n)
 
 pub digits-last_digits : (k n : ℕ) → all_ascii_digits (last_digits k n) ≡ true
 digits-last_digits zero n = refl

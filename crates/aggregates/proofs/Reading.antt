@@ -1,19 +1,14 @@
 -- What is read, by the digits at the front of the text.
 use Rattle.std.proofs.Common.{◌≡◌, ℕ, ◌+◌, ◌-◌, ◌*◌, ◌^◌, ◌<◌, ◌≤◌, ◌⊎◌, Bool, true, false, List, Option, Some, None, length, take, drop, refl, sym, ap, subst, ◌∙◌, arith, ℤ, pos}
-use Rattle.std.specs.Prelude.{nat_lt, nat_le, ◌&&◌}
+use Rattle.std.specs.Prelude.{nat_lt, nat_le}
 use Rattle.std.specs.Option.{option_map}
 use Rattle.std.proofs.lemmas.Bool.Decides.{nat_tests}
 use Rattle.std.proofs.Math.Nat.{mul-le-mul, mul-le-mul_left, pow-le-pow_right}
 use Rattle.std.proofs.lemmas.List.{length-drop, take_all}
+use Rattle.std.proofs.lemmas.Bool.{lt-ltb, le-ltb}
 use Rattle.aggregates.specs.Bounds.{largest_amount, IsFraction}
 use Rattle.aggregates.specs.Numbers.{number, is_number, digits_front, behind_digits, id_in, is_short, positive_fraction, fraction_tail, magnitude_in, tail_in, within}
 use Rattle.aggregates.proofs.Digits.{number-short, is_number-is, is_number-some, is_number-none, is_number-front, ten-pos, behind_digits-drop, digits_front-all, all_ascii_digits-front}
-
-pub is_lt : (a b : ℕ) → a < b → nat_lt a b ≡ true
-is_lt a b h = grind (arith, nat_tests)
-
-pub not_lt : (a b : ℕ) → b ≤ a → nat_lt a b ≡ false
-not_lt a b h = grind (arith, nat_tests)
 
 pub is_le : (a b : ℕ) → a ≤ b → nat_le a b ≡ true
 is_le a b h = grind (arith, nat_tests)
@@ -29,7 +24,7 @@ module _ (text : List ℕ) where
       go false e = rw e refl
       go true e =
           let f = ap number (is_number-is text e) in
-          rw e (rw (not_lt (number text) (2 ^ 64) (omega (arith, f))) refl)
+          rw e (rw (le-ltb (number text) (2 ^ 64) (omega (arith, f))) refl)
 
   pub id_in-none : (length (digits_front text) ≡ 0) ⊎ (length (digits_front text) < length text) → id_in text ≡ None
   id_in-none h = go (is_number text) refl
@@ -46,7 +41,7 @@ module _ (text : List ℕ) where
       let f = digits_front-all text (omega arith) in
       let e : is_number text ≡ true = ap is_number (sym f) ∙ is_number-front text h in
       let g = ap number f in
-      rw e (rw (is_lt (number text) (2 ^ 64) (omega (arith, g, n))) (ap (λ k. Some k) (sym g)))
+      rw e (rw (lt-ltb (number text) (2 ^ 64) (omega (arith, g, n))) (ap (λ k. Some k) (sym g)))
 
   pub positive-large : 2 ^ 64 ≤ number (digits_front text) → positive_fraction text ≡ None
   positive-large h = go (nat_le (length (digits_front text)) 18) refl
@@ -61,12 +56,6 @@ module _ (text : List ℕ) where
           go_on : (b : Bool) → is_number (digits_front text) ≡ b → positive_fraction text ≡ None
           go_on true f = rw f (rw e refl)
           go_on false f = rw f refl
-
-  pub positive-none : length (digits_front text) ≡ 0 → positive_fraction text ≡ None
-  positive-none h = rw (is_number-none (digits_front text) h) refl
-
-  pub positive-long : 18 < length (digits_front text) → positive_fraction text ≡ None
-  positive-long h = rw (is_number-front text (omega arith)) (rw (not_le (length (digits_front text)) 18 h) refl)
 
   pub positive-some : 0 < length (digits_front text) → length (digits_front text) ≤ 18 → positive_fraction text ≡ fraction_tail (number (digits_front text)) (drop (length (digits_front text)) text)
   positive-some h l =
@@ -100,7 +89,7 @@ id_in-not text h e = go (is_number text) refl
     go : (b : Bool) → is_number text ≡ b → is_number text ≡ false
     go false f = f
     go true f =
-        let g : id_in text ≡ Some (number text) = rw f (rw (is_lt (number text) (2 ^ 64) h) refl) in
+        let g : id_in text ≡ Some (number text) = rw f (rw (lt-ltb (number text) (2 ^ 64) h) refl) in
         cc
 
 pub id_in-is : (text : List ℕ) (n : ℕ) → id_in text ≡ Some n → (is_number text ≡ true) × (number text ≡ n)
@@ -113,13 +102,6 @@ id_in-is text n e = go (is_number text) (nat_lt (number text) (2 ^ 64)) refl ref
 
 -- so many digits at most
 module _ (most : ℕ) (text : List ℕ) where
-  pub is_short-long : most < length text → is_short most text ≡ false
-  is_short-long h = rw (not_le (length text) most h) (go (is_number text))
-    where
-      go : (b : Bool) → (b && false) ≡ false
-      go true = refl
-      go false = refl
-
   pub is_short-unread : most ≤ 18 → length text ≤ most → id_in text ≡ None → is_short most text ≡ false
   is_short-unread m l e = go (is_number text) refl
     where
@@ -129,9 +111,6 @@ module _ (most : ℕ) (text : List ℕ) where
       go : (b : Bool) → is_number text ≡ b → is_short most text ≡ false
       go false f = rw f refl
       go true f = rw (id_in-not text (small f) e) refl
-
-  pub is_short-read : (n : ℕ) → length text ≤ most → id_in text ≡ Some n → is_short most text ≡ true
-  is_short-read n l e = rw (id_in-is text n e).0 (is_le (length text) most l)
 
 pub number-read : (k : ℕ) (text : List ℕ) (n : ℕ) → length text ≤ k → id_in text ≡ Some n → n < 10 ^ k
 number-read k text n l e =

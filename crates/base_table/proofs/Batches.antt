@@ -1,7 +1,7 @@
 -- What a change of the rows or the end of a batch leaves.
 use Rattle.std.proofs.Common.{◌≡◌, ℕ, ◌+◌, ◌<◌, ◌≤◌, Bool, true, false, cond, if◌then◌else◌, List, [], ◌∷◌, ◌++◌, length, take, map, filter, get_or, set, refl, ap, ap₂, sym, ◌∙◌, subst, arith, zero, suc, nat_eq, nat_lt, true≢false, length-append, inl, inr}
 use Rattle.std.specs.List.{All, AllByRecursion, IsDistinct}
-use Rattle.std.proofs.lemmas.Bool.{eqb-true, eq-eqb, cases_lt, lt-ltb, le-ltb}
+use Rattle.std.proofs.lemmas.Bool.{eq-eqb, cases_lt, lt-ltb, le-ltb, ne_eqb}
 use Rattle.std.proofs.lemmas.Bool.Decides.{eqb_tells}
 use Rattle.std.proofs.lemmas.List.{get_or-set_same, get_or-set_other, get_or_append_left, get_or_push, get_or-take, length-map, length-set, get_or-map, map-append, set-set, set-get_or, set_comm, take-set-le}
 use Rattle.std.proofs.lemmas.List.Elements.{All-push}
@@ -30,13 +30,6 @@ apart here rows a = λ i j d li lj hi hj e.
     let two : last_of (nat_eq (get_or rows i d).id) (map id_of rows) ≡ j + 1 = subst (λ n. last_of (nat_eq n) (map id_of rows) ≡ j + 1) (sym e) (a.last j d lj hj) in
     omega (arith, one, two)
 
-differs : (n id : ℕ) → (n ≡ id → ⊥) → nat_eq n id ≡ false
-differs n id h = by (nat_eq n id) refl
-  where
-    by : (b : Bool) → nat_eq n id ≡ b → b ≡ false
-    by false e = refl
-    by true e = absurd (h (eqb-true n id e))
-
 none_distinct : IsDistinct nat_eq []
 none_distinct = IsDistinct-from_apart nat_eq [] (λ i j d l m. absurd (omega arith))
 
@@ -45,7 +38,7 @@ apart_distinct [] rows a = none_distinct
 apart_distinct (b ∷ here) [] a = none_distinct
 apart_distinct (true ∷ here) (row ∷ rows) a =
     IsDistinct-cons nat_eq row.id (map id_of (picked here rows))
-    (absent here rows row.id (λ i d l m t. differs row.id (get_or rows i d).id (λ e. absurd (omega (arith, a 0 (suc i) d (omega arith) (omega arith) refl t e)))))
+    (absent here rows row.id (λ i d l m t. ne_eqb row.id (get_or rows i d).id (λ e. absurd (omega (arith, a 0 (suc i) d (omega arith) (omega arith) refl t e)))))
     (apart_distinct here rows (λ i j d li lj hi hj e. omega (arith, a (suc i) (suc j) d (omega arith) (omega arith) hi hj e)))
 apart_distinct (false ∷ here) (row ∷ rows) a = apart_distinct here rows (λ i j d li lj hi hj e. omega (arith, a (suc i) (suc j) d (omega arith) (omega arith) hi hj e))
 

@@ -24,10 +24,6 @@ cell-values [] h = refl
 cell-values (None ∷ cell) h = absurd (true≢false (sym (h 0 None (omega arith))))
 cell-values (Some v ∷ cell) h = ap (λ l. Some v ∷ l) (cell-values cell (All-tail (λ entry. is_some entry ≡ true) (Some v) cell h))
 
-pub values-cell : (tuple : List ℕ) → values_of (cell_of tuple) ≡ tuple
-values-cell [] = refl
-values-cell (v ∷ tuple) = ap (λ l. v ∷ l) (values-cell tuple)
-
 -- one code more of a cell with values alone
 pub codes_more : (was : List ℕ) (cell : Cell ℕ) (i code : ℕ) (e : Option ℕ) → i < length cell → e ≡ get_or cell i None → code ≡ code_or_any e
     → was ++ map code_or_any (take i cell) ++ code ∷ [] ≡ was ++ map code_or_any (take (i + 1) cell)
@@ -101,9 +97,6 @@ module _ (n m : ℕ) where
   pub ids-rows : (ids codes : List ℕ) (amounts : List ℤ) → map id_of (rows_from n m ids codes amounts) ≡ ids
   ids-rows [] codes amounts = refl
   ids-rows (id ∷ ids) codes amounts = ap (λ l. id ∷ l) (ids-rows ids (drop n codes) (drop m amounts))
-
-  pub row_with : ℕ → List ℕ → List ℤ → Row ℕ
-  row_with id codes amounts = record { id = id; tuple = codes; amounts = amounts }
 
   pub tuple_at : (ids codes : List ℕ) (amounts : List ℤ) (k : ℕ) (d : Row ℕ) → k < length ids → (get_or (rows_from n m ids codes amounts) k d).tuple ≡ take n (drop (k * n) codes)
   tuple_at [] codes amounts k d h = absurd (omega arith)

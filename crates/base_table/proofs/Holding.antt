@@ -5,17 +5,21 @@ use Rattle.std.proofs.lemmas.List.{get_or_default, length-set, length-take-le, t
 use Rattle.std.proofs.lemmas.List.Elements.{All-nil, All-push, All-take}
 use Rattle.cube_defs.specs.Rows.{Row}
 use Rattle.base_table.specs.Last.{last_of, picked}
-use Rattle.base_table.specs.Places.{AreRows, IsRow, IsTable, Places, cleared, has_id, rows_in}
+use Rattle.base_table.specs.Places.{Base, AreRows, IsRow, IsTable, Places, cleared, has_id, rows_in}
 use Rattle.base_table.specs.Store.{AreLast, IsFound, IsHolding, IsMarked, Rows, id_of, marks_then, placed, places_with, restored}
 use Rattle.base_table.proofs.Batches.{distinct_ids, last_fewer, last_pushed, length-noted, length-restored, marks_stay, noted, noted_below}
 use Rattle.base_table.proofs.Columns.{All-picked}
 use Rattle.base_table.proofs.Placed.{IsAt, at_place, length-placed, placed_at, picked-append, picked-le, picked-push, picked-take, picked_fewer, placed_goes, rows_in-placed}
 
-pub is_closed : (o : Bool) (was : List (Row ℕ)) → (if o then Some was else None) ≡ None → o ≡ false
+-- some rows of so many dimensions
+abbrev pub base : ℕ → List (Row ℕ) → Base
+base dims rows = record { dims = dims; rows = rows }
+
+pub is_closed : (o : Bool) (was : Base) → (if o then Some was else None) ≡ None → o ≡ false
 is_closed false was h = refl
 is_closed true was h = cc
 
-pub is_opened : (o : Bool) (was : List (Row ℕ)) → is_some (if o then Some was else None) ≡ true → o ≡ true
+pub is_opened : (o : Bool) (was : Base) → is_some (if o then Some was else None) ≡ true → o ≡ true
 is_opened true was h = refl
 is_opened false was h = absurd (true≢false (sym h))
 
@@ -37,7 +41,7 @@ module _ (store : Rows) (here : List Bool) (touched : List ℕ) (room begun coun
   pub now_rows : rows_in (placed here store.rows) ≡ picked here store.rows
   now_rows = rows_in-placed here store.rows
 
-  were : (o : Bool) → IfSome (if o then Some (picked (marks_then here touched begun) store.rows) else None) (AreRows store.dims store.measures max)
+  were : (o : Bool) → IfSome (if o then Some (base store.dims (picked (marks_then here touched begun) store.rows)) else None) (λ b. AreRows b.dims store.measures max b.rows)
   were false = tt
   were true =
       subst (AreRows store.dims store.measures max) then_rows
@@ -79,19 +83,16 @@ module _ (store : Rows) (here : List Bool) (touched : List ℕ) (room begun coun
     count-view = h.is_now.count_is ∙ ap length rows-view
 
     pub closed-view : t.was ≡ None → o ≡ false
-    closed-view e = is_closed o (picked (marks_then here touched begun) store.rows) (ap (λ (t : Places). t.was) view ∙ e)
+    closed-view e = is_closed o (base store.dims (picked (marks_then here touched begun) store.rows)) (ap (λ (t : Places). t.was) view ∙ e)
 
     pub open-view : is_some t.was ≡ true → o ≡ true
-    open-view e = is_opened o (picked (marks_then here touched begun) store.rows) (ap (λ (t : Places). is_some t.was) view ∙ e)
+    open-view e = is_opened o (base store.dims (picked (marks_then here touched begun) store.rows)) (ap (λ (t : Places). is_some t.was) view ∙ e)
 
     pub at-view : (k : ℕ) → is_some (get_or t.places k None) ≡ true → IsAt here store.rows k
     at-view k e = at_place here store.rows k h.places (ap (λ (t : Places). is_some (get_or t.places k None)) view ∙ e)
 
     pub row-view : (k : ℕ) (d : Row ℕ) → IsAt here store.rows k → get_or t.places k None ≡ Some (get_or store.rows k d)
     row-view k d a = ap (λ (t : Places). get_or t.places k None) (sym view) ∙ a.row d
-
-    pub is_row : (k : ℕ) (d : Row ℕ) → IsAt here store.rows k → IsRow store.dims store.measures (get_or store.rows k d)
-    is_row k d a = h.each k d (omega (arith, a.within, h.places))
 
 -- what is read of a mark says whether the place has a row
 pub mark_read : (here : List Bool) (rows : List (Row ℕ)) (k : ℕ) (d : Row ℕ) (mark : Bool) (t : Places) → k < length here → length rows ≡ length here → placed here rows ≡ t.places → mark ≡ get_or here k mark

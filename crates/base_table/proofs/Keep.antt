@@ -24,11 +24,6 @@ module _ {K : Type 0} where
   pub same_keys : (t : K → Bool) (es fs : List (K × ℕ)) → keys_of es ≡ keys_of fs → is_some (lookup t es) ≡ is_some (lookup t fs)
   same_keys t es fs e = any_lookup t es ∙ ap (list_any t) e ∙ sym (any_lookup t fs)
 
-  pub values_set : (es : List (K × ℕ)) (i w : ℕ) → values_of (set_value_at es i w) ≡ set (values_of es) i w
-  values_set [] i w = refl
-  values_set (e ∷ es) zero w = refl
-  values_set (e ∷ es) (suc i) w = ap (λ l. e.1 ∷ l) (values_set es i w)
-
   -- one more value is 0
   pub zero_below : (es : List (K × ℕ)) (i : ℕ) → ((m : ℕ) → m < i → get_or (values_of es) m 0 ≡ 0) → (m : ℕ) → m < i + 1 → get_or (values_of (set_value_at es i 0)) m 0 ≡ 0
   zero_below [] i h m l = refl
@@ -62,12 +57,6 @@ pick_skip (b ∷ bs) (x ∷ xs) zero h e = ap (λ c. cond c (x ∷ []) []) e
 pick_skip (true ∷ bs) (x ∷ xs) (suc i) h e = ap (λ r. x ∷ r) (pick_skip bs xs i (omega arith) e)
 pick_skip (false ∷ bs) (x ∷ xs) (suc i) h e = pick_skip bs xs i (omega arith) e
 
-pub length-picked : {A : Type 0} (bs : List Bool) (xs : List A) → length (picked bs xs) ≤ length xs
-length-picked [] xs = omega arith
-length-picked (b ∷ bs) [] = omega arith
-length-picked (true ∷ bs) (x ∷ xs) = omega (arith, length-picked bs xs)
-length-picked (false ∷ bs) (x ∷ xs) = omega (arith, length-picked bs xs)
-
 -- the first `len` keys are those kept of the first i, and the others stand where they stood
 pub record IsRepacked {K S : Type 0} (eq : K → K → Bool) (heads : IndexMap K ℕ S) (keys : List K) (before : List ℕ) (kept : List Bool) (was : List K) (i len : ℕ) : Type 0 where
   pub within : len ≤ i
@@ -77,16 +66,6 @@ pub record IsRepacked {K S : Type 0} (eq : K → K → Bool) (heads : IndexMap K
   pub held : IsHeld eq heads was
 
 module _ {K S : Type 0} (eq : K → K → Bool) where
-  pub begin_repack : (heads : IndexMap K ℕ S) (keys : List K) (before : List ℕ) (kept : List Bool) → ((k : K) → unwrap_or (get eq heads k) 0 ≡ 0) → IsHeld eq heads keys
-      → IsRepacked eq heads keys before kept keys 0 0
-  begin_repack heads keys before kept blank held = record {
-    within = omega arith;
-    front = refl;
-    rest = λ m d l. refl;
-    chains = record { len = refl; small = omega arith; heads_last = λ k. blank k; chain = λ i d h. absurd (omega arith) };
-    held = held;
-  }
-
   pub skip_repack : (heads : IndexMap K ℕ S) (keys : List K) (before : List ℕ) (kept : List Bool) (was : List K) (i len : ℕ) → i < length kept → get_or kept i false ≡ false
       → IsRepacked eq heads keys before kept was i len → IsRepacked eq heads keys before kept was (i + 1) len
   skip_repack heads keys before kept was i len lk unmarked r = record {
@@ -134,7 +113,3 @@ module _ {K S : Type 0} (eq : K → K → Bool) (laws : IsEquivalence eq) (heads
     held = λ i d l. by_option (get eq heads (get_or keys i d))
         (λ z. absurd (true≢false (sym (laws.refl (get_or keys i d)) ∙ none_passes (eq (get_or keys i d)) keys (sym (a.heads_last (get_or keys i d)) ∙ z) i d l)));
   }
-
-  -- other heads with the same last places
-  pub chains_swept : (new : IndexMap K ℕ S) → AreChains eq heads keys before → ((k : K) → unwrap_or (get eq new k) 0 ≡ unwrap_or (get eq heads k) 0) → AreChains eq new keys before
-  chains_swept new a h = record { len = a.len; small = a.small; heads_last = λ k. h k ∙ a.heads_last k; chain = a.chain }

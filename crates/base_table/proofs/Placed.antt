@@ -1,6 +1,6 @@
 -- Rows and the marks that say which of them are here.
 use Rattle.std.proofs.Common.{◌≡◌, ℕ, ◌+◌, ◌<◌, ◌≤◌, Bool, true, false, cond, List, [], ◌∷◌, ◌++◌, Option, Some, None, length, take, map, filter, get_or, set, refl, ap, ap₂, sym, ◌∙◌, subst, arith, zero, suc, nat_eq, is_some, true≢false, not}
-use Rattle.std.proofs.lemmas.Bool.{eqb-true, eq-eqb}
+use Rattle.std.proofs.lemmas.Bool.{eqb-true, eq-eqb, ne_eqb}
 use Rattle.std.proofs.lemmas.List.{length-map, get_or-map}
 use Rattle.cube_defs.specs.Rows.{Row}
 use Rattle.base_table.specs.Last.{last_of, picked}
@@ -202,13 +202,6 @@ stays (b ∷ here) [] id e h = refl
 stays (true ∷ here) (row ∷ rows) id e h = ap₂ (λ o l. o ∷ l) (sym (cleared_other id row (h 0 row (omega arith) refl))) (stays here rows id (omega arith) (λ i d l. h (suc i) d (omega arith)))
 stays (false ∷ here) (row ∷ rows) id e h = ap (λ l. None ∷ l) (stays here rows id (omega arith) (λ i d l. h (suc i) d (omega arith)))
 
-differs : (n id : ℕ) → (n ≡ id → ⊥) → nat_eq n id ≡ false
-differs n id h = by (nat_eq n id) refl
-  where
-    by : (b : Bool) → nat_eq n id ≡ b → b ≡ false
-    by false e = refl
-    by true e = absurd (h (eqb-true n id e))
-
 pub placed_goes : (here : List Bool) (rows : List (Row ℕ)) (id k : ℕ) (d : Row ℕ) → length rows ≡ length here → k < length here → get_or here k false ≡ true → (get_or rows k d).id ≡ id
     → ((i : ℕ) (d : Row ℕ) → i < length here → get_or here i false ≡ true → (get_or rows i d).id ≡ id → i ≡ k)
     → placed (set here k false) rows ≡ map (cleared id) (placed here rows)
@@ -216,10 +209,10 @@ placed_goes [] rows id k d e l t n o = absurd (omega arith)
 placed_goes (b ∷ here) [] id k d e l t n o = absurd (omega arith)
 placed_goes (true ∷ here) (row ∷ rows) id zero d e l t n o =
     ap₂ (λ o l. o ∷ l) (sym (cleared_same id row (eq-eqb row.id id n)))
-    (stays here rows id (omega arith) (λ i d l t. differs (get_or rows i d).id id (λ f. absurd (omega (arith, o (suc i) d (omega arith) t f)))))
+    (stays here rows id (omega arith) (λ i d l t. ne_eqb (get_or rows i d).id id (λ f. absurd (omega (arith, o (suc i) d (omega arith) t f)))))
 placed_goes (false ∷ here) (row ∷ rows) id zero d e l t n o = absurd (true≢false (sym t))
 placed_goes (true ∷ here) (row ∷ rows) id (suc k) d e l t n o =
-    ap₂ (λ o l. o ∷ l) (sym (cleared_other id row (differs row.id id (λ f. absurd (omega (arith, o 0 row (omega arith) refl f))))))
+    ap₂ (λ o l. o ∷ l) (sym (cleared_other id row (ne_eqb row.id id (λ f. absurd (omega (arith, o 0 row (omega arith) refl f))))))
     (placed_goes here rows id k d (omega arith) (omega arith) t n (λ i d l t n. omega (arith, o (suc i) d (omega arith) t n)))
 placed_goes (false ∷ here) (row ∷ rows) id (suc k) d e l t n o =
     ap (λ l. None ∷ l) (placed_goes here rows id k d (omega arith) (omega arith) t n (λ i d l t n. omega (arith, o (suc i) d (omega arith) t n)))

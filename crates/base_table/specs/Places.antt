@@ -8,13 +8,18 @@ use Rattle.base_table.specs.declared.table.RowNo.{RowNo}
 use Rattle.cube_defs.specs.declared.limits.TheConstants.{MAX_DIMS, MAX_MEASURES, MAX_ROWS}
 use Rattle.cell_core.specs.Entry.{IsCode}
 
--- the places now, and where a batch is open the rows at its begin
+-- rows, and how many dimensions they have
+pub record Base : Type 0 where
+  pub dims : ℕ
+  pub rows : List (Row ℕ)
+
+-- the places now, and where a batch is open the rows and dimensions at its begin
 pub record Places : Type 0 where
   pub dims : ℕ
   pub measures : ℕ
   pub max : ℕ
   pub places : List (Option (Row ℕ))
-  pub was : Option (List (Row ℕ))
+  pub was : Option Base
 
 -- the rows of some places, in their order
 abbrev pub rows_in : List (Option (Row ℕ)) → List (Row ℕ)
@@ -22,6 +27,9 @@ rows_in places = filter_map (λ place. place) places
 
 abbrev pub rows_of : Places → List (Row ℕ)
 rows_of t = rows_in t.places
+
+abbrev pub base_of : Places → Base
+base_of t = record { dims = t.dims; rows = rows_of t }
 
 -- the row at a place, where one is
 abbrev pub row_at : Places → ℕ → Option (Row ℕ)
@@ -95,4 +103,4 @@ pub record IsTable (t : Places) : Type 0 where
   pub few_rows : t.max ≤ MAX_ROWS
   pub few_places : length t.places < 2 ^ 32
   pub rows : AreRows t.dims t.measures t.max (rows_of t)
-  pub were : IfSome t.was (AreRows t.dims t.measures t.max)
+  pub were : IfSome t.was (λ b. AreRows b.dims t.measures t.max b.rows)

@@ -109,12 +109,12 @@ pub record IsHolding (store : Rows) (here : List Bool) (touched : List ℕ) (roo
   pub touched_le : length touched + count ≤ length here
   pub room_for_all : length here ≤ room
 
--- the places of a table, and where a batch is open the rows at its begin
+-- the places of a table, and where a batch is open the rows and dimensions at its begin
 abbrev pub places_with : Rows → List Bool → List ℕ → ℕ → Bool → ℕ → Places
 places_with store here touched begun is_open max = record {
   dims = store.dims;
   measures = store.measures;
   max = max;
   places = placed here store.rows;
-  was = if is_open then Some (picked (marks_then here touched begun) store.rows) else None;
+  was = if is_open then Some (record { dims = store.dims; rows = picked (marks_then here touched begun) store.rows }) else None;
 }

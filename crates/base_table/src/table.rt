@@ -1,7 +1,7 @@
 // Rows at places, and a batch that can be taken back.
 ghost use Rattle.std.specs.Prelude.{All, nat_abs, pos, true, false, Err, IfOk, IfSome, None, OnErr, OnOk, Some, [], length, map, slice_index_or, ◌++◌, ◌<◌, ◌∷◌, ◌≡◌, ◌≤◌, ◌↔◌, is_some};
 ghost use Rattle.cell_core.specs.Entry.{IsCode};
-ghost use Rattle.base_table.specs.Places.{AreThere, IsTable, cleared, has_id, named, numbers, padded, row_at, row_of, row_with_id, rows_of, total_of, with_tuple, without_id};
+ghost use Rattle.base_table.specs.Places.{AreThere, IsTable, base_of, cleared, has_id, named, numbers, padded, row_at, row_of, row_with_id, rows_of, total_of, with_tuple, without_id};
 ghost use Rattle.std.specs.Option.{option_map};
 ghost use Rattle.cube_defs.specs.Cell.{cell_of};
 ghost use Rattle.aggregates.specs.Bounds.{largest_amount};
@@ -219,7 +219,7 @@ impl Table {
     /// A batch is open from now on. It takes no memory.
     pub fn begin(&mut self)
         requires closed { self.old.was ≡ None }
-        ensures value { self.new ≡ record self.old { was = Some (rows_of self.old) } }
+        ensures value { self.new ≡ record self.old { was = Some (base_of self.old) } }
     {
         self.is_open = true;
     }
@@ -281,12 +281,11 @@ impl Table {
         self.count_then = self.count;
     }
 
-    /// Takes the batch back: the rows are those at its begin. It takes no memory.
+    /// Takes the batch back: rows and dimensions are those at its begin. It takes no memory.
     pub fn rollback(&mut self)
         requires is_open { is_some self.old.was ≡ true }
-        ensures rows { Some (rows_of self.new) ≡ self.old.was }
+        ensures back { Some (base_of self.new) ≡ self.old.was }
         ensures was { self.new.was ≡ None }
-        ensures dims { self.new.dims ≡ self.old.dims }
         ensures measures { self.new.measures ≡ self.old.measures }
         ensures max { self.new.max ≡ self.old.max }
     {

@@ -1,8 +1,9 @@
 -- The steps of a plan and of its writes, part by part.
 use Rattle.std.proofs.Common.{◌≡◌, inl, inr, ℕ, zero, suc, ◌+◌, ◌*◌, ◌^◌, ◌<◌, ◌≤◌, List, [], ◌∷◌, ◌++◌, length, take, get_or, refl, ap, subst, ◌∙◌, arith, length-append}
-use Rattle.std.proofs.lemmas.List.Sums.{sum_by-append, sum_by-cons}
+use Rattle.std.proofs.lemmas.List.Sums.{sum_by-append, sum_by-cons, sum_by_more}
 use Rattle.std.proofs.Math.Nat.{add-mul, mul-le-mul_right, one-le-pow}
 use Rattle.std.specs.List.{sum_by}
+use Rattle.std.proofs.lemmas.List.{take_more}
 use Rattle.cube_defs.specs.Cell.{Cell, depth, mask}
 use Rattle.cube_defs.specs.Tree.{Tree}
 use Rattle.cube_laws.specs.Lists.{Among}
@@ -16,7 +17,6 @@ use Rattle.batch_insert.specs.Costs.{copy_cost, edges_at}
 use Rattle.batch_insert.specs.Whole.{IsCopyOf}
 use Rattle.batch_insert.proofs.Coming.{front_told}
 use Rattle.batch_insert.proofs.Costing.{copy_within}
-use Rattle.batch_insert.proofs.Doing.{take_next}
 use Rattle.batch_insert.proofs.Fronts.{front_before, front_deep}
 
 -- one part more
@@ -43,13 +43,7 @@ copying_within t a wide c x is p i front dims =
 
 -- sums over the first parts
 pub taken_length : {X : Type 0} (xs : List X) (k : ℕ) (d : X) → k < length xs → length (take (k + 1) xs) ≡ length (take k xs) + 1
-taken_length xs k d h = ap length (take_next xs k d h) ∙ length-append (take k xs) (get_or xs k d ∷ [])
-
-pub taken_sum : {X : Type 0} (f : X → ℕ) (xs : List X) (k : ℕ) (d : X) → k < length xs → sum_by f (take (k + 1) xs) ≡ sum_by f (take k xs) + f (get_or xs k d)
-taken_sum f xs k d h =
-    let one = sum_by-cons f (get_or xs k d) [] in
-    let all = ap (sum_by f) (take_next xs k d h) ∙ sum_by-append f (take k xs) (get_or xs k d ∷ []) in
-    omega (arith, one, all)
+taken_length xs k d h = ap length (take_more xs k d h) ∙ length-append (take k xs) (get_or xs k d ∷ [])
 
 -- one dimension of a node's plan: its weight is so many for each
 module _ (n e : ℕ) where
@@ -92,7 +86,7 @@ taken_le (x ∷ xs) zero = omega arith
 taken_le (x ∷ xs) (suc k) = let h = taken_le xs k in omega (arith, h)
 
 pub taken_more : {X : Type 0} (f : X → ℕ) (xs : List X) (k : ℕ) (d : X) → k < length xs → (s s1 s2 : ℕ) → s1 ≤ s + sum_by f (take k xs) → s2 ≤ s1 + f (get_or xs k d) → s2 ≤ s + sum_by f (take (k + 1) xs)
-taken_more f xs k d h s s1 s2 a b = let e = taken_sum f xs k d h in omega (arith, a, b, e)
+taken_more f xs k d h s s1 s2 a b = let e = sum_by_more f xs k d h in omega (arith, a, b, e)
 
 pub among_taken : {X : Type 0} (x : X) (xs : List X) (k : ℕ) → Among x (take k xs) → Among x xs
 among_taken x [] zero m = absurd m

@@ -8,6 +8,7 @@ use Rattle.std.specs.Cmp.{nat_cmp_total}
 use Rattle.std.specs.Ordering.{eq_by_cmp}
 use Rattle.std.specs.Option.{option_map}
 use Rattle.std.specs.FinMap as finmap
+use Rattle.std.proofs.lemmas.List.{length-map}
 use Rattle.cube_defs.specs.Cell.{Cell, cell_eq, cell_of, depth, keep, leq, with_value}
 use Rattle.cube_defs.specs.Rows as defs
 use Rattle.cube_defs.specs.Tree.{Edge, Node, node_of, nodes, size_below}
@@ -15,11 +16,12 @@ use Rattle.cube_laws.specs.Lists.{Among}
 use Rattle.cube_laws.proofs.Cells.{cell_eq-exact, cell_eq-same}
 use Rattle.cube_laws.proofs.Lists.{among_filter, among_map, map_among}
 use Rattle.cube_laws.proofs.Nodes.{is_node-is, nodes-is}
+use Rattle.cube_laws.proofs.Orders.{code_equality}
 use Rattle.tree_laws.specs.Labels.{record_of}
 use Rattle.tree_laws.proofs.Edges.{edges-are}
-use Rattle.tree_laws.proofs.Fronts.{depth-with_value, keep-beyond, keep-keep}
+use Rattle.tree_laws.proofs.Fronts.{depth-with_value, keep-beyond, keep-keep, keep-with_value}
 use Rattle.tree_laws.proofs.Lists.{some_same}
-use Rattle.tree_laws.proofs.Sums.{EachOnce, length-map, sum_ones, sum_within}
+use Rattle.tree_laws.proofs.Sums.{EachOnce, sum_ones, sum_within}
 use Rattle.qc_arena.specs.Map.{Arena, Known}
 use Rattle.qc_arena.specs.Seen.{record_at}
 use Rattle.batch_insert.specs.declared.plan.Copying.{Copying}
@@ -28,14 +30,13 @@ use Rattle.batch_insert.specs.Costs.{copy_cost, cost_below, edges_at, edges_of, 
 use Rattle.batch_insert.specs.Stages.{new_lead}
 use Rattle.batch_insert.specs.Whole.{IsCopyOf}
 use Rattle.batch_insert.proofs.Counting.{rows_wide}
-use Rattle.batch_insert.proofs.EdgeLists.{Ascends, before_apart}
+use Rattle.tree_laws.proofs.EdgeLists.{Ascends, before_apart}
 use Rattle.batch_insert.proofs.Finished.{ascending}
-use Rattle.batch_insert.proofs.Fronts.{codes, front_before, front_deep, front_leq, front_long}
+use Rattle.batch_insert.proofs.Fronts.{front_before, front_deep, front_leq, front_long}
 use Rattle.batch_insert.proofs.Keeping.{known}
 use Rattle.batch_insert.proofs.Labelled.{led_or_own, led_own, source_label, source_rises}
 use Rattle.batch_insert.proofs.Records.{new_is, next_front}
 use Rattle.batch_insert.proofs.Started.{node_of_front, record_known}
-use Rattle.batch_insert.proofs.Turns.{keep_with}
 
 -- sums
 sum_two : {X : Type 0} (f g h : X → ℕ) (xs : List X) → ((x : X) → f x + g x ≤ h x) → sum_by f xs + sum_by g xs ≤ sum_by h xs
@@ -57,7 +58,7 @@ labels_once (x ∷ xs) h = (λ m. let y : (y : Edge ℕ ℕ) × Among y xs × (l
 no_more : {T : Type 0} (xs : List (Edge ℕ ℕ)) (ys : List (Edge ℕ T)) → Ascends xs → ((x : Edge ℕ ℕ) → Among x xs → (y : Edge ℕ T) × Among y ys × (x.dim ≡ y.dim) × (x.value ≡ y.value)) → length xs ≤ length ys
 no_more xs ys up has =
     let le : sum_by (λ z. 1) (map label xs) ≤ sum_by (λ z. 1) (map label ys) = sum_within (λ z. 1) (map label xs) (map label ys) (labels_once xs up) to in
-    omega (arith, le, sum_ones (map label xs), sum_ones (map label ys), length-map label xs, length-map label ys)
+    omega (arith, le, sum_ones (map label xs), sum_ones (map label ys), length-map xs label, length-map ys label)
   where
     to : (z : Edge ℕ ℕ) → Among z (map label xs) → Among z (map label ys)
     to z m =
@@ -91,7 +92,7 @@ module _ (t : Cell ℕ) (a : Arena) (wide : length t ≡ a.width) (c : Case t a)
   own_cost p i front deep =
       let f : Cell ℕ → ℕ = λ q. cond (cell_eq (eq_by_cmp nat_cmp) (keep i q) p) (weight c q) 0 in
       let le : sum_by f (p ∷ []) ≤ sum_by f (nodes_with c) = sum_within f (p ∷ []) (nodes_with c) ((λ m. m), tt) (λ q m. elim m [ inl e ↦ subst (λ x. Among x (nodes_with c)) (sym e) (listed p front) | inr n ↦ absurd n ]) in
-      let here : f p ≡ weight c p = cond-true _ (weight c p) 0 (subst (λ x. cell_eq (eq_by_cmp nat_cmp) x p ≡ true) (sym (keep-beyond i p deep)) (cell_eq-same codes p)) in
+      let here : f p ≡ weight c p = cond-true _ (weight c p) 0 (subst (λ x. cell_eq (eq_by_cmp nat_cmp) x p ≡ true) (sym (keep-beyond i p deep)) (cell_eq-same code_equality p)) in
       omega (arith, le, here, sum_by-cons f p [])
 
   -- the costs of the nodes with t's value in a dimension, and of those with none there
@@ -99,13 +100,13 @@ module _ (t : Cell ℕ) (a : Arena) (wide : length t ≡ a.width) (c : Case t a)
   unfolding cost_below
   branch_cost p i v d l = sum_two (λ q. cond (cell_eq (eq_by_cmp nat_cmp) (keep (suc i) q) p) (weight c q) 0) (λ q. cond (cell_eq (eq_by_cmp nat_cmp) (keep (suc i) q) (with_value p i v)) (weight c q) 0) (λ q. cond (cell_eq (eq_by_cmp nat_cmp) (keep i q) p) (weight c q) 0) (nodes_with c)
       (λ q. both_cases (cell_eq (eq_by_cmp nat_cmp) (keep (suc i) q) p) (cell_eq (eq_by_cmp nat_cmp) (keep (suc i) q) (with_value p i v)) (cell_eq (eq_by_cmp nat_cmp) (keep i q) p) (weight c q)
-      (λ h. is q p (sym (keep-keep i (suc i) q (omega arith)) ∙ ap (keep i) (cell_eq-exact codes (keep (suc i) q) p h) ∙ keep-beyond i p d))
-      (λ h. is q p (sym (keep-keep i (suc i) q (omega arith)) ∙ ap (keep i) (cell_eq-exact codes (keep (suc i) q) (with_value p i v) h) ∙ keep_with p i v d))
-      (λ h k. let s : p ≡ with_value p i v = sym (cell_eq-exact codes (keep (suc i) q) p h) ∙ cell_eq-exact codes (keep (suc i) q) (with_value p i v) k in
+      (λ h. is q p (sym (keep-keep i (suc i) q (omega arith)) ∙ ap (keep i) (cell_eq-exact code_equality (keep (suc i) q) p h) ∙ keep-beyond i p d))
+      (λ h. is q p (sym (keep-keep i (suc i) q (omega arith)) ∙ ap (keep i) (cell_eq-exact code_equality (keep (suc i) q) (with_value p i v) h) ∙ keep-with_value p i v d))
+      (λ h k. let s : p ≡ with_value p i v = sym (cell_eq-exact code_equality (keep (suc i) q) p h) ∙ cell_eq-exact code_equality (keep (suc i) q) (with_value p i v) k in
       absurd (omega (arith, d, depth-with_value p i v d l, ap depth s))))
     where
       is : (q p : Cell ℕ) → keep i q ≡ p → cell_eq (eq_by_cmp nat_cmp) (keep i q) p ≡ true
-      is q p e = subst (λ x. cell_eq (eq_by_cmp nat_cmp) x p ≡ true) (sym e) (cell_eq-same codes p)
+      is q p e = subst (λ x. cell_eq (eq_by_cmp nat_cmp) x p ≡ true) (sym e) (cell_eq-same code_equality p)
 
   all_cost : (p : Cell ℕ) (i : ℕ) → cost_below c p i ≤ sum_by (weight c) (nodes_with c)
   unfolding cost_below
@@ -178,7 +179,7 @@ module _ (t : Cell ℕ) (a : Arena) (wide : length t ≡ a.width) (c : Case t a)
   there : (q : Cell ℕ) → Among q (nodes nat_cmp table) → (r : Node ℕ (Cell ℕ)) × (node_of nat_cmp 0 table q ≡ Some r) × (r.cell ≡ q)
   there q m =
       let node = (nodes-is nat_cmp_total finmap.nat_cmp-IsAntisymmetric a.width table (rows_wide t a wide c) q).0 m in
-      go (defs.closure (eq_by_cmp nat_cmp) table q) refl ((is_node-is codes table q).0 node)
+      go (defs.closure (eq_by_cmp nat_cmp) table q) refl ((is_node-is code_equality table q).0 node)
     where
       go : (o : Option (Cell ℕ)) → defs.closure (eq_by_cmp nat_cmp) table q ≡ o → option_map (keep (depth q)) (defs.closure (eq_by_cmp nat_cmp) table q) ≡ Some q → (r : Node ℕ (Cell ℕ)) × (node_of nat_cmp 0 table q ≡ Some r) × (r.cell ≡ q)
       go None e h = let z : None ≡ Some q = sym (ap (option_map (keep (depth q))) e) ∙ h in cc

@@ -4,6 +4,7 @@ use Rattle.std.specs.List.{AllByRecursion, sum_by}
 use Rattle.std.specs.Cmp.{nat_cmp_total}
 use Rattle.std.specs.Ordering.{eq_by_cmp}
 use Rattle.std.specs.FinMap as numbers
+use Rattle.std.proofs.lemmas.List.{length-map}
 use Rattle.cube_defs.specs.Cell.{Cell, depth, mask}
 use Rattle.cube_defs.specs.Rows.{Row, is_node}
 use Rattle.cube_defs.specs.Tree.{Tree, cell_at, nodes}
@@ -12,10 +13,11 @@ use Rattle.cube_laws.proofs.Cells.{length-cell_of}
 use Rattle.cube_laws.proofs.Lists.{among_map}
 use Rattle.cube_laws.proofs.Nodes.{nodes-is}
 use Rattle.cube_laws.proofs.OneRow.{node-insert}
+use Rattle.cube_laws.proofs.Orders.{code_equality}
 use Rattle.tree_laws.proofs.Counted.{nodes_counted}
 use Rattle.tree_laws.proofs.Entries.{entries_once, entry_get}
 use Rattle.tree_laws.proofs.Lists.{some_same}
-use Rattle.tree_laws.proofs.Sums.{length-map, sum_ones, sum_within}
+use Rattle.tree_laws.proofs.Sums.{sum_ones, sum_within}
 use Rattle.qc_arena.specs.Map.{Arena, Known}
 use Rattle.batch_insert.specs.declared.plan.Spot.{Spot}
 use Rattle.batch_insert.specs.Begun.{IsBegun}
@@ -23,7 +25,6 @@ use Rattle.batch_insert.specs.Cases.{Case, IsFront, new_nodes}
 use Rattle.batch_insert.specs.Whole.{IsNumberOf, IsSpotOf}
 use Rattle.batch_insert.proofs.Each.{flat_front, not_begun}
 use Rattle.batch_insert.proofs.Finished.{all_more}
-use Rattle.batch_insert.proofs.Fronts.{codes}
 use Rattle.batch_insert.proofs.Keeping.{cell_known, known}
 use Rattle.batch_insert.proofs.Started.{node_of_front}
 use Rattle.tree_search.specs.Found.{IsFrom}
@@ -52,7 +53,7 @@ module _ (rows : List (Row ℕ)) (dims : ℕ) (wide : AllByRecursion (λ row. le
       let le : sum_by (λ c. 1) (p ∷ cells) ≤ sum_by (λ c. 1) (nodes nat_cmp rows) = sum_within (λ c. 1) (p ∷ cells) (nodes nat_cmp rows) (apart, entries_once b (λ n. n.cell) once) to_nodes in
       let one : sum_by (λ c. 1) (p ∷ cells) ≡ suc (length cells) = sum_ones (p ∷ cells) in
       let all : sum_by (λ c. 1) (nodes nat_cmp rows) ≡ length (nodes nat_cmp rows) = sum_ones (nodes nat_cmp rows) in
-      let many : numbers.len b ≡ length cells = numbers.len-entries b ∙ sym (length-map (λ e. e.1.cell) (numbers.entries b)) in
+      let many : numbers.len b ≡ length cells = numbers.len-entries b ∙ sym (length-map (numbers.entries b) (λ e. e.1.cell)) in
       omega (arith, le, one, all, many)
 
 module _ (t : Cell ℕ) (a : Arena) (wide : length t ≡ a.width) (c : Case t a) where
@@ -62,7 +63,7 @@ module _ (t : Cell ℕ) (a : Arena) (wide : length t ≡ a.width) (c : Case t a)
   module _ (b : Tree ℕ) (f : ℕ → Option ℕ) (begun : IsBegun c b f) (p : Cell ℕ) (front : IsFront c p (depth p)) (none : f (mask p) ≡ None) (new : (k : ℕ) → cell_at a.now k ≢ Some p) where
     each : (k : ℕ) (n : Known) → numbers.get b k ≡ Some n → is_node (eq_by_cmp nat_cmp) (c.xs ++ c.row ∷ c.ys) n.cell ≡ true
     each k n h = elim (begun.left k n h) [
-      | inl old ↦ node-insert codes c.xs c.row c.ys n.cell (c.from.canonical.each k n old).0
+      | inl old ↦ node-insert code_equality c.xs c.row c.ys n.cell (c.from.canonical.each k n old).0
       | inr numbered ↦ let q = begun.nodes (mask n.cell) k numbered in node_of_front t a wide c n.cell (subst (λ x. IsFront c x (depth x)) (some_same (sym q.1 ∙ cell_known b k n h)) q.3)
     ]
 

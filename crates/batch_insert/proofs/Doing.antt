@@ -1,7 +1,7 @@
 -- The parts of a plan one after another.
 use Rattle.batch_insert.specs.Stages.{IsStage}
-use Rattle.std.proofs.Common.{◌≡◌, inl, inr, ℕ, suc, ◌+◌, ◌<◌, All, Option, Some, None, IsSome, List, [], ◌∷◌, ◌++◌, ℤ, length, take, get_or, zero, nat_eq, replicate, refl, sym, ap, subst, ◌∙◌, arith}
-use Rattle.std.proofs.Math.Seq.{take-suc}
+use Rattle.std.proofs.Common.{◌≡◌, inl, inr, ℕ, suc, ◌+◌, ◌<◌, All, Option, Some, None, IsSome, List, [], ◌∷◌, ◌++◌, ℤ, length, take, get_or, zero, nat_eq, replicate, refl, sym, subst, ◌∙◌, arith}
+use Rattle.std.proofs.lemmas.List.{take_more}
 use Rattle.cube_defs.specs.Cell.{Cell, depth, mask, one_deeper}
 use Rattle.cube_defs.specs.Tree.{Tree}
 use Rattle.cube_laws.specs.Lists.{Among}
@@ -22,15 +22,9 @@ use Rattle.batch_insert.specs.Whole.{HasAll, IsCopyOf, IsEndFor, IsOwnOf}
 use Rattle.indexmap.specs.IndexMap as index
 use Rattle.batch_insert.proofs.Finished.{finished, keep_none}
 use Rattle.batch_insert.proofs.Fronts.{front_long}
-use Rattle.batch_insert.proofs.Keeping.{some_there}
 use Rattle.batch_insert.proofs.Owning.{set_stays}
 use Rattle.batch_insert.proofs.Started.{begun_stage}
-
-pub take_next : {X : Type 0} (xs : List X) (k : ℕ) (d : X) → k < length xs → take (k + 1) xs ≡ take k xs ++ get_or xs k d ∷ []
-take_next xs k d h = ap (λ n. take n xs) (add_one k) ∙ take-suc xs k d h
-  where
-    add_one : (k : ℕ) → k + 1 ≡ suc k
-    add_one k = omega arith
+use Rattle.tree_laws.proofs.Lists.{some_there}
 
 among_get : {X : Type 0} (x : X) (xs : List X) → Among x xs → (k : ℕ) × (k < length xs) × (get_or xs k x ≡ x)
 among_get x [] m = absurd m
@@ -49,7 +43,7 @@ numbered_still f g m grows h = let r = some_there (f m) h in subst IsSome (sym (
 -- one more spot has its number
 pub known_next : (xs : List Spot) (k : ℕ) (x z : Spot) → k < length xs → x ≡ get_or xs k z → (f g : ℕ → Option ℕ) → ((s : Spot) → Among s (take k xs) → IsSome (f s.mask)) → ((m l : ℕ) → f m ≡ Some l → g m ≡ Some l) → IsSome (g x.mask)
     → (s : Spot) → Among s (take (k + 1) xs) → IsSome (g s.mask)
-known_next xs k x z l e f g old grows new s m = elim ((among_append s (take k xs) (get_or xs k z ∷ [])).0 (subst (λ ys. Among s ys) (take_next xs k z l) m)) [
+known_next xs k x z l e f g old grows new s m = elim ((among_append s (take k xs) (get_or xs k z ∷ [])).0 (subst (λ ys. Among s ys) (take_more xs k z l) m)) [
   | inl n ↦ let r = some_there (f s.mask) (old s n) in subst IsSome (sym (grows s.mask r.0 r.1)) refl
   | inr n ↦ elim n [ inl i ↦ subst (λ (y : Spot). IsSome (g y.mask)) (e ∙ sym i) new | inr i ↦ absurd i ]
 ]
@@ -81,7 +75,7 @@ module _ (t : Cell ℕ) (f : ℕ → Option ℕ) (b : Tree ℕ) where
         )
 
     pub copied_next : (xs : List Copying) (k : ℕ) (z : Copying) → k < length xs → HaveCopied t f (take k xs) b d → HaveCopied t f (get_or xs k z ∷ []) d e → HaveCopied t f (take (k + 1) xs) b e
-    copied_next xs k z l one two = subst (λ ys. HaveCopied t f ys b e) (sym (take_next xs k z l)) (copied_then (take k xs) (get_or xs k z) one two)
+    copied_next xs k z l one two = subst (λ ys. HaveCopied t f ys b e) (sym (take_more xs k z l)) (copied_then (take k xs) (get_or xs k z) one two)
 
     set_then : (xs : List Own) (x : Own) → HaveSet t f xs b d → HaveSet t f (x ∷ []) d e → HaveSet t f (xs ++ x ∷ []) b e
     set_then xs x one two a c wide stage are =
@@ -97,7 +91,7 @@ module _ (t : Cell ℕ) (f : ℕ → Option ℕ) (b : Tree ℕ) where
         )
 
     pub set_next : (xs : List Own) (k : ℕ) (z : Own) → k < length xs → HaveSet t f (take k xs) b d → HaveSet t f (get_or xs k z ∷ []) d e → HaveSet t f (take (k + 1) xs) b e
-    set_next xs k z l one two = subst (λ ys. HaveSet t f ys b e) (sym (take_next xs k z l)) (set_then (take k xs) (get_or xs k z) one two)
+    set_next xs k z l one two = subst (λ ys. HaveSet t f ys b e) (sym (take_more xs k z l)) (set_then (take k xs) (get_or xs k z) one two)
 
     ended_then : (amounts : List ℤ) (xs : List End) (x : End) → HaveEnded t amounts f xs b d → HaveEnded t amounts f (x ∷ []) d e → HaveEnded t amounts f (xs ++ x ∷ []) b e
     ended_then amounts xs x one two a c wide same many stage are =
@@ -113,7 +107,7 @@ module _ (t : Cell ℕ) (f : ℕ → Option ℕ) (b : Tree ℕ) where
         )
 
     pub ended_next : (amounts : List ℤ) (xs : List End) (k : ℕ) (z : End) → k < length xs → HaveEnded t amounts f (take k xs) b d → HaveEnded t amounts f (get_or xs k z ∷ []) d e → HaveEnded t amounts f (take (k + 1) xs) b e
-    ended_next amounts xs k z l one two = subst (λ ys. HaveEnded t amounts f ys b e) (sym (take_next xs k z l)) (ended_then amounts (take k xs) (get_or xs k z) one two)
+    ended_next amounts xs k z l one two = subst (λ ys. HaveEnded t amounts f ys b e) (sym (take_more xs k z l)) (ended_then amounts (take k xs) (get_or xs k z) one two)
 
 flat_mask : (p : Cell ℕ) → depth p ≡ 0 → mask p ≡ 0
 flat_mask [] h = refl

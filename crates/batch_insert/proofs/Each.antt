@@ -27,11 +27,12 @@ use Rattle.batch_insert.specs.Stages.{HaveCopied, HaveEnded, HaveSet, IsCopied, 
 use Rattle.batch_insert.specs.Whole.{IsLast}
 use Rattle.batch_insert.proofs.Coming.{begun_new, begun_old}
 use Rattle.batch_insert.proofs.Ending.{ended_class, ended_forced, sum_is}
-use Rattle.batch_insert.proofs.Naming.{any_below, any_depth, any_mask, same_mask}
+use Rattle.batch_insert.proofs.Naming.{any_below, any_mask, same_mask}
 use Rattle.batch_insert.proofs.Owning.{owned}
 use Rattle.batch_insert.specs.Costs.{copy_cost}
 use Rattle.batch_insert.proofs.Staging.{copied, copied_self, source_edges}
 use Rattle.batch_insert.proofs.Turns.{root_front}
+use Rattle.tree_laws.proofs.Fronts.{depth-any}
 
 one_among : {X : Type 0} (P : X → Type 0) (x : X) → P x → (y : X) → Among y (x ∷ []) → P y
 one_among P x h y (inl e) = subst P (sym e) h
@@ -90,7 +91,7 @@ module _ (t : Cell ℕ) (a : Arena) (wide : length t ≡ a.width) (c : Case t a)
   }
 
   pub flat_front : IsFront c (replicate a.width None) (depth (replicate {A = Option ℕ} a.width None))
-  flat_front = subst (IsFront c (replicate a.width None)) (sym (any_depth a.width)) (root_front t a wide c (replicate a.width None) refl)
+  flat_front = subst (IsFront c (replicate a.width None)) (sym (depth-any a.width)) (root_front t a wide c (replicate a.width None) refl)
 
   module _ (g : ℕ → Option ℕ) (k : ℕ) (more : (q : ℕ) → g q ≡ (if nat_eq 0 q then Some k else f q)) where
     pub top_was : IsOld t a.now 0 k → IsBegun c a.now g
@@ -101,7 +102,7 @@ module _ (t : Cell ℕ) (a : Arena) (wide : length t ≡ a.width) (c : Case t a)
     pub top_new : (d : Tree ℕ) → ((l : ℕ) → cell_at a.now l ≢ Some (replicate a.width None)) → map.get a.now k ≡ None → map.get d k ≡ Some (new_record a.width a.now None) → ((q : ℕ) → q ≢ k → map.get d q ≡ map.get a.now q) → IsBegun c d g
     top_new d new free here others =
         begun_new t a wide c a.now f g (replicate a.width None) 0 k not_begun (none 0) more flat_front (any_mask a.width) d (new_record a.width a.now None) free here others refl
-        (record { class = refl; forced = refl; edges = refl; parent = sym (ap (option_map (λ x. Some x)) (cut (any_depth a.width))) }) new
+        (record { class = refl; forced = refl; edges = refl; parent = sym (ap (option_map (λ x. Some x)) (cut (depth-any a.width))) }) new
       where
         cut : depth (replicate {A = Option ℕ} a.width None) ≡ 0 → cut_last nat_cmp (replicate {A = Option ℕ} a.width None) ≡ None
         cut e = cond-true _ _ _ (ap (λ n. nat_eq n 0) e)

@@ -10,6 +10,7 @@ use Rattle.cube_defs.specs.Tree.{Edge, Tree, cell_at}
 use Rattle.cube_laws.specs.Total.{combine}
 use Rattle.cube_laws.proofs.OneRow.{agg-insert_alone, agg-insert_more}
 use Rattle.cube_laws.proofs.RowTotals.{aggs_add}
+use Rattle.cube_laws.proofs.Orders.{code_equality}
 use Rattle.tree_laws.proofs.Fronts.{any_behind}
 use Rattle.tree_laws.proofs.Lists.{some_same}
 use Rattle.aggregates.specs.Rows.{agg_of_row}
@@ -24,13 +25,10 @@ use Rattle.batch_insert.specs.Planned.{sum_with}
 use Rattle.batch_insert.specs.Stages.{EdgesStay, HasEndOf, IsEnded, IsSound, IsStage}
 use Rattle.batch_insert.specs.Whole.{IsEndFor, IsLast}
 use Rattle.batch_insert.proofs.Assembled.{leq_is}
-use Rattle.batch_insert.proofs.Fronts.{codes, front_deep, front_end, front_leq, front_long}
+use Rattle.batch_insert.proofs.Fronts.{front_deep, front_end, front_leq, front_long}
 use Rattle.batch_insert.proofs.Labelled.{covered}
 use Rattle.batch_insert.proofs.Naming.{below_with, long_with, same_mask}
 use Rattle.batch_insert.proofs.Staging.{edges, front_there, held, names, staged}
-
-none_some : {X : Type 0} {x : X} → None ≡ Some x → ⊥
-none_some z = cc
 
 module _ (t : Cell ℕ) (a : Arena) (wide : length t ≡ a.width) (c : Case t a) where
   -- what the rows before come to, and the row
@@ -44,12 +42,12 @@ module _ (t : Cell ℕ) (a : Arena) (wide : length t ≡ a.width) (c : Case t a)
 
       go : (o : Option (Cell ℕ)) → old_closure c p ≡ o
           → sum_with (option_map (λ _. defs.agg (eq_by_cmp nat_cmp) c.measures (c.xs ++ c.ys) p) o) (agg_of_row amounts) ≡ defs.agg (eq_by_cmp nat_cmp) c.measures (c.xs ++ c.row ∷ c.ys) p
-      go None e = sym (agg-insert_alone codes c.xs c.row c.ys c.measures p (covered t a wide c p i front) e ∙ one)
+      go None e = sym (agg-insert_alone code_equality c.xs c.row c.ys c.measures p (covered t a wide c p i front) e ∙ one)
       go (Some u) e =
           let old : defs.Agg = defs.agg (eq_by_cmp nat_cmp) c.measures (c.xs ++ c.ys) p in
           some_same (aggs_add.comm (Some old) (Some (agg_of_row amounts)))
           ∙ ap (λ y. combine y old) (sym one)
-          ∙ sym (agg-insert_more codes c.xs c.row c.ys c.measures p u (covered t a wide c p i front) e)
+          ∙ sym (agg-insert_more code_equality c.xs c.row c.ys c.measures p u (covered t a wide c p i front) e)
 
   module _ (f : ℕ → Option ℕ) (b : Tree ℕ) (stage : IsStage c b f) (x : End) (is : IsEndFor c x) (k : ℕ) (number : f x.mask ≡ Some k) where
     -- what another end has done stays
@@ -61,9 +59,6 @@ module _ (t : Cell ℕ) (a : Arena) (wide : length t ≡ a.width) (c : Case t a)
 
     forced_to : (g : Forcing) → x.forced ≡ Some g → IsLast c is.node (Some g) x.before
     forced_to g e = subst (λ o. IsLast c is.node o x.before) e is.last
-
-    dim_of : (g : Forcing) → x.forced ≡ Some g → IsFront c is.node g.dim
-    dim_of g e = (forced_to g e).0
 
     pub ended_forced : (d : Tree ℕ) (g : Forcing) (l v : ℕ) → x.forced ≡ Some g → f g.child ≡ Some l → slice_index_or t g.dim None ≡ Some v
         → map.get d k ≡ option_map (with_forced (Some (record { dim = g.dim; value = v; target = l }))) (map.get b k) → ((q : ℕ) → q ≢ k → map.get d q ≡ map.get b q)

@@ -12,10 +12,11 @@ use Rattle.cube_defs.specs.Tree.{Edge, cell_at, node_of, renamed}
 use Rattle.cube_laws.specs.Lists.{Among}
 use Rattle.cube_laws.proofs.Cells.{keep-leq, leq_trans, length-cell_of, length-keep}
 use Rattle.cube_laws.proofs.Closures.{closure_some}
+use Rattle.cube_laws.proofs.Orders.{code_equality}
 use Rattle.tree_laws.specs.Labels.{moved}
 use Rattle.tree_laws.proofs.Fronts.{leq-with_value}
-use Rattle.tree_laws.proofs.Leads.{led_from}
-use Rattle.tree_laws.proofs.Lists.{some_same}
+use Rattle.tree_laws.proofs.Leads.{led_from, upto-meet_next}
+use Rattle.tree_laws.proofs.Lists.{some_same, some_there}
 use Rattle.tree_laws.proofs.OneRow.{chain_node}
 use Rattle.tree_search.specs.Found.{IsFrom}
 use Rattle.qc_arena.specs.Edges.{rises}
@@ -31,9 +32,9 @@ use Rattle.batch_insert.specs.Stages.{HasEndOf, HasLabel, IsCopied, IsEnded, IsS
 use Rattle.batch_insert.specs.Whole.{HasAll, HasNode, IsOwnOf}
 use Rattle.batch_insert.proofs.Assembled.{IsBelowRight, assembled, leq_is}
 use Rattle.batch_insert.proofs.Coming.{front_told}
-use Rattle.batch_insert.proofs.EdgeLists.{Ascends, HasLabelOf, IsBefore, before_apart}
-use Rattle.batch_insert.proofs.Fronts.{codes, front_before, front_deep, front_leq, front_long, le_or_lt, new_below, new_long, upto-meet_next}
-use Rattle.batch_insert.proofs.Keeping.{cell_known, known, some_there}
+use Rattle.tree_laws.proofs.EdgeLists.{Ascends, HasLabelOf, IsBefore, before_apart}
+use Rattle.batch_insert.proofs.Fronts.{front_before, front_deep, front_leq, front_long, le_or_lt, new_below, new_long}
+use Rattle.batch_insert.proofs.Keeping.{cell_known, known}
 use Rattle.batch_insert.proofs.Labelled.{led_or_own, led_own, source_has}
 use Rattle.batch_insert.proofs.Naming.{same_mask}
 use Rattle.batch_insert.proofs.Records.{HasEdges, record_right}
@@ -111,8 +112,8 @@ module _ (t : Cell ℕ) (a : Arena) (wide : length t ≡ a.width) (c : Case t a)
         led : (l m : ℕ) → f m ≡ Some l → m ≡ mask (moved (eq_by_cmp nat_cmp) (old_lead c n.cell i v) t i) → cell_at b.now l ≡ new_lead c n.cell i v
         led l m target dims =
             let q = stage.nodes m l target in
-            let is : keep (suc i) (new_closure c (with_value n.cell i v)) ≡ moved (eq_by_cmp nat_cmp) (old_lead c n.cell i v) t i = upto-meet_next (old_closure c (with_value n.cell i v)) t i in
-            let low : leq (eq_by_cmp nat_cmp) (moved (eq_by_cmp nat_cmp) (old_lead c n.cell i v) t i) t ≡ true = subst (λ w. leq (eq_by_cmp nat_cmp) w t ≡ true) is (leq_trans codes (keep (suc i) (new_closure c (with_value n.cell i v))) (new_closure c (with_value n.cell i v)) t (keep-leq codes (suc i) (new_closure c (with_value n.cell i v))) (new_below t a wide c (with_value n.cell i v))) in
+            let is : keep (suc i) (new_closure c (with_value n.cell i v)) ≡ moved (eq_by_cmp nat_cmp) (old_lead c n.cell i v) t i = upto-meet_next code_equality (old_closure c (with_value n.cell i v)) t i in
+            let low : leq (eq_by_cmp nat_cmp) (moved (eq_by_cmp nat_cmp) (old_lead c n.cell i v) t i) t ≡ true = subst (λ w. leq (eq_by_cmp nat_cmp) w t ≡ true) is (leq_trans code_equality (keep (suc i) (new_closure c (with_value n.cell i v))) (new_closure c (with_value n.cell i v)) t (keep-leq code_equality (suc i) (new_closure c (with_value n.cell i v))) (new_below t a wide c (with_value n.cell i v))) in
             let long : length (moved (eq_by_cmp nat_cmp) (old_lead c n.cell i v) t i) ≡ length t = ap length (sym is) ∙ length-keep (suc i) (new_closure c (with_value n.cell i v)) ∙ new_long t a wide c (with_value n.cell i v) in
             q.1
             ∙ ap (λ w. Some w) (same_mask q.0 (moved (eq_by_cmp nat_cmp) (old_lead c n.cell i v) t i) t (sym (leq_is q.0 t) ∙ front_leq t a wide c q.0 (depth q.0) q.3) (sym (leq_is (moved (eq_by_cmp nat_cmp) (old_lead c n.cell i v) t i) t) ∙ low) (front_long t a wide c q.0 (depth q.0) q.3 ∙ sym long) (q.2 ∙ dims))
@@ -121,9 +122,9 @@ module _ (t : Cell ℕ) (a : Arena) (wide : length t ≡ a.width) (c : Case t a)
     -- the labels with other values
     old_edge : (i v : ℕ) (q : Cell ℕ) → i < length t → IsFront c n.cell i → old_lead c n.cell i v ≡ Some q → HasLabel i v n.edges
     old_edge i v q within place lead =
-        let w = led_from codes (old_closure c (with_value n.cell i v)) i q lead in
+        let w = led_from code_equality (old_closure c (with_value n.cell i v)) i q lead in
         let deep = front_deep t a wide c n.cell i place in
-        let u = closure_some codes (c.xs ++ c.ys) n.cell (with_value n.cell i v) w.0 (leq-with_value codes n.cell i v deep) w.1 in
+        let u = closure_some code_equality (c.xs ++ c.ys) n.cell (with_value n.cell i v) w.0 (leq-with_value code_equality n.cell i v deep) w.1 in
         elim (node.copies i deep within place u.0 u.1) [
           | inl own ↦ own_label u.0 u.1 deep own
           | inr x ↦

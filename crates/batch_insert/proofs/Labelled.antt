@@ -13,6 +13,7 @@ use Rattle.cube_laws.specs.Lists.{Among}
 use Rattle.cube_laws.proofs.Cells.{keep-depth_keep, length-keep, meet_comm}
 use Rattle.cube_laws.proofs.Columns.{one_value, one_value-leq}
 use Rattle.cube_laws.proofs.Lists.{among_map, map_among}
+use Rattle.cube_laws.proofs.Orders.{code_equality}
 use Rattle.tree_laws.specs.Labels.{lead, moved, record_of}
 use Rattle.tree_laws.proofs.Edges.{edges-are}
 use Rattle.tree_laws.proofs.EdgesRise.{edges_rise}
@@ -27,8 +28,8 @@ use Rattle.qc_arena.specs.Map.{Arena, Known}
 use Rattle.qc_arena.specs.Seen.{label_lt}
 use Rattle.batch_insert.specs.Cases.{Case, IsFront, new_closure, old_closure, old_lead}
 use Rattle.batch_insert.specs.Stages.{HasLabel, new_lead}
-use Rattle.batch_insert.proofs.EdgeLists.{Ascends, IsBefore}
-use Rattle.batch_insert.proofs.Fronts.{codes, front_deep, front_leq, front_long, old_long}
+use Rattle.tree_laws.proofs.EdgeLists.{Ascends, IsBefore}
+use Rattle.batch_insert.proofs.Fronts.{front_deep, front_leq, front_long, old_long}
 use Rattle.batch_insert.proofs.Naming.{entry_is}
 use Rattle.batch_insert.proofs.Records.{rises_ascends}
 
@@ -77,7 +78,7 @@ module _ (t : Cell ℕ) (a : Arena) (wide : length t ≡ a.width) (c : Case t a)
   led p i v f l = go (leq (eq_by_cmp nat_cmp) (one_value i v) (cell_of c.row.tuple)) refl
     where
       whole : new_lead c p i v ≡ cond (leq (eq_by_cmp nat_cmp) (one_value i v) (cell_of c.row.tuple)) (Some (moved (eq_by_cmp nat_cmp) (old_lead c p i v) (cell_of c.row.tuple) i)) (old_lead c p i v)
-      whole = lead-insert codes c.xs c.row c.ys p i v (covered p i f) (front_deep t a wide c p i f) (omega (arith, l, front_long t a wide c p i f))
+      whole = lead-insert code_equality c.xs c.row c.ys p i v (covered p i f) (front_deep t a wide c p i f) (omega (arith, l, front_long t a wide c p i f))
 
       go : (b : Bool) → leq (eq_by_cmp nat_cmp) (one_value i v) (cell_of c.row.tuple) ≡ b
           → ((leq (eq_by_cmp nat_cmp) (one_value i v) (cell_of c.row.tuple) ≡ false) × (new_lead c p i v ≡ old_lead c p i v))
@@ -86,14 +87,14 @@ module _ (t : Cell ℕ) (a : Arena) (wide : length t ≡ a.width) (c : Case t a)
       go false e = inl (e, whole ∙ cond-false _ _ _ e)
 
   own_value : (i v : ℕ) → leq (eq_by_cmp nat_cmp) (one_value i v) (cell_of c.row.tuple) ≡ true → slice_index_or t i None ≡ Some v
-  own_value i v h = entry_at t i v (ap (λ x. slice_get x i) (sym c.tuple) ∙ (one_value-leq codes i v (cell_of c.row.tuple)).0 h)
+  own_value i v h = entry_at t i v (ap (λ x. slice_get x i) (sym c.tuple) ∙ (one_value-leq code_equality i v (cell_of c.row.tuple)).0 h)
 
   pub led_or_own : (p : Cell ℕ) (i v : ℕ) → IsFront c p i → i < length t → (new_lead c p i v ≡ old_lead c p i v) ⊎ (slice_index_or t i None ≡ Some v)
   led_or_own p i v f l = elim (led p i v f l) [ inl h ↦ inl h.1 | inr h ↦ inr (own_value i v h.0) ]
 
   pub led_own : (p : Cell ℕ) (i v : ℕ) → IsFront c p i → i < length t → slice_index_or t i None ≡ Some v → new_lead c p i v ≡ Some (moved (eq_by_cmp nat_cmp) (old_lead c p i v) t i)
   led_own p i v f l e = elim (led p i v f l) [
-    | inl h ↦ absurd (bad (sym h.0 ∙ (one_value-leq codes i v (cell_of c.row.tuple)).1 (ap (λ x. slice_get x i) c.tuple ∙ entry_is t i v e)))
+    | inl h ↦ absurd (bad (sym h.0 ∙ (one_value-leq code_equality i v (cell_of c.row.tuple)).1 (ap (λ x. slice_get x i) c.tuple ∙ entry_is t i v e)))
     | inr h ↦ h.1 ∙ ap (λ x. Some (moved (eq_by_cmp nat_cmp) (old_lead c p i v) x i)) c.tuple
   ]
     where
@@ -109,7 +110,7 @@ module _ (t : Cell ℕ) (a : Arena) (wide : length t ≡ a.width) (c : Case t a)
     long = length-keep i u ∙ old_long t a wide c p u e
 
     pub cut : (j : ℕ) → keep j (new_closure c p) ≡ meet (eq_by_cmp nat_cmp) (keep j u) t
-    cut j = ap (λ o. keep j (defs.meet_next (eq_by_cmp nat_cmp) t o)) e ∙ ap (keep j) (meet_comm codes t u) ∙ keep-meet codes j u t
+    cut j = ap (λ o. keep j (defs.meet_next (eq_by_cmp nat_cmp) t o)) e ∙ ap (keep j) (meet_comm code_equality t u) ∙ keep-meet code_equality j u t
 
     -- what a label of its record is to p
     pub source_place : (j : ℕ) → depth (keep i u) ≤ j → j ≤ next_value nat_cmp (depth (keep i u)) u → IsFront c p j
@@ -122,7 +123,7 @@ module _ (t : Cell ℕ) (a : Arena) (wide : length t ≡ a.width) (c : Case t a)
         let same : keep j u ≡ keep i u = keep-between nat_cmp (depth (keep i u)) j u d l ∙ keep-depth_keep i u in
         let f = source_place j d l in
         ap (λ q. lead (eq_by_cmp nat_cmp) (c.xs ++ c.ys) q j v) (sym same)
-        ∙ sym (lead_chain codes (c.xs ++ c.ys) p u j v e (front_deep t a wide c p j f) (omega (arith, w, front_long t a wide c p j f)) (omega (arith, w, length-keep j u, old_long t a wide c p u e)))
+        ∙ sym (lead_chain code_equality (c.xs ++ c.ys) p u j v e (front_deep t a wide c p j f) (omega (arith, w, front_long t a wide c p j f)) (omega (arith, w, length-keep j u, old_long t a wide c p u e)))
 
     module _ (k : ℕ) (n : Known) (g : finmap.get a.now k ≡ Some n) (cell : n.cell ≡ keep i u) where
       pub read : renamed (cell_at a.now) n ≡ renamed (λ x. Some x) (record_of nat_cmp c.measures (c.xs ++ c.ys) (keep i u) u)

@@ -17,7 +17,7 @@ use Rattle.batch_insert.specs.Cases.{Case, IsFront, old_lead}
 use Rattle.batch_insert.specs.Stages.{EdgesStay, HasLabel, IsSet, IsStage, LabelsStay}
 use Rattle.batch_insert.specs.Whole.{IsOwnOf}
 use Rattle.batch_insert.proofs.Coming.{front_told}
-use Rattle.batch_insert.proofs.EdgeLists.{put_here, put_stays}
+use Rattle.qc_arena.proofs.EdgesPut.{put_here, put_stays}
 use Rattle.batch_insert.proofs.Fronts.{front_before, front_deep}
 use Rattle.batch_insert.proofs.Staging.{front_there, held, label_put, labels, put_sound, staged}
 use Rattle.batch_insert.proofs.Started.{record_known}

@@ -8,6 +8,7 @@ use Rattle.cube_defs.specs.Cell.{Cell, depth, keep, leq, mask, meet}
 use Rattle.cube_defs.specs.Tree.{Edge, Tree, cell_at}
 use Rattle.cube_laws.specs.Lists.{Among}
 use Rattle.cube_laws.proofs.Cells.{meet_of_leq}
+use Rattle.cube_laws.proofs.Orders.{code_equality}
 use Rattle.tree_laws.proofs.Lists.{some_same}
 use Rattle.qc_arena.proofs.Labels.{rises-put}
 use Rattle.qc_arena.specs.Edges.{put_edge, with_edge}
@@ -20,8 +21,8 @@ use Rattle.batch_insert.specs.Stages.{EdgesStay, HasLabel, IsCopied, IsSound, Is
 use Rattle.batch_insert.specs.Whole.{IsCopyOf}
 use Rattle.batch_insert.proofs.Assembled.{leq_is}
 use Rattle.batch_insert.proofs.Coming.{front_told}
-use Rattle.batch_insert.proofs.EdgeLists.{put_here, put_stays}
-use Rattle.batch_insert.proofs.Fronts.{codes, front_before, front_deep, front_leq}
+use Rattle.qc_arena.proofs.EdgesPut.{put_here, put_stays}
+use Rattle.batch_insert.proofs.Fronts.{front_before, front_deep, front_leq}
 use Rattle.batch_insert.proofs.Keeping.{among_put, cell_known, known}
 use Rattle.batch_insert.proofs.Labelled.{cut, led_or_own, source_label}
 use Rattle.batch_insert.proofs.Started.{record_known}
@@ -139,7 +140,7 @@ module _ (t : Cell ℕ) (a : Arena) (wide : length t ≡ a.width) (c : Case t a)
           go r g e true l =
               let below : leq (eq_by_cmp nat_cmp) (keep is.dim is.upper) t ≡ true = leq_is (keep is.dim is.upper) t ∙ l in
               let met : meet (eq_by_cmp nat_cmp) (keep is.dim is.upper) t ≡ is.node = sym (cut t a wide c is.node is.upper is.dim is.front is.closure is.dim) ∙ is.front in
-              let same : keep is.dim is.upper ≡ is.node = sym (meet_of_leq codes (keep is.dim is.upper) t below) ∙ met in
+              let same : keep is.dim is.upper ≡ is.node = sym (meet_of_leq code_equality (keep is.dim is.upper) t below) ∙ met in
               let at = stage.cells x.from.0 (keep is.dim is.upper) is.from in
               let o = known b x.from.0 (keep is.dim is.upper) at in
               let told = (stage.below x.from.0 o.0 o.1 (ap (λ p. leq nat_eq p t) o.2 ∙ l)).1 in

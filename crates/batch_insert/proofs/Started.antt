@@ -12,7 +12,8 @@ use Rattle.cube_laws.proofs.Cells.{cell_eq-exact, leq_antisymm}
 use Rattle.cube_laws.proofs.Closures.{meet_next_rest}
 use Rattle.cube_laws.proofs.Nodes.{is_node-is}
 use Rattle.cube_laws.proofs.OneRow.{closure-insert, node-insert}
-use Rattle.tree_laws.proofs.Lists.{some_same}
+use Rattle.cube_laws.proofs.Orders.{code_equality}
+use Rattle.tree_laws.proofs.Lists.{some_same, some_there}
 use Rattle.qc_arena.specs.Edges.{rises}
 use Rattle.qc_arena.specs.Map.{Arena, Known}
 use Rattle.qc_arena.specs.Seen.{record_at, record_or}
@@ -21,8 +22,8 @@ use Rattle.batch_insert.specs.Cases.{Case, IsFront, new_closure, old_closure, ol
 use Rattle.batch_insert.specs.Stages.{HasLabel, IsSound, IsStage, new_lead}
 use Rattle.batch_insert.proofs.Assembled.{leq_is, parent_more}
 use Rattle.batch_insert.proofs.Coming.{begun_told}
-use Rattle.batch_insert.proofs.Fronts.{above_self, codes, front_leq}
-use Rattle.batch_insert.proofs.Keeping.{cell_known, known, some_there}
+use Rattle.batch_insert.proofs.Fronts.{above_self, front_leq}
+use Rattle.batch_insert.proofs.Keeping.{cell_known, known}
 use Rattle.batch_insert.proofs.Labelled.{led_or_own, read, source_label, source_parent, source_rises}
 use Rattle.batch_insert.proofs.Sources.{closed}
 
@@ -32,20 +33,17 @@ record_known b k n h = ap record_or h
 module _ (t : Cell ℕ) (a : Arena) (wide : length t ≡ a.width) (c : Case t a) where
   pub new_closed : (p : Cell ℕ) → leq nat_eq p t ≡ true → defs.closure (eq_by_cmp nat_cmp) (c.xs ++ c.row ∷ c.ys) p ≡ Some (new_closure c p)
   new_closed p h =
-      closure-insert codes c.xs c.row c.ys p
+      closure-insert code_equality c.xs c.row c.ys p
       ∙ cond-true _ _ _ (ap (leq (eq_by_cmp nat_cmp) p) c.tuple ∙ leq_is p t ∙ h)
       ∙ ap (λ x. Some (defs.meet_next (eq_by_cmp nat_cmp) x (old_closure c p))) c.tuple
 
   -- the nodes below t
   pub front_of_node : (p : Cell ℕ) → leq nat_eq p t ≡ true → defs.is_node (eq_by_cmp nat_cmp) (c.xs ++ c.row ∷ c.ys) p ≡ true → IsFront c p (depth p)
-  front_of_node p h node = some_same (sym (ap (option_map (keep (depth p))) (new_closed p h)) ∙ (is_node-is codes (c.xs ++ c.row ∷ c.ys) p).0 node)
+  front_of_node p h node = some_same (sym (ap (option_map (keep (depth p))) (new_closed p h)) ∙ (is_node-is code_equality (c.xs ++ c.row ∷ c.ys) p).0 node)
 
   pub node_of_front : (p : Cell ℕ) → IsFront c p (depth p) → defs.is_node (eq_by_cmp nat_cmp) (c.xs ++ c.row ∷ c.ys) p ≡ true
   node_of_front p f =
-      (is_node-is codes (c.xs ++ c.row ∷ c.ys) p).1 (ap (option_map (keep (depth p))) (new_closed p (sym (leq_is p t) ∙ front_leq t a wide c p (depth p) f)) ∙ ap (λ x. Some x) f)
-
-  front_below : (p : Cell ℕ) → IsFront c p (depth p) → leq nat_eq p t ≡ true
-  front_below p f = sym (leq_is p t) ∙ front_leq t a wide c p (depth p) f
+      (is_node-is code_equality (c.xs ++ c.row ∷ c.ys) p).1 (ap (option_map (keep (depth p))) (new_closed p (sym (leq_is p t) ∙ front_leq t a wide c p (depth p) f)) ∙ ap (λ x. Some x) f)
 
   -- the records of the nodes that there were
   module _ (name : ℕ → Option (Cell ℕ)) (more : (l : ℕ) (q : Cell ℕ) → cell_at a.now l ≡ Some q → name l ≡ Some q) (k : ℕ) (n : Known) (g : map.get a.now k ≡ Some n) (front : IsFront c n.cell (depth n.cell)) where
@@ -59,9 +57,9 @@ module _ (t : Cell ℕ) (a : Arena) (wide : length t ≡ a.width) (c : Case t a)
             → n.class ≡ cond b (Some (defs.agg (eq_by_cmp nat_cmp) c.measures (c.xs ++ c.ys) (keep (depth n.cell) shut.0))) None → (n.class ≡ None) ⊎ (new_closure c n.cell ≡ n.cell)
         go false e h = inl h
         go true e h =
-            let same : shut.0 ≡ n.cell = cell_eq-exact codes _ _ e ∙ shut.2 in
-            inr (leq_antisymm codes (new_closure c n.cell) n.cell
-            (subst (λ x. leq (eq_by_cmp nat_cmp) (new_closure c n.cell) x ≡ true) same (meet_next_rest codes t (old_closure c n.cell) shut.0 shut.1))
+            let same : shut.0 ≡ n.cell = cell_eq-exact code_equality _ _ e ∙ shut.2 in
+            inr (leq_antisymm code_equality (new_closure c n.cell) n.cell
+            (subst (λ x. leq (eq_by_cmp nat_cmp) (new_closure c n.cell) x ≡ true) same (meet_next_rest code_equality t (old_closure c n.cell) shut.0 shut.1))
             (above_self t a wide c n.cell (front_leq t a wide c n.cell (depth n.cell) front)))
 
     pub old_sound : IsSound c name n
@@ -125,7 +123,7 @@ module _ (t : Cell ℕ) (a : Arena) (wide : length t ≡ a.width) (c : Case t a)
       below k n h l = elim (begun.left k n h) [
         | inl old ↦
             let node = (c.from.canonical.each k n old).0 in
-            let front = front_of_node n.cell l (node-insert codes c.xs c.row c.ys n.cell node) in
+            let front = front_of_node n.cell l (node-insert code_equality c.xs c.row c.ys n.cell node) in
             let number = some_there (f (mask n.cell)) (all n.cell front) in
             (front, number.1 ∙ ap (λ j. Some j) (sym (begun_told t a wide c b f k (mask n.cell) number.0 n begun h front refl number.1)))
         | inr numbered ↦

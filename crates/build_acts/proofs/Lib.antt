@@ -1,3 +1,3 @@
 mod Cuts
 mod Maps
-mod Steps
+pub mod Steps

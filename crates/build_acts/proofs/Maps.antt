@@ -9,8 +9,8 @@ use Rattle.cube_defs.specs.Tree.{Edge, Tree}
 use Rattle.qc_arena.specs.Map.{Known}
 use Rattle.qc_arena.specs.Seen.{label_lt}
 use Rattle.qc_arena.specs.Edges.{put_edge}
-use Rattle.qc_arena.proofs.Halving.{eq_cmp}
 use Rattle.build_trace.proofs.Following.{IsPut}
+use Rattle.cube_laws.proofs.Orders.{eq_cmp}
 
 -- what is said at each number
 pub put_at : (t t' : Tree ℕ) (k : ℕ) (n : Known) → map.get t' k ≡ Some n → ((q : ℕ) → q ≢ k → map.get t' q ≡ map.get t q) → IsPut (λ q. map.get t q) k n (λ q. map.get t' q)

@@ -1,5 +1,5 @@
 -- An arena in which one act more is done.
-use Rattle.std.proofs.Common.{◌≡◌, ◌≢◌, ℕ, suc, ◌<◌, ◌≤◌, Bool, true, cond, ◌||◌, Option, Some, None, IsSome, is_some, List, [], ◌∷◌, ◌++◌, length, nat_eq, nat_cmp, refl, sym, ap, subst, ◌∙◌, arith, true≢false, inl, inr, append_assoc, append-nil, length-append, replicate}
+use Rattle.std.proofs.Common.{◌≡◌, ◌≢◌, ℕ, suc, ◌<◌, ◌≤◌, Bool, cond, ◌||◌, Option, Some, None, IsSome, is_some, List, [], ◌∷◌, ◌++◌, length, nat_eq, nat_cmp, refl, sym, ap, subst, ◌∙◌, arith, inl, inr, append_assoc, append-nil, length-append, replicate}
 use Rattle.std.proofs.lemmas.Bool.Decides.{eqb_tells}
 use Rattle.std.specs.List.{AllByRecursion}
 use Rattle.std.specs.Option.{option_map}
@@ -23,9 +23,7 @@ use Rattle.build_trace.proofs.Fresh.{add_fresh, add_bare}
 use Rattle.build_trace.proofs.Wanted.{more_nodes, put_last}
 use Rattle.build_acts.proofs.Cuts.{cut-with_value, cut-root}
 use Rattle.build_acts.proofs.Maps.{put_at, len_more, len_same, put_edge-last}
-
-some_same : {X : Type 0} {x y : X} → Some x ≡ Some y → x ≡ y
-some_same h = cc
+use Rattle.tree_laws.proofs.Lists.{some_same}
 
 -- b has this record at the number, and else those of a
 pub record OneNew (a b : Arena) (k : ℕ) (n : Known) : Type 0 where
@@ -165,11 +163,6 @@ more_next measures rows p es a n full =
     let count = g.count in
     omega arith
 
--- what is there
-pub some_there : {X : Type 0} (o : Option X) → IsSome o → (x : X) × (o ≡ Some x)
-some_there None h = absurd (true≢false (sym h))
-some_there (Some x) h = (x, refl)
-
 -- a root that was added
 pub root_made : {E : Type 0} (r : Result NodeNo E) (a b : Arena) → IfOk r (λ k. map.get a.now k.0 ≡ None) → IfOk r (λ k. map.get b.now k.0 ≡ Some (bare (replicate a.width None) None)) → IfOk r (λ k. (q : ℕ) → q ≢ k.0 → map.get b.now q ≡ map.get a.now q)
     → IfOk r (λ k. (q : ℕ) → is_touched b q ≡ (nat_eq k.0 q || is_touched a q)) → frame b ≡ frame a
@@ -184,11 +177,3 @@ cell_of_record t k f at = go (map.get t k) at
     go : (o : Option Known) → option_map (λ (x : Known). x.cell) o ≡ Some f → (record_or o).cell ≡ f
     go None e = cc
     go (Some n) e = cc
-
--- where a number has a cell, it has a record
-pub there : (t : Tree ℕ) (k : ℕ) (c : Cell ℕ) → cell_at t k ≡ Some c → IsSome (map.get t k)
-there t k c at = go (map.get t k) at
-  where
-    go : (o : Option Known) → option_map (λ (x : Known). x.cell) o ≡ Some c → IsSome o
-    go None e = cc
-    go (Some n) e = refl

@@ -8,14 +8,14 @@ use Rattle.cube_defs.specs.Tree.{edges_in}
 use Rattle.cube_defs.specs.Tree.{edges_in}
 use Rattle.cube_laws.specs.Lists.{Among}
 use Rattle.cube_laws.proofs.Cells.{nat_equality, cell_eq-exact, cell_eq-same, length-keep}
-use Rattle.cube_laws.proofs.Lists.{all_map}
+use Rattle.cube_laws.proofs.Lists.{all_map, all_append}
 use Rattle.cube_laws.proofs.Covered.{closure_length}
 use Rattle.tree_laws.proofs.Fronts.{keep-keep}
 use Rattle.cube_laws.proofs.Shared.{IsShared, HaveDims, entry, closure-shared}
 use Rattle.cube_laws.specs.Parting.{shared_by, part_at, codes_in}
 use Rattle.build_trace.specs.Walk.{same_front}
 use Rattle.build_trace.specs.Trace.{Act, Act.{Add, Label, Mark}, Put, put_of, part_acts, acts_at, acts, puts_of}
-use Rattle.build_trace.proofs.Lists.{all_append, all_flat}
+use Rattle.build_trace.proofs.Lists.{all_flat}
 use Rattle.build_trace.proofs.Fronts.{keep_back, keep_entry, keep_still, entry_cut}
 use Rattle.build_trace.proofs.Parting.{part_entry, shared_among, code_among}
 use Rattle.build_trace.proofs.Links.{long, whole_next}

@@ -1,5 +1,5 @@
 -- A label comes behind those that its node has.
-use Rattle.cube_laws.proofs.Lists.{all-insert}
+use Rattle.cube_laws.proofs.Lists.{all-insert, all_front}
 use Rattle.std.proofs.Common.{◌≡◌, ◌⊎◌, inl, inr, ℕ, ◌<◌, Bool, true, Some, List, [], ◌∷◌, ◌++◌, map, nat_eq, nat_cmp, refl, sym, ap, subst, ◌∙◌}
 use Rattle.std.proofs.lemmas.Bool.{cond-true}
 use Rattle.std.specs.List.{AllByRecursion}
@@ -31,10 +31,6 @@ module _ {X : Type 0} (cmp : X → X → Ordering) where
   behind : (xs : List X) (x : X) (ys : List X) → Rises cmp (xs ++ x ∷ ys) → AllByRecursion (λ y. cmp y x ≡ Less) xs
   behind [] x ys h = tt
   behind (y ∷ xs) x ys h = ((all-insert (λ z. cmp y z ≡ Less) xs x ys h.0).1, behind xs x ys h.1)
-
-  all_front : (P : X → Type 0) (xs ys : List X) → AllByRecursion P (xs ++ ys) → AllByRecursion P xs
-  all_front P [] ys h = tt
-  all_front P (x ∷ xs) ys h = (h.0, all_front P xs ys h.1)
 
   rises_front : (xs ys : List X) → Rises cmp (xs ++ ys) → Rises cmp xs
   rises_front [] ys h = tt

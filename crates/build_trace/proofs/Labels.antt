@@ -14,16 +14,13 @@ use Rattle.cube_laws.proofs.Cells.{nat_equality, leq_trans, leq_refl}
 use Rattle.cube_laws.proofs.Lists.{all_map, all_from}
 use Rattle.cube_laws.proofs.Shared.{HaveDims, entry}
 use Rattle.cube_laws.specs.Parting.{code_in, shared_by, part_at, codes_in}
+use Rattle.cube_laws.proofs.Orders.{eq_cmp}
 use Rattle.build_trace.proofs.Fronts.{covers_code}
 use Rattle.build_trace.proofs.Parting.{has_code, dims_filter, shared_among, code_among}
 use Rattle.build_trace.proofs.Links.{filter_pair, long}
 
--- numbers are told by their order as by their equality
-pub by_order : (a b : ℕ) → eq_by_cmp nat_cmp a b ≡ nat_eq a b
-by_order a b = grind arith
-
 pub same_test : eq_by_cmp nat_cmp ≡ nat_eq
-same_test = fun_ext (λ a. fun_ext (λ b. by_order a b))
+same_test = fun_ext (λ a. fun_ext (λ b. eq_cmp a b))
 
 -- the label of the walk
 abbrev pub label : ℕ → List (Row ℕ) → ℕ → Edge ℕ (Cell ℕ)

@@ -2,6 +2,7 @@
 use Rattle.std.proofs.Common.{◌≡◌, ℕ, zero, suc, ◌<◌, ap, arith, List, [], ◌∷◌, ◌++◌, flat_map, inl, inr, ◌⊎◌, refl, sym, subst}
 use Rattle.std.specs.List.{AllByRecursion}
 use Rattle.cube_laws.specs.Lists.{Among}
+use Rattle.cube_laws.proofs.Lists.{all_append}
 use Rattle.tree_laws.proofs.Sums.{EachOnce}
 
 module _ {X : Type 0} where
@@ -16,10 +17,6 @@ module _ {X : Type 0} where
   pub among_either : (x : X) (xs ys : List X) → Among x (xs ++ ys) → Among x xs ⊎ Among x ys
   among_either x [] ys h = inr h
   among_either x (y ∷ xs) ys h = elim h [ inl e ↦ inl (inl e) | inr k ↦ elim (among_either x xs ys k) [ inl a ↦ inl (inr a) | inr b ↦ inr b ] ]
-
-  pub all_append : (P : X → Type 0) (xs ys : List X) → AllByRecursion P xs → AllByRecursion P ys → AllByRecursion P (xs ++ ys)
-  all_append P [] ys h g = g
-  all_append P (x ∷ xs) ys h g = (h.0, all_append P xs ys h.1 g)
 
   pub once_append : (xs ys : List X) → EachOnce xs → EachOnce ys → ((x : X) → Among x xs → Among x ys → ⊥) → EachOnce (xs ++ ys)
   once_append [] ys h g apart = g

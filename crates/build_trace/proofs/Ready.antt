@@ -1,6 +1,7 @@
 -- At each act of the trace all that it needs is there.
-use Rattle.std.proofs.Common.{◌≡◌, ℕ, zero, suc, ◌+◌, ◌<◌, ◌≤◌, Bool, true, false, cond, Option, Some, None, List, [], ◌∷◌, ◌++◌, flat_map, length, nat_eq, inl, inr, ◌⊎◌, refl, sym, ap, subst, ◌∙◌, arith, true≢false}
-use Rattle.std.proofs.lemmas.List.{append_assoc}
+use Rattle.std.proofs.Common.{◌≡◌, ℕ, zero, suc, ◌+◌, ◌<◌, Bool, true, false, cond, Option, Some, None, List, [], ◌∷◌, ◌++◌, flat_map, length, nat_eq, inl, inr, ◌⊎◌, refl, sym, ap, subst, ◌∙◌, arith, true≢false}
+use Rattle.std.proofs.lemmas.List.{append_assoc, append-nil}
+use Rattle.std.proofs.lemmas.Bool.{cases_lt}
 use Rattle.cube_defs.specs.Cell.{Cell, keep, depth, cell_eq}
 use Rattle.cube_defs.specs.Rows.{Agg, Row, cov, closure, meet_all, is_node}
 use Rattle.cube_laws.specs.Lists.{Among}
@@ -28,19 +29,11 @@ use Rattle.build_trace.proofs.Record.{root_whole}
 -- lists
 
 pub ready_append : (done xs ys : List Act) → Ready done xs → Ready (done ++ xs) ys → Ready done (xs ++ ys)
-ready_append done [] ys h g = subst (λ d. Ready d ys) (nil done) g
-  where
-    nil : (es : List Act) → es ++ [] ≡ es
-    nil [] = refl
-    nil (e ∷ es) = ap (λ l. e ∷ l) (nil es)
+ready_append done [] ys h g = subst (λ d. Ready d ys) (append-nil done) g
 ready_append done (x ∷ xs) ys h g = (h.0, ready_append (done ++ x ∷ []) xs ys h.1 (subst (λ d. Ready d ys) (sym (append_assoc done (x ∷ []) xs)) g))
 
 pub ready_at : (done xs : List Act) (e : Act) (ys : List Act) → Ready done (xs ++ e ∷ ys) → Ok (done ++ xs) e
-ready_at done [] e ys h = subst (λ d. Ok d e) (sym (nil done)) h.0
-  where
-    nil : (es : List Act) → es ++ [] ≡ es
-    nil [] = refl
-    nil (e ∷ es) = ap (λ l. e ∷ l) (nil es)
+ready_at done [] e ys h = subst (λ d. Ok d e) (sym (append-nil done)) h.0
 ready_at done (x ∷ xs) e ys h = subst (λ d. Ok d e) (append_assoc done (x ∷ []) xs) (ready_at (done ++ x ∷ []) xs e ys h.1)
 
 -- q's label among some acts
@@ -164,12 +157,6 @@ two_ready b k v w u done e c o = (
   ),
 )
 
-split_at : (a b : ℕ) → (a < b) ⊎ (b ≤ a)
-split_at zero zero = inr (omega arith)
-split_at zero (suc b) = inl (omega arith)
-split_at (suc a) zero = inr (omega arith)
-split_at (suc a) (suc b) = elim (split_at a b) [ inl h ↦ inl (omega arith) | inr h ↦ inr (omega arith) ]
-
 module _ (measures n : ℕ) (table : List (Row ℕ)) (all_long : HaveDims n table) where
   module _ (m k : ℕ) (fits : suc m + k ≡ n) (lt : k < n) (rows : List (Row ℕ)) (u : Cell ℕ) (is_u : u ≡ shared_by rows) (shared : IsShared rows u) (whole : cov nat_eq table (keep k u) ≡ rows)
       (ih : (part : List (Row ℕ)) (done : List Act) → IsShared part (shared_by part) → cov nat_eq table (keep (suc k) (shared_by part)) ≡ part → OnPath (suc k) (shared_by part) done → AreBefore table (suc k) (shared_by part) done → Ready done (acts measures m (suc k) part)) where
@@ -184,7 +171,7 @@ module _ (measures n : ℕ) (table : List (Row ℕ)) (all_long : HaveDims n tabl
           there = λ j x e.
               let l : j < suc k = front_entry (suc k) j x w e in
               let has : entry w j ≡ Some x = sym (entry_keep j (suc k) w l) ∙ e in
-              subst (There done) (sym (keep-keep (suc j) (suc k) w (omega arith))) (elim (split_at j d.at) [
+              subst (There done) (sym (keep-keep (suc j) (suc k) w (omega arith))) (elim (cases_lt j d.at) [
                 | inl a ↦
                     subst (There done) (sym (keep-keep (suc j) d.at u (omega arith)) ∙ ap (keep (suc j)) (sym d.same) ∙ keep-keep (suc j) d.at w (omega arith))
                     (on.there j x (omega arith) (sym (entry_keep j d.at u a) ∙ ap (λ z. entry z j) (sym d.same) ∙ entry_keep j d.at w a ∙ has))

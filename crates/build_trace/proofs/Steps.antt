@@ -1,6 +1,6 @@
 -- What is read off the acts with one more.
 use Rattle.std.proofs.Common.{◌≡◌, ℕ, Bool, true, false, cond, Option, Some, None, List, [], ◌∷◌, ◌++◌, map, nat_eq, refl, ap, ◌∙◌}
-use Rattle.std.proofs.lemmas.List.{map-append}
+use Rattle.std.proofs.lemmas.List.{map-append, append-nil}
 use Rattle.cube_defs.specs.Cell.{Cell, cell_eq}
 use Rattle.cube_defs.specs.Rows.{Agg}
 use Rattle.cube_defs.specs.Tree.{Edge, Node}
@@ -66,14 +66,10 @@ with_put here b e n = cond here (record { cell = n.cell; parent = n.parent; clas
 abbrev pub with_class : Bool → Agg → Node ℕ (Cell ℕ) → Node ℕ (Cell ℕ)
 with_class here a n = cond here (record { cell = n.cell; parent = n.parent; class = Some a; forced = n.forced; edges = n.edges }) n
 
-nil : {X : Type 0} (xs : List X) → xs ++ [] ≡ xs
-nil [] = refl
-nil (x ∷ xs) = ap (λ l. x ∷ l) (nil xs)
-
 pub read_add : (done : List Act) (p q : Cell ℕ) → read (done ++ Add p ∷ []) q ≡ read done q
 read_add done p q =
     same_node (read (done ++ Add p ∷ []) q) (read done q) refl refl (mark_append q done (Add p ∷ []))
-    (ap forced_in (puts_append q done (Add p ∷ []) ∙ nil (puts_of q done))) (ap (map (λ s. s.edge)) (puts_append q done (Add p ∷ []) ∙ nil (puts_of q done)))
+    (ap forced_in (puts_append q done (Add p ∷ []) ∙ append-nil (puts_of q done))) (ap (map (λ s. s.edge)) (puts_append q done (Add p ∷ []) ∙ append-nil (puts_of q done)))
 
 pub read_label : (done : List Act) (b : Bool) (f : Cell ℕ) (i v : ℕ) (t q : Cell ℕ) → read (done ++ Label b f i v t ∷ []) q ≡ with_put (cell_eq nat_eq f q) b (record { dim = i; value = v; target = t }) (read done q)
 read_label done b f i v t q = go (cell_eq nat_eq f q) refl
@@ -92,7 +88,7 @@ read_label done b f i v t q = go (cell_eq nat_eq f q) refl
         (ap (map (λ s. s.edge)) (put true e) ∙ map-append (λ s. s.edge) (puts_of q done) (put_of b i v t ∷ []))
     go false e =
         same_node (read (done ++ Label b f i v t ∷ []) q) (read done q) refl refl (mark_append q done (Label b f i v t ∷ []))
-        (ap forced_in (put false e ∙ nil (puts_of q done))) (ap (map (λ s. s.edge)) (put false e ∙ nil (puts_of q done)))
+        (ap forced_in (put false e ∙ append-nil (puts_of q done))) (ap (map (λ s. s.edge)) (put false e ∙ append-nil (puts_of q done)))
 
 pub read_mark : (done : List Act) (w : Cell ℕ) (a : Agg) (q : Cell ℕ) → read (done ++ Mark w a ∷ []) q ≡ with_class (cell_eq nat_eq w q) a (read done q)
 read_mark done w a q = go (cell_eq nat_eq w q) refl
@@ -103,7 +99,7 @@ read_mark done w a q = go (cell_eq nat_eq w q) refl
     go : (d : Bool) → cell_eq nat_eq w q ≡ d → read (done ++ Mark w a ∷ []) q ≡ with_class d a (read done q)
     go true e =
         same_node (read (done ++ Mark w a ∷ []) q) (with_class true a (read done q)) refl refl (mark true e)
-        (ap forced_in (puts_append q done (Mark w a ∷ []) ∙ nil (puts_of q done))) (ap (map (λ s. s.edge)) (puts_append q done (Mark w a ∷ []) ∙ nil (puts_of q done)))
+        (ap forced_in (puts_append q done (Mark w a ∷ []) ∙ append-nil (puts_of q done))) (ap (map (λ s. s.edge)) (puts_append q done (Mark w a ∷ []) ∙ append-nil (puts_of q done)))
     go false e =
         same_node (read (done ++ Mark w a ∷ []) q) (read done q) refl refl (mark false e)
-        (ap forced_in (puts_append q done (Mark w a ∷ []) ∙ nil (puts_of q done))) (ap (map (λ s. s.edge)) (puts_append q done (Mark w a ∷ []) ∙ nil (puts_of q done)))
+        (ap forced_in (puts_append q done (Mark w a ∷ []) ∙ append-nil (puts_of q done))) (ap (map (λ s. s.edge)) (puts_append q done (Mark w a ∷ []) ∙ append-nil (puts_of q done)))

@@ -5,14 +5,14 @@ use Rattle.cube_defs.specs.Cell.{Cell, keep, depth, cell_eq}
 use Rattle.cube_defs.specs.Rows.{Row, Agg, agg_of, agg, covers, closure}
 use Rattle.cube_laws.specs.Lists.{Among}
 use Rattle.cube_laws.proofs.Cells.{nat_equality, cell_eq-exact, cell_eq-same, keep-leq, keep-depth, depth-le, length-keep}
-use Rattle.cube_laws.proofs.Lists.{all_map, all_at}
+use Rattle.cube_laws.proofs.Lists.{all_map, all_at, all_append}
 use Rattle.cube_laws.proofs.Covered.{closure_length, some_covered}
 use Rattle.tree_laws.proofs.Fronts.{keep-keep, depth-keep-le}
 use Rattle.tree_laws.proofs.Sums.{EachOnce}
 use Rattle.cube_laws.proofs.Shared.{IsShared, HaveDims, entry, cov-shared, closure-shared}
 use Rattle.cube_laws.specs.Parting.{shared_by, part_at, codes_in}
 use Rattle.build_trace.specs.Walk.{same_front}
-use Rattle.build_trace.proofs.Lists.{among_left, among_right, all_append, once_append, all_flat, among_flat, once_flat}
+use Rattle.build_trace.proofs.Lists.{among_left, among_right, once_append, all_flat, among_flat, once_flat}
 use Rattle.build_trace.proofs.Fronts.{keep_next, keep_back, keep_entry, keep_all, leq_entry, covers_code, front_between, entry_keep, depth_keep, last_entry, deeper_or}
 use Rattle.build_trace.proofs.Parting.{has_code, dims_filter, cov-part, closure-part, part_entry, shared_below, shared_part, shared_among, closure_low, among_codes, code_among, once_codes}
 use Rattle.build_trace.proofs.Visits.{Visit, Visit.{Made, Marked}, visit_part, visit_at, visit}

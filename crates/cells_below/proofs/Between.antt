@@ -12,7 +12,7 @@ use Rattle.cube_defs.specs.Rows.{Row, closure, is_lower_bound}
 use Rattle.cube_laws.proofs.Cells.{IsEquality, leq_antisymm}
 use Rattle.cube_laws.proofs.Closures.{closure_idem, closure_mono, closure_some, option_eq-is}
 use Rattle.cube_laws.proofs.Lists.{map-filter}
-use Rattle.cube_laws.proofs.Orders.{equality_by}
+use Rattle.cube_laws.proofs.Orders.{code_equality}
 use Rattle.tree_laws.proofs.LowerBounds.{lower_bounds-below}
 use Rattle.tree_search.specs.Found.{Source}
 use Rattle.cells_below.specs.Closed.{IsMarkedBelow, bounds, closes, has_closure_in}
@@ -30,12 +30,9 @@ module _ {A : Type 0} {eq : A → A → Bool} (law : IsEquality eq) where
       let r : (w : Cell A) × (closure eq rows d ≡ Some w) = closure_some law rows d u u k own in
       r.1 ∙ ap (λ x. Some x) (leq_antisymm law r.0 u (closure_mono law rows d u r.0 u k r.1 own) (closure_mono law rows c d u r.0 h e r.1))
 
-law : IsEquality (eq_by_cmp nat_cmp)
-law = equality_by nat_cmp_total map.nat_cmp-IsAntisymmetric
-
 module _ (source : Source) (u : Cell ℕ) where
   closed : (c : Cell ℕ) → has_closure_in source u c ≡ true → closure (eq_by_cmp nat_cmp) source.rows c ≡ Some u
-  closed c = (option_eq-is law (closure (eq_by_cmp nat_cmp) source.rows c) u).0
+  closed c = (option_eq-is code_equality (closure (eq_by_cmp nat_cmp) source.rows c) u).0
 
   with_bit : (m k j : ℕ) → has_bit m k ≡ true → has_bit (turned m k) j ≡ true → has_bit m j ≡ true
   with_bit m k j e h = go (nat_eq j k) refl
@@ -47,9 +44,9 @@ module _ (source : Source) (u : Cell ℕ) where
   -- a cell with one bit more than one with the closure has it
   closes_more : (m k : ℕ) → has_bit m k ≡ true → closes source u (turned m k) ≡ true → closes source u m ≡ true
   closes_more m k e h =
-      (option_eq-is law (closure (eq_by_cmp nat_cmp) source.rows (cell_of_number u m)) u).1
-      (between law source.rows (cell_of_number u (turned m k)) (cell_of_number u m) u
-      (more_bits law u (turned m k) m (λ j h. with_bit m k j e h)) (cell_below law u m) (closed (cell_of_number u (turned m k)) h))
+      (option_eq-is code_equality (closure (eq_by_cmp nat_cmp) source.rows (cell_of_number u m)) u).1
+      (between code_equality source.rows (cell_of_number u (turned m k)) (cell_of_number u m) u
+      (more_bits code_equality u (turned m k) m (λ j h. with_bit m k j e h)) (cell_below code_equality u m) (closed (cell_of_number u (turned m k)) h))
 
   module _ (marks : List Bool) (m : ℕ) (l : m < 2 ^ values u) (below : IsMarkedBelow source u marks m) where
     least_if : closes source u m ≡ false → is_least marks (values u) m ≡ true

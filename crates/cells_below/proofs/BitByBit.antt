@@ -1,10 +1,11 @@
 -- The tests of a number's bits, bit by bit.
 use Rattle.std.proofs.Common.{◌≡◌, ℕ, ◌+◌, ◌<◌, ◌≤◌, Bool, true, false, not, cond, ◌||◌, List, [], ◌∷◌, ◌++◌, map, filter, length, length-append, refl, sym, ap, ap₂, ◌∙◌, arith}
 use Rattle.std.specs.List.{range_with_len}
+use Rattle.std.proofs.lemmas.List.{map-append}
 use Rattle.cube_defs.specs.Cell.{Cell}
 use Rattle.cells_below.specs.Marks.{is_least, is_marked}
 use Rattle.cells_below.specs.Numbers.{cell_of_number, has_bit, turned}
-use Rattle.cells_below.proofs.Ranges.{filter_more, map-append, one_fails, passes_more}
+use Rattle.cells_below.proofs.Ranges.{filter_more, one_fails, passes_more}
 
 module _ (marks : List Bool) (m : ℕ) where
   abbrev apart : ℕ → Bool
@@ -33,11 +34,3 @@ kept_same false p x y e h = ap (λ q. cond q (y ∷ []) []) e
 pub one_more : {X : Type 0} (b : Bool) (x : X) (xs : List X) → length (xs ++ cond b (x ∷ []) []) ≤ length xs + 1
 one_more true x xs = omega (arith, length-append xs (x ∷ []))
 one_more false x xs = omega (arith, length-append xs [])
-
-pub first_true : (a b : Bool) → a ≡ true → (a || b) ≡ true
-first_true true b e = refl
-first_true false b e = cc
-
-pub second_true : (a b : Bool) → b ≡ true → (a || b) ≡ true
-second_true true b e = refl
-second_true false b e = e

@@ -5,12 +5,14 @@ use Rattle.std.proofs.lemmas.Bool.{and_from}
 use Rattle.std.specs.Int.{bit_at}
 use Rattle.std.specs.List.{range_with_len}
 use Rattle.std.proofs.lemmas.Nat.Bits.{bit_at_above, bit_at_cat_low, bit_at_cat_high, bit_at_lowest}
+use Rattle.std.proofs.lemmas.Simd.{map-map}
+use Rattle.std.proofs.lemmas.List.{map-append}
 use Rattle.cube_defs.specs.Cell.{Cell, leq, entry_leq}
 use Rattle.cube_laws.proofs.Cells.{IsEquality}
 use Rattle.cube_laws.proofs.Lists.{map_same}
 use Rattle.tree_laws.specs.Below.{below}
 use Rattle.cells_below.specs.Numbers.{cell_of_number, has_bit, values}
-use Rattle.cells_below.proofs.Ranges.{range-append, range-shift, map-map, map-append, map_range}
+use Rattle.cells_below.proofs.Ranges.{range-append, range-shift, map_range}
 
 pub none_kept : {A : Type 0} (b : Bool) → ◌≡◌ {A = Option A} (if b then None else None) None
 none_kept true = refl
@@ -20,10 +22,6 @@ pub values-le : {A : Type 0} (u : Cell A) → values u ≤ length u
 values-le [] = omega arith
 values-le (None ∷ u) = let l = values-le u in omega arith
 values-le (Some v ∷ u) = let l = values-le u in omega arith
-
-pub length-cell : {A : Type 0} (u : Cell A) (m : ℕ) → length (cell_of_number u m) ≡ length u
-length-cell [] m = refl
-length-cell (e ∷ u) m = ap suc (length-cell u m)
 
 low_bits : (d m k : ℕ) → k < d → has_bit (2 ^ d + m) k ≡ has_bit m k
 low_bits d m k l = let e : 2 ^ d + m ≡ 1 * 2 ^ d + m = omega arith in ap (λ b. nat_eq b 1) (ap (λ n. bit_at n k) e ∙ bit_at_cat_low 1 d m k l)

@@ -1,23 +1,17 @@
 -- Whether a search leads to a node.
-use Rattle.std.proofs.Common.{◌≡◌, ℕ, false, nat_eq, eqb-true, eq-eqb, Option, Some, None, length, refl, sym, ap, ◌∙◌}
-use Rattle.std.specs.Prelude.{IsSome}
-use Rattle.std.specs.Cmp.{nat_cmp_total, both_ways}
-use Rattle.std.specs.FinMap as map
+use Rattle.std.proofs.Common.{◌≡◌, ℕ, nat_eq, eqb-true, eq-eqb, Option, Some, None, length, refl, sym, ap, ◌∙◌}
+use Rattle.std.specs.Cmp.{both_ways}
 use Rattle.std.specs.Option.{option_map, option_eq}
 use Rattle.std.specs.Ordering.{nat_cmp, eq_by_cmp}
 use Rattle.cube_defs.specs.Cell.{Cell, cell_eq}
-use Rattle.cube_defs.specs.Tree.{Tree, Node, cell_at}
-use Rattle.cube_laws.proofs.Cells.{IsEquality, cell_eq-exact, cell_eq-same}
-use Rattle.cube_laws.proofs.Orders.{equality_by}
-use Rattle.qc_arena.specs.Seen.{record_at, record_or}
-use Rattle.tree_laws.proofs.Lists.{some_same}
+use Rattle.cube_defs.specs.Tree.{Tree, cell_at}
+use Rattle.cube_laws.proofs.Cells.{cell_eq-exact, cell_eq-same}
+use Rattle.cube_laws.proofs.Orders.{code_equality}
+use Rattle.tree_laws.proofs.Lists.{some_same, there}
 use Rattle.tree_search.specs.Found.{IsFrom, IsTree, Names, Source, closure_in}
-use Rattle.tree_search.proofs.Walked.{there, cell_of}
+use Rattle.tree_search.proofs.Walked.{cell_of}
 use Rattle.tree_search.proofs.Climbed.{wide}
 use Rattle.cells_below.specs.Closed.{has_closure_in}
-
-law : IsEquality (eq_by_cmp nat_cmp)
-law = equality_by nat_cmp_total map.nat_cmp-IsAntisymmetric
 
 module _ (dims : ℕ) (tree : Tree ℕ) (k : ℕ) (u : Cell ℕ) (at : cell_at tree k ≡ Some u) where
   -- the node's cell has a value or Any in each dimension
@@ -35,6 +29,6 @@ module _ (dims : ℕ) (tree : Tree ℕ) (k : ℕ) (u : Cell ℕ) (at : cell_at t
             let own : cell_at tree m ≡ Some w = some_same s in
             both_ways _ _
             (λ e. let same : w ≡ u = some_same (sym own ∙ ap (cell_at tree) (eqb-true m k e) ∙ at) in
-            ap (λ x. option_eq (cell_eq (eq_by_cmp nat_cmp)) x (Some u)) (q ∙ ap (λ x. Some x) same) ∙ cell_eq-same law u)
-            (λ e. let same : w ≡ u = cell_eq-exact law w u (sym (ap (λ x. option_eq (cell_eq (eq_by_cmp nat_cmp)) x (Some u)) q) ∙ e) in
+            ap (λ x. option_eq (cell_eq (eq_by_cmp nat_cmp)) x (Some u)) (q ∙ ap (λ x. Some x) same) ∙ cell_eq-same code_equality u)
+            (λ e. let same : w ≡ u = cell_eq-exact code_equality w u (sym (ap (λ x. option_eq (cell_eq (eq_by_cmp nat_cmp)) x (Some u)) q) ∙ e) in
             eq-eqb m k (h.canonical.once m k u (own ∙ ap (λ x. Some x) same) at))

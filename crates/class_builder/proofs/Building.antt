@@ -1,17 +1,16 @@
 -- Acts one after another on an arena, and paths in it.
-use Rattle.std.proofs.Common.{◌≡◌, ◌≢◌, ℕ, zero, suc, ◌+◌, ◌≤◌, Option, Some, None, List, [], ◌++◌, append-nil, append_assoc, refl, sym, ap, subst, ◌∙◌, arith, inl, inr, ◌⊎◌}
-use Rattle.std.specs.Prelude.{IsSome, Result, Err}
-use Rattle.std.specs.FinMap as map
-use Rattle.std.specs.Option.{option_map}
+use Rattle.std.proofs.Common.{◌≡◌, ◌≢◌, ℕ, zero, suc, ◌+◌, ◌≤◌, Some, List, [], ◌++◌, append-nil, append_assoc, sym, ap, subst, ◌∙◌, arith, inl, inr, ◌⊎◌}
+use Rattle.std.specs.Prelude.{Result, Err}
 use Rattle.cube_defs.specs.Cell.{Cell, keep, depth}
 use Rattle.cube_defs.specs.Rows.{Row}
-use Rattle.cube_defs.specs.Tree.{Node, Tree, cell_at}
+use Rattle.cube_defs.specs.Tree.{Tree, cell_at}
 use Rattle.tree_laws.proofs.Fronts.{depth-keep-le}
 use Rattle.class_builder.proofs.Fronts.{front_less}
 use Rattle.qc_arena.specs.Map.{Arena}
-use Rattle.qc_arena.specs.Seen.{record_at, record_or}
+use Rattle.qc_arena.specs.Seen.{record_at}
 use Rattle.build_trace.specs.Trace.{Act}
 use Rattle.build_acts.specs.Going.{Going, IsNext, Does}
+use Rattle.build_acts.proofs.Steps.{cell_of_record}
 use Rattle.class_builder.specs.Walk.{IsOnPath, node_on}
 use Rattle.class_builder.specs.declared.path.Path.{Path}
 
@@ -47,23 +46,8 @@ module _ {measures : ℕ} {rows : List (Row ℕ)} where
   pub path_stays : (es : List Act) (a b : Arena) (path : Path) (c : Cell ℕ) (k : ℕ) → Does measures rows es a b → IsOnPath a path c k → IsOnPath b path c k
   path_stays es a b path c k d on = record { each = λ j l. d.cells (node_on path j) (keep j c) (on.each j l) }
 
--- the node with a cell
-pub is_there : (tree : Tree ℕ) (k : ℕ) (c : Cell ℕ) → cell_at tree k ≡ Some c → IsSome (map.get tree k)
-is_there tree k c h = go (map.get tree k) h
-  where
-    go : (o : Option (Node ℕ ℕ)) → option_map (λ n. n.cell) o ≡ Some c → IsSome o
-    go None h = absurd (cc)
-    go (Some n) h = refl
-
-pub cell_is : (tree : Tree ℕ) (k : ℕ) (c : Cell ℕ) → cell_at tree k ≡ Some c → (record_at tree k).cell ≡ c
-cell_is tree k c h = go (map.get tree k) h
-  where
-    go : (o : Option (Node ℕ ℕ)) → option_map (λ n. n.cell) o ≡ Some c → (record_or o).cell ≡ c
-    go None h = absurd (cc)
-    go (Some n) h = cc
-
 pub front_depth : (tree : Tree ℕ) (k j : ℕ) (c : Cell ℕ) → cell_at tree k ≡ Some (keep j c) → depth (record_at tree k).cell ≤ j
-front_depth tree k j c h = subst (λ d. depth d ≤ j) (sym (cell_is tree k (keep j c) h)) (depth-keep-le j c)
+front_depth tree k j c h = subst (λ d. depth d ≤ j) (sym (cell_of_record tree k (keep j c) h)) (depth-keep-le j c)
 
 upto_or : (j k : ℕ) → j ≤ k + 1 → (j ≤ k) ⊎ (j ≡ k + 1)
 upto_or zero k h = inl (omega arith)

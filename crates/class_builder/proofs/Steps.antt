@@ -3,13 +3,13 @@ use Rattle.std.proofs.Common.{◌≡◌, ℕ, zero, suc, ◌+◌, ◌-◌, ◌<�
 use Rattle.std.specs.List.{AllByRecursion, cons_option}
 use Rattle.std.specs.Ordering.{nat_cmp}
 use Rattle.std.proofs.lemmas.Bool.{cond-true, cond-false}
-use Rattle.std.proofs.lemmas.List.{drop_all}
+use Rattle.std.proofs.lemmas.List.{drop_all, length-map}
 use Rattle.cube_defs.specs.Cell.{Cell, keep}
 use Rattle.cube_defs.specs.Rows as defs
 use Rattle.cube_defs.specs.Rows.{Row, covers}
 use Rattle.cube_defs.specs.Tree.{distinct}
 use Rattle.cube_laws.specs.Lists.{Among}
-use Rattle.cube_laws.proofs.Lists.{all_at, all_map, to_filter, filter-le}
+use Rattle.cube_laws.proofs.Lists.{all_at, all_map, to_filter, filter-le, among-length}
 use Rattle.cube_laws.proofs.Cells.{nat_equality, cell_eq-exact}
 use Rattle.cell_core.specs.Entry.{IsCode}
 use Rattle.base_table.specs.Places.{Places, IsRow, IsTable, named, row_at}
@@ -18,7 +18,6 @@ use Rattle.cube_laws.specs.Parting.{code_in, shared_by, part_at, codes_in}
 use Rattle.cell_closure.specs.Parts.{no_part, code_at, with_code, parted}
 use Rattle.cube_laws.proofs.Shared.{IsShared, HaveDims, closure-shared, entry, shared_covers}
 use Rattle.cell_closure.proofs.Rows.{There, length-named, codes_named, named-filter, named_dims, is_row}
-use Rattle.cell_closure.proofs.Stable.{length-mapped}
 use Rattle.build_trace.specs.Trace.{Act, Act.{Add, Label, Mark}, acts, acts_at, part_acts}
 use Rattle.build_trace.specs.Walk.{same_front}
 use Rattle.class_builder.specs.Walk.{acts_from, front_acts}
@@ -67,10 +66,6 @@ get_among [] i h = absurd (omega arith)
 get_among (x ∷ xs) zero h = inl refl
 get_among (x ∷ xs) (suc i) h = inr (get_among xs i (omega arith))
 
-among_length : {X : Type 0} (x : X) (xs : List X) → Among x xs → 0 < length xs
-among_length x [] h = absurd h
-among_length x (y ∷ xs) h = omega arith
-
 -- what a part shares has the part's code
 part_code : (n k v : ℕ) (rows : List (Row ℕ)) (r : Row ℕ) → Among r (part_at k rows v) → HaveDims n rows → k < n → entry (shared_by (part_at k rows v)) k ≡ Some v
 part_code n k v rows r a long lt =
@@ -89,7 +84,7 @@ codes_small t valid k lt (x ∷ nos) = go (row_at t x.0) refl (codes_small t val
 
 module _ (t : Places) (valid : IsTable t) (nos : List RowNo) (there : There t nos) (k : ℕ) where
   pub length-parted : length (parted t nos k) ≡ length (codes_in k (named t nos))
-  length-parted = length-mapped (with_code t nos k) (distinct nat_cmp (map (code_at t k) nos)) ∙ ap (λ vs. length (distinct nat_cmp vs)) (codes_named t k nos there)
+  length-parted = length-map (distinct nat_cmp (map (code_at t k) nos)) (with_code t nos k) ∙ ap (λ vs. length (distinct nat_cmp vs)) (codes_named t k nos there)
 
   module _ (i : ℕ) (lt : i < length (parted t nos k)) where
     abbrev part : List RowNo
@@ -100,7 +95,7 @@ module _ (t : Places) (valid : IsTable t) (nos : List RowNo) (there : There t no
 
     rows_at : part ≡ filter (λ n. code_at t k n == code) nos
     rows_at =
-        let l : length (parted t nos k) ≡ length (distinct nat_cmp (map (code_at t k) nos)) = length-mapped (with_code t nos k) (distinct nat_cmp (map (code_at t k) nos)) in
+        let l : length (parted t nos k) ≡ length (distinct nat_cmp (map (code_at t k) nos)) = length-map (distinct nat_cmp (map (code_at t k) nos)) (with_code t nos k) in
         ap (λ p. p.rows) (get-mapped (with_code t nos k) (distinct nat_cmp (map (code_at t k) nos)) i no_part 0 (omega arith))
         ∙ ap (λ vs. filter (λ n. code_at t k n == get_or (distinct nat_cmp vs) i 0) nos) (codes_named t k nos there)
 
@@ -118,7 +113,7 @@ module _ (t : Places) (valid : IsTable t) (nos : List RowNo) (there : There t no
 
     pub part_some : 0 < length part
     part_some =
-        let p : 0 < length (part_at k (named t nos) code) = among_length row_there.0 _ row_there.1 in
+        let p : 0 < length (part_at k (named t nos) code) = among-length row_there.0 _ row_there.1 in
         let e : length (part_at k (named t nos) code) ≡ length part = ap length (sym part_named) ∙ length-named t part part_there in
         omega arith
 
@@ -140,7 +135,7 @@ module _ (t : Places) (valid : IsTable t) (nos : List RowNo) (there : There t no
 
     pub part_is : (get_or (parted t nos k) i no_part).code ≡ code
     part_is =
-        let l : length (parted t nos k) ≡ length (distinct nat_cmp (map (code_at t k) nos)) = length-mapped (with_code t nos k) (distinct nat_cmp (map (code_at t k) nos)) in
+        let l : length (parted t nos k) ≡ length (distinct nat_cmp (map (code_at t k) nos)) = length-map (distinct nat_cmp (map (code_at t k) nos)) (with_code t nos k) in
         ap (λ p. p.code) (get-mapped (with_code t nos k) (distinct nat_cmp (map (code_at t k) nos)) i no_part 0 (omega arith))
         ∙ ap (λ vs. get_or (distinct nat_cmp vs) i 0) (codes_named t k nos there)
 

@@ -1,30 +1,27 @@
 -- Ids and amounts are small.
 use Rattle.std.proofs.Common.{◌≡◌, ◌<◌, ◌≤◌, ◌+◌, ◌*◌, ◌^◌, ℕ, zero, suc, List, [], ◌∷◌, ◌++◌, length, get_or, drop, refl, sym, ap, arith, Some, None, true, false, Bool, cond, pos, negsuc, w64, ℤ, append_assoc}
 use Rattle.std.specs.Prelude.{Option, option_map, unwrap_or, nat_abs, neg_ℤ, nat_lt, nat_le, ◌&&◌, ◌==◌, FitsSigned}
-use Rattle.std.specs.List.{All, AllByRecursion}
+use Rattle.std.specs.List.{All}
 use Rattle.std.proofs.lemmas.Bool.{and_parts, ltb-true, leb-true}
 use Rattle.std.proofs.lemmas.Int.{ints}
 use Rattle.std.proofs.lemmas.List.{drop_more}
 use Rattle.std.proofs.lemmas.List.Elements.{All-cons}
+use Rattle.std.proofs.lemmas.Option.{cond_some}
 use Rattle.aggregates.specs.Numbers.{amount_in, behind_digits, digits_front, id_in, is_number, magnitude_in, number, tail_in, within}
 use Rattle.qc_schema.specs.Schema.{Measure, no_measure}
 use Rattle.csv_load.specs.Files.{amounts_in}
 use Rattle.csv_load.specs.Batch.{IsSmall}
 use Rattle.csv_load.specs.Columns.{cons_some}
 
-cond-some : {X : Type 0} (b : Bool) (x y : X) → cond b (Some x) None ≡ Some y → (b ≡ true) × (x ≡ y)
-cond-some {X} true x y e = (refl, ap (λ (o : Option X). unwrap_or o x) e)
-cond-some {X} false x y e = absurd (cc e)
-
 pub id-small : (text : List ℕ) (n : ℕ) → id_in text ≡ Some n → n < 2 ^ 64
 id-small text n e =
-    let p = cond-some (is_number text && nat_lt (number text) (2 ^ 64)) (number text) n e in
+    let p = cond_some (is_number text && nat_lt (number text) (2 ^ 64)) (number text) n e in
     let q = and_parts (is_number text) (nat_lt (number text) (2 ^ 64)) p.0 in
     omega (arith, p.1, ltb-true (number text) (2 ^ 64) q.1)
 
 within-small : (o : Option ℕ) (n : ℕ) → within o ≡ Some n → n ≤ 999999999999
 within-small None n e = absurd (cc e)
-within-small (Some m) n e = let p = cond-some (nat_le m 999999999999) m n e in omega (arith, p.1, leb-true m 999999999999 p.0)
+within-small (Some m) n e = let p = cond_some (nat_le m 999999999999) m n e in omega (arith, p.1, leb-true m 999999999999 p.0)
 
 magnitude-small : (scale : ℕ) (text : List ℕ) (n : ℕ) → magnitude_in scale text ≡ Some n → n ≤ 999999999999
 magnitude-small scale text n e = by (is_number (digits_front text)) e
@@ -98,8 +95,3 @@ none-with before (Some amounts) e = absurd (cc e)
 pub some-with : (before amounts : List ℤ) (o : Option (List ℤ)) → amounts_with before o ≡ Some amounts → (more : List ℤ) × (o ≡ Some more) × (amounts ≡ before ++ more)
 some-with before amounts None e = absurd (cc e)
 some-with before amounts (Some more) e = (more, refl, sym (ap (λ (q : Option (List ℤ)). unwrap_or q amounts) e))
-
-pub scale-small : (measures : List Measure) (i : ℕ) → AllByRecursion (λ m. m.scale ≤ 6) measures → i < length measures → (get_or measures i no_measure).scale ≤ 6
-scale-small [] i h lt = absurd (omega arith)
-scale-small (m ∷ ms) zero h lt = h.0
-scale-small (m ∷ ms) (suc i) h lt = scale-small ms i h.1 (omega arith)

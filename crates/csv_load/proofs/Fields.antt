@@ -1,5 +1,5 @@
 -- The fields of a record.
-use Rattle.std.proofs.Common.{◌≡◌, ◌<◌, ◌≤◌, ◌∙◌, ℕ, List, [], ◌∷◌, length, get_or, refl, sym, ap, arith, true, false, Bool, ◌++◌, ◌+◌, append_assoc}
+use Rattle.std.proofs.Common.{◌≡◌, ◌<◌, ◌≤◌, ◌∙◌, ℕ, List, [], ◌∷◌, length, get_or, refl, sym, ap, true, false, Bool, ◌++◌, ◌+◌, append_assoc}
 use Rattle.std.specs.Prelude.{IsUtf8, slice_range, ◌&&◌}
 use Rattle.std.specs.List.{list_all}
 use Rattle.std.specs.Str.{is_utf8}

@@ -1,12 +1,12 @@
 -- The places of names in a header.
-use Rattle.std.proofs.Common.{◌≡◌, ◌<◌, ◌≤◌, ◌+◌, ◌-◌, ◌∙◌, ℕ, zero, suc, List, [], ◌∷◌, ◌++◌, length, get_or, drop, map, refl, sym, ap, arith, Some, None, true, false, Bool, cond, append_assoc}
+use Rattle.std.proofs.Common.{◌≡◌, ◌<◌, ◌≤◌, ◌+◌, ◌∙◌, ℕ, suc, List, [], ◌∷◌, ◌++◌, length, get_or, drop, map, refl, sym, ap, arith, Some, None, true, false, Bool, cond, append_assoc}
 use Rattle.std.specs.Prelude.{Option, option_map, unwrap_or, codes}
 use Rattle.std.specs.List.{All, list_any}
 use Rattle.std.specs.Str.{bytes_eq}
-use Rattle.std.proofs.lemmas.List.{drop_more, get_or_push, length-map, get_or-map, get_or_append_left, get_or-append-add, length-append, append-nil}
+use Rattle.std.proofs.lemmas.List.{drop_more, length-map, get_or_append_left, length-append, append-nil}
 use Rattle.std.proofs.lemmas.List.Elements.{All-cons}
 use Rattle.cube_defs.specs.Text.{Text}
-use Rattle.qc_schema.specs.Schema.{Layout, Measure, names_of, no_measure}
+use Rattle.qc_schema.specs.Schema.{Layout, Measure, names_of}
 use Rattle.csv_load.specs.Columns.{cons_some, fields_at, needed_names, place_from, places_in}
 
 -- ---- one name
@@ -59,10 +59,6 @@ places-step header names before i place h e = ap (λ (ns : List Text). places_wi
     by : (more : Option (List ℕ)) → places_with before (cons_some (Some place) more) ≡ places_with (before ++ place ∷ []) more
     by None = refl
     by (Some places) = ap Some (sym (append_assoc before (place ∷ []) places))
-
-pub places-none : (header names : List (List ℕ)) (before : List ℕ) (i : ℕ) → i < length names → place_from 0 (get_or names i []) header ≡ None
-    → places_with before (places_in header (drop i names)) ≡ None
-places-none header names before i h e = ap (λ (ns : List Text). places_with before (places_in header ns)) (drop_more names i [] h) ∙ rw e refl
 
 pub places-end : (header : List (List ℕ)) (before : List ℕ) → places_with before (places_in header []) ≡ Some before
 places-end header before = ap Some (append-nil before)

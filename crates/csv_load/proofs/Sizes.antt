@@ -1,15 +1,15 @@
 -- How many bytes texts and records have.
-use Rattle.std.proofs.Common.{◌≡◌, ◌<◌, ◌≤◌, ◌+◌, ◌-◌, ◌*◌, ◌∙◌, ℕ, zero, suc, List, [], ◌∷◌, ◌++◌, length, get_or, refl, sym, ap, arith, Some, None, true, false, Bool, cond, map, take, drop}
-use Rattle.std.specs.Prelude.{Option, unwrap_or, slice_range}
+use Rattle.std.proofs.Common.{◌≡◌, ◌<◌, ◌≤◌, ◌+◌, ◌-◌, ◌*◌, ◌∙◌, ℕ, zero, suc, List, [], ◌∷◌, ◌++◌, length, get_or, refl, sym, ap, arith, map, take, drop}
+use Rattle.std.specs.Prelude.{slice_range}
 use Rattle.std.specs.List.{range_with_len}
 use Rattle.std.proofs.lemmas.List.FromFn.{map-range_with_len_more}
 use Rattle.std.proofs.lemmas.Bool.Decides.{nat_tests}
 use Rattle.csv_load.specs.Texts.{IsCut, start_at, text_between, texts_of}
-use Rattle.text_lines.specs.Records.{bytes_in, bytes_in_all}
+use Rattle.text_lines.specs.Records.{bytes_in}
 use Rattle.std.proofs.Math.Nat.{mul-le-mul_left}
 use Rattle.csv_load.specs.Columns.{fields_at}
 use Rattle.csv_load.proofs.Ranges.{length-range, range-more}
-use Rattle.text_lines.proofs.Sizes.{bytes-append, bytes-push}
+use Rattle.text_lines.proofs.Sizes.{bytes-append, bytes-push, field-within}
 
 start-suc : (ends : List ℕ) (n : ℕ) → start_at ends (suc n) ≡ get_or ends n 0
 start-suc ends n = grind (arith, nat_tests)
@@ -51,14 +51,9 @@ room-more texts before fields i j k low high same =
 pub room-all : (texts before fields : List (List ℕ)) (k j : ℕ) → texts ≡ before ++ slice_range fields k j → bytes_in texts ≤ bytes_in before + bytes_in fields
 room-all texts before fields k j same = omega (arith, ap bytes_in same, bytes-append before (slice_range fields k j), bytes-part fields k j)
 
-one-within : (fields : List (List ℕ)) (i : ℕ) → length (get_or fields i []) ≤ bytes_in fields
-one-within [] i = omega arith
-one-within (f ∷ fs) zero = omega arith
-one-within (f ∷ fs) (suc i) = omega (arith, one-within fs i)
-
 each-within : (places : List ℕ) (fields : List (List ℕ)) → bytes_in (fields_at places fields) ≤ bytes_in fields * length places
 each-within [] fields = omega arith
-each-within (p ∷ ps) fields = let here = one-within fields p in let more = each-within ps fields in grind (arith, here, more)
+each-within (p ∷ ps) fields = let here = field-within fields p in let more = each-within ps fields in grind (arith, here, more)
 
 -- how many bytes the fields at a few places have
 pub bytes-at : (places : List ℕ) (fields : List (List ℕ)) → length places ≤ 15 → bytes_in (fields_at places fields) ≤ 15 * bytes_in fields

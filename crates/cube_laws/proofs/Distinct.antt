@@ -92,14 +92,8 @@ module _ {X : Type 0} {cmp : X → X → Ordering} (turn : (x y : X) → cmp x y
       ]
 
 module _ {X : Type 0} {cmp : X → X → Ordering} (total : IsTotalOrder cmp) (anti : IsAntisymmetric cmp) where
-  pub among_put_in : (z x : X) (ys : List X) → Among z (put_in cmp x ys) ↔ ((z ≡ x) ⊎ Among z ys)
-  among_put_in z x ys = among_put_in-told cmp z x ys (λ y m. anti x y)
-
   pub among_distinct : (z : X) (xs : List X) → Among z (distinct cmp xs) ↔ Among z xs
   among_distinct z xs = among_distinct-told cmp xs (λ x y m n. anti x y) z
-
-  pub rises_put_in : (x : X) (ys : List X) → Rises cmp ys → Rises cmp (put_in cmp x ys)
-  rises_put_in = rises_put_in-by_order total
 
   pub rises_distinct : (xs : List X) → Rises cmp (distinct cmp xs)
   rises_distinct = rises_distinct-by_order total

@@ -27,7 +27,7 @@ int_mul_assoc a b c =
 swap : (a : ℤ) (m n : ℕ) → (a *ℤ pos m) *ℤ pos n ≡ (a *ℤ pos n) *ℤ pos m
 swap a m n = int_mul_assoc a (pos m) (pos n) ∙ ap (λ (k : ℕ). a *ℤ pos k) (mul_comm m n) ∙ sym (int_mul_assoc a (pos n) (pos m))
 
-mono : (a b : ℤ) (k : ℕ) → 0 < k → a <ℤ b → (a *ℤ pos k) <ℤ (b *ℤ pos k)
+pub mono : (a b : ℤ) (k : ℕ) → 0 < k → a <ℤ b → (a *ℤ pos k) <ℤ (b *ℤ pos k)
 mono a b k p q = omega (arith, ints, product_is a (pos k), product_is b (pos k), mul-lt-mul_of_pos_right {m = up a + down b} {n = up b + down a} {k = k} (omega (arith, ints)) p)
 
 less_is : (a b : ℤ) → a <ℤ b → int_cmp a b ≡ Less

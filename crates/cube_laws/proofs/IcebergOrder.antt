@@ -1,5 +1,5 @@
 -- The classes of an iceberg answer stand in the order of their values, and in no other way.
-use Rattle.std.proofs.Common.{◌≡◌, ◌↔◌, ℕ, zero, suc, ◌<◌, ◌*◌, ◌^◌, true, List, [], ◌∷◌, map, length, pos, ◌*ℤ◌, refl, sym, ap, ap₂, subst, ◌∙◌, arith, inl, inr}
+use Rattle.std.proofs.Common.{◌≡◌, ◌↔◌, ℕ, zero, suc, ◌<◌, ◌*◌, ◌^◌, true, List, [], ◌∷◌, map, pos, ◌*ℤ◌, refl, sym, ap, ap₂, subst, ◌∙◌, arith, inl, inr}
 use Rattle.std.specs.declared.cmp.Ordering.{Ordering}
 use Rattle.std.specs.declared.cmp.Ordering.TheVariants.{Less, Equal, Greater}
 use Rattle.std.specs.Ordering.{eq_by_cmp, ordering_then, ordering_reverse, on}
@@ -13,7 +13,7 @@ use Rattle.cube_defs.specs.Answers.{Ask, AggKind, Bound, ClassHit, part, fractio
 use Rattle.cube_defs.specs.Answers.Bound.{AtLeast, AtMost}
 use Rattle.cube_defs.specs.Answers.AggKind.{Count, Sum, Least, Greatest, Mean}
 use Rattle.cube_laws.specs.Lists.{Among, Rises}
-use Rattle.cube_laws.proofs.Lists.{among_filter, filter_among}
+use Rattle.cube_laws.proofs.Lists.{among_filter, filter_among, among-length}
 use Rattle.cube_laws.proofs.Distinct.{rises_distinct-by_order, rises_same-by_turn, distinct-map, rises-map}
 use Rattle.cube_laws.proofs.Orders.{equality_by}
 use Rattle.cube_laws.proofs.Closures.{is_class-is}
@@ -32,10 +32,6 @@ value-positive (Sum m) scale a h = lowest_terms-positive (part a m).sum (10 ^ sc
 value-positive (Least m) scale a h = lowest_terms-positive (part a m).least (10 ^ scale) (ten-pow scale)
 value-positive (Greatest m) scale a h = lowest_terms-positive (part a m).greatest (10 ^ scale) (ten-pow scale)
 value-positive (Mean m) scale a h = lowest_terms-positive (part a m).sum (a.count * 10 ^ scale) (mul-pos h (ten-pow scale))
-
-among-length : {X : Type 0} (x : X) (xs : List X) → Among x xs → 0 < length xs
-among-length x [] h = absurd h
-among-length x (y ∷ xs) h = omega arith
 
 -- a class whose value has a positive denominator
 record Valued (A : Type 0) (kind : AggKind) (scale : ℕ) : Type 0 where

@@ -1,8 +1,8 @@
 -- The iceberg answer has just the classes that pass; so it is the same under other values, up to the order.
 use Rattle.std.proofs.Common.{ap₂, ◌≡◌, ◌↔◌, ℕ, Bool, true, List, map, filter, refl, sym, ap, subst, ◌∙◌}
 use Rattle.std.specs.declared.cmp.Ordering.{Ordering}
-use Rattle.std.specs.declared.cmp.Ordering.TheVariants.{Less, Equal, Greater}
-use Rattle.std.specs.Ordering.{eq_by_cmp, ordering_then, ordering_reverse}
+use Rattle.std.specs.declared.cmp.Ordering.TheVariants.{Equal}
+use Rattle.std.specs.Ordering.{eq_by_cmp, ordering_reverse}
 use Rattle.std.specs.Cmp.{IsTotalOrder}
 use Rattle.std.specs.FinMap.{IsAntisymmetric}
 use Rattle.cube_defs.specs.Cell.{Cell, cell_cmp}
@@ -14,7 +14,7 @@ use Rattle.cube_laws.specs.Lists.{Among}
 use Rattle.cube_laws.specs.Recoding.{coded, coded_row, TellsApart, RowsAreKnown, IsCodedClass}
 use Rattle.cube_laws.proofs.Lists.{among_filter, filter_among, among_map, map_among}
 use Rattle.cube_laws.proofs.Distinct.{among_distinct-told}
-use Rattle.cube_laws.proofs.Orders.{equality_by}
+use Rattle.cube_laws.proofs.Orders.{equality_by, then_equal}
 use Rattle.cube_laws.proofs.Covered.{cell_anti}
 use Rattle.cube_laws.proofs.RecodedRows.{agg-coded}
 use Rattle.cube_laws.proofs.RecodedLists.{known-covered, classes-coded, lower_bounds-coded}
@@ -27,11 +27,6 @@ module _ {A : Type 0} (cmp : A → A → Ordering) (measures : ℕ) (rows : List
 module _ {A : Type 0} {cmp : A → A → Ordering} (total : IsTotalOrder cmp) (anti : IsAntisymmetric cmp) (measures : ℕ) (rows : List (Row A)) where
   abbrev passing : Ask → List (Cell A)
   passing ask = filter (λ u. is_asked ask (agg (eq_by_cmp cmp) measures rows u)) (classes cmp rows)
-
-  then_equal : (a b : Ordering) → ordering_then a b ≡ Equal → b ≡ Equal
-  then_equal Less b h = cc
-  then_equal Equal b h = h
-  then_equal Greater b h = cc
 
   equal_upper : (k : AggKind) (s : ℕ) (b : Bound) (v : Fraction) (x y : ClassHit A) → answer_cmp cmp (record { kind = k; scale = s; bound = b; value = v }) x y ≡ Equal → cell_cmp cmp x.upper y.upper ≡ Equal
   equal_upper k s AtLeast v x y e = then_equal (ordering_reverse (fraction_cmp (value_of k s x.agg) (value_of k s y.agg))) (cell_cmp cmp x.upper y.upper) e

@@ -1,5 +1,5 @@
 -- The values of a column are enough to part rows by.
-use Rattle.std.proofs.Common.{◌≡◌, ℕ, zero, suc, ◌<◌, true, false, Some, List, [], ◌∷◌, filter_map, length, refl, ap, arith, slice_get}
+use Rattle.std.proofs.Common.{◌≡◌, ℕ, ◌<◌, true, false, List, [], ◌∷◌, filter_map, length, ap, slice_get}
 use Rattle.std.specs.declared.cmp.Ordering.{Ordering}
 use Rattle.std.specs.declared.cmp.Ordering.TheVariants.{Less}
 use Rattle.std.specs.Ordering.{eq_by_cmp, is_eq}
@@ -11,7 +11,7 @@ use Rattle.cube_defs.specs.Rows.{Row, covers, cov}
 use Rattle.cube_defs.specs.Tree.{values_at}
 use Rattle.cube_laws.specs.Lists.{Among, Once, Rises}
 use Rattle.cube_laws.specs.Parts.{HasAll}
-use Rattle.cube_laws.proofs.Lists.{all_at, all_from, among_filter, filter_among, among_filter_map}
+use Rattle.cube_laws.proofs.Lists.{all_at, all_from, among_filter, filter_among, among_filter_map, item_at}
 use Rattle.cube_laws.proofs.Distinct.{among_distinct, rises_distinct}
 use Rattle.cube_laws.proofs.Cells.{leq_trans}
 use Rattle.cube_laws.proofs.Orders.{equality_by}
@@ -36,10 +36,5 @@ module _ {A : Type 0} {cmp : A → A → Ordering} (total : IsTotalOrder cmp) (a
     column_all some within long = all_from _ (cov (eq_by_cmp cmp) some u) (λ s m.
         let f = filter_among (covers (eq_by_cmp cmp) u) s some m in
         let there : Among s (cov (eq_by_cmp cmp) rows p) = among_filter (covers (eq_by_cmp cmp) p) s rows (within s f.0) (leq_trans (equality_by total anti) p u (cell_of s.tuple) low f.1) in
-        let v = value_in s.tuple i (all_at (λ row. i < length row.tuple) s rows long (within s f.0)) in
+        let v = item_at s.tuple i (all_at (λ row. i < length row.tuple) s rows long (within s f.0)) in
         (v.0, (among_distinct total anti v.0 (filter_map (λ (row : Row A). slice_get row.tuple i) (cov (eq_by_cmp cmp) rows p))).1 ((among_filter_map (λ (row : Row A). slice_get row.tuple i) v.0 (cov (eq_by_cmp cmp) rows p)).1 (s, there, v.1)), has_same (equality_by total anti) i v.0 s v.1))
-      where
-        value_in : (t : List A) (i : ℕ) → i < length t → (v : A) × (slice_get t i ≡ Some v)
-        value_in [] i h = absurd (omega arith)
-        value_in (x ∷ t) zero h = (x, refl)
-        value_in (x ∷ t) (suc i) h = value_in t i (omega arith)

@@ -1,5 +1,5 @@
 -- Lists: filters, facts of all items, and items among others.
-use Rattle.std.proofs.Common.{suc, length, ◌≤◌, ◌≡◌, ◌↔◌, ◌⊎◌, Bool, true, false, ◌&&◌, cond, Option, Some, None, List, [], ◌∷◌, ◌++◌, map, filter, filter_map, flat_map, refl, sym, ap, ap₂, subst, ◌∙◌, arith, true≢false, inl, inr}
+use Rattle.std.proofs.Common.{ℕ, zero, suc, length, slice_get, ◌<◌, ◌≤◌, ◌≡◌, ◌↔◌, ◌⊎◌, Bool, true, false, ◌&&◌, cond, Option, Some, None, List, [], ◌∷◌, ◌++◌, map, filter, filter_map, flat_map, refl, sym, ap, ap₂, subst, ◌∙◌, arith, true≢false, inl, inr}
 use Rattle.std.proofs.lemmas.Bool.{cond-true, cond-false}
 use Rattle.std.proofs.lemmas.List.Elements.{filter-append}
 use Rattle.std.specs.List.{AllByRecursion, cons_option, list_all}
@@ -222,3 +222,27 @@ all_or_one {X = X} p (x ∷ xs) = go (p x) refl (all_or_one p xs)
     go true e (inl h) = inl (e, h)
     go true e (inr h) = inr (h.0, inr h.1, h.2)
     go false e h = inr (x, inl refl, e)
+
+module _ {X : Type 0} where
+  pub all_append : (P : X → Type 0) (xs ys : List X) → AllByRecursion P xs → AllByRecursion P ys → AllByRecursion P (xs ++ ys)
+  all_append P [] ys h g = g
+  all_append P (x ∷ xs) ys h g = (h.0, all_append P xs ys h.1 g)
+
+  pub all_front : (P : X → Type 0) (xs ys : List X) → AllByRecursion P (xs ++ ys) → AllByRecursion P xs
+  all_front P [] ys h = tt
+  all_front P (x ∷ xs) ys h = (h.0, all_front P xs ys h.1)
+
+  -- the item at a place
+  pub item_at : (xs : List X) (k : ℕ) → k < length xs → (x : X) × (slice_get xs k ≡ Some x)
+  item_at [] k h = absurd (omega arith)
+  item_at (x ∷ xs) zero h = (x, refl)
+  item_at (x ∷ xs) (suc k) h = item_at xs k (omega arith)
+
+  pub get_among : (xs : List X) (k : ℕ) (x : X) → slice_get xs k ≡ Some x → Among x xs
+  get_among [] k x h = cc
+  get_among (y ∷ xs) zero x h = inl (let is : x ≡ y = cc in is)
+  get_among (y ∷ xs) (suc k) x h = inr (get_among xs k x h)
+
+  pub among-length : (x : X) (xs : List X) → Among x xs → 0 < length xs
+  among-length x [] h = absurd h
+  among-length x (y ∷ xs) h = omega arith

@@ -1,7 +1,7 @@
 -- What rows share, by their columns.
 use Rattle.std.proofs.Common.{◌≡◌, ◌↔◌, ℕ, zero, suc, ◌<◌, true, Option, Some, None, List, [], ◌∷◌, length, nat_eq, slice_get, slice_index_or, refl, sym, ap, ap₂, subst, ◌∙◌, arith}
 use Rattle.std.specs.List.{AllByRecursion}
-use Rattle.cube_defs.specs.Cell.{Cell, leq, cell_of}
+use Rattle.cube_defs.specs.Cell.{Cell, leq}
 use Rattle.cube_defs.specs.Rows.{Row, covers, cov, closure, meet_all}
 use Rattle.cube_laws.specs.Tuples.{cells_of}
 use Rattle.cube_laws.proofs.Lists.{filter_all}
@@ -63,8 +63,3 @@ same_entries [] [] l h = refl
 same_entries [] (y ∷ d) l h = absurd (omega arith)
 same_entries (x ∷ c) [] l h = absurd (omega arith)
 same_entries (x ∷ c) (y ∷ d) l h = ap₂ (λ a b. a ∷ b) (h 0 (omega arith)) (same_entries c d (omega arith) (λ j m. h (suc j) (omega arith)))
-
-pub cell-entry : (t : List ℕ) (k : ℕ) → k < length t → entry (cell_of t) k ≡ Some (slice_index_or t k 0)
-cell-entry [] k h = absurd (omega arith)
-cell-entry (x ∷ t) zero h = refl
-cell-entry (x ∷ t) (suc k) h = cell-entry t k (omega arith)

@@ -29,11 +29,6 @@ module _ {X M : Type 0} (op : M → M → M) (none : M) (law : IsAddition op non
   total_same g [] h = refl
   total_same g (x ∷ xs) h = ap₂ op h.0 (total_same g xs h.1)
 
-  -- items that add nothing can be left out
-  pub total_nothing : (xs : List X) → AllByRecursion (λ x. f x ≡ none) xs → total op none f xs ≡ none
-  total_nothing [] h = refl
-  total_nothing (x ∷ xs) h = ap₂ op h.0 (total_nothing xs h.1) ∙ law.unit none
-
 module _ {X K M : Type 0} (op : M → M → M) (none : M) (law : IsAddition op none) (eq : K → K → Bool) (f : X → M) (has : K → X → Bool)
     (alone : (v w : K) (x : X) → eq v w ≡ false → has w x ≡ true → has v x ≡ false) where
   later : (v : K) (vs : List K) (x : X) → (w : K) × Among w (v ∷ vs) × (has w x ≡ true) → not (has v x) ≡ true → (w : K) × Among w vs × (has w x ≡ true)

@@ -1,5 +1,5 @@
 -- The new closure of a cell that covers the row that goes, by one other row of it and a few counts.
-use Rattle.std.proofs.Common.{◌≡◌, ◌↔◌, ℕ, zero, suc, ◌<◌, ◌≤◌, Bool, true, false, Some, None, List, [], ◌∷◌, ◌++◌, filter, length, refl, sym, ap, ◌∙◌, arith, slice_get, inl, inr}
+use Rattle.std.proofs.Common.{◌≡◌, ◌↔◌, ℕ, suc, ◌<◌, ◌≤◌, Bool, true, false, Some, None, List, [], ◌∷◌, ◌++◌, filter, length, sym, ap, ◌∙◌, arith, slice_get, inl, inr}
 use Rattle.std.proofs.lemmas.Bool.{and_from, and_right, false_from_ne_true}
 use Rattle.std.specs.List.{AllByRecursion}
 use Rattle.std.specs.Option.{option_eq}
@@ -9,7 +9,7 @@ use Rattle.cube_laws.specs.Counts.{count}
 use Rattle.cube_laws.specs.Parts.{has_value}
 use Rattle.cube_laws.specs.Total.{total, join_cells, agg_at, agg_some}
 use Rattle.cube_laws.specs.Tuples.{cells_of}
-use Rattle.cube_laws.proofs.Lists.{all_map, to_filter, from_filter, all_at, filter_among, filter_none, all_or_one, length_filter-insert, insert-all, all-insert}
+use Rattle.cube_laws.proofs.Lists.{all_map, to_filter, from_filter, all_at, filter_among, filter_none, all_or_one, length_filter-insert, insert-all, all-insert, item_at}
 use Rattle.cube_laws.proofs.Cells.{IsEquality, symm}
 use Rattle.cube_laws.proofs.Closures.{closure_mono, closure_some, leq-closure}
 use Rattle.cube_laws.proofs.Columns.{closure-entry}
@@ -18,11 +18,6 @@ use Rattle.cube_laws.proofs.RowTotals.{row_cell, closure_total}
 use Rattle.cube_laws.proofs.Partition.{has_exact, has_same, cov_with, covers_with, leq_with_any}
 use Rattle.cube_laws.proofs.OneRow.{cov_stays, closure_stays}
 use Rattle.cube_laws.proofs.Counts.{all_have, count_mono, same_count, count_decides, leq_entry, no_new}
-
-value_at : {A : Type 0} (t : List A) (i : ℕ) → i < length t → (v : A) × (slice_get t i ≡ Some v)
-value_at [] i h = absurd (omega arith)
-value_at (x ∷ t) zero h = (x, refl)
-value_at (x ∷ t) (suc i) h = value_at t i (omega arith)
 
 module _ {A : Type 0} {eq : A → A → Bool} (law : IsEquality eq) where
   eq_apart : (k : ℕ) (v t : A) (r : Row A) → has_value eq k t r ≡ true → has_value eq k v r ≡ false → eq v t ≡ false
@@ -42,7 +37,7 @@ module _ {A : Type 0} {eq : A → A → Bool} (law : IsEquality eq) where
         let s : Row A = one.0 in
         let f = filter_among (covers eq u) s rows one.1 in
         let size : length s.tuple ≡ n = all_at (λ row. length row.tuple ≡ n) s rows long f.0 in
-        let v = value_at s.tuple i (omega arith) in
+        let v = item_at s.tuple i (omega arith) in
         (v.0, symm law v.0 t ∙ sym (ap (option_eq eq (Some t)) v.1) ∙ one.2, covered_some eq rows (with_value u i v.0) s f.0 (covers_with law u i v.0 s any ∙ and_from _ _ f.1 (has_same law i v.0 s v.1)))
   ]
 

@@ -19,6 +19,7 @@ use Rattle.iceberg_query.specs.declared.ask.Ask.{Ask}
 use Rattle.iceberg_query.specs.declared.hits.Valued.{Valued}
 use Rattle.iceberg_query.specs.Hits.{AreClasses, IsValued, class_at, valued_of}
 use Rattle.iceberg_query.proofs.Reached.{wide}
+use Rattle.lower_bounds.proofs.Counted.{few_values}
 
 pub class_there : (tree : Tree ℕ) (k : ℕ) → IsSome (record_at tree k).class → IsSome (numbers.get tree k)
 class_there tree k t = go (numbers.get tree k) refl
@@ -26,11 +27,6 @@ class_there tree k t = go (numbers.get tree k) refl
     go : (o : Option (Node ℕ ℕ)) → numbers.get tree k ≡ o → IsSome (numbers.get tree k)
     go None e = absurd (true≢false (sym t ∙ ap (λ o. is_some (record_or o).class) e))
     go (Some n) e = subst (λ o. IsSome o) (sym e) refl
-
-values-le : (u : Cell ℕ) → values u ≤ length u
-values-le [] = omega arith
-values-le (None ∷ u) = let m = values-le u in omega (arith, m)
-values-le (Some v ∷ u) = let m = values-le u in omega (arith, m)
 
 squared : (m : ℕ) → m ^ 2 ≡ m * m
 squared m =
@@ -58,7 +54,7 @@ class_steps n v l =
 pub steps_within : (dims : ℕ) (tree : Tree ℕ) (source : Source) (h : IsFrom dims tree source) (k : ℕ) (old up read new long : ℕ) → IsSome (record_at tree k).class → long ≡ dims → up ≤ old + (2 * long + 2) → read ≡ up + 1
     → new ≤ read + 16 * (dims + 1) ^ 2 * 2 ^ values (record_at tree k).cell → new ≤ old + 32 * (dims + 1) ^ 2 * 2 ^ dims
 steps_within dims tree source h k old up read new long t same a b c =
-    let few : values (record_at tree k).cell ≤ dims = (let v = values-le (record_at tree k).cell in let w = wide dims tree source h k (class_there tree k t) in omega (arith, v, w)) in
+    let few : values (record_at tree k).cell ≤ dims = (let v = few_values (record_at tree k).cell in let w = wide dims tree source h k (class_there tree k t) in omega (arith, v, w)) in
     let s = class_steps dims (values (record_at tree k).cell) few in
     omega (arith, s, same, a, b, c)
 

@@ -11,6 +11,7 @@ use Rattle.cube_defs.specs.Tree.{Node, Tree}
 use Rattle.cube_defs.specs.Answers as answers
 use Rattle.cube_laws.specs.Lists.{Among, Once}
 use Rattle.cube_laws.proofs.Lists.{among_filter, among_map, filter_among, map_among}
+use Rattle.cube_laws.proofs.Orders.{nat_eq-turned}
 use Rattle.aggregates.specs.Views.{fraction_in, kind_in, ratio_in}
 use Rattle.measure_index.specs.declared.entry.Entry.{Entry}
 use Rattle.measure_index.specs.Index.{entries_in, ranking_of}
@@ -29,12 +30,9 @@ use Rattle.iceberg_query.specs.Picked.{ArePicked}
 use Rattle.iceberg_query.proofs.Bounded.{class_there}
 use Rattle.iceberg_query.proofs.Sorted.{among_permutation, once_permutation}
 
-nat_flips : (x y : ℕ) → nat_eq x y ≡ nat_eq y x
-nat_flips x y = grind arith
-
 picked_permutation : (tree : Tree ℕ) (ask : Ask) (ks ls : List ℕ) → IsPermutation ks ls → ArePicked tree ask ks → ArePicked tree ask ls
 picked_permutation tree ask ks ls p a = record {
-  once = once_permutation nat_eq nat_flips ks ls p a.once;
+  once = once_permutation nat_eq nat_eq-turned ks ls p a.once;
   each = λ k. (λ m. (a.each k).0 (among_permutation ks ls p k m), λ q. among_permutation ls ks (IsPermutation-sym ks ls p) k ((a.each k).1 q));
 }
 

@@ -13,6 +13,7 @@ use Rattle.std.proofs.lemmas.Bool.{and_from, and_parts, false_from_ne_true}
 use Rattle.std.proofs.lemmas.List.Elements.{All-cons, All-from_recursion}
 use Rattle.std.proofs.lemmas.List.FromFn.{length-map-range_with_len}
 use Rattle.std.proofs.lemmas.List.Sorted.{All-permutation, IsPermutation-sym}
+use Rattle.std.proofs.lemmas.List.{length-map}
 use Rattle.cube_defs.specs.Text.{Text, text_cmp}
 use Rattle.cube_defs.specs.Cell.{Cell, cell_cmp, depth, keep}
 use Rattle.cube_defs.specs.Rows.{Row, Agg, agg, amounts_of, cov, is_class, part_of}
@@ -28,7 +29,7 @@ use Rattle.cube_laws.proofs.Icebergs.{asked-is, hit_of}
 use Rattle.cube_laws.proofs.Listed.{classes-is}
 use Rattle.cube_laws.proofs.Lists.{among_map, map_among}
 use Rattle.cube_laws.proofs.Nodes.{class_fronts}
-use Rattle.cube_laws.proofs.Orders.{equality_by}
+use Rattle.cube_laws.proofs.Orders.{equality_by, is_equal, then_equal, code_equality}
 use Rattle.cube_laws.proofs.Recoded.{coded-apart}
 use Rattle.cube_laws.proofs.RecodedLists.{classes-coded, known-closed}
 use Rattle.cube_laws.proofs.RecodedRows.{agg-coded}
@@ -38,7 +39,7 @@ use Rattle.cell_core.specs.declared.cell.NodeNo.{NodeNo}
 use Rattle.qc_arena.specs.Seen.{number, record_at}
 use Rattle.tree_laws.proofs.Fronts.{keep-beyond}
 use Rattle.tree_search.specs.Found.{IsFrom, Source}
-use Rattle.tree_search.proofs.Walked.{cell_of, cell_there, there}
+use Rattle.tree_search.proofs.Walked.{cell_of, cell_there}
 use Rattle.value_dict.specs.TextLists.{IsDictionary, TextLists}
 use Rattle.value_dict.specs.Recoded.{has_code, text_in, told_rows}
 use Rattle.value_dict.specs.Told as telling
@@ -55,8 +56,9 @@ use Rattle.iceberg_query.specs.Hits.{IsValued, class_at, told_classes, valued_of
 use Rattle.iceberg_query.specs.Order.{is_before, told_upper, turned, valued_cmp}
 use Rattle.iceberg_query.specs.Picked.{ArePicked}
 use Rattle.tree_laws.proofs.LowersRecoded.{lowers-coded, lowers-known}
+use Rattle.tree_laws.proofs.Lists.{there}
 use Rattle.value_dict.proofs.TextsApart.{texts-apart, texts-known, told-known}
-use Rattle.iceberg_query.proofs.Measures.{law, wanted_is}
+use Rattle.iceberg_query.proofs.Measures.{wanted_is}
 use Rattle.iceberg_query.proofs.Ordered.{valued_total}
 use Rattle.iceberg_query.proofs.Reached.{wide}
 use Rattle.iceberg_query.proofs.Sorted.{all_among, among_permutation, flips, once_permutation, sorted_rises}
@@ -100,7 +102,7 @@ module _ (dims : ℕ) (tree : Tree ℕ) (dict : TextLists) (ask : Ask) (source :
     known : AreKnown (has_code dict.lists) 0 (cell k)
 
   class_known : (c : Cell ℕ) → is_class (eq_by_cmp nat_cmp) source.rows c ≡ true → AreKnown (has_code dict.lists) 0 c
-  class_known c e = known-closed law (has_code dict.lists) source.rows c c rows_known ((is_class-is law source.rows c).0 e)
+  class_known c e = known-closed code_equality (has_code dict.lists) source.rows c c rows_known ((is_class-is code_equality source.rows c).0 e)
 
   found : (k : ℕ) → Among k ks → IsFound k
   found k m =
@@ -111,7 +113,7 @@ module _ (dims : ℕ) (tree : Tree ℕ) (dict : TextLists) (ask : Ask) (source :
   told_class : (c : Cell ℕ) → AreKnown (has_code dict.lists) 0 c → length c ≡ dims → told_hit dict (answers.class_at nat_cmp source.measures source.rows c) ≡ hit_of text_cmp source.measures rows (told_cell dict c)
   told_class c k long =
       ap₂ (λ (a : Agg) (ls : List (Cell Text)). record { upper = told_cell dict c; agg = a; lowers = ls })
-      (sym (agg-coded law text_law tells source.rows rows_known source.measures c k))
+      (sym (agg-coded code_equality text_law tells source.rows rows_known source.measures c k))
       (sym (lowers-coded nat_cmp_total numbers.nat_cmp-IsAntisymmetric (lists_total nat_cmp_total) (numbers.slice_cmp-IsAntisymmetric numbers.nat_cmp-IsAntisymmetric) tells dims source.rows rows_known h.wide c k long))
 
   -- the classes told are those that are asked for
@@ -126,7 +128,7 @@ module _ (dims : ℕ) (tree : Tree ℕ) (dict : TextLists) (ask : Ask) (source :
           told_cell dict (cell b.0),
           (classes-coded nat_cmp_total numbers.nat_cmp-IsAntisymmetric (lists_total nat_cmp_total) (numbers.slice_cmp-IsAntisymmetric numbers.nat_cmp-IsAntisymmetric) tells source.rows rows_known (told_cell dict (cell b.0))).1
               (cell b.0, (classes-is nat_cmp_total numbers.nat_cmp-IsAntisymmetric source.rows dims h.wide (cell b.0)).1 f.class, refl),
-          ap (answers.is_asked (ask_in ask)) (agg-coded law text_law tells source.rows rows_known source.measures (cell b.0) f.known) ∙ f.asked,
+          ap (answers.is_asked (ask_in ask)) (agg-coded code_equality text_law tells source.rows rows_known source.measures (cell b.0) f.known) ∙ f.asked,
           a.2 ∙ ap (told_hit dict) b.2 ∙ told_class (cell b.0) f.known long,
         ),
     λ m.
@@ -135,13 +137,13 @@ module _ (dims : ℕ) (tree : Tree ℕ) (dict : TextLists) (ask : Ask) (source :
         = (classes-coded nat_cmp_total numbers.nat_cmp-IsAntisymmetric (lists_total nat_cmp_total) (numbers.slice_cmp-IsAntisymmetric numbers.nat_cmp-IsAntisymmetric) tells source.rows rows_known p.0).0 p.1 in
         let class : is_class (eq_by_cmp nat_cmp) source.rows c.0 ≡ true = (classes-is nat_cmp_total numbers.nat_cmp-IsAntisymmetric source.rows dims h.wide c.0).0 c.1 in
         let whole : keep (depth c.0) c.0 ≡ c.0 = keep-beyond (depth c.0) c.0 (omega arith) in
-        let f : (k : ℕ) × (cell_at tree k ≡ Some (keep (depth c.0) c.0)) = h.canonical.all (keep (depth c.0) c.0) (class_fronts law source.rows (depth c.0) c.0 class) in
+        let f : (k : ℕ) × (cell_at tree k ≡ Some (keep (depth c.0) c.0)) = h.canonical.all (keep (depth c.0) c.0) (class_fronts code_equality source.rows (depth c.0) c.0 class) in
         let at : cell_at tree f.0 ≡ Some c.0 = f.1 ∙ ap (λ d. Some d) whole in
         let s = there tree f.0 c.0 at in
         let own : cell f.0 ≡ c.0 = cell_of tree f.0 c.0 at in
         let known = class_known c.0 class in
         let passes : answers.is_asked (ask_in ask) (agg (eq_by_cmp nat_cmp) source.measures source.rows c.0) ≡ true
-        = ap (answers.is_asked (ask_in ask)) (sym (agg-coded law text_law tells source.rows rows_known source.measures c.0 known)) ∙ ap (λ d. answers.is_asked (ask_in ask) (agg (eq_by_cmp text_cmp) source.measures rows d)) (sym c.2) ∙ p.2 in
+        = ap (answers.is_asked (ask_in ask)) (sym (agg-coded code_equality text_law tells source.rows rows_known source.measures c.0 known)) ∙ ap (λ d. answers.is_asked (ask_in ask) (agg (eq_by_cmp text_cmp) source.measures rows d)) (sym c.2) ∙ p.2 in
         let wants : is_wanted ask (record_at tree f.0).class ≡ true
         = wanted_is dims tree source h f.0 s ask ∙ and_from _ _ (ap (is_class (eq_by_cmp nat_cmp) source.rows) own ∙ class) (ap (λ d. answers.is_asked (ask_in ask) (agg (eq_by_cmp nat_cmp) source.measures source.rows d)) own ∙ passes) in
         let k : Among f.0 ks = (picked.each f.0).1 (s, wants) in
@@ -149,16 +151,6 @@ module _ (dims : ℕ) (tree : Tree ℕ) (dict : TextLists) (ask : Ask) (source :
         = ap (λ d. told_hit dict (answers.class_at nat_cmp source.measures source.rows d)) own ∙ told_class c.0 known (ap length (sym own) ∙ wide dims tree source h f.0 s) ∙ ap (hit_of text_cmp source.measures rows) (sym c.2) ∙ sym p.3 in
         subst (λ y. Among y (map (told_hit dict) (map (class_at source tree) ks))) same (map_among (told_hit dict) (class_at source tree f.0) (map (class_at source tree) ks) (map_among (class_at source tree) f.0 ks k)),
   )
-
-  is_equal : (r : Ordering) → is_eq r ≡ true → r ≡ Equal
-  is_equal Less e = cc
-  is_equal Equal e = refl
-  is_equal Greater e = cc
-
-  then_equal : (a b : Ordering) → ordering_then a b ≡ Equal → b ≡ Equal
-  then_equal Less b e = cc
-  then_equal Equal b e = e
-  then_equal Greater b e = cc
 
   abbrev ties : Valued → Valued → Bool
   ties x y = is_eq (valued_cmp dict.lists ask.bound x y)
@@ -172,7 +164,7 @@ module _ (dims : ℕ) (tree : Tree ℕ) (dict : TextLists) (ask : Ask) (source :
       = cell_anti (lists_total nat_cmp_total) (numbers.slice_cmp-IsAntisymmetric numbers.nat_cmp-IsAntisymmetric) (told_upper dict.lists x) (told_upper dict.lists y) cells in
       let own : x.class.upper ≡ cell k = ap (λ (z : answers.ClassHit ℕ). z.upper) a in
       let other : y.class.upper ≡ cell l = ap (λ (z : answers.ClassHit ℕ). z.upper) b in
-      let same : cell k ≡ cell l = coded-apart law text_law tells (cell k) (cell l) f.known g.known (ap (told_cell dict) (sym own) ∙ told ∙ ap (told_cell dict) other) in
+      let same : cell k ≡ cell l = coded-apart code_equality text_law tells (cell k) (cell l) f.known g.known (ap (told_cell dict) (sym own) ∙ told ∙ ap (told_cell dict) other) in
       h.canonical.once k l (cell l) (cell_there tree k f.there ∙ ap (λ c. Some c) same) (cell_there tree l g.there)
 
   once_values : (vs : List Valued) (ls : List ℕ) → map valued_of vs ≡ map (class_at source tree) ls → Once nat_eq ls → ((k : ℕ) → Among k ls → IsFound k) → Once ties vs
@@ -283,8 +275,4 @@ module _ (dims : ℕ) (tree : Tree ℕ) (dict : TextLists) (ask : Ask) (source :
 
 pub hits_count : (source : Source) (tree : Tree ℕ) (found_values values : List Valued) (answer : List Class) (nodes : List NodeNo) → map valued_of found_values ≡ map (class_at source tree) (map number nodes) → length values ≡ length found_values → answer ≡ map hits.class_of values → length answer ≡ length nodes
 hits_count source tree found_values values answer nodes e l is =
-    ap length is ∙ length-map hits.class_of values ∙ l ∙ sym (length-map valued_of found_values) ∙ ap length e ∙ length-map (class_at source tree) (map number nodes) ∙ length-map number nodes
-  where
-    length-map : {X Y : Type 0} (f : X → Y) (xs : List X) → length (map f xs) ≡ length xs
-    length-map f [] = refl
-    length-map f (x ∷ xs) = ap suc (length-map f xs)
+    ap length is ∙ length-map values hits.class_of ∙ l ∙ sym (length-map found_values valued_of) ∙ ap length e ∙ length-map (map number nodes) (class_at source tree) ∙ length-map nodes number

@@ -15,11 +15,7 @@ use Rattle.tree_laws.proofs.Climbs.{class_is}
 use Rattle.tree_laws.proofs.Lists.{some_same}
 use Rattle.tree_search.specs.Found.{IsFrom, Names, Source, closure_in}
 use Rattle.tree_search.proofs.Walked.{cell_of, there_is}
-use Rattle.cube_laws.proofs.Orders.{equality_by}
-use Rattle.cube_laws.proofs.Cells.{IsEquality}
-
-code_equality : IsEquality (eq_by_cmp nat_cmp)
-code_equality = equality_by nat_cmp_total map.nat_cmp-IsAntisymmetric
+use Rattle.cube_laws.proofs.Orders.{code_equality}
 
 module _ (dims : ℕ) (tree : Tree ℕ) (source : Source) (h : IsFrom dims tree source) (c : Cell ℕ) (k : ℕ) (t : IsSome (map.get tree k)) (e : Names tree (Some k) (closure_in source c)) where
   -- the node's cell is the closure

@@ -4,7 +4,7 @@ use Rattle.std.specs.BTreeSet.{BTreeSet}
 use Rattle.aggregates.specs.declared.agg.Agg.{Agg}
 use Rattle.cell_core.specs.declared.cell.NodeNo.{NodeNo}
 use Rattle.measure_index.specs.declared.entry.Entry.{Entry}
-use Rattle.measure_index.specs.Changes.{ArePlanned, Came, HasChanged, Lack, Went, has, lists}
+use Rattle.measure_index.specs.Changes.{ArePlanned, Came, HasChanged, Went, has, lists}
 use Rattle.measure_index.specs.Rankings.{Ranking}
 use Rattle.measure_index.proofs.EntryLemmas.{same_entries}
 use Rattle.measure_index.proofs.KeyLemmas.{changed, undone}
@@ -26,9 +26,6 @@ module _ (add remove : List (NodeNo × Agg)) (old mid new : Ranking) (coming goi
   lacks c a false e t = refl
   lacks c true true e t = absurd (true≢false (sym t ∙ e))
   lacks c false true e t = absurd (true≢false (sym t ∙ e))
-
-  pub are_lacking : Lack old came
-  are_lacking e t = lacks (lists came e) (lists plan.added e) (has old e) (ap (λ es. lists es e) p ∙ plan.comes e) t
 
   pub has_gone_back : went ≡ coming → Came came old mid → Went went mid new → new ≡ old
   has_gone_back q c w =

@@ -5,14 +5,14 @@ use Rattle.std.specs.List.{AllByRecursion, AllZip}
 use Rattle.std.specs.List.Sorted.{IsStrictlySortedBy}
 use Rattle.std.specs.Ordering.{is_eq}
 use Rattle.std.specs.Cmp.{tied_itself}
-use Rattle.std.specs.declared.cmp.Ordering.{Ordering}
-use Rattle.std.specs.declared.cmp.Ordering.TheVariants.{Less, Equal, Greater}
+use Rattle.std.specs.declared.cmp.Ordering.TheVariants.{Less, Equal}
 use Rattle.std.proofs.lemmas.Bool.{false_from_ne_true}
 use Rattle.std.proofs.lemmas.Map.Keys.{sorted_head, sorted_tail}
 use Rattle.std.proofs.lemmas.Bool.Decides.{Decides-eqb, Decides-int_eq}
 use Rattle.cube_defs.specs.Rows as defs
 use Rattle.cube_defs.specs.Answers.{value_of}
 use Rattle.cube_laws.specs.Lists.{Among, Once}
+use Rattle.cube_laws.proofs.Orders.{is_equal}
 use Rattle.aggregates.specs.Views.{agg_in, kind_in, ratio_in}
 use Rattle.aggregates.specs.declared.agg.Agg.{Agg}
 use Rattle.aggregates.specs.declared.kind.AggKind.{AggKind}
@@ -83,11 +83,6 @@ class_or_not (Some b) a = elim (agg_or_not b a) [ inl e ↦ inl (ap (λ x. Some 
 
 -- ---- entries of a list
 
-tied : (o : Ordering) → is_eq o ≡ true → o ≡ Equal
-tied Less h = absurd (true≢false (sym h))
-tied Equal h = refl
-tied Greater h = absurd (true≢false (sym h))
-
 or_true : (b : Bool) → (b || true) ≡ true
 or_true true = refl
 or_true false = refl
@@ -97,7 +92,7 @@ has_among kind scale [] q h = absurd (true≢false (sym h))
 has_among kind scale (e ∷ es) q h = go (has_among kind scale es q) (is_eq (entry_cmp q e)) refl h
   where
     go : (has (record { kind = kind; scale = scale; entries = es }) q ≡ true → Among q es) → (b : Bool) → is_eq (entry_cmp q e) ≡ b → (b || has (record { kind = kind; scale = scale; entries = es }) q) ≡ true → Among q (e ∷ es)
-    go more true t k = inl (exact q e (tied (entry_cmp q e) t))
+    go more true t k = inl (exact q e (is_equal (entry_cmp q e) t))
     go more false t k = inr (more k)
 
 among_has : (kind : AggKind) (scale : ℕ) (es : List Entry) (q : Entry) → Among q es → has (record { kind = kind; scale = scale; entries = es }) q ≡ true
@@ -112,7 +107,7 @@ lists_among [] q h = absurd (true≢false (sym h))
 lists_among (e ∷ es) q h = go (lists_among es q) (is_eq (entry_cmp e q)) refl h
   where
     go : (lists es q ≡ true → Among q es) → (b : Bool) → is_eq (entry_cmp e q) ≡ b → (b || lists es q) ≡ true → Among q (e ∷ es)
-    go more true t k = inl (sym (exact e q (tied (entry_cmp e q) t)))
+    go more true t k = inl (sym (exact e q (is_equal (entry_cmp e q) t)))
     go more false t k = inr (more k)
 
 among_lists : (es : List Entry) (q : Entry) → Among q es → lists es q ≡ true

@@ -2,20 +2,21 @@
 use mathlib.Core.HLevel.{is_prop→PathP}
 use native.Mathlib.Bridge.{le_prop}
 use Prim.Native.Nat.{◌∣◌}
-use Rattle.std.proofs.Common.{◌≡◌, ℕ, zero, suc, ◌+◌, ◌*◌, ◌/◌, ◌%◌, ◌^◌, ◌<◌, ◌≤◌, ℤ, pos, negsuc, neg_ℤ, ◌*ℤ◌, ◌<ℤ◌, refl, sym, ap, subst, ◌∙◌, arith, nat_abs}
+use Rattle.std.proofs.Common.{◌≡◌, ℕ, zero, suc, ◌+◌, ◌*◌, ◌/◌, ◌%◌, ◌^◌, ◌<◌, ◌≤◌, ℤ, pos, negsuc, ◌*ℤ◌, ◌<ℤ◌, refl, sym, ap, subst, ◌∙◌, arith, nat_abs}
 use Rattle.std.specs.declared.cmp.Ordering.TheVariants.{Equal}
 use Rattle.std.specs.Int.{IsGcd}
 use Rattle.std.specs.Ordering.{int_cmp}
-use Rattle.std.proofs.Math.Nat.{ℕ_set, dvd-mul_left, mul-one, mul-zero, mul_comm, mul-lt-mul_of_pos_left, mul-lt-mul_of_pos_right, mod-lt}
+use Rattle.std.proofs.Math.Nat.{ℕ_set, dvd-mul_left, mul-one, mul-zero, mul_comm, mul-lt-mul_of_pos_left, mod-lt}
 use Rattle.std.proofs.lemmas.Cmp.{by_ranked, int_ranked}
 use Rattle.std.proofs.lemmas.Int.{ints}
 use Rattle.std.proofs.lemmas.Map.Lookups.{exact_signed}
 use Rattle.std.proofs.lemmas.Nat.{div-add-mod', mod-mul-add}
 use Rattle.std.proofs.lemmas.Nat.Gcd.{IsGcd-from_mod, IsGcd-from_zero, dvd_antisymm}
-use borrow.Author.Differences.{up, down, product_is}
 use Rattle.cube_defs.specs.Rows.{gcd, gcd_within}
 use Rattle.aggregates.specs.Order.{ratio_cmp}
 use Rattle.aggregates.specs.declared.fraction.Ratio.{Ratio}
+use Rattle.cube_laws.proofs.Divisors.{nat_abs-neg}
+use Rattle.cube_laws.proofs.FractionOrder.{mono}
 
 mod-times : (m a b : ℕ) → 0 < m → 0 < b → (m * a) % (m * b) ≡ m * (a % b)
 mod-times m a b p q =
@@ -37,22 +38,15 @@ coprime_divides a b c p one d =
     subst (λ n. b ∣ n) (ap (λ g. c * g) one ∙ mul-one c)
     ((gcd-times c (suc b) a b p (omega arith)).2 b (subst (λ n. b ∣ n) (mul_comm a c) d) (dvd-mul_left b c))
 
-abs-neg : (n : ℕ) → nat_abs (neg_ℤ (pos n)) ≡ n
-abs-neg zero = refl
-abs-neg (suc n) = refl
-
 abs-times : (a : ℤ) (n : ℕ) → nat_abs (a *ℤ pos n) ≡ nat_abs a * n
 abs-times (pos a) n = refl
-abs-times (negsuc a) n = abs-neg (suc a * n)
-
-times_rises : (a b : ℤ) (k : ℕ) → 0 < k → a <ℤ b → (a *ℤ pos k) <ℤ (b *ℤ pos k)
-times_rises a b k p q = omega (arith, ints, product_is a (pos k), product_is b (pos k), mul-lt-mul_of_pos_right {m = up a + down b} {n = up b + down a} {k = k} (omega (arith, ints)) p)
+abs-times (negsuc a) n = nat_abs-neg (suc a * n)
 
 times_cancels : (a b : ℤ) (k : ℕ) → 0 < k → a *ℤ pos k ≡ b *ℤ pos k → a ≡ b
 times_cancels a b k p e = by_ranked (a <ℤ b) (a ≡ b) (b <ℤ a) (int_cmp a b) (int_ranked a b (int_cmp a b) refl)
-    (λ _ h. let r = times_rises a b k p h in absurd (omega (arith, ints, r, e)))
+    (λ _ h. let r = mono a b k p h in absurd (omega (arith, ints, r, e)))
     (λ _ h. h)
-    (λ _ h. let r = times_rises b a k p h in absurd (omega (arith, ints, r, e)))
+    (λ _ h. let r = mono b a k p h in absurd (omega (arith, ints, r, e)))
 
 module _ (x y : Ratio) (same : x.num *ℤ pos y.den ≡ y.num *ℤ pos x.den) where
   products : nat_abs x.num * y.den ≡ nat_abs y.num * x.den

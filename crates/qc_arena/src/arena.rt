@@ -18,6 +18,7 @@ use crate::counted::{record_in, tree_edges_of};
 use crate::edges::EdgeTo;
 use crate::images::Images;
 use crate::kept::{Counts, Kept};
+use crate::moved::Moved;
 use crate::nodes::{Forced, Nodes};
 use crate::parts::Parts;
 use crate::place::Place;
@@ -52,7 +53,7 @@ pub struct QcArena {
     nodes: Slab<Place>,
     parts: Parts,
     images: Touched,
-    last: Images,
+    last: Moved,
     is_open: bool,
     dims: u8,
     max: u32,
@@ -93,7 +94,7 @@ impl QcArena {
             nodes: Slab::new(alloc),
             parts: Parts::new(alloc),
             images: Touched::new(alloc),
-            last: Images::none(alloc),
+            last: Moved::none(alloc),
             is_open: false,
             dims,
             max,
@@ -107,7 +108,7 @@ impl QcArena {
         requires { is_open self.old ≡ false }
         ensures { self.new ≡ record self.old { was = Some (shape_of self.old); touched = set.empty; last = map.empty } }
     {
-        self.last = Images::none(self.images.allocator());
+        self.last = Moved::none(self.images.allocator());
         self.is_open = true;
     }
 
@@ -339,14 +340,21 @@ impl QcArena {
         self.kept = self.was;
     }
 
-    /// Moves out what the nodes were that the last committed batch touched. A second call gives
-    /// nothing.
+    /// Moves out what the nodes were that the last committed batch touched, sorted by their numbers.
+    /// A second call gives nothing.
     pub fn last_images(&mut self) -> Images
         ensures images { result ≡ self.old.last }
         ensures rest { self.new ≡ record self.old { last = map.empty } }
     {
-        let none = Images::none(self.images.allocator());
-        replace(&mut self.last, none)
+        let none = Moved::none(self.images.allocator());
+        replace(&mut self.last, none).sorted()
+    }
+
+    /// Drops what the nodes were that the last committed batch touched.
+    pub fn drop_images(&mut self)
+        ensures { self.new ≡ record self.old { last = map.empty } }
+    {
+        self.last = Moved::none(self.images.allocator());
     }
 
     /// Whether there is a node with the number.

@@ -1,11 +1,25 @@
-// What nodes were before a batch.
+// What nodes were before a batch, by their numbers.
 ghost use Rattle.std.specs.FinMap as map;
-ghost use Rattle.std.specs.Prelude.{IfSome, length, slice_get, ◌++◌, ◌<◌, ◌≡◌};
-ghost use Rattle.qc_arena.specs.Entries.{IsOnce, all_new};
+ghost use Rattle.std.specs.Map.{lookup};
+ghost use Rattle.std.specs.Prelude.{IfNone, IfSome, None, Some, if◌then◌else◌, length, nat_eq, slice_index_or, ◌++◌, ◌<◌, ◌≡◌};
+ghost use Rattle.std.specs.List.Sorted.{IsSorted, IsSortedByKey};
+ghost use Rattle.std.specs.Ordering.{nat_cmp};
+ghost use Rattle.qc_arena.specs.Entries.{IsOnce, all_new, entry_number};
+ghost use Rattle.qc_arena.specs.Looks.{seen};
 
-use crate::image::Image;
-use std::alloc::Global;
+use crate::image::{Image, Record};
+use cell_core::NodeNo;
 use std::marker::Model;
+
+/// What images say of a number.
+pub enum Look<'a> {
+    /// Nothing: the batch didn't touch such a node.
+    Same,
+    /// There was no such node.
+    Gone,
+    /// There was a node with this record.
+    Was(&'a Record),
+}
 
 /// What the nodes were that a batch touched, by their numbers: a record each, or that there was none.
 #[derive(Drop)]
@@ -17,7 +31,9 @@ pub struct Images {
 impl Model for Images {
     ghost use Rattle.std.specs.FinMap as map;
     ghost use Rattle.std.specs.Prelude.{◌++◌};
-    ghost use Rattle.qc_arena.specs.Entries.{IsOnce, all_new};
+    ghost use Rattle.std.specs.List.Sorted.{IsSorted, IsSortedByKey};
+    ghost use Rattle.std.specs.Ordering.{nat_cmp};
+    ghost use Rattle.qc_arena.specs.Entries.{IsOnce, all_new, entry_number};
     ghost use Rattle.qc_arena.specs.Map.{ImageMap, images_code};
 
     ghost Value = { ImageMap };
@@ -26,37 +42,58 @@ impl Model for Images {
 
     ghost view = { λ i. map.from_entries (i.changed.items ++ all_new i.added.items) };
 
-    ghost invariant = { λ i. IsOnce (i.changed.items ++ all_new i.added.items) };
+    ghost invariant = { λ i. IsOnce (i.changed.items ++ all_new i.added.items) × IsSortedByKey entry_number nat_cmp i.changed.items × IsSorted nat_cmp i.added.items };
 }
 
 impl Images {
-    /// Nothing is said of any number.
-    pub fn none(alloc: Global) -> Images
-        ensures { result ≡ map.empty }
-    {
-        Images {
-            changed: Vec::new(alloc),
-            added: Vec::new(alloc),
-        }
-    }
-
-    // What some entries say, of which each number has one.
+    // What some entries say that rise by their numbers.
     pub(crate) fn of(changed: Vec<(u32, Image)>, added: Vec<u32>) -> Images
-        requires { IsOnce (changed.items ++ all_new added.items) }
+        requires once { IsOnce (changed.items ++ all_new added.items) }
+        requires changed { IsSortedByKey entry_number nat_cmp changed.items }
+        requires added { IsSorted nat_cmp added.items }
         ensures { result ≡ map.from_entries (changed.items ++ all_new added.items) }
     {
         Images { changed, added }
     }
+
+    /// What is said of a number, by two binary searches.
+    pub fn look(&self, node: NodeNo) -> Look<'_>
+        ensures { seen result ≡ map.get self.now node.0 }
+    {
+        if let Some(at) = place_of(&self.changed, node.0) {
+            let (_, image) = &self.changed[at];
+            return match image.record() {
+                Some(record) => Look::Was(record),
+                None => Look::Gone,
+            };
+        }
+        if is_new(&self.added, node.0) {
+            return Look::Gone;
+        }
+        Look::Same
+    }
 }
 
-// The number of an entry.
-pub(crate) fn number_at(changed: &Vec<(u32, Image)>, added: &Vec<u32>, k: usize) -> u32
-    requires { k < length (changed.now.items ++ all_new added.now.items) }
-    ensures { IfSome (slice_get (changed.now.items ++ all_new added.now.items) k) (λ e. result ≡ e.0) }
+// Where a number stands among entries that rise.
+fn place_of(changed: &Vec<(u32, Image)>, node: u32) -> Option<usize>
+    requires { IsSortedByKey entry_number nat_cmp changed.now.items }
+    ensures within { IfSome result (λ k. k < length changed.now.items) }
+    ensures some { IfSome result (λ k. (d : _) → entry_number (slice_index_or changed.now.items k d) ≡ node) }
+    ensures none { IfNone result (lookup (nat_eq node) changed.now.items ≡ None) }
 {
-    if k < changed.len() {
-        let (node, _) = &changed[k];
-        return *node;
+    match changed.binary_search_by_key(&node, |entry| entry.0) {
+        Ok(at) => Some(at),
+        Err(_) => None,
     }
-    added[k - changed.len()]
+}
+
+// Whether a number is among some that rise.
+fn is_new(added: &Vec<u32>, node: u32) -> bool
+    requires { IsSorted nat_cmp added.now.items }
+    ensures { lookup (nat_eq node) (all_new added.now.items) ≡ (if result then Some None else None) }
+{
+    match added.binary_search(&node) {
+        Ok(_) => true,
+        Err(_) => false,
+    }
 }

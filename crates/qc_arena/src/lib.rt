@@ -8,6 +8,7 @@ mod edges;
 mod image;
 mod images;
 mod kept;
+mod moved;
 mod nodes;
 mod parts;
 mod place;
@@ -19,7 +20,8 @@ mod trail;
 
 pub use arena::{ArenaRefused, QcArena};
 pub use cube_defs::Memory;
-pub use images::Images;
+pub use image::Record;
+pub use images::{Images, Look};
 pub use kept::Counts;
 pub use nodes::{Forced, Nodes};
 

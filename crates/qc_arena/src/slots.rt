@@ -15,7 +15,7 @@ ghost use Rattle.qc_arena.specs.Seen.{edge_of, record_or};
 
 use crate::Memory;
 use crate::edges::EdgeTo;
-use crate::image::{Image, Was};
+use crate::image::{Image, Record};
 use crate::nodes::Forced;
 use crate::parts::Parts;
 use crate::place::Place;
@@ -225,13 +225,13 @@ pub(crate) fn class_at(nodes: &Slab<Place>, parts: &Parts, node: u32) -> Option<
 }
 
 // A copy of what a node has.
-pub(crate) fn copy_at(nodes: &Slab<Place>, parts: &Parts, node: u32) -> Result<Was, Memory>
+pub(crate) fn copy_at(nodes: &Slab<Place>, parts: &Parts, node: u32) -> Result<Record, Memory>
     requires node { IsSome (join (slots.get nodes.now node)) }
     requires parts { IfSome (record_or (join (slots.get nodes.now node))).class (λ a. IsShown (shown parts.now node) a) }
     ensures { IfOk result (λ w. join (slots.get nodes.now node) ≡ Some w) }
 {
     let record = record_of(nodes, node).copy()?;
-    Ok(Was::new(record, parts.at(node)))
+    Ok(Record::new(record, parts.at(node)))
 }
 
 // Sets an edge of a node, and tells how many edges it had, and how many it has.

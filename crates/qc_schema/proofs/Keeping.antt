@@ -1,10 +1,10 @@
 -- What is kept of a schema, line by line.
 use Rattle.std.proofs.Common.{◌≡◌, ◌<◌, ◌≤◌, ◌+◌, ◌∙◌, ℕ, List, [], ◌∷◌, ◌++◌, length, map, refl, sym, ap, arith, true, false, Bool, cond, Result, Ok, Err, append_assoc, subst, Some, None}
-use Rattle.std.specs.Prelude.{not, ◌&&◌, ◌||◌, ◌==◌, nat_lt, nat_le, codes, Option}
+use Rattle.std.specs.Prelude.{not, ◌&&◌, ◌==◌, nat_lt, nat_le, codes, Option}
 use Rattle.std.specs.List.{list_all, list_any, AllByRecursion}
 use Rattle.std.specs.Str.{bytes_eq, all_ascii_digits}
 use Rattle.std.specs.Str.Parse.{digits_value}
-use Rattle.std.proofs.lemmas.Bool.{and_parts, leb-true, ltb-true}
+use Rattle.std.proofs.lemmas.Bool.{and_parts, leb-true, ltb-true, or_parts, not-true}
 use Rattle.std.proofs.lemmas.Bool.Decides.{nat_tests}
 use Rattle.std.specs.Bool.{Decides}
 use Rattle.std.proofs.lemmas.Slice.Eq.{bytes_eq-Decides}
@@ -52,14 +52,6 @@ cond_err : {A : Type 0} (b : Bool) (x y : A) (c : SchemaCause) → cond b (Err c
 cond_err true x y c e = absurd (cc e)
 cond_err false x y c e = (refl, cc)
 
-pub or-false : (a b : Bool) → (a || b) ≡ false → (a ≡ false) × (b ≡ false)
-or-false true b e = absurd (cc e)
-or-false false b e = (refl, e)
-
-pub not-true : (a : Bool) → not a ≡ true → a ≡ false
-not-true true e = absurd (cc e)
-not-true false e = refl
-
 -- an element more
 push-all : {X : Type 0} (p : X → Bool) (xs : List X) (y : X) → list_all p xs ≡ true → p y ≡ true → list_all p (xs ++ y ∷ []) ≡ true
 push-all p [] y all h = rw h refl
@@ -70,7 +62,7 @@ pub push-different : {X : Type 0} (eq : X → X → Bool) → ((a b : X) → eq 
 push-different eq flip [] y d n = refl
 push-different eq flip (x ∷ xs) y d n =
     let p = and_parts (not (list_any (λ z. eq z x) xs)) (all_different eq xs) d in
-    let q = or-false (eq x y) (list_any (λ z. eq z y) xs) n in
+    let q = or_parts (eq x y) (list_any (λ z. eq z y) xs) n in
     rw (list_any-append (λ z. eq z x) xs (y ∷ []), not-true (list_any (λ z. eq z x) xs) p.0, flip x y q.0, push-different eq flip xs y p.1 q.1) refl
 
 push-every : {X : Type 0} (P : X → Type 0) (xs : List X) (y : X) → AllByRecursion P xs → P y → AllByRecursion P (xs ++ y ∷ [])
@@ -182,7 +174,7 @@ first-dim id name i n u = record {
   few_measures = omega arith;
   scales = tt;
   names = rw (i, n) refl;
-  different_names = rw (bytes-flip id name (or-false (bytes_eq id name) false u).0) refl;
+  different_names = rw (bytes-flip id name (or_parts (bytes_eq id name) false u).0) refl;
   indexes = tt;
   different_indexes = refl;
   some_nodes = omega arith;

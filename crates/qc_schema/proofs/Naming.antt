@@ -11,7 +11,7 @@ use Rattle.std.proofs.lemmas.Str.{IsUtf8-from_ascii}
 use Rattle.qc_schema.specs.Schema.{is_name, is_name_byte}
 
 -- a name is ASCII
-name-byte : (b : ℕ) → is_name_byte b ≡ true → b < 128
+pub name-byte : (b : ℕ) → is_name_byte b ≡ true → b < 128
 name-byte b h = grind (arith, nat_tests)
 
 bytes-ascii : (name : List ℕ) → list_all is_name_byte name ≡ true → (i : ℕ) → get_or name i 0 < 128

@@ -1,7 +1,7 @@
 -- Numbers of a few digits.
-use Rattle.std.proofs.Common.{◌≡◌, ◌<◌, ◌≤◌, ◌+◌, ◌-◌, ◌*◌, ◌^◌, ℕ, List, ◌∷◌, refl, arith, true, false, Some, None}
+use Rattle.std.proofs.Common.{◌≡◌, ◌<◌, ◌≤◌, ◌^◌, ℕ, List, arith, true, Some, None}
 use Rattle.std.specs.Prelude.{Option, if◌then◌else◌}
-use Rattle.std.specs.Char.{digit_value, is_ascii_digit}
+use Rattle.std.specs.Char.{is_ascii_digit}
 use Rattle.std.specs.Str.{all_ascii_digits}
 use Rattle.std.specs.Str.Parse.{digits_value_after}
 use Rattle.std.proofs.lemmas.Bool.Decides.{nat_tests}
@@ -11,17 +11,8 @@ use Rattle.std.proofs.Math.Nat.{pow-le-pow_right}
 abbrev pub read_on : ℕ → List ℕ → Option ℕ
 read_on n text = if all_ascii_digits text then Some (digits_value_after 10 n text) else None
 
-pub digit-value : (b : ℕ) → is_ascii_digit b ≡ true → digit_value b ≡ b - 48
-digit-value b h = grind (arith, nat_tests)
-
 pub digit-from : (b : ℕ) → is_ascii_digit b ≡ true → (48 ≤ b) × (b ≤ 57)
 digit-from b h = grind (arith, nat_tests)
-
-read-digit : (n b : ℕ) (more : List ℕ) → is_ascii_digit b ≡ true → read_on n (b ∷ more) ≡ read_on (n * 10 + (b - 48)) more
-read-digit n b more h = rw (h, digit-value b h) refl
-
-read-other : (n b : ℕ) (more : List ℕ) → is_ascii_digit b ≡ false → read_on n (b ∷ more) ≡ None
-read-other n b more h = rw h refl
 
 -- a number of i digits stays small
 pub small : (n i : ℕ) → n < 10 ^ i → i < 7 → n < 1000000

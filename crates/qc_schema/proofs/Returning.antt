@@ -4,7 +4,7 @@ use Rattle.std.specs.Prelude.{not, codes, decimal}
 use Rattle.std.specs.List.{list_all, list_any, flat_map, AllByRecursion}
 use Rattle.std.specs.Str.{all_ascii_digits, bytes_eq}
 use Rattle.std.specs.Str.Parse.{digits_value}
-use Rattle.std.proofs.lemmas.Bool.{and_parts, le-leb, lt-ltb}
+use Rattle.std.proofs.lemmas.Bool.{and_parts, le-leb, lt-ltb, or_parts, not-true}
 use Rattle.std.proofs.lemmas.Fmt.{decimal_digit, decimal_nonempty, digits_decimal, digits_value-decimal, length-decimal-le}
 use Rattle.std.proofs.lemmas.Str.Parse.{IsNumeralModel, numerals_by_value, tells_all_ascii_digits}
 use Rattle.std.proofs.lemmas.List.{append-nil, length_push}
@@ -23,7 +23,7 @@ use Rattle.qc_schema.specs.States.{State}
 use Rattle.qc_schema.specs.declared.reader.Stage.{Stage}
 use Rattle.qc_schema.specs.declared.reader.Stage.TheVariants as stages
 use Rattle.qc_schema.specs.declared.refusal.SchemaCause.{SchemaCause}
-use Rattle.qc_schema.proofs.Keeping.{bind_ok, bytes-flip, kind-flip, not-true, or-false}
+use Rattle.qc_schema.proofs.Keeping.{bind_ok, bytes-flip, kind-flip}
 use Rattle.qc_schema.proofs.Naming.{name-bytes}
 use Rattle.qc_schema.proofs.Reading.{schema-text}
 use Rattle.qc_schema.proofs.Wording.{IsLine, IsWord, digits-bytes, joined, lines-more, not-comment, text-utf8, words-joined}
@@ -60,8 +60,8 @@ read-after (words ∷ lines) h n s t e may =
 -- elements that are all different, or all of a kind
 at-middle : {X : Type 0} (p : X → Bool) (xs : List X) (y : X) (ys : List X) → list_any p (xs ++ y ∷ ys) ≡ false → p y ≡ false
 at-middle p xs y ys h =
-    let q = or-false (list_any p xs) (list_any p (y ∷ ys)) (sym (list_any-append p xs (y ∷ ys)) ∙ h) in
-    (or-false (p y) (list_any p ys) q.1).0
+    let q = or_parts (list_any p xs) (list_any p (y ∷ ys)) (sym (list_any-append p xs (y ∷ ys)) ∙ h) in
+    (or_parts (p y) (list_any p ys) q.1).0
 
 different-middle : {X : Type 0} (eq : X → X → Bool) → ((a b : X) → eq a b ≡ false → eq b a ≡ false) → (xs : List X) (y : X) (ys : List X)
     → all_different eq (xs ++ y ∷ ys) ≡ true → list_any (λ x. eq x y) xs ≡ false
@@ -75,7 +75,7 @@ different-front : {X : Type 0} (eq : X → X → Bool) (xs ys : List X) → all_
 different-front eq [] ys h = refl
 different-front eq (x ∷ xs) ys h =
     let p = and_parts (not (list_any (λ z. eq z x) (xs ++ ys))) (all_different eq (xs ++ ys)) h in
-    let q = or-false (list_any (λ z. eq z x) xs) (list_any (λ z. eq z x) ys) (sym (list_any-append (λ z. eq z x) xs ys) ∙ not-true (list_any (λ z. eq z x) (xs ++ ys)) p.0) in
+    let q = or_parts (list_any (λ z. eq z x) xs) (list_any (λ z. eq z x) ys) (sym (list_any-append (λ z. eq z x) xs ys) ∙ not-true (list_any (λ z. eq z x) (xs ++ ys)) p.0) in
     rw (q.0, different-front eq xs ys p.1) refl
 
 all-parts : {X : Type 0} (p : X → Bool) (xs ys : List X) → list_all p (xs ++ ys) ≡ true → (list_all p xs ≡ true) × (list_all p ys ≡ true)

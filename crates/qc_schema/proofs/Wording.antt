@@ -12,6 +12,7 @@ use Rattle.text_lines.specs.Cuts.{cut_at, has_bytes, words_of}
 use Rattle.text_lines.specs.Lines.{is_comment, lines_of, without_cr}
 use Rattle.qc_schema.specs.Schema.{is_name_byte}
 use Rattle.qc_schema.specs.Spelling.{line_text}
+use Rattle.qc_schema.proofs.Naming.{name-byte}
 
 -- a word of letters, digits and `_`
 pub record IsWord (word : Text) : Type 0 where
@@ -28,9 +29,6 @@ abbrev pub joined : List Text → List ℕ
 joined [] = []
 joined (word ∷ []) = word
 joined (word ∷ next ∷ words) = word ++ 32 ∷ joined (next ∷ words)
-
-name-ascii : (b : ℕ) → is_name_byte b ≡ true → b < 128
-name-ascii b h = grind (arith, nat_tests)
 
 name-not-space : (b : ℕ) → is_name_byte b ≡ true → (b == 32) ≡ false
 name-not-space b h = grind (arith, nat_tests)
@@ -58,7 +56,7 @@ pub record IsPlain (b : ℕ) : Type 0 where
   pub no_cr : (b == 13) ≡ false
 
 plain-name : (b : ℕ) → is_name_byte b ≡ true → IsPlain b
-plain-name b h = record { ascii = name-ascii b h; no_lf = name-not-lf b h; no_cr = name-not-cr b h }
+plain-name b h = record { ascii = name-byte b h; no_lf = name-not-lf b h; no_cr = name-not-cr b h }
 
 plain-space : IsPlain 32
 plain-space = record { ascii = omega arith; no_lf = refl; no_cr = refl }

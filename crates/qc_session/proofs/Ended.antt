@@ -1,13 +1,12 @@
 -- How a script ended, over the names that the run has for it.
-use Rattle.std.proofs.Common.{◌≡◌, ◌≤◌, ◌⊎◌, ℕ, Bool, true, false, cond, List, [], Option, Some, None, IfSome, sym, refl, inl, inr, arith, length, drop, length-drop}
-use Rattle.std.specs.Prelude.{⊤, IsNone, IsSome, MatchOption, nat_eq}
-use Rattle.std.specs.List.{starts_with}
+use Rattle.std.proofs.Common.{◌≡◌, ◌≤◌, ◌⊎◌, ℕ, List, [], Option, Some, None, IfSome, sym, refl, inl, inr, arith, length}
+use Rattle.std.specs.Prelude.{⊤, IsNone, IsSome, MatchOption}
 use Rattle.std.proofs.lemmas.Bool.{le-ltb}
 use Rattle.cube_defs.specs.declared.limits.TheConstants.{MAX_FILE}
 use Rattle.qc_io.specs.Outside.{Rose, Told}
 use Rattle.warehouse.specs.State.{State}
 use Rattle.qc_session.specs.Forms.{Names}
-use Rattle.qc_session.specs.Lines.{mark, script_lines, without_mark}
+use Rattle.qc_session.specs.Lines.{script_lines}
 use Rattle.qc_session.specs.Runs.{AreSkipped, CannotRead, Cause, Finished, IsScriptOf, IsStartOf, Said, StoppedAt, StoppedWriting, WroteAll, refusal_of}
 use Rattle.qc_session.specs.Session.{IfStop}
 use Rattle.qc_session.specs.declared.session.Stop.{Stop}
@@ -36,14 +35,6 @@ broken-ended stop told start start2 skipped skipped2 lines lines2 before now is 
     go : (told : Option Told) → IfSome told (λ t. StoppedWriting t start2 skipped lines2 before now) → IfSome told (λ t. StoppedWriting t start skipped2 lines before now)
     go None h = tt
     go (Some t) h = rw (sym s, k, sym l) h
-
--- a text is no longer without its mark
-pub length-unmarked : (bs : List ℕ) → length (without_mark bs) ≤ length bs
-length-unmarked bs = go (starts_with nat_eq bs mark)
-  where
-    go : (b : Bool) → length (cond b (drop 3 bs) bs) ≤ length bs
-    go true = omega (arith, length-drop 3 bs)
-    go false = omega arith
 
 pub finished-run : (told : Option Told) (names : Names) (start : State) (script skipped : List ℕ) (end : Option State) (before now : Option (List ℕ)) → IfSome told (λ t. IsStartOf t names.schema start) → IfSome told (λ t. IsScriptOf t names.script script)
     → IfSome told (λ t. WroteAll t start skipped (script_lines script) end before now) → IfSome told (λ t. Finished t names skipped end before now)

@@ -6,6 +6,7 @@ use Rattle.std.proofs.lemmas.List.Sums.{fold-append}
 use Rattle.std.proofs.lemmas.Bool.Decides.{nat_tests}
 use Rattle.std.proofs.Math.Seq.{take-append-add}
 use Rattle.qc_io.specs.Outside.{Told, taking}
+use Rattle.qc_io.proofs.Steps.{taking-taking}
 use Rattle.qc_session.specs.Lines.{is_passed}
 use Rattle.reply_text.specs.Replies.{memory_text}
 use Rattle.qc_session.specs.Answers.{answer, file_of}
@@ -55,10 +56,6 @@ pub part-memory : (told : Option Told) (skipped new : List ℕ) (number : ℕ) (
     → state2 ≡ state → now ≡ taking (take n (memory_text (number + 1))) before → WrotePart told new (number + 1) state line state2 before now
 part-memory None skipped new number state state2 line n before now passed is same w = tt
 part-memory (Some t) skipped new number state state2 line n before now passed is same w = (memory_text (number + 1), n, rw (is, same) (replies-memory t skipped number state line passed), w)
-
-taking-taking : (a b : List ℕ) (taken : Option (List ℕ)) → taking b (taking a taken) ≡ taking (a ++ b) taken
-taking-taking a b None = refl
-taking-taking a b (Some xs) = ap Some (append_assoc xs a b)
 
 taking-nil : (taken : Option (List ℕ)) → taken ≡ taking [] taken
 taking-nil None = refl

@@ -1,5 +1,5 @@
 -- What a record asks.
-use Rattle.std.proofs.Common.{◌≡◌, ◌≤◌, ◌+◌, get_or, ◌∙◌, ℕ, zero, suc, List, [], ◌∷◌, length, refl, sym, ap, arith, Some, None, Ok, Err, true, false, Bool, cond, IsUtf8, All}
+use Rattle.std.proofs.Common.{◌≡◌, ◌+◌, ◌∙◌, ℕ, zero, suc, List, [], ◌∷◌, length, refl, sym, ap, arith, Some, None, Ok, Err, true, false, Bool, cond, IsUtf8, All}
 use Rattle.std.specs.Prelude.{Option, Result, ⊤}
 use Rattle.std.specs.List.{flat_map}
 use Rattle.std.specs.Str.{bytes_eq}
@@ -17,7 +17,6 @@ use Rattle.query_script.specs.Commands.{IsCellField, fields_in, record_in}
 use Rattle.query_script.specs.declared.record.Shape.{Shape}
 use Rattle.query_script.specs.declared.record.Shape.TheVariants as shapes
 use Rattle.query_script.proofs.Asking.{asks-first}
-use Rattle.text_lines.specs.Records.{bytes_in}
 use Rattle.text_lines.proofs.TextRecords.{text-records}
 
 -- the records that are read are those of the rest
@@ -77,9 +76,3 @@ cell-fields dims rest fields e =
 
 pub box-fields : (dims : ℕ) (rest : List ℕ) (fields : List asked.Field) → record_in shapes.Box dims rest ≡ Ok fields → length fields ≡ dims
 box-fields dims rest fields e = (are-fields (field_of shapes.Box) (λ field. ⊤) (λ text field h. tt) (fields_in rest) 1 dims fields (unmarked shapes.Box dims rest fields e)).count
-
--- a field has no more bytes than its record
-pub field-within : (xs : List (List ℕ)) (k : ℕ) → length (get_or xs k []) ≤ bytes_in xs
-field-within [] k = omega arith
-field-within (x ∷ xs) zero = omega arith
-field-within (x ∷ xs) (suc k) = omega (arith, field-within xs k)

@@ -18,7 +18,6 @@ use Rattle.query_script.specs.declared.line.Command.{Command}
 use Rattle.query_script.specs.declared.record.Shape.TheVariants as shapes
 use Rattle.query_script.specs.declared.line.LineRefused.{LineRefused}
 use Rattle.qc_schema.specs.Grammar.{measure_from}
-use Rattle.qc_schema.specs.Schema.{Measure}
 use Rattle.qc_schema.proofs.Keeping.{measure-there}
 use Rattle.cube_defs.specs.Answers as answers
 use Rattle.cube_defs.specs.Rows.{Fraction}

@@ -1,5 +1,5 @@
 -- What a line asks, in the words of the definitions.
-use Rattle.std.specs.Prelude.{List, ⊤}
+use Rattle.std.specs.Prelude.{List}
 use Rattle.cube_defs.specs.Text.{Text}
 use Rattle.cube_defs.specs.Rows.{Fraction}
 use Rattle.cube_defs.specs.Answers.{AggKind, Bound}

@@ -9,6 +9,7 @@ use Rattle.std.specs.Str.{bytes_eq}
 use Rattle.std.specs.Option.{option_map}
 use Rattle.std.proofs.lemmas.List.Elements.{All-cons}
 use Rattle.std.proofs.lemmas.List.FromFn.{length-map-range_with_len}
+use Rattle.std.proofs.lemmas.List.{length-map}
 use Rattle.cube_defs.specs.Text.{Text, text_cmp}
 use Rattle.cube_defs.specs.Cell.{Cell, depth, keep, one_deeper}
 use Rattle.cube_defs.specs.Rows.{Row, Agg, agg, amounts_of, closure, cov, is_node, part_of}
@@ -19,13 +20,15 @@ use Rattle.cube_laws.proofs.Cells.{keep_zero}
 use Rattle.cube_laws.proofs.Covered.{closure_length}
 use Rattle.cube_laws.proofs.Nodes.{is_node-is}
 use Rattle.cube_laws.proofs.RecodedRows.{agg-coded}
+use Rattle.cube_laws.proofs.Orders.{code_equality}
 use Rattle.tree_search.specs.Found.{IsFrom, Source}
-use Rattle.tree_search.proofs.Walked.{cell_of, there, there_is}
+use Rattle.tree_search.proofs.Walked.{cell_of, there_is}
 use Rattle.qc_arena.specs.Seen.{record_at}
 use Rattle.tree_laws.specs.Walk.{front}
 use Rattle.tree_laws.proofs.Fronts.{keep-beyond}
 use Rattle.tree_laws.proofs.LowersRecoded.{wide-coded}
 use Rattle.tree_laws.proofs.Walks.{no_root}
+use Rattle.tree_laws.proofs.Lists.{there}
 use Rattle.value_dict.specs.Boxes.{IsOrdered, told_box}
 use Rattle.value_dict.specs.Recoded.{has_code, text_in, told_rows}
 use Rattle.value_dict.specs.Told.{told_cell}
@@ -38,8 +41,7 @@ use Rattle.range_query.specs.Told.{IsTold, hit_at, hit_in, told_hit, told_hits}
 use Rattle.range_query.specs.Walk.{Stands, cost, met}
 use Rattle.range_query.proofs.Costs.{cells_within, work_is}
 use Rattle.value_dict.proofs.AskedValues.{text_anti, text_total}
-use Rattle.value_dict.proofs.Lists.{length-map}
-use Rattle.value_dict.proofs.Places.{code_equality, text_equality}
+use Rattle.value_dict.proofs.Places.{text_equality}
 use Rattle.range_query.proofs.Standing.{stands_covered}
 use Rattle.range_query.proofs.MetCells.{met_covered, met_is, met_long, none_is}
 use Rattle.range_query.proofs.Recoded.{cost-coded, is_covered-coded, known-covered, met-coded}
@@ -196,12 +198,12 @@ module _ (dims : ℕ) (tree : Tree ℕ) (lists : List (List Text)) (cells : answ
 
     pub range_long : length (answers.range text_cmp source.measures text_rows text_box) ≡ length (met source cells root 0)
     range_long =
-        length-map text_hit (filter (answers.in_box (eq_by_cmp text_cmp) text_box) (covered text_cmp text_rows))
+        length-map (filter (answers.in_box (eq_by_cmp text_cmp) text_box) (covered text_cmp text_rows)) text_hit
         ∙ ap length (sym text_met)
-        ∙ length-map (coded (text_in lists) 0) (met source cells root 0)
+        ∙ length-map (met source cells root 0) (coded (text_in lists) 0)
 
     range_hits : length (answers.range text_cmp source.measures text_rows text_box) ≡ length (filter (answers.in_box (eq_by_cmp text_cmp) text_box) (covered text_cmp text_rows))
-    range_hits = length-map text_hit (filter (answers.in_box (eq_by_cmp text_cmp) text_box) (covered text_cmp text_rows))
+    range_hits = length-map (filter (answers.in_box (eq_by_cmp text_cmp) text_box) (covered text_cmp text_rows)) text_hit
 
     pub range_cost : cost source cells root 0 ≤ work text_cmp text_rows text_box + 2 * length (answers.range text_cmp source.measures text_rows text_box)
     range_cost =

@@ -8,7 +8,7 @@ use Rattle.std.specs.Cmp.{IsTotalOrder}
 use Rattle.std.specs.FinMap.{IsAntisymmetric}
 use Rattle.std.specs.List.{AllByRecursion, list_any}
 use Rattle.std.proofs.lemmas.Bool.{and_from, and_parts, cond-true}
-use Rattle.std.proofs.lemmas.List.{drop_all, length-set}
+use Rattle.std.proofs.lemmas.List.{drop_all, length-set, take-set}
 use Rattle.cube_defs.specs.Cell.{Cell, cell_cmp, depth, leq, one_deeper, with_value}
 use Rattle.cube_defs.specs.Rows.{Row, closure, covers}
 use Rattle.cube_defs.specs.Tree.{covered}
@@ -20,12 +20,12 @@ use Rattle.cube_laws.proofs.Covered.{cell_anti, cell_total, covered-is, covered_
 use Rattle.cube_laws.proofs.Distinct.{rises_same}
 use Rattle.cube_laws.proofs.Lists.{all_at, all_from, among_filter, among_flat_map, filter_among}
 use Rattle.cube_laws.proofs.Orders.{equality_by}
+use Rattle.cube_laws.proofs.Listed.{rises-filter}
 use Rattle.tree_laws.proofs.EdgesRise.{rises_append}
 use Rattle.tree_laws.proofs.Fronts.{any_behind}
-use Rattle.tree_laws.proofs.LowerBounds.{rises_filter}
 use Rattle.range_query.specs.Met.{if_covered, is_covered, met}
 use Rattle.value_dict.specs.Boxes.{IsOrdered}
-use Rattle.range_query.proofs.Places.{drop_get, get_drop, leq_front, less_at, take_all, take_less, take_more, take_set}
+use Rattle.range_query.proofs.Places.{drop_get, get_drop, leq_front, less_at, take_all, take_less, take_more}
 use Rattle.range_query.proofs.Standing.{depth-set, set-get}
 
 module _ {A : Type 0} {cmp : A → A → Ordering} (total : IsTotalOrder cmp) (anti : IsAntisymmetric cmp) (rows : List (Row A)) where
@@ -112,7 +112,7 @@ module _ {A : Type 0} {cmp : A → A → Ordering} (total : IsTotalOrder cmp) (a
       let t = take_less c (with_value p i f.0) i r.same (omega (arith, r.long, wide, within)) (omega (arith, wide, within)) in
       record {
         long = r.long ∙ wide;
-        same = t.0 ∙ take_set p i (Some f.0);
+        same = t.0 ∙ take-set p i (Some f.0);
         allowed = ap (in_box eq (Some vs ∷ box)) (drop_get c i (Some f.0) (t.1 ∙ set-get p i (Some f.0) within)) ∙ and_from _ _ (among_is f.0 vs f.1) r.allowed;
         covered = r.covered;
       }
@@ -148,7 +148,7 @@ module _ {A : Type 0} {cmp : A → A → Ordering} (total : IsTotalOrder cmp) (a
           let b = and_parts (list_any (eq v) vs) (in_box eq box s) h in
           let wide : length (with_value p i v) ≡ length p = length-set p i (Some v) in
           let same : take (suc i) c ≡ take (suc i) (with_value p i v)
-          = take_more c (with_value p i v) i (r.same ∙ sym (take_set p i (Some v))) (t.0 ∙ sym (set-get p i (Some v) within)) (omega (arith, r.long, within)) (omega (arith, wide, within)) in
+          = take_more c (with_value p i v) i (r.same ∙ sym (take-set p i (Some v))) (t.0 ∙ sym (set-get p i (Some v) within)) (omega (arith, r.long, within)) (omega (arith, wide, within)) in
           let here : is_covered eq rows (with_value p i v) ≡ true
           = covered_below (with_value p i v) c (leq_front law (with_value p i v) c (suc i) (depth-set p i (Some v) d) same (r.long ∙ sym wide)) r.covered in
           (among_flat_map (one box p i) c vs).1 (v, is_among v vs b.0, subst (Among c) (sym (cond-true _ _ _ here)) (more v (record { long = r.long ∙ sym wide; same = same; allowed = ap (in_box eq box) t.1 ∙ b.1; covered = r.covered })))
@@ -176,7 +176,7 @@ module _ {A : Type 0} {cmp : A → A → Ordering} (total : IsTotalOrder cmp) (a
           let n = one_met box p i v x m in
           let r : Goes box (with_value p i v) (suc i) x = met_goes box (with_value p i v) (suc i) x (omega (arith, wide, l)) (depth-set p i (Some v) d) n.0 n.1 in
           let t = take_less x (with_value p i v) i r.same (omega (arith, r.long, wide, within)) (omega (arith, wide, within)) in
-          (t.0 ∙ take_set p i (Some v), t.1 ∙ set-get p i (Some v) within)
+          (t.0 ∙ take-set p i (Some v), t.1 ∙ set-get p i (Some v) within)
 
       go : ((v : A) → is_covered eq rows (with_value p i v) ≡ true → Rises (cell_cmp cmp) (met eq rows box (with_value p i v) (suc i))) → (ws : List A) → Rises cmp ws → Rises (cell_cmp cmp) (flat_map (one box p i) ws)
       go more [] h = tt
@@ -225,7 +225,7 @@ module _ {A : Type 0} {cmp : A → A → Ordering} (total : IsTotalOrder cmp) (a
           let long : length root ≡ 0 + length box = omega (arith, root_long dims, fits) in
           rises_same (cell_total total anti) (cell_anti total anti) _ _
           (met_rises box root 0 long (root_deep dims) k o)
-          (rises_filter (cell_cmp cmp) (in_box eq box) (covered cmp rows) (covered_rises total anti rows))
+          (rises-filter (cell_cmp cmp) (in_box eq box) (covered cmp rows) (covered_rises total anti rows))
           (λ c m.
           let r : Goes box root 0 c = met_goes box root 0 c long (root_deep dims) k m in
           among_filter (in_box eq box) c (covered cmp rows) (listed c (r.long ∙ root_long dims) r.covered) r.allowed)

@@ -2,7 +2,7 @@
 use Rattle.std.proofs.Common.{◌≡◌, ℕ, zero, suc, ◌+◌, ◌<◌, ◌≤◌, true, false, Option, Some, None, List, [], ◌∷◌, length, drop, get_or, set, slice_get, flat_map, refl, sym, ap, subst, ◌∙◌, arith, true≢false}
 use Rattle.std.specs.Prelude.{IsSome, is_some, sum_by}
 use Rattle.std.proofs.lemmas.Bool.{cond-true, cond-false}
-use Rattle.std.proofs.lemmas.List.{drop_all, length-set}
+use Rattle.std.proofs.lemmas.List.{length-set, set-set}
 use Rattle.std.proofs.Math.Seq.{drop-cons}
 use Rattle.std.specs.Cmp.{nat_cmp_total}
 use Rattle.std.specs.FinMap as numbers
@@ -11,15 +11,15 @@ use Rattle.std.specs.Ordering.{nat_cmp, eq_by_cmp}
 use Rattle.cube_defs.specs.Cell.{Cell, depth, keep, one_deeper}
 use Rattle.cube_defs.specs.Tree.{Tree, cell_at}
 use Rattle.cube_defs.specs.Answers.{Box}
-use Rattle.cube_laws.proofs.Cells.{depth-le}
+use Rattle.cube_laws.proofs.Cells.{depth-le, one_deeper-le}
 use Rattle.cube_laws.proofs.Covered.{closure_length}
 use Rattle.qc_arena.specs.Seen.{record_at}
 use Rattle.tree_laws.specs.Walk.{front, walk_on}
 use Rattle.tree_laws.proofs.Fronts.{any_behind, keep-beyond, shallower}
-use Rattle.tree_laws.proofs.Lists.{some_same}
+use Rattle.tree_laws.proofs.Lists.{some_same, there}
 use Rattle.tree_laws.proofs.Walks.{walk_step}
 use Rattle.tree_search.specs.Found.{IsFrom, IsTree, Source, closure_in}
-use Rattle.tree_search.proofs.Walked.{cell_of, there, there_is}
+use Rattle.tree_search.proofs.Walked.{cell_of, there_is}
 use Rattle.range_query.specs.Met.{is_covered}
 use Rattle.range_query.specs.Walk.{Stands, cost, entered, entry_cost, met}
 
@@ -28,11 +28,6 @@ pub set-own : {X : Type 0} (xs : List X) (i : ℕ) (x : X) → slice_get xs i �
 set-own [] i x h = refl
 set-own (y ∷ xs) zero x h = ap (λ z. z ∷ xs) (sym (some_same h))
 set-own (y ∷ xs) (suc i) x h = ap (λ zs. y ∷ zs) (set-own xs i x h)
-
-pub set-set : {X : Type 0} (xs : List X) (i : ℕ) (x y : X) → set (set xs i x) i y ≡ set xs i y
-set-set [] i x y = refl
-set-set (z ∷ xs) zero x y = refl
-set-set (z ∷ xs) (suc i) x y = ap (λ zs. z ∷ zs) (set-set xs i x y)
 
 module _ {A : Type 0} where
   pub set-get : (p : Cell A) (i : ℕ) (e : Option A) → i < length p → slice_get (set p i e) i ≡ Some e
@@ -45,20 +40,15 @@ module _ {A : Type 0} where
   keep-set (f ∷ p) zero e = refl
   keep-set (f ∷ p) (suc i) e = ap (λ x. f ∷ x) (keep-set p i e)
 
-  deeper : (e : Option A) (n m : ℕ) → n ≤ m → one_deeper e n ≤ suc m
-  deeper None zero m h = omega arith
-  deeper None (suc n) m h = omega arith
-  deeper (Some v) n m h = omega arith
-
   pub depth-set : (p : Cell A) (i : ℕ) (e : Option A) → depth p ≤ i → depth (set p i e) ≤ suc i
   depth-set [] i e h = omega arith
-  depth-set (f ∷ p) zero e h = deeper e (depth p) 0 (shallower_zero f (depth p) h)
+  depth-set (f ∷ p) zero e h = one_deeper-le e (depth p) 0 (shallower_zero f (depth p) h)
     where
       shallower_zero : (f : Option A) (n : ℕ) → one_deeper f n ≤ 0 → n ≤ 0
       shallower_zero None zero h = omega arith
       shallower_zero None (suc n) h = absurd (omega arith)
       shallower_zero (Some v) n h = absurd (omega arith)
-  depth-set (f ∷ p) (suc i) e h = deeper f (depth (set p i e)) (suc i) (depth-set p i e (shallower f (depth p) i h))
+  depth-set (f ∷ p) (suc i) e h = one_deeper-le f (depth (set p i e)) (suc i) (depth-set p i e (shallower f (depth p) i h))
 
 -- the same entry again
 pub back : {dims : ℕ} {tree : Tree ℕ} {node : ℕ} {p : Cell ℕ} {i : ℕ} (e : Option ℕ) → Stands dims tree node p i → i < dims → set (set p i e) i None ≡ p
@@ -177,9 +167,3 @@ module _ (dims : ℕ) (tree : Tree ℕ) (node : ℕ) (p : Cell ℕ) (i : ℕ) (s
 
         pub codes_cost : cost source (drop i box) p i ≡ 1 + sum_by (λ v. entry_cost source (drop (i + 1) box) p i (Some v)) vs
         codes_cost = ap (λ b. cost source b p i) (front_of ∙ ap (λ a. a ∷ drop (i + 1) box) is)
-
-    pub end_met : length box ≤ i → met source (drop i box) p i ≡ p ∷ []
-    end_met l = ap (λ b. met source b p i) (drop_all i box l)
-
-    pub end_cost : length box ≤ i → cost source (drop i box) p i ≡ 2
-    end_cost l = ap (λ b. cost source b p i) (drop_all i box l)

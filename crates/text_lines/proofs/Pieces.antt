@@ -3,7 +3,7 @@ use Rattle.std.proofs.Common.{◌≡◌, ◌≢◌, ◌<◌, ◌+◌, ◌∙◌,
 use Rattle.std.specs.Borrow.{Bor}
 use Rattle.std.specs.Prelude.{MatchOption, Option, ◌==◌}
 use Rattle.std.specs.List.{list_all}
-use Rattle.std.proofs.lemmas.Bool.{and_parts}
+use Rattle.std.proofs.lemmas.Bool.{and_parts, eq-eqb, ne_eqb}
 use Rattle.std.proofs.lemmas.Bool.Decides.{nat_tests}
 use Rattle.std.proofs.lemmas.Str.Pattern.{IsSplitOnceResult, split_parts}
 use Rattle.csv.specs.Machine.{ends_at_end, next_record, step}
@@ -15,7 +15,6 @@ use Rattle.cube_defs.specs.Text.{Text}
 use Rattle.text_lines.specs.Lines.{with_first}
 use Rattle.text_lines.specs.Cuts.{cut_at}
 use Rattle.text_lines.specs.Plain.{is_plain_byte, pieces}
-use Rattle.text_lines.proofs.Splits.{is-byte, other-byte}
 
 -- ---- the machine
 
@@ -108,11 +107,11 @@ plain-record b bs plain =
 
 pub no-cut : (at : ℕ) (text : List ℕ) → ((i : ℕ) → i < length text → get_or text i 0 ≢ at) → cut_at at text ≡ text ∷ []
 no-cut at [] none = refl
-no-cut at (b ∷ bs) none = rw (other-byte at b (none 0 (omega arith)), no-cut at bs (λ i l. none (suc i) (omega arith))) refl
+no-cut at (b ∷ bs) none = rw (ne_eqb b at (none 0 (omega arith)), no-cut at bs (λ i l. none (suc i) (omega arith))) refl
 
 pub first-cut : (at : ℕ) (piece rest : List ℕ) → ((i : ℕ) → i < length piece → get_or piece i 0 ≢ at) → cut_at at (piece ++ at ∷ rest) ≡ piece ∷ cut_at at rest
-first-cut at [] rest none = rw (is-byte at at refl) refl
-first-cut at (b ∷ bs) rest none = rw (other-byte at b (none 0 (omega arith)), first-cut at bs rest (λ i l. none (suc i) (omega arith))) refl
+first-cut at [] rest none = rw (eq-eqb at at refl) refl
+first-cut at (b ∷ bs) rest none = rw (ne_eqb b at (none 0 (omega arith)), first-cut at bs rest (λ i l. none (suc i) (omega arith))) refl
 
 pub split-cut : (at : ℕ) (text : List ℕ) (r : Option (Bor (List ℕ) × Bor (List ℕ))) → IsSplitOnceResult at text r → at < 128 → MatchOption r (cut_at at text ≡ text ∷ []) (λ x. cut_at at text ≡ x.0.now ∷ cut_at at x.1.now)
 split-cut at text None h low = no-cut at text (split_parts at text None h (omega (arith, low)))

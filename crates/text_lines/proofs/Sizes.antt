@@ -1,5 +1,5 @@
 -- How many bytes the records of a text have, and how many records there are.
-use Rattle.std.proofs.Common.{◌≡◌, ◌<◌, ◌≤◌, ◌+◌, ℕ, zero, suc, List, [], ◌∷◌, ◌++◌, length, refl, ap, arith, Some, None, true, false, Bool, cond}
+use Rattle.std.proofs.Common.{◌≡◌, ◌<◌, ◌≤◌, ◌+◌, ℕ, zero, suc, List, [], ◌∷◌, ◌++◌, length, get_or, refl, ap, arith, Some, None, true, false, Bool, cond}
 use Rattle.std.specs.Prelude.{Option, unwrap_or}
 use Rattle.std.proofs.lemmas.List.{length_push}
 use Rattle.csv.specs.Machine.{Read, ends_at_end, field_after, fields_after, is_end, next_record, step}
@@ -77,3 +77,9 @@ records-few (suc n) s xs b = by (next_record default_config s [] [] xs) refl (λ
 -- and it has no more records than bytes
 pub few_records : (text : List ℕ) → length (records default_config text) ≤ length text
 few_records text = records-few (length text + 1) st.StartRecord text refl
+
+-- a field has no more bytes than its record
+pub field-within : (xs : List (List ℕ)) (k : ℕ) → length (get_or xs k []) ≤ bytes_in xs
+field-within [] k = omega arith
+field-within (x ∷ xs) zero = omega arith
+field-within (x ∷ xs) (suc k) = omega (arith, field-within xs k)

@@ -7,6 +7,7 @@ use Rattle.std.specs.FinMap as numbers
 use Rattle.std.specs.List.{AllByRecursion, count_by, sum_by}
 use Rattle.std.specs.Option.{option_map, option_eq}
 use Rattle.std.proofs.lemmas.List.Sums.{length-filter}
+use Rattle.std.proofs.lemmas.List.{length-map}
 use Rattle.cube_defs.specs.Cell.{Cell, cell_eq, depth}
 use Rattle.cube_defs.specs.Rows.{Row, closure, is_class, is_node, agg}
 use Rattle.cube_defs.specs.Tree.{Edge, Node, Tree, IsCanonical, node_of, cell_at, renamed, renamed_edge, tree, tree_edges, links, classes, nodes, covered}
@@ -18,7 +19,7 @@ use Rattle.cube_laws.proofs.Orders.{equality_by}
 use Rattle.tree_laws.specs.Labels.{record_of}
 use Rattle.tree_laws.specs.Counts.{is_under, classes_in, tree_edges_in, links_in}
 use Rattle.tree_laws.proofs.Lists.{some_same}
-use Rattle.tree_laws.proofs.Sums.{EachOnce, sum_same, once_filter, sum_ones, sum_alike, sum_by-map, length-map, covered_once, or_nothing, sum_by-filter_map}
+use Rattle.tree_laws.proofs.Sums.{EachOnce, sum_same, once_filter, sum_ones, sum_alike, sum_by-map, covered_once, or_nothing, sum_by-filter_map}
 use Rattle.tree_laws.proofs.Entries.{entry_get, get_entry, entries_once}
 
 module _ {A : Type 0} {cmp : A → A → Ordering} (total : IsTotalOrder cmp) (anti : numbers.IsAntisymmetric cmp) (dims measures : ℕ) (rows : List (Row A)) (wide : AllByRecursion (λ row. length row.tuple ≡ dims) rows) (kept : Tree A) (canonical : IsCanonical cmp measures rows kept) where
@@ -62,7 +63,7 @@ module _ {A : Type 0} {cmp : A → A → Ordering} (total : IsTotalOrder cmp) (a
 
   pub nodes_counted : numbers.len kept ≡ length (nodes cmp rows)
   nodes_counted =
-      numbers.len-entries kept ∙ sym (length-map (λ e. e.1) (numbers.entries kept)) ∙ sym (sum_ones (numbers.values kept))
+      numbers.len-entries kept ∙ sym (length-map (numbers.entries kept) (λ e. e.1)) ∙ sym (sum_ones (numbers.values kept))
       ∙ sum_records (λ c. 1) (λ n. 1) (λ k n g. refl) ∙ sum_ones (nodes cmp rows)
 
   -- a record is marked where its cell is a class

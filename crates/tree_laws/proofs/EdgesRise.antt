@@ -5,23 +5,19 @@ use Rattle.std.specs.declared.cmp.Ordering.TheVariants.{Less, Equal}
 use Rattle.std.specs.Ordering.{eq_by_cmp, ordering_then}
 use Rattle.std.specs.Cmp.{IsTotalOrder, tied_itself, nat_cmp_total, nat_cmp_is}
 use Rattle.std.specs.FinMap.{IsAntisymmetric}
-use Rattle.std.specs.List.{AllByRecursion, range_with_len, cons_option}
+use Rattle.std.specs.List.{range_with_len, cons_option}
 use Rattle.std.specs.Option.{option_map, option_and_then}
 use Rattle.cube_defs.specs.Cell.{Cell, depth, upto, with_value}
 use Rattle.cube_defs.specs.Rows.{Row, cov, closure}
 use Rattle.cube_defs.specs.Tree.{Edge, node_with, edges_in, values_at, as_list, forced_child}
 use Rattle.cube_laws.specs.Lists.{Among, Rises}
-use Rattle.cube_laws.proofs.Lists.{among_flat_map, among_filter_map, all_at, all_from}
+use Rattle.cube_laws.proofs.Lists.{among_flat_map, among_filter_map, all_at, all_from, all_append}
 use Rattle.cube_laws.proofs.Distinct.{rises_distinct}
 use Rattle.tree_laws.specs.Edges.{edge_cmp}
 use Rattle.tree_laws.proofs.Lists.{some_same, among_range}
 use Rattle.tree_laws.proofs.Sums.{EachOnce}
 
 module _ {X : Type 0} (cmp : X → X → Ordering) where
-  all_append : (P : X → Type 0) (xs ys : List X) → AllByRecursion P xs → AllByRecursion P ys → AllByRecursion P (xs ++ ys)
-  all_append P [] ys a b = b
-  all_append P (x ∷ xs) ys a b = (a.0, all_append P xs ys a.1 b)
-
   pub rises_append : (xs ys : List X) → Rises cmp xs → Rises cmp ys → ((x y : X) → Among x xs → Among y ys → cmp x y ≡ Less) → Rises cmp (xs ++ ys)
   rises_append [] ys a b f = b
   rises_append (x ∷ xs) ys a b f = (all_append (λ y. cmp x y ≡ Less) xs ys a.0 (all_from (λ y. cmp x y ≡ Less) ys (λ y m. f x y (inl refl) m)), rises_append xs ys a.1 b (λ y z m k. f y z (inr m) k))

@@ -7,6 +7,7 @@ use Rattle.std.specs.Cmp.{nat_cmp_total, tied_itself}
 use Rattle.std.specs.FinMap as numbers
 use Rattle.cube_laws.specs.Lists.{Among}
 use Rattle.cube_laws.proofs.Lists.{among_map}
+use Rattle.cube_laws.proofs.Orders.{is_equal}
 use Rattle.tree_laws.proofs.Sums.{EachOnce}
 
 first_part : (a b c : Bool) → T ((a && b) && c) → T a
@@ -23,12 +24,7 @@ less Equal h = absurd h
 less Greater h = absurd h
 
 pub at_tie : (q k : ℕ) → eq_by_cmp nat_cmp q k ≡ true → q ≡ k
-at_tie q k h = numbers.nat_cmp-IsAntisymmetric q k (tied (nat_cmp q k) h)
-  where
-    tied : (o : Ordering) → is_eq o ≡ true → o ≡ Equal
-    tied Less h = absurd (true≢false (sym h))
-    tied Equal h = refl
-    tied Greater h = absurd (true≢false (sym h))
+at_tie q k h = numbers.nat_cmp-IsAntisymmetric q k (is_equal (nat_cmp q k) h)
 
 not_itself : (k : ℕ) → nat_cmp k k ≡ Less → ⊥
 not_itself k h = let e : nat_cmp k k ≡ Equal = tied_itself nat_cmp_total k in let bad : Less ≡ Equal = sym h ∙ e in cc

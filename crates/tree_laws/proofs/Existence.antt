@@ -6,11 +6,12 @@ use Rattle.std.specs.Cmp.{IsTotalOrder, nat_cmp_total, tied_itself}
 use Rattle.std.specs.FinMap as numbers
 use Rattle.std.specs.List.{AllByRecursion, range_with_len}
 use Rattle.std.specs.Option.{option_map}
+use Rattle.std.proofs.lemmas.Option.{slice_get-map}
 use Rattle.cube_defs.specs.Cell.{Cell, cell_eq, depth, keep}
 use Rattle.cube_defs.specs.Rows.{Row, closure, is_node}
 use Rattle.cube_defs.specs.Tree.{Edge, Node, Tree, IsCanonical, node_of, next_value, edges_in, forced_child, as_list, cut_last, nodes, covered, cell_at, renamed, renamed_edge}
 use Rattle.cube_laws.specs.Lists.{Among}
-use Rattle.cube_laws.proofs.Lists.{among_append}
+use Rattle.cube_laws.proofs.Lists.{among_append, get_among}
 use Rattle.cube_laws.proofs.Cells.{IsEquality, cell_eq-exact, cell_eq-same}
 use Rattle.cube_laws.proofs.Nodes.{nodes-is, is_node-is}
 use Rattle.cube_laws.proofs.Orders.{equality_by}
@@ -22,11 +23,6 @@ use Rattle.tree_laws.proofs.Children.{node_fronts}
 use Rattle.tree_laws.proofs.Records.{target_node}
 
 module _ {X : Type 0} where
-  get_among : (xs : List X) (k : ℕ) (x : X) → slice_get xs k ≡ Some x → Among x xs
-  get_among [] k x h = cc
-  get_among (y ∷ xs) zero x h = inl (sym (some_same h))
-  get_among (y ∷ xs) (suc k) x h = inr (get_among xs k x h)
-
   -- an item that stands once has one place
   one_place : (xs : List X) (k l : ℕ) (x : X) → EachOnce xs → slice_get xs k ≡ Some x → slice_get xs l ≡ Some x → k ≡ l
   one_place [] k l x o g h = cc
@@ -57,12 +53,6 @@ module _ {Y : Type 0} where
       tied : (a b : ℕ) → a ≡ b → eq_by_cmp nat_cmp a b ≡ true
       tied a b e = subst (λ n. eq_by_cmp nat_cmp a n ≡ true) e (ap (λ o. is_eq o) (tied_itself nat_cmp_total a))
   find-numbered j (suc k) (y ∷ ys) = find-later j k ys (find-numbered (suc j) k ys) y
-
-module _ {X Y : Type 0} where
-  get-map : (f : X → Y) (xs : List X) (k : ℕ) → slice_get (map f xs) k ≡ option_map f (slice_get xs k)
-  get-map f [] k = refl
-  get-map f (x ∷ xs) zero = refl
-  get-map f (x ∷ xs) (suc k) = get-map f xs k
 
 -- numbers that lead back to the cells
 module _ {A : Type 0} (place : Cell A → ℕ) (back : ℕ → Option (Cell A)) where
@@ -135,7 +125,7 @@ module _ {A : Type 0} {cmp : A → A → Ordering} (total : IsTotalOrder cmp) (a
   get_made k =
       numbers.get-from_entries nat_cmp_total (numbered 0 (map record_at (nodes cmp rows))) k
       ∙ ap (λ n. numbers.find nat_cmp n (numbered 0 (map record_at (nodes cmp rows)))) (let e : k ≡ 0 + k = omega arith in e)
-      ∙ find-numbered 0 k (map record_at (nodes cmp rows)) ∙ get-map record_at (nodes cmp rows) k
+      ∙ find-numbered 0 k (map record_at (nodes cmp rows)) ∙ slice_get-map record_at (nodes cmp rows) k
 
   cell_made : (k : ℕ) → cell_at made k ≡ slice_get (nodes cmp rows) k
   cell_made k = ap (option_map (λ n. n.cell)) (get_made k) ∙ go (slice_get (nodes cmp rows) k)

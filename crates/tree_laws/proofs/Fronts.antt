@@ -1,7 +1,8 @@
 -- The fronts of cells, and cells with a value more.
-use Rattle.std.proofs.Common.{◌≡◌, ℕ, zero, suc, ◌≤◌, ◌<◌, Bool, true, ◌&&◌, Option, Some, None, [], ◌∷◌, length, slice_get, refl, sym, ap, ◌∙◌, arith}
-use Rattle.std.proofs.lemmas.Bool.{and_parts, and_from}
+use Rattle.std.proofs.Common.{◌≡◌, ◌==◌, ℕ, zero, suc, ◌-◌, ◌≤◌, ◌<◌, nat_cmp, replicate, Bool, false, true, ◌&&◌, Option, Some, None, [], ◌∷◌, length, slice_get, refl, sym, ap, ◌∙◌, arith}
+use Rattle.std.proofs.lemmas.Bool.{and_parts, and_from, cond-false}
 use Rattle.cube_defs.specs.Cell.{Cell, entry_leq, leq, entry_meet, meet, depth, one_deeper, keep, upto, with_value}
+use Rattle.cube_defs.specs.Tree.{cut_last}
 use Rattle.cube_laws.proofs.Cells.{IsEquality, leq_refl, depth-keep_zero, one_deeper-le}
 use Rattle.cube_laws.proofs.Columns.{one_value}
 
@@ -129,3 +130,26 @@ module _ {A : Type 0} where
   get-keep k zero (e ∷ c) h = absurd (omega arith)
   get-keep zero (suc n) (e ∷ c) h = refl
   get-keep (suc k) (suc n) (e ∷ c) h = get-keep k n c (omega arith)
+
+-- the front before a new last value
+pub keep-with_value : {A : Type 0} (p : Cell A) (i : ℕ) (v : A) → depth p ≤ i → keep i (with_value p i v) ≡ p
+keep-with_value [] i v h = refl
+keep-with_value (None ∷ p) zero v h = keep-beyond zero (None ∷ p) h
+keep-with_value (Some w ∷ p) zero v h = absurd (omega arith)
+keep-with_value (e ∷ p) (suc i) v h = ap (λ x. e ∷ x) (keep-with_value p i v (shallower e (depth p) i h))
+
+pub depth-any : (n : ℕ) → depth (replicate {A = Option ℕ} n None) ≡ 0
+depth-any zero = refl
+depth-any (suc n) = ap (one_deeper {A = ℕ} None) (depth-any n)
+
+-- what cutting off the last value leaves
+pub cut_some : (p : Cell ℕ) (i : ℕ) → depth p ≡ suc i → cut_last nat_cmp p ≡ Some (keep i p)
+cut_some p i e =
+    cond-false (depth p == 0) None (Some (keep (depth p - 1) p)) (apart (depth p) e)
+    ∙ ap (λ d. Some (keep d p)) (less (depth p) e)
+  where
+    apart : (d : ℕ) → d ≡ suc i → (d == 0) ≡ false
+    apart d e = grind arith
+
+    less : (d : ℕ) → d ≡ suc i → d - 1 ≡ i
+    less d e = omega arith

@@ -44,7 +44,7 @@ module _ {A : Type 0} {eq : A → A → Bool} (law : IsEquality eq) where
   lead_chain rows p u i v e h l m =
       ap (option_map (λ w. upto w i)) (closure_with rows p (keep i u) u i v e (closure_between rows p (keep i u) u e (leq-chain rows p u i e h) (keep-leq law i u)) h (depth-keep-le i u) l m)
 
-  upto-meet_next : (o : Option (Cell A)) (t : Cell A) (i : ℕ) → upto (meet_next eq t o) i ≡ moved eq (option_map (λ w. upto w i) o) t i
+  pub upto-meet_next : (o : Option (Cell A)) (t : Cell A) (i : ℕ) → upto (meet_next eq t o) i ≡ moved eq (option_map (λ w. upto w i) o) t i
   upto-meet_next None t i = refl
   upto-meet_next (Some w) t i = ap (λ x. upto x i) (meet_comm law t w) ∙ keep-meet law _ w t
 

@@ -24,3 +24,5 @@ pub mod LowersRecoded
 pub mod Existence
 pub mod MoreCounts
 pub mod TreeEdges
+pub mod Targets
+pub mod EdgeLists

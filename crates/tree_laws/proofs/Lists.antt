@@ -1,7 +1,10 @@
 -- Lists by dimensions.
-use Rattle.std.proofs.Common.{◌≡◌, ◌↔◌, ◌⊎◌, inl, inr, ℕ, zero, suc, ◌+◌, ◌≤◌, ◌<◌, Option, Some, None, List, [], ◌∷◌, ◌++◌, flat_map, filter_map, refl, ap, ap₂, arith}
+use Rattle.std.proofs.Common.{◌≡◌, ◌↔◌, ◌⊎◌, inl, inr, ℕ, zero, suc, ◌+◌, ◌≤◌, ◌<◌, Option, Some, None, List, [], ◌∷◌, ◌++◌, flat_map, filter_map, IsSome, true≢false, sym, refl, ap, ap₂, arith}
 use Rattle.std.specs.List.{range_with_len, cons_option}
 use Rattle.std.specs.Option.{option_map}
+use Rattle.std.specs.FinMap as map
+use Rattle.cube_defs.specs.Cell.{Cell}
+use Rattle.cube_defs.specs.Tree.{Node, Tree, cell_at}
 use Rattle.cube_laws.specs.Lists.{Among}
 
 pub some_same : {X : Type 0} {x y : X} → Some x ≡ Some y → x ≡ y
@@ -36,3 +39,15 @@ among_range i a (suc m) = (
   λ h. elim h [ inl e ↦ (omega (arith, e), omega (arith, e)) | inr k ↦ let p : (a + 1 ≤ i) × (i < a + 1 + m) = (among_range i (a + 1) m).0 k in (omega (arith, p.0), omega (arith, p.1)) ],
   λ h. elim (first_of_range i a h.0) [ inl e ↦ inl e | inr k ↦ inr ((among_range i (a + 1) m).1 (k, omega (arith, h.1))) ],
 )
+
+pub some_there : {X : Type 0} (o : Option X) → IsSome o → (x : X) × (o ≡ Some x)
+some_there None h = absurd (true≢false (sym h))
+some_there (Some x) h = (x, refl)
+
+-- where a number has a cell, it has a record
+pub there : (tree : Tree ℕ) (k : ℕ) (c : Cell ℕ) → cell_at tree k ≡ Some c → IsSome (map.get tree k)
+there tree k c h = go (map.get tree k) h
+  where
+    go : (o : Option (Node ℕ ℕ)) → option_map (λ n. n.cell) o ≡ Some c → IsSome o
+    go None e = cc
+    go (Some n) e = refl

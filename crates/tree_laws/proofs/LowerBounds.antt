@@ -1,5 +1,5 @@
 -- The lower bounds of a class stand among the cells below it.
-use Rattle.std.proofs.Common.{◌≡◌, ◌↔◌, ℕ, suc, true, false, Bool, cond, Some, None, List, [], ◌∷◌, map, filter, length, refl, sym, ap, subst, ◌∙◌, inl, inr, arith, true≢false}
+use Rattle.std.proofs.Common.{◌≡◌, ◌↔◌, ℕ, suc, true, Some, None, List, [], ◌∷◌, map, filter, length, refl, sym, ap, subst, ◌∙◌, inl, inr, arith, true≢false}
 use Rattle.std.proofs.lemmas.Bool.{and_parts, and_from}
 use Rattle.std.specs.declared.cmp.Ordering.{Ordering}
 use Rattle.std.specs.declared.cmp.Ordering.TheVariants.{Less}
@@ -18,25 +18,9 @@ use Rattle.cube_laws.proofs.Cells.{IsEquality}
 use Rattle.cube_laws.proofs.Closures.{leq-closure, option_eq-is}
 use Rattle.cube_laws.proofs.Covered.{covered_rises, cell_total, cell_anti, covered-is, some_covered}
 use Rattle.cube_laws.proofs.Orders.{equality_by}
+use Rattle.cube_laws.proofs.Listed.{rises-filter}
 use Rattle.tree_laws.specs.Below.{below}
 use Rattle.tree_laws.proofs.EdgesRise.{rises_append}
-
-module _ {X : Type 0} (cmp : X → X → Ordering) where
-  all_filter : (P : X → Type 0) (p : X → Bool) (xs : List X) → AllByRecursion P xs → AllByRecursion P (filter p xs)
-  all_filter P p [] h = tt
-  all_filter P p (x ∷ xs) h = go (p x) (all_filter P p xs h.1)
-    where
-      go : (b : Bool) → AllByRecursion P (filter p xs) → AllByRecursion P (cond b (x ∷ filter p xs) (filter p xs))
-      go true more = (h.0, more)
-      go false more = more
-
-  pub rises_filter : (p : X → Bool) (xs : List X) → Rises cmp xs → Rises cmp (filter p xs)
-  rises_filter p [] h = tt
-  rises_filter p (x ∷ xs) h = go (p x) (rises_filter p xs h.1)
-    where
-      go : (b : Bool) → Rises cmp (filter p xs) → Rises cmp (cond b (x ∷ filter p xs) (filter p xs))
-      go true more = (all_filter (λ y. cmp x y ≡ Less) p xs h.0, more)
-      go false more = more
 
 module _ {X Y : Type 0} (f : X → Y) where
   all_map_from : (P : X → Type 0) (Q : Y → Type 0) (xs : List X) → ((x : X) → P x → Q (f x)) → AllByRecursion P xs → AllByRecursion Q (map f xs)
@@ -104,8 +88,8 @@ module _ {A : Type 0} {cmp : A → A → Ordering} (total : IsTotalOrder cmp) (a
   pub lower_bounds-below : (dims : ℕ) (rows : List (Row A)) (u : Cell A) → AllByRecursion (λ row. length row.tuple ≡ dims) rows → length u ≡ dims → lower_bounds cmp rows u ≡ filter (is_lower_bound (eq_by_cmp cmp) rows u) (below u)
   lower_bounds-below dims rows u wide long =
       rises_same (cell_total total anti) (cell_anti total anti) _ _
-      (rises_filter (cell_cmp cmp) (is_lower_bound (eq_by_cmp cmp) rows u) (covered cmp rows) (covered_rises total anti rows))
-      (rises_filter (cell_cmp cmp) (is_lower_bound (eq_by_cmp cmp) rows u) (below u) (below_rises total u))
+      (rises-filter (cell_cmp cmp) (is_lower_bound (eq_by_cmp cmp) rows u) (covered cmp rows) (covered_rises total anti rows))
+      (rises-filter (cell_cmp cmp) (is_lower_bound (eq_by_cmp cmp) rows u) (below u) (below_rises total u))
       into from
     where
       closed : (c : Cell A) → is_lower_bound (eq_by_cmp cmp) rows u c ≡ true → closure (eq_by_cmp cmp) rows c ≡ Some u

@@ -68,9 +68,6 @@ module _ {A B : Type 0} {cmp : A → A → Ordering} {cmp' : B → B → Orderin
   law' : IsEquality (eq_by_cmp cmp')
   law' = equality_by total' anti'
 
-  more : List (Row B)
-  more = map (coded_row codes) rows
-
   lead-with : (p : Cell A) (i : ℕ) (v : A) → AreKnown known 0 (with_value p i v) → lead (eq_by_cmp cmp') (map (coded_row codes) rows) (coded codes 0 p) i (codes i v) ≡ option_map (coded codes 0) (lead (eq_by_cmp cmp) rows p i v)
   lead-with p i v k =
       ap (λ c. option_map (λ w. upto w i) (closure (eq_by_cmp cmp') (map (coded_row codes) rows) c)) (with_value-coded codes 0 p i i v (omega arith))

@@ -1,5 +1,5 @@
 -- Lists with the same items, each once, have the same sums.
-use Rattle.std.proofs.Common.{◌≡◌, ◌⊎◌, inl, inr, ℕ, suc, ◌+◌, ◌≤◌, Bool, true, false, cond, Option, Some, None, List, [], ◌∷◌, map, filter, filter_map, length, refl, sym, ap, ap₂, subst, ◌∙◌, arith}
+use Rattle.std.proofs.Common.{◌≡◌, ◌⊎◌, inl, inr, ℕ, ◌+◌, ◌≤◌, Bool, true, false, cond, Option, Some, None, List, [], ◌∷◌, map, filter, filter_map, length, refl, sym, ap, ap₂, subst, ◌∙◌, arith}
 use Rattle.std.specs.Bool.{⊤}
 use Rattle.std.specs.declared.cmp.Ordering.{Ordering}
 use Rattle.std.specs.Cmp.{IsTotalOrder}
@@ -81,10 +81,6 @@ module _ {X Y : Type 0} where
     λ m. let r : (z : X) × Among z xs × (f x ≡ f z) = among_map f (f x) xs m in h.0 (subst (λ w. Among w xs) (sym (apart x r.0 (inl refl) (inr r.1) r.2)) r.1),
     once_map f xs (λ z w m k. apart z w (inr m) (inr k)) h.1,
   )
-
-  pub length-map : (f : X → Y) (xs : List X) → length (map f xs) ≡ length xs
-  length-map f [] = refl
-  length-map f (x ∷ xs) = ap suc (length-map f xs)
 
   pub sum_by-map : (f : Y → ℕ) (h : X → Y) (xs : List X) → sum_by f (map h xs) ≡ sum_by (λ x. f (h x)) xs
   sum_by-map f h [] = refl

@@ -17,6 +17,7 @@ use Rattle.cube_laws.proofs.Cells.{IsEquality, leq_trans, leq_refl, cell_eq-exac
 use Rattle.cube_laws.proofs.Closures.{closure_idem, is_class-is}
 use Rattle.cube_laws.proofs.Covered.{covered-is, covered_some, closure_length}
 use Rattle.std.specs.Cmp.{both_ways}
+use Rattle.std.proofs.lemmas.List.{length-map}
 use Rattle.cube_laws.proofs.Columns.{one_value, one_value-leq}
 use Rattle.cube_laws.proofs.Nodes.{nodes-is, is_node-is, class_fronts, front_of_class}
 use Rattle.cube_laws.proofs.Orders.{equality_by}
@@ -28,7 +29,7 @@ use Rattle.tree_laws.proofs.Leads.{led_from}
 use Rattle.tree_laws.proofs.EdgesRise.{rising_edges_once}
 use Rattle.tree_laws.proofs.Records.{record_closure, record_rises, record_edges, target_node}
 use Rattle.tree_laws.proofs.Children.{lead_above, node_above, child_before, node_fronts}
-use Rattle.tree_laws.proofs.Sums.{EachOnce, sum_same, once_filter, once_map, covered_once, length-map, sum_ones, sum_alike, sum_by-map, or_nothing, sum_by-filter_map}
+use Rattle.tree_laws.proofs.Sums.{EachOnce, sum_same, once_filter, once_map, covered_once, sum_ones, sum_alike, sum_by-map, or_nothing, sum_by-filter_map}
 
 module _ {X : Type 0} where
   sum_add : (f g : X → ℕ) (xs : List X) → sum_by (λ x. f x + g x) xs ≡ sum_by f xs + sum_by g xs
@@ -166,7 +167,7 @@ module _ {A : Type 0} {cmp : A → A → Ordering} (total : IsTotalOrder cmp) (a
     as_many : count_by (λ x. is_under cmp p (Some x.target)) n.edges ≡ count_by (λ c. is_under cmp p (Some c)) (nodes cmp rows)
     unfolding child_edges children
     as_many =
-        sym (length-filter (λ x. is_under cmp p (Some x.target)) n.edges) ∙ sym (length-map (λ x. x.target) child_edges) ∙ sym (sum_ones (map (λ x. x.target) child_edges))
+        sym (length-filter (λ x. is_under cmp p (Some x.target)) n.edges) ∙ sym (length-map child_edges (λ x. x.target)) ∙ sym (sum_ones (map (λ x. x.target) child_edges))
         ∙ sum_same (λ c. 1) (map (λ x. x.target) child_edges) children (once_map (λ x. x.target) child_edges same_target edge_once) (once_filter (λ c. is_under cmp p (Some c)) (nodes cmp rows) node_once) to_child from_child
         ∙ sum_ones children ∙ length-filter (λ c. is_under cmp p (Some c)) (nodes cmp rows)
 

@@ -137,9 +137,6 @@ module _ (lists : List (List Text)) (dim : ℕ) (codes : List ℕ) where
   abbrev IsWithin : List ℕ → Type 0
   IsWithin = All (λ code. code < length all)
 
-  pub asked-one : (value : Text) → map (text_in lists dim) codes ≡ filter (has_text lists dim) (value ∷ []) → IsWithin codes → IsAsked lists dim (fields.One value) (Some codes)
-  asked-one value e h = record { values = ap (λ (z : List Text). Some z) e; known = codes-known lists dim codes h }
-
   module _ (sorted : List ℕ) (in_order : map (text_in lists dim) sorted ≡ distinct text_cmp (map (text_in lists dim) codes)) (within : IsWithin sorted) where
     pub asked-all : map (text_in lists dim) codes ≡ all → IsAsked lists dim fields.All (Some sorted)
     asked-all e = record {

@@ -1,13 +1,12 @@
 -- Two cells compared from a dimension on.
-use Rattle.std.proofs.Common.{min, ◌≡◌, ◌≢◌, ◌⊎◌, inl, inr, ℕ, zero, suc, ◌+◌, ◌<◌, ◌≤◌, Option, None, List, [], ◌∷◌, length, drop, get_or, refl, sym, ap, ap₂, ◌∙◌, arith}
+use Rattle.std.proofs.Common.{min, ◌≡◌, ◌⊎◌, inl, inr, ℕ, zero, suc, ◌<◌, ◌≤◌, None, List, [], ◌∷◌, length, drop, get_or, refl, sym, ap, ap₂, ◌∙◌, arith}
 use Rattle.std.specs.declared.cmp.Ordering.{Ordering}
 use Rattle.std.specs.declared.cmp.Ordering.TheVariants.{Less, Equal, Greater}
-use Rattle.std.specs.Ordering.{nat_cmp, ordering_then}
+use Rattle.std.specs.Ordering.{nat_cmp}
 use Rattle.std.specs.Option.{option_cmp, option_map}
 use Rattle.std.specs.Cmp.{nat_cmp_is}
 use Rattle.std.proofs.lemmas.Bool.{cases_lt}
 use Rattle.std.proofs.lemmas.List.{drop_all}
-use Rattle.std.proofs.Math.Seq.{drop-cons}
 use Rattle.cube_defs.specs.Text.{Text, text_cmp}
 use Rattle.cube_defs.specs.Cell.{Cell, cell_cmp}
 use Rattle.cube_laws.specs.Recoding.{coded}
@@ -20,25 +19,6 @@ module _ (lists : List (List Text)) (a b : Cell ℕ) where
 
   abbrev pub here : ℕ → Ordering
   here i = option_cmp text_cmp (option_map (text_in lists i) (get_or a i None)) (option_map (text_in lists i) (get_or b i None))
-
-  split : (i : ℕ) → i < length a → i < length b → from i ≡ ordering_then (here i) (from (suc i))
-  split i l m = ap₂ (λ c d. cell_cmp text_cmp (coded (text_in lists) i c) (coded (text_in lists) i d)) (drop-cons a i None l) (drop-cons b i None m)
-
-  pub goes_on : (i : ℕ) (x y : Option ℕ) (o : Ordering) → i < length a → i < length b → x ≡ get_or a i None → y ≡ get_or b i None → o ≡ option_cmp text_cmp (option_map (text_in lists i) x) (option_map (text_in lists i) y) → o ≡ Equal → from i ≡ from (i + 1)
-  goes_on i x y o l m f g is e =
-      let next : suc i ≡ i + 1 = omega arith in
-      let same : here i ≡ Equal = ap₂ (λ p q. option_cmp text_cmp (option_map (text_in lists i) p) (option_map (text_in lists i) q)) (sym f) (sym g) ∙ sym is ∙ e in
-      split i l m ∙ ap (λ r. ordering_then r (from (suc i))) same ∙ ap from next
-
-  pub stops : (i : ℕ) (x y : Option ℕ) (o : Ordering) → i < length a → i < length b → x ≡ get_or a i None → y ≡ get_or b i None → o ≡ option_cmp text_cmp (option_map (text_in lists i) x) (option_map (text_in lists i) y) → o ≢ Equal → o ≡ from i
-  stops i x y o l m f g is n =
-      let same : here i ≡ o = ap₂ (λ p q. option_cmp text_cmp (option_map (text_in lists i) p) (option_map (text_in lists i) q)) (sym f) (sym g) ∙ sym is in
-      sym (split i l m ∙ ap (λ r. ordering_then r (from (suc i))) same ∙ decided o n)
-    where
-      decided : (r : Ordering) → r ≢ Equal → ordering_then r (from (suc i)) ≡ r
-      decided Less n = refl
-      decided Equal n = absurd (n refl)
-      decided Greater n = refl
 
   length-drop-some : {X : Type 0} (xs : List X) (i : ℕ) → i < length xs → (x : X) × (ys : List X) × (drop i xs ≡ x ∷ ys)
   length-drop-some [] i l = absurd (omega arith)

@@ -2,16 +2,12 @@
 use Rattle.std.proofs.Common.{◌≡◌, ◌<◌, ◌∙◌, Bool, true, false, List, [], ◌∷◌, length, get_or, refl, sym, ap, arith}
 use Rattle.std.specs.List.{list_any, position_or_len}
 use Rattle.std.specs.Str.{bytes_eq}
-use Rattle.std.specs.Cmp.{nat_cmp_total}
 use Rattle.std.specs.Cmp.Lexicographic.{bytes_decides}
-use Rattle.std.specs.FinMap.{nat_cmp-IsAntisymmetric}
-use Rattle.std.specs.Ordering.{eq_by_cmp, nat_cmp}
 use Rattle.std.proofs.lemmas.List.Sums.{passes_at_first}
 use Rattle.std.proofs.lemmas.Map.Text.{is_eq-slice_cmp}
 use Rattle.cube_defs.specs.Text.{Text, text_eq}
 use Rattle.cube_laws.specs.Recoding.{TellsApart}
 use Rattle.cube_laws.proofs.Cells.{IsEquality}
-use Rattle.cube_laws.proofs.Orders.{equality_by}
 use Rattle.value_dict.specs.Told.{has_text, place_in}
 
 pub text_equality : IsEquality text_eq
@@ -19,10 +15,6 @@ text_equality = record {
   exact = λ v w h. (bytes_decides v w).0 (sym (is_eq-slice_cmp v w) ∙ h);
   same = λ v. is_eq-slice_cmp v v ∙ (bytes_decides v v).1 refl;
 }
-
--- codes are equal where their order says so
-pub code_equality : IsEquality (eq_by_cmp nat_cmp)
-code_equality = equality_by nat_cmp_total nat_cmp-IsAntisymmetric
 
 pub any-within : {X : Type 0} (p : X → Bool) (xs : List X) → list_any p xs ≡ true → position_or_len p xs < length xs
 any-within p [] h = cc

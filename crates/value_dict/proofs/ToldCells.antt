@@ -1,5 +1,5 @@
 -- Cells over the codes of known texts: they are told by these texts, and cover what the cells of texts cover.
-use Rattle.std.proofs.Common.{◌≡◌, ◌<◌, ◌≤◌, ◌+◌, ◌∙◌, ℕ, suc, Bool, true, false, Option, Some, None, List, [], ◌∷◌, map, length, get_or, refl, sym, ap, ap₂, subst, arith}
+use Rattle.std.proofs.Common.{◌≡◌, ◌<◌, ◌≤◌, ◌+◌, ◌∙◌, ℕ, suc, Bool, true, false, Some, None, List, [], ◌∷◌, map, length, get_or, refl, sym, ap, ap₂, subst, arith}
 use Rattle.std.specs.Prelude.{⊤}
 use Rattle.std.specs.List.{AllByRecursion}
 use Rattle.std.specs.Ordering.{eq_by_cmp, nat_cmp}
@@ -10,8 +10,9 @@ use Rattle.cube_laws.specs.Recoding.{AreKnown, RowsAreKnown, coded, coded_row}
 use Rattle.cube_laws.specs.Total.{agg_at, agg_some}
 use Rattle.cube_laws.proofs.RecodedRows.{agg_of-coded, cov-coded}
 use Rattle.cube_laws.proofs.RecodedLists.{known-below}
+use Rattle.cube_laws.proofs.Orders.{code_equality}
 use Rattle.value_dict.specs.Told.{HasTexts, has_text, place_in, text_of, told_cell}
-use Rattle.value_dict.proofs.Places.{any-within, code_equality, places-apart, text-at, text_equality}
+use Rattle.value_dict.proofs.Places.{any-within, places-apart, text-at, text_equality}
 
 -- the lists from dimension k on
 abbrev pub Fits : List (List Text) → ℕ → List (List Text) → Type 0

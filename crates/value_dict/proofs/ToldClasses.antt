@@ -17,10 +17,11 @@ use Rattle.cube_laws.proofs.Covered.{closure_length}
 use Rattle.cube_laws.proofs.Recoded.{closure-coded, known-closure}
 use Rattle.cube_laws.proofs.RecodedLists.{known-closed}
 use Rattle.cube_laws.proofs.RecodedRows.{agg-coded}
+use Rattle.cube_laws.proofs.Orders.{code_equality}
 use Rattle.tree_laws.proofs.Lists.{some_same}
 use Rattle.tree_laws.proofs.LowersRecoded.{lowers-coded, lowers-known}
 use Rattle.value_dict.specs.Told.{HasTexts, IsTold, has_text, place_in, told_cell, told_hit}
-use Rattle.value_dict.proofs.Places.{code_equality, places-apart, text_equality}
+use Rattle.value_dict.proofs.Places.{places-apart, text_equality}
 use Rattle.value_dict.proofs.ToldCells.{IsKnown, fits, has-all, has-texts, told-all, told-coded}
 
 -- what is found by codes is the class by texts

@@ -1,9 +1,9 @@
 -- Codes and the texts that they stand for.
-use Rattle.std.proofs.Common.{◌≡◌, ◌<◌, ◌+◌, ◌∙◌, ℕ, zero, suc, List, [], ◌∷◌, Bool, true, false, Some, length, get_or, filter, map, refl, ap, ap₂, arith, position}
-use Rattle.std.specs.Prelude.{◌||◌}
+use Rattle.std.proofs.Common.{◌≡◌, ◌<◌, ◌+◌, ◌∙◌, ℕ, suc, List, [], ◌∷◌, Bool, true, false, Some, length, get_or, filter, map, refl, ap, ap₂, arith, position}
 use Rattle.std.specs.List.{All, AllByRecursion, IsDistinct, list_any, position_or_len}
 use Rattle.std.specs.Str.{bytes_eq}
 use Rattle.std.proofs.lemmas.List.Elements.{All-cons, All-head, All-nil, All-tail}
+use Rattle.std.proofs.lemmas.List.Folds.{list_any_at}
 use Rattle.cube_defs.specs.Cell.{cell_of}
 use Rattle.cube_defs.specs.Rows.{Row}
 use Rattle.cube_defs.specs.Text.{Text}
@@ -73,22 +73,13 @@ rows-back lists (row ∷ rows) are distinct =
     (coded-back lists 0 lists row.tuple (λ i. let e : 0 + i ≡ i = omega arith in ap (λ (n : ℕ). get_or lists n []) e) (All-head (λ (r : Row ℕ). AreCodes lists r.tuple) row rows are) distinct))
     (rows-back lists rows (All-tail (λ (r : Row ℕ). AreCodes lists r.tuple) row rows are) distinct)
 
-any-there : {X : Type 0} (p : X → Bool) (xs : List X) (k : ℕ) (d : X) → k < length xs → p (get_or xs k d) ≡ true → list_any p xs ≡ true
-any-there p [] k d lt e = absurd (omega arith)
-any-there p (x ∷ xs) zero d lt e = rw e refl
-any-there p (x ∷ xs) (suc k) d lt e = rw (any-there p xs k d (omega arith) e) (right (p x))
-  where
-    right : (b : Bool) → (b || true) ≡ true
-    right true = refl
-    right false = refl
-
 -- the texts of codes are known
 known-from : (all : List (List Text)) (k : ℕ) (lists : List (List Text)) (codes : List ℕ) → ((i : ℕ) → get_or all (k + i) [] ≡ get_or lists i []) → AreCodes lists codes
     → AreKnown (has_text all) k (cell_of (decoded lists codes))
 known-from all k lists [] same are = tt
 known-from all k [] (code ∷ codes) same are = absurd are
 known-from all k (texts ∷ lists) (code ∷ codes) same are = (
-  ap (λ (ts : List Text). list_any (bytes_eq (get_or texts code [])) ts) (this-list all k texts lists same) ∙ any-there (bytes_eq (get_or texts code [])) texts code [] are.0 (same_bytes (get_or texts code [])),
+  ap (λ (ts : List Text). list_any (bytes_eq (get_or texts code [])) ts) (this-list all k texts lists same) ∙ list_any_at (bytes_eq (get_or texts code [])) texts code [] are.0 (same_bytes (get_or texts code [])),
   known-from all (suc k) lists codes (next-lists all k texts lists same) are.1,
 )
 

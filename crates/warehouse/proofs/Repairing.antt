@@ -7,7 +7,7 @@ use Rattle.std.specs.List.{All, AllByRecursion, IsDistinct}
 use Rattle.std.specs.Cmp.{nat_cmp_total}
 use Rattle.std.specs.FinMap as finmap
 use Rattle.std.specs.FinMap.{nat_cmp-IsAntisymmetric}
-use Rattle.std.proofs.lemmas.List.{append_cancel_left, drop_all, drop-append-le, length-append, length-take, map-append, take_all, take_at, take_more, take-append-drop, take-take}
+use Rattle.std.proofs.lemmas.List.{append_cancel_left, drop_all, drop-append-le, length-append, length-take, map-append, take_all, take_more, take-append-drop, take-take}
 use Rattle.std.proofs.lemmas.List.Elements.{All-cons, All-head, All-nil, All-tail, filter_map-append}
 use Rattle.base_table.specs.Places.{IsTable, Places, row_at, rows_in, rows_of}
 use Rattle.batch_insert.specs.Planned.{IsSource}
@@ -31,6 +31,7 @@ use Rattle.warehouse.proofs.Decoding.{rows-back}
 use Rattle.warehouse.proofs.Growing.{known-longer, rows-longer}
 use Rattle.warehouse.proofs.Rows.{kept, kept-none}
 use Rattle.warehouse.proofs.Trees.{rows-wide}
+use Rattle.cube_laws.proofs.Lists.{all_front}
 
 -- where as many rows come as there are changes, all changes are insertions
 few-inserted : (changes : List (Change Text)) → length (inserted changes) ≤ length changes
@@ -47,9 +48,6 @@ all-inserted (Insert row ∷ changes) same =
 -- places that stand first
 pub front-same : (t : Places) → HasFront t t
 front-same t = take_all (length t.places) t.places (omega arith)
-
-pub front-more : (t t' : Places) (place : Option (Row ℕ)) → t'.places ≡ t.places ++ place ∷ [] → HasFront t t'
-front-more t t' place more = ap (take (length t.places)) more ∙ take_at t.places (place ∷ []) (length t.places) refl
 
 pub front-within : (t t' : Places) → HasFront t t' → length t.places ≤ length t'.places
 front-within t t' front = omega (arith, ap (λ (ps : List (Option (Row ℕ))). length ps) front, length-take (length t.places) t'.places)
@@ -102,14 +100,9 @@ nodes-before t k =
     subst (λ (rs : List (Row ℕ)). length (nodes nat_cmp (rows_before t k)) ≤ length (nodes nat_cmp rs)) (sym (rows-split t k))
     (nodes-more (rows_in (drop k t.places)) (rows_before t k))
 
--- the rows before a place are as wide as those of the table
-all-first : {X : Type 0} (P : X → Type 0) (xs ys : List X) → AllByRecursion P (xs ++ ys) → AllByRecursion P xs
-all-first P [] ys all = tt
-all-first P (x ∷ xs) ys all = (all.0, all-first P xs ys all.1)
-
 wide-before : (t : Places) (k : ℕ) → IsTable t → AllByRecursion (λ (row : Row ℕ). length row.tuple ≡ t.dims) (rows_before t k)
 wide-before t k is =
-    all-first (λ (row : Row ℕ). length row.tuple ≡ t.dims) (rows_before t k) (rows_in (drop k t.places))
+    all_front (λ (row : Row ℕ). length row.tuple ≡ t.dims) (rows_before t k) (rows_in (drop k t.places))
     (subst (λ (rs : List (Row ℕ)). AllByRecursion (λ (row : Row ℕ). length row.tuple ≡ t.dims) rs) (rows-split t k) (rows-wide t is))
 
 -- a tuple and amounts are those of the row at a place

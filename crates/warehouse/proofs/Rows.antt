@@ -2,20 +2,16 @@
 use Rattle.std.proofs.Common.{◌≡◌, ◌∙◌, ℕ, List, [], ◌∷◌, ◌++◌, Bool, true, false, filter, refl, sym, ap, arith}
 use Rattle.std.specs.Prelude.{◌||◌, ◌&&◌, not, nat_eq}
 use Rattle.std.specs.List.{list_any}
+use Rattle.std.proofs.lemmas.Bool.{eqb-true}
 use Rattle.cube_defs.specs.Rows.{Row}
 use Rattle.base_table.specs.Places.{has_id, without_id}
 use Rattle.warehouse.specs.Batch.{is_among}
 use Rattle.warehouse.specs.State.{ids_of}
+use Rattle.cube_laws.proofs.Orders.{nat_eq-turned}
 
 -- the rows without those of some ids
 abbrev pub kept : {A : Type 0} → List ℕ → List (Row A) → List (Row A)
 kept gone rows = filter (λ row. not (is_among row.id gone)) rows
-
-same-number : (m n : ℕ) → nat_eq m n ≡ true → m ≡ n
-same-number m n e = grind (arith, e)
-
-pub turned : (m n : ℕ) → nat_eq m n ≡ nat_eq n m
-turned m n = grind arith
 
 pub among-turned : (id : ℕ) (ids : List ℕ) → is_among id ids ≡ list_any (nat_eq id) ids
 among-turned id [] = refl
@@ -49,8 +45,8 @@ kept-more (row ∷ rows) gone id = go (is_among row.id gone) refl (nat_eq row.id
     go : (b : Bool) → is_among row.id gone ≡ b → (e : Bool) → nat_eq row.id id ≡ e → without_id (kept gone rows) id ≡ kept (gone ++ id ∷ []) rows
         → without_id (kept gone (row ∷ rows)) id ≡ kept (gone ++ id ∷ []) (row ∷ rows)
     go true is e same rest = rw (among-more row.id gone id, is) rest
-    go false is true same rest = rw (among-more row.id gone id, is, turned id row.id, same) rest
-    go false is false same rest = rw (among-more row.id gone id, is, turned id row.id, same) (ap (λ (rs : List (Row ℕ)). row ∷ rs) rest)
+    go false is true same rest = rw (among-more row.id gone id, is, nat_eq-turned id row.id, same) rest
+    go false is false same rest = rw (among-more row.id gone id, is, nat_eq-turned id row.id, same) (ap (λ (rs : List (Row ℕ)). row ∷ rs) rest)
 
 -- an id is kept if it is there and doesn't go
 pub has-kept : (rows : List (Row ℕ)) (gone : List ℕ) (id : ℕ) → has_id (kept gone rows) id ≡ (is_among id (ids_of rows) && not (is_among id gone))
@@ -64,11 +60,11 @@ has-kept (row ∷ rows) gone id = go (is_among row.id gone) refl (nat_eq row.id 
     go : (b : Bool) → is_among row.id gone ≡ b → (e : Bool) → nat_eq row.id id ≡ e → has_id (kept gone rows) id ≡ (is_among id (ids_of rows) && not (is_among id gone))
         → has_id (kept gone (row ∷ rows)) id ≡ (is_among id (ids_of (row ∷ rows)) && not (is_among id gone))
     go true is true same rest =
-        let here : is_among id gone ≡ true = ap (λ (n : ℕ). is_among n gone) (sym (same-number row.id id same)) ∙ is in
+        let here : is_among id gone ≡ true = ap (λ (n : ℕ). is_among n gone) (sym (eqb-true row.id id same)) ∙ is in
         rw (is, same, here) (rest ∙ ap (λ (b : Bool). is_among id (ids_of rows) && not b) here ∙ none (is_among id (ids_of rows)))
     go true is false same rest = rw (is, same) rest
     go false is true same rest =
-        let here : is_among id gone ≡ false = ap (λ (n : ℕ). is_among n gone) (sym (same-number row.id id same)) ∙ is in
+        let here : is_among id gone ≡ false = ap (λ (n : ℕ). is_among n gone) (sym (eqb-true row.id id same)) ∙ is in
         rw (is, same, here) refl
     go false is false same rest = rw (is, same) rest
 

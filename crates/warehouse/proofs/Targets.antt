@@ -11,10 +11,10 @@ use Rattle.cell_core.specs.declared.cell.NodeNo.{NodeNo}
 use Rattle.cube_laws.proofs.Orders.{equality_by}
 use Rattle.qc_arena.specs.Seen.{number, record_at}
 use Rattle.tree_laws.specs.Walk.{target_at}
-use Rattle.tree_laws.proofs.Lists.{some_same}
+use Rattle.tree_laws.proofs.Lists.{some_same, there}
 use Rattle.tree_laws.proofs.Steps.{walk_on-renamed}
 use Rattle.tree_search.specs.Found.{Source, IsFrom}
-use Rattle.tree_search.proofs.Walked.{there, there_is}
+use Rattle.tree_search.proofs.Walked.{there_is}
 
 -- a node without a forced child, so that a step takes the edge with the asked value
 abbrev unforced : {S : Type 0} → Node ℕ S → Node ℕ S

@@ -8,6 +8,7 @@ use Rattle.std.proofs.lemmas.List.{get_or-set_other, get_or-set_same, length-app
 use Rattle.std.proofs.lemmas.List.Elements.{All-cons, All-head, All-nil, All-tail}
 use Rattle.std.proofs.lemmas.List.Quantifiers.{position-Some}
 use Rattle.std.proofs.lemmas.List.Sums.{fold-append, position_or_len_is}
+use Rattle.std.proofs.lemmas.Bool.{lt-ltb, ltb-true, le-ltb}
 use Rattle.cube_defs.specs.Cell.{Cell}
 use Rattle.cube_defs.specs.Rows.{Row}
 use Rattle.cube_defs.specs.Text.{Text}
@@ -83,15 +84,6 @@ pub record HasFull (max : ℕ) (lists : List (List Text)) : Type 0 where
   pub there : dim < length lists
   pub over : max < length (get_or lists dim [])
 
-is-over : (max n : ℕ) → max < n → nat_lt max n ≡ true
-is-over max n h = grind (arith, h)
-
-over-is : (max n : ℕ) → nat_lt max n ≡ true → max < n
-over-is max n h = grind (arith, h)
-
-within-is : (max n : ℕ) → n ≤ max → nat_lt max n ≡ false
-within-is max n h = grind (arith, h)
-
 found-some : {X : Type 0} (p : X → Bool) (xs : List X) (k : ℕ) → position_or_len p xs ≡ k → k < length xs → position p xs ≡ Some k
 found-some p xs k place lt = grind (arith, place, lt)
 
@@ -105,18 +97,18 @@ full-found max lists over = by (full_dim max lists) refl over
     by None e h = cc
     by (Some k) e h =
         let p = position-Some (λ (texts : List Text). nat_lt max (length texts)) lists k [] e in
-        record { dim = k; there = p.0; over = over-is max (length (get_or lists k [])) p.1 }
+        record { dim = k; there = p.0; over = ltb-true max (length (get_or lists k [])) p.1 }
 
 pub full-none : (max : ℕ) (lists : List (List Text)) → All (λ texts. length texts ≤ max) lists → full_dim max lists ≡ None
 full-none max lists within =
     let test : List Text → Bool = λ texts. nat_lt max (length texts) in
-    found-none test lists (position_or_len_is test lists (length lists) [] (omega arith) (λ k lt. within-is max (length (get_or lists k [])) (within k [] lt)) (λ lt. absurd (omega arith)))
+    found-none test lists (position_or_len_is test lists (length lists) [] (omega arith) (λ k lt. le-ltb max (length (get_or lists k [])) (within k [] lt)) (λ lt. absurd (omega arith)))
 
 -- the first dimension with too many texts
 pub full-first : (max : ℕ) (lists : List (List Text)) (dim : ℕ) → dim < length lists → ((k : ℕ) → k < dim → length (get_or lists k []) ≤ max) → max < length (get_or lists dim []) → full_dim max lists ≡ Some dim
 full-first max lists dim lt before over =
     let test : List Text → Bool = λ texts. nat_lt max (length texts) in
-    found-some test lists dim (position_or_len_is test lists dim [] (omega arith) (λ k below. within-is max (length (get_or lists k [])) (before k below)) (λ _. is-over max (length (get_or lists dim [])) over)) lt
+    found-some test lists dim (position_or_len_is test lists dim [] (omega arith) (λ k below. le-ltb max (length (get_or lists k [])) (before k below)) (λ _. lt-ltb max (length (get_or lists dim [])) over)) lt
 
 some-over : (max : ℕ) (lists : List (List Text)) → HasFull max lists → IsOver max lists
 some-over max lists h = by (full_dim max lists) refl
@@ -125,7 +117,7 @@ some-over max lists h = by (full_dim max lists) refl
     by None e =
         let test : List Text → Bool = λ texts. nat_lt max (length texts) in
         let fails : nat_lt max (length (get_or lists h.dim [])) ≡ false = any-at test lists h.dim [] (none_passes test lists e) h.there in
-        let passes : nat_lt max (length (get_or lists h.dim [])) ≡ true = is-over max (length (get_or lists h.dim [])) h.over in
+        let passes : nat_lt max (length (get_or lists h.dim [])) ≡ true = lt-ltb max (length (get_or lists h.dim [])) h.over in
         cc
     by (Some k) e = rw e refl
 

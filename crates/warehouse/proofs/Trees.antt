@@ -19,6 +19,7 @@ use Rattle.warehouse.specs.State.{IsHeld, IsIndexed}
 use Rattle.warehouse.specs.Stored.{IsKept, IsStored, state_of}
 use Rattle.warehouse.proofs.Decoding.{rows-back}
 use Rattle.warehouse.proofs.States.{is-state, no_rows}
+use Rattle.tree_laws.proofs.Lists.{some_same}
 
 -- a tree without nodes is that of no rows
 none-from : (dims measures : ℕ) → IsFrom dims finmap.empty (record { measures = measures; rows = [] })
@@ -55,9 +56,6 @@ kept-canonical schema table tree is dims measures closed width max few canonical
   few = few;
   from = tree-from schema table tree.now is dims measures canonical;
 }
-
-pub some_same : {X : Type 0} {x y : X} → Some x ≡ Some y → x ≡ y
-some_same h = cc
 
 -- the rows and the tree are those of before
 pub kept-back : (schema : Layout) (table table' : Places) (tree tree' : Arena) → IsKept schema table tree → Some (rows_of table') ≡ Some (rows_of table) → Some (shape_of tree') ≡ Some (shape_of tree)

@@ -1,5 +1,5 @@
 -- What a batch that only adds rows leaves of the tree as it was, and what it may cost.
-use Rattle.std.specs.Prelude.{ℕ, ◌+◌, ◌*◌, ◌^◌, ◌≡◌, false, nat_eq, List, [], ◌∷◌, ◌++◌, map, Option, Some, Ok}
+use Rattle.std.specs.Prelude.{ℕ, ◌+◌, ◌*◌, ◌^◌, ◌≡◌, false, nat_eq, List, [], ◌∷◌, ◌++◌, map, Some, Ok}
 use Rattle.std.specs.List.{All}
 use Rattle.std.specs.FinMap as finmap
 use Rattle.std.specs.Ordering.{nat_cmp}

@@ -2,7 +2,7 @@
 ghost use Rattle.std.specs.FinMap as finmap;
 ghost use Rattle.std.specs.FinSet as set;
 ghost use Rattle.std.specs.Prelude.{None, Some, false, is_some, length, map, take, true, ◌≡◌, ◌≤◌};
-ghost use Rattle.base_table.specs.Places.{IsTable, rows_of};
+ghost use Rattle.base_table.specs.Places.{IsTable, base_of, rows_of};
 ghost use Rattle.cube_defs.specs.declared.limits.TheConstants.{MAX_DIMS};
 ghost use Rattle.qc_arena.specs.Map.{is_open, shape_of};
 ghost use Rattle.value_dict.specs.TextLists.{IsDictionary, cut};
@@ -25,7 +25,7 @@ pub(crate) fn open_batch(
 ) -> [u32; 16]
     requires stored { IsStored schema.now dict.now table.old }
     requires kept { IsKept schema.now table.old tree.old }
-    ensures table { table.new ≡ record table.old { was = Some (rows_of table.old) } }
+    ensures table { table.new ≡ record table.old { was = Some (base_of table.old) } }
     ensures tree { tree.new ≡ record tree.old { was = Some (shape_of tree.old); touched = set.empty; last = finmap.empty } }
     ensures state { state_of schema.now dict.now table.new ≡ state_of schema.now dict.now table.old }
     ensures lens { take (length schema.now.dims) result ≡ map length dict.now.lists }
@@ -48,7 +48,7 @@ pub(crate) fn keep(table: &mut Table, tree: &mut QcArena)
     table.is_valid();
     tree.commit();
     // What the nodes were is let go at once: nobody asks for it.
-    tree.last_images();
+    tree.drop_images();
 }
 
 /// Takes the batch back: rows and tree are those at its begin, and each dimension has so many texts.
@@ -56,8 +56,8 @@ pub(crate) fn go_back(table: &mut Table, dict: &mut Dict, tree: &mut QcArena, le
     requires rows { is_some table.old.was ≡ true }
     requires tree { is_open tree.old ≡ true }
     requires lens { length lens.now ≡ length dict.old.lists }
-    ensures rows { Some (rows_of table.new) ≡ table.old.was }
-    ensures frame { frame table.new ≡ frame (closed table.old) }
+    ensures back { Some (base_of table.new) ≡ table.old.was }
+    ensures frame { frame table.new ≡ record (frame (closed table.old)) { dims = table.new.dims } }
     ensures valid { IsTable table.new }
     ensures texts { dict.new.lists ≡ cut dict.old.lists lens.now }
     ensures most_texts { dict.new.max ≡ dict.old.max }

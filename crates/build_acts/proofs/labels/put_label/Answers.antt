@@ -6,8 +6,9 @@ use Rattle.build_trace.specs.Trace.Act.{Label}
 use Rattle.qc_arena.specs.Edges.{with_edge}
 use Rattle.qc_arena.specs.Map.{with_forced}
 use Rattle.build_acts.specs.Going.{Does}
-use Rattle.build_acts.proofs.Steps.{does_label, some_there}
+use Rattle.build_acts.proofs.Steps.{does_label}
 use Rattle.build_acts.proofs.labels.put_label.Goals as goal
+use Rattle.tree_laws.proofs.Lists.{some_there}
 
 pub returns-then-is_forced-clause-made : goal.returns-then-is_forced-clause-made
 returns-then-is_forced-clause-made g c = λ measures rows f t at target.

@@ -3,8 +3,9 @@ use Rattle.std.specs.FinMap as map
 use Rattle.std.specs.Option.{option_map}
 use Rattle.aggregates.specs.Views.{agg_in}
 use Rattle.qc_arena.specs.Map.{with_class}
-use Rattle.build_acts.proofs.Steps.{does_mark, some_there}
+use Rattle.build_acts.proofs.Steps.{does_mark}
 use Rattle.build_acts.proofs.marks.mark_class.Goals as goal
+use Rattle.tree_laws.proofs.Lists.{some_there}
 
 pub returns-clause-made : goal.returns-clause-made
 returns-clause-made g c = λ measures rows w at.

@@ -1,8 +1,8 @@
 use Rattle.std.proofs.Common.{◌∙◌, [], None, ap, replicate}
 use Rattle.cube_defs.specs.Cell.{with_value}
 use Rattle.cube_defs.specs.Tree.{cell_at}
-use Rattle.build_acts.proofs.Steps.{there}
 use Rattle.build_acts.proofs.tests.grown.Goals as goal
+use Rattle.tree_laws.proofs.Lists.{there}
 
 pub returns-in-Ok-clause-root : goal.returns-in-Ok-clause-root
 returns-in-Ok-clause-root g c =

@@ -3,8 +3,8 @@ use Rattle.std.specs.FinMap as map
 use Rattle.std.specs.Option.{option_map}
 use Rattle.cube_defs.specs.Tree.{cell_at}
 use Rattle.qc_arena.specs.Map.{Known}
-use Rattle.build_acts.proofs.Steps.{some_there}
 use Rattle.build_acts.proofs.tests.linked.Goals as goal
+use Rattle.tree_laws.proofs.Lists.{some_there}
 
 pub returns-in-Ok-clause-root : goal.returns-in-Ok-clause-root
 returns-in-Ok-clause-root g c =

@@ -8,7 +8,7 @@ use Rattle.cube_defs.specs.Rows.{Row}
 use Rattle.cube_defs.specs.Tree.{Edge, IsCanonical, Node, Tree, cell_at, node_of, renamed, renamed_edge}
 use Rattle.qc_arena.specs.Seen.{record_or}
 use Rattle.tree_laws.specs.Walk.{target_at}
-use Rattle.class_builder.proofs.Building.{is_there}
+use Rattle.tree_laws.proofs.Lists.{there}
 use Rattle.base_table.specs.Places.{rows_of}
 use Rattle.class_builder.proofs.tests.down.Goals as goal
 use Rattle.class_builder.proofs.tests.down.Goals.{then-value-ne-ANY+in-Some, else-value-ne-ANY}
@@ -24,11 +24,11 @@ renamed_target name i v (x ∷ xs) = go (nat_eq x.dim i && eq_by_cmp nat_cmp x.v
 
 -- where an edge leads there is a node
 edge_there : (measures : ℕ) (rows : List (Row ℕ)) (tree : Tree ℕ) (k i v q : ℕ) → IsCanonical nat_cmp measures rows tree → IsSome (finmap.get tree k) → Some q ≡ target_at (eq_by_cmp nat_cmp) i v (record_or (finmap.get tree k)).edges → IsSome (finmap.get tree q)
-edge_there measures rows tree k i v q is there to = at (finmap.get tree k) refl there to
+edge_there measures rows tree k i v q is known to = at (finmap.get tree k) refl known to
   where
     goes : (x : Option (Cell ℕ)) → Some (cell_at tree q) ≡ option_map (λ c. Some c) x → IsSome (finmap.get tree q)
     goes None e = absurd (true≢false (ap is_some e))
-    goes (Some c) e = let same : cell_at tree q ≡ Some c = cc in is_there tree q c same
+    goes (Some c) e = let same : cell_at tree q ≡ Some c = cc in there tree q c same
 
     reads : (n : Node ℕ ℕ) (m : Option (Node ℕ (Cell ℕ))) → Some (renamed (cell_at tree) n) ≡ option_map (renamed (λ c. Some c)) m → Some q ≡ target_at (eq_by_cmp nat_cmp) i v n.edges → IsSome (finmap.get tree q)
     reads n None e to = absurd (true≢false (ap is_some e))
@@ -38,8 +38,8 @@ edge_there measures rows tree k i v q is there to = at (finmap.get tree k) refl 
         (ap (option_map (cell_at tree)) to ∙ sym (renamed_target (cell_at tree) i v n.edges) ∙ ap (λ r. target_at (eq_by_cmp nat_cmp) i v r.edges) same ∙ renamed_target (λ c. Some c) i v m.edges)
 
     at : (o : Option (Node ℕ ℕ)) → finmap.get tree k ≡ o → IsSome o → Some q ≡ target_at (eq_by_cmp nat_cmp) i v (record_or o).edges → IsSome (finmap.get tree q)
-    at None e there to = absurd (true≢false (sym there))
-    at (Some n) e there to = reads n (node_of nat_cmp measures rows n.cell) (is.each k n e).1 to
+    at None e known to = absurd (true≢false (sym known))
+    at (Some n) e known to = reads n (node_of nat_cmp measures rows n.cell) (is.each k n e).1 to
 
 pub dims-preserved : goal.dims-preserved
 dims-preserved g c = elim c.if-value-ne-ANY.branch [

@@ -2,8 +2,9 @@ use Rattle.std.proofs.Common.{ℕ, List, ◌≡◌, ap, arith, length, map, refl
 use Rattle.cube_defs.specs.declared.limits.TheConstants.{MAX_FILE}
 use Rattle.qc_session.specs.Lines.{lines_of, without_cr}
 use Rattle.qc_session.specs.Runs.{CannotRead, state_in}
-use Rattle.qc_session.proofs.Ended.{all-ended, broken-ended, length-unmarked, read-ended}
+use Rattle.qc_session.proofs.Ended.{all-ended, broken-ended, read-ended}
 use Rattle.qc_session.proofs.scripts.run_script.Goals as goal
+use Rattle.text_lines.proofs.Unmarked.{no_longer}
 
 pub returns-in-Ok-take_lines-clause-all : goal.returns-in-Ok-take_lines-clause-all
 returns-in-Ok-take_lines-clause-all g c = λ ends.
@@ -21,12 +22,12 @@ pub take_lines-requires-clause-few : goal.take_lines-requires-clause-few
 take_lines-requires-clause-few g c =
     let most : MAX_FILE ≡ 268435456 = refl in
     let same = ap (λ (bs : List ℕ). length bs) c.trim_mark-script.ensures in
-    omega (arith, most, same, c.requires.short, c.count_lines.ensures.count, c.count_lines.ensures.bound, length-unmarked c.args.script.now)
+    omega (arith, most, same, c.requires.short, c.count_lines.ensures.count, c.count_lines.ensures.bound, no_longer c.args.script.now)
 
 pub take_lines-requires-clause-short : goal.take_lines-requires-clause-short
 take_lines-requires-clause-short g c =
     let same = ap (λ (bs : List ℕ). length bs) c.trim_mark-script.ensures in
-    omega (arith, same, c.requires.short, length-unmarked c.args.script.now)
+    omega (arith, same, c.requires.short, no_longer c.args.script.now)
 
 pub returns-clause-broken : goal.returns-clause-broken
 returns-clause-broken g c = λ ends.

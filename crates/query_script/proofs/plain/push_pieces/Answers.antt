@@ -1,4 +1,4 @@
-use Rattle.std.proofs.Common.{rules, arith, length, refl, ◌∙◌, ◌≡◌, ◌∷◌, ◌++◌, [], List, sym, ap, Some, None}
+use Rattle.std.proofs.Common.{rules, arith, length, ◌∙◌, ◌≡◌, ◌∷◌, ◌++◌, [], List, sym, ap, Some, None}
 use Rattle.std.proofs.lemmas.List.{length-append}
 use Rattle.std.proofs.lemmas.Str.Pattern.{split_parts}
 use Rattle.std.proofs.lemmas.Result.{IfErr-weaker, on_ok_weaker, err_from_is_err_and}

@@ -3,8 +3,8 @@ use Rattle.std.proofs.lemmas.List.{drop_more}
 use Rattle.std.proofs.lemmas.Result.{err_from_is_err_and}
 use Rattle.std.proofs.lemmas.List.Elements.{All-get_or}
 use Rattle.csv.specs.Records.{fields_of}
-use Rattle.query_script.proofs.Asked.{field-within}
 use Rattle.query_script.proofs.record.push_fields.Goals as goal
+use Rattle.text_lines.proofs.Sizes.{field-within}
 
 pub unwrap-text-requires : goal.unwrap-text-requires
 unwrap-text-requires c =

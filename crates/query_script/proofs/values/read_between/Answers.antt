@@ -1,5 +1,4 @@
-use Rattle.std.proofs.Common.{◌≡◌, ◌∷◌, ◌∙◌, [], sym, refl, arith, Some, None}
-use Rattle.text_lines.specs.Cuts.{cut_at}
+use Rattle.std.proofs.Common.{◌∙◌, sym, refl, arith, Some, None}
 use Rattle.text_lines.proofs.Pieces.{split-cut}
 use Rattle.query_script.proofs.Listed.{interval-long, interval-two}
 use Rattle.query_script.proofs.values.read_between.Goals as goal

@@ -1,4 +1,4 @@
-use Rattle.std.proofs.Common.{rules, ◌≡◌, ◌∷◌, ◌++◌, ◌∙◌, [], List, ℕ, length, sym, ap, refl, arith, Some, None, append_assoc}
+use Rattle.std.proofs.Common.{rules, ◌≡◌, ◌∷◌, ◌++◌, ◌∙◌, [], List, ℕ, length, sym, ap, arith, Some, None, append_assoc}
 use Rattle.std.proofs.lemmas.List.{length-append, length_push}
 use Rattle.std.proofs.lemmas.Str.Pattern.{split_parts}
 use Rattle.text_lines.specs.Cuts.{cut_at}

@@ -5,7 +5,7 @@ use Rattle.cube_defs.specs.Text.{Text, text_cmp}
 use Rattle.csv_load.specs.Batch.{inserted}
 use Rattle.warehouse.specs.InPlace.{KeepsApart, KeepsNumbers, cost_of, with_codes}
 use Rattle.cube_defs.specs.Tree.{IsCanonical, Tree, classes, nodes}
-use Rattle.base_table.specs.Places.{Places, rows_of}
+use Rattle.base_table.specs.Places.{Base, Places, base_of, rows_of}
 use Rattle.measure_index.specs.Rankings.{Ranking}
 use Rattle.qc_arena.specs.Map.{Arena, is_open, shape_of}
 use Rattle.value_dict.specs.TextLists.{TextLists}
@@ -21,9 +21,10 @@ use Rattle.warehouse.proofs.Counted.{classes-kept}
 use Rattle.warehouse.proofs.Decoding.{length-rows}
 use Rattle.warehouse.proofs.Growing.{cut-back}
 use Rattle.warehouse.proofs.States.{stored-next}
-use Rattle.warehouse.proofs.Trees.{kept-back, kept-canonical, some_same}
+use Rattle.warehouse.proofs.Trees.{kept-back, kept-canonical}
 use Rattle.warehouse.proofs.Values.{values-after}
 use Rattle.warehouse.proofs.changing.change.Goals as goal
+use Rattle.tree_laws.proofs.Lists.{some_same}
 
 pub change_and_index-requires-clause-tree : goal.change_and_index-requires-clause-tree
 change_and_index-requires-clause-tree g c =
@@ -76,20 +77,25 @@ pub returns-in-Err-clause-stored : goal.returns-in-Err-clause-stored
 returns-in-Err-clause-stored g c =
     let is = c.requires.stored in
     let dict = c.args.dict.now in
-    let rest = c.go_back.ensures.frame ∙ ap closed c.change_and_index.ensures.frame ∙ ap (λ (t : Places). frame (closed t)) c.open_batch-lens.ensures.table in
-    let rows = c.go_back.ensures.rows ∙ ap (λ (t : Places). t.was) c.change_and_index.ensures.frame ∙ ap (λ (t : Places). t.was) c.open_batch-lens.ensures.table in
+    let base : base_of c.go_back.new.table ≡ base_of c.args.table.now = some_same (c.go_back.ensures.back ∙ ap (λ (t : Places). t.was) c.change_and_index.ensures.frame ∙ ap (λ (t : Places). t.was) c.open_batch-lens.ensures.table) in
+    let dims = c.go_back.new.table.dims in
+    let rest : frame c.go_back.new.table ≡ frame (closed c.args.table.now) =
+    c.go_back.ensures.frame ∙ ap (λ (t : Places). record (closed t) { dims = dims }) c.change_and_index.ensures.frame
+    ∙ ap (λ (t : Places). record (frame (closed t)) { dims = dims }) c.open_batch-lens.ensures.table
+    ∙ ap (λ (b : Base). record (frame (closed c.args.table.now)) { dims = b.dims }) base in
     let texts : c.go_back.new.dict ≡ dict =
     cut-back dict c.change_and_index.new.dict c.go_back.new.dict (take c.from.result c.open_batch-lens.result)
     (ap (λ (n : ℕ). take n c.open_batch-lens.result) (c.from.ensures ∙ c.dims.ensures.count) ∙ c.open_batch-lens.ensures.lens)
     c.go_back.ensures.texts c.go_back.ensures.most_texts c.change_and_index.ensures.max c.change_and_index.ensures.longer in
     subst (λ (d : TextLists). IsStored c.args.schema.now d c.go_back.new.table) (sym texts)
     (stored-next c.args.schema.now dict dict c.args.table.now c.go_back.new.table is rest c.go_back.ensures.valid refl refl is.values
-    (subst (λ (rs : List (Row ℕ)). RowsAreCodes dict.lists rs) (sym (some_same rows)) is.known) is.dictionary)
+    (subst (λ (rs : List (Row ℕ)). RowsAreCodes dict.lists rs) (sym (ap (λ (b : Base). b.rows) base)) is.known) is.dictionary)
 
 pub returns-in-Err-clause-kept : goal.returns-in-Err-clause-kept
 returns-in-Err-clause-kept g c =
     let same = c.change_and_index.ensures.tree_frame in
-    let rows = c.go_back.ensures.rows ∙ ap (λ (t : Places). t.was) c.change_and_index.ensures.frame ∙ ap (λ (t : Places). t.was) c.open_batch-lens.ensures.table in
+    let base : base_of c.go_back.new.table ≡ base_of c.args.table.now = some_same (c.go_back.ensures.back ∙ ap (λ (t : Places). t.was) c.change_and_index.ensures.frame ∙ ap (λ (t : Places). t.was) c.open_batch-lens.ensures.table) in
+    let rows = ap (λ (b : Base). Some b.rows) base in
     let back = c.go_back.ensures.tree ∙ ap (λ (a : Arena). a.was) same ∙ ap (λ (a : Arena). a.was) c.open_batch-lens.ensures.tree in
     let max = c.go_back.ensures.max ∙ ap (λ (a : Arena). a.max) same ∙ ap (λ (a : Arena). a.max) c.open_batch-lens.ensures.tree in
     kept-back c.args.schema.now c.args.table.now c.go_back.new.table c.args.tree.now c.go_back.new.tree c.requires.kept rows back c.go_back.ensures.closed max

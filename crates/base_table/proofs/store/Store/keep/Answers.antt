@@ -1,13 +1,8 @@
 use Rattle.base_table.proofs.Columns.{length-view, length-prints, store_kept, rows-keep}
 use Rattle.base_table.specs.Store.{Rows, rows_from}
-use Rattle.std.proofs.Common.{◌≡◌, ◌∙◌, ◌*◌, ap, sym, length}
+use Rattle.std.proofs.Common.{◌∙◌, ◌*◌, ap, sym}
 use Rattle.base_table.proofs.store.Store.keep.Goals as goal
 use Rattle.base_table.specs.Last.{picked}
-
-kept_len : (c : goal.After-keep-arg-1) → length c.args.kept.now ≡ length c.self.inside.ids
-kept_len c =
-    let m = c.self.inside in
-    c.requires ∙ length-view m.dims m.measures m.ids m.prints m.codes.items m.amounts.items c.self.invariant c.args.self.now c.self.view_is
 
 pub keep-requires : goal.keep-requires
 keep-requires c =

@@ -1,9 +1,9 @@
-use Rattle.std.proofs.Common.{◌≡◌, ◌∙◌, ap, sym, subst, ℕ, Bool, false, List, [], Some, None, take, vec_capacity}
+use Rattle.std.proofs.Common.{◌≡◌, ◌∙◌, ap, ap₂, sym, subst, ℕ, Bool, false, List, [], Some, None, take, vec_capacity}
 use Rattle.cube_defs.specs.Rows.{Row}
 use Rattle.base_table.specs.Places.{Places, rows_in}
 use Rattle.base_table.specs.Store.{IsHolding, Rows, marks_then, placed, restored}
 use Rattle.base_table.specs.Last.{picked}
-use Rattle.base_table.proofs.Holding.{rolled_table, open-view, then_rows}
+use Rattle.base_table.proofs.Holding.{base, rolled_table, open-view, then_rows}
 use Rattle.base_table.proofs.table.Table.rollback.Goals as goal
 use Rattle.std.proofs.Common.{if◌then◌else◌}
 use Rattle.base_table.proofs.Placed.{rows_in-placed}
@@ -20,10 +20,10 @@ invariant_of-self c =
     (subst (λ (n : ℕ). IsHolding (record m.store { rows = take m.begun m.store.rows }) (marks_then m.here.items m.touched.items m.begun) [] n m.begun m.count_then false m.count_then m.max) (sym c.clear.ensures.capacity)
     (rolled_table m.store m.here.items m.touched.items _ m.begun m.count_then m.is_open m.count m.max c.self.invariant))))
 
-pub returns-clause-rows : goal.returns-clause-rows
-returns-clause-rows c =
+pub returns-clause-back : goal.returns-clause-back
+returns-clause-back c =
     let m = c.self.inside in
-    ap (λ (l : List (Row ℕ)). Some l)
+    ap₂ (λ n (l : List (Row ℕ)). Some (base n l)) (ap (λ (s : Rows). s.dims) c.cut.ensures)
     ((λ j. rows_in (placed (marks c j) (c.cut.ensures j).rows)) ∙ rows_in-placed (marks_then m.here.items m.touched.items m.begun) (take m.begun m.store.rows) ∙ then_rows m.store m.here.items m.touched.items _ m.begun m.count_then m.is_open m.count m.max c.self.invariant)
-    ∙ ap (λ (b : Bool). if b then Some (picked (marks_then m.here.items m.touched.items m.begun) m.store.rows) else None) (sym (open-view m.store m.here.items m.touched.items _ m.begun m.count_then m.is_open m.count m.max c.self.invariant c.args.self.now c.self.view_is c.requires.is_open))
+    ∙ ap (λ (b : Bool). if b then Some (base m.store.dims (picked (marks_then m.here.items m.touched.items m.begun) m.store.rows)) else None) (sym (open-view m.store m.here.items m.touched.items _ m.begun m.count_then m.is_open m.count m.max c.self.invariant c.args.self.now c.self.view_is c.requires.is_open))
     ∙ ap (λ (t : Places). t.was) c.self.view_is

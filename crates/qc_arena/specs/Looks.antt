@@ -1,0 +1,11 @@
+-- What a look at images answers.
+use Rattle.std.specs.Prelude.{Option, Some, None}
+use Rattle.qc_arena.specs.Map.{Known}
+use Rattle.qc_arena.specs.declared.images.Look.{Look}
+use Rattle.qc_arena.specs.declared.images.Look.TheVariants.{Same, Gone, Was}
+
+-- nothing, an image without a node, or a record
+abbrev pub seen : Look → Option (Option Known)
+seen Same = None
+seen Gone = Some None
+seen (Was r) = Some (Some r.now)
