@@ -3,9 +3,12 @@
 
 mod below;
 mod cells;
+mod delete;
 mod mend;
 mod parts;
 mod plan;
+
+pub use delete::delete_row;
 
 
 /// Memory ran out.
