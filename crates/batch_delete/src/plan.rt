@@ -4,7 +4,7 @@ ghost use Rattle.std.specs.Option.{option_map};
 ghost use Rattle.std.specs.Ordering.{eq_by_cmp, nat_cmp};
 ghost use Rattle.aggregates.specs.Views.{agg_in};
 ghost use Rattle.cube_defs.specs.Cell as cells;
-ghost use Rattle.cube_defs.specs.Cell.{Cell, cell_of, keep, leq};
+ghost use Rattle.cube_defs.specs.Cell.{cell_of, keep, leq};
 ghost use Rattle.cube_defs.specs.Rows.{closure};
 ghost use Rattle.cube_defs.specs.Tree.{cell_at};
 ghost use Rattle.cube_laws.specs.Total.{agg_at};
@@ -97,7 +97,7 @@ fn fate_of<L: Ledger>(
     requires cell { cell_at arena.now.now below.now.node.0 ≡ Some below.now.cell }
     requires low { leq nat_eq below.now.cell tuple.now ≡ true }
     requires twins { option_map agg_in twins ≡ agg_at (eq_by_cmp nat_cmp) d.measures (rows_after d) tuple.now }
-    requires planned { (q : ℕ) (w : Cell ℕ) → cell_at arena.now.now q ≡ Some w → leq nat_eq w tuple.now ≡ true → leq nat_eq below.now.cell w ≡ true → leq nat_eq w below.now.cell ≡ false → IsRest d.measures (rows_after d) w (after_in plan.now.entries q) }
+    requires planned { (q : ℕ) (w : _) → cell_at arena.now.now q ≡ Some w → leq nat_eq w tuple.now ≡ true → leq nat_eq below.now.cell w ≡ true → leq nat_eq w below.now.cell ≡ false → IsRest d.measures (rows_after d) w (after_in plan.now.entries q) }
     requires few { length (rows_before d) ≤ 1000000 }
     ensures after { IsRest d.measures (rows_after d) below.now.cell result.after }
     ensures heir { Names arena.now.now (option_map number result.heir) (option_map (keep (cells.depth below.now.cell)) (closure (eq_by_cmp nat_cmp) (rows_after d) below.now.cell)) }
