@@ -1,5 +1,5 @@
 -- What is planned for a node, from what is planned for nodes with more values.
-use Rattle.std.proofs.Common.{◌≡◌, ◌≢◌, ◌∙◌, ℕ, zero, suc, ◌+◌, ◌<◌, ◌≤◌, Bool, true, false, ◌&&◌, Option, Some, None, List, ap, arith, length, ltb-false, ltb-true, nat_cmp, nat_eq, nat_lt, refl, slice_get, subst, sym, true≢false}
+use Rattle.std.proofs.Common.{◌≡◌, ◌≢◌, ◌∙◌, ℕ, zero, suc, ◌+◌, ◌<◌, ◌≤◌, Bool, true, false, ◌&&◌, Option, Some, None, List, ap, arith, get_or, length, ltb-false, ltb-true, nat_cmp, nat_eq, nat_lt, refl, slice_get, subst, sym, true≢false}
 use Rattle.std.proofs.lemmas.Bool.{and_parts, false_from_ne_true}
 use Rattle.std.specs.Cmp.{nat_cmp_total}
 use Rattle.std.specs.FinMap as fin
@@ -10,9 +10,10 @@ use Rattle.cube_defs.specs.Rows.{closure, covers, is_node}
 use Rattle.cube_defs.specs.Tree.{Edge, Node, Tree, cell_at, forced_child, next_value, renamed, renamed_edge}
 use Rattle.cube_laws.proofs.Cells.{keep-leq, length-keep, leq_trans, nat_equality}
 use Rattle.cube_laws.proofs.Closures.{closure_idem, is_class-is, leq-closure}
-use Rattle.cube_laws.proofs.Columns.{one_value, one_value-leq}
+use Rattle.cube_laws.proofs.Columns.{one_value, one_value-leq, slice_get-cell_of}
 use Rattle.cube_laws.proofs.Covered.{closure_length}
 use Rattle.cube_laws.proofs.Deletion.{agg_after, closure_after, step_above}
+use Rattle.cube_laws.proofs.Lists.{all-insert}
 use Rattle.cube_laws.proofs.Nodes.{class_fronts, front_of_class}
 use Rattle.cube_laws.proofs.OneRow.{below_row, node-insert}
 use Rattle.cube_laws.proofs.Partition.{has_same, leq_with_any}
@@ -25,9 +26,9 @@ use Rattle.tree_laws.proofs.Nexts.{keep-next, next-entry, next-ge}
 use Rattle.tree_laws.proofs.Records.{record_with}
 use Rattle.tree_search.specs.Found.{IsFrom, closure_in}
 use Rattle.batch_delete.specs.declared.parts.Rest.{Rest}
-use Rattle.batch_delete.specs.Rests.{Deletion, IsRest, rows_after, rows_before, source_before}
+use Rattle.batch_delete.specs.Rests.{Deletion, IsRest, rows_after, rows_before, shared_of, source_before}
 use Rattle.batch_delete.proofs.Childs.{cell_wide}
-use Rattle.batch_delete.proofs.Entries.{entry_within, keep_all}
+use Rattle.batch_delete.proofs.Entries.{entry_some, entry_within, keep_all}
 use Rattle.batch_delete.proofs.Labelled.{closed_at, law, made, node_there}
 use Rattle.batch_delete.proofs.Totalled.{same_test}
 
@@ -142,3 +143,14 @@ pub heir_there : (dims : ℕ) (tree : Tree ℕ) (d : Deletion) (h : IsFrom dims 
 heir_there dims tree d h p shared n closes =
     let class = (is_class-is law (rows_after d) shared).1 (closure_idem law (rows_after d) p shared closes) in
     h.canonical.all (keep n shared) (node-insert law d.xs d.r d.ys (keep n shared) (class_fronts law (rows_after d) n shared class))
+
+-- the tuple's value in a dimension is the row's
+pub row_value : (c : Cell ℕ) (t : List ℕ) (i v : ℕ) → c ≡ cell_of t → get_or c i None ≡ Some v → slice_get t i ≡ Some v
+row_value c t i v row has = (slice_get-cell_of t i v).0 (ap (λ c. slice_get c i) (sym row) ∙ entry_some c i v has)
+
+-- what the rows of a cell share, where there are any
+pub shared_closes : (d : Deletion) (c : Cell ℕ) (o : Option Rest) (rest : Rest) → IsRest d.measures (rows_after d) c o → o ≡ Some rest → closure (eq_by_cmp nat_cmp) (rows_after d) c ≡ Some rest.shared
+shared_closes d c o rest is some = sym is.cells ∙ ap shared_of some
+
+pub shared_long : (dims : ℕ) (tree : Tree ℕ) (d : Deletion) (h : IsFrom dims tree (source_before d)) (c : Cell ℕ) (rest : Rest) → closure (eq_by_cmp nat_cmp) (rows_after d) c ≡ Some rest.shared → length rest.shared ≡ dims
+shared_long dims tree d h c rest closes = closure_length (eq_by_cmp nat_cmp) dims c rest.shared (rows_after d) (all-insert (λ row. length row.tuple ≡ dims) d.xs d.r d.ys h.wide).0 closes
