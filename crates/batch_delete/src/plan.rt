@@ -192,9 +192,9 @@ pub(crate) fn plan_all<L: Ledger>(
 {
     let mut plan = IndexMap::new(alloc);
     'nodes: for k in 0..list.len() {
-        let at = list.len() - 1 - k;
-        let fate = fate_of(arena, tuple, twins, &plan, &list[at], steps);
-        add_fate(&mut plan, list[at].node, fate)?;
+        let below = &list[list.len() - 1 - k];
+        let fate = fate_of(arena, tuple, twins, &plan, below, steps);
+        add_fate(&mut plan, below.node, fate)?;
     }
     Ok(plan)
 }
