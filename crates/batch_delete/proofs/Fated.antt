@@ -1,5 +1,5 @@
 -- The nodes of the list are planned for one after another, from the last one on.
-use Rattle.std.proofs.Common.{◌≡◌, ◌≢◌, ◌∙◌, ℕ, zero, suc, ◌+◌, ◌*◌, ◌<◌, ◌≤◌, Bool, true, false, Option, Some, None, List, [], ◌∷◌, ap, arith, drop, inl, inr, length, ltb-false, ltb-true, nat_cmp, nat_eq, nat_lt, refl, slice_get, subst, sym, true≢false}
+use Rattle.std.proofs.Common.{◌≡◌, ◌≢◌, ◌∙◌, ℕ, zero, suc, ◌+◌, ◌*◌, ◌<◌, ◌≤◌, Bool, true, false, Some, List, [], ◌∷◌, ap, arith, drop, inl, inr, length, ltb-false, ltb-true, nat_cmp, nat_eq, nat_lt, refl, slice_get, subst, sym, true≢false}
 use Rattle.std.proofs.lemmas.Bool.Decides.{eqb_tells}
 use Rattle.std.proofs.lemmas.List.Sums.{sum_by-cons}
 use Rattle.std.specs.Option.{option_map}

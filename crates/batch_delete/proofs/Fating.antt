@@ -1,14 +1,14 @@
 -- What is planned for a node, from what is planned for nodes with more values.
-use Rattle.std.proofs.Common.{◌≡◌, ◌≢◌, ◌∙◌, ℕ, zero, suc, ◌+◌, ◌<◌, ◌≤◌, Bool, true, false, ◌&&◌, Option, Some, None, List, ap, arith, get_or, length, ltb-false, ltb-true, nat_cmp, nat_eq, nat_lt, refl, slice_get, subst, sym, true≢false}
-use Rattle.std.proofs.lemmas.Bool.{and_parts, false_from_ne_true}
+use Rattle.std.proofs.Common.{◌≡◌, ◌∙◌, ℕ, ◌<◌, ◌≤◌, Bool, true, false, Option, Some, None, List, ap, arith, get_or, length, ltb-false, ltb-true, nat_cmp, nat_eq, nat_lt, refl, slice_get, subst, sym}
+use Rattle.std.proofs.lemmas.Bool.{false_from_ne_true}
 use Rattle.std.specs.Cmp.{nat_cmp_total}
 use Rattle.std.specs.FinMap as fin
 use Rattle.std.specs.Option.{option_and_then, option_map}
 use Rattle.std.specs.Ordering.{eq_by_cmp}
 use Rattle.cube_defs.specs.Cell.{Cell, cell_of, depth, keep, leq, with_value}
-use Rattle.cube_defs.specs.Rows.{closure, covers, is_node}
-use Rattle.cube_defs.specs.Tree.{Edge, Node, Tree, cell_at, forced_child, next_value, renamed, renamed_edge}
-use Rattle.cube_laws.proofs.Cells.{keep-leq, length-keep, leq_trans, nat_equality}
+use Rattle.cube_defs.specs.Rows.{closure, covers}
+use Rattle.cube_defs.specs.Tree.{Edge, Node, Tree, cell_at, forced_child, next_value, renamed_edge}
+use Rattle.cube_laws.proofs.Cells.{length-keep, leq_trans}
 use Rattle.cube_laws.proofs.Closures.{closure_idem, is_class-is, leq-closure}
 use Rattle.cube_laws.proofs.Columns.{one_value, one_value-leq, slice_get-cell_of}
 use Rattle.cube_laws.proofs.Covered.{closure_length}
@@ -18,16 +18,14 @@ use Rattle.cube_laws.proofs.Nodes.{class_fronts, front_of_class}
 use Rattle.cube_laws.proofs.OneRow.{below_row, node-insert}
 use Rattle.cube_laws.proofs.Partition.{has_same, leq_with_any}
 use Rattle.qc_arena.specs.Seen.{record_at}
-use Rattle.tree_laws.specs.Labels.{record_of}
 use Rattle.tree_laws.proofs.Edges.{forced_lead}
-use Rattle.tree_laws.proofs.Fronts.{any_behind, leq-with_value, with_value-leq, with_value-there}
+use Rattle.tree_laws.proofs.Fronts.{any_behind, leq-with_value, with_value-there}
 use Rattle.tree_laws.proofs.Lists.{some_same}
 use Rattle.tree_laws.proofs.Nexts.{keep-next, next-entry, next-ge}
 use Rattle.tree_laws.proofs.Records.{record_with}
 use Rattle.tree_search.specs.Found.{IsFrom, closure_in}
 use Rattle.batch_delete.specs.declared.parts.Rest.{Rest}
 use Rattle.batch_delete.specs.Rests.{Deletion, IsRest, rows_after, rows_before, shared_of, source_before}
-use Rattle.batch_delete.proofs.Childs.{cell_wide}
 use Rattle.batch_delete.proofs.Entries.{entry_some, entry_within, keep_all}
 use Rattle.batch_delete.proofs.Labelled.{closed_at, law, made, node_there}
 use Rattle.batch_delete.proofs.Totalled.{same_test}
@@ -69,7 +67,7 @@ module _ (dims : ℕ) (tree : Tree ℕ) (d : Deletion) (h : IsFrom dims tree (so
       by true t =
           let n = next-entry nat_cmp (depth p) shut.0 (ltb-true _ _ t) in
           let bad : None ≡ Some (renamed_edge (λ c. Some c) (record { dim = next; value = n.0; target = with_value p next n.0 })) =
-              nothing ∙ ap (λ o. option_map (renamed_edge (λ c. Some c)) (option_and_then (λ entry. option_map (λ v. record { dim = next; value = v; target = with_value p next v }) entry) o)) n.1 in
+          nothing ∙ ap (λ o. option_map (renamed_edge (λ c. Some c)) (option_and_then (λ entry. option_map (λ v. record { dim = next; value = v; target = with_value p next v }) entry) o)) n.1 in
           cc
       by false t =
           let past : length shut.0 ≤ next = ltb-false _ _ t in

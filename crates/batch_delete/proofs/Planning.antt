@@ -1,14 +1,13 @@
 -- What becomes of a class below the tuple: its front, its labels, and the other rows of the tuple.
-use Rattle.std.proofs.Common.{◌≡◌, ◌≢◌, ◌∙◌, ℕ, zero, suc, ◌+◌, ◌*◌, ◌<◌, ◌≤◌, Bool, true, false, cond, ◌&&◌, inl, inr, Option, Some, None, List, [], ◌∷◌, ap, ap₂, arith, length, nat_cmp, nat_eq, refl, slice_get, subst, sym, true≢false}
+use Rattle.std.proofs.Common.{◌≡◌, ◌≢◌, ◌∙◌, ℕ, zero, suc, ◌*◌, ◌≤◌, true, inl, inr, Option, Some, None, List, [], ◌∷◌, ap, ap₂, arith, length, nat_cmp, nat_eq, refl, slice_get, subst, sym}
 use Rattle.std.proofs.lemmas.Bool.{and_parts, cond-true}
 use Rattle.std.proofs.lemmas.List.Sums.{sum_by-cons}
-use Rattle.std.specs.List.{sum_by}
 use Rattle.std.specs.Option.{option_map}
 use Rattle.std.specs.Ordering.{eq_by_cmp}
 use Rattle.std.specs.Prelude.{if◌then◌else◌}
 use Rattle.aggregates.specs.declared.agg.Agg.{Agg}
 use Rattle.aggregates.specs.Views.{agg_in}
-use Rattle.cube_defs.specs.Cell.{Cell, cell_eq, cell_of, depth, entry_leq, keep, leq}
+use Rattle.cube_defs.specs.Cell.{Cell, cell_eq, cell_of, entry_leq, keep, leq}
 use Rattle.cube_defs.specs.Rows.{Row, agg, closure, covers}
 use Rattle.cube_defs.specs.Tree.{Tree, cell_at}
 use Rattle.cube_laws.specs.Parts.{IsLastAny}
@@ -24,7 +23,6 @@ use Rattle.qc_arena.specs.Seen.{record_at}
 use Rattle.tree_laws.proofs.Lists.{some_same}
 use Rattle.tree_search.specs.Found.{IsFrom, closure_in}
 use Rattle.batch_delete.specs.declared.below.Below.{Below}
-use Rattle.batch_delete.specs.declared.parts.Rest.{Rest}
 use Rattle.batch_delete.specs.Below.{AreBelow}
 use Rattle.batch_delete.specs.Plan.{front_labels, labels_of, last_any_of, last_behind}
 use Rattle.batch_delete.specs.Rests.{Deletion, IsRest, rows_after, rows_before, source_before}

@@ -7,7 +7,5 @@ mod mend;
 mod parts;
 mod plan;
 
-
 /// Memory ran out.
 pub type Memory = std::alloc::AllocError;
-

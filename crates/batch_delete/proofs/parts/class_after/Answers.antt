@@ -1,8 +1,6 @@
-use Rattle.std.proofs.Common.{◌+◌, ◌*◌, ◌≤◌, ◌∙◌, Some, ap, arith, length, sym}
+use Rattle.std.proofs.Common.{◌+◌, ◌*◌, ◌∙◌, ap, arith, length, sym}
 use Rattle.std.specs.Option.{option_map}
 use Rattle.aggregates.specs.Views.{agg_in}
-use Rattle.cube_laws.specs.Parts.{IsLastAny}
-use Rattle.cube_defs.specs.Tree.{cell_at}
 use Rattle.qc_arena.specs.Seen.{record_at}
 use Rattle.batch_delete.specs.Plan.{front_labels, last_any_of}
 use Rattle.batch_delete.proofs.Planning.{all_values, front_counted, front_there, no_twins, the_twins, times_mono}

@@ -1,4 +1,4 @@
-use Rattle.std.proofs.Common.{◌≡◌, ◌∙◌, ◌≤◌, ◌+◌, ◌*◌, ap, arith, length, sym}
+use Rattle.std.proofs.Common.{arith}
 use Rattle.batch_delete.proofs.Childs.{cell_wide}
 use Rattle.batch_delete.proofs.plan.fate_of.Goals as goal
 

@@ -1,7 +1,4 @@
-use Rattle.std.proofs.Common.{◌≡◌, ◌∙◌, ◌≤◌, ◌+◌, Some, None, ap, arith, length, sym}
-use Rattle.std.specs.Option.{option_map}
-use Rattle.cube_defs.specs.Cell.{depth, keep}
-use Rattle.batch_delete.specs.Rests.{shared_of}
+use Rattle.std.proofs.Common.{◌∙◌, Some, ap, arith, sym}
 use Rattle.batch_delete.proofs.Fating.{heir_there, shared_closes, shared_long}
 use Rattle.batch_delete.proofs.plan.heir_at.Goals as goal
 

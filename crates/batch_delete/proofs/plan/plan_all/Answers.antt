@@ -1,4 +1,4 @@
-use Rattle.std.proofs.Common.{◌≡◌, ◌∙◌, ◌≤◌, ◌<◌, ◌+◌, ◌-◌, ◌*◌, ℕ, suc, Some, ap, arith, drop, length, slice_get, subst, sym}
+use Rattle.std.proofs.Common.{◌≡◌, ◌∙◌, ◌+◌, ◌-◌, suc, Some, ap, arith, drop, length, subst, sym}
 use Rattle.batch_delete.specs.Plan.{planning}
 use Rattle.batch_delete.specs.Rests.{ArePlanned}
 use Rattle.batch_delete.proofs.Fated.{greater_planned, planned_more, planning_more}

@@ -1,12 +1,10 @@
-use Rattle.std.proofs.Common.{◌+◌, ◌*◌, ◌≤◌, ◌≡◌, ◌∙◌, ℕ, Some, None, ap, arith, length, subst, sym}
+use Rattle.std.proofs.Common.{◌+◌, ◌*◌, ◌≤◌, ◌≡◌, ◌∙◌, ap, arith, length, subst, sym}
 use Rattle.std.specs.Option.{option_map}
-use Rattle.cube_defs.specs.Cell.{Cell}
 use Rattle.qc_arena.specs.Seen.{edge_of}
 use Rattle.batch_delete.specs.Plan.{after_in}
 use Rattle.batch_delete.specs.Rests.{IsRest, rows_after}
 use Rattle.batch_delete.proofs.Childs.{cell_wide}
 use Rattle.batch_delete.proofs.Fating.{covered, forced_rest, part_planned, row_value, unforced}
-use Rattle.tree_search.proofs.Walked.{cell_of}
 use Rattle.batch_delete.proofs.plan.rest_of.Goals as goal
 
 pub class_after-requires : goal.class_after-requires
