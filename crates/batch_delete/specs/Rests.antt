@@ -1,5 +1,5 @@
 -- What rows share and come to, before and after a row has gone.
-use Rattle.std.specs.Prelude.{◌≡◌, ◌≤◌, ℕ, slice_get, Bool, Option, Some, None, List, [], ◌∷◌, ◌++◌, nat_eq, not, ◌&&◌, filter_map, if◌then◌else◌}
+use Rattle.std.specs.Prelude.{◌≡◌, ◌≤◌, ℕ, slice_get, Option, Some, None, List, ◌∷◌, ◌++◌, nat_eq, not, ◌&&◌, filter_map, if◌then◌else◌}
 use Rattle.std.specs.Option.{option_map}
 use Rattle.std.specs.Ordering.{eq_by_cmp, nat_cmp}
 use Rattle.aggregates.specs.Views.{agg_in}

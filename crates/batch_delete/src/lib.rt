@@ -10,7 +10,5 @@ mod plan;
 
 pub use delete::delete_row;
 
-
 /// Memory ran out.
 pub type Memory = std::alloc::AllocError;
-

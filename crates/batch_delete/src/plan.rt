@@ -4,7 +4,7 @@ ghost use Rattle.std.specs.Option.{option_map};
 ghost use Rattle.std.specs.Ordering.{eq_by_cmp, nat_cmp};
 ghost use Rattle.aggregates.specs.Views.{agg_in};
 ghost use Rattle.cube_defs.specs.Cell as cells;
-ghost use Rattle.cube_defs.specs.Cell.{Cell, cell_of, keep, leq};
+ghost use Rattle.cube_defs.specs.Cell.{cell_of, keep, leq};
 ghost use Rattle.cube_defs.specs.Rows.{closure};
 ghost use Rattle.cube_defs.specs.Tree.{cell_at};
 ghost use Rattle.cube_laws.specs.Total.{agg_at};
@@ -81,7 +81,58 @@ pub(crate) fn heir_of(plan: &IndexMap<u32, Fate>, node: NodeNo) -> Option<NodeNo
     }
 }
 
-// What becomes of a node below the tuple, where it is planned for those behind it.
+// What the rows of a node below the tuple share and come to afterwards, where the nodes with more
+// values are planned for.
+fn rest_of<L: Ledger>(
+    arena: &QcArena,
+    tuple: &Cell,
+    twins: Option<Agg>,
+    plan: &IndexMap<u32, Fate>,
+    below: &Below,
+    steps: &mut Steps<L>,
+) -> Option<Rest>
+    ghost d: { Deletion }
+    requires tree { IsFrom arena.now.width arena.now.now (source_before d) }
+    requires tuple { length tuple.now ≡ arena.now.width }
+    requires row { tuple.now ≡ cell_of d.r.tuple }
+    requires cell { cell_at arena.now.now below.now.node.0 ≡ Some below.now.cell }
+    requires low { leq nat_eq below.now.cell tuple.now ≡ true }
+    requires twins { option_map agg_in twins ≡ agg_at (eq_by_cmp nat_cmp) d.measures (rows_after d) tuple.now }
+    requires planned { (q : ℕ) (w : _) → cell_at arena.now.now q ≡ Some w → leq nat_eq w tuple.now ≡ true → leq nat_eq below.now.cell w ≡ true → leq nat_eq w below.now.cell ≡ false → IsRest d.measures (rows_after d) w (after_in plan.now.entries q) }
+    requires few { length (rows_before d) ≤ 1000000 }
+    ensures rest { IsRest d.measures (rows_after d) below.now.cell result }
+    ensures steps { (list : List Below) → AreBelow arena.now.now tuple.now (length tuple.now) list → steps.new ≤ steps.old + ((3 * length tuple.now + 5) + (4 * length tuple.now + 6) * front_labels arena.now.now list below.now.cell (last_any_of below.now.cell)) }
+{
+    match arena.forced(below.node, steps) {
+        Some(forced) => after_of(plan, forced.child),
+        None => class_after(arena, tuple, twins, plan, &below.cell, steps),
+    }
+}
+
+// The node that has the front of what a node's rows share afterwards, as long as its own cell.
+fn heir_at<L: Ledger>(
+    arena: &QcArena,
+    cell: &Cell,
+    after: &Option<Rest>,
+    steps: &mut Steps<L>,
+) -> Option<NodeNo>
+    ghost d: { Deletion }
+    requires tree { IsFrom arena.now.width arena.now.now (source_before d) }
+    requires long { length cell.now ≡ arena.now.width }
+    requires after { IsRest d.measures (rows_after d) cell.now after.now }
+    ensures heir { Names arena.now.now (option_map number result) (option_map (keep (cells.depth cell.now)) (closure (eq_by_cmp nat_cmp) (rows_after d) cell.now)) }
+    ensures steps { steps.new ≤ steps.old + (length cell.now + 1) }
+{
+    match after {
+        None => None,
+        Some(rest) => {
+            let front = front(&rest.shared, depth(cell));
+            Some(node_at(arena, &front, steps))
+        }
+    }
+}
+
+// What becomes of a node below the tuple, where the nodes with more values are planned for.
 fn fate_of<L: Ledger>(
     arena: &QcArena,
     tuple: &Cell,
@@ -97,23 +148,14 @@ fn fate_of<L: Ledger>(
     requires cell { cell_at arena.now.now below.now.node.0 ≡ Some below.now.cell }
     requires low { leq nat_eq below.now.cell tuple.now ≡ true }
     requires twins { option_map agg_in twins ≡ agg_at (eq_by_cmp nat_cmp) d.measures (rows_after d) tuple.now }
-    requires planned { (q : ℕ) (w : Cell ℕ) → cell_at arena.now.now q ≡ Some w → leq nat_eq w tuple.now ≡ true → leq nat_eq below.now.cell w ≡ true → leq nat_eq w below.now.cell ≡ false → IsRest d.measures (rows_after d) w (after_in plan.now.entries q) }
+    requires planned { (q : ℕ) (w : _) → cell_at arena.now.now q ≡ Some w → leq nat_eq w tuple.now ≡ true → leq nat_eq below.now.cell w ≡ true → leq nat_eq w below.now.cell ≡ false → IsRest d.measures (rows_after d) w (after_in plan.now.entries q) }
     requires few { length (rows_before d) ≤ 1000000 }
     ensures after { IsRest d.measures (rows_after d) below.now.cell result.after }
     ensures heir { Names arena.now.now (option_map number result.heir) (option_map (keep (cells.depth below.now.cell)) (closure (eq_by_cmp nat_cmp) (rows_after d) below.now.cell)) }
     ensures steps { (list : List Below) → AreBelow arena.now.now tuple.now (length tuple.now) list → steps.new ≤ steps.old + (4 * length tuple.now + 6) * (1 + front_labels arena.now.now list below.now.cell (last_any_of below.now.cell)) }
 {
-    let after = match arena.forced(below.node, steps) {
-        Some(forced) => after_of(plan, forced.child),
-        None => class_after(arena, tuple, twins, plan, &below.cell, steps),
-    };
-    let heir = match &after {
-        None => None,
-        Some(rest) => {
-            let cell = front(&rest.shared, depth(&below.cell));
-            Some(node_at(arena, &cell, steps))
-        }
-    };
+    let after = rest_of(arena, tuple, twins, plan, below, steps);
+    let heir = heir_at(arena, &below.cell, &after, steps);
     Fate { after, heir }
 }
 
@@ -150,9 +192,9 @@ pub(crate) fn plan_all<L: Ledger>(
 {
     let mut plan = IndexMap::new(alloc);
     'nodes: for k in 0..list.len() {
-        let at = list.len() - 1 - k;
-        let fate = fate_of(arena, tuple, twins, &plan, &list[at], steps);
-        add_fate(&mut plan, list[at].node, fate)?;
+        let below = &list[list.len() - 1 - k];
+        let fate = fate_of(arena, tuple, twins, &plan, below, steps);
+        add_fate(&mut plan, below.node, fate)?;
     }
     Ok(plan)
 }
