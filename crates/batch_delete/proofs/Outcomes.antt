@@ -16,6 +16,7 @@ use Rattle.cube_laws.proofs.Covered.{closure_length}
 use Rattle.cube_laws.proofs.Lists.{all-insert}
 use Rattle.cube_laws.proofs.Nodes.{class_fronts, is_node-is}
 use Rattle.cube_laws.proofs.Closures.{closure_idem, is_class-is}
+use Rattle.qc_arena.specs.Map.{Known}
 use Rattle.qc_arena.specs.Seen.{number, record_at}
 use Rattle.qc_arena.proofs.Halving.{eq_cmp}
 use Rattle.tree_laws.specs.Labels.{IsLabel, lead, moved}
@@ -195,6 +196,15 @@ module _ (width : ℕ) (tree : Tree ℕ) (tuple : Cell ℕ) (d : Deletion) (h : 
     -- the front of what rows share is a node of these
     pub front_node : (c w : Cell ℕ) (i : ℕ) → closure (eq_by_cmp nat_cmp) (rows_after d) c ≡ Some w → is_node (eq_by_cmp nat_cmp) (rows_after d) (keep i w) ≡ true
     front_node c w i e = class_fronts law (rows_after d) i w ((is_class-is law (rows_after d) w).1 (closure_idem law (rows_after d) c w e))
+
+    -- a record of a node that isn't below the tuple stays, where only those of the list change
+    pub apart : (new : Tree ℕ) → ((q : ℕ) → ((k : ℕ) (b : Below) → slice_get list k ≡ Some b → b.node.0 ≢ q) → fin.get new q ≡ fin.get tree q)
+        → (q : ℕ) (n : Known) → fin.get tree q ≡ Some n → leq nat_eq n.cell tuple ≡ false → fin.get new q ≡ Some n
+    apart new others q n e off =
+        others q (λ k b at same.
+        let cell : b.cell ≡ n.cell = some_same (sym (below.cells k b at) ∙ ap (cell_at tree) same ∙ ap (option_map (λ (m : Known). m.cell)) e) in
+        true≢false (sym (below.below k b at) ∙ ap (λ c. leq nat_eq c tuple) cell ∙ off))
+        ∙ e
 
     stays_node : (t : ℕ) (c : Cell ℕ) → cell_at tree t ≡ Some c → is_node (eq_by_cmp nat_cmp) (rows_after d) c ≡ true → Stays list plan t
     stays_node t c at node k b e same =

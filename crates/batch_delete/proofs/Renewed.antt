@@ -35,7 +35,7 @@ use Rattle.batch_delete.specs.Rests.{ArePlanned, Deletion, IsRest, rows_after, r
 use Rattle.batch_delete.proofs.Entries.{entry_none, entry_some}
 use Rattle.batch_delete.proofs.Labelled.{among_found, found_among, law, made}
 use Rattle.batch_delete.proofs.LedOn.{edge_sound, edge_whole, edges_now, labels_are, left_edges}
-use Rattle.batch_delete.proofs.Outcomes.{covered, covered_low, goes_if, leq_is, place, staying_rest}
+use Rattle.batch_delete.proofs.Outcomes.{apart, covered, covered_low, goes_if, leq_is, place, staying_rest}
 use Rattle.batch_delete.proofs.Resting.{total_agg}
 
 -- the names of a record that leads to what keeps its name
@@ -98,13 +98,6 @@ module _ (width : ℕ) (old new : Tree ℕ) (tuple : Cell ℕ) (d : Deletion) (h
   cell_known : (tree : Tree ℕ) (q : ℕ) (n : Known) → fin.get tree q ≡ Some n → cell_at tree q ≡ Some n.cell
   cell_known tree q n e = ap (option_map (λ (m : Known). m.cell)) e
 
-  pub apart : (q : ℕ) (n : Known) → fin.get old q ≡ Some n → leq nat_eq n.cell tuple ≡ false → fin.get new q ≡ Some n
-  apart q n e off =
-      others q (λ k b at same.
-      let cell : b.cell ≡ n.cell = some_same (sym (below.cells k b at) ∙ ap (cell_at old) same ∙ cell_known old q n e) in
-      true≢false (sym (below.below k b at) ∙ ap (λ c. leq nat_eq c tuple) cell ∙ off))
-      ∙ e
-
   pub now_at : (q : ℕ) (n : Known) → fin.get old q ≡ Some n → Now q n
   now_at q n e = by_cover (covers (eq_by_cmp nat_cmp) n.cell d.r) refl
     where
@@ -125,7 +118,7 @@ module _ (width : ℕ) (old new : Tree ℕ) (tuple : Cell ℕ) (d : Deletion) (h
 
       by_cover : (b : Bool) → covers (eq_by_cmp nat_cmp) n.cell d.r ≡ b → Now q n
       by_cover true k = let low = covered_low width old tuple d h long is n.cell k in by_node low k (is_node (eq_by_cmp nat_cmp) (rows_after d) n.cell) refl
-      by_cover false k = Apart k (apart q n e (off k))
+      by_cover false k = Apart k (apart width old tuple d h long is plan list below planned new others q n e (off k))
 
   some_known : (o : Option Known) (c : Cell ℕ) → option_map (λ (m : Known). m.cell) o ≡ Some c → (n : Known) × (o ≡ Some n) × (n.cell ≡ c)
   some_known None c e = cc
