@@ -1,6 +1,5 @@
 -- The edges of a node that stays, led on: they are those of its record afterwards.
-use Rattle.std.proofs.Common.{◌≡◌, ◌≢◌, ◌∙◌, ◌⊎◌, inl, inr, ℕ, zero, suc, ◌<◌, ◌≤◌, Bool, true, false, ◌&&◌, ◌||◌, Option, Some, None, List, [], ◌∷◌, ◌++◌, filter_map, length, map, slice_get, get_or, nat_eq, nat_lt, nat_cmp, is_some, refl, sym, ap, ap₂, subst, arith, eqb-true, eq-eqb, true≢false, ltb-true, ltb-false}
-use Rattle.std.proofs.lemmas.Bool.{and_parts}
+use Rattle.std.proofs.Common.{◌≡◌, ◌∙◌, ℕ, suc, ◌<◌, ◌≤◌, Bool, true, false, ◌&&◌, ◌||◌, Option, Some, None, List, [], ◌∷◌, filter_map, length, map, slice_get, get_or, nat_eq, nat_lt, nat_cmp, refl, sym, ap, ap₂, subst, arith, eqb-true, eq-eqb, true≢false, ltb-true, ltb-false}
 use Rattle.std.specs.Cmp.{nat_cmp_total}
 use Rattle.std.specs.FinMap as fin
 use Rattle.std.specs.List.{AllByRecursion, cons_option}
@@ -25,7 +24,7 @@ use Rattle.tree_laws.proofs.Edges.{edges-are, only_forced}
 use Rattle.tree_laws.proofs.EdgesRise.{edges_rise}
 use Rattle.tree_laws.proofs.Leads.{lead_less, lead_none, lead_other, led_from}
 use Rattle.tree_laws.proofs.Lists.{some_same}
-use Rattle.tree_laws.proofs.Nexts.{next-entry, next-ge}
+use Rattle.tree_laws.proofs.Nexts.{next-entry}
 use Rattle.tree_laws.proofs.Records.{record_rises}
 use Rattle.tree_laws.proofs.RowsLess.{no_further}
 use Rattle.tree_search.specs.Found.{IsFrom}
@@ -34,10 +33,9 @@ use Rattle.batch_delete.specs.declared.plan.Fate.{Fate}
 use Rattle.batch_delete.specs.Below.{AreBelow}
 use Rattle.batch_delete.specs.Plan.{heir_in, is_left, is_value, led_edge, led_to, next_entry}
 use Rattle.batch_delete.specs.Rests.{ArePlanned, Deletion, rows_after, rows_before, source_before}
-use Rattle.batch_delete.proofs.Childs.{cell_wide}
 use Rattle.batch_delete.proofs.Entries.{entry_is, entry_some, led_depth}
-use Rattle.batch_delete.proofs.Labelled.{closed_at, edge_label, label_edge, law, made, node_there}
-use Rattle.batch_delete.proofs.Outcomes.{covered, edge_leads, front_node, heir_cell, heir_some, low_own, own_low, value_is, value_isn't}
+use Rattle.batch_delete.proofs.Labelled.{closed_at, label_edge, law, made}
+use Rattle.batch_delete.proofs.Outcomes.{covered, edge_leads, front_node, heir_cell, heir_some, own_low, value_is, value_isn't}
 
 -- lists of edges, by their labels alone
 then_turn : (a b : Ordering) → ordering_then (ordering_reverse a) (ordering_reverse b) ≡ ordering_reverse (ordering_then a b)

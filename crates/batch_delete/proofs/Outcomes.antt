@@ -1,5 +1,5 @@
 -- Which nodes below the tuple stay, and what they need so that their records can be mended.
-use Rattle.std.proofs.Common.{◌≡◌, ◌≢◌, ◌↔◌, ◌∙◌, ◌⊎◌, inl, inr, ℕ, zero, suc, ◌<◌, ◌≤◌, Bool, true, false, Option, Some, None, List, [], ◌∷◌, ◌++◌, length, slice_get, get_or, nat_eq, nat_cmp, is_some, refl, sym, ap, subst, arith, eqb-true, eq-eqb, true≢false}
+use Rattle.std.proofs.Common.{◌≡◌, ◌≢◌, ◌↔◌, ◌∙◌, inl, inr, ℕ, zero, suc, ◌<◌, ◌≤◌, Bool, true, false, Option, Some, None, List, [], ◌∷◌, length, slice_get, get_or, nat_eq, nat_cmp, is_some, refl, sym, ap, subst, arith, eqb-true, eq-eqb, true≢false}
 use Rattle.std.proofs.lemmas.Bool.{and_parts, cond-true, cond-false, false_from_ne_true}
 use Rattle.std.specs.FinMap as fin
 use Rattle.std.specs.Map.{lookup}
@@ -9,9 +9,9 @@ use Rattle.std.specs.Prelude.{IsSome, if◌then◌else◌}
 use Rattle.cell_core.specs.declared.cell.NodeNo.{NodeNo}
 use Rattle.cube_defs.specs.Cell.{Cell, cell_of, depth, entry_leq, keep, leq}
 use Rattle.cube_defs.specs.Rows.{closure, covers, is_node}
-use Rattle.cube_defs.specs.Tree.{Edge, Tree, cell_at, next_value}
+use Rattle.cube_defs.specs.Tree.{Edge, Tree, cell_at}
 use Rattle.cube_laws.specs.Lists.{Among}
-use Rattle.cube_laws.proofs.Cells.{depth-le, leq_refl, leq_trans, keep-leq, meet_right, nat_equality}
+use Rattle.cube_laws.proofs.Cells.{depth-le, leq_refl, keep-leq, meet_right, nat_equality}
 use Rattle.cube_laws.proofs.Covered.{closure_length}
 use Rattle.cube_laws.proofs.Lists.{all-insert}
 use Rattle.cube_laws.proofs.Nodes.{class_fronts, is_node-is}
@@ -19,8 +19,7 @@ use Rattle.cube_laws.proofs.Closures.{closure_idem, is_class-is}
 use Rattle.qc_arena.specs.Map.{Known}
 use Rattle.qc_arena.specs.Seen.{number, record_at}
 use Rattle.qc_arena.proofs.Halving.{eq_cmp}
-use Rattle.tree_laws.specs.Labels.{IsLabel, lead, moved}
-use Rattle.tree_laws.proofs.Children.{lead_above}
+use Rattle.tree_laws.specs.Labels.{lead, moved}
 use Rattle.tree_laws.proofs.Leads.{lead_own}
 use Rattle.tree_laws.proofs.Lists.{some_same}
 use Rattle.tree_search.specs.Found.{IsFrom}
@@ -32,7 +31,7 @@ use Rattle.batch_delete.specs.Below.{AreBelow}
 use Rattle.batch_delete.specs.Plan.{AreReady, Stays, after_in, heir_in, if_own, is_left, is_value, led_to, next_entry, staying}
 use Rattle.batch_delete.specs.Rests.{ArePlanned, Deletion, IsPlanned, IsRest, rows_after, rows_before, shared_of, source_before}
 use Rattle.batch_delete.proofs.Childs.{cell_wide}
-use Rattle.batch_delete.proofs.Entries.{led_depth, led_entry}
+use Rattle.batch_delete.proofs.Entries.{led_entry}
 use Rattle.batch_delete.proofs.Labelled.{closed_at, edge_label, law}
 
 -- both tests of codes are one
@@ -237,10 +236,12 @@ module _ (width : ℕ) (tree : Tree ℕ) (tuple : Cell ℕ) (d : Deletion) (h : 
             let w = heir_cell x.target to.0 to.1 (own_low b.node.0 b.cell (below.cells k b e) low x m own) t l in
             (there tree t (keep (depth to.0) w.0) w.2, stays_node t (keep (depth to.0) w.0) w.2 (front_node to.0 w.0 (depth to.0) w.1))
         by_own false own l =
-            let same : x.target ≡ t = some_same l in
-            (subst (λ n. IsSome (fin.get tree n)) same (there tree x.target to.0 to.1), (λ i a f g.
-            let cell : a.cell ≡ to.0 = some_same (sym (below.cells i a f) ∙ ap (cell_at tree) (g ∙ sym same) ∙ to.1) in
-            absurd (true≢false (sym (low_own b.node.0 b.cell (below.cells k b e) low x m (subst (λ y. leq nat_eq y tuple ≡ true) cell (below.below i a f))) ∙ own))))
+            let same : x.target ≡ t = some_same l in (
+              subst (λ n. IsSome (fin.get tree n)) same (there tree x.target to.0 to.1),
+              (λ i a f g.
+                  let cell : a.cell ≡ to.0 = some_same (sym (below.cells i a f) ∙ ap (cell_at tree) (g ∙ sym same) ∙ to.1) in
+                  absurd (true≢false (sym (low_own b.node.0 b.cell (below.cells k b e) low x m (subst (λ y. leq nat_eq y tuple ≡ true) cell (below.below i a f))) ∙ own))),
+            )
 
         by_left : (s : Bool) → (if s then (if is_value (get_or tuple x.dim None) x.value then heir_in plan x.target else Some x.target) else None) ≡ Some t → IsSome (fin.get tree t) × Stays list plan t
         by_left true l = by_own (is_value (get_or tuple x.dim None) x.value) refl l

@@ -1,5 +1,5 @@
 -- The records when all is settled: the tree is that of the rows that are left.
-use Rattle.std.proofs.Common.{◌≡◌, ◌≢◌, ◌∙◌, inl, inr, ℕ, zero, suc, ◌-◌, ◌<◌, ◌≤◌, ◌==◌, Bool, true, false, Option, Some, None, List, [], ◌∷◌, ◌++◌, flat_map, length, map, slice_get, get_or, nat_eq, nat_cmp, refl, sym, ap, ap₂, subst, arith, true≢false}
+use Rattle.std.proofs.Common.{◌≡◌, ◌≢◌, ◌∙◌, inl, inr, ℕ, ◌-◌, ◌==◌, Bool, true, false, Option, Some, None, List, [], ◌∷◌, flat_map, length, map, slice_get, get_or, nat_eq, nat_cmp, refl, sym, ap, ap₂, subst, true≢false}
 use Rattle.std.proofs.lemmas.Bool.{cond-true, cond-false, cond_both, false_from_ne_true}
 use Rattle.std.specs.Cmp.{nat_cmp_total}
 use Rattle.std.specs.FinMap as fin
@@ -8,9 +8,9 @@ use Rattle.std.specs.Option.{option_and_then, option_map}
 use Rattle.std.specs.Ordering.{eq_by_cmp}
 use Rattle.std.specs.Prelude.{if◌then◌else◌}
 use Rattle.aggregates.specs.Views.{agg_in}
-use Rattle.cube_defs.specs.Cell.{Cell, cell_eq, cell_of, depth, keep, leq, with_value}
-use Rattle.cube_defs.specs.Rows.{Agg, agg, closure, covers, is_node}
-use Rattle.cube_defs.specs.Tree.{Edge, IsCanonical, Node, Tree, as_list, cell_at, cut_last, edges_in, forced_child, next_value, node_of, renamed, renamed_edge}
+use Rattle.cube_defs.specs.Cell.{Cell, cell_eq, cell_of, depth, leq, with_value}
+use Rattle.cube_defs.specs.Rows.{agg, closure, covers, is_node}
+use Rattle.cube_defs.specs.Tree.{Edge, Node, Tree, as_list, cell_at, cut_last, edges_in, forced_child, next_value, node_of, renamed, renamed_edge}
 use Rattle.cube_laws.specs.Lists.{Among}
 use Rattle.cube_laws.proofs.Cells.{cell_eq-exact, cell_eq-from, leq_antisymm, leq_refl}
 use Rattle.cube_laws.proofs.Closures.{leq-closure}
@@ -30,7 +30,7 @@ use Rattle.batch_delete.specs.declared.parts.Rest.{Rest}
 use Rattle.batch_delete.specs.declared.plan.Fate.{Fate}
 use Rattle.batch_delete.specs.Below.{AreBelow}
 use Rattle.batch_delete.specs.Gone.{source_after}
-use Rattle.batch_delete.specs.Plan.{class_by, forced_by, heir_in, led_to, mended, next_entry, outcome, staying, with_mixed}
+use Rattle.batch_delete.specs.Plan.{class_by, forced_by, heir_in, mended, next_entry, outcome, staying}
 use Rattle.batch_delete.specs.Rests.{ArePlanned, Deletion, IsRest, rows_after, rows_before, source_before}
 use Rattle.batch_delete.proofs.Entries.{entry_none, entry_some}
 use Rattle.batch_delete.proofs.Labelled.{among_found, found_among, law, made}

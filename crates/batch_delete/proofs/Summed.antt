@@ -2,7 +2,7 @@
 use Rattle.std.proofs.Common.{◌≡◌, ◌≢◌, ◌∙◌, inl, inr, ℕ, zero, suc, ◌+◌, ◌*◌, ◌^◌, ◌<◌, ◌≤◌, Bool, true, false, cond, ◌&&◌, Option, Some, None, List, [], ◌∷◌, ◌++◌, filter_map, length, map, sum, slice_get, nat_eq, nat_lt, nat_cmp, refl, sym, ap, ap₂, subst, arith, eqb-true, true≢false, ltb-true, ltb-false}
 use Rattle.std.proofs.lemmas.Bool.{and_parts, cond-true, cond-false}
 use Rattle.std.proofs.lemmas.List.Sums.{sum_by-cons}
-use Rattle.std.proofs.Math.Nat.{mul-add, one-le-pow, pow-suc, pow-zero}
+use Rattle.std.proofs.Math.Nat.{mul-add, pow-suc, pow-zero}
 use Rattle.std.specs.Cmp.{nat_cmp_total}
 use Rattle.std.specs.FinMap as fin
 use Rattle.std.specs.List.{cons_option, sum_by}
@@ -14,20 +14,20 @@ use Rattle.cube_defs.specs.Rows.{closure}
 use Rattle.cube_defs.specs.Tree.{Edge, Node, Tree, above, cell_at, node_of, nodes, nodes_below, size_below, tree}
 use Rattle.cube_laws.specs.Lists.{Among}
 use Rattle.cube_laws.proofs.Cells.{cell_eq-exact, leq_refl, nat_equality}
-use Rattle.cube_laws.proofs.Lists.{among_filter, among_filter_map, map_among, among_map}
+use Rattle.cube_laws.proofs.Lists.{among_filter, among_filter_map, among_map}
 use Rattle.cube_laws.proofs.Nodes.{nodes-is}
 use Rattle.qc_arena.specs.Seen.{record_at}
 use Rattle.tree_laws.specs.Labels.{record_of}
 use Rattle.tree_laws.proofs.Lists.{some_same}
 use Rattle.tree_laws.proofs.Records.{record_with}
-use Rattle.tree_laws.proofs.Sums.{EachOnce, length-map, once_map, sum_alike, sum_by-map, sum_ones, sum_within}
+use Rattle.tree_laws.proofs.Sums.{EachOnce, length-map, once_map, sum_alike, sum_by-map, sum_within}
 use Rattle.tree_search.specs.Found.{IsFrom}
 use Rattle.batch_delete.specs.declared.below.Below.{Below}
 use Rattle.batch_delete.specs.Below.{AreBelow}
 use Rattle.batch_delete.specs.Plan.{front_labels, labels_of, last_any_of, last_behind, planning, settling}
 use Rattle.batch_delete.specs.Rests.{Deletion, rows_after, rows_before, source_before}
 use Rattle.batch_delete.proofs.Childs.{cell_wide}
-use Rattle.batch_delete.proofs.Labelled.{at_cell, closed_at, law, made, node_there}
+use Rattle.batch_delete.proofs.Labelled.{closed_at, made, node_there}
 use Rattle.batch_delete.proofs.Outcomes.{covered}
 
 -- sums
