@@ -3,9 +3,11 @@
 
 mod below;
 mod cells;
+mod less;
 mod mend;
 mod parts;
 mod plan;
+mod stays;
 
 /// Memory ran out.
 pub type Memory = std::alloc::AllocError;
