@@ -1,9 +1,9 @@
 -- What rows share and come to, before and after a row has gone.
-use Rattle.std.specs.Prelude.{◌≡◌, ◌≤◌, ℕ, slice_get, Option, Some, None, List, ◌∷◌, ◌++◌, nat_eq, not, ◌&&◌, filter_map, if◌then◌else◌}
+use Rattle.std.specs.Prelude.{◌≡◌, ◌≤◌, ℕ, slice_get, true, Option, Some, None, List, ◌∷◌, ◌++◌, nat_eq, not, ◌&&◌, filter_map, if◌then◌else◌}
 use Rattle.std.specs.Option.{option_map}
 use Rattle.std.specs.Ordering.{eq_by_cmp, nat_cmp}
 use Rattle.aggregates.specs.Views.{agg_in}
-use Rattle.cube_defs.specs.Cell.{Cell, depth, keep, with_value}
+use Rattle.cube_defs.specs.Cell.{Cell, depth, keep, leq, with_value}
 use Rattle.cube_defs.specs.Rows.{Agg, Row, closure}
 use Rattle.cube_defs.specs.Tree.{Edge, Tree}
 use Rattle.cube_laws.specs.Total.{agg_at, join_aggs, join_cells, total}
@@ -59,3 +59,7 @@ pub record IsPlanned (d : Deletion) (tree : Tree ℕ) (plan : List (ℕ × Fate)
 -- the nodes of the list from a place on are planned for
 abbrev pub ArePlanned : Deletion → Tree ℕ → List (ℕ × Fate) → List Below → ℕ → Type 0
 ArePlanned d tree plan list k = (j : ℕ) (b : Below) → k ≤ j → slice_get list j ≡ Some b → IsPlanned d tree plan b
+
+-- what a cell's rows share afterwards is below the other cell, and they are some
+abbrev pub IsAbove : Deletion → Cell ℕ → Cell ℕ → Type 0
+IsAbove d u s = (w : Cell ℕ) × (closure (eq_by_cmp nat_cmp) (rows_after d) u ≡ Some w) × (leq (eq_by_cmp nat_cmp) w s ≡ true)

@@ -4,9 +4,11 @@
 mod below;
 mod cells;
 mod delete;
+mod less;
 mod mend;
 mod parts;
 mod plan;
+mod stays;
 
 pub use delete::delete_row;
 

@@ -19,7 +19,9 @@ ghost use Rattle.batch_delete.specs.Plan.{after_in, front_labels, is_value, last
 ghost use Rattle.batch_delete.specs.Rests.{Deletion, IsRest, IsTotal, agg_of_rest, other_values, rows_after, rows_before, shared_of, source_before};
 
 use crate::cells::{front, has, last_any};
+use crate::less::less_at;
 use crate::plan::{Fate, after_of, node_at};
+use crate::stays::settled;
 use aggregates::Agg;
 use cell_core::{Cell, Code, Entry, NodeNo, Steps, meet_into};
 use indexmap::IndexMap;
@@ -177,7 +179,7 @@ fn with_label<L: Ledger>(
     ensures parts { IfSome result (λ some. length (agg_in some.agg).parts ≡ d.measures) }
     ensures shared { IfSome result (λ some. length some.shared ≡ length cell.now) }
     ensures total { (v : ℕ) (w : _) (vs : List ℕ) → slice_index_or tuple.now dim None ≡ Some v → IsTotal d cell.now dim v w vs rest → IsTotal d cell.now dim v w (vs ++ other_values dim v (record { dim = label.0; value = label.1; target = label.2.0 } ∷ [])) result }
-    ensures steps { steps.new ≤ steps.old + (4 * length cell.now + 5) }
+    ensures steps { (v : ℕ) → slice_index_or tuple.now dim None ≡ Some v → steps.new ≤ steps.old + (4 * length cell.now + 5) * length (other_values dim v (record { dim = label.0; value = label.1; target = label.2.0 } ∷ [])) }
 {
     if label.0 != dim {
         return rest;
@@ -188,7 +190,8 @@ fn with_label<L: Ledger>(
     with_part(arena, cell, dim, label.1, rest, steps)
 }
 
-// The rest with the rows of all labels that have another value than the tuple in the dimension.
+// The rest of a class, from that of the rows with the tuple's value in the dimension and those of the
+// labels with another value: of all of them, or of the first few, where these tell that the class stays.
 fn with_labels<L: Ledger>(
     arena: &QcArena,
     tuple: &Cell,
@@ -196,25 +199,33 @@ fn with_labels<L: Ledger>(
     dim: u8,
     node: NodeNo,
     rest: Option<Rest>,
+    less: Option<Agg>,
     steps: &mut Steps<L>,
 ) -> Option<Rest>
     ghost d: { Deletion }
     requires tree { IsFrom arena.now.width arena.now.now (source_before d) }
     requires long { length cell.now ≡ arena.now.width }
     requires tuple { length tuple.now ≡ arena.now.width }
+    requires row { tuple.now ≡ cell_of d.r.tuple }
     requires any { slice_get cell.now dim ≡ Some None }
     requires dim { dim < length cell.now }
-    requires node { IsSome (map.get arena.now.now node.0) }
+    requires below { covers (eq_by_cmp nat_cmp) cell.now d.r ≡ true }
+    requires own { closure_in (source_before d) cell.now ≡ Some cell.now }
+    requires front { cell_at arena.now.now node.0 ≡ Some (keep dim cell.now) }
     requires few { length (rows_before d) ≤ 1000000 }
     requires value { (v : ℕ) × (w : _) × (slice_index_or tuple.now dim None ≡ Some v) × (closure_in (source_before d) (with_value cell.now dim v) ≡ Some w) × IsTotal d cell.now dim v w (v ∷ []) rest }
     requires parts { IfSome rest (λ some. length (agg_in some.agg).parts ≡ d.measures) }
     requires shared { IfSome rest (λ some. length some.shared ≡ length cell.now) }
-    ensures rising { rises (record_at arena.now.now node.0).edges ≡ true }
-    ensures total { (v : ℕ) (w : _) → slice_index_or tuple.now dim None ≡ Some v → IsTotal d cell.now dim v w (v ∷ []) rest → IsTotal d cell.now dim v w (v ∷ other_values dim v (record_at arena.now.now node.0).edges) result }
-    ensures steps { steps.new ≤ steps.old + (1 + (4 * length cell.now + 6) * length (record_at arena.now.now node.0).edges) }
+    requires less { IfSome less (λ agg. Some (agg_in agg) ≡ agg_at (eq_by_cmp nat_cmp) d.measures (rows_after d) cell.now) }
+    ensures rest { IsRest d.measures (rows_after d) cell.now result }
+    ensures steps { steps.new + (4 * length cell.now + 5) ≤ steps.old + (1 + (4 * length cell.now + 6) * length (record_at arena.now.now node.0).edges) }
 {
     let mut all = rest;
     'labels: for k in 0..arena.edge_count(node, steps) {
+        match settled(arena, tuple, cell, &all, less) {
+            Some(done) => return Some(done),
+            None => {}
+        }
         let label = arena.edge_at(node, k, steps);
         all = with_label(arena, tuple, cell, dim, label, all, steps);
     }
@@ -225,6 +236,7 @@ fn with_labels<L: Ledger>(
 fn all_parts<L: Ledger>(
     arena: &QcArena,
     tuple: &Cell,
+    twins: Option<Agg>,
     plan: &IndexMap<u32, Fate>,
     cell: &Cell,
     dim: u8,
@@ -241,6 +253,7 @@ fn all_parts<L: Ledger>(
     requires own { closure_in (source_before d) cell.now ≡ Some cell.now }
     requires front { (q : ℕ) × (cell_at arena.now.now q ≡ Some (keep dim cell.now)) }
     requires planned { (v q : ℕ) (w : _) → slice_index_or tuple.now dim None ≡ Some v → closure_in (source_before d) (with_value cell.now dim v) ≡ Some w → cell_at arena.now.now q ≡ Some w → IsRest d.measures (rows_after d) w (after_in plan.now.entries q) }
+    requires twins { option_map agg_in twins ≡ agg_at (eq_by_cmp nat_cmp) d.measures (rows_after d) tuple.now }
     requires few { length (rows_before d) ≤ 1000000 }
     ensures rest { IsRest d.measures (rows_after d) cell.now result }
     ensures steps { (q : ℕ) → cell_at arena.now.now q ≡ Some (keep dim cell.now) → steps.new ≤ steps.old + ((3 * length cell.now + 4) + (4 * length cell.now + 6) * length (record_at arena.now.now q).edges) }
@@ -248,8 +261,9 @@ fn all_parts<L: Ledger>(
     let mut more = cell.copy();
     more.set(dim, tuple.get(dim));
     let own = own_part(arena, plan, &more, steps);
+    let less = less_at(arena, tuple, twins, cell, steps);
     let labelled = node_at(arena, &front(cell, dim), steps);
-    with_labels(arena, tuple, cell, dim, labelled, own, steps)
+    with_labels(arena, tuple, cell, dim, labelled, own, less, steps)
 }
 
 /// What the rows of a class below the tuple share and come to afterwards.
@@ -275,7 +289,7 @@ pub(crate) fn class_after<L: Ledger>(
     ensures steps { (list : List Below) → AreBelow arena.now.now tuple.now (length tuple.now) list → steps.new ≤ steps.old + ((3 * length cell.now + 4) + (4 * length cell.now + 6) * front_labels arena.now.now list cell.now (last_any_of cell.now)) }
 {
     match last_any(cell) {
-        Some(dim) => all_parts(arena, tuple, plan, cell, dim, steps),
+        Some(dim) => all_parts(arena, tuple, twins, plan, cell, dim, steps),
         None => match twins {
             None => None,
             Some(agg) => Some(Rest {
