@@ -80,7 +80,7 @@ full_top (x ∷ t) (e ∷ c) h l =
     ap₂ (λ y ys. y ∷ ys) (entry_of_leq law x e p.0) (full_top t c p.1 (omega arith))
 
 module _ (measures : ℕ) (rows : List (Row ℕ)) (c : Cell ℕ) where
-  no_rows : agg_at (eq_by_cmp nat_cmp) measures rows c ≡ None → closure (eq_by_cmp nat_cmp) rows c ≡ None
+  pub no_rows : agg_at (eq_by_cmp nat_cmp) measures rows c ≡ None → closure (eq_by_cmp nat_cmp) rows c ≡ None
   no_rows e = go (closure (eq_by_cmp nat_cmp) rows c) refl
     where
       go : (o : Option (Cell ℕ)) → closure (eq_by_cmp nat_cmp) rows c ≡ o → closure (eq_by_cmp nat_cmp) rows c ≡ None

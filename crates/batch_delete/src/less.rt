@@ -6,13 +6,13 @@ ghost use Rattle.aggregates.specs.Bounds.{largest_amount};
 ghost use Rattle.aggregates.specs.Views.{agg_in, part_in};
 ghost use Rattle.cube_defs.specs.Cell.{cell_of};
 ghost use Rattle.cube_defs.specs.Rows as defs;
+ghost use Rattle.cube_defs.specs.Tree.{cell_at};
 ghost use Rattle.cube_laws.specs.Total.{agg_at, combine, combine_part, join_aggs};
 ghost use Rattle.tree_search.specs.Found.{IsFrom, closure_in};
 ghost use Rattle.batch_delete.specs.Rests.{Deletion, rows_after, rows_before, source_before};
 
-use crate::plan::node_at;
 use aggregates::{Agg, Part};
-use cell_core::{Cell, Steps};
+use cell_core::{Cell, NodeNo, Steps};
 use cube_defs::MAX_ROWS;
 use qc_arena::{Nodes, QcArena};
 use std::sync::ledger::Ledger;
@@ -80,32 +80,45 @@ fn with_twins(twins: Option<Agg>, others: Agg) -> Agg
     }
 }
 
-/// What the rows of a class come to without the row, where those of its tuple have neither the least
-/// nor the greatest amount of any measure among them.
-pub(crate) fn less_at<L: Ledger>(
+/// What the rows of a class come to.
+pub(crate) fn class_at<L: Ledger>(
     arena: &QcArena,
-    tuple: &Cell,
-    twins: Option<Agg>,
     cell: &Cell,
+    node: NodeNo,
     steps: &mut Steps<L>,
 ) -> Option<Agg>
     ghost d: { Deletion }
     requires tree { IsFrom arena.now.width arena.now.now (source_before d) }
     requires long { length cell.now ≡ arena.now.width }
-    requires tuple { length tuple.now ≡ arena.now.width }
+    requires node { cell_at arena.now.now node.0 ≡ Some cell.now }
+    requires own { closure_in (source_before d) cell.now ≡ Some cell.now }
+    ensures agg { option_map agg_in result ≡ agg_at (eq_by_cmp nat_cmp) d.measures (rows_before d) cell.now }
+    ensures steps { steps.new ≤ steps.old + 1 }
+{
+    arena.class(node, steps)
+}
+
+/// What the rows of a class come to without the row, where those of its tuple have neither the least
+/// nor the greatest amount of any measure among them.
+pub(crate) fn less_of(
+    tuple: &Cell,
+    twins: Option<Agg>,
+    gone: Option<Agg>,
+    cell: &Cell,
+    whole: Option<Agg>,
+) -> Option<Agg>
+    ghost d: { Deletion }
     requires row { tuple.now ≡ cell_of d.r.tuple }
     requires below { defs.covers (eq_by_cmp nat_cmp) cell.now d.r ≡ true }
-    requires own { closure_in (source_before d) cell.now ≡ Some cell.now }
     requires twins { option_map agg_in twins ≡ agg_at (eq_by_cmp nat_cmp) d.measures (rows_after d) tuple.now }
+    requires gone { option_map agg_in gone ≡ agg_at (eq_by_cmp nat_cmp) d.measures (rows_before d) tuple.now }
+    requires whole { option_map agg_in whole ≡ agg_at (eq_by_cmp nat_cmp) d.measures (rows_before d) cell.now }
     requires few { length (rows_before d) ≤ 1000000 }
     ensures agg { IfSome result (λ agg. Some (agg_in agg) ≡ agg_at (eq_by_cmp nat_cmp) d.measures (rows_after d) cell.now) }
-    ensures steps { steps.new ≤ steps.old + (2 * length cell.now + 4) }
 {
-    let node = node_at(arena, cell, steps);
-    let last = node_at(arena, tuple, steps);
-    match arena.class(node, steps) {
+    match whole {
         None => None,
-        Some(whole) => match arena.class(last, steps) {
+        Some(whole) => match gone {
             None => None,
             Some(gone) => match besides(&whole, &gone) {
                 None => None,

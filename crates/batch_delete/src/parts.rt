@@ -19,7 +19,7 @@ ghost use Rattle.batch_delete.specs.Plan.{after_in, front_labels, is_value, last
 ghost use Rattle.batch_delete.specs.Rests.{Deletion, IsRest, IsTotal, agg_of_rest, other_values, rows_after, rows_before, shared_of, source_before};
 
 use crate::cells::{front, has, last_any};
-use crate::less::less_at;
+use crate::less::{class_at, less_of};
 use crate::plan::{Fate, after_of, node_at};
 use crate::stays::settled;
 use aggregates::Agg;
@@ -199,6 +199,7 @@ fn with_labels<L: Ledger>(
     dim: u8,
     node: NodeNo,
     rest: Option<Rest>,
+    whole: Option<Agg>,
     less: Option<Agg>,
     steps: &mut Steps<L>,
 ) -> Option<Rest>
@@ -216,13 +217,14 @@ fn with_labels<L: Ledger>(
     requires value { (v : ℕ) × (w : _) × (slice_index_or tuple.now dim None ≡ Some v) × (closure_in (source_before d) (with_value cell.now dim v) ≡ Some w) × IsTotal d cell.now dim v w (v ∷ []) rest }
     requires parts { IfSome rest (λ some. length (agg_in some.agg).parts ≡ d.measures) }
     requires shared { IfSome rest (λ some. length some.shared ≡ length cell.now) }
+    requires whole { option_map agg_in whole ≡ agg_at (eq_by_cmp nat_cmp) d.measures (rows_before d) cell.now }
     requires less { IfSome less (λ agg. Some (agg_in agg) ≡ agg_at (eq_by_cmp nat_cmp) d.measures (rows_after d) cell.now) }
     ensures rest { IsRest d.measures (rows_after d) cell.now result }
     ensures steps { steps.new + (4 * length cell.now + 5) ≤ steps.old + (1 + (4 * length cell.now + 6) * length (record_at arena.now.now node.0).edges) }
 {
     let mut all = rest;
     'labels: for k in 0..arena.edge_count(node, steps) {
-        match settled(arena, tuple, cell, &all, less) {
+        match settled(arena, tuple, cell, &all, whole, less) {
             Some(done) => return Some(done),
             None => {}
         }
@@ -236,9 +238,11 @@ fn with_labels<L: Ledger>(
 fn all_parts<L: Ledger>(
     arena: &QcArena,
     tuple: &Cell,
+    last: NodeNo,
     twins: Option<Agg>,
     plan: &IndexMap<u32, Fate>,
     cell: &Cell,
+    node: NodeNo,
     dim: u8,
     steps: &mut Steps<L>,
 ) -> Option<Rest>
@@ -255,24 +259,30 @@ fn all_parts<L: Ledger>(
     requires planned { (v q : ℕ) (w : _) → slice_index_or tuple.now dim None ≡ Some v → closure_in (source_before d) (with_value cell.now dim v) ≡ Some w → cell_at arena.now.now q ≡ Some w → IsRest d.measures (rows_after d) w (after_in plan.now.entries q) }
     requires twins { option_map agg_in twins ≡ agg_at (eq_by_cmp nat_cmp) d.measures (rows_after d) tuple.now }
     requires few { length (rows_before d) ≤ 1000000 }
+    requires node { cell_at arena.now.now node.0 ≡ Some cell.now }
+    requires last { cell_at arena.now.now last.0 ≡ Some tuple.now }
     ensures rest { IsRest d.measures (rows_after d) cell.now result }
     ensures steps { (q : ℕ) → cell_at arena.now.now q ≡ Some (keep dim cell.now) → steps.new ≤ steps.old + ((3 * length cell.now + 4) + (4 * length cell.now + 6) * length (record_at arena.now.now q).edges) }
 {
     let mut more = cell.copy();
     more.set(dim, tuple.get(dim));
     let own = own_part(arena, plan, &more, steps);
-    let less = less_at(arena, tuple, twins, cell, steps);
+    let gone = class_at(arena, tuple, last, steps);
+    let whole = class_at(arena, cell, node, steps);
+    let less = less_of(tuple, twins, gone, cell, whole);
     let labelled = node_at(arena, &front(cell, dim), steps);
-    with_labels(arena, tuple, cell, dim, labelled, own, less, steps)
+    with_labels(arena, tuple, cell, dim, labelled, own, whole, less, steps)
 }
 
 /// What the rows of a class below the tuple share and come to afterwards.
 pub(crate) fn class_after<L: Ledger>(
     arena: &QcArena,
     tuple: &Cell,
+    last: NodeNo,
     twins: Option<Agg>,
     plan: &IndexMap<u32, Fate>,
     cell: &Cell,
+    node: NodeNo,
     steps: &mut Steps<L>,
 ) -> Option<Rest>
     ghost d: { Deletion }
@@ -285,11 +295,15 @@ pub(crate) fn class_after<L: Ledger>(
     requires twins { option_map agg_in twins ≡ agg_at (eq_by_cmp nat_cmp) d.measures (rows_after d) tuple.now }
     requires planned { (i v q : ℕ) (w : _) → slice_get cell.now i ≡ Some None → slice_index_or tuple.now i None ≡ Some v → closure_in (source_before d) (with_value cell.now i v) ≡ Some w → cell_at arena.now.now q ≡ Some w → IsRest d.measures (rows_after d) w (after_in plan.now.entries q) }
     requires few { length (rows_before d) ≤ 1000000 }
+    requires node { cell_at arena.now.now node.0 ≡ Some cell.now }
+    requires last { cell_at arena.now.now last.0 ≡ Some tuple.now }
     ensures rest { IsRest d.measures (rows_after d) cell.now result }
     ensures steps { (list : List Below) → AreBelow arena.now.now tuple.now (length tuple.now) list → steps.new ≤ steps.old + ((3 * length cell.now + 4) + (4 * length cell.now + 6) * front_labels arena.now.now list cell.now (last_any_of cell.now)) }
 {
     match last_any(cell) {
-        Some(dim) => all_parts(arena, tuple, twins, plan, cell, dim, steps),
+        Some(dim) => all_parts(
+            arena, tuple, last, twins, plan, cell, node, dim, steps,
+        ),
         None => match twins {
             None => None,
             Some(agg) => Some(Rest {

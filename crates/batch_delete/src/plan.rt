@@ -86,6 +86,7 @@ pub(crate) fn heir_of(plan: &IndexMap<u32, Fate>, node: NodeNo) -> Option<NodeNo
 fn rest_of<L: Ledger>(
     arena: &QcArena,
     tuple: &Cell,
+    last: NodeNo,
     twins: Option<Agg>,
     plan: &IndexMap<u32, Fate>,
     below: &Below,
@@ -100,12 +101,22 @@ fn rest_of<L: Ledger>(
     requires twins { option_map agg_in twins ≡ agg_at (eq_by_cmp nat_cmp) d.measures (rows_after d) tuple.now }
     requires planned { (q : ℕ) (w : _) → cell_at arena.now.now q ≡ Some w → leq nat_eq w tuple.now ≡ true → leq nat_eq below.now.cell w ≡ true → leq nat_eq w below.now.cell ≡ false → IsRest d.measures (rows_after d) w (after_in plan.now.entries q) }
     requires few { length (rows_before d) ≤ 1000000 }
+    requires last { cell_at arena.now.now last.0 ≡ Some tuple.now }
     ensures rest { IsRest d.measures (rows_after d) below.now.cell result }
     ensures steps { (list : List Below) → AreBelow arena.now.now tuple.now (length tuple.now) list → steps.new ≤ steps.old + ((3 * length tuple.now + 5) + (4 * length tuple.now + 6) * front_labels arena.now.now list below.now.cell (last_any_of below.now.cell)) }
 {
     match arena.forced(below.node, steps) {
         Some(forced) => after_of(plan, forced.child),
-        None => class_after(arena, tuple, twins, plan, &below.cell, steps),
+        None => class_after(
+            arena,
+            tuple,
+            last,
+            twins,
+            plan,
+            &below.cell,
+            below.node,
+            steps,
+        ),
     }
 }
 
@@ -136,6 +147,7 @@ fn heir_at<L: Ledger>(
 fn fate_of<L: Ledger>(
     arena: &QcArena,
     tuple: &Cell,
+    last: NodeNo,
     twins: Option<Agg>,
     plan: &IndexMap<u32, Fate>,
     below: &Below,
@@ -150,11 +162,12 @@ fn fate_of<L: Ledger>(
     requires twins { option_map agg_in twins ≡ agg_at (eq_by_cmp nat_cmp) d.measures (rows_after d) tuple.now }
     requires planned { (q : ℕ) (w : _) → cell_at arena.now.now q ≡ Some w → leq nat_eq w tuple.now ≡ true → leq nat_eq below.now.cell w ≡ true → leq nat_eq w below.now.cell ≡ false → IsRest d.measures (rows_after d) w (after_in plan.now.entries q) }
     requires few { length (rows_before d) ≤ 1000000 }
+    requires last { cell_at arena.now.now last.0 ≡ Some tuple.now }
     ensures after { IsRest d.measures (rows_after d) below.now.cell result.after }
     ensures heir { Names arena.now.now (option_map number result.heir) (option_map (keep (cells.depth below.now.cell)) (closure (eq_by_cmp nat_cmp) (rows_after d) below.now.cell)) }
     ensures steps { (list : List Below) → AreBelow arena.now.now tuple.now (length tuple.now) list → steps.new ≤ steps.old + (4 * length tuple.now + 6) * (1 + front_labels arena.now.now list below.now.cell (last_any_of below.now.cell)) }
 {
-    let after = rest_of(arena, tuple, twins, plan, below, steps);
+    let after = rest_of(arena, tuple, last, twins, plan, below, steps);
     let heir = heir_at(arena, &below.cell, &after, steps);
     Fate { after, heir }
 }
@@ -193,7 +206,8 @@ pub(crate) fn plan_all<L: Ledger>(
     let mut plan = IndexMap::new(alloc);
     'nodes: for k in 0..list.len() {
         let below = &list[list.len() - 1 - k];
-        let fate = fate_of(arena, tuple, twins, &plan, below, steps);
+        let last = list[list.len() - 1].node;
+        let fate = fate_of(arena, tuple, last, twins, &plan, below, steps);
         add_fate(&mut plan, below.node, fate)?;
     }
     Ok(plan)

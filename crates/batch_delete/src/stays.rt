@@ -1,12 +1,13 @@
 // Whether a class stays as the row goes.
 ghost use Rattle.std.specs.Ordering.{eq_by_cmp, nat_cmp};
-ghost use Rattle.std.specs.Prelude.{IfSome, None, Some, false, length, slice_get, true, ℕ, ◌<◌, ◌≡◌};
+ghost use Rattle.std.specs.Prelude.{IfSome, None, Some, false, length, slice_get, true, ℕ, ◌+◌, ◌<◌, ◌≡◌};
+ghost use Rattle.std.specs.Option.{option_map};
 ghost use Rattle.aggregates.specs.Views.{agg_in};
 ghost use Rattle.cube_defs.specs.Cell.{cell_of};
-ghost use Rattle.cube_defs.specs.Rows.{covers};
+ghost use Rattle.cube_defs.specs.Rows.{cov, covers};
 ghost use Rattle.cube_laws.specs.Total.{agg_at};
 ghost use Rattle.tree_search.specs.Found.{IsFrom, closure_in};
-ghost use Rattle.batch_delete.specs.Rests.{Deletion, IsAbove, IsRest, rows_after, source_before};
+ghost use Rattle.batch_delete.specs.Rests.{Deletion, IsAbove, IsRest, rows_after, rows_before, source_before};
 
 use crate::cells::has;
 use crate::parts::Rest;
@@ -44,12 +45,24 @@ fn is_settled(tuple: &Cell, cell: &Cell, shared: &Cell) -> bool
     true
 }
 
-/// The rest of a class that stays for what some of its rows share, where it is told what they come to.
+// Whether these are all rows of the class but one.
+fn are_all(some: &Rest, whole: Option<Agg>) -> bool
+    ensures { result ≡ true → (agg : Agg) × (whole ≡ Some agg) × (some.now.agg.count + 1 ≡ agg.count) }
+{
+    match whole {
+        None => false,
+        Some(agg) => some.agg.count + 1 == agg.count,
+    }
+}
+
+/// The rest of a class, where it is told by some of its rows: they are all but the row; or what they
+/// share tells that the class stays, and it is known what its rows come to without the row.
 pub(crate) fn settled(
     arena: &QcArena,
     tuple: &Cell,
     cell: &Cell,
     some: &Option<Rest>,
+    whole: Option<Agg>,
     less: Option<Agg>,
 ) -> Option<Rest>
     ghost d: { Deletion }
@@ -61,23 +74,30 @@ pub(crate) fn settled(
     requires own { closure_in (source_before d) cell.now ≡ Some cell.now }
     requires shared { IfSome some.now (λ rest. length rest.shared ≡ length cell.now) }
     requires above { IfSome some.now (λ rest. IsAbove d cell.now rest.shared) }
+    requires all { IfSome some.now (λ rest. rest.agg.count ≡ length (cov (eq_by_cmp nat_cmp) (rows_after d) cell.now) → IsRest d.measures (rows_after d) cell.now (Some rest)) }
+    requires whole { option_map agg_in whole ≡ agg_at (eq_by_cmp nat_cmp) d.measures (rows_before d) cell.now }
     requires less { IfSome less (λ agg. Some (agg_in agg) ≡ agg_at (eq_by_cmp nat_cmp) d.measures (rows_after d) cell.now) }
     ensures rest { IfSome result (λ rest. IsRest d.measures (rows_after d) cell.now (Some rest)) }
 {
     match some {
         None => None,
-        Some(rest) => match less {
-            None => None,
-            Some(agg) => {
-                if is_settled(tuple, cell, &rest.shared) {
-                    Some(Rest {
-                        shared: cell.copy(),
-                        agg,
-                    })
-                } else {
-                    None
+        Some(rest) => {
+            if are_all(rest, whole) {
+                return Some(rest.copy());
+            }
+            match less {
+                None => None,
+                Some(agg) => {
+                    if is_settled(tuple, cell, &rest.shared) {
+                        Some(Rest {
+                            shared: cell.copy(),
+                            agg,
+                        })
+                    } else {
+                        None
+                    }
                 }
             }
-        },
+        }
     }
 }

@@ -16,7 +16,9 @@ all_parts-requires g c κs within =
     let own = c.requires.1.1.1.1.1.1.0 in
     let planned = c.requires.1.1.1.1.1.1.1.1.0 in
     let twins = c.requires.1.1.1.1.1.1.1.0 in
-    let few = c.requires.1.1.1.1.1.1.1.1.1 in
+    let few = c.requires.1.1.1.1.1.1.1.1.1.0 in
+    let node = c.requires.1.1.1.1.1.1.1.1.1.1.0 in
+    let top = c.requires.1.1.1.1.1.1.1.1.1.1.1 in
     let last = c.in-Some.ensures.some in (
       within,
       (
@@ -37,7 +39,7 @@ all_parts-requires g c κs within =
                       own,
                       (
                         front_there c.args.arena.now.width c.args.arena.now.now g.d tree c.args.tuple.now tuple row c.args.cell.now long below own c.in-Some.dim,
-                        ((λ v q w has closes at. planned c.in-Some.dim v q w last.any has closes at), (twins, few)),
+                        ((λ v q w has closes at. planned c.in-Some.dim v q w last.any has closes at), (twins, (few, (node, top)))),
                       ),
                     ),
                   ),

@@ -1,7 +1,7 @@
-use Rattle.std.proofs.Common.{◌≡◌, ◌∙◌, ◌+◌, ◌-◌, suc, Some, ap, arith, drop, length, subst, sym}
+use Rattle.std.proofs.Common.{◌≡◌, ◌∙◌, ◌≤◌, ◌+◌, ◌-◌, suc, Some, ap, arith, drop, length, slice_get, subst, sym}
 use Rattle.batch_delete.specs.Plan.{planning}
 use Rattle.batch_delete.specs.Rests.{ArePlanned}
-use Rattle.batch_delete.proofs.Fated.{greater_planned, planned_more, planning_more}
+use Rattle.batch_delete.proofs.Fated.{greater_planned, last_is, planned_more, planning_more}
 use Rattle.batch_delete.proofs.Growing.{item_at}
 use Rattle.batch_delete.proofs.plan.plan_all.Goals as goal
 
@@ -19,6 +19,10 @@ fate_of-fate-requires g c κs within =
     let tuple = c.requires.1.1.0 in
     let row = c.requires.1.1.1.0 in
     let are = c.requires.1.1.1.1.0 in
+    let all = c.len-in-nodes.ensures in
+    let top = c.len-in-nodes.result - 1 in
+    let past : length xs ≤ suc top = omega arith in
+    let end : slice_get xs top ≡ Some c.index.result.now = item_at xs top c.index.result.now (omega arith) ∙ ap (λ b. Some b) (sym c.index.ensures) in
     let had = subst (ArePlanned g.d a.now c.nodes.plan.entries xs) next c.nodes.invariant.planned in (
       within,
       (
@@ -33,7 +37,7 @@ fate_of-fate-requires g c κs within =
                 are.below j c.index-below.result.now at,
                 (
                   c.requires.1.1.1.1.1.0,
-                  (greater_planned a.width a.now g.d tree c.args.tuple.now tuple xs are j c.index-below.result.now at c.nodes.plan.entries had, c.requires.1.1.1.1.1.1),
+                  (greater_planned a.width a.now g.d tree c.args.tuple.now tuple xs are j c.index-below.result.now at c.nodes.plan.entries had, (c.requires.1.1.1.1.1.1, last_is a.width a.now g.d tree c.args.tuple.now tuple row xs are top c.index.result.now end past)),
                 ),
               ),
             ),

@@ -19,7 +19,8 @@ class_after-requires g c κs within =
     let low = c.requires.1.1.1.1.1.0 in
     let twins = c.requires.1.1.1.1.1.1.0 in
     let planned = c.requires.1.1.1.1.1.1.1.0 in
-    let few = c.requires.1.1.1.1.1.1.1.1 in (
+    let few = c.requires.1.1.1.1.1.1.1.1.0 in
+    let top = c.requires.1.1.1.1.1.1.1.1.1 in (
       within,
       (
         tree,
@@ -37,7 +38,7 @@ class_after-requires g c κs within =
                     twins,
                     (
                       (λ i v q w any has closes there. part_planned a.width a.now g.d tree k p at c.args.tuple.now row low (after_in c.args.plan.now.entries) planned i v q w any (row_value c.args.tuple.now g.d.r.tuple i v row has) closes there),
-                      few,
+                      (few, (at, top)),
                     ),
                   ),
                 ),
