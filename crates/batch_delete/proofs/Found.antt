@@ -1,5 +1,5 @@
 -- Parts that have all rows of a class between them tell what these share and come to: the other parts are empty.
-use Rattle.std.proofs.Common.{◌≡◌, ◌∙◌, ℕ, zero, suc, ◌+◌, Bool, true, false, cond, Option, Some, None, List, [], ◌∷◌, ◌++◌, ap, ap₂, arith, drop, length, nat_cmp, nat_eq, not, ◌&&◌, refl, slice_get, subst, sym, take}
+use Rattle.std.proofs.Common.{◌≡◌, ◌∙◌, ℕ, zero, suc, ◌+◌, Bool, true, false, cond, Option, Some, None, List, [], ◌∷◌, ◌++◌, ap, arith, drop, length, nat_cmp, nat_eq, not, ◌&&◌, refl, slice_get, sym, take}
 use Rattle.std.specs.List.{AllByRecursion, cons_option}
 use Rattle.std.specs.Ordering.{eq_by_cmp}
 use Rattle.cube_defs.specs.Cell.{Cell, with_value}
@@ -14,7 +14,7 @@ use Rattle.cube_laws.proofs.RowTotals.{aggs_add, cells_add}
 use Rattle.cube_laws.proofs.Totals.{IsAddition, total_nothing}
 use Rattle.batch_delete.specs.declared.parts.Rest.{Rest}
 use Rattle.batch_delete.specs.Rests.{Deletion, IsRest, IsTotal, other_values, rows_after, rows_before}
-use Rattle.batch_delete.proofs.Counted.{counted, counted_at, counted_join, counted_total, part_agg, sum_of}
+use Rattle.batch_delete.proofs.Counted.{counted, counted_at, counted_join, counted_total, sum_of}
 use Rattle.batch_delete.proofs.Labelled.{law}
 use Rattle.batch_delete.proofs.Planning.{no_rows}
 use Rattle.batch_delete.proofs.Totalled.{unit_behind}
@@ -68,7 +68,7 @@ module _ (d : Deletion) (u : Cell ℕ) (i v : ℕ) (any : slice_get u i ≡ Some
       let shared = total_append (join_cells (eq_by_cmp nat_cmp)) None (cells_add law) cells_of vs ws in
       let here : rest.agg.count ≡ counted (total join_aggs None aggs_of vs) = ap counted had.aggs in
       let sum : length (cov (eq_by_cmp nat_cmp) (rows_after d) u) ≡ counted (total join_aggs None aggs_of vs) + counted (total join_aggs None aggs_of ws) =
-          sym (counted_at d.measures (rows_after d) u) ∙ ap counted (aggs ∙ parts) ∙ counted_join (total join_aggs None aggs_of vs) (total join_aggs None aggs_of ws) in
+      sym (counted_at d.measures (rows_after d) u) ∙ ap counted (aggs ∙ parts) ∙ counted_join (total join_aggs None aggs_of vs) (total join_aggs None aggs_of ws) in
       let others = counted_total aggs_of ws in
       let none : sum_of (λ x. counted (aggs_of x)) ws ≡ 0 = omega arith in
       let no_aggs = total_nothing join_aggs None aggs_add aggs_of ws (all_none aggs_of (λ x. aggs_of x ≡ None) no_agg ws none) in

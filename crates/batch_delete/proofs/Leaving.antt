@@ -1,12 +1,12 @@
 -- What a class comes to without the row: its other tuples' rows, and the tuple's that stay.
-use Rattle.std.proofs.Common.{◌≡◌, ◌≢◌, ◌∙◌, ℕ, suc, ◌+◌, ◌*◌, ◌<◌, ◌≤◌, Bool, true, false, cond, not, Option, Some, None, List, [], ◌∷◌, ◌++◌, ap, ap₂, arith, filter, length, nat_cmp, refl, subst, sym}
+use Rattle.std.proofs.Common.{◌≡◌, ◌∙◌, ℕ, ◌+◌, ◌<◌, ◌≤◌, Bool, true, false, cond, not, Option, Some, None, List, [], ◌∷◌, ◌++◌, ap, ap₂, arith, filter, length, nat_cmp, refl, subst, sym}
 use Rattle.std.proofs.lemmas.Bool.{cond-true}
 use Rattle.std.proofs.lemmas.List.FromFn.{length-map-range_with_len}
 use Rattle.std.specs.Ordering.{eq_by_cmp}
 use Rattle.std.specs.Option.{option_map}
 use Rattle.aggregates.specs.declared.agg.Agg as counts
 use Rattle.aggregates.specs.Views.{agg_in}
-use Rattle.cube_defs.specs.Cell.{Cell, cell_of, keep, leq}
+use Rattle.cube_defs.specs.Cell.{Cell, cell_of, leq}
 use Rattle.cube_defs.specs.Rows.{Agg, Row, closure, cov, covers}
 use Rattle.cube_defs.specs.Tree.{Tree, cell_at}
 use Rattle.cube_laws.specs.Total.{agg_at, agg_some, combine, join_aggs, total}

@@ -2,10 +2,10 @@
 use Rattle.std.proofs.Common.{◌≡◌, ◌∙◌, ℕ, ℤ, ◌-ℤ◌, false, true, true≢false, zero, suc, ◌<◌, ◌≤◌, List, [], ◌∷◌, ap, ap₂, arith, length, map, refl, slice_index_or, sym, take}
 use Rattle.std.specs.Int.Signed.{le_z}
 use Rattle.aggregates.specs.Bounds.{zero_part}
-use Rattle.aggregates.specs.Views.{agg_in, part_in}
+use Rattle.aggregates.specs.Views.{part_in}
 use Rattle.aggregates.specs.declared.agg.Part.{Part}
 use Rattle.cube_defs.specs.Rows as defs
-use Rattle.cube_laws.specs.Total.{combine, combine_part, combine_parts}
+use Rattle.cube_laws.specs.Total.{combine_part, combine_parts}
 use Rattle.cube_laws.proofs.OneRow.{greatest_left, least_left, sum_left}
 
 abbrev pub at : List Part → ℕ → Part

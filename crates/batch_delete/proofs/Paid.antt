@@ -1,5 +1,5 @@
 -- What the labels of a class's front cost: the one with the row's own value is not looked up.
-use Rattle.std.proofs.Common.{◌≡◌, ◌∙◌, ℕ, zero, suc, ◌+◌, ◌*◌, ◌≤◌, true, Some, None, ap, arith, inl, length, nat_cmp, refl, slice_get, subst, sym}
+use Rattle.std.proofs.Common.{◌≡◌, ℕ, zero, suc, ◌+◌, ◌*◌, ◌≤◌, true, Some, None, arith, inl, length, nat_cmp, refl, slice_get, subst}
 use Rattle.std.specs.Ordering.{eq_by_cmp}
 use Rattle.cube_defs.specs.Cell.{Cell, keep}
 use Rattle.cube_defs.specs.Rows.{closure, covers}

@@ -1,5 +1,5 @@
 -- A class stays as a row goes, where what some of its parts share has no new value but the row's own.
-use Rattle.std.proofs.Common.{◌≡◌, ◌≢◌, ◌∙◌, ℕ, suc, ◌+◌, ◌*◌, ◌<◌, ◌≤◌, Bool, true, false, cond, Option, Some, None, List, [], ◌∷◌, ap, arith, length, nat_cmp, nat_eq, refl, slice_get, subst, sym, true≢false}
+use Rattle.std.proofs.Common.{◌≡◌, ◌∙◌, ℕ, Bool, true, false, cond, Option, Some, None, List, [], ◌∷◌, ap, length, nat_cmp, refl, slice_get, subst, sym, true≢false}
 use Rattle.std.proofs.lemmas.Bool.{cond-false, cond-true}
 use Rattle.std.specs.Ordering.{eq_by_cmp}
 use Rattle.cube_defs.specs.Cell.{Cell, leq, meet, with_value}
@@ -18,7 +18,7 @@ use Rattle.cube_laws.proofs.Witness.{own_is_gone}
 use Rattle.tree_laws.proofs.Lists.{some_same}
 use Rattle.tree_search.specs.Found.{IsFrom}
 use Rattle.batch_delete.specs.declared.parts.Rest.{Rest}
-use Rattle.batch_delete.specs.Rests.{Deletion, IsAbove, IsTotal, rows_after, rows_before, shared_of, source_before}
+use Rattle.batch_delete.specs.Rests.{Deletion, IsAbove, IsTotal, rows_after, rows_before, source_before}
 use Rattle.batch_delete.proofs.Labelled.{law}
 
 module _ (d : Deletion) (u : Cell ℕ) (i v : ℕ) (any : slice_get u i ≡ Some None) (has : slice_get d.r.tuple i ≡ Some v) (below : covers (eq_by_cmp nat_cmp) u d.r ≡ true)
@@ -66,6 +66,6 @@ class_stays dims tree d h u s long below own above settled =
     let w = above.0 in
     let wide : length w ≡ dims = closure_length (eq_by_cmp nat_cmp) dims u w (rows_after d) (all-insert (λ row. length row.tuple ≡ dims) d.xs d.r d.ys h.wide).0 above.1 in
     let same : u ≡ w = no_new law u w (closure_grows law d.xs d.r d.ys u u w own above.1) (long ∙ sym wide) (λ k v any has.
-        let there : slice_get s k ≡ Some (Some v) = leq_entry law k v w s above.2 has in
-        true≢false (sym (has_same law k v d.r (settled k v any there)) ∙ own_is_gone law d.xs d.r d.ys u w k v own any below above.1 has)) in
+    let there : slice_get s k ≡ Some (Some v) = leq_entry law k v w s above.2 has in
+    true≢false (sym (has_same law k v d.r (settled k v any there)) ∙ own_is_gone law d.xs d.r d.ys u w k v own any below above.1 has)) in
     above.1 ∙ ap (λ c. Some c) (sym same)

@@ -301,9 +301,7 @@ pub(crate) fn class_after<L: Ledger>(
     ensures steps { (list : List Below) → AreBelow arena.now.now tuple.now (length tuple.now) list → steps.new ≤ steps.old + ((3 * length cell.now + 4) + (4 * length cell.now + 6) * front_labels arena.now.now list cell.now (last_any_of cell.now)) }
 {
     match last_any(cell) {
-        Some(dim) => all_parts(
-            arena, tuple, last, twins, plan, cell, node, dim, steps,
-        ),
+        Some(dim) => all_parts(arena, tuple, last, twins, plan, cell, node, dim, steps),
         None => match twins {
             None => None,
             Some(agg) => Some(Rest {

@@ -1,4 +1,4 @@
-use Rattle.std.proofs.Common.{◌≡◌, ◌∙◌, ◌+◌, ◌-◌, List, ap, ap₂, arith, map, sym, take}
+use Rattle.std.proofs.Common.{◌≡◌, ◌∙◌, ◌+◌, ◌-◌, ap, ap₂, arith, map, sym, take}
 use Rattle.aggregates.specs.Views.{part_in}
 use Rattle.cube_defs.specs.Rows as defs
 use Rattle.cube_laws.specs.Total.{combine_parts}

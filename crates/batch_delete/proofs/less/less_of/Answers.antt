@@ -1,4 +1,4 @@
-use Rattle.std.proofs.Common.{◌≡◌, ◌∙◌, ◌≤◌, ◌+◌, Some, ap, arith, length, nat_cmp, subst, sym, true}
+use Rattle.std.proofs.Common.{◌≡◌, ◌∙◌, Some, ap, arith, nat_cmp, subst, sym, true}
 use Rattle.std.specs.Option.{option_map}
 use Rattle.std.specs.Ordering.{eq_by_cmp}
 use Rattle.aggregates.specs.declared.agg.Agg.{Agg}
@@ -25,8 +25,8 @@ with_twins-requires-clause-few g c =
     let is = left g.d c.args.cell.now c.args.tuple.now up (tuple_closes g.d c.args.tuple.now c.requires.0).0 c.in-Some.whole c.in-Some-gone.gone c.in-Some-besides.others e f c.in-Some-besides.ensures.more c.in-Some-besides.ensures.rest in
     let few = c.requires.1.1.1.1.1 in
     if_some _ c.args.twins (λ (agg : Agg) some.
-        let both = few_both g.d c.args.cell.now (agg_in agg) (agg_in c.in-Some-besides.others) _ (sym c.requires.1.1.0 ∙ ap (option_map agg_in) some) is.1 in
-        omega arith)
+    let both = few_both g.d c.args.cell.now (agg_in agg) (agg_in c.in-Some-besides.others) _ (sym c.requires.1.1.0 ∙ ap (option_map agg_in) some) is.1 in
+    omega arith)
 
 pub returns-in-Some-besides : goal.returns-in-Some-besides
 returns-in-Some-besides g c =

@@ -1,4 +1,4 @@
-use Rattle.std.proofs.Common.{◌≡◌, ◌∙◌, ◌+◌, ℕ, Some, ap, arith, length, nat_cmp, slice_get, subst, sym}
+use Rattle.std.proofs.Common.{◌≡◌, ◌∙◌, ℕ, Some, ap, arith, length, nat_cmp, slice_get, subst, sym}
 use Rattle.std.specs.Option.{option_map}
 use Rattle.std.specs.Ordering.{eq_by_cmp}
 use Rattle.aggregates.specs.Views.{agg_in}
@@ -22,7 +22,7 @@ returns-then-is_settled g c =
     let above = some_of _ c.args.some.now c.in-Some.rest c.in-Some.is c.requires.1.1.1.1.1.1.1.0 in
     let agg = some_of _ c.args.less c.in-Some-less.agg c.in-Some-less.is c.requires.1.1.1.1.1.1.1.1.1.1 in
     let stays = class_stays a.width a.now g.d c.requires.0 u c.in-Some.rest.shared c.requires.1.0 c.requires.1.1.1.1.0 c.requires.1.1.1.1.1.0 above (λ k v any has.
-        (slice_get-cell_of g.d.r.tuple k v).0 (ap (λ (c : Cell ℕ). slice_get c k) (sym c.requires.1.1.1.0) ∙ c.is_settled.ensures c.if-is_settled.true k v any has)) in
+    (slice_get-cell_of g.d.r.tuple k v).0 (ap (λ (c : Cell ℕ). slice_get c k) (sym c.requires.1.1.1.0) ∙ c.is_settled.ensures c.if-is_settled.true k v any has)) in
     record { rest = record { cells = ap (λ c. Some c) c.copy-then-is_settled.ensures.value ∙ sym stays; aggs = agg } }
 
 pub returns-then-are_all : goal.returns-then-are_all
