@@ -17,6 +17,9 @@ use cube_defs::MAX_ROWS;
 use qc_arena::{Nodes, QcArena};
 use std::sync::ledger::Ledger;
 
+// The largest magnitude that an amount may have.
+const LARGEST_AMOUNT: u64 = 999_999_999_999;
+
 // One measure of some rows without others of them, where these have neither its least amount nor its
 // greatest. None too where the sum is too large for so many rows.
 fn part_besides(whole: &Part, part: &Part, count: u32) -> Option<Part>
@@ -30,7 +33,7 @@ fn part_besides(whole: &Part, part: &Part, count: u32) -> Option<Part>
         return None;
     }
     let sum = whole.sum - part.sum;
-    if sum.unsigned_abs() > count as u64 * 999999999999 {
+    if sum.unsigned_abs() > count as u64 * LARGEST_AMOUNT {
         return None;
     }
     Some(Part {

@@ -190,8 +190,8 @@ fn with_label<L: Ledger>(
     with_part(arena, cell, dim, label.1, rest, steps)
 }
 
-// The rest of a class, from that of the rows with the tuple's value in the dimension and those of the
-// labels with another value: of all of them, or of the first few, where these tell that the class stays.
+// The rest of a class: that of its rows with the tuple's value in the dimension, put together with the
+// rows of one label after another with another value, until these tell what all come to.
 fn with_labels<L: Ledger>(
     arena: &QcArena,
     tuple: &Cell,

@@ -206,6 +206,7 @@ pub(crate) fn plan_all<L: Ledger>(
     let mut plan = IndexMap::new(alloc);
     'nodes: for k in 0..list.len() {
         let below = &list[list.len() - 1 - k];
+        // The last node is that of the tuple itself.
         let last = list[list.len() - 1].node;
         let fate = fate_of(arena, tuple, last, twins, &plan, below, steps);
         add_fate(&mut plan, below.node, fate)?;
