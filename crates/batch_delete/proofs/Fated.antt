@@ -1,0 +1,106 @@
+-- The nodes of the list are planned for one after another, from the last one on.
+use Rattle.std.proofs.Common.{◌≡◌, ◌≢◌, ◌∙◌, ℕ, zero, suc, ◌+◌, ◌*◌, ◌<◌, ◌≤◌, Bool, true, false, Some, List, [], ◌∷◌, ap, arith, drop, inl, inr, length, ltb-false, ltb-true, nat_cmp, nat_eq, nat_lt, refl, slice_get, subst, sym, true≢false}
+use Rattle.std.proofs.lemmas.Bool.Decides.{eqb_tells}
+use Rattle.std.proofs.lemmas.List.Sums.{sum_by-cons}
+use Rattle.std.specs.Option.{option_map}
+use Rattle.std.specs.Ordering.{eq_by_cmp}
+use Rattle.cube_defs.specs.Cell.{Cell, cell_of, depth, keep, leq}
+use Rattle.cube_defs.specs.Rows.{closure}
+use Rattle.cube_defs.specs.Tree.{Tree, cell_at}
+use Rattle.cube_laws.proofs.Cells.{depth-le, leq_refl, nat_equality}
+use Rattle.qc_arena.specs.Seen.{number}
+use Rattle.tree_laws.proofs.Lists.{some_same}
+use Rattle.tree_search.specs.Found.{IsFrom, Names}
+use Rattle.batch_delete.specs.declared.below.Below.{Below}
+use Rattle.batch_delete.specs.declared.plan.Fate.{Fate}
+use Rattle.batch_delete.specs.Below.{AreBelow}
+use Rattle.batch_delete.specs.Plan.{after_in, front_labels, heir_in, last_any_of, planning}
+use Rattle.batch_delete.specs.Rests.{ArePlanned, Deletion, IsRest, rows_after, source_before}
+use Rattle.batch_delete.proofs.Childs.{cell_wide}
+use Rattle.batch_delete.proofs.Growing.{item_within}
+use Rattle.batch_delete.proofs.Leaving.{class_there, tuple_closes}
+
+module _ (dims : ℕ) (tree : Tree ℕ) (d : Deletion) (h : IsFrom dims tree (source_before d)) (tuple : Cell ℕ) (wide : length tuple ≡ dims) (list : List Below) (are : AreBelow tree tuple (length tuple) list) where
+  pub none_planned : (plan : List (ℕ × Fate)) (k : ℕ) → length list ≤ k → ArePlanned d tree plan list k
+  none_planned plan k past j b l at = absurd (let w = item_within list j b at in omega arith)
+
+  module _ (k : ℕ) (b : Below) (at : slice_get list k ≡ Some b) (plan : List (ℕ × Fate)) (had : ArePlanned d tree plan list (suc k)) where
+    -- a greater node stands behind
+    pub greater_planned : (q : ℕ) (w : Cell ℕ) → cell_at tree q ≡ Some w → leq nat_eq w tuple ≡ true → leq nat_eq b.cell w ≡ true → leq nat_eq w b.cell ≡ false → IsRest d.measures (rows_after d) w (after_in plan q)
+    greater_planned q w there low above apart =
+        let f = are.all q w there low (omega (arith, depth-le w, cell_wide dims tree (source_before d) h q w there, wide)) in
+        let cell : f.1.cell ≡ w = some_same (sym (are.cells f.0 f.1 f.2) ∙ ap (cell_at tree) f.3 ∙ there) in
+        let rest = (had f.0 f.1 (behind f.0 f.1 w f.2 cell above apart (nat_lt f.0 k) refl) f.2).after in
+        subst (λ q. IsRest d.measures (rows_after d) w (after_in plan q)) f.3 (subst (λ c. IsRest d.measures (rows_after d) c (after_in plan f.1.node.0)) cell rest)
+      where
+        behind : (j : ℕ) (c : Below) (w : Cell ℕ) → slice_get list j ≡ Some c → c.cell ≡ w → leq nat_eq b.cell w ≡ true → leq nat_eq w b.cell ≡ false → (t : Bool) → nat_lt j k ≡ t → suc k ≤ j
+        behind j c w e same above apart true t = absurd (true≢false (sym above ∙ ap (leq nat_eq b.cell) (sym same) ∙ are.order j k c b (ltb-true _ _ t) e at))
+        behind j c w e same above apart false t = elim (eqb_tells j k) [
+          | inl i ↦
+              let is : c ≡ b = some_same (sym e ∙ ap (slice_get list) i.1 ∙ at) in
+              absurd (true≢false (sym (ap (λ x. leq nat_eq x b.cell) (sym same ∙ ap (λ (x : Below). x.cell) is) ∙ leq_refl nat_equality b.cell) ∙ apart))
+          | inr i ↦ let past : k ≤ j = ltb-false _ _ t in omega (arith, i.1)
+        ]
+
+    other_node : (j : ℕ) (c : Below) → k < j → slice_get list j ≡ Some c → c.node.0 ≢ b.node.0
+    other_node j c l e same =
+        let cell : c.cell ≡ b.cell = some_same (sym (are.cells j c e) ∙ ap (cell_at tree) same ∙ are.cells k b at) in
+        true≢false (sym (ap (λ x. leq nat_eq x b.cell) cell ∙ leq_refl nat_equality b.cell) ∙ are.order k j b c l at e)
+
+    -- one node more
+    pub planned_more : (new : List (ℕ × Fate)) (fate : Fate) → IsRest d.measures (rows_after d) b.cell fate.after
+        → Names tree (option_map number fate.heir) (option_map (keep (depth b.cell)) (closure (eq_by_cmp nat_cmp) (rows_after d) b.cell))
+        → after_in new b.node.0 ≡ fate.after → heir_in new b.node.0 ≡ option_map number fate.heir
+        → ((q : ℕ) → q ≢ b.node.0 → after_in new q ≡ after_in plan q) → ((q : ℕ) → q ≢ b.node.0 → heir_in new q ≡ heir_in plan q) → ArePlanned d tree new list k
+    planned_more new fate after heir here named others heirs j c l e = elim (eqb_tells j k) [
+      | inl i ↦
+          let is : b ≡ c = some_same (sym at ∙ ap (slice_get list) (sym i.1) ∙ e) in
+          record {
+            after = subst (λ (c : Below). IsRest d.measures (rows_after d) c.cell (after_in new c.node.0)) is (subst (IsRest d.measures (rows_after d) b.cell) (sym here) after);
+            heir =
+                subst (λ (c : Below). Names tree (heir_in new c.node.0) (option_map (keep (depth c.cell)) (closure (eq_by_cmp nat_cmp) (rows_after d) c.cell))) is
+                (subst (λ o. Names tree o (option_map (keep (depth b.cell)) (closure (eq_by_cmp nat_cmp) (rows_after d) b.cell))) (sym named) heir);
+          }
+      | inr i ↦
+          let less : k < j = omega (arith, i.1) in
+          let was = had j c less e in
+          let apart = other_node j c less e in
+          record {
+            after = subst (IsRest d.measures (rows_after d) c.cell) (sym (others c.node.0 apart)) was.after;
+            heir = subst (λ o. Names tree o (option_map (keep (depth c.cell)) (closure (eq_by_cmp nat_cmp) (rows_after d) c.cell))) (sym (heirs c.node.0 apart)) was.heir;
+          }
+    ]
+
+pub planning_more : (dims : ℕ) (tree : Tree ℕ) (list some : List Below) (k : ℕ) (b : Below) → slice_get some k ≡ Some b
+    → planning dims tree list (drop k some) ≡ (4 * dims + 6) * (1 + front_labels tree list b.cell (last_any_of b.cell)) + planning dims tree list (drop (suc k) some)
+planning_more dims tree list [] k b at = cc
+planning_more dims tree list (x ∷ some) zero b at =
+    sum_by-cons (λ (b : Below). (4 * dims + 6) * (1 + front_labels tree list b.cell (last_any_of b.cell))) x some
+    ∙ ap (λ (b : Below). (4 * dims + 6) * (1 + front_labels tree list b.cell (last_any_of b.cell)) + planning dims tree list some) (some_same at)
+planning_more dims tree list (x ∷ some) (suc k) b at = planning_more dims tree list some k b at
+
+pub planning_part : (dims : ℕ) (tree : Tree ℕ) (list some : List Below) (k : ℕ) → planning dims tree list (drop k some) ≤ planning dims tree list some
+planning_part dims tree list some zero = omega arith
+planning_part dims tree list [] (suc k) = omega arith
+planning_part dims tree list (x ∷ some) (suc k) =
+    let first = sum_by-cons (λ (b : Below). (4 * dims + 6) * (1 + front_labels tree list b.cell (last_any_of b.cell))) x some in
+    let more = planning_part dims tree list some k in
+    omega arith
+
+-- the last node of the list is the tuple's
+pub last_is : (dims : ℕ) (tree : Tree ℕ) (d : Deletion) (h : IsFrom dims tree (source_before d)) (tuple : Cell ℕ) → length tuple ≡ dims → tuple ≡ cell_of d.r.tuple → (list : List Below) → AreBelow tree tuple (length tuple) list
+    → (k : ℕ) (b : Below) → slice_get list k ≡ Some b → length list ≤ suc k → cell_at tree b.node.0 ≡ Some tuple
+last_is dims tree d h tuple wide row list are k b at past =
+    let t = tuple_closes d tuple row in
+    let q = class_there dims tree d h tuple wide row tuple wide t.0 t.1 in
+    let f = are.all q.0 tuple q.1 (leq_refl nat_equality tuple) (depth-le tuple) in
+    let cell : f.1.cell ≡ tuple = some_same (sym (are.cells f.0 f.1 f.2) ∙ ap (cell_at tree) f.3 ∙ q.1) in
+    are.cells k b at ∙ ap (λ c. Some c) (by f.0 f.1 f.2 cell (nat_lt f.0 k) refl)
+  where
+    by : (j : ℕ) (c : Below) → slice_get list j ≡ Some c → c.cell ≡ tuple → (t : Bool) → nat_lt j k ≡ t → b.cell ≡ tuple
+    by j c e same true t = absurd (true≢false (sym (are.below k b at) ∙ ap (leq nat_eq b.cell) (sym same) ∙ are.order j k c b (ltb-true _ _ t) e at))
+    by j c e same false t =
+        let low : k ≤ j = ltb-false _ _ t in
+        let within = item_within list j c e in
+        let is : j ≡ k = omega arith in
+        ap (λ (x : Below). x.cell) (some_same (sym at ∙ ap (slice_get list) (sym is) ∙ e)) ∙ same

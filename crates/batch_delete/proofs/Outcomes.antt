@@ -1,0 +1,265 @@
+-- Which nodes below the tuple stay, and what they need so that their records can be mended.
+use Rattle.std.proofs.Common.{◌≡◌, ◌≢◌, ◌↔◌, ◌∙◌, inl, inr, ℕ, zero, suc, ◌<◌, ◌≤◌, Bool, true, false, Option, Some, None, List, [], ◌∷◌, length, slice_get, get_or, nat_eq, nat_cmp, is_some, refl, sym, ap, subst, arith, eqb-true, eq-eqb, true≢false}
+use Rattle.std.proofs.lemmas.Bool.{and_parts, cond-true, cond-false, false_from_ne_true}
+use Rattle.std.specs.FinMap as fin
+use Rattle.std.specs.Map.{lookup}
+use Rattle.std.specs.Option.{option_and_then, option_map}
+use Rattle.std.specs.Ordering.{eq_by_cmp}
+use Rattle.std.specs.Prelude.{IsSome, if◌then◌else◌}
+use Rattle.cell_core.specs.declared.cell.NodeNo.{NodeNo}
+use Rattle.cube_defs.specs.Cell.{Cell, cell_of, depth, entry_leq, keep, leq}
+use Rattle.cube_defs.specs.Rows.{closure, covers, is_node}
+use Rattle.cube_defs.specs.Tree.{Edge, Tree, cell_at}
+use Rattle.cube_laws.specs.Lists.{Among}
+use Rattle.cube_laws.proofs.Cells.{depth-le, leq_refl, keep-leq, meet_right, nat_equality}
+use Rattle.cube_laws.proofs.Covered.{closure_length}
+use Rattle.cube_laws.proofs.Lists.{all-insert}
+use Rattle.cube_laws.proofs.Nodes.{class_fronts, is_node-is}
+use Rattle.cube_laws.proofs.Closures.{closure_idem, is_class-is}
+use Rattle.qc_arena.specs.Map.{Known}
+use Rattle.qc_arena.specs.Seen.{number, record_at}
+use Rattle.qc_arena.proofs.Halving.{eq_cmp}
+use Rattle.tree_laws.specs.Labels.{lead, moved}
+use Rattle.tree_laws.proofs.Leads.{lead_own}
+use Rattle.tree_laws.proofs.Lists.{some_same}
+use Rattle.tree_search.specs.Found.{IsFrom}
+use Rattle.tree_search.proofs.Walked.{there}
+use Rattle.batch_delete.specs.declared.below.Below.{Below}
+use Rattle.batch_delete.specs.declared.parts.Rest.{Rest}
+use Rattle.batch_delete.specs.declared.plan.Fate.{Fate}
+use Rattle.batch_delete.specs.Below.{AreBelow}
+use Rattle.batch_delete.specs.Plan.{AreReady, Stays, after_in, heir_in, if_own, is_left, is_value, led_to, next_entry, staying}
+use Rattle.batch_delete.specs.Rests.{ArePlanned, Deletion, IsPlanned, IsRest, rows_after, rows_before, shared_of, source_before}
+use Rattle.batch_delete.proofs.Childs.{cell_wide}
+use Rattle.batch_delete.proofs.Entries.{led_entry}
+use Rattle.batch_delete.proofs.Labelled.{closed_at, edge_label, law}
+
+-- both tests of codes are one
+pub leq_is : (c t : Cell ℕ) → leq (eq_by_cmp nat_cmp) c t ≡ leq nat_eq c t
+leq_is c t = ap (λ e. leq e c t) (λ i x y. eq_cmp x y i)
+
+-- a number that is its own heir stays with what is planned for it, and no other stays
+pub own_stays : (plan : List (ℕ × Fate)) (q : ℕ) → heir_in plan q ≡ Some q → staying plan q ≡ after_in plan q
+own_stays plan q h = go (lookup (nat_eq q) plan) h
+  where
+    by : (e : Option NodeNo) (after : Option Rest) → option_map number e ≡ Some q → if_own q e after ≡ after
+    by None after h = cc
+    by (Some m) after h = cond-true _ _ _ (eq-eqb m.0 q (some_same h))
+
+    go : (o : Option Fate) → option_and_then (λ fate. option_map number fate.heir) o ≡ Some q → option_and_then (λ fate. if_own q fate.heir fate.after) o ≡ option_and_then (λ fate. fate.after) o
+    go None h = refl
+    go (Some fate) h = by fate.heir fate.after h
+
+pub other_goes : (plan : List (ℕ × Fate)) (q : ℕ) → heir_in plan q ≢ Some q → staying plan q ≡ None
+other_goes plan q h = go (lookup (nat_eq q) plan) h
+  where
+    by : (e : Option NodeNo) (after : Option Rest) → option_map number e ≢ Some q → if_own q e after ≡ None
+    by None after h = refl
+    by (Some m) after h = cond-false _ _ _ (false_from_ne_true _ (λ k. h (ap (λ x. Some x) (eqb-true m.0 q k))))
+
+    go : (o : Option Fate) → option_and_then (λ fate. option_map number fate.heir) o ≢ Some q → option_and_then (λ fate. if_own q fate.heir fate.after) o ≡ None
+    go None h = refl
+    go (Some fate) h = by fate.heir fate.after h
+
+-- whether a value is that of the tuple, by the tuple's entry and by the row's value
+pub value_is : (t : List ℕ) (i v : ℕ) → is_value (get_or (cell_of t) i None) v ≡ true → slice_get t i ≡ Some v
+value_is [] i v h = absurd (true≢false (sym h))
+value_is (x ∷ t) zero v h = ap (λ y. Some y) (eqb-true x v h)
+value_is (x ∷ t) (suc i) v h = value_is t i v h
+
+pub value_isn't : (t : List ℕ) (i v : ℕ) → is_value (get_or (cell_of t) i None) v ≡ false → slice_get t i ≢ Some v
+value_isn't [] i v h e = cc
+value_isn't (x ∷ t) zero v h e = true≢false (sym (eq-eqb x v (some_same e)) ∙ h)
+value_isn't (x ∷ t) (suc i) v h e = value_isn't t i v h e
+
+module _ (width : ℕ) (tree : Tree ℕ) (tuple : Cell ℕ) (d : Deletion) (h : IsFrom width tree (source_before d)) (long : length tuple ≡ width) (is : tuple ≡ cell_of d.r.tuple) where
+  pub covered : (p : Cell ℕ) → leq nat_eq p tuple ≡ true → covers (eq_by_cmp nat_cmp) p d.r ≡ true
+  covered p low = ap (leq (eq_by_cmp nat_cmp) p) (sym is) ∙ leq_is p tuple ∙ low
+
+  pub covered_low : (p : Cell ℕ) → covers (eq_by_cmp nat_cmp) p d.r ≡ true → leq nat_eq p tuple ≡ true
+  covered_low p c = sym (leq_is p tuple) ∙ ap (leq (eq_by_cmp nat_cmp) p) is ∙ c
+
+  pub wide_after : (c w : Cell ℕ) → closure (eq_by_cmp nat_cmp) (rows_after d) c ≡ Some w → length w ≡ width
+  wide_after c w e = closure_length (eq_by_cmp nat_cmp) width c w (rows_after d) (all-insert (λ row. length row.tuple ≡ width) d.xs d.r d.ys h.wide).0 e
+
+  -- where an edge of a node below the tuple leads
+  module _ (k : ℕ) (p : Cell ℕ) (at : cell_at tree k ≡ Some p) (low : leq nat_eq p tuple ≡ true) (x : Edge ℕ ℕ) (m : Among x (record_at tree k).edges) where
+    pub edge_leads : (c : Cell ℕ) × (cell_at tree x.target ≡ Some c) × (depth p ≤ x.dim) × (x.dim < length p) × (lead (eq_by_cmp nat_cmp) (rows_before d) p x.dim x.value ≡ Some c)
+    edge_leads =
+        let u = closed_at width tree (source_before d) h k p at in
+        let l = edge_label width tree (source_before d) h k p at x m u.0 u.1 in
+        (l.0, l.1, l.2.place.behind, l.2.place.within, l.2.leads)
+
+    -- with the tuple's value to a node below it, and with no other
+    pub own_low : is_value (get_or tuple x.dim None) x.value ≡ true → leq nat_eq edge_leads.0 tuple ≡ true
+    own_low own =
+        let value = value_is d.r.tuple x.dim x.value (ap (λ c. is_value (get_or c x.dim None) x.value) (sym is) ∙ own) in
+        let same : Some edge_leads.0 ≡ Some (moved (eq_by_cmp nat_cmp) (lead (eq_by_cmp nat_cmp) (rows_after d) p x.dim x.value) (cell_of d.r.tuple) x.dim) =
+        sym edge_leads.4 ∙ lead_own law d.xs d.r d.ys p x.dim x.value (covered p low) edge_leads.2 edge_leads.3 value in
+        covered_low edge_leads.0 (subst (λ c. leq (eq_by_cmp nat_cmp) c (cell_of d.r.tuple) ≡ true) (sym (some_same same)) (by (lead (eq_by_cmp nat_cmp) (rows_after d) p x.dim x.value)))
+      where
+        by : (o : Option (Cell ℕ)) → leq (eq_by_cmp nat_cmp) (moved (eq_by_cmp nat_cmp) o (cell_of d.r.tuple) x.dim) (cell_of d.r.tuple) ≡ true
+        by None = keep-leq law (suc x.dim) (cell_of d.r.tuple)
+        by (Some c) = meet_right law c (cell_of d.r.tuple)
+
+    pub low_own : leq nat_eq edge_leads.0 tuple ≡ true → is_value (get_or tuple x.dim None) x.value ≡ true
+    low_own target = has edge_leads.0 tuple x.dim x.value target (led_entry law (rows_before d) p edge_leads.0 x.dim x.value edge_leads.2 edge_leads.3 edge_leads.4)
+      where
+        has : (c t : Cell ℕ) (i v : ℕ) → leq nat_eq c t ≡ true → slice_get c i ≡ Some (Some v) → is_value (get_or t i None) v ≡ true
+        has [] t i v l e = cc
+        has (f ∷ c) [] i v l e = absurd (true≢false (sym l))
+        has (Some a ∷ c) (Some b ∷ t) zero v l e =
+            let same : a ≡ v = some_same (some_same e) in
+            eq-eqb b v (sym (eqb-true a b (and_parts (nat_eq a b) (leq nat_eq c t) l).0) ∙ same)
+        has (Some a ∷ c) (None ∷ t) zero v l e = absurd (true≢false (sym l))
+        has (None ∷ c) (f ∷ t) zero v l e = cc
+        has (f ∷ c) (g ∷ t) (suc i) v l e = has c t i v (and_parts (entry_leq nat_eq f g) (leq nat_eq c t) l).1 e
+
+  module _ (plan : List (ℕ × Fate)) (list : List Below) (below : AreBelow tree tuple (length tuple) list) (planned : ArePlanned d tree plan list 0) where
+    -- a node below the tuple stands in the list
+    pub place : (q : ℕ) (c : Cell ℕ) → cell_at tree q ≡ Some c → leq nat_eq c tuple ≡ true → (k : ℕ) × (b : Below) × (slice_get list k ≡ Some b) × (b.node.0 ≡ q) × (b.cell ≡ c)
+    place q c at low =
+        let x = below.all q c at low (omega (arith, depth-le c, cell_wide width tree (source_before d) h q c at, long)) in
+        (x.0, x.1, x.2, x.3, some_same (sym (below.cells x.0 x.1 x.2) ∙ ap (cell_at tree) x.3 ∙ at))
+
+    -- what is planned for it
+    pub fate : (q : ℕ) (c : Cell ℕ) → cell_at tree q ≡ Some c → leq nat_eq c tuple ≡ true → IsPlanned d tree plan (record { node = record { 0 = q }; cell = c })
+    fate q c at low =
+        let x = place q c at low in
+        let p = planned x.0 x.1 (omega arith) x.2 in
+        subst (λ n. IsPlanned d tree plan (record { node = record { 0 = n }; cell = c })) x.3 (subst (λ y. IsPlanned d tree plan (record { node = record { 0 = x.1.node.0 }; cell = y })) x.4 (record { after = p.after; heir = p.heir }))
+
+    module _ (q : ℕ) (c : Cell ℕ) (at : cell_at tree q ≡ Some c) (low : leq nat_eq c tuple ≡ true) where
+      -- it is its own heir just where it is a node afterwards
+      pub own_heir : (heir_in plan q ≡ Some q) ↔ (is_node (eq_by_cmp nat_cmp) (rows_after d) c ≡ true)
+      own_heir =
+          let names = (fate q c at low).heir in
+          let node = is_node-is law (rows_after d) c in (
+            λ e. node.1 (named (option_map (keep (depth c)) (closure (eq_by_cmp nat_cmp) (rows_after d) c)) (sym names ∙ ap (option_map (cell_at tree)) e ∙ ap (λ x. Some x) at)),
+            λ k. back (heir_in plan q) (names ∙ ap (option_map (λ c. Some c)) (node.0 k)),
+          )
+        where
+          named : (o : Option (Cell ℕ)) → option_map (λ c. Some c) o ≡ Some (Some c) → o ≡ Some c
+          named None e = cc
+          named (Some x) e = some_same e
+
+          back : (o : Option ℕ) → option_map (cell_at tree) o ≡ Some (Some c) → o ≡ Some q
+          back None e = cc
+          back (Some j) e = ap (λ x. Some x) (h.canonical.once j q c (some_same e) at)
+
+      pub stays_if : is_node (eq_by_cmp nat_cmp) (rows_after d) c ≡ true → staying plan q ≡ after_in plan q
+      stays_if k = own_stays plan q (own_heir.1 k)
+
+      pub goes_if : is_node (eq_by_cmp nat_cmp) (rows_after d) c ≡ false → staying plan q ≡ None
+      goes_if k = other_goes plan q (λ e. true≢false (sym (own_heir.0 e) ∙ k))
+
+      -- where it is one, it stays with what its rows come to
+      pub staying_rest : is_node (eq_by_cmp nat_cmp) (rows_after d) c ≡ true → (rest : Rest) × (staying plan q ≡ Some rest) × IsRest d.measures (rows_after d) c (Some rest)
+      staying_rest k = go (after_in plan q) refl
+        where
+          some : option_map (keep (depth c)) (closure (eq_by_cmp nat_cmp) (rows_after d) c) ≡ Some c
+          some = (is_node-is law (rows_after d) c).0 k
+
+          go : (o : Option Rest) → after_in plan q ≡ o → (rest : Rest) × (staying plan q ≡ Some rest) × IsRest d.measures (rows_after d) c (Some rest)
+          go None e =
+              let gone : None ≡ closure (eq_by_cmp nat_cmp) (rows_after d) c = ap shared_of (sym e) ∙ (fate q c at low).after.cells in
+              let bad : None ≡ Some c = ap (option_map (keep (depth c))) gone ∙ some in cc
+          go (Some rest) e = (rest, stays_if k ∙ e, subst (IsRest d.measures (rows_after d) c) e (fate q c at low).after)
+
+      -- and what stays is a node afterwards
+      pub staying_node : (rest : Rest) → staying plan q ≡ Some rest → is_node (eq_by_cmp nat_cmp) (rows_after d) c ≡ true
+      staying_node rest e = go (is_node (eq_by_cmp nat_cmp) (rows_after d) c) refl
+        where
+          go : (b : Bool) → is_node (eq_by_cmp nat_cmp) (rows_after d) c ≡ b → is_node (eq_by_cmp nat_cmp) (rows_after d) c ≡ true
+          go true k = k
+          go false k = let bad : Some rest ≡ None = sym e ∙ goes_if k in cc
+
+      -- its heir, where there are rows left, is the front of what they share
+      pub heir_cell : (t : ℕ) → heir_in plan q ≡ Some t → (w : Cell ℕ) × (closure (eq_by_cmp nat_cmp) (rows_after d) c ≡ Some w) × (cell_at tree t ≡ Some (keep (depth c) w))
+      heir_cell t e = go (closure (eq_by_cmp nat_cmp) (rows_after d) c) refl
+        where
+          names : Some (cell_at tree t) ≡ option_map (λ x. Some x) (option_map (keep (depth c)) (closure (eq_by_cmp nat_cmp) (rows_after d) c))
+          names = ap (option_map (cell_at tree)) (sym e) ∙ (fate q c at low).heir
+
+          go : (o : Option (Cell ℕ)) → closure (eq_by_cmp nat_cmp) (rows_after d) c ≡ o → (w : Cell ℕ) × (closure (eq_by_cmp nat_cmp) (rows_after d) c ≡ Some w) × (cell_at tree t ≡ Some (keep (depth c) w))
+          go None k = let bad : Some (cell_at tree t) ≡ None = names ∙ ap (λ o. option_map (λ x. Some x) (option_map (keep (depth c)) o)) k in cc
+          go (Some w) k = (w, k, some_same (names ∙ ap (λ o. option_map (λ x. Some x) (option_map (keep (depth c)) o)) k))
+
+      pub heir_some : (w : Cell ℕ) → closure (eq_by_cmp nat_cmp) (rows_after d) c ≡ Some w → (t : ℕ) × (heir_in plan q ≡ Some t)
+      heir_some w k = go (heir_in plan q) refl
+        where
+          go : (o : Option ℕ) → heir_in plan q ≡ o → (t : ℕ) × (heir_in plan q ≡ Some t)
+          go None e = let bad : None ≡ Some (Some (keep (depth c) w)) = ap (option_map (cell_at tree)) (sym e) ∙ (fate q c at low).heir ∙ ap (λ o. option_map (λ x. Some x) (option_map (keep (depth c)) o)) k in cc
+          go (Some t) e = (t, e)
+
+    -- the front of what rows share is a node of these
+    pub front_node : (c w : Cell ℕ) (i : ℕ) → closure (eq_by_cmp nat_cmp) (rows_after d) c ≡ Some w → is_node (eq_by_cmp nat_cmp) (rows_after d) (keep i w) ≡ true
+    front_node c w i e = class_fronts law (rows_after d) i w ((is_class-is law (rows_after d) w).1 (closure_idem law (rows_after d) c w e))
+
+    -- a record of a node that isn't below the tuple stays, where only those of the list change
+    pub apart : (new : Tree ℕ) → ((q : ℕ) → ((k : ℕ) (b : Below) → slice_get list k ≡ Some b → b.node.0 ≢ q) → fin.get new q ≡ fin.get tree q)
+        → (q : ℕ) (n : Known) → fin.get tree q ≡ Some n → leq nat_eq n.cell tuple ≡ false → fin.get new q ≡ Some n
+    apart new others q n e off =
+        others q (λ k b at same.
+        let cell : b.cell ≡ n.cell = some_same (sym (below.cells k b at) ∙ ap (cell_at tree) same ∙ ap (option_map (λ (m : Known). m.cell)) e) in
+        true≢false (sym (below.below k b at) ∙ ap (λ c. leq nat_eq c tuple) cell ∙ off))
+        ∙ e
+
+    stays_node : (t : ℕ) (c : Cell ℕ) → cell_at tree t ≡ Some c → is_node (eq_by_cmp nat_cmp) (rows_after d) c ≡ true → Stays list plan t
+    stays_node t c at node k b e same =
+        let cell : b.cell ≡ c = some_same (sym (below.cells k b e) ∙ ap (cell_at tree) same ∙ at) in
+        let r = staying_rest t c at (subst (λ y. leq nat_eq y tuple ≡ true) cell (below.below k b e)) node in
+        ap is_some r.1
+
+    among_at : {X : Type 0} (xs : List X) (j : ℕ) (x : X) → slice_get xs j ≡ Some x → Among x xs
+    among_at [] j x e = cc
+    among_at (y ∷ xs) zero x e = inl (sym (some_same e))
+    among_at (y ∷ xs) (suc j) x e = inr (among_at xs j x e)
+
+    -- where an edge of a node that stays leads afterwards
+    target_stays : (k j t : ℕ) (b : Below) (next : Option (ℕ × ℕ)) (x : Edge ℕ ℕ) → slice_get list k ≡ Some b → slice_get (record_at tree b.node.0).edges j ≡ Some x
+        → led_to tuple (heir_in plan) next x ≡ Some t → IsSome (fin.get tree t) × Stays list plan t
+    target_stays k j t b next x e at led =
+        by_left (is_left next x.dim x.value) led
+      where
+        low : leq nat_eq b.cell tuple ≡ true
+        low = below.below k b e
+
+        m : Among x (record_at tree b.node.0).edges
+        m = among_at (record_at tree b.node.0).edges j x at
+
+        to : (c : Cell ℕ) × (cell_at tree x.target ≡ Some c) × (depth b.cell ≤ x.dim) × (x.dim < length b.cell) × (lead (eq_by_cmp nat_cmp) (rows_before d) b.cell x.dim x.value ≡ Some c)
+        to = edge_leads b.node.0 b.cell (below.cells k b e) low x m
+
+        by_own : (s : Bool) → is_value (get_or tuple x.dim None) x.value ≡ s → (if s then heir_in plan x.target else Some x.target) ≡ Some t → IsSome (fin.get tree t) × Stays list plan t
+        by_own true own l =
+            let w = heir_cell x.target to.0 to.1 (own_low b.node.0 b.cell (below.cells k b e) low x m own) t l in
+            (there tree t (keep (depth to.0) w.0) w.2, stays_node t (keep (depth to.0) w.0) w.2 (front_node to.0 w.0 (depth to.0) w.1))
+        by_own false own l =
+            let same : x.target ≡ t = some_same l in (
+              subst (λ n. IsSome (fin.get tree n)) same (there tree x.target to.0 to.1),
+              (λ i a f g.
+                  let cell : a.cell ≡ to.0 = some_same (sym (below.cells i a f) ∙ ap (cell_at tree) (g ∙ sym same) ∙ to.1) in
+                  absurd (true≢false (sym (low_own b.node.0 b.cell (below.cells k b e) low x m (subst (λ y. leq nat_eq y tuple ≡ true) cell (below.below i a f))) ∙ own))),
+            )
+
+        by_left : (s : Bool) → (if s then (if is_value (get_or tuple x.dim None) x.value then heir_in plan x.target else Some x.target) else None) ≡ Some t → IsSome (fin.get tree t) × Stays list plan t
+        by_left true l = by_own (is_value (get_or tuple x.dim None) x.value) refl l
+        by_left false l = cc
+
+    pub ready : AreReady width tree tuple plan list
+    ready = record {
+      there = λ k b e. there tree b.node.0 b.cell (below.cells k b e);
+      once = λ j k b c l e f same.
+          let cells : b.cell ≡ c.cell = some_same (sym (below.cells j b e) ∙ ap (cell_at tree) same ∙ below.cells k c f) in
+          true≢false (sym (leq_refl nat_equality b.cell) ∙ ap (λ y. leq nat_eq y b.cell) cells ∙ below.order j k b c l e f);
+      cells = λ k b e. cell_wide width tree (source_before d) h b.node.0 b.cell (below.cells k b e);
+      shared = λ k b rest e s.
+          let node = staying_node b.node.0 b.cell (below.cells k b e) (below.below k b e) rest s in
+          let r = staying_rest b.node.0 b.cell (below.cells k b e) (below.below k b e) node in
+          wide_after b.cell rest.shared (sym (subst (λ y. IsRest d.measures (rows_after d) b.cell (Some y)) (some_same (sym r.1 ∙ s)) r.2).cells);
+      dims = λ k j b x e at.
+          let to = edge_leads b.node.0 b.cell (below.cells k b e) (below.below k b e) x (among_at (record_at tree b.node.0).edges j x at) in
+          omega (arith, to.3, cell_wide width tree (source_before d) h b.node.0 b.cell (below.cells k b e));
+      targets = λ k j t b rest x e s at led. target_stays k j t b (next_entry (depth b.cell) rest.shared) x e at led;
+    }

@@ -1,0 +1,56 @@
+use Rattle.std.proofs.Common.{◌≡◌, ◌∙◌, OnOk, Ok, Err, ap, length, sym, subst}
+use Rattle.std.specs.FinMap as map
+use Rattle.std.specs.declared.result.Result.{Result}
+use Rattle.cube_defs.specs.Tree.{cell_at}
+use Rattle.qc_arena.specs.Map.{Arena}
+use Rattle.tree_search.specs.Found.{IsFrom, Source}
+use Rattle.batch_delete.specs.Below.{AreBelow}
+use Rattle.batch_delete.specs.Gone.{source_after}
+use Rattle.batch_delete.specs.Rests.{source_before}
+use Rattle.batch_delete.proofs.Outcomes.{apart, ready}
+use Rattle.batch_delete.proofs.Renewed.{comes, renewed, still}
+use Rattle.batch_delete.proofs.Summed.{all_steps}
+use Rattle.batch_delete.proofs.delete.delete_row.Goals as goal
+
+on_ok : {T E : Type 0} {A B : Type 0} (r : Result T E) → OnOk r A → (A → B) → OnOk r B
+on_ok (Ok x) h f = f h
+on_ok (Err e) h f = h
+
+-- the tree is the same once its nodes are touched
+still_from : (old new : Arena) (source : Source) → new.now ≡ old.now → new.width ≡ old.width → IsFrom old.width old.now source → IsFrom new.width new.now source
+still_from old new source now width h = subst (λ t. IsFrom new.width t source) (sym now) (subst (λ w. IsFrom w old.now source) (sym width) h)
+
+pub settle_all-requires-clause-ready : goal.settle_all-requires-clause-ready
+settle_all-requires-clause-ready g c =
+    let a = c.touch_all.new.arena in
+    let list = c.in-Ok.list.items in
+    let width = ap (λ (x : Arena). x.width) c.touch_all.ensures.frame in
+    let from = still_from c.args.arena.now a (source_before g.deletion) c.touch_all.ensures.now width c.requires.1.1.1.0 in
+    let below = subst (λ t. AreBelow t c.args.tuple.now (length c.args.tuple.now) list) (sym c.touch_all.ensures.now) c.in-Ok.ensures.below in
+    ready a.width a.now c.args.tuple.now g.deletion from (c.requires.1.1.0 ∙ sym width) c.requires.1.1.1.1.0 c.in-Ok-plan_all.plan.entries list below c.in-Ok-plan_all.ensures.planned
+
+pub returns : goal.returns
+returns g c =
+    let a = c.touch_all.new.arena in
+    let new = c.settle_all.new.arena.now in
+    let tuple = c.args.tuple.now in
+    let list = c.in-Ok.list.items in
+    let plan = c.in-Ok-plan_all.plan.entries in
+    let width = ap (λ (x : Arena). x.width) c.touch_all.ensures.frame in
+    let long = c.requires.1.1.0 ∙ sym width in
+    let row = c.requires.1.1.1.1.0 in
+    let from = still_from c.args.arena.now a (source_before g.deletion) c.touch_all.ensures.now width c.requires.1.1.1.0 in
+    let below = subst (λ t. AreBelow t tuple (length tuple) list) (sym c.touch_all.ensures.now) c.in-Ok.ensures.below in
+    let planned = c.in-Ok-plan_all.ensures.planned in
+    let others = c.settle_all.ensures.others in
+    record {
+      tree = on_ok c.settle_all.result c.settle_all.ensures.here (λ here. subst (λ w. IsFrom w new (source_after g.deletion)) width (renewed a.width a.now new tuple g.deletion from long row plan list below planned here others));
+      numbers = on_ok c.settle_all.result c.settle_all.ensures.here (λ here k x at node. still a.width a.now new tuple g.deletion from long row plan list below planned here others k x (ap (λ t. cell_at t k) c.touch_all.ensures.now ∙ at) node);
+      none_new = on_ok c.settle_all.result c.settle_all.ensures.here (λ here k x at. ap (λ t. cell_at t k) (sym c.touch_all.ensures.now) ∙ (comes a.width a.now new tuple g.deletion from long row plan list below planned here others k x at).0);
+      apart = λ k n at off. apart a.width a.now tuple g.deletion from long row plan list below planned new others k n (ap (λ t. map.get t k) c.touch_all.ensures.now ∙ at) off;
+      touched = on_ok c.settle_all.result c.settle_all.ensures.here (λ here k now was.
+          let x = c.in-Ok-touch_all.ensures.only k (sym (c.settle_all.ensures.touched k) ∙ now) was in
+          (x.1.cell, ap (cell_at c.args.arena.now.now) (sym x.3) ∙ c.in-Ok.ensures.below.cells x.0 x.1 x.2, c.in-Ok.ensures.below.below x.0 x.1 x.2));
+      frame = c.settle_all.ensures.frame ∙ c.touch_all.ensures.frame;
+      steps = on_ok c.settle_all.result c.settle_all.ensures.here (λ here. all_steps a.width a.now tuple g.deletion from long row list below c.args.steps.now c.collect.new.steps c.touch_all.new.steps c.plan_all.new.steps c.settle_all.new.steps c.in-Ok.ensures.steps c.touch_all.ensures.steps c.in-Ok-plan_all.ensures.steps c.settle_all.ensures.steps);
+    }

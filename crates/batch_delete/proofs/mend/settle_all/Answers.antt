@@ -1,0 +1,74 @@
+use Rattle.std.proofs.Common.{◌∙◌, ◌<◌, ◌+◌, Some, ap, arith, subst, sym}
+use Rattle.qc_arena.specs.Map.{Arena, is_open}
+use Rattle.batch_delete.proofs.Growing.{item_at, item_within}
+use Rattle.batch_delete.proofs.Settling.{done_more, edges_wide, led_there, others_all, others_more, same_long, settling_more, settling_taken, there_more}
+use Rattle.batch_delete.proofs.mend.settle_all.Goals as goal
+
+pub settle-requires-clause-dims : goal.settle-requires-clause-dims
+settle-requires-clause-dims g c =
+    let a = c.args.arena.now in
+    let xs = c.args.list.now.items in
+    let ends = c.len-k-end.ensures in
+    let test = c.nodes-test.true in
+    let at = item_at xs c.nodes.k c.index.result.now (omega arith) ∙ ap (λ b. Some b) (sym c.index.ensures) in
+    λ j x e. subst (λ w. x.dim < w) (sym c.nodes.invariant.width) (edges_wide a.width a.now c.args.tuple.now c.args.plan.now.entries xs c.requires.ready c.nodes.k c.index.result.now at c.nodes.arena.now c.nodes.invariant.others c.nodes.invariant.there j x e)
+
+pub settle-requires-clause-targets : goal.settle-requires-clause-targets
+settle-requires-clause-targets g c =
+    let a = c.args.arena.now in
+    let xs = c.args.list.now.items in
+    let ends = c.len-k-end.ensures in
+    let test = c.nodes-test.true in
+    let at = item_at xs c.nodes.k c.index.result.now (omega arith) ∙ ap (λ b. Some b) (sym c.index.ensures) in
+    led_there a.width a.now c.args.tuple.now c.args.plan.now.entries xs c.requires.ready c.nodes.k c.index.result.now at c.nodes.arena.now c.nodes.invariant.others c.nodes.invariant.there
+
+pub returns-in_err-settle-clause-others : goal.returns-in_err-settle-clause-others
+returns-in_err-settle-clause-others g c =
+    let a = c.args.arena.now in
+    let xs = c.args.list.now.items in
+    let ends = c.len-k-end.ensures in
+    let test = c.nodes-test.true in
+    let at = item_at xs c.nodes.k c.index.result.now (omega arith) ∙ ap (λ b. Some b) (sym c.index.ensures) in
+    others_all a.width a.now c.args.tuple.now c.args.plan.now.entries xs c.requires.ready c.nodes.k c.index.result.now at c.nodes.arena.now c.nodes.invariant.others c.nodes.invariant.there c.settle.new.arena.now c.settle.ensures.others
+
+pub returns-in_err-settle-clause-steps : goal.returns-in_err-settle-clause-steps
+returns-in_err-settle-clause-steps g c =
+    let a = c.args.arena.now in
+    let xs = c.args.list.now.items in
+    let ends = c.len-k-end.ensures in
+    let test = c.nodes-test.true in
+    let at = item_at xs c.nodes.k c.index.result.now (omega arith) ∙ ap (λ b. Some b) (sym c.index.ensures) in
+    let long = same_long a.width a.now c.args.tuple.now c.args.plan.now.entries xs c.requires.ready c.nodes.k c.index.result.now at c.nodes.arena.now c.nodes.invariant.others c.nodes.invariant.there in
+    let more = settling_more a.now xs c.nodes.k c.index.result.now at in
+    let all = settling_taken a.now xs (c.nodes.k + 1) in
+    let had = c.nodes.invariant.steps in
+    let took = c.settle.ensures.steps in
+    omega arith
+
+pub nodes-preserved : goal.nodes-preserved
+nodes-preserved g c =
+    let a = c.args.arena.now in
+    let xs = c.args.list.now.items in
+    let ends = c.len-k-end.ensures in
+    let test = c.nodes-test.true in
+    let at = item_at xs c.nodes.k c.index.result.now (omega arith) ∙ ap (λ b. Some b) (sym c.index.ensures) in
+    let long = same_long a.width a.now c.args.tuple.now c.args.plan.now.entries xs c.requires.ready c.nodes.k c.index.result.now at c.nodes.arena.now c.nodes.invariant.others c.nodes.invariant.there in
+    let more = settling_more a.now xs c.nodes.k c.index.result.now at in
+    let had = c.nodes.invariant.steps in
+    let took = c.settle.ensures.steps in
+    record {
+      done = done_more a.width a.now c.args.tuple.now c.args.plan.now.entries xs c.requires.ready c.nodes.k c.index.result.now at c.nodes.arena.now c.nodes.invariant.others c.nodes.invariant.there c.settle.new.arena.now c.settle.ensures.others c.in_ok-settle.ensures.here c.nodes.invariant.done;
+      others = others_more a.width a.now c.args.tuple.now c.args.plan.now.entries xs c.requires.ready c.nodes.k c.index.result.now at c.nodes.arena.now c.nodes.invariant.others c.nodes.invariant.there c.settle.new.arena.now c.settle.ensures.others;
+      there = there_more a.width a.now c.args.tuple.now c.args.plan.now.entries xs c.requires.ready c.nodes.k c.index.result.now at c.nodes.arena.now c.nodes.invariant.others c.nodes.invariant.there c.settle.new.arena.now c.settle.ensures.others c.in_ok-settle.ensures.here;
+      touched = λ q. c.settle.ensures.touched q ∙ c.nodes.invariant.touched q;
+      opened = ap is_open c.settle.ensures.frame ∙ c.nodes.invariant.opened;
+      width = ap (λ (a : Arena). a.width) c.settle.ensures.frame ∙ c.nodes.invariant.width;
+      frame = c.settle.ensures.frame ∙ c.nodes.invariant.frame;
+      steps = omega arith;
+    }
+
+pub returns-clause-here : goal.returns-clause-here
+returns-clause-here g c =
+    let ends = c.len-k-end.ensures in
+    let past = c.nodes-test.false in
+    λ k b e. let within = item_within c.args.list.now.items k b e in c.nodes.invariant.done k b (omega arith) e

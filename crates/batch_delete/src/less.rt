@@ -1,0 +1,132 @@
+// What rows come to without some of them, where that is told without a look at each.
+ghost use Rattle.std.specs.Option.{option_map};
+ghost use Rattle.std.specs.Ordering.{eq_by_cmp, nat_cmp};
+ghost use Rattle.std.specs.Prelude.{IfSome, Some, length, nat_abs, true, ℕ, ◌*◌, ◌+◌, ◌<◌, ◌^◌, ◌≡◌, ◌≤◌};
+ghost use Rattle.aggregates.specs.Bounds.{largest_amount};
+ghost use Rattle.aggregates.specs.Views.{agg_in, part_in};
+ghost use Rattle.cube_defs.specs.Cell.{cell_of};
+ghost use Rattle.cube_defs.specs.Rows as defs;
+ghost use Rattle.cube_defs.specs.Tree.{cell_at};
+ghost use Rattle.cube_laws.specs.Total.{agg_at, combine, combine_part, join_aggs};
+ghost use Rattle.tree_search.specs.Found.{IsFrom, closure_in};
+ghost use Rattle.batch_delete.specs.Rests.{Deletion, rows_after, rows_before, source_before};
+
+use aggregates::{Agg, Part};
+use cell_core::{Cell, NodeNo, Steps};
+use cube_defs::MAX_ROWS;
+use qc_arena::{Nodes, QcArena};
+use std::sync::ledger::Ledger;
+
+// The largest magnitude that an amount may have.
+const LARGEST_AMOUNT: u64 = 999_999_999_999;
+
+// One measure of some rows without others of them, where these have neither its least amount nor its
+// greatest. None too where the sum is too large for so many rows.
+fn part_besides(whole: &Part, part: &Part, count: u32) -> Option<Part>
+    requires whole { nat_abs whole.now.sum ≤ 10 ^ 18 }
+    requires part { nat_abs part.now.sum ≤ 10 ^ 18 }
+    requires count { count ≤ MAX_ROWS }
+    ensures rest { IfSome result (λ rest. (o : defs.Part) → combine_part (part_in part.now) o ≡ part_in whole.now → part_in rest ≡ o) }
+    ensures small { IfSome result (λ rest. nat_abs rest.sum ≤ count * largest_amount) }
+{
+    if whole.least >= part.least || whole.greatest <= part.greatest {
+        return None;
+    }
+    let sum = whole.sum - part.sum;
+    if sum.unsigned_abs() > count as u64 * LARGEST_AMOUNT {
+        return None;
+    }
+    Some(Part {
+        sum,
+        least: whole.least,
+        greatest: whole.greatest,
+    })
+}
+
+/// What some rows come to without others of them, where these have neither the least nor the greatest
+/// amount of any measure.
+pub(crate) fn besides(whole: &Agg, part: &Agg) -> Option<Agg>
+    ensures rest { IfSome result (λ rest. (o : defs.Agg) → length o.parts ≡ length (agg_in part.now).parts → combine (agg_in part.now) o ≡ agg_in whole.now → agg_in rest ≡ o) }
+    ensures measures { IfSome result (λ rest. rest.measures ≡ part.now.measures) }
+    ensures more { IfSome result (λ rest. part.now.count < whole.now.count) }
+{
+    if whole.measures != part.measures || whole.count <= part.count {
+        return None;
+    }
+    let count = whole.count - part.count;
+    let mut parts = whole.parts;
+    'parts: for k in 0..whole.measures as usize {
+        match part_besides(&whole.parts[k], &part.parts[k], count) {
+            None => return None,
+            Some(rest) => parts[k] = rest,
+        }
+    }
+    Some(Agg {
+        count,
+        measures: whole.measures,
+        parts,
+    })
+}
+
+// The rows of both.
+fn with_twins(twins: Option<Agg>, others: Agg) -> Agg
+    requires parts { IfSome twins (λ agg. length (agg_in others).parts ≡ length (agg_in agg).parts) }
+    requires few { IfSome twins (λ agg. agg.count + others.count ≤ MAX_ROWS) }
+    ensures { Some (agg_in result) ≡ join_aggs (option_map agg_in twins) (Some (agg_in others)) }
+{
+    match twins {
+        None => others,
+        Some(mut agg) => {
+            agg.combine(&others);
+            agg
+        }
+    }
+}
+
+/// What the rows of a class come to.
+pub(crate) fn class_at<L: Ledger>(
+    arena: &QcArena,
+    cell: &Cell,
+    node: NodeNo,
+    steps: &mut Steps<L>,
+) -> Option<Agg>
+    ghost d: { Deletion }
+    requires tree { IsFrom arena.now.width arena.now.now (source_before d) }
+    requires long { length cell.now ≡ arena.now.width }
+    requires node { cell_at arena.now.now node.0 ≡ Some cell.now }
+    requires own { closure_in (source_before d) cell.now ≡ Some cell.now }
+    ensures agg { option_map agg_in result ≡ agg_at (eq_by_cmp nat_cmp) d.measures (rows_before d) cell.now }
+    ensures steps { steps.new ≤ steps.old + 1 }
+{
+    arena.class(node, steps)
+}
+
+/// What the rows of a class come to without the row, where those of its tuple have neither the least
+/// nor the greatest amount of any measure among them.
+pub(crate) fn less_of(
+    tuple: &Cell,
+    twins: Option<Agg>,
+    gone: Option<Agg>,
+    cell: &Cell,
+    whole: Option<Agg>,
+) -> Option<Agg>
+    ghost d: { Deletion }
+    requires row { tuple.now ≡ cell_of d.r.tuple }
+    requires below { defs.covers (eq_by_cmp nat_cmp) cell.now d.r ≡ true }
+    requires twins { option_map agg_in twins ≡ agg_at (eq_by_cmp nat_cmp) d.measures (rows_after d) tuple.now }
+    requires gone { option_map agg_in gone ≡ agg_at (eq_by_cmp nat_cmp) d.measures (rows_before d) tuple.now }
+    requires whole { option_map agg_in whole ≡ agg_at (eq_by_cmp nat_cmp) d.measures (rows_before d) cell.now }
+    requires few { length (rows_before d) ≤ 1000000 }
+    ensures agg { IfSome result (λ agg. Some (agg_in agg) ≡ agg_at (eq_by_cmp nat_cmp) d.measures (rows_after d) cell.now) }
+{
+    match whole {
+        None => None,
+        Some(whole) => match gone {
+            None => None,
+            Some(gone) => match besides(&whole, &gone) {
+                None => None,
+                Some(others) => Some(with_twins(twins, others)),
+            },
+        },
+    }
+}

@@ -1,0 +1,278 @@
+// The new records of the nodes that stay.
+ghost use Rattle.std.specs.FinMap as map;
+ghost use Rattle.std.specs.Prelude.{IfSome, IsSome, OnOk, Some, length, slice_get, true, ℕ, ◌*◌, ◌+◌, ◌<◌, ◌≡◌, ◌≢◌, ◌≤◌};
+ghost use Rattle.aggregates.specs.Views.{agg_in};
+ghost use Rattle.cube_defs.specs.Cell.{depth};
+ghost use Rattle.batch_delete.specs.declared.below.Below.{Below};
+ghost use Rattle.qc_arena.specs.Map.{CanChange, frame, is_open, is_touched, with_forced};
+ghost use Rattle.cell_core.specs.Entry.{IsCode};
+ghost use Rattle.std.specs.Option.{option_and_then, option_map};
+ghost use Rattle.qc_arena.specs.Seen.{edge_of, number, record_at};
+ghost use Rattle.batch_delete.specs.Plan.{class_by, forced_by, heir_in, if_own, is_left, led_to, mended, next_entry, outcome, settling, staying, AreReady, with_led, with_mixed};
+
+use crate::Memory;
+use crate::below::Below;
+use crate::cells::{depth, has, next_value};
+use crate::parts::Rest;
+use crate::plan::{Fate, copied, heir_of};
+use aggregates::Agg;
+use cell_core::{Cell, Code, NodeNo, Steps, leq};
+use indexmap::IndexMap;
+use qc_arena::{Forced, Nodes, QcArena};
+use std::sync::ledger::Ledger;
+
+// Whether the label of an edge is left.
+fn is_left(next: Option<(u8, Code)>, dim: u8, code: Code) -> bool
+    ensures { result ≡ is_left next dim code }
+{
+    match next {
+        None => true,
+        Some((at, value)) => dim < at || dim == at && code == value,
+    }
+}
+
+/// Where an edge leads afterwards, if it is left: up to the dimension of the next value, and in it
+/// with this value alone.
+fn led(
+    tuple: &Cell,
+    plan: &IndexMap<u32, Fate>,
+    next: Option<(u8, Code)>,
+    edge: (u8, Code, NodeNo),
+) -> Option<NodeNo>
+    requires { edge.0 < length tuple.now }
+    ensures { option_map number result ≡ led_to tuple.now (heir_in plan.now.entries) next (record { dim = edge.0; value = edge.1; target = edge.2.0 }) }
+{
+    if !is_left(next, edge.0, edge.1) {
+        return None;
+    }
+    if has(tuple, edge.0, edge.1) {
+        heir_of(plan, edge.2)
+    } else {
+        Some(edge.2)
+    }
+}
+
+// Gives an edge another target, or takes it away.
+fn mend_edge<L: Ledger>(
+    arena: &mut QcArena,
+    node: NodeNo,
+    edge: (u8, Code, NodeNo),
+    to: Option<NodeNo>,
+    steps: &mut Steps<L>,
+) -> Result<(), Memory>
+    requires change { CanChange arena.old node.0 }
+    requires target { IfSome to (λ t. IsSome (map.get arena.old.now t.0)) }
+    requires dim { edge.0 < arena.old.width }
+    requires code { IsCode edge.1 }
+    ensures here { OnOk result (map.get arena.new.now node.0 ≡ option_map (with_led (record { dim = edge.0; value = edge.1; target = edge.2.0 }) (option_map number to)) (map.get arena.old.now node.0)) }
+    ensures others { (q : ℕ) → q ≢ node.0 → map.get arena.new.now q ≡ map.get arena.old.now q }
+    ensures touched { (q : ℕ) → is_touched arena.new q ≡ is_touched arena.old q }
+    ensures frame { frame arena.new ≡ frame arena.old }
+    ensures steps { steps.new ≤ steps.old + 1 }
+{
+    match to {
+        None => {
+            arena.drop_edge(node, edge.0, edge.1, steps);
+            Ok(())
+        }
+        Some(target) => {
+            if target.0 == edge.2.0 {
+                Ok(())
+            } else {
+                arena.set_edge(node, edge.0, edge.1, target, steps)
+            }
+        }
+    }
+}
+
+// Mends the edges of a node, the last one first.
+fn mend_edges<L: Ledger>(
+    arena: &mut QcArena,
+    tuple: &Cell,
+    plan: &IndexMap<u32, Fate>,
+    node: NodeNo,
+    next: Option<(u8, Code)>,
+    steps: &mut Steps<L>,
+) -> Result<(), Memory>
+    requires change { CanChange arena.old node.0 }
+    requires long { length tuple.now ≡ arena.old.width }
+    requires dims { (k : ℕ) (x : _) → slice_get (record_at arena.old.now node.0).edges k ≡ Some x → x.dim < arena.old.width }
+    requires targets { (k t : ℕ) (x : _) → slice_get (record_at arena.old.now node.0).edges k ≡ Some x → led_to tuple.now (heir_in plan.now.entries) next x ≡ Some t → IsSome (map.get arena.old.now t) }
+    ensures here { OnOk result (map.get arena.new.now node.0 ≡ option_map (with_mixed (led_to tuple.now (heir_in plan.now.entries) next) 0) (map.get arena.old.now node.0)) }
+    ensures others { (q : ℕ) → q ≢ node.0 → map.get arena.new.now q ≡ map.get arena.old.now q }
+    ensures touched { (q : ℕ) → is_touched arena.new q ≡ is_touched arena.old q }
+    ensures frame { frame arena.new ≡ frame arena.old }
+    ensures steps { steps.new ≤ steps.old + (1 + 2 * length (record_at arena.old.now node.0).edges) }
+{
+    let many = arena.edge_count(node, steps);
+    'edges: for k in 0..many {
+        let edge = arena.edge_at(node, many - 1 - k, steps);
+        let to = led(tuple, plan, next, edge);
+        mend_edge(arena, node, edge, to, steps)?;
+    }
+    Ok(())
+}
+
+// The forced child: where the edge with the next value leads.
+fn forced_of<L: Ledger>(
+    arena: &QcArena,
+    node: NodeNo,
+    next: Option<(u8, Code)>,
+    steps: &mut Steps<L>,
+) -> Option<Forced>
+    requires node { IsSome (map.get arena.now.now node.0) }
+    requires code { IfSome next (λ n. IsCode n.1) }
+    ensures value { option_map edge_of result ≡ forced_by next (record_at arena.now.now node.0) }
+    ensures small { IfSome result (λ f. IsCode f.code) }
+    ensures steps { steps.new ≤ steps.old + 1 }
+{
+    match next {
+        None => None,
+        Some((dim, code)) => match arena.edge(node, dim, code, steps) {
+            None => None,
+            Some(child) => Some(Forced { dim, code, child }),
+        },
+    }
+}
+
+// Sets the forced child.
+fn mend_forced<L: Ledger>(
+    arena: &mut QcArena,
+    node: NodeNo,
+    next: Option<(u8, Code)>,
+    steps: &mut Steps<L>,
+)
+    requires change { CanChange arena.old node.0 }
+    requires code { IfSome next (λ n. IsCode n.1) }
+    ensures here { map.get arena.new.now node.0 ≡ option_map (with_forced (forced_by next (record_at arena.old.now node.0))) (map.get arena.old.now node.0) }
+    ensures others { (q : ℕ) → q ≢ node.0 → map.get arena.new.now q ≡ map.get arena.old.now q }
+    ensures touched { (q : ℕ) → is_touched arena.new q ≡ is_touched arena.old q }
+    ensures frame { frame arena.new ≡ frame arena.old }
+    ensures steps { steps.new ≤ steps.old + 2 }
+{
+    let forced = forced_of(arena, node, next, steps);
+    arena.set_forced(node, forced, steps);
+}
+
+// What a node that stays has as class: what its rows come to, where they share no more than its cell.
+fn class_of(rest: &Rest, cell: &Cell) -> Option<Agg>
+    requires { length rest.now.shared ≡ length cell.now }
+    ensures { option_map agg_in result ≡ class_by rest.now cell.now }
+{
+    if leq(&rest.shared, cell) {
+        Some(rest.agg)
+    } else {
+        None
+    }
+}
+
+// Mends the record of a node that stays.
+fn mend<L: Ledger>(
+    arena: &mut QcArena,
+    tuple: &Cell,
+    plan: &IndexMap<u32, Fate>,
+    below: &Below,
+    rest: &Rest,
+    steps: &mut Steps<L>,
+) -> Result<(), Memory>
+    requires change { CanChange arena.old below.now.node.0 }
+    requires long { length tuple.now ≡ arena.old.width }
+    requires cell { length below.now.cell ≡ arena.old.width }
+    requires shared { length rest.now.shared ≡ arena.old.width }
+    requires dims { (k : ℕ) (x : _) → slice_get (record_at arena.old.now below.now.node.0).edges k ≡ Some x → x.dim < arena.old.width }
+    requires targets { (k t : ℕ) (x : _) → slice_get (record_at arena.old.now below.now.node.0).edges k ≡ Some x → led_to tuple.now (heir_in plan.now.entries) (next_entry (depth below.now.cell) rest.now.shared) x ≡ Some t → IsSome (map.get arena.old.now t) }
+    ensures here { OnOk result (map.get arena.new.now below.now.node.0 ≡ option_map (mended tuple.now (heir_in plan.now.entries) below.now.cell rest.now) (map.get arena.old.now below.now.node.0)) }
+    ensures others { (q : ℕ) → q ≢ below.now.node.0 → map.get arena.new.now q ≡ map.get arena.old.now q }
+    ensures touched { (q : ℕ) → is_touched arena.new q ≡ is_touched arena.old q }
+    ensures frame { frame arena.new ≡ frame arena.old }
+    ensures steps { steps.new ≤ steps.old + (4 + 2 * length (record_at arena.old.now below.now.node.0).edges) }
+{
+    let next = next_value(&rest.shared, depth(&below.cell));
+    match mend_edges(arena, tuple, plan, below.node, next, steps) {
+        Ok(()) => {}
+        Err(error) => return Err(error),
+    }
+    mend_forced(arena, below.node, next, steps);
+    let class = class_of(rest, &below.cell);
+    arena.set_class(below.node, class, steps);
+    Ok(())
+}
+
+// What the rows of a node come to, if it stays.
+fn staying(plan: &IndexMap<u32, Fate>, node: NodeNo) -> Option<Rest>
+    ensures { result ≡ staying plan.now.entries node.0 }
+{
+    match plan.get(&node.0) {
+        None => None,
+        Some(fate) => if_own(node, fate),
+    }
+}
+
+// What the rows of a node come to, if it is its own heir.
+fn if_own(node: NodeNo, fate: &Fate) -> Option<Rest>
+    ensures { result ≡ if_own node.0 fate.now.heir fate.now.after }
+{
+    match fate.heir {
+        None => None,
+        Some(heir) => {
+            if heir.0 == node.0 {
+                copied(&fate.after)
+            } else {
+                None
+            }
+        }
+    }
+}
+
+/// Gives a node its record afterwards, or kills it.
+fn settle<L: Ledger>(
+    arena: &mut QcArena,
+    tuple: &Cell,
+    plan: &IndexMap<u32, Fate>,
+    below: &Below,
+    steps: &mut Steps<L>,
+) -> Result<(), Memory>
+    requires change { CanChange arena.old below.now.node.0 }
+    requires long { length tuple.now ≡ arena.old.width }
+    requires cell { length below.now.cell ≡ arena.old.width }
+    requires shared { IfSome (staying plan.now.entries below.now.node.0) (λ rest. length rest.shared ≡ arena.old.width) }
+    requires dims { (k : ℕ) (x : _) → slice_get (record_at arena.old.now below.now.node.0).edges k ≡ Some x → x.dim < arena.old.width }
+    requires targets { IfSome (staying plan.now.entries below.now.node.0) (λ rest. (k t : ℕ) (x : _) → slice_get (record_at arena.old.now below.now.node.0).edges k ≡ Some x → led_to tuple.now (heir_in plan.now.entries) (next_entry (depth below.now.cell) rest.shared) x ≡ Some t → IsSome (map.get arena.old.now t)) }
+    ensures here { OnOk result (map.get arena.new.now below.now.node.0 ≡ option_and_then (outcome tuple.now plan.now.entries below.now) (map.get arena.old.now below.now.node.0)) }
+    ensures others { (q : ℕ) → q ≢ below.now.node.0 → map.get arena.new.now q ≡ map.get arena.old.now q }
+    ensures touched { (q : ℕ) → is_touched arena.new q ≡ is_touched arena.old q }
+    ensures frame { frame arena.new ≡ frame arena.old }
+    ensures steps { steps.new ≤ steps.old + (4 + 2 * length (record_at arena.old.now below.now.node.0).edges) }
+{
+    match staying(plan, below.node) {
+        None => {
+            arena.kill(below.node, steps);
+            Ok(())
+        }
+        Some(rest) => mend(arena, tuple, plan, below, &rest, steps),
+    }
+}
+
+/// Gives each node of the list its record afterwards, or kills it.
+pub(crate) fn settle_all<L: Ledger>(
+    arena: &mut QcArena,
+    tuple: &Cell,
+    plan: &IndexMap<u32, Fate>,
+    list: &Vec<Below>,
+    steps: &mut Steps<L>,
+) -> Result<(), Memory>
+    requires opened { is_open arena.old ≡ true }
+    requires touched { (k : ℕ) (b : Below) → slice_get list.now.items k ≡ Some b → is_touched arena.old b.node.0 ≡ true }
+    requires long { length tuple.now ≡ arena.old.width }
+    requires ready { AreReady arena.old.width arena.old.now tuple.now plan.now.entries list.now.items }
+    ensures here { OnOk result ((k : ℕ) (b : Below) → slice_get list.now.items k ≡ Some b → map.get arena.new.now b.node.0 ≡ option_and_then (outcome tuple.now plan.now.entries b) (map.get arena.old.now b.node.0)) }
+    ensures others { (q : ℕ) → ((k : ℕ) (b : Below) → slice_get list.now.items k ≡ Some b → b.node.0 ≢ q) → map.get arena.new.now q ≡ map.get arena.old.now q }
+    ensures touched { (q : ℕ) → is_touched arena.new q ≡ is_touched arena.old q }
+    ensures frame { frame arena.new ≡ frame arena.old }
+    ensures steps { steps.new ≤ steps.old + settling arena.old.now list.now.items }
+{
+    'nodes: for k in 0..list.len() {
+        settle(arena, tuple, plan, &list[k], steps)?;
+    }
+    Ok(())
+}

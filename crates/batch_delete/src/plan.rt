@@ -1,0 +1,215 @@
+// What becomes of each node below the tuple, read from the tree before anything is changed.
+ghost use Rattle.std.specs.Prelude.{false, IfOk, List, OnOk, Some, length, nat_eq, slice_get, true, ℕ, ◌*◌, ◌+◌, ◌≡◌, ◌≢◌, ◌≤◌};
+ghost use Rattle.std.specs.Option.{option_map};
+ghost use Rattle.std.specs.Ordering.{eq_by_cmp, nat_cmp};
+ghost use Rattle.aggregates.specs.Views.{agg_in};
+ghost use Rattle.cube_defs.specs.Cell as cells;
+ghost use Rattle.cube_defs.specs.Cell.{cell_of, keep, leq};
+ghost use Rattle.cube_defs.specs.Rows.{closure};
+ghost use Rattle.cube_defs.specs.Tree.{cell_at};
+ghost use Rattle.cube_laws.specs.Total.{agg_at};
+ghost use Rattle.qc_arena.specs.Seen.{number};
+ghost use Rattle.tree_search.specs.Found.{IsFrom, IsTree, Names};
+ghost use Rattle.batch_delete.specs.declared.below.Below.{Below};
+ghost use Rattle.batch_delete.specs.Below.{AreBelow};
+ghost use Rattle.batch_delete.specs.Plan.{after_in, front_labels, heir_in, last_any_of, planning};
+ghost use Rattle.batch_delete.specs.Rests.{ArePlanned, Deletion, IsRest, rows_after, rows_before, source_before};
+
+use crate::Memory;
+use crate::below::Below;
+use crate::cells::{depth, front};
+use crate::parts::{Rest, class_after};
+use aggregates::Agg;
+use cell_core::{Cell, Entry, NodeNo, Steps};
+use indexmap::IndexMap;
+use qc_arena::{Nodes, QcArena};
+use std::alloc::Global;
+use std::sync::ledger::Ledger;
+
+/// What the rows of a node share and come to afterwards, if there are any; and the node that has the
+/// front of what they share, as long as the node's own cell: itself where it stays.
+#[derive(Drop)]
+pub(crate) struct Fate {
+    pub after: Option<Rest>,
+    pub heir: Option<NodeNo>,
+}
+
+/// The node of a cell that is one, gone down to from the root by the cell's values.
+pub(crate) fn node_at<L: Ledger>(arena: &QcArena, cell: &Cell, steps: &mut Steps<L>) -> NodeNo
+    requires tree { IsTree arena.now.width arena.now.now }
+    requires node { (k : ℕ) × (cell_at arena.now.now k ≡ Some cell.now) }
+    ensures value { cell_at arena.now.now result.0 ≡ Some cell.now }
+    ensures steps { steps.new ≤ steps.old + (length cell.now + 1) }
+{
+    let mut node = arena.root(steps).unwrap();
+    'down: for dim in 0..cell.dims() {
+        match cell.get(dim) {
+            Entry::Any => {}
+            Entry::Is(code) => node = arena.edge(node, dim, code, steps).unwrap(),
+        }
+    }
+    node
+}
+
+/// What is planned for the rows of a node.
+pub(crate) fn after_of(plan: &IndexMap<u32, Fate>, node: NodeNo) -> Option<Rest>
+    ensures { result ≡ after_in plan.now.entries node.0 }
+{
+    match plan.get(&node.0) {
+        None => None,
+        Some(fate) => copied(&fate.after),
+    }
+}
+
+/// A copy of it.
+pub(crate) fn copied(rest: &Option<Rest>) -> Option<Rest>
+    ensures { result ≡ rest.now }
+{
+    match rest {
+        None => None,
+        Some(rest) => Some(rest.copy()),
+    }
+}
+
+/// The heir of a node.
+pub(crate) fn heir_of(plan: &IndexMap<u32, Fate>, node: NodeNo) -> Option<NodeNo>
+    ensures { option_map number result ≡ heir_in plan.now.entries node.0 }
+{
+    match plan.get(&node.0) {
+        None => None,
+        Some(fate) => fate.heir,
+    }
+}
+
+// What the rows of a node below the tuple share and come to afterwards, where the nodes with more
+// values are planned for.
+fn rest_of<L: Ledger>(
+    arena: &QcArena,
+    tuple: &Cell,
+    last: NodeNo,
+    twins: Option<Agg>,
+    plan: &IndexMap<u32, Fate>,
+    below: &Below,
+    steps: &mut Steps<L>,
+) -> Option<Rest>
+    ghost d: { Deletion }
+    requires tree { IsFrom arena.now.width arena.now.now (source_before d) }
+    requires tuple { length tuple.now ≡ arena.now.width }
+    requires row { tuple.now ≡ cell_of d.r.tuple }
+    requires cell { cell_at arena.now.now below.now.node.0 ≡ Some below.now.cell }
+    requires low { leq nat_eq below.now.cell tuple.now ≡ true }
+    requires twins { option_map agg_in twins ≡ agg_at (eq_by_cmp nat_cmp) d.measures (rows_after d) tuple.now }
+    requires planned { (q : ℕ) (w : _) → cell_at arena.now.now q ≡ Some w → leq nat_eq w tuple.now ≡ true → leq nat_eq below.now.cell w ≡ true → leq nat_eq w below.now.cell ≡ false → IsRest d.measures (rows_after d) w (after_in plan.now.entries q) }
+    requires few { length (rows_before d) ≤ 1000000 }
+    requires last { cell_at arena.now.now last.0 ≡ Some tuple.now }
+    ensures rest { IsRest d.measures (rows_after d) below.now.cell result }
+    ensures steps { (list : List Below) → AreBelow arena.now.now tuple.now (length tuple.now) list → steps.new ≤ steps.old + ((3 * length tuple.now + 5) + (4 * length tuple.now + 6) * front_labels arena.now.now list below.now.cell (last_any_of below.now.cell)) }
+{
+    match arena.forced(below.node, steps) {
+        Some(forced) => after_of(plan, forced.child),
+        None => class_after(
+            arena,
+            tuple,
+            last,
+            twins,
+            plan,
+            &below.cell,
+            below.node,
+            steps,
+        ),
+    }
+}
+
+// The node that has the front of what a node's rows share afterwards, as long as its own cell.
+fn heir_at<L: Ledger>(
+    arena: &QcArena,
+    cell: &Cell,
+    after: &Option<Rest>,
+    steps: &mut Steps<L>,
+) -> Option<NodeNo>
+    ghost d: { Deletion }
+    requires tree { IsFrom arena.now.width arena.now.now (source_before d) }
+    requires long { length cell.now ≡ arena.now.width }
+    requires after { IsRest d.measures (rows_after d) cell.now after.now }
+    ensures heir { Names arena.now.now (option_map number result) (option_map (keep (cells.depth cell.now)) (closure (eq_by_cmp nat_cmp) (rows_after d) cell.now)) }
+    ensures steps { steps.new ≤ steps.old + (length cell.now + 1) }
+{
+    match after {
+        None => None,
+        Some(rest) => {
+            let front = front(&rest.shared, depth(cell));
+            Some(node_at(arena, &front, steps))
+        }
+    }
+}
+
+// What becomes of a node below the tuple, where the nodes with more values are planned for.
+fn fate_of<L: Ledger>(
+    arena: &QcArena,
+    tuple: &Cell,
+    last: NodeNo,
+    twins: Option<Agg>,
+    plan: &IndexMap<u32, Fate>,
+    below: &Below,
+    steps: &mut Steps<L>,
+) -> Fate
+    ghost d: { Deletion }
+    requires tree { IsFrom arena.now.width arena.now.now (source_before d) }
+    requires tuple { length tuple.now ≡ arena.now.width }
+    requires row { tuple.now ≡ cell_of d.r.tuple }
+    requires cell { cell_at arena.now.now below.now.node.0 ≡ Some below.now.cell }
+    requires low { leq nat_eq below.now.cell tuple.now ≡ true }
+    requires twins { option_map agg_in twins ≡ agg_at (eq_by_cmp nat_cmp) d.measures (rows_after d) tuple.now }
+    requires planned { (q : ℕ) (w : _) → cell_at arena.now.now q ≡ Some w → leq nat_eq w tuple.now ≡ true → leq nat_eq below.now.cell w ≡ true → leq nat_eq w below.now.cell ≡ false → IsRest d.measures (rows_after d) w (after_in plan.now.entries q) }
+    requires few { length (rows_before d) ≤ 1000000 }
+    requires last { cell_at arena.now.now last.0 ≡ Some tuple.now }
+    ensures after { IsRest d.measures (rows_after d) below.now.cell result.after }
+    ensures heir { Names arena.now.now (option_map number result.heir) (option_map (keep (cells.depth below.now.cell)) (closure (eq_by_cmp nat_cmp) (rows_after d) below.now.cell)) }
+    ensures steps { (list : List Below) → AreBelow arena.now.now tuple.now (length tuple.now) list → steps.new ≤ steps.old + (4 * length tuple.now + 6) * (1 + front_labels arena.now.now list below.now.cell (last_any_of below.now.cell)) }
+{
+    let after = rest_of(arena, tuple, last, twins, plan, below, steps);
+    let heir = heir_at(arena, &below.cell, &after, steps);
+    Fate { after, heir }
+}
+
+// Plans for a node.
+fn add_fate(plan: &mut IndexMap<u32, Fate>, node: NodeNo, fate: Fate) -> Result<(), Memory>
+    ensures here { OnOk result (after_in plan.new.entries node.0 ≡ fate.after) }
+    ensures heir { OnOk result (heir_in plan.new.entries node.0 ≡ option_map number fate.heir) }
+    ensures others { OnOk result ((q : ℕ) → q ≢ node.0 → after_in plan.new.entries q ≡ after_in plan.old.entries q) }
+    ensures heirs { OnOk result ((q : ℕ) → q ≢ node.0 → heir_in plan.new.entries q ≡ heir_in plan.old.entries q) }
+{
+    plan.insert(node.0, fate)?;
+    Ok(())
+}
+
+/// What becomes of the nodes below the tuple, planned from the last one on: each stands behind all
+/// that are below it.
+pub(crate) fn plan_all<L: Ledger>(
+    alloc: Global,
+    arena: &QcArena,
+    tuple: &Cell,
+    twins: Option<Agg>,
+    list: &Vec<Below>,
+    steps: &mut Steps<L>,
+) -> Result<IndexMap<u32, Fate>, Memory>
+    ghost d: { Deletion }
+    requires tree { IsFrom arena.now.width arena.now.now (source_before d) }
+    requires tuple { length tuple.now ≡ arena.now.width }
+    requires row { tuple.now ≡ cell_of d.r.tuple }
+    requires below { AreBelow arena.now.now tuple.now (length tuple.now) list.now.items }
+    requires twins { option_map agg_in twins ≡ agg_at (eq_by_cmp nat_cmp) d.measures (rows_after d) tuple.now }
+    requires few { length (rows_before d) ≤ 1000000 }
+    ensures planned { IfOk result (λ plan. ArePlanned d arena.now.now plan.entries list.now.items 0) }
+    ensures steps { IfOk result (λ plan. steps.new ≤ steps.old + planning (length tuple.now) arena.now.now list.now.items list.now.items) }
+{
+    let mut plan = IndexMap::new(alloc);
+    'nodes: for k in 0..list.len() {
+        let below = &list[list.len() - 1 - k];
+        // The last node is that of the tuple itself.
+        let last = list[list.len() - 1].node;
+        let fate = fate_of(arena, tuple, last, twins, &plan, below, steps);
+        add_fate(&mut plan, below.node, fate)?;
+    }
+    Ok(plan)
+}
