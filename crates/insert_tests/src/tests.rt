@@ -1,0 +1,184 @@
+// Rows come one by one: each to the tree that is built of all of them, and with fewer nodes to none.
+ghost use Rattle.std.specs.Prelude.{length, ◌<◌, ◌≡◌, ◌≤◌};
+
+use crate::records::{are_kept, cells, is_right};
+use crate::rows::{Line, tuple};
+use crate::trees::{add, built, inserted};
+use cell_core::Steps;
+use qc_arena::{ArenaRefused, QcArena};
+use std::alloc::Global;
+use std::marker::Brand;
+use std::sync::ledger::{Blank, Ledger};
+use std::test::Fail;
+
+// Whether the row at a place comes right to those before it, where there may be so many nodes: it
+// is refused as full where the tree with it has more, and then the tree before it is there again.
+fn comes<L: Ledger>(
+    alloc: Global,
+    dims: u8,
+    rows: &[Line],
+    place: usize,
+    max: u32,
+    before: &QcArena,
+    after: &QcArena,
+    steps: &mut Steps<L>,
+) -> Option<bool>
+    requires some_dims { 0 < dims }
+    requires few_dims { dims ≤ 6 }
+    requires rows { length rows.now ≤ 100 }
+    requires place { place < length rows.now }
+    requires some { 0 < max }
+    requires few { max ≤ 4000 }
+{
+    let mut arena = inserted(alloc, dims, rows, place, max, steps)?;
+    let Ok(cells) = cells(alloc, &arena, steps) else {
+        return None;
+    };
+    let tuple = tuple(alloc, &rows[place], dims);
+    let is_as_wanted = match add(alloc, &mut arena, &tuple, place, steps) {
+        Ok(()) => max >= after.live() && is_right(&arena, after, rows, place + 1, steps),
+        Err(ArenaRefused::Full) => {
+            max < after.live() && is_right(&arena, before, rows, place, steps)
+        }
+        Err(ArenaRefused::Memory) => false,
+    };
+    Some(is_as_wanted && are_kept(&cells, &arena, steps))
+}
+
+// The same for each number of nodes from that before it to that with it.
+fn comes_at_each<L: Ledger>(
+    alloc: Global,
+    dims: u8,
+    rows: &[Line],
+    place: usize,
+    steps: &mut Steps<L>,
+) -> Option<bool>
+    requires some_dims { 0 < dims }
+    requires few_dims { dims ≤ 6 }
+    requires rows { length rows.now ≤ 100 }
+    requires place { place < length rows.now }
+{
+    let before = built(alloc, dims, rows, place, steps)?;
+    let after = built(alloc, dims, rows, place + 1, steps)?;
+    let (least, most) = (before.live(), after.live());
+    if most > 600 {
+        return None;
+    }
+    'max: for max in least..most + 1 {
+        if max > 0 && comes(alloc, dims, rows, place, max, &before, &after, steps) != Some(true) {
+            return Some(false);
+        }
+    }
+    Some(true)
+}
+
+// The same for each of the rows.
+fn all_come<L: Ledger>(alloc: Global, dims: u8, rows: &[Line], blank: Blank) -> bool
+    requires name { blank.name ≡ L.name }
+    requires parts { blank.parts ≡ L.parts }
+    requires one { 0 < L.parts }
+    requires some_dims { 0 < dims }
+    requires few_dims { dims ≤ 6 }
+    requires rows { length rows.now ≤ 100 }
+{
+    let mut steps = Steps::<L>::start(blank);
+    'rows: for place in 0..rows.len() {
+        if comes_at_each(alloc, dims, rows, place, &mut steps) != Some(true) {
+            return false;
+        }
+    }
+    true
+}
+
+fn do_all_come(alloc: Global, dims: u8, rows: &[Line]) -> bool
+    requires some_dims { 0 < dims }
+    requires few_dims { dims ≤ 6 }
+    requires rows { length rows.now ≤ 100 }
+{
+    all_come::<Brand>(alloc, dims, rows, Blank::new(1))
+}
+
+// Rows of values below so many, drawn from a seed; the fourth has the values of the second.
+fn drawn(seed: u64, dims: u8, values: u8) -> [Line; 7]
+    requires { 0 < values }
+{
+    let mut x = seed;
+    let mut rows = [[0u8; 6]; 7];
+    'rows: for place in 0..7 {
+        'dims: for dim in 0..6 {
+            x = x
+                .wrapping_mul(6364136223846793005)
+                .wrapping_add(1442695040888963407);
+            rows[place][dim] = ((x >> 33) % u64::from(values)) as u8;
+        }
+    }
+    rows[3] = rows[1];
+    rows
+}
+
+#[test]
+fn rows_come_one_by_one(rt: HostRuntime) -> Result<(), Fail> {
+    // The dimensions, and the rows.
+    let table: [(u8, [Line; 4]); 4] = [
+        (
+            1,
+            [
+                [2, 0, 0, 0, 0, 0],
+                [1, 0, 0, 0, 0, 0],
+                [2, 0, 0, 0, 0, 0],
+                [0, 0, 0, 0, 0, 0],
+            ],
+        ),
+        (
+            2,
+            [
+                [0, 0, 0, 0, 0, 0],
+                [0, 0, 0, 0, 0, 0],
+                [1, 1, 0, 0, 0, 0],
+                [1, 0, 0, 0, 0, 0],
+            ],
+        ),
+        (
+            3,
+            [
+                [0, 0, 0, 0, 0, 0],
+                [0, 1, 0, 0, 0, 0],
+                [1, 0, 1, 0, 0, 0],
+                [1, 1, 1, 0, 0, 0],
+            ],
+        ),
+        (
+            6,
+            [
+                [0, 1, 2, 1, 0, 2],
+                [0, 1, 0, 1, 1, 2],
+                [2, 1, 0, 0, 0, 2],
+                [0, 0, 2, 1, 0, 1],
+            ],
+        ),
+    ];
+    for (dims, rows) in &table {
+        assert!(rt; do_all_come(rt.alloc(), *dims, rows));
+    }
+    Ok(())
+}
+
+#[test]
+fn drawn_rows_come_one_by_one(rt: HostRuntime) -> Result<(), Fail> {
+    // The dimensions, and how many values there are in each.
+    let table: [(u8, u8); 8] = [
+        (1, 4),
+        (2, 2),
+        (2, 3),
+        (3, 3),
+        (4, 2),
+        (4, 4),
+        (5, 3),
+        (6, 3),
+    ];
+    for (dims, values) in &table {
+        let rows = drawn(17, *dims, *values);
+        assert!(rt; do_all_come(rt.alloc(), *dims, &rows));
+    }
+    Ok(())
+}
