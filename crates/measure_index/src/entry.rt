@@ -1,5 +1,6 @@
 // Values with their nodes.
-ghost use Rattle.std.specs.Prelude.{IfOk, ◌≤◌};
+ghost use Rattle.std.specs.Prelude.{IfOk, ◌≡◌, ◌≤◌};
+ghost use Rattle.aggregates.specs.Order.{ratio_cmp};
 ghost use Rattle.measure_index.specs.Entries.{AreEntries, HaveMeasure};
 
 use aggregates::{Agg, AggKind, Ratio, value_of};
@@ -7,6 +8,16 @@ use cell_core::NodeNo;
 use cube_defs::Memory;
 use std::alloc::Global;
 use std::cmp::Ordering;
+
+// By value. Many values have one denominator, and their numerators tell.
+fn value_order(a: &Ratio, b: &Ratio) -> Ordering
+    ensures { result ≡ ratio_cmp a.now b.now }
+{
+    if a.den == b.den {
+        return a.num.cmp(&b.num);
+    }
+    a.cmp(b)
+}
 
 /// The value of a class with the number of its node, in order of value and then of number.
 #[derive(Clone, Copy, Debug)]
@@ -64,9 +75,7 @@ impl Ord for Entry {
     ghost matches_eq = { λ x y. refl };
 
     fn cmp(&self, other: &Entry) -> Ordering {
-        self.value
-            .cmp(&other.value)
-            .then(self.node.cmp(&other.node))
+        value_order(&self.value, &other.value).then(self.node.cmp(&other.node))
     }
 }
 
