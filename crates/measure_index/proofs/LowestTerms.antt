@@ -3,7 +3,7 @@ use mathlib.Core.HLevel.{is_prop→PathP}
 use native.Mathlib.Bridge.{le_prop}
 use Prim.Native.Nat.{◌∣◌}
 use Rattle.std.proofs.Common.{◌≡◌, ℕ, zero, suc, ◌+◌, ◌*◌, ◌/◌, ◌%◌, ◌^◌, ◌<◌, ◌≤◌, ℤ, pos, negsuc, neg_ℤ, ◌*ℤ◌, ◌<ℤ◌, refl, sym, ap, subst, ◌∙◌, arith, nat_abs}
-use Rattle.std.specs.declared.cmp.Ordering.TheVariants.{Equal, Greater, Less}
+use Rattle.std.specs.declared.cmp.Ordering.TheVariants.{Equal}
 use Rattle.std.specs.Int.{IsGcd}
 use Rattle.std.specs.Ordering.{int_cmp}
 use Rattle.std.proofs.Math.Nat.{ℕ_set, dvd-mul_left, mul-one, mul-zero, mul_comm, mul-lt-mul_of_pos_left, mul-lt-mul_of_pos_right, mod-lt}
@@ -53,28 +53,6 @@ times_cancels a b k p e = by_ranked (a <ℤ b) (a ≡ b) (b <ℤ a) (int_cmp a b
     (λ _ h. let r = times_rises a b k p h in absurd (omega (arith, ints, r, e)))
     (λ _ h. h)
     (λ _ h. let r = times_rises b a k p h in absurd (omega (arith, ints, r, e)))
-
-less_from : (x y : ℤ) → x <ℤ y → int_cmp x y ≡ Less
-less_from x y h = by_ranked (x <ℤ y) (x ≡ y) (y <ℤ x) (int_cmp x y) (int_ranked x y (int_cmp x y) refl) (λ o _. o) (λ _ e. absurd (omega (arith, ints, e, h))) (λ _ l. absurd (omega (arith, ints, l, h)))
-
-greater_from : (x y : ℤ) → y <ℤ x → int_cmp x y ≡ Greater
-greater_from x y h = by_ranked (x <ℤ y) (x ≡ y) (y <ℤ x) (int_cmp x y) (int_ranked x y (int_cmp x y) refl) (λ _ l. absurd (omega (arith, ints, l, h))) (λ _ e. absurd (omega (arith, ints, e, h))) (λ o _. o)
-
--- numbers compare as their products with a number
-times_cmp : (a b : ℤ) (k : ℕ) → 0 < k → int_cmp (a *ℤ pos k) (b *ℤ pos k) ≡ int_cmp a b
-times_cmp a b k p = by_ranked (a <ℤ b) (a ≡ b) (b <ℤ a) (int_cmp a b) (int_ranked a b (int_cmp a b) refl)
-    (λ o h. less_from (a *ℤ pos k) (b *ℤ pos k) (times_rises a b k p h) ∙ sym o)
-    (λ o h. ap (λ z. int_cmp (z *ℤ pos k) (b *ℤ pos k)) h ∙ times_tied b ∙ sym o)
-    (λ o h. greater_from (a *ℤ pos k) (b *ℤ pos k) (times_rises b a k p h) ∙ sym o)
-  where
-    times_tied : (b : ℤ) → int_cmp (b *ℤ pos k) (b *ℤ pos k) ≡ Equal
-    times_tied b = tied (b *ℤ pos k)
-      where
-        tied : (z : ℤ) → int_cmp z z ≡ Equal
-        tied z = by_ranked (z <ℤ z) (z ≡ z) (z <ℤ z) (int_cmp z z) (int_ranked z z (int_cmp z z) refl) (λ _ l. absurd (omega (arith, ints, l))) (λ o _. o) (λ _ l. absurd (omega (arith, ints, l)))
-
-pub same_dens : (x y : Ratio) → x.den ≡ y.den → int_cmp x.num y.num ≡ ratio_cmp x y
-same_dens x y e = sym (times_cmp x.num y.num x.den x.lowest.positive) ∙ ap (λ (d : ℕ). int_cmp (x.num *ℤ pos d) (y.num *ℤ pos x.den)) e
 
 module _ (x y : Ratio) (same : x.num *ℤ pos y.den ≡ y.num *ℤ pos x.den) where
   products : nat_abs x.num * y.den ≡ nat_abs y.num * x.den

@@ -1,6 +1,5 @@
 // Values with their nodes.
-ghost use Rattle.std.specs.Prelude.{IfOk, ◌≡◌, ◌≤◌};
-ghost use Rattle.aggregates.specs.Order.{ratio_cmp};
+ghost use Rattle.std.specs.Prelude.{IfOk, ◌≤◌};
 ghost use Rattle.measure_index.specs.Entries.{AreEntries, HaveMeasure};
 
 use aggregates::{Agg, AggKind, Ratio, value_of};
@@ -8,16 +7,6 @@ use cell_core::NodeNo;
 use cube_defs::Memory;
 use std::alloc::Global;
 use std::cmp::Ordering;
-
-// By value. Many values have one denominator, and their numerators tell.
-fn value_order(a: &Ratio, b: &Ratio) -> Ordering
-    ensures { result ≡ ratio_cmp a.now b.now }
-{
-    if a.den == b.den {
-        return a.num.cmp(&b.num);
-    }
-    a.cmp(b)
-}
 
 /// The value of a class with the number of its node, in order of value and then of number.
 #[derive(Clone, Copy, Debug)]
@@ -75,7 +64,9 @@ impl Ord for Entry {
     ghost matches_eq = { λ x y. refl };
 
     fn cmp(&self, other: &Entry) -> Ordering {
-        value_order(&self.value, &other.value).then(self.node.cmp(&other.node))
+        self.value
+            .cmp(&other.value)
+            .then(self.node.cmp(&other.node))
     }
 }
 
