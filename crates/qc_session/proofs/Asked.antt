@@ -1,6 +1,6 @@
 -- The cell that a point asks, and its codes.
-use Rattle.std.proofs.Common.{◌≡◌, ◌<◌, ◌+◌, ◌∙◌, ℕ, suc, Bool, true, false, cond, Option, Some, None, List, [], ◌∷◌, map, length, get_or, ◌⊎◌, inl, inr, refl, sym, ap, ap₂, subst, arith}
-use Rattle.std.specs.Prelude.{⊤, IfSome, nat_lt, option_map}
+use Rattle.std.proofs.Common.{◌≡◌, ◌∙◌, ℕ, suc, Bool, true, false, cond, Option, Some, None, List, [], ◌∷◌, map, length, get_or, ◌⊎◌, inl, inr, refl, sym, ap, ap₂, subst, arith}
+use Rattle.std.specs.Prelude.{IfSome, nat_lt, option_map}
 use Rattle.std.specs.Ordering.{eq_by_cmp, nat_cmp}
 use Rattle.std.specs.Option.{option_and_then}
 use Rattle.std.specs.List.{All, list_any, position_or_len}
@@ -14,15 +14,9 @@ use Rattle.cube_defs.specs.Text.{Text, text_eq}
 use Rattle.cube_defs.specs.Cell.{Cell, cell_of}
 use Rattle.aggregates.specs.declared.agg.Agg as shown
 use Rattle.aggregates.specs.Views.{agg_in}
-use Rattle.cube_defs.specs.Rows.{Agg, Row, agg_of, amounts_of, covers, cov, meet_all, part_of}
+use Rattle.cube_defs.specs.Rows.{Agg, Row, agg_of, amounts_of, cov, meet_all, part_of}
 use Rattle.cube_laws.specs.Recoding.{AreKnown, RowsAreKnown, coded, coded_row}
 use Rattle.cube_laws.specs.Total.{agg_at, agg_some}
-use Rattle.cube_laws.proofs.Cells.{IsEquality}
-use Rattle.cube_laws.proofs.Orders.{equality_by}
-use Rattle.std.specs.Cmp.{nat_cmp_total}
-use Rattle.std.specs.FinMap.{nat_cmp-IsAntisymmetric}
-use Rattle.cube_laws.proofs.RecodedRows.{agg_of-coded, cov-coded}
-use Rattle.cube_laws.proofs.RecodedLists.{known-below}
 use Rattle.query_script.specs.Commands.{IsCellField}
 use Rattle.tree_search.specs.Found.{Source, total_in}
 use Rattle.value_dict.specs.TextLists.{cell_in, entry_in}

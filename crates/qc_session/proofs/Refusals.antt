@@ -4,12 +4,7 @@ use Rattle.std.specs.Prelude.{Option, IsSomeAnd, Err, nat_lt}
 use Rattle.std.proofs.lemmas.Bool.{le-ltb}
 use Rattle.std.proofs.lemmas.Bool.Decides.{nat_tests}
 use Rattle.qc_io.specs.Outside.{Told}
-use Rattle.qc_schema.specs.Grammar.{schema_in}
 use Rattle.qc_schema.specs.States.{Fault}
-use Rattle.qc_schema.specs.declared.refusal.SchemaRefused.{SchemaRefused}
-use Rattle.qc_schema.specs.declared.refusal.SchemaRefused.TheVariants as refusals
-use Rattle.qc_session.specs.Failures.{schema_cause}
-use Rattle.qc_schema.specs.States.{schema_fault_in}
 use Rattle.qc_session.specs.Lines.{script_lines}
 use Rattle.cube_defs.specs.declared.limits.TheConstants.{MAX_FILE}
 use Rattle.qc_session.specs.Runs.{Cause, Usage, CannotRead, CannotWrite, OutOfMemory, NoSchema, TooLong, IsNever, IsNoSchema, IsStartOf, IsScriptOf, StoppedAt, ReadFails, Said, Unread, refusal_of, start_in, status_of}

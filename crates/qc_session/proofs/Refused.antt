@@ -15,8 +15,6 @@ use Rattle.warehouse.specs.State.{IsState, State, ids_of}
 use Rattle.warehouse.specs.Stored.{refusal_in}
 use Rattle.warehouse.specs.declared.refused.Refused.{Refused}
 use Rattle.warehouse.specs.declared.refused.Refused.TheVariants as files
-use Rattle.qc_session.specs.Answers.{changed}
-use Rattle.reply_text.specs.Replies.{batch_texts, refused_text}
 use Rattle.reply_text.specs.Words.{IsDimension}
 
 -- the last of some causes, where it is none of those before
