@@ -8,3 +8,7 @@ pub mod Picks
 pub mod Sorted
 pub mod Told
 pub mod Index
+pub mod Fractions
+pub mod Parts
+pub mod Farther
+pub mod Pruned

@@ -108,8 +108,8 @@ fn nodes_of<T: Nodes, L: Ledger>(
 /// The classes whose value is at least or at most what is asked, falling or rising by value, ties in
 /// cell order by the texts, each with its lower bounds in cell order. Where the index has the kind,
 /// it reads the index up to the first entry that doesn't qualify, and of the tree nothing but the
-/// answer's classes: with n dimensions at most 32 (n + 1)^2 2^n steps for each. Else it walks over
-/// all nodes of the tree once.
+/// answer's classes: with n dimensions at most 32 (n + 1)^2 2^n steps for each. Else it walks down the
+/// tree, but not below a class of whose rows none can come to what is asked.
 pub fn iceberg<T: Nodes, L: Ledger>(
     alloc: Global,
     tree: &T,

@@ -7,6 +7,7 @@ mod hits;
 mod indexed;
 mod order;
 mod pick;
+mod reach;
 
 pub use answer::iceberg;
 pub use ask::{Ask, Bound};

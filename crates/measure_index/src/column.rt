@@ -1,11 +1,11 @@
 // The classes in order of the value of one kind.
-ghost use Rattle.std.specs.Prelude.{IfOk, OnErr, OnOk, length, ◌<◌, ◌^◌, ◌≡◌, ◌≤◌};
+ghost use Rattle.std.specs.Prelude.{IfOk, OnErr, OnOk, [], length, ◌<◌, ◌^◌, ◌≡◌, ◌≤◌};
 ghost use Rattle.measure_index.specs.Entries.{HaveMeasure};
 ghost use Rattle.measure_index.specs.Rankings.{IsRising, Ranking, no_entries};
 ghost use Rattle.measure_index.specs.Changes.{ArePlanned, Came, Lack, Went};
 
 use crate::entry::{Entry, entries_of};
-use crate::keys::{absent_from, lacked_by, put_in, take_out};
+use crate::keys::{coming_into, lacked_by, put_in, set_of, take_out};
 use aggregates::{Agg, AggKind};
 use cell_core::NodeNo;
 use cube_defs::Memory;
@@ -88,17 +88,34 @@ impl Column {
         let added = entries_of(alloc, self.kind, self.scale, add)?;
         let removed = entries_of(alloc, self.kind, self.scale, remove)?;
         let going = lacked_by(alloc, &added, &removed)?;
-        let mut coming = absent_from(alloc, &self.entries, &added)?;
+        let mut coming = coming_into(alloc, &self.entries, added)?;
         coming.sort_unstable();
         Ok(Plan { coming, going })
     }
 
+    // Puts in the first entries, without a search for each.
+    fn fill(&mut self, alloc: Global, coming: &[Entry]) -> Result<(), Memory>
+        requires { self.old.entries ≡ [] }
+        ensures ok { OnOk result (Came coming.now self.old self.new) }
+        ensures err { OnErr result (self.new ≡ self.old) }
+    {
+        let entries = set_of(alloc, coming)?;
+        if entries.len() > u32::MAX as usize {
+            return Err(AllocError);
+        }
+        self.entries = entries;
+        Ok(())
+    }
+
     /// Puts in entries that are not there, up to 4,294,967,295 in all. A refusal leaves all as it was.
-    pub(crate) fn put(&mut self, coming: &[Entry]) -> Result<(), Memory>
+    pub(crate) fn put(&mut self, alloc: Global, coming: &[Entry]) -> Result<(), Memory>
         requires { Lack self.old coming.now }
         ensures ok { OnOk result (Came coming.now self.old self.new) }
         ensures err { OnErr result (self.new ≡ self.old) }
     {
+        if self.entries.is_empty() {
+            return self.fill(alloc, coming);
+        }
         if self.entries.len() + coming.len() > u32::MAX as usize {
             return Err(AllocError);
         }

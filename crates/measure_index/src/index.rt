@@ -75,7 +75,7 @@ fn change_columns(
         return Ok(());
     };
     let plan = first.plan(alloc, add, remove)?;
-    first.put(&plan.coming)?;
+    first.put(alloc, &plan.coming)?;
     match change_columns(alloc, rest, add, remove) {
         Ok(()) => {
             first.take(&plan.going);

@@ -19,6 +19,19 @@ pub(crate) fn take_out<K: Ord + Copy>(set: &mut BTreeSet<K, Global>, items: &[K]
     }
 }
 
+/// A set of some keys. It takes no search for each.
+pub(crate) fn set_of<K: Ord + Copy>(
+    alloc: Global,
+    items: &[K],
+) -> Result<BTreeSet<K, Global>, Memory>
+    ensures has { IfOk result (λ s. (q : K) → contains K.cmp s q ≡ among K.cmp items.now q) }
+    ensures ordered { IfOk result (λ s. IsOrdered K.cmp s) }
+{
+    let mut all = Vec::with_capacity(alloc, items.len())?;
+    all.extend_from_slice(items)?;
+    BTreeSet::from_iter(alloc, all)
+}
+
 /// Puts keys in that are not there. A refusal leaves the set with the keys that it had.
 pub(crate) fn put_in<K: Ord + Copy>(
     set: &mut BTreeSet<K, Global>,
@@ -43,19 +56,8 @@ pub(crate) fn put_in<K: Ord + Copy>(
     Ok(())
 }
 
-// A set of some keys.
-fn set_of<K: Ord + Copy>(alloc: Global, items: &Vec<K>) -> Result<BTreeSet<K, Global>, Memory>
-    ensures has { IfOk result (λ s. (q : K) → contains K.cmp s q ≡ among K.cmp items.now.items q) }
-{
-    let mut set = BTreeSet::new(alloc);
-    for item in items {
-        set.insert(*item)?;
-    }
-    Ok(set)
-}
-
-/// The items that a set does not have.
-pub(crate) fn absent_from<K: Ord + Copy>(
+// The items that a set does not have.
+fn absent_from<K: Ord + Copy>(
     alloc: Global,
     set: &BTreeSet<K, Global>,
     items: &Vec<K>,
@@ -82,6 +84,20 @@ pub(crate) fn lacked_by<K: Ord + Copy>(
     if items.is_empty() {
         return Ok(Vec::new(alloc));
     }
-    let set = set_of(alloc, others)?;
+    let set = set_of(alloc, others.as_slice())?;
     absent_from(alloc, &set, items)
+}
+
+/// The items that a set does not have. Where it is empty, that is all of them.
+pub(crate) fn coming_into<K: Ord + Copy>(
+    alloc: Global,
+    set: &BTreeSet<K, Global>,
+    items: Vec<K>,
+) -> Result<Vec<K>, Memory>
+    ensures has { IfOk result (λ v. (q : K) → among K.cmp v.items q ≡ (among K.cmp items.items q && not (contains K.cmp set.now q))) }
+{
+    if set.is_empty() {
+        return Ok(items);
+    }
+    absent_from(alloc, set, &items)
 }

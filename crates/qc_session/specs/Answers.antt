@@ -1,6 +1,9 @@
 -- The answer to a line: a filter and a sum over the rows that are present, or what a file does to them.
-use Rattle.std.specs.Prelude.{ℕ, Option, Some, None, List, length, map, nat_lt, slice_index_or, Result, Ok, Err, if◌then◌else◌}
+use Rattle.std.specs.Prelude.{ℕ, ◌+◌, ◌*◌, ◌^◌, Bool, Option, Some, None, List, length, map, nat_lt, slice_index_or, Result, Ok, Err, if◌then◌else◌}
+use Rattle.std.specs.List.{list_any}
 use Rattle.std.specs.Option.{option_map}
+use Rattle.aggregates.specs.declared.kind.AggKind.{AggKind as Kinds}
+use Rattle.measure_index.specs.Index.{kind_eq}
 use Rattle.cube_defs.specs.Text.{Text, text_cmp, text_eq}
 use Rattle.cube_defs.specs.Cell.{Cell}
 use Rattle.cube_defs.specs.Rows.{Fraction}
@@ -88,6 +91,14 @@ ask_of measures kind bound value = record { kind = kind; scale = scale_of measur
 -- the classes that pass
 abbrev pub classes_of : State → AggKind → Bound → Fraction → List (ClassHit Text)
 classes_of state kind bound value = iceberg text_cmp (length state.schema.measures) state.rows (ask_of state.schema.measures kind bound value)
+
+-- the schema has an index of the kind
+abbrev pub names_kind : Layout → Kinds → Bool
+names_kind schema kind = list_any (kind_eq kind) schema.indexes
+
+-- how many steps a class of an answer may take
+abbrev pub steps_of_class : Layout → ℕ
+steps_of_class schema = 32 * (length schema.dims + 1) ^ 2 * 2 ^ length schema.dims
 
 -- the answer to `iceberg`
 abbrev pub passing : State → ℕ → AggKind → Bound → Fraction → List ℕ

@@ -1,5 +1,5 @@
 // The answer to an iceberg query.
-ghost use Rattle.std.specs.Prelude.{All, IfOk, length, ◌≡◌, ◌≤◌};
+ghost use Rattle.std.specs.Prelude.{All, IfOk, length, true, ◌*◌, ◌+◌, ◌≡◌, ◌≤◌};
 ghost use Rattle.aggregates.specs.Views.{fraction_in, kind_in};
 ghost use Rattle.iceberg_query.specs.Asked.{bound_in};
 ghost use Rattle.iceberg_query.specs.Hits.{told_classes};
@@ -8,7 +8,7 @@ ghost use Rattle.qc_schema.specs.Schema.{IsLayout};
 ghost use Rattle.query_script.specs.Commands.{IsMeasured};
 ghost use Rattle.reply_text.specs.Words.{reply_bytes};
 ghost use Rattle.value_dict.specs.Told.{IsTold};
-ghost use Rattle.qc_session.specs.Answers.{classes_of, passing, scale_of};
+ghost use Rattle.qc_session.specs.Answers.{classes_of, names_kind, passing, scale_of, steps_of_class};
 
 use aggregates::{AggKind, Fraction};
 use cell_core::{Memory, Steps};
@@ -48,6 +48,8 @@ fn classes_asked<L: Ledger>(
         ≡ classes_of warehouse.now.state (kind_in kind) (bound_in bound) (fraction_in value)) }
     ensures told { IfOk result (λ classes. All (λ class.
         IsTold warehouse.now.state.texts (length warehouse.now.state.schema.measures) (hit_in class)) classes.items) }
+    ensures steps { names_kind warehouse.now.state.schema kind ≡ true →
+        IfOk result (λ classes. steps.new ≤ steps.old + length classes.items * steps_of_class warehouse.now.state.schema) }
 {
     let ask = Ask {
         kind,
@@ -66,7 +68,8 @@ fn classes_asked<L: Ledger>(
 }
 
 /// Tells the classes whose value, in the unit of the measure, is at least or at most what is asked. Where
-/// the schema has an index of the kind, it reads no more of the tree than these classes.
+/// the schema has an index of the kind, it reads no more of the tree than these classes: with n dimensions
+/// it takes at most 32 (n + 1)^2 2^n steps for each.
 pub fn answer_iceberg<L: Ledger>(
     alloc: Global,
     warehouse: &Warehouse,
@@ -77,8 +80,11 @@ pub fn answer_iceberg<L: Ledger>(
     steps: &mut Steps<L>,
 ) -> Result<Reply, Memory>
     requires { IsMeasured (length warehouse.now.state.schema.measures) (kind_in kind) }
-    ensures { IfOk result (λ reply. reply_bytes reply
+    ensures reply { IfOk result (λ reply. reply_bytes reply
         ≡ passing warehouse.now.state number (kind_in kind) (bound_in bound) (fraction_in value)) }
+    ensures steps { names_kind warehouse.now.state.schema kind ≡ true →
+        IfOk result (λ _. steps.new ≤ steps.old
+        + length (classes_of warehouse.now.state (kind_in kind) (bound_in bound) (fraction_in value)) * steps_of_class warehouse.now.state.schema) }
 {
     let classes = classes_asked(alloc, warehouse, kind, bound, value, steps)?;
     let reply = iceberg_reply(

@@ -1,5 +1,5 @@
 use Rattle.std.proofs.Common.{◌≡◌, ◌∙◌, ℕ, ap, ap₂, sym, subst, length}
-use Rattle.std.specs.Prelude.{IfSome}
+use Rattle.std.specs.Prelude.{IfSome, IsSome}
 use Rattle.std.specs.List.{All}
 use Rattle.std.proofs.lemmas.Result.{IfOk-weaker}
 use Rattle.aggregates.specs.Views.{fraction_in, kind_in}
@@ -13,7 +13,7 @@ use Rattle.qc_schema.specs.Schema.{Layout}
 use Rattle.value_dict.specs.Told.{IsTold}
 use Rattle.warehouse.specs.State.{source_of}
 use Rattle.qc_session.specs.Answers.{scale_of}
-use Rattle.qc_session.proofs.Measured.{measure-there, scale-is}
+use Rattle.qc_session.proofs.Measured.{measure-there, named-kept, scale-is}
 use Rattle.qc_session.proofs.Recoded.{rows-known, rows-told}
 use Rattle.qc_session.proofs.iceberg.classes_asked.Goals as goal
 
@@ -60,3 +60,9 @@ returns-clause-told g c =
     IfOk-weaker c.iceberg.result _ _
     (λ classes e. subst (λ l. All (λ class. IsTold l (length s.schema.measures) (hit_in class)) classes.items) c.dict.ensures.texts e)
     (c.iceberg.ensures.told (source_of s) (rw (c.tree.ensures.width, c.tree.ensures.value) c.tree.ensures.valid.tree) (rows-known s c.dict.ensures.valid.state c.dict.result.now.lists c.dict.ensures.texts))
+
+pub returns-clause-steps : goal.returns-clause-steps
+returns-clause-steps g c = λ named.
+    let s = c.args.warehouse.now.state in
+    let kept : IsSome (ranking_of c.args.kind c.index.result.now) = subst (λ x. IsSome (ranking_of c.args.kind x)) (sym c.index.ensures.value) (named-kept s.schema c.args.kind c.args.warehouse.now.index s.schema.indexes c.index.ensures.valid.index.kinds named) in
+    rw (← c.tree.ensures.width) (c.iceberg.ensures.steps kept)

@@ -1,0 +1,88 @@
+// Whether a class of fewer rows may be asked for.
+ghost use Rattle.std.specs.Ordering.{int_cmp};
+ghost use Rattle.std.specs.Prelude.{false, pos, ℕ, ◌*ℤ◌, ◌<◌, ◌≡◌, ◌≤◌};
+ghost use Rattle.cube_defs.specs.Answers as answers;
+ghost use Rattle.cube_defs.specs.Rows as defs;
+ghost use Rattle.aggregates.specs.Views.{IsThere, agg_in};
+ghost use Rattle.iceberg_query.specs.Asked.{ask_in};
+ghost use Rattle.iceberg_query.specs.Reach.{IsOfSome, farther, is_reached, is_sum_asked, outer};
+
+use crate::ask::passes;
+use crate::{Ask, Bound};
+use aggregates::{Agg, AggKind, value_of};
+
+// The kind that no amount's value is beyond.
+fn outer_kind(bound: Bound, measure: u8) -> AggKind
+    ensures { result ≡ outer bound measure }
+{
+    match bound {
+        Bound::AtLeast => AggKind::Greatest(measure),
+        Bound::AtMost => AggKind::Least(measure),
+    }
+}
+
+fn farther_of(bound: Bound, one: i128, all: i128) -> i128
+    ensures { result ≡ farther bound one all }
+{
+    match bound {
+        Bound::AtLeast => one.max(all),
+        Bound::AtMost => one.min(all),
+    }
+}
+
+fn times(amount: i64, count: u32) -> i128
+    ensures { result ≡ amount *ℤ pos count }
+{
+    i128::from(amount) * i128::from(count)
+}
+
+fn reaches(bound: Bound, reached: i128, wanted: i128) -> bool
+    ensures { result ≡ is_reached bound (int_cmp reached wanted) }
+{
+    let order = reached.cmp(&wanted);
+    match bound {
+        Bound::AtLeast => order.is_ge(),
+        Bound::AtMost => order.is_le(),
+    }
+}
+
+// A sum of amounts is no farther than one outermost amount, or than as many as there are rows.
+fn may_pass_by_sum(ask: &Ask, agg: &Agg, measure: u8) -> bool
+    requires there { measure < agg.now.measures }
+    requires scale { ask.now.scale ≤ 6 }
+    ensures { result ≡ false → (measures : ℕ) (some : defs.Agg) → measure < measures → IsOfSome measures (agg_in agg.now) some → is_sum_asked ask.now measure some ≡ false }
+{
+    let end = value_of(agg, outer_kind(ask.bound, measure), ask.scale);
+    let all = times(end.num, agg.count);
+    let most = farther_of(ask.bound, i128::from(end.num), all);
+    let Some(reached) = most.checked_mul(i128::from(ask.value.den)) else {
+        return true;
+    };
+    let Some(wanted) = ask.value.num.checked_mul(i128::from(end.den)) else {
+        return true;
+    };
+    reaches(ask.bound, reached, wanted)
+}
+
+/// Whether what some of the rows come to may pass, where all come to the aggregate. Where it can't,
+/// no class below is asked for.
+pub(crate) fn may_pass(ask: &Ask, agg: &Agg) -> bool
+    requires there { IsThere agg.now.measures ask.now.kind }
+    requires scale { ask.now.scale ≤ 6 }
+    ensures { result ≡ false → (measures : ℕ) (some : defs.Agg) → IsThere measures ask.now.kind → IsOfSome measures (agg_in agg.now) some → answers.is_asked (ask_in ask.now) some ≡ false }
+{
+    match ask.kind {
+        AggKind::Count => match ask.bound {
+            Bound::AtLeast => passes(ask, agg),
+            Bound::AtMost => true,
+        },
+        AggKind::Sum(measure) => may_pass_by_sum(ask, agg, measure),
+        AggKind::Least(measure) | AggKind::Greatest(measure) | AggKind::Mean(measure) => {
+            let outermost = Ask {
+                kind: outer_kind(ask.bound, measure),
+                ..*ask
+            };
+            passes(&outermost, agg)
+        }
+    }
+}
