@@ -17,7 +17,8 @@ use Rattle.warehouse.specs.Stored.{state_of}
 use Rattle.value_dict.specs.Told.{decoded_row}
 use Rattle.warehouse.proofs.Changes.{number-same}
 use Rattle.warehouse.proofs.Decoding.{filter-decoded, ids-decoded, length-rows}
-use Rattle.warehouse.proofs.Rows.{has-kept, kept}
+use Rattle.warehouse.specs.InPlace.{kept}
+use Rattle.warehouse.proofs.Rows.{has-kept}
 
 pub cause-missing : (s : State) (changes : List (Change Text)) (k : ℕ) → first_twice changes ≡ None → first_number (is_missing (ids_of s.rows)) changes ≡ Some k → refusal_of s changes ≡ Some (batches.Missing k)
 cause-missing s changes k once missing = rw (once, missing) refl

@@ -29,7 +29,7 @@ use Rattle.warehouse.specs.InPlace.{KeepsApart, KeepsNumbers, OfInsertions, cost
 use Rattle.warehouse.specs.Steps.{AreLonger, HasFront, IsTreeBefore, rows_at, rows_before, rows_behind, rows_between}
 use Rattle.warehouse.proofs.Decoding.{rows-back}
 use Rattle.warehouse.proofs.Growing.{known-longer, rows-longer}
-use Rattle.warehouse.proofs.Rows.{kept, kept-none}
+use Rattle.warehouse.proofs.Rows.{kept-none}
 use Rattle.warehouse.proofs.Trees.{rows-wide}
 
 -- where as many rows come as there are changes, all changes are insertions

