@@ -1,6 +1,6 @@
 -- Rows that come stand behind those that were there, and the tree takes them one after another.
-use Rattle.std.proofs.Common.{◌≡◌, ◌∙◌, ◌≤◌, ◌<◌, ◌+◌, ◌*◌, ◌^◌, ℕ, ℤ, List, [], ◌∷◌, ◌++◌, Option, Some, None, true, false, append-nil, append_assoc, arith, drop, get_or, is_some, length, map, nat_eq, refl, suc, sym, ap, ap₂, filter, subst, Bool, take, true≢false}
-use Rattle.std.specs.Prelude.{Err, IfSome, Ok, OnOk, Result, not, option_map}
+use Rattle.std.proofs.Common.{◌≡◌, ◌∙◌, ◌≤◌, ◌<◌, ◌+◌, ◌*◌, ◌^◌, ℕ, ℤ, List, [], ◌∷◌, ◌++◌, Option, Some, None, true, false, append-nil, append_assoc, arith, drop, get_or, is_some, length, map, nat_eq, refl, sym, ap, ap₂, filter, subst, Bool, take, true≢false}
+use Rattle.std.specs.Prelude.{Err, IfSome, Ok, OnOk, Result, not}
 use Rattle.std.specs.Str.{bytes_eq}
 use Rattle.std.specs.Ordering.{nat_cmp}
 use Rattle.std.specs.List.{All, AllByRecursion, IsDistinct}
@@ -19,7 +19,7 @@ use Rattle.qc_schema.specs.Schema.{Layout}
 use Rattle.cube_defs.specs.Cell.{Cell, cell_of, leq}
 use Rattle.cube_defs.specs.Rows.{Row}
 use Rattle.cube_defs.specs.Text.{Text}
-use Rattle.cube_defs.specs.Tree.{IsCanonical, Node, Tree, above, cell_at, nodes}
+use Rattle.cube_defs.specs.Tree.{IsCanonical, Node, Tree, above, nodes}
 use Rattle.qc_arena.specs.Map.{Arena}
 use Rattle.tree_laws.proofs.MoreCounts.{nodes_no_fewer}
 use Rattle.tree_search.specs.Found.{IsFrom}

@@ -11,7 +11,7 @@ use Rattle.warehouse.specs.State.{State}
 use Rattle.warehouse.specs.Steps.{last_refusal}
 use Rattle.warehouse.specs.Stored.{decoded_rows, refusal_in, state_of}
 use Rattle.value_dict.specs.Told.{AreCodes}
-use Rattle.warehouse.proofs.Causes.{cause-missing, cause-present, cause-rows, caused, count-decoded, missing-caused, missing-decoded, passed, present-decoded, rows-decoded}
+use Rattle.warehouse.proofs.Causes.{cause-present, cause-rows, caused, count-decoded, missing-caused, missing-decoded, passed, present-decoded, rows-decoded}
 use Rattle.warehouse.proofs.Texts.{full-none, longer-same}
 use Rattle.warehouse.proofs.changing.change_rows.Goals as goal
 

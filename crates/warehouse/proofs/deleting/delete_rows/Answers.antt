@@ -56,14 +56,23 @@ pub take_out-requires : goal.take_out-requires
 take_out-requires g c κs within =
     let t = c.changes.table in
     let there : has_id (rows_of t) c.id-id.result ≡ true = grind (arith, c.has.ensures, c.if-not-has.false) in
-    let dims : t.dims ≡ c.args.table.now.dims = ap (λ (t : Places). t.dims) c.changes.invariant.frame in
-    (within,
-    (deletion-is t c.id-id.result there,
-    (ap (λ (t : Places). is_some t.was) c.changes.invariant.frame ∙ c.requires.batch,
-    (ap is_open c.changes.invariant.tree_frame ∙ c.requires.opened,
-    (ap (λ (a : Arena). a.width) c.changes.invariant.tree_frame ∙ c.requires.width ∙ sym dims,
-    subst (λ (m : ℕ). IsCanonical nat_cmp m (rows_of t) c.changes.tree.now) (sym (ap (λ (t : Places). t.measures) c.changes.invariant.frame))
-    (subst (λ (rs : List (Row ℕ)). IsCanonical nat_cmp c.args.table.now.measures rs c.changes.tree.now) (sym c.changes.invariant.rows) c.changes.invariant.canonical))))))
+    let dims : t.dims ≡ c.args.table.now.dims = ap (λ (t : Places). t.dims) c.changes.invariant.frame in (
+      within,
+      (
+        deletion-is t c.id-id.result there,
+        (
+          ap (λ (t : Places). is_some t.was) c.changes.invariant.frame ∙ c.requires.batch,
+          (
+            ap is_open c.changes.invariant.tree_frame ∙ c.requires.opened,
+            (
+              ap (λ (a : Arena). a.width) c.changes.invariant.tree_frame ∙ c.requires.width ∙ sym dims,
+              subst (λ (m : ℕ). IsCanonical nat_cmp m (rows_of t) c.changes.tree.now) (sym (ap (λ (t : Places). t.measures) c.changes.invariant.frame))
+                  (subst (λ (rs : List (Row ℕ)). IsCanonical nat_cmp c.args.table.now.measures rs c.changes.tree.now) (sym c.changes.invariant.rows) c.changes.invariant.canonical),
+            ),
+          ),
+        ),
+      ),
+    )
 
 pub changes-preserved : goal.changes-preserved
 changes-preserved g c =

@@ -1,4 +1,4 @@
-use Rattle.std.proofs.Common.{◌≡◌, ◌<◌, ◌≤◌, ◌+◌, ℕ, false, get_or, length, take, true}
+use Rattle.std.proofs.Common.{◌≡◌, ◌<◌, ◌≤◌, ◌+◌, ℕ, false, get_or, length, take}
 use Rattle.std.specs.Ordering.{nat_cmp}
 use Rattle.base_table.specs.Places.{rows_of}
 use Rattle.csv_load.specs.Batch.{Delete, deleted}

@@ -17,14 +17,25 @@ delete_row-requires g c κs within =
     let u = c.in-Ok.taken.tuple in
     let is = c.is_valid.ensures in
     let row = c.requires.1.0 in
-    let same : u ≡ cell_of g.deletion.r.tuple = tuple-is t c.args.id g.deletion is row u _ c.in-Ok.ensures.taken in
-    (within,
-    (c.requires.1.1.1.0,
-    (tuple-long t c.args.id g.deletion is row u same ∙ sym c.requires.1.1.1.1.0,
-    (from-is t c.args.id g.deletion is row c.args.tree.now.width c.args.tree.now.now c.requires.1.1.1.1.0 c.requires.1.1.1.1.1,
-    (same,
-    (few-before t c.args.id g.deletion is row,
-    rest-of t c.args.id g.deletion is row c.delete.new.self c.in-Ok.ensures.rows u same _ (ap (λ (t : Places). t.measures) c.in-Ok.ensures.ok) c.group-rest.ensures.value))))))
+    let same : u ≡ cell_of g.deletion.r.tuple = tuple-is t c.args.id g.deletion is row u _ c.in-Ok.ensures.taken in (
+      within,
+      (
+        c.requires.1.1.1.0,
+        (
+          tuple-long t c.args.id g.deletion is row u same ∙ sym c.requires.1.1.1.1.0,
+          (
+            from-is t c.args.id g.deletion is row c.args.tree.now.width c.args.tree.now.now c.requires.1.1.1.1.0 c.requires.1.1.1.1.1,
+            (
+              same,
+              (
+                few-before t c.args.id g.deletion is row,
+                rest-of t c.args.id g.deletion is row c.delete.new.self c.in-Ok.ensures.rows u same _ (ap (λ (t : Places). t.measures) c.in-Ok.ensures.ok) c.group-rest.ensures.value,
+              ),
+            ),
+          ),
+        ),
+      ),
+    )
 
 pub returns-clause-tree : goal.returns-clause-tree
 returns-clause-tree g c =

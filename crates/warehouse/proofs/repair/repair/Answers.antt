@@ -3,7 +3,7 @@ use Rattle.std.specs.Ordering.{nat_cmp}
 use Rattle.base_table.specs.Places.{rows_of}
 use Rattle.cube_defs.specs.Rows.{Row}
 use Rattle.cube_defs.specs.Tree.{IsCanonical, nodes}
-use Rattle.qc_arena.specs.Map.{Arena, frame}
+use Rattle.qc_arena.specs.Map.{Arena}
 use Rattle.warehouse.specs.InPlace.{KeepsApart, cost_of}
 use Rattle.warehouse.specs.Steps.{rows_before}
 use Rattle.warehouse.proofs.Repairing.{apart-later, apart-more, apart-none, between-all, nodes-before, rows-whole, steps-more, steps-none}

@@ -1,4 +1,4 @@
-use Rattle.std.proofs.Common.{ap, ◌∙◌, sym}
+use Rattle.std.proofs.Common.{ap}
 use Rattle.qc_arena.specs.Map.{Arena}
 use Rattle.warehouse.proofs.Repairing.{full-at, none-came, none-costs, row-apart, row-came, row-costs, row-full, row-there, source-before}
 use Rattle.warehouse.proofs.repair.repair_at.Goals as goal
