@@ -17,10 +17,20 @@ use Rattle.warehouse.specs.Stored.{state_of}
 use Rattle.value_dict.specs.Told.{decoded_row}
 use Rattle.warehouse.proofs.Changes.{number-same}
 use Rattle.warehouse.proofs.Decoding.{filter-decoded, ids-decoded, length-rows}
-use Rattle.warehouse.proofs.Rows.{has-kept, kept}
+use Rattle.warehouse.specs.InPlace.{kept}
+use Rattle.warehouse.proofs.Rows.{has-kept}
 
 pub cause-missing : (s : State) (changes : List (Change Text)) (k : ℕ) → first_twice changes ≡ None → first_number (is_missing (ids_of s.rows)) changes ≡ Some k → refusal_of s changes ≡ Some (batches.Missing k)
 cause-missing s changes k once missing = rw (once, missing) refl
+
+pub missing-caused : (s : State) (changes : List (Change Text)) (named : Option Refusal) → first_twice changes ≡ None
+    → IfSome named (λ refusal. option_map (λ (k : ℕ). batches.Missing k) (first_number (is_missing (ids_of s.rows)) changes) ≡ Some refusal) → IfSome named (λ refusal. refusal_of s changes ≡ Some refusal)
+missing-caused s changes None once h = h
+missing-caused s changes (Some refusal) once h = go (first_number (is_missing (ids_of s.rows)) changes) refl h
+  where
+    go : (o : Option ℕ) → first_number (is_missing (ids_of s.rows)) changes ≡ o → option_map (λ (k : ℕ). batches.Missing k) o ≡ Some refusal → refusal_of s changes ≡ Some refusal
+    go None is e = let bad : None ≡ Some refusal = e in cc
+    go (Some k) is e = cause-missing s changes k once is ∙ e
 
 pub cause-present : (s : State) (changes : List (Change Text)) (k : ℕ) → first_twice changes ≡ None → first_number (is_missing (ids_of s.rows)) changes ≡ None
     → first_number (is_present (ids_of s.rows) (deleted changes)) changes ≡ Some k → refusal_of s changes ≡ Some (batches.Present k)

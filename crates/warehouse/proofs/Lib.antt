@@ -2,6 +2,7 @@ mod Counted
 mod Causes
 mod Changes
 mod Decoding
+mod Going
 mod Growing
 mod Indexed
 mod Repairing

@@ -1,49 +1,37 @@
 -- Rows that come stand behind those that were there, and the tree takes them one after another.
-use Rattle.std.proofs.Common.{◌≡◌, ◌∙◌, ◌≤◌, ◌<◌, ◌+◌, ◌*◌, ◌^◌, ℕ, ℤ, List, [], ◌∷◌, ◌++◌, Option, Some, None, true, false, append-nil, append_assoc, arith, drop, get_or, is_some, length, map, nat_eq, refl, suc, sym, ap, subst, take, true≢false}
-use Rattle.std.specs.Prelude.{Err, IfSome, Ok, OnOk, Result, option_map}
+use Rattle.std.proofs.Common.{◌≡◌, ◌∙◌, ◌≤◌, ◌<◌, ◌+◌, ◌*◌, ◌^◌, ℕ, ℤ, List, [], ◌∷◌, ◌++◌, Option, Some, None, true, false, append-nil, append_assoc, arith, drop, get_or, is_some, length, map, nat_eq, refl, sym, ap, ap₂, filter, subst, Bool, take, true≢false}
+use Rattle.std.specs.Prelude.{Err, IfSome, Ok, OnOk, Result, not}
 use Rattle.std.specs.Str.{bytes_eq}
 use Rattle.std.specs.Ordering.{nat_cmp}
 use Rattle.std.specs.List.{All, AllByRecursion, IsDistinct}
 use Rattle.std.specs.Cmp.{nat_cmp_total}
 use Rattle.std.specs.FinMap as finmap
 use Rattle.std.specs.FinMap.{nat_cmp-IsAntisymmetric}
-use Rattle.std.proofs.lemmas.List.{append_cancel_left, drop_all, drop-append-le, length-append, length-take, map-append, take_all, take_more, take-append-drop, take-take}
-use Rattle.std.proofs.lemmas.List.Elements.{All-cons, All-head, All-nil, All-tail, filter_map-append}
+use Rattle.std.proofs.lemmas.List.{append_cancel_left, drop_all, drop-append-le, length-append, length-take, map-append, take_all, take_at, take_more, take-append-drop, take-take}
+use Rattle.std.proofs.lemmas.List.Elements.{All-cons, All-filter, All-head, All-nil, All-tail, filter_map-append}
 use Rattle.base_table.specs.Places.{IsTable, Places, row_at, rows_in, rows_of}
 use Rattle.batch_insert.specs.Planned.{IsSource}
 use Rattle.batch_insert.specs.RowComes.{ForRow}
-use Rattle.csv_load.specs.Batch.{AreInsertions, Change, Delete, Insert, deleted, inserted, is_deletion}
+use Rattle.csv_load.specs.Batch.{Change, deleted, inserted}
 use Rattle.csv_load.specs.Faults.{Fault}
 use Rattle.csv_load.specs.Files.{batch_in}
 use Rattle.qc_schema.specs.Schema.{Layout}
 use Rattle.cube_defs.specs.Cell.{Cell, cell_of, leq}
 use Rattle.cube_defs.specs.Rows.{Row}
 use Rattle.cube_defs.specs.Text.{Text}
-use Rattle.cube_defs.specs.Tree.{IsCanonical, Node, Tree, above, cell_at, nodes}
+use Rattle.cube_defs.specs.Tree.{IsCanonical, Node, Tree, above, nodes}
 use Rattle.qc_arena.specs.Map.{Arena}
 use Rattle.tree_laws.proofs.MoreCounts.{nodes_no_fewer}
 use Rattle.tree_search.specs.Found.{IsFrom}
-use Rattle.value_dict.specs.Told.{AreCodes, RowsAreCodes, decoded_row}
-use Rattle.warehouse.specs.Batch.{rows_after}
-use Rattle.warehouse.specs.InPlace.{KeepsApart, KeepsNumbers, OfInsertions, cost_of, with_codes}
+use Rattle.cube_laws.specs.Recoding.{coded_row}
+use Rattle.value_dict.specs.Told.{AreCodes, RowsAreCodes, decoded_row, place_in}
+use Rattle.warehouse.specs.Batch.{is_among, rows_after}
+use Rattle.warehouse.specs.InPlace.{KeepsApart, KeepsNodes, KeepsNumbers, OfBatch, cost_of, cost_of_batch, cost_of_going, gone, kept, with_codes}
 use Rattle.warehouse.specs.Steps.{AreLonger, HasFront, IsTreeBefore, rows_at, rows_before, rows_behind, rows_between}
-use Rattle.warehouse.proofs.Decoding.{rows-back}
+use Rattle.warehouse.proofs.Decoding.{filter-decoded, rows-back}
 use Rattle.warehouse.proofs.Growing.{known-longer, rows-longer}
-use Rattle.warehouse.proofs.Rows.{kept, kept-none}
 use Rattle.warehouse.proofs.Trees.{rows-wide}
 use Rattle.cube_laws.proofs.Lists.{all_front}
-
--- where as many rows come as there are changes, all changes are insertions
-few-inserted : (changes : List (Change Text)) → length (inserted changes) ≤ length changes
-few-inserted [] = let none : 0 ≤ 0 = omega arith in none
-few-inserted (Delete id ∷ changes) = omega (arith, few-inserted changes)
-few-inserted (Insert row ∷ changes) = omega (arith, few-inserted changes)
-
-pub all-inserted : (changes : List (Change Text)) → length (inserted changes) ≡ length changes → AreInsertions changes
-all-inserted [] same = All-nil (λ (c : Change Text). is_deletion c ≡ false)
-all-inserted (Delete id ∷ changes) same = absurd (omega (arith, same, few-inserted changes))
-all-inserted (Insert row ∷ changes) same =
-    All-cons (λ (c : Change Text). is_deletion c ≡ false) (Insert row) changes refl (all-inserted changes (omega (arith, same)))
 
 -- places that stand first
 pub front-same : (t : Places) → HasFront t t
@@ -285,95 +273,75 @@ first-tree t t' a front measures canonical fits =
       fits = subst (λ (rs : List (Row ℕ)). length (nodes nat_cmp rs) ≤ a.max) same fits;
     }
 
-pub first-kept : (t t' : Places) (a : Arena) (changes : List (Change Text)) (first : Option ℕ) → IfSome first (λ place. (place ≡ length t.places) × AreInsertions changes) → (AreInsertions changes → HasFront t t')
-    → t'.measures ≡ t.measures → IsCanonical nat_cmp t.measures (rows_of t) a.now → length (nodes nat_cmp (rows_of t)) ≤ a.max → IfSome first (λ place. IsTreeBefore t' a place)
-first-kept t t' a changes None kept front measures canonical fits = tt
-first-kept t t' a changes (Some place) kept front measures canonical fits =
-    subst (λ (n : ℕ). IsTreeBefore t' a n) (sym kept.0) (first-tree t t' a (front kept.1) measures canonical fits)
+-- rows of codes that are picked by their ids are those of the texts that are
+pub codes-picked : (p : ℕ → Bool) (before now : List (List Text)) (rows : List (Row ℕ)) → AreLonger before now → RowsAreCodes before rows → All (IsDistinct bytes_eq) now
+    → filter (λ row. p row.id) rows ≡ with_codes now (filter (λ row. p row.id) (map (decoded_row before) rows))
+codes-picked p before now rows longer known distinct =
+    let picked = filter (λ (row : Row ℕ). p row.id) rows in
+    let are : RowsAreCodes before picked = All-filter (λ (row : Row ℕ). p row.id) (λ (row : Row ℕ). AreCodes before row.tuple) rows known in
+    sym (rows-back now picked (known-longer before now picked longer are) distinct)
+    ∙ ap (with_codes now) (rows-longer before now picked longer are ∙ sym (filter-decoded p before rows))
 
--- where all changes are insertions, as many rows come
-pub inserted-all : (changes : List (Change Text)) → AreInsertions changes → length (inserted changes) ≡ length changes
-inserted-all [] all = refl
-inserted-all (Delete id ∷ changes) all = absurd (true≢false (All-head (λ (c : Change Text). is_deletion c ≡ false) (Delete id) changes all))
-inserted-all (Insert row ∷ changes) all = ap suc (inserted-all changes (All-tail (λ (c : Change Text). is_deletion c ≡ false) (Insert row) changes all))
+pub codes-all : (before now : List (List Text)) (rows : List (Row ℕ)) → AreLonger before now → RowsAreCodes before rows → All (IsDistinct bytes_eq) now → rows ≡ with_codes now (map (decoded_row before) rows)
+codes-all before now rows longer known distinct =
+    sym (rows-back now rows (known-longer before now rows longer known) distinct) ∙ ap (with_codes now) (rows-longer before now rows longer known)
 
-none-deleted : (changes : List (Change Text)) → AreInsertions changes → deleted changes ≡ []
-none-deleted [] all = refl
-none-deleted (Delete id ∷ changes) all = absurd (true≢false (All-head (λ (c : Change Text). is_deletion c ≡ false) (Delete id) changes all))
-none-deleted (Insert row ∷ changes) all = none-deleted changes (All-tail (λ (c : Change Text). is_deletion c ≡ false) (Insert row) changes all)
+-- a batch: the rows that go, those that are left, and those that come, with codes for their texts
+module _ (rows : List (Row ℕ)) (t : Places) (first : ℕ) (before now : List (List Text)) (changes : List (Change Text)) (longer : AreLonger before now) (known : RowsAreCodes before rows) (known' : RowsAreCodes now (rows_of t))
+    (distinct : All (IsDistinct bytes_eq) now) (left : rows_before t first ≡ kept (deleted changes) rows) (made : map (decoded_row now) (rows_of t) ≡ rows_after (map (decoded_row before) rows) changes) where
+  pub left-rows : rows_before t first ≡ with_codes now (kept (deleted changes) (map (decoded_row before) rows))
+  left-rows = left ∙ codes-picked (λ (id : ℕ). not (is_among id (deleted changes))) before now rows longer known distinct
 
--- the canonical tree of no rows has no nodes
-no-node : (measures : ℕ) (rows : List (Row ℕ)) (b : Tree ℕ) → IsCanonical nat_cmp measures rows b → rows ≡ [] → (k : ℕ) (n : Node ℕ ℕ) → finmap.get b k ≡ Some n → ⊥
-no-node measures rows b canonical none k n h =
-    let empty : IsCanonical nat_cmp measures [] b = subst (λ (rs : List (Row ℕ)). IsCanonical nat_cmp measures rs b) none canonical in
-    true≢false (sym (empty.each k n h).0)
+  pub gone-rows : gone (deleted changes) rows ≡ with_codes now (gone (deleted changes) (map (decoded_row before) rows))
+  gone-rows = codes-picked (λ (id : ℕ). is_among id (deleted changes)) before now rows longer known distinct
 
-no-cell : (measures : ℕ) (rows : List (Row ℕ)) (b : Tree ℕ) → IsCanonical nat_cmp measures rows b → rows ≡ [] → (k : ℕ) (x : Cell ℕ) → cell_at b k ≡ Some x → ⊥
-no-cell measures rows b canonical none k x = go (finmap.get b k) refl
-  where
-    go : (o : Option (Node ℕ ℕ)) → finmap.get b k ≡ o → option_map (λ (n : Node ℕ ℕ). n.cell) o ≡ Some x → ⊥
-    go None is h = let bad : None ≡ Some x = h in cc
-    go (Some n) is h = no-node measures rows b canonical none k n is
-
-pub numbers-kept : (t : Places) (b d : Tree ℕ) (changes : List (Change Text)) (first : Option ℕ) → (first ≡ None → AreInsertions changes → rows_of t ≡ []) → IfSome first (λ place. KeepsNumbers b d)
-    → IsCanonical nat_cmp t.measures (rows_of t) b → AreInsertions changes → KeepsNumbers b d
-numbers-kept t b d changes None none keeps canonical all k x h = absurd (no-cell t.measures (rows_of t) b canonical (none refl all) k x h)
-numbers-kept t b d changes (Some place) none keeps canonical all k x h = keeps k x h
-
-pub apart-kept : (t t' : Places) (b d : Tree ℕ) (changes : List (Change Text)) (first : Option ℕ) → IfSome first (λ place. (place ≡ length t.places) × AreInsertions changes) → (first ≡ None → AreInsertions changes → rows_of t ≡ [])
-    → IfSome first (λ place. KeepsApart (rows_behind t' place) b d) → IsCanonical nat_cmp t.measures (rows_of t) b → AreInsertions changes → KeepsApart (rows_behind t' (length t.places)) b d
-apart-kept t t' b d changes None some none keeps canonical all k n h apart = absurd (no-node t.measures (rows_of t) b canonical (none refl all) k n h)
-apart-kept t t' b d changes (Some place) some none keeps canonical all k n h apart =
-    let all-behind : KeepsApart (rows_behind t' (length t.places)) b d = subst (λ (m : ℕ). KeepsApart (rows_behind t' m) b d) some.0 keeps in
-    all-behind k n h apart
-
-pub steps-kept : (t t' : Places) (begun now : ℕ) (changes : List (Change Text)) (first : Option ℕ) → IfSome first (λ place. (place ≡ length t.places) × AreInsertions changes) → (first ≡ None → AreInsertions changes → rows_of t ≡ [])
-    → IfSome first (λ place. now ≤ begun + cost_of t'.dims (rows_before t' place) (rows_behind t' place)) → AreInsertions changes → 0 < length (rows_of t) → now ≤ begun + cost_of t'.dims (rows_before t' (length t.places)) (rows_behind t' (length t.places))
-steps-kept t t' begun now changes None some none keeps all rows = absurd (omega (arith, rows, ap (λ (rs : List (Row ℕ)). length rs) (none refl all)))
-steps-kept t t' begun now changes (Some place) some none keeps all rows = subst (λ (n : ℕ). now ≤ begun + cost_of t'.dims (rows_before t' n) (rows_behind t' n)) some.0 keeps
-
--- the rows that come are the insertions, with codes for their texts, and the others are those of before
-module _ (t t' : Places) (before now : List (List Text)) (changes : List (Change Text)) (all : AreInsertions changes) (front : HasFront t t') (longer : AreLonger before now) (known : RowsAreCodes before (rows_of t))
-    (known' : RowsAreCodes now (rows_of t')) (distinct : All (IsDistinct bytes_eq) now) (made : map (decoded_row now) (rows_of t') ≡ rows_after (map (decoded_row before) (rows_of t)) changes) where
-  pub first-rows : rows_before t' (length t.places) ≡ with_codes now (map (decoded_row before) (rows_of t))
-  first-rows =
-      ap rows_in front
-      ∙ sym (rows-back now (rows_of t) (known-longer before now (rows_of t) longer known) distinct)
-      ∙ ap (with_codes now) (rows-longer before now (rows_of t) longer known)
-
-  split : rows_of t' ≡ rows_of t ++ rows_behind t' (length t.places)
-  split = rows-split t' (length t.places) ∙ ap (λ (ps : List (Option (Row ℕ))). rows_in ps ++ rows_behind t' (length t.places)) front
-
-  added : map (decoded_row now) (rows_behind t' (length t.places)) ≡ inserted changes
+  added : map (decoded_row now) (rows_behind t first) ≡ inserted changes
   added =
-      append_cancel_left (map (decoded_row before) (rows_of t)) (map (decoded_row now) (rows_behind t' (length t.places))) (inserted changes)
-      (ap (λ (rs : List (Row Text)). rs ++ map (decoded_row now) (rows_behind t' (length t.places))) (sym (rows-longer before now (rows_of t) longer known))
-      ∙ sym (map-append (decoded_row now) (rows_of t) (rows_behind t' (length t.places)))
-      ∙ ap (map (decoded_row now)) (sym split)
-      ∙ made
-      ∙ ap (λ (ids : List ℕ). kept ids (map (decoded_row before) (rows_of t)) ++ inserted changes) (none-deleted changes all)
-      ∙ ap (λ (rs : List (Row Text)). rs ++ inserted changes) (kept-none (map (decoded_row before) (rows_of t))))
+      let old = kept (deleted changes) rows in
+      let are : RowsAreCodes before old = All-filter (λ (row : Row ℕ). not (is_among row.id (deleted changes))) (λ (row : Row ℕ). AreCodes before row.tuple) rows known in
+      let same : map (decoded_row now) (rows_before t first) ≡ kept (deleted changes) (map (decoded_row before) rows) =
+      ap (map (decoded_row now)) left ∙ rows-longer before now old longer are ∙ sym (filter-decoded (λ (id : ℕ). not (is_among id (deleted changes))) before rows) in
+      append_cancel_left (kept (deleted changes) (map (decoded_row before) rows)) (map (decoded_row now) (rows_behind t first)) (inserted changes)
+      (ap (λ (rs : List (Row Text)). rs ++ map (decoded_row now) (rows_behind t first)) (sym same)
+      ∙ sym (map-append (decoded_row now) (rows_before t first) (rows_behind t first))
+      ∙ ap (map (decoded_row now)) (sym (rows-split t first))
+      ∙ made)
 
-  pub later-rows : rows_behind t' (length t.places) ≡ with_codes now (inserted changes)
+  pub later-rows : rows_behind t first ≡ with_codes now (inserted changes)
   later-rows =
-      sym (rows-back now (rows_behind t' (length t.places))
-      (all-right (λ (row : Row ℕ). AreCodes now row.tuple) (rows_of t) (rows_behind t' (length t.places)) (subst (λ (rs : List (Row ℕ)). RowsAreCodes now rs) split known')) distinct)
+      sym (rows-back now (rows_behind t first)
+      (all-right (λ (row : Row ℕ). AreCodes now row.tuple) (rows_before t first) (rows_behind t first) (subst (λ (rs : List (Row ℕ)). RowsAreCodes now rs) (rows-split t first) known')) distinct)
       ∙ ap (with_codes now) added
 
-no-rows : (rows : List (Row ℕ)) → length rows ≡ 0 → rows ≡ []
-no-rows [] none = refl
-no-rows (row ∷ rows) none = absurd (omega (arith, none))
+  pub batch-numbers : (b d e : Tree ℕ) → KeepsNodes (kept (deleted changes) rows) b d → KeepsNumbers d e → KeepsNodes (with_codes now (kept (deleted changes) (map (decoded_row before) rows))) b e
+  batch-numbers b d e one two =
+      subst (λ (rs : List (Row ℕ)). KeepsNodes rs b e) (sym left ∙ left-rows) (λ k c h node. two k c (one k c h node))
 
-pub rows-none : (t : Places) → length (rows_of t) ≡ 0 → rows_of t ≡ []
-rows-none t none = no-rows (rows_of t) none
+  pub batch-apart : (b d e : Tree ℕ) → KeepsApart (gone (deleted changes) rows) b d → KeepsApart (rows_behind t first) d e
+      → KeepsApart (with_codes now (gone (deleted changes) (map (decoded_row before) rows) ++ inserted changes)) b e
+  batch-apart b d e one two k n h all =
+      let Apart : Row ℕ → Type 0 = λ row. leq nat_eq n.cell (cell_of row.tuple) ≡ false in
+      let both : All Apart (gone (deleted changes) rows ++ rows_behind t first) =
+      subst (λ (rs : List (Row ℕ)). All Apart rs)
+      (map-append (coded_row (place_in now)) (gone (deleted changes) (map (decoded_row before) rows)) (inserted changes) ∙ ap₂ (λ (xs ys : List (Row ℕ)). xs ++ ys) (sym gone-rows) (sym later-rows)) all in
+      two k n (one k n h (all-left Apart (gone (deleted changes) rows) (rows_behind t first) both)) (all-right Apart (gone (deleted changes) rows) (rows_behind t first) both)
+
+  pub batch-steps : (dims begun here end : ℕ) → here ≤ begun + cost_of_going dims rows (deleted changes) → end ≤ here + cost_of dims (rows_before t first) (rows_behind t first)
+      → end ≤ begun + cost_of_batch dims now (map (decoded_row before) rows) changes
+  batch-steps dims begun here end one two =
+      let going : here ≤ begun + cost_of_going dims (with_codes now (map (decoded_row before) rows)) (deleted changes) =
+      subst (λ (rs : List (Row ℕ)). here ≤ begun + cost_of_going dims rs (deleted changes)) (codes-all before now rows longer known distinct) one in
+      let coming : end ≤ here + cost_of dims (with_codes now (kept (deleted changes) (map (decoded_row before) rows))) (with_codes now (inserted changes)) =
+      subst (λ (rs : List (Row ℕ)). end ≤ here + cost_of dims rs (with_codes now (inserted changes))) left-rows
+      (subst (λ (rs : List (Row ℕ)). end ≤ here + cost_of dims (rows_before t first) rs) later-rows two) in
+      omega (arith, going, coming)
 
 -- what a call says of the changes that it read holds of those that the file gives
 ok-same : (read : Result (List (Change Text)) Fault) (xs ys : List (Change Text)) → read ≡ Ok xs → read ≡ Ok ys → xs ≡ ys
 ok-same read xs ys one two = cc
 
-pub of-insertions : {T E : Type 0} (result : Result T E) (schema : Layout) (bytes : List ℕ) (changes : List (Change Text)) (Holds : List (Change Text) → Type 0) → batch_in schema bytes ≡ Ok changes
-    → OnOk result (AreInsertions changes → Holds changes) → OnOk result (OfInsertions schema bytes Holds)
-of-insertions (Err e) schema bytes changes Holds same holds = tt
-of-insertions (Ok x) schema bytes changes Holds same holds = λ other read all.
-    let is : changes ≡ other = ok-same (batch_in schema bytes) changes other same read in
-    subst Holds is (holds (subst (λ (cs : List (Change Text)). AreInsertions cs) (sym is) all))
+pub of-batch : {T E : Type 0} (result : Result T E) (schema : Layout) (bytes : List ℕ) (changes : List (Change Text)) (Holds : List (Change Text) → Type 0) → batch_in schema bytes ≡ Ok changes
+    → OnOk result (true ≡ true → Holds changes) → OnOk result (OfBatch schema bytes Holds)
+of-batch (Err e) schema bytes changes Holds same holds = tt
+of-batch (Ok x) schema bytes changes Holds same holds = λ other read.
+    subst Holds (ok-same (batch_in schema bytes) changes other same read) (holds refl)

@@ -1,17 +1,15 @@
 -- Rows that stay where those of some ids go.
-use Rattle.std.proofs.Common.{◌≡◌, ◌∙◌, ℕ, List, [], ◌∷◌, ◌++◌, Bool, true, false, filter, refl, sym, ap, arith}
+use Rattle.std.proofs.Common.{◌≡◌, ◌∙◌, ℕ, List, [], ◌∷◌, ◌++◌, Bool, true, false, refl, sym, ap, arith}
 use Rattle.std.specs.Prelude.{◌||◌, ◌&&◌, not, nat_eq}
 use Rattle.std.specs.List.{list_any}
 use Rattle.std.proofs.lemmas.Bool.{eqb-true}
 use Rattle.cube_defs.specs.Rows.{Row}
 use Rattle.base_table.specs.Places.{has_id, without_id}
 use Rattle.warehouse.specs.Batch.{is_among}
+use Rattle.warehouse.specs.InPlace.{kept}
 use Rattle.warehouse.specs.State.{ids_of}
 use Rattle.cube_laws.proofs.Orders.{nat_eq-turned}
 
--- the rows without those of some ids
-abbrev pub kept : {A : Type 0} → List ℕ → List (Row A) → List (Row A)
-kept gone rows = filter (λ row. not (is_among row.id gone)) rows
 
 pub among-turned : (id : ℕ) (ids : List ℕ) → is_among id ids ≡ list_any (nat_eq id) ids
 among-turned id [] = refl

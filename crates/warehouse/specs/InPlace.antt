@@ -1,36 +1,76 @@
--- What a batch that only adds rows leaves of the tree as it was, and what it may cost.
-use Rattle.std.specs.Prelude.{ℕ, ◌+◌, ◌*◌, ◌^◌, ◌≡◌, false, nat_eq, List, [], ◌∷◌, ◌++◌, map, Some, Ok}
+-- What a batch leaves of the tree as it was, and what it may cost.
+use Rattle.std.specs.Prelude.{ℕ, ◌+◌, ◌*◌, ◌^◌, ◌≡◌, not, true, false, nat_eq, List, [], ◌∷◌, ◌++◌, filter, map, Option, None, Some, Ok}
 use Rattle.std.specs.List.{All}
 use Rattle.std.specs.FinMap as finmap
-use Rattle.std.specs.Ordering.{nat_cmp}
-use Rattle.csv_load.specs.Batch.{AreInsertions, Change}
+use Rattle.std.specs.Ordering.{nat_cmp, eq_by_cmp}
+use Rattle.base_table.specs.Places.{Places, row_with_id, rows_of, without_id}
+use Rattle.batch_delete.specs.Rests.{Deletion, rows_before}
+use Rattle.csv_load.specs.Batch.{Change, deleted, inserted}
 use Rattle.csv_load.specs.Files.{batch_in}
 use Rattle.cube_defs.specs.Cell.{Cell, cell_of, leq}
-use Rattle.cube_defs.specs.Rows.{Row}
+use Rattle.cube_defs.specs.Rows.{Row, is_node}
 use Rattle.cube_defs.specs.Text.{Text}
 use Rattle.cube_defs.specs.Tree.{Node, Tree, above, cell_at}
 use Rattle.cube_laws.specs.Recoding.{coded_row}
 use Rattle.qc_schema.specs.Schema.{Layout}
 use Rattle.value_dict.specs.Told.{place_in}
+use Rattle.warehouse.specs.Batch.{is_among}
+
+module _ {A : Type 0} where
+  -- the rows with one of these ids, and the others
+  abbrev pub gone : List ℕ → List (Row A) → List (Row A)
+  gone ids rows = filter (λ row. is_among row.id ids) rows
+
+  abbrev pub kept : List ℕ → List (Row A) → List (Row A)
+  kept ids rows = filter (λ row. not (is_among row.id ids)) rows
 
 -- each node keeps its number
 abbrev pub KeepsNumbers : Tree ℕ → Tree ℕ → Type 0
 KeepsNumbers before now = (k : ℕ) (c : Cell ℕ) → cell_at before k ≡ Some c → cell_at now k ≡ Some c
 
+-- each node that is one of these rows too keeps its number
+abbrev pub KeepsNodes : List (Row ℕ) → Tree ℕ → Tree ℕ → Type 0
+KeepsNodes rows before now = (k : ℕ) (c : Cell ℕ) → cell_at before k ≡ Some c → is_node (eq_by_cmp nat_cmp) rows c ≡ true → cell_at now k ≡ Some c
+
 -- each node that is below none of these rows' tuples keeps its whole record
 abbrev pub KeepsApart : List (Row ℕ) → Tree ℕ → Tree ℕ → Type 0
-KeepsApart came before now =
-    (k : ℕ) (n : Node ℕ ℕ) → finmap.get before k ≡ Some n → All (λ row. leq nat_eq n.cell (cell_of row.tuple) ≡ false) came → finmap.get now k ≡ Some n
+KeepsApart rows before now =
+    (k : ℕ) (n : Node ℕ ℕ) → finmap.get before k ≡ Some n → All (λ row. leq nat_eq n.cell (cell_of row.tuple) ≡ false) rows → finmap.get now k ≡ Some n
 
--- the most steps for rows that come one after another to others: for each by how much stands above its tuple
+-- the most steps for one row that comes or goes, by what stands above its tuple in the rows before and after
+abbrev pub cost_of_row : ℕ → List (Row ℕ) → List (Row ℕ) → Row ℕ → ℕ
+cost_of_row dims before after row = 256 * (dims + 1) ^ 2 * (above nat_cmp before after row.tuple + 1)
+
+-- the most steps for rows that come one after another to others
 abbrev pub cost_of : ℕ → List (Row ℕ) → List (Row ℕ) → ℕ
 cost_of dims before [] = 0
-cost_of dims before (row ∷ came) = 256 * (dims + 1) ^ 2 * (above nat_cmp before (before ++ row ∷ []) row.tuple + 1) + cost_of dims (before ++ row ∷ []) came
+cost_of dims before (row ∷ came) = cost_of_row dims before (before ++ row ∷ []) row + cost_of dims (before ++ row ∷ []) came
+
+-- the most steps for a row that goes, if there is one
+abbrev pub cost_without : ℕ → List (Row ℕ) → Option (Row ℕ) → ℕ
+cost_without dims before None = 0
+cost_without dims before (Some row) = cost_of_row dims before (without_id before row.id) row
+
+-- the most steps for rows that go one after another, by their ids
+abbrev pub cost_of_going : ℕ → List (Row ℕ) → List ℕ → ℕ
+cost_of_going dims before [] = 0
+cost_of_going dims before (id ∷ ids) = cost_without dims before (row_with_id before id) + cost_of_going dims (without_id before id) ids
 
 -- rows with the place of each text in place of the text
 abbrev pub with_codes : List (List Text) → List (Row Text) → List (Row ℕ)
 with_codes lists rows = map (coded_row (place_in lists)) rows
 
--- the file is a batch without a deletion, and this holds of its changes
-abbrev pub OfInsertions : Layout → List ℕ → (List (Change Text) → Type 0) → Type 0
-OfInsertions schema bytes Holds = (changes : List (Change Text)) → batch_in schema bytes ≡ Ok changes → AreInsertions changes → Holds changes
+-- the most steps for a batch: for its deletions, and then for its insertions
+abbrev pub cost_of_batch : ℕ → List (List Text) → List (Row Text) → List (Change Text) → ℕ
+cost_of_batch dims lists rows changes =
+    cost_of_going dims (with_codes lists rows) (deleted changes) + cost_of dims (with_codes lists (kept (deleted changes) rows)) (with_codes lists (inserted changes))
+
+-- the file is a batch, and this holds of its changes
+abbrev pub OfBatch : Layout → List ℕ → (List (Change Text) → Type 0) → Type 0
+OfBatch schema bytes Holds = (changes : List (Change Text)) → batch_in schema bytes ≡ Ok changes → Holds changes
+
+-- the row with an id goes out of a table
+pub record IsDeletion (table : Places) (id : ℕ) (d : Deletion) : Type 0 where
+  pub rows : rows_of table ≡ rows_before d
+  pub named : d.r.id ≡ id
+  pub measures : d.measures ≡ table.measures

@@ -1,9 +1,9 @@
 // Changes are made to rows and texts, all of them or none, and the tree is made that of the rows after
-// them: in place where rows only come, and else anew.
+// them: in place for a batch, and anew for a base file.
 ghost use Rattle.std.specs.Prelude.{Err, IfErr, IfOk, IfSome, None, Ok, OnErr, OnOk, Some, [], false, filter, is_some, length, not, option_map, true, ◌+◌, ◌++◌, ◌<◌, ◌∷◌, ◌≡◌, ◌≤◌};
 ghost use Rattle.base_table.specs.Places.{has_id, rows_of};
 ghost use Rattle.cell_core.specs.Gives.{Gives};
-ghost use Rattle.csv_load.specs.Batch.{AreInsertions, IsBatch, change_at, deleted, id_of, inserted, is_deletion, row_of};
+ghost use Rattle.csv_load.specs.Batch.{IsBatch, change_at, deleted, id_of, inserted, is_deletion, row_of};
 ghost use Rattle.cube_defs.specs.Tree.{IsCanonical, nodes};
 ghost use Rattle.qc_arena.specs.Map as arena;
 ghost use Rattle.qc_arena.specs.Map.{is_open};
@@ -11,13 +11,14 @@ ghost use Rattle.std.specs.Ordering.{nat_cmp};
 ghost use Rattle.value_dict.specs.TextLists.{IsDictionary};
 ghost use Rattle.warehouse.specs.Batch as batches;
 ghost use Rattle.warehouse.specs.Batch.{after, first_number, first_twice, full_dim, is_among, is_missing, refusal_of, result_of, texts_after, with_tuple};
-ghost use Rattle.warehouse.specs.InPlace.{KeepsApart, KeepsNumbers, cost_of, with_codes};
+ghost use Rattle.warehouse.specs.InPlace.{KeepsApart, KeepsNodes, KeepsNumbers, cost_of, cost_of_batch, cost_of_going, gone, kept, with_codes};
 ghost use Rattle.warehouse.specs.State.{IsIndexed, ids_of};
 ghost use Rattle.warehouse.specs.Steps.{AreLonger, HasFront, IsCause, IsOver, IsTreeBefore, closed, frame, is_there, last_refusal, rows_before, rows_behind};
 ghost use Rattle.warehouse.specs.Stored.{IsKept, IsStored, IsTreeOf, applied_in, decoded_rows, refusal_in, state_of};
 ghost use Rattle.value_dict.specs.Told.{RowsAreCodes};
 
 use crate::checks::{first_present, first_repeat, is_full};
+use crate::deleting::delete_rows;
 use crate::indexing::change_index;
 use crate::learning::{learn_tuple, lengths, values_full};
 use crate::one_batch::{go_back, keep, open_batch};
@@ -34,29 +35,6 @@ use qc_schema::Schema;
 use std::alloc::Global;
 use std::sync::ledger::Ledger;
 use value_dict::{Dict, Learn};
-
-// Takes the rows out that are deleted. Err has the number of the first deletion of an id that
-// isn't there.
-fn delete_rows(table: &mut Table, batch: &RawBatch) -> Result<(), u32>
-    requires is_open { is_some table.old.was ≡ true }
-    requires once { first_twice batch.now.changes ≡ None }
-    ensures none { OnOk result (first_number (is_missing (ids_of (rows_of table.old))) batch.now.changes ≡ None) }
-    ensures missing { IfErr result (λ k. first_number (is_missing (ids_of (rows_of table.old))) batch.now.changes ≡ Some k) }
-    ensures rows { OnOk result (rows_of table.new ≡ filter (λ row. not (is_among row.id (deleted batch.now.changes))) (rows_of table.old)) }
-    ensures same { AreInsertions batch.now.changes → table.new ≡ table.old }
-    ensures frame { frame table.new ≡ frame table.old }
-{
-    'changes: for before in 0..batch.len() {
-        let number = before + 1;
-        if batch.is_delete(number) {
-            match table.delete(batch.id(number)) {
-                Ok(_) => {}
-                Err(_) => return Err(number),
-            }
-        }
-    }
-    Ok(())
-}
 
 // Puts a row in whose id isn't there, where there is room.
 fn insert_row(
@@ -186,16 +164,24 @@ fn add_rows(
     }
 }
 
-// Makes the changes in a batch that is open. After a refusal some of them are made.
-fn change_rows(
+// Makes the changes to rows and texts in a batch that is open, and takes the rows that go out of the
+// tree. It tells how many places the table has before the rows that come. After a refusal some of the
+// changes are made.
+fn change_rows<L: Ledger>(
     schema: &Schema,
     table: &mut Table,
     dict: &mut Dict,
+    tree: &mut QcArena,
     batch: &RawBatch,
     alloc: Global,
-) -> Result<(), Refused>
+    steps: &mut Steps<L>,
+) -> Result<u32, Refused>
     requires stored { IsStored schema.now dict.old (closed table.old) }
     requires is_open { is_some table.old.was ≡ true }
+    requires opened { is_open tree.old ≡ true }
+    requires width { tree.old.width ≡ length schema.now.dims }
+    requires tree { IsCanonical nat_cmp table.old.measures (rows_of table.old) tree.old.now }
+    requires few_nodes { length (nodes nat_cmp (rows_of table.old)) ≤ tree.old.max }
     requires dims { batch.now.dims ≡ length schema.now.dims }
     requires measures { batch.now.measures ≡ length schema.now.measures }
     requires once { first_twice batch.now.changes ≡ None }
@@ -207,12 +193,17 @@ fn change_rows(
     ensures longer { AreLonger dict.old.lists dict.new.lists }
     ensures max { dict.new.max ≡ dict.old.max }
     ensures dictionary { IsDictionary dict.new }
-    ensures front { AreInsertions batch.now.changes → HasFront table.old table.new }
     ensures frame { frame table.new ≡ frame table.old }
+    ensures left { IfOk result (λ first. rows_before table.new first ≡ kept (deleted batch.now.changes) (rows_of table.old)) }
+    ensures tree { IfOk result (λ first. IsTreeBefore table.new tree.new first) }
+    ensures numbers { OnOk result (KeepsNodes (kept (deleted batch.now.changes) (rows_of table.old)) tree.old.now tree.new.now) }
+    ensures apart { OnOk result (KeepsApart (gone (deleted batch.now.changes) (rows_of table.old)) tree.old.now tree.new.now) }
+    ensures steps { OnOk result (steps.new ≤ steps.old + cost_of_going table.old.dims (rows_of table.old) (deleted batch.now.changes)) }
+    ensures tree_frame { arena.frame tree.new ≡ arena.frame tree.old }
 {
-    match delete_rows(table, batch) {
+    match delete_rows(table, tree, batch, alloc, steps) {
         Ok(()) => {}
-        Err(k) => return Err(Refused::Missing(k)),
+        Err(refused) => return Err(refused),
     }
     if let Some(k) = first_present(table, batch) {
         return Err(Refused::Present(k));
@@ -220,8 +211,11 @@ fn change_rows(
     if is_full(table, batch, schema.rows()) {
         return Err(Refused::RowsFull);
     }
-    add_rows(schema, table, dict, batch, alloc)?;
-    Ok(())
+    let first = table.places();
+    match add_rows(schema, table, dict, batch, alloc) {
+        Ok(()) => Ok(first),
+        Err(refused) => Err(refused),
+    }
 }
 
 // Makes the tree of the table's rows anew. After a refusal the tree is none in particular.
@@ -252,41 +246,31 @@ fn rebuild<L: Ledger>(
     }
 }
 
-// How many places a table has, if there are rows that a batch only adds to.
-fn places_kept(table: &Table, batch: &RawBatch) -> Option<u32>
-    ensures some { IfSome result (λ first. (first ≡ length table.now.places) × AreInsertions batch.now.changes) }
-    ensures none { result ≡ None → AreInsertions batch.now.changes → rows_of table.now ≡ [] }
-{
-    if table.count() > 0 && batch.insertions() == batch.len() {
-        Some(table.places())
-    } else {
-        None
-    }
-}
-
-// Makes the tree of the table's rows, from that of the rows before a place where the tree is that, or
-// else anew. After a refusal the tree is none in particular.
+// Makes the tree of the table's rows: from that of the rows before a place, in place, or else anew.
+// After a refusal the tree is none in particular.
 fn make_tree<L: Ledger>(
     table: &Table,
     tree: &mut QcArena,
-    first: Option<u32>,
+    first: u32,
+    in_place: bool,
     alloc: Global,
     steps: &mut Steps<L>,
 ) -> Result<(), ArenaRefused>
     requires opened { is_open tree.old ≡ true }
     requires width { tree.old.width ≡ table.now.dims }
-    requires tree { IfSome first (λ place. IsTreeBefore table.now tree.old place) }
+    requires tree { IsTreeBefore table.now tree.old first }
     ensures tree { OnOk result (IsCanonical nat_cmp table.now.measures (rows_of table.now) tree.new.now) }
     ensures fits { OnOk result (length (nodes nat_cmp (rows_of table.now)) ≤ tree.old.max) }
     ensures full { result ≡ Err ArenaRefused.Full → tree.old.max < length (nodes nat_cmp (rows_of table.now)) }
-    ensures numbers { IfSome first (λ place. KeepsNumbers tree.old.now tree.new.now) }
-    ensures apart { IfSome first (λ place. KeepsApart (rows_behind table.now place) tree.old.now tree.new.now) }
-    ensures steps { OnOk result (IfSome first (λ place. steps.new ≤ steps.old + cost_of table.now.dims (rows_before table.now place) (rows_behind table.now place))) }
+    ensures numbers { in_place ≡ true → KeepsNumbers tree.old.now tree.new.now }
+    ensures apart { in_place ≡ true → KeepsApart (rows_behind table.now first) tree.old.now tree.new.now }
+    ensures steps { OnOk result (in_place ≡ true → steps.new ≤ steps.old + cost_of table.now.dims (rows_before table.now first) (rows_behind table.now first)) }
     ensures frame { arena.frame tree.new ≡ arena.frame tree.old }
 {
-    match first {
-        Some(first) => repair(table, tree, first, alloc, steps),
-        None => rebuild(table, tree, alloc, steps),
+    if in_place {
+        repair(table, tree, first, alloc, steps)
+    } else {
+        rebuild(table, tree, alloc, steps)
     }
 }
 
@@ -298,6 +282,7 @@ fn change_and_build<L: Ledger>(
     dict: &mut Dict,
     tree: &mut QcArena,
     batch: &RawBatch,
+    in_place: bool,
     alloc: Global,
     steps: &mut Steps<L>,
 ) -> Result<(), Refused>
@@ -316,9 +301,9 @@ fn change_and_build<L: Ledger>(
     ensures made { OnOk result (state_of schema.now dict.new table.new ≡ after (state_of schema.now dict.old table.old) batch.now.changes) }
     ensures tree { OnOk result (IsCanonical nat_cmp table.new.measures (rows_of table.new) tree.new.now) }
     ensures fits { OnOk result (length (nodes nat_cmp (rows_of table.new)) ≤ schema.now.nodes) }
-    ensures numbers { OnOk result (AreInsertions batch.now.changes → KeepsNumbers tree.old.now tree.new.now) }
-    ensures apart { OnOk result (AreInsertions batch.now.changes → KeepsApart (with_codes dict.new.lists (inserted batch.now.changes)) tree.old.now tree.new.now) }
-    ensures steps { OnOk result (AreInsertions batch.now.changes → 0 < length (rows_of table.old) → steps.new ≤ steps.old + cost_of (length schema.now.dims) (with_codes dict.new.lists (decoded_rows dict.old.lists table.old)) (with_codes dict.new.lists (inserted batch.now.changes))) }
+    ensures numbers { OnOk result (in_place ≡ true → KeepsNodes (with_codes dict.new.lists (kept (deleted batch.now.changes) (decoded_rows dict.old.lists table.old))) tree.old.now tree.new.now) }
+    ensures apart { OnOk result (in_place ≡ true → KeepsApart (with_codes dict.new.lists (gone (deleted batch.now.changes) (decoded_rows dict.old.lists table.old) ++ inserted batch.now.changes)) tree.old.now tree.new.now) }
+    ensures steps { OnOk result (in_place ≡ true → steps.new ≤ steps.old + cost_of_batch (length schema.now.dims) dict.new.lists (decoded_rows dict.old.lists table.old) batch.now.changes) }
     ensures known { OnOk result (RowsAreCodes dict.new.lists (rows_of table.new)) }
     ensures cause { IfErr result (λ refused. IsCause refused (state_of schema.now dict.old table.old) batch.now.changes) }
     ensures longer { AreLonger dict.old.lists dict.new.lists }
@@ -327,9 +312,11 @@ fn change_and_build<L: Ledger>(
     ensures frame { frame table.new ≡ frame table.old }
     ensures tree_frame { arena.frame tree.new ≡ arena.frame tree.old }
 {
-    let first = places_kept(table, batch);
-    change_rows(schema, table, dict, batch, alloc)?;
-    match make_tree(table, tree, first, alloc, steps) {
+    let first = match change_rows(schema, table, dict, tree, batch, alloc, steps) {
+        Ok(first) => first,
+        Err(refused) => return Err(refused),
+    };
+    match make_tree(table, tree, first, in_place, alloc, steps) {
         Ok(()) => Ok(()),
         Err(ArenaRefused::Full) => Err(Refused::NodesFull),
         Err(ArenaRefused::Memory) => Err(Refused::Memory),
@@ -345,6 +332,7 @@ fn change_and_index<L: Ledger>(
     tree: &mut QcArena,
     index: &mut Index,
     batch: &RawBatch,
+    in_place: bool,
     alloc: Global,
     steps: &mut Steps<L>,
 ) -> Result<(), Refused>
@@ -371,13 +359,13 @@ fn change_and_index<L: Ledger>(
     ensures dictionary { IsDictionary dict.new }
     ensures frame { frame table.new ≡ frame table.old }
     ensures tree_frame { arena.frame tree.new ≡ arena.frame tree.old }
-    ensures numbers { OnOk result (AreInsertions batch.now.changes → KeepsNumbers tree.old.now tree.new.now) }
-    ensures apart { OnOk result (AreInsertions batch.now.changes → KeepsApart (with_codes dict.new.lists (inserted batch.now.changes)) tree.old.now tree.new.now) }
-    ensures steps { OnOk result (AreInsertions batch.now.changes → 0 < length (rows_of table.old) → steps.new ≤ steps.old + cost_of (length schema.now.dims) (with_codes dict.new.lists (decoded_rows dict.old.lists table.old)) (with_codes dict.new.lists (inserted batch.now.changes))) }
+    ensures numbers { OnOk result (in_place ≡ true → KeepsNodes (with_codes dict.new.lists (kept (deleted batch.now.changes) (decoded_rows dict.old.lists table.old))) tree.old.now tree.new.now) }
+    ensures apart { OnOk result (in_place ≡ true → KeepsApart (with_codes dict.new.lists (gone (deleted batch.now.changes) (decoded_rows dict.old.lists table.old) ++ inserted batch.now.changes)) tree.old.now tree.new.now) }
+    ensures steps { OnOk result (in_place ≡ true → steps.new ≤ steps.old + cost_of_batch (length schema.now.dims) dict.new.lists (decoded_rows dict.old.lists table.old) batch.now.changes) }
     ensures indexed { OnOk result (IsIndexed schema.now tree.new.now index.new) }
     ensures same_index { OnErr result (index.new ≡ index.old) }
 {
-    change_and_build(schema, table, dict, tree, batch, alloc, steps)?;
+    change_and_build(schema, table, dict, tree, batch, in_place, alloc, steps)?;
     table.is_valid();
     match change_index(schema, tree, index, alloc) {
         Ok(()) => Ok(()),
@@ -394,6 +382,7 @@ pub(crate) fn change<L: Ledger>(
     tree: &mut QcArena,
     index: &mut Index,
     batch: &RawBatch,
+    in_place: bool,
     alloc: Global,
     steps: &mut Steps<L>,
 ) -> Result<Applied, Refused>
@@ -406,9 +395,9 @@ pub(crate) fn change<L: Ledger>(
     ensures state { OnErr result (state_of schema.now dict.new table.new ≡ state_of schema.now dict.old table.old) }
     ensures tree { OnErr result (tree.new.now ≡ tree.old.now) }
     ensures index { OnErr result (index.new ≡ index.old) }
-    ensures numbers { OnOk result (AreInsertions batch.now.changes → KeepsNumbers tree.old.now tree.new.now) }
-    ensures apart { OnOk result (AreInsertions batch.now.changes → KeepsApart (with_codes dict.new.lists (inserted batch.now.changes)) tree.old.now tree.new.now) }
-    ensures steps { OnOk result (AreInsertions batch.now.changes → 0 < length (decoded_rows dict.old.lists table.old) → steps.new ≤ steps.old + cost_of (length schema.now.dims) (with_codes dict.new.lists (decoded_rows dict.old.lists table.old)) (with_codes dict.new.lists (inserted batch.now.changes))) }
+    ensures numbers { OnOk result (in_place ≡ true → KeepsNodes (with_codes dict.new.lists (kept (deleted batch.now.changes) (decoded_rows dict.old.lists table.old))) tree.old.now tree.new.now) }
+    ensures apart { OnOk result (in_place ≡ true → KeepsApart (with_codes dict.new.lists (gone (deleted batch.now.changes) (decoded_rows dict.old.lists table.old) ++ inserted batch.now.changes)) tree.old.now tree.new.now) }
+    ensures steps { OnOk result (in_place ≡ true → steps.new ≤ steps.old + cost_of_batch (length schema.now.dims) dict.new.lists (decoded_rows dict.old.lists table.old) batch.now.changes) }
     ensures stored { IsStored schema.now dict.new table.new }
     ensures kept { IsKept schema.now table.new tree.new }
     ensures indexed { IsIndexed schema.now tree.new.now index.new }
@@ -418,7 +407,9 @@ pub(crate) fn change<L: Ledger>(
     }
     let records = batch.len();
     let lens = open_batch(schema, table, dict, tree);
-    match change_and_index(schema, table, dict, tree, index, batch, alloc, steps) {
+    match change_and_index(
+        schema, table, dict, tree, index, batch, in_place, alloc, steps,
+    ) {
         Ok(()) => {
             keep(table, tree);
             let classes = tree.class_count();

@@ -4,6 +4,7 @@
 
 mod changing;
 mod checks;
+mod deleting;
 mod indexing;
 mod learning;
 mod one_batch;

@@ -1,7 +1,7 @@
 // The state, the tree of its rows, the index of the tree's classes, and what files do to them.
-ghost use Rattle.std.specs.Prelude.{Err, IfOk, IfSome, List, Ok, OnErr, OnOk, Result, length, ◌+◌, ◌<◌, ◌≡◌, ◌≤◌};
+ghost use Rattle.std.specs.Prelude.{Err, IfOk, IfSome, List, Ok, OnErr, OnOk, Result, length, true, ◌+◌, ◌++◌, ◌≡◌, ◌≤◌};
 ghost use Rattle.cell_core.specs.Gives.{Gives};
-ghost use Rattle.csv_load.specs.Batch.{AreInsertions, Change, inserted};
+ghost use Rattle.csv_load.specs.Batch.{Change, deleted, inserted};
 ghost use Rattle.csv_load.specs.Faults.{Fault, fault_in};
 ghost use Rattle.cube_defs.specs.Text.{Text, text_cmp};
 ghost use Rattle.cube_defs.specs.Tree as trees;
@@ -11,7 +11,7 @@ ghost use Rattle.measure_index.specs.Index.{ranking_of};
 ghost use Rattle.measure_index.specs.Rankings.{IsIndex};
 ghost use Rattle.warehouse.specs.Batch as batches;
 ghost use Rattle.warehouse.specs.Batch.{result_of};
-ghost use Rattle.warehouse.specs.InPlace.{KeepsApart, KeepsNumbers, OfInsertions, cost_of, with_codes};
+ghost use Rattle.warehouse.specs.InPlace.{KeepsApart, KeepsNodes, OfBatch, cost_of_batch, gone, kept, with_codes};
 ghost use Rattle.warehouse.specs.State.{IsHeld, State, empty, scale_in};
 ghost use Rattle.warehouse.specs.Stored.{applied_in, refusal_in};
 
@@ -161,14 +161,15 @@ impl Warehouse {
     fn change<L: Ledger>(
         &mut self,
         batch: &RawBatch,
+        in_place: bool,
         steps: &mut Steps<L>,
     ) -> Result<Applied, Refused>
         requires dims { batch.now.dims ≡ length self.old.state.schema.dims }
         requires measures { batch.now.measures ≡ length self.old.state.schema.measures }
         ensures gives { Gives refusal_in (applied_in self.new.state) result (result_of self.old.state (Ok batch.now.changes)) }
-        ensures numbers { OnOk result (AreInsertions batch.now.changes → KeepsNumbers self.old.tree self.new.tree) }
-        ensures apart { OnOk result (AreInsertions batch.now.changes → KeepsApart (with_codes self.new.state.texts (inserted batch.now.changes)) self.old.tree self.new.tree) }
-        ensures steps { OnOk result (AreInsertions batch.now.changes → 0 < length self.old.state.rows → steps.new ≤ steps.old + cost_of (length self.old.state.schema.dims) (with_codes self.new.state.texts self.old.state.rows) (with_codes self.new.state.texts (inserted batch.now.changes))) }
+        ensures numbers { OnOk result (in_place ≡ true → KeepsNodes (with_codes self.new.state.texts (kept (deleted batch.now.changes) self.old.state.rows)) self.old.tree self.new.tree) }
+        ensures apart { OnOk result (in_place ≡ true → KeepsApart (with_codes self.new.state.texts (gone (deleted batch.now.changes) self.old.state.rows ++ inserted batch.now.changes)) self.old.tree self.new.tree) }
+        ensures steps { OnOk result (in_place ≡ true → steps.new ≤ steps.old + cost_of_batch (length self.old.state.schema.dims) self.new.state.texts self.old.state.rows batch.now.changes) }
         ensures valid { IsHeld self.new }
         ensures state { OnErr result (self.new.state ≡ self.old.state) }
         ensures tree { OnErr result (self.new.tree ≡ self.old.tree) }
@@ -181,6 +182,7 @@ impl Warehouse {
             &mut self.tree,
             &mut self.index,
             batch,
+            in_place,
             self.alloc,
             steps,
         )
@@ -203,14 +205,15 @@ impl Warehouse {
             return Err(Refused::NotEmpty);
         }
         match read_base(self.alloc, &self.schema, bytes) {
-            Ok(batch) => self.change(&batch, steps),
+            Ok(batch) => self.change(&batch, false, steps),
             Err(refused) => Err(refused_file(refused)),
         }
     }
 
     /// Applies a batch of corrections: its deletions, and then its insertions in their order. It
-    /// is taken whole, or refused and nothing changes. Rows that only come are put into the tree in
-    /// place: each node keeps its number, and its record where it is below none of their tuples.
+    /// is taken whole, or refused and nothing changes. The tree is changed in place: each node of the
+    /// rows that are left after the deletions keeps its number, and a node that is below the tuple of
+    /// no row that goes or comes keeps its record.
     pub fn apply<L: Ledger>(
         &mut self,
         bytes: &[u8],
@@ -218,16 +221,16 @@ impl Warehouse {
     ) -> Result<Applied, Refused>
         requires { length bytes.now ≤ MAX_FILE }
         ensures gives { Gives refusal_in (applied_in self.new.state) result (batches.result self.old.state batches.Apply bytes.now) }
-        ensures numbers { OnOk result (OfInsertions self.old.state.schema bytes.now (λ changes. KeepsNumbers self.old.tree self.new.tree)) }
-        ensures apart { OnOk result (OfInsertions self.old.state.schema bytes.now (λ changes. KeepsApart (with_codes self.new.state.texts (inserted changes)) self.old.tree self.new.tree)) }
-        ensures steps { OnOk result (OfInsertions self.old.state.schema bytes.now (λ changes. 0 < length self.old.state.rows → steps.new ≤ steps.old + cost_of (length self.old.state.schema.dims) (with_codes self.new.state.texts self.old.state.rows) (with_codes self.new.state.texts (inserted changes)))) }
+        ensures numbers { OnOk result (OfBatch self.old.state.schema bytes.now (λ changes. KeepsNodes (with_codes self.new.state.texts (kept (deleted changes) self.old.state.rows)) self.old.tree self.new.tree)) }
+        ensures apart { OnOk result (OfBatch self.old.state.schema bytes.now (λ changes. KeepsApart (with_codes self.new.state.texts (gone (deleted changes) self.old.state.rows ++ inserted changes)) self.old.tree self.new.tree)) }
+        ensures steps { OnOk result (OfBatch self.old.state.schema bytes.now (λ changes. steps.new ≤ steps.old + cost_of_batch (length self.old.state.schema.dims) self.new.state.texts self.old.state.rows changes)) }
         ensures valid { IsHeld self.new }
         ensures state { OnErr result (self.new.state ≡ self.old.state) }
         ensures tree { OnErr result (self.new.tree ≡ self.old.tree) }
         ensures index { OnErr result (self.new.index ≡ self.old.index) }
     {
         match read_batch(self.alloc, &self.schema, bytes) {
-            Ok(batch) => self.change(&batch, steps),
+            Ok(batch) => self.change(&batch, true, steps),
             Err(refused) => Err(refused_file(refused)),
         }
     }

@@ -1,9 +1,9 @@
-use Rattle.std.proofs.Common.{◌≡◌, ◌≤◌, ◌<◌, arith, ◌+◌, ◌∙◌, ℕ, List, None, Option, Some, ap, length, map, refl, subst, sym, take}
+use Rattle.std.proofs.Common.{◌≡◌, ◌≤◌, ◌++◌, ◌+◌, ◌∙◌, ℕ, List, None, Option, Some, ap, length, map, refl, subst, sym, take}
 use Rattle.std.specs.Ordering.{nat_cmp}
 use Rattle.cube_defs.specs.Rows.{Row}
 use Rattle.cube_defs.specs.Text.{Text, text_cmp}
-use Rattle.csv_load.specs.Batch.{inserted}
-use Rattle.warehouse.specs.InPlace.{KeepsApart, KeepsNumbers, cost_of, with_codes}
+use Rattle.csv_load.specs.Batch.{deleted, inserted}
+use Rattle.warehouse.specs.InPlace.{KeepsApart, KeepsNodes, cost_of_batch, gone, kept, with_codes}
 use Rattle.cube_defs.specs.Tree.{IsCanonical, Tree, classes, nodes}
 use Rattle.base_table.specs.Places.{Base, Places, base_of, rows_of}
 use Rattle.measure_index.specs.Rankings.{Ranking}
@@ -15,10 +15,9 @@ use Rattle.qc_arena.specs.Codes.{Shape}
 use Rattle.std.specs.Prelude.{IfSome}
 use Rattle.warehouse.specs.State.{IsIndexed, State}
 use Rattle.warehouse.specs.Steps.{IsCause, closed, frame}
-use Rattle.warehouse.specs.Stored.{IsKept, IsStored, IsTreeOf, refusal_in, state_of}
+use Rattle.warehouse.specs.Stored.{IsKept, IsStored, IsTreeOf, decoded_rows, refusal_in, state_of}
 use Rattle.warehouse.proofs.Causes.{refused-so}
 use Rattle.warehouse.proofs.Counted.{classes-kept}
-use Rattle.warehouse.proofs.Decoding.{length-rows}
 use Rattle.warehouse.proofs.Growing.{cut-back}
 use Rattle.warehouse.proofs.States.{stored-next}
 use Rattle.warehouse.proofs.Trees.{kept-back, kept-canonical}
@@ -122,23 +121,27 @@ returns-in-Err-clause-indexed g c =
     (subst (λ (t : Tree ℕ). IsIndexed c.args.schema.now t c.args.index.now) (sym (ap (λ (s : Shape). s.tree) (some_same back))) c.requires.indexed)
 
 pub returns-in-Ok-clause-numbers : goal.returns-in-Ok-clause-numbers
-returns-in-Ok-clause-numbers g c = λ all.
+returns-in-Ok-clause-numbers g c = λ in_place.
+    let lists = c.change_and_index.new.dict.lists in
+    let ids = deleted c.args.batch.now.changes in
     let was : c.open_batch-lens.new.tree.now ≡ c.args.tree.now.now = ap (λ (a : Arena). a.now) c.open_batch-lens.ensures.tree in
     let is : c.keep.new.tree.now ≡ c.change_and_index.new.tree.now = ap (λ (a : Arena). a.now) c.keep.ensures.tree in
-    subst (λ (b : Tree ℕ). KeepsNumbers b c.keep.new.tree.now) was (subst (λ (d : Tree ℕ). KeepsNumbers c.open_batch-lens.new.tree.now d) (sym is) (c.in-Ok.ensures.numbers all))
+    subst (λ (rs : List (Row Text)). KeepsNodes (with_codes lists (kept ids rs)) c.args.tree.now.now c.keep.new.tree.now) (ap (λ (s : State). s.rows) c.open_batch-lens.ensures.state)
+    (subst (λ (b : Tree ℕ). KeepsNodes (with_codes lists (kept ids (decoded_rows c.args.dict.now.lists c.open_batch-lens.new.table))) b c.keep.new.tree.now) was
+    (subst (λ (d : Tree ℕ). KeepsNodes (with_codes lists (kept ids (decoded_rows c.args.dict.now.lists c.open_batch-lens.new.table))) c.open_batch-lens.new.tree.now d) (sym is) (c.in-Ok.ensures.numbers in_place)))
 
 pub returns-in-Ok-clause-apart : goal.returns-in-Ok-clause-apart
-returns-in-Ok-clause-apart g c = λ all.
-    let came = with_codes c.change_and_index.new.dict.lists (inserted c.args.batch.now.changes) in
+returns-in-Ok-clause-apart g c = λ in_place.
+    let lists = c.change_and_index.new.dict.lists in
+    let changes = c.args.batch.now.changes in
+    let ids = deleted changes in
     let was : c.open_batch-lens.new.tree.now ≡ c.args.tree.now.now = ap (λ (a : Arena). a.now) c.open_batch-lens.ensures.tree in
     let is : c.keep.new.tree.now ≡ c.change_and_index.new.tree.now = ap (λ (a : Arena). a.now) c.keep.ensures.tree in
-    subst (λ (b : Tree ℕ). KeepsApart came b c.keep.new.tree.now) was (subst (λ (d : Tree ℕ). KeepsApart came c.open_batch-lens.new.tree.now d) (sym is) (c.in-Ok.ensures.apart all))
+    subst (λ (rs : List (Row Text)). KeepsApart (with_codes lists (gone ids rs ++ inserted changes)) c.args.tree.now.now c.keep.new.tree.now) (ap (λ (s : State). s.rows) c.open_batch-lens.ensures.state)
+    (subst (λ (b : Tree ℕ). KeepsApart (with_codes lists (gone ids (decoded_rows c.args.dict.now.lists c.open_batch-lens.new.table) ++ inserted changes)) b c.keep.new.tree.now) was
+    (subst (λ (d : Tree ℕ). KeepsApart (with_codes lists (gone ids (decoded_rows c.args.dict.now.lists c.open_batch-lens.new.table) ++ inserted changes)) c.open_batch-lens.new.tree.now d) (sym is) (c.in-Ok.ensures.apart in_place)))
 
 pub returns-in-Ok-clause-steps : goal.returns-in-Ok-clause-steps
-returns-in-Ok-clause-steps g c = λ all rows.
-    let lists = c.change_and_index.new.dict.lists in
-    subst (λ (rs : List (Row Text)). c.change_and_index.new.steps ≤ c.args.steps.now + cost_of (length c.args.schema.now.dims) (with_codes lists rs) (with_codes lists (inserted c.args.batch.now.changes)))
-    (ap (λ (s : State). s.rows) c.open_batch-lens.ensures.state)
-    (c.in-Ok.ensures.steps all
-    (let some : 0 < length (rows_of c.args.table.now) = omega (arith, rows, length-rows c.args.dict.now.lists (rows_of c.args.table.now)) in
-    subst (λ (rs : List (Row ℕ)). 0 < length rs) (sym (ap (λ (t : Places). rows_of t) c.open_batch-lens.ensures.table)) some))
+returns-in-Ok-clause-steps g c = λ in_place.
+    subst (λ (rs : List (Row Text)). c.change_and_index.new.steps ≤ c.args.steps.now + cost_of_batch (length c.args.schema.now.dims) c.change_and_index.new.dict.lists rs c.args.batch.now.changes)
+    (ap (λ (s : State). s.rows) c.open_batch-lens.ensures.state) (c.in-Ok.ensures.steps in_place)

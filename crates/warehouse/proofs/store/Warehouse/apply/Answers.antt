@@ -1,10 +1,10 @@
-use Rattle.std.proofs.Common.{Ok, ap, length, subst, ◌+◌, ◌<◌, ◌≡◌, ◌≤◌}
-use Rattle.csv_load.specs.Batch.{inserted}
+use Rattle.std.proofs.Common.{Ok, ap, length, subst, ◌+◌, ◌++◌, ◌≡◌, ◌≤◌}
+use Rattle.csv_load.specs.Batch.{deleted, inserted}
 use Rattle.csv_load.specs.Files.{batch_in}
 use Rattle.qc_schema.specs.Schema.{Layout}
-use Rattle.warehouse.specs.InPlace.{KeepsApart, KeepsNumbers, cost_of, with_codes}
+use Rattle.warehouse.specs.InPlace.{KeepsApart, KeepsNodes, cost_of_batch, gone, kept, with_codes}
 use Rattle.warehouse.specs.State.{Held}
-use Rattle.warehouse.proofs.Repairing.{of-insertions}
+use Rattle.warehouse.proofs.Repairing.{of-batch}
 use Rattle.warehouse.specs.Stored.{state_of}
 use Rattle.warehouse.proofs.Trees.{is-held}
 use Rattle.warehouse.proofs.store.Warehouse.apply.Goals as goal
@@ -20,20 +20,20 @@ returns-in-Err-clause-valid g c = rw (← c.self.view_is) (is-held c.self.inside
 pub returns-in-Ok-clause-numbers : goal.returns-in-Ok-clause-numbers
 returns-in-Ok-clause-numbers g c =
     let schema = ap (λ (h : Held). h.state.schema) c.self.view_is in
-    of-insertions c.change.result c.args.self.now.state.schema c.args.bytes.now c.in-Ok.batch.changes
-    (λ changes. KeepsNumbers c.args.self.now.tree c.change.new.self.tree)
+    of-batch c.change.result c.args.self.now.state.schema c.args.bytes.now c.in-Ok.batch.changes
+    (λ changes. KeepsNodes (with_codes c.change.new.self.state.texts (kept (deleted changes) c.args.self.now.state.rows)) c.args.self.now.tree c.change.new.self.tree)
     (subst (λ (s : Layout). batch_in s c.args.bytes.now ≡ Ok c.in-Ok.batch.changes) schema c.in-Ok.ensures.gives) c.change.ensures.numbers
 
 pub returns-in-Ok-clause-apart : goal.returns-in-Ok-clause-apart
 returns-in-Ok-clause-apart g c =
     let schema = ap (λ (h : Held). h.state.schema) c.self.view_is in
-    of-insertions c.change.result c.args.self.now.state.schema c.args.bytes.now c.in-Ok.batch.changes
-    (λ changes. KeepsApart (with_codes c.change.new.self.state.texts (inserted changes)) c.args.self.now.tree c.change.new.self.tree)
+    of-batch c.change.result c.args.self.now.state.schema c.args.bytes.now c.in-Ok.batch.changes
+    (λ changes. KeepsApart (with_codes c.change.new.self.state.texts (gone (deleted changes) c.args.self.now.state.rows ++ inserted changes)) c.args.self.now.tree c.change.new.self.tree)
     (subst (λ (s : Layout). batch_in s c.args.bytes.now ≡ Ok c.in-Ok.batch.changes) schema c.in-Ok.ensures.gives) c.change.ensures.apart
 
 pub returns-in-Ok-clause-steps : goal.returns-in-Ok-clause-steps
 returns-in-Ok-clause-steps g c =
     let schema = ap (λ (h : Held). h.state.schema) c.self.view_is in
-    of-insertions c.change.result c.args.self.now.state.schema c.args.bytes.now c.in-Ok.batch.changes
-    (λ changes. 0 < length c.args.self.now.state.rows → c.change.new.steps ≤ c.args.steps.now + cost_of (length c.args.self.now.state.schema.dims) (with_codes c.change.new.self.state.texts c.args.self.now.state.rows) (with_codes c.change.new.self.state.texts (inserted changes)))
+    of-batch c.change.result c.args.self.now.state.schema c.args.bytes.now c.in-Ok.batch.changes
+    (λ changes. c.change.new.steps ≤ c.args.steps.now + cost_of_batch (length c.args.self.now.state.schema.dims) c.change.new.self.state.texts c.args.self.now.state.rows changes)
     (subst (λ (s : Layout). batch_in s c.args.bytes.now ≡ Ok c.in-Ok.batch.changes) schema c.in-Ok.ensures.gives) c.change.ensures.steps

@@ -1,0 +1,32 @@
+use Rattle.std.proofs.Common.{◌≡◌, ◌<◌, ◌≤◌, ◌+◌, ℕ, false, get_or, length, take}
+use Rattle.std.specs.Ordering.{nat_cmp}
+use Rattle.base_table.specs.Places.{rows_of}
+use Rattle.csv_load.specs.Batch.{Delete, deleted}
+use Rattle.cube_defs.specs.Tree.{IsCanonical, nodes}
+use Rattle.qc_arena.specs.Map as arena
+use Rattle.qc_arena.specs.Map.{is_open}
+use Rattle.warehouse.specs.Batch.{is_missing}
+use Rattle.warehouse.specs.InPlace.{KeepsApart, KeepsNodes, cost_of_going, gone, kept}
+use Rattle.warehouse.specs.State.{ids_of}
+use Rattle.warehouse.specs.Steps.{frame}
+use Rattle.warehouse.proofs.Going.{deletion_of}
+use Rattle.warehouse.proofs.deleting.delete_rows.Given as goal
+
+abbrev pub ghost-take_out : goal.ghost-take_out
+ghost-take_out g a = deletion_of a.table.now a.id
+
+abbrev pub invariant-changes : goal.invariant-changes
+invariant-changes g l =
+    let begun = rows_of l.initial.table in
+    let ids = deleted (take l.before l.batch.changes) in
+    record {
+      rows : rows_of l.table ≡ kept ids begun;
+      none : (j : ℕ) → j < l.before → is_missing (ids_of begun) (get_or l.batch.changes j (Delete 0)) ≡ false;
+      frame : frame l.table ≡ frame l.initial.table;
+      canonical : IsCanonical nat_cmp l.initial.table.measures (kept ids begun) l.tree.now;
+      fits : length (nodes nat_cmp (kept ids begun)) ≤ l.initial.tree.max;
+      numbers : KeepsNodes (kept ids begun) l.initial.tree.now l.tree.now;
+      apart : KeepsApart (gone ids begun) l.initial.tree.now l.tree.now;
+      steps : l.steps ≤ l.initial.steps + cost_of_going l.initial.table.dims begun ids;
+      tree_frame : arena.frame l.tree ≡ arena.frame l.initial.tree;
+    }

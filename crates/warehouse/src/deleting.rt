@@ -1,0 +1,104 @@
+// Rows that go are taken out of the table, and out of the tree in place, one after another.
+ghost use Rattle.std.specs.Prelude.{IfErr, IfSome, None, OnOk, Some, is_some, length, option_map, true, ◌+◌, ◌∷◌, ◌≡◌, ◌≤◌, []};
+ghost use Rattle.base_table.specs.Places.{has_id, row_with_id, rows_of, without_id};
+ghost use Rattle.batch_delete.specs.Rests.{Deletion, rows_before};
+ghost use Rattle.csv_load.specs.Batch.{AreInsertions, deleted};
+ghost use Rattle.cube_defs.specs.Cell.{Cell};
+ghost use Rattle.cube_defs.specs.Tree.{IsCanonical, cell_at, nodes};
+ghost use Rattle.qc_arena.specs.Map as arena;
+ghost use Rattle.qc_arena.specs.Map.{is_open};
+ghost use Rattle.std.specs.Ordering.{nat_cmp};
+ghost use Rattle.warehouse.specs.Batch as batches;
+ghost use Rattle.warehouse.specs.Batch.{first_number, first_twice, is_missing};
+ghost use Rattle.warehouse.specs.InPlace.{IsDeletion, KeepsApart, KeepsNodes, cost_of_going, cost_without, gone, kept};
+ghost use Rattle.warehouse.specs.State.{ids_of};
+ghost use Rattle.warehouse.specs.Steps.{frame};
+ghost use Rattle.warehouse.specs.Stored.{refusal_in};
+
+use crate::Memory;
+use crate::refused::Refused;
+use base_table::Table;
+use batch_delete::delete_row;
+use cell_core::Steps;
+use csv_load::RawBatch;
+use qc_arena::QcArena;
+use std::alloc::Global;
+use std::sync::ledger::Ledger;
+
+// Takes the row with an id out of the table, and out of the tree of the table's rows. After a refusal
+// the tree is none in particular.
+fn take_out<L: Ledger>(
+    table: &mut Table,
+    tree: &mut QcArena,
+    id: u64,
+    alloc: Global,
+    steps: &mut Steps<L>,
+) -> Result<(), Memory>
+    ghost deletion: { Deletion }
+    requires goes { IsDeletion table.old id deletion }
+    requires batch { is_some table.old.was ≡ true }
+    requires opened { is_open tree.old ≡ true }
+    requires width { tree.old.width ≡ table.old.dims }
+    requires tree { IsCanonical nat_cmp table.old.measures (rows_of table.old) tree.old.now }
+    ensures rows { rows_of table.new ≡ without_id (rows_of table.old) id }
+    ensures frame { frame table.new ≡ frame table.old }
+    ensures fewer { length (nodes nat_cmp (rows_of table.new)) ≤ length (nodes nat_cmp (rows_of table.old)) }
+    ensures tree { OnOk result (IsCanonical nat_cmp table.old.measures (rows_of table.new) tree.new.now) }
+    ensures numbers { OnOk result (KeepsNodes (rows_of table.new) tree.old.now tree.new.now) }
+    ensures none_new { OnOk result ((k : _) (c : Cell _) → cell_at tree.new.now k ≡ Some c → cell_at tree.old.now k ≡ Some c) }
+    ensures apart { KeepsApart (deletion.r ∷ []) tree.old.now tree.new.now }
+    ensures steps { OnOk result (steps.new ≤ steps.old + cost_without table.old.dims (rows_of table.old) (row_with_id (rows_of table.old) id)) }
+    ensures tree_frame { arena.frame tree.new ≡ arena.frame tree.old }
+{
+    table.is_valid();
+    match table.delete(id) {
+        Ok(taken) => {
+            let rest = table.group(&taken.tuple);
+            delete_row(alloc, tree, &taken.tuple, rest, steps)
+        }
+        Err(_) => unreachable!(),
+    }
+}
+
+/// Takes the rows that are deleted out of the table, and out of the tree of the table's rows. It is
+/// refused at the first deletion of an id that isn't there. After a refusal the tree is none in
+/// particular.
+pub(crate) fn delete_rows<L: Ledger>(
+    table: &mut Table,
+    tree: &mut QcArena,
+    batch: &RawBatch,
+    alloc: Global,
+    steps: &mut Steps<L>,
+) -> Result<(), Refused>
+    requires batch { is_some table.old.was ≡ true }
+    requires once { first_twice batch.now.changes ≡ None }
+    requires opened { is_open tree.old ≡ true }
+    requires width { tree.old.width ≡ table.old.dims }
+    requires tree { IsCanonical nat_cmp table.old.measures (rows_of table.old) tree.old.now }
+    requires few_nodes { length (nodes nat_cmp (rows_of table.old)) ≤ tree.old.max }
+    ensures none { OnOk result (first_number (is_missing (ids_of (rows_of table.old))) batch.now.changes ≡ None) }
+    ensures missing { IfErr result (λ refused. IfSome (refusal_in refused) (λ refusal. option_map (λ k. batches.Missing k) (first_number (is_missing (ids_of (rows_of table.old))) batch.now.changes) ≡ Some refusal)) }
+    ensures rows { OnOk result (rows_of table.new ≡ kept (deleted batch.now.changes) (rows_of table.old)) }
+    ensures frame { frame table.new ≡ frame table.old }
+    ensures tree { OnOk result (IsCanonical nat_cmp table.old.measures (rows_of table.new) tree.new.now) }
+    ensures fits { OnOk result (length (nodes nat_cmp (rows_of table.new)) ≤ tree.old.max) }
+    ensures numbers { OnOk result (KeepsNodes (rows_of table.new) tree.old.now tree.new.now) }
+    ensures apart { OnOk result (KeepsApart (gone (deleted batch.now.changes) (rows_of table.old)) tree.old.now tree.new.now) }
+    ensures steps { OnOk result (steps.new ≤ steps.old + cost_of_going table.old.dims (rows_of table.old) (deleted batch.now.changes)) }
+    ensures tree_frame { arena.frame tree.new ≡ arena.frame tree.old }
+{
+    'changes: for before in 0..batch.len() {
+        let number = before + 1;
+        if batch.is_delete(number) {
+            let id = batch.id(number);
+            if !table.has(id) {
+                return Err(Refused::Missing(number));
+            }
+            match take_out(table, tree, id, alloc, steps) {
+                Ok(()) => {}
+                Err(_) => return Err(Refused::Memory),
+            }
+        }
+    }
+    Ok(())
+}
