@@ -10,7 +10,6 @@ use Rattle.warehouse.specs.InPlace.{kept}
 use Rattle.warehouse.specs.State.{ids_of}
 use Rattle.cube_laws.proofs.Orders.{nat_eq-turned}
 
-
 pub among-turned : (id : ℕ) (ids : List ℕ) → is_among id ids ≡ list_any (nat_eq id) ids
 among-turned id [] = refl
 among-turned id (x ∷ ids) = grind (arith, among-turned id ids)
