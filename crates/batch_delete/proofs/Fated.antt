@@ -17,12 +17,12 @@ use Rattle.batch_delete.specs.Below.{AreBelow}
 use Rattle.batch_delete.specs.Plan.{after_in, front_labels, heir_in, last_any_of, planning}
 use Rattle.batch_delete.specs.Rests.{ArePlanned, Deletion, IsRest, rows_after, source_before}
 use Rattle.batch_delete.proofs.Childs.{cell_wide}
-use Rattle.batch_delete.proofs.Growing.{item_within}
+use Rattle.std.proofs.lemmas.Option.{slice_get_within}
 use Rattle.batch_delete.proofs.Leaving.{class_there, tuple_closes}
 
 module _ (dims : ℕ) (tree : Tree ℕ) (d : Deletion) (h : IsFrom dims tree (source_before d)) (tuple : Cell ℕ) (wide : length tuple ≡ dims) (list : List Below) (are : AreBelow tree tuple (length tuple) list) where
   pub none_planned : (plan : List (ℕ × Fate)) (k : ℕ) → length list ≤ k → ArePlanned d tree plan list k
-  none_planned plan k past j b l at = absurd (let w = item_within list j b at in omega arith)
+  none_planned plan k past j b l at = absurd (let w = slice_get_within list j b at in omega arith)
 
   module _ (k : ℕ) (b : Below) (at : slice_get list k ≡ Some b) (plan : List (ℕ × Fate)) (had : ArePlanned d tree plan list (suc k)) where
     -- a greater node stands behind
@@ -101,6 +101,6 @@ last_is dims tree d h tuple wide row list are k b at past =
     by j c e same true t = absurd (true≢false (sym (are.below k b at) ∙ ap (leq nat_eq b.cell) (sym same) ∙ are.order j k c b (ltb-true _ _ t) e at))
     by j c e same false t =
         let low : k ≤ j = ltb-false _ _ t in
-        let within = item_within list j c e in
+        let within = slice_get_within list j c e in
         let is : j ≡ k = omega arith in
         ap (λ (x : Below). x.cell) (some_same (sym at ∙ ap (slice_get list) (sym is) ∙ e)) ∙ same

@@ -1,5 +1,5 @@
 -- Parts that have all rows of a class between them tell what these share and come to: the other parts are empty.
-use Rattle.std.proofs.Common.{◌≡◌, ◌∙◌, ℕ, zero, suc, ◌+◌, Bool, true, false, cond, Option, Some, None, List, [], ◌∷◌, ◌++◌, ap, arith, drop, length, nat_cmp, nat_eq, not, ◌&&◌, refl, slice_get, sym, take}
+use Rattle.std.proofs.Common.{◌≡◌, ◌∙◌, ℕ, zero, suc, ◌+◌, Bool, true, false, cond, Option, Some, None, List, [], ◌∷◌, ◌++◌, ap, ap₂, arith, drop, length, nat_cmp, nat_eq, not, ◌&&◌, refl, slice_get, sym, take}
 use Rattle.std.specs.List.{AllByRecursion, cons_option}
 use Rattle.std.specs.Ordering.{eq_by_cmp}
 use Rattle.cube_defs.specs.Cell.{Cell, with_value}
@@ -11,13 +11,18 @@ use Rattle.cube_laws.specs.Total.{agg_at, agg_some, join_aggs, join_cells, total
 use Rattle.cube_laws.proofs.Deletion.{agg_by, closure_by}
 use Rattle.cube_laws.proofs.Partition.{has_same}
 use Rattle.cube_laws.proofs.RowTotals.{aggs_add, cells_add}
-use Rattle.cube_laws.proofs.Totals.{IsAddition, total_nothing}
+use Rattle.cube_laws.proofs.Totals.{IsAddition}
 use Rattle.batch_delete.specs.declared.parts.Rest.{Rest}
 use Rattle.batch_delete.specs.Rests.{Deletion, IsRest, IsTotal, other_values, rows_after, rows_before}
 use Rattle.batch_delete.proofs.Counted.{counted, counted_at, counted_join, counted_total, sum_of}
 use Rattle.batch_delete.proofs.Labelled.{law}
 use Rattle.batch_delete.proofs.Planning.{no_rows}
 use Rattle.batch_delete.proofs.Totalled.{unit_behind}
+
+-- items that add nothing can be left out
+total_nothing : {M : Type 0} (op : M → M → M) (none : M) → IsAddition op none → (f : ℕ → M) (vs : List ℕ) → AllByRecursion (λ x. f x ≡ none) vs → total op none f vs ≡ none
+total_nothing op none add f [] h = refl
+total_nothing op none add f (x ∷ vs) h = ap₂ op h.0 (total_nothing op none add f vs h.1) ∙ add.unit none
 
 total_append : {M : Type 0} (op : M → M → M) (none : M) → IsAddition op none → (f : ℕ → M) (vs ws : List ℕ) → total op none f (vs ++ ws) ≡ op (total op none f vs) (total op none f ws)
 total_append op none add f [] ws = sym (add.unit (total op none f ws))

@@ -20,7 +20,8 @@ use Rattle.cube_laws.proofs.Totals.{total-split}
 use Rattle.qc_arena.specs.Seen.{record_at}
 use Rattle.tree_laws.proofs.Lists.{some_same}
 use Rattle.tree_search.specs.Found.{IsFrom, closure_in}
-use Rattle.tree_search.proofs.Walked.{there, total_some}
+use Rattle.tree_laws.proofs.Lists.{there}
+use Rattle.tree_search.proofs.Walked.{total_some}
 use Rattle.batch_delete.specs.Rests.{Deletion, rows_after, rows_before, source_before}
 use Rattle.batch_delete.proofs.Counted.{counted, counted_at, fewer_left}
 use Rattle.batch_delete.proofs.Entries.{keep_all}

@@ -18,12 +18,12 @@ use Rattle.cube_laws.proofs.Nodes.{class_fronts, is_node-is}
 use Rattle.cube_laws.proofs.Closures.{closure_idem, is_class-is}
 use Rattle.qc_arena.specs.Map.{Known}
 use Rattle.qc_arena.specs.Seen.{number, record_at}
-use Rattle.qc_arena.proofs.Halving.{eq_cmp}
+use Rattle.cube_laws.proofs.Orders.{eq_cmp}
 use Rattle.tree_laws.specs.Labels.{lead, moved}
 use Rattle.tree_laws.proofs.Leads.{lead_own}
 use Rattle.tree_laws.proofs.Lists.{some_same}
 use Rattle.tree_search.specs.Found.{IsFrom}
-use Rattle.tree_search.proofs.Walked.{there}
+use Rattle.tree_laws.proofs.Lists.{there}
 use Rattle.batch_delete.specs.declared.below.Below.{Below}
 use Rattle.batch_delete.specs.declared.parts.Rest.{Rest}
 use Rattle.batch_delete.specs.declared.plan.Fate.{Fate}

@@ -20,7 +20,8 @@ use Rattle.qc_arena.specs.Seen.{record_at}
 use Rattle.tree_laws.specs.Labels.{record_of}
 use Rattle.tree_laws.proofs.Lists.{some_same}
 use Rattle.tree_laws.proofs.Records.{record_with}
-use Rattle.tree_laws.proofs.Sums.{EachOnce, length-map, once_map, sum_alike, sum_by-map, sum_within}
+use Rattle.std.proofs.lemmas.List.{length-map}
+use Rattle.tree_laws.proofs.Sums.{EachOnce, once_map, sum_alike, sum_by-map, sum_within}
 use Rattle.tree_search.specs.Found.{IsFrom}
 use Rattle.batch_delete.specs.declared.below.Below.{Below}
 use Rattle.batch_delete.specs.Below.{AreBelow}
@@ -301,9 +302,9 @@ module _ (width : ℕ) (old : Tree ℕ) (tuple : Cell ℕ) (d : Deletion) (h : I
       let x = made width old (source_before d) h b.node.0 b.cell at in
       let u = closed_at width old (source_before d) h b.node.0 b.cell at in
       let form = record_with nat_cmp_total fin.nat_cmp-IsAntisymmetric d.measures (rows_before d) b.cell x.0 x.1 u.0 u.1 in
-      sym (length-map (Rattle.cube_defs.specs.Tree.renamed_edge (cell_at old)) (record_at old b.node.0).edges)
+      sym (length-map (record_at old b.node.0).edges (Rattle.cube_defs.specs.Tree.renamed_edge (cell_at old)))
       ∙ ap (λ n. length n.edges) x.2
-      ∙ length-map (Rattle.cube_defs.specs.Tree.renamed_edge (λ c. Some c)) x.0.edges
+      ∙ length-map x.0.edges (Rattle.cube_defs.specs.Tree.renamed_edge (λ c. Some c))
       ∙ ap (λ (n : Node ℕ (Cell ℕ)). length n.edges) form
       ∙ ap (λ o. length (record_of nat_cmp 0 (rows_before d) b.cell (cell_or o)).edges) (sym u.1)
 

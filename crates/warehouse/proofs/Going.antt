@@ -16,7 +16,7 @@ use Rattle.cube_defs.specs.Rows as defs
 use Rattle.cube_defs.specs.Rows.{Row, cov, is_node}
 use Rattle.cube_defs.specs.Tree.{IsCanonical, Node, Tree, above, cell_at, nodes}
 use Rattle.cube_laws.specs.Total.{agg_at, agg_some}
-use Rattle.qc_arena.proofs.Halving.{eq_cmp}
+use Rattle.cube_laws.proofs.Orders.{eq_cmp}
 use Rattle.tree_search.specs.Found.{IsFrom}
 use Rattle.tree_laws.proofs.MoreCounts.{nodes_no_fewer}
 use Rattle.warehouse.specs.Batch.{is_among}

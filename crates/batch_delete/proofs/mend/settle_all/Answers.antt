@@ -1,6 +1,7 @@
 use Rattle.std.proofs.Common.{◌∙◌, ◌<◌, ◌+◌, Some, ap, arith, subst, sym}
 use Rattle.qc_arena.specs.Map.{Arena, is_open}
-use Rattle.batch_delete.proofs.Growing.{item_at, item_within}
+use Rattle.std.proofs.lemmas.Option.{slice_get_within}
+use Rattle.batch_delete.proofs.Growing.{item_at}
 use Rattle.batch_delete.proofs.Settling.{done_more, edges_wide, led_there, others_all, others_more, same_long, settling_more, settling_taken, there_more}
 use Rattle.batch_delete.proofs.mend.settle_all.Goals as goal
 
@@ -71,4 +72,4 @@ pub returns-clause-here : goal.returns-clause-here
 returns-clause-here g c =
     let ends = c.len-k-end.ensures in
     let past = c.nodes-test.false in
-    λ k b e. let within = item_within c.args.list.now.items k b e in c.nodes.invariant.done k b (omega arith) e
+    λ k b e. let within = slice_get_within c.args.list.now.items k b e in c.nodes.invariant.done k b (omega arith) e
