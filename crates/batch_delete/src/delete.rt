@@ -42,9 +42,9 @@ pub fn delete_row<L: Ledger>(
     requires rest { option_map agg_in rest ≡ agg_at (eq_by_cmp nat_cmp) deletion.measures (rows_after deletion) tuple.now }
     ensures tree { OnOk result (IsFrom arena.old.width arena.new.now (source_after deletion)) }
     ensures numbers { OnOk result ((k : ℕ) (c : defs.Cell ℕ) → cell_at arena.old.now k ≡ Some c → is_node (eq_by_cmp nat_cmp) (rows_after deletion) c ≡ true → cell_at arena.new.now k ≡ Some c) }
-    ensures none_new { (k : ℕ) (c : defs.Cell ℕ) → cell_at arena.new.now k ≡ Some c → cell_at arena.old.now k ≡ Some c }
+    ensures none_new { OnOk result ((k : ℕ) (c : defs.Cell ℕ) → cell_at arena.new.now k ≡ Some c → cell_at arena.old.now k ≡ Some c) }
     ensures apart { (k : ℕ) (n : Known) → map.get arena.old.now k ≡ Some n → defs.leq nat_eq n.cell tuple.now ≡ false → map.get arena.new.now k ≡ Some n }
-    ensures touched { (k : ℕ) → is_touched arena.new k ≡ true → is_touched arena.old k ≡ false → (c : defs.Cell ℕ) × (cell_at arena.old.now k ≡ Some c) × (defs.leq nat_eq c tuple.now ≡ true) }
+    ensures touched { OnOk result ((k : ℕ) → is_touched arena.new k ≡ true → is_touched arena.old k ≡ false → (c : defs.Cell ℕ) × (cell_at arena.old.now k ≡ Some c) × (defs.leq nat_eq c tuple.now ≡ true)) }
     ensures frame { frame arena.new ≡ frame arena.old }
     ensures steps { OnOk result (steps.new ≤ steps.old + 256 * (length tuple.now + 1) ^ 2 * (above nat_cmp (rows_before deletion) (rows_after deletion) deletion.r.tuple + 1)) }
 {
