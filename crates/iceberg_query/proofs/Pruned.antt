@@ -19,7 +19,8 @@ use Rattle.iceberg_query.specs.declared.ask.Ask.{Ask}
 use Rattle.iceberg_query.specs.Asked.{ask_in}
 use Rattle.iceberg_query.specs.Below.{below, is_wanted, wanted}
 use Rattle.iceberg_query.specs.Reach.{IsOfSome}
-use Rattle.iceberg_query.proofs.Measures.{class_agg, closed, law, wanted_is}
+use Rattle.cube_laws.proofs.Orders.{code_equality}
+use Rattle.iceberg_query.proofs.Measures.{class_agg, closed, wanted_is}
 use Rattle.iceberg_query.proofs.Parts.{of_some}
 use Rattle.iceberg_query.proofs.Reached.{IsBelow, below_begins}
 
@@ -42,8 +43,8 @@ module _ (dims : ℕ) (tree : Tree ℕ) (source : Source) (h : IsFrom dims tree 
   -- a node below another covers some of its rows
   some_below : (k l : ℕ) → IsBelow dims tree source h k l → IsOfSome source.measures (agg (eq_by_cmp nat_cmp) source.measures source.rows (cell k)) (agg (eq_by_cmp nat_cmp) source.measures source.rows (cell l))
   some_below k l b =
-      let over : leq (eq_by_cmp nat_cmp) (cell k) (cell l) ≡ true = subst (λ c. leq (eq_by_cmp nat_cmp) c (cell l) ≡ true) b.begins (keep-leq law (depth (cell k)) (cell l)) in
-      let e : filter (covers (eq_by_cmp nat_cmp) (cell l)) (cov (eq_by_cmp nat_cmp) source.rows (cell k)) ≡ cov (eq_by_cmp nat_cmp) source.rows (cell l) = cov_above law source.rows (cell k) (cell l) over in
+      let over : leq (eq_by_cmp nat_cmp) (cell k) (cell l) ≡ true = subst (λ c. leq (eq_by_cmp nat_cmp) c (cell l) ≡ true) b.begins (keep-leq code_equality (depth (cell k)) (cell l)) in
+      let e : filter (covers (eq_by_cmp nat_cmp) (cell l)) (cov (eq_by_cmp nat_cmp) source.rows (cell k)) ≡ cov (eq_by_cmp nat_cmp) source.rows (cell l) = cov_above code_equality source.rows (cell k) (cell l) over in
       subst (λ rows. IsOfSome source.measures (agg (eq_by_cmp nat_cmp) source.measures source.rows (cell k)) (agg_of source.measures rows)) e
       (of_some source.measures (cov (eq_by_cmp nat_cmp) source.rows (cell k)) (covers (eq_by_cmp nat_cmp) (cell l)) (subst (λ rows. 1 ≤ length rows) (sym e) (covers_some l b.there)))
 
