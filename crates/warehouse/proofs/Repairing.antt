@@ -7,7 +7,7 @@ use Rattle.std.specs.List.{All, AllByRecursion, IsDistinct}
 use Rattle.std.specs.Cmp.{nat_cmp_total}
 use Rattle.std.specs.FinMap as finmap
 use Rattle.std.specs.FinMap.{nat_cmp-IsAntisymmetric}
-use Rattle.std.proofs.lemmas.List.{append_cancel_left, drop_all, drop-append-le, length-append, length-take, map-append, take_all, take_at, take_more, take-append-drop, take-take}
+use Rattle.std.proofs.lemmas.List.{append_cancel_left, drop_all, drop-append-le, length-append, length-take, map-append, take_all, take_more, take-append-drop, take-take}
 use Rattle.std.proofs.lemmas.List.Elements.{All-cons, All-filter, All-head, All-nil, All-tail, filter_map-append}
 use Rattle.base_table.specs.Places.{IsTable, Places, row_at, rows_in, rows_of}
 use Rattle.batch_insert.specs.Planned.{IsSource}
