@@ -58,3 +58,23 @@ fn files_of_few_rows(rt: HostRuntime) -> Result<(), Fail> {
     }
     Ok(())
 }
+
+// The amounts begin anew at each multiple of 1001.
+#[test]
+fn last_rows_of_base_files(rt: HostRuntime) -> Result<(), Fail> {
+    let cases: [(u32, &str); 3] = [
+        (500, "\n500,a39,b15,c6,d3,e1,0.00\n"),
+        (1001, "\n1001,a38,b2,c1,d1,e0,-5.00\n"),
+        (
+            1002,
+            "\n1001,a38,b2,c1,d1,e0,-5.00\n1002,a16,b0,c4,d1,e2,-4.99\n",
+        ),
+    ];
+    for (rows, end) in &cases {
+        let mut draws = Draws { state: 7 };
+        let mut file = Vec::new(rt.alloc());
+        write_base(&mut file, *rows, &mut draws)?;
+        assert!(rt; file.as_slice().ends_with(end.as_bytes()));
+    }
+    Ok(())
+}
