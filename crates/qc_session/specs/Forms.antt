@@ -1,26 +1,50 @@
 -- What the words behind the program's name ask for.
-use Rattle.std.specs.Prelude.{ℕ, List, [], ◌∷◌, Option, Some, None, codes, string_bytes, ⊤, String, if◌then◌else◌}
+use Rattle.std.specs.Prelude.{ℕ, ◌&&◌, nat_le, nat_lt, List, [], ◌∷◌, Option, Some, None, codes, string_bytes, ⊤, String, if◌then◌else◌}
 use Rattle.std.specs.declared.alloc.Global.{Global}
 use Rattle.std.specs.Str.{bytes_eq}
+use Rattle.aggregates.specs.Numbers.{id_in}
+use Rattle.cube_defs.specs.declared.limits.TheConstants.{MAX_ROWS}
 
 -- the names of a schema and of a script
 pub record Names : Type 0 where
   pub schema : List ℕ
   pub script : List ℕ
 
--- a listed form: `run SCHEMA SCRIPT`
+-- how many rows the base file has, and the seed from which they are drawn
+pub record Drawing : Type 0 where
+  pub rows : ℕ
+  pub seed : ℕ
+
+-- a listed form: `run SCHEMA SCRIPT`, or `gen ROWS SEED`
 pub data Form : Type 0 where
   Run : Names → Form
+  Gen : Drawing → Form
+
+-- from one row to the most that a cube may have; the numbers are there where the words are decimal digits alone, of a value below 2 ^ 64
+abbrev pub drawing_of : Option ℕ → Option ℕ → Option Form
+drawing_of None seed = None
+drawing_of (Some rows) None = None
+drawing_of (Some rows) (Some seed) = if nat_lt 0 rows && nat_le rows MAX_ROWS then Some (Gen (record { rows = rows; seed = seed })) else None
 
 -- the form of the words, where they are one
 abbrev pub form_of : List (String Global) → Option Form
 form_of [] = None
 form_of (a ∷ []) = None
 form_of (a ∷ b ∷ []) = None
-form_of (a ∷ b ∷ c ∷ []) = if bytes_eq (string_bytes a) (codes "run") then Some (Run (record { schema = string_bytes b; script = string_bytes c })) else None
+form_of (a ∷ b ∷ c ∷ []) =
+    if bytes_eq (string_bytes a) (codes "run") then Some (Run (record { schema = string_bytes b; script = string_bytes c }))
+    else if bytes_eq (string_bytes a) (codes "gen") then drawing_of (id_in (string_bytes b)) (id_in (string_bytes c))
+    else None
 form_of (a ∷ b ∷ c ∷ d ∷ more) = None
 
 -- a fact of the two names, where the form is that of a run
 abbrev pub IfRun : Option Form → (Names → Type 0) → Type 0
 IfRun None P = ⊤
 IfRun (Some (Run names)) P = P names
+IfRun (Some (Gen drawing)) P = ⊤
+
+-- a fact of the two numbers, where the form is that of a generated run
+abbrev pub IfGen : Option Form → (Drawing → Type 0) → Type 0
+IfGen None P = ⊤
+IfGen (Some (Run names)) P = ⊤
+IfGen (Some (Gen drawing)) P = P drawing

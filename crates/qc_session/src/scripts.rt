@@ -1,8 +1,10 @@
 // The top call.
-ghost use Rattle.std.specs.Prelude.{◌≡◌, ◌≤◌, ◌<◌, ◌^◌, ◌⊎◌, ◌↔◌, [], Some, None, IfOk, IfErr, IfSome, IsSome, IsNone, IsTrue, is_some, true, option_map, MatchOption, length, map};
-ghost use Rattle.qc_io.specs.Outside.{IsOpenAs, Rose};
+ghost use Rattle.std.specs.Prelude.{◌≡◌, ◌≤◌, ◌<◌, ◌^◌, ◌⊎◌, ◌↔◌, [], Some, None, IfOk, IfErr, IfSome, IsSome, IsNone, IsTrue, is_some, true, option_map, MatchOption, length, map, take};
+ghost use Rattle.cube_defs.specs.declared.limits.TheConstants.{MAX_ROWS};
+ghost use Rattle.qc_io.specs.Outside.{IsOpenAs, Rose, taking};
 ghost use Rattle.qc_session.specs.Lines.{lines_of, script_lines, without_cr};
-ghost use Rattle.qc_session.specs.Forms.{IfRun, form_of};
+ghost use Rattle.generated_run.specs.Generated.{generated_record, generated_state};
+ghost use Rattle.qc_session.specs.Forms.{IfGen, IfRun, form_of};
 ghost use Rattle.qc_session.specs.Runs.{AllTold, AreSkipped, BrokenOff, Cause, CannotRead, CannotWrite, Finished, IsNever, IsNoSchema, IsScriptOf, IsStartOf, IsStatus, OutOfMemory, ReadFails, Said, StoppedAt, StoppedWriting, Unread, Usage, WroteAll, refusal_of, state_in, status_of};
 ghost use Rattle.warehouse.specs.State.{IsHeld, empty};
 
@@ -11,7 +13,8 @@ use crate::session::{Session, Stop, take_lines};
 use crate::words::{Form, read_words};
 use cell_core::Steps;
 use cube_defs::MAX_FILE;
-use qc_io::{Files, ReadRefused, Sink, read_all};
+use generated_run::generate;
+use qc_io::{Files, ReadRefused, Sink, read_all, write_all};
 use qc_schema::{Schema, read_schema};
 use std::alloc::Global;
 use std::marker::Brand;
@@ -187,15 +190,70 @@ fn run_script<F: Files, O: Sink, E: Sink, L: Ledger>(
     }
 }
 
+// Ends a generated run.
+fn filled(alloc: Global, warehouse: Warehouse) -> Outcome
+    ensures status { result.status ≡ 0 }
+    ensures skipped { result.skipped.items ≡ [] }
+    ensures end { result.end ≡ Some warehouse }
+    ensures held { IsHeld warehouse }
+{
+    warehouse.is_valid();
+    Outcome {
+        status: 0,
+        skipped: Vec::new(alloc),
+        end: Some(warehouse),
+    }
+}
+
+// Makes a warehouse of so many drawn rows, and writes the record that tells it. The count of steps
+// goes under the blank's name.
+fn run_generated<O: Sink, E: Sink, L: Ledger>(
+    alloc: Global,
+    out: &mut O,
+    err: &mut E,
+    rows: u32,
+    seed: u64,
+    blank: Blank,
+) -> Outcome
+    requires rows { rows ≤ MAX_ROWS }
+    requires name { blank.name ≡ L.name }
+    requires parts { blank.parts ≡ L.parts }
+    requires some { 0 < L.parts }
+    ensures known { (result.status ≡ 0) ⊎ (result.status ≡ 4) ⊎ (result.status ≡ 5) }
+    ensures skipped { result.skipped.items ≡ [] }
+    ensures wrote { result.status ≡ 0 → O.taken out.new ≡ taking (generated_record rows seed) (O.taken out.old) }
+    ensures end { result.status ≡ 0 → state_in result.end ≡ Some (generated_state rows seed) }
+    ensures held { IfSome result.end IsHeld }
+    ensures there { result.status ≡ 0 → is_some result.end ≡ true }
+    ensures none { (result.status ≡ 0 → ⊥) → result.end ≡ None }
+    ensures silent { result.status ≡ 0 → err.new ≡ err.old }
+    ensures write_fault { result.status ≡ 4 → Rose (O.faults out.old) (O.faults out.new) }
+    ensures part { result.status ≡ 4 → (n : ℕ) × (O.taken out.new ≡ taking (take n (generated_record rows seed)) (O.taken out.old)) }
+    ensures said_write { result.status ≡ 4 → Said (Rose (E.faults err.old) (E.faults err.new)) CannotWrite (E.taken err.old) (E.taken err.new) }
+    ensures nothing { result.status ≡ 5 → O.taken out.new ≡ O.taken out.old }
+    ensures said_memory { result.status ≡ 5 → Said (Rose (E.faults err.old) (E.faults err.new)) OutOfMemory (E.taken err.old) (E.taken err.new) }
+{
+    let mut steps = Steps::<L>::start(blank);
+    let Ok(generated) = generate(alloc, rows, seed, &mut steps) else {
+        return fail(alloc, err, &Failure::OutOfMemory);
+    };
+    match write_all(out, &generated.text) {
+        Ok(()) => filled(alloc, generated.warehouse),
+        Err(_) => fail(alloc, err, &Failure::CannotWrite),
+    }
+}
+
 ghost use Rattle.std.specs.Prelude.{List, ℕ};
 
 /// Runs `qcube` with these words: `run SCHEMA SCRIPT` reads a schema, and then takes the lines of a
-/// script in order, each with its reply on `out`.
+/// script in order, each with its reply on `out`; `gen ROWS SEED` draws so many rows and the batches
+/// that follow them from the seed, and writes one record on `out`.
 ///
-/// Status 0 says that the script was read to its end. Status 2: the words are no listed form. Status
-/// 3: a file couldn't be read. Status 4: a reply couldn't be written. Status 5: memory ran out before
-/// the first line. Status 6: the schema's text is none, or the schema or the script has more than
-/// 268,435,456 bytes. `err` gets one line at each status but 0.
+/// Status 0 says that the script was read to its end, or the record written. Status 2: the words are
+/// no listed form. Status 3: a file couldn't be read. Status 4: a reply couldn't be written. Status 5:
+/// memory ran out before the first line, or anywhere in a generated run. Status 6: the schema's text
+/// is none, or the schema or the script has more than 268,435,456 bytes. `err` gets one line at each
+/// status but 0.
 ///
 /// A line that finds no memory changes nothing; its number is put into `skipped`, and its reply says so.
 pub fn run<F: Files, O: Sink, E: Sink>(
@@ -251,9 +309,21 @@ pub fn run<F: Files, O: Sink, E: Sink>(
         → (Rose (F.faults files.old) (F.faults files.new) → ⊥) → (Rose (O.faults out.old) (O.faults out.new) → ⊥)
         → (result.status ≡ 0) ⊎ (result.status ≡ 5))) }
     ensures found { IsTrue (F.steady files.old) → IfRun (form_of words.now) (λ names. IfSome (F.told files.old) (λ t. AllTold t names → result.status ≡ 3 → ⊥)) }
+
+    // The words `gen ROWS SEED`: the record of the generated state, and no other status.
+    ensures gen_known { IfGen (form_of words.now) (λ drawing. ((result.status ≡ 0) ⊎ (result.status ≡ 4) ⊎ (result.status ≡ 5)) × (result.skipped.items ≡ [])) }
+    ensures gen_files { IfGen (form_of words.now) (λ drawing. files.new ≡ files.old) }
+    ensures gen_end { result.status ≡ 0 → IfGen (form_of words.now) (λ drawing. state_in result.end ≡ Some (generated_state drawing.rows drawing.seed)) }
+    ensures gen_all { result.status ≡ 0 → IfGen (form_of words.now) (λ drawing. O.taken out.new ≡ taking (generated_record drawing.rows drawing.seed) (O.taken out.old)) }
+    ensures gen_front { result.status ≡ 4 → IfGen (form_of words.now) (λ drawing. (n : ℕ)
+        × (O.taken out.new ≡ taking (take n (generated_record drawing.rows drawing.seed)) (O.taken out.old))) }
 {
-    let Form::Run(schema_name, script_name) = read_words(words) else {
-        return fail(alloc, err, &Failure::Usage);
+    let (schema_name, script_name) = match read_words(words) {
+        Form::Run(schema_name, script_name) => (schema_name, script_name),
+        Form::Gen(rows, seed) => {
+            return run_generated::<O, E, Brand>(alloc, out, err, rows, seed, Blank::new(1));
+        }
+        Form::Unlisted => return fail(alloc, err, &Failure::Usage),
     };
     let schema = match read_named_schema(alloc, files, schema_name) {
         Ok(schema) => schema,

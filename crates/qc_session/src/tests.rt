@@ -1,6 +1,7 @@
 ghost use Rattle.std.specs.Prelude.{None, ◌≡◌, ◌≤◌};
 
 use crate::run;
+use crate::words::{Form, read_words};
 use qc_io::{MemoryFiles, MemorySink};
 use std::alloc::{AllocError, Global};
 use std::process::Abort;
@@ -660,6 +661,44 @@ fn faults_of_the_files_and_of_out(rt: HostRuntime) -> Result<(), Fail> {
         let schema = SCHEMA.as_bytes();
         let ran = run_over(rt.alloc(), schema, BASE, NONE, script, reads, writes)?;
         ends(&rt, &ran, status, out, err);
+    }
+    Ok(())
+}
+
+// ROWS and SEED at their edges: the numbers, where the words are a form.
+#[test]
+fn numbers_of_a_generated_run(rt: HostRuntime) -> Result<(), Fail> {
+    let cases: [(&str, &str, Option<(u32, u64)>); 14] = [
+        ("1", "0", Some((1, 0))),
+        (
+            "1000000",
+            "18446744073709551615",
+            Some((1_000_000, 18446744073709551615)),
+        ),
+        (
+            "000000000000000000000000000000000001000000",
+            "007",
+            Some((1_000_000, 7)),
+        ),
+        ("0", "0", None),
+        ("1000001", "0", None),
+        ("18446744073709551617", "0", None),
+        ("1", "18446744073709551616", None),
+        ("x", "0", None),
+        ("1", "x", None),
+        ("+1", "0", None),
+        ("1", "-1", None),
+        ("", "0", None),
+        ("1", "", None),
+        ("1 ", "0", None),
+    ];
+    for (rows, seed, numbers) in &cases {
+        let texts = words(rt.alloc(), &["gen", rows, seed])?;
+        let read = match read_words(&texts) {
+            Form::Gen(rows, seed) => Some((rows, seed)),
+            _ => None,
+        };
+        assert!(rt; read == *numbers);
     }
     Ok(())
 }

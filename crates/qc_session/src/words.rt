@@ -1,27 +1,48 @@
 // What the words behind the program's name ask for.
 ghost use Rattle.std.specs.Prelude.{◌≡◌};
-ghost use Rattle.qc_session.specs.Forms.{form_of};
+ghost use Rattle.aggregates.specs.Numbers.{id_in};
+ghost use Rattle.qc_session.specs.Forms.{drawing_of, form_of};
+
+use aggregates::read_id;
+use cube_defs::MAX_ROWS;
 
 /// A form of the words.
 #[derive(Clone, Copy, Debug)]
 pub enum Form<'a> {
     /// `run SCHEMA SCRIPT`: the names of a schema and of a script.
     Run(&'a str, &'a str),
+    /// `gen ROWS SEED`: how many rows, and the seed from which they are drawn.
+    Gen(u32, u64),
     /// The words are no listed form.
     Unlisted,
 }
 
-ghost use Rattle.qc_session.specs.Words.{form_in};
+ghost use Rattle.qc_session.specs.Words.{HasFewRows, form_in};
+
+// The form of these numbers, which are decimal digits alone.
+fn read_numbers<'a>(rows: &str, seed: &str) -> Form<'a>
+    ensures form { form_in result ≡ drawing_of (id_in rows.now) (id_in seed.now) }
+    ensures few { HasFewRows result }
+{
+    match (read_id(rows.as_bytes()), read_id(seed.as_bytes())) {
+        (Some(rows), Some(seed)) if rows > 0 && rows <= u64::from(MAX_ROWS) => {
+            Form::Gen(rows as u32, seed)
+        }
+        _ => Form::Unlisted,
+    }
+}
 
 /// The form of these words.
 pub fn read_words(words: &[String]) -> Form<'_>
-    ensures { form_in result ≡ form_of words.now }
+    ensures form { form_in result ≡ form_of words.now }
+    ensures few { HasFewRows result }
 {
     match words {
         [word, schema, script] if word.as_str() == "run" => Form::Run(
             schema.as_str(),
             script.as_str(),
         ),
+        [word, rows, seed] if word.as_str() == "gen" => read_numbers(rows.as_str(), seed.as_str()),
         _ => Form::Unlisted,
     }
 }

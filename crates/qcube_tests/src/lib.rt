@@ -6,6 +6,8 @@ mod batches;
 #[cfg(test)]
 mod bounds;
 #[cfg(test)]
+mod generated;
+#[cfg(test)]
 mod many;
 #[cfg(test)]
 mod scripts;

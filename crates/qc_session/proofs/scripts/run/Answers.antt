@@ -9,19 +9,19 @@ use Rattle.qc_session.proofs.scripts.run.Goals as goal
 
 pub returns-in-Err-clause-unread : goal.returns-in-Err-clause-unread
 returns-in-Err-clause-unread g c is =
-    rw (← c.in-Run.ensures) (unread-schema (g.F.Files.told c.args.files.now) (record { schema = c.in-Run.schema_name.now; script = c.in-Run.script_name.now }) _ _ _
+    rw (← c.in-Run.ensures.form) (unread-schema (g.F.Files.told c.args.files.now) (record { schema = c.in-Run.schema_name.now; script = c.in-Run.script_name.now }) _ _ _
     (cause_of c.in-Err.failure) c.fail-in-Err.result.skipped.items _ _ _ _ c.in-Err.ensures.err (sym c.fail-in-Err.ensures.status ∙ is) refl c.fail-in-Err.ensures.said)
 
 pub returns-in-Err-clause-refused : goal.returns-in-Err-clause-refused
 returns-in-Err-clause-refused g c is =
-    rw (← c.in-Run.ensures) (refused-schema (g.F.Files.told c.args.files.now) (record { schema = c.in-Run.schema_name.now; script = c.in-Run.script_name.now }) _ _ _
+    rw (← c.in-Run.ensures.form) (refused-schema (g.F.Files.told c.args.files.now) (record { schema = c.in-Run.schema_name.now; script = c.in-Run.script_name.now }) _ _ _
     (cause_of c.in-Err.failure) _ _ c.in-Err.ensures.err (sym c.fail-in-Err.ensures.status ∙ is) c.fail-in-Err.ensures.said)
 
 pub returns-in-Err-read_named-clause-unread : goal.returns-in-Err-read_named-clause-unread
 returns-in-Err-read_named-clause-unread g c is =
     let names : Names = record { schema = c.in-Run.schema_name.now; script = c.in-Run.script_name.now } in
     let fails = rw c.in-Ok.ensures.told at c.in-Err-read_named.ensures.err in
-    rw (← c.in-Run.ensures) (unread-script (g.F.Files.told c.args.files.now) names (empty c.in-Ok.schema) _ (IsTrue (g.F.Files.steady c.args.files.now)) (IsTrue (g.F.Files.steady c.read_named_schema.new.files)) _
+    rw (← c.in-Run.ensures.form) (unread-script (g.F.Files.told c.args.files.now) names (empty c.in-Ok.schema) _ (IsTrue (g.F.Files.steady c.args.files.now)) (IsTrue (g.F.Files.steady c.read_named_schema.new.files)) _
     (cause_of c.in-Err-read_named.failure) c.fail-in-Err-read_named.result.skipped.items _ _ _ _ c.in-Ok.ensures.ok c.in-Ok.ensures.steady fails
     (sym c.fail-in-Err-read_named.ensures.status ∙ is) refl c.fail-in-Err-read_named.ensures.said)
 
@@ -29,7 +29,7 @@ pub returns-in-Err-read_named-clause-refused : goal.returns-in-Err-read_named-cl
 returns-in-Err-read_named-clause-refused g c is =
     let names : Names = record { schema = c.in-Run.schema_name.now; script = c.in-Run.script_name.now } in
     let fails = rw c.in-Ok.ensures.told at c.in-Err-read_named.ensures.err in
-    rw (← c.in-Run.ensures) (refused-script (g.F.Files.told c.args.files.now) names (empty c.in-Ok.schema) _ _ _
+    rw (← c.in-Run.ensures.form) (refused-script (g.F.Files.told c.args.files.now) names (empty c.in-Ok.schema) _ _ _
     (cause_of c.in-Err-read_named.failure) _ _ c.in-Ok.ensures.ok fails (sym c.fail-in-Err-read_named.ensures.status ∙ is) c.fail-in-Err-read_named.ensures.said)
 
 pub returns-clause-unread : goal.returns-clause-unread
@@ -37,7 +37,7 @@ returns-clause-unread g c is =
     let names : Names = record { schema = c.in-Run.schema_name.now; script = c.in-Run.script_name.now } in
     let is_script = rw c.in-Ok.ensures.told at c.in-Ok-read_named.ensures.ok in
     let stopped = rw (c.in-Ok-read_named.ensures.told, c.in-Ok.ensures.told, c.deref.ensures.value) at (c.run_script.ensures.unread is) in
-    rw (← c.in-Run.ensures) (unread-line (g.F.Files.told c.args.files.now) names (empty c.in-Ok.schema) c.in-Ok-read_named.script.items (IsTrue (g.F.Files.steady c.args.files.now)) (IsTrue (g.F.Files.steady c.read_named.new.files)) _
+    rw (← c.in-Run.ensures.form) (unread-line (g.F.Files.told c.args.files.now) names (empty c.in-Ok.schema) c.in-Ok-read_named.script.items (IsTrue (g.F.Files.steady c.args.files.now)) (IsTrue (g.F.Files.steady c.read_named.new.files)) _
     c.run_script.result.skipped.items _ _ _ _ c.in-Ok.ensures.ok is_script (λ s. c.in-Ok-read_named.ensures.steady (c.in-Ok.ensures.steady s)) stopped)
 
 pub returns-in-Err-clause-found : goal.returns-in-Err-clause-found
@@ -57,25 +57,25 @@ returns-clause-transcript g c = λ is.
     let names : Names = record { schema = c.in-Run.schema_name.now; script = c.in-Run.script_name.now } in
     let is_script = rw c.in-Ok.ensures.told at c.in-Ok-read_named.ensures.ok in
     let wrote = rw (c.in-Ok-read_named.ensures.told, c.in-Ok.ensures.told, c.deref.ensures.value) at (c.run_script.ensures.all is) in
-    rw (← c.in-Run.ensures) (finished-run (g.F.Files.told c.args.files.now) names _ c.in-Ok-read_named.script.items _ _ _ _ c.in-Ok.ensures.ok is_script wrote)
+    rw (← c.in-Run.ensures.form) (finished-run (g.F.Files.told c.args.files.now) names _ c.in-Ok-read_named.script.items _ _ _ _ c.in-Ok.ensures.ok is_script wrote)
 
 pub returns-clause-skipped : goal.returns-clause-skipped
 returns-clause-skipped g c =
     let names : Names = record { schema = c.in-Run.schema_name.now; script = c.in-Run.script_name.now } in
     let is_script = rw c.in-Ok.ensures.told at c.in-Ok-read_named.ensures.ok in
-    rw (← c.in-Run.ensures)
+    rw (← c.in-Run.ensures.form)
     (skipped-run (g.F.Files.told c.args.files.now) names c.in-Ok-read_named.script.items _ is_script (rw c.deref.ensures.value at c.run_script.ensures.skipped))
 
 pub returns-clause-refusal : goal.returns-clause-refusal
 returns-clause-refusal g c =
     let names : Names = record { schema = c.in-Run.schema_name.now; script = c.in-Run.script_name.now } in
     let is_script = rw c.in-Ok.ensures.told at c.in-Ok-read_named.ensures.ok in
-    rw (← c.in-Run.ensures) (refusal-run (g.F.Files.told c.args.files.now) names _ c.in-Ok-read_named.script.items _ c.in-Ok.ensures.ok is_script)
+    rw (← c.in-Run.ensures.form) (refusal-run (g.F.Files.told c.args.files.now) names _ c.in-Ok-read_named.script.items _ c.in-Ok.ensures.ok is_script)
 
 pub returns-clause-complete : goal.returns-clause-complete
 returns-clause-complete g c =
     let names : Names = record { schema = c.in-Run.schema_name.now; script = c.in-Run.script_name.now } in
     let later : g.F.Files.faults c.args.files.now ≤ g.F.Files.faults c.read_named.new.files = omega (arith, c.in-Ok.ensures.later, c.in-Ok-read_named.ensures.later) in
-    rw (← c.in-Run.ensures)
+    rw (← c.in-Run.ensures.form)
     (complete-run (g.F.Files.told c.args.files.now) names _ _ _ c.run_script.ensures.known
     (λ h. rose-later (g.F.Files.faults c.args.files.now) (g.F.Files.faults c.read_named.new.files) _ later (c.run_script.ensures.read_fault h)) c.run_script.ensures.write_fault)

@@ -1,0 +1,3 @@
+mod Schema
+mod Taken
+mod Totals

@@ -1,0 +1,45 @@
+// A whole generated run.
+ghost use Rattle.std.specs.Prelude.{IfOk, ◌≡◌, ◌≤◌};
+ghost use Rattle.cube_defs.specs.declared.limits.TheConstants.{MAX_ROWS};
+ghost use Rattle.generated_run.specs.Generated.{generated_record, generated_state};
+
+use crate::files::{apply_batches, load_base, new_warehouse};
+use crate::telling::write_record;
+use cell_core::Steps;
+use cube_defs::Memory;
+use row_generator::Draws;
+use std::alloc::Global;
+use std::sync::ledger::Ledger;
+use warehouse::Warehouse;
+
+/// A warehouse that was filled by generated files.
+#[derive(Drop)]
+pub struct Generated {
+    pub warehouse: Warehouse,
+    /// The record that tells it.
+    pub text: Vec<u8>,
+}
+
+/// Loads a base file of so many rows, drawn from a seed, into a new warehouse, and applies the
+/// batches that follow it. It is refused only where memory runs out.
+pub fn generate<L: Ledger>(
+    alloc: Global,
+    rows: u32,
+    seed: u64,
+    steps: &mut Steps<L>,
+) -> Result<Generated, Memory>
+    requires { rows ≤ MAX_ROWS }
+    ensures state { IfOk result (λ g. g.warehouse.state ≡ generated_state rows seed) }
+    ensures text { IfOk result (λ g. g.text.items ≡ generated_record rows seed) }
+{
+    let mut warehouse = new_warehouse(alloc)?;
+    let mut draws = Draws { state: seed };
+    let mut file = Vec::new(alloc);
+    load_base(&mut warehouse, rows, &mut draws, &mut file, steps)?;
+    apply_batches(&mut warehouse, rows, &mut draws, &mut file, steps)?;
+    write_record(alloc, &mut file, rows, seed, &warehouse, steps)?;
+    Ok(Generated {
+        warehouse,
+        text: file,
+    })
+}

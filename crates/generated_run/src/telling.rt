@@ -1,0 +1,77 @@
+// The record that tells a generated warehouse.
+ghost use Rattle.std.specs.Prelude.{OnOk, decimal, length, option_map, ◌++◌, ◌<◌, ◌∷◌, ◌≡◌, ◌≤◌};
+ghost use Rattle.aggregates.specs.Texts.{amount_text};
+ghost use Rattle.aggregates.specs.Views.{agg_in};
+ghost use Rattle.generated_run.specs.Generated.{field_text, record_text, sum_in, total_of};
+
+use aggregates::{Agg, print_amount};
+use cell_core::{Cell, Steps};
+use cube_defs::Memory;
+use itoa::Buffer;
+use std::alloc::Global;
+use std::sync::ledger::Ledger;
+use tree_search::total_at;
+use warehouse::Warehouse;
+
+// What all rows come to, where there are any.
+fn total<L: Ledger>(alloc: Global, warehouse: &Warehouse, steps: &mut Steps<L>) -> Option<Agg>
+    ensures { option_map agg_in result ≡ total_of warehouse.now.state }
+{
+    let cell = Cell::any(alloc, warehouse.schema().dims());
+    total_at(warehouse.tree(), &cell, steps)
+}
+
+// The sum of the first measure.
+fn sum_of(total: Option<Agg>) -> i64
+    ensures { result ≡ sum_in (option_map agg_in total) }
+{
+    match total {
+        Some(agg) => agg.parts[0].sum,
+        None => 0,
+    }
+}
+
+// A number behind a comma.
+fn push_number(out: &mut Vec<u8>, number: u64) -> Result<(), Memory>
+    ensures { OnOk result (out.new.items ≡ out.old.items ++ field_text (decimal number)) }
+{
+    out.push(b',')?;
+    out.extend_from_slice(Buffer::new().format(number).as_bytes())?;
+    Ok(())
+}
+
+// An amount in hundredths, behind a comma.
+fn push_amount(out: &mut Vec<u8>, amount: i64) -> Result<(), Memory>
+    ensures { OnOk result (out.new.items ≡ out.old.items ++ field_text (amount_text 2 amount)) }
+{
+    let mut text = [0; 48];
+    let len = print_amount(amount, 2, &mut text);
+    out.push(b',')?;
+    out.extend_from_slice(&text[..len])?;
+    Ok(())
+}
+
+/// Writes the record into `out`, in place of what it holds.
+pub fn write_record<L: Ledger>(
+    alloc: Global,
+    out: &mut Vec<u8>,
+    rows: u32,
+    seed: u64,
+    warehouse: &Warehouse,
+    steps: &mut Steps<L>,
+) -> Result<(), Memory>
+    ensures { OnOk result (out.new.items ≡ record_text rows seed warehouse.now.state) }
+{
+    let counts = warehouse.stats();
+    out.clear();
+    out.extend_from_slice(b"gen")?;
+    push_number(out, u64::from(rows))?;
+    push_number(out, seed)?;
+    push_number(out, u64::from(counts.classes))?;
+    push_number(out, u64::from(counts.nodes))?;
+    push_number(out, counts.tree_edges)?;
+    push_number(out, counts.links)?;
+    push_amount(out, sum_of(total(alloc, warehouse, steps)))?;
+    out.push(b'\n')?;
+    Ok(())
+}

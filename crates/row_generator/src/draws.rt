@@ -1,0 +1,25 @@
+// A linear congruential generator.
+ghost use Rattle.std.specs.Prelude.{◌<◌, ◌≡◌};
+ghost use Rattle.row_generator.specs.Generator.{after_draw, number_drawn};
+
+/// Numbers that follow from a seed.
+#[derive(Clone, Copy, Debug)]
+pub struct Draws {
+    /// The seed, until the first draw.
+    pub state: u64,
+}
+
+impl Draws {
+    /// One draw more: a number below `most`.
+    pub fn next_below(&mut self, most: u32) -> u32
+        requires { 0 < most }
+        ensures state { self.new.state ≡ after_draw self.old.state }
+        ensures number { result ≡ number_drawn most self.new.state }
+    {
+        self.state = self
+            .state
+            .wrapping_mul(6_364_136_223_846_793_005)
+            .wrapping_add(1_442_695_040_888_963_407);
+        ((self.state >> 33) % u64::from(most)) as u32
+    }
+}
