@@ -1,8 +1,9 @@
 //! Tests of the repair: rows that come one by one, against trees that are built anew, record by record.
+//! The comparison of two trees is public, for the tests of batches.
 #![tactic(auto)]
 
-#[cfg(test)]
-mod records;
+pub mod draw;
+pub mod records;
 #[cfg(test)]
 mod rows;
 #[cfg(test)]

@@ -1,18 +1,24 @@
-// Two trees side by side, record by record.
+// Two trees of up to six dimensions side by side, record by record.
 ghost use Rattle.std.specs.FinMap as map;
-ghost use Rattle.std.specs.Prelude.{IsSome, length, ◌<◌, ◌≡◌, ◌≤◌};
+ghost use Rattle.std.specs.Prelude.{IsSome};
 
-use crate::rows::{ANY, Line, total};
 use cell_core::{NodeNo, Steps};
 use qc_arena::{Nodes, QcArena};
 use std::alloc::{AllocError, Global};
 use std::sync::ledger::Ledger;
 
-// No node of a test has this number or a greater one.
-const NUMBERS: u32 = 600;
+/// Of a cell the entries, of which only those of the dimensions count.
+pub type Line = [u8; 6];
 
-// The cell of a node, by the last values on the way up. None where one of these nodes isn't there.
-fn cell_at<L: Ledger>(tree: &QcArena, node: NodeNo, steps: &mut Steps<L>) -> Option<Line> {
+/// In a cell; values are smaller.
+pub const ANY: u8 = 9;
+
+/// No node of a test has this number or a greater one.
+pub const NUMBERS: u32 = 600;
+
+/// The cell of a node, by the last values on the way up its parents. None where one of these nodes
+/// isn't there.
+pub fn cell_at<L: Ledger>(tree: &QcArena, node: NodeNo, steps: &mut Steps<L>) -> Option<Line> {
     let mut cell = [ANY; 6];
     let mut at = node;
     'up: for _ in 0..7 {
@@ -103,40 +109,31 @@ fn are_edges_same<L: Ledger>(
     true
 }
 
-// Whether the node is a class where the other tree's is, and has the total of the rows.
-fn is_class_right<L: Ledger>(
+// Whether both are classes of the same aggregate, or none is one.
+fn is_class_same<L: Ledger>(
     one: &QcArena,
     a: NodeNo,
     other: &QcArena,
     b: NodeNo,
-    total: (u32, i64, i64, i64),
     steps: &mut Steps<L>,
 ) -> bool
     requires a { IsSome (map.get one.now.now a.0) }
     requires b { IsSome (map.get other.now.now b.0) }
 {
     match (one.class(a, steps), other.class(b, steps)) {
-        (Some(agg), Some(_)) => {
-            let part = agg.parts[0];
-            (agg.count, part.sum, part.least, part.greatest) == total
-        }
+        (Some(agg), Some(own)) => agg.count == own.count && agg.parts == own.parts,
         (None, None) => true,
         _ => false,
     }
 }
 
 // Whether the node has the one number of its cell, and the record of that cell's node in the other tree.
-fn is_record_right<L: Ledger>(
+fn is_record_same<L: Ledger>(
     one: &QcArena,
     node: NodeNo,
     other: &QcArena,
-    rows: &[Line],
-    count: usize,
     steps: &mut Steps<L>,
-) -> Option<bool>
-    requires rows { length rows.now ≤ 100 }
-    requires count { count ≤ length rows.now }
-{
+) -> Option<bool> {
     let cell = cell_at(one, node, steps)?;
     let own = node_at(one, &cell, steps)?;
     let twin = node_at(other, &cell, steps)?;
@@ -148,26 +145,18 @@ fn is_record_right<L: Ledger>(
             && is_same_node(one, node, other, twin, steps)
             && is_forced_same(one, node, other, twin, steps)
             && are_edges_same(one, node, other, twin, steps)
-            && is_class_right(one, node, other, twin, total(&cell, rows, count), steps),
+            && is_class_same(one, node, other, twin, steps),
     )
 }
 
-// Whether a tree has the records of the other, and the totals of the first rows.
-pub(crate) fn is_right<L: Ledger>(
-    one: &QcArena,
-    other: &QcArena,
-    rows: &[Line],
-    count: usize,
-    steps: &mut Steps<L>,
-) -> bool
-    requires rows { length rows.now ≤ 100 }
-    requires count { count ≤ length rows.now }
-{
+/// Whether two trees have the same records, whatever the numbers: by the cells of the nodes, of their
+/// parents and forced children, by the classes' aggregates, and by labels and targets of the edges.
+pub fn are_same<L: Ledger>(one: &QcArena, other: &QcArena, steps: &mut Steps<L>) -> bool {
     let mut found = 0u32;
     'nodes: for number in 0..NUMBERS {
         if one.has(NodeNo(number)) {
             found = found.wrapping_add(1);
-            if is_record_right(one, NodeNo(number), other, rows, count, steps) != Some(true) {
+            if is_record_same(one, NodeNo(number), other, steps) != Some(true) {
                 return false;
             }
         }
@@ -175,8 +164,8 @@ pub(crate) fn is_right<L: Ledger>(
     found == one.live() && found == other.live()
 }
 
-// The cell of each number.
-pub(crate) fn cells<L: Ledger>(
+/// The cell of each number.
+pub fn cells<L: Ledger>(
     alloc: Global,
     tree: &QcArena,
     steps: &mut Steps<L>,
@@ -188,16 +177,27 @@ pub(crate) fn cells<L: Ledger>(
     Ok(cells)
 }
 
-// Whether each number has its cell still.
-pub(crate) fn are_kept<L: Ledger>(
+// Whether a node has this cell.
+fn is_cell<L: Ledger>(tree: &QcArena, cell: &Line, steps: &mut Steps<L>) -> bool {
+    match node_at(tree, cell, steps) {
+        Some(node) => cell_at(tree, node, steps) == Some(*cell),
+        None => false,
+    }
+}
+
+/// Whether each number has its cell still in a tree, where a node of another tree has that cell.
+pub fn are_kept<L: Ledger>(
     cells: &[Option<Line>],
+    other: &QcArena,
     tree: &QcArena,
     steps: &mut Steps<L>,
 ) -> bool {
     let mut number = 0u32;
     'cells: for cell in cells {
-        if cell.is_some() && cell_at(tree, NodeNo(number), steps) != *cell {
-            return false;
+        if let Some(line) = cell {
+            if cell_at(tree, NodeNo(number), steps) != *cell && is_cell(other, line, steps) {
+                return false;
+            }
         }
         number = number.wrapping_add(1);
     }

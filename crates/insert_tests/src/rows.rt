@@ -1,14 +1,12 @@
 // Rows of small values, and what the rows come to that a cell covers.
 ghost use Rattle.std.specs.Prelude.{All, is_some, length, nat_abs, true, ◌<◌, ◌≡◌, ◌≤◌};
 
-use cell_core::{Cell, Entry};
+use crate::records::{ANY, Line, NUMBERS, cell_at};
+use aggregates::Agg;
+use cell_core::{Cell, Entry, NodeNo, Steps};
+use qc_arena::{Nodes, QcArena};
 use std::alloc::Global;
-
-// Of a row the values, and of a cell its entries, of which only those of the dimensions count.
-pub(crate) type Line = [u8; 6];
-
-// In a cell; values are smaller.
-pub(crate) const ANY: u8 = 9;
+use std::sync::ledger::Ledger;
 
 // How many rows there are, their sum, and the least and the greatest amount.
 pub(crate) type Total = (u32, i64, i64, i64);
@@ -43,7 +41,7 @@ fn covers(cell: &Line, row: &Line) -> bool {
 }
 
 // What the first rows come to that the cell covers.
-pub(crate) fn total(cell: &Line, rows: &[Line], count: usize) -> Total
+fn total(cell: &Line, rows: &[Line], count: usize) -> Total
     requires rows { length rows.now ≤ 100 }
     requires count { count ≤ length rows.now }
 {
@@ -60,4 +58,48 @@ pub(crate) fn total(cell: &Line, rows: &[Line], count: usize) -> Total
         }
     }
     total
+}
+
+fn is_total(agg: &Agg, total: Total) -> bool {
+    let part = agg.parts[0];
+    (agg.count, part.sum, part.least, part.greatest) == total
+}
+
+// Whether the node is no class, or one of what the first rows come to that its cell covers.
+fn has_total<L: Ledger>(
+    tree: &QcArena,
+    node: NodeNo,
+    rows: &[Line],
+    count: usize,
+    steps: &mut Steps<L>,
+) -> bool
+    requires rows { length rows.now ≤ 100 }
+    requires count { count ≤ length rows.now }
+{
+    if !tree.has(node) {
+        return true;
+    }
+    match (tree.class(node, steps), cell_at(tree, node, steps)) {
+        (Some(agg), Some(cell)) => is_total(&agg, total(&cell, rows, count)),
+        (None, _) => true,
+        _ => false,
+    }
+}
+
+// The same of each node.
+pub(crate) fn have_totals<L: Ledger>(
+    tree: &QcArena,
+    rows: &[Line],
+    count: usize,
+    steps: &mut Steps<L>,
+) -> bool
+    requires rows { length rows.now ≤ 100 }
+    requires count { count ≤ length rows.now }
+{
+    'nodes: for number in 0..NUMBERS {
+        if !has_total(tree, NodeNo(number), rows, count, steps) {
+            return false;
+        }
+    }
+    true
 }

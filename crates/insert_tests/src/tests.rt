@@ -1,8 +1,9 @@
 // Rows come one by one: each to the tree that is built of all of them, and with fewer nodes to none.
 ghost use Rattle.std.specs.Prelude.{length, ◌<◌, ◌≡◌, ◌≤◌};
 
-use crate::records::{are_kept, cells, is_right};
-use crate::rows::{Line, tuple};
+use crate::draw::Draw;
+use crate::records::{Line, are_kept, are_same, cells};
+use crate::rows::{have_totals, tuple};
 use crate::trees::{add, built, inserted};
 use cell_core::Steps;
 use qc_arena::{ArenaRefused, QcArena};
@@ -10,6 +11,20 @@ use std::alloc::Global;
 use std::marker::Brand;
 use std::sync::ledger::{Blank, Ledger};
 use std::test::Fail;
+
+// Whether a tree has the records of the other, and the totals of the first rows.
+fn is_right<L: Ledger>(
+    one: &QcArena,
+    other: &QcArena,
+    rows: &[Line],
+    count: usize,
+    steps: &mut Steps<L>,
+) -> bool
+    requires rows { length rows.now ≤ 100 }
+    requires count { count ≤ length rows.now }
+{
+    are_same(one, other, steps) && have_totals(one, rows, count, steps)
+}
 
 // Whether the row at a place comes right to those before it, where there may be so many nodes: it
 // is refused as full where the tree with it has more, and then the tree before it is there again.
@@ -42,7 +57,7 @@ fn comes<L: Ledger>(
         }
         Err(ArenaRefused::Memory) => false,
     };
-    Some(is_as_wanted && are_kept(&cells, &arena, steps))
+    Some(is_as_wanted && are_kept(&cells, before, &arena, steps))
 }
 
 // The same for each number of nodes from that before it to that with it.
@@ -102,14 +117,11 @@ fn do_all_come(alloc: Global, dims: u8, rows: &[Line]) -> bool
 fn drawn(seed: u64, dims: u8, values: u8) -> [Line; 7]
     requires { 0 < values }
 {
-    let mut x = seed;
+    let mut draw = Draw { seed };
     let mut rows = [[0u8; 6]; 7];
     'rows: for place in 0..7 {
         'dims: for dim in 0..6 {
-            x = x
-                .wrapping_mul(6364136223846793005)
-                .wrapping_add(1442695040888963407);
-            rows[place][dim] = ((x >> 33) % u64::from(values)) as u8;
+            rows[place][dim] = draw.below(u64::from(values)) as u8;
         }
     }
     rows[3] = rows[1];

@@ -3,7 +3,8 @@ ghost use Rattle.std.specs.Prelude.{All, IfOk, IfSome, OnOk, false, is_some, len
 ghost use Rattle.qc_arena.specs.Map.{is_open};
 ghost use Rattle.insert_tests.specs.Rows.{HasRows};
 
-use crate::rows::{Line, amount, tuple};
+use crate::records::Line;
+use crate::rows::{amount, tuple};
 use base_table::Table;
 use batch_insert::insert_row;
 use cell_core::{Cell, Steps};
