@@ -7,9 +7,8 @@
 # PROGRAM is the built program, by default crates/qcube/out/qcube. The inputs are generated anew from a fixed seed;
 # values are drawn by a Zipf law from 200, 100, 50, 20, 8 and 4. The plain program (bench/plain) is built by cargo
 # where Debian's librust-csv-dev and librust-indexmap-dev are installed, and is left out elsewhere. The time of the
-# batches is that of the whole script less that of its load alone, each the least of five runs. While each batch builds
-# the tree of all rows anew, that hides what the batch itself costs, and all this takes long; the two limits hold of the
-# program as it was before it kept classes, and are to hold again once a tree is repaired in place.
+# batches is that of the whole script less that of its load alone, each the least of five runs. The plain program keeps no
+# tree, and so is no measure of the repair; bench/insertions.sh measures that.
 source "$(dirname "${BASH_SOURCE[0]}")/common.sh"
 build_plain
 
