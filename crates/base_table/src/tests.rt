@@ -1,5 +1,5 @@
 // Batches of changes, and the rows that they leave.
-ghost use Rattle.std.specs.Prelude.{All, None, is_some, length, true, ◌≡◌};
+ghost use Rattle.std.specs.Prelude.{All, IfSome, None, is_some, length, true, ◌≡◌};
 
 use crate::{RowNo, Table, TableRefused};
 use cell_core::{Cell, Entry};
@@ -87,6 +87,7 @@ fn replies(table: &mut Table, alloc: Global, changes: &[(Change, Reply)]) -> boo
     requires dims { table.old.dims ≡ 2 }
     requires measures { table.old.measures ≡ 1 }
     ensures is_open { is_some table.new.was ≡ true }
+    ensures begun { IfSome table.new.was (λ base. base.dims ≡ 2) }
     ensures dims { table.new.dims ≡ 2 }
     ensures measures { table.new.measures ≡ 1 }
 {
@@ -113,6 +114,18 @@ fn kept(table: &mut Table, alloc: Global, changes: &[(Change, Reply)]) -> bool
     all
 }
 
+// Takes back a batch that was begun with two dimensions.
+fn taken_back(table: &mut Table)
+    requires begun { IfSome table.old.was (λ base. base.dims ≡ 2) }
+    requires is_open { is_some table.old.was ≡ true }
+    requires measures { table.old.measures ≡ 1 }
+    ensures closed { table.new.was ≡ None }
+    ensures dims { table.new.dims ≡ 2 }
+    ensures measures { table.new.measures ≡ 1 }
+{
+    table.rollback();
+}
+
 // The same, but takes it back.
 fn undone(table: &mut Table, alloc: Global, changes: &[(Change, Reply)]) -> bool
     requires closed { table.old.was ≡ None }
@@ -123,7 +136,7 @@ fn undone(table: &mut Table, alloc: Global, changes: &[(Change, Reply)]) -> bool
     ensures measures { table.new.measures ≡ 1 }
 {
     let all = replies(table, alloc, changes);
-    table.rollback();
+    taken_back(table);
     all
 }
 
@@ -291,7 +304,7 @@ fn groups_follow_the_rows(rt: HostRuntime) -> Result<(), Fail> {
     assert!(rt; replies(&mut table, alloc, &[(Delete(3), Done), (Delete(2), Done)]));
     assert_eq!(rt; group(&table, alloc, 0, 0), Some((2, 15, 5, 10)));
     assert_eq!(rt; group(&table, alloc, 0, 1), None);
-    table.rollback();
+    taken_back(&mut table);
     assert_eq!(rt; group(&table, alloc, 0, 0), Some((3, -15, -30, 10)));
     assert_eq!(rt; group(&table, alloc, 0, 1), Some((1, 20, 20, 20)));
     Ok(())
