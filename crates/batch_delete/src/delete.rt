@@ -19,6 +19,7 @@ use crate::mend::settle_all;
 use crate::plan::plan_all;
 use aggregates::Agg;
 use cell_core::{Cell, Steps};
+use cube_defs::MAX_ROWS;
 use qc_arena::QcArena;
 use std::alloc::Global;
 use std::sync::ledger::Ledger;
@@ -41,7 +42,7 @@ pub fn delete_row<L: Ledger>(
     requires width { length tuple.now ≡ arena.old.width }
     requires tree { IsFrom arena.old.width arena.old.now (source_before deletion) }
     requires tuple { tuple.now ≡ defs.cell_of deletion.r.tuple }
-    requires few { length (rows_before deletion) ≤ 1000000 }
+    requires few { length (rows_before deletion) ≤ MAX_ROWS }
     requires rest { option_map agg_in rest ≡ agg_at (eq_by_cmp nat_cmp) deletion.measures (rows_after deletion) tuple.now }
     ensures tree { OnOk result (IsFrom arena.old.width arena.new.now (source_after deletion)) }
     ensures numbers { OnOk result ((k : ℕ) (c : defs.Cell ℕ) → cell_at arena.old.now k ≡ Some c → is_node (eq_by_cmp nat_cmp) (rows_after deletion) c ≡ true → cell_at arena.new.now k ≡ Some c) }

@@ -116,7 +116,7 @@ pub(crate) fn less_of(
     requires twins { option_map agg_in twins ≡ agg_at (eq_by_cmp nat_cmp) d.measures (rows_after d) tuple.now }
     requires gone { option_map agg_in gone ≡ agg_at (eq_by_cmp nat_cmp) d.measures (rows_before d) tuple.now }
     requires whole { option_map agg_in whole ≡ agg_at (eq_by_cmp nat_cmp) d.measures (rows_before d) cell.now }
-    requires few { length (rows_before d) ≤ 1000000 }
+    requires few { length (rows_before d) ≤ MAX_ROWS }
     ensures agg { IfSome result (λ agg. Some (agg_in agg) ≡ agg_at (eq_by_cmp nat_cmp) d.measures (rows_after d) cell.now) }
 {
     match whole {

@@ -24,6 +24,7 @@ use crate::plan::{Fate, after_of, node_at};
 use crate::stays::settled;
 use aggregates::Agg;
 use cell_core::{Cell, Code, Entry, NodeNo, Steps, meet_into};
+use cube_defs::MAX_ROWS;
 use indexmap::IndexMap;
 use qc_arena::{Nodes, QcArena};
 use std::sync::ledger::Ledger;
@@ -50,7 +51,7 @@ impl Rest {
 // The rows of both, where the first has any.
 fn joined(rest: Option<Rest>, part: Rest) -> Rest
     requires parts { IfSome rest (λ some. length (agg_in part.agg).parts ≡ length (agg_in some.agg).parts) }
-    requires few { IfSome rest (λ some. some.agg.count + part.agg.count ≤ 1000000) }
+    requires few { IfSome rest (λ some. some.agg.count + part.agg.count ≤ MAX_ROWS) }
     requires long { IfSome rest (λ some. length some.shared ≡ length part.shared) }
     ensures cells { Some result.shared ≡ join_cells nat_eq (shared_of rest) (Some part.shared) }
     ensures aggs { Some (agg_in result.agg) ≡ join_aggs (agg_of_rest rest) (Some (agg_in part.agg)) }
@@ -141,7 +142,7 @@ fn with_part<L: Ledger>(
     requires long { length cell.now ≡ arena.now.width }
     requires dim { dim < length cell.now }
     requires code { IsCode code }
-    requires few { (part : _) → IsRest d.measures (rows_before d) (with_value cell.now dim code) (Some part) → IfSome rest (λ some. some.agg.count + part.agg.count ≤ 1000000) }
+    requires few { (part : _) → IsRest d.measures (rows_before d) (with_value cell.now dim code) (Some part) → IfSome rest (λ some. some.agg.count + part.agg.count ≤ MAX_ROWS) }
     requires parts { IfSome rest (λ some. length (agg_in some.agg).parts ≡ d.measures) }
     requires shared { IfSome rest (λ some. length some.shared ≡ length cell.now) }
     ensures parts { IfSome result (λ some. length (agg_in some.agg).parts ≡ d.measures) }
@@ -173,7 +174,7 @@ fn with_label<L: Ledger>(
     requires tuple { length tuple.now ≡ arena.now.width }
     requires dim { dim < length cell.now }
     requires code { IsCode label.1 }
-    requires few { label.0 ≡ dim → is_value (slice_index_or tuple.now dim None) label.1 ≡ false → (part : _) → IsRest d.measures (rows_before d) (with_value cell.now dim label.1) (Some part) → IfSome rest (λ some. some.agg.count + part.agg.count ≤ 1000000) }
+    requires few { label.0 ≡ dim → is_value (slice_index_or tuple.now dim None) label.1 ≡ false → (part : _) → IsRest d.measures (rows_before d) (with_value cell.now dim label.1) (Some part) → IfSome rest (λ some. some.agg.count + part.agg.count ≤ MAX_ROWS) }
     requires parts { IfSome rest (λ some. length (agg_in some.agg).parts ≡ d.measures) }
     requires shared { IfSome rest (λ some. length some.shared ≡ length cell.now) }
     ensures parts { IfSome result (λ some. length (agg_in some.agg).parts ≡ d.measures) }
@@ -213,7 +214,7 @@ fn with_labels<L: Ledger>(
     requires below { covers (eq_by_cmp nat_cmp) cell.now d.r ≡ true }
     requires own { closure_in (source_before d) cell.now ≡ Some cell.now }
     requires front { cell_at arena.now.now node.0 ≡ Some (keep dim cell.now) }
-    requires few { length (rows_before d) ≤ 1000000 }
+    requires few { length (rows_before d) ≤ MAX_ROWS }
     requires value { (v : ℕ) × (w : _) × (slice_index_or tuple.now dim None ≡ Some v) × (closure_in (source_before d) (with_value cell.now dim v) ≡ Some w) × IsTotal d cell.now dim v w (v ∷ []) rest }
     requires parts { IfSome rest (λ some. length (agg_in some.agg).parts ≡ d.measures) }
     requires shared { IfSome rest (λ some. length some.shared ≡ length cell.now) }
@@ -258,7 +259,7 @@ fn all_parts<L: Ledger>(
     requires front { (q : ℕ) × (cell_at arena.now.now q ≡ Some (keep dim cell.now)) }
     requires planned { (v q : ℕ) (w : _) → slice_index_or tuple.now dim None ≡ Some v → closure_in (source_before d) (with_value cell.now dim v) ≡ Some w → cell_at arena.now.now q ≡ Some w → IsRest d.measures (rows_after d) w (after_in plan.now.entries q) }
     requires twins { option_map agg_in twins ≡ agg_at (eq_by_cmp nat_cmp) d.measures (rows_after d) tuple.now }
-    requires few { length (rows_before d) ≤ 1000000 }
+    requires few { length (rows_before d) ≤ MAX_ROWS }
     requires node { cell_at arena.now.now node.0 ≡ Some cell.now }
     requires last { cell_at arena.now.now last.0 ≡ Some tuple.now }
     ensures rest { IsRest d.measures (rows_after d) cell.now result }
@@ -294,7 +295,7 @@ pub(crate) fn class_after<L: Ledger>(
     requires own { closure_in (source_before d) cell.now ≡ Some cell.now }
     requires twins { option_map agg_in twins ≡ agg_at (eq_by_cmp nat_cmp) d.measures (rows_after d) tuple.now }
     requires planned { (i v q : ℕ) (w : _) → slice_get cell.now i ≡ Some None → slice_index_or tuple.now i None ≡ Some v → closure_in (source_before d) (with_value cell.now i v) ≡ Some w → cell_at arena.now.now q ≡ Some w → IsRest d.measures (rows_after d) w (after_in plan.now.entries q) }
-    requires few { length (rows_before d) ≤ 1000000 }
+    requires few { length (rows_before d) ≤ MAX_ROWS }
     requires node { cell_at arena.now.now node.0 ≡ Some cell.now }
     requires last { cell_at arena.now.now last.0 ≡ Some tuple.now }
     ensures rest { IsRest d.measures (rows_after d) cell.now result }

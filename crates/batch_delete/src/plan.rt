@@ -21,6 +21,7 @@ use crate::cells::{depth, front};
 use crate::parts::{Rest, class_after};
 use aggregates::Agg;
 use cell_core::{Cell, Entry, NodeNo, Steps};
+use cube_defs::MAX_ROWS;
 use indexmap::IndexMap;
 use qc_arena::{Nodes, QcArena};
 use std::alloc::Global;
@@ -100,7 +101,7 @@ fn rest_of<L: Ledger>(
     requires low { leq nat_eq below.now.cell tuple.now ≡ true }
     requires twins { option_map agg_in twins ≡ agg_at (eq_by_cmp nat_cmp) d.measures (rows_after d) tuple.now }
     requires planned { (q : ℕ) (w : _) → cell_at arena.now.now q ≡ Some w → leq nat_eq w tuple.now ≡ true → leq nat_eq below.now.cell w ≡ true → leq nat_eq w below.now.cell ≡ false → IsRest d.measures (rows_after d) w (after_in plan.now.entries q) }
-    requires few { length (rows_before d) ≤ 1000000 }
+    requires few { length (rows_before d) ≤ MAX_ROWS }
     requires last { cell_at arena.now.now last.0 ≡ Some tuple.now }
     ensures rest { IsRest d.measures (rows_after d) below.now.cell result }
     ensures steps { (list : List Below) → AreBelow arena.now.now tuple.now (length tuple.now) list → steps.new ≤ steps.old + ((3 * length tuple.now + 5) + (4 * length tuple.now + 6) * front_labels arena.now.now list below.now.cell (last_any_of below.now.cell)) }
@@ -161,7 +162,7 @@ fn fate_of<L: Ledger>(
     requires low { leq nat_eq below.now.cell tuple.now ≡ true }
     requires twins { option_map agg_in twins ≡ agg_at (eq_by_cmp nat_cmp) d.measures (rows_after d) tuple.now }
     requires planned { (q : ℕ) (w : _) → cell_at arena.now.now q ≡ Some w → leq nat_eq w tuple.now ≡ true → leq nat_eq below.now.cell w ≡ true → leq nat_eq w below.now.cell ≡ false → IsRest d.measures (rows_after d) w (after_in plan.now.entries q) }
-    requires few { length (rows_before d) ≤ 1000000 }
+    requires few { length (rows_before d) ≤ MAX_ROWS }
     requires last { cell_at arena.now.now last.0 ≡ Some tuple.now }
     ensures after { IsRest d.measures (rows_after d) below.now.cell result.after }
     ensures heir { Names arena.now.now (option_map number result.heir) (option_map (keep (cells.depth below.now.cell)) (closure (eq_by_cmp nat_cmp) (rows_after d) below.now.cell)) }
@@ -199,7 +200,7 @@ pub(crate) fn plan_all<L: Ledger>(
     requires row { tuple.now ≡ cell_of d.r.tuple }
     requires below { AreBelow arena.now.now tuple.now (length tuple.now) list.now.items }
     requires twins { option_map agg_in twins ≡ agg_at (eq_by_cmp nat_cmp) d.measures (rows_after d) tuple.now }
-    requires few { length (rows_before d) ≤ 1000000 }
+    requires few { length (rows_before d) ≤ MAX_ROWS }
     ensures planned { IfOk result (λ plan. ArePlanned d arena.now.now plan.entries list.now.items 0) }
     ensures steps { IfOk result (λ plan. steps.new ≤ steps.old + planning (length tuple.now) arena.now.now list.now.items list.now.items) }
 {
