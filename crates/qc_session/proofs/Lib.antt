@@ -4,6 +4,7 @@ mod Ended
 mod Found
 mod Kept
 mod Measured
+mod Named
 mod Recoded
 mod Refusals
 mod Refused

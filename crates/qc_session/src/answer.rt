@@ -1,10 +1,11 @@
 // The answer to one line.
-ghost use Rattle.std.specs.Prelude.{Err, IfErr, IfOk, IfSome, IsTrue, None, Ok, OnErr, Some, length, option_map, true, ⊤, ◌≡◌, ◌≤◌};
+ghost use Rattle.std.specs.Prelude.{Err, IfErr, IfOk, IfSome, IsTrue, None, Ok, OnErr, OnOk, Some, length, option_map, true, ⊤, ◌≡◌, ◌≤◌};
 ghost use Rattle.qc_io.specs.Outside.{Rose};
 ghost use Rattle.query_script.specs.Commands.{IsQuestion, wants_memory};
 ghost use Rattle.query_script.specs.Lines.{may_want_memory};
 ghost use Rattle.query_script.specs.Questions.{question_in};
 ghost use Rattle.warehouse.specs.Batch as batches;
+ghost use Rattle.warehouse.specs.InPlace.{IsTaken, IsWithinCost, LeavesApart, LeavesNumbers};
 ghost use Rattle.qc_session.specs.Answers.{answer, answer_to, changed, file_answer, file_named, file_of};
 
 use crate::bounds::answer_bounds;
@@ -45,7 +46,7 @@ ghost use Rattle.reply_text.specs.Words.{reply_bytes};
 ghost use Rattle.cell_core.specs.Gives.{Gives};
 ghost use Rattle.warehouse.specs.Stored.{applied_in, refusal_in};
 
-// Takes the bytes of a file.
+// Takes the bytes of a file. A batch is applied in place.
 fn take_file<L: Ledger>(
     warehouse: &mut Warehouse,
     kind: Kind,
@@ -54,6 +55,9 @@ fn take_file<L: Ledger>(
 ) -> Result<Applied, Refused>
     requires { length bytes.now ≤ MAX_FILE }
     ensures gives { Gives refusal_in (applied_in warehouse.new.state) result (batches.result warehouse.old.state (kind_in kind) bytes.now) }
+    ensures numbers { OnOk result (kind_in kind ≡ batches.Apply → LeavesNumbers warehouse.old bytes.now warehouse.new) }
+    ensures apart { OnOk result (kind_in kind ≡ batches.Apply → LeavesApart warehouse.old bytes.now warehouse.new) }
+    ensures steps { OnOk result (kind_in kind ≡ batches.Apply → IsWithinCost warehouse.old bytes.now warehouse.new steps.old steps.new) }
     ensures state { OnErr result (warehouse.new.state ≡ warehouse.old.state) }
     ensures tree { OnErr result (warehouse.new.tree ≡ warehouse.old.tree) }
 {
@@ -73,6 +77,9 @@ fn change<L: Ledger>(
 ) -> Result<ShortReply, Memory>
     requires { length bytes.now ≤ MAX_FILE }
     ensures ok { IfOk result (λ reply. changed warehouse.old.state number (batches.result warehouse.old.state (kind_in kind) bytes.now) ≡ record { state = warehouse.new.state; reply = reply }) }
+    ensures numbers { kind_in kind ≡ batches.Apply → LeavesNumbers warehouse.old bytes.now warehouse.new }
+    ensures apart { kind_in kind ≡ batches.Apply → LeavesApart warehouse.old bytes.now warehouse.new }
+    ensures steps { OnOk result (kind_in kind ≡ batches.Apply → IsTaken warehouse.old.state bytes.now → IsWithinCost warehouse.old bytes.now warehouse.new steps.old steps.new) }
     ensures state { OnErr result (warehouse.new.state ≡ warehouse.old.state) }
     ensures tree { OnErr result (warehouse.new.tree ≡ warehouse.old.tree) }
 {
@@ -103,6 +110,9 @@ fn answer_file<F: Files, L: Ledger>(
     ensures fault { IfErr result (λ stop. MatchLineStop stop ⊤ (λ file. (file ≡ name) × Rose (F.faults files.old) (F.faults files.new))) }
     ensures untold { IfErr result (λ stop. MatchLineStop stop ⊤ (λ file. IsTrue (F.steady files.old) → IfSome (F.told files.old) (λ t. t file ≡ None))) }
     ensures answered { IfOk result (λ reply. IfSome (F.told files.old) (λ t. option_map (file_answer warehouse.old.state number (kind_in kind)) (t name) ≡ Some (record { state = warehouse.new.state; reply = reply_bytes reply }))) }
+    ensures numbers { IfSome (F.told files.old) (λ t. IfSome (t name) (λ bytes. kind_in kind ≡ batches.Apply → LeavesNumbers warehouse.old bytes warehouse.new)) }
+    ensures apart { IfSome (F.told files.old) (λ t. IfSome (t name) (λ bytes. kind_in kind ≡ batches.Apply → LeavesApart warehouse.old bytes warehouse.new)) }
+    ensures steps { OnOk result (IfSome (F.told files.old) (λ t. IfSome (t name) (λ bytes. kind_in kind ≡ batches.Apply → IsTaken warehouse.old.state bytes → IsWithinCost warehouse.old bytes warehouse.new steps.old steps.new))) }
 {
     match read_all(alloc, files, name.as_str(), MAX_FILE) {
         Ok(bytes) => match change(warehouse, number, kind, &bytes, steps) {

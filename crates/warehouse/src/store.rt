@@ -11,7 +11,7 @@ ghost use Rattle.measure_index.specs.Index.{ranking_of};
 ghost use Rattle.measure_index.specs.Rankings.{IsIndex};
 ghost use Rattle.warehouse.specs.Batch as batches;
 ghost use Rattle.warehouse.specs.Batch.{result_of};
-ghost use Rattle.warehouse.specs.InPlace.{KeepsApart, KeepsNodes, OfBatch, cost_of_batch, gone, kept, with_codes};
+ghost use Rattle.warehouse.specs.InPlace.{IsWithinCost, KeepsApart, KeepsNodes, LeavesApart, LeavesNumbers, cost_of_batch, gone, kept, with_codes};
 ghost use Rattle.warehouse.specs.State.{IsHeld, State, empty, scale_in};
 ghost use Rattle.warehouse.specs.Stored.{applied_in, refusal_in};
 
@@ -221,9 +221,9 @@ impl Warehouse {
     ) -> Result<Applied, Refused>
         requires { length bytes.now ≤ MAX_FILE }
         ensures gives { Gives refusal_in (applied_in self.new.state) result (batches.result self.old.state batches.Apply bytes.now) }
-        ensures numbers { OnOk result (OfBatch self.old.state.schema bytes.now (λ changes. KeepsNodes (with_codes self.new.state.texts (kept (deleted changes) self.old.state.rows)) self.old.tree self.new.tree)) }
-        ensures apart { OnOk result (OfBatch self.old.state.schema bytes.now (λ changes. KeepsApart (with_codes self.new.state.texts (gone (deleted changes) self.old.state.rows ++ inserted changes)) self.old.tree self.new.tree)) }
-        ensures steps { OnOk result (OfBatch self.old.state.schema bytes.now (λ changes. steps.new ≤ steps.old + cost_of_batch (length self.old.state.schema.dims) self.new.state.texts self.old.state.rows changes)) }
+        ensures numbers { OnOk result (LeavesNumbers self.old bytes.now self.new) }
+        ensures apart { OnOk result (LeavesApart self.old bytes.now self.new) }
+        ensures steps { OnOk result (IsWithinCost self.old bytes.now self.new steps.old steps.new) }
         ensures valid { IsHeld self.new }
         ensures state { OnErr result (self.new.state ≡ self.old.state) }
         ensures tree { OnErr result (self.new.tree ≡ self.old.tree) }

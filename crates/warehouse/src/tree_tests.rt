@@ -382,60 +382,6 @@ fn the_worked_tree_once_the_fourth_row_is_gone(rt: HostRuntime) -> Result<(), Fa
     Ok(())
 }
 
-// The numbers of the nodes of the base file's tree, and those of the closures of their cells.
-#[derive(Clone, Copy)]
-struct Numbers {
-    nodes: [Option<NodeNo>; 11],
-    closures: [Option<NodeNo>; 11],
-}
-
-fn closure_of<L: Ledger>(
-    alloc: Global,
-    shop: &Warehouse,
-    texts: &Texts,
-    steps: &mut Steps<L>,
-) -> Option<NodeNo> {
-    let cell = cell_of(alloc, shop, texts)?;
-    find(shop.tree(), &cell, steps)
-}
-
-fn counted_numbers<L: Ledger>(alloc: Global, shop: &Warehouse, blank: Blank) -> Numbers
-    requires name { blank.name ≡ L.name }
-    requires parts { blank.parts ≡ L.parts }
-    requires some { 0 < L.parts }
-{
-    let mut steps = Steps::<L>::start(blank);
-    let mut numbers = Numbers {
-        nodes: [None; 11],
-        closures: [None; 11],
-    };
-    'lines: for k in 0..11 {
-        numbers.nodes[k] = node_of(alloc, shop, &NODES[k].0, &mut steps);
-        numbers.closures[k] = closure_of(alloc, shop, &NODES[k].0, &mut steps);
-    }
-    numbers
-}
-
-fn numbers_in(alloc: Global, shop: &Warehouse) -> Numbers {
-    counted_numbers::<Brand>(alloc, shop, Blank::new(1))
-}
-
-#[test]
-fn nodes_keep_their_numbers(rt: HostRuntime) -> Result<(), Fail> {
-    let mut shop = opened(rt.alloc(), SCHEMA, BASE)?;
-    let first = numbers_in(rt.alloc(), &shop);
-    'nodes: for k in 0..11 {
-        assert!(rt; first.nodes[k].is_some() && first.closures[k].is_some());
-    }
-    assert_eq!(rt; apply(&mut shop, PLUS), Ok(1));
-    assert_eq!(rt; numbers_in(rt.alloc(), &shop).nodes, first.nodes);
-    assert_eq!(rt; apply(&mut shop, MINUS), Ok(1));
-    let last = numbers_in(rt.alloc(), &shop);
-    assert_eq!(rt; last.nodes, first.nodes);
-    assert_eq!(rt; last.closures, first.closures);
-    Ok(())
-}
-
 // The fourth row needs as many nodes.
 const JUST: &[u8] =
     b"qcube 1\nid id\ndim store\ndim product\ndim season\nmeasure sale 0\nnodes 15\n";
