@@ -1,71 +1,72 @@
 #!/usr/bin/env bash
-# Applies 200 batches of 200 deletions and 200 insertions over 50,000 and over 500,000 rows of 6 dimensions: time, memory
-# a row, beside a plain Rust program that reads the same records and does the same on an IndexMap with tombstones.
+# Applies 100 batches of 200 deletions and 200 insertions over 50,000, 300,000 and 500,000 rows of 6 dimensions, whose tree is
+# kept: the time of a batch, the memory of a load, beside another program of the same commands where one is named.
 #
-#     bench/batches.sh [PROGRAM]
+#     bench/batches.sh [PROGRAM [OTHER]]
 #
-# PROGRAM is the built program, by default crates/qcube/out/qcube. The inputs are generated anew from a fixed seed;
-# values are drawn by a Zipf law from 200, 100, 50, 20, 8 and 4. The plain program (bench/plain) is built by cargo
-# where Debian's librust-csv-dev and librust-indexmap-dev are installed, and is left out elsewhere. The time of the
-# batches is that of the whole script less that of its load alone, each the least of five runs. The plain program keeps no
-# tree, and so is no measure of the repair; bench/insertions.sh measures that.
+# PROGRAM is the built program, by default crates/qcube/out/qcube; OTHER is run on the same inputs, as PROGRAM is, and is to
+# write the same replies. The inputs are generated anew from a fixed seed; values are drawn by a Zipf law from 500, 200, 80,
+# 30, 12 and 5. The time of the batches is that of the whole script less that of its load alone, each the least of three runs.
+other=${2:+$(realpath "$2")}
 source "$(dirname "${BASH_SOURCE[0]}")/common.sh"
-build_plain
 
 python3 - <<'PY'
 import random
-counts = (200, 100, 50, 20, 8, 4)
-weights = [[1 / (k + 1) for k in range(n)] for n in counts]
+from common import zipf_rows
 
-def record(draw, row):
-    values = (draw.choices(range(n), w)[0] for n, w in zip(counts, weights))
-    texts = ",".join(f"{name}{value}" for name, value in zip("abcdef", values))
-    return f"{row},{texts},{draw.randrange(-50_000, 50_001) / 100:.2f}\n"
-
+counts = (500, 200, 80, 30, 12, 5)
+batches, size = 100, 200
 with open("rows.schema", "w") as file:
     file.write("qcube 1\nid id\n" + "".join(f"dim {name}\n" for name in "abcdef") + "measure sale 2\nnodes 4000000\n")
-for rows in (50_000, 500_000):
+for rows in (50_000, 300_000, 500_000):
     draw = random.Random(rows)
-    present = list(range(1, rows + 1))
+    records = [
+        f"{row},{','.join(texts)},{draw.randrange(-50_000, 50_001) / 100:.2f}\n"
+        for row, texts in enumerate(zipf_rows(draw, counts, rows + batches * size), 1)
+    ]
     with open(f"{rows}.csv", "w") as file:
         file.write("id,a,b,c,d,e,f,sale\n")
-        file.writelines(record(draw, row) for row in present)
-    script = [f"load {rows}.csv\n"]
+        file.writelines(records[:rows])
     with open(f"{rows}.load", "w") as file:
-        file.writelines(script)
-    last = rows
-    for batch in range(200):
-        name = f"{rows}-{batch}.csv"
-        with open(name, "w") as file:
-            file.write("op,id,a,b,c,d,e,f,sale\n")
-            for _ in range(200):
-                place = draw.randrange(len(present))
-                present[place], present[-1] = present[-1], present[place]
-                file.write(f"-,{present.pop()},,,,,,,\n")
-            for _ in range(200):
-                last += 1
-                present.append(last)
-                file.write("+," + record(draw, last))
-        script.append(f"apply {name}\n")
-    with open(f"{rows}.script", "w") as file:
-        file.writelines(script)
+        file.write(f"load {rows}.csv\n")
+    present = list(range(1, rows + 1))
+    with open(f"{rows}.script", "w") as script:
+        script.write(f"load {rows}.csv\n")
+        for batch in range(batches):
+            with open(f"{rows}-{batch}.csv", "w") as file:
+                file.write("op,id,a,b,c,d,e,f,sale\n")
+                for _ in range(size):
+                    place = draw.randrange(len(present))
+                    present[place], present[-1] = present[-1], present[place]
+                    file.write(f"-,{present.pop()},,,,,,,\n")
+                first = rows + batch * size
+                file.writelines("+," + record for record in records[first : first + size])
+                present.extend(range(first + 1, first + size + 1))
+            script.write(f"apply {rows}-{batch}.csv\n")
 PY
 
-python3 - "$program" "$plain" <<'PY'
+python3 - "$program" "$other" <<'PY'
 import os, sys
 from common import best
 
-program, plain = sys.argv[1:]
+program, other = sys.argv[1:]
+
+
+def batches(name, rows):
+    load, _, peak = best(name, "run", "rows.schema", f"{rows}.load")
+    whole, out, _ = best(name, "run", "rows.schema", f"{rows}.script")
+    assert len(out) == 101 and all(line.startswith("applied,") for line in out), out[-1]
+    return (whole - load) / 100, out, load, (peak - os.path.getsize(f"{rows}.csv")) / rows
+
+
 took = {}
-for rows in (50_000, 500_000):
-    load, _, peak = best(program, "run", "rows.schema", f"{rows}.load", runs=5)
-    whole, _, _ = best(program, "run", "rows.schema", f"{rows}.script", runs=5)
-    took[rows] = whole - load
-    a_row = (peak - os.path.getsize(f"{rows}.csv")) / rows
-    print(f"{rows:,} rows: load {load:.3f} s, peak the file and {a_row:.0f} bytes a row; 200 batches {took[rows]:.3f} s")
-    if plain:
-        load, _, _ = best(plain, "batches", f"{rows}.load", runs=5)
-        whole, _, _ = best(plain, "batches", f"{rows}.script", runs=5)
-        print(f"    a plain program: load {load:.3f} s, 200 batches {whole - load:.3f} s; {took[rows] / (whole - load):.2f} times (at most 4)")
-print(f"over 10 times the rows the batches take {took[500_000] / took[50_000]:.2f} times as long (at most 3)")
+for rows in (50_000, 300_000, 500_000):
+    took[rows], out, load, a_row = batches(program, rows)
+    print(f"{rows:,} rows: load {load:.2f} s, peak the file and {a_row:.0f} bytes a row; a batch {took[rows] * 1000:.1f} ms")
+    if other:
+        beside, replies, load, a_row = batches(other, rows)
+        assert replies == out
+        print(f"    the other program: load {load:.2f} s, the file and {a_row:.0f} bytes a row; a batch {beside * 1000:.1f} ms; "
+              f"{took[rows] / beside:.2f} times (at most 2)")
+print(f"over 10 times the rows a batch takes {took[500_000] / took[50_000]:.2f} times as long (at most 2)")
 PY

@@ -1,19 +1,18 @@
 // What a plain program does with the same files: `rows FILE` reads the records and keeps them, `texts FILE` learns the
-// distinct texts of the second column, `batches SCRIPT` keeps rows of codes under their ids and follows the batches,
-// `tree FILE` builds the tree of its rows, and tells how many nodes it has; `points FILE` builds it too, and asks 500,000
-// points of cells above its rows, and tells how many of them cover a row and how many seconds they took.
+// distinct texts of the second column, `tree FILE` builds the tree of its rows, and tells how many nodes it has; `points FILE`
+// builds it too, and asks 500,000 points of cells above its rows, and tells how many of them cover a row and how many seconds
+// they took.
 mod tree;
 
 use tree::{Row, Tree};
 use csv::{ReaderBuilder, StringRecord};
-use indexmap::{IndexMap, IndexSet};
+use indexmap::IndexSet;
 use std::error::Error;
 
-/// Rows in the order in which they came, with tombstones, and the place of each id.
+/// Rows of codes, and for each dimension the texts that the codes stand for.
 #[derive(Default)]
 struct Table {
-    rows: Vec<Option<(u64, [u32; 6], i64)>>,
-    places: IndexMap<u64, usize>,
+    rows: Vec<Row>,
     texts: [IndexSet<String>; 6],
 }
 
@@ -25,55 +24,26 @@ impl Table {
         }
     }
 
-    // The fields of an insertion: an id, six texts and an amount.
-    fn insert(&mut self, fields: &[&str]) -> Result<(), Box<dyn Error>> {
-        let id = fields[0].parse()?;
-        let mut codes = [0; 6];
-        for dim in 0..6 {
-            codes[dim] = self.code(dim, fields[1 + dim]);
-        }
-        let amount = (fields[7].parse::<f64>()? * 100.0).round() as i64;
-        if self.places.insert(id, self.rows.len()).is_some() {
-            return Err("an id is there".into());
-        }
-        self.rows.push(Some((id, codes, amount)));
-        Ok(())
-    }
-
-    fn delete(&mut self, id: &str) -> Result<(), Box<dyn Error>> {
-        let place = self.places.swap_remove(&id.parse::<u64>()?).ok_or("no such id")?;
-        self.rows[place] = None;
-        Ok(())
-    }
-
-    fn read(&mut self, bytes: &[u8], is_batch: bool) -> Result<(), Box<dyn Error>> {
+    // Records of an id, six texts and an amount.
+    fn read(&mut self, bytes: &[u8]) -> Result<(), Box<dyn Error>> {
         let mut reader = ReaderBuilder::new().flexible(true).from_reader(bytes);
         let mut record = StringRecord::new();
         while reader.read_record(&mut record)? {
-            let fields: Vec<&str> = record.iter().collect();
-            match fields[0] {
-                "-" if is_batch => self.delete(fields[1])?,
-                "+" if is_batch => self.insert(&fields[1..])?,
-                _ => self.insert(&fields)?,
+            let mut codes = [0; 6];
+            for dim in 0..6 {
+                codes[dim] = self.code(dim, &record[1 + dim]);
             }
+            let amount = (record[7].parse::<f64>()? * 100.0).round() as i64;
+            self.rows.push(Row { codes, amount });
         }
         Ok(())
     }
-}
-
-fn follow(script: &str) -> Result<usize, Box<dyn Error>> {
-    let mut table = Table::default();
-    for line in std::fs::read_to_string(script)?.lines() {
-        let (word, name) = line.split_once(' ').ok_or("no command")?;
-        table.read(&std::fs::read(name)?, word == "apply")?;
-    }
-    Ok(table.rows.iter().flatten().count())
 }
 
 fn build(word: &str, file: &str) -> Result<usize, Box<dyn Error>> {
     let mut table = Table::default();
-    table.read(&std::fs::read(file)?, false)?;
-    let rows: Vec<Row> = table.rows.iter().flatten().map(|(_, codes, amount)| Row { codes: *codes, amount: *amount }).collect();
+    table.read(&std::fs::read(file)?)?;
+    let rows = table.rows;
     let tree = Tree::of(&rows);
     if word == "tree" {
         let children = tree.nodes.iter().filter(|node| node.parent == 0).count();
@@ -120,7 +90,6 @@ fn read(word: &str, bytes: &[u8]) -> Result<usize, Box<dyn Error>> {
 fn main() -> Result<(), Box<dyn Error>> {
     let words: Vec<String> = std::env::args().collect();
     let count = match words[1].as_str() {
-        "batches" => follow(&words[2])?,
         "tree" | "points" => build(&words[1], &words[2])?,
         word => read(word, &std::fs::read(&words[2])?)?,
     };
