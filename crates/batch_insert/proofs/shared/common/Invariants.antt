@@ -1,0 +1,17 @@
+use Rattle.std.proofs.Common.{◌≡◌, ◌+◌, ◌*◌, ◌≤◌, ◌&&◌, length, nat_eq}
+use Rattle.std.specs.Prelude.{IsSome}
+use Rattle.std.specs.FinMap as map
+use Rattle.cube_defs.specs.Cell.{depth, leq, mask, meet}
+use Rattle.qc_arena.specs.Seen.{record_at}
+use Rattle.batch_insert.proofs.shared.common.Given as goal
+
+abbrev pub invariant-up : goal.invariant-up
+invariant-up g l = record {
+  there : IsSome (map.get l.arena.now l.at.0);
+  common : l.values + mask (meet nat_eq (record_at l.arena.now l.at.0).cell l.tuple) ≡ mask (meet nat_eq (record_at l.arena.now l.fn.node.0).cell l.tuple);
+  below : leq nat_eq (record_at l.arena.now l.fn.node.0).cell l.tuple ≡ (l.is_below && leq nat_eq (record_at l.arena.now l.at.0).cell l.tuple);
+  steps : l.steps + 2 * depth (record_at l.arena.now l.at.0).cell ≤ l.fn.steps + 2 * length l.tuple;
+}
+
+abbrev pub decreases-up : goal.decreases-up
+decreases-up g l = depth (record_at l.arena.now l.at.0).cell

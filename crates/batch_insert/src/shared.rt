@@ -1,0 +1,121 @@
+// What the target of an old label and the tuple share.
+ghost use Rattle.std.specs.FinMap as map;
+ghost use Rattle.std.specs.Prelude.{All, IfNone, IfSome, IsSome, None, Some, false, if◌then◌else◌, is_some, length, nat_eq, slice_index_or, true, ℕ, ◌*◌, ◌+◌, ◌<◌, ◌≡◌, ◌≤◌, ◌^◌};
+ghost use Rattle.std.specs.Option.{option_and_then};
+ghost use Rattle.cell_core.specs.Entry.{IsCode};
+ghost use Rattle.cube_defs.specs.Cell as defs;
+ghost use Rattle.cube_defs.specs.Tree.{cell_at};
+ghost use Rattle.tree_laws.specs.Labels.{moved};
+ghost use Rattle.batch_insert.specs.Masks.{Shares};
+ghost use Rattle.batch_insert.specs.Planned.{IsReady};
+
+use crate::tuples::code_of;
+use cell_core::{Cell, Code, NodeNo, Steps};
+use cube_defs::MAX_DIMS;
+use qc_arena::{Nodes, QcArena};
+use std::sync::ledger::Ledger;
+
+/// The node of a front of a node's old closure, and whether that is the node itself. None where the
+/// node covered no row.
+#[derive(Clone, Copy)]
+pub(crate) struct Chain {
+    pub(crate) node: Option<NodeNo>,
+    pub(crate) is_own: bool,
+}
+
+/// The mask of the cell that a label with the tuple's value leads to: of what the old target and the
+/// tuple share, or of the tuple's front. Beside it, whether it is the old target.
+pub(crate) fn shared<L: Ledger>(
+    arena: &QcArena,
+    tuple: &Cell,
+    mask: u16,
+    chain: Chain,
+    old: Option<NodeNo>,
+    dim: u8,
+    steps: &mut Steps<L>,
+) -> (u16, bool)
+    requires ready { IsReady arena.now }
+    requires full { All (λ entry. is_some entry ≡ true) tuple.now }
+    requires width { length tuple.now ≡ arena.now.width }
+    requires few { length tuple.now ≤ MAX_DIMS }
+    requires dim { dim < length tuple.now }
+    requires chain { IfSome chain.node (λ k. Shares tuple.now arena.now.now mask chain.is_own k.0) }
+    requires old { IfSome old (λ k. IsSome (map.get arena.now.now k.0)) }
+    ensures mask { result.0 ≡ defs.mask (moved nat_eq (option_and_then (λ k. cell_at arena.now.now k.0) old) tuple.now dim) }
+    ensures shares { IfSome old (λ k. Shares tuple.now arena.now.now result.0 result.1 k.0) }
+    ensures none { IfNone old (result.1 ≡ false) }
+    ensures steps { steps.new ≤ steps.old + (2 * length tuple.now + 2) }
+{
+    match old {
+        None => (front_of(tuple, dim), false),
+        Some(node) => common(arena, tuple, mask, chain, node, steps),
+    }
+}
+
+// The mask of all dimensions up to this one.
+fn front_of(tuple: &Cell, dim: u8) -> u16
+    requires full { All (λ entry. is_some entry ≡ true) tuple.now }
+    requires few { length tuple.now ≤ MAX_DIMS }
+    requires dim { dim < length tuple.now }
+    ensures { result ≡ defs.mask (defs.upto tuple.now dim) }
+{
+    let bit = 1 << dim;
+    bit + (bit - 1)
+}
+
+// What a node and the tuple share, read on the way up from the node: as far as the chain's node, of
+// which that is known, or else the root.
+fn common<L: Ledger>(
+    arena: &QcArena,
+    tuple: &Cell,
+    mask: u16,
+    chain: Chain,
+    node: NodeNo,
+    steps: &mut Steps<L>,
+) -> (u16, bool)
+    requires ready { IsReady arena.now }
+    requires full { All (λ entry. is_some entry ≡ true) tuple.now }
+    requires few { length tuple.now ≤ MAX_DIMS }
+    requires width { length tuple.now ≡ arena.now.width }
+    requires chain { IfSome chain.node (λ k. Shares tuple.now arena.now.now mask chain.is_own k.0) }
+    requires node { IsSome (map.get arena.now.now node.0) }
+    ensures shares { Shares tuple.now arena.now.now result.0 result.1 node.0 }
+    ensures steps { steps.new ≤ steps.old + (2 * length tuple.now + 2) }
+{
+    let mut at = node;
+    let mut values = 0;
+    let mut is_below = true;
+    'up: while !is_at(chain.node, at) {
+        let Some((dim, code)) = arena.end_of(at, steps) else {
+            return (values, is_below);
+        };
+        let bit = bit_of(tuple, dim, code);
+        values += bit;
+        is_below &= bit != 0;
+        at = arena.parent(at, steps).unwrap();
+    }
+    (values + mask, is_below & chain.is_own)
+}
+
+fn is_at(chain: Option<NodeNo>, at: NodeNo) -> bool
+    ensures { result ≡ true → chain ≡ Some at }
+{
+    match chain {
+        Some(node) => node.0 == at.0,
+        None => false,
+    }
+}
+
+// The dimension's bit, where the tuple has the value.
+fn bit_of(tuple: &Cell, dim: u8, code: Code) -> u16
+    requires full { All (λ entry. is_some entry ≡ true) tuple.now }
+    requires few { length tuple.now ≤ MAX_DIMS }
+    requires dim { dim < length tuple.now }
+    ensures { result ≡ (if defs.entry_leq nat_eq (Some code) (slice_index_or tuple.now dim None) then 2 ^ dim else 0) }
+{
+    if code == code_of(tuple, dim) {
+        1 << dim
+    } else {
+        0
+    }
+}
