@@ -1,6 +1,6 @@
 -- The parts of a plan one after another.
 use Rattle.batch_insert.specs.Stages.{IsStage}
-use Rattle.std.proofs.Common.{◌≡◌, inl, inr, ℕ, suc, ◌+◌, ◌<◌, All, Option, Some, None, IsSome, List, [], ◌∷◌, ◌++◌, ℤ, length, take, get_or, zero, nat_eq, replicate, refl, sym, subst, ◌∙◌, arith}
+use Rattle.std.proofs.Common.{◌≡◌, inl, inr, ℕ, suc, ◌+◌, ◌<◌, All, Option, Some, None, IsSome, List, [], ◌∷◌, ◌++◌, ℤ, length, take, get_or, zero, replicate, refl, sym, subst, ◌∙◌, arith}
 use Rattle.std.proofs.lemmas.List.{take_more}
 use Rattle.cube_defs.specs.Cell.{Cell, depth, mask, one_deeper}
 use Rattle.cube_defs.specs.Tree.{Tree}
@@ -19,7 +19,6 @@ use Rattle.batch_insert.specs.Kept.{IsClosed, Keeps}
 use Rattle.batch_insert.specs.Planned.{IsPlan}
 use Rattle.batch_insert.specs.Stages.{HasLabel, HaveCopied, HaveEnded, HaveSet, IsCopied, IsDone, LabelsStay}
 use Rattle.batch_insert.specs.Whole.{HasAll, IsCopyOf, IsEndFor, IsOwnOf}
-use Rattle.indexmap.specs.IndexMap as index
 use Rattle.batch_insert.proofs.Finished.{finished, keep_none}
 use Rattle.batch_insert.proofs.Fronts.{front_long}
 use Rattle.batch_insert.proofs.Owning.{set_stays}
@@ -33,9 +32,6 @@ among_get x (y ∷ xs) (inr m) = let r = among_get x xs m in (suc r.0, omega (ar
 
 pub all_among : {X : Type 0} (P : X → Type 0) (xs : List X) → All P xs → (x : X) → Among x xs → P x
 all_among P xs all x m = let r = among_get x xs m in subst P r.2 (all r.0 x r.1)
-
-pub none_kept : {S : Type 0} (kept : index.IndexMap ℕ ℕ S) → kept.entries ≡ [] → (m : ℕ) → index.get nat_eq kept m ≡ None
-none_kept kept e m = grind (arith, e)
 
 pub numbered_still : (f g : ℕ → Option ℕ) (m : ℕ) → ((q k : ℕ) → f q ≡ Some k → g q ≡ Some k) → IsSome (f m) → IsSome (g m)
 numbered_still f g m grows h = let r = some_there (f m) h in subst IsSome (sym (grows m r.0 r.1)) refl
