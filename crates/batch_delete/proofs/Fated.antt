@@ -72,18 +72,18 @@ module _ (dims : ℕ) (tree : Tree ℕ) (d : Deletion) (h : IsFrom dims tree (so
     ]
 
 pub planning_more : (dims : ℕ) (tree : Tree ℕ) (list some : List Below) (k : ℕ) (b : Below) → slice_get some k ≡ Some b
-    → planning dims tree list (drop k some) ≡ (4 * dims + 6) * (1 + front_labels tree list b.cell (last_any_of b.cell)) + planning dims tree list (drop (suc k) some)
+    → planning dims tree list (drop k some) ≡ (4 * dims + 7) * (1 + front_labels tree list b.cell (last_any_of b.cell)) + planning dims tree list (drop (suc k) some)
 planning_more dims tree list [] k b at = cc
 planning_more dims tree list (x ∷ some) zero b at =
-    sum_by-cons (λ (b : Below). (4 * dims + 6) * (1 + front_labels tree list b.cell (last_any_of b.cell))) x some
-    ∙ ap (λ (b : Below). (4 * dims + 6) * (1 + front_labels tree list b.cell (last_any_of b.cell)) + planning dims tree list some) (some_same at)
+    sum_by-cons (λ (b : Below). (4 * dims + 7) * (1 + front_labels tree list b.cell (last_any_of b.cell))) x some
+    ∙ ap (λ (b : Below). (4 * dims + 7) * (1 + front_labels tree list b.cell (last_any_of b.cell)) + planning dims tree list some) (some_same at)
 planning_more dims tree list (x ∷ some) (suc k) b at = planning_more dims tree list some k b at
 
 pub planning_part : (dims : ℕ) (tree : Tree ℕ) (list some : List Below) (k : ℕ) → planning dims tree list (drop k some) ≤ planning dims tree list some
 planning_part dims tree list some zero = omega arith
 planning_part dims tree list [] (suc k) = omega arith
 planning_part dims tree list (x ∷ some) (suc k) =
-    let first = sum_by-cons (λ (b : Below). (4 * dims + 6) * (1 + front_labels tree list b.cell (last_any_of b.cell))) x some in
+    let first = sum_by-cons (λ (b : Below). (4 * dims + 7) * (1 + front_labels tree list b.cell (last_any_of b.cell))) x some in
     let more = planning_part dims tree list some k in
     omega arith
 

@@ -8,7 +8,7 @@ use Rattle.std.specs.Ordering.{eq_by_cmp}
 use Rattle.cube_defs.specs.Cell.{Cell, cell_of, depth, keep, leq, with_value}
 use Rattle.cube_defs.specs.Rows.{closure, covers}
 use Rattle.cube_defs.specs.Tree.{Edge, Node, Tree, cell_at, forced_child, next_value, renamed_edge}
-use Rattle.cube_laws.proofs.Cells.{length-keep, leq_trans}
+use Rattle.cube_laws.proofs.Cells.{keep_mono, length-keep, leq_antisymm, leq_trans}
 use Rattle.cube_laws.proofs.Closures.{closure_idem, is_class-is, leq-closure}
 use Rattle.cube_laws.proofs.Columns.{one_value, one_value-leq, slice_get-cell_of}
 use Rattle.cube_laws.proofs.Covered.{closure_length}
@@ -19,7 +19,7 @@ use Rattle.cube_laws.proofs.OneRow.{below_row, node-insert}
 use Rattle.cube_laws.proofs.Partition.{has_same, leq_with_any}
 use Rattle.qc_arena.specs.Seen.{record_at}
 use Rattle.tree_laws.proofs.Edges.{forced_lead}
-use Rattle.tree_laws.proofs.Fronts.{any_behind, leq-with_value, with_value-there}
+use Rattle.tree_laws.proofs.Fronts.{any_behind, keep-beyond, leq-with_value, with_value-there}
 use Rattle.tree_laws.proofs.Lists.{some_same}
 use Rattle.tree_laws.proofs.Nexts.{keep-next, next-entry, next-ge}
 use Rattle.tree_laws.proofs.Records.{record_with}
@@ -152,3 +152,11 @@ shared_closes d c o rest is some = sym is.cells ∙ ap shared_of some
 
 pub shared_long : (dims : ℕ) (tree : Tree ℕ) (d : Deletion) (h : IsFrom dims tree (source_before d)) (c : Cell ℕ) (rest : Rest) → closure (eq_by_cmp nat_cmp) (rows_after d) c ≡ Some rest.shared → length rest.shared ≡ dims
 shared_long dims tree d h c rest closes = closure_length (eq_by_cmp nat_cmp) dims c rest.shared (rows_after d) (all-insert (λ row. length row.tuple ≡ dims) d.xs d.r d.ys h.wide).0 closes
+
+-- where the front of what a cell's rows share, as long as the cell, is not above the cell, it is the cell
+pub own_front : (d : Deletion) (c shared front : Cell ℕ) → closure (eq_by_cmp nat_cmp) (rows_after d) c ≡ Some shared → front ≡ keep (depth c) shared → leq nat_eq front c ≡ true → keep (depth c) shared ≡ c
+own_front d c shared front closes is low =
+    let up : leq (eq_by_cmp nat_cmp) c (keep (depth c) shared) ≡ true =
+    subst (λ x. leq (eq_by_cmp nat_cmp) x (keep (depth c) shared) ≡ true) (keep-beyond (depth c) c (omega arith)) (keep_mono law (depth c) c shared (leq-closure law (rows_after d) c shared closes)) in
+    let down : leq (eq_by_cmp nat_cmp) front c ≡ true = subst (λ eq. leq eq front c ≡ true) (sym same_test) low in
+    leq_antisymm law (keep (depth c) shared) c (subst (λ x. leq (eq_by_cmp nat_cmp) x c ≡ true) is down) up

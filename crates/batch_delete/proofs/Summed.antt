@@ -353,15 +353,15 @@ module _ (width : ℕ) (old : Tree ℕ) (tuple : Cell ℕ) (d : Deletion) (h : I
   times_le zero a b l = omega arith
   times_le (suc k) a b l = let m = times_le k a b l in omega arith
 
-  planned_steps : planning (length tuple) old list list ≤ (4 * length tuple + 6) * (length list + length tuple * sum_by (edge_many old) list)
+  planned_steps : planning (length tuple) old list list ≤ (4 * length tuple + 7) * (length list + length tuple * sum_by (edge_many old) list)
   planned_steps =
-      let same = sum_scaled (4 * length tuple + 6) (λ (b : Below). front_labels old list b.cell (last_any_of b.cell)) list in
+      let same = sum_scaled (4 * length tuple + 7) (λ (b : Below). front_labels old list b.cell (last_any_of b.cell)) list in
       let fronts = fronts_within in
-      let le = times_le (4 * length tuple + 6) (length list + sum_by (λ (b : Below). front_labels old list b.cell (last_any_of b.cell)) list) (length list + length tuple * sum_by (edge_many old) list) (omega arith) in
-      subst (λ n. n ≤ (4 * length tuple + 6) * (length list + length tuple * sum_by (edge_many old) list)) (sym same) le
+      let le = times_le (4 * length tuple + 7) (length list + sum_by (λ (b : Below). front_labels old list b.cell (last_any_of b.cell)) list) (length list + length tuple * sum_by (edge_many old) list) (omega arith) in
+      subst (λ n. n ≤ (4 * length tuple + 7) * (length list + length tuple * sum_by (edge_many old) list)) (sym same) le
 
   -- a count of steps by numbers alone
-  bound : (n m e : ℕ) → 1 + n * (2 * m) + m + (4 * n + 6) * (m + n * e) + (4 * m + 2 * e) ≤ 11 * ((n + 1) * (n + 1)) * (m + e + 1)
+  bound : (n m e : ℕ) → 1 + n * (2 * m) + m + (4 * n + 7) * (m + n * e) + (4 * m + 2 * e) ≤ 32 * ((n + 1) * (n + 1)) * (m + e + 1)
   bound n m e = grind arith
 
   square : (m : ℕ) → m ^ 2 ≡ m * m
@@ -370,7 +370,7 @@ module _ (width : ℕ) (old : Tree ℕ) (tuple : Cell ℕ) (d : Deletion) (h : I
       one : (m : ℕ) → 1 * m ≡ m
       one m = omega arith
 
-  more_above : (k s r : ℕ) → 11 * k * (s + 1) ≤ 256 * k * (s + r + 1)
+  more_above : (k s r : ℕ) → 32 * k * (s + 1) ≤ 256 * k * (s + r + 1)
   more_above k s r = grind arith
 
   pub all_steps : (s0 s1 s2 s3 s4 : ℕ) → s1 ≤ s0 + (1 + length tuple * (2 * length list)) → s2 ≤ s1 + length list → s3 ≤ s2 + planning (length tuple) old list list → s4 ≤ s3 + settling old list
@@ -380,10 +380,10 @@ module _ (width : ℕ) (old : Tree ℕ) (tuple : Cell ℕ) (d : Deletion) (h : I
       let es = sum_by (edge_many old) list in
       let plan = planned_steps in
       let last = settled in
-      let sum_is : 1 + length tuple * (2 * length list) + length list + (4 * length tuple + 6) * (length list + length tuple * sum_by (edge_many old) list) + (4 * length list + 2 * sum_by (edge_many old) list) ≤ 11 * ((length tuple + 1) * (length tuple + 1)) * (length list + sum_by (edge_many old) list + 1) =
+      let sum_is : 1 + length tuple * (2 * length list) + length list + (4 * length tuple + 7) * (length list + length tuple * sum_by (edge_many old) list) + (4 * length list + 2 * sum_by (edge_many old) list) ≤ 32 * ((length tuple + 1) * (length tuple + 1)) * (length list + sum_by (edge_many old) list + 1) =
       bound (length tuple) (length list) (sum_by (edge_many old) list) in
-      let grown : 11 * ((length tuple + 1) * (length tuple + 1)) * (length list + sum_by (edge_many old) list + 1) ≤ 11 * ((length tuple + 1) * (length tuple + 1)) * (size_below nat_cmp (rows_before d) d.r.tuple + 1) =
-      times_le (11 * ((length tuple + 1) * (length tuple + 1))) (length list + sum_by (edge_many old) list + 1) (size_below nat_cmp (rows_before d) d.r.tuple + 1) (let w = list_within in omega arith) in
-      let up : 11 * ((length tuple + 1) * (length tuple + 1)) * (size_below nat_cmp (rows_before d) d.r.tuple + 1) ≤ 256 * ((length tuple + 1) * (length tuple + 1)) * (above nat_cmp (rows_before d) (rows_after d) d.r.tuple + 1) =
+      let grown : 32 * ((length tuple + 1) * (length tuple + 1)) * (length list + sum_by (edge_many old) list + 1) ≤ 32 * ((length tuple + 1) * (length tuple + 1)) * (size_below nat_cmp (rows_before d) d.r.tuple + 1) =
+      times_le (32 * ((length tuple + 1) * (length tuple + 1))) (length list + sum_by (edge_many old) list + 1) (size_below nat_cmp (rows_before d) d.r.tuple + 1) (let w = list_within in omega arith) in
+      let up : 32 * ((length tuple + 1) * (length tuple + 1)) * (size_below nat_cmp (rows_before d) d.r.tuple + 1) ≤ 256 * ((length tuple + 1) * (length tuple + 1)) * (above nat_cmp (rows_before d) (rows_after d) d.r.tuple + 1) =
       more_above ((length tuple + 1) * (length tuple + 1)) (size_below nat_cmp (rows_before d) d.r.tuple) (size_below nat_cmp (rows_after d) d.r.tuple) in
       subst (λ k. s4 ≤ s0 + 256 * k * (above nat_cmp (rows_before d) (rows_after d) d.r.tuple + 1)) (sym (square (length tuple + 1))) (omega (arith, a, b, c, e, plan, last, sum_is, grown, up))

@@ -132,4 +132,4 @@ front_labels tree list c (Some i) = labels_of tree list (keep i c)
 
 -- how many steps the plan for the nodes from a place on takes: each reads what its front's labels lead to
 abbrev pub planning : ℕ → Tree ℕ → List Below → List Below → ℕ
-planning dims tree list some = sum_by (λ b. (4 * dims + 6) * (1 + front_labels tree list b.cell (last_any_of b.cell))) some
+planning dims tree list some = sum_by (λ b. (4 * dims + 7) * (1 + front_labels tree list b.cell (last_any_of b.cell))) some

@@ -4,6 +4,7 @@
 mod below;
 mod cells;
 mod delete;
+mod labels;
 mod less;
 mod mend;
 mod parts;

@@ -19,6 +19,7 @@ ghost use Rattle.batch_delete.specs.Plan.{after_in, front_labels, is_value, last
 ghost use Rattle.batch_delete.specs.Rests.{Deletion, IsRest, IsTotal, agg_of_rest, other_values, rows_after, rows_before, shared_of, source_before};
 
 use crate::cells::{front, has, last_any};
+use crate::labels::first_label;
 use crate::less::{class_at, less_of};
 use crate::plan::{Fate, after_of, node_at};
 use crate::stays::settled;
@@ -158,12 +159,11 @@ fn with_part<L: Ledger>(
     }
 }
 
-// The rest with the rows of a label, where it has another value than the tuple in the dimension.
+// The rest with the rows of a label, where it has another value than the tuple in its dimension.
 fn with_label<L: Ledger>(
     arena: &QcArena,
     tuple: &Cell,
     cell: &Cell,
-    dim: u8,
     label: (u8, Code, NodeNo),
     rest: Option<Rest>,
     steps: &mut Steps<L>,
@@ -172,23 +172,20 @@ fn with_label<L: Ledger>(
     requires tree { IsFrom arena.now.width arena.now.now (source_before d) }
     requires long { length cell.now ≡ arena.now.width }
     requires tuple { length tuple.now ≡ arena.now.width }
-    requires dim { dim < length cell.now }
+    requires dim { label.0 < length cell.now }
     requires code { IsCode label.1 }
-    requires few { label.0 ≡ dim → is_value (slice_index_or tuple.now dim None) label.1 ≡ false → (part : _) → IsRest d.measures (rows_before d) (with_value cell.now dim label.1) (Some part) → IfSome rest (λ some. some.agg.count + part.agg.count ≤ MAX_ROWS) }
+    requires few { is_value (slice_index_or tuple.now label.0 None) label.1 ≡ false → (part : _) → IsRest d.measures (rows_before d) (with_value cell.now label.0 label.1) (Some part) → IfSome rest (λ some. some.agg.count + part.agg.count ≤ MAX_ROWS) }
     requires parts { IfSome rest (λ some. length (agg_in some.agg).parts ≡ d.measures) }
     requires shared { IfSome rest (λ some. length some.shared ≡ length cell.now) }
     ensures parts { IfSome result (λ some. length (agg_in some.agg).parts ≡ d.measures) }
     ensures shared { IfSome result (λ some. length some.shared ≡ length cell.now) }
-    ensures total { (v : ℕ) (w : _) (vs : List ℕ) → slice_index_or tuple.now dim None ≡ Some v → IsTotal d cell.now dim v w vs rest → IsTotal d cell.now dim v w (vs ++ other_values dim v (record { dim = label.0; value = label.1; target = label.2.0 } ∷ [])) result }
-    ensures steps { (v : ℕ) → slice_index_or tuple.now dim None ≡ Some v → steps.new ≤ steps.old + (4 * length cell.now + 5) * length (other_values dim v (record { dim = label.0; value = label.1; target = label.2.0 } ∷ [])) }
+    ensures total { (v : ℕ) (w : _) (vs : List ℕ) → slice_index_or tuple.now label.0 None ≡ Some v → IsTotal d cell.now label.0 v w vs rest → IsTotal d cell.now label.0 v w (vs ++ other_values label.0 v (record { dim = label.0; value = label.1; target = label.2.0 } ∷ [])) result }
+    ensures steps { (v : ℕ) → slice_index_or tuple.now label.0 None ≡ Some v → steps.new ≤ steps.old + (4 * length cell.now + 5) * length (other_values label.0 v (record { dim = label.0; value = label.1; target = label.2.0 } ∷ [])) }
 {
-    if label.0 != dim {
+    if has(tuple, label.0, label.1) {
         return rest;
     }
-    if has(tuple, dim, label.1) {
-        return rest;
-    }
-    with_part(arena, cell, dim, label.1, rest, steps)
+    with_part(arena, cell, label.0, label.1, rest, steps)
 }
 
 // The rest of a class: that of its rows with the tuple's value in the dimension, put together with the
@@ -221,16 +218,20 @@ fn with_labels<L: Ledger>(
     requires whole { option_map agg_in whole ≡ agg_at (eq_by_cmp nat_cmp) d.measures (rows_before d) cell.now }
     requires less { IfSome less (λ agg. Some (agg_in agg) ≡ agg_at (eq_by_cmp nat_cmp) d.measures (rows_after d) cell.now) }
     ensures rest { IsRest d.measures (rows_after d) cell.now result }
-    ensures steps { steps.new + (4 * length cell.now + 5) ≤ steps.old + (1 + (4 * length cell.now + 6) * length (record_at arena.now.now node.0).edges) }
+    ensures steps { steps.new + (4 * length cell.now + 5) ≤ steps.old + (3 + (4 * length cell.now + 7) * length (record_at arena.now.now node.0).edges) }
 {
     let mut all = rest;
-    'labels: for k in 0..arena.edge_count(node, steps) {
+    let first = first_label(arena, node, dim, steps);
+    'labels: for k in first..arena.edge_count(node, steps) {
+        let label = arena.edge_at(node, k, steps);
+        if label.0 != dim {
+            return all;
+        }
         match settled(arena, tuple, cell, &all, whole, less) {
             Some(done) => return Some(done),
             None => {}
         }
-        let label = arena.edge_at(node, k, steps);
-        all = with_label(arena, tuple, cell, dim, label, all, steps);
+        all = with_label(arena, tuple, cell, label, all, steps);
     }
     all
 }
@@ -263,7 +264,7 @@ fn all_parts<L: Ledger>(
     requires node { cell_at arena.now.now node.0 ≡ Some cell.now }
     requires last { cell_at arena.now.now last.0 ≡ Some tuple.now }
     ensures rest { IsRest d.measures (rows_after d) cell.now result }
-    ensures steps { (q : ℕ) → cell_at arena.now.now q ≡ Some (keep dim cell.now) → steps.new ≤ steps.old + ((3 * length cell.now + 4) + (4 * length cell.now + 6) * length (record_at arena.now.now q).edges) }
+    ensures steps { (q : ℕ) → cell_at arena.now.now q ≡ Some (keep dim cell.now) → steps.new ≤ steps.old + ((3 * length cell.now + 4) + (4 * length cell.now + 7) * length (record_at arena.now.now q).edges) }
 {
     let mut more = cell.copy();
     more.set(dim, tuple.get(dim));
@@ -299,7 +300,7 @@ pub(crate) fn class_after<L: Ledger>(
     requires node { cell_at arena.now.now node.0 ≡ Some cell.now }
     requires last { cell_at arena.now.now last.0 ≡ Some tuple.now }
     ensures rest { IsRest d.measures (rows_after d) cell.now result }
-    ensures steps { (list : List Below) → AreBelow arena.now.now tuple.now (length tuple.now) list → steps.new ≤ steps.old + ((3 * length cell.now + 4) + (4 * length cell.now + 6) * front_labels arena.now.now list cell.now (last_any_of cell.now)) }
+    ensures steps { (list : List Below) → AreBelow arena.now.now tuple.now (length tuple.now) list → steps.new ≤ steps.old + ((3 * length cell.now + 4) + (4 * length cell.now + 7) * front_labels arena.now.now list cell.now (last_any_of cell.now)) }
 {
     match last_any(cell) {
         Some(dim) => all_parts(arena, tuple, last, twins, plan, cell, node, dim, steps),

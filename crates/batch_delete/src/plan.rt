@@ -20,7 +20,7 @@ use crate::below::Below;
 use crate::cells::{depth, front};
 use crate::parts::{Rest, class_after};
 use aggregates::Agg;
-use cell_core::{Cell, Entry, NodeNo, Steps};
+use cell_core::{Cell, Entry, NodeNo, Steps, leq};
 use cube_defs::MAX_ROWS;
 use indexmap::IndexMap;
 use qc_arena::{Nodes, QcArena};
@@ -104,7 +104,7 @@ fn rest_of<L: Ledger>(
     requires few { length (rows_before d) ≤ MAX_ROWS }
     requires last { cell_at arena.now.now last.0 ≡ Some tuple.now }
     ensures rest { IsRest d.measures (rows_after d) below.now.cell result }
-    ensures steps { (list : List Below) → AreBelow arena.now.now tuple.now (length tuple.now) list → steps.new ≤ steps.old + ((3 * length tuple.now + 5) + (4 * length tuple.now + 6) * front_labels arena.now.now list below.now.cell (last_any_of below.now.cell)) }
+    ensures steps { (list : List Below) → AreBelow arena.now.now tuple.now (length tuple.now) list → steps.new ≤ steps.old + ((3 * length tuple.now + 5) + (4 * length tuple.now + 7) * front_labels arena.now.now list below.now.cell (last_any_of below.now.cell)) }
 {
     match arena.forced(below.node, steps) {
         Some(forced) => after_of(plan, forced.child),
@@ -121,24 +121,29 @@ fn rest_of<L: Ledger>(
     }
 }
 
-// The node that has the front of what a node's rows share afterwards, as long as its own cell.
+// The node that has the front of what a node's rows share afterwards, as long as its own cell: the
+// node itself where that is its cell.
 fn heir_at<L: Ledger>(
     arena: &QcArena,
-    cell: &Cell,
+    below: &Below,
     after: &Option<Rest>,
     steps: &mut Steps<L>,
 ) -> Option<NodeNo>
     ghost d: { Deletion }
     requires tree { IsFrom arena.now.width arena.now.now (source_before d) }
-    requires long { length cell.now ≡ arena.now.width }
-    requires after { IsRest d.measures (rows_after d) cell.now after.now }
-    ensures heir { Names arena.now.now (option_map number result) (option_map (keep (cells.depth cell.now)) (closure (eq_by_cmp nat_cmp) (rows_after d) cell.now)) }
-    ensures steps { steps.new ≤ steps.old + (length cell.now + 1) }
+    requires cell { cell_at arena.now.now below.now.node.0 ≡ Some below.now.cell }
+    requires long { length below.now.cell ≡ arena.now.width }
+    requires after { IsRest d.measures (rows_after d) below.now.cell after.now }
+    ensures heir { Names arena.now.now (option_map number result) (option_map (keep (cells.depth below.now.cell)) (closure (eq_by_cmp nat_cmp) (rows_after d) below.now.cell)) }
+    ensures steps { steps.new ≤ steps.old + (length below.now.cell + 1) }
 {
     match after {
         None => None,
         Some(rest) => {
-            let front = front(&rest.shared, depth(cell));
+            let front = front(&rest.shared, depth(&below.cell));
+            if leq(&front, &below.cell) {
+                return Some(below.node);
+            }
             Some(node_at(arena, &front, steps))
         }
     }
@@ -166,10 +171,10 @@ fn fate_of<L: Ledger>(
     requires last { cell_at arena.now.now last.0 ≡ Some tuple.now }
     ensures after { IsRest d.measures (rows_after d) below.now.cell result.after }
     ensures heir { Names arena.now.now (option_map number result.heir) (option_map (keep (cells.depth below.now.cell)) (closure (eq_by_cmp nat_cmp) (rows_after d) below.now.cell)) }
-    ensures steps { (list : List Below) → AreBelow arena.now.now tuple.now (length tuple.now) list → steps.new ≤ steps.old + (4 * length tuple.now + 6) * (1 + front_labels arena.now.now list below.now.cell (last_any_of below.now.cell)) }
+    ensures steps { (list : List Below) → AreBelow arena.now.now tuple.now (length tuple.now) list → steps.new ≤ steps.old + (4 * length tuple.now + 7) * (1 + front_labels arena.now.now list below.now.cell (last_any_of below.now.cell)) }
 {
     let after = rest_of(arena, tuple, last, twins, plan, below, steps);
-    let heir = heir_at(arena, &below.cell, &after, steps);
+    let heir = heir_at(arena, below, &after, steps);
     Fate { after, heir }
 }
 

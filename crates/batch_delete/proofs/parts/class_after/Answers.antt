@@ -61,7 +61,7 @@ returns-in-Some-clause-steps g c = λ list are.
     let own = c.requires.1.1.1.1.1.1.0 in
     let front = front_there c.args.arena.now.width c.args.arena.now.now g.d tree c.args.tuple.now tuple row c.args.cell.now long below own c.in-Some.dim in
     let counted = front_counted c.args.arena.now.width c.args.arena.now.now g.d tree c.args.tuple.now tuple row c.args.cell.now long below list are c.in-Some.dim c.in-Some.ensures.some front.0 front.1 in
-    let more = times_mono (4 * length c.args.cell.now + 6) (length (record_at c.args.arena.now.now front.0).edges) (front_labels c.args.arena.now.now list c.args.cell.now (last_any_of c.args.cell.now)) counted in
+    let more = times_mono (4 * length c.args.cell.now + 7) (length (record_at c.args.arena.now.now front.0).edges) (front_labels c.args.arena.now.now list c.args.cell.now (last_any_of c.args.cell.now)) counted in
     let took = c.all_parts.ensures.steps front.0 front.1 in
     omega arith
 

@@ -66,4 +66,4 @@ returns-in-None-clause-steps g c = λ list are.
     let long : length c.args.below.now.cell ≡ length c.args.tuple.now = wide ∙ sym tuple in
     let one = c.forced.ensures.steps in
     let took = c.class_after.ensures.steps list are in
-    subst (λ n. c.class_after.new.steps ≤ c.args.steps.now + ((3 * n + 5) + (4 * n + 6) * Rattle.batch_delete.specs.Plan.front_labels a.now list c.args.below.now.cell (Rattle.batch_delete.specs.Plan.last_any_of c.args.below.now.cell))) long (omega arith)
+    subst (λ n. c.class_after.new.steps ≤ c.args.steps.now + ((3 * n + 5) + (4 * n + 7) * Rattle.batch_delete.specs.Plan.front_labels a.now list c.args.below.now.cell (Rattle.batch_delete.specs.Plan.last_any_of c.args.below.now.cell))) long (omega arith)
