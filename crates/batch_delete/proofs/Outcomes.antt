@@ -261,5 +261,6 @@ module _ (width : ℕ) (tree : Tree ℕ) (tuple : Cell ℕ) (d : Deletion) (h : 
       dims = λ k j b x e at.
           let to = edge_leads b.node.0 b.cell (below.cells k b e) (below.below k b e) x (among_at (record_at tree b.node.0).edges j x at) in
           omega (arith, to.3, cell_wide width tree (source_before d) h b.node.0 b.cell (below.cells k b e));
+      behind = λ k j b x e at. (edge_leads b.node.0 b.cell (below.cells k b e) (below.below k b e) x (among_at (record_at tree b.node.0).edges j x at)).2;
       targets = λ k j t b rest x e s at led. target_stays k j t b (next_entry (depth b.cell) rest.shared) x e at led;
     }

@@ -2,7 +2,7 @@
 use Rattle.std.proofs.Common.{◌≡◌, ◌≢◌, ◌∙◌, inl, inr, ℕ, zero, suc, ◌+◌, ◌*◌, ◌^◌, ◌<◌, ◌≤◌, Bool, true, false, cond, ◌&&◌, Option, Some, None, List, [], ◌∷◌, ◌++◌, filter_map, length, map, sum, slice_get, nat_eq, nat_lt, nat_cmp, refl, sym, ap, ap₂, subst, arith, eqb-true, true≢false, ltb-true, ltb-false}
 use Rattle.std.proofs.lemmas.Bool.{and_parts, cond-true, cond-false}
 use Rattle.std.proofs.lemmas.List.Sums.{sum_by-cons}
-use Rattle.std.proofs.Math.Nat.{mul-add, pow-suc, pow-zero}
+use Rattle.std.proofs.Math.Nat.{mul-add, mul-suc, pow-suc, pow-zero}
 use Rattle.std.specs.Cmp.{nat_cmp_total}
 use Rattle.std.specs.FinMap as fin
 use Rattle.std.specs.List.{cons_option, sum_by}
@@ -342,12 +342,17 @@ module _ (width : ℕ) (old : Tree ℕ) (tuple : Cell ℕ) (d : Deletion) (h : I
       let all = sized (nodes_below nat_cmp (rows_before d) d.r.tuple) in
       omega arith
 
-  settled : settling old list ≡ 4 * length list + 2 * sum_by (edge_many old) list
-  settled = by list
+  settled : settling (length tuple) old list ≡ (5 + 2 * length tuple) * length list + 3 * sum_by (edge_many old) list
+  settled = by (5 + 2 * length tuple) list
     where
-      by : (bs : List Below) → sum_by (λ b. 4 + 2 * length (record_at old b.node.0).edges) bs ≡ 4 * length bs + 2 * sum_by (edge_many old) bs
-      by [] = refl
-      by (b ∷ bs) = let all = sum_by-cons (λ (b : Below). 4 + 2 * length (record_at old b.node.0).edges) b bs in let more = by bs in let one = sum_by-cons (edge_many old) b bs in omega arith
+      by : (n : ℕ) (bs : List Below) → sum_by (λ b. n + 3 * length (record_at old b.node.0).edges) bs ≡ n * length bs + 3 * sum_by (edge_many old) bs
+      by n [] = omega arith
+      by n (b ∷ bs) =
+          let all = sum_by-cons (λ (b : Below). n + 3 * length (record_at old b.node.0).edges) b bs in
+          let more = by n bs in
+          let one = sum_by-cons (edge_many old) b bs in
+          let next = mul-suc n (length bs) in
+          omega arith
 
   times_le : (k a b : ℕ) → a ≤ b → k * a ≤ k * b
   times_le zero a b l = omega arith
@@ -361,7 +366,7 @@ module _ (width : ℕ) (old : Tree ℕ) (tuple : Cell ℕ) (d : Deletion) (h : I
       subst (λ n. n ≤ (4 * length tuple + 7) * (length list + length tuple * sum_by (edge_many old) list)) (sym same) le
 
   -- a count of steps by numbers alone
-  bound : (n m e : ℕ) → 1 + n * (2 * m) + m + (4 * n + 7) * (m + n * e) + (4 * m + 2 * e) ≤ 32 * ((n + 1) * (n + 1)) * (m + e + 1)
+  bound : (n m e : ℕ) → 1 + n * (2 * m) + m + (4 * n + 7) * (m + n * e) + ((5 + 2 * n) * m + 3 * e) ≤ 32 * ((n + 1) * (n + 1)) * (m + e + 1)
   bound n m e = grind arith
 
   square : (m : ℕ) → m ^ 2 ≡ m * m
@@ -373,14 +378,14 @@ module _ (width : ℕ) (old : Tree ℕ) (tuple : Cell ℕ) (d : Deletion) (h : I
   more_above : (k s r : ℕ) → 32 * k * (s + 1) ≤ 256 * k * (s + r + 1)
   more_above k s r = grind arith
 
-  pub all_steps : (s0 s1 s2 s3 s4 : ℕ) → s1 ≤ s0 + (1 + length tuple * (2 * length list)) → s2 ≤ s1 + length list → s3 ≤ s2 + planning (length tuple) old list list → s4 ≤ s3 + settling old list
+  pub all_steps : (s0 s1 s2 s3 s4 : ℕ) → s1 ≤ s0 + (1 + length tuple * (2 * length list)) → s2 ≤ s1 + length list → s3 ≤ s2 + planning (length tuple) old list list → s4 ≤ s3 + settling (length tuple) old list
       → s4 ≤ s0 + 256 * (length tuple + 1) ^ 2 * (above nat_cmp (rows_before d) (rows_after d) d.r.tuple + 1)
   all_steps s0 s1 s2 s3 s4 a b c e =
       let m = length list in
       let es = sum_by (edge_many old) list in
       let plan = planned_steps in
       let last = settled in
-      let sum_is : 1 + length tuple * (2 * length list) + length list + (4 * length tuple + 7) * (length list + length tuple * sum_by (edge_many old) list) + (4 * length list + 2 * sum_by (edge_many old) list) ≤ 32 * ((length tuple + 1) * (length tuple + 1)) * (length list + sum_by (edge_many old) list + 1) =
+      let sum_is : 1 + length tuple * (2 * length list) + length list + (4 * length tuple + 7) * (length list + length tuple * sum_by (edge_many old) list) + ((5 + 2 * length tuple) * length list + 3 * sum_by (edge_many old) list) ≤ 32 * ((length tuple + 1) * (length tuple + 1)) * (length list + sum_by (edge_many old) list + 1) =
       bound (length tuple) (length list) (sum_by (edge_many old) list) in
       let grown : 32 * ((length tuple + 1) * (length tuple + 1)) * (length list + sum_by (edge_many old) list + 1) ≤ 32 * ((length tuple + 1) * (length tuple + 1)) * (size_below nat_cmp (rows_before d) d.r.tuple + 1) =
       times_le (32 * ((length tuple + 1) * (length tuple + 1))) (length list + sum_by (edge_many old) list + 1) (size_below nat_cmp (rows_before d) d.r.tuple + 1) (let w = list_within in omega arith) in

@@ -1,7 +1,7 @@
 -- What becomes of the nodes below a tuple, and of their edges.
 use Rattle.std.specs.FinMap as map
 use Rattle.std.specs.List.{sum_by}
-use Rattle.std.specs.Prelude.{◌≡◌, ◌≢◌, ◌<◌, ◌+◌, ◌*◌, IsSome, length, slice_get, ℕ, zero, suc, [], ◌∷◌, filter_map, Bool, true, false, ◌&&◌, ◌||◌, Option, Some, None, List, nat_eq, nat_lt, slice_index_or, if◌then◌else◌}
+use Rattle.std.specs.Prelude.{◌≡◌, ◌≢◌, ◌<◌, ◌≤◌, ◌+◌, ◌*◌, IsSome, length, slice_get, ℕ, zero, suc, [], ◌∷◌, filter_map, Bool, true, false, ◌&&◌, ◌||◌, Option, Some, None, List, nat_eq, nat_lt, slice_index_or, if◌then◌else◌}
 use Rattle.std.specs.Option.{option_and_then, option_map}
 use Rattle.std.specs.Map.{lookup}
 use Rattle.aggregates.specs.Views.{agg_in}
@@ -36,10 +36,17 @@ abbrev pub is_left : Option (ℕ × ℕ) → ℕ → ℕ → Bool
 is_left None i v = true
 is_left (Some n) i v = nat_lt i n.0 || (nat_eq i n.0 && nat_eq v n.1)
 
--- where an edge leads afterwards: with the tuple's value to its target's heir
+-- where an edge leads, if its label is left
+abbrev pub left_to : Option (ℕ × ℕ) → Edge ℕ ℕ → Option ℕ
+left_to next x = if is_left next x.dim x.value then Some x.target else None
+
+-- where an edge that is left leads afterwards: with the tuple's value to its target's heir
+abbrev pub own_to : Cell ℕ → (ℕ → Option ℕ) → Edge ℕ ℕ → Option ℕ
+own_to tuple heirs x = if is_value (slice_index_or tuple x.dim None) x.value then heirs x.target else Some x.target
+
+-- where an edge leads afterwards
 abbrev pub led_to : Cell ℕ → (ℕ → Option ℕ) → Option (ℕ × ℕ) → Edge ℕ ℕ → Option ℕ
-led_to tuple heirs next x =
-    if is_left next x.dim x.value then (if is_value (slice_index_or tuple x.dim None) x.value then heirs x.target else Some x.target) else None
+led_to tuple heirs next x = if is_left next x.dim x.value then own_to tuple heirs x else None
 
 -- a record with an edge led to another target, or without it
 abbrev pub with_led : Edge ℕ ℕ → Option ℕ → Known → Known
@@ -58,6 +65,16 @@ mixed f (suc j) (x ∷ xs) = x ∷ mixed f j xs
 
 abbrev pub with_mixed : (Edge ℕ ℕ → Option ℕ) → ℕ → Known → Known
 with_mixed f j n = record n { edges = mixed f j n.edges }
+
+-- a record with its edge with a label, if it has one, led to the heir of its target
+abbrev pub with_heir : (ℕ → Option ℕ) → ℕ → ℕ → Option ℕ → Known → Known
+with_heir heirs dim value None n = n
+with_heir heirs dim value (Some t) n = with_led (record { dim = dim; value = value; target = t }) (heirs t) n
+
+-- a record with its edge with the tuple's value in a dimension led to the heir of its target
+abbrev pub with_own : (ℕ → Option ℕ) → ℕ → Option ℕ → Known → Known
+with_own heirs dim None n = n
+with_own heirs dim (Some value) n = with_heir heirs dim value (target_at (eq_by_cmp nat_cmp) dim value n.edges) n
 
 -- the forced child by an edge with the next value
 abbrev pub forced_by : Option (ℕ × ℕ) → Known → Option (Edge ℕ ℕ)
@@ -103,12 +120,13 @@ pub record AreReady (width : ℕ) (tree : Tree ℕ) (tuple : Cell ℕ) (plan : L
   pub cells : (k : ℕ) (b : Below) → slice_get list k ≡ Some b → length b.cell ≡ width
   pub shared : (k : ℕ) (b : Below) (rest : Rest) → slice_get list k ≡ Some b → staying plan b.node.0 ≡ Some rest → length rest.shared ≡ width
   pub dims : (k j : ℕ) (b : Below) (x : Edge ℕ ℕ) → slice_get list k ≡ Some b → slice_get (record_at tree b.node.0).edges j ≡ Some x → x.dim < width
+  pub behind : (k j : ℕ) (b : Below) (x : Edge ℕ ℕ) → slice_get list k ≡ Some b → slice_get (record_at tree b.node.0).edges j ≡ Some x → depth b.cell ≤ x.dim
   pub targets : (k j t : ℕ) (b : Below) (rest : Rest) (x : Edge ℕ ℕ) → slice_get list k ≡ Some b → staying plan b.node.0 ≡ Some rest → slice_get (record_at tree b.node.0).edges j ≡ Some x
       → led_to tuple (heir_in plan) (next_entry (depth b.cell) rest.shared) x ≡ Some t → IsSome (map.get tree t) × Stays list plan t
 
 -- how many steps the records of some nodes take
-abbrev pub settling : Tree ℕ → List Below → ℕ
-settling tree list = sum_by (λ b. 4 + 2 * length (record_at tree b.node.0).edges) list
+abbrev pub settling : ℕ → Tree ℕ → List Below → ℕ
+settling dims tree list = sum_by (λ b. 5 + 2 * dims + 3 * length (record_at tree b.node.0).edges) list
 
 -- the last dimension of Any of a cell with one entry more in front
 abbrev pub last_behind : Option ℕ → Option ℕ → Option ℕ

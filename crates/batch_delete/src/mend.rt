@@ -1,27 +1,32 @@
 // The new records of the nodes that stay.
 ghost use Rattle.std.specs.FinMap as map;
-ghost use Rattle.std.specs.Prelude.{IfSome, IsSome, OnOk, Some, length, slice_get, true, ℕ, ◌*◌, ◌+◌, ◌<◌, ◌≡◌, ◌≢◌, ◌≤◌};
+ghost use Rattle.std.specs.Prelude.{IfSome, IsSome, None, OnOk, Some, length, slice_get, slice_index_or, true, ℕ, ◌*◌, ◌+◌, ◌<◌, ◌≡◌, ◌≢◌, ◌≤◌};
 ghost use Rattle.aggregates.specs.Views.{agg_in};
 ghost use Rattle.cube_defs.specs.Cell.{depth};
 ghost use Rattle.batch_delete.specs.declared.below.Below.{Below};
 ghost use Rattle.qc_arena.specs.Map.{CanChange, frame, is_open, is_touched, with_forced};
 ghost use Rattle.cell_core.specs.Entry.{IsCode};
 ghost use Rattle.std.specs.Option.{option_and_then, option_map};
+ghost use Rattle.std.specs.Ordering.{eq_by_cmp, nat_cmp};
+ghost use Rattle.qc_arena.specs.Edges.{rises};
+ghost use Rattle.tree_laws.specs.Walk.{target_at};
 ghost use Rattle.qc_arena.specs.Seen.{edge_of, number, record_at};
-ghost use Rattle.batch_delete.specs.Plan.{class_by, forced_by, heir_in, if_own, is_left, led_to, mended, next_entry, outcome, settling, staying, AreReady, with_led, with_mixed};
+ghost use Rattle.batch_delete.specs.Plan.{class_by, forced_by, heir_in, if_own, is_left, left_to, led_to, mended, next_entry, outcome, settling, staying, own_to, AreReady, with_led, with_mixed, with_own};
 
 use crate::Memory;
 use crate::below::Below;
-use crate::cells::{depth, has, next_value};
+use crate::cells::{depth, next_value};
+use crate::labels::first_label;
 use crate::parts::Rest;
 use crate::plan::{Fate, copied, heir_of};
 use aggregates::Agg;
-use cell_core::{Cell, Code, NodeNo, Steps, leq};
+use cell_core::{Cell, Code, Entry, NodeNo, Steps, leq};
 use indexmap::IndexMap;
 use qc_arena::{Forced, Nodes, QcArena};
 use std::sync::ledger::Ledger;
 
-// Whether the label of an edge is left.
+// Whether the label of an edge is left: up to the dimension of the next value, and in it with this
+// value alone.
 fn is_left(next: Option<(u8, Code)>, dim: u8, code: Code) -> bool
     ensures { result ≡ is_left next dim code }
 {
@@ -31,24 +36,64 @@ fn is_left(next: Option<(u8, Code)>, dim: u8, code: Code) -> bool
     }
 }
 
-/// Where an edge leads afterwards, if it is left: up to the dimension of the next value, and in it
-/// with this value alone.
-fn led(
-    tuple: &Cell,
-    plan: &IndexMap<u32, Fate>,
+// How many edges stand before the dimension of the next value: their labels are left.
+fn left_count<L: Ledger>(
+    arena: &QcArena,
+    node: NodeNo,
+    next: Option<(u8, Code)>,
+    steps: &mut Steps<L>,
+) -> u32
+    requires { IsSome (map.get arena.now.now node.0) }
+    ensures within { result ≤ length (record_at arena.now.now node.0).edges }
+    ensures left { (k : ℕ) (x : _) → k < result → slice_get (record_at arena.now.now node.0).edges k ≡ Some x → is_left next x.dim x.value ≡ true }
+    ensures steps { steps.new ≤ steps.old + (1 + length (record_at arena.now.now node.0).edges) }
+{
+    match next {
+        None => arena.edge_count(node, steps),
+        Some((dim, _)) => first_label(arena, node, dim, steps),
+    }
+}
+
+// Drops an edge whose label isn't left.
+fn cut_edge<L: Ledger>(
+    arena: &mut QcArena,
+    node: NodeNo,
     next: Option<(u8, Code)>,
     edge: (u8, Code, NodeNo),
-) -> Option<NodeNo>
-    requires { edge.0 < length tuple.now }
-    ensures { option_map number result ≡ led_to tuple.now (heir_in plan.now.entries) next (record { dim = edge.0; value = edge.1; target = edge.2.0 }) }
+    steps: &mut Steps<L>,
+)
+    requires { CanChange arena.old node.0 }
+    ensures here { map.get arena.new.now node.0 ≡ option_map (with_led (record { dim = edge.0; value = edge.1; target = edge.2.0 }) (left_to next (record { dim = edge.0; value = edge.1; target = edge.2.0 }))) (map.get arena.old.now node.0) }
+    ensures others { (q : ℕ) → q ≢ node.0 → map.get arena.new.now q ≡ map.get arena.old.now q }
+    ensures touched { (q : ℕ) → is_touched arena.new q ≡ is_touched arena.old q }
+    ensures frame { frame arena.new ≡ frame arena.old }
+    ensures steps { steps.new ≤ steps.old + 1 }
 {
     if !is_left(next, edge.0, edge.1) {
-        return None;
+        arena.drop_edge(node, edge.0, edge.1, steps);
     }
-    if has(tuple, edge.0, edge.1) {
-        heir_of(plan, edge.2)
-    } else {
-        Some(edge.2)
+}
+
+// Drops the edges whose labels aren't left, the last one first.
+fn cut_edges<L: Ledger>(
+    arena: &mut QcArena,
+    node: NodeNo,
+    next: Option<(u8, Code)>,
+    steps: &mut Steps<L>,
+)
+    requires { CanChange arena.old node.0 }
+    ensures here { map.get arena.new.now node.0 ≡ option_map (with_mixed (left_to next) 0) (map.get arena.old.now node.0) }
+    ensures rises { rises (record_at arena.old.now node.0).edges ≡ true }
+    ensures others { (q : ℕ) → q ≢ node.0 → map.get arena.new.now q ≡ map.get arena.old.now q }
+    ensures touched { (q : ℕ) → is_touched arena.new q ≡ is_touched arena.old q }
+    ensures frame { frame arena.new ≡ frame arena.old }
+    ensures steps { steps.new ≤ steps.old + (2 + 3 * length (record_at arena.old.now node.0).edges) }
+{
+    let left = left_count(arena, node, next, steps);
+    let many = arena.edge_count(node, steps);
+    'edges: for k in 0..many - left {
+        let edge = arena.edge_at(node, many - 1 - k, steps);
+        cut_edge(arena, node, next, edge, steps);
     }
 }
 
@@ -85,30 +130,63 @@ fn mend_edge<L: Ledger>(
     }
 }
 
-// Mends the edges of a node, the last one first.
-fn mend_edges<L: Ledger>(
+// Leads the edge with the tuple's value in a dimension, if there is one, to the heir of its target; or
+// drops it, where its target has none.
+fn lead_edge<L: Ledger>(
     arena: &mut QcArena,
     tuple: &Cell,
     plan: &IndexMap<u32, Fate>,
     node: NodeNo,
-    next: Option<(u8, Code)>,
+    dim: u8,
     steps: &mut Steps<L>,
 ) -> Result<(), Memory>
     requires change { CanChange arena.old node.0 }
     requires long { length tuple.now ≡ arena.old.width }
-    requires dims { (k : ℕ) (x : _) → slice_get (record_at arena.old.now node.0).edges k ≡ Some x → x.dim < arena.old.width }
-    requires targets { (k t : ℕ) (x : _) → slice_get (record_at arena.old.now node.0).edges k ≡ Some x → led_to tuple.now (heir_in plan.now.entries) next x ≡ Some t → IsSome (map.get arena.old.now t) }
-    ensures here { OnOk result (map.get arena.new.now node.0 ≡ option_map (with_mixed (led_to tuple.now (heir_in plan.now.entries) next) 0) (map.get arena.old.now node.0)) }
+    requires dim { dim < arena.old.width }
+    requires target { (v t y : ℕ) → slice_index_or tuple.now dim None ≡ Some v → target_at (eq_by_cmp nat_cmp) dim v (record_at arena.old.now node.0).edges ≡ Some y → heir_in plan.now.entries y ≡ Some t → IsSome (map.get arena.old.now t) }
+    ensures here { OnOk result (map.get arena.new.now node.0 ≡ option_map (with_own (heir_in plan.now.entries) dim (slice_index_or tuple.now dim None)) (map.get arena.old.now node.0)) }
     ensures others { (q : ℕ) → q ≢ node.0 → map.get arena.new.now q ≡ map.get arena.old.now q }
     ensures touched { (q : ℕ) → is_touched arena.new q ≡ is_touched arena.old q }
     ensures frame { frame arena.new ≡ frame arena.old }
-    ensures steps { steps.new ≤ steps.old + (1 + 2 * length (record_at arena.old.now node.0).edges) }
+    ensures steps { steps.new ≤ steps.old + 2 }
 {
-    let many = arena.edge_count(node, steps);
-    'edges: for k in 0..many {
-        let edge = arena.edge_at(node, many - 1 - k, steps);
-        let to = led(tuple, plan, next, edge);
-        mend_edge(arena, node, edge, to, steps)?;
+    match tuple.get(dim) {
+        Entry::Any => Ok(()),
+        Entry::Is(code) => match arena.edge(node, dim, code, steps) {
+            None => Ok(()),
+            Some(target) => {
+                let edge = (dim, code, target);
+                mend_edge(arena, node, edge, heir_of(plan, edge.2), steps)
+            }
+        },
+    }
+}
+
+// Leads the edges with the tuple's values to the heirs of their targets. None of them stands before a
+// dimension.
+fn lead_edges<L: Ledger>(
+    arena: &mut QcArena,
+    tuple: &Cell,
+    plan: &IndexMap<u32, Fate>,
+    node: NodeNo,
+    from: u8,
+    steps: &mut Steps<L>,
+) -> Result<(), Memory>
+    requires change { CanChange arena.old node.0 }
+    requires long { length tuple.now ≡ arena.old.width }
+    requires from { from ≤ length tuple.now }
+    requires rises { rises (record_at arena.old.now node.0).edges ≡ true }
+    requires dims { (k : ℕ) (x : _) → slice_get (record_at arena.old.now node.0).edges k ≡ Some x → x.dim < arena.old.width }
+    requires behind { (k : ℕ) (x : _) → slice_get (record_at arena.old.now node.0).edges k ≡ Some x → from ≤ x.dim }
+    requires targets { (k t : ℕ) (x : _) → slice_get (record_at arena.old.now node.0).edges k ≡ Some x → own_to tuple.now (heir_in plan.now.entries) x ≡ Some t → IsSome (map.get arena.old.now t) }
+    ensures here { OnOk result (map.get arena.new.now node.0 ≡ option_map (with_mixed (own_to tuple.now (heir_in plan.now.entries)) 0) (map.get arena.old.now node.0)) }
+    ensures others { (q : ℕ) → q ≢ node.0 → map.get arena.new.now q ≡ map.get arena.old.now q }
+    ensures touched { (q : ℕ) → is_touched arena.new q ≡ is_touched arena.old q }
+    ensures frame { frame arena.new ≡ frame arena.old }
+    ensures steps { steps.new ≤ steps.old + 2 * length tuple.now }
+{
+    'dims: for dim in from..tuple.dims() {
+        lead_edge(arena, tuple, plan, node, dim, steps)?;
     }
     Ok(())
 }
@@ -180,15 +258,18 @@ fn mend<L: Ledger>(
     requires cell { length below.now.cell ≡ arena.old.width }
     requires shared { length rest.now.shared ≡ arena.old.width }
     requires dims { (k : ℕ) (x : _) → slice_get (record_at arena.old.now below.now.node.0).edges k ≡ Some x → x.dim < arena.old.width }
+    requires behind { (k : ℕ) (x : _) → slice_get (record_at arena.old.now below.now.node.0).edges k ≡ Some x → depth below.now.cell ≤ x.dim }
     requires targets { (k t : ℕ) (x : _) → slice_get (record_at arena.old.now below.now.node.0).edges k ≡ Some x → led_to tuple.now (heir_in plan.now.entries) (next_entry (depth below.now.cell) rest.now.shared) x ≡ Some t → IsSome (map.get arena.old.now t) }
     ensures here { OnOk result (map.get arena.new.now below.now.node.0 ≡ option_map (mended tuple.now (heir_in plan.now.entries) below.now.cell rest.now) (map.get arena.old.now below.now.node.0)) }
     ensures others { (q : ℕ) → q ≢ below.now.node.0 → map.get arena.new.now q ≡ map.get arena.old.now q }
     ensures touched { (q : ℕ) → is_touched arena.new q ≡ is_touched arena.old q }
     ensures frame { frame arena.new ≡ frame arena.old }
-    ensures steps { steps.new ≤ steps.old + (4 + 2 * length (record_at arena.old.now below.now.node.0).edges) }
+    ensures steps { steps.new ≤ steps.old + (5 + 2 * length tuple.now + 3 * length (record_at arena.old.now below.now.node.0).edges) }
 {
-    let next = next_value(&rest.shared, depth(&below.cell));
-    match mend_edges(arena, tuple, plan, below.node, next, steps) {
+    let from = depth(&below.cell);
+    let next = next_value(&rest.shared, from);
+    cut_edges(arena, below.node, next, steps);
+    match lead_edges(arena, tuple, plan, below.node, from, steps) {
         Ok(()) => {}
         Err(error) => return Err(error),
     }
@@ -237,12 +318,13 @@ fn settle<L: Ledger>(
     requires cell { length below.now.cell ≡ arena.old.width }
     requires shared { IfSome (staying plan.now.entries below.now.node.0) (λ rest. length rest.shared ≡ arena.old.width) }
     requires dims { (k : ℕ) (x : _) → slice_get (record_at arena.old.now below.now.node.0).edges k ≡ Some x → x.dim < arena.old.width }
+    requires behind { (k : ℕ) (x : _) → slice_get (record_at arena.old.now below.now.node.0).edges k ≡ Some x → depth below.now.cell ≤ x.dim }
     requires targets { IfSome (staying plan.now.entries below.now.node.0) (λ rest. (k t : ℕ) (x : _) → slice_get (record_at arena.old.now below.now.node.0).edges k ≡ Some x → led_to tuple.now (heir_in plan.now.entries) (next_entry (depth below.now.cell) rest.shared) x ≡ Some t → IsSome (map.get arena.old.now t)) }
     ensures here { OnOk result (map.get arena.new.now below.now.node.0 ≡ option_and_then (outcome tuple.now plan.now.entries below.now) (map.get arena.old.now below.now.node.0)) }
     ensures others { (q : ℕ) → q ≢ below.now.node.0 → map.get arena.new.now q ≡ map.get arena.old.now q }
     ensures touched { (q : ℕ) → is_touched arena.new q ≡ is_touched arena.old q }
     ensures frame { frame arena.new ≡ frame arena.old }
-    ensures steps { steps.new ≤ steps.old + (4 + 2 * length (record_at arena.old.now below.now.node.0).edges) }
+    ensures steps { steps.new ≤ steps.old + (5 + 2 * length tuple.now + 3 * length (record_at arena.old.now below.now.node.0).edges) }
 {
     match staying(plan, below.node) {
         None => {
@@ -269,7 +351,7 @@ pub(crate) fn settle_all<L: Ledger>(
     ensures others { (q : ℕ) → ((k : ℕ) (b : Below) → slice_get list.now.items k ≡ Some b → b.node.0 ≢ q) → map.get arena.new.now q ≡ map.get arena.old.now q }
     ensures touched { (q : ℕ) → is_touched arena.new q ≡ is_touched arena.old q }
     ensures frame { frame arena.new ≡ frame arena.old }
-    ensures steps { steps.new ≤ steps.old + settling arena.old.now list.now.items }
+    ensures steps { steps.new ≤ steps.old + settling (length tuple.now) arena.old.now list.now.items }
 {
     'nodes: for k in 0..list.len() {
         settle(arena, tuple, plan, &list[k], steps)?;

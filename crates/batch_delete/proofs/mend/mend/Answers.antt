@@ -1,12 +1,47 @@
-use Rattle.std.proofs.Common.{◌∙◌, ap}
-use Rattle.batch_delete.specs.Plan.{next_entry, heir_in}
+use Rattle.std.proofs.Common.{◌≡◌, ◌≤◌, ◌<◌, ◌∙◌, Option, Some, ap, arith, is_some, subst, sym}
+use Rattle.cube_defs.specs.Cell.{depth}
+use Rattle.qc_arena.specs.Map.{Arena, Known}
 use Rattle.qc_arena.specs.Seen.{record_at}
 use Rattle.tree_search.proofs.Walked.{there_is}
-use Rattle.batch_delete.proofs.Mending.{all_mended}
+use Rattle.batch_delete.specs.Plan.{heir_in, led_to, next_entry}
+use Rattle.batch_delete.proofs.Mended.{all_mended, cut_is, cut_rises, cut_was, left_leads}
+use Rattle.batch_delete.proofs.Mending.{there_still}
 use Rattle.batch_delete.proofs.mend.mend.Goals as goal
+
+pub lead_edges-requires-clause-rises : goal.lead_edges-requires-clause-rises
+lead_edges-requires-clause-rises g c =
+    let old = there_is c.args.arena.now.now c.args.below.now.node.0 c.requires.change.there in
+    cut_rises (record_at c.args.arena.now.now c.args.below.now.node.0) _ _ c.next_value-next.result old c.cut_edges.ensures.here c.cut_edges.ensures.rises
+
+pub lead_edges-requires-clause-dims : goal.lead_edges-requires-clause-dims
+lead_edges-requires-clause-dims g c = λ k x e.
+    let old = there_is c.args.arena.now.now c.args.below.now.node.0 c.requires.change.there in
+    let was = cut_was (record_at c.args.arena.now.now c.args.below.now.node.0) _ _ c.next_value-next.result old c.cut_edges.ensures.here k x e in
+    let wide = ap (λ (a : Arena). a.width) c.cut_edges.ensures.frame in
+    subst (λ n. x.dim < n) (sym wide) (c.requires.dims was.0 x was.1)
+
+pub lead_edges-requires-clause-behind : goal.lead_edges-requires-clause-behind
+lead_edges-requires-clause-behind g c = λ k x e.
+    let old = there_is c.args.arena.now.now c.args.below.now.node.0 c.requires.change.there in
+    let was = cut_was (record_at c.args.arena.now.now c.args.below.now.node.0) _ _ c.next_value-next.result old c.cut_edges.ensures.here k x e in
+    subst (λ n. n ≤ x.dim) (sym c.depth-from.ensures.value) (c.requires.behind was.0 x was.1)
+
+pub lead_edges-requires-clause-targets : goal.lead_edges-requires-clause-targets
+lead_edges-requires-clause-targets g c = λ k t x e own.
+    let n = record_at c.args.arena.now.now c.args.below.now.node.0 in
+    let tuple = c.args.tuple.now in
+    let heirs = heir_in c.args.plan.now.entries in
+    let old = there_is c.args.arena.now.now c.args.below.now.node.0 c.requires.change.there in
+    let is = cut_is n _ _ c.next_value-next.result old c.cut_edges.ensures.here in
+    let was = cut_was n _ _ c.next_value-next.result old c.cut_edges.ensures.here k x e in
+    let entry = c.next_value-next.ensures.entry ∙ ap (λ n. next_entry n c.args.rest.now.shared) c.depth-from.ensures.value in
+    let led = left_leads n _ _ c.next_value-next.result old c.cut_edges.ensures.here tuple heirs x t was.2 own in
+    there_still c.args.arena.now.now c.cut_edges.new.arena.now c.args.below.now.node.0 c.cut_edges.ensures.others (ap is_some is) t
+    (c.requires.targets was.0 t x was.1 (subst (λ next. led_to tuple heirs next x ≡ Some t) entry led))
 
 pub returns-clause-here : goal.returns-clause-here
 returns-clause-here g c =
-    all_mended c.args.tuple.now (heir_in c.args.plan.now.entries) c.args.below.now.cell c.args.rest.now (record_at c.args.arena.now.now c.args.below.now.node.0) _ _ _ _ c.next_value-next.result _
-    (c.next_value-next.ensures.entry ∙ ap (λ n. next_entry n c.args.rest.now.shared) c.depth.ensures.value) c.class_of-class.ensures
-    (there_is c.args.arena.now.now c.args.below.now.node.0 c.requires.change.there) c.in-Ok.ensures.here c.mend_forced.ensures.here c.set_class.ensures.here
+    all_mended (record_at c.args.arena.now.now c.args.below.now.node.0) _ _ c.next_value-next.result (there_is c.args.arena.now.now c.args.below.now.node.0 c.requires.change.there) c.cut_edges.ensures.here
+    c.args.tuple.now (heir_in c.args.plan.now.entries) c.args.below.now.cell c.args.rest.now _ _ _ _
+    (c.next_value-next.ensures.entry ∙ ap (λ n. next_entry n c.args.rest.now.shared) c.depth-from.ensures.value) c.class_of-class.ensures
+    c.in-Ok.ensures.here c.mend_forced.ensures.here c.set_class.ensures.here

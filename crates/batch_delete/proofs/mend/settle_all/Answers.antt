@@ -1,8 +1,8 @@
-use Rattle.std.proofs.Common.{◌∙◌, ◌<◌, ◌+◌, Some, ap, arith, subst, sym}
+use Rattle.std.proofs.Common.{length, ◌∙◌, ◌<◌, ◌+◌, Some, ap, arith, subst, sym}
 use Rattle.qc_arena.specs.Map.{Arena, is_open}
 use Rattle.std.proofs.lemmas.Option.{slice_get_within}
 use Rattle.batch_delete.proofs.Growing.{item_at}
-use Rattle.batch_delete.proofs.Settling.{done_more, edges_wide, led_there, others_all, others_more, same_long, settling_more, settling_taken, there_more}
+use Rattle.batch_delete.proofs.Settling.{done_more, edges_behind, edges_wide, led_there, others_all, others_more, same_long, settling_more, settling_taken, there_more}
 use Rattle.batch_delete.proofs.mend.settle_all.Goals as goal
 
 pub settle-requires-clause-dims : goal.settle-requires-clause-dims
@@ -13,6 +13,15 @@ settle-requires-clause-dims g c =
     let test = c.nodes-test.true in
     let at = item_at xs c.nodes.k c.index.result.now (omega arith) ∙ ap (λ b. Some b) (sym c.index.ensures) in
     λ j x e. subst (λ w. x.dim < w) (sym c.nodes.invariant.width) (edges_wide a.width a.now c.args.tuple.now c.args.plan.now.entries xs c.requires.ready c.nodes.k c.index.result.now at c.nodes.arena.now c.nodes.invariant.others c.nodes.invariant.there j x e)
+
+pub settle-requires-clause-behind : goal.settle-requires-clause-behind
+settle-requires-clause-behind g c =
+    let a = c.args.arena.now in
+    let xs = c.args.list.now.items in
+    let ends = c.len-k-end.ensures in
+    let test = c.nodes-test.true in
+    let at = item_at xs c.nodes.k c.index.result.now (omega arith) ∙ ap (λ b. Some b) (sym c.index.ensures) in
+    edges_behind a.width a.now c.args.tuple.now c.args.plan.now.entries xs c.requires.ready c.nodes.k c.index.result.now at c.nodes.arena.now c.nodes.invariant.others c.nodes.invariant.there
 
 pub settle-requires-clause-targets : goal.settle-requires-clause-targets
 settle-requires-clause-targets g c =
@@ -40,8 +49,8 @@ returns-in_err-settle-clause-steps g c =
     let test = c.nodes-test.true in
     let at = item_at xs c.nodes.k c.index.result.now (omega arith) ∙ ap (λ b. Some b) (sym c.index.ensures) in
     let long = same_long a.width a.now c.args.tuple.now c.args.plan.now.entries xs c.requires.ready c.nodes.k c.index.result.now at c.nodes.arena.now c.nodes.invariant.others c.nodes.invariant.there in
-    let more = settling_more a.now xs c.nodes.k c.index.result.now at in
-    let all = settling_taken a.now xs (c.nodes.k + 1) in
+    let more = settling_more (length c.args.tuple.now) a.now xs c.nodes.k c.index.result.now at in
+    let all = settling_taken (length c.args.tuple.now) a.now xs (c.nodes.k + 1) in
     let had = c.nodes.invariant.steps in
     let took = c.settle.ensures.steps in
     omega arith
@@ -54,7 +63,7 @@ nodes-preserved g c =
     let test = c.nodes-test.true in
     let at = item_at xs c.nodes.k c.index.result.now (omega arith) ∙ ap (λ b. Some b) (sym c.index.ensures) in
     let long = same_long a.width a.now c.args.tuple.now c.args.plan.now.entries xs c.requires.ready c.nodes.k c.index.result.now at c.nodes.arena.now c.nodes.invariant.others c.nodes.invariant.there in
-    let more = settling_more a.now xs c.nodes.k c.index.result.now at in
+    let more = settling_more (length c.args.tuple.now) a.now xs c.nodes.k c.index.result.now at in
     let had = c.nodes.invariant.steps in
     let took = c.settle.ensures.steps in
     record {

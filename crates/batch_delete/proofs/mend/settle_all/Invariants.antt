@@ -1,4 +1,4 @@
-use Rattle.std.proofs.Common.{◌≡◌, ◌≢◌, ◌≤◌, ◌<◌, ◌+◌, ℕ, true, Some, take, slice_get}
+use Rattle.std.proofs.Common.{◌≡◌, ◌≢◌, ◌≤◌, ◌<◌, ◌+◌, ℕ, true, Some, length, take, slice_get}
 use Rattle.std.specs.FinMap as map
 use Rattle.std.specs.Option.{option_and_then}
 use Rattle.std.specs.Prelude.{IsSome}
@@ -16,5 +16,5 @@ invariant-nodes g l = record {
   opened : is_open l.arena ≡ true;
   width : l.arena.width ≡ l.fn.arena.width;
   frame : frame l.arena ≡ frame l.fn.arena;
-  steps : l.steps ≤ l.fn.steps + settling l.fn.arena.now (take l.k l.list.items);
+  steps : l.steps ≤ l.fn.steps + settling (length l.tuple) l.fn.arena.now (take l.k l.list.items);
 }

@@ -2,16 +2,18 @@ use Rattle.std.proofs.Common.{◌≡◌, ◌≢◌, ◌≤◌, ◌+◌, ◌-◌,
 use Rattle.std.specs.FinMap as map
 use Rattle.std.specs.Option.{option_map}
 use Rattle.qc_arena.specs.Map.{frame, is_open, is_touched}
-use Rattle.batch_delete.specs.Plan.{heir_in, led_to, with_mixed}
-use Rattle.batch_delete.proofs.mend.mend_edges.Given as goal
+use Rattle.batch_delete.specs.Plan.{heir_in, with_mixed}
+use Rattle.batch_delete.proofs.Leading.{own_before}
+use Rattle.batch_delete.proofs.mend.lead_edges.Given as goal
 
-abbrev pub invariant-edges : goal.invariant-edges
-invariant-edges g l = record {
-  here : map.get l.arena.now l.node.0 ≡ option_map (with_mixed (led_to l.tuple (heir_in l.plan.entries) l.next) (l.many - l.k)) (map.get l.fn.arena.now l.node.0);
+abbrev pub invariant-dims : goal.invariant-dims
+invariant-dims g l = record {
+  here : map.get l.arena.now l.node.0 ≡ option_map (with_mixed (own_before l.tuple (heir_in l.plan.entries) l.dim) 0) (map.get l.fn.arena.now l.node.0);
   others : (q : ℕ) → q ≢ l.node.0 → map.get l.arena.now q ≡ map.get l.fn.arena.now q;
   touched : (q : ℕ) → is_touched l.arena q ≡ is_touched l.fn.arena q;
   opened : is_open l.arena ≡ true;
   width : l.arena.width ≡ l.fn.arena.width;
   frame : frame l.arena ≡ frame l.fn.arena;
-  steps : l.steps ≤ l.fn.steps + (1 + 2 * l.k);
+  from : l.fn.from ≤ l.dim;
+  steps : l.steps ≤ l.fn.steps + 2 * (l.dim - l.fn.from);
 }
