@@ -64,3 +64,15 @@ dims-preserved g c =
       from = omega arith;
       steps = omega arith;
     }
+
+pub returns-clause-here : goal.returns-clause-here
+returns-clause-here g c =
+    let tuple = c.args.tuple.now in
+    let heirs = heir_in c.args.plan.now.entries in
+    let old = there_is c.args.arena.now.now c.args.node.0 c.requires.change.there in
+    let past = c.dims-test.false in
+    let ends = c.dims-dim-end.ensures.value in
+    let long = c.requires.long in
+    c.dims.invariant.here ∙ ap (option_map (with_mixed (own_before tuple heirs c.dims.dim) 0)) old
+    ∙ ap (λ (m : Known). Some m) (all_led tuple heirs c.dims.dim (record_at c.args.arena.now.now c.args.node.0) (λ k x e. let low = c.requires.dims k x e in omega arith))
+    ∙ sym (ap (option_map (with_mixed (own_to tuple heirs) 0)) old)
