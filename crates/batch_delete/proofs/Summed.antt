@@ -366,7 +366,7 @@ module _ (width : ℕ) (old : Tree ℕ) (tuple : Cell ℕ) (d : Deletion) (h : I
       subst (λ n. n ≤ (4 * length tuple + 7) * (length list + length tuple * sum_by (edge_many old) list)) (sym same) le
 
   -- a count of steps by numbers alone
-  bound : (n m e : ℕ) → 1 + n * (2 * m) + m + (4 * n + 7) * (m + n * e) + ((5 + 2 * n) * m + 3 * e) ≤ 32 * ((n + 1) * (n + 1)) * (m + e + 1)
+  bound : (n m e : ℕ) → 1 + n * (2 * m) + m + (2 * n + 3 + (4 * n + 7) * (m + n * e)) + ((5 + 2 * n) * m + 3 * e) ≤ 32 * ((n + 1) * (n + 1)) * (m + e + 1)
   bound n m e = grind arith
 
   square : (m : ℕ) → m ^ 2 ≡ m * m
@@ -378,14 +378,14 @@ module _ (width : ℕ) (old : Tree ℕ) (tuple : Cell ℕ) (d : Deletion) (h : I
   more_above : (k s r : ℕ) → 32 * k * (s + 1) ≤ 256 * k * (s + r + 1)
   more_above k s r = grind arith
 
-  pub all_steps : (s0 s1 s2 s3 s4 : ℕ) → s1 ≤ s0 + (1 + length tuple * (2 * length list)) → s2 ≤ s1 + length list → s3 ≤ s2 + planning (length tuple) old list list → s4 ≤ s3 + settling (length tuple) old list
+  pub all_steps : (s0 s1 s2 s3 s4 : ℕ) → s1 ≤ s0 + (1 + length tuple * (2 * length list)) → s2 ≤ s1 + length list → s3 ≤ s2 + (2 * length tuple + 3 + planning (length tuple) old list list) → s4 ≤ s3 + settling (length tuple) old list
       → s4 ≤ s0 + 256 * (length tuple + 1) ^ 2 * (above nat_cmp (rows_before d) (rows_after d) d.r.tuple + 1)
   all_steps s0 s1 s2 s3 s4 a b c e =
       let m = length list in
       let es = sum_by (edge_many old) list in
       let plan = planned_steps in
       let last = settled in
-      let sum_is : 1 + length tuple * (2 * length list) + length list + (4 * length tuple + 7) * (length list + length tuple * sum_by (edge_many old) list) + ((5 + 2 * length tuple) * length list + 3 * sum_by (edge_many old) list) ≤ 32 * ((length tuple + 1) * (length tuple + 1)) * (length list + sum_by (edge_many old) list + 1) =
+      let sum_is : 1 + length tuple * (2 * length list) + length list + (2 * length tuple + 3 + (4 * length tuple + 7) * (length list + length tuple * sum_by (edge_many old) list)) + ((5 + 2 * length tuple) * length list + 3 * sum_by (edge_many old) list) ≤ 32 * ((length tuple + 1) * (length tuple + 1)) * (length list + sum_by (edge_many old) list + 1) =
       bound (length tuple) (length list) (sum_by (edge_many old) list) in
       let grown : 32 * ((length tuple + 1) * (length tuple + 1)) * (length list + sum_by (edge_many old) list + 1) ≤ 32 * ((length tuple + 1) * (length tuple + 1)) * (size_below nat_cmp (rows_before d) d.r.tuple + 1) =
       times_le (32 * ((length tuple + 1) * (length tuple + 1))) (length list + sum_by (edge_many old) list + 1) (size_below nat_cmp (rows_before d) d.r.tuple + 1) (let w = list_within in omega arith) in

@@ -1,11 +1,11 @@
 -- What rows share and come to, before and after a row has gone.
-use Rattle.std.specs.Prelude.{◌≡◌, ◌≤◌, ℕ, slice_get, true, Option, Some, None, List, ◌∷◌, ◌++◌, nat_eq, not, ◌&&◌, filter_map, if◌then◌else◌}
+use Rattle.std.specs.Prelude.{◌≡◌, ◌≤◌, ℕ, slice_get, false, true, Option, Some, None, List, ◌∷◌, ◌++◌, nat_eq, not, ◌&&◌, filter_map, if◌then◌else◌}
 use Rattle.std.specs.Option.{option_map}
 use Rattle.std.specs.Ordering.{eq_by_cmp, nat_cmp}
 use Rattle.aggregates.specs.Views.{agg_in}
 use Rattle.cube_defs.specs.Cell.{Cell, depth, keep, leq, with_value}
 use Rattle.cube_defs.specs.Rows.{Agg, Row, closure}
-use Rattle.cube_defs.specs.Tree.{Edge, Tree}
+use Rattle.cube_defs.specs.Tree.{Edge, Tree, cell_at}
 use Rattle.cube_laws.specs.Total.{agg_at, join_aggs, join_cells, total}
 use Rattle.tree_search.specs.Found.{Names, Source}
 use Rattle.batch_delete.specs.declared.below.Below.{Below}
@@ -59,6 +59,10 @@ pub record IsPlanned (d : Deletion) (tree : Tree ℕ) (plan : List (ℕ × Fate)
 -- the nodes of the list from a place on are planned for
 abbrev pub ArePlanned : Deletion → Tree ℕ → List (ℕ × Fate) → List Below → ℕ → Type 0
 ArePlanned d tree plan list k = (j : ℕ) (b : Below) → k ≤ j → slice_get list j ≡ Some b → IsPlanned d tree plan b
+
+-- the nodes below the tuple that are greater than a cell are planned for
+abbrev pub AreGreaterPlanned : Deletion → Tree ℕ → Cell ℕ → Cell ℕ → List (ℕ × Fate) → Type 0
+AreGreaterPlanned d tree tuple c plan = (q : ℕ) (w : Cell ℕ) → cell_at tree q ≡ Some w → leq nat_eq w tuple ≡ true → leq nat_eq c w ≡ true → leq nat_eq w c ≡ false → IsRest d.measures (rows_after d) w (after_in plan q)
 
 -- what a cell's rows share afterwards is below the other cell, and they are some
 abbrev pub IsAbove : Deletion → Cell ℕ → Cell ℕ → Type 0

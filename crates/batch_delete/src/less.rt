@@ -4,13 +4,14 @@ ghost use Rattle.std.specs.Ordering.{eq_by_cmp, nat_cmp};
 ghost use Rattle.std.specs.Prelude.{IfSome, Some, length, nat_abs, true, ℕ, ◌*◌, ◌+◌, ◌<◌, ◌^◌, ◌≡◌, ◌≤◌};
 ghost use Rattle.aggregates.specs.Bounds.{largest_amount};
 ghost use Rattle.aggregates.specs.Views.{agg_in, part_in};
-ghost use Rattle.cube_defs.specs.Cell.{cell_of};
 ghost use Rattle.cube_defs.specs.Rows as defs;
 ghost use Rattle.cube_defs.specs.Tree.{cell_at};
 ghost use Rattle.cube_laws.specs.Total.{agg_at, combine, combine_part, join_aggs};
 ghost use Rattle.tree_search.specs.Found.{IsFrom, closure_in};
+ghost use Rattle.batch_delete.specs.Going.{IsGoing};
 ghost use Rattle.batch_delete.specs.Rests.{Deletion, rows_after, rows_before, source_before};
 
+use crate::going::Going;
 use aggregates::{Agg, Part};
 use cell_core::{Cell, NodeNo, Steps};
 use cube_defs::MAX_ROWS;
@@ -103,29 +104,20 @@ pub(crate) fn class_at<L: Ledger>(
 
 /// What the rows of a class come to without the row, where those of its tuple have neither the least
 /// nor the greatest amount of any measure among them.
-pub(crate) fn less_of(
-    tuple: &Cell,
-    twins: Option<Agg>,
-    gone: Option<Agg>,
-    cell: &Cell,
-    whole: Option<Agg>,
-) -> Option<Agg>
+pub(crate) fn less_of(row: &Going, cell: &Cell, whole: Option<Agg>) -> Option<Agg>
     ghost d: { Deletion }
-    requires row { tuple.now ≡ cell_of d.r.tuple }
+    requires row { IsGoing d row.now }
     requires below { defs.covers (eq_by_cmp nat_cmp) cell.now d.r ≡ true }
-    requires twins { option_map agg_in twins ≡ agg_at (eq_by_cmp nat_cmp) d.measures (rows_after d) tuple.now }
-    requires gone { option_map agg_in gone ≡ agg_at (eq_by_cmp nat_cmp) d.measures (rows_before d) tuple.now }
     requires whole { option_map agg_in whole ≡ agg_at (eq_by_cmp nat_cmp) d.measures (rows_before d) cell.now }
-    requires few { length (rows_before d) ≤ MAX_ROWS }
     ensures agg { IfSome result (λ agg. Some (agg_in agg) ≡ agg_at (eq_by_cmp nat_cmp) d.measures (rows_after d) cell.now) }
 {
     match whole {
         None => None,
-        Some(whole) => match gone {
+        Some(whole) => match row.all {
             None => None,
             Some(gone) => match besides(&whole, &gone) {
                 None => None,
-                Some(others) => Some(with_twins(twins, others)),
+                Some(others) => Some(with_twins(row.twins, others)),
             },
         },
     }

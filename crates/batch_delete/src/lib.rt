@@ -4,9 +4,11 @@
 mod below;
 mod cells;
 mod delete;
+mod going;
 mod labels;
 mod less;
 mod mend;
+mod onward;
 mod parts;
 mod plan;
 mod stays;

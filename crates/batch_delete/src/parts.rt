@@ -3,25 +3,25 @@ ghost use Rattle.std.specs.FinMap as map;
 ghost use Rattle.std.specs.Prelude.{IfSome, IsSome, List, None, Some, [], false, true, length, nat_eq, slice_get, slice_index_or, ℕ, ◌*◌, ◌+◌, ◌++◌, ◌∷◌, ◌<◌, ◌≡◌, ◌≤◌};
 ghost use Rattle.cell_core.specs.Entry.{IsCode};
 ghost use Rattle.std.specs.Ordering.{eq_by_cmp, nat_cmp};
-ghost use Rattle.cube_defs.specs.Cell.{cell_of, keep, with_value};
-ghost use Rattle.cube_defs.specs.Rows.{covers};
-ghost use Rattle.qc_arena.specs.Edges.{rises};
+ghost use Rattle.cube_defs.specs.Cell.{keep, with_value};
+ghost use Rattle.cube_laws.specs.Parts.{IsLastAny};
 ghost use Rattle.aggregates.specs.Views.{agg_in};
 ghost use Rattle.cube_defs.specs.Tree.{cell_at};
 ghost use Rattle.qc_arena.specs.Seen.{record_at};
 ghost use Rattle.cube_laws.specs.Total.{join_aggs, join_cells};
 ghost use Rattle.tree_search.specs.Found.{IsFrom, Names, closure_in};
-ghost use Rattle.std.specs.Option.{option_map};
-ghost use Rattle.cube_laws.specs.Total.{agg_at};
 ghost use Rattle.batch_delete.specs.declared.below.Below.{Below};
 ghost use Rattle.batch_delete.specs.Below.{AreBelow};
+ghost use Rattle.batch_delete.specs.Going.{GoesOn, IsClass, IsGoing, IsKnown};
 ghost use Rattle.batch_delete.specs.Plan.{after_in, front_labels, is_value, last_any_of};
 ghost use Rattle.batch_delete.specs.Rests.{Deletion, IsRest, IsTotal, agg_of_rest, other_values, rows_after, rows_before, shared_of, source_before};
 
-use crate::cells::{front, has, last_any};
+use crate::below::Below;
+use crate::cells::{has, last_any};
+use crate::going::{Class, Going, class_of};
 use crate::labels::first_label;
-use crate::less::{class_at, less_of};
-use crate::plan::{Fate, after_of, node_at};
+use crate::onward::{find_from, front_at};
+use crate::plan::{Fate, after_of};
 use crate::stays::settled;
 use aggregates::Agg;
 use cell_core::{Cell, Code, Entry, NodeNo, Steps, meet_into};
@@ -29,7 +29,7 @@ use cube_defs::MAX_ROWS;
 use indexmap::IndexMap;
 use qc_arena::{Nodes, QcArena};
 use std::sync::ledger::Ledger;
-use tree_search::{find, upper_into};
+use tree_search::upper_into;
 
 /// What rows share, and what they come to.
 #[derive(Drop)]
@@ -69,15 +69,24 @@ fn joined(rest: Option<Rest>, part: Rest) -> Rest
     }
 }
 
-// What the rows of a cell share and come to, where it covers any.
-fn part_of<L: Ledger>(arena: &QcArena, cell: &Cell, steps: &mut Steps<L>) -> Option<Rest>
+// What the rows of a cell share and come to, where it covers any, and a search for it goes on from a
+// node behind a dimension.
+fn part_of<L: Ledger>(
+    arena: &QcArena,
+    cell: &Cell,
+    dim: u8,
+    node: NodeNo,
+    steps: &mut Steps<L>,
+) -> Option<Rest>
     ghost d: { Deletion }
     requires tree { IsFrom arena.now.width arena.now.now (source_before d) }
     requires long { length cell.now ≡ arena.now.width }
+    requires dim { dim < length cell.now }
+    requires on { GoesOn d arena.now.now cell.now dim node.0 }
     ensures rest { IsRest d.measures (rows_before d) cell.now result }
     ensures steps { steps.new ≤ steps.old + (4 * length cell.now + 5) }
 {
-    match find(arena, cell, steps) {
+    match find_from(arena, cell, dim, node, steps) {
         None => None,
         Some(node) => rest_at(arena, cell, node, steps),
     }
@@ -108,61 +117,71 @@ fn rest_at<L: Ledger>(
     }
 }
 
-// The rest of the rows of the class that have the tuple's value in the dimension.
-fn own_part<L: Ledger>(
+// The rest of a cell's rows, where a search for it goes on from a node behind a dimension.
+fn own_rest<L: Ledger>(
     arena: &QcArena,
     plan: &IndexMap<u32, Fate>,
     cell: &Cell,
-    steps: &mut Steps<L>,
-) -> Option<Rest>
-    ghost d: { Deletion }
-    requires tree { IsFrom arena.now.width arena.now.now (source_before d) }
-    requires long { length cell.now ≡ arena.now.width }
-    requires some { IsSome (closure_in (source_before d) cell.now) }
-    requires planned { (q : ℕ) (w : _) → closure_in (source_before d) cell.now ≡ Some w → cell_at arena.now.now q ≡ Some w → IsRest d.measures (rows_after d) w (after_in plan.now.entries q) }
-    ensures rest { IsRest d.measures (rows_after d) cell.now result }
-    ensures steps { steps.new ≤ steps.old + (2 * length cell.now + 2) }
-{
-    match find(arena, cell, steps) {
-        None => None,
-        Some(node) => after_of(plan, node),
-    }
-}
-
-// The rest with the rows that have another value than the tuple in the dimension.
-fn with_part<L: Ledger>(
-    arena: &QcArena,
-    cell: &Cell,
     dim: u8,
-    code: Code,
-    rest: Option<Rest>,
+    node: NodeNo,
     steps: &mut Steps<L>,
 ) -> Option<Rest>
     ghost d: { Deletion }
     requires tree { IsFrom arena.now.width arena.now.now (source_before d) }
     requires long { length cell.now ≡ arena.now.width }
     requires dim { dim < length cell.now }
-    requires code { IsCode code }
-    requires few { (part : _) → IsRest d.measures (rows_before d) (with_value cell.now dim code) (Some part) → IfSome rest (λ some. some.agg.count + part.agg.count ≤ MAX_ROWS) }
-    requires parts { IfSome rest (λ some. length (agg_in some.agg).parts ≡ d.measures) }
-    requires shared { IfSome rest (λ some. length some.shared ≡ length cell.now) }
-    ensures parts { IfSome result (λ some. length (agg_in some.agg).parts ≡ d.measures) }
-    ensures shared { IfSome result (λ some. length some.shared ≡ length cell.now) }
-    ensures total { (v : ℕ) (w : _) (vs : List ℕ) → eq_by_cmp nat_cmp code v ≡ false → IsTotal d cell.now dim v w vs rest → IsTotal d cell.now dim v w (vs ++ code ∷ []) result }
-    ensures steps { steps.new ≤ steps.old + (4 * length cell.now + 5) }
+    requires on { GoesOn d arena.now.now cell.now dim node.0 }
+    requires some { IsSome (closure_in (source_before d) cell.now) }
+    requires planned { (q : ℕ) (w : _) → closure_in (source_before d) cell.now ≡ Some w → cell_at arena.now.now q ≡ Some w → IsRest d.measures (rows_after d) w (after_in plan.now.entries q) }
+    ensures rest { IsRest d.measures (rows_after d) cell.now result }
+    ensures steps { steps.new ≤ steps.old + 2 * length cell.now }
 {
-    let mut more = cell.copy();
-    more.set(dim, Entry::Is(code));
-    match part_of(arena, &more, steps) {
-        None => rest,
-        Some(part) => Some(joined(rest, part)),
+    match find_from(arena, cell, dim, node, steps) {
+        None => None,
+        Some(node) => after_of(plan, node),
     }
 }
 
-// The rest with the rows of a label, where it has another value than the tuple in its dimension.
-fn with_label<L: Ledger>(
+// The rest of the rows of a class that have the tuple's value in a dimension of Any, where the class's
+// front before it is known.
+fn own_part<L: Ledger>(
     arena: &QcArena,
-    tuple: &Cell,
+    row: &Going,
+    plan: &IndexMap<u32, Fate>,
+    cell: &Cell,
+    dim: u8,
+    front: NodeNo,
+    steps: &mut Steps<L>,
+) -> Option<Rest>
+    ghost d: { Deletion }
+    requires tree { IsFrom arena.now.width arena.now.now (source_before d) }
+    requires long { length cell.now ≡ arena.now.width }
+    requires tuple { length row.now.tuple ≡ arena.now.width }
+    requires row { IsGoing d row.now }
+    requires class { IsClass d cell.now }
+    requires any { slice_get cell.now dim ≡ Some None }
+    requires dim { dim < length cell.now }
+    requires front { cell_at arena.now.now front.0 ≡ Some (keep dim cell.now) }
+    requires planned { (v q : ℕ) (w : _) → slice_index_or row.now.tuple dim None ≡ Some v → closure_in (source_before d) (with_value cell.now dim v) ≡ Some w → cell_at arena.now.now q ≡ Some w → IsRest d.measures (rows_after d) w (after_in plan.now.entries q) }
+    ensures rest { (v : ℕ) → slice_index_or row.now.tuple dim None ≡ Some v → IsRest d.measures (rows_after d) (with_value cell.now dim v) result }
+    ensures steps { steps.new ≤ steps.old + (2 * length cell.now + 1) }
+{
+    match row.tuple.get(dim) {
+        Entry::Any => None,
+        Entry::Is(code) => match arena.edge(front, dim, code, steps) {
+            None => None,
+            Some(target) => {
+                let mut more = cell.copy();
+                more.set(dim, Entry::Is(code));
+                own_rest(arena, plan, &more, dim, target, steps)
+            }
+        },
+    }
+}
+
+// The rest with the rows of a label, which has another value than the tuple in its dimension.
+fn with_part<L: Ledger>(
+    arena: &QcArena,
     cell: &Cell,
     label: (u8, Code, NodeNo),
     rest: Option<Rest>,
@@ -171,67 +190,92 @@ fn with_label<L: Ledger>(
     ghost d: { Deletion }
     requires tree { IsFrom arena.now.width arena.now.now (source_before d) }
     requires long { length cell.now ≡ arena.now.width }
-    requires tuple { length tuple.now ≡ arena.now.width }
     requires dim { label.0 < length cell.now }
     requires code { IsCode label.1 }
-    requires few { is_value (slice_index_or tuple.now label.0 None) label.1 ≡ false → (part : _) → IsRest d.measures (rows_before d) (with_value cell.now label.0 label.1) (Some part) → IfSome rest (λ some. some.agg.count + part.agg.count ≤ MAX_ROWS) }
+    requires on { GoesOn d arena.now.now (with_value cell.now label.0 label.1) label.0 label.2.0 }
+    requires few { (part : _) → IsRest d.measures (rows_before d) (with_value cell.now label.0 label.1) (Some part) → IfSome rest (λ some. some.agg.count + part.agg.count ≤ MAX_ROWS) }
     requires parts { IfSome rest (λ some. length (agg_in some.agg).parts ≡ d.measures) }
     requires shared { IfSome rest (λ some. length some.shared ≡ length cell.now) }
     ensures parts { IfSome result (λ some. length (agg_in some.agg).parts ≡ d.measures) }
     ensures shared { IfSome result (λ some. length some.shared ≡ length cell.now) }
-    ensures total { (v : ℕ) (w : _) (vs : List ℕ) → slice_index_or tuple.now label.0 None ≡ Some v → IsTotal d cell.now label.0 v w vs rest → IsTotal d cell.now label.0 v w (vs ++ other_values label.0 v (record { dim = label.0; value = label.1; target = label.2.0 } ∷ [])) result }
-    ensures steps { (v : ℕ) → slice_index_or tuple.now label.0 None ≡ Some v → steps.new ≤ steps.old + (4 * length cell.now + 5) * length (other_values label.0 v (record { dim = label.0; value = label.1; target = label.2.0 } ∷ [])) }
+    ensures total { (v : ℕ) (w : _) (vs : List ℕ) → eq_by_cmp nat_cmp label.1 v ≡ false → IsTotal d cell.now label.0 v w vs rest → IsTotal d cell.now label.0 v w (vs ++ label.1 ∷ []) result }
+    ensures steps { steps.new ≤ steps.old + (4 * length cell.now + 5) }
 {
-    if has(tuple, label.0, label.1) {
+    let (dim, code, target) = label;
+    let mut more = cell.copy();
+    more.set(dim, Entry::Is(code));
+    match part_of(arena, &more, dim, target, steps) {
+        None => rest,
+        Some(part) => Some(joined(rest, part)),
+    }
+}
+
+// The rest with the rows of a label, where it has another value than the tuple in its dimension.
+fn with_label<L: Ledger>(
+    arena: &QcArena,
+    row: &Going,
+    cell: &Cell,
+    label: (u8, Code, NodeNo),
+    rest: Option<Rest>,
+    steps: &mut Steps<L>,
+) -> Option<Rest>
+    ghost d: { Deletion }
+    requires tree { IsFrom arena.now.width arena.now.now (source_before d) }
+    requires long { length cell.now ≡ arena.now.width }
+    requires tuple { length row.now.tuple ≡ arena.now.width }
+    requires dim { label.0 < length cell.now }
+    requires code { IsCode label.1 }
+    requires on { GoesOn d arena.now.now (with_value cell.now label.0 label.1) label.0 label.2.0 }
+    requires few { is_value (slice_index_or row.now.tuple label.0 None) label.1 ≡ false → (part : _) → IsRest d.measures (rows_before d) (with_value cell.now label.0 label.1) (Some part) → IfSome rest (λ some. some.agg.count + part.agg.count ≤ MAX_ROWS) }
+    requires parts { IfSome rest (λ some. length (agg_in some.agg).parts ≡ d.measures) }
+    requires shared { IfSome rest (λ some. length some.shared ≡ length cell.now) }
+    ensures parts { IfSome result (λ some. length (agg_in some.agg).parts ≡ d.measures) }
+    ensures shared { IfSome result (λ some. length some.shared ≡ length cell.now) }
+    ensures total { (v : ℕ) (w : _) (vs : List ℕ) → slice_index_or row.now.tuple label.0 None ≡ Some v → IsTotal d cell.now label.0 v w vs rest → IsTotal d cell.now label.0 v w (vs ++ other_values label.0 v (record { dim = label.0; value = label.1; target = label.2.0 } ∷ [])) result }
+    ensures steps { (v : ℕ) → slice_index_or row.now.tuple label.0 None ≡ Some v → steps.new ≤ steps.old + (4 * length cell.now + 5) * length (other_values label.0 v (record { dim = label.0; value = label.1; target = label.2.0 } ∷ [])) }
+{
+    if has(&row.tuple, label.0, label.1) {
         return rest;
     }
-    with_part(arena, cell, label.0, label.1, rest, steps)
+    with_part(arena, cell, label, rest, steps)
 }
 
 // The rest of a class: that of its rows with the tuple's value in the dimension, put together with the
 // rows of one label after another with another value, until these tell what all come to.
 fn with_labels<L: Ledger>(
     arena: &QcArena,
-    tuple: &Cell,
-    cell: &Cell,
+    row: &Going,
+    class: &Class,
     dim: u8,
-    node: NodeNo,
+    front: NodeNo,
     rest: Option<Rest>,
-    whole: Option<Agg>,
-    less: Option<Agg>,
     steps: &mut Steps<L>,
 ) -> Option<Rest>
     ghost d: { Deletion }
     requires tree { IsFrom arena.now.width arena.now.now (source_before d) }
-    requires long { length cell.now ≡ arena.now.width }
-    requires tuple { length tuple.now ≡ arena.now.width }
-    requires row { tuple.now ≡ cell_of d.r.tuple }
-    requires any { slice_get cell.now dim ≡ Some None }
-    requires dim { dim < length cell.now }
-    requires below { covers (eq_by_cmp nat_cmp) cell.now d.r ≡ true }
-    requires own { closure_in (source_before d) cell.now ≡ Some cell.now }
-    requires front { cell_at arena.now.now node.0 ≡ Some (keep dim cell.now) }
-    requires few { length (rows_before d) ≤ MAX_ROWS }
-    requires value { (v : ℕ) × (w : _) × (slice_index_or tuple.now dim None ≡ Some v) × (closure_in (source_before d) (with_value cell.now dim v) ≡ Some w) × IsTotal d cell.now dim v w (v ∷ []) rest }
-    requires parts { IfSome rest (λ some. length (agg_in some.agg).parts ≡ d.measures) }
-    requires shared { IfSome rest (λ some. length some.shared ≡ length cell.now) }
-    requires whole { option_map agg_in whole ≡ agg_at (eq_by_cmp nat_cmp) d.measures (rows_before d) cell.now }
-    requires less { IfSome less (λ agg. Some (agg_in agg) ≡ agg_at (eq_by_cmp nat_cmp) d.measures (rows_after d) cell.now) }
-    ensures rest { IsRest d.measures (rows_after d) cell.now result }
-    ensures steps { steps.new + (4 * length cell.now + 5) ≤ steps.old + (3 + (4 * length cell.now + 7) * length (record_at arena.now.now node.0).edges) }
+    requires long { length class.now.cell ≡ arena.now.width }
+    requires tuple { length row.now.tuple ≡ arena.now.width }
+    requires row { IsGoing d row.now }
+    requires class { IsKnown d class.now }
+    requires any { slice_get class.now.cell dim ≡ Some None }
+    requires dim { dim < length class.now.cell }
+    requires front { cell_at arena.now.now front.0 ≡ Some (keep dim class.now.cell) }
+    requires rest { (v : ℕ) → slice_index_or row.now.tuple dim None ≡ Some v → IsRest d.measures (rows_after d) (with_value class.now.cell dim v) rest }
+    ensures rest { IsRest d.measures (rows_after d) class.now.cell result }
+    ensures steps { steps.new + (4 * length class.now.cell + 5) ≤ steps.old + (3 + (4 * length class.now.cell + 7) * length (record_at arena.now.now front.0).edges) }
 {
     let mut all = rest;
-    let first = first_label(arena, node, dim, steps);
-    'labels: for k in first..arena.edge_count(node, steps) {
-        let label = arena.edge_at(node, k, steps);
+    let first = first_label(arena, front, dim, steps);
+    'labels: for k in first..arena.edge_count(front, steps) {
+        let label = arena.edge_at(front, k, steps);
         if label.0 != dim {
             return all;
         }
-        match settled(arena, tuple, cell, &all, whole, less) {
+        match settled(arena, row, class, &all) {
             Some(done) => return Some(done),
             None => {}
         }
-        all = with_label(arena, tuple, cell, label, all, steps);
+        all = with_label(arena, row, &class.cell, label, all, steps);
     }
     all
 }
@@ -239,75 +283,56 @@ fn with_labels<L: Ledger>(
 // The parts of a class by its last dimension of Any, put together.
 fn all_parts<L: Ledger>(
     arena: &QcArena,
-    tuple: &Cell,
-    last: NodeNo,
-    twins: Option<Agg>,
+    row: &Going,
     plan: &IndexMap<u32, Fate>,
-    cell: &Cell,
-    node: NodeNo,
+    below: &Below,
     dim: u8,
     steps: &mut Steps<L>,
 ) -> Option<Rest>
     ghost d: { Deletion }
     requires tree { IsFrom arena.now.width arena.now.now (source_before d) }
-    requires long { length cell.now ≡ arena.now.width }
-    requires tuple { length tuple.now ≡ arena.now.width }
-    requires row { tuple.now ≡ cell_of d.r.tuple }
-    requires any { slice_get cell.now dim ≡ Some None }
-    requires dim { dim < length cell.now }
-    requires below { covers (eq_by_cmp nat_cmp) cell.now d.r ≡ true }
-    requires own { closure_in (source_before d) cell.now ≡ Some cell.now }
-    requires front { (q : ℕ) × (cell_at arena.now.now q ≡ Some (keep dim cell.now)) }
-    requires planned { (v q : ℕ) (w : _) → slice_index_or tuple.now dim None ≡ Some v → closure_in (source_before d) (with_value cell.now dim v) ≡ Some w → cell_at arena.now.now q ≡ Some w → IsRest d.measures (rows_after d) w (after_in plan.now.entries q) }
-    requires twins { option_map agg_in twins ≡ agg_at (eq_by_cmp nat_cmp) d.measures (rows_after d) tuple.now }
-    requires few { length (rows_before d) ≤ MAX_ROWS }
-    requires node { cell_at arena.now.now node.0 ≡ Some cell.now }
-    requires last { cell_at arena.now.now last.0 ≡ Some tuple.now }
-    ensures rest { IsRest d.measures (rows_after d) cell.now result }
-    ensures steps { (q : ℕ) → cell_at arena.now.now q ≡ Some (keep dim cell.now) → steps.new ≤ steps.old + ((3 * length cell.now + 4) + (4 * length cell.now + 7) * length (record_at arena.now.now q).edges) }
+    requires long { length below.now.cell ≡ arena.now.width }
+    requires tuple { length row.now.tuple ≡ arena.now.width }
+    requires row { IsGoing d row.now }
+    requires class { IsClass d below.now.cell }
+    requires node { cell_at arena.now.now below.now.node.0 ≡ Some below.now.cell }
+    requires last { IsLastAny below.now.cell dim }
+    requires dim { dim < length below.now.cell }
+    requires planned { (v q : ℕ) (w : _) → slice_index_or row.now.tuple dim None ≡ Some v → closure_in (source_before d) (with_value below.now.cell dim v) ≡ Some w → cell_at arena.now.now q ≡ Some w → IsRest d.measures (rows_after d) w (after_in plan.now.entries q) }
+    ensures rest { IsRest d.measures (rows_after d) below.now.cell result }
+    ensures steps { (q : ℕ) → cell_at arena.now.now q ≡ Some (keep dim below.now.cell) → steps.new ≤ steps.old + ((3 * length below.now.cell + 4) + (4 * length below.now.cell + 7) * length (record_at arena.now.now q).edges) }
 {
-    let mut more = cell.copy();
-    more.set(dim, tuple.get(dim));
-    let own = own_part(arena, plan, &more, steps);
-    let gone = class_at(arena, tuple, last, steps);
-    let whole = class_at(arena, cell, node, steps);
-    let less = less_of(tuple, twins, gone, cell, whole);
-    let labelled = node_at(arena, &front(cell, dim), steps);
-    with_labels(arena, tuple, cell, dim, labelled, own, whole, less, steps)
+    let class = class_of(arena, row, below, steps);
+    let front = front_at(arena, &below.cell, dim, below.node, steps);
+    let own = own_part(arena, row, plan, &below.cell, dim, front, steps);
+    with_labels(arena, row, &class, dim, front, own, steps)
 }
 
 /// What the rows of a class below the tuple share and come to afterwards.
 pub(crate) fn class_after<L: Ledger>(
     arena: &QcArena,
-    tuple: &Cell,
-    last: NodeNo,
-    twins: Option<Agg>,
+    row: &Going,
     plan: &IndexMap<u32, Fate>,
-    cell: &Cell,
-    node: NodeNo,
+    below: &Below,
     steps: &mut Steps<L>,
 ) -> Option<Rest>
     ghost d: { Deletion }
     requires tree { IsFrom arena.now.width arena.now.now (source_before d) }
-    requires long { length cell.now ≡ arena.now.width }
-    requires tuple { length tuple.now ≡ arena.now.width }
-    requires row { tuple.now ≡ cell_of d.r.tuple }
-    requires below { covers (eq_by_cmp nat_cmp) cell.now d.r ≡ true }
-    requires own { closure_in (source_before d) cell.now ≡ Some cell.now }
-    requires twins { option_map agg_in twins ≡ agg_at (eq_by_cmp nat_cmp) d.measures (rows_after d) tuple.now }
-    requires planned { (i v q : ℕ) (w : _) → slice_get cell.now i ≡ Some None → slice_index_or tuple.now i None ≡ Some v → closure_in (source_before d) (with_value cell.now i v) ≡ Some w → cell_at arena.now.now q ≡ Some w → IsRest d.measures (rows_after d) w (after_in plan.now.entries q) }
-    requires few { length (rows_before d) ≤ MAX_ROWS }
-    requires node { cell_at arena.now.now node.0 ≡ Some cell.now }
-    requires last { cell_at arena.now.now last.0 ≡ Some tuple.now }
-    ensures rest { IsRest d.measures (rows_after d) cell.now result }
-    ensures steps { (list : List Below) → AreBelow arena.now.now tuple.now (length tuple.now) list → steps.new ≤ steps.old + ((3 * length cell.now + 4) + (4 * length cell.now + 7) * front_labels arena.now.now list cell.now (last_any_of cell.now)) }
+    requires long { length below.now.cell ≡ arena.now.width }
+    requires tuple { length row.now.tuple ≡ arena.now.width }
+    requires row { IsGoing d row.now }
+    requires class { IsClass d below.now.cell }
+    requires node { cell_at arena.now.now below.now.node.0 ≡ Some below.now.cell }
+    requires planned { (i v q : ℕ) (w : _) → slice_get below.now.cell i ≡ Some None → slice_index_or row.now.tuple i None ≡ Some v → closure_in (source_before d) (with_value below.now.cell i v) ≡ Some w → cell_at arena.now.now q ≡ Some w → IsRest d.measures (rows_after d) w (after_in plan.now.entries q) }
+    ensures rest { IsRest d.measures (rows_after d) below.now.cell result }
+    ensures steps { (list : List Below) → AreBelow arena.now.now row.now.tuple (length row.now.tuple) list → steps.new ≤ steps.old + ((3 * length below.now.cell + 4) + (4 * length below.now.cell + 7) * front_labels arena.now.now list below.now.cell (last_any_of below.now.cell)) }
 {
-    match last_any(cell) {
-        Some(dim) => all_parts(arena, tuple, last, twins, plan, cell, node, dim, steps),
-        None => match twins {
+    match last_any(&below.cell) {
+        Some(dim) => all_parts(arena, row, plan, below, dim, steps),
+        None => match row.twins {
             None => None,
             Some(agg) => Some(Rest {
-                shared: cell.copy(),
+                shared: below.cell.copy(),
                 agg,
             }),
         },

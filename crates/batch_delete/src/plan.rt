@@ -13,11 +13,13 @@ ghost use Rattle.tree_search.specs.Found.{IsFrom, IsTree, Names};
 ghost use Rattle.batch_delete.specs.declared.below.Below.{Below};
 ghost use Rattle.batch_delete.specs.Below.{AreBelow};
 ghost use Rattle.batch_delete.specs.Plan.{after_in, front_labels, heir_in, last_any_of, planning};
-ghost use Rattle.batch_delete.specs.Rests.{ArePlanned, Deletion, IsRest, rows_after, rows_before, source_before};
+ghost use Rattle.batch_delete.specs.Going.{IsGoing};
+ghost use Rattle.batch_delete.specs.Rests.{AreGreaterPlanned, ArePlanned, Deletion, IsRest, rows_after, rows_before, source_before};
 
 use crate::Memory;
 use crate::below::Below;
 use crate::cells::{depth, front};
+use crate::going::{Going, row_of};
 use crate::parts::{Rest, class_after};
 use aggregates::Agg;
 use cell_core::{Cell, Entry, NodeNo, Steps, leq};
@@ -86,38 +88,24 @@ pub(crate) fn heir_of(plan: &IndexMap<u32, Fate>, node: NodeNo) -> Option<NodeNo
 // values are planned for.
 fn rest_of<L: Ledger>(
     arena: &QcArena,
-    tuple: &Cell,
-    last: NodeNo,
-    twins: Option<Agg>,
+    row: &Going,
     plan: &IndexMap<u32, Fate>,
     below: &Below,
     steps: &mut Steps<L>,
 ) -> Option<Rest>
     ghost d: { Deletion }
     requires tree { IsFrom arena.now.width arena.now.now (source_before d) }
-    requires tuple { length tuple.now ≡ arena.now.width }
-    requires row { tuple.now ≡ cell_of d.r.tuple }
+    requires tuple { length row.now.tuple ≡ arena.now.width }
+    requires row { IsGoing d row.now }
     requires cell { cell_at arena.now.now below.now.node.0 ≡ Some below.now.cell }
-    requires low { leq nat_eq below.now.cell tuple.now ≡ true }
-    requires twins { option_map agg_in twins ≡ agg_at (eq_by_cmp nat_cmp) d.measures (rows_after d) tuple.now }
-    requires planned { (q : ℕ) (w : _) → cell_at arena.now.now q ≡ Some w → leq nat_eq w tuple.now ≡ true → leq nat_eq below.now.cell w ≡ true → leq nat_eq w below.now.cell ≡ false → IsRest d.measures (rows_after d) w (after_in plan.now.entries q) }
-    requires few { length (rows_before d) ≤ MAX_ROWS }
-    requires last { cell_at arena.now.now last.0 ≡ Some tuple.now }
+    requires low { leq nat_eq below.now.cell row.now.tuple ≡ true }
+    requires planned { AreGreaterPlanned d arena.now.now row.now.tuple below.now.cell plan.now.entries }
     ensures rest { IsRest d.measures (rows_after d) below.now.cell result }
-    ensures steps { (list : List Below) → AreBelow arena.now.now tuple.now (length tuple.now) list → steps.new ≤ steps.old + ((3 * length tuple.now + 5) + (4 * length tuple.now + 7) * front_labels arena.now.now list below.now.cell (last_any_of below.now.cell)) }
+    ensures steps { (list : List Below) → AreBelow arena.now.now row.now.tuple (length row.now.tuple) list → steps.new ≤ steps.old + ((3 * length row.now.tuple + 5) + (4 * length row.now.tuple + 7) * front_labels arena.now.now list below.now.cell (last_any_of below.now.cell)) }
 {
     match arena.forced(below.node, steps) {
         Some(forced) => after_of(plan, forced.child),
-        None => class_after(
-            arena,
-            tuple,
-            last,
-            twins,
-            plan,
-            &below.cell,
-            below.node,
-            steps,
-        ),
+        None => class_after(arena, row, plan, below, steps),
     }
 }
 
@@ -152,28 +140,23 @@ fn heir_at<L: Ledger>(
 // What becomes of a node below the tuple, where the nodes with more values are planned for.
 fn fate_of<L: Ledger>(
     arena: &QcArena,
-    tuple: &Cell,
-    last: NodeNo,
-    twins: Option<Agg>,
+    row: &Going,
     plan: &IndexMap<u32, Fate>,
     below: &Below,
     steps: &mut Steps<L>,
 ) -> Fate
     ghost d: { Deletion }
     requires tree { IsFrom arena.now.width arena.now.now (source_before d) }
-    requires tuple { length tuple.now ≡ arena.now.width }
-    requires row { tuple.now ≡ cell_of d.r.tuple }
+    requires tuple { length row.now.tuple ≡ arena.now.width }
+    requires row { IsGoing d row.now }
     requires cell { cell_at arena.now.now below.now.node.0 ≡ Some below.now.cell }
-    requires low { leq nat_eq below.now.cell tuple.now ≡ true }
-    requires twins { option_map agg_in twins ≡ agg_at (eq_by_cmp nat_cmp) d.measures (rows_after d) tuple.now }
-    requires planned { (q : ℕ) (w : _) → cell_at arena.now.now q ≡ Some w → leq nat_eq w tuple.now ≡ true → leq nat_eq below.now.cell w ≡ true → leq nat_eq w below.now.cell ≡ false → IsRest d.measures (rows_after d) w (after_in plan.now.entries q) }
-    requires few { length (rows_before d) ≤ MAX_ROWS }
-    requires last { cell_at arena.now.now last.0 ≡ Some tuple.now }
+    requires low { leq nat_eq below.now.cell row.now.tuple ≡ true }
+    requires planned { AreGreaterPlanned d arena.now.now row.now.tuple below.now.cell plan.now.entries }
     ensures after { IsRest d.measures (rows_after d) below.now.cell result.after }
     ensures heir { Names arena.now.now (option_map number result.heir) (option_map (keep (cells.depth below.now.cell)) (closure (eq_by_cmp nat_cmp) (rows_after d) below.now.cell)) }
-    ensures steps { (list : List Below) → AreBelow arena.now.now tuple.now (length tuple.now) list → steps.new ≤ steps.old + (4 * length tuple.now + 7) * (1 + front_labels arena.now.now list below.now.cell (last_any_of below.now.cell)) }
+    ensures steps { (list : List Below) → AreBelow arena.now.now row.now.tuple (length row.now.tuple) list → steps.new ≤ steps.old + (4 * length row.now.tuple + 7) * (1 + front_labels arena.now.now list below.now.cell (last_any_of below.now.cell)) }
 {
-    let after = rest_of(arena, tuple, last, twins, plan, below, steps);
+    let after = rest_of(arena, row, plan, below, steps);
     let heir = heir_at(arena, below, &after, steps);
     Fate { after, heir }
 }
@@ -207,14 +190,13 @@ pub(crate) fn plan_all<L: Ledger>(
     requires twins { option_map agg_in twins ≡ agg_at (eq_by_cmp nat_cmp) d.measures (rows_after d) tuple.now }
     requires few { length (rows_before d) ≤ MAX_ROWS }
     ensures planned { IfOk result (λ plan. ArePlanned d arena.now.now plan.entries list.now.items 0) }
-    ensures steps { IfOk result (λ plan. steps.new ≤ steps.old + planning (length tuple.now) arena.now.now list.now.items list.now.items) }
+    ensures steps { IfOk result (λ plan. steps.new ≤ steps.old + (2 * length tuple.now + 3 + planning (length tuple.now) arena.now.now list.now.items list.now.items)) }
 {
+    let row = row_of(arena, tuple, twins, steps);
     let mut plan = IndexMap::new(alloc);
     'nodes: for k in 0..list.len() {
         let below = &list[list.len() - 1 - k];
-        // The last node is that of the tuple itself.
-        let last = list[list.len() - 1].node;
-        let fate = fate_of(arena, tuple, last, twins, &plan, below, steps);
+        let fate = fate_of(arena, &row, &plan, below, steps);
         add_fate(&mut plan, below.node, fate)?;
     }
     Ok(plan)

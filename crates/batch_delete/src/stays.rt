@@ -1,15 +1,13 @@
 // Whether a class stays as the row goes.
 ghost use Rattle.std.specs.Ordering.{eq_by_cmp, nat_cmp};
 ghost use Rattle.std.specs.Prelude.{IfSome, None, Some, false, length, slice_get, true, ℕ, ◌+◌, ◌<◌, ◌≡◌};
-ghost use Rattle.std.specs.Option.{option_map};
-ghost use Rattle.aggregates.specs.Views.{agg_in};
-ghost use Rattle.cube_defs.specs.Cell.{cell_of};
-ghost use Rattle.cube_defs.specs.Rows.{cov, covers};
-ghost use Rattle.cube_laws.specs.Total.{agg_at};
-ghost use Rattle.tree_search.specs.Found.{IsFrom, closure_in};
-ghost use Rattle.batch_delete.specs.Rests.{Deletion, IsAbove, IsRest, rows_after, rows_before, source_before};
+ghost use Rattle.cube_defs.specs.Rows.{cov};
+ghost use Rattle.tree_search.specs.Found.{IsFrom};
+ghost use Rattle.batch_delete.specs.Going.{IsGoing, IsKnown};
+ghost use Rattle.batch_delete.specs.Rests.{Deletion, IsAbove, IsRest, rows_after, source_before};
 
 use crate::cells::has;
+use crate::going::{Class, Going};
 use crate::parts::Rest;
 use aggregates::Agg;
 use cell_core::{Cell, Entry};
@@ -59,38 +57,33 @@ fn are_all(some: &Rest, whole: Option<Agg>) -> bool
 /// share tells that the class stays, and it is known what its rows come to without the row.
 pub(crate) fn settled(
     arena: &QcArena,
-    tuple: &Cell,
-    cell: &Cell,
+    row: &Going,
+    class: &Class,
     some: &Option<Rest>,
-    whole: Option<Agg>,
-    less: Option<Agg>,
 ) -> Option<Rest>
     ghost d: { Deletion }
     requires tree { IsFrom arena.now.width arena.now.now (source_before d) }
-    requires long { length cell.now ≡ arena.now.width }
-    requires tuple { length tuple.now ≡ arena.now.width }
-    requires row { tuple.now ≡ cell_of d.r.tuple }
-    requires below { covers (eq_by_cmp nat_cmp) cell.now d.r ≡ true }
-    requires own { closure_in (source_before d) cell.now ≡ Some cell.now }
-    requires shared { IfSome some.now (λ rest. length rest.shared ≡ length cell.now) }
-    requires above { IfSome some.now (λ rest. IsAbove d cell.now rest.shared) }
-    requires all { IfSome some.now (λ rest. rest.agg.count ≡ length (cov (eq_by_cmp nat_cmp) (rows_after d) cell.now) → IsRest d.measures (rows_after d) cell.now (Some rest)) }
-    requires whole { option_map agg_in whole ≡ agg_at (eq_by_cmp nat_cmp) d.measures (rows_before d) cell.now }
-    requires less { IfSome less (λ agg. Some (agg_in agg) ≡ agg_at (eq_by_cmp nat_cmp) d.measures (rows_after d) cell.now) }
-    ensures rest { IfSome result (λ rest. IsRest d.measures (rows_after d) cell.now (Some rest)) }
+    requires long { length class.now.cell ≡ arena.now.width }
+    requires tuple { length row.now.tuple ≡ arena.now.width }
+    requires row { IsGoing d row.now }
+    requires class { IsKnown d class.now }
+    requires shared { IfSome some.now (λ rest. length rest.shared ≡ length class.now.cell) }
+    requires above { IfSome some.now (λ rest. IsAbove d class.now.cell rest.shared) }
+    requires all { IfSome some.now (λ rest. rest.agg.count ≡ length (cov (eq_by_cmp nat_cmp) (rows_after d) class.now.cell) → IsRest d.measures (rows_after d) class.now.cell (Some rest)) }
+    ensures rest { IfSome result (λ rest. IsRest d.measures (rows_after d) class.now.cell (Some rest)) }
 {
     match some {
         None => None,
         Some(rest) => {
-            if are_all(rest, whole) {
+            if are_all(rest, class.whole) {
                 return Some(rest.copy());
             }
-            match less {
+            match class.less {
                 None => None,
                 Some(agg) => {
-                    if is_settled(tuple, cell, &rest.shared) {
+                    if is_settled(&row.tuple, &class.cell, &rest.shared) {
                         Some(Rest {
-                            shared: cell.copy(),
+                            shared: class.cell.copy(),
                             agg,
                         })
                     } else {

@@ -11,27 +11,27 @@ use Rattle.batch_delete.proofs.less.less_of.Goals as goal
 
 pub with_twins-requires-clause-parts : goal.with_twins-requires-clause-parts
 with_twins-requires-clause-parts g c =
-    let up = subst (λ t. leq (eq_by_cmp nat_cmp) c.args.cell.now t ≡ true) (sym c.requires.0) c.requires.1.0 in
-    let e = sym (ap (option_map agg_in) c.in-Some.is) ∙ c.requires.1.1.1.1.0 in
-    let f = sym (ap (option_map agg_in) c.in-Some-gone.is) ∙ c.requires.1.1.1.0 in
-    let is = left g.d c.args.cell.now c.args.tuple.now up (tuple_closes g.d c.args.tuple.now c.requires.0).0 c.in-Some.whole c.in-Some-gone.gone c.in-Some-besides.others e f c.in-Some-besides.ensures.more c.in-Some-besides.ensures.rest in
-    if_some _ c.args.twins (λ (agg : Agg) some. is.0 ∙ sym (twins_long g.d c.args.tuple.now (agg_in agg) (sym c.requires.1.1.0 ∙ ap (option_map agg_in) some)))
+    let up = subst (λ t. leq (eq_by_cmp nat_cmp) c.args.cell.now t ≡ true) (sym c.requires.0.tuple) c.requires.1.0 in
+    let e = sym (ap (option_map agg_in) c.in-Some.is) ∙ c.requires.1.1 in
+    let f = sym (ap (option_map agg_in) c.in-Some-all.is) ∙ c.requires.0.all in
+    let is = left g.d c.args.cell.now c.args.row.now.tuple up (tuple_closes g.d c.args.row.now.tuple c.requires.0.tuple).0 c.in-Some.whole c.in-Some-all.gone c.in-Some-besides.others e f c.in-Some-besides.ensures.more c.in-Some-besides.ensures.rest in
+    if_some _ c.args.row.now.twins (λ (agg : Agg) some. is.0 ∙ sym (twins_long g.d c.args.row.now.tuple (agg_in agg) (sym c.requires.0.twins ∙ ap (option_map agg_in) some)))
 
 pub with_twins-requires-clause-few : goal.with_twins-requires-clause-few
 with_twins-requires-clause-few g c =
-    let up = subst (λ t. leq (eq_by_cmp nat_cmp) c.args.cell.now t ≡ true) (sym c.requires.0) c.requires.1.0 in
-    let e = sym (ap (option_map agg_in) c.in-Some.is) ∙ c.requires.1.1.1.1.0 in
-    let f = sym (ap (option_map agg_in) c.in-Some-gone.is) ∙ c.requires.1.1.1.0 in
-    let is = left g.d c.args.cell.now c.args.tuple.now up (tuple_closes g.d c.args.tuple.now c.requires.0).0 c.in-Some.whole c.in-Some-gone.gone c.in-Some-besides.others e f c.in-Some-besides.ensures.more c.in-Some-besides.ensures.rest in
-    let few = c.requires.1.1.1.1.1 in
-    if_some _ c.args.twins (λ (agg : Agg) some.
-    let both = few_both g.d c.args.cell.now (agg_in agg) (agg_in c.in-Some-besides.others) _ (sym c.requires.1.1.0 ∙ ap (option_map agg_in) some) is.1 in
+    let up = subst (λ t. leq (eq_by_cmp nat_cmp) c.args.cell.now t ≡ true) (sym c.requires.0.tuple) c.requires.1.0 in
+    let e = sym (ap (option_map agg_in) c.in-Some.is) ∙ c.requires.1.1 in
+    let f = sym (ap (option_map agg_in) c.in-Some-all.is) ∙ c.requires.0.all in
+    let is = left g.d c.args.cell.now c.args.row.now.tuple up (tuple_closes g.d c.args.row.now.tuple c.requires.0.tuple).0 c.in-Some.whole c.in-Some-all.gone c.in-Some-besides.others e f c.in-Some-besides.ensures.more c.in-Some-besides.ensures.rest in
+    let few = c.requires.0.few in
+    if_some _ c.args.row.now.twins (λ (agg : Agg) some.
+    let both = few_both g.d c.args.cell.now (agg_in agg) (agg_in c.in-Some-besides.others) _ (sym c.requires.0.twins ∙ ap (option_map agg_in) some) is.1 in
     omega arith)
 
 pub returns-in-Some-besides : goal.returns-in-Some-besides
 returns-in-Some-besides g c =
-    let up = subst (λ t. leq (eq_by_cmp nat_cmp) c.args.cell.now t ≡ true) (sym c.requires.0) c.requires.1.0 in
-    let e = sym (ap (option_map agg_in) c.in-Some.is) ∙ c.requires.1.1.1.1.0 in
-    let f = sym (ap (option_map agg_in) c.in-Some-gone.is) ∙ c.requires.1.1.1.0 in
-    let is = left g.d c.args.cell.now c.args.tuple.now up (tuple_closes g.d c.args.tuple.now c.requires.0).0 c.in-Some.whole c.in-Some-gone.gone c.in-Some-besides.others e f c.in-Some-besides.ensures.more c.in-Some-besides.ensures.rest in
-    record { agg = c.with_twins.ensures ∙ ap (λ o. join_aggs o (Some (agg_in c.in-Some-besides.others))) c.requires.1.1.0 ∙ sym is.1 }
+    let up = subst (λ t. leq (eq_by_cmp nat_cmp) c.args.cell.now t ≡ true) (sym c.requires.0.tuple) c.requires.1.0 in
+    let e = sym (ap (option_map agg_in) c.in-Some.is) ∙ c.requires.1.1 in
+    let f = sym (ap (option_map agg_in) c.in-Some-all.is) ∙ c.requires.0.all in
+    let is = left g.d c.args.cell.now c.args.row.now.tuple up (tuple_closes g.d c.args.row.now.tuple c.requires.0.tuple).0 c.in-Some.whole c.in-Some-all.gone c.in-Some-besides.others e f c.in-Some-besides.ensures.more c.in-Some-besides.ensures.rest in
+    record { agg = c.with_twins.ensures ∙ ap (λ o. join_aggs o (Some (agg_in c.in-Some-besides.others))) c.requires.0.twins ∙ sym is.1 }
