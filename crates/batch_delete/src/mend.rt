@@ -6,7 +6,7 @@ ghost use Rattle.cube_defs.specs.Cell.{depth};
 ghost use Rattle.batch_delete.specs.declared.below.Below.{Below};
 ghost use Rattle.qc_arena.specs.Map.{CanChange, frame, is_open, is_touched, with_forced};
 ghost use Rattle.cell_core.specs.Entry.{IsCode};
-ghost use Rattle.std.specs.Option.{option_and_then, option_map};
+ghost use Rattle.std.specs.Option.{option_and_then, option_copied, option_map};
 ghost use Rattle.std.specs.Ordering.{eq_by_cmp, nat_cmp};
 ghost use Rattle.qc_arena.specs.Edges.{rises};
 ghost use Rattle.tree_laws.specs.Walk.{target_at};
@@ -18,7 +18,7 @@ use crate::below::Below;
 use crate::cells::{depth, next_value};
 use crate::labels::first_label;
 use crate::parts::Rest;
-use crate::plan::{Fate, copied, heir_of};
+use crate::plan::{Fate, heir_of};
 use aggregates::Agg;
 use cell_core::{Cell, Code, Entry, NodeNo, Steps, leq};
 use indexmap::IndexMap;
@@ -280,8 +280,8 @@ fn mend<L: Ledger>(
 }
 
 // What the rows of a node come to, if it stays.
-fn staying(plan: &IndexMap<u32, Fate>, node: NodeNo) -> Option<Rest>
-    ensures { result ≡ staying plan.now.entries node.0 }
+fn staying(plan: &IndexMap<u32, Fate>, node: NodeNo) -> Option<&Rest>
+    ensures { option_copied result ≡ staying plan.now.entries node.0 }
 {
     match plan.get(&node.0) {
         None => None,
@@ -290,14 +290,14 @@ fn staying(plan: &IndexMap<u32, Fate>, node: NodeNo) -> Option<Rest>
 }
 
 // What the rows of a node come to, if it is its own heir.
-fn if_own(node: NodeNo, fate: &Fate) -> Option<Rest>
-    ensures { result ≡ if_own node.0 fate.now.heir fate.now.after }
+fn if_own(node: NodeNo, fate: &Fate) -> Option<&Rest>
+    ensures { option_copied result ≡ if_own node.0 fate.now.heir fate.now.after }
 {
     match fate.heir {
         None => None,
         Some(heir) => {
             if heir.0 == node.0 {
-                copied(&fate.after)
+                fate.after.as_ref()
             } else {
                 None
             }
@@ -331,7 +331,7 @@ fn settle<L: Ledger>(
             arena.kill(below.node, steps);
             Ok(())
         }
-        Some(rest) => mend(arena, tuple, plan, below, &rest, steps),
+        Some(rest) => mend(arena, tuple, plan, below, rest, steps),
     }
 }
 

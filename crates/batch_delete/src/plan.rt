@@ -64,8 +64,8 @@ pub(crate) fn after_of(plan: &IndexMap<u32, Fate>, node: NodeNo) -> Option<Rest>
     }
 }
 
-/// A copy of it.
-pub(crate) fn copied(rest: &Option<Rest>) -> Option<Rest>
+// A copy of it.
+fn copied(rest: &Option<Rest>) -> Option<Rest>
     ensures { result ≡ rest.now }
 {
     match rest {
@@ -194,8 +194,10 @@ pub(crate) fn plan_all<L: Ledger>(
 {
     let row = row_of(arena, tuple, twins, steps);
     let mut plan = IndexMap::new(alloc);
-    'nodes: for k in 0..list.len() {
-        let below = &list[list.len() - 1 - k];
+    let many = list.len();
+    plan.reserve(many)?;
+    'nodes: for k in 0..many {
+        let below = &list[many - 1 - k];
         let fate = fate_of(arena, &row, &plan, below, steps);
         add_fate(&mut plan, below.node, fate)?;
     }

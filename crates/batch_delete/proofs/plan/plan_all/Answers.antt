@@ -14,9 +14,8 @@ pub fate_of-fate-requires : goal.fate_of-fate-requires
 fate_of-fate-requires g c κs within =
     let a = c.args.arena.now in
     let xs = c.args.list.now.items in
-    let j = c.len.result - 1 - c.nodes.k in
-    let many = c.len.ensures in
-    let ends = c.len-k-end.ensures in
+    let j = c.len-many.result - 1 - c.nodes.k in
+    let many = c.len-many.ensures in
     let test = c.nodes-test.true in
     let b = c.index-below.result.now in
     let at = item_at xs j b (omega arith) ∙ ap (λ b. Some b) (sym c.index-below.ensures) in
@@ -48,9 +47,8 @@ nodes-preserved g c =
     let a = c.args.arena.now in
     let xs = c.args.list.now.items in
     let n = length c.args.tuple.now in
-    let j = c.len.result - 1 - c.nodes.k in
-    let many = c.len.ensures in
-    let ends = c.len-k-end.ensures in
+    let j = c.len-many.result - 1 - c.nodes.k in
+    let many = c.len-many.ensures in
     let test = c.nodes-test.true in
     let b = c.index-below.result.now in
     let at = item_at xs j b (omega arith) ∙ ap (λ b. Some b) (sym c.index-below.ensures) in
@@ -76,5 +74,5 @@ nodes-preserved g c =
 pub returns-clause-planned : goal.returns-clause-planned
 returns-clause-planned g c =
     let past = c.nodes-test.false in
-    let ends = c.len-k-end.ensures in
+    let many = c.len-many.ensures in
     λ j b l e. c.nodes.invariant.planned j b (omega arith) e
