@@ -1,5 +1,5 @@
 -- The labels of a node by their dimensions.
-use Rattle.std.proofs.Common.{◌≡◌, ◌∙◌, inl, inr, ℕ, zero, suc, ◌+◌, ◌<◌, ◌≤◌, Bool, true, false, ◌&&◌, not, Option, Some, None, List, [], ◌∷◌, drop, length, nat_eq, slice_get, take, refl, sym, ap, subst, arith, eqb-true}
+use Rattle.std.proofs.Common.{◌≡◌, ◌∙◌, inl, inr, ℕ, zero, suc, ◌<◌, ◌≤◌, true, false, ◌&&◌, not, Option, Some, None, List, [], ◌∷◌, nat_eq, slice_get, take, refl, sym, ap, arith, eqb-true}
 use Rattle.std.proofs.lemmas.Bool.{and_parts, cond-false, false_from_ne_true}
 use Rattle.std.proofs.lemmas.Bool.Decides.{eqb_tells, nat_tests}
 use Rattle.std.specs.List.{cons_option}

@@ -1,28 +1,26 @@
 -- Searches that begin at a node near by: behind a label, and up from a class to its front.
-use Rattle.std.proofs.Common.{◌≡◌, ◌∙◌, inl, inr, ℕ, zero, suc, ◌+◌, ◌-◌, ◌<◌, ◌≤◌, Option, Some, None, List, [], ◌∷◌, get_or, length, nat_cmp, refl, set, slice_get, sym, ap, subst, arith}
+use Rattle.std.proofs.Common.{◌≡◌, ◌∙◌, inl, inr, ℕ, zero, suc, ◌<◌, ◌≤◌, Option, Some, None, List, [], ◌∷◌, get_or, length, nat_cmp, refl, slice_get, sym, ap, arith}
 use Rattle.std.specs.Cmp.{nat_cmp_total}
 use Rattle.std.specs.FinMap as fin
 use Rattle.std.specs.Option.{option_map}
 use Rattle.std.specs.Ordering.{eq_by_cmp}
 use Rattle.std.specs.Prelude.{IsSome}
 use Rattle.cell_core.specs.declared.cell.NodeNo.{NodeNo}
-use Rattle.cube_defs.specs.Cell.{Cell, depth, keep, upto, with_value}
+use Rattle.cube_defs.specs.Cell.{Cell, depth, keep, with_value}
 use Rattle.cube_defs.specs.Rows.{closure}
-use Rattle.cube_defs.specs.Tree.{Edge, Tree, cell_at, next_value}
+use Rattle.cube_defs.specs.Tree.{Edge, Tree, cell_at}
 use Rattle.cube_laws.specs.Lists.{Among}
 use Rattle.cube_laws.specs.Parts.{IsLastAny}
 use Rattle.cube_laws.proofs.Cells.{depth-le, keep-leq, length-keep}
 use Rattle.cube_laws.proofs.Closures.{closure_some}
 use Rattle.cube_laws.proofs.Covered.{closure_length}
 use Rattle.qc_arena.specs.Seen.{number, record_at}
-use Rattle.tree_laws.specs.Labels.{lead}
 use Rattle.tree_laws.specs.Walk.{front, walk_on}
 use Rattle.tree_laws.proofs.Climbs.{parent_is}
 use Rattle.tree_laws.proofs.Fronts.{depth-keep-le, depth-with_value, keep-beyond, upto-entry, with_value-there}
 use Rattle.tree_laws.proofs.Lists.{some_same, there}
 use Rattle.tree_laws.proofs.Walks.{walk_step}
 use Rattle.tree_search.specs.Found.{IsFrom, Names, Source, closure_in}
-use Rattle.tree_search.proofs.Walked.{there_is}
 use Rattle.batch_delete.proofs.Entries.{entry_within, keep-child}
 use Rattle.batch_delete.proofs.Labelled.{at_cell, closed_at, edge_label, law}
 

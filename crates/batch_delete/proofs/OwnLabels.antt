@@ -1,22 +1,20 @@
 -- Edges are led on by their labels: those that aren't left are dropped, and then those with the tuple's values are led to heirs.
-use Rattle.std.proofs.Common.{◌≡◌, ◌≢◌, ◌∙◌, get_or, inl, inr, ℕ, zero, suc, ◌+◌, ◌<◌, ◌≤◌, Bool, true, false, not, ◌&&◌, Option, Some, None, List, [], ◌∷◌, filter_map, length, slice_get, nat_eq, nat_lt, nat_cmp, refl, sym, ap, ap₂, subst, arith, eqb-true, eq-eqb, true≢false, ltb-true, ltb-false}
-use Rattle.std.proofs.lemmas.Bool.{and_from, and_parts, cond-true, cond-false, false_from_ne_true}
-use Rattle.std.proofs.lemmas.Bool.Decides.{eqb_tells, nat_tests}
+use Rattle.std.proofs.Common.{◌≡◌, ◌∙◌, ℕ, zero, suc, ◌<◌, Bool, true, false, not, ◌&&◌, Option, Some, None, List, [], ◌∷◌, filter_map, length, slice_get, nat_eq, refl, sym, ap, ap₂, subst, arith, eqb-true}
+use Rattle.std.proofs.lemmas.Bool.{and_from, and_parts, cond-true, cond-false}
+use Rattle.std.proofs.lemmas.Bool.Decides.{nat_tests}
 use Rattle.std.specs.List.{cons_option, list_all}
 use Rattle.std.specs.Option.{option_map}
-use Rattle.std.specs.Ordering.{eq_by_cmp}
 use Rattle.std.specs.Prelude.{if◌then◌else◌}
 use Rattle.cube_defs.specs.Cell.{Cell}
 use Rattle.cube_defs.specs.Tree.{Edge}
 use Rattle.qc_arena.specs.Edges.{drop_label, put_edge, rises, same_label}
 use Rattle.qc_arena.specs.Map.{Known}
 use Rattle.qc_arena.specs.Seen.{label_lt}
-use Rattle.qc_arena.proofs.Labels.{drop_none, lt_apart, lt_apart_back}
+use Rattle.qc_arena.proofs.Labels.{drop_none}
 use Rattle.tree_laws.specs.Walk.{target_at}
 use Rattle.tree_laws.proofs.Lists.{some_same}
-use Rattle.batch_delete.specs.Plan.{is_left, is_value, led_edge, led_to, left_to, mixed, own_to, with_heir, with_led, with_mixed, with_own}
-use Rattle.batch_delete.proofs.Mending.{led_behind, mixed_all}
-use Rattle.batch_delete.proofs.Totalled.{same_test}
+use Rattle.batch_delete.specs.Plan.{is_left, led_edge, led_to, left_to, mixed, own_to, with_mixed}
+use Rattle.batch_delete.proofs.Mending.{mixed_all}
 
 abbrev pub edge_with : Edge ℕ ℕ → ℕ → Edge ℕ ℕ
 edge_with y t = record { dim = y.dim; value = y.value; target = t }

@@ -1,4 +1,4 @@
-use Rattle.std.proofs.Common.{ℕ, ◌+◌, ◌-◌, ◌/◌, ◌<◌, ◌≤◌, arith}
+use Rattle.std.proofs.Common.{ℕ, ◌+◌, ◌-◌, ◌/◌, arith}
 use Rattle.cube_defs.specs.Tree.{Edge}
 use Rattle.qc_arena.specs.Seen.{record_at}
 use Rattle.batch_delete.proofs.Dims.{from_on, up_to}

@@ -1,6 +1,5 @@
-use Rattle.std.proofs.Common.{◌≡◌, ◌∙◌, ◌+◌, ◌-◌, ◌<◌, ℕ, suc, Option, Some, ap, arith, length, refl, slice_get, sym}
+use Rattle.std.proofs.Common.{◌≡◌, ◌∙◌, ◌+◌, ◌-◌, ℕ, suc, Option, Some, ap, arith, length, refl, slice_get, sym}
 use Rattle.std.proofs.lemmas.Bool.{cond-true}
-use Rattle.std.specs.FinMap as map
 use Rattle.std.specs.Option.{option_map}
 use Rattle.cube_defs.specs.Tree.{Edge}
 use Rattle.qc_arena.specs.Map.{Known, is_open}

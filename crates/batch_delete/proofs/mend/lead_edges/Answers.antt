@@ -1,5 +1,4 @@
-use Rattle.std.proofs.Common.{◌≡◌, ◌∙◌, ◌+◌, ◌-◌, ◌<◌, ℕ, Bool, None, Option, Some, ap, arith, get_or, is_some, length, nat_cmp, nat_eq, refl, slice_get, sym}
-use Rattle.std.specs.FinMap as map
+use Rattle.std.proofs.Common.{◌≡◌, ◌∙◌, ◌+◌, ℕ, Bool, None, Option, Some, ap, arith, get_or, is_some, nat_cmp, nat_eq, refl, sym}
 use Rattle.std.specs.Option.{option_map}
 use Rattle.std.specs.Ordering.{eq_by_cmp}
 use Rattle.qc_arena.specs.Map.{Arena, Known, is_open}

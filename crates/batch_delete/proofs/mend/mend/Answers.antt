@@ -1,6 +1,5 @@
-use Rattle.std.proofs.Common.{◌≡◌, ◌≤◌, ◌<◌, ◌∙◌, Option, Some, ap, arith, is_some, subst, sym}
-use Rattle.cube_defs.specs.Cell.{depth}
-use Rattle.qc_arena.specs.Map.{Arena, Known}
+use Rattle.std.proofs.Common.{◌≡◌, ◌≤◌, ◌<◌, ◌∙◌, Some, ap, is_some, subst, sym}
+use Rattle.qc_arena.specs.Map.{Arena}
 use Rattle.qc_arena.specs.Seen.{record_at}
 use Rattle.tree_search.proofs.Walked.{there_is}
 use Rattle.batch_delete.specs.Plan.{heir_in, led_to, next_entry}

@@ -1,4 +1,4 @@
-use Rattle.std.proofs.Common.{◌≡◌, ◌∙◌, ◌+◌, ◌-◌, ◌<◌, suc, ap, arith, nat_cmp, subst, sym, Some}
+use Rattle.std.proofs.Common.{◌≡◌, ◌∙◌, ◌+◌, suc, ap, arith, nat_cmp, subst, sym, Some}
 use Rattle.std.specs.Ordering.{eq_by_cmp}
 use Rattle.cell_core.specs.Entry.{value_in}
 use Rattle.tree_laws.specs.Walk.{front}

@@ -1,6 +1,5 @@
-use Rattle.std.proofs.Common.{◌≡◌, ◌∙◌, ◌+◌, ◌-◌, ◌<◌, ◌≤◌, ℕ, suc, ap, arith, length, sym, None, Some}
+use Rattle.std.proofs.Common.{◌≡◌, ◌∙◌, ◌+◌, ◌-◌, suc, ap, arith, length, sym, None, Some}
 use Rattle.cube_defs.specs.Cell.{keep}
-use Rattle.cube_defs.specs.Tree.{cell_at}
 use Rattle.batch_delete.specs.Rests.{source_before}
 use Rattle.batch_delete.proofs.Entries.{entry_is, keep_all, keep_value}
 use Rattle.batch_delete.proofs.GoingOn.{up_there, up_to, value_behind}

@@ -3,7 +3,7 @@ use Rattle.cube_defs.specs.Cell.{Cell, leq}
 use Rattle.batch_delete.specs.Below.{AreBelow}
 use Rattle.batch_delete.specs.Plan.{front_labels, last_any_of, planning}
 use Rattle.batch_delete.specs.Rests.{AreGreaterPlanned, ArePlanned}
-use Rattle.batch_delete.proofs.Fated.{greater_planned, none_planned, planned_more, planning_more}
+use Rattle.batch_delete.proofs.Fated.{greater_planned, planned_more, planning_more}
 use Rattle.batch_delete.proofs.Growing.{item_at}
 use Rattle.batch_delete.proofs.plan.plan_all.Goals as goal
 
