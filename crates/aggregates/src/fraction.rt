@@ -1,7 +1,7 @@
 // Fractions, as the values of aggregates and as they are asked for.
 ghost use Rattle.aggregates.specs.Bounds.{IsRatio, IsFraction};
 
-use crate::value::cross;
+use crate::value::order_of;
 use std::cmp::Ordering;
 
 /// The value of an aggregate, in lowest terms. Ratios are ordered by value.
@@ -69,6 +69,6 @@ impl Ord for Ratio {
     ghost matches_eq = { λ x y. refl };
 
     fn cmp(&self, other: &Ratio) -> Ordering {
-        cross(i128::from(self.num), other.den).cmp(&cross(i128::from(other.num), self.den))
+        order_of(self.num, self.den, other.num, other.den)
     }
 }

@@ -7,6 +7,7 @@ mod fraction;
 mod kind;
 pub mod laws;
 mod print;
+mod quotient;
 mod read;
 mod value;
 
@@ -14,6 +15,7 @@ pub use agg::{Agg, Part};
 pub use fraction::{Fraction, Ratio};
 pub use kind::AggKind;
 pub use print::{print_amount, print_number, print_ratio};
+pub use quotient::Quotient;
 pub use read::{read_amount, read_fraction, read_id};
 pub use value::{compare, mean, value_of};
 

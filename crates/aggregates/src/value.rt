@@ -1,10 +1,11 @@
 // What an aggregate comes to, as fractions in lowest terms.
 ghost use Rattle.std.specs.Prelude.{◌≡◌, ◌<◌, ◌≤◌, ◌*◌, ◌^◌, ◌*ℤ◌, pos, nat_abs, int_div};
+ghost use Rattle.std.specs.Ordering.{int_cmp};
 ghost use Rattle.cube_defs.specs.Answers.{fraction_cmp, part, value_of as value_in};
 ghost use Rattle.cube_defs.specs.Rows.{gcd, lowest_terms, mean_of};
 ghost use Rattle.aggregates.specs.Views.{IsThere, agg_in, fraction_in, kind_in, part_in, ratio_in};
 
-use crate::{Agg, AggKind, Fraction, Part, Ratio};
+use crate::{Agg, AggKind, Fraction, Part, Quotient, Ratio};
 use std::cmp::Ordering;
 
 /// The mean of a measure, in the measure's unit.
@@ -25,13 +26,7 @@ pub fn value_of(agg: &Agg, kind: AggKind, scale: u8) -> Ratio
     requires scale { scale ≤ 6 }
     ensures { ratio_in result ≡ value_in (kind_in kind) scale (agg_in agg.now) }
 {
-    match kind {
-        AggKind::Count => lowest(i64::from(agg.count), 1),
-        AggKind::Sum(measure) => scaled(part_at(agg, measure).sum, scale),
-        AggKind::Least(measure) => scaled(part_at(agg, measure).least, scale),
-        AggKind::Greatest(measure) => scaled(part_at(agg, measure).greatest, scale),
-        AggKind::Mean(measure) => mean(agg, measure, scale),
-    }
+    Quotient::of(agg, kind).in_lowest_terms(kind, scale)
 }
 
 /// The order of a value and what is asked, by value, without rounding.
@@ -48,18 +43,22 @@ pub(crate) fn cross(num: i128, den: u64) -> i128
     num * i128::from(den)
 }
 
-fn part_at(agg: &Agg, measure: u8) -> Part
+/// The order of two fractions by value. Over one denominator it is that of their numerators.
+pub(crate) fn order_of(num: i64, den: u64, other_num: i64, other_den: u64) -> Ordering
+    requires positive { 0 < den }
+    ensures { result ≡ int_cmp (num *ℤ pos other_den) (other_num *ℤ pos den) }
+{
+    if den == other_den {
+        return num.cmp(&other_num);
+    }
+    cross(i128::from(num), other_den).cmp(&cross(i128::from(other_num), den))
+}
+
+pub(crate) fn part_at(agg: &Agg, measure: u8) -> Part
     requires { measure < agg.now.measures }
     ensures { part_in result ≡ part (agg_in agg.now) measure }
 {
     agg.parts[usize::from(measure)]
-}
-
-fn scaled(amount: i64, scale: u8) -> Ratio
-    requires scale { scale ≤ 6 }
-    ensures { ratio_in result ≡ lowest_terms amount (10 ^ scale) }
-{
-    lowest(amount, power_of_ten(scale))
 }
 
 pub(crate) fn power_of_ten(scale: u8) -> u64
@@ -79,7 +78,7 @@ pub(crate) fn power_of_ten(scale: u8) -> u64
     }
 }
 
-fn lowest(num: i64, den: u64) -> Ratio
+pub(crate) fn lowest(num: i64, den: u64) -> Ratio
     requires positive { 0 < den }
     requires small { den ≤ 10 ^ 12 }
     ensures { ratio_in result ≡ lowest_terms num den }

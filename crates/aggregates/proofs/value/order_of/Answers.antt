@@ -1,0 +1,12 @@
+use Rattle.std.proofs.Common.{ap, ap₂, pos, w64, ℕ, ◌*ℤ◌, ◌∙◌}
+use Rattle.std.specs.Ordering.{int_cmp}
+use Rattle.std.proofs.lemmas.Int.{to_z-of_z}
+use Rattle.aggregates.proofs.Ratios.{order-over}
+use Rattle.aggregates.proofs.value.order_of.Goals as goal
+
+pub returns-then-den-other_den : goal.returns-then-den-other_den
+returns-then-den-other_den c =
+    c.cmp.ensures
+    ∙ ap₂ int_cmp (to_z-of_z w64 c.args.num c.ranges.num) (to_z-of_z w64 c.args.other_num c.ranges.other_num)
+    ∙ order-over c.args.num c.args.other_num c.args.den c.requires.positive
+    ∙ ap (λ (k : ℕ). int_cmp (c.args.num *ℤ pos k) (c.args.other_num *ℤ pos c.args.den)) c.if-den-other_den.true
