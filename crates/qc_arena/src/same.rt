@@ -46,15 +46,15 @@ fn same_agg(a: &Agg, b: &Agg) -> bool
 }
 
 /// Whether two classes, if they are ones, come to the same.
-pub(crate) fn same_class(a: Option<Agg>, b: Option<Agg>) -> bool
-    ensures same { result ≡ true → option_map agg_in a ≡ option_map agg_in b }
-    ensures other { result ≡ false → option_map agg_in a ≢ option_map agg_in b }
+pub(crate) fn same_class(a: &Option<Agg>, b: &Option<Agg>) -> bool
+    ensures same { result ≡ true → option_map agg_in a.now ≡ option_map agg_in b.now }
+    ensures other { result ≡ false → option_map agg_in a.now ≢ option_map agg_in b.now }
 {
     match a {
         None => b.is_none(),
         Some(one) => match b {
             None => false,
-            Some(two) => same_agg(&one, &two),
+            Some(two) => same_agg(one, two),
         },
     }
 }
