@@ -4,6 +4,6 @@ pub mod EntryLemmas
 pub mod Zips
 pub mod WalkLemmas
 pub mod Changed
-pub mod Listed
 pub mod Classes
 pub mod Measured
+pub mod Drafted

@@ -1,5 +1,6 @@
 -- Lists place by place.
-use Rattle.std.proofs.Common.{suc, ◌≡◌, List, [], ◌∷◌, ◌++◌, ap, drop, length, refl, subst, take, arith}
+use Rattle.std.proofs.Common.{suc, ◌≡◌, ℕ, ◌+◌, ◌<◌, List, [], ◌∷◌, ◌++◌, ap, drop, get_or, length, refl, sym, subst, take, ◌∙◌, arith}
+use Rattle.std.proofs.Math.Seq.{take-suc}
 use Rattle.std.specs.List.{All, AllZip}
 
 pub zip_more : {A B : Type 0} (R : A → B → Type 0) (xs : List A) (ys : List B) (x : A) (y : B) → AllZip R xs ys → R x y → AllZip R (xs ++ x ∷ []) (ys ++ y ∷ [])
@@ -19,3 +20,12 @@ written_over [] [] e = refl
 written_over [] (y ∷ ys) e = absurd (omega (arith, e))
 written_over (x ∷ xs) [] e = absurd (omega (arith, e))
 written_over (x ∷ xs) (y ∷ ys) e = ap (λ zs. x ∷ zs) (written_over xs ys (omega (arith, e)))
+
+-- one more place of two lists
+pub zip_next : {A B : Type 0} (R : A → B → Type 0) (xs : List A) (i : ℕ) (d x : A) (before now : List B) (y : B) → i < length xs → x ≡ get_or xs i d → AllZip R (take i xs) before → now ≡ before ++ y ∷ [] → R x y → AllZip R (take (i + 1) xs) now
+zip_next R xs i d x before now y l is are n one =
+    let next : suc i ≡ i + 1 = omega arith in
+    let front : take (i + 1) xs ≡ take i xs ++ get_or xs i d ∷ [] = ap (λ (m : ℕ). take m xs) (sym next) ∙ take-suc xs i d l in
+    subst (λ ys. AllZip R (take (i + 1) xs) ys) (sym n)
+    (subst (λ zs. AllZip R zs (before ++ y ∷ [])) (sym front)
+    (zip_more R (take i xs) before (get_or xs i d) y are (subst (λ z. R z y) is one)))

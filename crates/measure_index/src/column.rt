@@ -2,10 +2,14 @@
 ghost use Rattle.std.specs.Prelude.{IfOk, OnErr, OnOk, [], length, ◌<◌, ◌^◌, ◌≡◌, ◌≤◌};
 ghost use Rattle.measure_index.specs.Entries.{HaveMeasure};
 ghost use Rattle.measure_index.specs.Rankings.{IsRising, Ranking, no_entries};
-ghost use Rattle.measure_index.specs.Changes.{ArePlanned, Came, Lack, Went};
+ghost use Rattle.std.specs.List.{AllZip};
+ghost use Rattle.measure_index.specs.Changes.{ArePlanned, Came, HasChanged, Lack, Went};
+ghost use Rattle.measure_index.specs.Drafts.{IsDraft};
 
+use crate::draft::Draft;
+use crate::drafting::{drafts_of, sorted_entries};
 use crate::entry::{Entry, entries_of};
-use crate::keys::{coming_into, lacked_by, put_in, set_of, take_out};
+use crate::keys::{absent_from, lacked_by, put_in, set_of, take_out};
 use aggregates::{Agg, AggKind};
 use cell_core::NodeNo;
 use cube_defs::Memory;
@@ -74,7 +78,7 @@ impl Column {
     }
 
     /// What a change of classes brings and takes away: entries that are both added and removed stay.
-    /// What comes is in order, so that it goes in near to what came before it.
+    /// Both are in order, so that each is sought near to the one before it.
     pub(crate) fn plan(
         &self,
         alloc: Global,
@@ -85,21 +89,36 @@ impl Column {
         requires remove { HaveMeasure self.now.kind remove.now }
         ensures { IfOk result (λ plan. ArePlanned self.now add.now remove.now plan.coming.items plan.going.items) }
     {
-        let added = entries_of(alloc, self.kind, self.scale, add)?;
-        let removed = entries_of(alloc, self.kind, self.scale, remove)?;
+        let mut added = entries_of(alloc, self.kind, self.scale, add)?;
+        let mut removed = entries_of(alloc, self.kind, self.scale, remove)?;
+        added.sort_unstable();
+        removed.sort_unstable();
         let going = lacked_by(alloc, &added, &removed)?;
-        let mut coming = coming_into(alloc, &self.entries, added)?;
-        coming.sort_unstable();
+        let coming = absent_from(alloc, &self.entries, &added)?;
         Ok(Plan { coming, going })
     }
 
-    // Puts in the first entries, without a search for each.
-    fn fill(&mut self, alloc: Global, coming: &[Entry]) -> Result<(), Memory>
-        requires { self.old.entries ≡ [] }
-        ensures ok { OnOk result (Came coming.now self.old self.new) }
+    /// The values of some classes, to be put in once there is nothing else to be kept.
+    pub(crate) fn drafts(
+        &self,
+        alloc: Global,
+        classes: &[(NodeNo, Agg)],
+    ) -> Result<Vec<Draft>, Memory>
+        requires { HaveMeasure self.now.kind classes.now }
+        ensures { IfOk result (λ drafts. AllZip (IsDraft self.now.kind) classes.now drafts.items) }
+    {
+        drafts_of(alloc, self.kind, classes)
+    }
+
+    /// Puts classes into a column without entries, up to 4,294,967,295 of them, without a search for
+    /// each. A refusal leaves it as it was.
+    pub(crate) fn fill(&mut self, alloc: Global, drafts: Vec<Draft>) -> Result<(), Memory>
+        requires { length self.old.entries ≡ 0 }
+        ensures ok { OnOk result ((classes : _) → AllZip (IsDraft self.old.kind) classes drafts.items → HasChanged classes [] self.old self.new) }
         ensures err { OnErr result (self.new ≡ self.old) }
     {
-        let entries = set_of(alloc, coming)?;
+        let sorted = sorted_entries(alloc, self.kind, self.scale, drafts)?;
+        let entries = set_of(alloc, sorted)?;
         if entries.len() > u32::MAX as usize {
             return Err(AllocError);
         }
@@ -107,15 +126,19 @@ impl Column {
         Ok(())
     }
 
+    /// Takes all entries out.
+    pub(crate) fn clear(&mut self)
+        ensures { self.new ≡ no_entries self.old.kind self.old.scale }
+    {
+        self.entries.clear();
+    }
+
     /// Puts in entries that are not there, up to 4,294,967,295 in all. A refusal leaves all as it was.
-    pub(crate) fn put(&mut self, alloc: Global, coming: &[Entry]) -> Result<(), Memory>
+    pub(crate) fn put(&mut self, coming: &[Entry]) -> Result<(), Memory>
         requires { Lack self.old coming.now }
         ensures ok { OnOk result (Came coming.now self.old self.new) }
         ensures err { OnErr result (self.new ≡ self.old) }
     {
-        if self.entries.is_empty() {
-            return self.fill(alloc, coming);
-        }
         if self.entries.len() + coming.len() > u32::MAX as usize {
             return Err(AllocError);
         }

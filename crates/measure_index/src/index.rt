@@ -1,14 +1,14 @@
 // The classes in order of value, for each of some kinds.
 ghost use Rattle.std.specs.List.{AllZip};
 ghost use Rattle.std.specs.Option.{option_copied};
-ghost use Rattle.std.specs.Prelude.{All, IfOk, IsSome, None, OnErr, OnOk, Option, filter, is_some, length, map, reverse, ℕ, ◌≡◌, ◌≤◌};
+ghost use Rattle.std.specs.Prelude.{All, IfOk, IsSome, None, OnErr, OnOk, Option, [], filter, is_some, length, map, reverse, true, ℕ, ◌≡◌, ◌≤◌};
 ghost use Rattle.aggregates.specs.Views.{IsThere};
 ghost use Rattle.cube_defs.specs.Rows as defs;
 ghost use Rattle.qc_arena.specs.Changes.{AreNew};
 ghost use Rattle.measure_index.specs.Changes.{HasChanged};
 ghost use Rattle.measure_index.specs.Entries.{HaveMeasure};
 ghost use Rattle.measure_index.specs.Index.{empty_ranking, entries_of, kind_eq, ranking_of, scale_of, units};
-ghost use Rattle.measure_index.specs.Rankings.{IsIndex, IsRising, Ranking};
+ghost use Rattle.measure_index.specs.Rankings.{IsIndex, IsRising, Ranking, no_entries};
 ghost use Rattle.measure_index.specs.Walks.{is_at_least, is_at_most};
 
 use crate::column::Column;
@@ -75,7 +75,7 @@ fn change_columns(
         return Ok(());
     };
     let plan = first.plan(alloc, add, remove)?;
-    first.put(alloc, &plan.coming)?;
+    first.put(&plan.coming)?;
     match change_columns(alloc, rest, add, remove) {
         Ok(()) => {
             first.take(&plan.going);
@@ -86,6 +86,50 @@ fn change_columns(
             Err(error)
         }
     }
+}
+
+// Takes all entries out of all columns.
+fn clear_columns(columns: &mut [Column])
+    ensures { columns.new ≡ map (λ r. no_entries r.kind r.scale) columns.old }
+{
+    let Some((first, rest)) = columns.split_first_mut() else {
+        return;
+    };
+    first.clear();
+    clear_columns(rest);
+}
+
+// Puts classes into columns without entries. They are let go once their values are taken, before the first
+// column is filled.
+fn fill_columns(
+    alloc: Global,
+    columns: &mut [Column],
+    classes: Vec<(NodeNo, Agg)>,
+) -> Result<(), Memory>
+    requires empty { All (λ r. length r.entries ≡ 0) columns.old }
+    requires measures { All (λ r. HaveMeasure r.kind classes.items) columns.old }
+    ensures ok { OnOk result (AllZip (HasChanged classes.items []) columns.old columns.new) }
+    ensures units { units columns.new ≡ units columns.old }
+    ensures err { OnErr result (columns.new ≡ columns.old) }
+{
+    let Some((first, rest)) = columns.split_first_mut() else {
+        return Ok(());
+    };
+    let drafts = first.drafts(alloc, &classes)?;
+    fill_columns(alloc, rest, classes)?;
+    match first.fill(alloc, drafts) {
+        Ok(()) => Ok(()),
+        Err(error) => {
+            clear_columns(rest);
+            Err(error)
+        }
+    }
+}
+
+fn is_empty(column: &Column) -> bool
+    ensures { result ≡ true → length column.now.entries ≡ 0 }
+{
+    column.len() == 0
 }
 
 impl Index {
@@ -125,6 +169,27 @@ impl Index {
         ensures { result ≡ length (entries_of kind self.now) }
     {
         self.column(kind).unwrap().len()
+    }
+
+    /// Whether no kind has an entry.
+    pub fn is_empty(&self) -> bool
+        ensures { result ≡ true → All (λ r. length r.entries ≡ 0) self.now }
+    {
+        self.columns.iter().all(|column| is_empty(column))
+    }
+
+    /// Classes come into an index without entries. It takes no search for each, and so less time than
+    /// `change`, and less memory than to keep the classes meanwhile. A refusal leaves it as it was.
+    pub fn fill(&mut self, classes: Vec<(NodeNo, Agg)>) -> Result<(), Memory>
+        requires empty { All (λ r. length r.entries ≡ 0) self.old }
+        requires measures { All (λ r. HaveMeasure r.kind classes.items) self.old }
+        ensures entries { OnOk result (AllZip (HasChanged classes.items []) self.old self.new) }
+        ensures classes { OnOk result ((from to : ℕ → Option defs.Agg) → AreNew from to classes.items → AreNew to from [] → IsIndex from self.old → IsIndex to self.new) }
+        ensures units { units self.new ≡ units self.old }
+        ensures err { OnErr result (self.new ≡ self.old) }
+    {
+        let alloc = *self.columns.allocator();
+        fill_columns(alloc, &mut self.columns, classes)
     }
 
     /// The classes of `remove` go and those of `add` come, in each kind; an entry that is in both

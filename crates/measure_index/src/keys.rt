@@ -1,6 +1,7 @@
 // Keys that come into a set and go out of it.
 ghost use Rattle.std.specs.Prelude.{◌≡◌, ◌≤◌, ◌+◌, ◌&&◌, ◌||◌, length, not, false, IsTrue, IfOk, OnOk, OnErr};
 ghost use Rattle.std.specs.BTreeSet.{btree_set_len, contains, IsOrdered, IsSameSet};
+ghost use Rattle.std.specs.List.Sorted.{IsSorted};
 ghost use Rattle.measure_index.specs.Keys.{among};
 
 use cube_defs::Memory;
@@ -19,17 +20,15 @@ pub(crate) fn take_out<K: Ord + Copy>(set: &mut BTreeSet<K, Global>, items: &[K]
     }
 }
 
-/// A set of some keys. It takes no search for each.
+/// A set of some keys, which takes no search for each. It is made the more quickly where they are in order.
 pub(crate) fn set_of<K: Ord + Copy>(
     alloc: Global,
-    items: &[K],
+    items: Vec<K>,
 ) -> Result<BTreeSet<K, Global>, Memory>
-    ensures has { IfOk result (λ s. (q : K) → contains K.cmp s q ≡ among K.cmp items.now q) }
+    ensures has { IfOk result (λ s. (q : K) → contains K.cmp s q ≡ among K.cmp items.items q) }
     ensures ordered { IfOk result (λ s. IsOrdered K.cmp s) }
 {
-    let mut all = Vec::with_capacity(alloc, items.len())?;
-    all.extend_from_slice(items)?;
-    BTreeSet::from_iter(alloc, all)
+    BTreeSet::from_iter(alloc, items)
 }
 
 /// Puts keys in that are not there. A refusal leaves the set with the keys that it had.
@@ -56,8 +55,8 @@ pub(crate) fn put_in<K: Ord + Copy>(
     Ok(())
 }
 
-// The items that a set does not have.
-fn absent_from<K: Ord + Copy>(
+/// The items that a set does not have, in their order.
+pub(crate) fn absent_from<K: Ord + Copy>(
     alloc: Global,
     set: &BTreeSet<K, Global>,
     items: &Vec<K>,
@@ -73,31 +72,28 @@ fn absent_from<K: Ord + Copy>(
     Ok(out)
 }
 
-/// The keys that others lack.
-pub(crate) fn lacked_by<K: Ord + Copy>(
-    alloc: Global,
-    others: &Vec<K>,
-    items: &Vec<K>,
-) -> Result<Vec<K>, Memory>
-    ensures has { IfOk result (λ v. (q : K) → among K.cmp v.items q ≡ (among K.cmp items.now.items q && not (among K.cmp others.now.items q))) }
+// Whether a key is among some in order.
+fn is_among<K: Ord>(items: &[K], key: &K) -> bool
+    requires { IsSorted K.cmp items.now }
+    ensures { result ≡ among K.cmp items.now key.now }
 {
-    if items.is_empty() {
-        return Ok(Vec::new(alloc));
-    }
-    let set = set_of(alloc, others.as_slice())?;
-    absent_from(alloc, &set, items)
+    items.binary_search(key).is_ok()
 }
 
-/// The items that a set does not have. Where it is empty, that is all of them.
-pub(crate) fn coming_into<K: Ord + Copy>(
+/// The items that others lack, which are in order.
+pub(crate) fn lacked_by<K: Ord + Copy>(
     alloc: Global,
-    set: &BTreeSet<K, Global>,
-    items: Vec<K>,
+    others: &[K],
+    items: &Vec<K>,
 ) -> Result<Vec<K>, Memory>
-    ensures has { IfOk result (λ v. (q : K) → among K.cmp v.items q ≡ (among K.cmp items.items q && not (contains K.cmp set.now q))) }
+    requires { IsSorted K.cmp others.now }
+    ensures has { IfOk result (λ v. (q : K) → among K.cmp v.items q ≡ (among K.cmp items.now.items q && not (among K.cmp others.now q))) }
 {
-    if set.is_empty() {
-        return Ok(items);
+    let mut out = Vec::new(alloc);
+    for item in items {
+        if !is_among(others, item) {
+            out.push(*item)?;
+        }
     }
-    absent_from(alloc, set, &items)
+    Ok(out)
 }

@@ -2,6 +2,8 @@
 #![tactic(auto)]
 
 mod column;
+mod draft;
+mod drafting;
 mod entry;
 mod index;
 mod keys;

@@ -8,8 +8,8 @@ use Rattle.measure_index.proofs.keys.set_of.Goals as goal
 pub returns-clause-has : goal.returns-clause-has
 returns-clause-has g c =
     IfOk-weaker c.from_iter.result _ _
-    (λ s h. let all : IsFromIterResult g.K.Ord.cmp c.args.items.now s = subst (λ (l : List _). IsFromIterResult g.K.Ord.cmp l s) (All-taken h.0 h.1 ((h.3.2 tt).0, (h.3.0, h.3.1, (h.3.2 tt).1)) ∙ (h.2.0 ∙ (search rules))) h.4 in
-    λ q. all.0 q ∙ any_turned g.met.K.Ord.total c.args.items.now q) c.from_iter.ensures.ran
+    (λ s h. let all : IsFromIterResult g.K.Ord.cmp c.args.items.items s = subst (λ (l : List _). IsFromIterResult g.K.Ord.cmp l s) (All-taken h.0 h.1 ((h.3.2 tt).0, (h.3.0, h.3.1, (h.3.2 tt).1)) ∙ (h.2.0 ∙ (search rules))) h.4 in
+    λ q. all.0 q ∙ any_turned g.met.K.Ord.total c.args.items.items q) c.from_iter.ensures.ran
 
 pub returns-clause-ordered : goal.returns-clause-ordered
 returns-clause-ordered g c = IfOk-weaker c.from_iter.result _ _ (λ s h. h.4.1) c.from_iter.ensures.ran
