@@ -5,3 +5,4 @@ mod Building
 mod Steps
 mod Whole
 mod Ways
+mod Notes

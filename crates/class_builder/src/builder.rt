@@ -1,14 +1,17 @@
 // What the walk changes.
 ghost use Rattle.std.specs.Prelude.{◌≡◌};
 
+use crate::noted::Fronts;
 use crate::room::Room;
 use cell_core::Steps;
 use qc_arena::QcArena;
 use std::sync::ledger::Ledger;
 
-/// The arena in which a tree is built, room to part rows in, and the steps so far.
+/// The arena in which a tree is built, the nodes of tuples' fronts in it, room to part rows in, and
+/// the steps so far.
 pub(crate) struct Builder<'a, L: Ledger> {
     pub(crate) arena: &'a mut QcArena,
+    pub(crate) fronts: &'a mut Fronts,
     pub(crate) room: &'a mut Room,
     pub(crate) steps: &'a mut Steps<L>,
 }
@@ -20,6 +23,7 @@ impl<L: Ledger> Drop for Builder<'_, L> {
     {
         let Builder {
             arena: _arena,
+            fronts: _fronts,
             room: _room,
             steps: _steps,
         } = self;

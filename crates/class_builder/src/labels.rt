@@ -6,47 +6,51 @@ ghost use Rattle.std.specs.Prelude.{Err, IsSome, List, None, OnOk, Some, [], fal
 ghost use Rattle.std.specs.List.{AllByRecursion};
 ghost use Rattle.cube_defs.specs.Cell.{keep};
 ghost use Rattle.cube_defs.specs.Rows.{Row, covers};
-ghost use Rattle.cube_defs.specs.Tree.{nodes};
+ghost use Rattle.cube_defs.specs.Tree.{cell_at, nodes};
 ghost use Rattle.base_table.specs.Places.{AreThere, IsTable, named, rows_of};
 ghost use Rattle.cube_laws.specs.Parting.{shared_by};
 ghost use Rattle.build_trace.specs.Trace.{Act.{Label}};
 ghost use Rattle.build_trace.specs.Walk.{same_front};
 ghost use Rattle.qc_arena.specs.Map.{frame, is_open, is_touched};
 ghost use Rattle.build_acts.specs.Going.{Does, IsNext};
-ghost use Rattle.class_builder.specs.Walk.{IsGroup, IsOnPath, front_acts};
+ghost use Rattle.class_builder.specs.Walk.{IsGroup, IsOnPath, IsPart, front_acts};
+ghost use Rattle.class_builder.specs.Noted.{AreNoted};
 
 use crate::Memory;
 use crate::builder::Builder;
-use crate::part::{ChildEdge, Group};
+use crate::part::{ChildEdge, Group, Part};
 use crate::path::Path;
 use crate::upper::front_of;
 use build_acts::{add_child, set_link};
-use cell_core::Cell;
+use cell_core::NodeNo;
 use cube_defs::MAX_DIMS;
 use drill_links::descend;
 use qc_arena::ArenaRefused;
 use std::sync::ledger::Ledger;
 
-/// Adds the node of the cell's front with the dimension, in which the cell has the edge's code,
-/// below that of the front before it. The path goes on to it.
+/// Adds the node of the front with the dimension of what the rows share, who have the edge's code
+/// there, below that of the front before it. The path goes on to it.
 pub(crate) fn add_front<L: Ledger>(
     builder: &mut Builder<'_, L>,
-    cell: &Cell,
+    part: &Part<'_>,
     dim: u8,
     edge: ChildEdge,
     path: &mut Path,
 ) -> Result<(), ArenaRefused>
     requires opened { is_open builder.old.arena.now ≡ true }
     requires touched { (k : ℕ) → IsSome (map.get builder.old.arena.now.now k) → is_touched builder.old.arena.now k ≡ true }
-    requires long { length cell.now ≡ builder.old.arena.now.width }
+    requires part { IsPart part.now.table.now part.now.rows.now part.now.shared }
+    requires long { length part.now.shared ≡ builder.old.arena.now.width }
     requires few { builder.old.arena.now.width ≤ MAX_DIMS }
     requires dim { dim < builder.old.arena.now.width }
-    requires value { slice_index_or cell.now dim None ≡ Some edge.code }
+    requires value { slice_index_or part.now.shared dim None ≡ Some edge.code }
     requires small { IsCode edge.code }
-    requires path { IsOnPath builder.old.arena.now path.old cell.now dim }
-    ensures does { OnOk result ((measures : ℕ) (rows : List (Row ℕ)) → Does measures rows (front_acts edge.is_forced cell.now dim edge.code) builder.old.arena.now builder.new.arena.now) }
-    ensures path { OnOk result (IsOnPath builder.new.arena.now path.new cell.now (dim + 1)) }
-    ensures full { result ≡ Err ArenaRefused.Full → (measures : ℕ) (rows : List (Row ℕ)) → IsNext measures rows (front_acts edge.is_forced cell.now dim edge.code) builder.old.arena.now
+    requires path { IsOnPath builder.old.arena.now path.old part.now.shared dim }
+    requires fronts { AreNoted part.now.table.now builder.old.arena.now builder.old.fronts.now }
+    ensures does { OnOk result ((measures : ℕ) (rows : List (Row ℕ)) → Does measures rows (front_acts edge.is_forced part.now.shared dim edge.code) builder.old.arena.now builder.new.arena.now) }
+    ensures path { OnOk result (IsOnPath builder.new.arena.now path.new part.now.shared (dim + 1)) }
+    ensures fronts { OnOk result (AreNoted part.now.table.now builder.new.arena.now builder.new.fronts.now) }
+    ensures full { result ≡ Err ArenaRefused.Full → (measures : ℕ) (rows : List (Row ℕ)) → IsNext measures rows (front_acts edge.is_forced part.now.shared dim edge.code) builder.old.arena.now
         → builder.old.arena.now.max < length (nodes nat_cmp rows) }
     ensures frame { frame builder.new.arena.now ≡ frame builder.old.arena.now }
     ensures same { builder.new.arena.ghost_name ≡ builder.old.arena.ghost_name }
@@ -61,9 +65,39 @@ pub(crate) fn add_front<L: Ledger>(
     ) {
         Ok(node) => {
             path.set(dim + 1, node);
+            builder.fronts.note(part, dim, node);
             Ok(())
         }
         Err(error) => Err(error),
+    }
+}
+
+/// The node of the front with dimension `dim` of what a group's rows share, who share a value in
+/// dimension `at` that `upper` lacks: it is noted for them, or gone down to from the path.
+fn shared_front<L: Ledger>(
+    builder: &mut Builder<'_, L>,
+    group: &Group<'_>,
+    at: u8,
+    dim: u8,
+    path: &Path,
+) -> NodeNo
+    requires group { IsGroup group.now.table.now group.now.rows.now group.now.code group.now.upper.now dim }
+    requires at { at < dim }
+    requires front { same_front at (shared_by (named group.now.table.now group.now.rows.now)) group.now.upper.now ≡ true }
+    requires gains { same_front (suc at) (shared_by (named group.now.table.now group.now.rows.now)) group.now.upper.now ≡ false }
+    requires width { builder.old.arena.now.width ≡ group.now.table.now.dims }
+    requires next { IsNext group.now.table.now.measures (rows_of group.now.table.now) (Label false (keep dim group.now.upper.now) dim group.now.code (keep (suc dim) (shared_by (named group.now.table.now group.now.rows.now))) ∷ []) builder.old.arena.now }
+    requires path { IsOnPath builder.old.arena.now path.now group.now.upper.now dim }
+    requires fronts { AreNoted group.now.table.now builder.old.arena.now builder.old.fronts.now }
+    ensures node { cell_at builder.old.arena.now.now result.0 ≡ Some (keep (suc dim) (shared_by (named group.now.table.now group.now.rows.now))) }
+    ensures arena { builder.new.arena.now ≡ builder.old.arena.now }
+    ensures fronts { builder.new.fronts.now ≡ builder.old.fronts.now }
+    ensures same { builder.new.arena.ghost_name ≡ builder.old.arena.ghost_name }
+{
+    let target = front_of(group.table, group.rows, group.upper, at, dim);
+    match builder.fronts.find(group.rows[0], &target, dim) {
+        Some(node) => node,
+        None => descend(builder.arena, path.at(at), &target, at, dim, builder.steps),
     }
 }
 
@@ -83,12 +117,13 @@ pub(crate) fn link_part<L: Ledger>(
     requires width { builder.old.arena.now.width ≡ group.now.table.now.dims }
     requires next { IsNext group.now.table.now.measures (rows_of group.now.table.now) (Label false (keep dim group.now.upper.now) dim group.now.code (keep (suc dim) (shared_by (named group.now.table.now group.now.rows.now))) ∷ []) builder.old.arena.now }
     requires path { IsOnPath builder.old.arena.now path.now group.now.upper.now dim }
+    requires fronts { AreNoted group.now.table.now builder.old.arena.now builder.old.fronts.now }
     ensures does { OnOk result (Does group.now.table.now.measures (rows_of group.now.table.now) (Label false (keep dim group.now.upper.now) dim group.now.code (keep (suc dim) (shared_by (named group.now.table.now group.now.rows.now))) ∷ []) builder.old.arena.now builder.new.arena.now) }
+    ensures fronts { builder.new.fronts.now ≡ builder.old.fronts.now }
     ensures frame { frame builder.new.arena.now ≡ frame builder.old.arena.now }
     ensures same { builder.new.arena.ghost_name ≡ builder.old.arena.ghost_name }
 {
-    let target = front_of(group.table, group.rows, group.upper, at, dim);
-    let to = descend(builder.arena, path.at(at), &target, at, dim, builder.steps);
+    let to = shared_front(builder, group, at, dim, path);
     set_link(
         builder.arena,
         path.at(dim),

@@ -3,6 +3,7 @@
 
 mod builder;
 mod labels;
+mod noted;
 mod part;
 mod path;
 mod room;

@@ -6,8 +6,10 @@ ghost use Rattle.cube_defs.specs.Tree.{IsCanonical, nodes};
 ghost use Rattle.base_table.specs.Places.{named, rows_of};
 ghost use Rattle.qc_arena.specs.Map.{frame, is_open};
 ghost use Rattle.class_builder.specs.Walk.{IsPart};
+ghost use Rattle.class_builder.specs.Noted.{AreNoted};
 
 use crate::builder::Builder;
+use crate::noted::Fronts;
 use crate::part::Part;
 use crate::path::Path;
 use crate::room::Room;
@@ -47,9 +49,13 @@ pub fn build_classes<L: Ledger>(
         rows: &rows,
         shared: closure_of(table, &rows),
     };
+    let Ok(mut fronts) = Fronts::new(alloc, table) else {
+        return Err(ArenaRefused::Memory);
+    };
     let mut room = Room::new(alloc);
     let mut builder = Builder {
         arena,
+        fronts: &mut fronts,
         room: &mut room,
         steps,
     };
@@ -63,6 +69,7 @@ fn build_all<L: Ledger>(builder: &mut Builder<'_, L>, part: &Part<'_>) -> Result
     requires opened { is_open builder.old.arena.now ≡ true }
     requires empty { builder.old.arena.now.now ≡ map.empty }
     requires width { builder.old.arena.now.width ≡ part.now.table.now.dims }
+    requires fronts { AreNoted part.now.table.now builder.old.arena.now builder.old.fronts.now }
     ensures tree { OnOk result (IsCanonical nat_cmp part.now.table.now.measures (rows_of part.now.table.now) builder.new.arena.now.now) }
     ensures fits { OnOk result (length (nodes nat_cmp (rows_of part.now.table.now)) ≤ builder.old.arena.now.max) }
     ensures full { result ≡ Err ArenaRefused.Full → builder.old.arena.now.max < length (nodes nat_cmp (rows_of part.now.table.now)) }

@@ -7,6 +7,7 @@ ghost use Rattle.build_trace.specs.Trace.{acts_at, part_acts};
 ghost use Rattle.build_acts.specs.Going.{Does, IsNext};
 ghost use Rattle.qc_arena.specs.Map.{frame};
 ghost use Rattle.class_builder.specs.Walk.{IsGroup, IsOnPath, IsPart, acts_from};
+ghost use Rattle.class_builder.specs.Noted.{AreNoted};
 
 use crate::builder::Builder;
 use crate::labels::{add_front, link_part};
@@ -33,7 +34,9 @@ pub(crate) fn drill<L: Ledger>(
     requires width { builder.old.arena.now.width ≡ part.now.table.now.dims }
     requires next { IsNext part.now.table.now.measures (rows_of part.now.table.now) (acts_from part.now.table.now first (named part.now.table.now part.now.rows.now)) builder.old.arena.now }
     requires path { IsOnPath builder.old.arena.now path part.now.shared first }
+    requires fronts { AreNoted part.now.table.now builder.old.arena.now builder.old.fronts.now }
     ensures does { OnOk result (Does part.now.table.now.measures (rows_of part.now.table.now) (acts_from part.now.table.now first (named part.now.table.now part.now.rows.now)) builder.old.arena.now builder.new.arena.now) }
+    ensures fronts { OnOk result (AreNoted part.now.table.now builder.new.arena.now builder.new.fronts.now) }
     ensures full { result ≡ Err ArenaRefused.Full → builder.old.arena.now.max < length (nodes nat_cmp (rows_of part.now.table.now)) }
     ensures frame { frame builder.new.arena.now ≡ frame builder.old.arena.now }
     ensures same { builder.new.arena.ghost_name ≡ builder.old.arena.ghost_name }
@@ -68,8 +71,10 @@ fn drill_at<L: Ledger>(
     requires width { builder.old.arena.now.width ≡ part.now.table.now.dims }
     requires next { IsNext part.now.table.now.measures (rows_of part.now.table.now) (acts_at (acts_from part.now.table.now (dim + 1)) dim part.now.shared (slice_index_or part.now.shared dim None) (named part.now.table.now part.now.rows.now)) builder.old.arena.now }
     requires path { IsOnPath builder.old.arena.now path.old part.now.shared dim }
+    requires fronts { AreNoted part.now.table.now builder.old.arena.now builder.old.fronts.now }
     ensures does { OnOk result (Does part.now.table.now.measures (rows_of part.now.table.now) (acts_at (acts_from part.now.table.now (dim + 1)) dim part.now.shared (slice_index_or part.now.shared dim None) (named part.now.table.now part.now.rows.now)) builder.old.arena.now builder.new.arena.now) }
     ensures path { OnOk result (IsOnPath builder.new.arena.now path.new part.now.shared (dim + 1)) }
+    ensures fronts { OnOk result (AreNoted part.now.table.now builder.new.arena.now builder.new.fronts.now) }
     ensures full { result ≡ Err ArenaRefused.Full → builder.old.arena.now.max < length (nodes nat_cmp (rows_of part.now.table.now)) }
     ensures frame { frame builder.new.arena.now ≡ frame builder.old.arena.now }
     ensures same { builder.new.arena.ghost_name ≡ builder.old.arena.ghost_name }
@@ -80,7 +85,7 @@ fn drill_at<L: Ledger>(
                 code,
                 is_forced: true,
             };
-            add_front(builder, &part.shared, dim, edge, path)
+            add_front(builder, part, dim, edge, path)
         }
         Entry::Any => match drill_in(builder, part, dim, path) {
             Ok(()) => {
@@ -105,7 +110,9 @@ fn drill_in<L: Ledger>(
     requires width { builder.old.arena.now.width ≡ part.now.table.now.dims }
     requires next { IsNext part.now.table.now.measures (rows_of part.now.table.now) (acts_at (acts_from part.now.table.now (dim + 1)) dim part.now.shared None (named part.now.table.now part.now.rows.now)) builder.old.arena.now }
     requires path { IsOnPath builder.old.arena.now path.now part.now.shared dim }
+    requires fronts { AreNoted part.now.table.now builder.old.arena.now builder.old.fronts.now }
     ensures does { OnOk result (Does part.now.table.now.measures (rows_of part.now.table.now) (acts_at (acts_from part.now.table.now (dim + 1)) dim part.now.shared None (named part.now.table.now part.now.rows.now)) builder.old.arena.now builder.new.arena.now) }
+    ensures fronts { OnOk result (AreNoted part.now.table.now builder.new.arena.now builder.new.fronts.now) }
     ensures full { result ≡ Err ArenaRefused.Full → builder.old.arena.now.max < length (nodes nat_cmp (rows_of part.now.table.now)) }
     ensures frame { frame builder.new.arena.now ≡ frame builder.old.arena.now }
     ensures same { builder.new.arena.ghost_name ≡ builder.old.arena.ghost_name }
@@ -144,7 +151,9 @@ fn drill_part<L: Ledger>(
     requires width { builder.old.arena.now.width ≡ group.now.table.now.dims }
     requires next { IsNext group.now.table.now.measures (rows_of group.now.table.now) (part_acts (acts_from group.now.table.now (dim + 1)) dim group.now.upper.now group.now.code (named group.now.table.now group.now.rows.now)) builder.old.arena.now }
     requires path { IsOnPath builder.old.arena.now path.now group.now.upper.now dim }
+    requires fronts { AreNoted group.now.table.now builder.old.arena.now builder.old.fronts.now }
     ensures does { OnOk result (Does group.now.table.now.measures (rows_of group.now.table.now) (part_acts (acts_from group.now.table.now (dim + 1)) dim group.now.upper.now group.now.code (named group.now.table.now group.now.rows.now)) builder.old.arena.now builder.new.arena.now) }
+    ensures fronts { OnOk result (AreNoted group.now.table.now builder.new.arena.now builder.new.fronts.now) }
     ensures full { result ≡ Err ArenaRefused.Full → builder.old.arena.now.max < length (nodes nat_cmp (rows_of group.now.table.now)) }
     ensures frame { frame builder.new.arena.now ≡ frame builder.old.arena.now }
     ensures same { builder.new.arena.ghost_name ≡ builder.old.arena.ghost_name }
@@ -165,7 +174,7 @@ fn drill_part<L: Ledger>(
                 is_forced: false,
             };
             let mut below = *path;
-            match add_front(builder, &part.shared, dim, edge, &mut below) {
+            match add_front(builder, &part, dim, edge, &mut below) {
                 Ok(()) => drill(builder, &part, dim + 1, below),
                 Err(error) => Err(error),
             }

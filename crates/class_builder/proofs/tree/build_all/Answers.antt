@@ -9,6 +9,7 @@ use Rattle.build_trace.specs.Trace.{Act.{Add}}
 use Rattle.qc_arena.specs.Map.{Arena}
 use Rattle.class_builder.specs.Walk.{acts_from}
 use Rattle.class_builder.proofs.Building.{does_then, err_again, next_behind, next_front}
+use Rattle.class_builder.proofs.Notes.{noted_stay}
 use Rattle.class_builder.proofs.Whole.{first_next, no_cell, nodes_counted, root_going, root_path, tree_built}
 use Rattle.class_builder.proofs.tree.build_all.Goals as goal
 
@@ -27,6 +28,10 @@ drill-built-requires-clause-path g c =
     let long : length c.args.part.now.shared ≡ c.args.part.now.table.now.dims = ap length c.requires.part.shared ∙ shared_long c.args.part.now.table.now c.requires.part.table c.args.part.now.rows.now (there c.args.part.now.table.now c.args.part.now.rows.now c.requires.part.there) c.requires.part.some in
     root_path c.add_root.new.arena c.start.result c.args.part.now.shared c.args.builder.now.arena.now.width (long ∙ sym c.requires.width)
     (ap (λ k. cell_at c.add_root.new.arena.now k) c.start.ensures ∙ c.in-Ok.ensures.here)
+
+pub drill-built-requires-clause-fronts : goal.drill-built-requires-clause-fronts
+drill-built-requires-clause-fronts g c =
+    noted_stay 0 [] (Add (replicate c.args.builder.now.arena.now.width None) ∷ []) c.args.part.now.table.now c.args.builder.now.arena.now c.add_root.new.arena c.args.builder.now.fronts.now (c.in-Ok.ensures.made 0 []) c.requires.fronts
 
 pub returns-in-Ok-clause-tree : goal.returns-in-Ok-clause-tree
 returns-in-Ok-clause-tree g c =

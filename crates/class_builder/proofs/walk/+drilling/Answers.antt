@@ -16,6 +16,8 @@ use Rattle.class_builder.specs.Walk.{IsGroup, IsPart, acts_from, front_acts, nod
 use Rattle.build_trace.proofs.Fronts.{keep_all, keep_still}
 use Rattle.class_builder.proofs.Uppers.{AreCovered, differs_behind}
 use Rattle.class_builder.proofs.Building.{does_nothing, does_then, next_front, next_behind, path_stays, on_path, path_on, path_of}
+use Rattle.aggregates.specs.Views.{agg_in}
+use Rattle.class_builder.proofs.Notes.{noted_stay}
 use Rattle.class_builder.proofs.Steps.{acts_here, acts_end, part_new, part_old, parts_from, part_there, part_some, part_few, part_covered, part_value, part_is, part_small, parts_here, parts_end}
 use Rattle.class_builder.proofs.walk.+drilling.Goals as goal
 
@@ -26,7 +28,7 @@ drill-drill_at-requires g t c =
     let lt : c.dims.dim < table.dims = omega (arith, c.dims-test.true, c.dims-dim-end.ensures.value) in
     let next = next_front (acts_at (acts_from table (c.dims.dim + 1)) c.dims.dim c.args.part.now.shared (entry c.args.part.now.shared c.dims.dim) rows) (acts_from table (c.dims.dim + 1) rows) c.dims.builder.arena.now
     (subst (λ es. IsNext table.measures (rows_of table) es c.dims.builder.arena.now) (acts_here table c.dims.dim c.args.part.now.shared rows lt c.requires.part.shared) c.dims.invariant.next) in
-    λ κs h. (search rules, (h, (c.requires.part, (lt, (ap (λ (a : Arena). a.width) c.dims.invariant.rest ∙ c.requires.width, (next, c.dims.invariant.path))))))
+    λ κs h. (search rules, (h, (c.requires.part, (lt, (ap (λ (a : Arena). a.width) c.dims.invariant.rest ∙ c.requires.width, (next, (c.dims.invariant.path, c.dims.invariant.fronts)))))))
 
 pub drill-dims-preserved : goal.drill-dims-preserved
 drill-dims-preserved g t c =
@@ -40,6 +42,7 @@ drill-dims-preserved g t c =
       whole = λ b e. c.dims.invariant.whole b (subst (λ xs. Does table.measures (rows_of table) xs c.dims.builder.arena.now b) (sym here) (does_then es fs c.dims.builder.arena.now c.drill_at.new.builder.arena.now b c.in-Ok.ensures.does e));
       next = next_behind es fs c.dims.builder.arena.now c.drill_at.new.builder.arena.now (subst (λ xs. IsNext table.measures (rows_of table) xs c.dims.builder.arena.now) here c.dims.invariant.next) c.in-Ok.ensures.does;
       path = c.in-Ok.ensures.path;
+      fronts = c.in-Ok.ensures.fronts;
       rest = c.in-Ok.ensures.frame ∙ c.dims.invariant.rest;
       same = c.in-Ok.ensures.same ∙ c.dims.invariant.same;
     }
@@ -59,6 +62,14 @@ drill-returns-clause-does g t c =
     (subst (λ xs. Does table.measures (rows_of table) xs c.dims.builder.arena.now c.mark_class.new.arena)
     (ap (λ a. Mark (shared_by rows) a ∷ []) c.total-agg.ensures ∙ sym (acts_end table c.dims.dim rows le))
     (c.mark_class.ensures.made table.measures (rows_of table) (shared_by rows) at))
+
+pub drill-returns-clause-fronts : goal.drill-returns-clause-fronts
+drill-returns-clause-fronts g t c =
+    let table = c.args.part.now.table.now in
+    let u = c.args.part.now.shared in
+    let most : c.dims-2.result ≤ c.dims.dim = omega (arith, c.dims-test.false, c.dims-dim-end.ensures.value, c.dims-2.ensures.value) in
+    let at = on_path c.dims.builder.arena.now c.dims.path u c.dims.dim c.dims-2.result c.at.result.0 c.dims.invariant.path most c.at.ensures in
+    noted_stay 0 [] (Mark (keep c.dims-2.result u) (agg_in c.total-agg.result) ∷ []) table c.dims.builder.arena.now c.mark_class.new.arena c.dims.builder.fronts.now (c.mark_class.ensures.made 0 [] (keep c.dims-2.result u) at) c.dims.invariant.fronts
 
 pub drill_at-get-requires : goal.drill_at-get-requires
 drill_at-get-requires g t c =
@@ -111,7 +122,7 @@ drill_in-drill_part-requires g t c =
       value = ap (λ r. entry (shared_by (named table r)) c.args.dim) is ∙ part_value table c.requires.part.table nos here c.args.dim c.parts.k lt c.requires.dim ∙ ap (λ x. Some x) (sym v);
       small = subst IsCode (sym v) (part_small table c.requires.part.table nos here c.args.dim c.parts.k lt c.requires.dim);
     } in
-    λ κs h. (search rules, (h, (group, (ap (λ (a : Arena). a.width) c.parts.invariant.rest ∙ c.requires.width, (subst (λ xs. IsNext table.measures (rows_of table) xs c.parts.builder.arena.now) acts next, c.parts.invariant.path)))))
+    λ κs h. (search rules, (h, (group, (ap (λ (a : Arena). a.width) c.parts.invariant.rest ∙ c.requires.width, (subst (λ xs. IsNext table.measures (rows_of table) xs c.parts.builder.arena.now) acts next, (c.parts.invariant.path, c.parts.invariant.fronts))))))
 
 pub drill_in-parts-preserved : goal.drill_in-parts-preserved
 drill_in-parts-preserved g t c =
@@ -131,6 +142,7 @@ drill_in-parts-preserved g t c =
       whole = λ b e. c.parts.invariant.whole b (subst (λ xs. Does table.measures (rows_of table) xs c.parts.builder.arena.now b) (sym split) (does_then es fs c.parts.builder.arena.now c.drill_part.new.builder.arena.now b c.in-Ok-drill_part.ensures.does e));
       next = next_behind es fs c.parts.builder.arena.now c.drill_part.new.builder.arena.now (subst (λ xs. IsNext table.measures (rows_of table) xs c.parts.builder.arena.now) split c.parts.invariant.next) c.in-Ok-drill_part.ensures.does;
       path = path_stays es c.parts.builder.arena.now c.drill_part.new.builder.arena.now c.args.path.now c.args.part.now.shared c.args.dim c.in-Ok-drill_part.ensures.does c.parts.invariant.path;
+      fronts = c.in-Ok-drill_part.ensures.fronts;
       rest = c.in-Ok-drill_part.ensures.frame ∙ c.parts.invariant.rest;
       same = c.in-Ok-drill_part.ensures.same ∙ c.parts.invariant.same;
     }
@@ -170,7 +182,7 @@ drill_part-drill-requires g t c =
       there = c.requires.group.there;
       shared = c.narrowed.ensures;
     } in
-    λ κs h. (search rules, (h, (is_part, (omega (arith, c.requires.group.dim), (ap (λ (a : Arena). a.width) c.in-Ok-add_front.ensures.frame ∙ c.requires.width, (next, c.in-Ok-add_front.ensures.path))))))
+    λ κs h. (search rules, (h, (is_part, (omega (arith, c.requires.group.dim), (ap (λ (a : Arena). a.width) c.in-Ok-add_front.ensures.frame ∙ c.requires.width, (next, (c.in-Ok-add_front.ensures.path, c.in-Ok-add_front.ensures.fronts)))))))
 
 pub drill_part-returns-in-Ok-add_front-clause-does : goal.drill_part-returns-in-Ok-add_front-clause-does
 drill_part-returns-in-Ok-add_front-clause-does g t c =

@@ -4,6 +4,7 @@ use Rattle.build_trace.specs.Trace.{acts_at}
 use Rattle.build_acts.specs.Going.{Does, IsNext}
 use Rattle.qc_arena.specs.Map.{Arena, frame}
 use Rattle.class_builder.specs.Walk.{IsOnPath, acts_from}
+use Rattle.class_builder.specs.Noted.{AreNoted}
 use Rattle.class_builder.proofs.Steps.{parts_from}
 use Rattle.class_builder.proofs.walk.+drilling.Given as goal
 
@@ -26,6 +27,7 @@ invariant-drill-dims g l = record {
       → Does l.part.table.now.measures (rows_of l.part.table.now) (acts_from l.part.table.now l.first (named l.part.table.now l.part.rows.now)) l.fn.builder.arena.now c;
   next : IsNext l.part.table.now.measures (rows_of l.part.table.now) (acts_from l.part.table.now l.dim (named l.part.table.now l.part.rows.now)) l.builder.arena.now;
   path : IsOnPath l.builder.arena.now l.path l.part.shared l.dim;
+  fronts : AreNoted l.part.table.now l.builder.arena.now l.builder.fronts.now;
   rest : frame l.builder.arena.now ≡ frame l.fn.builder.arena.now;
   same : l.builder.arena.ghost_name ≡ l.fn.builder.arena.ghost_name;
 }
@@ -36,6 +38,7 @@ invariant-drill_in-parts g l = record {
       → Does l.part.table.now.measures (rows_of l.part.table.now) (acts_at (acts_from l.part.table.now (l.dim + 1)) l.dim l.part.shared None (named l.part.table.now l.part.rows.now)) l.fn.builder.arena.now c;
   next : IsNext l.part.table.now.measures (rows_of l.part.table.now) (parts_from l.part.table.now l.dim l.part.shared (named l.part.table.now l.part.rows.now) l.k) l.builder.arena.now;
   path : IsOnPath l.builder.arena.now l.path l.part.shared l.dim;
+  fronts : AreNoted l.part.table.now l.builder.arena.now l.builder.fronts.now;
   rest : frame l.builder.arena.now ≡ frame l.fn.builder.arena.now;
   same : l.builder.arena.ghost_name ≡ l.fn.builder.arena.ghost_name;
 }

@@ -1,4 +1,4 @@
-use Rattle.std.proofs.Common.{false, ◌≡◌, Some, suc, sym, ap, subst, ◌∙◌, arith}
+use Rattle.std.proofs.Common.{false, ◌≡◌, ◌<◌, Some, suc, sym, ap, subst, ◌∙◌, arith}
 use Rattle.cube_defs.specs.Cell.{keep}
 use Rattle.cube_laws.proofs.Cells.{nat_equality, cell_eq-exact}
 use Rattle.base_table.specs.Places.{named, rows_of}
@@ -10,17 +10,19 @@ use Rattle.cube_laws.proofs.Shared.{shared_some}
 use Rattle.class_builder.proofs.Uppers.{differs_behind, front_apart}
 use Rattle.class_builder.proofs.Fronts.{front_less}
 use Rattle.class_builder.proofs.Ways.{way_down}
-use Rattle.class_builder.proofs.labels.link_part.Goals as goal
+use Rattle.cell_closure.proofs.Rows.{there}
+use Rattle.class_builder.proofs.Notes.{found_front}
+use Rattle.class_builder.proofs.labels.shared_front.Goals as goal
 
-pub descend-to-requires-clause-from : goal.descend-to-requires-clause-from
-descend-to-requires-clause-from g c =
+pub descend-requires-clause-from : goal.descend-requires-clause-from
+descend-requires-clause-from g c =
     let shared = shared_by (named c.args.group.now.table.now c.args.group.now.rows.now) in
     let same : keep c.args.at shared ≡ keep c.args.at c.args.group.now.upper.now = cell_eq-exact nat_equality _ _ c.requires.front in
     on_path c.args.builder.now.arena.now c.args.path.now c.args.group.now.upper.now c.args.dim c.args.at c.at.result.0 c.requires.path (omega arith) c.at.ensures
     ∙ ap (λ b. Some b) (sym same ∙ sym (front_less c.args.at (suc c.args.dim) _ shared (omega arith) c.front_of-target.ensures.front))
 
-pub descend-to-requires-clause-way : goal.descend-to-requires-clause-way
-descend-to-requires-clause-way g c =
+pub descend-requires-clause-way : goal.descend-requires-clause-way
+descend-requires-clause-way g c =
     let shared = shared_by (named c.args.group.now.table.now c.args.group.now.rows.now) in
     let going = c.requires.next.going in
     way_down c.args.group.now.table.now.measures (rows_of c.args.group.now.table.now) c.requires.next.done _ c.args.builder.now.arena.now going c.front_of-target.result c.args.at c.args.dim
@@ -28,3 +30,10 @@ descend-to-requires-clause-way g c =
     (link_ready c.args.group.now.table.now.measures c.args.builder.now.arena.now.width (rows_of c.args.group.now.table.now) going.wide (shared_some (rows_of c.args.group.now.table.now) going.some) c.requires.next.done c.requires.next.rest false
     (keep c.args.dim c.args.group.now.upper.now) c.args.dim c.args.group.now.code (keep (suc c.args.dim) shared) going.whole
     (front_apart c.args.dim (suc c.args.dim) shared c.args.group.now.upper.now (omega arith) (differs_behind c.args.at c.args.dim shared c.args.group.now.upper.now c.requires.at c.requires.gains))))
+
+pub returns-in-Some-clause-node : goal.returns-in-Some-clause-node
+returns-in-Some-clause-node g c =
+    let t = c.args.group.now.table.now in
+    let within : c.args.dim < t.dims = c.requires.group.dim in
+    found_front t c.args.builder.now.arena.now c.args.builder.now.fronts.now c.args.group.now.rows.now c.front_of-target.result 0 c.args.dim c.in-Some.node.0 _ c.requires.group.table (there t c.args.group.now.rows.now c.requires.group.there) c.requires.group.some
+    within c.front_of-target.ensures.front c.in-Some.ensures.full c.requires.group.some c.requires.fronts c.in-Some.ensures.node c.in-Some.ensures.some

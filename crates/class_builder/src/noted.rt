@@ -1,0 +1,92 @@
+// The nodes of tuples' fronts.
+ghost use Rattle.std.specs.Prelude.{IfOk, IfSome, None, is_some, length, slice_index_or, suc, true, ℕ, ◌+◌, ◌*◌, ◌<◌, ◌≡◌, ◌≢◌, ◌≤◌};
+ghost use Rattle.cube_defs.specs.Cell.{keep};
+ghost use Rattle.cube_defs.specs.Tree.{cell_at};
+ghost use Rattle.base_table.specs.Places.{Places};
+ghost use Rattle.qc_arena.specs.Map.{Arena};
+ghost use Rattle.class_builder.specs.Noted.{AreNoted, IsFull, not_noted, noted};
+ghost use Rattle.class_builder.specs.Walk.{IsPart};
+
+use crate::Memory;
+use crate::part::Part;
+use base_table::{RowNo, Table};
+use cell_core::{Cell, Entry, NodeNo};
+use std::alloc::Global;
+
+/// For each row and dimension the node of the front, with this dimension, of the row's tuple, where
+/// it is noted.
+#[derive(Drop)]
+pub(crate) struct Fronts {
+    nodes: Vec<NodeNo>,
+    dims: u8,
+}
+
+// Stands where no node is noted.
+const NOT_NOTED: NodeNo = NodeNo(u32::MAX);
+
+impl Fronts {
+    /// Nothing is noted, and there is room to note a node for each row and dimension.
+    pub(crate) fn new(alloc: Global, table: &Table) -> Result<Fronts, Memory>
+        ensures none { IfOk result (λ fronts. (no d : ℕ) → noted fronts no d ≡ not_noted) }
+        ensures dims { IfOk result (λ fronts. fronts.dims ≡ table.now.dims) }
+    {
+        let dims = table.dims();
+        let mut nodes = Vec::new(alloc);
+        nodes.resize(table.places() as usize * dims as usize, NOT_NOTED)?;
+        Ok(Fronts { nodes, dims })
+    }
+
+    fn place(&self, row: RowNo, dim: u8) -> usize
+        ensures { result ≡ row.0 * self.now.dims + dim }
+    {
+        row.0 as usize * self.dims as usize + dim as usize
+    }
+
+    /// The node that is noted for the row, which the cell covers, where the cell has a value in each
+    /// dimension up to this one.
+    pub(crate) fn find(&self, row: RowNo, cell: &Cell, dim: u8) -> Option<NodeNo>
+        requires { dim < length cell.now }
+        ensures node { IfSome result (λ node. noted self.now row.0 dim ≡ node.0) }
+        ensures some { IfSome result (λ node. node.0 ≢ not_noted) }
+        ensures full { IfSome result (λ _. IsFull cell.now dim) }
+    {
+        if !is_full(cell, dim) {
+            return None;
+        }
+        let node = *self.nodes.get(self.place(row, dim))?;
+        if node == NOT_NOTED { None } else { Some(node) }
+    }
+
+    /// Notes the node of the front, with the dimension, of what the rows share, where they share a
+    /// value in each dimension up to it.
+    pub(crate) fn note(&mut self, part: &Part<'_>, dim: u8, node: NodeNo)
+        requires part { IsPart part.now.table.now part.now.rows.now part.now.shared }
+        requires dim { dim < length part.now.shared }
+        requires dims { self.old.dims ≡ length part.now.shared }
+        ensures { (arena : Arena) → AreNoted part.now.table.now arena self.old → cell_at arena.now node.0 ≡ Some (keep (suc dim) part.now.shared)
+            → AreNoted part.now.table.now arena self.new }
+    {
+        if is_full(&part.shared, dim) {
+            'rows: for row in part.rows {
+                let place = self.place(*row, dim);
+                if let Some(noted) = self.nodes.get_mut(place) {
+                    *noted = node;
+                }
+            }
+        }
+    }
+}
+
+/// Whether the cell has a value in each dimension up to this one.
+fn is_full(cell: &Cell, dim: u8) -> bool
+    requires { dim < length cell.now }
+    ensures { result ≡ true → IsFull cell.now dim }
+{
+    'dims: for i in 0..=dim {
+        match cell.get(i) {
+            Entry::Any => return false,
+            Entry::Is(_) => {}
+        }
+    }
+    true
+}
