@@ -1,5 +1,5 @@
 // The fields of a record that asks something of each dimension.
-ghost use Rattle.std.specs.Prelude.{◌≡◌, ◌≤◌, ◌++◌, ◌∷◌, [], List, All, length, IfOk, Err, IfErr, IfSome, OnOk, IsUtf8};
+ghost use Rattle.std.specs.Prelude.{◌≡◌, ◌≤◌, ◌++◌, ◌∷◌, [], false, List, All, length, IfOk, Err, IfErr, IfSome, OnOk, IsUtf8};
 ghost use Rattle.csv.specs.Records.{fields_of};
 ghost use Rattle.cube_defs.specs.Text.{Text};
 ghost use Rattle.query_script.specs.Commands.{record_in};
@@ -7,6 +7,7 @@ ghost use Rattle.cell_core.specs.Gives.{Gives};
 ghost use Rattle.query_script.specs.Faults.{line_fault_in};
 ghost use Rattle.query_script.specs.Fields.{field_of, value_of};
 ghost use Rattle.query_script.specs.Progress.{asked_after};
+ghost use Rattle.text_lines.specs.Lines.{begins_with_mark};
 ghost use Rattle.text_lines.specs.Records.{bytes_in};
 
 use crate::line::LineRefused;
@@ -113,6 +114,23 @@ pub fn check_count(shape: Shape, dims: u8, fields: Fields) -> Result<Fields, Lin
     Ok(fields)
 }
 
+// Reads the fields of all records of a text. Not inlined: a reader of records has tables of 16 KiB, which
+// whoever makes one clears as it is entered, and hardly a line has quotes.
+#[inline(never)]
+fn read_records(alloc: Global, shape: Shape, dims: u8, rest: &str) -> Result<Fields, LineRefused>
+    requires size { length rest.now ≤ MAX_FILE }
+    requires unmarked { begins_with_mark rest.now ≡ false }
+    ensures { Gives line_fault_in (λ fields. fields) result (record_in shape dims rest.now) }
+{
+    let mut rows = Rows::new(alloc, rest.as_bytes());
+    let mut row = ByteRecord::new(alloc);
+    let mut fields = Fields::new(alloc);
+    'records: while rows.next(&mut row)? {
+        push_fields(alloc, shape, dims, &row, &mut fields)?;
+    }
+    check_count(shape, dims, fields)
+}
+
 /// Reads what follows the word of a command that asks a cell, or a box of cells.
 pub fn read_fields(
     alloc: Global,
@@ -123,19 +141,12 @@ pub fn read_fields(
     requires { length rest.now ≤ MAX_FILE }
     ensures { Gives line_fault_in (λ fields. fields) result (record_in shape (length schema.now.dims) rest.now) }
 {
-    let text = rest.as_bytes();
-    if has_mark(text) {
+    if has_mark(rest.as_bytes()) {
         return Err(LineRefused::Field(1));
     }
     let dims = schema.dims();
     if is_plain(rest) {
         return read_plain(alloc, shape, dims, rest);
     }
-    let mut rows = Rows::new(alloc, text);
-    let mut row = ByteRecord::new(alloc);
-    let mut fields = Fields::new(alloc);
-    'records: while rows.next(&mut row)? {
-        push_fields(alloc, shape, dims, &row, &mut fields)?;
-    }
-    check_count(shape, dims, fields)
+    read_records(alloc, shape, dims, rest)
 }

@@ -4,7 +4,7 @@ use Rattle.query_script.specs.Fields.{field_of}
 use Rattle.query_script.specs.Progress.{asked_after}
 use Rattle.cube_defs.specs.declared.limits.TheConstants.{MAX_FILE}
 use Rattle.text_lines.specs.Records.{bytes_in_all}
-use Rattle.query_script.proofs.record.read_fields.Given as goal
+use Rattle.query_script.proofs.record.read_records.Given as goal
 
 abbrev pub invariant-records : goal.invariant-records
 invariant-records l = record {
