@@ -2,6 +2,7 @@ mod Asked
 mod ClassTold
 mod Ended
 mod Found
+mod Handed
 mod Kept
 mod Measured
 mod Named

@@ -1,12 +1,11 @@
 -- How one line goes on from those before.
-use Rattle.std.proofs.Common.{◌≡◌, ◌<◌, ◌≤◌, ◌+◌, ◌∙◌, ℕ, zero, suc, List, [], ◌∷◌, ◌++◌, length, take, get_or, true, false, refl, sym, arith, ap, Some, None, IfSome, inl, inr, append-nil, append_assoc, length-append, add-one}
+use Rattle.std.proofs.Common.{◌≡◌, ◌<◌, ◌≤◌, ◌+◌, ◌∙◌, ℕ, zero, suc, List, [], ◌∷◌, ◌++◌, length, get_or, true, false, refl, sym, arith, ap, Some, None, IfSome, inl, inr, append-nil, append_assoc, length-append, add-one}
 use Rattle.std.specs.Prelude.{Option, fold}
 use Rattle.std.specs.List.{AllByRecursion}
 use Rattle.std.proofs.lemmas.List.Sums.{fold-append}
 use Rattle.std.proofs.lemmas.Bool.Decides.{nat_tests}
-use Rattle.std.proofs.Math.Seq.{take-append-add}
 use Rattle.qc_io.specs.Outside.{Told, taking}
-use Rattle.qc_io.proofs.Steps.{taking-taking}
+use Rattle.qc_session.specs.Handed.{IsHandedOn, TookFront}
 use Rattle.qc_session.specs.Lines.{is_passed}
 use Rattle.reply_text.specs.Replies.{memory_text}
 use Rattle.qc_session.specs.Answers.{answer, file_of}
@@ -16,7 +15,8 @@ use Rattle.qc_session.specs.Runs.{AreRising, AreSkipped, StoppedAt, StoppedWriti
 use Rattle.std.specs.Prelude.{⊤}
 use Rattle.qc_session.specs.declared.session.Stop.{Stop}
 use Rattle.qc_session.specs.declared.session.Stop.TheVariants as stops
-use Rattle.qc_session.specs.Session.{AreUpTo, IfStop, Replies, Skips, WroteLine, WrotePart}
+use Rattle.qc_session.specs.Session.{AreUpTo, Gathered, IfStop, Replies, Skips, WroteLine, WrotePart}
+use Rattle.qc_session.proofs.Handed.{front-on, front-then, handed-none, handed-on, handed-then, taken-count}
 
 not_skipped : (number : ℕ) (skipped : List ℕ) → AreUpTo number skipped → is_skipped skipped (number + 1) ≡ false
 not_skipped number [] h = refl
@@ -37,33 +37,34 @@ replies-memory t skipped number state line passed = record { is = λ replies. rw
 replies-passed : (t : Told) (skipped : List ℕ) (number : ℕ) (state : State) (line : List ℕ) → is_passed line ≡ true → Replies t skipped (number + 1) state line state []
 replies-passed t skipped number state line passed = record { is = λ replies. rw (passed, append-nil replies) refl }
 
-pub wrote-answer : (told : Option Told) (skipped : List ℕ) (number : ℕ) (state : State) (line : List ℕ) (state2 : State) (reply : List ℕ) (before now : Option (List ℕ)) → is_passed line ≡ false → AreUpTo number skipped
-    → IfSome told (λ t. answer state t (number + 1) line ≡ Some (record { state = state2; reply = reply })) → now ≡ taking reply before → WroteLine told skipped (number + 1) state line state2 before now
-wrote-answer None skipped number state line state2 reply before now passed up e w = tt
-wrote-answer (Some t) skipped number state line state2 reply before now passed up e w = (reply, replies-answer t skipped number state line state2 reply passed up e, w)
+pub wrote-answer : (told : Option Told) (skipped : List ℕ) (number : ℕ) (state : State) (line : List ℕ) (state2 : State) (reply kept kept2 : List ℕ) (before now : Option (List ℕ)) → is_passed line ≡ false → AreUpTo number skipped
+    → IfSome told (λ t. answer state t (number + 1) line ≡ Some (record { state = state2; reply = reply })) → IsHandedOn (kept ++ reply) kept2 before now → WroteLine told skipped (number + 1) state line state2 kept kept2 before now
+wrote-answer None skipped number state line state2 reply kept kept2 before now passed up e w = tt
+wrote-answer (Some t) skipped number state line state2 reply kept kept2 before now passed up e w = (reply, replies-answer t skipped number state line state2 reply passed up e, w)
 
-pub part-answer : (told : Option Told) (skipped : List ℕ) (number : ℕ) (state : State) (line : List ℕ) (state2 : State) (reply : List ℕ) (n : ℕ) (before now : Option (List ℕ)) → is_passed line ≡ false → AreUpTo number skipped
-    → IfSome told (λ t. answer state t (number + 1) line ≡ Some (record { state = state2; reply = reply })) → now ≡ taking (take n reply) before → WrotePart told skipped (number + 1) state line state2 before now
-part-answer None skipped number state line state2 reply n before now passed up e w = tt
-part-answer (Some t) skipped number state line state2 reply n before now passed up e w = (reply, n, replies-answer t skipped number state line state2 reply passed up e, w)
+pub part-answer : (told : Option Told) (skipped : List ℕ) (number : ℕ) (state : State) (line : List ℕ) (state2 : State) (reply kept : List ℕ) (before now : Option (List ℕ)) → is_passed line ≡ false → AreUpTo number skipped
+    → IfSome told (λ t. answer state t (number + 1) line ≡ Some (record { state = state2; reply = reply })) → TookFront (kept ++ reply) before now → WrotePart told skipped skipped (number + 1) state line state2 kept before now
+part-answer None skipped number state line state2 reply kept before now passed up e w = tt
+part-answer (Some t) skipped number state line state2 reply kept before now passed up e w = inr (reply, replies-answer t skipped number state line state2 reply passed up e, w)
 
-pub wrote-memory : (told : Option Told) (skipped new : List ℕ) (number : ℕ) (state state2 : State) (line : List ℕ) (before now : Option (List ℕ)) → is_passed line ≡ false → new ≡ skipped ++ (number + 1) ∷ []
-    → state2 ≡ state → now ≡ taking (memory_text (number + 1)) before → WroteLine told new (number + 1) state line state2 before now
-wrote-memory None skipped new number state state2 line before now passed is same w = tt
-wrote-memory (Some t) skipped new number state state2 line before now passed is same w = (memory_text (number + 1), rw (is, same) (replies-memory t skipped number state line passed), w)
+pub wrote-memory : (told : Option Told) (skipped new : List ℕ) (number : ℕ) (state state2 : State) (line kept kept2 : List ℕ) (before now : Option (List ℕ)) → is_passed line ≡ false → new ≡ skipped ++ (number + 1) ∷ []
+    → state2 ≡ state → IsHandedOn (kept ++ memory_text (number + 1)) kept2 before now → WroteLine told new (number + 1) state line state2 kept kept2 before now
+wrote-memory None skipped new number state state2 line kept kept2 before now passed is same w = tt
+wrote-memory (Some t) skipped new number state state2 line kept kept2 before now passed is same w = (memory_text (number + 1), rw (is, same) (replies-memory t skipped number state line passed), w)
 
-pub part-memory : (told : Option Told) (skipped new : List ℕ) (number : ℕ) (state state2 : State) (line : List ℕ) (n : ℕ) (before now : Option (List ℕ)) → is_passed line ≡ false → new ≡ skipped ++ (number + 1) ∷ []
-    → state2 ≡ state → now ≡ taking (take n (memory_text (number + 1))) before → WrotePart told new (number + 1) state line state2 before now
-part-memory None skipped new number state state2 line n before now passed is same w = tt
-part-memory (Some t) skipped new number state state2 line n before now passed is same w = (memory_text (number + 1), n, rw (is, same) (replies-memory t skipped number state line passed), w)
+pub part-memory : (told : Option Told) (skipped new : List ℕ) (number : ℕ) (state state2 : State) (line kept : List ℕ) (before now : Option (List ℕ)) → is_passed line ≡ false → new ≡ skipped ++ (number + 1) ∷ []
+    → state2 ≡ state → TookFront (kept ++ memory_text (number + 1)) before now → WrotePart told skipped new (number + 1) state line state2 kept before now
+part-memory None skipped new number state state2 line kept before now passed is same w = tt
+part-memory (Some t) skipped new number state state2 line kept before now passed is same w = inr (memory_text (number + 1), rw (is, same) (replies-memory t skipped number state line passed), w)
 
-taking-nil : (taken : Option (List ℕ)) → taken ≡ taking [] taken
-taking-nil None = refl
-taking-nil (Some xs) = ap Some (sym (append-nil xs))
+-- the line wasn't taken
+pub part-before : (told : Option Told) (skipped : List ℕ) (number : ℕ) (state : State) (line : List ℕ) (state2 : State) (kept : List ℕ) (before now : Option (List ℕ)) → TookFront kept before now → WrotePart told skipped skipped number state line state2 kept before now
+part-before None skipped number state line state2 kept before now w = tt
+part-before (Some t) skipped number state line state2 kept before now w = inl (refl, w)
 
-pub wrote-passed : (told : Option Told) (skipped : List ℕ) (number : ℕ) (state : State) (line : List ℕ) (before : Option (List ℕ)) → is_passed line ≡ true → WroteLine told skipped (number + 1) state line state before before
-wrote-passed None skipped number state line before passed = tt
-wrote-passed (Some t) skipped number state line before passed = ([], replies-passed t skipped number state line passed, taking-nil before)
+pub wrote-passed : (told : Option Told) (skipped : List ℕ) (number : ℕ) (state : State) (line kept : List ℕ) (before : Option (List ℕ)) → is_passed line ≡ true → WroteLine told skipped (number + 1) state line state kept kept before before
+wrote-passed None skipped number state line kept before passed = tt
+wrote-passed (Some t) skipped number state line kept before passed = ([], replies-passed t skipped number state line passed, rw (append-nil kept) (handed-none kept before))
 
 -- a number past all lines makes no difference
 items-later : (skipped : List ℕ) (n k : ℕ) (lines : List (List ℕ)) → n + length lines < k → items (skipped ++ k ∷ []) n lines ≡ items skipped n lines
@@ -104,73 +105,82 @@ took-skips t start skipped new lines line state replies (inr more) took =
     let past : 0 + length lines < length lines + 1 = omega arith in
     record { is = rw (more.0, items-later skipped 0 (length lines + 1) lines past) took.is }
 
--- what a loop over the lines knows: out took the replies of the lines so far, in this state
-pub record WroteTo (told : Told) (start : State) (skipped : List ℕ) (lines : List (List ℕ)) (state : State) (before now : Option (List ℕ)) : Type 0 where
-  pub replies : List ℕ
-  pub took : Took told start skipped lines state replies
-  pub wrote : now ≡ taking replies before
+-- what a loop over the lines knows
+abbrev pub GatheredSoFar : Option Told → State → List ℕ → List (List ℕ) → State → List ℕ → Option (List ℕ) → Option (List ℕ) → Type 0
+GatheredSoFar told start skipped lines state kept before now = IfSome told (λ t. Gathered t start skipped lines state kept before now)
 
-abbrev pub WroteSoFar : Option Told → State → List ℕ → List (List ℕ) → State → Option (List ℕ) → Option (List ℕ) → Type 0
-WroteSoFar told start skipped lines state before now = IfSome told (λ t. WroteTo t start skipped lines state before now)
-
-pub so_far-none : (told : Option Told) (start : State) (first : Option (List ℕ)) → WroteSoFar told start [] [] start first first
+pub so_far-none : (told : Option Told) (start : State) (first : Option (List ℕ)) → GatheredSoFar told start [] [] start [] first first
 unfolding transcript items
 so_far-none None start first = tt
-so_far-none (Some t) start first = record { replies = []; took = record { is = refl }; wrote = taking-nil first }
+so_far-none (Some t) start first = record { replies = []; took = record { is = refl }; handed = handed-none [] first }
 
 -- the lines so far with one line more
-pub so_far-push : (told : Option Told) (start : State) (skipped new : List ℕ) (lines : List (List ℕ)) (line : List ℕ) (number : ℕ) (state state2 : State) (first before now : Option (List ℕ)) → length lines ≡ number
-    → Skips skipped (number + 1) line new → WroteSoFar told start skipped lines state first before → WroteLine told new (number + 1) state line state2 before now → WroteSoFar told start new (lines ++ line ∷ []) state2 first now
-so_far-push None start skipped new lines line number state state2 first before now len skips w h = tt
-so_far-push (Some t) start skipped new lines line number state state2 first before now len skips w h =
-    let (reply, gives, is) = h in
+pub so_far-push : (told : Option Told) (start : State) (skipped new : List ℕ) (lines : List (List ℕ)) (line : List ℕ) (number : ℕ) (state state2 : State) (kept kept2 : List ℕ) (first before now : Option (List ℕ)) → length lines ≡ number
+    → Skips skipped (number + 1) line new → GatheredSoFar told start skipped lines state kept first before → WroteLine told new (number + 1) state line state2 kept kept2 before now → GatheredSoFar told start new (lines ++ line ∷ []) state2 kept2 first now
+so_far-push None start skipped new lines line number state state2 kept kept2 first before now len skips w h = tt
+so_far-push (Some t) start skipped new lines line number state state2 kept kept2 first before now len skips w h =
+    let (reply, gives, on) = h in
     record {
       replies = w.replies ++ reply;
       took = took-push t start new lines line state w.replies state2 reply (took-skips t start skipped new lines line state w.replies (rw len skips) w.took) (rw len gives);
-      wrote = is ∙ ap (taking reply) w.wrote ∙ taking-taking w.replies reply first;
+      handed = handed-on w.replies reply kept kept2 first before now w.handed on;
     }
 
--- the lines so far with a part of one line's reply
-pub front-push : (told : Option Told) (start : State) (skipped new : List ℕ) (lines : List (List ℕ)) (line : List ℕ) (rest : List (List ℕ)) (number : ℕ) (state state2 : State) (first before now : Option (List ℕ)) → length lines ≡ number
-    → Skips skipped (number + 1) line new → WroteSoFar told start skipped lines state first before → WrotePart told new (number + 1) state line state2 before now → (all : List (List ℕ)) → all ≡ (lines ++ line ∷ []) ++ rest
+-- out took a front of the replies of the lines so far
+stopped-writing : (t : Told) (start : State) (skipped : List ℕ) (lines rest all : List (List ℕ)) (state : State) (replies : List ℕ) (first now : Option (List ℕ)) → Took t start skipped lines state replies → TookFront replies first now → all ≡ lines ++ rest
+    → StoppedWriting t start skipped all first now
+stopped-writing t start skipped lines rest all state replies first now took front split =
+    let (count, is) = taken-count replies first now front in
+    record { done = lines; rest = rest; split = split; wrote = record { state = state; replies = replies; count = count; took = took; wrote = is } }
+
+-- the same with a part of one line's reply
+pub front-push : (told : Option Told) (start : State) (skipped new : List ℕ) (lines : List (List ℕ)) (line : List ℕ) (rest : List (List ℕ)) (number : ℕ) (state state2 : State) (kept : List ℕ) (first before now : Option (List ℕ)) → length lines ≡ number
+    → Skips skipped (number + 1) line new → GatheredSoFar told start skipped lines state kept first before → WrotePart told skipped new (number + 1) state line state2 kept before now → (all : List (List ℕ)) → all ≡ lines ++ line ∷ rest
     → IfSome told (λ t. StoppedWriting t start new all first now)
-front-push None start skipped new lines line rest number state state2 first before now len skips w h all split = tt
-front-push (Some t) start skipped new lines line rest number state state2 first before now len skips w h all split =
-    let (reply, n, gives, is) = h in
-    record {
-      done = lines ++ line ∷ [];
-      rest = rest;
-      split = split;
-      wrote = record {
-        state = state2;
-        replies = w.replies ++ reply;
-        count = length w.replies + n;
-        took = took-push t start new lines line state w.replies state2 reply (took-skips t start skipped new lines line state w.replies (rw len skips) w.took) (rw len gives);
-        wrote = is ∙ ap (taking (take n reply)) w.wrote ∙ taking-taking w.replies (take n reply) first ∙ ap (λ (xs : List ℕ). taking xs first) (sym (take-append-add w.replies reply n));
-      };
-    }
+front-push None start skipped new lines line rest number state state2 kept first before now len skips w h all split = tt
+front-push (Some t) start skipped new lines line rest number state state2 kept first before now len skips w (inl untaken) all split =
+    stopped-writing t start new lines (line ∷ rest) all state w.replies first now (rw untaken.0 w.took) (front-then w.replies kept first before now w.handed untaken.1) split
+front-push (Some t) start skipped new lines line rest number state state2 kept first before now len skips w (inr taken) all split =
+    let (reply, gives, front) = taken in
+    stopped-writing t start new (lines ++ line ∷ []) rest all state2 (w.replies ++ reply) first now
+    (took-push t start new lines line state w.replies state2 reply (took-skips t start skipped new lines line state w.replies (rw len skips) w.took) (rw len gives))
+    (front-on w.replies reply kept first before now w.handed front)
+    (split ∙ sym (append_assoc lines (line ∷ []) rest))
 
-pub stopped-at : (told : Option Told) (sure : Type 0) (start : State) (skipped new : List ℕ) (lines : List (List ℕ)) (line : List ℕ) (rest : List (List ℕ)) (name : List ℕ) (state : State) (first before now : Option (List ℕ))
-    → file_of state.schema line ≡ Some name → new ≡ skipped → now ≡ before → WroteSoFar told start skipped lines state first before
+-- the same at the end of the lines
+pub front-end : (told : Option Told) (start : State) (skipped : List ℕ) (lines all : List (List ℕ)) (state : State) (kept : List ℕ) (first before now : Option (List ℕ)) → GatheredSoFar told start skipped lines state kept first before → TookFront kept before now
+    → all ≡ lines ++ [] → IfSome told (λ t. StoppedWriting t start skipped all first now)
+front-end None start skipped lines all state kept first before now w front split = tt
+front-end (Some t) start skipped lines all state kept first before now w front split =
+    stopped-writing t start skipped lines [] all state w.replies first now w.took (front-then w.replies kept first before now w.handed front) split
+
+-- all that was kept is handed on
+all-handed : (replies kept : List ℕ) (first before now : Option (List ℕ)) → IsHandedOn replies kept first before → IsHandedOn kept [] before now → now ≡ taking replies first
+all-handed replies kept first before now h end =
+    let whole = handed-then replies kept [] first before now h end in
+    whole.took ∙ ap (λ (xs : List ℕ). taking xs first) (sym (whole.split ∙ append-nil whole.front))
+
+pub stopped-at : (told : Option Told) (sure : Type 0) (start : State) (skipped new : List ℕ) (lines : List (List ℕ)) (line : List ℕ) (rest : List (List ℕ)) (name : List ℕ) (state : State) (kept : List ℕ) (first before now : Option (List ℕ))
+    → file_of state.schema line ≡ Some name → new ≡ skipped → IsHandedOn kept [] before now → GatheredSoFar told start skipped lines state kept first before
     → (sure → IfSome told (λ t. t name ≡ None)) → (all : List (List ℕ)) → all ≡ lines ++ line ∷ rest
     → IfSome told (λ t. StoppedAt t sure start new all name first now)
-stopped-at None sure start skipped new lines line rest name state first before now names is stays w untold all split = tt
-stopped-at (Some t) sure start skipped new lines line rest name state first before now names is stays w untold all split = record {
+stopped-at None sure start skipped new lines line rest name state kept first before now names is end w untold all split = tt
+stopped-at (Some t) sure start skipped new lines line rest name state kept first before now names is end w untold all split = record {
   done = lines;
   line = line;
   rest = rest;
   split = split;
   names = names;
-  wrote = record { state = state; replies = w.replies; took = rw is w.took; wrote = stays ∙ w.wrote };
+  wrote = record { state = state; replies = w.replies; took = rw is w.took; wrote = all-handed w.replies kept first before now w.handed end };
   untold = untold;
 }
 
-pub wrote-all : (told : Option Told) (start : State) (skipped : List ℕ) (lines all : List (List ℕ)) (state : State) (first now : Option (List ℕ)) → all ≡ lines ++ [] → WroteSoFar told start skipped lines state first now
-    → IfSome told (λ t. WroteAll t start skipped all (Some state) first now)
-wrote-all None start skipped lines all state first now e w = tt
-wrote-all (Some t) start skipped lines all state first now e w =
+pub wrote-all : (told : Option Told) (start : State) (skipped : List ℕ) (lines all : List (List ℕ)) (state : State) (kept : List ℕ) (first before now : Option (List ℕ)) → all ≡ lines ++ [] → GatheredSoFar told start skipped lines state kept first before
+    → IsHandedOn kept [] before now → IfSome told (λ t. WroteAll t start skipped all (Some state) first now)
+wrote-all None start skipped lines all state kept first before now e w end = tt
+wrote-all (Some t) start skipped lines all state kept first before now e w end =
     let same : all ≡ lines = e ∙ append-nil lines in
-    record { wrote = record { state = state; replies = w.replies; took = rw same w.took; wrote = w.wrote }; ended = refl }
+    record { wrote = record { state = state; replies = w.replies; took = rw same w.took; wrote = all-handed w.replies kept first before now w.handed end }; ended = refl }
 
 pub skips-up_to : (number : ℕ) (line old new : List ℕ) → AreUpTo number old → Skips old (number + 1) line new → AreUpTo (number + 1) new
 skips-up_to number line old new up (inl same) = rw same (wider old up)

@@ -1,4 +1,5 @@
 pub mod Lines
+pub mod Handed
 pub mod Answers
 pub mod Transcript
 pub mod Runs

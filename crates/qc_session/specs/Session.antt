@@ -1,9 +1,10 @@
 -- How one line goes on from those before it.
-use Rattle.std.specs.Prelude.{◌≡◌, ◌≤◌, ◌⊎◌, ◌++◌, ℕ, true, List, [], ◌∷◌, take, Option, IfSome, ⊤}
-use Rattle.qc_io.specs.Outside.{Told, taking}
+use Rattle.std.specs.Prelude.{◌≡◌, ◌≤◌, ◌⊎◌, ◌++◌, ℕ, true, List, [], ◌∷◌, Option, IfSome, ⊤}
+use Rattle.qc_io.specs.Outside.{Told}
 use Rattle.warehouse.specs.State.{State}
 use Rattle.qc_session.specs.Transcript.{item, run_at, step}
-use Rattle.qc_session.specs.Runs.{may_skip}
+use Rattle.qc_session.specs.Handed.{IsHandedOn, TookFront}
+use Rattle.qc_session.specs.Runs.{Took, may_skip}
 use Rattle.qc_session.specs.declared.session.Stop.{Stop}
 use Rattle.qc_session.specs.declared.session.Stop.TheVariants as stops
 
@@ -25,12 +26,19 @@ Skips old number line new = (new ≡ old) ⊎ ((new ≡ old ++ number ∷ []) ×
 pub record Replies (told : Told) (skipped : List ℕ) (number : ℕ) (state : State) (line : List ℕ) (state2 : State) (reply : List ℕ) : Type 0 where
   pub is : (replies : List ℕ) → step told (run_at state replies) (item skipped number line) ≡ run_at state2 (replies ++ reply)
 
--- out took the reply of a line
-abbrev pub WroteLine : Option Told → List ℕ → ℕ → State → List ℕ → State → Option (List ℕ) → Option (List ℕ) → Type 0
-WroteLine told skipped number state line state2 before now =
-    IfSome told (λ t. (reply : List ℕ) × Replies t skipped number state line state2 reply × (now ≡ taking reply before))
+-- out took a front of what was kept and of the reply of a line, and the rest is kept
+abbrev pub WroteLine : Option Told → List ℕ → ℕ → State → List ℕ → State → List ℕ → List ℕ → Option (List ℕ) → Option (List ℕ) → Type 0
+WroteLine told skipped number state line state2 kept kept2 before now =
+    IfSome told (λ t. (reply : List ℕ) × Replies t skipped number state line state2 reply × IsHandedOn (kept ++ reply) kept2 before now)
 
--- out took a part of it
-abbrev pub WrotePart : Option Told → List ℕ → ℕ → State → List ℕ → State → Option (List ℕ) → Option (List ℕ) → Type 0
-WrotePart told skipped number state line state2 before now =
-    IfSome told (λ t. (reply : List ℕ) × (n : ℕ) × Replies t skipped number state line state2 reply × (now ≡ taking (take n reply) before))
+-- out refused the rest: of what was kept before the line, or of that and the line's reply
+abbrev pub WrotePart : Option Told → List ℕ → List ℕ → ℕ → State → List ℕ → State → List ℕ → Option (List ℕ) → Option (List ℕ) → Type 0
+WrotePart told old new number state line state2 kept before now =
+    IfSome told (λ t. ((new ≡ old) × TookFront kept before now)
+    ⊎ ((reply : List ℕ) × Replies t new number state line state2 reply × TookFront (kept ++ reply) before now))
+
+-- these lines were taken, out took a front of their replies, and the rest is kept
+pub record Gathered (told : Told) (start : State) (skipped : List ℕ) (lines : List (List ℕ)) (state : State) (kept : List ℕ) (before now : Option (List ℕ)) : Type 0 where
+  pub replies : List ℕ
+  pub took : Took told start skipped lines state replies
+  pub handed : IsHandedOn replies kept before now

@@ -6,6 +6,7 @@ mod bounds;
 mod failure;
 mod iceberg;
 mod lines;
+mod pending;
 mod point;
 mod range;
 mod scripts;

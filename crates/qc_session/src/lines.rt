@@ -8,3 +8,8 @@ pub fn is_passed_over(line: &[u8]) -> bool
 {
     matches!(line, [] | [b'#', ..])
 }
+
+/// Whether a line has the word of a command that names a file.
+pub fn names_file(line: &[u8]) -> bool {
+    line.starts_with(b"load ") || line.starts_with(b"apply ")
+}

@@ -9,6 +9,7 @@ ghost use Rattle.qc_session.specs.Runs.{AllTold, AreSkipped, BrokenOff, Cause, C
 ghost use Rattle.warehouse.specs.State.{IsHeld, empty};
 
 use crate::failure::{Failure, tell};
+use crate::pending::Pending;
 use crate::session::{Session, Stop, take_lines};
 use crate::words::{Form, read_words};
 use cell_core::Steps;
@@ -171,10 +172,14 @@ fn run_script<F: Files, O: Sink, E: Sink, L: Ledger>(
     let Ok(warehouse) = Warehouse::new(alloc, schema) else {
         return fail(alloc, err, &Failure::OutOfMemory);
     };
+    let Ok(pending) = Pending::new(alloc) else {
+        return fail(alloc, err, &Failure::OutOfMemory);
+    };
     let mut session = Session {
         number: 0,
         warehouse,
         skipped,
+        pending,
     };
     let mut steps = Steps::<L>::start(blank);
     match take_lines(alloc, files, out, &mut session, script, &mut steps) {

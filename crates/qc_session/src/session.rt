@@ -3,13 +3,15 @@ ghost use Rattle.std.specs.Prelude.{◌≡◌, ◌≤◌, ◌<◌, ◌^◌, ◌+
 ghost use Rattle.qc_io.specs.Outside.{Rose, Told};
 ghost use Rattle.qc_session.specs.Lines.{lines_of, without_cr};
 ghost use Rattle.qc_session.specs.Answers.{file_of};
+ghost use Rattle.qc_session.specs.Handed.{IsHandedOn};
 ghost use Rattle.qc_session.specs.Runs.{AreSkipped, StoppedAt, StoppedWriting, WroteAll};
 
 use crate::answer::{LineStop, answer_line};
-use crate::lines::is_passed_over;
+use crate::lines::{is_passed_over, names_file};
+use crate::pending::Pending;
 use cell_core::{Steps, Text};
 use cube_defs::MAX_FILE;
-use qc_io::{Files, Sink, write_all};
+use qc_io::{Files, Sink};
 use reply_text::memory;
 use std::alloc::Global;
 use std::sync::ledger::Ledger;
@@ -31,11 +33,13 @@ pub struct Session {
     pub number: u32,
     pub warehouse: Warehouse,
     pub skipped: Vec<u32>,
+    pub pending: Pending,
 }
 
-ghost use Rattle.qc_session.specs.Session.{IfStop, Skips, WroteLine, WrotePart, AreUpTo};
+ghost use Rattle.qc_session.specs.Session.{AreUpTo, IfStop, Skips, WroteLine, WrotePart};
 
-// Takes one line.
+// Takes one line, and gathers its reply. Around a line that names a file all is handed on, and at a
+// stop nothing is left.
 fn take_line<F: Files, O: Sink, L: Ledger>(
     alloc: Global,
     files: &mut F,
@@ -56,11 +60,11 @@ fn take_line<F: Files, O: Sink, L: Ledger>(
     ensures names { IfErr result (λ stop. IfStop stop (λ name. file_of session.old.warehouse.state.schema line.now ≡ Some name) ⊤) }
     ensures untold { IfErr result (λ stop. IfStop stop (λ name. IsTrue (F.steady files.old) → IfSome (F.told files.old) (λ t. t name ≡ None)) ⊤) }
     ensures write_fault { IfErr result (λ stop. IfStop stop (λ name. ⊤) (Rose (O.faults out.old) (O.faults out.new))) }
-    ensures stays { IfErr result (λ stop. IfStop stop (λ name. (O.taken out.new ≡ O.taken out.old) × (session.new.skipped.items ≡ session.old.skipped.items)) ⊤) }
+    ensures stays { IfErr result (λ stop. IfStop stop (λ name. IsHandedOn session.old.pending [] (O.taken out.old) (O.taken out.new) × (session.new.skipped.items ≡ session.old.skipped.items)) ⊤) }
     ensures wrote { OnOk result (WroteLine (F.told files.old) session.new.skipped.items (session.old.number + 1) session.old.warehouse.state line.now
-        session.new.warehouse.state (O.taken out.old) (O.taken out.new)) }
-    ensures part { IfErr result (λ stop. IfStop stop (λ name. ⊤) (WrotePart (F.told files.old) session.new.skipped.items (session.old.number + 1) session.old.warehouse.state line.now
-        session.new.warehouse.state (O.taken out.old) (O.taken out.new))) }
+        session.new.warehouse.state session.old.pending session.new.pending (O.taken out.old) (O.taken out.new)) }
+    ensures part { IfErr result (λ stop. IfStop stop (λ name. ⊤) (WrotePart (F.told files.old) session.old.skipped.items session.new.skipped.items (session.old.number + 1) session.old.warehouse.state line.now
+        session.new.warehouse.state session.old.pending (O.taken out.old) (O.taken out.new))) }
     ensures skips { Skips session.old.skipped.items (session.old.number + 1) line.now session.new.skipped.items }
     ensures number { OnOk result (session.new.number ≡ session.old.number + 1) }
     ensures capacity { vec_capacity session.old.skipped ≤ vec_capacity session.new.skipped }
@@ -71,24 +75,31 @@ fn take_line<F: Files, O: Sink, L: Ledger>(
     if is_passed_over(line) {
         return Ok(());
     }
+    let alone = names_file(line);
+    let Ok(()) = session.pending.hand_on_if(out, alone) else {
+        return Err(Stop::Write);
+    };
     match answer_line(alloc, files, &mut session.warehouse, number, line, steps) {
-        Ok(reply) => match write_all(out, reply.as_bytes()) {
+        Ok(reply) => match session.pending.put(out, reply.as_bytes(), alone) {
             Ok(()) => Ok(()),
             Err(_) => Err(Stop::Write),
         },
         Err(LineStop::Memory) => {
             session.skipped.push(number).unwrap();
             let reply = memory(number);
-            match write_all(out, reply.as_bytes()) {
+            match session.pending.put(out, reply.as_bytes(), alone) {
                 Ok(()) => Ok(()),
                 Err(_) => Err(Stop::Write),
             }
         }
-        Err(LineStop::Fault(name)) => Err(Stop::Read(name)),
+        Err(LineStop::Fault(name)) => match session.pending.hand_on(out) {
+            Ok(()) => Err(Stop::Read(name)),
+            Err(_) => Err(Stop::Write),
+        },
     }
 }
 
-/// Takes the lines of a script in order, from its first line on.
+/// Takes the lines of a script in order, from its first line on, and hands on all their replies.
 pub fn take_lines<F: Files, O: Sink, L: Ledger>(
     alloc: Global,
     files: &mut F,
@@ -100,7 +111,7 @@ pub fn take_lines<F: Files, O: Sink, L: Ledger>(
     requires room { length (lines_of script.now) ≤ vec_capacity session.old.skipped }
     requires few { length (lines_of script.now) < 2 ^ 32 }
     requires short { length script.now ≤ MAX_FILE }
-    requires fresh { (session.old.number ≡ 0) × (session.old.skipped.items ≡ []) }
+    requires fresh { (session.old.number ≡ 0) × (session.old.skipped.items ≡ []) × (session.old.pending ≡ []) }
     ensures later_files { F.faults files.old ≤ F.faults files.new }
     ensures later_out { O.faults out.old ≤ O.faults out.new }
     ensures read_fault { IfErr result (λ stop. IfStop stop (λ name. Rose (F.faults files.old) (F.faults files.new)) ⊤) }
@@ -120,5 +131,8 @@ pub fn take_lines<F: Files, O: Sink, L: Ledger>(
             Err(stop) => return Err(stop),
         }
     }
-    Ok(())
+    match session.pending.hand_on(out) {
+        Ok(()) => Ok(()),
+        Err(_) => Err(Stop::Write),
+    }
 }

@@ -3,7 +3,7 @@ use Rattle.cube_defs.specs.declared.limits.TheConstants.{MAX_FILE}
 use Rattle.qc_session.specs.Lines.{lines_of, without_cr}
 use Rattle.qc_session.specs.Runs.{AreSkipped}
 use Rattle.qc_session.specs.Session.{AreUpTo}
-use Rattle.qc_session.proofs.Steps.{WroteSoFar}
+use Rattle.qc_session.proofs.Steps.{GatheredSoFar}
 use Rattle.qc_session.proofs.session.take_lines.Given as goal
 
 abbrev pub invariant-lines : goal.invariant-lines
@@ -19,7 +19,7 @@ invariant-lines g l = record {
   so_far : (done : List (List ℕ)) × (map without_cr (lines_of l.script) ≡ done ++ map without_cr (lines_of l.rest))
       × (length done ≡ l.session.number)
       × AreSkipped done l.session.skipped.items
-      × WroteSoFar (g.F.Files.told l.fn.files) l.fn.session.warehouse.state l.session.skipped.items done l.session.warehouse.state (g.O.Sink.taken l.fn.out) (g.O.Sink.taken l.out);
+      × GatheredSoFar (g.F.Files.told l.fn.files) l.fn.session.warehouse.state l.session.skipped.items done l.session.warehouse.state l.session.pending (g.O.Sink.taken l.fn.out) (g.O.Sink.taken l.out);
 }
 
 abbrev pub decreases-lines : goal.decreases-lines

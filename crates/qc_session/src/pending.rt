@@ -1,0 +1,94 @@
+// Replies that are gathered until they are handed on.
+ghost use Rattle.std.specs.Prelude.{◌≡◌, ◌++◌, [], IfOk, OnErr, OnOk};
+ghost use Rattle.qc_io.specs.Outside.{HasCause};
+ghost use Rattle.qc_session.specs.Handed.{IsHandedOn, TookFront};
+
+use cube_defs::Memory;
+use qc_io::{Sink, WriteFailed, write_all};
+use std::alloc::Global;
+use std::marker::Model;
+
+// How many bytes are gathered at most.
+const ROOM: usize = 65_536;
+
+/// Replies that are gathered, and not yet handed on. Seen as their bytes.
+#[derive(Drop)]
+pub struct Pending {
+    bytes: Vec<u8>,
+}
+
+impl Model for Pending {
+    ghost use Rattle.std.specs.Prelude.{◌≤◌, ℕ, List, vec_capacity, vec_len};
+    ghost use Rattle.qc_session.specs.declared.pending.TheConstants.{ROOM};
+
+    ghost Value = { List ℕ };
+
+    ghost view = { λ p. p.bytes.items };
+
+    ghost invariant = { λ p. (vec_len p.bytes ≤ ROOM) × (ROOM ≤ vec_capacity p.bytes) };
+}
+
+impl Pending {
+    /// No replies, with the memory for all that are gathered later.
+    pub fn new(alloc: Global) -> Result<Self, Memory>
+        ensures { IfOk result (λ pending. pending ≡ []) }
+    {
+        Ok(Pending {
+            bytes: Vec::with_capacity(alloc, ROOM)?,
+        })
+    }
+
+    /// Hands on all that is gathered.
+    pub fn hand_on<O: Sink>(&mut self, out: &mut O) -> Result<(), WriteFailed>
+        ensures cause { HasCause (O.faults out.old) (O.faults out.new) result }
+        ensures ok { OnOk result (IsHandedOn self.old [] (O.taken out.old) (O.taken out.new)) }
+        ensures none { OnOk result (self.new ≡ []) }
+        ensures err { OnErr result (TookFront self.old (O.taken out.old) (O.taken out.new)) }
+    {
+        write_all(out, &self.bytes)?;
+        self.bytes.clear();
+        Ok(())
+    }
+
+    /// The same, where that is due.
+    pub fn hand_on_if<O: Sink>(&mut self, out: &mut O, due: bool) -> Result<(), WriteFailed>
+        ensures cause { HasCause (O.faults out.old) (O.faults out.new) result }
+        ensures ok { OnOk result (IsHandedOn self.old self.new (O.taken out.old) (O.taken out.new)) }
+        ensures err { OnErr result (TookFront self.old (O.taken out.old) (O.taken out.new)) }
+    {
+        if due { self.hand_on(out) } else { Ok(()) }
+    }
+
+    // Puts a reply behind those that are gathered. Where it has no room behind them, they are handed on first.
+    fn add<O: Sink>(&mut self, out: &mut O, reply: &[u8]) -> Result<(), WriteFailed>
+        ensures cause { HasCause (O.faults out.old) (O.faults out.new) result }
+        ensures ok { OnOk result (IsHandedOn (self.old ++ reply.now) self.new (O.taken out.old) (O.taken out.new)) }
+        ensures err { OnErr result (TookFront (self.old ++ reply.now) (O.taken out.old) (O.taken out.new)) }
+    {
+        if reply.len() <= ROOM - self.bytes.len() {
+            self.bytes.extend_from_slice(reply).unwrap();
+            return Ok(());
+        }
+        self.hand_on(out)?;
+        if reply.len() <= ROOM {
+            self.bytes.extend_from_slice(reply).unwrap();
+            return Ok(());
+        }
+        write_all(out, reply)
+    }
+
+    /// Puts a reply behind those that are gathered, and hands all on where it is not to wait.
+    pub fn put<O: Sink>(
+        &mut self,
+        out: &mut O,
+        reply: &[u8],
+        at_once: bool,
+    ) -> Result<(), WriteFailed>
+        ensures cause { HasCause (O.faults out.old) (O.faults out.new) result }
+        ensures ok { OnOk result (IsHandedOn (self.old ++ reply.now) self.new (O.taken out.old) (O.taken out.new)) }
+        ensures err { OnErr result (TookFront (self.old ++ reply.now) (O.taken out.old) (O.taken out.new)) }
+    {
+        self.add(out, reply)?;
+        self.hand_on_if(out, at_once)
+    }
+}
