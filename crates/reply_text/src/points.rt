@@ -12,6 +12,9 @@ use qc_schema::Schema;
 use std::alloc::Global;
 use value_dict::Dict;
 
+// The memory that is taken for a reply at once. Few replies are longer.
+const ROOM: usize = 128;
+
 /// The reply to a point that covers some row.
 pub fn point_reply(
     alloc: Global,
@@ -25,7 +28,7 @@ pub fn point_reply(
     requires parts { length (agg_in total.now).parts ≡ length schema.now.measures }
     ensures { IfOk result (λ reply. reply.items ≡ point_text line (told_cell dict.now.lists cell.now) schema.now.measures (agg_in total.now)) }
 {
-    let mut out = Vec::new(alloc);
+    let mut out = Vec::with_capacity(alloc, ROOM)?;
     push_head(&mut out, b"point", line, dict, cell)?;
     push_agg(&mut out, schema, total)?;
     out.push(b'\n')?;

@@ -9,6 +9,6 @@ pub returns : goal.returns
 returns c =
     let cell = map entry_text (told_cell c.args.dict.now.lists c.args.cell.now) in
     let agg = agg_texts c.args.schema.now.measures (agg_in c.args.total.now) in
-    let head = rw c.new-out.ensures.items at c.in_ok-push_head.ensures in
+    let head = rw c.in_ok-out.ensures.items at c.in_ok-push_head.ensures in
     let numbers = rw head at c.in_ok-push_agg.ensures in
     rw numbers at c.in_ok-push.ensures.items ∙ record-more [] (codes "point") (decimal c.args.line) cell agg
