@@ -1,44 +1,38 @@
 -- A ranking after entries came and went, and after a change was undone.
-use Rattle.std.proofs.Common.{◌≡◌, ◌&&◌, ◌||◌, not, Bool, true, false, ℕ, suc, List, [], ◌∷◌, length, map, refl, sym, ap, ap₂, ◌∙◌, true≢false, arith}
+use Rattle.std.proofs.Common.{◌≡◌, ◌&&◌, ◌||◌, not, ℕ, suc, List, [], ◌∷◌, length, map, refl, sym, ap, ap₂, ◌∙◌, arith}
 use Rattle.std.specs.List.{All}
 use Rattle.std.specs.BTreeSet.{BTreeSet}
 use Rattle.aggregates.specs.declared.agg.Agg.{Agg}
 use Rattle.aggregates.specs.declared.kind.AggKind.{AggKind}
 use Rattle.cell_core.specs.declared.cell.NodeNo.{NodeNo}
 use Rattle.measure_index.specs.declared.entry.Entry.{Entry}
-use Rattle.measure_index.specs.Changes.{ArePlanned, Came, HasChanged, Went, has, lists}
+use Rattle.measure_index.specs.Changes.{AreFresh, ArePlanned, Came, HasChanged, Went, has, lists}
 use Rattle.measure_index.specs.Index.{units}
 use Rattle.measure_index.specs.Rankings.{Ranking, no_entries}
 use Rattle.measure_index.proofs.EntryLemmas.{same_entries}
-use Rattle.measure_index.proofs.KeyLemmas.{changed, undone}
+use Rattle.measure_index.proofs.KeyLemmas.{back_again, changed}
 
-module _ (add remove : List (NodeNo × Agg)) (old mid new : Ranking) (coming going came went : List Entry) (plan : ArePlanned old add remove coming going) (p : came ≡ coming) where
-  pub has_changed : went ≡ going → Came came old mid → Went went mid new → HasChanged add remove old new
+module _ (add remove : List (NodeNo × Agg)) (old mid new : Ranking) (coming going put went : List Entry) (plan : ArePlanned old add remove coming going) (p : put ≡ coming) where
+  pub has_changed : went ≡ going → Came put old mid → Went went mid new → HasChanged add remove old new
   has_changed q c w = record {
     alike = record { kind = w.alike.kind ∙ c.alike.kind; scale = w.alike.scale ∙ c.alike.scale; was_rising = c.alike.was_rising; rising = w.alike.rising };
     added = plan.added;
     removed = plan.removed;
     adds = plan.adds;
     removes = plan.removes;
-    entry = λ e. changed (has old e) (lists plan.added e) (lists plan.removed e) (lists coming e) (lists going e) (has mid e) (has new e) (plan.comes e) (plan.goes e)
-        (c.entry e ∙ ap (λ es. has old e || lists es e) p)
+    entry = λ e. changed (has old e) (lists plan.added e) (lists plan.removed e) (lists going e) (has mid e) (has new e) (plan.goes e)
+        (c.entry e ∙ ap (λ b. has old e || b) (ap (λ es. lists es e) p ∙ plan.comes e))
         (w.entry e ∙ ap (λ es. has mid e && not (lists es e)) q);
   }
 
-  lacks : (c a h : Bool) → c ≡ (a && not h) → c ≡ true → h ≡ false
-  lacks c a false e t = refl
-  lacks c true true e t = absurd (true≢false (sym t ∙ e))
-  lacks c false true e t = absurd (true≢false (sym t ∙ e))
-
-  pub has_gone_back : went ≡ coming → Came came old mid → Went went mid new → new ≡ old
-  has_gone_back q c w =
-      let before : BTreeSet Entry = record { keys = old.entries } in
-      let after : BTreeSet Entry = record { keys = new.entries } in
-      let entries : old.entries ≡ new.entries =
-      same_entries before after c.alike.was_rising w.alike.rising
-      (λ e. undone (has old e) (has mid e) (has new e) (lists coming e) (c.entry e ∙ ap (λ es. has old e || lists es e) p) (w.entry e ∙ ap (λ es. has mid e && not (lists es e)) q)
-      (λ t. lacks (lists coming e) (lists plan.added e) (has old e) (plan.comes e) t)) in
-      λ i. record { kind = (w.alike.kind ∙ c.alike.kind) i; scale = (w.alike.scale ∙ c.alike.scale) i; entries = sym entries i }
+pub has_gone_back : (old mid new : Ranking) (put came went : List Entry) → AreFresh old put came → went ≡ came → Came put old mid → Went went mid new → new ≡ old
+has_gone_back old mid new put came went fresh q c w =
+    let before : BTreeSet Entry = record { keys = old.entries } in
+    let after : BTreeSet Entry = record { keys = new.entries } in
+    let entries : old.entries ≡ new.entries =
+    same_entries before after c.alike.was_rising w.alike.rising
+    (λ e. back_again (has old e) (lists put e) (has mid e) (lists came e) (has new e) (c.entry e) (fresh e) (w.entry e ∙ ap (λ es. has mid e && not (lists es e)) q)) in
+    λ i. record { kind = (w.alike.kind ∙ c.alike.kind) i; scale = (w.alike.scale ∙ c.alike.scale) i; entries = sym entries i }
 
 -- columns that had no entries have none again
 pub emptied : (olds news : List Ranking) → All (λ r. length r.entries ≡ 0) olds → units news ≡ units olds → map (λ r. no_entries r.kind r.scale) news ≡ olds

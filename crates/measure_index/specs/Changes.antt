@@ -1,5 +1,5 @@
 -- Entries that come into a ranking and go out of it.
-use Rattle.std.specs.Prelude.{◌≡◌, Bool, false, not, ◌&&◌, ◌||◌, IsTrue, List}
+use Rattle.std.specs.Prelude.{◌≡◌, Bool, not, ◌&&◌, ◌||◌, List}
 use Rattle.std.specs.List.{list_any}
 use Rattle.std.specs.Ordering.{is_eq}
 use Rattle.aggregates.specs.declared.agg.Agg.{Agg}
@@ -16,17 +16,17 @@ has r q = list_any (λ e. is_eq (entry_cmp q e)) r.entries
 abbrev pub lists : List Entry → Entry → Bool
 lists entries q = among entry_cmp entries q
 
--- the ranking has none of the entries
-abbrev pub Lack : Ranking → List Entry → Type 0
-Lack r entries = (q : Entry) → IsTrue (lists entries q) → has r q ≡ false
+-- of some entries, those that the ranking does not have
+abbrev pub AreFresh : Ranking → List Entry → List Entry → Type 0
+AreFresh r entries fresh = (q : Entry) → lists fresh q ≡ (lists entries q && not (has r q))
 
--- of the entries of a change, which come and which go
+-- of the entries of a change, which are to be there and which go
 pub record ArePlanned (r : Ranking) (add remove : List (NodeNo × Agg)) (coming going : List Entry) : Type 0 where
   pub added : List Entry
   pub removed : List Entry
   pub adds : AreEntries r.kind r.scale add added
   pub removes : AreEntries r.kind r.scale remove removed
-  pub comes : (q : Entry) → lists coming q ≡ (lists added q && not (has r q))
+  pub comes : (q : Entry) → lists coming q ≡ lists added q
   pub goes : (q : Entry) → lists going q ≡ (lists removed q && not (lists added q))
 
 -- one ranking and another of the same kind and scale

@@ -3,13 +3,13 @@ ghost use Rattle.std.specs.Prelude.{IfOk, OnErr, OnOk, [], length, ◌<◌, ◌^
 ghost use Rattle.measure_index.specs.Entries.{HaveMeasure};
 ghost use Rattle.measure_index.specs.Rankings.{IsRising, Ranking, no_entries};
 ghost use Rattle.std.specs.List.{AllZip};
-ghost use Rattle.measure_index.specs.Changes.{ArePlanned, Came, HasChanged, Lack, Went};
+ghost use Rattle.measure_index.specs.Changes.{AreFresh, ArePlanned, Came, HasChanged, Went};
 ghost use Rattle.measure_index.specs.Drafts.{IsDraft};
 
 use crate::draft::Draft;
 use crate::drafting::{drafts_of, sorted_entries};
 use crate::entry::{Entry, entries_of};
-use crate::keys::{absent_from, lacked_by, put_in, set_of, take_out};
+use crate::keys::{lacked_by, put_in, set_of, take_out};
 use aggregates::{Agg, AggKind};
 use cell_core::NodeNo;
 use cube_defs::Memory;
@@ -36,10 +36,10 @@ impl Model for Column {
     ghost invariant = { λ c. IsKept (record { kind = c.kind; scale = c.scale; entries = c.entries.keys }) };
 }
 
-/// What is to come into a column and what is to go out of it.
+/// What is to be in a column and what is to go out of it.
 #[derive(Drop)]
 pub(crate) struct Plan {
-    pub(crate) coming: Vec<Entry>,
+    pub(crate) added: Vec<Entry>,
     pub(crate) going: Vec<Entry>,
 }
 
@@ -77,8 +77,8 @@ impl Column {
         self.entries.iter()
     }
 
-    /// What a change of classes brings and takes away: entries that are both added and removed stay.
-    /// Both are in order, so that each is sought near to the one before it.
+    /// What a change of classes brings and takes away: entries that are both added and removed do not
+    /// go. Both are in order, so that each is sought near to the one before it.
     pub(crate) fn plan(
         &self,
         alloc: Global,
@@ -87,15 +87,14 @@ impl Column {
     ) -> Result<Plan, Memory>
         requires add { HaveMeasure self.now.kind add.now }
         requires remove { HaveMeasure self.now.kind remove.now }
-        ensures { IfOk result (λ plan. ArePlanned self.now add.now remove.now plan.coming.items plan.going.items) }
+        ensures { IfOk result (λ plan. ArePlanned self.now add.now remove.now plan.added.items plan.going.items) }
     {
         let mut added = entries_of(alloc, self.kind, self.scale, add)?;
         let mut removed = entries_of(alloc, self.kind, self.scale, remove)?;
         added.sort_unstable();
         removed.sort_unstable();
         let going = lacked_by(alloc, &added, &removed)?;
-        let coming = absent_from(alloc, &self.entries, &added)?;
-        Ok(Plan { coming, going })
+        Ok(Plan { added, going })
     }
 
     /// The values of some classes, to be put in once there is nothing else to be kept.
@@ -133,16 +132,17 @@ impl Column {
         self.entries.clear();
     }
 
-    /// Puts in entries that are not there, up to 4,294,967,295 in all. A refusal leaves all as it was.
-    pub(crate) fn put(&mut self, coming: &[Entry]) -> Result<(), Memory>
-        requires { Lack self.old coming.now }
-        ensures ok { OnOk result (Came coming.now self.old self.new) }
+    /// Puts entries in, up to 4,294,967,295 in all, and gives those that were not there. A refusal leaves
+    /// all as it was.
+    pub(crate) fn put(&mut self, alloc: Global, added: &[Entry]) -> Result<Vec<Entry>, Memory>
+        ensures came { OnOk result (Came added.now self.old self.new) }
+        ensures fresh { IfOk result (λ came. AreFresh self.old added.now came.items) }
         ensures err { OnErr result (self.new ≡ self.old) }
     {
-        if self.entries.len() + coming.len() > u32::MAX as usize {
+        if self.entries.len() + added.len() > u32::MAX as usize {
             return Err(AllocError);
         }
-        put_in(&mut self.entries, coming)
+        put_in(alloc, &mut self.entries, added)
     }
 
     /// Takes entries out, as far as they are there.

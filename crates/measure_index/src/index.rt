@@ -75,14 +75,14 @@ fn change_columns(
         return Ok(());
     };
     let plan = first.plan(alloc, add, remove)?;
-    first.put(&plan.coming)?;
+    let came = first.put(alloc, &plan.added)?;
     match change_columns(alloc, rest, add, remove) {
         Ok(()) => {
             first.take(&plan.going);
             Ok(())
         }
         Err(error) => {
-            first.take(&plan.coming);
+            first.take(&came);
             Err(error)
         }
     }

@@ -1,5 +1,5 @@
 // Keys that come into a set and go out of it.
-ghost use Rattle.std.specs.Prelude.{◌≡◌, ◌≤◌, ◌+◌, ◌&&◌, ◌||◌, length, not, false, IsTrue, IfOk, OnOk, OnErr};
+ghost use Rattle.std.specs.Prelude.{◌≡◌, ◌<◌, ◌≤◌, ◌+◌, ◌&&◌, ◌||◌, ◌++◌, ◌∷◌, [], if◌then◌else◌, length, not, vec_capacity, vec_len, IfOk, OnOk, OnErr};
 ghost use Rattle.std.specs.BTreeSet.{btree_set_len, contains, IsOrdered, IsSameSet};
 ghost use Rattle.std.specs.List.Sorted.{IsSorted};
 ghost use Rattle.measure_index.specs.Keys.{among};
@@ -31,45 +31,43 @@ pub(crate) fn set_of<K: Ord + Copy>(
     BTreeSet::from_iter(alloc, items)
 }
 
-/// Puts keys in that are not there. A refusal leaves the set with the keys that it had.
+/// Puts keys in, and gives those that were not there, in their order. A refusal leaves the set with the
+/// keys that it had.
 pub(crate) fn put_in<K: Ord + Copy>(
+    alloc: Global,
     set: &mut BTreeSet<K, Global>,
     items: &[K],
-) -> Result<(), Memory>
+) -> Result<Vec<K>, Memory>
     requires ordered { IsOrdered K.cmp set.old }
-    requires absent { (q : K) → IsTrue (among K.cmp items.now q) → contains K.cmp set.old q ≡ false }
     ensures has { OnOk result ((q : K) → contains K.cmp set.new q ≡ (contains K.cmp set.old q || among K.cmp items.now q)) }
+    ensures fresh { IfOk result (λ came. (q : K) → among K.cmp came.items q ≡ (among K.cmp items.now q && not (contains K.cmp set.old q))) }
     ensures err { OnErr result (IsSameSet K.cmp set.old set.new) }
     ensures few { btree_set_len set.new ≤ btree_set_len set.old + length items.now }
     ensures now_ordered { IsOrdered K.cmp set.new }
 {
-    for i in 0..items.len() {
-        match set.insert(items[i]) {
-            Ok(_) => {}
+    let mut came = Vec::with_capacity(alloc, items.len())?;
+    for item in items {
+        match set.insert(*item) {
+            Ok(added) => note(&mut came, *item, added),
             Err(_) => {
-                take_out(set, &items[..i]);
+                take_out(set, &came);
                 return Err(AllocError);
             }
         }
     }
-    Ok(())
+    Ok(came)
 }
 
-/// The items that a set does not have, in their order.
-pub(crate) fn absent_from<K: Ord + Copy>(
-    alloc: Global,
-    set: &BTreeSet<K, Global>,
-    items: &Vec<K>,
-) -> Result<Vec<K>, Memory>
-    ensures has { IfOk result (λ v. (q : K) → among K.cmp v.items q ≡ (among K.cmp items.now.items q && not (contains K.cmp set.now q))) }
+// Puts a key last where it is a new one.
+fn note<K: Copy>(came: &mut Vec<K>, item: K, added: bool)
+    requires { vec_len came.old < vec_capacity came.old }
+    ensures items { came.new.items ≡ came.old.items ++ (if added then item ∷ [] else []) }
+    ensures len { vec_len came.new ≤ vec_len came.old + 1 }
+    ensures room { vec_capacity came.new ≡ vec_capacity came.old }
 {
-    let mut out = Vec::new(alloc);
-    for item in items {
-        if !set.contains(item) {
-            out.push(*item)?;
-        }
+    if added {
+        came.push_reserved(item);
     }
-    Ok(out)
 }
 
 // Whether a key is among some in order.

@@ -24,15 +24,14 @@ change_columns-requires t c = (
 pub returns-in-Ok-clause-ok : goal.returns-in-Ok-clause-ok
 returns-in-Ok-clause-ok t c =
     subst (λ xs. AllZip (HasChanged c.args.add.now c.args.remove.now) xs (c.take.new.self ∷ c.change_columns.new.columns)) (sym c.in-Some.ensures.cases.0) (
-      has_changed c.args.add.now c.args.remove.now c.in-Some.first.now c.put.new.self c.take.new.self c.in_ok-plan.plan.coming.items c.in_ok-plan.plan.going.items _ _ c.in_ok-plan.ensures
-          c.deref.ensures.value c.deref-in-Ok.ensures.value c.in_ok-put.ensures.ok c.take.ensures,
+      has_changed c.args.add.now c.args.remove.now c.in-Some.first.now c.put.new.self c.take.new.self c.in_ok-plan.plan.added.items c.in_ok-plan.plan.going.items _ _ c.in_ok-plan.ensures
+          c.deref.ensures.value c.deref-in-Ok.ensures.value c.in_ok-came.ensures.came c.take.ensures,
       c.in-Ok.ensures.ok,
     )
 
 pub returns-clause-err : goal.returns-clause-err
 returns-clause-err t c =
     ap₂ (λ x xs. x ∷ xs)
-    (has_gone_back c.args.add.now c.args.remove.now c.in-Some.first.now c.put.new.self c.take-in-Err.new.self c.in_ok-plan.plan.coming.items c.in_ok-plan.plan.going.items _ _ c.in_ok-plan.ensures
-    c.deref.ensures.value c.deref-in-Err.ensures.value c.in_ok-put.ensures.ok c.take-in-Err.ensures)
+    (has_gone_back c.in-Some.first.now c.put.new.self c.take-in-Err.new.self _ c.in_ok-came.came.items _ c.in_ok-came.ensures.fresh c.deref-in-Err.ensures.value c.in_ok-came.ensures.came c.take-in-Err.ensures)
     c.in-Err.ensures.err
     ∙ sym c.in-Some.ensures.cases.0

@@ -1,5 +1,4 @@
 use Rattle.std.proofs.Common.{◌≡◌, ◌&&◌, List, ap, ap₂, is_eq, not, subst, sym, ◌∙◌}
-use Rattle.std.specs.BTreeSet.{contains}
 use Rattle.std.specs.List.Sorted.{IsPermutation}
 use Rattle.std.proofs.lemmas.List.Sorted.{list_any-IsPermutation}
 use Rattle.measure_index.specs.Entries.{HaveMeasure, entry_cmp}
@@ -20,11 +19,11 @@ returns c =
     let same = λ (xs ys : List Entry) (p : IsPermutation xs ys) (q : Entry). sym (list_any-IsPermutation (λ x. is_eq (entry_cmp x q)) xs ys p) in
     let come : (q : Entry) → lists c.sort_unstable.new.self.items q ≡ lists added q = same added c.sort_unstable.new.self.items c.sort_unstable.ensures.permutation in
     let go : (q : Entry) → lists c.sort_unstable-2.new.self.items q ≡ lists removed q = same removed c.sort_unstable-2.new.self.items c.sort_unstable-2.ensures.permutation in
-    subst (λ r. ArePlanned r c.args.add.now c.args.remove.now c.in_ok-coming.coming.items c.in_ok-going.going.items) c.self.view_is (record {
+    subst (λ r. ArePlanned r c.args.add.now c.args.remove.now c.sort_unstable.new.self.items c.in_ok-going.going.items) c.self.view_is (record {
       added = added;
       removed = removed;
       adds = c.in_ok-added.ensures;
       removes = c.in_ok-removed.ensures;
-      comes = λ q. c.in_ok-coming.ensures.has q ∙ ap (λ b. b && not (contains entry_cmp c.self.inside.entries q)) (come q);
+      comes = come;
       goes = λ q. c.in_ok-going.ensures.has q ∙ ap₂ (λ a b. a && not b) (go q) (ap (λ xs. lists xs q) c.deref.ensures.value ∙ come q);
     })
