@@ -64,6 +64,11 @@ measured schema tree index layout is e from pairs new = all-measured schema pair
 was-is : (a : Arena) (before : Shape) → a.was ≡ Some before → class_was a ≡ class_of_node before.tree
 was-is a before e = λ i q. class_in (option_and_then (λ s. numbers.get s.tree q) (e i))
 
+-- where no class went, none is listed
+pub none-went : (from to : ℕ → Option defs.Agg) (pairs : List (NodeNo × Agg)) → length pairs ≡ 0 → AreNew from to pairs → AreNew from to []
+none-went from to [] e h = h
+none-went from to (p ∷ pairs) e h = absurd (omega (arith, e))
+
 -- what is known of an open batch, with the tree at its begin named
 pub record IsBegun (schema : Layout) (a : Arena) (index : List Ranking) : Type 0 where
   pub tree : Tree ℕ

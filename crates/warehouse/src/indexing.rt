@@ -52,8 +52,12 @@ pub(crate) fn change_index(
     if schema.indexes().is_empty() {
         return Ok(());
     }
-    let added = tree.classes_added(alloc)?;
     let removed = tree.classes_removed(alloc)?;
+    let added = tree.classes_added(alloc)?;
+    if removed.is_empty() && index.is_empty() {
+        index.fill(added)?;
+        return Ok(());
+    }
     index.change(&added, &removed)?;
     Ok(())
 }
