@@ -40,6 +40,21 @@ fn change(
     index.change(&add, &remove)
 }
 
+// Fills an index of kinds of one measure.
+fn fill<R: Abort>(
+    rt: &R,
+    alloc: Global,
+    index: &mut Index,
+    add: &[(u32, i64)],
+) -> Result<(), Memory>
+    requires kinds { All (λ r. IsThere 1 r.kind) index.old }
+    requires add { All (λ class. nat_abs class.1 ≤ largest_amount) add.now }
+{
+    let add = classes(alloc, add)?;
+    assert!(rt; index.is_empty());
+    index.fill(add)
+}
+
 // The numbers of the first nodes that are left, with zeros behind them.
 fn nodes_left(walk: &mut Walk<'_>) -> [u32; 6] {
     let mut nodes = [0; 6];
@@ -85,6 +100,25 @@ fn classes_are_walked_from_either_end(rt: HostRuntime) -> Result<(), Fail> {
     ];
     for (value, expected) in &table {
         assert_eq!(rt; asked(&rt, &index, KIND, value), *expected);
+    }
+    Ok(())
+}
+
+#[test]
+fn an_index_is_filled(rt: HostRuntime) -> Result<(), Fail> {
+    const KINDS: [AggKind; 3] = [AggKind::Sum(0), AggKind::Count, AggKind::Mean(0)];
+    const VALUES: [&[u8]; 3] = [b"-0.33", b"1", b"-33/100"];
+    const EXPECTED: [[([u32; 6], u64); 2]; 3] = [
+        [([4, 2, 7, 5, 0, 0], 5), ([9, 5, 0, 0, 0, 0], 3)],
+        [([9, 7, 5, 4, 2, 0], 5), ([2, 4, 5, 7, 9, 0], 5)],
+        [([4, 2, 7, 5, 0, 0], 5), ([9, 5, 0, 0, 0, 0], 3)],
+    ];
+    let mut index = Index::new(rt.alloc(), &KINDS, &[2])?;
+    let told = [(4, 150), (9, -200), (2, 150), (7, 0), (5, -33)];
+    fill(&rt, rt.alloc(), &mut index, &told)?;
+    assert!(rt; !index.is_empty());
+    for k in 0..3 {
+        assert_eq!(rt; asked(&rt, &index, KINDS[k], VALUES[k]), EXPECTED[k]);
     }
     Ok(())
 }
