@@ -1,5 +1,5 @@
 // Values of aggregates before they are put in lowest terms.
-ghost use Rattle.std.specs.Prelude.{◌≡◌, ◌<◌, ◌≤◌, ◌*◌, ◌*ℤ◌, pos};
+ghost use Rattle.std.specs.Prelude.{◌≡◌, ◌<◌, ◌≤◌, ◌*◌, ◌^◌, ◌*ℤ◌, pos};
 ghost use Rattle.std.specs.Ordering.{int_cmp};
 ghost use Rattle.cube_defs.specs.Rows.{lowest_terms};
 ghost use Rattle.aggregates.specs.Quotients.{IsDivisor, IsQuotient, unit_of};
@@ -31,7 +31,7 @@ fn unit(kind: AggKind, scale: u8) -> u64
     requires { scale ≤ 6 }
     ensures value { result ≡ unit_of kind scale }
     ensures positive { 0 < result }
-    ensures small { result ≤ 1000000 }
+    ensures small { result ≤ 10 ^ 6 }
 {
     match kind {
         AggKind::Count => 1,

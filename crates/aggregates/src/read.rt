@@ -51,7 +51,7 @@ fn read_magnitude(text: &[u8], scale: u8) -> Option<u64>
 fn read_tail(text: &[u8], scale: u8) -> Option<u64>
     requires { scale ≤ 6 }
     ensures value { result ≡ tail_in scale text.now }
-    ensures small { IfSome result (λ n. n ≤ 1000000) }
+    ensures small { IfSome result (λ n. n ≤ 10 ^ 6) }
 {
     match text {
         [] => Some(0),
@@ -64,7 +64,7 @@ fn read_tail(text: &[u8], scale: u8) -> Option<u64>
 fn read_places(text: &[u8], scale: u8) -> Option<u64>
     requires { scale ≤ 6 }
     ensures value { result ≡ places_in scale text.now }
-    ensures small { IfSome result (λ n. n ≤ 1000000) }
+    ensures small { IfSome result (λ n. n ≤ 10 ^ 6) }
 {
     if text.is_empty() {
         return None;

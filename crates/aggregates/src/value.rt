@@ -65,7 +65,7 @@ pub(crate) fn power_of_ten(scale: u8) -> u64
     requires scale { scale ≤ 6 }
     ensures value { result ≡ 10 ^ scale }
     ensures positive { 0 < result }
-    ensures small { result ≤ 1000000 }
+    ensures small { result ≤ 10 ^ 6 }
 {
     match scale {
         0 => 1,
