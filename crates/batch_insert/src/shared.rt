@@ -24,7 +24,8 @@ pub(crate) struct Chain {
 }
 
 /// The mask of the cell that a label with the tuple's value leads to: of what the old target and the
-/// tuple share, or of the tuple's front. Beside it, whether it is the old target.
+/// tuple share, or of the tuple's front. Beside it, whether it is the old target. `mask` has what the
+/// chain's node and the tuple share.
 pub(crate) fn shared<L: Ledger>(
     arena: &QcArena,
     tuple: &Cell,
