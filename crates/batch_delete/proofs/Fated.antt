@@ -4,7 +4,7 @@ use Rattle.std.proofs.lemmas.Bool.Decides.{eqb_tells}
 use Rattle.std.proofs.lemmas.List.Sums.{sum_by-cons}
 use Rattle.std.specs.Option.{option_map}
 use Rattle.std.specs.Ordering.{eq_by_cmp}
-use Rattle.cube_defs.specs.Cell.{Cell, cell_of, depth, keep, leq}
+use Rattle.cube_defs.specs.Cell.{Cell, depth, keep, leq}
 use Rattle.cube_defs.specs.Rows.{closure}
 use Rattle.cube_defs.specs.Tree.{Tree, cell_at}
 use Rattle.cube_laws.proofs.Cells.{depth-le, leq_refl, nat_equality}
@@ -17,13 +17,8 @@ use Rattle.batch_delete.specs.Below.{AreBelow}
 use Rattle.batch_delete.specs.Plan.{after_in, front_labels, heir_in, last_any_of, planning}
 use Rattle.batch_delete.specs.Rests.{ArePlanned, Deletion, IsRest, rows_after, source_before}
 use Rattle.batch_delete.proofs.Childs.{cell_wide}
-use Rattle.std.proofs.lemmas.Option.{slice_get_within}
-use Rattle.batch_delete.proofs.Leaving.{class_there, tuple_closes}
 
 module _ (dims : ℕ) (tree : Tree ℕ) (d : Deletion) (h : IsFrom dims tree (source_before d)) (tuple : Cell ℕ) (wide : length tuple ≡ dims) (list : List Below) (are : AreBelow tree tuple (length tuple) list) where
-  pub none_planned : (plan : List (ℕ × Fate)) (k : ℕ) → length list ≤ k → ArePlanned d tree plan list k
-  none_planned plan k past j b l at = absurd (let w = slice_get_within list j b at in omega arith)
-
   module _ (k : ℕ) (b : Below) (at : slice_get list k ≡ Some b) (plan : List (ℕ × Fate)) (had : ArePlanned d tree plan list (suc k)) where
     -- a greater node stands behind
     pub greater_planned : (q : ℕ) (w : Cell ℕ) → cell_at tree q ≡ Some w → leq nat_eq w tuple ≡ true → leq nat_eq b.cell w ≡ true → leq nat_eq w b.cell ≡ false → IsRest d.measures (rows_after d) w (after_in plan q)
@@ -86,21 +81,3 @@ planning_part dims tree list (x ∷ some) (suc k) =
     let first = sum_by-cons (λ (b : Below). (4 * dims + 7) * (1 + front_labels tree list b.cell (last_any_of b.cell))) x some in
     let more = planning_part dims tree list some k in
     omega arith
-
--- the last node of the list is the tuple's
-pub last_is : (dims : ℕ) (tree : Tree ℕ) (d : Deletion) (h : IsFrom dims tree (source_before d)) (tuple : Cell ℕ) → length tuple ≡ dims → tuple ≡ cell_of d.r.tuple → (list : List Below) → AreBelow tree tuple (length tuple) list
-    → (k : ℕ) (b : Below) → slice_get list k ≡ Some b → length list ≤ suc k → cell_at tree b.node.0 ≡ Some tuple
-last_is dims tree d h tuple wide row list are k b at past =
-    let t = tuple_closes d tuple row in
-    let q = class_there dims tree d h tuple wide row tuple wide t.0 t.1 in
-    let f = are.all q.0 tuple q.1 (leq_refl nat_equality tuple) (depth-le tuple) in
-    let cell : f.1.cell ≡ tuple = some_same (sym (are.cells f.0 f.1 f.2) ∙ ap (cell_at tree) f.3 ∙ q.1) in
-    are.cells k b at ∙ ap (λ c. Some c) (by f.0 f.1 f.2 cell (nat_lt f.0 k) refl)
-  where
-    by : (j : ℕ) (c : Below) → slice_get list j ≡ Some c → c.cell ≡ tuple → (t : Bool) → nat_lt j k ≡ t → b.cell ≡ tuple
-    by j c e same true t = absurd (true≢false (sym (are.below k b at) ∙ ap (leq nat_eq b.cell) (sym same) ∙ are.order j k c b (ltb-true _ _ t) e at))
-    by j c e same false t =
-        let low : k ≤ j = ltb-false _ _ t in
-        let within = slice_get_within list j c e in
-        let is : j ≡ k = omega arith in
-        ap (λ (x : Below). x.cell) (some_same (sym at ∙ ap (slice_get list) (sym is) ∙ e)) ∙ same

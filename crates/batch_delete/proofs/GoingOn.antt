@@ -18,7 +18,7 @@ use Rattle.qc_arena.specs.Seen.{number, record_at}
 use Rattle.tree_laws.specs.Walk.{front, walk_on}
 use Rattle.tree_laws.proofs.Climbs.{parent_is}
 use Rattle.tree_laws.proofs.Fronts.{depth-keep-le, depth-with_value, keep-beyond, upto-entry, with_value-there}
-use Rattle.tree_laws.proofs.Lists.{some_same, there}
+use Rattle.tree_laws.proofs.Lists.{some_same}
 use Rattle.tree_laws.proofs.Walks.{walk_step}
 use Rattle.tree_search.specs.Found.{IsFrom, Names, Source, closure_in}
 use Rattle.batch_delete.proofs.Entries.{entry_within, keep-child}
@@ -66,10 +66,6 @@ module _ (dims : ℕ) (tree : Tree ℕ) (source : Source) (h : IsFrom dims tree 
         by : (p : Option (Cell ℕ)) → closure (eq_by_cmp nat_cmp) source.rows c ≡ p → option_map (keep i) p ≡ p
         by None e = refl
         by (Some u) e = let wide : length u ≡ dims = closure_length (eq_by_cmp nat_cmp) dims c u source.rows h.wide e in ap (λ x. Some x) (keep-beyond i u (omega (arith, depth-le u)))
-
-  pub named_there : (k : ℕ) (o : Option (Cell ℕ)) → Names tree (Some k) o → IsSome (fin.get tree k)
-  named_there k None e = cc
-  named_there k (Some p) e = there tree k p (some_same e)
 
   -- an edge of a cell's front leads to where a search for the cell with the edge's label goes on
   pub label_goes_on : (k : ℕ) (u : Cell ℕ) (x : Edge ℕ ℕ) → x.dim < length u → cell_at tree k ≡ Some (keep x.dim u) → Among x (record_at tree k).edges → Names tree (Some x.target) (front (eq_by_cmp nat_cmp) source.rows (with_value u x.dim x.value) (suc x.dim))

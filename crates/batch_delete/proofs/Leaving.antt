@@ -24,9 +24,7 @@ use Rattle.tree_laws.proofs.Lists.{there}
 use Rattle.tree_search.proofs.Walked.{total_some}
 use Rattle.batch_delete.specs.Rests.{Deletion, rows_after, rows_before, source_before}
 use Rattle.batch_delete.proofs.Counted.{counted, counted_at, fewer_left}
-use Rattle.batch_delete.proofs.Entries.{keep_all}
 use Rattle.batch_delete.proofs.Labelled.{law}
-use Rattle.batch_delete.proofs.Planning.{front_there}
 use Rattle.batch_delete.proofs.Resting.{total_agg}
 
 dropped : (q c : Row ℕ → Bool) (xs : List (Row ℕ)) (r : Row ℕ) (ys : List (Row ℕ)) → q r ≡ false → filter q (filter c (xs ++ r ∷ ys)) ≡ filter q (filter c (xs ++ ys))
@@ -101,12 +99,7 @@ tuple_closes d t row = (own, by (closure (eq_by_cmp nat_cmp) (rows_before d) t) 
         q ∙ ap (λ c. Some c) (leq_antisymm law w t down up)
 
 module _ (dims : ℕ) (tree : Tree ℕ) (d : Deletion) (h : IsFrom dims tree (source_before d)) where
-  -- a class is a node, with what its rows come to
-  pub class_there : (tuple : Cell ℕ) → length tuple ≡ dims → tuple ≡ cell_of d.r.tuple → (u : Cell ℕ) → length u ≡ dims → covers (eq_by_cmp nat_cmp) u d.r ≡ true → closure_in (source_before d) u ≡ Some u → (k : ℕ) × (cell_at tree k ≡ Some u)
-  class_there tuple wide row u long below own =
-      let f = front_there dims tree d h tuple wide row u long below own (length u) in
-      (f.0, f.1 ∙ ap (λ c. Some c) (keep_all u (length u) (omega arith)))
-
+  -- a class has what its rows come to
   pub class_agg : (c : Cell ℕ) → length c ≡ dims → (k : ℕ) → cell_at tree k ≡ Some c → closure_in (source_before d) c ≡ Some c → (record_at tree k).class ≡ agg_at (eq_by_cmp nat_cmp) d.measures (rows_before d) c
   class_agg c long k at own = total_some dims tree (source_before d) h c long k (there tree k c at) (ap (λ x. Some x) at ∙ sym (ap (option_map (λ x. Some x)) own)) ∙ total_agg d.measures (rows_before d) c
 
