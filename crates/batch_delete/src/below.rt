@@ -1,6 +1,6 @@
 // The nodes below a tuple.
 ghost use Rattle.std.specs.FinMap as map;
-ghost use Rattle.std.specs.Prelude.{All, IfNone, IfOk, IfSome, IsSome, OnOk, Some, [], false, is_some, length, nat_eq, slice_index_or, slice_get, true, ℕ, ◌++◌, ◌∷◌, ◌*◌, ◌+◌, ◌<◌, ◌≡◌, ◌≤◌};
+ghost use Rattle.std.specs.Prelude.{IfNone, IfOk, IfSome, IsSome, OnOk, Some, [], false, length, nat_eq, slice_index_or, slice_get, true, ℕ, ◌++◌, ◌∷◌, ◌*◌, ◌+◌, ◌<◌, ◌≡◌, ◌≤◌};
 ghost use Rattle.cube_defs.specs.Cell.{depth, leq, with_value};
 ghost use Rattle.cube_defs.specs.Tree.{cell_at};
 ghost use Rattle.cell_core.specs.Entry.{IsCode};

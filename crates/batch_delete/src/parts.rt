@@ -1,6 +1,6 @@
 // What the rows of a class share and come to when a row has gone.
 ghost use Rattle.std.specs.FinMap as map;
-ghost use Rattle.std.specs.Prelude.{IfSome, IsSome, List, None, Some, [], false, true, length, nat_eq, slice_get, slice_index_or, ℕ, ◌*◌, ◌+◌, ◌++◌, ◌∷◌, ◌<◌, ◌≡◌, ◌≤◌};
+ghost use Rattle.std.specs.Prelude.{IfSome, IsSome, List, None, Some, [], false, length, nat_eq, slice_get, slice_index_or, ℕ, ◌*◌, ◌+◌, ◌++◌, ◌∷◌, ◌<◌, ◌≡◌, ◌≤◌};
 ghost use Rattle.cell_core.specs.Entry.{IsCode};
 ghost use Rattle.std.specs.Ordering.{eq_by_cmp, nat_cmp};
 ghost use Rattle.cube_defs.specs.Cell.{keep, with_value};

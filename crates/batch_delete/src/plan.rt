@@ -1,5 +1,5 @@
 // What becomes of each node below the tuple, read from the tree before anything is changed.
-ghost use Rattle.std.specs.Prelude.{false, IfOk, List, OnOk, Some, length, nat_eq, slice_get, true, ℕ, ◌*◌, ◌+◌, ◌≡◌, ◌≢◌, ◌≤◌};
+ghost use Rattle.std.specs.Prelude.{IfOk, List, OnOk, Some, length, nat_eq, true, ℕ, ◌*◌, ◌+◌, ◌≡◌, ◌≢◌, ◌≤◌};
 ghost use Rattle.std.specs.Option.{option_map};
 ghost use Rattle.std.specs.Ordering.{eq_by_cmp, nat_cmp};
 ghost use Rattle.aggregates.specs.Views.{agg_in};
