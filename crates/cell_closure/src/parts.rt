@@ -108,8 +108,9 @@ fn list_rows(rows: &mut Vec<RowNo>, keyed: &[Keyed]) -> Result<(), Memory>
     ensures { IfOk result (λ _. rows.new.items ≡ map (λ k. k.row) keyed.now) }
 {
     rows.clear();
+    rows.reserve(keyed.len())?;
     'rows: for k in keyed {
-        rows.push(k.row)?;
+        rows.push_reserved(k.row);
     }
     Ok(())
 }
