@@ -4,3 +4,4 @@ mod Runs
 mod Sorted
 pub mod Stable
 mod Counting
+mod Swapped
