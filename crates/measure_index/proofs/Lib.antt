@@ -6,4 +6,5 @@ pub mod WalkLemmas
 pub mod Changed
 pub mod Classes
 pub mod Measured
-pub mod Drafted
+pub mod Keyed
+pub mod Filled

@@ -2,6 +2,7 @@ pub mod Keys
 pub mod Entries
 pub mod Rankings
 pub mod Changes
-pub mod Drafts
+pub mod Divisors
+pub mod Kept
 pub mod Index
 pub mod Walks

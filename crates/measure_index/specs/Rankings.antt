@@ -1,5 +1,5 @@
 -- The classes in order of the value of a kind.
-use Rattle.std.specs.Prelude.{◌≡◌, ℕ, ◌<◌, ◌≤◌, ◌^◌, length, Option, Some, List, []}
+use Rattle.std.specs.Prelude.{◌≡◌, ℕ, Option, Some, List, []}
 use Rattle.std.specs.List.{All}
 use Rattle.std.specs.List.Sorted.{IsStrictlySortedBy}
 use Rattle.cube_defs.specs.Rows.{Agg}
@@ -21,12 +21,6 @@ no_entries kind scale = record { kind = kind; scale = scale; entries = [] }
 
 abbrev pub IsRising : List Entry → Type 0
 IsRising entries = IsStrictlySortedBy entry_cmp entries
-
--- what holds of each ranking that is kept
-pub record IsKept (r : Ranking) : Type 0 where
-  pub scale : r.scale ≤ 6
-  pub few : length r.entries < 2 ^ 32
-  pub rising : IsRising r.entries
 
 -- the entries are those of the classes, which are told by their nodes
 pub record IsRanking (class : ℕ → Option Agg) (r : Ranking) : Type 0 where

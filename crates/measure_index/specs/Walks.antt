@@ -25,10 +25,10 @@ abbrev pub passing : Direction → Fraction → Entry → Bool
 passing Falling bound = is_at_least bound
 passing Rising bound = is_at_most bound
 
--- rising entries as they are read
-abbrev pub directed : Direction → List Entry → List Entry
-directed Falling entries = reverse entries
-directed Rising entries = entries
+-- what rises, as it is read
+abbrev pub directed : {X : Type 0} → Direction → List X → List X
+directed Falling items = reverse items
+directed Rising items = items
 
 -- the items at the front that pass
 abbrev pub run_of : {X : Type 0} → (X → Bool) → List X → List X

@@ -4,43 +4,44 @@ ghost use Rattle.measure_index.specs.Entries.{HaveMeasure};
 ghost use Rattle.measure_index.specs.Rankings.{IsRising, Ranking, no_entries};
 ghost use Rattle.std.specs.List.{AllZip};
 ghost use Rattle.measure_index.specs.Changes.{AreFresh, ArePlanned, Came, HasChanged, Went};
-ghost use Rattle.measure_index.specs.Drafts.{IsDraft};
+ghost use Rattle.measure_index.specs.Kept.{IsKey, entries_at};
+ghost use Rattle.measure_index.specs.Walks.{qualifying};
 
-use crate::draft::Draft;
-use crate::drafting::{drafts_of, sorted_entries};
-use crate::entry::{Entry, entries_of};
+use crate::key::Key;
+use crate::keying::keys_of;
 use crate::keys::{lacked_by, put_in, set_of, take_out};
-use aggregates::{Agg, AggKind};
+use crate::walk::{Direction, Walk};
+use aggregates::{Agg, AggKind, Fraction};
 use cell_core::NodeNo;
 use cube_defs::Memory;
 use std::alloc::{AllocError, Global};
 use std::collections::BTreeSet;
-use std::collections::btree_set::Iter;
 use std::marker::Model;
 
-/// The entries of one kind.
+/// The classes by their values of one kind.
 #[derive(Drop)]
 pub(crate) struct Column {
     kind: AggKind,
     scale: u8,
-    entries: BTreeSet<Entry, Global>,
+    keys: BTreeSet<Key, Global>,
 }
 
 impl Model for Column {
-    ghost use Rattle.measure_index.specs.Rankings.{IsKept, Ranking};
+    ghost use Rattle.measure_index.specs.Kept.{AreKept, entries_at};
+    ghost use Rattle.measure_index.specs.Rankings.{Ranking};
 
     ghost Value = { Ranking };
 
-    ghost view = { λ c. record { kind = c.kind; scale = c.scale; entries = c.entries.keys } };
+    ghost view = { λ c. record { kind = c.kind; scale = c.scale; entries = entries_at c.kind c.scale c.keys.keys } };
 
-    ghost invariant = { λ c. IsKept (record { kind = c.kind; scale = c.scale; entries = c.entries.keys }) };
+    ghost invariant = { λ c. AreKept c.scale c.keys.keys };
 }
 
 /// What is to be in a column and what is to go out of it.
 #[derive(Drop)]
 pub(crate) struct Plan {
-    pub(crate) added: Vec<Entry>,
-    pub(crate) going: Vec<Entry>,
+    pub(crate) added: Vec<Key>,
+    pub(crate) going: Vec<Key>,
 }
 
 impl Column {
@@ -52,7 +53,7 @@ impl Column {
         Column {
             kind,
             scale,
-            entries: BTreeSet::new(alloc),
+            keys: BTreeSet::new(alloc),
         }
     }
 
@@ -65,16 +66,17 @@ impl Column {
     pub(crate) fn len(&self) -> u32
         ensures { result ≡ length self.now.entries }
     {
-        self.entries.len() as u32
+        self.keys.len() as u32
     }
 
-    /// The entries in rising order.
-    pub(crate) fn iter(&self) -> Iter<'_, Entry>
-        ensures entries { result ≡ self.now.entries }
+    /// The classes whose values qualify, in order of value.
+    pub(crate) fn walk(&self, direction: Direction, bound: &Fraction) -> Walk<'_>
+        ensures left { result.left ≡ qualifying direction bound.now self.now.entries }
         ensures rising { IsRising self.now.entries }
-        ensures few { length self.now.entries < 2 ^ 32 }
+        ensures given { result.given ≡ 0 }
+        ensures taken { result.taken ≡ 0 }
     {
-        self.entries.iter()
+        Walk::new(self.keys.iter(), self.kind, self.scale, direction, bound)
     }
 
     /// What a change of classes brings and takes away: entries that are both added and removed do not
@@ -87,41 +89,36 @@ impl Column {
     ) -> Result<Plan, Memory>
         requires add { HaveMeasure self.now.kind add.now }
         requires remove { HaveMeasure self.now.kind remove.now }
-        ensures { IfOk result (λ plan. ArePlanned self.now add.now remove.now plan.added.items plan.going.items) }
+        ensures { IfOk result (λ plan. ArePlanned self.now add.now remove.now (entries_at self.now.kind self.now.scale plan.added.items) (entries_at self.now.kind self.now.scale plan.going.items)) }
     {
-        let mut added = entries_of(alloc, self.kind, self.scale, add)?;
-        let mut removed = entries_of(alloc, self.kind, self.scale, remove)?;
+        let mut added = keys_of(alloc, self.kind, add)?;
+        let mut removed = keys_of(alloc, self.kind, remove)?;
         added.sort_unstable();
         removed.sort_unstable();
         let going = lacked_by(alloc, &added, &removed)?;
         Ok(Plan { added, going })
     }
 
-    /// The values of some classes, to be put in once there is nothing else to be kept.
-    pub(crate) fn drafts(
-        &self,
-        alloc: Global,
-        classes: &[(NodeNo, Agg)],
-    ) -> Result<Vec<Draft>, Memory>
+    /// The keys of some classes, to be put in once there is nothing else to be kept.
+    pub(crate) fn keyed(&self, alloc: Global, classes: &[(NodeNo, Agg)]) -> Result<Vec<Key>, Memory>
         requires { HaveMeasure self.now.kind classes.now }
-        ensures { IfOk result (λ drafts. AllZip (IsDraft self.now.kind) classes.now drafts.items) }
+        ensures { IfOk result (λ keys. AllZip (IsKey self.now.kind) classes.now keys.items) }
     {
-        drafts_of(alloc, self.kind, classes)
+        keys_of(alloc, self.kind, classes)
     }
 
     /// Puts classes into a column without entries, up to 4,294,967,295 of them, without a search for
     /// each. A refusal leaves it as it was.
-    pub(crate) fn fill(&mut self, alloc: Global, drafts: Vec<Draft>) -> Result<(), Memory>
+    pub(crate) fn fill(&mut self, alloc: Global, keys: Vec<Key>) -> Result<(), Memory>
         requires { length self.old.entries ≡ 0 }
-        ensures ok { OnOk result ((classes : _) → AllZip (IsDraft self.old.kind) classes drafts.items → HasChanged classes [] self.old self.new) }
+        ensures ok { OnOk result ((classes : _) → AllZip (IsKey self.old.kind) classes keys.items → HasChanged classes [] self.old self.new) }
         ensures err { OnErr result (self.new ≡ self.old) }
     {
-        let sorted = sorted_entries(alloc, self.kind, self.scale, drafts)?;
-        let entries = set_of(alloc, sorted)?;
-        if entries.len() > u32::MAX as usize {
+        let set = set_of(alloc, keys)?;
+        if set.len() > u32::MAX as usize {
             return Err(AllocError);
         }
-        self.entries = entries;
+        self.keys = set;
         Ok(())
     }
 
@@ -129,26 +126,26 @@ impl Column {
     pub(crate) fn clear(&mut self)
         ensures { self.new ≡ no_entries self.old.kind self.old.scale }
     {
-        self.entries.clear();
+        self.keys.clear();
     }
 
     /// Puts entries in, up to 4,294,967,295 in all, and gives those that were not there. A refusal leaves
     /// all as it was.
-    pub(crate) fn put(&mut self, alloc: Global, added: &[Entry]) -> Result<Vec<Entry>, Memory>
-        ensures came { OnOk result (Came added.now self.old self.new) }
-        ensures fresh { IfOk result (λ came. AreFresh self.old added.now came.items) }
+    pub(crate) fn put(&mut self, alloc: Global, added: &[Key]) -> Result<Vec<Key>, Memory>
+        ensures came { OnOk result (Came (entries_at self.old.kind self.old.scale added.now) self.old self.new) }
+        ensures fresh { IfOk result (λ came. AreFresh self.old (entries_at self.old.kind self.old.scale added.now) (entries_at self.old.kind self.old.scale came.items)) }
         ensures err { OnErr result (self.new ≡ self.old) }
     {
-        if self.entries.len() + added.len() > u32::MAX as usize {
+        if self.keys.len() + added.len() > u32::MAX as usize {
             return Err(AllocError);
         }
-        put_in(alloc, &mut self.entries, added)
+        put_in(alloc, &mut self.keys, added)
     }
 
     /// Takes entries out, as far as they are there.
-    pub(crate) fn take(&mut self, going: &[Entry])
-        ensures { Went going.now self.old self.new }
+    pub(crate) fn take(&mut self, going: &[Key])
+        ensures { Went (entries_at self.old.kind self.old.scale going.now) self.old self.new }
     {
-        take_out(&mut self.entries, going);
+        take_out(&mut self.keys, going);
     }
 }

@@ -115,9 +115,9 @@ fn fill_columns(
     let Some((first, rest)) = columns.split_first_mut() else {
         return Ok(());
     };
-    let drafts = first.drafts(alloc, &classes)?;
+    let keys = first.keyed(alloc, &classes)?;
     fill_columns(alloc, rest, classes)?;
-    match first.fill(alloc, drafts) {
+    match first.fill(alloc, keys) {
         Ok(()) => Ok(()),
         Err(error) => {
             clear_columns(rest);
@@ -216,8 +216,7 @@ impl Index {
         ensures given { result.given ≡ 0 }
         ensures taken { result.taken ≡ 0 }
     {
-        let entries = self.column(kind).unwrap().iter();
-        Walk::new(entries, Direction::Falling, value)
+        self.column(kind).unwrap().walk(Direction::Falling, value)
     }
 
     /// The classes with at most a value, in the unit of the kind's measure, the least first. It takes
@@ -229,7 +228,6 @@ impl Index {
         ensures given { result.given ≡ 0 }
         ensures taken { result.taken ≡ 0 }
     {
-        let entries = self.column(kind).unwrap().iter();
-        Walk::new(entries, Direction::Rising, value)
+        self.column(kind).unwrap().walk(Direction::Rising, value)
     }
 }

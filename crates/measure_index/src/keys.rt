@@ -20,7 +20,8 @@ pub(crate) fn take_out<K: Ord + Copy>(set: &mut BTreeSet<K, Global>, items: &[K]
     }
 }
 
-/// A set of some keys, which takes no search for each. It is made the more quickly where they are in order.
+/// A set of some keys, which takes no search for each. They are sorted in place, and so need no room to be
+/// sorted in.
 pub(crate) fn set_of<K: Ord + Copy>(
     alloc: Global,
     items: Vec<K>,
@@ -28,7 +29,9 @@ pub(crate) fn set_of<K: Ord + Copy>(
     ensures has { IfOk result (λ s. (q : K) → contains K.cmp s q ≡ among K.cmp items.items q) }
     ensures ordered { IfOk result (λ s. IsOrdered K.cmp s) }
 {
-    BTreeSet::from_iter(alloc, items)
+    let mut sorted = items;
+    sorted.sort_unstable();
+    BTreeSet::from_iter(alloc, sorted)
 }
 
 /// Puts keys in, and gives those that were not there, in their order. A refusal leaves the set with the

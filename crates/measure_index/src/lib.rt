@@ -2,10 +2,10 @@
 #![tactic(auto)]
 
 mod column;
-mod draft;
-mod drafting;
 mod entry;
 mod index;
+mod key;
+mod keying;
 mod keys;
 mod walk;
 

@@ -1,10 +1,12 @@
 // Entries in order of value, up to a bound.
+ghost use Rattle.std.specs.List.Sorted.{IsStrictlySortedBy};
 ghost use Rattle.std.specs.Prelude.{MatchOption, [], length, ◌+◌, ◌∷◌, ◌<◌, ◌^◌, ◌≡◌, ◌≤◌};
-ghost use Rattle.measure_index.specs.Rankings.{IsRising};
+ghost use Rattle.measure_index.specs.Kept.{entries_at, key_cmp};
 ghost use Rattle.measure_index.specs.Walks.{directed, passing, qualifying};
 
 use crate::entry::Entry;
-use aggregates::{Fraction, Ratio, compare};
+use crate::key::Key;
+use aggregates::{AggKind, Fraction, Ratio, compare};
 use cell_core::NodeNo;
 use std::collections::btree_set::Iter;
 use std::marker::Model;
@@ -22,7 +24,9 @@ pub(crate) enum Direction {
 /// doesn't.
 #[derive(Drop)]
 pub struct Walk<'a> {
-    entries: Iter<'a, Entry>,
+    keys: Iter<'a, Key>,
+    kind: AggKind,
+    scale: u8,
     direction: Direction,
     bound: Fraction,
     stopped: bool,
@@ -31,13 +35,14 @@ pub struct Walk<'a> {
 
 impl<'a> Model for Walk<'a> {
     ghost use Rattle.std.specs.Prelude.{◌+◌, ◌-◌, ◌<◌, ◌≤◌, ◌^◌, cond, length};
+    ghost use Rattle.measure_index.specs.Kept.{entries_at};
     ghost use Rattle.measure_index.specs.Walks.{Walking, left_of};
 
     ghost Value = { Walking };
 
-    ghost view = { λ w. record { left = left_of w.direction w.bound w.stopped w.entries; given = w.taken - cond w.stopped 1 0; taken = w.taken } };
+    ghost view = { λ w. record { left = left_of w.direction w.bound w.stopped (entries_at w.kind w.scale w.keys); given = w.taken - cond w.stopped 1 0; taken = w.taken } };
 
-    ghost invariant = { λ w. (w.taken + length w.entries < 2 ^ 63) × (cond w.stopped 1 0 ≤ w.taken) };
+    ghost invariant = { λ w. (w.taken + length w.keys < 2 ^ 63) × (cond w.stopped 1 0 ≤ w.taken) × (w.scale ≤ 6) };
 }
 
 fn passes(entry: &Entry, direction: Direction, bound: &Fraction) -> bool
@@ -50,28 +55,52 @@ fn passes(entry: &Entry, direction: Direction, bound: &Fraction) -> bool
     }
 }
 
-// The next entry from the end that the direction names.
-fn next_of<'a>(entries: &mut Iter<'a, Entry>, direction: Direction) -> Option<&'a Entry>
-    ensures entry { MatchOption result ((directed direction entries.old ≡ []) × (directed direction entries.new ≡ [])) (λ e. directed direction entries.old ≡ e.now ∷ directed direction entries.new) }
-    ensures count { MatchOption result (length entries.new ≡ length entries.old) (λ _. length entries.old ≡ length entries.new + 1) }
+// The next key from the end that the direction names.
+fn next_of<'a>(keys: &mut Iter<'a, Key>, direction: Direction) -> Option<&'a Key>
+    ensures key { MatchOption result ((directed direction keys.old ≡ []) × (directed direction keys.new ≡ [])) (λ k. directed direction keys.old ≡ k.now ∷ directed direction keys.new) }
+    ensures count { MatchOption result (length keys.new ≡ length keys.old) (λ _. length keys.old ≡ length keys.new + 1) }
 {
     match direction {
-        Direction::Falling => entries.next_back(),
-        Direction::Rising => entries.next(),
+        Direction::Falling => keys.next_back(),
+        Direction::Rising => keys.next(),
     }
 }
 
+// The entry that is read off the next key.
+fn next_entry(
+    keys: &mut Iter<'_, Key>,
+    direction: Direction,
+    kind: AggKind,
+    scale: u8,
+) -> Option<Entry>
+    requires { scale ≤ 6 }
+    ensures entry { MatchOption result ((directed direction (entries_at kind scale keys.old) ≡ []) × (directed direction (entries_at kind scale keys.new) ≡ [])) (λ e. directed direction (entries_at kind scale keys.old) ≡ e ∷ directed direction (entries_at kind scale keys.new)) }
+    ensures count { MatchOption result (length keys.new ≡ length keys.old) (λ _. length keys.old ≡ length keys.new + 1) }
+{
+    let key = next_of(keys, direction)?;
+    Some(key.entry(kind, scale))
+}
+
 impl<'a> Walk<'a> {
-    /// Of entries in rising order those that qualify.
-    pub(crate) fn new(entries: Iter<'a, Entry>, direction: Direction, bound: &Fraction) -> Walk<'a>
-        requires rising { IsRising entries }
-        requires few { length entries < 2 ^ 63 }
-        ensures left { result.left ≡ qualifying direction bound.now entries.entry }
+    /// Of the entries of keys in rising order, for a kind in the unit of its measure's scale, those that qualify.
+    pub(crate) fn new(
+        keys: Iter<'a, Key>,
+        kind: AggKind,
+        scale: u8,
+        direction: Direction,
+        bound: &Fraction,
+    ) -> Walk<'a>
+        requires rising { IsStrictlySortedBy key_cmp keys }
+        requires few { length keys < 2 ^ 63 }
+        requires scale { scale ≤ 6 }
+        ensures left { result.left ≡ qualifying direction bound.now (entries_at kind scale keys.entry) }
         ensures given { result.given ≡ 0 }
         ensures taken { result.taken ≡ 0 }
     {
         Walk {
-            entries,
+            keys,
+            kind,
+            scale,
             direction,
             bound: *bound,
             stopped: false,
@@ -87,9 +116,9 @@ impl<'a> Walk<'a> {
         if self.stopped {
             return None;
         }
-        let entry = next_of(&mut self.entries, self.direction)?;
+        let entry = next_entry(&mut self.keys, self.direction, self.kind, self.scale)?;
         self.taken += 1;
-        if passes(entry, self.direction, &self.bound) {
+        if passes(&entry, self.direction, &self.bound) {
             return Some((NodeNo(entry.node), entry.value));
         }
         self.stopped = true;

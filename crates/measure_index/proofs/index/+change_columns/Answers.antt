@@ -1,8 +1,10 @@
-use Rattle.std.proofs.Common.{ap₂, subst, sym, ◌∙◌, ◌∷◌, rules}
+use Rattle.std.proofs.Common.{ap, ap₂, subst, sym, ◌∙◌, ◌∷◌, rules}
 use Rattle.std.specs.List.{AllZip}
 use Rattle.measure_index.specs.Changes.{HasChanged}
 use Rattle.measure_index.specs.Entries.{HaveMeasure}
+use Rattle.measure_index.specs.Kept.{entries_at}
 use Rattle.measure_index.proofs.Changed.{has_changed, has_gone_back}
+use Rattle.measure_index.proofs.Keyed.{same_entries_of}
 use Rattle.measure_index.proofs.Zips.{head_and_rest}
 use Rattle.measure_index.proofs.index.+change_columns.Goals as goal
 
@@ -24,14 +26,17 @@ change_columns-requires t c = (
 pub returns-in-Ok-clause-ok : goal.returns-in-Ok-clause-ok
 returns-in-Ok-clause-ok t c =
     subst (λ xs. AllZip (HasChanged c.args.add.now c.args.remove.now) xs (c.take.new.self ∷ c.change_columns.new.columns)) (sym c.in-Some.ensures.cases.0) (
-      has_changed c.args.add.now c.args.remove.now c.in-Some.first.now c.put.new.self c.take.new.self c.in_ok-plan.plan.added.items c.in_ok-plan.plan.going.items _ _ c.in_ok-plan.ensures
-          c.deref.ensures.value c.deref-in-Ok.ensures.value c.in_ok-came.ensures.came c.take.ensures,
+      has_changed c.args.add.now c.args.remove.now c.in-Some.first.now c.put.new.self c.take.new.self
+          (entries_at c.in-Some.first.now.kind c.in-Some.first.now.scale c.in_ok-plan.plan.added.items) (entries_at c.in-Some.first.now.kind c.in-Some.first.now.scale c.in_ok-plan.plan.going.items) _ _ c.in_ok-plan.ensures
+          (ap (entries_at c.in-Some.first.now.kind c.in-Some.first.now.scale) c.deref.ensures.value)
+          (same_entries_of c.in_ok-came.ensures.came.alike.kind c.in_ok-came.ensures.came.alike.scale c.deref-in-Ok.ensures.value) c.in_ok-came.ensures.came c.take.ensures,
       c.in-Ok.ensures.ok,
     )
 
 pub returns-clause-err : goal.returns-clause-err
 returns-clause-err t c =
     ap₂ (λ x xs. x ∷ xs)
-    (has_gone_back c.in-Some.first.now c.put.new.self c.take-in-Err.new.self _ c.in_ok-came.came.items _ c.in_ok-came.ensures.fresh c.deref-in-Err.ensures.value c.in_ok-came.ensures.came c.take-in-Err.ensures)
+    (has_gone_back c.in-Some.first.now c.put.new.self c.take-in-Err.new.self _ (entries_at c.in-Some.first.now.kind c.in-Some.first.now.scale c.in_ok-came.came.items) _ c.in_ok-came.ensures.fresh
+    (same_entries_of c.in_ok-came.ensures.came.alike.kind c.in_ok-came.ensures.came.alike.scale c.deref-in-Err.ensures.value) c.in_ok-came.ensures.came c.take-in-Err.ensures)
     c.in-Err.ensures.err
     ∙ sym c.in-Some.ensures.cases.0

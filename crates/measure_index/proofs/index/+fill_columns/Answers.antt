@@ -5,8 +5,8 @@ use Rattle.measure_index.proofs.Changed.{emptied}
 use Rattle.measure_index.proofs.Zips.{head_and_rest}
 use Rattle.measure_index.proofs.index.+fill_columns.Goals as goal
 
-pub drafts-requires : goal.drafts-requires
-drafts-requires t c = subst (HaveMeasure c.in-Some.first.now.kind) (sym c.deref.ensures.value) (head_and_rest (λ r. HaveMeasure r.kind c.args.classes.items) c.args.columns.now c.in-Some.first.now c.in-Some.rest.now c.in-Some.ensures.cases.0 c.requires.measures).0
+pub keyed-requires : goal.keyed-requires
+keyed-requires t c = subst (HaveMeasure c.in-Some.first.now.kind) (sym c.deref.ensures.value) (head_and_rest (λ r. HaveMeasure r.kind c.args.classes.items) c.args.columns.now c.in-Some.first.now c.in-Some.rest.now c.in-Some.ensures.cases.0 c.requires.measures).0
 
 pub fill_columns-requires : goal.fill_columns-requires
 fill_columns-requires t c = (

@@ -1,29 +1,37 @@
-use Rattle.std.proofs.Common.{◌≡◌, ◌&&◌, List, ap, ap₂, is_eq, not, subst, sym, ◌∙◌}
-use Rattle.std.specs.List.Sorted.{IsPermutation}
-use Rattle.std.proofs.lemmas.List.Sorted.{list_any-IsPermutation}
-use Rattle.measure_index.specs.Entries.{HaveMeasure, entry_cmp}
+use Rattle.std.proofs.Common.{◌≡◌, ◌&&◌, ap, ap₂, not, refl, subst, sym, ◌∙◌}
+use Rattle.measure_index.specs.Entries.{HaveMeasure}
 use Rattle.measure_index.specs.Changes.{ArePlanned, lists}
+use Rattle.measure_index.specs.Kept.{entries_at, key_cmp}
+use Rattle.measure_index.specs.Keys.{among}
 use Rattle.measure_index.specs.declared.entry.Entry.{Entry}
+use Rattle.measure_index.specs.declared.key.Key.{Key}
+use Rattle.measure_index.proofs.Keyed.{are_entries, carried, same_lists}
 use Rattle.measure_index.proofs.column.Column.plan.Goals as goal
 
-pub entries_of-requires-clause-there : goal.entries_of-requires-clause-there
-entries_of-requires-clause-there c = subst (λ r. HaveMeasure r.kind c.args.add.now) (sym c.self.view_is) c.requires.add
+pub keys_of-requires : goal.keys_of-requires
+keys_of-requires c = subst (λ r. HaveMeasure r.kind c.args.add.now) (sym c.self.view_is) c.requires.add
 
-pub entries_of-requires-2-clause-there : goal.entries_of-requires-2-clause-there
-entries_of-requires-2-clause-there c = subst (λ r. HaveMeasure r.kind c.args.remove.now) (sym c.self.view_is) c.requires.remove
+pub keys_of-requires-2 : goal.keys_of-requires-2
+keys_of-requires-2 c = subst (λ r. HaveMeasure r.kind c.args.remove.now) (sym c.self.view_is) c.requires.remove
 
 pub returns : goal.returns
 returns c =
+    let kind = c.self.inside.kind in
+    let scale = c.self.inside.scale in
+    let six = c.self.invariant.scale_small in
     let added = c.in_ok-added.added.items in
     let removed = c.in_ok-removed.removed.items in
-    let same = λ (xs ys : List Entry) (p : IsPermutation xs ys) (q : Entry). sym (list_any-IsPermutation (λ x. is_eq (entry_cmp x q)) xs ys p) in
-    let come : (q : Entry) → lists c.sort_unstable.new.self.items q ≡ lists added q = same added c.sort_unstable.new.self.items c.sort_unstable.ensures.permutation in
-    let go : (q : Entry) → lists c.sort_unstable-2.new.self.items q ≡ lists removed q = same removed c.sort_unstable-2.new.self.items c.sort_unstable-2.ensures.permutation in
-    subst (λ r. ArePlanned r c.args.add.now c.args.remove.now c.sort_unstable.new.self.items c.in_ok-going.going.items) c.self.view_is (record {
-      added = added;
-      removed = removed;
-      adds = c.in_ok-added.ensures;
-      removes = c.in_ok-removed.ensures;
+    let coming = c.sort_unstable.new.self.items in
+    let leaving = c.sort_unstable-2.new.self.items in
+    let going = c.in_ok-going.going.items in
+    let come : (q : Entry) → lists (entries_at kind scale coming) q ≡ lists (entries_at kind scale added) q = same_lists kind scale added coming c.sort_unstable.ensures.permutation in
+    let leave : (q : Entry) → lists (entries_at kind scale leaving) q ≡ lists (entries_at kind scale removed) q = same_lists kind scale removed leaving c.sort_unstable-2.ensures.permutation in
+    let lacked : (k : Key) → among key_cmp going k ≡ (among key_cmp leaving k && not (among key_cmp coming k)) = λ k. c.in_ok-going.ensures.has k ∙ ap (λ ks. among key_cmp leaving k && not (among key_cmp ks k)) c.deref.ensures.value in
+    subst (λ r. ArePlanned r c.args.add.now c.args.remove.now (entries_at r.kind r.scale coming) (entries_at r.kind r.scale going)) c.self.view_is (record {
+      added = entries_at kind scale added;
+      removed = entries_at kind scale removed;
+      adds = are_entries kind scale six c.args.add.now added c.in_ok-added.ensures;
+      removes = are_entries kind scale six c.args.remove.now removed c.in_ok-removed.ensures;
       comes = come;
-      goes = λ q. c.in_ok-going.ensures.has q ∙ ap₂ (λ a b. a && not b) (go q) (ap (λ xs. lists xs q) c.deref.ensures.value ∙ come q);
+      goes = λ q. carried kind scale (λ a b. a && not b) refl leaving coming going lacked q ∙ ap₂ (λ a b. a && not b) (leave q) (come q);
     })

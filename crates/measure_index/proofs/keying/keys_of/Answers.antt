@@ -1,9 +1,9 @@
 use Rattle.std.proofs.Common.{subst, sym}
 use Rattle.std.proofs.lemmas.List.Elements.{All-get_or}
 use Rattle.aggregates.specs.Views.{IsThere}
-use Rattle.measure_index.specs.Drafts.{IsDraft}
+use Rattle.measure_index.specs.Kept.{IsKey}
 use Rattle.measure_index.proofs.Zips.{zip_next}
-use Rattle.measure_index.proofs.drafting.drafts_of.Goals as goal
+use Rattle.measure_index.proofs.keying.keys_of.Goals as goal
 
 pub of-requires : goal.of-requires
 of-requires c =
@@ -11,5 +11,5 @@ of-requires c =
 
 pub classes-preserved : goal.classes-preserved
 classes-preserved c =
-    zip_next (IsDraft c.args.kind) c.args.classes.now c.classes.class-index c.class-item.result c.class-item.result c.classes.drafts.items c.push.new.self.items _ c.classes-test.true c.class-item.is c.classes.invariant
+    zip_next (IsKey c.args.kind) c.args.classes.now c.classes.class-index c.class-item.result c.class-item.result c.classes.keys.items c.push.new.self.items _ c.classes-test.true c.class-item.is c.classes.invariant
     c.in_ok-push.ensures.items c.of.ensures

@@ -1,0 +1,24 @@
+use Rattle.std.proofs.Common.{◌&&◌, ap, not, refl, subst, sym, ◌∙◌}
+use Rattle.measure_index.specs.Changes.{Went, lists}
+use Rattle.measure_index.specs.Entries.{entry_total}
+use Rattle.measure_index.specs.Kept.{entries_at, key_cmp, key_total}
+use Rattle.measure_index.specs.Keys.{among}
+use Rattle.measure_index.specs.Rankings.{Ranking}
+use Rattle.measure_index.proofs.KeyLemmas.{any_turned}
+use Rattle.measure_index.proofs.Keyed.{carried, rising}
+use Rattle.measure_index.proofs.column.Column.take.Goals as goal
+
+pub returns : goal.returns
+returns c =
+    let kind = c.self.inside.kind in
+    let scale = c.self.inside.scale in
+    let old = c.self.inside.keys.keys in
+    let new = c.take_out.new.set.keys in
+    let now : Ranking = record { kind = kind; scale = scale; entries = entries_at kind scale new } in
+    subst (λ r. Went (entries_at r.kind r.scale c.args.going.now) r now) c.self.view_is (record {
+      alike = record { kind = refl; scale = refl; was_rising = rising kind scale old c.self.invariant.rising; rising = rising kind scale new c.take_out.ensures.ordered };
+      entry = λ q.
+          any_turned entry_total (entries_at kind scale new) q
+          ∙ carried kind scale (λ a b. a && not b) refl old c.args.going.now new (λ k. sym (any_turned key_total new k) ∙ c.take_out.ensures.has k ∙ ap (λ a. a && not (among key_cmp c.args.going.now k)) (any_turned key_total old k)) q
+          ∙ ap (λ a. a && not (lists (entries_at kind scale c.args.going.now) q)) (sym (any_turned entry_total (entries_at kind scale old) q));
+    })

@@ -1,0 +1,80 @@
+// The keys by which classes are kept.
+ghost use Rattle.std.specs.Prelude.{nat_abs, pos, ◌*ℤ◌, ◌*◌, ◌<◌, ◌^◌, ◌≡◌};
+ghost use Rattle.aggregates.specs.Quotients.{IsDivisor};
+
+use std::cmp::Ordering;
+
+/// The value of a class, as a number over the rows that it is divided by, with the number of its node; in
+/// order of value and then of number. It isn't put in lowest terms, so it is quick to make, and smaller
+/// than an entry.
+#[derive(Clone, Copy, Debug)]
+pub struct Key {
+    pub num: i64,
+    pub den: u32,
+    pub node: u32,
+    pub ghost in_range: { IsDivisor den },
+}
+
+// A number times a divisor.
+fn times(num: i128, den: u64) -> i128
+    requires { nat_abs num * den < 2 ^ 127 }
+    ensures { result ≡ num *ℤ pos den }
+{
+    num * i128::from(den)
+}
+
+impl PartialEq for Key {
+    ghost use Rattle.std.specs.Cmp.{partial_equiv_from_equiv, eq_by_cmp_equiv};
+    ghost use Rattle.std.specs.Ordering.{eq_by_cmp};
+    ghost use Rattle.measure_index.specs.Kept.{key_cmp, key_total};
+
+    ghost eq = { eq_by_cmp key_cmp };
+
+    ghost laws = { partial_equiv_from_equiv (eq_by_cmp_equiv key_total) };
+
+    fn eq(&self, other: &Key) -> bool {
+        self.cmp(other).is_eq()
+    }
+}
+
+impl Eq for Key {
+    ghost use Rattle.std.specs.Cmp.{eq_by_cmp_equiv};
+    ghost use Rattle.measure_index.specs.Kept.{key_total};
+
+    ghost laws = { eq_by_cmp_equiv key_total };
+}
+
+impl PartialOrd for Key {
+    ghost use Rattle.std.specs.Prelude.{refl};
+    ghost use Rattle.std.specs.Cmp.{partial_order_from_agreeing_total};
+    ghost use Rattle.std.specs.Ordering.{as_partial_cmp};
+    ghost use Rattle.measure_index.specs.Kept.{key_cmp, key_total};
+
+    ghost partial_cmp = { as_partial_cmp key_cmp };
+
+    ghost laws = { partial_order_from_agreeing_total key_cmp key_total (λ x y. refl) (λ x y. refl) };
+
+    fn partial_cmp(&self, other: &Key) -> Option<Ordering> {
+        Some(self.cmp(other))
+    }
+}
+
+impl Ord for Key {
+    ghost use Rattle.std.specs.Prelude.{refl};
+    ghost use Rattle.measure_index.specs.Kept.{key_cmp, key_total};
+
+    ghost cmp = { key_cmp };
+
+    ghost total = { key_total };
+
+    ghost matches_partial_cmp = { λ x y. refl };
+
+    ghost matches_eq = { λ x y. refl };
+
+    // The products are always taken: a test for one divisor is a branch that a sort of means can't foretell.
+    fn cmp(&self, other: &Key) -> Ordering {
+        let value = times(i128::from(self.num), u64::from(other.den));
+        let other_value = times(i128::from(other.num), u64::from(self.den));
+        value.cmp(&other_value).then(self.node.cmp(&other.node))
+    }
+}

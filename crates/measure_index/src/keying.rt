@@ -1,0 +1,64 @@
+// The keys of classes, and the entries that they stand for.
+ghost use Rattle.std.specs.List.{AllZip};
+ghost use Rattle.std.specs.Prelude.{IfOk, ◌≡◌, ◌≤◌};
+ghost use Rattle.aggregates.specs.Views.{IsThere};
+ghost use Rattle.measure_index.specs.Entries.{HaveMeasure};
+ghost use Rattle.measure_index.specs.Kept.{IsKey, entry_of};
+
+use crate::entry::Entry;
+use crate::key::Key;
+use aggregates::{Agg, AggKind, Quotient};
+use cell_core::NodeNo;
+use cube_defs::Memory;
+use std::alloc::Global;
+
+impl Key {
+    fn of(kind: AggKind, class: &(NodeNo, Agg)) -> Key
+        requires { IsThere class.now.1.measures kind }
+        ensures { IsKey kind class.now result }
+    {
+        let value = Quotient::of(&class.1, kind);
+        Key {
+            num: value.num,
+            den: value.den,
+            node: class.0.0,
+        }
+    }
+
+    fn value(self) -> Quotient
+        ensures num { result.num ≡ self.num }
+        ensures den { result.den ≡ self.den }
+    {
+        Quotient {
+            num: self.num,
+            den: self.den,
+        }
+    }
+
+    /// The entry, for a kind in the unit of its measure's scale.
+    pub(crate) fn entry(self, kind: AggKind, scale: u8) -> Entry
+        requires { scale ≤ 6 }
+        ensures { result ≡ entry_of kind scale self }
+    {
+        Entry {
+            value: self.value().in_lowest_terms(kind, scale),
+            node: self.node,
+        }
+    }
+}
+
+/// The keys of some classes, in their order.
+pub(crate) fn keys_of(
+    alloc: Global,
+    kind: AggKind,
+    classes: &[(NodeNo, Agg)],
+) -> Result<Vec<Key>, Memory>
+    requires { HaveMeasure kind classes.now }
+    ensures { IfOk result (λ keys. AllZip (IsKey kind) classes.now keys.items) }
+{
+    let mut keys = Vec::with_capacity(alloc, classes.len())?;
+    'classes: for class in classes {
+        keys.push(Key::of(kind, class))?;
+    }
+    Ok(keys)
+}
