@@ -31,7 +31,7 @@ module _ {A : Type 0} {eq : A → A → Bool} (law : IsEquality eq) where
       r.1 ∙ ap (λ x. Some x) (leq_antisymm law r.0 u (closure_mono law rows d u r.0 u k r.1 own) (closure_mono law rows c d u r.0 h e r.1))
 
 module _ (source : Source) (u : Cell ℕ) where
-  closed : (c : Cell ℕ) → has_closure_in source u c ≡ true → closure (eq_by_cmp nat_cmp) source.rows c ≡ Some u
+  pub closed : (c : Cell ℕ) → has_closure_in source u c ≡ true → closure (eq_by_cmp nat_cmp) source.rows c ≡ Some u
   closed c = (option_eq-is code_equality (closure (eq_by_cmp nat_cmp) source.rows c) u).0
 
   with_bit : (m k j : ℕ) → has_bit m k ≡ true → has_bit (turned m k) j ≡ true → has_bit m j ≡ true
@@ -75,6 +75,17 @@ module _ (source : Source) (u : Cell ℕ) where
         go : (k : ℕ) (b : Bool) → has_bit m k ≡ b → (not b || not (closes source u (turned m k))) ≡ (not b || not (is_marked marks (turned m k)))
         go k false e = refl
         go k true e = ap not (sym (below (turned m k) (turned_below m k e)))
+
+    pub not_closed : closes source u m ≡ false → false ≡ bounds source u m
+    not_closed e = sym (bound_is ∙ ap (λ b. b && is_least marks (values u) m) e)
+
+    -- one number more, which is not marked
+    pub unmarked_more : is_marked marks m ≡ false → closes source u m ≡ false → IsMarkedBelow source u marks (m + 1)
+    unmarked_more n c j k = go (nat_eq j m) refl
+      where
+        go : (b : Bool) → nat_eq j m ≡ b → is_marked marks j ≡ closes source u j
+        go true e = subst (λ i. is_marked marks i ≡ closes source u i) (sym (eqb-true j m e)) (n ∙ sym c)
+        go false e = let ne : j ≢ m = λ s. true≢false (sym (eq-eqb j m s) ∙ e) in below j (omega arith)
 
     pub no_bound : is_least marks (values u) m ≡ false → false ≡ bounds source u m
     no_bound e = sym (bound_is ∙ ap (λ b. closes source u m && b) e ∙ and_false (closes source u m))

@@ -1,4 +1,5 @@
 -- The cells of numbers are the cells below a cell, in order.
+use Rattle.std.proofs.lemmas.Nat.{pow_pos}
 use Rattle.std.proofs.Common.{◌≡◌, ℕ, suc, ◌+◌, ◌-◌, ◌*◌, ◌^◌, ◌<◌, ◌≤◌, pow-suc, Bool, true, false, Option, Some, None, [], ◌∷◌, ◌++◌, map, length, refl, sym, ap, ap₂, ◌∙◌, arith, true≢false}
 use Rattle.std.specs.Prelude.{if◌then◌else◌, nat_eq}
 use Rattle.std.proofs.lemmas.Bool.{and_from}
@@ -41,6 +42,19 @@ module _ {A : Type 0} where
   same_cell [] m n h = refl
   same_cell (None ∷ u) m n h = ap₂ (λ e c. e ∷ c) (none_kept (has_bit m (values u)) ∙ sym (none_kept (has_bit n (values u)))) (same_cell u m n h)
   same_cell (Some v ∷ u) m n h = ap₂ (λ e c. e ∷ c) (ap (λ b. if b then Some v else None) (h (values u) (omega arith))) (same_cell u m n (λ k l. h k (omega arith)))
+
+  -- all bits make the cell itself
+  pub whole_cell : (u : Cell A) (m : ℕ) → m + 1 ≡ 2 ^ values u → cell_of_number u m ≡ u
+  whole_cell [] m h = refl
+  whole_cell (None ∷ u) m h = ap₂ (λ e c. e ∷ c) (none_kept (has_bit m (values u))) (whole_cell u m h)
+  whole_cell (Some v ∷ u) m h =
+      let rest = m - 2 ^ values u in
+      let one : 0 < 2 ^ values u = pow_pos (values u) in
+      let twice : m + 1 ≡ 2 ^ values u + 2 ^ values u = h ∙ omega (arith, pow-suc 2 (values u)) in
+      let is : m ≡ 2 ^ values u + rest = omega (arith, one, twice) in
+      let less : rest + 1 ≡ 2 ^ values u = omega (arith, one, twice) in
+      ap₂ (λ b c. (if b then Some v else None) ∷ c) (ap (λ n. has_bit n (values u)) is ∙ high_bit (values u) rest (omega (arith, less)))
+      (same_cell u m rest (λ k l. ap (λ n. has_bit n k) is ∙ low_bits (values u) rest k l) ∙ whole_cell u rest less)
 
   low : (v : A) (u : Cell A) → map (cell_of_number (Some v ∷ u)) (range_with_len 0 (2 ^ values u)) ≡ map (λ c. None ∷ c) (map (cell_of_number u) (range_with_len 0 (2 ^ values u)))
   low v u =
@@ -91,3 +105,9 @@ module _ {A : Type 0} {eq : A → A → Bool} (law : IsEquality eq) where
   pub more_bits : (u : Cell A) (m n : ℕ) → ((k : ℕ) → has_bit m k ≡ true → has_bit n k ≡ true) → leq eq (cell_of_number u m) (cell_of_number u n) ≡ true
   more_bits [] m n h = refl
   more_bits (e ∷ u) m n h = and_from _ _ (entry_more (has_bit m (values u)) (has_bit n (values u)) e (h (values u))) (more_bits u m n h)
+
+  -- only the bits of values count
+  pub more_values : (u : Cell A) (m n : ℕ) → ((k : ℕ) → k < values u → has_bit m k ≡ true → has_bit n k ≡ true) → leq eq (cell_of_number u m) (cell_of_number u n) ≡ true
+  more_values [] m n h = refl
+  more_values (None ∷ u) m n h = and_from _ _ (ap₂ (entry_leq eq) (none_kept (has_bit m (values u))) (none_kept (has_bit n (values u)))) (more_values u m n h)
+  more_values (Some v ∷ u) m n h = and_from _ _ (entry_more (has_bit m (values u)) (has_bit n (values u)) (Some v) (h (values u) (omega arith))) (more_values u m n (λ k l. h k (omega (arith, l))))

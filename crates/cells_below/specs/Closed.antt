@@ -1,10 +1,10 @@
 -- The numbers of the cells with one closure.
-use Rattle.std.specs.Prelude.{◌≡◌, ℕ, ◌<◌, Bool, List}
+use Rattle.std.specs.Prelude.{◌≡◌, ℕ, ◌<◌, Bool, true, false, List}
 use Rattle.std.specs.Ordering.{nat_cmp, eq_by_cmp}
 use Rattle.cube_defs.specs.Cell.{Cell}
 use Rattle.cube_defs.specs.Rows.{has_closure, is_lower_bound}
 use Rattle.tree_search.specs.Found.{Source}
-use Rattle.cells_below.specs.Numbers.{cell_of_number}
+use Rattle.cells_below.specs.Numbers.{cell_of_number, has_bit}
 use Rattle.cells_below.specs.Marks.{is_marked}
 
 -- whether the cell's closure is u
@@ -22,3 +22,7 @@ bounds source u m = is_lower_bound (eq_by_cmp nat_cmp) source.rows u (cell_of_nu
 -- of the numbers below n, just those are marked whose cells have the closure u
 abbrev pub IsMarkedBelow : Source → Cell ℕ → List Bool → ℕ → Type 0
 IsMarkedBelow source u marks n = (m : ℕ) → m < n → is_marked marks m ≡ closes source u m
+
+-- no number that lacks one of the bits has a cell with the closure u
+abbrev pub AreNeeded : Source → Cell ℕ → ℕ → Type 0
+AreNeeded source u needed = (k m : ℕ) → has_bit needed k ≡ true → has_bit m k ≡ false → closes source u m ≡ false

@@ -1,14 +1,15 @@
 // Whether cells below a class are lower bounds of it.
-ghost use Rattle.std.specs.Prelude.{IsTrue, Some, false, length, ℕ, ◌*◌, ◌+◌, ◌<◌, ◌^◌, ◌≡◌, ◌≤◌};
+ghost use Rattle.std.specs.Prelude.{IsTrue, Some, false, length, true, ℕ, ◌*◌, ◌+◌, ◌<◌, ◌^◌, ◌≡◌, ◌≤◌};
 ghost use Rattle.cube_defs.specs.Tree.{cell_at};
 ghost use Rattle.tree_search.specs.Found.{IsFrom, IsTree, Source};
-ghost use Rattle.cells_below.specs.Closed.{IsMarkedBelow, bounds, closes, has_closure_in};
+ghost use Rattle.cells_below.specs.Closed.{AreNeeded, IsMarkedBelow, bounds, closes, has_closure_in};
 ghost use Rattle.cells_below.specs.Marks.{is_marked};
 ghost use Rattle.cells_below.specs.Numbers.{cell_of_number, values};
 
 use crate::marks::Marks;
 use crate::numbers::put_cell;
 use crate::pruned::least;
+use crate::without::lacks;
 use cell_core::{Cell, NodeNo, Steps};
 use cube_defs::MAX_DIMS;
 use qc_arena::Nodes;
@@ -36,8 +37,8 @@ fn leads_to<T: Nodes, L: Ledger>(
     }
 }
 
-// Makes `cell` the cell of a number, and says whether its closure is u.
-fn closes_at<T: Nodes, L: Ledger>(
+/// Makes `cell` the cell of a number, and says whether its closure is u.
+pub(crate) fn closes_at<T: Nodes, L: Ledger>(
     tree: &T,
     node: NodeNo,
     u: &Cell,
@@ -58,14 +59,11 @@ fn closes_at<T: Nodes, L: Ledger>(
     leads_to(tree, node, u, cell, steps)
 }
 
-/// Whether the cell of a number is a lower bound of u; `cell` is then that cell. Marks the number where
-/// its cell has the closure u, as it is known of the smaller numbers. Each cell between a cell with
-/// that closure and u has it too: so no search is needed where a number with one bit less is marked.
-pub fn bounds_at<T: Nodes, L: Ledger>(
+// The same for a number with d bits. The cell of the greatest is u, which is its own closure.
+fn closes_below<T: Nodes, L: Ledger>(
     tree: &T,
     node: NodeNo,
     u: &Cell,
-    marks: &mut Marks,
     d: u32,
     m: u32,
     cell: &mut Cell,
@@ -73,6 +71,46 @@ pub fn bounds_at<T: Nodes, L: Ledger>(
 ) -> bool
     requires tree { IsTree (T.width tree.now) (T.tree tree.now) }
     requires upper { cell_at (T.tree tree.now) node.0 ≡ Some u.now }
+    requires own { (source : Source) → IsFrom (T.width tree.now) (T.tree tree.now) source →
+        has_closure_in source u.now u.now ≡ true }
+    requires dims { length cell.old ≡ length u.now }
+    requires values { d ≡ values u.now }
+    requires few { d ≤ MAX_DIMS }
+    requires number { m < 2 ^ d }
+    ensures value { (source : Source) → IsFrom (T.width tree.now) (T.tree tree.now) source →
+        result ≡ closes source u.now m }
+    ensures cell { cell.new ≡ cell_of_number u.now m }
+    ensures dims { length cell.new ≡ length u.now }
+    ensures steps { steps.new ≤ steps.old + (2 * length u.now + 2) }
+{
+    if m + 1 == 1 << d {
+        put_cell(u, m, cell);
+        return true;
+    }
+    closes_at(tree, node, u, m, cell, steps)
+}
+
+/// Whether the cell of a number is a lower bound of u; `cell` is then that cell. Marks the number where
+/// its cell has the closure u, as it is known of the smaller numbers. Each cell between a cell with
+/// that closure and u has it too: so no search is made where a number with one bit less is marked, nor
+/// where the number lacks a bit that is needed, nor for u itself, which is its own closure.
+pub fn bounds_at<T: Nodes, L: Ledger>(
+    tree: &T,
+    node: NodeNo,
+    u: &Cell,
+    marks: &mut Marks,
+    d: u32,
+    needed: u32,
+    m: u32,
+    cell: &mut Cell,
+    steps: &mut Steps<L>,
+) -> bool
+    requires tree { IsTree (T.width tree.now) (T.tree tree.now) }
+    requires upper { cell_at (T.tree tree.now) node.0 ≡ Some u.now }
+    requires own { (source : Source) → IsFrom (T.width tree.now) (T.tree tree.now) source →
+        has_closure_in source u.now u.now ≡ true }
+    requires needed { (source : Source) → IsFrom (T.width tree.now) (T.tree tree.now) source →
+        AreNeeded source u.now needed }
     requires dims { length cell.old ≡ length u.now }
     requires values { d ≡ values u.now }
     requires few { d ≤ MAX_DIMS }
@@ -91,11 +129,14 @@ pub fn bounds_at<T: Nodes, L: Ledger>(
     ensures above { (j : ℕ) → m + 1 ≤ j → is_marked marks.new j ≡ false }
     ensures steps { steps.new ≤ steps.old + (2 * length u.now + 2) }
 {
+    if lacks(m, needed, d) {
+        return false;
+    }
     if !least(marks, d, m) {
         marks.set(m);
         return false;
     }
-    if !closes_at(tree, node, u, m, cell, steps) {
+    if !closes_below(tree, node, u, d, m, cell, steps) {
         return false;
     }
     marks.set(m);

@@ -6,9 +6,11 @@ mod closed;
 mod marks;
 mod numbers;
 mod pruned;
+mod without;
 
 pub use closed::bounds_at;
 pub use cube_defs::Memory;
 pub use marks::Marks;
 pub use numbers::{count_values, has, put_cell, turn};
 pub use pruned::least;
+pub use without::needed;

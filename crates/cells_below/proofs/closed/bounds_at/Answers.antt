@@ -20,5 +20,5 @@ returns-then-not-least-clause-below g c = λ source h.
 pub returns-clause-value : goal.returns-clause-value
 returns-clause-value g c = λ source h.
     is_bound source c.args.u.now c.args.marks.now c.args.m (subst (λ d. c.args.m < 2 ^ d) c.requires.values c.requires.number) (c.requires.below source h)
-    (sym (c.if-not-closes_at.ensures.value source h))
+    (sym (c.if-not-closes_below.ensures.value source h))
     (subst (λ d. is_least c.args.marks.now d c.args.m ≡ true) c.requires.values (sym c.if-not-least.ensures))

@@ -15,7 +15,7 @@ returns-in_err-lowers-clause-steps g c =
     let u = c.upper_into.new.out in
     let wide : length u ≡ n = omega (arith, c.upper_into.ensures.dims, c.any-upper.ensures.dims, c.dims.ensures.value) in
     let few : values u ≤ n = omega (arith, few_values u, wide) in
-    let below : c.bounds_below.new.steps ≤ c.class.new.steps + 2 ^ values u * (2 * n + 2) = rw wide at c.bounds_below.ensures.steps in
+    let below : c.bounds_below.new.steps ≤ c.class.new.steps + (values u + 2 ^ values u) * (2 * n + 2) = rw wide at c.bounds_below.ensures.steps in
     omega (arith, below, c.class.ensures.steps, c.upper_into.ensures.steps, c.find.ensures.steps, c.upper_into.ensures.dims, wide, c.requires.dims, steps_in_all n (values u) few)
 
 pub returns-clause-steps : goal.returns-clause-steps
@@ -24,5 +24,5 @@ returns-clause-steps g c =
     let u = c.upper_into.new.out in
     let wide : length u ≡ n = omega (arith, c.upper_into.ensures.dims, c.any-upper.ensures.dims, c.dims.ensures.value) in
     let few : values u ≤ n = omega (arith, few_values u, wide) in
-    let below : c.bounds_below.new.steps ≤ c.class.new.steps + 2 ^ values u * (2 * n + 2) = rw wide at c.bounds_below.ensures.steps in
+    let below : c.bounds_below.new.steps ≤ c.class.new.steps + (values u + 2 ^ values u) * (2 * n + 2) = rw wide at c.bounds_below.ensures.steps in
     omega (arith, below, c.class.ensures.steps, c.upper_into.ensures.steps, c.find.ensures.steps, c.upper_into.ensures.dims, wide, c.requires.dims, steps_in_all n (values u) few)
