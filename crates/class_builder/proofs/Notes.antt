@@ -150,3 +150,15 @@ found_front t a f nos c i d node x valid there some within front full lt noted_a
     go (Some row) e at h s =
         let tuple : length row.tuple ≡ t.dims = (is_row t valid (get_or nos i x).0 row e).tuple in
         ap (λ n. cell_at a.now n) (sym is) ∙ at ∙ ap (λ b. Some b) (sym (full_front d u row.tuple (long ∙ sym tuple ∙ sym (length-map row.tuple (λ v. Some v))) h u_full))
+
+-- what is noted for the only one of some rows is the node of the front of what they share
+pub found_one : (t : Places) (a : Arena) (f : Fronts) (nos : List RowNo) (d node : ℕ) (x : RowNo) → There t nos → length nos ≡ 1 → d < t.dims
+    → AreNoted t a f → noted f (get_or nos 0 x).0 d ≡ node → node ≢ not_noted → cell_at a.now node ≡ Some (keep (suc d) (shared_by (named t nos)))
+found_one t a f [] d node x there one within noted_are is ne = absurd (omega (arith, one))
+found_one t a f (n ∷ m ∷ nos) d node x there one within noted_are is ne = absurd (omega (arith, one))
+found_one t a f (n ∷ []) d node x there one within noted_are is ne =
+    go (row_at t n.0) there.0 (noted_are.each n.0 d within (λ e. ne (sym is ∙ e)))
+  where
+    go : (o : Option (Row ℕ)) → is_some o ≡ true → IfSome o (λ row. cell_at a.now (noted f n.0 d) ≡ Some (keep (suc d) (cell_of row.tuple))) → cell_at a.now node ≡ Some (keep (suc d) (shared_by (cons_option o [])))
+    go None s h = absurd (true≢false (sym s))
+    go (Some row) s h = ap (λ k. cell_at a.now k) (sym is) ∙ h

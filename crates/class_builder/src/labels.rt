@@ -2,7 +2,7 @@
 ghost use Rattle.std.specs.FinMap as map;
 ghost use Rattle.cell_core.specs.Entry.{IsCode};
 ghost use Rattle.std.specs.Ordering.{nat_cmp};
-ghost use Rattle.std.specs.Prelude.{Err, IsSome, List, None, OnOk, Some, [], false, length, nat_eq, slice_index_or, suc, true, ℕ, ◌+◌, ◌<◌, ◌∷◌, ◌≡◌, ◌≤◌};
+ghost use Rattle.std.specs.Prelude.{Err, IfSome, IsSome, List, None, OnOk, Some, [], false, length, nat_eq, slice_index_or, suc, true, ℕ, ◌+◌, ◌<◌, ◌∷◌, ◌≡◌, ◌≤◌};
 ghost use Rattle.std.specs.List.{AllByRecursion};
 ghost use Rattle.cube_defs.specs.Cell.{keep};
 ghost use Rattle.cube_defs.specs.Rows.{Row, covers};
@@ -11,13 +11,14 @@ ghost use Rattle.base_table.specs.Places.{AreThere, IsTable, named, rows_of};
 ghost use Rattle.cube_laws.specs.Parting.{shared_by};
 ghost use Rattle.build_trace.specs.Trace.{Act.{Label}};
 ghost use Rattle.build_trace.specs.Walk.{same_front};
-ghost use Rattle.qc_arena.specs.Map.{frame, is_open, is_touched};
+ghost use Rattle.qc_arena.specs.Map.{Arena, frame, is_open, is_touched};
 ghost use Rattle.build_acts.specs.Going.{Does, IsNext};
 ghost use Rattle.class_builder.specs.Walk.{IsGroup, IsOnPath, IsPart, front_acts};
 ghost use Rattle.class_builder.specs.Noted.{AreNoted};
 
 use crate::Memory;
 use crate::builder::Builder;
+use crate::noted::Fronts;
 use crate::part::{ChildEdge, Group, Part};
 use crate::path::Path;
 use crate::upper::front_of;
@@ -72,6 +73,18 @@ pub(crate) fn add_front<L: Ledger>(
     }
 }
 
+/// The node of the front, with the dimension, of the only row of a group, where it is noted for it.
+/// None where the group has more rows.
+fn lone_front(fronts: &Fronts, group: &Group<'_>, dim: u8) -> Option<NodeNo>
+    requires group { IsGroup group.now.table.now group.now.rows.now group.now.code group.now.upper.now dim }
+    ensures { IfSome result (λ node. (arena : Arena) → AreNoted group.now.table.now arena fronts.now → cell_at arena.now node.0 ≡ Some (keep (suc dim) (shared_by (named group.now.table.now group.now.rows.now)))) }
+{
+    if group.rows.len() != 1 {
+        return None;
+    }
+    fronts.at(group.rows[0], dim)
+}
+
 /// The node of the front with dimension `dim` of what a group's rows share, who share a value in
 /// dimension `at` that `upper` lacks: it is noted for them, or gone down to from the path.
 fn shared_front<L: Ledger>(
@@ -94,6 +107,9 @@ fn shared_front<L: Ledger>(
     ensures fronts { builder.new.fronts.now ≡ builder.old.fronts.now }
     ensures same { builder.new.arena.ghost_name ≡ builder.old.arena.ghost_name }
 {
+    if let Some(node) = lone_front(builder.fronts, group, dim) {
+        return node;
+    }
     let target = front_of(group.table, group.rows, group.upper, at, dim);
     match builder.fronts.find(group.rows[0], &target, dim) {
         Some(node) => node,

@@ -42,6 +42,15 @@ impl Fronts {
         row.0 as usize * self.dims as usize + dim as usize
     }
 
+    /// The node that is noted for the row and the dimension.
+    pub(crate) fn at(&self, row: RowNo, dim: u8) -> Option<NodeNo>
+        ensures node { IfSome result (λ node. noted self.now row.0 dim ≡ node.0) }
+        ensures some { IfSome result (λ node. node.0 ≢ not_noted) }
+    {
+        let node = *self.nodes.get(self.place(row, dim))?;
+        if node == NOT_NOTED { None } else { Some(node) }
+    }
+
     /// The node that is noted for the row, which the cell covers, where the cell has a value in each
     /// dimension up to this one.
     pub(crate) fn find(&self, row: RowNo, cell: &Cell, dim: u8) -> Option<NodeNo>
@@ -50,11 +59,11 @@ impl Fronts {
         ensures some { IfSome result (λ node. node.0 ≢ not_noted) }
         ensures full { IfSome result (λ _. IsFull cell.now dim) }
     {
-        if !is_full(cell, dim) {
-            return None;
+        if is_full(cell, dim) {
+            self.at(row, dim)
+        } else {
+            None
         }
-        let node = *self.nodes.get(self.place(row, dim))?;
-        if node == NOT_NOTED { None } else { Some(node) }
     }
 
     /// Notes the node of the front, with the dimension, of what the rows share, where they share a

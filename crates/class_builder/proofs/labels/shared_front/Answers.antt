@@ -32,8 +32,11 @@ descend-requires-clause-way g c =
     (front_apart c.args.dim (suc c.args.dim) shared c.args.group.now.upper.now (omega arith) (differs_behind c.args.at c.args.dim shared c.args.group.now.upper.now c.requires.at c.requires.gains))))
 
 pub returns-in-Some-clause-node : goal.returns-in-Some-clause-node
-returns-in-Some-clause-node g c =
+returns-in-Some-clause-node g c = c.in-Some.ensures c.args.builder.now.arena.now c.requires.fronts
+
+pub returns-in-Some-find-clause-node : goal.returns-in-Some-find-clause-node
+returns-in-Some-find-clause-node g c =
     let t = c.args.group.now.table.now in
     let within : c.args.dim < t.dims = c.requires.group.dim in
-    found_front t c.args.builder.now.arena.now c.args.builder.now.fronts.now c.args.group.now.rows.now c.front_of-target.result 0 c.args.dim c.in-Some.node.0 _ c.requires.group.table (there t c.args.group.now.rows.now c.requires.group.there) c.requires.group.some
-    within c.front_of-target.ensures.front c.in-Some.ensures.full c.requires.group.some c.requires.fronts c.in-Some.ensures.node c.in-Some.ensures.some
+    found_front t c.args.builder.now.arena.now c.args.builder.now.fronts.now c.args.group.now.rows.now c.front_of-target.result 0 c.args.dim c.in-Some-find.node.0 _ c.requires.group.table (there t c.args.group.now.rows.now c.requires.group.there) c.requires.group.some
+    within c.front_of-target.ensures.front c.in-Some-find.ensures.full c.requires.group.some c.requires.fronts c.in-Some-find.ensures.node c.in-Some-find.ensures.some
