@@ -41,13 +41,14 @@ pub(crate) fn drill<L: Ledger>(
     ensures frame { frame builder.new.arena.now ≡ frame builder.old.arena.now }
     ensures same { builder.new.arena.ghost_name ≡ builder.old.arena.ghost_name }
 {
+    // Before the parts of these rows read each amount on its own, all are read one behind the other.
+    let agg = total(part.table, part.rows);
     'dims: for dim in first..part.table.dims() {
         match drill_at(builder, part, dim, &mut path) {
             Ok(()) => {}
             Err(error) => return Err(error),
         }
     }
-    let agg = total(part.table, part.rows);
     mark_class(
         builder.arena,
         path.at(part.table.dims()),
