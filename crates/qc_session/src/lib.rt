@@ -14,6 +14,3 @@ mod session;
 mod words;
 
 pub use scripts::{Outcome, run};
-
-#[cfg(test)]
-mod tests;

@@ -5,8 +5,6 @@ mod iceberg;
 mod line;
 mod plain;
 mod record;
-#[cfg(test)]
-mod tests;
 mod values;
 
 pub use line::{Command, LineRefused, read_line};
