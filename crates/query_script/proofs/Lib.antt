@@ -3,3 +3,4 @@ mod PlainFields
 mod Asked
 mod CommandFacts
 mod Listed
+mod CodedFields

@@ -13,7 +13,7 @@ use Rattle.text_lines.proofs.Pieces.{no-records, plain-record}
 no-fields : fields_in [] ≡ []
 no-fields = rw no-records refl
 
-plain-fields : (b : ℕ) (bs : List ℕ) → list_all is_plain_byte (b ∷ bs) ≡ true → fields_in (b ∷ bs) ≡ pieces (b ∷ bs)
+pub plain-fields : (b : ℕ) (bs : List ℕ) → list_all is_plain_byte (b ∷ bs) ≡ true → fields_in (b ∷ bs) ≡ pieces (b ∷ bs)
 plain-fields b bs plain = rw (plain-record b bs plain) (append-nil (pieces (b ∷ bs)))
 
 pub asks-nothing : (shape : Shape) (dims : ℕ) (text : List ℕ) (none : List asked.Field) → none ≡ [] → length text ≡ 0 → asked_after (field_of shape) dims none [] ≡ fields_from (field_of shape) 1 dims (fields_in text)

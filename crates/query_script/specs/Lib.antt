@@ -6,3 +6,4 @@ pub mod Questions
 pub mod Icebergs
 pub mod Commands
 pub mod Makes
+pub mod Coded

@@ -1,10 +1,12 @@
 //! Reads the lines of a script into commands.
 #![tactic(auto)]
 
+mod coded;
 mod iceberg;
 mod line;
 mod plain;
 mod record;
 mod values;
 
+pub use coded::{Coded, read_codes};
 pub use line::{Command, LineRefused, read_line};

@@ -29,8 +29,8 @@ pub enum Shape {
     Box,
 }
 
-// The value that a field names.
-fn named_value(field: &str) -> &str
+/// The value that a field names.
+pub fn named_value(field: &str) -> &str
     ensures { result.now ≡ value_of field.now }
 {
     match field.strip_prefix('=') {

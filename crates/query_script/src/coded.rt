@@ -1,0 +1,127 @@
+// Points that are read into codes where they stand.
+ghost use Rattle.std.specs.Prelude.{◌≡◌, ◌≤◌, ◌<◌, ◌∷◌, ◌++◌, None, IfSome, IsUtf8, MatchOption, codes, false, length, slice_set};
+ghost use Rattle.std.specs.Option.{option_map};
+ghost use Rattle.cell_core.specs.Entry.{IsSmall, value_in};
+ghost use Rattle.text_lines.specs.Plain.{pieces};
+ghost use Rattle.value_dict.specs.TextLists.{entry_in, list_at};
+ghost use Rattle.query_script.specs.Fields.{field_of};
+ghost use Rattle.query_script.specs.declared.record.Shape.TheVariants as shapes;
+
+use crate::record::named_value;
+use cell_core::{Cell, Entry};
+use cube_defs::MAX_FILE;
+use qc_schema::Schema;
+use text_lines::{has_mark, is_plain};
+use value_dict::Dict;
+
+/// How a line was read.
+#[derive(Clone, Copy, Debug, PartialEq, Eq)]
+pub enum Coded {
+    /// It is no point, or one that has to be read by its fields.
+    Unread,
+    /// It asks for a value that isn't known.
+    Unknown,
+    /// It asks for the cell.
+    Known,
+}
+
+ghost use Rattle.query_script.specs.Coded.{AreCoded, IsCoded, pieces_left};
+
+// The entry that a field asks for. None where the field isn't allowed, and in it where its value isn't known.
+fn entry_of(dict: &Dict, dim: u8, field: &str) -> Option<Option<Entry>>
+    requires { dim < length dict.now.lists }
+    ensures value { option_map (λ found. option_map value_in found) result ≡ option_map (entry_in (list_at dict.now dim)) (field_of shapes.Cell field.now) }
+    ensures small { IfSome result (λ found. IfSome found IsSmall) }
+{
+    match field.as_bytes() {
+        b"*" => Some(Some(Entry::Any)),
+        b"?" | [b'|' | b'~', ..] => None,
+        _ => match dict.code(dim, named_value(field)) {
+            Some(code) => Some(Some(Entry::Is(code))),
+            None => Some(None),
+        },
+    }
+}
+
+// Puts an entry into a cell, where there is one, and says whether all are there.
+fn put_entry(cell: &mut Cell, dim: u8, found: Option<Entry>, known: bool) -> bool
+    requires dim { dim < length cell.old }
+    requires small { IfSome found IsSmall }
+    ensures value { MatchOption found (result ≡ false) (λ entry. (result ≡ known) × (cell.new ≡ slice_set cell.old dim (value_in entry))) }
+    ensures dims { length cell.new ≡ length cell.old }
+{
+    match found {
+        Some(entry) => {
+            cell.set(dim, entry);
+            known
+        }
+        None => false,
+    }
+}
+
+// The text up to the first comma, what is behind it, and whether there is one.
+fn split_piece(text: &str) -> (&str, &str, bool)
+    ensures pieces { pieces text.now ≡ result.0.now ∷ pieces_left result.2 result.1.now }
+    ensures utf8 { IsUtf8 result.1.now }
+{
+    match text.split_once(',') {
+        Some((piece, behind)) => (piece, behind, true),
+        None => (text, "", false),
+    }
+}
+
+// Puts the codes of what stands between commas into a cell.
+fn put_codes(dict: &Dict, text: &str, cell: &mut Cell) -> Coded
+    requires { length cell.old ≡ length dict.now.lists }
+    ensures coded { AreCoded result dict.now.lists (pieces text.now) cell.new }
+    ensures dims { length cell.new ≡ length cell.old }
+{
+    let mut left = text;
+    let mut more = true;
+    let mut known = true;
+    'dims: for dim in 0..dict.dims() {
+        if !more {
+            return Coded::Unread;
+        }
+        let (field, behind, comma) = split_piece(left);
+        let Some(found) = entry_of(dict, dim, field) else {
+            return Coded::Unread;
+        };
+        known = put_entry(cell, dim, found, known);
+        left = behind;
+        more = comma;
+    }
+    if more {
+        return Coded::Unread;
+    }
+    if known { Coded::Known } else { Coded::Unknown }
+}
+
+// What is behind the command word of a point.
+fn behind_point(line: &[u8]) -> Option<&[u8]>
+    ensures { IfSome result (λ rest. line.now ≡ codes "point " ++ rest.now) }
+{
+    match line {
+        [b'p', b'o', b'i', b'n', b't', b' ', rest @ ..] => Some(rest),
+        _ => None,
+    }
+}
+
+/// Reads a line that is a point without quotes into the codes of what it asks. A line that is refused is never read so.
+pub fn read_codes(schema: &Schema, dict: &Dict, line: &[u8], cell: &mut Cell) -> Coded
+    requires dims { length cell.old ≡ length dict.now.lists }
+    requires schema { length schema.now.dims ≡ length dict.now.lists }
+    ensures coded { IsCoded result schema.now dict.now.lists line.now cell.new }
+    ensures dims { length cell.new ≡ length cell.old }
+{
+    let Some(rest) = behind_point(line) else {
+        return Coded::Unread;
+    };
+    if rest.is_empty() || has_mark(rest) {
+        return Coded::Unread;
+    }
+    match str::from_utf8(rest) {
+        Ok(text) if is_plain(text) => put_codes(dict, text, cell),
+        _ => Coded::Unread,
+    }
+}
