@@ -439,7 +439,7 @@ const RUN: &[&str] = &["run", "s.schema", "script"];
 
 const USAGE: &str = "usage: qcube run SCHEMA SCRIPT | qcube gen ROWS SEED\n";
 
-static STOPS: [Stop; 14] = [
+static STOPS: [Stop; 15] = [
     (RUN, b"", &[], 6, "qcube: schema line 1: end\n"),
     (
         RUN,
@@ -494,6 +494,7 @@ static STOPS: [Stop; 14] = [
     (&["run"], b"", &[], 2, USAGE),
     (&["run", "s.schema"], b"", &[], 2, USAGE),
     (&["walk", "s.schema", "script"], b"", &[], 2, USAGE),
+    (&["gen", "1 ", "0"], b"", &[], 2, USAGE),
     (&["run", "a", "b", "c"], b"", &[], 2, USAGE),
     (
         RUN,
