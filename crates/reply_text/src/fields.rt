@@ -2,8 +2,8 @@
 ghost use Rattle.std.specs.Prelude.{OnOk, decimal, ◌++◌, ◌∷◌, ◌≡◌};
 ghost use Rattle.reply_text.specs.Replies.{end_text};
 
-use aggregates::print_number;
 use cell_core::Memory;
+use itoa::Buffer;
 
 /// A field behind a comma.
 pub fn push_field(out: &mut Vec<u8>, field: &[u8]) -> Result<(), Memory>
@@ -18,9 +18,7 @@ pub fn push_field(out: &mut Vec<u8>, field: &[u8]) -> Result<(), Memory>
 pub fn push_number(out: &mut Vec<u8>, number: u64) -> Result<(), Memory>
     ensures { OnOk result (out.new.items ≡ out.old.items ++ 44 ∷ decimal number) }
 {
-    let mut text = [0; 48];
-    let len = print_number(number, &mut text);
-    push_field(out, &text[..len])
+    push_field(out, Buffer::new().format(number).as_bytes())
 }
 
 /// The last record of a reply that tells so many.

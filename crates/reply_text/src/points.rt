@@ -1,5 +1,5 @@
 // The reply to a point.
-ghost use Rattle.std.specs.Prelude.{IfOk, length, ◌≡◌};
+ghost use Rattle.std.specs.Prelude.{IfOk, OnOk, length, ◌++◌, ◌≡◌};
 ghost use Rattle.aggregates.specs.Views.{agg_in};
 ghost use Rattle.reply_text.specs.Replies.{point_text};
 ghost use Rattle.value_dict.specs.Told.{HasTexts, told_cell};
@@ -15,6 +15,25 @@ use value_dict::Dict;
 // The memory that is taken for a reply at once. Few replies are longer.
 const ROOM: usize = 128;
 
+/// Puts the reply to a point that covers some row behind what is there.
+pub fn push_point(
+    out: &mut Vec<u8>,
+    line: u32,
+    schema: &Schema,
+    dict: &Dict,
+    cell: &Cell,
+    total: &Agg,
+) -> Result<(), Memory>
+    requires texts { HasTexts dict.now.lists cell.now }
+    requires parts { length (agg_in total.now).parts ≡ length schema.now.measures }
+    ensures { OnOk result (out.new.items ≡ out.old.items ++ point_text line (told_cell dict.now.lists cell.now) schema.now.measures (agg_in total.now)) }
+{
+    push_head(out, b"point", line, dict, cell)?;
+    push_agg(out, schema, total)?;
+    out.push(b'\n')?;
+    Ok(())
+}
+
 /// The reply to a point that covers some row.
 pub fn point_reply(
     alloc: Global,
@@ -29,8 +48,6 @@ pub fn point_reply(
     ensures { IfOk result (λ reply. reply.items ≡ point_text line (told_cell dict.now.lists cell.now) schema.now.measures (agg_in total.now)) }
 {
     let mut out = Vec::with_capacity(alloc, ROOM)?;
-    push_head(&mut out, b"point", line, dict, cell)?;
-    push_agg(&mut out, schema, total)?;
-    out.push(b'\n')?;
+    push_point(&mut out, line, schema, dict, cell, total)?;
     Ok(out)
 }
