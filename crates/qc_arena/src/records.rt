@@ -111,10 +111,6 @@ impl Rec {
         }
     }
 
-    pub(crate) fn allocator(&self) -> Global {
-        *self.edges.allocator()
-    }
-
     pub(crate) fn copy(&self) -> Result<Rec, Memory>
         ensures { IfOk result (λ r. r.node ≡ self.now.node) }
     {
