@@ -16,6 +16,9 @@ use qc_arena::{Nodes, QcArena};
 use std::alloc::Global;
 use std::sync::ledger::Ledger;
 
+// For so many nodes a list has room at first.
+const ROOM: usize = 32;
+
 /// A node and its cell.
 #[derive(Drop)]
 pub(crate) struct Below {
@@ -115,7 +118,7 @@ fn add_children<L: Ledger>(
     Ok(())
 }
 
-// The root, if there is one.
+// The root, if there is one. The list has room for the nodes below a tuple of few dimensions.
 fn start<L: Ledger>(
     alloc: Global,
     arena: &QcArena,
@@ -127,7 +130,7 @@ fn start<L: Ledger>(
     ensures below { IfOk result (λ list. AreBelow arena.now.now tuple.now 0 list.items) }
     ensures steps { steps.new ≤ steps.old + 1 }
 {
-    let mut list = Vec::new(alloc);
+    let mut list = Vec::with_capacity(alloc, ROOM)?;
     match arena.root(steps) {
         None => Ok(list),
         Some(node) => {
