@@ -10,6 +10,3 @@ mod table;
 
 pub use cube_defs::Memory;
 pub use table::{Missing, RowNo, Table, TableRefused, Taken};
-
-#[cfg(test)]
-mod tests;

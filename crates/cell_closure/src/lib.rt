@@ -8,6 +8,3 @@ mod parts;
 pub use closure::{closure_of, shared_entry};
 pub use cube_defs::Memory;
 pub use parts::{Parts, part};
-
-#[cfg(test)]
-mod tests;

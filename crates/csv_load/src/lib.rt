@@ -6,8 +6,6 @@ mod changes;
 mod columns;
 mod files;
 mod reading;
-#[cfg(test)]
-mod tests;
 mod texts;
 
 pub use batch::RawBatch;

@@ -9,8 +9,6 @@ mod reader;
 mod refusal;
 mod schema;
 mod spelling;
-#[cfg(test)]
-mod tests;
 mod words;
 
 pub use cube_defs::Memory;

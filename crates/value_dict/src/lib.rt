@@ -11,8 +11,6 @@ mod asked;
 mod boxes;
 mod order;
 mod sets;
-#[cfg(test)]
-mod tests;
 
 pub use boxes::CellBox;
 use cell_core::{Cell, Code, Entry, Field, Fields};

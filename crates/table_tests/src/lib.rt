@@ -1,0 +1,16 @@
+//! Tests of what lies below a tree: schemas, files, dictionaries of texts, tables of rows, and what rows
+//! share. Each has its cases in a table, which one small loop goes through.
+#![tactic(auto)]
+
+#[cfg(test)]
+mod closures;
+#[cfg(test)]
+mod fields;
+#[cfg(test)]
+mod files;
+#[cfg(test)]
+mod rows;
+#[cfg(test)]
+mod schemas;
+#[cfg(test)]
+mod texts;

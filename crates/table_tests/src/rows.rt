@@ -1,0 +1,322 @@
+// Batches of changes, and the rows that they leave.
+ghost use Rattle.std.specs.Prelude.{All, None, is_some, length, true, ◌<◌, ◌≡◌, ◌≤◌};
+
+use base_table::{Table, TableRefused};
+use cell_core::{Cell, Code, Entry};
+use std::alloc::{AllocError, Global};
+use std::test::Fail;
+
+#[derive(Clone, Copy)]
+pub enum Change {
+    /// The id, the codes and the amount.
+    Insert(u64, u8, u8, i16),
+    /// The id.
+    Delete(u64),
+}
+
+use Change::{Delete, Insert};
+
+#[derive(Clone, Copy, PartialEq, Eq)]
+pub enum Reply {
+    Done,
+    Present,
+    Full,
+    Memory,
+    Missing,
+}
+
+use Reply::{Done, Full, Missing, Present};
+
+fn tuple(alloc: Global, a: u8, b: u8) -> Cell
+    ensures dims { length result ≡ 2 }
+    ensures full { All (λ entry. is_some entry ≡ true) result }
+{
+    let mut tuple = Cell::any(alloc, 2);
+    tuple.set(0, Entry::Is(a as u32));
+    tuple.set(1, Entry::Is(b as u32));
+    tuple
+}
+
+fn insert(alloc: Global, table: &mut Table, id: u64, tuple: &Cell, amount: i16) -> Reply
+    requires is_open { is_some table.old.was ≡ true }
+    requires dims { length tuple.now ≡ 2 }
+    requires full { All (λ entry. is_some entry ≡ true) tuple.now }
+    ensures { is_some table.new.was ≡ true }
+{
+    if table.dims() != 2 || table.measures() != 1 {
+        return Reply::Memory;
+    }
+    match table.insert(id, tuple, &[amount as i64]) {
+        Ok(()) => Done,
+        Err(TableRefused::Present) => Present,
+        Err(TableRefused::Full) => Full,
+        Err(TableRefused::Memory) => Reply::Memory,
+    }
+}
+
+/// Makes a change of a table of two dimensions and a measure.
+pub fn make(alloc: Global, table: &mut Table, change: Change) -> Reply
+    requires { is_some table.old.was ≡ true }
+    ensures { is_some table.new.was ≡ true }
+{
+    match change {
+        Insert(id, a, b, amount) => insert(alloc, table, id, &tuple(alloc, a, b), amount),
+        Delete(id) => match table.delete(id) {
+            Ok(_) => Done,
+            Err(_) => Missing,
+        },
+    }
+}
+
+// Whether each change has its reply.
+fn have_replies(alloc: Global, table: &mut Table, changes: &[(Change, Reply)]) -> bool
+    requires { is_some table.old.was ≡ true }
+    ensures { is_some table.new.was ≡ true }
+{
+    let mut all = true;
+    'changes: for (one, reply) in changes {
+        let got = make(alloc, table, *one);
+        all = all && got == *reply;
+    }
+    all
+}
+
+// The amounts of all rows, in their order.
+fn amounts(alloc: Global, table: &Table) -> Result<Vec<i64>, AllocError> {
+    let mut amounts = Vec::new(alloc);
+    if table.measures() == 0 {
+        return Ok(amounts);
+    }
+    let nos = table.all(alloc)?;
+    'rows: for k in 0..nos.len() {
+        amounts.push(table.amount(nos[k], 0))?;
+    }
+    Ok(amounts)
+}
+
+// Which places have a row.
+fn places(alloc: Global, table: &Table) -> Result<Vec<bool>, AllocError> {
+    let mut places = Vec::new(alloc);
+    'places: for place in 0..table.places() {
+        places.push(table.at(place).is_some())?;
+    }
+    Ok(places)
+}
+
+// The count, the sum, the least and the greatest amount of the rows of a tuple.
+type Total = Option<(u32, i64, i64, i64)>;
+
+fn group(alloc: Global, table: &Table, a: u8, b: u8) -> Total {
+    if table.dims() != 2 {
+        return None;
+    }
+    let agg = table.group(&tuple(alloc, a, b))?;
+    let part = agg.parts[0];
+    Some((agg.count, part.sum, part.least, part.greatest))
+}
+
+// A batch: its changes with their replies, what the rows with the codes 0 and 0 come to while it is
+// open, whether it is kept, the amounts after it, and which places have a row then.
+struct Batch {
+    changes: &'static [(Change, Reply)],
+    group: Total,
+    is_kept: bool,
+    amounts: &'static [i64],
+    places: &'static [bool],
+}
+
+// Whether the changes of an open batch have their replies, and the rows the group.
+fn is_open_right(alloc: Global, table: &mut Table, batch: &Batch) -> bool
+    requires { is_some table.old.was ≡ true }
+    ensures { is_some table.new.was ≡ true }
+{
+    have_replies(alloc, table, batch.changes) && group(alloc, table, 0, 0) == batch.group
+}
+
+// Whether a batch goes as it says.
+fn is_right(alloc: Global, table: &mut Table, batch: &Batch) -> Result<bool, AllocError>
+    requires { table.old.was ≡ None }
+    ensures { table.new.was ≡ None }
+{
+    table.begin();
+    let is_open_right = is_open_right(alloc, table, batch);
+    if batch.is_kept {
+        table.commit();
+    } else {
+        table.rollback();
+    }
+    Ok(
+        is_open_right
+            && amounts(alloc, table)?.as_slice() == batch.amounts
+            && places(alloc, table)?.as_slice() == batch.places
+            && table.count() as usize == batch.amounts.len(),
+    )
+}
+
+// At most two rows.
+static REFUSED: [Batch; 1] = [Batch {
+    changes: &[
+        (Delete(7), Missing),
+        (Insert(7, 0, 1, 10), Done),
+        (Insert(7, 1, 1, 20), Present),
+        (Insert(8, 0, 1, -30), Done),
+        (Insert(9, 0, 1, 40), Full),
+        (Insert(7, 0, 1, 40), Present),
+        (Delete(9), Missing),
+        (Delete(7), Done),
+        (Delete(7), Missing),
+        (Insert(9, 0, 1, 50), Done),
+    ],
+    group: None,
+    is_kept: true,
+    amounts: &[-30, 50],
+    places: &[false, true, true],
+}];
+
+// At most four rows.
+static TAKEN_BACK: [Batch; 3] = [
+    Batch {
+        changes: &[
+            (Insert(1, 0, 0, 10), Done),
+            (Insert(2, 0, 1, 20), Done),
+            (Insert(3, 0, 0, -30), Done),
+        ],
+        group: Some((2, -20, -30, 10)),
+        is_kept: true,
+        amounts: &[10, 20, -30],
+        places: &[true, true, true],
+    },
+    Batch {
+        changes: &[
+            (Delete(2), Done),
+            (Insert(2, 5, 5, 25), Done),
+            (Delete(1), Done),
+            (Insert(5, 0, 0, 50), Done),
+            (Delete(5), Done),
+            (Delete(2), Done),
+            (Insert(2, 6, 6, 26), Done),
+            (Insert(2, 7, 7, 27), Present),
+        ],
+        group: Some((1, -30, -30, -30)),
+        is_kept: false,
+        amounts: &[10, 20, -30],
+        places: &[true, true, true],
+    },
+    Batch {
+        changes: &[
+            (Delete(2), Done),
+            (Insert(2, 5, 5, 25), Done),
+            (Insert(4, 0, 0, 40), Done),
+            (Insert(5, 0, 0, 50), Full),
+        ],
+        group: Some((3, 20, -30, 40)),
+        is_kept: true,
+        amounts: &[10, -30, 25, 40],
+        places: &[true, false, true, true, true],
+    },
+];
+
+// Empty places go once they are more than the rows.
+static EMPTY_PLACES: [Batch; 4] = [
+    Batch {
+        changes: &[
+            (Insert(1, 0, 0, 10), Done),
+            (Insert(2, 0, 1, 20), Done),
+            (Insert(3, 0, 0, 30), Done),
+            (Insert(4, 0, 1, 40), Done),
+            (Insert(5, 0, 0, 50), Done),
+        ],
+        group: Some((3, 90, 10, 50)),
+        is_kept: true,
+        amounts: &[10, 20, 30, 40, 50],
+        places: &[true, true, true, true, true],
+    },
+    Batch {
+        changes: &[(Delete(1), Done), (Delete(4), Done)],
+        group: Some((2, 80, 30, 50)),
+        is_kept: true,
+        amounts: &[20, 30, 50],
+        places: &[false, true, true, false, true],
+    },
+    Batch {
+        changes: &[(Delete(2), Done)],
+        group: Some((2, 80, 30, 50)),
+        is_kept: true,
+        amounts: &[30, 50],
+        places: &[true, true],
+    },
+    Batch {
+        changes: &[
+            (Insert(1, 0, 0, 60), Done),
+            (Insert(3, 0, 0, 70), Present),
+            (Delete(3), Done),
+        ],
+        group: Some((2, 110, 50, 60)),
+        is_kept: true,
+        amounts: &[50, 60],
+        places: &[false, true, true],
+    },
+];
+
+// Whether all batches go as they say, in a table of at most so many rows.
+fn all_right(alloc: Global, max: u32, batches: &[Batch]) -> Result<bool, AllocError>
+    requires some { 0 < max }
+    requires few { max ≤ 100 }
+{
+    let mut table = Table::new(alloc, 2, 1, max)?;
+    let mut all = true;
+    'batches: for batch in batches {
+        let is_right = is_right(alloc, &mut table, batch)?;
+        all = all && is_right;
+    }
+    Ok(all)
+}
+
+#[test]
+fn batches_change_the_rows(rt: HostRuntime) -> Result<(), Fail> {
+    assert!(rt; all_right(rt.alloc(), 2, &REFUSED)?);
+    assert!(rt; all_right(rt.alloc(), 4, &TAKEN_BACK)?);
+    assert!(rt; all_right(rt.alloc(), 6, &EMPTY_PLACES)?);
+    Ok(())
+}
+
+// The codes, the second entry of the tuple and the amount of the row at the first place.
+type Seen = Option<(Code, Code, Entry, i64)>;
+
+fn first_row(table: &Table) -> Seen {
+    if table.places() == 0 || table.dims() != 2 || table.measures() != 1 {
+        return None;
+    }
+    let row = table.at(0)?;
+    let amounts = table.amounts(row);
+    Some((
+        table.code(row, 0),
+        table.code(row, 1),
+        table.tuple(row).get(1),
+        amounts[0],
+    ))
+}
+
+// Puts a row into a table and takes it out again: the row, and the amounts that went.
+fn read_and_taken(alloc: Global, id: u64) -> Option<(Seen, [i64; 4])> {
+    let Ok(mut table) = Table::new(alloc, 2, 1, 1) else {
+        return None;
+    };
+    table.begin();
+    make(alloc, &mut table, Insert(id, 7, 9, -5));
+    let seen = first_row(&table);
+    match table.delete(id) {
+        Ok(taken) => {
+            let amounts = taken.amounts;
+            Some((seen, amounts))
+        }
+        Err(_) => None,
+    }
+}
+
+#[test]
+fn a_row_is_read_and_taken_out(rt: HostRuntime) {
+    let found = read_and_taken(rt.alloc(), 18_446_744_073_709_551_615);
+    let row = Some((7, 9, Entry::Is(9), -5));
+    assert!(rt; found == Some((row, [-5, 0, 0, 0])));
+}
