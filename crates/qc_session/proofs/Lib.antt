@@ -6,6 +6,7 @@ mod Handed
 mod Kept
 mod Measured
 mod Named
+mod Pointed
 mod Recoded
 mod Refusals
 mod Refused

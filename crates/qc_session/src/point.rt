@@ -1,16 +1,19 @@
 // The answer to a point.
-ghost use Rattle.std.specs.Prelude.{All, IfOk, IfSome, length, option_map, ◌*◌, ◌+◌, ◌≡◌, ◌≤◌};
+ghost use Rattle.std.specs.Prelude.{All, IfOk, IfSome, Some, length, option_map, true, ◌*◌, ◌+◌, ◌≡◌, ◌≤◌};
+ghost use Rattle.qc_io.specs.Outside.{Told};
 ghost use Rattle.aggregates.specs.Views.{agg_in};
 ghost use Rattle.cube_defs.specs.Text.{text_eq};
 ghost use Rattle.cube_laws.specs.Total.{agg_at};
 ghost use Rattle.query_script.specs.Commands.{IsCellField};
-ghost use Rattle.qc_session.specs.Answers.{cell_asked, pointed};
+ghost use Rattle.qc_session.specs.Answers.{answer, cell_asked, pointed, stays};
+ghost use Rattle.reply_text.specs.Replies.{none_text, point_text};
 ghost use Rattle.reply_text.specs.Words.{reply_bytes};
 ghost use Rattle.value_dict.specs.Told.{HasTexts, told_cell};
 
 use aggregates::Agg;
 use cell_core::{Cell, Fields, Memory, Steps};
-use reply_text::{Reply, none, point_reply};
+use query_script::{Coded, read_codes};
+use reply_text::{Reply, none, point_reply, push_point};
 use std::alloc::Global;
 use std::sync::ledger::Ledger;
 use tree_search::total_at;
@@ -61,4 +64,61 @@ pub fn answer_point<L: Ledger>(
         &total,
     )?;
     Ok(Reply::Long(reply))
+}
+
+// Puts the reply that no row is covered in place of what is there. False where memory ran out.
+fn put_none(number: u32, reply: &mut Vec<u8>) -> bool
+    ensures { result ≡ true → reply.new.items ≡ none_text number }
+{
+    reply.clear();
+    reply.extend_from_slice(none(number).as_bytes()).is_ok()
+}
+
+// The same with the reply that the rows that a cell covers come to so much.
+fn put_total(
+    warehouse: &Warehouse,
+    number: u32,
+    cell: &Cell,
+    total: &Agg,
+    reply: &mut Vec<u8>,
+) -> bool
+    requires texts { HasTexts warehouse.now.state.texts cell.now }
+    requires parts { length (agg_in total.now).parts ≡ length warehouse.now.state.schema.measures }
+    ensures { result ≡ true → reply.new.items ≡ point_text number (told_cell warehouse.now.state.texts cell.now) warehouse.now.state.schema.measures (agg_in total.now) }
+{
+    reply.clear();
+    push_point(
+        reply,
+        number,
+        warehouse.schema(),
+        warehouse.dict(),
+        cell,
+        total,
+    )
+    .is_ok()
+}
+
+/// Answers a line that is a point without quotes, and puts its reply in place of what is there. False
+/// where the line isn't one, or finds no memory. With n dimensions it takes at most 2n + 3 steps.
+pub fn answer_coded<L: Ledger>(
+    alloc: Global,
+    warehouse: &Warehouse,
+    number: u32,
+    line: &[u8],
+    reply: &mut Vec<u8>,
+    steps: &mut Steps<L>,
+) -> bool
+    ensures answered { result ≡ true → (told : Told) → answer warehouse.now.state told number line.now ≡ Some (stays warehouse.now.state reply.new.items) }
+    ensures steps { steps.new ≤ steps.old + (2 * length warehouse.now.state.schema.dims + 3) }
+{
+    let dict = warehouse.dict();
+    let mut cell = Cell::any(alloc, dict.dims());
+    match read_codes(warehouse.schema(), dict, line, &mut cell) {
+        Coded::Unread => false,
+        Coded::Unknown => put_none(number, reply),
+        Coded::Known => match total_at(warehouse.tree(), &cell, steps) {
+            Some(total) => put_total(warehouse, number, &cell, &total, reply),
+            None => put_none(number, reply),
+        },
+    }
 }

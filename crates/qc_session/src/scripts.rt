@@ -180,6 +180,7 @@ fn run_script<F: Files, O: Sink, E: Sink, L: Ledger>(
         warehouse,
         skipped,
         pending,
+        reply: Vec::new(alloc),
     };
     let mut steps = Steps::<L>::start(blank);
     match take_lines(alloc, files, out, &mut session, script, &mut steps) {

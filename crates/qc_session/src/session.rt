@@ -9,6 +9,7 @@ ghost use Rattle.qc_session.specs.Runs.{AreSkipped, StoppedAt, StoppedWriting, W
 use crate::answer::{LineStop, answer_line};
 use crate::lines::{is_passed_over, names_file};
 use crate::pending::Pending;
+use crate::point::answer_coded;
 use cell_core::{Steps, Text};
 use cube_defs::MAX_FILE;
 use qc_io::{Files, Sink};
@@ -34,6 +35,8 @@ pub struct Session {
     pub warehouse: Warehouse,
     pub skipped: Vec<u32>,
     pub pending: Pending,
+    /// The reply to a point, whose memory serves for the next.
+    pub reply: Vec<u8>,
 }
 
 ghost use Rattle.qc_session.specs.Session.{AreUpTo, IfStop, Skips, WroteLine, WrotePart};
@@ -74,6 +77,19 @@ fn take_line<F: Files, O: Sink, L: Ledger>(
     session.number = number;
     if is_passed_over(line) {
         return Ok(());
+    }
+    if answer_coded(
+        alloc,
+        &session.warehouse,
+        number,
+        line,
+        &mut session.reply,
+        steps,
+    ) {
+        return match session.pending.put(out, &session.reply, false) {
+            Ok(()) => Ok(()),
+            Err(_) => Err(Stop::Write),
+        };
     }
     let alone = names_file(line);
     let Ok(()) = session.pending.hand_on_if(out, alone) else {
