@@ -2,15 +2,13 @@
 use Rattle.std.proofs.Common.{◌≡◌, ℕ, ◌<◌, ◌≤◌, ◌/◌, ◌*◌, ◌^◌, zero, suc, arith, ℤ, pos, nat_abs, refl, sym, ap, subst, ◌∙◌, ◌*ℤ◌, ◌<ℤ◌}
 use Rattle.std.specs.Cmp.{int_cmp_total}
 use Rattle.std.specs.Ordering.{int_cmp}
-use Rattle.std.specs.declared.cmp.Ordering.TheVariants.{Less, Greater}
 use Rattle.std.proofs.lemmas.Cmp.{by_ranked, int_ranked, tied_itself}
-use Rattle.std.proofs.lemmas.Int.{ints}
 use Rattle.std.proofs.lemmas.Nat.Gcd.{same_from_IsGcd}
 use Rattle.std.proofs.Math.Nat.{div-le_self, mul-div_cancel'}
 use Rattle.std.specs.Prelude.{int_div}
 use Rattle.cube_defs.specs.Rows.{gcd, lowest_terms}
 use Rattle.cube_laws.proofs.Divisors.{gcd-is, lowest_terms-coprime, lowest_terms-positive}
-use Rattle.cube_laws.proofs.FractionOrder.{mono}
+use Rattle.cube_laws.proofs.FractionOrder.{mono, less_is, more_is}
 use Rattle.aggregates.specs.Bounds.{IsRatio}
 
 pub gcd-positive : (a b : ℕ) → 0 < b → 0 < gcd a b
@@ -43,12 +41,6 @@ ratio-from a x y b g h small e f d =
     let P : ℕ → Type 0 = λ (k : ℕ). IsRatio (int_div a (pos k)) (b / k) in
     let Q : ℤ → Type 0 = λ (z : ℤ). IsRatio z (b / g) in
     subst Q (sym f ∙ sym d) (subst P (sym e) (lowest_terms-ratio a b h small))
-
-less_is : (a b : ℤ) → a <ℤ b → int_cmp a b ≡ Less
-less_is a b h = grind (arith, ints)
-
-more_is : (a b : ℤ) → b <ℤ a → int_cmp a b ≡ Greater
-more_is a b h = grind (arith, ints)
 
 -- fractions over one denominator are ordered as their numerators are
 pub order-over : (a b : ℤ) (k : ℕ) → 0 < k → int_cmp a b ≡ int_cmp (a *ℤ pos k) (b *ℤ pos k)

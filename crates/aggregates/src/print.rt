@@ -1,5 +1,5 @@
 // Numbers as they are printed.
-ghost use Rattle.std.specs.Prelude.{◌≡◌, ◌+◌, ◌<◌, ◌≤◌, ◌/◌, ◌^◌, ◌++◌, ◌∷◌, decimal, drop, length, nat_abs, take};
+ghost use Rattle.std.specs.Prelude.{◌≡◌, ◌+◌, ◌<◌, ◌≤◌, ◌/◌, ◌^◌, ◌++◌, ◌∷◌, decimal, drop, length, take};
 ghost use Rattle.aggregates.specs.Texts.{amount_text, last_digits, places_text, ratio_text, sign_text};
 ghost use Rattle.aggregates.specs.Views.{ratio_in};
 

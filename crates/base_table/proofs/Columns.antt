@@ -11,7 +11,7 @@ use Rattle.cube_defs.specs.Cell.{Cell, cell_of}
 use Rattle.cube_defs.specs.Rows.{Row}
 use Rattle.base_table.specs.Last.{picked}
 use Rattle.base_table.specs.Places.{IsRow, row_of, values_of}
-use Rattle.base_table.specs.Store.{IsStore, Rows, code_or_any, fingerprint, id_of, picked_lines, print_of, rows_from}
+use Rattle.base_table.specs.Store.{IsStore, StoredRows, code_or_any, fingerprint, id_of, picked_lines, print_of, rows_from}
 
 -- the values of a tuple's cell
 pub values-codes : (cell : Cell ℕ) → All (λ entry. is_some entry ≡ true) cell → values_of cell ≡ map code_or_any cell
@@ -195,9 +195,9 @@ module _ (n m : ℕ) where
       }
 
   -- the row at a place of a store
-  module _ (ids prints codes : List ℕ) (amounts : List ℤ) (s : IsStore n m ids prints codes amounts) (rows : Rows) (view : ◌≡◌ {A = Rows} (record { dims = n; measures = m; rows = rows_from n m ids codes amounts }) rows) where
+  module _ (ids prints codes : List ℕ) (amounts : List ℤ) (s : IsStore n m ids prints codes amounts) (rows : StoredRows) (view : ◌≡◌ {A = StoredRows} (record { dims = n; measures = m; rows = rows_from n m ids codes amounts }) rows) where
     pub length-view : length rows.rows ≡ length ids
-    length-view = sym (ap (λ (r : Rows). length r.rows) view) ∙ length-rows ids codes amounts
+    length-view = sym (ap (λ (r : StoredRows). length r.rows) view) ∙ length-rows ids codes amounts
 
     pub codes_fit : (k : ℕ) → k < length rows.rows → k * n + n ≤ length codes
     codes_fit k h = omega (arith, s.codes_len, length-view, row_fits k n (length ids) n (omega (arith, length-view)) (omega arith))
@@ -206,19 +206,19 @@ module _ (n m : ℕ) where
     amounts_fit k h = omega (arith, s.amounts_len, length-view, row_fits k m (length ids) m (omega (arith, length-view)) (omega arith))
 
     pub tuple-view : (k : ℕ) (d : Row ℕ) → k < length rows.rows → take n (drop (k * n) codes) ≡ (get_or rows.rows k d).tuple
-    tuple-view k d h = sym (tuple_at ids codes amounts k d (omega (arith, length-view))) ∙ ap (λ (r : Rows). (get_or r.rows k d).tuple) view
+    tuple-view k d h = sym (tuple_at ids codes amounts k d (omega (arith, length-view))) ∙ ap (λ (r : StoredRows). (get_or r.rows k d).tuple) view
 
     pub amounts-view : (k : ℕ) (d : Row ℕ) → k < length rows.rows → take m (drop (k * m) amounts) ≡ (get_or rows.rows k d).amounts
-    amounts-view k d h = sym (amounts_at ids codes amounts k d (omega (arith, length-view))) ∙ ap (λ (r : Rows). (get_or r.rows k d).amounts) view
+    amounts-view k d h = sym (amounts_at ids codes amounts k d (omega (arith, length-view))) ∙ ap (λ (r : StoredRows). (get_or r.rows k d).amounts) view
 
     pub row-view : (k : ℕ) (d : Row ℕ) → k < length rows.rows → IsRow n m (get_or rows.rows k d)
-    row-view k d h = subst (λ (r : Rows). IsRow n m (get_or r.rows k d)) view (s.each k d (omega (arith, length-view, length-rows ids codes amounts)))
+    row-view k d h = subst (λ (r : StoredRows). IsRow n m (get_or r.rows k d)) view (s.each k d (omega (arith, length-view, length-rows ids codes amounts)))
 
     pub ids-view : ids ≡ map id_of rows.rows
-    ids-view = sym (ids-rows ids codes amounts) ∙ ap (λ (r : Rows). map id_of r.rows) view
+    ids-view = sym (ids-rows ids codes amounts) ∙ ap (λ (r : StoredRows). map id_of r.rows) view
 
     pub prints-view : prints ≡ map print_of rows.rows
-    prints-view = s.prints_are ∙ ap (λ (r : Rows). map print_of r.rows) view
+    prints-view = s.prints_are ∙ ap (λ (r : StoredRows). map print_of r.rows) view
 
     pub length-prints : length prints ≡ length ids
     length-prints = ap length s.prints_are ∙ length-map (rows_from n m ids codes amounts) print_of ∙ length-rows ids codes amounts

@@ -6,7 +6,7 @@ use Rattle.std.proofs.lemmas.List.Elements.{All-nil, All-push, All-take}
 use Rattle.cube_defs.specs.Rows.{Row}
 use Rattle.base_table.specs.Last.{last_of, picked}
 use Rattle.base_table.specs.Places.{Base, AreRows, IsRow, IsTable, Places, cleared, has_id, rows_in}
-use Rattle.base_table.specs.Store.{AreLast, IsFound, IsHolding, IsMarked, Rows, id_of, marks_then, placed, places_with, restored}
+use Rattle.base_table.specs.Store.{AreLast, IsFound, AreTableFields, IsMarked, StoredRows, id_of, marks_then, placed, places_with, restored}
 use Rattle.base_table.proofs.Batches.{distinct_ids, last_fewer, last_pushed, length-noted, length-restored, marks_stay, noted, noted_below}
 use Rattle.base_table.proofs.Columns.{All-picked}
 use Rattle.base_table.proofs.Placed.{IsAt, at_place, length-placed, placed_at, picked-append, picked-le, picked-push, picked-take, picked_fewer, placed_goes, rows_in-placed}
@@ -30,7 +30,7 @@ are_rows dims measures here rows count max m each = record {
   distinct = distinct_ids here rows m.last;
 }
 
-module _ (store : Rows) (here : List Bool) (touched : List ℕ) (room begun count_then : ℕ) (o : Bool) (count max : ℕ) (h : IsHolding store here touched room begun count_then o count max) where
+module _ (store : StoredRows) (here : List Bool) (touched : List ℕ) (room begun count_then : ℕ) (o : Bool) (count max : ℕ) (h : AreTableFields store here touched room begun count_then o count max) where
   pub length-marks : length (marks_then here touched begun) ≡ begun
   length-marks = length-restored touched (take begun here) ∙ length-take-le begun here h.begun_le
 
@@ -113,7 +113,7 @@ pub at_row : (t : Places) (k : ℕ) (row : Row ℕ) (P : Row ℕ → Type 0) →
 at_row t k row P e p = subst (λ (o : Option (Row ℕ)). IfSome o P) (sym e) p
 
 -- a batch begins
-pub begun_table : (store : Rows) (here : List Bool) (touched : List ℕ) (room begun count_then count max : ℕ) → IsHolding store here touched room begun count_then false count max → IsHolding store here touched room begun count_then true count max
+pub begun_table : (store : StoredRows) (here : List Bool) (touched : List ℕ) (room begun count_then count max : ℕ) → AreTableFields store here touched room begun count_then false count max → AreTableFields store here touched room begun count_then true count max
 begun_table store here touched room begun count_then count max h = record {
   some_dims = h.some_dims;
   few_dims = h.few_dims;
@@ -133,15 +133,15 @@ begun_table store here touched room begun count_then count max h = record {
   room_for_all = h.room_for_all;
 }
 
-pub begun_rows : (store : Rows) (here : List Bool) (touched : List ℕ) (room begun count_then count max : ℕ) → IsHolding store here touched room begun count_then false count max → picked (marks_then here touched begun) store.rows ≡ rows_in (placed here store.rows)
+pub begun_rows : (store : StoredRows) (here : List Bool) (touched : List ℕ) (room begun count_then count max : ℕ) → AreTableFields store here touched room begun count_then false count max → picked (marks_then here touched begun) store.rows ≡ rows_in (placed here store.rows)
 begun_rows store here touched room begun count_then count max h =
     let c = h.closed refl in
     ap₂ (λ (ps : List ℕ) (n : ℕ). picked (restored ps (take n here)) store.rows) c.1 c.0 ∙ ap (λ (l : List Bool). picked l store.rows) (take_all (length here) here (omega arith)) ∙ sym (rows_in-placed here store.rows)
 
 -- a row more
-pub put_table : (store : Rows) (here : List Bool) (touched : List ℕ) (room room' begun count_then count max : ℕ) (row : Row ℕ) → IsHolding store here touched room begun count_then true count max
+pub put_table : (store : StoredRows) (here : List Bool) (touched : List ℕ) (room room' begun count_then count max : ℕ) (row : Row ℕ) → AreTableFields store here touched room begun count_then true count max
     → IsRow store.dims store.measures row → has_id (picked here store.rows) row.id ≡ false → count < max → length here + 1 < 2 ^ 32 → length here + 1 ≤ room'
-    → IsHolding (record store { rows = store.rows ++ row ∷ [] }) (here ++ true ∷ []) touched room' begun count_then true (count + 1) max
+    → AreTableFields (record store { rows = store.rows ++ row ∷ [] }) (here ++ true ∷ []) touched room' begun count_then true (count + 1) max
 put_table store here touched room room' begun count_then count max row h r absent free small more = record {
   some_dims = h.some_dims;
   few_dims = h.few_dims;
@@ -167,15 +167,15 @@ put_table store here touched room room' begun count_then count max row h r absen
   room_for_all = omega (arith, more, length-append here (true ∷ []));
 }
 
-pub put_was : (store : Rows) (here : List Bool) (touched : List ℕ) (room begun count_then count max : ℕ) (row : Row ℕ) → IsHolding store here touched room begun count_then true count max
+pub put_was : (store : StoredRows) (here : List Bool) (touched : List ℕ) (room begun count_then count max : ℕ) (row : Row ℕ) → AreTableFields store here touched room begun count_then true count max
     → picked (marks_then (here ++ true ∷ []) touched begun) (store.rows ++ row ∷ []) ≡ picked (marks_then here touched begun) store.rows
 put_was store here touched room begun count_then count max row h =
     ap (λ (l : List Bool). picked (restored touched l) (store.rows ++ row ∷ [])) (take-append-le begun here (true ∷ []) h.begun_le)
     ∙ picked-append (marks_then here touched begun) store.rows (row ∷ []) (omega (arith, length-marks store here touched room begun count_then true count max h, h.begun_le, h.places))
 
 -- a row fewer
-pub take_table : (store : Rows) (here : List Bool) (touched : List ℕ) (room begun count_then count max k : ℕ) → IsHolding store here touched room begun count_then true count max → k < length here → get_or here k false ≡ true
-    → IsHolding store (set here k false) (noted touched k begun) room begun count_then true (count - 1) max
+pub take_table : (store : StoredRows) (here : List Bool) (touched : List ℕ) (room begun count_then count max k : ℕ) → AreTableFields store here touched room begun count_then true count max → k < length here → get_or here k false ≡ true
+    → AreTableFields store (set here k false) (noted touched k begun) room begun count_then true (count - 1) max
 take_table store here touched room begun count_then count max k h lt there =
     let fewer : count ≡ suc (length (picked (set here k false) store.rows)) = h.is_now.count_is ∙ picked_fewer here store.rows k h.places lt there in
     record {
@@ -198,7 +198,7 @@ take_table store here touched room begun count_then count max k h lt there =
     }
 
 -- a row is here, so there are rows
-pub some_here : (store : Rows) (here : List Bool) (touched : List ℕ) (room begun count_then : ℕ) (o : Bool) (count max k : ℕ) → IsHolding store here touched room begun count_then o count max → IsAt here store.rows k → 0 < count
+pub some_here : (store : StoredRows) (here : List Bool) (touched : List ℕ) (room begun count_then : ℕ) (o : Bool) (count max k : ℕ) → AreTableFields store here touched room begun count_then o count max → IsAt here store.rows k → 0 < count
 some_here store here touched room begun count_then o count max k h a = omega (arith, h.is_now.count_is, picked_fewer here store.rows k h.places a.within a.there)
 
 only_at : (here : List Bool) (rows : List (Row ℕ)) (k : ℕ) (e : Row ℕ) → AreLast here rows → k < length here → get_or here k false ≡ true → (i : ℕ) (d : Row ℕ) → i < length here → get_or here i false ≡ true → (get_or rows i d).id ≡ (get_or rows k e).id → i ≡ k
@@ -207,14 +207,14 @@ only_at here rows k e a lt there i d l t same =
     let two : last_of (nat_eq (get_or rows k e).id) (map id_of rows) ≡ k + 1 = a.last k e lt there in
     omega (arith, ap (λ n. last_of (nat_eq n) (map id_of rows)) same)
 
-pub taken_places : (store : Rows) (here : List Bool) (touched : List ℕ) (room begun count_then : ℕ) (o : Bool) (count max k : ℕ) (d : Row ℕ) → IsHolding store here touched room begun count_then o count max → IsAt here store.rows k
+pub taken_places : (store : StoredRows) (here : List Bool) (touched : List ℕ) (room begun count_then : ℕ) (o : Bool) (count max k : ℕ) (d : Row ℕ) → AreTableFields store here touched room begun count_then o count max → IsAt here store.rows k
     → placed (set here k false) store.rows ≡ map (cleared (get_or store.rows k d).id) (placed here store.rows)
 taken_places store here touched room begun count_then o count max k d h a =
     placed_goes here store.rows (get_or store.rows k d).id k d h.places a.within a.there refl (only_at here store.rows k d h.is_now.last a.within a.there)
 
 -- no batch is open, and the table is as it is
-pub settled_table : (store : Rows) (here : List Bool) (room n count max : ℕ) → 0 < store.dims → store.dims ≤ 16 → store.measures ≤ 4 → 0 < max → max ≤ 1000000 → length here < 2 ^ 32 → length store.rows ≡ length here → All (IsRow store.dims store.measures) store.rows
-    → IsMarked here store.rows count max → n ≡ length here → length here ≤ 2 * count → length here ≤ room → IsHolding store here [] room n count false count max
+pub settled_table : (store : StoredRows) (here : List Bool) (room n count max : ℕ) → 0 < store.dims → store.dims ≤ 16 → store.measures ≤ 4 → 0 < max → max ≤ 1000000 → length here < 2 ^ 32 → length store.rows ≡ length here → All (IsRow store.dims store.measures) store.rows
+    → IsMarked here store.rows count max → n ≡ length here → length here ≤ 2 * count → length here ≤ room → AreTableFields store here [] room n count false count max
 settled_table store here room n count max some_dims few_dims few_measures some_rows few_rows few_places places each is_now e dense room_for_all = record {
   some_dims = some_dims;
   few_dims = few_dims;
@@ -237,8 +237,8 @@ settled_table store here room n count max some_dims few_dims few_measures some_r
 }
 
 -- the batch is taken back
-pub rolled_table : (store : Rows) (here : List Bool) (touched : List ℕ) (room begun count_then : ℕ) (o : Bool) (count max : ℕ) → IsHolding store here touched room begun count_then o count max
-    → IsHolding (record store { rows = take begun store.rows }) (marks_then here touched begun) [] room begun count_then false count_then max
+pub rolled_table : (store : StoredRows) (here : List Bool) (touched : List ℕ) (room begun count_then : ℕ) (o : Bool) (count max : ℕ) → AreTableFields store here touched room begun count_then o count max
+    → AreTableFields (record store { rows = take begun store.rows }) (marks_then here touched begun) [] room begun count_then false count_then max
 rolled_table store here touched room begun count_then o count max h =
     let len : length (marks_then here touched begun) ≡ begun = length-marks store here touched room begun count_then o count max h in
     settled_table (record store { rows = take begun store.rows }) (marks_then here touched begun) room begun count_then max h.some_dims h.few_dims h.few_measures h.some_rows h.few_rows

@@ -6,7 +6,7 @@ use Rattle.std.proofs.lemmas.List.{length-take-le, get_or-set_other}
 use Rattle.std.specs.List.{list_any}
 use Rattle.std.specs.Map.{keys_of, values_of, lookup}
 use Rattle.indexmap.specs.IndexMap.{IndexMap, get, keys, UpdatesBy, set_value_at}
-use Rattle.base_table.specs.Last.{AreChains, picked, IsHeld}
+use Rattle.base_table.specs.Last.{AreChains, picked, HasKeys}
 use Rattle.base_table.proofs.Chain.{pushed_to}
 use Rattle.base_table.proofs.LastPlaces.{none_passes}
 
@@ -63,7 +63,7 @@ pub record IsRepacked {K S : Type 0} (eq : K → K → Bool) (heads : IndexMap K
   pub front : take len keys ≡ picked (take i kept) was
   pub rest : (m : ℕ) (d : K) → i ≤ m → get_or keys m d ≡ get_or was m d
   pub chains : AreChains eq heads (take len keys) (take len before)
-  pub held : IsHeld eq heads was
+  pub held : HasKeys eq heads was
 
 module _ {K S : Type 0} (eq : K → K → Bool) where
   pub skip_repack : (heads : IndexMap K ℕ S) (keys : List K) (before : List ℕ) (kept : List Bool) (was : List K) (i len : ℕ) → i < length kept → get_or kept i false ≡ false
@@ -76,7 +76,7 @@ module _ {K S : Type 0} (eq : K → K → Bool) where
     held = r.held;
   }
 
-  pub held_on : (heads new : IndexMap K ℕ S) (keys : List K) (key : K) (w : ℕ) → UpdatesBy eq (eq key) heads new (Some w) → IsHeld eq heads keys → IsHeld eq new keys
+  pub held_on : (heads new : IndexMap K ℕ S) (keys : List K) (key : K) (w : ℕ) → UpdatesBy eq (eq key) heads new (Some w) → HasKeys eq heads keys → HasKeys eq new keys
   held_on heads new keys key w u h = record { held = λ i d l. grind (arith, u.0 (get_or keys i d), h.held i d l) }
 
   pub step_repack : IsEquivalence eq → (heads new : IndexMap K ℕ S) (keys : List K) (before : List ℕ) (kept : List Bool) (was : List K) (i len : ℕ) (key : K) (head w : ℕ)
@@ -108,7 +108,7 @@ by_option (Some n) h = refl
 
 module _ {K S : Type 0} (eq : K → K → Bool) (laws : IsEquivalence eq) (heads : IndexMap K ℕ S) (keys : List K) (before : List ℕ) where
   -- each key is in the map
-  pub held_of : AreChains eq heads keys before → IsHeld eq heads keys
+  pub held_of : AreChains eq heads keys before → HasKeys eq heads keys
   held_of a = record {
     held = λ i d l. by_option (get eq heads (get_or keys i d))
         (λ z. absurd (true≢false (sym (laws.refl (get_or keys i d)) ∙ none_passes (eq (get_or keys i d)) keys (sym (a.heads_last (get_or keys i d)) ∙ z) i d l)));

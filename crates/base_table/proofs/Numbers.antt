@@ -1,8 +1,7 @@
 -- The numbers of the rows that are here.
 use Rattle.std.proofs.Common.{◌≡◌, ℕ, ◌+◌, ◌<◌, Bool, true, false, cond, List, [], ◌∷◌, ◌++◌, Option, Some, None, length, map, filter, get_or, refl, ap, ap₂, sym, ◌∙◌, arith, suc, zero, is_some, length-append, subst}
 use Rattle.std.specs.List.{cons_option, filter_map, range_with_len}
-use Rattle.std.proofs.lemmas.List.{append-nil, get_or_default, map-append, map-id}
-use Rattle.std.proofs.lemmas.List.FromFn.{filter_of_map_range_with_len_more}
+use Rattle.std.proofs.lemmas.List.{append-nil, get_or_default, map-append}
 use Rattle.std.specs.List.{All}
 use Rattle.std.proofs.lemmas.List.{append_assoc, get_or-map, get_or_at, length-map}
 use Rattle.std.proofs.lemmas.List.Elements.{filter_agree, filter_passes}
@@ -10,10 +9,7 @@ use Rattle.cube_defs.specs.Rows.{Row}
 use Rattle.base_table.specs.Places.{AreThere, Places, named, numbers, row_at, rows_in, rows_of}
 use Rattle.base_table.specs.Store.{placed}
 use Rattle.base_table.specs.declared.table.RowNo.{RowNo}
-
-filter_range_more : (p : ℕ → Bool) (n : ℕ) → filter p (range_with_len 0 (n + 1)) ≡ filter p (range_with_len 0 n) ++ cond (p n) (n ∷ []) []
-filter_range_more p n =
-    ap (filter p) (sym (map-id (range_with_len 0 (n + 1)))) ∙ filter_of_map_range_with_len_more p (λ k. k) 0 n n (omega arith) ∙ ap (λ l. filter p l ++ cond (p n) (n ∷ []) []) (map-id (range_with_len 0 n))
+use Rattle.cube_laws.proofs.Numbers.{filter_range_more}
 
 module _ (here : List Bool) (k : ℕ) (mark : Bool) (nos nos' : List RowNo) where
   abbrev Numbers : List RowNo → ℕ → Type 0

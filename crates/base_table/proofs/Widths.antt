@@ -77,7 +77,7 @@ later from n xs ys e = sym (drop-drop n from xs) ∙ ap (drop n) e ∙ drop-drop
 next_place : (i width from : ℕ) → from ≡ i * width → from + width ≡ (i + 1) * width
 next_place i width from e = grind arith
 
--- the loop of `keep_lines`
+-- the loop of `retain_lines`
 pub record AreKept {A : Type 0} (width : ℕ) (kept : List Bool) (was cells : List A) (i from to : ℕ) : Type 0 where
   pub place : from ≡ i * width
   pub within : to ≤ from

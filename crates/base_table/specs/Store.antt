@@ -10,7 +10,7 @@ use Rattle.base_table.specs.Places.{IsRow, Places}
 use Rattle.cube_defs.specs.declared.limits.TheConstants.{MAX_DIMS, MAX_MEASURES, MAX_ROWS}
 
 -- rows in the order in which they came
-pub record Rows : Type 0 where
+pub record StoredRows : Type 0 where
   pub dims : ℕ
   pub measures : ℕ
   pub rows : List (Row ℕ)
@@ -89,7 +89,7 @@ pub record IsMarked (here : List Bool) (rows : List (Row ℕ)) (count max : ℕ)
   pub few : count ≤ max
 
 -- the table now, and as it was when the batch began, or where none is open, as it is
-pub record IsHolding (store : Rows) (here : List Bool) (touched : List ℕ) (room begun count_then : ℕ) (is_open : Bool) (count max : ℕ) : Type 0 where
+pub record AreTableFields (store : StoredRows) (here : List Bool) (touched : List ℕ) (room begun count_then : ℕ) (is_open : Bool) (count max : ℕ) : Type 0 where
   pub some_dims : 0 < store.dims
   pub few_dims : store.dims ≤ MAX_DIMS
   pub few_measures : store.measures ≤ MAX_MEASURES
@@ -110,7 +110,7 @@ pub record IsHolding (store : Rows) (here : List Bool) (touched : List ℕ) (roo
   pub room_for_all : length here ≤ room
 
 -- the places of a table, and where a batch is open the rows and dimensions at its begin
-abbrev pub places_with : Rows → List Bool → List ℕ → ℕ → Bool → ℕ → Places
+abbrev pub places_with : StoredRows → List Bool → List ℕ → ℕ → Bool → ℕ → Places
 places_with store here touched begun is_open max = record {
   dims = store.dims;
   measures = store.measures;

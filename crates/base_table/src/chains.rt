@@ -2,7 +2,7 @@
 ghost use Rattle.std.specs.Prelude.{◌≡◌, ℕ, ◌+◌, ◌-◌, ◌^◌, ◌<◌, ◌≤◌, length, Some, OnOk, OnErr, slice_index_or, take, ◌++◌, ◌∷◌, [], is_some, true, Option};
 ghost use Rattle.std.specs.Option.{unwrap_or};
 ghost use Rattle.indexmap.specs.IndexMap.{get, UpdatesBy};
-ghost use Rattle.base_table.specs.Last.{last_of, AreChains, picked, IsHeld};
+ghost use Rattle.base_table.specs.Last.{last_of, AreChains, picked, HasKeys};
 
 use indexmap::IndexMap;
 use std::alloc::{AllocError, Global};
@@ -78,7 +78,7 @@ fn repack<K: Eq + Hash + Copy + Drop>(
     requires before { length before.old ≡ length keys.old }
     requires kept { length kept.now ≡ length keys.old }
     requires zero { (k : K) → unwrap_or (get K.eq heads.old k) 0 ≡ 0 }
-    requires held { IsHeld K.eq heads.old keys.old }
+    requires held { HasKeys K.eq heads.old keys.old }
     ensures within { result ≤ length keys.old }
     ensures picked { take result keys.new ≡ picked kept.now keys.old }
     ensures chains { AreChains K.eq heads.new (take result keys.new) (take result before.new) }
@@ -190,7 +190,7 @@ impl<K: Eq + Hash + Copy + Drop> Chains<K> {
     }
 
     /// Keeps the marked places alone, in order. It takes no memory.
-    pub fn keep(&mut self, kept: &[bool])
+    pub fn retain_marked(&mut self, kept: &[bool])
         requires { length kept.now ≡ length self.old }
         ensures { self.new ≡ picked kept.now self.old }
     {

@@ -47,7 +47,8 @@ fn with_place(
     requires places { length store.now.rows ≡ length here.now.items }
     requires dims { length tuple.now ≡ store.now.dims }
     requires measures { IfSome sum (λ agg. agg.measures ≡ store.now.measures) }
-    requires few { slice_index_or here.now.items place false ≡ true → (d : Row ℕ) → cell_eq nat_eq (cell_of (slice_index_or store.now.rows place d).tuple) tuple.now ≡ true → IfSome sum (λ agg. agg.count < MAX_ROWS) }
+    requires few { slice_index_or here.now.items place false ≡ true → (d : Row ℕ) →
+        cell_eq nat_eq (cell_of (slice_index_or store.now.rows place d).tuple) tuple.now ≡ true → IfSome sum (λ agg. agg.count < MAX_ROWS) }
     ensures aggregate { (d : Row ℕ) → option_map agg_in result ≡ join_aggs (option_map agg_in sum) (added here.now.items store.now.rows tuple.now place d) }
     ensures measures { IfSome result (λ agg. agg.measures ≡ store.now.measures) }
 {

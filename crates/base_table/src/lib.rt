@@ -4,7 +4,7 @@
 mod chains;
 mod group;
 mod lines;
-mod marks;
+mod presence;
 mod store;
 mod table;
 

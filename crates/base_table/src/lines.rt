@@ -21,7 +21,7 @@ pub(crate) fn line<T: Copy>(cells: &Vec<T>, place: u32, width: u8) -> &[T]
 }
 
 // Keeps the lists whose mark is set, in order. It takes no memory.
-pub(crate) fn keep_lines<T: Copy + Drop>(cells: &mut Vec<T>, width: usize, kept: &[bool])
+pub(crate) fn retain_lines<T: Copy + Drop>(cells: &mut Vec<T>, width: usize, kept: &[bool])
     requires { length cells.old.items ≡ length kept.now * width }
     ensures { cells.new.items ≡ picked_lines width kept.now cells.old.items }
 {
@@ -50,7 +50,7 @@ fn code_or_any(entry: Entry) -> u32
 // Puts the codes of a tuple last, for which there is room.
 pub(crate) fn push_codes(codes: &mut Vec<u32>, tuple: &Cell)
     requires room { vec_len codes.old + length tuple.now ≤ vec_capacity codes.old }
-    requires full { All (λ entry. is_some entry ≡ true) tuple.now }
+    requires no_any { All (λ entry. is_some entry ≡ true) tuple.now }
     ensures items { codes.new.items ≡ codes.old.items ++ values_of tuple.now }
     ensures small { All IsCode (values_of tuple.now) }
     ensures dims { length (values_of tuple.now) ≡ length tuple.now }

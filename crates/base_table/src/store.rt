@@ -29,9 +29,9 @@ pub struct Store {
 }
 
 impl Model for Store {
-    ghost use Rattle.base_table.specs.Store.{IsStore, Rows, rows_from};
+    ghost use Rattle.base_table.specs.Store.{IsStore, StoredRows, rows_from};
 
-    ghost Value = { Rows };
+    ghost Value = { StoredRows };
 
     ghost view = { λ s. record { dims = s.dims; measures = s.measures; rows = rows_from s.dims s.measures s.ids s.codes.items s.amounts.items } };
 
@@ -87,7 +87,7 @@ impl Store {
         self.prints.last(&lines::fingerprint(tuple))
     }
 
-    /// The same for the row at the place, among the rows before it.
+    /// One more than the last place before this one whose row has the fingerprint of the row here, or 0.
     pub fn alike_before(&self, place: u32) -> u32
         requires { place < length self.now.rows }
         ensures { (d : Row ℕ) → result ≡ last_of (nat_eq (print_of (slice_index_or self.now.rows place d))) (take place (map print_of self.now.rows)) }
@@ -157,7 +157,7 @@ impl Store {
     /// Puts a row last.
     pub fn push(&mut self, id: u64, tuple: &Cell, amounts: &[i64]) -> Result<(), Memory>
         requires dims { length tuple.now ≡ self.old.dims }
-        requires full { All (λ entry. is_some entry ≡ true) tuple.now }
+        requires no_any { All (λ entry. is_some entry ≡ true) tuple.now }
         requires measures { length amounts.now ≡ self.old.measures }
         requires small { All (λ a. nat_abs a ≤ largest_amount) amounts.now }
         requires few { length self.old.rows + 1 < 2 ^ 32 }
@@ -189,13 +189,13 @@ impl Store {
     }
 
     /// Keeps the rows whose mark is set, in order. It takes no memory.
-    pub fn keep(&mut self, kept: &[bool])
+    pub fn retain_marked(&mut self, kept: &[bool])
         requires { length kept.now ≡ length self.old.rows }
         ensures { self.new ≡ record self.old { rows = picked kept.now self.old.rows } }
     {
-        self.ids.keep(kept);
-        self.prints.keep(kept);
-        lines::keep_lines(&mut self.codes, self.dims as usize, kept);
-        lines::keep_lines(&mut self.amounts, self.measures as usize, kept);
+        self.ids.retain_marked(kept);
+        self.prints.retain_marked(kept);
+        lines::retain_lines(&mut self.codes, self.dims as usize, kept);
+        lines::retain_lines(&mut self.amounts, self.measures as usize, kept);
     }
 }

@@ -8,30 +8,35 @@ ghost use Rattle.aggregates.specs.Bounds.{largest_amount};
 ghost use Rattle.aggregates.specs.Views.{agg_in};
 
 use crate::store::Store;
-use crate::{Memory, group, marks};
+use crate::{Memory, group, presence};
 use aggregates::Agg;
 use cell_core::{Cell, Code};
 use cube_defs::{MAX_DIMS, MAX_MEASURES, MAX_ROWS};
 use std::alloc::{AllocError, Global};
 use std::marker::Model;
+use thiserror::Error;
 
 /// The number of a row: its place in the table.
 #[derive(Clone, Copy, Debug, PartialEq, Eq)]
 pub struct RowNo(pub u32);
 
 /// Why a row wasn't put in.
-#[derive(Clone, Copy, Debug, PartialEq, Eq)]
+#[derive(Clone, Copy, Debug, PartialEq, Eq, Error)]
 pub enum TableRefused {
     /// A row with this id is there.
+    #[error("a row with this id is there")]
     Present,
     /// There are as many rows as there may be.
+    #[error("there are as many rows as there may be")]
     Full,
     /// Memory ran out.
+    #[error("memory ran out")]
     Memory,
 }
 
 /// No row has the id.
-#[derive(Clone, Copy, Debug, PartialEq, Eq)]
+#[derive(Clone, Copy, Debug, PartialEq, Eq, Error)]
+#[error("no row has the id")]
 pub struct Missing;
 
 /// What a row had that was taken out. The amounts behind those of the measures are zero.
@@ -62,13 +67,13 @@ pub struct Table {
 impl Model for Table {
     ghost use Rattle.std.specs.Prelude.{vec_capacity};
     ghost use Rattle.base_table.specs.Places.{Places};
-    ghost use Rattle.base_table.specs.Store.{IsHolding, places_with};
+    ghost use Rattle.base_table.specs.Store.{AreTableFields, places_with};
 
     ghost Value = { Places };
 
     ghost view = { λ t. places_with t.store t.here.items t.touched.items t.begun t.is_open t.max };
 
-    ghost invariant = { λ t. IsHolding t.store t.here.items t.touched.items (vec_capacity t.touched) t.begun t.count_then t.is_open t.count t.max };
+    ghost invariant = { λ t. AreTableFields t.store t.here.items t.touched.items (vec_capacity t.touched) t.begun t.count_then t.is_open t.count t.max };
 }
 
 // The numbers of so many places fit. Only a batch that puts rows in and takes them out without end
@@ -132,7 +137,7 @@ impl Table {
     pub fn has(&self, id: u64) -> bool
         ensures { result ≡ has_id (rows_of self.now) id }
     {
-        match marks::find(&self.store, &self.here, id) {
+        match presence::find(&self.store, &self.here, id) {
             Some(_) => true,
             None => false,
         }
@@ -213,7 +218,7 @@ impl Table {
         ensures rows { IfOk result (λ nos. named self.now nos.items ≡ rows_of self.now) }
         ensures there { IfOk result (λ nos. AreThere self.now nos.items) }
     {
-        marks::numbers_in(alloc, &self.here)
+        presence::numbers_in(alloc, &self.here)
     }
 
     /// A batch is open from now on. It takes no memory.
@@ -228,7 +233,7 @@ impl Table {
     pub fn insert(&mut self, id: u64, tuple: &Cell, amounts: &[i64]) -> Result<(), TableRefused>
         requires is_open { is_some self.old.was ≡ true }
         requires dims { length tuple.now ≡ self.old.dims }
-        requires full { All (λ entry. is_some entry ≡ true) tuple.now }
+        requires no_any { All (λ entry. is_some entry ≡ true) tuple.now }
         requires measures { length amounts.now ≡ self.old.measures }
         requires small { All (λ a. nat_abs a ≤ largest_amount) amounts.now }
         ensures ok { OnOk result (self.new ≡ record self.old { places = self.old.places ++ Some (row_of id tuple.now amounts.now) ∷ [] }) }
@@ -254,12 +259,13 @@ impl Table {
         requires is_open { is_some self.old.was ≡ true }
         ensures ok { OnOk result (self.new ≡ record self.old { places = map (cleared id) self.old.places }) }
         ensures rows { OnOk result (rows_of self.new ≡ without_id (rows_of self.old) id) }
-        ensures taken { IfOk result (λ taken. IfSome (row_with_id (rows_of self.old) id) (λ row. (taken.tuple ≡ cell_of row.tuple) × (taken.amounts ≡ padded row.amounts))) }
+        ensures taken { IfOk result (λ taken. IfSome (row_with_id (rows_of self.old) id)
+            (λ row. (taken.tuple ≡ cell_of row.tuple) × (taken.amounts ≡ padded row.amounts))) }
         ensures there { OnOk result (has_id (rows_of self.old) id ≡ true) }
         ensures missing { OnErr result (has_id (rows_of self.old) id ≡ false) }
         ensures err { OnErr result (self.new ≡ self.old) }
     {
-        match marks::find(&self.store, &self.here, id) {
+        match presence::find(&self.store, &self.here, id) {
             Some(place) => Ok(self.take_out(place)),
             None => Err(Missing),
         }
@@ -276,7 +282,7 @@ impl Table {
     {
         self.is_open = false;
         self.touched.clear();
-        marks::thin_out(&mut self.store, &mut self.here, self.count);
+        presence::thin_out(&mut self.store, &mut self.here, self.count);
         self.begun = self.here.len() as u32;
         self.count_then = self.count;
     }
@@ -292,7 +298,7 @@ impl Table {
         self.is_open = false;
         self.store.cut(self.begun);
         self.here.truncate(self.begun as usize);
-        marks::restore(&mut self.here, &self.touched);
+        presence::restore(&mut self.here, &self.touched);
         self.touched.clear();
         self.count = self.count_then;
     }
@@ -301,7 +307,7 @@ impl Table {
     fn put(&mut self, id: u64, tuple: &Cell, amounts: &[i64]) -> Result<(), Memory>
         requires is_open { is_some self.old.was ≡ true }
         requires dims { length tuple.now ≡ self.old.dims }
-        requires full { All (λ entry. is_some entry ≡ true) tuple.now }
+        requires no_any { All (λ entry. is_some entry ≡ true) tuple.now }
         requires measures { length amounts.now ≡ self.old.measures }
         requires small { All (λ a. nat_abs a ≤ largest_amount) amounts.now }
         requires absent { has_id (rows_of self.old) id ≡ false }
@@ -330,9 +336,9 @@ impl Table {
     {
         let taken = Taken {
             tuple: self.store.tuple(place),
-            amounts: marks::padded(self.store.amounts(place)),
+            amounts: presence::padded(self.store.amounts(place)),
         };
-        marks::note(&mut self.touched, place, self.begun);
+        presence::note(&mut self.touched, place, self.begun);
         self.here[place as usize] = false;
         self.count -= 1;
         taken

@@ -4,13 +4,13 @@ use Rattle.std.proofs.lemmas.Bool.Decides.{eqb_tells}
 use Rattle.std.proofs.lemmas.List.Sums.{sum_by-cons}
 use Rattle.std.specs.Option.{option_map}
 use Rattle.std.specs.Ordering.{eq_by_cmp}
-use Rattle.cube_defs.specs.Cell.{Cell, depth, keep, leq}
+use Rattle.cube_defs.specs.Cell.{Cell, depth, cell_front, leq}
 use Rattle.cube_defs.specs.Rows.{closure}
 use Rattle.cube_defs.specs.Tree.{Tree, cell_at}
 use Rattle.cube_laws.proofs.Cells.{depth-le, leq_refl, nat_equality}
 use Rattle.qc_arena.specs.Seen.{number}
 use Rattle.tree_laws.proofs.Lists.{some_same}
-use Rattle.tree_search.specs.Found.{IsFrom, Names}
+use Rattle.tree_search.specs.Found.{IsTreeOf, IsNumberOfCell}
 use Rattle.batch_delete.specs.declared.below.Below.{Below}
 use Rattle.batch_delete.specs.declared.plan.Fate.{Fate}
 use Rattle.batch_delete.specs.Below.{AreBelow}
@@ -18,7 +18,7 @@ use Rattle.batch_delete.specs.Plan.{after_in, front_labels, heir_in, last_any_of
 use Rattle.batch_delete.specs.Rests.{ArePlanned, Deletion, IsRest, rows_after, source_before}
 use Rattle.batch_delete.proofs.Childs.{cell_wide}
 
-module _ (dims : ℕ) (tree : Tree ℕ) (d : Deletion) (h : IsFrom dims tree (source_before d)) (tuple : Cell ℕ) (wide : length tuple ≡ dims) (list : List Below) (are : AreBelow tree tuple (length tuple) list) where
+module _ (dims : ℕ) (tree : Tree ℕ) (d : Deletion) (h : IsTreeOf dims tree (source_before d)) (tuple : Cell ℕ) (wide : length tuple ≡ dims) (list : List Below) (are : AreBelow tree tuple (length tuple) list) where
   module _ (k : ℕ) (b : Below) (at : slice_get list k ≡ Some b) (plan : List (ℕ × Fate)) (had : ArePlanned d tree plan list (suc k)) where
     -- a greater node stands behind
     pub greater_planned : (q : ℕ) (w : Cell ℕ) → cell_at tree q ≡ Some w → leq nat_eq w tuple ≡ true → leq nat_eq b.cell w ≡ true → leq nat_eq w b.cell ≡ false → IsRest d.measures (rows_after d) w (after_in plan q)
@@ -44,7 +44,7 @@ module _ (dims : ℕ) (tree : Tree ℕ) (d : Deletion) (h : IsFrom dims tree (so
 
     -- one node more
     pub planned_more : (new : List (ℕ × Fate)) (fate : Fate) → IsRest d.measures (rows_after d) b.cell fate.after
-        → Names tree (option_map number fate.heir) (option_map (keep (depth b.cell)) (closure (eq_by_cmp nat_cmp) (rows_after d) b.cell))
+        → IsNumberOfCell tree (option_map number fate.heir) (option_map (cell_front (depth b.cell)) (closure (eq_by_cmp nat_cmp) (rows_after d) b.cell))
         → after_in new b.node.0 ≡ fate.after → heir_in new b.node.0 ≡ option_map number fate.heir
         → ((q : ℕ) → q ≢ b.node.0 → after_in new q ≡ after_in plan q) → ((q : ℕ) → q ≢ b.node.0 → heir_in new q ≡ heir_in plan q) → ArePlanned d tree new list k
     planned_more new fate after heir here named others heirs j c l e = elim (eqb_tells j k) [
@@ -53,8 +53,8 @@ module _ (dims : ℕ) (tree : Tree ℕ) (d : Deletion) (h : IsFrom dims tree (so
           record {
             after = subst (λ (c : Below). IsRest d.measures (rows_after d) c.cell (after_in new c.node.0)) is (subst (IsRest d.measures (rows_after d) b.cell) (sym here) after);
             heir =
-                subst (λ (c : Below). Names tree (heir_in new c.node.0) (option_map (keep (depth c.cell)) (closure (eq_by_cmp nat_cmp) (rows_after d) c.cell))) is
-                (subst (λ o. Names tree o (option_map (keep (depth b.cell)) (closure (eq_by_cmp nat_cmp) (rows_after d) b.cell))) (sym named) heir);
+                subst (λ (c : Below). IsNumberOfCell tree (heir_in new c.node.0) (option_map (cell_front (depth c.cell)) (closure (eq_by_cmp nat_cmp) (rows_after d) c.cell))) is
+                (subst (λ o. IsNumberOfCell tree o (option_map (cell_front (depth b.cell)) (closure (eq_by_cmp nat_cmp) (rows_after d) b.cell))) (sym named) heir);
           }
       | inr i ↦
           let less : k < j = omega (arith, i.1) in
@@ -62,7 +62,7 @@ module _ (dims : ℕ) (tree : Tree ℕ) (d : Deletion) (h : IsFrom dims tree (so
           let apart = other_node j c less e in
           record {
             after = subst (IsRest d.measures (rows_after d) c.cell) (sym (others c.node.0 apart)) was.after;
-            heir = subst (λ o. Names tree o (option_map (keep (depth c.cell)) (closure (eq_by_cmp nat_cmp) (rows_after d) c.cell))) (sym (heirs c.node.0 apart)) was.heir;
+            heir = subst (λ o. IsNumberOfCell tree o (option_map (cell_front (depth c.cell)) (closure (eq_by_cmp nat_cmp) (rows_after d) c.cell))) (sym (heirs c.node.0 apart)) was.heir;
           }
     ]
 
@@ -73,11 +73,3 @@ planning_more dims tree list (x ∷ some) zero b at =
     sum_by-cons (λ (b : Below). (4 * dims + 7) * (1 + front_labels tree list b.cell (last_any_of b.cell))) x some
     ∙ ap (λ (b : Below). (4 * dims + 7) * (1 + front_labels tree list b.cell (last_any_of b.cell)) + planning dims tree list some) (some_same at)
 planning_more dims tree list (x ∷ some) (suc k) b at = planning_more dims tree list some k b at
-
-pub planning_part : (dims : ℕ) (tree : Tree ℕ) (list some : List Below) (k : ℕ) → planning dims tree list (drop k some) ≤ planning dims tree list some
-planning_part dims tree list some zero = omega arith
-planning_part dims tree list [] (suc k) = omega arith
-planning_part dims tree list (x ∷ some) (suc k) =
-    let first = sum_by-cons (λ (b : Below). (4 * dims + 7) * (1 + front_labels tree list b.cell (last_any_of b.cell))) x some in
-    let more = planning_part dims tree list some k in
-    omega arith

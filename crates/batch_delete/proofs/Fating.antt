@@ -5,10 +5,10 @@ use Rattle.std.specs.Cmp.{nat_cmp_total}
 use Rattle.std.specs.FinMap as fin
 use Rattle.std.specs.Option.{option_and_then, option_map}
 use Rattle.std.specs.Ordering.{eq_by_cmp}
-use Rattle.cube_defs.specs.Cell.{Cell, cell_of, depth, keep, leq, with_value}
+use Rattle.cube_defs.specs.Cell.{Cell, cell_of, depth, cell_front, leq, with_value}
 use Rattle.cube_defs.specs.Rows.{closure, covers}
 use Rattle.cube_defs.specs.Tree.{Edge, Node, Tree, cell_at, forced_child, next_value, renamed_edge}
-use Rattle.cube_laws.proofs.Cells.{keep_mono, length-keep, leq_antisymm, leq_trans}
+use Rattle.cube_laws.proofs.Cells.{cell_front_mono, length-cell_front, leq_antisymm, leq_trans}
 use Rattle.cube_laws.proofs.Closures.{closure_idem, is_class-is, leq-closure}
 use Rattle.cube_laws.proofs.Columns.{one_value, one_value-leq, slice_get-cell_of}
 use Rattle.cube_laws.proofs.Covered.{closure_length}
@@ -17,18 +17,18 @@ use Rattle.cube_laws.proofs.Lists.{all-insert}
 use Rattle.cube_laws.proofs.Nodes.{class_fronts, front_of_class}
 use Rattle.cube_laws.proofs.OneRow.{below_row, node-insert}
 use Rattle.cube_laws.proofs.Partition.{has_same, leq_with_any}
+use Rattle.cube_laws.proofs.Orders.{one_test}
 use Rattle.qc_arena.specs.Seen.{record_at}
 use Rattle.tree_laws.proofs.Edges.{forced_lead}
-use Rattle.tree_laws.proofs.Fronts.{any_behind, keep-beyond, leq-with_value, with_value-there}
+use Rattle.tree_laws.proofs.Fronts.{any_behind, cell_front-beyond, leq-with_value, with_value-there}
 use Rattle.tree_laws.proofs.Lists.{some_same}
-use Rattle.tree_laws.proofs.Nexts.{keep-next, next-entry, next-ge}
+use Rattle.tree_laws.proofs.Nexts.{cell_front-next, next-entry, next-ge}
 use Rattle.tree_laws.proofs.Records.{record_with}
-use Rattle.tree_search.specs.Found.{IsFrom, closure_in}
+use Rattle.tree_search.specs.Found.{IsTreeOf, closure_in}
 use Rattle.batch_delete.specs.declared.parts.Rest.{Rest}
 use Rattle.batch_delete.specs.Rests.{Deletion, IsRest, rows_after, rows_before, shared_of, source_before}
-use Rattle.batch_delete.proofs.Entries.{entry_some, entry_within, keep_all}
+use Rattle.batch_delete.proofs.Entries.{entry_some, entry_within, cell_front_all}
 use Rattle.batch_delete.proofs.Labelled.{closed_at, law, made, node_there}
-use Rattle.batch_delete.proofs.Totalled.{same_test}
 
 -- cells with the same rows before have the same afterwards
 pub same_rest : (d : Deletion) (c w u : Cell ℕ) (o : Option Rest) → closure (eq_by_cmp nat_cmp) (rows_before d) c ≡ Some u → closure (eq_by_cmp nat_cmp) (rows_before d) w ≡ Some u → IsRest d.measures (rows_after d) w o → IsRest d.measures (rows_after d) c o
@@ -37,18 +37,18 @@ same_rest d c w u o a b rest = record {
   aggs = rest.aggs ∙ agg_after law d.xs d.r d.ys d.measures w u b ∙ sym (agg_after law d.xs d.r d.ys d.measures c u a);
 }
 
-module _ (dims : ℕ) (tree : Tree ℕ) (d : Deletion) (h : IsFrom dims tree (source_before d)) (k : ℕ) (p : Cell ℕ) (at : cell_at tree k ≡ Some p) where
+module _ (dims : ℕ) (tree : Tree ℕ) (d : Deletion) (h : IsTreeOf dims tree (source_before d)) (k : ℕ) (p : Cell ℕ) (at : cell_at tree k ≡ Some p) where
   pub shut : (u : Cell ℕ) × (closure (eq_by_cmp nat_cmp) (rows_before d) p ≡ Some u)
   shut = closed_at dims tree (source_before d) h k p at
 
   abbrev pub next : ℕ
   next = next_value nat_cmp (depth p) shut.0
 
-  front : keep (depth p) shut.0 ≡ p
+  front : cell_front (depth p) shut.0 ≡ p
   front = (front_of_class law (rows_before d) p shut.0 shut.1 (node_there dims tree (source_before d) h k p at)).1
 
   long : length shut.0 ≡ length p
-  long = sym (length-keep (depth p) shut.0) ∙ ap length front
+  long = sym (length-cell_front (depth p) shut.0) ∙ ap length front
 
   forced_is : option_map (renamed_edge (cell_at tree)) (record_at tree k).forced ≡ option_map (renamed_edge (λ c. Some c)) (forced_child nat_cmp p shut.0 next)
   forced_is =
@@ -71,7 +71,7 @@ module _ (dims : ℕ) (tree : Tree ℕ) (d : Deletion) (h : IsFrom dims tree (so
           cc
       by false t =
           let past : length shut.0 ≤ next = ltb-false _ _ t in
-          let same : shut.0 ≡ p = sym (keep_all shut.0 next past) ∙ keep-next nat_cmp (depth p) shut.0 ∙ front in
+          let same : shut.0 ≡ p = sym (cell_front_all shut.0 next past) ∙ cell_front-next nat_cmp (depth p) shut.0 ∙ front in
           shut.1 ∙ ap (λ c. Some c) same
 
   -- the forced child has the node's rows
@@ -93,15 +93,15 @@ module _ (dims : ℕ) (tree : Tree ℕ) (d : Deletion) (h : IsFrom dims tree (so
 
   module _ (tuple : Cell ℕ) (row : tuple ≡ cell_of d.r.tuple) (low : leq nat_eq p tuple ≡ true) where
     pub covered : covers (eq_by_cmp nat_cmp) p d.r ≡ true
-    covered = subst (λ t. leq (eq_by_cmp nat_cmp) p t ≡ true) row (subst (λ eq. leq eq p tuple ≡ true) (sym same_test) low)
+    covered = subst (λ t. leq (eq_by_cmp nat_cmp) p t ≡ true) row (subst (λ eq. leq eq p tuple ≡ true) (sym one_test) low)
 
     by_numbers : (c w : Cell ℕ) → leq (eq_by_cmp nat_cmp) c w ≡ true → leq nat_eq c w ≡ true
-    by_numbers c w e = subst (λ eq. leq eq c w ≡ true) same_test e
+    by_numbers c w e = subst (λ eq. leq eq c w ≡ true) one_test e
 
     -- a greater cell with a value where p has none is not below p
     apart : (w : Cell ℕ) (i v : ℕ) → slice_get p i ≡ Some None → leq (eq_by_cmp nat_cmp) (one_value i v) w ≡ true → leq nat_eq w p ≡ false
     apart w i v any one = false_from_ne_true _ (λ e.
-        let there : slice_get p i ≡ Some (Some v) = (one_value-leq law i v p).0 (leq_trans law (one_value i v) w p one (subst (λ eq. leq eq w p ≡ true) (sym same_test) e)) in
+        let there : slice_get p i ≡ Some (Some v) = (one_value-leq law i v p).0 (leq_trans law (one_value i v) w p one (subst (λ eq. leq eq w p ≡ true) (sym one_test) e)) in
         let bad : Some (Some v) ≡ Some None = sym there ∙ any in cc)
 
     module _ (plan : ℕ → Option Rest)
@@ -137,10 +137,10 @@ module _ (dims : ℕ) (tree : Tree ℕ) (d : Deletion) (h : IsFrom dims tree (so
           )
 
 -- the heir's cell was a node
-pub heir_there : (dims : ℕ) (tree : Tree ℕ) (d : Deletion) (h : IsFrom dims tree (source_before d)) (p shared : Cell ℕ) (n : ℕ) → closure (eq_by_cmp nat_cmp) (rows_after d) p ≡ Some shared → (k : ℕ) × (cell_at tree k ≡ Some (keep n shared))
+pub heir_there : (dims : ℕ) (tree : Tree ℕ) (d : Deletion) (h : IsTreeOf dims tree (source_before d)) (p shared : Cell ℕ) (n : ℕ) → closure (eq_by_cmp nat_cmp) (rows_after d) p ≡ Some shared → (k : ℕ) × (cell_at tree k ≡ Some (cell_front n shared))
 heir_there dims tree d h p shared n closes =
     let class = (is_class-is law (rows_after d) shared).1 (closure_idem law (rows_after d) p shared closes) in
-    h.canonical.all (keep n shared) (node-insert law d.xs d.r d.ys (keep n shared) (class_fronts law (rows_after d) n shared class))
+    h.canonical.all (cell_front n shared) (node-insert law d.xs d.r d.ys (cell_front n shared) (class_fronts law (rows_after d) n shared class))
 
 -- the tuple's value in a dimension is the row's
 pub row_value : (c : Cell ℕ) (t : List ℕ) (i v : ℕ) → c ≡ cell_of t → get_or c i None ≡ Some v → slice_get t i ≡ Some v
@@ -150,13 +150,13 @@ row_value c t i v row has = (slice_get-cell_of t i v).0 (ap (λ c. slice_get c i
 pub shared_closes : (d : Deletion) (c : Cell ℕ) (o : Option Rest) (rest : Rest) → IsRest d.measures (rows_after d) c o → o ≡ Some rest → closure (eq_by_cmp nat_cmp) (rows_after d) c ≡ Some rest.shared
 shared_closes d c o rest is some = sym is.cells ∙ ap shared_of some
 
-pub shared_long : (dims : ℕ) (tree : Tree ℕ) (d : Deletion) (h : IsFrom dims tree (source_before d)) (c : Cell ℕ) (rest : Rest) → closure (eq_by_cmp nat_cmp) (rows_after d) c ≡ Some rest.shared → length rest.shared ≡ dims
+pub shared_long : (dims : ℕ) (tree : Tree ℕ) (d : Deletion) (h : IsTreeOf dims tree (source_before d)) (c : Cell ℕ) (rest : Rest) → closure (eq_by_cmp nat_cmp) (rows_after d) c ≡ Some rest.shared → length rest.shared ≡ dims
 shared_long dims tree d h c rest closes = closure_length (eq_by_cmp nat_cmp) dims c rest.shared (rows_after d) (all-insert (λ row. length row.tuple ≡ dims) d.xs d.r d.ys h.wide).0 closes
 
 -- where the front of what a cell's rows share, as long as the cell, is not above the cell, it is the cell
-pub own_front : (d : Deletion) (c shared front : Cell ℕ) → closure (eq_by_cmp nat_cmp) (rows_after d) c ≡ Some shared → front ≡ keep (depth c) shared → leq nat_eq front c ≡ true → keep (depth c) shared ≡ c
+pub own_front : (d : Deletion) (c shared front : Cell ℕ) → closure (eq_by_cmp nat_cmp) (rows_after d) c ≡ Some shared → front ≡ cell_front (depth c) shared → leq nat_eq front c ≡ true → cell_front (depth c) shared ≡ c
 own_front d c shared front closes is low =
-    let up : leq (eq_by_cmp nat_cmp) c (keep (depth c) shared) ≡ true =
-    subst (λ x. leq (eq_by_cmp nat_cmp) x (keep (depth c) shared) ≡ true) (keep-beyond (depth c) c (omega arith)) (keep_mono law (depth c) c shared (leq-closure law (rows_after d) c shared closes)) in
-    let down : leq (eq_by_cmp nat_cmp) front c ≡ true = subst (λ eq. leq eq front c ≡ true) (sym same_test) low in
-    leq_antisymm law (keep (depth c) shared) c (subst (λ x. leq (eq_by_cmp nat_cmp) x c ≡ true) is down) up
+    let up : leq (eq_by_cmp nat_cmp) c (cell_front (depth c) shared) ≡ true =
+    subst (λ x. leq (eq_by_cmp nat_cmp) x (cell_front (depth c) shared) ≡ true) (cell_front-beyond (depth c) c (omega arith)) (cell_front_mono law (depth c) c shared (leq-closure law (rows_after d) c shared closes)) in
+    let down : leq (eq_by_cmp nat_cmp) front c ≡ true = subst (λ eq. leq eq front c ≡ true) (sym one_test) low in
+    leq_antisymm law (cell_front (depth c) shared) c (subst (λ x. leq (eq_by_cmp nat_cmp) x c ≡ true) is down) up

@@ -1,11 +1,10 @@
 -- Parts that have all rows of a class between them tell what these share and come to: the other parts are empty.
 use Rattle.std.proofs.Common.{◌≡◌, ◌∙◌, ℕ, zero, suc, ◌+◌, Bool, true, false, cond, Option, Some, None, List, [], ◌∷◌, ◌++◌, ap, ap₂, arith, drop, length, nat_cmp, nat_eq, not, ◌&&◌, refl, slice_get, sym, take}
-use Rattle.std.specs.List.{AllByRecursion, cons_option}
+use Rattle.std.specs.List.{AllByRecursion, IsDistinct, cons_option}
 use Rattle.std.specs.Ordering.{eq_by_cmp}
 use Rattle.cube_defs.specs.Cell.{Cell, with_value}
 use Rattle.cube_defs.specs.Rows.{Agg, Row, closure, cov, covers}
 use Rattle.cube_defs.specs.Tree.{Edge}
-use Rattle.cube_laws.specs.Lists.{Once}
 use Rattle.cube_laws.specs.Parts.{HasAll}
 use Rattle.cube_laws.specs.Total.{agg_at, agg_some, join_aggs, join_cells, total}
 use Rattle.cube_laws.proofs.Deletion.{agg_by, closure_by}
@@ -63,8 +62,9 @@ module _ (d : Deletion) (u : Cell ℕ) (i v : ℕ) (any : slice_get u i ≡ Some
       go true e = no_rows d.measures (rows_after d) w (none_counted d.measures (rows_after d) w e)
       go false e = no_rows d.measures (rows_before d) (with_value u i x) (none_counted d.measures (rows_before d) (with_value u i x) e)
 
-  pub all_found : (vs ws : List ℕ) → Once (eq_by_cmp nat_cmp) (vs ++ ws) → HasAll (eq_by_cmp nat_cmp) (rows_after d) u i (vs ++ ws) → (rest : Rest) → IsTotal d u i v w vs (Some rest)
+  pub all_found : (vs ws : List ℕ) → IsDistinct (eq_by_cmp nat_cmp) (vs ++ ws) → HasAll (eq_by_cmp nat_cmp) (rows_after d) u i (vs ++ ws) → (rest : Rest) → IsTotal d u i v w vs (Some rest)
       → rest.agg.count ≡ length (cov (eq_by_cmp nat_cmp) (rows_after d) u) → IsRest d.measures (rows_after d) u (Some rest)
+  unfolding IsDistinct
   all_found vs ws once all rest had many =
       let same = has_same law i v d.r has in
       let aggs = agg_by law d.xs d.r d.ys u i v any below same d.measures w (vs ++ ws) closes once all in

@@ -1,45 +1,45 @@
 -- Searches that begin at a node near by: behind a label, and up from a class to its front.
-use Rattle.std.proofs.Common.{◌≡◌, ◌∙◌, inl, inr, ℕ, zero, suc, ◌<◌, ◌≤◌, Option, Some, None, List, [], ◌∷◌, get_or, length, nat_cmp, refl, slice_get, sym, ap, arith}
+use Rattle.std.proofs.Common.{◌≡◌, ◌∙◌, ℕ, zero, suc, ◌<◌, ◌≤◌, Option, Some, None, [], ◌∷◌, get_or, length, nat_cmp, refl, slice_get, sym, ap, arith}
 use Rattle.std.specs.Cmp.{nat_cmp_total}
 use Rattle.std.specs.FinMap as fin
 use Rattle.std.specs.Option.{option_map}
 use Rattle.std.specs.Ordering.{eq_by_cmp}
 use Rattle.std.specs.Prelude.{IsSome}
 use Rattle.cell_core.specs.declared.cell.NodeNo.{NodeNo}
-use Rattle.cube_defs.specs.Cell.{Cell, depth, keep, with_value}
+use Rattle.cube_defs.specs.Cell.{Cell, depth, cell_front, with_value}
 use Rattle.cube_defs.specs.Rows.{closure}
 use Rattle.cube_defs.specs.Tree.{Edge, Tree, cell_at}
 use Rattle.cube_laws.specs.Lists.{Among}
 use Rattle.cube_laws.specs.Parts.{IsLastAny}
-use Rattle.cube_laws.proofs.Cells.{depth-le, keep-leq, length-keep}
+use Rattle.cube_laws.proofs.Cells.{depth-le, cell_front-leq, length-cell_front}
 use Rattle.cube_laws.proofs.Closures.{closure_some}
 use Rattle.cube_laws.proofs.Covered.{closure_length}
 use Rattle.qc_arena.specs.Seen.{number, record_at}
-use Rattle.tree_laws.specs.Walk.{front, walk_on}
+use Rattle.tree_laws.specs.Walk.{closure_front, walk_on}
 use Rattle.tree_laws.proofs.Climbs.{parent_is}
-use Rattle.tree_laws.proofs.Fronts.{depth-keep-le, depth-with_value, keep-beyond, upto-entry, with_value-there}
+use Rattle.tree_laws.proofs.Fronts.{depth-cell_front-le, depth-with_value, cell_front-beyond, upto-entry, with_value-there}
 use Rattle.tree_laws.proofs.Lists.{some_same}
 use Rattle.tree_laws.proofs.Walks.{walk_step}
-use Rattle.tree_search.specs.Found.{IsFrom, Names, Source, closure_in}
-use Rattle.batch_delete.proofs.Entries.{entry_within, keep-child}
+use Rattle.tree_search.specs.Found.{IsTreeOf, IsNumberOfCell, TreeRows, closure_in}
+use Rattle.batch_delete.proofs.Entries.{entry_within, cell_front-child}
 use Rattle.batch_delete.proofs.Labelled.{at_cell, closed_at, edge_label, law}
 
-keep_with : (p : Cell ℕ) (i v : ℕ) → keep i (with_value p i v) ≡ keep i p
-keep_with [] i v = refl
-keep_with (e ∷ p) zero v = refl
-keep_with (e ∷ p) (suc i) v = ap (λ c. e ∷ c) (keep_with p i v)
+cell_front_with : (p : Cell ℕ) (i v : ℕ) → cell_front i (with_value p i v) ≡ cell_front i p
+cell_front_with [] i v = refl
+cell_front_with (e ∷ p) zero v = refl
+cell_front_with (e ∷ p) (suc i) v = ap (λ c. e ∷ c) (cell_front_with p i v)
 
 -- the front of a cell with a value more
-front_with : (u : Cell ℕ) (i v : ℕ) → i < length u → keep (suc i) (with_value u i v) ≡ with_value (keep i u) i v
-front_with u i v l = upto-entry (with_value u i v) i v (with_value-there u i v l) ∙ ap (λ c. with_value c i v) (keep_with u i v)
+front_with : (u : Cell ℕ) (i v : ℕ) → i < length u → cell_front (suc i) (with_value u i v) ≡ with_value (cell_front i u) i v
+front_with u i v l = upto-entry (with_value u i v) i v (with_value-there u i v l) ∙ ap (λ c. with_value c i v) (cell_front_with u i v)
 
-module _ (dims : ℕ) (tree : Tree ℕ) (source : Source) (h : IsFrom dims tree source) where
+module _ (dims : ℕ) (tree : Tree ℕ) (source : TreeRows) (h : IsTreeOf dims tree source) where
   module _ (c : Cell ℕ) (long : length c ≡ dims) where
     -- one dimension on
-    pub goes_on : (k i : ℕ) (a o : Option ℕ) → i < dims → slice_get c i ≡ Some a → Names tree (Some k) (front (eq_by_cmp nat_cmp) source.rows c i) → walk_on (eq_by_cmp nat_cmp) k (record_at tree k) i a ≡ o → Names tree o (front (eq_by_cmp nat_cmp) source.rows c (suc i))
-    goes_on k i a o l at names is = by (front (eq_by_cmp nat_cmp) source.rows c i) refl names
+    pub goes_on : (k i : ℕ) (a o : Option ℕ) → i < dims → slice_get c i ≡ Some a → IsNumberOfCell tree (Some k) (closure_front (eq_by_cmp nat_cmp) source.rows c i) → walk_on (eq_by_cmp nat_cmp) k (record_at tree k) i a ≡ o → IsNumberOfCell tree o (closure_front (eq_by_cmp nat_cmp) source.rows c (suc i))
+    goes_on k i a o l at names is = by (closure_front (eq_by_cmp nat_cmp) source.rows c i) refl names
       where
-        by : (p : Option (Cell ℕ)) → front (eq_by_cmp nat_cmp) source.rows c i ≡ p → Some (cell_at tree k) ≡ option_map (λ c. Some c) p → Names tree o (front (eq_by_cmp nat_cmp) source.rows c (suc i))
+        by : (p : Option (Cell ℕ)) → closure_front (eq_by_cmp nat_cmp) source.rows c i ≡ p → Some (cell_at tree k) ≡ option_map (λ c. Some c) p → IsNumberOfCell tree o (closure_front (eq_by_cmp nat_cmp) source.rows c (suc i))
         by None e n = cc
         by (Some p) e n =
             let g = at_cell dims tree source h k p (some_same n) in
@@ -47,48 +47,48 @@ module _ (dims : ℕ) (tree : Tree ℕ) (source : Source) (h : IsFrom dims tree 
             ∙ walk_step nat_cmp_total fin.nat_cmp-IsAntisymmetric dims source.measures source.rows h.wide tree h.canonical k (record_at tree k) c i a long at l g.0 (ap (λ x. Some x) g.1 ∙ sym e)
 
     -- where a front covers nothing, the cell covers nothing
-    pub stops : (i : ℕ) → Names tree None (front (eq_by_cmp nat_cmp) source.rows c i) → Names tree None (closure_in source c)
+    pub stops : (i : ℕ) → IsNumberOfCell tree None (closure_front (eq_by_cmp nat_cmp) source.rows c i) → IsNumberOfCell tree None (closure_in source c)
     stops i names = by (closure (eq_by_cmp nat_cmp) source.rows c) refl
       where
         by : (o : Option (Cell ℕ)) → closure (eq_by_cmp nat_cmp) source.rows c ≡ o → None ≡ option_map (λ c. Some c) (closure (eq_by_cmp nat_cmp) source.rows c)
         by None q = sym (ap (option_map (λ c. Some c)) q)
         by (Some u) q =
-            let r : (w : Cell ℕ) × (closure (eq_by_cmp nat_cmp) source.rows (keep i c) ≡ Some w) = closure_some law source.rows (keep i c) c u (keep-leq law i c) q in
-            let bad : None ≡ Some (Some (keep i r.0)) = names ∙ ap (λ o. option_map (λ c. Some c) (option_map (keep i) o)) r.1 in
+            let r : (w : Cell ℕ) × (closure (eq_by_cmp nat_cmp) source.rows (cell_front i c) ≡ Some w) = closure_some law source.rows (cell_front i c) c u (cell_front-leq law i c) q in
+            let bad : None ≡ Some (Some (cell_front i r.0)) = names ∙ ap (λ o. option_map (λ c. Some c) (option_map (cell_front i) o)) r.1 in
             cc
 
     -- at the end the front is all
-    pub ends : (o : Option ℕ) (i : ℕ) → dims ≤ i → Names tree o (front (eq_by_cmp nat_cmp) source.rows c i) → Names tree o (closure_in source c)
+    pub ends : (o : Option ℕ) (i : ℕ) → dims ≤ i → IsNumberOfCell tree o (closure_front (eq_by_cmp nat_cmp) source.rows c i) → IsNumberOfCell tree o (closure_in source c)
     ends o i l names =
         names ∙ ap (option_map (λ c. Some c))
-        (ap (λ d. option_map (keep i) (closure (eq_by_cmp nat_cmp) source.rows d)) (keep-beyond i c (omega (arith, depth-le c, long))) ∙ by (closure (eq_by_cmp nat_cmp) source.rows c) refl)
+        (ap (λ d. option_map (cell_front i) (closure (eq_by_cmp nat_cmp) source.rows d)) (cell_front-beyond i c (omega (arith, depth-le c, long))) ∙ by (closure (eq_by_cmp nat_cmp) source.rows c) refl)
       where
-        by : (p : Option (Cell ℕ)) → closure (eq_by_cmp nat_cmp) source.rows c ≡ p → option_map (keep i) p ≡ p
+        by : (p : Option (Cell ℕ)) → closure (eq_by_cmp nat_cmp) source.rows c ≡ p → option_map (cell_front i) p ≡ p
         by None e = refl
-        by (Some u) e = let wide : length u ≡ dims = closure_length (eq_by_cmp nat_cmp) dims c u source.rows h.wide e in ap (λ x. Some x) (keep-beyond i u (omega (arith, depth-le u)))
+        by (Some u) e = let wide : length u ≡ dims = closure_length (eq_by_cmp nat_cmp) dims c u source.rows h.wide e in ap (λ x. Some x) (cell_front-beyond i u (omega (arith, depth-le u)))
 
   -- an edge of a cell's front leads to where a search for the cell with the edge's label goes on
-  pub label_goes_on : (k : ℕ) (u : Cell ℕ) (x : Edge ℕ ℕ) → x.dim < length u → cell_at tree k ≡ Some (keep x.dim u) → Among x (record_at tree k).edges → Names tree (Some x.target) (front (eq_by_cmp nat_cmp) source.rows (with_value u x.dim x.value) (suc x.dim))
+  pub label_goes_on : (k : ℕ) (u : Cell ℕ) (x : Edge ℕ ℕ) → x.dim < length u → cell_at tree k ≡ Some (cell_front x.dim u) → Among x (record_at tree k).edges → IsNumberOfCell tree (Some x.target) (closure_front (eq_by_cmp nat_cmp) source.rows (with_value u x.dim x.value) (suc x.dim))
   label_goes_on k u x l at m =
-      let p = closed_at dims tree source h k (keep x.dim u) at in
-      let t = edge_label dims tree source h k (keep x.dim u) at x m p.0 p.1 in
-      ap (λ y. Some y) t.1 ∙ sym (ap (λ c. option_map (λ c. Some c) (option_map (keep (suc x.dim)) (closure (eq_by_cmp nat_cmp) source.rows c))) (front_with u x.dim x.value l) ∙ ap (option_map (λ c. Some c)) t.2.leads)
+      let p = closed_at dims tree source h k (cell_front x.dim u) at in
+      let t = edge_label dims tree source h k (cell_front x.dim u) at x m p.0 p.1 in
+      ap (λ y. Some y) t.1 ∙ sym (ap (λ c. option_map (λ c. Some c) (option_map (cell_front (suc x.dim)) (closure (eq_by_cmp nat_cmp) source.rows c))) (front_with u x.dim x.value l) ∙ ap (option_map (λ c. Some c)) t.2.leads)
 
   -- up from a front to that before its last value
-  pub one_up : (k : ℕ) (c : Cell ℕ) (i v : ℕ) → cell_at tree k ≡ Some (keep (suc i) c) → slice_get c i ≡ Some (Some v) → option_map (cell_at tree) (record_at tree k).parent ≡ Some (Some (keep i c))
+  pub one_up : (k : ℕ) (c : Cell ℕ) (i v : ℕ) → cell_at tree k ≡ Some (cell_front (suc i) c) → slice_get c i ≡ Some (Some v) → option_map (cell_at tree) (record_at tree k).parent ≡ Some (Some (cell_front i c))
   one_up k c i v at has =
-      let a = at_cell dims tree source h k (keep (suc i) c) at in
-      let is : keep (suc i) c ≡ with_value (keep i c) i v = upto-entry c i v has in
-      let inside : i < length (keep i c) = omega (arith, length-keep i c, entry_within c i (Some v) has) in
-      let deep : depth (keep (suc i) c) ≡ suc i = ap depth is ∙ depth-with_value (keep i c) i v (depth-keep-le i c) inside in
+      let a = at_cell dims tree source h k (cell_front (suc i) c) at in
+      let is : cell_front (suc i) c ≡ with_value (cell_front i c) i v = upto-entry c i v has in
+      let inside : i < length (cell_front i c) = omega (arith, length-cell_front i c, entry_within c i (Some v) has) in
+      let deep : depth (cell_front (suc i) c) ≡ suc i = ap depth is ∙ depth-with_value (cell_front i c) i v (depth-cell_front-le i c) inside in
       parent_is nat_cmp_total fin.nat_cmp-IsAntisymmetric dims source.measures source.rows h.wide tree h.canonical k (record_at tree k) a.0 i (ap depth a.1 ∙ deep)
-      ∙ ap (λ c. Some (Some (keep i c))) (a.1 ∙ is) ∙ ap (λ c. Some (Some c)) (keep-child (keep i c) i v (depth-keep-le i c) inside)
+      ∙ ap (λ c. Some (Some (cell_front i c))) (a.1 ∙ is) ∙ ap (λ c. Some (Some c)) (cell_front-child (cell_front i c) i v (depth-cell_front-le i c) inside)
 
-  pub up_there : (k : ℕ) (c : Cell ℕ) (i v : ℕ) → cell_at tree k ≡ Some (keep (suc i) c) → slice_get c i ≡ Some (Some v) → (o : Option NodeNo) → option_map number o ≡ (record_at tree k).parent → IsSome o
-  up_there k c i v at has None is = let bad : None ≡ Some (Some (keep i c)) = ap (option_map (cell_at tree)) is ∙ one_up k c i v at has in cc
+  pub up_there : (k : ℕ) (c : Cell ℕ) (i v : ℕ) → cell_at tree k ≡ Some (cell_front (suc i) c) → slice_get c i ≡ Some (Some v) → (o : Option NodeNo) → option_map number o ≡ (record_at tree k).parent → IsSome o
+  up_there k c i v at has None is = let bad : None ≡ Some (Some (cell_front i c)) = ap (option_map (cell_at tree)) is ∙ one_up k c i v at has in cc
   up_there k c i v at has (Some m) is = refl
 
-  pub up_to : (k : ℕ) (c : Cell ℕ) (i v : ℕ) → cell_at tree k ≡ Some (keep (suc i) c) → slice_get c i ≡ Some (Some v) → (o : Option NodeNo) (m : NodeNo) → option_map number o ≡ (record_at tree k).parent → o ≡ Some m → cell_at tree m.0 ≡ Some (keep i c)
+  pub up_to : (k : ℕ) (c : Cell ℕ) (i v : ℕ) → cell_at tree k ≡ Some (cell_front (suc i) c) → slice_get c i ≡ Some (Some v) → (o : Option NodeNo) (m : NodeNo) → option_map number o ≡ (record_at tree k).parent → o ≡ Some m → cell_at tree m.0 ≡ Some (cell_front i c)
   up_to k c i v at has o m is got = some_same (ap (option_map (cell_at tree)) (ap (option_map number) (sym got) ∙ is) ∙ one_up k c i v at has)
 
 -- behind the last dimension of Any there are values alone
@@ -105,8 +105,3 @@ pub entry_at : (c : Cell ℕ) (i : ℕ) → i < length c → slice_get c i ≡ S
 entry_at [] i l = absurd (omega arith)
 entry_at (e ∷ c) zero l = refl
 entry_at (e ∷ c) (suc i) l = entry_at c i (omega arith)
-
-pub among_at : {X : Type 0} (xs : List X) (j : ℕ) (x : X) → slice_get xs j ≡ Some x → Among x xs
-among_at [] j x h = cc
-among_at (y ∷ xs) zero x h = inl (sym (some_same h))
-among_at (y ∷ xs) (suc j) x h = inr (among_at xs j x h)

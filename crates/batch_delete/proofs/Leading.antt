@@ -14,7 +14,7 @@ use Rattle.tree_laws.specs.Walk.{target_at}
 use Rattle.tree_laws.proofs.Lists.{some_same}
 use Rattle.batch_delete.specs.Plan.{is_value, mixed, own_to, with_heir, with_led, with_mixed, with_own}
 use Rattle.batch_delete.proofs.OwnLabels.{all_kept, led_alike, list_led, not_there, there_led}
-use Rattle.batch_delete.proofs.Totalled.{same_test}
+use Rattle.cube_laws.proofs.Orders.{one_test}
 
 -- where an edge leads once those before a dimension are led on
 abbrev pub own_before : Cell ℕ → (ℕ → Option ℕ) → ℕ → Edge ℕ ℕ → Option ℕ
@@ -106,7 +106,7 @@ module _ (tuple : Cell ℕ) (heirs : ℕ → Option ℕ) where
         value_led = go (target_at nat_eq d v (mixed (own_before tuple heirs d) 0 n.edges)) refl
           where
             by_test : target_at (eq_by_cmp nat_cmp) d v (mixed (own_before tuple heirs d) 0 n.edges) ≡ target_at nat_eq d v (mixed (own_before tuple heirs d) 0 n.edges)
-            by_test = ap (λ (e : ℕ → ℕ → Bool). target_at e d v (mixed (own_before tuple heirs d) 0 n.edges)) same_test
+            by_test = ap (λ (e : ℕ → ℕ → Bool). target_at e d v (mixed (own_before tuple heirs d) 0 n.edges)) one_test
 
             go : (o : Option ℕ) → target_at nat_eq d v (mixed (own_before tuple heirs d) 0 n.edges) ≡ o → with_heir heirs d v (target_at (eq_by_cmp nat_cmp) d v (mixed (own_before tuple heirs d) 0 n.edges)) (with_mixed (own_before tuple heirs d) 0 n) ≡ with_mixed (own_before tuple heirs (d + 1)) 0 n
             go None e =

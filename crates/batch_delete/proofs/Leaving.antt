@@ -19,7 +19,7 @@ use Rattle.cube_laws.proofs.RowTotals.{agg_total, aggs_add, row_agg}
 use Rattle.cube_laws.proofs.Totals.{total-split}
 use Rattle.qc_arena.specs.Seen.{record_at}
 use Rattle.tree_laws.proofs.Lists.{some_same}
-use Rattle.tree_search.specs.Found.{IsFrom, closure_in}
+use Rattle.tree_search.specs.Found.{IsTreeOf, closure_in}
 use Rattle.tree_laws.proofs.Lists.{there}
 use Rattle.tree_search.proofs.Walked.{total_some}
 use Rattle.batch_delete.specs.Rests.{Deletion, rows_after, rows_before, source_before}
@@ -98,7 +98,7 @@ tuple_closes d t row = (own, by (closure (eq_by_cmp nat_cmp) (rows_before d) t) 
         let down = subst (λ c. leq (eq_by_cmp nat_cmp) w c ≡ true) (sym row) (below_row law d.xs d.r d.ys t w own q) in
         q ∙ ap (λ c. Some c) (leq_antisymm law w t down up)
 
-module _ (dims : ℕ) (tree : Tree ℕ) (d : Deletion) (h : IsFrom dims tree (source_before d)) where
+module _ (dims : ℕ) (tree : Tree ℕ) (d : Deletion) (h : IsTreeOf dims tree (source_before d)) where
   -- a class has what its rows come to
   pub class_agg : (c : Cell ℕ) → length c ≡ dims → (k : ℕ) → cell_at tree k ≡ Some c → closure_in (source_before d) c ≡ Some c → (record_at tree k).class ≡ agg_at (eq_by_cmp nat_cmp) d.measures (rows_before d) c
   class_agg c long k at own = total_some dims tree (source_before d) h c long k (there tree k c at) (ap (λ x. Some x) at ∙ sym (ap (option_map (λ x. Some x)) own)) ∙ total_agg d.measures (rows_before d) c

@@ -1,24 +1,25 @@
 -- The edges of a node that stays, led on: they are those of its record afterwards.
 use Rattle.std.proofs.Common.{◌≡◌, ◌∙◌, ℕ, suc, ◌<◌, ◌≤◌, Bool, true, false, ◌&&◌, ◌||◌, Option, Some, None, List, [], ◌∷◌, filter_map, length, map, slice_get, get_or, nat_eq, nat_lt, nat_cmp, refl, sym, ap, ap₂, subst, arith, eqb-true, eq-eqb, true≢false, ltb-true, ltb-false}
+use Rattle.std.specs.List.Sorted.{IsStrictlySortedBy}
 use Rattle.std.specs.Cmp.{nat_cmp_total}
 use Rattle.std.specs.FinMap as fin
 use Rattle.std.specs.List.{AllByRecursion, cons_option}
 use Rattle.std.specs.Option.{option_map}
 use Rattle.std.specs.Ordering.{eq_by_cmp, ordering_reverse, ordering_then}
-use Rattle.std.specs.declared.cmp.Ordering.{Ordering}
-use Rattle.std.specs.declared.cmp.Ordering.TheVariants.{Equal, Greater, Less}
+use Rattle.std.specs.declared.cmp.Ordering.TheVariants.{Less}
 use Rattle.std.specs.Prelude.{if◌then◌else◌}
-use Rattle.cube_defs.specs.Cell.{Cell, cell_of, depth, keep, leq, upto, with_value}
+use Rattle.cube_defs.specs.Cell.{Cell, cell_of, depth, cell_front, leq, upto, with_value}
 use Rattle.cube_defs.specs.Rows.{closure, covers, is_node}
 use Rattle.cube_defs.specs.Tree.{Edge, Tree, cell_at, next_value, renamed_edge}
-use Rattle.cube_laws.specs.Lists.{Among, Rises}
-use Rattle.cube_laws.proofs.Cells.{length-keep}
+use Rattle.cube_laws.specs.Lists.{Among}
+use Rattle.cube_laws.proofs.Cells.{length-cell_front}
 use Rattle.cube_laws.proofs.Distinct.{rises-map, rises_same-by_turn}
 use Rattle.cube_laws.proofs.Lists.{all_from, all_at, among_filter_map, among_map, map_among}
 use Rattle.cube_laws.proofs.Nodes.{front_of_class}
+use Rattle.cube_laws.proofs.IcebergOrder.{then_turn}
 use Rattle.qc_arena.specs.Seen.{record_at}
 use Rattle.tree_laws.specs.Edges.{edge_cmp}
-use Rattle.tree_laws.specs.Labels.{IsLabel, IsWithin, lead, record_of}
+use Rattle.tree_laws.specs.Labels.{IsLabel, IsWithin, target_of_label, record_of}
 use Rattle.tree_laws.proofs.Children.{lead_node}
 use Rattle.tree_laws.proofs.Edges.{edges-are, only_forced}
 use Rattle.tree_laws.proofs.EdgesRise.{edges_rise}
@@ -27,7 +28,7 @@ use Rattle.tree_laws.proofs.Lists.{some_same}
 use Rattle.tree_laws.proofs.Nexts.{next-entry}
 use Rattle.tree_laws.proofs.Records.{record_rises}
 use Rattle.tree_laws.proofs.RowsLess.{no_further}
-use Rattle.tree_search.specs.Found.{IsFrom}
+use Rattle.tree_search.specs.Found.{IsTreeOf}
 use Rattle.batch_delete.specs.declared.below.Below.{Below}
 use Rattle.batch_delete.specs.declared.plan.Fate.{Fate}
 use Rattle.batch_delete.specs.Below.{AreBelow}
@@ -37,20 +38,16 @@ use Rattle.batch_delete.proofs.Entries.{entry_is, entry_some, led_depth}
 use Rattle.batch_delete.proofs.Labelled.{closed_at, label_edge, law, made}
 use Rattle.batch_delete.proofs.Outcomes.{covered, edge_leads, front_node, heir_cell, heir_some, own_low, value_is, value_isn't}
 
--- lists of edges, by their labels alone
-then_turn : (a b : Ordering) → ordering_then (ordering_reverse a) (ordering_reverse b) ≡ ordering_reverse (ordering_then a b)
-then_turn Less b = refl
-then_turn Equal b = refl
-then_turn Greater b = refl
-
 edge_turn : {T : Type 0} (x y : Edge ℕ T) → edge_cmp nat_cmp x y ≡ ordering_reverse (edge_cmp nat_cmp y x)
 edge_turn x y = ap₂ ordering_then (nat_cmp_total.antisymm x.dim y.dim) (nat_cmp_total.antisymm x.value y.value) ∙ then_turn (nat_cmp y.dim x.dim) (nat_cmp y.value x.value)
 
 module _ {S T : Type 0} (name : S → T) where
-  pub rises_renamed : (xs : List (Edge ℕ S)) → Rises (edge_cmp nat_cmp) xs → Rises (edge_cmp nat_cmp) (map (renamed_edge name) xs)
+  pub rises_renamed : (xs : List (Edge ℕ S)) → IsStrictlySortedBy (edge_cmp nat_cmp) xs → IsStrictlySortedBy (edge_cmp nat_cmp) (map (renamed_edge name) xs)
+  unfolding IsStrictlySortedBy
   rises_renamed xs h = rises-map (renamed_edge name) (edge_cmp nat_cmp) xs h
 
-  pub renamed_rises : (xs : List (Edge ℕ S)) → Rises (edge_cmp nat_cmp) (map (renamed_edge name) xs) → Rises (edge_cmp nat_cmp) xs
+  pub renamed_rises : (xs : List (Edge ℕ S)) → IsStrictlySortedBy (edge_cmp nat_cmp) (map (renamed_edge name) xs) → IsStrictlySortedBy (edge_cmp nat_cmp) xs
+  unfolding IsStrictlySortedBy
   renamed_rises [] h = tt
   renamed_rises (x ∷ xs) h = (below xs h.0, renamed_rises xs h.1)
     where
@@ -65,7 +62,8 @@ led_label f x y e = go (f x) refl e
     go None k e = cc
     go (Some t) k e = (t, k, sym (some_same e))
 
-pub rises_led : (f : Edge ℕ ℕ → Option ℕ) (xs : List (Edge ℕ ℕ)) → Rises (edge_cmp nat_cmp) xs → Rises (edge_cmp nat_cmp) (filter_map (led_edge f) xs)
+pub rises_led : (f : Edge ℕ ℕ → Option ℕ) (xs : List (Edge ℕ ℕ)) → IsStrictlySortedBy (edge_cmp nat_cmp) xs → IsStrictlySortedBy (edge_cmp nat_cmp) (filter_map (led_edge f) xs)
+unfolding IsStrictlySortedBy
 rises_led f [] h = tt
 rises_led f (x ∷ xs) h = go (rises_led f xs h.1) (led_edge f x) refl
   where
@@ -76,7 +74,7 @@ rises_led f (x ∷ xs) h = go (rises_led f xs h.1) (led_edge f x) refl
         let b = led_label f w.0 z w.2 in
         ap₂ (λ (p q : Edge ℕ ℕ). edge_cmp nat_cmp p q) a.2 b.2 ∙ all_at (λ q. edge_cmp nat_cmp x q ≡ Less) w.0 xs h.0 w.1
 
-    go : Rises (edge_cmp nat_cmp) (filter_map (led_edge f) xs) → (o : Option (Edge ℕ ℕ)) → led_edge f x ≡ o → Rises (edge_cmp nat_cmp) (cons_option o (filter_map (led_edge f) xs))
+    go : IsStrictlySortedBy (edge_cmp nat_cmp) (filter_map (led_edge f) xs) → (o : Option (Edge ℕ ℕ)) → led_edge f x ≡ o → IsStrictlySortedBy (edge_cmp nat_cmp) (cons_option o (filter_map (led_edge f) xs))
     go more None e = more
     go more (Some y) e = (all_from (λ z. edge_cmp nat_cmp y z ≡ Less) (filter_map (led_edge f) xs) (λ z m. less y z e m), more)
 
@@ -103,18 +101,18 @@ module _ (p w : Cell ℕ) (same : length p ≡ length w) where
       go None n k = beyond (nat_lt (next_value nat_cmp (depth p) w) (length w)) refl n
       go (Some v') n k = reach (nat_lt i (next_value nat_cmp (depth p) w)) (nat_eq i (next_value nat_cmp (depth p) w)) refl refl v' k
 
-module _ (width : ℕ) (tree : Tree ℕ) (tuple : Cell ℕ) (d : Deletion) (h : IsFrom width tree (source_before d)) (long : length tuple ≡ width) (is : tuple ≡ cell_of d.r.tuple)
+module _ (width : ℕ) (tree : Tree ℕ) (tuple : Cell ℕ) (d : Deletion) (h : IsTreeOf width tree (source_before d)) (long : length tuple ≡ width) (is : tuple ≡ cell_of d.r.tuple)
     (plan : List (ℕ × Fate)) (list : List Below) (below : AreBelow tree tuple (length tuple) list) (planned : ArePlanned d tree plan list 0)
     (name : ℕ → Option (Cell ℕ)) (still : (l : ℕ) (c : Cell ℕ) → cell_at tree l ≡ Some c → is_node (eq_by_cmp nat_cmp) (rows_after d) c ≡ true → name l ≡ Some c)
     (q : ℕ) (p w : Cell ℕ) (at : cell_at tree q ≡ Some p) (low : leq nat_eq p tuple ≡ true) (node : is_node (eq_by_cmp nat_cmp) (rows_after d) p ≡ true) (closed : closure (eq_by_cmp nat_cmp) (rows_after d) p ≡ Some w) where
   over : covers (eq_by_cmp nat_cmp) p d.r ≡ true
   over = covered width tree tuple d h long is p low
 
-  front : keep (depth p) w ≡ p
+  front : cell_front (depth p) w ≡ p
   front = (front_of_class law (rows_after d) p w closed node).1
 
   same_long : length p ≡ length w
-  same_long = sym (ap length front) ∙ length-keep (depth p) w
+  same_long = sym (ap length front) ∙ length-cell_front (depth p) w
 
   leads : Edge ℕ ℕ → Option ℕ
   leads x = led_to tuple (heir_in plan) (next_entry (depth p) w) x
@@ -130,7 +128,7 @@ module _ (width : ℕ) (tree : Tree ℕ) (tuple : Cell ℕ) (d : Deletion) (h : 
       → (c : Cell ℕ) × (name t ≡ Some c) × IsLabel nat_cmp (rows_after d) p (next_value nat_cmp (depth p) w) (record { dim = x.dim; value = x.value; target = c })
   led_sound x m t led = by_left (is_left (next_entry (depth p) w) x.dim x.value) refl led
     where
-      to : (c : Cell ℕ) × (cell_at tree x.target ≡ Some c) × (depth p ≤ x.dim) × (x.dim < length p) × (lead (eq_by_cmp nat_cmp) (rows_before d) p x.dim x.value ≡ Some c)
+      to : (c : Cell ℕ) × (cell_at tree x.target ≡ Some c) × (depth p ≤ x.dim) × (x.dim < length p) × (target_of_label (eq_by_cmp nat_cmp) (rows_before d) p x.dim x.value ≡ Some c)
       to = edge_leads width tree tuple d h long is q p at low x m
 
       within : is_left (next_entry (depth p) w) x.dim x.value ≡ true → IsWithin p (next_value nat_cmp (depth p) w) x.dim
@@ -142,14 +140,14 @@ module _ (width : ℕ) (tree : Tree ℕ) (tuple : Cell ℕ) (d : Deletion) (h : 
           let down = own_low width tree tuple d h long is q p at low x m own in
           let z = heir_cell width tree tuple d h long is plan list below planned x.target to.0 to.1 down t e in
           let deep = led_depth law (rows_before d) p to.0 x.dim x.value to.2 to.3 to.4 in
-          let cell : cell_at tree t ≡ Some (upto z.0 x.dim) = z.2 ∙ ap (λ n. Some (keep n z.0)) deep in (
+          let cell : cell_at tree t ≡ Some (upto z.0 x.dim) = z.2 ∙ ap (λ n. Some (cell_front n z.0)) deep in (
             upto z.0 x.dim,
             still t (upto z.0 x.dim) cell (front_node width tree tuple d h long is plan list below planned to.0 z.0 (suc x.dim) z.1),
             record { place = within l; leads = lead_less law d.xs d.r d.ys p to.0 x.dim x.value to.2 to.3 to.4 ∙ ap (option_map (λ u. upto u x.dim)) z.1 },
           )
       by_own l false own e =
           let same : x.target ≡ t = some_same e in
-          let lead_is : lead (eq_by_cmp nat_cmp) (rows_after d) p x.dim x.value ≡ Some to.0 =
+          let lead_is : target_of_label (eq_by_cmp nat_cmp) (rows_after d) p x.dim x.value ≡ Some to.0 =
           sym (lead_other law d.xs d.r d.ys p x.dim x.value over to.2 to.3 (value_isn't d.r.tuple x.dim x.value (ap (λ c. is_value (get_or c x.dim None) x.value) (sym is) ∙ own))) ∙ to.4 in (
             to.0,
             still t to.0 (ap (cell_at tree) (sym same) ∙ to.1) (lead_node law (rows_after d) p x.dim x.value to.0 lead_is),
@@ -181,24 +179,24 @@ module _ (width : ℕ) (tree : Tree ℕ) (tuple : Cell ℕ) (d : Deletion) (h : 
   -- each label that leads somewhere has an edge that is left
   pub led_whole : (y : Edge ℕ (Cell ℕ)) → IsLabel nat_cmp (rows_after d) p (next_value nat_cmp (depth p) w) y
       → (x : Edge ℕ ℕ) × (t : ℕ) × Among x (record_at tree q).edges × (led_to tuple (heir_in plan) (next_entry (depth p) w) x ≡ Some t) × (x.dim ≡ y.dim) × (x.value ≡ y.value)
-  led_whole y l = go (lead (eq_by_cmp nat_cmp) (rows_before d) p y.dim y.value) refl
+  led_whole y l = go (target_of_label (eq_by_cmp nat_cmp) (rows_before d) p y.dim y.value) refl
     where
       u : (u : Cell ℕ) × (closure (eq_by_cmp nat_cmp) (rows_before d) p ≡ Some u)
       u = closed_at width tree (source_before d) h q p at
 
-      at_edge : (c : Cell ℕ) → lead (eq_by_cmp nat_cmp) (rows_before d) p y.dim y.value ≡ Some c → (x : Edge ℕ ℕ) → Among x (record_at tree q).edges → x.dim ≡ y.dim → x.value ≡ y.value → cell_at tree x.target ≡ Some c
+      at_edge : (c : Cell ℕ) → target_of_label (eq_by_cmp nat_cmp) (rows_before d) p y.dim y.value ≡ Some c → (x : Edge ℕ ℕ) → Among x (record_at tree q).edges → x.dim ≡ y.dim → x.value ≡ y.value → cell_at tree x.target ≡ Some c
           → (s : Bool) → is_value (get_or tuple x.dim None) x.value ≡ s → (t : ℕ) × ((if s then heir_in plan x.target else Some x.target) ≡ Some t)
       at_edge c e x m dim value there true own =
           let to = edge_leads width tree tuple d h long is q p at low x m in
           let down = own_low width tree tuple d h long is q p at low x m own in
           let cell : to.0 ≡ c = some_same (sym to.1 ∙ there) in
-          let moved : option_map (λ z. upto z y.dim) (closure (eq_by_cmp nat_cmp) (rows_after d) c) ≡ Some y.target = sym (lead_less law d.xs d.r d.ys p c y.dim y.value l.place.behind l.place.within e) ∙ l.leads in
-          let z = led_from law (closure (eq_by_cmp nat_cmp) (rows_after d) c) y.dim y.target moved in
+          let target_after_row : option_map (λ z. upto z y.dim) (closure (eq_by_cmp nat_cmp) (rows_after d) c) ≡ Some y.target = sym (lead_less law d.xs d.r d.ys p c y.dim y.value l.place.behind l.place.within e) ∙ l.leads in
+          let z = led_from law (closure (eq_by_cmp nat_cmp) (rows_after d) c) y.dim y.target target_after_row in
           let t = heir_some width tree tuple d h long is plan list below planned x.target to.0 to.1 down z.0 (ap (closure (eq_by_cmp nat_cmp) (rows_after d)) cell ∙ z.1) in
           (t.0, t.1)
       at_edge c e x m dim value there false own = (x.target, refl)
 
-      go : (o : Option (Cell ℕ)) → lead (eq_by_cmp nat_cmp) (rows_before d) p y.dim y.value ≡ o
+      go : (o : Option (Cell ℕ)) → target_of_label (eq_by_cmp nat_cmp) (rows_before d) p y.dim y.value ≡ o
           → (x : Edge ℕ ℕ) × (t : ℕ) × Among x (record_at tree q).edges × (led_to tuple (heir_in plan) (next_entry (depth p) w) x ≡ Some t) × (x.dim ≡ y.dim) × (x.value ≡ y.value)
       go None e = let bad : None ≡ Some y.target = sym (lead_none law d.xs d.r d.ys p y.dim y.value e) ∙ l.leads in cc
       go (Some c) e =
@@ -231,14 +229,15 @@ module _ (width : ℕ) (tree : Tree ℕ) (tuple : Cell ℕ) (d : Deletion) (h : 
       let x : Edge ℕ ℕ = record { dim = o.0.dim; value = o.0.value; target = o.1 } in
       let m : Among x left_edges = (among_filter_map (led_edge (led_to tuple (heir_in plan) (next_entry (depth p) w))) x (record_at tree q).edges).1 (o.0, o.2, ap (option_map (λ t. record { dim = o.0.dim; value = o.0.value; target = t })) o.3) in
       let s = edge_sound x m in
-      let same : Some s.0 ≡ Some y.target = sym s.2.leads ∙ ap₂ (lead (eq_by_cmp nat_cmp) (rows_after d) p) o.4 o.5 ∙ l.leads in
+      let same : Some s.0 ≡ Some y.target = sym s.2.leads ∙ ap₂ (target_of_label (eq_by_cmp nat_cmp) (rows_after d) p) o.4 o.5 ∙ l.leads in
       (x, m, o.4, o.5, s.1 ∙ same)
 
-  old_rises : Rises (edge_cmp nat_cmp) (record_at tree q).edges
+  old_rises : IsStrictlySortedBy (edge_cmp nat_cmp) (record_at tree q).edges
+  unfolding IsStrictlySortedBy
   old_rises =
       let m = made width tree (source_before d) h q p at in
       renamed_rises (cell_at tree) (record_at tree q).edges
-      (subst (λ n. Rises (edge_cmp nat_cmp) n.edges) (sym m.2) (rises_renamed (λ c. Some c) m.0.edges (record_rises nat_cmp_total fin.nat_cmp-IsAntisymmetric d.measures (rows_before d) p m.0 m.1)))
+      (subst (λ n. IsStrictlySortedBy (edge_cmp nat_cmp) n.edges) (sym m.2) (rises_renamed (λ c. Some c) m.0.edges (record_rises nat_cmp_total fin.nat_cmp-IsAntisymmetric d.measures (rows_before d) p m.0 m.1)))
 
   pub edges_now : map (renamed_edge name) left_edges ≡ map (renamed_edge (λ c. Some c)) (record_of nat_cmp d.measures (rows_after d) p w).edges
   edges_now =

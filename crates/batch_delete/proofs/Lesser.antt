@@ -12,10 +12,10 @@ abbrev pub at : List Part → ℕ → Part
 at ps k = slice_index_or ps k zero_part
 
 -- a part is told by the whole and the other part
-abbrev pub IsTold : Part → Part → Part → Type 0
-IsTold p w n = (o : defs.Part) → combine_part (part_in p) o ≡ part_in w → part_in n ≡ o
+abbrev pub IsRemainder : Part → Part → Part → Type 0
+IsRemainder p w n = (o : defs.Part) → combine_part (part_in p) o ≡ part_in w → part_in n ≡ o
 
-pub parts_told : (n : ℕ) (ps ws ns : List Part) (os : List defs.Part) → n ≤ length ps → n ≤ length ws → n ≤ length ns → length os ≡ n → ((k : ℕ) → k < n → IsTold (at ps k) (at ws k) (at ns k))
+pub parts_told : (n : ℕ) (ps ws ns : List Part) (os : List defs.Part) → n ≤ length ps → n ≤ length ws → n ≤ length ns → length os ≡ n → ((k : ℕ) → k < n → IsRemainder (at ps k) (at ws k) (at ns k))
     → combine_parts (map part_in (take n ps)) os ≡ map part_in (take n ws) → map part_in (take n ns) ≡ os
 parts_told zero ps ws ns [] a b c l told e = refl
 parts_told zero ps ws ns (o ∷ os) a b c l told e = absurd (omega arith)
@@ -40,8 +40,3 @@ part_told p w sum least greatest s l g low high o e =
     let c : o.greatest ≡ w.greatest = greatest_left p.greatest w.greatest o.greatest (ap (λ (x : defs.Part). x.greatest) (sym e)) (λ i. le_z_same w.greatest p.greatest high (sym i)) in
     ap (λ (x : ℤ). let y : defs.Part = record { sum = x; least = least; greatest = greatest } in y) (s ∙ sym a)
     ∙ ap₂ (λ (x y : ℤ). let z : defs.Part = record { sum = o.sum; least = x; greatest = y } in z) (l ∙ sym b) (g ∙ sym c)
-
-pub taken_long : (n : ℕ) (ps : List Part) → n ≤ length ps → length (map part_in (take n ps)) ≡ n
-taken_long zero ps h = refl
-taken_long (suc n) [] h = absurd (omega arith)
-taken_long (suc n) (p ∷ ps) h = ap suc (taken_long n ps (omega arith))

@@ -1,5 +1,5 @@
 -- Which nodes below the tuple stay, and what they need so that their records can be mended.
-use Rattle.std.proofs.Common.{◌≡◌, ◌≢◌, ◌↔◌, ◌∙◌, inl, inr, ℕ, zero, suc, ◌<◌, ◌≤◌, Bool, true, false, Option, Some, None, List, [], ◌∷◌, length, slice_get, get_or, nat_eq, nat_cmp, is_some, refl, sym, ap, subst, arith, eqb-true, eq-eqb, true≢false}
+use Rattle.std.proofs.Common.{◌≡◌, ◌≢◌, ◌↔◌, ◌∙◌, ℕ, zero, suc, ◌<◌, ◌≤◌, Bool, true, false, Option, Some, None, List, [], ◌∷◌, length, slice_get, get_or, nat_eq, nat_cmp, is_some, refl, sym, ap, subst, arith, eqb-true, eq-eqb, true≢false}
 use Rattle.std.proofs.lemmas.Bool.{and_parts, cond-true, cond-false, false_from_ne_true}
 use Rattle.std.specs.FinMap as fin
 use Rattle.std.specs.Map.{lookup}
@@ -7,22 +7,22 @@ use Rattle.std.specs.Option.{option_and_then, option_map}
 use Rattle.std.specs.Ordering.{eq_by_cmp}
 use Rattle.std.specs.Prelude.{IsSome, if◌then◌else◌}
 use Rattle.cell_core.specs.declared.cell.NodeNo.{NodeNo}
-use Rattle.cube_defs.specs.Cell.{Cell, cell_of, depth, entry_leq, keep, leq}
+use Rattle.cube_defs.specs.Cell.{Cell, cell_of, depth, entry_leq, cell_front, leq}
 use Rattle.cube_defs.specs.Rows.{closure, covers, is_node}
 use Rattle.cube_defs.specs.Tree.{Edge, Tree, cell_at}
 use Rattle.cube_laws.specs.Lists.{Among}
-use Rattle.cube_laws.proofs.Cells.{depth-le, leq_refl, keep-leq, meet_right, nat_equality}
+use Rattle.cube_laws.proofs.Cells.{depth-le, leq_refl, cell_front-leq, meet_right, nat_equality}
 use Rattle.cube_laws.proofs.Covered.{closure_length}
-use Rattle.cube_laws.proofs.Lists.{all-insert}
+use Rattle.cube_laws.proofs.Lists.{all-insert, get_among}
 use Rattle.cube_laws.proofs.Nodes.{class_fronts, is_node-is}
 use Rattle.cube_laws.proofs.Closures.{closure_idem, is_class-is}
 use Rattle.qc_arena.specs.Map.{Known}
 use Rattle.qc_arena.specs.Seen.{number, record_at}
-use Rattle.cube_laws.proofs.Orders.{eq_cmp}
-use Rattle.tree_laws.specs.Labels.{lead, moved}
+use Rattle.cube_laws.proofs.Orders.{leq_is}
+use Rattle.tree_laws.specs.Labels.{target_of_label, target_after_row}
 use Rattle.tree_laws.proofs.Leads.{lead_own}
 use Rattle.tree_laws.proofs.Lists.{some_same}
-use Rattle.tree_search.specs.Found.{IsFrom}
+use Rattle.tree_search.specs.Found.{IsTreeOf}
 use Rattle.tree_laws.proofs.Lists.{there}
 use Rattle.batch_delete.specs.declared.below.Below.{Below}
 use Rattle.batch_delete.specs.declared.parts.Rest.{Rest}
@@ -33,10 +33,6 @@ use Rattle.batch_delete.specs.Rests.{ArePlanned, Deletion, IsPlanned, IsRest, ro
 use Rattle.batch_delete.proofs.Childs.{cell_wide}
 use Rattle.batch_delete.proofs.Entries.{led_entry}
 use Rattle.batch_delete.proofs.Labelled.{closed_at, edge_label, law}
-
--- both tests of codes are one
-pub leq_is : (c t : Cell ℕ) → leq (eq_by_cmp nat_cmp) c t ≡ leq nat_eq c t
-leq_is c t = ap (λ e. leq e c t) (λ i x y. eq_cmp x y i)
 
 -- a number that is its own heir stays with what is planned for it, and no other stays
 pub own_stays : (plan : List (ℕ × Fate)) (q : ℕ) → heir_in plan q ≡ Some q → staying plan q ≡ after_in plan q
@@ -72,7 +68,7 @@ value_isn't [] i v h e = cc
 value_isn't (x ∷ t) zero v h e = true≢false (sym (eq-eqb x v (some_same e)) ∙ h)
 value_isn't (x ∷ t) (suc i) v h e = value_isn't t i v h e
 
-module _ (width : ℕ) (tree : Tree ℕ) (tuple : Cell ℕ) (d : Deletion) (h : IsFrom width tree (source_before d)) (long : length tuple ≡ width) (is : tuple ≡ cell_of d.r.tuple) where
+module _ (width : ℕ) (tree : Tree ℕ) (tuple : Cell ℕ) (d : Deletion) (h : IsTreeOf width tree (source_before d)) (long : length tuple ≡ width) (is : tuple ≡ cell_of d.r.tuple) where
   pub covered : (p : Cell ℕ) → leq nat_eq p tuple ≡ true → covers (eq_by_cmp nat_cmp) p d.r ≡ true
   covered p low = ap (leq (eq_by_cmp nat_cmp) p) (sym is) ∙ leq_is p tuple ∙ low
 
@@ -84,7 +80,7 @@ module _ (width : ℕ) (tree : Tree ℕ) (tuple : Cell ℕ) (d : Deletion) (h : 
 
   -- where an edge of a node below the tuple leads
   module _ (k : ℕ) (p : Cell ℕ) (at : cell_at tree k ≡ Some p) (low : leq nat_eq p tuple ≡ true) (x : Edge ℕ ℕ) (m : Among x (record_at tree k).edges) where
-    pub edge_leads : (c : Cell ℕ) × (cell_at tree x.target ≡ Some c) × (depth p ≤ x.dim) × (x.dim < length p) × (lead (eq_by_cmp nat_cmp) (rows_before d) p x.dim x.value ≡ Some c)
+    pub edge_leads : (c : Cell ℕ) × (cell_at tree x.target ≡ Some c) × (depth p ≤ x.dim) × (x.dim < length p) × (target_of_label (eq_by_cmp nat_cmp) (rows_before d) p x.dim x.value ≡ Some c)
     edge_leads =
         let u = closed_at width tree (source_before d) h k p at in
         let l = edge_label width tree (source_before d) h k p at x m u.0 u.1 in
@@ -94,12 +90,12 @@ module _ (width : ℕ) (tree : Tree ℕ) (tuple : Cell ℕ) (d : Deletion) (h : 
     pub own_low : is_value (get_or tuple x.dim None) x.value ≡ true → leq nat_eq edge_leads.0 tuple ≡ true
     own_low own =
         let value = value_is d.r.tuple x.dim x.value (ap (λ c. is_value (get_or c x.dim None) x.value) (sym is) ∙ own) in
-        let same : Some edge_leads.0 ≡ Some (moved (eq_by_cmp nat_cmp) (lead (eq_by_cmp nat_cmp) (rows_after d) p x.dim x.value) (cell_of d.r.tuple) x.dim) =
+        let same : Some edge_leads.0 ≡ Some (target_after_row (eq_by_cmp nat_cmp) (target_of_label (eq_by_cmp nat_cmp) (rows_after d) p x.dim x.value) (cell_of d.r.tuple) x.dim) =
         sym edge_leads.4 ∙ lead_own law d.xs d.r d.ys p x.dim x.value (covered p low) edge_leads.2 edge_leads.3 value in
-        covered_low edge_leads.0 (subst (λ c. leq (eq_by_cmp nat_cmp) c (cell_of d.r.tuple) ≡ true) (sym (some_same same)) (by (lead (eq_by_cmp nat_cmp) (rows_after d) p x.dim x.value)))
+        covered_low edge_leads.0 (subst (λ c. leq (eq_by_cmp nat_cmp) c (cell_of d.r.tuple) ≡ true) (sym (some_same same)) (by (target_of_label (eq_by_cmp nat_cmp) (rows_after d) p x.dim x.value)))
       where
-        by : (o : Option (Cell ℕ)) → leq (eq_by_cmp nat_cmp) (moved (eq_by_cmp nat_cmp) o (cell_of d.r.tuple) x.dim) (cell_of d.r.tuple) ≡ true
-        by None = keep-leq law (suc x.dim) (cell_of d.r.tuple)
+        by : (o : Option (Cell ℕ)) → leq (eq_by_cmp nat_cmp) (target_after_row (eq_by_cmp nat_cmp) o (cell_of d.r.tuple) x.dim) (cell_of d.r.tuple) ≡ true
+        by None = cell_front-leq law (suc x.dim) (cell_of d.r.tuple)
         by (Some c) = meet_right law c (cell_of d.r.tuple)
 
     pub low_own : leq nat_eq edge_leads.0 tuple ≡ true → is_value (get_or tuple x.dim None) x.value ≡ true
@@ -135,7 +131,7 @@ module _ (width : ℕ) (tree : Tree ℕ) (tuple : Cell ℕ) (d : Deletion) (h : 
       own_heir =
           let names = (fate q c at low).heir in
           let node = is_node-is law (rows_after d) c in (
-            λ e. node.1 (named (option_map (keep (depth c)) (closure (eq_by_cmp nat_cmp) (rows_after d) c)) (sym names ∙ ap (option_map (cell_at tree)) e ∙ ap (λ x. Some x) at)),
+            λ e. node.1 (named (option_map (cell_front (depth c)) (closure (eq_by_cmp nat_cmp) (rows_after d) c)) (sym names ∙ ap (option_map (cell_at tree)) e ∙ ap (λ x. Some x) at)),
             λ k. back (heir_in plan q) (names ∙ ap (option_map (λ c. Some c)) (node.0 k)),
           )
         where
@@ -157,13 +153,13 @@ module _ (width : ℕ) (tree : Tree ℕ) (tuple : Cell ℕ) (d : Deletion) (h : 
       pub staying_rest : is_node (eq_by_cmp nat_cmp) (rows_after d) c ≡ true → (rest : Rest) × (staying plan q ≡ Some rest) × IsRest d.measures (rows_after d) c (Some rest)
       staying_rest k = go (after_in plan q) refl
         where
-          some : option_map (keep (depth c)) (closure (eq_by_cmp nat_cmp) (rows_after d) c) ≡ Some c
+          some : option_map (cell_front (depth c)) (closure (eq_by_cmp nat_cmp) (rows_after d) c) ≡ Some c
           some = (is_node-is law (rows_after d) c).0 k
 
           go : (o : Option Rest) → after_in plan q ≡ o → (rest : Rest) × (staying plan q ≡ Some rest) × IsRest d.measures (rows_after d) c (Some rest)
           go None e =
               let gone : None ≡ closure (eq_by_cmp nat_cmp) (rows_after d) c = ap shared_of (sym e) ∙ (fate q c at low).after.cells in
-              let bad : None ≡ Some c = ap (option_map (keep (depth c))) gone ∙ some in cc
+              let bad : None ≡ Some c = ap (option_map (cell_front (depth c))) gone ∙ some in cc
           go (Some rest) e = (rest, stays_if k ∙ e, subst (IsRest d.measures (rows_after d) c) e (fate q c at low).after)
 
       -- and what stays is a node afterwards
@@ -175,25 +171,25 @@ module _ (width : ℕ) (tree : Tree ℕ) (tuple : Cell ℕ) (d : Deletion) (h : 
           go false k = let bad : Some rest ≡ None = sym e ∙ goes_if k in cc
 
       -- its heir, where there are rows left, is the front of what they share
-      pub heir_cell : (t : ℕ) → heir_in plan q ≡ Some t → (w : Cell ℕ) × (closure (eq_by_cmp nat_cmp) (rows_after d) c ≡ Some w) × (cell_at tree t ≡ Some (keep (depth c) w))
+      pub heir_cell : (t : ℕ) → heir_in plan q ≡ Some t → (w : Cell ℕ) × (closure (eq_by_cmp nat_cmp) (rows_after d) c ≡ Some w) × (cell_at tree t ≡ Some (cell_front (depth c) w))
       heir_cell t e = go (closure (eq_by_cmp nat_cmp) (rows_after d) c) refl
         where
-          names : Some (cell_at tree t) ≡ option_map (λ x. Some x) (option_map (keep (depth c)) (closure (eq_by_cmp nat_cmp) (rows_after d) c))
+          names : Some (cell_at tree t) ≡ option_map (λ x. Some x) (option_map (cell_front (depth c)) (closure (eq_by_cmp nat_cmp) (rows_after d) c))
           names = ap (option_map (cell_at tree)) (sym e) ∙ (fate q c at low).heir
 
-          go : (o : Option (Cell ℕ)) → closure (eq_by_cmp nat_cmp) (rows_after d) c ≡ o → (w : Cell ℕ) × (closure (eq_by_cmp nat_cmp) (rows_after d) c ≡ Some w) × (cell_at tree t ≡ Some (keep (depth c) w))
-          go None k = let bad : Some (cell_at tree t) ≡ None = names ∙ ap (λ o. option_map (λ x. Some x) (option_map (keep (depth c)) o)) k in cc
-          go (Some w) k = (w, k, some_same (names ∙ ap (λ o. option_map (λ x. Some x) (option_map (keep (depth c)) o)) k))
+          go : (o : Option (Cell ℕ)) → closure (eq_by_cmp nat_cmp) (rows_after d) c ≡ o → (w : Cell ℕ) × (closure (eq_by_cmp nat_cmp) (rows_after d) c ≡ Some w) × (cell_at tree t ≡ Some (cell_front (depth c) w))
+          go None k = let bad : Some (cell_at tree t) ≡ None = names ∙ ap (λ o. option_map (λ x. Some x) (option_map (cell_front (depth c)) o)) k in cc
+          go (Some w) k = (w, k, some_same (names ∙ ap (λ o. option_map (λ x. Some x) (option_map (cell_front (depth c)) o)) k))
 
       pub heir_some : (w : Cell ℕ) → closure (eq_by_cmp nat_cmp) (rows_after d) c ≡ Some w → (t : ℕ) × (heir_in plan q ≡ Some t)
       heir_some w k = go (heir_in plan q) refl
         where
           go : (o : Option ℕ) → heir_in plan q ≡ o → (t : ℕ) × (heir_in plan q ≡ Some t)
-          go None e = let bad : None ≡ Some (Some (keep (depth c) w)) = ap (option_map (cell_at tree)) (sym e) ∙ (fate q c at low).heir ∙ ap (λ o. option_map (λ x. Some x) (option_map (keep (depth c)) o)) k in cc
+          go None e = let bad : None ≡ Some (Some (cell_front (depth c) w)) = ap (option_map (cell_at tree)) (sym e) ∙ (fate q c at low).heir ∙ ap (λ o. option_map (λ x. Some x) (option_map (cell_front (depth c)) o)) k in cc
           go (Some t) e = (t, e)
 
     -- the front of what rows share is a node of these
-    pub front_node : (c w : Cell ℕ) (i : ℕ) → closure (eq_by_cmp nat_cmp) (rows_after d) c ≡ Some w → is_node (eq_by_cmp nat_cmp) (rows_after d) (keep i w) ≡ true
+    pub front_node : (c w : Cell ℕ) (i : ℕ) → closure (eq_by_cmp nat_cmp) (rows_after d) c ≡ Some w → is_node (eq_by_cmp nat_cmp) (rows_after d) (cell_front i w) ≡ true
     front_node c w i e = class_fronts law (rows_after d) i w ((is_class-is law (rows_after d) w).1 (closure_idem law (rows_after d) c w e))
 
     -- a record of a node that isn't below the tuple stays, where only those of the list change
@@ -211,11 +207,6 @@ module _ (width : ℕ) (tree : Tree ℕ) (tuple : Cell ℕ) (d : Deletion) (h : 
         let r = staying_rest t c at (subst (λ y. leq nat_eq y tuple ≡ true) cell (below.below k b e)) node in
         ap is_some r.1
 
-    among_at : {X : Type 0} (xs : List X) (j : ℕ) (x : X) → slice_get xs j ≡ Some x → Among x xs
-    among_at [] j x e = cc
-    among_at (y ∷ xs) zero x e = inl (sym (some_same e))
-    among_at (y ∷ xs) (suc j) x e = inr (among_at xs j x e)
-
     -- where an edge of a node that stays leads afterwards
     target_stays : (k j t : ℕ) (b : Below) (next : Option (ℕ × ℕ)) (x : Edge ℕ ℕ) → slice_get list k ≡ Some b → slice_get (record_at tree b.node.0).edges j ≡ Some x
         → led_to tuple (heir_in plan) next x ≡ Some t → IsSome (fin.get tree t) × Stays list plan t
@@ -226,15 +217,15 @@ module _ (width : ℕ) (tree : Tree ℕ) (tuple : Cell ℕ) (d : Deletion) (h : 
         low = below.below k b e
 
         m : Among x (record_at tree b.node.0).edges
-        m = among_at (record_at tree b.node.0).edges j x at
+        m = get_among (record_at tree b.node.0).edges j x at
 
-        to : (c : Cell ℕ) × (cell_at tree x.target ≡ Some c) × (depth b.cell ≤ x.dim) × (x.dim < length b.cell) × (lead (eq_by_cmp nat_cmp) (rows_before d) b.cell x.dim x.value ≡ Some c)
+        to : (c : Cell ℕ) × (cell_at tree x.target ≡ Some c) × (depth b.cell ≤ x.dim) × (x.dim < length b.cell) × (target_of_label (eq_by_cmp nat_cmp) (rows_before d) b.cell x.dim x.value ≡ Some c)
         to = edge_leads b.node.0 b.cell (below.cells k b e) low x m
 
         by_own : (s : Bool) → is_value (get_or tuple x.dim None) x.value ≡ s → (if s then heir_in plan x.target else Some x.target) ≡ Some t → IsSome (fin.get tree t) × Stays list plan t
         by_own true own l =
             let w = heir_cell x.target to.0 to.1 (own_low b.node.0 b.cell (below.cells k b e) low x m own) t l in
-            (there tree t (keep (depth to.0) w.0) w.2, stays_node t (keep (depth to.0) w.0) w.2 (front_node to.0 w.0 (depth to.0) w.1))
+            (there tree t (cell_front (depth to.0) w.0) w.2, stays_node t (cell_front (depth to.0) w.0) w.2 (front_node to.0 w.0 (depth to.0) w.1))
         by_own false own l =
             let same : x.target ≡ t = some_same l in (
               subst (λ n. IsSome (fin.get tree n)) same (there tree x.target to.0 to.1),
@@ -259,8 +250,8 @@ module _ (width : ℕ) (tree : Tree ℕ) (tuple : Cell ℕ) (d : Deletion) (h : 
           let r = staying_rest b.node.0 b.cell (below.cells k b e) (below.below k b e) node in
           wide_after b.cell rest.shared (sym (subst (λ y. IsRest d.measures (rows_after d) b.cell (Some y)) (some_same (sym r.1 ∙ s)) r.2).cells);
       dims = λ k j b x e at.
-          let to = edge_leads b.node.0 b.cell (below.cells k b e) (below.below k b e) x (among_at (record_at tree b.node.0).edges j x at) in
+          let to = edge_leads b.node.0 b.cell (below.cells k b e) (below.below k b e) x (get_among (record_at tree b.node.0).edges j x at) in
           omega (arith, to.3, cell_wide width tree (source_before d) h b.node.0 b.cell (below.cells k b e));
-      behind = λ k j b x e at. (edge_leads b.node.0 b.cell (below.cells k b e) (below.below k b e) x (among_at (record_at tree b.node.0).edges j x at)).2;
+      behind = λ k j b x e at. (edge_leads b.node.0 b.cell (below.cells k b e) (below.below k b e) x (get_among (record_at tree b.node.0).edges j x at)).2;
       targets = λ k j t b rest x e s at led. target_stays k j t b (next_entry (depth b.cell) rest.shared) x e at led;
     }

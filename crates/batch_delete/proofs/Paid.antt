@@ -1,19 +1,19 @@
 -- What the labels of a class's front cost: the one with the row's own value is not looked up.
 use Rattle.std.proofs.Common.{◌≡◌, ℕ, zero, suc, ◌+◌, ◌*◌, ◌≤◌, true, Some, None, arith, inl, length, nat_cmp, refl, slice_get, subst}
 use Rattle.std.specs.Ordering.{eq_by_cmp}
-use Rattle.cube_defs.specs.Cell.{Cell, keep}
+use Rattle.cube_defs.specs.Cell.{Cell, cell_front}
 use Rattle.cube_defs.specs.Rows.{closure, covers}
 use Rattle.cube_defs.specs.Tree.{Tree, cell_at}
 use Rattle.cube_laws.proofs.Lists.{among_insert}
+use Rattle.cube_laws.proofs.Numbers.{times_mono}
 use Rattle.qc_arena.specs.Seen.{record_at}
-use Rattle.tree_search.specs.Found.{IsFrom}
+use Rattle.tree_search.specs.Found.{IsTreeOf}
 use Rattle.batch_delete.specs.Rests.{Deletion, other_values, rows_before, source_before}
 use Rattle.batch_delete.proofs.HaveAll.{label_there}
 use Rattle.batch_delete.proofs.Others.{others_fewer, times_more}
-use Rattle.batch_delete.proofs.Planning.{times_mono}
 
-pub own_label : (dims : ℕ) (tree : Tree ℕ) (d : Deletion) (h : IsFrom dims tree (source_before d)) (u : Cell ℕ) (i v : ℕ) → slice_get u i ≡ Some None → length u ≡ dims → closure (eq_by_cmp nat_cmp) (rows_before d) u ≡ Some u
-    → (k : ℕ) → cell_at tree k ≡ Some (keep i u) → covers (eq_by_cmp nat_cmp) u d.r ≡ true → slice_get d.r.tuple i ≡ Some v → suc (length (other_values i v (record_at tree k).edges)) ≤ length (record_at tree k).edges
+pub own_label : (dims : ℕ) (tree : Tree ℕ) (d : Deletion) (h : IsTreeOf dims tree (source_before d)) (u : Cell ℕ) (i v : ℕ) → slice_get u i ≡ Some None → length u ≡ dims → closure (eq_by_cmp nat_cmp) (rows_before d) u ≡ Some u
+    → (k : ℕ) → cell_at tree k ≡ Some (cell_front i u) → covers (eq_by_cmp nat_cmp) u d.r ≡ true → slice_get d.r.tuple i ≡ Some v → suc (length (other_values i v (record_at tree k).edges)) ≤ length (record_at tree k).edges
 own_label dims tree d h u i v any long own k at below has =
     let l = label_there dims tree d h u i v any long own k at v d.r ((among_insert d.r d.xs d.r d.ys).1 (inl refl)) below has in
     others_fewer i v (record_at tree k).edges (record { dim = i; value = v; target = l.0 }) refl l.1

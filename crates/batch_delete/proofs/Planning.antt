@@ -7,28 +7,28 @@ use Rattle.std.specs.Ordering.{eq_by_cmp}
 use Rattle.std.specs.Prelude.{if◌then◌else◌}
 use Rattle.aggregates.specs.declared.agg.Agg.{Agg}
 use Rattle.aggregates.specs.Views.{agg_in}
-use Rattle.cube_defs.specs.Cell.{Cell, cell_eq, cell_of, entry_leq, keep, leq}
+use Rattle.cube_defs.specs.Cell.{Cell, cell_eq, cell_of, entry_leq, cell_front, leq}
 use Rattle.cube_defs.specs.Rows.{Row, agg, closure, covers}
 use Rattle.cube_defs.specs.Tree.{Tree, cell_at}
 use Rattle.cube_laws.specs.Parts.{IsLastAny}
 use Rattle.cube_laws.specs.Total.{agg_at}
-use Rattle.cube_laws.proofs.Cells.{cell_eq-same, depth-le, keep-leq, length-cell_of, length-keep, leq_trans, nat_equality}
+use Rattle.cube_laws.proofs.Cells.{cell_eq-same, depth-le, cell_front-leq, length-cell_of, length-cell_front, leq_trans, nat_equality}
 use Rattle.cube_laws.proofs.Closures.{is_class-is, leq-closure}
 use Rattle.cube_laws.proofs.Columns.{entry_of_leq}
 use Rattle.cube_laws.proofs.Covered.{closure_length}
 use Rattle.cube_laws.proofs.LastAny.{tuple_or_last_any}
 use Rattle.cube_laws.proofs.Lists.{all-insert}
 use Rattle.cube_laws.proofs.Nodes.{class_fronts}
+use Rattle.cube_laws.proofs.Orders.{one_test}
 use Rattle.qc_arena.specs.Seen.{record_at}
 use Rattle.tree_laws.proofs.Lists.{some_same}
-use Rattle.tree_search.specs.Found.{IsFrom, closure_in}
+use Rattle.tree_search.specs.Found.{IsTreeOf, closure_in}
 use Rattle.batch_delete.specs.declared.below.Below.{Below}
 use Rattle.batch_delete.specs.Below.{AreBelow}
 use Rattle.batch_delete.specs.Plan.{front_labels, labels_of, last_any_of, last_behind}
 use Rattle.batch_delete.specs.Rests.{Deletion, IsRest, rows_after, rows_before, source_before}
 use Rattle.batch_delete.proofs.Labelled.{law}
 use Rattle.batch_delete.proofs.Resting.{total_agg}
-use Rattle.batch_delete.proofs.Totalled.{same_test}
 
 none_last : (u : Cell ℕ) → ((k : ℕ) → slice_get u k ≡ Some None → ⊥) → last_any_of u ≡ None
 none_last [] h = refl
@@ -66,10 +66,6 @@ labels_counted tree (x ∷ list) c (suc k) b at same =
     let all = sum_by-cons (λ (b : Below). if cell_eq nat_eq b.cell c then length (record_at tree b.node.0).edges else 0) x list in
     omega arith
 
-pub times_mono : (d a b : ℕ) → a ≤ b → d * a ≤ d * b
-times_mono zero a b h = omega arith
-times_mono (suc d) a b h = let m = times_mono d a b h in omega arith
-
 -- a cell above a tuple is its cell
 pub full_top : (t : List ℕ) (c : Cell ℕ) → leq (eq_by_cmp nat_cmp) (cell_of t) c ≡ true → length c ≡ length t → c ≡ cell_of t
 full_top [] [] h l = refl
@@ -94,20 +90,20 @@ module _ (measures : ℕ) (rows : List (Row ℕ)) (c : Cell ℕ) where
       go None q = let bad : None ≡ Some a = ap (option_map (λ _. agg (eq_by_cmp nat_cmp) measures rows c)) (sym q) ∙ total_agg measures rows c ∙ e in cc
       go (Some u) q = (u, q)
 
-module _ (dims : ℕ) (tree : Tree ℕ) (d : Deletion) (h : IsFrom dims tree (source_before d)) (tuple : Cell ℕ) (wide : length tuple ≡ dims) (row : tuple ≡ cell_of d.r.tuple) (u : Cell ℕ) (long : length u ≡ dims)
+module _ (dims : ℕ) (tree : Tree ℕ) (d : Deletion) (h : IsTreeOf dims tree (source_before d)) (tuple : Cell ℕ) (wide : length tuple ≡ dims) (row : tuple ≡ cell_of d.r.tuple) (u : Cell ℕ) (long : length u ≡ dims)
     (below : covers (eq_by_cmp nat_cmp) u d.r ≡ true) where
   pub low : leq nat_eq u tuple ≡ true
-  low = subst (λ eq. leq eq u tuple ≡ true) same_test (subst (λ t. leq (eq_by_cmp nat_cmp) u t ≡ true) (sym row) below)
+  low = subst (λ eq. leq eq u tuple ≡ true) one_test (subst (λ t. leq (eq_by_cmp nat_cmp) u t ≡ true) (sym row) below)
 
-  pub front_there : closure_in (source_before d) u ≡ Some u → (i : ℕ) → (q : ℕ) × (cell_at tree q ≡ Some (keep i u))
-  front_there own i = h.canonical.all (keep i u) (class_fronts law (rows_before d) i u ((is_class-is law (rows_before d) u).1 own))
+  pub front_there : closure_in (source_before d) u ≡ Some u → (i : ℕ) → (q : ℕ) × (cell_at tree q ≡ Some (cell_front i u))
+  front_there own i = h.canonical.all (cell_front i u) (class_fronts law (rows_before d) i u ((is_class-is law (rows_before d) u).1 own))
 
   -- the labels of a class's front are counted
-  pub front_counted : (list : List Below) → AreBelow tree tuple (length tuple) list → (i : ℕ) → IsLastAny u i → (q : ℕ) → cell_at tree q ≡ Some (keep i u) → length (record_at tree q).edges ≤ front_labels tree list u (last_any_of u)
+  pub front_counted : (list : List Below) → AreBelow tree tuple (length tuple) list → (i : ℕ) → IsLastAny u i → (q : ℕ) → cell_at tree q ≡ Some (cell_front i u) → length (record_at tree q).edges ≤ front_labels tree list u (last_any_of u)
   front_counted list are i last q at =
-      let f = are.all q (keep i u) at (leq_trans nat_equality (keep i u) u tuple (keep-leq nat_equality i u) low) (omega (arith, depth-le (keep i u), length-keep i u, long, wide)) in
-      let counted = labels_counted tree list (keep i u) f.0 f.1 f.2 (some_same (sym (are.cells f.0 f.1 f.2) ∙ ap (cell_at tree) f.3 ∙ at)) in
-      let is : front_labels tree list u (last_any_of u) ≡ labels_of tree list (keep i u) = ap (front_labels tree list u) (is_last u i last) in
+      let f = are.all q (cell_front i u) at (leq_trans nat_equality (cell_front i u) u tuple (cell_front-leq nat_equality i u) low) (omega (arith, depth-le (cell_front i u), length-cell_front i u, long, wide)) in
+      let counted = labels_counted tree list (cell_front i u) f.0 f.1 f.2 (some_same (sym (are.cells f.0 f.1 f.2) ∙ ap (cell_at tree) f.3 ∙ at)) in
+      let is : front_labels tree list u (last_any_of u) ≡ labels_of tree list (cell_front i u) = ap (front_labels tree list u) (is_last u i last) in
       let here = ap (λ q. length (record_at tree q).edges) f.3 in
       omega arith
 

@@ -16,6 +16,7 @@ use Rattle.cube_laws.proofs.Cells.{cell_eq-exact, cell_eq-from, leq_antisymm, le
 use Rattle.cube_laws.proofs.Closures.{leq-closure}
 use Rattle.cube_laws.proofs.Lists.{all-insert, among_append}
 use Rattle.cube_laws.proofs.OneRow.{node-insert, node_stays}
+use Rattle.cube_laws.proofs.Orders.{leq_is}
 use Rattle.qc_arena.specs.Map.{Known}
 use Rattle.qc_arena.specs.Seen.{record_at, record_or}
 use Rattle.tree_laws.specs.Labels.{IsLabel, record_of}
@@ -24,7 +25,7 @@ use Rattle.tree_laws.proofs.Apart.{record_stays}
 use Rattle.tree_laws.proofs.Children.{node_fronts}
 use Rattle.tree_laws.proofs.Lists.{some_same}
 use Rattle.tree_laws.proofs.Records.{record_closure, record_with, target_node}
-use Rattle.tree_search.specs.Found.{IsFrom}
+use Rattle.tree_search.specs.Found.{IsTreeOf}
 use Rattle.batch_delete.specs.declared.below.Below.{Below}
 use Rattle.batch_delete.specs.declared.parts.Rest.{Rest}
 use Rattle.batch_delete.specs.declared.plan.Fate.{Fate}
@@ -32,10 +33,10 @@ use Rattle.batch_delete.specs.Below.{AreBelow}
 use Rattle.batch_delete.specs.Gone.{source_after}
 use Rattle.batch_delete.specs.Plan.{class_by, forced_by, heir_in, mended, next_entry, outcome, staying}
 use Rattle.batch_delete.specs.Rests.{ArePlanned, Deletion, IsRest, rows_after, rows_before, source_before}
-use Rattle.batch_delete.proofs.Entries.{entry_none, entry_some}
+use Rattle.batch_delete.proofs.Entries.{entry_some}
 use Rattle.batch_delete.proofs.Labelled.{among_found, found_among, law, made}
 use Rattle.batch_delete.proofs.LedOn.{edge_sound, edge_whole, edges_now, labels_are, left_edges}
-use Rattle.batch_delete.proofs.Outcomes.{apart, covered, covered_low, goes_if, leq_is, place, staying_rest}
+use Rattle.batch_delete.proofs.Outcomes.{apart, covered, covered_low, goes_if, place, staying_rest}
 use Rattle.batch_delete.proofs.Resting.{total_agg}
 
 -- the names of a record that leads to what keeps its name
@@ -84,7 +85,7 @@ parent_node rows p c node e = cond_both (depth p == 0) _ _ (λ o. o ≡ Some c �
     (λ _ k. subst (λ x. is_node (eq_by_cmp nat_cmp) rows x ≡ true) (some_same k) (node_fronts law rows p (depth p - 1) node))
     e
 
-module _ (width : ℕ) (old new : Tree ℕ) (tuple : Cell ℕ) (d : Deletion) (h : IsFrom width old (source_before d)) (long : length tuple ≡ width) (is : tuple ≡ cell_of d.r.tuple)
+module _ (width : ℕ) (old new : Tree ℕ) (tuple : Cell ℕ) (d : Deletion) (h : IsTreeOf width old (source_before d)) (long : length tuple ≡ width) (is : tuple ≡ cell_of d.r.tuple)
     (plan : List (ℕ × Fate)) (list : List Below) (below : AreBelow old tuple (length tuple) list) (planned : ArePlanned d old plan list 0)
     (here : (k : ℕ) (b : Below) → slice_get list k ≡ Some b → fin.get new b.node.0 ≡ option_and_then (outcome tuple plan b) (fin.get old b.node.0))
     (others : (q : ℕ) → ((k : ℕ) (b : Below) → slice_get list k ≡ Some b → b.node.0 ≢ q) → fin.get new q ≡ fin.get old q) where
@@ -278,15 +279,15 @@ module _ (width : ℕ) (old new : Tree ℕ) (tuple : Cell ℕ) (d : Deletion) (h
       go : (n : Known) × (fin.get old q ≡ Some n) → Some (renamed (cell_at new) m) ≡ option_map (renamed (λ c. Some c)) (node_of nat_cmp d.measures (rows_after d) m.cell)
       go (n, before) = by (now_at q n before)
         where
-          moved : (x : Known) → x ≡ m → Some (renamed (cell_at new) x) ≡ option_map (renamed (λ c. Some c)) (node_of nat_cmp d.measures (rows_after d) x.cell) → Some (renamed (cell_at new) m) ≡ option_map (renamed (λ c. Some c)) (node_of nat_cmp d.measures (rows_after d) m.cell)
-          moved x same y = subst (λ z. Some (renamed (cell_at new) z) ≡ option_map (renamed (λ c. Some c)) (node_of nat_cmp d.measures (rows_after d) z.cell)) same y
+          target_after_row : (x : Known) → x ≡ m → Some (renamed (cell_at new) x) ≡ option_map (renamed (λ c. Some c)) (node_of nat_cmp d.measures (rows_after d) x.cell) → Some (renamed (cell_at new) m) ≡ option_map (renamed (λ c. Some c)) (node_of nat_cmp d.measures (rows_after d) m.cell)
+          target_after_row x same y = subst (λ z. Some (renamed (cell_at new) z) ≡ option_map (renamed (λ c. Some c)) (node_of nat_cmp d.measures (rows_after d) z.cell)) same y
 
           by : Now q n → Some (renamed (cell_at new) m) ≡ option_map (renamed (λ c. Some c)) (node_of nat_cmp d.measures (rows_after d) m.cell)
-          by (Apart k f) = moved n (some_same (sym f ∙ e)) (apart_right q n before k)
+          by (Apart k f) = target_after_row n (some_same (sym f ∙ e)) (apart_right q n before k)
           by (Gone k f) = let bad : None ≡ Some m = sym f ∙ e in cc
-          by (Mended k l rest r f) = moved (mended tuple (heir_in plan) n.cell rest n) (some_same (sym f ∙ e)) (mended_right q n before k l rest r)
+          by (Mended k l rest r f) = target_after_row (mended tuple (heir_in plan) n.cell rest n) (some_same (sym f ∙ e)) (mended_right q n before k l rest r)
 
-  pub renewed : IsFrom width new (source_after d)
+  pub renewed : IsTreeOf width new (source_after d)
   renewed = record {
     wide = (all-insert (λ row. length row.tuple ≡ width) d.xs d.r d.ys h.wide).0;
     canonical = record {

@@ -16,7 +16,7 @@ use Rattle.cube_laws.proofs.OneRow.{closure_grows, closure_stays}
 use Rattle.cube_laws.proofs.Partition.{has_same, leq_with_any}
 use Rattle.cube_laws.proofs.Witness.{own_is_gone}
 use Rattle.tree_laws.proofs.Lists.{some_same}
-use Rattle.tree_search.specs.Found.{IsFrom}
+use Rattle.tree_search.specs.Found.{IsTreeOf}
 use Rattle.batch_delete.specs.declared.parts.Rest.{Rest}
 use Rattle.batch_delete.specs.Rests.{Deletion, IsAbove, IsTotal, rows_after, rows_before, source_before}
 use Rattle.batch_delete.proofs.Labelled.{law}
@@ -60,7 +60,7 @@ module _ (d : Deletion) (u : Cell ℕ) (i v : ℕ) (any : slice_get u i ≡ Some
   rest_above vs rest is = total_above vs rest.shared (sym is.cells)
 
 -- a class stays where it gets no value
-pub class_stays : (dims : ℕ) (tree : Tree ℕ) (d : Deletion) (h : IsFrom dims tree (source_before d)) (u s : Cell ℕ) → length u ≡ dims → covers (eq_by_cmp nat_cmp) u d.r ≡ true → closure (eq_by_cmp nat_cmp) (rows_before d) u ≡ Some u
+pub class_stays : (dims : ℕ) (tree : Tree ℕ) (d : Deletion) (h : IsTreeOf dims tree (source_before d)) (u s : Cell ℕ) → length u ≡ dims → covers (eq_by_cmp nat_cmp) u d.r ≡ true → closure (eq_by_cmp nat_cmp) (rows_before d) u ≡ Some u
     → IsAbove d u s → ((k v : ℕ) → slice_get u k ≡ Some None → slice_get s k ≡ Some (Some v) → slice_get d.r.tuple k ≡ Some v) → closure (eq_by_cmp nat_cmp) (rows_after d) u ≡ Some u
 class_stays dims tree d h u s long below own above settled =
     let w = above.0 in

@@ -1,5 +1,5 @@
 -- The steps of a deletion, by the nodes and edges below the tuple.
-use Rattle.std.proofs.Common.{◌≡◌, ◌≢◌, ◌∙◌, inl, inr, ℕ, zero, suc, ◌+◌, ◌*◌, ◌^◌, ◌<◌, ◌≤◌, Bool, true, false, cond, ◌&&◌, Option, Some, None, List, [], ◌∷◌, ◌++◌, filter_map, length, map, sum, slice_get, nat_eq, nat_lt, nat_cmp, refl, sym, ap, ap₂, subst, arith, eqb-true, true≢false, ltb-true, ltb-false}
+use Rattle.std.proofs.Common.{◌≡◌, ◌≢◌, ◌∙◌, inl, inr, ℕ, zero, suc, ◌+◌, ◌*◌, ◌^◌, ◌<◌, ◌≤◌, Bool, true, false, ◌&&◌, Option, Some, None, List, [], ◌∷◌, ◌++◌, filter_map, length, map, sum, slice_get, nat_eq, nat_lt, nat_cmp, refl, sym, ap, ap₂, subst, arith, eqb-true, true≢false, ltb-true, ltb-false}
 use Rattle.std.proofs.lemmas.Bool.{and_parts, cond-true, cond-false}
 use Rattle.std.proofs.lemmas.List.Sums.{sum_by-cons}
 use Rattle.std.proofs.Math.Nat.{mul-add, mul-suc, pow-suc, pow-zero}
@@ -9,20 +9,21 @@ use Rattle.std.specs.List.{cons_option, sum_by}
 use Rattle.std.specs.Option.{option_map}
 use Rattle.std.specs.Ordering.{eq_by_cmp}
 use Rattle.std.specs.Prelude.{if◌then◌else◌}
-use Rattle.cube_defs.specs.Cell.{Cell, cell_eq, cell_of, entry_leq, keep, leq}
+use Rattle.cube_defs.specs.Cell.{Cell, cell_eq, cell_of, entry_leq, cell_front, leq}
 use Rattle.cube_defs.specs.Rows.{closure}
-use Rattle.cube_defs.specs.Tree.{Edge, Node, Tree, above, cell_at, node_of, nodes, nodes_below, size_below, tree}
+use Rattle.cube_defs.specs.Tree.{Node, Tree, above, cell_at, node_of, nodes, nodes_below, size_below, tree}
 use Rattle.cube_laws.specs.Lists.{Among}
 use Rattle.cube_laws.proofs.Cells.{cell_eq-exact, leq_refl, nat_equality}
-use Rattle.cube_laws.proofs.Lists.{among_filter, among_filter_map, among_map}
+use Rattle.cube_laws.proofs.Lists.{among_filter, among_filter_map, among_map, among_get}
 use Rattle.cube_laws.proofs.Nodes.{nodes-is}
+use Rattle.cube_laws.proofs.Numbers.{times_mono}
 use Rattle.qc_arena.specs.Seen.{record_at}
 use Rattle.tree_laws.specs.Labels.{record_of}
 use Rattle.tree_laws.proofs.Lists.{some_same}
 use Rattle.tree_laws.proofs.Records.{record_with}
 use Rattle.std.proofs.lemmas.List.{length-map}
 use Rattle.tree_laws.proofs.Sums.{EachOnce, once_map, sum_alike, sum_by-map, sum_within}
-use Rattle.tree_search.specs.Found.{IsFrom}
+use Rattle.tree_search.specs.Found.{IsTreeOf}
 use Rattle.batch_delete.specs.declared.below.Below.{Below}
 use Rattle.batch_delete.specs.Below.{AreBelow}
 use Rattle.batch_delete.specs.Plan.{front_labels, labels_of, last_any_of, last_behind, planning, settling}
@@ -128,7 +129,7 @@ full (e ∷ x) (f ∷ z) (g ∷ t) l a b p q =
     value (Some a) (Some b) None v w h k m n = absurd (true≢false (sym m))
     value (Some a) (Some b) (Some c) v w h k m n = sym (some_same h) ∙ eqb-true a c m ∙ sym (eqb-true b c n) ∙ some_same k
 
-told : (x z t : Cell ℕ) (i : ℕ) → length x ≡ length z → leq nat_eq x t ≡ true → leq nat_eq z t ≡ true → last_any_of x ≡ Some i → last_any_of z ≡ Some i → keep i x ≡ keep i z → x ≡ z
+told : (x z t : Cell ℕ) (i : ℕ) → length x ≡ length z → leq nat_eq x t ≡ true → leq nat_eq z t ≡ true → last_any_of x ≡ Some i → last_any_of z ≡ Some i → cell_front i x ≡ cell_front i z → x ≡ z
 told [] z t i l a b p q s = cc
 told (e ∷ x) [] t i l a b p q s = absurd (omega arith)
 told (e ∷ x) (f ∷ z) [] i l a b p q s = absurd (true≢false (sym a))
@@ -162,16 +163,11 @@ last_within (e ∷ c) i h = by (last_within c) e (last_any_of c) refl h
     by more None None k h = let same : 0 ≡ i = some_same h in omega arith
     by more (Some v) None k h = cc
 
-module _ (width : ℕ) (old : Tree ℕ) (tuple : Cell ℕ) (d : Deletion) (h : IsFrom width old (source_before d)) (long : length tuple ≡ width) (is : tuple ≡ cell_of d.r.tuple) (list : List Below) (below : AreBelow old tuple (length tuple) list) where
-  among_place : {X : Type 0} (x : X) (xs : List X) → Among x xs → (k : ℕ) × (slice_get xs k ≡ Some x)
-  among_place x [] m = absurd m
-  among_place x (y ∷ xs) (inl e) = (0, ap (λ z. Some z) (sym e))
-  among_place x (y ∷ xs) (inr m) = let k = among_place x xs m in (suc k.0, k.1)
-
+module _ (width : ℕ) (old : Tree ℕ) (tuple : Cell ℕ) (d : Deletion) (h : IsTreeOf width old (source_before d)) (long : length tuple ≡ width) (is : tuple ≡ cell_of d.r.tuple) (list : List Below) (below : AreBelow old tuple (length tuple) list) where
   once_by : (xs : List Below) → ((j k : ℕ) (b c : Below) → j < k → slice_get xs j ≡ Some b → slice_get xs k ≡ Some c → leq nat_eq c.cell b.cell ≡ false) → EachOnce xs
   once_by [] order = tt
   once_by (x ∷ xs) order = (
-    λ m. let k = among_place x xs m in true≢false (sym (leq_refl nat_equality x.cell) ∙ order 0 (suc k.0) x x (omega arith) refl k.1),
+    λ m. let k = among_get x xs m in true≢false (sym (leq_refl nat_equality x.cell) ∙ order 0 (suc k.0) x x (omega arith) refl k.1),
     once_by xs (λ j k b c l e f. order (suc j) (suc k) b c (omega arith) e f),
   )
 
@@ -179,7 +175,7 @@ module _ (width : ℕ) (old : Tree ℕ) (tuple : Cell ℕ) (d : Deletion) (h : I
   once = once_by list below.order
 
   at_place : (b : Below) → Among b list → (cell_at old b.node.0 ≡ Some b.cell) × (leq nat_eq b.cell tuple ≡ true)
-  at_place b m = let k = among_place b list m in (below.cells k.0 b k.1, below.below k.0 b k.1)
+  at_place b m = let k = among_get b list m in (below.cells k.0 b k.1, below.below k.0 b k.1)
 
   same_place : (x z : Below) → Among x list → Among z list → x.cell ≡ z.cell → x ≡ z
   same_place x z m n e =
@@ -189,14 +185,14 @@ module _ (width : ℕ) (old : Tree ℕ) (tuple : Cell ℕ) (d : Deletion) (h : I
   -- the fronts of the cells with their last Any in a dimension
   abbrev front_if : ℕ → Cell ℕ → Option ℕ → Option (Cell ℕ)
   front_if n c None = None
-  front_if n c (Some i) = if nat_eq i n then Some (keep i c) else None
+  front_if n c (Some i) = if nat_eq i n then Some (cell_front i c) else None
 
-  front_is : (n : ℕ) (c y : Cell ℕ) (o : Option ℕ) → front_if n c o ≡ Some y → (o ≡ Some n) × (keep n c ≡ y)
+  front_is : (n : ℕ) (c y : Cell ℕ) (o : Option ℕ) → front_if n c o ≡ Some y → (o ≡ Some n) × (cell_front n c ≡ y)
   front_is n c y None e = cc
   front_is n c y (Some i) e = go (nat_eq i n) refl e
     where
-      go : (b : Bool) → nat_eq i n ≡ b → (if b then Some (keep i c) else None) ≡ Some y → (Some i ≡ Some n) × (keep n c ≡ y)
-      go true k e = let same = eqb-true i n k in (ap (λ j. Some j) same, ap (λ j. keep j c) (sym same) ∙ some_same e)
+      go : (b : Bool) → nat_eq i n ≡ b → (if b then Some (cell_front i c) else None) ≡ Some y → (Some i ≡ Some n) × (cell_front n c ≡ y)
+      go true k e = let same = eqb-true i n k in (ap (λ j. Some j) same, ap (λ j. cell_front j c) (sym same) ∙ some_same e)
       go false k e = cc
 
   fronts_at : ℕ → List (Cell ℕ)
@@ -213,19 +209,19 @@ module _ (width : ℕ) (old : Tree ℕ) (tuple : Cell ℕ) (d : Deletion) (h : I
 
   abbrev here : ℕ → Cell ℕ → Option ℕ → ℕ
   here n c None = 0
-  here n c (Some i) = if nat_eq i n then labels_of old list (keep i c) else 0
+  here n c (Some i) = if nat_eq i n then labels_of old list (cell_front i c) else 0
 
   abbrev before : ℕ → Cell ℕ → Option ℕ → ℕ
   before n c None = 0
-  before n c (Some i) = if nat_lt i n then labels_of old list (keep i c) else 0
+  before n c (Some i) = if nat_lt i n then labels_of old list (cell_front i c) else 0
 
   here_sum : (n : ℕ) (bs : List Below) → sum_by (λ (b : Below). here n b.cell (last_any_of b.cell)) bs ≡ sum_by (labels_of old list) (filter_map (λ (b : Below). front_if n b.cell (last_any_of b.cell)) bs)
   here_sum n [] = refl
   here_sum n (b ∷ bs) = by (last_any_of b.cell) refl (here_sum n bs)
     where
       tested : (i : ℕ) (s : Bool) → sum_by (λ (b : Below). here n b.cell (last_any_of b.cell)) bs ≡ sum_by (labels_of old list) (filter_map (λ (b : Below). front_if n b.cell (last_any_of b.cell)) bs)
-          → (if s then labels_of old list (keep i b.cell) else 0) + sum_by (λ (b : Below). here n b.cell (last_any_of b.cell)) bs ≡ sum_by (labels_of old list) (cons_option (if s then Some (keep i b.cell) else None) (filter_map (λ (b : Below). front_if n b.cell (last_any_of b.cell)) bs))
-      tested i true more = ap (λ m. labels_of old list (keep i b.cell) + m) more ∙ sym (sum_by-cons (labels_of old list) (keep i b.cell) (filter_map (λ (b : Below). front_if n b.cell (last_any_of b.cell)) bs))
+          → (if s then labels_of old list (cell_front i b.cell) else 0) + sum_by (λ (b : Below). here n b.cell (last_any_of b.cell)) bs ≡ sum_by (labels_of old list) (cons_option (if s then Some (cell_front i b.cell) else None) (filter_map (λ (b : Below). front_if n b.cell (last_any_of b.cell)) bs))
+      tested i true more = ap (λ m. labels_of old list (cell_front i b.cell) + m) more ∙ sym (sum_by-cons (labels_of old list) (cell_front i b.cell) (filter_map (λ (b : Below). front_if n b.cell (last_any_of b.cell)) bs))
       tested i false more = zero_plus (sum_by (λ (b : Below). here n b.cell (last_any_of b.cell)) bs) ∙ more
 
       one : (o : Option ℕ) → sum_by (λ (b : Below). here n b.cell (last_any_of b.cell)) bs ≡ sum_by (labels_of old list) (filter_map (λ (b : Below). front_if n b.cell (last_any_of b.cell)) bs)
@@ -247,7 +243,7 @@ module _ (width : ℕ) (old : Tree ℕ) (tuple : Cell ℕ) (d : Deletion) (h : I
     where
       by : (c : Cell ℕ) (o : Option ℕ) → before 0 c o ≡ 0
       by c None = refl
-      by c (Some i) = tested (labels_of old list (keep i c)) (nat_lt i 0) refl
+      by c (Some i) = tested (labels_of old list (cell_front i c)) (nat_lt i 0) refl
         where
           tested : (w : ℕ) (s : Bool) → nat_lt i 0 ≡ s → (if s then w else 0) ≡ 0
           tested w true e = let less = ltb-true i 0 e in absurd (omega arith)
@@ -270,7 +266,7 @@ module _ (width : ℕ) (old : Tree ℕ) (tuple : Cell ℕ) (d : Deletion) (h : I
 
       by : (c : Cell ℕ) (o : Option ℕ) → before (suc n) c o ≤ before n c o + here n c o
       by c None = omega arith
-      by c (Some i) = tested i (labels_of old list (keep i c)) (nat_lt i (suc n)) (nat_lt i n) (nat_eq i n) refl refl refl
+      by c (Some i) = tested i (labels_of old list (cell_front i c)) (nat_lt i (suc n)) (nat_lt i n) (nat_eq i n) refl refl refl
 
   -- the labels that the plan reads: at most all, in each dimension
   fronts_within : sum_by (λ (b : Below). front_labels old list b.cell (last_any_of b.cell)) list ≤ length tuple * sum_by (edge_many old) list
@@ -286,7 +282,7 @@ module _ (width : ℕ) (old : Tree ℕ) (tuple : Cell ℕ) (d : Deletion) (h : I
 
       by : (c : Cell ℕ) (o : Option ℕ) → ((i : ℕ) → o ≡ Some i → i < length tuple) → front_labels old list c o ≤ before (length tuple) c o
       by c None l = omega arith
-      by c (Some i) l = tested i (labels_of old list (keep i c)) (nat_lt i (length tuple)) refl (l i refl)
+      by c (Some i) l = tested i (labels_of old list (cell_front i c)) (nat_lt i (length tuple)) refl (l i refl)
 
   -- the nodes of the list, with their edges, stand below the tuple in the tree of the definitions
   abbrev cell_or : Option (Cell ℕ) → Cell ℕ
@@ -336,7 +332,7 @@ module _ (width : ℕ) (old : Tree ℕ) (tuple : Cell ℕ) (d : Deletion) (h : I
   list_within =
       let apart = once_map node_at list (λ x z m k e. same_place x z m k (ap (λ (n : Node ℕ (Cell ℕ)). n.cell) e)) once in
       let le = sum_within (λ (n : Node ℕ (Cell ℕ)). 1 + length n.edges) (map node_at list) (nodes_below nat_cmp (rows_before d) d.r.tuple) apart (λ n m. let b = among_map node_at n list m in subst (λ x. Among x (nodes_below nat_cmp (rows_before d) d.r.tuple)) (sym b.2) (listed b.0 b.1)) in
-      let moved = sum_by-map (λ (n : Node ℕ (Cell ℕ)). 1 + length n.edges) node_at list in
+      let target_after_row = sum_by-map (λ (n : Node ℕ (Cell ℕ)). 1 + length n.edges) node_at list in
       let alike = sum_alike (λ (b : Below). 1 + edge_many old b) (λ (b : Below). 1 + length (node_at b).edges) list (λ b m. ap (λ n. 1 + n) (same_edges b m)) in
       let one = plus_one (edge_many old) list in
       let all = sized (nodes_below nat_cmp (rows_before d) d.r.tuple) in
@@ -354,15 +350,11 @@ module _ (width : ℕ) (old : Tree ℕ) (tuple : Cell ℕ) (d : Deletion) (h : I
           let next = mul-suc n (length bs) in
           omega arith
 
-  times_le : (k a b : ℕ) → a ≤ b → k * a ≤ k * b
-  times_le zero a b l = omega arith
-  times_le (suc k) a b l = let m = times_le k a b l in omega arith
-
   planned_steps : planning (length tuple) old list list ≤ (4 * length tuple + 7) * (length list + length tuple * sum_by (edge_many old) list)
   planned_steps =
       let same = sum_scaled (4 * length tuple + 7) (λ (b : Below). front_labels old list b.cell (last_any_of b.cell)) list in
       let fronts = fronts_within in
-      let le = times_le (4 * length tuple + 7) (length list + sum_by (λ (b : Below). front_labels old list b.cell (last_any_of b.cell)) list) (length list + length tuple * sum_by (edge_many old) list) (omega arith) in
+      let le = times_mono (4 * length tuple + 7) (length list + sum_by (λ (b : Below). front_labels old list b.cell (last_any_of b.cell)) list) (length list + length tuple * sum_by (edge_many old) list) (omega arith) in
       subst (λ n. n ≤ (4 * length tuple + 7) * (length list + length tuple * sum_by (edge_many old) list)) (sym same) le
 
   -- a count of steps by numbers alone
@@ -388,7 +380,7 @@ module _ (width : ℕ) (old : Tree ℕ) (tuple : Cell ℕ) (d : Deletion) (h : I
       let sum_is : 1 + length tuple * (2 * length list) + length list + (2 * length tuple + 3 + (4 * length tuple + 7) * (length list + length tuple * sum_by (edge_many old) list)) + ((5 + 2 * length tuple) * length list + 3 * sum_by (edge_many old) list) ≤ 32 * ((length tuple + 1) * (length tuple + 1)) * (length list + sum_by (edge_many old) list + 1) =
       bound (length tuple) (length list) (sum_by (edge_many old) list) in
       let grown : 32 * ((length tuple + 1) * (length tuple + 1)) * (length list + sum_by (edge_many old) list + 1) ≤ 32 * ((length tuple + 1) * (length tuple + 1)) * (size_below nat_cmp (rows_before d) d.r.tuple + 1) =
-      times_le (32 * ((length tuple + 1) * (length tuple + 1))) (length list + sum_by (edge_many old) list + 1) (size_below nat_cmp (rows_before d) d.r.tuple + 1) (let w = list_within in omega arith) in
+      times_mono (32 * ((length tuple + 1) * (length tuple + 1))) (length list + sum_by (edge_many old) list + 1) (size_below nat_cmp (rows_before d) d.r.tuple + 1) (let w = list_within in omega arith) in
       let up : 32 * ((length tuple + 1) * (length tuple + 1)) * (size_below nat_cmp (rows_before d) d.r.tuple + 1) ≤ 256 * ((length tuple + 1) * (length tuple + 1)) * (above nat_cmp (rows_before d) (rows_after d) d.r.tuple + 1) =
       more_above ((length tuple + 1) * (length tuple + 1)) (size_below nat_cmp (rows_before d) d.r.tuple) (size_below nat_cmp (rows_after d) d.r.tuple) in
       subst (λ k. s4 ≤ s0 + 256 * k * (above nat_cmp (rows_before d) (rows_after d) d.r.tuple + 1)) (sym (square (length tuple + 1))) (omega (arith, a, b, c, e, plan, last, sum_is, grown, up))

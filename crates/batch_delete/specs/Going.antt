@@ -8,8 +8,8 @@ use Rattle.cube_defs.specs.Rows.{covers}
 use Rattle.cube_defs.specs.Tree.{Tree}
 use Rattle.cube_defs.specs.declared.limits.TheConstants.{MAX_ROWS}
 use Rattle.cube_laws.specs.Total.{agg_at}
-use Rattle.tree_laws.specs.Walk.{front}
-use Rattle.tree_search.specs.Found.{Names, closure_in}
+use Rattle.tree_laws.specs.Walk.{closure_front}
+use Rattle.tree_search.specs.Found.{IsNumberOfCell, closure_in}
 use Rattle.batch_delete.specs.declared.going.Class.{Class}
 use Rattle.batch_delete.specs.declared.going.Going.{Going}
 use Rattle.batch_delete.specs.Rests.{Deletion, rows_after, rows_before, source_before}
@@ -34,4 +34,4 @@ pub record IsKnown (d : Deletion) (class : Class) : Type 0 where
 
 -- a search for the cell goes on from the number behind dimension i
 abbrev pub GoesOn : Deletion → Tree ℕ → Cell ℕ → ℕ → ℕ → Type 0
-GoesOn d tree c i k = Names tree (Some k) (front (eq_by_cmp nat_cmp) (rows_before d) c (suc i))
+GoesOn d tree c i k = IsNumberOfCell tree (Some k) (closure_front (eq_by_cmp nat_cmp) (rows_before d) c (suc i))

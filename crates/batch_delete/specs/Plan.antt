@@ -6,7 +6,7 @@ use Rattle.std.specs.Option.{option_and_then, option_map}
 use Rattle.std.specs.Map.{lookup}
 use Rattle.aggregates.specs.Views.{agg_in}
 use Rattle.cell_core.specs.declared.cell.NodeNo.{NodeNo}
-use Rattle.cube_defs.specs.Cell.{Cell, cell_eq, depth, keep, leq}
+use Rattle.cube_defs.specs.Cell.{Cell, cell_eq, depth, cell_front, leq}
 use Rattle.cube_defs.specs.Rows.{Agg}
 use Rattle.cube_defs.specs.Tree.{Edge, Tree, next_value}
 use Rattle.std.specs.Ordering.{eq_by_cmp, nat_cmp}
@@ -146,7 +146,7 @@ labels_of tree list c = sum_by (λ b. if cell_eq nat_eq b.cell c then length (re
 -- how many labels the node of the cell's front before its last Any has, if the cell has Any
 abbrev pub front_labels : Tree ℕ → List Below → Cell ℕ → Option ℕ → ℕ
 front_labels tree list c None = 0
-front_labels tree list c (Some i) = labels_of tree list (keep i c)
+front_labels tree list c (Some i) = labels_of tree list (cell_front i c)
 
 -- how many steps the plan for the nodes from a place on takes: each reads what its front's labels lead to
 abbrev pub planning : ℕ → Tree ℕ → List Below → List Below → ℕ

@@ -3,11 +3,11 @@ use Rattle.std.specs.Prelude.{◌≡◌, ◌≤◌, ℕ, slice_get, false, true,
 use Rattle.std.specs.Option.{option_map}
 use Rattle.std.specs.Ordering.{eq_by_cmp, nat_cmp}
 use Rattle.aggregates.specs.Views.{agg_in}
-use Rattle.cube_defs.specs.Cell.{Cell, depth, keep, leq, with_value}
+use Rattle.cube_defs.specs.Cell.{Cell, depth, cell_front, leq, with_value}
 use Rattle.cube_defs.specs.Rows.{Agg, Row, closure}
 use Rattle.cube_defs.specs.Tree.{Edge, Tree, cell_at}
 use Rattle.cube_laws.specs.Total.{agg_at, join_aggs, join_cells, total}
-use Rattle.tree_search.specs.Found.{Names, Source}
+use Rattle.tree_search.specs.Found.{IsNumberOfCell, TreeRows}
 use Rattle.batch_delete.specs.declared.below.Below.{Below}
 use Rattle.batch_delete.specs.declared.plan.Fate.{Fate}
 use Rattle.batch_delete.specs.Plan.{after_in, heir_in}
@@ -26,7 +26,7 @@ rows_before d = d.xs ++ d.r ∷ d.ys
 abbrev pub rows_after : Deletion → List (Row ℕ)
 rows_after d = d.xs ++ d.ys
 
-abbrev pub source_before : Deletion → Source
+abbrev pub source_before : Deletion → TreeRows
 source_before d = record { measures = d.measures; rows = rows_before d }
 
 abbrev pub shared_of : Option Rest → Option (Cell ℕ)
@@ -54,7 +54,7 @@ other_values i v xs = filter_map (λ x. if nat_eq x.dim i && not (nat_eq x.value
 -- front of what they share, as long as the node's cell
 pub record IsPlanned (d : Deletion) (tree : Tree ℕ) (plan : List (ℕ × Fate)) (b : Below) : Type 0 where
   pub after : IsRest d.measures (rows_after d) b.cell (after_in plan b.node.0)
-  pub heir : Names tree (heir_in plan b.node.0) (option_map (keep (depth b.cell)) (closure (eq_by_cmp nat_cmp) (rows_after d) b.cell))
+  pub heir : IsNumberOfCell tree (heir_in plan b.node.0) (option_map (cell_front (depth b.cell)) (closure (eq_by_cmp nat_cmp) (rows_after d) b.cell))
 
 -- the nodes of the list from a place on are planned for
 abbrev pub ArePlanned : Deletion → Tree ℕ → List (ℕ × Fate) → List Below → ℕ → Type 0

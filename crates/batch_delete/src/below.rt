@@ -105,7 +105,8 @@ fn add_children<L: Ledger>(
     requires tree { IsTree arena.now.width arena.now.now }
     requires cells { (k : ℕ) (b : Below) → slice_get list.old.items k ≡ Some b → cell_at arena.now.now b.node.0 ≡ Some b.cell }
     requires short { (k : ℕ) (b : Below) → slice_get list.old.items k ≡ Some b → depth b.cell ≤ dim }
-    requires order { (i j : ℕ) (b c : Below) → i < j → slice_get list.old.items i ≡ Some b → slice_get list.old.items j ≡ Some c → leq nat_eq c.cell b.cell ≡ false }
+    requires order { (i j : ℕ) (b c : Below) → i < j → slice_get list.old.items i ≡ Some b → slice_get list.old.items j ≡ Some c →
+        leq nat_eq c.cell b.cell ≡ false }
     requires dim { dim < arena.now.width }
     requires code { IsCode code }
     ensures grown { OnOk result (AreGrown arena.now.now dim code list.old.items (length list.old.items) list.new.items) }
@@ -174,7 +175,8 @@ pub(crate) fn touch_all<L: Ledger>(
     requires opened { is_open arena.old ≡ true }
     requires there { (k : ℕ) (b : Below) → slice_get list.now.items k ≡ Some b → IsSome (map.get arena.old.now b.node.0) }
     ensures touched { OnOk result ((k : ℕ) (b : Below) → slice_get list.now.items k ≡ Some b → is_touched arena.new b.node.0 ≡ true) }
-    ensures only { OnOk result ((q : ℕ) → is_touched arena.new q ≡ true → is_touched arena.old q ≡ false → (k : ℕ) × (b : Below) × (slice_get list.now.items k ≡ Some b) × (b.node.0 ≡ q)) }
+    ensures only { OnOk result ((q : ℕ) → is_touched arena.new q ≡ true → is_touched arena.old q ≡ false →
+        (k : ℕ) × (b : Below) × (slice_get list.now.items k ≡ Some b) × (b.node.0 ≡ q)) }
     ensures now { arena.new.now ≡ arena.old.now }
     ensures frame { frame arena.new ≡ frame arena.old }
     ensures steps { steps.new ≤ steps.old + length list.now.items }

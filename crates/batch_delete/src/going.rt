@@ -6,7 +6,7 @@ ghost use Rattle.aggregates.specs.Views.{agg_in};
 ghost use Rattle.cube_defs.specs.Cell.{cell_of};
 ghost use Rattle.cube_defs.specs.Tree.{cell_at};
 ghost use Rattle.cube_laws.specs.Total.{agg_at};
-ghost use Rattle.tree_search.specs.Found.{IsFrom};
+ghost use Rattle.tree_search.specs.Found.{IsTreeOf};
 ghost use Rattle.batch_delete.specs.Going.{IsClass, IsGoing, IsKnown};
 ghost use Rattle.batch_delete.specs.Rests.{Deletion, rows_after, rows_before, source_before};
 
@@ -44,7 +44,7 @@ pub(crate) fn row_of<L: Ledger>(
     steps: &mut Steps<L>,
 ) -> Going
     ghost d: { Deletion }
-    requires tree { IsFrom arena.now.width arena.now.now (source_before d) }
+    requires tree { IsTreeOf arena.now.width arena.now.now (source_before d) }
     requires long { length tuple.now ≡ arena.now.width }
     requires row { tuple.now ≡ cell_of d.r.tuple }
     requires twins { option_map agg_in twins ≡ agg_at (eq_by_cmp nat_cmp) d.measures (rows_after d) tuple.now }
@@ -69,7 +69,7 @@ pub(crate) fn class_of<L: Ledger>(
     steps: &mut Steps<L>,
 ) -> Class
     ghost d: { Deletion }
-    requires tree { IsFrom arena.now.width arena.now.now (source_before d) }
+    requires tree { IsTreeOf arena.now.width arena.now.now (source_before d) }
     requires long { length below.now.cell ≡ arena.now.width }
     requires row { IsGoing d row.now }
     requires class { IsClass d below.now.cell }

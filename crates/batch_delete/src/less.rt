@@ -7,7 +7,7 @@ ghost use Rattle.aggregates.specs.Views.{agg_in, part_in};
 ghost use Rattle.cube_defs.specs.Rows as defs;
 ghost use Rattle.cube_defs.specs.Tree.{cell_at};
 ghost use Rattle.cube_laws.specs.Total.{agg_at, combine, combine_part, join_aggs};
-ghost use Rattle.tree_search.specs.Found.{IsFrom, closure_in};
+ghost use Rattle.tree_search.specs.Found.{IsTreeOf, closure_in};
 ghost use Rattle.batch_delete.specs.Going.{IsGoing};
 ghost use Rattle.batch_delete.specs.Rests.{Deletion, rows_after, rows_before, source_before};
 
@@ -47,7 +47,8 @@ fn part_besides(whole: &Part, part: &Part, count: u32) -> Option<Part>
 /// What some rows come to without others of them, where these have neither the least nor the greatest
 /// amount of any measure.
 pub(crate) fn besides(whole: &Agg, part: &Agg) -> Option<Agg>
-    ensures rest { IfSome result (λ rest. (o : defs.Agg) → length o.parts ≡ length (agg_in part.now).parts → combine (agg_in part.now) o ≡ agg_in whole.now → agg_in rest ≡ o) }
+    ensures rest { IfSome result (λ rest. (o : defs.Agg) → length o.parts ≡ length (agg_in part.now).parts → combine (agg_in part.now) o ≡ agg_in whole.now →
+        agg_in rest ≡ o) }
     ensures measures { IfSome result (λ rest. rest.measures ≡ part.now.measures) }
     ensures more { IfSome result (λ rest. part.now.count < whole.now.count) }
 {
@@ -92,7 +93,7 @@ pub(crate) fn class_at<L: Ledger>(
     steps: &mut Steps<L>,
 ) -> Option<Agg>
     ghost d: { Deletion }
-    requires tree { IsFrom arena.now.width arena.now.now (source_before d) }
+    requires tree { IsTreeOf arena.now.width arena.now.now (source_before d) }
     requires long { length cell.now ≡ arena.now.width }
     requires node { cell_at arena.now.now node.0 ≡ Some cell.now }
     requires own { closure_in (source_before d) cell.now ≡ Some cell.now }

@@ -63,7 +63,9 @@ fn cut_edge<L: Ledger>(
     steps: &mut Steps<L>,
 )
     requires { CanChange arena.old node.0 }
-    ensures here { map.get arena.new.now node.0 ≡ option_map (with_led (record { dim = edge.0; value = edge.1; target = edge.2.0 }) (left_to next (record { dim = edge.0; value = edge.1; target = edge.2.0 }))) (map.get arena.old.now node.0) }
+    ensures here { map.get arena.new.now node.0 ≡ option_map
+        (with_led (record { dim = edge.0; value = edge.1; target = edge.2.0 }) (left_to next (record { dim = edge.0; value = edge.1; target = edge.2.0 })))
+        (map.get arena.old.now node.0) }
     ensures others { (q : ℕ) → q ≢ node.0 → map.get arena.new.now q ≡ map.get arena.old.now q }
     ensures touched { (q : ℕ) → is_touched arena.new q ≡ is_touched arena.old q }
     ensures frame { frame arena.new ≡ frame arena.old }
@@ -109,7 +111,8 @@ fn mend_edge<L: Ledger>(
     requires target { IfSome to (λ t. IsSome (map.get arena.old.now t.0)) }
     requires dim { edge.0 < arena.old.width }
     requires code { IsCode edge.1 }
-    ensures here { OnOk result (map.get arena.new.now node.0 ≡ option_map (with_led (record { dim = edge.0; value = edge.1; target = edge.2.0 }) (option_map number to)) (map.get arena.old.now node.0)) }
+    ensures here { OnOk result (map.get arena.new.now node.0
+        ≡ option_map (with_led (record { dim = edge.0; value = edge.1; target = edge.2.0 }) (option_map number to)) (map.get arena.old.now node.0)) }
     ensures others { (q : ℕ) → q ≢ node.0 → map.get arena.new.now q ≡ map.get arena.old.now q }
     ensures touched { (q : ℕ) → is_touched arena.new q ≡ is_touched arena.old q }
     ensures frame { frame arena.new ≡ frame arena.old }
@@ -143,8 +146,11 @@ fn lead_edge<L: Ledger>(
     requires change { CanChange arena.old node.0 }
     requires long { length tuple.now ≡ arena.old.width }
     requires dim { dim < arena.old.width }
-    requires target { (v t y : ℕ) → slice_index_or tuple.now dim None ≡ Some v → target_at (eq_by_cmp nat_cmp) dim v (record_at arena.old.now node.0).edges ≡ Some y → heir_in plan.now.entries y ≡ Some t → IsSome (map.get arena.old.now t) }
-    ensures here { OnOk result (map.get arena.new.now node.0 ≡ option_map (with_own (heir_in plan.now.entries) dim (slice_index_or tuple.now dim None)) (map.get arena.old.now node.0)) }
+    requires target { (v t y : ℕ) → slice_index_or tuple.now dim None ≡ Some v →
+        target_at (eq_by_cmp nat_cmp) dim v (record_at arena.old.now node.0).edges ≡ Some y → heir_in plan.now.entries y ≡ Some t →
+        IsSome (map.get arena.old.now t) }
+    ensures here { OnOk result (map.get arena.new.now node.0
+        ≡ option_map (with_own (heir_in plan.now.entries) dim (slice_index_or tuple.now dim None)) (map.get arena.old.now node.0)) }
     ensures others { (q : ℕ) → q ≢ node.0 → map.get arena.new.now q ≡ map.get arena.old.now q }
     ensures touched { (q : ℕ) → is_touched arena.new q ≡ is_touched arena.old q }
     ensures frame { frame arena.new ≡ frame arena.old }
@@ -178,8 +184,10 @@ fn lead_edges<L: Ledger>(
     requires rises { rises (record_at arena.old.now node.0).edges ≡ true }
     requires dims { (k : ℕ) (x : _) → slice_get (record_at arena.old.now node.0).edges k ≡ Some x → x.dim < arena.old.width }
     requires behind { (k : ℕ) (x : _) → slice_get (record_at arena.old.now node.0).edges k ≡ Some x → from ≤ x.dim }
-    requires targets { (k t : ℕ) (x : _) → slice_get (record_at arena.old.now node.0).edges k ≡ Some x → own_to tuple.now (heir_in plan.now.entries) x ≡ Some t → IsSome (map.get arena.old.now t) }
-    ensures here { OnOk result (map.get arena.new.now node.0 ≡ option_map (with_mixed (own_to tuple.now (heir_in plan.now.entries)) 0) (map.get arena.old.now node.0)) }
+    requires targets { (k t : ℕ) (x : _) → slice_get (record_at arena.old.now node.0).edges k ≡ Some x →
+        own_to tuple.now (heir_in plan.now.entries) x ≡ Some t → IsSome (map.get arena.old.now t) }
+    ensures here { OnOk result (map.get arena.new.now node.0
+        ≡ option_map (with_mixed (own_to tuple.now (heir_in plan.now.entries)) 0) (map.get arena.old.now node.0)) }
     ensures others { (q : ℕ) → q ≢ node.0 → map.get arena.new.now q ≡ map.get arena.old.now q }
     ensures touched { (q : ℕ) → is_touched arena.new q ≡ is_touched arena.old q }
     ensures frame { frame arena.new ≡ frame arena.old }
@@ -259,8 +267,10 @@ fn mend<L: Ledger>(
     requires shared { length rest.now.shared ≡ arena.old.width }
     requires dims { (k : ℕ) (x : _) → slice_get (record_at arena.old.now below.now.node.0).edges k ≡ Some x → x.dim < arena.old.width }
     requires behind { (k : ℕ) (x : _) → slice_get (record_at arena.old.now below.now.node.0).edges k ≡ Some x → depth below.now.cell ≤ x.dim }
-    requires targets { (k t : ℕ) (x : _) → slice_get (record_at arena.old.now below.now.node.0).edges k ≡ Some x → led_to tuple.now (heir_in plan.now.entries) (next_entry (depth below.now.cell) rest.now.shared) x ≡ Some t → IsSome (map.get arena.old.now t) }
-    ensures here { OnOk result (map.get arena.new.now below.now.node.0 ≡ option_map (mended tuple.now (heir_in plan.now.entries) below.now.cell rest.now) (map.get arena.old.now below.now.node.0)) }
+    requires targets { (k t : ℕ) (x : _) → slice_get (record_at arena.old.now below.now.node.0).edges k ≡ Some x →
+        led_to tuple.now (heir_in plan.now.entries) (next_entry (depth below.now.cell) rest.now.shared) x ≡ Some t → IsSome (map.get arena.old.now t) }
+    ensures here { OnOk result (map.get arena.new.now below.now.node.0
+        ≡ option_map (mended tuple.now (heir_in plan.now.entries) below.now.cell rest.now) (map.get arena.old.now below.now.node.0)) }
     ensures others { (q : ℕ) → q ≢ below.now.node.0 → map.get arena.new.now q ≡ map.get arena.old.now q }
     ensures touched { (q : ℕ) → is_touched arena.new q ≡ is_touched arena.old q }
     ensures frame { frame arena.new ≡ frame arena.old }
@@ -319,8 +329,11 @@ fn settle<L: Ledger>(
     requires shared { IfSome (staying plan.now.entries below.now.node.0) (λ rest. length rest.shared ≡ arena.old.width) }
     requires dims { (k : ℕ) (x : _) → slice_get (record_at arena.old.now below.now.node.0).edges k ≡ Some x → x.dim < arena.old.width }
     requires behind { (k : ℕ) (x : _) → slice_get (record_at arena.old.now below.now.node.0).edges k ≡ Some x → depth below.now.cell ≤ x.dim }
-    requires targets { IfSome (staying plan.now.entries below.now.node.0) (λ rest. (k t : ℕ) (x : _) → slice_get (record_at arena.old.now below.now.node.0).edges k ≡ Some x → led_to tuple.now (heir_in plan.now.entries) (next_entry (depth below.now.cell) rest.shared) x ≡ Some t → IsSome (map.get arena.old.now t)) }
-    ensures here { OnOk result (map.get arena.new.now below.now.node.0 ≡ option_and_then (outcome tuple.now plan.now.entries below.now) (map.get arena.old.now below.now.node.0)) }
+    requires targets { IfSome (staying plan.now.entries below.now.node.0)
+        (λ rest. (k t : ℕ) (x : _) → slice_get (record_at arena.old.now below.now.node.0).edges k ≡ Some x →
+        led_to tuple.now (heir_in plan.now.entries) (next_entry (depth below.now.cell) rest.shared) x ≡ Some t → IsSome (map.get arena.old.now t)) }
+    ensures here { OnOk result (map.get arena.new.now below.now.node.0
+        ≡ option_and_then (outcome tuple.now plan.now.entries below.now) (map.get arena.old.now below.now.node.0)) }
     ensures others { (q : ℕ) → q ≢ below.now.node.0 → map.get arena.new.now q ≡ map.get arena.old.now q }
     ensures touched { (q : ℕ) → is_touched arena.new q ≡ is_touched arena.old q }
     ensures frame { frame arena.new ≡ frame arena.old }
@@ -347,7 +360,8 @@ pub(crate) fn settle_all<L: Ledger>(
     requires touched { (k : ℕ) (b : Below) → slice_get list.now.items k ≡ Some b → is_touched arena.old b.node.0 ≡ true }
     requires long { length tuple.now ≡ arena.old.width }
     requires ready { AreReady arena.old.width arena.old.now tuple.now plan.now.entries list.now.items }
-    ensures here { OnOk result ((k : ℕ) (b : Below) → slice_get list.now.items k ≡ Some b → map.get arena.new.now b.node.0 ≡ option_and_then (outcome tuple.now plan.now.entries b) (map.get arena.old.now b.node.0)) }
+    ensures here { OnOk result ((k : ℕ) (b : Below) → slice_get list.now.items k ≡ Some b →
+        map.get arena.new.now b.node.0 ≡ option_and_then (outcome tuple.now plan.now.entries b) (map.get arena.old.now b.node.0)) }
     ensures others { (q : ℕ) → ((k : ℕ) (b : Below) → slice_get list.now.items k ≡ Some b → b.node.0 ≢ q) → map.get arena.new.now q ≡ map.get arena.old.now q }
     ensures touched { (q : ℕ) → is_touched arena.new q ≡ is_touched arena.old q }
     ensures frame { frame arena.new ≡ frame arena.old }

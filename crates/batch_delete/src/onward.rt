@@ -2,11 +2,11 @@
 ghost use Rattle.std.specs.FinMap as map;
 ghost use Rattle.std.specs.Option.{option_map};
 ghost use Rattle.std.specs.Prelude.{IfSome, IsSome, Some, length, ◌*◌, ◌+◌, ◌<◌, ◌≡◌, ◌≤◌};
-ghost use Rattle.cube_defs.specs.Cell.{keep};
+ghost use Rattle.cube_defs.specs.Cell.{cell_front};
 ghost use Rattle.cube_defs.specs.Tree.{cell_at};
 ghost use Rattle.cube_laws.specs.Parts.{IsLastAny};
 ghost use Rattle.qc_arena.specs.Seen.{number};
-ghost use Rattle.tree_search.specs.Found.{IsFrom, Names, closure_in};
+ghost use Rattle.tree_search.specs.Found.{IsTreeOf, IsNumberOfCell, closure_in};
 ghost use Rattle.batch_delete.specs.Going.{GoesOn};
 ghost use Rattle.batch_delete.specs.Rests.{Deletion, source_before};
 
@@ -24,11 +24,11 @@ pub(crate) fn find_from<L: Ledger>(
     steps: &mut Steps<L>,
 ) -> Option<NodeNo>
     ghost d: { Deletion }
-    requires tree { IsFrom arena.now.width arena.now.now (source_before d) }
+    requires tree { IsTreeOf arena.now.width arena.now.now (source_before d) }
     requires long { length cell.now ≡ arena.now.width }
     requires dim { dim < length cell.now }
     requires on { GoesOn d arena.now.now cell.now dim node.0 }
-    ensures found { Names arena.now.now (option_map number result) (closure_in (source_before d) cell.now) }
+    ensures found { IsNumberOfCell arena.now.now (option_map number result) (closure_in (source_before d) cell.now) }
     ensures there { IfSome result (λ node. IsSome (map.get arena.now.now node.0)) }
     ensures steps { steps.new ≤ steps.old + 2 * length cell.now }
 {
@@ -49,11 +49,11 @@ pub(crate) fn front_at<L: Ledger>(
     steps: &mut Steps<L>,
 ) -> NodeNo
     ghost d: { Deletion }
-    requires tree { IsFrom arena.now.width arena.now.now (source_before d) }
+    requires tree { IsTreeOf arena.now.width arena.now.now (source_before d) }
     requires node { cell_at arena.now.now node.0 ≡ Some cell.now }
     requires last { IsLastAny cell.now dim }
     requires dim { dim < length cell.now }
-    ensures front { cell_at arena.now.now result.0 ≡ Some (keep dim cell.now) }
+    ensures front { cell_at arena.now.now result.0 ≡ Some (cell_front dim cell.now) }
     ensures steps { steps.new ≤ steps.old + length cell.now }
 {
     let mut node = node;

@@ -3,13 +3,13 @@ ghost use Rattle.std.specs.FinMap as map;
 ghost use Rattle.std.specs.Prelude.{IfSome, IsSome, List, None, Some, [], false, length, nat_eq, slice_get, slice_index_or, ℕ, ◌*◌, ◌+◌, ◌++◌, ◌∷◌, ◌<◌, ◌≡◌, ◌≤◌};
 ghost use Rattle.cell_core.specs.Entry.{IsCode};
 ghost use Rattle.std.specs.Ordering.{eq_by_cmp, nat_cmp};
-ghost use Rattle.cube_defs.specs.Cell.{keep, with_value};
+ghost use Rattle.cube_defs.specs.Cell.{cell_front, with_value};
 ghost use Rattle.cube_laws.specs.Parts.{IsLastAny};
 ghost use Rattle.aggregates.specs.Views.{agg_in};
 ghost use Rattle.cube_defs.specs.Tree.{cell_at};
 ghost use Rattle.qc_arena.specs.Seen.{record_at};
 ghost use Rattle.cube_laws.specs.Total.{join_aggs, join_cells};
-ghost use Rattle.tree_search.specs.Found.{IsFrom, Names, closure_in};
+ghost use Rattle.tree_search.specs.Found.{IsTreeOf, IsNumberOfCell, closure_in};
 ghost use Rattle.batch_delete.specs.declared.below.Below.{Below};
 ghost use Rattle.batch_delete.specs.Below.{AreBelow};
 ghost use Rattle.batch_delete.specs.Going.{GoesOn, IsClass, IsGoing, IsKnown};
@@ -79,7 +79,7 @@ fn part_of<L: Ledger>(
     steps: &mut Steps<L>,
 ) -> Option<Rest>
     ghost d: { Deletion }
-    requires tree { IsFrom arena.now.width arena.now.now (source_before d) }
+    requires tree { IsTreeOf arena.now.width arena.now.now (source_before d) }
     requires long { length cell.now ≡ arena.now.width }
     requires dim { dim < length cell.now }
     requires on { GoesOn d arena.now.now cell.now dim node.0 }
@@ -100,10 +100,10 @@ fn rest_at<L: Ledger>(
     steps: &mut Steps<L>,
 ) -> Option<Rest>
     ghost d: { Deletion }
-    requires tree { IsFrom arena.now.width arena.now.now (source_before d) }
+    requires tree { IsTreeOf arena.now.width arena.now.now (source_before d) }
     requires long { length cell.now ≡ arena.now.width }
     requires node { IsSome (map.get arena.now.now node.0) }
-    requires found { Names arena.now.now (Some node.0) (closure_in (source_before d) cell.now) }
+    requires found { IsNumberOfCell arena.now.now (Some node.0) (closure_in (source_before d) cell.now) }
     ensures rest { IsRest d.measures (rows_before d) cell.now result }
     ensures steps { steps.new ≤ steps.old + (2 * length cell.now + 3) }
 {
@@ -127,12 +127,13 @@ fn own_rest<L: Ledger>(
     steps: &mut Steps<L>,
 ) -> Option<Rest>
     ghost d: { Deletion }
-    requires tree { IsFrom arena.now.width arena.now.now (source_before d) }
+    requires tree { IsTreeOf arena.now.width arena.now.now (source_before d) }
     requires long { length cell.now ≡ arena.now.width }
     requires dim { dim < length cell.now }
     requires on { GoesOn d arena.now.now cell.now dim node.0 }
     requires some { IsSome (closure_in (source_before d) cell.now) }
-    requires planned { (q : ℕ) (w : _) → closure_in (source_before d) cell.now ≡ Some w → cell_at arena.now.now q ≡ Some w → IsRest d.measures (rows_after d) w (after_in plan.now.entries q) }
+    requires planned { (q : ℕ) (w : _) → closure_in (source_before d) cell.now ≡ Some w → cell_at arena.now.now q ≡ Some w →
+        IsRest d.measures (rows_after d) w (after_in plan.now.entries q) }
     ensures rest { IsRest d.measures (rows_after d) cell.now result }
     ensures steps { steps.new ≤ steps.old + 2 * length cell.now }
 {
@@ -154,15 +155,16 @@ fn own_part<L: Ledger>(
     steps: &mut Steps<L>,
 ) -> Option<Rest>
     ghost d: { Deletion }
-    requires tree { IsFrom arena.now.width arena.now.now (source_before d) }
+    requires tree { IsTreeOf arena.now.width arena.now.now (source_before d) }
     requires long { length cell.now ≡ arena.now.width }
     requires tuple { length row.now.tuple ≡ arena.now.width }
     requires row { IsGoing d row.now }
     requires class { IsClass d cell.now }
     requires any { slice_get cell.now dim ≡ Some None }
     requires dim { dim < length cell.now }
-    requires front { cell_at arena.now.now front.0 ≡ Some (keep dim cell.now) }
-    requires planned { (v q : ℕ) (w : _) → slice_index_or row.now.tuple dim None ≡ Some v → closure_in (source_before d) (with_value cell.now dim v) ≡ Some w → cell_at arena.now.now q ≡ Some w → IsRest d.measures (rows_after d) w (after_in plan.now.entries q) }
+    requires front { cell_at arena.now.now front.0 ≡ Some (cell_front dim cell.now) }
+    requires planned { (v q : ℕ) (w : _) → slice_index_or row.now.tuple dim None ≡ Some v → closure_in (source_before d) (with_value cell.now dim v) ≡ Some w →
+        cell_at arena.now.now q ≡ Some w → IsRest d.measures (rows_after d) w (after_in plan.now.entries q) }
     ensures rest { (v : ℕ) → slice_index_or row.now.tuple dim None ≡ Some v → IsRest d.measures (rows_after d) (with_value cell.now dim v) result }
     ensures steps { steps.new ≤ steps.old + (2 * length cell.now + 1) }
 {
@@ -188,17 +190,19 @@ fn with_part<L: Ledger>(
     steps: &mut Steps<L>,
 ) -> Option<Rest>
     ghost d: { Deletion }
-    requires tree { IsFrom arena.now.width arena.now.now (source_before d) }
+    requires tree { IsTreeOf arena.now.width arena.now.now (source_before d) }
     requires long { length cell.now ≡ arena.now.width }
     requires dim { label.0 < length cell.now }
     requires code { IsCode label.1 }
     requires on { GoesOn d arena.now.now (with_value cell.now label.0 label.1) label.0 label.2.0 }
-    requires few { (part : _) → IsRest d.measures (rows_before d) (with_value cell.now label.0 label.1) (Some part) → IfSome rest (λ some. some.agg.count + part.agg.count ≤ MAX_ROWS) }
+    requires few { (part : _) → IsRest d.measures (rows_before d) (with_value cell.now label.0 label.1) (Some part) →
+        IfSome rest (λ some. some.agg.count + part.agg.count ≤ MAX_ROWS) }
     requires parts { IfSome rest (λ some. length (agg_in some.agg).parts ≡ d.measures) }
     requires shared { IfSome rest (λ some. length some.shared ≡ length cell.now) }
     ensures parts { IfSome result (λ some. length (agg_in some.agg).parts ≡ d.measures) }
     ensures shared { IfSome result (λ some. length some.shared ≡ length cell.now) }
-    ensures total { (v : ℕ) (w : _) (vs : List ℕ) → eq_by_cmp nat_cmp label.1 v ≡ false → IsTotal d cell.now label.0 v w vs rest → IsTotal d cell.now label.0 v w (vs ++ label.1 ∷ []) result }
+    ensures total { (v : ℕ) (w : _) (vs : List ℕ) → eq_by_cmp nat_cmp label.1 v ≡ false → IsTotal d cell.now label.0 v w vs rest →
+        IsTotal d cell.now label.0 v w (vs ++ label.1 ∷ []) result }
     ensures steps { steps.new ≤ steps.old + (4 * length cell.now + 5) }
 {
     let (dim, code, target) = label;
@@ -220,19 +224,23 @@ fn with_label<L: Ledger>(
     steps: &mut Steps<L>,
 ) -> Option<Rest>
     ghost d: { Deletion }
-    requires tree { IsFrom arena.now.width arena.now.now (source_before d) }
+    requires tree { IsTreeOf arena.now.width arena.now.now (source_before d) }
     requires long { length cell.now ≡ arena.now.width }
     requires tuple { length row.now.tuple ≡ arena.now.width }
     requires dim { label.0 < length cell.now }
     requires code { IsCode label.1 }
     requires on { GoesOn d arena.now.now (with_value cell.now label.0 label.1) label.0 label.2.0 }
-    requires few { is_value (slice_index_or row.now.tuple label.0 None) label.1 ≡ false → (part : _) → IsRest d.measures (rows_before d) (with_value cell.now label.0 label.1) (Some part) → IfSome rest (λ some. some.agg.count + part.agg.count ≤ MAX_ROWS) }
+    requires few { is_value (slice_index_or row.now.tuple label.0 None) label.1 ≡ false → (part : _) →
+        IsRest d.measures (rows_before d) (with_value cell.now label.0 label.1) (Some part) → IfSome rest (λ some. some.agg.count + part.agg.count ≤ MAX_ROWS) }
     requires parts { IfSome rest (λ some. length (agg_in some.agg).parts ≡ d.measures) }
     requires shared { IfSome rest (λ some. length some.shared ≡ length cell.now) }
     ensures parts { IfSome result (λ some. length (agg_in some.agg).parts ≡ d.measures) }
     ensures shared { IfSome result (λ some. length some.shared ≡ length cell.now) }
-    ensures total { (v : ℕ) (w : _) (vs : List ℕ) → slice_index_or row.now.tuple label.0 None ≡ Some v → IsTotal d cell.now label.0 v w vs rest → IsTotal d cell.now label.0 v w (vs ++ other_values label.0 v (record { dim = label.0; value = label.1; target = label.2.0 } ∷ [])) result }
-    ensures steps { (v : ℕ) → slice_index_or row.now.tuple label.0 None ≡ Some v → steps.new ≤ steps.old + (4 * length cell.now + 5) * length (other_values label.0 v (record { dim = label.0; value = label.1; target = label.2.0 } ∷ [])) }
+    ensures total { (v : ℕ) (w : _) (vs : List ℕ) → slice_index_or row.now.tuple label.0 None ≡ Some v → IsTotal d cell.now label.0 v w vs rest →
+        IsTotal d cell.now label.0 v w (vs ++ other_values label.0 v (record { dim = label.0; value = label.1; target = label.2.0 } ∷ [])) result }
+    ensures steps { (v : ℕ) → slice_index_or row.now.tuple label.0 None ≡ Some v →
+        steps.new ≤ steps.old + (4 * length cell.now + 5) * length
+        (other_values label.0 v (record { dim = label.0; value = label.1; target = label.2.0 } ∷ [])) }
 {
     if has(&row.tuple, label.0, label.1) {
         return rest;
@@ -252,17 +260,18 @@ fn with_labels<L: Ledger>(
     steps: &mut Steps<L>,
 ) -> Option<Rest>
     ghost d: { Deletion }
-    requires tree { IsFrom arena.now.width arena.now.now (source_before d) }
+    requires tree { IsTreeOf arena.now.width arena.now.now (source_before d) }
     requires long { length class.now.cell ≡ arena.now.width }
     requires tuple { length row.now.tuple ≡ arena.now.width }
     requires row { IsGoing d row.now }
     requires class { IsKnown d class.now }
     requires any { slice_get class.now.cell dim ≡ Some None }
     requires dim { dim < length class.now.cell }
-    requires front { cell_at arena.now.now front.0 ≡ Some (keep dim class.now.cell) }
+    requires front { cell_at arena.now.now front.0 ≡ Some (cell_front dim class.now.cell) }
     requires rest { (v : ℕ) → slice_index_or row.now.tuple dim None ≡ Some v → IsRest d.measures (rows_after d) (with_value class.now.cell dim v) rest }
     ensures rest { IsRest d.measures (rows_after d) class.now.cell result }
-    ensures steps { steps.new + (4 * length class.now.cell + 5) ≤ steps.old + (3 + (4 * length class.now.cell + 7) * length (record_at arena.now.now front.0).edges) }
+    ensures steps { steps.new + (4 * length class.now.cell + 5)
+        ≤ steps.old + (3 + (4 * length class.now.cell + 7) * length (record_at arena.now.now front.0).edges) }
 {
     let mut all = rest;
     let first = first_label(arena, front, dim, steps);
@@ -290,7 +299,7 @@ fn all_parts<L: Ledger>(
     steps: &mut Steps<L>,
 ) -> Option<Rest>
     ghost d: { Deletion }
-    requires tree { IsFrom arena.now.width arena.now.now (source_before d) }
+    requires tree { IsTreeOf arena.now.width arena.now.now (source_before d) }
     requires long { length below.now.cell ≡ arena.now.width }
     requires tuple { length row.now.tuple ≡ arena.now.width }
     requires row { IsGoing d row.now }
@@ -298,9 +307,12 @@ fn all_parts<L: Ledger>(
     requires node { cell_at arena.now.now below.now.node.0 ≡ Some below.now.cell }
     requires last { IsLastAny below.now.cell dim }
     requires dim { dim < length below.now.cell }
-    requires planned { (v q : ℕ) (w : _) → slice_index_or row.now.tuple dim None ≡ Some v → closure_in (source_before d) (with_value below.now.cell dim v) ≡ Some w → cell_at arena.now.now q ≡ Some w → IsRest d.measures (rows_after d) w (after_in plan.now.entries q) }
+    requires planned { (v q : ℕ) (w : _) → slice_index_or row.now.tuple dim None ≡ Some v →
+        closure_in (source_before d) (with_value below.now.cell dim v) ≡ Some w → cell_at arena.now.now q ≡ Some w →
+        IsRest d.measures (rows_after d) w (after_in plan.now.entries q) }
     ensures rest { IsRest d.measures (rows_after d) below.now.cell result }
-    ensures steps { (q : ℕ) → cell_at arena.now.now q ≡ Some (keep dim below.now.cell) → steps.new ≤ steps.old + ((3 * length below.now.cell + 4) + (4 * length below.now.cell + 7) * length (record_at arena.now.now q).edges) }
+    ensures steps { (q : ℕ) → cell_at arena.now.now q ≡ Some (cell_front dim below.now.cell) →
+        steps.new ≤ steps.old + ((3 * length below.now.cell + 4) + (4 * length below.now.cell + 7) * length (record_at arena.now.now q).edges) }
 {
     let class = class_of(arena, row, below, steps);
     let front = front_at(arena, &below.cell, dim, below.node, steps);
@@ -317,15 +329,19 @@ pub(crate) fn class_after<L: Ledger>(
     steps: &mut Steps<L>,
 ) -> Option<Rest>
     ghost d: { Deletion }
-    requires tree { IsFrom arena.now.width arena.now.now (source_before d) }
+    requires tree { IsTreeOf arena.now.width arena.now.now (source_before d) }
     requires long { length below.now.cell ≡ arena.now.width }
     requires tuple { length row.now.tuple ≡ arena.now.width }
     requires row { IsGoing d row.now }
     requires class { IsClass d below.now.cell }
     requires node { cell_at arena.now.now below.now.node.0 ≡ Some below.now.cell }
-    requires planned { (i v q : ℕ) (w : _) → slice_get below.now.cell i ≡ Some None → slice_index_or row.now.tuple i None ≡ Some v → closure_in (source_before d) (with_value below.now.cell i v) ≡ Some w → cell_at arena.now.now q ≡ Some w → IsRest d.measures (rows_after d) w (after_in plan.now.entries q) }
+    requires planned { (i v q : ℕ) (w : _) → slice_get below.now.cell i ≡ Some None → slice_index_or row.now.tuple i None ≡ Some v →
+        closure_in (source_before d) (with_value below.now.cell i v) ≡ Some w → cell_at arena.now.now q ≡ Some w →
+        IsRest d.measures (rows_after d) w (after_in plan.now.entries q) }
     ensures rest { IsRest d.measures (rows_after d) below.now.cell result }
-    ensures steps { (list : List Below) → AreBelow arena.now.now row.now.tuple (length row.now.tuple) list → steps.new ≤ steps.old + ((3 * length below.now.cell + 4) + (4 * length below.now.cell + 7) * front_labels arena.now.now list below.now.cell (last_any_of below.now.cell)) }
+    ensures steps { (list : List Below) → AreBelow arena.now.now row.now.tuple (length row.now.tuple) list →
+        steps.new ≤ steps.old + ((3 * length below.now.cell + 4) + (4 * length below.now.cell + 7) * front_labels arena.now.now list below.now.cell
+        (last_any_of below.now.cell)) }
 {
     match last_any(&below.cell) {
         Some(dim) => all_parts(arena, row, plan, below, dim, steps),

@@ -4,12 +4,12 @@ ghost use Rattle.std.specs.Option.{option_map};
 ghost use Rattle.std.specs.Ordering.{eq_by_cmp, nat_cmp};
 ghost use Rattle.aggregates.specs.Views.{agg_in};
 ghost use Rattle.cube_defs.specs.Cell as cells;
-ghost use Rattle.cube_defs.specs.Cell.{cell_of, keep, leq};
+ghost use Rattle.cube_defs.specs.Cell.{cell_of, cell_front, leq};
 ghost use Rattle.cube_defs.specs.Rows.{closure};
 ghost use Rattle.cube_defs.specs.Tree.{cell_at};
 ghost use Rattle.cube_laws.specs.Total.{agg_at};
 ghost use Rattle.qc_arena.specs.Seen.{number};
-ghost use Rattle.tree_search.specs.Found.{IsFrom, IsTree, Names};
+ghost use Rattle.tree_search.specs.Found.{IsTreeOf, IsTree, IsNumberOfCell};
 ghost use Rattle.batch_delete.specs.declared.below.Below.{Below};
 ghost use Rattle.batch_delete.specs.Below.{AreBelow};
 ghost use Rattle.batch_delete.specs.Plan.{after_in, front_labels, heir_in, last_any_of, planning};
@@ -94,14 +94,16 @@ fn rest_of<L: Ledger>(
     steps: &mut Steps<L>,
 ) -> Option<Rest>
     ghost d: { Deletion }
-    requires tree { IsFrom arena.now.width arena.now.now (source_before d) }
+    requires tree { IsTreeOf arena.now.width arena.now.now (source_before d) }
     requires tuple { length row.now.tuple ≡ arena.now.width }
     requires row { IsGoing d row.now }
     requires cell { cell_at arena.now.now below.now.node.0 ≡ Some below.now.cell }
     requires low { leq nat_eq below.now.cell row.now.tuple ≡ true }
     requires planned { AreGreaterPlanned d arena.now.now row.now.tuple below.now.cell plan.now.entries }
     ensures rest { IsRest d.measures (rows_after d) below.now.cell result }
-    ensures steps { (list : List Below) → AreBelow arena.now.now row.now.tuple (length row.now.tuple) list → steps.new ≤ steps.old + ((3 * length row.now.tuple + 5) + (4 * length row.now.tuple + 7) * front_labels arena.now.now list below.now.cell (last_any_of below.now.cell)) }
+    ensures steps { (list : List Below) → AreBelow arena.now.now row.now.tuple (length row.now.tuple) list →
+        steps.new ≤ steps.old + ((3 * length row.now.tuple + 5) + (4 * length row.now.tuple + 7) * front_labels arena.now.now list below.now.cell
+        (last_any_of below.now.cell)) }
 {
     match arena.forced(below.node, steps) {
         Some(forced) => after_of(plan, forced.child),
@@ -118,11 +120,12 @@ fn heir_at<L: Ledger>(
     steps: &mut Steps<L>,
 ) -> Option<NodeNo>
     ghost d: { Deletion }
-    requires tree { IsFrom arena.now.width arena.now.now (source_before d) }
+    requires tree { IsTreeOf arena.now.width arena.now.now (source_before d) }
     requires cell { cell_at arena.now.now below.now.node.0 ≡ Some below.now.cell }
     requires long { length below.now.cell ≡ arena.now.width }
     requires after { IsRest d.measures (rows_after d) below.now.cell after.now }
-    ensures heir { Names arena.now.now (option_map number result) (option_map (keep (cells.depth below.now.cell)) (closure (eq_by_cmp nat_cmp) (rows_after d) below.now.cell)) }
+    ensures heir { IsNumberOfCell arena.now.now (option_map number result)
+        (option_map (cell_front (cells.depth below.now.cell)) (closure (eq_by_cmp nat_cmp) (rows_after d) below.now.cell)) }
     ensures steps { steps.new ≤ steps.old + (length below.now.cell + 1) }
 {
     match after {
@@ -146,15 +149,17 @@ fn fate_of<L: Ledger>(
     steps: &mut Steps<L>,
 ) -> Fate
     ghost d: { Deletion }
-    requires tree { IsFrom arena.now.width arena.now.now (source_before d) }
+    requires tree { IsTreeOf arena.now.width arena.now.now (source_before d) }
     requires tuple { length row.now.tuple ≡ arena.now.width }
     requires row { IsGoing d row.now }
     requires cell { cell_at arena.now.now below.now.node.0 ≡ Some below.now.cell }
     requires low { leq nat_eq below.now.cell row.now.tuple ≡ true }
     requires planned { AreGreaterPlanned d arena.now.now row.now.tuple below.now.cell plan.now.entries }
     ensures after { IsRest d.measures (rows_after d) below.now.cell result.after }
-    ensures heir { Names arena.now.now (option_map number result.heir) (option_map (keep (cells.depth below.now.cell)) (closure (eq_by_cmp nat_cmp) (rows_after d) below.now.cell)) }
-    ensures steps { (list : List Below) → AreBelow arena.now.now row.now.tuple (length row.now.tuple) list → steps.new ≤ steps.old + (4 * length row.now.tuple + 7) * (1 + front_labels arena.now.now list below.now.cell (last_any_of below.now.cell)) }
+    ensures heir { IsNumberOfCell arena.now.now (option_map number result.heir)
+        (option_map (cell_front (cells.depth below.now.cell)) (closure (eq_by_cmp nat_cmp) (rows_after d) below.now.cell)) }
+    ensures steps { (list : List Below) → AreBelow arena.now.now row.now.tuple (length row.now.tuple) list →
+        steps.new ≤ steps.old + (4 * length row.now.tuple + 7) * (1 + front_labels arena.now.now list below.now.cell (last_any_of below.now.cell)) }
 {
     let after = rest_of(arena, row, plan, below, steps);
     let heir = heir_at(arena, below, &after, steps);
@@ -183,14 +188,15 @@ pub(crate) fn plan_all<L: Ledger>(
     steps: &mut Steps<L>,
 ) -> Result<IndexMap<u32, Fate>, Memory>
     ghost d: { Deletion }
-    requires tree { IsFrom arena.now.width arena.now.now (source_before d) }
+    requires tree { IsTreeOf arena.now.width arena.now.now (source_before d) }
     requires tuple { length tuple.now ≡ arena.now.width }
     requires row { tuple.now ≡ cell_of d.r.tuple }
     requires below { AreBelow arena.now.now tuple.now (length tuple.now) list.now.items }
     requires twins { option_map agg_in twins ≡ agg_at (eq_by_cmp nat_cmp) d.measures (rows_after d) tuple.now }
     requires few { length (rows_before d) ≤ MAX_ROWS }
     ensures planned { IfOk result (λ plan. ArePlanned d arena.now.now plan.entries list.now.items 0) }
-    ensures steps { IfOk result (λ plan. steps.new ≤ steps.old + (2 * length tuple.now + 3 + planning (length tuple.now) arena.now.now list.now.items list.now.items)) }
+    ensures steps { IfOk result (λ plan. steps.new ≤ steps.old +
+        (2 * length tuple.now + 3 + planning (length tuple.now) arena.now.now list.now.items list.now.items)) }
 {
     let row = row_of(arena, tuple, twins, steps);
     let mut plan = IndexMap::new(alloc);

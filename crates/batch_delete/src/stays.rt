@@ -2,7 +2,7 @@
 ghost use Rattle.std.specs.Ordering.{eq_by_cmp, nat_cmp};
 ghost use Rattle.std.specs.Prelude.{IfSome, None, Some, false, length, slice_get, true, ℕ, ◌+◌, ◌<◌, ◌≡◌};
 ghost use Rattle.cube_defs.specs.Rows.{cov};
-ghost use Rattle.tree_search.specs.Found.{IsFrom};
+ghost use Rattle.tree_search.specs.Found.{IsTreeOf};
 ghost use Rattle.batch_delete.specs.Going.{IsGoing, IsKnown};
 ghost use Rattle.batch_delete.specs.Rests.{Deletion, IsAbove, IsRest, rows_after, source_before};
 
@@ -18,7 +18,8 @@ fn is_new(tuple: &Cell, cell: &Cell, shared: &Cell, dim: u8) -> bool
     requires cell { dim < length cell.now }
     requires tuple { length tuple.now ≡ length cell.now }
     requires shared { length shared.now ≡ length cell.now }
-    ensures { result ≡ false → (v : ℕ) → slice_get cell.now dim ≡ Some None → slice_get shared.now dim ≡ Some (Some v) → slice_get tuple.now dim ≡ Some (Some v) }
+    ensures { result ≡ false → (v : ℕ) → slice_get cell.now dim ≡ Some None → slice_get shared.now dim ≡ Some (Some v) →
+        slice_get tuple.now dim ≡ Some (Some v) }
 {
     match cell.get(dim) {
         Entry::Is(_) => false,
@@ -62,14 +63,15 @@ pub(crate) fn settled(
     some: &Option<Rest>,
 ) -> Option<Rest>
     ghost d: { Deletion }
-    requires tree { IsFrom arena.now.width arena.now.now (source_before d) }
+    requires tree { IsTreeOf arena.now.width arena.now.now (source_before d) }
     requires long { length class.now.cell ≡ arena.now.width }
     requires tuple { length row.now.tuple ≡ arena.now.width }
     requires row { IsGoing d row.now }
     requires class { IsKnown d class.now }
     requires shared { IfSome some.now (λ rest. length rest.shared ≡ length class.now.cell) }
     requires above { IfSome some.now (λ rest. IsAbove d class.now.cell rest.shared) }
-    requires all { IfSome some.now (λ rest. rest.agg.count ≡ length (cov (eq_by_cmp nat_cmp) (rows_after d) class.now.cell) → IsRest d.measures (rows_after d) class.now.cell (Some rest)) }
+    requires all { IfSome some.now (λ rest. rest.agg.count ≡ length (cov (eq_by_cmp nat_cmp) (rows_after d) class.now.cell) →
+        IsRest d.measures (rows_after d) class.now.cell (Some rest)) }
     ensures rest { IfSome result (λ rest. IsRest d.measures (rows_after d) class.now.cell (Some rest)) }
 {
     match some {

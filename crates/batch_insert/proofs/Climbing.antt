@@ -6,20 +6,20 @@ use Rattle.std.specs.Prelude.{IfSome, IfNone}
 use Rattle.std.specs.Cmp.{nat_cmp_total}
 use Rattle.std.specs.FinMap as map
 use Rattle.std.specs.Option.{option_map, option_and_then}
-use Rattle.cube_defs.specs.Cell.{Cell, depth, keep, leq, mask, meet, upto}
+use Rattle.cube_defs.specs.Cell.{Cell, depth, cell_front, leq, mask, meet, upto}
 use Rattle.cube_defs.specs.Tree.{Tree, cell_at}
 use Rattle.std.specs.Ordering.{eq_by_cmp}
 use Rattle.cube_defs.specs.Cell as tuples
-use Rattle.cube_defs.specs.Rows.{meet_next}
-use Rattle.cube_laws.proofs.Cells.{nat_equality, meet_comm, meet_of_leq, meet_right, keep-leq, length-keep, length-meet}
+use Rattle.cube_defs.specs.Rows.{meet_after}
+use Rattle.cube_laws.proofs.Cells.{nat_equality, meet_comm, meet_of_leq, meet_right, cell_front-leq, length-cell_front, length-meet}
 use Rattle.cube_laws.proofs.Orders.{one_test}
 use Rattle.cell_core.specs.declared.cell.NodeNo.{NodeNo}
 use Rattle.qc_arena.specs.Map.{Arena}
 use Rattle.qc_arena.specs.Seen.{number, record_at}
-use Rattle.tree_laws.specs.Labels.{moved}
+use Rattle.tree_laws.specs.Labels.{target_after_row}
 use Rattle.tree_laws.specs.Walk.{last_label}
 use Rattle.tree_laws.proofs.Climbs.{label_none, label_some, parent_is}
-use Rattle.tree_laws.proofs.Fronts.{depth-keep-le, get-keep, keep-meet}
+use Rattle.tree_laws.proofs.Fronts.{depth-cell_front-le, get-cell_front, cell_front-meet}
 use Rattle.tree_laws.proofs.Lists.{some_same, there}
 use Rattle.tree_search.proofs.Climbed as climbed
 use Rattle.tree_search.proofs.Walked.{cell_of, cell_there, there_is}
@@ -54,16 +54,16 @@ module _ (t : Cell ℕ) (a : Arena) (ready : IsReady a) (wide : length t ≡ a.w
 
     pub above : (o : Option NodeNo) (x : NodeNo) → option_map number o ≡ (record_at a.now k).parent → o ≡ Some x → IsAbove k j v x.0
     above o x p q =
-        let up : option_map (cell_at a.now) (record_at a.now k).parent ≡ Some (Some (keep j (record_at a.now k).cell))
+        let up : option_map (cell_at a.now) (record_at a.now k).parent ≡ Some (Some (cell_front j (record_at a.now k).cell))
         = parent_is nat_cmp_total map.nat_cmp-IsAntisymmetric a.width ready.tree.0.measures ready.tree.0.rows ready.tree.1.wide a.now ready.tree.1.canonical k (record_at a.now k) (there_is a.now k h) j label.0 in
-        let is : cell_at a.now x.0 ≡ Some (keep j (record_at a.now k).cell)
+        let is : cell_at a.now x.0 ≡ Some (cell_front j (record_at a.now k).cell)
         = some_same (sym (ap (λ y. option_map (cell_at a.now) (option_map number y)) q) ∙ ap (option_map (cell_at a.now)) p ∙ up) in
-        let own : (record_at a.now x.0).cell ≡ keep j (record_at a.now k).cell = cell_of a.now x.0 (keep j (record_at a.now k).cell) is in
+        let own : (record_at a.now x.0).cell ≡ cell_front j (record_at a.now k).cell = cell_of a.now x.0 (cell_front j (record_at a.now k).cell) is in
         record {
-          there = there a.now x.0 (keep j (record_at a.now k).cell) is;
+          there = there a.now x.0 (cell_front j (record_at a.now k).cell) is;
           common = last_mask (record_at a.now k).cell t j v label.0 label.1 (long_at k h) ∙ ap (λ c. mask (meet nat_eq c t) + bit_for t j v) (sym own);
           below = last_leq (record_at a.now k).cell t j v label.0 label.1 (long_at k h) ∙ ap (λ c. agrees t j v && leq nat_eq c t) (sym own);
-          shallower = omega (arith, ap depth own, depth-keep-le j (record_at a.now k).cell, label.0);
+          shallower = omega (arith, ap depth own, depth-cell_front-le j (record_at a.now k).cell, label.0);
         }
 
 has_bit : (b : Bool) (j n : ℕ) → n ≡ (if b then 2 ^ j else 0) → not (nat_eq n 0) ≡ b
@@ -112,32 +112,21 @@ module _ (t : Cell ℕ) (a : Arena) (ready : IsReady a) (wide : length t ≡ a.w
   shared_there None k m own e h = cc
   shared_there (Some x) k m own e h = at_chain k.0 m own (subst (λ (y : NodeNo). Shares t a.now m own y.0) (some_same e) h)
 
-  pub shares_chain : (n : ℕ) (o : Option NodeNo) (k : NodeNo) (m values : ℕ) (own is_own : Bool) → IsSome (map.get a.now n) → o ≡ Some k → IfSome o (λ x. Shares t a.now m is_own x.0) → values + mask (meet nat_eq (record_at a.now k.0).cell t) ≡ mask (meet nat_eq (record_at a.now n).cell t)
-      → leq nat_eq (record_at a.now n).cell t ≡ (own && leq nat_eq (record_at a.now k.0).cell t) → Shares t a.now (values + m) (own && is_own) n
-  shares_chain n o k m values own is_own there e s h b =
-      let c = shared_there o k m is_own e s in
-      record {
-        cell = (record_at a.now n).cell;
-        at = cell_there a.now n there;
-        common = sym h ∙ ap (λ x. values + x) c.0;
-        below = b ∙ ap (λ x. own && x) c.1;
-      }
-
 -- where a label leads
 abbrev pub target : Cell ℕ → Tree ℕ → ℕ → Option NodeNo → Cell ℕ
-target t tree i o = moved nat_eq (option_and_then (λ (k : NodeNo). cell_at tree k.0) o) t i
+target t tree i o = target_after_row nat_eq (option_and_then (λ (k : NodeNo). cell_at tree k.0) o) t i
 
 module _ (t : Cell ℕ) (tree : Tree ℕ) (i m : ℕ) (own : Bool) where
-  met_is : (o : Option NodeNo) (k : NodeNo) → o ≡ Some k → (s : Shares t tree m own k.0) → moved nat_eq (option_and_then (λ k. cell_at tree k.0) o) t i ≡ meet nat_eq s.cell t
-  met_is o k is s = ap (λ x. moved nat_eq x t i) (ap (option_and_then (λ (k : NodeNo). cell_at tree k.0)) is ∙ s.at)
+  met_is : (o : Option NodeNo) (k : NodeNo) → o ≡ Some k → (s : Shares t tree m own k.0) → target_after_row nat_eq (option_and_then (λ k. cell_at tree k.0) o) t i ≡ meet nat_eq s.cell t
+  met_is o k is s = ap (λ x. target_after_row nat_eq x t i) (ap (option_and_then (λ (k : NodeNo). cell_at tree k.0)) is ∙ s.at)
 
-  pub target_mask : (o : Option NodeNo) (k : NodeNo) → o ≡ Some k → Shares t tree m own k.0 → m ≡ mask (moved nat_eq (option_and_then (λ k. cell_at tree k.0) o) t i)
+  pub target_mask : (o : Option NodeNo) (k : NodeNo) → o ≡ Some k → Shares t tree m own k.0 → m ≡ mask (target_after_row nat_eq (option_and_then (λ k. cell_at tree k.0) o) t i)
   target_mask o k is s = sym s.common ∙ ap mask (sym (met_is o k is s))
 
-  pub target_front : (o : Option NodeNo) → o ≡ None → m ≡ mask (upto t i) → m ≡ mask (moved nat_eq (option_and_then (λ k. cell_at tree k.0) o) t i)
-  target_front o is e = e ∙ ap (λ x. mask (moved nat_eq (option_and_then (λ (k : NodeNo). cell_at tree k.0) x) t i)) (sym is)
+  pub target_front : (o : Option NodeNo) → o ≡ None → m ≡ mask (upto t i) → m ≡ mask (target_after_row nat_eq (option_and_then (λ k. cell_at tree k.0) o) t i)
+  target_front o is e = e ∙ ap (λ x. mask (target_after_row nat_eq (option_and_then (λ (k : NodeNo). cell_at tree k.0) x) t i)) (sym is)
 
-  pub target_found : (o : Option NodeNo) → IfSome o (λ k. Shares t tree m own k.0) → IfNone o (own ≡ false) → own ≡ true → IsFound tree o (moved nat_eq (option_and_then (λ k. cell_at tree k.0) o) t i)
+  pub target_found : (o : Option NodeNo) → IfSome o (λ k. Shares t tree m own k.0) → IfNone o (own ≡ false) → own ≡ true → IsFound tree o (target_after_row nat_eq (option_and_then (λ k. cell_at tree k.0) o) t i)
   target_found None h n e = true≢false (sym e ∙ n)
   target_found (Some k) h n e = h.at ∙ ap (λ x. Some x) (sym (met_is (Some k) k refl h ∙ meet_of_leq nat_equality h.cell t (h.below ∙ e)))
 
@@ -145,12 +134,12 @@ module _ (t : Cell ℕ) (tree : Tree ℕ) (i m : ℕ) (own : Bool) where
   target_apart None h e = tt
   target_apart (Some k) h e = (h.cell, h.at, subst (λ eq. leq eq h.cell t ≡ false) (sym one_test) (h.below ∙ e))
 
-  pub target_below : (o : Option NodeNo) → IfSome o (λ k. Shares t tree m own k.0) → leq nat_eq (moved nat_eq (option_and_then (λ k. cell_at tree k.0) o) t i) t ≡ true
-  target_below None h = keep-leq nat_equality (suc i) t
+  pub target_below : (o : Option NodeNo) → IfSome o (λ k. Shares t tree m own k.0) → leq nat_eq (target_after_row nat_eq (option_and_then (λ k. cell_at tree k.0) o) t i) t ≡ true
+  target_below None h = cell_front-leq nat_equality (suc i) t
   target_below (Some k) h = ap (λ x. leq nat_eq x t) (met_is (Some k) k refl h) ∙ meet_right nat_equality h.cell t
 
-pub target_long : (t : Cell ℕ) (a : Arena) (ready : IsReady a) (wide : length t ≡ a.width) (i m : ℕ) (own : Bool) (o : Option NodeNo) → IfSome o (λ k. Shares t a.now m own k.0) → length (moved nat_eq (option_and_then (λ k. cell_at a.now k.0) o) t i) ≡ length t
-target_long t a ready wide i m own None h = length-keep (suc i) t
+pub target_long : (t : Cell ℕ) (a : Arena) (ready : IsReady a) (wide : length t ≡ a.width) (i m : ℕ) (own : Bool) (o : Option NodeNo) → IfSome o (λ k. Shares t a.now m own k.0) → length (target_after_row nat_eq (option_and_then (λ k. cell_at a.now k.0) o) t i) ≡ length t
+target_long t a ready wide i m own None h = length-cell_front (suc i) t
 target_long t a ready wide i m own (Some k) h =
     let l : length h.cell ≡ length t = ap length (sym (cell_of a.now k.0 h.cell h.at)) ∙ long_at t a ready wide k.0 (there a.now k.0 h.cell h.at) in
     ap length (met_is t a.now i m own (Some k) k refl h) ∙ length-meet nat_eq h.cell t l ∙ l
@@ -170,14 +159,14 @@ pub shares_moved : (t : Cell ℕ) (a : Arena) (wide : length t ≡ a.width) (c :
 shares_moved t a wide c p i m v w k n masked at o leads next front =
     let s = chain_some t a wide c p i k leads in
     let x = next s.0 s.1 in
-    let met : keep (suc i) (meet (eq_by_cmp nat_cmp) t s.0) ≡ p = ap (λ y. keep (suc i) (meet_next (eq_by_cmp nat_cmp) t y)) (sym s.1) ∙ front in
-    let turned : meet nat_eq (keep (suc i) s.0) t ≡ p
-    = sym (keep-meet nat_equality (suc i) s.0 t) ∙ ap (keep (suc i)) (meet_comm nat_equality s.0 t) ∙ ap (λ eq. keep (suc i) (meet eq t s.0)) (sym one_test) ∙ met in
+    let met : cell_front (suc i) (meet (eq_by_cmp nat_cmp) t s.0) ≡ p = ap (λ y. cell_front (suc i) (meet_after (eq_by_cmp nat_cmp) t y)) (sym s.1) ∙ front in
+    let turned : meet nat_eq (cell_front (suc i) s.0) t ≡ p
+    = sym (cell_front-meet nat_equality (suc i) s.0 t) ∙ ap (cell_front (suc i)) (meet_comm nat_equality s.0 t) ∙ ap (λ eq. cell_front (suc i) (meet eq t s.0)) (sym one_test) ∙ met in
     record {
-      cell = keep (suc i) s.0;
+      cell = cell_front (suc i) s.0;
       at = x.1;
       common = ap mask turned ∙ masked;
-      below = apart_at (keep (suc i) s.0) t i v w (get-keep i (suc i) s.0 (omega arith) ∙ x.0) (entry_is t i v at) o;
+      below = apart_at (cell_front (suc i) s.0) t i v w (get-cell_front i (suc i) s.0 (omega arith) ∙ x.0) (entry_is t i v at) o;
     }
 
 -- a tree of some rows is one to which a row comes

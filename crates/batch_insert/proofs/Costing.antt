@@ -9,7 +9,7 @@ use Rattle.std.specs.Ordering.{eq_by_cmp}
 use Rattle.std.specs.Option.{option_map}
 use Rattle.std.specs.FinMap as finmap
 use Rattle.std.proofs.lemmas.List.{length-map}
-use Rattle.cube_defs.specs.Cell.{Cell, cell_eq, cell_of, depth, keep, leq, with_value}
+use Rattle.cube_defs.specs.Cell.{Cell, cell_eq, cell_of, depth, cell_front, leq, with_value}
 use Rattle.cube_defs.specs.Rows as defs
 use Rattle.cube_defs.specs.Tree.{Edge, Node, node_of, nodes, size_below}
 use Rattle.cube_laws.specs.Lists.{Among}
@@ -19,7 +19,7 @@ use Rattle.cube_laws.proofs.Nodes.{is_node-is, nodes-is}
 use Rattle.cube_laws.proofs.Orders.{code_equality}
 use Rattle.tree_laws.specs.Labels.{record_of}
 use Rattle.tree_laws.proofs.Edges.{edges-are}
-use Rattle.tree_laws.proofs.Fronts.{depth-with_value, keep-beyond, keep-keep, keep-with_value}
+use Rattle.tree_laws.proofs.Fronts.{depth-with_value, cell_front-beyond, cell_front-cell_front, cell_front-with_value}
 use Rattle.tree_laws.proofs.Lists.{some_same}
 use Rattle.tree_laws.proofs.Sums.{EachOnce, sum_ones, sum_within}
 use Rattle.qc_arena.specs.Map.{Arena, Known}
@@ -90,32 +90,32 @@ module _ (t : Cell ℕ) (a : Arena) (wide : length t ≡ a.width) (c : Case t a)
   pub own_cost : (p : Cell ℕ) (i : ℕ) → IsFront c p (depth p) → depth p ≤ i → weight c p ≤ cost_below c p i
   unfolding cost_below
   own_cost p i front deep =
-      let f : Cell ℕ → ℕ = λ q. cond (cell_eq (eq_by_cmp nat_cmp) (keep i q) p) (weight c q) 0 in
+      let f : Cell ℕ → ℕ = λ q. cond (cell_eq (eq_by_cmp nat_cmp) (cell_front i q) p) (weight c q) 0 in
       let le : sum_by f (p ∷ []) ≤ sum_by f (nodes_with c) = sum_within f (p ∷ []) (nodes_with c) ((λ m. m), tt) (λ q m. elim m [ inl e ↦ subst (λ x. Among x (nodes_with c)) (sym e) (listed p front) | inr n ↦ absurd n ]) in
-      let here : f p ≡ weight c p = cond-true _ (weight c p) 0 (subst (λ x. cell_eq (eq_by_cmp nat_cmp) x p ≡ true) (sym (keep-beyond i p deep)) (cell_eq-same code_equality p)) in
+      let here : f p ≡ weight c p = cond-true _ (weight c p) 0 (subst (λ x. cell_eq (eq_by_cmp nat_cmp) x p ≡ true) (sym (cell_front-beyond i p deep)) (cell_eq-same code_equality p)) in
       omega (arith, le, here, sum_by-cons f p [])
 
   -- the costs of the nodes with t's value in a dimension, and of those with none there
   pub branch_cost : (p : Cell ℕ) (i v : ℕ) → depth p ≤ i → i < length p → cost_below c p (suc i) + cost_below c (with_value p i v) (suc i) ≤ cost_below c p i
   unfolding cost_below
-  branch_cost p i v d l = sum_two (λ q. cond (cell_eq (eq_by_cmp nat_cmp) (keep (suc i) q) p) (weight c q) 0) (λ q. cond (cell_eq (eq_by_cmp nat_cmp) (keep (suc i) q) (with_value p i v)) (weight c q) 0) (λ q. cond (cell_eq (eq_by_cmp nat_cmp) (keep i q) p) (weight c q) 0) (nodes_with c)
-      (λ q. both_cases (cell_eq (eq_by_cmp nat_cmp) (keep (suc i) q) p) (cell_eq (eq_by_cmp nat_cmp) (keep (suc i) q) (with_value p i v)) (cell_eq (eq_by_cmp nat_cmp) (keep i q) p) (weight c q)
-      (λ h. is q p (sym (keep-keep i (suc i) q (omega arith)) ∙ ap (keep i) (cell_eq-exact code_equality (keep (suc i) q) p h) ∙ keep-beyond i p d))
-      (λ h. is q p (sym (keep-keep i (suc i) q (omega arith)) ∙ ap (keep i) (cell_eq-exact code_equality (keep (suc i) q) (with_value p i v) h) ∙ keep-with_value p i v d))
-      (λ h k. let s : p ≡ with_value p i v = sym (cell_eq-exact code_equality (keep (suc i) q) p h) ∙ cell_eq-exact code_equality (keep (suc i) q) (with_value p i v) k in
+  branch_cost p i v d l = sum_two (λ q. cond (cell_eq (eq_by_cmp nat_cmp) (cell_front (suc i) q) p) (weight c q) 0) (λ q. cond (cell_eq (eq_by_cmp nat_cmp) (cell_front (suc i) q) (with_value p i v)) (weight c q) 0) (λ q. cond (cell_eq (eq_by_cmp nat_cmp) (cell_front i q) p) (weight c q) 0) (nodes_with c)
+      (λ q. both_cases (cell_eq (eq_by_cmp nat_cmp) (cell_front (suc i) q) p) (cell_eq (eq_by_cmp nat_cmp) (cell_front (suc i) q) (with_value p i v)) (cell_eq (eq_by_cmp nat_cmp) (cell_front i q) p) (weight c q)
+      (λ h. is q p (sym (cell_front-cell_front i (suc i) q (omega arith)) ∙ ap (cell_front i) (cell_eq-exact code_equality (cell_front (suc i) q) p h) ∙ cell_front-beyond i p d))
+      (λ h. is q p (sym (cell_front-cell_front i (suc i) q (omega arith)) ∙ ap (cell_front i) (cell_eq-exact code_equality (cell_front (suc i) q) (with_value p i v) h) ∙ cell_front-with_value p i v d))
+      (λ h k. let s : p ≡ with_value p i v = sym (cell_eq-exact code_equality (cell_front (suc i) q) p h) ∙ cell_eq-exact code_equality (cell_front (suc i) q) (with_value p i v) k in
       absurd (omega (arith, d, depth-with_value p i v d l, ap depth s))))
     where
-      is : (q p : Cell ℕ) → keep i q ≡ p → cell_eq (eq_by_cmp nat_cmp) (keep i q) p ≡ true
+      is : (q p : Cell ℕ) → cell_front i q ≡ p → cell_eq (eq_by_cmp nat_cmp) (cell_front i q) p ≡ true
       is q p e = subst (λ x. cell_eq (eq_by_cmp nat_cmp) x p ≡ true) (sym e) (cell_eq-same code_equality p)
 
   all_cost : (p : Cell ℕ) (i : ℕ) → cost_below c p i ≤ sum_by (weight c) (nodes_with c)
   unfolding cost_below
-  all_cost p i = sum_le (λ q. cond (cell_eq (eq_by_cmp nat_cmp) (keep i q) p) (weight c q) 0) (weight c) (nodes_with c) (λ q. cond_le (cell_eq (eq_by_cmp nat_cmp) (keep i q) p) (weight c q))
+  all_cost p i = sum_le (λ q. cond (cell_eq (eq_by_cmp nat_cmp) (cell_front i q) p) (weight c q) 0) (weight c) (nodes_with c) (λ q. cond_le (cell_eq (eq_by_cmp nat_cmp) (cell_front i q) p) (weight c q))
 
   -- the labels that are copied are labels of the node with the row
   pub copy_within : (x : Copying) (is : IsCopyOf c x) → copy_cost a.now x ≤ 1 + 2 * edges_at c is.node
   copy_within x is =
-      let r = known a.now x.from.0 (keep is.dim is.upper) is.from in
+      let r = known a.now x.from.0 (cell_front is.dim is.upper) is.from in
       let le = no_more r.0.edges new (ascending r.0.edges (source_rises t a wide c is.node is.upper is.dim is.front is.closure x.from.0 r.0 r.1 r.2)) (λ y m. has r.0 r.1 r.2 y m) in
       let same : length (record_at a.now x.from.0).edges ≡ length r.0.edges = ap (λ (n : Known). length n.edges) (record_known a.now x.from.0 r.0 r.1) in
       let here : edges_at c is.node ≡ length new = ap edges_of (ap (option_map (λ u. record_of nat_cmp 0 (c.xs ++ c.row ∷ c.ys) is.node u)) (new_is t a wide c is.node front)) in
@@ -127,7 +127,7 @@ module _ (t : Cell ℕ) (a : Arena) (wide : length t ≡ a.width) (c : Case t a)
       new : List (Edge ℕ (Cell ℕ))
       new = (record_of nat_cmp 0 (c.xs ++ c.row ∷ c.ys) is.node (new_closure c is.node)).edges
 
-      has : (r : Known) → finmap.get a.now x.from.0 ≡ Some r → r.cell ≡ keep is.dim is.upper → (y : Edge ℕ ℕ) → Among y r.edges → (z : Edge ℕ (Cell ℕ)) × Among z new × (y.dim ≡ z.dim) × (y.value ≡ z.value)
+      has : (r : Known) → finmap.get a.now x.from.0 ≡ Some r → r.cell ≡ cell_front is.dim is.upper → (y : Edge ℕ ℕ) → Among y r.edges → (z : Edge ℕ (Cell ℕ)) × Among z new × (y.dim ≡ z.dim) × (y.value ≡ z.value)
       has r g cell y m =
           let l = source_label t a wide c is.node is.upper is.dim is.front is.closure x.from.0 r g cell y m in
           let to : (q : Cell ℕ) × (new_lead c is.node y.dim y.value ≡ Some q) = elim (led_or_own t a wide c is.node y.dim y.value l.1 l.0) [ inl e ↦ (l.2, e ∙ l.4) | inr e ↦ (_, led_own t a wide c is.node y.dim y.value l.1 l.0 e) ] in (
@@ -181,8 +181,8 @@ module _ (t : Cell ℕ) (a : Arena) (wide : length t ≡ a.width) (c : Case t a)
       let node = (nodes-is nat_cmp_total finmap.nat_cmp-IsAntisymmetric a.width table (rows_wide t a wide c) q).0 m in
       go (defs.closure (eq_by_cmp nat_cmp) table q) refl ((is_node-is code_equality table q).0 node)
     where
-      go : (o : Option (Cell ℕ)) → defs.closure (eq_by_cmp nat_cmp) table q ≡ o → option_map (keep (depth q)) (defs.closure (eq_by_cmp nat_cmp) table q) ≡ Some q → (r : Node ℕ (Cell ℕ)) × (node_of nat_cmp 0 table q ≡ Some r) × (r.cell ≡ q)
-      go None e h = let z : None ≡ Some q = sym (ap (option_map (keep (depth q))) e) ∙ h in cc
+      go : (o : Option (Cell ℕ)) → defs.closure (eq_by_cmp nat_cmp) table q ≡ o → option_map (cell_front (depth q)) (defs.closure (eq_by_cmp nat_cmp) table q) ≡ Some q → (r : Node ℕ (Cell ℕ)) × (node_of nat_cmp 0 table q ≡ Some r) × (r.cell ≡ q)
+      go None e h = let z : None ≡ Some q = sym (ap (option_map (cell_front (depth q))) e) ∙ h in cc
       go (Some u) e h = (record_of nat_cmp 0 table q u, ap (option_map (λ u. record_of nat_cmp 0 table q u)) e, refl)
 
   size_is : sum_by (λ q. 1 + edges_at c q) (nodes_with c) ≡ size_below nat_cmp table c.row.tuple

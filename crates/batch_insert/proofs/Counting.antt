@@ -10,7 +10,7 @@ use Rattle.cube_defs.specs.Rows.{Row, is_node}
 use Rattle.cube_defs.specs.Tree.{Tree, cell_at, nodes}
 use Rattle.cube_laws.specs.Lists.{Among}
 use Rattle.cube_laws.proofs.Cells.{length-cell_of}
-use Rattle.cube_laws.proofs.Lists.{among_map}
+use Rattle.cube_laws.proofs.Lists.{among_map, none_some}
 use Rattle.cube_laws.proofs.Nodes.{nodes-is}
 use Rattle.cube_laws.proofs.OneRow.{node-insert}
 use Rattle.cube_laws.proofs.Orders.{code_equality}
@@ -27,10 +27,7 @@ use Rattle.batch_insert.proofs.Each.{flat_front, not_begun}
 use Rattle.batch_insert.proofs.Finished.{all_more}
 use Rattle.batch_insert.proofs.Keeping.{cell_known, known}
 use Rattle.batch_insert.proofs.Started.{node_of_front}
-use Rattle.tree_search.specs.Found.{IsFrom}
-
-none_some : {X : Type 0} {x : X} → None ≡ Some x → ⊥
-none_some z = cc
+use Rattle.tree_search.specs.Found.{IsTreeOf}
 
 -- a map of some nodes, each once, lacks a node
 module _ (rows : List (Row ℕ)) (dims : ℕ) (wide : AllByRecursion (λ row. length row.tuple ≡ dims) rows) (b : Tree ℕ) (each : (k : ℕ) (n : Known) → numbers.get b k ≡ Some n → is_node (eq_by_cmp nat_cmp) rows n.cell ≡ true)
@@ -105,5 +102,5 @@ module _ (t : Cell ℕ) (a : Arena) (wide : length t ≡ a.width) (c : Case t a)
       omega (arith, m, full)
 
 -- the nodes of a canonical tree
-pub fits_in : (dims measures max : ℕ) (rows : List (Row ℕ)) (b : Tree ℕ) → IsFrom dims b (record { measures = measures; rows = rows }) → numbers.len b ≤ max → length (nodes nat_cmp rows) ≤ max
+pub fits_in : (dims measures max : ℕ) (rows : List (Row ℕ)) (b : Tree ℕ) → IsTreeOf dims b (record { measures = measures; rows = rows }) → numbers.len b ≤ max → length (nodes nat_cmp rows) ≤ max
 fits_in dims measures max rows b from few = let n = nodes_counted nat_cmp_total numbers.nat_cmp-IsAntisymmetric dims measures rows from.wide b from.canonical in omega (arith, n, few)

@@ -6,7 +6,7 @@ use Rattle.cube_defs.specs.Cell.{Cell, depth, mask, one_deeper}
 use Rattle.cube_defs.specs.Tree.{Tree}
 use Rattle.cube_laws.specs.Lists.{Among}
 use Rattle.cube_laws.proofs.Lists.{among_append}
-use Rattle.tree_search.specs.Found.{IsFrom}
+use Rattle.tree_search.specs.Found.{IsTreeOf}
 use Rattle.qc_arena.specs.Map.{Arena}
 use Rattle.batch_insert.specs.declared.plan.Spot.{Spot}
 use Rattle.batch_insert.specs.declared.plan.Copying.{Copying}
@@ -19,7 +19,7 @@ use Rattle.batch_insert.specs.Kept.{IsClosed, Keeps}
 use Rattle.batch_insert.specs.Planned.{IsPlan}
 use Rattle.batch_insert.specs.Stages.{HasLabel, HaveCopied, HaveEnded, HaveSet, IsCopied, IsDone, LabelsStay}
 use Rattle.batch_insert.specs.Whole.{HasAll, IsCopyOf, IsEndFor, IsOwnOf}
-use Rattle.batch_insert.proofs.Finished.{finished, keep_none}
+use Rattle.batch_insert.proofs.Finished.{finished, cell_front_none}
 use Rattle.batch_insert.proofs.Fronts.{front_long}
 use Rattle.batch_insert.proofs.Owning.{set_stays}
 use Rattle.batch_insert.proofs.Started.{begun_stage}
@@ -117,7 +117,7 @@ flat_mask (Some v ∷ p) h = absurd (omega (arith, h))
 -- the whole plan
 module _ (t : Cell ℕ) (a : Arena) (wide : length t ≡ a.width) (c : Case t a) (plan : Plan) (parts : IsPlan t a plan) (has : HasAll c plan (replicate (length t) None) 0) (f : ℕ → Option ℕ) (b : Tree ℕ) where
   pub numbered : IsSome (f 0) → ((s : Spot) → Among s plan.spots.items → IsSome (f s.mask)) → (q : Cell ℕ) → IsFront c q (depth q) → IsSome (f (mask q))
-  numbered top spots q front = elim (has q front (keep_none q (length t) (front_long t a wide c q (depth q) front))).spot [
+  numbered top spots q front = elim (has q front (cell_front_none q (length t) (front_long t a wide c q (depth q) front))).spot [
     | inl flat ↦ subst (λ m. IsSome (f m)) (sym (flat_mask q flat)) top
     | inr s ↦ subst (λ m. IsSome (f m)) s.2 (spots s.0 s.1)
   ]
@@ -126,7 +126,7 @@ module _ (t : Cell ℕ) (a : Arena) (wide : length t ≡ a.width) (c : Case t a)
   stage_is begun top spots = begun_stage t a wide c b f begun (numbered top spots)
 
   pub all_done : (amounts : List ℤ) (e : Arena) → IsBegun c b f → IsSome (f 0) → ((s : Spot) → Among s plan.spots.items → IsSome (f s.mask)) → c.row.amounts ≡ amounts → c.measures ≡ length amounts
-      → IsDone t amounts f plan b e.now → Keeps t a e → IsClosed e → IsFrom a.width e.now (record { measures = c.measures; rows = c.xs ++ c.row ∷ c.ys })
+      → IsDone t amounts f plan b e.now → Keeps t a e → IsClosed e → IsTreeOf a.width e.now (record { measures = c.measures; rows = c.xs ++ c.row ∷ c.ys })
   all_done amounts e begun top spots same many done keeps shut =
       let start = begun_stage t a wide c b f begun (numbered top spots) in
       let owns : (x : Own) → Among x plan.owns.items → IsOwnOf c x = λ x m. all_among (λ y. (c : Case t a) → IsOwnOf c y) plan.owns.items parts.owns_right x m c in

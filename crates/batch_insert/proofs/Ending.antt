@@ -10,7 +10,7 @@ use Rattle.cube_defs.specs.Tree.{Edge, Tree, cell_at}
 use Rattle.cube_laws.specs.Total.{combine}
 use Rattle.cube_laws.proofs.OneRow.{agg-insert_alone, agg-insert_more}
 use Rattle.cube_laws.proofs.RowTotals.{aggs_add}
-use Rattle.cube_laws.proofs.Orders.{code_equality}
+use Rattle.cube_laws.proofs.Orders.{code_equality, leq_is}
 use Rattle.tree_laws.proofs.Fronts.{any_behind}
 use Rattle.tree_laws.proofs.Lists.{some_same}
 use Rattle.aggregates.specs.Rows.{agg_of_row}
@@ -24,7 +24,6 @@ use Rattle.batch_insert.specs.Cases.{Case, IsFront, new_closure, old_closure}
 use Rattle.batch_insert.specs.Planned.{sum_with}
 use Rattle.batch_insert.specs.Stages.{EdgesStay, HasEndOf, IsEnded, IsSound, IsStage}
 use Rattle.batch_insert.specs.Whole.{IsEndFor, IsLast}
-use Rattle.batch_insert.proofs.Assembled.{leq_is}
 use Rattle.batch_insert.proofs.Fronts.{front_deep, front_end, front_leq, front_long}
 use Rattle.batch_insert.proofs.Labelled.{covered}
 use Rattle.batch_insert.proofs.Naming.{below_with, long_with, same_mask}

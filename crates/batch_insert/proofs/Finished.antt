@@ -6,19 +6,19 @@ use Rattle.std.specs.Cmp.{nat_cmp_total}
 use Rattle.std.specs.Ordering.{eq_by_cmp}
 use Rattle.std.specs.Option.{option_map}
 use Rattle.std.specs.FinMap as map
-use Rattle.cube_defs.specs.Cell.{Cell, depth, keep, leq, mask, with_value}
+use Rattle.cube_defs.specs.Cell.{Cell, depth, cell_front, leq, mask, with_value}
 use Rattle.cube_defs.specs.Rows as defs
 use Rattle.cube_defs.specs.Tree.{Edge, cell_at, node_of, renamed}
 use Rattle.cube_laws.specs.Lists.{Among}
-use Rattle.cube_laws.proofs.Cells.{keep-leq, leq_trans, length-cell_of, length-keep}
+use Rattle.cube_laws.proofs.Cells.{cell_front-leq, leq_trans, length-cell_of, length-cell_front}
 use Rattle.cube_laws.proofs.Closures.{closure_some}
-use Rattle.cube_laws.proofs.Orders.{code_equality}
-use Rattle.tree_laws.specs.Labels.{moved}
+use Rattle.cube_laws.proofs.Orders.{code_equality, leq_is}
+use Rattle.tree_laws.specs.Labels.{target_after_row}
 use Rattle.tree_laws.proofs.Fronts.{leq-with_value}
-use Rattle.tree_laws.proofs.Leads.{led_from, upto-meet_next}
+use Rattle.tree_laws.proofs.Leads.{led_from, upto-meet_after}
 use Rattle.tree_laws.proofs.Lists.{some_same, some_there}
 use Rattle.tree_laws.proofs.OneRow.{chain_node}
-use Rattle.tree_search.specs.Found.{IsFrom}
+use Rattle.tree_search.specs.Found.{IsTreeOf}
 use Rattle.qc_arena.specs.Edges.{rises}
 use Rattle.qc_arena.specs.Map.{Arena, Known}
 use Rattle.qc_arena.specs.Seen.{label_lt, record_at}
@@ -30,7 +30,7 @@ use Rattle.batch_insert.specs.Cases.{Case, IsFront, new_closure, old_closure, ol
 use Rattle.batch_insert.specs.Kept.{IsClosed, Keeps}
 use Rattle.batch_insert.specs.Stages.{HasEndOf, HasLabel, IsCopied, IsEnded, IsSet, IsSound, IsStage, new_lead}
 use Rattle.batch_insert.specs.Whole.{HasAll, HasNode, IsOwnOf}
-use Rattle.batch_insert.proofs.Assembled.{IsBelowRight, assembled, leq_is}
+use Rattle.batch_insert.proofs.Assembled.{IsBelowRight, assembled}
 use Rattle.batch_insert.proofs.Coming.{front_told}
 use Rattle.tree_laws.proofs.EdgeLists.{Ascends, HasLabelOf, IsBefore, before_apart}
 use Rattle.batch_insert.proofs.Fronts.{front_before, front_deep, front_leq, front_long, le_or_lt, new_below, new_long}
@@ -66,11 +66,11 @@ label_once (z ∷ xs) h x y (inl m) (inr n) s = absurd (before_apart x y (subst 
 label_once (z ∷ xs) h x y (inr m) (inl n) s = absurd (before_apart y x (subst (λ w. IsBefore w x) (sym n) (h.0 x m)) (record { dim = sym s.dim; value = sym s.value }))
 label_once (z ∷ xs) h x y (inr m) (inr n) s = label_once xs h.1 x y m n s
 
-pub keep_none : (c : Cell ℕ) (n : ℕ) → length c ≡ n → keep zero c ≡ replicate n None
-keep_none [] zero e = refl
-keep_none [] (suc n) e = absurd (omega arith)
-keep_none (x ∷ c) zero e = absurd (omega arith)
-keep_none (x ∷ c) (suc n) e = ap (λ d. None ∷ d) (keep_none c n (omega arith))
+pub cell_front_none : (c : Cell ℕ) (n : ℕ) → length c ≡ n → cell_front zero c ≡ replicate n None
+cell_front_none [] zero e = refl
+cell_front_none [] (suc n) e = absurd (omega arith)
+cell_front_none (x ∷ c) zero e = absurd (omega arith)
+cell_front_none (x ∷ c) (suc n) e = ap (λ d. None ∷ d) (cell_front_none c n (omega arith))
 
 pub all_more : {X : Type 0} (P : X → Type 0) (xs ys : List X) (y : X) → AllByRecursion P (xs ++ ys) → P y → AllByRecursion P (xs ++ y ∷ ys)
 all_more P [] ys y h p = (p, h)
@@ -84,7 +84,7 @@ module _ (t : Cell ℕ) (a : Arena) (wide : length t ≡ a.width) (c : Case t a)
 
   module _ (k : ℕ) (n : Known) (h : map.get b.now k ≡ Some n) (front : IsFront c n.cell (depth n.cell)) (number : f (mask n.cell) ≡ Some k) where
     node : HasNode c plan n.cell
-    node = has n.cell front (keep_none n.cell (length t) (front_long t a wide c n.cell (depth n.cell) front))
+    node = has n.cell front (cell_front_none n.cell (length t) (front_long t a wide c n.cell (depth n.cell) front))
 
     sound : IsSound c (cell_at b.now) n
     sound = stage.sound k n h front
@@ -106,42 +106,42 @@ module _ (t : Cell ℕ) (a : Arena) (wide : length t ≡ a.width) (c : Case t a)
         let node : is.node ≡ n.cell = front_told t a wide c is.node n.cell (deep_front is.node y.0.dim is.front) front (is.dims ∙ y.2) in (
           s.1,
           subst (λ j. Among (record { dim = j; value = v; target = s.1 }) n.edges) y.3 (subst (λ w. Among (record { dim = y.0.dim; value = w; target = s.1 }) n.edges) val (subst (λ es. Among (record { dim = y.0.dim; value = s.2; target = s.1 }) es) same s.6)),
-          led s.1 y.0.target s.4 (sym (is.target v (ap (λ j. slice_index_or t j None) y.3 ∙ value)) ∙ ap (λ j. mask (moved (eq_by_cmp nat_cmp) (old_lead c is.node j v) t j)) y.3 ∙ ap (λ p. mask (moved (eq_by_cmp nat_cmp) (old_lead c p i v) t i)) node),
+          led s.1 y.0.target s.4 (sym (is.target v (ap (λ j. slice_index_or t j None) y.3 ∙ value)) ∙ ap (λ j. mask (target_after_row (eq_by_cmp nat_cmp) (old_lead c is.node j v) t j)) y.3 ∙ ap (λ p. mask (target_after_row (eq_by_cmp nat_cmp) (old_lead c p i v) t i)) node),
         )
       where
-        led : (l m : ℕ) → f m ≡ Some l → m ≡ mask (moved (eq_by_cmp nat_cmp) (old_lead c n.cell i v) t i) → cell_at b.now l ≡ new_lead c n.cell i v
+        led : (l m : ℕ) → f m ≡ Some l → m ≡ mask (target_after_row (eq_by_cmp nat_cmp) (old_lead c n.cell i v) t i) → cell_at b.now l ≡ new_lead c n.cell i v
         led l m target dims =
             let q = stage.nodes m l target in
-            let is : keep (suc i) (new_closure c (with_value n.cell i v)) ≡ moved (eq_by_cmp nat_cmp) (old_lead c n.cell i v) t i = upto-meet_next code_equality (old_closure c (with_value n.cell i v)) t i in
-            let low : leq (eq_by_cmp nat_cmp) (moved (eq_by_cmp nat_cmp) (old_lead c n.cell i v) t i) t ≡ true = subst (λ w. leq (eq_by_cmp nat_cmp) w t ≡ true) is (leq_trans code_equality (keep (suc i) (new_closure c (with_value n.cell i v))) (new_closure c (with_value n.cell i v)) t (keep-leq code_equality (suc i) (new_closure c (with_value n.cell i v))) (new_below t a wide c (with_value n.cell i v))) in
-            let long : length (moved (eq_by_cmp nat_cmp) (old_lead c n.cell i v) t i) ≡ length t = ap length (sym is) ∙ length-keep (suc i) (new_closure c (with_value n.cell i v)) ∙ new_long t a wide c (with_value n.cell i v) in
+            let is : cell_front (suc i) (new_closure c (with_value n.cell i v)) ≡ target_after_row (eq_by_cmp nat_cmp) (old_lead c n.cell i v) t i = upto-meet_after code_equality (old_closure c (with_value n.cell i v)) t i in
+            let low : leq (eq_by_cmp nat_cmp) (target_after_row (eq_by_cmp nat_cmp) (old_lead c n.cell i v) t i) t ≡ true = subst (λ w. leq (eq_by_cmp nat_cmp) w t ≡ true) is (leq_trans code_equality (cell_front (suc i) (new_closure c (with_value n.cell i v))) (new_closure c (with_value n.cell i v)) t (cell_front-leq code_equality (suc i) (new_closure c (with_value n.cell i v))) (new_below t a wide c (with_value n.cell i v))) in
+            let long : length (target_after_row (eq_by_cmp nat_cmp) (old_lead c n.cell i v) t i) ≡ length t = ap length (sym is) ∙ length-cell_front (suc i) (new_closure c (with_value n.cell i v)) ∙ new_long t a wide c (with_value n.cell i v) in
             q.1
-            ∙ ap (λ w. Some w) (same_mask q.0 (moved (eq_by_cmp nat_cmp) (old_lead c n.cell i v) t i) t (sym (leq_is q.0 t) ∙ front_leq t a wide c q.0 (depth q.0) q.3) (sym (leq_is (moved (eq_by_cmp nat_cmp) (old_lead c n.cell i v) t i) t) ∙ low) (front_long t a wide c q.0 (depth q.0) q.3 ∙ sym long) (q.2 ∙ dims))
+            ∙ ap (λ w. Some w) (same_mask q.0 (target_after_row (eq_by_cmp nat_cmp) (old_lead c n.cell i v) t i) t (sym (leq_is q.0 t) ∙ front_leq t a wide c q.0 (depth q.0) q.3) (sym (leq_is (target_after_row (eq_by_cmp nat_cmp) (old_lead c n.cell i v) t i) t) ∙ low) (front_long t a wide c q.0 (depth q.0) q.3 ∙ sym long) (q.2 ∙ dims))
             ∙ sym (led_own t a wide c n.cell i v place within value)
 
     -- the labels with other values
     old_edge : (i v : ℕ) (q : Cell ℕ) → i < length t → IsFront c n.cell i → old_lead c n.cell i v ≡ Some q → HasLabel i v n.edges
-    old_edge i v q within place lead =
-        let w = led_from code_equality (old_closure c (with_value n.cell i v)) i q lead in
+    old_edge i v q within place target_of_label =
+        let w = led_from code_equality (old_closure c (with_value n.cell i v)) i q target_of_label in
         let deep = front_deep t a wide c n.cell i place in
         let u = closure_some code_equality (c.xs ++ c.ys) n.cell (with_value n.cell i v) w.0 (leq-with_value code_equality n.cell i v deep) w.1 in
         elim (node.copies i deep within place u.0 u.1) [
           | inl own ↦ own_label u.0 u.1 deep own
           | inr x ↦
               let done = copied x.0 x.1 in
-              let r = known a.now x.0.from.0 (keep i u.0) x.3 in
+              let r = known a.now x.0.from.0 (cell_front i u.0) x.3 in
               subst (HasLabel i v) (edges_at done.0 (one_number x.0.mask done.0 x.2 done.1))
-              (done.2 i v (subst (λ (y : Known). HasLabel i v y.edges) (sym (record_known a.now x.0.from.0 r.0 r.1)) (source_has t a wide c n.cell u.0 i place u.1 x.0.from.0 r.0 r.1 r.2 v q within lead)))
+              (done.2 i v (subst (λ (y : Known). HasLabel i v y.edges) (sym (record_known a.now x.0.from.0 r.0 r.1)) (source_has t a wide c n.cell u.0 i place u.1 x.0.from.0 r.0 r.1 r.2 v q within target_of_label)))
         ]
       where
-        own_label : (u : Cell ℕ) → old_closure c n.cell ≡ Some u → depth n.cell ≤ i → keep i u ≡ n.cell → HasLabel i v n.edges
+        own_label : (u : Cell ℕ) → old_closure c n.cell ≡ Some u → depth n.cell ≤ i → cell_front i u ≡ n.cell → HasLabel i v n.edges
         own_label u e deep own =
-            let there = c.from.canonical.all (keep i u) (chain_node nat_cmp_total map.nat_cmp-IsAntisymmetric c.measures (c.xs ++ c.ys) n.cell u i e deep).1 in
-            let r = known a.now there.0 (keep i u) there.1 in
-            let o = known b.now there.0 (keep i u) (stage.cells there.0 (keep i u) there.1) in
+            let there = c.from.canonical.all (cell_front i u) (chain_node nat_cmp_total map.nat_cmp-IsAntisymmetric c.measures (c.xs ++ c.ys) n.cell u i e deep).1 in
+            let r = known a.now there.0 (cell_front i u) there.1 in
+            let o = known b.now there.0 (cell_front i u) (stage.cells there.0 (cell_front i u) there.1) in
             let told = (stage.below there.0 o.0 o.1 (ap (λ p. leq nat_eq p t) (o.2 ∙ own) ∙ sym (leq_is n.cell t) ∙ front_leq t a wide c n.cell i place)).1 in
             subst (HasLabel i v) (edges_at there.0 (one_number (mask o.0.cell) there.0 (ap mask (o.2 ∙ own)) told))
-            (stage.stays there.0 i v (subst (λ (y : Known). HasLabel i v y.edges) (sym (record_known a.now there.0 r.0 r.1)) (source_has t a wide c n.cell u i place e there.0 r.0 r.1 r.2 v q within lead)))
+            (stage.stays there.0 i v (subst (λ (y : Known). HasLabel i v y.edges) (sym (record_known a.now there.0 r.0 r.1)) (source_has t a wide c n.cell u i place e there.0 r.0 r.1 r.2 v q within target_of_label)))
 
     edges : HasEdges t a wide c n.cell front (cell_at b.now) n.edges
     edges = record {
@@ -195,7 +195,7 @@ module _ (t : Cell ℕ) (a : Arena) (wide : length t ≡ a.width) (c : Case t a)
         (k.0, q.1 ∙ ap (λ r. Some r) (front_told t a wide c q.0 p q.3 front q.2));
   }
 
-  pub finished : IsFrom a.width b.now (record { measures = c.measures; rows = c.xs ++ c.row ∷ c.ys })
+  pub finished : IsTreeOf a.width b.now (record { measures = c.measures; rows = c.xs ++ c.row ∷ c.ys })
   finished = record {
     wide = all_more (λ row. length row.tuple ≡ a.width) c.xs c.ys c.row c.from.wide (sym (length-cell_of c.row.tuple) ∙ ap length c.tuple ∙ wide);
     canonical = assembled c.measures c.xs c.row c.ys a b c.from.canonical (subst (λ s. Keeps s a b) (sym c.tuple) keeps) right;

@@ -6,21 +6,21 @@ use Rattle.std.specs.Cmp.{nat_cmp_total}
 use Rattle.std.specs.Ordering.{eq_by_cmp}
 use Rattle.std.specs.Option.{option_map}
 use Rattle.std.specs.FinMap as finmap
-use Rattle.cube_defs.specs.Cell.{Cell, cell_of, depth, keep, leq, meet}
+use Rattle.cube_defs.specs.Cell.{Cell, cell_of, depth, cell_front, leq, meet}
 use Rattle.cube_defs.specs.Rows as defs
 use Rattle.cube_defs.specs.Tree.{Edge, cell_at, cut_last, next_value, renamed, renamed_edge}
 use Rattle.cube_laws.specs.Lists.{Among}
-use Rattle.cube_laws.proofs.Cells.{keep-depth_keep, length-keep, meet_comm}
+use Rattle.cube_laws.proofs.Cells.{cell_front-depth_cell_front, length-cell_front, meet_comm}
 use Rattle.cube_laws.proofs.Columns.{one_value, one_value-leq}
 use Rattle.cube_laws.proofs.Lists.{among_map, map_among}
 use Rattle.cube_laws.proofs.Orders.{code_equality}
-use Rattle.tree_laws.specs.Labels.{lead, moved, record_of}
+use Rattle.tree_laws.specs.Labels.{target_of_label, target_after_row, record_of}
 use Rattle.tree_laws.proofs.Edges.{edges-are}
 use Rattle.tree_laws.proofs.EdgesRise.{edges_rise}
-use Rattle.tree_laws.proofs.Fronts.{depth-keep-le, keep-meet}
+use Rattle.tree_laws.proofs.Fronts.{depth-cell_front-le, cell_front-meet}
 use Rattle.tree_laws.proofs.Leads.{lead_chain, lead-insert}
 use Rattle.tree_laws.proofs.Lists.{some_same}
-use Rattle.tree_laws.proofs.Nexts.{keep-between, next-chain}
+use Rattle.tree_laws.proofs.Nexts.{cell_front-between, next-chain}
 use Rattle.tree_laws.proofs.OneRow.{chain_node}
 use Rattle.tree_laws.proofs.Walks.{record_read}
 use Rattle.qc_arena.specs.Edges.{rises}
@@ -74,15 +74,15 @@ module _ (t : Cell ℕ) (a : Arena) (wide : length t ≡ a.width) (c : Case t a)
   -- a label leads where it led, or has t's value and leads to what the old target and t share
   led : (p : Cell ℕ) (i v : ℕ) → IsFront c p i → i < length t
       → ((leq (eq_by_cmp nat_cmp) (one_value i v) (cell_of c.row.tuple) ≡ false) × (new_lead c p i v ≡ old_lead c p i v))
-      ⊎ ((leq (eq_by_cmp nat_cmp) (one_value i v) (cell_of c.row.tuple) ≡ true) × (new_lead c p i v ≡ Some (moved (eq_by_cmp nat_cmp) (old_lead c p i v) (cell_of c.row.tuple) i)))
+      ⊎ ((leq (eq_by_cmp nat_cmp) (one_value i v) (cell_of c.row.tuple) ≡ true) × (new_lead c p i v ≡ Some (target_after_row (eq_by_cmp nat_cmp) (old_lead c p i v) (cell_of c.row.tuple) i)))
   led p i v f l = go (leq (eq_by_cmp nat_cmp) (one_value i v) (cell_of c.row.tuple)) refl
     where
-      whole : new_lead c p i v ≡ cond (leq (eq_by_cmp nat_cmp) (one_value i v) (cell_of c.row.tuple)) (Some (moved (eq_by_cmp nat_cmp) (old_lead c p i v) (cell_of c.row.tuple) i)) (old_lead c p i v)
+      whole : new_lead c p i v ≡ cond (leq (eq_by_cmp nat_cmp) (one_value i v) (cell_of c.row.tuple)) (Some (target_after_row (eq_by_cmp nat_cmp) (old_lead c p i v) (cell_of c.row.tuple) i)) (old_lead c p i v)
       whole = lead-insert code_equality c.xs c.row c.ys p i v (covered p i f) (front_deep t a wide c p i f) (omega (arith, l, front_long t a wide c p i f))
 
       go : (b : Bool) → leq (eq_by_cmp nat_cmp) (one_value i v) (cell_of c.row.tuple) ≡ b
           → ((leq (eq_by_cmp nat_cmp) (one_value i v) (cell_of c.row.tuple) ≡ false) × (new_lead c p i v ≡ old_lead c p i v))
-          ⊎ ((leq (eq_by_cmp nat_cmp) (one_value i v) (cell_of c.row.tuple) ≡ true) × (new_lead c p i v ≡ Some (moved (eq_by_cmp nat_cmp) (old_lead c p i v) (cell_of c.row.tuple) i)))
+          ⊎ ((leq (eq_by_cmp nat_cmp) (one_value i v) (cell_of c.row.tuple) ≡ true) × (new_lead c p i v ≡ Some (target_after_row (eq_by_cmp nat_cmp) (old_lead c p i v) (cell_of c.row.tuple) i)))
       go true e = inr (e, whole ∙ cond-true _ _ _ e)
       go false e = inl (e, whole ∙ cond-false _ _ _ e)
 
@@ -92,10 +92,10 @@ module _ (t : Cell ℕ) (a : Arena) (wide : length t ≡ a.width) (c : Case t a)
   pub led_or_own : (p : Cell ℕ) (i v : ℕ) → IsFront c p i → i < length t → (new_lead c p i v ≡ old_lead c p i v) ⊎ (slice_index_or t i None ≡ Some v)
   led_or_own p i v f l = elim (led p i v f l) [ inl h ↦ inl h.1 | inr h ↦ inr (own_value i v h.0) ]
 
-  pub led_own : (p : Cell ℕ) (i v : ℕ) → IsFront c p i → i < length t → slice_index_or t i None ≡ Some v → new_lead c p i v ≡ Some (moved (eq_by_cmp nat_cmp) (old_lead c p i v) t i)
+  pub led_own : (p : Cell ℕ) (i v : ℕ) → IsFront c p i → i < length t → slice_index_or t i None ≡ Some v → new_lead c p i v ≡ Some (target_after_row (eq_by_cmp nat_cmp) (old_lead c p i v) t i)
   led_own p i v f l e = elim (led p i v f l) [
     | inl h ↦ absurd (bad (sym h.0 ∙ (one_value-leq code_equality i v (cell_of c.row.tuple)).1 (ap (λ x. slice_get x i) c.tuple ∙ entry_is t i v e)))
-    | inr h ↦ h.1 ∙ ap (λ x. Some (moved (eq_by_cmp nat_cmp) (old_lead c p i v) x i)) c.tuple
+    | inr h ↦ h.1 ∙ ap (λ x. Some (target_after_row (eq_by_cmp nat_cmp) (old_lead c p i v) x i)) c.tuple
   ]
     where
       bad : false ≡ true → ⊥
@@ -103,48 +103,48 @@ module _ (t : Cell ℕ) (a : Arena) (wide : length t ≡ a.width) (c : Case t a)
 
   -- the node of a front of p's old closure
   module _ (p u : Cell ℕ) (i : ℕ) (front : IsFront c p i) (e : old_closure c p ≡ Some u) where
-    is : defs.closure (eq_by_cmp nat_cmp) (c.xs ++ c.ys) (keep i u) ≡ Some u
+    is : defs.closure (eq_by_cmp nat_cmp) (c.xs ++ c.ys) (cell_front i u) ≡ Some u
     is = (chain_node nat_cmp_total finmap.nat_cmp-IsAntisymmetric c.measures (c.xs ++ c.ys) p u i e (front_deep t a wide c p i front)).0
 
-    long : length (keep i u) ≡ length t
-    long = length-keep i u ∙ old_long t a wide c p u e
+    long : length (cell_front i u) ≡ length t
+    long = length-cell_front i u ∙ old_long t a wide c p u e
 
-    pub cut : (j : ℕ) → keep j (new_closure c p) ≡ meet (eq_by_cmp nat_cmp) (keep j u) t
-    cut j = ap (λ o. keep j (defs.meet_next (eq_by_cmp nat_cmp) t o)) e ∙ ap (keep j) (meet_comm code_equality t u) ∙ keep-meet code_equality j u t
+    pub cut : (j : ℕ) → cell_front j (new_closure c p) ≡ meet (eq_by_cmp nat_cmp) (cell_front j u) t
+    cut j = ap (λ o. cell_front j (defs.meet_after (eq_by_cmp nat_cmp) t o)) e ∙ ap (cell_front j) (meet_comm code_equality t u) ∙ cell_front-meet code_equality j u t
 
     -- what a label of its record is to p
-    pub source_place : (j : ℕ) → depth (keep i u) ≤ j → j ≤ next_value nat_cmp (depth (keep i u)) u → IsFront c p j
+    pub source_place : (j : ℕ) → depth (cell_front i u) ≤ j → j ≤ next_value nat_cmp (depth (cell_front i u)) u → IsFront c p j
     source_place j d l =
-        let same : keep j u ≡ keep i u = keep-between nat_cmp (depth (keep i u)) j u d l ∙ keep-depth_keep i u in
+        let same : cell_front j u ≡ cell_front i u = cell_front-between nat_cmp (depth (cell_front i u)) j u d l ∙ cell_front-depth_cell_front i u in
         cut j ∙ ap (λ w. meet (eq_by_cmp nat_cmp) w t) same ∙ sym (cut i) ∙ front
 
-    source_lead : (j v : ℕ) → depth (keep i u) ≤ j → j ≤ next_value nat_cmp (depth (keep i u)) u → j < length t → lead (eq_by_cmp nat_cmp) (c.xs ++ c.ys) (keep i u) j v ≡ old_lead c p j v
+    source_lead : (j v : ℕ) → depth (cell_front i u) ≤ j → j ≤ next_value nat_cmp (depth (cell_front i u)) u → j < length t → target_of_label (eq_by_cmp nat_cmp) (c.xs ++ c.ys) (cell_front i u) j v ≡ old_lead c p j v
     source_lead j v d l w =
-        let same : keep j u ≡ keep i u = keep-between nat_cmp (depth (keep i u)) j u d l ∙ keep-depth_keep i u in
+        let same : cell_front j u ≡ cell_front i u = cell_front-between nat_cmp (depth (cell_front i u)) j u d l ∙ cell_front-depth_cell_front i u in
         let f = source_place j d l in
-        ap (λ q. lead (eq_by_cmp nat_cmp) (c.xs ++ c.ys) q j v) (sym same)
-        ∙ sym (lead_chain code_equality (c.xs ++ c.ys) p u j v e (front_deep t a wide c p j f) (omega (arith, w, front_long t a wide c p j f)) (omega (arith, w, length-keep j u, old_long t a wide c p u e)))
+        ap (λ q. target_of_label (eq_by_cmp nat_cmp) (c.xs ++ c.ys) q j v) (sym same)
+        ∙ sym (lead_chain code_equality (c.xs ++ c.ys) p u j v e (front_deep t a wide c p j f) (omega (arith, w, front_long t a wide c p j f)) (omega (arith, w, length-cell_front j u, old_long t a wide c p u e)))
 
-    module _ (k : ℕ) (n : Known) (g : finmap.get a.now k ≡ Some n) (cell : n.cell ≡ keep i u) where
-      pub read : renamed (cell_at a.now) n ≡ renamed (λ x. Some x) (record_of nat_cmp c.measures (c.xs ++ c.ys) (keep i u) u)
+    module _ (k : ℕ) (n : Known) (g : finmap.get a.now k ≡ Some n) (cell : n.cell ≡ cell_front i u) where
+      pub read : renamed (cell_at a.now) n ≡ renamed (λ x. Some x) (record_of nat_cmp c.measures (c.xs ++ c.ys) (cell_front i u) u)
       read =
           subst (λ q. renamed (cell_at a.now) n ≡ renamed (λ x. Some x) (record_of nat_cmp c.measures (c.xs ++ c.ys) q u)) cell
           (record_read nat_cmp_total finmap.nat_cmp-IsAntisymmetric a.width c.measures (c.xs ++ c.ys) c.from.wide a.now c.from.canonical k n u g (ap (defs.closure (eq_by_cmp nat_cmp) (c.xs ++ c.ys)) cell ∙ is))
 
       pub source_rises : rises n.edges ≡ true
       source_rises =
-          rises_named (cell_at a.now) n.edges (record_of nat_cmp c.measures (c.xs ++ c.ys) (keep i u) u).edges (ap (λ m. m.edges) read)
-          (rises_ascends _ (edges_rise nat_cmp_total finmap.nat_cmp-IsAntisymmetric c.measures (c.xs ++ c.ys) (keep i u) u (next_value nat_cmp (depth (keep i u)) u)))
+          rises_named (cell_at a.now) n.edges (record_of nat_cmp c.measures (c.xs ++ c.ys) (cell_front i u) u).edges (ap (λ m. m.edges) read)
+          (rises_ascends _ (edges_rise nat_cmp_total finmap.nat_cmp-IsAntisymmetric c.measures (c.xs ++ c.ys) (cell_front i u) u (next_value nat_cmp (depth (cell_front i u)) u)))
 
-      pub source_parent : option_map (cell_at a.now) n.parent ≡ option_map (λ x. Some x) (cut_last nat_cmp (keep i u))
+      pub source_parent : option_map (cell_at a.now) n.parent ≡ option_map (λ x. Some x) (cut_last nat_cmp (cell_front i u))
       source_parent = ap (λ m. m.parent) read
 
       pub source_label : (x : Edge ℕ ℕ) → Among x n.edges → (x.dim < length t) × IsFront c p x.dim × (q : Cell ℕ) × (cell_at a.now x.target ≡ Some q) × (old_lead c p x.dim x.value ≡ Some q)
       source_label x h =
-          let m = record_of nat_cmp c.measures (c.xs ++ c.ys) (keep i u) u in
+          let m = record_of nat_cmp c.measures (c.xs ++ c.ys) (cell_front i u) u in
           let y : (y : Edge ℕ (Cell ℕ)) × Among y m.edges × (renamed_edge (cell_at a.now) x ≡ renamed_edge (λ c. Some c) y)
           = among_map (renamed_edge (λ c. Some c)) (renamed_edge (cell_at a.now) x) m.edges (subst (λ zs. Among (renamed_edge (cell_at a.now) x) zs) (ap (λ z. z.edges) read) (map_among (renamed_edge (cell_at a.now)) x n.edges h)) in
-          let l = (edges-are nat_cmp_total finmap.nat_cmp-IsAntisymmetric c.measures (c.xs ++ c.ys) (keep i u) u is (keep-depth_keep i u) y.0).0 y.1 in
+          let l = (edges-are nat_cmp_total finmap.nat_cmp-IsAntisymmetric c.measures (c.xs ++ c.ys) (cell_front i u) u is (cell_front-depth_cell_front i u) y.0).0 y.1 in
           let d : x.dim ≡ y.0.dim = ap (λ z. z.dim) y.2 in
           let v : x.value ≡ y.0.value = ap (λ z. z.value) y.2 in
           let w : y.0.dim < length t = omega (arith, l.place.within, long) in (
@@ -158,11 +158,11 @@ module _ (t : Cell ℕ) (a : Arena) (wide : length t ≡ a.width) (c : Case t a)
       -- each old label of p in the dimension i is there
       pub source_has : (v : ℕ) (q : Cell ℕ) → i < length t → old_lead c p i v ≡ Some q → HasLabel i v n.edges
       source_has v q l h =
-          let d = depth-keep-le i u in
+          let d = depth-cell_front-le i u in
           let b = next-chain nat_cmp i u (omega (arith, l, old_long t a wide c p u e)) in
-          let m = record_of nat_cmp c.measures (c.xs ++ c.ys) (keep i u) u in
+          let m = record_of nat_cmp c.measures (c.xs ++ c.ys) (cell_front i u) u in
           let there : Among (record { dim = i; value = v; target = q }) m.edges =
-          (edges-are nat_cmp_total finmap.nat_cmp-IsAntisymmetric c.measures (c.xs ++ c.ys) (keep i u) u is (keep-depth_keep i u) (record { dim = i; value = v; target = q })).1
+          (edges-are nat_cmp_total finmap.nat_cmp-IsAntisymmetric c.measures (c.xs ++ c.ys) (cell_front i u) u is (cell_front-depth_cell_front i u) (record { dim = i; value = v; target = q })).1
           (record { place = record { behind = d; before = b; within = omega (arith, l, long) }; leads = source_lead i v d b l ∙ h }) in
           let y : (y : Edge ℕ ℕ) × Among y n.edges × (renamed_edge (λ c. Some c) (record { dim = i; value = v; target = q }) ≡ renamed_edge (cell_at a.now) y)
           = among_map (renamed_edge (cell_at a.now)) (renamed_edge (λ c. Some c) (record { dim = i; value = v; target = q })) n.edges

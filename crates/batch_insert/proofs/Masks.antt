@@ -1,8 +1,8 @@
 -- Masks of what cells below a tuple, and a node and the tuple, have in common.
 use Rattle.std.proofs.Common.{◌≡◌, ◌≢◌, ℕ, zero, suc, ◌+◌, ◌*◌, ◌-◌, ◌^◌, ◌%◌, ◌/◌, ◌≤◌, ◌<◌, All, Bool, true, false, ◌&&◌, Option, Some, None, [], ◌∷◌, is_some, length, nat_eq, slice_get, slice_index_or, replicate, if◌then◌else◌, refl, sym, ap, ap₂, subst, ◌∙◌, true≢false, arith, pow_mono, pow-suc}
 use Rattle.std.proofs.lemmas.Bool.{and_parts, cond-true, cond-false, false_from_ne_true}
-use Rattle.cube_defs.specs.Cell.{Cell, depth, entry_leq, entry_meet, keep, leq, mask, meet, one_deeper, upto, with_value}
-use Rattle.cube_laws.proofs.Cells.{nat_equality, keep-depth, keep_zero}
+use Rattle.cube_defs.specs.Cell.{Cell, depth, entry_leq, entry_meet, cell_front, leq, mask, meet, one_deeper, upto, with_value}
+use Rattle.cube_laws.proofs.Cells.{nat_equality, cell_front-depth, cell_front_zero}
 use Rattle.tree_laws.proofs.Lists.{some_same}
 use Rattle.batch_insert.specs.Masks.{part}
 use Rattle.batch_insert.proofs.Naming.{any_mask, below_with, long_with}
@@ -60,10 +60,6 @@ shallow None zero i h = omega arith
 shallow None (suc d) i h = omega (arith, h)
 shallow (Some v) d i h = omega (arith, h)
 
-deep_zero : (d : ℕ) → one_deeper {A = ℕ} None d ≡ 0 → d ≡ 0
-deep_zero zero h = refl
-deep_zero (suc d) h = absurd (omega arith)
-
 -- one value more
 pub mask_with : (p : Cell ℕ) (i v : ℕ) → depth p ≤ i → i < length p → mask (with_value p i v) ≡ mask p + 2 ^ i
 mask_with [] i v d l = absurd (omega arith)
@@ -73,10 +69,10 @@ mask_with (None ∷ p) (suc i) v d l = let h = mask_with p i v (shallow None (de
 mask_with (Some w ∷ p) (suc i) v d l = let h = mask_with p i v (shallow (Some w) (depth p) i d) (omega arith) in rw pow-suc (omega arith)
 
 -- t's front
-front_more : (t : Cell ℕ) (i : ℕ) → All (λ e. is_some e ≡ true) t → i < length t → mask (keep (suc i) t) + 1 ≡ 2 ^ suc i
+front_more : (t : Cell ℕ) (i : ℕ) → All (λ e. is_some e ≡ true) t → i < length t → mask (cell_front (suc i) t) + 1 ≡ 2 ^ suc i
 front_more [] i full l = absurd (omega arith)
 front_more (None ∷ t) i full l = absurd (true≢false (sym (full 0 None (omega arith))))
-front_more (Some v ∷ t) zero full l = let e : mask (keep 0 t) ≡ 0 = ap mask (keep_zero t) ∙ any_mask (length t) in omega arith
+front_more (Some v ∷ t) zero full l = let e : mask (cell_front 0 t) ≡ 0 = ap mask (cell_front_zero t) ∙ any_mask (length t) in omega arith
 front_more (Some v ∷ t) (suc i) full l = let h = front_more t i (λ j d k. full (suc j) d (omega arith)) (omega arith) in rw pow-suc (omega arith)
 
 pub front_mask : (t : Cell ℕ) (i b n : ℕ) → All (λ e. is_some e ≡ true) t → i < length t → b ≡ 2 ^ i → n ≡ b + (b - 1) → n ≡ mask (upto t i)
@@ -118,11 +114,11 @@ deeper None zero j h = cc
 deeper None (suc d) j h = omega (arith, h)
 deeper (Some v) d j h = omega (arith, h)
 
-bare : (x : Cell ℕ) (v : ℕ) → one_deeper (Some v) (depth x) ≡ 1 → keep 0 x ≡ x
-bare x v h = let d : 0 ≡ depth x = omega (arith, h) in ap (λ n. keep n x) d ∙ keep-depth x
+bare : (x : Cell ℕ) (v : ℕ) → one_deeper (Some v) (depth x) ≡ 1 → cell_front 0 x ≡ x
+bare x v h = let d : 0 ≡ depth x = omega (arith, h) in ap (λ n. cell_front n x) d ∙ cell_front-depth x
 
 -- a cell whose last value is v in the dimension j
-pub last_mask : (x t : Cell ℕ) (j v : ℕ) → depth x ≡ suc j → slice_get x j ≡ Some (Some v) → length x ≡ length t → mask (meet nat_eq x t) ≡ mask (meet nat_eq (keep j x) t) + bit_for t j v
+pub last_mask : (x t : Cell ℕ) (j v : ℕ) → depth x ≡ suc j → slice_get x j ≡ Some (Some v) → length x ≡ length t → mask (meet nat_eq x t) ≡ mask (meet nat_eq (cell_front j x) t) + bit_for t j v
 last_mask [] t j v d e l = cc
 last_mask (e ∷ x) [] j v d g l = absurd (omega arith)
 last_mask (e ∷ x) (f ∷ t) zero v d g l =
@@ -130,16 +126,16 @@ last_mask (e ∷ x) (f ∷ t) zero v d g l =
     let b = bare x v (ap (λ o. one_deeper o (depth x)) (sym is) ∙ d) in
     let left : mask (entry_meet nat_eq e f ∷ meet nat_eq x t) ≡ 2 * mask (meet nat_eq x t) + (if entry_leq nat_eq (Some v) f then 2 ^ 0 else 0)
     = mask_cons (entry_meet nat_eq e f) (meet nat_eq x t) ∙ ap (λ n. 2 * mask (meet nat_eq x t) + n) (ap (λ o. entry_bit (entry_meet nat_eq o f)) is ∙ met_bit v f) in
-    let right : mask (meet nat_eq (keep 0 x) t) ≡ mask (meet nat_eq x t) = ap (λ y. mask (meet nat_eq y t)) b in
+    let right : mask (meet nat_eq (cell_front 0 x) t) ≡ mask (meet nat_eq x t) = ap (λ y. mask (meet nat_eq y t)) b in
     left ∙ ap (λ n. 2 * n + (if entry_leq nat_eq (Some v) f then 2 ^ 0 else 0)) (sym right)
 last_mask (e ∷ x) (f ∷ t) (suc j) v d g l =
     let h = last_mask x t j v (deeper e (depth x) j d) g (omega arith) in
     let left = mask_cons (entry_meet nat_eq e f) (meet nat_eq x t) in
-    let right = mask_cons (entry_meet nat_eq e f) (meet nat_eq (keep j x) t) in
+    let right = mask_cons (entry_meet nat_eq e f) (meet nat_eq (cell_front j x) t) in
     let two = twice (agrees t j v) j in
     omega (arith, h, left, right, two)
 
-pub last_leq : (x t : Cell ℕ) (j v : ℕ) → depth x ≡ suc j → slice_get x j ≡ Some (Some v) → length x ≡ length t → leq nat_eq x t ≡ (agrees t j v && leq nat_eq (keep j x) t)
+pub last_leq : (x t : Cell ℕ) (j v : ℕ) → depth x ≡ suc j → slice_get x j ≡ Some (Some v) → length x ≡ length t → leq nat_eq x t ≡ (agrees t j v && leq nat_eq (cell_front j x) t)
 last_leq [] t j v d e l = cc
 last_leq (e ∷ x) [] j v d g l = absurd (omega arith)
 last_leq (e ∷ x) (f ∷ t) zero v d g l =
@@ -147,7 +143,7 @@ last_leq (e ∷ x) (f ∷ t) zero v d g l =
     let b = bare x v (ap (λ o. one_deeper o (depth x)) (sym is) ∙ d) in
     ap₂ (λ o y. entry_leq nat_eq o f && leq nat_eq y t) is (sym b)
 last_leq (e ∷ x) (f ∷ t) (suc j) v d g l =
-    ap (λ b. entry_leq nat_eq e f && b) (last_leq x t j v (deeper e (depth x) j d) g (omega arith)) ∙ swap (entry_leq nat_eq e f) (agrees t j v) (leq nat_eq (keep j x) t)
+    ap (λ b. entry_leq nat_eq e f && b) (last_leq x t j v (deeper e (depth x) j d) g (omega arith)) ∙ swap (entry_leq nat_eq e f) (agrees t j v) (leq nat_eq (cell_front j x) t)
   where
     swap : (a b c : Bool) → (a && (b && c)) ≡ (b && (a && c))
     swap true b c = refl
@@ -156,7 +152,7 @@ last_leq (e ∷ x) (f ∷ t) (suc j) v d g l =
 
 -- a cell with no value
 flat_is : (x : Cell ℕ) → depth x ≡ 0 → x ≡ replicate (length x) None
-flat_is x d = sym (keep-depth x) ∙ ap (λ n. keep n x) d ∙ keep_zero x
+flat_is x d = sym (cell_front-depth x) ∙ ap (λ n. cell_front n x) d ∙ cell_front_zero x
 
 pub any_met : (n : ℕ) (t : Cell ℕ) → n ≡ length t → (mask (meet nat_eq (replicate n None) t) ≡ 0) × (leq nat_eq (replicate n None) t ≡ true)
 any_met zero t h = (refl, refl)

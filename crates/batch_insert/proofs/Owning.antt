@@ -8,7 +8,7 @@ use Rattle.cube_defs.specs.Cell.{Cell, depth, mask}
 use Rattle.cube_defs.specs.Tree.{Edge, Tree, cell_at}
 use Rattle.cube_laws.specs.Lists.{Among}
 use Rattle.tree_laws.proofs.Lists.{some_same}
-use Rattle.tree_laws.specs.Labels.{moved}
+use Rattle.tree_laws.specs.Labels.{target_after_row}
 use Rattle.qc_arena.specs.Edges.{put_edge, with_edge}
 use Rattle.qc_arena.specs.Map.{Arena, Known}
 use Rattle.qc_arena.specs.Seen.{record_at, record_or}
@@ -35,8 +35,8 @@ module _ (t : Cell ℕ) (a : Arena) (wide : length t ≡ a.width) (c : Case t a)
   same_target x y v is also dims dim value =
       let node : is.node ≡ also.node = front_told t a wide c is.node also.node (deep_front is.node x.dim is.front) (deep_front also.node y.dim also.front) (is.dims ∙ dims ∙ sym also.dims) in
       sym (is.target v value)
-      ∙ ap (λ p. mask (moved (eq_by_cmp nat_cmp) (old_lead c p x.dim v) t x.dim)) node
-      ∙ ap (λ i. mask (moved (eq_by_cmp nat_cmp) (old_lead c also.node i v) t i)) dim
+      ∙ ap (λ p. mask (target_after_row (eq_by_cmp nat_cmp) (old_lead c p x.dim v) t x.dim)) node
+      ∙ ap (λ i. mask (target_after_row (eq_by_cmp nat_cmp) (old_lead c also.node i v) t i)) dim
       ∙ also.target v (ap (λ i. slice_index_or t i None) (sym dim) ∙ value)
 
   module _ (f : ℕ → Option ℕ) (b d : Tree ℕ) (stage : IsStage c b f) (x : Own) (is : IsOwnOf c x) (k l v : ℕ) (number : f x.mask ≡ Some k) (target : f x.target ≡ Some l) (value : slice_index_or t x.dim None ≡ Some v)

@@ -4,11 +4,11 @@ use Rattle.std.proofs.lemmas.Bool.Decides.{eqb_tells}
 use Rattle.std.specs.Ordering.{eq_by_cmp}
 use Rattle.std.specs.Option.{option_map}
 use Rattle.std.specs.FinMap as map
-use Rattle.cube_defs.specs.Cell.{Cell, depth, keep, leq, mask, meet}
+use Rattle.cube_defs.specs.Cell.{Cell, depth, cell_front, leq, mask, meet}
 use Rattle.cube_defs.specs.Tree.{Edge, Tree, cell_at}
 use Rattle.cube_laws.specs.Lists.{Among}
 use Rattle.cube_laws.proofs.Cells.{meet_of_leq}
-use Rattle.cube_laws.proofs.Orders.{code_equality}
+use Rattle.cube_laws.proofs.Orders.{code_equality, leq_is}
 use Rattle.tree_laws.proofs.Lists.{some_same}
 use Rattle.qc_arena.proofs.Labels.{rises-put}
 use Rattle.qc_arena.specs.Edges.{put_edge, with_edge}
@@ -19,7 +19,6 @@ use Rattle.batch_insert.specs.Cases.{Case, IsFront}
 use Rattle.batch_insert.specs.Kept.{put_edges, with_edges}
 use Rattle.batch_insert.specs.Stages.{EdgesStay, HasLabel, IsCopied, IsSound, IsStage, LabelsStay, new_lead}
 use Rattle.batch_insert.specs.Whole.{IsCopyOf}
-use Rattle.batch_insert.proofs.Assembled.{leq_is}
 use Rattle.batch_insert.proofs.Coming.{front_told}
 use Rattle.qc_arena.proofs.EdgesPut.{put_here, put_stays}
 use Rattle.batch_insert.proofs.Fronts.{front_before, front_deep, front_leq}
@@ -130,19 +129,19 @@ module _ (t : Cell ℕ) (a : Arena) (wide : length t ≡ a.width) (c : Case t a)
       copied_self e = (stage, λ q i v h. h, (k, number, λ i v h. subst (λ q. HasLabel i v (record_at b q).edges) e (stage.stays x.from.0 i v h)))
 
       -- another node's front that is below t is the node itself
-      source : x.from.0 ≢ k → (r : Known) × (map.get a.now x.from.0 ≡ Some r) × (r.cell ≡ keep is.dim is.upper) × (map.get b x.from.0 ≡ Some r)
+      source : x.from.0 ≢ k → (r : Known) × (map.get a.now x.from.0 ≡ Some r) × (r.cell ≡ cell_front is.dim is.upper) × (map.get b x.from.0 ≡ Some r)
       source off =
-          let r = known a.now x.from.0 (keep is.dim is.upper) is.from in
-          (r.0, r.1, r.2, go r.0 r.1 r.2 (leq nat_eq (keep is.dim is.upper) t) refl)
+          let r = known a.now x.from.0 (cell_front is.dim is.upper) is.from in
+          (r.0, r.1, r.2, go r.0 r.1 r.2 (leq nat_eq (cell_front is.dim is.upper) t) refl)
         where
-          go : (r : Known) → map.get a.now x.from.0 ≡ Some r → r.cell ≡ keep is.dim is.upper → (s : Bool) → leq nat_eq (keep is.dim is.upper) t ≡ s → map.get b x.from.0 ≡ Some r
+          go : (r : Known) → map.get a.now x.from.0 ≡ Some r → r.cell ≡ cell_front is.dim is.upper → (s : Bool) → leq nat_eq (cell_front is.dim is.upper) t ≡ s → map.get b x.from.0 ≡ Some r
           go r g e false l = stage.apart x.from.0 r g (ap (λ p. leq nat_eq p t) e ∙ l)
           go r g e true l =
-              let below : leq (eq_by_cmp nat_cmp) (keep is.dim is.upper) t ≡ true = leq_is (keep is.dim is.upper) t ∙ l in
-              let met : meet (eq_by_cmp nat_cmp) (keep is.dim is.upper) t ≡ is.node = sym (cut t a wide c is.node is.upper is.dim is.front is.closure is.dim) ∙ is.front in
-              let same : keep is.dim is.upper ≡ is.node = sym (meet_of_leq code_equality (keep is.dim is.upper) t below) ∙ met in
-              let at = stage.cells x.from.0 (keep is.dim is.upper) is.from in
-              let o = known b x.from.0 (keep is.dim is.upper) at in
+              let below : leq (eq_by_cmp nat_cmp) (cell_front is.dim is.upper) t ≡ true = leq_is (cell_front is.dim is.upper) t ∙ l in
+              let met : meet (eq_by_cmp nat_cmp) (cell_front is.dim is.upper) t ≡ is.node = sym (cut t a wide c is.node is.upper is.dim is.front is.closure is.dim) ∙ is.front in
+              let same : cell_front is.dim is.upper ≡ is.node = sym (meet_of_leq code_equality (cell_front is.dim is.upper) t below) ∙ met in
+              let at = stage.cells x.from.0 (cell_front is.dim is.upper) is.from in
+              let o = known b x.from.0 (cell_front is.dim is.upper) at in
               let told = (stage.below x.from.0 o.0 o.1 (ap (λ p. leq nat_eq p t) o.2 ∙ l)).1 in
               absurd (off (some_same (sym told ∙ ap f (ap mask (o.2 ∙ same) ∙ is.dims) ∙ number)))
 
@@ -164,7 +163,7 @@ module _ (t : Cell ℕ) (a : Arena) (wide : length t ≡ a.width) (c : Case t a)
             (k, number, λ i v h. subst (λ (y : Known). HasLabel i v y.edges) (sym (record_known d k (with_edges es n.0) after)) (labels_here es n.0.edges i v (subst (HasLabel i v) old h))),
           )
         where
-          fit : (r : Known) → map.get a.now x.from.0 ≡ Some r → r.cell ≡ keep is.dim is.upper → (e : Edge ℕ ℕ) → Among e r.edges → Fits (cell_at b) is.node e
+          fit : (r : Known) → map.get a.now x.from.0 ≡ Some r → r.cell ≡ cell_front is.dim is.upper → (e : Edge ℕ ℕ) → Among e r.edges → Fits (cell_at b) is.node e
           fit r g cell e m =
               let l = source_label t a wide c is.node is.upper is.dim is.front is.closure x.from.0 r g cell e m in
               (l.0, l.1, elim (led_or_own t a wide c is.node e.dim e.value l.1 l.0) [ inl h ↦ inl (h ∙ l.4 ∙ sym (stage.cells e.target l.2 l.3)) | inr h ↦ inr h ])

@@ -4,15 +4,16 @@ use Rattle.std.proofs.lemmas.Bool.{cond-true}
 use Rattle.std.specs.Ordering.{eq_by_cmp}
 use Rattle.std.specs.Option.{option_map}
 use Rattle.std.specs.FinMap as map
-use Rattle.cube_defs.specs.Cell.{Cell, cell_eq, depth, keep, leq, mask}
+use Rattle.cube_defs.specs.Cell.{Cell, cell_eq, depth, cell_front, leq, mask}
 use Rattle.cube_defs.specs.Rows as defs
 use Rattle.cube_defs.specs.Tree.{Edge, Tree, cell_at, cut_last}
 use Rattle.cube_laws.specs.Lists.{Among}
 use Rattle.cube_laws.proofs.Cells.{cell_eq-exact, leq_antisymm}
-use Rattle.cube_laws.proofs.Closures.{meet_next_rest}
+use Rattle.cube_laws.proofs.Closures.{meet_after_rest}
 use Rattle.cube_laws.proofs.Nodes.{is_node-is}
 use Rattle.cube_laws.proofs.OneRow.{closure-insert, node-insert}
-use Rattle.cube_laws.proofs.Orders.{code_equality}
+use Rattle.cube_laws.proofs.Orders.{code_equality, leq_is}
+use Rattle.cube_laws.proofs.Lists.{none_some}
 use Rattle.tree_laws.proofs.Lists.{some_same, some_there}
 use Rattle.qc_arena.specs.Edges.{rises}
 use Rattle.qc_arena.specs.Map.{Arena, Known}
@@ -20,7 +21,7 @@ use Rattle.qc_arena.specs.Seen.{record_at, record_or}
 use Rattle.batch_insert.specs.Begun.{IsBare, IsBegun}
 use Rattle.batch_insert.specs.Cases.{Case, IsFront, new_closure, old_closure, old_lead}
 use Rattle.batch_insert.specs.Stages.{HasLabel, IsSound, IsStage, new_lead}
-use Rattle.batch_insert.proofs.Assembled.{leq_is, parent_more}
+use Rattle.batch_insert.proofs.Assembled.{parent_more}
 use Rattle.batch_insert.proofs.Coming.{begun_told}
 use Rattle.batch_insert.proofs.Fronts.{above_self, front_leq}
 use Rattle.batch_insert.proofs.Keeping.{cell_known, known}
@@ -35,31 +36,31 @@ module _ (t : Cell ℕ) (a : Arena) (wide : length t ≡ a.width) (c : Case t a)
   new_closed p h =
       closure-insert code_equality c.xs c.row c.ys p
       ∙ cond-true _ _ _ (ap (leq (eq_by_cmp nat_cmp) p) c.tuple ∙ leq_is p t ∙ h)
-      ∙ ap (λ x. Some (defs.meet_next (eq_by_cmp nat_cmp) x (old_closure c p))) c.tuple
+      ∙ ap (λ x. Some (defs.meet_after (eq_by_cmp nat_cmp) x (old_closure c p))) c.tuple
 
   -- the nodes below t
   pub front_of_node : (p : Cell ℕ) → leq nat_eq p t ≡ true → defs.is_node (eq_by_cmp nat_cmp) (c.xs ++ c.row ∷ c.ys) p ≡ true → IsFront c p (depth p)
-  front_of_node p h node = some_same (sym (ap (option_map (keep (depth p))) (new_closed p h)) ∙ (is_node-is code_equality (c.xs ++ c.row ∷ c.ys) p).0 node)
+  front_of_node p h node = some_same (sym (ap (option_map (cell_front (depth p))) (new_closed p h)) ∙ (is_node-is code_equality (c.xs ++ c.row ∷ c.ys) p).0 node)
 
   pub node_of_front : (p : Cell ℕ) → IsFront c p (depth p) → defs.is_node (eq_by_cmp nat_cmp) (c.xs ++ c.row ∷ c.ys) p ≡ true
   node_of_front p f =
-      (is_node-is code_equality (c.xs ++ c.row ∷ c.ys) p).1 (ap (option_map (keep (depth p))) (new_closed p (sym (leq_is p t) ∙ front_leq t a wide c p (depth p) f)) ∙ ap (λ x. Some x) f)
+      (is_node-is code_equality (c.xs ++ c.row ∷ c.ys) p).1 (ap (option_map (cell_front (depth p))) (new_closed p (sym (leq_is p t) ∙ front_leq t a wide c p (depth p) f)) ∙ ap (λ x. Some x) f)
 
   -- the records of the nodes that there were
   module _ (name : ℕ → Option (Cell ℕ)) (more : (l : ℕ) (q : Cell ℕ) → cell_at a.now l ≡ Some q → name l ≡ Some q) (k : ℕ) (n : Known) (g : map.get a.now k ≡ Some n) (front : IsFront c n.cell (depth n.cell)) where
-    shut : (u : Cell ℕ) × (old_closure c n.cell ≡ Some u) × (keep (depth n.cell) u ≡ n.cell)
+    shut : (u : Cell ℕ) × (old_closure c n.cell ≡ Some u) × (cell_front (depth n.cell) u ≡ n.cell)
     shut = closed a (record { measures = c.measures; rows = c.xs ++ c.ys }) c.from k n g
 
     class : (n.class ≡ None) ⊎ (new_closure c n.cell ≡ n.cell)
-    class = go (cell_eq (eq_by_cmp nat_cmp) shut.0 (keep (depth n.cell) shut.0)) refl (ap (λ m. m.class) (read t a wide c n.cell shut.0 (depth n.cell) front shut.1 k n g (sym shut.2)))
+    class = go (cell_eq (eq_by_cmp nat_cmp) shut.0 (cell_front (depth n.cell) shut.0)) refl (ap (λ m. m.class) (read t a wide c n.cell shut.0 (depth n.cell) front shut.1 k n g (sym shut.2)))
       where
-        go : (b : Bool) → cell_eq (eq_by_cmp nat_cmp) shut.0 (keep (depth n.cell) shut.0) ≡ b
-            → n.class ≡ cond b (Some (defs.agg (eq_by_cmp nat_cmp) c.measures (c.xs ++ c.ys) (keep (depth n.cell) shut.0))) None → (n.class ≡ None) ⊎ (new_closure c n.cell ≡ n.cell)
+        go : (b : Bool) → cell_eq (eq_by_cmp nat_cmp) shut.0 (cell_front (depth n.cell) shut.0) ≡ b
+            → n.class ≡ cond b (Some (defs.agg (eq_by_cmp nat_cmp) c.measures (c.xs ++ c.ys) (cell_front (depth n.cell) shut.0))) None → (n.class ≡ None) ⊎ (new_closure c n.cell ≡ n.cell)
         go false e h = inl h
         go true e h =
             let same : shut.0 ≡ n.cell = cell_eq-exact code_equality _ _ e ∙ shut.2 in
             inr (leq_antisymm code_equality (new_closure c n.cell) n.cell
-            (subst (λ x. leq (eq_by_cmp nat_cmp) (new_closure c n.cell) x ≡ true) same (meet_next_rest code_equality t (old_closure c n.cell) shut.0 shut.1))
+            (subst (λ x. leq (eq_by_cmp nat_cmp) (new_closure c n.cell) x ≡ true) same (meet_after_rest code_equality t (old_closure c n.cell) shut.0 shut.1))
             (above_self t a wide c n.cell (front_leq t a wide c n.cell (depth n.cell) front)))
 
     pub old_sound : IsSound c name n
@@ -94,9 +95,6 @@ module _ (t : Cell ℕ) (a : Arena) (wide : length t ≡ a.width) (c : Case t a)
   }
 
   module _ (b : Tree ℕ) (f : ℕ → Option ℕ) (begun : IsBegun c b f) where
-    none_some : {X : Type 0} {x : X} → None ≡ Some x → ⊥
-    none_some z = cc
-
     -- each record is that of the start, or there was none
     unchanged : (k : ℕ) (n : Known) → map.get a.now k ≡ Some n → map.get b k ≡ Some n
     unchanged k n g =

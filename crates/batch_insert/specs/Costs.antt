@@ -2,7 +2,7 @@
 use Rattle.std.specs.Prelude.{ℕ, Option, None, Some, ◌+◌, ◌*◌, List, ◌∷◌, ◌++◌, filter, length, if◌then◌else◌}
 use Rattle.std.specs.List.{sum_by}
 use Rattle.std.specs.Ordering.{nat_cmp, eq_by_cmp}
-use Rattle.cube_defs.specs.Cell.{Cell, cell_eq, keep, leq}
+use Rattle.cube_defs.specs.Cell.{Cell, cell_eq, cell_front, leq}
 use Rattle.cube_defs.specs.Tree.{Node, Tree, node_of, nodes}
 use Rattle.qc_arena.specs.Map.{Arena}
 use Rattle.qc_arena.specs.Seen.{record_at}
@@ -37,4 +37,4 @@ module _ {t : Cell ℕ} {a : Arena} (c : Case t a) where
 
   -- what all nodes below t cost whose front before i is p
   unfoldable pub cost_below : Cell ℕ → ℕ → ℕ
-  cost_below p i = sum_by (λ q. if cell_eq (eq_by_cmp nat_cmp) (keep i q) p then weight q else 0) nodes_with
+  cost_below p i = sum_by (λ q. if cell_eq (eq_by_cmp nat_cmp) (cell_front i q) p then weight q else 0) nodes_with

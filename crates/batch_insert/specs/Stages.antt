@@ -10,7 +10,7 @@ use Rattle.cube_laws.specs.Lists.{Among}
 use Rattle.qc_arena.specs.Edges.{rises}
 use Rattle.qc_arena.specs.Map.{Arena, Known}
 use Rattle.qc_arena.specs.Seen.{record_at}
-use Rattle.tree_laws.specs.Labels.{lead}
+use Rattle.tree_laws.specs.Labels.{target_of_label}
 use Rattle.batch_insert.specs.declared.plan.Copying.{Copying}
 use Rattle.batch_insert.specs.declared.plan.Own.{Own}
 use Rattle.batch_insert.specs.declared.plan.End.{End}
@@ -32,7 +32,7 @@ EdgesStay b d = (k : ℕ) → (record_at d k).edges ≡ (record_at b k).edges
 
 module _ {t : Cell ℕ} {a : Arena} (c : Case t a) where
   abbrev pub new_lead : Cell ℕ → ℕ → ℕ → Option (Cell ℕ)
-  new_lead p i v = lead (eq_by_cmp nat_cmp) (c.xs ++ c.row ∷ c.ys) p i v
+  new_lead p i v = target_of_label (eq_by_cmp nat_cmp) (c.xs ++ c.row ∷ c.ys) p i v
 
   -- a record below t: each edge leads where it is to lead with the row, or it has t's value; there is no class but
   -- where the node is its own closure

@@ -2,10 +2,9 @@
 ghost use Rattle.std.specs.FinMap as map;
 ghost use Rattle.std.specs.Prelude.{All, IfNone, IfSome, IsSome, None, Some, false, if◌then◌else◌, is_some, length, nat_eq, slice_index_or, true, ℕ, ◌*◌, ◌+◌, ◌<◌, ◌≡◌, ◌≤◌, ◌^◌};
 ghost use Rattle.std.specs.Option.{option_and_then};
-ghost use Rattle.cell_core.specs.Entry.{IsCode};
 ghost use Rattle.cube_defs.specs.Cell as defs;
 ghost use Rattle.cube_defs.specs.Tree.{cell_at};
-ghost use Rattle.tree_laws.specs.Labels.{moved};
+ghost use Rattle.tree_laws.specs.Labels.{target_after_row};
 ghost use Rattle.batch_insert.specs.Masks.{Shares};
 ghost use Rattle.batch_insert.specs.Planned.{IsReady};
 
@@ -36,13 +35,13 @@ pub(crate) fn shared<L: Ledger>(
     steps: &mut Steps<L>,
 ) -> (u16, bool)
     requires ready { IsReady arena.now }
-    requires full { All (λ entry. is_some entry ≡ true) tuple.now }
+    requires no_any { All (λ entry. is_some entry ≡ true) tuple.now }
     requires width { length tuple.now ≡ arena.now.width }
     requires few { length tuple.now ≤ MAX_DIMS }
     requires dim { dim < length tuple.now }
     requires chain { IfSome chain.node (λ k. Shares tuple.now arena.now.now mask chain.is_own k.0) }
     requires old { IfSome old (λ k. IsSome (map.get arena.now.now k.0)) }
-    ensures mask { result.0 ≡ defs.mask (moved nat_eq (option_and_then (λ k. cell_at arena.now.now k.0) old) tuple.now dim) }
+    ensures mask { result.0 ≡ defs.mask (target_after_row nat_eq (option_and_then (λ k. cell_at arena.now.now k.0) old) tuple.now dim) }
     ensures shares { IfSome old (λ k. Shares tuple.now arena.now.now result.0 result.1 k.0) }
     ensures none { IfNone old (result.1 ≡ false) }
     ensures steps { steps.new ≤ steps.old + (2 * length tuple.now + 2) }
@@ -55,7 +54,7 @@ pub(crate) fn shared<L: Ledger>(
 
 // The mask of all dimensions up to this one.
 fn front_of(tuple: &Cell, dim: u8) -> u16
-    requires full { All (λ entry. is_some entry ≡ true) tuple.now }
+    requires no_any { All (λ entry. is_some entry ≡ true) tuple.now }
     requires few { length tuple.now ≤ MAX_DIMS }
     requires dim { dim < length tuple.now }
     ensures { result ≡ defs.mask (defs.upto tuple.now dim) }
@@ -75,7 +74,7 @@ fn common<L: Ledger>(
     steps: &mut Steps<L>,
 ) -> (u16, bool)
     requires ready { IsReady arena.now }
-    requires full { All (λ entry. is_some entry ≡ true) tuple.now }
+    requires no_any { All (λ entry. is_some entry ≡ true) tuple.now }
     requires few { length tuple.now ≤ MAX_DIMS }
     requires width { length tuple.now ≡ arena.now.width }
     requires chain { IfSome chain.node (λ k. Shares tuple.now arena.now.now mask chain.is_own k.0) }
@@ -109,7 +108,7 @@ fn is_at(chain: Option<NodeNo>, at: NodeNo) -> bool
 
 // The dimension's bit, where the tuple has the value.
 fn bit_of(tuple: &Cell, dim: u8, code: Code) -> u16
-    requires full { All (λ entry. is_some entry ≡ true) tuple.now }
+    requires no_any { All (λ entry. is_some entry ≡ true) tuple.now }
     requires few { length tuple.now ≤ MAX_DIMS }
     requires dim { dim < length tuple.now }
     ensures { result ≡ (if defs.entry_leq nat_eq (Some code) (slice_index_or tuple.now dim None) then 2 ^ dim else 0) }

@@ -16,7 +16,7 @@ use Rattle.build_trace.specs.Follows.{Look, Follows, cell_by}
 use Rattle.qc_arena.specs.Map.{Arena, Known, bare, frame, is_open, is_touched, with_class}
 use Rattle.qc_arena.specs.Seen.{record_at, record_or}
 use Rattle.qc_arena.specs.Edges.{put_edge}
-use Rattle.build_acts.specs.Going.{Going, IsNext, Does}
+use Rattle.build_acts.specs.Building.{IsBuilding, ActsComeNext, PerformsActs}
 use Rattle.build_trace.proofs.Steps.{adds_append}
 use Rattle.build_trace.proofs.Following.{IsPut, follow_add, follow_label, follow_mark}
 use Rattle.build_trace.proofs.Fresh.{add_fresh, add_bare}
@@ -47,8 +47,8 @@ was_added look done k f follows at = go (look k) refl
 
 module _ (measures : ℕ) (rows : List (Row ℕ)) (done rest : List Act) (a b : Arena) where
   -- a new node, whose parent has the cell without the last value
-  going_add : (p : Cell ℕ) (up : Option ℕ) (k : ℕ) → Going measures rows done (Add p ∷ rest) a → map.get a.now k ≡ None → OneNew a b k (bare p up) → ((q : ℕ) → is_touched b q ≡ (nat_eq k q || is_touched a q))
-      → option_map (cell_at a.now) up ≡ option_map (λ c. Some c) (cut_last nat_cmp p) → Going measures rows (done ++ Add p ∷ []) rest b
+  going_add : (p : Cell ℕ) (up : Option ℕ) (k : ℕ) → IsBuilding measures rows done (Add p ∷ rest) a → map.get a.now k ≡ None → OneNew a b k (bare p up) → ((q : ℕ) → is_touched b q ≡ (nat_eq k q || is_touched a q))
+      → option_map (cell_at a.now) up ≡ option_map (λ c. Some c) (cut_last nat_cmp p) → IsBuilding measures rows (done ++ Add p ∷ []) rest b
   going_add p up k g free o touched parent =
       let put = put_of a b k (bare p up) o in
       let shared = shared_some rows g.some in
@@ -67,8 +67,8 @@ module _ (measures : ℕ) (rows : List (Row ℕ)) (done rest : List Act) (a b : 
       }
 
   -- another record at a node's number
-  going_change : (e : Act) (k : ℕ) (m n : Known) → Going measures rows done (e ∷ rest) a → map.get a.now k ≡ Some m → OneNew a b k n → ((q : ℕ) → is_touched b q ≡ is_touched a q) → adds_of (e ∷ []) ≡ []
-      → Follows (done ++ e ∷ []) (λ q. map.get b.now q) → Going measures rows (done ++ e ∷ []) rest b
+  going_change : (e : Act) (k : ℕ) (m n : Known) → IsBuilding measures rows done (e ∷ rest) a → map.get a.now k ≡ Some m → OneNew a b k n → ((q : ℕ) → is_touched b q ≡ is_touched a q) → adds_of (e ∷ []) ≡ []
+      → Follows (done ++ e ∷ []) (λ q. map.get b.now q) → IsBuilding measures rows (done ++ e ∷ []) rest b
   going_change e k m n g was o touched none follows = record {
     wide = subst (λ w. AllByRecursion (λ row. length row.tuple ≡ w) rows) (sym (ap (λ (v : Arena). v.width) o.rest)) g.wide;
     some = g.some;
@@ -97,7 +97,7 @@ with_label b e n = record n { forced = cond b (Some e) n.forced; edges = put_edg
 module _ (measures : ℕ) (rows : List (Row ℕ)) (a b : Arena) (k : ℕ) where
   -- a node is added
   does_add : (p : Cell ℕ) (up : Option ℕ) → map.get a.now k ≡ None → OneNew a b k (bare p up) → ((q : ℕ) → is_touched b q ≡ (nat_eq k q || is_touched a q))
-      → ((done rest : List Act) → Going measures rows done (Add p ∷ rest) a → option_map (cell_at a.now) up ≡ option_map (λ c. Some c) (cut_last nat_cmp p)) → Does measures rows (Add p ∷ []) a b
+      → ((done rest : List Act) → IsBuilding measures rows done (Add p ∷ rest) a → option_map (cell_at a.now) up ≡ option_map (λ c. Some c) (cut_last nat_cmp p)) → PerformsActs measures rows (Add p ∷ []) a b
   does_add p up free o touched parent = record {
     acts = λ done rest g. going_add measures rows done rest a b p up k g free o touched (parent done rest g);
     cells = λ q c h. elim (eqb_tells q k) [
@@ -107,12 +107,12 @@ module _ (measures : ℕ) (rows : List (Row ℕ)) (a b : Arena) (k : ℕ) where
   }
 
   -- the root is added
-  pub does_root : map.get a.now k ≡ None → OneNew a b k (bare (replicate a.width None) None) → ((q : ℕ) → is_touched b q ≡ (nat_eq k q || is_touched a q)) → Does measures rows (Add (replicate a.width None) ∷ []) a b
+  pub does_root : map.get a.now k ≡ None → OneNew a b k (bare (replicate a.width None) None) → ((q : ℕ) → is_touched b q ≡ (nat_eq k q || is_touched a q)) → PerformsActs measures rows (Add (replicate a.width None) ∷ []) a b
   does_root free o touched = does_add (replicate a.width None) None free o touched (λ done rest g. sym (ap (option_map (λ c. Some c)) (cut-root a.width)))
 
   -- a node is added below its parent
   pub does_child : (up : ℕ) (f : Cell ℕ) (i v : ℕ) → cell_at a.now up ≡ Some f → depth f ≤ i → map.get a.now k ≡ None → OneNew a b k (bare (with_value f i v) (Some up)) → ((q : ℕ) → is_touched b q ≡ (nat_eq k q || is_touched a q))
-      → Does measures rows (Add (with_value f i v) ∷ []) a b
+      → PerformsActs measures rows (Add (with_value f i v) ∷ []) a b
   does_child up f i v at behind free o touched = does_add (with_value f i v) (Some up) free o touched (λ done rest g.
       let new = add_fresh measures a.width rows g.wide (shared_some rows g.some) done rest (with_value f i v) g.whole in
       let old : Among (Add f) done = was_added (λ q. map.get a.now q) done up f g.follows at in
@@ -120,13 +120,13 @@ module _ (measures : ℕ) (rows : List (Row ℕ)) (a b : Arena) (k : ℕ) where
 
   -- a label is set, to a node that is there
   pub does_label : (forced : Bool) (f t : Cell ℕ) (i v l : ℕ) → cell_at a.now k ≡ Some f → cell_at a.now l ≡ Some t → (m : Known) → map.get a.now k ≡ Some m → OneNew a b k (with_label forced (record { dim = i; value = v; target = l }) m)
-      → ((q : ℕ) → is_touched b q ≡ is_touched a q) → Does measures rows (Label forced f i v t ∷ []) a b
+      → ((q : ℕ) → is_touched b q ≡ is_touched a q) → PerformsActs measures rows (Label forced f i v t ∷ []) a b
   does_label forced f t i v l at target m was o touched = record { acts = acts; cells = kept_cells a b k m _ was refl o }
     where
       is : m.cell ≡ f
       is = some_same (sym (ap (option_map (λ (x : Known). x.cell)) was) ∙ at)
 
-      acts : (done rest : List Act) → Going measures rows done (Label forced f i v t ∷ rest) a → Going measures rows (done ++ Label forced f i v t ∷ []) rest b
+      acts : (done rest : List Act) → IsBuilding measures rows done (Label forced f i v t ∷ rest) a → IsBuilding measures rows (done ++ Label forced f i v t ∷ []) rest b
       acts done rest g =
           let e : Edge ℕ ℕ = record { dim = i; value = v; target = l } in
           let last = put_edge-last e m.edges (put_last measures a.width rows g.wide (shared_some rows g.some) done rest forced f i v t (λ q. map.get a.now q) k m g.whole g.follows was is) in
@@ -136,27 +136,27 @@ module _ (measures : ℕ) (rows : List (Row ℕ)) (a b : Arena) (k : ℕ) where
           (follow_label done forced i v t (λ q. map.get a.now q) (λ q. map.get b.now q) k l m g.follows was target put))
 
   -- a class is marked
-  pub does_mark : (w : Cell ℕ) (x : Agg) → cell_at a.now k ≡ Some w → (m : Known) → map.get a.now k ≡ Some m → OneNew a b k (with_class (Some x) m) → ((q : ℕ) → is_touched b q ≡ is_touched a q) → Does measures rows (Mark w x ∷ []) a b
+  pub does_mark : (w : Cell ℕ) (x : Agg) → cell_at a.now k ≡ Some w → (m : Known) → map.get a.now k ≡ Some m → OneNew a b k (with_class (Some x) m) → ((q : ℕ) → is_touched b q ≡ is_touched a q) → PerformsActs measures rows (Mark w x ∷ []) a b
   does_mark w x at m was o touched = record { acts = acts; cells = kept_cells a b k m _ was refl o }
     where
       is : m.cell ≡ w
       is = some_same (sym (ap (option_map (λ (x : Known). x.cell)) was) ∙ at)
 
-      acts : (done rest : List Act) → Going measures rows done (Mark w x ∷ rest) a → Going measures rows (done ++ Mark w x ∷ []) rest b
+      acts : (done rest : List Act) → IsBuilding measures rows done (Mark w x ∷ rest) a → IsBuilding measures rows (done ++ Mark w x ∷ []) rest b
       acts done rest g =
           going_change measures rows done rest a b (Mark w x) k m _ g was o touched refl
           (subst (λ c. Follows (done ++ Mark c x ∷ []) (λ q. map.get b.now q)) is
           (follow_mark done x (λ q. map.get a.now q) (λ q. map.get b.now q) k m g.follows was (put_of a b k _ o)))
 
 -- one act after another
-pub does_both : (measures : ℕ) (rows : List (Row ℕ)) (e f : Act) (a b c : Arena) → Does measures rows (e ∷ []) a b → Does measures rows (f ∷ []) b c → Does measures rows (e ∷ f ∷ []) a c
+pub does_both : (measures : ℕ) (rows : List (Row ℕ)) (e f : Act) (a b c : Arena) → PerformsActs measures rows (e ∷ []) a b → PerformsActs measures rows (f ∷ []) b c → PerformsActs measures rows (e ∷ f ∷ []) a c
 does_both measures rows e f a b c d h = record {
-  acts = λ done rest g. subst (λ es. Going measures rows es rest c) (append_assoc done (e ∷ []) (f ∷ [])) (h.acts (done ++ e ∷ []) rest (d.acts done (f ∷ rest) g));
+  acts = λ done rest g. subst (λ es. IsBuilding measures rows es rest c) (append_assoc done (e ∷ []) (f ∷ [])) (h.acts (done ++ e ∷ []) rest (d.acts done (f ∷ rest) g));
   cells = λ q x at. h.cells q x (d.cells q x at);
 }
 
 -- where a node comes next, there are more nodes than there are records
-pub more_next : (measures : ℕ) (rows : List (Row ℕ)) (p : Cell ℕ) (es : List Act) (a : Arena) → IsNext measures rows (Add p ∷ es) a → map.len a.now ≡ a.max → a.max < length (nodes nat_cmp rows)
+pub more_next : (measures : ℕ) (rows : List (Row ℕ)) (p : Cell ℕ) (es : List Act) (a : Arena) → ActsComeNext measures rows (Add p ∷ es) a → map.len a.now ≡ a.max → a.max < length (nodes nat_cmp rows)
 more_next measures rows p es a n full =
     let g = n.going in
     let more = more_nodes measures a.width rows g.wide (shared_some rows g.some) n.done (es ++ n.rest) p g.whole in
@@ -166,7 +166,7 @@ more_next measures rows p es a n full =
 -- a root that was added
 pub root_made : {E : Type 0} (r : Result NodeNo E) (a b : Arena) → IfOk r (λ k. map.get a.now k.0 ≡ None) → IfOk r (λ k. map.get b.now k.0 ≡ Some (bare (replicate a.width None) None)) → IfOk r (λ k. (q : ℕ) → q ≢ k.0 → map.get b.now q ≡ map.get a.now q)
     → IfOk r (λ k. (q : ℕ) → is_touched b q ≡ (nat_eq k.0 q || is_touched a q)) → frame b ≡ frame a
-    → OnOk r ((measures : ℕ) (rows : List (Row ℕ)) → Does measures rows (Add (replicate a.width None) ∷ []) a b)
+    → OnOk r ((measures : ℕ) (rows : List (Row ℕ)) → PerformsActs measures rows (Add (replicate a.width None) ∷ []) a b)
 root_made (Ok k) a b free here others touched rest = λ measures rows. does_root measures rows a b k.0 free (record { here = here; others = others; rest = rest }) touched
 root_made (Err e) a b free here others touched rest = tt
 

@@ -1,13 +1,13 @@
 // Edges to nodes that are there already.
 ghost use Rattle.std.specs.FinMap as map;
 ghost use Rattle.cell_core.specs.Entry.{IsCode};
-ghost use Rattle.std.specs.Prelude.{IsSome, List, OnOk, Some, [], false, true, ℕ, ◌<◌, ◌∷◌, ◌≡◌};
+ghost use Rattle.std.specs.Prelude.{IsSome, List, OnOk, Some, [], false, ℕ, ◌<◌, ◌∷◌, ◌≡◌};
 ghost use Rattle.cube_defs.specs.Cell.{Cell};
 ghost use Rattle.cube_defs.specs.Rows.{Row};
 ghost use Rattle.cube_defs.specs.Tree.{cell_at};
 ghost use Rattle.build_trace.specs.Trace.{Act.{Label}};
 ghost use Rattle.qc_arena.specs.Map.{CanChange, frame};
-ghost use Rattle.build_acts.specs.Going.{Does};
+ghost use Rattle.build_acts.specs.Building.{PerformsActs};
 
 use crate::Memory;
 use cell_core::{Code, NodeNo, Steps};
@@ -27,8 +27,9 @@ pub fn set_link<L: Ledger>(
     requires target { IsSome (map.get arena.old.now target.0) }
     requires dim { dim < arena.old.width }
     requires code { IsCode code }
-    ensures made { OnOk result ((measures : ℕ) (rows : List (Row ℕ)) (f t : Cell ℕ) → cell_at arena.old.now node.0 ≡ Some f → cell_at arena.old.now target.0 ≡ Some t
-        → Does measures rows (Label false f dim code t ∷ []) arena.old arena.new) }
+    ensures made { OnOk result ((measures : ℕ) (rows : List (Row ℕ)) (f t : Cell ℕ) → cell_at arena.old.now node.0 ≡ Some f →
+        cell_at arena.old.now target.0 ≡ Some t
+        → PerformsActs measures rows (Label false f dim code t ∷ []) arena.old arena.new) }
     ensures frame { frame arena.new ≡ frame arena.old }
 {
     put_label(arena, node, dim, code, target, false, steps)
@@ -48,8 +49,9 @@ pub(crate) fn put_label<L: Ledger>(
     requires target { IsSome (map.get arena.old.now target.0) }
     requires dim { dim < arena.old.width }
     requires code { IsCode code }
-    ensures made { OnOk result ((measures : ℕ) (rows : List (Row ℕ)) (f t : Cell ℕ) → cell_at arena.old.now node.0 ≡ Some f → cell_at arena.old.now target.0 ≡ Some t
-        → Does measures rows (Label is_forced f dim code t ∷ []) arena.old arena.new) }
+    ensures made { OnOk result ((measures : ℕ) (rows : List (Row ℕ)) (f t : Cell ℕ) → cell_at arena.old.now node.0 ≡ Some f →
+        cell_at arena.old.now target.0 ≡ Some t
+        → PerformsActs measures rows (Label is_forced f dim code t ∷ []) arena.old arena.new) }
     ensures frame { frame arena.new ≡ frame arena.old }
 {
     match arena.set_edge(node, dim, code, target, steps) {

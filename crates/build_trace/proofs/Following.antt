@@ -11,10 +11,11 @@ use Rattle.std.specs.FinMap as finmap
 use Rattle.cube_defs.specs.Tree.{Tree, IsCanonical}
 use Rattle.cube_laws.specs.Lists.{Among}
 use Rattle.cube_laws.proofs.Cells.{nat_equality, cell_eq-exact, cell_eq-same}
+use Rattle.cube_laws.proofs.Lists.{among_left}
 use Rattle.tree_laws.proofs.Lists.{some_same}
 use Rattle.build_trace.specs.Trace.{Act, Act.{Add, Label, Mark}, puts_of, labels_of, forced_in, mark_of, read}
 use Rattle.build_trace.specs.Follows.{Look, Follows, cell_by}
-use Rattle.build_trace.proofs.Lists.{among_left, among_right, among_either}
+use Rattle.build_trace.proofs.Lists.{among_right, among_either}
 use Rattle.build_trace.proofs.Steps.{same_node, with_put, read_add, read_label, read_mark}
 use Rattle.build_trace.proofs.Names.{renamed_more}
 

@@ -2,16 +2,17 @@
 use Rattle.std.proofs.Common.{Bool, ◌≡◌, inl, inr, ℕ, zero, suc, Option, Some, None, List, [], ◌∷◌, ◌++◌, nat_eq, refl, sym, ap, subst, ◌∙◌}
 use Rattle.std.proofs.lemmas.Bool.{cond-false, false_from_ne_true}
 use Rattle.std.proofs.lemmas.List.{append_assoc}
-use Rattle.cube_defs.specs.Cell.{Cell, keep, depth, cell_eq}
+use Rattle.cube_defs.specs.Cell.{Cell, cell_front, depth, cell_eq}
 use Rattle.cube_defs.specs.Rows.{Row, Agg}
 use Rattle.cube_laws.specs.Lists.{Among}
-use Rattle.cube_laws.proofs.Cells.{nat_equality, cell_eq-exact, keep-depth}
+use Rattle.cube_laws.proofs.Cells.{nat_equality, cell_eq-exact, cell_front-depth}
 use Rattle.tree_laws.proofs.Sums.{EachOnce}
 use Rattle.cube_laws.proofs.Shared.{IsShared, HaveDims, entry}
 use Rattle.cube_laws.specs.Parting.{shared_by}
+use Rattle.cube_laws.proofs.Lists.{among_left}
 use Rattle.build_trace.specs.Trace.{Act, Act.{Add, Label, Mark}, acts, trace, puts_of, mark_by, mark_of}
 use Rattle.build_trace.specs.Ready.{HasPath, Ready}
-use Rattle.build_trace.proofs.Lists.{among_left, among_right}
+use Rattle.build_trace.proofs.Lists.{among_right}
 use Rattle.build_trace.proofs.Fronts.{last_entry}
 use Rattle.build_trace.proofs.Visits.{Visit.{Made}, visits_of, visits_append, add_visit}
 use Rattle.build_trace.proofs.Canonical.{once_visits}
@@ -23,10 +24,10 @@ path_end done t p = go (depth t) refl
   where
     some : (d : ℕ) → depth t ≡ suc d → (o : Option ℕ) → entry t d ≡ o → Among (Add t) done
     some d e None o = absurd (last_entry d t e o)
-    some d e (Some v) o = subst (λ c. Among (Add c) done) (ap (λ i. keep i t) (sym e) ∙ keep-depth t) (p.there d v o).added
+    some d e (Some v) o = subst (λ c. Among (Add c) done) (ap (λ i. cell_front i t) (sym e) ∙ cell_front-depth t) (p.there d v o).added
 
     go : (d : ℕ) → depth t ≡ d → Among (Add t) done
-    go zero e = subst (λ c. Among (Add c) done) (ap (λ i. keep i t) (sym e) ∙ keep-depth t) p.root
+    go zero e = subst (λ c. Among (Add c) done) (ap (λ i. cell_front i t) (sym e) ∙ cell_front-depth t) p.root
     go (suc d) e = some d e (entry t d) refl
 
 -- in a ready list nothing is done at a node that isn't added before or in it
@@ -72,10 +73,10 @@ module _ (measures n : ℕ) (table : List (Row ℕ)) (all_long : HaveDims n tabl
   pub add_bare : (xs ys : List Act) (p : Cell ℕ) → trace measures n table ≡ xs ++ Add p ∷ ys → (puts_of p xs ≡ []) × (mark_of p xs ≡ None)
   add_bare [] ys p e = (refl, refl)
   add_bare (x ∷ xs) ys p e =
-      let head : Add (keep 0 (shared_by table)) ≡ x = cc in
+      let head : Add (cell_front 0 (shared_by table)) ≡ x = cc in
       let tail : acts measures n 0 table ≡ xs ++ Add p ∷ ys = cc in
-      let r : Ready (Add (keep 0 (shared_by table)) ∷ []) xs = ready_front (Add (keep 0 (shared_by table)) ∷ []) xs (Add p ∷ ys) (subst (Ready (Add (keep 0 (shared_by table)) ∷ [])) tail (trace_ready measures n table all_long shared)) in
-      let fresh : Among (Add p) (Add (keep 0 (shared_by table)) ∷ xs) → ⊥ = λ a. add_fresh (x ∷ xs) ys p e (subst (λ z. Among (Add p) (z ∷ xs)) head a) in (
-        ap (λ z. puts_of p (z ∷ xs)) (sym head) ∙ no_puts p (Add (keep 0 (shared_by table)) ∷ []) xs r fresh,
-        ap (λ z. mark_of p (z ∷ xs)) (sym head) ∙ no_mark p (Add (keep 0 (shared_by table)) ∷ []) xs r fresh,
+      let r : Ready (Add (cell_front 0 (shared_by table)) ∷ []) xs = ready_front (Add (cell_front 0 (shared_by table)) ∷ []) xs (Add p ∷ ys) (subst (Ready (Add (cell_front 0 (shared_by table)) ∷ [])) tail (trace_ready measures n table all_long shared)) in
+      let fresh : Among (Add p) (Add (cell_front 0 (shared_by table)) ∷ xs) → ⊥ = λ a. add_fresh (x ∷ xs) ys p e (subst (λ z. Among (Add p) (z ∷ xs)) head a) in (
+        ap (λ z. puts_of p (z ∷ xs)) (sym head) ∙ no_puts p (Add (cell_front 0 (shared_by table)) ∷ []) xs r fresh,
+        ap (λ z. mark_of p (z ∷ xs)) (sym head) ∙ no_mark p (Add (cell_front 0 (shared_by table)) ∷ []) xs r fresh,
       )

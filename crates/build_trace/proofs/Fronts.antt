@@ -1,35 +1,35 @@
 -- The entries of cells, and cells with the same front.
 use Rattle.std.proofs.Common.{◌≡◌, ◌⊎◌, inl, inr, ℕ, zero, suc, ◌<◌, ◌≤◌, true, Option, Some, None, List, [], ◌∷◌, length, nat_eq, slice_index_or, refl, sym, ap, ap₂, subst, ◌∙◌, arith, true≢false, eqb-true}
 use Rattle.std.proofs.lemmas.Bool.{and_parts}
-use Rattle.cube_defs.specs.Cell.{Cell, leq, entry_leq, keep, cell_of, depth, one_deeper}
+use Rattle.cube_defs.specs.Cell.{Cell, leq, entry_leq, cell_front, cell_of, depth, one_deeper}
 use Rattle.cube_laws.proofs.Shared.{entry}
-use Rattle.cube_laws.proofs.Cells.{nat_equality, depth-keep_zero, keep_mono, leq_antisymm}
+use Rattle.cube_laws.proofs.Cells.{nat_equality, depth-cell_front_zero, cell_front_mono, leq_antisymm}
 
-pub keep_next : (k : ℕ) (c d : Cell ℕ) → length c ≡ length d → keep k c ≡ keep k d → entry c k ≡ entry d k → keep (suc k) c ≡ keep (suc k) d
-keep_next k [] [] l h e = refl
-keep_next k [] (f ∷ d) l h e = absurd (omega arith)
-keep_next k (x ∷ c) [] l h e = absurd (omega arith)
-keep_next zero (x ∷ c) (y ∷ d) l h e = ap₂ (λ a b. a ∷ b) e (cc)
-keep_next (suc k) (x ∷ c) (y ∷ d) l h e = ap₂ (λ a b. a ∷ b) (cc) (keep_next k c d (omega arith) (cc) e)
+pub cell_front_next : (k : ℕ) (c d : Cell ℕ) → length c ≡ length d → cell_front k c ≡ cell_front k d → entry c k ≡ entry d k → cell_front (suc k) c ≡ cell_front (suc k) d
+cell_front_next k [] [] l h e = refl
+cell_front_next k [] (f ∷ d) l h e = absurd (omega arith)
+cell_front_next k (x ∷ c) [] l h e = absurd (omega arith)
+cell_front_next zero (x ∷ c) (y ∷ d) l h e = ap₂ (λ a b. a ∷ b) e (cc)
+cell_front_next (suc k) (x ∷ c) (y ∷ d) l h e = ap₂ (λ a b. a ∷ b) (cc) (cell_front_next k c d (omega arith) (cc) e)
 
-pub keep_back : (k : ℕ) (c d : Cell ℕ) → keep (suc k) c ≡ keep (suc k) d → keep k c ≡ keep k d
-keep_back k [] [] h = refl
-keep_back k [] (f ∷ d) h = cc
-keep_back k (x ∷ c) [] h = cc
-keep_back zero (x ∷ c) (y ∷ d) h = ap (λ b. None ∷ b) (cc)
-keep_back (suc k) (x ∷ c) (y ∷ d) h = ap₂ (λ a b. a ∷ b) (cc) (keep_back k c d (cc))
+pub cell_front_back : (k : ℕ) (c d : Cell ℕ) → cell_front (suc k) c ≡ cell_front (suc k) d → cell_front k c ≡ cell_front k d
+cell_front_back k [] [] h = refl
+cell_front_back k [] (f ∷ d) h = cc
+cell_front_back k (x ∷ c) [] h = cc
+cell_front_back zero (x ∷ c) (y ∷ d) h = ap (λ b. None ∷ b) (cc)
+cell_front_back (suc k) (x ∷ c) (y ∷ d) h = ap₂ (λ a b. a ∷ b) (cc) (cell_front_back k c d (cc))
 
-pub keep_entry : (k : ℕ) (c d : Cell ℕ) → keep (suc k) c ≡ keep (suc k) d → entry c k ≡ entry d k
-keep_entry k [] [] h = refl
-keep_entry k [] (f ∷ d) h = cc
-keep_entry k (x ∷ c) [] h = cc
-keep_entry zero (x ∷ c) (y ∷ d) h = cc
-keep_entry (suc k) (x ∷ c) (y ∷ d) h = keep_entry k c d (cc)
+pub cell_front_entry : (k : ℕ) (c d : Cell ℕ) → cell_front (suc k) c ≡ cell_front (suc k) d → entry c k ≡ entry d k
+cell_front_entry k [] [] h = refl
+cell_front_entry k [] (f ∷ d) h = cc
+cell_front_entry k (x ∷ c) [] h = cc
+cell_front_entry zero (x ∷ c) (y ∷ d) h = cc
+cell_front_entry (suc k) (x ∷ c) (y ∷ d) h = cell_front_entry k c d (cc)
 
-pub keep_all : (k : ℕ) (c : Cell ℕ) → length c ≤ k → keep k c ≡ c
-keep_all k [] l = refl
-keep_all zero (x ∷ c) l = absurd (omega arith)
-keep_all (suc k) (x ∷ c) l = ap (λ b. x ∷ b) (keep_all k c (omega arith))
+pub cell_front_all : (k : ℕ) (c : Cell ℕ) → length c ≤ k → cell_front k c ≡ c
+cell_front_all k [] l = refl
+cell_front_all zero (x ∷ c) l = absurd (omega arith)
+cell_front_all (suc k) (x ∷ c) l = ap (λ b. x ∷ b) (cell_front_all k c (omega arith))
 
 entry_of_leq : (x : ℕ) (f : Option ℕ) → entry_leq nat_eq (Some x) f ≡ true → f ≡ Some x
 entry_of_leq x None h = absurd (true≢false (sym h))
@@ -49,26 +49,26 @@ covers_code zero x (f ∷ c) (v ∷ t) h e = let r : Some v ≡ Some x = entry_o
 covers_code (suc k) x (f ∷ c) (v ∷ t) h e = covers_code k x c t (and_parts (entry_leq nat_eq f (Some v)) (leq nat_eq c (cell_of t)) h).1 e
 
 -- what lies between two cells with the same front has it too
-pub front_between : (k : ℕ) (a b c : Cell ℕ) → leq nat_eq a b ≡ true → leq nat_eq b c ≡ true → keep k c ≡ keep k a → keep k b ≡ keep k a
+pub front_between : (k : ℕ) (a b c : Cell ℕ) → leq nat_eq a b ≡ true → leq nat_eq b c ≡ true → cell_front k c ≡ cell_front k a → cell_front k b ≡ cell_front k a
 front_between k a b c h g e =
     leq_antisymm nat_equality _ _
-    (subst (λ x. leq nat_eq (keep k b) x ≡ true) e (keep_mono nat_equality k b c g))
-    (keep_mono nat_equality k a b h)
+    (subst (λ x. leq nat_eq (cell_front k b) x ≡ true) e (cell_front_mono nat_equality k b c g))
+    (cell_front_mono nat_equality k a b h)
 
-pub entry_keep : (k d : ℕ) (c : Cell ℕ) → k < d → entry (keep d c) k ≡ entry c k
-entry_keep k zero c l = absurd (omega arith)
-entry_keep k (suc d) [] l = refl
-entry_keep zero (suc d) (x ∷ c) l = refl
-entry_keep (suc k) (suc d) (x ∷ c) l = entry_keep k d c (omega arith)
+pub entry_cell_front : (k d : ℕ) (c : Cell ℕ) → k < d → entry (cell_front d c) k ≡ entry c k
+entry_cell_front k zero c l = absurd (omega arith)
+entry_cell_front k (suc d) [] l = refl
+entry_cell_front zero (suc d) (x ∷ c) l = refl
+entry_cell_front (suc k) (suc d) (x ∷ c) l = entry_cell_front k d c (omega arith)
 
 deeper : (e : Option ℕ) (n m : ℕ) → n ≡ suc m → one_deeper e n ≡ suc (suc m)
 deeper None n m h = ap (one_deeper {A = ℕ} None) h
 deeper (Some v) n m h = ap suc h
 
-pub depth_keep : (d v : ℕ) (c : Cell ℕ) → entry c d ≡ Some v → depth (keep (suc d) c) ≡ suc d
-depth_keep d v [] e = cc
-depth_keep zero v (x ∷ c) e = ap (λ y. one_deeper y (depth (keep 0 c))) e ∙ ap suc (depth-keep_zero c)
-depth_keep (suc d) v (x ∷ c) e = deeper x (depth (keep (suc d) c)) d (depth_keep d v c e)
+pub depth_cell_front : (d v : ℕ) (c : Cell ℕ) → entry c d ≡ Some v → depth (cell_front (suc d) c) ≡ suc d
+depth_cell_front d v [] e = cc
+depth_cell_front zero v (x ∷ c) e = ap (λ y. one_deeper y (depth (cell_front 0 c))) e ∙ ap suc (depth-cell_front_zero c)
+depth_cell_front (suc d) v (x ∷ c) e = deeper x (depth (cell_front (suc d) c)) d (depth_cell_front d v c e)
 
 -- the last value
 pub last_entry : (d : ℕ) (c : Cell ℕ) → depth c ≡ suc d → entry c d ≡ None → ⊥
@@ -93,21 +93,21 @@ deeper_or zero (suc (suc d)) h = inr (omega arith)
 deeper_or (suc k) (suc d) h = elim (deeper_or k d (omega arith)) [ inl e ↦ inl (ap suc e) | inr g ↦ inr (omega arith) ]
 
 -- cells with the same entries before a dimension
-pub zero_front : (c d : Cell ℕ) → length c ≡ length d → keep 0 c ≡ keep 0 d
+pub zero_front : (c d : Cell ℕ) → length c ≡ length d → cell_front 0 c ≡ cell_front 0 d
 zero_front [] [] h = refl
 zero_front [] (f ∷ d) h = absurd (omega arith)
 zero_front (x ∷ c) [] h = absurd (omega arith)
 zero_front (x ∷ c) (y ∷ d) h = ap (λ b. None ∷ b) (zero_front c d (omega arith))
 
-pub entry_cut : (k : ℕ) (c : Cell ℕ) → entry (keep k c) k ≡ None
+pub entry_cut : (k : ℕ) (c : Cell ℕ) → entry (cell_front k c) k ≡ None
 entry_cut k [] = refl
 entry_cut zero (x ∷ c) = refl
 entry_cut (suc k) (x ∷ c) = entry_cut k c
 
-pub keep_still : (k : ℕ) (u : Cell ℕ) → entry u k ≡ None → keep (suc k) u ≡ keep k u
-keep_still k [] e = refl
-keep_still zero (x ∷ u) e = ap (λ y. y ∷ keep 0 u) e
-keep_still (suc k) (x ∷ u) e = ap (λ c. x ∷ c) (keep_still k u e)
+pub cell_front_still : (k : ℕ) (u : Cell ℕ) → entry u k ≡ None → cell_front (suc k) u ≡ cell_front k u
+cell_front_still k [] e = refl
+cell_front_still zero (x ∷ u) e = ap (λ y. y ∷ cell_front 0 u) e
+cell_front_still (suc k) (x ∷ u) e = ap (λ c. x ∷ c) (cell_front_still k u e)
 
 pub depth_beyond : (k x : ℕ) (c : Cell ℕ) → entry c k ≡ Some x → k < depth c
 depth_beyond k x [] e = cc
@@ -120,7 +120,7 @@ depth_beyond (suc k) x (y ∷ c) e = go y (depth c) (depth_beyond k x c e)
     go None (suc d) h = omega arith
     go (Some v) d h = omega arith
 
-pub front_entry : (k j v : ℕ) (c : Cell ℕ) → entry (keep k c) j ≡ Some v → j < k
+pub front_entry : (k j v : ℕ) (c : Cell ℕ) → entry (cell_front k c) j ≡ Some v → j < k
 front_entry k j v [] e = cc
 front_entry zero zero v (x ∷ c) e = cc
 front_entry zero (suc j) v (x ∷ c) e = let h : j < 0 = front_entry zero j v c e in absurd (omega arith)

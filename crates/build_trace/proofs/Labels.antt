@@ -1,10 +1,9 @@
 -- The labels of a node's record in a dimension are those of the walk.
 use Rattle.std.proofs.Common.{◌≡◌, ℕ, zero, suc, ◌<◌, true, Option, Some, None, List, [], ◌∷◌, map, filter, filter_map, length, nat_eq, nat_cmp, slice_get, slice_index_or, refl, sym, ap, ap₂, subst, ◌∙◌, arith, eqb-true, eq-eqb}
 use Rattle.std.specs.Option.{option_map}
-use Rattle.std.specs.Ordering.{eq_by_cmp}
 use Rattle.std.specs.List.{AllByRecursion, cons_option}
 use Rattle.std.proofs.lemmas.Bool.{and_parts, and_from}
-use Rattle.cube_defs.specs.Cell.{Cell, leq, entry_leq, keep, upto, with_value, cell_of}
+use Rattle.cube_defs.specs.Cell.{Cell, leq, entry_leq, cell_front, upto, with_value, cell_of}
 use Rattle.cube_defs.specs.Rows.{Row, covers, cov, closure, meet_all}
 use Rattle.cube_defs.specs.Tree.{Edge, distinct, edges_in}
 use mathlib.Core.Path.{fun_ext}
@@ -14,17 +13,14 @@ use Rattle.cube_laws.proofs.Cells.{nat_equality, leq_trans, leq_refl}
 use Rattle.cube_laws.proofs.Lists.{all_map, all_from}
 use Rattle.cube_laws.proofs.Shared.{HaveDims, entry}
 use Rattle.cube_laws.specs.Parting.{code_in, shared_by, part_at, codes_in}
-use Rattle.cube_laws.proofs.Orders.{eq_cmp}
+use Rattle.cube_laws.proofs.Orders.{one_test}
 use Rattle.build_trace.proofs.Fronts.{covers_code}
 use Rattle.build_trace.proofs.Parting.{has_code, dims_filter, shared_among, code_among}
 use Rattle.build_trace.proofs.Links.{filter_pair, long}
 
-pub same_test : eq_by_cmp nat_cmp ≡ nat_eq
-same_test = fun_ext (λ a. fun_ext (λ b. eq_cmp a b))
-
 -- the label of the walk
 abbrev pub label : ℕ → List (Row ℕ) → ℕ → Edge ℕ (Cell ℕ)
-label k rows v = record { dim = k; value = v; target = keep (suc k) (shared_by (part_at k rows v)) }
+label k rows v = record { dim = k; value = v; target = cell_front (suc k) (shared_by (part_at k rows v)) }
 
 set_entry : (k v : ℕ) (c : Cell ℕ) → k < length c → entry (with_value c k v) k ≡ Some v
 set_entry k v [] h = absurd (omega arith)
@@ -60,7 +56,7 @@ filter_map_some f g (x ∷ xs) h = ap₂ cons_option h.0 (filter_map_some f g xs
 pub labels_are : (n k : ℕ) (table rows : List (Row ℕ)) (p : Cell ℕ) → HaveDims n table → length p ≡ n → k < n → entry p k ≡ None → cov nat_eq table p ≡ rows
     → edges_in nat_cmp table p k ≡ map (label k rows) (codes_in k rows)
 labels_are n k table rows p long len lt none whole =
-    ap (λ eq. filter_map (λ v. option_map (λ u. record { dim = k; value = v; target = upto u k }) (closure eq table (with_value p k v))) (distinct nat_cmp (filter_map (λ row. slice_get row.tuple k) (cov eq table p)))) same_test
+    ap (λ eq. filter_map (λ v. option_map (λ u. record { dim = k; value = v; target = upto u k }) (closure eq table (with_value p k v))) (distinct nat_cmp (filter_map (λ row. slice_get row.tuple k) (cov eq table p)))) one_test
     ∙ ap (λ rs. filter_map (λ v. option_map (λ u. record { dim = k; value = v; target = upto u k }) (closure nat_eq table (with_value p k v))) (distinct nat_cmp (filter_map (λ row. slice_get row.tuple k) rs))) whole
     ∙ ap (λ vs. filter_map (λ v. option_map (λ u. record { dim = k; value = v; target = upto u k }) (closure nat_eq table (with_value p k v))) (distinct nat_cmp vs)) (codes_got k n rows rows_long lt)
     ∙ filter_map_some (λ v. option_map (λ u. record { dim = k; value = v; target = upto u k }) (closure nat_eq table (with_value p k v))) (label k rows) (codes_in k rows) (all_from _ (codes_in k rows) each)

@@ -2,14 +2,10 @@
 use Rattle.std.proofs.Common.{◌≡◌, ℕ, zero, suc, ◌<◌, ap, arith, List, [], ◌∷◌, ◌++◌, flat_map, inl, inr, ◌⊎◌, refl, sym, subst}
 use Rattle.std.specs.List.{AllByRecursion}
 use Rattle.cube_laws.specs.Lists.{Among}
-use Rattle.cube_laws.proofs.Lists.{all_append}
+use Rattle.cube_laws.proofs.Lists.{all_append, among_left}
 use Rattle.tree_laws.proofs.Sums.{EachOnce}
 
 module _ {X : Type 0} where
-  pub among_left : (x : X) (xs ys : List X) → Among x xs → Among x (xs ++ ys)
-  among_left x [] ys h = absurd h
-  among_left x (y ∷ xs) ys h = elim h [ inl e ↦ inl e | inr k ↦ inr (among_left x xs ys k) ]
-
   pub among_right : (x : X) (xs ys : List X) → Among x ys → Among x (xs ++ ys)
   among_right x [] ys h = h
   among_right x (y ∷ xs) ys h = inr (among_right x xs ys h)

@@ -5,21 +5,21 @@ use Rattle.std.specs.Option.{option_map, option_and_then}
 use Rattle.std.specs.List.{range_with_len, position_or_len}
 use Rattle.std.proofs.lemmas.Bool.{cond-true, cond-false, false_from_ne_true}
 use Rattle.std.proofs.lemmas.List.{append_assoc}
-use Rattle.cube_defs.specs.Cell.{Cell, keep, depth, with_value, cell_eq, cell_of}
+use Rattle.cube_defs.specs.Cell.{Cell, cell_front, depth, with_value, cell_eq, cell_of}
 use Rattle.cube_defs.specs.Rows.{Row, Agg, agg, covers, cov, closure}
 use Rattle.cube_defs.specs.Tree.{Edge, edges_in, forced_child, as_list, next_value, node_with, node_of, cut_last}
 use Rattle.cube_laws.specs.Lists.{Among}
-use Rattle.cube_laws.proofs.Cells.{nat_equality, cell_eq-exact, cell_eq-same, keep-leq, depth-le, length-keep, leq_trans}
+use Rattle.cube_laws.proofs.Cells.{nat_equality, cell_eq-exact, cell_eq-same, cell_front-leq, depth-le, length-cell_front, leq_trans}
 use Rattle.cube_laws.proofs.Lists.{all_map, all_at, filter_all}
 use Rattle.cube_laws.proofs.Covered.{closure_length}
 use Rattle.tree_laws.proofs.Lists.{some_same}
 use Rattle.cube_laws.proofs.Shared.{IsShared, HaveDims, entry, closure-shared, shared_covers}
 use Rattle.cube_laws.specs.Parting.{shared_by}
+use Rattle.cube_laws.proofs.Orders.{one_test}
 use Rattle.build_trace.specs.Trace.{Act, Act.{Add, Label, Mark}, Put, acts, trace, puts_of, labels_of, forced_by, forced_in, mark_by, mark_of, read}
-use Rattle.build_trace.proofs.Fronts.{zero_front, keep_still}
+use Rattle.build_trace.proofs.Fronts.{zero_front, cell_front_still}
 use Rattle.build_trace.proofs.Visits.{Visit.{Marked}, visits_of, acts_visits}
 use Rattle.build_trace.proofs.Visited.{IsVisit, AreVisits, visits}
-use Rattle.build_trace.proofs.Labels.{same_test}
 use Rattle.build_trace.proofs.Acted.{puts_at, puts_from}
 use Rattle.build_trace.proofs.Descent.{puts_in}
 
@@ -79,9 +79,9 @@ get_some k x [] e = cc
 get_some zero x (y ∷ c) e = ap (λ z. Some z) e
 get_some (suc k) x (y ∷ c) e = get_some k x c e
 
-front_more : (k x : ℕ) (c : Cell ℕ) → entry c k ≡ Some x → with_value (keep k c) k x ≡ keep (suc k) c
+front_more : (k x : ℕ) (c : Cell ℕ) → entry c k ≡ Some x → with_value (cell_front k c) k x ≡ cell_front (suc k) c
 front_more k x [] e = cc
-front_more zero x (y ∷ c) e = ap (λ z. z ∷ keep zero c) (sym e)
+front_more zero x (y ∷ c) e = ap (λ z. z ∷ cell_front zero c) (sym e)
 front_more (suc k) x (y ∷ c) e = ap (λ z. y ∷ z) (front_more k x c e)
 
 abbrev pub place : ℕ → Cell ℕ → ℕ
@@ -109,7 +109,7 @@ forced_back (e ∷ es) more = same (forced_in (map (λ e. record { forced = fals
     same (Some x) = refl
 
 module _ (n : ℕ) (table : List (Row ℕ)) (p c : Cell ℕ) (c_long : length c ≡ n) (e : ℕ) where
-  forced_is : (k x : ℕ) → e ≡ k → entry c k ≡ Some x → keep k c ≡ p → forced_child nat_cmp p c e ≡ Some (record { dim = k; value = x; target = keep (suc k) c })
+  forced_is : (k x : ℕ) → e ≡ k → entry c k ≡ Some x → cell_front k c ≡ p → forced_child nat_cmp p c e ≡ Some (record { dim = k; value = x; target = cell_front (suc k) c })
   forced_is k x d s f =
       ap (forced_child nat_cmp p c) d
       ∙ ap (option_and_then (λ o. option_map (λ v. record { dim = k; value = v; target = with_value p k v }) o)) (get_some k x c s)
@@ -118,7 +118,7 @@ module _ (n : ℕ) (table : List (Row ℕ)) (p c : Cell ℕ) (c_long : length c 
   forced_none : length c ≤ e → forced_child nat_cmp p c e ≡ None
   forced_none l = ap (option_and_then (λ o. option_map (λ v. record { dim = e; value = v; target = with_value p e v }) o)) (get_end e c l)
 
-  rest : (j k i : ℕ) → j + k ≡ n → keep k c ≡ p → i ≡ place k c → e ≡ k + i
+  rest : (j k i : ℕ) → j + k ≡ n → cell_front k c ≡ p → i ≡ place k c → e ≡ k + i
       → (map (λ s. s.edge) (puts_from table p j k c) ≡ flat_map (edges_in nat_cmp table p) (range_with_len k i) ++ as_list nat_cmp (forced_child nat_cmp p c e)) × (forced_in (puts_from table p j k c) ≡ forced_child nat_cmp p c e)
   rest zero k i fit f at d =
       let z : i ≡ 0 = at ∙ ap (position_or_len is_some) (drop_end k c (omega arith)) in
@@ -130,15 +130,15 @@ module _ (n : ℕ) (table : List (Row ℕ)) (p c : Cell ℕ) (c_long : length c 
       lt = omega arith
 
       go : (o : Option ℕ) → entry c k ≡ o
-          → ((i : ℕ) → j + suc k ≡ n → keep (suc k) c ≡ p → i ≡ place (suc k) c → e ≡ suc k + i → (map (λ s. s.edge) (puts_from table p j (suc k) c) ≡ flat_map (edges_in nat_cmp table p) (range_with_len (suc k) i) ++ as_list nat_cmp (forced_child nat_cmp p c e)) × (forced_in (puts_from table p j (suc k) c) ≡ forced_child nat_cmp p c e))
+          → ((i : ℕ) → j + suc k ≡ n → cell_front (suc k) c ≡ p → i ≡ place (suc k) c → e ≡ suc k + i → (map (λ s. s.edge) (puts_from table p j (suc k) c) ≡ flat_map (edges_in nat_cmp table p) (range_with_len (suc k) i) ++ as_list nat_cmp (forced_child nat_cmp p c e)) × (forced_in (puts_from table p j (suc k) c) ≡ forced_child nat_cmp p c e))
           → (map (λ s. s.edge) (puts_at table p k c o (puts_from table p j (suc k) c)) ≡ flat_map (edges_in nat_cmp table p) (range_with_len k i) ++ as_list nat_cmp (forced_child nat_cmp p c e)) × (forced_in (puts_at table p k c o (puts_from table p j (suc k) c)) ≡ forced_child nat_cmp p c e)
       go (Some x) o ih =
           let z : i ≡ 0 = at ∙ place_some k x c lt o in
-          let is : forced_child nat_cmp p c e ≡ Some (record { dim = k; value = x; target = keep (suc k) c }) = forced_is k x (omega arith) o f in
+          let is : forced_child nat_cmp p c e ≡ Some (record { dim = k; value = x; target = cell_front (suc k) c }) = forced_is k x (omega arith) o f in
           (sym (ap₂ (λ a o. flat_map (edges_in nat_cmp table p) (range_with_len k a) ++ as_list nat_cmp o) z is), sym is)
       go None o ih =
           let z : i ≡ suc (place (suc k) c) = at ∙ place_none k c lt o in
-          let m = ih (place (suc k) c) (omega arith) (keep_still k c o ∙ f) refl (omega arith) in
+          let m = ih (place (suc k) c) (omega arith) (cell_front_still k c o ∙ f) refl (omega arith) in
           let one : suc k ≡ k + 1 = omega arith in (
             edges_back (edges_in nat_cmp table p k) (puts_from table p j (suc k) c)
                 ∙ ap (λ es. edges_in nat_cmp table p k ++ es) m.0
@@ -149,9 +149,9 @@ module _ (n : ℕ) (table : List (Row ℕ)) (p c : Cell ℕ) (c_long : length c 
           )
 
 module _ (measures n : ℕ) (table : List (Row ℕ)) (all_long : HaveDims n table) (shared : IsShared table (shared_by table)) where
-  pub root_whole : cov nat_eq table (keep 0 (shared_by table)) ≡ table
-  root_whole = filter_all (covers nat_eq (keep 0 (shared_by table))) table (all_map (λ r. covers nat_eq (shared_by table) r ≡ true) (λ r. covers nat_eq (keep 0 (shared_by table)) r ≡ true) table
-      (λ r g. leq_trans nat_equality (keep 0 (shared_by table)) (shared_by table) (cell_of r.tuple) (keep-leq nat_equality 0 (shared_by table)) g)
+  pub root_whole : cov nat_eq table (cell_front 0 (shared_by table)) ≡ table
+  root_whole = filter_all (covers nat_eq (cell_front 0 (shared_by table))) table (all_map (λ r. covers nat_eq (shared_by table) r ≡ true) (λ r. covers nat_eq (cell_front 0 (shared_by table)) r ≡ true) table
+      (λ r g. leq_trans nat_equality (cell_front 0 (shared_by table)) (shared_by table) (cell_of r.tuple) (cell_front-leq nat_equality 0 (shared_by table)) g)
       (shared_covers table (shared_by table) shared))
 
   pub all_visits : AreVisits measures table 0 (shared_by table) (visits_of (acts measures n 0 table))
@@ -160,12 +160,12 @@ module _ (measures n : ℕ) (table : List (Row ℕ)) (all_long : HaveDims n tabl
   pub shared_long : length (shared_by table) ≡ n
   shared_long = closure_length nat_eq n (shared_by table) (shared_by table) table all_long (closure-shared table (shared_by table) shared)
 
-  module _ (q c : Cell ℕ) (closed : closure nat_eq table q ≡ Some c) (front : keep (depth q) c ≡ q) where
+  module _ (q c : Cell ℕ) (closed : closure nat_eq table q ≡ Some c) (front : cell_front (depth q) c ≡ q) where
     c_long : length c ≡ n
     c_long = closure_length nat_eq n q c table all_long closed
 
     q_long : length q ≡ n
-    q_long = sym (ap length front) ∙ length-keep (depth q) c ∙ c_long
+    q_long = sym (ap length front) ∙ length-cell_front (depth q) c ∙ c_long
 
     -- what is set at q is all that its record has
     pub puts_are : puts_of q (trace measures n table) ≡ puts_from table q (n - depth q) (depth q) c
@@ -207,13 +207,13 @@ module _ (measures n : ℕ) (table : List (Row ℕ)) (all_long : HaveDims n tabl
 
     pub read_is : read (trace measures n table) q ≡ node_with nat_cmp measures table q c (next_value nat_cmp (depth q) c)
     read_is =
-        let m : mark_of q (trace measures n table) ≡ (node_with nat_cmp measures table q c (next_value nat_cmp (depth q) c)).class = mark_is ∙ ap (λ eq. cond (cell_eq eq c q) (Some (agg eq measures table q)) None) (sym same_test) in
+        let m : mark_of q (trace measures n table) ≡ (node_with nat_cmp measures table q c (next_value nat_cmp (depth q) c)).class = mark_is ∙ ap (λ eq. cond (cell_eq eq c q) (Some (agg eq measures table q)) None) (sym one_test) in
         let f = forced_is_child in
         let l = labels_are_edges in
         λ i. record { cell = q; parent = cut_last nat_cmp q; class = m i; forced = f i; edges = l i }
 
     pub node_read : node_of nat_cmp measures table q ≡ Some (read (trace measures n table) q)
     node_read =
-        ap (λ eq. option_map (λ u. node_with nat_cmp measures table q u (next_value nat_cmp (depth q) u)) (closure eq table q)) same_test
+        ap (λ eq. option_map (λ u. node_with nat_cmp measures table q u (next_value nat_cmp (depth q) u)) (closure eq table q)) one_test
         ∙ ap (option_map (λ u. node_with nat_cmp measures table q u (next_value nat_cmp (depth q) u))) closed
         ∙ ap (λ x. Some x) (sym read_is)

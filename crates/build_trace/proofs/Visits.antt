@@ -1,9 +1,9 @@
 -- What the walk meets, without the labels: nodes that are made, and classes with their aggregates.
 use Rattle.std.specs.Prelude.{ℕ, zero, suc, Bool, Option, Some, None, List, [], ◌∷◌, ◌++◌, cond, slice_index_or, flat_map}
-use Rattle.cube_defs.specs.Cell.{Cell, keep}
+use Rattle.cube_defs.specs.Cell.{Cell, cell_front}
 use Rattle.cube_defs.specs.Rows.{Row, Agg, agg_of}
 use Rattle.std.proofs.Common.{◌≡◌, ℕ, zero, suc, Bool, true, false, cond, Option, Some, None, List, [], ◌∷◌, ◌++◌, flat_map, inl, inr, refl, ap, ap₂, ◌∙◌}
-use Rattle.cube_defs.specs.Cell.{Cell, keep}
+use Rattle.cube_defs.specs.Cell.{Cell, cell_front}
 use Rattle.cube_defs.specs.Rows.{Row, Agg}
 use Rattle.cube_laws.specs.Lists.{Among}
 use Rattle.cube_laws.proofs.Shared.{entry}
@@ -16,11 +16,11 @@ pub data Visit : Type 0 where
   Marked : Cell ℕ → Agg → Visit
 
 abbrev pub visit_part : (List (Row ℕ) → List Visit) → ℕ → Cell ℕ → List (Row ℕ) → List Visit
-visit_part more k u rows = cond (same_front k (shared_by rows) u) (Made (keep (suc k) (shared_by rows)) ∷ more rows) []
+visit_part more k u rows = cond (same_front k (shared_by rows) u) (Made (cell_front (suc k) (shared_by rows)) ∷ more rows) []
 
 abbrev pub visit_at : (List (Row ℕ) → List Visit) → ℕ → Cell ℕ → Option ℕ → List (Row ℕ) → List Visit
 visit_at more k u None rows = flat_map (λ v. visit_part more k u (part_at k rows v)) (codes_in k rows)
-visit_at more k u (Some x) rows = Made (keep (suc k) u) ∷ []
+visit_at more k u (Some x) rows = Made (cell_front (suc k) u) ∷ []
 
 unfoldable pub visit : ℕ → ℕ → ℕ → List (Row ℕ) → List Visit
 visit measures zero k rows = Marked (shared_by rows) (agg_of measures rows) ∷ []
@@ -43,8 +43,8 @@ module _ (more : List (Row ℕ) → List Act) (next : List (Row ℕ) → List Vi
   part_visits : (v : ℕ) (part : List (Row ℕ)) → visits_of (part_acts more k u v part) ≡ visit_part next k u part
   part_visits v part = go (same_front k (shared_by part) u)
     where
-      go : (b : Bool) → visits_of (cond b (Add (keep (suc k) (shared_by part)) ∷ []) [] ++ (Label false (keep k u) k v (keep (suc k) (shared_by part)) ∷ cond b (more part) [])) ≡ cond b (Made (keep (suc k) (shared_by part)) ∷ next part) []
-      go true = ap (λ es. Made (keep (suc k) (shared_by part)) ∷ es) (ih part)
+      go : (b : Bool) → visits_of (cond b (Add (cell_front (suc k) (shared_by part)) ∷ []) [] ++ (Label false (cell_front k u) k v (cell_front (suc k) (shared_by part)) ∷ cond b (more part) [])) ≡ cond b (Made (cell_front (suc k) (shared_by part)) ∷ next part) []
+      go true = ap (λ es. Made (cell_front (suc k) (shared_by part)) ∷ es) (ih part)
       go false = refl
 
   flat_visits : (rows : List (Row ℕ)) (vs : List ℕ) → visits_of (flat_map (λ v. part_acts more k u v (part_at k rows v)) vs) ≡ flat_map (λ v. visit_part next k u (part_at k rows v)) vs

@@ -1,7 +1,7 @@
 -- What the code that builds a tree asks of the acts.
 use Rattle.std.proofs.Common.{Option, ◌≡◌, ◌⊎◌, inl, inr, ℕ, ◌<◌, Bool, Some, List, [], ◌∷◌, ◌++◌, map, sym, ap, subst, ◌∙◌}
 use Rattle.std.specs.List.{AllByRecursion}
-use Rattle.cube_defs.specs.Cell.{Cell, keep}
+use Rattle.cube_defs.specs.Cell.{Cell, cell_front}
 use Rattle.cube_defs.specs.Rows.{Row}
 use Rattle.cube_defs.specs.Tree.{Edge, Node, renamed_edge}
 use Rattle.cube_laws.specs.Parting.{shared_by}
@@ -30,7 +30,7 @@ before_renamed g i v (y ∷ es) (z ∷ ds) s h = (one h.0, before_renamed g i v 
 
 module _ (measures n : ℕ) (table : List (Row ℕ)) (all_long : HaveDims n table) (shared : IsShared table (shared_by table)) where
   -- a label that doesn't lead on from its own node leads to one that can be gone down to
-  pub link_ready : (xs ys : List Act) (b : Bool) (f : Cell ℕ) (i v : ℕ) (t : Cell ℕ) → trace measures n table ≡ xs ++ Label b f i v t ∷ ys → (keep i t ≡ f → ⊥) → HasPath xs t
+  pub link_ready : (xs ys : List Act) (b : Bool) (f : Cell ℕ) (i v : ℕ) (t : Cell ℕ) → trace measures n table ≡ xs ++ Label b f i v t ∷ ys → (cell_front i t ≡ f → ⊥) → HasPath xs t
   link_ready xs ys b f i v t e other = elim (label_ok measures n table all_long shared xs ys b f i v t e).1 [ inr p ↦ p | inl new ↦ absurd (other new.front) ]
 
   -- the edges of a record that gets a label come before it: inserting in order is appending

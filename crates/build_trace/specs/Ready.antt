@@ -1,7 +1,7 @@
 -- At each act all that it needs is there: the node that the walk stands at, and where a label leads, can be found by going down from the root.
 use Rattle.std.specs.Prelude.{◌≡◌, ℕ, suc, Bool, Some, None, List, [], ◌∷◌, ◌++◌, slice_index_or, ◌⊎◌}
 use Rattle.std.specs.Bool.{⊤}
-use Rattle.cube_defs.specs.Cell.{Cell, keep, depth}
+use Rattle.cube_defs.specs.Cell.{Cell, cell_front, depth}
 use Rattle.cube_laws.specs.Lists.{Among}
 use Rattle.build_trace.specs.Trace.{Act, Act.{Add, Label, Mark}}
 
@@ -13,24 +13,24 @@ pub record There (done : List Act) (q : Cell ℕ) : Type 0 where
   pub forced : Bool
   pub deep : depth q ≡ suc at
   pub entry : slice_index_or q at None ≡ Some value
-  pub label : Among (Label forced (keep at q) at value q) done
+  pub label : Among (Label forced (cell_front at q) at value q) done
 
 -- the root was added, and so was each front of t that ends with a value, with its label
 pub record HasPath (done : List Act) (t : Cell ℕ) : Type 0 where
-  pub root : Among (Add (keep 0 t)) done
-  pub there : (j v : ℕ) → slice_index_or t j None ≡ Some v → There done (keep (suc j) t)
+  pub root : Among (Add (cell_front 0 t)) done
+  pub there : (j v : ℕ) → slice_index_or t j None ≡ Some v → There done (cell_front (suc j) t)
 
 -- t was just added below f
 pub record IsNew (done : List Act) (f : Cell ℕ) (i v : ℕ) (t : Cell ℕ) : Type 0 where
   pub added : Among (Add t) done
   pub deep : depth t ≡ suc i
   pub entry : slice_index_or t i None ≡ Some v
-  pub front : keep i t ≡ f
+  pub front : cell_front i t ≡ f
 
 pub record IsBelow (done : List Act) (p : Cell ℕ) : Type 0 where
   pub at : ℕ
   pub deep : depth p ≡ suc at
-  pub parent : HasPath done (keep at p)
+  pub parent : HasPath done (cell_front at p)
 
 abbrev pub Ok : List Act → Act → Type 0
 Ok done (Add p) = IsBelow done p

@@ -1,7 +1,7 @@
 -- The acts of building, depth first: nodes that are added, labels that are set, classes that are marked.
 use Rattle.std.specs.Prelude.{ℕ, zero, suc, Bool, true, false, Option, Some, None, List, [], ◌∷◌, ◌++◌, map, nat_eq, slice_index_or, flat_map, if◌then◌else◌}
 use Rattle.std.specs.Ordering.{nat_cmp}
-use Rattle.cube_defs.specs.Cell.{Cell, keep, cell_eq}
+use Rattle.cube_defs.specs.Cell.{Cell, cell_front, cell_eq}
 use Rattle.cube_defs.specs.Rows.{Row, Agg, agg_of}
 use Rattle.cube_defs.specs.Tree.{Edge, Node, cut_last}
 use Rattle.cube_laws.specs.Parting.{shared_by, part_at, codes_in}
@@ -16,13 +16,13 @@ pub data Act : Type 0 where
 -- a part with the value v in dimension k: its label, and where its rows share no more before k than u has, its node before and its acts behind
 abbrev pub part_acts : (List (Row ℕ) → List Act) → ℕ → Cell ℕ → ℕ → List (Row ℕ) → List Act
 part_acts more k u v rows =
-    (if same_front k (shared_by rows) u then Add (keep (suc k) (shared_by rows)) ∷ [] else [])
-    ++ (Label false (keep k u) k v (keep (suc k) (shared_by rows)) ∷ (if same_front k (shared_by rows) u then more rows else []))
+    (if same_front k (shared_by rows) u then Add (cell_front (suc k) (shared_by rows)) ∷ [] else [])
+    ++ (Label false (cell_front k u) k v (cell_front (suc k) (shared_by rows)) ∷ (if same_front k (shared_by rows) u then more rows else []))
 
 -- where u has a value in dimension k the node of its front, and else each part
 abbrev pub acts_at : (List (Row ℕ) → List Act) → ℕ → Cell ℕ → Option ℕ → List (Row ℕ) → List Act
 acts_at more k u None rows = flat_map (λ v. part_acts more k u v (part_at k rows v)) (codes_in k rows)
-acts_at more k u (Some x) rows = Add (keep (suc k) u) ∷ Label true (keep k u) k x (keep (suc k) u) ∷ []
+acts_at more k u (Some x) rows = Add (cell_front (suc k) u) ∷ Label true (cell_front k u) k x (cell_front (suc k) u) ∷ []
 
 -- for some rows, from dimension k on, of which m are left
 unfoldable pub acts : ℕ → ℕ → ℕ → List (Row ℕ) → List Act
@@ -31,7 +31,7 @@ acts measures (suc m) k rows = acts_at (acts measures m (suc k)) k (shared_by ro
 
 -- for a table of n dimensions that has a row
 abbrev pub trace : ℕ → ℕ → List (Row ℕ) → List Act
-trace measures n table = Add (keep 0 (shared_by table)) ∷ acts measures n 0 table
+trace measures n table = Add (cell_front 0 (shared_by table)) ∷ acts measures n 0 table
 
 -- a label, and whether it leads to the forced child
 pub record Put : Type 0 where

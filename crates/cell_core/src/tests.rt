@@ -21,7 +21,7 @@ fn cell(alloc: Global, first: Entry, second: Entry, third: Entry) -> Cell
 }
 
 #[test]
-fn entries_are_put_in(rt: HostRuntime) -> Result<(), Fail> {
+fn entries_are_insert_sorted(rt: HostRuntime) -> Result<(), Fail> {
     let mut cell = Cell::any(rt.alloc(), 16);
     cell.set(15, Entry::Is(3_999_999));
     cell.set(0, Entry::Is(0));

@@ -13,11 +13,12 @@ use Rattle.cube_laws.proofs.Cells.{IsEquality, leq_antisymm}
 use Rattle.cube_laws.proofs.Closures.{closure_idem, closure_mono, closure_some, option_eq-is}
 use Rattle.cube_laws.proofs.Lists.{map-filter}
 use Rattle.cube_laws.proofs.Orders.{code_equality}
+use Rattle.cube_laws.specs.Parts.{value_count}
 use Rattle.tree_laws.proofs.LowerBounds.{lower_bounds-below}
-use Rattle.tree_search.specs.Found.{Source}
+use Rattle.tree_search.specs.Found.{TreeRows}
 use Rattle.cells_below.specs.Closed.{IsMarkedBelow, bounds, closes, has_closure_in}
 use Rattle.cells_below.specs.Marks.{is_least, is_marked}
-use Rattle.cells_below.specs.Numbers.{cell_of_number, has_bit, turned, values}
+use Rattle.cells_below.specs.Numbers.{cell_of_number, has_bit, turned}
 use Rattle.cells_below.proofs.Turned.{turned_below, turned_other}
 use Rattle.cells_below.proofs.Ranges.{list_all_each, list_all_range}
 use Rattle.cells_below.proofs.Cells.{cell_below, cells_below, more_bits}
@@ -30,7 +31,7 @@ module _ {A : Type 0} {eq : A → A → Bool} (law : IsEquality eq) where
       let r : (w : Cell A) × (closure eq rows d ≡ Some w) = closure_some law rows d u u k own in
       r.1 ∙ ap (λ x. Some x) (leq_antisymm law r.0 u (closure_mono law rows d u r.0 u k r.1 own) (closure_mono law rows c d u r.0 h e r.1))
 
-module _ (source : Source) (u : Cell ℕ) where
+module _ (source : TreeRows) (u : Cell ℕ) where
   pub closed : (c : Cell ℕ) → has_closure_in source u c ≡ true → closure (eq_by_cmp nat_cmp) source.rows c ≡ Some u
   closed c = (option_eq-is code_equality (closure (eq_by_cmp nat_cmp) source.rows c) u).0
 
@@ -48,9 +49,9 @@ module _ (source : Source) (u : Cell ℕ) where
       (between code_equality source.rows (cell_of_number u (turned m k)) (cell_of_number u m) u
       (more_bits code_equality u (turned m k) m (λ j h. with_bit m k j e h)) (cell_below code_equality u m) (closed (cell_of_number u (turned m k)) h))
 
-  module _ (marks : List Bool) (m : ℕ) (l : m < 2 ^ values u) (below : IsMarkedBelow source u marks m) where
-    least_if : closes source u m ≡ false → is_least marks (values u) m ≡ true
-    least_if c = list_all_each _ 0 (values u) (λ k q r. go k (has_bit m k) refl)
+  module _ (marks : List Bool) (m : ℕ) (l : m < 2 ^ value_count u) (below : IsMarkedBelow source u marks m) where
+    least_if : closes source u m ≡ false → is_least marks (value_count u) m ≡ true
+    least_if c = list_all_each _ 0 (value_count u) (λ k q r. go k (has_bit m k) refl)
       where
         out : (k : ℕ) → has_bit m k ≡ true → (b : Bool) → closes source u (turned m k) ≡ b → not b ≡ true
         out k e true h = absurd (true≢false (sym (closes_more m k e h) ∙ c))
@@ -61,7 +62,7 @@ module _ (source : Source) (u : Cell ℕ) where
         go k true e = ap not (below (turned m k) (turned_below m k e)) ∙ out k e (closes source u (turned m k)) refl
 
     -- a number is marked where one with one bit less is
-    pub not_least : is_least marks (values u) m ≡ false → closes source u m ≡ true
+    pub not_least : is_least marks (value_count u) m ≡ false → closes source u m ≡ true
     not_least e = go (closes source u m) refl
       where
         go : (b : Bool) → closes source u m ≡ b → b ≡ true
@@ -69,32 +70,21 @@ module _ (source : Source) (u : Cell ℕ) where
         go false c = absurd (true≢false (sym (least_if c) ∙ e))
 
     -- the test of a lower bound, number by number
-    pub bound_is : bounds source u m ≡ (closes source u m && is_least marks (values u) m)
-    bound_is = ap (λ b. closes source u m && b) (none_smaller-is (has_closure_in source u) u m ∙ list_all_range _ _ 0 (values u) (λ k q r. go k (has_bit m k) refl))
+    pub bound_is : bounds source u m ≡ (closes source u m && is_least marks (value_count u) m)
+    bound_is = ap (λ b. closes source u m && b) (none_smaller-is (has_closure_in source u) u m ∙ list_all_range _ _ 0 (value_count u) (λ k q r. go k (has_bit m k) refl))
       where
         go : (k : ℕ) (b : Bool) → has_bit m k ≡ b → (not b || not (closes source u (turned m k))) ≡ (not b || not (is_marked marks (turned m k)))
         go k false e = refl
         go k true e = ap not (sym (below (turned m k) (turned_below m k e)))
 
-    pub not_closed : closes source u m ≡ false → false ≡ bounds source u m
-    not_closed e = sym (bound_is ∙ ap (λ b. b && is_least marks (values u) m) e)
-
-    -- one number more, which is not marked
-    pub unmarked_more : is_marked marks m ≡ false → closes source u m ≡ false → IsMarkedBelow source u marks (m + 1)
-    unmarked_more n c j k = go (nat_eq j m) refl
-      where
-        go : (b : Bool) → nat_eq j m ≡ b → is_marked marks j ≡ closes source u j
-        go true e = subst (λ i. is_marked marks i ≡ closes source u i) (sym (eqb-true j m e)) (n ∙ sym c)
-        go false e = let ne : j ≢ m = λ s. true≢false (sym (eq-eqb j m s) ∙ e) in below j (omega arith)
-
-    pub no_bound : is_least marks (values u) m ≡ false → false ≡ bounds source u m
+    pub no_bound : is_least marks (value_count u) m ≡ false → false ≡ bounds source u m
     no_bound e = sym (bound_is ∙ ap (λ b. closes source u m && b) e ∙ and_false (closes source u m))
       where
         and_false : (b : Bool) → (b && false) ≡ false
         and_false true = refl
         and_false false = refl
 
-    pub is_bound : closes source u m ≡ true → is_least marks (values u) m ≡ true → true ≡ bounds source u m
+    pub is_bound : closes source u m ≡ true → is_least marks (value_count u) m ≡ true → true ≡ bounds source u m
     is_bound c e = sym (bound_is ∙ ap₂ (λ x y. x && y) c e)
 
     -- one number more is marked
@@ -106,8 +96,8 @@ module _ (source : Source) (u : Cell ℕ) where
         go false e = let ne : j ≢ m = λ s. true≢false (sym (eq-eqb j m s) ∙ e) in get_or-set_other marks m j true false ne ∙ below j (omega arith)
 
   pub bounds_are : (dims : ℕ) → AllByRecursion (λ row. length row.tuple ≡ dims) source.rows → length u ≡ dims
-      → map (cell_of_number u) (filter (bounds source u) (range_with_len 0 (2 ^ values u))) ≡ lower_bounds nat_cmp source.rows u
+      → map (cell_of_number u) (filter (bounds source u) (range_with_len 0 (2 ^ value_count u))) ≡ lower_bounds nat_cmp source.rows u
   bounds_are dims wide long =
-      map-filter (cell_of_number u) (is_lower_bound (eq_by_cmp nat_cmp) source.rows u) (range_with_len 0 (2 ^ values u))
+      map-filter (cell_of_number u) (is_lower_bound (eq_by_cmp nat_cmp) source.rows u) (range_with_len 0 (2 ^ value_count u))
       ∙ ap (filter (is_lower_bound (eq_by_cmp nat_cmp) source.rows u)) (cells_below u)
       ∙ sym (lower_bounds-below nat_cmp_total map.nat_cmp-IsAntisymmetric dims source.rows u wide long)

@@ -5,7 +5,8 @@ use Rattle.std.proofs.lemmas.List.{map-append}
 use Rattle.cube_defs.specs.Cell.{Cell}
 use Rattle.cells_below.specs.Marks.{is_least, is_marked}
 use Rattle.cells_below.specs.Numbers.{cell_of_number, has_bit, turned}
-use Rattle.cells_below.proofs.Ranges.{filter_more, one_fails, passes_more}
+use Rattle.cells_below.proofs.Ranges.{one_fails, passes_more}
+use Rattle.cube_laws.proofs.Numbers.{filter_range_more}
 
 module _ (marks : List Bool) (m : ℕ) where
   abbrev apart : ℕ → Bool
@@ -20,7 +21,7 @@ module _ (marks : List Bool) (m : ℕ) where
 module _ {A : Type 0} (u : Cell A) (p : ℕ → Bool) where
   -- one number more
   pub cells_more : (m : ℕ) → map (cell_of_number u) (filter p (range_with_len 0 m)) ++ cond (p m) (cell_of_number u m ∷ []) [] ≡ map (cell_of_number u) (filter p (range_with_len 0 (m + 1)))
-  cells_more m = sym (ap (map (cell_of_number u)) (filter_more p m) ∙ map-append (cell_of_number u) (filter p (range_with_len 0 m)) (cond (p m) (m ∷ []) []) ∙ ap (λ xs. map (cell_of_number u) (filter p (range_with_len 0 m)) ++ xs) (one (p m)))
+  cells_more m = sym (ap (map (cell_of_number u)) (filter_range_more p m) ∙ map-append (cell_of_number u) (filter p (range_with_len 0 m)) (cond (p m) (m ∷ []) []) ∙ ap (λ xs. map (cell_of_number u) (filter p (range_with_len 0 m)) ++ xs) (one (p m)))
     where
       one : (b : Bool) → map (cell_of_number u) (cond b (m ∷ []) []) ≡ cond b (cell_of_number u m ∷ []) []
       one true = refl

@@ -11,15 +11,16 @@ use Rattle.std.proofs.lemmas.List.{map-append}
 use Rattle.cube_defs.specs.Cell.{Cell, leq, entry_leq}
 use Rattle.cube_laws.proofs.Cells.{IsEquality}
 use Rattle.cube_laws.proofs.Lists.{map_same}
+use Rattle.cube_laws.specs.Parts.{value_count}
 use Rattle.tree_laws.specs.Below.{below}
-use Rattle.cells_below.specs.Numbers.{cell_of_number, has_bit, values}
+use Rattle.cells_below.specs.Numbers.{cell_of_number, has_bit}
 use Rattle.cells_below.proofs.Ranges.{range-append, range-shift, map_range}
 
 pub none_kept : {A : Type 0} (b : Bool) → ◌≡◌ {A = Option A} (if b then None else None) None
 none_kept true = refl
 none_kept false = refl
 
-pub values-le : {A : Type 0} (u : Cell A) → values u ≤ length u
+pub values-le : {A : Type 0} (u : Cell A) → value_count u ≤ length u
 values-le [] = omega arith
 values-le (None ∷ u) = let l = values-le u in omega arith
 values-le (Some v ∷ u) = let l = values-le u in omega arith
@@ -38,51 +39,51 @@ no_bit d m l = ap (λ b. nat_eq b 1) (bit_at_above m d d l (omega arith))
 
 module _ {A : Type 0} where
   -- the bits of the values alone count
-  pub same_cell : (u : Cell A) (m n : ℕ) → ((k : ℕ) → k < values u → has_bit m k ≡ has_bit n k) → cell_of_number u m ≡ cell_of_number u n
+  pub same_cell : (u : Cell A) (m n : ℕ) → ((k : ℕ) → k < value_count u → has_bit m k ≡ has_bit n k) → cell_of_number u m ≡ cell_of_number u n
   same_cell [] m n h = refl
-  same_cell (None ∷ u) m n h = ap₂ (λ e c. e ∷ c) (none_kept (has_bit m (values u)) ∙ sym (none_kept (has_bit n (values u)))) (same_cell u m n h)
-  same_cell (Some v ∷ u) m n h = ap₂ (λ e c. e ∷ c) (ap (λ b. if b then Some v else None) (h (values u) (omega arith))) (same_cell u m n (λ k l. h k (omega arith)))
+  same_cell (None ∷ u) m n h = ap₂ (λ e c. e ∷ c) (none_kept (has_bit m (value_count u)) ∙ sym (none_kept (has_bit n (value_count u)))) (same_cell u m n h)
+  same_cell (Some v ∷ u) m n h = ap₂ (λ e c. e ∷ c) (ap (λ b. if b then Some v else None) (h (value_count u) (omega arith))) (same_cell u m n (λ k l. h k (omega arith)))
 
   -- all bits make the cell itself
-  pub whole_cell : (u : Cell A) (m : ℕ) → m + 1 ≡ 2 ^ values u → cell_of_number u m ≡ u
+  pub whole_cell : (u : Cell A) (m : ℕ) → m + 1 ≡ 2 ^ value_count u → cell_of_number u m ≡ u
   whole_cell [] m h = refl
-  whole_cell (None ∷ u) m h = ap₂ (λ e c. e ∷ c) (none_kept (has_bit m (values u))) (whole_cell u m h)
+  whole_cell (None ∷ u) m h = ap₂ (λ e c. e ∷ c) (none_kept (has_bit m (value_count u))) (whole_cell u m h)
   whole_cell (Some v ∷ u) m h =
-      let rest = m - 2 ^ values u in
-      let one : 0 < 2 ^ values u = pow_pos (values u) in
-      let twice : m + 1 ≡ 2 ^ values u + 2 ^ values u = h ∙ omega (arith, pow-suc 2 (values u)) in
-      let is : m ≡ 2 ^ values u + rest = omega (arith, one, twice) in
-      let less : rest + 1 ≡ 2 ^ values u = omega (arith, one, twice) in
-      ap₂ (λ b c. (if b then Some v else None) ∷ c) (ap (λ n. has_bit n (values u)) is ∙ high_bit (values u) rest (omega (arith, less)))
-      (same_cell u m rest (λ k l. ap (λ n. has_bit n k) is ∙ low_bits (values u) rest k l) ∙ whole_cell u rest less)
+      let rest = m - 2 ^ value_count u in
+      let one : 0 < 2 ^ value_count u = pow_pos (value_count u) in
+      let twice : m + 1 ≡ 2 ^ value_count u + 2 ^ value_count u = h ∙ omega (arith, pow-suc 2 (value_count u)) in
+      let is : m ≡ 2 ^ value_count u + rest = omega (arith, one, twice) in
+      let less : rest + 1 ≡ 2 ^ value_count u = omega (arith, one, twice) in
+      ap₂ (λ b c. (if b then Some v else None) ∷ c) (ap (λ n. has_bit n (value_count u)) is ∙ high_bit (value_count u) rest (omega (arith, less)))
+      (same_cell u m rest (λ k l. ap (λ n. has_bit n k) is ∙ low_bits (value_count u) rest k l) ∙ whole_cell u rest less)
 
-  low : (v : A) (u : Cell A) → map (cell_of_number (Some v ∷ u)) (range_with_len 0 (2 ^ values u)) ≡ map (λ c. None ∷ c) (map (cell_of_number u) (range_with_len 0 (2 ^ values u)))
+  low : (v : A) (u : Cell A) → map (cell_of_number (Some v ∷ u)) (range_with_len 0 (2 ^ value_count u)) ≡ map (λ c. None ∷ c) (map (cell_of_number u) (range_with_len 0 (2 ^ value_count u)))
   low v u =
-      map_range (cell_of_number (Some v ∷ u)) (λ m. None ∷ cell_of_number u m) 0 (2 ^ values u) (λ m l k. ap (λ b. (if b then Some v else None) ∷ cell_of_number u m) (no_bit (values u) m (omega arith)))
-      ∙ sym (map-map (λ c. None ∷ c) (cell_of_number u) (range_with_len 0 (2 ^ values u)))
+      map_range (cell_of_number (Some v ∷ u)) (λ m. None ∷ cell_of_number u m) 0 (2 ^ value_count u) (λ m l k. ap (λ b. (if b then Some v else None) ∷ cell_of_number u m) (no_bit (value_count u) m (omega arith)))
+      ∙ sym (map-map (λ c. None ∷ c) (cell_of_number u) (range_with_len 0 (2 ^ value_count u)))
 
-  high : (v : A) (u : Cell A) → map (cell_of_number (Some v ∷ u)) (range_with_len (0 + 2 ^ values u) (2 ^ values u)) ≡ map (λ c. Some v ∷ c) (map (cell_of_number u) (range_with_len 0 (2 ^ values u)))
+  high : (v : A) (u : Cell A) → map (cell_of_number (Some v ∷ u)) (range_with_len (0 + 2 ^ value_count u) (2 ^ value_count u)) ≡ map (λ c. Some v ∷ c) (map (cell_of_number u) (range_with_len 0 (2 ^ value_count u)))
   high v u =
-      let e : 0 + 2 ^ values u ≡ 2 ^ values u + 0 = omega arith in
-      ap (λ a. map (cell_of_number (Some v ∷ u)) (range_with_len a (2 ^ values u))) e
-      ∙ ap (map (cell_of_number (Some v ∷ u))) (range-shift (2 ^ values u) 0 (2 ^ values u))
-      ∙ map-map (cell_of_number (Some v ∷ u)) (λ m. 2 ^ values u + m) (range_with_len 0 (2 ^ values u))
-      ∙ map_range (λ m. cell_of_number (Some v ∷ u) (2 ^ values u + m)) (λ m. Some v ∷ cell_of_number u m) 0 (2 ^ values u)
-      (λ m l k. ap₂ (λ b c. (if b then Some v else None) ∷ c) (high_bit (values u) m (omega arith)) (same_cell u (2 ^ values u + m) m (λ j q. low_bits (values u) m j q)))
-      ∙ sym (map-map (λ c. Some v ∷ c) (cell_of_number u) (range_with_len 0 (2 ^ values u)))
+      let e : 0 + 2 ^ value_count u ≡ 2 ^ value_count u + 0 = omega arith in
+      ap (λ a. map (cell_of_number (Some v ∷ u)) (range_with_len a (2 ^ value_count u))) e
+      ∙ ap (map (cell_of_number (Some v ∷ u))) (range-shift (2 ^ value_count u) 0 (2 ^ value_count u))
+      ∙ map-map (cell_of_number (Some v ∷ u)) (λ m. 2 ^ value_count u + m) (range_with_len 0 (2 ^ value_count u))
+      ∙ map_range (λ m. cell_of_number (Some v ∷ u) (2 ^ value_count u + m)) (λ m. Some v ∷ cell_of_number u m) 0 (2 ^ value_count u)
+      (λ m l k. ap₂ (λ b c. (if b then Some v else None) ∷ c) (high_bit (value_count u) m (omega arith)) (same_cell u (2 ^ value_count u + m) m (λ j q. low_bits (value_count u) m j q)))
+      ∙ sym (map-map (λ c. Some v ∷ c) (cell_of_number u) (range_with_len 0 (2 ^ value_count u)))
 
   -- the cells of all numbers are the cells below, in their order
-  pub cells_below : (u : Cell A) → map (cell_of_number u) (range_with_len 0 (2 ^ values u)) ≡ below u
+  pub cells_below : (u : Cell A) → map (cell_of_number u) (range_with_len 0 (2 ^ value_count u)) ≡ below u
   cells_below [] = refl
   cells_below (None ∷ u) =
-      map_same _ (λ m. None ∷ cell_of_number u m) (range_with_len 0 (2 ^ values u)) (λ m. ap (λ e. e ∷ cell_of_number u m) (none_kept (has_bit m (values u))))
-      ∙ sym (map-map (λ c. None ∷ c) (cell_of_number u) (range_with_len 0 (2 ^ values u)))
+      map_same _ (λ m. None ∷ cell_of_number u m) (range_with_len 0 (2 ^ value_count u)) (λ m. ap (λ e. e ∷ cell_of_number u m) (none_kept (has_bit m (value_count u))))
+      ∙ sym (map-map (λ c. None ∷ c) (cell_of_number u) (range_with_len 0 (2 ^ value_count u)))
       ∙ ap (map (λ c. None ∷ c)) (cells_below u)
   cells_below (Some v ∷ u) =
-      let twice : 2 ^ suc (values u) ≡ 2 ^ values u + 2 ^ values u = omega (arith, pow-suc 2 (values u)) in
+      let twice : 2 ^ suc (value_count u) ≡ 2 ^ value_count u + 2 ^ value_count u = omega (arith, pow-suc 2 (value_count u)) in
       ap (λ n. map (cell_of_number (Some v ∷ u)) (range_with_len 0 n)) twice
-      ∙ ap (map (cell_of_number (Some v ∷ u))) (range-append 0 (2 ^ values u) (2 ^ values u))
-      ∙ map-append (cell_of_number (Some v ∷ u)) (range_with_len 0 (2 ^ values u)) (range_with_len (0 + 2 ^ values u) (2 ^ values u))
+      ∙ ap (map (cell_of_number (Some v ∷ u))) (range-append 0 (2 ^ value_count u) (2 ^ value_count u))
+      ∙ map-append (cell_of_number (Some v ∷ u)) (range_with_len 0 (2 ^ value_count u)) (range_with_len (0 + 2 ^ value_count u) (2 ^ value_count u))
       ∙ ap₂ (λ xs ys. xs ++ ys) (low v u ∙ ap (map (λ c. None ∷ c)) (cells_below u)) (high v u ∙ ap (map (λ c. Some v ∷ c)) (cells_below u))
 
 module _ {A : Type 0} {eq : A → A → Bool} (law : IsEquality eq) where
@@ -94,7 +95,7 @@ module _ {A : Type 0} {eq : A → A → Bool} (law : IsEquality eq) where
   -- the cell of a number is below the cell, and more bits make a greater cell
   pub cell_below : (u : Cell A) (m : ℕ) → leq eq (cell_of_number u m) u ≡ true
   cell_below [] m = refl
-  cell_below (e ∷ u) m = and_from _ _ (entry_below (has_bit m (values u)) e) (cell_below u m)
+  cell_below (e ∷ u) m = and_from _ _ (entry_below (has_bit m (value_count u)) e) (cell_below u m)
 
   entry_more : (b d : Bool) (e : Option A) → (b ≡ true → d ≡ true) → entry_leq eq (if b then e else None) (if d then e else None) ≡ true
   entry_more false d e h = refl
@@ -104,10 +105,10 @@ module _ {A : Type 0} {eq : A → A → Bool} (law : IsEquality eq) where
 
   pub more_bits : (u : Cell A) (m n : ℕ) → ((k : ℕ) → has_bit m k ≡ true → has_bit n k ≡ true) → leq eq (cell_of_number u m) (cell_of_number u n) ≡ true
   more_bits [] m n h = refl
-  more_bits (e ∷ u) m n h = and_from _ _ (entry_more (has_bit m (values u)) (has_bit n (values u)) e (h (values u))) (more_bits u m n h)
+  more_bits (e ∷ u) m n h = and_from _ _ (entry_more (has_bit m (value_count u)) (has_bit n (value_count u)) e (h (value_count u))) (more_bits u m n h)
 
   -- only the bits of values count
-  pub more_values : (u : Cell A) (m n : ℕ) → ((k : ℕ) → k < values u → has_bit m k ≡ true → has_bit n k ≡ true) → leq eq (cell_of_number u m) (cell_of_number u n) ≡ true
+  pub more_values : (u : Cell A) (m n : ℕ) → ((k : ℕ) → k < value_count u → has_bit m k ≡ true → has_bit n k ≡ true) → leq eq (cell_of_number u m) (cell_of_number u n) ≡ true
   more_values [] m n h = refl
-  more_values (None ∷ u) m n h = and_from _ _ (ap₂ (entry_leq eq) (none_kept (has_bit m (values u))) (none_kept (has_bit n (values u)))) (more_values u m n h)
-  more_values (Some v ∷ u) m n h = and_from _ _ (entry_more (has_bit m (values u)) (has_bit n (values u)) (Some v) (h (values u) (omega arith))) (more_values u m n (λ k l. h k (omega (arith, l))))
+  more_values (None ∷ u) m n h = and_from _ _ (ap₂ (entry_leq eq) (none_kept (has_bit m (value_count u))) (none_kept (has_bit n (value_count u)))) (more_values u m n h)
+  more_values (Some v ∷ u) m n h = and_from _ _ (entry_more (has_bit m (value_count u)) (has_bit n (value_count u)) (Some v) (h (value_count u) (omega arith))) (more_values u m n (λ k l. h k (omega (arith, l))))

@@ -8,7 +8,7 @@ use Rattle.cube_defs.specs.Tree.{Tree, cell_at}
 use Rattle.cube_laws.proofs.Cells.{cell_eq-exact, cell_eq-same}
 use Rattle.cube_laws.proofs.Orders.{code_equality}
 use Rattle.tree_laws.proofs.Lists.{some_same, there}
-use Rattle.tree_search.specs.Found.{IsFrom, IsTree, Names, Source, closure_in}
+use Rattle.tree_search.specs.Found.{IsTreeOf, IsTree, IsNumberOfCell, TreeRows, closure_in}
 use Rattle.tree_search.proofs.Walked.{cell_of}
 use Rattle.tree_search.proofs.Climbed.{wide}
 use Rattle.cells_below.specs.Closed.{has_closure_in}
@@ -18,9 +18,9 @@ module _ (dims : ℕ) (tree : Tree ℕ) (k : ℕ) (u : Cell ℕ) (at : cell_at t
   pub upper_wide : IsTree dims tree → length u ≡ dims
   upper_wide t = ap length (sym (cell_of tree k u at)) ∙ wide dims tree t.0 t.1 k (there tree k u at)
 
-  module _ (source : Source) (h : IsFrom dims tree source) (c : Cell ℕ) where
+  module _ (source : TreeRows) (h : IsTreeOf dims tree source) (c : Cell ℕ) where
     -- two nodes are the same where their cells are
-    pub leads_some : (m : ℕ) → Names tree (Some m) (closure_in source c) → nat_eq m k ≡ has_closure_in source u c
+    pub leads_some : (m : ℕ) → IsNumberOfCell tree (Some m) (closure_in source c) → nat_eq m k ≡ has_closure_in source u c
     leads_some m e = go (closure_in source c) refl e
       where
         go : (o : Option (Cell ℕ)) → closure_in source c ≡ o → Some (cell_at tree m) ≡ option_map (λ d. Some d) o → nat_eq m k ≡ has_closure_in source u c

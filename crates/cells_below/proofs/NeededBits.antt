@@ -4,9 +4,10 @@ use Rattle.std.proofs.lemmas.Nat.Bits.{bit_at-zero}
 use Rattle.cube_defs.specs.Cell.{Cell}
 use Rattle.cube_laws.proofs.Closures.{option_eq-is}
 use Rattle.cube_laws.proofs.Orders.{code_equality}
-use Rattle.tree_search.specs.Found.{Source, closure_in}
+use Rattle.cube_laws.specs.Parts.{value_count}
+use Rattle.tree_search.specs.Found.{TreeRows, closure_in}
 use Rattle.cells_below.specs.Closed.{AreNeeded, closes}
-use Rattle.cells_below.specs.Numbers.{cell_of_number, has_bit, turned, values}
+use Rattle.cells_below.specs.Numbers.{cell_of_number, has_bit, turned}
 use Rattle.cells_below.proofs.Between.{between, closed}
 use Rattle.cells_below.proofs.Cells.{cell_below, more_values}
 use Rattle.cells_below.proofs.Turned.{turned_other}
@@ -33,12 +34,12 @@ ones (suc (suc (suc (suc (suc (suc (suc (suc (suc (suc (suc (suc (suc (suc (suc 
 none_bit : (k : ℕ) → has_bit 0 k ≡ false
 none_bit k = ap (λ b. nat_eq b 1) (bit_at-zero k)
 
-module _ (source : Source) (u : Cell ℕ) where
+module _ (source : TreeRows) (u : Cell ℕ) where
   pub none_needed : AreNeeded source u 0
   none_needed k m e l = absurd (true≢false (sym e ∙ none_bit k))
 
-  module _ (k : ℕ) (few : values u ≤ 16) (opens : closes source u (turned 4294967295 k) ≡ false) where
-    all_but : (m : ℕ) → has_bit m k ≡ false → (j : ℕ) → j < values u → has_bit m j ≡ true → has_bit (turned 4294967295 k) j ≡ true
+  module _ (k : ℕ) (few : value_count u ≤ 16) (opens : closes source u (turned 4294967295 k) ≡ false) where
+    all_but : (m : ℕ) → has_bit m k ≡ false → (j : ℕ) → j < value_count u → has_bit m j ≡ true → has_bit (turned 4294967295 k) j ≡ true
     all_but m l j within h = go (nat_eq j k) refl
       where
         go : (b : Bool) → nat_eq j k ≡ b → has_bit (turned 4294967295 k) j ≡ true
@@ -64,6 +65,6 @@ module _ (source : Source) (u : Cell ℕ) where
         go true q = opens_without m (ap (has_bit m) (sym (eqb-true j k q)) ∙ l)
         go false q = let ne : j ≢ k = λ s. true≢false (sym (eq-eqb j k s) ∙ q) in are j m (sym (turned_other needed k j ne) ∙ e) l
 
-  pub needed_if : (k : ℕ) → values u ≤ 16 → (needed : ℕ) (b : Bool) → b ≡ closes source u (turned 4294967295 k) → AreNeeded source u needed → AreNeeded source u (if b then needed else turned needed k)
+  pub needed_if : (k : ℕ) → value_count u ≤ 16 → (needed : ℕ) (b : Bool) → b ≡ closes source u (turned 4294967295 k) → AreNeeded source u needed → AreNeeded source u (if b then needed else turned needed k)
   needed_if k few needed true e are = are
   needed_if k few needed false e are = needed_more k few (sym e) needed are

@@ -1,10 +1,11 @@
 // Whether cells below a class are lower bounds of it.
 ghost use Rattle.std.specs.Prelude.{IsTrue, Some, false, length, true, ℕ, ◌*◌, ◌+◌, ◌<◌, ◌^◌, ◌≡◌, ◌≤◌};
 ghost use Rattle.cube_defs.specs.Tree.{cell_at};
-ghost use Rattle.tree_search.specs.Found.{IsFrom, IsTree, Source};
+ghost use Rattle.tree_search.specs.Found.{IsTreeOf, IsTree, TreeRows};
 ghost use Rattle.cells_below.specs.Closed.{AreNeeded, IsMarkedBelow, bounds, closes, has_closure_in};
 ghost use Rattle.cells_below.specs.Marks.{is_marked};
-ghost use Rattle.cells_below.specs.Numbers.{cell_of_number, values};
+ghost use Rattle.cells_below.specs.Numbers.{cell_of_number};
+ghost use Rattle.cube_laws.specs.Parts.{value_count};
 
 use crate::marks::Marks;
 use crate::numbers::put_cell;
@@ -27,7 +28,7 @@ fn leads_to<T: Nodes, L: Ledger>(
     requires tree { IsTree (T.width tree.now) (T.tree tree.now) }
     requires upper { cell_at (T.tree tree.now) node.0 ≡ Some u.now }
     requires dims { length cell.now ≡ T.width tree.now }
-    ensures value { (source : Source) → IsFrom (T.width tree.now) (T.tree tree.now) source →
+    ensures value { (source : TreeRows) → IsTreeOf (T.width tree.now) (T.tree tree.now) source →
         result ≡ has_closure_in source u.now cell.now }
     ensures steps { steps.new ≤ steps.old + (2 * length cell.now + 2) }
 {
@@ -49,7 +50,7 @@ pub(crate) fn closes_at<T: Nodes, L: Ledger>(
     requires tree { IsTree (T.width tree.now) (T.tree tree.now) }
     requires upper { cell_at (T.tree tree.now) node.0 ≡ Some u.now }
     requires dims { length cell.old ≡ length u.now }
-    ensures value { (source : Source) → IsFrom (T.width tree.now) (T.tree tree.now) source →
+    ensures value { (source : TreeRows) → IsTreeOf (T.width tree.now) (T.tree tree.now) source →
         result ≡ closes source u.now m }
     ensures cell { cell.new ≡ cell_of_number u.now m }
     ensures dims { length cell.new ≡ length u.now }
@@ -71,13 +72,13 @@ fn closes_below<T: Nodes, L: Ledger>(
 ) -> bool
     requires tree { IsTree (T.width tree.now) (T.tree tree.now) }
     requires upper { cell_at (T.tree tree.now) node.0 ≡ Some u.now }
-    requires own { (source : Source) → IsFrom (T.width tree.now) (T.tree tree.now) source →
+    requires own { (source : TreeRows) → IsTreeOf (T.width tree.now) (T.tree tree.now) source →
         has_closure_in source u.now u.now ≡ true }
     requires dims { length cell.old ≡ length u.now }
-    requires values { d ≡ values u.now }
+    requires values { d ≡ value_count u.now }
     requires few { d ≤ MAX_DIMS }
     requires number { m < 2 ^ d }
-    ensures value { (source : Source) → IsFrom (T.width tree.now) (T.tree tree.now) source →
+    ensures value { (source : TreeRows) → IsTreeOf (T.width tree.now) (T.tree tree.now) source →
         result ≡ closes source u.now m }
     ensures cell { cell.new ≡ cell_of_number u.now m }
     ensures dims { length cell.new ≡ length u.now }
@@ -107,24 +108,24 @@ pub fn bounds_at<T: Nodes, L: Ledger>(
 ) -> bool
     requires tree { IsTree (T.width tree.now) (T.tree tree.now) }
     requires upper { cell_at (T.tree tree.now) node.0 ≡ Some u.now }
-    requires own { (source : Source) → IsFrom (T.width tree.now) (T.tree tree.now) source →
+    requires own { (source : TreeRows) → IsTreeOf (T.width tree.now) (T.tree tree.now) source →
         has_closure_in source u.now u.now ≡ true }
-    requires needed { (source : Source) → IsFrom (T.width tree.now) (T.tree tree.now) source →
+    requires needed { (source : TreeRows) → IsTreeOf (T.width tree.now) (T.tree tree.now) source →
         AreNeeded source u.now needed }
     requires dims { length cell.old ≡ length u.now }
-    requires values { d ≡ values u.now }
+    requires values { d ≡ value_count u.now }
     requires few { d ≤ MAX_DIMS }
     requires number { m < 2 ^ d }
     requires room { 2 ^ d ≤ length marks.old }
-    requires below { (source : Source) → IsFrom (T.width tree.now) (T.tree tree.now) source →
+    requires below { (source : TreeRows) → IsTreeOf (T.width tree.now) (T.tree tree.now) source →
         IsMarkedBelow source u.now marks.old m }
     requires above { (j : ℕ) → m ≤ j → is_marked marks.old j ≡ false }
-    ensures value { (source : Source) → IsFrom (T.width tree.now) (T.tree tree.now) source →
+    ensures value { (source : TreeRows) → IsTreeOf (T.width tree.now) (T.tree tree.now) source →
         result ≡ bounds source u.now m }
     ensures cell { IsTrue result → cell.new ≡ cell_of_number u.now m }
     ensures dims { length cell.new ≡ length u.now }
     ensures room { length marks.new ≡ length marks.old }
-    ensures below { (source : Source) → IsFrom (T.width tree.now) (T.tree tree.now) source →
+    ensures below { (source : TreeRows) → IsTreeOf (T.width tree.now) (T.tree tree.now) source →
         IsMarkedBelow source u.now marks.new (m + 1) }
     ensures above { (j : ℕ) → m + 1 ≤ j → is_marked marks.new j ≡ false }
     ensures steps { steps.new ≤ steps.old + (2 * length u.now + 2) }

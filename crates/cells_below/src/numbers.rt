@@ -1,7 +1,8 @@
 // The cells below a cell, told by numbers.
 ghost use Rattle.std.specs.Prelude.{None, if◌then◌else◌, length, ◌<◌, ◌≡◌, ◌≤◌};
 ghost use Rattle.cell_core.specs.Entry.{IsSmall, value_in};
-ghost use Rattle.cells_below.specs.Numbers.{cell_of_number, has_bit, turned, values};
+ghost use Rattle.cells_below.specs.Numbers.{cell_of_number, has_bit, turned};
+ghost use Rattle.cube_laws.specs.Parts.{value_count};
 
 use cell_core::{Cell, Entry};
 use cube_defs::MAX_DIMS;
@@ -24,7 +25,7 @@ pub fn turn(m: u32, k: u32) -> u32
 
 /// How many values a cell has.
 pub fn count_values(u: &Cell) -> u32
-    ensures value { result ≡ values u.now }
+    ensures value { result ≡ value_count u.now }
     ensures few { result ≤ MAX_DIMS }
 {
     let mut count = 0;

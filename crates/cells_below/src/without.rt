@@ -1,9 +1,10 @@
 // The values of a class that each cell of it has.
 ghost use Rattle.std.specs.Prelude.{Some, if◌then◌else◌, length, true, ◌*◌, ◌+◌, ◌<◌, ◌≡◌, ◌≤◌};
 ghost use Rattle.cube_defs.specs.Tree.{cell_at};
-ghost use Rattle.tree_search.specs.Found.{IsFrom, IsTree, Source};
+ghost use Rattle.tree_search.specs.Found.{IsTreeOf, IsTree, TreeRows};
 ghost use Rattle.cells_below.specs.Closed.{AreNeeded};
-ghost use Rattle.cells_below.specs.Numbers.{Lacks, turned, values};
+ghost use Rattle.cells_below.specs.Numbers.{Lacks, turned};
+ghost use Rattle.cube_laws.specs.Parts.{value_count};
 
 use crate::closed::closes_at;
 use crate::numbers::{has, turn};
@@ -33,9 +34,9 @@ pub fn needed<T: Nodes, L: Ledger>(
     requires tree { IsTree (T.width tree.now) (T.tree tree.now) }
     requires upper { cell_at (T.tree tree.now) node.0 ≡ Some u.now }
     requires dims { length cell.old ≡ length u.now }
-    requires values { d ≡ values u.now }
+    requires values { d ≡ value_count u.now }
     requires few { d ≤ MAX_DIMS }
-    ensures value { (source : Source) → IsFrom (T.width tree.now) (T.tree tree.now) source →
+    ensures value { (source : TreeRows) → IsTreeOf (T.width tree.now) (T.tree tree.now) source →
         AreNeeded source u.now result }
     ensures dims { length cell.new ≡ length u.now }
     ensures steps { steps.new ≤ steps.old + d * (2 * length u.now + 2) }

@@ -1,53 +1,53 @@
 -- Acts one after another on an arena, and paths in it.
 use Rattle.std.proofs.Common.{◌≡◌, ◌≢◌, ℕ, zero, suc, ◌+◌, ◌≤◌, Some, List, [], ◌++◌, append-nil, append_assoc, sym, ap, subst, ◌∙◌, arith, inl, inr, ◌⊎◌}
 use Rattle.std.specs.Prelude.{Result, Err}
-use Rattle.cube_defs.specs.Cell.{Cell, keep, depth}
+use Rattle.cube_defs.specs.Cell.{Cell, cell_front, depth}
 use Rattle.cube_defs.specs.Rows.{Row}
 use Rattle.cube_defs.specs.Tree.{Tree, cell_at}
-use Rattle.tree_laws.proofs.Fronts.{depth-keep-le}
+use Rattle.tree_laws.proofs.Fronts.{depth-cell_front-le}
 use Rattle.class_builder.proofs.Fronts.{front_less}
 use Rattle.qc_arena.specs.Map.{Arena}
 use Rattle.qc_arena.specs.Seen.{record_at}
 use Rattle.build_trace.specs.Trace.{Act}
-use Rattle.build_acts.specs.Going.{Going, IsNext, Does}
+use Rattle.build_acts.specs.Building.{IsBuilding, ActsComeNext, PerformsActs}
 use Rattle.build_acts.proofs.Steps.{cell_of_record}
 use Rattle.class_builder.specs.Walk.{IsOnPath, node_on}
 use Rattle.class_builder.specs.declared.path.Path.{Path}
 
 module _ {measures : ℕ} {rows : List (Row ℕ)} where
-  pub does_nothing : (a : Arena) → Does measures rows [] a a
+  pub does_nothing : (a : Arena) → PerformsActs measures rows [] a a
   does_nothing a = record {
-    acts = λ done rest g. subst (λ ds. Going measures rows ds rest a) (sym (append-nil done)) g;
+    acts = λ done rest g. subst (λ ds. IsBuilding measures rows ds rest a) (sym (append-nil done)) g;
     cells = λ k c h. h;
   }
 
-  pub does_then : (es fs : List Act) (a b c : Arena) → Does measures rows es a b → Does measures rows fs b c → Does measures rows (es ++ fs) a c
+  pub does_then : (es fs : List Act) (a b c : Arena) → PerformsActs measures rows es a b → PerformsActs measures rows fs b c → PerformsActs measures rows (es ++ fs) a c
   does_then es fs a b c d e = record {
     acts = λ done rest g.
-        subst (λ ds. Going measures rows ds rest c) (append_assoc done es fs)
-        (e.acts (done ++ es) rest (d.acts done (fs ++ rest) (subst (λ rs. Going measures rows done rs a) (append_assoc es fs rest) g)));
+        subst (λ ds. IsBuilding measures rows ds rest c) (append_assoc done es fs)
+        (e.acts (done ++ es) rest (d.acts done (fs ++ rest) (subst (λ rs. IsBuilding measures rows done rs a) (append_assoc es fs rest) g)));
     cells = λ k x h. e.cells k x (d.cells k x h);
   }
 
-  pub next_front : (es fs : List Act) (a : Arena) → IsNext measures rows (es ++ fs) a → IsNext measures rows es a
+  pub next_front : (es fs : List Act) (a : Arena) → ActsComeNext measures rows (es ++ fs) a → ActsComeNext measures rows es a
   next_front es fs a n = record {
     done = n.done;
     rest = fs ++ n.rest;
-    going = subst (λ rs. Going measures rows n.done rs a) (append_assoc es fs n.rest) n.going;
+    going = subst (λ rs. IsBuilding measures rows n.done rs a) (append_assoc es fs n.rest) n.going;
   }
 
-  pub next_behind : (es fs : List Act) (a b : Arena) → IsNext measures rows (es ++ fs) a → Does measures rows es a b → IsNext measures rows fs b
+  pub next_behind : (es fs : List Act) (a b : Arena) → ActsComeNext measures rows (es ++ fs) a → PerformsActs measures rows es a b → ActsComeNext measures rows fs b
   next_behind es fs a b n d = record {
     done = n.done ++ es;
     rest = n.rest;
-    going = d.acts n.done (fs ++ n.rest) (subst (λ rs. Going measures rows n.done rs a) (append_assoc es fs n.rest) n.going);
+    going = d.acts n.done (fs ++ n.rest) (subst (λ rs. IsBuilding measures rows n.done rs a) (append_assoc es fs n.rest) n.going);
   }
 
-  pub path_stays : (es : List Act) (a b : Arena) (path : Path) (c : Cell ℕ) (k : ℕ) → Does measures rows es a b → IsOnPath a path c k → IsOnPath b path c k
-  path_stays es a b path c k d on = record { each = λ j l. d.cells (node_on path j) (keep j c) (on.each j l) }
+  pub path_stays : (es : List Act) (a b : Arena) (path : Path) (c : Cell ℕ) (k : ℕ) → PerformsActs measures rows es a b → IsOnPath a path c k → IsOnPath b path c k
+  path_stays es a b path c k d on = record { each = λ j l. d.cells (node_on path j) (cell_front j c) (on.each j l) }
 
-pub front_depth : (tree : Tree ℕ) (k j : ℕ) (c : Cell ℕ) → cell_at tree k ≡ Some (keep j c) → depth (record_at tree k).cell ≤ j
-front_depth tree k j c h = subst (λ d. depth d ≤ j) (sym (cell_of_record tree k (keep j c) h)) (depth-keep-le j c)
+pub front_depth : (tree : Tree ℕ) (k j : ℕ) (c : Cell ℕ) → cell_at tree k ≡ Some (cell_front j c) → depth (record_at tree k).cell ≤ j
+front_depth tree k j c h = subst (λ d. depth d ≤ j) (sym (cell_of_record tree k (cell_front j c) h)) (depth-cell_front-le j c)
 
 upto_or : (j k : ℕ) → j ≤ k + 1 → (j ≤ k) ⊎ (j ≡ k + 1)
 upto_or zero k h = inl (omega arith)
@@ -55,19 +55,19 @@ upto_or (suc j) zero h = inr (omega arith)
 upto_or (suc j) (suc k) h = elim (upto_or j k (omega arith)) [ inl m ↦ inl (omega arith) | inr e ↦ inr (omega arith) ]
 
 -- a path that goes on by one node
-pub path_on : (a : Arena) (old new : Path) (c : Cell ℕ) (k : ℕ) → IsOnPath a old c k → ((j : ℕ) → j ≢ k + 1 → node_on new j ≡ node_on old j) → cell_at a.now (node_on new (k + 1)) ≡ Some (keep (suc k) c) → IsOnPath a new c (k + 1)
+pub path_on : (a : Arena) (old new : Path) (c : Cell ℕ) (k : ℕ) → IsOnPath a old c k → ((j : ℕ) → j ≢ k + 1 → node_on new j ≡ node_on old j) → cell_at a.now (node_on new (k + 1)) ≡ Some (cell_front (suc k) c) → IsOnPath a new c (k + 1)
 path_on a old new c k on others here = record { each = λ j l. go j (upto_or j k l) }
   where
-    go : (j : ℕ) → (j ≤ k) ⊎ (j ≡ k + 1) → cell_at a.now (node_on new j) ≡ Some (keep j c)
+    go : (j : ℕ) → (j ≤ k) ⊎ (j ≡ k + 1) → cell_at a.now (node_on new j) ≡ Some (cell_front j c)
     go j (inl m) = let ne : j ≢ k + 1 = omega arith in ap (λ n. cell_at a.now n) (others j ne) ∙ on.each j m
-    go j (inr e) = let s : k + 1 ≡ suc k = omega arith in subst (λ x. cell_at a.now (node_on new x) ≡ Some (keep x c)) (sym e) (here ∙ ap (λ x. Some (keep x c)) (sym s))
+    go j (inr e) = let s : k + 1 ≡ suc k = omega arith in subst (λ x. cell_at a.now (node_on new x) ≡ Some (cell_front x c)) (sym e) (here ∙ ap (λ x. Some (cell_front x c)) (sym s))
 
 -- a node of the path, by its number
-pub on_path : (a : Arena) (path : Path) (c : Cell ℕ) (k j n : ℕ) → IsOnPath a path c k → j ≤ k → n ≡ node_on path j → cell_at a.now n ≡ Some (keep j c)
+pub on_path : (a : Arena) (path : Path) (c : Cell ℕ) (k j n : ℕ) → IsOnPath a path c k → j ≤ k → n ≡ node_on path j → cell_at a.now n ≡ Some (cell_front j c)
 on_path a path c k j n on l e = ap (λ x. cell_at a.now x) e ∙ on.each j l
 
 -- a path serves each cell with the same front
-pub path_of : (a : Arena) (path : Path) (c d : Cell ℕ) (k : ℕ) → keep k c ≡ keep k d → IsOnPath a path c k → IsOnPath a path d k
+pub path_of : (a : Arena) (path : Path) (c d : Cell ℕ) (k : ℕ) → cell_front k c ≡ cell_front k d → IsOnPath a path c k → IsOnPath a path d k
 path_of a path c d k e on = record { each = λ j l. on.each j l ∙ ap (λ b. Some b) (front_less j k c d l e) }
 
 -- an error is the same whatever the value would be

@@ -1,12 +1,12 @@
 -- Nodes that are noted for rows.
-use Rattle.std.proofs.Common.{◌≡◌, ◌≢◌, ℕ, zero, suc, ◌+◌, ◌*◌, ◌<◌, ◌≤◌, true, Option, Some, None, List, [], ◌∷◌, length, get_or, set, is_some, nat_eq, refl, sym, ap, subst, ◌∙◌, arith, inl, inr, ◌⊎◌, Bool, false, ◌==◌, eqb-true, eq-eqb, true≢false, get_or-set_same, get_or-set_other}
+use Rattle.std.proofs.Common.{◌≡◌, ◌≢◌, ℕ, zero, suc, ◌+◌, ◌*◌, ◌<◌, ◌≤◌, true, Option, Some, None, List, [], ◌∷◌, length, get_or, is_some, nat_eq, refl, sym, ap, subst, ◌∙◌, arith, inl, inr, ◌⊎◌, Bool, false, ◌==◌, eqb-true, eq-eqb, true≢false, get_or-set_other}
 use Rattle.std.specs.Prelude.{IfSome}
 use Rattle.std.specs.List.{AllByRecursion, cons_option}
 use Rattle.std.specs.Vec.{with_item}
 use Rattle.std.proofs.lemmas.Grind.{get_or-set_at}
 use Rattle.std.proofs.lemmas.List.{length-map}
 use Rattle.std.proofs.Math.Nat.{mul-le-mul_left}
-use Rattle.cube_defs.specs.Cell.{Cell, cell_of, keep, leq}
+use Rattle.cube_defs.specs.Cell.{Cell, cell_of, cell_front, leq}
 use Rattle.cube_defs.specs.Rows.{Row, covers}
 use Rattle.cube_defs.specs.Tree.{cell_at}
 use Rattle.cube_laws.proofs.Shared.{IsShared, entry, length-shared, shared_covers}
@@ -17,7 +17,7 @@ use Rattle.base_table.specs.Places.{Places, IsTable, named, row_at}
 use Rattle.base_table.specs.declared.table.RowNo.{RowNo}
 use Rattle.build_trace.proofs.Fronts.{leq_entry}
 use Rattle.build_trace.specs.Trace.{Act}
-use Rattle.build_acts.specs.Going.{Does}
+use Rattle.build_acts.specs.Building.{PerformsActs}
 use Rattle.qc_arena.specs.Map.{Arena}
 use Rattle.class_builder.specs.Noted.{AreNoted, IsFull, not_noted, noted}
 use Rattle.cell_core.specs.declared.cell.NodeNo.{NodeNo}
@@ -39,7 +39,7 @@ each_named t P (x ∷ nos) (suc i) d lt h = each_named t P nos i d (omega arith)
     go (Some r) h = h.1
 
 -- a cell that covers a tuple and has a value in each dimension up to d has the tuple's front
-pub full_front : (d : ℕ) (c : Cell ℕ) (tuple : List ℕ) → length c ≡ length (cell_of tuple) → leq nat_eq c (cell_of tuple) ≡ true → IsFull c d → keep (suc d) c ≡ keep (suc d) (cell_of tuple)
+pub full_front : (d : ℕ) (c : Cell ℕ) (tuple : List ℕ) → length c ≡ length (cell_of tuple) → leq nat_eq c (cell_of tuple) ≡ true → IsFull c d → cell_front (suc d) c ≡ cell_front (suc d) (cell_of tuple)
 full_front d c tuple l h full = front_from_points (suc d) c (cell_of tuple) l (λ j m. go j (entry c j) refl (full j (omega arith)))
   where
     go : (j : ℕ) (o : Option ℕ) → entry c j ≡ o → is_some o ≡ true → entry c j ≡ entry (cell_of tuple) j
@@ -63,7 +63,7 @@ same_line w k d j e l m h = go (order k j)
 
 -- a node that is noted for one row more
 pub noted_more : (t : Places) (a : Arena) (f : Fronts) (k d place : ℕ) (node : NodeNo) → d < t.dims → place ≡ k * f.dims + d → place < length f.nodes.items
-    → IfSome (row_at t k) (λ row. cell_at a.now node.0 ≡ Some (keep (suc d) (cell_of row.tuple))) → AreNoted t a f → AreNoted t a (record { nodes = with_item f.nodes place node; dims = f.dims })
+    → IfSome (row_at t k) (λ row. cell_at a.now node.0 ≡ Some (cell_front (suc d) (cell_of row.tuple))) → AreNoted t a f → AreNoted t a (record { nodes = with_item f.nodes place node; dims = f.dims })
 noted_more t a f k d place node within at lt here old = record {
   dims = old.dims;
   each = λ j e m some. go j e m some (place == j * f.dims + e) refl;
@@ -72,7 +72,7 @@ noted_more t a f k d place node within at lt here old = record {
     new : Fronts
     new = record { nodes = with_item f.nodes place node; dims = f.dims }
 
-    go : (j e : ℕ) → e < t.dims → noted new j e ≢ not_noted → (b : Bool) → (place == j * f.dims + e) ≡ b → IfSome (row_at t j) (λ row. cell_at a.now (noted new j e) ≡ Some (keep (suc e) (cell_of row.tuple)))
+    go : (j e : ℕ) → e < t.dims → noted new j e ≢ not_noted → (b : Bool) → (place == j * f.dims + e) ≡ b → IfSome (row_at t j) (λ row. cell_at a.now (noted new j e) ≡ Some (cell_front (suc e) (cell_of row.tuple)))
     go j e m some true h =
         let same : place ≡ j * f.dims + e = eqb-true place (j * f.dims + e) h in
         let w : f.dims ≡ t.dims = old.dims in
@@ -81,46 +81,42 @@ noted_more t a f k d place node within at lt here old = record {
         let line : k ≡ j = same_line f.dims k d j e l n (sym at ∙ same) in
         let dim : d ≡ e = let times : k * f.dims ≡ j * f.dims = ap (λ x. x * f.dims) line in omega arith in
         let is : noted new j e ≡ node.0 = ap (λ x. x.0) (get_or-set_at f.nodes.items place (j * f.dims + e) node (record { 0 = not_noted }) (sym same) lt) in
-        subst (λ x. IfSome (row_at t j) (λ row. cell_at a.now x ≡ Some (keep (suc e) (cell_of row.tuple)))) (sym is)
-        (subst (λ x. IfSome (row_at t j) (λ row. cell_at a.now node.0 ≡ Some (keep (suc x) (cell_of row.tuple)))) dim
-        (subst (λ x. IfSome (row_at t x) (λ row. cell_at a.now node.0 ≡ Some (keep (suc d) (cell_of row.tuple)))) line here))
+        subst (λ x. IfSome (row_at t j) (λ row. cell_at a.now x ≡ Some (cell_front (suc e) (cell_of row.tuple)))) (sym is)
+        (subst (λ x. IfSome (row_at t j) (λ row. cell_at a.now node.0 ≡ Some (cell_front (suc x) (cell_of row.tuple)))) dim
+        (subst (λ x. IfSome (row_at t x) (λ row. cell_at a.now node.0 ≡ Some (cell_front (suc d) (cell_of row.tuple)))) line here))
     go j e m some false h =
         let other : j * f.dims + e ≢ place = λ same. true≢false (sym (eq-eqb place (j * f.dims + e) (sym same)) ∙ h) in
         let is : noted new j e ≡ noted f j e = ap (λ x. x.0) (get_or-set_other f.nodes.items place (j * f.dims + e) node (record { 0 = not_noted }) other) in
-        subst (λ x. IfSome (row_at t j) (λ row. cell_at a.now x ≡ Some (keep (suc e) (cell_of row.tuple)))) (sym is) (old.each j e m (λ n. some (is ∙ n)))
+        subst (λ x. IfSome (row_at t j) (λ row. cell_at a.now x ≡ Some (cell_front (suc e) (cell_of row.tuple)))) (sym is) (old.each j e m (λ n. some (is ∙ n)))
 
 -- a node of the front of what rows share has the front of each of them, where they share a value in each dimension up to d
-pub front_of_row : (t : Places) (a : Arena) (nos : List RowNo) (u : Cell ℕ) (i d node : ℕ) (x : RowNo) → IsTable t → There t nos → 0 < length nos → u ≡ shared_by (named t nos) → IsFull u d → i < length nos → cell_at a.now node ≡ Some (keep (suc d) u)
-    → IfSome (row_at t (get_or nos i x).0) (λ row. cell_at a.now node ≡ Some (keep (suc d) (cell_of row.tuple)))
+pub front_of_row : (t : Places) (a : Arena) (nos : List RowNo) (u : Cell ℕ) (i d node : ℕ) (x : RowNo) → IsTable t → There t nos → 0 < length nos → u ≡ shared_by (named t nos) → IsFull u d → i < length nos → cell_at a.now node ≡ Some (cell_front (suc d) u)
+    → IfSome (row_at t (get_or nos i x).0) (λ row. cell_at a.now node ≡ Some (cell_front (suc d) (cell_of row.tuple)))
 front_of_row t a nos u i d node x valid there some is full lt at =
     let shared : IsShared (named t nos) u = shared_there t valid nos there some ∙ ap (λ c. Some c) (sym is) in
     let long : length u ≡ t.dims = length-shared t.dims (named t nos) u (named_dims t valid nos) shared in
     go (row_at t (get_or nos i x).0) refl long (each_named t (λ row. covers nat_eq u row ≡ true) nos i x lt (shared_covers (named t nos) u shared))
   where
-    go : (o : Option (Row ℕ)) → row_at t (get_or nos i x).0 ≡ o → length u ≡ t.dims → IfSome o (λ row. covers nat_eq u row ≡ true) → IfSome o (λ row. cell_at a.now node ≡ Some (keep (suc d) (cell_of row.tuple)))
+    go : (o : Option (Row ℕ)) → row_at t (get_or nos i x).0 ≡ o → length u ≡ t.dims → IfSome o (λ row. covers nat_eq u row ≡ true) → IfSome o (λ row. cell_at a.now node ≡ Some (cell_front (suc d) (cell_of row.tuple)))
     go None e long h = tt
     go (Some row) e long h =
         let tuple : length row.tuple ≡ t.dims = (is_row t valid (get_or nos i x).0 row e).tuple in
         at ∙ ap (λ c. Some c) (full_front d u row.tuple (long ∙ sym tuple ∙ sym (length-map row.tuple (λ v. Some v))) h full)
 
 -- where acts are performed, nodes keep their cells
-pub noted_stay : (measures : ℕ) (rows : List (Row ℕ)) (es : List Act) (t : Places) (a b : Arena) (f : Fronts) → Does measures rows es a b → AreNoted t a f → AreNoted t b f
+pub noted_stay : (measures : ℕ) (rows : List (Row ℕ)) (es : List Act) (t : Places) (a b : Arena) (f : Fronts) → PerformsActs measures rows es a b → AreNoted t a f → AreNoted t b f
 noted_stay measures rows es t a b f does old = record {
   dims = old.dims;
   each = λ k d lt some. go k d (row_at t k) (old.each k d lt some);
 }
   where
-    go : (k d : ℕ) (o : Option (Row ℕ)) → IfSome o (λ row. cell_at a.now (noted f k d) ≡ Some (keep (suc d) (cell_of row.tuple))) → IfSome o (λ row. cell_at b.now (noted f k d) ≡ Some (keep (suc d) (cell_of row.tuple)))
+    go : (k d : ℕ) (o : Option (Row ℕ)) → IfSome o (λ row. cell_at a.now (noted f k d) ≡ Some (cell_front (suc d) (cell_of row.tuple))) → IfSome o (λ row. cell_at b.now (noted f k d) ≡ Some (cell_front (suc d) (cell_of row.tuple)))
     go k d None h = tt
-    go k d (Some row) h = does.cells (noted f k d) (keep (suc d) (cell_of row.tuple)) h
-
--- nothing is noted
-pub none_noted : (t : Places) (a : Arena) (f : Fronts) → f.dims ≡ t.dims → ((k d : ℕ) → noted f k d ≡ not_noted) → AreNoted t a f
-none_noted t a f w none = record { dims = w; each = λ k d lt some. absurd (some (none k d)) }
+    go k d (Some row) h = does.cells (noted f k d) (cell_front (suc d) (cell_of row.tuple)) h
 
 -- what is noted for a row of some is the node of the front of what they share, where they share a value in each dimension up to d
-pub found_front : (t : Places) (a : Arena) (f : Fronts) (nos : List RowNo) (c : Cell ℕ) (i d node : ℕ) (x : RowNo) → IsTable t → There t nos → 0 < length nos → d < t.dims → keep (suc d) c ≡ keep (suc d) (shared_by (named t nos)) → IsFull c d → i < length nos
-    → AreNoted t a f → noted f (get_or nos i x).0 d ≡ node → node ≢ not_noted → cell_at a.now node ≡ Some (keep (suc d) (shared_by (named t nos)))
+pub found_front : (t : Places) (a : Arena) (f : Fronts) (nos : List RowNo) (c : Cell ℕ) (i d node : ℕ) (x : RowNo) → IsTable t → There t nos → 0 < length nos → d < t.dims → cell_front (suc d) c ≡ cell_front (suc d) (shared_by (named t nos)) → IsFull c d → i < length nos
+    → AreNoted t a f → noted f (get_or nos i x).0 d ≡ node → node ≢ not_noted → cell_at a.now node ≡ Some (cell_front (suc d) (shared_by (named t nos)))
 found_front t a f nos c i d node x valid there some within front full lt noted_are is ne =
     go (row_at t (get_or nos i x).0) refl
     (noted_are.each (get_or nos i x).0 d within (λ n. ne (sym is ∙ n)))
@@ -144,21 +140,9 @@ found_front t a f nos c i d node x valid there some within front full lt noted_a
     each_there (n ∷ ns) zero l h = h.0
     each_there (n ∷ ns) (suc j) l h = each_there ns j (omega arith) h.1
 
-    go : (o : Option (Row ℕ)) → row_at t (get_or nos i x).0 ≡ o → IfSome o (λ row. cell_at a.now (noted f (get_or nos i x).0 d) ≡ Some (keep (suc d) (cell_of row.tuple))) → IfSome o (λ row. covers nat_eq u row ≡ true) → is_some o ≡ true
-        → cell_at a.now node ≡ Some (keep (suc d) u)
+    go : (o : Option (Row ℕ)) → row_at t (get_or nos i x).0 ≡ o → IfSome o (λ row. cell_at a.now (noted f (get_or nos i x).0 d) ≡ Some (cell_front (suc d) (cell_of row.tuple))) → IfSome o (λ row. covers nat_eq u row ≡ true) → is_some o ≡ true
+        → cell_at a.now node ≡ Some (cell_front (suc d) u)
     go None e at h s = absurd (true≢false (sym s))
     go (Some row) e at h s =
         let tuple : length row.tuple ≡ t.dims = (is_row t valid (get_or nos i x).0 row e).tuple in
         ap (λ n. cell_at a.now n) (sym is) ∙ at ∙ ap (λ b. Some b) (sym (full_front d u row.tuple (long ∙ sym tuple ∙ sym (length-map row.tuple (λ v. Some v))) h u_full))
-
--- what is noted for the only one of some rows is the node of the front of what they share
-pub found_one : (t : Places) (a : Arena) (f : Fronts) (nos : List RowNo) (d node : ℕ) (x : RowNo) → There t nos → length nos ≡ 1 → d < t.dims
-    → AreNoted t a f → noted f (get_or nos 0 x).0 d ≡ node → node ≢ not_noted → cell_at a.now node ≡ Some (keep (suc d) (shared_by (named t nos)))
-found_one t a f [] d node x there one within noted_are is ne = absurd (omega (arith, one))
-found_one t a f (n ∷ m ∷ nos) d node x there one within noted_are is ne = absurd (omega (arith, one))
-found_one t a f (n ∷ []) d node x there one within noted_are is ne =
-    go (row_at t n.0) there.0 (noted_are.each n.0 d within (λ e. ne (sym is ∙ e)))
-  where
-    go : (o : Option (Row ℕ)) → is_some o ≡ true → IfSome o (λ row. cell_at a.now (noted f n.0 d) ≡ Some (keep (suc d) (cell_of row.tuple))) → cell_at a.now node ≡ Some (keep (suc d) (shared_by (cons_option o [])))
-    go None s h = absurd (true≢false (sym s))
-    go (Some row) s h = ap (λ k. cell_at a.now k) (sym is) ∙ h

@@ -4,7 +4,7 @@ use Rattle.std.specs.List.{AllByRecursion, cons_option}
 use Rattle.std.specs.Ordering.{nat_cmp}
 use Rattle.std.proofs.lemmas.Bool.{cond-true, cond-false}
 use Rattle.std.proofs.lemmas.List.{drop_all, length-map}
-use Rattle.cube_defs.specs.Cell.{Cell, keep}
+use Rattle.cube_defs.specs.Cell.{Cell, cell_front}
 use Rattle.cube_defs.specs.Rows as defs
 use Rattle.cube_defs.specs.Rows.{Row, covers}
 use Rattle.cube_defs.specs.Tree.{distinct}
@@ -42,13 +42,13 @@ acts_end t k rows h = let e : t.dims - k ≡ 0 = omega arith in ap (λ j. acts t
 pub part_new : (more : List (Row ℕ) → List Act) (k : ℕ) (u : Cell ℕ) (v : ℕ) (rows : List (Row ℕ)) → same_front k (shared_by rows) u ≡ true
     → part_acts more k u v rows ≡ front_acts false (shared_by rows) k v ++ more rows
 part_new more k u v rows h =
-    let s : keep k u ≡ keep k (shared_by rows) = sym (cell_eq-exact nat_equality _ _ h) in
-    ap₂ (λ xs ys. xs ++ Label false (keep k u) k v (keep (suc k) (shared_by rows)) ∷ ys) (cond-true _ _ _ h) (cond-true _ _ _ h)
-    ∙ ap (λ f. Add (keep (suc k) (shared_by rows)) ∷ Label false f k v (keep (suc k) (shared_by rows)) ∷ more rows) s
+    let s : cell_front k u ≡ cell_front k (shared_by rows) = sym (cell_eq-exact nat_equality _ _ h) in
+    ap₂ (λ xs ys. xs ++ Label false (cell_front k u) k v (cell_front (suc k) (shared_by rows)) ∷ ys) (cond-true _ _ _ h) (cond-true _ _ _ h)
+    ∙ ap (λ f. Add (cell_front (suc k) (shared_by rows)) ∷ Label false f k v (cell_front (suc k) (shared_by rows)) ∷ more rows) s
 
 pub part_old : (more : List (Row ℕ) → List Act) (k : ℕ) (u : Cell ℕ) (v : ℕ) (rows : List (Row ℕ)) → same_front k (shared_by rows) u ≡ false
-    → part_acts more k u v rows ≡ Label false (keep k u) k v (keep (suc k) (shared_by rows)) ∷ []
-part_old more k u v rows h = ap₂ (λ xs ys. xs ++ Label false (keep k u) k v (keep (suc k) (shared_by rows)) ∷ ys) (cond-false _ _ _ h) (cond-false _ _ _ h)
+    → part_acts more k u v rows ≡ Label false (cell_front k u) k v (cell_front (suc k) (shared_by rows)) ∷ []
+part_old more k u v rows h = ap₂ (λ xs ys. xs ++ Label false (cell_front k u) k v (cell_front (suc k) (shared_by rows)) ∷ ys) (cond-false _ _ _ h) (cond-false _ _ _ h)
 
 -- the acts for the parts from the i-th on
 abbrev pub parts_from : Places → ℕ → Cell ℕ → List (Row ℕ) → ℕ → List Act

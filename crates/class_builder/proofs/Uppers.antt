@@ -2,12 +2,12 @@
 use Rattle.std.proofs.Common.{◌≡◌, ℕ, suc, ◌<◌, ◌≤◌, true≢false, sym, ◌∙◌, arith, true, false, Some, List, length, nat_eq, subst}
 use Rattle.std.proofs.lemmas.Bool.{false_from_ne_true}
 use Rattle.std.specs.List.{AllByRecursion}
-use Rattle.cube_defs.specs.Cell.{Cell, leq, keep, cell_eq}
+use Rattle.cube_defs.specs.Cell.{Cell, leq, cell_front, cell_eq}
 use Rattle.cube_defs.specs.Rows.{Row, covers}
 use Rattle.cube_laws.specs.Tuples.{cells_of}
 use Rattle.cube_laws.proofs.Cells.{nat_equality, cell_eq-exact, cell_eq-same}
 use Rattle.cube_laws.proofs.Closures.{all_cells, meet_all_above}
-use Rattle.tree_laws.proofs.Fronts.{keep-keep}
+use Rattle.tree_laws.proofs.Fronts.{cell_front-cell_front}
 use Rattle.cube_laws.proofs.Shared.{IsShared, entry}
 use Rattle.build_trace.specs.Walk.{same_front}
 use Rattle.build_trace.proofs.Fronts.{leq_entry}
@@ -21,7 +21,7 @@ covered_entry rows u c k x e h f = leq_entry k x c u (meet_all_above nat_equalit
 
 -- cells with the same entries before a dimension, or not
 pub same_at : (k : ℕ) (c d : Cell ℕ) → length c ≡ length d → ((j : ℕ) → j < k → entry c j ≡ entry d j) → same_front k c d ≡ true
-same_at k c d l h = subst (λ x. cell_eq nat_eq (keep k c) x ≡ true) (front_from_points k c d l h) (cell_eq-same nat_equality (keep k c))
+same_at k c d l h = subst (λ x. cell_eq nat_eq (cell_front k c) x ≡ true) (front_from_points k c d l h) (cell_eq-same nat_equality (cell_front k c))
 
 pub differs_at : (k j : ℕ) (c d : Cell ℕ) → j < k → (entry c j ≡ entry d j → ⊥) → same_front k c d ≡ false
 differs_at k j c d l h = false_from_ne_true _ (λ t. h (front_points k j c d (cell_eq-exact nat_equality _ _ t) l))
@@ -30,8 +30,8 @@ pub front_at : (k j : ℕ) (c d : Cell ℕ) → same_front k c d ≡ true → j 
 front_at k j c d t l = front_points k j c d (cell_eq-exact nat_equality _ _ t) l
 
 pub differs_behind : (j k : ℕ) (c d : Cell ℕ) → j < k → same_front (suc j) c d ≡ false → same_front k c d ≡ false
-differs_behind j k c d l h = false_from_ne_true _ (λ t. true≢false (sym (subst (λ x. cell_eq nat_eq (keep (suc j) c) x ≡ true) (front_less (suc j) k c d (omega arith) (cell_eq-exact nat_equality _ _ t)) (cell_eq-same nat_equality (keep (suc j) c))) ∙ h))
+differs_behind j k c d l h = false_from_ne_true _ (λ t. true≢false (sym (subst (λ x. cell_eq nat_eq (cell_front (suc j) c) x ≡ true) (front_less (suc j) k c d (omega arith) (cell_eq-exact nat_equality _ _ t)) (cell_eq-same nat_equality (cell_front (suc j) c))) ∙ h))
 
 -- a front is none of a cell that differs before it
-pub front_apart : (k n : ℕ) (c d : Cell ℕ) → k ≤ n → same_front k c d ≡ false → keep k (keep n c) ≡ keep k d → ⊥
-front_apart k n c d l h e = true≢false (sym (subst (λ x. cell_eq nat_eq (keep k c) x ≡ true) (sym (keep-keep k n c l) ∙ e) (cell_eq-same nat_equality (keep k c))) ∙ h)
+pub front_apart : (k n : ℕ) (c d : Cell ℕ) → k ≤ n → same_front k c d ≡ false → cell_front k (cell_front n c) ≡ cell_front k d → ⊥
+front_apart k n c d l h e = true≢false (sym (subst (λ x. cell_eq nat_eq (cell_front k c) x ≡ true) (sym (cell_front-cell_front k n c l) ∙ e) (cell_eq-same nat_equality (cell_front k c))) ∙ h)

@@ -3,17 +3,17 @@ use Rattle.std.proofs.Common.{◌≡◌, ℕ, suc, Option, Some, None, List, nat
 use Rattle.std.specs.Ordering.{eq_by_cmp}
 use Rattle.std.specs.Option.{option_map}
 use Rattle.std.specs.FinMap as map
-use Rattle.cube_defs.specs.Cell.{Cell, keep}
+use Rattle.cube_defs.specs.Cell.{Cell, cell_front}
 use Rattle.cube_defs.specs.Rows.{Row}
 use Rattle.cube_defs.specs.Tree.{Tree, cell_at}
 use Rattle.cube_laws.proofs.Shared.{shared_some}
 use Rattle.tree_laws.specs.Walk.{target_at}
-use Rattle.tree_laws.proofs.Fronts.{keep-keep}
+use Rattle.tree_laws.proofs.Fronts.{cell_front-cell_front}
 use Rattle.build_trace.specs.Trace.{Act}
 use Rattle.build_trace.specs.Ready.{HasPath}
-use Rattle.build_trace.proofs.Fronts.{entry_keep}
+use Rattle.build_trace.proofs.Fronts.{entry_cell_front}
 use Rattle.build_trace.proofs.Wanted.{go_down}
-use Rattle.build_acts.specs.Going.{Going}
+use Rattle.build_acts.specs.Building.{IsBuilding}
 use Rattle.qc_arena.specs.Map.{Arena, Known}
 use Rattle.qc_arena.specs.Seen.{record_at, record_or}
 use Rattle.drill_links.specs.Way.{IsWay}
@@ -26,13 +26,13 @@ record_there t k c at = go (map.get t k) at
     go (Some n) e = (refl, (cc))
 
 -- t's front with the last dimension has a path
-pub way_down : (measures : ℕ) (rows : List (Row ℕ)) (done rest : List Act) (a : Arena) → Going measures rows done rest a → (t : Cell ℕ) (first last : ℕ) → HasPath done (keep (suc last) t) → IsWay a.now t first last
+pub way_down : (measures : ℕ) (rows : List (Row ℕ)) (done rest : List Act) (a : Arena) → IsBuilding measures rows done rest a → (t : Cell ℕ) (first last : ℕ) → HasPath done (cell_front (suc last) t) → IsWay a.now t first last
 way_down measures rows done rest a g t first last path = record {
   leads = λ j v k from within has at.
-      let front = keep (suc last) t in
-      let n = record_there a.now k (keep j t) at in
-      let r : (l : ℕ) × (target_at (eq_by_cmp nat_cmp) j v (record_at a.now k).edges ≡ Some l) × (cell_at a.now l ≡ Some (keep (suc j) front)) =
+      let front = cell_front (suc last) t in
+      let n = record_there a.now k (cell_front j t) at in
+      let r : (l : ℕ) × (target_at (eq_by_cmp nat_cmp) j v (record_at a.now k).edges ≡ Some l) × (cell_at a.now l ≡ Some (cell_front (suc j) front)) =
       go_down measures a.width rows g.wide (shared_some rows g.some) done rest (λ q. map.get a.now q) front j v k (record_at a.now k) g.whole g.follows path
-      (entry_keep j (suc last) t (omega arith) ∙ has) n.0 (n.1 ∙ sym (keep-keep j (suc last) t (omega arith))) in
-      record { target = r.0; edge = r.1; is = r.2 ∙ ap (λ c. Some c) (keep-keep (suc j) (suc last) t (omega arith)) };
+      (entry_cell_front j (suc last) t (omega arith) ∙ has) n.0 (n.1 ∙ sym (cell_front-cell_front j (suc last) t (omega arith))) in
+      record { target = r.0; edge = r.1; is = r.2 ∙ ap (λ c. Some c) (cell_front-cell_front (suc j) (suc last) t (omega arith)) };
 }

@@ -1,6 +1,6 @@
 -- The nodes that are noted for rows, by dimensions.
 use Rattle.std.specs.Prelude.{◌≡◌, ◌≢◌, ◌<◌, ◌≤◌, ◌+◌, ◌*◌, ℕ, suc, true, Some, None, IfSome, is_some, slice_index_or}
-use Rattle.cube_defs.specs.Cell.{Cell, cell_of, keep}
+use Rattle.cube_defs.specs.Cell.{Cell, cell_of, cell_front}
 use Rattle.cube_defs.specs.Tree.{cell_at}
 use Rattle.base_table.specs.Places.{Places, row_at}
 use Rattle.qc_arena.specs.Map.{Arena}
@@ -18,7 +18,7 @@ noted fronts row d = (slice_index_or fronts.nodes.items (row * fronts.dims + d) 
 pub record AreNoted (t : Places) (a : Arena) (fronts : Fronts) : Type 0 where
   pub dims : fronts.dims ≡ t.dims
   pub each : (k d : ℕ) → d < t.dims → noted fronts k d ≢ not_noted
-      → IfSome (row_at t k) (λ row. cell_at a.now (noted fronts k d) ≡ Some (keep (suc d) (cell_of row.tuple)))
+      → IfSome (row_at t k) (λ row. cell_at a.now (noted fronts k d) ≡ Some (cell_front (suc d) (cell_of row.tuple)))
 
 -- the cell has a value in each dimension up to d
 abbrev pub IsFull : Cell ℕ → ℕ → Type 0

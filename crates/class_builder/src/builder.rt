@@ -2,7 +2,7 @@
 ghost use Rattle.std.specs.Prelude.{◌≡◌};
 
 use crate::noted::Fronts;
-use crate::room::Room;
+use crate::pool::PartsPool;
 use cell_core::Steps;
 use qc_arena::QcArena;
 use std::sync::ledger::Ledger;
@@ -12,7 +12,7 @@ use std::sync::ledger::Ledger;
 pub(crate) struct Builder<'a, L: Ledger> {
     pub(crate) arena: &'a mut QcArena,
     pub(crate) fronts: &'a mut Fronts,
-    pub(crate) room: &'a mut Room,
+    pub(crate) room: &'a mut PartsPool,
     pub(crate) steps: &'a mut Steps<L>,
 }
 

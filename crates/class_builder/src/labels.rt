@@ -2,17 +2,16 @@
 ghost use Rattle.std.specs.FinMap as map;
 ghost use Rattle.cell_core.specs.Entry.{IsCode};
 ghost use Rattle.std.specs.Ordering.{nat_cmp};
-ghost use Rattle.std.specs.Prelude.{Err, IfSome, IsSome, List, None, OnOk, Some, [], false, length, nat_eq, slice_index_or, suc, true, ℕ, ◌+◌, ◌<◌, ◌∷◌, ◌≡◌, ◌≤◌};
-ghost use Rattle.std.specs.List.{AllByRecursion};
-ghost use Rattle.cube_defs.specs.Cell.{keep};
-ghost use Rattle.cube_defs.specs.Rows.{Row, covers};
+ghost use Rattle.std.specs.Prelude.{Err, IfSome, IsSome, List, None, OnOk, Some, [], false, length, slice_index_or, suc, true, ℕ, ◌+◌, ◌<◌, ◌∷◌, ◌≡◌, ◌≤◌};
+ghost use Rattle.cube_defs.specs.Cell.{cell_front};
+ghost use Rattle.cube_defs.specs.Rows.{Row};
 ghost use Rattle.cube_defs.specs.Tree.{cell_at, nodes};
-ghost use Rattle.base_table.specs.Places.{AreThere, IsTable, named, rows_of};
+ghost use Rattle.base_table.specs.Places.{named, rows_of};
 ghost use Rattle.cube_laws.specs.Parting.{shared_by};
 ghost use Rattle.build_trace.specs.Trace.{Act.{Label}};
 ghost use Rattle.build_trace.specs.Walk.{same_front};
 ghost use Rattle.qc_arena.specs.Map.{Arena, frame, is_open, is_touched};
-ghost use Rattle.build_acts.specs.Going.{Does, IsNext};
+ghost use Rattle.build_acts.specs.Building.{PerformsActs, ActsComeNext};
 ghost use Rattle.class_builder.specs.Walk.{IsGroup, IsOnPath, IsPart, front_acts};
 ghost use Rattle.class_builder.specs.Noted.{AreNoted};
 
@@ -48,10 +47,12 @@ pub(crate) fn add_front<L: Ledger>(
     requires small { IsCode edge.code }
     requires path { IsOnPath builder.old.arena.now path.old part.now.shared dim }
     requires fronts { AreNoted part.now.table.now builder.old.arena.now builder.old.fronts.now }
-    ensures does { OnOk result ((measures : ℕ) (rows : List (Row ℕ)) → Does measures rows (front_acts edge.is_forced part.now.shared dim edge.code) builder.old.arena.now builder.new.arena.now) }
+    ensures does { OnOk result ((measures : ℕ) (rows : List (Row ℕ)) →
+        PerformsActs measures rows (front_acts edge.is_forced part.now.shared dim edge.code) builder.old.arena.now builder.new.arena.now) }
     ensures path { OnOk result (IsOnPath builder.new.arena.now path.new part.now.shared (dim + 1)) }
     ensures fronts { OnOk result (AreNoted part.now.table.now builder.new.arena.now builder.new.fronts.now) }
-    ensures full { result ≡ Err ArenaRefused.Full → (measures : ℕ) (rows : List (Row ℕ)) → IsNext measures rows (front_acts edge.is_forced part.now.shared dim edge.code) builder.old.arena.now
+    ensures full { result ≡ Err ArenaRefused.Full → (measures : ℕ) (rows : List (Row ℕ)) →
+        ActsComeNext measures rows (front_acts edge.is_forced part.now.shared dim edge.code) builder.old.arena.now
         → builder.old.arena.now.max < length (nodes nat_cmp rows) }
     ensures frame { frame builder.new.arena.now ≡ frame builder.old.arena.now }
     ensures same { builder.new.arena.ghost_name ≡ builder.old.arena.ghost_name }
@@ -77,7 +78,8 @@ pub(crate) fn add_front<L: Ledger>(
 /// None where the group has more rows.
 fn lone_front(fronts: &Fronts, group: &Group<'_>, dim: u8) -> Option<NodeNo>
     requires group { IsGroup group.now.table.now group.now.rows.now group.now.code group.now.upper.now dim }
-    ensures { IfSome result (λ node. (arena : Arena) → AreNoted group.now.table.now arena fronts.now → cell_at arena.now node.0 ≡ Some (keep (suc dim) (shared_by (named group.now.table.now group.now.rows.now)))) }
+    ensures { IfSome result (λ node. (arena : Arena) → AreNoted group.now.table.now arena fronts.now →
+        cell_at arena.now node.0 ≡ Some (cell_front (suc dim) (shared_by (named group.now.table.now group.now.rows.now)))) }
 {
     if group.rows.len() != 1 {
         return None;
@@ -99,10 +101,12 @@ fn shared_front<L: Ledger>(
     requires front { same_front at (shared_by (named group.now.table.now group.now.rows.now)) group.now.upper.now ≡ true }
     requires gains { same_front (suc at) (shared_by (named group.now.table.now group.now.rows.now)) group.now.upper.now ≡ false }
     requires width { builder.old.arena.now.width ≡ group.now.table.now.dims }
-    requires next { IsNext group.now.table.now.measures (rows_of group.now.table.now) (Label false (keep dim group.now.upper.now) dim group.now.code (keep (suc dim) (shared_by (named group.now.table.now group.now.rows.now))) ∷ []) builder.old.arena.now }
+    requires next { ActsComeNext group.now.table.now.measures (rows_of group.now.table.now)
+        (Label false (cell_front dim group.now.upper.now) dim group.now.code
+        (cell_front (suc dim) (shared_by (named group.now.table.now group.now.rows.now))) ∷ []) builder.old.arena.now }
     requires path { IsOnPath builder.old.arena.now path.now group.now.upper.now dim }
     requires fronts { AreNoted group.now.table.now builder.old.arena.now builder.old.fronts.now }
-    ensures node { cell_at builder.old.arena.now.now result.0 ≡ Some (keep (suc dim) (shared_by (named group.now.table.now group.now.rows.now))) }
+    ensures node { cell_at builder.old.arena.now.now result.0 ≡ Some (cell_front (suc dim) (shared_by (named group.now.table.now group.now.rows.now))) }
     ensures arena { builder.new.arena.now ≡ builder.old.arena.now }
     ensures fronts { builder.new.fronts.now ≡ builder.old.fronts.now }
     ensures same { builder.new.arena.ghost_name ≡ builder.old.arena.ghost_name }
@@ -131,10 +135,14 @@ pub(crate) fn link_part<L: Ledger>(
     requires front { same_front at (shared_by (named group.now.table.now group.now.rows.now)) group.now.upper.now ≡ true }
     requires gains { same_front (suc at) (shared_by (named group.now.table.now group.now.rows.now)) group.now.upper.now ≡ false }
     requires width { builder.old.arena.now.width ≡ group.now.table.now.dims }
-    requires next { IsNext group.now.table.now.measures (rows_of group.now.table.now) (Label false (keep dim group.now.upper.now) dim group.now.code (keep (suc dim) (shared_by (named group.now.table.now group.now.rows.now))) ∷ []) builder.old.arena.now }
+    requires next { ActsComeNext group.now.table.now.measures (rows_of group.now.table.now)
+        (Label false (cell_front dim group.now.upper.now) dim group.now.code
+        (cell_front (suc dim) (shared_by (named group.now.table.now group.now.rows.now))) ∷ []) builder.old.arena.now }
     requires path { IsOnPath builder.old.arena.now path.now group.now.upper.now dim }
     requires fronts { AreNoted group.now.table.now builder.old.arena.now builder.old.fronts.now }
-    ensures does { OnOk result (Does group.now.table.now.measures (rows_of group.now.table.now) (Label false (keep dim group.now.upper.now) dim group.now.code (keep (suc dim) (shared_by (named group.now.table.now group.now.rows.now))) ∷ []) builder.old.arena.now builder.new.arena.now) }
+    ensures does { OnOk result (PerformsActs group.now.table.now.measures (rows_of group.now.table.now)
+        (Label false (cell_front dim group.now.upper.now) dim group.now.code
+        (cell_front (suc dim) (shared_by (named group.now.table.now group.now.rows.now))) ∷ []) builder.old.arena.now builder.new.arena.now) }
     ensures fronts { builder.new.fronts.now ≡ builder.old.fronts.now }
     ensures frame { frame builder.new.arena.now ≡ frame builder.old.arena.now }
     ensures same { builder.new.arena.ghost_name ≡ builder.old.arena.ghost_name }

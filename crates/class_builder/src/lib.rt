@@ -6,7 +6,7 @@ mod labels;
 mod noted;
 mod part;
 mod path;
-mod room;
+mod pool;
 mod total;
 mod tree;
 mod upper;

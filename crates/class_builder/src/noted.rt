@@ -1,8 +1,7 @@
 // The nodes of tuples' fronts.
-ghost use Rattle.std.specs.Prelude.{IfOk, IfSome, None, is_some, length, slice_index_or, suc, true, ℕ, ◌+◌, ◌*◌, ◌<◌, ◌≡◌, ◌≢◌, ◌≤◌};
-ghost use Rattle.cube_defs.specs.Cell.{keep};
+ghost use Rattle.std.specs.Prelude.{IfOk, IfSome, None, length, suc, true, ℕ, ◌+◌, ◌*◌, ◌<◌, ◌≡◌, ◌≢◌, ◌≤◌};
+ghost use Rattle.cube_defs.specs.Cell.{cell_front};
 ghost use Rattle.cube_defs.specs.Tree.{cell_at};
-ghost use Rattle.base_table.specs.Places.{Places};
 ghost use Rattle.qc_arena.specs.Map.{Arena};
 ghost use Rattle.class_builder.specs.Noted.{AreNoted, IsFull, not_noted, noted};
 ghost use Rattle.class_builder.specs.Walk.{IsPart};
@@ -72,7 +71,7 @@ impl Fronts {
         requires part { IsPart part.now.table.now part.now.rows.now part.now.shared }
         requires dim { dim < length part.now.shared }
         requires dims { self.old.dims ≡ length part.now.shared }
-        ensures { (arena : Arena) → AreNoted part.now.table.now arena self.old → cell_at arena.now node.0 ≡ Some (keep (suc dim) part.now.shared)
+        ensures { (arena : Arena) → AreNoted part.now.table.now arena self.old → cell_at arena.now node.0 ≡ Some (cell_front (suc dim) part.now.shared)
             → AreNoted part.now.table.now arena self.new }
     {
         if is_full(&part.shared, dim) {

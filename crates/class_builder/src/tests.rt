@@ -139,7 +139,7 @@ fn depth(cell: &Line, dims: u8) -> u8
 }
 
 // The first entries of the cell, and Any behind them.
-fn keep(cell: &Line, len: u8, dims: u8) -> Line
+fn cell_front(cell: &Line, len: u8, dims: u8) -> Line
     requires { dims ≤ 5 }
 {
     let mut front = *cell;
@@ -232,7 +232,7 @@ fn is_end_right<L: Ledger>(
     match (arena.end_of(node, steps), arena.parent(node, steps)) {
         (None, None) => depth == 0,
         (Some((dim, code)), Some(parent)) => {
-            let front = keep(cell, dim, dims);
+            let front = cell_front(cell, dim, dims);
             dim < depth
                 && dim + 1 == depth
                 && code == cell[dim as usize] as u32
@@ -282,7 +282,13 @@ fn edges_in<L: Ledger>(
     let mut k = before;
     'values: for value in 0..ANY {
         if let Some(upper) = closure(&with_value(cell, dim, value), rows, dims) {
-            let target = down(table, arena, &keep(&upper, dim + 1, dims), dims, steps);
+            let target = down(
+                table,
+                arena,
+                &cell_front(&upper, dim + 1, dims),
+                dims,
+                steps,
+            );
             if target.is_none() || !is_edge(arena, node, k, dim, value, target, steps) {
                 return None;
             }
@@ -323,7 +329,13 @@ fn are_edges_right<L: Ledger>(
         return forced.is_none() && count == k;
     }
     let value = upper[next as usize];
-    let child = down(table, arena, &keep(upper, next + 1, dims), dims, steps);
+    let child = down(
+        table,
+        arena,
+        &cell_front(upper, next + 1, dims),
+        dims,
+        steps,
+    );
     is_forced(forced, next, value, child)
         && is_edge(arena, node, k, next, value, child, steps)
         && count == k.wrapping_add(1)
@@ -391,7 +403,7 @@ fn is_right<L: Ledger>(
     let mut nodes = 0u32;
     'cells: for _ in 0..1024 {
         if let Some(upper) = closure(&cell, rows, dims) {
-            if is_same(&keep(&upper, depth(&cell, dims), dims), &cell) {
+            if is_same(&cell_front(&upper, depth(&cell, dims), dims), &cell) {
                 nodes = nodes.wrapping_add(1);
                 if !is_node_right(table, arena, &cell, &upper, rows, dims, steps) {
                     return false;

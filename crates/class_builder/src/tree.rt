@@ -12,7 +12,7 @@ use crate::builder::Builder;
 use crate::noted::Fronts;
 use crate::part::Part;
 use crate::path::Path;
-use crate::room::Room;
+use crate::pool::PartsPool;
 use crate::walk::drill;
 use base_table::Table;
 use build_acts::add_root;
@@ -52,7 +52,7 @@ pub fn build_classes<L: Ledger>(
     let Ok(mut fronts) = Fronts::new(alloc, table) else {
         return Err(ArenaRefused::Memory);
     };
-    let mut room = Room::new(alloc);
+    let mut room = PartsPool::new(alloc);
     let mut builder = Builder {
         arena,
         fronts: &mut fronts,
@@ -62,7 +62,7 @@ pub fn build_classes<L: Ledger>(
     build_all(&mut builder, &part)
 }
 
-/// Does so for the part of all rows of the table.
+/// Builds the tree below its root, which is added first, from the part of all rows of the table.
 fn build_all<L: Ledger>(builder: &mut Builder<'_, L>, part: &Part<'_>) -> Result<(), ArenaRefused>
     requires part { IsPart part.now.table.now part.now.rows.now part.now.shared }
     requires all { named part.now.table.now part.now.rows.now ≡ rows_of part.now.table.now }

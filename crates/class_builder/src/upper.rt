@@ -1,7 +1,7 @@
 // What the rows of a part share.
 ghost use Rattle.std.specs.Prelude.{IfNone, IfSome, None, false, is_some, length, nat_eq, slice_index_or, suc, true, ◌<◌, ◌≡◌, ◌≤◌};
 ghost use Rattle.std.specs.List.{AllByRecursion};
-ghost use Rattle.cube_defs.specs.Cell.{keep};
+ghost use Rattle.cube_defs.specs.Cell.{cell_front};
 ghost use Rattle.cube_defs.specs.Rows.{covers};
 ghost use Rattle.cell_core.specs.Entry.{IsSmall, value_in};
 ghost use Rattle.base_table.specs.Places.{AreThere, IsTable, named};
@@ -53,7 +53,7 @@ fn gains(table: &Table, rows: &[RowNo], upper: &Cell, dim: u8) -> bool
 
 /// The first dimension before `dim` in which the rows share a value where `upper`, which covers
 /// them, has Any. None where there is none.
-pub(crate) fn first_gain(table: &Table, rows: &[RowNo], upper: &Cell, dim: u8) -> Option<u8>
+pub(crate) fn first_new_value(table: &Table, rows: &[RowNo], upper: &Cell, dim: u8) -> Option<u8>
     requires table { IsTable table.now }
     requires some { 0 < length rows.now }
     requires there { AreThere table.now rows.now }
@@ -74,7 +74,7 @@ pub(crate) fn first_gain(table: &Table, rows: &[RowNo], upper: &Cell, dim: u8) -
 }
 
 /// What the rows share, who share no more before the dimension than `upper` has, and a value there.
-pub(crate) fn narrowed(table: &Table, rows: &[RowNo], upper: &Cell, dim: u8) -> Cell
+pub(crate) fn closure_of_part(table: &Table, rows: &[RowNo], upper: &Cell, dim: u8) -> Cell
     requires table { IsTable table.now }
     requires some { 0 < length rows.now }
     requires there { AreThere table.now rows.now }
@@ -105,7 +105,7 @@ pub(crate) fn front_of(table: &Table, rows: &[RowNo], upper: &Cell, at: u8, dim:
     requires at { at ≤ dim }
     requires dim { dim < table.now.dims }
     requires front { same_front at (shared_by (named table.now rows.now)) upper.now ≡ true }
-    ensures front { keep (suc dim) result ≡ keep (suc dim) (shared_by (named table.now rows.now)) }
+    ensures front { cell_front (suc dim) result ≡ cell_front (suc dim) (shared_by (named table.now rows.now)) }
     ensures dims { length result ≡ table.now.dims }
 {
     let mut front = upper.copy();

@@ -4,7 +4,7 @@ ghost use Rattle.std.specs.Prelude.{Err, None, OnOk, length, slice_index_or, ◌
 ghost use Rattle.cube_defs.specs.Tree.{nodes};
 ghost use Rattle.base_table.specs.Places.{named, rows_of};
 ghost use Rattle.build_trace.specs.Trace.{acts_at, part_acts};
-ghost use Rattle.build_acts.specs.Going.{Does, IsNext};
+ghost use Rattle.build_acts.specs.Building.{PerformsActs, ActsComeNext};
 ghost use Rattle.qc_arena.specs.Map.{frame};
 ghost use Rattle.class_builder.specs.Walk.{IsGroup, IsOnPath, IsPart, acts_from};
 ghost use Rattle.class_builder.specs.Noted.{AreNoted};
@@ -14,7 +14,7 @@ use crate::labels::{add_front, link_part};
 use crate::part::{ChildEdge, Group, Part};
 use crate::path::Path;
 use crate::total::total;
-use crate::upper::{first_gain, narrowed};
+use crate::upper::{closure_of_part, first_new_value};
 use build_acts::mark_class;
 use cell_core::Entry;
 use qc_arena::ArenaRefused;
@@ -32,10 +32,12 @@ pub(crate) fn drill<L: Ledger>(
     requires part { IsPart part.now.table.now part.now.rows.now part.now.shared }
     requires first { first ≤ part.now.table.now.dims }
     requires width { builder.old.arena.now.width ≡ part.now.table.now.dims }
-    requires next { IsNext part.now.table.now.measures (rows_of part.now.table.now) (acts_from part.now.table.now first (named part.now.table.now part.now.rows.now)) builder.old.arena.now }
+    requires next { ActsComeNext part.now.table.now.measures (rows_of part.now.table.now)
+        (acts_from part.now.table.now first (named part.now.table.now part.now.rows.now)) builder.old.arena.now }
     requires path { IsOnPath builder.old.arena.now path part.now.shared first }
     requires fronts { AreNoted part.now.table.now builder.old.arena.now builder.old.fronts.now }
-    ensures does { OnOk result (Does part.now.table.now.measures (rows_of part.now.table.now) (acts_from part.now.table.now first (named part.now.table.now part.now.rows.now)) builder.old.arena.now builder.new.arena.now) }
+    ensures does { OnOk result (PerformsActs part.now.table.now.measures (rows_of part.now.table.now)
+        (acts_from part.now.table.now first (named part.now.table.now part.now.rows.now)) builder.old.arena.now builder.new.arena.now) }
     ensures fronts { OnOk result (AreNoted part.now.table.now builder.new.arena.now builder.new.fronts.now) }
     ensures full { result ≡ Err ArenaRefused.Full → builder.old.arena.now.max < length (nodes nat_cmp (rows_of part.now.table.now)) }
     ensures frame { frame builder.new.arena.now ≡ frame builder.old.arena.now }
@@ -58,8 +60,8 @@ pub(crate) fn drill<L: Ledger>(
     Ok(())
 }
 
-/// Does so for the cells that have a value in the dimension and none that the rows don't share
-/// before it. The path goes on to the front with the dimension.
+/// Builds the nodes below the front whose cells have a value in this dimension and, before it, only
+/// values that the rows share. The path goes on to the front with the dimension.
 #[cycle(drilling)]
 fn drill_at<L: Ledger>(
     builder: &mut Builder<'_, L>,
@@ -70,10 +72,14 @@ fn drill_at<L: Ledger>(
     requires part { IsPart part.now.table.now part.now.rows.now part.now.shared }
     requires dim { dim < part.now.table.now.dims }
     requires width { builder.old.arena.now.width ≡ part.now.table.now.dims }
-    requires next { IsNext part.now.table.now.measures (rows_of part.now.table.now) (acts_at (acts_from part.now.table.now (dim + 1)) dim part.now.shared (slice_index_or part.now.shared dim None) (named part.now.table.now part.now.rows.now)) builder.old.arena.now }
+    requires next { ActsComeNext part.now.table.now.measures (rows_of part.now.table.now)
+        (acts_at (acts_from part.now.table.now (dim + 1)) dim part.now.shared (slice_index_or part.now.shared dim None)
+        (named part.now.table.now part.now.rows.now)) builder.old.arena.now }
     requires path { IsOnPath builder.old.arena.now path.old part.now.shared dim }
     requires fronts { AreNoted part.now.table.now builder.old.arena.now builder.old.fronts.now }
-    ensures does { OnOk result (Does part.now.table.now.measures (rows_of part.now.table.now) (acts_at (acts_from part.now.table.now (dim + 1)) dim part.now.shared (slice_index_or part.now.shared dim None) (named part.now.table.now part.now.rows.now)) builder.old.arena.now builder.new.arena.now) }
+    ensures does { OnOk result (PerformsActs part.now.table.now.measures (rows_of part.now.table.now)
+        (acts_at (acts_from part.now.table.now (dim + 1)) dim part.now.shared (slice_index_or part.now.shared dim None)
+        (named part.now.table.now part.now.rows.now)) builder.old.arena.now builder.new.arena.now) }
     ensures path { OnOk result (IsOnPath builder.new.arena.now path.new part.now.shared (dim + 1)) }
     ensures fronts { OnOk result (AreNoted part.now.table.now builder.new.arena.now builder.new.fronts.now) }
     ensures full { result ≡ Err ArenaRefused.Full → builder.old.arena.now.max < length (nodes nat_cmp (rows_of part.now.table.now)) }
@@ -98,7 +104,8 @@ fn drill_at<L: Ledger>(
     }
 }
 
-/// Does so where the rows share no value in the dimension: for each group of them by their codes.
+/// Builds these nodes where the rows share no value in the dimension: those of each group of rows
+/// with one code there, in turn.
 #[cycle(drilling)]
 fn drill_in<L: Ledger>(
     builder: &mut Builder<'_, L>,
@@ -109,10 +116,13 @@ fn drill_in<L: Ledger>(
     requires part { IsPart part.now.table.now part.now.rows.now part.now.shared }
     requires dim { dim < part.now.table.now.dims }
     requires width { builder.old.arena.now.width ≡ part.now.table.now.dims }
-    requires next { IsNext part.now.table.now.measures (rows_of part.now.table.now) (acts_at (acts_from part.now.table.now (dim + 1)) dim part.now.shared None (named part.now.table.now part.now.rows.now)) builder.old.arena.now }
+    requires next { ActsComeNext part.now.table.now.measures (rows_of part.now.table.now)
+        (acts_at (acts_from part.now.table.now (dim + 1)) dim part.now.shared None (named part.now.table.now part.now.rows.now)) builder.old.arena.now }
     requires path { IsOnPath builder.old.arena.now path.now part.now.shared dim }
     requires fronts { AreNoted part.now.table.now builder.old.arena.now builder.old.fronts.now }
-    ensures does { OnOk result (Does part.now.table.now.measures (rows_of part.now.table.now) (acts_at (acts_from part.now.table.now (dim + 1)) dim part.now.shared None (named part.now.table.now part.now.rows.now)) builder.old.arena.now builder.new.arena.now) }
+    ensures does { OnOk result (PerformsActs part.now.table.now.measures (rows_of part.now.table.now)
+        (acts_at (acts_from part.now.table.now (dim + 1)) dim part.now.shared None
+        (named part.now.table.now part.now.rows.now)) builder.old.arena.now builder.new.arena.now) }
     ensures fronts { OnOk result (AreNoted part.now.table.now builder.new.arena.now builder.new.fronts.now) }
     ensures full { result ≡ Err ArenaRefused.Full → builder.old.arena.now.max < length (nodes nat_cmp (rows_of part.now.table.now)) }
     ensures frame { frame builder.new.arena.now ≡ frame builder.old.arena.now }
@@ -139,7 +149,7 @@ fn drill_in<L: Ledger>(
     }
 }
 
-/// Does so for a group. Where its rows share a value before the dimension that `upper` lacks, their
+/// Builds the nodes of a group. Where its rows share a value before the dimension that `upper` lacks, their
 /// class was found before, and only an edge is set.
 #[cycle(drilling)]
 fn drill_part<L: Ledger>(
@@ -150,16 +160,20 @@ fn drill_part<L: Ledger>(
 ) -> Result<(), ArenaRefused>
     requires group { IsGroup group.now.table.now group.now.rows.now group.now.code group.now.upper.now dim }
     requires width { builder.old.arena.now.width ≡ group.now.table.now.dims }
-    requires next { IsNext group.now.table.now.measures (rows_of group.now.table.now) (part_acts (acts_from group.now.table.now (dim + 1)) dim group.now.upper.now group.now.code (named group.now.table.now group.now.rows.now)) builder.old.arena.now }
+    requires next { ActsComeNext group.now.table.now.measures (rows_of group.now.table.now)
+        (part_acts (acts_from group.now.table.now (dim + 1)) dim group.now.upper.now group.now.code
+        (named group.now.table.now group.now.rows.now)) builder.old.arena.now }
     requires path { IsOnPath builder.old.arena.now path.now group.now.upper.now dim }
     requires fronts { AreNoted group.now.table.now builder.old.arena.now builder.old.fronts.now }
-    ensures does { OnOk result (Does group.now.table.now.measures (rows_of group.now.table.now) (part_acts (acts_from group.now.table.now (dim + 1)) dim group.now.upper.now group.now.code (named group.now.table.now group.now.rows.now)) builder.old.arena.now builder.new.arena.now) }
+    ensures does { OnOk result (PerformsActs group.now.table.now.measures (rows_of group.now.table.now)
+        (part_acts (acts_from group.now.table.now (dim + 1)) dim group.now.upper.now group.now.code
+        (named group.now.table.now group.now.rows.now)) builder.old.arena.now builder.new.arena.now) }
     ensures fronts { OnOk result (AreNoted group.now.table.now builder.new.arena.now builder.new.fronts.now) }
     ensures full { result ≡ Err ArenaRefused.Full → builder.old.arena.now.max < length (nodes nat_cmp (rows_of group.now.table.now)) }
     ensures frame { frame builder.new.arena.now ≡ frame builder.old.arena.now }
     ensures same { builder.new.arena.ghost_name ≡ builder.old.arena.ghost_name }
 {
-    match first_gain(group.table, group.rows, group.upper, dim) {
+    match first_new_value(group.table, group.rows, group.upper, dim) {
         Some(at) => match link_part(builder, group, at, dim, path) {
             Ok(()) => Ok(()),
             Err(_) => Err(ArenaRefused::Memory),
@@ -168,7 +182,7 @@ fn drill_part<L: Ledger>(
             let part = Part {
                 table: group.table,
                 rows: group.rows,
-                shared: narrowed(group.table, group.rows, group.upper, dim),
+                shared: closure_of_part(group.table, group.rows, group.upper, dim),
             };
             let edge = ChildEdge {
                 code: group.code,

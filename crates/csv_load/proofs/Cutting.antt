@@ -9,7 +9,7 @@ use Rattle.std.proofs.lemmas.Str.{IsCharBoundary-at_seam, IsCharBoundary-end}
 use Rattle.std.proofs.lemmas.Bool.Decides.{nat_tests}
 use Rattle.std.proofs.lemmas.Bool.{cases_lt}
 use Rattle.csv_load.proofs.Ranges.{range-append, range-behind, same-below}
-use Rattle.csv_load.specs.Texts.{IsCut, start_at, text_between, texts_of}
+use Rattle.csv_load.specs.FieldTexts.{IsCut, start_at, text_between, texts_of}
 
 pub length-texts_of : (ends bytes : List ℕ) → length (texts_of ends bytes) ≡ length ends
 length-texts_of ends bytes = length-map-range_with_len (text_between ends bytes) 0 (length ends)

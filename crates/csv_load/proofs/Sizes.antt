@@ -4,7 +4,7 @@ use Rattle.std.specs.Prelude.{slice_range}
 use Rattle.std.specs.List.{range_with_len}
 use Rattle.std.proofs.lemmas.List.FromFn.{map-range_with_len_more}
 use Rattle.std.proofs.lemmas.Bool.Decides.{nat_tests}
-use Rattle.csv_load.specs.Texts.{IsCut, start_at, text_between, texts_of}
+use Rattle.csv_load.specs.FieldTexts.{IsCut, start_at, text_between, texts_of}
 use Rattle.text_lines.specs.Records.{bytes_in}
 use Rattle.std.proofs.Math.Nat.{mul-le-mul_left}
 use Rattle.csv_load.specs.Columns.{fields_at}

@@ -1,5 +1,5 @@
 pub mod Batch
-pub mod Texts
+pub mod FieldTexts
 pub mod Faults
 pub mod Columns
 pub mod Files

@@ -1,7 +1,7 @@
 // Changes as they lie one behind the other.
 ghost use Rattle.std.specs.Prelude.{◌≡◌, ◌++◌, [], ◌∷◌, IfOk, OnOk};
 
-use crate::texts::Texts;
+use crate::texts::FieldTexts;
 use std::alloc::{AllocError, Global};
 
 /// The ids, texts and amounts of changes. A deletion has texts and amounts as well, which say
@@ -10,7 +10,7 @@ use std::alloc::{AllocError, Global};
 pub struct Changes {
     pub ids: Vec<u64>,
     pub deletes: Vec<bool>,
-    pub texts: Texts,
+    pub texts: FieldTexts,
     pub amounts: Vec<i64>,
 }
 
@@ -24,7 +24,7 @@ impl Changes {
         Changes {
             ids: Vec::new(alloc),
             deletes: Vec::new(alloc),
-            texts: Texts::new(alloc),
+            texts: FieldTexts::new(alloc),
             amounts: Vec::new(alloc),
         }
     }
@@ -37,7 +37,7 @@ impl Changes {
         ensures amounts { IfOk result (λ changes. changes.amounts.items ≡ []) }
     {
         Ok(Changes {
-            texts: Texts::with_room(alloc, size)?,
+            texts: FieldTexts::with_room(alloc, size)?,
             ..Changes::new(alloc)
         })
     }

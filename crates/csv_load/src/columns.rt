@@ -80,7 +80,8 @@ pub fn find_columns(
     header: &ByteRecord,
     has_op: bool,
 ) -> Result<Option<Columns>, AllocError>
-    ensures found { IfOk result (λ found. option_map (λ columns. columns.places.items) found ≡ places_in (fields_of header.now) (needed_names has_op schema.now)) }
+    ensures found { IfOk result (λ found. option_map (λ columns. columns.places.items) found
+        ≡ places_in (fields_of header.now) (needed_names has_op schema.now)) }
     ensures width { IfOk result (λ found. IfSome found (λ columns. columns.width ≡ length (fields_of header.now))) }
     ensures op { IfOk result (λ found. IfSome found (λ columns. columns.has_op ≡ has_op)) }
     ensures are { IfOk result (λ found. IfSome found (λ columns. AreColumns schema.now columns)) }

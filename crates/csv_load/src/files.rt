@@ -13,27 +13,36 @@ use csv::ByteRecord;
 use cube_defs::MAX_FILE;
 use qc_schema::Schema;
 use std::alloc::{AllocError, AllocFailed, Global};
-use text_lines::{Rows, has_two_marks, trim_mark};
+use text_lines::{RecordReader, has_two_marks, trim_mark};
+use thiserror::Error;
 
 /// Why a file gives no changes. A number is that of the first record that is wrong, counted from 1
 /// without the header; of several faults the first in this order is named.
-#[derive(Clone, Copy, Debug, PartialEq, Eq)]
+#[derive(Clone, Copy, Debug, PartialEq, Eq, Error)]
 pub enum LoadRefused {
     /// There is no header, or a needed column isn't there just once.
+    #[error("a needed column is not there just once")]
     Header,
     /// The record has another number of fields than the header.
+    #[error("record {0} has another number of fields than the header")]
     Fields(u32),
     /// The text of a dimension isn't UTF-8, in a deletion too.
+    #[error("record {0} has a text that is not UTF-8")]
     Utf8(u32),
     /// The operation of a record of a batch is neither `+` nor `-`.
+    #[error("record {0} is neither an insertion nor a deletion")]
     Op(u32),
     /// The id is no number that fits 64 bits.
+    #[error("record {0} has an id that is no number of 64 bits")]
     Id(u32),
     /// An amount of an insertion is none of its measure's scale, or is too large.
+    #[error("record {0} has an amount that is none of its scale, or too large")]
     Amount(u32),
     /// The text of a dimension of an insertion has more than 255 bytes.
+    #[error("record {0} has a text of more than 255 bytes")]
     Value(u32),
     /// Memory ran out.
+    #[error("memory ran out")]
     Memory,
 }
 
@@ -73,7 +82,7 @@ fn read_file(
     if has_two_marks(bytes) {
         return Err(LoadRefused::Header);
     }
-    let mut rows = Rows::new(alloc, trim_mark(bytes));
+    let mut rows = RecordReader::new(alloc, trim_mark(bytes));
     let mut row = ByteRecord::new(alloc);
     if !rows.next(&mut row)? {
         return Err(LoadRefused::Header);

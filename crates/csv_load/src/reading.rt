@@ -16,12 +16,12 @@ use crate::batch::RawBatch;
 use crate::changes::Changes;
 use crate::columns::{Columns, needed_field};
 use crate::files::LoadRefused;
-use crate::texts::Texts;
+use crate::texts::FieldTexts;
 use aggregates::{read_amount, read_id};
 use csv::ByteRecord;
 use qc_schema::Schema;
 use std::alloc::AllocError;
-use text_lines::Rows;
+use text_lines::RecordReader;
 
 const LONGEST_TEXT: usize = 255;
 
@@ -31,7 +31,7 @@ fn push_texts(
     columns: &Columns,
     row: &ByteRecord,
     number: u32,
-    texts: &mut Texts,
+    texts: &mut FieldTexts,
 ) -> Result<bool, LoadRefused>
     requires columns { AreColumns schema.now columns.now }
     requires width { length (fields_of row.now) ≡ columns.now.width }
@@ -39,7 +39,8 @@ fn push_texts(
     ensures ok { OnOk result (texts.new ≡ texts.old ++ tuple_of schema.now (fields_at columns.now.places.items (fields_of row.now))) }
     ensures utf8 { OnOk result (list_all is_utf8 (tuple_of schema.now (fields_at columns.now.places.items (fields_of row.now))) ≡ true) }
     ensures short { IfOk result (λ short. short ≡ list_all is_short (tuple_of schema.now (fields_at columns.now.places.items (fields_of row.now)))) }
-    ensures err { IfErr result (λ e. IfSome (fault_in e) (λ fault. (fault ≡ Utf8 number) × (list_all is_utf8 (tuple_of schema.now (fields_at columns.now.places.items (fields_of row.now))) ≡ false))) }
+    ensures err { IfErr result (λ e. IfSome (fault_in e) (λ fault. (fault ≡ Utf8 number)
+        × (list_all is_utf8 (tuple_of schema.now (fields_at columns.now.places.items (fields_of row.now))) ≡ false))) }
 {
     let mut are_short = true;
     for dim in 0..schema.dims() {
@@ -82,8 +83,10 @@ fn push_amounts(
 ) -> Result<(), LoadRefused>
     requires columns { AreColumns schema.now columns.now }
     requires width { length (fields_of row.now) ≡ columns.now.width }
-    ensures ok { OnOk result ((more : List ℤ) × (amounts_of schema.now (fields_at columns.now.places.items (fields_of row.now)) ≡ Some more) × (amounts.new.items ≡ amounts.old.items ++ more)) }
-    ensures err { IfErr result (λ e. IfSome (fault_in e) (λ fault. (fault ≡ Amount number) × (amounts_of schema.now (fields_at columns.now.places.items (fields_of row.now)) ≡ None))) }
+    ensures ok { OnOk result ((more : List ℤ) × (amounts_of schema.now (fields_at columns.now.places.items (fields_of row.now)) ≡ Some more)
+        × (amounts.new.items ≡ amounts.old.items ++ more)) }
+    ensures err { IfErr result (λ e. IfSome (fault_in e) (λ fault. (fault ≡ Amount number)
+        × (amounts_of schema.now (fields_at columns.now.places.items (fields_of row.now)) ≡ None))) }
 {
     let first = 1 + schema.dims() as usize;
     for measure in 0..schema.measures() {
@@ -120,8 +123,11 @@ fn push_amounts_or_zeros(
     requires columns { AreColumns schema.now columns.now }
     requires width { length (fields_of row.now) ≡ columns.now.width }
     requires short { are_short ≡ list_all is_short (tuple_of schema.now (fields_at columns.now.places.items (fields_of row.now))) }
-    ensures ok { OnOk result ((more : List ℤ) × (length more ≡ length schema.now.measures) × (amounts.new.items ≡ amounts.old.items ++ more) × Makes schema.now number (fields_at columns.now.places.items (fields_of row.now)) deletes more) }
-    ensures err { IfErr result (λ e. (id : ℕ) → IfSome (fault_in e) (λ fault. change_with_id number (Some deletes) (Some id) (tuple_of schema.now (fields_at columns.now.places.items (fields_of row.now))) (amounts_of schema.now (fields_at columns.now.places.items (fields_of row.now))) ≡ Err fault)) }
+    ensures ok { OnOk result ((more : List ℤ) × (length more ≡ length schema.now.measures) × (amounts.new.items ≡ amounts.old.items ++ more)
+        × Makes schema.now number (fields_at columns.now.places.items (fields_of row.now)) deletes more) }
+    ensures err { IfErr result (λ e. (id : ℕ) → IfSome (fault_in e)
+        (λ fault. change_with_id number (Some deletes) (Some id) (tuple_of schema.now (fields_at columns.now.places.items (fields_of row.now)))
+        (amounts_of schema.now (fields_at columns.now.places.items (fields_of row.now))) ≡ Err fault)) }
 {
     if deletes {
         push_zeros(schema.measures(), amounts)?;
@@ -144,9 +150,12 @@ fn push_change(
 ) -> Result<(), LoadRefused>
     requires columns { AreColumns schema.now columns.now }
     requires room { bytes_in changes.old.texts + bytes_in (fields_at columns.now.places.items (fields_of row.now)) < 2 ^ 32 }
-    ensures ok { OnOk result ((deletes : Bool) × (added : Row Text) × (change_in columns.now.has_op schema.now columns.now.width columns.now.places.items number (fields_of row.now) ≡ Ok (change_with deletes added)) × (length added.tuple ≡ length schema.now.dims) × (length added.amounts ≡ length schema.now.measures) × Adds deletes added changes.old changes.new) }
+    ensures ok { OnOk result ((deletes : Bool) × (added : Row Text)
+        × (change_in columns.now.has_op schema.now columns.now.width columns.now.places.items number (fields_of row.now) ≡ Ok (change_with deletes added))
+        × (length added.tuple ≡ length schema.now.dims) × (length added.amounts ≡ length schema.now.measures) × Adds deletes added changes.old changes.new) }
     ensures size { OnOk result (bytes_in changes.new.texts ≤ bytes_in changes.old.texts + bytes_in (fields_at columns.now.places.items (fields_of row.now))) }
-    ensures err { IfErr result (λ e. IfSome (fault_in e) (λ fault. change_in columns.now.has_op schema.now columns.now.width columns.now.places.items number (fields_of row.now) ≡ Err fault)) }
+    ensures err { IfErr result (λ e. IfSome (fault_in e) (λ fault. change_in columns.now.has_op schema.now columns.now.width columns.now.places.items number
+        (fields_of row.now) ≡ Err fault)) }
 {
     if row.len() != columns.width {
         return Err(LoadRefused::Fields(number));
@@ -168,7 +177,7 @@ fn push_change(
 pub fn read_changes(
     schema: &Schema,
     columns: &Columns,
-    rows: &mut Rows,
+    rows: &mut RecordReader,
     row: &mut ByteRecord,
     mut changes: Changes,
 ) -> Result<RawBatch, LoadRefused>
@@ -179,7 +188,8 @@ pub fn read_changes(
     requires amounts { changes.amounts.items ≡ [] }
     requires few { length rows.old + 1 < 2 ^ 32 }
     requires room { 15 * bytes_in_all rows.old < 2 ^ 32 }
-    ensures gives { Gives fault_in (λ batch. batch.changes) result (changes_from columns.now.has_op schema.now columns.now.width columns.now.places.items 1 rows.old) }
+    ensures gives { Gives fault_in (λ batch. batch.changes) result
+        (changes_from columns.now.has_op schema.now columns.now.width columns.now.places.items 1 rows.old) }
     ensures dims { IfOk result (λ batch. batch.dims ≡ length schema.now.dims) }
     ensures measures { IfOk result (λ batch. batch.measures ≡ length schema.now.measures) }
 {

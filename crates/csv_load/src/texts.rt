@@ -1,21 +1,21 @@
 // Texts that lie one behind the other in one buffer.
 ghost use Rattle.std.specs.Prelude.{◌≡◌, ◌<◌, ◌+◌, ◌^◌, ◌++◌, [], ◌∷◌, length, OnOk, OnErr, IfOk, slice_index_or, string_bytes};
 ghost use Rattle.text_lines.specs.Records.{bytes_in};
-ghost use Rattle.csv_load.specs.Texts.{IsCut, text_between, texts_of};
+ghost use Rattle.csv_load.specs.FieldTexts.{IsCut, text_between, texts_of};
 
 use std::alloc::{AllocError, Global};
 use std::marker::Model;
 
 /// Seen as the list of its texts.
 #[derive(Drop)]
-pub struct Texts {
+pub struct FieldTexts {
     bytes: String,
     ends: Vec<u32>,
 }
 
-impl Model for Texts {
+impl Model for FieldTexts {
     ghost use Rattle.std.specs.Prelude.{List, ℕ, string_bytes};
-    ghost use Rattle.csv_load.specs.Texts.{IsCut, texts_of};
+    ghost use Rattle.csv_load.specs.FieldTexts.{IsCut, texts_of};
 
     ghost Value = { List (List ℕ) };
 
@@ -49,21 +49,21 @@ fn text_in<'a>(bytes: &'a String, ends: &[u32], k: usize) -> &'a str
     &bytes.as_str()[start as usize..ends[k] as usize]
 }
 
-impl Texts {
-    pub fn new(alloc: Global) -> Texts
+impl FieldTexts {
+    pub fn new(alloc: Global) -> FieldTexts
         ensures { result ≡ [] }
     {
-        Texts {
+        FieldTexts {
             bytes: String::new(alloc),
             ends: Vec::new(alloc),
         }
     }
 
     /// No texts yet, and room for so many bytes.
-    pub fn with_room(alloc: Global, size: usize) -> Result<Texts, AllocError>
+    pub fn with_room(alloc: Global, size: usize) -> Result<FieldTexts, AllocError>
         ensures { IfOk result (λ texts. texts ≡ []) }
     {
-        Ok(Texts {
+        Ok(FieldTexts {
             bytes: String::with_capacity(alloc, size)?,
             ends: Vec::new(alloc),
         })

@@ -6,18 +6,18 @@ use Rattle.std.specs.declared.cmp.Ordering.TheVariants.{Less, Equal, Greater}
 use Rattle.std.specs.List.{range_with_len, position_or_len, count_by}
 use Rattle.std.specs.Option.{option_map, option_and_then, option_eq}
 use Rattle.std.specs.FinMap as map
-use Rattle.cube_defs.specs.Cell.{Cell, cell_of, depth, keep, upto, with_value, leq, cell_eq, cell_cmp}
+use Rattle.cube_defs.specs.Cell.{Cell, cell_of, depth, cell_front, upto, with_value, leq, cell_eq, cell_cmp}
 use Rattle.cube_defs.specs.Rows.{Row, Agg, cov, closure, is_class, is_node, agg}
 
 -- a list with one item more, at its place in the order, where the item is not in it
-abbrev pub put_in : {X : Type 0} → (X → X → Ordering) → X → List X → List X
-put_in cmp x [] = x ∷ []
-put_in cmp x (y ∷ ys) = let later = put_in cmp x ys in elim (cmp x y) [ Less ↦ x ∷ y ∷ ys | Equal ↦ y ∷ ys | Greater ↦ y ∷ later ]
+abbrev pub insert_sorted : {X : Type 0} → (X → X → Ordering) → X → List X → List X
+insert_sorted cmp x [] = x ∷ []
+insert_sorted cmp x (y ∷ ys) = let later = insert_sorted cmp x ys in elim (cmp x y) [ Less ↦ x ∷ y ∷ ys | Equal ↦ y ∷ ys | Greater ↦ y ∷ later ]
 
 -- the items of a list in order, each once
 abbrev pub distinct : {X : Type 0} → (X → X → Ordering) → List X → List X
 distinct cmp [] = []
-distinct cmp (x ∷ xs) = put_in cmp x (distinct cmp xs)
+distinct cmp (x ∷ xs) = insert_sorted cmp x (distinct cmp xs)
 
 -- a label of an edge: a dimension and a value; with T as cells or as numbers of nodes, where it leads
 pub record Edge (A T : Type 0) : Type 0 where
@@ -74,7 +74,7 @@ module _ {A : Type 0} (cmp : A → A → Ordering) where
 
   -- a cell without its last value
   abbrev pub cut_last : Cell A → Option (Cell A)
-  cut_last p = if depth p == 0 then None else Some (keep (depth p - 1) p)
+  cut_last p = if depth p == 0 then None else Some (cell_front (depth p - 1) p)
 
   -- the record of the node p, whose closure is u, and next value after p's is in dimension e
   abbrev pub node_with : ℕ → List (Row A) → Cell A → Cell A → ℕ → Node A (Cell A)

@@ -12,11 +12,11 @@ use Rattle.cube_laws.proofs.Orders.{equality_by}
 use Rattle.cube_laws.proofs.Lists.{all_at}
 use Rattle.cube_laws.proofs.Nodes.{nodes-is}
 use Rattle.cube_examples.specs.Shop.{base}
-use Rattle.cube_examples.specs.Codes.{coded, table, place_from, entries, numbered_table}
+use Rattle.cube_examples.specs.Codes.{shop_codes, table, place_from, entries, numbered_table}
 
 -- the node is one of the rows, and its record is right where the look-up gives the cells of its targets
 abbrev IsRight : (ℕ → Option (Cell ℕ)) → Node ℕ ℕ → Type 0
-IsRight look n = (is_node (eq_by_cmp nat_cmp) (base coded) n.cell ≡ true) × (Some (renamed look n) ≡ option_map (renamed (λ c. Some c)) (node_of nat_cmp 1 (base coded) n.cell))
+IsRight look n = (is_node (eq_by_cmp nat_cmp) (base shop_codes) n.cell ≡ true) × (Some (renamed look n) ≡ option_map (renamed (λ c. Some c)) (node_of nat_cmp 1 (base shop_codes) n.cell))
 
 each_is : AllByRecursion (λ e. IsRight (λ l. option_map (λ n. n.cell) (find nat_cmp l entries)) e.1) entries
 each_is = ((refl, refl), ((refl, refl), ((refl, refl), ((refl, refl), ((refl, refl), ((refl, refl), ((refl, refl), ((refl, refl), ((refl, refl), ((refl, refl), ((refl, refl), tt)))))))))))
@@ -46,15 +46,15 @@ number_is k c h = go (find nat_cmp k entries) refl (sym (same_cell k) ∙ h)
     go (Some n) e q = let is : n.cell ≡ c = cc in subst (λ x. place_from 0 table x ≡ k) is (find_at (λ l m. place_from 0 table m.cell ≡ l) k n entries own_place e)
 
 -- each of the nodes has a number
-all_numbered : AllByRecursion (λ c. cell_at numbered_table (place_from 0 table c) ≡ Some c) (nodes nat_cmp (base coded))
+all_numbered : AllByRecursion (λ c. cell_at numbered_table (place_from 0 table c) ≡ Some c) (nodes nat_cmp (base shop_codes))
 all_numbered = (same_cell 0, (same_cell 1, (same_cell 2, (same_cell 3, (same_cell 4, (same_cell 5, (same_cell 6, (same_cell 7, (same_cell 8, (same_cell 9, (same_cell 10, tt)))))))))))
 
-pub numbered_is_canonical : IsCanonical nat_cmp 1 (base coded) numbered_table
+pub numbered_is_canonical : IsCanonical nat_cmp 1 (base shop_codes) numbered_table
 unfolding numbered_table
 numbered_is_canonical = record {
   each = λ k n h. find_at (λ l m. IsRight (cell_at numbered_table) m) k n entries
       (subst (λ f. AllByRecursion (λ e. IsRight f e.1) entries) (λ i l. sym (same_cell l) i) each_is)
       (sym (get-from_entries nat_cmp_total entries k) ∙ h);
   once = λ k l c h g. sym (number_is k c h) ∙ number_is l c g;
-  all = λ c h. (place_from 0 table c, all_at (λ x. cell_at numbered_table (place_from 0 table x) ≡ Some x) c (nodes nat_cmp (base coded)) all_numbered ((nodes-is nat_cmp_total nat_cmp-IsAntisymmetric 3 (base coded) (refl, (refl, (refl, tt))) c).1 h));
+  all = λ c h. (place_from 0 table c, all_at (λ x. cell_at numbered_table (place_from 0 table x) ≡ Some x) c (nodes nat_cmp (base shop_codes)) all_numbered ((nodes-is nat_cmp_total nat_cmp-IsAntisymmetric 3 (base shop_codes) (refl, (refl, (refl, tt))) c).1 h));
 }

@@ -4,10 +4,10 @@ use Rattle.std.specs.Ordering.{nat_cmp, eq_by_cmp}
 use Rattle.std.specs.FinMap.{empty, from_entries}
 use Rattle.cube_defs.specs.Cell.{Cell, cell_eq}
 use Rattle.cube_defs.specs.Tree.{Node, Edge, Tree, renamed}
-use Rattle.cube_examples.specs.Shop.{Names, base_table, sums}
+use Rattle.cube_examples.specs.Shop.{ShopValues, base_table, sums}
 
-abbrev pub coded : Names ℕ
-coded = record { S1 = 0; S2 = 1; P1 = 0; P2 = 1; s = 0; f = 1 }
+abbrev pub shop_codes : ShopValues ℕ
+shop_codes = record { S1 = 0; S2 = 1; P1 = 0; P2 = 1; s = 0; f = 1 }
 
 abbrev pub code_cell : Option ℕ → Option ℕ → Option ℕ → Cell ℕ
 code_cell a b c = a ∷ b ∷ c ∷ []
@@ -17,7 +17,7 @@ abbrev pub s_first : Edge ℕ (Cell ℕ) → Edge ℕ (Cell ℕ) → List (Edge 
 s_first s f = s ∷ f ∷ []
 
 abbrev pub table : List (Node ℕ (Cell ℕ))
-table = base_table coded s_first
+table = base_table shop_codes s_first
 
 -- the place of a cell among the records, from k on
 abbrev pub place_from : ℕ → List (Node ℕ (Cell ℕ)) → Cell ℕ → ℕ

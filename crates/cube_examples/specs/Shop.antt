@@ -6,7 +6,7 @@ use Rattle.cube_defs.specs.Tree.{Node, Edge}
 use Rattle.cube_defs.specs.Answers.{Ask, AggKind.{Count, Sum, Mean}, Bound.{AtLeast, AtMost}, ClassHit, Hit}
 
 -- the values of the three dimensions
-pub record Names (A : Type 0) : Type 0 where
+pub record ShopValues (A : Type 0) : Type 0 where
   pub S1 : A
   pub S2 : A
   pub P1 : A
@@ -45,7 +45,7 @@ module _ {A : Type 0} where
   abbrev pub class_hit : Cell A → Agg → List (Cell A) → ClassHit A
   class_hit upper agg lowers = record { upper = upper; agg = agg; lowers = lowers }
 
-  module _ (n : Names A) where
+  module _ (n : ShopValues A) where
     -- the first store's record
     abbrev pub store_record : Node A (Cell A)
     store_record =

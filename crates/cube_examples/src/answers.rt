@@ -5,36 +5,36 @@ ghost use Rattle.std.specs.Ordering.{nat_cmp};
 ghost use Rattle.std.specs.declared.cmp.Ordering.TheVariants.{Less, Equal, Greater};
 ghost use Rattle.cube_defs.specs.Answers.{range, iceberg, value_of, fraction_cmp, AggKind.{Count, Sum, Least, Greatest, Mean}};
 ghost use Rattle.cube_examples.specs.Shop.{base, cell, any, sums, fraction, hit, twos, high_means, low_sums, count_two, mean_high, sum_low};
-ghost use Rattle.cube_examples.specs.Codes.{coded};
+ghost use Rattle.cube_examples.specs.Codes.{shop_codes};
 
 /// The cells of a box that cover a row, in cell order.
 pub fn ranges()
-    ensures one_product { range nat_cmp 1 (base coded) (Some (coded.S2 ∷ coded.S1 ∷ []) ∷ Some (coded.P1 ∷ []) ∷ None ∷ [])
-        ≡ hit (cell (Some coded.S1) (Some coded.P1) any) (sums 1 (pos 6) (pos 6) (pos 6))
-        ∷ hit (cell (Some coded.S2) (Some coded.P1) any) (sums 1 (pos 9) (pos 9) (pos 9)) ∷ [] }
-    ensures two_products { range nat_cmp 1 (base coded) (Some (coded.S2 ∷ coded.S1 ∷ []) ∷ Some (coded.P1 ∷ coded.P2 ∷ []) ∷ None ∷ [])
-        ≡ hit (cell (Some coded.S1) (Some coded.P1) any) (sums 1 (pos 6) (pos 6) (pos 6))
-        ∷ hit (cell (Some coded.S1) (Some coded.P2) any) (sums 1 (pos 12) (pos 12) (pos 12))
-        ∷ hit (cell (Some coded.S2) (Some coded.P1) any) (sums 1 (pos 9) (pos 9) (pos 9)) ∷ [] }
-    ensures no_product { range nat_cmp 1 (base coded) (None ∷ Some [] ∷ None ∷ []) ≡ [] }
-    ensures any_alone { range nat_cmp 1 (base coded) (None ∷ Some (coded.P1 ∷ []) ∷ None ∷ [])
-        ≡ hit (cell any (Some coded.P1) any) (sums 2 (pos 15) (pos 6) (pos 9)) ∷ [] }
+    ensures one_product { range nat_cmp 1 (base shop_codes) (Some (shop_codes.S2 ∷ shop_codes.S1 ∷ []) ∷ Some (shop_codes.P1 ∷ []) ∷ None ∷ [])
+        ≡ hit (cell (Some shop_codes.S1) (Some shop_codes.P1) any) (sums 1 (pos 6) (pos 6) (pos 6))
+        ∷ hit (cell (Some shop_codes.S2) (Some shop_codes.P1) any) (sums 1 (pos 9) (pos 9) (pos 9)) ∷ [] }
+    ensures two_products { range nat_cmp 1 (base shop_codes) (Some (shop_codes.S2 ∷ shop_codes.S1 ∷ []) ∷ Some (shop_codes.P1 ∷ shop_codes.P2 ∷ []) ∷ None ∷ [])
+        ≡ hit (cell (Some shop_codes.S1) (Some shop_codes.P1) any) (sums 1 (pos 6) (pos 6) (pos 6))
+        ∷ hit (cell (Some shop_codes.S1) (Some shop_codes.P2) any) (sums 1 (pos 12) (pos 12) (pos 12))
+        ∷ hit (cell (Some shop_codes.S2) (Some shop_codes.P1) any) (sums 1 (pos 9) (pos 9) (pos 9)) ∷ [] }
+    ensures no_product { range nat_cmp 1 (base shop_codes) (None ∷ Some [] ∷ None ∷ []) ≡ [] }
+    ensures any_alone { range nat_cmp 1 (base shop_codes) (None ∷ Some (shop_codes.P1 ∷ []) ∷ None ∷ [])
+        ≡ hit (cell any (Some shop_codes.P1) any) (sums 2 (pos 15) (pos 6) (pos 9)) ∷ [] }
 {}
 
 /// The classes of at least two rows, falling by count.
 pub fn iceberg_by_count()
-    ensures { iceberg nat_cmp 1 (base coded) count_two ≡ twos coded }
+    ensures { iceberg nat_cmp 1 (base shop_codes) count_two ≡ twos shop_codes }
 {}
 
 /// The classes with a mean of at least 15/2, falling, the three equal ones in cell order, and the equal
 /// one at the end.
 pub fn iceberg_by_mean()
-    ensures { iceberg nat_cmp 1 (base coded) mean_high ≡ high_means coded }
+    ensures { iceberg nat_cmp 1 (base shop_codes) mean_high ≡ high_means shop_codes }
 {}
 
 /// The classes with a sum of at most 15, rising.
 pub fn iceberg_by_sum()
-    ensures { iceberg nat_cmp 1 (base coded) sum_low ≡ low_sums coded }
+    ensures { iceberg nat_cmp 1 (base shop_codes) sum_low ≡ low_sums shop_codes }
 {}
 
 /// The value of each kind, in the measure's unit.

@@ -5,11 +5,12 @@ ghost use Rattle.std.specs.Prelude.{◌≡◌, map, length};
 ghost use Rattle.std.specs.Ordering.{nat_cmp, eq_by_cmp};
 ghost use Rattle.cube_defs.specs.Rows.{agg, closure};
 ghost use Rattle.cube_defs.specs.Tree.{covered, classes, nodes, tree_edges, links};
-ghost use Rattle.cube_examples.specs.Sales.{sales, groups, Group};
+ghost use Rattle.cube_examples.specs.Sales.{sales, groups};
 
 /// Each cell that covers a sale, what the sales come to, and their closure.
 pub fn sales_groups()
-    ensures { map (λ c. record { cell = c; agg = agg (eq_by_cmp nat_cmp) 1 sales c; closure = closure (eq_by_cmp nat_cmp) sales c }) (covered nat_cmp sales) ≡ groups }
+    ensures { map (λ c. record { cell = c; agg = agg (eq_by_cmp nat_cmp) 1 sales c; closure = closure (eq_by_cmp nat_cmp) sales c })
+        (covered nat_cmp sales) ≡ groups }
 {}
 
 /// How many classes, nodes and edges of both kinds there are.

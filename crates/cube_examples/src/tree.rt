@@ -4,22 +4,22 @@ ghost use Rattle.std.specs.Prelude.{◌≡◌, ◌∷◌, [], length, pos, negsu
 ghost use Rattle.std.specs.Ordering.{nat_cmp};
 ghost use Rattle.cube_defs.specs.Tree.{classes, nodes, tree_edges, links, tree, above, renamed, IsCanonical};
 ghost use Rattle.cube_examples.specs.Shop.{base, plus4, base_table, plus4_table, row, store_record};
-ghost use Rattle.cube_examples.specs.Codes.{coded, s_first, table, place_from, numbered_table, numbered_store, no_tree, doubled_table, altered_table};
+ghost use Rattle.cube_examples.specs.Codes.{shop_codes, s_first, table, place_from, numbered_table, numbered_store, no_tree, doubled_table, altered_table};
 
 /// The rows have six classes, eleven nodes, ten edges to children and five links.
 pub fn base_counts()
-    ensures classes { length (classes nat_cmp (base coded)) ≡ 6 }
-    ensures nodes { length (nodes nat_cmp (base coded)) ≡ 11 }
-    ensures tree_edges { tree_edges nat_cmp (base coded) ≡ 10 }
-    ensures links { links nat_cmp (base coded) ≡ 5 }
+    ensures classes { length (classes nat_cmp (base shop_codes)) ≡ 6 }
+    ensures nodes { length (nodes nat_cmp (base shop_codes)) ≡ 11 }
+    ensures tree_edges { tree_edges nat_cmp (base shop_codes) ≡ 10 }
+    ensures links { links nat_cmp (base shop_codes) ≡ 5 }
 {}
 
 /// With the fourth row there are nine classes, 15 nodes, 14 edges to children and six links.
 pub fn plus4_counts()
-    ensures classes { length (classes nat_cmp (plus4 coded)) ≡ 9 }
-    ensures nodes { length (nodes nat_cmp (plus4 coded)) ≡ 15 }
-    ensures tree_edges { tree_edges nat_cmp (plus4 coded) ≡ 14 }
-    ensures links { links nat_cmp (plus4 coded) ≡ 6 }
+    ensures classes { length (classes nat_cmp (plus4 shop_codes)) ≡ 9 }
+    ensures nodes { length (nodes nat_cmp (plus4 shop_codes)) ≡ 15 }
+    ensures tree_edges { tree_edges nat_cmp (plus4 shop_codes) ≡ 14 }
+    ensures links { links nat_cmp (plus4 shop_codes) ≡ 6 }
 {}
 
 /// Two rows of one tuple are one class, under four nodes in a line.
@@ -32,45 +32,45 @@ pub fn twin_counts()
 
 /// Each record of the rows' tree.
 pub fn base_records()
-    ensures { tree nat_cmp 1 (base coded) ≡ base_table coded s_first }
+    ensures { tree nat_cmp 1 (base shop_codes) ≡ base_table shop_codes s_first }
 {}
 
 /// Each record once the fourth row is there.
 pub fn plus4_records()
-    ensures { tree nat_cmp 1 (plus4 coded) ≡ plus4_table coded s_first }
+    ensures { tree nat_cmp 1 (plus4 shop_codes) ≡ plus4_table shop_codes s_first }
 {}
 
 /// Above the fourth row's tuple stand two nodes with seven edges before it comes, and six nodes with
 /// twelve edges after.
 pub fn above_the_fourth()
-    ensures { above nat_cmp (base coded) (plus4 coded) (coded.S2 ∷ coded.P2 ∷ coded.f ∷ []) ≡ 27 }
+    ensures { above nat_cmp (base shop_codes) (plus4 shop_codes) (shop_codes.S2 ∷ shop_codes.P2 ∷ shop_codes.f ∷ []) ≡ 27 }
 {}
 
 /// The records with their places as numbers are the canonical tree.
 #[tactic(auto, using(crate::proofs::Numbered::numbered_is_canonical))]
 pub fn canonical_base()
-    ensures { IsCanonical nat_cmp 1 (base coded) numbered_table }
+    ensures { IsCanonical nat_cmp 1 (base shop_codes) numbered_table }
 {}
 
 /// A record has the numbers of its parent, its forced child and its targets.
 pub fn record_with_numbers()
-    ensures { renamed (place_from 0 table) (store_record coded) ≡ numbered_store }
+    ensures { renamed (place_from 0 table) (store_record shop_codes) ≡ numbered_store }
 {}
 
 /// A map that lacks a node isn't canonical.
 #[tactic(auto, using(crate::proofs::Refused::lacks_nodes))]
 pub fn missing_node()
-    ensures { IsCanonical nat_cmp 1 (base coded) no_tree → ⊥ }
+    ensures { IsCanonical nat_cmp 1 (base shop_codes) no_tree → ⊥ }
 {}
 
 /// A map with a node under two numbers isn't canonical.
 #[tactic(auto, using(crate::proofs::Refused::has_a_node_twice))]
 pub fn node_twice()
-    ensures { IsCanonical nat_cmp 1 (base coded) doubled_table → ⊥ }
+    ensures { IsCanonical nat_cmp 1 (base shop_codes) doubled_table → ⊥ }
 {}
 
 /// A map with a record that isn't the node's isn't canonical.
 #[tactic(auto, using(crate::proofs::Refused::has_a_wrong_record))]
 pub fn wrong_record()
-    ensures { IsCanonical nat_cmp 1 (base coded) altered_table → ⊥ }
+    ensures { IsCanonical nat_cmp 1 (base shop_codes) altered_table → ⊥ }
 {}

@@ -3,7 +3,7 @@ use Rattle.std.proofs.Common.{◌≡◌, ℕ, zero, suc, Bool, true, ◌&&◌, O
 use Rattle.std.proofs.lemmas.Bool.{and_parts, and_from, cond-true, cond-false}
 use Rattle.std.specs.Option.{option_eq}
 use Rattle.std.specs.Cmp.{both_ways}
-use Rattle.cube_defs.specs.Cell.{Cell, entry_leq, leq, entry_meet, meet, cell_eq, cell_of, depth, last, index_below, one_deeper, keep}
+use Rattle.cube_defs.specs.Cell.{Cell, entry_leq, leq, entry_meet, meet, cell_eq, cell_of, depth, last, index_below, one_deeper, cell_front}
 
 -- the test tells equal values
 pub record IsEquality {A : Type 0} (eq : A → A → Bool) : Type 0 where
@@ -117,40 +117,40 @@ module _ {A : Type 0} {eq : A → A → Bool} (law : IsEquality eq) where
   tuple-leq (x ∷ s) [] l h = absurd (omega arith)
   tuple-leq (x ∷ s) (y ∷ t) l h = let p = and_parts (eq x y) (leq eq (cell_of s) (cell_of t)) h in ap₂ (λ v vs. v ∷ vs) (law.exact x y p.0) (tuple-leq s t (omega arith) p.1)
 
-  pub keep-leq : (n : ℕ) (c : Cell A) → leq eq (keep n c) c ≡ true
-  keep-leq n [] = refl
-  keep-leq zero (e ∷ c) = keep-leq zero c
-  keep-leq (suc n) (e ∷ c) = and_from _ _ (entry_refl e) (keep-leq n c)
+  pub cell_front-leq : (n : ℕ) (c : Cell A) → leq eq (cell_front n c) c ≡ true
+  cell_front-leq n [] = refl
+  cell_front-leq zero (e ∷ c) = cell_front-leq zero c
+  cell_front-leq (suc n) (e ∷ c) = and_from _ _ (entry_refl e) (cell_front-leq n c)
     where
       entry_refl : (e : Option A) → entry_leq eq e e ≡ true
       entry_refl e = grind (arith, law.same)
 
-  pub keep_mono : (n : ℕ) (c d : Cell A) → leq eq c d ≡ true → leq eq (keep n c) (keep n d) ≡ true
-  keep_mono n [] d h = refl
-  keep_mono n (e ∷ c) [] h = absurd (true≢false (sym h))
-  keep_mono zero (e ∷ c) (f ∷ d) h = keep_mono zero c d (and_parts _ _ h).1
-  keep_mono (suc n) (e ∷ c) (f ∷ d) h = and_from _ _ (and_parts (entry_leq eq e f) (leq eq c d) h).0 (keep_mono n c d (and_parts _ _ h).1)
+  pub cell_front_mono : (n : ℕ) (c d : Cell A) → leq eq c d ≡ true → leq eq (cell_front n c) (cell_front n d) ≡ true
+  cell_front_mono n [] d h = refl
+  cell_front_mono n (e ∷ c) [] h = absurd (true≢false (sym h))
+  cell_front_mono zero (e ∷ c) (f ∷ d) h = cell_front_mono zero c d (and_parts _ _ h).1
+  cell_front_mono (suc n) (e ∷ c) (f ∷ d) h = and_from _ _ (and_parts (entry_leq eq e f) (leq eq c d) h).0 (cell_front_mono n c d (and_parts _ _ h).1)
 
 module _ {A : Type 0} where
   -- a cell ends where its values do
-  pub deeper : (e : Option A) (n : ℕ) (c x : Cell A) → keep n c ≡ x → keep (one_deeper e n) (e ∷ c) ≡ e ∷ x
+  pub deeper : (e : Option A) (n : ℕ) (c x : Cell A) → cell_front n c ≡ x → cell_front (one_deeper e n) (e ∷ c) ≡ e ∷ x
   deeper None zero c x h = ap (λ y. None ∷ y) h
   deeper None (suc n) c x h = ap (λ y. None ∷ y) h
   deeper (Some v) n c x h = ap (λ y. Some v ∷ y) h
 
-  pub keep-depth : (c : Cell A) → keep (depth c) c ≡ c
-  keep-depth [] = refl
-  keep-depth (e ∷ c) = deeper e (depth c) c c (keep-depth c)
+  pub cell_front-depth : (c : Cell A) → cell_front (depth c) c ≡ c
+  cell_front-depth [] = refl
+  cell_front-depth (e ∷ c) = deeper e (depth c) c c (cell_front-depth c)
 
-  pub depth-keep_zero : (c : Cell A) → depth (keep zero c) ≡ 0
-  depth-keep_zero [] = refl
-  depth-keep_zero (e ∷ c) = ap (one_deeper {A = A} None) (depth-keep_zero c)
+  pub depth-cell_front_zero : (c : Cell A) → depth (cell_front zero c) ≡ 0
+  depth-cell_front_zero [] = refl
+  depth-cell_front_zero (e ∷ c) = ap (one_deeper {A = A} None) (depth-cell_front_zero c)
 
   -- the front of c that ends where keep k c does
-  pub keep-depth_keep : (k : ℕ) (c : Cell A) → keep (depth (keep k c)) c ≡ keep k c
-  keep-depth_keep k [] = refl
-  keep-depth_keep zero (e ∷ c) = ap (λ n. keep (one_deeper {A = A} None n) (e ∷ c)) (depth-keep_zero c)
-  keep-depth_keep (suc k) (e ∷ c) = deeper e (depth (keep k c)) c (keep k c) (keep-depth_keep k c)
+  pub cell_front-depth_cell_front : (k : ℕ) (c : Cell A) → cell_front (depth (cell_front k c)) c ≡ cell_front k c
+  cell_front-depth_cell_front k [] = refl
+  cell_front-depth_cell_front zero (e ∷ c) = ap (λ n. cell_front (one_deeper {A = A} None n) (e ∷ c)) (depth-cell_front_zero c)
+  cell_front-depth_cell_front (suc k) (e ∷ c) = deeper e (depth (cell_front k c)) c (cell_front k c) (cell_front-depth_cell_front k c)
 
 -- at numbers
 pub nat_equality : IsEquality nat_eq
@@ -196,11 +196,11 @@ pub depth-le : {A : Type 0} (c : Cell A) → depth c ≤ length c
 depth-le [] = omega arith
 depth-le (e ∷ c) = one_deeper-le e (depth c) (length c) (depth-le c)
 
-pub keep_zero : {A : Type 0} (c : Cell A) → keep 0 c ≡ replicate (length c) None
-keep_zero [] = refl
-keep_zero (e ∷ c) = ap (λ x. None ∷ x) (keep_zero c)
+pub cell_front_zero : {A : Type 0} (c : Cell A) → cell_front 0 c ≡ replicate (length c) None
+cell_front_zero [] = refl
+cell_front_zero (e ∷ c) = ap (λ x. None ∷ x) (cell_front_zero c)
 
-pub length-keep : {A : Type 0} (n : ℕ) (c : Cell A) → length (keep n c) ≡ length c
-length-keep n [] = refl
-length-keep zero (e ∷ c) = ap suc (length-keep zero c)
-length-keep (suc n) (e ∷ c) = ap suc (length-keep n c)
+pub length-cell_front : {A : Type 0} (n : ℕ) (c : Cell A) → length (cell_front n c) ≡ length c
+length-cell_front n [] = refl
+length-cell_front zero (e ∷ c) = ap suc (length-cell_front zero c)
+length-cell_front (suc n) (e ∷ c) = ap suc (length-cell_front n c)

@@ -4,7 +4,7 @@ use Rattle.std.specs.Cmp.{both_ways}
 use Rattle.std.specs.Option.{option_eq}
 use Rattle.std.specs.List.{AllByRecursion}
 use Rattle.cube_defs.specs.Cell.{Cell, leq, meet, cell_eq, cell_of}
-use Rattle.cube_defs.specs.Rows.{Row, covers, cov, meet_next, with_more, meet_all, closure, is_class, agg, agg_of}
+use Rattle.cube_defs.specs.Rows.{Row, covers, cov, meet_after, meet_with, meet_all, closure, is_class, agg, agg_of}
 use Rattle.cube_laws.specs.Tuples.{cells_of}
 use Rattle.cube_laws.proofs.Lists.{map-filter, filter_same, from_filter, to_filter, all_map, always}
 use Rattle.cube_laws.proofs.Cells.{IsEquality, meet_assoc, leq_refl, leq_trans, meet_left, meet_right, meet_great, cell_eq-exact, cell_eq-same}
@@ -19,28 +19,28 @@ closure-cells eq rows c = ap (meet_all eq) (map-filter (λ row. cell_of row.tupl
 
 module _ {A : Type 0} {eq : A → A → Bool} (law : IsEquality eq) where
   -- a meet is below each of its cells, and above what is below each of them
-  pub meet_next_above : (c d : Cell A) (o : Option (Cell A)) → leq eq c d ≡ true → ((u : Cell A) → o ≡ Some u → leq eq c u ≡ true) → leq eq c (meet_next eq d o) ≡ true
-  meet_next_above c d None h k = h
-  meet_next_above c d (Some u) h k = meet_great law c d u h (k u refl)
+  pub meet_after_above : (c d : Cell A) (o : Option (Cell A)) → leq eq c d ≡ true → ((u : Cell A) → o ≡ Some u → leq eq c u ≡ true) → leq eq c (meet_after eq d o) ≡ true
+  meet_after_above c d None h k = h
+  meet_after_above c d (Some u) h k = meet_great law c d u h (k u refl)
 
   pub meet_all_above : (c : Cell A) (cs : List (Cell A)) (u : Cell A) → AllByRecursion (λ d. leq eq c d ≡ true) cs → meet_all eq cs ≡ Some u → leq eq c u ≡ true
   meet_all_above c [] u h e = cc
   meet_all_above c (d ∷ cs) u h e =
-      subst (λ x. leq eq c x ≡ true) (cc) (meet_next_above c d (meet_all eq cs) h.0 (λ w k. meet_all_above c cs w h.1 k))
+      subst (λ x. leq eq c x ≡ true) (cc) (meet_after_above c d (meet_all eq cs) h.0 (λ w k. meet_all_above c cs w h.1 k))
 
-  pub meet_next_below : (d : Cell A) (o : Option (Cell A)) → leq eq (meet_next eq d o) d ≡ true
-  meet_next_below d None = leq_refl law d
-  meet_next_below d (Some u) = meet_left law d u
+  pub meet_after_below : (d : Cell A) (o : Option (Cell A)) → leq eq (meet_after eq d o) d ≡ true
+  meet_after_below d None = leq_refl law d
+  meet_after_below d (Some u) = meet_left law d u
 
-  pub meet_next_rest : (d : Cell A) (o : Option (Cell A)) (u : Cell A) → o ≡ Some u → leq eq (meet_next eq d o) u ≡ true
-  meet_next_rest d None u e = cc
-  meet_next_rest d (Some w) u e = subst (λ x. leq eq (meet eq d w) x ≡ true) (cc) (meet_right law d w)
+  pub meet_after_rest : (d : Cell A) (o : Option (Cell A)) (u : Cell A) → o ≡ Some u → leq eq (meet_after eq d o) u ≡ true
+  meet_after_rest d None u e = cc
+  meet_after_rest d (Some w) u e = subst (λ x. leq eq (meet eq d w) x ≡ true) (cc) (meet_right law d w)
 
   pub meet_all_below : (cs : List (Cell A)) (u : Cell A) → meet_all eq cs ≡ Some u → AllByRecursion (λ d. leq eq u d ≡ true) cs
   meet_all_below [] u e = tt
   meet_all_below (d ∷ []) u e = (subst (λ x. leq eq x d ≡ true) (cc) (leq_refl law d), tt)
   meet_all_below (d ∷ f ∷ cs) u e =
-      let w = meet_next eq f (meet_all eq cs) in
+      let w = meet_after eq f (meet_all eq cs) in
       let is : meet eq d w ≡ u = cc in
       let below : leq eq u w ≡ true = subst (λ x. leq eq x w ≡ true) is (meet_right law d w) in
       (subst (λ x. leq eq x d ≡ true) is (meet_left law d w), all_map _ _ (f ∷ cs) (λ x h. leq_trans law u w x below h) (meet_all_below (f ∷ cs) w refl))
@@ -79,13 +79,13 @@ module _ {A : Type 0} {eq : A → A → Bool} (law : IsEquality eq) where
       (to_filter (λ x. leq eq u x ≡ true) (leq eq d) (cells_of rows) (all_map (λ x. leq eq c x ≡ true → leq eq u x ≡ true) _ (cells_of rows) (λ x k l. k (leq_trans law c d x h l)) (covered_above rows c u e)))
       (sym (closure-cells eq rows d) ∙ f)
 
-  meet_next-more : (c t : Cell A) (o : Option (Cell A)) → meet_next eq c (Some (with_more eq o t)) ≡ meet eq (meet_next eq c o) t
-  meet_next-more c t None = refl
-  meet_next-more c t (Some u) = sym (meet_assoc law c u t)
+  meet_after-more : (c t : Cell A) (o : Option (Cell A)) → meet_after eq c (Some (meet_with eq o t)) ≡ meet eq (meet_after eq c o) t
+  meet_after-more c t None = refl
+  meet_after-more c t (Some u) = sym (meet_assoc law c u t)
 
-  pub meet_all-push : (cs : List (Cell A)) (t : Cell A) → meet_all eq (cs ++ t ∷ []) ≡ Some (with_more eq (meet_all eq cs) t)
+  pub meet_all-push : (cs : List (Cell A)) (t : Cell A) → meet_all eq (cs ++ t ∷ []) ≡ Some (meet_with eq (meet_all eq cs) t)
   meet_all-push [] t = refl
-  meet_all-push (c ∷ cs) t = ap (λ o. Some (meet_next eq c o)) (meet_all-push cs t) ∙ ap (λ d. Some d) (meet_next-more c t (meet_all eq cs))
+  meet_all-push (c ∷ cs) t = ap (λ o. Some (meet_after eq c o)) (meet_all-push cs t) ∙ ap (λ d. Some d) (meet_after-more c t (meet_all eq cs))
 
   -- a cell below one that covers a row covers a row
   pub meet_all_some : (c d : Cell A) (cs : List (Cell A)) (w : Cell A) → leq eq c d ≡ true → meet_all eq (filter (leq eq d) cs) ≡ Some w → (u : Cell A) × (meet_all eq (filter (leq eq c) cs) ≡ Some u)
@@ -94,7 +94,7 @@ module _ {A : Type 0} {eq : A → A → Bool} (law : IsEquality eq) where
     where
       go : (meet_all eq (filter (leq eq d) cs) ≡ Some w → (u : Cell A) × (meet_all eq (filter (leq eq c) cs) ≡ Some u)) → (b t : Bool) → leq eq c x ≡ b → leq eq d x ≡ t → (leq eq d x ≡ true → leq eq c x ≡ true)
           → meet_all eq (cond t (x ∷ filter (leq eq d) cs) (filter (leq eq d) cs)) ≡ Some w → (u : Cell A) × (meet_all eq (cond b (x ∷ filter (leq eq c) cs) (filter (leq eq c) cs)) ≡ Some u)
-      go more true t above is up k = (meet_next eq x (meet_all eq (filter (leq eq c) cs)), refl)
+      go more true t above is up k = (meet_after eq x (meet_all eq (filter (leq eq c) cs)), refl)
       go more false true not_above is up k = absurd (true≢false (sym (up is) ∙ not_above))
       go more false false not_above is up k = more k
 

@@ -65,3 +65,7 @@ module _ {A : Type 0} {eq : A → A → Bool} (law : IsEquality eq) where
 -- a closure is there just where a row is covered
 pub closure-some : {A : Type 0} (eq : A → A → Bool) (rows : List (Row A)) (c : Cell A) → ((u : Cell A) × (closure eq rows c ≡ Some u)) ↔ ((r : Row A) × Among r rows × (covers eq c r ≡ true))
 closure-some eq rows c = (λ h. some_covered eq 0 c h.0 rows h.1, λ h. covered_some eq rows c h.0 h.1 h.2)
+
+-- a value of a cell is one of each cell above it
+pub value_above : {A : Type 0} {eq : A → A → Bool} (law : IsEquality eq) (p q : Cell A) (i : ℕ) (v : A) → leq eq p q ≡ true → slice_get p i ≡ Some (Some v) → slice_get q i ≡ Some (Some v)
+value_above law p q i v h e = (one_value-leq law i v q).0 (leq_trans law (one_value i v) p q ((one_value-leq law i v p).1 e) h)

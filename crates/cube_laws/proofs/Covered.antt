@@ -1,5 +1,6 @@
 -- `covered` has just the cells that cover some row, rising in cell order.
 use Rattle.std.proofs.Common.{Bool, List, None, Option, Some, [], ap, arith, cond, false, flat_map, inl, inr, length, map, refl, subst, suc, sym, true, ℕ, ◌↔◌, ◌∙◌, ◌∷◌, ◌≡◌}
+use Rattle.std.specs.List.Sorted.{IsStrictlySortedBy}
 use Rattle.std.specs.declared.cmp.Ordering.{Ordering}
 use Rattle.std.specs.Ordering.{eq_by_cmp}
 use Rattle.std.specs.Cmp.{IsTotalOrder}
@@ -10,11 +11,11 @@ use Rattle.cube_laws.proofs.Orders.{equality_by}
 use Rattle.std.specs.List.{AllByRecursion}
 use Rattle.std.proofs.lemmas.Bool.{and_parts, and_from}
 use Rattle.cube_defs.specs.Cell.{Cell, leq, cell_of, cell_cmp}
-use Rattle.cube_defs.specs.Rows.{Row, covers, cov, closure, meet_all, meet_next}
+use Rattle.cube_defs.specs.Rows.{Row, covers, cov, closure, meet_all, meet_after}
 use Rattle.cube_defs.specs.Tree.{generalizations, covered}
 use Rattle.cube_laws.proofs.Cells.{IsEquality, length-cell_of, length-meet}
 use Rattle.cube_laws.specs.Tuples.{cells_of}
-use Rattle.cube_laws.specs.Lists.{Among, Rises}
+use Rattle.cube_laws.specs.Lists.{Among}
 use Rattle.cube_laws.proofs.Lists.{among_filter, among_append, among_map, map_among, among_flat_map}
 use Rattle.cube_laws.proofs.Distinct.{among_distinct, rises_distinct}
 
@@ -55,7 +56,8 @@ module _ {A : Type 0} {cmp : A → A → Ordering} (total : IsTotalOrder cmp) (a
       entry_anti (Some x) None e = cc
       entry_anti (Some x) (Some y) e = ap (λ v. Some v) (anti x y e)
 
-  pub covered_rises : (rows : List (Row A)) → Rises (cell_cmp cmp) (covered cmp rows)
+  pub covered_rises : (rows : List (Row A)) → IsStrictlySortedBy (cell_cmp cmp) (covered cmp rows)
+  unfolding IsStrictlySortedBy
   covered_rises rows = rises_distinct cell_total cell_anti (flat_map (λ row. generalizations row.tuple) rows)
 
   -- the cells of all dimensions that cover some row
@@ -74,12 +76,12 @@ module _ {A : Type 0} (eq : A → A → Bool) (n : ℕ) where
   closure_length c u [] a e = cc
   closure_length c u (r ∷ rows) a e = go (λ w. closure_length c w rows a.1) (covers eq c r) e
     where
-      joined : ((w : Cell A) → closure eq rows c ≡ Some w → length w ≡ n) → (o : Option (Cell A)) → closure eq rows c ≡ o → length (meet_next eq (cell_of r.tuple) o) ≡ n
+      joined : ((w : Cell A) → closure eq rows c ≡ Some w → length w ≡ n) → (o : Option (Cell A)) → closure eq rows c ≡ o → length (meet_after eq (cell_of r.tuple) o) ≡ n
       joined more None k = length-cell_of r.tuple ∙ a.0
       joined more (Some w) k = length-meet eq (cell_of r.tuple) w (length-cell_of r.tuple ∙ a.0 ∙ sym (more w k)) ∙ length-cell_of r.tuple ∙ a.0
 
       go : ((w : Cell A) → closure eq rows c ≡ Some w → length w ≡ n) → (b : Bool) → meet_all eq (cells_of (cond b (r ∷ cov eq rows c) (cov eq rows c))) ≡ Some u → length u ≡ n
-      go more true k = let is : meet_next eq (cell_of r.tuple) (closure eq rows c) ≡ u = cc in ap length (sym is) ∙ joined more (closure eq rows c) refl
+      go more true k = let is : meet_after eq (cell_of r.tuple) (closure eq rows c) ≡ u = cc in ap length (sym is) ∙ joined more (closure eq rows c) refl
       go more false k = more u k
 
   -- where there is a closure, a row is covered

@@ -24,16 +24,16 @@ int_mul_assoc a b c =
     omega (arith, by (down c) _ _ ab.0, by (up c) _ _ ab.1, by (down a) _ _ bc.0, by (up a) _ _ bc.1) in
     same_in _ _ (λ i. ups i + sym downs i)
 
-swap : (a : ℤ) (m n : ℕ) → (a *ℤ pos m) *ℤ pos n ≡ (a *ℤ pos n) *ℤ pos m
+pub swap : (a : ℤ) (m n : ℕ) → (a *ℤ pos m) *ℤ pos n ≡ (a *ℤ pos n) *ℤ pos m
 swap a m n = int_mul_assoc a (pos m) (pos n) ∙ ap (λ (k : ℕ). a *ℤ pos k) (mul_comm m n) ∙ sym (int_mul_assoc a (pos n) (pos m))
 
 pub mono : (a b : ℤ) (k : ℕ) → 0 < k → a <ℤ b → (a *ℤ pos k) <ℤ (b *ℤ pos k)
 mono a b k p q = omega (arith, ints, product_is a (pos k), product_is b (pos k), mul-lt-mul_of_pos_right {m = up a + down b} {n = up b + down a} {k = k} (omega (arith, ints)) p)
 
-less_is : (a b : ℤ) → a <ℤ b → int_cmp a b ≡ Less
+pub less_is : (a b : ℤ) → a <ℤ b → int_cmp a b ≡ Less
 less_is a b h = grind (arith, ints)
 
-more_is : (a b : ℤ) → b <ℤ a → int_cmp a b ≡ Greater
+pub more_is : (a b : ℤ) → b <ℤ a → int_cmp a b ≡ Greater
 more_is a b h = grind (arith, ints)
 
 -- both sides times one positive number

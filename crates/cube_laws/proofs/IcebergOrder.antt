@@ -1,5 +1,6 @@
 -- The classes of an iceberg answer stand in the order of their values, and in no other way.
 use Rattle.std.proofs.Common.{◌≡◌, ◌↔◌, ℕ, zero, suc, ◌<◌, ◌*◌, ◌^◌, true, List, [], ◌∷◌, map, pos, ◌*ℤ◌, refl, sym, ap, ap₂, subst, ◌∙◌, arith, inl, inr}
+use Rattle.std.specs.List.Sorted.{IsStrictlySortedBy}
 use Rattle.std.specs.declared.cmp.Ordering.{Ordering}
 use Rattle.std.specs.declared.cmp.Ordering.TheVariants.{Less, Equal, Greater}
 use Rattle.std.specs.Ordering.{eq_by_cmp, ordering_then, ordering_reverse, on}
@@ -12,7 +13,7 @@ use Rattle.cube_defs.specs.Tree.{covered, classes, distinct}
 use Rattle.cube_defs.specs.Answers.{Ask, AggKind, Bound, ClassHit, part, fraction_cmp, value_of, asked, answer_cmp, iceberg}
 use Rattle.cube_defs.specs.Answers.Bound.{AtLeast, AtMost}
 use Rattle.cube_defs.specs.Answers.AggKind.{Count, Sum, Least, Greatest, Mean}
-use Rattle.cube_laws.specs.Lists.{Among, Rises}
+use Rattle.cube_laws.specs.Lists.{Among}
 use Rattle.cube_laws.proofs.Lists.{among_filter, filter_among, among-length}
 use Rattle.cube_laws.proofs.Distinct.{rises_distinct-by_order, rises_same-by_turn, distinct-map, rises-map}
 use Rattle.cube_laws.proofs.Orders.{equality_by}
@@ -42,7 +43,7 @@ valued : {A : Type 0} (kind : AggKind) (scale : ℕ) (xs : List (ClassHit A)) �
 valued kind scale [] p = ([], refl)
 valued kind scale (x ∷ xs) p = let more = valued kind scale xs (λ h m. p h (inr m)) in (record { hit = x; positive = p x (inl refl) } ∷ more.0, ap (λ ys. x ∷ ys) more.1)
 
-then_turn : (a b : Ordering) → ordering_then (ordering_reverse a) (ordering_reverse b) ≡ ordering_reverse (ordering_then a b)
+pub then_turn : (a b : Ordering) → ordering_then (ordering_reverse a) (ordering_reverse b) ≡ ordering_reverse (ordering_then a b)
 then_turn Less b = refl
 then_turn Equal b = refl
 then_turn Greater b = refl
@@ -77,15 +78,17 @@ module _ {A : Type 0} {cmp : A → A → Ordering} (total : IsTotalOrder cmp) (a
         value-positive ask.kind ask.scale h.agg (subst (λ (x : ClassHit A). 0 < x.agg.count) (sym p.3) (class-count p.0 p.1))
 
     -- by value, and in cell order where values are equal
-    pub iceberg-rises : Rises (answer_cmp cmp ask) (iceberg cmp measures rows ask)
+    pub iceberg-rises : IsStrictlySortedBy (answer_cmp cmp ask) (iceberg cmp measures rows ask)
+    unfolding IsStrictlySortedBy
     iceberg-rises =
         let vs = valued ask.kind ask.scale (asked cmp measures rows ask) asked-positive in
-        subst (λ xs. Rises (answer_cmp cmp ask) (distinct (answer_cmp cmp ask) xs)) vs.1
-        (subst (Rises (answer_cmp cmp ask)) (sym (distinct-map (λ (v : Valued A ask.kind ask.scale). v.hit) (answer_cmp cmp ask) vs.0))
+        subst (λ xs. IsStrictlySortedBy (answer_cmp cmp ask) (distinct (answer_cmp cmp ask) xs)) vs.1
+        (subst (IsStrictlySortedBy (answer_cmp cmp ask)) (sym (distinct-map (λ (v : Valued A ask.kind ask.scale). v.hit) (answer_cmp cmp ask) vs.0))
         (rises-map (λ (v : Valued A ask.kind ask.scale). v.hit) (answer_cmp cmp ask) (distinct (on (λ (v : Valued A ask.kind ask.scale). v.hit) (answer_cmp cmp ask)) vs.0) (rises_distinct-by_order (order ask.kind ask.scale ask.bound ask.value) vs.0)))
 
     -- no other list of these classes stands in this order
-    pub iceberg-only : (hits : List (ClassHit A)) → Rises (answer_cmp cmp ask) hits → ((h : ClassHit A) → Among h hits ↔ Among h (asked cmp measures rows ask)) → hits ≡ iceberg cmp measures rows ask
+    pub iceberg-only : (hits : List (ClassHit A)) → IsStrictlySortedBy (answer_cmp cmp ask) hits → ((h : ClassHit A) → Among h hits ↔ Among h (asked cmp measures rows ask)) → hits ≡ iceberg cmp measures rows ask
+    unfolding IsStrictlySortedBy
     iceberg-only hits rise same =
         rises_same-by_turn (turned_by ask.kind ask.scale ask.bound ask.value) hits (iceberg cmp measures rows ask) rise iceberg-rises
         (λ h m. (iceberg-asked total anti measures rows ask h).1 ((same h).0 m))

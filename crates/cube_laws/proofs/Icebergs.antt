@@ -11,7 +11,7 @@ use Rattle.cube_defs.specs.Tree.{covered, classes}
 use Rattle.cube_defs.specs.Answers.{Ask, AggKind, Bound, ClassHit, fraction_cmp, value_of, is_asked, lower_bounds, asked, answer_cmp, iceberg}
 use Rattle.cube_defs.specs.Answers.Bound.{AtLeast, AtMost}
 use Rattle.cube_laws.specs.Lists.{Among}
-use Rattle.cube_laws.specs.Recoding.{coded, coded_row, TellsApart, RowsAreKnown, IsCodedClass}
+use Rattle.cube_laws.specs.Recoding.{coded_cell, coded_row, TellsApart, RowsAreKnown, IsCodedClass}
 use Rattle.cube_laws.proofs.Lists.{among_filter, filter_among, among_map, map_among}
 use Rattle.cube_laws.proofs.Distinct.{among_distinct-told}
 use Rattle.cube_laws.proofs.Orders.{equality_by, then_equal}
@@ -59,7 +59,7 @@ module _ {A : Type 0} {cmp : A → A → Ordering} (total : IsTotalOrder cmp) (a
 
 module _ {A B : Type 0} {cmp : A → A → Ordering} {cmp' : B → B → Ordering} (total : IsTotalOrder cmp) (anti : IsAntisymmetric cmp) (total' : IsTotalOrder cmp') (anti' : IsAntisymmetric cmp')
     {known : ℕ → A → Bool} {codes : ℕ → A → B} (tells : TellsApart known codes) (rows : List (Row A)) (h : RowsAreKnown known rows) (measures : ℕ) (ask : Ask) where
-  coded_hits : (u : Cell A) → Among u (covered cmp rows) → IsCodedClass codes (hit_of cmp measures rows u) (hit_of cmp' measures (map (coded_row codes) rows) (coded codes 0 u))
+  coded_hits : (u : Cell A) → Among u (covered cmp rows) → IsCodedClass codes (hit_of cmp measures rows u) (hit_of cmp' measures (map (coded_row codes) rows) (coded_cell codes 0 u))
   coded_hits u m = record {
     upper = refl;
     agg = agg-coded (equality_by total anti) (equality_by total' anti') tells rows h measures u (known-covered total anti total' anti' tells rows h u m);
@@ -69,14 +69,14 @@ module _ {A B : Type 0} {cmp : A → A → Ordering} {cmp' : B → B → Orderin
   class_covered : (u : Cell A) → Among u (classes cmp rows) → Among u (covered cmp rows)
   class_covered u m = (filter_among (is_class (eq_by_cmp cmp) rows) u (covered cmp rows) m).0
 
-  same_agg : (u : Cell A) → Among u (classes cmp rows) → agg (eq_by_cmp cmp') measures (map (coded_row codes) rows) (coded codes 0 u) ≡ agg (eq_by_cmp cmp) measures rows u
+  same_agg : (u : Cell A) → Among u (classes cmp rows) → agg (eq_by_cmp cmp') measures (map (coded_row codes) rows) (coded_cell codes 0 u) ≡ agg (eq_by_cmp cmp) measures rows u
   same_agg u m = agg-coded (equality_by total anti) (equality_by total' anti') tells rows h measures u (known-covered total anti total' anti' tells rows h u (class_covered u m))
 
   pub iceberg-decoded : (hit : ClassHit B) → Among hit (iceberg cmp' measures (map (coded_row codes) rows) ask) → (found : ClassHit A) × Among found (iceberg cmp measures rows ask) × IsCodedClass codes found hit
   iceberg-decoded hit m =
       let p : (d : Cell B) × Among d (classes cmp' (map (coded_row codes) rows)) × (is_asked ask (agg (eq_by_cmp cmp') measures (map (coded_row codes) rows) d) ≡ true) × (hit ≡ hit_of cmp' measures (map (coded_row codes) rows) d) =
       (asked-is total' anti' measures (map (coded_row codes) rows) ask hit).0 ((iceberg-asked total' anti' measures (map (coded_row codes) rows) ask hit).0 m) in
-      let c : (u : Cell A) × Among u (classes cmp rows) × (p.0 ≡ coded codes 0 u) = (classes-coded total anti total' anti' tells rows h p.0).0 p.1 in
+      let c : (u : Cell A) × Among u (classes cmp rows) × (p.0 ≡ coded_cell codes 0 u) = (classes-coded total anti total' anti' tells rows h p.0).0 p.1 in
       let pass : is_asked ask (agg (eq_by_cmp cmp) measures rows c.0) ≡ true = ap (is_asked ask) (sym (same_agg c.0 c.1) ∙ ap (agg (eq_by_cmp cmp') measures (map (coded_row codes) rows)) (sym c.2)) ∙ p.2 in (
         hit_of cmp measures rows c.0,
         (iceberg-asked total anti measures rows ask _).1 ((asked-is total anti measures rows ask _).1 (c.0, c.1, pass, refl)),
@@ -87,8 +87,8 @@ module _ {A B : Type 0} {cmp : A → A → Ordering} {cmp' : B → B → Orderin
   iceberg-coded found m =
       let p : (u : Cell A) × Among u (classes cmp rows) × (is_asked ask (agg (eq_by_cmp cmp) measures rows u) ≡ true) × (found ≡ hit_of cmp measures rows u) =
       (asked-is total anti measures rows ask found).0 ((iceberg-asked total anti measures rows ask found).0 m) in (
-        hit_of cmp' measures (map (coded_row codes) rows) (coded codes 0 p.0),
+        hit_of cmp' measures (map (coded_row codes) rows) (coded_cell codes 0 p.0),
         (iceberg-asked total' anti' measures (map (coded_row codes) rows) ask _).1
-            ((asked-is total' anti' measures (map (coded_row codes) rows) ask _).1 (coded codes 0 p.0, (classes-coded total anti total' anti' tells rows h _).1 (p.0, p.1, refl), ap (is_asked ask) (same_agg p.0 p.1) ∙ p.2, refl)),
-        subst (λ (f : ClassHit A). IsCodedClass codes f (hit_of cmp' measures (map (coded_row codes) rows) (coded codes 0 p.0))) (sym p.3) (coded_hits p.0 (class_covered p.0 p.1)),
+            ((asked-is total' anti' measures (map (coded_row codes) rows) ask _).1 (coded_cell codes 0 p.0, (classes-coded total anti total' anti' tells rows h _).1 (p.0, p.1, refl), ap (is_asked ask) (same_agg p.0 p.1) ∙ p.2, refl)),
+        subst (λ (f : ClassHit A). IsCodedClass codes f (hit_of cmp' measures (map (coded_row codes) rows) (coded_cell codes 0 p.0))) (sym p.3) (coded_hits p.0 (class_covered p.0 p.1)),
       )

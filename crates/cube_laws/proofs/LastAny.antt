@@ -1,13 +1,13 @@
 -- The last dimension of Any of a cell below a tuple.
 use Rattle.std.proofs.Common.{◌≡◌, ◌⊎◌, ℕ, zero, suc, ◌<◌, Bool, true, Option, Some, None, List, [], ◌∷◌, length, refl, sym, subst, ap, ap₂, ◌∙◌, true≢false, arith, slice_get, inl, inr}
 use Rattle.std.proofs.lemmas.Bool.{and_parts}
-use Rattle.cube_defs.specs.Cell.{Cell, entry_leq, leq, cell_of, keep}
+use Rattle.cube_defs.specs.Cell.{Cell, entry_leq, leq, cell_of, cell_front}
 use Rattle.cube_laws.specs.Parts.{IsLastAny}
 use Rattle.cube_laws.proofs.Cells.{IsEquality}
 
 module _ {A : Type 0} {eq : A → A → Bool} (law : IsEquality eq) where
   -- below one tuple, i and the front before it say which class it is
-  pub determined : (t : List A) (u w : Cell A) (i : ℕ) → leq eq u (cell_of t) ≡ true → leq eq w (cell_of t) ≡ true → length u ≡ length w → IsLastAny u i → IsLastAny w i → keep i u ≡ keep i w → u ≡ w
+  pub determined : (t : List A) (u w : Cell A) (i : ℕ) → leq eq u (cell_of t) ≡ true → leq eq w (cell_of t) ≡ true → length u ≡ length w → IsLastAny u i → IsLastAny w i → cell_front i u ≡ cell_front i w → u ≡ w
   determined t [] [] i h g l p q k = refl
   determined t [] (f ∷ w) i h g l p q k = absurd (omega arith)
   determined t (e ∷ u) [] i h g l p q k = absurd (omega arith)

@@ -1,5 +1,6 @@
 -- What stands in the lists of cells, and in which order.
 use Rattle.std.proofs.Common.{◌≡◌, ◌↔◌, ℕ, Bool, true, false, cond, Some, List, [], ◌∷◌, filter, length, refl, sym, ap, subst, ◌∙◌}
+use Rattle.std.specs.List.Sorted.{IsStrictlySortedBy}
 use Rattle.std.proofs.lemmas.Bool.{and_parts}
 use Rattle.std.specs.declared.cmp.Ordering.{Ordering}
 use Rattle.std.specs.declared.cmp.Ordering.TheVariants.{Less}
@@ -11,7 +12,7 @@ use Rattle.cube_defs.specs.Cell.{Cell, cell_cmp}
 use Rattle.cube_defs.specs.Rows.{Row, Agg, covers, closure, has_closure, is_class, is_node, is_lower_bound, agg}
 use Rattle.cube_defs.specs.Tree.{covered, classes, nodes}
 use Rattle.cube_defs.specs.Answers.{Box, Hit, in_box, range, lower_bounds}
-use Rattle.cube_laws.specs.Lists.{Among, Rises}
+use Rattle.cube_laws.specs.Lists.{Among}
 use Rattle.cube_laws.proofs.Lists.{among_filter, filter_among, among_map, map_among, all_at}
 use Rattle.cube_laws.proofs.Distinct.{rises-map}
 use Rattle.cube_laws.proofs.Orders.{equality_by}
@@ -27,25 +28,30 @@ all-filter P p (x ∷ xs) h = go (p x) (all-filter P p xs h.1)
     go true more = (h.0, more)
     go false more = more
 
-pub rises-filter : {X : Type 0} (cmp : X → X → Ordering) (p : X → Bool) (xs : List X) → Rises cmp xs → Rises cmp (filter p xs)
+pub rises-filter : {X : Type 0} (cmp : X → X → Ordering) (p : X → Bool) (xs : List X) → IsStrictlySortedBy cmp xs → IsStrictlySortedBy cmp (filter p xs)
+unfolding IsStrictlySortedBy
 rises-filter cmp p [] h = tt
 rises-filter cmp p (x ∷ xs) h = go (p x) (rises-filter cmp p xs h.1)
   where
-    go : (b : Bool) → Rises cmp (filter p xs) → Rises cmp (cond b (x ∷ filter p xs) (filter p xs))
+    go : (b : Bool) → IsStrictlySortedBy cmp (filter p xs) → IsStrictlySortedBy cmp (cond b (x ∷ filter p xs) (filter p xs))
     go true more = (all-filter (λ y. cmp x y ≡ Less) p xs h.0, more)
     go false more = more
 
 module _ {A : Type 0} {cmp : A → A → Ordering} (total : IsTotalOrder cmp) (anti : IsAntisymmetric cmp) (rows : List (Row A)) where
-  pub classes_rise : Rises (cell_cmp cmp) (classes cmp rows)
+  pub classes_rise : IsStrictlySortedBy (cell_cmp cmp) (classes cmp rows)
+  unfolding IsStrictlySortedBy
   classes_rise = rises-filter (cell_cmp cmp) (is_class (eq_by_cmp cmp) rows) (covered cmp rows) (covered_rises total anti rows)
 
-  pub nodes_rise : Rises (cell_cmp cmp) (nodes cmp rows)
+  pub nodes_rise : IsStrictlySortedBy (cell_cmp cmp) (nodes cmp rows)
+  unfolding IsStrictlySortedBy
   nodes_rise = rises-filter (cell_cmp cmp) (is_node (eq_by_cmp cmp) rows) (covered cmp rows) (covered_rises total anti rows)
 
-  pub lower_bounds_rise : (u : Cell A) → Rises (cell_cmp cmp) (lower_bounds cmp rows u)
+  pub lower_bounds_rise : (u : Cell A) → IsStrictlySortedBy (cell_cmp cmp) (lower_bounds cmp rows u)
+  unfolding IsStrictlySortedBy
   lower_bounds_rise u = rises-filter (cell_cmp cmp) (is_lower_bound (eq_by_cmp cmp) rows u) (covered cmp rows) (covered_rises total anti rows)
 
-  pub range_rises : (measures : ℕ) (box : Box A) → Rises (on (λ (hit : Hit A). hit.cell) (cell_cmp cmp)) (range cmp measures rows box)
+  pub range_rises : (measures : ℕ) (box : Box A) → IsStrictlySortedBy (on (λ (hit : Hit A). hit.cell) (cell_cmp cmp)) (range cmp measures rows box)
+  unfolding IsStrictlySortedBy
   range_rises measures box =
       rises-map (λ c. let x : Hit A = record { cell = c; agg = agg (eq_by_cmp cmp) measures rows c } in x) (on (λ (hit : Hit A). hit.cell) (cell_cmp cmp)) (filter (in_box (eq_by_cmp cmp) box) (covered cmp rows))
       (rises-filter (cell_cmp cmp) (in_box (eq_by_cmp cmp) box) (covered cmp rows) (covered_rises total anti rows))

@@ -1,8 +1,8 @@
 -- Lists: filters, facts of all items, and items among others.
-use Rattle.std.proofs.Common.{ℕ, zero, suc, length, slice_get, ◌<◌, ◌≤◌, ◌≡◌, ◌↔◌, ◌⊎◌, Bool, true, false, ◌&&◌, cond, Option, Some, None, List, [], ◌∷◌, ◌++◌, map, filter, filter_map, flat_map, refl, sym, ap, ap₂, subst, ◌∙◌, arith, true≢false, inl, inr}
+use Rattle.std.proofs.Common.{ℕ, zero, suc, length, slice_get, ◌<◌, ◌≤◌, ◌≡◌, ◌↔◌, ◌⊎◌, Bool, true, false, ◌&&◌, cond, Option, Some, None, List, [], ◌∷◌, ◌++◌, map, filter, filter_map, flat_map, refl, sym, ap, ap₂, subst, ◌∙◌, arith, true≢false, inl, inr, IfSome, take, slice_index_or}
 use Rattle.std.proofs.lemmas.Bool.{cond-true, cond-false}
 use Rattle.std.proofs.lemmas.List.Elements.{filter-append}
-use Rattle.std.specs.List.{AllByRecursion, cons_option, list_all}
+use Rattle.std.specs.List.{AllByRecursion, cons_option, list_all, Contains}
 use Rattle.cube_laws.specs.Lists.{Among, Reordered}
 
 -- a map after a filter by what it makes
@@ -246,3 +246,39 @@ module _ {X : Type 0} where
   pub among-length : (x : X) (xs : List X) → Among x xs → 0 < length xs
   among-length x [] h = absurd h
   among-length x (y ∷ xs) h = omega arith
+
+pub none_some : {X : Type 0} {x : X} → None ≡ Some x → ⊥
+none_some e = cc
+
+-- what holds of an option's value holds of the one that it has
+pub some_of : {X : Type 0} (P : X → Type 0) (o : Option X) (x : X) → o ≡ Some x → IfSome o P → P x
+some_of P None x e h = cc
+some_of P (Some y) x e h = let is : y ≡ x = cc in subst P is h
+
+module _ {X : Type 0} where
+  -- an item that is among others stands at a place
+  pub among_get : (x : X) (xs : List X) → Among x xs → (k : ℕ) × (slice_get xs k ≡ Some x)
+  among_get x [] m = absurd m
+  among_get x (y ∷ xs) m = elim m [ inl e ↦ (0, ap (λ z. Some z) (sym e)) | inr n ↦ let r = among_get x xs n in (suc r.0, r.1) ]
+
+  pub among_left : (x : X) (xs ys : List X) → Among x xs → Among x (xs ++ ys)
+  among_left x xs ys m = (among_append x xs ys).1 (inl m)
+
+  pub take_all : (xs : List X) (k : ℕ) → length xs ≤ k → take k xs ≡ xs
+  take_all [] zero h = refl
+  take_all [] (suc k) h = refl
+  take_all (x ∷ xs) zero h = absurd (omega arith)
+  take_all (x ∷ xs) (suc k) h = ap (λ ys. x ∷ ys) (take_all xs k (omega arith))
+
+  pub got : (xs : List X) (k : ℕ) (d : X) → k < length xs → slice_get xs k ≡ Some (slice_index_or xs k d)
+  got [] k d l = absurd (omega (arith, l))
+  got (x ∷ xs) zero d l = refl
+  got (x ∷ xs) (suc k) d l = got xs k d (omega (arith, l))
+
+  -- std's word for an item of a list goes by places; ours by cases on the list, as the proofs do
+  pub among_contains : (x : X) (xs : List X) → Among x xs → Contains xs x
+  among_contains x [] m = absurd m
+  among_contains x (y ∷ xs) m = elim m [ inl e ↦ (0, omega arith, sym e) | inr n ↦ let r = among_contains x xs n in (suc r.0, omega (arith, r.1), r.2) ]
+
+  pub contains_among : (x : X) (xs : List X) → Contains xs x → Among x xs
+  contains_among x xs c = get_among xs c.0 x (got xs c.0 x c.1 ∙ ap (λ z. Some z) c.2)

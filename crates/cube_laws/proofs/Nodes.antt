@@ -6,10 +6,10 @@ use Rattle.std.specs.Cmp.{IsTotalOrder}
 use Rattle.std.specs.FinMap.{IsAntisymmetric}
 use Rattle.std.specs.List.{AllByRecursion}
 use Rattle.std.specs.Option.{option_eq, option_map}
-use Rattle.cube_defs.specs.Cell.{Cell, leq, cell_eq, depth, keep}
+use Rattle.cube_defs.specs.Cell.{Cell, leq, cell_eq, depth, cell_front}
 use Rattle.cube_defs.specs.Rows.{Row, covers, closure, is_class, is_node}
 use Rattle.cube_defs.specs.Tree.{covered, nodes}
-use Rattle.cube_laws.proofs.Cells.{IsEquality, leq_antisymm, keep-leq, keep_mono, keep-depth, keep-depth_keep, length-keep}
+use Rattle.cube_laws.proofs.Cells.{IsEquality, leq_antisymm, cell_front-leq, cell_front_mono, cell_front-depth, cell_front-depth_cell_front, length-cell_front}
 use Rattle.cube_laws.proofs.Closures.{leq-closure, closure_idem, closure_mono, closure_some, option_eq-is, is_class-is}
 use Rattle.cube_laws.proofs.Covered.{covered-is, closure_length, some_covered}
 use Rattle.cube_laws.specs.Lists.{Among}
@@ -18,33 +18,33 @@ use Rattle.cube_laws.proofs.Orders.{equality_by}
 
 module _ {A : Type 0} {eq : A → A → Bool} (law : IsEquality eq) where
   -- a node is its closure's front
-  pub is_node-is : (rows : List (Row A)) (p : Cell A) → (is_node eq rows p ≡ true) ↔ (option_map (keep (depth p)) (closure eq rows p) ≡ Some p)
+  pub is_node-is : (rows : List (Row A)) (p : Cell A) → (is_node eq rows p ≡ true) ↔ (option_map (cell_front (depth p)) (closure eq rows p) ≡ Some p)
   is_node-is rows p = option_eq-is law _ p
 
   -- the nodes are the fronts of the classes
-  pub front_of_class : (rows : List (Row A)) (p u : Cell A) → closure eq rows p ≡ Some u → is_node eq rows p ≡ true → (is_class eq rows u ≡ true) × (keep (depth p) u ≡ p)
+  pub front_of_class : (rows : List (Row A)) (p u : Cell A) → closure eq rows p ≡ Some u → is_node eq rows p ≡ true → (is_class eq rows u ≡ true) × (cell_front (depth p) u ≡ p)
   front_of_class rows p u e h =
-      let f : Some (keep (depth p) u) ≡ Some p = ap (option_map (keep (depth p))) (sym e) ∙ (is_node-is rows p).0 h in
+      let f : Some (cell_front (depth p) u) ≡ Some p = ap (option_map (cell_front (depth p))) (sym e) ∙ (is_node-is rows p).0 h in
       ((is_class-is law rows u).1 (closure_idem law rows p u e), cc)
 
-  pub class_fronts : (rows : List (Row A)) (k : ℕ) (u : Cell A) → is_class eq rows u ≡ true → is_node eq rows (keep k u) ≡ true
-  class_fronts rows k u h = go (closure_some law rows (keep k u) u u (keep-leq law k u) is)
+  pub class_fronts : (rows : List (Row A)) (k : ℕ) (u : Cell A) → is_class eq rows u ≡ true → is_node eq rows (cell_front k u) ≡ true
+  class_fronts rows k u h = go (closure_some law rows (cell_front k u) u u (cell_front-leq law k u) is)
     where
       is : closure eq rows u ≡ Some u
       is = (is_class-is law rows u).0 h
 
-      go : (w : Cell A) × (closure eq rows (keep k u) ≡ Some w) → is_node eq rows (keep k u) ≡ true
+      go : (w : Cell A) × (closure eq rows (cell_front k u) ≡ Some w) → is_node eq rows (cell_front k u) ≡ true
       go (w, e) =
-          let low : leq eq (keep k u) (keep (depth (keep k u)) w) ≡ true = subst (λ x. leq eq x (keep (depth (keep k u)) w) ≡ true) (keep-depth (keep k u)) (keep_mono law (depth (keep k u)) _ _ (leq-closure law rows (keep k u) w e)) in
-          let high : leq eq (keep (depth (keep k u)) w) (keep k u) ≡ true =
-          subst (λ x. leq eq (keep (depth (keep k u)) w) x ≡ true) (keep-depth_keep k u) (keep_mono law (depth (keep k u)) w u (closure_mono law rows (keep k u) u w u (keep-leq law k u) e is)) in
-          (is_node-is rows (keep k u)).1 (ap (option_map (keep (depth (keep k u)))) e ∙ ap (λ x. Some x) (leq_antisymm law _ _ high low))
+          let low : leq eq (cell_front k u) (cell_front (depth (cell_front k u)) w) ≡ true = subst (λ x. leq eq x (cell_front (depth (cell_front k u)) w) ≡ true) (cell_front-depth (cell_front k u)) (cell_front_mono law (depth (cell_front k u)) _ _ (leq-closure law rows (cell_front k u) w e)) in
+          let high : leq eq (cell_front (depth (cell_front k u)) w) (cell_front k u) ≡ true =
+          subst (λ x. leq eq (cell_front (depth (cell_front k u)) w) x ≡ true) (cell_front-depth_cell_front k u) (cell_front_mono law (depth (cell_front k u)) w u (closure_mono law rows (cell_front k u) u w u (cell_front-leq law k u) e is)) in
+          (is_node-is rows (cell_front k u)).1 (ap (option_map (cell_front (depth (cell_front k u)))) e ∙ ap (λ x. Some x) (leq_antisymm law _ _ high low))
 
-  pub node-front : (rows : List (Row A)) (p : Cell A) → is_node eq rows p ≡ true → (u : Cell A) × (is_class eq rows u ≡ true) × (keep (depth p) u ≡ p)
+  pub node-front : (rows : List (Row A)) (p : Cell A) → is_node eq rows p ≡ true → (u : Cell A) × (is_class eq rows u ≡ true) × (cell_front (depth p) u ≡ p)
   node-front rows p h = go (closure eq rows p) refl
     where
-      go : (o : Option (Cell A)) → closure eq rows p ≡ o → (u : Cell A) × (is_class eq rows u ≡ true) × (keep (depth p) u ≡ p)
-      go None e = absurd (true≢false (sym h ∙ ap (λ o. option_eq (cell_eq eq) (option_map (keep (depth p)) o) (Some p)) e))
+      go : (o : Option (Cell A)) → closure eq rows p ≡ o → (u : Cell A) × (is_class eq rows u ≡ true) × (cell_front (depth p) u ≡ p)
+      go None e = absurd (true≢false (sym h ∙ ap (λ o. option_eq (cell_eq eq) (option_map (cell_front (depth p)) o) (Some p)) e))
       go (Some u) e = let f = front_of_class rows p u e h in (u, f.0, f.1)
 
 module _ {A : Type 0} {cmp : A → A → Ordering} (total : IsTotalOrder cmp) (anti : IsAntisymmetric cmp) (n : ℕ) where
@@ -56,9 +56,9 @@ module _ {A : Type 0} {cmp : A → A → Ordering} (total : IsTotalOrder cmp) (a
       law = equality_by total anti
 
       go : (o : Option (Cell A)) → closure (eq_by_cmp cmp) rows p ≡ o → is_node (eq_by_cmp cmp) rows p ≡ true → Among p (nodes cmp rows)
-      go None e h = absurd (true≢false (sym h ∙ ap (λ o. option_eq (cell_eq (eq_by_cmp cmp)) (option_map (keep (depth p)) o) (Some p)) e))
+      go None e h = absurd (true≢false (sym h ∙ ap (λ o. option_eq (cell_eq (eq_by_cmp cmp)) (option_map (cell_front (depth p)) o) (Some p)) e))
       go (Some u) e h =
           let c : (r : Row A) × Among r rows × (covers (eq_by_cmp cmp) p r ≡ true) = some_covered (eq_by_cmp cmp) n p u rows e in
-          let front : keep (depth p) u ≡ p = (front_of_class law rows p u e h).1 in
-          let long : length p ≡ n = sym (ap length front) ∙ length-keep (depth p) u ∙ closure_length (eq_by_cmp cmp) n p u rows a e in
+          let front : cell_front (depth p) u ≡ p = (front_of_class law rows p u e h).1 in
+          let long : length p ≡ n = sym (ap length front) ∙ length-cell_front (depth p) u ∙ closure_length (eq_by_cmp cmp) n p u rows a e in
           among_filter (is_node (eq_by_cmp cmp) rows) p (covered cmp rows) ((covered-is total anti rows p).1 (c.0, c.1, long ∙ sym (all_at (λ r. length r.tuple ≡ n) c.0 rows a c.1), c.2)) h

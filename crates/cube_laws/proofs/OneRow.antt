@@ -2,15 +2,15 @@
 use Rattle.std.proofs.Common.{ℤ, pos, ◌+ℤ◌, ◌-ℤ◌, ◌<◌, suc, arith, slice_index_or, ◌≡◌, ℕ, Bool, true, false, cond, Option, Some, None, List, [], ◌∷◌, ◌++◌, refl, sym, ap, subst, ◌∙◌, true≢false}
 use Rattle.std.proofs.lemmas.Bool.{cond-true, cond_both}
 use Rattle.std.specs.Option.{option_eq, option_map}
-use Rattle.cube_defs.specs.Cell.{Cell, leq, meet, cell_of, cell_eq, keep, depth}
+use Rattle.cube_defs.specs.Cell.{Cell, leq, meet, cell_of, cell_eq, cell_front, depth}
 use Rattle.std.specs.Int.{int_min, int_max}
 use Rattle.std.proofs.lemmas.Int.{ints}
 use Rattle.cube_defs.specs.Answers.{part}
-use Rattle.cube_defs.specs.Rows.{Part, part_of, Row, covers, cov, closure, meet_next, is_class, is_node, agg, agg_of}
+use Rattle.cube_defs.specs.Rows.{Part, part_of, Row, covers, cov, closure, meet_after, is_class, is_node, agg, agg_of}
 use Rattle.cube_laws.specs.Total.{total, join_aggs, join_cells, combine, combine_part, agg_at}
 use Rattle.cube_laws.proofs.Lists.{length_filter-insert, filter-insert_apart}
 use Rattle.cube_laws.proofs.Cells.{IsEquality, leq_antisymm, leq_refl, meet_comm}
-use Rattle.cube_laws.proofs.Closures.{leq-closure, meet_next_below, meet_next_rest, is_class-is}
+use Rattle.cube_laws.proofs.Closures.{leq-closure, meet_after_below, meet_after_rest, is_class-is}
 use Rattle.cube_laws.proofs.Totals.{total_filter-insert}
 use Rattle.cube_laws.proofs.RowTotals.{cells_add, aggs_add, row_cell, row_agg, closure_total, agg_total, agg_where, agg_none, part-agg_of, part-combine}
 use Rattle.cube_laws.proofs.Nodes.{front_of_class, class_fronts}
@@ -31,14 +31,14 @@ module _ {A : Type 0} {eq : A → A → Bool} (law : IsEquality eq) where
     class_stays c h = ap (λ o. option_eq (cell_eq eq) o (Some c)) (closure_stays c h)
 
     pub node_stays : (c : Cell A) → covers eq c r ≡ false → is_node eq (xs ++ r ∷ ys) c ≡ is_node eq (xs ++ ys) c
-    node_stays c h = ap (λ o. option_eq (cell_eq eq) (option_map (keep (depth c)) o) (Some c)) (closure_stays c h)
+    node_stays c h = ap (λ o. option_eq (cell_eq eq) (option_map (cell_front (depth c)) o) (Some c)) (closure_stays c h)
 
     -- what the row added to the cells that cover it
-    pub closure-insert : (c : Cell A) → closure eq (xs ++ r ∷ ys) c ≡ cond (covers eq c r) (Some (meet_next eq (cell_of r.tuple) (closure eq (xs ++ ys) c))) (closure eq (xs ++ ys) c)
+    pub closure-insert : (c : Cell A) → closure eq (xs ++ r ∷ ys) c ≡ cond (covers eq c r) (Some (meet_after eq (cell_of r.tuple) (closure eq (xs ++ ys) c))) (closure eq (xs ++ ys) c)
     closure-insert c =
         closure_total eq (xs ++ r ∷ ys) c
         ∙ total_filter-insert (join_cells eq) None (cells_add law) row_cell (covers eq c) xs r ys
-        ∙ ap (λ o. cond (covers eq c r) (Some (meet_next eq (cell_of r.tuple) o)) o) (sym (closure_total eq (xs ++ ys) c))
+        ∙ ap (λ o. cond (covers eq c r) (Some (meet_after eq (cell_of r.tuple) o)) o) (sym (closure_total eq (xs ++ ys) c))
 
     pub agg_at-insert : (measures : ℕ) (c : Cell A) → agg_at eq measures (xs ++ r ∷ ys) c ≡ cond (covers eq c r) (join_aggs (row_agg measures r) (agg_at eq measures (xs ++ ys) c)) (agg_at eq measures (xs ++ ys) c)
     agg_at-insert measures c =
@@ -49,13 +49,13 @@ module _ {A : Type 0} {eq : A → A → Bool} (law : IsEquality eq) where
     -- the closure of a cell that covers r is below r
     pub below_row : (c w : Cell A) → covers eq c r ≡ true → closure eq (xs ++ r ∷ ys) c ≡ Some w → covers eq w r ≡ true
     below_row c w h e =
-        let is : meet_next eq (cell_of r.tuple) (closure eq (xs ++ ys) c) ≡ w = let k : Some w ≡ Some (meet_next eq (cell_of r.tuple) (closure eq (xs ++ ys) c)) = sym e ∙ closure-insert c ∙ cond-true _ _ _ h in cc in
-        subst (λ x. leq eq x (cell_of r.tuple) ≡ true) is (meet_next_below law (cell_of r.tuple) (closure eq (xs ++ ys) c))
+        let is : meet_after eq (cell_of r.tuple) (closure eq (xs ++ ys) c) ≡ w = let k : Some w ≡ Some (meet_after eq (cell_of r.tuple) (closure eq (xs ++ ys) c)) = sym e ∙ closure-insert c ∙ cond-true _ _ _ h in cc in
+        subst (λ x. leq eq x (cell_of r.tuple) ≡ true) is (meet_after_below law (cell_of r.tuple) (closure eq (xs ++ ys) c))
 
     -- a closure gets no smaller
     pub closure_grows : (c u w : Cell A) → closure eq (xs ++ r ∷ ys) c ≡ Some u → closure eq (xs ++ ys) c ≡ Some w → leq eq u w ≡ true
     closure_grows c u w e f = cond_both (covers eq c r) _ _ (λ o. o ≡ Some u → leq eq u w ≡ true)
-        (λ h k. let is : meet_next eq (cell_of r.tuple) (closure eq (xs ++ ys) c) ≡ u = cc in subst (λ x. leq eq x w ≡ true) is (meet_next_rest law (cell_of r.tuple) (closure eq (xs ++ ys) c) w f))
+        (λ h k. let is : meet_after eq (cell_of r.tuple) (closure eq (xs ++ ys) c) ≡ u = cc in subst (λ x. leq eq x w ≡ true) is (meet_after_rest law (cell_of r.tuple) (closure eq (xs ++ ys) c) w f))
         (λ h k. let is : w ≡ u = let z : Some w ≡ Some u = sym f ∙ k in cc in subst (λ x. leq eq x w ≡ true) is (leq_refl law w))
         (sym (closure-insert c) ∙ e)
 
@@ -76,17 +76,17 @@ module _ {A : Type 0} {eq : A → A → Bool} (law : IsEquality eq) where
     node-insert p h = go (closure eq (xs ++ ys) p) refl
       where
         go : (o : Option (Cell A)) → closure eq (xs ++ ys) p ≡ o → is_node eq (xs ++ r ∷ ys) p ≡ true
-        go None e = absurd (true≢false (sym h ∙ ap (λ o. option_eq (cell_eq eq) (option_map (keep (depth p)) o) (Some p)) e))
+        go None e = absurd (true≢false (sym h ∙ ap (λ o. option_eq (cell_eq eq) (option_map (cell_front (depth p)) o) (Some p)) e))
         go (Some u) e =
             let f = front_of_class law (xs ++ ys) p u e h in
             subst (λ x. is_node eq (xs ++ r ∷ ys) x ≡ true) f.1 (class_fronts law (xs ++ r ∷ ys) (depth p) u (class-insert u f.0))
 
     -- the closure of a cell that covers r: r's tuple where it covers no other row, else the meet with it
     pub closure-insert_alone : (c : Cell A) → covers eq c r ≡ true → closure eq (xs ++ ys) c ≡ None → closure eq (xs ++ r ∷ ys) c ≡ Some (cell_of r.tuple)
-    closure-insert_alone c h e = closure-insert c ∙ cond-true _ _ _ h ∙ ap (λ o. Some (meet_next eq (cell_of r.tuple) o)) e
+    closure-insert_alone c h e = closure-insert c ∙ cond-true _ _ _ h ∙ ap (λ o. Some (meet_after eq (cell_of r.tuple) o)) e
 
     pub closure-insert_more : (c u : Cell A) → covers eq c r ≡ true → closure eq (xs ++ ys) c ≡ Some u → closure eq (xs ++ r ∷ ys) c ≡ Some (meet eq u (cell_of r.tuple))
-    closure-insert_more c u h e = closure-insert c ∙ cond-true _ _ _ h ∙ ap (λ o. Some (meet_next eq (cell_of r.tuple) o)) e ∙ ap (λ x. Some x) (meet_comm law (cell_of r.tuple) u)
+    closure-insert_more c u h e = closure-insert c ∙ cond-true _ _ _ h ∙ ap (λ o. Some (meet_after eq (cell_of r.tuple) o)) e ∙ ap (λ x. Some x) (meet_comm law (cell_of r.tuple) u)
 
     -- and its aggregate: that of r alone, else both put together
     pub agg-insert_alone : (measures : ℕ) (c : Cell A) → covers eq c r ≡ true → closure eq (xs ++ ys) c ≡ None → agg eq measures (xs ++ r ∷ ys) c ≡ agg_of measures (r ∷ [])

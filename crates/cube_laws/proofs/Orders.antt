@@ -6,6 +6,7 @@ use Rattle.std.specs.Ordering.{eq_by_cmp, is_eq, ordering_then}
 use Rattle.std.specs.declared.cmp.Ordering.{Ordering}
 use Rattle.std.specs.declared.cmp.Ordering.TheVariants.{Less, Equal, Greater}
 use Rattle.cube_laws.proofs.Cells.{IsEquality}
+use Rattle.cube_defs.specs.Cell.{Cell, leq}
 
 pub is_equal : (o : Ordering) → is_eq o ≡ true → o ≡ Equal
 is_equal Less h = absurd (true≢false (sym h))
@@ -42,3 +43,7 @@ one_test = λ i x y. eq_cmp x y i
 
 pub nat_eq-turned : (m n : ℕ) → nat_eq m n ≡ nat_eq n m
 nat_eq-turned m n = grind arith
+
+-- by their order or by their equality, codes tell the same cells below one another
+pub leq_is : (c t : Cell ℕ) → leq (eq_by_cmp nat_cmp) c t ≡ leq nat_eq c t
+leq_is c t = ap (λ e. leq e c t) one_test

@@ -1,5 +1,6 @@
 -- The rows that a cell with Any in a dimension covers are parted by their values there: its closure is the meet of the parts' closures, and its aggregate is the parts' put together.
 use Rattle.std.proofs.Common.{◌≡◌, ℕ, zero, suc, Bool, true, false, ◌&&◌, Option, Some, None, List, [], ◌∷◌, filter, refl, sym, ap, ◌∙◌, true≢false, slice_get}
+use Rattle.std.specs.List.{IsDistinct}
 use Rattle.std.proofs.lemmas.Bool.{and_parts, and_from}
 use Rattle.std.specs.Option.{option_eq}
 use Rattle.cube_defs.specs.Cell.{Cell, leq, entry_leq, cell_of, with_value}
@@ -8,7 +9,6 @@ use Rattle.cube_laws.specs.Total.{total, join_aggs, join_cells, agg_at}
 use Rattle.cube_laws.specs.Parts.{has_value, HasAll}
 use Rattle.cube_laws.proofs.Cells.{IsEquality, leq_refl}
 use Rattle.cube_laws.proofs.Lists.{filter_same, always, filter_and}
-use Rattle.cube_laws.specs.Lists.{Once}
 use Rattle.cube_laws.proofs.Totals.{total-parts, total_same}
 use Rattle.cube_laws.proofs.RowTotals.{cells_add, aggs_add, row_cell, row_agg, closure_total, agg_total}
 
@@ -57,16 +57,18 @@ module _ {A : Type 0} {eq : A → A → Bool} (law : IsEquality eq) where
   pub alone : (i : ℕ) (v w : A) (r : Row A) → eq v w ≡ false → has_value eq i w r ≡ true → has_value eq i v r ≡ false
   alone i v w r apart h = ap (option_eq eq (Some v)) (has_exact i w r h) ∙ apart
 
-  pub closure_parts : (rows : List (Row A)) (u : Cell A) (i : ℕ) (vs : List A) → slice_get u i ≡ Some None → Once eq vs → HasAll eq rows u i vs
+  pub closure_parts : (rows : List (Row A)) (u : Cell A) (i : ℕ) (vs : List A) → slice_get u i ≡ Some None → IsDistinct eq vs → HasAll eq rows u i vs
       → closure eq rows u ≡ total (join_cells eq) None (λ v. closure eq rows (with_value u i v)) vs
+  unfolding IsDistinct
   closure_parts rows u i vs h once all =
       closure_total eq rows u
       ∙ total-parts (join_cells eq) None (cells_add law) eq row_cell (has_value eq i) (alone i) vs (cov eq rows u) once all
       ∙ total_same (join_cells eq) None (cells_add law) _ (λ v. closure eq rows (with_value u i v)) vs
       (always _ vs (λ v. ap (total (join_cells eq) None row_cell) (sym (cov_with rows u i v h)) ∙ sym (closure_total eq rows (with_value u i v))))
 
-  pub agg_parts : (measures : ℕ) (rows : List (Row A)) (u : Cell A) (i : ℕ) (vs : List A) → slice_get u i ≡ Some None → Once eq vs → HasAll eq rows u i vs
+  pub agg_parts : (measures : ℕ) (rows : List (Row A)) (u : Cell A) (i : ℕ) (vs : List A) → slice_get u i ≡ Some None → IsDistinct eq vs → HasAll eq rows u i vs
       → agg_at eq measures rows u ≡ total join_aggs None (λ v. agg_at eq measures rows (with_value u i v)) vs
+  unfolding IsDistinct
   agg_parts measures rows u i vs h once all =
       agg_total measures (cov eq rows u)
       ∙ total-parts join_aggs None aggs_add eq (row_agg measures) (has_value eq i) (alone i) vs (cov eq rows u) once all

@@ -11,7 +11,7 @@ use Rattle.cube_defs.specs.Rows.{Row, Agg, covers, agg, closure}
 use Rattle.cube_defs.specs.Tree.{covered, classes, nodes}
 use Rattle.cube_defs.specs.Answers.{Box, Hit, in_box, range, lower_bounds}
 use Rattle.cube_laws.specs.Lists.{Among}
-use Rattle.cube_laws.specs.Recoding.{coded, coded_tuple, coded_row, coded_box, coded_hit, TellsApart, AreKnown, RowsAreKnown, BoxIsKnown, known_box}
+use Rattle.cube_laws.specs.Recoding.{coded_cell, coded_tuple, coded_row, coded_box, coded_hit, TellsApart, AreKnown, RowsAreKnown, BoxIsKnown, known_box}
 use Rattle.cube_laws.proofs.Lists.{among_filter, filter_among, among_map, map_among, all_at, all_from, always, filter_same, to_filter}
 use Rattle.cube_laws.proofs.Cells.{IsEquality}
 use Rattle.cube_laws.proofs.Orders.{equality_by}
@@ -34,7 +34,7 @@ module _ {A : Type 0} {eq : A → A → Bool} (law : IsEquality eq) (known : ℕ
 module _ {A B : Type 0} {eq : A → A → Bool} {eq' : B → B → Bool} (law : IsEquality eq) (law' : IsEquality eq') (codes : ℕ → A → B) where
   -- a cell of codes below a coded tuple is the code of a cell below the tuple
   pub decoded : (k : ℕ) (d : Cell B) (t : List A) → length d ≡ length (coded_tuple codes k t) → leq eq' d (cell_of (coded_tuple codes k t)) ≡ true
-      → (c : Cell A) × (d ≡ coded codes k c) × (length c ≡ length t) × (leq eq c (cell_of t) ≡ true)
+      → (c : Cell A) × (d ≡ coded_cell codes k c) × (length c ≡ length t) × (leq eq c (cell_of t) ≡ true)
   decoded k [] [] l h = ([], refl, refl, refl)
   decoded k [] (v ∷ t) l h = absurd (omega arith)
   decoded k (e ∷ d) [] l h = absurd (omega arith)
@@ -96,7 +96,7 @@ module _ {A B : Type 0} {eq : A → A → Bool} {eq' : B → B → Bool} (law : 
   any-coded k v [] h g = refl
   any-coded k v (w ∷ vs) h g = ap₂ (λ a b. a || b) (same_test law law' tells k v w h g.0) (any-coded k v vs h g.1)
 
-  pub in_box-coded : (k : ℕ) (box : Box A) (c : Cell A) → BoxIsKnown known k box → AreKnown known k c → in_box eq' (coded_box codes k box) (coded codes k c) ≡ in_box eq box c
+  pub in_box-coded : (k : ℕ) (box : Box A) (c : Cell A) → BoxIsKnown known k box → AreKnown known k c → in_box eq' (coded_box codes k box) (coded_cell codes k c) ≡ in_box eq box c
   in_box-coded k [] [] h g = refl
   in_box-coded k [] (e ∷ c) h g = refl
   in_box-coded k (a ∷ box) [] h g = refl
@@ -117,7 +117,7 @@ module _ {A B : Type 0} {cmp : A → A → Ordering} {cmp' : B → B → Orderin
   known-covered = covered_known total anti known rows h
 
   -- the cells that cover coded rows are the codes of those that cover the rows
-  pub covered-coded : (d : Cell B) → Among d (covered cmp' (map (coded_row codes) rows)) ↔ ((c : Cell A) × Among c (covered cmp rows) × (d ≡ coded codes 0 c))
+  pub covered-coded : (d : Cell B) → Among d (covered cmp' (map (coded_row codes) rows)) ↔ ((c : Cell A) × Among c (covered cmp rows) × (d ≡ coded_cell codes 0 c))
   covered-coded d = (
     λ m.
         let q : (r : Row B) × Among r (map (coded_row codes) rows) × (length d ≡ length r.tuple) × (covers (eq_by_cmp cmp') d r ≡ true) = (covered-is total' anti' (map (coded_row codes) rows) d).0 m in
@@ -139,26 +139,26 @@ module _ {A B : Type 0} {cmp : A → A → Ordering} {cmp' : B → B → Orderin
   )
 
   -- and so are those of them that pass a test
-  pub passing-coded : (p : Cell A → Bool) (p' : Cell B → Bool) → ((c : Cell A) → AreKnown known 0 c → p' (coded codes 0 c) ≡ p c)
-      → (d : Cell B) → Among d (filter p' (covered cmp' (map (coded_row codes) rows))) ↔ ((c : Cell A) × Among c (filter p (covered cmp rows)) × (d ≡ coded codes 0 c))
+  pub passing-coded : (p : Cell A → Bool) (p' : Cell B → Bool) → ((c : Cell A) → AreKnown known 0 c → p' (coded_cell codes 0 c) ≡ p c)
+      → (d : Cell B) → Among d (filter p' (covered cmp' (map (coded_row codes) rows))) ↔ ((c : Cell A) × Among c (filter p (covered cmp rows)) × (d ≡ coded_cell codes 0 c))
   passing-coded p p' same d = (
     λ m.
         let f = filter_among p' d (covered cmp' (map (coded_row codes) rows)) m in
-        let c : (c : Cell A) × Among c (covered cmp rows) × (d ≡ coded codes 0 c) = (covered-coded d).0 f.0 in
+        let c : (c : Cell A) × Among c (covered cmp rows) × (d ≡ coded_cell codes 0 c) = (covered-coded d).0 f.0 in
         (c.0, among_filter p c.0 (covered cmp rows) c.1 (sym (same c.0 (known-covered c.0 c.1)) ∙ ap p' (sym c.2) ∙ f.1), c.2),
     λ m.
         let f = filter_among p m.0 (covered cmp rows) m.1 in
         among_filter p' d (covered cmp' (map (coded_row codes) rows)) ((covered-coded d).1 (m.0, f.0, m.2)) (ap p' m.2 ∙ same m.0 (known-covered m.0 f.0) ∙ f.1),
   )
 
-  pub classes-coded : (d : Cell B) → Among d (classes cmp' (map (coded_row codes) rows)) ↔ ((c : Cell A) × Among c (classes cmp rows) × (d ≡ coded codes 0 c))
+  pub classes-coded : (d : Cell B) → Among d (classes cmp' (map (coded_row codes) rows)) ↔ ((c : Cell A) × Among c (classes cmp rows) × (d ≡ coded_cell codes 0 c))
   classes-coded = passing-coded _ _ (λ c g. is_class-coded law law' tells rows h c g)
 
-  pub nodes-coded : (d : Cell B) → Among d (nodes cmp' (map (coded_row codes) rows)) ↔ ((c : Cell A) × Among c (nodes cmp rows) × (d ≡ coded codes 0 c))
+  pub nodes-coded : (d : Cell B) → Among d (nodes cmp' (map (coded_row codes) rows)) ↔ ((c : Cell A) × Among c (nodes cmp rows) × (d ≡ coded_cell codes 0 c))
   nodes-coded = passing-coded _ _ (λ c g. is_node-coded law law' tells rows h c g)
 
   pub lower_bounds-coded : (u : Cell A) → AreKnown known 0 u → (d : Cell B)
-      → Among d (lower_bounds cmp' (map (coded_row codes) rows) (coded codes 0 u)) ↔ ((c : Cell A) × Among c (lower_bounds cmp rows u) × (d ≡ coded codes 0 c))
+      → Among d (lower_bounds cmp' (map (coded_row codes) rows) (coded_cell codes 0 u)) ↔ ((c : Cell A) × Among c (lower_bounds cmp rows u) × (d ≡ coded_cell codes 0 c))
   lower_bounds-coded u k = passing-coded _ _ (λ c g. is_lower_bound-coded law law' tells rows h u c k g)
 
   -- the hits of a box of known values
@@ -168,11 +168,11 @@ module _ {A B : Type 0} {cmp : A → A → Ordering} {cmp' : B → B → Orderin
       let cells = passing-coded (in_box (eq_by_cmp cmp) box) (in_box (eq_by_cmp cmp') (coded_box codes 0 box)) (λ c g. in_box-coded law law' tells 0 box c k g) in (
         λ m.
             let d : (d : Cell B) × Among d (filter (in_box (eq_by_cmp cmp') (coded_box codes 0 box)) (covered cmp' (map (coded_row codes) rows))) × (hit ≡ hit_at' d) = among_map hit_at' hit _ m in
-            let c : (c : Cell A) × Among c (filter (in_box (eq_by_cmp cmp) box) (covered cmp rows)) × (d.0 ≡ coded codes 0 c) = (cells d.0).0 d.1 in
+            let c : (c : Cell A) × Among c (filter (in_box (eq_by_cmp cmp) box) (covered cmp rows)) × (d.0 ≡ coded_cell codes 0 c) = (cells d.0).0 d.1 in
             (hit_at c.0, map_among hit_at c.0 _ c.1, d.2 ∙ ap hit_at' c.2 ∙ same_hit c.0 (filter_among (in_box (eq_by_cmp cmp) box) c.0 (covered cmp rows) c.1).0),
         λ m.
             let c : (c : Cell A) × Among c (filter (in_box (eq_by_cmp cmp) box) (covered cmp rows)) × (m.0 ≡ hit_at c) = among_map hit_at m.0 _ m.1 in
-            let there : Among (hit_at' (coded codes 0 c.0)) (range cmp' measures (map (coded_row codes) rows) (coded_box codes 0 box)) = map_among hit_at' (coded codes 0 c.0) _ ((cells (coded codes 0 c.0)).1 (c.0, c.1, refl)) in
+            let there : Among (hit_at' (coded_cell codes 0 c.0)) (range cmp' measures (map (coded_row codes) rows) (coded_box codes 0 box)) = map_among hit_at' (coded_cell codes 0 c.0) _ ((cells (coded_cell codes 0 c.0)).1 (c.0, c.1, refl)) in
             subst (λ x. Among x (range cmp' measures (map (coded_row codes) rows) (coded_box codes 0 box)))
             (same_hit c.0 (filter_among (in_box (eq_by_cmp cmp) box) c.0 (covered cmp rows) c.1).0 ∙ ap (coded_hit codes) (sym c.2) ∙ sym m.2) there,
       )
@@ -183,5 +183,5 @@ module _ {A B : Type 0} {cmp : A → A → Ordering} {cmp' : B → B → Orderin
       hit_at' : Cell B → Hit B
       hit_at' d = record { cell = d; agg = agg (eq_by_cmp cmp') measures (map (coded_row codes) rows) d }
 
-      same_hit : (c : Cell A) → Among c (covered cmp rows) → hit_at' (coded codes 0 c) ≡ coded_hit codes (hit_at c)
-      same_hit c m = ap (λ (a : Agg). let x : Hit B = record { cell = coded codes 0 c; agg = a } in x) (agg-coded law law' tells rows h measures c (known-covered c m))
+      same_hit : (c : Cell A) → Among c (covered cmp rows) → hit_at' (coded_cell codes 0 c) ≡ coded_hit codes (hit_at c)
+      same_hit c m = ap (λ (a : Agg). let x : Hit B = record { cell = coded_cell codes 0 c; agg = a } in x) (agg-coded law law' tells rows h measures c (known-covered c m))

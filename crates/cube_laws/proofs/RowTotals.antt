@@ -8,7 +8,7 @@ use Rattle.std.specs.List.{fold, range_with_len}
 use Rattle.cube_defs.specs.Cell.{Cell, cell_of}
 use Rattle.std.proofs.lemmas.List.FromFn.{get_or-map-range_with_len}
 use Rattle.cube_defs.specs.Answers.{part}
-use Rattle.cube_defs.specs.Rows.{Row, Part, Agg, part_of, amounts_of, agg_of, meet_next, meet_all, closure, covers, cov, agg}
+use Rattle.cube_defs.specs.Rows.{Row, Part, Agg, part_of, amounts_of, agg_of, meet_after, meet_all, closure, covers, cov, agg}
 use Rattle.cube_laws.specs.Tuples.{cells_of}
 use Rattle.cube_laws.specs.Total.{total, agg_at, combine_part, combine_parts, combine, join_aggs, join_cells, agg_some}
 use Rattle.cube_laws.proofs.Cells.{IsEquality, meet_assoc, meet_comm}
@@ -98,7 +98,7 @@ row_agg measures r = Some (agg_of measures (r ∷ []))
 
 pub meet_total : {A : Type 0} (eq : A → A → Bool) (rows : List (Row A)) → meet_all eq (map (λ row. cell_of row.tuple) rows) ≡ total (join_cells eq) None row_cell rows
 meet_total eq [] = refl
-meet_total eq (r ∷ rows) = ap (λ o. Some (meet_next eq (cell_of r.tuple) o)) (meet_total eq rows)
+meet_total eq (r ∷ rows) = ap (λ o. Some (meet_after eq (cell_of r.tuple) o)) (meet_total eq rows)
 
 pub closure_total : {A : Type 0} (eq : A → A → Bool) (rows : List (Row A)) (c : Cell A) → closure eq rows c ≡ total (join_cells eq) None row_cell (cov eq rows c)
 closure_total eq rows c = meet_total eq (cov eq rows c)

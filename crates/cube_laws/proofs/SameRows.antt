@@ -5,7 +5,7 @@ use Rattle.std.specs.Ordering.{eq_by_cmp}
 use Rattle.std.specs.Cmp.{IsTotalOrder}
 use Rattle.std.specs.FinMap.{IsAntisymmetric}
 use Rattle.std.specs.Option.{option_eq, option_map}
-use Rattle.cube_defs.specs.Cell.{Cell, leq, cell_of, cell_eq, keep, depth}
+use Rattle.cube_defs.specs.Cell.{Cell, leq, cell_of, cell_eq, cell_front, depth}
 use Rattle.cube_defs.specs.Tree.{covered, classes, nodes}
 use Rattle.cube_defs.specs.Rows.{Row, covers, closure, meet_all, is_class, is_node}
 use Rattle.cube_laws.proofs.Cells.{IsEquality, leq_antisymm}
@@ -52,7 +52,7 @@ module _ {A : Type 0} {eq : A → A → Bool} (law : IsEquality eq) (rows more :
   class_by_tuples u = ap (λ o. option_eq (cell_eq eq) o (Some u)) (closure_by_tuples u)
 
   pub node_by_tuples : (p : Cell A) → is_node eq rows p ≡ is_node eq more p
-  node_by_tuples p = ap (λ o. option_eq (cell_eq eq) (option_map (keep (depth p)) o) (Some p)) (closure_by_tuples p)
+  node_by_tuples p = ap (λ o. option_eq (cell_eq eq) (option_map (cell_front (depth p)) o) (Some p)) (closure_by_tuples p)
 
 module _ {A : Type 0} {cmp : A → A → Ordering} (total : IsTotalOrder cmp) (anti : IsAntisymmetric cmp) (rows more : List (Row A)) (f : TuplesAmong rows more) (g : TuplesAmong more rows) where
   covered_among : (rows more : List (Row A)) → TuplesAmong rows more → (c : Cell A) → Among c (covered cmp rows) → Among c (covered cmp more)

@@ -1,7 +1,7 @@
 -- What is added up over items can be added up part by part, the parts by the values of a key.
 use Rattle.std.proofs.Common.{◌≡◌, Bool, true, false, not, cond, List, [], ◌∷◌, ◌++◌, filter, refl, sym, ap, ap₂, ◌∙◌, true≢false, inl, inr}
-use Rattle.std.specs.List.{AllByRecursion}
-use Rattle.cube_laws.specs.Lists.{Among, Once, Reordered}
+use Rattle.std.specs.List.{AllByRecursion, IsDistinct}
+use Rattle.cube_laws.specs.Lists.{Among, Reordered}
 use Rattle.cube_laws.specs.Total.{total}
 use Rattle.cube_laws.proofs.Lists.{to_filter, all_map, filter_filter}
 
@@ -35,7 +35,8 @@ module _ {X K M : Type 0} (op : M → M → M) (none : M) (law : IsAddition op n
   later v vs x (w, m, h) n = elim m [ inl e ↦ absurd (true≢false (sym n ∙ ap not (ap (λ k. has k x) (sym e) ∙ h))) | inr k ↦ (w, k, h) ]
 
   -- over values that stand once each and one of which each item has
-  pub total-parts : (vs : List K) (xs : List X) → Once eq vs → AllByRecursion (λ x. (w : K) × Among w vs × (has w x ≡ true)) xs → total op none f xs ≡ total op none (λ v. total op none f (filter (has v) xs)) vs
+  pub total-parts : (vs : List K) (xs : List X) → IsDistinct eq vs → AllByRecursion (λ x. (w : K) × Among w vs × (has w x ≡ true)) xs → total op none f xs ≡ total op none (λ v. total op none f (filter (has v) xs)) vs
+  unfolding IsDistinct
   total-parts [] [] o h = refl
   total-parts [] (x ∷ xs) o h = absurd h.0.1
   total-parts (v ∷ vs) xs o h =

@@ -21,7 +21,7 @@ pub record IsLastAny {A : Type 0} (u : Cell A) (i : ℕ) : Type 0 where
   pub last : (k : ℕ) → i < k → slice_get u k ≡ Some None → ⊥
 
 -- the number of dimensions with a value
-abbrev pub values : {A : Type 0} → Cell A → ℕ
-values [] = 0
-values (None ∷ c) = values c
-values (Some v ∷ c) = suc (values c)
+abbrev pub value_count : {A : Type 0} → Cell A → ℕ
+value_count [] = 0
+value_count (None ∷ c) = value_count c
+value_count (Some v ∷ c) = suc (value_count c)

@@ -11,9 +11,9 @@ use Rattle.cube_defs.specs.Answers.{Box, Hit, ClassHit}
 -- codes i v: the code of the value v in dimension i
 module _ {A B : Type 0} (codes : ℕ → A → B) where
   -- a cell's entries, the first of which stands in dimension k
-  abbrev pub coded : ℕ → Cell A → Cell B
-  coded k [] = []
-  coded k (e ∷ c) = option_map (codes k) e ∷ coded (suc k) c
+  abbrev pub coded_cell : ℕ → Cell A → Cell B
+  coded_cell k [] = []
+  coded_cell k (e ∷ c) = option_map (codes k) e ∷ coded_cell (suc k) c
 
   abbrev pub coded_tuple : ℕ → List A → List B
   coded_tuple k [] = []
@@ -29,7 +29,7 @@ module _ {A B : Type 0} (codes : ℕ → A → B) where
   coded_box k (choice ∷ box) = option_map (map (codes k)) choice ∷ coded_box (suc k) box
 
   abbrev pub coded_hit : Hit A → Hit B
-  coded_hit hit = record { cell = coded codes 0 hit.cell; agg = hit.agg }
+  coded_hit hit = record { cell = coded_cell codes 0 hit.cell; agg = hit.agg }
 
 -- no two known values of a dimension have one code
 pub record TellsApart {A B : Type 0} (known : ℕ → A → Bool) (codes : ℕ → A → B) : Type 0 where
@@ -59,6 +59,6 @@ known_box known k (choice ∷ box) = option_map (filter (known k)) choice ∷ kn
 
 -- a class of an answer, and the same class under its code; its lower bounds may stand in another order
 pub record IsCodedClass {A B : Type 0} (codes : ℕ → A → B) (found : ClassHit A) (hit : ClassHit B) : Type 0 where
-  pub upper : hit.upper ≡ coded codes 0 found.upper
+  pub upper : hit.upper ≡ coded_cell codes 0 found.upper
   pub agg : hit.agg ≡ found.agg
-  pub lowers : (d : Cell B) → Among d hit.lowers ↔ ((c : Cell A) × Among c found.lowers × (d ≡ coded codes 0 c))
+  pub lowers : (d : Cell B) → Among d hit.lowers ↔ ((c : Cell A) × Among c found.lowers × (d ≡ coded_cell codes 0 c))

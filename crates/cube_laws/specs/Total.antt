@@ -2,7 +2,7 @@
 use Rattle.std.specs.Prelude.{ℕ, ◌+◌, Bool, Option, Some, None, List, [], ◌∷◌, ◌+ℤ◌}
 use Rattle.std.specs.Int.{int_min, int_max}
 use Rattle.cube_defs.specs.Cell.{Cell}
-use Rattle.cube_defs.specs.Rows.{Row, Agg, Part, agg_of, cov, meet_next}
+use Rattle.cube_defs.specs.Rows.{Row, Agg, Part, agg_of, cov, meet_after}
 
 abbrev pub combine_part : Part → Part → Part
 combine_part p q = record { sum = p.sum +ℤ q.sum; least = int_min p.least q.least; greatest = int_max p.greatest q.greatest }
@@ -26,7 +26,7 @@ join_aggs (Some a) o = Some (combine_next a o)
 
 abbrev pub join_cells : {A : Type 0} → (A → A → Bool) → Option (Cell A) → Option (Cell A) → Option (Cell A)
 join_cells eq None o = o
-join_cells eq (Some c) o = Some (meet_next eq c o)
+join_cells eq (Some c) o = Some (meet_after eq c o)
 
 -- the aggregate, where there are rows
 abbrev pub agg_some : {A : Type 0} → ℕ → List (Row A) → Option Agg

@@ -1,9 +1,10 @@
 //! What stands in an iceberg answer, and in which order.
 ghost use Rattle.std.specs.Prelude.{IsTrue, List, ℕ, ◌↔◌, ◌≡◌};
+ghost use Rattle.std.specs.List.Sorted.{IsStrictlySortedBy};
 ghost use Rattle.cube_defs.specs.Answers.{Ask, ClassHit, answer_cmp, asked, iceberg, is_asked, lower_bounds};
 ghost use Rattle.cube_defs.specs.Rows.{Row, agg};
 ghost use Rattle.cube_defs.specs.Tree.{classes};
-ghost use Rattle.cube_laws.specs.Lists.{Among, Rises};
+ghost use Rattle.cube_laws.specs.Lists.{Among};
 
 use super::values::Value;
 
@@ -23,9 +24,9 @@ pub fn iceberg_has_the_classes_that_pass<V: Value>()
 /// in cell order where they are equal; no other list of the same classes stands so (own).
 pub fn iceberg_is_in_order<V: Value>()
     ensures in_order { (measures : ℕ) (rows : List (Row V)) (ask : Ask) →
-        Rises (answer_cmp V.cmp ask) (iceberg V.cmp measures rows ask) }
+        IsStrictlySortedBy (answer_cmp V.cmp ask) (iceberg V.cmp measures rows ask) }
     ensures only_one { (measures : ℕ) (rows : List (Row V)) (ask : Ask) (hits : List (ClassHit V)) →
-        Rises (answer_cmp V.cmp ask) hits →
+        IsStrictlySortedBy (answer_cmp V.cmp ask) hits →
         ((hit : ClassHit V) → Among hit hits ↔ Among hit (asked V.cmp measures rows ask)) →
         hits ≡ iceberg V.cmp measures rows ask }
 {}

@@ -1,7 +1,7 @@
 //! Cells under generalization: an order with a greatest lower bound of each two cells.
 ghost use Rattle.std.specs.Prelude.{IsTrue, List, [], length, suc, ℕ, ◌++◌, ◌↔◌, ◌∷◌, ◌≡◌, ◌≤◌};
-ghost use Rattle.cube_defs.specs.Cell.{Cell, cell_eq, depth, keep, last, leq, meet};
-ghost use Rattle.cube_defs.specs.Rows.{meet_all, with_more};
+ghost use Rattle.cube_defs.specs.Cell.{Cell, cell_eq, depth, cell_front, last, leq, meet};
+ghost use Rattle.cube_defs.specs.Rows.{meet_all, meet_with};
 
 use super::values::Value;
 
@@ -37,10 +37,10 @@ pub fn meet_of_cells<V: Value>()
 /// The front of a cell is below it, of a greater cell the front is greater, and a cell is its
 /// own front up to its last value (Lakshmanan, Pei, Zhao, SIGMOD 2003).
 pub fn fronts_of_cells<V: Value>()
-    ensures below { (n : ℕ) (c : Cell V) → IsTrue (leq V.eq (keep n c) c) }
+    ensures below { (n : ℕ) (c : Cell V) → IsTrue (leq V.eq (cell_front n c) c) }
     ensures monotone { (n : ℕ) (c d : Cell V) →
-        IsTrue (leq V.eq c d) → IsTrue (leq V.eq (keep n c) (keep n d)) }
-    ensures whole { (c : Cell V) → keep (depth c) c ≡ c }
+        IsTrue (leq V.eq c d) → IsTrue (leq V.eq (cell_front n c) (cell_front n d)) }
+    ensures whole { (c : Cell V) → cell_front (depth c) c ≡ c }
 {}
 
 /// The depth of a cell is one more than its last dimension with a value, or 0 where it has
@@ -49,11 +49,11 @@ pub fn depth_of_cells<V: Value>()
     ensures last { (c : Cell V) (j : ℕ) → last c ≡ Some j → depth c ≡ suc j }
     ensures none { (c : Cell V) → last c ≡ None → depth c ≡ 0 }
     ensures within { (c : Cell V) → depth c ≤ length c }
-    ensures front { (n : ℕ) (c : Cell V) → keep (depth (keep n c)) c ≡ keep n c }
+    ensures front { (n : ℕ) (c : Cell V) → cell_front (depth (cell_front n c)) c ≡ cell_front n c }
 {}
 
 /// The meet of some cells and one more, put behind them, is the meet so far with it (own).
 pub fn meet_of_one_cell_more<V: Value>()
     ensures { (cs : List (Cell V)) (c : Cell V) →
-        meet_all V.eq (cs ++ c ∷ []) ≡ Some (with_more V.eq (meet_all V.eq cs) c) }
+        meet_all V.eq (cs ++ c ∷ []) ≡ Some (meet_with V.eq (meet_all V.eq cs) c) }
 {}

@@ -1,10 +1,11 @@
 //! What stands in the lists of cells and in a range answer, and in which order.
 ghost use Rattle.std.specs.Prelude.{IsTrue, List, length, ℕ, ◌↔◌, ◌≡◌};
+ghost use Rattle.std.specs.List.Sorted.{IsStrictlySortedBy};
 ghost use Rattle.cube_defs.specs.Answers.{Box, Hit, in_box, lower_bounds, range};
 ghost use Rattle.cube_defs.specs.Cell.{Cell, cell_cmp};
 ghost use Rattle.cube_defs.specs.Rows.{Row, agg, closure, covers, is_class, is_lower_bound, is_node};
 ghost use Rattle.cube_defs.specs.Tree.{classes, covered, nodes};
-ghost use Rattle.cube_laws.specs.Lists.{Among, Rises};
+ghost use Rattle.cube_laws.specs.Lists.{Among};
 ghost use Rattle.std.specs.Ordering.{on};
 
 use super::values::Value;
@@ -51,15 +52,15 @@ pub fn range_has_the_covered_cells_of_the_box<V: Value>()
 /// The lists of covered cells, of upper bounds, of nodes and of lower bounds, and a range
 /// answer by its cells, rise in cell order; no other list of the same cells does (own).
 pub fn lists_are_in_cell_order<V: Value>()
-    ensures covered { (rows : List (Row V)) → Rises (cell_cmp V.cmp) (covered V.cmp rows) }
-    ensures upper_bounds { (rows : List (Row V)) → Rises (cell_cmp V.cmp) (classes V.cmp rows) }
-    ensures nodes { (rows : List (Row V)) → Rises (cell_cmp V.cmp) (nodes V.cmp rows) }
+    ensures covered { (rows : List (Row V)) → IsStrictlySortedBy (cell_cmp V.cmp) (covered V.cmp rows) }
+    ensures upper_bounds { (rows : List (Row V)) → IsStrictlySortedBy (cell_cmp V.cmp) (classes V.cmp rows) }
+    ensures nodes { (rows : List (Row V)) → IsStrictlySortedBy (cell_cmp V.cmp) (nodes V.cmp rows) }
     ensures lower_bounds { (rows : List (Row V)) (u : Cell V) →
-        Rises (cell_cmp V.cmp) (lower_bounds V.cmp rows u) }
+        IsStrictlySortedBy (cell_cmp V.cmp) (lower_bounds V.cmp rows u) }
     ensures range { (measures : ℕ) (rows : List (Row V)) (box : Box V) →
-        Rises (on (λ hit. hit.cell) (cell_cmp V.cmp)) (range V.cmp measures rows box) }
-    ensures only_one { (cells more : List (Cell V)) → Rises (cell_cmp V.cmp) cells →
-        Rises (cell_cmp V.cmp) more →
+        IsStrictlySortedBy (on (λ hit. hit.cell) (cell_cmp V.cmp)) (range V.cmp measures rows box) }
+    ensures only_one { (cells more : List (Cell V)) → IsStrictlySortedBy (cell_cmp V.cmp) cells →
+        IsStrictlySortedBy (cell_cmp V.cmp) more →
         ((c : Cell V) → Among c cells → Among c more) →
         ((c : Cell V) → Among c more → Among c cells) → cells ≡ more }
 {}

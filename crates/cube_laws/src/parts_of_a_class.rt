@@ -1,9 +1,10 @@
 //! The rows that a cell with Any in a dimension covers, in parts by their values there.
 ghost use Rattle.std.specs.Prelude.{IsTrue, List, length, slice_get, ℕ, ◌<◌, ◌≡◌};
+ghost use Rattle.std.specs.List.{IsDistinct};
 ghost use Rattle.cube_defs.specs.Cell.{Cell, leq, with_value};
 ghost use Rattle.cube_defs.specs.Rows.{Row, agg, closure};
 ghost use Rattle.cube_defs.specs.Tree.{values_at};
-ghost use Rattle.cube_laws.specs.Lists.{Among, Once};
+ghost use Rattle.cube_laws.specs.Lists.{Among};
 ghost use Rattle.cube_laws.specs.Parts.{HasAll};
 ghost use Rattle.cube_laws.specs.Total.{agg_at, join_aggs, join_cells, total};
 
@@ -13,7 +14,7 @@ use super::values::Value;
 /// those without rows left out (own).
 pub fn closure_by_parts<V: Value>()
     ensures { (rows : List (Row V)) (u : Cell V) (i : ℕ) (vs : List V) → slice_get u i ≡ Some None →
-        Once V.eq vs → HasAll V.eq rows u i vs →
+        IsDistinct V.eq vs → HasAll V.eq rows u i vs →
         closure V.eq rows u
         ≡ total (join_cells V.eq) None (λ v. closure V.eq rows (with_value u i v)) vs }
 {}
@@ -23,7 +24,7 @@ pub fn closure_by_parts<V: Value>()
 pub fn aggregate_by_parts<V: Value>()
     ensures { (measures : ℕ) (rows : List (Row V)) (u : Cell V) (i : ℕ) (vs : List V) →
         slice_get u i ≡ Some None →
-        Once V.eq vs → HasAll V.eq rows u i vs →
+        IsDistinct V.eq vs → HasAll V.eq rows u i vs →
         agg_at V.eq measures rows u
         ≡ total join_aggs None (λ v. agg_at V.eq measures rows (with_value u i v)) vs }
 {}
@@ -41,7 +42,7 @@ pub fn aggregate_where_rows_are_covered<V: Value>()
 /// The values that the rows have in a dimension, each once, are such values of parts, and so
 /// they are for each more specific cell and for fewer rows (own).
 pub fn column_parts_the_rows<V: Value>()
-    ensures once { (rows : List (Row V)) (p : Cell V) (i : ℕ) → Once V.eq (values_at V.cmp rows p i) }
+    ensures once { (rows : List (Row V)) (p : Cell V) (i : ℕ) → IsDistinct V.eq (values_at V.cmp rows p i) }
     ensures enough { (rows some : List (Row V)) (p u : Cell V) (i : ℕ) → IsTrue (leq V.eq p u) →
         ((s : Row V) → Among s some → Among s rows) →
         ((s : Row V) → Among s rows → i < length s.tuple) →

@@ -6,7 +6,7 @@ ghost use Rattle.cube_defs.specs.Cell.{Cell, leq, meet};
 ghost use Rattle.cube_defs.specs.Rows.{Row, agg, closure, cov, is_class, is_lower_bound, is_node};
 ghost use Rattle.cube_defs.specs.Tree.{classes, covered, nodes};
 ghost use Rattle.cube_laws.specs.Lists.{Among};
-ghost use Rattle.cube_laws.specs.Recoding.{AreKnown, BoxIsKnown, IsCodedClass, RowsAreKnown, TellsApart, coded, coded_box, coded_hit, coded_row, known_box};
+ghost use Rattle.cube_laws.specs.Recoding.{AreKnown, BoxIsKnown, IsCodedClass, RowsAreKnown, TellsApart, coded_cell, coded_box, coded_hit, coded_row, known_box};
 ghost use Rattle.std.specs.Option.{option_map};
 
 use super::values::Value;
@@ -15,13 +15,13 @@ use super::values::Value;
 pub fn cells_under_recoding<A: Value, B: Value>()
     ensures order { (known : ℕ → A → Bool) (codes : ℕ → A → B) → TellsApart known codes →
         (c d : Cell A) → AreKnown known 0 c → AreKnown known 0 d →
-        leq B.eq (coded codes 0 c) (coded codes 0 d) ≡ leq A.eq c d }
+        leq B.eq (coded_cell codes 0 c) (coded_cell codes 0 d) ≡ leq A.eq c d }
     ensures meet { (known : ℕ → A → Bool) (codes : ℕ → A → B) → TellsApart known codes →
         (c d : Cell A) → AreKnown known 0 c → AreKnown known 0 d →
-        meet B.eq (coded codes 0 c) (coded codes 0 d) ≡ coded codes 0 (meet A.eq c d) }
+        meet B.eq (coded_cell codes 0 c) (coded_cell codes 0 d) ≡ coded_cell codes 0 (meet A.eq c d) }
     ensures apart { (known : ℕ → A → Bool) (codes : ℕ → A → B) → TellsApart known codes →
         (c d : Cell A) → AreKnown known 0 c → AreKnown known 0 d →
-        coded codes 0 c ≡ coded codes 0 d → c ≡ d }
+        coded_cell codes 0 c ≡ coded_cell codes 0 d → c ≡ d }
 {}
 
 /// The rows that a code covers are the codes of the rows that the cell covers, and its closure
@@ -29,30 +29,30 @@ pub fn cells_under_recoding<A: Value, B: Value>()
 pub fn closure_under_recoding<A: Value, B: Value>()
     ensures rows { (known : ℕ → A → Bool) (codes : ℕ → A → B) → TellsApart known codes →
         (rows : List (Row A)) (c : Cell A) → RowsAreKnown known rows → AreKnown known 0 c →
-        cov B.eq (map (coded_row codes) rows) (coded codes 0 c)
+        cov B.eq (map (coded_row codes) rows) (coded_cell codes 0 c)
         ≡ map (coded_row codes) (cov A.eq rows c) }
     ensures closure { (known : ℕ → A → Bool) (codes : ℕ → A → B) → TellsApart known codes →
         (rows : List (Row A)) (c : Cell A) → RowsAreKnown known rows → AreKnown known 0 c →
-        closure B.eq (map (coded_row codes) rows) (coded codes 0 c)
-        ≡ option_map (coded codes 0) (closure A.eq rows c) }
+        closure B.eq (map (coded_row codes) rows) (coded_cell codes 0 c)
+        ≡ option_map (coded_cell codes 0) (closure A.eq rows c) }
     ensures aggregate { (known : ℕ → A → Bool) (codes : ℕ → A → B) → TellsApart known codes →
         (measures : ℕ) (rows : List (Row A)) (c : Cell A) → RowsAreKnown known rows →
         AreKnown known 0 c →
-        agg B.eq measures (map (coded_row codes) rows) (coded codes 0 c) ≡ agg A.eq measures rows c }
+        agg B.eq measures (map (coded_row codes) rows) (coded_cell codes 0 c) ≡ agg A.eq measures rows c }
 {}
 
 /// A code is an upper bound, a node or a lower bound exactly where the cell is (own).
 pub fn classes_under_recoding<A: Value, B: Value>()
     ensures upper_bound { (known : ℕ → A → Bool) (codes : ℕ → A → B) → TellsApart known codes →
         (rows : List (Row A)) (u : Cell A) → RowsAreKnown known rows → AreKnown known 0 u →
-        is_class B.eq (map (coded_row codes) rows) (coded codes 0 u) ≡ is_class A.eq rows u }
+        is_class B.eq (map (coded_row codes) rows) (coded_cell codes 0 u) ≡ is_class A.eq rows u }
     ensures node { (known : ℕ → A → Bool) (codes : ℕ → A → B) → TellsApart known codes →
         (rows : List (Row A)) (p : Cell A) → RowsAreKnown known rows → AreKnown known 0 p →
-        is_node B.eq (map (coded_row codes) rows) (coded codes 0 p) ≡ is_node A.eq rows p }
+        is_node B.eq (map (coded_row codes) rows) (coded_cell codes 0 p) ≡ is_node A.eq rows p }
     ensures lower_bound { (known : ℕ → A → Bool) (codes : ℕ → A → B) → TellsApart known codes →
         (rows : List (Row A)) (u c : Cell A) → RowsAreKnown known rows →
         AreKnown known 0 u → AreKnown known 0 c →
-        is_lower_bound B.eq (map (coded_row codes) rows) (coded codes 0 u) (coded codes 0 c)
+        is_lower_bound B.eq (map (coded_row codes) rows) (coded_cell codes 0 u) (coded_cell codes 0 c)
         ≡ is_lower_bound A.eq rows u c }
 {}
 
@@ -63,20 +63,20 @@ pub fn lists_under_recoding<A: Value, B: Value>()
     ensures covered { (known : ℕ → A → Bool) (codes : ℕ → A → B) → TellsApart known codes →
         (rows : List (Row A)) (d : Cell B) → RowsAreKnown known rows →
         Among d (covered B.cmp (map (coded_row codes) rows))
-        ↔ ((c : Cell A) × Among c (covered A.cmp rows) × (d ≡ coded codes 0 c)) }
+        ↔ ((c : Cell A) × Among c (covered A.cmp rows) × (d ≡ coded_cell codes 0 c)) }
     ensures upper_bounds { (known : ℕ → A → Bool) (codes : ℕ → A → B) → TellsApart known codes →
         (rows : List (Row A)) (d : Cell B) → RowsAreKnown known rows →
         Among d (classes B.cmp (map (coded_row codes) rows))
-        ↔ ((c : Cell A) × Among c (classes A.cmp rows) × (d ≡ coded codes 0 c)) }
+        ↔ ((c : Cell A) × Among c (classes A.cmp rows) × (d ≡ coded_cell codes 0 c)) }
     ensures nodes { (known : ℕ → A → Bool) (codes : ℕ → A → B) → TellsApart known codes →
         (rows : List (Row A)) (d : Cell B) → RowsAreKnown known rows →
         Among d (nodes B.cmp (map (coded_row codes) rows))
-        ↔ ((c : Cell A) × Among c (nodes A.cmp rows) × (d ≡ coded codes 0 c)) }
+        ↔ ((c : Cell A) × Among c (nodes A.cmp rows) × (d ≡ coded_cell codes 0 c)) }
     ensures lower_bounds { (known : ℕ → A → Bool) (codes : ℕ → A → B) → TellsApart known codes →
         (rows : List (Row A)) (u : Cell A) (d : Cell B) → RowsAreKnown known rows →
         AreKnown known 0 u →
-        Among d (lower_bounds B.cmp (map (coded_row codes) rows) (coded codes 0 u))
-        ↔ ((c : Cell A) × Among c (lower_bounds A.cmp rows u) × (d ≡ coded codes 0 c)) }
+        Among d (lower_bounds B.cmp (map (coded_row codes) rows) (coded_cell codes 0 u))
+        ↔ ((c : Cell A) × Among c (lower_bounds A.cmp rows u) × (d ≡ coded_cell codes 0 c)) }
 {}
 
 /// Among rows of known values a cell that covers a row has known values alone, and a value that

@@ -1,6 +1,6 @@
 //! The upper bounds of the classes: the cells that are their own closures.
 ghost use Rattle.std.specs.Prelude.{IsTrue, List, length, ℕ, ◌++◌, ◌↔◌, ◌∷◌, ◌≡◌};
-ghost use Rattle.cube_defs.specs.Cell.{Cell, cell_of, depth, keep};
+ghost use Rattle.cube_defs.specs.Cell.{Cell, cell_of, depth, cell_front};
 ghost use Rattle.cube_defs.specs.Rows.{Row, covers, is_class, is_node, meet_all};
 ghost use Rattle.cube_laws.specs.Lists.{Among};
 ghost use Rattle.cube_laws.specs.Tuples.{cells_of};
@@ -22,9 +22,9 @@ pub fn upper_bounds_are_meets_of_rows<V: Value>()
 /// SIGMOD 2003).
 pub fn nodes_are_fronts_of_upper_bounds<V: Value>()
     ensures fronts { (rows : List (Row V)) (n : ℕ) (u : Cell V) →
-        IsTrue (is_class V.eq rows u) → IsTrue (is_node V.eq rows (keep n u)) }
+        IsTrue (is_class V.eq rows u) → IsTrue (is_node V.eq rows (cell_front n u)) }
     ensures no_others { (rows : List (Row V)) (p : Cell V) → IsTrue (is_node V.eq rows p) →
-        (u : Cell V) × IsTrue (is_class V.eq rows u) × (keep (depth p) u ≡ p) }
+        (u : Cell V) × IsTrue (is_class V.eq rows u) × (cell_front (depth p) u ≡ p) }
 {}
 
 /// A row more, wherever it stands, takes no upper bound away and no node; so a row less adds

@@ -4,7 +4,7 @@ use Rattle.std.proofs.lemmas.Bool.Decides.{eqb_tells}
 use Rattle.std.specs.FinMap as map
 use Rattle.std.specs.Option.{option_map}
 use Rattle.std.specs.Ordering.{eq_by_cmp}
-use Rattle.cube_defs.specs.Cell.{keep}
+use Rattle.cube_defs.specs.Cell.{cell_front}
 use Rattle.cube_defs.specs.Tree.{Tree, cell_at}
 use Rattle.tree_laws.specs.Walk.{target_at}
 use Rattle.qc_arena.specs.Map.{Known, bare}
@@ -27,10 +27,10 @@ module _ (alone grown linked : Tree ℕ) (root child : ℕ)
   child_now : map.get linked child ≡ Some (bare single (Some root))
   child_now = others child (λ e. apart (sym e)) ∙ child_is
 
-  pub root_cell : cell_at linked root ≡ Some (keep 0 single)
+  pub root_cell : cell_at linked root ≡ Some (cell_front 0 single)
   root_cell = ap (option_map (λ (n : Known). n.cell)) root_now
 
-  leads_on : (k : ℕ) → cell_at linked k ≡ Some (keep 1 single) → LeadsTo linked k 1 7 (keep 2 single)
+  leads_on : (k : ℕ) → cell_at linked k ≡ Some (cell_front 1 single) → LeadsTo linked k 1 7 (cell_front 2 single)
   leads_on k at = elim (eqb_tells k root) [
     | inl e ↦ record {
       target = child;
@@ -38,16 +38,16 @@ module _ (alone grown linked : Tree ℕ) (root child : ℕ)
       is = ap (option_map (λ (n : Known). n.cell)) child_now;
     }
     | inr e ↦ elim (eqb_tells k child) [
-      | inl f ↦ absurd (let bad : Some single ≡ Some (keep 1 single) = sym (ap (option_map (λ (n : Known). n.cell)) (ap (map.get linked) f.1 ∙ child_now)) ∙ at in cc)
-      | inr f ↦ absurd (let bad : None ≡ Some (keep 1 single) = sym (ap (option_map (λ (n : Known). n.cell)) (others k e.1 ∙ kept k f.1 ∙ no_other k e.1)) ∙ at in cc)
+      | inl f ↦ absurd (let bad : Some single ≡ Some (cell_front 1 single) = sym (ap (option_map (λ (n : Known). n.cell)) (ap (map.get linked) f.1 ∙ child_now)) ∙ at in cc)
+      | inr f ↦ absurd (let bad : None ≡ Some (cell_front 1 single) = sym (ap (option_map (λ (n : Known). n.cell)) (others k e.1 ∙ kept k f.1 ∙ no_other k e.1)) ∙ at in cc)
     ]
   ]
 
   pub way : IsWay linked single 0 2
   way = record { leads = λ j v k from within has at. go j v k has at }
     where
-      go : (j v k : ℕ) → slice_index_or single j None ≡ Some v → cell_at linked k ≡ Some (keep j single) → LeadsTo linked k j v (keep (suc j) single)
+      go : (j v k : ℕ) → slice_index_or single j None ≡ Some v → cell_at linked k ≡ Some (cell_front j single) → LeadsTo linked k j v (cell_front (suc j) single)
       go zero v k has at = cc
-      go (suc zero) v k has at = let seven : 7 ≡ v = cc in subst (λ x. LeadsTo linked k 1 x (keep 2 single)) seven (leads_on k at)
+      go (suc zero) v k has at = let seven : 7 ≡ v = cc in subst (λ x. LeadsTo linked k 1 x (cell_front 2 single)) seven (leads_on k at)
       go (suc (suc zero)) v k has at = cc
       go (suc (suc (suc j))) v k has at = cc

@@ -1,7 +1,7 @@
 -- The way down to a node that is there.
 use Rattle.std.specs.Prelude.{◌≡◌, ◌≤◌, ℕ, suc, Some, None, slice_index_or}
 use Rattle.std.specs.Ordering.{eq_by_cmp, nat_cmp}
-use Rattle.cube_defs.specs.Cell.{Cell, keep}
+use Rattle.cube_defs.specs.Cell.{Cell, cell_front}
 use Rattle.cube_defs.specs.Tree.{Tree, cell_at}
 use Rattle.tree_laws.specs.Walk.{target_at}
 use Rattle.qc_arena.specs.Seen.{record_at}
@@ -14,4 +14,4 @@ pub record LeadsTo (tree : Tree ℕ) (node dim value : ℕ) (cell : Cell ℕ) : 
 
 -- in each of these dimensions that has a value in t, t's front before it has an edge with the value to t's front with it
 pub record IsWay (tree : Tree ℕ) (t : Cell ℕ) (first last : ℕ) : Type 0 where
-  pub leads : (dim value node : ℕ) → first ≤ dim → dim ≤ last → slice_index_or t dim None ≡ Some value → cell_at tree node ≡ Some (keep dim t) → LeadsTo tree node dim value (keep (suc dim) t)
+  pub leads : (dim value node : ℕ) → first ≤ dim → dim ≤ last → slice_index_or t dim None ≡ Some value → cell_at tree node ≡ Some (cell_front dim t) → LeadsTo tree node dim value (cell_front (suc dim) t)

@@ -3,7 +3,7 @@ use Rattle.std.proofs.Common.{◌≡◌, ◌∙◌, ℕ, suc, ◌+◌, List, Opt
 use Rattle.std.specs.Prelude.{IfErr, IsSome, OnErr}
 use Rattle.cell_core.specs.Gives.{Gives}
 use Rattle.warehouse.specs.Batch as batches
-use Rattle.warehouse.specs.Batch.{Apply, Kind, Refusal, result}
+use Rattle.warehouse.specs.Batch.{Apply, FileUse, Refusal, result}
 use Rattle.warehouse.specs.State.{State}
 use Rattle.warehouse.specs.Stored.{applied_in, refusal_in}
 use Rattle.warehouse.specs.declared.refused.Applied.{Applied}
@@ -21,7 +21,7 @@ state-left old new (Err refused) read gives kept known = go (refusal_in refused)
     go (Some refusal) g k = kept ∙ sym (ap (state_after old) g)
 
 -- the state after a file that wasn't refused for want of memory
-pub file-left : (old new : State) (kind : Kind) (bytes text : List ℕ) (r : Result Applied Refused) → bytes ≡ text → Gives refusal_in (applied_in new) r (result old kind bytes) → OnErr r (new ≡ old)
+pub file-left : (old new : State) (kind : FileUse) (bytes text : List ℕ) (r : Result Applied Refused) → bytes ≡ text → Gives refusal_in (applied_in new) r (result old kind bytes) → OnErr r (new ≡ old)
     → IfErr r (λ refused. IsSome (refusal_in refused)) → new ≡ file_taken old kind text
 unfolding file_taken
 file-left old new kind bytes text r e gives kept known = rw (← e) (state-left old new r (result old kind bytes) gives kept known)

@@ -1,24 +1,15 @@
 -- What all rows come to, by the codes of their texts and by the texts.
 use Rattle.std.proofs.Common.{◌≡◌, ◌∙◌, ℕ, zero, suc, Bool, None, List, [], ◌∷◌, map, replicate, refl, sym, ap}
-use Rattle.std.specs.Prelude.{option_map}
 use Rattle.std.specs.Ordering.{eq_by_cmp, nat_cmp}
-use Rattle.cube_defs.specs.Cell.{Cell, cell_of}
-use Rattle.cube_defs.specs.Rows.{Row, agg_of, cov, meet_all}
+use Rattle.cube_defs.specs.Cell.{Cell}
+use Rattle.cube_defs.specs.Rows.{Row}
 use Rattle.cube_defs.specs.Text.{Text, text_eq}
-use Rattle.cube_laws.specs.Recoding.{AreKnown, RowsAreKnown, coded, coded_row}
-use Rattle.cube_laws.specs.Total.{agg_at, agg_some}
-use Rattle.tree_search.specs.Found.{Source, total_in}
+use Rattle.cube_laws.specs.Recoding.{AreKnown, RowsAreKnown, coded_cell, coded_row}
+use Rattle.cube_laws.specs.Total.{agg_at}
 use Rattle.value_dict.proofs.ToldCells.{total-coded}
 use Rattle.value_dict.specs.Told.{has_text, place_in}
 
-total-some : (measures : ℕ) (covered : List (Row ℕ)) → option_map (λ _. agg_of measures covered) (meet_all (eq_by_cmp nat_cmp) (map (λ row. cell_of row.tuple) covered)) ≡ agg_some measures covered
-total-some measures [] = refl
-total-some measures (r ∷ rows) = refl
-
-pub total-at : (source : Source) (cell : Cell ℕ) → total_in source cell ≡ agg_at (eq_by_cmp nat_cmp) source.measures source.rows cell
-total-at source cell = total-some source.measures (cov (eq_by_cmp nat_cmp) source.rows cell)
-
-any-coded : (codes : ℕ → Text → ℕ) (k n : ℕ) → coded codes k (replicate n None) ≡ replicate n None
+any-coded : (codes : ℕ → Text → ℕ) (k n : ℕ) → coded_cell codes k (replicate n None) ≡ replicate n None
 any-coded codes k zero = refl
 any-coded codes k (suc n) = ap (λ (c : Cell ℕ). None ∷ c) (any-coded codes (suc k) n)
 

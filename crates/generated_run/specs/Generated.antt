@@ -12,7 +12,7 @@ use Rattle.qc_schema.specs.Schema.{Layout}
 use Rattle.qc_schema.specs.declared.limits.TheConstants.{DEFAULT_NODES}
 use Rattle.row_generator.specs.Generator.{after_rows, base_text, batch_rows, batch_text}
 use Rattle.row_generator.specs.declared.files.TheConstants.{BATCHES}
-use Rattle.warehouse.specs.Batch.{Applied, Apply, Kind, Load, Refusal, result}
+use Rattle.warehouse.specs.Batch.{Applied, Apply, FileUse, Load, Refusal, result}
 use Rattle.warehouse.specs.State.{State, empty}
 
 -- the schema of the generated files
@@ -32,7 +32,7 @@ abbrev pub state_after : State → Result Applied Refusal → State
 state_after state (Ok applied) = applied.state
 state_after state (Err refusal) = state
 
-unfoldable pub file_taken : State → Kind → List ℕ → State
+unfoldable pub file_taken : State → FileUse → List ℕ → State
 file_taken state kind bytes = state_after state (result state kind bytes)
 
 -- the state after so many batches, of which the first has so many before it, from the state of the draws before them

@@ -1,5 +1,5 @@
 // The record that tells a generated warehouse.
-ghost use Rattle.std.specs.Prelude.{OnOk, decimal, length, option_map, ◌++◌, ◌<◌, ◌∷◌, ◌≡◌, ◌≤◌};
+ghost use Rattle.std.specs.Prelude.{OnOk, decimal, option_map, ◌++◌, ◌<◌, ◌∷◌, ◌≡◌, ◌≤◌};
 ghost use Rattle.aggregates.specs.Texts.{amount_text};
 ghost use Rattle.aggregates.specs.Views.{agg_in};
 ghost use Rattle.generated_run.specs.Generated.{field_text, record_text, sum_in, total_of};

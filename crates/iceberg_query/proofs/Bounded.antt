@@ -8,18 +8,17 @@ use Rattle.std.proofs.Math.Seq.{take-suc}
 use Rattle.std.proofs.lemmas.List.Elements.{All-get_or, All-push}
 use Rattle.std.proofs.Math.Nat.{mul-le-mul, mul-le-mul_left, one-le-pow, pow-le-pow_right, pow-suc}
 use native.Mathlib.Numerals.{unary_clauses}
-use Rattle.cube_defs.specs.Cell.{Cell}
 use Rattle.cube_defs.specs.Tree.{Node, Tree}
 use Rattle.cell_core.specs.declared.cell.NodeNo.{NodeNo}
-use Rattle.cells_below.specs.Numbers.{values}
 use Rattle.qc_arena.specs.Seen.{number, record_at, record_or}
-use Rattle.tree_search.specs.Found.{IsFrom, Source}
+use Rattle.tree_search.specs.Found.{IsTreeOf, TreeRows}
 use Rattle.iceberg_query.specs.Below as seen
 use Rattle.iceberg_query.specs.declared.ask.Ask.{Ask}
 use Rattle.iceberg_query.specs.declared.hits.Valued.{Valued}
 use Rattle.iceberg_query.specs.Hits.{AreClasses, IsValued, class_at, valued_of}
 use Rattle.iceberg_query.proofs.Reached.{wide}
 use Rattle.lower_bounds.proofs.Counted.{few_values}
+use Rattle.cube_laws.specs.Parts.{value_count}
 
 pub class_there : (tree : Tree ℕ) (k : ℕ) → IsSome (record_at tree k).class → IsSome (numbers.get tree k)
 class_there tree k t = go (numbers.get tree k) refl
@@ -51,11 +50,11 @@ class_steps n v l =
     let d : 32 * (n + 1) ^ 2 * 2 ^ n ≡ 32 * ((n + 1) ^ 2 * 2 ^ n) = grind arith in
     omega (arith, a, b, c, d)
 
-pub steps_within : (dims : ℕ) (tree : Tree ℕ) (source : Source) (h : IsFrom dims tree source) (k : ℕ) (old up read new long : ℕ) → IsSome (record_at tree k).class → long ≡ dims → up ≤ old + (2 * long + 2) → read ≡ up + 1
-    → new ≤ read + 16 * (dims + 1) ^ 2 * 2 ^ values (record_at tree k).cell → new ≤ old + 32 * (dims + 1) ^ 2 * 2 ^ dims
+pub steps_within : (dims : ℕ) (tree : Tree ℕ) (source : TreeRows) (h : IsTreeOf dims tree source) (k : ℕ) (old up read new long : ℕ) → IsSome (record_at tree k).class → long ≡ dims → up ≤ old + (2 * long + 2) → read ≡ up + 1
+    → new ≤ read + 16 * (dims + 1) ^ 2 * 2 ^ value_count (record_at tree k).cell → new ≤ old + 32 * (dims + 1) ^ 2 * 2 ^ dims
 steps_within dims tree source h k old up read new long t same a b c =
-    let few : values (record_at tree k).cell ≤ dims = (let v = few_values (record_at tree k).cell in let w = wide dims tree source h k (class_there tree k t) in omega (arith, v, w)) in
-    let s = class_steps dims (values (record_at tree k).cell) few in
+    let few : value_count (record_at tree k).cell ≤ dims = (let v = few_values (record_at tree k).cell in let w = wide dims tree source h k (class_there tree k t) in omega (arith, v, w)) in
+    let s = class_steps dims (value_count (record_at tree k).cell) few in
     omega (arith, s, same, a, b, c)
 
 pub class_of_item : (tree : Tree ℕ) (nodes : List NodeNo) (i : ℕ) (d : NodeNo) → i < length nodes → AreClasses tree (seen.numbers nodes) → IsSome (record_at tree (get_or nodes i d).0).class
@@ -72,7 +71,7 @@ numbers-append [] ys = refl
 numbers-append (x ∷ xs) ys = ap (λ ks. x.0 ∷ ks) (numbers-append xs ys)
 
 -- one class more
-pub hits_more : (source : Source) (tree : Tree ℕ) (before now : List Valued) (v : Valued) (nodes : List NodeNo) (i : ℕ) (d : NodeNo) → i < length nodes → now ≡ before ++ v ∷ [] → map valued_of before ≡ map (class_at source tree) (seen.numbers (take i nodes))
+pub hits_more : (source : TreeRows) (tree : Tree ℕ) (before now : List Valued) (v : Valued) (nodes : List NodeNo) (i : ℕ) (d : NodeNo) → i < length nodes → now ≡ before ++ v ∷ [] → map valued_of before ≡ map (class_at source tree) (seen.numbers (take i nodes))
     → valued_of v ≡ class_at source tree (get_or nodes i d).0 → map valued_of now ≡ map (class_at source tree) (seen.numbers (take (i + 1) nodes))
 hits_more source tree before now v nodes i d l e is one =
     let next : suc i ≡ i + 1 = omega arith in

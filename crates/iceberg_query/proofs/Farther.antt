@@ -10,6 +10,7 @@ use Rattle.cube_defs.specs.Rows.{Agg, Fraction}
 use Rattle.cube_defs.specs.Answers as answers
 use Rattle.cube_defs.specs.Answers.{part, value_of}
 use Rattle.cube_laws.proofs.Divisors.{lowest_terms-positive, lowest_terms-value}
+use Rattle.cube_laws.proofs.FractionOrder.{swap}
 use Rattle.aggregates.proofs.Digits.{ten-pos}
 use Rattle.aggregates.specs.declared.kind.AggKind.TheVariants as kinds
 use Rattle.aggregates.specs.Views.{IsThere, kind_in}
@@ -18,7 +19,7 @@ use Rattle.iceberg_query.specs.declared.ask.Bound.{Bound}
 use Rattle.iceberg_query.specs.declared.ask.Bound.TheVariants as bounds
 use Rattle.iceberg_query.specs.Asked.{bound_in}
 use Rattle.iceberg_query.specs.Reach.{IsOfSome, IsWithin, farther, is_reached, outer}
-use Rattle.iceberg_query.proofs.Fractions.{IsAtMost, at_most_of, ge_rises, le_falls, lowest_at_most, swap, times_le, twice}
+use Rattle.iceberg_query.proofs.Fractions.{IsAtMost, at_most_of, ge_rises, le_falls, lowest_at_most, times_le, twice}
 use Rattle.iceberg_query.proofs.Parts.{times_more}
 
 neg_low : (x : ℕ) → neg_ℤ (pos x) ≤ℤ pos 0

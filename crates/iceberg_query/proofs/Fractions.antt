@@ -1,41 +1,32 @@
 -- The order of fractions, without rounding.
-use Rattle.std.proofs.Common.{◌≡◌, ℕ, zero, suc, ◌+◌, ◌*◌, ◌<◌, ℤ, pos, negsuc, neg_ℤ, ◌*ℤ◌, ◌<ℤ◌, true, refl, sym, ap, ◌∙◌, arith}
+use Rattle.std.proofs.Common.{◌≡◌, ℕ, suc, ◌+◌, ◌*◌, ◌<◌, ℤ, pos, negsuc, neg_ℤ, ◌*ℤ◌, ◌<ℤ◌, true, refl, sym, ap, ◌∙◌, arith}
 use Rattle.std.specs.Int.Signed.{◌≤ℤ◌}
 use Rattle.std.specs.Ordering.{int_cmp, is_ge, is_le}
-use Rattle.std.proofs.Math.Nat.{mul_assoc, mul_comm, mul-le-mul_right, mul-lt-mul_of_pos_right, mul-pos}
+use Rattle.std.proofs.Math.Nat.{mul_assoc, mul-le-mul_right, mul-pos}
 use Rattle.std.proofs.lemmas.Cmp.{by_ranked, int_ranked}
 use Rattle.std.proofs.lemmas.Int.{ints}
 use borrow.Author.Differences.{up, down, product_is}
 use Rattle.cube_defs.specs.Rows.{Fraction, lowest_terms}
 use Rattle.cube_defs.specs.Answers.{fraction_cmp}
-use Rattle.cube_laws.proofs.Divisors.{lowest_terms-value}
+use Rattle.cube_laws.proofs.Divisors.{lowest_terms-value, neg-mul}
+use Rattle.cube_laws.proofs.FractionOrder.{swap, mono}
 
 pub times_le : (a b : ℤ) (k : ℕ) → a ≤ℤ b → (a *ℤ pos k) ≤ℤ (b *ℤ pos k)
 times_le a b k q = omega (arith, ints, product_is a (pos k), product_is b (pos k), mul-le-mul_right {m = up a + down b} {n = up b + down a} k (omega (arith, ints)))
-
-times_lt : (a b : ℤ) (k : ℕ) → 0 < k → a <ℤ b → (a *ℤ pos k) <ℤ (b *ℤ pos k)
-times_lt a b k p q = omega (arith, ints, product_is a (pos k), product_is b (pos k), mul-lt-mul_of_pos_right {m = up a + down b} {n = up b + down a} {k = k} (omega (arith, ints)) p)
 
 cancels : (a b : ℤ) (k : ℕ) → 0 < k → (a *ℤ pos k) ≤ℤ (b *ℤ pos k) → a ≤ℤ b
 cancels a b k p h = by_ranked (a <ℤ b) (a ≡ b) (b <ℤ a) (int_cmp a b) (int_ranked a b (int_cmp a b) refl)
     (λ _ l. omega (arith, ints, l))
     (λ _ e. omega (arith, ints, e))
-    (λ _ l. let r = times_lt b a k p l in absurd (omega (arith, ints, r, h)))
-
-neg_times : (x n : ℕ) → neg_ℤ (pos x) *ℤ pos n ≡ neg_ℤ (pos (x * n))
-neg_times zero n = let e : 0 * n ≡ 0 = omega arith in ap pos e ∙ ap (λ x. neg_ℤ (pos x)) (sym e)
-neg_times (suc x) n = refl
+    (λ _ l. let r = mono b a k p l in absurd (omega (arith, ints, r, h)))
 
 pub twice : (a : ℤ) (m n : ℕ) → (a *ℤ pos m) *ℤ pos n ≡ a *ℤ pos (m * n)
 twice (pos a) m n = ap pos (mul_assoc a m n)
-twice (negsuc a) m n = neg_times (suc a * m) n ∙ ap (λ x. neg_ℤ (pos x)) (mul_assoc (suc a) m n)
+twice (negsuc a) m n = neg-mul (suc a * m) n ∙ ap (λ x. neg_ℤ (pos x)) (mul_assoc (suc a) m n)
 
 -- the factors in another order
 regroup : (z : ℤ) (a b c d : ℕ) → a * b ≡ c * d → (z *ℤ pos a) *ℤ pos b ≡ (z *ℤ pos c) *ℤ pos d
 regroup z a b c d e = twice z a b ∙ ap (λ (m : ℕ). z *ℤ pos m) e ∙ sym (twice z c d)
-
-pub swap : (z : ℤ) (a b : ℕ) → (z *ℤ pos a) *ℤ pos b ≡ (z *ℤ pos b) *ℤ pos a
-swap z a b = regroup z a b b a (mul_comm a b)
 
 ge_le : (a b : ℤ) → is_ge (int_cmp a b) ≡ true → b ≤ℤ a
 ge_le a b h = by_ranked (a <ℤ b) (a ≡ b) (b <ℤ a) (int_cmp a b) (int_ranked a b (int_cmp a b) refl)

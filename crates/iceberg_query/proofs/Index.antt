@@ -1,15 +1,15 @@
 -- The nodes of the entries that qualify are those of the classes that are asked for.
-use Rattle.std.proofs.Common.{◌≡◌, ℕ, Bool, true, false, cond, Option, Some, None, List, [], ◌∷◌, map, filter, refl, sym, ap, subst, ◌∙◌, nat_eq, true≢false, arith}
+use Rattle.std.proofs.Common.{◌≡◌, ℕ, Bool, true, false, cond, Option, Some, None, List, [], ◌∷◌, map, filter, refl, sym, ap, subst, ◌∙◌, nat_eq, true≢false}
 use Rattle.std.specs.Prelude.{IsSome, IfSome}
 use Rattle.std.specs.Ordering.{is_ge, is_le}
 use Rattle.std.specs.FinMap as numbers
-use Rattle.std.specs.List.{AllByRecursion}
+use Rattle.std.specs.List.{AllByRecursion, IsDistinct}
 use Rattle.std.specs.List.Sorted.{IsPermutation}
 use Rattle.std.proofs.lemmas.List.Sorted.{IsPermutation-map, IsPermutation-reverse, IsPermutation-sym}
 use Rattle.cube_defs.specs.Rows.{Agg, Fraction}
 use Rattle.cube_defs.specs.Tree.{Node, Tree}
 use Rattle.cube_defs.specs.Answers as answers
-use Rattle.cube_laws.specs.Lists.{Among, Once}
+use Rattle.cube_laws.specs.Lists.{Among}
 use Rattle.cube_laws.proofs.Lists.{among_filter, among_map, filter_among, map_among}
 use Rattle.cube_laws.proofs.Orders.{nat_eq-turned}
 use Rattle.aggregates.specs.Views.{fraction_in, kind_in, ratio_in}
@@ -36,7 +36,8 @@ picked_permutation tree ask ks ls p a = record {
   each = λ k. (λ m. (a.each k).0 (among_permutation ks ls p k m), λ q. among_permutation ls ks (IsPermutation-sym ks ls p) k ((a.each k).1 q));
 }
 
-once_passing : (test : Entry → Bool) (es : List Entry) → Once nat_eq (map node_of es) → Once nat_eq (map node_of (filter test es))
+once_passing : (test : Entry → Bool) (es : List Entry) → IsDistinct nat_eq (map node_of es) → IsDistinct nat_eq (map node_of (filter test es))
+unfolding IsDistinct
 once_passing test [] h = tt
 once_passing test (e ∷ es) h = go (test e) (once_passing test es h.1)
   where
@@ -48,7 +49,7 @@ once_passing test (e ∷ es) h = go (test e) (once_passing test es h.1)
         by true r = (a.0, r)
         by false r = r
 
-    go : (b : Bool) → Once nat_eq (map node_of (filter test es)) → Once nat_eq (map node_of (cond b (e ∷ filter test es) (filter test es)))
+    go : (b : Bool) → IsDistinct nat_eq (map node_of (filter test es)) → IsDistinct nat_eq (map node_of (cond b (e ∷ filter test es) (filter test es)))
     go true r = (all es h.0, r)
     go false r = r
 

@@ -1,7 +1,7 @@
 pub mod Walked
 pub mod Measures
 pub mod Reached
-pub mod Once
+pub mod DistinctClasses
 pub mod Ordered
 pub mod Bounded
 pub mod Picks

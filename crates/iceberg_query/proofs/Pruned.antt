@@ -8,13 +8,13 @@ use Rattle.cube_defs.specs.Cell.{Cell, cell_of, depth, leq}
 use Rattle.cube_defs.specs.Rows.{Agg, Row, agg, agg_of, closure, cov, covers, is_class, meet_all}
 use Rattle.cube_defs.specs.Tree.{Tree}
 use Rattle.cube_defs.specs.Answers as answers
-use Rattle.cube_laws.proofs.Cells.{keep-leq}
+use Rattle.cube_laws.proofs.Cells.{cell_front-leq}
 use Rattle.cube_laws.proofs.Counts.{cov_above}
 use Rattle.cube_laws.proofs.Lists.{all_from, filter_none}
 use Rattle.aggregates.specs.declared.agg.Agg.{Agg as Total}
 use Rattle.aggregates.specs.Views.{IsThere, agg_in}
 use Rattle.qc_arena.specs.Seen.{record_at}
-use Rattle.tree_search.specs.Found.{IsFrom, Source}
+use Rattle.tree_search.specs.Found.{IsTreeOf, TreeRows}
 use Rattle.iceberg_query.specs.declared.ask.Ask.{Ask}
 use Rattle.iceberg_query.specs.Asked.{ask_in}
 use Rattle.iceberg_query.specs.Below.{below, is_wanted, wanted}
@@ -28,7 +28,7 @@ and_false : (b : Bool) → (b && false) ≡ false
 and_false true = refl
 and_false false = refl
 
-module _ (dims : ℕ) (tree : Tree ℕ) (source : Source) (h : IsFrom dims tree source) where
+module _ (dims : ℕ) (tree : Tree ℕ) (source : TreeRows) (h : IsTreeOf dims tree source) where
   abbrev cell : ℕ → Cell ℕ
   cell k = (record_at tree k).cell
 
@@ -43,7 +43,7 @@ module _ (dims : ℕ) (tree : Tree ℕ) (source : Source) (h : IsFrom dims tree 
   -- a node below another covers some of its rows
   some_below : (k l : ℕ) → IsBelow dims tree source h k l → IsOfSome source.measures (agg (eq_by_cmp nat_cmp) source.measures source.rows (cell k)) (agg (eq_by_cmp nat_cmp) source.measures source.rows (cell l))
   some_below k l b =
-      let over : leq (eq_by_cmp nat_cmp) (cell k) (cell l) ≡ true = subst (λ c. leq (eq_by_cmp nat_cmp) c (cell l) ≡ true) b.begins (keep-leq code_equality (depth (cell k)) (cell l)) in
+      let over : leq (eq_by_cmp nat_cmp) (cell k) (cell l) ≡ true = subst (λ c. leq (eq_by_cmp nat_cmp) c (cell l) ≡ true) b.begins (cell_front-leq code_equality (depth (cell k)) (cell l)) in
       let e : filter (covers (eq_by_cmp nat_cmp) (cell l)) (cov (eq_by_cmp nat_cmp) source.rows (cell k)) ≡ cov (eq_by_cmp nat_cmp) source.rows (cell l) = cov_above code_equality source.rows (cell k) (cell l) over in
       subst (λ rows. IsOfSome source.measures (agg (eq_by_cmp nat_cmp) source.measures source.rows (cell k)) (agg_of source.measures rows)) e
       (of_some source.measures (cov (eq_by_cmp nat_cmp) source.rows (cell k)) (covers (eq_by_cmp nat_cmp) (cell l)) (subst (λ rows. 1 ≤ length rows) (sym e) (covers_some l b.there)))

@@ -1,26 +1,25 @@
 -- The classes of nodes with the texts of their codes.
-use Rattle.std.proofs.Common.{◌≡◌, ◌↔◌, inl, inr, ℕ, suc, Bool, true, false, List, [], ◌∷◌, Some, length, map, refl, sym, ap, ap₂, subst, ◌∙◌, arith, true≢false, nat_eq, eq-eqb}
+use Rattle.std.proofs.Common.{◌≡◌, ◌↔◌, inl, inr, ℕ, Bool, true, false, List, [], ◌∷◌, Some, length, map, refl, sym, ap, ap₂, subst, ◌∙◌, arith, true≢false, nat_eq, eq-eqb}
 use Rattle.std.specs.Prelude.{IsSome}
-use Rattle.std.specs.declared.cmp.Ordering.{Ordering}
-use Rattle.std.specs.declared.cmp.Ordering.TheVariants.{Less, Equal, Greater}
+use Rattle.std.specs.declared.cmp.Ordering.TheVariants.{Less, Equal}
 use Rattle.std.specs.Ordering.{nat_cmp, eq_by_cmp, is_eq, ordering_reverse, ordering_then}
 use Rattle.std.specs.Cmp.{nat_cmp_total}
 use Rattle.std.specs.Cmp.Lexicographic.{lists_total}
 use Rattle.std.specs.FinMap as numbers
-use Rattle.std.specs.List.{All, AllByRecursion}
-use Rattle.std.specs.List.Sorted.{IsPermutation, IsSortedBy}
+use Rattle.std.specs.List.{All, AllByRecursion, IsDistinct}
+use Rattle.std.specs.List.Sorted.{IsPermutation, IsSortedBy, IsStrictlySortedBy}
 use Rattle.std.proofs.lemmas.Bool.{and_from, and_parts, false_from_ne_true}
 use Rattle.std.proofs.lemmas.List.Elements.{All-cons, All-from_recursion}
 use Rattle.std.proofs.lemmas.List.FromFn.{length-map-range_with_len}
 use Rattle.std.proofs.lemmas.List.Sorted.{All-permutation, IsPermutation-sym}
 use Rattle.std.proofs.lemmas.List.{length-map}
 use Rattle.cube_defs.specs.Text.{Text, text_cmp}
-use Rattle.cube_defs.specs.Cell.{Cell, cell_cmp, depth, keep}
+use Rattle.cube_defs.specs.Cell.{Cell, cell_cmp, depth, cell_front}
 use Rattle.cube_defs.specs.Rows.{Row, Agg, agg, amounts_of, cov, is_class, part_of}
 use Rattle.cube_defs.specs.Tree.{Tree, cell_at, classes}
 use Rattle.cube_defs.specs.Answers as answers
-use Rattle.cube_laws.specs.Lists.{Among, Once, Rises}
-use Rattle.cube_laws.specs.Recoding.{AreKnown, RowsAreKnown, TellsApart, coded}
+use Rattle.cube_laws.specs.Lists.{Among}
+use Rattle.cube_laws.specs.Recoding.{AreKnown, RowsAreKnown, TellsApart, coded_cell}
 use Rattle.cube_laws.proofs.Cells.{IsEquality}
 use Rattle.cube_laws.proofs.Closures.{is_class-is}
 use Rattle.cube_laws.proofs.Covered.{cell_anti}
@@ -37,8 +36,8 @@ use Rattle.aggregates.specs.Order.{ratio_cmp}
 use Rattle.aggregates.specs.Views.{fraction_in, kind_in}
 use Rattle.cell_core.specs.declared.cell.NodeNo.{NodeNo}
 use Rattle.qc_arena.specs.Seen.{number, record_at}
-use Rattle.tree_laws.proofs.Fronts.{keep-beyond}
-use Rattle.tree_search.specs.Found.{IsFrom, Source}
+use Rattle.tree_laws.proofs.Fronts.{cell_front-beyond}
+use Rattle.tree_search.specs.Found.{IsTreeOf, TreeRows}
 use Rattle.tree_search.proofs.Walked.{cell_of, cell_there}
 use Rattle.value_dict.specs.TextLists.{IsDictionary, TextLists}
 use Rattle.value_dict.specs.Recoded.{has_code, text_in, told_rows}
@@ -65,7 +64,7 @@ use Rattle.iceberg_query.proofs.Sorted.{all_among, among_permutation, flips, onc
 
 -- with the texts of codes by dimension, as the laws of recoding take them
 abbrev told_cell : TextLists → Cell ℕ → Cell Text
-told_cell dict c = coded (text_in dict.lists) 0 c
+told_cell dict c = coded_cell (text_in dict.lists) 0 c
 
 abbrev told_hit : TextLists → answers.ClassHit ℕ → answers.ClassHit Text
 told_hit dict hit = record { upper = told_cell dict hit.upper; agg = hit.agg; lowers = map (told_cell dict) hit.lowers }
@@ -84,7 +83,7 @@ told_lowers : (dict : TextLists) (n : ℕ) (cells : List (Cell ℕ)) → n ≡ l
 told_lowers dict n [] e h = refl
 told_lowers dict n (c ∷ cells) e h = ap₂ (λ (x : Cell Text) (xs : List (Cell Text)). x ∷ xs) (told-known dict.lists c (omega (arith, e, h.0.1))) (told_lowers dict n cells e h.1)
 
-module _ (dims : ℕ) (tree : Tree ℕ) (dict : TextLists) (ask : Ask) (source : Source) (h : IsFrom dims tree source) (dictionary : IsDictionary dict) (rows_known : RowsAreKnown (has_code dict.lists) source.rows) (ks : List ℕ) (picked : ArePicked tree ask ks) (same_dims : length dict.lists ≡ dims) where
+module _ (dims : ℕ) (tree : Tree ℕ) (dict : TextLists) (ask : Ask) (source : TreeRows) (h : IsTreeOf dims tree source) (dictionary : IsDictionary dict) (rows_known : RowsAreKnown (has_code dict.lists) source.rows) (ks : List ℕ) (picked : ArePicked tree ask ks) (same_dims : length dict.lists ≡ dims) where
   tells : TellsApart (has_code dict.lists) (text_in dict.lists)
   tells = texts-apart dict.lists dictionary.distinct
 
@@ -133,11 +132,11 @@ module _ (dims : ℕ) (tree : Tree ℕ) (dict : TextLists) (ask : Ask) (source :
         ),
     λ m.
         let p = (asked-is (lists_total nat_cmp_total) (numbers.slice_cmp-IsAntisymmetric numbers.nat_cmp-IsAntisymmetric) source.measures rows (ask_in ask) x).0 m in
-        let c : (c : Cell ℕ) × Among c (classes nat_cmp source.rows) × (p.0 ≡ coded (text_in dict.lists) 0 c)
+        let c : (c : Cell ℕ) × Among c (classes nat_cmp source.rows) × (p.0 ≡ coded_cell (text_in dict.lists) 0 c)
         = (classes-coded nat_cmp_total numbers.nat_cmp-IsAntisymmetric (lists_total nat_cmp_total) (numbers.slice_cmp-IsAntisymmetric numbers.nat_cmp-IsAntisymmetric) tells source.rows rows_known p.0).0 p.1 in
         let class : is_class (eq_by_cmp nat_cmp) source.rows c.0 ≡ true = (classes-is nat_cmp_total numbers.nat_cmp-IsAntisymmetric source.rows dims h.wide c.0).0 c.1 in
-        let whole : keep (depth c.0) c.0 ≡ c.0 = keep-beyond (depth c.0) c.0 (omega arith) in
-        let f : (k : ℕ) × (cell_at tree k ≡ Some (keep (depth c.0) c.0)) = h.canonical.all (keep (depth c.0) c.0) (class_fronts code_equality source.rows (depth c.0) c.0 class) in
+        let whole : cell_front (depth c.0) c.0 ≡ c.0 = cell_front-beyond (depth c.0) c.0 (omega arith) in
+        let f : (k : ℕ) × (cell_at tree k ≡ Some (cell_front (depth c.0) c.0)) = h.canonical.all (cell_front (depth c.0) c.0) (class_fronts code_equality source.rows (depth c.0) c.0 class) in
         let at : cell_at tree f.0 ≡ Some c.0 = f.1 ∙ ap (λ d. Some d) whole in
         let s = there tree f.0 c.0 at in
         let own : cell f.0 ≡ c.0 = cell_of tree f.0 c.0 at in
@@ -167,7 +166,8 @@ module _ (dims : ℕ) (tree : Tree ℕ) (dict : TextLists) (ask : Ask) (source :
       let same : cell k ≡ cell l = coded-apart code_equality text_law tells (cell k) (cell l) f.known g.known (ap (told_cell dict) (sym own) ∙ told ∙ ap (told_cell dict) other) in
       h.canonical.once k l (cell l) (cell_there tree k f.there ∙ ap (λ c. Some c) same) (cell_there tree l g.there)
 
-  once_values : (vs : List Valued) (ls : List ℕ) → map valued_of vs ≡ map (class_at source tree) ls → Once nat_eq ls → ((k : ℕ) → Among k ls → IsFound k) → Once ties vs
+  once_values : (vs : List Valued) (ls : List ℕ) → map valued_of vs ≡ map (class_at source tree) ls → IsDistinct nat_eq ls → ((k : ℕ) → Among k ls → IsFound k) → IsDistinct ties vs
+  unfolding IsDistinct
   once_values [] ls e o f = tt
   once_values (v ∷ vs) [] e o f = cc
   once_values (v ∷ vs) (k ∷ ls) e o f =
@@ -193,7 +193,8 @@ module _ (dims : ℕ) (tree : Tree ℕ) (dict : TextLists) (ask : Ask) (source :
       go bounds.AtLeast = ap₂ (λ p q. ordering_then (ordering_reverse (answers.fraction_cmp p q)) (cell_cmp text_cmp (told_upper dict.lists x) (told_upper dict.lists y))) (sym a) (sym b)
       go bounds.AtMost = ap₂ (λ p q. ordering_then (answers.fraction_cmp p q) (cell_cmp text_cmp (told_upper dict.lists x) (told_upper dict.lists y))) (sym a) (sym b)
 
-  told_rises : (vs : List Valued) → ((v : Valued) → Among v vs → IsValued ask v) → Rises (valued_cmp dict.lists ask.bound) vs → Rises (answers.answer_cmp text_cmp (ask_in ask)) (map (told_hit dict) (map valued_of vs))
+  told_rises : (vs : List Valued) → ((v : Valued) → Among v vs → IsValued ask v) → IsStrictlySortedBy (valued_cmp dict.lists ask.bound) vs → IsStrictlySortedBy (answers.answer_cmp text_cmp (ask_in ask)) (map (told_hit dict) (map valued_of vs))
+  unfolding IsStrictlySortedBy
   told_rises [] a r = tt
   told_rises (v ∷ vs) a r = (all vs (λ w m. a w (inr m)) r.0, told_rises vs (λ w m. a w (inr m)) r.1)
     where
@@ -214,7 +215,7 @@ module _ (dims : ℕ) (tree : Tree ℕ) (dict : TextLists) (ask : Ask) (source :
       (told_lowers dict (length (cell k)) (answers.lower_bounds nat_cmp source.rows (cell k)) (long ∙ sym same_dims)
       (lowers-known nat_cmp_total numbers.nat_cmp-IsAntisymmetric (lists_total nat_cmp_total) (numbers.slice_cmp-IsAntisymmetric numbers.nat_cmp-IsAntisymmetric) tells dims source.rows rows_known h.wide (cell k) f.known long))
 
-  is_told_node : (k : ℕ) → IsFound k → telling.IsTold dict.lists source.measures (class_at source tree k)
+  is_told_node : (k : ℕ) → IsFound k → telling.IsTellableClass dict.lists source.measures (class_at source tree k)
   is_told_node k f =
       let long = wide dims tree source h k f.there in
       record {
@@ -225,7 +226,7 @@ module _ (dims : ℕ) (tree : Tree ℕ) (dict : TextLists) (ask : Ask) (source :
       }
 
   abbrev IsToldClass : Class → Type 0
-  IsToldClass class = telling.IsTold dict.lists source.measures (hit_in class)
+  IsToldClass class = telling.IsTellableClass dict.lists source.measures (hit_in class)
 
   -- each class of the answer can be told
   pub iceberg_is_told : (found_values values : List Valued) (answer : List Class) → map valued_of found_values ≡ map (class_at source tree) ks → IsPermutation found_values values → answer ≡ map hits.class_of values → All IsToldClass answer
@@ -235,7 +236,7 @@ module _ (dims : ℕ) (tree : Tree ℕ) (dict : TextLists) (ask : Ask) (source :
       one : (v : Valued) → Among (valued_of v) (map (class_at source tree) ks) → IsToldClass (hits.class_of v)
       one v m =
           let b : (k : ℕ) × Among k ks × (valued_of v ≡ class_at source tree k) = among_map (class_at source tree) (valued_of v) ks m in
-          subst (telling.IsTold dict.lists source.measures) (sym b.2) (is_told_node b.0 (found b.0 b.1))
+          subst (telling.IsTellableClass dict.lists source.measures) (sym b.2) (is_told_node b.0 (found b.0 b.1))
 
       each : (vs : List Valued) → ((v : Valued) → Among v vs → Among (valued_of v) (map (class_at source tree) ks)) → All IsToldClass (map hits.class_of vs)
       each [] f = λ k d l. absurd (omega arith)
@@ -273,6 +274,6 @@ module _ (dims : ℕ) (tree : Tree ℕ) (dict : TextLists) (ask : Ask) (source :
             subst (λ y. Among y (map (told_hit dict) (map valued_of values))) (sym (a.2 ∙ ap (told_hit dict) b.2)) (map_among (told_hit dict) (valued_of b.0) (map valued_of values) (map_among valued_of b.0 values c)),
       ))
 
-pub hits_count : (source : Source) (tree : Tree ℕ) (found_values values : List Valued) (answer : List Class) (nodes : List NodeNo) → map valued_of found_values ≡ map (class_at source tree) (map number nodes) → length values ≡ length found_values → answer ≡ map hits.class_of values → length answer ≡ length nodes
+pub hits_count : (source : TreeRows) (tree : Tree ℕ) (found_values values : List Valued) (answer : List Class) (nodes : List NodeNo) → map valued_of found_values ≡ map (class_at source tree) (map number nodes) → length values ≡ length found_values → answer ≡ map hits.class_of values → length answer ≡ length nodes
 hits_count source tree found_values values answer nodes e l is =
     ap length is ∙ length-map values hits.class_of ∙ l ∙ sym (length-map found_values valued_of) ∙ ap length e ∙ length-map (map number nodes) (class_at source tree) ∙ length-map nodes number

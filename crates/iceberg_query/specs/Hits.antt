@@ -9,7 +9,7 @@ use Rattle.aggregates.specs.Views.{agg_in, kind_in, ratio_in}
 use Rattle.lower_bounds.specs.Classes.{hit_in}
 use Rattle.lower_bounds.specs.declared.class.Class.{Class}
 use Rattle.qc_arena.specs.Seen.{record_at}
-use Rattle.tree_search.specs.Found.{Source}
+use Rattle.tree_search.specs.Found.{TreeRows}
 use Rattle.value_dict.specs.Told.{told_hit}
 use Rattle.iceberg_query.specs.declared.ask.Ask.{Ask}
 use Rattle.iceberg_query.specs.declared.hits.Valued.{Valued}
@@ -21,7 +21,7 @@ abbrev pub valued_of : Valued → answers.ClassHit ℕ
 valued_of v = hit_in v.class
 
 -- the class of a node
-abbrev pub class_at : Source → Tree ℕ → ℕ → answers.ClassHit ℕ
+abbrev pub class_at : TreeRows → Tree ℕ → ℕ → answers.ClassHit ℕ
 class_at source tree k = answers.class_at nat_cmp source.measures source.rows (record_at tree k).cell
 
 -- each node is a class

@@ -5,7 +5,7 @@ use Rattle.std.specs.Ordering.{is_lt, ordering_then, ordering_reverse}
 use Rattle.cube_defs.specs.Cell as defs
 use Rattle.cube_defs.specs.Text.{Text, text_cmp}
 use Rattle.aggregates.specs.Order.{ratio_cmp}
-use Rattle.cube_laws.specs.Recoding.{coded}
+use Rattle.cube_laws.specs.Recoding.{coded_cell}
 use Rattle.value_dict.specs.Recoded.{text_in}
 use Rattle.iceberg_query.specs.declared.ask.Bound.{Bound}
 use Rattle.iceberg_query.specs.declared.ask.Bound.TheVariants as bounds
@@ -18,7 +18,7 @@ turned bounds.AtMost o = o
 
 -- a cell with the texts of its codes
 abbrev pub told_upper : List (List Text) → Valued → defs.Cell Text
-told_upper lists v = coded (text_in lists) 0 v.class.upper
+told_upper lists v = coded_cell (text_in lists) 0 v.class.upper
 
 abbrev pub valued_cmp : List (List Text) → Bound → Valued → Valued → Ordering
 valued_cmp lists bound x y = ordering_then (turned bound (ratio_cmp x.value y.value)) (defs.cell_cmp text_cmp (told_upper lists x) (told_upper lists y))

@@ -4,10 +4,10 @@ ghost use Rattle.cube_defs.specs.Answers as answers;
 ghost use Rattle.cube_defs.specs.Text.{text_cmp};
 ghost use Rattle.cube_laws.specs.Recoding.{RowsAreKnown};
 ghost use Rattle.lower_bounds.specs.Classes.{hit_in};
-ghost use Rattle.tree_search.specs.Found.{IsFrom, IsTree, Source};
+ghost use Rattle.tree_search.specs.Found.{IsTreeOf, IsTree, TreeRows};
 ghost use Rattle.value_dict.specs.Recoded.{has_code, told_rows};
 ghost use Rattle.value_dict.specs.TextLists.{IsDictionary};
-ghost use Rattle.value_dict.specs.Told.{IsTold};
+ghost use Rattle.value_dict.specs.Told.{IsTellableClass};
 ghost use Rattle.measure_index.specs.Index.{ranking_of};
 ghost use Rattle.measure_index.specs.Rankings.{IsIndex};
 ghost use Rattle.iceberg_query.specs.Asked.{HasMeasure, ask_in};
@@ -43,10 +43,11 @@ fn in_order<T: Nodes, L: Ledger>(
     requires picked { ArePicked (T.tree tree.now) ask.now (numbers nodes.now) }
     requires measure { HasMeasure (T.width tree.now) (T.tree tree.now) ask.now.kind }
     requires scale { ask.now.scale ≤ 6 }
-    ensures classes { (source : Source) → IsFrom (T.width tree.now) (T.tree tree.now) source → RowsAreKnown (has_code dict.now.lists) source.rows →
-        IfOk result (λ classes. told_classes dict.now.lists classes.items ≡ answers.iceberg text_cmp source.measures (told_rows dict.now.lists source.rows) (ask_in ask.now)) }
-    ensures told { (source : Source) → IsFrom (T.width tree.now) (T.tree tree.now) source → RowsAreKnown (has_code dict.now.lists) source.rows →
-        IfOk result (λ classes. All (λ class. IsTold dict.now.lists source.measures (hit_in class)) classes.items) }
+    ensures classes { (source : TreeRows) → IsTreeOf (T.width tree.now) (T.tree tree.now) source → RowsAreKnown (has_code dict.now.lists) source.rows →
+        IfOk result (λ classes. told_classes dict.now.lists classes.items
+        ≡ answers.iceberg text_cmp source.measures (told_rows dict.now.lists source.rows) (ask_in ask.now)) }
+    ensures told { (source : TreeRows) → IsTreeOf (T.width tree.now) (T.tree tree.now) source → RowsAreKnown (has_code dict.now.lists) source.rows →
+        IfOk result (λ classes. All (λ class. IsTellableClass dict.now.lists source.measures (hit_in class)) classes.items) }
     ensures count { IfOk result (λ classes. length classes.items ≡ length nodes.now) }
     ensures steps { steps.new ≤ steps.old + length nodes.now * (32 * (T.width tree.now + 1) ^ 2 * 2 ^ T.width tree.now) }
 {
@@ -124,10 +125,11 @@ pub fn iceberg<T: Nodes, L: Ledger>(
     requires dims { length dict.now.lists ≡ T.width tree.now }
     requires measure { HasMeasure (T.width tree.now) (T.tree tree.now) ask.now.kind }
     requires scale { ask.now.scale ≤ 6 }
-    ensures classes { (source : Source) → IsFrom (T.width tree.now) (T.tree tree.now) source → RowsAreKnown (has_code dict.now.lists) source.rows →
-        IfOk result (λ classes. told_classes dict.now.lists classes.items ≡ answers.iceberg text_cmp source.measures (told_rows dict.now.lists source.rows) (ask_in ask.now)) }
-    ensures told { (source : Source) → IsFrom (T.width tree.now) (T.tree tree.now) source → RowsAreKnown (has_code dict.now.lists) source.rows →
-        IfOk result (λ classes. All (λ class. IsTold dict.now.lists source.measures (hit_in class)) classes.items) }
+    ensures classes { (source : TreeRows) → IsTreeOf (T.width tree.now) (T.tree tree.now) source → RowsAreKnown (has_code dict.now.lists) source.rows →
+        IfOk result (λ classes. told_classes dict.now.lists classes.items
+        ≡ answers.iceberg text_cmp source.measures (told_rows dict.now.lists source.rows) (ask_in ask.now)) }
+    ensures told { (source : TreeRows) → IsTreeOf (T.width tree.now) (T.tree tree.now) source → RowsAreKnown (has_code dict.now.lists) source.rows →
+        IfOk result (λ classes. All (λ class. IsTellableClass dict.now.lists source.measures (hit_in class)) classes.items) }
     ensures steps { IsSome (ranking_of ask.now.kind index.now) →
         IfOk result (λ classes. steps.new ≤ steps.old + length classes.items * (32 * (T.width tree.now + 1) ^ 2 * 2 ^ T.width tree.now)) }
 {

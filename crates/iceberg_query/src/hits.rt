@@ -1,7 +1,7 @@
 // The classes of nodes, with the values that were asked for.
-ghost use Rattle.std.specs.Prelude.{All, IfOk, IsSome, OnOk, length, map, ◌*◌, ◌+◌, ◌^◌, ◌≡◌, ◌≤◌};
+ghost use Rattle.std.specs.Prelude.{All, IfOk, IsSome, length, map, ◌*◌, ◌+◌, ◌^◌, ◌≡◌, ◌≤◌};
 ghost use Rattle.qc_arena.specs.Seen.{record_at};
-ghost use Rattle.tree_search.specs.Found.{IsFrom, IsTree, Source};
+ghost use Rattle.tree_search.specs.Found.{IsTreeOf, IsTree, TreeRows};
 ghost use Rattle.iceberg_query.specs.Asked.{HasMeasure};
 ghost use Rattle.iceberg_query.specs.Below.{numbers};
 ghost use Rattle.iceberg_query.specs.Hits.{AreClasses, IsValued, class_at, class_of, valued_of};
@@ -34,7 +34,7 @@ fn value_at<T: Nodes, L: Ledger>(
     requires class { IsSome (record_at (T.tree tree.now) node.0).class }
     requires measure { HasMeasure (T.width tree.now) (T.tree tree.now) ask.now.kind }
     requires scale { ask.now.scale ≤ 6 }
-    ensures hit { (source : Source) → IsFrom (T.width tree.now) (T.tree tree.now) source →
+    ensures hit { (source : TreeRows) → IsTreeOf (T.width tree.now) (T.tree tree.now) source →
         IfOk result (λ v. valued_of v ≡ class_at source (T.tree tree.now) node.0) }
     ensures value { IfOk result (λ v. IsValued ask.now v) }
     ensures steps { steps.new ≤ steps.old + 32 * (T.width tree.now + 1) ^ 2 * 2 ^ T.width tree.now }
@@ -65,7 +65,7 @@ pub(crate) fn values_at<T: Nodes, L: Ledger>(
     requires classes { AreClasses (T.tree tree.now) (numbers nodes.now) }
     requires measure { HasMeasure (T.width tree.now) (T.tree tree.now) ask.now.kind }
     requires scale { ask.now.scale ≤ 6 }
-    ensures hits { (source : Source) → IsFrom (T.width tree.now) (T.tree tree.now) source →
+    ensures hits { (source : TreeRows) → IsTreeOf (T.width tree.now) (T.tree tree.now) source →
         IfOk result (λ vs. map valued_of vs.items ≡ map (class_at source (T.tree tree.now)) (numbers nodes.now)) }
     ensures values { IfOk result (λ vs. All (IsValued ask.now) vs.items) }
     ensures steps { steps.new ≤ steps.old + length nodes.now * (32 * (T.width tree.now + 1) ^ 2 * 2 ^ T.width tree.now) }

@@ -50,7 +50,8 @@ fn reaches(bound: Bound, reached: i128, wanted: i128) -> bool
 fn may_pass_by_sum(ask: &Ask, agg: &Agg, measure: u8) -> bool
     requires there { measure < agg.now.measures }
     requires scale { ask.now.scale ≤ 6 }
-    ensures { result ≡ false → (measures : ℕ) (some : defs.Agg) → measure < measures → IsOfSome measures (agg_in agg.now) some → is_sum_asked ask.now measure some ≡ false }
+    ensures { result ≡ false → (measures : ℕ) (some : defs.Agg) → measure < measures → IsOfSome measures (agg_in agg.now) some →
+        is_sum_asked ask.now measure some ≡ false }
 {
     let end = value_of(agg, outer_kind(ask.bound, measure), ask.scale);
     let all = times(end.num, agg.count);
@@ -69,7 +70,8 @@ fn may_pass_by_sum(ask: &Ask, agg: &Agg, measure: u8) -> bool
 pub(crate) fn may_pass(ask: &Ask, agg: &Agg) -> bool
     requires there { IsThere agg.now.measures ask.now.kind }
     requires scale { ask.now.scale ≤ 6 }
-    ensures { result ≡ false → (measures : ℕ) (some : defs.Agg) → IsThere measures ask.now.kind → IsOfSome measures (agg_in agg.now) some → answers.is_asked (ask_in ask.now) some ≡ false }
+    ensures { result ≡ false → (measures : ℕ) (some : defs.Agg) → IsThere measures ask.now.kind → IsOfSome measures (agg_in agg.now) some →
+        answers.is_asked (ask_in ask.now) some ≡ false }
 {
     match ask.kind {
         AggKind::Count => match ask.bound {

@@ -1,12 +1,12 @@
 -- The tree and the index of a small cube.
-use Rattle.std.proofs.Common.{◌≡◌, ℕ, zero, suc, ◌<◌, List, [], ◌∷◌, Option, Some, None, length, map, slice_get, refl, sym, ap, subst, ◌∙◌, arith}
+use Rattle.std.proofs.Common.{◌≡◌, ℕ, zero, suc, ◌<◌, List, [], ◌∷◌, Option, Some, None, length, map, slice_get, refl, sym, subst, ◌∙◌, arith}
 use Rattle.std.specs.Prelude.{IfSome, IsSome, slice_index_or}
 use Rattle.std.specs.FinMap as numbers
 use Rattle.std.specs.List.{All, AllByRecursion}
 use Rattle.std.specs.Ordering.{nat_cmp}
 use Rattle.cube_defs.specs.Rows as defs
 use Rattle.cube_defs.specs.Tree.{IsCanonical, Tree}
-use Rattle.cube_laws.proofs.Lists.{all_map}
+use Rattle.cube_laws.proofs.Lists.{all_map, got}
 use Rattle.aggregates.specs.Views.{IsThere, agg_in}
 use Rattle.aggregates.specs.declared.agg.Agg.{Agg}
 use Rattle.aggregates.specs.declared.kind.AggKind.{AggKind}
@@ -18,23 +18,18 @@ use Rattle.measure_index.specs.Index.{empty_ranking, ranking_of, scale_of, units
 use Rattle.measure_index.specs.Rankings.{Ranking}
 use Rattle.measure_index.proofs.Classes.{scale_found}
 use Rattle.qc_arena.specs.Changes.{AreNew, class_in}
-use Rattle.tree_search.specs.Found.{IsFrom}
+use Rattle.tree_search.specs.Found.{IsTreeOf}
 use Rattle.iceberg_query.proofs.Bounded.{class_there}
 use Rattle.iceberg_query.proofs.Index.{class_same}
 use Rattle.iceberg_query.proofs.Measures.{there_is_measure}
 use Rattle.iceberg_tests.specs.Cubes.{IsOfOneMeasure}
 
-pub from_table : (table : Places) (tree : Tree ℕ) → IsTable table → table.dims ≡ 3 → table.measures ≡ 1 → IsCanonical nat_cmp table.measures (rows_of table) tree → IsFrom 3 tree (record { measures = 1; rows = rows_of table })
+pub from_table : (table : Places) (tree : Tree ℕ) → IsTable table → table.dims ≡ 3 → table.measures ≡ 1 → IsCanonical nat_cmp table.measures (rows_of table) tree → IsTreeOf 3 tree (record { measures = 1; rows = rows_of table })
 from_table table tree is dims measures canonical = record {
   wide = subst (λ (n : ℕ). AllByRecursion (λ (row : defs.Row ℕ). length row.tuple ≡ n) (rows_of table)) dims
       (all_map (IsRow table.dims table.measures) (λ row. length row.tuple ≡ table.dims) (rows_of table) (λ row is. is.tuple) (all_recursion (IsRow table.dims table.measures) (rows_of table) is.rows.each));
   canonical = subst (λ (n : ℕ). IsCanonical nat_cmp n (rows_of table) tree) measures canonical;
 }
-
-got : {X : Type 0} (xs : List X) (k : ℕ) (d : X) → k < length xs → slice_get xs k ≡ Some (slice_index_or xs k d)
-got [] k d l = absurd (omega (arith, l))
-got (x ∷ xs) zero d l = refl
-got (x ∷ xs) (suc k) d l = got xs k d (omega (arith, l))
 
 pub have_measure : (tree : Tree ℕ) (from : ℕ → Option defs.Agg) (pairs : List (NodeNo × Agg)) → IsOfOneMeasure tree → AreNew from (λ q. class_in (numbers.get tree q)) pairs → (kind : AggKind) → IsThere 1 kind → HaveMeasure kind pairs
 have_measure tree from pairs source new kind there = λ k d l.
@@ -61,10 +56,6 @@ none_gone now was fresh = record {
   all = λ q a e. let bad : None ≡ Some a = sym (fresh q) ∙ e in cc;
   once = λ i j x y l e. absurd (nothing i x e);
 }
-
-pub units_named : (scales : List ℕ) (kinds : List AggKind) → units (map (empty_ranking scales) kinds) ≡ map (λ kind. (kind, scale_of scales kind)) kinds
-units_named scales [] = refl
-units_named scales (kind ∷ kinds) = ap (λ us. (kind, scale_of scales kind) ∷ us) (units_named scales kinds)
 
 pub unit_is : (kind : AggKind) (index : List Ranking) (kinds : List AggKind) (scale : ℕ) → units index ≡ map (λ k. (k, scale_of (1 ∷ []) k)) kinds → scale ≡ scale_of (1 ∷ []) kind → IfSome (ranking_of kind index) (λ r. r.scale ≡ scale)
 unit_is kind index kinds scale e s = go (ranking_of kind index) refl

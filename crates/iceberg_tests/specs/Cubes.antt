@@ -1,8 +1,8 @@
 -- Trees of the tests.
 use Rattle.std.specs.Prelude.{◌≡◌, ℕ}
 use Rattle.cube_defs.specs.Tree.{Tree}
-use Rattle.tree_search.specs.Found.{IsFrom, Source}
+use Rattle.tree_search.specs.Found.{IsTreeOf, TreeRows}
 
 -- a tree of some rows with three values and one amount
 abbrev pub IsOfOneMeasure : Tree ℕ → Type 0
-IsOfOneMeasure tree = (source : Source) × IsFrom 3 tree source × (source.measures ≡ 1)
+IsOfOneMeasure tree = (source : TreeRows) × IsTreeOf 3 tree source × (source.measures ≡ 1)

@@ -8,7 +8,7 @@ ghost use Rattle.measure_index.specs.Rankings.{IsIndex};
 ghost use Rattle.iceberg_query.specs.Indexed.{class_of_node};
 ghost use Rattle.qc_arena.specs.Changes.{class_was};
 ghost use Rattle.qc_arena.specs.Map.{is_open};
-ghost use Rattle.tree_search.specs.Found.{IsFrom};
+ghost use Rattle.tree_search.specs.Found.{IsTreeOf};
 ghost use Rattle.iceberg_tests.specs.Cubes.{IsOfOneMeasure};
 
 use crate::lines::{Line, Sale};
@@ -68,7 +68,7 @@ fn tree_of<L: Ledger>(alloc: Global, table: &Table, steps: &mut Steps<L>) -> Res
     requires measures { table.now.measures ≡ 1 }
     ensures width { IfOk result (λ arena. arena.width ≡ 3) }
     ensures opened { IfOk result (λ arena. is_open arena ≡ true) }
-    ensures tree { IfOk result (λ arena. IsFrom 3 arena.now (record { measures = 1; rows = rows_of table.now })) }
+    ensures tree { IfOk result (λ arena. IsTreeOf 3 arena.now (record { measures = 1; rows = rows_of table.now })) }
     ensures fresh { IfOk result (λ arena. (q : ℕ) → class_was arena q ≡ None) }
 {
     table.is_valid();

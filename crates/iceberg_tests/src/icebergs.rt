@@ -1,5 +1,5 @@
 // What is answered, with the index and without.
-ghost use Rattle.std.specs.Prelude.{All, IfOk, [], length, nat_abs, ◌≡◌, ◌≤◌, ◌∷◌};
+ghost use Rattle.std.specs.Prelude.{All, IfOk, [], nat_abs, ◌≡◌, ◌≤◌, ◌∷◌};
 ghost use Rattle.aggregates.specs.Bounds.{largest_amount};
 ghost use Rattle.aggregates.specs.Views.{IsThere};
 ghost use Rattle.measure_index.specs.Index.{scale_of};

@@ -5,14 +5,12 @@ use Rattle.std.specs.Option.{option_map}
 use Rattle.cube_defs.specs.Cell.{Cell, cell_of}
 use Rattle.cube_defs.specs.Rows.{Row}
 use Rattle.cube_defs.specs.Tree.{Node, cell_at}
-use Rattle.tree_search.specs.Found.{IsFrom}
+use Rattle.tree_search.specs.Found.{IsTreeOf}
 use Rattle.qc_arena.specs.Map.{Arena, no_nodes}
 use Rattle.batch_insert.specs.Planned.{IsSource}
 use Rattle.batch_insert.specs.RowComes.{ForRow}
 use Rattle.insert_tests.specs.Rows.{HasRows}
-
-none_some : {X : Type 0} {x : X} → None ≡ Some x → ⊥
-none_some z = cc
+use Rattle.cube_laws.proofs.Lists.{none_some}
 
 none_at : (k : ℕ) (c : Cell ℕ) → cell_at {A = ℕ} map.empty k ≡ Some c → ⊥
 none_at k c h = none_some (sym (ap (option_map (λ (n : Node ℕ ℕ). n.cell)) (map.get-empty nat_cmp k)) ∙ h)
@@ -38,14 +36,14 @@ full_tuple (None ∷ t) all = absurd (true≢false (sym (all 0 None (omega arith
 full_tuple (Some v ∷ t) all = let r = full_tuple t (λ k d l. all (suc k) d (omega (arith, l))) in (v ∷ r.0, ap (λ c. Some v ∷ c) r.1)
 
 pub source_is : (n : ℕ) (a b : Arena) → HasRows n a → n < 100 → b.now ≡ a.now → b.width ≡ a.width → IsSource 1 b
-source_is n a b h few now width = (h.0, subst (λ w. IsFrom w b.now h.0) (sym width) (subst (λ m. IsFrom a.width m h.0) (sym now) h.1), h.2, omega (arith, h.3, few))
+source_is n a b h few now width = (h.0, subst (λ w. IsTreeOf w b.now h.0) (sym width) (subst (λ m. IsTreeOf a.width m h.0) (sym now) h.1), h.2, omega (arith, h.3, few))
 
 pub one_more : (n : ℕ) (t : Cell ℕ) (x : ℤ) (a b c : Arena) → HasRows n a → All (λ e. is_some e ≡ true) t → b.now ≡ a.now → b.width ≡ a.width
-    → ForRow t (x ∷ []) b (λ before row after. IsFrom b.width c.now (record { measures = length (x ∷ []); rows = after })) → (d : Arena) → d.now ≡ c.now → d.width ≡ b.width → HasRows (n + 1) d
+    → ForRow t (x ∷ []) b (λ before row after. IsTreeOf b.width c.now (record { measures = length (x ∷ []); rows = after })) → (d : Arena) → d.now ≡ c.now → d.width ≡ b.width → HasRows (n + 1) d
 one_more n t x a b c h full now width more d later wide =
     let vs = full_tuple t full in
     let row : Row ℕ = record { id = 0; tuple = vs.0; amounts = x ∷ [] } in
-    let from : IsFrom b.width b.now h.0 = subst (λ w. IsFrom w b.now h.0) (sym width) (subst (λ m. IsFrom a.width m h.0) (sym now) h.1) in
+    let from : IsTreeOf b.width b.now h.0 = subst (λ w. IsTreeOf w b.now h.0) (sym width) (subst (λ m. IsTreeOf a.width m h.0) (sym now) h.1) in
     let same : h.0 ≡ record { measures = length (x ∷ []); rows = h.0.rows ++ [] } = λ i. record { measures = h.2 i; rows = sym (append-nil h.0.rows) i } in
-    let with = more h.0.rows row [] vs.1 refl (subst (IsFrom b.width b.now) same from) in
-    (record { measures = 1; rows = h.0.rows ++ row ∷ [] }, subst (λ w. IsFrom w d.now (record { measures = 1; rows = h.0.rows ++ row ∷ [] })) (sym wide) (subst (λ m. IsFrom b.width m (record { measures = 1; rows = h.0.rows ++ row ∷ [] })) (sym later) with), refl, omega (arith, h.3, length-append h.0.rows (row ∷ [])))
+    let with = more h.0.rows row [] vs.1 refl (subst (IsTreeOf b.width b.now) same from) in
+    (record { measures = 1; rows = h.0.rows ++ row ∷ [] }, subst (λ w. IsTreeOf w d.now (record { measures = 1; rows = h.0.rows ++ row ∷ [] })) (sym wide) (subst (λ m. IsTreeOf b.width m (record { measures = 1; rows = h.0.rows ++ row ∷ [] })) (sym later) with), refl, omega (arith, h.3, length-append h.0.rows (row ∷ [])))

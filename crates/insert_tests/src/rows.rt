@@ -86,7 +86,7 @@ fn has_total<L: Ledger>(
     }
 }
 
-// The same of each node.
+// Whether each node that is a class has the total of the rows that its cell covers.
 pub(crate) fn have_totals<L: Ledger>(
     tree: &QcArena,
     rows: &[Line],

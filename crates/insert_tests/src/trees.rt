@@ -1,5 +1,5 @@
 // Trees of rows: built anew, and with rows that come one by one.
-ghost use Rattle.std.specs.Prelude.{All, IfOk, IfSome, OnOk, false, is_some, length, true, ◌+◌, ◌<◌, ◌≡◌, ◌≤◌};
+ghost use Rattle.std.specs.Prelude.{All, IfSome, OnOk, false, is_some, length, true, ◌+◌, ◌<◌, ◌≡◌, ◌≤◌};
 ghost use Rattle.qc_arena.specs.Map.{is_open};
 ghost use Rattle.insert_tests.specs.Rows.{HasRows};
 
@@ -66,7 +66,7 @@ pub(crate) fn add<L: Ledger>(
 ) -> Result<(), ArenaRefused>
     requires closed { is_open arena.old ≡ false }
     requires width { length tuple.now ≡ arena.old.width }
-    requires full { All (λ entry. is_some entry ≡ true) tuple.now }
+    requires no_any { All (λ entry. is_some entry ≡ true) tuple.now }
     requires place { place < 100 }
     requires rows { HasRows place arena.old }
     ensures closed { OnOk result (is_open arena.new ≡ false) }

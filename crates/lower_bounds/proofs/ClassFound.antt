@@ -13,11 +13,11 @@ use Rattle.cube_laws.proofs.Closures.{closure_idem}
 use Rattle.qc_arena.specs.Seen.{record_at}
 use Rattle.tree_laws.proofs.Climbs.{class_is}
 use Rattle.tree_laws.proofs.Lists.{some_same}
-use Rattle.tree_search.specs.Found.{IsFrom, Names, Source, closure_in}
+use Rattle.tree_search.specs.Found.{IsTreeOf, IsNumberOfCell, TreeRows, closure_in}
 use Rattle.tree_search.proofs.Walked.{cell_of, there_is}
 use Rattle.cube_laws.proofs.Orders.{code_equality}
 
-module _ (dims : ℕ) (tree : Tree ℕ) (source : Source) (h : IsFrom dims tree source) (c : Cell ℕ) (k : ℕ) (t : IsSome (map.get tree k)) (e : Names tree (Some k) (closure_in source c)) where
+module _ (dims : ℕ) (tree : Tree ℕ) (source : TreeRows) (h : IsTreeOf dims tree source) (c : Cell ℕ) (k : ℕ) (t : IsSome (map.get tree k)) (e : IsNumberOfCell tree (Some k) (closure_in source c)) where
   -- the node's cell is the closure
   closed : closure_in source c ≡ Some (record_at tree k).cell
   closed = go (closure_in source c) refl e

@@ -4,10 +4,10 @@ use native.Mathlib.Numerals.{unary_clauses}
 use Rattle.std.proofs.Math.Pow.{pow_mono}
 use Rattle.std.proofs.Math.Nat.{mul-le-mul_right}
 use Rattle.cube_defs.specs.Cell.{Cell}
-use Rattle.cells_below.specs.Numbers.{values}
+use Rattle.cube_laws.specs.Parts.{value_count}
 
 -- a cell has no more values than dimensions
-pub few_values : (u : Cell ℕ) → values u ≤ length u
+pub few_values : (u : Cell ℕ) → value_count u ≤ length u
 few_values [] = omega arith
 few_values (None ∷ u) = omega (arith, few_values u)
 few_values (Some v ∷ u) = omega (arith, few_values u)

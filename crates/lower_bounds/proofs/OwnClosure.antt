@@ -5,15 +5,14 @@ use Rattle.std.specs.Cmp.{nat_cmp_total}
 use Rattle.std.specs.FinMap as map
 use Rattle.std.specs.Option.{option_eq, option_map}
 use Rattle.std.specs.Ordering.{nat_cmp, eq_by_cmp}
-use Rattle.cube_defs.specs.Cell.{Cell, cell_eq, depth, keep}
+use Rattle.cube_defs.specs.Cell.{Cell, cell_eq, depth, cell_front}
 use Rattle.cube_defs.specs.Rows.{agg, closure, is_class}
 use Rattle.cube_defs.specs.Tree.{Node, Tree, cell_at}
-use Rattle.cube_laws.proofs.Closures.{closure_idem, option_eq-is}
 use Rattle.cube_laws.proofs.Nodes.{is_node-is}
 use Rattle.cube_laws.proofs.Orders.{code_equality}
 use Rattle.qc_arena.specs.Seen.{record_at, record_or}
 use Rattle.tree_laws.proofs.Walks.{record_read}
-use Rattle.tree_search.specs.Found.{IsFrom, Source}
+use Rattle.tree_search.specs.Found.{IsTreeOf, TreeRows}
 use Rattle.tree_search.proofs.Walked.{cell_of, there_is}
 use Rattle.cells_below.specs.Closed.{has_closure_in}
 
@@ -25,7 +24,7 @@ class_there tree k t = go (map.get tree k) refl
     go None e = absurd (true≢false (sym t ∙ ap (λ o. is_some (record_or o).class) e))
     go (Some n) e = subst (λ o. IsSome o) (sym e) refl
 
-module _ (dims : ℕ) (tree : Tree ℕ) (source : Source) (h : IsFrom dims tree source) (k : ℕ) where
+module _ (dims : ℕ) (tree : Tree ℕ) (source : TreeRows) (h : IsTreeOf dims tree source) (k : ℕ) where
   module _ (t : IsSome (map.get tree k)) where
     abbrev p : Cell ℕ
     p = (record_at tree k).cell
@@ -33,11 +32,11 @@ module _ (dims : ℕ) (tree : Tree ℕ) (source : Source) (h : IsFrom dims tree 
     closed : (u : Cell ℕ) × (closure (eq_by_cmp nat_cmp) source.rows p ≡ Some u)
     closed = go (closure (eq_by_cmp nat_cmp) source.rows p) refl
       where
-        front : option_map (keep (depth p)) (closure (eq_by_cmp nat_cmp) source.rows p) ≡ Some p
+        front : option_map (cell_front (depth p)) (closure (eq_by_cmp nat_cmp) source.rows p) ≡ Some p
         front = (is_node-is code_equality source.rows p).0 (h.canonical.each k (record_at tree k) (there_is tree k t)).0
 
         go : (o : Option (Cell ℕ)) → closure (eq_by_cmp nat_cmp) source.rows p ≡ o → (u : Cell ℕ) × (closure (eq_by_cmp nat_cmp) source.rows p ≡ Some u)
-        go None e = let bad : None ≡ Some p = sym (ap (option_map (keep (depth p))) e) ∙ front in cc
+        go None e = let bad : None ≡ Some p = sym (ap (option_map (cell_front (depth p))) e) ∙ front in cc
         go (Some u) e = (u, e)
 
     marked : (record_at tree k).class ≡ cond (is_class (eq_by_cmp nat_cmp) source.rows p) (Some (agg (eq_by_cmp nat_cmp) source.measures source.rows p)) None
@@ -53,7 +52,3 @@ module _ (dims : ℕ) (tree : Tree ℕ) (source : Source) (h : IsFrom dims tree 
       go : (b : Bool) → is_class (eq_by_cmp nat_cmp) source.rows (record_at tree k).cell ≡ b → is_class (eq_by_cmp nat_cmp) source.rows (record_at tree k).cell ≡ true
       go true e = e
       go false e = absurd (true≢false (sym t ∙ ap is_some (marked (class_there tree k t) ∙ ap (λ b. cond b (Some (agg (eq_by_cmp nat_cmp) source.measures source.rows (record_at tree k).cell)) None) e)))
-
--- where a search leads
-pub own_closure_of : (source : Source) (c u : Cell ℕ) → closure (eq_by_cmp nat_cmp) source.rows c ≡ Some u → has_closure_in source u u ≡ true
-own_closure_of source c u e = (option_eq-is code_equality (closure (eq_by_cmp nat_cmp) source.rows u) u).1 (closure_idem code_equality source.rows c u e)

@@ -3,7 +3,7 @@ ghost use Rattle.std.specs.Ordering.{nat_cmp};
 ghost use Rattle.std.specs.Option.{option_map};
 ghost use Rattle.std.specs.Prelude.{IfOk, length, ◌*◌, ◌+◌, ◌<◌, ◌^◌, ◌≡◌, ◌≤◌};
 ghost use Rattle.cube_defs.specs.Answers.{class_of};
-ghost use Rattle.tree_search.specs.Found.{IsFrom, IsTree, Source};
+ghost use Rattle.tree_search.specs.Found.{IsTreeOf, IsTree, TreeRows};
 
 use crate::Memory;
 use crate::bounds::bounds_below;
@@ -37,7 +37,7 @@ pub fn find_class<T: Nodes, L: Ledger>(
 ) -> Result<Option<Class>, Memory>
     requires dims { length cell.now ≡ T.width tree.now }
     requires tree { IsTree (T.width tree.now) (T.tree tree.now) }
-    ensures class { (source : Source) → IsFrom (T.width tree.now) (T.tree tree.now) source →
+    ensures class { (source : TreeRows) → IsTreeOf (T.width tree.now) (T.tree tree.now) source →
         IfOk result (λ class. option_map hit_in class ≡ class_of nat_cmp source.measures source.rows cell.now) }
     ensures steps { steps.new ≤ steps.old + 7 * (T.width tree.now + 1) * 2 ^ T.width tree.now }
 {

@@ -1,18 +1,19 @@
 -- An index of classes stays one where its entries change as the classes do.
 use Rattle.std.proofs.Common.{◌≡◌, ◌≢◌, ◌⊎◌, inl, inr, ℕ, zero, suc, ◌==◌, ◌&&◌, ◌||◌, not, Bool, true, false, cond, Option, None, Some, List, [], ◌∷◌, ℤ, int_eq, refl, sym, ap, subst, ◌∙◌, arith, true≢false, nat_eq, eqb-true}
 use Rattle.std.specs.Prelude.{map, slice_get}
-use Rattle.std.specs.List.{AllByRecursion, AllZip}
+use Rattle.std.specs.List.{AllByRecursion, AllZip, IsDistinct}
 use Rattle.std.specs.List.Sorted.{IsStrictlySortedBy}
 use Rattle.std.specs.Ordering.{is_eq}
 use Rattle.std.specs.Cmp.{tied_itself}
 use Rattle.std.specs.declared.cmp.Ordering.TheVariants.{Less, Equal}
 use Rattle.std.proofs.lemmas.Bool.{false_from_ne_true}
 use Rattle.std.proofs.lemmas.Map.Keys.{sorted_head, sorted_tail}
-use Rattle.std.proofs.lemmas.Bool.Decides.{Decides-eqb, Decides-int_eq}
+use Rattle.std.proofs.lemmas.Bool.Decides.{Decides-int_eq}
 use Rattle.cube_defs.specs.Rows as defs
 use Rattle.cube_defs.specs.Answers.{value_of}
-use Rattle.cube_laws.specs.Lists.{Among, Once}
+use Rattle.cube_laws.specs.Lists.{Among}
 use Rattle.cube_laws.proofs.Orders.{is_equal}
+use Rattle.cube_laws.proofs.Numbers.{nat_or_not}
 use Rattle.aggregates.specs.Views.{agg_in, kind_in, ratio_in}
 use Rattle.aggregates.specs.declared.agg.Agg.{Agg}
 use Rattle.aggregates.specs.declared.kind.AggKind.{AggKind}
@@ -35,13 +36,6 @@ int_or_not x y = go (int_eq x y) refl
     go : (b : Bool) → int_eq x y ≡ b → (x ≡ y) ⊎ (x ≢ y)
     go true e = inl ((Decides-int_eq x y).0 e)
     go false e = inr (λ p. true≢false (sym ((Decides-int_eq x y).1 p) ∙ e))
-
-nat_or_not : (x y : ℕ) → (x ≡ y) ⊎ (x ≢ y)
-nat_or_not x y = go (x == y) refl
-  where
-    go : (b : Bool) → (x == y) ≡ b → (x ≡ y) ⊎ (x ≢ y)
-    go true e = inl ((Decides-eqb x y).0 e)
-    go false e = inr (λ p. true≢false (sym ((Decides-eqb x y).1 p) ∙ e))
 
 part_or_not : (p q : defs.Part) → (p ≡ q) ⊎ (p ≢ q)
 part_or_not p q = elim (int_or_not p.sum q.sum) [
@@ -140,7 +134,8 @@ one_entry : (x y : Entry) → ratio_in x.value ≡ ratio_in y.value → x.node �
 one_entry x y v n = same_entry x y (same_ratio x.value y.value (ap (λ f. f.num) v) (ap (λ f. f.den) v)) n
 
 -- a node has no two entries
-pub nodes_once : (class : ℕ → Option defs.Agg) (r : Ranking) → IsRanking class r → Once nat_eq (map (λ e. e.node) r.entries)
+pub nodes_once : (class : ℕ → Option defs.Agg) (r : Ranking) → IsRanking class r → IsDistinct nat_eq (map (λ e. e.node) r.entries)
+unfolding IsDistinct IsStrictlySortedBy
 nodes_once class r is = all r.entries (λ e m. m) is.rising
   where
     differ : (x y : Entry) → Among x r.entries → Among y r.entries → entry_cmp x y ≡ Less → nat_eq x.node y.node ≡ false
@@ -158,7 +153,7 @@ nodes_once class r is = all r.entries (λ e m. m) is.rising
     heads x m [] within h = tt
     heads x m (y ∷ ys) within h = (differ x y m (within y (inl refl)) h.0, heads x m ys (λ e n. within e (inr n)) h.1)
 
-    all : (es : List Entry) → ((e : Entry) → Among e es → Among e r.entries) → IsStrictlySortedBy entry_cmp es → Once nat_eq (map (λ e. e.node) es)
+    all : (es : List Entry) → ((e : Entry) → Among e es → Among e r.entries) → IsStrictlySortedBy entry_cmp es → IsDistinct nat_eq (map (λ e. e.node) es)
     all [] within h = tt
     all (x ∷ es) within h = (heads x (within x (inl refl)) es (λ e n. within e (inr n)) (sorted_head entry_cmp x es h), all es (λ e n. within e (inr n)) (sorted_tail entry_cmp x es h))
 

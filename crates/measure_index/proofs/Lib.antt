@@ -8,3 +8,4 @@ pub mod Classes
 pub mod Measured
 pub mod Keyed
 pub mod Filled
+pub mod Units

@@ -9,7 +9,7 @@ ghost use Rattle.measure_index.specs.Walks.{qualifying};
 
 use crate::key::Key;
 use crate::keying::keys_of;
-use crate::keys::{lacked_by, put_in, set_of, take_out};
+use crate::keys::{insert_all, lacked_by, set_of, take_out};
 use crate::walk::{Direction, Walk};
 use aggregates::{Agg, AggKind, Fraction};
 use cell_core::NodeNo;
@@ -89,7 +89,8 @@ impl Column {
     ) -> Result<Plan, Memory>
         requires add { HaveMeasure self.now.kind add.now }
         requires remove { HaveMeasure self.now.kind remove.now }
-        ensures { IfOk result (λ plan. ArePlanned self.now add.now remove.now (entries_at self.now.kind self.now.scale plan.added.items) (entries_at self.now.kind self.now.scale plan.going.items)) }
+        ensures { IfOk result (λ plan. ArePlanned self.now add.now remove.now (entries_at self.now.kind self.now.scale plan.added.items)
+            (entries_at self.now.kind self.now.scale plan.going.items)) }
     {
         let mut added = keys_of(alloc, self.kind, add)?;
         let mut removed = keys_of(alloc, self.kind, remove)?;
@@ -133,13 +134,14 @@ impl Column {
     /// all as it was.
     pub(crate) fn put(&mut self, alloc: Global, added: &[Key]) -> Result<Vec<Key>, Memory>
         ensures came { OnOk result (Came (entries_at self.old.kind self.old.scale added.now) self.old self.new) }
-        ensures fresh { IfOk result (λ came. AreFresh self.old (entries_at self.old.kind self.old.scale added.now) (entries_at self.old.kind self.old.scale came.items)) }
+        ensures fresh { IfOk result (λ came. AreFresh self.old (entries_at self.old.kind self.old.scale added.now)
+            (entries_at self.old.kind self.old.scale came.items)) }
         ensures err { OnErr result (self.new ≡ self.old) }
     {
         if self.keys.len() + added.len() > u32::MAX as usize {
             return Err(AllocError);
         }
-        put_in(alloc, &mut self.keys, added)
+        insert_all(alloc, &mut self.keys, added)
     }
 
     /// Takes entries out, as far as they are there.

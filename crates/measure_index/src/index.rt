@@ -184,7 +184,8 @@ impl Index {
         requires empty { All (λ r. length r.entries ≡ 0) self.old }
         requires measures { All (λ r. HaveMeasure r.kind classes.items) self.old }
         ensures entries { OnOk result (AllZip (HasChanged classes.items []) self.old self.new) }
-        ensures classes { OnOk result ((from to : ℕ → Option defs.Agg) → AreNew from to classes.items → AreNew to from [] → IsIndex from self.old → IsIndex to self.new) }
+        ensures classes { OnOk result ((from to : ℕ → Option defs.Agg) → AreNew from to classes.items → AreNew to from [] → IsIndex from self.old →
+            IsIndex to self.new) }
         ensures units { units self.new ≡ units self.old }
         ensures err { OnErr result (self.new ≡ self.old) }
     {
@@ -199,7 +200,8 @@ impl Index {
         requires add { All (λ r. HaveMeasure r.kind add.now) self.old }
         requires remove { All (λ r. HaveMeasure r.kind remove.now) self.old }
         ensures entries { OnOk result (AllZip (HasChanged add.now remove.now) self.old self.new) }
-        ensures classes { OnOk result ((from to : ℕ → Option defs.Agg) → AreNew from to add.now → AreNew to from remove.now → IsIndex from self.old → IsIndex to self.new) }
+        ensures classes { OnOk result ((from to : ℕ → Option defs.Agg) → AreNew from to add.now → AreNew to from remove.now → IsIndex from self.old →
+            IsIndex to self.new) }
         ensures units { units self.new ≡ units self.old }
         ensures err { OnErr result (self.new ≡ self.old) }
     {

@@ -36,7 +36,7 @@ pub(crate) fn set_of<K: Ord + Copy>(
 
 /// Puts keys in, and gives those that were not there, in their order. A refusal leaves the set with the
 /// keys that it had.
-pub(crate) fn put_in<K: Ord + Copy>(
+pub(crate) fn insert_all<K: Ord + Copy>(
     alloc: Global,
     set: &mut BTreeSet<K, Global>,
     items: &[K],

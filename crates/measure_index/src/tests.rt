@@ -1,7 +1,6 @@
-ghost use Rattle.std.specs.Prelude.{All, IfOk, IsSome, OnErr, OnOk, length, nat_abs, ◌≡◌, ◌≤◌};
+ghost use Rattle.std.specs.Prelude.{All, IfOk, OnOk, nat_abs, ◌≡◌, ◌≤◌};
 ghost use Rattle.aggregates.specs.Bounds.{largest_amount};
 ghost use Rattle.aggregates.specs.Views.{IsThere};
-ghost use Rattle.measure_index.specs.Index.{ranking_of};
 
 use crate::{Index, Memory, Walk};
 use aggregates::{Agg, AggKind, read_fraction};

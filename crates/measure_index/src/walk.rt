@@ -40,7 +40,12 @@ impl<'a> Model for Walk<'a> {
 
     ghost Value = { Walking };
 
-    ghost view = { λ w. record { left = left_of w.direction w.bound w.stopped (entries_at w.kind w.scale w.keys); given = w.taken - cond w.stopped 1 0; taken = w.taken } };
+    ghost view = { λ w. record {
+      left = left_of w.direction w.bound w.stopped
+          (entries_at w.kind w.scale w.keys);
+      given = w.taken - cond w.stopped 1 0;
+      taken = w.taken;
+    } };
 
     ghost invariant = { λ w. (w.taken + length w.keys < 2 ^ 63) × (cond w.stopped 1 0 ≤ w.taken) × (w.scale ≤ 6) };
 }
@@ -57,7 +62,8 @@ fn passes(entry: &Entry, direction: Direction, bound: &Fraction) -> bool
 
 // The next key from the end that the direction names.
 fn next_of<'a>(keys: &mut Iter<'a, Key>, direction: Direction) -> Option<&'a Key>
-    ensures key { MatchOption result ((directed direction keys.old ≡ []) × (directed direction keys.new ≡ [])) (λ k. directed direction keys.old ≡ k.now ∷ directed direction keys.new) }
+    ensures key { MatchOption result ((directed direction keys.old ≡ []) × (directed direction keys.new ≡ []))
+        (λ k. directed direction keys.old ≡ k.now ∷ directed direction keys.new) }
     ensures count { MatchOption result (length keys.new ≡ length keys.old) (λ _. length keys.old ≡ length keys.new + 1) }
 {
     match direction {
@@ -74,7 +80,9 @@ fn next_entry(
     scale: u8,
 ) -> Option<Entry>
     requires { scale ≤ 6 }
-    ensures entry { MatchOption result ((directed direction (entries_at kind scale keys.old) ≡ []) × (directed direction (entries_at kind scale keys.new) ≡ [])) (λ e. directed direction (entries_at kind scale keys.old) ≡ e ∷ directed direction (entries_at kind scale keys.new)) }
+    ensures entry { MatchOption result ((directed direction (entries_at kind scale keys.old) ≡ [])
+        × (directed direction (entries_at kind scale keys.new) ≡ []))
+        (λ e. directed direction (entries_at kind scale keys.old) ≡ e ∷ directed direction (entries_at kind scale keys.new)) }
     ensures count { MatchOption result (length keys.new ≡ length keys.old) (λ _. length keys.old ≡ length keys.new + 1) }
 {
     let key = next_of(keys, direction)?;
@@ -110,7 +118,8 @@ impl<'a> Walk<'a> {
 
     /// The next class, with its value. None where no class is left that qualifies.
     pub fn next(&mut self) -> Option<(NodeNo, Ratio)>
-        ensures pair { MatchOption result ((self.old.left ≡ []) × (self.new.left ≡ [])) (λ p. self.old.left ≡ record { value = p.1; node = p.0.0 } ∷ self.new.left) }
+        ensures pair { MatchOption result ((self.old.left ≡ []) × (self.new.left ≡ []))
+            (λ p. self.old.left ≡ record { value = p.1; node = p.0.0 } ∷ self.new.left) }
         ensures given { MatchOption result (self.new.given ≡ self.old.given) (λ _. self.new.given ≡ self.old.given + 1) }
     {
         if self.stopped {

@@ -15,19 +15,19 @@ ghost use Rattle.qc_arena.specs.Seen.{edge_of, record_at};
 use crate::Memory;
 use crate::changes::changed;
 use crate::counted::{record_in, tree_edges_of};
-use crate::edges::EdgeTo;
+use crate::edges::StoredEdge;
 use crate::images::Images;
-use crate::kept::{Counts, Kept};
 use crate::moved::Moved;
 use crate::nodes::{Forced, Nodes};
 use crate::parts::Parts;
 use crate::place::Place;
-use crate::records::Rec;
+use crate::records::NodeRecord;
 use crate::slots::{
     add_record, class_at, clear_all, copy_at, drop_edge_at, kill_at, put_back, record_of,
     set_class_at, set_edge_at, set_forced_at,
 };
 use crate::touched::Touched;
+use crate::tree_totals::{Counts, TreeTotals};
 use aggregates::Agg;
 use cell_core::{Code, NodeNo, Steps};
 use cube_defs::{MAX_DIMS, MAX_NODES};
@@ -36,13 +36,16 @@ use std::alloc::{AllocError, Global};
 use std::marker::Model;
 use std::mem::replace;
 use std::sync::ledger::Ledger;
+use thiserror::Error;
 
 /// Why a node was not added.
-#[derive(Clone, Copy, Debug, PartialEq, Eq)]
+#[derive(Clone, Copy, Debug, PartialEq, Eq, Error)]
 pub enum ArenaRefused {
     /// There are as many nodes as there may be.
+    #[error("there are as many nodes as there may be")]
     Full,
     /// Memory ran out.
+    #[error("memory ran out")]
     Memory,
 }
 
@@ -57,8 +60,8 @@ pub struct QcArena {
     is_open: bool,
     dims: u8,
     max: u32,
-    kept: Kept,
-    was: Kept,
+    kept: TreeTotals,
+    was: TreeTotals,
 }
 
 impl Model for QcArena {
@@ -70,7 +73,15 @@ impl Model for QcArena {
 
     ghost coded = { arena_code };
 
-    ghost view = { λ a. record { width = a.dims; max = a.max; now = now_of a.nodes; was = begun a.is_open a.dims (was_of (now_of a.nodes) a.images); touched = touched_in a.images; last = a.last } };
+    ghost view = { λ a. record {
+      width = a.dims;
+      max = a.max;
+      now = now_of a.nodes;
+      was = begun a.is_open a.dims
+          (was_of (now_of a.nodes) a.images);
+      touched = touched_in a.images;
+      last = a.last;
+    } };
 
     ghost invariant = { λ a. IsArena a.dims a.max a.nodes a.images a.is_open a.kept a.was × IsStored a.nodes a.parts };
 }
@@ -84,7 +95,7 @@ impl QcArena {
         requires few { max ≤ MAX_NODES }
         ensures { IfOk result (λ a. a ≡ no_nodes dims max) }
     {
-        let none = Kept {
+        let none = TreeTotals {
             root: None,
             nodes: 0,
             classes: 0,
@@ -113,12 +124,12 @@ impl QcArena {
     }
 
     // The record of a node that is to come.
-    fn new_rec(&self, under: Option<(NodeNo, u8, Code)>) -> Rec
+    fn new_rec(&self, under: Option<(NodeNo, u8, Code)>) -> NodeRecord
         requires { IsPlace self.now.width self.now.now under }
         ensures { result.node ≡ new_record self.now.width self.now.now under }
     {
         match under {
-            None => Rec::root(self.images.allocator(), self.dims),
+            None => NodeRecord::root(self.images.allocator(), self.dims),
             Some((node, dim, code)) => record_of(&self.nodes, node.0).child(node, dim, code),
         }
     }
@@ -188,7 +199,8 @@ impl QcArena {
         requires target { IsSome (map.get self.old.now target.0) }
         requires dim { dim < self.old.width }
         requires code { IsCode code }
-        ensures here { OnOk result (map.get self.new.now node.0 ≡ option_map (with_edge (record { dim = dim; value = code; target = target.0 })) (map.get self.old.now node.0)) }
+        ensures here { OnOk result (map.get self.new.now node.0
+            ≡ option_map (with_edge (record { dim = dim; value = code; target = target.0 })) (map.get self.old.now node.0)) }
         ensures others { (q : ℕ) → q ≢ node.0 → map.get self.new.now q ≡ map.get self.old.now q }
         ensures touched { (q : ℕ) → is_touched self.new q ≡ is_touched self.old q }
         ensures frame { frame self.new ≡ frame self.old }
@@ -196,7 +208,7 @@ impl QcArena {
         ensures steps { steps.new ≡ steps.old + 1 }
     {
         steps.tick();
-        let edge = EdgeTo {
+        let edge = StoredEdge {
             dim,
             code,
             target: target.0,
@@ -432,7 +444,7 @@ impl QcArena {
 
 impl QcArena {
     // The record of a node.
-    fn record(&self, node: NodeNo) -> &Rec
+    fn record(&self, node: NodeNo) -> &NodeRecord
         requires { IsSome (map.get self.now.now node.0) }
         ensures { result.now.node ≡ record_at self.now.now node.0 }
     {

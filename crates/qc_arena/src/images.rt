@@ -42,7 +42,8 @@ impl Model for Images {
 
     ghost view = { λ i. map.from_entries (i.changed.items ++ all_new i.added.items) };
 
-    ghost invariant = { λ i. IsOnce (i.changed.items ++ all_new i.added.items) × IsSortedByKey entry_number nat_cmp i.changed.items × IsSorted nat_cmp i.added.items };
+    ghost invariant = { λ i. IsOnce (i.changed.items ++ all_new i.added.items) × IsSortedByKey entry_number nat_cmp i.changed.items
+        × IsSorted nat_cmp i.added.items };
 }
 
 impl Images {

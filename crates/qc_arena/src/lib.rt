@@ -7,7 +7,6 @@ mod counted;
 mod edges;
 mod image;
 mod images;
-mod kept;
 mod moved;
 mod nodes;
 mod parts;
@@ -17,13 +16,14 @@ mod same;
 mod slots;
 mod touched;
 mod trail;
+mod tree_totals;
 
 pub use arena::{ArenaRefused, QcArena};
 pub use cube_defs::Memory;
 pub use image::Record;
 pub use images::{Images, Look};
-pub use kept::Counts;
 pub use nodes::{Forced, Nodes};
+pub use tree_totals::Counts;
 
 #[cfg(test)]
 mod tests;

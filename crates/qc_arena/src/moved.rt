@@ -51,7 +51,7 @@ impl Moved {
         Moved { changed, added }
     }
 
-    // The same by rising numbers.
+    // These entries as images, in which a number is found by halving.
     pub(crate) fn sorted(self) -> Images
         ensures { result ≡ self }
     {

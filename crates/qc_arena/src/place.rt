@@ -4,14 +4,14 @@ ghost use Rattle.cell_core.specs.Entry.{IsCode};
 ghost use Rattle.std.specs.Option.{option_copied, option_map};
 ghost use Rattle.aggregates.specs.Views.{agg_in};
 ghost use Rattle.qc_arena.specs.Edges.{edge_to, with_edge, without_edge};
-ghost use Rattle.qc_arena.specs.Held.{node_in};
+ghost use Rattle.qc_arena.specs.Slot.{node_in};
 ghost use Rattle.qc_arena.specs.Map.{with_class, with_forced};
 ghost use Rattle.qc_arena.specs.Seen.{edge_of, record_or};
 
 use crate::Memory;
-use crate::edges::EdgeTo;
+use crate::edges::StoredEdge;
 use crate::nodes::Forced;
-use crate::records::Rec;
+use crate::records::NodeRecord;
 use aggregates::Agg;
 use cell_core::Code;
 use std::marker::Model;
@@ -20,7 +20,7 @@ use std::marker::Model;
 /// killed node stays in memory, but nobody sees it.
 #[derive(Drop)]
 pub(crate) struct Place {
-    rec: Rec,
+    rec: NodeRecord,
 }
 
 const _: () = prove!(size_of::<Place>() == 56);
@@ -35,13 +35,13 @@ impl Model for Place {
 
     ghost coded = { coded_option node_code };
 
-    ghost use Rattle.qc_arena.specs.Held.{standing};
+    ghost use Rattle.qc_arena.specs.Slot.{standing};
 
     ghost view = { λ p. standing p.rec };
 }
 
 impl Place {
-    pub(crate) fn of(rec: Rec) -> Place
+    pub(crate) fn of(rec: NodeRecord) -> Place
         ensures { result ≡ Some rec.node }
     {
         Place { rec: rec.alive() }
@@ -54,7 +54,7 @@ impl Place {
     }
 
     // The record, if there is one.
-    pub(crate) fn record(&self) -> Option<&Rec>
+    pub(crate) fn record(&self) -> Option<&NodeRecord>
         ensures { option_map node_in (option_copied result) ≡ self.now }
     {
         if self.rec.is_killed() {
@@ -64,7 +64,7 @@ impl Place {
     }
 
     // The record that is there.
-    pub(crate) fn standing(&self) -> &Rec
+    pub(crate) fn standing(&self) -> &NodeRecord
         requires { IsSome self.now }
         ensures { self.now ≡ Some result.now.node }
     {
@@ -84,7 +84,7 @@ impl Place {
     }
 
     // Sets an edge, and tells how many edges there were, and how many there are.
-    pub(crate) fn set_edge(&mut self, edge: EdgeTo) -> Result<(u32, u32), Memory>
+    pub(crate) fn set_edge(&mut self, edge: StoredEdge) -> Result<(u32, u32), Memory>
         requires there { IsSome self.old }
         requires code { IsCode edge.code }
         ensures here { IsSome self.new }

@@ -11,7 +11,7 @@ ghost use Rattle.qc_arena.specs.Map.{bare, with_class, with_forced};
 ghost use Rattle.qc_arena.specs.Seen.{edge_of, label_lt, number};
 
 use crate::Memory;
-use crate::edges::{EdgeTo, put, take, target_in};
+use crate::edges::{StoredEdge, put, take, target_in};
 use crate::nodes::Forced;
 use crate::trail::Trail;
 use aggregates::Agg;
@@ -31,10 +31,10 @@ const NO_CODE: u32 = u32::MAX;
 /// the record has the last label and the parent. Of a class it has the heading, and no row count
 /// where there is none. A killed node keeps its record under a mark. One edge lies in the record itself, and more do elsewhere.
 #[derive(Drop)]
-pub(crate) struct Rec {
+pub(crate) struct NodeRecord {
     trail: Trail<u8, u32>,
     noted: Trail<u32, Agg>,
-    edges: SmallVec<EdgeTo, 1>,
+    edges: SmallVec<StoredEdge, 1>,
     parent: u32,
     code: Code,
     forced_code: u32,
@@ -46,33 +46,32 @@ pub(crate) struct Rec {
     is_killed: bool,
 }
 
-impl Model for Rec {
+impl Model for NodeRecord {
     ghost use Rattle.std.specs.Prelude.{ℕ};
     ghost use Rattle.std.specs.Option.{option_map};
     ghost use Rattle.aggregates.specs.Views.{agg_in};
-    ghost use Rattle.cube_defs.specs.Tree.{Node};
-    ghost use Rattle.qc_arena.specs.Held.{Held, held_code};
+    ghost use Rattle.qc_arena.specs.Slot.{Slot, held_code};
 
-    ghost Value = { Held };
+    ghost Value = { Slot };
 
     ghost coded = { held_code };
 
     ghost use Rattle.qc_arena.specs.Edges.{edges_to};
-    ghost use Rattle.qc_arena.specs.Rec.{IsRec, cell_on, class_on, forced_in, parent_in};
+    ghost use Rattle.qc_arena.specs.NodeRecord.{IsRec, cell_on, class_on, forced_in, parent_in};
 
     ghost view = { λ r. record { node = record { cell = cell_on r.trail.items; parent = parent_in r.dim r.parent; class = class_on r.noted.items; forced = forced_in r.forced_dim r.forced_code r.forced_child; edges = edges_to r.edges.items }; is_killed = r.is_killed } };
 
     ghost invariant = { λ r. IsRec r.trail.items r.noted.items r.dim r.code r.forced_code r.count r.measures r.edges.items };
 }
 
-impl Rec {
+impl NodeRecord {
     // The record of the root, whose cell has no value.
-    pub(crate) fn root(alloc: Global, dims: u8) -> Rec
+    pub(crate) fn root(alloc: Global, dims: u8) -> NodeRecord
         requires { dims ≤ MAX_DIMS }
         ensures { result.node ≡ bare (replicate dims None) None }
     {
         let nothing = Trail::<u8, u32>::new();
-        Rec {
+        NodeRecord {
             trail: nothing.and(&dims, &0),
             noted: Trail::<u32, Agg>::new(),
             edges: SmallVec::new(alloc),
@@ -89,13 +88,13 @@ impl Rec {
     }
 
     // The record of the node with one value more, which has this node for its parent.
-    pub(crate) fn child(&self, node: NodeNo, dim: u8, code: Code) -> Rec
+    pub(crate) fn child(&self, node: NodeNo, dim: u8, code: Code) -> NodeRecord
         requires behind { depth self.now.node.cell ≤ dim }
         requires dim { dim < length self.now.node.cell }
         requires code { IsCode code }
         ensures { result.node ≡ bare (with_value self.now.node.cell dim code) (Some node.0) }
     {
-        Rec {
+        NodeRecord {
             trail: self.trail.and(&dim, &code),
             noted: Trail::<u32, Agg>::new(),
             edges: SmallVec::new(*self.edges.allocator()),
@@ -111,11 +110,11 @@ impl Rec {
         }
     }
 
-    pub(crate) fn copy(&self) -> Result<Rec, Memory>
+    pub(crate) fn copy(&self) -> Result<NodeRecord, Memory>
         ensures { IfOk result (λ r. r.node ≡ self.now.node) }
     {
         let edges = SmallVec::from_slice(*self.edges.allocator(), self.edges.as_slice())?;
-        Ok(Rec {
+        Ok(NodeRecord {
             trail: self.trail.copy(),
             noted: self.noted.copy(),
             edges,
@@ -133,7 +132,7 @@ impl Rec {
 
     // Adds an edge in its place, or gives the edge with its label another target. It tells how many
     // edges there were, and how many there are.
-    pub(crate) fn set_edge(&mut self, edge: EdgeTo) -> Result<(u32, u32), Memory>
+    pub(crate) fn set_edge(&mut self, edge: StoredEdge) -> Result<(u32, u32), Memory>
         requires { IsCode edge.code }
         ensures ok { OnOk result (self.new ≡ record self.old { node = with_edge (edge_to edge) self.old.node }) }
         ensures had { IfOk result (λ n. n.0 ≡ length self.old.node.edges) }
@@ -199,8 +198,8 @@ impl Rec {
         self.is_killed = true;
     }
 
-    // The same record of a node that is there.
-    pub(crate) fn alive(self) -> Rec
+    // This record, not marked as killed.
+    pub(crate) fn alive(self) -> NodeRecord
         ensures node { result.node ≡ self.node }
         ensures alive { result.is_killed ≡ false }
     {
@@ -226,7 +225,7 @@ impl Rec {
     }
 
     // Whether another node has the same last value, or none either.
-    pub(crate) fn shares_end(&self, other: &Rec) -> bool
+    pub(crate) fn shares_end(&self, other: &NodeRecord) -> bool
         ensures same { result ≡ true → last_label self.now.node.cell ≡ last_label other.now.node.cell }
         ensures apart { result ≡ false → last_label self.now.node.cell ≢ last_label other.now.node.cell }
     {
@@ -288,7 +287,8 @@ impl Rec {
 
     pub(crate) fn edge_count(&self) -> u32
         ensures value { result ≡ length self.now.node.edges }
-        ensures rising { (i j : ℕ) (e f : _) → i < j → slice_get self.now.node.edges i ≡ Some e → slice_get self.now.node.edges j ≡ Some f → label_lt e f ≡ true }
+        ensures rising { (i j : ℕ) (e f : _) → i < j → slice_get self.now.node.edges i ≡ Some e → slice_get self.now.node.edges j ≡ Some f →
+            label_lt e f ≡ true }
     {
         self.edges.len() as u32
     }

@@ -1,5 +1,5 @@
 // The work on the places of nodes, and on what was in them at `begin`.
-ghost use Rattle.std.specs.Prelude.{IfNone, IfOk, IfSome, IsSome, None, OnErr, OnOk, OnSome, Some, [], if◌then◌else◌, is_some, length, nat_eq, true, ℕ, ◌<◌, ◌≡◌, ◌≢◌};
+ghost use Rattle.std.specs.Prelude.{IfOk, IfSome, IsSome, None, OnErr, OnOk, Some, [], if◌then◌else◌, is_some, length, nat_eq, true, ℕ, ◌<◌, ◌≡◌, ◌≢◌};
 ghost use Rattle.cell_core.specs.Entry.{IsCode};
 ghost use Rattle.std.specs.Option.{option_map};
 ghost use Rattle.std.specs.Ordering.{nat_cmp};
@@ -14,12 +14,12 @@ ghost use Rattle.qc_arena.specs.Parts.{HasRoom, IsShown, IsStored, shown};
 ghost use Rattle.qc_arena.specs.Seen.{edge_of, record_or};
 
 use crate::Memory;
-use crate::edges::EdgeTo;
+use crate::edges::StoredEdge;
 use crate::image::{Image, Record};
 use crate::nodes::Forced;
 use crate::parts::Parts;
 use crate::place::Place;
-use crate::records::Rec;
+use crate::records::NodeRecord;
 use crate::touched::Touched;
 use aggregates::Agg;
 use cell_core::Code;
@@ -27,7 +27,7 @@ use slab::Slab;
 use std::alloc::AllocError;
 
 // Writes a record into a place.
-fn write_slot(nodes: &mut Slab<Place>, node: u32, rec: Rec)
+fn write_slot(nodes: &mut Slab<Place>, node: u32, rec: NodeRecord)
     requires { slots.ContainsKey nodes.old node }
     ensures here { slots.get nodes.new node ≡ Some (Some rec.node) }
     ensures others { (q : ℕ) → q ≢ node → slots.get nodes.new q ≡ slots.get nodes.old q }
@@ -111,7 +111,7 @@ fn reserve_slot(nodes: &mut Slab<Place>) -> Result<u32, Memory>
 }
 
 // Puts a record at the number that is next.
-fn fill_slot(nodes: &mut Slab<Place>, new: Rec)
+fn fill_slot(nodes: &mut Slab<Place>, new: NodeRecord)
     requires { slots.HasRoomFor nodes.old 1 }
     ensures here { slots.get nodes.new nodes.old.vacant_key ≡ Some (Some new.node) }
     ensures others { (q : ℕ) → q ≢ nodes.old.vacant_key → slots.get nodes.new q ≡ slots.get nodes.old q }
@@ -124,7 +124,7 @@ pub(crate) fn add_record(
     nodes: &mut Slab<Place>,
     parts: &mut Parts,
     images: &mut Touched,
-    new: Rec,
+    new: NodeRecord,
 ) -> Result<u32, Memory>
     requires { (q : ℕ) → IsSome (image_at images.old q) → slots.ContainsKey nodes.old q }
     ensures parts { (q : ℕ) → shown parts.new q ≡ shown parts.old q }
@@ -145,7 +145,7 @@ pub(crate) fn add_record(
 }
 
 // The record of a node.
-pub(crate) fn record_of(nodes: &Slab<Place>, node: u32) -> &Rec
+pub(crate) fn record_of(nodes: &Slab<Place>, node: u32) -> &NodeRecord
     requires { IsSome (join (slots.get nodes.now node)) }
     ensures { join (slots.get nodes.now node) ≡ Some result.now.node }
 {
@@ -156,7 +156,7 @@ pub(crate) fn record_of(nodes: &Slab<Place>, node: u32) -> &Rec
 }
 
 // The record at a place that has one.
-fn record_at(nodes: &Slab<Place>, place: usize) -> &Rec
+fn record_at(nodes: &Slab<Place>, place: usize) -> &NodeRecord
     requires { IsSome (join (slots.get nodes.now place)) }
     ensures { join (slots.get nodes.now place) ≡ Some result.now.node }
 {
@@ -170,7 +170,8 @@ fn record_at(nodes: &Slab<Place>, place: usize) -> &Rec
 fn same_cell(nodes: &Slab<Place>, node: usize, other: usize) -> bool
     requires node { IsSome (join (slots.get nodes.now node)) }
     requires other { IsSome (join (slots.get nodes.now other)) }
-    requires cells { (k : ℕ) → IsSome (join (slots.get nodes.now k)) → length (record_or (join (slots.get nodes.now k))).cell ≡ length (record_or (join (slots.get nodes.now node))).cell }
+    requires cells { (k : ℕ) → IsSome (join (slots.get nodes.now k)) →
+        length (record_or (join (slots.get nodes.now k))).cell ≡ length (record_or (join (slots.get nodes.now node))).cell }
     requires rooted { IsRooted nodes.now }
     ensures { result ≡ cell_eq nat_eq (record_or (join (slots.get nodes.now node))).cell (record_or (join (slots.get nodes.now other))).cell }
 {
@@ -198,7 +199,8 @@ fn same_cell(nodes: &Slab<Place>, node: usize, other: usize) -> bool
 pub(crate) fn is_child(nodes: &Slab<Place>, node: usize, target: u32) -> bool
     requires node { IsSome (join (slots.get nodes.now node)) }
     requires target { IsSome (join (slots.get nodes.now target)) }
-    requires cells { (k : ℕ) → IsSome (join (slots.get nodes.now k)) → length (record_or (join (slots.get nodes.now k))).cell ≡ length (record_or (join (slots.get nodes.now node))).cell }
+    requires cells { (k : ℕ) → IsSome (join (slots.get nodes.now k)) →
+        length (record_or (join (slots.get nodes.now k))).cell ≡ length (record_or (join (slots.get nodes.now node))).cell }
     requires rooted { IsRooted nodes.now }
     ensures { result ≡ is_under nat_cmp (record_or (join (slots.get nodes.now node))).cell (Some (record_or (join (slots.get nodes.now target))).cell) }
 {
@@ -238,7 +240,7 @@ pub(crate) fn copy_at(nodes: &Slab<Place>, parts: &Parts, node: u32) -> Result<R
 pub(crate) fn set_edge_at(
     nodes: &mut Slab<Place>,
     node: u32,
-    edge: EdgeTo,
+    edge: StoredEdge,
 ) -> Result<(u32, u32), Memory>
     requires node { IsSome (join (slots.get nodes.old node)) }
     requires code { IsCode edge.code }

@@ -1,7 +1,7 @@
 // Files in memory that never fail.
 ghost use Rattle.std.specs.Prelude.{◌≡◌, ◌≢◌, ◌≤◌, ◌<◌, Some, IsSome, IfSome, OnOk, OnErr, is_some, length, map, position, string_bytes};
 ghost use Rattle.std.specs.Str.{bytes_eq};
-ghost use Rattle.qc_io.specs.Outside.{Gives, bytes_left};
+ghost use Rattle.qc_io.specs.Outside.{ReadsFront, bytes_left};
 ghost use Rattle.qc_io.specs.Memory.{Store, adding, closed_store, empty_store, lookup, opened_store, read_count, read_store, sure_store};
 ghost use Rattle.qc_io.specs.Kept.{Finds, entry_of};
 
@@ -140,7 +140,7 @@ impl FileStore {
         requires room { 0 < length buf.old }
         ensures count { result ≡ read_count self.old (length buf.old) }
         ensures bound { result ≤ length buf.new }
-        ensures bytes { IfSome self.old.current (λ c. Gives (bytes_left c) result buf.new) }
+        ensures bytes { IfSome self.old.current (λ c. ReadsFront (bytes_left c) result buf.new) }
         ensures after { self.new ≡ read_store result self.old }
     {
         let Opened::At(i) = self.opened else {

@@ -1,6 +1,6 @@
 // Files and a sink that never fail.
 ghost use Rattle.std.specs.Prelude.{◌≡◌, ◌≢◌, ◌≤◌, ◌<◌, [], Some, None, Ok, IfOk, IfSome, IsOk, IsSome, OnErr, OnOk, is_some, length, refl, true, unwrap_or};
-ghost use Rattle.qc_io.specs.Outside.{Gives, bytes_left};
+ghost use Rattle.qc_io.specs.Outside.{ReadsFront, bytes_left};
 ghost use Rattle.qc_io.specs.Memory.{Store, adding, empty_store, lookup, sure_store, read_count, read_store};
 
 use crate::file_store::FileStore;
@@ -70,7 +70,7 @@ impl Files for SureFiles {
         requires is_open { IsSome self.old.current }
         requires room { 0 < length buf.old }
         ensures count { result ≡ Ok (read_count self.old (length buf.old)) }
-        ensures bytes { IfOk result (λ n. IfSome self.old.current (λ c. Gives (bytes_left c) n buf.new)) }
+        ensures bytes { IfOk result (λ n. IfSome self.old.current (λ c. ReadsFront (bytes_left c) n buf.new)) }
         ensures after { self.new ≡ read_store (read_count self.old (length buf.old)) self.old }
     {
         Ok(self.store.read(buf))

@@ -15,7 +15,7 @@ use Rattle.aggregates.specs.declared.kind.AggKind.{AggKind}
 use Rattle.aggregates.specs.declared.kind.AggKind.TheVariants as kinds
 use Rattle.cube_defs.specs.Text.{Text}
 use Rattle.qc_schema.specs.Schema.{IsLayout, Layout, Measure, all_different, is_name, names_of, same_kind}
-use Rattle.qc_schema.specs.States.{State, Fault, Line}
+use Rattle.qc_schema.specs.Progress.{Progress, Fault, Line}
 use Rattle.text_lines.specs.Cuts.{words_of}
 use Rattle.text_lines.specs.Lines.{is_comment}
 use Rattle.qc_schema.specs.Grammar.{◌>>=◌, and_on, count_kind, dim_line, id_line, in_order, index_line, is_start, is_used, is_version, kind_named, kind_of, limit_in, line_of_words, may_dim, may_end, may_id, may_index, may_measure, may_rows, may_values, measure_from, measure_line, named_line, new_kind, new_name, nodes_line, one_word, read_lines, rows_line, scale_in, start, take_line, two_words, values_line, version_line}
@@ -36,7 +36,7 @@ AtStage stages.Nodes l = IsLayout l
 AtStage stages.Rows l = IsLayout l
 AtStage stages.Values l = IsLayout l
 
-pub record Keeps (s : State) : Type 0 where
+pub record Keeps (s : Progress) : Type 0 where
   pub holds : AtStage s.stage s.layout
 
 -- steps of reading
@@ -344,10 +344,10 @@ keeps-measure stages.Nodes l m may h few small n u = absurd (cc may)
 keeps-measure stages.Rows l m may h few small n u = absurd (cc may)
 keeps-measure stages.Values l m may h few small n u = absurd (cc may)
 
-as-state : (s t : State) → s ≡ t → AtStage s.stage s.layout → Keeps t
+as-state : (s t : Progress) → s ≡ t → AtStage s.stage s.layout → Keeps t
 as-state s t same h = subst Keeps same (record { holds = h })
 
-id-kept : (s t : State) (words : List Text) → Keeps s → id_line s words ≡ Ok t → Keeps t
+id-kept : (s t : Progress) (words : List Text) → Keeps s → id_line s words ≡ Ok t → Keeps t
 unfolding id_line
 id-kept s t words k e =
     let a = bind_ok (in_order (may_id s.stage)) _ t e in
@@ -357,7 +357,7 @@ id-kept s t words k e =
     let same : record { stage = stages.Id; layout = record s.layout { id = c.0 } } ≡ t = cc (c.2) in
     as-state _ t same (keeps-id s.stage s.layout c.0 (in-order _ _ a.1) k.holds n.0)
 
-dim-kept : (s t : State) (words : List Text) → Keeps s → dim_line s words ≡ Ok t → Keeps t
+dim-kept : (s t : Progress) (words : List Text) → Keeps s → dim_line s words ≡ Ok t → Keeps t
 unfolding dim_line
 dim-kept s t words k e =
     let a = bind_ok (in_order (may_dim s.stage && nat_lt (length s.layout.dims) 12)) _ t e in
@@ -368,7 +368,7 @@ dim-kept s t words k e =
     let same : record { stage = stages.Dim; layout = record s.layout { dims = s.layout.dims ++ c.0 ∷ [] } } ≡ t = cc (c.2) in
     as-state _ t same (keeps-dim s.stage s.layout c.0 may.0 k.holds (ltb-true (length s.layout.dims) 12 may.1) n.0 n.1)
 
-measure-kept : (s t : State) (words : List Text) → Keeps s → measure_line s words ≡ Ok t → Keeps t
+measure-kept : (s t : Progress) (words : List Text) → Keeps s → measure_line s words ≡ Ok t → Keeps t
 unfolding measure_line
 measure-kept s t words k e =
     let a = bind_ok (in_order (may_measure s.stage && nat_lt (length s.layout.measures) 1)) _ t e in
@@ -380,7 +380,7 @@ measure-kept s t words k e =
     let same : record { stage = stages.Measure; layout = record s.layout { measures = s.layout.measures ++ (record { name = c.0; scale = d.0 }) ∷ [] } } ≡ t = cc (d.2) in
     as-state _ t same (keeps-measure s.stage s.layout (record { name = c.0; scale = d.0 }) may.0 k.holds (ltb-true (length s.layout.measures) 1 may.1) (scale-small b.0.1 d.0 d.1) n.0 n.1)
 
-index-kept : (s t : State) (words : List Text) → Keeps s → index_line s words ≡ Ok t → Keeps t
+index-kept : (s t : Progress) (words : List Text) → Keeps s → index_line s words ≡ Ok t → Keeps t
 unfolding index_line
 index-kept s t words k e =
     let a = bind_ok (in_order (may_index s.stage)) _ t e in
@@ -391,10 +391,10 @@ index-kept s t words k e =
     let whole : IsLayout s.layout = layout-behind s.stage s.layout (from-values s.stage (from-rows s.stage (from-index s.stage (in-order _ _ a.1)))) k.holds in
     let same : record { stage = stages.Index; layout = record s.layout { indexes = s.layout.indexes ++ c.0 ∷ [] } } ≡ t = cc (c.2) in
     let first : record { stage = stages.Index; layout = record s.layout { indexes = s.layout.indexes ++ b.0 ∷ [] } } ≡ record { stage = stages.Index; layout = record s.layout { indexes = s.layout.indexes ++ c.0 ∷ [] } } =
-    ap (λ (x : AggKind). let r : State = record { stage = stages.Index; layout = record s.layout { indexes = s.layout.indexes ++ x ∷ [] } } in r) p.1 in
+    ap (λ (x : AggKind). let r : Progress = record { stage = stages.Index; layout = record s.layout { indexes = s.layout.indexes ++ x ∷ [] } } in r) p.1 in
     as-state _ t (first ∙ same) (next-index s.layout b.0 whole there p.0)
 
-nodes-kept : (s t : State) (words : List Text) → Keeps s → nodes_line s words ≡ Ok t → Keeps t
+nodes-kept : (s t : Progress) (words : List Text) → Keeps s → nodes_line s words ≡ Ok t → Keeps t
 unfolding nodes_line
 nodes-kept s t words k e =
     let a = bind_ok (in_order (may_index s.stage)) _ t e in
@@ -404,7 +404,7 @@ nodes-kept s t words k e =
     let same : record { stage = stages.Nodes; layout = record s.layout { nodes = c.0 } } ≡ t = cc (c.2) in
     as-state _ t same (with-limits s.layout c.0 s.layout.rows s.layout.values whole (limit-small 4000000 b.0 c.0 c.1) (whole.some_rows, whole.few_rows) (whole.some_values, whole.few_values))
 
-rows-kept : (s t : State) (words : List Text) → Keeps s → rows_line s words ≡ Ok t → Keeps t
+rows-kept : (s t : Progress) (words : List Text) → Keeps s → rows_line s words ≡ Ok t → Keeps t
 unfolding rows_line
 rows-kept s t words k e =
     let a = bind_ok (in_order (may_rows s.stage)) _ t e in
@@ -414,7 +414,7 @@ rows-kept s t words k e =
     let same : record { stage = stages.Rows; layout = record s.layout { rows = c.0 } } ≡ t = cc (c.2) in
     as-state _ t same (with-limits s.layout s.layout.nodes c.0 s.layout.values whole (whole.some_nodes, whole.few_nodes) (limit-small 1000000 b.0 c.0 c.1) (whole.some_values, whole.few_values))
 
-values-kept : (s t : State) (words : List Text) → Keeps s → values_line s words ≡ Ok t → Keeps t
+values-kept : (s t : Progress) (words : List Text) → Keeps s → values_line s words ≡ Ok t → Keeps t
 unfolding values_line
 values-kept s t words k e =
     let a = bind_ok (in_order (may_values s.stage)) _ t e in
@@ -424,7 +424,7 @@ values-kept s t words k e =
     let same : record { stage = stages.Values; layout = record s.layout { values = c.0 } } ≡ t = cc (c.2) in
     as-state _ t same (with-limits s.layout s.layout.nodes s.layout.rows c.0 whole (whole.some_nodes, whole.few_nodes) (whole.some_rows, whole.few_rows) (limit-small 4000000 b.0 c.0 c.1))
 
-named-kept : (s t : State) (word : Text) (words : List Text) → Keeps s → named_line s word words ≡ Ok t → Keeps t
+named-kept : (s t : Progress) (word : Text) (words : List Text) → Keeps s → named_line s word words ≡ Ok t → Keeps t
 unfolding named_line
 named-kept s t word words k e =
     by (bytes_eq word (codes "id")) (bytes_eq word (codes "dim")) (bytes_eq word (codes "measure")) (bytes_eq word (codes "index")) (bytes_eq word (codes "nodes")) (bytes_eq word (codes "rows")) (bytes_eq word (codes "values")) e
@@ -450,13 +450,13 @@ at-start stages.Nodes l is h = absurd (cc is)
 at-start stages.Rows l is h = absurd (cc is)
 at-start stages.Values l is h = absurd (cc is)
 
-version-kept : (s t : State) (word : Text) (words : List Text) → is_start s.stage ≡ true → Keeps s → version_line s word words ≡ Ok t → Keeps t
+version-kept : (s t : Progress) (word : Text) (words : List Text) → is_start s.stage ≡ true → Keeps s → version_line s word words ≡ Ok t → Keeps t
 unfolding version_line
 version-kept s t word words is k e =
     let p = cond_ok (bytes_eq word (codes "qcube") && is_version words) (record { stage = stages.Qcube; layout = s.layout }) t Version e in
     as-state _ t p.1 (at-start s.stage s.layout is k.holds)
 
-words-kept : (s t : State) (words : List Text) → Keeps s → line_of_words s words ≡ Ok t → Keeps t
+words-kept : (s t : Progress) (words : List Text) → Keeps s → line_of_words s words ≡ Ok t → Keeps t
 words-kept s t [] k e = let same : s ≡ t = cc in subst Keeps same k
 words-kept s t (word ∷ words) k e = by (is_start s.stage) refl e
   where
@@ -464,7 +464,7 @@ words-kept s t (word ∷ words) k e = by (is_start s.stage) refl e
     by true is h = version-kept s t word words is k h
     by false is h = named-kept s t word words k h
 
-pub line-kept : (s t : State) (line : List ℕ) → Keeps s → take_line s line ≡ Ok t → Keeps t
+pub line-kept : (s t : Progress) (line : List ℕ) → Keeps s → take_line s line ≡ Ok t → Keeps t
 unfolding take_line
 line-kept s t line k e = by (is_comment line) e
   where
@@ -472,7 +472,7 @@ line-kept s t line k e = by (is_comment line) e
     by true h = let same : s ≡ t = cc in subst Keeps same k
     by false h = words-kept s t (words_of line) k h
 
-and-on-ok : (n : ℕ) (r : Result State SchemaCause) (others : State → Result Layout Fault) (l : Layout) → and_on n r others ≡ Ok l → (t : State) × (r ≡ Ok t) × (others t ≡ Ok l)
+and-on-ok : (n : ℕ) (r : Result Progress SchemaCause) (others : Progress → Result Layout Fault) (l : Layout) → and_on n r others ≡ Ok l → (t : Progress) × (r ≡ Ok t) × (others t ≡ Ok l)
 and-on-ok n (Ok t) others l e = (t, refl, e)
 and-on-ok n (Err c) others l e = absurd (cc e)
 
@@ -480,7 +480,7 @@ end-ok : (b : Bool) (x y : Layout) (f : Fault) → cond b (Ok x) (Err f) ≡ Ok 
 end-ok true x y f e = (refl, cc)
 end-ok false x y f e = absurd (cc e)
 
-pub read-layout : (lines : List (List ℕ)) (n : ℕ) (s : State) (l : Layout) → Keeps s → read_lines lines n s ≡ Ok l → IsLayout l
+pub read-layout : (lines : List (List ℕ)) (n : ℕ) (s : Progress) (l : Layout) → Keeps s → read_lines lines n s ≡ Ok l → IsLayout l
 unfolding read_lines
 read-layout [] n s l k e =
     let p = end-ok (may_end s.stage) s.layout l (Line n End) e in
@@ -503,5 +503,5 @@ few-at stages.Nodes l h = h.few_measures
 few-at stages.Rows l h = h.few_measures
 few-at stages.Values l h = h.few_measures
 
-pub few-kept : (s : State) → Keeps s → length s.layout.measures ≤ 1
+pub few-kept : (s : Progress) → Keeps s → length s.layout.measures ≤ 1
 few-kept s k = few-at s.stage s.layout k.holds

@@ -19,7 +19,7 @@ use Rattle.qc_schema.specs.Grammar.{◌>>=◌, and_on, dim_line, id_line, index_
 use Rattle.text_lines.specs.Lines.{lines_of, without_cr}
 use Rattle.qc_schema.specs.Schema.{IsLayout, Layout, Measure, all_different, is_name, is_name_byte, same_kind}
 use Rattle.qc_schema.specs.Spelling.{dim_words, index_words, layout_text, layout_words, limit_words, line_text, measure_words, name_at}
-use Rattle.qc_schema.specs.States.{State}
+use Rattle.qc_schema.specs.Progress.{Progress}
 use Rattle.qc_schema.specs.declared.reader.Stage.{Stage}
 use Rattle.qc_schema.specs.declared.reader.Stage.TheVariants as stages
 use Rattle.qc_schema.specs.declared.refusal.SchemaCause.{SchemaCause}
@@ -29,32 +29,32 @@ use Rattle.qc_schema.proofs.Reading.{schema-text}
 use Rattle.qc_schema.proofs.Wording.{IsLine, IsWord, digits-bytes, joined, lines-more, not-comment, text-utf8, words-joined}
 
 -- a state in which the limits are those by default
-abbrev at : Stage → Text → List Text → List Measure → List AggKind → State
+abbrev at : Stage → Text → List Text → List Measure → List AggKind → Progress
 at stage id dims ms ks = record { stage = stage; layout = record { id = id; dims = dims; measures = ms; indexes = ks; nodes = 1000000; rows = 1000000; values = 4000000 } }
 
 -- the state behind lines of these words
-abbrev after : List (List Text) → State → Result State SchemaCause
+abbrev after : List (List Text) → Progress → Result Progress SchemaCause
 after [] s = Ok s
 after (words ∷ lines) s = line_of_words s words >>= λ t. after lines t
 
-after-append : (xs ys : List (List Text)) (s t : State) → after xs s ≡ Ok t → after (xs ++ ys) s ≡ after ys t
+after-append : (xs ys : List (List Text)) (s t : Progress) → after xs s ≡ Ok t → after (xs ++ ys) s ≡ after ys t
 after-append [] ys s t e = let same : s ≡ t = cc in ap (after ys) same
 after-append (x ∷ xs) ys s t e =
     let p = bind_ok (line_of_words s x) (λ u. after xs u) t e in
-    ap (λ (r : Result State SchemaCause). r >>= λ u. after (xs ++ ys) u) p.1 ∙ after-append xs ys p.0 t p.2
+    ap (λ (r : Result Progress SchemaCause). r >>= λ u. after (xs ++ ys) u) p.1 ∙ after-append xs ys p.0 t p.2
 
-taken : (words : List Text) (s t : State) → IsLine words → line_of_words s words ≡ Ok t → take_line s (joined words) ≡ Ok t
+taken : (words : List Text) (s t : Progress) → IsLine words → line_of_words s words ≡ Ok t → take_line s (joined words) ≡ Ok t
 unfolding take_line
 taken words s t h e = rw (not-comment words h, words-joined words h.each) e
 
-read-after : (lines : List (List Text)) → AllByRecursion IsLine lines → (n : ℕ) (s t : State) → after lines s ≡ Ok t → may_end t.stage ≡ true
+read-after : (lines : List (List Text)) → AllByRecursion IsLine lines → (n : ℕ) (s t : Progress) → after lines s ≡ Ok t → may_end t.stage ≡ true
     → read_lines (map without_cr (lines_of (flat_map line_text lines))) n s ≡ Ok t.layout
 unfolding read_lines
 read-after [] h n s t e may = let same : s ≡ t = cc in ap (read_lines [] n) same ∙ rw may refl
 read-after (words ∷ lines) h n s t e may =
     let p = bind_ok (line_of_words s words) (λ u. after lines u) t e in
     ap (λ (ls : List (List ℕ)). read_lines ls n s) (lines-more words (flat_map line_text lines) h.0)
-    ∙ ap (λ (r : Result State SchemaCause). and_on n r (λ u. read_lines (map without_cr (lines_of (flat_map line_text lines))) (n + 1) u)) (taken words s p.0 h.0 p.1)
+    ∙ ap (λ (r : Result Progress SchemaCause). and_on n r (λ u. read_lines (map without_cr (lines_of (flat_map line_text lines))) (n + 1) u)) (taken words s p.0 h.0 p.1)
     ∙ read-after lines h.1 (n + 1) p.0 t p.2 may
 
 -- elements that are all different, or all of a kind
@@ -142,7 +142,7 @@ dims-run (x ∷ xs) stage id done begun may few n d =
     let joined_up : (done ++ x ∷ []) ++ xs ≡ done ++ x ∷ xs = append_assoc done (x ∷ []) xs in
     let fresh : list_any (λ y. bytes_eq y x) (id ∷ done) ≡ false = different-middle bytes_eq bytes-flip (id ∷ done) x xs d in
     let others : all_different bytes_eq (id ∷ ((done ++ x ∷ []) ++ xs)) ≡ true = ap (λ (ys : List Text). all_different bytes_eq (id ∷ ys)) joined_up ∙ d in
-    ap (λ (r : Result State SchemaCause). r >>= λ t. after (map dim_words xs) t) (dim-step stage id done x begun may (omega arith) p.0 fresh)
+    ap (λ (r : Result Progress SchemaCause). r >>= λ t. after (map dim_words xs) t) (dim-step stage id done x begun may (omega arith) p.0 fresh)
     ∙ dims-run xs stages.Dim id (done ++ x ∷ []) refl refl (omega (arith, length_push done x)) p.1 others
     ∙ ap₂ (λ (s : Stage) (ys : List Text). Ok (at s id ys [] [])) (behind-same stages.Dim xs) joined_up
 
@@ -158,7 +158,7 @@ measures-run : (ms : List Measure) (id : Text) (dims : List Text) → length ms 
     → all_different bytes_eq (id ∷ (dims ++ map (λ m. m.name) ms)) ≡ true → after (map measure_words ms) (at stages.Dim id dims [] []) ≡ Ok (at (stage_behind stages.Dim stages.Measure ms) id dims ms [])
 measures-run [] id dims few small n d = refl
 measures-run (m ∷ []) id dims few small n d =
-    ap (λ (r : Result State SchemaCause). r >>= λ t. Ok t) (measure-step id dims m small.0 (and_parts (is_name m.name) true n).0 (different-middle bytes_eq bytes-flip (id ∷ dims) m.name [] d))
+    ap (λ (r : Result Progress SchemaCause). r >>= λ t. Ok t) (measure-step id dims m small.0 (and_parts (is_name m.name) true n).0 (different-middle bytes_eq bytes-flip (id ∷ dims) m.name [] d))
 measures-run (m ∷ n ∷ ms) id dims few small h d = absurd (omega arith)
 
 -- the lines of indexes
@@ -185,7 +185,7 @@ indexes-run : (ks : List AggKind) (stage : Stage) (id : Text) (dims : List Text)
 indexes-run [] stage id dims ms done may few there d = ap (λ (xs : List AggKind). Ok (at stage id dims ms xs)) (sym (append-nil done))
 indexes-run (k ∷ ks) stage id dims ms done may few there d =
     let joined_up : (done ++ k ∷ []) ++ ks ≡ done ++ k ∷ ks = append_assoc done (k ∷ []) ks in
-    ap (λ (r : Result State SchemaCause). r >>= λ t. after (map (index_words ms) ks) t) (index-step stage id dims ms done k may few there.0 (different-middle same_kind kind-flip done k ks d))
+    ap (λ (r : Result Progress SchemaCause). r >>= λ t. after (map (index_words ms) ks) t) (index-step stage id dims ms done k may few there.0 (different-middle same_kind kind-flip done k ks d))
     ∙ indexes-run ks stages.Index id dims ms (done ++ k ∷ []) at-index few there.1 (ap (all_different same_kind) joined_up ∙ d)
     ∙ ap₂ (λ (s : Stage) (xs : List AggKind). Ok (at s id dims ms xs)) (behind-same stages.Index ks) joined_up
 

@@ -10,7 +10,7 @@ use Rattle.qc_schema.specs.Lines.{schema_lines}
 use Rattle.text_lines.specs.Cuts.{words_of}
 use Rattle.text_lines.specs.Lines.{is_comment}
 use Rattle.qc_schema.specs.Schema.{Layout, Measure, is_name, names_of, same_kind}
-use Rattle.qc_schema.specs.States.{State, Fault, NotUtf8, Line}
+use Rattle.qc_schema.specs.Progress.{Progress, Fault, NotUtf8, Line}
 use Rattle.qc_schema.specs.declared.reader.Stage.{Stage}
 use Rattle.qc_schema.specs.declared.reader.Stage.TheVariants as stages
 use Rattle.qc_schema.specs.declared.refusal.SchemaCause.{SchemaCause}
@@ -112,21 +112,21 @@ abbrev pub new_kind : Layout → AggKind → Result AggKind SchemaCause
 new_kind l kind = if list_any (λ k. same_kind k kind) l.indexes then Err Name else Ok kind
 
 -- The lines by their first words, of which the others are handed in.
-unfoldable pub id_line : State → List Text → Result State SchemaCause
+unfoldable pub id_line : Progress → List Text → Result Progress SchemaCause
 id_line s words = do
   _ ← in_order (may_id s.stage)
   word ← one_word words
   name ← new_name s.layout word
   Ok (record { stage = stages.Id; layout = record s.layout { id = name } })
 
-unfoldable pub dim_line : State → List Text → Result State SchemaCause
+unfoldable pub dim_line : Progress → List Text → Result Progress SchemaCause
 dim_line s words = do
   _ ← in_order (may_dim s.stage && nat_lt (length s.layout.dims) VERSION_1_DIMS)
   word ← one_word words
   name ← new_name s.layout word
   Ok (record { stage = stages.Dim; layout = record s.layout { dims = s.layout.dims ++ name ∷ [] } })
 
-unfoldable pub measure_line : State → List Text → Result State SchemaCause
+unfoldable pub measure_line : Progress → List Text → Result Progress SchemaCause
 measure_line s words = do
   _ ← in_order (may_measure s.stage && nat_lt (length s.layout.measures) VERSION_1_MEASURES)
   pair ← two_words words
@@ -134,28 +134,28 @@ measure_line s words = do
   scale ← scale_in pair.1
   Ok (record { stage = stages.Measure; layout = record s.layout { measures = s.layout.measures ++ (record { name = name; scale = scale }) ∷ [] } })
 
-unfoldable pub index_line : State → List Text → Result State SchemaCause
+unfoldable pub index_line : Progress → List Text → Result Progress SchemaCause
 index_line s words = do
   _ ← in_order (may_index s.stage)
   kind ← kind_of s.layout.measures words
   fresh ← new_kind s.layout kind
   Ok (record { stage = stages.Index; layout = record s.layout { indexes = s.layout.indexes ++ fresh ∷ [] } })
 
-unfoldable pub nodes_line : State → List Text → Result State SchemaCause
+unfoldable pub nodes_line : Progress → List Text → Result Progress SchemaCause
 nodes_line s words = do
   _ ← in_order (may_index s.stage)
   word ← one_word words
   nodes ← limit_in MAX_NODES word
   Ok (record { stage = stages.Nodes; layout = record s.layout { nodes = nodes } })
 
-unfoldable pub rows_line : State → List Text → Result State SchemaCause
+unfoldable pub rows_line : Progress → List Text → Result Progress SchemaCause
 rows_line s words = do
   _ ← in_order (may_rows s.stage)
   word ← one_word words
   rows ← limit_in MAX_ROWS word
   Ok (record { stage = stages.Rows; layout = record s.layout { rows = rows } })
 
-unfoldable pub values_line : State → List Text → Result State SchemaCause
+unfoldable pub values_line : Progress → List Text → Result Progress SchemaCause
 values_line s words = do
   _ ← in_order (may_values s.stage)
   word ← one_word words
@@ -167,10 +167,10 @@ is_version (word ∷ []) = bytes_eq word (codes "1")
 is_version words = false
 
 -- the first line that isn't passed over
-unfoldable pub version_line : State → Text → List Text → Result State SchemaCause
+unfoldable pub version_line : Progress → Text → List Text → Result Progress SchemaCause
 version_line s word words = if bytes_eq word (codes "qcube") && is_version words then Ok (record { stage = stages.Qcube; layout = s.layout }) else Err Version
 
-unfoldable pub named_line : State → Text → List Text → Result State SchemaCause
+unfoldable pub named_line : Progress → Text → List Text → Result Progress SchemaCause
 named_line s word words =
     if bytes_eq word (codes "id") then id_line s words
     else if bytes_eq word (codes "dim") then dim_line s words
@@ -186,24 +186,24 @@ is_start stages.Start = true
 is_start stage = false
 
 -- a line without words is passed over
-abbrev pub line_of_words : State → List Text → Result State SchemaCause
+abbrev pub line_of_words : Progress → List Text → Result Progress SchemaCause
 line_of_words s [] = Ok s
 line_of_words s (word ∷ words) = if is_start s.stage then version_line s word words else named_line s word words
 
-unfoldable pub take_line : State → List ℕ → Result State SchemaCause
+unfoldable pub take_line : Progress → List ℕ → Result Progress SchemaCause
 take_line s line = if is_comment line then Ok s else line_of_words s (words_of line)
 
-abbrev pub and_on : ℕ → Result State SchemaCause → (State → Result Layout Fault) → Result Layout Fault
+abbrev pub and_on : ℕ → Result Progress SchemaCause → (Progress → Result Layout Fault) → Result Layout Fault
 and_on n (Ok s) others = others s
 and_on n (Err cause) others = Err (Line n cause)
 
 -- the lines from that with the number n on
-unfoldable pub read_lines : List (List ℕ) → ℕ → State → Result Layout Fault
+unfoldable pub read_lines : List (List ℕ) → ℕ → Progress → Result Layout Fault
 read_lines [] n s = if may_end s.stage then Ok s.layout else Err (Line n End)
 read_lines (line ∷ lines) n s = and_on n (take_line s line) (λ t. read_lines lines (n + 1) t)
 
 -- nothing read yet, and the limits that hold by default
-abbrev pub start : State
+abbrev pub start : Progress
 start = record { stage = stages.Start; layout = record { id = []; dims = []; measures = []; indexes = []; nodes = DEFAULT_NODES; rows = MAX_ROWS; values = MAX_CODES } }
 
 -- The schema that a text spells, or its fault.

@@ -1,5 +1,5 @@
 pub mod Schema
 pub mod Lines
-pub mod States
+pub mod Progress
 pub mod Grammar
 pub mod Spelling

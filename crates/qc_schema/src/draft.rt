@@ -6,11 +6,11 @@ ghost use Rattle.qc_schema.specs.Grammar.{is_used, kind_named, kind_of, measure_
 ghost use Rattle.text_lines.specs.Cuts.{words_of};
 ghost use Rattle.qc_schema.specs.Schema.{same_kind};
 ghost use Rattle.cell_core.specs.Gives.{Gives};
-ghost use Rattle.qc_schema.specs.States.{cause_in, layout_in, measure_in};
+ghost use Rattle.qc_schema.specs.Progress.{cause_in, layout_in, measure_in};
 
 use crate::limits::{DEFAULT_NODES, VERSION_1_MEASURES};
 use crate::lines::only_word;
-use crate::refusal::{LineRefused, SchemaCause};
+use crate::refusal::{SchemaCause, SchemaLineRefused};
 use crate::words::name_in;
 use aggregates::AggKind;
 use cube_defs::{MAX_CODES, MAX_ROWS};
@@ -74,11 +74,11 @@ pub fn measure_named(measures: &Vec<Measure>, name: &[u8]) -> Option<u8>
 }
 
 // What the aggregate is called, of the measure.
-fn kind_with(aggregate: &[u8], measure: Option<u8>) -> Result<AggKind, LineRefused>
+fn kind_with(aggregate: &[u8], measure: Option<u8>) -> Result<AggKind, SchemaLineRefused>
     ensures { Gives cause_in (λ kind. kind) result (kind_named aggregate.now measure) }
 {
     let Some(place) = measure else {
-        return Err(LineRefused::Cause(SchemaCause::Name));
+        return Err(SchemaLineRefused::Cause(SchemaCause::Name));
     };
     if aggregate == b"sum".as_slice() {
         Ok(AggKind::Sum(place))
@@ -89,7 +89,7 @@ fn kind_with(aggregate: &[u8], measure: Option<u8>) -> Result<AggKind, LineRefus
     } else if aggregate == b"mean".as_slice() {
         Ok(AggKind::Mean(place))
     } else {
-        Err(LineRefused::Cause(SchemaCause::Name))
+        Err(SchemaLineRefused::Cause(SchemaCause::Name))
     }
 }
 
@@ -146,30 +146,30 @@ impl Draft {
     }
 
     /// The word, where it is a name that isn't used yet.
-    pub fn unused_name<'a>(&self, word: &'a [u8]) -> Result<&'a str, LineRefused>
+    pub fn unused_name<'a>(&self, word: &'a [u8]) -> Result<&'a str, SchemaLineRefused>
         ensures { Gives cause_in (λ s. s.now) result (new_name (layout_in self.now) word.now) }
     {
         let Some(name) = name_in(word) else {
-            return Err(LineRefused::Cause(SchemaCause::Name));
+            return Err(SchemaLineRefused::Cause(SchemaCause::Name));
         };
         if self.has_column(word) {
-            return Err(LineRefused::Cause(SchemaCause::Name));
+            return Err(SchemaLineRefused::Cause(SchemaCause::Name));
         }
         Ok(name)
     }
 
     /// The aggregate that words name.
     #[tactic(auto, unfolding(crate::specs::Grammar::kind_of))]
-    pub fn kind_in(&self, words: &[u8]) -> Result<AggKind, LineRefused>
+    pub fn kind_in(&self, words: &[u8]) -> Result<AggKind, SchemaLineRefused>
         requires { length self.now.measures.items ≤ VERSION_1_MEASURES }
         ensures { Gives cause_in (λ kind. kind) result (kind_of (layout_in self.now).measures (words_of words.now)) }
     {
         let Some((aggregate, rest)) = split_word(words) else {
-            return Err(LineRefused::Cause(SchemaCause::Words));
+            return Err(SchemaLineRefused::Cause(SchemaCause::Words));
         };
         if aggregate == b"count".as_slice() {
             if split_word(rest).is_some() {
-                return Err(LineRefused::Cause(SchemaCause::Words));
+                return Err(SchemaLineRefused::Cause(SchemaCause::Words));
             }
             return Ok(AggKind::Count);
         }
@@ -178,11 +178,11 @@ impl Draft {
     }
 
     /// The aggregate, where it isn't indexed yet.
-    pub fn unused_kind(&self, kind: AggKind) -> Result<AggKind, LineRefused>
+    pub fn unused_kind(&self, kind: AggKind) -> Result<AggKind, SchemaLineRefused>
         ensures { Gives cause_in (λ fresh. fresh) result (new_kind (layout_in self.now) kind) }
     {
         if has_kind(&self.indexes, kind) {
-            return Err(LineRefused::Cause(SchemaCause::Name));
+            return Err(SchemaLineRefused::Cause(SchemaCause::Name));
         }
         Ok(kind)
     }

@@ -3,12 +3,12 @@ ghost use Rattle.std.specs.Prelude.{◌≡◌, ◌≤◌, length};
 ghost use Rattle.qc_schema.specs.Grammar.{dim_line, id_line, in_order, index_line, is_start, may_dim, may_end, may_id, may_index, may_measure, may_rows, may_values, measure_line, named_line, nodes_line, rows_line, start, take_line, values_line, version_line};
 ghost use Rattle.text_lines.specs.Cuts.{words_of};
 ghost use Rattle.cell_core.specs.Gives.{Gives};
-ghost use Rattle.qc_schema.specs.States.{cause_in, state_in};
+ghost use Rattle.qc_schema.specs.Progress.{cause_in, progress_in};
 
 use crate::draft::{Draft, Measure};
 use crate::limits::{VERSION_1_DIMS, VERSION_1_MEASURES};
 use crate::lines::{only_word, only_words};
-use crate::refusal::{LineRefused, SchemaCause};
+use crate::refusal::{SchemaCause, SchemaLineRefused};
 use crate::words::{read_limit, read_scale};
 use cube_defs::{MAX_CODES, MAX_NODES, MAX_ROWS};
 use std::alloc::Global;
@@ -53,7 +53,7 @@ impl Stage {
         matches!(self, Stage::Dim | Stage::Measure)
     }
 
-    // The same holds for a line of nodes.
+    // Whether a line of an index may come next; a line of nodes may come where it may.
     fn may_index(self) -> bool
         ensures { result ≡ may_index self }
     {
@@ -81,51 +81,51 @@ impl Stage {
 
 /// What is read so far.
 #[derive(Drop)]
-pub struct Reader {
+pub struct SchemaReader {
     pub stage: Stage,
     pub draft: Draft,
 }
 
-fn check_order(may: bool) -> Result<(), LineRefused>
+fn check_order(may: bool) -> Result<(), SchemaLineRefused>
     ensures { Gives cause_in (λ _. tt) result (in_order may) }
 {
     if may {
         Ok(())
     } else {
-        Err(LineRefused::Cause(SchemaCause::Order))
+        Err(SchemaLineRefused::Cause(SchemaCause::Order))
     }
 }
 
-impl Reader {
-    pub fn new(alloc: Global) -> Reader
-        ensures { state_in result ≡ start }
+impl SchemaReader {
+    pub fn new(alloc: Global) -> SchemaReader
+        ensures { progress_in result ≡ start }
     {
-        Reader {
+        SchemaReader {
             stage: Stage::Start,
             draft: Draft::new(alloc),
         }
     }
 
     #[tactic(auto, unfolding(crate::specs::Grammar::version_line))]
-    fn read_version(&mut self, word: &[u8], words: &[u8]) -> Result<(), LineRefused>
-        ensures { Gives cause_in (λ _. state_in self.new) result (version_line (state_in self.old) word.now (words_of words.now)) }
+    fn read_version(&mut self, word: &[u8], words: &[u8]) -> Result<(), SchemaLineRefused>
+        ensures { Gives cause_in (λ _. progress_in self.new) result (version_line (progress_in self.old) word.now (words_of words.now)) }
     {
         if word != b"qcube".as_slice() {
-            return Err(LineRefused::Cause(SchemaCause::Version));
+            return Err(SchemaLineRefused::Cause(SchemaCause::Version));
         }
         let Some((version, rest)) = split_word(words) else {
-            return Err(LineRefused::Cause(SchemaCause::Version));
+            return Err(SchemaLineRefused::Cause(SchemaCause::Version));
         };
         if version != b"1".as_slice() || split_word(rest).is_some() {
-            return Err(LineRefused::Cause(SchemaCause::Version));
+            return Err(SchemaLineRefused::Cause(SchemaCause::Version));
         }
         self.stage = Stage::Qcube;
         Ok(())
     }
 
     #[tactic(auto, unfolding(crate::specs::Grammar::id_line))]
-    fn read_id(&mut self, alloc: Global, words: &[u8]) -> Result<(), LineRefused>
-        ensures { Gives cause_in (λ _. state_in self.new) result (id_line (state_in self.old) (words_of words.now)) }
+    fn read_id(&mut self, alloc: Global, words: &[u8]) -> Result<(), SchemaLineRefused>
+        ensures { Gives cause_in (λ _. progress_in self.new) result (id_line (progress_in self.old) (words_of words.now)) }
     {
         check_order(self.stage.may_id())?;
         let name = self.draft.unused_name(only_word(words)?)?;
@@ -135,8 +135,8 @@ impl Reader {
     }
 
     #[tactic(auto, unfolding(crate::specs::Grammar::dim_line))]
-    fn read_dim(&mut self, alloc: Global, words: &[u8]) -> Result<(), LineRefused>
-        ensures { Gives cause_in (λ _. state_in self.new) result (dim_line (state_in self.old) (words_of words.now)) }
+    fn read_dim(&mut self, alloc: Global, words: &[u8]) -> Result<(), SchemaLineRefused>
+        ensures { Gives cause_in (λ _. progress_in self.new) result (dim_line (progress_in self.old) (words_of words.now)) }
     {
         check_order(self.stage.may_dim() && self.draft.dims.len() < VERSION_1_DIMS)?;
         let name = self.draft.unused_name(only_word(words)?)?;
@@ -147,8 +147,8 @@ impl Reader {
     }
 
     #[tactic(auto, unfolding(crate::specs::Grammar::measure_line))]
-    fn read_measure(&mut self, alloc: Global, words: &[u8]) -> Result<(), LineRefused>
-        ensures { Gives cause_in (λ _. state_in self.new) result (measure_line (state_in self.old) (words_of words.now)) }
+    fn read_measure(&mut self, alloc: Global, words: &[u8]) -> Result<(), SchemaLineRefused>
+        ensures { Gives cause_in (λ _. progress_in self.new) result (measure_line (progress_in self.old) (words_of words.now)) }
     {
         check_order(self.stage.may_measure() && self.draft.measures.len() < VERSION_1_MEASURES)?;
         let (word, digit) = only_words(words)?;
@@ -161,9 +161,9 @@ impl Reader {
     }
 
     #[tactic(auto, unfolding(crate::specs::Grammar::index_line))]
-    fn read_index(&mut self, words: &[u8]) -> Result<(), LineRefused>
+    fn read_index(&mut self, words: &[u8]) -> Result<(), SchemaLineRefused>
         requires { length self.old.draft.measures.items ≤ VERSION_1_MEASURES }
-        ensures { Gives cause_in (λ _. state_in self.new) result (index_line (state_in self.old) (words_of words.now)) }
+        ensures { Gives cause_in (λ _. progress_in self.new) result (index_line (progress_in self.old) (words_of words.now)) }
     {
         check_order(self.stage.may_index())?;
         let kind = self.draft.kind_in(words)?;
@@ -174,8 +174,8 @@ impl Reader {
     }
 
     #[tactic(auto, unfolding(crate::specs::Grammar::nodes_line))]
-    fn read_nodes(&mut self, words: &[u8]) -> Result<(), LineRefused>
-        ensures { Gives cause_in (λ _. state_in self.new) result (nodes_line (state_in self.old) (words_of words.now)) }
+    fn read_nodes(&mut self, words: &[u8]) -> Result<(), SchemaLineRefused>
+        ensures { Gives cause_in (λ _. progress_in self.new) result (nodes_line (progress_in self.old) (words_of words.now)) }
     {
         check_order(self.stage.may_index())?;
         self.draft.nodes = read_limit(MAX_NODES, only_word(words)?)?;
@@ -184,8 +184,8 @@ impl Reader {
     }
 
     #[tactic(auto, unfolding(crate::specs::Grammar::rows_line))]
-    fn read_rows(&mut self, words: &[u8]) -> Result<(), LineRefused>
-        ensures { Gives cause_in (λ _. state_in self.new) result (rows_line (state_in self.old) (words_of words.now)) }
+    fn read_rows(&mut self, words: &[u8]) -> Result<(), SchemaLineRefused>
+        ensures { Gives cause_in (λ _. progress_in self.new) result (rows_line (progress_in self.old) (words_of words.now)) }
     {
         check_order(self.stage.may_rows())?;
         self.draft.rows = read_limit(MAX_ROWS, only_word(words)?)?;
@@ -194,8 +194,8 @@ impl Reader {
     }
 
     #[tactic(auto, unfolding(crate::specs::Grammar::values_line))]
-    fn read_values(&mut self, words: &[u8]) -> Result<(), LineRefused>
-        ensures { Gives cause_in (λ _. state_in self.new) result (values_line (state_in self.old) (words_of words.now)) }
+    fn read_values(&mut self, words: &[u8]) -> Result<(), SchemaLineRefused>
+        ensures { Gives cause_in (λ _. progress_in self.new) result (values_line (progress_in self.old) (words_of words.now)) }
     {
         check_order(self.stage.may_values())?;
         self.draft.values = read_limit(MAX_CODES, only_word(words)?)?;
@@ -205,9 +205,14 @@ impl Reader {
 
     // A line behind the first, by its first word.
     #[tactic(auto, unfolding(crate::specs::Grammar::named_line))]
-    fn read_named(&mut self, alloc: Global, word: &[u8], words: &[u8]) -> Result<(), LineRefused>
+    fn read_named(
+        &mut self,
+        alloc: Global,
+        word: &[u8],
+        words: &[u8],
+    ) -> Result<(), SchemaLineRefused>
         requires { length self.old.draft.measures.items ≤ VERSION_1_MEASURES }
-        ensures { Gives cause_in (λ _. state_in self.new) result (named_line (state_in self.old) word.now (words_of words.now)) }
+        ensures { Gives cause_in (λ _. progress_in self.new) result (named_line (progress_in self.old) word.now (words_of words.now)) }
     {
         if word == b"id".as_slice() {
             self.read_id(alloc, words)
@@ -224,15 +229,15 @@ impl Reader {
         } else if word == b"values".as_slice() {
             self.read_values(words)
         } else {
-            Err(LineRefused::Cause(SchemaCause::Order))
+            Err(SchemaLineRefused::Cause(SchemaCause::Order))
         }
     }
 
     /// Takes a line, or names the first cause that holds.
     #[tactic(auto, unfolding(crate::specs::Grammar::take_line))]
-    pub fn read_line(&mut self, alloc: Global, line: &[u8]) -> Result<(), LineRefused>
+    pub fn read_line(&mut self, alloc: Global, line: &[u8]) -> Result<(), SchemaLineRefused>
         requires { length self.old.draft.measures.items ≤ VERSION_1_MEASURES }
-        ensures { Gives cause_in (λ _. state_in self.new) result (take_line (state_in self.old) line.now) }
+        ensures { Gives cause_in (λ _. progress_in self.new) result (take_line (progress_in self.old) line.now) }
     {
         if is_comment_line(line) {
             return Ok(());

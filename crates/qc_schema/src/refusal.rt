@@ -1,70 +1,80 @@
 // Why a text is no schema.
 ghost use Rattle.std.specs.Prelude.{◌≡◌};
-ghost use Rattle.qc_schema.specs.declared.refusal.LineRefused.TheVariants as faults;
-ghost use Rattle.qc_schema.specs.States.{refused_at};
+ghost use Rattle.qc_schema.specs.declared.refusal.SchemaLineRefused.TheVariants as faults;
+ghost use Rattle.qc_schema.specs.Progress.{refused_at};
 
 use std::alloc::{AllocError, AllocFailed};
+use thiserror::Error;
 
 /// What is wrong with a line. Of several causes the first in this order is named.
-#[derive(Clone, Copy, Debug, PartialEq, Eq)]
+#[derive(Clone, Copy, Debug, PartialEq, Eq, Error)]
 pub enum SchemaCause {
     /// The first line isn't `qcube 1`.
+    #[error("the first line is not `qcube 1`")]
     Version,
     /// The line's first word isn't known, or the line may not stand here.
+    #[error("the line is unknown or may not stand here")]
     Order,
     /// The line has too many or too few words.
+    #[error("the line has too many or too few words")]
     Words,
     /// A name isn't one, or is used before; or an index is unknown or stands a second time.
+    #[error("a name is none, or was used before")]
     Name,
     /// A number is outside its range.
+    #[error("a number is outside its range")]
     Number,
     /// The text ends before it has a dimension.
+    #[error("the text ends before it has a dimension")]
     End,
 }
 
 /// Why bytes give no schema.
-#[derive(Clone, Copy, Debug, PartialEq, Eq)]
+#[derive(Clone, Copy, Debug, PartialEq, Eq, Error)]
 pub enum SchemaRefused {
     /// The text isn't UTF-8.
+    #[error("the text is not UTF-8")]
     NotUtf8,
     /// The first line that isn't right, counted from 1. At the end of the text it is one more than
     /// the number of lines.
+    #[error("line {line}: {cause}")]
     Line { line: u32, cause: SchemaCause },
     /// Memory ran out.
+    #[error("memory ran out")]
     Memory,
 }
 
 /// Why a line isn't taken.
 #[derive(Clone, Copy, Debug, PartialEq, Eq)]
-pub enum LineRefused {
+pub enum SchemaLineRefused {
     Cause(SchemaCause),
     Memory,
 }
 
-impl LineRefused {
+impl SchemaLineRefused {
     /// Why the text is refused, of which this is the line with that number.
     pub fn at(self, line: u32) -> SchemaRefused
         ensures { result ≡ refused_at line self }
     {
         match self {
-            LineRefused::Cause(cause) => SchemaRefused::Line { line, cause },
-            LineRefused::Memory => SchemaRefused::Memory,
+            SchemaLineRefused::Cause(cause) => SchemaRefused::Line { line, cause },
+            SchemaLineRefused::Memory => SchemaRefused::Memory,
         }
     }
 }
 
-impl From<AllocError> for LineRefused {
+impl From<AllocError> for SchemaLineRefused {
     ghost from_gives = { λ _ e. e ≡ faults.Memory };
 
     fn from(_: AllocError) -> Self {
-        LineRefused::Memory
+        SchemaLineRefused::Memory
     }
 }
 
-impl<T: Drop> From<AllocFailed<T>> for LineRefused {
+impl<T: Drop> From<AllocFailed<T>> for SchemaLineRefused {
     ghost from_gives = { λ _ e. e ≡ faults.Memory };
 
     fn from(_: AllocFailed<T>) -> Self {
-        LineRefused::Memory
+        SchemaLineRefused::Memory
     }
 }

@@ -4,10 +4,10 @@ ghost use Rattle.qc_schema.specs.Grammar.{measure_from, read_lines, schema_in, s
 ghost use Rattle.text_lines.specs.Lines.{lines_of, without_cr};
 ghost use Rattle.qc_schema.specs.Schema.{IsLayout, no_measure};
 ghost use Rattle.cell_core.specs.Gives.{Gives};
-ghost use Rattle.qc_schema.specs.States.{layout_in, schema_fault_in};
+ghost use Rattle.qc_schema.specs.Progress.{layout_in, schema_fault_in};
 
 use crate::draft::{Draft, measure_named};
-use crate::reader::Reader;
+use crate::reader::SchemaReader;
 use crate::refusal::{SchemaCause, SchemaRefused};
 use aggregates::AggKind;
 use cube_defs::MAX_FILE;
@@ -23,7 +23,7 @@ pub struct Schema {
 
 impl Model for Schema {
     ghost use Rattle.qc_schema.specs.Schema.{IsLayout, Layout};
-    ghost use Rattle.qc_schema.specs.States.{layout_in};
+    ghost use Rattle.qc_schema.specs.Progress.{layout_in};
 
     ghost Value = { Layout };
 
@@ -120,7 +120,7 @@ fn read_draft(alloc: Global, text: &[u8]) -> Result<Draft, SchemaRefused>
     requires { length text.now ≤ MAX_FILE }
     ensures { Gives schema_fault_in layout_in result (read_lines (map without_cr (lines_of text.now)) 1 start) }
 {
-    let mut reader = Reader::new(alloc);
+    let mut reader = SchemaReader::new(alloc);
     let mut rest = text;
     let mut line: u32 = 1;
     'lines: while !rest.is_empty() {

@@ -1,9 +1,9 @@
 // The canonical text of a schema.
-ghost use Rattle.std.specs.Prelude.{◌≡◌, ◌<◌, [], ◌∷◌, ◌++◌, OnOk, IfOk, Ok, length, map, decimal, codes};
+ghost use Rattle.std.specs.Prelude.{◌≡◌, ◌<◌, [], ◌∷◌, ◌++◌, OnOk, IfOk, Ok, length, map, decimal};
 ghost use Rattle.std.specs.List.{flat_map};
 ghost use Rattle.aggregates.specs.Views.{IsThere};
 ghost use Rattle.qc_schema.specs.Grammar.{schema_in};
-ghost use Rattle.qc_schema.specs.Schema.{IsLayout, Layout};
+ghost use Rattle.qc_schema.specs.Schema.{IsLayout};
 ghost use Rattle.qc_schema.specs.Spelling.{dim_words, index_words, layout_text, limit_words, line_text, measure_words};
 
 use crate::Memory;

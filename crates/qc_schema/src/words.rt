@@ -6,9 +6,9 @@ ghost use Rattle.std.specs.Str.{all_ascii_digits};
 ghost use Rattle.qc_schema.specs.Grammar.{limit_in, scale_in};
 ghost use Rattle.qc_schema.specs.Schema.{is_name, is_name_byte};
 ghost use Rattle.cell_core.specs.Gives.{Gives};
-ghost use Rattle.qc_schema.specs.States.{cause_in};
+ghost use Rattle.qc_schema.specs.Progress.{cause_in};
 
-use crate::refusal::{LineRefused, SchemaCause};
+use crate::refusal::{SchemaCause, SchemaLineRefused};
 
 fn has_name_bytes(word: &[u8]) -> bool
     ensures { result ≡ list_all is_name_byte word.now }
@@ -51,7 +51,7 @@ fn short_number(word: &[u8]) -> Option<u32>
 }
 
 /// The scale that a word spells.
-pub fn read_scale(word: &[u8]) -> Result<u8, LineRefused>
+pub fn read_scale(word: &[u8]) -> Result<u8, SchemaLineRefused>
     ensures { Gives cause_in (λ n. n) result (scale_in word.now) }
 {
     if word.len() == 1
@@ -60,18 +60,18 @@ pub fn read_scale(word: &[u8]) -> Result<u8, LineRefused>
     {
         return Ok(value as u8);
     }
-    Err(LineRefused::Cause(SchemaCause::Number))
+    Err(SchemaLineRefused::Cause(SchemaCause::Number))
 }
 
 /// The limit that a word spells, from 1 to the most.
-pub fn read_limit(most: u32, word: &[u8]) -> Result<u32, LineRefused>
+pub fn read_limit(most: u32, word: &[u8]) -> Result<u32, SchemaLineRefused>
     ensures { Gives cause_in (λ n. n) result (limit_in most word.now) }
 {
     if word.is_empty() || word.len() > 7 {
-        return Err(LineRefused::Cause(SchemaCause::Number));
+        return Err(SchemaLineRefused::Cause(SchemaCause::Number));
     }
     match short_number(word) {
         Some(value) if 1 <= value && value <= most => Ok(value),
-        _ => Err(LineRefused::Cause(SchemaCause::Number)),
+        _ => Err(SchemaLineRefused::Cause(SchemaCause::Number)),
     }
 }

@@ -11,14 +11,13 @@ use Rattle.std.proofs.lemmas.Bool.{ltb-false, ltb-true}
 use Rattle.cell_core.specs.declared.fields.Field.{Field}
 use Rattle.cell_core.specs.declared.fields.Field.TheVariants as fields
 use Rattle.cube_defs.specs.Text.{Text, text_eq}
-use Rattle.cube_defs.specs.Cell.{Cell, cell_of}
+use Rattle.cube_defs.specs.Cell.{Cell}
 use Rattle.aggregates.specs.declared.agg.Agg as shown
 use Rattle.aggregates.specs.Views.{agg_in}
-use Rattle.cube_defs.specs.Rows.{Agg, Row, agg_of, amounts_of, cov, meet_all, part_of}
-use Rattle.cube_laws.specs.Recoding.{AreKnown, RowsAreKnown, coded, coded_row}
+use Rattle.cube_defs.specs.Rows.{Agg, Row, agg_of, amounts_of, cov, part_of}
+use Rattle.cube_laws.specs.Recoding.{AreKnown, RowsAreKnown, coded_cell, coded_row}
 use Rattle.cube_laws.specs.Total.{agg_at, agg_some}
 use Rattle.query_script.specs.Commands.{IsCellField}
-use Rattle.tree_search.specs.Found.{Source, total_in}
 use Rattle.value_dict.specs.TextLists.{cell_in, entry_in}
 use Rattle.value_dict.specs.Told.{has_text, place_in}
 use Rattle.value_dict.proofs.Places.{any-within, within-any}
@@ -82,7 +81,7 @@ some-joined (Some e) (Some c) cell h = record { first = e; more = c; entry_is = 
 
 -- where each field's entry is there, the cell is the code of the asked cell, which is known
 pub record IsFound (texts : List (List Text)) (k : ℕ) (asked : Cell Text) (cell : Cell ℕ) : Type 0 where
-  pub code : cell ≡ coded (place_in texts) k asked
+  pub code : cell ≡ coded_cell (place_in texts) k asked
   pub known : AreKnown (has_text texts) k asked
 
 found-more : (texts : List (List Text)) (k : ℕ) (list : List Text) (entry : Option Text) (asked : Cell Text) (e : Option ℕ) (c : Cell ℕ) → get_or texts k [] ≡ list → IsEntry list entry e → IsFound texts (suc k) asked c
@@ -149,14 +148,6 @@ pub total-none : (texts lists : List (List Text)) (measures : ℕ) (rows : List 
     → cell_in lists asked ≡ None → agg_at text_eq measures rows (cell_asked asked) ≡ None
 total-none texts lists measures rows asked same len h point e =
     total-missing texts measures rows (cell_asked asked) h (cell-missing texts 0 texts asked len (fits texts) point (rw same at e))
-
--- what rows come to, with the meet of their tuples or without
-total-some : (measures : ℕ) (covered : List (Row ℕ)) → option_map (λ _. agg_of measures covered) (meet_all (eq_by_cmp nat_cmp) (map (λ row. cell_of row.tuple) covered)) ≡ agg_some measures covered
-total-some measures [] = refl
-total-some measures (r ∷ rows) = refl
-
-pub total-at : (source : Source) (cell : Cell ℕ) → total_in source cell ≡ agg_at (eq_by_cmp nat_cmp) source.measures source.rows cell
-total-at source cell = total-some source.measures (cov (eq_by_cmp nat_cmp) source.rows cell)
 
 -- what some rows come to has a part for each measure
 length-some : (measures : ℕ) (rows : List (Row Text)) (a : Agg) → agg_some measures rows ≡ Some a → length a.parts ≡ measures

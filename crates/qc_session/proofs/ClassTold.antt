@@ -13,7 +13,7 @@ use Rattle.cube_laws.specs.Recoding.{RowsAreKnown, coded_row}
 use Rattle.cube_laws.proofs.Lists.{all_map}
 use Rattle.cell_core.specs.declared.fields.Field.{Field}
 use Rattle.value_dict.specs.TextLists.{cell_in}
-use Rattle.value_dict.specs.Told.{HasTexts, IsTold, has_text, place_in, told_cell, told_hit}
+use Rattle.value_dict.specs.Told.{HasTexts, IsTellableClass, has_text, place_in, told_cell, told_hit}
 use Rattle.value_dict.proofs.ToldCells.{fits, has-texts, told-coded}
 use Rattle.value_dict.proofs.ToldClasses.{IsToldClass, class-missing, class-told}
 use Rattle.lower_bounds.specs.Classes.{hit_in}
@@ -27,7 +27,7 @@ use Rattle.qc_session.proofs.Asked.{cell-found, cell-missing}
 -- what is found by codes is the class by texts
 pub record IsFoundClass (texts : List (List Text)) (measures : ℕ) (rows : List (Row Text)) (c : Cell Text) (found : Option Class) : Type 0 where
   pub value : option_map (λ k. told_hit texts (hit_in k)) found ≡ class_of text_cmp measures rows c
-  pub told : IfSome found (λ k. IsTold texts measures (hit_in k))
+  pub told : IfSome found (λ k. IsTellableClass texts measures (hit_in k))
 
 found-of : (texts : List (List Text)) (measures : ℕ) (rows : List (Row Text)) (c : Cell Text) (found : Option Class) → IsToldClass texts measures rows c (option_map hit_in found) → IsFoundClass texts measures rows c found
 found-of texts measures rows c None is = record { value = is.value; told = tt }

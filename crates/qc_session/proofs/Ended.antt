@@ -5,7 +5,7 @@ use Rattle.std.proofs.lemmas.Bool.{le-ltb}
 use Rattle.cube_defs.specs.declared.limits.TheConstants.{MAX_FILE}
 use Rattle.qc_io.specs.Outside.{Rose, Told}
 use Rattle.warehouse.specs.State.{State}
-use Rattle.qc_session.specs.Forms.{Names}
+use Rattle.qc_session.specs.Forms.{FileNames}
 use Rattle.qc_session.specs.Lines.{script_lines}
 use Rattle.qc_session.specs.Runs.{AreSkipped, CannotRead, Cause, Finished, IsScriptOf, IsStartOf, Said, StoppedAt, StoppedWriting, WroteAll, refusal_of}
 use Rattle.qc_session.specs.Session.{IfStop}
@@ -36,20 +36,20 @@ broken-ended stop told start start2 skipped skipped2 lines lines2 before now is 
     go None h = tt
     go (Some t) h = rw (sym s, k, sym l) h
 
-pub finished-run : (told : Option Told) (names : Names) (start : State) (script skipped : List ℕ) (end : Option State) (before now : Option (List ℕ)) → IfSome told (λ t. IsStartOf t names.schema start) → IfSome told (λ t. IsScriptOf t names.script script)
+pub finished-run : (told : Option Told) (names : FileNames) (start : State) (script skipped : List ℕ) (end : Option State) (before now : Option (List ℕ)) → IfSome told (λ t. IsStartOf t names.schema start) → IfSome told (λ t. IsScriptOf t names.script script)
     → IfSome told (λ t. WroteAll t start skipped (script_lines script) end before now) → IfSome told (λ t. Finished t names skipped end before now)
 finished-run None names start script skipped end before now is is_script wrote = tt
 finished-run (Some t) names start script skipped end before now is is_script wrote = record { start = start; script = script; start_read = is; script_read = is_script; wrote = wrote }
 
-pub skipped-run : (told : Option Told) (names : Names) (script skipped : List ℕ) → IfSome told (λ t. IsScriptOf t names.script script) → AreSkipped (script_lines script) skipped
+pub skipped-run : (told : Option Told) (names : FileNames) (script skipped : List ℕ) → IfSome told (λ t. IsScriptOf t names.script script) → AreSkipped (script_lines script) skipped
     → IfSome told (λ t. MatchOption (t names.script) (skipped ≡ []) (λ bytes. AreSkipped (script_lines bytes) skipped))
 skipped-run None names script skipped is_script are = tt
 skipped-run (Some t) names script skipped is_script are = rw is_script.is_told are
 
-unrefused : (t : Told) (names : Names) (start : State) (script : List ℕ) → IsStartOf t names.schema start → IsScriptOf t names.script script → refusal_of (t names.schema) names (t names.script) ≡ None
+unrefused : (t : Told) (names : FileNames) (start : State) (script : List ℕ) → IsStartOf t names.schema start → IsScriptOf t names.script script → refusal_of (t names.schema) names (t names.script) ≡ None
 unrefused t names start script is is_script = rw (is.is_told, is_script.is_told, le-ltb MAX_FILE (length is.bytes) is.within, is.read, le-ltb MAX_FILE (length script) is_script.within) refl
 
-pub refusal-run : (told : Option Told) (names : Names) (start : State) (script : List ℕ) (ends : Type 0) → IfSome told (λ t. IsStartOf t names.schema start) → IfSome told (λ t. IsScriptOf t names.script script)
+pub refusal-run : (told : Option Told) (names : FileNames) (start : State) (script : List ℕ) (ends : Type 0) → IfSome told (λ t. IsStartOf t names.schema start) → IfSome told (λ t. IsScriptOf t names.script script)
     → IfSome told (λ t. IsSome (refusal_of (t names.schema) names (t names.script)) → ends)
 refusal-run None names start script ends is is_script = tt
 refusal-run (Some t) names start script ends is is_script = λ refused. absurd (go (refusal_of (t names.schema) names (t names.script)) (unrefused t names start script is is_script) refused)
@@ -61,7 +61,7 @@ refusal-run (Some t) names start script ends is is_script = λ refused. absurd (
 pub rose-later : (first before now : ℕ) → first ≤ before → Rose before now → Rose first now
 rose-later first before now le h = omega (arith, le, h)
 
-pub complete-run : (told : Option Told) (names : Names) (status : ℕ) (files out : Type 0) → ((status ≡ 0) ⊎ (status ≡ 3) ⊎ (status ≡ 4) ⊎ (status ≡ 5)) → (status ≡ 3 → files) → (status ≡ 4 → out)
+pub complete-run : (told : Option Told) (names : FileNames) (status : ℕ) (files out : Type 0) → ((status ≡ 0) ⊎ (status ≡ 3) ⊎ (status ≡ 4) ⊎ (status ≡ 5)) → (status ≡ 3 → files) → (status ≡ 4 → out)
     → IfSome told (λ t. IsNone (refusal_of (t names.schema) names (t names.script)) → (files → ⊥) → (out → ⊥) → (status ≡ 0) ⊎ (status ≡ 5))
 complete-run None names status files out known f o = tt
 complete-run (Some t) names status files out known f o = λ fine no_files no_out. go known no_files no_out

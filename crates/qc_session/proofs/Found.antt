@@ -4,7 +4,7 @@ use Rattle.std.specs.Prelude.{IsSome}
 use Rattle.std.specs.List.{AllByRecursion}
 use Rattle.std.proofs.lemmas.List.Elements.{recursion_from_All}
 use Rattle.qc_io.specs.Outside.{Told}
-use Rattle.qc_session.specs.Forms.{Form, Gen, IfRun, Names, Run}
+use Rattle.qc_session.specs.Forms.{Form, Gen, IfRun, FileNames, Run}
 use Rattle.qc_session.specs.Lines.{script_lines}
 use Rattle.qc_session.specs.Answers.{file_of}
 use Rattle.qc_session.specs.Runs.{AllTold, CannotRead, IsLineTold, LineUnread, Said, Unread}
@@ -25,7 +25,7 @@ line-told t (Some n) name e h = rw (some e) at h
     some : {x y : List ℕ} → Some x ≡ Some y → x ≡ y
     some e = cc
 
-line-unread : (t : Told) (sure : Type 0) (names : Names) (skipped name : List ℕ) (before now : Option (List ℕ)) → sure → AllTold t names → LineUnread t sure names skipped name before now → ⊥
+line-unread : (t : Told) (sure : Type 0) (names : FileNames) (skipped name : List ℕ) (before now : Option (List ℕ)) → sure → AllTold t names → LineUnread t sure names skipped name before now → ⊥
 line-unread t sure names skipped name before now surely all u =
     let s = u.stopped in
     let lines = recursion_from_All (IsLineTold t u.start.schema) (script_lines u.script) (all.lines u.start u.script u.start_read u.script_read) in
@@ -33,7 +33,7 @@ line-unread t sure names skipped name before now surely all u =
     let same = took-schema t u.start skipped s.done s.wrote.state s.wrote.replies s.wrote.took in
     not-none (t name) (s.untold surely) (line-told t (file_of u.start.schema s.line) name (rw same at s.names) line)
 
-none-unread : (t : Told) (sure : Type 0) (names : Names) (skipped name : List ℕ) (before now : Option (List ℕ)) → sure → AllTold t names → Unread t sure names skipped name before now → ⊥
+none-unread : (t : Told) (sure : Type 0) (names : FileNames) (skipped name : List ℕ) (before now : Option (List ℕ)) → sure → AllTold t names → Unread t sure names skipped name before now → ⊥
 none-unread t sure names skipped name before now surely all (inl u) = not-none (t names.schema) (rw u.is_schema at (u.untold surely)) all.schema
 none-unread t sure names skipped name before now surely all (inr (inl u)) = not-none (t names.script) (rw u.is_script at (u.untold surely)) all.script
 none-unread t sure names skipped name before now surely all (inr (inr u)) = line-unread t sure names skipped name before now surely all u

@@ -13,7 +13,7 @@ use Rattle.query_script.specs.Questions as asks
 use Rattle.query_script.specs.Questions.{Question}
 use Rattle.reply_text.specs.Replies.{memory_text, refused_text, size_texts}
 use Rattle.warehouse.specs.Batch as batches
-use Rattle.warehouse.specs.Batch.{Applied, Kind, Refusal, after, refusal_of, result, result_of, rows_after, unless}
+use Rattle.warehouse.specs.Batch.{Applied, FileUse, Refusal, after, refusal_of, result, result_of, rows_after, unless}
 use Rattle.warehouse.specs.State.{State}
 use Rattle.qc_session.specs.Answers.{Answered, answer, answer_to, changed, file_answer, stays}
 use Rattle.qc_session.specs.Lines.{is_passed}
@@ -29,7 +29,7 @@ of-schema s (Err fault) found e = cc
 of-schema s (Ok changes) found e =
     ap (λ (a : Applied). a.state.schema) (sym (unless-ok (refusal_of s changes) (record { records = length changes; classes = length (classes text_cmp (rows_after s.rows changes)); state = after s changes }) found e))
 
-result-schema : (s : State) (kind : Kind) (bytes : List ℕ) (found : Applied) → result s kind bytes ≡ Ok found → found.state.schema ≡ s.schema
+result-schema : (s : State) (kind : FileUse) (bytes : List ℕ) (found : Applied) → result s kind bytes ≡ Ok found → found.state.schema ≡ s.schema
 result-schema s batches.Load bytes found e = go (length s.rows == 0) e
   where
     go : (b : Bool) → cond b (result_of s (base_in s.schema bytes)) (Err batches.NotEmpty) ≡ Ok found → found.state.schema ≡ s.schema
@@ -41,14 +41,14 @@ changed-schema : (s : State) (line : ℕ) (outcome : Result Applied Refusal) →
 changed-schema s line (Ok applied) h = h applied refl
 changed-schema s line (Err refusal) h = refl
 
-file-schema : (s : State) (line : ℕ) (kind : Kind) (bytes : List ℕ) → (file_answer s line kind bytes).state.schema ≡ s.schema
+file-schema : (s : State) (line : ℕ) (kind : FileUse) (bytes : List ℕ) → (file_answer s line kind bytes).state.schema ≡ s.schema
 file-schema s line kind bytes = go (nat_lt MAX_FILE (length bytes))
   where
     go : (b : Bool) → (cond b (stays s (refused_text line size_texts)) (changed s line (result s kind bytes))).state.schema ≡ s.schema
     go true = refl
     go false = changed-schema s line (result s kind bytes) (result-schema s kind bytes)
 
-named-schema : (s : State) (line : ℕ) (kind : Kind) (bytes : Option (List ℕ)) → IfSome (option_map (file_answer s line kind) bytes) (λ a. a.state.schema ≡ s.schema)
+named-schema : (s : State) (line : ℕ) (kind : FileUse) (bytes : Option (List ℕ)) → IfSome (option_map (file_answer s line kind) bytes) (λ a. a.state.schema ≡ s.schema)
 named-schema s line kind None = tt
 named-schema s line kind (Some bytes) = file-schema s line kind bytes
 

@@ -10,7 +10,7 @@ use Rattle.csv_load.specs.Batch.{Change, deleted, inserted}
 use Rattle.csv_load.specs.Files.{base_in, batch_in}
 use Rattle.csv_load.specs.Faults.{Fault}
 use Rattle.warehouse.specs.Batch as batches
-use Rattle.warehouse.specs.Batch.{Applied, Kind, Refusal, after, first_number, first_twice, full_dim, is_missing, is_present, or_else, refusal_of, result, result_of, rows_after, texts_after, unless, with_row, with_tuple}
+use Rattle.warehouse.specs.Batch.{Applied, FileUse, Refusal, after, first_number, first_twice, full_dim, is_missing, is_present, or_else, refusal_of, result, result_of, rows_after, texts_after, unless, with_row, with_tuple}
 use Rattle.warehouse.specs.State.{IsState, State, ids_of}
 use Rattle.warehouse.specs.Stored.{refusal_in}
 use Rattle.warehouse.specs.declared.refused.Refused.{Refused}
@@ -87,7 +87,7 @@ of-within : (s : State) (read : Result (List (Change Text)) Fault) (dim : ℕ) �
 of-within s (Err fault) dim is e = cc
 of-within s (Ok changes) dim is e = values-within s changes dim is (unless-err (refusal_of s changes) (record { records = length changes; classes = length (classes text_cmp (rows_after s.rows changes)); state = after s changes }) _ e)
 
-result-within : (s : State) (kind : Kind) (bytes : List ℕ) (dim : ℕ) → IsState s → result s kind bytes ≡ Err (batches.ValuesFull dim) → dim < length s.schema.dims
+result-within : (s : State) (kind : FileUse) (bytes : List ℕ) (dim : ℕ) → IsState s → result s kind bytes ≡ Err (batches.ValuesFull dim) → dim < length s.schema.dims
 result-within s batches.Load bytes dim is e = go (length s.rows == 0) e
   where
     go : (b : Bool) → cond b (result_of s (base_in s.schema bytes)) (Err batches.NotEmpty) ≡ Err (batches.ValuesFull dim) → dim < length s.schema.dims
@@ -95,7 +95,7 @@ result-within s batches.Load bytes dim is e = go (length s.rows == 0) e
     go false h = cc
 result-within s batches.Apply bytes dim is e = of-within s (batch_in s.schema bytes) dim is e
 
-pub dim-within : (s : State) (kind : Kind) (bytes : List ℕ) (e : Refused) → IsState s → IfSome (refusal_in e) (λ r. result s kind bytes ≡ Err r) → IsDimension e (length s.schema.dims)
+pub dim-within : (s : State) (kind : FileUse) (bytes : List ℕ) (e : Refused) → IsState s → IfSome (refusal_in e) (λ r. result s kind bytes ≡ Err r) → IsDimension e (length s.schema.dims)
 dim-within s kind bytes files.NotEmpty is h = tt
 dim-within s kind bytes files.Header is h = tt
 dim-within s kind bytes (files.Fields k) is h = tt

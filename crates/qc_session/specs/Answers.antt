@@ -22,7 +22,7 @@ use Rattle.query_script.specs.Questions.{Question}
 use Rattle.range_query.specs.Work.{work}
 use Rattle.value_dict.specs.Boxes.{asked_box}
 use Rattle.value_dict.specs.Told.{has_text}
-use Rattle.warehouse.specs.Batch.{Applied, Kind, Load, Apply, Refusal, result}
+use Rattle.warehouse.specs.Batch.{Applied, FileUse, Load, Apply, Refusal, result}
 use Rattle.warehouse.specs.State.{State}
 use Rattle.reply_text.specs.Replies.{applied_text, batch_texts, bounds_reply, iceberg_text, line_texts, point_reply, range_reply, refused_text, size_texts, stats_text}
 use Rattle.cube_defs.specs.declared.limits.TheConstants.{MAX_FILE}
@@ -40,7 +40,7 @@ abbrev pub changed : State → ℕ → Result Applied Refusal → Answered
 changed state line (Ok applied) = record { state = applied.state; reply = applied_text line applied.records applied.classes }
 changed state line (Err refusal) = stays state (refused_text line (batch_texts state.schema refusal))
 
-abbrev pub file_answer : State → ℕ → Kind → List ℕ → Answered
+abbrev pub file_answer : State → ℕ → FileUse → List ℕ → Answered
 file_answer state line kind bytes =
     if nat_lt MAX_FILE (length bytes) then stays state (refused_text line size_texts)
     else changed state line (result state kind bytes)

@@ -1,7 +1,7 @@
 -- The failures of the code as causes.
 use Rattle.std.specs.Prelude.{ℕ, List, ◌≡◌, Option, Some, None, IfSome, ⊤}
 use Rattle.qc_session.specs.Runs as runs
-use Rattle.qc_schema.specs.States.{Fault, schema_fault_in}
+use Rattle.qc_schema.specs.Progress.{Fault, schema_fault_in}
 use Rattle.qc_schema.specs.declared.refusal.SchemaRefused.{SchemaRefused}
 use Rattle.qc_session.specs.declared.failure.Failure.{Failure}
 use Rattle.qc_session.specs.declared.failure.Failure.TheVariants as failures

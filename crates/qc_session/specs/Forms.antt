@@ -6,7 +6,7 @@ use Rattle.aggregates.specs.Numbers.{id_in}
 use Rattle.cube_defs.specs.declared.limits.TheConstants.{MAX_ROWS}
 
 -- the names of a schema and of a script
-pub record Names : Type 0 where
+pub record FileNames : Type 0 where
   pub schema : List ℕ
   pub script : List ℕ
 
@@ -17,7 +17,7 @@ pub record Drawing : Type 0 where
 
 -- a listed form: `run SCHEMA SCRIPT`, or `gen ROWS SEED`
 pub data Form : Type 0 where
-  Run : Names → Form
+  Run : FileNames → Form
   Gen : Drawing → Form
 
 -- from one row to the most that a cube may have; the numbers are there where the words are decimal digits alone, of a value below 2 ^ 64
@@ -38,7 +38,7 @@ form_of (a ∷ b ∷ c ∷ []) =
 form_of (a ∷ b ∷ c ∷ d ∷ more) = None
 
 -- a fact of the two names, where the form is that of a run
-abbrev pub IfRun : Option Form → (Names → Type 0) → Type 0
+abbrev pub IfRun : Option Form → (FileNames → Type 0) → Type 0
 IfRun None P = ⊤
 IfRun (Some (Run names)) P = P names
 IfRun (Some (Gen drawing)) P = ⊤

@@ -5,13 +5,13 @@ use Rattle.cube_defs.specs.declared.limits.TheConstants.{MAX_FILE}
 use Rattle.qc_io.specs.Outside.{Told, taking}
 use Rattle.qc_schema.specs.Grammar.{schema_in}
 use Rattle.qc_schema.specs.Schema.{Layout}
-use Rattle.qc_schema.specs.States as schemas
+use Rattle.qc_schema.specs.Progress as schemas
 use Rattle.qc_schema.specs.declared.refusal.SchemaCause.{SchemaCause}
 use Rattle.qc_schema.specs.declared.refusal.SchemaCause.TheVariants as causes
 use Rattle.query_script.specs.Lines.{may_want_memory}
-use Rattle.warehouse.specs.State.{Held, State, empty}
+use Rattle.warehouse.specs.State.{Contents, State, empty}
 use Rattle.qc_session.specs.Answers.{file_of}
-use Rattle.qc_session.specs.Forms.{Names}
+use Rattle.qc_session.specs.Forms.{FileNames}
 use Rattle.qc_session.specs.Lines.{is_passed, script_lines}
 use Rattle.qc_session.specs.Transcript.{run_at, transcript}
 
@@ -82,7 +82,7 @@ abbrev pub fault_or : Result State schemas.Fault → Option Cause → Option Cau
 fault_or (Ok start) other = other
 fault_or (Err fault) other = Some (NoSchema fault)
 
-abbrev pub refusal_of : Option (List ℕ) → Names → Option (List ℕ) → Option Cause
+abbrev pub refusal_of : Option (List ℕ) → FileNames → Option (List ℕ) → Option Cause
 refusal_of None names script = None
 refusal_of (Some schema) names None =
     if nat_lt MAX_FILE (length schema) then Some (TooLong names.schema)
@@ -110,7 +110,7 @@ pub record AreSkipped (lines : List (List ℕ)) (skipped : List ℕ) : Type 0 wh
   pub commands : AllByRecursion (λ k. may_skip (line_at lines k) ≡ true) skipped
 
 -- the state of the warehouse that a run hands back
-abbrev pub state_in : Option Held → Option State
+abbrev pub state_in : Option Contents → Option State
 state_in end = option_map (λ held. held.state) end
 
 -- these lines were taken, and these were their replies
@@ -175,7 +175,7 @@ abbrev pub IsNever : schemas.Fault → Told → Type 0
 IsNever fault t = ⊥
 
 -- the whole transcript of the script's lines was written, and the run hands back the state at its end
-pub record Finished (told : Told) (names : Names) (skipped : List ℕ) (end : Option State) (before now : Option (List ℕ)) : Type 0 where
+pub record Finished (told : Told) (names : FileNames) (skipped : List ℕ) (end : Option State) (before now : Option (List ℕ)) : Type 0 where
   pub start : State
   pub script : List ℕ
   pub start_read : IsStartOf told names.schema start
@@ -183,7 +183,7 @@ pub record Finished (told : Told) (names : Names) (skipped : List ℕ) (end : Op
   pub wrote : WroteAll told start skipped (script_lines script) end before now
 
 -- a reply couldn't be written
-pub record BrokenOff (told : Told) (names : Names) (skipped : List ℕ) (before now : Option (List ℕ)) : Type 0 where
+pub record BrokenOff (told : Told) (names : FileNames) (skipped : List ℕ) (before now : Option (List ℕ)) : Type 0 where
   pub start : State
   pub script : List ℕ
   pub start_read : IsStartOf told names.schema start
@@ -191,7 +191,7 @@ pub record BrokenOff (told : Told) (names : Names) (skipped : List ℕ) (before 
   pub wrote : StoppedWriting told start skipped (script_lines script) before now
 
 -- a file that a line names couldn't be read
-pub record LineUnread (told : Told) (sure : Type 0) (names : Names) (skipped : List ℕ) (name : List ℕ) (before now : Option (List ℕ)) : Type 0 where
+pub record LineUnread (told : Told) (sure : Type 0) (names : FileNames) (skipped : List ℕ) (name : List ℕ) (before now : Option (List ℕ)) : Type 0 where
   pub start : State
   pub script : List ℕ
   pub start_read : IsStartOf told names.schema start
@@ -199,20 +199,20 @@ pub record LineUnread (told : Told) (sure : Type 0) (names : Names) (skipped : L
   pub stopped : StoppedAt told sure start skipped (script_lines script) name before now
 
 -- the schema couldn't be read
-pub record SchemaUnread (told : Told) (sure : Type 0) (names : Names) (name : List ℕ) (before now : Option (List ℕ)) : Type 0 where
+pub record SchemaUnread (told : Told) (sure : Type 0) (names : FileNames) (name : List ℕ) (before now : Option (List ℕ)) : Type 0 where
   pub is_schema : name ≡ names.schema
   pub nothing : now ≡ before
   pub untold : sure → told name ≡ None
 
 -- the script couldn't be read, and the schema was
-pub record ScriptUnread (told : Told) (sure : Type 0) (names : Names) (name : List ℕ) (before now : Option (List ℕ)) : Type 0 where
+pub record ScriptUnread (told : Told) (sure : Type 0) (names : FileNames) (name : List ℕ) (before now : Option (List ℕ)) : Type 0 where
   pub is_script : name ≡ names.script
   pub start : State
   pub start_read : IsStartOf told names.schema start
   pub nothing : now ≡ before
   pub untold : sure → told name ≡ None
 
-abbrev pub Unread : Told → Type 0 → Names → List ℕ → List ℕ → Option (List ℕ) → Option (List ℕ) → Type 0
+abbrev pub Unread : Told → Type 0 → FileNames → List ℕ → List ℕ → Option (List ℕ) → Option (List ℕ) → Type 0
 Unread told sure names skipped name before now =
     SchemaUnread told sure names name before now ⊎ ScriptUnread told sure names name before now ⊎ LineUnread told sure names skipped name before now
 
@@ -221,7 +221,7 @@ abbrev pub IsLineTold : Told → Layout → List ℕ → Type 0
 IsLineTold told schema line = IfSome (file_of schema line) (λ name. IsSome (told name))
 
 -- each file that the words and the lines name is told
-pub record AllTold (told : Told) (names : Names) : Type 0 where
+pub record AllTold (told : Told) (names : FileNames) : Type 0 where
   pub schema : IsSome (told names.schema)
   pub script : IsSome (told names.script)
   pub lines : (start : State) (script : List ℕ) → IsStartOf told names.schema start → IsScriptOf told names.script script → All (IsLineTold told start.schema) (script_lines script)

@@ -25,7 +25,7 @@ use warehouse::{Applied, Refused, Warehouse};
 
 /// What a file is taken for.
 #[derive(Clone, Copy, Debug, PartialEq, Eq)]
-pub enum Kind {
+pub enum FileUse {
     /// A base file.
     Load,
     /// A batch of corrections.
@@ -49,7 +49,7 @@ ghost use Rattle.warehouse.specs.Stored.{applied_in, refusal_in};
 // Takes the bytes of a file. A batch is applied in place.
 fn take_file<L: Ledger>(
     warehouse: &mut Warehouse,
-    kind: Kind,
+    kind: FileUse,
     bytes: &[u8],
     steps: &mut Steps<L>,
 ) -> Result<Applied, Refused>
@@ -62,24 +62,26 @@ fn take_file<L: Ledger>(
     ensures tree { OnErr result (warehouse.new.tree ≡ warehouse.old.tree) }
 {
     match kind {
-        Kind::Load => warehouse.load(bytes, steps),
-        Kind::Apply => warehouse.apply(bytes, steps),
+        FileUse::Load => warehouse.load(bytes, steps),
+        FileUse::Apply => warehouse.apply(bytes, steps),
     }
 }
 
-// The same, with its reply.
+// Takes the bytes of a file, and gives the reply to its line.
 fn change<L: Ledger>(
     warehouse: &mut Warehouse,
     number: u32,
-    kind: Kind,
+    kind: FileUse,
     bytes: &[u8],
     steps: &mut Steps<L>,
 ) -> Result<ShortReply, Memory>
     requires { length bytes.now ≤ MAX_FILE }
-    ensures ok { IfOk result (λ reply. changed warehouse.old.state number (batches.result warehouse.old.state (kind_in kind) bytes.now) ≡ record { state = warehouse.new.state; reply = reply }) }
+    ensures ok { IfOk result (λ reply. changed warehouse.old.state number (batches.result warehouse.old.state (kind_in kind) bytes.now)
+        ≡ record { state = warehouse.new.state; reply = reply }) }
     ensures numbers { kind_in kind ≡ batches.Apply → LeavesNumbers warehouse.old bytes.now warehouse.new }
     ensures apart { kind_in kind ≡ batches.Apply → LeavesApart warehouse.old bytes.now warehouse.new }
-    ensures steps { OnOk result (kind_in kind ≡ batches.Apply → IsTaken warehouse.old.state bytes.now → IsWithinCost warehouse.old bytes.now warehouse.new steps.old steps.new) }
+    ensures steps { OnOk result (kind_in kind ≡ batches.Apply → IsTaken warehouse.old.state bytes.now →
+        IsWithinCost warehouse.old bytes.now warehouse.new steps.old steps.new) }
     ensures state { OnErr result (warehouse.new.state ≡ warehouse.old.state) }
     ensures tree { OnErr result (warehouse.new.tree ≡ warehouse.old.tree) }
 {
@@ -98,7 +100,7 @@ fn answer_file<F: Files, L: Ledger>(
     files: &mut F,
     warehouse: &mut Warehouse,
     number: u32,
-    kind: Kind,
+    kind: FileUse,
     name: Text,
     steps: &mut Steps<L>,
 ) -> Result<Reply, LineStop>
@@ -109,10 +111,15 @@ fn answer_file<F: Files, L: Ledger>(
     ensures tree { OnErr result (warehouse.new.tree ≡ warehouse.old.tree) }
     ensures fault { IfErr result (λ stop. MatchLineStop stop ⊤ (λ file. (file ≡ name) × Rose (F.faults files.old) (F.faults files.new))) }
     ensures untold { IfErr result (λ stop. MatchLineStop stop ⊤ (λ file. IsTrue (F.steady files.old) → IfSome (F.told files.old) (λ t. t file ≡ None))) }
-    ensures answered { IfOk result (λ reply. IfSome (F.told files.old) (λ t. option_map (file_answer warehouse.old.state number (kind_in kind)) (t name) ≡ Some (record { state = warehouse.new.state; reply = reply_bytes reply }))) }
-    ensures numbers { IfSome (F.told files.old) (λ t. IfSome (t name) (λ bytes. kind_in kind ≡ batches.Apply → LeavesNumbers warehouse.old bytes warehouse.new)) }
+    ensures answered { IfOk result (λ reply. IfSome (F.told files.old)
+        (λ t. option_map (file_answer warehouse.old.state number (kind_in kind)) (t name)
+        ≡ Some (record { state = warehouse.new.state; reply = reply_bytes reply }))) }
+    ensures numbers { IfSome (F.told files.old) (λ t. IfSome (t name)
+        (λ bytes. kind_in kind ≡ batches.Apply → LeavesNumbers warehouse.old bytes warehouse.new)) }
     ensures apart { IfSome (F.told files.old) (λ t. IfSome (t name) (λ bytes. kind_in kind ≡ batches.Apply → LeavesApart warehouse.old bytes warehouse.new)) }
-    ensures steps { OnOk result (IfSome (F.told files.old) (λ t. IfSome (t name) (λ bytes. kind_in kind ≡ batches.Apply → IsTaken warehouse.old.state bytes → IsWithinCost warehouse.old bytes warehouse.new steps.old steps.new))) }
+    ensures steps { OnOk result (IfSome (F.told files.old)
+        (λ t. IfSome (t name) (λ bytes. kind_in kind ≡ batches.Apply → IsTaken warehouse.old.state bytes →
+        IsWithinCost warehouse.old bytes warehouse.new steps.old steps.new))) }
 {
     match read_all(alloc, files, name.as_str(), MAX_FILE) {
         Ok(bytes) => match change(warehouse, number, kind, &bytes, steps) {
@@ -141,9 +148,11 @@ fn answer_command<F: Files, L: Ledger>(
     ensures state { OnErr result (warehouse.new.state ≡ warehouse.old.state) }
     ensures tree { OnErr result (warehouse.new.tree ≡ warehouse.old.tree) }
     ensures memory { IfErr result (λ stop. MatchLineStop stop (wants_memory (question_in command) ≡ true) (λ file. ⊤)) }
-    ensures fault { IfErr result (λ stop. MatchLineStop stop ⊤ (λ file. (file_named (Ok (question_in command)) ≡ Some file) × Rose (F.faults files.old) (F.faults files.new))) }
+    ensures fault { IfErr result (λ stop. MatchLineStop stop ⊤
+        (λ file. (file_named (Ok (question_in command)) ≡ Some file) × Rose (F.faults files.old) (F.faults files.new))) }
     ensures untold { IfErr result (λ stop. MatchLineStop stop ⊤ (λ file. IsTrue (F.steady files.old) → IfSome (F.told files.old) (λ t. t file ≡ None))) }
-    ensures answered { IfOk result (λ reply. IfSome (F.told files.old) (λ t. answer_to warehouse.old.state t number (Ok (question_in command)) ≡ Some (record { state = warehouse.new.state; reply = reply_bytes reply }))) }
+    ensures answered { IfOk result (λ reply. IfSome (F.told files.old)
+        (λ t. answer_to warehouse.old.state t number (Ok (question_in command)) ≡ Some (record { state = warehouse.new.state; reply = reply_bytes reply }))) }
 {
     match command {
         Command::Load(name) => answer_file(
@@ -151,7 +160,7 @@ fn answer_command<F: Files, L: Ledger>(
             files,
             warehouse,
             number,
-            Kind::Load,
+            FileUse::Load,
             name,
             steps,
         ),
@@ -160,7 +169,7 @@ fn answer_command<F: Files, L: Ledger>(
             files,
             warehouse,
             number,
-            Kind::Apply,
+            FileUse::Apply,
             name,
             steps,
         ),
@@ -201,10 +210,12 @@ pub fn answer_line<F: Files, L: Ledger>(
     ensures steady { IsTrue (F.steady files.old) → IsTrue (F.steady files.new) }
     ensures state { OnErr result (warehouse.new.state ≡ warehouse.old.state) }
     ensures tree { OnErr result (warehouse.new.tree ≡ warehouse.old.tree) }
-    ensures skips { IfErr result (λ stop. MatchLineStop stop (may_want_memory line.now ≡ true) (λ file. file_of warehouse.old.state.schema line.now ≡ Some file)) }
+    ensures skips { IfErr result (λ stop. MatchLineStop stop (may_want_memory line.now ≡ true)
+        (λ file. file_of warehouse.old.state.schema line.now ≡ Some file)) }
     ensures fault { IfErr result (λ stop. MatchLineStop stop ⊤ (λ file. Rose (F.faults files.old) (F.faults files.new))) }
     ensures untold { IfErr result (λ stop. MatchLineStop stop ⊤ (λ file. IsTrue (F.steady files.old) → IfSome (F.told files.old) (λ t. t file ≡ None))) }
-    ensures answered { IfOk result (λ reply. IfSome (F.told files.old) (λ t. answer warehouse.old.state t number line.now ≡ Some (record { state = warehouse.new.state; reply = reply_bytes reply }))) }
+    ensures answered { IfOk result (λ reply. IfSome (F.told files.old)
+        (λ t. answer warehouse.old.state t number line.now ≡ Some (record { state = warehouse.new.state; reply = reply_bytes reply }))) }
 {
     match read_line(alloc, warehouse.schema(), line) {
         Ok(command) => answer_command(alloc, files, warehouse, number, command, steps),

@@ -6,7 +6,7 @@ ghost use Rattle.query_script.specs.Commands.{IsCellField};
 ghost use Rattle.qc_session.specs.Answers.{bounded, cell_asked};
 ghost use Rattle.cube_defs.specs.Answers.{class_of};
 ghost use Rattle.lower_bounds.specs.Classes.{hit_in};
-ghost use Rattle.value_dict.specs.Told.{IsTold, told_hit};
+ghost use Rattle.value_dict.specs.Told.{IsTellableClass, told_hit};
 ghost use Rattle.reply_text.specs.Words.{reply_bytes};
 
 use cell_core::{Fields, Memory, Steps};
@@ -25,8 +25,10 @@ fn class_asked<L: Ledger>(
 ) -> Result<Option<Class>, Memory>
     requires dims { length asked.now ≡ length warehouse.now.state.schema.dims }
     requires point { All IsCellField asked.now }
-    ensures value { IfOk result (λ class. option_map (λ c. told_hit warehouse.now.state.texts (hit_in c)) class ≡ class_of text_cmp (length warehouse.now.state.schema.measures) warehouse.now.state.rows (cell_asked asked.now)) }
-    ensures told { IfOk result (λ class. IfSome class (λ c. IsTold warehouse.now.state.texts (length warehouse.now.state.schema.measures) (hit_in c))) }
+    ensures value { IfOk result (λ class. option_map (λ c. told_hit warehouse.now.state.texts (hit_in c)) class
+        ≡ class_of text_cmp (length warehouse.now.state.schema.measures) warehouse.now.state.rows (cell_asked asked.now)) }
+    ensures told { IfOk result (λ class. IfSome class (λ c. IsTellableClass warehouse.now.state.texts (length warehouse.now.state.schema.measures)
+        (hit_in c))) }
     ensures steps { steps.new ≤ steps.old + 7 * (length warehouse.now.state.schema.dims + 1) * 2 ^ length warehouse.now.state.schema.dims }
 {
     let Some(cell) = warehouse.dict().cell_of(asked) else {

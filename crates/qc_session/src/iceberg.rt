@@ -7,7 +7,7 @@ ghost use Rattle.lower_bounds.specs.Classes.{hit_in};
 ghost use Rattle.qc_schema.specs.Schema.{IsLayout};
 ghost use Rattle.query_script.specs.Commands.{IsMeasured};
 ghost use Rattle.reply_text.specs.Words.{reply_bytes};
-ghost use Rattle.value_dict.specs.Told.{IsTold};
+ghost use Rattle.value_dict.specs.Told.{IsTellableClass};
 ghost use Rattle.qc_session.specs.Answers.{classes_of, names_kind, passing, scale_of, steps_of_class};
 
 use aggregates::{AggKind, Fraction};
@@ -47,7 +47,7 @@ fn classes_asked<L: Ledger>(
     ensures classes { IfOk result (λ classes. told_classes warehouse.now.state.texts classes.items
         ≡ classes_of warehouse.now.state (kind_in kind) (bound_in bound) (fraction_in value)) }
     ensures told { IfOk result (λ classes. All (λ class.
-        IsTold warehouse.now.state.texts (length warehouse.now.state.schema.measures) (hit_in class)) classes.items) }
+        IsTellableClass warehouse.now.state.texts (length warehouse.now.state.schema.measures) (hit_in class)) classes.items) }
     ensures steps { names_kind warehouse.now.state.schema kind ≡ true →
         IfOk result (λ classes. steps.new ≤ steps.old + length classes.items * steps_of_class warehouse.now.state.schema) }
 {

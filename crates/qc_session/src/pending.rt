@@ -50,7 +50,7 @@ impl Pending {
         Ok(())
     }
 
-    /// The same, where that is due.
+    /// Hands the replies on, each of them once, where that is due.
     pub fn hand_on_if<O: Sink>(&mut self, out: &mut O, due: bool) -> Result<(), WriteFailed>
         ensures cause { HasCause (O.faults out.old) (O.faults out.new) result }
         ensures ok { OnOk result (IsHandedOn self.old self.new (O.taken out.old) (O.taken out.new)) }

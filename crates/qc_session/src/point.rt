@@ -27,7 +27,8 @@ fn total_asked<L: Ledger>(
 ) -> Option<(Cell, Agg)>
     requires dims { length asked.now ≡ length warehouse.now.state.schema.dims }
     requires point { All IsCellField asked.now }
-    ensures value { option_map (λ found. agg_in found.1) result ≡ agg_at text_eq (length warehouse.now.state.schema.measures) warehouse.now.state.rows (cell_asked asked.now) }
+    ensures value { option_map (λ found. agg_in found.1) result
+        ≡ agg_at text_eq (length warehouse.now.state.schema.measures) warehouse.now.state.rows (cell_asked asked.now) }
     ensures measures { IfSome result (λ found. length (agg_in found.1).parts ≡ length warehouse.now.state.schema.measures) }
     ensures told { IfSome result (λ found. told_cell warehouse.now.state.texts found.0 ≡ cell_asked asked.now) }
     ensures texts { IfSome result (λ found. HasTexts warehouse.now.state.texts found.0) }
@@ -84,7 +85,8 @@ fn put_total(
 ) -> bool
     requires texts { HasTexts warehouse.now.state.texts cell.now }
     requires parts { length (agg_in total.now).parts ≡ length warehouse.now.state.schema.measures }
-    ensures { result ≡ true → reply.new.items ≡ point_text number (told_cell warehouse.now.state.texts cell.now) warehouse.now.state.schema.measures (agg_in total.now) }
+    ensures { result ≡ true → reply.new.items ≡ point_text number (told_cell warehouse.now.state.texts cell.now) warehouse.now.state.schema.measures
+        (agg_in total.now) }
 {
     reply.clear();
     push_point(

@@ -1,6 +1,6 @@
 // The answer to a range query.
 ghost use Rattle.std.specs.Prelude.{All, Err, IfOk, length, ◌*◌, ◌+◌, ◌<◌, ◌≡◌, ◌≤◌};
-ghost use Rattle.range_query.specs.Told.{IsTold, hit_in, told_hits};
+ghost use Rattle.range_query.specs.Told.{IsTellableHit, hit_in, told_hits};
 ghost use Rattle.reply_text.specs.Words.{reply_bytes};
 ghost use Rattle.qc_session.specs.Answers.{hits_of, ranged, work_of};
 
@@ -21,7 +21,7 @@ fn hits_asked<L: Ledger>(
     requires dims { length asked.now ≡ length warehouse.now.state.schema.dims }
     ensures hits { IfOk result (λ hits. told_hits warehouse.now.state.texts hits.items ≡ hits_of warehouse.now.state asked.now) }
     ensures told { IfOk result (λ hits. All (λ hit.
-        IsTold warehouse.now.state.texts (length warehouse.now.state.schema.measures) (hit_in hit)) hits.items) }
+        IsTellableHit warehouse.now.state.texts (length warehouse.now.state.schema.measures) (hit_in hit)) hits.items) }
     ensures few { IfOk result (λ hits. length hits.items ≤ MAX_RANGE_CELLS) }
     ensures too_many { result ≡ Err RangeRefused.TooMany → MAX_RANGE_CELLS < length (hits_of warehouse.now.state asked.now) }
     ensures steps { steps.new ≤ steps.old + 3 * (1 + work_of warehouse.now.state asked.now) }

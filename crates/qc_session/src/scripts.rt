@@ -1,12 +1,12 @@
 // The top call.
-ghost use Rattle.std.specs.Prelude.{◌≡◌, ◌≤◌, ◌<◌, ◌^◌, ◌⊎◌, ◌↔◌, [], Some, None, IfOk, IfErr, IfSome, IsSome, IsNone, IsTrue, is_some, true, option_map, MatchOption, length, map, take};
+ghost use Rattle.std.specs.Prelude.{◌≡◌, ◌≤◌, ◌<◌, ◌^◌, ◌⊎◌, ◌↔◌, [], Some, None, IfOk, IfErr, IfSome, IsSome, IsNone, IsTrue, is_some, true, MatchOption, length, take};
 ghost use Rattle.cube_defs.specs.declared.limits.TheConstants.{MAX_ROWS};
 ghost use Rattle.qc_io.specs.Outside.{IsOpenAs, Rose, taking};
-ghost use Rattle.qc_session.specs.Lines.{lines_of, script_lines, without_cr};
+ghost use Rattle.qc_session.specs.Lines.{lines_of, script_lines};
 ghost use Rattle.generated_run.specs.Generated.{generated_record, generated_state};
 ghost use Rattle.qc_session.specs.Forms.{IfGen, IfRun, form_of};
 ghost use Rattle.qc_session.specs.Runs.{AllTold, AreSkipped, BrokenOff, Cause, CannotRead, CannotWrite, Finished, IsNever, IsNoSchema, IsScriptOf, IsStartOf, IsStatus, OutOfMemory, ReadFails, Said, StoppedAt, StoppedWriting, Unread, Usage, WroteAll, refusal_of, state_in, status_of};
-ghost use Rattle.warehouse.specs.State.{IsHeld, empty};
+ghost use Rattle.warehouse.specs.State.{AreContents, empty};
 
 use crate::failure::{Failure, tell};
 use crate::pending::Pending;
@@ -78,7 +78,8 @@ fn read_named<'a, F: Files>(
     ensures ok { IfOk result (λ bytes. IfSome (F.told files.old) (λ t. IsScriptOf t name.now bytes.items)) }
     ensures short { IfOk result (λ bytes. length bytes.items ≤ MAX_FILE) }
     ensures open_file { IsOpenAs (F.told files.old) (F.cursor files.new) name.now }
-    ensures err { IfErr result (λ f. ReadFails (F.told files.old) name.now (Rose (F.faults files.old) (F.faults files.new)) (IsTrue (F.steady files.old)) IsNever (cause_of f)) }
+    ensures err { IfErr result (λ f. ReadFails (F.told files.old) name.now (Rose (F.faults files.old) (F.faults files.new))
+        (IsTrue (F.steady files.old)) IsNever (cause_of f)) }
 {
     match read_all(alloc, files, name, MAX_FILE) {
         Ok(bytes) => Ok(bytes),
@@ -99,7 +100,8 @@ fn read_named_schema<'a, F: Files>(
     ensures steady { IsTrue (F.steady files.old) → IsTrue (F.steady files.new) }
     ensures ok { IfOk result (λ schema. IfSome (F.told files.old) (λ t. IsStartOf t name.now (empty schema))) }
     ensures open_file { IsOpenAs (F.told files.old) (F.cursor files.new) name.now }
-    ensures err { IfErr result (λ f. ReadFails (F.told files.old) name.now (Rose (F.faults files.old) (F.faults files.new)) (IsTrue (F.steady files.old)) (IsNoSchema name.now) (cause_of f)) }
+    ensures err { IfErr result (λ f. ReadFails (F.told files.old) name.now (Rose (F.faults files.old) (F.faults files.new)) (IsTrue (F.steady files.old))
+        (IsNoSchema name.now) (cause_of f)) }
 {
     let bytes = read_named(alloc, files, name)?;
     Ok(read_schema(alloc, &bytes)?)
@@ -110,7 +112,7 @@ fn finished(session: Session) -> Outcome
     ensures status { result.status ≡ 0 }
     ensures skipped { result.skipped.items ≡ session.skipped.items }
     ensures end { result.end ≡ Some session.warehouse }
-    ensures held { IsHeld session.warehouse }
+    ensures held { AreContents session.warehouse }
 {
     session.warehouse.is_valid();
     Outcome {
@@ -149,8 +151,9 @@ fn run_script<F: Files, O: Sink, E: Sink, L: Ledger>(
     requires some { 0 < L.parts }
     ensures known { (result.status ≡ 0) ⊎ (result.status ≡ 3) ⊎ (result.status ≡ 4) ⊎ (result.status ≡ 5) }
     ensures skipped { AreSkipped (script_lines script.now) result.skipped.items }
-    ensures all { result.status ≡ 0 → IfSome (F.told files.old) (λ t. WroteAll t (empty schema) result.skipped.items (script_lines script.now) (state_in result.end) (O.taken out.old) (O.taken out.new)) }
-    ensures held { IfSome result.end IsHeld }
+    ensures all { result.status ≡ 0 → IfSome (F.told files.old)
+        (λ t. WroteAll t (empty schema) result.skipped.items (script_lines script.now) (state_in result.end) (O.taken out.old) (O.taken out.new)) }
+    ensures held { IfSome result.end AreContents }
     ensures there { result.status ≡ 0 → is_some result.end ≡ true }
     ensures none { (result.status ≡ 0 → ⊥) → result.end ≡ None }
     ensures silent { result.status ≡ 0 → err.new ≡ err.old }
@@ -159,7 +162,8 @@ fn run_script<F: Files, O: Sink, E: Sink, L: Ledger>(
         × StoppedAt t (IsTrue (F.steady files.old)) (empty schema) result.skipped.items (script_lines script.now) name (O.taken out.old) (O.taken out.new)
         × Said (Rose (E.faults err.old) (E.faults err.new)) (CannotRead name) (E.taken err.old) (E.taken err.new)) }
     ensures write_fault { result.status ≡ 4 → Rose (O.faults out.old) (O.faults out.new) }
-    ensures broken { result.status ≡ 4 → IfSome (F.told files.old) (λ t. StoppedWriting t (empty schema) result.skipped.items (script_lines script.now) (O.taken out.old) (O.taken out.new)) }
+    ensures broken { result.status ≡ 4 → IfSome (F.told files.old)
+        (λ t. StoppedWriting t (empty schema) result.skipped.items (script_lines script.now) (O.taken out.old) (O.taken out.new)) }
     ensures said_write { result.status ≡ 4 → Said (Rose (E.faults err.old) (E.faults err.new)) CannotWrite (E.taken err.old) (E.taken err.new) }
     ensures unbegun { result.status ≡ 5 → F.cursor files.new ≡ F.cursor files.old }
     ensures nothing { result.status ≡ 5 → (O.taken out.new ≡ O.taken out.old) × (result.skipped.items ≡ []) }
@@ -201,7 +205,7 @@ fn filled(alloc: Global, warehouse: Warehouse) -> Outcome
     ensures status { result.status ≡ 0 }
     ensures skipped { result.skipped.items ≡ [] }
     ensures end { result.end ≡ Some warehouse }
-    ensures held { IsHeld warehouse }
+    ensures held { AreContents warehouse }
 {
     warehouse.is_valid();
     Outcome {
@@ -229,7 +233,7 @@ fn run_generated<O: Sink, E: Sink, L: Ledger>(
     ensures skipped { result.skipped.items ≡ [] }
     ensures wrote { result.status ≡ 0 → O.taken out.new ≡ taking (generated_record rows seed) (O.taken out.old) }
     ensures end { result.status ≡ 0 → state_in result.end ≡ Some (generated_state rows seed) }
-    ensures held { IfSome result.end IsHeld }
+    ensures held { IfSome result.end AreContents }
     ensures there { result.status ≡ 0 → is_some result.end ≡ true }
     ensures none { (result.status ≡ 0 → ⊥) → result.end ≡ None }
     ensures silent { result.status ≡ 0 → err.new ≡ err.old }
@@ -276,7 +280,7 @@ pub fn run<F: Files, O: Sink, E: Sink>(
         (λ t. Finished t names result.skipped.items (state_in result.end) (O.taken out.old) (O.taken out.new))) }
     ensures silent { result.status ≡ 0 → err.new ≡ err.old }
     ensures ended { result.status ≡ 0 → is_some result.end ≡ true }
-    ensures held { IfSome result.end IsHeld }
+    ensures held { IfSome result.end AreContents }
     ensures no_end { (result.status ≡ 0 → ⊥) → result.end ≡ None }
     ensures skipped { IfRun (form_of words.now) (λ names. IfSome (F.told files.old)
         (λ t. MatchOption (t names.script) (result.skipped.items ≡ []) (λ script. AreSkipped (script_lines script) result.skipped.items))) }
@@ -314,13 +318,15 @@ pub fn run<F: Files, O: Sink, E: Sink>(
         IsNone (refusal_of (t names.schema) names (t names.script))
         → (Rose (F.faults files.old) (F.faults files.new) → ⊥) → (Rose (O.faults out.old) (O.faults out.new) → ⊥)
         → (result.status ≡ 0) ⊎ (result.status ≡ 5))) }
-    ensures found { IsTrue (F.steady files.old) → IfRun (form_of words.now) (λ names. IfSome (F.told files.old) (λ t. AllTold t names → result.status ≡ 3 → ⊥)) }
+    ensures found { IsTrue (F.steady files.old) → IfRun (form_of words.now)
+        (λ names. IfSome (F.told files.old) (λ t. AllTold t names → result.status ≡ 3 → ⊥)) }
 
     // The words `gen ROWS SEED`: the record of the generated state, and no other status.
     ensures gen_known { IfGen (form_of words.now) (λ drawing. ((result.status ≡ 0) ⊎ (result.status ≡ 4) ⊎ (result.status ≡ 5)) × (result.skipped.items ≡ [])) }
     ensures gen_files { IfGen (form_of words.now) (λ drawing. files.new ≡ files.old) }
     ensures gen_end { result.status ≡ 0 → IfGen (form_of words.now) (λ drawing. state_in result.end ≡ Some (generated_state drawing.rows drawing.seed)) }
-    ensures gen_all { result.status ≡ 0 → IfGen (form_of words.now) (λ drawing. O.taken out.new ≡ taking (generated_record drawing.rows drawing.seed) (O.taken out.old)) }
+    ensures gen_all { result.status ≡ 0 → IfGen (form_of words.now)
+        (λ drawing. O.taken out.new ≡ taking (generated_record drawing.rows drawing.seed) (O.taken out.old)) }
     ensures gen_front { result.status ≡ 4 → IfGen (form_of words.now) (λ drawing. (n : ℕ)
         × (O.taken out.new ≡ taking (take n (generated_record drawing.rows drawing.seed)) (O.taken out.old))) }
 {

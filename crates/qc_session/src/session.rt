@@ -1,6 +1,6 @@
 // The lines of a script, in order.
-ghost use Rattle.std.specs.Prelude.{◌≡◌, ◌≤◌, ◌<◌, ◌^◌, ◌+◌, ◌++◌, ◌∷◌, ℕ, List, [], Some, None, IfOk, IfErr, IfSome, OnOk, OnErr, IsTrue, length, map, vec_len, vec_capacity, ⊤};
-ghost use Rattle.qc_io.specs.Outside.{Rose, Told};
+ghost use Rattle.std.specs.Prelude.{◌≡◌, ◌≤◌, ◌<◌, ◌^◌, ◌+◌, ◌++◌, ◌∷◌, ℕ, [], Some, None, IfErr, IfSome, OnOk, IsTrue, length, map, vec_len, vec_capacity, ⊤};
+ghost use Rattle.qc_io.specs.Outside.{Rose};
 ghost use Rattle.qc_session.specs.Lines.{lines_of, without_cr};
 ghost use Rattle.qc_session.specs.Answers.{file_of};
 ghost use Rattle.qc_session.specs.Handed.{IsHandedOn};
@@ -63,10 +63,12 @@ fn take_line<F: Files, O: Sink, L: Ledger>(
     ensures names { IfErr result (λ stop. IfStop stop (λ name. file_of session.old.warehouse.state.schema line.now ≡ Some name) ⊤) }
     ensures untold { IfErr result (λ stop. IfStop stop (λ name. IsTrue (F.steady files.old) → IfSome (F.told files.old) (λ t. t name ≡ None)) ⊤) }
     ensures write_fault { IfErr result (λ stop. IfStop stop (λ name. ⊤) (Rose (O.faults out.old) (O.faults out.new))) }
-    ensures stays { IfErr result (λ stop. IfStop stop (λ name. IsHandedOn session.old.pending [] (O.taken out.old) (O.taken out.new) × (session.new.skipped.items ≡ session.old.skipped.items)) ⊤) }
+    ensures stays { IfErr result (λ stop. IfStop stop (λ name. IsHandedOn session.old.pending [] (O.taken out.old) (O.taken out.new)
+        × (session.new.skipped.items ≡ session.old.skipped.items)) ⊤) }
     ensures wrote { OnOk result (WroteLine (F.told files.old) session.new.skipped.items (session.old.number + 1) session.old.warehouse.state line.now
         session.new.warehouse.state session.old.pending session.new.pending (O.taken out.old) (O.taken out.new)) }
-    ensures part { IfErr result (λ stop. IfStop stop (λ name. ⊤) (WrotePart (F.told files.old) session.old.skipped.items session.new.skipped.items (session.old.number + 1) session.old.warehouse.state line.now
+    ensures part { IfErr result (λ stop. IfStop stop (λ name. ⊤)
+        (WrotePart (F.told files.old) session.old.skipped.items session.new.skipped.items (session.old.number + 1) session.old.warehouse.state line.now
         session.new.warehouse.state session.old.pending (O.taken out.old) (O.taken out.new))) }
     ensures skips { Skips session.old.skipped.items (session.old.number + 1) line.now session.new.skipped.items }
     ensures number { OnOk result (session.new.number ≡ session.old.number + 1) }
@@ -133,10 +135,13 @@ pub fn take_lines<F: Files, O: Sink, L: Ledger>(
     ensures read_fault { IfErr result (λ stop. IfStop stop (λ name. Rose (F.faults files.old) (F.faults files.new)) ⊤) }
     ensures write_fault { IfErr result (λ stop. IfStop stop (λ name. ⊤) (Rose (O.faults out.old) (O.faults out.new))) }
     ensures skipped { AreSkipped (map without_cr (lines_of script.now)) session.new.skipped.items }
-    ensures all { OnOk result (IfSome (F.told files.old) (λ t. WroteAll t session.old.warehouse.state session.new.skipped.items (map without_cr (lines_of script.now)) (Some session.new.warehouse.state) (O.taken out.old) (O.taken out.new))) }
-    ensures before { IfErr result (λ stop. IfStop stop (λ name. IfSome (F.told files.old) (λ t. StoppedAt t (IsTrue (F.steady files.old)) session.old.warehouse.state session.new.skipped.items
+    ensures all { OnOk result (IfSome (F.told files.old) (λ t. WroteAll t session.old.warehouse.state session.new.skipped.items
+        (map without_cr (lines_of script.now)) (Some session.new.warehouse.state) (O.taken out.old) (O.taken out.new))) }
+    ensures before { IfErr result (λ stop. IfStop stop (λ name. IfSome (F.told files.old)
+        (λ t. StoppedAt t (IsTrue (F.steady files.old)) session.old.warehouse.state session.new.skipped.items
         (map without_cr (lines_of script.now)) name (O.taken out.old) (O.taken out.new))) ⊤) }
-    ensures part { IfErr result (λ stop. IfStop stop (λ name. ⊤) (IfSome (F.told files.old) (λ t. StoppedWriting t session.old.warehouse.state session.new.skipped.items
+    ensures part { IfErr result (λ stop. IfStop stop (λ name. ⊤)
+        (IfSome (F.told files.old) (λ t. StoppedWriting t session.old.warehouse.state session.new.skipped.items
         (map without_cr (lines_of script.now)) (O.taken out.old) (O.taken out.new)))) }
 {
     let mut rest = script;

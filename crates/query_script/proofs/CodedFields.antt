@@ -1,8 +1,7 @@
 -- Fields that are read into codes.
-use Rattle.std.proofs.Common.{◌≡◌, ◌<◌, ◌+◌, ◌∙◌, ℕ, zero, suc, Bool, true, false, List, [], ◌∷◌, ◌++◌, length, get_or, set, refl, sym, ap, subst, arith, Some, None, Ok, IsUtf8, append-nil, ◌⊎◌, inl, inr}
+use Rattle.std.proofs.Common.{◌≡◌, ◌<◌, ◌+◌, ◌∙◌, ℕ, zero, suc, Bool, true, false, List, [], ◌∷◌, ◌++◌, length, get_or, set, refl, sym, ap, subst, arith, Some, None, Ok, IsUtf8, ◌⊎◌, inl, inr}
 use Rattle.std.specs.Prelude.{MatchOption, Option, option_map, codes}
 use Rattle.std.specs.List.{list_all}
-use Rattle.std.specs.Str.{bytes_eq}
 use Rattle.std.proofs.lemmas.List.{length_push, get_or-set_other}
 use Rattle.std.proofs.lemmas.Grind.{get_or-set_at}
 use Rattle.std.proofs.lemmas.Str.{IsUtf8-append, IsUtf8-from_ascii, is_utf8-from_IsUtf8}
@@ -15,7 +14,7 @@ use Rattle.cell_core.specs.declared.fields.Field.TheVariants.{Any}
 use Rattle.qc_schema.specs.Schema.{Layout}
 use Rattle.text_lines.specs.Lines.{begins_with_mark}
 use Rattle.text_lines.specs.Plain.{is_plain_byte, pieces}
-use Rattle.value_dict.specs.TextLists.{cell_in, entry_in}
+use Rattle.value_dict.specs.TextLists.{entry_in}
 use Rattle.value_dict.proofs.Cells.{cell_from_entries, entry_at, no_cell_at}
 use Rattle.query_script.specs.Commands.{command_in, record_in}
 use Rattle.query_script.specs.Fields.{field_of, fields_from}

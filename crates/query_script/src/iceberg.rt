@@ -1,5 +1,5 @@
 // What an iceberg asks.
-ghost use Rattle.std.specs.Prelude.{◌≡◌, ◌≤◌, ◌<◌, ℕ, length};
+ghost use Rattle.std.specs.Prelude.{◌≡◌, ◌≤◌, ◌<◌, ℕ};
 ghost use Rattle.std.specs.Option.{option_map};
 ghost use Rattle.cell_core.specs.Gives.{Gives};
 ghost use Rattle.aggregates.specs.Views.{kind_in};

@@ -15,6 +15,7 @@ use cube_defs::MAX_FILE;
 use iceberg_query::Bound;
 use qc_schema::Schema;
 use std::alloc::{AllocError, Global};
+use thiserror::Error;
 
 /// What a line asks for.
 #[derive(Drop)]
@@ -37,17 +38,22 @@ pub enum Command {
 }
 
 /// Why a line is no command.
-#[derive(Clone, Copy, Debug, PartialEq, Eq)]
+#[derive(Clone, Copy, Debug, PartialEq, Eq, Error)]
 pub enum LineRefused {
     /// The line isn't UTF-8.
+    #[error("the line is not UTF-8")]
     Utf8,
     /// The first word is no command.
+    #[error("the first word is no command")]
     Command,
     /// The field at this place, counted from 1, is missing, isn't allowed or is one too many.
+    #[error("field {0} is missing, not allowed or one too many")]
     Field(u32),
     /// A value is no number.
+    #[error("a value is no number")]
     Number,
     /// Memory ran out.
+    #[error("memory ran out")]
     Memory,
 }
 
@@ -62,7 +68,7 @@ impl From<AllocError> for LineRefused {
 }
 
 // The command word, and what follows the space behind it.
-fn split_word(line: &str) -> (&str, &str)
+fn split_command(line: &str) -> (&str, &str)
     ensures word { result.0.now ≡ word_of line.now }
     ensures rest { result.1.now ≡ rest_of line.now }
     ensures shorter { length result.1.now ≤ length line.now }
@@ -132,7 +138,7 @@ pub fn read_line(alloc: Global, schema: &Schema, line: &[u8]) -> Result<Command,
             if is_stats(text) {
                 return Ok(Command::Stats);
             }
-            let (word, rest) = split_word(text);
+            let (word, rest) = split_command(text);
             read_command(alloc, schema, word, rest)
         }
         Err(_) => Err(LineRefused::Utf8),

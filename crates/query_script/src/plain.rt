@@ -25,9 +25,11 @@ fn push_pieces(
 ) -> Result<(), LineRefused>
     requires few { length fields.old ≤ dims }
     requires size { length text.now ≤ MAX_FILE }
-    ensures ok { OnOk result ((more : List Text) → asked_after (field_of shape) dims fields.new more ≡ asked_after (field_of shape) dims fields.old (pieces text.now ++ more)) }
+    ensures ok { OnOk result ((more : List Text) → asked_after (field_of shape) dims fields.new more
+        ≡ asked_after (field_of shape) dims fields.old (pieces text.now ++ more)) }
     ensures few { OnOk result (length fields.new ≤ dims) }
-    ensures err { IfErr result (λ e. (more : List Text) → IfSome (line_fault_in e) (λ fault. asked_after (field_of shape) dims fields.old (pieces text.now ++ more) ≡ Err fault)) }
+    ensures err { IfErr result (λ e. (more : List Text) → IfSome (line_fault_in e)
+        (λ fault. asked_after (field_of shape) dims fields.old (pieces text.now ++ more) ≡ Err fault)) }
 {
     let mut left = text;
     'pieces: while let Some((piece, behind)) = left.split_once(',') {

@@ -18,7 +18,7 @@ use csv::ByteRecord;
 use cube_defs::MAX_FILE;
 use qc_schema::Schema;
 use std::alloc::Global;
-use text_lines::{Rows, field, has_mark, is_plain};
+use text_lines::{RecordReader, field, has_mark, is_plain};
 
 /// What the fields of a record ask for together.
 #[derive(Clone, Copy, Debug, PartialEq, Eq)]
@@ -64,9 +64,11 @@ pub fn push_field(
 ) -> Result<(), LineRefused>
     requires few { length fields.old ≤ dims }
     requires size { length text.now ≤ MAX_FILE }
-    ensures ok { OnOk result ((more : List Text) → asked_after (field_of shape) dims fields.new more ≡ asked_after (field_of shape) dims fields.old (text.now ∷ more)) }
+    ensures ok { OnOk result ((more : List Text) → asked_after (field_of shape) dims fields.new more
+        ≡ asked_after (field_of shape) dims fields.old (text.now ∷ more)) }
     ensures few { OnOk result (length fields.new ≤ dims) }
-    ensures err { IfErr result (λ e. (more : List Text) → IfSome (line_fault_in e) (λ fault. asked_after (field_of shape) dims fields.old (text.now ∷ more) ≡ Err fault)) }
+    ensures err { IfErr result (λ e. (more : List Text) → IfSome (line_fault_in e)
+        (λ fault. asked_after (field_of shape) dims fields.old (text.now ∷ more) ≡ Err fault)) }
 {
     let place = fields.len() + 1;
     if place > u32::from(dims) {
@@ -79,7 +81,7 @@ pub fn push_field(
     Ok(())
 }
 
-// The same of each field of a record.
+// Reads each field of a record as a field of the cell, or of the box, that is asked for.
 fn push_fields(
     alloc: Global,
     shape: Shape,
@@ -90,9 +92,11 @@ fn push_fields(
     requires text { All IsUtf8 (fields_of row.now) }
     requires size { bytes_in (fields_of row.now) ≤ MAX_FILE }
     requires few { length fields.old ≤ dims }
-    ensures ok { OnOk result ((more : List Text) → asked_after (field_of shape) dims fields.new more ≡ asked_after (field_of shape) dims fields.old (fields_of row.now ++ more)) }
+    ensures ok { OnOk result ((more : List Text) → asked_after (field_of shape) dims fields.new more
+        ≡ asked_after (field_of shape) dims fields.old (fields_of row.now ++ more)) }
     ensures few { OnOk result (length fields.new ≤ dims) }
-    ensures err { IfErr result (λ e. (more : List Text) → IfSome (line_fault_in e) (λ fault. asked_after (field_of shape) dims fields.old (fields_of row.now ++ more) ≡ Err fault)) }
+    ensures err { IfErr result (λ e. (more : List Text) → IfSome (line_fault_in e)
+        (λ fault. asked_after (field_of shape) dims fields.old (fields_of row.now ++ more) ≡ Err fault)) }
 {
     'fields: for at in 0..row.len() {
         let text = str::from_utf8(field(row, at)).unwrap();
@@ -122,7 +126,7 @@ fn read_records(alloc: Global, shape: Shape, dims: u8, rest: &str) -> Result<Fie
     requires unmarked { begins_with_mark rest.now ≡ false }
     ensures { Gives line_fault_in (λ fields. fields) result (record_in shape dims rest.now) }
 {
-    let mut rows = Rows::new(alloc, rest.as_bytes());
+    let mut rows = RecordReader::new(alloc, rest.as_bytes());
     let mut row = ByteRecord::new(alloc);
     let mut fields = Fields::new(alloc);
     'records: while rows.next(&mut row)? {

@@ -1,5 +1,5 @@
 // Drawn tables of three dimensions, and what a cell comes to by going through all rows.
-ghost use Rattle.std.specs.Prelude.{IfOk, ◌<◌};
+ghost use Rattle.std.specs.Prelude.{◌<◌};
 
 use std::alloc::{AllocError, Global};
 

@@ -132,7 +132,7 @@ fn is_answered<L: Ledger>(
         && is_exact(alloc, shop, asked, hits.len() as u32, steps)
 }
 
-// The same over a warehouse of just these rows.
+// Whether a warehouse of just these rows answers the range as the definition does.
 fn is_right<L: Ledger>(
     alloc: Global,
     rows: &[Row],

@@ -11,21 +11,21 @@ use Rattle.std.proofs.lemmas.List.Elements.{All-cons}
 use Rattle.std.proofs.lemmas.List.FromFn.{length-map-range_with_len}
 use Rattle.std.proofs.lemmas.List.{length-map}
 use Rattle.cube_defs.specs.Text.{Text, text_cmp}
-use Rattle.cube_defs.specs.Cell.{Cell, depth, keep, one_deeper}
+use Rattle.cube_defs.specs.Cell.{Cell, depth, cell_front, one_deeper}
 use Rattle.cube_defs.specs.Rows.{Row, Agg, agg, amounts_of, closure, cov, is_node, part_of}
 use Rattle.cube_defs.specs.Tree.{Tree, cell_at, covered}
 use Rattle.cube_defs.specs.Answers as answers
-use Rattle.cube_laws.specs.Recoding.{AreKnown, BoxIsKnown, RowsAreKnown, TellsApart, coded, coded_box}
-use Rattle.cube_laws.proofs.Cells.{keep_zero}
+use Rattle.cube_laws.specs.Recoding.{AreKnown, BoxIsKnown, RowsAreKnown, TellsApart, coded_cell, coded_box}
+use Rattle.cube_laws.proofs.Cells.{cell_front_zero}
 use Rattle.cube_laws.proofs.Covered.{closure_length}
 use Rattle.cube_laws.proofs.Nodes.{is_node-is}
 use Rattle.cube_laws.proofs.RecodedRows.{agg-coded}
 use Rattle.cube_laws.proofs.Orders.{code_equality}
-use Rattle.tree_search.specs.Found.{IsFrom, Source}
+use Rattle.tree_search.specs.Found.{IsTreeOf, TreeRows}
 use Rattle.tree_search.proofs.Walked.{cell_of, there_is}
 use Rattle.qc_arena.specs.Seen.{record_at}
-use Rattle.tree_laws.specs.Walk.{front}
-use Rattle.tree_laws.proofs.Fronts.{keep-beyond}
+use Rattle.tree_laws.specs.Walk.{closure_front}
+use Rattle.tree_laws.proofs.Fronts.{cell_front-beyond}
 use Rattle.tree_laws.proofs.LowersRecoded.{wide-coded}
 use Rattle.tree_laws.proofs.Walks.{no_root}
 use Rattle.tree_laws.proofs.Lists.{there}
@@ -37,7 +37,7 @@ use Rattle.range_query.specs.declared.hit.Hit.{Hit}
 use Rattle.range_query.specs.Met as walks
 use Rattle.range_query.specs.Met.{is_covered}
 use Rattle.range_query.specs.Work.{work}
-use Rattle.range_query.specs.Told.{IsTold, hit_at, hit_in, told_hit, told_hits}
+use Rattle.range_query.specs.Told.{IsTellableHit, hit_at, hit_in, told_hit, told_hits}
 use Rattle.range_query.specs.Walk.{Stands, cost, met}
 use Rattle.range_query.proofs.Costs.{cells_within, work_is}
 use Rattle.value_dict.proofs.AskedValues.{text_anti, text_total}
@@ -47,7 +47,7 @@ use Rattle.range_query.proofs.MetCells.{met_covered, met_is, met_long, none_is}
 use Rattle.range_query.proofs.Recoded.{cost-coded, is_covered-coded, known-covered, met-coded}
 
 module _ {A B : Type 0} (codes : ℕ → A → B) where
-  coded-root : (k n : ℕ) → coded codes k (replicate n None) ≡ replicate n None
+  coded-root : (k n : ℕ) → coded_cell codes k (replicate n None) ≡ replicate n None
   coded-root k zero = refl
   coded-root k (suc n) = ap (λ c. None ∷ c) (coded-root (suc k) n)
 
@@ -85,21 +85,21 @@ module _ (dims : ℕ) (tree : Tree ℕ) where
       top : Cell ℕ
       top = replicate dims None
 
-      front_root : (source : Source) → IsFrom dims tree source → front (eq_by_cmp nat_cmp) source.rows (replicate dims None) 0 ≡ Some (replicate dims None)
-      front_root source h = ap (λ c. option_map (keep 0) (closure (eq_by_cmp nat_cmp) source.rows c)) (keep-beyond 0 (replicate dims None) (root_deep dims)) ∙ go (closure (eq_by_cmp nat_cmp) source.rows (replicate dims None)) refl
+      front_root : (source : TreeRows) → IsTreeOf dims tree source → closure_front (eq_by_cmp nat_cmp) source.rows (replicate dims None) 0 ≡ Some (replicate dims None)
+      front_root source h = ap (λ c. option_map (cell_front 0) (closure (eq_by_cmp nat_cmp) source.rows c)) (cell_front-beyond 0 (replicate dims None) (root_deep dims)) ∙ go (closure (eq_by_cmp nat_cmp) source.rows (replicate dims None)) refl
         where
           node : is_node (eq_by_cmp nat_cmp) source.rows (replicate dims None) ≡ true
           node =
               let t = there tree root (replicate dims None) at in
               subst (λ p. is_node (eq_by_cmp nat_cmp) source.rows p ≡ true) (cell_of tree root (replicate dims None) at) (h.canonical.each root (record_at tree root) (there_is tree root t)).0
 
-          go : (o : Option (Cell ℕ)) → closure (eq_by_cmp nat_cmp) source.rows (replicate dims None) ≡ o → option_map (keep 0) o ≡ Some (replicate dims None)
+          go : (o : Option (Cell ℕ)) → closure (eq_by_cmp nat_cmp) source.rows (replicate dims None) ≡ o → option_map (cell_front 0) o ≡ Some (replicate dims None)
           go None q =
-              let bad : None ≡ Some (replicate dims (let e : Option ℕ = None in e)) = sym (ap (option_map (keep (depth (replicate dims (let e : Option ℕ = None in e))))) q) ∙ (is_node-is code_equality source.rows (replicate dims None)).0 node in
+              let bad : None ≡ Some (replicate dims (let e : Option ℕ = None in e)) = sym (ap (option_map (cell_front (depth (replicate dims (let e : Option ℕ = None in e))))) q) ∙ (is_node-is code_equality source.rows (replicate dims None)).0 node in
               cc
-          go (Some u) q = ap (λ c. Some c) (keep_zero u ∙ ap (λ n. replicate n None) (closure_length (eq_by_cmp nat_cmp) dims (replicate dims None) u source.rows h.wide q))
+          go (Some u) q = ap (λ c. Some c) (cell_front_zero u ∙ ap (λ n. replicate n None) (closure_length (eq_by_cmp nat_cmp) dims (replicate dims None) u source.rows h.wide q))
 
-module _ (dims : ℕ) (tree : Tree ℕ) (lists : List (List Text)) (cells : answers.Box ℕ) (source : Source) (h : IsFrom dims tree source) (distinct : All (IsDistinct bytes_eq) lists) (each : length lists ≡ dims) (fits : length cells ≡ dims)
+module _ (dims : ℕ) (tree : Tree ℕ) (lists : List (List Text)) (cells : answers.Box ℕ) (source : TreeRows) (h : IsTreeOf dims tree source) (distinct : All (IsDistinct bytes_eq) lists) (each : length lists ≡ dims) (fits : length cells ≡ dims)
     (known : BoxIsKnown (has_code lists) 0 cells) (ordered : IsOrdered text_cmp (told_box lists cells)) (rows_known : RowsAreKnown (has_code lists) source.rows) where
   tells : TellsApart (has_code lists) (text_in lists)
   tells = texts-apart lists distinct
@@ -126,7 +126,7 @@ module _ (dims : ℕ) (tree : Tree ℕ) (lists : List (List Text)) (cells : answ
   text_covered = ap (is_covered (eq_by_cmp text_cmp) text_rows) (sym (coded-root (text_in lists) 0 dims)) ∙ is_covered-coded code_equality text_equality tells source.rows rows_known root root_known
 
   module _ (some : is_covered (eq_by_cmp nat_cmp) source.rows root ≡ true) where
-    text_met : map (coded (text_in lists) 0) (met source cells root 0) ≡ filter (answers.in_box (eq_by_cmp text_cmp) text_box) (covered text_cmp text_rows)
+    text_met : map (coded_cell (text_in lists) 0) (met source cells root 0) ≡ filter (answers.in_box (eq_by_cmp text_cmp) text_box) (covered text_cmp text_rows)
     text_met =
         met-coded code_equality text_equality tells source.rows rows_known cells root 0 root_known known
         ∙ ap (λ p. cells_met text_box p 0) (coded-root (text_in lists) 0 dims)
@@ -155,12 +155,12 @@ module _ (dims : ℕ) (tree : Tree ℕ) (lists : List (List Text)) (cells : answ
     within_lists : (c : Cell ℕ) → length c ≡ length root → length c ≤ length lists
     within_lists c l = omega (arith, l, root_long dims, each)
 
-    told_all : (cs : List (Cell ℕ)) → AllByRecursion IsMet cs → map (told_hit lists) (map (hit_at source) cs) ≡ map text_hit (map (coded (text_in lists) 0) cs)
+    told_all : (cs : List (Cell ℕ)) → AllByRecursion IsMet cs → map (told_hit lists) (map (hit_at source) cs) ≡ map text_hit (map (coded_cell (text_in lists) 0) cs)
     told_all [] a = refl
     told_all (c ∷ cs) a =
-        let same : agg (eq_by_cmp nat_cmp) source.measures source.rows c ≡ agg (eq_by_cmp text_cmp) source.measures text_rows (coded (text_in lists) 0 c)
+        let same : agg (eq_by_cmp nat_cmp) source.measures source.rows c ≡ agg (eq_by_cmp text_cmp) source.measures text_rows (coded_cell (text_in lists) 0 c)
         = sym (agg-coded code_equality text_equality tells source.rows rows_known source.measures c (known-covered code_equality text_equality tells source.rows rows_known c a.0.0)) in
-        first (told_cell lists c) (coded (text_in lists) 0 c) (agg (eq_by_cmp nat_cmp) source.measures source.rows c) (agg (eq_by_cmp text_cmp) source.measures text_rows (coded (text_in lists) 0 c))
+        first (told_cell lists c) (coded_cell (text_in lists) 0 c) (agg (eq_by_cmp nat_cmp) source.measures source.rows c) (agg (eq_by_cmp text_cmp) source.measures text_rows (coded_cell (text_in lists) 0 c))
         (told-known lists c (within_lists c a.0.1)) same (told_all cs a.1)
       where
         first : (v w : Cell Text) (x y : Agg) → v ≡ w → x ≡ y → {xs ys : List (answers.Hit Text)} → xs ≡ ys → ◌≡◌ {A = List (answers.Hit Text)} (record { cell = v; agg = x } ∷ xs) (record { cell = w; agg = y } ∷ ys)
@@ -170,7 +170,7 @@ module _ (dims : ℕ) (tree : Tree ℕ) (lists : List (List Text)) (cells : answ
     hits-told [] = refl
     hits-told (x ∷ hits) = ap (λ xs. told_hit lists (hit_in x) ∷ xs) (hits-told hits)
 
-    is_told : (cs : List (Cell ℕ)) → AllByRecursion IsMet cs → AllByRecursion (IsTold lists source.measures) (map (hit_at source) cs)
+    is_told : (cs : List (Cell ℕ)) → AllByRecursion IsMet cs → AllByRecursion (IsTellableHit lists source.measures) (map (hit_at source) cs)
     is_told [] a = tt
     is_told (c ∷ cs) a = (
       record {
@@ -181,12 +181,12 @@ module _ (dims : ℕ) (tree : Tree ℕ) (lists : List (List Text)) (cells : answ
     )
 
     -- and each of them can be told
-    pub range_is_told : (hits : List Hit) → map hit_in hits ≡ map (hit_at source) (met source cells root 0) → All (λ hit. IsTold lists source.measures (hit_in hit)) hits
-    range_is_told hits e = go hits (subst (AllByRecursion (IsTold lists source.measures)) (sym e) (is_told (met source cells root 0) all_met))
+    pub range_is_told : (hits : List Hit) → map hit_in hits ≡ map (hit_at source) (met source cells root 0) → All (λ hit. IsTellableHit lists source.measures (hit_in hit)) hits
+    range_is_told hits e = go hits (subst (AllByRecursion (IsTellableHit lists source.measures)) (sym e) (is_told (met source cells root 0) all_met))
       where
-        go : (hits : List Hit) → AllByRecursion (IsTold lists source.measures) (map hit_in hits) → All (λ hit. IsTold lists source.measures (hit_in hit)) hits
+        go : (hits : List Hit) → AllByRecursion (IsTellableHit lists source.measures) (map hit_in hits) → All (λ hit. IsTellableHit lists source.measures (hit_in hit)) hits
         go [] a = λ k d l. absurd (omega arith)
-        go (x ∷ hits) a = All-cons (λ hit. IsTold lists source.measures (hit_in hit)) x hits a.0 (go hits a.1)
+        go (x ∷ hits) a = All-cons (λ hit. IsTellableHit lists source.measures (hit_in hit)) x hits a.0 (go hits a.1)
 
     -- what is met are the hits of the answer
     pub range_told : (hits : List Hit) → map hit_in hits ≡ map (hit_at source) (met source cells root 0) → told_hits lists hits ≡ answers.range text_cmp source.measures text_rows text_box
@@ -200,7 +200,7 @@ module _ (dims : ℕ) (tree : Tree ℕ) (lists : List (List Text)) (cells : answ
     range_long =
         length-map (filter (answers.in_box (eq_by_cmp text_cmp) text_box) (covered text_cmp text_rows)) text_hit
         ∙ ap length (sym text_met)
-        ∙ length-map (met source cells root 0) (coded (text_in lists) 0)
+        ∙ length-map (met source cells root 0) (coded_cell (text_in lists) 0)
 
     range_hits : length (answers.range text_cmp source.measures text_rows text_box) ≡ length (filter (answers.in_box (eq_by_cmp text_cmp) text_box) (covered text_cmp text_rows))
     range_hits = length-map (filter (answers.in_box (eq_by_cmp text_cmp) text_box) (covered text_cmp text_rows)) text_hit
@@ -233,7 +233,7 @@ module _ (dims : ℕ) (tree : Tree ℕ) (lists : List (List Text)) (cells : answ
     pub answer_told : (hits before : List Hit) → before ≡ [] → map hit_in hits ≡ map hit_in before ++ map (hit_at source) (met source (drop 0 cells) p 0) → told_hits lists hits ≡ answers.range text_cmp source.measures text_rows text_box
     answer_told hits before none e = range_told begun hits (e ∙ ap (λ xs. map hit_in xs ++ map (hit_at source) (met source cells p 0)) none ∙ ap (λ c. map (hit_at source) (met source cells c 0)) is)
 
-    pub answer_is_told : (hits before : List Hit) → before ≡ [] → map hit_in hits ≡ map hit_in before ++ map (hit_at source) (met source (drop 0 cells) p 0) → All (λ hit. IsTold lists source.measures (hit_in hit)) hits
+    pub answer_is_told : (hits before : List Hit) → before ≡ [] → map hit_in hits ≡ map hit_in before ++ map (hit_at source) (met source (drop 0 cells) p 0) → All (λ hit. IsTellableHit lists source.measures (hit_in hit)) hits
     answer_is_told hits before none e =
         range_is_told begun hits (e ∙ ap (λ xs. map hit_in xs ++ map (hit_at source) (met source cells p 0)) none ∙ ap (λ c. map (hit_at source) (met source cells c 0)) is)
 

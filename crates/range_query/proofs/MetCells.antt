@@ -1,5 +1,6 @@
 -- What a walk along a box meets: just the cells of the box that cover a row, in cell order.
 use Rattle.std.proofs.Common.{◌≡◌, ℕ, zero, suc, ◌+◌, ◌<◌, ◌≤◌, Bool, true, false, ◌||◌, cond, Option, Some, None, List, [], ◌∷◌, length, filter, flat_map, take, drop, replicate, slice_get, inl, inr, refl, sym, ap, subst, ◌∙◌, arith, true≢false}
+use Rattle.std.specs.List.Sorted.{IsStrictlySortedBy}
 use Rattle.std.specs.Prelude.{is_some}
 use Rattle.std.specs.declared.cmp.Ordering.{Ordering}
 use Rattle.std.specs.declared.cmp.Ordering.TheVariants.{Less}
@@ -13,7 +14,7 @@ use Rattle.cube_defs.specs.Cell.{Cell, cell_cmp, depth, leq, one_deeper, with_va
 use Rattle.cube_defs.specs.Rows.{Row, closure, covers}
 use Rattle.cube_defs.specs.Tree.{covered}
 use Rattle.cube_defs.specs.Answers.{Box, in_box}
-use Rattle.cube_laws.specs.Lists.{Among, Rises}
+use Rattle.cube_laws.specs.Lists.{Among}
 use Rattle.cube_laws.proofs.Cells.{IsEquality}
 use Rattle.cube_laws.proofs.Closures.{closure_some}
 use Rattle.cube_laws.proofs.Covered.{cell_anti, cell_total, covered-is, covered_rises, covered_some, some_covered}
@@ -154,7 +155,8 @@ module _ {A : Type 0} {cmp : A → A → Ordering} (total : IsTotalOrder cmp) (a
           (among_flat_map (one box p i) c vs).1 (v, is_among v vs b.0, subst (Among c) (sym (cond-true _ _ _ here)) (more v (record { long = r.long ∙ sym wide; same = same; allowed = ap (in_box eq box) t.1 ∙ b.1; covered = r.covered })))
 
   -- in cell order
-  pub met_rises : (box : Box A) (p : Cell A) (i : ℕ) → length p ≡ i + length box → depth p ≤ i → is_covered eq rows p ≡ true → IsOrdered cmp box → Rises (cell_cmp cmp) (met eq rows box p i)
+  pub met_rises : (box : Box A) (p : Cell A) (i : ℕ) → length p ≡ i + length box → depth p ≤ i → is_covered eq rows p ≡ true → IsOrdered cmp box → IsStrictlySortedBy (cell_cmp cmp) (met eq rows box p i)
+  unfolding IsStrictlySortedBy
   met_rises [] p i l d k o = (tt, tt)
   met_rises (None ∷ box) p i l d k o = met_rises box p (suc i) (omega (arith, l)) (omega (arith, d)) k o
   met_rises (Some vs ∷ box) p i l d k o = go (λ v h. met_rises box (with_value p i v) (suc i) (omega (arith, l, length-set p i (Some v))) (depth-set p i (Some v) d) h o.1) vs o.0
@@ -162,10 +164,10 @@ module _ {A : Type 0} {cmp : A → A → Ordering} (total : IsTotalOrder cmp) (a
       within : i < length p
       within = omega arith
 
-      ones : ((v : A) → is_covered eq rows (with_value p i v) ≡ true → Rises (cell_cmp cmp) (met eq rows box (with_value p i v) (suc i))) → (v : A) → Rises (cell_cmp cmp) (one box p i v)
+      ones : ((v : A) → is_covered eq rows (with_value p i v) ≡ true → IsStrictlySortedBy (cell_cmp cmp) (met eq rows box (with_value p i v) (suc i))) → (v : A) → IsStrictlySortedBy (cell_cmp cmp) (one box p i v)
       ones more v = by (is_covered eq rows (with_value p i v)) refl
         where
-          by : (b : Bool) → is_covered eq rows (with_value p i v) ≡ b → Rises (cell_cmp cmp) (cond b (met eq rows box (with_value p i v) (suc i)) [])
+          by : (b : Bool) → is_covered eq rows (with_value p i v) ≡ b → IsStrictlySortedBy (cell_cmp cmp) (cond b (met eq rows box (with_value p i v) (suc i)) [])
           by true e = more v e
           by false e = tt
 
@@ -178,7 +180,7 @@ module _ {A : Type 0} {cmp : A → A → Ordering} (total : IsTotalOrder cmp) (a
           let t = take_less x (with_value p i v) i r.same (omega (arith, r.long, wide, within)) (omega (arith, wide, within)) in
           (t.0 ∙ take-set p i (Some v), t.1 ∙ set-get p i (Some v) within)
 
-      go : ((v : A) → is_covered eq rows (with_value p i v) ≡ true → Rises (cell_cmp cmp) (met eq rows box (with_value p i v) (suc i))) → (ws : List A) → Rises cmp ws → Rises (cell_cmp cmp) (flat_map (one box p i) ws)
+      go : ((v : A) → is_covered eq rows (with_value p i v) ≡ true → IsStrictlySortedBy (cell_cmp cmp) (met eq rows box (with_value p i v) (suc i))) → (ws : List A) → IsStrictlySortedBy cmp ws → IsStrictlySortedBy (cell_cmp cmp) (flat_map (one box p i) ws)
       go more [] h = tt
       go more (v ∷ ws) h =
           rises_append (cell_cmp cmp) (one box p i v) (flat_map (one box p i) ws) (ones more v) (go more ws h.1)

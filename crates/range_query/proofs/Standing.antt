@@ -8,17 +8,17 @@ use Rattle.std.specs.Cmp.{nat_cmp_total}
 use Rattle.std.specs.FinMap as numbers
 use Rattle.std.specs.Option.{option_map}
 use Rattle.std.specs.Ordering.{nat_cmp, eq_by_cmp}
-use Rattle.cube_defs.specs.Cell.{Cell, depth, keep, one_deeper}
+use Rattle.cube_defs.specs.Cell.{Cell, depth, cell_front, one_deeper}
 use Rattle.cube_defs.specs.Tree.{Tree, cell_at}
 use Rattle.cube_defs.specs.Answers.{Box}
 use Rattle.cube_laws.proofs.Cells.{depth-le, one_deeper-le}
 use Rattle.cube_laws.proofs.Covered.{closure_length}
 use Rattle.qc_arena.specs.Seen.{record_at}
-use Rattle.tree_laws.specs.Walk.{front, walk_on}
-use Rattle.tree_laws.proofs.Fronts.{any_behind, keep-beyond, shallower}
+use Rattle.tree_laws.specs.Walk.{closure_front, walk_on}
+use Rattle.tree_laws.proofs.Fronts.{any_behind, cell_front-beyond, shallower}
 use Rattle.tree_laws.proofs.Lists.{some_same, there}
 use Rattle.tree_laws.proofs.Walks.{walk_step}
-use Rattle.tree_search.specs.Found.{IsFrom, IsTree, Source, closure_in}
+use Rattle.tree_search.specs.Found.{IsTreeOf, IsTree, TreeRows, closure_in}
 use Rattle.tree_search.proofs.Walked.{cell_of, there_is}
 use Rattle.range_query.specs.Met.{is_covered}
 use Rattle.range_query.specs.Walk.{Stands, cost, entered, entry_cost, met}
@@ -35,10 +35,10 @@ module _ {A : Type 0} where
   set-get (f ∷ p) zero e l = refl
   set-get (f ∷ p) (suc i) e l = set-get p i e (omega arith)
 
-  pub keep-set : (p : Cell A) (i : ℕ) (e : Option A) → keep i (set p i e) ≡ keep i p
-  keep-set [] i e = refl
-  keep-set (f ∷ p) zero e = refl
-  keep-set (f ∷ p) (suc i) e = ap (λ x. f ∷ x) (keep-set p i e)
+  pub cell_front-set : (p : Cell A) (i : ℕ) (e : Option A) → cell_front i (set p i e) ≡ cell_front i p
+  cell_front-set [] i e = refl
+  cell_front-set (f ∷ p) zero e = refl
+  cell_front-set (f ∷ p) (suc i) e = ap (λ x. f ∷ x) (cell_front-set p i e)
 
   pub depth-set : (p : Cell A) (i : ℕ) (e : Option A) → depth p ≤ i → depth (set p i e) ≤ suc i
   depth-set [] i e h = omega arith
@@ -55,19 +55,19 @@ pub back : {dims : ℕ} {tree : Tree ℕ} {node : ℕ} {p : Cell ℕ} {i : ℕ} 
 back {p = p} {i = i} e s l = set-set p i e None ∙ set-own p i None (any_behind p i s.behind (omega (arith, s.long)))
 
 module _ (dims : ℕ) (tree : Tree ℕ) (node : ℕ) (p : Cell ℕ) (i : ℕ) (s : Stands dims tree node p i) where
-  module _ (source : Source) (h : IsFrom dims tree source) where
-    own : keep i p ≡ p
-    own = keep-beyond i p s.behind
+  module _ (source : TreeRows) (h : IsTreeOf dims tree source) where
+    own : cell_front i p ≡ p
+    own = cell_front-beyond i p s.behind
 
-    pub stands_closure : (u : Cell ℕ) × (closure_in source p ≡ Some u) × (cell_at tree node ≡ Some (keep i u))
+    pub stands_closure : (u : Cell ℕ) × (closure_in source p ≡ Some u) × (cell_at tree node ≡ Some (cell_front i u))
     stands_closure = go (closure_in source p) refl
       where
-        front_is : cell_at tree node ≡ option_map (keep i) (closure_in source p)
-        front_is = s.front source h ∙ ap (λ c. option_map (keep i) (closure_in source c)) own
+        front_is : cell_at tree node ≡ option_map (cell_front i) (closure_in source p)
+        front_is = s.front source h ∙ ap (λ c. option_map (cell_front i) (closure_in source c)) own
 
-        go : (o : Option (Cell ℕ)) → closure_in source p ≡ o → (u : Cell ℕ) × (closure_in source p ≡ Some u) × (cell_at tree node ≡ Some (keep i u))
-        go None e = let none : cell_at tree node ≡ None = front_is ∙ ap (option_map (keep i)) e in absurd (true≢false (sym s.there ∙ ap is_some none))
-        go (Some u) e = (u, e, front_is ∙ ap (option_map (keep i)) e)
+        go : (o : Option (Cell ℕ)) → closure_in source p ≡ o → (u : Cell ℕ) × (closure_in source p ≡ Some u) × (cell_at tree node ≡ Some (cell_front i u))
+        go None e = let none : cell_at tree node ≡ None = front_is ∙ ap (option_map (cell_front i)) e in absurd (true≢false (sym s.there ∙ ap is_some none))
+        go (Some u) e = (u, e, front_is ∙ ap (option_map (cell_front i)) e)
 
     pub stands_covered : is_covered (eq_by_cmp nat_cmp) source.rows p ≡ true
     stands_covered = ap is_some stands_closure.1
@@ -75,43 +75,43 @@ module _ (dims : ℕ) (tree : Tree ℕ) (node : ℕ) (p : Cell ℕ) (i : ℕ) (s
     -- at the end
     pub stands_whole : dims ≤ i → cell_at tree node ≡ closure_in source p
     stands_whole l =
-        let u : (u : Cell ℕ) × (closure_in source p ≡ Some u) × (cell_at tree node ≡ Some (keep i u)) = stands_closure in
+        let u : (u : Cell ℕ) × (closure_in source p ≡ Some u) × (cell_at tree node ≡ Some (cell_front i u)) = stands_closure in
         let wide_u : length u.0 ≡ dims = closure_length (eq_by_cmp nat_cmp) dims p u.0 source.rows h.wide u.1 in
-        u.2 ∙ ap (λ x. Some x) (keep-beyond i u.0 (omega (arith, depth-le u.0))) ∙ sym u.1
+        u.2 ∙ ap (λ x. Some x) (cell_front-beyond i u.0 (omega (arith, depth-le u.0))) ∙ sym u.1
 
     module _ (e : Option ℕ) (l : i < dims) where
       abbrev q : Cell ℕ
       q = set p i e
 
-      kept : keep (suc i) q ≡ q
-      kept = keep-beyond (suc i) q (depth-set p i e s.behind)
+      kept : cell_front (suc i) q ≡ q
+      kept = cell_front-beyond (suc i) q (depth-set p i e s.behind)
 
-      stepped : option_map (cell_at tree) (walk_on (eq_by_cmp nat_cmp) node (record_at tree node) i e) ≡ option_map (λ c. Some c) (front (eq_by_cmp nat_cmp) source.rows q (suc i))
+      stepped : option_map (cell_at tree) (walk_on (eq_by_cmp nat_cmp) node (record_at tree node) i e) ≡ option_map (λ c. Some c) (closure_front (eq_by_cmp nat_cmp) source.rows q (suc i))
       stepped =
-          let u : (u : Cell ℕ) × (closure_in source p ≡ Some u) × (cell_at tree node ≡ Some (keep i u)) = stands_closure in
-          let at : Some (record_at tree node).cell ≡ front (eq_by_cmp nat_cmp) source.rows q i
-          = ap (λ c. Some c) (cell_of tree node (keep i u.0) u.2) ∙ sym u.2 ∙ s.front source h ∙ ap (λ c. option_map (keep i) (closure_in source c)) (sym (keep-set p i e)) in
+          let u : (u : Cell ℕ) × (closure_in source p ≡ Some u) × (cell_at tree node ≡ Some (cell_front i u)) = stands_closure in
+          let at : Some (record_at tree node).cell ≡ closure_front (eq_by_cmp nat_cmp) source.rows q i
+          = ap (λ c. Some c) (cell_of tree node (cell_front i u.0) u.2) ∙ sym u.2 ∙ s.front source h ∙ ap (λ c. option_map (cell_front i) (closure_in source c)) (sym (cell_front-set p i e)) in
           walk_step nat_cmp_total numbers.nat_cmp-IsAntisymmetric dims source.measures source.rows h.wide tree h.canonical node (record_at tree node) q i e
-          (length-set p i e ∙ s.long) (set-get p i e (omega (arith, s.long))) l (there_is tree node (there tree node (keep i u.0) u.2)) at
+          (length-set p i e ∙ s.long) (set-get p i e (omega (arith, s.long))) l (there_is tree node (there tree node (cell_front i u.0) u.2)) at
 
       pub next_none : walk_on (eq_by_cmp nat_cmp) node (record_at tree node) i e ≡ None → is_covered (eq_by_cmp nat_cmp) source.rows q ≡ false
-      next_none w = go (closure_in source (keep (suc i) q)) refl
+      next_none w = go (closure_in source (cell_front (suc i) q)) refl
         where
-          go : (o : Option (Cell ℕ)) → closure_in source (keep (suc i) q) ≡ o → is_covered (eq_by_cmp nat_cmp) source.rows q ≡ false
+          go : (o : Option (Cell ℕ)) → closure_in source (cell_front (suc i) q) ≡ o → is_covered (eq_by_cmp nat_cmp) source.rows q ≡ false
           go None f = ap (λ c. is_some (closure_in source c)) (sym kept) ∙ ap is_some f
-          go (Some u) f = let bad : None ≡ Some (Some (keep (suc i) u)) = ap (option_map (cell_at tree)) (sym w) ∙ stepped ∙ ap (λ o. option_map (λ c. Some c) (option_map (keep (suc i)) o)) f in cc
+          go (Some u) f = let bad : None ≡ Some (Some (cell_front (suc i) u)) = ap (option_map (cell_at tree)) (sym w) ∙ stepped ∙ ap (λ o. option_map (λ c. Some c) (option_map (cell_front (suc i)) o)) f in cc
 
-      pub next_some : (j : ℕ) → walk_on (eq_by_cmp nat_cmp) node (record_at tree node) i e ≡ Some j → (cell_at tree j ≡ front (eq_by_cmp nat_cmp) source.rows q (suc i)) × IsSome (cell_at tree j) × (is_covered (eq_by_cmp nat_cmp) source.rows q ≡ true)
-      next_some j w = go (closure_in source (keep (suc i) q)) refl
+      pub next_some : (j : ℕ) → walk_on (eq_by_cmp nat_cmp) node (record_at tree node) i e ≡ Some j → (cell_at tree j ≡ closure_front (eq_by_cmp nat_cmp) source.rows q (suc i)) × IsSome (cell_at tree j) × (is_covered (eq_by_cmp nat_cmp) source.rows q ≡ true)
+      next_some j w = go (closure_in source (cell_front (suc i) q)) refl
         where
-          by : Some (cell_at tree j) ≡ option_map (λ c. Some c) (front (eq_by_cmp nat_cmp) source.rows q (suc i))
+          by : Some (cell_at tree j) ≡ option_map (λ c. Some c) (closure_front (eq_by_cmp nat_cmp) source.rows q (suc i))
           by = ap (option_map (cell_at tree)) (sym w) ∙ stepped
 
-          go : (o : Option (Cell ℕ)) → closure_in source (keep (suc i) q) ≡ o → (cell_at tree j ≡ front (eq_by_cmp nat_cmp) source.rows q (suc i)) × IsSome (cell_at tree j) × (is_covered (eq_by_cmp nat_cmp) source.rows q ≡ true)
-          go None f = let bad : Some (cell_at tree j) ≡ None = by ∙ ap (λ o. option_map (λ c. Some c) (option_map (keep (suc i)) o)) f in cc
+          go : (o : Option (Cell ℕ)) → closure_in source (cell_front (suc i) q) ≡ o → (cell_at tree j ≡ closure_front (eq_by_cmp nat_cmp) source.rows q (suc i)) × IsSome (cell_at tree j) × (is_covered (eq_by_cmp nat_cmp) source.rows q ≡ true)
+          go None f = let bad : Some (cell_at tree j) ≡ None = by ∙ ap (λ o. option_map (λ c. Some c) (option_map (cell_front (suc i)) o)) f in cc
           go (Some u) f =
-              let is : front (eq_by_cmp nat_cmp) source.rows q (suc i) ≡ Some (keep (suc i) u) = ap (option_map (keep (suc i))) f in
-              let at : cell_at tree j ≡ Some (keep (suc i) u) = some_same (by ∙ ap (option_map (λ c. Some c)) is) in
+              let is : closure_front (eq_by_cmp nat_cmp) source.rows q (suc i) ≡ Some (cell_front (suc i) u) = ap (option_map (cell_front (suc i))) f in
+              let at : cell_at tree j ≡ Some (cell_front (suc i) u) = some_same (by ∙ ap (option_map (λ c. Some c)) is) in
               (at ∙ sym is, subst (λ o. IsSome o) (sym at) refl, ap (λ c. is_some (closure_in source c)) (sym kept) ∙ ap is_some f)
 
   -- the walk stands at the next node
@@ -133,7 +133,7 @@ module _ (dims : ℕ) (tree : Tree ℕ) (node : ℕ) (p : Cell ℕ) (i : ℕ) (s
   pub stands_any : (t : IsTree dims tree) (l : i < dims) (j : ℕ) → walk_on (eq_by_cmp nat_cmp) node (record_at tree node) i None ≡ Some j → Stands dims tree j p (i + 1)
   stands_any t l j w = stands_after t None l j p w (sym (set-own p i None (any_behind p i s.behind (omega (arith, s.long)))))
 
-  module _ (source : Source) (h : IsFrom dims tree source) (box : Box ℕ) where
+  module _ (source : TreeRows) (h : IsTreeOf dims tree source) (box : Box ℕ) where
     -- one entry: nothing where no row is left with it, and else what is met from there
     module _ (e : Option ℕ) (l : i < dims) where
       pub entered_none : walk_on (eq_by_cmp nat_cmp) node (record_at tree node) i e ≡ None → entered source box p i e ≡ []
@@ -155,11 +155,6 @@ module _ (dims : ℕ) (tree : Tree ℕ) (node : ℕ) (p : Cell ℕ) (i : ℕ) (s
       any_met is =
           let next : i + 1 ≡ suc i = omega arith in
           ap (λ n. met source (drop (i + 1) box) p n) next ∙ sym (ap (λ b. met source b p i) (front_of ∙ ap (λ a. a ∷ drop (i + 1) box) is))
-
-      pub any_cost : get_or box i None ≡ None → cost source (drop i box) p i ≡ 1 + cost source (drop (i + 1) box) p (i + 1)
-      any_cost is =
-          let next : suc i ≡ i + 1 = omega arith in
-          ap (λ b. cost source b p i) (front_of ∙ ap (λ a. a ∷ drop (i + 1) box) is) ∙ ap (λ n. 1 + cost source (drop (i + 1) box) p n) next
 
       module _ (vs : List ℕ) (is : get_or box i None ≡ Some vs) where
         pub codes_met : met source (drop i box) p i ≡ flat_map (λ v. entered source (drop (i + 1) box) p i (Some v)) vs

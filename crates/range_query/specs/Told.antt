@@ -6,7 +6,7 @@ use Rattle.cube_defs.specs.Cell.{Cell}
 use Rattle.cube_defs.specs.Rows.{agg}
 use Rattle.cube_defs.specs.Answers as answers
 use Rattle.aggregates.specs.Views.{agg_in}
-use Rattle.tree_search.specs.Found.{Source}
+use Rattle.tree_search.specs.Found.{TreeRows}
 use Rattle.value_dict.specs.Boxes.{told_box}
 use Rattle.value_dict.specs.Recoded.{told_rows}
 use Rattle.value_dict.specs.Told.{HasTexts, told_cell}
@@ -25,17 +25,17 @@ abbrev pub told_hits : List (List Text) → List Hit → List (answers.Hit Text)
 told_hits lists hits = map (λ hit. told_hit lists (hit_in hit)) hits
 
 -- the answer to a range query, and what it takes, by the texts of the codes
-abbrev pub told_range : List (List Text) → Source → answers.Box ℕ → List (answers.Hit Text)
+abbrev pub told_range : List (List Text) → TreeRows → answers.Box ℕ → List (answers.Hit Text)
 told_range lists source cells = answers.range text_cmp source.measures (told_rows lists source.rows) (told_box lists cells)
 
-abbrev pub told_work : List (List Text) → Source → answers.Box ℕ → ℕ
+abbrev pub told_work : List (List Text) → TreeRows → answers.Box ℕ → ℕ
 told_work lists source cells = work text_cmp (told_rows lists source.rows) (told_box lists cells)
 
 -- a hit that can be told: its codes have texts, and it has a part for each measure
-pub record IsTold (lists : List (List Text)) (measures : ℕ) (hit : answers.Hit ℕ) : Type 0 where
+pub record IsTellableHit (lists : List (List Text)) (measures : ℕ) (hit : answers.Hit ℕ) : Type 0 where
   pub texts : HasTexts lists hit.cell
   pub parts : length hit.agg.parts ≡ measures
 
 -- a cell with what its rows come to
-abbrev pub hit_at : Source → Cell ℕ → answers.Hit ℕ
+abbrev pub hit_at : TreeRows → Cell ℕ → answers.Hit ℕ
 hit_at source c = record { cell = c; agg = agg (eq_by_cmp nat_cmp) source.measures source.rows c }

@@ -8,11 +8,11 @@ ghost use Rattle.cell_core.specs.Entry.{IsCode};
 ghost use Rattle.cube_defs.specs.Tree.{Node};
 ghost use Rattle.qc_arena.specs.Seen.{edge_of, record_at};
 ghost use Rattle.tree_laws.specs.Walk.{by_forced};
-ghost use Rattle.tree_search.specs.Found.{IsFrom, IsTree, Source};
+ghost use Rattle.tree_search.specs.Found.{IsTreeOf, IsTree, TreeRows};
 ghost use Rattle.range_query.specs.Told.{hit_at, hit_in};
 ghost use Rattle.range_query.specs.Walk.{Stands, cost, entered, entry_cost, met};
 
-use crate::keep::keep;
+use crate::add_hit::add_hit;
 use crate::{Hit, RangeRefused};
 use cell_core::{Cell, Code, Entry, NodeNo, Steps};
 use cube_defs::MAX_DIMS;
@@ -49,23 +49,23 @@ pub(crate) fn visit<T: Nodes, L: Ledger>(
     requires few_dims { T.width tree.now ≤ MAX_DIMS }
     requires stands { Stands (T.width tree.now) (T.tree tree.now) node.0 cell.old dim }
     requires few { length hits.old.items ≤ limit }
-    ensures hits { (source : Source) → IsFrom (T.width tree.now) (T.tree tree.now) source →
+    ensures hits { (source : TreeRows) → IsTreeOf (T.width tree.now) (T.tree tree.now) source →
         OnOk result (map hit_in hits.new.items ≡ map hit_in hits.old.items ++ map (hit_at source) (met source (drop dim cells.now) cell.old dim)) }
     ensures few { OnOk result (length hits.new.items ≤ limit) }
-    ensures too_many { result ≡ Err RangeRefused.TooMany → (source : Source) → IsFrom (T.width tree.now) (T.tree tree.now) source →
+    ensures too_many { result ≡ Err RangeRefused.TooMany → (source : TreeRows) → IsTreeOf (T.width tree.now) (T.tree tree.now) source →
         limit < length hits.old.items + length (met source (drop dim cells.now) cell.old dim) }
     ensures cell { OnOk result (cell.new ≡ cell.old) }
-    ensures steps { (source : Source) → IsFrom (T.width tree.now) (T.tree tree.now) source →
+    ensures steps { (source : TreeRows) → IsTreeOf (T.width tree.now) (T.tree tree.now) source →
         steps.new ≤ steps.old + cost source (drop dim cells.now) cell.old dim }
 {
     if dim >= cells.dims() {
-        return keep(tree, limit, node, cell, hits, steps);
+        return add_hit(tree, limit, node, cell, hits, steps);
     }
     let forced = tree.forced(node, steps);
     go_on(tree, cells, limit, node, forced, dim, cell, hits, steps)
 }
 
-// The same from a node whose forced child is read.
+// Goes on in the box from a dimension, at a node whose forced child was read.
 #[cycle(walking)]
 fn go_on<T: Nodes, L: Ledger>(
     tree: &T,
@@ -84,17 +84,17 @@ fn go_on<T: Nodes, L: Ledger>(
     requires stands { Stands (T.width tree.now) (T.tree tree.now) node.0 cell.old dim }
     requires forced { option_map edge_of forced ≡ (record_at (T.tree tree.now) node.0).forced }
     requires few { length hits.old.items ≤ limit }
-    ensures hits { (source : Source) → IsFrom (T.width tree.now) (T.tree tree.now) source →
+    ensures hits { (source : TreeRows) → IsTreeOf (T.width tree.now) (T.tree tree.now) source →
         OnOk result (map hit_in hits.new.items ≡ map hit_in hits.old.items ++ map (hit_at source) (met source (drop dim cells.now) cell.old dim)) }
     ensures few { OnOk result (length hits.new.items ≤ limit) }
-    ensures too_many { result ≡ Err RangeRefused.TooMany → (source : Source) → IsFrom (T.width tree.now) (T.tree tree.now) source →
+    ensures too_many { result ≡ Err RangeRefused.TooMany → (source : TreeRows) → IsTreeOf (T.width tree.now) (T.tree tree.now) source →
         limit < length hits.old.items + length (met source (drop dim cells.now) cell.old dim) }
     ensures cell { OnOk result (cell.new ≡ cell.old) }
-    ensures steps { (source : Source) → IsFrom (T.width tree.now) (T.tree tree.now) source →
+    ensures steps { (source : TreeRows) → IsTreeOf (T.width tree.now) (T.tree tree.now) source →
         steps.new + 1 ≤ steps.old + cost source (drop dim cells.now) cell.old dim }
 {
     if dim >= cells.dims() {
-        return keep(tree, limit, node, cell, hits, steps);
+        return add_hit(tree, limit, node, cell, hits, steps);
     }
     if let Some(codes) = cells.codes(dim) {
         return visit_codes(
@@ -130,13 +130,13 @@ fn visit_codes<T: Nodes, L: Ledger>(
     requires stands { Stands (T.width tree.now) (T.tree tree.now) node.0 cell.old dim }
     requires forced { option_map edge_of forced ≡ (record_at (T.tree tree.now) node.0).forced }
     requires few { length hits.old.items ≤ limit }
-    ensures hits { (source : Source) → IsFrom (T.width tree.now) (T.tree tree.now) source →
+    ensures hits { (source : TreeRows) → IsTreeOf (T.width tree.now) (T.tree tree.now) source →
         OnOk result (map hit_in hits.new.items ≡ map hit_in hits.old.items ++ map (hit_at source) (met source (drop dim cells.now) cell.old dim)) }
     ensures few { OnOk result (length hits.new.items ≤ limit) }
-    ensures too_many { result ≡ Err RangeRefused.TooMany → (source : Source) → IsFrom (T.width tree.now) (T.tree tree.now) source →
+    ensures too_many { result ≡ Err RangeRefused.TooMany → (source : TreeRows) → IsTreeOf (T.width tree.now) (T.tree tree.now) source →
         limit < length hits.old.items + length (met source (drop dim cells.now) cell.old dim) }
     ensures cell { OnOk result (cell.new ≡ cell.old) }
-    ensures steps { (source : Source) → IsFrom (T.width tree.now) (T.tree tree.now) source →
+    ensures steps { (source : TreeRows) → IsTreeOf (T.width tree.now) (T.tree tree.now) source →
         steps.new + 1 ≤ steps.old + cost source (drop dim cells.now) cell.old dim }
 {
     'codes: for k in 0..codes.len() {
@@ -172,14 +172,14 @@ fn enter<T: Nodes, L: Ledger>(
     requires stands { Stands (T.width tree.now) (T.tree tree.now) node.0 cell.old dim }
     requires forced { option_map edge_of forced ≡ (record_at (T.tree tree.now) node.0).forced }
     requires few { length hits.old.items ≤ limit }
-    ensures hits { (source : Source) → IsFrom (T.width tree.now) (T.tree tree.now) source →
+    ensures hits { (source : TreeRows) → IsTreeOf (T.width tree.now) (T.tree tree.now) source →
         OnOk result (map hit_in hits.new.items
         ≡ map hit_in hits.old.items ++ map (hit_at source) (entered source (drop (dim + 1) cells.now) cell.old dim (Some code))) }
     ensures few { OnOk result (length hits.new.items ≤ limit) }
-    ensures too_many { result ≡ Err RangeRefused.TooMany → (source : Source) → IsFrom (T.width tree.now) (T.tree tree.now) source →
+    ensures too_many { result ≡ Err RangeRefused.TooMany → (source : TreeRows) → IsTreeOf (T.width tree.now) (T.tree tree.now) source →
         limit < length hits.old.items + length (entered source (drop (dim + 1) cells.now) cell.old dim (Some code)) }
     ensures cell { OnOk result (cell.new ≡ cell.old) }
-    ensures steps { (source : Source) → IsFrom (T.width tree.now) (T.tree tree.now) source →
+    ensures steps { (source : TreeRows) → IsTreeOf (T.width tree.now) (T.tree tree.now) source →
         steps.new ≤ steps.old + entry_cost source (drop (dim + 1) cells.now) cell.old dim (Some code) }
 {
     let entry = Entry::Is(code);

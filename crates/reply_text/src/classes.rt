@@ -4,7 +4,7 @@ ghost use Rattle.std.specs.Prelude.{IfOk, OnOk, length, map, ◌++◌, ◌≡◌
 ghost use Rattle.iceberg_query.specs.Hits.{told_classes};
 ghost use Rattle.lower_bounds.specs.Classes.{hit_in};
 ghost use Rattle.reply_text.specs.Replies.{bounds_text, class_text, iceberg_text, lower_text};
-ghost use Rattle.value_dict.specs.Told.{HasTexts, IsTold, told_cell, told_hit};
+ghost use Rattle.value_dict.specs.Told.{HasTexts, IsTellableClass, told_cell, told_hit};
 
 use crate::cells::push_head;
 use crate::fields::push_end;
@@ -44,7 +44,7 @@ fn push_class(
     dict: &Dict,
     class: &Class,
 ) -> Result<(), Memory>
-    requires { IsTold dict.now.lists (length schema.now.measures) (hit_in class.now) }
+    requires { IsTellableClass dict.now.lists (length schema.now.measures) (hit_in class.now) }
     ensures { OnOk result (out.new.items ≡ out.old.items ++ class_text line schema.now.measures (told_hit dict.now.lists (hit_in class.now))) }
 {
     push_head(out, b"class", line, dict, &class.upper)?;
@@ -61,7 +61,7 @@ fn push_classes(
     dict: &Dict,
     classes: &[Class],
 ) -> Result<(), Memory>
-    requires { All (λ class. IsTold dict.now.lists (length schema.now.measures) (hit_in class)) classes.now }
+    requires { All (λ class. IsTellableClass dict.now.lists (length schema.now.measures) (hit_in class)) classes.now }
     ensures { OnOk result (out.new.items ≡ out.old.items ++ flat_map (class_text line schema.now.measures) (told_classes dict.now.lists classes.now)) }
 {
     'classes: for class in classes {
@@ -78,7 +78,7 @@ pub fn bounds_reply(
     dict: &Dict,
     class: &Class,
 ) -> Result<Vec<u8>, Memory>
-    requires { IsTold dict.now.lists (length schema.now.measures) (hit_in class.now) }
+    requires { IsTellableClass dict.now.lists (length schema.now.measures) (hit_in class.now) }
     ensures { IfOk result (λ reply. reply.items ≡ bounds_text line schema.now.measures (told_hit dict.now.lists (hit_in class.now))) }
 {
     let mut out = Vec::new(alloc);
@@ -95,7 +95,7 @@ pub fn iceberg_reply(
     dict: &Dict,
     classes: &[Class],
 ) -> Result<Vec<u8>, Memory>
-    requires { All (λ class. IsTold dict.now.lists (length schema.now.measures) (hit_in class)) classes.now }
+    requires { All (λ class. IsTellableClass dict.now.lists (length schema.now.measures) (hit_in class)) classes.now }
     ensures { IfOk result (λ reply. reply.items ≡ iceberg_text line schema.now.measures (told_classes dict.now.lists classes.now)) }
 {
     let mut out = Vec::new(alloc);

@@ -14,5 +14,7 @@ mod values;
 pub use classes::{bounds_reply, iceberg_reply};
 pub use points::{point_reply, push_point};
 pub use ranges::range_reply;
-pub use refusals::{Detail, Words, words_of_file, words_of_line, words_of_many, words_of_size};
+pub use refusals::{
+    Detail, RefusalWords, words_of_file, words_of_line, words_of_many, words_of_size,
+};
 pub use short::{Reply, ShortReply, applied, memory, none, refused, stats};

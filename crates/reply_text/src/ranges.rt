@@ -1,7 +1,7 @@
 // The reply that tells the cells of a box.
 ghost use Rattle.std.specs.List.{All, flat_map};
 ghost use Rattle.std.specs.Prelude.{IfOk, OnOk, length, ◌++◌, ◌≡◌};
-ghost use Rattle.range_query.specs.Told.{IsTold, hit_in, told_hit, told_hits};
+ghost use Rattle.range_query.specs.Told.{IsTellableHit, hit_in, told_hit, told_hits};
 ghost use Rattle.reply_text.specs.Replies.{hit_text, range_text};
 
 use crate::cells::push_head;
@@ -21,7 +21,7 @@ fn push_hit(
     dict: &Dict,
     hit: &Hit,
 ) -> Result<(), Memory>
-    requires { IsTold dict.now.lists (length schema.now.measures) (hit_in hit.now) }
+    requires { IsTellableHit dict.now.lists (length schema.now.measures) (hit_in hit.now) }
     ensures { OnOk result (out.new.items ≡ out.old.items ++ hit_text line schema.now.measures (told_hit dict.now.lists (hit_in hit.now))) }
 {
     push_head(out, b"cell", line, dict, &hit.cell)?;
@@ -38,7 +38,7 @@ fn push_hits(
     dict: &Dict,
     hits: &[Hit],
 ) -> Result<(), Memory>
-    requires { All (λ hit. IsTold dict.now.lists (length schema.now.measures) (hit_in hit)) hits.now }
+    requires { All (λ hit. IsTellableHit dict.now.lists (length schema.now.measures) (hit_in hit)) hits.now }
     ensures { OnOk result (out.new.items ≡ out.old.items ++ flat_map (hit_text line schema.now.measures) (told_hits dict.now.lists hits.now)) }
 {
     'hits: for hit in hits {
@@ -55,7 +55,7 @@ pub fn range_reply(
     dict: &Dict,
     hits: &[Hit],
 ) -> Result<Vec<u8>, Memory>
-    requires { All (λ hit. IsTold dict.now.lists (length schema.now.measures) (hit_in hit)) hits.now }
+    requires { All (λ hit. IsTellableHit dict.now.lists (length schema.now.measures) (hit_in hit)) hits.now }
     ensures { IfOk result (λ reply. reply.items ≡ range_text line schema.now.measures (told_hits dict.now.lists hits.now)) }
 {
     let mut out = Vec::new(alloc);

@@ -18,7 +18,7 @@ pub enum Detail<'a> {
 
 /// The code of a refusal, and what it says of it.
 #[derive(Clone, Copy, Debug)]
-pub struct Words<'a> {
+pub struct RefusalWords<'a> {
     pub(crate) code: &'static str,
     pub(crate) detail: Detail<'a>,
 }
@@ -26,36 +26,36 @@ pub struct Words<'a> {
 ghost use Rattle.reply_text.specs.Words.{IsDimension, IsShort, texts_of};
 ghost use Rattle.query_script.specs.Faults.{line_fault_in};
 
-impl<'a> Words<'a> {
-    fn code(code: &'static str) -> Words<'a>
+impl<'a> RefusalWords<'a> {
+    fn code(code: &'static str) -> RefusalWords<'a>
         requires { length code.now ≤ 14 }
         ensures texts { texts_of result ≡ code.now ∷ [] }
         ensures short { IsShort result }
     {
-        Words {
+        RefusalWords {
             code,
             detail: Detail::Nothing,
         }
     }
 
-    fn number(code: &'static str, k: u32) -> Words<'a>
+    fn number(code: &'static str, k: u32) -> RefusalWords<'a>
         requires { length code.now ≤ 14 }
         ensures texts { texts_of result ≡ numbered code.now k }
         ensures short { IsShort result }
     {
-        Words {
+        RefusalWords {
             code,
             detail: Detail::Number(k),
         }
     }
 
-    fn name(code: &'static str, name: &'a str) -> Words<'a>
+    fn name(code: &'static str, name: &'a str) -> RefusalWords<'a>
         requires code { length code.now ≤ 14 }
         requires name { length name.now ≤ 32 }
         ensures texts { texts_of result ≡ code.now ∷ name.now ∷ [] }
         ensures short { IsShort result }
     {
-        Words {
+        RefusalWords {
             code,
             detail: Detail::Name(name),
         }
@@ -63,57 +63,57 @@ impl<'a> Words<'a> {
 }
 
 /// Why a line is no command. None for want of memory.
-pub fn words_of_line(refused: LineRefused) -> Option<Words<'static>>
+pub fn words_of_line(refused: LineRefused) -> Option<RefusalWords<'static>>
     ensures texts { option_map texts_of result ≡ option_map line_texts (line_fault_in refused) }
     ensures short { IfSome result (λ words. IsShort words) }
 {
     match refused {
-        LineRefused::Utf8 => Some(Words::code("utf8")),
-        LineRefused::Command => Some(Words::code("command")),
-        LineRefused::Field(k) => Some(Words::number("field", k)),
-        LineRefused::Number => Some(Words::code("number")),
+        LineRefused::Utf8 => Some(RefusalWords::code("utf8")),
+        LineRefused::Command => Some(RefusalWords::code("command")),
+        LineRefused::Field(k) => Some(RefusalWords::number("field", k)),
+        LineRefused::Number => Some(RefusalWords::code("number")),
         LineRefused::Memory => None,
     }
 }
 
 /// Why a file of changes is refused. None for want of memory.
-pub fn words_of_file(refused: Refused, schema: &Schema) -> Option<Words<'_>>
+pub fn words_of_file(refused: Refused, schema: &Schema) -> Option<RefusalWords<'_>>
     requires dim { IsDimension refused (length schema.now.dims) }
     requires layout { IsLayout schema.now }
     ensures texts { option_map texts_of result ≡ option_map (batch_texts schema.now) (refusal_in refused) }
     ensures short { IfSome result (λ words. IsShort words) }
 {
     match refused {
-        Refused::NotEmpty => Some(Words::code("not-empty")),
-        Refused::Header => Some(Words::code("header")),
-        Refused::Fields(k) => Some(Words::number("fields", k)),
-        Refused::Utf8(k) => Some(Words::number("utf8", k)),
-        Refused::Op(k) => Some(Words::number("op", k)),
-        Refused::Id(k) => Some(Words::number("id", k)),
-        Refused::Amount(k) => Some(Words::number("amount", k)),
-        Refused::Value(k) => Some(Words::number("value", k)),
-        Refused::Twice(k) => Some(Words::number("twice", k)),
-        Refused::Missing(k) => Some(Words::number("missing", k)),
-        Refused::Present(k) => Some(Words::number("present", k)),
-        Refused::RowsFull => Some(Words::code("rows")),
-        Refused::ValuesFull(dim) => Some(Words::name("values", schema.dim_name(dim))),
-        Refused::NodesFull => Some(Words::code("nodes")),
+        Refused::NotEmpty => Some(RefusalWords::code("not-empty")),
+        Refused::Header => Some(RefusalWords::code("header")),
+        Refused::Fields(k) => Some(RefusalWords::number("fields", k)),
+        Refused::Utf8(k) => Some(RefusalWords::number("utf8", k)),
+        Refused::Op(k) => Some(RefusalWords::number("op", k)),
+        Refused::Id(k) => Some(RefusalWords::number("id", k)),
+        Refused::Amount(k) => Some(RefusalWords::number("amount", k)),
+        Refused::Value(k) => Some(RefusalWords::number("value", k)),
+        Refused::Twice(k) => Some(RefusalWords::number("twice", k)),
+        Refused::Missing(k) => Some(RefusalWords::number("missing", k)),
+        Refused::Present(k) => Some(RefusalWords::number("present", k)),
+        Refused::RowsFull => Some(RefusalWords::code("rows")),
+        Refused::ValuesFull(dim) => Some(RefusalWords::name("values", schema.dim_name(dim))),
+        Refused::NodesFull => Some(RefusalWords::code("nodes")),
         Refused::Memory => None,
     }
 }
 
 /// The file has too many bytes.
-pub fn words_of_size() -> Words<'static>
+pub fn words_of_size() -> RefusalWords<'static>
     ensures texts { texts_of result ≡ size_texts }
     ensures short { IsShort result }
 {
-    Words::code("size")
+    RefusalWords::code("size")
 }
 
 /// More cells of the box cover a row than are told.
-pub fn words_of_many() -> Words<'static>
+pub fn words_of_many() -> RefusalWords<'static>
     ensures texts { texts_of result ≡ many_texts }
     ensures short { IsShort result }
 {
-    Words::code("too-many-cells")
+    RefusalWords::code("too-many-cells")
 }

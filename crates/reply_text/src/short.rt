@@ -2,7 +2,7 @@
 ghost use Rattle.std.specs.Prelude.{[], decimal, length, ◌+◌, ◌++◌, ◌<◌, ◌∷◌, ◌≡◌, ◌≤◌};
 ghost use Rattle.reply_text.specs.Replies.{applied_text, memory_text, none_text, refused_text, stats_text};
 
-use crate::refusals::{Detail, Words};
+use crate::refusals::{Detail, RefusalWords};
 use arrayvec::ArrayString;
 use itoa::Buffer;
 use std::marker::Model;
@@ -125,7 +125,7 @@ pub fn stats(line: u32, counts: Stats) -> ShortReply
 }
 
 /// A line was refused, and changed nothing.
-pub fn refused(line: u32, words: Words<'_>) -> ShortReply
+pub fn refused(line: u32, words: RefusalWords<'_>) -> ShortReply
     requires { IsShort words }
     ensures { result ≡ refused_text line (texts_of words.entry) }
 {

@@ -1,5 +1,5 @@
 // The records of rows.
-ghost use Rattle.std.specs.Prelude.{OnOk, [], codes, decimal, length, ◌*◌, ◌+◌, ◌++◌, ◌<◌, ◌∷◌, ◌≡◌, ◌≤◌, ◌^◌};
+ghost use Rattle.std.specs.Prelude.{OnOk, [], decimal, length, ◌*◌, ◌+◌, ◌++◌, ◌<◌, ◌∷◌, ◌≡◌, ◌≤◌, ◌^◌};
 ghost use Rattle.aggregates.specs.Texts.{amount_text};
 ghost use Rattle.row_generator.specs.Generator.{after_draw, after_draws, after_rows, amount_of, deletion_text, deletions_text, row_text, rows_text, value_text, values_text};
 

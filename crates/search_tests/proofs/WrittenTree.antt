@@ -1,8 +1,8 @@
 -- The tests' tree is that of its rows.
-use Rattle.std.proofs.Common.{◌≡◌, ℕ, zero, suc, ◌<◌, Bool, true, false, cond, ◌&&◌, Option, Some, None, List, [], ◌∷◌, length, drop, get_or, slice_get, ◌+◌, ◌≤◌, eqb-true, eq-eqb, ltb-true, refl, sym, ap, ◌∙◌, subst, nat_cmp, lit<, lit≤, arith}
+use Rattle.std.proofs.Common.{◌≡◌, ℕ, zero, suc, ◌<◌, Bool, true, false, cond, ◌&&◌, Option, Some, None, List, [], ◌∷◌, length, drop, get_or, slice_get, ◌+◌, ◌≤◌, ltb-true, refl, sym, ap, ◌∙◌, subst, nat_cmp, lit<, lit≤, arith}
 use Rattle.std.specs.Prelude.{IsSome, nat_lt}
 use Rattle.std.specs.List.{AllByRecursion, list_all}
-use Rattle.std.proofs.lemmas.Bool.{and_parts, and_from, cond-true, cond-false, false_from_ne_true}
+use Rattle.std.proofs.lemmas.Bool.{and_parts}
 use Rattle.std.proofs.Math.Seq.{drop-cons}
 use Rattle.std.specs.Cmp.{nat_cmp_total}
 use Rattle.std.specs.FinMap as map
@@ -16,7 +16,7 @@ use Rattle.cube_laws.proofs.Lists.{all_at}
 use Rattle.cube_laws.proofs.Nodes.{nodes-is}
 use Rattle.cube_laws.proofs.Orders.{equality_by}
 use Rattle.qc_arena.specs.Seen.{label_lt, record_at}
-use Rattle.tree_laws.specs.Walk.{target_at}
+use Rattle.qc_arena.proofs.Labels.{all_at as edge_at}
 use Rattle.tree_laws.proofs.Lists.{some_same}
 use Rattle.tree_search.specs.Found.{IsTree}
 use Rattle.search_tests.specs.Shop.{cell, edge_in, edges_in, entries, rows, shop}
@@ -86,15 +86,10 @@ abbrev rises : List (Edge ℕ ℕ) → Bool
 rises [] = true
 rises (x ∷ xs) = list_all (label_lt x) xs && rises xs
 
-later : (p : Edge ℕ ℕ → Bool) (xs : List (Edge ℕ ℕ)) (j : ℕ) (f : Edge ℕ ℕ) → list_all p xs ≡ true → slice_get xs j ≡ Some f → p f ≡ true
-later p [] j f h e = cc
-later p (x ∷ xs) zero f h e = ap p (sym (some_same e)) ∙ (and_parts (p x) (list_all p xs) h).0
-later p (x ∷ xs) (suc j) f h e = later p xs j f (and_parts (p x) (list_all p xs) h).1 e
-
 in_order : (xs : List (Edge ℕ ℕ)) (i j : ℕ) (e f : Edge ℕ ℕ) → rises xs ≡ true → i < j → slice_get xs i ≡ Some e → slice_get xs j ≡ Some f → label_lt e f ≡ true
 in_order [] i j e f h l p q = cc
 in_order (x ∷ xs) i zero e f h l p q = absurd (omega arith)
-in_order (x ∷ xs) zero (suc j) e f h l p q = ap (λ y. label_lt y f) (sym (some_same p)) ∙ later (label_lt x) xs j f (and_parts (list_all (label_lt x) xs) (rises xs) h).0 q
+in_order (x ∷ xs) zero (suc j) e f h l p q = ap (λ y. label_lt y f) (sym (some_same p)) ∙ edge_at (label_lt x) xs j f (and_parts (list_all (label_lt x) xs) (rises xs) h).0 q
 in_order (x ∷ xs) (suc i) (suc j) e f h l p q = in_order xs i j e f (and_parts (list_all (label_lt x) xs) (rises xs) h).1 (omega arith) p q
 
 pub shop_rises : (k : ℕ) → IsSome (map.get shop k) → (i j : ℕ) (e f : Edge ℕ ℕ) → i < j → slice_get (record_at shop k).edges i ≡ Some e → slice_get (record_at shop k).edges j ≡ Some f → label_lt e f ≡ true
@@ -104,7 +99,7 @@ pub shop_few : (k : ℕ) → IsSome (map.get shop k) → length (record_at shop 
 shop_few k t = at_each (λ k n. length n.edges ≤ 6) k t (lit≤ tt, (lit≤ tt, (lit≤ tt, (lit≤ tt, (lit≤ tt, (lit≤ tt, (lit≤ tt, (lit≤ tt, (lit≤ tt, (lit≤ tt, (lit≤ tt, tt)))))))))))
 
 pub shop_small : (k : ℕ) → IsSome (map.get shop k) → (j : ℕ) (e : Edge ℕ ℕ) → slice_get (record_at shop k).edges j ≡ Some e → e.value < 4000000
-shop_small k t j e h = ltb-true e.value 4000000 (later (λ x. nat_lt x.value 4000000) (record_at shop k).edges j e (at_each (λ k n. list_all (λ x. nat_lt x.value 4000000) n.edges ≡ true) k t (refl, (refl, (refl, (refl, (refl, (refl, (refl, (refl, (refl, (refl, (refl, tt)))))))))))) h)
+shop_small k t j e h = ltb-true e.value 4000000 (edge_at (λ x. nat_lt x.value 4000000) (record_at shop k).edges j e (at_each (λ k n. list_all (λ x. nat_lt x.value 4000000) n.edges ≡ true) k t (refl, (refl, (refl, (refl, (refl, (refl, (refl, (refl, (refl, (refl, (refl, tt)))))))))))) h)
 
 -- an edge in the tests' list
 pub edge_get : (xs : List (ℕ × ℕ × NodeNo)) (k : ℕ) (d : ℕ × ℕ × NodeNo) → k < length (edges_in xs) → slice_get (edges_in xs) k ≡ Some (edge_in (get_or xs k d))

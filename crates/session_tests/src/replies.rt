@@ -1,5 +1,5 @@
 // Scripts with their replies, files that are refused, and runs that stop.
-ghost use Rattle.std.specs.Prelude.{None, ◌≡◌};
+ghost use Rattle.std.specs.Prelude.{◌≡◌};
 
 use qc_io::{MemoryFiles, MemorySink};
 use qc_session::run;

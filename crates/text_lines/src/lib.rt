@@ -2,16 +2,16 @@
 //! values, the pieces of a plain line, and the words between spaces.
 #![tactic(auto)]
 
+mod byte_order_mark;
 mod lines;
-mod marks;
 mod plain;
-mod rows;
+mod record_reader;
 #[cfg(test)]
 mod tests;
 mod words;
 
+pub use byte_order_mark::{has_mark, has_two_marks, trim_mark};
 pub use lines::{is_comment_line, split_line, trim_cr};
-pub use marks::{has_mark, has_two_marks, trim_mark};
 pub use plain::is_plain;
-pub use rows::{Rows, field};
+pub use record_reader::{RecordReader, field};
 pub use words::split_word;

@@ -1,6 +1,6 @@
 // Texts, read by hand.
 use crate::{
-    Rows, field, has_two_marks, is_comment_line, is_plain, split_line, trim_cr, trim_mark,
+    RecordReader, field, has_two_marks, is_comment_line, is_plain, split_line, trim_cr, trim_mark,
 };
 use csv::ByteRecord;
 use std::test::Fail;
@@ -22,7 +22,7 @@ fn lines(rt: HostRuntime) {
 #[test]
 fn records(rt: HostRuntime) -> Result<(), Fail> {
     let text = b"a,\"b\"\"c\"\n\nd\n";
-    let mut rows = Rows::new(rt.alloc(), text);
+    let mut rows = RecordReader::new(rt.alloc(), text);
     let mut row = ByteRecord::new(rt.alloc());
     assert!(rt; rows.next(&mut row)?);
     assert!(rt; row.len() == 2);

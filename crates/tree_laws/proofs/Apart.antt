@@ -9,7 +9,7 @@ use Rattle.cube_defs.specs.Rows.{Row, covers, closure, agg_of}
 use Rattle.cube_defs.specs.Tree.{node_of, node_with, edges_in, values_at, next_value, as_list, forced_child, distinct, cut_last}
 use Rattle.cube_laws.proofs.Cells.{IsEquality, leq_trans}
 use Rattle.cube_laws.proofs.OneRow.{cov_stays, closure_stays}
-use Rattle.tree_laws.specs.Labels.{lead, record_of}
+use Rattle.tree_laws.specs.Labels.{target_of_label, record_of}
 use Rattle.tree_laws.proofs.Lists.{filter_map_same, option_map_same, flat_map_range}
 use Rattle.tree_laws.proofs.Fronts.{leq-with_value}
 use Rattle.tree_laws.proofs.Children.{lead_above}
@@ -42,5 +42,5 @@ module _ {A : Type 0} (cmp : A → A → Ordering) (law : IsEquality (eq_by_cmp 
       ∙ option_map_same _ _ (closure (eq_by_cmp cmp) (xs ++ ys) p) (λ u. with_stays p u (next_value cmp (depth p) u) h)
 
   -- a node that doesn't cover the row leads to none that does, with or without the row
-  pub lead_apart : (rows : List (Row A)) (p : Cell A) (i : ℕ) (v : A) (c : Cell A) → depth p ≤ i → i < length p → lead (eq_by_cmp cmp) rows p i v ≡ Some c → covers (eq_by_cmp cmp) p r ≡ false → covers (eq_by_cmp cmp) c r ≡ false
+  pub lead_apart : (rows : List (Row A)) (p : Cell A) (i : ℕ) (v : A) (c : Cell A) → depth p ≤ i → i < length p → target_of_label (eq_by_cmp cmp) rows p i v ≡ Some c → covers (eq_by_cmp cmp) p r ≡ false → covers (eq_by_cmp cmp) c r ≡ false
   lead_apart rows p i v c d l h o = false_from_ne_true _ (λ k. true≢false (sym (leq_trans law (with_value p i v) c (cell_of r.tuple) (lead_above law rows p i v c d l h) k) ∙ beyond p i v d o))

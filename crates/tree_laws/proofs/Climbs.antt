@@ -8,10 +8,10 @@ use Rattle.std.specs.declared.cmp.Ordering.{Ordering}
 use Rattle.std.specs.Ordering.{eq_by_cmp}
 use Rattle.std.specs.Cmp.{IsTotalOrder}
 use Rattle.std.specs.FinMap as map
-use Rattle.cube_defs.specs.Cell.{Cell, cell_eq, keep, depth, one_deeper, index_below, with_value}
+use Rattle.cube_defs.specs.Cell.{Cell, cell_eq, cell_front, depth, one_deeper, index_below, with_value}
 use Rattle.cube_defs.specs.Rows.{Row, closure, agg}
 use Rattle.cube_defs.specs.Tree.{Node, Tree, IsCanonical, cell_at, renamed, cut_last}
-use Rattle.cube_laws.proofs.Cells.{IsEquality, length-keep, keep-depth_keep, keep-depth, cell_eq-same, depth-le}
+use Rattle.cube_laws.proofs.Cells.{IsEquality, length-cell_front, cell_front-depth_cell_front, cell_front-depth, cell_eq-same, depth-le}
 use Rattle.cube_laws.proofs.Closures.{closure_idem, agg_same}
 use Rattle.cube_laws.proofs.Covered.{closure_length}
 use Rattle.cube_laws.proofs.Nodes.{is_node-is}
@@ -19,7 +19,7 @@ use Rattle.cube_laws.proofs.Orders.{equality_by}
 use Rattle.tree_laws.specs.Labels.{record_of}
 use Rattle.tree_laws.specs.Walk.{last_label, climb, climb_from, climb_on}
 use Rattle.tree_laws.proofs.Lists.{some_same}
-use Rattle.tree_laws.proofs.Fronts.{depth-keep-le, keep-keep, get-keep, split_last}
+use Rattle.tree_laws.proofs.Fronts.{depth-cell_front-le, cell_front-cell_front, get-cell_front, split_last}
 use Rattle.tree_laws.proofs.Walks.{record_read}
 
 module _ {A : Type 0} where
@@ -39,13 +39,13 @@ module _ {A : Type 0} where
   from_value (e ∷ c) (suc j) v h = ap (λ x. None ∷ x) (from_value c j v h)
 
   -- nothing stands between a front's end and its length
-  from_front : (c : Cell A) (j : ℕ) → from_on j c ≡ from_on (depth (keep j c)) c
+  from_front : (c : Cell A) (j : ℕ) → from_on j c ≡ from_on (depth (cell_front j c)) c
   from_front [] j = refl
   from_front (e ∷ c) zero = ap (λ n. from_on n (e ∷ c)) (sym flat)
     where
-      flat : depth (keep zero (e ∷ c)) ≡ 0
-      flat = let l = depth-keep-le zero (e ∷ c) in omega arith
-  from_front (e ∷ c) (suc j) = go e (depth (keep j c)) (from_front c j)
+      flat : depth (cell_front zero (e ∷ c)) ≡ 0
+      flat = let l = depth-cell_front-le zero (e ∷ c) in omega arith
+  from_front (e ∷ c) (suc j) = go e (depth (cell_front j c)) (from_front c j)
     where
       go : (e : Option A) (d : ℕ) → from_on j c ≡ from_on d c → None ∷ from_on j c ≡ from_on (one_deeper e d) (e ∷ c)
       go None zero h = ap (λ x. None ∷ x) (h ∙ from_zero c)
@@ -94,20 +94,20 @@ module _ {A : Type 0} where
 
   -- out has what the cell has behind its front p
   pub record Shows (cell p out : Cell A) : Type 0 where
-    pub front : p ≡ keep (depth p) cell
+    pub front : p ≡ cell_front (depth p) cell
     pub rest : out ≡ from_on (depth p) cell
 
   pub shows_first : (cell : Cell A) (n : ℕ) → length cell ≡ n → Shows cell cell (replicate n None)
-  shows_first cell n h = record { front = sym (keep-depth cell); rest = ap (λ m. replicate m None) (sym h) ∙ sym (from_end cell) }
+  shows_first cell n h = record { front = sym (cell_front-depth cell); rest = ap (λ m. replicate m None) (sym h) ∙ sym (from_end cell) }
 
-  pub shows_more : (cell p out : Cell A) (j : ℕ) (v : A) → Shows cell p out → last_label p ≡ Some (j, v) → Shows cell (keep j p) (with_value out j v)
+  pub shows_more : (cell p out : Cell A) (j : ℕ) (v : A) → Shows cell p out → last_label p ≡ Some (j, v) → Shows cell (cell_front j p) (with_value out j v)
   shows_more cell p out j v h e =
       let l : (depth p ≡ suc j) × (slice_get p j ≡ Some (Some v)) = label_some p j v e in
-      let long : p ≡ keep (suc j) cell = h.front ∙ ap (λ n. keep n cell) l.0 in
-      let short : keep j p ≡ keep j cell = ap (keep j) long ∙ keep-keep j (suc j) cell (omega arith) in
-      let at : slice_get cell j ≡ Some (Some v) = sym (get-keep j (suc j) cell (omega arith)) ∙ ap (λ x. slice_get x j) (sym long) ∙ l.1 in
+      let long : p ≡ cell_front (suc j) cell = h.front ∙ ap (λ n. cell_front n cell) l.0 in
+      let short : cell_front j p ≡ cell_front j cell = ap (cell_front j) long ∙ cell_front-cell_front j (suc j) cell (omega arith) in
+      let at : slice_get cell j ≡ Some (Some v) = sym (get-cell_front j (suc j) cell (omega arith)) ∙ ap (λ x. slice_get x j) (sym long) ∙ l.1 in
       record {
-        front = short ∙ sym (keep-depth_keep j cell) ∙ ap (λ x. keep (depth x) cell) (sym short);
+        front = short ∙ sym (cell_front-depth_cell_front j cell) ∙ ap (λ x. cell_front (depth x) cell) (sym short);
         rest = ap (λ x. with_value x j v) (h.rest ∙ ap (λ n. from_on n cell) l.0) ∙ from_value cell j v at ∙ from_front cell j ∙ ap (λ x. from_on (depth x) cell) (sym short);
       }
 
@@ -120,34 +120,34 @@ module _ {A : Type 0} {cmp : A → A → Ordering} (total : IsTotalOrder cmp) (a
 
   module _ (k : ℕ) (n : Node A ℕ) (g : map.get tree k ≡ Some n) where
     -- a node has a closure, whose front it is
-    node_closure : (u : Cell A) × (closure (eq_by_cmp cmp) rows n.cell ≡ Some u) × (keep (depth n.cell) u ≡ n.cell)
+    node_closure : (u : Cell A) × (closure (eq_by_cmp cmp) rows n.cell ≡ Some u) × (cell_front (depth n.cell) u ≡ n.cell)
     node_closure = go (closure (eq_by_cmp cmp) rows n.cell) refl ((is_node-is law rows n.cell).0 (canonical.each k n g).0)
       where
-        go : (o : Option (Cell A)) → closure (eq_by_cmp cmp) rows n.cell ≡ o → option_map (keep (depth n.cell)) (closure (eq_by_cmp cmp) rows n.cell) ≡ Some n.cell → (u : Cell A) × (closure (eq_by_cmp cmp) rows n.cell ≡ Some u) × (keep (depth n.cell) u ≡ n.cell)
-        go None e f = let z : option_map (keep (depth n.cell)) (closure (eq_by_cmp cmp) rows n.cell) ≡ None = ap (option_map (keep (depth n.cell))) e in cc
-        go (Some u) e f = (u, e, some_same (sym (ap (option_map (keep (depth n.cell))) e) ∙ f))
+        go : (o : Option (Cell A)) → closure (eq_by_cmp cmp) rows n.cell ≡ o → option_map (cell_front (depth n.cell)) (closure (eq_by_cmp cmp) rows n.cell) ≡ Some n.cell → (u : Cell A) × (closure (eq_by_cmp cmp) rows n.cell ≡ Some u) × (cell_front (depth n.cell) u ≡ n.cell)
+        go None e f = let z : option_map (cell_front (depth n.cell)) (closure (eq_by_cmp cmp) rows n.cell) ≡ None = ap (option_map (cell_front (depth n.cell))) e in cc
+        go (Some u) e f = (u, e, some_same (sym (ap (option_map (cell_front (depth n.cell))) e) ∙ f))
 
     record_is : renamed (cell_at tree) n ≡ renamed (λ c. Some c) (record_of cmp measures rows n.cell node_closure.0)
     record_is = record_read total anti dims measures rows wide tree canonical k n node_closure.0 g node_closure.1
 
     -- a node's cell has all dimensions
     pub node_wide : length n.cell ≡ dims
-    node_wide = ap length (sym node_closure.2) ∙ length-keep (depth n.cell) node_closure.0 ∙ closure_length (eq_by_cmp cmp) dims n.cell node_closure.0 rows wide node_closure.1
+    node_wide = ap length (sym node_closure.2) ∙ length-cell_front (depth n.cell) node_closure.0 ∙ closure_length (eq_by_cmp cmp) dims n.cell node_closure.0 rows wide node_closure.1
 
     -- the parent has the cell without its last value
-    pub parent_is : (j : ℕ) → depth n.cell ≡ suc j → option_map (cell_at tree) n.parent ≡ Some (Some (keep j n.cell))
+    pub parent_is : (j : ℕ) → depth n.cell ≡ suc j → option_map (cell_at tree) n.parent ≡ Some (Some (cell_front j n.cell))
     parent_is j d = ap (λ n. n.parent) record_is ∙ cut n.cell d
       where
         less : (n : ℕ) → n ≡ suc j → n - 1 ≡ j
         less n e = omega arith
 
-        cut : (p : Cell A) → depth p ≡ suc j → option_map (λ c. Some c) (cut_last cmp p) ≡ Some (Some (keep j p))
+        cut : (p : Cell A) → depth p ≡ suc j → option_map (λ c. Some c) (cut_last cmp p) ≡ Some (Some (cell_front j p))
         cut p d =
-            ap (option_map (λ c. Some c)) (cond-false (depth p == 0) None (Some (keep (depth p - 1) p)) (false_from_ne_true _ (λ s. let t : depth p ≡ 0 = eqb-true (depth p) 0 s in absurd (omega arith))))
-            ∙ ap (λ n. Some (Some (keep n p))) (less (depth p) d)
+            ap (option_map (λ c. Some c)) (cond-false (depth p == 0) None (Some (cell_front (depth p - 1) p)) (false_from_ne_true _ (λ s. let t : depth p ≡ 0 = eqb-true (depth p) 0 s in absurd (omega arith))))
+            ∙ ap (λ n. Some (Some (cell_front n p))) (less (depth p) d)
 
     pub root_parent : depth n.cell ≡ 0 → n.parent ≡ None
-    root_parent d = none n.parent (ap (λ n. n.parent) record_is ∙ ap (option_map (λ c. Some c)) (cond-true (depth n.cell == 0) None (Some (keep (depth n.cell - 1) n.cell)) (eq-eqb (depth n.cell) 0 d)))
+    root_parent d = none n.parent (ap (λ n. n.parent) record_is ∙ ap (option_map (λ c. Some c)) (cond-true (depth n.cell == 0) None (Some (cell_front (depth n.cell - 1) n.cell)) (eq-eqb (depth n.cell) 0 d)))
       where
         none : (o : Option ℕ) → option_map (cell_at tree) o ≡ None → o ≡ None
         none None e = refl
@@ -179,13 +179,13 @@ module _ {A : Type 0} {cmp : A → A → Ordering} (total : IsTotalOrder cmp) (a
           s : (depth n.cell ≡ suc label.0) × (slice_get n.cell label.0 ≡ Some (Some label.1))
           s = label_some n.cell label.0 label.1 e
 
-          by : (o : Option ℕ) → option_map (cell_at tree) o ≡ Some (Some (keep label.0 n.cell)) → climb_on (climb tree steps) out (Some label) o ≡ cell
+          by : (o : Option ℕ) → option_map (cell_at tree) o ≡ Some (Some (cell_front label.0 n.cell)) → climb_on (climb tree steps) out (Some label) o ≡ cell
           by None f = cc
           by (Some l) f =
-              let m : (m : Node A ℕ) × (map.get tree l ≡ Some m) × (m.cell ≡ keep label.0 n.cell) = up l (keep label.0 n.cell) (some_same f) in
+              let m : (m : Node A ℕ) × (map.get tree l ≡ Some m) × (m.cell ≡ cell_front label.0 n.cell) = up l (cell_front label.0 n.cell) (some_same f) in
               more l m.0 cell (with_value out label.0 label.1) m.1
               (subst (λ p. Shows cell p (with_value out label.0 label.1)) (sym m.2) (shows_more cell n.cell out label.0 label.1 h e))
-              (omega (arith, low, ap depth m.2, depth-keep-le label.0 n.cell, s.0))
+              (omega (arith, low, ap depth m.2, depth-cell_front-le label.0 n.cell, s.0))
 
   -- going up from a node finds its cell
   pub climb_is : (k : ℕ) (n : Node A ℕ) → map.get tree k ≡ Some n → climb tree dims k (replicate dims None) ≡ n.cell

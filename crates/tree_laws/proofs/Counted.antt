@@ -13,7 +13,7 @@ use Rattle.cube_defs.specs.Rows.{Row, closure, is_class, is_node, agg}
 use Rattle.cube_defs.specs.Tree.{Edge, Node, Tree, IsCanonical, node_of, cell_at, renamed, renamed_edge, tree, tree_edges, links, classes, nodes, covered}
 use Rattle.cube_laws.specs.Lists.{Among}
 use Rattle.cube_laws.proofs.Lists.{among_map, map_among, filter_filter}
-use Rattle.cube_laws.proofs.Cells.{IsEquality, keep-depth}
+use Rattle.cube_laws.proofs.Cells.{IsEquality, cell_front-depth}
 use Rattle.cube_laws.proofs.Nodes.{nodes-is, class_fronts}
 use Rattle.cube_laws.proofs.Orders.{equality_by}
 use Rattle.tree_laws.specs.Labels.{record_of}
@@ -84,7 +84,7 @@ module _ {A : Type 0} {cmp : A → A → Ordering} (total : IsTotalOrder cmp) (a
   classes_counted =
       sum_records (λ c. cond (is_class (eq_by_cmp cmp) rows c) 1 0) (λ n. cond (is_some n.class) 1 0) (λ k n g. ap (λ b. cond b 1 0) (marked k n g))
       ∙ sym (length-filter (is_class (eq_by_cmp cmp) rows) (nodes cmp rows))
-      ∙ ap length (filter_filter (is_class (eq_by_cmp cmp) rows) (is_node (eq_by_cmp cmp) rows) (covered cmp rows) (λ u h. subst (λ x. is_node (eq_by_cmp cmp) rows x ≡ true) (keep-depth u) (class_fronts law rows (depth u) u h)))
+      ∙ ap length (filter_filter (is_class (eq_by_cmp cmp) rows) (is_node (eq_by_cmp cmp) rows) (covered cmp rows) (λ u h. subst (λ x. is_node (eq_by_cmp cmp) rows x ≡ true) (cell_front-depth u) (class_fronts law rows (depth u) u h)))
 
   -- how many edges of a record pass a test of its cell and the target's
   passing : {T : Type 0} → (Cell A → Option (Cell A) → Bool) → (T → Option (Cell A)) → Node A T → ℕ

@@ -8,21 +8,21 @@ use Rattle.std.specs.FinMap.{IsAntisymmetric}
 use Rattle.std.specs.List.{range_with_len}
 use Rattle.std.specs.Option.{option_map, option_and_then}
 use Rattle.std.proofs.lemmas.Option.{slice_get_within}
-use Rattle.cube_defs.specs.Cell.{Cell, leq, cell_of, depth, keep, upto, with_value}
+use Rattle.cube_defs.specs.Cell.{Cell, leq, cell_of, depth, cell_front, upto, with_value}
 use Rattle.cube_defs.specs.Rows.{Row, covers, cov, closure}
 use Rattle.cube_defs.specs.Tree.{Edge, edges_in, values_at, next_value, as_list, forced_child}
 use Rattle.cube_laws.specs.Lists.{Among}
 use Rattle.cube_laws.proofs.Lists.{among_append, among_flat_map, among_filter, among_filter_map}
 use Rattle.cube_laws.proofs.Distinct.{among_distinct}
-use Rattle.cube_laws.proofs.Cells.{IsEquality, leq_trans, length-keep, depth-le}
+use Rattle.cube_laws.proofs.Cells.{IsEquality, leq_trans, length-cell_front, depth-le}
 use Rattle.cube_laws.proofs.Closures.{closure_mono, leq-closure}
 use Rattle.cube_laws.proofs.Columns.{one_value, one_value-leq, slice_get-cell_of}
 use Rattle.cube_laws.proofs.Orders.{equality_by}
 use Rattle.cube_laws.proofs.Covered.{some_covered}
-use Rattle.tree_laws.specs.Labels.{lead, IsLabel, record_of}
+use Rattle.tree_laws.specs.Labels.{target_of_label, IsLabel, record_of}
 use Rattle.tree_laws.proofs.Lists.{first_of_range, among_range}
 use Rattle.tree_laws.proofs.Fronts.{leq-with_value, with_value-leq, upto-entry}
-use Rattle.tree_laws.proofs.Nexts.{next-ge, next-le, keep-next, next-entry}
+use Rattle.tree_laws.proofs.Nexts.{next-ge, next-le, cell_front-next, next-entry}
 use Rattle.tree_laws.proofs.Leads.{closure_between}
 
 module _ {A : Type 0} {cmp : A → A → Ordering} (total : IsTotalOrder cmp) (anti : IsAntisymmetric cmp) where
@@ -39,7 +39,7 @@ module _ {A : Type 0} {cmp : A → A → Ordering} (total : IsTotalOrder cmp) (a
 
   -- the edges in a dimension are what leads somewhere
   pub edges_in-are : (rows : List (Row A)) (p : Cell A) (i : ℕ) (x : Edge A (Cell A)) → depth p ≤ i → i < length p
-      → Among x (edges_in cmp rows p i) ↔ ((x.dim ≡ i) × (lead (eq_by_cmp cmp) rows p i x.value ≡ Some x.target))
+      → Among x (edges_in cmp rows p i) ↔ ((x.dim ≡ i) × (target_of_label (eq_by_cmp cmp) rows p i x.value ≡ Some x.target))
   edges_in-are rows p i x h l = (
     λ m. let r : (v : A) × Among v (values_at cmp rows p i) × (made v ≡ Some x) = (among_filter_map made x (values_at cmp rows p i)).0 m in from r.0 (closure (eq_by_cmp cmp) rows (with_value p i r.0)) refl r.2,
     λ m. to (closure (eq_by_cmp cmp) rows (with_value p i x.value)) refl m.0 m.1,
@@ -49,12 +49,12 @@ module _ {A : Type 0} {cmp : A → A → Ordering} (total : IsTotalOrder cmp) (a
       made v = option_map (λ u. record { dim = i; value = v; target = upto u i }) (closure (eq_by_cmp cmp) rows (with_value p i v))
 
       from : (v : A) (o : Option (Cell A)) → closure (eq_by_cmp cmp) rows (with_value p i v) ≡ o → option_map (λ u. record { dim = i; value = v; target = upto u i }) o ≡ Some x
-          → (x.dim ≡ i) × (lead (eq_by_cmp cmp) rows p i x.value ≡ Some x.target)
+          → (x.dim ≡ i) × (target_of_label (eq_by_cmp cmp) rows p i x.value ≡ Some x.target)
       from v None e k = cc
       from v (Some w) e k = let is : record { dim = i; value = v; target = upto w i } ≡ x = cc in
-          (ap (λ y. y.dim) (sym is), subst (λ y. lead (eq_by_cmp cmp) rows p i y.value ≡ Some y.target) is (ap (option_map (λ w. upto w i)) e))
+          (ap (λ y. y.dim) (sym is), subst (λ y. target_of_label (eq_by_cmp cmp) rows p i y.value ≡ Some y.target) is (ap (option_map (λ w. upto w i)) e))
 
-      to : (o : Option (Cell A)) → closure (eq_by_cmp cmp) rows (with_value p i x.value) ≡ o → x.dim ≡ i → lead (eq_by_cmp cmp) rows p i x.value ≡ Some x.target → Among x (edges_in cmp rows p i)
+      to : (o : Option (Cell A)) → closure (eq_by_cmp cmp) rows (with_value p i x.value) ≡ o → x.dim ≡ i → target_of_label (eq_by_cmp cmp) rows p i x.value ≡ Some x.target → Among x (edges_in cmp rows p i)
       to None e d k = let bad : None ≡ Some x.target = sym (ap (option_map (λ w. upto w i)) e) ∙ k in cc
       to (Some w) e d k =
           let is : Some (upto w i) ≡ Some x.target = sym (ap (option_map (λ w. upto w i)) e) ∙ k in
@@ -76,15 +76,15 @@ module _ {A : Type 0} {cmp : A → A → Ordering} (total : IsTotalOrder cmp) (a
       let c : slice_get d e ≡ Some (Some v) = (one_value-leq law e v d).0 b.1 in
       cc
 
-  module _ (measures : ℕ) (rows : List (Row A)) (p u : Cell A) (is : closure (eq_by_cmp cmp) rows p ≡ Some u) (front : keep (depth p) u ≡ p) where
+  module _ (measures : ℕ) (rows : List (Row A)) (p u : Cell A) (is : closure (eq_by_cmp cmp) rows p ≡ Some u) (front : cell_front (depth p) u ≡ p) where
     pub long : length p ≡ length u
-    long = sym (ap length front) ∙ length-keep (depth p) u
+    long = sym (ap length front) ∙ length-cell_front (depth p) u
 
     abbrev made_forced : Option (Option A) → Option (Edge A (Cell A))
     made_forced o = option_and_then (λ entry. option_map (λ v. record { dim = next_value cmp (depth p) u; value = v; target = with_value p (next_value cmp (depth p) u) v }) entry) o
 
     at_next : (w : A) → slice_get u (next_value cmp (depth p) u) ≡ Some (Some w) → upto u (next_value cmp (depth p) u) ≡ with_value p (next_value cmp (depth p) u) w
-    at_next w h = upto-entry u (next_value cmp (depth p) u) w h ∙ ap (λ x. with_value x (next_value cmp (depth p) u) w) (keep-next cmp (depth p) u ∙ front)
+    at_next w h = upto-entry u (next_value cmp (depth p) u) w h ∙ ap (λ x. with_value x (next_value cmp (depth p) u) w) (cell_front-next cmp (depth p) u ∙ front)
 
     forced-is : (x : Edge A (Cell A)) → Among x (as_list cmp (forced_child cmp p u (next_value cmp (depth p) u))) → IsLabel cmp rows p (next_value cmp (depth p) u) x
     forced-is x m = go (slice_get u (next_value cmp (depth p) u)) refl m
@@ -120,7 +120,7 @@ module _ {A : Type 0} {cmp : A → A → Ordering} (total : IsTotalOrder cmp) (a
             let e = (edges_in-are rows p i x b.0 l).0 a in
             record {
               place = record { behind = omega (arith, e.0, b.0); before = omega (arith, e.0, b.1, ge); within = omega (arith, e.0, l) };
-              leads = subst (λ j. lead (eq_by_cmp cmp) rows p j x.value ≡ Some x.target) (sym e.0) e.1;
+              leads = subst (λ j. target_of_label (eq_by_cmp cmp) rows p j x.value ≡ Some x.target) (sym e.0) e.1;
             }
 
         early : IsLabel cmp rows p (next_value cmp (depth p) u) x → x.dim + 1 ≤ next_value cmp (depth p) u → Among x (flat_map (edges_in cmp rows p) (range_with_len (depth p) (next_value cmp (depth p) u - depth p)))

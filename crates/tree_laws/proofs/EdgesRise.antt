@@ -1,5 +1,6 @@
 -- The edges of a record rise by dimension and value.
 use Rattle.std.proofs.Common.{◌≡◌, ℕ, zero, suc, ◌+◌, ◌-◌, ◌<◌, Option, Some, None, List, [], ◌∷◌, ◌++◌, slice_get, flat_map, filter_map, refl, sym, ap, ap₂, ◌∙◌, inl, inr, arith}
+use Rattle.std.specs.List.Sorted.{IsStrictlySortedBy}
 use Rattle.std.specs.declared.cmp.Ordering.{Ordering}
 use Rattle.std.specs.declared.cmp.Ordering.TheVariants.{Less, Equal}
 use Rattle.std.specs.Ordering.{eq_by_cmp, ordering_then}
@@ -10,7 +11,7 @@ use Rattle.std.specs.Option.{option_map, option_and_then}
 use Rattle.cube_defs.specs.Cell.{Cell, depth, upto, with_value}
 use Rattle.cube_defs.specs.Rows.{Row, cov, closure}
 use Rattle.cube_defs.specs.Tree.{Edge, node_with, edges_in, values_at, as_list, forced_child}
-use Rattle.cube_laws.specs.Lists.{Among, Rises}
+use Rattle.cube_laws.specs.Lists.{Among}
 use Rattle.cube_laws.proofs.Lists.{among_flat_map, among_filter_map, all_at, all_from, all_append}
 use Rattle.cube_laws.proofs.Distinct.{rises_distinct}
 use Rattle.tree_laws.specs.Edges.{edge_cmp}
@@ -18,7 +19,8 @@ use Rattle.tree_laws.proofs.Lists.{some_same, among_range}
 use Rattle.tree_laws.proofs.Sums.{EachOnce}
 
 module _ {X : Type 0} (cmp : X → X → Ordering) where
-  pub rises_append : (xs ys : List X) → Rises cmp xs → Rises cmp ys → ((x y : X) → Among x xs → Among y ys → cmp x y ≡ Less) → Rises cmp (xs ++ ys)
+  pub rises_append : (xs ys : List X) → IsStrictlySortedBy cmp xs → IsStrictlySortedBy cmp ys → ((x y : X) → Among x xs → Among y ys → cmp x y ≡ Less) → IsStrictlySortedBy cmp (xs ++ ys)
+  unfolding IsStrictlySortedBy
   rises_append [] ys a b f = b
   rises_append (x ∷ xs) ys a b f = (all_append (λ y. cmp x y ≡ Less) xs ys a.0 (all_from (λ y. cmp x y ≡ Less) ys (λ y m. f x y (inl refl) m)), rises_append xs ys a.1 b (λ y z m k. f y z (inr m) k))
 
@@ -33,12 +35,14 @@ module _ {A : Type 0} {cmp : A → A → Ordering} (total : IsTotalOrder cmp) {T
   edge_tied x = ap₂ ordering_then (tied_itself nat_cmp_total x.dim) (tied_itself total x.value)
 
   -- so none stands twice
-  pub rising_edges_once : (xs : List (Edge A T)) → Rises (edge_cmp cmp) xs → EachOnce xs
+  pub rising_edges_once : (xs : List (Edge A T)) → IsStrictlySortedBy (edge_cmp cmp) xs → EachOnce xs
+  unfolding IsStrictlySortedBy
   rising_edges_once [] h = tt
   rising_edges_once (x ∷ xs) h = (λ m. let less : edge_cmp cmp x x ≡ Less = all_at (λ y. edge_cmp cmp x y ≡ Less) x xs h.0 m in let bad : Less ≡ Equal = sym less ∙ edge_tied x in cc, rising_edges_once xs h.1)
 
   -- what is made of a rising list of values, with the same values
-  made_rises : (f : A → Option (Edge A T)) (i : ℕ) (vs : List A) → ((v : A) (x : Edge A T) → f v ≡ Some x → (x.dim ≡ i) × (x.value ≡ v)) → Rises cmp vs → Rises (edge_cmp cmp) (filter_map f vs)
+  made_rises : (f : A → Option (Edge A T)) (i : ℕ) (vs : List A) → ((v : A) (x : Edge A T) → f v ≡ Some x → (x.dim ≡ i) × (x.value ≡ v)) → IsStrictlySortedBy cmp vs → IsStrictlySortedBy (edge_cmp cmp) (filter_map f vs)
+  unfolding IsStrictlySortedBy
   made_rises f i [] g a = tt
   made_rises f i (v ∷ vs) g a = go (f v) refl (made_rises f i vs g a.1)
     where
@@ -49,11 +53,12 @@ module _ {A : Type 0} {cmp : A → A → Ordering} (total : IsTotalOrder cmp) {T
           let q = g r.0 y r.2 in
           by_value x y (p.0 ∙ sym q.0) (ap₂ cmp p.1 q.1 ∙ all_at (λ z. cmp v z ≡ Less) r.0 vs a.0 r.1)
 
-      go : (o : Option (Edge A T)) → f v ≡ o → Rises (edge_cmp cmp) (filter_map f vs) → Rises (edge_cmp cmp) (cons_option o (filter_map f vs))
+      go : (o : Option (Edge A T)) → f v ≡ o → IsStrictlySortedBy (edge_cmp cmp) (filter_map f vs) → IsStrictlySortedBy (edge_cmp cmp) (cons_option o (filter_map f vs))
       go None e m = m
       go (Some x) e m = (all_from (λ y. edge_cmp cmp x y ≡ Less) (filter_map f vs) (later x e), m)
 
-  by_dimension : (f : ℕ → List (Edge A T)) (a n : ℕ) → ((i : ℕ) → Rises (edge_cmp cmp) (f i)) → ((i : ℕ) (x : Edge A T) → Among x (f i) → x.dim ≡ i) → Rises (edge_cmp cmp) (flat_map f (range_with_len a n))
+  by_dimension : (f : ℕ → List (Edge A T)) (a n : ℕ) → ((i : ℕ) → IsStrictlySortedBy (edge_cmp cmp) (f i)) → ((i : ℕ) (x : Edge A T) → Among x (f i) → x.dim ≡ i) → IsStrictlySortedBy (edge_cmp cmp) (flat_map f (range_with_len a n))
+  unfolding IsStrictlySortedBy
   by_dimension f a zero g d = tt
   by_dimension f a (suc n) g d =
       rises_append (edge_cmp cmp) (f a) (flat_map f (range_with_len (a + 1) n)) (g a) (by_dimension f (a + 1) n g d)
@@ -78,11 +83,13 @@ module _ {A : Type 0} {cmp : A → A → Ordering} (total : IsTotalOrder cmp) (a
   forced_dim (Some None) x m = absurd m
   forced_dim (Some (Some w)) x m = elim m [ inl k ↦ ap (λ y. y.dim) k | inr k ↦ absurd k ]
 
-  forced_alone : (o : Option (Edge A (Cell A))) → Rises (edge_cmp cmp) (as_list cmp o)
+  forced_alone : (o : Option (Edge A (Cell A))) → IsStrictlySortedBy (edge_cmp cmp) (as_list cmp o)
+  unfolding IsStrictlySortedBy
   forced_alone None = tt
   forced_alone (Some x) = (tt, tt)
 
-  pub edges_rise : Rises (edge_cmp cmp) (node_with cmp measures rows p u e).edges
+  pub edges_rise : IsStrictlySortedBy (edge_cmp cmp) (node_with cmp measures rows p u e).edges
+  unfolding IsStrictlySortedBy
   edges_rise =
       rises_append (edge_cmp cmp) (flat_map (edges_in cmp rows p) (range_with_len (depth p) (e - depth p))) (as_list cmp (forced_child cmp p u e))
       (by_dimension total (edges_in cmp rows p) (depth p) (e - depth p) (λ i. made_rises total _ i (values_at cmp rows p i) (in_dim i) (rises_distinct total anti (filter_map (λ row. slice_get row.tuple i) (cov (eq_by_cmp cmp) rows p)))) dims)

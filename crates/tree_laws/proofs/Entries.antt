@@ -14,7 +14,7 @@ first_part : (a b c : Bool) → T ((a && b) && c) → T a
 first_part true b c h = tt
 first_part false b c h = absurd h
 
-last_part : (a b : Bool) → T (a && b) → T b
+pub last_part : (a b : Bool) → T (a && b) → T b
 last_part true b h = h
 last_part false b h = absurd h
 

@@ -7,7 +7,7 @@ use Rattle.std.specs.FinMap as numbers
 use Rattle.std.specs.List.{AllByRecursion, range_with_len}
 use Rattle.std.specs.Option.{option_map}
 use Rattle.std.proofs.lemmas.Option.{slice_get-map}
-use Rattle.cube_defs.specs.Cell.{Cell, cell_eq, depth, keep}
+use Rattle.cube_defs.specs.Cell.{Cell, cell_eq, depth, cell_front}
 use Rattle.cube_defs.specs.Rows.{Row, closure, is_node}
 use Rattle.cube_defs.specs.Tree.{Edge, Node, Tree, IsCanonical, node_of, next_value, edges_in, forced_child, as_list, cut_last, nodes, covered, cell_at, renamed, renamed_edge}
 use Rattle.cube_laws.specs.Lists.{Among}
@@ -146,12 +146,12 @@ module _ {A : Type 0} {cmp : A → A → Ordering} (total : IsTotalOrder cmp) (a
         up : (t : Cell A) → cut_last cmp c ≡ Some t → cell_at made (place t) ≡ Some t
         up t e = there t (by (depth c == 0) e)
           where
-            by : (b : Bool) → cond b None (Some (keep (depth c - 1) c)) ≡ Some t → is_node (eq_by_cmp cmp) rows t ≡ true
+            by : (b : Bool) → cond b None (Some (cell_front (depth c - 1) c)) ≡ Some t → is_node (eq_by_cmp cmp) rows t ≡ true
             by true e = cc
             by false e = subst (λ x. is_node (eq_by_cmp cmp) rows x ≡ true) (some_same e) (node_fronts law rows c (depth c - 1) h)
 
         go : (o : Option (Cell A)) → closure (eq_by_cmp cmp) rows c ≡ o → Some (renamed (cell_at made) (numbered_by c (node_of cmp measures rows c))) ≡ option_map (renamed (λ d. Some d)) (node_of cmp measures rows c)
-        go None e = let bad : None ≡ Some c = sym (ap (option_map (keep (depth c))) e) ∙ (is_node-is law rows c).0 h in cc
+        go None e = let bad : None ≡ Some c = sym (ap (option_map (cell_front (depth c))) e) ∙ (is_node-is law rows c).0 h in cc
         go (Some u) e = subst (λ o. Some (renamed (cell_at made) (numbered_by c o)) ≡ option_map (renamed (λ d. Some d)) o) (sym is) (ap (λ x. Some x) (record_back place (cell_at made) n up first (λ x m. there x.target (target_node total anti measures rows c n h is x m))))
           where
             n : Node A (Cell A)

@@ -1,9 +1,9 @@
 -- The fronts of cells, and cells with a value more.
 use Rattle.std.proofs.Common.{◌≡◌, ◌==◌, ℕ, zero, suc, ◌-◌, ◌≤◌, ◌<◌, nat_cmp, replicate, Bool, false, true, ◌&&◌, Option, Some, None, [], ◌∷◌, length, slice_get, refl, sym, ap, ◌∙◌, arith}
 use Rattle.std.proofs.lemmas.Bool.{and_parts, and_from, cond-false}
-use Rattle.cube_defs.specs.Cell.{Cell, entry_leq, leq, entry_meet, meet, depth, one_deeper, keep, upto, with_value}
+use Rattle.cube_defs.specs.Cell.{Cell, entry_leq, leq, entry_meet, meet, depth, one_deeper, cell_front, upto, with_value}
 use Rattle.cube_defs.specs.Tree.{cut_last}
-use Rattle.cube_laws.proofs.Cells.{IsEquality, leq_refl, depth-keep_zero, one_deeper-le}
+use Rattle.cube_laws.proofs.Cells.{IsEquality, leq_refl, depth-cell_front_zero, one_deeper-le}
 use Rattle.cube_laws.proofs.Columns.{one_value}
 
 pub shallower : {A : Type 0} (e : Option A) (n i : ℕ) → one_deeper e n ≤ suc i → n ≤ i
@@ -12,20 +12,20 @@ shallower None (suc n) i h = omega arith
 shallower (Some v) n i h = omega arith
 
 module _ {A : Type 0} where
-  pub depth-keep-le : (n : ℕ) (c : Cell A) → depth (keep n c) ≤ n
-  depth-keep-le n [] = omega arith
-  depth-keep-le zero (e ∷ c) = omega (arith, depth-keep_zero (e ∷ c))
-  depth-keep-le (suc n) (e ∷ c) = one_deeper-le e (depth (keep n c)) n (depth-keep-le n c)
+  pub depth-cell_front-le : (n : ℕ) (c : Cell A) → depth (cell_front n c) ≤ n
+  depth-cell_front-le n [] = omega arith
+  depth-cell_front-le zero (e ∷ c) = omega (arith, depth-cell_front_zero (e ∷ c))
+  depth-cell_front-le (suc n) (e ∷ c) = one_deeper-le e (depth (cell_front n c)) n (depth-cell_front-le n c)
 
-  pub keep-beyond : (n : ℕ) (c : Cell A) → depth c ≤ n → keep n c ≡ c
-  keep-beyond n [] h = refl
-  keep-beyond zero (None ∷ c) h = ap (λ x. None ∷ x) (keep-beyond zero c (shallower_zero (depth c) h))
+  pub cell_front-beyond : (n : ℕ) (c : Cell A) → depth c ≤ n → cell_front n c ≡ c
+  cell_front-beyond n [] h = refl
+  cell_front-beyond zero (None ∷ c) h = ap (λ x. None ∷ x) (cell_front-beyond zero c (shallower_zero (depth c) h))
     where
       shallower_zero : (m : ℕ) → one_deeper {A = A} None m ≤ 0 → m ≤ 0
       shallower_zero zero h = omega arith
       shallower_zero (suc m) h = absurd (omega arith)
-  keep-beyond zero (Some v ∷ c) h = absurd (omega arith)
-  keep-beyond (suc n) (e ∷ c) h = ap (λ x. e ∷ x) (keep-beyond n c (shallower e (depth c) n h))
+  cell_front-beyond zero (Some v ∷ c) h = absurd (omega arith)
+  cell_front-beyond (suc n) (e ∷ c) h = ap (λ x. e ∷ x) (cell_front-beyond n c (shallower e (depth c) n h))
 
   pub depth-with_value : (p : Cell A) (i : ℕ) (v : A) → depth p ≤ i → i < length p → depth (with_value p i v) ≡ suc i
   depth-with_value [] i v h l = absurd (omega arith)
@@ -42,24 +42,24 @@ module _ {A : Type 0} where
       deep (Some w) = refl
 
   -- a cell's last value stands behind its front
-  pub split_last : (c : Cell A) (i : ℕ) → depth c ≡ suc i → (v : A) × (c ≡ with_value (keep i c) i v) × (slice_get c i ≡ Some (Some v))
+  pub split_last : (c : Cell A) (i : ℕ) → depth c ≡ suc i → (v : A) × (c ≡ with_value (cell_front i c) i v) × (slice_get c i ≡ Some (Some v))
   split_last [] i h = absurd (omega arith)
   split_last (e ∷ c) i h = go (split_last c) e i (depth c) refl h
     where
-      go : ((i : ℕ) → depth c ≡ suc i → (v : A) × (c ≡ with_value (keep i c) i v) × (slice_get c i ≡ Some (Some v))) → (e : Option A) (i n : ℕ) → depth c ≡ n → one_deeper e n ≡ suc i
-          → (v : A) × (e ∷ c ≡ with_value (keep i (e ∷ c)) i v) × (slice_get (e ∷ c) i ≡ Some (Some v))
+      go : ((i : ℕ) → depth c ≡ suc i → (v : A) × (c ≡ with_value (cell_front i c) i v) × (slice_get c i ≡ Some (Some v))) → (e : Option A) (i n : ℕ) → depth c ≡ n → one_deeper e n ≡ suc i
+          → (v : A) × (e ∷ c ≡ with_value (cell_front i (e ∷ c)) i v) × (slice_get (e ∷ c) i ≡ Some (Some v))
       go more None i zero is k = absurd (omega arith)
       go more None zero (suc n) is k = absurd (omega arith)
-      go more None (suc i) (suc n) is k = let r : (v : A) × (c ≡ with_value (keep i c) i v) × (slice_get c i ≡ Some (Some v)) = more i (omega (arith, is, k)) in (r.0, ap (λ x. None ∷ x) r.1, r.2)
-      go more (Some v) zero n is k = (v, ap (λ x. Some v ∷ x) (sym (keep-beyond zero c (omega (arith, is, k)))), refl)
-      go more (Some w) (suc i) n is k = let r : (v : A) × (c ≡ with_value (keep i c) i v) × (slice_get c i ≡ Some (Some v)) = more i (omega (arith, is, k)) in (r.0, ap (λ x. Some w ∷ x) r.1, r.2)
+      go more None (suc i) (suc n) is k = let r : (v : A) × (c ≡ with_value (cell_front i c) i v) × (slice_get c i ≡ Some (Some v)) = more i (omega (arith, is, k)) in (r.0, ap (λ x. None ∷ x) r.1, r.2)
+      go more (Some v) zero n is k = (v, ap (λ x. Some v ∷ x) (sym (cell_front-beyond zero c (omega (arith, is, k)))), refl)
+      go more (Some w) (suc i) n is k = let r : (v : A) × (c ≡ with_value (cell_front i c) i v) × (slice_get c i ≡ Some (Some v)) = more i (omega (arith, is, k)) in (r.0, ap (λ x. Some w ∷ x) r.1, r.2)
 
-  pub keep-keep : (k n : ℕ) (u : Cell A) → k ≤ n → keep k (keep n u) ≡ keep k u
-  keep-keep k n [] h = refl
-  keep-keep zero zero (e ∷ u) h = ap (λ x. None ∷ x) (keep-keep zero zero u h)
-  keep-keep zero (suc n) (e ∷ u) h = ap (λ x. None ∷ x) (keep-keep zero n u (omega arith))
-  keep-keep (suc k) zero (e ∷ u) h = absurd (omega arith)
-  keep-keep (suc k) (suc n) (e ∷ u) h = ap (λ x. e ∷ x) (keep-keep k n u (omega arith))
+  pub cell_front-cell_front : (k n : ℕ) (u : Cell A) → k ≤ n → cell_front k (cell_front n u) ≡ cell_front k u
+  cell_front-cell_front k n [] h = refl
+  cell_front-cell_front zero zero (e ∷ u) h = ap (λ x. None ∷ x) (cell_front-cell_front zero zero u h)
+  cell_front-cell_front zero (suc n) (e ∷ u) h = ap (λ x. None ∷ x) (cell_front-cell_front zero n u (omega arith))
+  cell_front-cell_front (suc k) zero (e ∷ u) h = absurd (omega arith)
+  cell_front-cell_front (suc k) (suc n) (e ∷ u) h = ap (λ x. e ∷ x) (cell_front-cell_front k n u (omega arith))
 
   -- behind a cell's last value there is Any
   pub any_behind : (p : Cell A) (i : ℕ) → depth p ≤ i → i < length p → slice_get p i ≡ Some None
@@ -69,14 +69,14 @@ module _ {A : Type 0} where
   any_behind (e ∷ p) (suc i) h l = any_behind p i (shallower e (depth p) i h) (omega arith)
 
   -- a front one longer
-  pub upto-entry : (u : Cell A) (e : ℕ) (w : A) → slice_get u e ≡ Some (Some w) → upto u e ≡ with_value (keep e u) e w
+  pub upto-entry : (u : Cell A) (e : ℕ) (w : A) → slice_get u e ≡ Some (Some w) → upto u e ≡ with_value (cell_front e u) e w
   upto-entry [] e w h = cc
-  upto-entry (f ∷ u) zero w h = ap (λ x. x ∷ keep zero u) (cc)
+  upto-entry (f ∷ u) zero w h = ap (λ x. x ∷ cell_front zero u) (cc)
   upto-entry (f ∷ u) (suc e) w h = ap (λ x. f ∷ x) (upto-entry u e w h)
 
-  pub upto-none : (u : Cell A) (e : ℕ) → slice_get u e ≡ Some None → upto u e ≡ keep e u
+  pub upto-none : (u : Cell A) (e : ℕ) → slice_get u e ≡ Some None → upto u e ≡ cell_front e u
   upto-none [] e h = refl
-  upto-none (f ∷ u) zero h = ap (λ x. x ∷ keep zero u) (cc)
+  upto-none (f ∷ u) zero h = ap (λ x. x ∷ cell_front zero u) (cc)
   upto-none (f ∷ u) (suc e) h = ap (λ x. f ∷ x) (upto-none u e h)
 
 module _ {A : Type 0} {eq : A → A → Bool} (law : IsEquality eq) where
@@ -102,12 +102,12 @@ module _ {A : Type 0} {eq : A → A → Bool} (law : IsEquality eq) where
   leq-with_value (Some w ∷ p) zero v h = absurd (omega arith)
   leq-with_value (e ∷ p) (suc i) v h = and_from _ _ (and_parts (entry_leq eq e e) (leq eq p p) (leq_refl law (e ∷ p))).0 (leq-with_value p i v (shallower e (depth p) i h))
 
-  pub keep-meet : (n : ℕ) (w d : Cell A) → keep n (meet eq w d) ≡ meet eq (keep n w) d
-  keep-meet n [] d = refl
-  keep-meet zero (e ∷ w) [] = refl
-  keep-meet (suc n) (e ∷ w) [] = refl
-  keep-meet zero (e ∷ w) (f ∷ d) = ap (λ x. None ∷ x) (keep-meet zero w d)
-  keep-meet (suc n) (e ∷ w) (f ∷ d) = ap (λ x. entry_meet eq e f ∷ x) (keep-meet n w d)
+  pub cell_front-meet : (n : ℕ) (w d : Cell A) → cell_front n (meet eq w d) ≡ meet eq (cell_front n w) d
+  cell_front-meet n [] d = refl
+  cell_front-meet zero (e ∷ w) [] = refl
+  cell_front-meet (suc n) (e ∷ w) [] = refl
+  cell_front-meet zero (e ∷ w) (f ∷ d) = ap (λ x. None ∷ x) (cell_front-meet zero w d)
+  cell_front-meet (suc n) (e ∷ w) (f ∷ d) = ap (λ x. entry_meet eq e f ∷ x) (cell_front-meet n w d)
 
 module _ {A : Type 0} where
   pub with_value-there : (p : Cell A) (i : ℕ) (v : A) → i < length p → slice_get (with_value p i v) i ≡ Some (Some v)
@@ -125,28 +125,28 @@ module _ {A : Type 0} where
   depth-one_value zero v = refl
   depth-one_value (suc i) v = ap (one_deeper {A = A} None) (depth-one_value i v)
 
-  pub get-keep : (k n : ℕ) (c : Cell A) → k < n → slice_get (keep n c) k ≡ slice_get c k
-  get-keep k n [] h = refl
-  get-keep k zero (e ∷ c) h = absurd (omega arith)
-  get-keep zero (suc n) (e ∷ c) h = refl
-  get-keep (suc k) (suc n) (e ∷ c) h = get-keep k n c (omega arith)
+  pub get-cell_front : (k n : ℕ) (c : Cell A) → k < n → slice_get (cell_front n c) k ≡ slice_get c k
+  get-cell_front k n [] h = refl
+  get-cell_front k zero (e ∷ c) h = absurd (omega arith)
+  get-cell_front zero (suc n) (e ∷ c) h = refl
+  get-cell_front (suc k) (suc n) (e ∷ c) h = get-cell_front k n c (omega arith)
 
 -- the front before a new last value
-pub keep-with_value : {A : Type 0} (p : Cell A) (i : ℕ) (v : A) → depth p ≤ i → keep i (with_value p i v) ≡ p
-keep-with_value [] i v h = refl
-keep-with_value (None ∷ p) zero v h = keep-beyond zero (None ∷ p) h
-keep-with_value (Some w ∷ p) zero v h = absurd (omega arith)
-keep-with_value (e ∷ p) (suc i) v h = ap (λ x. e ∷ x) (keep-with_value p i v (shallower e (depth p) i h))
+pub cell_front-with_value : {A : Type 0} (p : Cell A) (i : ℕ) (v : A) → depth p ≤ i → cell_front i (with_value p i v) ≡ p
+cell_front-with_value [] i v h = refl
+cell_front-with_value (None ∷ p) zero v h = cell_front-beyond zero (None ∷ p) h
+cell_front-with_value (Some w ∷ p) zero v h = absurd (omega arith)
+cell_front-with_value (e ∷ p) (suc i) v h = ap (λ x. e ∷ x) (cell_front-with_value p i v (shallower e (depth p) i h))
 
 pub depth-any : (n : ℕ) → depth (replicate {A = Option ℕ} n None) ≡ 0
 depth-any zero = refl
 depth-any (suc n) = ap (one_deeper {A = ℕ} None) (depth-any n)
 
 -- what cutting off the last value leaves
-pub cut_some : (p : Cell ℕ) (i : ℕ) → depth p ≡ suc i → cut_last nat_cmp p ≡ Some (keep i p)
+pub cut_some : (p : Cell ℕ) (i : ℕ) → depth p ≡ suc i → cut_last nat_cmp p ≡ Some (cell_front i p)
 cut_some p i e =
-    cond-false (depth p == 0) None (Some (keep (depth p - 1) p)) (apart (depth p) e)
-    ∙ ap (λ d. Some (keep d p)) (less (depth p) e)
+    cond-false (depth p == 0) None (Some (cell_front (depth p - 1) p)) (apart (depth p) e)
+    ∙ ap (λ d. Some (cell_front d p)) (less (depth p) e)
   where
     apart : (d : ℕ) → d ≡ suc i → (d == 0) ≡ false
     apart d e = grind arith

@@ -1,5 +1,6 @@
 -- The lower bounds of a class stand among the cells below it.
 use Rattle.std.proofs.Common.{◌≡◌, ◌↔◌, ℕ, suc, true, Some, None, List, [], ◌∷◌, map, filter, length, refl, sym, ap, subst, ◌∙◌, inl, inr, arith, true≢false}
+use Rattle.std.specs.List.Sorted.{IsStrictlySortedBy}
 use Rattle.std.proofs.lemmas.Bool.{and_parts, and_from}
 use Rattle.std.specs.declared.cmp.Ordering.{Ordering}
 use Rattle.std.specs.declared.cmp.Ordering.TheVariants.{Less}
@@ -11,7 +12,7 @@ use Rattle.cube_defs.specs.Cell.{Cell, leq, cell_cmp}
 use Rattle.cube_defs.specs.Rows.{Row, covers, closure, has_closure, is_lower_bound}
 use Rattle.cube_defs.specs.Tree.{covered}
 use Rattle.cube_defs.specs.Answers.{lower_bounds}
-use Rattle.cube_laws.specs.Lists.{Among, Rises}
+use Rattle.cube_laws.specs.Lists.{Among}
 use Rattle.cube_laws.proofs.Lists.{among_append, among_map, map_among, among_filter, filter_among, all_at}
 use Rattle.cube_laws.proofs.Distinct.{rises_same}
 use Rattle.cube_laws.proofs.Cells.{IsEquality}
@@ -27,13 +28,15 @@ module _ {X Y : Type 0} (f : X → Y) where
   all_map_from P Q [] g h = tt
   all_map_from P Q (x ∷ xs) g h = (g x h.0, all_map_from P Q xs g h.1)
 
-  rises_map : (cmp : X → X → Ordering) (dmp : Y → Y → Ordering) (xs : List X) → ((x y : X) → cmp x y ≡ Less → dmp (f x) (f y) ≡ Less) → Rises cmp xs → Rises dmp (map f xs)
+  rises_map : (cmp : X → X → Ordering) (dmp : Y → Y → Ordering) (xs : List X) → ((x y : X) → cmp x y ≡ Less → dmp (f x) (f y) ≡ Less) → IsStrictlySortedBy cmp xs → IsStrictlySortedBy dmp (map f xs)
+  unfolding IsStrictlySortedBy
   rises_map cmp dmp [] g h = tt
   rises_map cmp dmp (x ∷ xs) g h = (all_map_from (λ y. cmp x y ≡ Less) (λ y. dmp (f x) y ≡ Less) xs (λ y. g x y) h.0, rises_map cmp dmp xs g h.1)
 
 module _ {A : Type 0} {cmp : A → A → Ordering} (total : IsTotalOrder cmp) where
   -- the cells below a cell stand in order
-  pub below_rises : (u : Cell A) → Rises (cell_cmp cmp) (below u)
+  pub below_rises : (u : Cell A) → IsStrictlySortedBy (cell_cmp cmp) (below u)
+  unfolding IsStrictlySortedBy
   below_rises [] = (tt, tt)
   below_rises (None ∷ u) = rises_map (λ c. None ∷ c) (cell_cmp cmp) (cell_cmp cmp) (below u) (λ x y h. h) (below_rises u)
   below_rises (Some v ∷ u) =

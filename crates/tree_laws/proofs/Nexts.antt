@@ -1,7 +1,7 @@
 -- The next value of a cell, and the fronts up to it.
 use Rattle.std.proofs.Common.{◌≡◌, ℕ, zero, suc, ◌≤◌, ◌<◌, Option, Some, None, [], ◌∷◌, length, slice_get, refl, ap, ◌∙◌, arith}
 use Rattle.std.specs.declared.cmp.Ordering.{Ordering}
-use Rattle.cube_defs.specs.Cell.{Cell, depth, one_deeper, keep}
+use Rattle.cube_defs.specs.Cell.{Cell, depth, one_deeper, cell_front}
 use Rattle.cube_defs.specs.Tree.{next_value}
 
 module _ {A : Type 0} (cmp : A → A → Ordering) where
@@ -25,11 +25,11 @@ module _ {A : Type 0} (cmp : A → A → Ordering) where
   next-le (suc d) (e ∷ u) h = omega (arith, next-suc d e u, next-le d u (omega arith))
 
   -- there is no value before the next
-  pub keep-next : (d : ℕ) (u : Cell A) → keep (next_value cmp d u) u ≡ keep d u
-  keep-next d [] = refl
-  keep-next zero (None ∷ u) = ap (λ k. keep k (None ∷ u)) (next-none u) ∙ ap (λ x. None ∷ x) (keep-next zero u)
-  keep-next zero (Some v ∷ u) = refl
-  keep-next (suc d) (e ∷ u) = ap (λ k. keep k (e ∷ u)) (next-suc d e u) ∙ ap (λ x. e ∷ x) (keep-next d u)
+  pub cell_front-next : (d : ℕ) (u : Cell A) → cell_front (next_value cmp d u) u ≡ cell_front d u
+  cell_front-next d [] = refl
+  cell_front-next zero (None ∷ u) = ap (λ k. cell_front k (None ∷ u)) (next-none u) ∙ ap (λ x. None ∷ x) (cell_front-next zero u)
+  cell_front-next zero (Some v ∷ u) = refl
+  cell_front-next (suc d) (e ∷ u) = ap (λ k. cell_front k (e ∷ u)) (next-suc d e u) ∙ ap (λ x. e ∷ x) (cell_front-next d u)
 
   pub next-entry : (d : ℕ) (u : Cell A) → next_value cmp d u < length u → (w : A) × (slice_get u (next_value cmp d u) ≡ Some (Some w))
   next-entry d [] h = absurd (omega arith)
@@ -52,16 +52,16 @@ module _ {A : Type 0} (cmp : A → A → Ordering) where
   next-deeper (Some v) d i u h = omega (arith, next-suc d (Some v) u)
 
   -- a chain node's labels reach up to the dimension that it is cut before
-  pub next-chain : (i : ℕ) (u : Cell A) → i ≤ length u → i ≤ next_value cmp (depth (keep i u)) u
+  pub next-chain : (i : ℕ) (u : Cell A) → i ≤ length u → i ≤ next_value cmp (depth (cell_front i u)) u
   next-chain i [] h = omega (arith)
   next-chain zero (e ∷ u) h = omega arith
-  next-chain (suc i) (e ∷ u) h = next-deeper e (depth (keep i u)) i u (next-chain i u (omega arith))
+  next-chain (suc i) (e ∷ u) h = next-deeper e (depth (cell_front i u)) i u (next-chain i u (omega arith))
 
   -- all fronts between are the same
-  pub keep-between : (d i : ℕ) (u : Cell A) → d ≤ i → i ≤ next_value cmp d u → keep i u ≡ keep d u
-  keep-between d i [] h k = refl
-  keep-between zero zero (e ∷ u) h k = refl
-  keep-between zero (suc i) (None ∷ u) h k = ap (λ x. None ∷ x) (keep-between zero i u (omega arith) (omega (arith, next-none u)))
-  keep-between zero (suc i) (Some v ∷ u) h k = absurd (omega arith)
-  keep-between (suc d) zero (e ∷ u) h k = absurd (omega arith)
-  keep-between (suc d) (suc i) (e ∷ u) h k = ap (λ x. e ∷ x) (keep-between d i u (omega arith) (omega (arith, next-suc d e u)))
+  pub cell_front-between : (d i : ℕ) (u : Cell A) → d ≤ i → i ≤ next_value cmp d u → cell_front i u ≡ cell_front d u
+  cell_front-between d i [] h k = refl
+  cell_front-between zero zero (e ∷ u) h k = refl
+  cell_front-between zero (suc i) (None ∷ u) h k = ap (λ x. None ∷ x) (cell_front-between zero i u (omega arith) (omega (arith, next-none u)))
+  cell_front-between zero (suc i) (Some v ∷ u) h k = absurd (omega arith)
+  cell_front-between (suc d) zero (e ∷ u) h k = absurd (omega arith)
+  cell_front-between (suc d) (suc i) (e ∷ u) h k = ap (λ x. e ∷ x) (cell_front-between d i u (omega arith) (omega (arith, next-suc d e u)))

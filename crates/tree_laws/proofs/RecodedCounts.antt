@@ -6,21 +6,21 @@ use Rattle.std.specs.Cmp.{IsTotalOrder}
 use Rattle.std.specs.FinMap.{IsAntisymmetric}
 use Rattle.std.specs.List.{count_by, sum_by}
 use Rattle.std.specs.Option.{option_map, option_eq}
-use Rattle.cube_defs.specs.Cell.{Cell, depth, keep, with_value, cell_eq}
+use Rattle.cube_defs.specs.Cell.{Cell, depth, cell_front, with_value, cell_eq}
 use Rattle.cube_defs.specs.Rows.{Row, closure, is_node, is_class}
 use Rattle.cube_defs.specs.Tree.{Edge, Node, node_of, next_value, tree, tree_edges, links, classes, nodes, covered, cut_last}
 use Rattle.cube_laws.specs.Lists.{Among}
-use Rattle.cube_laws.specs.Recoding.{coded, coded_row, TellsApart, AreKnown, RowsAreKnown}
+use Rattle.cube_laws.specs.Recoding.{coded_cell, coded_row, TellsApart, AreKnown, RowsAreKnown}
 use Rattle.cube_laws.proofs.Lists.{among_map, map_among, filter_among}
 use Rattle.cube_laws.proofs.Cells.{IsEquality}
 use Rattle.cube_laws.proofs.Nodes.{is_node-is}
 use Rattle.cube_laws.proofs.Orders.{equality_by}
 use Rattle.cube_laws.proofs.Recoded.{coded-apart, option_eq-coded}
-use Rattle.cube_laws.proofs.RecodedRows.{known-keep}
+use Rattle.cube_laws.proofs.RecodedRows.{known-cell_front}
 use Rattle.cube_laws.proofs.RecodedLists.{known-covered, classes-coded, nodes-coded}
 use Rattle.tree_laws.specs.Counts.{is_under}
 use Rattle.tree_laws.specs.Edges.{coded_edge, IsCodedNode}
-use Rattle.tree_laws.specs.Labels.{lead, IsLabel, record_of}
+use Rattle.tree_laws.specs.Labels.{target_of_label, IsLabel, record_of}
 use Rattle.tree_laws.proofs.Lists.{some_same}
 use Rattle.tree_laws.proofs.Fronts.{with_value-there}
 use Rattle.tree_laws.proofs.Sums.{sum_same, once_filter, once_map, covered_once, sum_ones, sum_alike, sum_by-map, or_nothing, sum_by-filter_map}
@@ -36,25 +36,25 @@ module _ {A B : Type 0} {cmp : A → A → Ordering} {cmp' : B → B → Orderin
   law' = equality_by total' anti'
 
   -- a sum over some covered cells is one over their codes
-  sum_coded : (p : Cell A → Bool) (p' : Cell B → Bool) → ((d : Cell B) → Among d (filter p' (covered cmp' (map (coded_row codes) rows))) → (c : Cell A) × Among c (filter p (covered cmp rows)) × (d ≡ coded codes 0 c))
-      → ((c : Cell A) → Among c (filter p (covered cmp rows)) → Among (coded codes 0 c) (filter p' (covered cmp' (map (coded_row codes) rows))))
-      → (f : Cell B → ℕ) → sum_by f (filter p' (covered cmp' (map (coded_row codes) rows))) ≡ sum_by (λ c. f (coded codes 0 c)) (filter p (covered cmp rows))
+  sum_coded : (p : Cell A → Bool) (p' : Cell B → Bool) → ((d : Cell B) → Among d (filter p' (covered cmp' (map (coded_row codes) rows))) → (c : Cell A) × Among c (filter p (covered cmp rows)) × (d ≡ coded_cell codes 0 c))
+      → ((c : Cell A) → Among c (filter p (covered cmp rows)) → Among (coded_cell codes 0 c) (filter p' (covered cmp' (map (coded_row codes) rows))))
+      → (f : Cell B → ℕ) → sum_by f (filter p' (covered cmp' (map (coded_row codes) rows))) ≡ sum_by (λ c. f (coded_cell codes 0 c)) (filter p (covered cmp rows))
   sum_coded p p' from to f =
-      sum_same f (filter p' (covered cmp' (map (coded_row codes) rows))) (map (coded codes 0) (filter p (covered cmp rows)))
+      sum_same f (filter p' (covered cmp' (map (coded_row codes) rows))) (map (coded_cell codes 0) (filter p (covered cmp rows)))
       (once_filter p' (covered cmp' (map (coded_row codes) rows)) (covered_once total' anti' (map (coded_row codes) rows)))
-      (once_map (coded codes 0) (filter p (covered cmp rows)) (λ c d m k e. coded-apart law law' tells c d (cell_known c m) (cell_known d k) e) (once_filter p (covered cmp rows) (covered_once total anti rows)))
-      (λ d m. let r = from d m in subst (λ x. Among x (map (coded codes 0) (filter p (covered cmp rows)))) (sym r.2) (map_among (coded codes 0) r.0 (filter p (covered cmp rows)) r.1))
-      (λ d m. let r : (c : Cell A) × Among c (filter p (covered cmp rows)) × (d ≡ coded codes 0 c) = among_map (coded codes 0) d (filter p (covered cmp rows)) m in subst (λ x. Among x (filter p' (covered cmp' (map (coded_row codes) rows)))) (sym r.2) (to r.0 r.1))
-      ∙ sum_by-map f (coded codes 0) (filter p (covered cmp rows))
+      (once_map (coded_cell codes 0) (filter p (covered cmp rows)) (λ c d m k e. coded-apart law law' tells c d (cell_known c m) (cell_known d k) e) (once_filter p (covered cmp rows) (covered_once total anti rows)))
+      (λ d m. let r = from d m in subst (λ x. Among x (map (coded_cell codes 0) (filter p (covered cmp rows)))) (sym r.2) (map_among (coded_cell codes 0) r.0 (filter p (covered cmp rows)) r.1))
+      (λ d m. let r : (c : Cell A) × Among c (filter p (covered cmp rows)) × (d ≡ coded_cell codes 0 c) = among_map (coded_cell codes 0) d (filter p (covered cmp rows)) m in subst (λ x. Among x (filter p' (covered cmp' (map (coded_row codes) rows)))) (sym r.2) (to r.0 r.1))
+      ∙ sum_by-map f (coded_cell codes 0) (filter p (covered cmp rows))
     where
       cell_known : (c : Cell A) → Among c (filter p (covered cmp rows)) → AreKnown known 0 c
       cell_known c m = known-covered total anti total' anti' tells rows h c (filter_among p c (covered cmp rows) m).0
 
-  sum_classes : (f : Cell B → ℕ) → sum_by f (classes cmp' (map (coded_row codes) rows)) ≡ sum_by (λ c. f (coded codes 0 c)) (classes cmp rows)
-  sum_classes = sum_coded (is_class (eq_by_cmp cmp) rows) (is_class (eq_by_cmp cmp') (map (coded_row codes) rows)) (λ d m. (classes-coded total anti total' anti' tells rows h d).0 m) (λ c m. (classes-coded total anti total' anti' tells rows h (coded codes 0 c)).1 (c, m, refl))
+  sum_classes : (f : Cell B → ℕ) → sum_by f (classes cmp' (map (coded_row codes) rows)) ≡ sum_by (λ c. f (coded_cell codes 0 c)) (classes cmp rows)
+  sum_classes = sum_coded (is_class (eq_by_cmp cmp) rows) (is_class (eq_by_cmp cmp') (map (coded_row codes) rows)) (λ d m. (classes-coded total anti total' anti' tells rows h d).0 m) (λ c m. (classes-coded total anti total' anti' tells rows h (coded_cell codes 0 c)).1 (c, m, refl))
 
-  sum_nodes : (f : Cell B → ℕ) → sum_by f (nodes cmp' (map (coded_row codes) rows)) ≡ sum_by (λ c. f (coded codes 0 c)) (nodes cmp rows)
-  sum_nodes = sum_coded (is_node (eq_by_cmp cmp) rows) (is_node (eq_by_cmp cmp') (map (coded_row codes) rows)) (λ d m. (nodes-coded total anti total' anti' tells rows h d).0 m) (λ c m. (nodes-coded total anti total' anti' tells rows h (coded codes 0 c)).1 (c, m, refl))
+  sum_nodes : (f : Cell B → ℕ) → sum_by f (nodes cmp' (map (coded_row codes) rows)) ≡ sum_by (λ c. f (coded_cell codes 0 c)) (nodes cmp rows)
+  sum_nodes = sum_coded (is_node (eq_by_cmp cmp) rows) (is_node (eq_by_cmp cmp') (map (coded_row codes) rows)) (λ d m. (nodes-coded total anti total' anti' tells rows h d).0 m) (λ c m. (nodes-coded total anti total' anti' tells rows h (coded_cell codes 0 c)).1 (c, m, refl))
 
   pub classes_as_many : length (classes cmp' (map (coded_row codes) rows)) ≡ length (classes cmp rows)
   classes_as_many = sym (sum_ones (classes cmp' (map (coded_row codes) rows))) ∙ sum_classes (λ d. 1) ∙ sum_ones (classes cmp rows)
@@ -62,14 +62,14 @@ module _ {A B : Type 0} {cmp : A → A → Ordering} {cmp' : B → B → Orderin
   pub nodes_as_many : length (nodes cmp' (map (coded_row codes) rows)) ≡ length (nodes cmp rows)
   nodes_as_many = sym (sum_ones (nodes cmp' (map (coded_row codes) rows))) ∙ sum_nodes (λ d. 1) ∙ sum_ones (nodes cmp rows)
 
-  under-coded : (p t : Cell A) → AreKnown known 0 p → AreKnown known 0 t → is_under cmp' (coded codes 0 p) (Some (coded codes 0 t)) ≡ is_under cmp p (Some t)
+  under-coded : (p t : Cell A) → AreKnown known 0 p → AreKnown known 0 t → is_under cmp' (coded_cell codes 0 p) (Some (coded_cell codes 0 t)) ≡ is_under cmp p (Some t)
   under-coded p t kp kt =
-      ap (λ o. option_eq (cell_eq (eq_by_cmp cmp')) o (Some (coded codes 0 p))) (parent-coded total anti total' anti' tells rows h t)
+      ap (λ o. option_eq (cell_eq (eq_by_cmp cmp')) o (Some (coded_cell codes 0 p))) (parent-coded total anti total' anti' tells rows h t)
       ∙ option_eq-coded law law' tells (cut_last cmp t) p (cut (depth t == 0)) kp
     where
-      cut : (b : Bool) (w : Cell A) → cond b None (Some (keep (depth t - 1) t)) ≡ Some w → AreKnown known 0 w
+      cut : (b : Bool) (w : Cell A) → cond b None (Some (cell_front (depth t - 1) t)) ≡ Some w → AreKnown known 0 w
       cut true w e = cc
-      cut false w e = subst (AreKnown known 0) (some_same e) (known-keep known (depth t - 1) 0 t kt)
+      cut false w e = subst (AreKnown known 0) (some_same e) (known-cell_front known (depth t - 1) 0 t kt)
 
   -- the edges of a record that pass a test of whether they lead to a child
   weight : {X : Type 0} → (X → X → Ordering) → (Bool → Bool) → Node X (Cell X) → ℕ
@@ -86,17 +86,17 @@ module _ {A B : Type 0} {cmp : A → A → Ordering} {cmp' : B → B → Orderin
         let b = label z k in
         let dim : x.dim ≡ z.dim = ap (λ y. y.dim) e in
         let target : x.target ≡ z.target = coded-apart law law' tells x.target z.target (known-target total anti total' anti' tells rows h p x.dim x.value x.target a.leads) (known-target total anti total' anti' tells rows h p z.dim z.value z.target b.leads) (ap (λ y. y.target) e) in
-        let moved : lead (eq_by_cmp cmp) rows p x.dim z.value ≡ Some z.target = ap (λ i. lead (eq_by_cmp cmp) rows p i z.value) dim ∙ b.leads in
+        let target_after_row : target_of_label (eq_by_cmp cmp) rows p x.dim z.value ≡ Some z.target = ap (λ i. target_of_label (eq_by_cmp cmp) rows p i z.value) dim ∙ b.leads in
         let cells : with_value p x.dim x.value ≡ with_value p x.dim z.value = coded-apart law law' tells (with_value p x.dim x.value) (with_value p x.dim z.value)
-        (known-label total anti total' anti' tells rows h p x.dim x.value x.target a.leads) (known-label total anti total' anti' tells rows h p x.dim z.value z.target moved)
-        (sym (with_value-coded codes 0 p x.dim x.dim x.value (at_zero x.dim)) ∙ ap (with_value (coded codes 0 p) x.dim) (ap (λ y. y.value) e ∙ ap (λ i. codes i z.value) (sym dim)) ∙ with_value-coded codes 0 p x.dim x.dim z.value (at_zero x.dim)) in
+        (known-label total anti total' anti' tells rows h p x.dim x.value x.target a.leads) (known-label total anti total' anti' tells rows h p x.dim z.value z.target target_after_row)
+        (sym (with_value-coded codes 0 p x.dim x.dim x.value (at_zero x.dim)) ∙ ap (with_value (coded_cell codes 0 p) x.dim) (ap (λ y. y.value) e ∙ ap (λ i. codes i z.value) (sym dim)) ∙ with_value-coded codes 0 p x.dim x.dim z.value (at_zero x.dim)) in
         let value : x.value ≡ z.value = some_same (some_same (sym (with_value-there p x.dim x.value a.place.within) ∙ ap (λ c. slice_get c x.dim) cells ∙ with_value-there p x.dim z.value a.place.within)) in
         λ i. record { dim = dim i; value = value i; target = target i }
       where
         at_zero : (i : ℕ) → i ≡ 0 + i
         at_zero i = omega arith
 
-    module _ (m : Node B (Cell B)) (there : node_of cmp' 0 (map (coded_row codes) rows) (coded codes 0 p) ≡ Some m) (c : IsCodedNode codes n m) (cell : n.cell ≡ p) where
+    module _ (m : Node B (Cell B)) (there : node_of cmp' 0 (map (coded_row codes) rows) (coded_cell codes 0 p) ≡ Some m) (c : IsCodedNode codes n m) (cell : n.cell ≡ p) where
       weighed : Edge B (Cell B) → ℕ
       weighed y = cond (test (is_under cmp' m.cell (Some y.target))) 1 0
 
@@ -104,17 +104,17 @@ module _ {A B : Type 0} {cmp : A → A → Ordering} {cmp' : B → B → Orderin
       unfolding weight weighed
       weight-coded =
           sum_same weighed m.edges (map (coded_edge codes) n.edges)
-          (rising_edges_once total' m.edges (record_rises total' anti' 0 (map (coded_row codes) rows) (coded codes 0 p) m there))
+          (rising_edges_once total' m.edges (record_rises total' anti' 0 (map (coded_row codes) rows) (coded_cell codes 0 p) m there))
           (once_map (coded_edge codes) n.edges edge_apart (rising_edges_once total n.edges (record_rises total anti 0 rows p n is)))
           (λ y k. let r = (c.edges y).0 k in subst (λ z. Among z (map (coded_edge codes) n.edges)) (sym r.2) (map_among (coded_edge codes) r.0 n.edges r.1))
           (λ y k. let r : (x : Edge A (Cell A)) × Among x n.edges × (y ≡ coded_edge codes x) = among_map (coded_edge codes) y n.edges k in (c.edges y).1 (r.0, r.1, r.2))
           ∙ sum_by-map weighed (coded_edge codes) n.edges
           ∙ sum_alike (λ x. weighed (coded_edge codes x)) (λ x. cond (test (is_under cmp n.cell (Some x.target))) 1 0) n.edges (λ x k.
           ap (λ b. cond (test b) 1 0)
-          (ap (λ d. is_under cmp' d (Some (coded codes 0 x.target))) c.cell
+          (ap (λ d. is_under cmp' d (Some (coded_cell codes 0 x.target))) c.cell
           ∙ under-coded n.cell x.target (subst (AreKnown known 0) (sym cell) kp) (known-target total anti total' anti' tells rows h p x.dim x.value x.target (label x k).leads)))
 
-  record_weight : (test : Bool → Bool) (p : Cell A) → Among p (nodes cmp rows) → or_nothing (weight cmp' test) (node_of cmp' 0 (map (coded_row codes) rows) (coded codes 0 p)) ≡ or_nothing (weight cmp test) (node_of cmp 0 rows p)
+  record_weight : (test : Bool → Bool) (p : Cell A) → Among p (nodes cmp rows) → or_nothing (weight cmp' test) (node_of cmp' 0 (map (coded_row codes) rows) (coded_cell codes 0 p)) ≡ or_nothing (weight cmp test) (node_of cmp 0 rows p)
   record_weight test p m = go (closure (eq_by_cmp cmp) rows p) refl
     where
       f : Among p (covered cmp rows) × (is_node (eq_by_cmp cmp) rows p ≡ true)
@@ -123,13 +123,13 @@ module _ {A B : Type 0} {cmp : A → A → Ordering} {cmp' : B → B → Orderin
       kp : AreKnown known 0 p
       kp = known-covered total anti total' anti' tells rows h p f.0
 
-      by : (n : Node A (Cell A)) → node_of cmp 0 rows p ≡ Some n → n.cell ≡ p → or_nothing (weight cmp' test) (node_of cmp' 0 (map (coded_row codes) rows) (coded codes 0 p)) ≡ or_nothing (weight cmp test) (node_of cmp 0 rows p)
+      by : (n : Node A (Cell A)) → node_of cmp 0 rows p ≡ Some n → n.cell ≡ p → or_nothing (weight cmp' test) (node_of cmp' 0 (map (coded_row codes) rows) (coded_cell codes 0 p)) ≡ or_nothing (weight cmp test) (node_of cmp 0 rows p)
       by n is cell =
           let r = record-coded total anti total' anti' tells rows h 0 p kp n f.1 is in
           ap (or_nothing (weight cmp' test)) r.1 ∙ weight-coded test p kp n f.1 is r.0 r.1 r.2 cell ∙ ap (or_nothing (weight cmp test)) (sym is)
 
-      go : (o : Option (Cell A)) → closure (eq_by_cmp cmp) rows p ≡ o → or_nothing (weight cmp' test) (node_of cmp' 0 (map (coded_row codes) rows) (coded codes 0 p)) ≡ or_nothing (weight cmp test) (node_of cmp 0 rows p)
-      go None e = let bad : None ≡ Some p = sym (ap (option_map (keep (depth p))) e) ∙ (is_node-is law rows p).0 f.1 in cc
+      go : (o : Option (Cell A)) → closure (eq_by_cmp cmp) rows p ≡ o → or_nothing (weight cmp' test) (node_of cmp' 0 (map (coded_row codes) rows) (coded_cell codes 0 p)) ≡ or_nothing (weight cmp test) (node_of cmp 0 rows p)
+      go None e = let bad : None ≡ Some p = sym (ap (option_map (cell_front (depth p))) e) ∙ (is_node-is law rows p).0 f.1 in cc
       go (Some u) e = by (record_of cmp 0 rows p u) (ap (option_map (λ u. record_of cmp 0 rows p u)) e) refl
 
   weight_sum : {X : Type 0} (order : X → X → Ordering) (test : Bool → Bool) (some : List (Row X)) → sum (map (weight order test) (tree order 0 some)) ≡ sum_by (λ c. or_nothing (weight order test) (node_of order 0 some c)) (nodes order some)

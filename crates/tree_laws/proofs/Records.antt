@@ -1,5 +1,6 @@
 -- The laws of labels, said of the records of nodes.
 use Rattle.std.proofs.Common.{◌≡◌, ◌↔◌, ℕ, true, false, Option, Some, None, List, refl, sym, ap, subst}
+use Rattle.std.specs.List.Sorted.{IsStrictlySortedBy}
 use Rattle.std.specs.declared.cmp.Ordering.{Ordering}
 use Rattle.std.specs.Ordering.{eq_by_cmp}
 use Rattle.std.specs.Cmp.{IsTotalOrder}
@@ -8,7 +9,7 @@ use Rattle.std.specs.Option.{option_map}
 use Rattle.cube_defs.specs.Cell.{Cell, depth}
 use Rattle.cube_defs.specs.Rows.{Row, covers, closure, is_node}
 use Rattle.cube_defs.specs.Tree.{Edge, Node, node_of, next_value}
-use Rattle.cube_laws.specs.Lists.{Among, Rises}
+use Rattle.cube_laws.specs.Lists.{Among}
 use Rattle.cube_laws.proofs.Nodes.{front_of_class}
 use Rattle.cube_laws.proofs.Orders.{equality_by}
 use Rattle.tree_laws.specs.Labels.{IsLabel, record_of}
@@ -30,8 +31,9 @@ module _ {A : Type 0} {cmp : A → A → Ordering} (total : IsTotalOrder cmp) (a
       go None e = let made : node_of cmp measures rows p ≡ None = ap (option_map (λ u. record_of cmp measures rows p u)) e in cc
       go (Some u) e = (u, e)
 
-  pub record_rises : Rises (edge_cmp cmp) n.edges
-  record_rises = subst (λ m. Rises (edge_cmp cmp) m.edges) (sym (record_with record_closure.0 record_closure.1)) (edges_rise total anti measures rows p record_closure.0 (next_value cmp (depth p) record_closure.0))
+  pub record_rises : IsStrictlySortedBy (edge_cmp cmp) n.edges
+  unfolding IsStrictlySortedBy
+  record_rises = subst (λ m. IsStrictlySortedBy (edge_cmp cmp) m.edges) (sym (record_with record_closure.0 record_closure.1)) (edges_rise total anti measures rows p record_closure.0 (next_value cmp (depth p) record_closure.0))
 
 module _ {A : Type 0} {cmp : A → A → Ordering} (total : IsTotalOrder cmp) (anti : IsAntisymmetric cmp) (measures : ℕ) (rows : List (Row A)) (p : Cell A) (n : Node A (Cell A)) (node : is_node (eq_by_cmp cmp) rows p ≡ true) (is : node_of cmp measures rows p ≡ Some n) where
   closed : (u : Cell A) × (closure (eq_by_cmp cmp) rows p ≡ Some u)

@@ -4,10 +4,10 @@ use Rattle.std.proofs.lemmas.Bool.{and_parts}
 use Rattle.std.specs.declared.cmp.Ordering.{Ordering}
 use Rattle.std.specs.List.{position_or_len}
 use Rattle.std.specs.Option.{option_map, is_some}
-use Rattle.cube_defs.specs.Cell.{Cell, entry_leq, leq, depth, keep, upto}
+use Rattle.cube_defs.specs.Cell.{Cell, entry_leq, leq, depth, cell_front, upto}
 use Rattle.cube_defs.specs.Rows.{Row, covers, closure, is_node}
 use Rattle.cube_defs.specs.Tree.{Edge, next_value}
-use Rattle.cube_laws.proofs.Cells.{IsEquality, length-keep, depth-le}
+use Rattle.cube_laws.proofs.Cells.{IsEquality, length-cell_front, depth-le}
 use Rattle.cube_laws.proofs.Nodes.{is_node-is, front_of_class}
 use Rattle.cube_laws.specs.Lists.{Among}
 use Rattle.cube_laws.proofs.OneRow.{closure_grows, node-insert}
@@ -15,46 +15,46 @@ use Rattle.cube_laws.proofs.Orders.{equality_by}
 use Rattle.std.specs.Ordering.{eq_by_cmp}
 use Rattle.std.specs.Cmp.{IsTotalOrder}
 use Rattle.std.specs.FinMap.{IsAntisymmetric}
-use Rattle.tree_laws.specs.Labels.{first_new, lead, IsLabel, IsWithin, record_of}
+use Rattle.tree_laws.specs.Labels.{first_new, target_of_label, IsLabel, IsWithin, record_of}
 use Rattle.tree_laws.proofs.Edges.{edges-are}
 use Rattle.tree_laws.proofs.Leads.{lead_other, lead_less}
 
 module _ {A : Type 0} {eq : A → A → Bool} (law : IsEquality eq) where
-  keep_zero_same : (u w : Cell A) → length u ≡ length w → keep zero w ≡ keep zero u
-  keep_zero_same [] [] l = refl
-  keep_zero_same [] (f ∷ w) l = absurd (omega arith)
-  keep_zero_same (e ∷ u) [] l = absurd (omega arith)
-  keep_zero_same (e ∷ u) (f ∷ w) l = ap (λ x. None ∷ x) (keep_zero_same u w (omega arith))
+  cell_front_zero_same : (u w : Cell A) → length u ≡ length w → cell_front zero w ≡ cell_front zero u
+  cell_front_zero_same [] [] l = refl
+  cell_front_zero_same [] (f ∷ w) l = absurd (omega arith)
+  cell_front_zero_same (e ∷ u) [] l = absurd (omega arith)
+  cell_front_zero_same (e ∷ u) (f ∷ w) l = ap (λ x. None ∷ x) (cell_front_zero_same u w (omega arith))
 
   -- a greater cell has the same first n entries just where its first new value is not among them
-  pub keep_new : (n : ℕ) (u w : Cell A) → leq eq u w ≡ true → length u ≡ length w → n ≤ length u → (keep n w ≡ keep n u) ↔ (n ≤ first_new u w)
-  keep_new zero u w h l m = (λ e. omega arith, λ e. keep_zero_same u w l)
-  keep_new (suc n) [] w h l m = absurd (omega arith)
-  keep_new (suc n) (e ∷ u) [] h l m = absurd (omega arith)
-  keep_new (suc n) (None ∷ u) (Some v ∷ w) h l m = (λ e. absurd (apart e), λ k. absurd (omega arith))
+  pub cell_front_new : (n : ℕ) (u w : Cell A) → leq eq u w ≡ true → length u ≡ length w → n ≤ length u → (cell_front n w ≡ cell_front n u) ↔ (n ≤ first_new u w)
+  cell_front_new zero u w h l m = (λ e. omega arith, λ e. cell_front_zero_same u w l)
+  cell_front_new (suc n) [] w h l m = absurd (omega arith)
+  cell_front_new (suc n) (e ∷ u) [] h l m = absurd (omega arith)
+  cell_front_new (suc n) (None ∷ u) (Some v ∷ w) h l m = (λ e. absurd (apart e), λ k. absurd (omega arith))
     where
-      apart : Some v ∷ keep n w ≡ None ∷ keep n u → ⊥
+      apart : Some v ∷ cell_front n w ≡ None ∷ cell_front n u → ⊥
       apart e = cc
-  keep_new (suc n) (None ∷ u) (None ∷ w) h l m =
-      let r = keep_new n u w h (omega arith) (omega arith) in
-      (λ e. let t : keep n w ≡ keep n u = cc in let s : n ≤ first_new u w = r.0 t in omega arith, λ k. ap (λ x. None ∷ x) (r.1 (omega arith)))
-  keep_new (suc n) (Some a ∷ u) (None ∷ w) h l m = absurd (true≢false (sym h))
-  keep_new (suc n) (Some a ∷ u) (Some b ∷ w) h l m =
+  cell_front_new (suc n) (None ∷ u) (None ∷ w) h l m =
+      let r = cell_front_new n u w h (omega arith) (omega arith) in
+      (λ e. let t : cell_front n w ≡ cell_front n u = cc in let s : n ≤ first_new u w = r.0 t in omega arith, λ k. ap (λ x. None ∷ x) (r.1 (omega arith)))
+  cell_front_new (suc n) (Some a ∷ u) (None ∷ w) h l m = absurd (true≢false (sym h))
+  cell_front_new (suc n) (Some a ∷ u) (Some b ∷ w) h l m =
       let p = and_parts (eq a b) (leq eq u w) h in
-      let r = keep_new n u w p.1 (omega arith) (omega arith) in
+      let r = cell_front_new n u w p.1 (omega arith) (omega arith) in
       let s : Some b ≡ Some a = ap (λ x. Some x) (sym (law.exact a b p.0)) in
-      (λ e. let t : keep n w ≡ keep n u = cc in let s : n ≤ first_new u w = r.0 t in omega arith, λ k. ap₂ (λ x y. x ∷ y) s (r.1 (omega arith)))
+      (λ e. let t : cell_front n w ≡ cell_front n u = cc in let s : n ≤ first_new u w = r.0 t in omega arith, λ k. ap₂ (λ x y. x ∷ y) s (r.1 (omega arith)))
 
   -- where p was a node with the closure u, and has w now: it stays a node just where w's first new value is behind p's last
   pub node_after : (before after : List (Row A)) (p u w : Cell A) → is_node eq before p ≡ true → closure eq before p ≡ Some u → closure eq after p ≡ Some w → leq eq u w ≡ true → length u ≡ length w
       → (is_node eq after p ≡ true) ↔ (depth p ≤ first_new u w)
   node_after before after p u w h e f up l =
-      let was : Some (keep (depth p) u) ≡ Some p = ap (option_map (keep (depth p))) (sym e) ∙ (is_node-is law before p).0 h in
-      let front : keep (depth p) u ≡ p = cc in
-      let d = keep_new (depth p) u w up l (omega (arith, depth-le p, length-keep (depth p) u, ap length front)) in
+      let was : Some (cell_front (depth p) u) ≡ Some p = ap (option_map (cell_front (depth p))) (sym e) ∙ (is_node-is law before p).0 h in
+      let front : cell_front (depth p) u ≡ p = cc in
+      let d = cell_front_new (depth p) u w up l (omega (arith, depth-le p, length-cell_front (depth p) u, ap length front)) in
       let n = is_node-is law after p in (
-        λ k. let now : Some (keep (depth p) w) ≡ Some p = ap (option_map (keep (depth p))) (sym f) ∙ n.0 k in let is : keep (depth p) w ≡ p = cc in d.0 (is ∙ sym front),
-        λ k. n.1 (ap (option_map (keep (depth p))) f ∙ ap (λ x. Some x) (d.1 k ∙ front)),
+        λ k. let now : Some (cell_front (depth p) w) ≡ Some p = ap (option_map (cell_front (depth p))) (sym f) ∙ n.0 k in let is : cell_front (depth p) w ≡ p = cc in d.0 (is ∙ sym front),
+        λ k. n.1 (ap (option_map (cell_front (depth p))) f ∙ ap (λ x. Some x) (d.1 k ∙ front)),
       )
 
   first_value : (u w : Cell A) → leq eq u w ≡ true → length u ≡ length w → position_or_len is_some w ≡ min (position_or_len is_some u) (first_new u w)
@@ -85,14 +85,14 @@ module _ {A : Type 0} {cmp : A → A → Ordering} (total : IsTotalOrder cmp) (a
   node_before : is_node (eq_by_cmp cmp) (xs ++ r ∷ ys) p ≡ true
   node_before = node-insert law_by xs r ys p node
 
-  front_before : keep (depth p) u ≡ p
+  front_before : cell_front (depth p) u ≡ p
   front_before = (front_of_class law_by (xs ++ r ∷ ys) p u e node_before).1
 
-  front_after : keep (depth p) w ≡ p
+  front_after : cell_front (depth p) w ≡ p
   front_after = (front_of_class law_by (xs ++ ys) p w f node).1
 
   long : length u ≡ length w
-  long = sym (length-keep (depth p) u) ∙ ap length (front_before ∙ sym front_after) ∙ length-keep (depth p) w
+  long = sym (length-cell_front (depth p) u) ∙ ap length (front_before ∙ sym front_after) ∙ length-cell_front (depth p) w
 
   -- the labels reach no further than before
   pub no_further : next_value cmp (depth p) w ≤ next_value cmp (depth p) u
@@ -115,7 +115,7 @@ module _ {A : Type 0} {cmp : A → A → Ordering} (total : IsTotalOrder cmp) (a
       λ h. after.1 (record { place = h.0; leads = sym (same h.0) ∙ (before.0 h.1).leads }),
     )
       where
-        same : IsWithin p (next_value cmp (depth p) w) x.dim → lead (eq_by_cmp cmp) (xs ++ r ∷ ys) p x.dim x.value ≡ lead (eq_by_cmp cmp) (xs ++ ys) p x.dim x.value
+        same : IsWithin p (next_value cmp (depth p) w) x.dim → target_of_label (eq_by_cmp cmp) (xs ++ r ∷ ys) p x.dim x.value ≡ target_of_label (eq_by_cmp cmp) (xs ++ ys) p x.dim x.value
         same i = lead_other law_by xs r ys p x.dim x.value c i.behind i.within o
 
     -- the one with the row's value leads from its old target to the front of what closure that has now
@@ -123,7 +123,7 @@ module _ {A : Type 0} {cmp : A → A → Ordering} (total : IsTotalOrder cmp) (a
         → Among x (record_of cmp measures (xs ++ ys) p w).edges ↔ (IsWithin p (next_value cmp (depth p) w) x.dim × (option_map (λ z. upto z x.dim) (closure (eq_by_cmp cmp) (xs ++ ys) t) ≡ Some x.target))
     own_edge_less t m =
         let l = (edges-are total anti measures (xs ++ r ∷ ys) p u e front_before (record { dim = x.dim; value = x.value; target = t })).0 m in
-        let moved : lead (eq_by_cmp cmp) (xs ++ ys) p x.dim x.value ≡ option_map (λ z. upto z x.dim) (closure (eq_by_cmp cmp) (xs ++ ys) t) = lead_less law_by xs r ys p t x.dim x.value l.place.behind l.place.within l.leads in (
-          λ k. let a = after.0 k in (a.place, sym moved ∙ a.leads),
-          λ h. after.1 (record { place = h.0; leads = moved ∙ h.1 }),
+        let target_after_row : target_of_label (eq_by_cmp cmp) (xs ++ ys) p x.dim x.value ≡ option_map (λ z. upto z x.dim) (closure (eq_by_cmp cmp) (xs ++ ys) t) = lead_less law_by xs r ys p t x.dim x.value l.place.behind l.place.within l.leads in (
+          λ k. let a = after.0 k in (a.place, sym target_after_row ∙ a.leads),
+          λ h. after.1 (record { place = h.0; leads = target_after_row ∙ h.1 }),
         )

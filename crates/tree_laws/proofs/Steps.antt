@@ -6,16 +6,16 @@ use Rattle.std.specs.Ordering.{eq_by_cmp}
 use Rattle.std.specs.Cmp.{IsTotalOrder}
 use Rattle.std.specs.FinMap.{IsAntisymmetric}
 use Rattle.std.specs.Option.{option_map, option_and_then}
-use Rattle.cube_defs.specs.Cell.{Cell, depth, keep, upto, with_value}
+use Rattle.cube_defs.specs.Cell.{Cell, depth, cell_front, upto, with_value}
 use Rattle.cube_defs.specs.Rows.{Row, closure}
 use Rattle.cube_defs.specs.Tree.{Edge, Node, next_value, forced_child, renamed, renamed_edge}
 use Rattle.cube_laws.specs.Lists.{Among}
-use Rattle.cube_laws.proofs.Cells.{IsEquality, keep-leq, length-keep, keep-depth_keep}
+use Rattle.cube_laws.proofs.Cells.{IsEquality, cell_front-leq, length-cell_front, cell_front-depth_cell_front}
 use Rattle.cube_laws.proofs.Orders.{equality_by}
-use Rattle.tree_laws.specs.Labels.{lead, IsLabel, record_of}
-use Rattle.tree_laws.specs.Walk.{target_at, by_entry, to_child, by_forced, walk_on, front}
+use Rattle.tree_laws.specs.Labels.{target_of_label, IsLabel, record_of}
+use Rattle.tree_laws.specs.Walk.{target_at, by_entry, to_child, by_forced, walk_on, closure_front}
 use Rattle.tree_laws.proofs.Lists.{some_same, first_of_range}
-use Rattle.tree_laws.proofs.Fronts.{depth-keep-le, upto-entry, upto-none}
+use Rattle.tree_laws.proofs.Fronts.{depth-cell_front-le, upto-entry, upto-none}
 use Rattle.tree_laws.proofs.Nexts.{next-chain, before-next}
 use Rattle.tree_laws.proofs.Leads.{closure_between, closure_with, leq-chain}
 use Rattle.tree_laws.proofs.Edges.{edges-are, forced_lead, only_forced}
@@ -75,94 +75,94 @@ module _ {A : Type 0} {cmp : A → A → Ordering} (total : IsTotalOrder cmp) (a
   law : IsEquality (eq_by_cmp cmp)
   law = equality_by total anti
 
-  module _ (c u : Cell A) (i : ℕ) (is : closure (eq_by_cmp cmp) rows (keep i c) ≡ Some u) (lc : i < length c) (lu : i < length u) where
+  module _ (c u : Cell A) (i : ℕ) (is : closure (eq_by_cmp cmp) rows (cell_front i c) ≡ Some u) (lc : i < length c) (lu : i < length u) where
     here : Node A (Cell A)
-    here = record_of cmp measures rows (keep i u) u
+    here = record_of cmp measures rows (cell_front i u) u
 
-    within : i < length (keep i u)
-    within = omega (arith, length-keep i u)
+    within : i < length (cell_front i u)
+    within = omega (arith, length-cell_front i u)
 
     -- the front has the same closure
-    pub front_closure : closure (eq_by_cmp cmp) rows (keep i u) ≡ Some u
-    front_closure = closure_between law rows (keep i c) (keep i u) u is (leq-chain law rows (keep i c) u i is (depth-keep-le i c)) (keep-leq law i u)
+    pub front_closure : closure (eq_by_cmp cmp) rows (cell_front i u) ≡ Some u
+    front_closure = closure_between law rows (cell_front i c) (cell_front i u) u is (leq-chain law rows (cell_front i c) u i is (depth-cell_front-le i c)) (cell_front-leq law i u)
 
-    label : (x : Edge A (Cell A)) → Among x (record_of cmp measures rows (keep i u) u).edges → IsLabel cmp rows (keep i u) (next_value cmp (depth (keep i u)) u) x
-    label x = (edges-are total anti measures rows (keep i u) u front_closure (keep-depth_keep i u) x).0
+    label : (x : Edge A (Cell A)) → Among x (record_of cmp measures rows (cell_front i u) u).edges → IsLabel cmp rows (cell_front i u) (next_value cmp (depth (cell_front i u)) u) x
+    label x = (edges-are total anti measures rows (cell_front i u) u front_closure (cell_front-depth_cell_front i u) x).0
 
     -- where the closure has a value in dimension i, the forced child has it
-    at_forced : (w : A) → slice_get u i ≡ Some (Some w) → next_value cmp (depth (keep i u)) u ≡ i
-    at_forced w h = elim (first_of_range (next_value cmp (depth (keep i u)) u) i (next-chain cmp i u (omega arith))) [
+    at_forced : (w : A) → slice_get u i ≡ Some (Some w) → next_value cmp (depth (cell_front i u)) u ≡ i
+    at_forced w h = elim (first_of_range (next_value cmp (depth (cell_front i u)) u) i (next-chain cmp i u (omega arith))) [
       | inl k ↦ k
-      | inr k ↦ let any : slice_get u i ≡ Some None = before-next cmp (depth (keep i u)) u i (depth-keep-le i u) (omega (arith, k)) lu in absurd (both any)
+      | inr k ↦ let any : slice_get u i ≡ Some None = before-next cmp (depth (cell_front i u)) u i (depth-cell_front-le i u) (omega (arith, k)) lu in absurd (both any)
     ]
       where
         both : slice_get u i ≡ Some None → ⊥
         both any = cc
 
-    behind_forced : slice_get u i ≡ Some None → (w : A) → slice_get u (next_value cmp (depth (keep i u)) u) ≡ Some (Some w) → nat_eq (next_value cmp (depth (keep i u)) u) i ≡ false
-    behind_forced h w k = false_from_ne_true _ (λ t. both (ap (slice_get u) (sym (eqb-true (next_value cmp (depth (keep i u)) u) i t))))
+    behind_forced : slice_get u i ≡ Some None → (w : A) → slice_get u (next_value cmp (depth (cell_front i u)) u) ≡ Some (Some w) → nat_eq (next_value cmp (depth (cell_front i u)) u) i ≡ false
+    behind_forced h w k = false_from_ne_true _ (λ t. both (ap (slice_get u) (sym (eqb-true (next_value cmp (depth (cell_front i u)) u) i t))))
       where
-        both : slice_get u i ≡ slice_get u (next_value cmp (depth (keep i u)) u) → ⊥
+        both : slice_get u i ≡ slice_get u (next_value cmp (depth (cell_front i u)) u) → ⊥
         both q = cc
 
     -- the front one dimension on
-    front_any : slice_get c i ≡ Some None → front (eq_by_cmp cmp) rows c (suc i) ≡ Some (keep (suc i) u)
-    front_any h = ap (λ d. option_map (keep (suc i)) (closure (eq_by_cmp cmp) rows d)) (upto-none c i h) ∙ ap (option_map (keep (suc i))) is
+    front_any : slice_get c i ≡ Some None → closure_front (eq_by_cmp cmp) rows c (suc i) ≡ Some (cell_front (suc i) u)
+    front_any h = ap (λ d. option_map (cell_front (suc i)) (closure (eq_by_cmp cmp) rows d)) (upto-none c i h) ∙ ap (option_map (cell_front (suc i))) is
 
-    front_value : (v : A) → slice_get c i ≡ Some (Some v) → front (eq_by_cmp cmp) rows c (suc i) ≡ lead (eq_by_cmp cmp) rows (keep i u) i v
+    front_value : (v : A) → slice_get c i ≡ Some (Some v) → closure_front (eq_by_cmp cmp) rows c (suc i) ≡ target_of_label (eq_by_cmp cmp) rows (cell_front i u) i v
     front_value v h =
-        ap (λ d. option_map (keep (suc i)) (closure (eq_by_cmp cmp) rows d)) (upto-entry c i v h)
-        ∙ ap (option_map (keep (suc i))) (closure_with law rows (keep i c) (keep i u) u i v is front_closure (depth-keep-le i c) (depth-keep-le i u) (omega (arith, length-keep i c)) within)
+        ap (λ d. option_map (cell_front (suc i)) (closure (eq_by_cmp cmp) rows d)) (upto-entry c i v h)
+        ∙ ap (option_map (cell_front (suc i))) (closure_with law rows (cell_front i c) (cell_front i u) u i v is front_closure (depth-cell_front-le i c) (depth-cell_front-le i u) (omega (arith, length-cell_front i c)) within)
 
-    lead_same : (w : A) → slice_get u i ≡ Some (Some w) → lead (eq_by_cmp cmp) rows (keep i u) i w ≡ Some (with_value (keep i u) i w)
-    lead_same w h = ap (option_map (λ x. upto x i)) (forced_lead total anti rows (keep i u) u i w front_closure (depth-keep-le i u) within h) ∙ ap (λ x. Some x) (upto-entry u i w h)
+    lead_same : (w : A) → slice_get u i ≡ Some (Some w) → target_of_label (eq_by_cmp cmp) rows (cell_front i u) i w ≡ Some (with_value (cell_front i u) i w)
+    lead_same w h = ap (option_map (λ x. upto x i)) (forced_lead total anti rows (cell_front i u) u i w front_closure (depth-cell_front-le i u) within h) ∙ ap (λ x. Some x) (upto-entry u i w h)
 
-    lead_other : (w v : A) → slice_get u i ≡ Some (Some w) → eq_by_cmp cmp w v ≡ false → lead (eq_by_cmp cmp) rows (keep i u) i v ≡ None
-    lead_other w v h k = go (closure (eq_by_cmp cmp) rows (with_value (keep i u) i v)) refl
+    lead_other : (w v : A) → slice_get u i ≡ Some (Some w) → eq_by_cmp cmp w v ≡ false → target_of_label (eq_by_cmp cmp) rows (cell_front i u) i v ≡ None
+    lead_other w v h k = go (closure (eq_by_cmp cmp) rows (with_value (cell_front i u) i v)) refl
       where
-        go : (o : Option (Cell A)) → closure (eq_by_cmp cmp) rows (with_value (keep i u) i v) ≡ o → option_map (λ x. upto x i) (closure (eq_by_cmp cmp) rows (with_value (keep i u) i v)) ≡ None
+        go : (o : Option (Cell A)) → closure (eq_by_cmp cmp) rows (with_value (cell_front i u) i v) ≡ o → option_map (λ x. upto x i) (closure (eq_by_cmp cmp) rows (with_value (cell_front i u) i v)) ≡ None
         go None q = ap (option_map (λ x. upto x i)) q
-        go (Some d) q = let same : v ≡ w = only_forced total anti rows (keep i u) u d i w v front_closure (depth-keep-le i u) within h q in absurd (true≢false (sym (subst (λ y. eq_by_cmp cmp w y ≡ true) (sym same) (law.same w)) ∙ k))
+        go (Some d) q = let same : v ≡ w = only_forced total anti rows (cell_front i u) u d i w v front_closure (depth-cell_front-le i u) within h q in absurd (true≢false (sym (subst (λ y. eq_by_cmp cmp w y ≡ true) (sym same) (law.same w)) ∙ k))
 
-    step_forced : (w : A) (a : Option A) → slice_get u i ≡ Some (Some w) → slice_get c i ≡ Some a → walk_on (eq_by_cmp cmp) (keep i u) here i a ≡ front (eq_by_cmp cmp) rows c (suc i)
+    step_forced : (w : A) (a : Option A) → slice_get u i ≡ Some (Some w) → slice_get c i ≡ Some a → walk_on (eq_by_cmp cmp) (cell_front i u) here i a ≡ closure_front (eq_by_cmp cmp) rows c (suc i)
     unfolding here
     step_forced w a h q =
-        ap (by_forced (eq_by_cmp cmp) (keep i u) here i a) (ap (λ j. forced_child cmp (keep i u) u j) (at_forced w h) ∙ ap (λ o. option_and_then (λ entry. option_map (λ v. let x : Edge A (Cell A) = record { dim = i; value = v; target = with_value (keep i u) i v } in x) entry) o) h)
+        ap (by_forced (eq_by_cmp cmp) (cell_front i u) here i a) (ap (λ j. forced_child cmp (cell_front i u) u j) (at_forced w h) ∙ ap (λ o. option_and_then (λ entry. option_map (λ v. let x : Edge A (Cell A) = record { dim = i; value = v; target = with_value (cell_front i u) i v } in x) entry) o) h)
         ∙ cond-true _ _ _ (eq-eqb i i refl) ∙ go a q
       where
-        go : (a : Option A) → slice_get c i ≡ Some a → to_child (eq_by_cmp cmp) (record { dim = i; value = w; target = with_value (keep i u) i w }) a ≡ front (eq_by_cmp cmp) rows c (suc i)
+        go : (a : Option A) → slice_get c i ≡ Some a → to_child (eq_by_cmp cmp) (record { dim = i; value = w; target = with_value (cell_front i u) i w }) a ≡ closure_front (eq_by_cmp cmp) rows c (suc i)
         go None q = ap (λ x. Some x) (sym (upto-entry u i w h)) ∙ sym (front_any q)
         go (Some v) q = by (eq_by_cmp cmp w v) refl ∙ sym (front_value v q)
           where
-            by : (b : Bool) → eq_by_cmp cmp w v ≡ b → cond b (Some (with_value (keep i u) i w)) None ≡ lead (eq_by_cmp cmp) rows (keep i u) i v
-            by true k = sym (ap (lead (eq_by_cmp cmp) rows (keep i u) i) (sym (law.exact w v k)) ∙ lead_same w h)
+            by : (b : Bool) → eq_by_cmp cmp w v ≡ b → cond b (Some (with_value (cell_front i u) i w)) None ≡ target_of_label (eq_by_cmp cmp) rows (cell_front i u) i v
+            by true k = sym (ap (target_of_label (eq_by_cmp cmp) rows (cell_front i u) i) (sym (law.exact w v k)) ∙ lead_same w h)
             by false k = sym (lead_other w v h k)
 
-    step_free : (a : Option A) → slice_get u i ≡ Some None → slice_get c i ≡ Some a → walk_on (eq_by_cmp cmp) (keep i u) here i a ≡ front (eq_by_cmp cmp) rows c (suc i)
+    step_free : (a : Option A) → slice_get u i ≡ Some None → slice_get c i ≡ Some a → walk_on (eq_by_cmp cmp) (cell_front i u) here i a ≡ closure_front (eq_by_cmp cmp) rows c (suc i)
     unfolding here
-    step_free a h q = off (slice_get u (next_value cmp (depth (keep i u)) u)) refl ∙ go a q
+    step_free a h q = off (slice_get u (next_value cmp (depth (cell_front i u)) u)) refl ∙ go a q
       where
-        off : (o : Option (Option A)) → slice_get u (next_value cmp (depth (keep i u)) u) ≡ o
-            → by_forced (eq_by_cmp cmp) (keep i u) here i a (option_and_then (λ entry. option_map (λ v. record { dim = next_value cmp (depth (keep i u)) u; value = v; target = with_value (keep i u) (next_value cmp (depth (keep i u)) u) v }) entry) o) ≡ by_entry (eq_by_cmp cmp) (keep i u) here i a
+        off : (o : Option (Option A)) → slice_get u (next_value cmp (depth (cell_front i u)) u) ≡ o
+            → by_forced (eq_by_cmp cmp) (cell_front i u) here i a (option_and_then (λ entry. option_map (λ v. record { dim = next_value cmp (depth (cell_front i u)) u; value = v; target = with_value (cell_front i u) (next_value cmp (depth (cell_front i u)) u) v }) entry) o) ≡ by_entry (eq_by_cmp cmp) (cell_front i u) here i a
         off None k = refl
         off (Some None) k = refl
         off (Some (Some w)) k = cond-false _ _ _ (behind_forced h w k)
 
-        go : (a : Option A) → slice_get c i ≡ Some a → by_entry (eq_by_cmp cmp) (keep i u) here i a ≡ front (eq_by_cmp cmp) rows c (suc i)
+        go : (a : Option A) → slice_get c i ≡ Some a → by_entry (eq_by_cmp cmp) (cell_front i u) here i a ≡ closure_front (eq_by_cmp cmp) rows c (suc i)
         go None q = ap (λ x. Some x) (sym (upto-none u i h)) ∙ sym (front_any q)
-        go (Some v) q = at_label (lead (eq_by_cmp cmp) rows (keep i u) i v) refl ∙ sym (front_value v q)
+        go (Some v) q = at_label (target_of_label (eq_by_cmp cmp) rows (cell_front i u) i v) refl ∙ sym (front_value v q)
           where
-            leads : (x : Edge A (Cell A)) → Among x here.edges → x.dim ≡ i → x.value ≡ v → lead (eq_by_cmp cmp) rows (keep i u) i v ≡ Some x.target
-            leads x m d w = ap₂ (lead (eq_by_cmp cmp) rows (keep i u)) (sym d) (sym w) ∙ (label x m).leads
+            leads : (x : Edge A (Cell A)) → Among x here.edges → x.dim ≡ i → x.value ≡ v → target_of_label (eq_by_cmp cmp) rows (cell_front i u) i v ≡ Some x.target
+            leads x m d w = ap₂ (target_of_label (eq_by_cmp cmp) rows (cell_front i u)) (sym d) (sym w) ∙ (label x m).leads
 
-            at_label : (o : Option (Cell A)) → lead (eq_by_cmp cmp) rows (keep i u) i v ≡ o → target_at (eq_by_cmp cmp) i v here.edges ≡ lead (eq_by_cmp cmp) rows (keep i u) i v
+            at_label : (o : Option (Cell A)) → target_of_label (eq_by_cmp cmp) rows (cell_front i u) i v ≡ o → target_at (eq_by_cmp cmp) i v here.edges ≡ target_of_label (eq_by_cmp cmp) rows (cell_front i u) i v
             at_label None k = target_none law i v here.edges (λ x m d w. let bad : None ≡ Some x.target = sym k ∙ leads x m d w in cc) ∙ sym k
             at_label (Some t) k =
                 target_some law i v t here.edges (λ x m d w. some_same (sym (leads x m d w) ∙ k))
-                ((edges-are total anti measures rows (keep i u) u front_closure (keep-depth_keep i u) _).1 (record { place = record { behind = depth-keep-le i u; before = next-chain cmp i u (omega arith); within = within }; leads = k }))
+                ((edges-are total anti measures rows (cell_front i u) u front_closure (cell_front-depth_cell_front i u) _).1 (record { place = record { behind = depth-cell_front-le i u; before = next-chain cmp i u (omega arith); within = within }; leads = k }))
                 ∙ sym k
 
-    pub step : (a : Option A) → slice_get c i ≡ Some a → walk_on (eq_by_cmp cmp) (keep i u) (record_of cmp measures rows (keep i u) u) i a ≡ front (eq_by_cmp cmp) rows c (suc i)
+    pub step : (a : Option A) → slice_get c i ≡ Some a → walk_on (eq_by_cmp cmp) (cell_front i u) (record_of cmp measures rows (cell_front i u) u) i a ≡ closure_front (eq_by_cmp cmp) rows c (suc i)
     unfolding here
     step a q = go (slice_get u i) refl
       where
@@ -171,7 +171,7 @@ module _ {A : Type 0} {cmp : A → A → Ordering} (total : IsTotalOrder cmp) (a
         past (x ∷ u) zero l e = cc
         past (x ∷ u) (suc i) l e = past u i (omega arith) e
 
-        go : (o : Option (Option A)) → slice_get u i ≡ o → walk_on (eq_by_cmp cmp) (keep i u) here i a ≡ front (eq_by_cmp cmp) rows c (suc i)
+        go : (o : Option (Option A)) → slice_get u i ≡ o → walk_on (eq_by_cmp cmp) (cell_front i u) here i a ≡ closure_front (eq_by_cmp cmp) rows c (suc i)
         go None h = absurd (past u i lu h)
         go (Some None) h = step_free a h q
         go (Some (Some w)) h = step_forced w a h q

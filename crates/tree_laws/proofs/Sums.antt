@@ -1,12 +1,13 @@
 -- Lists with the same items, each once, have the same sums.
 use Rattle.std.proofs.Common.{◌≡◌, ◌⊎◌, inl, inr, ℕ, ◌+◌, ◌≤◌, Bool, true, false, cond, Option, Some, None, List, [], ◌∷◌, map, filter, filter_map, length, refl, sym, ap, ap₂, subst, ◌∙◌, arith}
+use Rattle.std.specs.List.Sorted.{IsStrictlySortedBy}
 use Rattle.std.specs.Bool.{⊤}
 use Rattle.std.specs.declared.cmp.Ordering.{Ordering}
 use Rattle.std.specs.Cmp.{IsTotalOrder}
 use Rattle.std.specs.FinMap.{IsAntisymmetric}
 use Rattle.std.specs.List.{sum_by, cons_option}
 use Rattle.std.proofs.lemmas.List.Sums.{sum_by-cons}
-use Rattle.cube_laws.specs.Lists.{Among, Rises}
+use Rattle.cube_laws.specs.Lists.{Among}
 use Rattle.cube_laws.proofs.Lists.{all_at, filter_among, among_map}
 use Rattle.cube_laws.proofs.Distinct.{self_less}
 use Rattle.cube_laws.proofs.Covered.{covered_rises, cell_total, cell_anti}
@@ -53,7 +54,8 @@ module _ {X : Type 0} where
       go true o = (λ k. h.0 (filter_among p x xs k).0, o)
       go false o = o
 
-  pub rises_once : {cmp : X → X → Ordering} → IsTotalOrder cmp → IsAntisymmetric cmp → (xs : List X) → Rises cmp xs → EachOnce xs
+  pub rises_once : {cmp : X → X → Ordering} → IsTotalOrder cmp → IsAntisymmetric cmp → (xs : List X) → IsStrictlySortedBy cmp xs → EachOnce xs
+  unfolding IsStrictlySortedBy
   rises_once total anti [] h = tt
   rises_once {cmp = cmp} total anti (x ∷ xs) h = (λ k. self_less total anti x (all_at (λ y. cmp x y ≡ _) x xs h.0 k), rises_once total anti xs h.1)
 

@@ -8,12 +8,12 @@ use Rattle.std.specs.FinMap.{IsAntisymmetric}
 use Rattle.std.specs.List.{AllByRecursion, count_by, sum_by}
 use Rattle.std.specs.Option.{option_map, option_eq}
 use Rattle.std.proofs.lemmas.List.Sums.{sum_by-cons, length-filter}
-use Rattle.cube_defs.specs.Cell.{Cell, leq, cell_of, cell_eq, depth, one_deeper, keep, with_value}
+use Rattle.cube_defs.specs.Cell.{Cell, leq, cell_of, cell_eq, depth, one_deeper, cell_front, with_value}
 use Rattle.cube_defs.specs.Rows.{Row, covers, closure, is_node}
 use Rattle.cube_defs.specs.Tree.{Edge, Node, node_of, next_value, covered, nodes, tree, tree_edges}
 use Rattle.cube_laws.specs.Lists.{Among}
 use Rattle.cube_laws.proofs.Lists.{among_map, map_among, among_filter, filter_among, all_at}
-use Rattle.cube_laws.proofs.Cells.{IsEquality, leq_trans, leq_refl, cell_eq-exact, cell_eq-same, length-keep, depth-le, keep_zero, keep-depth, depth-keep_zero}
+use Rattle.cube_laws.proofs.Cells.{IsEquality, leq_trans, leq_refl, cell_eq-exact, cell_eq-same, length-cell_front, depth-le, cell_front_zero, cell_front-depth, depth-cell_front_zero}
 use Rattle.cube_laws.proofs.Closures.{closure_idem, is_class-is}
 use Rattle.cube_laws.proofs.Covered.{covered-is, covered_some, closure_length}
 use Rattle.std.specs.Cmp.{both_ways}
@@ -21,10 +21,10 @@ use Rattle.std.proofs.lemmas.List.{length-map}
 use Rattle.cube_laws.proofs.Columns.{one_value, one_value-leq}
 use Rattle.cube_laws.proofs.Nodes.{nodes-is, is_node-is, class_fronts, front_of_class}
 use Rattle.cube_laws.proofs.Orders.{equality_by}
-use Rattle.tree_laws.specs.Labels.{lead, IsLabel, record_of}
+use Rattle.tree_laws.specs.Labels.{target_of_label, IsLabel, record_of}
 use Rattle.tree_laws.specs.Counts.{is_under}
 use Rattle.tree_laws.proofs.Lists.{some_same}
-use Rattle.tree_laws.proofs.Fronts.{depth-keep-le, with_value-there}
+use Rattle.tree_laws.proofs.Fronts.{depth-cell_front-le, with_value-there}
 use Rattle.tree_laws.proofs.Leads.{led_from}
 use Rattle.tree_laws.proofs.EdgesRise.{rising_edges_once}
 use Rattle.tree_laws.proofs.Records.{record_closure, record_rises, record_edges, target_node}
@@ -89,10 +89,10 @@ module _ {A : Type 0} {cmp : A → A → Ordering} (total : IsTotalOrder cmp) (a
   -- a target's last value is its label's
   at_target : (p : Cell A) (e : ℕ) (x : Edge A (Cell A)) → IsLabel cmp rows p e x → (depth x.target ≡ suc x.dim) × (slice_get x.target x.dim ≡ Some (Some x.value))
   at_target p e x l =
-      let f : (w : Cell A) × (closure (eq_by_cmp cmp) rows (with_value p x.dim x.value) ≡ Some w) × (keep (suc x.dim) w ≡ x.target) = led_from law (closure (eq_by_cmp cmp) rows (with_value p x.dim x.value)) x.dim x.target l.leads in
+      let f : (w : Cell A) × (closure (eq_by_cmp cmp) rows (with_value p x.dim x.value) ≡ Some w) × (cell_front (suc x.dim) w ≡ x.target) = led_from law (closure (eq_by_cmp cmp) rows (with_value p x.dim x.value)) x.dim x.target l.leads in
       let one : leq (eq_by_cmp cmp) (one_value x.dim x.value) (with_value p x.dim x.value) ≡ true = (one_value-leq law x.dim x.value (with_value p x.dim x.value)).1 (with_value-there p x.dim x.value l.place.within) in
       let value : slice_get x.target x.dim ≡ Some (Some x.value) = (one_value-leq law x.dim x.value x.target).0 (leq_trans law (one_value x.dim x.value) (with_value p x.dim x.value) x.target one (lead_above law rows p x.dim x.value x.target l.place.behind l.place.within l.leads)) in
-      let low : depth x.target ≤ suc x.dim = subst (λ c. depth c ≤ suc x.dim) f.2 (depth-keep-le (suc x.dim) f.0) in
+      let low : depth x.target ≤ suc x.dim = subst (λ c. depth c ≤ suc x.dim) f.2 (depth-cell_front-le (suc x.dim) f.0) in
       (omega (arith, low, depth-value x.target x.dim x.value value), value)
 
   module _ (p : Cell A) (n : Node A (Cell A)) (node : is_node (eq_by_cmp cmp) rows p ≡ true) (is : node_of cmp 0 rows p ≡ Some n) where
@@ -132,34 +132,34 @@ module _ {A : Type 0} {cmp : A → A → Ordering} (total : IsTotalOrder cmp) (a
         (among_filter (λ c. is_under cmp p (Some c)) x.0.target (nodes cmp rows) ((nodes-is total anti dims rows wide x.0.target).1 (target_node total anti 0 rows p n node is x.0 f.0)) f.1)
 
     -- a child has its edge
-    edge_to : (c : Cell A) → is_node (eq_by_cmp cmp) rows c ≡ true → (i : ℕ) → depth c ≡ suc i → keep i c ≡ p → (x : Edge A (Cell A)) × Among x n.edges × (x.target ≡ c)
+    edge_to : (c : Cell A) → is_node (eq_by_cmp cmp) rows c ≡ true → (i : ℕ) → depth c ≡ suc i → cell_front i c ≡ p → (x : Edge A (Cell A)) × Among x n.edges × (x.target ≡ c)
     edge_to c h i d q =
-        let a : (v : A) × (c ≡ with_value (keep i c) i v) × (slice_get c i ≡ Some (Some v)) × (is_node (eq_by_cmp cmp) rows (keep i c) ≡ true) × (lead (eq_by_cmp cmp) rows (keep i c) i v ≡ Some c) = node_above law rows c i d h in
-        let long : i < length p = omega (arith, ap length q, length-keep i c, depth-le c, d) in
-        let short : depth p ≤ i = subst (λ x. depth x ≤ i) q (depth-keep-le i c) in
+        let a : (v : A) × (c ≡ with_value (cell_front i c) i v) × (slice_get c i ≡ Some (Some v)) × (is_node (eq_by_cmp cmp) rows (cell_front i c) ≡ true) × (target_of_label (eq_by_cmp cmp) rows (cell_front i c) i v ≡ Some c) = node_above law rows c i d h in
+        let long : i < length p = omega (arith, ap length q, length-cell_front i c, depth-le c, d) in
+        let short : depth p ≤ i = subst (λ x. depth x ≤ i) q (depth-cell_front-le i c) in
         let is_c : c ≡ with_value p i a.0 = a.1 ∙ ap (λ x. with_value x i a.0) q in
-        let wide_u : length closed.0 ≡ length p = sym (length-keep (depth p) closed.0) ∙ ap length (front_of_class law rows p closed.0 closed.1 node).1 in
+        let wide_u : length closed.0 ≡ length p = sym (length-cell_front (depth p) closed.0) ∙ ap length (front_of_class law rows p closed.0 closed.1 node).1 in
         let before : i ≤ next_value cmp (depth p) closed.0 = child_before law rows p closed.0 i a.0 closed.1 short long (subst (λ x. is_node (eq_by_cmp cmp) rows x ≡ true) is_c h) cmp wide_u in (
           record { dim = i; value = a.0; target = c },
-          (record_edges total anti 0 rows p n node is closed.0 (record { dim = i; value = a.0; target = c }) closed.1).1 (record { place = record { behind = short; before = before; within = long }; leads = ap (λ x. lead (eq_by_cmp cmp) rows x i a.0) (sym q) ∙ a.4 }),
+          (record_edges total anti 0 rows p n node is closed.0 (record { dim = i; value = a.0; target = c }) closed.1).1 (record { place = record { behind = short; before = before; within = long }; leads = ap (λ x. target_of_label (eq_by_cmp cmp) rows x i a.0) (sym q) ∙ a.4 }),
           refl,
         )
 
-    under_is : (c : Cell A) → is_under cmp p (Some c) ≡ true → (i : ℕ) × (depth c ≡ suc i) × (keep i c ≡ p)
+    under_is : (c : Cell A) → is_under cmp p (Some c) ≡ true → (i : ℕ) × (depth c ≡ suc i) × (cell_front i c ≡ p)
     under_is c h = go (depth c) refl h
       where
-        go : (d : ℕ) → depth c ≡ d → option_eq (cell_eq (eq_by_cmp cmp)) (cond (depth c == 0) None (Some (keep (depth c - 1) c))) (Some p) ≡ true → (i : ℕ) × (depth c ≡ suc i) × (keep i c ≡ p)
-        go zero e k = absurd (true≢false (sym k ∙ ap (λ o. option_eq (cell_eq (eq_by_cmp cmp)) o (Some p)) (cond-true (depth c == 0) None (Some (keep (depth c - 1) c)) (eq-eqb (depth c) 0 e))))
+        go : (d : ℕ) → depth c ≡ d → option_eq (cell_eq (eq_by_cmp cmp)) (cond (depth c == 0) None (Some (cell_front (depth c - 1) c))) (Some p) ≡ true → (i : ℕ) × (depth c ≡ suc i) × (cell_front i c ≡ p)
+        go zero e k = absurd (true≢false (sym k ∙ ap (λ o. option_eq (cell_eq (eq_by_cmp cmp)) o (Some p)) (cond-true (depth c == 0) None (Some (cell_front (depth c - 1) c)) (eq-eqb (depth c) 0 e))))
         go (suc i) e k =
             let apart : (depth c == 0) ≡ false = false_from_ne_true _ (λ t. let z = eqb-true (depth c) 0 t in absurd (omega arith)) in
             let less : depth c - 1 ≡ i = omega arith in
-            (i, e, cell_eq-exact law (keep i c) p (ap (λ j. cell_eq (eq_by_cmp cmp) (keep j c) p) (sym less) ∙ sym (ap (λ o. option_eq (cell_eq (eq_by_cmp cmp)) o (Some p)) (cond-false (depth c == 0) None (Some (keep (depth c - 1) c)) apart)) ∙ k))
+            (i, e, cell_eq-exact law (cell_front i c) p (ap (λ j. cell_eq (eq_by_cmp cmp) (cell_front j c) p) (sym less) ∙ sym (ap (λ o. option_eq (cell_eq (eq_by_cmp cmp)) o (Some p)) (cond-false (depth c == 0) None (Some (cell_front (depth c - 1) c)) apart)) ∙ k))
 
     from_child : (c : Cell A) → Among c children → Among c (map (λ x. x.target) child_edges)
     unfolding child_edges children
     from_child c m =
         let f = filter_among (λ c. is_under cmp p (Some c)) c (nodes cmp rows) m in
-        let d : (i : ℕ) × (depth c ≡ suc i) × (keep i c ≡ p) = under_is c f.1 in
+        let d : (i : ℕ) × (depth c ≡ suc i) × (cell_front i c ≡ p) = under_is c f.1 in
         let x : (x : Edge A (Cell A)) × Among x n.edges × (x.target ≡ c) = edge_to c ((nodes-is total anti dims rows wide c).0 f.0) d.0 d.1 d.2 in
         subst (λ y. Among y (map (λ x. x.target) (filter (λ x. is_under cmp p (Some x.target)) n.edges))) x.2
         (map_among (λ (x : Edge A (Cell A)). x.target) x.0 (filter (λ x. is_under cmp p (Some x.target)) n.edges) (among_filter (λ (y : Edge A (Cell A)). is_under cmp p (Some y.target)) x.0 n.edges x.1 (ap (λ c. is_under cmp p (Some c)) x.2 ∙ f.1)))
@@ -183,7 +183,7 @@ module _ {A : Type 0} {cmp : A → A → Ordering} (total : IsTotalOrder cmp) (a
       node = (nodes-is total anti dims rows wide p).0 m
 
       go : (o : Option (Cell A)) → closure (eq_by_cmp cmp) rows p ≡ o → or_nothing weight (node_of cmp 0 rows p) ≡ sum_by (λ c. cond (is_under cmp p (Some c)) 1 0) (nodes cmp rows)
-      go None e = let bad : None ≡ Some p = sym (ap (option_map (keep (depth p))) e) ∙ (is_node-is law rows p).0 node in cc
+      go None e = let bad : None ≡ Some p = sym (ap (option_map (cell_front (depth p))) e) ∙ (is_node-is law rows p).0 node in cc
       go (Some u) e =
           let is : node_of cmp 0 rows p ≡ Some (record_of cmp 0 rows p u) = ap (option_map (λ u. record_of cmp 0 rows p u)) e in
           ap (or_nothing weight) is ∙ as_many p (record_of cmp 0 rows p u) node is
@@ -192,12 +192,12 @@ module _ {A : Type 0} {cmp : A → A → Ordering} (total : IsTotalOrder cmp) (a
   under_one : (c : Cell A) → Among c (nodes cmp rows) → sum_by (λ p. cond (is_under cmp p (Some c)) 1 0) (nodes cmp rows) ≡ cond (depth c == 0) 0 1
   under_one c m = go (depth c == 0)
     where
-      front : Among (keep (depth c - 1) c) (nodes cmp rows)
-      front = (nodes-is total anti dims rows wide (keep (depth c - 1) c)).1 (node_fronts law rows c (depth c - 1) ((nodes-is total anti dims rows wide c).0 m))
+      front : Among (cell_front (depth c - 1) c) (nodes cmp rows)
+      front = (nodes-is total anti dims rows wide (cell_front (depth c - 1) c)).1 (node_fronts law rows c (depth c - 1) ((nodes-is total anti dims rows wide c).0 m))
 
-      go : (b : Bool) → sum_by (λ p. cond (option_eq (cell_eq (eq_by_cmp cmp)) (cond b None (Some (keep (depth c - 1) c))) (Some p)) 1 0) (nodes cmp rows) ≡ cond b 0 1
+      go : (b : Bool) → sum_by (λ p. cond (option_eq (cell_eq (eq_by_cmp cmp)) (cond b None (Some (cell_front (depth c - 1) c))) (Some p)) 1 0) (nodes cmp rows) ≡ cond b 0 1
       go true = sum_zero (nodes cmp rows)
-      go false = one_hit law (keep (depth c - 1) c) (nodes cmp rows) node_once front
+      go false = one_hit law (cell_front (depth c - 1) c) (nodes cmp rows) node_once front
 
   sum_edges : tree_edges cmp rows ≡ sum_by (λ c. cond (depth c == 0) 0 1) (nodes cmp rows)
   unfolding weight
@@ -210,24 +210,24 @@ module _ {A : Type 0} {cmp : A → A → Ordering} (total : IsTotalOrder cmp) (a
   root_is : (c : Cell A) → Among c (nodes cmp rows) → (depth c == 0) ≡ cell_eq (eq_by_cmp cmp) (replicate dims None) c
   root_is c m = both_ways _ _
       (λ t. subst (λ x. cell_eq (eq_by_cmp cmp) (replicate dims None) x ≡ true) (sym (at_zero (eqb-true (depth c) 0 t))) (cell_eq-same law (replicate dims None)))
-      (λ t. let is : replicate dims None ≡ c = cell_eq-exact law (replicate dims None) c t in eq-eqb (depth c) 0 (ap depth (sym is) ∙ ap depth (sym whole) ∙ depth-keep_zero c))
+      (λ t. let is : replicate dims None ≡ c = cell_eq-exact law (replicate dims None) c t in eq-eqb (depth c) 0 (ap depth (sym is) ∙ ap depth (sym whole) ∙ depth-cell_front_zero c))
     where
       long : length c ≡ dims
       long = let q : (r : Row A) × Among r rows × (length c ≡ length r.tuple) × (covers (eq_by_cmp cmp) c r ≡ true) = (covered-is total anti rows c).0 (filter_among (is_node (eq_by_cmp cmp) rows) c (covered cmp rows) m).0 in
           q.2 ∙ all_at (λ row. length row.tuple ≡ dims) q.0 rows wide q.1
 
-      whole : keep 0 c ≡ replicate dims None
-      whole = keep_zero c ∙ ap (λ n. replicate n None) long
+      whole : cell_front 0 c ≡ replicate dims None
+      whole = cell_front_zero c ∙ ap (λ n. replicate n None) long
 
       at_zero : depth c ≡ 0 → c ≡ replicate dims None
-      at_zero e = sym (keep-depth c) ∙ ap (λ n. keep n c) e ∙ whole
+      at_zero e = sym (cell_front-depth c) ∙ ap (λ n. cell_front n c) e ∙ whole
 
   root_there : (r : Row A) → Among r rows → Among (replicate dims None) (nodes cmp rows)
   root_there r m =
       let z : (z : Cell A) × (closure (eq_by_cmp cmp) rows (cell_of r.tuple) ≡ Some z) = covered_some (eq_by_cmp cmp) rows (cell_of r.tuple) r m (leq_refl law (cell_of r.tuple)) in
-      let node : is_node (eq_by_cmp cmp) rows (keep 0 z.0) ≡ true = class_fronts law rows 0 z.0 ((is_class-is law rows z.0).1 (closure_idem law rows (cell_of r.tuple) z.0 z.1)) in
+      let node : is_node (eq_by_cmp cmp) rows (cell_front 0 z.0) ≡ true = class_fronts law rows 0 z.0 ((is_class-is law rows z.0).1 (closure_idem law rows (cell_of r.tuple) z.0 z.1)) in
       let long : length z.0 ≡ dims = closure_length (eq_by_cmp cmp) dims (cell_of r.tuple) z.0 rows wide z.1 in
-      subst (λ x. Among x (nodes cmp rows)) (keep_zero z.0 ∙ ap (λ n. replicate n None) long) ((nodes-is total anti dims rows wide (keep 0 z.0)).1 node)
+      subst (λ x. Among x (nodes cmp rows)) (cell_front_zero z.0 ∙ ap (λ n. replicate n None) long) ((nodes-is total anti dims rows wide (cell_front 0 z.0)).1 node)
 
   pub one_tree : (r : Row A) → Among r rows → suc (tree_edges cmp rows) ≡ length (nodes cmp rows)
   one_tree r m =

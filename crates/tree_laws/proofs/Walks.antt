@@ -6,18 +6,18 @@ use Rattle.std.specs.Cmp.{IsTotalOrder}
 use Rattle.std.specs.FinMap as map
 use Rattle.std.specs.List.{AllByRecursion}
 use Rattle.std.specs.Option.{option_map, option_and_then}
-use Rattle.cube_defs.specs.Cell.{Cell, depth, keep}
+use Rattle.cube_defs.specs.Cell.{Cell, depth, cell_front}
 use Rattle.cube_defs.specs.Rows.{Row, closure, is_node}
 use Rattle.cube_defs.specs.Tree.{Node, Tree, IsCanonical, node_of, cell_at, renamed}
-use Rattle.cube_laws.proofs.Cells.{IsEquality, keep-leq, keep_zero, depth-le}
+use Rattle.cube_laws.proofs.Cells.{IsEquality, cell_front-leq, cell_front_zero, depth-le}
 use Rattle.cube_laws.proofs.Closures.{closure_some, closure_idem, is_class-is}
 use Rattle.cube_laws.proofs.Covered.{closure_length}
 use Rattle.cube_laws.proofs.Nodes.{is_node-is, class_fronts}
 use Rattle.cube_laws.proofs.Orders.{equality_by}
 use Rattle.tree_laws.specs.Labels.{record_of}
-use Rattle.tree_laws.specs.Walk.{walk_on, walk, front}
+use Rattle.tree_laws.specs.Walk.{walk_on, walk, closure_front}
 use Rattle.tree_laws.proofs.Lists.{some_same}
-use Rattle.tree_laws.proofs.Fronts.{keep-beyond}
+use Rattle.tree_laws.proofs.Fronts.{cell_front-beyond}
 use Rattle.tree_laws.proofs.Steps.{step, front_closure, walk_on-renamed}
 
 module _ {X : Type 0} where
@@ -44,88 +44,88 @@ module _ {A : Type 0} {cmp : A → A → Ordering} (total : IsTotalOrder cmp) (a
       = ap (λ o. option_map (renamed (λ c. Some c)) (option_map (λ u. record_of cmp measures rows n.cell u) o)) e in
       cc
 
-  module _ (k : ℕ) (n : Node A ℕ) (c u : Cell A) (i : ℕ) (g : map.get tree k ≡ Some n) (is : closure (eq_by_cmp cmp) rows (keep i c) ≡ Some u) (cell : n.cell ≡ keep i u) (lc : i < length c) (lu : i < length u) where
-    record_is : renamed (cell_at tree) n ≡ renamed (λ c. Some c) (record_of cmp measures rows (keep i u) u)
+  module _ (k : ℕ) (n : Node A ℕ) (c u : Cell A) (i : ℕ) (g : map.get tree k ≡ Some n) (is : closure (eq_by_cmp cmp) rows (cell_front i c) ≡ Some u) (cell : n.cell ≡ cell_front i u) (lc : i < length c) (lu : i < length u) where
+    record_is : renamed (cell_at tree) n ≡ renamed (λ c. Some c) (record_of cmp measures rows (cell_front i u) u)
     record_is =
         subst (λ p. renamed (cell_at tree) n ≡ renamed (λ c. Some c) (record_of cmp measures rows p u)) cell
         (record_read k n u g (ap (closure (eq_by_cmp cmp) rows) cell ∙ front_closure total anti measures rows c u i is lc lu))
 
-    number_is : cell_at tree k ≡ Some (keep i u)
+    number_is : cell_at tree k ≡ Some (cell_front i u)
     number_is = ap (option_map (λ n. n.cell)) g ∙ ap (λ x. Some x) cell
 
-    stepped : (a : Option A) → slice_get c i ≡ Some a → option_map (cell_at tree) (walk_on (eq_by_cmp cmp) k n i a) ≡ option_map (λ c. Some c) (front (eq_by_cmp cmp) rows c (suc i))
+    stepped : (a : Option A) → slice_get c i ≡ Some a → option_map (cell_at tree) (walk_on (eq_by_cmp cmp) k n i a) ≡ option_map (λ c. Some c) (closure_front (eq_by_cmp cmp) rows c (suc i))
     stepped a q =
         sym (walk_on-renamed law (cell_at tree) k n i a)
         ∙ ap (λ l. walk_on (eq_by_cmp cmp) l (renamed (cell_at tree) n) i a) number_is
-        ∙ ap (λ m. walk_on (eq_by_cmp cmp) (Some (keep i u)) m i a) record_is
-        ∙ walk_on-renamed law (λ c. Some c) (keep i u) (record_of cmp measures rows (keep i u) u) i a
+        ∙ ap (λ m. walk_on (eq_by_cmp cmp) (Some (cell_front i u)) m i a) record_is
+        ∙ walk_on-renamed law (λ c. Some c) (cell_front i u) (record_of cmp measures rows (cell_front i u) u) i a
         ∙ ap (option_map (λ c. Some c)) (step total anti measures rows c u i is lc lu a q)
 
   -- one dimension on: from the front of c's closure to the front that is one longer
-  pub walk_step : (k : ℕ) (n : Node A ℕ) (c : Cell A) (i : ℕ) (a : Option A) → length c ≡ dims → slice_get c i ≡ Some a → i < dims → map.get tree k ≡ Some n → Some n.cell ≡ front (eq_by_cmp cmp) rows c i
-      → option_map (cell_at tree) (walk_on (eq_by_cmp cmp) k n i a) ≡ option_map (λ c. Some c) (front (eq_by_cmp cmp) rows c (suc i))
-  walk_step k n c i a long q l g at = go (closure (eq_by_cmp cmp) rows (keep i c)) refl at
+  pub walk_step : (k : ℕ) (n : Node A ℕ) (c : Cell A) (i : ℕ) (a : Option A) → length c ≡ dims → slice_get c i ≡ Some a → i < dims → map.get tree k ≡ Some n → Some n.cell ≡ closure_front (eq_by_cmp cmp) rows c i
+      → option_map (cell_at tree) (walk_on (eq_by_cmp cmp) k n i a) ≡ option_map (λ c. Some c) (closure_front (eq_by_cmp cmp) rows c (suc i))
+  walk_step k n c i a long q l g at = go (closure (eq_by_cmp cmp) rows (cell_front i c)) refl at
     where
-      go : (o : Option (Cell A)) → closure (eq_by_cmp cmp) rows (keep i c) ≡ o → Some n.cell ≡ option_map (keep i) o → option_map (cell_at tree) (walk_on (eq_by_cmp cmp) k n i a) ≡ option_map (λ c. Some c) (front (eq_by_cmp cmp) rows c (suc i))
+      go : (o : Option (Cell A)) → closure (eq_by_cmp cmp) rows (cell_front i c) ≡ o → Some n.cell ≡ option_map (cell_front i) o → option_map (cell_at tree) (walk_on (eq_by_cmp cmp) k n i a) ≡ option_map (λ c. Some c) (closure_front (eq_by_cmp cmp) rows c (suc i))
       go None is at = cc
-      go (Some u) is at = let wide_u : length u ≡ dims = closure_length (eq_by_cmp cmp) dims (keep i c) u rows wide is in stepped k n c u i g is (some_same at) (omega arith) (omega arith) a q
+      go (Some u) is at = let wide_u : length u ≡ dims = closure_length (eq_by_cmp cmp) dims (cell_front i c) u rows wide is in stepped k n c u i g is (some_same at) (omega arith) (omega arith) a q
 
   -- at the end the front is all
-  walk_end : (c : Cell A) (i : ℕ) → length c ≡ dims → dims ≤ i → front (eq_by_cmp cmp) rows c i ≡ closure (eq_by_cmp cmp) rows c
-  walk_end c i long l = ap (λ d. option_map (keep i) (closure (eq_by_cmp cmp) rows d)) (keep-beyond i c (omega (arith, depth-le c))) ∙ go (closure (eq_by_cmp cmp) rows c) refl
+  walk_end : (c : Cell A) (i : ℕ) → length c ≡ dims → dims ≤ i → closure_front (eq_by_cmp cmp) rows c i ≡ closure (eq_by_cmp cmp) rows c
+  walk_end c i long l = ap (λ d. option_map (cell_front i) (closure (eq_by_cmp cmp) rows d)) (cell_front-beyond i c (omega (arith, depth-le c))) ∙ go (closure (eq_by_cmp cmp) rows c) refl
     where
-      go : (o : Option (Cell A)) → closure (eq_by_cmp cmp) rows c ≡ o → option_map (keep i) o ≡ o
+      go : (o : Option (Cell A)) → closure (eq_by_cmp cmp) rows c ≡ o → option_map (cell_front i) o ≡ o
       go None e = refl
-      go (Some u) e = let wide_u : length u ≡ dims = closure_length (eq_by_cmp cmp) dims c u rows wide e in ap (λ x. Some x) (keep-beyond i u (omega (arith, depth-le u)))
+      go (Some u) e = let wide_u : length u ≡ dims = closure_length (eq_by_cmp cmp) dims c u rows wide e in ap (λ x. Some x) (cell_front-beyond i u (omega (arith, depth-le u)))
 
   -- where a front covers nothing, the cell covers nothing
-  walk_stops : (c : Cell A) (i : ℕ) → front (eq_by_cmp cmp) rows c i ≡ None → closure (eq_by_cmp cmp) rows c ≡ None
+  walk_stops : (c : Cell A) (i : ℕ) → closure_front (eq_by_cmp cmp) rows c i ≡ None → closure (eq_by_cmp cmp) rows c ≡ None
   walk_stops c i e = go (closure (eq_by_cmp cmp) rows c) refl
     where
       go : (o : Option (Cell A)) → closure (eq_by_cmp cmp) rows c ≡ o → closure (eq_by_cmp cmp) rows c ≡ None
       go None q = q
-      go (Some u) q = let r : (w : Cell A) × (closure (eq_by_cmp cmp) rows (keep i c) ≡ Some w) = closure_some law rows (keep i c) c u (keep-leq law i c) q in
-          let s : front (eq_by_cmp cmp) rows c i ≡ Some (keep i r.0) = ap (option_map (keep i)) r.1 in
+      go (Some u) q = let r : (w : Cell A) × (closure (eq_by_cmp cmp) rows (cell_front i c) ≡ Some w) = closure_some law rows (cell_front i c) c u (cell_front-leq law i c) q in
+          let s : closure_front (eq_by_cmp cmp) rows c i ≡ Some (cell_front i r.0) = ap (option_map (cell_front i)) r.1 in
           cc
 
   -- from the front that is i dimensions long to the closure
-  walk_rest : (s c : Cell A) (i k : ℕ) (p : Cell A) → length c ≡ dims → drop i c ≡ s → cell_at tree k ≡ Some p → front (eq_by_cmp cmp) rows c i ≡ Some p → option_map (cell_at tree) (walk (eq_by_cmp cmp) tree s k i) ≡ option_map (λ u. Some u) (closure (eq_by_cmp cmp) rows c)
+  walk_rest : (s c : Cell A) (i k : ℕ) (p : Cell A) → length c ≡ dims → drop i c ≡ s → cell_at tree k ≡ Some p → closure_front (eq_by_cmp cmp) rows c i ≡ Some p → option_map (cell_at tree) (walk (eq_by_cmp cmp) tree s k i) ≡ option_map (λ u. Some u) (closure (eq_by_cmp cmp) rows c)
   walk_rest [] c i k p long d at f = ap (λ x. Some x) at ∙ ap (option_map (λ u. Some u)) (sym f ∙ walk_end c i long (omega (arith, drop_end c i d, long)))
   walk_rest (a ∷ s) c i k p long d at f = found (λ l x e q h. walk_rest s c (suc i) l x long e q h) (map.get tree k) refl at
     where
-      found : ((l : ℕ) (x : Cell A) → drop (suc i) c ≡ s → cell_at tree l ≡ Some x → front (eq_by_cmp cmp) rows c (suc i) ≡ Some x → option_map (cell_at tree) (walk (eq_by_cmp cmp) tree s l (suc i)) ≡ option_map (λ u. Some u) (closure (eq_by_cmp cmp) rows c))
+      found : ((l : ℕ) (x : Cell A) → drop (suc i) c ≡ s → cell_at tree l ≡ Some x → closure_front (eq_by_cmp cmp) rows c (suc i) ≡ Some x → option_map (cell_at tree) (walk (eq_by_cmp cmp) tree s l (suc i)) ≡ option_map (λ u. Some u) (closure (eq_by_cmp cmp) rows c))
           → (r : Option (Node A ℕ)) → map.get tree k ≡ r → option_map (λ n. n.cell) r ≡ Some p → option_map (cell_at tree) (option_and_then (λ n. option_and_then (λ l. walk (eq_by_cmp cmp) tree s l (suc i)) (walk_on (eq_by_cmp cmp) k n i a)) r) ≡ option_map (λ u. Some u) (closure (eq_by_cmp cmp) rows c)
       found more None g at = cc
-      found more (Some n) g at = go (walk_on (eq_by_cmp cmp) k n i a) (front (eq_by_cmp cmp) rows c (suc i)) refl refl (walk_step k n c i a long e.0 (omega (arith, e.2, long)) g (at ∙ sym f))
+      found more (Some n) g at = go (walk_on (eq_by_cmp cmp) k n i a) (closure_front (eq_by_cmp cmp) rows c (suc i)) refl refl (walk_step k n c i a long e.0 (omega (arith, e.2, long)) g (at ∙ sym f))
         where
           e : (slice_get c i ≡ Some a) × (drop (suc i) c ≡ s) × (i < length c)
           e = dropped c i a s d
 
-          go : (o : Option ℕ) (q : Option (Cell A)) → walk_on (eq_by_cmp cmp) k n i a ≡ o → front (eq_by_cmp cmp) rows c (suc i) ≡ q → option_map (cell_at tree) o ≡ option_map (λ c. Some c) q → option_map (cell_at tree) (option_and_then (λ l. walk (eq_by_cmp cmp) tree s l (suc i)) o) ≡ option_map (λ u. Some u) (closure (eq_by_cmp cmp) rows c)
+          go : (o : Option ℕ) (q : Option (Cell A)) → walk_on (eq_by_cmp cmp) k n i a ≡ o → closure_front (eq_by_cmp cmp) rows c (suc i) ≡ q → option_map (cell_at tree) o ≡ option_map (λ c. Some c) q → option_map (cell_at tree) (option_and_then (λ l. walk (eq_by_cmp cmp) tree s l (suc i)) o) ≡ option_map (λ u. Some u) (closure (eq_by_cmp cmp) rows c)
           go None None w h j = ap (option_map (λ u. Some u)) (sym (walk_stops c (suc i) h))
           go None (Some x) w h j = cc
           go (Some l) None w h j = cc
           go (Some l) (Some x) w h j = more l x e.1 (some_same j) h
 
-  root : (c : Cell A) → length c ≡ dims → keep 0 c ≡ replicate dims None
-  root c long = keep_zero c ∙ ap (λ m. replicate m None) long
+  root : (c : Cell A) → length c ≡ dims → cell_front 0 c ≡ replicate dims None
+  root c long = cell_front_zero c ∙ ap (λ m. replicate m None) long
 
-  root_front : (c : Cell A) → length c ≡ dims → (u : Cell A) → closure (eq_by_cmp cmp) rows (keep 0 c) ≡ Some u → front (eq_by_cmp cmp) rows c 0 ≡ Some (replicate dims None)
-  root_front c long u e = ap (option_map (keep 0)) e ∙ ap (λ x. Some x) (root u (closure_length (eq_by_cmp cmp) dims (keep 0 c) u rows wide e))
+  root_front : (c : Cell A) → length c ≡ dims → (u : Cell A) → closure (eq_by_cmp cmp) rows (cell_front 0 c) ≡ Some u → closure_front (eq_by_cmp cmp) rows c 0 ≡ Some (replicate dims None)
+  root_front c long u e = ap (option_map (cell_front 0)) e ∙ ap (λ x. Some x) (root u (closure_length (eq_by_cmp cmp) dims (cell_front 0 c) u rows wide e))
 
   -- from the root's number
   pub walk_found : (k : ℕ) (c : Cell A) → length c ≡ dims → cell_at tree k ≡ Some (replicate dims None) → option_map (cell_at tree) (walk (eq_by_cmp cmp) tree c k 0) ≡ option_map (λ u. Some u) (closure (eq_by_cmp cmp) rows c)
-  walk_found k c long at = go (closure (eq_by_cmp cmp) rows (keep 0 c)) refl
+  walk_found k c long at = go (closure (eq_by_cmp cmp) rows (cell_front 0 c)) refl
     where
-      node : is_node (eq_by_cmp cmp) rows (keep 0 c) ≡ true
+      node : is_node (eq_by_cmp cmp) rows (cell_front 0 c) ≡ true
       node = by (map.get tree k) refl
         where
-          by : (r : Option (Node A ℕ)) → map.get tree k ≡ r → is_node (eq_by_cmp cmp) rows (keep 0 c) ≡ true
+          by : (r : Option (Node A ℕ)) → map.get tree k ≡ r → is_node (eq_by_cmp cmp) rows (cell_front 0 c) ≡ true
           by None g = let none : cell_at tree k ≡ None = ap (option_map (λ n. n.cell)) g in cc
           by (Some n) g = let s : cell_at tree k ≡ Some n.cell = ap (option_map (λ n. n.cell)) g in subst (λ p. is_node (eq_by_cmp cmp) rows p ≡ true) (some_same (sym s ∙ at) ∙ sym (root c long)) (canonical.each k n g).0
 
-      go : (o : Option (Cell A)) → closure (eq_by_cmp cmp) rows (keep 0 c) ≡ o → option_map (cell_at tree) (walk (eq_by_cmp cmp) tree c k 0) ≡ option_map (λ u. Some u) (closure (eq_by_cmp cmp) rows c)
-      go None e = let bad : None ≡ Some (keep 0 c) = sym (ap (option_map (keep (depth (keep 0 c)))) e) ∙ (is_node-is law rows (keep 0 c)).0 node in cc
+      go : (o : Option (Cell A)) → closure (eq_by_cmp cmp) rows (cell_front 0 c) ≡ o → option_map (cell_at tree) (walk (eq_by_cmp cmp) tree c k 0) ≡ option_map (λ u. Some u) (closure (eq_by_cmp cmp) rows c)
+      go None e = let bad : None ≡ Some (cell_front 0 c) = sym (ap (option_map (cell_front (depth (cell_front 0 c)))) e) ∙ (is_node-is law rows (cell_front 0 c)).0 node in cc
       go (Some u) e = walk_rest c c 0 k (replicate dims None) long refl at (root_front c long u e)
 
   -- without a root nothing is covered
@@ -136,6 +136,6 @@ module _ {A : Type 0} {cmp : A → A → Ordering} (total : IsTotalOrder cmp) (a
       go None q = q
       go (Some u) q =
           let wide_u : length u ≡ dims = closure_length (eq_by_cmp cmp) dims c u rows wide q in
-          let node : is_node (eq_by_cmp cmp) rows (keep 0 u) ≡ true = class_fronts law rows 0 u ((is_class-is law rows u).1 (closure_idem law rows c u q)) in
-          let r : (k : ℕ) × (cell_at tree k ≡ Some (keep 0 u)) = canonical.all (keep 0 u) node in
+          let node : is_node (eq_by_cmp cmp) rows (cell_front 0 u) ≡ true = class_fronts law rows 0 u ((is_class-is law rows u).1 (closure_idem law rows c u q)) in
+          let r : (k : ℕ) × (cell_at tree k ≡ Some (cell_front 0 u)) = canonical.all (cell_front 0 u) node in
           absurd (none r.0 (r.1 ∙ ap (λ x. Some x) (root u wide_u)))

@@ -8,13 +8,13 @@ use Rattle.cube_defs.specs.Rows.{Row, closure}
 use Rattle.cube_defs.specs.Tree.{Edge, Node, node_with, next_value}
 
 -- the closure of p with the value v in dimension i, cut behind i, where p + (i, v) covers a row
-abbrev pub lead : {A : Type 0} → (A → A → Bool) → List (Row A) → Cell A → ℕ → A → Option (Cell A)
-lead eq rows p i v = option_map (λ u. upto u i) (closure eq rows (with_value p i v))
+abbrev pub target_of_label : {A : Type 0} → (A → A → Bool) → List (Row A) → Cell A → ℕ → A → Option (Cell A)
+target_of_label eq rows p i v = option_map (λ u. upto u i) (closure eq rows (with_value p i v))
 
 -- where a label with the value of a row that comes leads, whose tuple is t: from where it led, if it did
-abbrev pub moved : {A : Type 0} → (A → A → Bool) → Option (Cell A) → Cell A → ℕ → Cell A
-moved eq None t i = upto t i
-moved eq (Some c) t i = meet eq c t
+abbrev pub target_after_row : {A : Type 0} → (A → A → Bool) → Option (Cell A) → Cell A → ℕ → Cell A
+target_after_row eq None t i = upto t i
+target_after_row eq (Some c) t i = meet eq c t
 
 -- the dimensions of the edges of p's record, which reaches up to the dimension e
 pub record IsWithin {A : Type 0} (p : Cell A) (e : ℕ) (i : ℕ) : Type 0 where
@@ -25,7 +25,7 @@ pub record IsWithin {A : Type 0} (p : Cell A) (e : ℕ) (i : ℕ) : Type 0 where
 -- an edge of p's record
 pub record IsLabel {A : Type 0} (cmp : A → A → Ordering) (rows : List (Row A)) (p : Cell A) (e : ℕ) (x : Edge A (Cell A)) : Type 0 where
   pub place : IsWithin p e x.dim
-  pub leads : lead (eq_by_cmp cmp) rows p x.dim x.value ≡ Some x.target
+  pub leads : target_of_label (eq_by_cmp cmp) rows p x.dim x.value ≡ Some x.target
 
 -- the record of the node p, whose closure is u
 abbrev pub record_of : {A : Type 0} → (A → A → Ordering) → ℕ → List (Row A) → Cell A → Cell A → Node A (Cell A)

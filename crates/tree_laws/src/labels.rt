@@ -1,13 +1,14 @@
 //! Where the labels of a node lead. Nodes, tree edges and links are those of Lakshmanan, Pei, Zhao,
 //! SIGMOD 2003; which links are kept is this project's own.
 ghost use Rattle.std.specs.Prelude.{IsTrue, List, Some, length, slice_get, suc, ℕ, ◌<◌, ◌≤◌, ◌↔◌, ◌≡◌};
+ghost use Rattle.std.specs.List.Sorted.{IsStrictlySortedBy};
 ghost use Rattle.std.specs.Ordering.{eq_by_cmp};
-ghost use Rattle.cube_defs.specs.Cell.{Cell, depth, keep, leq, with_value};
+ghost use Rattle.cube_defs.specs.Cell.{Cell, depth, cell_front, leq, with_value};
 ghost use Rattle.cube_defs.specs.Rows.{Row, closure, is_node};
 ghost use Rattle.cube_defs.specs.Tree.{Edge, Node, next_value, node_of};
-ghost use Rattle.cube_laws.specs.Lists.{Among, Rises};
+ghost use Rattle.cube_laws.specs.Lists.{Among};
 ghost use Rattle.tree_laws.specs.Edges.{edge_cmp};
-ghost use Rattle.tree_laws.specs.Labels.{IsLabel, lead};
+ghost use Rattle.tree_laws.specs.Labels.{IsLabel, target_of_label};
 
 use cube_laws::values::Value;
 
@@ -23,25 +24,25 @@ pub fn edges_are_the_labels_that_lead_somewhere<V: Value>()
 /// The edges of a record rise by dimension and then by value, so no label stands twice.
 pub fn edges_are_in_order<V: Value>()
     ensures { (measures : ℕ) (rows : List (Row V)) (p : Cell V) (n : Node V (Cell V)) →
-        node_of V.cmp measures rows p ≡ Some n → Rises (edge_cmp V.cmp) n.edges }
+        node_of V.cmp measures rows p ≡ Some n → IsStrictlySortedBy (edge_cmp V.cmp) n.edges }
 {}
 
 /// A label leads to a node that has the node's values and the label's.
 pub fn labels_lead_to_nodes_above<V: Value>()
     ensures node { (rows : List (Row V)) (p c : Cell V) (i : ℕ) (v : V) →
-        lead (eq_by_cmp V.cmp) rows p i v ≡ Some c → IsTrue (is_node (eq_by_cmp V.cmp) rows c) }
+        target_of_label (eq_by_cmp V.cmp) rows p i v ≡ Some c → IsTrue (is_node (eq_by_cmp V.cmp) rows c) }
     ensures above { (rows : List (Row V)) (p c : Cell V) (i : ℕ) (v : V) → depth p ≤ i → i < length p →
-        lead (eq_by_cmp V.cmp) rows p i v ≡ Some c → IsTrue (leq (eq_by_cmp V.cmp) (with_value p i v) c) }
+        target_of_label (eq_by_cmp V.cmp) rows p i v ≡ Some c → IsTrue (leq (eq_by_cmp V.cmp) (with_value p i v) c) }
 {}
 
 /// Each front of a node is a node, and each node but the root is led to by the label of its last value
 /// from the node without it.
 pub fn nodes_hang_together<V: Value>()
     ensures fronts { (rows : List (Row V)) (p : Cell V) (k : ℕ) →
-        IsTrue (is_node (eq_by_cmp V.cmp) rows p) → IsTrue (is_node (eq_by_cmp V.cmp) rows (keep k p)) }
+        IsTrue (is_node (eq_by_cmp V.cmp) rows p) → IsTrue (is_node (eq_by_cmp V.cmp) rows (cell_front k p)) }
     ensures led_to { (rows : List (Row V)) (p : Cell V) (i : ℕ) →
         depth p ≡ suc i → IsTrue (is_node (eq_by_cmp V.cmp) rows p) →
-        (v : V) × (p ≡ with_value (keep i p) i v) × (lead (eq_by_cmp V.cmp) rows (keep i p) i v ≡ Some p) }
+        (v : V) × (p ≡ with_value (cell_front i p) i v) × (target_of_label (eq_by_cmp V.cmp) rows (cell_front i p) i v ≡ Some p) }
 {}
 
 /// A node with a value more is a node just where that label leads to it. It lies in the dimension of
@@ -49,7 +50,7 @@ pub fn nodes_hang_together<V: Value>()
 pub fn children_of_a_node<V: Value>()
     ensures led_to { (rows : List (Row V)) (p : Cell V) (i : ℕ) (v : V) → depth p ≤ i → i < length p →
         IsTrue (is_node (eq_by_cmp V.cmp) rows (with_value p i v))
-        ↔ (lead (eq_by_cmp V.cmp) rows p i v ≡ Some (with_value p i v)) }
+        ↔ (target_of_label (eq_by_cmp V.cmp) rows p i v ≡ Some (with_value p i v)) }
     ensures before { (rows : List (Row V)) (p u : Cell V) (i : ℕ) (v : V) →
         IsTrue (is_node (eq_by_cmp V.cmp) rows p) → closure (eq_by_cmp V.cmp) rows p ≡ Some u →
         depth p ≤ i → i < length p → IsTrue (is_node (eq_by_cmp V.cmp) rows (with_value p i v)) →

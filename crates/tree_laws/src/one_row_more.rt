@@ -3,11 +3,11 @@
 ghost use Rattle.std.specs.Option.{option_map};
 ghost use Rattle.std.specs.Ordering.{eq_by_cmp};
 ghost use Rattle.std.specs.Prelude.{IsTrue, List, None, Some, length, min, slice_get, ℕ, ◌++◌, ◌<◌, ◌≤◌, ◌↔◌, ◌∷◌, ◌≡◌, ◌≢◌};
-ghost use Rattle.cube_defs.specs.Cell.{Cell, cell_of, depth, keep, leq, meet, upto};
+ghost use Rattle.cube_defs.specs.Cell.{Cell, cell_of, depth, cell_front, leq, meet, upto};
 ghost use Rattle.cube_defs.specs.Rows.{Row, closure, covers, is_node};
 ghost use Rattle.cube_defs.specs.Tree.{Edge, next_value};
 ghost use Rattle.cube_laws.specs.Lists.{Among};
-ghost use Rattle.tree_laws.specs.Labels.{IsWithin, first_new, lead, moved, record_of};
+ghost use Rattle.tree_laws.specs.Labels.{IsWithin, first_new, target_of_label, target_after_row, record_of};
 
 use cube_laws::values::Value;
 
@@ -16,11 +16,11 @@ use cube_laws::values::Value;
 pub fn labels_with_one_row_more<V: Value>()
     ensures other { (xs ys : List (Row V)) (r : Row V) (p : Cell V) (i : ℕ) (v : V) → IsTrue (covers (eq_by_cmp V.cmp) p r) →
         depth p ≤ i → i < length p → slice_get r.tuple i ≢ Some v →
-        lead (eq_by_cmp V.cmp) (xs ++ r ∷ ys) p i v ≡ lead (eq_by_cmp V.cmp) (xs ++ ys) p i v }
+        target_of_label (eq_by_cmp V.cmp) (xs ++ r ∷ ys) p i v ≡ target_of_label (eq_by_cmp V.cmp) (xs ++ ys) p i v }
     ensures own { (xs ys : List (Row V)) (r : Row V) (p : Cell V) (i : ℕ) (v : V) → IsTrue (covers (eq_by_cmp V.cmp) p r) →
         depth p ≤ i → i < length p → slice_get r.tuple i ≡ Some v →
-        lead (eq_by_cmp V.cmp) (xs ++ r ∷ ys) p i v
-        ≡ Some (moved (eq_by_cmp V.cmp) (lead (eq_by_cmp V.cmp) (xs ++ ys) p i v) (cell_of r.tuple) i) }
+        target_of_label (eq_by_cmp V.cmp) (xs ++ r ∷ ys) p i v
+        ≡ Some (target_after_row (eq_by_cmp V.cmp) (target_of_label (eq_by_cmp V.cmp) (xs ++ ys) p i v) (cell_of r.tuple) i) }
 {}
 
 /// The labels of a node in a dimension behind its record's are those of the node that its closure has
@@ -28,15 +28,15 @@ pub fn labels_with_one_row_more<V: Value>()
 pub fn labels_along_the_closure<V: Value>()
     ensures same { (rows : List (Row V)) (p u : Cell V) (i : ℕ) (v : V) → closure (eq_by_cmp V.cmp) rows p ≡ Some u →
         depth p ≤ i → i < length p → i < length u →
-        lead (eq_by_cmp V.cmp) rows p i v ≡ lead (eq_by_cmp V.cmp) rows (keep i u) i v }
+        target_of_label (eq_by_cmp V.cmp) rows p i v ≡ target_of_label (eq_by_cmp V.cmp) rows (cell_front i u) i v }
     ensures record { (measures : ℕ) (rows : List (Row V)) (p u : Cell V) (x : Edge V (Cell V)) →
         closure (eq_by_cmp V.cmp) rows p ≡ Some u → depth p ≤ x.dim → x.dim < length u →
-        Among x (record_of V.cmp measures rows (keep x.dim u) u).edges
-        ↔ (lead (eq_by_cmp V.cmp) rows (keep x.dim u) x.dim x.value ≡ Some x.target) }
+        Among x (record_of V.cmp measures rows (cell_front x.dim u) u).edges
+        ↔ (target_of_label (eq_by_cmp V.cmp) rows (cell_front x.dim u) x.dim x.value ≡ Some x.target) }
     ensures own { (xs ys : List (Row V)) (r : Row V) (p u : Cell V) (i : ℕ) → closure (eq_by_cmp V.cmp) (xs ++ ys) p ≡ Some u →
-        keep (depth p) (meet (eq_by_cmp V.cmp) u (cell_of r.tuple)) ≡ p →
+        cell_front (depth p) (meet (eq_by_cmp V.cmp) u (cell_of r.tuple)) ≡ p →
         depth p ≤ i → i ≤ next_value V.cmp (depth p) (meet (eq_by_cmp V.cmp) u (cell_of r.tuple)) →
-        IsTrue (covers (eq_by_cmp V.cmp) (keep i u) r) → keep i u ≡ p }
+        IsTrue (covers (eq_by_cmp V.cmp) (cell_front i u) r) → cell_front i u ≡ p }
 {}
 
 /// The edges of a node's record after a row has come, by the records before: with another value than the
@@ -49,24 +49,25 @@ pub fn edges_with_one_row_more<V: Value>()
         slice_get r.tuple x.dim ≢ Some x.value →
         let w = meet (eq_by_cmp V.cmp) u (cell_of r.tuple) in
         Among x (record_of V.cmp measures (xs ++ r ∷ ys) p w).edges
-        ↔ (IsWithin p (next_value V.cmp (depth p) w) x.dim × Among x (record_of V.cmp measures (xs ++ ys) (keep x.dim u) u).edges) }
+        ↔ (IsWithin p (next_value V.cmp (depth p) w) x.dim × Among x (record_of V.cmp measures (xs ++ ys) (cell_front x.dim u) u).edges) }
     ensures own { (measures : ℕ) (xs ys : List (Row V)) (r : Row V) (p u : Cell V) (x : Edge V (Cell V)) →
         IsTrue (covers (eq_by_cmp V.cmp) p r) → closure (eq_by_cmp V.cmp) (xs ++ ys) p ≡ Some u →
         IsTrue (is_node (eq_by_cmp V.cmp) (xs ++ r ∷ ys) p) → length p ≡ length u →
         slice_get r.tuple x.dim ≡ Some x.value →
         let w = meet (eq_by_cmp V.cmp) u (cell_of r.tuple) in
         Among x (record_of V.cmp measures (xs ++ r ∷ ys) p w).edges
-        ↔ (IsWithin p (next_value V.cmp (depth p) w) x.dim × (moved (eq_by_cmp V.cmp) (lead (eq_by_cmp V.cmp) (xs ++ ys) (keep x.dim u) x.dim x.value) (cell_of r.tuple) x.dim ≡ x.target)) }
+        ↔ (IsWithin p (next_value V.cmp (depth p) w) x.dim × (target_after_row (eq_by_cmp V.cmp)
+        (target_of_label (eq_by_cmp V.cmp) (xs ++ ys) (cell_front x.dim u) x.dim x.value) (cell_of r.tuple) x.dim ≡ x.target)) }
 {}
 
 /// After a row has gone, a label leads to the front of the closure that its old target has now, where
 /// it covers a row still, and a label that led nowhere leads nowhere.
 pub fn labels_with_one_row_less<V: Value>()
     ensures leads { (xs ys : List (Row V)) (r : Row V) (p c : Cell V) (i : ℕ) (v : V) → depth p ≤ i → i < length p →
-        lead (eq_by_cmp V.cmp) (xs ++ r ∷ ys) p i v ≡ Some c →
-        lead (eq_by_cmp V.cmp) (xs ++ ys) p i v ≡ option_map (λ u. upto u i) (closure (eq_by_cmp V.cmp) (xs ++ ys) c) }
+        target_of_label (eq_by_cmp V.cmp) (xs ++ r ∷ ys) p i v ≡ Some c →
+        target_of_label (eq_by_cmp V.cmp) (xs ++ ys) p i v ≡ option_map (λ u. upto u i) (closure (eq_by_cmp V.cmp) (xs ++ ys) c) }
     ensures none { (xs ys : List (Row V)) (r : Row V) (p : Cell V) (i : ℕ) (v : V) →
-        lead (eq_by_cmp V.cmp) (xs ++ r ∷ ys) p i v ≡ None → lead (eq_by_cmp V.cmp) (xs ++ ys) p i v ≡ None }
+        target_of_label (eq_by_cmp V.cmp) (xs ++ r ∷ ys) p i v ≡ None → target_of_label (eq_by_cmp V.cmp) (xs ++ ys) p i v ≡ None }
 {}
 
 /// The edges of a node's record after a row that it covers has gone, by its record before: those with
@@ -97,11 +98,11 @@ pub fn edges_with_one_row_less<V: Value>()
 pub fn nodes_with_one_row_more<V: Value>()
     ensures alone { (xs ys : List (Row V)) (r : Row V) (p : Cell V) → IsTrue (covers (eq_by_cmp V.cmp) p r) →
         closure (eq_by_cmp V.cmp) (xs ++ ys) p ≡ None →
-        IsTrue (is_node (eq_by_cmp V.cmp) (xs ++ r ∷ ys) p) ↔ (keep (depth p) (cell_of r.tuple) ≡ p) }
+        IsTrue (is_node (eq_by_cmp V.cmp) (xs ++ r ∷ ys) p) ↔ (cell_front (depth p) (cell_of r.tuple) ≡ p) }
     ensures with_others { (xs ys : List (Row V)) (r : Row V) (p u : Cell V) → IsTrue (covers (eq_by_cmp V.cmp) p r) →
         closure (eq_by_cmp V.cmp) (xs ++ ys) p ≡ Some u →
         IsTrue (is_node (eq_by_cmp V.cmp) (xs ++ r ∷ ys) p)
-        ↔ (keep (depth p) (meet (eq_by_cmp V.cmp) u (cell_of r.tuple)) ≡ p) }
+        ↔ (cell_front (depth p) (meet (eq_by_cmp V.cmp) u (cell_of r.tuple)) ≡ p) }
 {}
 
 /// A node whose closure grows as rows go stays a node just where the first value that the closure

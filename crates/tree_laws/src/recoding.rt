@@ -8,7 +8,7 @@ ghost use Rattle.cube_defs.specs.Answers.{lower_bounds};
 ghost use Rattle.cube_defs.specs.Cell.{Cell};
 ghost use Rattle.cube_defs.specs.Rows.{Row, is_node};
 ghost use Rattle.cube_defs.specs.Tree.{Node, classes, links, node_of, nodes, tree_edges};
-ghost use Rattle.cube_laws.specs.Recoding.{AreKnown, RowsAreKnown, TellsApart, coded, coded_row};
+ghost use Rattle.cube_laws.specs.Recoding.{AreKnown, RowsAreKnown, TellsApart, coded_cell, coded_row};
 ghost use Rattle.tree_laws.specs.Edges.{IsCodedNode};
 
 use cube_laws::values::Value;
@@ -20,7 +20,7 @@ pub fn records_under_recoding<A: Value, B: Value>()
         (measures : ℕ) (rows : List (Row A)) (p : Cell A) (n : Node A (Cell A)) →
         RowsAreKnown known rows → IsTrue (is_node (eq_by_cmp A.cmp) rows p) →
         node_of A.cmp measures rows p ≡ Some n →
-        (m : Node B (Cell B)) × (node_of B.cmp measures (map (coded_row codes) rows) (coded codes 0 p) ≡ Some m) × IsCodedNode codes n m }
+        (m : Node B (Cell B)) × (node_of B.cmp measures (map (coded_row codes) rows) (coded_cell codes 0 p) ≡ Some m) × IsCodedNode codes n m }
 {}
 
 /// Coded rows have as many classes, nodes, tree edges and links as the rows.
@@ -45,6 +45,6 @@ pub fn lower_bounds_under_recoding<A: Value, B: Value>()
     ensures { (known : ℕ → A → Bool) (codes : ℕ → A → B) → TellsApart known codes →
         (dims : ℕ) (rows : List (Row A)) (u : Cell A) → RowsAreKnown known rows →
         AllByRecursion (λ row. length row.tuple ≡ dims) rows → AreKnown known 0 u → length u ≡ dims →
-        lower_bounds B.cmp (map (coded_row codes) rows) (coded codes 0 u)
-        ≡ map (coded codes 0) (lower_bounds A.cmp rows u) }
+        lower_bounds B.cmp (map (coded_row codes) rows) (coded_cell codes 0 u)
+        ≡ map (coded_cell codes 0) (lower_bounds A.cmp rows u) }
 {}

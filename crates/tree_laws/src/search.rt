@@ -8,12 +8,12 @@ ghost use Rattle.std.specs.Option.{option_map};
 ghost use Rattle.std.specs.Ordering.{eq_by_cmp};
 ghost use Rattle.std.specs.Prelude.{IsTrue, List, None, Option, Some, filter, length, replicate, slice_get, suc, ℕ, ◌<◌, ◌↔◌, ◌≡◌, ◌≢◌};
 ghost use Rattle.cube_defs.specs.Answers.{lower_bounds};
-ghost use Rattle.cube_defs.specs.Cell.{Cell, depth, keep, leq};
+ghost use Rattle.cube_defs.specs.Cell.{Cell, depth, cell_front, leq};
 ghost use Rattle.cube_defs.specs.Rows.{Row, agg, closure, is_lower_bound};
 ghost use Rattle.cube_defs.specs.Tree.{IsCanonical, Node, Tree, cell_at};
 ghost use Rattle.cube_laws.specs.Lists.{Among};
 ghost use Rattle.tree_laws.specs.Below.{below};
-ghost use Rattle.tree_laws.specs.Walk.{climb, front, walk, walk_on};
+ghost use Rattle.tree_laws.specs.Walk.{climb, closure_front, walk, walk_on};
 
 use cube_laws::values::Value;
 
@@ -37,9 +37,9 @@ pub fn one_dimension_of_a_search<V: Value>()
     ensures { (dims measures : ℕ) (rows : List (Row V)) (tree : Tree V) (k : ℕ) (n : Node V ℕ) (c : Cell V) (i : ℕ) (a : Option V) →
         AllByRecursion (λ row. length row.tuple ≡ dims) rows → IsCanonical V.cmp measures rows tree →
         length c ≡ dims → slice_get c i ≡ Some a → i < dims →
-        map.get tree k ≡ Some n → Some n.cell ≡ front (eq_by_cmp V.cmp) rows c i →
+        map.get tree k ≡ Some n → Some n.cell ≡ closure_front (eq_by_cmp V.cmp) rows c i →
         option_map (cell_at tree) (walk_on (eq_by_cmp V.cmp) k n i a)
-        ≡ option_map (λ d. Some d) (front (eq_by_cmp V.cmp) rows c (suc i)) }
+        ≡ option_map (λ d. Some d) (closure_front (eq_by_cmp V.cmp) rows c (suc i)) }
 {}
 
 /// At the node of a cell's closure stands the cell's aggregate.
@@ -59,7 +59,7 @@ pub fn way_up_to_the_root<V: Value>()
     ensures parent { (dims measures : ℕ) (rows : List (Row V)) (tree : Tree V) (k : ℕ) (n : Node V ℕ) (i : ℕ) →
         AllByRecursion (λ row. length row.tuple ≡ dims) rows → IsCanonical V.cmp measures rows tree →
         map.get tree k ≡ Some n → depth n.cell ≡ suc i →
-        option_map (cell_at tree) n.parent ≡ Some (Some (keep i n.cell)) }
+        option_map (cell_at tree) n.parent ≡ Some (Some (cell_front i n.cell)) }
     ensures root { (dims measures : ℕ) (rows : List (Row V)) (tree : Tree V) (k : ℕ) (n : Node V ℕ) →
         AllByRecursion (λ row. length row.tuple ≡ dims) rows → IsCanonical V.cmp measures rows tree →
         map.get tree k ≡ Some n → depth n.cell ≡ 0 → n.parent ≡ None }

@@ -1,5 +1,6 @@
 -- The codes of the values that fields ask for.
 use Rattle.std.proofs.Common.{◌≡◌, ◌⊎◌, inl, inr, ℕ, zero, suc, ◌+◌, ◌<◌, ◌≤◌, Bool, true, false, cond, Option, Some, None, List, [], ◌∷◌, ◌++◌, map, filter, length, take, get_or, refl, sym, ap, ap₂, subst, ◌∙◌, arith, lt-ltb}
+use Rattle.std.specs.List.Sorted.{IsStrictlySortedBy}
 use Rattle.std.specs.Cmp.{IsTotalOrder, nat_cmp_total}
 use Rattle.std.specs.Cmp.Lexicographic.{bytes_decides, lists_total}
 use Rattle.std.specs.FinMap.{IsAntisymmetric, nat_cmp-IsAntisymmetric, slice_cmp-IsAntisymmetric}
@@ -17,11 +18,11 @@ use Rattle.std.proofs.Math.Seq.{get_or-append_seam}
 use Rattle.cube_defs.specs.Text.{Text, text_cmp}
 use Rattle.cube_defs.specs.Tree.{distinct}
 use Rattle.cube_defs.specs.Answers.{Box}
-use Rattle.cube_laws.specs.Lists.{Among, Rises}
+use Rattle.cube_laws.specs.Lists.{Among}
 use Rattle.cube_laws.specs.Recoding.{BoxIsKnown, coded_box, known_box}
 use Rattle.cube_laws.proofs.Distinct.{among_distinct, rises_distinct}
 use Rattle.cube_laws.proofs.Listed.{rises-filter}
-use Rattle.cube_laws.proofs.Lists.{all_from, filter_all, filter_among}
+use Rattle.cube_laws.proofs.Lists.{all_from, filter_all, filter_among, contains_among}
 use Rattle.cube_defs.specs.declared.limits.TheConstants.{MAX_CODES}
 use Rattle.cell_core.specs.Entry.{IsCode}
 use Rattle.cell_core.specs.declared.fields.Field.{Field}
@@ -30,7 +31,7 @@ use Rattle.value_dict.specs.Boxes.{IsAsked, IsOrdered, asked_box, asked_values, 
 use Rattle.value_dict.specs.Recoded.{has_code, text_in}
 use Rattle.value_dict.specs.TextLists.{IsDictionary, TextLists, code_in}
 use Rattle.value_dict.specs.Told.{has_text}
-use Rattle.value_dict.proofs.InOrder.{contains-among, filter-distinct}
+use Rattle.value_dict.proofs.InOrder.{filter-distinct}
 use Rattle.value_dict.proofs.Lists.{none_passes}
 
 pub text_total : IsTotalOrder text_cmp
@@ -79,7 +80,8 @@ module _ (lists : List (List Text)) where
       both None h rest = rest
       both (Some codes) h rest = (h, rest)
 
-  values-rise : (all : List Text) (field : Field) → IfSome (asked_values all field) (Rises text_cmp)
+  values-rise : (all : List Text) (field : Field) → IfSome (asked_values all field) (IsStrictlySortedBy text_cmp)
+  unfolding IsStrictlySortedBy
   values-rise all fields.Any = tt
   values-rise all fields.All = rises_distinct text_total text_anti all
   values-rise all (fields.One v) = (tt, tt)
@@ -87,10 +89,11 @@ module _ (lists : List (List Text)) where
   values-rise all (fields.Between low high) = rises_distinct text_total text_anti (filter (is_between low high) all)
 
   pub asked-rises : (k : ℕ) (asks : List Field) → IsOrdered text_cmp (known_box (has_text lists) k (asked_box lists k asks))
+  unfolding IsStrictlySortedBy
   asked-rises k [] = tt
   asked-rises k (field ∷ asks) = go (asked_values (get_or lists k []) field) (values-rise (get_or lists k []) field) (asked-rises (suc k) asks)
     where
-      go : (values : Option (List Text)) → IfSome values (Rises text_cmp) → IsOrdered text_cmp (known_box (has_text lists) (suc k) (asked_box lists (suc k) asks)) → IsOrdered text_cmp (known_box (has_text lists) k (values ∷ asked_box lists (suc k) asks))
+      go : (values : Option (List Text)) → IfSome values (IsStrictlySortedBy text_cmp) → IsOrdered text_cmp (known_box (has_text lists) (suc k) (asked_box lists (suc k) asks)) → IsOrdered text_cmp (known_box (has_text lists) k (values ∷ asked_box lists (suc k) asks))
       go None h rest = rest
       go (Some values) h rest = (rises-filter text_cmp (has_text lists k) values h, rest)
 
@@ -103,7 +106,7 @@ module _ (lists : List (List Text)) (dim : ℕ) (codes : List ℕ) where
   code-pushed text code is =
       let found = position-Some (bytes_eq text) there code [] is in
       let same : text ≡ get_or there code [] = (bytes_decides text (get_or there code [])).0 found.1 in
-      let has : has_text lists dim text ≡ true = among-any text there (contains-among text there (code, found.0, get_or_default there code text [] found.0 ∙ sym same)) in
+      let has : has_text lists dim text ≡ true = among-any text there (contains_among text there (code, found.0, get_or_default there code text [] found.0 ∙ sym same)) in
       map-append (text_in lists dim) codes (code ∷ [])
       ∙ ap (λ (z : Text). map (text_in lists dim) codes ++ z ∷ []) (sym same)
       ∙ ap (λ (b : Bool). map (text_in lists dim) codes ++ cond b (text ∷ []) []) (sym has)

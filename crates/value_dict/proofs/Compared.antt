@@ -9,13 +9,13 @@ use Rattle.std.proofs.lemmas.Bool.{cases_lt}
 use Rattle.std.proofs.lemmas.List.{drop_all}
 use Rattle.cube_defs.specs.Text.{Text, text_cmp}
 use Rattle.cube_defs.specs.Cell.{Cell, cell_cmp}
-use Rattle.cube_laws.specs.Recoding.{coded}
+use Rattle.cube_laws.specs.Recoding.{coded_cell}
 use Rattle.value_dict.specs.Recoded.{text_in}
 
 module _ (lists : List (List Text)) (a b : Cell ℕ) where
   -- what is left to compare
   abbrev pub from : ℕ → Ordering
-  from i = cell_cmp text_cmp (coded (text_in lists) i (drop i a)) (coded (text_in lists) i (drop i b))
+  from i = cell_cmp text_cmp (coded_cell (text_in lists) i (drop i a)) (coded_cell (text_in lists) i (drop i b))
 
   abbrev pub here : ℕ → Ordering
   here i = option_cmp text_cmp (option_map (text_in lists i) (get_or a i None)) (option_map (text_in lists i) (get_or b i None))
@@ -26,16 +26,16 @@ module _ (lists : List (List Text)) (a b : Cell ℕ) where
   length-drop-some (x ∷ xs) (suc i) l = length-drop-some xs i (omega arith)
 
   -- at the end of one of them the shorter comes first
-  pub ends : (i m n : ℕ) → m ≡ length a → n ≡ length b → i ≤ m → i ≤ n → (m ≤ i) ⊎ (n ≤ i) → from 0 ≡ from i → nat_cmp m n ≡ cell_cmp text_cmp (coded (text_in lists) 0 a) (coded (text_in lists) 0 b)
+  pub ends : (i m n : ℕ) → m ≡ length a → n ≡ length b → i ≤ m → i ≤ n → (m ≤ i) ⊎ (n ≤ i) → from 0 ≡ from i → nat_cmp m n ≡ cell_cmp text_cmp (coded_cell (text_in lists) 0 a) (coded_cell (text_in lists) 0 b)
   ends i m n e f l k some is = sym (is ∙ go (cases_lt m n))
     where
-      empty : (c : Cell ℕ) → length c ≤ i → coded (text_in lists) i (drop i c) ≡ []
-      empty c h = ap (coded (text_in lists) i) (drop_all i c h)
+      empty : (c : Cell ℕ) → length c ≤ i → coded_cell (text_in lists) i (drop i c) ≡ []
+      empty c h = ap (coded_cell (text_in lists) i) (drop_all i c h)
 
       go : (m < n) ⊎ (n ≤ m) → from i ≡ nat_cmp m n
       go (inl less) =
           let r = length-drop-some b i (omega (arith, f, l, less)) in
-          ap₂ (cell_cmp text_cmp) (empty a (either_a some less)) (ap (coded (text_in lists) i) r.2) ∙ nat_cmp_is m n Less less
+          ap₂ (cell_cmp text_cmp) (empty a (either_a some less)) (ap (coded_cell (text_in lists) i) r.2) ∙ nat_cmp_is m n Less less
         where
           either_a : (m ≤ i) ⊎ (n ≤ i) → m < n → length a ≤ i
           either_a (inl h) q = omega (arith, e, h)
@@ -49,7 +49,7 @@ module _ (lists : List (List Text)) (a b : Cell ℕ) where
           by : (n < m) ⊎ (m ≤ n) → from i ≡ nat_cmp m n
           by (inl less) =
               let r = length-drop-some a i (omega (arith, e, k, less)) in
-              ap₂ (cell_cmp text_cmp) (ap (coded (text_in lists) i) r.2) (empty b (either_b some)) ∙ nat_cmp_is m n Greater less
+              ap₂ (cell_cmp text_cmp) (ap (coded_cell (text_in lists) i) r.2) (empty b (either_b some)) ∙ nat_cmp_is m n Greater less
           by (inr le) =
               let same : m ≡ n = omega (arith, le, ge) in
               let b_end : length b ≤ i = either_b some in

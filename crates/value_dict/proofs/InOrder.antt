@@ -1,5 +1,5 @@
 -- Items that are sorted by what a function makes of them, and of which each is kept once.
-use Rattle.std.proofs.Common.{◌≡◌, inl, inr, ℕ, zero, suc, ◌<◌, Bool, true, List, [], ◌∷◌, map, filter, length, get_or, refl, sym, subst, ◌∙◌, arith}
+use Rattle.std.proofs.Common.{◌≡◌, ℕ, ◌<◌, Bool, true, List, [], ◌∷◌, map, filter, refl, sym, subst, ◌∙◌}
 use Rattle.std.specs.declared.cmp.Ordering.{Ordering}
 use Rattle.std.specs.Ordering.{eq_by_cmp, on}
 use Rattle.std.specs.Cmp.{Equal-is, IsTotalOrder}
@@ -10,31 +10,10 @@ use Rattle.std.proofs.lemmas.Cmp.{eq_by_cmp_equiv, on_total}
 use Rattle.std.proofs.lemmas.List.Kept.{Any-dedup, Contains-from_dedup, IsStrictlySortedBy-dedup}
 use Rattle.std.proofs.lemmas.List.Sorted.{Contains-permutation, IsPermutation-sym}
 use Rattle.cube_defs.specs.Tree.{distinct}
-use Rattle.cube_laws.specs.Lists.{Among, Rises}
+use Rattle.cube_laws.specs.Lists.{Among}
 use Rattle.cube_laws.proofs.Distinct.{among_distinct, rises-map, rises_distinct, rises_same}
 use Rattle.cube_laws.proofs.Listed.{rises-filter}
-use Rattle.cube_laws.proofs.Lists.{among_filter, among_map, filter_among, map_among}
-
-module _ {X : Type 0} where
-  pub contains-among : (x : X) (xs : List X) → Contains xs x → Among x xs
-  contains-among x xs h = at xs h.0 h.1 h.2
-    where
-      at : (xs : List X) (k : ℕ) → k < length xs → get_or xs k x ≡ x → Among x xs
-      at [] k l e = absurd (omega arith)
-      at (y ∷ ys) zero l e = inl (sym e)
-      at (y ∷ ys) (suc k) l e = inr (at ys k (omega arith) e)
-
-  pub among-contains : (x : X) (xs : List X) → Among x xs → Contains xs x
-  among-contains x [] m = absurd m
-  among-contains x (y ∷ ys) m = elim m [
-    | inl e ↦ (0, omega arith, sym e)
-    | inr n ↦ let c : Contains ys x = among-contains x ys n in (suc c.0, omega (arith, c.1), c.2)
-  ]
-
-  strictly : (cmp : X → X → Ordering) (xs : List X) → IsStrictlySortedBy cmp xs → Rises cmp xs
-  unfolding IsStrictlySortedBy
-  strictly cmp [] h = tt
-  strictly cmp (x ∷ xs) h = (h.0, strictly cmp xs h.1)
+use Rattle.cube_laws.proofs.Lists.{among_filter, among_map, filter_among, map_among, contains_among, among_contains}
 
 module _ {X : Type 0} {cmp : X → X → Ordering} (total : IsTotalOrder cmp) (anti : IsAntisymmetric cmp) where
   -- a test may come before or behind the sorting
@@ -54,22 +33,22 @@ module _ {X Y : Type 0} (f : X → Y) {cmp : Y → Y → Ordering} (total : IsTo
   abbrev kept : List X
   kept = dedup (eq_by_cmp (on f cmp)) ys
 
-  rises : Rises cmp (map f kept)
-  rises = rises-map f cmp kept (strictly (on f cmp) kept (IsStrictlySortedBy-dedup (on_total f total) (λ x y. refl) ys sorted))
+  rises : IsStrictlySortedBy cmp (map f kept)
+  rises = rises-map f cmp kept (IsStrictlySortedBy-dedup (on_total f total) (λ x y. refl) ys sorted)
 
   no_more : (z : Y) → Among z (map f kept) → Among z (distinct cmp (map f xs))
   no_more z m =
       let a : (x : X) × Among x kept × (z ≡ f x) = among_map f z kept m in
-      let there : Contains xs a.0 = Contains-permutation ys xs a.0 (IsPermutation-sym xs ys same) (Contains-from_dedup (eq_by_cmp (on f cmp)) ys a.0 (among-contains a.0 kept a.1)) in
-      (among_distinct total anti z (map f xs)).1 (subst (λ y. Among y (map f xs)) (sym a.2) (map_among f a.0 xs (contains-among a.0 xs there)))
+      let there : Contains xs a.0 = Contains-permutation ys xs a.0 (IsPermutation-sym xs ys same) (Contains-from_dedup (eq_by_cmp (on f cmp)) ys a.0 (among_contains a.0 kept a.1)) in
+      (among_distinct total anti z (map f xs)).1 (subst (λ y. Among y (map f xs)) (sym a.2) (map_among f a.0 xs (contains_among a.0 xs there)))
 
   no_less : (z : Y) → Among z (distinct cmp (map f xs)) → Among z (map f kept)
   no_less z m =
       let a : (x : X) × Among x xs × (z ≡ f x) = among_map f z xs ((among_distinct total anti z (map f xs)).0 m) in
       let b : Any (λ y. eq_by_cmp (on f cmp) a.0 y ≡ true) kept
-      = Any-dedup (eq_by_cmp_equiv (on_total f total)) ys a.0 (Contains-permutation xs ys a.0 same (among-contains a.0 xs a.1)) in
+      = Any-dedup (eq_by_cmp_equiv (on_total f total)) ys a.0 (Contains-permutation xs ys a.0 same (among_contains a.0 xs a.1)) in
       let ties : f a.0 ≡ f b.1 = anti (f a.0) (f b.1) ((Equal-is (cmp (f a.0) (f b.1))).0 b.4) in
-      subst (λ y. Among y (map f kept)) (sym (a.2 ∙ ties)) (map_among f b.1 kept (contains-among b.1 kept (b.0, b.2, b.3)))
+      subst (λ y. Among y (map f kept)) (sym (a.2 ∙ ties)) (map_among f b.1 kept (contains_among b.1 kept (b.0, b.2, b.3)))
 
   -- sorted, and each kept once
   pub in-order : map f kept ≡ distinct cmp (map f xs)

@@ -8,7 +8,7 @@ use Rattle.std.proofs.lemmas.List.Elements.{All-get_or}
 use Rattle.cube_defs.specs.Text.{Text}
 use Rattle.cube_defs.specs.Cell.{Cell, cell_of}
 use Rattle.cube_defs.specs.Rows.{Row}
-use Rattle.cube_laws.specs.Recoding.{AreKnown, RowsAreKnown, TellsApart, coded, coded_row, coded_tuple}
+use Rattle.cube_laws.specs.Recoding.{AreKnown, RowsAreKnown, TellsApart, coded_cell, coded_row, coded_tuple}
 use Rattle.value_dict.specs.Recoded.{has_code, text_in}
 use Rattle.value_dict.specs.TextLists.{code_in}
 use Rattle.value_dict.specs.Told.{HasTexts, has_text, place_in, told_cell}
@@ -33,7 +33,7 @@ texts-apart lists distinct = record { apart = λ i v w hv hw e. go i v w hv hw e
 
 module _ (texts : List (List Text)) where
   -- a cell of codes is told by their texts
-  pub told-texts : (k : ℕ) (lists : List (List Text)) (c : Cell ℕ) → Fits texts k lists → length c ≤ length lists → told_cell lists c ≡ coded (text_in texts) k c
+  pub told-texts : (k : ℕ) (lists : List (List Text)) (c : Cell ℕ) → Fits texts k lists → length c ≤ length lists → told_cell lists c ≡ coded_cell (text_in texts) k c
   told-texts k lists [] fit long = refl
   told-texts k [] (e ∷ c) fit long = absurd (omega arith)
   told-texts k (list ∷ lists) (None ∷ c) fit long = ap (λ x. None ∷ x) (told-texts (suc k) lists c fit.1 (omega arith))
@@ -48,7 +48,7 @@ module _ (texts : List (List Text)) where
   pub texts-known : (c : Cell ℕ) → AreKnown (has_code texts) 0 c → length c ≤ length texts → HasTexts texts c
   texts-known c known long = has-known 0 texts c (fits texts) known long
 
-  pub told-known : (c : Cell ℕ) → length c ≤ length texts → told_cell texts c ≡ coded (text_in texts) 0 c
+  pub told-known : (c : Cell ℕ) → length c ≤ length texts → told_cell texts c ≡ coded_cell (text_in texts) 0 c
   told-known c long = told-texts 0 texts c (fits texts) long
 
   tuple-back : (k : ℕ) (tuple : List Text) → AreKnown (has_text texts) k (cell_of tuple) → coded_tuple (text_in texts) k (coded_tuple (place_in texts) k tuple) ≡ tuple

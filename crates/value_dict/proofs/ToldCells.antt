@@ -6,7 +6,7 @@ use Rattle.std.specs.Ordering.{eq_by_cmp, nat_cmp}
 use Rattle.cube_defs.specs.Text.{Text, text_eq}
 use Rattle.cube_defs.specs.Cell.{Cell, cell_of}
 use Rattle.cube_defs.specs.Rows.{Row, covers, cov}
-use Rattle.cube_laws.specs.Recoding.{AreKnown, RowsAreKnown, coded, coded_row}
+use Rattle.cube_laws.specs.Recoding.{AreKnown, RowsAreKnown, coded_cell, coded_row}
 use Rattle.cube_laws.specs.Total.{agg_at, agg_some}
 use Rattle.cube_laws.proofs.RecodedRows.{agg_of-coded, cov-coded}
 use Rattle.cube_laws.proofs.RecodedLists.{known-below}
@@ -33,7 +33,7 @@ fits texts = fits-from texts 0 texts (λ i. let same : 0 + i ≡ i = omega arith
 
 module _ (texts : List (List Text)) where
   -- the texts of the codes of known texts are these texts
-  pub told-coded : (k : ℕ) (lists : List (List Text)) (c : Cell Text) → Fits texts k lists → AreKnown (has_text texts) k c → length c ≤ length lists → told_cell lists (coded (place_in texts) k c) ≡ c
+  pub told-coded : (k : ℕ) (lists : List (List Text)) (c : Cell Text) → Fits texts k lists → AreKnown (has_text texts) k c → length c ≤ length lists → told_cell lists (coded_cell (place_in texts) k c) ≡ c
   told-coded k lists [] fit known long = refl
   told-coded k [] (e ∷ c) fit known long = absurd (omega arith)
   told-coded k (list ∷ lists) (None ∷ c) fit known long = ap (λ x. None ∷ x) (told-coded (suc k) lists c fit.1 known (omega arith))
@@ -43,7 +43,7 @@ module _ (texts : List (List Text)) where
       (told-coded (suc k) lists c fit.1 known.1 (omega arith))
 
   -- and they are there
-  pub has-texts : (k : ℕ) (lists : List (List Text)) (c : Cell Text) → Fits texts k lists → AreKnown (has_text texts) k c → length c ≤ length lists → HasTexts lists (coded (place_in texts) k c)
+  pub has-texts : (k : ℕ) (lists : List (List Text)) (c : Cell Text) → Fits texts k lists → AreKnown (has_text texts) k c → length c ≤ length lists → HasTexts lists (coded_cell (place_in texts) k c)
   has-texts k lists [] fit known long = tt
   has-texts k [] (e ∷ c) fit known long = absurd (omega arith)
   has-texts k (list ∷ lists) (None ∷ c) fit known long = has-texts (suc k) lists c fit.1 known (omega arith)
@@ -53,11 +53,11 @@ module _ (texts : List (List Text)) where
   abbrev pub IsKnown : ℕ → Cell Text → Type 0
   IsKnown n c = AreKnown (has_text texts) 0 c × (length c ≡ n)
 
-  pub told-all : (cells : List (Cell Text)) (n : ℕ) → n ≡ length texts → AllByRecursion (IsKnown n) cells → map (told_cell texts) (map (coded (place_in texts) 0) cells) ≡ cells
+  pub told-all : (cells : List (Cell Text)) (n : ℕ) → n ≡ length texts → AllByRecursion (IsKnown n) cells → map (told_cell texts) (map (coded_cell (place_in texts) 0) cells) ≡ cells
   told-all [] n e h = refl
   told-all (c ∷ cells) n e h = ap₂ (λ x xs. x ∷ xs) (told-coded 0 texts c (fits texts) h.0.0 (omega (arith, h.0.1, e))) (told-all cells n e h.1)
 
-  pub has-all : (cells : List (Cell Text)) (n : ℕ) → n ≡ length texts → AllByRecursion (IsKnown n) cells → AllByRecursion (HasTexts texts) (map (coded (place_in texts) 0) cells)
+  pub has-all : (cells : List (Cell Text)) (n : ℕ) → n ≡ length texts → AllByRecursion (IsKnown n) cells → AllByRecursion (HasTexts texts) (map (coded_cell (place_in texts) 0) cells)
   has-all [] n e h = tt
   has-all (c ∷ cells) n e h = (has-texts 0 texts c (fits texts) h.0.0 (omega (arith, h.0.1, e)), has-all cells n e h.1)
 
@@ -68,7 +68,7 @@ module _ (texts : List (List Text)) (measures : ℕ) where
 
   -- what the coded cell covers among coded rows comes to the same
   pub total-coded : (rows : List (Row Text)) (c : Cell Text) → RowsAreKnown (has_text texts) rows → AreKnown (has_text texts) 0 c
-      → agg_at (eq_by_cmp nat_cmp) measures (map (coded_row (place_in texts)) rows) (coded (place_in texts) 0 c) ≡ agg_at text_eq measures rows c
+      → agg_at (eq_by_cmp nat_cmp) measures (map (coded_row (place_in texts)) rows) (coded_cell (place_in texts) 0 c) ≡ agg_at text_eq measures rows c
   total-coded rows c h known =
       ap (agg_some measures) (cov-coded text_equality code_equality (places-apart texts) rows c h known) ∙ some-coded (cov text_eq rows c)
 

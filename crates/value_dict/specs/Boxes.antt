@@ -1,5 +1,6 @@
 -- Boxes: what is allowed in each dimension.
 use Rattle.std.specs.Prelude.{◌≡◌, ℕ, suc, ◌≤◌, Bool, true, ◌&&◌, List, [], ◌∷◌, filter, map, length, Option, Some, None, IfSome, Vec, ⊤, slice_index_or}
+use Rattle.std.specs.List.Sorted.{IsStrictlySortedBy}
 use Rattle.std.specs.declared.alloc.Global.{Global}
 use Rattle.std.specs.declared.cmp.Ordering.{Ordering}
 use Rattle.std.specs.List.{All, AllByRecursion}
@@ -9,7 +10,6 @@ use Rattle.cube_defs.specs.Text.{Text, text_cmp}
 use Rattle.cube_defs.specs.Tree.{distinct}
 use Rattle.cube_defs.specs.Answers.{Box}
 use Rattle.cube_defs.specs.declared.limits.TheConstants.{MAX_DIMS}
-use Rattle.cube_laws.specs.Lists.{Rises}
 use Rattle.cube_laws.specs.Recoding.{coded_box}
 use Rattle.cell_core.specs.Entry.{IsCode}
 use Rattle.cell_core.specs.declared.fields.Field.{Field}
@@ -39,7 +39,7 @@ told_box lists box = coded_box (text_in lists) 0 box
 abbrev pub IsOrdered : {A : Type 0} → (A → A → Ordering) → Box A → Type 0
 IsOrdered cmp [] = ⊤
 IsOrdered cmp (None ∷ box) = IsOrdered cmp box
-IsOrdered cmp (Some vs ∷ box) = Rises cmp vs × IsOrdered cmp box
+IsOrdered cmp (Some vs ∷ box) = IsStrictlySortedBy cmp vs × IsOrdered cmp box
 
 -- the text stands at low, at high or between them
 abbrev pub is_between : Text → Text → Text → Bool

@@ -58,7 +58,7 @@ abbrev pub told_hit : List (List Text) → ClassHit ℕ → ClassHit Text
 told_hit lists hit = record { upper = told_cell lists hit.upper; agg = hit.agg; lowers = map (told_cell lists) hit.lowers }
 
 -- a class that can be told: its codes have texts, and it has a part for each measure
-pub record IsTold (lists : List (List Text)) (measures : ℕ) (hit : ClassHit ℕ) : Type 0 where
+pub record IsTellableClass (lists : List (List Text)) (measures : ℕ) (hit : ClassHit ℕ) : Type 0 where
   pub upper : HasTexts lists hit.upper
   pub lowers : All (HasTexts lists) hit.lowers
   pub parts : length hit.agg.parts ≡ measures

@@ -19,13 +19,16 @@ use cube_defs::{MAX_CODES, MAX_DIMS};
 use indexmap::IndexSet;
 use std::alloc::{AllocError, Global};
 use std::marker::Model;
+use thiserror::Error;
 
 /// Why a text was not learnt.
-#[derive(Clone, Copy, Debug, PartialEq, Eq)]
+#[derive(Clone, Copy, Debug, PartialEq, Eq, Error)]
 pub enum Learn {
     /// The text is unknown, and the dimension has as many texts as it may have.
+    #[error("the dimension has as many texts as it may have")]
     Full,
     /// Memory ran out.
+    #[error("memory ran out")]
     Memory,
 }
 

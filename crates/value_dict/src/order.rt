@@ -4,7 +4,7 @@ ghost use Rattle.std.specs.Prelude.{◌≡◌};
 ghost use Rattle.cell_core.specs.Entry.{value_in};
 ghost use Rattle.cube_defs.specs.Cell as defs;
 ghost use Rattle.cube_defs.specs.Text.{text_cmp};
-ghost use Rattle.cube_laws.specs.Recoding.{coded};
+ghost use Rattle.cube_laws.specs.Recoding.{coded_cell};
 ghost use Rattle.value_dict.specs.Recoded.{text_in};
 
 use crate::Dict;
@@ -43,7 +43,7 @@ impl Dict {
 
     /// The cell order: dimension by dimension, Any before each text.
     pub fn cell_cmp(&self, a: &Cell, b: &Cell) -> Ordering
-        ensures { result ≡ defs.cell_cmp text_cmp (coded (text_in self.now.lists) 0 a.now) (coded (text_in self.now.lists) 0 b.now) }
+        ensures { result ≡ defs.cell_cmp text_cmp (coded_cell (text_in self.now.lists) 0 a.now) (coded_cell (text_in self.now.lists) 0 b.now) }
     {
         'dims: for dim in 0..a.dims().min(b.dims()) {
             let order = entry_cmp(self, dim, a.get(dim), b.get(dim));

@@ -8,7 +8,7 @@ use Rattle.value_dict.proofs.Lists.{none_passes}
 use Rattle.base_table.specs.Places.{has_id}
 use Rattle.cube_defs.specs.Rows.{Row}
 use Rattle.cube_defs.specs.Text.{Text}
-use Rattle.csv_load.specs.Batch.{AreInsertions, Change, Delete, Insert, change_at, deleted, id_of, inserted, is_deletion, row_of}
+use Rattle.csv_load.specs.Batch.{Change, Delete, Insert, change_at, deleted, id_of, inserted, is_deletion, row_of}
 use Rattle.warehouse.specs.Batch.{first_number, first_twice, is_among, is_missing, same_change, twice_from}
 use Rattle.warehouse.specs.State.{ids_of}
 use Rattle.warehouse.proofs.Rows.{among-turned}
@@ -22,9 +22,6 @@ amounts_of c = (row_of c).amounts
 
 change-at : (changes : List (Change Text)) (k : ℕ) → change_at changes (k + 1) ≡ get_or changes k (Delete 0)
 change-at changes k = let same : k + 1 - 1 ≡ k = omega arith in ap (λ (n : ℕ). get_or changes n (Delete 0)) same
-
-pub no-deletion : (changes : List (Change Text)) (k : ℕ) → k < length changes → AreInsertions changes → is_deletion (change_at changes (k + 1)) ≡ false
-no-deletion changes k lt all = ap (λ (c : Change Text). is_deletion c) (change-at changes k) ∙ all k (Delete 0) lt
 
 pub one-before : (changes : List (Change Text)) (k : ℕ) → take (k + 1 - 1) changes ≡ take k changes
 one-before changes k = let same : k + 1 - 1 ≡ k = omega arith in ap (λ (n : ℕ). take n changes) same

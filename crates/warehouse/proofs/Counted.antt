@@ -10,7 +10,7 @@ use Rattle.std.specs.FinMap.{nat_cmp-IsAntisymmetric, slice_cmp-IsAntisymmetric}
 use Rattle.cube_defs.specs.Rows.{Row}
 use Rattle.cube_defs.specs.Text.{Text, text_cmp}
 use Rattle.cube_defs.specs.Tree.{Tree, classes, links, nodes, tree_edges}
-use Rattle.tree_search.specs.Found.{IsFrom}
+use Rattle.tree_search.specs.Found.{IsTreeOf}
 use Rattle.cube_laws.specs.Recoding.{coded_row}
 use Rattle.tree_laws.specs.Counts.{classes_in, links_in, tree_edges_in}
 use Rattle.tree_laws.proofs.TreeEdges.{one_tree}
@@ -52,7 +52,7 @@ module _ (lists : List (List Text)) (rows : List (Row ℕ)) (known : RowsAreCode
       again (λ rows. links nat_cmp rows)
       ∙ links_as_many (lists_total nat_cmp_total) (slice_cmp-IsAntisymmetric nat_cmp-IsAntisymmetric) nat_cmp_total nat_cmp-IsAntisymmetric (places-apart lists) (map (decoded_row lists) rows) (rows-known lists rows known)
 
-  module _ (dims measures : ℕ) (tree : Tree ℕ) (from : IsFrom dims tree (record { measures = measures; rows = rows })) where
+  module _ (dims measures : ℕ) (tree : Tree ℕ) (from : IsTreeOf dims tree (record { measures = measures; rows = rows })) where
     pub classes-kept : classes_in nat_cmp tree ≡ length (classes text_cmp (map (decoded_row lists) rows))
     classes-kept = classes_counted nat_cmp_total nat_cmp-IsAntisymmetric dims measures rows from.wide tree from.canonical ∙ classes-decoded
 

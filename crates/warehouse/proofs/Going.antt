@@ -1,6 +1,6 @@
 -- A row that goes: the rows before it and behind it, and what its tree keeps and costs.
 use Rattle.std.proofs.Common.{◌≡◌, ◌∙◌, ◌≤◌, ◌+◌, ◌*◌, ◌^◌, ℕ, List, [], ◌∷◌, ◌++◌, Bool, true, false, Option, Some, None, arith, length, refl, sym, ap, ap₂, subst, suc, true≢false, if◌then◌else◌}
-use Rattle.std.specs.Prelude.{◌||◌, ◌&&◌, ◌==◌, Err, IfSome, Ok, OnOk, Result, nat_eq, option_map}
+use Rattle.std.specs.Prelude.{◌||◌, ◌&&◌, ◌==◌, IfSome, nat_eq, option_map, Err, Ok, OnOk, Result}
 use Rattle.std.specs.List.{All, AllByRecursion, IsDistinct}
 use Rattle.std.specs.FinMap as finmap
 use Rattle.std.specs.Ordering.{nat_cmp, eq_by_cmp}
@@ -9,22 +9,24 @@ use Rattle.std.specs.FinMap.{nat_cmp-IsAntisymmetric}
 use Rattle.std.proofs.lemmas.List.Elements.{All-cons, All-head, All-nil, All-tail}
 use Rattle.std.proofs.lemmas.Map.Keys.{IsDistinct-head, IsDistinct-tail}
 use Rattle.base_table.specs.Places.{IsTable, Places, has_id, row_with_id, rows_of, total_of, with_tuple, without_id}
+use Rattle.base_table.proofs.Groups.{total_some}
 use Rattle.batch_delete.specs.Gone.{source_after}
 use Rattle.batch_delete.specs.Rests.{Deletion, rows_after, rows_before, source_before}
 use Rattle.cube_defs.specs.Cell.{Cell, cell_eq, cell_of, leq}
 use Rattle.cube_defs.specs.Rows as defs
 use Rattle.cube_defs.specs.Rows.{Row, cov, is_node}
 use Rattle.cube_defs.specs.Tree.{IsCanonical, Node, Tree, above, cell_at, nodes}
-use Rattle.cube_laws.specs.Total.{agg_at, agg_some}
+use Rattle.cube_laws.specs.Total.{agg_at}
 use Rattle.cube_laws.proofs.Orders.{eq_cmp}
-use Rattle.tree_search.specs.Found.{IsFrom}
+use Rattle.tree_search.specs.Found.{IsTreeOf}
 use Rattle.tree_laws.proofs.MoreCounts.{nodes_no_fewer}
 use Rattle.warehouse.specs.Batch.{is_among}
 use Rattle.warehouse.specs.InPlace.{IsDeletion, KeepsApart, KeepsNodes, cost_of_going, cost_of_row, cost_without, gone, kept}
 use Rattle.warehouse.specs.State.{ids_of}
-use Rattle.warehouse.proofs.Rows.{kept-none}
+use Rattle.warehouse.proofs.Rows.{kept-none, among-more}
 use Rattle.cube_laws.proofs.Orders.{nat_eq-turned}
 use Rattle.warehouse.proofs.Trees.{rows-wide}
+use Rattle.warehouse.proofs.Repairing.{plus-more}
 
 -- the rows before the first with an id, and those behind it
 abbrev before_id : List (Row ℕ) → ℕ → List (Row ℕ)
@@ -130,14 +132,10 @@ same-rows vs (row ∷ rows) wide =
     let test : cell_eq nat_eq (cell_of row.tuple) (cell_of vs) ≡ leq (eq_by_cmp nat_cmp) (cell_of vs) (cell_of row.tuple) = same-tuple vs row.tuple (sym wide.0) in
     ap₂ (λ (b : Bool) (rs : List (Row ℕ)). if b then row ∷ rs else rs) test (same-rows vs rows wide.1)
 
-same-total : (measures : ℕ) (rows : List (Row ℕ)) → total_of measures rows ≡ agg_some measures rows
-same-total measures [] = refl
-same-total measures (row ∷ rows) = refl
-
 pub rest-is : (measures : ℕ) (u : Cell ℕ) (vs : List ℕ) (rows : List (Row ℕ)) → u ≡ cell_of vs → AllByRecursion (λ (row : Row ℕ). length row.tuple ≡ length vs) rows → total_of measures (with_tuple rows u) ≡ agg_at (eq_by_cmp nat_cmp) measures rows u
 rest-is measures u vs rows same wide =
     subst (λ (c : Cell ℕ). total_of measures (with_tuple rows c) ≡ agg_at (eq_by_cmp nat_cmp) measures rows c) (sym same)
-    (ap (total_of measures) (same-rows vs rows wide) ∙ same-total measures (cov (eq_by_cmp nat_cmp) rows (cell_of vs)))
+    (ap (total_of measures) (same-rows vs rows wide) ∙ total_some measures (cov (eq_by_cmp nat_cmp) rows (cell_of vs)))
 
 -- what `delete_row` asks of the table, and what the table's tree is after it
 all-without : (P : Row ℕ → Type 0) (xs : List (Row ℕ)) (r : Row ℕ) (ys : List (Row ℕ)) → AllByRecursion P (xs ++ r ∷ ys) → AllByRecursion P (xs ++ ys)
@@ -151,10 +149,6 @@ all-here P (x ∷ xs) r ys all = all-here P xs r ys all.1
 long-cell : (vs : List ℕ) → length (cell_of vs) ≡ length vs
 long-cell [] = refl
 long-cell (v ∷ vs) = ap suc (long-cell vs)
-
-pub ok-then : {T E : Type 0} {P Q : Type 0} (result : Result T E) → (P → Q) → OnOk result P → OnOk result Q
-ok-then (Ok x) f h = f h
-ok-then (Err e) f h = tt
 
 module _ (t : Places) (id : ℕ) (d : Deletion) (is : IsTable t) (row : IsDeletion t id d) where
   abbrev Wide : Row ℕ → Type 0
@@ -174,7 +168,7 @@ module _ (t : Places) (id : ℕ) (d : Deletion) (is : IsTable t) (row : IsDeleti
   pub tuple-long : (u : Cell ℕ) → u ≡ cell_of d.r.tuple → length u ≡ t.dims
   tuple-long u same = ap (λ (c : Cell ℕ). length c) same ∙ long-cell d.r.tuple ∙ wide-row
 
-  pub from-is : (width : ℕ) (b : Tree ℕ) → width ≡ t.dims → IsCanonical nat_cmp t.measures (rows_of t) b → IsFrom width b (source_before d)
+  pub from-is : (width : ℕ) (b : Tree ℕ) → width ≡ t.dims → IsCanonical nat_cmp t.measures (rows_of t) b → IsTreeOf width b (source_before d)
   from-is width b same canonical = record {
     wide = subst (λ (n : ℕ). AllByRecursion (λ (r : Row ℕ). length r.tuple ≡ n) (rows_before d)) (sym same) wide;
     canonical =
@@ -200,7 +194,7 @@ module _ (t : Places) (id : ℕ) (d : Deletion) (is : IsTable t) (row : IsDeleti
         ∙ rest-is d.measures u d.r.tuple (rows_after d) same
         (subst (λ (n : ℕ). AllByRecursion (λ (r : Row ℕ). length r.tuple ≡ n) (rows_after d)) (sym wide-row) (all-without Wide d.xs d.r d.ys wide))
 
-    pub canonical-after : (width : ℕ) (b : Tree ℕ) → IsFrom width b (source_after d) → IsCanonical nat_cmp t.measures (rows_of t') b
+    pub canonical-after : (width : ℕ) (b : Tree ℕ) → IsTreeOf width b (source_after d) → IsCanonical nat_cmp t.measures (rows_of t') b
     canonical-after width b from =
         subst (λ (m : ℕ). IsCanonical nat_cmp m (rows_of t') b) row.measures
         (subst (λ (rs : List (Row ℕ)). IsCanonical nat_cmp d.measures rs b) (sym after-is) from.canonical)
@@ -241,19 +235,6 @@ pub nodes-more : (measures : ℕ) (rows left : List (Row ℕ)) (b d e : Tree ℕ
 nodes-more measures rows left b d e before after old one two k c h node =
     let now = after.all c node in
     two k c (one k c h (node-there measures rows d before now.0 c (old now.0 c now.1))) node
-
--- one id more
-among-more : (x : ℕ) (ids : List ℕ) (id : ℕ) → is_among x (ids ++ id ∷ []) ≡ (is_among x ids || nat_eq id x)
-among-more x [] id = or-false (nat_eq id x)
-  where
-    or-false : (b : Bool) → (b || false) ≡ b
-    or-false true = refl
-    or-false false = refl
-among-more x (i ∷ ids) id = go (nat_eq i x) (among-more x ids id)
-  where
-    go : (b : Bool) → is_among x (ids ++ id ∷ []) ≡ (is_among x ids || nat_eq id x) → (b || is_among x (ids ++ id ∷ [])) ≡ ((b || is_among x ids) || nat_eq id x)
-    go true rest = refl
-    go false rest = rest
 
 module _ (P : Row ℕ → Type 0) (ids : List ℕ) (id : ℕ) where
   all-gone : (rows : List (Row ℕ)) → All P (gone (ids ++ id ∷ []) rows) → All P (gone ids rows)
@@ -331,9 +312,6 @@ kept-first x ids (row ∷ rows) = go (nat_eq row.id x) refl (is_among row.id ids
     go false same true is rest = rw (nat_eq-turned x row.id, same, is) rest
     go false same false is rest = rw (nat_eq-turned x row.id, same, is) (ap (λ (rs : List (Row ℕ)). row ∷ rs) rest)
 
-plus-more : (a b c d : ℕ) → b ≡ c + d → a + b ≡ (a + c) + d
-plus-more a b c d same = omega (arith, same)
-
 plus-zero : (n : ℕ) → n + 0 ≡ 0 + n
 plus-zero n = omega arith
 
@@ -350,3 +328,8 @@ cost-going dims (x ∷ ids) rows id =
 pub steps-going : (dims : ℕ) (ids : List ℕ) (rows : List (Row ℕ)) (id begun here now : ℕ) → here ≤ begun + cost_of_going dims rows ids
     → now ≤ here + cost_without dims (kept ids rows) (row_with_id (kept ids rows) id) → now ≤ begun + cost_of_going dims rows (ids ++ id ∷ [])
 steps-going dims ids rows id begun here now one two = omega (arith, cost-going dims ids rows id, one, two)
+
+-- what follows from a clause on what is answered
+pub ok-then : {T E : Type 0} {P Q : Type 0} (result : Result T E) → (P → Q) → OnOk result P → OnOk result Q
+ok-then (Ok x) f h = f h
+ok-then (Err e) f h = tt

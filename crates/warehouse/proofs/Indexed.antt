@@ -1,5 +1,5 @@
 -- The index of the tree's classes.
-use Rattle.std.proofs.Common.{◌≡◌, ℕ, zero, suc, ◌<◌, ◌≤◌, List, [], ◌∷◌, Option, Some, None, length, map, slice_get, refl, sym, ap, subst, true, is_some, true≢false, ◌∙◌, arith}
+use Rattle.std.proofs.Common.{◌≡◌, ℕ, ◌<◌, ◌≤◌, List, [], ◌∷◌, Option, Some, None, length, map, refl, sym, ap, subst, true, is_some, true≢false, ◌∙◌, arith}
 use Rattle.std.specs.Prelude.{Err, IfOk, IfSome, IsSome, Ok, Result, slice_index_or}
 use Rattle.std.specs.FinMap as numbers
 use Rattle.std.specs.List.{All, AllByRecursion}
@@ -16,6 +16,7 @@ use Rattle.measure_index.specs.Entries.{HaveMeasure}
 use Rattle.measure_index.specs.Index.{empty_ranking, ranking_of, scale_of, units}
 use Rattle.measure_index.specs.Rankings.{IsIndex, Ranking}
 use Rattle.measure_index.proofs.Classes.{index_alike, scale_found}
+use Rattle.measure_index.proofs.Units.{units-empty}
 use Rattle.qc_arena.specs.Changes.{AreNew, class_in, class_was}
 use Rattle.qc_arena.specs.Codes.{Shape}
 use Rattle.qc_arena.specs.Map.{Arena, is_open}
@@ -25,15 +26,11 @@ use Rattle.iceberg_query.proofs.Bounded.{class_there}
 use Rattle.iceberg_query.proofs.Index.{class_same}
 use Rattle.iceberg_query.proofs.Measures.{there_is_measure}
 use Rattle.warehouse.specs.State.{IsIndexed, scale_in}
-use Rattle.warehouse.specs.Stored.{IsTreeOf}
-
-got : {X : Type 0} (xs : List X) (k : ℕ) (d : X) → k < length xs → slice_get xs k ≡ Some (slice_index_or xs k d)
-got [] k d l = absurd (omega (arith, l))
-got (x ∷ xs) zero d l = refl
-got (x ∷ xs) (suc k) d l = got xs k d (omega (arith, l))
+use Rattle.warehouse.specs.Stored.{IsTreeOfSome}
+use Rattle.cube_laws.proofs.Lists.{got}
 
 -- the classes of a tree have the measures of the schema
-have-measure : (schema : Layout) (tree : Tree ℕ) → IsTreeOf schema tree → (from : ℕ → Option defs.Agg) (pairs : List (NodeNo × Agg)) → AreNew from (class_of_node tree) pairs → (kind : AggKind) → IsThere (length schema.measures) kind → HaveMeasure kind pairs
+have-measure : (schema : Layout) (tree : Tree ℕ) → IsTreeOfSome schema tree → (from : ℕ → Option defs.Agg) (pairs : List (NodeNo × Agg)) → AreNew from (class_of_node tree) pairs → (kind : AggKind) → IsThere (length schema.measures) kind → HaveMeasure kind pairs
 have-measure schema tree is from pairs new kind there = λ k d l.
     let x = slice_index_or pairs k d in
     let told : class_in (numbers.get tree x.0.0) ≡ Some (agg_in x.1) = new.listed k x (got pairs k d l) in
@@ -56,7 +53,7 @@ all-measured schema pairs have (r ∷ index) (kind ∷ kinds) e there =
     All-cons (λ (s : Ranking). HaveMeasure s.kind pairs) r index (subst (λ k. HaveMeasure k pairs) (sym (ap (λ p. p.0) first)) (have kind there.0)) (all-measured schema pairs have index kinds rest there.1)
 
 -- classes of a tree of the schema have the measures of the index's kinds
-pub measured : (schema : Layout) (tree : Tree ℕ) (index : List Ranking) → IsLayout schema → IsTreeOf schema tree → units index ≡ map (unit-in schema) schema.indexes → (from : ℕ → Option defs.Agg) (pairs : List (NodeNo × Agg))
+pub measured : (schema : Layout) (tree : Tree ℕ) (index : List Ranking) → IsLayout schema → IsTreeOfSome schema tree → units index ≡ map (unit-in schema) schema.indexes → (from : ℕ → Option defs.Agg) (pairs : List (NodeNo × Agg))
     → AreNew from (class_of_node tree) pairs → All (λ r. HaveMeasure r.kind pairs) index
 measured schema tree index layout is e from pairs new = all-measured schema pairs (have-measure schema tree is from pairs new) index schema.indexes e layout.indexes
 
@@ -73,13 +70,13 @@ none-went from to (p ∷ pairs) e h = absurd (omega (arith, e))
 pub record IsBegun (schema : Layout) (a : Arena) (index : List Ranking) : Type 0 where
   pub tree : Tree ℕ
   pub was : class_was a ≡ class_of_node tree
-  pub is : IsTreeOf schema tree
+  pub is : IsTreeOfSome schema tree
   pub indexed : IsIndexed schema tree index
 
-pub begun : (schema : Layout) (a : Arena) (index : List Ranking) → is_open a ≡ true → IfSome a.was (λ before. IsTreeOf schema before.tree × IsIndexed schema before.tree index) → IsBegun schema a index
+pub begun : (schema : Layout) (a : Arena) (index : List Ranking) → is_open a ≡ true → IfSome a.was (λ before. IsTreeOfSome schema before.tree × IsIndexed schema before.tree index) → IsBegun schema a index
 begun schema a index opened h = go a.was refl opened h
   where
-    go : (o : Option Shape) → a.was ≡ o → is_some o ≡ true → IfSome o (λ before. IsTreeOf schema before.tree × IsIndexed schema before.tree index) → IsBegun schema a index
+    go : (o : Option Shape) → a.was ≡ o → is_some o ≡ true → IfSome o (λ before. IsTreeOfSome schema before.tree × IsIndexed schema before.tree index) → IsBegun schema a index
     go None e bad known = absurd (true≢false (sym bad))
     go (Some before) e there known = record { tree = before.tree; was = was-is a before e; is = known.0; indexed = known.1 }
 
@@ -90,11 +87,6 @@ unit-named schema tree index is kind = go (ranking_of kind index) refl
     go : (o : Option Ranking) → ranking_of kind index ≡ o → IfSome o (λ r. r.scale ≡ scale_in schema kind)
     go None f = tt
     go (Some r) f = scale_found (map (λ (m : Measure). m.scale) schema.measures) kind index schema.indexes is.kinds r f
-
--- an index without entries is that of the empty tree
-units-empty : (scales : List ℕ) (kinds : List AggKind) → units (map (empty_ranking scales) kinds) ≡ map (λ kind. (kind, scale_of scales kind)) kinds
-units-empty scales [] = refl
-units-empty scales (kind ∷ kinds) = ap (λ us. (kind, scale_of scales kind) ∷ us) (units-empty scales kinds)
 
 pub index-empty : (schema : Layout) (scales : List ℕ) (index : List Ranking) → scales ≡ map (λ (m : Measure). m.scale) schema.measures → index ≡ map (empty_ranking scales) schema.indexes → IsIndex (λ _. None) index → IsIndexed schema numbers.empty index
 index-empty schema scales index same made is = record {

@@ -22,7 +22,7 @@ use Rattle.cube_defs.specs.Text.{Text}
 use Rattle.cube_defs.specs.Tree.{IsCanonical, Node, Tree, above, nodes}
 use Rattle.qc_arena.specs.Map.{Arena}
 use Rattle.tree_laws.proofs.MoreCounts.{nodes_no_fewer}
-use Rattle.tree_search.specs.Found.{IsFrom}
+use Rattle.tree_search.specs.Found.{IsTreeOf}
 use Rattle.cube_laws.specs.Recoding.{coded_row}
 use Rattle.value_dict.specs.Told.{AreCodes, RowsAreCodes, decoded_row, place_in}
 use Rattle.warehouse.specs.Batch.{is_among, rows_after}
@@ -120,7 +120,7 @@ plus-none : (new old x : ℕ) → new ≤ old + x → new ≤ old + (x + 0)
 plus-none new old x le = omega (arith, le)
 
 module _ (t : Places) (a : Arena) (k : ℕ) (u : Cell ℕ) (amounts : List ℤ) (is : IsTable t) (width : a.width ≡ t.dims) (tree : IsTreeBefore t a k) (lt : k < length t.places) (r : IsRowAt t k u amounts) (measures : length amounts ≡ t.measures) where
-  from-before : IsFrom a.width a.now (record { measures = length amounts; rows = rows_before t k })
+  from-before : IsTreeOf a.width a.now (record { measures = length amounts; rows = rows_before t k })
   from-before = record {
     wide = subst (λ (n : ℕ). AllByRecursion (λ (row : Row ℕ). length row.tuple ≡ n) (rows_before t k)) (sym width) (wide-before t k is);
     canonical = subst (λ (n : ℕ). IsCanonical nat_cmp n (rows_before t k) a.now) (sym measures) tree.canonical;
@@ -144,15 +144,15 @@ module _ (t : Places) (a : Arena) (k : ℕ) (u : Cell ℕ) (amounts : List ℤ) 
       subst (λ (rs : List (Row ℕ)). Holds rs r.row (rows_before t (k + 1))) (append-nil (rows_before t k))
       (subst (λ (rs : List (Row ℕ)). Holds (rows_before t k ++ []) r.row rs) (sym (row-more t k r.row lt r.place))
       (all (rows_before t k) r.row [] r.tuple r.sums
-      (subst (λ (rs : List (Row ℕ)). IsFrom a.width a.now (record { measures = length amounts; rows = rs })) (sym (append-nil (rows_before t k))) from-before)))
+      (subst (λ (rs : List (Row ℕ)). IsTreeOf a.width a.now (record { measures = length amounts; rows = rs })) (sym (append-nil (rows_before t k))) from-before)))
 
-  pub row-came : (b : Arena) → b.max ≡ a.max → ForRow u amounts a (λ before row after. IsFrom a.width b.now (record { measures = length amounts; rows = after }))
+  pub row-came : (b : Arena) → b.max ≡ a.max → ForRow u amounts a (λ before row after. IsTreeOf a.width b.now (record { measures = length amounts; rows = after }))
       → ForRow u amounts a (λ before row after. length (nodes nat_cmp after) ≤ a.max) → IsTreeBefore t b (k + 1)
   row-came b max from fits = record {
     within = omega (arith, lt);
     canonical =
         subst (λ (n : ℕ). IsCanonical nat_cmp n (rows_before t (k + 1)) b.now) measures
-        (at-row (λ before row after. IsFrom a.width b.now (record { measures = length amounts; rows = after })) from).canonical;
+        (at-row (λ before row after. IsTreeOf a.width b.now (record { measures = length amounts; rows = after })) from).canonical;
     fits =
         subst (λ (n : ℕ). length (nodes nat_cmp (rows_before t (k + 1))) ≤ n) (sym max)
         (at-row (λ before row after. length (nodes nat_cmp after) ≤ a.max) fits);
@@ -228,7 +228,7 @@ apart-later t first k b d e lt one two le q n h all =
     (all-left Apart (rows_between t first (k + 1)) (rows_behind t (k + 1)) (subst (λ (rs : List (Row ℕ)). All Apart rs) split all))
 
 -- costs of rows one after another
-plus-more : (a b c d : ℕ) → b ≡ c + d → a + b ≡ (a + c) + d
+pub plus-more : (a b c d : ℕ) → b ≡ c + d → a + b ≡ (a + c) + d
 plus-more a b c d same = omega (arith, same)
 
 plus-zero : (n : ℕ) → n ≡ 0 + n
@@ -261,16 +261,6 @@ none-came t a k tree lt is =
       within = omega (arith, lt);
       canonical = subst (λ (rs : List (Row ℕ)). IsCanonical nat_cmp t.measures rs a.now) (sym same) tree.canonical;
       fits = subst (λ (rs : List (Row ℕ)). length (nodes nat_cmp rs) ≤ a.max) (sym same) tree.fits;
-    }
-
--- the tree of the rows before places that stand first is that of all rows at their time
-pub first-tree : (t t' : Places) (a : Arena) → HasFront t t' → t'.measures ≡ t.measures → IsCanonical nat_cmp t.measures (rows_of t) a.now → length (nodes nat_cmp (rows_of t)) ≤ a.max → IsTreeBefore t' a (length t.places)
-first-tree t t' a front measures canonical fits =
-    let same : rows_of t ≡ rows_before t' (length t.places) = ap rows_in (sym front) in
-    record {
-      within = front-within t t' front;
-      canonical = subst (λ (n : ℕ). IsCanonical nat_cmp n (rows_before t' (length t.places)) a.now) (sym measures) (subst (λ (rs : List (Row ℕ)). IsCanonical nat_cmp t.measures rs a.now) same canonical);
-      fits = subst (λ (rs : List (Row ℕ)). length (nodes nat_cmp rs) ≤ a.max) same fits;
     }
 
 -- rows of codes that are picked by their ids are those of the texts that are

@@ -26,7 +26,7 @@ pub kept-none : {A : Type 0} (rows : List (Row A)) → kept [] rows ≡ rows
 kept-none [] = refl
 kept-none (row ∷ rows) = ap (λ (rs : List (Row _)). row ∷ rs) (kept-none rows)
 
-among-more : (x : ℕ) (gone : List ℕ) (id : ℕ) → is_among x (gone ++ id ∷ []) ≡ (is_among x gone || nat_eq id x)
+pub among-more : (x : ℕ) (gone : List ℕ) (id : ℕ) → is_among x (gone ++ id ∷ []) ≡ (is_among x gone || nat_eq id x)
 among-more x [] id = or-false (nat_eq id x)
 among-more x (g ∷ gone) id = go (nat_eq g x) (among-more x gone id)
   where

@@ -13,14 +13,14 @@ use Rattle.qc_arena.specs.Seen.{number, record_at}
 use Rattle.tree_laws.specs.Walk.{target_at}
 use Rattle.tree_laws.proofs.Lists.{some_same, there}
 use Rattle.tree_laws.proofs.Steps.{walk_on-renamed}
-use Rattle.tree_search.specs.Found.{Source, IsFrom}
+use Rattle.tree_search.specs.Found.{TreeRows, IsTreeOf}
 use Rattle.tree_search.proofs.Walked.{there_is}
 
 -- a node without a forced child, so that a step takes the edge with the asked value
 abbrev unforced : {S : Type 0} → Node ℕ S → Node ℕ S
 unforced n = record n { forced = None }
 
-module _ (dims : ℕ) (tree : Tree ℕ) (source : Source) (h : IsFrom dims tree source) where
+module _ (dims : ℕ) (tree : Tree ℕ) (source : TreeRows) (h : IsTreeOf dims tree source) where
   target-there : (k i v j : ℕ) → IsSome (map.get tree k) → target_at (eq_by_cmp nat_cmp) i v (record_at tree k).edges ≡ Some j → IsSome (map.get tree j)
   target-there k i v j t e = by (node_of nat_cmp source.measures source.rows (record_at tree k).cell) (h.canonical.each k (record_at tree k) (there_is tree k t)).1
     where

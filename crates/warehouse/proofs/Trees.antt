@@ -13,16 +13,16 @@ use Rattle.measure_index.specs.Rankings.{Ranking}
 use Rattle.qc_arena.specs.Codes.{Shape}
 use Rattle.qc_arena.specs.Map.{Arena, is_open, no_nodes, shape_of}
 use Rattle.qc_schema.specs.Schema.{Layout}
-use Rattle.tree_search.specs.Found.{IsFrom}
+use Rattle.tree_search.specs.Found.{IsTreeOf}
 use Rattle.value_dict.specs.TextLists.{TextLists}
-use Rattle.warehouse.specs.State.{IsHeld, IsIndexed}
-use Rattle.warehouse.specs.Stored.{IsKept, IsStored, state_of}
+use Rattle.warehouse.specs.State.{AreContents, IsIndexed}
+use Rattle.warehouse.specs.Stored.{IsTreeOfTable, IsStored, state_of}
 use Rattle.warehouse.proofs.Decoding.{rows-back}
 use Rattle.warehouse.proofs.States.{is-state, no_rows}
 use Rattle.tree_laws.proofs.Lists.{some_same}
 
 -- a tree without nodes is that of no rows
-none-from : (dims measures : ℕ) → IsFrom dims finmap.empty (record { measures = measures; rows = [] })
+none-from : (dims measures : ℕ) → IsTreeOf dims finmap.empty (record { measures = measures; rows = [] })
 none-from dims measures = record {
   wide = tt;
   canonical = record {
@@ -36,19 +36,19 @@ none-from dims measures = record {
 pub rows-wide : (table : Places) → IsTable table → AllByRecursion (λ (row : Row ℕ). length row.tuple ≡ table.dims) (rows_of table)
 rows-wide table is = all_map (IsRow table.dims table.measures) (λ row. length row.tuple ≡ table.dims) (rows_of table) (λ row is. is.tuple) (all_recursion (IsRow table.dims table.measures) (rows_of table) is.rows.each)
 
-pub kept-empty : (schema : Layout) → IsKept schema (no_rows (length schema.dims) (length schema.measures) schema.rows) (no_nodes (length schema.dims) schema.nodes)
+pub kept-empty : (schema : Layout) → IsTreeOfTable schema (no_rows (length schema.dims) (length schema.measures) schema.rows) (no_nodes (length schema.dims) schema.nodes)
 kept-empty schema = record { closed = refl; width = refl; max = refl; few = let none : 0 ≤ schema.nodes = omega arith in none; from = none-from (length schema.dims) (length schema.measures) }
 
 -- a canonical tree of the table's rows is a tree of rows that fit the schema
 pub tree-from : (schema : Layout) (table : Places) (tree : Tree ℕ) → IsTable table → table.dims ≡ length schema.dims → table.measures ≡ length schema.measures → IsCanonical nat_cmp table.measures (rows_of table) tree
-    → IsFrom (length schema.dims) tree (record { measures = length schema.measures; rows = rows_of table })
+    → IsTreeOf (length schema.dims) tree (record { measures = length schema.measures; rows = rows_of table })
 tree-from schema table tree is dims measures canonical = record {
   wide = subst (λ (n : ℕ). AllByRecursion (λ (row : Row ℕ). length row.tuple ≡ n) (rows_of table)) dims (rows-wide table is);
   canonical = subst (λ (n : ℕ). IsCanonical nat_cmp n (rows_of table) tree) measures canonical;
 }
 
 pub kept-canonical : (schema : Layout) (table : Places) (tree : Arena) → IsTable table → table.dims ≡ length schema.dims → table.measures ≡ length schema.measures
-    → is_open tree ≡ false → tree.width ≡ length schema.dims → tree.max ≡ schema.nodes → length (nodes nat_cmp (rows_of table)) ≤ schema.nodes → IsCanonical nat_cmp table.measures (rows_of table) tree.now → IsKept schema table tree
+    → is_open tree ≡ false → tree.width ≡ length schema.dims → tree.max ≡ schema.nodes → length (nodes nat_cmp (rows_of table)) ≤ schema.nodes → IsCanonical nat_cmp table.measures (rows_of table) tree.now → IsTreeOfTable schema table tree
 kept-canonical schema table tree is dims measures closed width max few canonical = record {
   closed = closed;
   width = width;
@@ -58,8 +58,8 @@ kept-canonical schema table tree is dims measures closed width max few canonical
 }
 
 -- the rows and the tree are those of before
-pub kept-back : (schema : Layout) (table table' : Places) (tree tree' : Arena) → IsKept schema table tree → Some (rows_of table') ≡ Some (rows_of table) → Some (shape_of tree') ≡ Some (shape_of tree)
-    → is_open tree' ≡ false → tree'.max ≡ tree.max → IsKept schema table' tree'
+pub kept-back : (schema : Layout) (table table' : Places) (tree tree' : Arena) → IsTreeOfTable schema table tree → Some (rows_of table') ≡ Some (rows_of table) → Some (shape_of tree') ≡ Some (shape_of tree)
+    → is_open tree' ≡ false → tree'.max ≡ tree.max → IsTreeOfTable schema table' tree'
 kept-back schema table table' tree tree' is same back closed max =
     let rows : rows_of table' ≡ rows_of table = some_same same in
     let shape : shape_of tree' ≡ shape_of tree = some_same back in
@@ -69,15 +69,15 @@ kept-back schema table table' tree tree' is same back closed max =
       max = max ∙ is.max;
       few = subst (λ (rs : List (Row ℕ)). length (nodes nat_cmp rs) ≤ schema.nodes) (sym rows) is.few;
       from =
-          subst (λ (t : Tree ℕ). IsFrom (length schema.dims) t (record { measures = length schema.measures; rows = rows_of table' })) (sym (ap (λ (s : Shape). s.tree) shape))
-          (subst (λ (rs : List (Row ℕ)). IsFrom (length schema.dims) tree.now (record { measures = length schema.measures; rows = rs })) (sym rows) is.from);
+          subst (λ (t : Tree ℕ). IsTreeOf (length schema.dims) t (record { measures = length schema.measures; rows = rows_of table' })) (sym (ap (λ (s : Shape). s.tree) shape))
+          (subst (λ (rs : List (Row ℕ)). IsTreeOf (length schema.dims) tree.now (record { measures = length schema.measures; rows = rs })) (sym rows) is.from);
     }
 
-pub is-held : (schema : Layout) (dict : TextLists) (table : Places) (tree : Arena) (index : List Ranking) → IsStored schema dict table → IsKept schema table tree → IsIndexed schema tree.now index → IsHeld (record { state = state_of schema dict table; tree = tree.now; index = index })
+pub is-held : (schema : Layout) (dict : TextLists) (table : Places) (tree : Arena) (index : List Ranking) → IsStored schema dict table → IsTreeOfTable schema table tree → IsIndexed schema tree.now index → AreContents (record { state = state_of schema dict table; tree = tree.now; index = index })
 is-held schema dict table tree index stored kept indexed = record {
   state = is-state schema dict table stored kept.few;
   tree =
-      subst (λ (rows : List (Row ℕ)). IsFrom (length schema.dims) tree.now (record { measures = length schema.measures; rows = rows }))
+      subst (λ (rows : List (Row ℕ)). IsTreeOf (length schema.dims) tree.now (record { measures = length schema.measures; rows = rows }))
       (sym (rows-back dict.lists (rows_of table) stored.known stored.dictionary.distinct)) kept.from;
   index = indexed;
 }

@@ -11,9 +11,9 @@ use Rattle.value_dict.specs.TextLists.{learnt_in}
 use Rattle.warehouse.specs.State.{State, ids_of}
 
 -- a base file, or a batch of corrections
-pub data Kind : Type 0 where
-  Load : Kind
-  Apply : Kind
+pub data FileUse : Type 0 where
+  Load : FileUse
+  Apply : FileUse
 
 -- why a file is refused, in the order in which the causes are looked for
 pub data Refusal : Type 0 where
@@ -115,6 +115,6 @@ result_of s (Err fault) = Err (File fault)
 result_of s (Ok changes) = unless (refusal_of s changes) (record { records = length changes; classes = length (classes text_cmp (rows_after s.rows changes)); state = after s changes })
 
 -- what a file does to a state; a base file is loaded only where there are no rows
-abbrev pub result : State → Kind → List ℕ → Result Applied Refusal
+abbrev pub result : State → FileUse → List ℕ → Result Applied Refusal
 result s Load bytes = if length s.rows == 0 then result_of s (base_in s.schema bytes) else Err NotEmpty
 result s Apply bytes = result_of s (batch_in s.schema bytes)

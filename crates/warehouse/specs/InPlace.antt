@@ -15,7 +15,7 @@ use Rattle.cube_laws.specs.Recoding.{coded_row}
 use Rattle.qc_schema.specs.Schema.{Layout}
 use Rattle.value_dict.specs.Told.{place_in}
 use Rattle.warehouse.specs.Batch.{Apply, is_among, result}
-use Rattle.warehouse.specs.State.{Held, State}
+use Rattle.warehouse.specs.State.{Contents, State}
 
 module _ {A : Type 0} where
   -- the rows with one of these ids, and the others
@@ -71,17 +71,17 @@ abbrev pub OfBatch : Layout → List ℕ → (List (Change Text) → Type 0) →
 OfBatch schema bytes Holds = (changes : List (Change Text)) → batch_in schema bytes ≡ Ok changes → Holds changes
 
 -- a file that is taken as a batch: each node of the rows that are left after its deletions keeps its number
-abbrev pub LeavesNumbers : Held → List ℕ → Held → Type 0
+abbrev pub LeavesNumbers : Contents → List ℕ → Contents → Type 0
 LeavesNumbers before bytes now =
     OfBatch before.state.schema bytes (λ changes. KeepsNodes (with_codes now.state.texts (kept (deleted changes) before.state.rows)) before.tree now.tree)
 
 -- each node that is below the tuple of no row that goes or comes keeps its whole record
-abbrev pub LeavesApart : Held → List ℕ → Held → Type 0
+abbrev pub LeavesApart : Contents → List ℕ → Contents → Type 0
 LeavesApart before bytes now =
     OfBatch before.state.schema bytes (λ changes. KeepsApart (with_codes now.state.texts (gone (deleted changes) before.state.rows ++ inserted changes)) before.tree now.tree)
 
 -- and no more steps are taken than a batch may cost, from one count of them to another
-abbrev pub IsWithinCost : Held → List ℕ → Held → ℕ → ℕ → Type 0
+abbrev pub IsWithinCost : Contents → List ℕ → Contents → ℕ → ℕ → Type 0
 IsWithinCost before bytes now from to =
     OfBatch before.state.schema bytes (λ changes. to ≤ from + cost_of_batch (length before.state.schema.dims) now.state.texts before.state.rows changes)
 

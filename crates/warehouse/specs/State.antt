@@ -12,7 +12,7 @@ use Rattle.iceberg_query.specs.Indexed.{class_of_node}
 use Rattle.measure_index.specs.Index.{scale_of, units}
 use Rattle.measure_index.specs.Rankings.{IsIndex, Ranking}
 use Rattle.qc_schema.specs.Schema.{Layout, IsLayout}
-use Rattle.tree_search.specs.Found.{Source, IsFrom}
+use Rattle.tree_search.specs.Found.{TreeRows, IsTreeOf}
 use Rattle.value_dict.specs.Told.{has_text, place_in}
 
 -- a schema, the rows in the order in which they were accepted, and for each dimension the texts that were ever accepted, in that order
@@ -30,8 +30,8 @@ abbrev pub ids_of : {A : Type 0} → List (Row A) → List ℕ
 ids_of rows = map (λ row. row.id) rows
 
 -- the rows with the place of each text in place of the text
-abbrev pub coded : State → List (Row ℕ)
-coded s = map (coded_row (place_in s.texts)) s.rows
+abbrev pub coded_rows : State → List (Row ℕ)
+coded_rows s = map (coded_row (place_in s.texts)) s.rows
 
 -- what is true of every state
 pub record IsState (s : State) : Type 0 where
@@ -56,17 +56,17 @@ pub record IsIndexed (schema : Layout) (tree : Tree ℕ) (index : List Ranking) 
   pub kinds : units index ≡ map (λ kind. (kind, scale_in schema kind)) schema.indexes
 
 -- a state, and the tree and the index that are kept of its rows
-pub record Held : Type 0 where
+pub record Contents : Type 0 where
   pub state : State
   pub tree : Tree ℕ
   pub index : List Ranking
 
 -- the rows with codes for their texts
-abbrev pub source_of : State → Source
-source_of s = record { measures = length s.schema.measures; rows = coded s }
+abbrev pub source_of : State → TreeRows
+source_of s = record { measures = length s.schema.measures; rows = coded_rows s }
 
 -- what is true of every warehouse: the tree is the canonical tree of the rows, and the index that of its classes
-pub record IsHeld (held : Held) : Type 0 where
+pub record AreContents (held : Contents) : Type 0 where
   pub state : IsState held.state
-  pub tree : IsFrom (length held.state.schema.dims) held.tree (source_of held.state)
+  pub tree : IsTreeOf (length held.state.schema.dims) held.tree (source_of held.state)
   pub index : IsIndexed held.state.schema held.tree held.index

@@ -11,7 +11,7 @@ use Rattle.csv_load.specs.Batch.{Change, Delete, Insert, deleted, inserted}
 use Rattle.qc_arena.specs.Map.{Arena}
 use Rattle.value_dict.specs.TextLists.{cut, learnt_in}
 use Rattle.warehouse.specs.Batch as batches
-use Rattle.warehouse.specs.Batch.{Refusal, full_dim, refusal_of, rows_after, texts_after, with_tuple}
+use Rattle.warehouse.specs.Batch.{Refusal, full_dim, refusal_of, rows_after, with_tuple}
 use Rattle.warehouse.specs.State.{State, ids_of}
 use Rattle.value_dict.specs.Told.{AreCodes, decoded}
 use Rattle.warehouse.specs.Stored.{refusal_in}

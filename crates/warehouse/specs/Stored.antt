@@ -10,7 +10,7 @@ use Rattle.csv_load.specs.Batch.{IsValue}
 use Rattle.csv_load.specs.Faults as files
 use Rattle.qc_arena.specs.Map.{Arena, is_open}
 use Rattle.qc_schema.specs.Schema.{Layout, IsLayout}
-use Rattle.tree_search.specs.Found.{IsFrom}
+use Rattle.tree_search.specs.Found.{IsTreeOf}
 use Rattle.value_dict.specs.TextLists.{IsDictionary, TextLists}
 use Rattle.value_dict.specs.Told.{RowsAreCodes, decoded_row}
 use Rattle.warehouse.specs.Batch as batches
@@ -42,16 +42,16 @@ pub record IsStored (schema : Layout) (dict : TextLists) (table : Places) : Type
   pub are_rows : IsTable table
 
 -- the tree that is kept is that of the rows
-pub record IsKept (schema : Layout) (table : Places) (tree : Arena) : Type 0 where
+pub record IsTreeOfTable (schema : Layout) (table : Places) (tree : Arena) : Type 0 where
   pub closed : is_open tree ≡ false
   pub width : tree.width ≡ length schema.dims
   pub max : tree.max ≡ schema.nodes
   pub few : length (nodes nat_cmp (rows_of table)) ≤ schema.nodes
-  pub from : IsFrom (length schema.dims) tree.now (record { measures = length schema.measures; rows = rows_of table })
+  pub from : IsTreeOf (length schema.dims) tree.now (record { measures = length schema.measures; rows = rows_of table })
 
 -- the tree is that of some rows that fit the schema
-abbrev pub IsTreeOf : Layout → Tree ℕ → Type 0
-IsTreeOf schema tree = (rows : List (Row ℕ)) × IsFrom (length schema.dims) tree (record { measures = length schema.measures; rows = rows })
+abbrev pub IsTreeOfSome : Layout → Tree ℕ → Type 0
+IsTreeOfSome schema tree = (rows : List (Row ℕ)) × IsTreeOf (length schema.dims) tree (record { measures = length schema.measures; rows = rows })
 
 -- what a file did that was taken, with the state after it
 abbrev pub applied_in : State → Applied → batches.Applied

@@ -1,6 +1,6 @@
 // Changes are made to rows and texts, all of them or none, and the tree is made that of the rows after
 // them: in place for a batch, and anew for a base file.
-ghost use Rattle.std.specs.Prelude.{Err, IfErr, IfOk, IfSome, None, Ok, OnErr, OnOk, Some, [], false, filter, is_some, length, not, option_map, true, ◌+◌, ◌++◌, ◌<◌, ◌∷◌, ◌≡◌, ◌≤◌};
+ghost use Rattle.std.specs.Prelude.{Err, IfErr, IfOk, IfSome, None, Ok, OnErr, OnOk, Some, [], false, is_some, length, option_map, true, ◌+◌, ◌++◌, ◌<◌, ◌∷◌, ◌≡◌, ◌≤◌};
 ghost use Rattle.base_table.specs.Places.{has_id, rows_of};
 ghost use Rattle.cell_core.specs.Gives.{Gives};
 ghost use Rattle.csv_load.specs.Batch.{IsBatch, change_at, deleted, id_of, inserted, is_deletion, row_of};
@@ -10,18 +10,18 @@ ghost use Rattle.qc_arena.specs.Map.{is_open};
 ghost use Rattle.std.specs.Ordering.{nat_cmp};
 ghost use Rattle.value_dict.specs.TextLists.{IsDictionary};
 ghost use Rattle.warehouse.specs.Batch as batches;
-ghost use Rattle.warehouse.specs.Batch.{after, first_number, first_twice, full_dim, is_among, is_missing, refusal_of, result_of, texts_after, with_tuple};
+ghost use Rattle.warehouse.specs.Batch.{after, first_number, first_twice, full_dim, refusal_of, result_of, texts_after, with_tuple};
 ghost use Rattle.warehouse.specs.InPlace.{KeepsApart, KeepsNodes, KeepsNumbers, cost_of, cost_of_batch, cost_of_going, gone, kept, with_codes};
-ghost use Rattle.warehouse.specs.State.{IsIndexed, ids_of};
+ghost use Rattle.warehouse.specs.State.{IsIndexed};
 ghost use Rattle.warehouse.specs.Steps.{AreLonger, HasFront, IsCause, IsOver, IsTreeBefore, closed, frame, is_there, last_refusal, rows_before, rows_behind};
-ghost use Rattle.warehouse.specs.Stored.{IsKept, IsStored, IsTreeOf, applied_in, decoded_rows, refusal_in, state_of};
+ghost use Rattle.warehouse.specs.Stored.{IsTreeOfTable, IsStored, IsTreeOfSome, applied_in, decoded_rows, refusal_in, state_of};
 ghost use Rattle.value_dict.specs.Told.{RowsAreCodes};
 
 use crate::checks::{first_present, first_repeat, is_full};
 use crate::deleting::delete_rows;
 use crate::indexing::change_index;
 use crate::learning::{learn_tuple, lengths, values_full};
-use crate::one_batch::{go_back, keep, open_batch};
+use crate::one_batch::{commit_both, go_back, open_batch};
 use crate::refused::{Applied, Refused};
 use crate::repair::repair;
 use base_table::{Table, TableRefused};
@@ -57,7 +57,8 @@ fn insert_row(
     requires new { has_id (rows_of table.old) (id_of (change_at batch.now.changes k)) ≡ false }
     requires room { length (rows_of table.old) < table.old.max }
     requires valid { IsBatch batch.now }
-    ensures rows { OnOk result (decoded_rows dict.new.lists table.new ≡ decoded_rows dict.old.lists table.old ++ inserted (change_at batch.now.changes k ∷ [])) }
+    ensures rows { OnOk result (decoded_rows dict.new.lists table.new
+        ≡ decoded_rows dict.old.lists table.old ++ inserted (change_at batch.now.changes k ∷ [])) }
     ensures lists { OnOk result (dict.new.lists ≡ with_tuple dict.old.lists (row_of (change_at batch.now.changes k)).tuple) }
     ensures known { OnOk result (RowsAreCodes dict.new.lists (rows_of table.new)) }
     ensures full { result ≡ Err Learn.Full → IsOver dict.old.max (with_tuple dict.old.lists (row_of (change_at batch.now.changes k)).tuple) }
@@ -143,7 +144,8 @@ fn add_rows(
     ensures rows { OnOk result (decoded_rows dict.new.lists table.new ≡ decoded_rows dict.old.lists table.old ++ inserted batch.now.changes) }
     ensures lists { OnOk result (dict.new.lists ≡ texts_after dict.old.lists batch.now.changes) }
     ensures known { OnOk result (RowsAreCodes dict.new.lists (rows_of table.new)) }
-    ensures full { IfErr result (λ refused. IfSome (refusal_in refused) (λ refusal. option_map (λ dim. batches.ValuesFull dim) (full_dim dict.old.max (texts_after dict.old.lists batch.now.changes)) ≡ Some refusal)) }
+    ensures full { IfErr result (λ refused. IfSome (refusal_in refused)
+        (λ refusal. option_map (λ dim. batches.ValuesFull dim) (full_dim dict.old.max (texts_after dict.old.lists batch.now.changes)) ≡ Some refusal)) }
     ensures longer { AreLonger dict.old.lists dict.new.lists }
     ensures max { dict.new.max ≡ dict.old.max }
     ensures dictionary { IsDictionary dict.new }
@@ -186,7 +188,8 @@ fn change_rows<L: Ledger>(
     requires measures { batch.now.measures ≡ length schema.now.measures }
     requires once { first_twice batch.now.changes ≡ None }
     requires valid { IsBatch batch.now }
-    ensures last { OnOk result (refusal_of (state_of schema.now dict.old table.old) batch.now.changes ≡ last_refusal (state_of schema.now dict.old table.old) batch.now.changes) }
+    ensures last { OnOk result (refusal_of (state_of schema.now dict.old table.old) batch.now.changes
+        ≡ last_refusal (state_of schema.now dict.old table.old) batch.now.changes) }
     ensures made { OnOk result (state_of schema.now dict.new table.new ≡ after (state_of schema.now dict.old table.old) batch.now.changes) }
     ensures known { OnOk result (RowsAreCodes dict.new.lists (rows_of table.new)) }
     ensures cause { IfErr result (λ refused. IsCause refused (state_of schema.now dict.old table.old) batch.now.changes) }
@@ -301,9 +304,13 @@ fn change_and_build<L: Ledger>(
     ensures made { OnOk result (state_of schema.now dict.new table.new ≡ after (state_of schema.now dict.old table.old) batch.now.changes) }
     ensures tree { OnOk result (IsCanonical nat_cmp table.new.measures (rows_of table.new) tree.new.now) }
     ensures fits { OnOk result (length (nodes nat_cmp (rows_of table.new)) ≤ schema.now.nodes) }
-    ensures numbers { OnOk result (in_place ≡ true → KeepsNodes (with_codes dict.new.lists (kept (deleted batch.now.changes) (decoded_rows dict.old.lists table.old))) tree.old.now tree.new.now) }
-    ensures apart { OnOk result (in_place ≡ true → KeepsApart (with_codes dict.new.lists (gone (deleted batch.now.changes) (decoded_rows dict.old.lists table.old) ++ inserted batch.now.changes)) tree.old.now tree.new.now) }
-    ensures steps { OnOk result (in_place ≡ true → steps.new ≤ steps.old + cost_of_batch (length schema.now.dims) dict.new.lists (decoded_rows dict.old.lists table.old) batch.now.changes) }
+    ensures numbers { OnOk result (in_place ≡ true → KeepsNodes
+        (with_codes dict.new.lists (kept (deleted batch.now.changes) (decoded_rows dict.old.lists table.old))) tree.old.now tree.new.now) }
+    ensures apart { OnOk result (in_place ≡ true → KeepsApart
+        (with_codes dict.new.lists (gone (deleted batch.now.changes) (decoded_rows dict.old.lists table.old)
+        ++ inserted batch.now.changes)) tree.old.now tree.new.now) }
+    ensures steps { OnOk result (in_place ≡ true → steps.new
+        ≤ steps.old + cost_of_batch (length schema.now.dims) dict.new.lists (decoded_rows dict.old.lists table.old) batch.now.changes) }
     ensures known { OnOk result (RowsAreCodes dict.new.lists (rows_of table.new)) }
     ensures cause { IfErr result (λ refused. IsCause refused (state_of schema.now dict.old table.old) batch.now.changes) }
     ensures longer { AreLonger dict.old.lists dict.new.lists }
@@ -347,7 +354,7 @@ fn change_and_index<L: Ledger>(
     requires measures { batch.now.measures ≡ length schema.now.measures }
     requires once { first_twice batch.now.changes ≡ None }
     requires valid { IsBatch batch.now }
-    requires before { IfSome tree.old.was (λ before. IsTreeOf schema.now before.tree × IsIndexed schema.now before.tree index.old) }
+    requires before { IfSome tree.old.was (λ before. IsTreeOfSome schema.now before.tree × IsIndexed schema.now before.tree index.old) }
     ensures none { OnOk result (refusal_of (state_of schema.now dict.old table.old) batch.now.changes ≡ None) }
     ensures made { OnOk result (state_of schema.now dict.new table.new ≡ after (state_of schema.now dict.old table.old) batch.now.changes) }
     ensures tree { OnOk result (IsCanonical nat_cmp table.new.measures (rows_of table.new) tree.new.now) }
@@ -359,9 +366,13 @@ fn change_and_index<L: Ledger>(
     ensures dictionary { IsDictionary dict.new }
     ensures frame { frame table.new ≡ frame table.old }
     ensures tree_frame { arena.frame tree.new ≡ arena.frame tree.old }
-    ensures numbers { OnOk result (in_place ≡ true → KeepsNodes (with_codes dict.new.lists (kept (deleted batch.now.changes) (decoded_rows dict.old.lists table.old))) tree.old.now tree.new.now) }
-    ensures apart { OnOk result (in_place ≡ true → KeepsApart (with_codes dict.new.lists (gone (deleted batch.now.changes) (decoded_rows dict.old.lists table.old) ++ inserted batch.now.changes)) tree.old.now tree.new.now) }
-    ensures steps { OnOk result (in_place ≡ true → steps.new ≤ steps.old + cost_of_batch (length schema.now.dims) dict.new.lists (decoded_rows dict.old.lists table.old) batch.now.changes) }
+    ensures numbers { OnOk result (in_place ≡ true → KeepsNodes
+        (with_codes dict.new.lists (kept (deleted batch.now.changes) (decoded_rows dict.old.lists table.old))) tree.old.now tree.new.now) }
+    ensures apart { OnOk result (in_place ≡ true → KeepsApart
+        (with_codes dict.new.lists (gone (deleted batch.now.changes) (decoded_rows dict.old.lists table.old)
+        ++ inserted batch.now.changes)) tree.old.now tree.new.now) }
+    ensures steps { OnOk result (in_place ≡ true → steps.new
+        ≤ steps.old + cost_of_batch (length schema.now.dims) dict.new.lists (decoded_rows dict.old.lists table.old) batch.now.changes) }
     ensures indexed { OnOk result (IsIndexed schema.now tree.new.now index.new) }
     ensures same_index { OnErr result (index.new ≡ index.old) }
 {
@@ -387,19 +398,24 @@ pub(crate) fn change<L: Ledger>(
     steps: &mut Steps<L>,
 ) -> Result<Applied, Refused>
     requires stored { IsStored schema.now dict.old table.old }
-    requires kept { IsKept schema.now table.old tree.old }
+    requires kept { IsTreeOfTable schema.now table.old tree.old }
     requires indexed { IsIndexed schema.now tree.old.now index.old }
     requires dims { batch.now.dims ≡ length schema.now.dims }
     requires measures { batch.now.measures ≡ length schema.now.measures }
-    ensures gives { Gives refusal_in (applied_in (state_of schema.now dict.new table.new)) result (result_of (state_of schema.now dict.old table.old) (Ok batch.now.changes)) }
+    ensures gives { Gives refusal_in (applied_in (state_of schema.now dict.new table.new)) result
+        (result_of (state_of schema.now dict.old table.old) (Ok batch.now.changes)) }
     ensures state { OnErr result (state_of schema.now dict.new table.new ≡ state_of schema.now dict.old table.old) }
     ensures tree { OnErr result (tree.new.now ≡ tree.old.now) }
     ensures index { OnErr result (index.new ≡ index.old) }
-    ensures numbers { OnOk result (in_place ≡ true → KeepsNodes (with_codes dict.new.lists (kept (deleted batch.now.changes) (decoded_rows dict.old.lists table.old))) tree.old.now tree.new.now) }
-    ensures apart { OnOk result (in_place ≡ true → KeepsApart (with_codes dict.new.lists (gone (deleted batch.now.changes) (decoded_rows dict.old.lists table.old) ++ inserted batch.now.changes)) tree.old.now tree.new.now) }
-    ensures steps { OnOk result (in_place ≡ true → steps.new ≤ steps.old + cost_of_batch (length schema.now.dims) dict.new.lists (decoded_rows dict.old.lists table.old) batch.now.changes) }
+    ensures numbers { OnOk result (in_place ≡ true → KeepsNodes
+        (with_codes dict.new.lists (kept (deleted batch.now.changes) (decoded_rows dict.old.lists table.old))) tree.old.now tree.new.now) }
+    ensures apart { OnOk result (in_place ≡ true → KeepsApart
+        (with_codes dict.new.lists (gone (deleted batch.now.changes) (decoded_rows dict.old.lists table.old)
+        ++ inserted batch.now.changes)) tree.old.now tree.new.now) }
+    ensures steps { OnOk result (in_place ≡ true → steps.new
+        ≤ steps.old + cost_of_batch (length schema.now.dims) dict.new.lists (decoded_rows dict.old.lists table.old) batch.now.changes) }
     ensures stored { IsStored schema.now dict.new table.new }
-    ensures kept { IsKept schema.now table.new tree.new }
+    ensures kept { IsTreeOfTable schema.now table.new tree.new }
     ensures indexed { IsIndexed schema.now tree.new.now index.new }
 {
     if let Some(k) = first_repeat(alloc, batch)? {
@@ -411,7 +427,7 @@ pub(crate) fn change<L: Ledger>(
         schema, table, dict, tree, index, batch, in_place, alloc, steps,
     ) {
         Ok(()) => {
-            keep(table, tree);
+            commit_both(table, tree);
             let classes = tree.class_count();
             Ok(Applied { records, classes })
         }

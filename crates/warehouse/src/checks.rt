@@ -1,5 +1,5 @@
 // What is looked for before rows are put in.
-ghost use Rattle.std.specs.Prelude.{IfOk, Ok, OnOk, [], length, nat_lt, not, true, ◌+◌, ◌-◌, ◌≡◌, ◌≤◌, take};
+ghost use Rattle.std.specs.Prelude.{IfOk, Ok, [], length, nat_lt, not, true, ◌+◌, ◌-◌, ◌≡◌, ◌≤◌, take};
 ghost use Rattle.std.specs.List.{list_any};
 ghost use Rattle.base_table.specs.Places.{rows_of};
 ghost use Rattle.csv_load.specs.Batch.{change_at, inserted};

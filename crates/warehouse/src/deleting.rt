@@ -1,8 +1,8 @@
 // Rows that go are taken out of the table, and out of the tree in place, one after another.
 ghost use Rattle.std.specs.Prelude.{IfErr, IfSome, None, OnOk, Some, is_some, length, option_map, true, ◌+◌, ◌∷◌, ◌≡◌, ◌≤◌, []};
-ghost use Rattle.base_table.specs.Places.{has_id, row_with_id, rows_of, without_id};
-ghost use Rattle.batch_delete.specs.Rests.{Deletion, rows_before};
-ghost use Rattle.csv_load.specs.Batch.{AreInsertions, deleted};
+ghost use Rattle.base_table.specs.Places.{row_with_id, rows_of, without_id};
+ghost use Rattle.batch_delete.specs.Rests.{Deletion};
+ghost use Rattle.csv_load.specs.Batch.{deleted};
 ghost use Rattle.cube_defs.specs.Cell.{Cell};
 ghost use Rattle.cube_defs.specs.Tree.{IsCanonical, cell_at, nodes};
 ghost use Rattle.qc_arena.specs.Map as arena;
@@ -77,7 +77,8 @@ pub(crate) fn delete_rows<L: Ledger>(
     requires tree { IsCanonical nat_cmp table.old.measures (rows_of table.old) tree.old.now }
     requires few_nodes { length (nodes nat_cmp (rows_of table.old)) ≤ tree.old.max }
     ensures none { OnOk result (first_number (is_missing (ids_of (rows_of table.old))) batch.now.changes ≡ None) }
-    ensures missing { IfErr result (λ refused. IfSome (refusal_in refused) (λ refusal. option_map (λ k. batches.Missing k) (first_number (is_missing (ids_of (rows_of table.old))) batch.now.changes) ≡ Some refusal)) }
+    ensures missing { IfErr result (λ refused. IfSome (refusal_in refused)
+        (λ refusal. option_map (λ k. batches.Missing k) (first_number (is_missing (ids_of (rows_of table.old))) batch.now.changes) ≡ Some refusal)) }
     ensures rows { OnOk result (rows_of table.new ≡ kept (deleted batch.now.changes) (rows_of table.old)) }
     ensures frame { frame table.new ≡ frame table.old }
     ensures tree { OnOk result (IsCanonical nat_cmp table.old.measures (rows_of table.new) tree.new.now) }

@@ -4,7 +4,7 @@ ghost use Rattle.std.specs.Prelude.{IfOk, IfSome, OnErr, OnOk, length, map, take
 ghost use Rattle.qc_arena.specs.Map.{is_open};
 ghost use Rattle.qc_schema.specs.Schema.{IsLayout};
 ghost use Rattle.warehouse.specs.State.{IsIndexed};
-ghost use Rattle.warehouse.specs.Stored.{IsTreeOf};
+ghost use Rattle.warehouse.specs.Stored.{IsTreeOfSome};
 
 use crate::Memory;
 use measure_index::Index;
@@ -44,8 +44,8 @@ pub(crate) fn change_index(
 ) -> Result<(), Memory>
     requires layout { IsLayout schema.now }
     requires opened { is_open tree.now ≡ true }
-    requires before { IfSome tree.now.was (λ before. IsTreeOf schema.now before.tree × IsIndexed schema.now before.tree index.old) }
-    requires now { IsTreeOf schema.now tree.now.now }
+    requires before { IfSome tree.now.was (λ before. IsTreeOfSome schema.now before.tree × IsIndexed schema.now before.tree index.old) }
+    requires now { IsTreeOfSome schema.now tree.now.now }
     ensures indexed { OnOk result (IsIndexed schema.now tree.now.now index.new) }
     ensures err { OnErr result (index.new ≡ index.old) }
 {

@@ -1,5 +1,5 @@
 // Texts are learnt: row by row, or dimension by dimension.
-ghost use Rattle.std.specs.Prelude.{[], Err, IfOk, IfSome, OnErr, OnOk, Some, false, length, map, option_map, slice_set, take, ◌<◌, ◌≡◌, ◌≤◌};
+ghost use Rattle.std.specs.Prelude.{[], Err, IfOk, IfSome, OnOk, Some, false, length, map, option_map, slice_set, take, ◌<◌, ◌≡◌, ◌≤◌};
 ghost use Rattle.csv_load.specs.Batch.{IsBatch, change_at, is_deletion, row_of};
 ghost use Rattle.value_dict.specs.TextLists.{IsDictionary, list_at};
 ghost use Rattle.warehouse.specs.Batch.{full_dim, texts_after, with_tuple};
@@ -110,7 +110,8 @@ pub(crate) fn values_full(dict: &mut Dict, batch: &RawBatch, lens: &[u32]) -> Re
     requires dictionary { IsDictionary dict.old }
     requires valid { IsBatch batch.now }
     requires over { IsOver dict.old.max (texts_after dict.old.lists batch.now.changes) }
-    ensures refusal { IfSome (refusal_in result) (λ refusal. option_map (λ dim. batches.ValuesFull dim) (full_dim dict.old.max (texts_after dict.old.lists batch.now.changes)) ≡ Some refusal) }
+    ensures refusal { IfSome (refusal_in result) (λ refusal. option_map (λ dim. batches.ValuesFull dim)
+        (full_dim dict.old.max (texts_after dict.old.lists batch.now.changes)) ≡ Some refusal) }
     ensures dict { dict.new ≡ dict.old }
 {
     let found = first_full(dict, batch, lens.len() as u8);

@@ -3,11 +3,10 @@ ghost use Rattle.std.specs.FinMap as finmap;
 ghost use Rattle.std.specs.FinSet as set;
 ghost use Rattle.std.specs.Prelude.{None, Some, false, is_some, length, map, take, true, ◌≡◌, ◌≤◌};
 ghost use Rattle.base_table.specs.Places.{IsTable, base_of, rows_of};
-ghost use Rattle.cube_defs.specs.declared.limits.TheConstants.{MAX_DIMS};
 ghost use Rattle.qc_arena.specs.Map.{is_open, shape_of};
 ghost use Rattle.value_dict.specs.TextLists.{IsDictionary, cut};
 ghost use Rattle.warehouse.specs.Steps.{closed, frame};
-ghost use Rattle.warehouse.specs.Stored.{IsKept, IsStored, state_of};
+ghost use Rattle.warehouse.specs.Stored.{IsTreeOfTable, IsStored, state_of};
 
 use crate::learning::lengths;
 use base_table::Table;
@@ -24,7 +23,7 @@ pub(crate) fn open_batch(
     tree: &mut QcArena,
 ) -> [u32; 16]
     requires stored { IsStored schema.now dict.now table.old }
-    requires kept { IsKept schema.now table.old tree.old }
+    requires kept { IsTreeOfTable schema.now table.old tree.old }
     ensures table { table.new ≡ record table.old { was = Some (base_of table.old) } }
     ensures tree { tree.new ≡ record tree.old { was = Some (shape_of tree.old); touched = set.empty; last = finmap.empty } }
     ensures state { state_of schema.now dict.now table.new ≡ state_of schema.now dict.now table.old }
@@ -36,7 +35,7 @@ pub(crate) fn open_batch(
 }
 
 /// Keeps what was done in the batch.
-pub(crate) fn keep(table: &mut Table, tree: &mut QcArena)
+pub(crate) fn commit_both(table: &mut Table, tree: &mut QcArena)
     requires rows { is_some table.old.was ≡ true }
     requires tree { is_open tree.old ≡ true }
     ensures rows { rows_of table.new ≡ rows_of table.old }

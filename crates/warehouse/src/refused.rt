@@ -1,5 +1,6 @@
 // What a file of changes does, or why it is refused; and what is counted.
 use crate::Memory;
+use thiserror::Error;
 
 /// A file of changes was taken.
 #[derive(Clone, Copy, Debug, PartialEq, Eq)]
@@ -12,37 +13,52 @@ pub struct Applied {
 
 /// Why a file of changes is refused. Of several causes the first in this order is named. A number
 /// is that of a record, counted from 1 without the header; a dimension is counted from 0.
-#[derive(Clone, Copy, Debug, PartialEq, Eq)]
+#[derive(Clone, Copy, Debug, PartialEq, Eq, Error)]
 pub enum Refused {
     /// A base file is loaded where a row is present.
+    #[error("a base file is loaded where a row is present")]
     NotEmpty,
     /// There is no header, or a needed column isn't there just once.
+    #[error("a needed column is not there just once")]
     Header,
     /// The record has another number of fields than the header.
+    #[error("record {0} has another number of fields than the header")]
     Fields(u32),
     /// The text of a dimension isn't UTF-8.
+    #[error("record {0} has a text that is not UTF-8")]
     Utf8(u32),
     /// The operation is neither `+` nor `-`.
+    #[error("record {0} is neither an insertion nor a deletion")]
     Op(u32),
     /// The id is no number that fits 64 bits.
+    #[error("record {0} has an id that is no number of 64 bits")]
     Id(u32),
     /// An amount is none of its measure's scale, or is too large.
+    #[error("record {0} has an amount that is none of its scale, or too large")]
     Amount(u32),
     /// The text of a dimension has more than 255 bytes.
+    #[error("record {0} has a text of more than 255 bytes")]
     Value(u32),
     /// An earlier record has the same operation and the same id.
+    #[error("record {0} has the operation and the id of an earlier one")]
     Twice(u32),
     /// A deletion's id isn't present before the file.
+    #[error("record {0} deletes an id that is not present")]
     Missing(u32),
     /// An insertion's id is present before the file, and isn't deleted in it.
+    #[error("record {0} inserts an id that is present")]
     Present(u32),
     /// There would be more rows than the schema allows.
+    #[error("there would be more rows than the schema allows")]
     RowsFull,
     /// The dimension would have more texts than the schema allows.
+    #[error("dimension {0} would have more texts than the schema allows")]
     ValuesFull(u8),
     /// The tree would have more nodes than the schema allows.
+    #[error("the tree would have more nodes than the schema allows")]
     NodesFull,
     /// Memory ran out.
+    #[error("memory ran out")]
     Memory,
 }
 

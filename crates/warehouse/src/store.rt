@@ -12,7 +12,7 @@ ghost use Rattle.measure_index.specs.Rankings.{IsIndex};
 ghost use Rattle.warehouse.specs.Batch as batches;
 ghost use Rattle.warehouse.specs.Batch.{result_of};
 ghost use Rattle.warehouse.specs.InPlace.{IsWithinCost, KeepsApart, KeepsNodes, LeavesApart, LeavesNumbers, cost_of_batch, gone, kept, with_codes};
-ghost use Rattle.warehouse.specs.State.{IsHeld, State, empty, scale_in};
+ghost use Rattle.warehouse.specs.State.{AreContents, State, empty, scale_in};
 ghost use Rattle.warehouse.specs.Stored.{applied_in, refusal_in};
 
 use crate::Memory;
@@ -46,21 +46,22 @@ pub struct Warehouse {
 impl Model for Warehouse {
     ghost use Rattle.std.specs.Coded.{codes};
     ghost use Rattle.qc_arena.specs.Codes.{tree_code};
-    ghost use Rattle.warehouse.specs.State.{Held, IsIndexed};
-    ghost use Rattle.warehouse.specs.Stored.{IsKept, IsStored, state_of};
+    ghost use Rattle.warehouse.specs.State.{Contents, IsIndexed};
+    ghost use Rattle.warehouse.specs.Stored.{IsTreeOfTable, IsStored, state_of};
 
-    ghost Value = { Held };
+    ghost Value = { Contents };
 
     ghost coded = { Prim.hlevel (codes, tree_code) };
 
     ghost view = { λ w. record { state = state_of w.schema w.dict w.table; tree = w.tree.now; index = w.index } };
 
-    ghost invariant = { λ w. IsStored w.schema w.dict w.table × IsKept w.schema w.table w.tree × IsIndexed w.schema w.tree.now w.index };
+    ghost invariant = { λ w. IsStored w.schema w.dict w.table × IsTreeOfTable w.schema w.table w.tree × IsIndexed w.schema w.tree.now w.index };
 }
 
 // The refusal for a file that gives no rows.
 fn refused_file(refused: LoadRefused) -> Refused
-    ensures { (s : State) (read : Result (List (Change Text)) Fault) → IfSome (fault_in refused) (λ fault. read ≡ Err fault) → IfSome (refusal_in result) (λ refusal. result_of s read ≡ Err refusal) }
+    ensures { (s : State) (read : Result (List (Change Text)) Fault) → IfSome (fault_in refused) (λ fault. read ≡ Err fault) →
+        IfSome (refusal_in result) (λ refusal. result_of s read ≡ Err refusal) }
 {
     match refused {
         LoadRefused::Header => Refused::Header,
@@ -96,7 +97,7 @@ impl Warehouse {
     /// The schema.
     pub fn schema(&self) -> &Schema
         ensures value { result.now ≡ self.now.state.schema }
-        ensures valid { IsHeld self.now }
+        ensures valid { AreContents self.now }
     {
         &self.schema
     }
@@ -105,14 +106,14 @@ impl Warehouse {
     pub fn dict(&self) -> &Dict
         ensures texts { result.now.lists ≡ self.now.state.texts }
         ensures most { result.now.max ≡ self.now.state.schema.values }
-        ensures valid { IsHeld self.now }
+        ensures valid { AreContents self.now }
     {
         &self.dict
     }
 
     /// Says what is true of every warehouse. It does nothing.
     pub fn is_valid(&self)
-        ensures { IsHeld self.now }
+        ensures { AreContents self.now }
     {
         let _read = &self.tree;
     }
@@ -122,7 +123,7 @@ impl Warehouse {
         ensures value { result.now.now ≡ self.now.tree }
         ensures width { result.now.width ≡ length self.now.state.schema.dims }
         ensures max { result.now.max ≡ self.now.state.schema.nodes }
-        ensures valid { IsHeld self.now }
+        ensures valid { AreContents self.now }
     {
         &self.tree
     }
@@ -132,7 +133,7 @@ impl Warehouse {
         ensures value { result.now ≡ self.now.index }
         ensures index { IsIndex (class_of_node self.now.tree) result.now }
         ensures unit { (kind : AggKind) → IfSome (ranking_of kind result.now) (λ r. r.scale ≡ scale_in self.now.state.schema kind) }
-        ensures valid { IsHeld self.now }
+        ensures valid { AreContents self.now }
     {
         &self.index
     }
@@ -167,10 +168,14 @@ impl Warehouse {
         requires dims { batch.now.dims ≡ length self.old.state.schema.dims }
         requires measures { batch.now.measures ≡ length self.old.state.schema.measures }
         ensures gives { Gives refusal_in (applied_in self.new.state) result (result_of self.old.state (Ok batch.now.changes)) }
-        ensures numbers { OnOk result (in_place ≡ true → KeepsNodes (with_codes self.new.state.texts (kept (deleted batch.now.changes) self.old.state.rows)) self.old.tree self.new.tree) }
-        ensures apart { OnOk result (in_place ≡ true → KeepsApart (with_codes self.new.state.texts (gone (deleted batch.now.changes) self.old.state.rows ++ inserted batch.now.changes)) self.old.tree self.new.tree) }
-        ensures steps { OnOk result (in_place ≡ true → steps.new ≤ steps.old + cost_of_batch (length self.old.state.schema.dims) self.new.state.texts self.old.state.rows batch.now.changes) }
-        ensures valid { IsHeld self.new }
+        ensures numbers { OnOk result (in_place ≡ true → KeepsNodes
+            (with_codes self.new.state.texts (kept (deleted batch.now.changes) self.old.state.rows)) self.old.tree self.new.tree) }
+        ensures apart { OnOk result (in_place ≡ true → KeepsApart
+            (with_codes self.new.state.texts (gone (deleted batch.now.changes) self.old.state.rows
+            ++ inserted batch.now.changes)) self.old.tree self.new.tree) }
+        ensures steps { OnOk result (in_place ≡ true → steps.new
+            ≤ steps.old + cost_of_batch (length self.old.state.schema.dims) self.new.state.texts self.old.state.rows batch.now.changes) }
+        ensures valid { AreContents self.new }
         ensures state { OnErr result (self.new.state ≡ self.old.state) }
         ensures tree { OnErr result (self.new.tree ≡ self.old.tree) }
         ensures index { OnErr result (self.new.index ≡ self.old.index) }
@@ -196,7 +201,7 @@ impl Warehouse {
     ) -> Result<Applied, Refused>
         requires { length bytes.now ≤ MAX_FILE }
         ensures gives { Gives refusal_in (applied_in self.new.state) result (batches.result self.old.state batches.Load bytes.now) }
-        ensures valid { IsHeld self.new }
+        ensures valid { AreContents self.new }
         ensures state { OnErr result (self.new.state ≡ self.old.state) }
         ensures tree { OnErr result (self.new.tree ≡ self.old.tree) }
         ensures index { OnErr result (self.new.index ≡ self.old.index) }
@@ -224,7 +229,7 @@ impl Warehouse {
         ensures numbers { OnOk result (LeavesNumbers self.old bytes.now self.new) }
         ensures apart { OnOk result (LeavesApart self.old bytes.now self.new) }
         ensures steps { OnOk result (IsWithinCost self.old bytes.now self.new steps.old steps.new) }
-        ensures valid { IsHeld self.new }
+        ensures valid { AreContents self.new }
         ensures state { OnErr result (self.new.state ≡ self.old.state) }
         ensures tree { OnErr result (self.new.tree ≡ self.old.tree) }
         ensures index { OnErr result (self.new.index ≡ self.old.index) }

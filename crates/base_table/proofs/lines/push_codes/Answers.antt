@@ -13,13 +13,13 @@ codes-preserved c =
       len = omega arith;
       room = c.push_reserved.ensures.capacity ∙ c.codes.invariant.room;
       small = small_more c.args.tuple.now c.codes.dim c.code_or_any.result (value_in c.get.result) lt c.get.ensures.value c.code_or_any.ensures
-          (subst (λ n. n < 4000000) (sym c.code_or_any.ensures) (small_code c.get.result c.get.ensures.small (ap is_some c.get.ensures.value ∙ c.requires.full c.codes.dim None lt))) c.codes.invariant.small;
+          (subst (λ n. n < 4000000) (sym c.code_or_any.ensures) (small_code c.get.result c.get.ensures.small (ap is_some c.get.ensures.value ∙ c.requires.no_any c.codes.dim None lt))) c.codes.invariant.small;
     }
 
 pub returns : goal.returns
 returns c =
     let whole : map code_or_any (take c.codes.dim c.args.tuple.now) ≡ map code_or_any c.args.tuple.now = ap (map code_or_any) (take_all c.codes.dim c.args.tuple.now (omega arith)) in
-    let values = values-codes c.args.tuple.now c.requires.full in
+    let values = values-codes c.args.tuple.now c.requires.no_any in
     let same = whole ∙ sym values in
     record {
       items = c.codes.invariant.put ∙ ap (λ (l : List ℕ). c.args.codes.now.items ++ l) same;

@@ -3,7 +3,7 @@ use Rattle.std.specs.FinMap as map
 use Rattle.std.specs.declared.result.Result.{Result}
 use Rattle.cube_defs.specs.Tree.{cell_at}
 use Rattle.qc_arena.specs.Map.{Arena}
-use Rattle.tree_search.specs.Found.{IsFrom, Source}
+use Rattle.tree_search.specs.Found.{IsTreeOf, TreeRows}
 use Rattle.batch_delete.specs.Below.{AreBelow}
 use Rattle.batch_delete.specs.Gone.{source_after}
 use Rattle.batch_delete.specs.Rests.{source_before}
@@ -17,8 +17,8 @@ on_ok (Ok x) h f = f h
 on_ok (Err e) h f = h
 
 -- the tree is the same once its nodes are touched
-still_from : (old new : Arena) (source : Source) → new.now ≡ old.now → new.width ≡ old.width → IsFrom old.width old.now source → IsFrom new.width new.now source
-still_from old new source now width h = subst (λ t. IsFrom new.width t source) (sym now) (subst (λ w. IsFrom w old.now source) (sym width) h)
+still_from : (old new : Arena) (source : TreeRows) → new.now ≡ old.now → new.width ≡ old.width → IsTreeOf old.width old.now source → IsTreeOf new.width new.now source
+still_from old new source now width h = subst (λ t. IsTreeOf new.width t source) (sym now) (subst (λ w. IsTreeOf w old.now source) (sym width) h)
 
 pub settle_all-requires-clause-ready : goal.settle_all-requires-clause-ready
 settle_all-requires-clause-ready g c =
@@ -44,7 +44,7 @@ returns g c =
     let planned = c.in-Ok-plan_all.ensures.planned in
     let others = c.settle_all.ensures.others in
     record {
-      tree = on_ok c.settle_all.result c.settle_all.ensures.here (λ here. subst (λ w. IsFrom w new (source_after g.deletion)) width (renewed a.width a.now new tuple g.deletion from long row plan list below planned here others));
+      tree = on_ok c.settle_all.result c.settle_all.ensures.here (λ here. subst (λ w. IsTreeOf w new (source_after g.deletion)) width (renewed a.width a.now new tuple g.deletion from long row plan list below planned here others));
       numbers = on_ok c.settle_all.result c.settle_all.ensures.here (λ here k x at node. still a.width a.now new tuple g.deletion from long row plan list below planned here others k x (ap (λ t. cell_at t k) c.touch_all.ensures.now ∙ at) node);
       none_new = on_ok c.settle_all.result c.settle_all.ensures.here (λ here k x at. ap (λ t. cell_at t k) (sym c.touch_all.ensures.now) ∙ (comes a.width a.now new tuple g.deletion from long row plan list below planned here others k x at).0);
       apart = λ k n at off. apart a.width a.now tuple g.deletion from long row plan list below planned new others k n (ap (λ t. map.get t k) c.touch_all.ensures.now ∙ at) off;

@@ -2,8 +2,9 @@ use Rattle.std.proofs.Common.{◌≡◌, ◌∙◌, ◌+◌, ◌-◌, ap, ap₂,
 use Rattle.aggregates.specs.Views.{part_in}
 use Rattle.cube_defs.specs.Rows as defs
 use Rattle.cube_laws.specs.Total.{combine_parts}
-use Rattle.batch_delete.proofs.Lesser.{parts_told, taken_long}
+use Rattle.batch_delete.proofs.Lesser.{parts_told}
 use Rattle.batch_delete.proofs.less.besides.Goals as goal
+use Rattle.qc_arena.proofs.Shown.{length-first}
 
 pub returns-clause-rest : goal.returns-clause-rest
 returns-clause-rest c = λ o long e.
@@ -15,5 +16,5 @@ returns-clause-rest c = λ o long e.
     let count : w.count - p.count ≡ o.count = omega arith in
     let past = c.parts-test.false in
     let four = c.parts.invariant.four in
-    let is = parts_told w.measures p.parts w.parts c.parts.parts o.parts (omega arith) (omega arith) (omega arith) (long ∙ taken_long p.measures p.parts (omega arith) ∙ sym same) (λ k l. c.parts.invariant.told k (omega arith)) (ap (λ n. combine_parts (map part_in (take n p.parts)) o.parts) same ∙ parts) in
+    let is = parts_told w.measures p.parts w.parts c.parts.parts o.parts (omega arith) (omega arith) (omega arith) (long ∙ length-first p.measures p.parts (omega arith) ∙ sym same) (λ k l. c.parts.invariant.told k (omega arith)) (ap (λ n. combine_parts (map part_in (take n p.parts)) o.parts) same ∙ parts) in
     ap₂ (λ n ps. let a : defs.Agg = record { count = n; parts = ps } in a) count is

@@ -8,8 +8,8 @@ use Rattle.tree_search.proofs.Walked.{there_is}
 use Rattle.batch_delete.specs.Plan.{heir_in, mixed, own_to, with_mixed, with_own}
 use Rattle.batch_delete.proofs.Leading.{all_led, label_was, leads_to, none_led, not_yet, own_before, own_more}
 use Rattle.batch_delete.proofs.Mending.{there_still}
-use Rattle.batch_delete.proofs.Totalled.{same_test}
 use Rattle.batch_delete.proofs.mend.lead_edges.Goals as goal
+use Rattle.cube_laws.proofs.Orders.{one_test}
 
 pub dims-init : goal.dims-init
 dims-init g c =
@@ -35,7 +35,7 @@ lead_edge-requires-clause-target g c = λ v t y has found heir.
     let old = there_is c.args.arena.now.now c.args.node.0 c.requires.change.there in
     let is = c.dims.invariant.here ∙ ap (option_map (with_mixed (own_before tuple heirs c.dims.dim) 0)) old in
     let at : target_at nat_eq c.dims.dim v (mixed (own_before tuple heirs c.dims.dim) 0 n.edges) ≡ Some y =
-    ap (λ (e : ℕ → ℕ → Bool). target_at e c.dims.dim v (mixed (own_before tuple heirs c.dims.dim) 0 n.edges)) (sym same_test)
+    ap (λ (e : ℕ → ℕ → Bool). target_at e c.dims.dim v (mixed (own_before tuple heirs c.dims.dim) 0 n.edges)) (sym one_test)
     ∙ sym (ap (λ (o : Option Known). target_at (eq_by_cmp nat_cmp) c.dims.dim v (record_or o).edges) is) ∙ found in
     let x = label_was (own_before tuple heirs c.dims.dim) c.dims.dim v (not_yet tuple heirs c.dims.dim v has) n.edges y at in
     there_still c.args.arena.now.now c.dims.arena.now c.args.node.0 c.dims.invariant.others (ap is_some is) t

@@ -1,8 +1,8 @@
 use Rattle.std.proofs.Common.{◌≡◌, ◌∙◌, ◌+◌, suc, ap, arith, nat_cmp, subst, sym, Some}
 use Rattle.std.specs.Ordering.{eq_by_cmp}
 use Rattle.cell_core.specs.Entry.{value_in}
-use Rattle.tree_laws.specs.Walk.{front}
-use Rattle.tree_search.specs.Found.{Names}
+use Rattle.tree_laws.specs.Walk.{closure_front}
+use Rattle.tree_search.specs.Found.{IsNumberOfCell}
 use Rattle.batch_delete.specs.Rests.{rows_before, source_before}
 use Rattle.batch_delete.proofs.GoingOn.{ends, entry_at, goes_on, stops}
 use Rattle.batch_delete.proofs.onward.find_from.Goals as goal
@@ -30,7 +30,7 @@ dims-preserved g c =
     let had = c.dims.invariant.steps in
     let took = c.step.ensures.steps in
     record {
-      on = subst (λ n. Names a.now (Some c.in_ok-node.node.0) (front (eq_by_cmp nat_cmp) (rows_before g.d) cell n)) next on;
+      on = subst (λ n. IsNumberOfCell a.now (Some c.in_ok-node.node.0) (closure_front (eq_by_cmp nat_cmp) (rows_before g.d) cell n)) next on;
       from = omega arith;
       steps = omega arith;
     }

@@ -1,13 +1,13 @@
 use Rattle.std.proofs.Common.{◌≡◌, ◌∙◌, ◌+◌, ◌-◌, suc, ap, arith, length, sym, None, Some}
-use Rattle.cube_defs.specs.Cell.{keep}
+use Rattle.cube_defs.specs.Cell.{cell_front}
 use Rattle.batch_delete.specs.Rests.{source_before}
-use Rattle.batch_delete.proofs.Entries.{entry_is, keep_all, keep_value}
+use Rattle.batch_delete.proofs.Entries.{entry_is, cell_front_all, cell_front_value}
 use Rattle.batch_delete.proofs.GoingOn.{up_there, up_to, value_behind}
 use Rattle.batch_delete.proofs.onward.front_at.Goals as goal
 
 pub up-init : goal.up-init
 up-init g c = record {
-  at = c.requires.1.1.0 ∙ ap (λ x. Some x) (sym (keep_all c.args.cell.now (length c.args.cell.now - 0) (omega arith)));
+  at = c.requires.1.1.0 ∙ ap (λ x. Some x) (sym (cell_front_all c.args.cell.now (length c.args.cell.now - 0) (omega arith)));
   steps = omega arith;
 }
 
@@ -20,7 +20,7 @@ unwrap-node-requires g c =
     let within = c.requires.1.1.1.1 in
     let next : length cell - c.up._value ≡ suc i = omega arith in
     let v = value_behind cell c.args.dim i c.requires.1.1.1.0 (omega arith) (omega arith) in
-    up_there a.width a.now (source_before g.d) c.requires.1.0 c.up.node.0 cell i v.0 (c.up.invariant.at ∙ ap (λ n. Some (keep n cell)) next) v.1 c.parent.result c.parent.ensures.value
+    up_there a.width a.now (source_before g.d) c.requires.1.0 c.up.node.0 cell i v.0 (c.up.invariant.at ∙ ap (λ n. Some (cell_front n cell)) next) v.1 c.parent.result c.parent.ensures.value
 
 pub up-preserved : goal.up-preserved
 up-preserved g c =
@@ -35,8 +35,8 @@ up-preserved g c =
     let had = c.up.invariant.steps in
     let one = c.parent.ensures.steps in
     record {
-      at = up_to a.width a.now (source_before g.d) c.requires.1.0 c.up.node.0 cell i v.0 (c.up.invariant.at ∙ ap (λ n. Some (keep n cell)) next) v.1 c.parent.result c.unwrap-node.result c.parent.ensures.value c.unwrap-node.ensures
-          ∙ ap (λ n. Some (keep n cell)) here;
+      at = up_to a.width a.now (source_before g.d) c.requires.1.0 c.up.node.0 cell i v.0 (c.up.invariant.at ∙ ap (λ n. Some (cell_front n cell)) next) v.1 c.parent.result c.unwrap-node.result c.parent.ensures.value c.unwrap-node.ensures
+          ∙ ap (λ n. Some (cell_front n cell)) here;
       steps = omega arith;
     }
 
@@ -48,4 +48,4 @@ returns-clause-front g c =
     let past = c.up-test.false in
     let ends = c.up.auto._value-end in
     let here : length cell - c.up._value ≡ suc c.args.dim = omega arith in
-    c.up.invariant.at ∙ ap (λ n. Some (keep n cell)) here ∙ ap (λ x. Some x) (keep_value cell c.args.dim (entry_is cell c.args.dim None c.requires.1.1.1.0.any))
+    c.up.invariant.at ∙ ap (λ n. Some (cell_front n cell)) here ∙ ap (λ x. Some x) (cell_front_value cell c.args.dim (entry_is cell c.args.dim None c.requires.1.1.1.0.any))

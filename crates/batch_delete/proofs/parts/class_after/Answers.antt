@@ -3,8 +3,9 @@ use Rattle.std.specs.Option.{option_map}
 use Rattle.aggregates.specs.Views.{agg_in}
 use Rattle.qc_arena.specs.Seen.{record_at}
 use Rattle.batch_delete.specs.Plan.{front_labels, last_any_of}
-use Rattle.batch_delete.proofs.Planning.{all_values, front_counted, front_there, no_twins, the_twins, times_mono}
+use Rattle.batch_delete.proofs.Planning.{all_values, front_counted, front_there, no_twins, the_twins}
 use Rattle.batch_delete.proofs.parts.class_after.Goals as goal
+use Rattle.cube_laws.proofs.Numbers.{times_mono}
 
 pub all_parts-requires : goal.all_parts-requires
 all_parts-requires g c κs within =

@@ -1,6 +1,6 @@
 use Rattle.std.proofs.Common.{◌∙◌, Some, ap, arith, sym}
 use Rattle.std.specs.Option.{option_map}
-use Rattle.cube_defs.specs.Cell.{depth, keep}
+use Rattle.cube_defs.specs.Cell.{depth, cell_front}
 use Rattle.batch_delete.proofs.Fating.{heir_there, own_front, shared_closes, shared_long}
 use Rattle.batch_delete.proofs.plan.heir_at.Goals as goal
 
@@ -21,9 +21,9 @@ leq-requires g c =
 pub returns-then-leq-clause-heir : goal.returns-then-leq-clause-heir
 returns-then-leq-clause-heir g c =
     let closes = shared_closes g.d c.args.below.now.cell c.args.after.now c.in-Some.rest c.requires.1.1.1.1 c.in-Some.is in
-    let is = c.front-front.ensures.value ∙ ap (λ n. keep n c.in-Some.rest.shared) c.depth.ensures.value in
+    let is = c.front-front.ensures.value ∙ ap (λ n. cell_front n c.in-Some.rest.shared) c.depth.ensures.value in
     let own = own_front g.d c.args.below.now.cell c.in-Some.rest.shared c.front-front.result closes is (sym c.leq.ensures ∙ c.if-leq.true) in
-    ap (λ x. Some x) (c.requires.1.1.0 ∙ ap (λ x. Some x) (sym own)) ∙ sym (ap (λ o. option_map (λ x. Some x) (option_map (keep (depth c.args.below.now.cell)) o)) closes)
+    ap (λ x. Some x) (c.requires.1.1.0 ∙ ap (λ x. Some x) (sym own)) ∙ sym (ap (λ o. option_map (λ x. Some x) (option_map (cell_front (depth c.args.below.now.cell)) o)) closes)
 
 pub node_at-requires-clause-node : goal.node_at-requires-clause-node
 node_at-requires-clause-node g c =

@@ -11,7 +11,7 @@ use Rattle.batch_delete.specs.Rests.{IsRest, rows_after, rows_before}
 use Rattle.batch_delete.proofs.Counted.{counted, counted_at}
 use Rattle.batch_delete.proofs.Labelled.{law}
 use Rattle.cube_laws.proofs.Columns.{slice_get-cell_of}
-use Rattle.batch_delete.proofs.Childs.{some_of}
+use Rattle.cube_laws.proofs.Lists.{some_of}
 use Rattle.batch_delete.proofs.Settled.{class_stays}
 use Rattle.batch_delete.proofs.stays.settled.Goals as goal
 

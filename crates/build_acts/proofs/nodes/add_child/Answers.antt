@@ -5,14 +5,14 @@ use Rattle.cube_defs.specs.Rows.{Row}
 use Rattle.cube_defs.specs.Tree.{cell_at}
 use Rattle.build_trace.specs.Trace.Act.{Add, Label}
 use Rattle.qc_arena.specs.Map.{Known, bare}
-use Rattle.build_acts.specs.Going.{Does}
+use Rattle.build_acts.specs.Building.{PerformsActs}
 use Rattle.build_acts.proofs.Steps.{cell_of_record, does_both, does_child, more_next}
 use Rattle.build_acts.proofs.nodes.add_child.Given as given
 use Rattle.build_acts.proofs.nodes.add_child.Goals as goal
 
 -- the first act
 added : (g : given.Over) (c : goal.In-Ok-put_label g) (measures : ℕ) (rows : List (Row ℕ)) (f : Cell ℕ) → cell_at c.args.arena.now.now c.args.parent.0 ≡ Some f
-    → Does measures rows (Add (with_value f c.args.dim c.args.code) ∷ []) c.args.arena.now c.add_node.new.self
+    → PerformsActs measures rows (Add (with_value f c.args.dim c.args.code) ∷ []) c.args.arena.now c.add_node.new.self
 added g c measures rows f at =
     let e = c.in-Ok.ensures in
     let is = cell_of_record c.args.arena.now.now c.args.parent.0 f at in
@@ -27,7 +27,7 @@ placed g c f at =
 
 -- the second act
 labelled : (g : given.Over) (c : goal.In-Ok-put_label g) (measures : ℕ) (rows : List (Row ℕ)) (f : Cell ℕ) → cell_at c.args.arena.now.now c.args.parent.0 ≡ Some f
-    → Does measures rows (Label c.args.is_forced f c.args.dim c.args.code (with_value f c.args.dim c.args.code) ∷ []) c.add_node.new.self c.put_label.new.arena
+    → PerformsActs measures rows (Label c.args.is_forced f c.args.dim c.args.code (with_value f c.args.dim c.args.code) ∷ []) c.add_node.new.self c.put_label.new.arena
 labelled g c measures rows f at =
     c.in-Ok-put_label.ensures.made measures rows f (with_value f c.args.dim c.args.code) ((added g c measures rows f at).cells c.args.parent.0 f at) (placed g c f at)
 

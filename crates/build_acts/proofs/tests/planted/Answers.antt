@@ -1,7 +1,7 @@
 use Rattle.std.proofs.Common.{◌∙◌, ap, sym}
 use Rattle.cube_defs.specs.Tree.{cell_at}
 use Rattle.qc_arena.specs.Map.{Arena}
-use Rattle.qc_arena.proofs.KeptSteps.{none_there}
+use Rattle.qc_arena.proofs.TotalsSteps.{none_there}
 use Rattle.build_acts.proofs.tests.planted.Goals as goal
 
 pub add_root-requires-clause-none : goal.add_root-requires-clause-none

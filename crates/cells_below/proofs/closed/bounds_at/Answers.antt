@@ -1,9 +1,9 @@
 use Rattle.std.proofs.Common.{◌≡◌, ◌^◌, ◌<◌, ◌+◌, true, false, subst, sym, arith}
 use Rattle.cells_below.specs.Closed.{IsMarkedBelow}
 use Rattle.cells_below.specs.Marks.{is_least}
-use Rattle.cells_below.specs.Numbers.{values}
 use Rattle.cells_below.proofs.Between.{is_bound, marked_more, no_bound, not_least}
 use Rattle.cells_below.proofs.closed.bounds_at.Goals as goal
+use Rattle.cube_laws.specs.Parts.{value_count}
 
 pub returns-then-not-least-clause-value : goal.returns-then-not-least-clause-value
 returns-then-not-least-clause-value g c = λ source h.
@@ -12,7 +12,7 @@ returns-then-not-least-clause-value g c = λ source h.
 
 pub returns-then-not-least-clause-below : goal.returns-then-not-least-clause-below
 returns-then-not-least-clause-below g c = λ source h.
-    let l : c.args.m < 2 ^ values c.args.u.now = subst (λ d. c.args.m < 2 ^ d) c.requires.values c.requires.number in
+    let l : c.args.m < 2 ^ value_count c.args.u.now = subst (λ d. c.args.m < 2 ^ d) c.requires.values c.requires.number in
     subst (λ marks. IsMarkedBelow source c.args.u.now marks (c.args.m + 1)) (sym c.set.ensures)
     (marked_more source c.args.u.now c.args.marks.now c.args.m l (c.requires.below source h) (omega arith)
     (not_least source c.args.u.now c.args.marks.now c.args.m l (c.requires.below source h) (subst (λ d. is_least c.args.marks.now d c.args.m ≡ false) c.requires.values (sym c.if-not-least.ensures))))

@@ -1,11 +1,11 @@
 use Rattle.std.proofs.Common.{◌≡◌, ◌+◌, ◌*◌, ◌≤◌, length}
-use Rattle.tree_search.specs.Found.{IsFrom, Source}
+use Rattle.tree_search.specs.Found.{IsTreeOf, TreeRows}
 use Rattle.cells_below.specs.Closed.{AreNeeded}
 use Rattle.cells_below.proofs.without.needed.Given as goal
 
 abbrev pub invariant-bits : goal.invariant-bits
 invariant-bits g l = record {
   dims : length l.cell ≡ length l.u;
-  are : (source : Source) → IsFrom (g.T.Nodes.width l.tree) (g.T.Nodes.tree l.tree) source → AreNeeded source l.u l.needed;
+  are : (source : TreeRows) → IsTreeOf (g.T.Nodes.width l.tree) (g.T.Nodes.tree l.tree) source → AreNeeded source l.u l.needed;
   steps : l.steps ≤ l.fn.steps + l.k * (2 * length l.u + 2);
 }

@@ -1,5 +1,5 @@
 use Rattle.std.proofs.Common.{false, ◌≡◌, ◌<◌, Some, suc, sym, ap, subst, ◌∙◌, arith}
-use Rattle.cube_defs.specs.Cell.{keep}
+use Rattle.cube_defs.specs.Cell.{cell_front}
 use Rattle.cube_laws.proofs.Cells.{nat_equality, cell_eq-exact}
 use Rattle.base_table.specs.Places.{named, rows_of}
 use Rattle.build_trace.specs.Ready.{HasPath}
@@ -17,7 +17,7 @@ use Rattle.class_builder.proofs.labels.shared_front.Goals as goal
 pub descend-requires-clause-from : goal.descend-requires-clause-from
 descend-requires-clause-from g c =
     let shared = shared_by (named c.args.group.now.table.now c.args.group.now.rows.now) in
-    let same : keep c.args.at shared ≡ keep c.args.at c.args.group.now.upper.now = cell_eq-exact nat_equality _ _ c.requires.front in
+    let same : cell_front c.args.at shared ≡ cell_front c.args.at c.args.group.now.upper.now = cell_eq-exact nat_equality _ _ c.requires.front in
     on_path c.args.builder.now.arena.now c.args.path.now c.args.group.now.upper.now c.args.dim c.args.at c.at.result.0 c.requires.path (omega arith) c.at.ensures
     ∙ ap (λ b. Some b) (sym same ∙ sym (front_less c.args.at (suc c.args.dim) _ shared (omega arith) c.front_of-target.ensures.front))
 
@@ -28,7 +28,7 @@ descend-requires-clause-way g c =
     way_down c.args.group.now.table.now.measures (rows_of c.args.group.now.table.now) c.requires.next.done _ c.args.builder.now.arena.now going c.front_of-target.result c.args.at c.args.dim
     (subst (HasPath c.requires.next.done) (sym c.front_of-target.ensures.front)
     (link_ready c.args.group.now.table.now.measures c.args.builder.now.arena.now.width (rows_of c.args.group.now.table.now) going.wide (shared_some (rows_of c.args.group.now.table.now) going.some) c.requires.next.done c.requires.next.rest false
-    (keep c.args.dim c.args.group.now.upper.now) c.args.dim c.args.group.now.code (keep (suc c.args.dim) shared) going.whole
+    (cell_front c.args.dim c.args.group.now.upper.now) c.args.dim c.args.group.now.code (cell_front (suc c.args.dim) shared) going.whole
     (front_apart c.args.dim (suc c.args.dim) shared c.args.group.now.upper.now (omega arith) (differs_behind c.args.at c.args.dim shared c.args.group.now.upper.now c.requires.at c.requires.gains))))
 
 pub returns-in-Some-clause-node : goal.returns-in-Some-clause-node

@@ -1,7 +1,7 @@
 use Rattle.std.proofs.Common.{◌≡◌, ◌+◌, ◌*◌, ◌-◌, None}
 use Rattle.base_table.specs.Places.{named, rows_of}
 use Rattle.build_trace.specs.Trace.{acts_at}
-use Rattle.build_acts.specs.Going.{Does, IsNext}
+use Rattle.build_acts.specs.Building.{PerformsActs, ActsComeNext}
 use Rattle.qc_arena.specs.Map.{Arena, frame}
 use Rattle.class_builder.specs.Walk.{IsOnPath, acts_from}
 use Rattle.class_builder.specs.Noted.{AreNoted}
@@ -23,9 +23,9 @@ decreases-drill_part g l = 4 * (l.group.now.table.now.dims - l.dim)
 -- who does what is to come has done the whole
 abbrev pub invariant-drill-dims : goal.invariant-drill-dims
 invariant-drill-dims g l = record {
-  whole : (c : Arena) → Does l.part.table.now.measures (rows_of l.part.table.now) (acts_from l.part.table.now l.dim (named l.part.table.now l.part.rows.now)) l.builder.arena.now c
-      → Does l.part.table.now.measures (rows_of l.part.table.now) (acts_from l.part.table.now l.first (named l.part.table.now l.part.rows.now)) l.fn.builder.arena.now c;
-  next : IsNext l.part.table.now.measures (rows_of l.part.table.now) (acts_from l.part.table.now l.dim (named l.part.table.now l.part.rows.now)) l.builder.arena.now;
+  whole : (c : Arena) → PerformsActs l.part.table.now.measures (rows_of l.part.table.now) (acts_from l.part.table.now l.dim (named l.part.table.now l.part.rows.now)) l.builder.arena.now c
+      → PerformsActs l.part.table.now.measures (rows_of l.part.table.now) (acts_from l.part.table.now l.first (named l.part.table.now l.part.rows.now)) l.fn.builder.arena.now c;
+  next : ActsComeNext l.part.table.now.measures (rows_of l.part.table.now) (acts_from l.part.table.now l.dim (named l.part.table.now l.part.rows.now)) l.builder.arena.now;
   path : IsOnPath l.builder.arena.now l.path l.part.shared l.dim;
   fronts : AreNoted l.part.table.now l.builder.arena.now l.builder.fronts.now;
   rest : frame l.builder.arena.now ≡ frame l.fn.builder.arena.now;
@@ -34,9 +34,9 @@ invariant-drill-dims g l = record {
 
 abbrev pub invariant-drill_in-parts : goal.invariant-drill_in-parts
 invariant-drill_in-parts g l = record {
-  whole : (c : Arena) → Does l.part.table.now.measures (rows_of l.part.table.now) (parts_from l.part.table.now l.dim l.part.shared (named l.part.table.now l.part.rows.now) l.k) l.builder.arena.now c
-      → Does l.part.table.now.measures (rows_of l.part.table.now) (acts_at (acts_from l.part.table.now (l.dim + 1)) l.dim l.part.shared None (named l.part.table.now l.part.rows.now)) l.fn.builder.arena.now c;
-  next : IsNext l.part.table.now.measures (rows_of l.part.table.now) (parts_from l.part.table.now l.dim l.part.shared (named l.part.table.now l.part.rows.now) l.k) l.builder.arena.now;
+  whole : (c : Arena) → PerformsActs l.part.table.now.measures (rows_of l.part.table.now) (parts_from l.part.table.now l.dim l.part.shared (named l.part.table.now l.part.rows.now) l.k) l.builder.arena.now c
+      → PerformsActs l.part.table.now.measures (rows_of l.part.table.now) (acts_at (acts_from l.part.table.now (l.dim + 1)) l.dim l.part.shared None (named l.part.table.now l.part.rows.now)) l.fn.builder.arena.now c;
+  next : ActsComeNext l.part.table.now.measures (rows_of l.part.table.now) (parts_from l.part.table.now l.dim l.part.shared (named l.part.table.now l.part.rows.now) l.k) l.builder.arena.now;
   path : IsOnPath l.builder.arena.now l.path l.part.shared l.dim;
   fronts : AreNoted l.part.table.now l.builder.arena.now l.builder.fronts.now;
   rest : frame l.builder.arena.now ≡ frame l.fn.builder.arena.now;

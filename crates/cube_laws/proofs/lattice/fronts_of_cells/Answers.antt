@@ -1,14 +1,14 @@
-use Rattle.cube_laws.proofs.Cells.{keep-depth, keep-leq, keep_mono}
+use Rattle.cube_laws.proofs.Cells.{cell_front-depth, cell_front-leq, cell_front_mono}
 use Rattle.cube_laws.proofs.Orders.{equality_of}
 use Rattle.cube_laws.proofs.lattice.fronts_of_cells.Goals as goal
 
 pub returns-clause-below : goal.returns-clause-below
 returns-clause-below g c = let law = equality_of g.met.V.Ord.total g.met.V.Value.apart g.met.V.Ord.matches_eq in
-    keep-leq law
+    cell_front-leq law
 
 pub returns-clause-monotone : goal.returns-clause-monotone
 returns-clause-monotone g c = let law = equality_of g.met.V.Ord.total g.met.V.Value.apart g.met.V.Ord.matches_eq in
-    keep_mono law
+    cell_front_mono law
 
 pub returns-clause-whole : goal.returns-clause-whole
-returns-clause-whole g c = keep-depth
+returns-clause-whole g c = cell_front-depth

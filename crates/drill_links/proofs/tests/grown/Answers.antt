@@ -1,4 +1,4 @@
-use Rattle.std.proofs.Common.{◌≡◌, ◌∙◌, None, Some, ap, replicate}
+use Rattle.std.proofs.Common.{◌≡◌, ◌∙◌, Some, ap}
 use Rattle.std.specs.FinMap as map
 use Rattle.cube_defs.specs.Cell.{with_value}
 use Rattle.qc_arena.specs.Map.{bare}

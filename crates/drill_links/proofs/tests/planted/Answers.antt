@@ -2,7 +2,7 @@ use Rattle.std.proofs.Common.{◌∙◌, ap, nat_cmp, sym}
 use Rattle.std.specs.FinMap as map
 use Rattle.cube_defs.specs.Tree.{cell_at}
 use Rattle.qc_arena.specs.Map.{Arena}
-use Rattle.qc_arena.proofs.KeptSteps.{none_there}
+use Rattle.qc_arena.proofs.TotalsSteps.{none_there}
 use Rattle.drill_links.proofs.tests.planted.Goals as goal
 
 pub add_node-requires-clause-under : goal.add_node-requires-clause-under

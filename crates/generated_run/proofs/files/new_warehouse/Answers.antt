@@ -1,7 +1,7 @@
 use Rattle.std.proofs.Common.{◌≡◌, subst}
 use Rattle.std.specs.Prelude.{IfOk, Ok, Result}
 use Rattle.qc_schema.specs.Schema.{Layout}
-use Rattle.qc_schema.specs.States.{Fault}
+use Rattle.qc_schema.specs.Progress.{Fault}
 use Rattle.warehouse.specs.State.{empty}
 use Rattle.generated_run.specs.Generated.{layout}
 use Rattle.generated_run.proofs.Schema.{spelt}

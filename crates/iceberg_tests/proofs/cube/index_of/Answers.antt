@@ -4,7 +4,8 @@ use Rattle.qc_arena.specs.Changes.{AreNew, class_now, class_was}
 use Rattle.measure_index.specs.Entries.{HaveMeasure}
 use Rattle.measure_index.specs.Index.{empty_ranking, units}
 use Rattle.measure_index.proofs.Classes.{index_alike}
-use Rattle.iceberg_tests.proofs.Cubes.{all_measured, have_measure, none_gone, units_named}
+use Rattle.measure_index.proofs.Units.{units-empty}
+use Rattle.iceberg_tests.proofs.Cubes.{all_measured, have_measure, none_gone}
 use Rattle.iceberg_tests.proofs.cube.index_of.Goals as goal
 
 pub change-requires-clause-add : goal.change-requires-clause-add
@@ -21,4 +22,4 @@ returns-clause-index c =
     (index_alike (λ _. None) (class_was c.args.arena.now) (λ k. sym (c.requires.fresh k)) c.in_ok-index.index c.in_ok-index.ensures.classes)
 
 pub returns-clause-units : goal.returns-clause-units
-returns-clause-units c = c.in_ok-change.ensures.units ∙ ap units c.in_ok-index.ensures.value ∙ units_named (1 ∷ []) c.args.kinds.now
+returns-clause-units c = c.in_ok-change.ensures.units ∙ ap units c.in_ok-index.ensures.value ∙ units-empty (1 ∷ []) c.args.kinds.now

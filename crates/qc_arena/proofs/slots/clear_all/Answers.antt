@@ -7,15 +7,14 @@ use Rattle.qc_arena.specs.Inside.{image_at}
 use Rattle.qc_arena.specs.Map.{Known}
 use Rattle.qc_arena.proofs.Behind.{behind, look_gone, look_less, none_behind}
 use Rattle.qc_arena.proofs.Imaged.{eq_apart}
-use Rattle.qc_arena.proofs.Pairs.{told_of}
 use Rattle.qc_arena.proofs.slots.clear_all.Goals as goal
-use Rattle.cube_laws.proofs.Lists.{item_at}
+use Rattle.cube_laws.proofs.Lists.{item_at, some_of}
 
 pub clear_killed-requires : goal.clear_killed-requires
 clear_killed-requires c =
     let es : List (ℕ × Option Known) = c.args.images.now in
     let e = item_at es c.images.k (omega (arith, c.len-k-end.ensures.len)) in
-    let is : c.number.result ≡ e.0.0 = told_of (λ (x : ℕ × Option Known). c.number.result ≡ x.0) _ e.0 e.1 c.number.ensures in
+    let is : c.number.result ≡ e.0.0 = some_of (λ (x : ℕ × Option Known). c.number.result ≡ x.0) _ e.0 e.1 c.number.ensures in
     subst (λ (n : ℕ). slots.ContainsKey c.images.nodes n) (sym is)
     (c.images.invariant.placed e.0.0 (ap is_some (look_less es c.images.k e.0 e.0.0 e.1 ∙ cond-true (nat_eq e.0.0 e.0.0) _ _ (eq-eqb e.0.0 e.0.0 refl))))
 
@@ -23,7 +22,7 @@ pub images-preserved : goal.images-preserved
 images-preserved c =
     let es : List (ℕ × Option Known) = c.args.images.now in
     let e = item_at es c.images.k (omega (arith, c.len-k-end.ensures.len)) in
-    let is : c.number.result ≡ e.0.0 = told_of (λ (x : ℕ × Option Known). c.number.result ≡ x.0) _ e.0 e.1 c.number.ensures in
+    let is : c.number.result ≡ e.0.0 = some_of (λ (x : ℕ × Option Known). c.number.result ≡ x.0) _ e.0 e.1 c.number.ensures in
     let gone = look_gone es c.images.k e.0 c.len-k-end.ensures.once e.1 in
     let less = λ (q : ℕ) (n : q ≡ e.0.0 → ⊥). look_less es c.images.k e.0 q e.1 ∙ cond-false (nat_eq q e.0.0) _ _ (eq_apart q e.0.0 n) in
     record {

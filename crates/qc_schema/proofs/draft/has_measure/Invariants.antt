@@ -1,7 +1,7 @@
 use Rattle.std.proofs.Common.{◌≡◌, drop, map}
 use Rattle.std.specs.List.{list_any}
 use Rattle.std.specs.Str.{bytes_eq}
-use Rattle.qc_schema.specs.States.{measure_in}
+use Rattle.qc_schema.specs.Progress.{measure_in}
 use Rattle.qc_schema.proofs.draft.has_measure.Given as goal
 
 abbrev pub invariant-loop-measure : goal.invariant-loop-measure

@@ -1,6 +1,6 @@
 use Rattle.std.proofs.Common.{◌≡◌, drop, map}
 use Rattle.qc_schema.specs.Grammar.{measure_from}
-use Rattle.qc_schema.specs.States.{measure_in}
+use Rattle.qc_schema.specs.Progress.{measure_in}
 use Rattle.qc_schema.proofs.draft.measure_named.Given as goal
 
 abbrev pub invariant-loop-k : goal.invariant-loop-k

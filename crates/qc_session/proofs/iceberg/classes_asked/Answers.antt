@@ -10,7 +10,7 @@ use Rattle.iceberg_query.specs.Hits.{told_classes}
 use Rattle.lower_bounds.specs.Classes.{hit_in}
 use Rattle.measure_index.specs.Index.{ranking_of}
 use Rattle.qc_schema.specs.Schema.{Layout}
-use Rattle.value_dict.specs.Told.{IsTold}
+use Rattle.value_dict.specs.Told.{IsTellableClass}
 use Rattle.warehouse.specs.State.{source_of}
 use Rattle.qc_session.specs.Answers.{scale_of}
 use Rattle.qc_session.proofs.Measured.{measure-there, named-kept, scale-is}
@@ -58,7 +58,7 @@ pub returns-clause-told : goal.returns-clause-told
 returns-clause-told g c =
     let s = c.args.warehouse.now.state in
     IfOk-weaker c.iceberg.result _ _
-    (λ classes e. subst (λ l. All (λ class. IsTold l (length s.schema.measures) (hit_in class)) classes.items) c.dict.ensures.texts e)
+    (λ classes e. subst (λ l. All (λ class. IsTellableClass l (length s.schema.measures) (hit_in class)) classes.items) c.dict.ensures.texts e)
     (c.iceberg.ensures.told (source_of s) (rw (c.tree.ensures.width, c.tree.ensures.value) c.tree.ensures.valid.tree) (rows-known s c.dict.ensures.valid.state c.dict.result.now.lists c.dict.ensures.texts))
 
 pub returns-clause-steps : goal.returns-clause-steps

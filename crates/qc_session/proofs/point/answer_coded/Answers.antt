@@ -1,8 +1,8 @@
 use Rattle.std.proofs.Common.{◌∙◌, None, Some}
 use Rattle.warehouse.specs.State.{source_of}
-use Rattle.qc_session.proofs.Asked.{total-at}
 use Rattle.qc_session.proofs.Pointed.{point-known, point-parts, point-texts, point-unknown}
 use Rattle.qc_session.proofs.point.answer_coded.Goals as goal
+use Rattle.tree_search.proofs.TotalAt.{total-at}
 
 pub put_total-requires-clause-texts : goal.put_total-requires-clause-texts
 put_total-requires-clause-texts g c =

@@ -3,9 +3,10 @@ use Rattle.std.specs.Prelude.{length, option_map}
 use Rattle.aggregates.specs.Views.{agg_in}
 use Rattle.warehouse.specs.State.{source_of}
 use Rattle.qc_session.specs.Answers.{cell_asked}
-use Rattle.qc_session.proofs.Asked.{length-found, measured, total-at, total-found, total-none}
+use Rattle.qc_session.proofs.Asked.{length-found, measured, total-found, total-none}
 use Rattle.qc_session.proofs.ClassTold.{asked-texts, asked-told}
 use Rattle.qc_session.proofs.point.total_asked.Goals as goal
+use Rattle.tree_search.proofs.TotalAt.{total-at}
 
 pub returns-in_err-cell-clause-value : goal.returns-in_err-cell-clause-value
 returns-in_err-cell-clause-value g c =

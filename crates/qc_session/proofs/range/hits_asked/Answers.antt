@@ -1,7 +1,7 @@
 use Rattle.std.proofs.Common.{◌∙◌, ap, sym, subst, arith, length}
 use Rattle.std.specs.List.{All}
 use Rattle.std.proofs.lemmas.Result.{IfOk-weaker}
-use Rattle.range_query.specs.Told.{IsTold, hit_in, told_hits}
+use Rattle.range_query.specs.Told.{IsTellableHit, hit_in, told_hits}
 use Rattle.warehouse.specs.State.{source_of}
 use Rattle.qc_session.proofs.Recoded.{range-told, rows-known, work-told}
 use Rattle.qc_session.proofs.range.hits_asked.Goals as goal
@@ -29,7 +29,7 @@ pub returns-in-Ok-clause-told : goal.returns-in-Ok-clause-told
 returns-in-Ok-clause-told g c =
     let s = c.args.warehouse.now.state in
     IfOk-weaker c.range.result _ _
-    (λ hits e. subst (λ l. All (λ hit. IsTold l (length s.schema.measures) (hit_in hit)) hits.items) c.dict-dict.ensures.texts e)
+    (λ hits e. subst (λ l. All (λ hit. IsTellableHit l (length s.schema.measures) (hit_in hit)) hits.items) c.dict-dict.ensures.texts e)
     (c.range.ensures.told (source_of s) (rw (c.tree.ensures.width, c.tree.ensures.value) c.tree.ensures.valid.tree) (rows-known s c.dict-dict.ensures.valid.state c.dict-dict.result.now.lists c.dict-dict.ensures.texts))
 
 pub returns-in-Ok-clause-too_many : goal.returns-in-Ok-clause-too_many

@@ -1,6 +1,6 @@
 use Rattle.std.proofs.Common.{refl, sym, ◌∙◌, ◌≤◌, IsTrue, arith}
 use Rattle.warehouse.specs.State.{empty}
-use Rattle.qc_session.specs.Forms.{Names, form_of}
+use Rattle.qc_session.specs.Forms.{FileNames, form_of}
 use Rattle.qc_session.specs.Failures.{cause_of}
 use Rattle.qc_session.proofs.Ended.{complete-run, finished-run, refusal-run, rose-later, skipped-run}
 use Rattle.qc_session.proofs.Found.{found-all}
@@ -19,7 +19,7 @@ returns-in-Err-clause-refused g c is =
 
 pub returns-in-Err-read_named-clause-unread : goal.returns-in-Err-read_named-clause-unread
 returns-in-Err-read_named-clause-unread g c is =
-    let names : Names = record { schema = c.in-Run.schema_name.now; script = c.in-Run.script_name.now } in
+    let names : FileNames = record { schema = c.in-Run.schema_name.now; script = c.in-Run.script_name.now } in
     let fails = rw c.in-Ok.ensures.told at c.in-Err-read_named.ensures.err in
     rw (← c.in-Run.ensures.form) (unread-script (g.F.Files.told c.args.files.now) names (empty c.in-Ok.schema) _ (IsTrue (g.F.Files.steady c.args.files.now)) (IsTrue (g.F.Files.steady c.read_named_schema.new.files)) _
     (cause_of c.in-Err-read_named.failure) c.fail-in-Err-read_named.result.skipped.items _ _ _ _ c.in-Ok.ensures.ok c.in-Ok.ensures.steady fails
@@ -27,14 +27,14 @@ returns-in-Err-read_named-clause-unread g c is =
 
 pub returns-in-Err-read_named-clause-refused : goal.returns-in-Err-read_named-clause-refused
 returns-in-Err-read_named-clause-refused g c is =
-    let names : Names = record { schema = c.in-Run.schema_name.now; script = c.in-Run.script_name.now } in
+    let names : FileNames = record { schema = c.in-Run.schema_name.now; script = c.in-Run.script_name.now } in
     let fails = rw c.in-Ok.ensures.told at c.in-Err-read_named.ensures.err in
     rw (← c.in-Run.ensures.form) (refused-script (g.F.Files.told c.args.files.now) names (empty c.in-Ok.schema) _ _ _
     (cause_of c.in-Err-read_named.failure) _ _ c.in-Ok.ensures.ok fails (sym c.fail-in-Err-read_named.ensures.status ∙ is) c.fail-in-Err-read_named.ensures.said)
 
 pub returns-clause-unread : goal.returns-clause-unread
 returns-clause-unread g c is =
-    let names : Names = record { schema = c.in-Run.schema_name.now; script = c.in-Run.script_name.now } in
+    let names : FileNames = record { schema = c.in-Run.schema_name.now; script = c.in-Run.script_name.now } in
     let is_script = rw c.in-Ok.ensures.told at c.in-Ok-read_named.ensures.ok in
     let stopped = rw (c.in-Ok-read_named.ensures.told, c.in-Ok.ensures.told, c.deref.ensures.value) at (c.run_script.ensures.unread is) in
     rw (← c.in-Run.ensures.form) (unread-line (g.F.Files.told c.args.files.now) names (empty c.in-Ok.schema) c.in-Ok-read_named.script.items (IsTrue (g.F.Files.steady c.args.files.now)) (IsTrue (g.F.Files.steady c.read_named.new.files)) _
@@ -54,27 +54,27 @@ returns-clause-found g c = λ steady.
 
 pub returns-clause-transcript : goal.returns-clause-transcript
 returns-clause-transcript g c = λ is.
-    let names : Names = record { schema = c.in-Run.schema_name.now; script = c.in-Run.script_name.now } in
+    let names : FileNames = record { schema = c.in-Run.schema_name.now; script = c.in-Run.script_name.now } in
     let is_script = rw c.in-Ok.ensures.told at c.in-Ok-read_named.ensures.ok in
     let wrote = rw (c.in-Ok-read_named.ensures.told, c.in-Ok.ensures.told, c.deref.ensures.value) at (c.run_script.ensures.all is) in
     rw (← c.in-Run.ensures.form) (finished-run (g.F.Files.told c.args.files.now) names _ c.in-Ok-read_named.script.items _ _ _ _ c.in-Ok.ensures.ok is_script wrote)
 
 pub returns-clause-skipped : goal.returns-clause-skipped
 returns-clause-skipped g c =
-    let names : Names = record { schema = c.in-Run.schema_name.now; script = c.in-Run.script_name.now } in
+    let names : FileNames = record { schema = c.in-Run.schema_name.now; script = c.in-Run.script_name.now } in
     let is_script = rw c.in-Ok.ensures.told at c.in-Ok-read_named.ensures.ok in
     rw (← c.in-Run.ensures.form)
     (skipped-run (g.F.Files.told c.args.files.now) names c.in-Ok-read_named.script.items _ is_script (rw c.deref.ensures.value at c.run_script.ensures.skipped))
 
 pub returns-clause-refusal : goal.returns-clause-refusal
 returns-clause-refusal g c =
-    let names : Names = record { schema = c.in-Run.schema_name.now; script = c.in-Run.script_name.now } in
+    let names : FileNames = record { schema = c.in-Run.schema_name.now; script = c.in-Run.script_name.now } in
     let is_script = rw c.in-Ok.ensures.told at c.in-Ok-read_named.ensures.ok in
     rw (← c.in-Run.ensures.form) (refusal-run (g.F.Files.told c.args.files.now) names _ c.in-Ok-read_named.script.items _ c.in-Ok.ensures.ok is_script)
 
 pub returns-clause-complete : goal.returns-clause-complete
 returns-clause-complete g c =
-    let names : Names = record { schema = c.in-Run.schema_name.now; script = c.in-Run.script_name.now } in
+    let names : FileNames = record { schema = c.in-Run.schema_name.now; script = c.in-Run.script_name.now } in
     let later : g.F.Files.faults c.args.files.now ≤ g.F.Files.faults c.read_named.new.files = omega (arith, c.in-Ok.ensures.later, c.in-Ok-read_named.ensures.later) in
     rw (← c.in-Run.ensures.form)
     (complete-run (g.F.Files.told c.args.files.now) names _ _ _ c.run_script.ensures.known

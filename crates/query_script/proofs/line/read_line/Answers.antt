@@ -13,13 +13,13 @@ returns-then-is_stats-clause-gives c =
 pub returns-else-is_stats-clause-gives : goal.returns-else-is_stats-clause-gives
 returns-else-is_stats-clause-gives c =
     let stats : bytes_eq c.args.line.now stats_line ≡ false = ap (λ text. bytes_eq text stats_line) (sym c.in-Ok.ensures.cases.0) ∙ sym c.is_stats.ensures ∙ c.if-is_stats.false in
-    let word : c.split_word.result.0.now ≡ word_of c.args.line.now = c.split_word.ensures.word ∙ ap word_of c.in-Ok.ensures.cases.0 in
-    let rest : c.split_word.result.1.now ≡ rest_of c.args.line.now = c.split_word.ensures.rest ∙ ap rest_of c.in-Ok.ensures.cases.0 in
+    let word : c.split_command.result.0.now ≡ word_of c.args.line.now = c.split_command.ensures.word ∙ ap word_of c.in-Ok.ensures.cases.0 in
+    let rest : c.split_command.result.1.now ≡ rest_of c.args.line.now = c.split_command.ensures.rest ∙ ap rest_of c.in-Ok.ensures.cases.0 in
     rw (text-line c.args.schema.now c.args.line.now c.in-Ok.ensures.cases.1 stats) (rw (word, rest) at c.read_command.ensures.gives)
 
 pub returns-else-is_stats-clause-memory : goal.returns-else-is_stats-clause-memory
 returns-else-is_stats-clause-memory c =
-    let word : c.split_word.result.0.now ≡ word_of c.args.line.now = c.split_word.ensures.word ∙ ap word_of c.in-Ok.ensures.cases.0 in
+    let word : c.split_command.result.0.now ≡ word_of c.args.line.now = c.split_command.ensures.word ∙ ap word_of c.in-Ok.ensures.cases.0 in
     IfErr-weaker c.read_command.result _ _ (λ refused named is. wants-memory c.args.line.now c.in-Ok.ensures.cases.1 (rw word at (named is))) c.read_command.ensures.memory
 
 pub returns-else-is_stats-clause-question : goal.returns-else-is_stats-clause-question

@@ -9,7 +9,7 @@ use Rattle.value_dict.specs.Recoded.{has_code}
 use Rattle.value_dict.specs.Told.{has_text}
 use Rattle.value_dict.proofs.AskedRanges.{range-asked}
 use Rattle.value_dict.proofs.TextsApart.{rows-coded}
-use Rattle.warehouse.specs.State.{coded, source_of}
+use Rattle.warehouse.specs.State.{coded_rows, source_of}
 use Rattle.query_tests.proofs.ranges.answer.Goals as goal
 
 pub range-requires-clause-tree : goal.range-requires-clause-tree
@@ -22,7 +22,7 @@ returns-in-Ok g c =
     let asked = c.args.asked.now in
     let known = c.dict.ensures.valid.state.known in
     let box = subst (λ (l : List (List Text)). told_box l cells ≡ known_box (has_text l) 0 (asked_box l 0 asked)) c.dict.ensures.texts c.in-Ok.ensures.value in
-    let codes = subst (λ (l : List (List Text)). RowsAreKnown (has_code l) (coded s)) (sym c.dict-in-Ok.ensures.texts) (rows-coded s.texts s.rows known) in
+    let codes = subst (λ (l : List (List Text)). RowsAreKnown (has_code l) (coded_rows s)) (sym c.dict-in-Ok.ensures.texts) (rows-coded s.texts s.rows known) in
     IfOk-weaker c.range.result _ _
     (λ hits e.
     ap (λ (l : List (List Text)). told_hits l hits.items) (sym c.dict-in-Ok.ensures.texts)

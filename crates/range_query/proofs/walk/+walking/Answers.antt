@@ -62,8 +62,8 @@ enter-returns-in-Err-clause-steps g t c = λ source h.
     let is = entry_cost_some _ _ c.args.node.0 c.args.cell.now c.args.dim c.requires.stands source h box (Some c.args.code) c.requires.dim c.in-Some.child.0 (sym c.in-Some.ensures.value) in
     omega (arith, same, is, c.in-Err.ensures.steps source h, c.in-Some.ensures.steps)
 
-pub visit-keep-requires-clause-node : goal.visit-keep-requires-clause-node
-visit-keep-requires-clause-node g t c = λ source h.
+pub visit-add_hit-requires-clause-node : goal.visit-add_hit-requires-clause-node
+visit-add_hit-requires-clause-node g t c = λ source h.
     stands_whole _ _ c.args.node.0 c.args.cell.now c.args.dim c.requires.stands source h (omega (arith, c.if-dim-dims.true, c.dims.ensures.value, c.requires.dims))
 
 pub visit_codes-returns-in-Err-clause-too_many : goal.visit_codes-returns-in-Err-clause-too_many
@@ -99,8 +99,8 @@ visit_codes-returns-clause-steps g t c = λ source h.
     let le = some_taken (λ v. entry_cost source (drop (c.args.dim + 1) c.args.cells.now) c.args.cell.now c.args.dim (Some v)) c.args.codes.now c.codes.k in
     omega (arith, is, le, c.codes.invariant.steps source h)
 
-pub go_on-keep-requires-clause-node : goal.go_on-keep-requires-clause-node
-go_on-keep-requires-clause-node g t c = λ source h.
+pub go_on-add_hit-requires-clause-node : goal.go_on-add_hit-requires-clause-node
+go_on-add_hit-requires-clause-node g t c = λ source h.
     stands_whole _ _ c.args.node.0 c.args.cell.now c.args.dim c.requires.stands source h (omega (arith, c.if-dim-dims.true, c.dims.ensures.value, c.requires.dims))
 
 pub go_on-visit-requires : goal.go_on-visit-requires

@@ -15,7 +15,7 @@ use Rattle.qc_arena.specs.Codes.{Shape}
 use Rattle.std.specs.Prelude.{IfSome}
 use Rattle.warehouse.specs.State.{IsIndexed, State}
 use Rattle.warehouse.specs.Steps.{IsCause, closed, frame}
-use Rattle.warehouse.specs.Stored.{IsKept, IsStored, IsTreeOf, decoded_rows, refusal_in, state_of}
+use Rattle.warehouse.specs.Stored.{IsTreeOfTable, IsStored, IsTreeOfSome, decoded_rows, refusal_in, state_of}
 use Rattle.warehouse.proofs.Causes.{refused-so}
 use Rattle.warehouse.proofs.Counted.{classes-kept}
 use Rattle.warehouse.proofs.Growing.{cut-back}
@@ -39,23 +39,23 @@ pub returns-in-Ok-clause-stored : goal.returns-in-Ok-clause-stored
 returns-in-Ok-clause-stored g c =
     let dict = c.change_and_index.new.dict in
     let texts : dict.lists ≡ texts_after c.args.dict.now.lists c.args.batch.now.changes = ap (λ (s : State). s.texts) c.in-Ok.ensures.made in
-    let rest = c.keep.ensures.frame ∙ ap closed c.change_and_index.ensures.frame ∙ ap (λ (t : Places). frame (closed t)) c.open_batch-lens.ensures.table in
-    stored-next c.args.schema.now c.args.dict.now dict c.args.table.now c.keep.new.table c.requires.stored rest c.keep.ensures.valid c.change_and_index.ensures.max c.change_and_index.ensures.longer.dims
+    let rest = c.commit_both.ensures.frame ∙ ap closed c.change_and_index.ensures.frame ∙ ap (λ (t : Places). frame (closed t)) c.open_batch-lens.ensures.table in
+    stored-next c.args.schema.now c.args.dict.now dict c.args.table.now c.commit_both.new.table c.requires.stored rest c.commit_both.ensures.valid c.change_and_index.ensures.max c.change_and_index.ensures.longer.dims
     (rw texts (values-after c.args.batch.now c.args.dict.now.lists c.len-records.ensures.valid c.requires.stored.values))
-    (subst (λ (rows : List (Row ℕ)). RowsAreCodes dict.lists rows) (sym c.keep.ensures.rows) c.in-Ok.ensures.known) c.change_and_index.ensures.dictionary
+    (subst (λ (rows : List (Row ℕ)). RowsAreCodes dict.lists rows) (sym c.commit_both.ensures.rows) c.in-Ok.ensures.known) c.change_and_index.ensures.dictionary
 
 pub returns-in-Ok-clause-kept : goal.returns-in-Ok-clause-kept
 returns-in-Ok-clause-kept g c =
-    let is : IsStored c.args.schema.now c.change_and_index.new.dict c.keep.new.table = returns-in-Ok-clause-stored g c in
+    let is : IsStored c.args.schema.now c.change_and_index.new.dict c.commit_both.new.table = returns-in-Ok-clause-stored g c in
     let same = c.change_and_index.ensures.tree_frame in
-    let rows = c.keep.ensures.rows in
-    kept-canonical c.args.schema.now c.keep.new.table c.keep.new.tree c.keep.ensures.valid is.dims is.measures (ap is_open c.keep.ensures.tree)
-    (ap (λ (a : Arena). a.width) c.keep.ensures.tree ∙ ap (λ (a : Arena). a.width) same ∙ ap (λ (a : Arena). a.width) c.open_batch-lens.ensures.tree ∙ c.requires.kept.width)
-    (ap (λ (a : Arena). a.max) c.keep.ensures.tree ∙ ap (λ (a : Arena). a.max) same ∙ ap (λ (a : Arena). a.max) c.open_batch-lens.ensures.tree ∙ c.requires.kept.max)
+    let rows = c.commit_both.ensures.rows in
+    kept-canonical c.args.schema.now c.commit_both.new.table c.commit_both.new.tree c.commit_both.ensures.valid is.dims is.measures (ap is_open c.commit_both.ensures.tree)
+    (ap (λ (a : Arena). a.width) c.commit_both.ensures.tree ∙ ap (λ (a : Arena). a.width) same ∙ ap (λ (a : Arena). a.width) c.open_batch-lens.ensures.tree ∙ c.requires.kept.width)
+    (ap (λ (a : Arena). a.max) c.commit_both.ensures.tree ∙ ap (λ (a : Arena). a.max) same ∙ ap (λ (a : Arena). a.max) c.open_batch-lens.ensures.tree ∙ c.requires.kept.max)
     (subst (λ (rs : List (Row ℕ)). length (nodes nat_cmp rs) ≤ c.args.schema.now.nodes) (sym rows) c.in-Ok.ensures.fits)
-    (subst (λ (t : Tree ℕ). IsCanonical nat_cmp c.keep.new.table.measures (rows_of c.keep.new.table) t) (sym (ap (λ (a : Arena). a.now) c.keep.ensures.tree))
-    (subst (λ (rs : List (Row ℕ)). IsCanonical nat_cmp c.keep.new.table.measures rs c.change_and_index.new.tree.now) (sym rows)
-    (subst (λ (m : ℕ). IsCanonical nat_cmp m (rows_of c.change_and_index.new.table) c.change_and_index.new.tree.now) (sym (ap (λ (t : Places). t.measures) c.keep.ensures.frame)) c.in-Ok.ensures.tree)))
+    (subst (λ (t : Tree ℕ). IsCanonical nat_cmp c.commit_both.new.table.measures (rows_of c.commit_both.new.table) t) (sym (ap (λ (a : Arena). a.now) c.commit_both.ensures.tree))
+    (subst (λ (rs : List (Row ℕ)). IsCanonical nat_cmp c.commit_both.new.table.measures rs c.change_and_index.new.tree.now) (sym rows)
+    (subst (λ (m : ℕ). IsCanonical nat_cmp m (rows_of c.change_and_index.new.table) c.change_and_index.new.tree.now) (sym (ap (λ (t : Places). t.measures) c.commit_both.ensures.frame)) c.in-Ok.ensures.tree)))
 
 pub returns-in-Ok-clause-gives : goal.returns-in-Ok-clause-gives
 returns-in-Ok-clause-gives g c =
@@ -63,13 +63,13 @@ returns-in-Ok-clause-gives g c =
     let dict = c.change_and_index.new.dict in
     let old = state_of c.args.schema.now c.args.dict.now c.args.table.now in
     let with : List (Row ℕ) → State = λ rows. record { schema = c.args.schema.now; rows = map (decoded_row dict.lists) rows; texts = dict.lists } in
-    let made : state_of c.args.schema.now dict c.keep.new.table ≡ after old changes = ap with c.keep.ensures.rows ∙ c.in-Ok.ensures.made ∙ ap (λ (s : State). after s changes) c.open_batch-lens.ensures.state in
+    let made : state_of c.args.schema.now dict c.commit_both.new.table ≡ after old changes = ap with c.commit_both.ensures.rows ∙ c.in-Ok.ensures.made ∙ ap (λ (s : State). after s changes) c.open_batch-lens.ensures.state in
     let none : refusal_of old changes ≡ None = ap (λ (s : State). refusal_of s changes) (sym c.open_batch-lens.ensures.state) ∙ c.in-Ok.ensures.none in
-    let is : IsStored c.args.schema.now dict c.keep.new.table = returns-in-Ok-clause-stored g c in
-    let kept : IsKept c.args.schema.now c.keep.new.table c.keep.new.tree = returns-in-Ok-clause-kept g c in
+    let is : IsStored c.args.schema.now dict c.commit_both.new.table = returns-in-Ok-clause-stored g c in
+    let kept : IsTreeOfTable c.args.schema.now c.commit_both.new.table c.commit_both.new.tree = returns-in-Ok-clause-kept g c in
     let count : length (classes text_cmp (rows_after old.rows changes)) ≡ c.class_count-classes.result =
     ap (λ (s : State). length (classes text_cmp s.rows)) (sym made)
-    ∙ sym (c.class_count-classes.ensures ∙ classes-kept dict.lists (rows_of c.keep.new.table) is.known is.dictionary.distinct _ _ c.keep.new.tree.now kept.from) in
+    ∙ sym (c.class_count-classes.ensures ∙ classes-kept dict.lists (rows_of c.commit_both.new.table) is.known is.dictionary.distinct _ _ c.commit_both.new.tree.now kept.from) in
     rw (none, count, sym made, c.len-records.ensures.count) refl
 
 pub returns-in-Err-clause-stored : goal.returns-in-Err-clause-stored
@@ -107,12 +107,12 @@ returns-in-Err-clause-gives g c =
 
 pub change_and_index-requires-clause-before : goal.change_and_index-requires-clause-before
 change_and_index-requires-clause-before g c =
-    subst (λ (o : Option Shape). IfSome o (λ before. IsTreeOf c.args.schema.now before.tree × IsIndexed c.args.schema.now before.tree c.args.index.now)) (sym (ap (λ (a : Arena). a.was) c.open_batch-lens.ensures.tree))
+    subst (λ (o : Option Shape). IfSome o (λ before. IsTreeOfSome c.args.schema.now before.tree × IsIndexed c.args.schema.now before.tree c.args.index.now)) (sym (ap (λ (a : Arena). a.was) c.open_batch-lens.ensures.tree))
     ((rows_of c.args.table.now, c.requires.kept.from), c.requires.indexed)
 
 pub returns-in-Ok-clause-indexed : goal.returns-in-Ok-clause-indexed
 returns-in-Ok-clause-indexed g c =
-    subst (λ (t : Tree ℕ). IsIndexed c.args.schema.now t c.change_and_index.new.index) (sym (ap (λ (a : Arena). a.now) c.keep.ensures.tree)) c.in-Ok.ensures.indexed
+    subst (λ (t : Tree ℕ). IsIndexed c.args.schema.now t c.change_and_index.new.index) (sym (ap (λ (a : Arena). a.now) c.commit_both.ensures.tree)) c.in-Ok.ensures.indexed
 
 pub returns-in-Err-clause-indexed : goal.returns-in-Err-clause-indexed
 returns-in-Err-clause-indexed g c =
@@ -125,9 +125,9 @@ returns-in-Ok-clause-numbers g c = λ in_place.
     let lists = c.change_and_index.new.dict.lists in
     let ids = deleted c.args.batch.now.changes in
     let was : c.open_batch-lens.new.tree.now ≡ c.args.tree.now.now = ap (λ (a : Arena). a.now) c.open_batch-lens.ensures.tree in
-    let is : c.keep.new.tree.now ≡ c.change_and_index.new.tree.now = ap (λ (a : Arena). a.now) c.keep.ensures.tree in
-    subst (λ (rs : List (Row Text)). KeepsNodes (with_codes lists (kept ids rs)) c.args.tree.now.now c.keep.new.tree.now) (ap (λ (s : State). s.rows) c.open_batch-lens.ensures.state)
-    (subst (λ (b : Tree ℕ). KeepsNodes (with_codes lists (kept ids (decoded_rows c.args.dict.now.lists c.open_batch-lens.new.table))) b c.keep.new.tree.now) was
+    let is : c.commit_both.new.tree.now ≡ c.change_and_index.new.tree.now = ap (λ (a : Arena). a.now) c.commit_both.ensures.tree in
+    subst (λ (rs : List (Row Text)). KeepsNodes (with_codes lists (kept ids rs)) c.args.tree.now.now c.commit_both.new.tree.now) (ap (λ (s : State). s.rows) c.open_batch-lens.ensures.state)
+    (subst (λ (b : Tree ℕ). KeepsNodes (with_codes lists (kept ids (decoded_rows c.args.dict.now.lists c.open_batch-lens.new.table))) b c.commit_both.new.tree.now) was
     (subst (λ (d : Tree ℕ). KeepsNodes (with_codes lists (kept ids (decoded_rows c.args.dict.now.lists c.open_batch-lens.new.table))) c.open_batch-lens.new.tree.now d) (sym is) (c.in-Ok.ensures.numbers in_place)))
 
 pub returns-in-Ok-clause-apart : goal.returns-in-Ok-clause-apart
@@ -136,9 +136,9 @@ returns-in-Ok-clause-apart g c = λ in_place.
     let changes = c.args.batch.now.changes in
     let ids = deleted changes in
     let was : c.open_batch-lens.new.tree.now ≡ c.args.tree.now.now = ap (λ (a : Arena). a.now) c.open_batch-lens.ensures.tree in
-    let is : c.keep.new.tree.now ≡ c.change_and_index.new.tree.now = ap (λ (a : Arena). a.now) c.keep.ensures.tree in
-    subst (λ (rs : List (Row Text)). KeepsApart (with_codes lists (gone ids rs ++ inserted changes)) c.args.tree.now.now c.keep.new.tree.now) (ap (λ (s : State). s.rows) c.open_batch-lens.ensures.state)
-    (subst (λ (b : Tree ℕ). KeepsApart (with_codes lists (gone ids (decoded_rows c.args.dict.now.lists c.open_batch-lens.new.table) ++ inserted changes)) b c.keep.new.tree.now) was
+    let is : c.commit_both.new.tree.now ≡ c.change_and_index.new.tree.now = ap (λ (a : Arena). a.now) c.commit_both.ensures.tree in
+    subst (λ (rs : List (Row Text)). KeepsApart (with_codes lists (gone ids rs ++ inserted changes)) c.args.tree.now.now c.commit_both.new.tree.now) (ap (λ (s : State). s.rows) c.open_batch-lens.ensures.state)
+    (subst (λ (b : Tree ℕ). KeepsApart (with_codes lists (gone ids (decoded_rows c.args.dict.now.lists c.open_batch-lens.new.table) ++ inserted changes)) b c.commit_both.new.tree.now) was
     (subst (λ (d : Tree ℕ). KeepsApart (with_codes lists (gone ids (decoded_rows c.args.dict.now.lists c.open_batch-lens.new.table) ++ inserted changes)) c.open_batch-lens.new.tree.now d) (sym is) (c.in-Ok.ensures.apart in_place)))
 
 pub returns-in-Ok-clause-steps : goal.returns-in-Ok-clause-steps

@@ -4,7 +4,7 @@ use Rattle.base_table.specs.Places.{Places, rows_of}
 use Rattle.qc_arena.specs.Codes.{Shape}
 use Rattle.qc_arena.specs.Map.{Arena}
 use Rattle.warehouse.specs.State.{IsIndexed}
-use Rattle.warehouse.specs.Stored.{IsTreeOf}
+use Rattle.warehouse.specs.Stored.{IsTreeOfSome}
 use Rattle.warehouse.proofs.Trees.{tree-from}
 use Rattle.warehouse.proofs.changing.change_and_index.Goals as goal
 
@@ -19,4 +19,4 @@ change_index-requires-clause-now g c =
 
 pub change_index-requires-clause-before : goal.change_index-requires-clause-before
 change_index-requires-clause-before g c =
-    subst (λ (o : Option Shape). IfSome o (λ before. IsTreeOf c.args.schema.now before.tree × IsIndexed c.args.schema.now before.tree c.args.index.now)) (sym (ap (λ (a : Arena). a.was) c.change_and_build.ensures.tree_frame)) c.requires.before
+    subst (λ (o : Option Shape). IfSome o (λ before. IsTreeOfSome c.args.schema.now before.tree × IsIndexed c.args.schema.now before.tree c.args.index.now)) (sym (ap (λ (a : Arena). a.was) c.change_and_build.ensures.tree_frame)) c.requires.before

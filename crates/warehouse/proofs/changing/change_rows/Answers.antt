@@ -6,7 +6,7 @@ use Rattle.csv_load.specs.Batch.{deleted}
 use Rattle.cube_defs.specs.Rows.{Row}
 use Rattle.cube_defs.specs.Text.{Text}
 use Rattle.warehouse.specs.Batch as batches
-use Rattle.warehouse.specs.Batch.{first_number, full_dim, is_among, is_missing, is_present, or_else, rows_after, texts_after}
+use Rattle.warehouse.specs.Batch.{full_dim, is_among, or_else, rows_after, texts_after}
 use Rattle.warehouse.specs.State.{State}
 use Rattle.warehouse.specs.Steps.{last_refusal}
 use Rattle.warehouse.specs.Stored.{decoded_rows, refusal_in, state_of}

@@ -4,7 +4,6 @@ use Rattle.base_table.specs.Places.{rows_of}
 use Rattle.csv_load.specs.Batch.{Delete, deleted}
 use Rattle.cube_defs.specs.Tree.{IsCanonical, nodes}
 use Rattle.qc_arena.specs.Map as arena
-use Rattle.qc_arena.specs.Map.{is_open}
 use Rattle.warehouse.specs.Batch.{is_missing}
 use Rattle.warehouse.specs.InPlace.{KeepsApart, KeepsNodes, cost_of_going, gone, kept}
 use Rattle.warehouse.specs.State.{ids_of}

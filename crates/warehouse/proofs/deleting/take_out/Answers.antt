@@ -1,7 +1,7 @@
 use Rattle.std.proofs.Common.{◌∙◌, ◌≡◌, ap, sym}
 use Rattle.base_table.specs.Places.{Places, rows_of}
 use Rattle.cube_defs.specs.Cell.{cell_of}
-use Rattle.warehouse.proofs.Going.{apart-after, canonical-after, few-before, fewer-nodes, from-is, numbers-after, ok-then, rest-of, steps-after, tuple-is, tuple-long}
+use Rattle.warehouse.proofs.Going.{apart-after, canonical-after, few-before, fewer-nodes, from-is, numbers-after, rest-of, steps-after, tuple-is, tuple-long, ok-then}
 use Rattle.warehouse.proofs.deleting.take_out.Goals as goal
 
 pub group-rest-requires : goal.group-rest-requires

@@ -6,8 +6,8 @@ use Rattle.warehouse.proofs.repair.repair_at.Goals as goal
 pub returns-in_default-clause-tree : goal.returns-in_default-clause-tree
 returns-in_default-clause-tree g c = none-came c.args.table.now c.args.tree.now c.args.place c.requires.tree c.requires.place (c.at.ensures.none c.in_default.is)
 
-pub insert_row-requires-clause-full : goal.insert_row-requires-clause-full
-insert_row-requires-clause-full g c =
+pub insert_row-requires-clause-no_any : goal.insert_row-requires-clause-no_any
+insert_row-requires-clause-no_any g c =
     full-at c.args.table.now c.args.place c.tuple-tuple.result c.amounts.result.now
     (row-there c.args.table.now c.args.place c.in-Some.row.0 c.tuple-tuple.result c.amounts.result.now c.in-Some.ensures.some.0 c.in-Some.ensures.some.1 c.tuple-tuple.ensures.value c.amounts.ensures.value)
 

@@ -1,5 +1,5 @@
 use Rattle.base_table.proofs.Columns.{length-view, store_cut, rows-take}
-use Rattle.base_table.specs.Store.{Rows, rows_from}
+use Rattle.base_table.specs.Store.{StoredRows, rows_from}
 use Rattle.std.proofs.Common.{◌∙◌, ap, arith, take}
 use Rattle.base_table.proofs.store.Store.cut.Goals as goal
 
@@ -18,7 +18,7 @@ pub returns : goal.returns
 returns c =
     let m = c.self.inside in
     λ j. record {
-      dims = ap (λ (s : Rows). s.dims) c.self.view_is j;
-      measures = ap (λ (s : Rows). s.measures) c.self.view_is j;
-      rows = ((λ i. rows_from m.dims m.measures (c.cut.ensures i) (c.truncate.ensures.items i) (c.truncate-2.ensures.items i)) ∙ rows-take m.dims m.measures c.args.len m.ids m.codes.items m.amounts.items ∙ ap (λ (s : Rows). take c.args.len s.rows) c.self.view_is) j;
+      dims = ap (λ (s : StoredRows). s.dims) c.self.view_is j;
+      measures = ap (λ (s : StoredRows). s.measures) c.self.view_is j;
+      rows = ((λ i. rows_from m.dims m.measures (c.cut.ensures i) (c.truncate.ensures.items i) (c.truncate-2.ensures.items i)) ∙ rows-take m.dims m.measures c.args.len m.ids m.codes.items m.amounts.items ∙ ap (λ (s : StoredRows). take c.args.len s.rows) c.self.view_is) j;
     }

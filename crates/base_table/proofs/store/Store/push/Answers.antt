@@ -1,5 +1,5 @@
 use Rattle.base_table.proofs.Columns.{length-view, length-prints, rows-push, store_pushed}
-use Rattle.base_table.specs.Store.{Rows, rows_from}
+use Rattle.base_table.specs.Store.{StoredRows, rows_from}
 use Rattle.std.proofs.Common.{◌≡◌, ◌∙◌, ap, arith, sym, subst}
 use Rattle.base_table.proofs.store.Store.push.Goals as goal
 use Rattle.std.proofs.Common.{◌++◌, ◌∷◌, [], List, ℕ, ℤ}
@@ -26,7 +26,7 @@ row c = record {
 }
 
 row_inside : (c : goal.After-push_amounts) → IsRow c.self.inside.dims c.self.inside.measures (row_of c.args.id c.args.tuple.now c.args.amounts.now)
-row_inside c = subst (λ (s : Rows). IsRow s.dims s.measures (row_of c.args.id c.args.tuple.now c.args.amounts.now)) (sym c.self.view_is) (row c)
+row_inside c = subst (λ (s : StoredRows). IsRow s.dims s.measures (row_of c.args.id c.args.tuple.now c.args.amounts.now)) (sym c.self.view_is) (row c)
 
 ids : (c : goal.After-push_amounts) → c.push.new.self ≡ c.self.inside.ids ++ c.args.id ∷ []
 ids c = c.in_ok-push.ensures.ok
@@ -47,17 +47,17 @@ invariant_of-self-2 c =
     (subst (λ (l : List ℕ). IsStore m.dims m.measures (m.ids ++ c.args.id ∷ []) l c.push_codes.new.codes.items c.push_amounts.new.amounts.items) (sym (prints c))
     (subst (λ (l : List ℕ). IsStore m.dims m.measures (m.ids ++ c.args.id ∷ []) (m.prints ++ fingerprint c.args.tuple.now ∷ []) l c.push_amounts.new.amounts.items) (sym (codes c))
     (subst (λ (l : List ℤ). IsStore m.dims m.measures (m.ids ++ c.args.id ∷ []) (m.prints ++ fingerprint c.args.tuple.now ∷ []) (m.codes.items ++ values_of c.args.tuple.now) l) (sym (amounts c))
-    (store_pushed m.dims m.measures m.ids m.prints m.codes.items m.amounts.items c.args.id c.args.tuple.now c.args.amounts.now c.self.invariant c.requires.full (row_inside c)))))
+    (store_pushed m.dims m.measures m.ids m.prints m.codes.items m.amounts.items c.args.id c.args.tuple.now c.args.amounts.now c.self.invariant c.requires.no_any (row_inside c)))))
 
 pub returns-clause-ok : goal.returns-clause-ok
 returns-clause-ok c =
     let m = c.self.inside in
     λ j. record {
-      dims = ap (λ (s : Rows). s.dims) c.self.view_is j;
-      measures = ap (λ (s : Rows). s.measures) c.self.view_is j;
+      dims = ap (λ (s : StoredRows). s.dims) c.self.view_is j;
+      measures = ap (λ (s : StoredRows). s.measures) c.self.view_is j;
       rows = ((λ i. rows_from m.dims m.measures (ids c i) (codes c i) (amounts c i))
           ∙ rows-push m.dims m.measures m.ids m.codes.items m.amounts.items c.args.id (values_of c.args.tuple.now) c.args.amounts.now c.self.invariant.codes_len c.self.invariant.amounts_len (row_inside c).tuple (row_inside c).amounts
-          ∙ ap (λ (s : Rows). s.rows ++ row_of c.args.id c.args.tuple.now c.args.amounts.now ∷ []) c.self.view_is) j;
+          ∙ ap (λ (s : StoredRows). s.rows ++ row_of c.args.id c.args.tuple.now c.args.amounts.now ∷ []) c.self.view_is) j;
     }
 
 pub returns-clause-row : goal.returns-clause-row

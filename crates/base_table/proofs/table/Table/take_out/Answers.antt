@@ -1,7 +1,7 @@
 use Rattle.std.proofs.Common.{◌≡◌, ◌∙◌, ap, arith, sym, subst, ℕ, ◌-◌, Bool, true, false, List, [], get_or, Some, None, set, map, vec_capacity}
 use Rattle.cube_defs.specs.Rows.{Row}
 use Rattle.base_table.specs.Places.{Places}
-use Rattle.base_table.specs.Store.{IsHolding, marks_then}
+use Rattle.base_table.specs.Store.{AreTableFields, marks_then}
 use Rattle.base_table.specs.Last.{picked}
 use Rattle.base_table.proofs.Holding.{base, some_here, take_table, taken_places, at-view, at_row, open-view, row-view}
 use Rattle.base_table.proofs.table.Table.take_out.Goals as goal
@@ -42,11 +42,11 @@ invariant_of-self c =
     let m = c.self.inside in
     let o : m.is_open ≡ true = open-view m.store m.here.items m.touched.items _ m.begun m.count_then m.is_open m.count m.max c.self.invariant c.args.self.now c.self.view_is c.requires.is_open in
     let at = at-view m.store m.here.items m.touched.items _ m.begun m.count_then m.is_open m.count m.max c.self.invariant c.args.self.now c.self.view_is c.args.place c.requires.there in
-    subst (λ (b : Bool). IsHolding m.store (set m.here.items c.args.place false) c.note.new.touched.items (vec_capacity c.note.new.touched) m.begun m.count_then b (m.count - 1) m.max) (sym o)
-    (subst (λ (n : ℕ). IsHolding m.store (set m.here.items c.args.place false) c.note.new.touched.items n m.begun m.count_then true (m.count - 1) m.max) (sym c.note.ensures.capacity)
-    (subst (λ (l : List ℕ). IsHolding m.store (set m.here.items c.args.place false) l (vec_capacity m.touched) m.begun m.count_then true (m.count - 1) m.max) (sym c.note.ensures.items)
+    subst (λ (b : Bool). AreTableFields m.store (set m.here.items c.args.place false) c.note.new.touched.items (vec_capacity c.note.new.touched) m.begun m.count_then b (m.count - 1) m.max) (sym o)
+    (subst (λ (n : ℕ). AreTableFields m.store (set m.here.items c.args.place false) c.note.new.touched.items n m.begun m.count_then true (m.count - 1) m.max) (sym c.note.ensures.capacity)
+    (subst (λ (l : List ℕ). AreTableFields m.store (set m.here.items c.args.place false) l (vec_capacity m.touched) m.begun m.count_then true (m.count - 1) m.max) (sym c.note.ensures.items)
     (take_table m.store m.here.items m.touched.items (vec_capacity m.touched) m.begun m.count_then m.count m.max c.args.place
-    (subst (λ (b : Bool). IsHolding m.store m.here.items m.touched.items (vec_capacity m.touched) m.begun m.count_then b m.count m.max) o c.self.invariant) at.within at.there)))
+    (subst (λ (b : Bool). AreTableFields m.store m.here.items m.touched.items (vec_capacity m.touched) m.begun m.count_then b m.count m.max) o c.self.invariant) at.within at.there)))
 
 pub returns-clause-table : goal.returns-clause-table
 returns-clause-table c =

@@ -1,5 +1,5 @@
 use Rattle.std.proofs.Common.{◌≡◌, Some, suc}
-use Rattle.cube_defs.specs.Cell.{keep}
+use Rattle.cube_defs.specs.Cell.{cell_front}
 use Rattle.cube_defs.specs.Tree.{cell_at}
 use Rattle.qc_arena.specs.Map.{Arena}
 use Rattle.class_builder.specs.Noted.{AreNoted}
@@ -7,4 +7,4 @@ use Rattle.class_builder.proofs.noted.Fronts.note.Given as goal
 
 -- so far the nodes are those of fronts
 abbrev pub invariant-rows : goal.invariant-rows
-invariant-rows l = (arena : Arena) → AreNoted l.part.table.now arena l.fn.self → cell_at arena.now l.node.0 ≡ Some (keep (suc l.dim) l.part.shared) → AreNoted l.part.table.now arena l.self
+invariant-rows l = (arena : Arena) → AreNoted l.part.table.now arena l.fn.self → cell_at arena.now l.node.0 ≡ Some (cell_front (suc l.dim) l.part.shared) → AreNoted l.part.table.now arena l.self

@@ -1,8 +1,8 @@
 use Rattle.std.proofs.Common.{◌∙◌, ap, is_some, sym}
 use Rattle.std.specs.Option.{option_copied}
-use Rattle.qc_arena.specs.Held.{node_in}
+use Rattle.qc_arena.specs.Slot.{node_in}
 use Rattle.qc_arena.specs.Map.{Arena}
-use Rattle.qc_arena.proofs.KeptSteps.{some_map}
+use Rattle.qc_arena.proofs.TotalsSteps.{some_map}
 use Rattle.qc_arena.proofs.SlotMaps.{there}
 use Rattle.qc_arena.proofs.arena.QcArena.has.Goals as goal
 

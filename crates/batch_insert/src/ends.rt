@@ -1,0 +1,145 @@
+// The forced children and the classes of the nodes below the tuple.
+ghost use Rattle.std.specs.Prelude.{◌+◌, ◌*◌, All, IfSome, None, OnOk, Some, [], ◌∷◌, slice_index_or, ℕ, ◌≢◌, is_some, length, nat_abs, true, ◌≡◌, ◌≤◌};
+ghost use Rattle.aggregates.specs.Bounds.{largest_amount};
+ghost use Rattle.aggregates.specs.Rows.{agg_of_row};
+ghost use Rattle.aggregates.specs.Views.{agg_in};
+ghost use Rattle.std.specs.Option.{option_map};
+ghost use Rattle.batch_insert.specs.Numbered.{numbered};
+ghost use Rattle.qc_arena.specs.Map.{is_open, is_touched, with_class, with_forced};
+ghost use Rattle.std.specs.FinMap as map;
+ghost use Rattle.batch_insert.specs.Stages.{HaveEnded};
+ghost use Rattle.batch_insert.specs.Kept.{AreNumbers, IsBelow, Keeps};
+ghost use Rattle.batch_insert.specs.Planned.{IsEnd, IsForcing, TakesMore, sum_with};
+
+use crate::Memory;
+use crate::changes::{put_class, put_forced};
+use crate::numbers::Numbers;
+use crate::plan::{End, Forcing};
+use crate::tuples::code_of;
+use aggregates::Agg;
+use cell_core::{Cell, NodeNo, Steps};
+use qc_arena::{Forced, QcArena};
+use std::sync::ledger::Ledger;
+
+/// Each node gets its forced child or its class.
+pub(crate) fn end_all<L: Ledger>(
+    ends: &[End],
+    tuple: &Cell,
+    amounts: &[i64],
+    numbers: &Numbers,
+    arena: &mut QcArena,
+    steps: &mut Steps<L>,
+) -> Result<(), Memory>
+    requires opened { is_open arena.old ≡ true }
+    requires no_any { All (λ entry. is_some entry ≡ true) tuple.now }
+    requires few { length amounts.now ≤ 4 }
+    requires small { All (λ a. nat_abs a ≤ largest_amount) amounts.now }
+    requires numbers { AreNumbers tuple.now arena.old (numbered numbers.now) }
+    requires ends { All (λ e. IsEnd (length tuple.now) (length amounts.now) e) ends.now }
+    ensures keeps { Keeps tuple.now arena.old arena.new }
+    ensures done { OnOk result (HaveEnded tuple.now amounts.now (numbered numbers.now) ends.now arena.old.now arena.new.now) }
+    ensures steps { OnOk result (steps.new ≤ steps.old + 2 * length ends.now) }
+{
+    'ends: for k in 0..ends.len() {
+        match end_one(ends[k], tuple, amounts, numbers, arena, steps) {
+            Ok(()) => {}
+            Err(error) => return Err(error),
+        }
+    }
+    Ok(())
+}
+
+fn end_one<L: Ledger>(
+    end: End,
+    tuple: &Cell,
+    amounts: &[i64],
+    numbers: &Numbers,
+    arena: &mut QcArena,
+    steps: &mut Steps<L>,
+) -> Result<(), Memory>
+    requires opened { is_open arena.old ≡ true }
+    requires no_any { All (λ entry. is_some entry ≡ true) tuple.now }
+    requires few { length amounts.now ≤ 4 }
+    requires small { All (λ a. nat_abs a ≤ largest_amount) amounts.now }
+    requires numbers { AreNumbers tuple.now arena.old (numbered numbers.now) }
+    requires end { IsEnd (length tuple.now) (length amounts.now) end }
+    ensures keeps { Keeps tuple.now arena.old arena.new }
+    ensures done { OnOk result (HaveEnded tuple.now amounts.now (numbered numbers.now) (end ∷ []) arena.old.now arena.new.now) }
+    ensures steps { OnOk result (steps.new ≤ steps.old + 2) }
+{
+    let node = match numbers.number_of(end.mask) {
+        Ok(node) => node,
+        Err(error) => return Err(error),
+    };
+    match end.forced {
+        Some(forcing) => force(node, forcing, tuple, numbers, arena, steps),
+        None => {
+            let agg = with_row(end.before, amounts);
+            mark(node, agg, tuple, arena, steps);
+            Ok(())
+        }
+    }
+}
+
+fn force<L: Ledger>(
+    node: NodeNo,
+    forcing: Forcing,
+    tuple: &Cell,
+    numbers: &Numbers,
+    arena: &mut QcArena,
+    steps: &mut Steps<L>,
+) -> Result<(), Memory>
+    requires opened { is_open arena.old ≡ true }
+    requires no_any { All (λ entry. is_some entry ≡ true) tuple.now }
+    requires node { IsBelow tuple.now arena.old node.0 }
+    requires touched { is_touched arena.old node.0 ≡ true }
+    requires dim { IsForcing (length tuple.now) forcing }
+    ensures keeps { Keeps tuple.now arena.old arena.new }
+    ensures here { OnOk result ((l : ℕ) × (v : ℕ) × (numbered numbers.now forcing.child ≡ Some l) × (slice_index_or tuple.now forcing.dim None ≡ Some v)
+        × (map.get arena.new.now node.0 ≡ option_map (with_forced (Some (record { dim = forcing.dim; value = v; target = l })))
+        (map.get arena.old.now node.0))) }
+    ensures others { (q : ℕ) → q ≢ node.0 → map.get arena.new.now q ≡ map.get arena.old.now q }
+    ensures steps { OnOk result (steps.new ≤ steps.old + 2) }
+{
+    let child = match numbers.number_of(forcing.child) {
+        Ok(child) => child,
+        Err(error) => return Err(error),
+    };
+    let forced = Forced {
+        dim: forcing.dim,
+        code: code_of(tuple, forcing.dim),
+        child,
+    };
+    put_forced(arena, tuple, node, Some(forced), steps);
+    Ok(())
+}
+
+// What the rows before came to, if there were any, and the row.
+fn with_row(before: Option<Agg>, amounts: &[i64]) -> Agg
+    requires few { length amounts.now ≤ 4 }
+    requires small { All (λ a. nat_abs a ≤ largest_amount) amounts.now }
+    requires before { IfSome before (λ a. TakesMore (length amounts.now) a) }
+    ensures { agg_in result ≡ sum_with (option_map agg_in before) (agg_of_row amounts.now) }
+{
+    match before {
+        Some(agg) => {
+            let mut more = agg;
+            more.add_row(amounts);
+            more
+        }
+        None => Agg::one(amounts),
+    }
+}
+
+fn mark<L: Ledger>(node: NodeNo, agg: Agg, tuple: &Cell, arena: &mut QcArena, steps: &mut Steps<L>)
+    requires opened { is_open arena.old ≡ true }
+    requires node { IsBelow tuple.now arena.old node.0 }
+    requires touched { is_touched arena.old node.0 ≡ true }
+    ensures keeps { Keeps tuple.now arena.old arena.new }
+    ensures here { map.get arena.new.now node.0 ≡ option_map (with_class (Some (agg_in agg))) (option_map (with_forced None) (map.get arena.old.now node.0)) }
+    ensures others { (q : ℕ) → q ≢ node.0 → map.get arena.new.now q ≡ map.get arena.old.now q }
+    ensures steps { steps.new ≡ steps.old + 2 }
+{
+    put_forced(arena, tuple, node, None, steps);
+    put_class(arena, tuple, node, agg, steps);
+}

@@ -1,8 +1,0 @@
-use Rattle.std.proofs.Common.{◌≡◌, ℕ, ◌<◌}
-use Rattle.base_table.specs.Places.{named}
-use Rattle.cube_laws.specs.Parting.{shared_by}
-use Rattle.cube_laws.proofs.Shared.{entry}
-use Rattle.class_builder.proofs.upper.first_gain.Given as goal
-
-abbrev pub invariant-dims : goal.invariant-dims
-invariant-dims l = (j : ℕ) → j < l.i → entry (shared_by (named l.table l.rows)) j ≡ entry l.upper j

@@ -1,0 +1,45 @@
+// Room that the walk uses again.
+ghost use Rattle.std.specs.Prelude.{IfOk, ◌<◌, ◌≡◌};
+ghost use Rattle.base_table.specs.Places.{AreThere};
+ghost use Rattle.cell_closure.specs.Parts.{parted};
+
+use crate::Memory;
+use base_table::{RowNo, Table};
+use cell_closure::Parts;
+use std::alloc::Global;
+
+/// Parts that are done with.
+#[derive(Drop)]
+pub(crate) struct PartsPool {
+    spare: Vec<Parts>,
+    alloc: Global,
+}
+
+impl PartsPool {
+    pub(crate) fn new(alloc: Global) -> PartsPool {
+        PartsPool {
+            spare: Vec::new(alloc),
+            alloc,
+        }
+    }
+
+    /// The rows by their codes in the dimension.
+    pub(crate) fn part(&mut self, table: &Table, rows: &[RowNo], dim: u8) -> Result<Parts, Memory>
+        requires there { AreThere table.now rows.now }
+        requires dim { dim < table.now.dims }
+        ensures { IfOk result (λ parts. parts ≡ parted table.now rows.now dim) }
+    {
+        let mut parts = match self.spare.pop() {
+            Some(parts) => parts,
+            None => Parts::new(self.alloc),
+        };
+        parts.part_into(table, rows, dim)?;
+        Ok(parts)
+    }
+
+    /// Takes parts that are done with.
+    pub(crate) fn give_back(&mut self, parts: Parts) -> Result<(), Memory> {
+        self.spare.push(parts)?;
+        Ok(())
+    }
+}

@@ -1,0 +1,55 @@
+-- What a record that is kept of a node means, and what holds of it.
+use Rattle.std.specs.Prelude.{◌≡◌, ◌≢◌, ℕ, ◌<◌, ◌≤◌, List, [], ◌∷◌, true, Option, Some, None, length, nat_eq, replicate, if◌then◌else◌}
+use Rattle.std.specs.List.{list_all}
+use Rattle.cube_defs.specs.Cell.{Cell, with_value}
+use Rattle.cube_defs.specs.Tree.{Edge}
+use Rattle.cube_defs.specs.Rows as defs
+use Rattle.aggregates.specs.declared.agg.Agg.{Agg}
+use Rattle.aggregates.specs.Views.{agg_in}
+use Rattle.tree_laws.specs.Walk.{last_label}
+use Rattle.qc_arena.specs.declared.edges.StoredEdge.{StoredEdge}
+use Rattle.qc_arena.specs.Edges.{edges_to, is_small, rises}
+use Rattle.cube_defs.specs.declared.limits.TheConstants.{MAX_DIMS}
+use Rattle.cell_core.specs.Entry.{IsCode}
+
+-- a cell with the values of some labels
+abbrev pub with_labels : Cell ℕ → List (ℕ × ℕ) → Cell ℕ
+with_labels c [] = c
+with_labels c (label ∷ rest) = with_labels (with_value c label.0 label.1) rest
+
+-- the cell at the end of a trail, which begins with the number of dimensions
+abbrev pub cell_on : List (ℕ × ℕ) → Cell ℕ
+cell_on [] = []
+cell_on (first ∷ labels) = with_labels (replicate first.0 None) labels
+
+-- the last dimension with a value, and the value; 255 at the root
+abbrev pub label_in : ℕ → ℕ → Option (ℕ × ℕ)
+label_in dim code = if nat_eq dim 255 then None else Some (dim, code)
+
+abbrev pub parent_in : ℕ → ℕ → Option ℕ
+parent_in dim parent = if nat_eq dim 255 then None else Some parent
+
+abbrev pub forced_in : ℕ → ℕ → ℕ → Option (Edge ℕ ℕ)
+forced_in dim code child = if nat_eq code 4294967295 then None else Some (record { dim = dim; value = code; target = child })
+
+-- the class that is noted, if one is
+abbrev pub class_on : List (ℕ × Agg) → Option defs.Agg
+class_on [] = None
+class_on (e ∷ rest) = Some (agg_in e.1)
+
+-- its rows and measures, and no rows where there is none
+abbrev pub IsHeading : List (ℕ × Agg) → ℕ → ℕ → Type 0
+IsHeading [] count measures = count ≡ 0
+IsHeading (e ∷ rest) count measures = (count ≡ e.1.count) × (measures ≡ e.1.measures) × (length e.1.parts ≡ 4)
+
+-- the last label is that of the trail, the heading that of the class, labels rise, and codes are small
+pub record IsRec (trail : List (ℕ × ℕ)) (noted : List (ℕ × Agg)) (dim code forced_code count measures : ℕ) (edges : List StoredEdge) : Type 0 where
+  pub heading : IsHeading noted count measures
+  pub end : last_label (cell_on trail) ≡ label_in dim code
+  pub small_end : IsCode code
+  pub small_forced : forced_code ≢ 4294967295 → IsCode forced_code
+  pub few_dims : length (cell_on trail) ≤ MAX_DIMS
+  pub begun : trail ≢ []
+  pub rising : rises (edges_to edges) ≡ true
+  pub few : length edges < 4294967296
+  pub small_edges : list_all is_small (edges_to edges) ≡ true

@@ -1,0 +1,128 @@
+// What is kept of a map of nodes, so that it need not be looked for or counted.
+ghost use Rattle.std.specs.Prelude.{IsTrue, None, Some, if◌then◌else◌, true, ◌+◌, ◌<◌, ◌≡◌, ◌≤◌};
+ghost use Rattle.qc_arena.specs.Counted.{root_after, root_without};
+
+use cell_core::{Code, NodeNo};
+use cube_defs::MAX_NODES;
+
+/// How many nodes, classes, tree edges and links there are.
+#[derive(Clone, Copy, Debug, PartialEq, Eq)]
+pub struct Counts {
+    pub nodes: u32,
+    pub classes: u32,
+    /// Edges that lead from a node to the node with one value more, of which it is the parent.
+    pub tree_edges: u64,
+    /// All other edges.
+    pub links: u64,
+}
+
+/// The root, if there is one, and how many nodes, classes and edges there are.
+#[derive(Clone, Copy, Debug, PartialEq, Eq)]
+pub(crate) struct TreeTotals {
+    pub root: Option<NodeNo>,
+    pub nodes: u32,
+    pub classes: u32,
+    pub edges: u64,
+}
+
+impl TreeTotals {
+    // One node more, which is the root where it stands under none.
+    pub(crate) fn with_node(self, under: Option<(NodeNo, u8, Code)>, node: u32) -> TreeTotals
+        requires { self.nodes < MAX_NODES }
+        ensures nodes { result.nodes ≡ self.nodes + 1 }
+        ensures classes { result.classes ≡ self.classes }
+        ensures edges { result.edges ≡ self.edges }
+        ensures root { result.root ≡ root_after self.root under node }
+    {
+        let root = match under {
+            None => Some(NodeNo(node)),
+            Some(_) => self.root,
+        };
+        TreeTotals {
+            root,
+            nodes: self.nodes + 1,
+            classes: self.classes,
+            edges: self.edges,
+        }
+    }
+
+    // The root that is left without a node.
+    fn root_left(self, node: u32) -> Option<NodeNo>
+        ensures { result ≡ root_without self.root node }
+    {
+        match self.root {
+            None => None,
+            Some(root) => { if root.0 == node { None } else { Some(root) } }
+        }
+    }
+
+    // One node less, which was a class or none, and had so many edges.
+    pub(crate) fn without_node(self, node: u32, is_class: bool, had: u32) -> TreeTotals
+        requires nodes { 0 < self.nodes }
+        requires classes { is_class ≡ true → 0 < self.classes }
+        requires edges { had ≤ self.edges }
+        ensures nodes { result.nodes + 1 ≡ self.nodes }
+        ensures classes { result.classes + (if is_class then 1 else 0) ≡ self.classes }
+        ensures edges { result.edges + had ≡ self.edges }
+        ensures root { result.root ≡ root_without self.root node }
+    {
+        let mut classes = self.classes;
+        if is_class {
+            classes -= 1;
+        }
+        TreeTotals {
+            root: self.root_left(node),
+            nodes: self.nodes - 1,
+            classes,
+            edges: self.edges - had as u64,
+        }
+    }
+
+    // A node had a class or none, and has one now or none.
+    pub(crate) fn with_class(self, had: bool, has: bool) -> TreeTotals
+        requires room { self.classes < 4294967295 }
+        requires had { had ≡ true → 0 < self.classes }
+        ensures root { result.root ≡ self.root }
+        ensures nodes { result.nodes ≡ self.nodes }
+        ensures edges { result.edges ≡ self.edges }
+        ensures classes { result.classes + (if had then 1 else 0) ≡ self.classes + (if has then 1 else 0) }
+    {
+        let mut classes = self.classes;
+        if had {
+            classes -= 1;
+        }
+        if has {
+            classes += 1;
+        }
+        TreeTotals {
+            root: self.root,
+            nodes: self.nodes,
+            classes,
+            edges: self.edges,
+        }
+    }
+
+    // Whether the edges of one node more can be counted. So many edges fit into no memory.
+    pub(crate) fn has_room(self) -> bool
+        ensures { IsTrue result → self.edges + 4294967296 ≤ 18446744073709551615 }
+    {
+        self.edges <= u64::MAX - 4_294_967_296
+    }
+
+    // A node had so many edges, and has so many now.
+    pub(crate) fn with_edges(self, had: u32, has: u32) -> TreeTotals
+        requires had { had ≤ self.edges }
+        requires room { self.edges + has < 18446744073709551616 + had }
+        ensures root { result.root ≡ self.root }
+        ensures nodes { result.nodes ≡ self.nodes }
+        ensures classes { result.classes ≡ self.classes }
+        ensures edges { result.edges + had ≡ self.edges + has }
+    {
+        TreeTotals {
+            root: self.root,
+            nodes: self.nodes,
+            classes: self.classes,
+            edges: self.edges - had as u64 + has as u64,
+        }
+    }
+}

@@ -1,0 +1,27 @@
+// The byte order mark in front of a text.
+ghost use Rattle.std.specs.Prelude.{◌≡◌, ◌≤◌};
+ghost use Rattle.text_lines.specs.Lines.{begins_with_mark, begins_with_two_marks, without_mark};
+
+/// Whether a text begins with a byte order mark.
+pub fn has_mark(text: &[u8]) -> bool
+    ensures { result ≡ begins_with_mark text.now }
+{
+    matches!(text, [0xEF, 0xBB, 0xBF, ..])
+}
+
+/// Whether a text begins with a byte order mark, and directly behind it another.
+pub fn has_two_marks(text: &[u8]) -> bool
+    ensures { result ≡ begins_with_two_marks text.now }
+{
+    has_mark(text) && has_mark(&text[3..])
+}
+
+/// A text without the byte order mark at its front.
+pub fn trim_mark(text: &[u8]) -> &[u8]
+    ensures { result.now ≡ without_mark text.now }
+{
+    match text {
+        [0xEF, 0xBB, 0xBF, behind @ ..] => behind,
+        _ => text,
+    }
+}
