@@ -261,6 +261,7 @@ fn reads_as(alloc: Global, schema: &Schema, line: &Line) -> Result<bool, Memory>
 
 // Each line over a schema.
 fn read_all(rt: &impl Abort, alloc: Global, text: &[u8], lines: &[Line]) -> Result<(), Fail> {
+    assert!(rt; text.len() < 10_000);
     let schema = read_schema(alloc, text).map_err(|_| "schema")?;
     'lines: for line in lines {
         assert!(rt; line.0.len() < 10_000);
