@@ -9,6 +9,7 @@ use Rattle.cube_defs.specs.Tree.{classes, links, nodes, tree_edges}
 use Rattle.cube_defs.specs.declared.limits.TheConstants.{MAX_CODES, MAX_ROWS}
 use Rattle.cube_laws.specs.Total.{agg_at}
 use Rattle.qc_schema.specs.Schema.{Layout}
+use Rattle.qc_schema.specs.declared.limits.SchemaVersion.TheVariants as versions
 use Rattle.qc_schema.specs.declared.limits.TheConstants.{DEFAULT_NODES}
 use Rattle.row_generator.specs.Generator.{after_rows, base_text, batch_rows, batch_text}
 use Rattle.row_generator.specs.declared.files.TheConstants.{BATCHES}
@@ -18,6 +19,7 @@ use Rattle.warehouse.specs.State.{State, empty}
 -- the schema of the generated files
 abbrev pub layout : Layout
 layout = record {
+  version = versions.One;
   id = codes "id";
   dims = codes "a" ∷ codes "b" ∷ codes "c" ∷ codes "d" ∷ codes "e" ∷ [];
   measures = record { name = codes "amount"; scale = 2 } ∷ [];

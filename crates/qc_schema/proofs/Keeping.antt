@@ -14,11 +14,13 @@ use Rattle.aggregates.specs.Views.{IsThere}
 use Rattle.aggregates.specs.declared.kind.AggKind.{AggKind}
 use Rattle.aggregates.specs.declared.kind.AggKind.TheVariants as kinds
 use Rattle.cube_defs.specs.Text.{Text}
-use Rattle.qc_schema.specs.Schema.{IsLayout, Layout, Measure, all_different, is_name, names_of, same_kind}
+use Rattle.qc_schema.specs.Schema.{IsLayout, Layout, Measure, all_different, is_name, max_dims, max_measures, names_of, same_kind}
+use Rattle.qc_schema.specs.declared.limits.SchemaVersion.{SchemaVersion}
+use Rattle.qc_schema.specs.declared.limits.SchemaVersion.TheVariants as versions
 use Rattle.qc_schema.specs.Progress.{Progress, Fault, Line}
 use Rattle.text_lines.specs.Cuts.{words_of}
 use Rattle.text_lines.specs.Lines.{is_comment}
-use Rattle.qc_schema.specs.Grammar.{◌>>=◌, and_on, count_kind, dim_line, id_line, in_order, index_line, is_start, is_used, is_version, kind_named, kind_of, limit_in, line_of_words, may_dim, may_end, may_id, may_index, may_measure, may_rows, may_values, measure_from, measure_line, named_line, new_kind, new_name, nodes_line, one_word, read_lines, rows_line, scale_in, start, take_line, two_words, values_line, version_line}
+use Rattle.qc_schema.specs.Grammar.{◌>>=◌, and_on, count_kind, dim_line, id_line, in_order, index_line, is_start, is_used, kind_named, kind_of, limit_in, line_of_words, may_dim, may_end, may_id, may_index, may_measure, may_rows, may_values, measure_from, measure_line, named_line, new_kind, new_name, nodes_line, one_word, read_lines, rows_line, scale_in, start, take_line, two_words, values_line, version_in, version_line, with_version}
 use Rattle.qc_schema.specs.declared.reader.Stage.{Stage}
 use Rattle.qc_schema.specs.declared.reader.Stage.TheVariants as stages
 use Rattle.qc_schema.specs.declared.refusal.SchemaCause.{SchemaCause}
@@ -27,14 +29,34 @@ use Rattle.qc_schema.specs.declared.refusal.SchemaCause.TheVariants.{End, Name, 
 -- what holds behind a line of each kind
 abbrev pub AtStage : Stage → Layout → Type 0
 AtStage stages.Start l = l ≡ start.layout
-AtStage stages.Qcube l = l ≡ start.layout
-AtStage stages.Id l = (is_name l.id ≡ true) × (l ≡ record start.layout { id = l.id })
+AtStage stages.Qcube l = l ≡ record start.layout { version = l.version }
+AtStage stages.Id l = (is_name l.id ≡ true) × (l ≡ record start.layout { version = l.version; id = l.id })
 AtStage stages.Dim l = IsLayout l × (l.measures ≡ []) × (l.indexes ≡ [])
 AtStage stages.Measure l = IsLayout l × (l.indexes ≡ [])
 AtStage stages.Index l = IsLayout l
 AtStage stages.Nodes l = IsLayout l
 AtStage stages.Rows l = IsLayout l
 AtStage stages.Values l = IsLayout l
+
+-- how many dimensions and measures a version may have
+pub some-dims-may : (v : SchemaVersion) → 1 ≤ max_dims v
+some-dims-may versions.One = omega arith
+some-dims-may versions.Two = omega arith
+
+pub max_dims-le : (v : SchemaVersion) → max_dims v ≤ 16
+max_dims-le versions.One = omega arith
+max_dims-le versions.Two = omega arith
+
+pub max_measures-le : (v : SchemaVersion) → max_measures v ≤ 4
+max_measures-le versions.One = omega arith
+max_measures-le versions.Two = omega arith
+
+-- a schema has no more dimensions and measures than a cube may have
+pub dims-few : (l : Layout) → IsLayout l → length l.dims ≤ 16
+dims-few l h = omega (arith, h.few_dims, max_dims-le l.version)
+
+pub measures-few : (l : Layout) → IsLayout l → length l.measures ≤ 4
+measures-few l h = omega (arith, h.few_measures, max_measures-le l.version)
 
 pub record Keeps (s : Progress) : Type 0 where
   pub holds : AtStage s.stage s.layout
@@ -167,10 +189,11 @@ kind-of-there ms (agg ∷ words) kind e = by (bytes_eq agg (codes "count")) e
         kind-there ms agg (measure_from ms 0 p.0) kind (λ m is. omega (arith, measure-there ms 0 m p.0 is)) p.2
 
 -- the layouts that the lines leave
-first-dim : (id name : Text) → is_name id ≡ true → is_name name ≡ true → is_used (record start.layout { id = id }) name ≡ false → IsLayout (record start.layout { id = id; dims = name ∷ [] })
-first-dim id name i n u = record {
+first-dim : (version : SchemaVersion) (id name : Text) → is_name id ≡ true → is_name name ≡ true → is_used (record start.layout { version = version; id = id }) name ≡ false
+    → IsLayout (record start.layout { version = version; id = id; dims = name ∷ [] })
+first-dim version id name i n u = record {
   some_dims = omega arith;
-  few_dims = omega arith;
+  few_dims = some-dims-may version;
   few_measures = omega arith;
   scales = tt;
   names = rw (i, n) refl;
@@ -188,7 +211,7 @@ first-dim id name i n u = record {
 no-more : (dims : List Text) (ms : List Measure) → ms ≡ [] → dims ++ map (λ m. m.name) ms ≡ dims
 no-more dims ms e = rw e (append-nil dims)
 
-next-dim : (l : Layout) (name : Text) → IsLayout l → l.measures ≡ [] → length l.dims < 12 → is_name name ≡ true → is_used l name ≡ false → IsLayout (record l { dims = l.dims ++ name ∷ [] })
+next-dim : (l : Layout) (name : Text) → IsLayout l → l.measures ≡ [] → length l.dims < max_dims l.version → is_name name ≡ true → is_used l name ≡ false → IsLayout (record l { dims = l.dims ++ name ∷ [] })
 next-dim l name h none few n u = record {
   some_dims = omega (arith, length_push l.dims name, h.some_dims);
   few_dims = omega (arith, length_push l.dims name);
@@ -209,7 +232,7 @@ next-dim l name h none few n u = record {
 more-names : (l : Layout) (m : Measure) → names_of (record l { measures = l.measures ++ m ∷ [] }) ≡ names_of l ++ m.name ∷ []
 more-names l m = ap (λ xs. l.id ∷ (l.dims ++ xs)) (map-append (λ x. x.name) l.measures (m ∷ [])) ∙ ap (λ xs. l.id ∷ xs) (sym (append_assoc l.dims (map (λ x. x.name) l.measures) (m.name ∷ [])))
 
-next-measure : (l : Layout) (m : Measure) → IsLayout l → l.indexes ≡ [] → length l.measures < 1 → m.scale ≤ 6 → is_name m.name ≡ true → is_used l m.name ≡ false → IsLayout (record l { measures = l.measures ++ m ∷ [] })
+next-measure : (l : Layout) (m : Measure) → IsLayout l → l.indexes ≡ [] → length l.measures < max_measures l.version → m.scale ≤ 6 → is_name m.name ≡ true → is_used l m.name ≡ false → IsLayout (record l { measures = l.measures ++ m ∷ [] })
 next-measure l m h none few small n u = record {
   some_dims = h.some_dims;
   few_dims = h.few_dims;
@@ -320,12 +343,12 @@ keeps-id stages.Nodes l name may h n = absurd (cc may)
 keeps-id stages.Rows l name may h n = absurd (cc may)
 keeps-id stages.Values l name may h n = absurd (cc may)
 
-keeps-dim : (stage : Stage) (l : Layout) (name : Text) → may_dim stage ≡ true → AtStage stage l → length l.dims < 12 → is_name name ≡ true → is_used l name ≡ false → AtStage stages.Dim (record l { dims = l.dims ++ name ∷ [] })
+keeps-dim : (stage : Stage) (l : Layout) (name : Text) → may_dim stage ≡ true → AtStage stage l → length l.dims < max_dims l.version → is_name name ≡ true → is_used l name ≡ false → AtStage stages.Dim (record l { dims = l.dims ++ name ∷ [] })
 keeps-dim stages.Start l name may h few n u = absurd (cc may)
 keeps-dim stages.Qcube l name may h few n u = absurd (cc may)
 keeps-dim stages.Id l name may h few n u =
     let P : Layout → Type 0 = λ x. is_used x name ≡ false → AtStage stages.Dim (record x { dims = x.dims ++ name ∷ [] }) in
-    subst P (sym h.1) (λ v. (first-dim l.id name h.0 n v, refl, refl)) u
+    subst P (sym h.1) (λ v. (first-dim l.version l.id name h.0 n v, refl, refl)) u
 keeps-dim stages.Dim l name may h few n u = (next-dim l name h.0 h.1 few n u, h.1, h.2)
 keeps-dim stages.Measure l name may h few n u = absurd (cc may)
 keeps-dim stages.Index l name may h few n u = absurd (cc may)
@@ -333,7 +356,7 @@ keeps-dim stages.Nodes l name may h few n u = absurd (cc may)
 keeps-dim stages.Rows l name may h few n u = absurd (cc may)
 keeps-dim stages.Values l name may h few n u = absurd (cc may)
 
-keeps-measure : (stage : Stage) (l : Layout) (m : Measure) → may_measure stage ≡ true → AtStage stage l → length l.measures < 1 → m.scale ≤ 6 → is_name m.name ≡ true → is_used l m.name ≡ false → AtStage stages.Measure (record l { measures = l.measures ++ m ∷ [] })
+keeps-measure : (stage : Stage) (l : Layout) (m : Measure) → may_measure stage ≡ true → AtStage stage l → length l.measures < max_measures l.version → m.scale ≤ 6 → is_name m.name ≡ true → is_used l m.name ≡ false → AtStage stages.Measure (record l { measures = l.measures ++ m ∷ [] })
 keeps-measure stages.Start l m may h few small n u = absurd (cc may)
 keeps-measure stages.Qcube l m may h few small n u = absurd (cc may)
 keeps-measure stages.Id l m may h few small n u = absurd (cc may)
@@ -360,25 +383,25 @@ id-kept s t words k e =
 dim-kept : (s t : Progress) (words : List Text) → Keeps s → dim_line s words ≡ Ok t → Keeps t
 unfolding dim_line
 dim-kept s t words k e =
-    let a = bind_ok (in_order (may_dim s.stage && nat_lt (length s.layout.dims) 12)) _ t e in
+    let a = bind_ok (in_order (may_dim s.stage && nat_lt (length s.layout.dims) (max_dims s.layout.version))) _ t e in
     let b = bind_ok (one_word words) _ t a.2 in
     let c = bind_ok (new_name s.layout b.0) _ t b.2 in
     let n = name-new s.layout b.0 c.0 c.1 in
-    let may = and_parts (may_dim s.stage) (nat_lt (length s.layout.dims) 12) (in-order _ _ a.1) in
+    let may = and_parts (may_dim s.stage) (nat_lt (length s.layout.dims) (max_dims s.layout.version)) (in-order _ _ a.1) in
     let same : record { stage = stages.Dim; layout = record s.layout { dims = s.layout.dims ++ c.0 ∷ [] } } ≡ t = cc (c.2) in
-    as-state _ t same (keeps-dim s.stage s.layout c.0 may.0 k.holds (ltb-true (length s.layout.dims) 12 may.1) n.0 n.1)
+    as-state _ t same (keeps-dim s.stage s.layout c.0 may.0 k.holds (ltb-true (length s.layout.dims) (max_dims s.layout.version) may.1) n.0 n.1)
 
 measure-kept : (s t : Progress) (words : List Text) → Keeps s → measure_line s words ≡ Ok t → Keeps t
 unfolding measure_line
 measure-kept s t words k e =
-    let a = bind_ok (in_order (may_measure s.stage && nat_lt (length s.layout.measures) 1)) _ t e in
+    let a = bind_ok (in_order (may_measure s.stage && nat_lt (length s.layout.measures) (max_measures s.layout.version))) _ t e in
     let b = bind_ok (two_words words) _ t a.2 in
     let c = bind_ok (new_name s.layout b.0.0) _ t b.2 in
     let d = bind_ok (scale_in b.0.1) _ t c.2 in
     let n = name-new s.layout b.0.0 c.0 c.1 in
-    let may = and_parts (may_measure s.stage) (nat_lt (length s.layout.measures) 1) (in-order _ _ a.1) in
+    let may = and_parts (may_measure s.stage) (nat_lt (length s.layout.measures) (max_measures s.layout.version)) (in-order _ _ a.1) in
     let same : record { stage = stages.Measure; layout = record s.layout { measures = s.layout.measures ++ (record { name = c.0; scale = d.0 }) ∷ [] } } ≡ t = cc (d.2) in
-    as-state _ t same (keeps-measure s.stage s.layout (record { name = c.0; scale = d.0 }) may.0 k.holds (ltb-true (length s.layout.measures) 1 may.1) (scale-small b.0.1 d.0 d.1) n.0 n.1)
+    as-state _ t same (keeps-measure s.stage s.layout (record { name = c.0; scale = d.0 }) may.0 k.holds (ltb-true (length s.layout.measures) (max_measures s.layout.version) may.1) (scale-small b.0.1 d.0 d.1) n.0 n.1)
 
 index-kept : (s t : Progress) (words : List Text) → Keeps s → index_line s words ≡ Ok t → Keeps t
 unfolding index_line
@@ -452,9 +475,14 @@ at-start stages.Values l is h = absurd (cc is)
 
 version-kept : (s t : Progress) (word : Text) (words : List Text) → is_start s.stage ≡ true → Keeps s → version_line s word words ≡ Ok t → Keeps t
 unfolding version_line
-version-kept s t word words is k e =
-    let p = cond_ok (bytes_eq word (codes "qcube") && is_version words) (record { stage = stages.Qcube; layout = s.layout }) t Version e in
-    as-state _ t p.1 (at-start s.stage s.layout is k.holds)
+version-kept s t word words is k e = by (bytes_eq word (codes "qcube")) (version_in words) e
+  where
+    by : (b : Bool) (version : Option SchemaVersion) → cond b (with_version s version) (Err Version) ≡ Ok t → Keeps t
+    by true (Some version) h =
+        let same : record { stage = stages.Qcube; layout = record s.layout { version = version } } ≡ t = cc in
+        as-state _ t same (ap (λ (l : Layout). record l { version = version }) (at-start s.stage s.layout is k.holds))
+    by true None h = absurd (cc h)
+    by false version h = absurd (cc h)
 
 words-kept : (s t : Progress) (words : List Text) → Keeps s → line_of_words s words ≡ Ok t → Keeps t
 words-kept s t [] k e = let same : s ≡ t = cc in subst Keeps same k
@@ -492,16 +520,16 @@ read-layout (line ∷ lines) n s l k e =
 pub start-kept : Keeps start
 start-kept = record { holds = refl }
 
-few-at : (stage : Stage) (l : Layout) → AtStage stage l → length l.measures ≤ 1
+few-at : (stage : Stage) (l : Layout) → AtStage stage l → length l.measures ≤ 4
 few-at stages.Start l h = omega (arith, ap (λ (x : Layout). length x.measures) h)
 few-at stages.Qcube l h = omega (arith, ap (λ (x : Layout). length x.measures) h)
 few-at stages.Id l h = omega (arith, ap (λ (x : Layout). length x.measures) h.1)
-few-at stages.Dim l h = h.0.few_measures
-few-at stages.Measure l h = h.0.few_measures
-few-at stages.Index l h = h.few_measures
-few-at stages.Nodes l h = h.few_measures
-few-at stages.Rows l h = h.few_measures
-few-at stages.Values l h = h.few_measures
+few-at stages.Dim l h = measures-few l h.0
+few-at stages.Measure l h = measures-few l h.0
+few-at stages.Index l h = measures-few l h
+few-at stages.Nodes l h = measures-few l h
+few-at stages.Rows l h = measures-few l h
+few-at stages.Values l h = measures-few l h
 
-pub few-kept : (s : Progress) → Keeps s → length s.layout.measures ≤ 1
+pub few-kept : (s : Progress) → Keeps s → length s.layout.measures ≤ 4
 few-kept s k = few-at s.stage s.layout k.holds

@@ -5,3 +5,4 @@ pub mod Keeping
 mod Reading
 mod Wording
 pub mod Returning
+mod Spelled

@@ -7,7 +7,7 @@ use Rattle.std.specs.Str.Parse.{digits_value}
 use Rattle.std.proofs.lemmas.Bool.{and_parts, le-leb, lt-ltb, or_parts, not-true}
 use Rattle.std.proofs.lemmas.Fmt.{decimal_digit, decimal_nonempty, digits_decimal, digits_value-decimal, length-decimal-le}
 use Rattle.std.proofs.lemmas.Str.Parse.{IsNumeralModel, numerals_by_value, tells_all_ascii_digits}
-use Rattle.std.proofs.lemmas.List.{append-nil, length_push}
+use Rattle.std.proofs.lemmas.List.{append-nil, length_push, map-append}
 use Rattle.std.proofs.lemmas.List.Folds.{list_any-append}
 use Rattle.std.proofs.lemmas.Slice.Eq.{bytes_eq-Decides}
 use Rattle.aggregates.specs.Views.{IsThere}
@@ -15,9 +15,11 @@ use Rattle.aggregates.specs.declared.kind.AggKind.{AggKind}
 use Rattle.aggregates.specs.declared.kind.AggKind.TheVariants as kinds
 use Rattle.cube_defs.specs.Text.{Text}
 use Rattle.cube_defs.specs.declared.limits.TheConstants.{MAX_CODES, MAX_NODES, MAX_ROWS}
-use Rattle.qc_schema.specs.Grammar.{◌>>=◌, and_on, dim_line, id_line, index_line, is_start, kind_of, limit_in, line_of_words, may_dim, may_end, may_index, measure_from, measure_line, named_line, nodes_line, read_lines, rows_line, scale_in, schema_in, start, take_line, values_line, version_line}
+use Rattle.qc_schema.specs.Grammar.{◌>>=◌, and_on, dim_line, id_line, index_line, is_start, kind_of, limit_in, line_of_words, may_dim, may_end, may_index, may_measure, measure_from, measure_line, named_line, nodes_line, read_lines, rows_line, scale_in, schema_in, start, take_line, values_line, version_line}
 use Rattle.text_lines.specs.Lines.{lines_of, without_cr}
-use Rattle.qc_schema.specs.Schema.{IsLayout, Layout, Measure, all_different, is_name, is_name_byte, same_kind}
+use Rattle.qc_schema.specs.Schema.{IsLayout, Layout, Measure, all_different, is_name, is_name_byte, max_dims, max_measures, same_kind, version_word}
+use Rattle.qc_schema.specs.declared.limits.SchemaVersion.{SchemaVersion}
+use Rattle.qc_schema.specs.declared.limits.SchemaVersion.TheVariants as versions
 use Rattle.qc_schema.specs.Spelling.{dim_words, index_words, layout_text, layout_words, limit_words, line_text, measure_words, name_at}
 use Rattle.qc_schema.specs.Progress.{Progress}
 use Rattle.qc_schema.specs.declared.reader.Stage.{Stage}
@@ -29,8 +31,8 @@ use Rattle.qc_schema.proofs.Reading.{schema-text}
 use Rattle.qc_schema.proofs.Wording.{IsLine, IsWord, digits-bytes, joined, lines-more, not-comment, text-utf8, words-joined}
 
 -- a state in which the limits are those by default
-abbrev at : Stage → Text → List Text → List Measure → List AggKind → Progress
-at stage id dims ms ks = record { stage = stage; layout = record { id = id; dims = dims; measures = ms; indexes = ks; nodes = 1000000; rows = 1000000; values = 4000000 } }
+abbrev at : SchemaVersion → Stage → Text → List Text → List Measure → List AggKind → Progress
+at version stage id dims ms ks = record { stage = stage; layout = record { version = version; id = id; dims = dims; measures = ms; indexes = ks; nodes = 1000000; rows = 1000000; values = 4000000 } }
 
 -- the state behind lines of these words
 abbrev after : List (List Text) → Progress → Result Progress SchemaCause
@@ -127,70 +129,93 @@ behind-index before stage [] a b = a
 behind-index before stage (x ∷ xs) a b = b
 
 -- the lines of dimensions
-dim-step : (stage : Stage) (id : Text) (done : List Text) (name : Text) → is_start stage ≡ false → may_dim stage ≡ true → length done < 12 → is_name name ≡ true
-    → list_any (λ y. bytes_eq y name) (id ∷ done) ≡ false → line_of_words (at stage id done [] []) (dim_words name) ≡ Ok (at stages.Dim id (done ++ name ∷ []) [] [])
+dim-step : (version : SchemaVersion) (stage : Stage) (id : Text) (done : List Text) (name : Text) → is_start stage ≡ false → may_dim stage ≡ true → length done < max_dims version → is_name name ≡ true
+    → list_any (λ y. bytes_eq y name) (id ∷ done) ≡ false → line_of_words (at version stage id done [] []) (dim_words name) ≡ Ok (at version stages.Dim id (done ++ name ∷ []) [] [])
 unfolding named_line dim_line
-dim-step stage id done name begun may few n u =
+dim-step version stage id done name begun may few n u =
     let fresh : list_any (λ y. bytes_eq y name) (id ∷ (done ++ [])) ≡ false = ap (λ (xs : List Text). list_any (λ y. bytes_eq y name) (id ∷ xs)) (append-nil done) ∙ u in
-    rw (begun, may, lt-ltb (length done) 12 few, n, fresh) refl
+    rw (begun, may, lt-ltb (length done) (max_dims version) few, n, fresh) refl
 
-dims-run : (dims : List Text) (stage : Stage) (id : Text) (done : List Text) → is_start stage ≡ false → may_dim stage ≡ true → length done + length dims ≤ 12 → list_all is_name dims ≡ true
-    → all_different bytes_eq (id ∷ (done ++ dims)) ≡ true → after (map dim_words dims) (at stage id done [] []) ≡ Ok (at (stage_behind stage stages.Dim dims) id (done ++ dims) [] [])
-dims-run [] stage id done begun may few n d = ap (λ (xs : List Text). Ok (at stage id xs [] [])) (sym (append-nil done))
-dims-run (x ∷ xs) stage id done begun may few n d =
+dims-run : (dims : List Text) (version : SchemaVersion) (stage : Stage) (id : Text) (done : List Text) → is_start stage ≡ false → may_dim stage ≡ true → length done + length dims ≤ max_dims version → list_all is_name dims ≡ true
+    → all_different bytes_eq (id ∷ (done ++ dims)) ≡ true → after (map dim_words dims) (at version stage id done [] []) ≡ Ok (at version (stage_behind stage stages.Dim dims) id (done ++ dims) [] [])
+dims-run [] version stage id done begun may few n d = ap (λ (xs : List Text). Ok (at version stage id xs [] [])) (sym (append-nil done))
+dims-run (x ∷ xs) version stage id done begun may few n d =
     let p = and_parts (is_name x) (list_all is_name xs) n in
     let joined_up : (done ++ x ∷ []) ++ xs ≡ done ++ x ∷ xs = append_assoc done (x ∷ []) xs in
     let fresh : list_any (λ y. bytes_eq y x) (id ∷ done) ≡ false = different-middle bytes_eq bytes-flip (id ∷ done) x xs d in
     let others : all_different bytes_eq (id ∷ ((done ++ x ∷ []) ++ xs)) ≡ true = ap (λ (ys : List Text). all_different bytes_eq (id ∷ ys)) joined_up ∙ d in
-    ap (λ (r : Result Progress SchemaCause). r >>= λ t. after (map dim_words xs) t) (dim-step stage id done x begun may (omega arith) p.0 fresh)
-    ∙ dims-run xs stages.Dim id (done ++ x ∷ []) refl refl (omega (arith, length_push done x)) p.1 others
-    ∙ ap₂ (λ (s : Stage) (ys : List Text). Ok (at s id ys [] [])) (behind-same stages.Dim xs) joined_up
+    ap (λ (r : Result Progress SchemaCause). r >>= λ t. after (map dim_words xs) t) (dim-step version stage id done x begun may (omega arith) p.0 fresh)
+    ∙ dims-run xs version stages.Dim id (done ++ x ∷ []) refl refl (omega (arith, length_push done x)) p.1 others
+    ∙ ap₂ (λ (s : Stage) (ys : List Text). Ok (at version s id ys [] [])) (behind-same stages.Dim xs) joined_up
 
--- the line of a measure
-measure-step : (id : Text) (dims : List Text) (m : Measure) → m.scale ≤ 6 → is_name m.name ≡ true → list_any (λ y. bytes_eq y m.name) (id ∷ dims) ≡ false
-    → line_of_words (at stages.Dim id dims [] []) (measure_words m) ≡ Ok (at stages.Measure id dims (m ∷ []) [])
+-- the lines of measures
+measure-step : (version : SchemaVersion) (stage : Stage) (id : Text) (dims : List Text) (done : List Measure) (m : Measure) → is_start stage ≡ false → may_measure stage ≡ true → length done < max_measures version → m.scale ≤ 6 → is_name m.name ≡ true
+    → list_any (λ y. bytes_eq y m.name) (id ∷ (dims ++ map (λ m. m.name) done)) ≡ false → line_of_words (at version stage id dims done []) (measure_words m) ≡ Ok (at version stages.Measure id dims (done ++ m ∷ []) [])
 unfolding named_line measure_line
-measure-step id dims m small n u =
-    let fresh : list_any (λ y. bytes_eq y m.name) (id ∷ (dims ++ [])) ≡ false = ap (λ (xs : List Text). list_any (λ y. bytes_eq y m.name) (id ∷ xs)) (append-nil dims) ∙ u in
-    rw (n, fresh, scale-again m.scale small) refl
+measure-step version stage id dims done m begun may few small n u = rw (begun, may, lt-ltb (length done) (max_measures version) few, n, u, scale-again m.scale small) refl
 
-measures-run : (ms : List Measure) (id : Text) (dims : List Text) → length ms ≤ 1 → AllByRecursion (λ m. m.scale ≤ 6) ms → list_all is_name (map (λ m. m.name) ms) ≡ true
-    → all_different bytes_eq (id ∷ (dims ++ map (λ m. m.name) ms)) ≡ true → after (map measure_words ms) (at stages.Dim id dims [] []) ≡ Ok (at (stage_behind stages.Dim stages.Measure ms) id dims ms [])
-measures-run [] id dims few small n d = refl
-measures-run (m ∷ []) id dims few small n d =
-    ap (λ (r : Result Progress SchemaCause). r >>= λ t. Ok t) (measure-step id dims m small.0 (and_parts (is_name m.name) true n).0 (different-middle bytes_eq bytes-flip (id ∷ dims) m.name [] d))
-measures-run (m ∷ n ∷ ms) id dims few small h d = absurd (omega arith)
+names-behind : (dims : List Text) (done : List Measure) (m : Measure) (ms : List Measure)
+    → dims ++ map (λ m. m.name) (done ++ m ∷ ms) ≡ (dims ++ map (λ m. m.name) done) ++ m.name ∷ map (λ m. m.name) ms
+names-behind dims done m ms = ap (λ (xs : List Text). dims ++ xs) (map-append (λ m. m.name) done (m ∷ ms)) ∙ sym (append_assoc dims (map (λ m. m.name) done) (m.name ∷ map (λ m. m.name) ms))
+
+measures-run : (ms : List Measure) (version : SchemaVersion) (stage : Stage) (id : Text) (dims : List Text) (done : List Measure) → is_start stage ≡ false → may_measure stage ≡ true → length done + length ms ≤ max_measures version
+    → AllByRecursion (λ m. m.scale ≤ 6) ms → list_all is_name (map (λ m. m.name) ms) ≡ true → all_different bytes_eq (id ∷ (dims ++ map (λ m. m.name) (done ++ ms))) ≡ true
+    → after (map measure_words ms) (at version stage id dims done []) ≡ Ok (at version (stage_behind stage stages.Measure ms) id dims (done ++ ms) [])
+measures-run [] version stage id dims done begun may few small n d = ap (λ (xs : List Measure). Ok (at version stage id dims xs [])) (sym (append-nil done))
+measures-run (m ∷ ms) version stage id dims done begun may few small n d =
+    let p = and_parts (is_name m.name) (list_all is_name (map (λ m. m.name) ms)) n in
+    let joined_up : (done ++ m ∷ []) ++ ms ≡ done ++ m ∷ ms = append_assoc done (m ∷ []) ms in
+    let apart : all_different bytes_eq ((id ∷ (dims ++ map (λ m. m.name) done)) ++ m.name ∷ map (λ m. m.name) ms) ≡ true = ap (λ (ys : List Text). all_different bytes_eq (id ∷ ys)) (sym (names-behind dims done m ms)) ∙ d in
+    let fresh : list_any (λ y. bytes_eq y m.name) (id ∷ (dims ++ map (λ m. m.name) done)) ≡ false = different-middle bytes_eq bytes-flip (id ∷ (dims ++ map (λ m. m.name) done)) m.name (map (λ m. m.name) ms) apart in
+    let others : all_different bytes_eq (id ∷ (dims ++ map (λ m. m.name) ((done ++ m ∷ []) ++ ms))) ≡ true = ap (λ (xs : List Measure). all_different bytes_eq (id ∷ (dims ++ map (λ m. m.name) xs))) joined_up ∙ d in
+    ap (λ (r : Result Progress SchemaCause). r >>= λ t. after (map measure_words ms) t) (measure-step version stage id dims done m begun may (omega arith) small.0 p.0 fresh)
+    ∙ measures-run ms version stages.Measure id dims (done ++ m ∷ []) refl refl (omega (arith, length_push done m)) small.1 p.1 others
+    ∙ ap₂ (λ (s : Stage) (xs : List Measure). Ok (at version s id dims xs [])) (behind-same stages.Measure ms) joined_up
 
 -- the lines of indexes
-found-again : (ms : List Measure) (m : ℕ) → length ms ≤ 1 → m < length ms → measure_from ms 0 (name_at ms m) ≡ Some m
-found-again [] m few h = absurd (omega arith)
-found-again (x ∷ []) zero few h = rw (bytes-same x.name) refl
-found-again (x ∷ []) (suc m) few h = absurd (omega arith)
-found-again (x ∷ y ∷ ms) m few h = absurd (omega arith)
+different-behind : {X : Type 0} (eq : X → X → Bool) (xs ys : List X) → all_different eq (xs ++ ys) ≡ true → all_different eq ys ≡ true
+different-behind eq [] ys h = h
+different-behind eq (x ∷ xs) ys h = different-behind eq xs ys (and_parts (not (list_any (λ z. eq z x) (xs ++ ys))) (all_different eq (xs ++ ys)) h).1
 
-index-step : (stage : Stage) (id : Text) (dims : List Text) (ms : List Measure) (done : List AggKind) (kind : AggKind) → MayIndex stage → length ms ≤ 1 → IsThere (length ms) kind
-    → list_any (λ k. same_kind k kind) done ≡ false → line_of_words (at stage id dims ms done) (index_words ms kind) ≡ Ok (at stages.Index id dims ms (done ++ kind ∷ []))
+another-name : (ms : List Measure) (m : ℕ) (name : Text) → m < length ms → list_any (λ y. bytes_eq y name) (map (λ m. m.name) ms) ≡ false → bytes_eq (name_at ms m) name ≡ false
+another-name [] m name lt h = absurd (omega arith)
+another-name (x ∷ xs) zero name lt h = (or_parts (bytes_eq x.name name) (list_any (λ y. bytes_eq y name) (map (λ m. m.name) xs)) h).0
+another-name (x ∷ xs) (suc m) name lt h = another-name xs m name (omega arith) (or_parts (bytes_eq x.name name) (list_any (λ y. bytes_eq y name) (map (λ m. m.name) xs)) h).1
+
+found-from : (ms : List Measure) (k m : ℕ) → all_different bytes_eq (map (λ m. m.name) ms) ≡ true → m < length ms → measure_from ms k (name_at ms m) ≡ Some (k + m)
+found-from [] k m d lt = absurd (omega arith)
+found-from (x ∷ xs) k zero d lt = rw (bytes-same x.name) (ap (λ (n : ℕ). Some n) (omega arith))
+found-from (x ∷ xs) k (suc m) d lt =
+    let p = and_parts (not (list_any (λ y. bytes_eq y x.name) (map (λ m. m.name) xs))) (all_different bytes_eq (map (λ m. m.name) xs)) d in
+    let other : bytes_eq x.name (name_at xs m) ≡ false = bytes-flip (name_at xs m) x.name (another-name xs m x.name (omega arith) (not-true (list_any (λ y. bytes_eq y x.name) (map (λ m. m.name) xs)) p.0)) in
+    rw other (found-from xs (k + 1) m p.1 (omega arith) ∙ ap (λ (n : ℕ). Some n) (omega arith))
+
+found-again : (ms : List Measure) (m : ℕ) → all_different bytes_eq (map (λ m. m.name) ms) ≡ true → m < length ms → measure_from ms 0 (name_at ms m) ≡ Some m
+found-again ms m d lt = found-from ms 0 m d lt ∙ ap (λ (n : ℕ). Some n) (omega arith)
+
+index-step : (version : SchemaVersion) (stage : Stage) (id : Text) (dims : List Text) (ms : List Measure) (done : List AggKind) (kind : AggKind) → MayIndex stage → all_different bytes_eq (map (λ m. m.name) ms) ≡ true → IsThere (length ms) kind
+    → list_any (λ k. same_kind k kind) done ≡ false → line_of_words (at version stage id dims ms done) (index_words ms kind) ≡ Ok (at version stages.Index id dims ms (done ++ kind ∷ []))
 unfolding named_line index_line kind_of
-index-step stage id dims ms done kinds.Count may few there fresh = rw (may.begun, may.index, fresh) refl
-index-step stage id dims ms done (kinds.Sum m) may few there fresh = rw (may.begun, may.index, found-again ms m few there, fresh) refl
-index-step stage id dims ms done (kinds.Least m) may few there fresh = rw (may.begun, may.index, found-again ms m few there, fresh) refl
-index-step stage id dims ms done (kinds.Greatest m) may few there fresh = rw (may.begun, may.index, found-again ms m few there, fresh) refl
-index-step stage id dims ms done (kinds.Mean m) may few there fresh = rw (may.begun, may.index, found-again ms m few there, fresh) refl
+index-step version stage id dims ms done kinds.Count may apart there fresh = rw (may.begun, may.index, fresh) refl
+index-step version stage id dims ms done (kinds.Sum m) may apart there fresh = rw (may.begun, may.index, found-again ms m apart there, fresh) refl
+index-step version stage id dims ms done (kinds.Least m) may apart there fresh = rw (may.begun, may.index, found-again ms m apart there, fresh) refl
+index-step version stage id dims ms done (kinds.Greatest m) may apart there fresh = rw (may.begun, may.index, found-again ms m apart there, fresh) refl
+index-step version stage id dims ms done (kinds.Mean m) may apart there fresh = rw (may.begun, may.index, found-again ms m apart there, fresh) refl
 
 at-index : MayIndex stages.Index
 at-index = record { begun = refl; index = refl }
 
-indexes-run : (ks : List AggKind) (stage : Stage) (id : Text) (dims : List Text) (ms : List Measure) (done : List AggKind) → MayIndex stage → length ms ≤ 1 → AllByRecursion (IsThere (length ms)) ks
-    → all_different same_kind (done ++ ks) ≡ true → after (map (index_words ms) ks) (at stage id dims ms done) ≡ Ok (at (stage_behind stage stages.Index ks) id dims ms (done ++ ks))
-indexes-run [] stage id dims ms done may few there d = ap (λ (xs : List AggKind). Ok (at stage id dims ms xs)) (sym (append-nil done))
-indexes-run (k ∷ ks) stage id dims ms done may few there d =
+indexes-run : (ks : List AggKind) (version : SchemaVersion) (stage : Stage) (id : Text) (dims : List Text) (ms : List Measure) (done : List AggKind) → MayIndex stage → all_different bytes_eq (map (λ m. m.name) ms) ≡ true → AllByRecursion (IsThere (length ms)) ks
+    → all_different same_kind (done ++ ks) ≡ true → after (map (index_words ms) ks) (at version stage id dims ms done) ≡ Ok (at version (stage_behind stage stages.Index ks) id dims ms (done ++ ks))
+indexes-run [] version stage id dims ms done may apart there d = ap (λ (xs : List AggKind). Ok (at version stage id dims ms xs)) (sym (append-nil done))
+indexes-run (k ∷ ks) version stage id dims ms done may apart there d =
     let joined_up : (done ++ k ∷ []) ++ ks ≡ done ++ k ∷ ks = append_assoc done (k ∷ []) ks in
-    ap (λ (r : Result Progress SchemaCause). r >>= λ t. after (map (index_words ms) ks) t) (index-step stage id dims ms done k may few there.0 (different-middle same_kind kind-flip done k ks d))
-    ∙ indexes-run ks stages.Index id dims ms (done ++ k ∷ []) at-index few there.1 (ap (all_different same_kind) joined_up ∙ d)
-    ∙ ap₂ (λ (s : Stage) (xs : List AggKind). Ok (at s id dims ms xs)) (behind-same stages.Index ks) joined_up
+    ap (λ (r : Result Progress SchemaCause). r >>= λ t. after (map (index_words ms) ks) t) (index-step version stage id dims ms done k may apart there.0 (different-middle same_kind kind-flip done k ks d))
+    ∙ indexes-run ks version stages.Index id dims ms (done ++ k ∷ []) at-index apart there.1 (ap (all_different same_kind) joined_up ∙ d)
+    ∙ ap₂ (λ (s : Stage) (xs : List AggKind). Ok (at version s id dims ms xs)) (behind-same stages.Index ks) joined_up
 
 -- the lines of the limits
-limits-run : (stage : Stage) (l : Layout) → MayIndex stage → IsLayout l → after (limit_words l) (at stage l.id l.dims l.measures l.indexes) ≡ Ok (record { stage = stages.Values; layout = l })
+limits-run : (stage : Stage) (l : Layout) → MayIndex stage → IsLayout l → after (limit_words l) (at l.version stage l.id l.dims l.measures l.indexes) ≡ Ok (record { stage = stages.Values; layout = l })
 unfolding named_line nodes_line rows_line values_line
 limits-run stage l may h = rw (may.begun, may.index, limit-again MAX_NODES l.nodes h.some_nodes h.few_nodes (omega arith), limit-again MAX_ROWS l.rows h.some_rows h.few_rows (omega arith), limit-again MAX_CODES l.values h.some_values h.few_values (omega arith)) refl
 
@@ -199,32 +224,35 @@ id-fresh : (id : Text) → is_name id ≡ true → bytes_eq [] id ≡ false
 id-fresh [] h = absurd (cc h)
 id-fresh (b ∷ bs) h = refl
 
-id-run : (id : Text) (lines : List (List Text)) → is_name id ≡ true → after ((codes "qcube" ∷ codes "1" ∷ []) ∷ (codes "id" ∷ id ∷ []) ∷ lines) start ≡ after lines (at stages.Id id [] [] [])
+id-run : (version : SchemaVersion) (id : Text) (lines : List (List Text)) → is_name id ≡ true
+    → after ((codes "qcube" ∷ version_word version ∷ []) ∷ (codes "id" ∷ id ∷ []) ∷ lines) start ≡ after lines (at version stages.Id id [] [] [])
 unfolding version_line named_line id_line
-id-run id lines h = rw (h, id-fresh id h) refl
+id-run versions.One id lines h = rw (h, id-fresh id h) refl
+id-run versions.Two id lines h = rw (h, id-fresh id h) refl
 
 -- all lines
 pub layout-run : (l : Layout) → IsLayout l → after (layout_words l) start ≡ Ok (record { stage = stages.Values; layout = l })
 layout-run l h =
     let n = and_parts (is_name l.id) (list_all is_name (l.dims ++ map (λ m. m.name) l.measures)) h.names in
     let parts = all-parts is_name l.dims (map (λ m. m.name) l.measures) n.1 in
-    let dims : after (map dim_words l.dims) (at stages.Id l.id [] [] []) ≡ Ok (at stages.Dim l.id l.dims [] []) =
-    dims-run l.dims stages.Id l.id [] refl refl (omega (arith, h.few_dims)) parts.0 (different-front bytes_eq (l.id ∷ l.dims) (map (λ m. m.name) l.measures) h.different_names)
-    ∙ ap (λ (s : Stage). Ok (at s l.id l.dims [] [])) (behind-some stages.Id stages.Dim l.dims h.some_dims) in
-    let measures = measures-run l.measures l.id l.dims h.few_measures h.scales parts.1 h.different_names in
+    let dims : after (map dim_words l.dims) (at l.version stages.Id l.id [] [] []) ≡ Ok (at l.version stages.Dim l.id l.dims [] []) =
+    dims-run l.dims l.version stages.Id l.id [] refl refl (omega (arith, h.few_dims)) parts.0 (different-front bytes_eq (l.id ∷ l.dims) (map (λ m. m.name) l.measures) h.different_names)
+    ∙ ap (λ (s : Stage). Ok (at l.version s l.id l.dims [] [])) (behind-some stages.Id stages.Dim l.dims h.some_dims) in
+    let measures = measures-run l.measures l.version stages.Dim l.id l.dims [] refl refl (omega (arith, h.few_measures)) h.scales parts.1 h.different_names in
+    let apart : all_different bytes_eq (map (λ m. m.name) l.measures) ≡ true = different-behind bytes_eq (l.id ∷ l.dims) (map (λ m. m.name) l.measures) h.different_names in
     let at_dim : MayIndex stages.Dim = record { begun = refl; index = refl } in
     let at_measure : MayIndex stages.Measure = record { begun = refl; index = refl } in
     let behind_measures : MayIndex (stage_behind stages.Dim stages.Measure l.measures) = behind-index stages.Dim stages.Measure l.measures at_dim at_measure in
     let behind_all : MayIndex (stage_behind (stage_behind stages.Dim stages.Measure l.measures) stages.Index l.indexes) = behind-index (stage_behind stages.Dim stages.Measure l.measures) stages.Index l.indexes behind_measures at-index in
-    let indexes = indexes-run l.indexes (stage_behind stages.Dim stages.Measure l.measures) l.id l.dims l.measures [] behind_measures h.few_measures h.indexes h.different_indexes in
+    let indexes = indexes-run l.indexes l.version (stage_behind stages.Dim stages.Measure l.measures) l.id l.dims l.measures [] behind_measures apart h.indexes h.different_indexes in
     let index_text : List (List Text) = map (index_words l.measures) l.indexes ++ limit_words l in
     let measure_text : List (List Text) = map measure_words l.measures ++ index_text in
     let measured : Stage = stage_behind stages.Dim stages.Measure l.measures in
     let indexed : Stage = stage_behind measured stages.Index l.indexes in
-    id-run l.id (map dim_words l.dims ++ measure_text) n.0
-    ∙ after-append (map dim_words l.dims) measure_text (at stages.Id l.id [] [] []) (at stages.Dim l.id l.dims [] []) dims
-    ∙ after-append (map measure_words l.measures) index_text (at stages.Dim l.id l.dims [] []) (at measured l.id l.dims l.measures []) measures
-    ∙ after-append (map (index_words l.measures) l.indexes) (limit_words l) (at measured l.id l.dims l.measures []) (at indexed l.id l.dims l.measures l.indexes) indexes
+    id-run l.version l.id (map dim_words l.dims ++ measure_text) n.0
+    ∙ after-append (map dim_words l.dims) measure_text (at l.version stages.Id l.id [] [] []) (at l.version stages.Dim l.id l.dims [] []) dims
+    ∙ after-append (map measure_words l.measures) index_text (at l.version stages.Dim l.id l.dims [] []) (at l.version measured l.id l.dims l.measures []) measures
+    ∙ after-append (map (index_words l.measures) l.indexes) (limit_words l) (at l.version measured l.id l.dims l.measures []) (at l.version indexed l.id l.dims l.measures l.indexes) indexes
     ∙ limits-run indexed l behind_all h
 
 -- each line is one of words
@@ -282,11 +310,15 @@ limit-lines l h = (
   ),
 )
 
+version-is-word : (version : SchemaVersion) → IsWord (version_word version)
+version-is-word versions.One = keyword (codes "1") (omega arith) refl
+version-is-word versions.Two = keyword (codes "2") (omega arith) refl
+
 layout-lines : (l : Layout) → IsLayout l → AllByRecursion IsLine (layout_words l)
 layout-lines l h =
     let n = and_parts (is_name l.id) (list_all is_name (l.dims ++ map (λ m. m.name) l.measures)) h.names in
     let parts = all-parts is_name l.dims (map (λ m. m.name) l.measures) n.1 in (
-      pair-line (codes "qcube") (codes "1") (keyword (codes "qcube") (omega arith) refl) (keyword (codes "1") (omega arith) refl),
+      pair-line (codes "qcube") (version_word l.version) (keyword (codes "qcube") (omega arith) refl) (version-is-word l.version),
       (
         pair-line (codes "id") l.id (keyword (codes "id") (omega arith) refl) (name-word l.id n.0),
         every-append IsLine (map dim_words l.dims) _ (dim-lines l.dims parts.0)

@@ -9,13 +9,15 @@ use Rattle.aggregates.specs.declared.kind.AggKind.TheVariants as kinds
 use Rattle.qc_schema.specs.Lines.{schema_lines}
 use Rattle.text_lines.specs.Cuts.{words_of}
 use Rattle.text_lines.specs.Lines.{is_comment}
-use Rattle.qc_schema.specs.Schema.{Layout, Measure, is_name, names_of, same_kind}
+use Rattle.qc_schema.specs.Schema.{Layout, Measure, is_name, max_dims, max_measures, names_of, same_kind, version_word}
 use Rattle.qc_schema.specs.Progress.{Progress, Fault, NotUtf8, Line}
 use Rattle.qc_schema.specs.declared.reader.Stage.{Stage}
 use Rattle.qc_schema.specs.declared.reader.Stage.TheVariants as stages
 use Rattle.qc_schema.specs.declared.refusal.SchemaCause.{SchemaCause}
 use Rattle.qc_schema.specs.declared.refusal.SchemaCause.TheVariants.{Version, Order, Words, Name, Number, End}
-use Rattle.qc_schema.specs.declared.limits.TheConstants.{DEFAULT_NODES, VERSION_1_DIMS, VERSION_1_MEASURES}
+use Rattle.qc_schema.specs.declared.limits.SchemaVersion.{SchemaVersion}
+use Rattle.qc_schema.specs.declared.limits.SchemaVersion.TheVariants as versions
+use Rattle.qc_schema.specs.declared.limits.TheConstants.{DEFAULT_NODES}
 use Rattle.cube_defs.specs.declared.limits.TheConstants.{MAX_CODES, MAX_NODES, MAX_ROWS}
 
 infixl 10 ◌>>=◌
@@ -121,14 +123,14 @@ id_line s words = do
 
 unfoldable pub dim_line : Progress → List Text → Result Progress SchemaCause
 dim_line s words = do
-  _ ← in_order (may_dim s.stage && nat_lt (length s.layout.dims) VERSION_1_DIMS)
+  _ ← in_order (may_dim s.stage && nat_lt (length s.layout.dims) (max_dims s.layout.version))
   word ← one_word words
   name ← new_name s.layout word
   Ok (record { stage = stages.Dim; layout = record s.layout { dims = s.layout.dims ++ name ∷ [] } })
 
 unfoldable pub measure_line : Progress → List Text → Result Progress SchemaCause
 measure_line s words = do
-  _ ← in_order (may_measure s.stage && nat_lt (length s.layout.measures) VERSION_1_MEASURES)
+  _ ← in_order (may_measure s.stage && nat_lt (length s.layout.measures) (max_measures s.layout.version))
   pair ← two_words words
   name ← new_name s.layout pair.0
   scale ← scale_in pair.1
@@ -162,13 +164,21 @@ values_line s words = do
   values ← limit_in MAX_CODES word
   Ok (record { stage = stages.Values; layout = record s.layout { values = values } })
 
-abbrev pub is_version : List Text → Bool
-is_version (word ∷ []) = bytes_eq word (codes "1")
-is_version words = false
+-- the version that one word names
+abbrev pub version_in : List Text → Option SchemaVersion
+version_in (word ∷ []) =
+    if bytes_eq word (version_word versions.One) then Some versions.One
+    else if bytes_eq word (version_word versions.Two) then Some versions.Two
+    else None
+version_in words = None
+
+abbrev pub with_version : Progress → Option SchemaVersion → Result Progress SchemaCause
+with_version s None = Err Version
+with_version s (Some version) = Ok (record { stage = stages.Qcube; layout = record s.layout { version = version } })
 
 -- the first line that isn't passed over
 unfoldable pub version_line : Progress → Text → List Text → Result Progress SchemaCause
-version_line s word words = if bytes_eq word (codes "qcube") && is_version words then Ok (record { stage = stages.Qcube; layout = s.layout }) else Err Version
+version_line s word words = if bytes_eq word (codes "qcube") then with_version s (version_in words) else Err Version
 
 unfoldable pub named_line : Progress → Text → List Text → Result Progress SchemaCause
 named_line s word words =
@@ -202,9 +212,9 @@ unfoldable pub read_lines : List (List ℕ) → ℕ → Progress → Result Layo
 read_lines [] n s = if may_end s.stage then Ok s.layout else Err (Line n End)
 read_lines (line ∷ lines) n s = and_on n (take_line s line) (λ t. read_lines lines (n + 1) t)
 
--- nothing read yet, and the limits that hold by default
+-- nothing read yet, and what holds by default
 abbrev pub start : Progress
-start = record { stage = stages.Start; layout = record { id = []; dims = []; measures = []; indexes = []; nodes = DEFAULT_NODES; rows = MAX_ROWS; values = MAX_CODES } }
+start = record { stage = stages.Start; layout = record { version = versions.One; id = []; dims = []; measures = []; indexes = []; nodes = DEFAULT_NODES; rows = MAX_ROWS; values = MAX_CODES } }
 
 -- The schema that a text spells, or its fault.
 abbrev pub schema_in : List ℕ → Result Layout Fault

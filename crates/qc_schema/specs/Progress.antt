@@ -21,6 +21,7 @@ measure_in m = record { name = string_bytes m.name; scale = m.scale }
 
 abbrev pub layout_in : Draft → Layout
 layout_in d = record {
+  version = d.version;
   id = string_bytes d.id;
   dims = map string_bytes d.dims.items;
   measures = map measure_in d.measures.items;

@@ -8,8 +8,27 @@ use Rattle.cube_defs.specs.Text.{Text}
 use Rattle.aggregates.specs.Views.{IsThere}
 use Rattle.aggregates.specs.declared.kind.AggKind.{AggKind}
 use Rattle.aggregates.specs.declared.kind.AggKind.TheVariants as kinds
+use Rattle.qc_schema.specs.declared.limits.SchemaVersion.{SchemaVersion}
+use Rattle.qc_schema.specs.declared.limits.SchemaVersion.TheVariants as versions
 use Rattle.qc_schema.specs.declared.limits.TheConstants.{VERSION_1_DIMS, VERSION_1_MEASURES}
-use Rattle.cube_defs.specs.declared.limits.TheConstants.{MAX_CODES, MAX_NODES, MAX_ROWS}
+use Rattle.cube_defs.specs.declared.limits.TheConstants.{MAX_CODES, MAX_DIMS, MAX_MEASURES, MAX_NODES, MAX_ROWS}
+
+-- what a version is called, and what a schema of it may have
+abbrev pub version_number : SchemaVersion → ℕ
+version_number versions.One = 1
+version_number versions.Two = 2
+
+abbrev pub version_word : SchemaVersion → Text
+version_word versions.One = codes "1"
+version_word versions.Two = codes "2"
+
+abbrev pub max_dims : SchemaVersion → ℕ
+max_dims versions.One = VERSION_1_DIMS
+max_dims versions.Two = MAX_DIMS
+
+abbrev pub max_measures : SchemaVersion → ℕ
+max_measures versions.One = VERSION_1_MEASURES
+max_measures versions.Two = MAX_MEASURES
 
 pub record Measure : Type 0 where
   pub name : Text
@@ -20,6 +39,7 @@ abbrev pub no_measure : Measure
 no_measure = record { name = []; scale = 0 }
 
 pub record Layout : Type 0 where
+  pub version : SchemaVersion
   pub id : Text
   pub dims : List Text
   pub measures : List Measure
@@ -55,8 +75,8 @@ same_kind j k = false
 -- what each schema that the grammar has is known to be
 pub record IsLayout (l : Layout) : Type 0 where
   pub some_dims : 1 ≤ length l.dims
-  pub few_dims : length l.dims ≤ VERSION_1_DIMS
-  pub few_measures : length l.measures ≤ VERSION_1_MEASURES
+  pub few_dims : length l.dims ≤ max_dims l.version
+  pub few_measures : length l.measures ≤ max_measures l.version
   pub scales : AllByRecursion (λ m. m.scale ≤ 6) l.measures
   pub names : list_all is_name (names_of l) ≡ true
   pub different_names : all_different bytes_eq (names_of l) ≡ true

@@ -4,7 +4,7 @@ use Rattle.std.specs.List.{flat_map}
 use Rattle.cube_defs.specs.Text.{Text}
 use Rattle.aggregates.specs.declared.kind.AggKind.{AggKind}
 use Rattle.aggregates.specs.declared.kind.AggKind.TheVariants as kinds
-use Rattle.qc_schema.specs.Schema.{Layout, Measure, no_measure}
+use Rattle.qc_schema.specs.Schema.{Layout, Measure, no_measure, version_word}
 
 -- words with one space between them, and LF
 abbrev pub line_text : List Text → List ℕ
@@ -33,7 +33,7 @@ limit_words l = (codes "nodes" ∷ decimal l.nodes ∷ []) ∷ (codes "rows" ∷
 
 -- the words of each line
 abbrev pub layout_words : Layout → List (List Text)
-layout_words l = (codes "qcube" ∷ codes "1" ∷ []) ∷ (codes "id" ∷ l.id ∷ []) ∷ (map dim_words l.dims ++ (map measure_words l.measures ++ (map (index_words l.measures) l.indexes ++ limit_words l)))
+layout_words l = (codes "qcube" ∷ version_word l.version ∷ []) ∷ (codes "id" ∷ l.id ∷ []) ∷ (map dim_words l.dims ++ (map measure_words l.measures ++ (map (index_words l.measures) l.indexes ++ limit_words l)))
 
 abbrev pub layout_text : Layout → List ℕ
 layout_text l = flat_map line_text (layout_words l)

@@ -8,12 +8,12 @@ ghost use Rattle.qc_schema.specs.Schema.{same_kind};
 ghost use Rattle.cell_core.specs.Gives.{Gives};
 ghost use Rattle.qc_schema.specs.Progress.{cause_in, layout_in, measure_in};
 
-use crate::limits::{DEFAULT_NODES, VERSION_1_MEASURES};
+use crate::limits::{DEFAULT_NODES, SchemaVersion};
 use crate::lines::only_word;
 use crate::refusal::{SchemaCause, SchemaLineRefused};
 use crate::words::name_in;
 use aggregates::AggKind;
-use cube_defs::{MAX_CODES, MAX_ROWS};
+use cube_defs::{MAX_CODES, MAX_MEASURES, MAX_ROWS};
 use std::alloc::Global;
 use text_lines::split_word;
 
@@ -27,6 +27,7 @@ pub struct Measure {
 /// What a schema says, as far as it is read.
 #[derive(Drop)]
 pub struct Draft {
+    pub version: SchemaVersion,
     pub id: String,
     pub dims: Vec<String>,
     pub measures: Vec<Measure>,
@@ -62,7 +63,7 @@ fn has_measure(measures: &Vec<Measure>, name: &[u8]) -> bool
 
 /// The place of the measure with this name.
 pub fn measure_named(measures: &Vec<Measure>, name: &[u8]) -> Option<u8>
-    requires { length measures.now.items ≤ VERSION_1_MEASURES }
+    requires { length measures.now.items ≤ MAX_MEASURES }
     ensures { result ≡ measure_from (map measure_in measures.now.items) 0 name.now }
 {
     for (k, measure) in measures.iter().enumerate() {
@@ -119,11 +120,12 @@ fn has_kind(kinds: &Vec<AggKind>, kind: AggKind) -> bool
 }
 
 impl Draft {
-    /// Nothing read yet, and the limits that hold by default.
+    /// Nothing read yet, and what holds by default.
     pub fn new(alloc: Global) -> Draft
         ensures { layout_in result ≡ start.layout }
     {
         Draft {
+            version: SchemaVersion::One,
             id: String::new(alloc),
             dims: Vec::new(alloc),
             measures: Vec::new(alloc),
@@ -161,7 +163,7 @@ impl Draft {
     /// The aggregate that words name.
     #[tactic(auto, unfolding(crate::specs::Grammar::kind_of))]
     pub fn kind_in(&self, words: &[u8]) -> Result<AggKind, SchemaLineRefused>
-        requires { length self.now.measures.items ≤ VERSION_1_MEASURES }
+        requires { length self.now.measures.items ≤ MAX_MEASURES }
         ensures { Gives cause_in (λ kind. kind) result (kind_of (layout_in self.now).measures (words_of words.now)) }
     {
         let Some((aggregate, rest)) = split_word(words) else {

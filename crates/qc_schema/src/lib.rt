@@ -13,7 +13,7 @@ mod words;
 
 pub use cube_defs::Memory;
 pub use law::a_schema_is_read_from_its_text;
-pub use limits::{DEFAULT_NODES, VERSION_1_DIMS, VERSION_1_MEASURES};
+pub use limits::{DEFAULT_NODES, SchemaVersion, VERSION_1_DIMS, VERSION_1_MEASURES};
 pub use refusal::{SchemaCause, SchemaRefused};
 pub use schema::{Schema, read_schema};
 pub use spelling::schema_text;

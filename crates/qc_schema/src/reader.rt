@@ -1,16 +1,16 @@
 // Reads a schema line by line.
 ghost use Rattle.std.specs.Prelude.{◌≡◌, ◌≤◌, length};
-ghost use Rattle.qc_schema.specs.Grammar.{dim_line, id_line, in_order, index_line, is_start, may_dim, may_end, may_id, may_index, may_measure, may_rows, may_values, measure_line, named_line, nodes_line, rows_line, start, take_line, values_line, version_line};
+ghost use Rattle.qc_schema.specs.Grammar.{dim_line, id_line, in_order, index_line, is_start, may_dim, may_end, may_id, may_index, may_measure, may_rows, may_values, measure_line, named_line, nodes_line, rows_line, start, take_line, values_line, version_in, version_line};
 ghost use Rattle.text_lines.specs.Cuts.{words_of};
 ghost use Rattle.cell_core.specs.Gives.{Gives};
 ghost use Rattle.qc_schema.specs.Progress.{cause_in, progress_in};
 
 use crate::draft::{Draft, Measure};
-use crate::limits::{VERSION_1_DIMS, VERSION_1_MEASURES};
+use crate::limits::SchemaVersion;
 use crate::lines::{only_word, only_words};
 use crate::refusal::{SchemaCause, SchemaLineRefused};
 use crate::words::{read_limit, read_scale};
-use cube_defs::{MAX_CODES, MAX_NODES, MAX_ROWS};
+use cube_defs::{MAX_CODES, MAX_MEASURES, MAX_NODES, MAX_ROWS};
 use std::alloc::Global;
 use text_lines::{is_comment_line, split_word};
 
@@ -96,6 +96,22 @@ fn check_order(may: bool) -> Result<(), SchemaLineRefused>
     }
 }
 
+// The version that one word names.
+fn version_in(words: &[u8]) -> Option<SchemaVersion>
+    ensures { result ≡ version_in (words_of words.now) }
+{
+    let (word, rest) = split_word(words)?;
+    if split_word(rest).is_some() {
+        None
+    } else if word == b"1".as_slice() {
+        Some(SchemaVersion::One)
+    } else if word == b"2".as_slice() {
+        Some(SchemaVersion::Two)
+    } else {
+        None
+    }
+}
+
 impl SchemaReader {
     pub fn new(alloc: Global) -> SchemaReader
         ensures { progress_in result ≡ start }
@@ -113,12 +129,10 @@ impl SchemaReader {
         if word != b"qcube".as_slice() {
             return Err(SchemaLineRefused::Cause(SchemaCause::Version));
         }
-        let Some((version, rest)) = split_word(words) else {
+        let Some(version) = version_in(words) else {
             return Err(SchemaLineRefused::Cause(SchemaCause::Version));
         };
-        if version != b"1".as_slice() || split_word(rest).is_some() {
-            return Err(SchemaLineRefused::Cause(SchemaCause::Version));
-        }
+        self.draft.version = version;
         self.stage = Stage::Qcube;
         Ok(())
     }
@@ -138,7 +152,8 @@ impl SchemaReader {
     fn read_dim(&mut self, alloc: Global, words: &[u8]) -> Result<(), SchemaLineRefused>
         ensures { Gives cause_in (λ _. progress_in self.new) result (dim_line (progress_in self.old) (words_of words.now)) }
     {
-        check_order(self.stage.may_dim() && self.draft.dims.len() < VERSION_1_DIMS)?;
+        let most = self.draft.version.max_dims() as usize;
+        check_order(self.stage.may_dim() && self.draft.dims.len() < most)?;
         let name = self.draft.unused_name(only_word(words)?)?;
         let dim = String::from_str(alloc, name)?;
         self.draft.dims.push(dim)?;
@@ -150,7 +165,8 @@ impl SchemaReader {
     fn read_measure(&mut self, alloc: Global, words: &[u8]) -> Result<(), SchemaLineRefused>
         ensures { Gives cause_in (λ _. progress_in self.new) result (measure_line (progress_in self.old) (words_of words.now)) }
     {
-        check_order(self.stage.may_measure() && self.draft.measures.len() < VERSION_1_MEASURES)?;
+        let most = self.draft.version.max_measures() as usize;
+        check_order(self.stage.may_measure() && self.draft.measures.len() < most)?;
         let (word, digit) = only_words(words)?;
         let name = self.draft.unused_name(word)?;
         let scale = read_scale(digit)?;
@@ -162,7 +178,7 @@ impl SchemaReader {
 
     #[tactic(auto, unfolding(crate::specs::Grammar::index_line))]
     fn read_index(&mut self, words: &[u8]) -> Result<(), SchemaLineRefused>
-        requires { length self.old.draft.measures.items ≤ VERSION_1_MEASURES }
+        requires { length self.old.draft.measures.items ≤ MAX_MEASURES }
         ensures { Gives cause_in (λ _. progress_in self.new) result (index_line (progress_in self.old) (words_of words.now)) }
     {
         check_order(self.stage.may_index())?;
@@ -211,7 +227,7 @@ impl SchemaReader {
         word: &[u8],
         words: &[u8],
     ) -> Result<(), SchemaLineRefused>
-        requires { length self.old.draft.measures.items ≤ VERSION_1_MEASURES }
+        requires { length self.old.draft.measures.items ≤ MAX_MEASURES }
         ensures { Gives cause_in (λ _. progress_in self.new) result (named_line (progress_in self.old) word.now (words_of words.now)) }
     {
         if word == b"id".as_slice() {
@@ -236,7 +252,7 @@ impl SchemaReader {
     /// Takes a line, or names the first cause that holds.
     #[tactic(auto, unfolding(crate::specs::Grammar::take_line))]
     pub fn read_line(&mut self, alloc: Global, line: &[u8]) -> Result<(), SchemaLineRefused>
-        requires { length self.old.draft.measures.items ≤ VERSION_1_MEASURES }
+        requires { length self.old.draft.measures.items ≤ MAX_MEASURES }
         ensures { Gives cause_in (λ _. progress_in self.new) result (take_line (progress_in self.old) line.now) }
     {
         if is_comment_line(line) {

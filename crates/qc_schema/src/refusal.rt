@@ -9,8 +9,8 @@ use thiserror::Error;
 /// What is wrong with a line. Of several causes the first in this order is named.
 #[derive(Clone, Copy, Debug, PartialEq, Eq, Error)]
 pub enum SchemaCause {
-    /// The first line isn't `qcube 1`.
-    #[error("the first line is not `qcube 1`")]
+    /// The first line is neither `qcube 1` nor `qcube 2`.
+    #[error("the first line is neither `qcube 1` nor `qcube 2`")]
     Version,
     /// The line's first word isn't known, or the line may not stand here.
     #[error("the line is unknown or may not stand here")]

@@ -2,7 +2,7 @@
 ghost use Rattle.std.specs.Prelude.{◌≡◌, ◌≤◌, ◌<◌, ◌+◌, [], length, map, slice_index_or};
 ghost use Rattle.qc_schema.specs.Grammar.{measure_from, read_lines, schema_in, start};
 ghost use Rattle.text_lines.specs.Lines.{lines_of, without_cr};
-ghost use Rattle.qc_schema.specs.Schema.{IsLayout, no_measure};
+ghost use Rattle.qc_schema.specs.Schema.{IsLayout, no_measure, version_number, version_word};
 ghost use Rattle.cell_core.specs.Gives.{Gives};
 ghost use Rattle.qc_schema.specs.Progress.{layout_in, schema_fault_in};
 
@@ -33,6 +33,20 @@ impl Model for Schema {
 }
 
 impl Schema {
+    /// The number of the version that the first line names: 1 or 2. In version 1 there are at most 12
+    /// dimensions and one measure, in version 2 at most 16 and four.
+    pub fn version(&self) -> u8
+        ensures { result ≡ version_number self.now.version }
+    {
+        self.draft.version.number()
+    }
+
+    pub(crate) fn version_word(&self) -> &'static str
+        ensures { result.now ≡ version_word self.now.version }
+    {
+        self.draft.version.word()
+    }
+
     /// The name of the column of ids.
     pub fn id_name(&self) -> &str
         ensures { result.now ≡ self.now.id }
@@ -140,10 +154,11 @@ fn read_draft(alloc: Global, text: &[u8]) -> Result<Draft, SchemaRefused>
     Ok(reader.draft)
 }
 
-/// Reads the text of a schema: lines of words with spaces between them. They are `qcube 1`,
-/// `id NAME`, 1 to 12 times `dim NAME`, at most one `measure NAME SCALE`, lines `index count` or
-/// `index AGG NAME`, and at most one each of `nodes N`, `rows N` and `values N`. Lines without words
-/// and those that begin with `#` are passed over.
+/// Reads the text of a schema: lines of words with spaces between them. They are `qcube 1` or
+/// `qcube 2`, which is the version, `id NAME`, 1 to 12 times `dim NAME` in version 1 and 1 to 16 times
+/// in version 2, `measure NAME SCALE` at most once in version 1 and at most four times in version 2,
+/// lines `index count` or `index AGG NAME`, and at most one each of `nodes N`, `rows N` and `values N`.
+/// Lines without words and those that begin with `#` are passed over.
 pub fn read_schema(alloc: Global, bytes: &[u8]) -> Result<Schema, SchemaRefused>
     requires { length bytes.now ≤ MAX_FILE }
     ensures { Gives schema_fault_in (λ schema. schema) result (schema_in bytes.now) }

@@ -1,9 +1,9 @@
 // The canonical text of a schema.
-ghost use Rattle.std.specs.Prelude.{◌≡◌, ◌<◌, [], ◌∷◌, ◌++◌, OnOk, IfOk, Ok, length, map, decimal};
+ghost use Rattle.std.specs.Prelude.{◌≡◌, ◌<◌, [], ◌∷◌, ◌++◌, OnOk, IfOk, Ok, codes, length, map, decimal};
 ghost use Rattle.std.specs.List.{flat_map};
 ghost use Rattle.aggregates.specs.Views.{IsThere};
 ghost use Rattle.qc_schema.specs.Grammar.{schema_in};
-ghost use Rattle.qc_schema.specs.Schema.{IsLayout};
+ghost use Rattle.qc_schema.specs.Schema.{IsLayout, version_word};
 ghost use Rattle.qc_schema.specs.Spelling.{dim_words, index_words, layout_text, limit_words, line_text, measure_words};
 
 use crate::Memory;
@@ -36,6 +36,12 @@ fn push_number(text: &mut Vec<u8>, word: &[u8], number: u32) -> Result<(), Memor
     ensures { OnOk result (text.new.items ≡ text.old.items ++ line_text (word.now ∷ decimal number ∷ [])) }
 {
     push_pair(text, word, Buffer::new().format(number).as_bytes())
+}
+
+fn push_version(text: &mut Vec<u8>, schema: &Schema) -> Result<(), Memory>
+    ensures { OnOk result (text.new.items ≡ text.old.items ++ line_text (codes "qcube" ∷ version_word schema.now.version ∷ [])) }
+{
+    push_pair(text, b"qcube", schema.version_word().as_bytes())
 }
 
 fn push_dims(text: &mut Vec<u8>, schema: &Schema) -> Result<(), Memory>
@@ -104,7 +110,7 @@ pub fn schema_text(alloc: Global, schema: &Schema) -> Result<Vec<u8>, Memory>
 {
     let dims = schema.dims();
     let mut text = Vec::with_capacity(alloc, 64 + 16 * dims as usize)?;
-    push_pair(&mut text, b"qcube", b"1")?;
+    push_version(&mut text, schema)?;
     push_pair(&mut text, b"id", schema.id_name().as_bytes())?;
     push_dims(&mut text, schema)?;
     push_measures(&mut text, schema)?;

@@ -11,6 +11,10 @@ const SCHEMA: &str = "qcube 1\nid id\ndim store\ndim product\ndim season\nmeasur
 
 const BASE: &[u8] = b"id,store,product,season,sale\n1,S1,P1,s,6\n2,S1,P2,s,12\n3,S2,P1,f,9\n";
 
+// The worked table with a second measure.
+const TAXED: &[u8] =
+    b"id,store,product,season,sale,tax\n1,S1,P1,s,6,0.5\n2,S1,P2,s,12,1\n3,S2,P1,f,9,-0.3\n";
+
 // The fourth row of the worked table comes, and goes.
 const PLUS: &[u8] = b"op,id,store,product,season,sale\n+,4,S2,P2,f,3\n";
 
@@ -32,7 +36,7 @@ type Case = (
 
 const LOAD: &[u8] = b"load base.csv\npoint *,*,*";
 
-static CASES: [Case; 30] = [
+static CASES: [Case; 33] = [
     // Bounds.
     (
         SCHEMA,
@@ -84,6 +88,38 @@ static CASES: [Case; 30] = [
         NONE,
         b"load base.csv\nbounds S1,P1\nbounds ?,*,*\nbounds *,*,*,*\nbounds\nbounds \xEF\xBB\xBF*,*,*\nbounds *,~a~b,*",
         "applied,1,3,6\nrefused,2,field,3\nrefused,3,field,1\nrefused,4,field,4\nrefused,5,field,1\nrefused,6,field,1\nrefused,7,field,2\n",
+    ),
+    // Two measures and none, in version 2.
+    (
+        "qcube 2\nid id\ndim store\ndim product\ndim season\nmeasure sale 0\nmeasure tax 1\n",
+        TAXED,
+        NONE,
+        b"load base.csv\npoint *,*,*\niceberg mean tax >= 3/4\nrange S1,?,*",
+        "applied,1,3,6\npoint,2,*,*,*,3,27,6,12,9/1,1.2,-0.3,1.0,2/5\n\
+            class,3,S1,P2,s,1,12,12,12,12/1,1.0,1.0,1.0,1/1\nlower,3,*,P2,*\n\
+            class,3,S1,*,s,2,18,6,12,9/1,1.5,0.5,1.0,3/4\nlower,3,*,*,s\nlower,3,S1,*,*\nend,3,2\n\
+            cell,4,S1,P1,*,1,6,6,6,6/1,0.5,0.5,0.5,1/2\ncell,4,S1,P2,*,1,12,12,12,12/1,1.0,1.0,1.0,1/1\nend,4,2\n",
+    ),
+    (
+        "qcube 2\nid id\ndim store\ndim product\ndim season\nmeasure sale 0\nmeasure tax 1\nindex mean tax\nindex least sale\n",
+        TAXED,
+        [
+            b"op,id,store,product,season,sale,tax\n-,2,,,,,\n+,4,S2,P2,f,3,0.8\n",
+            b"",
+            b"",
+        ],
+        b"load base.csv\niceberg mean tax >= 3/4\napply b.csv\niceberg mean tax >= 3/4\niceberg least sale >= 9",
+        "applied,1,3,6\nclass,2,S1,P2,s,1,12,12,12,12/1,1.0,1.0,1.0,1/1\nlower,2,*,P2,*\n\
+            class,2,S1,*,s,2,18,6,12,9/1,1.5,0.5,1.0,3/4\nlower,2,*,*,s\nlower,2,S1,*,*\nend,2,2\n\
+            applied,3,2,6\nclass,4,S2,P2,f,1,3,3,3,3/1,0.8,0.8,0.8,4/5\nlower,4,*,P2,*\nend,4,1\n\
+            class,5,S2,P1,f,1,9,9,9,9/1,-0.3,-0.3,-0.3,-3/10\nlower,5,*,P1,f\nlower,5,S2,P1,*\nend,5,1\n",
+    ),
+    (
+        "qcube 2\nid id\ndim store\ndim product\ndim season\n",
+        TAXED,
+        NONE,
+        b"load base.csv\npoint S1,*,*\niceberg count >= 3",
+        "applied,1,3,6\npoint,2,S1,*,*,2\nclass,3,*,*,*,3\nlower,3,*,*,*\nend,3,1\n",
     ),
     // Bounds in other cubes.
     (
@@ -439,11 +475,11 @@ const RUN: &[&str] = &["run", "s.schema", "script"];
 
 const USAGE: &str = "usage: qcube run SCHEMA SCRIPT | qcube gen ROWS SEED\n";
 
-static STOPS: [Stop; 15] = [
+static STOPS: [Stop; 16] = [
     (RUN, b"", &[], 6, "qcube: schema line 1: end\n"),
     (
         RUN,
-        b"# none\n\nqcube 2\nid id\ndim v\n",
+        b"# none\n\nqcube 3\nid id\ndim v\n",
         &[],
         6,
         "qcube: schema line 3: version\n",
@@ -482,6 +518,13 @@ static STOPS: [Stop; 15] = [
         &[],
         6,
         "qcube: schema line 15: order\n",
+    ),
+    (
+        RUN,
+        b"qcube 1\nid id\ndim store\ndim product\ndim season\nmeasure sale 0\nmeasure tax 1\n",
+        &[],
+        6,
+        "qcube: schema line 7: order\n",
     ),
     (
         RUN,

@@ -15,12 +15,14 @@ fn refusal(alloc: Global, text: &[u8]) -> Option<SchemaRefused> {
     read_schema(alloc, text).err()
 }
 
-static REFUSED: [(&[u8], u32, SchemaCause); 50] = [
+static REFUSED: [(&[u8], u32, SchemaCause); 54] = [
     (b"", 1, End),
     (b"\n\n# x\n", 4, End),
     (b"qcube 1", 2, End),
     (b"qcube 1\nid i\n", 3, End),
-    (b"qcube 2\n", 1, Version),
+    (b"qcube 3\n", 1, Version),
+    (b"qcube 2 2\n", 1, Version),
+    (b"qcube 2", 2, End),
     (b"qcube\n", 1, Version),
     (b"qcube 1 1\n", 1, Version),
     (b"qcube 01\n", 1, Version),
@@ -42,6 +44,16 @@ static REFUSED: [(&[u8], u32, SchemaCause); 50] = [
     (
         b"qcube 1\nid i\ndim a\nmeasure m 0\nmeasure n 0\n",
         5,
+        Order,
+    ),
+    (
+        b"qcube 2\nid i\ndim a\ndim b\ndim c\ndim d\ndim e\ndim f\ndim g\ndim h\ndim k\ndim l\ndim m\ndim n\ndim o\ndim p\ndim q\ndim r\ndim s\n",
+        19,
+        Order,
+    ),
+    (
+        b"qcube 2\nid i\ndim a\nmeasure m 0\nmeasure n 0\nmeasure o 0\nmeasure p 0\nmeasure q 0\n",
+        8,
         Order,
     ),
     (b"qcube 1\nid i\ndim a\nindex count\ndim b\n", 5, Order),
@@ -107,7 +119,7 @@ fn is_canonical(alloc: Global, text: &[u8], want: &[u8]) -> Result<bool, AllocEr
     Ok(schema_text(alloc, &schema)?.as_slice() == want)
 }
 
-static CANONICAL: [(&[u8], &[u8]); 5] = [
+static CANONICAL: [(&[u8], &[u8]); 8] = [
     (
         b"qcube 1\nid id\ndim store\ndim product\ndim season\nmeasure sale 0\n",
         b"qcube 1\nid id\ndim store\ndim product\ndim season\nmeasure sale 0\nnodes 1000000\nrows 1000000\nvalues 4000000\n",
@@ -127,6 +139,18 @@ static CANONICAL: [(&[u8], &[u8]); 5] = [
     (
         b"qcube 1\nid i\ndim a\ndim b\ndim c\ndim d\ndim e\ndim f\ndim g\ndim h\ndim k\ndim l\ndim m\ndim n\n",
         b"qcube 1\nid i\ndim a\ndim b\ndim c\ndim d\ndim e\ndim f\ndim g\ndim h\ndim k\ndim l\ndim m\ndim n\nnodes 1000000\nrows 1000000\nvalues 4000000\n",
+    ),
+    (
+        b"qcube 2\nid i\ndim a\ndim b\ndim c\ndim d\ndim e\ndim f\ndim g\ndim h\ndim k\ndim l\ndim m\ndim n\ndim o\ndim p\ndim q\ndim r\n",
+        b"qcube 2\nid i\ndim a\ndim b\ndim c\ndim d\ndim e\ndim f\ndim g\ndim h\ndim k\ndim l\ndim m\ndim n\ndim o\ndim p\ndim q\ndim r\nnodes 1000000\nrows 1000000\nvalues 4000000\n",
+    ),
+    (
+        b"qcube 2\nid i\ndim a\nmeasure m 6\nmeasure n 0\nmeasure o 1\nmeasure p 2\nindex sum n\nindex sum m\nindex mean p\nrows 7\n",
+        b"qcube 2\nid i\ndim a\nmeasure m 6\nmeasure n 0\nmeasure o 1\nmeasure p 2\nindex sum n\nindex sum m\nindex mean p\nnodes 1000000\nrows 7\nvalues 4000000\n",
+    ),
+    (
+        b"qcube 2\nid i\ndim a\n",
+        b"qcube 2\nid i\ndim a\nnodes 1000000\nrows 1000000\nvalues 4000000\n",
     ),
 ];
 
@@ -159,5 +183,28 @@ fn readers(rt: HostRuntime) -> Result<(), Fail> {
     assert_eq!(rt; schema.nodes(), 11);
     assert_eq!(rt; schema.rows(), 12);
     assert_eq!(rt; schema.values(), 13);
+    assert_eq!(rt; schema.version(), 1);
+    Ok(())
+}
+
+// The scale of a measure that is named, and 99 where none is.
+fn scale_named(schema: &Schema, name: &[u8]) -> u8 {
+    match schema.measure_named(name) {
+        Some(measure) if measure < schema.measures() => schema.scale(measure),
+        _ => 99,
+    }
+}
+
+#[test]
+fn each_measure_has_its_scale(rt: HostRuntime) -> Result<(), Fail> {
+    let text = b"qcube 2\nid order\ndim store\nmeasure sale 2\nmeasure tax 1\nmeasure count 0\nmeasure share 6\nindex mean share\n";
+    let schema = read_schema(rt.alloc(), text).map_err(|_| "a schema")?;
+    assert_eq!(rt; schema.version(), 2);
+    assert_eq!(rt; schema.measures(), 4);
+    assert!(rt; schema.indexes() == [AggKind::Mean(3)].as_slice());
+    static SCALES: [(&[u8], u8); 5] = [(b"sale", 2), (b"tax", 1), (b"count", 0), (b"share", 6), (b"store", 99)];
+    for (name, scale) in &SCALES {
+        assert_eq!(rt; scale_named(&schema, *name), *scale);
+    }
     Ok(())
 }

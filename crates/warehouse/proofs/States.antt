@@ -10,6 +10,7 @@ use Rattle.cube_defs.specs.Tree.{nodes}
 use Rattle.base_table.specs.Places.{IsRow, IsTable, Places, rows_of}
 use Rattle.csv_load.specs.Batch.{IsLoaded, IsValue}
 use Rattle.qc_schema.specs.Schema.{IsLayout, Layout}
+use Rattle.qc_schema.proofs.Keeping.{dims-few, measures-few}
 use Rattle.value_dict.specs.TextLists.{IsDictionary, TextLists, no_texts}
 use Rattle.warehouse.specs.State.{IsState}
 use Rattle.warehouse.specs.Steps.{closed, frame}
@@ -79,7 +80,7 @@ stored-empty schema layout dictionary = record {
   values = All-replicate (All IsValue) (length schema.dims) [] (All-nil IsValue);
   known = All-nil (λ (row : Row ℕ). AreCodes (replicate (length schema.dims) []) row.tuple);
   dictionary = dictionary;
-  are_rows = table-empty (length schema.dims) (length schema.measures) schema.rows (omega (arith, layout.some_dims)) (omega (arith, layout.few_dims)) (omega (arith, layout.few_measures)) (omega (arith, layout.some_rows)) layout.few_rows;
+  are_rows = table-empty (length schema.dims) (length schema.measures) schema.rows (omega (arith, layout.some_dims)) (omega (arith, dims-few schema layout)) (omega (arith, measures-few schema layout)) (omega (arith, layout.some_rows)) layout.few_rows;
 }
 
 -- a dictionary and a table in the place of those before
