@@ -197,12 +197,19 @@ fn scale_named(schema: &Schema, name: &[u8]) -> u8 {
 
 #[test]
 fn each_measure_has_its_scale(rt: HostRuntime) -> Result<(), Fail> {
-    let text = b"qcube 2\nid order\ndim store\nmeasure sale 2\nmeasure tax 1\nmeasure count 0\nmeasure share 6\nindex mean share\n";
+    let text =
+        b"qcube 2\nid order\ndim store\nmeasure sale 2\nmeasure tax 1\nmeasure count 0\nmeasure share 6\nindex mean share\n";
     let schema = read_schema(rt.alloc(), text).map_err(|_| "a schema")?;
     assert_eq!(rt; schema.version(), 2);
     assert_eq!(rt; schema.measures(), 4);
     assert!(rt; schema.indexes() == [AggKind::Mean(3)].as_slice());
-    static SCALES: [(&[u8], u8); 5] = [(b"sale", 2), (b"tax", 1), (b"count", 0), (b"share", 6), (b"store", 99)];
+    static SCALES: [(&[u8], u8); 5] = [
+        (b"sale", 2),
+        (b"tax", 1),
+        (b"count", 0),
+        (b"share", 6),
+        (b"store", 99),
+    ];
     for (name, scale) in &SCALES {
         assert_eq!(rt; scale_named(&schema, *name), *scale);
     }
