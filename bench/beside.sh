@@ -1,0 +1,126 @@
+#!/usr/bin/env bash
+# Measures PROGRAM beside another program of the same words and replies, on the same inputs, in turn: ratios of the median
+# processor times of five runs, and of the median peak memory. Loads of 300,000, 50,000 and 400,000 rows of 6 skewed dimensions,
+# points behind a load, ranges, bounds, icebergs by a walk and by indexes, what three index lines add to a load, batches with and
+# without them, 500,000 rows and points of one dimension, and generated runs.
+#
+#     bench/beside.sh OTHER [PROGRAM]
+#
+# OTHER is the other program, or a folder whose `build.sh` builds it and prints its path. PROGRAM is the built program, by default
+# crates/qcube/out/qcube. The inputs are generated anew from fixed seeds. Both are to write the same replies. A time "behind its
+# load" is the median of the whole script less that of its load.
+other=$(realpath "${1:?OTHER is missing}")
+[ -d "$other" ] && other=$("$other/build.sh")
+shift
+source "$(dirname "${BASH_SOURCE[0]}")/common.sh"
+
+python3 - <<'PY'
+import random
+from common import zipf_rows
+
+counts = (500, 200, 80, 30, 12, 5)
+draw = random.Random(17)
+everything = zipf_rows(draw, counts, 440_000)
+records = [f"{row},{','.join(texts)},{draw.randrange(-1_500_000, 1_500_001) / 100:.2f}\n" for row, texts in enumerate(everything, 1)]
+for rows in (50_000, 300_000, 400_000):
+    with open(f"{rows}.csv", "w") as file:
+        file.write("id,a,b,c,d,e,f,sale\n")
+        file.writelines(records[:rows])
+    with open(f"load{rows}", "w") as file:
+        file.write(f"load {rows}.csv\n")
+dims = "".join(f"dim {dim}\n" for dim in "abcdef")
+for name, indexes in (("rows", ""), ("indexed", "index count\nindex sum sale\nindex mean sale\n")):
+    with open(f"{name}.schema", "w") as file:
+        file.write(f"qcube 1\nid id\n{dims}measure sale 2\n{indexes}nodes 4000000\n")
+
+def script(name, lines):
+    with open(name, "w") as file:
+        file.write("load 300000.csv\n")
+        file.writelines(line + "\n" for line in lines)
+
+def box_field(name, values):
+    kind = draw.random()
+    some = [f"{name}{draw.randrange(values)}" for _ in range(3)]
+    return "*" if kind < 0.5 else "?" if kind < 0.6 else "|" + "|".join(some) if kind < 0.8 else f"~{min(some)}~{max(some)}"
+
+def cells(word, many):
+    for _ in range(many):
+        texts = draw.choice(everything)
+        yield word + " " + ",".join("*" if draw.random() < 0.5 else text for text in texts)
+
+script("points", cells("point", 200_000))
+script("bounds", cells("bounds", 20_000))
+script("ranges", ("range " + ",".join(box_field(name, n) for name, n in zip("abcdef", counts)) for _ in range(1_000)))
+script("icebergs", (line for k in range(17) for line in (
+    f"iceberg count >= {1_000 + 600 * k}", f"iceberg sum sale >= {2_000_000 + 200_000 * k}", f"iceberg mean sale >= {14_980 + k}.5")))
+present = list(range(1, 300_001))
+for batch in range(100):
+    with open(f"batch{batch}.csv", "w") as file:
+        file.write("op,id,a,b,c,d,e,f,sale\n")
+        for _ in range(200):
+            place = draw.randrange(len(present))
+            present[place], present[-1] = present[-1], present[place]
+            file.write(f"-,{present.pop()},,,,,,,\n")
+        file.writelines("+," + record for record in records[300_000 + 200 * batch : 300_200 + 200 * batch])
+script("batches", (f"apply batch{batch}.csv" for batch in range(100)))
+with open("one.schema", "w") as file:
+    file.write("qcube 1\nid id\ndim v\n")
+with open("one.csv", "w") as file:
+    file.write("id,v\n" + "".join(f"{row},v{row * 7919 % 1_000}\n" for row in range(1, 500_001)))
+with open("one", "w") as file:
+    file.write("load one.csv\n" + "".join(f"point v{row * 104_729 % 1_100}\n" for row in range(500_000)))
+PY
+
+python3 - "$program" "$other" <<'PY'
+import hashlib
+import os
+import statistics
+import subprocess
+import sys
+
+programs = sys.argv[1:]
+
+def run(program, words):
+    process = subprocess.Popen([program, *words], stdout=subprocess.PIPE, stderr=subprocess.DEVNULL)
+    told = hashlib.sha256()
+    while piece := process.stdout.read(1 << 20):
+        told.update(piece)
+    _, status, usage = os.wait4(process.pid, 0)
+    process.returncode = status
+    assert status == 0, (program, words)
+    return usage.ru_utime + usage.ru_stime, usage.ru_maxrss / 1024, told.digest()
+
+def medians(*words):
+    """The median processor time and peak memory in MiB of each program."""
+    runs = [[], []]
+    for turn in range(5):
+        for which in (0, 1) if turn % 2 == 0 else (1, 0):
+            runs[which].append(run(programs[which], words))
+    assert len({told for one in runs for _, _, told in one}) == 1, words
+    return [tuple(statistics.median(values[k] for values in one) for k in (0, 1)) for one in runs]
+
+def say(name, ours, theirs, unit, most):
+    print(f"{name}: {ours:.3f} and {theirs:.3f} {unit}, {ours / theirs:.2f} times (at most {most})", flush=True)
+
+def behind(name, script, schema, load, most):
+    both = medians("run", schema, script)
+    say(f"{name}, behind its load", both[0][0] - load[0][0], both[1][0] - load[1][0], "s", most)
+
+load = medians("run", "rows.schema", "load300000")
+say("load of 300,000 rows", load[0][0], load[1][0], "s", 1.25)
+say("    its peak", load[0][1], load[1][1], "MiB", 1.2)
+for name in ("points", "bounds", "ranges", "icebergs", "batches"):
+    behind(name, name, "rows.schema", load, 1.1 if name == "points" else 1.25)
+indexed = medians("run", "indexed.schema", "load300000")
+say("what three index lines add", indexed[0][0] - load[0][0], indexed[1][0] - load[1][0], "s", 1.25)
+for name in ("icebergs", "batches"):
+    behind(f"{name} with three indexes", name, "indexed.schema", indexed, 1.25)
+one = medians("run", "one.schema", "one")
+say("500,000 rows and points of one dimension", one[0][0], one[1][0], "s", 1.25)
+small, large = medians("run", "rows.schema", "load50000"), medians("run", "rows.schema", "load400000")
+growth = [large[k][0] / small[k][0] for k in (0, 1)]
+print(f"400,000 rows take {growth[0]:.1f} times as long as 50,000 (at most 8.5), the other program {growth[1]:.1f} times")
+for rows in ("20000", "200000"):
+    both = medians("gen", rows, "7")
+    say(f"gen {rows} 7", both[0][0], both[1][0], "s", 1.5)
+PY
