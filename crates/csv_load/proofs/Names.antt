@@ -1,12 +1,17 @@
 -- The places of names in a header.
-use Rattle.std.proofs.Common.{◌≡◌, ◌<◌, ◌≤◌, ◌+◌, ◌∙◌, ℕ, suc, List, [], ◌∷◌, ◌++◌, length, get_or, drop, map, refl, sym, ap, arith, Some, None, true, false, Bool, cond, append_assoc}
-use Rattle.std.specs.Prelude.{Option, option_map, unwrap_or, codes}
-use Rattle.std.specs.List.{All, list_any}
+use Rattle.std.proofs.Common.{◌≡◌, ◌<◌, ◌≤◌, ◌+◌, ◌∙◌, ℕ, suc, List, [], ◌∷◌, ◌++◌, length, get_or, drop, map, refl, sym, ap, arith, Some, None, true, false, Bool, cond, append_assoc, subst, ◌≢◌, true≢false, ◌&&◌}
+use Rattle.std.specs.Prelude.{Option, option_map, unwrap_or, codes, nat_le, not, slice_index}
+use Rattle.std.specs.Char.{is_ascii_alphabetic}
+use Rattle.std.specs.List.{All, AllByRecursion, list_all, list_any}
 use Rattle.std.specs.Str.{bytes_eq}
+use Rattle.std.proofs.lemmas.Bool.{and_parts, not-true, or_parts}
+use Rattle.std.proofs.lemmas.Slice.Eq.{bytes_eq-Decides}
 use Rattle.std.proofs.lemmas.List.{drop_more, length-map, get_or_append_left, length-append, append-nil}
 use Rattle.std.proofs.lemmas.List.Elements.{All-cons}
 use Rattle.cube_defs.specs.Text.{Text}
-use Rattle.qc_schema.specs.Schema.{Layout, Measure, names_of}
+use Rattle.qc_schema.specs.Schema.{IsLayout, Layout, Measure, all_different, is_name, is_name_byte, names_of}
+use Rattle.qc_schema.proofs.Keeping.{bytes-flip, push-different}
+use Rattle.csv_load.proofs.Sizes.{Apart}
 use Rattle.csv_load.specs.Columns.{cons_some, fields_at, needed_names, place_from, places_in}
 
 -- ---- one name
@@ -48,6 +53,42 @@ places-within header (n ∷ ns) places e =
     let s = places-split (place_from 0 n header) (places_in header ns) places e in
     rw (← s.4) (All-cons (λ place. place < length header) s.0 s.1 (omega (arith, place-within header 0 n s.0 s.2)) (places-within header ns s.1 s.3))
 
+-- a place that is found has the name
+place-named : (fields : List (List ℕ)) (k : ℕ) (name : Text) (place : ℕ) → place_from k name fields ≡ Some place → (i : ℕ) × (place ≡ k + i) × (get_or fields i [] ≡ name)
+place-named [] k name place e = absurd (cc e)
+place-named (f ∷ fs) k name place e = by (bytes_eq f name) refl e (place-named fs (k + 1) name place)
+  where
+    alone : (b : Bool) → cond b None (Some k) ≡ Some place → place ≡ k + 0
+    alone true m = absurd (cc m)
+    alone false m = let same : k ≡ place = cc in omega (arith, same)
+
+    by : (b : Bool) → bytes_eq f name ≡ b → cond b (cond (list_any (λ other. bytes_eq other name) fs) None (Some k)) (place_from (k + 1) name fs) ≡ Some place
+        → (place_from (k + 1) name fs ≡ Some place → (i : ℕ) × (place ≡ k + 1 + i) × (get_or fs i [] ≡ name)) → (i : ℕ) × (place ≡ k + i) × (get_or (f ∷ fs) i [] ≡ name)
+    by true is m more = (0, alone (list_any (λ other. bytes_eq other name) fs) m, (bytes_eq-Decides f name).0 is)
+    by false is m more = let p = more m in (suc p.0, omega (arith, p.1), p.2)
+
+other-places : (header names : List (List ℕ)) (places : List ℕ) (p : ℕ) (name : Text) → places_in header names ≡ Some places → get_or header p [] ≡ name → list_any (λ y. bytes_eq y name) names ≡ false
+    → AllByRecursion (λ q. q ≢ p) places
+other-places header [] places p name e at none = let same : [] ≡ places = ap (λ (q : Option (List ℕ)). unwrap_or q places) e in subst (AllByRecursion (λ q. q ≢ p)) same tt
+other-places header (n ∷ ns) places p name e at none =
+    let s = places-split (place_from 0 n header) (places_in header ns) places e in
+    let found = place-named header 0 n s.0 s.2 in
+    let parts = or_parts (bytes_eq n name) (list_any (λ y. bytes_eq y name) ns) none in
+    let apart : s.0 ≢ p = λ same.
+    let index : found.0 ≡ p = omega (arith, found.1, same) in
+    let named : n ≡ name = sym found.2 ∙ ap (λ (k : ℕ). get_or header k []) index ∙ at in
+    true≢false (sym ((bytes_eq-Decides n name).1 named) ∙ parts.0) in
+    subst (AllByRecursion (λ q. q ≢ p)) s.4 (apart, other-places header ns s.1 p name s.3 at parts.1)
+
+pub places-apart : (header names : List (List ℕ)) (places : List ℕ) → places_in header names ≡ Some places → all_different bytes_eq names ≡ true → Apart places
+places-apart header [] places e d = let same : [] ≡ places = ap (λ (q : Option (List ℕ)). unwrap_or q places) e in subst Apart same tt
+places-apart header (n ∷ ns) places e d =
+    let s = places-split (place_from 0 n header) (places_in header ns) places e in
+    let found = place-named header 0 n s.0 s.2 in
+    let parts = and_parts (not (list_any (λ y. bytes_eq y n) ns)) (all_different bytes_eq ns) d in
+    let at : get_or header s.0 [] ≡ n = ap (λ (k : ℕ). get_or header k []) (omega (arith, found.1)) ∙ found.2 in
+    subst Apart s.4 (other-places header ns s.1 s.0 n s.3 at (not-true (list_any (λ y. bytes_eq y n) ns) parts.0), places-apart header ns s.1 s.3 parts.1)
+
 -- with the places before, those of the names that are left are all
 abbrev pub places_with : List ℕ → Option (List ℕ) → Option (List ℕ)
 places_with before more = option_map (λ places. before ++ places) more
@@ -74,6 +115,18 @@ needed-all true layout = omega (arith, names-all layout, length-append (names_of
 
 pub needed-some : (has_op : Bool) (layout : Layout) → 1 + length layout.dims + length layout.measures ≤ length (needed_names has_op layout)
 needed-some has_op layout = omega (arith, needed-all has_op layout)
+
+-- no needed name stands twice
+name-not-op : (name : Text) → is_name name ≡ true → bytes_eq name (codes "op") ≡ false
+name-not-op name h = not-true (bytes_eq name (codes "op")) (and_parts (is_ascii_alphabetic (slice_index name 0) && list_all is_name_byte name && nat_le (length name) 32) (not (bytes_eq name (codes "op"))) h).1
+
+none-is-op : (names : List Text) → list_all is_name names ≡ true → list_any (λ x. bytes_eq x (codes "op")) names ≡ false
+none-is-op [] h = refl
+none-is-op (x ∷ xs) h = let p = and_parts (is_name x) (list_all is_name xs) h in rw (name-not-op x p.0, none-is-op xs p.1) refl
+
+pub needed-different : (has_op : Bool) (layout : Layout) → IsLayout layout → all_different bytes_eq (needed_names has_op layout) ≡ true
+needed-different false layout h = h.different_names
+needed-different true layout h = push-different bytes_eq bytes-flip (names_of layout) (codes "op") h.different_names (none-is-op (names_of layout) h.names)
 
 -- the needed names are the first of those with the op
 pub needed-name : (has_op : Bool) (layout : Layout) (column : ℕ) → column < length (needed_names has_op layout) → get_or (needed_names has_op layout) column [] ≡ get_or (names_of layout ++ codes "op" ∷ []) column []

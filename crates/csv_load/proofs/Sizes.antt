@@ -1,15 +1,15 @@
 -- How many bytes texts and records have.
-use Rattle.std.proofs.Common.{◌≡◌, ◌<◌, ◌≤◌, ◌+◌, ◌-◌, ◌*◌, ◌∙◌, ℕ, zero, suc, List, [], ◌∷◌, ◌++◌, length, get_or, refl, sym, ap, arith, map, take, drop}
+use Rattle.std.proofs.Common.{◌≡◌, ◌<◌, ◌≤◌, ◌+◌, ◌-◌, ◌∙◌, ℕ, zero, suc, List, [], ◌∷◌, ◌++◌, length, get_or, set, ap₂, ◌≢◌, refl, sym, ap, arith, map, take, drop}
 use Rattle.std.specs.Prelude.{slice_range}
-use Rattle.std.specs.List.{range_with_len}
+use Rattle.std.specs.List.{AllByRecursion, range_with_len}
+use Rattle.std.proofs.lemmas.List.{get_or-set_other}
 use Rattle.std.proofs.lemmas.List.FromFn.{map-range_with_len_more}
 use Rattle.std.proofs.lemmas.Bool.Decides.{nat_tests}
 use Rattle.csv_load.specs.FieldTexts.{IsCut, start_at, text_between, texts_of}
 use Rattle.text_lines.specs.Records.{bytes_in}
-use Rattle.std.proofs.Math.Nat.{mul-le-mul_left}
 use Rattle.csv_load.specs.Columns.{fields_at}
 use Rattle.csv_load.proofs.Ranges.{length-range, range-more}
-use Rattle.text_lines.proofs.Sizes.{bytes-append, bytes-push, field-within}
+use Rattle.text_lines.proofs.Sizes.{bytes-append, bytes-push}
 
 start-suc : (ends : List ℕ) (n : ℕ) → start_at ends (suc n) ≡ get_or ends n 0
 start-suc ends n = grind (arith, nat_tests)
@@ -51,12 +51,21 @@ room-more texts before fields i j k low high same =
 pub room-all : (texts before fields : List (List ℕ)) (k j : ℕ) → texts ≡ before ++ slice_range fields k j → bytes_in texts ≤ bytes_in before + bytes_in fields
 room-all texts before fields k j same = omega (arith, ap bytes_in same, bytes-append before (slice_range fields k j), bytes-part fields k j)
 
-each-within : (places : List ℕ) (fields : List (List ℕ)) → bytes_in (fields_at places fields) ≤ bytes_in fields * length places
-each-within [] fields = omega arith
-each-within (p ∷ ps) fields = let here = field-within fields p in let more = each-within ps fields in grind (arith, here, more)
+-- no place stands twice
+abbrev pub Apart : List ℕ → Type 0
+Apart [] = Unit {0}
+Apart (p ∷ ps) = AllByRecursion (λ q. q ≢ p) ps × Apart ps
 
--- how many bytes the fields at a few places have
-pub bytes-at : (places : List ℕ) (fields : List (List ℕ)) → length places ≤ 15 → bytes_in (fields_at places fields) ≤ 15 * bytes_in fields
-bytes-at places fields few =
-    let most : bytes_in fields * length places ≤ bytes_in fields * 15 = mul-le-mul_left (bytes_in fields) few in
-    omega (arith, each-within places fields, most)
+without-field : (fields : List (List ℕ)) (p : ℕ) → bytes_in (set fields p []) + length (get_or fields p []) ≡ bytes_in fields
+without-field [] p = refl
+without-field (x ∷ xs) zero = omega arith
+without-field (x ∷ xs) (suc p) = omega (arith, without-field xs p)
+
+others-at : (ps : List ℕ) (fields : List (List ℕ)) (p : ℕ) → AllByRecursion (λ q. q ≢ p) ps → fields_at ps (set fields p []) ≡ fields_at ps fields
+others-at [] fields p h = refl
+others-at (q ∷ ps) fields p h = ap₂ (λ (f : List ℕ) (fs : List (List ℕ)). f ∷ fs) (get_or-set_other fields p q [] [] h.0) (others-at ps fields p h.1)
+
+-- the fields at places of which none stands twice have no more bytes than all
+pub apart-within : (places : List ℕ) (fields : List (List ℕ)) → Apart places → bytes_in (fields_at places fields) ≤ bytes_in fields
+apart-within [] fields a = omega arith
+apart-within (p ∷ ps) fields a = omega (arith, without-field fields p, apart-within ps (set fields p []) a.1, ap bytes_in (others-at ps fields p a.0))

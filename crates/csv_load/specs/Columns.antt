@@ -4,6 +4,7 @@ use Rattle.std.specs.List.{All, list_any}
 use Rattle.std.specs.Str.{bytes_eq}
 use Rattle.cube_defs.specs.Text.{Text}
 use Rattle.qc_schema.specs.Schema.{Layout, names_of}
+use Rattle.text_lines.specs.Records.{bytes_in}
 use Rattle.csv_load.specs.declared.columns.Columns.{Columns}
 
 -- x in front of the list, where both are there
@@ -34,8 +35,8 @@ abbrev pub needed_names : Bool → Layout → List Text
 needed_names false layout = names_of layout
 needed_names true layout = names_of layout ++ codes "op" ∷ []
 
--- a place in the header for each of these names, which are few
+-- a place in the header for each of these names, none taken twice: the fields at them have no more bytes than all
 pub record AreColumns (layout : Layout) (columns : Columns) : Type 0 where
   pub all : length columns.places.items ≡ length (needed_names columns.has_op layout)
-  pub few : length columns.places.items ≤ 15
+  pub size : (fields : List (List ℕ)) → bytes_in (fields_at columns.places.items fields) ≤ bytes_in fields
   pub within : All (λ place. place < columns.width) columns.places.items

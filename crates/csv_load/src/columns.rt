@@ -1,7 +1,7 @@
 // Where a file has the columns that a schema names.
 ghost use Rattle.std.specs.Prelude.{◌≡◌, ◌<◌, ◌≤◌, [], ◌∷◌, ◌++◌, codes, length, IfOk, IfSome, option_map, slice_index_or};
 ghost use Rattle.csv.specs.Records.{fields_of};
-ghost use Rattle.qc_schema.specs.Schema.{names_of};
+ghost use Rattle.qc_schema.specs.Schema.{IsLayout, names_of};
 ghost use Rattle.csv_load.specs.Columns.{AreColumns, fields_at, needed_names, place_from, places_in};
 
 use csv::ByteRecord;
@@ -67,7 +67,7 @@ fn needed_name(schema: &Schema, column: usize) -> &str
 // How many columns are needed.
 fn needed_count(schema: &Schema, has_op: bool) -> usize
     ensures count { result ≡ length (needed_names has_op schema.now) }
-    ensures few { result ≤ 15 }
+    ensures layout { IsLayout schema.now }
 {
     let count = 1 + schema.dims() as usize + schema.measures() as usize;
     if has_op { count + 1 } else { count }

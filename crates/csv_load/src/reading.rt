@@ -187,7 +187,7 @@ pub fn read_changes(
     requires texts { changes.texts ≡ [] }
     requires amounts { changes.amounts.items ≡ [] }
     requires few { length rows.old + 1 < 2 ^ 32 }
-    requires room { 15 * bytes_in_all rows.old < 2 ^ 32 }
+    requires room { bytes_in_all rows.old < 2 ^ 32 }
     ensures gives { Gives fault_in (λ batch. batch.changes) result
         (changes_from columns.now.has_op schema.now columns.now.width columns.now.places.items 1 rows.old) }
     ensures dims { IfOk result (λ batch. batch.dims ≡ length schema.now.dims) }

@@ -2,7 +2,8 @@ use Rattle.std.proofs.Common.{◌∙◌, ◌≡◌, ◌<◌, sym, arith, length,
 use Rattle.std.proofs.lemmas.List.{drop_all}
 use Rattle.csv.specs.Records.{fields_of}
 use Rattle.csv_load.specs.Columns.{needed_names, place_from, places_in}
-use Rattle.csv_load.proofs.Names.{needed-name, places-all, places-end, places-step, places-within}
+use Rattle.csv_load.proofs.Sizes.{apart-within}
+use Rattle.csv_load.proofs.Names.{needed-different, needed-name, places-all, places-apart, places-end, places-step, places-within}
 use Rattle.csv_load.proofs.columns.find_columns.Goals as goal
 
 pub names-preserved : goal.names-preserved
@@ -20,4 +21,4 @@ returns-clause-are c =
     let end : drop c.names.column names ≡ [] = drop_all c.names.column names (omega (arith, c.needed_count-count.ensures.count)) in
     let is : places_in header names ≡ Some c.names.places.items = sym (rw end at c.names.invariant) ∙ places-end header c.names.places.items in
     let all = places-all header names c.names.places.items is in
-    record { all = all; few = omega (arith, all, c.needed_count-count.ensures); within = rw c.len-width.ensures (places-within header names c.names.places.items is) }
+    record { all = all; size = λ fields. apart-within c.names.places.items fields (places-apart header names c.names.places.items is (needed-different c.args.has_op c.args.schema.now c.needed_count-count.ensures.layout)); within = rw c.len-width.ensures (places-within header names c.names.places.items is) }

@@ -12,13 +12,12 @@ use Rattle.csv_load.proofs.Changing.{good-change, with-more}
 use Rattle.csv_load.proofs.Columnar.{all-push, all_in, are-push}
 use Rattle.csv_load.proofs.Names.{needed-some}
 use Rattle.csv_load.proofs.Refusals.{fails-cons, fails-with, ok_with}
-use Rattle.csv_load.proofs.Sizes.{bytes-at}
 use Rattle.csv_load.proofs.reading.read_changes.Goals as goal
 
 pub push_change-requires-clause-room : goal.push_change-requires-clause-room
 push_change-requires-clause-room c =
     let left : c.records.rows ≡ fields_of c.next.new.row ∷ c.next.new.self = rw c.if-branch.true at c.in_ok-next.ensures.next in
-    omega (arith, c.records.invariant.room, ap bytes_in_all left, bytes-at c.args.columns.now.places.items (fields_of c.next.new.row) c.requires.columns.few)
+    omega (arith, c.records.invariant.room, ap bytes_in_all left, c.requires.columns.size (fields_of c.next.new.row))
 
 pub records-preserved : goal.records-preserved
 records-preserved c =
@@ -44,7 +43,7 @@ records-preserved c =
           ∙ sym (with-more columns.has_op layout columns.width columns.places.items (1 + length c.records.changes.ids.items) (all_in dims measures c.records.changes) fields c.next.new.self change made) ∙ rw left at inv.changes);
       count = omega (arith, inv.count, ap length left, more);
       columns = are-push dims measures e.0 e.1 c.records.changes c.push_change.new.changes inv.columns e.3 e.4 e.5 good room;
-      room = omega (arith, inv.room, ap bytes_in_all left, c.in_ok-push_change.ensures.size, bytes-at columns.places.items fields c.requires.columns.few);
+      room = omega (arith, inv.room, ap bytes_in_all left, c.in_ok-push_change.ensures.size, c.requires.columns.size fields);
     }
 
 pub returns-in_err-push_change-clause-gives : goal.returns-in_err-push_change-clause-gives
