@@ -13,7 +13,7 @@ use Rattle.cube_laws.specs.Parting.{shared_by}
 use Rattle.cube_laws.proofs.Shared.{IsShared, entry, shared_some, shared-entry, length-shared, same_entries}
 use Rattle.cell_closure.proofs.Rows.{There, length-named, named_dims, all_same, same_all}
 
-lt_or_same : (j k : ℕ) → j < k + 1 → (j < k) ⊎ (j ≡ k)
+pub lt_or_same : (j k : ℕ) → j < k + 1 → (j < k) ⊎ (j ≡ k)
 lt_or_same zero zero h = inr refl
 lt_or_same zero (suc k) h = inl (omega arith)
 lt_or_same (suc j) zero h = absurd (omega arith)

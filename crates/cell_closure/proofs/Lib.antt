@@ -5,3 +5,4 @@ mod Sorted
 pub mod Stable
 mod Counting
 mod Swapped
+mod Widths

@@ -8,6 +8,7 @@ ghost use Rattle.base_table.specs.Places.{AreThere, IsTable, named};
 ghost use Rattle.cell_closure.specs.Parts.{code_at};
 ghost use Rattle.cube_laws.specs.Parting.{shared_by};
 
+use crate::width::closure_in;
 use base_table::{RowNo, Table};
 use cell_core::{Cell, Code, Entry};
 
@@ -42,17 +43,23 @@ pub fn shared_entry(table: &Table, rows: &[RowNo], dim: u8) -> Entry
     }
 }
 
-/// The values that all the rows have, and Any where they differ.
+// Answers over arrays of the least width that the dimensions fit in.
+macro_rules! closure_by_width {
+    ($table:expr, $rows:expr, $($width:literal)*) => {
+        $(if $table.dims() <= $width {
+            return closure_in::<$width>($table, $rows);
+        })*
+    };
+}
+
+/// The values that all the rows have, and Any where they differ. It reads rows only until they share
+/// no value any more.
 pub fn closure_of(table: &Table, rows: &[RowNo]) -> Cell
     requires some { 0 < length rows.now }
     requires there { AreThere table.now rows.now }
     ensures closure { Some result ≡ meet_all nat_eq (map (λ row. cell_of row.tuple) (named table.now rows.now)) }
     ensures dims { length result ≡ table.now.dims }
 {
-    let mut shared = table.tuple(rows[0]);
-    'dims: for dim in 0..table.dims() {
-        let entry = shared_entry(table, rows, dim);
-        shared.set(dim, entry);
-    }
-    shared
+    closure_by_width!(table, rows, 4 8 12);
+    closure_in::<16>(table, rows)
 }

@@ -2,10 +2,10 @@ use Rattle.std.proofs.Common.{◌≡◌, ℕ, ◌<◌, length}
 use Rattle.base_table.specs.Places.{named}
 use Rattle.cube_laws.specs.Parting.{shared_by}
 use Rattle.cube_laws.proofs.Shared.{entry}
-use Rattle.cell_closure.proofs.closure.closure_of.Given as goal
+use Rattle.cell_closure.proofs.width.closure_in.Given as goal
 
 abbrev pub invariant-dims : goal.invariant-dims
-invariant-dims l = record {
+invariant-dims g l = record {
   long : length l.shared ≡ l.table.dims;
   done : (j : ℕ) → j < l.dim → entry l.shared j ≡ entry (shared_by (named l.table l.rows)) j;
 }

@@ -1,0 +1,106 @@
+// What rows share, as arrays of one width.
+ghost use Rattle.std.specs.Prelude.{None, Some, false, is_some, length, map, nat_eq, slice_index, slice_index_or, true, ℕ, ◌<◌, ◌≡◌, ◌≤◌};
+ghost use Rattle.cube_defs.specs.Cell.{cell_of, meet};
+ghost use Rattle.cube_defs.specs.Rows.{meet_all};
+ghost use Rattle.cell_core.specs.Codes.{entries_of, entry_of, is_kept};
+ghost use Rattle.cell_core.specs.Entry.{IsCode, IsSmall, value_in};
+ghost use Rattle.base_table.specs.Places.{AreThere, IsTable, named, row_at};
+ghost use Rattle.cell_closure.specs.Parts.{code_at};
+ghost use Rattle.cell_closure.specs.Widths.{met};
+ghost use Rattle.cube_laws.specs.Parting.{shared_by};
+
+use base_table::{RowNo, Table};
+use cell_core::{ANY, Cell, Entry};
+
+/// Makes the accumulator the meet of what it was and a row, entry by entry: the code where both have
+/// it, and [`ANY`], which stands for Any, where they differ. Each has a code or `ANY` in every place.
+pub fn meet_fixed<const N: usize>(acc: &mut [u32; N], row: &[u32; N])
+    ensures meet { entries_of acc.new ≡ meet nat_eq (entries_of acc.old) (entries_of row.now) }
+    ensures width { length acc.new ≡ N }
+    ensures codes { (i : ℕ) → i < N → slice_index acc.new i ≡ met (slice_index acc.old i) (slice_index row.now i) }
+{
+    'entries: for i in 0..N {
+        if acc[i] != row[i] {
+            acc[i] = ANY;
+        }
+    }
+}
+
+/// The codes of a row, and 0 behind them.
+fn codes_of<const N: usize>(table: &Table, row: RowNo) -> [u32; N]
+    requires row { is_some (row_at table.now row.0) ≡ true }
+    requires width { table.now.dims ≤ N }
+    ensures value { (j : ℕ) → j < table.now.dims → slice_index result j ≡ code_at table.now j row }
+    ensures small { (j : ℕ) → j < table.now.dims → IsCode (slice_index result j) }
+{
+    let mut codes = [0; N];
+    'dims: for dim in 0..table.dims() {
+        codes[dim as usize] = table.code(row, dim);
+    }
+    codes
+}
+
+/// Whether a value stands in one of the dimensions.
+fn has_value<const N: usize>(codes: &[u32; N], dims: u8) -> bool
+    requires { dims ≤ N }
+    ensures { result ≡ false → (j : ℕ) → j < dims → slice_index codes.now j ≡ ANY }
+{
+    'dims: for dim in 0..dims {
+        if codes[dim as usize] != ANY {
+            return true;
+        }
+    }
+    false
+}
+
+/// The code that all the rows have in each dimension, and [`ANY`] where they differ.
+fn shared_codes<const N: usize>(table: &Table, rows: &[RowNo]) -> [u32; N]
+    requires table { IsTable table.now }
+    requires some { 0 < length rows.now }
+    requires there { AreThere table.now rows.now }
+    requires width { table.now.dims ≤ N }
+    ensures value { (j : ℕ) → j < table.now.dims →
+        entry_of (slice_index result j) ≡ slice_index_or (shared_by (named table.now rows.now)) j None }
+    ensures kept { (j : ℕ) → j < table.now.dims → is_kept (slice_index result j) ≡ true }
+{
+    let mut shared = codes_of(table, rows[0]);
+    let rest = &rows[1..];
+    'rows: for row in rest {
+        if !has_value(&shared, table.dims()) {
+            return shared;
+        }
+        meet_fixed(&mut shared, &codes_of(table, *row));
+    }
+    shared
+}
+
+/// What a code, or [`ANY`], stands for.
+fn entry_with(code: u32) -> Entry
+    requires { is_kept code ≡ true }
+    ensures value { value_in result ≡ entry_of code }
+    ensures small { IsSmall result }
+{
+    if code == ANY {
+        Entry::Any
+    } else {
+        Entry::Is(code)
+    }
+}
+
+/// The values that all the rows have, read as arrays of N codes.
+pub(crate) fn closure_in<const N: usize>(table: &Table, rows: &[RowNo]) -> Cell
+    requires some { 0 < length rows.now }
+    requires there { AreThere table.now rows.now }
+    requires width { table.now.dims ≤ N }
+    requires small { N ≤ 16 }
+    ensures closure { Some result ≡ meet_all nat_eq (map (λ row. cell_of row.tuple) (named table.now rows.now)) }
+    ensures dims { length result ≡ table.now.dims }
+{
+    table.is_valid();
+    let codes: [u32; N] = shared_codes(table, rows);
+    let mut shared = table.tuple(rows[0]);
+    'dims: for dim in 0..table.dims() {
+        shared.set(dim, entry_with(codes[dim as usize]));
+    }
+    shared
+}
