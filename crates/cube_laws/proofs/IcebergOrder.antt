@@ -1,12 +1,12 @@
 -- The classes of an iceberg answer stand in the order of their values, and in no other way.
-use Rattle.std.proofs.Common.{◌≡◌, ◌↔◌, ℕ, zero, suc, ◌<◌, ◌*◌, ◌^◌, true, List, [], ◌∷◌, map, pos, ◌*ℤ◌, refl, sym, ap, ap₂, subst, ◌∙◌, arith, inl, inr}
+use Rattle.std.proofs.Common.{◌≡◌, ◌↔◌, ℕ, ◌<◌, ◌*◌, ◌^◌, true, List, [], ◌∷◌, map, pos, ◌*ℤ◌, refl, sym, ap, ap₂, subst, ◌∙◌, arith, inl, inr}
 use Rattle.std.specs.List.Sorted.{IsStrictlySortedBy}
 use Rattle.std.specs.declared.cmp.Ordering.{Ordering}
 use Rattle.std.specs.declared.cmp.Ordering.TheVariants.{Less, Equal, Greater}
 use Rattle.std.specs.Ordering.{eq_by_cmp, ordering_then, ordering_reverse, on}
 use Rattle.std.specs.Cmp.{IsTotalOrder, then_total, on_total, int_cmp_total}
 use Rattle.std.specs.FinMap.{IsAntisymmetric}
-use Rattle.std.proofs.Math.Nat.{mul-pos, pow-suc}
+use Rattle.std.proofs.Math.Nat.{mul-pos}
 use Rattle.cube_defs.specs.Cell.{Cell, cell_cmp}
 use Rattle.cube_defs.specs.Rows.{Row, Agg, Fraction, covers, cov, is_class, agg}
 use Rattle.cube_defs.specs.Tree.{covered, classes, distinct}
@@ -22,17 +22,14 @@ use Rattle.cube_laws.proofs.Covered.{cell_total, some_covered}
 use Rattle.cube_laws.proofs.Divisors.{lowest_terms-positive}
 use Rattle.cube_laws.proofs.FractionOrder.{value_total, falling_total}
 use Rattle.cube_laws.proofs.Icebergs.{iceberg-asked, asked-is}
-
-ten-pow : (scale : ℕ) → 0 < 10 ^ scale
-ten-pow zero = omega arith
-ten-pow (suc scale) = let e = pow-suc 10 scale in let more : 0 < 10 ^ scale = ten-pow scale in omega arith
+use Rattle.cube_laws.proofs.Numbers.{ten-pos}
 
 value-positive : (kind : AggKind) (scale : ℕ) (a : Agg) → 0 < a.count → 0 < (value_of kind scale a).den
 value-positive Count scale a h = lowest_terms-positive (pos a.count) 1 (omega arith)
-value-positive (Sum m) scale a h = lowest_terms-positive (part a m).sum (10 ^ scale) (ten-pow scale)
-value-positive (Least m) scale a h = lowest_terms-positive (part a m).least (10 ^ scale) (ten-pow scale)
-value-positive (Greatest m) scale a h = lowest_terms-positive (part a m).greatest (10 ^ scale) (ten-pow scale)
-value-positive (Mean m) scale a h = lowest_terms-positive (part a m).sum (a.count * 10 ^ scale) (mul-pos h (ten-pow scale))
+value-positive (Sum m) scale a h = lowest_terms-positive (part a m).sum (10 ^ scale) (ten-pos scale)
+value-positive (Least m) scale a h = lowest_terms-positive (part a m).least (10 ^ scale) (ten-pos scale)
+value-positive (Greatest m) scale a h = lowest_terms-positive (part a m).greatest (10 ^ scale) (ten-pos scale)
+value-positive (Mean m) scale a h = lowest_terms-positive (part a m).sum (a.count * 10 ^ scale) (mul-pos h (ten-pos scale))
 
 -- a class whose value has a positive denominator
 record Valued (A : Type 0) (kind : AggKind) (scale : ℕ) : Type 0 where

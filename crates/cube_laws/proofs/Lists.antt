@@ -1,8 +1,8 @@
 -- Lists: filters, facts of all items, and items among others.
-use Rattle.std.proofs.Common.{ℕ, zero, suc, length, slice_get, ◌<◌, ◌≤◌, ◌≡◌, ◌↔◌, ◌⊎◌, Bool, true, false, ◌&&◌, cond, Option, Some, None, List, [], ◌∷◌, ◌++◌, map, filter, filter_map, flat_map, refl, sym, ap, ap₂, subst, ◌∙◌, arith, true≢false, inl, inr, IfSome, take, slice_index_or}
+use Rattle.std.proofs.Common.{ℕ, zero, suc, length, slice_get, get_or, ◌<◌, ◌≤◌, ◌≡◌, ◌↔◌, ◌⊎◌, Bool, true, false, ◌&&◌, cond, Option, Some, None, List, [], ◌∷◌, ◌++◌, map, filter, filter_map, flat_map, refl, sym, ap, ap₂, subst, ◌∙◌, arith, true≢false, inl, inr, IfSome, take, slice_index_or}
 use Rattle.std.proofs.lemmas.Bool.{cond-true, cond-false}
 use Rattle.std.proofs.lemmas.List.Elements.{filter-append}
-use Rattle.std.specs.List.{AllByRecursion, cons_option, list_all, Contains}
+use Rattle.std.specs.List.{All, AllByRecursion, cons_option, list_all, Contains}
 use Rattle.cube_laws.specs.Lists.{Among, Reordered}
 
 -- a map after a filter by what it makes
@@ -282,3 +282,17 @@ module _ {X : Type 0} where
 
   pub contains_among : (x : X) (xs : List X) → Contains xs x → Among x xs
   contains_among x xs c = get_among xs c.0 x (got xs c.0 x c.1 ∙ ap (λ z. Some z) c.2)
+
+module _ {X : Type 0} where
+  -- what holds at each place, and what holds of each item
+  pub all_among : (P : X → Type 0) (xs : List X) → All P xs → (x : X) → Among x xs → P x
+  all_among P [] h x m = absurd m
+  all_among P (y ∷ xs) h x m = elim m [ inl e ↦ subst P (sym e) (h 0 y (omega arith)) | inr n ↦ all_among P xs (λ k d l. h (suc k) d (omega arith)) x n ]
+
+  pub among_all : (P : X → Type 0) (xs : List X) → ((x : X) → Among x xs → P x) → All P xs
+  among_all P [] f = λ k d l. absurd (omega arith)
+  among_all P (x ∷ xs) f = λ k d l. go k d l (among_all P xs (λ y m. f y (inr m)))
+    where
+      go : (k : ℕ) (d : X) → k < length (x ∷ xs) → All P xs → P (get_or (x ∷ xs) k d)
+      go zero d l rest = f x (inl refl)
+      go (suc k) d l rest = rest k d (omega arith)

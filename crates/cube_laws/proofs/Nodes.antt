@@ -1,12 +1,12 @@
 -- A node is the front of a class.
-use Rattle.std.proofs.Common.{◌≡◌, ◌↔◌, ℕ, Bool, true, Option, Some, None, List, length, refl, sym, ap, subst, ◌∙◌, true≢false}
+use Rattle.std.proofs.Common.{◌≡◌, ◌↔◌, ℕ, Bool, true, Option, Some, None, List, length, refl, sym, ap, subst, ◌∙◌}
 use Rattle.std.specs.declared.cmp.Ordering.{Ordering}
 use Rattle.std.specs.Ordering.{eq_by_cmp}
 use Rattle.std.specs.Cmp.{IsTotalOrder}
 use Rattle.std.specs.FinMap.{IsAntisymmetric}
 use Rattle.std.specs.List.{AllByRecursion}
-use Rattle.std.specs.Option.{option_eq, option_map}
-use Rattle.cube_defs.specs.Cell.{Cell, leq, cell_eq, depth, cell_front}
+use Rattle.std.specs.Option.{option_map}
+use Rattle.cube_defs.specs.Cell.{Cell, leq, depth, cell_front}
 use Rattle.cube_defs.specs.Rows.{Row, covers, closure, is_class, is_node}
 use Rattle.cube_defs.specs.Tree.{covered, nodes}
 use Rattle.cube_laws.proofs.Cells.{IsEquality, leq_antisymm, cell_front-leq, cell_front_mono, cell_front-depth, cell_front-depth_cell_front, length-cell_front}
@@ -40,25 +40,28 @@ module _ {A : Type 0} {eq : A → A → Bool} (law : IsEquality eq) where
           subst (λ x. leq eq (cell_front (depth (cell_front k u)) w) x ≡ true) (cell_front-depth_cell_front k u) (cell_front_mono law (depth (cell_front k u)) w u (closure_mono law rows (cell_front k u) u w u (cell_front-leq law k u) e is)) in
           (is_node-is rows (cell_front k u)).1 (ap (option_map (cell_front (depth (cell_front k u)))) e ∙ ap (λ x. Some x) (leq_antisymm law _ _ high low))
 
-  pub node-front : (rows : List (Row A)) (p : Cell A) → is_node eq rows p ≡ true → (u : Cell A) × (is_class eq rows u ≡ true) × (cell_front (depth p) u ≡ p)
-  node-front rows p h = go (closure eq rows p) refl
+  -- a node has a closure, whose front it is
+  pub node_closed : (rows : List (Row A)) (p : Cell A) → is_node eq rows p ≡ true → (u : Cell A) × (closure eq rows p ≡ Some u) × (cell_front (depth p) u ≡ p)
+  node_closed rows p h = go (closure eq rows p) refl ((is_node-is rows p).0 h)
     where
-      go : (o : Option (Cell A)) → closure eq rows p ≡ o → (u : Cell A) × (is_class eq rows u ≡ true) × (cell_front (depth p) u ≡ p)
-      go None e = absurd (true≢false (sym h ∙ ap (λ o. option_eq (cell_eq eq) (option_map (cell_front (depth p)) o) (Some p)) e))
-      go (Some u) e = let f = front_of_class rows p u e h in (u, f.0, f.1)
+      go : (o : Option (Cell A)) → closure eq rows p ≡ o → option_map (cell_front (depth p)) (closure eq rows p) ≡ Some p → (u : Cell A) × (closure eq rows p ≡ Some u) × (cell_front (depth p) u ≡ p)
+      go None e f = let bad : None ≡ Some p = sym (ap (option_map (cell_front (depth p))) e) ∙ f in cc
+      go (Some u) e f = let front : Some (cell_front (depth p) u) ≡ Some p = sym (ap (option_map (cell_front (depth p))) e) ∙ f in (u, e, cc)
+
+  pub node-front : (rows : List (Row A)) (p : Cell A) → is_node eq rows p ≡ true → (u : Cell A) × (is_class eq rows u ≡ true) × (cell_front (depth p) u ≡ p)
+  node-front rows p h = let u = node_closed rows p h in (u.0, (front_of_class rows p u.0 u.1 h).0, u.2)
 
 module _ {A : Type 0} {cmp : A → A → Ordering} (total : IsTotalOrder cmp) (anti : IsAntisymmetric cmp) (n : ℕ) where
   -- each node stands in the list of nodes
   pub nodes-is : (rows : List (Row A)) → AllByRecursion (λ r. length r.tuple ≡ n) rows → (p : Cell A) → Among p (nodes cmp rows) ↔ (is_node (eq_by_cmp cmp) rows p ≡ true)
-  nodes-is rows a p = (λ h. (filter_among (is_node (eq_by_cmp cmp) rows) p (covered cmp rows) h).1, λ h. go (closure (eq_by_cmp cmp) rows p) refl h)
+  nodes-is rows a p = (
+    λ h. (filter_among (is_node (eq_by_cmp cmp) rows) p (covered cmp rows) h).1,
+    λ h.
+        let u = node_closed law rows p h in
+        let c : (r : Row A) × Among r rows × (covers (eq_by_cmp cmp) p r ≡ true) = some_covered (eq_by_cmp cmp) n p u.0 rows u.1 in
+        let long : length p ≡ n = sym (ap length u.2) ∙ length-cell_front (depth p) u.0 ∙ closure_length (eq_by_cmp cmp) n p u.0 rows a u.1 in
+        among_filter (is_node (eq_by_cmp cmp) rows) p (covered cmp rows) ((covered-is total anti rows p).1 (c.0, c.1, long ∙ sym (all_at (λ r. length r.tuple ≡ n) c.0 rows a c.1), c.2)) h,
+  )
     where
       law : IsEquality (eq_by_cmp cmp)
       law = equality_by total anti
-
-      go : (o : Option (Cell A)) → closure (eq_by_cmp cmp) rows p ≡ o → is_node (eq_by_cmp cmp) rows p ≡ true → Among p (nodes cmp rows)
-      go None e h = absurd (true≢false (sym h ∙ ap (λ o. option_eq (cell_eq (eq_by_cmp cmp)) (option_map (cell_front (depth p)) o) (Some p)) e))
-      go (Some u) e h =
-          let c : (r : Row A) × Among r rows × (covers (eq_by_cmp cmp) p r ≡ true) = some_covered (eq_by_cmp cmp) n p u rows e in
-          let front : cell_front (depth p) u ≡ p = (front_of_class law rows p u e h).1 in
-          let long : length p ≡ n = sym (ap length front) ∙ length-cell_front (depth p) u ∙ closure_length (eq_by_cmp cmp) n p u rows a e in
-          among_filter (is_node (eq_by_cmp cmp) rows) p (covered cmp rows) ((covered-is total anti rows p).1 (c.0, c.1, long ∙ sym (all_at (λ r. length r.tuple ≡ n) c.0 rows a c.1), c.2)) h

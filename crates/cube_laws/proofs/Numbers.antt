@@ -1,10 +1,11 @@
 -- Numbers in order.
-use Rattle.std.proofs.Common.{◌≡◌, ◌⊎◌, ℕ, zero, suc, ◌+◌, ◌<◌, ◌≤◌, List, [], ◌∷◌, length, nat_cmp, inl, inr, ap, ◌∙◌, arith, ◌*◌, ◌≢◌, refl, Bool, filter, cond, ◌++◌, sym}
+use Rattle.std.proofs.Common.{◌≡◌, ◌⊎◌, ℕ, zero, suc, ◌+◌, ◌<◌, ◌≤◌, List, [], ◌∷◌, length, nat_cmp, inl, inr, ap, ◌∙◌, arith, ◌*◌, ◌^◌, ◌≢◌, refl, Bool, filter, cond, ◌++◌, sym}
 use Rattle.std.specs.List.Sorted.{IsStrictlySortedBy}
 use Rattle.std.specs.Cmp.{IsTotalOrder, nat_cmp_total, nat_cmp_is}
 use Rattle.std.specs.FinMap.{IsAntisymmetric, nat_cmp-IsAntisymmetric}
 use Rattle.std.specs.List.{AllByRecursion, range_with_len}
 use Rattle.std.specs.declared.cmp.Ordering.TheVariants.{Less, Equal, Greater}
+use Rattle.std.proofs.Math.Nat.{pow-suc, pow-zero}
 use Rattle.std.proofs.lemmas.List.{map-id}
 use Rattle.std.proofs.lemmas.List.FromFn.{filter_of_map_range_with_len_more}
 use Rattle.cube_laws.proofs.Lists.{all_map}
@@ -50,6 +51,16 @@ few_rise n xs r high = let h : length xs + 0 ≤ n = rising 0 n xs (omega arith)
 pub times_mono : (d a b : ℕ) → a ≤ b → d * a ≤ d * b
 times_mono zero a b h = omega arith
 times_mono (suc d) a b h = let m = times_mono d a b h in omega arith
+
+pub ten-pos : (k : ℕ) → 0 < 10 ^ k
+ten-pos zero = omega arith
+ten-pos (suc k) = omega (arith, pow-suc 10 k, ten-pos k)
+
+pub square : (m : ℕ) → m ^ 2 ≡ m * m
+square m = pow-suc m 1 ∙ ap (λ k. k * m) (pow-suc m 0 ∙ ap (λ k. k * m) (pow-zero m) ∙ one m)
+  where
+    one : (m : ℕ) → 1 * m ≡ m
+    one m = omega arith
 
 pub nat_or_not : (i j : ℕ) → (i ≡ j) ⊎ (i ≢ j)
 nat_or_not zero zero = inl refl

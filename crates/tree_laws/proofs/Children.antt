@@ -1,5 +1,5 @@
 -- Labels lead to nodes, and each node but the root is a child of the node without its last value.
-use Rattle.std.proofs.Common.{◌≡◌, ◌↔◌, inl, inr, ℕ, suc, ◌≤◌, ◌<◌, Bool, true, Option, Some, None, List, length, slice_get, refl, sym, ap, ap₂, subst, ◌∙◌, arith}
+use Rattle.std.proofs.Common.{◌≡◌, ◌↔◌, inl, inr, ℕ, suc, ◌≤◌, ◌<◌, Bool, true, Some, None, List, length, slice_get, sym, ap, ap₂, subst, ◌∙◌, arith}
 use Rattle.std.specs.Option.{option_map}
 use Rattle.std.specs.declared.cmp.Ordering.{Ordering}
 use Rattle.cube_defs.specs.Cell.{Cell, leq, depth, cell_front, upto, with_value}
@@ -8,7 +8,7 @@ use Rattle.cube_defs.specs.Tree.{next_value}
 use Rattle.cube_laws.proofs.Cells.{IsEquality, leq_trans, cell_front_mono, length-cell_front, depth-le}
 use Rattle.cube_laws.proofs.Closures.{closure_idem, closure_mono, leq-closure, is_class-is}
 use Rattle.cube_laws.proofs.Columns.{one_value, one_value-leq}
-use Rattle.cube_laws.proofs.Nodes.{is_node-is, class_fronts, front_of_class}
+use Rattle.cube_laws.proofs.Nodes.{is_node-is, class_fronts, front_of_class, node_closed}
 use Rattle.tree_laws.specs.Labels.{target_of_label}
 use Rattle.tree_laws.proofs.Leads.{led_from}
 use Rattle.tree_laws.proofs.Lists.{le_or, first_of_range}
@@ -18,16 +18,12 @@ use Rattle.tree_laws.proofs.Nexts.{next-ge, next-entry}
 module _ {A : Type 0} {eq : A → A → Bool} (law : IsEquality eq) (rows : List (Row A)) where
   -- each front of a node is a node
   pub node_fronts : (c : Cell A) (k : ℕ) → is_node eq rows c ≡ true → is_node eq rows (cell_front k c) ≡ true
-  node_fronts c k h = go (closure eq rows c) refl
-    where
-      go : (o : Option (Cell A)) → closure eq rows c ≡ o → is_node eq rows (cell_front k c) ≡ true
-      go None e = let bad : None ≡ Some c = sym (ap (option_map (cell_front (depth c))) e) ∙ (is_node-is law rows c).0 h in cc
-      go (Some u) e =
-          let f = front_of_class law rows c u e h in
-          elim (le_or k (depth c)) [
-            | inl l ↦ subst (λ x. is_node eq rows x ≡ true) (sym (cell_front-cell_front k (depth c) u l) ∙ ap (cell_front k) f.1) (class_fronts law rows k u f.0)
-            | inr l ↦ subst (λ x. is_node eq rows x ≡ true) (sym (cell_front-beyond k c l)) h
-          ]
+  node_fronts c k h =
+      let u = node_closed law rows c h in
+      elim (le_or k (depth c)) [
+        | inl l ↦ subst (λ x. is_node eq rows x ≡ true) (sym (cell_front-cell_front k (depth c) u.0 l) ∙ ap (cell_front k) u.2) (class_fronts law rows k u.0 (front_of_class law rows c u.0 u.1 h).0)
+        | inr l ↦ subst (λ x. is_node eq rows x ≡ true) (sym (cell_front-beyond k c l)) h
+      ]
 
   -- a label leads to a node
   pub lead_node : (p : Cell A) (i : ℕ) (v : A) (c : Cell A) → target_of_label eq rows p i v ≡ Some c → is_node eq rows c ≡ true

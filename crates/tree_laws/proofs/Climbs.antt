@@ -14,11 +14,11 @@ use Rattle.cube_defs.specs.Tree.{Node, Tree, IsCanonical, cell_at, renamed, cut_
 use Rattle.cube_laws.proofs.Cells.{IsEquality, length-cell_front, cell_front-depth_cell_front, cell_front-depth, cell_eq-same, depth-le}
 use Rattle.cube_laws.proofs.Closures.{closure_idem, agg_same}
 use Rattle.cube_laws.proofs.Covered.{closure_length}
-use Rattle.cube_laws.proofs.Nodes.{is_node-is}
+use Rattle.cube_laws.proofs.Nodes.{node_closed}
 use Rattle.cube_laws.proofs.Orders.{equality_by}
 use Rattle.tree_laws.specs.Labels.{record_of}
 use Rattle.tree_laws.specs.Walk.{last_label, climb, climb_from, climb_on}
-use Rattle.tree_laws.proofs.Lists.{some_same}
+use Rattle.tree_laws.proofs.Lists.{cell_record, some_same}
 use Rattle.tree_laws.proofs.Fronts.{depth-cell_front-le, cell_front-cell_front, get-cell_front, split_last}
 use Rattle.tree_laws.proofs.Walks.{record_read}
 
@@ -121,11 +121,7 @@ module _ {A : Type 0} {cmp : A → A → Ordering} (total : IsTotalOrder cmp) (a
   module _ (k : ℕ) (n : Node A ℕ) (g : map.get tree k ≡ Some n) where
     -- a node has a closure, whose front it is
     node_closure : (u : Cell A) × (closure (eq_by_cmp cmp) rows n.cell ≡ Some u) × (cell_front (depth n.cell) u ≡ n.cell)
-    node_closure = go (closure (eq_by_cmp cmp) rows n.cell) refl ((is_node-is law rows n.cell).0 (canonical.each k n g).0)
-      where
-        go : (o : Option (Cell A)) → closure (eq_by_cmp cmp) rows n.cell ≡ o → option_map (cell_front (depth n.cell)) (closure (eq_by_cmp cmp) rows n.cell) ≡ Some n.cell → (u : Cell A) × (closure (eq_by_cmp cmp) rows n.cell ≡ Some u) × (cell_front (depth n.cell) u ≡ n.cell)
-        go None e f = let z : option_map (cell_front (depth n.cell)) (closure (eq_by_cmp cmp) rows n.cell) ≡ None = ap (option_map (cell_front (depth n.cell))) e in cc
-        go (Some u) e f = (u, e, some_same (sym (ap (option_map (cell_front (depth n.cell))) e) ∙ f))
+    node_closure = node_closed law rows n.cell (canonical.each k n g).0
 
     record_is : renamed (cell_at tree) n ≡ renamed (λ c. Some c) (record_of cmp measures rows n.cell node_closure.0)
     record_is = record_read total anti dims measures rows wide tree canonical k n node_closure.0 g node_closure.1
@@ -165,13 +161,6 @@ module _ {A : Type 0} {cmp : A → A → Ordering} (total : IsTotalOrder cmp) (a
   climb_shows zero k n cell out g h l = h.rest ∙ ap (λ d. from_on d cell) (let d : depth n.cell ≡ 0 = omega arith in d) ∙ from_zero cell
   climb_shows (suc steps) k n cell out g h low = ap (climb_from (climb tree steps) out) g ∙ go (climb_shows steps) (last_label n.cell) refl
     where
-      up : (l : ℕ) (c : Cell A) → cell_at tree l ≡ Some c → (m : Node A ℕ) × (map.get tree l ≡ Some m) × (m.cell ≡ c)
-      up l c e = by (map.get tree l) refl e
-        where
-          by : (o : Option (Node A ℕ)) → map.get tree l ≡ o → option_map (λ n. n.cell) o ≡ Some c → (m : Node A ℕ) × (map.get tree l ≡ Some m) × (m.cell ≡ c)
-          by None q e = cc
-          by (Some m) q e = (m, q, some_same e)
-
       go : ((k : ℕ) (n : Node A ℕ) (cell out : Cell A) → map.get tree k ≡ Some n → Shows cell n.cell out → depth n.cell ≤ steps → climb tree steps k out ≡ cell) → (o : Option (ℕ × A)) → last_label n.cell ≡ o → climb_on (climb tree steps) out o n.parent ≡ cell
       go more None e = shows_all cell n.cell out h e
       go more (Some label) e = by n.parent (parent_is k n g label.0 s.0)
@@ -182,7 +171,7 @@ module _ {A : Type 0} {cmp : A → A → Ordering} (total : IsTotalOrder cmp) (a
           by : (o : Option ℕ) → option_map (cell_at tree) o ≡ Some (Some (cell_front label.0 n.cell)) → climb_on (climb tree steps) out (Some label) o ≡ cell
           by None f = cc
           by (Some l) f =
-              let m : (m : Node A ℕ) × (map.get tree l ≡ Some m) × (m.cell ≡ cell_front label.0 n.cell) = up l (cell_front label.0 n.cell) (some_same f) in
+              let m : (m : Node A ℕ) × (map.get tree l ≡ Some m) × (m.cell ≡ cell_front label.0 n.cell) = cell_record tree l (cell_front label.0 n.cell) (some_same f) in
               more l m.0 cell (with_value out label.0 label.1) m.1
               (subst (λ p. Shows cell p (with_value out label.0 label.1)) (sym m.2) (shows_more cell n.cell out label.0 label.1 h e))
               (omega (arith, low, ap depth m.2, depth-cell_front-le label.0 n.cell, s.0))

@@ -20,7 +20,7 @@ use Rattle.cube_laws.proofs.Columns.{one_value, one_value-leq, slice_get-cell_of
 use Rattle.cube_laws.proofs.Orders.{equality_by}
 use Rattle.cube_laws.proofs.Covered.{some_covered}
 use Rattle.tree_laws.specs.Labels.{target_of_label, IsLabel, record_of}
-use Rattle.tree_laws.proofs.Lists.{first_of_range, among_range}
+use Rattle.tree_laws.proofs.Lists.{first_of_range, among_range, some_same}
 use Rattle.tree_laws.proofs.Fronts.{leq-with_value, with_value-leq, upto-entry}
 use Rattle.tree_laws.proofs.Nexts.{next-ge, next-le, cell_front-next, next-entry}
 use Rattle.tree_laws.proofs.Leads.{closure_between}
@@ -138,11 +138,8 @@ module _ {A : Type 0} {cmp : A → A → Ordering} (total : IsTotalOrder cmp) (a
                 let v : x.value ≡ w = only_forced rows p u c x.dim w x.value is h.place.behind h.place.within entry e in
                 let closed : Some c ≡ Some u = sym e ∙ ap (λ y. closure (eq_by_cmp cmp) rows (with_value p x.dim y)) v ∙ forced_lead rows p u x.dim w is h.place.behind h.place.within entry in
                 let t : Some (upto u (next_value cmp (depth p) u)) ≡ Some x.target = sym (ap (option_map (λ c. upto c (next_value cmp (depth p) u))) (e ∙ closed)) ∙ ap (λ j. option_map (λ c. upto c j) (closure (eq_by_cmp cmp) rows (with_value p x.dim x.value))) (sym d) ∙ h.leads in
-                let target : x.target ≡ with_value p (next_value cmp (depth p) u) w = some_inj (sym t) ∙ at_next w k in
+                let target : x.target ≡ with_value p (next_value cmp (depth p) u) w = some_same (sym t) ∙ at_next w k in
                 edge_same d v target
               where
-                some_inj : {Y : Type 0} → {y z : Y} → Some y ≡ Some z → y ≡ z
-                some_inj h = cc
-
                 edge_same : x.dim ≡ next_value cmp (depth p) u → x.value ≡ w → x.target ≡ with_value p (next_value cmp (depth p) u) w → x ≡ record { dim = next_value cmp (depth p) u; value = w; target = with_value p (next_value cmp (depth p) u) w }
                 edge_same a b c = λ i. record { dim = a i; value = b i; target = c i }

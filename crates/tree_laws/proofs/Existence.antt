@@ -13,7 +13,7 @@ use Rattle.cube_defs.specs.Tree.{Edge, Node, Tree, IsCanonical, node_of, next_va
 use Rattle.cube_laws.specs.Lists.{Among}
 use Rattle.cube_laws.proofs.Lists.{among_append, get_among}
 use Rattle.cube_laws.proofs.Cells.{IsEquality, cell_eq-exact, cell_eq-same}
-use Rattle.cube_laws.proofs.Nodes.{nodes-is, is_node-is}
+use Rattle.cube_laws.proofs.Nodes.{node_closed, nodes-is}
 use Rattle.cube_laws.proofs.Orders.{equality_by}
 use Rattle.tree_laws.specs.Labels.{record_of}
 use Rattle.tree_laws.proofs.Lists.{some_same}
@@ -141,7 +141,7 @@ module _ {A : Type 0} {cmp : A → A → Ordering} (total : IsTotalOrder cmp) (a
 
     right_record : (c : Cell A) → is_node (eq_by_cmp cmp) rows c ≡ true → Some (renamed (cell_at made) (record_at c)) ≡ option_map (renamed (λ d. Some d)) (node_of cmp measures rows c)
     unfolding record_at numbered_by
-    right_record c h = go (closure (eq_by_cmp cmp) rows c) refl
+    right_record c h = let u = node_closed law rows c h in go u.0 u.1
       where
         up : (t : Cell A) → cut_last cmp c ≡ Some t → cell_at made (place t) ≡ Some t
         up t e = there t (by (depth c == 0) e)
@@ -150,9 +150,8 @@ module _ {A : Type 0} {cmp : A → A → Ordering} (total : IsTotalOrder cmp) (a
             by true e = cc
             by false e = subst (λ x. is_node (eq_by_cmp cmp) rows x ≡ true) (some_same e) (node_fronts law rows c (depth c - 1) h)
 
-        go : (o : Option (Cell A)) → closure (eq_by_cmp cmp) rows c ≡ o → Some (renamed (cell_at made) (numbered_by c (node_of cmp measures rows c))) ≡ option_map (renamed (λ d. Some d)) (node_of cmp measures rows c)
-        go None e = let bad : None ≡ Some c = sym (ap (option_map (cell_front (depth c))) e) ∙ (is_node-is law rows c).0 h in cc
-        go (Some u) e = subst (λ o. Some (renamed (cell_at made) (numbered_by c o)) ≡ option_map (renamed (λ d. Some d)) o) (sym is) (ap (λ x. Some x) (record_back place (cell_at made) n up first (λ x m. there x.target (target_node total anti measures rows c n h is x m))))
+        go : (u : Cell A) → closure (eq_by_cmp cmp) rows c ≡ Some u → Some (renamed (cell_at made) (numbered_by c (node_of cmp measures rows c))) ≡ option_map (renamed (λ d. Some d)) (node_of cmp measures rows c)
+        go u e = subst (λ o. Some (renamed (cell_at made) (numbered_by c o)) ≡ option_map (renamed (λ d. Some d)) o) (sym is) (ap (λ x. Some x) (record_back place (cell_at made) n up first (λ x m. there x.target (target_node total anti measures rows c n h is x m))))
           where
             n : Node A (Cell A)
             n = record_of cmp measures rows c u

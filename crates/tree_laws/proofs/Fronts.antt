@@ -1,9 +1,9 @@
 -- The fronts of cells, and cells with a value more.
-use Rattle.std.proofs.Common.{◌≡◌, ◌==◌, ℕ, zero, suc, ◌-◌, ◌≤◌, ◌<◌, nat_cmp, replicate, Bool, false, true, ◌&&◌, Option, Some, None, [], ◌∷◌, length, slice_get, refl, sym, ap, ◌∙◌, arith}
+use Rattle.std.proofs.Common.{◌≡◌, ◌==◌, ℕ, zero, suc, ◌-◌, ◌≤◌, ◌<◌, nat_cmp, nat_eq, replicate, Bool, false, true, ◌&&◌, Option, Some, None, [], ◌∷◌, length, slice_get, refl, sym, ap, ◌∙◌, arith}
 use Rattle.std.proofs.lemmas.Bool.{and_parts, and_from, cond-false}
 use Rattle.cube_defs.specs.Cell.{Cell, entry_leq, leq, entry_meet, meet, depth, one_deeper, cell_front, upto, with_value}
 use Rattle.cube_defs.specs.Tree.{cut_last}
-use Rattle.cube_laws.proofs.Cells.{IsEquality, leq_refl, depth-cell_front_zero, one_deeper-le}
+use Rattle.cube_laws.proofs.Cells.{IsEquality, leq_refl, cell_front-depth, cell_front_zero, depth-cell_front_zero, one_deeper-le}
 use Rattle.cube_laws.proofs.Columns.{one_value}
 
 pub shallower : {A : Type 0} (e : Option A) (n i : ℕ) → one_deeper e n ≤ suc i → n ≤ i
@@ -141,6 +141,15 @@ cell_front-with_value (e ∷ p) (suc i) v h = ap (λ x. e ∷ x) (cell_front-wit
 pub depth-any : (n : ℕ) → depth (replicate {A = Option ℕ} n None) ≡ 0
 depth-any zero = refl
 depth-any (suc n) = ap (one_deeper {A = ℕ} None) (depth-any n)
+
+-- a cell without values
+pub flat_is : {A : Type 0} (c : Cell A) → depth c ≡ 0 → c ≡ replicate (length c) None
+flat_is c h = sym (cell_front-depth c) ∙ ap (λ n. cell_front n c) h ∙ cell_front_zero c
+
+pub any_below : (n : ℕ) (t : Cell ℕ) → n ≡ length t → leq nat_eq (replicate n None) t ≡ true
+any_below zero t e = refl
+any_below (suc n) [] e = absurd (omega arith)
+any_below (suc n) (x ∷ t) e = any_below n t (omega arith)
 
 -- what cutting off the last value leaves
 pub cut_some : (p : Cell ℕ) (i : ℕ) → depth p ≡ suc i → cut_last nat_cmp p ≡ Some (cell_front i p)

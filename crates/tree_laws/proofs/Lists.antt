@@ -10,6 +10,10 @@ use Rattle.cube_laws.specs.Lists.{Among}
 pub some_same : {X : Type 0} {x y : X} → Some x ≡ Some y → x ≡ y
 some_same h = cc
 
+-- a value is not Any
+pub not_any : {X : Type 0} {x : X} → Some (Some x) ≡ Some None → ⊥
+not_any h = cc
+
 pub filter_map_same : {X Y : Type 0} (f g : X → Option Y) (xs : List X) → ((x : X) → f x ≡ g x) → filter_map f xs ≡ filter_map g xs
 filter_map_same f g [] h = refl
 filter_map_same f g (x ∷ xs) h = ap₂ cons_option (h x) (filter_map_same f g xs h)
@@ -51,3 +55,11 @@ there tree k c h = go (map.get tree k) h
     go : (o : Option (Node ℕ ℕ)) → option_map (λ n. n.cell) o ≡ Some c → IsSome o
     go None e = cc
     go (Some n) e = refl
+
+-- the record of a number that has a cell
+pub cell_record : {A : Type 0} (tree : Tree A) (k : ℕ) (c : Cell A) → cell_at tree k ≡ Some c → (n : Node A ℕ) × (map.get tree k ≡ Some n) × (n.cell ≡ c)
+cell_record {A} tree k c h = go (map.get tree k) refl h
+  where
+    go : (o : Option (Node A ℕ)) → map.get tree k ≡ o → option_map (λ n. n.cell) o ≡ Some c → (n : Node A ℕ) × (map.get tree k ≡ Some n) × (n.cell ≡ c)
+    go None q e = cc
+    go (Some n) q e = (n, q, some_same e)

@@ -1,5 +1,5 @@
 -- Coded rows have as many classes, nodes and edges of both kinds as the rows.
-use Rattle.std.proofs.Common.{◌≡◌, ℕ, ◌-◌, ◌==◌, Bool, true, false, cond, not, Option, Some, None, List, map, filter, length, slice_get, refl, sym, ap, subst, ◌∙◌, ◌+◌, arith, sum}
+use Rattle.std.proofs.Common.{◌≡◌, ℕ, ◌-◌, ◌==◌, Bool, true, false, cond, not, Some, None, List, map, filter, length, slice_get, refl, sym, ap, subst, ◌∙◌, ◌+◌, arith, sum}
 use Rattle.std.specs.declared.cmp.Ordering.{Ordering}
 use Rattle.std.specs.Ordering.{eq_by_cmp}
 use Rattle.std.specs.Cmp.{IsTotalOrder}
@@ -7,13 +7,13 @@ use Rattle.std.specs.FinMap.{IsAntisymmetric}
 use Rattle.std.specs.List.{count_by, sum_by}
 use Rattle.std.specs.Option.{option_map, option_eq}
 use Rattle.cube_defs.specs.Cell.{Cell, depth, cell_front, with_value, cell_eq}
-use Rattle.cube_defs.specs.Rows.{Row, closure, is_node, is_class}
+use Rattle.cube_defs.specs.Rows.{Row, is_node, is_class}
 use Rattle.cube_defs.specs.Tree.{Edge, Node, node_of, next_value, tree, tree_edges, links, classes, nodes, covered, cut_last}
 use Rattle.cube_laws.specs.Lists.{Among}
 use Rattle.cube_laws.specs.Recoding.{coded_cell, coded_row, TellsApart, AreKnown, RowsAreKnown}
 use Rattle.cube_laws.proofs.Lists.{among_map, map_among, filter_among}
 use Rattle.cube_laws.proofs.Cells.{IsEquality}
-use Rattle.cube_laws.proofs.Nodes.{is_node-is}
+use Rattle.cube_laws.proofs.Nodes.{node_closed}
 use Rattle.cube_laws.proofs.Orders.{equality_by}
 use Rattle.cube_laws.proofs.Recoded.{coded-apart, option_eq-coded}
 use Rattle.cube_laws.proofs.RecodedRows.{known-cell_front}
@@ -115,7 +115,7 @@ module _ {A B : Type 0} {cmp : A → A → Ordering} {cmp' : B → B → Orderin
           ∙ under-coded n.cell x.target (subst (AreKnown known 0) (sym cell) kp) (known-target total anti total' anti' tells rows h p x.dim x.value x.target (label x k).leads)))
 
   record_weight : (test : Bool → Bool) (p : Cell A) → Among p (nodes cmp rows) → or_nothing (weight cmp' test) (node_of cmp' 0 (map (coded_row codes) rows) (coded_cell codes 0 p)) ≡ or_nothing (weight cmp test) (node_of cmp 0 rows p)
-  record_weight test p m = go (closure (eq_by_cmp cmp) rows p) refl
+  record_weight test p m = let u = node_closed law rows p f.1 in by (record_of cmp 0 rows p u.0) (ap (option_map (λ u. record_of cmp 0 rows p u)) u.1) refl
     where
       f : Among p (covered cmp rows) × (is_node (eq_by_cmp cmp) rows p ≡ true)
       f = filter_among (is_node (eq_by_cmp cmp) rows) p (covered cmp rows) m
@@ -127,10 +127,6 @@ module _ {A B : Type 0} {cmp : A → A → Ordering} {cmp' : B → B → Orderin
       by n is cell =
           let r = record-coded total anti total' anti' tells rows h 0 p kp n f.1 is in
           ap (or_nothing (weight cmp' test)) r.1 ∙ weight-coded test p kp n f.1 is r.0 r.1 r.2 cell ∙ ap (or_nothing (weight cmp test)) (sym is)
-
-      go : (o : Option (Cell A)) → closure (eq_by_cmp cmp) rows p ≡ o → or_nothing (weight cmp' test) (node_of cmp' 0 (map (coded_row codes) rows) (coded_cell codes 0 p)) ≡ or_nothing (weight cmp test) (node_of cmp 0 rows p)
-      go None e = let bad : None ≡ Some p = sym (ap (option_map (cell_front (depth p))) e) ∙ (is_node-is law rows p).0 f.1 in cc
-      go (Some u) e = by (record_of cmp 0 rows p u) (ap (option_map (λ u. record_of cmp 0 rows p u)) e) refl
 
   weight_sum : {X : Type 0} (order : X → X → Ordering) (test : Bool → Bool) (some : List (Row X)) → sum (map (weight order test) (tree order 0 some)) ≡ sum_by (λ c. or_nothing (weight order test) (node_of order 0 some c)) (nodes order some)
   weight_sum order test some = sum_by-map (λ x. x) (weight order test) (tree order 0 some) ∙ sum_by-filter_map (weight order test) (node_of order 0 some) (nodes order some)

@@ -1,6 +1,6 @@
 -- One step of a search, from the front of a closure to the next.
-use Rattle.std.proofs.Common.{◌≡◌, inl, inr, ℕ, zero, suc, ◌<◌, Bool, true, false, cond, ◌&&◌, Option, Some, None, List, [], ◌∷◌, map, length, slice_get, refl, sym, ap, ap₂, subst, ◌∙◌, arith, nat_eq, eqb-true, eq-eqb, true≢false}
-use Rattle.std.proofs.lemmas.Bool.{and_parts, and_from, cond-true, cond-false, false_from_ne_true}
+use Rattle.std.proofs.Common.{◌≡◌, inl, inr, ℕ, zero, suc, ◌<◌, Bool, true, false, cond, Option, Some, None, List, [], ◌∷◌, length, slice_get, refl, sym, ap, ap₂, subst, ◌∙◌, arith, nat_eq, eqb-true, eq-eqb, true≢false}
+use Rattle.std.proofs.lemmas.Bool.{cond-true, cond-false, false_from_ne_true}
 use Rattle.std.specs.declared.cmp.Ordering.{Ordering}
 use Rattle.std.specs.Ordering.{eq_by_cmp}
 use Rattle.std.specs.Cmp.{IsTotalOrder}
@@ -19,38 +19,14 @@ use Rattle.tree_laws.proofs.Fronts.{depth-cell_front-le, upto-entry, upto-none}
 use Rattle.tree_laws.proofs.Nexts.{next-chain, before-next}
 use Rattle.tree_laws.proofs.Leads.{closure_between, closure_with, leq-chain}
 use Rattle.tree_laws.proofs.Edges.{edges-are, forced_lead, only_forced}
+use Rattle.tree_laws.proofs.Targets.{target_none, target_some, target-renamed}
 
 module _ {A : Type 0} {eq : A → A → Bool} (law : IsEquality eq) where
-  module _ {T : Type 0} (i : ℕ) (v : A) where
-    matches : (x : Edge A T) → (nat_eq x.dim i && eq x.value v) ≡ true → (x.dim ≡ i) × (x.value ≡ v)
-    matches x h = let p = and_parts (nat_eq x.dim i) (eq x.value v) h in (eqb-true x.dim i p.0, law.exact x.value v p.1)
-
-    target_none : (xs : List (Edge A T)) → ((x : Edge A T) → Among x xs → x.dim ≡ i → x.value ≡ v → ⊥) → target_at eq i v xs ≡ None
-    target_none [] f = refl
-    target_none (x ∷ xs) f = cond-false _ _ _ (false_from_ne_true _ (λ h. let m = matches x h in f x (inl refl) m.0 m.1)) ∙ target_none xs (λ y m. f y (inr m))
-
-    target_some : (t : T) (xs : List (Edge A T)) → ((x : Edge A T) → Among x xs → x.dim ≡ i → x.value ≡ v → x.target ≡ t) → Among (record { dim = i; value = v; target = t }) xs → target_at eq i v xs ≡ Some t
-    target_some t [] f m = absurd m
-    target_some t (x ∷ xs) f m = go (target_some t xs (λ y k. f y (inr k))) (nat_eq x.dim i && eq x.value v) refl m
-      where
-        go : (Among (record { dim = i; value = v; target = t }) xs → target_at eq i v xs ≡ Some t) → (b : Bool) → (nat_eq x.dim i && eq x.value v) ≡ b → Among (record { dim = i; value = v; target = t }) (x ∷ xs) → cond b (Some x.target) (target_at eq i v xs) ≡ Some t
-        go more true e k = let m = matches x e in ap (λ y. Some y) (f x (inl refl) m.0 m.1)
-        go more false e (inl k) = absurd (true≢false (sym (and_from _ _ (eq-eqb x.dim i (ap (λ y. y.dim) (sym k))) (subst (λ y. eq y v ≡ true) (ap (λ y. y.value) k) (law.same v))) ∙ e))
-        go more false e (inr k) = more k
-
   -- a step under other names
   module _ {S T : Type 0} (name : S → T) where
-    target-renamed : (i : ℕ) (v : A) (xs : List (Edge A S)) → target_at eq i v (map (renamed_edge name) xs) ≡ option_map name (target_at eq i v xs)
-    target-renamed i v [] = refl
-    target-renamed i v (x ∷ xs) = go (nat_eq x.dim i && eq x.value v) (target-renamed i v xs)
-      where
-        go : (b : Bool) → target_at eq i v (map (renamed_edge name) xs) ≡ option_map name (target_at eq i v xs) → cond b (Some (name x.target)) (target_at eq i v (map (renamed_edge name) xs)) ≡ option_map name (cond b (Some x.target) (target_at eq i v xs))
-        go true more = refl
-        go false more = more
-
     entry-renamed : (k : S) (n : Node A S) (i : ℕ) (a : Option A) → by_entry eq (name k) (renamed name n) i a ≡ option_map name (by_entry eq k n i a)
     entry-renamed k n i None = refl
-    entry-renamed k n i (Some v) = target-renamed i v n.edges
+    entry-renamed k n i (Some v) = target-renamed law name i v n.edges
 
     child-renamed : (x : Edge A S) (a : Option A) → to_child eq (renamed_edge name x) a ≡ option_map name (to_child eq x a)
     child-renamed x None = refl

@@ -19,7 +19,7 @@ use Rattle.cube_laws.proofs.Covered.{covered-is, covered_some, closure_length}
 use Rattle.std.specs.Cmp.{both_ways}
 use Rattle.std.proofs.lemmas.List.{length-map}
 use Rattle.cube_laws.proofs.Columns.{one_value, one_value-leq}
-use Rattle.cube_laws.proofs.Nodes.{nodes-is, is_node-is, class_fronts, front_of_class}
+use Rattle.cube_laws.proofs.Nodes.{nodes-is, class_fronts, front_of_class, node_closed}
 use Rattle.cube_laws.proofs.Orders.{equality_by}
 use Rattle.tree_laws.specs.Labels.{target_of_label, IsLabel, record_of}
 use Rattle.tree_laws.specs.Counts.{is_under}
@@ -177,16 +177,11 @@ module _ {A : Type 0} {cmp : A → A → Ordering} (total : IsTotalOrder cmp) (a
 
   weight_is : (p : Cell A) → Among p (nodes cmp rows) → or_nothing weight (node_of cmp 0 rows p) ≡ sum_by (λ c. cond (is_under cmp p (Some c)) 1 0) (nodes cmp rows)
   unfolding weight
-  weight_is p m = go (closure (eq_by_cmp cmp) rows p) refl
-    where
-      node : is_node (eq_by_cmp cmp) rows p ≡ true
-      node = (nodes-is total anti dims rows wide p).0 m
-
-      go : (o : Option (Cell A)) → closure (eq_by_cmp cmp) rows p ≡ o → or_nothing weight (node_of cmp 0 rows p) ≡ sum_by (λ c. cond (is_under cmp p (Some c)) 1 0) (nodes cmp rows)
-      go None e = let bad : None ≡ Some p = sym (ap (option_map (cell_front (depth p))) e) ∙ (is_node-is law rows p).0 node in cc
-      go (Some u) e =
-          let is : node_of cmp 0 rows p ≡ Some (record_of cmp 0 rows p u) = ap (option_map (λ u. record_of cmp 0 rows p u)) e in
-          ap (or_nothing weight) is ∙ as_many p (record_of cmp 0 rows p u) node is
+  weight_is p m =
+      let node = (nodes-is total anti dims rows wide p).0 m in
+      let u = node_closed law rows p node in
+      let is : node_of cmp 0 rows p ≡ Some (record_of cmp 0 rows p u.0) = ap (option_map (λ u. record_of cmp 0 rows p u)) u.1 in
+      ap (or_nothing weight) is ∙ as_many p (record_of cmp 0 rows p u.0) node is
 
   -- a node lies under one node, but for the root
   under_one : (c : Cell A) → Among c (nodes cmp rows) → sum_by (λ p. cond (is_under cmp p (Some c)) 1 0) (nodes cmp rows) ≡ cond (depth c == 0) 0 1

@@ -6,17 +6,17 @@ use Rattle.std.specs.Cmp.{IsTotalOrder}
 use Rattle.std.specs.FinMap as map
 use Rattle.std.specs.List.{AllByRecursion}
 use Rattle.std.specs.Option.{option_map, option_and_then}
-use Rattle.cube_defs.specs.Cell.{Cell, depth, cell_front}
+use Rattle.cube_defs.specs.Cell.{Cell, cell_front}
 use Rattle.cube_defs.specs.Rows.{Row, closure, is_node}
 use Rattle.cube_defs.specs.Tree.{Node, Tree, IsCanonical, node_of, cell_at, renamed}
 use Rattle.cube_laws.proofs.Cells.{IsEquality, cell_front-leq, cell_front_zero, depth-le}
 use Rattle.cube_laws.proofs.Closures.{closure_some, closure_idem, is_class-is}
 use Rattle.cube_laws.proofs.Covered.{closure_length}
-use Rattle.cube_laws.proofs.Nodes.{is_node-is, class_fronts}
+use Rattle.cube_laws.proofs.Nodes.{class_fronts, node_closed}
 use Rattle.cube_laws.proofs.Orders.{equality_by}
 use Rattle.tree_laws.specs.Labels.{record_of}
 use Rattle.tree_laws.specs.Walk.{walk_on, walk, closure_front}
-use Rattle.tree_laws.proofs.Lists.{some_same}
+use Rattle.tree_laws.proofs.Lists.{cell_record, some_same}
 use Rattle.tree_laws.proofs.Fronts.{cell_front-beyond}
 use Rattle.tree_laws.proofs.Steps.{step, front_closure, walk_on-renamed}
 
@@ -115,18 +115,10 @@ module _ {A : Type 0} {cmp : A → A → Ordering} (total : IsTotalOrder cmp) (a
 
   -- from the root's number
   pub walk_found : (k : ℕ) (c : Cell A) → length c ≡ dims → cell_at tree k ≡ Some (replicate dims None) → option_map (cell_at tree) (walk (eq_by_cmp cmp) tree c k 0) ≡ option_map (λ u. Some u) (closure (eq_by_cmp cmp) rows c)
-  walk_found k c long at = go (closure (eq_by_cmp cmp) rows (cell_front 0 c)) refl
-    where
-      node : is_node (eq_by_cmp cmp) rows (cell_front 0 c) ≡ true
-      node = by (map.get tree k) refl
-        where
-          by : (r : Option (Node A ℕ)) → map.get tree k ≡ r → is_node (eq_by_cmp cmp) rows (cell_front 0 c) ≡ true
-          by None g = let none : cell_at tree k ≡ None = ap (option_map (λ n. n.cell)) g in cc
-          by (Some n) g = let s : cell_at tree k ≡ Some n.cell = ap (option_map (λ n. n.cell)) g in subst (λ p. is_node (eq_by_cmp cmp) rows p ≡ true) (some_same (sym s ∙ at) ∙ sym (root c long)) (canonical.each k n g).0
-
-      go : (o : Option (Cell A)) → closure (eq_by_cmp cmp) rows (cell_front 0 c) ≡ o → option_map (cell_at tree) (walk (eq_by_cmp cmp) tree c k 0) ≡ option_map (λ u. Some u) (closure (eq_by_cmp cmp) rows c)
-      go None e = let bad : None ≡ Some (cell_front 0 c) = sym (ap (option_map (cell_front (depth (cell_front 0 c)))) e) ∙ (is_node-is law rows (cell_front 0 c)).0 node in cc
-      go (Some u) e = walk_rest c c 0 k (replicate dims None) long refl at (root_front c long u e)
+  walk_found k c long at =
+      let n = cell_record tree k (replicate dims None) at in
+      let u = node_closed law rows (cell_front 0 c) (subst (λ p. is_node (eq_by_cmp cmp) rows p ≡ true) (n.2 ∙ sym (root c long)) (canonical.each k n.0 n.1).0) in
+      walk_rest c c 0 k (replicate dims None) long refl at (root_front c long u.0 u.1)
 
   -- without a root nothing is covered
   pub no_root : (c : Cell A) → length c ≡ dims → ((k : ℕ) → cell_at tree k ≢ Some (replicate dims None)) → closure (eq_by_cmp cmp) rows c ≡ None
