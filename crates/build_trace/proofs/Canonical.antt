@@ -11,7 +11,7 @@ use Rattle.cube_laws.proofs.Cells.{nat_equality, cell_front-depth, length-cell_f
 use Rattle.cube_laws.proofs.Lists.{all_at}
 use Rattle.cube_laws.proofs.Covered.{closure_length}
 use Rattle.cube_laws.proofs.Closures.{is_class-is}
-use Rattle.cube_laws.proofs.Nodes.{is_node-is, class_fronts}
+use Rattle.cube_laws.proofs.Nodes.{is_node-is, class_fronts, node_closed}
 use Rattle.tree_laws.proofs.Fronts.{depth-cell_front-le}
 use Rattle.tree_laws.proofs.Sums.{EachOnce}
 use Rattle.cube_laws.proofs.Shared.{IsShared, HaveDims, closure-shared}
@@ -22,7 +22,6 @@ use Rattle.build_trace.specs.Follows.{Follows}
 use Rattle.build_trace.proofs.Fronts.{zero_front}
 use Rattle.build_trace.proofs.Visits.{Visit.{Made}, visits_of, add_visit, visit_add}
 use Rattle.build_trace.proofs.Visited.{IsVisit}
-use Rattle.build_trace.proofs.Links.{node_parts}
 use Rattle.build_trace.proofs.Record.{all_visits, shared_long, node_read}
 
 no_or_some : (d : ℕ) → (d ≡ 0) ⊎ (0 < d)
@@ -42,7 +41,7 @@ module _ (measures n : ℕ) (table : List (Row ℕ)) (all_long : HaveDims n tabl
           (is_node-is nat_equality table q).1 (ap (option_map (cell_front (depth q))) g.closure ∙ ap (λ c. Some c) g.kind.front)
     ],
     λ h.
-        let p : (c : Cell ℕ) × (closure nat_eq table q ≡ Some c) × (cell_front (depth q) c ≡ q) = node_parts table q h in
+        let p : (c : Cell ℕ) × (closure nat_eq table q ≡ Some c) × (cell_front (depth q) c ≡ q) = node_closed nat_equality table q h in
         let l : length q ≡ n = sym (ap length p.2) ∙ length-cell_front (depth q) p.0 ∙ closure_length nat_eq n q p.0 table all_long p.1 in
         let root : cell_front 0 q ≡ cell_front 0 (shared_by table) = zero_front q (shared_by table) (l ∙ sym (shared_long measures n table all_long shared)) in
         elim (no_or_some (depth q)) [
@@ -64,7 +63,7 @@ module _ (measures n : ℕ) (table : List (Row ℕ)) (all_long : HaveDims n tabl
 
   pub read_node : (q : Cell ℕ) → is_node nat_eq table q ≡ true → node_of nat_cmp measures table q ≡ Some (read (trace measures n table) q)
   read_node q h =
-      let p : (c : Cell ℕ) × (closure nat_eq table q ≡ Some c) × (cell_front (depth q) c ≡ q) = node_parts table q h in
+      let p : (c : Cell ℕ) × (closure nat_eq table q ≡ Some c) × (cell_front (depth q) c ≡ q) = node_closed nat_equality table q h in
       node_read measures n table all_long shared q p.0 p.1 p.2
 
   node_test : (q : Cell ℕ) → is_node (eq_by_cmp nat_cmp) table q ≡ is_node nat_eq table q

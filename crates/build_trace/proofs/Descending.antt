@@ -17,8 +17,8 @@ use Rattle.tree_laws.specs.Edges.{edge_cmp}
 use Rattle.cube_laws.proofs.Numbers.{nat_total, nat_anti, less_below}
 use Rattle.cube_laws.proofs.Shared.{IsShared, HaveDims}
 use Rattle.cube_laws.specs.Parting.{shared_by}
+use Rattle.cube_laws.proofs.Nodes.{node_closed}
 use Rattle.build_trace.specs.Trace.{Act, Act.{Add, Label}, trace, labels_of}
-use Rattle.build_trace.proofs.Links.{node_parts}
 use Rattle.build_trace.proofs.Steps.{labels_append}
 use Rattle.build_trace.proofs.Record.{labels_are_edges}
 use Rattle.build_trace.proofs.Canonical.{adds_are}
@@ -54,7 +54,7 @@ module _ (measures n : ℕ) (table : List (Row ℕ)) (all_long : HaveDims n tabl
   all_ascend : (q : Cell ℕ) → is_node nat_eq table q ≡ true → IsStrictlySortedBy (edge_cmp nat_cmp) (labels_of q (trace measures n table))
   unfolding IsStrictlySortedBy
   all_ascend q h =
-      let p : (c : Cell ℕ) × (closure nat_eq table q ≡ Some c) × (cell_front (depth q) c ≡ q) = node_parts table q h in
+      let p : (c : Cell ℕ) × (closure nat_eq table q ≡ Some c) × (cell_front (depth q) c ≡ q) = node_closed nat_equality table q h in
       subst (IsStrictlySortedBy (edge_cmp nat_cmp)) (sym (labels_are_edges measures n table all_long shared q p.0 p.1 p.2)) (edges_rise nat_total nat_anti measures table q p.0 (next_value nat_cmp (depth q) p.0))
 
   -- at each place of the trace a node's labels rise

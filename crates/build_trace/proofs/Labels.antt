@@ -6,7 +6,6 @@ use Rattle.std.proofs.lemmas.Bool.{and_parts, and_from}
 use Rattle.cube_defs.specs.Cell.{Cell, leq, entry_leq, cell_front, upto, with_value, cell_of}
 use Rattle.cube_defs.specs.Rows.{Row, covers, cov, closure, meet_all}
 use Rattle.cube_defs.specs.Tree.{Edge, distinct, edges_in}
-use mathlib.Core.Path.{fun_ext}
 use Rattle.cube_laws.specs.Lists.{Among}
 use Rattle.cube_laws.specs.Tuples.{cells_of}
 use Rattle.cube_laws.proofs.Cells.{nat_equality, leq_trans, leq_refl}

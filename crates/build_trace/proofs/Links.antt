@@ -1,16 +1,14 @@
 -- Rows that are all that a front covers, and their parts.
-use Rattle.std.proofs.Common.{◌≡◌, ℕ, zero, suc, ◌<◌, Bool, true, false, cond, Option, Some, None, List, [], ◌∷◌, filter, length, nat_eq, slice_index_or, refl, sym, ap, subst, ◌∙◌, arith, true≢false, eqb-true, eq-eqb}
-use Rattle.std.specs.Option.{option_map}
+use Rattle.std.proofs.Common.{◌≡◌, ℕ, zero, suc, ◌<◌, Bool, true, false, cond, Some, List, [], ◌∷◌, filter, length, nat_eq, slice_index_or, refl, sym, ap, subst, ◌∙◌, arith, true≢false, eqb-true, eq-eqb}
 use Rattle.std.specs.List.{AllByRecursion}
 use Rattle.std.proofs.lemmas.Bool.{and_parts, and_from}
-use Rattle.cube_defs.specs.Cell.{Cell, leq, entry_leq, cell_front, depth, cell_of}
-use Rattle.cube_defs.specs.Rows.{Row, covers, cov, closure, meet_all, is_node}
+use Rattle.cube_defs.specs.Cell.{Cell, leq, entry_leq, cell_front, cell_of}
+use Rattle.cube_defs.specs.Rows.{Row, covers, cov, closure, meet_all}
 use Rattle.cube_laws.specs.Tuples.{cells_of}
 use Rattle.cube_laws.proofs.Cells.{nat_equality, cell_front-leq, leq_trans, leq_antisymm}
 use Rattle.cube_laws.proofs.Lists.{all_map, filter_filter}
 use Rattle.cube_laws.proofs.Covered.{closure_length}
 use Rattle.cube_laws.proofs.Closures.{closure_some, closure_mono, closure_idem, cov-closure}
-use Rattle.cube_laws.proofs.Nodes.{is_node-is}
 use Rattle.tree_laws.proofs.Fronts.{cell_front-cell_front}
 use Rattle.cube_laws.proofs.Shared.{IsShared, HaveDims, entry, closure-shared}
 use Rattle.cube_laws.specs.Parting.{code_in, part_at}
@@ -34,14 +32,6 @@ filter_pair p q r (x ∷ xs) f g = go (filter_pair p q r xs f g.1) (p x) (q x) (
     go more false true true i j l = absurd (true≢false (sym (g.0 j l) ∙ i))
     go more false true false i j l = more ∙ sym (ap (λ d. cond d (x ∷ filter r (filter q xs)) (filter r (filter q xs))) l)
     go more false false c i j l = more
-
--- a node's closure, and that the node is its front
-pub node_parts : (table : List (Row ℕ)) (q : Cell ℕ) → is_node nat_eq table q ≡ true → (c : Cell ℕ) × (closure nat_eq table q ≡ Some c) × (cell_front (depth q) c ≡ q)
-node_parts table q h = go (closure nat_eq table q) refl ((is_node-is nat_equality table q).0 h)
-  where
-    go : (o : Option (Cell ℕ)) → closure nat_eq table q ≡ o → option_map (cell_front (depth q)) (closure nat_eq table q) ≡ Some q → (c : Cell ℕ) × (closure nat_eq table q ≡ Some c) × (cell_front (depth q) c ≡ q)
-    go None e h = absurd (let g : None ≡ Some q = sym (ap (option_map (cell_front (depth q))) e) ∙ h in cc)
-    go (Some c) e h = let g : Some (cell_front (depth q) c) ≡ Some q = sym (ap (option_map (cell_front (depth q))) e) ∙ h in (c, e, cc)
 
 module _ (n : ℕ) (table : List (Row ℕ)) (all_long : HaveDims n table) where
   pub cov_long : (c : Cell ℕ) → HaveDims n (cov nat_eq table c)

@@ -10,7 +10,7 @@ use Rattle.cube_laws.proofs.Cells.{nat_equality, cell_eq-exact, cell_eq-same}
 use Rattle.cube_laws.proofs.Lists.{all_at, among_left}
 use Rattle.cube_laws.proofs.Covered.{closure_length}
 use Rattle.cube_laws.proofs.Closures.{is_class-is}
-use Rattle.cube_laws.proofs.Nodes.{class_fronts}
+use Rattle.cube_laws.proofs.Nodes.{class_fronts, node_closed}
 use Rattle.tree_laws.proofs.Fronts.{cell_front-cell_front}
 use Rattle.cube_laws.proofs.Shared.{IsShared, HaveDims, entry, closure-shared}
 use Rattle.cube_laws.specs.Parting.{shared_by, part_at, codes_in}
@@ -23,7 +23,7 @@ use Rattle.build_trace.proofs.Parting.{has_code, dims_filter, part_entry, shared
 use Rattle.build_trace.proofs.Visits.{Visit.{Made}, visit_at, visit, visit_add, at_visits, acts_visits}
 use Rattle.build_trace.proofs.Visited.{IsVisit, AreVisits, visits}
 use Rattle.build_trace.proofs.Differs.{Differs, first_difference}
-use Rattle.build_trace.proofs.Links.{long, u_length, whole_next, within, front_low, w_code, w_class, w_length, part_whole, node_parts}
+use Rattle.build_trace.proofs.Links.{long, u_length, whole_next, within, front_low, w_code, w_class, w_length, part_whole}
 use Rattle.build_trace.proofs.Record.{root_whole}
 
 -- lists
@@ -223,7 +223,7 @@ module _ (measures n : ℕ) (table : List (Row ℕ)) (all_long : HaveDims n tabl
       where
         new : cell_front k q ≡ cell_front k u → entry q k ≡ Some x → There (done ++ acts_at (acts measures m (suc k)) k u None rows) q
         new e some =
-            let p : (c : Cell ℕ) × (closure nat_eq table q ≡ Some c) × (cell_front (depth q) c ≡ q) = node_parts table q node in
+            let p : (c : Cell ℕ) × (closure nat_eq table q ≡ Some c) × (cell_front (depth q) c ≡ q) = node_closed nat_equality table q node in
             let deep : k < depth q = depth_beyond k x q some in
             let rows_long : HaveDims n rows = long n table all_long k lt rows u shared whole in
             let among = now.all (Made q) (record { class = p.0; closure = within n table all_long k lt rows u shared whole q (front_low n table all_long k lt rows u shared whole q e) ∙ p.1; front = e; kind = record { front = p.2; deep = deep } }) in
