@@ -6,6 +6,7 @@ use Rattle.std.proofs.lemmas.List.{get_or-set_other, get_or-set_same}
 use Rattle.std.specs.FinMap as map
 use Rattle.std.specs.List.{AllByRecursion, range_with_len}
 use Rattle.std.specs.Ordering.{nat_cmp, eq_by_cmp}
+use Rattle.std.proofs.Math.Bool.{and-false}
 use Rattle.cube_defs.specs.Answers.{lower_bounds}
 use Rattle.cube_defs.specs.Cell.{Cell, leq}
 use Rattle.cube_defs.specs.Rows.{Row, closure, is_lower_bound}
@@ -78,11 +79,7 @@ module _ (source : TreeRows) (u : Cell ℕ) where
         go k true e = ap not (sym (below (turned m k) (turned_below m k e)))
 
     pub no_bound : is_least marks (value_count u) m ≡ false → false ≡ bounds source u m
-    no_bound e = sym (bound_is ∙ ap (λ b. closes source u m && b) e ∙ and_false (closes source u m))
-      where
-        and_false : (b : Bool) → (b && false) ≡ false
-        and_false true = refl
-        and_false false = refl
+    no_bound e = sym (bound_is ∙ ap (λ b. closes source u m && b) e ∙ and-false (closes source u m))
 
     pub is_bound : closes source u m ≡ true → is_least marks (value_count u) m ≡ true → true ≡ bounds source u m
     is_bound c e = sym (bound_is ∙ ap₂ (λ x y. x && y) c e)

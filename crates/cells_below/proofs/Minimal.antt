@@ -2,7 +2,7 @@
 use Rattle.std.proofs.Common.{◌≡◌, ◌≢◌, ℕ, suc, ◌+◌, Bool, true, false, not, ◌&&◌, ◌||◌, Option, Some, None, [], ◌∷◌, ◌++◌, length, refl, sym, ap, ap₂, ◌∙◌, arith}
 use Rattle.std.specs.Prelude.{if◌then◌else◌, is_none, slice_index_or}
 use Rattle.std.specs.List.{list_all, range_with_len}
-use Rattle.std.proofs.Math.Bool.{and_comm}
+use Rattle.std.proofs.Math.Bool.{and_comm, and-true}
 use Rattle.std.proofs.lemmas.List.Folds.{list_all-append}
 use Rattle.cube_defs.specs.Cell.{Cell, without}
 use Rattle.cells_below.specs.Numbers.{cell_of_number, has_bit, turned}
@@ -61,8 +61,4 @@ module _ {A : Type 0} where
       (list_all (λ k. not (has_bit m k) || not (p (cell_of_number (Some v ∷ u) (turned m k)))) (range_with_len 0 (value_count u)))
       ∙ sym (ap (list_all (λ k. not (has_bit m k) || not (p (cell_of_number (Some v ∷ u) (turned m k))))) last
       ∙ list_all-append (λ k. not (has_bit m k) || not (p (cell_of_number (Some v ∷ u) (turned m k)))) (range_with_len 0 (value_count u)) (value_count u ∷ [])
-      ∙ ap (λ b. list_all (λ k. not (has_bit m k) || not (p (cell_of_number (Some v ∷ u) (turned m k)))) (range_with_len 0 (value_count u)) && b) (and_true _))
-    where
-      and_true : (b : Bool) → (b && true) ≡ b
-      and_true true = refl
-      and_true false = refl
+      ∙ ap (λ b. list_all (λ k. not (has_bit m k) || not (p (cell_of_number (Some v ∷ u) (turned m k)))) (range_with_len 0 (value_count u)) && b) (and-true _))
