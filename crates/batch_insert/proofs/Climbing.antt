@@ -9,6 +9,7 @@ use Rattle.std.specs.Option.{option_map, option_and_then}
 use Rattle.cube_defs.specs.Cell.{Cell, depth, cell_front, leq, mask, meet, upto}
 use Rattle.cube_defs.specs.Tree.{Tree, cell_at}
 use Rattle.std.specs.Ordering.{eq_by_cmp}
+use Rattle.std.proofs.Math.Bool.{and-true}
 use Rattle.cube_defs.specs.Cell as tuples
 use Rattle.cube_defs.specs.Rows.{meet_after}
 use Rattle.cube_laws.proofs.Cells.{nat_equality, meet_comm, meet_of_leq, meet_right, cell_front-leq, length-cell_front, length-meet}
@@ -98,12 +99,8 @@ module _ (t : Cell ℕ) (a : Arena) (ready : IsReady a) (wide : length t ≡ a.w
         cell = (record_at a.now n).cell;
         at = cell_there a.now n there;
         common = omega (arith, h, z);
-        below = b ∙ ap (λ x. own && x) flat.1 ∙ and_true own;
+        below = b ∙ ap (λ x. own && x) flat.1 ∙ and-true own;
       }
-    where
-      and_true : (b : Bool) → (b && true) ≡ b
-      and_true true = refl
-      and_true false = refl
 
   at_chain : (k m : ℕ) (own : Bool) → Shares t a.now m own k → (mask (meet nat_eq (record_at a.now k).cell t) ≡ m) × (leq nat_eq (record_at a.now k).cell t ≡ own)
   at_chain k m own s = let c = cell_of a.now k s.cell s.at in (ap (λ x. mask (meet nat_eq x t)) c ∙ s.common, ap (λ x. leq nat_eq x t) c ∙ s.below)

@@ -3,7 +3,7 @@ use Rattle.std.proofs.Common.{◌≡◌, inl, inr, ℕ, suc, ◌+◌, ◌*◌, �
 use Rattle.std.proofs.lemmas.Bool.{cond-true, cond-false}
 use Rattle.std.proofs.lemmas.List.Sums.{sum_by-cons}
 use Rattle.std.specs.List.{cons_option, filter_map, sum_by}
-use Rattle.std.proofs.Math.Nat.{mul-add, pow-suc, pow-zero}
+use Rattle.std.proofs.Math.Nat.{mul-add}
 use Rattle.std.specs.Cmp.{nat_cmp_total}
 use Rattle.std.specs.Ordering.{eq_by_cmp}
 use Rattle.std.specs.Option.{option_map}
@@ -15,12 +15,13 @@ use Rattle.cube_defs.specs.Tree.{Edge, Node, node_of, nodes, size_below}
 use Rattle.cube_laws.specs.Lists.{Among}
 use Rattle.cube_laws.proofs.Cells.{cell_eq-exact, cell_eq-same}
 use Rattle.cube_laws.proofs.Lists.{among_filter, among_map, map_among}
-use Rattle.cube_laws.proofs.Nodes.{is_node-is, nodes-is}
+use Rattle.cube_laws.proofs.Nodes.{node_closed, nodes-is}
 use Rattle.cube_laws.proofs.Orders.{code_equality}
+use Rattle.cube_laws.proofs.Numbers.{square}
 use Rattle.tree_laws.specs.Labels.{record_of}
 use Rattle.tree_laws.proofs.Edges.{edges-are}
 use Rattle.tree_laws.proofs.Fronts.{depth-with_value, cell_front-beyond, cell_front-cell_front, cell_front-with_value}
-use Rattle.tree_laws.proofs.Lists.{some_same}
+use Rattle.tree_laws.proofs.Lists.{cell_record, some_same}
 use Rattle.tree_laws.proofs.Sums.{EachOnce, sum_ones, sum_within}
 use Rattle.qc_arena.specs.Map.{Arena, Known}
 use Rattle.qc_arena.specs.Seen.{record_at}
@@ -33,7 +34,6 @@ use Rattle.batch_insert.proofs.Counting.{rows_wide}
 use Rattle.tree_laws.proofs.EdgeLists.{Ascends, before_apart}
 use Rattle.batch_insert.proofs.Finished.{ascending}
 use Rattle.batch_insert.proofs.Fronts.{front_before, front_deep, front_leq, front_long}
-use Rattle.batch_insert.proofs.Keeping.{known}
 use Rattle.batch_insert.proofs.Labelled.{led_or_own, led_own, source_label, source_rises}
 use Rattle.batch_insert.proofs.Records.{new_is, next_front}
 use Rattle.batch_insert.proofs.Started.{node_of_front, record_known}
@@ -115,7 +115,7 @@ module _ (t : Cell ℕ) (a : Arena) (wide : length t ≡ a.width) (c : Case t a)
   -- the labels that are copied are labels of the node with the row
   pub copy_within : (x : Copying) (is : IsCopyOf c x) → copy_cost a.now x ≤ 1 + 2 * edges_at c is.node
   copy_within x is =
-      let r = known a.now x.from.0 (cell_front is.dim is.upper) is.from in
+      let r = cell_record a.now x.from.0 (cell_front is.dim is.upper) is.from in
       let le = no_more r.0.edges new (ascending r.0.edges (source_rises t a wide c is.node is.upper is.dim is.front is.closure x.from.0 r.0 r.1 r.2)) (λ y m. has r.0 r.1 r.2 y m) in
       let same : length (record_at a.now x.from.0).edges ≡ length r.0.edges = ap (λ (n : Known). length n.edges) (record_known a.now x.from.0 r.0 r.1) in
       let here : edges_at c is.node ≡ length new = ap edges_of (ap (option_map (λ u. record_of nat_cmp 0 (c.xs ++ c.row ∷ c.ys) is.node u)) (new_is t a wide c is.node front)) in
@@ -179,11 +179,8 @@ module _ (t : Cell ℕ) (a : Arena) (wide : length t ≡ a.width) (c : Case t a)
   there : (q : Cell ℕ) → Among q (nodes nat_cmp table) → (r : Node ℕ (Cell ℕ)) × (node_of nat_cmp 0 table q ≡ Some r) × (r.cell ≡ q)
   there q m =
       let node = (nodes-is nat_cmp_total finmap.nat_cmp-IsAntisymmetric a.width table (rows_wide t a wide c) q).0 m in
-      go (defs.closure (eq_by_cmp nat_cmp) table q) refl ((is_node-is code_equality table q).0 node)
-    where
-      go : (o : Option (Cell ℕ)) → defs.closure (eq_by_cmp nat_cmp) table q ≡ o → option_map (cell_front (depth q)) (defs.closure (eq_by_cmp nat_cmp) table q) ≡ Some q → (r : Node ℕ (Cell ℕ)) × (node_of nat_cmp 0 table q ≡ Some r) × (r.cell ≡ q)
-      go None e h = let z : None ≡ Some q = sym (ap (option_map (cell_front (depth q))) e) ∙ h in cc
-      go (Some u) e h = (record_of nat_cmp 0 table q u, ap (option_map (λ u. record_of nat_cmp 0 table q u)) e, refl)
+      let u = node_closed code_equality table q node in
+      (record_of nat_cmp 0 table q u.0, ap (option_map (λ u. record_of nat_cmp 0 table q u)) u.1, refl)
 
   size_is : sum_by (λ q. 1 + edges_at c q) (nodes_with c) ≡ size_below nat_cmp table c.row.tuple
   size_is = sized (nodes nat_cmp table) there (cell_of c.row.tuple) c.tuple
@@ -192,12 +189,6 @@ module _ (t : Cell ℕ) (a : Arena) (wide : length t ≡ a.width) (c : Case t a)
   weight_bound : (n e : ℕ) → 6 + 2 * e + n * (2 * n + 7 + 2 * e) ≤ 128 * (n + 1) ^ 2 * (1 + e)
   weight_bound n e = subst (λ k. 6 + 2 * e + n * (2 * n + 7 + 2 * e) ≤ 128 * k * (1 + e)) (sym (square (n + 1))) (product n e)
     where
-      square : (m : ℕ) → m ^ 2 ≡ m * m
-      square m = pow-suc m 1 ∙ ap (λ k. k * m) (pow-suc m 0 ∙ ap (λ k. k * m) (pow-zero m) ∙ once_more m)
-        where
-          once_more : (m : ℕ) → 1 * m ≡ m
-          once_more m = omega arith
-
       product : (n e : ℕ) → 6 + 2 * e + n * (2 * n + 7 + 2 * e) ≤ 128 * ((n + 1) * (n + 1)) * (1 + e)
       product n e = grind arith
 

@@ -16,7 +16,7 @@ use Rattle.cube_laws.proofs.OneRow.{node-insert}
 use Rattle.cube_laws.proofs.Orders.{code_equality}
 use Rattle.tree_laws.proofs.Counted.{nodes_counted}
 use Rattle.tree_laws.proofs.Entries.{entries_once, entry_get}
-use Rattle.tree_laws.proofs.Lists.{some_same}
+use Rattle.tree_laws.proofs.Lists.{cell_record, some_same}
 use Rattle.tree_laws.proofs.Sums.{sum_ones, sum_within}
 use Rattle.qc_arena.specs.Map.{Arena, Known}
 use Rattle.batch_insert.specs.declared.plan.Spot.{Spot}
@@ -25,7 +25,7 @@ use Rattle.batch_insert.specs.Cases.{Case, IsFront, new_nodes}
 use Rattle.batch_insert.specs.Whole.{IsNumberOf, IsSpotOf}
 use Rattle.batch_insert.proofs.Each.{flat_front, not_begun}
 use Rattle.batch_insert.proofs.Finished.{all_more}
-use Rattle.batch_insert.proofs.Keeping.{cell_known, known}
+use Rattle.batch_insert.proofs.Keeping.{cell_known}
 use Rattle.batch_insert.proofs.Started.{node_of_front}
 use Rattle.tree_search.specs.Found.{IsTreeOf}
 
@@ -81,7 +81,7 @@ module _ (t : Cell ℕ) (a : Arena) (wide : length t ≡ a.width) (c : Case t a)
 
     apart : (k : ℕ) → cell_at b k ≢ Some p
     apart k h =
-        let n = known b k p h in
+        let n = cell_record b k p h in
         elim (begun.left k n.0 n.1) [
           | inl old ↦ new k (cell_known a.now k n.0 old ∙ ap (λ x. Some x) n.2)
           | inr numbered ↦ none_some (sym none ∙ ap f (ap mask (sym n.2)) ∙ numbered)

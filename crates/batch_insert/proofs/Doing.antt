@@ -1,11 +1,11 @@
 -- The parts of a plan one after another.
 use Rattle.batch_insert.specs.Stages.{IsStage}
-use Rattle.std.proofs.Common.{◌≡◌, inl, inr, ℕ, suc, ◌+◌, ◌<◌, All, Option, Some, None, IsSome, List, [], ◌∷◌, ◌++◌, ℤ, length, take, get_or, zero, replicate, refl, sym, subst, ◌∙◌, arith}
+use Rattle.std.proofs.Common.{◌≡◌, inl, inr, ℕ, suc, ◌+◌, ◌<◌, Option, Some, None, IsSome, List, [], ◌∷◌, ◌++◌, ℤ, length, take, get_or, zero, replicate, refl, sym, subst, ◌∙◌, arith}
 use Rattle.std.proofs.lemmas.List.{take_more}
 use Rattle.cube_defs.specs.Cell.{Cell, depth, mask, one_deeper}
 use Rattle.cube_defs.specs.Tree.{Tree}
 use Rattle.cube_laws.specs.Lists.{Among}
-use Rattle.cube_laws.proofs.Lists.{among_append}
+use Rattle.cube_laws.proofs.Lists.{among_append, all_among}
 use Rattle.tree_search.specs.Found.{IsTreeOf}
 use Rattle.qc_arena.specs.Map.{Arena}
 use Rattle.batch_insert.specs.declared.plan.Spot.{Spot}
@@ -24,14 +24,6 @@ use Rattle.batch_insert.proofs.Fronts.{front_long}
 use Rattle.batch_insert.proofs.Owning.{set_stays}
 use Rattle.batch_insert.proofs.Started.{begun_stage}
 use Rattle.tree_laws.proofs.Lists.{some_there}
-
-among_get : {X : Type 0} (x : X) (xs : List X) → Among x xs → (k : ℕ) × (k < length xs) × (get_or xs k x ≡ x)
-among_get x [] m = absurd m
-among_get x (y ∷ xs) (inl m) = (zero, omega arith, sym m)
-among_get x (y ∷ xs) (inr m) = let r = among_get x xs m in (suc r.0, omega (arith, r.1), r.2)
-
-pub all_among : {X : Type 0} (P : X → Type 0) (xs : List X) → All P xs → (x : X) → Among x xs → P x
-all_among P xs all x m = let r = among_get x xs m in subst P r.2 (all r.0 x r.1)
 
 pub numbered_still : (f g : ℕ → Option ℕ) (m : ℕ) → ((q k : ℕ) → f q ≡ Some k → g q ≡ Some k) → IsSome (f m) → IsSome (g m)
 numbered_still f g m grows h = let r = some_there (f m) h in subst IsSome (sym (grows m r.0 r.1)) refl

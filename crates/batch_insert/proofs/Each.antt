@@ -27,12 +27,12 @@ use Rattle.batch_insert.specs.Stages.{HaveCopied, HaveEnded, HaveSet, IsCopied, 
 use Rattle.batch_insert.specs.Whole.{IsLast}
 use Rattle.batch_insert.proofs.Coming.{begun_new, begun_old}
 use Rattle.batch_insert.proofs.Ending.{ended_class, ended_forced, sum_is}
-use Rattle.batch_insert.proofs.Naming.{any_below, any_mask, same_mask}
+use Rattle.batch_insert.proofs.Naming.{any_mask, same_mask}
 use Rattle.batch_insert.proofs.Owning.{owned}
 use Rattle.batch_insert.specs.Costs.{copy_cost}
 use Rattle.batch_insert.proofs.Staging.{copied, copied_self, source_edges}
 use Rattle.batch_insert.proofs.Turns.{root_front}
-use Rattle.tree_laws.proofs.Fronts.{depth-any}
+use Rattle.tree_laws.proofs.Fronts.{any_below, depth-any}
 
 one_among : {X : Type 0} (P : X → Type 0) (x : X) → P x → (y : X) → Among y (x ∷ []) → P y
 one_among P x h y (inl e) = subst P (sym e) h

@@ -16,7 +16,7 @@ use Rattle.cube_laws.proofs.Orders.{code_equality, leq_is}
 use Rattle.tree_laws.specs.Labels.{target_after_row}
 use Rattle.tree_laws.proofs.Fronts.{leq-with_value}
 use Rattle.tree_laws.proofs.Leads.{led_from, upto-meet_after}
-use Rattle.tree_laws.proofs.Lists.{some_same, some_there}
+use Rattle.tree_laws.proofs.Lists.{cell_record, some_same, some_there}
 use Rattle.tree_laws.proofs.OneRow.{chain_node}
 use Rattle.tree_search.specs.Found.{IsTreeOf}
 use Rattle.qc_arena.specs.Edges.{rises}
@@ -34,7 +34,7 @@ use Rattle.batch_insert.proofs.Assembled.{IsBelowRight, assembled}
 use Rattle.batch_insert.proofs.Coming.{front_told}
 use Rattle.tree_laws.proofs.EdgeLists.{Ascends, HasLabelOf, IsBefore, before_apart}
 use Rattle.batch_insert.proofs.Fronts.{front_before, front_deep, front_leq, front_long, le_or_lt, new_below, new_long}
-use Rattle.batch_insert.proofs.Keeping.{cell_known, known}
+use Rattle.batch_insert.proofs.Keeping.{cell_known}
 use Rattle.batch_insert.proofs.Labelled.{led_or_own, led_own, source_has}
 use Rattle.batch_insert.proofs.Naming.{same_mask}
 use Rattle.batch_insert.proofs.Records.{HasEdges, record_right}
@@ -129,7 +129,7 @@ module _ (t : Cell ℕ) (a : Arena) (wide : length t ≡ a.width) (c : Case t a)
           | inl own ↦ own_label u.0 u.1 deep own
           | inr x ↦
               let done = copied x.0 x.1 in
-              let r = known a.now x.0.from.0 (cell_front i u.0) x.3 in
+              let r = cell_record a.now x.0.from.0 (cell_front i u.0) x.3 in
               subst (HasLabel i v) (edges_at done.0 (one_number x.0.mask done.0 x.2 done.1))
               (done.2 i v (subst (λ (y : Known). HasLabel i v y.edges) (sym (record_known a.now x.0.from.0 r.0 r.1)) (source_has t a wide c n.cell u.0 i place u.1 x.0.from.0 r.0 r.1 r.2 v q within target_of_label)))
         ]
@@ -137,8 +137,8 @@ module _ (t : Cell ℕ) (a : Arena) (wide : length t ≡ a.width) (c : Case t a)
         own_label : (u : Cell ℕ) → old_closure c n.cell ≡ Some u → depth n.cell ≤ i → cell_front i u ≡ n.cell → HasLabel i v n.edges
         own_label u e deep own =
             let there = c.from.canonical.all (cell_front i u) (chain_node nat_cmp_total map.nat_cmp-IsAntisymmetric c.measures (c.xs ++ c.ys) n.cell u i e deep).1 in
-            let r = known a.now there.0 (cell_front i u) there.1 in
-            let o = known b.now there.0 (cell_front i u) (stage.cells there.0 (cell_front i u) there.1) in
+            let r = cell_record a.now there.0 (cell_front i u) there.1 in
+            let o = cell_record b.now there.0 (cell_front i u) (stage.cells there.0 (cell_front i u) there.1) in
             let told = (stage.below there.0 o.0 o.1 (ap (λ p. leq nat_eq p t) (o.2 ∙ own) ∙ sym (leq_is n.cell t) ∙ front_leq t a wide c n.cell i place)).1 in
             subst (HasLabel i v) (edges_at there.0 (one_number (mask o.0.cell) there.0 (ap mask (o.2 ∙ own)) told))
             (stage.stays there.0 i v (subst (λ (y : Known). HasLabel i v y.edges) (sym (record_known a.now there.0 r.0 r.1)) (source_has t a wide c n.cell u i place e there.0 r.0 r.1 r.2 v q within target_of_label)))
@@ -178,8 +178,8 @@ module _ (t : Cell ℕ) (a : Arena) (wide : length t ≡ a.width) (c : Case t a)
 
   once : (k l : ℕ) (p : Cell ℕ) → defs.covers (eq_by_cmp nat_cmp) p c.row ≡ true → cell_at b.now k ≡ Some p → cell_at b.now l ≡ Some p → k ≡ l
   once k l p h m q =
-      let x = known b.now k p m in
-      let y = known b.now l p q in
+      let x = cell_record b.now k p m in
+      let y = cell_record b.now l p q in
       let u = (stage.below k x.0 x.1 (ap (λ r. leq nat_eq r t) x.2 ∙ covers_is p h)).1 in
       let v = (stage.below l y.0 y.1 (ap (λ r. leq nat_eq r t) y.2 ∙ covers_is p h)).1 in
       some_same (sym u ∙ ap f (ap mask (x.2 ∙ sym y.2)) ∙ v)

@@ -3,6 +3,7 @@ use Rattle.std.proofs.Common.{◌≡◌, ◌≢◌, ℕ, zero, suc, ◌+◌, ◌
 use Rattle.std.proofs.lemmas.Bool.{and_parts, cond-true, cond-false, false_from_ne_true}
 use Rattle.cube_defs.specs.Cell.{Cell, depth, entry_leq, entry_meet, cell_front, leq, mask, meet, one_deeper, upto, with_value}
 use Rattle.cube_laws.proofs.Cells.{nat_equality, cell_front-depth, cell_front_zero}
+use Rattle.tree_laws.proofs.Fronts.{flat_is}
 use Rattle.tree_laws.proofs.Lists.{some_same}
 use Rattle.batch_insert.specs.Masks.{part}
 use Rattle.batch_insert.proofs.Naming.{any_mask, below_with, long_with}
@@ -149,10 +150,6 @@ last_leq (e ∷ x) (f ∷ t) (suc j) v d g l =
     swap true b c = refl
     swap false true c = refl
     swap false false c = refl
-
--- a cell with no value
-flat_is : (x : Cell ℕ) → depth x ≡ 0 → x ≡ replicate (length x) None
-flat_is x d = sym (cell_front-depth x) ∙ ap (λ n. cell_front n x) d ∙ cell_front_zero x
 
 pub any_met : (n : ℕ) (t : Cell ℕ) → n ≡ length t → (mask (meet nat_eq (replicate n None) t) ≡ 0) × (leq nat_eq (replicate n None) t ≡ true)
 any_met zero t h = (refl, refl)

@@ -9,7 +9,7 @@ use Rattle.cube_defs.specs.Tree.{Edge, Tree, cell_at}
 use Rattle.cube_laws.specs.Lists.{Among}
 use Rattle.cube_laws.proofs.Cells.{meet_of_leq}
 use Rattle.cube_laws.proofs.Orders.{code_equality, leq_is}
-use Rattle.tree_laws.proofs.Lists.{some_same}
+use Rattle.tree_laws.proofs.Lists.{cell_record, some_same}
 use Rattle.qc_arena.proofs.Labels.{rises-put}
 use Rattle.qc_arena.specs.Edges.{put_edge, with_edge}
 use Rattle.qc_arena.specs.Map.{Arena, Known}
@@ -22,7 +22,7 @@ use Rattle.batch_insert.specs.Whole.{IsCopyOf}
 use Rattle.batch_insert.proofs.Coming.{front_told}
 use Rattle.qc_arena.proofs.EdgesPut.{put_here, put_stays}
 use Rattle.batch_insert.proofs.Fronts.{front_before, front_deep, front_leq}
-use Rattle.batch_insert.proofs.Keeping.{among_put, cell_known, known}
+use Rattle.batch_insert.proofs.Keeping.{among_put, cell_known}
 use Rattle.batch_insert.proofs.Labelled.{cut, led_or_own, source_label}
 use Rattle.batch_insert.proofs.Started.{record_known}
 
@@ -81,7 +81,7 @@ module _ (b d : Tree ℕ) (k : ℕ) (n m : Known) (before : map.get b k ≡ Some
       where
         below : (l : ℕ) (r : Known) → map.get d l ≡ Some r → leq nat_eq r.cell t ≡ true → IsFront c r.cell (depth r.cell) × (f (mask r.cell) ≡ Some l)
         below l r h e =
-            let o = known b l r.cell (sym (name l) ∙ cell_known d l r h) in
+            let o = cell_record b l r.cell (sym (name l) ∙ cell_known d l r h) in
             subst (λ p. IsFront c p (depth p) × (f (mask p) ≡ Some l)) o.2 (stage.below l o.0 o.1 (ap (λ p. leq nat_eq p t) o.2 ∙ e))
 
         apart : (l : ℕ) (r : Known) → map.get a.now l ≡ Some r → leq nat_eq r.cell t ≡ false → map.get d l ≡ Some r
@@ -117,7 +117,7 @@ module _ (t : Cell ℕ) (a : Arena) (wide : length t ≡ a.width) (c : Case t a)
     pub held : (p : Cell ℕ) (i m k : ℕ) → IsFront c p i → mask p ≡ m → f m ≡ Some k → (n : Known) × (map.get b k ≡ Some n) × (n.cell ≡ p)
     held p i m k front dims number =
         let q = stage.nodes m k number in
-        let n = known b k q.0 q.1 in
+        let n = cell_record b k q.0 q.1 in
         (n.0, n.1, n.2 ∙ front_told t a wide c q.0 p q.3 (front_before t a wide c p (depth p) i (front_deep t a wide c p i front) (omega arith) front) (q.2 ∙ sym dims))
 
     pub front_there : (p : Cell ℕ) (i : ℕ) (n : Known) → IsFront c p i → n.cell ≡ p → IsFront c n.cell (depth n.cell)
@@ -131,7 +131,7 @@ module _ (t : Cell ℕ) (a : Arena) (wide : length t ≡ a.width) (c : Case t a)
       -- another node's front that is below t is the node itself
       source : x.from.0 ≢ k → (r : Known) × (map.get a.now x.from.0 ≡ Some r) × (r.cell ≡ cell_front is.dim is.upper) × (map.get b x.from.0 ≡ Some r)
       source off =
-          let r = known a.now x.from.0 (cell_front is.dim is.upper) is.from in
+          let r = cell_record a.now x.from.0 (cell_front is.dim is.upper) is.from in
           (r.0, r.1, r.2, go r.0 r.1 r.2 (leq nat_eq (cell_front is.dim is.upper) t) refl)
         where
           go : (r : Known) → map.get a.now x.from.0 ≡ Some r → r.cell ≡ cell_front is.dim is.upper → (s : Bool) → leq nat_eq (cell_front is.dim is.upper) t ≡ s → map.get b x.from.0 ≡ Some r
@@ -141,7 +141,7 @@ module _ (t : Cell ℕ) (a : Arena) (wide : length t ≡ a.width) (c : Case t a)
               let met : meet (eq_by_cmp nat_cmp) (cell_front is.dim is.upper) t ≡ is.node = sym (cut t a wide c is.node is.upper is.dim is.front is.closure is.dim) ∙ is.front in
               let same : cell_front is.dim is.upper ≡ is.node = sym (meet_of_leq code_equality (cell_front is.dim is.upper) t below) ∙ met in
               let at = stage.cells x.from.0 (cell_front is.dim is.upper) is.from in
-              let o = known b x.from.0 (cell_front is.dim is.upper) at in
+              let o = cell_record b x.from.0 (cell_front is.dim is.upper) at in
               let told = (stage.below x.from.0 o.0 o.1 (ap (λ p. leq nat_eq p t) o.2 ∙ l)).1 in
               absurd (off (some_same (sym told ∙ ap f (ap mask (o.2 ∙ same) ∙ is.dims) ∙ number)))
 

@@ -14,7 +14,7 @@ use Rattle.cube_laws.proofs.Nodes.{is_node-is}
 use Rattle.cube_laws.proofs.OneRow.{closure-insert, node-insert}
 use Rattle.cube_laws.proofs.Orders.{code_equality, leq_is}
 use Rattle.cube_laws.proofs.Lists.{none_some}
-use Rattle.tree_laws.proofs.Lists.{some_same, some_there}
+use Rattle.tree_laws.proofs.Lists.{cell_record, some_same, some_there}
 use Rattle.qc_arena.specs.Edges.{rises}
 use Rattle.qc_arena.specs.Map.{Arena, Known}
 use Rattle.qc_arena.specs.Seen.{record_at, record_or}
@@ -24,7 +24,7 @@ use Rattle.batch_insert.specs.Stages.{HasLabel, IsSound, IsStage, new_lead}
 use Rattle.batch_insert.proofs.Assembled.{parent_more}
 use Rattle.batch_insert.proofs.Coming.{begun_told}
 use Rattle.batch_insert.proofs.Fronts.{above_self, front_leq}
-use Rattle.batch_insert.proofs.Keeping.{cell_known, known}
+use Rattle.batch_insert.proofs.Keeping.{cell_known}
 use Rattle.batch_insert.proofs.Labelled.{led_or_own, read, source_label, source_parent, source_rises}
 use Rattle.batch_insert.proofs.Sources.{closed}
 
@@ -98,7 +98,7 @@ module _ (t : Cell ℕ) (a : Arena) (wide : length t ≡ a.width) (c : Case t a)
     -- each record is that of the start, or there was none
     unchanged : (k : ℕ) (n : Known) → map.get a.now k ≡ Some n → map.get b k ≡ Some n
     unchanged k n g =
-        let m = known b k n.cell (begun.cells k n.cell (cell_known a.now k n g)) in
+        let m = cell_record b k n.cell (begun.cells k n.cell (cell_known a.now k n g)) in
         elim (begun.left k m.0 m.1) [
           | inl old ↦ m.1 ∙ sym old ∙ g
           | inr numbered ↦ elim (begun.records (mask m.0.cell) k numbered) [
