@@ -5,6 +5,7 @@ use Rattle.std.specs.Cmp.{nat_cmp_total}
 use Rattle.std.specs.FinMap as fin
 use Rattle.std.specs.Option.{option_and_then, option_map}
 use Rattle.std.specs.Ordering.{eq_by_cmp}
+use Rattle.std.proofs.lemmas.Option.{slice_get_within}
 use Rattle.cube_defs.specs.Cell.{Cell, cell_of, depth, cell_front, leq, with_value}
 use Rattle.cube_defs.specs.Rows.{closure, covers}
 use Rattle.cube_defs.specs.Tree.{Edge, Node, Tree, cell_at, forced_child, next_value, renamed_edge}
@@ -27,7 +28,7 @@ use Rattle.tree_laws.proofs.Records.{record_with}
 use Rattle.tree_search.specs.Found.{IsTreeOf, closure_in}
 use Rattle.batch_delete.specs.declared.parts.Rest.{Rest}
 use Rattle.batch_delete.specs.Rests.{Deletion, IsRest, rows_after, rows_before, shared_of, source_before}
-use Rattle.batch_delete.proofs.Entries.{entry_some, entry_within, cell_front_all}
+use Rattle.batch_delete.proofs.Entries.{entry_some, cell_front_all}
 use Rattle.batch_delete.proofs.Labelled.{closed_at, law, made, node_there}
 
 -- cells with the same rows before have the same afterwards
@@ -88,7 +89,7 @@ module _ (dims : ℕ) (tree : Tree ℕ) (d : Deletion) (h : IsTreeOf dims tree (
       by None e = let bad = from None e in cc
       by (Some None) e = let bad = from (Some None) e in cc
       by (Some (Some v)) e =
-          let within : next < length p = omega (arith, long, entry_within shut.0 next (Some v) e) in
+          let within : next < length p = omega (arith, long, slice_get_within shut.0 next (Some v) e) in
           (v, ap (λ (x : Edge ℕ (Option (Cell ℕ))). x.target) (some_same (from (Some (Some v)) e)), forced_lead nat_cmp_total fin.nat_cmp-IsAntisymmetric (rows_before d) p shut.0 next v shut.1 (next-ge nat_cmp (depth p) shut.0) within e, within)
 
   module _ (tuple : Cell ℕ) (row : tuple ≡ cell_of d.r.tuple) (low : leq nat_eq p tuple ≡ true) where
@@ -133,7 +134,7 @@ module _ (dims : ℕ) (tree : Tree ℕ) (d : Deletion) (h : IsTreeOf dims tree (
           parts : (p w : Cell ℕ) (i v : ℕ) → slice_get p i ≡ Some None → leq (eq_by_cmp nat_cmp) (with_value p i v) w ≡ true → (leq (eq_by_cmp nat_cmp) p w ≡ true) × (leq (eq_by_cmp nat_cmp) (one_value i v) w ≡ true)
           parts p w i v any e = (
             leq_trans law p (with_value p i v) w (leq_with_any law p i v any) e,
-            leq_trans law (one_value i v) (with_value p i v) w ((one_value-leq law i v (with_value p i v)).1 (with_value-there p i v (entry_within p i None any))) e,
+            leq_trans law (one_value i v) (with_value p i v) w ((one_value-leq law i v (with_value p i v)).1 (with_value-there p i v (slice_get_within p i None any))) e,
           )
 
 -- the heir's cell was a node

@@ -5,6 +5,7 @@ use Rattle.std.specs.FinMap as fin
 use Rattle.std.specs.Option.{option_map}
 use Rattle.std.specs.Ordering.{eq_by_cmp}
 use Rattle.std.specs.Prelude.{IsSome}
+use Rattle.std.proofs.lemmas.Option.{slice_get_within}
 use Rattle.cell_core.specs.declared.cell.NodeNo.{NodeNo}
 use Rattle.cube_defs.specs.Cell.{Cell, depth, cell_front, with_value}
 use Rattle.cube_defs.specs.Rows.{closure}
@@ -17,11 +18,10 @@ use Rattle.cube_laws.proofs.Covered.{closure_length}
 use Rattle.qc_arena.specs.Seen.{number, record_at}
 use Rattle.tree_laws.specs.Walk.{closure_front, walk_on}
 use Rattle.tree_laws.proofs.Climbs.{parent_is}
-use Rattle.tree_laws.proofs.Fronts.{depth-cell_front-le, depth-with_value, cell_front-beyond, upto-entry, with_value-there}
+use Rattle.tree_laws.proofs.Fronts.{depth-cell_front-le, depth-with_value, cell_front-beyond, upto-entry, with_value-there, cell_front-with_value}
 use Rattle.tree_laws.proofs.Lists.{some_same}
 use Rattle.tree_laws.proofs.Walks.{walk_step}
 use Rattle.tree_search.specs.Found.{IsTreeOf, IsNumberOfCell, TreeRows, closure_in}
-use Rattle.batch_delete.proofs.Entries.{entry_within, cell_front-child}
 use Rattle.batch_delete.proofs.Labelled.{at_cell, closed_at, edge_label, law}
 
 cell_front_with : (p : Cell ℕ) (i v : ℕ) → cell_front i (with_value p i v) ≡ cell_front i p
@@ -79,10 +79,10 @@ module _ (dims : ℕ) (tree : Tree ℕ) (source : TreeRows) (h : IsTreeOf dims t
   one_up k c i v at has =
       let a = at_cell dims tree source h k (cell_front (suc i) c) at in
       let is : cell_front (suc i) c ≡ with_value (cell_front i c) i v = upto-entry c i v has in
-      let inside : i < length (cell_front i c) = omega (arith, length-cell_front i c, entry_within c i (Some v) has) in
+      let inside : i < length (cell_front i c) = omega (arith, length-cell_front i c, slice_get_within c i (Some v) has) in
       let deep : depth (cell_front (suc i) c) ≡ suc i = ap depth is ∙ depth-with_value (cell_front i c) i v (depth-cell_front-le i c) inside in
       parent_is nat_cmp_total fin.nat_cmp-IsAntisymmetric dims source.measures source.rows h.wide tree h.canonical k (record_at tree k) a.0 i (ap depth a.1 ∙ deep)
-      ∙ ap (λ c. Some (Some (cell_front i c))) (a.1 ∙ is) ∙ ap (λ c. Some (Some c)) (cell_front-child (cell_front i c) i v (depth-cell_front-le i c) inside)
+      ∙ ap (λ c. Some (Some (cell_front i c))) (a.1 ∙ is) ∙ ap (λ c. Some (Some c)) (cell_front-with_value (cell_front i c) i v (depth-cell_front-le i c))
 
   pub up_there : (k : ℕ) (c : Cell ℕ) (i v : ℕ) → cell_at tree k ≡ Some (cell_front (suc i) c) → slice_get c i ≡ Some (Some v) → (o : Option NodeNo) → option_map number o ≡ (record_at tree k).parent → IsSome o
   up_there k c i v at has None is = let bad : None ≡ Some (Some (cell_front i c)) = ap (option_map (cell_at tree)) is ∙ one_up k c i v at has in cc

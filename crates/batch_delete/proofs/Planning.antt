@@ -1,5 +1,5 @@
 -- What becomes of a class below the tuple: its front, its labels, and the other rows of the tuple.
-use Rattle.std.proofs.Common.{◌≡◌, ◌≢◌, ◌∙◌, ℕ, zero, suc, ◌*◌, ◌≤◌, true, inl, inr, Option, Some, None, List, [], ◌∷◌, ap, ap₂, arith, length, nat_cmp, nat_eq, refl, slice_get, subst, sym}
+use Rattle.std.proofs.Common.{◌≡◌, ◌≢◌, ◌∙◌, ℕ, zero, suc, ◌≤◌, true, inl, inr, Option, Some, None, List, [], ◌∷◌, ap, ap₂, arith, length, nat_cmp, nat_eq, refl, slice_get, subst, sym}
 use Rattle.std.proofs.lemmas.Bool.{and_parts, cond-true}
 use Rattle.std.proofs.lemmas.List.Sums.{sum_by-cons}
 use Rattle.std.specs.Option.{option_map}

@@ -2,7 +2,7 @@
 use Rattle.std.proofs.Common.{◌≡◌, ◌≢◌, ◌∙◌, inl, inr, ℕ, zero, suc, ◌+◌, ◌*◌, ◌^◌, ◌<◌, ◌≤◌, Bool, true, false, ◌&&◌, Option, Some, None, List, [], ◌∷◌, ◌++◌, filter_map, length, map, sum, slice_get, nat_eq, nat_lt, nat_cmp, refl, sym, ap, ap₂, subst, arith, eqb-true, true≢false, ltb-true, ltb-false}
 use Rattle.std.proofs.lemmas.Bool.{and_parts, cond-true, cond-false}
 use Rattle.std.proofs.lemmas.List.Sums.{sum_by-cons}
-use Rattle.std.proofs.Math.Nat.{mul-add, mul-suc, pow-suc, pow-zero}
+use Rattle.std.proofs.Math.Nat.{mul-add, mul-suc}
 use Rattle.std.specs.Cmp.{nat_cmp_total}
 use Rattle.std.specs.FinMap as fin
 use Rattle.std.specs.List.{cons_option, sum_by}
@@ -16,7 +16,7 @@ use Rattle.cube_laws.specs.Lists.{Among}
 use Rattle.cube_laws.proofs.Cells.{cell_eq-exact, leq_refl, nat_equality}
 use Rattle.cube_laws.proofs.Lists.{among_filter, among_filter_map, among_map, among_get}
 use Rattle.cube_laws.proofs.Nodes.{nodes-is}
-use Rattle.cube_laws.proofs.Numbers.{times_mono}
+use Rattle.cube_laws.proofs.Numbers.{times_mono, square}
 use Rattle.qc_arena.specs.Seen.{record_at}
 use Rattle.tree_laws.specs.Labels.{record_of}
 use Rattle.tree_laws.proofs.Lists.{some_same}
@@ -360,12 +360,6 @@ module _ (width : ℕ) (old : Tree ℕ) (tuple : Cell ℕ) (d : Deletion) (h : I
   -- a count of steps by numbers alone
   bound : (n m e : ℕ) → 1 + n * (2 * m) + m + (2 * n + 3 + (4 * n + 7) * (m + n * e)) + ((5 + 2 * n) * m + 3 * e) ≤ 32 * ((n + 1) * (n + 1)) * (m + e + 1)
   bound n m e = grind arith
-
-  square : (m : ℕ) → m ^ 2 ≡ m * m
-  square m = pow-suc m 1 ∙ ap (λ k. k * m) (pow-suc m 0 ∙ ap (λ k. k * m) (pow-zero m) ∙ one m)
-    where
-      one : (m : ℕ) → 1 * m ≡ m
-      one m = omega arith
 
   more_above : (k s r : ℕ) → 32 * k * (s + 1) ≤ 256 * k * (s + r + 1)
   more_above k s r = grind arith

@@ -1,0 +1,64 @@
+-- What a class has at the labels of its front in one dimension where it has Any.
+use Rattle.std.proofs.Common.{◌≡◌, ◌<◌, ◌≤◌, ◌+◌, ◌*◌, ◌∙◌, true, ℕ, List, Option, Some, None, ◌∷◌, arith, get_or, length, nat_cmp, slice_get, subst, sym, take}
+use Rattle.std.specs.Ordering.{eq_by_cmp}
+use Rattle.cube_defs.specs.Cell.{Cell, cell_front, cell_of, with_value}
+use Rattle.cube_defs.specs.Rows.{closure}
+use Rattle.cube_defs.specs.Tree.{Edge, Tree, cell_at}
+use Rattle.qc_arena.specs.Edges.{rises}
+use Rattle.qc_arena.specs.Seen.{record_at}
+use Rattle.tree_search.specs.Found.{IsTreeOf, closure_in}
+use Rattle.batch_delete.specs.declared.going.Class.{Class}
+use Rattle.batch_delete.specs.declared.going.Going.{Going}
+use Rattle.batch_delete.specs.declared.parts.Rest.{Rest}
+use Rattle.batch_delete.specs.Going.{IsClass, IsGoing, IsKnown}
+use Rattle.batch_delete.specs.Rests.{Deletion, IsRest, IsTotal, other_values, rows_after, rows_before, source_before}
+use Rattle.batch_delete.proofs.Others.{others_taken}
+use Rattle.batch_delete.proofs.Paid.{label_steps, own_label}
+use Rattle.batch_delete.proofs.Stepped.{all_rest, own_closes, tuple_value}
+
+pub record AtLabels (dims : ℕ) (nodes : Tree ℕ) (d : Deletion) (t u : Cell ℕ) (i number : ℕ) : Type 0 where
+  pub tree : IsTreeOf dims nodes (source_before d)
+  pub long : length u ≡ dims
+  pub tuple : length t ≡ dims
+  pub row : t ≡ cell_of d.r.tuple
+  pub class : IsClass d u
+  pub any : slice_get u i ≡ Some None
+  pub dim : i < length u
+  pub front : cell_at nodes number ≡ Some (cell_front i u)
+
+-- as the function is called
+pub at_labels : {R : Type 0} (dims : ℕ) (nodes : Tree ℕ) (d : Deletion) (row : Going) (class : Class) (i number : ℕ)
+    → IsTreeOf dims nodes (source_before d) × ((length class.cell ≡ dims) × ((length row.tuple ≡ dims) × (IsGoing d row × (IsKnown d class
+    × ((slice_get class.cell i ≡ Some None) × ((i < length class.cell) × ((cell_at nodes number ≡ Some (cell_front i class.cell)) × R)))))))
+    → AtLabels dims nodes d row.tuple class.cell i number
+at_labels dims nodes d row class i number (tree, (long, (tuple, (going, (known, (any, (dim, (front, rest)))))))) =
+    record { tree = tree; long = long; tuple = tuple; row = going.tuple; class = known.is; any = any; dim = dim; front = front }
+
+module _ {dims : ℕ} {nodes : Tree ℕ} {d : Deletion} {t u : Cell ℕ} {i number : ℕ} (is : AtLabels dims nodes d t u i number) where
+  abbrev pub edges : List (Edge ℕ ℕ)
+  edges = (record_at nodes number).edges
+
+  -- the tuple's value there
+  pub value : (v : ℕ) × (slice_get d.r.tuple i ≡ Some v) × (get_or t i None ≡ Some v)
+  value = tuple_value d.r.tuple t i is.row (subst (λ n. i < n) (is.long ∙ sym is.tuple) is.dim)
+
+  -- the closure of the class with that value
+  pub closes : (w : Cell ℕ) × (closure (eq_by_cmp nat_cmp) (rows_before d) (with_value u i value.0) ≡ Some w)
+  closes = own_closes dims nodes d is.tree u i is.any value.0 value.1 is.class.below
+
+  -- the rest, once all labels with another value have been taken
+  pub rest_is : rises edges ≡ true → (k : ℕ) (rest : Option Rest) → other_values i value.0 (take k edges) ≡ other_values i value.0 edges
+      → ((v : ℕ) (w : Cell ℕ) → get_or t i None ≡ Some v → closure_in (source_before d) (with_value u i v) ≡ Some w → IsTotal d u i v w (v ∷ other_values i v (take k edges)) rest)
+      → IsRest d.measures (rows_after d) u rest
+  rest_is rising k rest all total =
+      all_rest dims nodes d is.tree u i is.any value.0 value.1 is.class.below closes.0 closes.1 is.long is.class.own number is.front rising rest
+      (subst (λ (l : List ℕ). IsTotal d u i value.0 closes.0 (value.0 ∷ l) rest) all (total value.0 closes.0 value.2 closes.1))
+
+  -- the steps of the labels before the k-th
+  pub paid : (k steps old : ℕ) → k ≤ length edges
+      → ((v : ℕ) → get_or t i None ≡ Some v → steps ≤ old + (3 + length edges + k + (4 * length u + 5) * length (other_values i v (take k edges))))
+      → steps + (4 * length u + 5) ≤ old + (3 + (4 * length u + 7) * length edges)
+  paid k steps old within had =
+      let own = own_label dims nodes d is.tree u i value.0 is.any is.long is.class.own number is.front is.class.below value.1 in
+      let some = others_taken i value.0 edges k in
+      label_steps (length u) (length edges) k (length (other_values i value.0 (take k edges))) steps old (had value.0 value.2) within (omega (arith, own, some))
