@@ -1,10 +1,10 @@
 -- How many steps the class of a cell takes.
-use Rattle.std.proofs.Common.{◌≡◌, ℕ, zero, suc, ◌+◌, ◌*◌, ◌^◌, ◌≤◌, Some, None, [], ◌∷◌, length, ap, ◌∙◌, arith, pow-suc}
-use native.Mathlib.Numerals.{unary_clauses}
+use Rattle.std.proofs.Common.{◌≡◌, ℕ, zero, suc, ◌+◌, ◌*◌, ◌^◌, ◌≤◌, Some, None, [], ◌∷◌, length, arith, pow-suc}
 use Rattle.std.proofs.Math.Pow.{pow_mono}
 use Rattle.std.proofs.Math.Nat.{mul-le-mul_right}
 use Rattle.cube_defs.specs.Cell.{Cell}
 use Rattle.cube_laws.specs.Parts.{value_count}
+use Rattle.cube_laws.proofs.Numbers.{square}
 
 -- a cell has no more values than dimensions
 pub few_values : (u : Cell ℕ) → value_count u ≤ length u
@@ -33,22 +33,13 @@ steps_in_all n d le =
         let right : (n + 1) * (5 * (n + 1)) ≡ 5 * (n * n) + 10 * n + 5 = grind arith in
         omega (arith, left, right)
 
-squared : (m : ℕ) → m ^ 2 ≡ m * m
-squared m =
-    let none : m ^ 0 ≡ 1 = simp unary_clauses in
-    let one : m ^ 1 ≡ m ^ 0 * m = pow-suc m 0 in
-    let two : m ^ 2 ≡ m ^ 1 * m = pow-suc m 1 in
-    let same : m ^ 1 ≡ m = one ∙ ap (λ x. x * m) none ∙ omega arith in
-    two ∙ ap (λ x. x * m) same
-
 -- the way up and the bounds below
 pub steps_of_bounds : (n d : ℕ) → d ≤ n → (2 * n + 2) + (d + 2 ^ d) * (2 * n + 2) ≤ 16 * (n + 1) ^ 2 * 2 ^ d
 steps_of_bounds n d le =
     let more : d + 1 ≤ 2 ^ d = more_than d in
     let twice : (1 + (d + 2 ^ d)) * (2 * n + 2) ≤ (2 * 2 ^ d) * (2 * n + 2) = mul-le-mul_right (2 * n + 2) (omega (arith, more)) in
-    let square : (n + 1) ^ 2 ≡ (n + 1) * (n + 1) = squared (n + 1) in
     let one : 1 * (4 * ((n + 1) * 2 ^ d)) ≤ (n + 1) * (4 * ((n + 1) * 2 ^ d)) = mul-le-mul_right (4 * ((n + 1) * 2 ^ d)) (omega arith) in
     let split : (1 + (d + 2 ^ d)) * (2 * n + 2) ≡ (2 * n + 2) + (d + 2 ^ d) * (2 * n + 2) = grind arith in
     let small : (2 * 2 ^ d) * (2 * n + 2) ≡ 1 * (4 * ((n + 1) * 2 ^ d)) = grind arith in
     let large : 4 * ((n + 1) * (4 * ((n + 1) * 2 ^ d))) ≡ 16 * ((n + 1) * (n + 1)) * 2 ^ d = grind arith in
-    rw square (omega (arith, twice, one, split, small, large))
+    rw (square (n + 1)) (omega (arith, twice, one, split, small, large))

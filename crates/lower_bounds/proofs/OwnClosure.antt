@@ -3,12 +3,12 @@ use Rattle.std.proofs.Common.{◌≡◌, ℕ, Bool, true, false, cond, Option, S
 use Rattle.std.specs.Prelude.{IsSome}
 use Rattle.std.specs.Cmp.{nat_cmp_total}
 use Rattle.std.specs.FinMap as map
-use Rattle.std.specs.Option.{option_eq, option_map}
+use Rattle.std.specs.Option.{option_eq}
 use Rattle.std.specs.Ordering.{nat_cmp, eq_by_cmp}
-use Rattle.cube_defs.specs.Cell.{Cell, cell_eq, depth, cell_front}
+use Rattle.cube_defs.specs.Cell.{Cell, cell_eq}
 use Rattle.cube_defs.specs.Rows.{agg, closure, is_class}
 use Rattle.cube_defs.specs.Tree.{Node, Tree, cell_at}
-use Rattle.cube_laws.proofs.Nodes.{is_node-is}
+use Rattle.cube_laws.proofs.Nodes.{node_closed}
 use Rattle.cube_laws.proofs.Orders.{code_equality}
 use Rattle.qc_arena.specs.Seen.{record_at, record_or}
 use Rattle.tree_laws.proofs.Walks.{record_read}
@@ -17,7 +17,7 @@ use Rattle.tree_search.proofs.Walked.{cell_of, there_is}
 use Rattle.cells_below.specs.Closed.{has_closure_in}
 
 -- a class is at a node
-class_there : (tree : Tree ℕ) (k : ℕ) → IsSome (record_at tree k).class → IsSome (map.get tree k)
+pub class_there : (tree : Tree ℕ) (k : ℕ) → IsSome (record_at tree k).class → IsSome (map.get tree k)
 class_there tree k t = go (map.get tree k) refl
   where
     go : (o : Option (Node ℕ ℕ)) → map.get tree k ≡ o → IsSome (map.get tree k)
@@ -29,18 +29,13 @@ module _ (dims : ℕ) (tree : Tree ℕ) (source : TreeRows) (h : IsTreeOf dims t
     abbrev p : Cell ℕ
     p = (record_at tree k).cell
 
-    closed : (u : Cell ℕ) × (closure (eq_by_cmp nat_cmp) source.rows p ≡ Some u)
-    closed = go (closure (eq_by_cmp nat_cmp) source.rows p) refl
-      where
-        front : option_map (cell_front (depth p)) (closure (eq_by_cmp nat_cmp) source.rows p) ≡ Some p
-        front = (is_node-is code_equality source.rows p).0 (h.canonical.each k (record_at tree k) (there_is tree k t)).0
+    -- a node's cell has a closure
+    pub closed : (u : Cell ℕ) × (closure (eq_by_cmp nat_cmp) source.rows p ≡ Some u)
+    closed = let u = node_closed code_equality source.rows p (h.canonical.each k (record_at tree k) (there_is tree k t)).0 in (u.0, u.1)
 
-        go : (o : Option (Cell ℕ)) → closure (eq_by_cmp nat_cmp) source.rows p ≡ o → (u : Cell ℕ) × (closure (eq_by_cmp nat_cmp) source.rows p ≡ Some u)
-        go None e = let bad : None ≡ Some p = sym (ap (option_map (cell_front (depth p))) e) ∙ front in cc
-        go (Some u) e = (u, e)
-
-    marked : (record_at tree k).class ≡ cond (is_class (eq_by_cmp nat_cmp) source.rows p) (Some (agg (eq_by_cmp nat_cmp) source.measures source.rows p)) None
-    marked =
+    -- its class, if it is one
+    pub class_read : (record_at tree k).class ≡ cond (is_class (eq_by_cmp nat_cmp) source.rows p) (Some (agg (eq_by_cmp nat_cmp) source.measures source.rows p)) None
+    class_read =
         let u : (u : Cell ℕ) × (closure (eq_by_cmp nat_cmp) source.rows p ≡ Some u) = closed in
         ap (λ n. n.class) (record_read nat_cmp_total map.nat_cmp-IsAntisymmetric dims source.measures source.rows h.wide tree h.canonical k (record_at tree k) u.0 (there_is tree k t) u.1)
         ∙ ap (λ o. cond (option_eq (cell_eq (eq_by_cmp nat_cmp)) o (Some p)) (Some (agg (eq_by_cmp nat_cmp) source.measures source.rows p)) None) (sym u.1)
@@ -51,4 +46,4 @@ module _ (dims : ℕ) (tree : Tree ℕ) (source : TreeRows) (h : IsTreeOf dims t
     where
       go : (b : Bool) → is_class (eq_by_cmp nat_cmp) source.rows (record_at tree k).cell ≡ b → is_class (eq_by_cmp nat_cmp) source.rows (record_at tree k).cell ≡ true
       go true e = e
-      go false e = absurd (true≢false (sym t ∙ ap is_some (marked (class_there tree k t) ∙ ap (λ b. cond b (Some (agg (eq_by_cmp nat_cmp) source.measures source.rows (record_at tree k).cell)) None) e)))
+      go false e = absurd (true≢false (sym t ∙ ap is_some (class_read (class_there tree k t) ∙ ap (λ b. cond b (Some (agg (eq_by_cmp nat_cmp) source.measures source.rows (record_at tree k).cell)) None) e)))
