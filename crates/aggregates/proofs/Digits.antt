@@ -5,11 +5,8 @@ use Rattle.std.specs.Str.{all_ascii_digits}
 use Rattle.std.proofs.lemmas.List.{drop_more}
 use Rattle.std.proofs.lemmas.Str.Parse.{IsNumeralModel, numerals_by_fold, digits_value_short}
 use Rattle.std.proofs.Math.Nat.{pow-suc}
+pub use Rattle.cube_laws.proofs.Numbers.{ten-pos}
 use Rattle.aggregates.specs.Numbers.{number_after, number, is_number, digits_front, behind_digits}
-
-pub ten-pos : (k : ℕ) → 0 < 10 ^ k
-ten-pos zero = omega arith
-ten-pos (suc k) = rw (pow-suc 10 k) (omega (arith, ten-pos k))
 
 pub own : IsNumeralModel (λ ds. all_ascii_digits ds ≡ true) number
 own = numerals_by_fold _ (search rules) number_after (search rules)

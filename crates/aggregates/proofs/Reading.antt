@@ -17,24 +17,19 @@ pub not_le : (a b : ℕ) → b < a → nat_le a b ≡ false
 not_le a b h = grind (arith, nat_tests)
 
 module _ (text : List ℕ) where
-  pub id_in-large : 2 ^ 64 ≤ number (digits_front text) → id_in text ≡ None
-  id_in-large h = go (is_number text) refl
+  -- no id, if a number's text is none
+  id_in-by : (is_number text ≡ true → id_in text ≡ None) → id_in text ≡ None
+  id_in-by h = go (is_number text) refl
     where
       go : (b : Bool) → is_number text ≡ b → id_in text ≡ None
       go false e = rw e refl
-      go true e =
-          let f = ap number (is_number-is text e) in
-          rw e (rw (le-ltb (number text) (2 ^ 64) (omega (arith, f))) refl)
+      go true e = h e
+
+  pub id_in-large : 2 ^ 64 ≤ number (digits_front text) → id_in text ≡ None
+  id_in-large h = id_in-by (λ e. let f = ap number (is_number-is text e) in rw e (rw (le-ltb (number text) (2 ^ 64) (omega (arith, f))) refl))
 
   pub id_in-none : (length (digits_front text) ≡ 0) ⊎ (length (digits_front text) < length text) → id_in text ≡ None
-  id_in-none h = go (is_number text) refl
-    where
-      go : (b : Bool) → is_number text ≡ b → id_in text ≡ None
-      go false e = rw e refl
-      go true e =
-          let f = ap length (is_number-is text e) in
-          let g = (is_number-some text e).1 in
-          absurd (omega (arith, f, g, h))
+  id_in-none h = id_in-by (λ e. let f = ap length (is_number-is text e) in let g = (is_number-some text e).1 in absurd (omega (arith, f, g, h)))
 
   pub id_in-some : 0 < length (digits_front text) → length text ≤ length (digits_front text) → length (digits_front text) ≤ length text → number (digits_front text) < 2 ^ 64 → id_in text ≡ Some (number (digits_front text))
   id_in-some h l m n =
