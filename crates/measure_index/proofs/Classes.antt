@@ -1,5 +1,5 @@
 -- An index of classes stays one where its entries change as the classes do.
-use Rattle.std.proofs.Common.{◌≡◌, ◌≢◌, ◌⊎◌, inl, inr, ℕ, zero, suc, ◌==◌, ◌&&◌, ◌||◌, not, Bool, true, false, cond, Option, None, Some, List, [], ◌∷◌, ℤ, int_eq, refl, sym, ap, subst, ◌∙◌, arith, true≢false, nat_eq, eqb-true}
+use Rattle.std.proofs.Common.{◌≡◌, ◌≢◌, ◌⊎◌, inl, inr, ℕ, zero, suc, ◌&&◌, ◌||◌, not, Bool, true, false, cond, Option, None, Some, List, [], ◌∷◌, ℤ, int_eq, refl, sym, ap, subst, ◌∙◌, arith, true≢false, nat_eq, eqb-true}
 use Rattle.std.specs.Prelude.{map, slice_get}
 use Rattle.std.specs.List.{AllByRecursion, AllZip, IsDistinct}
 use Rattle.std.specs.List.Sorted.{IsStrictlySortedBy}
@@ -9,6 +9,7 @@ use Rattle.std.specs.declared.cmp.Ordering.TheVariants.{Less, Equal}
 use Rattle.std.proofs.lemmas.Bool.{false_from_ne_true}
 use Rattle.std.proofs.lemmas.Map.Keys.{sorted_head, sorted_tail}
 use Rattle.std.proofs.lemmas.Bool.Decides.{Decides-int_eq}
+use Rattle.std.proofs.Math.Bool.{or-true}
 use Rattle.cube_defs.specs.Rows as defs
 use Rattle.cube_defs.specs.Answers.{value_of}
 use Rattle.cube_laws.specs.Lists.{Among}
@@ -77,10 +78,6 @@ class_or_not (Some b) a = elim (agg_or_not b a) [ inl e ↦ inl (ap (λ x. Some 
 
 -- ---- entries of a list
 
-or_true : (b : Bool) → (b || true) ≡ true
-or_true true = refl
-or_true false = refl
-
 has_among : (kind : AggKind) (scale : ℕ) (es : List Entry) (q : Entry) → has (record { kind = kind; scale = scale; entries = es }) q ≡ true → Among q es
 has_among kind scale [] q h = absurd (true≢false (sym h))
 has_among kind scale (e ∷ es) q h = go (has_among kind scale es q) (is_eq (entry_cmp q e)) refl h
@@ -93,7 +90,7 @@ among_has : (kind : AggKind) (scale : ℕ) (es : List Entry) (q : Entry) → Amo
 among_has kind scale [] q h = absurd h
 among_has kind scale (e ∷ es) q h = elim h [
   | inl k ↦ ap (λ (b : Bool). b || has (record { kind = kind; scale = scale; entries = es }) q) (ap (λ x. is_eq (entry_cmp q x)) (sym k) ∙ ap is_eq (tied_itself entry_total q))
-  | inr k ↦ ap (λ (b : Bool). is_eq (entry_cmp q e) || b) (among_has kind scale es q k) ∙ or_true (is_eq (entry_cmp q e))
+  | inr k ↦ ap (λ (b : Bool). is_eq (entry_cmp q e) || b) (among_has kind scale es q k) ∙ or-true (is_eq (entry_cmp q e))
 ]
 
 lists_among : (es : List Entry) (q : Entry) → lists es q ≡ true → Among q es
@@ -108,7 +105,7 @@ among_lists : (es : List Entry) (q : Entry) → Among q es → lists es q ≡ tr
 among_lists [] q h = absurd h
 among_lists (e ∷ es) q h = elim h [
   | inl k ↦ ap (λ (b : Bool). b || lists es q) (ap (λ x. is_eq (entry_cmp x q)) (sym k) ∙ ap is_eq (tied_itself entry_total q))
-  | inr k ↦ ap (λ (b : Bool). is_eq (entry_cmp e q) || b) (among_lists es q k) ∙ or_true (is_eq (entry_cmp e q))
+  | inr k ↦ ap (λ (b : Bool). is_eq (entry_cmp e q) || b) (among_lists es q k) ∙ or-true (is_eq (entry_cmp e q))
 ]
 
 -- ---- entries of classes
@@ -201,7 +198,7 @@ module _ (add remove : List (NodeNo × Agg)) (from to : ℕ → Option defs.Agg)
         let kept : lists h.removed r.0 ≡ false = not_removed k a r.0 r.2 p t (lists h.removed r.0) refl in (
           r.0,
           has_among new.kind new.scale new.entries r.0 (h.entry r.0 ∙ ap (λ (b : Bool). lists h.added r.0 || (b && not (lists h.removed r.0))) (among_has old.kind old.scale old.entries r.0 r.1)
-              ∙ ap (λ (b : Bool). lists h.added r.0 || not b) kept ∙ or_true (lists h.added r.0)),
+              ∙ ap (λ (b : Bool). lists h.added r.0 || not b) kept ∙ or-true (lists h.added r.0)),
           r.2,
         )
     | inr n ↦

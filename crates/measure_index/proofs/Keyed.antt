@@ -1,5 +1,5 @@
 -- Entries that are read off keys are in the keys' order, and a list of them has what the keys have.
-use Rattle.std.proofs.Common.{◌≡◌, ◌⊎◌, inl, inr, ◌||◌, ℕ, zero, suc, ◌*◌, ◌<◌, ◌≤◌, min, Bool, true, false, ℤ, pos, negsuc, neg_ℤ, ◌*ℤ◌, List, [], ◌∷◌, ◌++◌, map, reverse, is_eq, int_cmp, refl, sym, ap, ap₂, subst, ◌∙◌, arith}
+use Rattle.std.proofs.Common.{◌≡◌, ◌⊎◌, inl, inr, ◌||◌, ℕ, ◌*◌, ◌<◌, ◌≤◌, min, Bool, true, false, ℤ, pos, ◌*ℤ◌, List, [], ◌∷◌, ◌++◌, map, reverse, is_eq, int_cmp, refl, sym, ap, ap₂, subst, ◌∙◌}
 use mathlib.Core.List.{reverse-cons}
 use Rattle.std.specs.BTreeSet.{BTreeSet, IsSameSet}
 use Rattle.std.specs.List.{AllByRecursion, AllZip}
@@ -9,10 +9,10 @@ use Rattle.std.specs.declared.cmp.Ordering.TheVariants.{Less, Equal}
 use Rattle.std.specs.Ordering.{nat_cmp, ordering_reverse, ordering_then}
 use Rattle.std.specs.Cmp.{IsTotalOrder, int_cmp_total, tied_itself}
 use Rattle.std.proofs.lemmas.List.Sorted.{IsPermutation-map, list_any-IsPermutation}
-use Rattle.std.proofs.Math.Nat.{min-eq_left, mul_assoc}
+use Rattle.std.proofs.Math.Nat.{min-eq_left}
 use Rattle.cube_defs.specs.Rows.{Fraction, lowest_terms}
 use Rattle.cube_defs.specs.Answers.{fraction_cmp}
-use Rattle.cube_laws.proofs.Divisors.{lowest_terms-positive, lowest_terms-value}
+use Rattle.cube_laws.proofs.Divisors.{lowest_terms-positive, lowest_terms-value, mul-mul}
 use Rattle.cube_laws.proofs.FractionOrder.{value_total}
 use Rattle.cube_laws.proofs.Orders.{is_equal}
 use Rattle.aggregates.specs.Quotients.{unit_of}
@@ -37,14 +37,6 @@ use Rattle.measure_index.proofs.KeyLemmas.{any_turned}
 use Rattle.measure_index.proofs.LowestTerms.{same_ratio}
 
 -- ---- the order of entries
-
-neg_times : (x n : ℕ) → neg_ℤ (pos x) *ℤ pos n ≡ neg_ℤ (pos (x * n))
-neg_times zero n = let e : 0 * n ≡ 0 = omega arith in ap pos e ∙ ap (λ x. neg_ℤ (pos x)) (sym e)
-neg_times (suc x) n = refl
-
-twice : (a : ℤ) (m n : ℕ) → (a *ℤ pos m) *ℤ pos n ≡ a *ℤ pos (m * n)
-twice (pos a) m n = ap pos (mul_assoc a m n)
-twice (negsuc a) m n = neg_times (suc a * m) n ∙ ap (λ x. neg_ℤ (pos x)) (mul_assoc (suc a) m n)
 
 -- a fraction with its value
 record Valued : Type 0 where
@@ -78,7 +70,7 @@ module _ (kind : AggKind) (scale : ℕ) where
   over_units x y =
       let u = unit_of kind (min scale 6) in
       sym (order-over (x.num *ℤ pos y.den) (y.num *ℤ pos x.den) u (some kind scale).0
-      ∙ ap₂ int_cmp (twice x.num y.den u) (twice y.num x.den u))
+      ∙ ap₂ int_cmp (mul-mul x.num y.den u) (mul-mul y.num x.den u))
 
   pub same_order : (x y : Key) → entry_cmp (entry_of kind scale x) (entry_of kind scale y) ≡ key_cmp x y
   unfolding entry_of
