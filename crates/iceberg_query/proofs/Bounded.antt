@@ -1,16 +1,14 @@
 -- The steps for one class, and the classes of nodes.
-use Rattle.std.proofs.Common.{◌≡◌, ℕ, suc, ◌+◌, ◌*◌, ◌^◌, ◌<◌, ◌≤◌, Option, Some, None, List, [], ◌∷◌, ◌++◌, length, map, take, get_or, refl, sym, ap, ap₂, subst, ◌∙◌, arith, true≢false}
-use Rattle.std.specs.Prelude.{IsSome, is_some}
-use Rattle.std.specs.FinMap as numbers
+use Rattle.std.proofs.Common.{◌≡◌, ℕ, suc, ◌+◌, ◌*◌, ◌^◌, ◌<◌, ◌≤◌, List, [], ◌∷◌, ◌++◌, length, map, take, get_or, refl, sym, ap, ap₂, subst, ◌∙◌, arith}
+use Rattle.std.specs.Prelude.{IsSome}
 use Rattle.std.specs.List.{All}
 use Rattle.std.proofs.lemmas.List.{get_or-map, map-append}
 use Rattle.std.proofs.Math.Seq.{take-suc}
 use Rattle.std.proofs.lemmas.List.Elements.{All-get_or, All-push}
-use Rattle.std.proofs.Math.Nat.{mul-le-mul, mul-le-mul_left, one-le-pow, pow-le-pow_right, pow-suc}
-use native.Mathlib.Numerals.{unary_clauses}
-use Rattle.cube_defs.specs.Tree.{Node, Tree}
+use Rattle.std.proofs.Math.Nat.{mul-le-mul, mul-le-mul_left, one-le-pow, pow-le-pow_right}
+use Rattle.cube_defs.specs.Tree.{Tree}
 use Rattle.cell_core.specs.declared.cell.NodeNo.{NodeNo}
-use Rattle.qc_arena.specs.Seen.{number, record_at, record_or}
+use Rattle.qc_arena.specs.Seen.{number, record_at}
 use Rattle.tree_search.specs.Found.{IsTreeOf, TreeRows}
 use Rattle.iceberg_query.specs.Below as seen
 use Rattle.iceberg_query.specs.declared.ask.Ask.{Ask}
@@ -19,29 +17,16 @@ use Rattle.iceberg_query.specs.Hits.{AreClasses, IsValued, class_at, valued_of}
 use Rattle.iceberg_query.proofs.Reached.{wide}
 use Rattle.lower_bounds.proofs.Counted.{few_values}
 use Rattle.cube_laws.specs.Parts.{value_count}
+use Rattle.cube_laws.proofs.Numbers.{square}
+pub use Rattle.lower_bounds.proofs.OwnClosure.{class_there}
 
-pub class_there : (tree : Tree ℕ) (k : ℕ) → IsSome (record_at tree k).class → IsSome (numbers.get tree k)
-class_there tree k t = go (numbers.get tree k) refl
-  where
-    go : (o : Option (Node ℕ ℕ)) → numbers.get tree k ≡ o → IsSome (numbers.get tree k)
-    go None e = absurd (true≢false (sym t ∙ ap (λ o. is_some (record_or o).class) e))
-    go (Some n) e = subst (λ o. IsSome o) (sym e) refl
-
-squared : (m : ℕ) → m ^ 2 ≡ m * m
-squared m =
-    let none : m ^ 0 ≡ 1 = simp unary_clauses in
-    let one : m ^ 1 ≡ m ^ 0 * m = pow-suc m 0 in
-    let two : m ^ 2 ≡ m ^ 1 * m = pow-suc m 1 in
-    let same : m ^ 1 ≡ m = one ∙ ap (λ x. x * m) none ∙ omega arith in
-    two ∙ ap (λ x. x * m) same
-
-square : (n : ℕ) → n + 1 ≤ (n + 1) ^ 2
-square n = let e : (n + 1) ^ 2 ≡ (n + 1) * (n + 1) = squared (n + 1) in let m = mul-le-mul_left {m = 1} {n = n + 1} (n + 1) (omega arith) in omega (arith, e, m)
+above_square : (n : ℕ) → n + 1 ≤ (n + 1) ^ 2
+above_square n = let m = mul-le-mul_left {m = 1} {n = n + 1} (n + 1) (omega arith) in omega (arith, square (n + 1), m)
 
 -- an upper bound, a class and its lower bounds
 class_steps : (n v : ℕ) → v ≤ n → (2 * n + 2) + 1 + 16 * (n + 1) ^ 2 * 2 ^ v ≤ 32 * (n + 1) ^ 2 * 2 ^ n
 class_steps n v l =
-    let s = square n in
+    let s = above_square n in
     let p = one-le-pow n 2 (omega arith) in
     let r : 2 ^ v ≤ 2 ^ n = pow-le-pow_right {n = 2} (omega arith) l in
     let a : 16 * (n + 1) ^ 2 * 2 ^ v ≤ 16 * (n + 1) ^ 2 * 2 ^ n = mul-le-mul_left (16 * (n + 1) ^ 2) r in

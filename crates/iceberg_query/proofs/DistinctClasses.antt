@@ -28,7 +28,7 @@ use Rattle.tree_laws.proofs.Records.{record_edges, record_rises}
 use Rattle.tree_search.specs.Found.{IsTreeOf, TreeRows}
 use Rattle.tree_search.proofs.Walked.{cell_of, cell_there, there_is}
 use Rattle.iceberg_query.specs.Below.{below, is_child, is_under}
-use Rattle.iceberg_query.proofs.Measures.{closed}
+use Rattle.lower_bounds.proofs.OwnClosure.{closed}
 use Rattle.iceberg_query.proofs.Reached.{IsRecord, IsStep, apart, below_begins, child_of, closed_below, from_edge_among, is_node_at, own_below, own_front, record_of_node, step_depth, wide}
 use Rattle.iceberg_query.proofs.Walked.{from_edge}
 

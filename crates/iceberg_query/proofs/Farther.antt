@@ -9,7 +9,7 @@ use Rattle.std.proofs.lemmas.Int.{int_max_is, int_min_is, ints}
 use Rattle.cube_defs.specs.Rows.{Agg, Fraction}
 use Rattle.cube_defs.specs.Answers as answers
 use Rattle.cube_defs.specs.Answers.{part, value_of}
-use Rattle.cube_laws.proofs.Divisors.{lowest_terms-positive, lowest_terms-value}
+use Rattle.cube_laws.proofs.Divisors.{lowest_terms-positive, lowest_terms-value, mul-mul}
 use Rattle.cube_laws.proofs.FractionOrder.{swap}
 use Rattle.aggregates.proofs.Digits.{ten-pos}
 use Rattle.aggregates.specs.declared.kind.AggKind.TheVariants as kinds
@@ -19,7 +19,7 @@ use Rattle.iceberg_query.specs.declared.ask.Bound.{Bound}
 use Rattle.iceberg_query.specs.declared.ask.Bound.TheVariants as bounds
 use Rattle.iceberg_query.specs.Asked.{bound_in}
 use Rattle.iceberg_query.specs.Reach.{IsOfSome, IsWithin, farther, is_reached, outer}
-use Rattle.iceberg_query.proofs.Fractions.{IsAtMost, at_most_of, ge_rises, le_falls, lowest_at_most, times_le, twice}
+use Rattle.iceberg_query.proofs.Fractions.{IsAtMost, at_most_of, ge_rises, le_falls, lowest_at_most, times_le}
 use Rattle.iceberg_query.proofs.Parts.{times_more}
 
 neg_low : (x : ℕ) → neg_ℤ (pos x) ≤ℤ pos 0
@@ -62,7 +62,7 @@ module _ (measures : ℕ) (whole some : Agg) (is : IsOfSome measures whole some)
   )
   top kind of_mean =
       let p = mul-pos is.any (ten-pos scale) in
-      let e : ((part whole m).greatest *ℤ pos some.count) *ℤ pos (10 ^ scale) ≡ (part whole m).greatest *ℤ pos (some.count * 10 ^ scale) = twice (part whole m).greatest some.count (10 ^ scale) in (
+      let e : ((part whole m).greatest *ℤ pos some.count) *ℤ pos (10 ^ scale) ≡ (part whole m).greatest *ℤ pos (some.count * 10 ^ scale) = mul-mul (part whole m).greatest some.count (10 ^ scale) in (
         lowest_terms-positive (part some m).sum (some.count * 10 ^ scale) p,
         lowest_at_most (part some m).sum (part whole m).greatest (some.count * 10 ^ scale) (10 ^ scale) p (ten-pos scale) (subst (λ z. ((part some m).sum *ℤ pos (10 ^ scale)) ≤ℤ z) e (times_le _ _ (10 ^ scale) w.sum_high)),
       )
@@ -78,7 +78,7 @@ module _ (measures : ℕ) (whole some : Agg) (is : IsOfSome measures whole some)
   )
   bottom kind of_mean =
       let p = mul-pos is.any (ten-pos scale) in
-      let e : ((part whole m).least *ℤ pos some.count) *ℤ pos (10 ^ scale) ≡ (part whole m).least *ℤ pos (some.count * 10 ^ scale) = twice (part whole m).least some.count (10 ^ scale) in (
+      let e : ((part whole m).least *ℤ pos some.count) *ℤ pos (10 ^ scale) ≡ (part whole m).least *ℤ pos (some.count * 10 ^ scale) = mul-mul (part whole m).least some.count (10 ^ scale) in (
         lowest_terms-positive (part some m).sum (some.count * 10 ^ scale) p,
         lowest_at_most (part whole m).least (part some m).sum (10 ^ scale) (some.count * 10 ^ scale) (ten-pos scale) p (subst (λ z. z ≤ℤ ((part some m).sum *ℤ pos (10 ^ scale))) e (times_le _ _ (10 ^ scale) w.sum_low)),
       )

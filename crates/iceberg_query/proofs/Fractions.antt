@@ -1,14 +1,14 @@
 -- The order of fractions, without rounding.
-use Rattle.std.proofs.Common.{◌≡◌, ℕ, suc, ◌+◌, ◌*◌, ◌<◌, ℤ, pos, negsuc, neg_ℤ, ◌*ℤ◌, ◌<ℤ◌, true, refl, sym, ap, ◌∙◌, arith}
+use Rattle.std.proofs.Common.{◌≡◌, ℕ, ◌+◌, ◌*◌, ◌<◌, ℤ, pos, ◌*ℤ◌, ◌<ℤ◌, true, refl, sym, ap, ◌∙◌, arith}
 use Rattle.std.specs.Int.Signed.{◌≤ℤ◌}
 use Rattle.std.specs.Ordering.{int_cmp, is_ge, is_le}
-use Rattle.std.proofs.Math.Nat.{mul_assoc, mul-le-mul_right, mul-pos}
+use Rattle.std.proofs.Math.Nat.{mul-le-mul_right, mul-pos}
 use Rattle.std.proofs.lemmas.Cmp.{by_ranked, int_ranked}
 use Rattle.std.proofs.lemmas.Int.{ints}
 use borrow.Author.Differences.{up, down, product_is}
 use Rattle.cube_defs.specs.Rows.{Fraction, lowest_terms}
 use Rattle.cube_defs.specs.Answers.{fraction_cmp}
-use Rattle.cube_laws.proofs.Divisors.{lowest_terms-value, neg-mul}
+use Rattle.cube_laws.proofs.Divisors.{lowest_terms-value, mul-mul}
 use Rattle.cube_laws.proofs.FractionOrder.{swap, mono}
 
 pub times_le : (a b : ℤ) (k : ℕ) → a ≤ℤ b → (a *ℤ pos k) ≤ℤ (b *ℤ pos k)
@@ -20,13 +20,9 @@ cancels a b k p h = by_ranked (a <ℤ b) (a ≡ b) (b <ℤ a) (int_cmp a b) (int
     (λ _ e. omega (arith, ints, e))
     (λ _ l. let r = mono b a k p l in absurd (omega (arith, ints, r, h)))
 
-pub twice : (a : ℤ) (m n : ℕ) → (a *ℤ pos m) *ℤ pos n ≡ a *ℤ pos (m * n)
-twice (pos a) m n = ap pos (mul_assoc a m n)
-twice (negsuc a) m n = neg-mul (suc a * m) n ∙ ap (λ x. neg_ℤ (pos x)) (mul_assoc (suc a) m n)
-
 -- the factors in another order
 regroup : (z : ℤ) (a b c d : ℕ) → a * b ≡ c * d → (z *ℤ pos a) *ℤ pos b ≡ (z *ℤ pos c) *ℤ pos d
-regroup z a b c d e = twice z a b ∙ ap (λ (m : ℕ). z *ℤ pos m) e ∙ sym (twice z c d)
+regroup z a b c d e = mul-mul z a b ∙ ap (λ (m : ℕ). z *ℤ pos m) e ∙ sym (mul-mul z c d)
 
 ge_le : (a b : ℤ) → is_ge (int_cmp a b) ≡ true → b ≤ℤ a
 ge_le a b h = by_ranked (a <ℤ b) (a ≡ b) (b <ℤ a) (int_cmp a b) (int_ranked a b (int_cmp a b) refl)
@@ -56,23 +52,20 @@ le_from a b h = by_ranked (a <ℤ b) (a ≡ b) (b <ℤ a) (int_cmp a b) (int_ran
 pub record IsAtMost (u v : Fraction) : Type 0 where
   pub cross : (u.num *ℤ pos v.den) ≤ℤ (v.num *ℤ pos u.den)
 
+at_most-trans : (x y z : Fraction) → 0 < y.den → IsAtMost x y → IsAtMost y z → IsAtMost x z
+at_most-trans x y z p h k =
+    let a = times_le (x.num *ℤ pos y.den) (y.num *ℤ pos x.den) z.den h.cross in
+    let b = times_le (y.num *ℤ pos z.den) (z.num *ℤ pos y.den) x.den k.cross in
+    let u : (x.num *ℤ pos z.den) *ℤ pos y.den ≡ (x.num *ℤ pos y.den) *ℤ pos z.den = swap x.num z.den y.den in
+    let v : (y.num *ℤ pos x.den) *ℤ pos z.den ≡ (y.num *ℤ pos z.den) *ℤ pos x.den = swap y.num x.den z.den in
+    let w : (z.num *ℤ pos y.den) *ℤ pos x.den ≡ (z.num *ℤ pos x.den) *ℤ pos y.den = swap z.num y.den x.den in
+    record { cross = cancels (x.num *ℤ pos z.den) (z.num *ℤ pos x.den) y.den p (omega (arith, ints, a, b, u, v, w)) }
+
 pub ge_rises : (u v f : Fraction) → 0 < u.den → IsAtMost u v → is_ge (fraction_cmp u f) ≡ true → is_ge (fraction_cmp v f) ≡ true
-ge_rises u v f p h g =
-    let a = times_le (f.num *ℤ pos u.den) (u.num *ℤ pos f.den) v.den (ge_le _ _ g) in
-    let b = times_le (u.num *ℤ pos v.den) (v.num *ℤ pos u.den) f.den h.cross in
-    let x : (f.num *ℤ pos v.den) *ℤ pos u.den ≡ (f.num *ℤ pos u.den) *ℤ pos v.den = swap f.num v.den u.den in
-    let y : (u.num *ℤ pos f.den) *ℤ pos v.den ≡ (u.num *ℤ pos v.den) *ℤ pos f.den = swap u.num f.den v.den in
-    let z : (v.num *ℤ pos u.den) *ℤ pos f.den ≡ (v.num *ℤ pos f.den) *ℤ pos u.den = swap v.num u.den f.den in
-    le_ge _ _ (cancels (f.num *ℤ pos v.den) (v.num *ℤ pos f.den) u.den p (omega (arith, ints, a, b, x, y, z)))
+ge_rises u v f p h g = le_ge _ _ (at_most-trans f u v p (record { cross = ge_le _ _ g }) h).cross
 
 pub le_falls : (u v f : Fraction) → 0 < u.den → IsAtMost v u → is_le (fraction_cmp u f) ≡ true → is_le (fraction_cmp v f) ≡ true
-le_falls u v f p h g =
-    let a = times_le (u.num *ℤ pos f.den) (f.num *ℤ pos u.den) v.den (le_le _ _ g) in
-    let b = times_le (v.num *ℤ pos u.den) (u.num *ℤ pos v.den) f.den h.cross in
-    let x : (f.num *ℤ pos v.den) *ℤ pos u.den ≡ (f.num *ℤ pos u.den) *ℤ pos v.den = swap f.num v.den u.den in
-    let y : (u.num *ℤ pos f.den) *ℤ pos v.den ≡ (u.num *ℤ pos v.den) *ℤ pos f.den = swap u.num f.den v.den in
-    let z : (v.num *ℤ pos u.den) *ℤ pos f.den ≡ (v.num *ℤ pos f.den) *ℤ pos u.den = swap v.num u.den f.den in
-    le_from _ _ (cancels (v.num *ℤ pos f.den) (f.num *ℤ pos v.den) u.den p (omega (arith, ints, a, b, x, y, z)))
+le_falls u v f p h g = le_from _ _ (at_most-trans v u f p h (record { cross = le_le _ _ g })).cross
 
 -- in lowest terms as before
 -- fractions of the values x / c and y / d

@@ -1,9 +1,10 @@
 -- Below a class of whose rows none can come to what is asked, no node is asked for.
-use Rattle.std.proofs.Common.{◌≡◌, ℕ, ◌≤◌, Bool, true, false, ◌&&◌, Some, List, [], ◌∷◌, filter, length, map, refl, sym, ap, subst, ◌∙◌, arith}
+use Rattle.std.proofs.Common.{◌≡◌, ℕ, ◌≤◌, true, false, ◌&&◌, Some, List, [], ◌∷◌, filter, length, map, sym, ap, subst, ◌∙◌, arith}
 use Rattle.std.specs.Prelude.{IsSome}
 use Rattle.std.specs.FinMap as numbers
 use Rattle.std.specs.Option.{option_map}
 use Rattle.std.specs.Ordering.{nat_cmp, eq_by_cmp}
+use Rattle.std.proofs.Math.Bool.{and-false}
 use Rattle.cube_defs.specs.Cell.{Cell, cell_of, depth, leq}
 use Rattle.cube_defs.specs.Rows.{Agg, Row, agg, agg_of, closure, cov, covers, is_class, meet_all}
 use Rattle.cube_defs.specs.Tree.{Tree}
@@ -20,13 +21,10 @@ use Rattle.iceberg_query.specs.Asked.{ask_in}
 use Rattle.iceberg_query.specs.Below.{below, is_wanted, wanted}
 use Rattle.iceberg_query.specs.Reach.{IsOfSome}
 use Rattle.cube_laws.proofs.Orders.{code_equality}
-use Rattle.iceberg_query.proofs.Measures.{class_agg, closed, wanted_is}
+use Rattle.lower_bounds.proofs.OwnClosure.{closed}
+use Rattle.iceberg_query.proofs.Measures.{class_agg, wanted_is}
 use Rattle.iceberg_query.proofs.Parts.{of_some}
 use Rattle.iceberg_query.proofs.Reached.{IsBelow, below_begins}
-
-and_false : (b : Bool) → (b && false) ≡ false
-and_false true = refl
-and_false false = refl
 
 module _ (dims : ℕ) (tree : Tree ℕ) (source : TreeRows) (h : IsTreeOf dims tree source) where
   abbrev cell : ℕ → Cell ℕ
@@ -55,4 +53,4 @@ module _ (dims : ℕ) (tree : Tree ℕ) (source : TreeRows) (h : IsTreeOf dims t
       let b : IsBelow dims tree source h k l = below_begins dims tree source h n k l t m in
       let whole : agg_in a ≡ agg (eq_by_cmp nat_cmp) source.measures source.rows (cell k) = class_agg dims tree source h k t a e in
       let not_asked = fails source.measures (agg (eq_by_cmp nat_cmp) source.measures source.rows (cell l)) there (subst (λ w. IsOfSome source.measures w (agg (eq_by_cmp nat_cmp) source.measures source.rows (cell l))) (sym whole) (some_below k l b)) in
-      wanted_is dims tree source h l b.there ask ∙ ap (λ q. is_class (eq_by_cmp nat_cmp) source.rows (cell l) && q) not_asked ∙ and_false (is_class (eq_by_cmp nat_cmp) source.rows (cell l))))
+      wanted_is dims tree source h l b.there ask ∙ ap (λ q. is_class (eq_by_cmp nat_cmp) source.rows (cell l) && q) not_asked ∙ and-false (is_class (eq_by_cmp nat_cmp) source.rows (cell l))))

@@ -26,7 +26,7 @@ use Rattle.cube_laws.proofs.Covered.{cell_anti}
 use Rattle.cube_laws.proofs.IcebergOrder.{iceberg-only}
 use Rattle.cube_laws.proofs.Icebergs.{asked-is, hit_of}
 use Rattle.cube_laws.proofs.Listed.{classes-is}
-use Rattle.cube_laws.proofs.Lists.{among_map, map_among}
+use Rattle.cube_laws.proofs.Lists.{among_map, map_among, all_among}
 use Rattle.cube_laws.proofs.Nodes.{class_fronts}
 use Rattle.cube_laws.proofs.Orders.{equality_by, is_equal, then_equal, code_equality}
 use Rattle.cube_laws.proofs.Recoded.{coded-apart}
@@ -60,7 +60,7 @@ use Rattle.value_dict.proofs.TextsApart.{texts-apart, texts-known, told-known}
 use Rattle.iceberg_query.proofs.Measures.{wanted_is}
 use Rattle.iceberg_query.proofs.Ordered.{valued_total}
 use Rattle.iceberg_query.proofs.Reached.{wide}
-use Rattle.iceberg_query.proofs.Sorted.{all_among, among_permutation, flips, once_permutation, sorted_rises}
+use Rattle.iceberg_query.proofs.Sorted.{among_permutation, flips, once_permutation, sorted_rises}
 
 -- with the texts of codes by dimension, as the laws of recoding take them
 abbrev told_cell : TextLists → Cell ℕ → Cell Text
@@ -258,7 +258,7 @@ module _ (dims : ℕ) (tree : Tree ℕ) (dict : TextLists) (ask : Ask) (source :
       ∙ told_alike values (λ v m. subst (Among (valued_of v)) e (map_among valued_of v found_values (among_permutation found_values values p v m)))
       ∙ told_values values
       ∙ iceberg-only (lists_total nat_cmp_total) (numbers.slice_cmp-IsAntisymmetric numbers.nat_cmp-IsAntisymmetric) source.measures rows (ask_in ask) (map (told_hit dict) (map valued_of values))
-      (told_rises values (λ v m. all_among (IsValued ask) v values (All-permutation (IsValued ask) found_values values p right) m)
+      (told_rises values (λ v m. all_among (IsValued ask) values (All-permutation (IsValued ask) found_values values p right) v m)
       (sorted_rises (valued_cmp dict.lists ask.bound) (valued_total dict.lists ask.bound) values sorted
       (once_permutation ties (flips (valued_cmp dict.lists ask.bound) (valued_total dict.lists ask.bound)) found_values values p (once_values found_values ks e picked.once found))))
       (λ x. (
