@@ -1,5 +1,5 @@
 -- The notions that the types of this crate stand for.
-use Rattle.std.specs.Prelude.{ℕ, ◌<◌, map, take}
+use Rattle.std.specs.Prelude.{ℕ, Bool, true, false, ◌<◌, ◌==◌, map, take}
 use Rattle.cube_defs.specs.Rows as defs
 use Rattle.cube_defs.specs.Answers as answers
 use Rattle.aggregates.specs.declared.agg.Part.{Part}
@@ -22,6 +22,15 @@ kind_in (kinds.Sum m) = answers.Sum m
 kind_in (kinds.Least m) = answers.Least m
 kind_in (kinds.Greatest m) = answers.Greatest m
 kind_in (kinds.Mean m) = answers.Mean m
+
+-- the same aggregate of the same measure
+abbrev pub same_kind : AggKind → AggKind → Bool
+same_kind kinds.Count kinds.Count = true
+same_kind (kinds.Sum m) (kinds.Sum n) = m == n
+same_kind (kinds.Least m) (kinds.Least n) = m == n
+same_kind (kinds.Greatest m) (kinds.Greatest n) = m == n
+same_kind (kinds.Mean m) (kinds.Mean n) = m == n
+same_kind j k = false
 
 -- the measure that is asked for, if one is, is one of so many
 abbrev pub IsThere : ℕ → AggKind → Type 0

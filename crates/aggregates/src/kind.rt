@@ -1,4 +1,6 @@
 // What a class is asked for.
+ghost use Rattle.std.specs.Prelude.{◌≡◌};
+ghost use Rattle.aggregates.specs.Views.{same_kind};
 
 /// What is asked of an aggregate. All but the count name a measure.
 #[derive(Clone, Copy, Debug, PartialEq, Eq)]
@@ -8,4 +10,11 @@ pub enum AggKind {
     Least(u8),
     Greatest(u8),
     Mean(u8),
+}
+
+/// Whether both ask for the same aggregate of the same measure.
+pub fn same_kind(a: AggKind, b: AggKind) -> bool
+    ensures { result ≡ same_kind a b }
+{
+    a == b
 }

@@ -13,7 +13,7 @@ mod value;
 
 pub use agg::{Agg, Part};
 pub use fraction::{Fraction, Ratio};
-pub use kind::AggKind;
+pub use kind::{AggKind, same_kind};
 pub use print::{print_amount, print_number, print_ratio};
 pub use quotient::Quotient;
 pub use read::{read_amount, read_fraction, read_id};

@@ -15,7 +15,7 @@ use Rattle.cube_defs.specs.Answers.{value_of}
 use Rattle.cube_laws.specs.Lists.{Among}
 use Rattle.cube_laws.proofs.Orders.{is_equal}
 use Rattle.cube_laws.proofs.Numbers.{nat_or_not}
-use Rattle.aggregates.specs.Views.{agg_in, kind_in, ratio_in}
+use Rattle.aggregates.specs.Views.{agg_in, kind_in, ratio_in, same_kind}
 use Rattle.aggregates.specs.declared.agg.Agg.{Agg}
 use Rattle.aggregates.specs.declared.kind.AggKind.{AggKind}
 use Rattle.aggregates.specs.declared.kind.AggKind.TheVariants as kinds
@@ -24,7 +24,7 @@ use Rattle.qc_arena.specs.Changes.{AreNew}
 use Rattle.measure_index.specs.declared.entry.Entry.{Entry}
 use Rattle.measure_index.specs.Changes.{HasChanged, has, lists}
 use Rattle.measure_index.specs.Entries.{AreEntries, IsEntry, entry_cmp, entry_total}
-use Rattle.measure_index.specs.Index.{empty_ranking, kind_eq, ranking_of, scale_of, units}
+use Rattle.measure_index.specs.Index.{empty_ranking, ranking_of, scale_of, units}
 use Rattle.measure_index.specs.Rankings.{IsIndex, IsRanking, Ranking}
 use Rattle.measure_index.proofs.EntryLemmas.{exact, same_entry}
 use Rattle.measure_index.proofs.LowestTerms.{same_ratio}
@@ -249,7 +249,7 @@ empty_index scales (kind ∷ kinds) = behind (empty_index scales kinds)
     behind more zero d l = none
     behind more (suc k) d l = more k d (omega (arith, l))
 
-pub same_kinds : (a b : AggKind) → kind_eq a b ≡ true → a ≡ b
+pub same_kinds : (a b : AggKind) → same_kind a b ≡ true → a ≡ b
 same_kinds kinds.Count kinds.Count h = refl
 same_kinds kinds.Count (kinds.Sum n) h = cc
 same_kinds kinds.Count (kinds.Least n) h = cc
@@ -279,9 +279,9 @@ same_kinds (kinds.Mean m) (kinds.Mean n) h = ap (λ (i : ℕ). kinds.Mean i) (eq
 -- the ranking that is found for a kind
 pub ranking_found : (class : ℕ → Option defs.Agg) (kind : AggKind) (index : List Ranking) (r : Ranking) → IsIndex class index → ranking_of kind index ≡ Some r → IsRanking class r × (kind ≡ r.kind)
 ranking_found class kind [] r is e = cc
-ranking_found class kind (x ∷ index) r is e = go (ranking_found class kind index r (λ k d l. is (suc k) d (omega (arith, l)))) (kind_eq kind x.kind) refl e
+ranking_found class kind (x ∷ index) r is e = go (ranking_found class kind index r (λ k d l. is (suc k) d (omega (arith, l)))) (same_kind kind x.kind) refl e
   where
-    go : (ranking_of kind index ≡ Some r → IsRanking class r × (kind ≡ r.kind)) → (b : Bool) → kind_eq kind x.kind ≡ b → cond b (Some x) (ranking_of kind index) ≡ Some r → IsRanking class r × (kind ≡ r.kind)
+    go : (ranking_of kind index ≡ Some r → IsRanking class r × (kind ≡ r.kind)) → (b : Bool) → same_kind kind x.kind ≡ b → cond b (Some x) (ranking_of kind index) ≡ Some r → IsRanking class r × (kind ≡ r.kind)
     go more true same f = let one : x ≡ r = cc in (subst (IsRanking class) one (is 0 x (omega arith)), same_kinds kind x.kind same ∙ ap (λ y. y.kind) one)
     go more false other f = more f
 
@@ -296,8 +296,8 @@ scale_found scales kind (x ∷ index) [] e r f = cc
 scale_found scales kind (x ∷ index) (k ∷ named) e r f =
     let first : ◌≡◌ {A = AggKind × ℕ} (x.kind, x.scale) (k, scale_of scales k) = cc in
     let rest : units index ≡ map (λ k. (k, scale_of scales k)) named = cc in
-    go (scale_found scales kind index named rest r) (ap (λ p. p.1) first ∙ ap (scale_of scales) (sym (ap (λ p. p.0) first))) (kind_eq kind x.kind) refl f
+    go (scale_found scales kind index named rest r) (ap (λ p. p.1) first ∙ ap (scale_of scales) (sym (ap (λ p. p.0) first))) (same_kind kind x.kind) refl f
   where
-    go : (ranking_of kind index ≡ Some r → r.scale ≡ scale_of scales kind) → x.scale ≡ scale_of scales x.kind → (b : Bool) → kind_eq kind x.kind ≡ b → cond b (Some x) (ranking_of kind index) ≡ Some r → r.scale ≡ scale_of scales kind
+    go : (ranking_of kind index ≡ Some r → r.scale ≡ scale_of scales kind) → x.scale ≡ scale_of scales x.kind → (b : Bool) → same_kind kind x.kind ≡ b → cond b (Some x) (ranking_of kind index) ≡ Some r → r.scale ≡ scale_of scales kind
     go more own true same g = let one : x ≡ r = cc in ap (λ y. y.scale) (sym one) ∙ own ∙ ap (scale_of scales) (sym (same_kinds kind x.kind same))
     go more own false other g = more g

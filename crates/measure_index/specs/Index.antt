@@ -1,21 +1,14 @@
 -- The rankings of an index by their kinds.
-use Rattle.std.specs.Prelude.{ℕ, Bool, true, false, ◌==◌, Option, Some, None, List, [], map, slice_index_or}
+use Rattle.std.specs.Prelude.{ℕ, Option, Some, None, List, [], map, slice_index_or}
 use Rattle.std.specs.List.{find}
 use Rattle.aggregates.specs.declared.kind.AggKind.{AggKind}
+use Rattle.aggregates.specs.Views.{same_kind}
 use Rattle.aggregates.specs.declared.kind.AggKind.TheVariants as kinds
 use Rattle.measure_index.specs.declared.entry.Entry.{Entry}
 use Rattle.measure_index.specs.Rankings.{Ranking, no_entries}
 
-abbrev pub kind_eq : AggKind → AggKind → Bool
-kind_eq kinds.Count kinds.Count = true
-kind_eq (kinds.Sum m) (kinds.Sum n) = m == n
-kind_eq (kinds.Least m) (kinds.Least n) = m == n
-kind_eq (kinds.Greatest m) (kinds.Greatest n) = m == n
-kind_eq (kinds.Mean m) (kinds.Mean n) = m == n
-kind_eq _ _ = false
-
 abbrev pub ranking_of : AggKind → List Ranking → Option Ranking
-ranking_of kind index = find (λ r. kind_eq kind r.kind) index
+ranking_of kind index = find (λ r. same_kind kind r.kind) index
 
 abbrev pub entries_in : Option Ranking → List Entry
 entries_in None = []

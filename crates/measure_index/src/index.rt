@@ -7,13 +7,13 @@ ghost use Rattle.cube_defs.specs.Rows as defs;
 ghost use Rattle.qc_arena.specs.Changes.{AreNew};
 ghost use Rattle.measure_index.specs.Changes.{HasChanged};
 ghost use Rattle.measure_index.specs.Entries.{HaveMeasure};
-ghost use Rattle.measure_index.specs.Index.{empty_ranking, entries_of, kind_eq, ranking_of, scale_of, units};
+ghost use Rattle.measure_index.specs.Index.{empty_ranking, entries_of, ranking_of, scale_of, units};
 ghost use Rattle.measure_index.specs.Rankings.{IsIndex, IsRising, Ranking, no_entries};
 ghost use Rattle.measure_index.specs.Walks.{is_at_least, is_at_most};
 
 use crate::column::Column;
 use crate::walk::{Direction, Walk};
-use aggregates::{Agg, AggKind, Fraction};
+use aggregates::{Agg, AggKind, Fraction, same_kind};
 use cell_core::NodeNo;
 use cube_defs::Memory;
 use std::alloc::Global;
@@ -33,12 +33,6 @@ impl Model for Index {
     ghost Value = { List Ranking };
 
     ghost view = { λ x. x.columns.items };
-}
-
-fn same_kind(a: AggKind, b: AggKind) -> bool
-    ensures { result ≡ kind_eq a b }
-{
-    a == b
 }
 
 // The scale of the kind's measure. A count has none.

@@ -10,11 +10,11 @@ use Rattle.std.specs.Bool.{Decides}
 use Rattle.std.proofs.lemmas.Slice.Eq.{bytes_eq-Decides}
 use Rattle.std.proofs.lemmas.List.{map-append, length_push, append-nil}
 use Rattle.std.proofs.lemmas.List.Folds.{list_any-append}
-use Rattle.aggregates.specs.Views.{IsThere}
+use Rattle.aggregates.specs.Views.{IsThere, same_kind}
 use Rattle.aggregates.specs.declared.kind.AggKind.{AggKind}
 use Rattle.aggregates.specs.declared.kind.AggKind.TheVariants as kinds
 use Rattle.cube_defs.specs.Text.{Text}
-use Rattle.qc_schema.specs.Schema.{IsLayout, Layout, Measure, all_different, is_name, max_dims, max_measures, names_of, same_kind}
+use Rattle.qc_schema.specs.Schema.{IsLayout, Layout, Measure, all_different, is_name, max_dims, max_measures, names_of}
 use Rattle.qc_schema.specs.declared.limits.SchemaVersion.{SchemaVersion}
 use Rattle.qc_schema.specs.declared.limits.SchemaVersion.TheVariants as versions
 use Rattle.qc_schema.specs.Progress.{Progress, Fault, Line}

@@ -10,14 +10,14 @@ use Rattle.std.proofs.lemmas.Str.Parse.{IsNumeralModel, numerals_by_value, tells
 use Rattle.std.proofs.lemmas.List.{append-nil, length_push, map-append}
 use Rattle.std.proofs.lemmas.List.Folds.{list_any-append}
 use Rattle.std.proofs.lemmas.Slice.Eq.{bytes_eq-Decides}
-use Rattle.aggregates.specs.Views.{IsThere}
+use Rattle.aggregates.specs.Views.{IsThere, same_kind}
 use Rattle.aggregates.specs.declared.kind.AggKind.{AggKind}
 use Rattle.aggregates.specs.declared.kind.AggKind.TheVariants as kinds
 use Rattle.cube_defs.specs.Text.{Text}
 use Rattle.cube_defs.specs.declared.limits.TheConstants.{MAX_CODES, MAX_NODES, MAX_ROWS}
 use Rattle.qc_schema.specs.Grammar.{◌>>=◌, and_on, dim_line, id_line, index_line, is_start, kind_of, limit_in, line_of_words, may_dim, may_end, may_index, may_measure, measure_from, measure_line, named_line, nodes_line, read_lines, rows_line, scale_in, schema_in, start, take_line, values_line, version_line}
 use Rattle.text_lines.specs.Lines.{lines_of, without_cr}
-use Rattle.qc_schema.specs.Schema.{IsLayout, Layout, Measure, all_different, is_name, is_name_byte, max_dims, max_measures, same_kind, version_word}
+use Rattle.qc_schema.specs.Schema.{IsLayout, Layout, Measure, all_different, is_name, is_name_byte, max_dims, max_measures, version_word}
 use Rattle.qc_schema.specs.declared.limits.SchemaVersion.{SchemaVersion}
 use Rattle.qc_schema.specs.declared.limits.SchemaVersion.TheVariants as versions
 use Rattle.qc_schema.specs.Spelling.{dim_words, index_words, layout_text, layout_words, limit_words, line_text, measure_words, name_at}

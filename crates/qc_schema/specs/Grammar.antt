@@ -4,12 +4,13 @@ use Rattle.std.specs.List.{list_any}
 use Rattle.std.specs.Str.{bytes_eq, is_utf8, all_ascii_digits}
 use Rattle.std.specs.Str.Parse.{digits_value}
 use Rattle.cube_defs.specs.Text.{Text}
+use Rattle.aggregates.specs.Views.{same_kind}
 use Rattle.aggregates.specs.declared.kind.AggKind.{AggKind}
 use Rattle.aggregates.specs.declared.kind.AggKind.TheVariants as kinds
 use Rattle.qc_schema.specs.Lines.{schema_lines}
 use Rattle.text_lines.specs.Cuts.{words_of}
 use Rattle.text_lines.specs.Lines.{is_comment}
-use Rattle.qc_schema.specs.Schema.{Layout, Measure, is_name, max_dims, max_measures, names_of, same_kind, version_word}
+use Rattle.qc_schema.specs.Schema.{Layout, Measure, is_name, max_dims, max_measures, names_of, version_word}
 use Rattle.qc_schema.specs.Progress.{Progress, Fault, NotUtf8, Line}
 use Rattle.qc_schema.specs.declared.reader.Stage.{Stage}
 use Rattle.qc_schema.specs.declared.reader.Stage.TheVariants as stages

@@ -5,9 +5,8 @@ use Rattle.std.specs.List.{list_all, list_any, AllByRecursion}
 use Rattle.std.specs.Prelude.{◌||◌}
 use Rattle.std.specs.Str.{bytes_eq}
 use Rattle.cube_defs.specs.Text.{Text}
-use Rattle.aggregates.specs.Views.{IsThere}
+use Rattle.aggregates.specs.Views.{IsThere, same_kind}
 use Rattle.aggregates.specs.declared.kind.AggKind.{AggKind}
-use Rattle.aggregates.specs.declared.kind.AggKind.TheVariants as kinds
 use Rattle.qc_schema.specs.declared.limits.SchemaVersion.{SchemaVersion}
 use Rattle.qc_schema.specs.declared.limits.SchemaVersion.TheVariants as versions
 use Rattle.qc_schema.specs.declared.limits.TheConstants.{VERSION_1_DIMS, VERSION_1_MEASURES}
@@ -63,14 +62,6 @@ names_of l = l.id ∷ (l.dims ++ map (λ m. m.name) l.measures)
 abbrev pub all_different : {X : Type 0} → (X → X → Bool) → List X → Bool
 all_different eq [] = true
 all_different eq (x ∷ xs) = not (list_any (λ y. eq y x) xs) && all_different eq xs
-
-abbrev pub same_kind : AggKind → AggKind → Bool
-same_kind kinds.Count kinds.Count = true
-same_kind (kinds.Sum m) (kinds.Sum n) = m == n
-same_kind (kinds.Least m) (kinds.Least n) = m == n
-same_kind (kinds.Greatest m) (kinds.Greatest n) = m == n
-same_kind (kinds.Mean m) (kinds.Mean n) = m == n
-same_kind j k = false
 
 -- what each schema that the grammar has is known to be
 pub record IsLayout (l : Layout) : Type 0 where

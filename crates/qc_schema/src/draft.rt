@@ -4,7 +4,7 @@ ghost use Rattle.std.specs.List.{list_any};
 ghost use Rattle.std.specs.Str.{bytes_eq};
 ghost use Rattle.qc_schema.specs.Grammar.{is_used, kind_named, kind_of, measure_from, new_kind, new_name, start};
 ghost use Rattle.text_lines.specs.Cuts.{words_of};
-ghost use Rattle.qc_schema.specs.Schema.{same_kind};
+ghost use Rattle.aggregates.specs.Views.{same_kind};
 ghost use Rattle.cell_core.specs.Gives.{Gives};
 ghost use Rattle.qc_schema.specs.Progress.{cause_in, layout_in, measure_in};
 
@@ -12,7 +12,7 @@ use crate::limits::{DEFAULT_NODES, SchemaVersion};
 use crate::lines::only_word;
 use crate::refusal::{SchemaCause, SchemaLineRefused};
 use crate::words::name_in;
-use aggregates::AggKind;
+use aggregates::{AggKind, same_kind};
 use cube_defs::{MAX_CODES, MAX_MEASURES, MAX_ROWS};
 use std::alloc::Global;
 use text_lines::split_word;
@@ -94,25 +94,12 @@ fn kind_with(aggregate: &[u8], measure: Option<u8>) -> Result<AggKind, SchemaLin
     }
 }
 
-fn is_same(kind: AggKind, other: AggKind) -> bool
-    ensures { result ≡ same_kind kind other }
-{
-    match (kind, other) {
-        (AggKind::Count, AggKind::Count) => true,
-        (AggKind::Sum(m), AggKind::Sum(n)) => m == n,
-        (AggKind::Least(m), AggKind::Least(n)) => m == n,
-        (AggKind::Greatest(m), AggKind::Greatest(n)) => m == n,
-        (AggKind::Mean(m), AggKind::Mean(n)) => m == n,
-        _ => false,
-    }
-}
-
 // Whether an aggregate is indexed already.
 fn has_kind(kinds: &Vec<AggKind>, kind: AggKind) -> bool
     ensures { result ≡ list_any (λ k. same_kind k kind) kinds.now.items }
 {
     for other in kinds {
-        if is_same(*other, kind) {
+        if same_kind(*other, kind) {
             return true;
         }
     }

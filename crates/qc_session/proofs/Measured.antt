@@ -3,10 +3,10 @@ use Rattle.std.proofs.Common.{◌≡◌, ℕ, zero, suc, Bool, true, false, ◌|
 use Rattle.std.specs.Prelude.{IsSome}
 use Rattle.std.specs.List.{list_any}
 use Rattle.std.proofs.lemmas.Bool.{cond-false, cond-true}
-use Rattle.aggregates.specs.Views.{IsThere, kind_in}
+use Rattle.aggregates.specs.Views.{IsThere, kind_in, same_kind}
 use Rattle.aggregates.specs.declared.kind.AggKind.{AggKind}
 use Rattle.aggregates.specs.declared.kind.AggKind.TheVariants as kinds
-use Rattle.measure_index.specs.Index.{kind_eq, ranking_of, units}
+use Rattle.measure_index.specs.Index.{ranking_of, units}
 use Rattle.measure_index.specs.Rankings.{Ranking}
 use Rattle.qc_schema.specs.Schema.{Layout, Measure, no_measure}
 use Rattle.query_script.specs.Commands.{IsMeasured}
@@ -37,15 +37,15 @@ scale-is schema kind = go kind
     go (kinds.Mean m) = at schema.measures m
 
 -- a kind that the schema names is in the index
-pub named-kept : (schema : Layout) (kind : AggKind) (index : List Ranking) (kinds : List AggKind) → units index ≡ map (λ k. (k, scale_in schema k)) kinds → list_any (kind_eq kind) kinds ≡ true → IsSome (ranking_of kind index)
+pub named-kept : (schema : Layout) (kind : AggKind) (index : List Ranking) (kinds : List AggKind) → units index ≡ map (λ k. (k, scale_in schema k)) kinds → list_any (same_kind kind) kinds ≡ true → IsSome (ranking_of kind index)
 named-kept schema kind [] [] e named = cc
 named-kept schema kind [] (k ∷ kinds) e named = cc
 named-kept schema kind (r ∷ index) [] e named = cc
 named-kept schema kind (r ∷ index) (k ∷ kinds) e named =
     let first : ◌≡◌ {A = AggKind × ℕ} (r.kind, r.scale) (k, scale_in schema k) = cc in
     let rest : units index ≡ map (λ k. (k, scale_in schema k)) kinds = cc in
-    go (kind_eq kind r.kind) refl (ap (λ q. kind_eq kind q || list_any (kind_eq kind) kinds) (ap (λ p. p.0) first) ∙ named) (λ later. named-kept schema kind index kinds rest later)
+    go (same_kind kind r.kind) refl (ap (λ q. same_kind kind q || list_any (same_kind kind) kinds) (ap (λ p. p.0) first) ∙ named) (λ later. named-kept schema kind index kinds rest later)
   where
-    go : (b : Bool) → kind_eq kind r.kind ≡ b → (kind_eq kind r.kind || list_any (kind_eq kind) kinds) ≡ true → (list_any (kind_eq kind) kinds ≡ true → IsSome (ranking_of kind index)) → IsSome (ranking_of kind (r ∷ index))
+    go : (b : Bool) → same_kind kind r.kind ≡ b → (same_kind kind r.kind || list_any (same_kind kind) kinds) ≡ true → (list_any (same_kind kind) kinds ≡ true → IsSome (ranking_of kind index)) → IsSome (ranking_of kind (r ∷ index))
     go true f known more = subst (λ o. IsSome o) (sym (cond-true _ _ _ f)) refl
-    go false f known more = subst (λ o. IsSome o) (sym (cond-false _ _ _ f)) (more (ap (λ b. b || list_any (kind_eq kind) kinds) (sym f) ∙ known))
+    go false f known more = subst (λ o. IsSome o) (sym (cond-false _ _ _ f)) (more (ap (λ b. b || list_any (same_kind kind) kinds) (sym f) ∙ known))

@@ -3,7 +3,7 @@ use Rattle.std.specs.Prelude.{ℕ, ◌+◌, ◌*◌, ◌^◌, Bool, Option, Some
 use Rattle.std.specs.List.{list_any}
 use Rattle.std.specs.Option.{option_map}
 use Rattle.aggregates.specs.declared.kind.AggKind.{AggKind as Kinds}
-use Rattle.measure_index.specs.Index.{kind_eq}
+use Rattle.aggregates.specs.Views.{same_kind}
 use Rattle.cube_defs.specs.Text.{Text, text_cmp, text_eq}
 use Rattle.cube_defs.specs.Cell.{Cell}
 use Rattle.cube_defs.specs.Rows.{Fraction}
@@ -94,7 +94,7 @@ classes_of state kind bound value = iceberg text_cmp (length state.schema.measur
 
 -- the schema has an index of the kind
 abbrev pub names_kind : Layout → Kinds → Bool
-names_kind schema kind = list_any (kind_eq kind) schema.indexes
+names_kind schema kind = list_any (same_kind kind) schema.indexes
 
 -- how many steps a class of an answer may take
 abbrev pub steps_of_class : Layout → ℕ

@@ -1,6 +1,6 @@
 use Rattle.std.proofs.Common.{◌≡◌, drop}
 use Rattle.std.specs.List.{list_any}
-use Rattle.qc_schema.specs.Schema.{same_kind}
+use Rattle.aggregates.specs.Views.{same_kind}
 use Rattle.qc_schema.proofs.draft.has_kind.Given as goal
 
 abbrev pub invariant-loop-other : goal.invariant-loop-other
