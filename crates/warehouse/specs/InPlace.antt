@@ -14,7 +14,7 @@ use Rattle.cube_defs.specs.Tree.{Node, Tree, above, cell_at}
 use Rattle.cube_laws.specs.Recoding.{coded_row}
 use Rattle.qc_schema.specs.Schema.{Layout}
 use Rattle.value_dict.specs.Told.{place_in}
-use Rattle.warehouse.specs.Batch.{Apply, is_among, result}
+use Rattle.warehouse.specs.Batch.{Apply, is_among, result, texts_after}
 use Rattle.warehouse.specs.State.{Contents, State}
 
 module _ {A : Type 0} where
@@ -66,6 +66,10 @@ abbrev pub cost_of_batch : ℕ → List (List Text) → List (Row Text) → List
 cost_of_batch dims lists rows changes =
     cost_of_going dims (with_codes lists rows) (deleted changes) + cost_of dims (with_codes lists (kept (deleted changes) rows)) (with_codes lists (inserted changes))
 
+-- the most steps for the changes that a state takes, whether or not they stay
+abbrev pub cost_in : State → List (Change Text) → ℕ
+cost_in s changes = cost_of_batch (length s.schema.dims) (texts_after s.texts changes) s.rows changes
+
 -- the file is a batch, and this holds of its changes
 abbrev pub OfBatch : Layout → List ℕ → (List (Change Text) → Type 0) → Type 0
 OfBatch schema bytes Holds = (changes : List (Change Text)) → batch_in schema bytes ≡ Ok changes → Holds changes
@@ -81,9 +85,8 @@ LeavesApart before bytes now =
     OfBatch before.state.schema bytes (λ changes. KeepsApart (with_codes now.state.texts (gone (deleted changes) before.state.rows ++ inserted changes)) before.tree now.tree)
 
 -- and no more steps are taken than a batch may cost, from one count of them to another
-abbrev pub IsWithinCost : Contents → List ℕ → Contents → ℕ → ℕ → Type 0
-IsWithinCost before bytes now from to =
-    OfBatch before.state.schema bytes (λ changes. to ≤ from + cost_of_batch (length before.state.schema.dims) now.state.texts before.state.rows changes)
+abbrev pub IsWithinCost : State → List ℕ → ℕ → ℕ → Type 0
+IsWithinCost before bytes from to = OfBatch before.schema bytes (λ changes. to ≤ from + cost_in before changes)
 
 -- the file is a batch that a state takes
 abbrev pub IsTaken : State → List ℕ → Type 0

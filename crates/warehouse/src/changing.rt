@@ -3,16 +3,17 @@
 ghost use Rattle.std.specs.Prelude.{Err, IfErr, IfOk, IfSome, None, Ok, OnErr, OnOk, Some, [], false, is_some, length, option_map, true, ◌+◌, ◌++◌, ◌<◌, ◌∷◌, ◌≡◌, ◌≤◌};
 ghost use Rattle.base_table.specs.Places.{has_id, rows_of};
 ghost use Rattle.cell_core.specs.Gives.{Gives};
+ghost use Rattle.cube_defs.specs.Text.{text_cmp};
 ghost use Rattle.csv_load.specs.Batch.{IsBatch, change_at, deleted, id_of, inserted, is_deletion, row_of};
-ghost use Rattle.cube_defs.specs.Tree.{IsCanonical, nodes};
+ghost use Rattle.cube_defs.specs.Tree.{IsCanonical, classes, nodes};
 ghost use Rattle.qc_arena.specs.Map as arena;
 ghost use Rattle.qc_arena.specs.Map.{is_open};
 ghost use Rattle.std.specs.Ordering.{nat_cmp};
 ghost use Rattle.value_dict.specs.TextLists.{IsDictionary};
 ghost use Rattle.warehouse.specs.Batch as batches;
-ghost use Rattle.warehouse.specs.Batch.{after, first_number, first_twice, full_dim, refusal_of, result_of, texts_after, with_tuple};
-ghost use Rattle.warehouse.specs.InPlace.{KeepsApart, KeepsNodes, KeepsNumbers, cost_of, cost_of_batch, cost_of_going, gone, kept, with_codes};
-ghost use Rattle.warehouse.specs.State.{IsIndexed};
+ghost use Rattle.warehouse.specs.Batch.{after, first_number, first_twice, full_dim, refusal_of, result_of, rows_after, texts_after, with_tuple};
+ghost use Rattle.warehouse.specs.InPlace.{KeepsApart, KeepsNodes, KeepsNumbers, cost_in, cost_of, cost_of_going, gone, kept, with_codes};
+ghost use Rattle.warehouse.specs.State.{IsIndexed, State};
 ghost use Rattle.warehouse.specs.Steps.{AreLonger, HasFront, IsCause, IsOver, IsTreeBefore, closed, frame, is_there, last_refusal, rows_before, rows_behind};
 ghost use Rattle.warehouse.specs.Stored.{IsTreeOfTable, IsStored, IsTreeOfSome, applied_in, decoded_rows, refusal_in, state_of};
 ghost use Rattle.value_dict.specs.Told.{RowsAreCodes};
@@ -310,7 +311,7 @@ fn change_and_build<L: Ledger>(
         (with_codes dict.new.lists (gone (deleted batch.now.changes) (decoded_rows dict.old.lists table.old)
         ++ inserted batch.now.changes)) tree.old.now tree.new.now) }
     ensures steps { OnOk result (in_place ≡ true → steps.new
-        ≤ steps.old + cost_of_batch (length schema.now.dims) dict.new.lists (decoded_rows dict.old.lists table.old) batch.now.changes) }
+        ≤ steps.old + cost_in (state_of schema.now dict.old table.old) batch.now.changes) }
     ensures known { OnOk result (RowsAreCodes dict.new.lists (rows_of table.new)) }
     ensures cause { IfErr result (λ refused. IsCause refused (state_of schema.now dict.old table.old) batch.now.changes) }
     ensures longer { AreLonger dict.old.lists dict.new.lists }
@@ -372,7 +373,7 @@ fn change_and_index<L: Ledger>(
         (with_codes dict.new.lists (gone (deleted batch.now.changes) (decoded_rows dict.old.lists table.old)
         ++ inserted batch.now.changes)) tree.old.now tree.new.now) }
     ensures steps { OnOk result (in_place ≡ true → steps.new
-        ≤ steps.old + cost_of_batch (length schema.now.dims) dict.new.lists (decoded_rows dict.old.lists table.old) batch.now.changes) }
+        ≤ steps.old + cost_in (state_of schema.now dict.old table.old) batch.now.changes) }
     ensures indexed { OnOk result (IsIndexed schema.now tree.new.now index.new) }
     ensures same_index { OnErr result (index.new ≡ index.old) }
 {
@@ -413,7 +414,7 @@ pub(crate) fn change<L: Ledger>(
         (with_codes dict.new.lists (gone (deleted batch.now.changes) (decoded_rows dict.old.lists table.old)
         ++ inserted batch.now.changes)) tree.old.now tree.new.now) }
     ensures steps { OnOk result (in_place ≡ true → steps.new
-        ≤ steps.old + cost_of_batch (length schema.now.dims) dict.new.lists (decoded_rows dict.old.lists table.old) batch.now.changes) }
+        ≤ steps.old + cost_in (state_of schema.now dict.old table.old) batch.now.changes) }
     ensures stored { IsStored schema.now dict.new table.new }
     ensures kept { IsTreeOfTable schema.now table.new tree.new }
     ensures indexed { IsIndexed schema.now tree.new.now index.new }
@@ -435,5 +436,107 @@ pub(crate) fn change<L: Ledger>(
             go_back(table, dict, tree, &lens[..usize::from(schema.dims())]);
             Err(refused)
         }
+    }
+}
+
+// Makes the changes in a batch that is open, and the tree of the rows after them, in place, and tells how
+// many classes they have. After a refusal some of the changes are made.
+fn change_and_count<L: Ledger>(
+    schema: &Schema,
+    table: &mut Table,
+    dict: &mut Dict,
+    tree: &mut QcArena,
+    batch: &RawBatch,
+    alloc: Global,
+    steps: &mut Steps<L>,
+) -> Result<u32, Refused>
+    requires stored { IsStored schema.now dict.old (closed table.old) }
+    requires is_open { is_some table.old.was ≡ true }
+    requires opened { is_open tree.old ≡ true }
+    requires width { tree.old.width ≡ length schema.now.dims }
+    requires most_nodes { tree.old.max ≡ schema.now.nodes }
+    requires tree { IsCanonical nat_cmp table.old.measures (rows_of table.old) tree.old.now }
+    requires few_nodes { length (nodes nat_cmp (rows_of table.old)) ≤ tree.old.max }
+    requires dims { batch.now.dims ≡ length schema.now.dims }
+    requires measures { batch.now.measures ≡ length schema.now.measures }
+    requires once { first_twice batch.now.changes ≡ None }
+    requires valid { IsBatch batch.now }
+    ensures none { OnOk result (refusal_of (state_of schema.now dict.old table.old) batch.now.changes ≡ None) }
+    ensures classes { IfOk result (λ count. count ≡ length (classes text_cmp (rows_after (decoded_rows dict.old.lists table.old) batch.now.changes))) }
+    ensures cause { IfErr result (λ refused. IsCause refused (state_of schema.now dict.old table.old) batch.now.changes) }
+    ensures steps { OnOk result (steps.new ≤ steps.old + cost_in (state_of schema.now dict.old table.old) batch.now.changes) }
+    ensures longer { AreLonger dict.old.lists dict.new.lists }
+    ensures max { dict.new.max ≡ dict.old.max }
+    ensures dictionary { IsDictionary dict.new }
+    ensures frame { frame table.new ≡ frame table.old }
+    ensures tree_frame { arena.frame tree.new ≡ arena.frame tree.old }
+{
+    change_and_build(schema, table, dict, tree, batch, true, alloc, steps)?;
+    table.is_valid();
+    Ok(tree.class_count())
+}
+
+// Makes the changes in a batch of their own, with the tree of the rows after them, tells how many classes
+// they have, and takes them all back.
+fn count_and_go_back<L: Ledger>(
+    schema: &Schema,
+    table: &mut Table,
+    dict: &mut Dict,
+    tree: &mut QcArena,
+    batch: &RawBatch,
+    alloc: Global,
+    steps: &mut Steps<L>,
+) -> Result<u32, Refused>
+    requires stored { IsStored schema.now dict.old table.old }
+    requires kept { IsTreeOfTable schema.now table.old tree.old }
+    requires dims { batch.now.dims ≡ length schema.now.dims }
+    requires measures { batch.now.measures ≡ length schema.now.measures }
+    requires once { first_twice batch.now.changes ≡ None }
+    requires valid { IsBatch batch.now }
+    ensures none { OnOk result (refusal_of (state_of schema.now dict.old table.old) batch.now.changes ≡ None) }
+    ensures classes { IfOk result (λ count. count ≡ length (classes text_cmp (rows_after (decoded_rows dict.old.lists table.old) batch.now.changes))) }
+    ensures cause { IfErr result (λ refused. IsCause refused (state_of schema.now dict.old table.old) batch.now.changes) }
+    ensures steps { OnOk result (steps.new ≤ steps.old + cost_in (state_of schema.now dict.old table.old) batch.now.changes) }
+    ensures state { state_of schema.now dict.new table.new ≡ state_of schema.now dict.old table.old }
+    ensures tree { tree.new.now ≡ tree.old.now }
+    ensures stored { IsStored schema.now dict.new table.new }
+    ensures kept { IsTreeOfTable schema.now table.new tree.new }
+{
+    let lens = open_batch(schema, table, dict, tree);
+    let counted = change_and_count(schema, table, dict, tree, batch, alloc, steps);
+    let dims = usize::from(schema.dims());
+    go_back(table, dict, tree, &lens[..dims]);
+    counted
+}
+
+/// Tells what changes would come to, and leaves rows, texts and tree as they were.
+pub(crate) fn attempt<L: Ledger>(
+    schema: &Schema,
+    table: &mut Table,
+    dict: &mut Dict,
+    tree: &mut QcArena,
+    batch: &RawBatch,
+    alloc: Global,
+    steps: &mut Steps<L>,
+) -> Result<Applied, Refused>
+    requires stored { IsStored schema.now dict.old table.old }
+    requires kept { IsTreeOfTable schema.now table.old tree.old }
+    requires dims { batch.now.dims ≡ length schema.now.dims }
+    requires measures { batch.now.measures ≡ length schema.now.measures }
+    ensures gives { (then : State) × Gives refusal_in (applied_in then) result
+        (result_of (state_of schema.now dict.old table.old) (Ok batch.now.changes)) }
+    ensures steps { OnOk result (steps.new ≤ steps.old + cost_in (state_of schema.now dict.old table.old) batch.now.changes) }
+    ensures state { state_of schema.now dict.new table.new ≡ state_of schema.now dict.old table.old }
+    ensures tree { tree.new.now ≡ tree.old.now }
+    ensures stored { IsStored schema.now dict.new table.new }
+    ensures kept { IsTreeOfTable schema.now table.new tree.new }
+{
+    if let Some(k) = first_repeat(alloc, batch)? {
+        return Err(Refused::Twice(k));
+    }
+    let records = batch.len();
+    match count_and_go_back(schema, table, dict, tree, batch, alloc, steps) {
+        Ok(classes) => Ok(Applied { records, classes }),
+        Err(refused) => Err(refused),
     }
 }

@@ -11,12 +11,12 @@ ghost use Rattle.measure_index.specs.Index.{ranking_of};
 ghost use Rattle.measure_index.specs.Rankings.{IsIndex};
 ghost use Rattle.warehouse.specs.Batch as batches;
 ghost use Rattle.warehouse.specs.Batch.{result_of};
-ghost use Rattle.warehouse.specs.InPlace.{IsWithinCost, KeepsApart, KeepsNodes, LeavesApart, LeavesNumbers, cost_of_batch, gone, kept, with_codes};
+ghost use Rattle.warehouse.specs.InPlace.{IsWithinCost, KeepsApart, KeepsNodes, LeavesApart, LeavesNumbers, cost_in, gone, kept, with_codes};
 ghost use Rattle.warehouse.specs.State.{AreContents, State, empty, scale_in};
 ghost use Rattle.warehouse.specs.Stored.{applied_in, refusal_in};
 
 use crate::Memory;
-use crate::changing::change;
+use crate::changing::{attempt, change};
 use crate::indexing::new_index;
 use crate::refused::{Applied, Refused, Stats};
 use base_table::Table;
@@ -174,7 +174,7 @@ impl Warehouse {
             (with_codes self.new.state.texts (gone (deleted batch.now.changes) self.old.state.rows
             ++ inserted batch.now.changes)) self.old.tree self.new.tree) }
         ensures steps { OnOk result (in_place ≡ true → steps.new
-            ≤ steps.old + cost_of_batch (length self.old.state.schema.dims) self.new.state.texts self.old.state.rows batch.now.changes) }
+            ≤ steps.old + cost_in self.old.state batch.now.changes) }
         ensures valid { AreContents self.new }
         ensures state { OnErr result (self.new.state ≡ self.old.state) }
         ensures tree { OnErr result (self.new.tree ≡ self.old.tree) }
@@ -228,7 +228,7 @@ impl Warehouse {
         ensures gives { Gives refusal_in (applied_in self.new.state) result (batches.result self.old.state batches.Apply bytes.now) }
         ensures numbers { OnOk result (LeavesNumbers self.old bytes.now self.new) }
         ensures apart { OnOk result (LeavesApart self.old bytes.now self.new) }
-        ensures steps { OnOk result (IsWithinCost self.old bytes.now self.new steps.old steps.new) }
+        ensures steps { OnOk result (IsWithinCost self.old.state bytes.now steps.old steps.new) }
         ensures valid { AreContents self.new }
         ensures state { OnErr result (self.new.state ≡ self.old.state) }
         ensures tree { OnErr result (self.new.tree ≡ self.old.tree) }
@@ -236,6 +236,51 @@ impl Warehouse {
     {
         match read_batch(self.alloc, &self.schema, bytes) {
             Ok(batch) => self.change(&batch, true, steps),
+            Err(refused) => Err(refused_file(refused)),
+        }
+    }
+
+    // Tells what changes would come to, and takes them back.
+    fn try_change<L: Ledger>(
+        &mut self,
+        batch: &RawBatch,
+        steps: &mut Steps<L>,
+    ) -> Result<Applied, Refused>
+        requires dims { batch.now.dims ≡ length self.old.state.schema.dims }
+        requires measures { batch.now.measures ≡ length self.old.state.schema.measures }
+        ensures gives { (then : State) × Gives refusal_in (applied_in then) result (result_of self.old.state (Ok batch.now.changes)) }
+        ensures steps { OnOk result (steps.new ≤ steps.old + cost_in self.old.state batch.now.changes) }
+        ensures same { self.new ≡ self.old }
+        ensures valid { AreContents self.new }
+    {
+        attempt(
+            &self.schema,
+            &mut self.table,
+            &mut self.dict,
+            &mut self.tree,
+            batch,
+            self.alloc,
+            steps,
+        )
+    }
+
+    /// Tells what `apply` would answer to a batch, and leaves everything as it was, whatever the
+    /// answer: the rows, the texts, the index, and the tree with the numbers of its nodes. The batch is
+    /// made as `apply` makes it, in as many steps, and then it is taken back, for which no memory is
+    /// needed.
+    pub fn attempt<L: Ledger>(
+        &mut self,
+        bytes: &[u8],
+        steps: &mut Steps<L>,
+    ) -> Result<Applied, Refused>
+        requires { length bytes.now ≤ MAX_FILE }
+        ensures gives { (then : State) × Gives refusal_in (applied_in then) result (batches.result self.old.state batches.Apply bytes.now) }
+        ensures steps { OnOk result (IsWithinCost self.old.state bytes.now steps.old steps.new) }
+        ensures same { self.new ≡ self.old }
+        ensures valid { AreContents self.new }
+    {
+        match read_batch(self.alloc, &self.schema, bytes) {
+            Ok(batch) => self.try_change(&batch, steps),
             Err(refused) => Err(refused_file(refused)),
         }
     }

@@ -3,7 +3,7 @@ use Rattle.std.specs.Ordering.{nat_cmp}
 use Rattle.cube_defs.specs.Rows.{Row}
 use Rattle.cube_defs.specs.Text.{Text, text_cmp}
 use Rattle.csv_load.specs.Batch.{deleted, inserted}
-use Rattle.warehouse.specs.InPlace.{KeepsApart, KeepsNodes, cost_of_batch, gone, kept, with_codes}
+use Rattle.warehouse.specs.InPlace.{KeepsApart, KeepsNodes, cost_in, gone, kept, with_codes}
 use Rattle.cube_defs.specs.Tree.{IsCanonical, Tree, classes, nodes}
 use Rattle.base_table.specs.Places.{Base, Places, base_of, rows_of}
 use Rattle.measure_index.specs.Rankings.{Ranking}
@@ -143,5 +143,4 @@ returns-in-Ok-clause-apart g c = λ in_place.
 
 pub returns-in-Ok-clause-steps : goal.returns-in-Ok-clause-steps
 returns-in-Ok-clause-steps g c = λ in_place.
-    subst (λ (rs : List (Row Text)). c.change_and_index.new.steps ≤ c.args.steps.now + cost_of_batch (length c.args.schema.now.dims) c.change_and_index.new.dict.lists rs c.args.batch.now.changes)
-    (ap (λ (s : State). s.rows) c.open_batch-lens.ensures.state) (c.in-Ok.ensures.steps in_place)
+    subst (λ (s : State). c.change_and_index.new.steps ≤ c.args.steps.now + cost_in s c.args.batch.now.changes) c.open_batch-lens.ensures.state (c.in-Ok.ensures.steps in_place)

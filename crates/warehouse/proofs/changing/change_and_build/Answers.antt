@@ -1,10 +1,11 @@
-use Rattle.std.proofs.Common.{Err, ◌≡◌, ◌+◌, ◌<◌, ◌≤◌, ◌∙◌, ℕ, ap, length, subst}
+use Rattle.std.proofs.Common.{Err, List, ◌≡◌, ◌+◌, ◌<◌, ◌≤◌, ◌∙◌, ℕ, ap, length, subst}
 use Rattle.std.specs.Ordering.{nat_cmp}
 use Rattle.base_table.specs.Places.{Places, rows_of}
 use Rattle.csv_load.specs.Batch.{deleted}
+use Rattle.cube_defs.specs.Text.{Text}
 use Rattle.cube_defs.specs.Tree.{nodes}
 use Rattle.qc_arena.specs.Map.{Arena}
-use Rattle.warehouse.specs.InPlace.{cost_of, cost_of_going}
+use Rattle.warehouse.specs.InPlace.{cost_of, cost_of_batch, cost_of_going}
 use Rattle.warehouse.specs.State.{State}
 use Rattle.warehouse.specs.Steps.{rows_before, rows_behind}
 use Rattle.warehouse.specs.Stored.{decoded_rows, state_of}
@@ -59,5 +60,6 @@ returns-in-Ok-make_tree-clause-steps g c = λ in_place.
     subst (λ (n : ℕ). here ≤ begun + cost_of_going n (rows_of t) (deleted c.args.batch.now.changes)) dims is.steps in
     let coming : end ≤ here + cost_of (length c.args.schema.now.dims) (rows_before t' c.in-Ok.first) (rows_behind t' c.in-Ok.first) =
     subst (λ (n : ℕ). end ≤ here + cost_of n (rows_before t' c.in-Ok.first) (rows_behind t' c.in-Ok.first)) dims' (c.in-Ok-make_tree.ensures.steps in_place) in
-    batch-steps (rows_of t) t' c.in-Ok.first c.args.dict.now.lists c.change_rows.new.dict.lists c.args.batch.now.changes is.longer c.requires.stored.known is.known is.dictionary.distinct is.left
-    (ap (λ (s : State). s.rows) is.made) (length c.args.schema.now.dims) begun here end going coming
+    subst (λ (lists : List (List Text)). end ≤ begun + cost_of_batch (length c.args.schema.now.dims) lists (decoded_rows c.args.dict.now.lists t) c.args.batch.now.changes) (ap (λ (s : State). s.texts) is.made)
+    (batch-steps (rows_of t) t' c.in-Ok.first c.args.dict.now.lists c.change_rows.new.dict.lists c.args.batch.now.changes is.longer c.requires.stored.known is.known is.dictionary.distinct is.left
+    (ap (λ (s : State). s.rows) is.made) (length c.args.schema.now.dims) begun here end going coming)

@@ -1,8 +1,8 @@
-use Rattle.std.proofs.Common.{Ok, ap, length, subst, ◌+◌, ◌++◌, ◌≡◌, ◌≤◌}
+use Rattle.std.proofs.Common.{Ok, ap, subst, ◌+◌, ◌++◌, ◌≡◌, ◌≤◌}
 use Rattle.csv_load.specs.Batch.{deleted, inserted}
 use Rattle.csv_load.specs.Files.{batch_in}
 use Rattle.qc_schema.specs.Schema.{Layout}
-use Rattle.warehouse.specs.InPlace.{KeepsApart, KeepsNodes, cost_of_batch, gone, kept, with_codes}
+use Rattle.warehouse.specs.InPlace.{KeepsApart, KeepsNodes, cost_in, gone, kept, with_codes}
 use Rattle.warehouse.specs.State.{Contents}
 use Rattle.warehouse.proofs.Repairing.{of-batch}
 use Rattle.warehouse.specs.Stored.{state_of}
@@ -35,5 +35,5 @@ pub returns-in-Ok-clause-steps : goal.returns-in-Ok-clause-steps
 returns-in-Ok-clause-steps g c =
     let schema = ap (λ (h : Contents). h.state.schema) c.self.view_is in
     of-batch c.change.result c.args.self.now.state.schema c.args.bytes.now c.in-Ok.batch.changes
-    (λ changes. c.change.new.steps ≤ c.args.steps.now + cost_of_batch (length c.args.self.now.state.schema.dims) c.change.new.self.state.texts c.args.self.now.state.rows changes)
+    (λ changes. c.change.new.steps ≤ c.args.steps.now + cost_in c.args.self.now.state changes)
     (subst (λ (s : Layout). batch_in s c.args.bytes.now ≡ Ok c.in-Ok.batch.changes) schema c.in-Ok.ensures.gives) c.change.ensures.steps

@@ -1,0 +1,16 @@
+use Rattle.std.proofs.Common.{ℕ, subst, sym}
+use Rattle.cube_defs.specs.Tree.{Tree}
+use Rattle.warehouse.specs.State.{IsIndexed}
+use Rattle.warehouse.proofs.Trees.{is-held}
+use Rattle.warehouse.proofs.store.Warehouse.try_change.Goals as goal
+
+pub returns-clause-gives : goal.returns-clause-gives
+returns-clause-gives g c = rw (← c.self.view_is) c.attempt.ensures.gives
+
+pub returns-clause-steps : goal.returns-clause-steps
+returns-clause-steps g c = rw (← c.self.view_is) c.attempt.ensures.steps
+
+pub returns-clause-valid : goal.returns-clause-valid
+returns-clause-valid g c =
+    is-held c.self.inside.schema c.attempt.new.dict c.attempt.new.table c.attempt.new.tree c.self.inside.index c.attempt.ensures.stored c.attempt.ensures.kept
+    (subst (λ (t : Tree ℕ). IsIndexed c.self.inside.schema t c.self.inside.index) (sym c.attempt.ensures.tree) c.self.invariant.2)
