@@ -168,14 +168,14 @@ fn add_rows(
 }
 
 // Makes the changes to rows and texts in a batch that is open, and takes the rows that go out of the
-// tree. It tells how many places the table has before the rows that come. After a refusal some of the
-// changes are made.
+// tree. It tells how many places the table has before the rows that come. The changes of the file are let
+// go of then, before a tree is made. After a refusal some of the changes are made.
 fn change_rows<L: Ledger>(
     schema: &Schema,
     table: &mut Table,
     dict: &mut Dict,
     tree: &mut QcArena,
-    batch: &RawBatch,
+    batch: RawBatch,
     alloc: Global,
     steps: &mut Steps<L>,
 ) -> Result<u32, Refused>
@@ -185,38 +185,38 @@ fn change_rows<L: Ledger>(
     requires width { tree.old.width ≡ length schema.now.dims }
     requires tree { IsCanonical nat_cmp table.old.measures (rows_of table.old) tree.old.now }
     requires few_nodes { length (nodes nat_cmp (rows_of table.old)) ≤ tree.old.max }
-    requires dims { batch.now.dims ≡ length schema.now.dims }
-    requires measures { batch.now.measures ≡ length schema.now.measures }
-    requires once { first_twice batch.now.changes ≡ None }
-    requires valid { IsBatch batch.now }
-    ensures last { OnOk result (refusal_of (state_of schema.now dict.old table.old) batch.now.changes
-        ≡ last_refusal (state_of schema.now dict.old table.old) batch.now.changes) }
-    ensures made { OnOk result (state_of schema.now dict.new table.new ≡ after (state_of schema.now dict.old table.old) batch.now.changes) }
+    requires dims { batch.dims ≡ length schema.now.dims }
+    requires measures { batch.measures ≡ length schema.now.measures }
+    requires once { first_twice batch.changes ≡ None }
+    requires valid { IsBatch batch }
+    ensures last { OnOk result (refusal_of (state_of schema.now dict.old table.old) batch.changes
+        ≡ last_refusal (state_of schema.now dict.old table.old) batch.changes) }
+    ensures made { OnOk result (state_of schema.now dict.new table.new ≡ after (state_of schema.now dict.old table.old) batch.changes) }
     ensures known { OnOk result (RowsAreCodes dict.new.lists (rows_of table.new)) }
-    ensures cause { IfErr result (λ refused. IsCause refused (state_of schema.now dict.old table.old) batch.now.changes) }
+    ensures cause { IfErr result (λ refused. IsCause refused (state_of schema.now dict.old table.old) batch.changes) }
     ensures longer { AreLonger dict.old.lists dict.new.lists }
     ensures max { dict.new.max ≡ dict.old.max }
     ensures dictionary { IsDictionary dict.new }
     ensures frame { frame table.new ≡ frame table.old }
-    ensures left { IfOk result (λ first. rows_before table.new first ≡ kept (deleted batch.now.changes) (rows_of table.old)) }
+    ensures left { IfOk result (λ first. rows_before table.new first ≡ kept (deleted batch.changes) (rows_of table.old)) }
     ensures tree { IfOk result (λ first. IsTreeBefore table.new tree.new first) }
-    ensures numbers { OnOk result (KeepsNodes (kept (deleted batch.now.changes) (rows_of table.old)) tree.old.now tree.new.now) }
-    ensures apart { OnOk result (KeepsApart (gone (deleted batch.now.changes) (rows_of table.old)) tree.old.now tree.new.now) }
-    ensures steps { OnOk result (steps.new ≤ steps.old + cost_of_going table.old.dims (rows_of table.old) (deleted batch.now.changes)) }
+    ensures numbers { OnOk result (KeepsNodes (kept (deleted batch.changes) (rows_of table.old)) tree.old.now tree.new.now) }
+    ensures apart { OnOk result (KeepsApart (gone (deleted batch.changes) (rows_of table.old)) tree.old.now tree.new.now) }
+    ensures steps { OnOk result (steps.new ≤ steps.old + cost_of_going table.old.dims (rows_of table.old) (deleted batch.changes)) }
     ensures tree_frame { arena.frame tree.new ≡ arena.frame tree.old }
 {
-    match delete_rows(table, tree, batch, alloc, steps) {
+    match delete_rows(table, tree, &batch, alloc, steps) {
         Ok(()) => {}
         Err(refused) => return Err(refused),
     }
-    if let Some(k) = first_present(table, batch) {
+    if let Some(k) = first_present(table, &batch) {
         return Err(Refused::Present(k));
     }
-    if is_full(table, batch, schema.rows()) {
+    if is_full(table, &batch, schema.rows()) {
         return Err(Refused::RowsFull);
     }
     let first = table.places();
-    match add_rows(schema, table, dict, batch, alloc) {
+    match add_rows(schema, table, dict, &batch, alloc) {
         Ok(()) => Ok(first),
         Err(refused) => Err(refused),
     }
@@ -285,7 +285,7 @@ fn change_and_build<L: Ledger>(
     table: &mut Table,
     dict: &mut Dict,
     tree: &mut QcArena,
-    batch: &RawBatch,
+    batch: RawBatch,
     in_place: bool,
     alloc: Global,
     steps: &mut Steps<L>,
@@ -297,23 +297,23 @@ fn change_and_build<L: Ledger>(
     requires most_nodes { tree.old.max ≡ schema.now.nodes }
     requires tree { IsCanonical nat_cmp table.old.measures (rows_of table.old) tree.old.now }
     requires few_nodes { length (nodes nat_cmp (rows_of table.old)) ≤ tree.old.max }
-    requires dims { batch.now.dims ≡ length schema.now.dims }
-    requires measures { batch.now.measures ≡ length schema.now.measures }
-    requires once { first_twice batch.now.changes ≡ None }
-    requires valid { IsBatch batch.now }
-    ensures none { OnOk result (refusal_of (state_of schema.now dict.old table.old) batch.now.changes ≡ None) }
-    ensures made { OnOk result (state_of schema.now dict.new table.new ≡ after (state_of schema.now dict.old table.old) batch.now.changes) }
+    requires dims { batch.dims ≡ length schema.now.dims }
+    requires measures { batch.measures ≡ length schema.now.measures }
+    requires once { first_twice batch.changes ≡ None }
+    requires valid { IsBatch batch }
+    ensures none { OnOk result (refusal_of (state_of schema.now dict.old table.old) batch.changes ≡ None) }
+    ensures made { OnOk result (state_of schema.now dict.new table.new ≡ after (state_of schema.now dict.old table.old) batch.changes) }
     ensures tree { OnOk result (IsCanonical nat_cmp table.new.measures (rows_of table.new) tree.new.now) }
     ensures fits { OnOk result (length (nodes nat_cmp (rows_of table.new)) ≤ schema.now.nodes) }
     ensures numbers { OnOk result (in_place ≡ true → KeepsNodes
-        (with_codes dict.new.lists (kept (deleted batch.now.changes) (decoded_rows dict.old.lists table.old))) tree.old.now tree.new.now) }
+        (with_codes dict.new.lists (kept (deleted batch.changes) (decoded_rows dict.old.lists table.old))) tree.old.now tree.new.now) }
     ensures apart { OnOk result (in_place ≡ true → KeepsApart
-        (with_codes dict.new.lists (gone (deleted batch.now.changes) (decoded_rows dict.old.lists table.old)
-        ++ inserted batch.now.changes)) tree.old.now tree.new.now) }
+        (with_codes dict.new.lists (gone (deleted batch.changes) (decoded_rows dict.old.lists table.old)
+        ++ inserted batch.changes)) tree.old.now tree.new.now) }
     ensures steps { OnOk result (in_place ≡ true → steps.new
-        ≤ steps.old + cost_in (state_of schema.now dict.old table.old) batch.now.changes) }
+        ≤ steps.old + cost_in (state_of schema.now dict.old table.old) batch.changes) }
     ensures known { OnOk result (RowsAreCodes dict.new.lists (rows_of table.new)) }
-    ensures cause { IfErr result (λ refused. IsCause refused (state_of schema.now dict.old table.old) batch.now.changes) }
+    ensures cause { IfErr result (λ refused. IsCause refused (state_of schema.now dict.old table.old) batch.changes) }
     ensures longer { AreLonger dict.old.lists dict.new.lists }
     ensures max { dict.new.max ≡ dict.old.max }
     ensures dictionary { IsDictionary dict.new }
@@ -339,7 +339,7 @@ fn change_and_index<L: Ledger>(
     dict: &mut Dict,
     tree: &mut QcArena,
     index: &mut Index,
-    batch: &RawBatch,
+    batch: RawBatch,
     in_place: bool,
     alloc: Global,
     steps: &mut Steps<L>,
@@ -351,29 +351,29 @@ fn change_and_index<L: Ledger>(
     requires most_nodes { tree.old.max ≡ schema.now.nodes }
     requires tree { IsCanonical nat_cmp table.old.measures (rows_of table.old) tree.old.now }
     requires few_nodes { length (nodes nat_cmp (rows_of table.old)) ≤ tree.old.max }
-    requires dims { batch.now.dims ≡ length schema.now.dims }
-    requires measures { batch.now.measures ≡ length schema.now.measures }
-    requires once { first_twice batch.now.changes ≡ None }
-    requires valid { IsBatch batch.now }
+    requires dims { batch.dims ≡ length schema.now.dims }
+    requires measures { batch.measures ≡ length schema.now.measures }
+    requires once { first_twice batch.changes ≡ None }
+    requires valid { IsBatch batch }
     requires before { IfSome tree.old.was (λ before. IsTreeOfSome schema.now before.tree × IsIndexed schema.now before.tree index.old) }
-    ensures none { OnOk result (refusal_of (state_of schema.now dict.old table.old) batch.now.changes ≡ None) }
-    ensures made { OnOk result (state_of schema.now dict.new table.new ≡ after (state_of schema.now dict.old table.old) batch.now.changes) }
+    ensures none { OnOk result (refusal_of (state_of schema.now dict.old table.old) batch.changes ≡ None) }
+    ensures made { OnOk result (state_of schema.now dict.new table.new ≡ after (state_of schema.now dict.old table.old) batch.changes) }
     ensures tree { OnOk result (IsCanonical nat_cmp table.new.measures (rows_of table.new) tree.new.now) }
     ensures fits { OnOk result (length (nodes nat_cmp (rows_of table.new)) ≤ schema.now.nodes) }
     ensures known { OnOk result (RowsAreCodes dict.new.lists (rows_of table.new)) }
-    ensures cause { IfErr result (λ refused. IsCause refused (state_of schema.now dict.old table.old) batch.now.changes) }
+    ensures cause { IfErr result (λ refused. IsCause refused (state_of schema.now dict.old table.old) batch.changes) }
     ensures longer { AreLonger dict.old.lists dict.new.lists }
     ensures max { dict.new.max ≡ dict.old.max }
     ensures dictionary { IsDictionary dict.new }
     ensures frame { frame table.new ≡ frame table.old }
     ensures tree_frame { arena.frame tree.new ≡ arena.frame tree.old }
     ensures numbers { OnOk result (in_place ≡ true → KeepsNodes
-        (with_codes dict.new.lists (kept (deleted batch.now.changes) (decoded_rows dict.old.lists table.old))) tree.old.now tree.new.now) }
+        (with_codes dict.new.lists (kept (deleted batch.changes) (decoded_rows dict.old.lists table.old))) tree.old.now tree.new.now) }
     ensures apart { OnOk result (in_place ≡ true → KeepsApart
-        (with_codes dict.new.lists (gone (deleted batch.now.changes) (decoded_rows dict.old.lists table.old)
-        ++ inserted batch.now.changes)) tree.old.now tree.new.now) }
+        (with_codes dict.new.lists (gone (deleted batch.changes) (decoded_rows dict.old.lists table.old)
+        ++ inserted batch.changes)) tree.old.now tree.new.now) }
     ensures steps { OnOk result (in_place ≡ true → steps.new
-        ≤ steps.old + cost_in (state_of schema.now dict.old table.old) batch.now.changes) }
+        ≤ steps.old + cost_in (state_of schema.now dict.old table.old) batch.changes) }
     ensures indexed { OnOk result (IsIndexed schema.now tree.new.now index.new) }
     ensures same_index { OnErr result (index.new ≡ index.old) }
 {
@@ -393,7 +393,7 @@ pub(crate) fn change<L: Ledger>(
     dict: &mut Dict,
     tree: &mut QcArena,
     index: &mut Index,
-    batch: &RawBatch,
+    batch: RawBatch,
     in_place: bool,
     alloc: Global,
     steps: &mut Steps<L>,
@@ -401,25 +401,25 @@ pub(crate) fn change<L: Ledger>(
     requires stored { IsStored schema.now dict.old table.old }
     requires kept { IsTreeOfTable schema.now table.old tree.old }
     requires indexed { IsIndexed schema.now tree.old.now index.old }
-    requires dims { batch.now.dims ≡ length schema.now.dims }
-    requires measures { batch.now.measures ≡ length schema.now.measures }
+    requires dims { batch.dims ≡ length schema.now.dims }
+    requires measures { batch.measures ≡ length schema.now.measures }
     ensures gives { Gives refusal_in (applied_in (state_of schema.now dict.new table.new)) result
-        (result_of (state_of schema.now dict.old table.old) (Ok batch.now.changes)) }
+        (result_of (state_of schema.now dict.old table.old) (Ok batch.changes)) }
     ensures state { OnErr result (state_of schema.now dict.new table.new ≡ state_of schema.now dict.old table.old) }
     ensures tree { OnErr result (tree.new.now ≡ tree.old.now) }
     ensures index { OnErr result (index.new ≡ index.old) }
     ensures numbers { OnOk result (in_place ≡ true → KeepsNodes
-        (with_codes dict.new.lists (kept (deleted batch.now.changes) (decoded_rows dict.old.lists table.old))) tree.old.now tree.new.now) }
+        (with_codes dict.new.lists (kept (deleted batch.changes) (decoded_rows dict.old.lists table.old))) tree.old.now tree.new.now) }
     ensures apart { OnOk result (in_place ≡ true → KeepsApart
-        (with_codes dict.new.lists (gone (deleted batch.now.changes) (decoded_rows dict.old.lists table.old)
-        ++ inserted batch.now.changes)) tree.old.now tree.new.now) }
+        (with_codes dict.new.lists (gone (deleted batch.changes) (decoded_rows dict.old.lists table.old)
+        ++ inserted batch.changes)) tree.old.now tree.new.now) }
     ensures steps { OnOk result (in_place ≡ true → steps.new
-        ≤ steps.old + cost_in (state_of schema.now dict.old table.old) batch.now.changes) }
+        ≤ steps.old + cost_in (state_of schema.now dict.old table.old) batch.changes) }
     ensures stored { IsStored schema.now dict.new table.new }
     ensures kept { IsTreeOfTable schema.now table.new tree.new }
     ensures indexed { IsIndexed schema.now tree.new.now index.new }
 {
-    if let Some(k) = first_repeat(alloc, batch)? {
+    if let Some(k) = first_repeat(alloc, &batch)? {
         return Err(Refused::Twice(k));
     }
     let records = batch.len();
@@ -446,7 +446,7 @@ fn change_and_count<L: Ledger>(
     table: &mut Table,
     dict: &mut Dict,
     tree: &mut QcArena,
-    batch: &RawBatch,
+    batch: RawBatch,
     alloc: Global,
     steps: &mut Steps<L>,
 ) -> Result<u32, Refused>
@@ -457,14 +457,14 @@ fn change_and_count<L: Ledger>(
     requires most_nodes { tree.old.max ≡ schema.now.nodes }
     requires tree { IsCanonical nat_cmp table.old.measures (rows_of table.old) tree.old.now }
     requires few_nodes { length (nodes nat_cmp (rows_of table.old)) ≤ tree.old.max }
-    requires dims { batch.now.dims ≡ length schema.now.dims }
-    requires measures { batch.now.measures ≡ length schema.now.measures }
-    requires once { first_twice batch.now.changes ≡ None }
-    requires valid { IsBatch batch.now }
-    ensures none { OnOk result (refusal_of (state_of schema.now dict.old table.old) batch.now.changes ≡ None) }
-    ensures classes { IfOk result (λ count. count ≡ length (classes text_cmp (rows_after (decoded_rows dict.old.lists table.old) batch.now.changes))) }
-    ensures cause { IfErr result (λ refused. IsCause refused (state_of schema.now dict.old table.old) batch.now.changes) }
-    ensures steps { OnOk result (steps.new ≤ steps.old + cost_in (state_of schema.now dict.old table.old) batch.now.changes) }
+    requires dims { batch.dims ≡ length schema.now.dims }
+    requires measures { batch.measures ≡ length schema.now.measures }
+    requires once { first_twice batch.changes ≡ None }
+    requires valid { IsBatch batch }
+    ensures none { OnOk result (refusal_of (state_of schema.now dict.old table.old) batch.changes ≡ None) }
+    ensures classes { IfOk result (λ count. count ≡ length (classes text_cmp (rows_after (decoded_rows dict.old.lists table.old) batch.changes))) }
+    ensures cause { IfErr result (λ refused. IsCause refused (state_of schema.now dict.old table.old) batch.changes) }
+    ensures steps { OnOk result (steps.new ≤ steps.old + cost_in (state_of schema.now dict.old table.old) batch.changes) }
     ensures longer { AreLonger dict.old.lists dict.new.lists }
     ensures max { dict.new.max ≡ dict.old.max }
     ensures dictionary { IsDictionary dict.new }
@@ -483,20 +483,20 @@ fn count_and_go_back<L: Ledger>(
     table: &mut Table,
     dict: &mut Dict,
     tree: &mut QcArena,
-    batch: &RawBatch,
+    batch: RawBatch,
     alloc: Global,
     steps: &mut Steps<L>,
 ) -> Result<u32, Refused>
     requires stored { IsStored schema.now dict.old table.old }
     requires kept { IsTreeOfTable schema.now table.old tree.old }
-    requires dims { batch.now.dims ≡ length schema.now.dims }
-    requires measures { batch.now.measures ≡ length schema.now.measures }
-    requires once { first_twice batch.now.changes ≡ None }
-    requires valid { IsBatch batch.now }
-    ensures none { OnOk result (refusal_of (state_of schema.now dict.old table.old) batch.now.changes ≡ None) }
-    ensures classes { IfOk result (λ count. count ≡ length (classes text_cmp (rows_after (decoded_rows dict.old.lists table.old) batch.now.changes))) }
-    ensures cause { IfErr result (λ refused. IsCause refused (state_of schema.now dict.old table.old) batch.now.changes) }
-    ensures steps { OnOk result (steps.new ≤ steps.old + cost_in (state_of schema.now dict.old table.old) batch.now.changes) }
+    requires dims { batch.dims ≡ length schema.now.dims }
+    requires measures { batch.measures ≡ length schema.now.measures }
+    requires once { first_twice batch.changes ≡ None }
+    requires valid { IsBatch batch }
+    ensures none { OnOk result (refusal_of (state_of schema.now dict.old table.old) batch.changes ≡ None) }
+    ensures classes { IfOk result (λ count. count ≡ length (classes text_cmp (rows_after (decoded_rows dict.old.lists table.old) batch.changes))) }
+    ensures cause { IfErr result (λ refused. IsCause refused (state_of schema.now dict.old table.old) batch.changes) }
+    ensures steps { OnOk result (steps.new ≤ steps.old + cost_in (state_of schema.now dict.old table.old) batch.changes) }
     ensures state { state_of schema.now dict.new table.new ≡ state_of schema.now dict.old table.old }
     ensures tree { tree.new.now ≡ tree.old.now }
     ensures stored { IsStored schema.now dict.new table.new }
@@ -515,23 +515,23 @@ pub(crate) fn attempt<L: Ledger>(
     table: &mut Table,
     dict: &mut Dict,
     tree: &mut QcArena,
-    batch: &RawBatch,
+    batch: RawBatch,
     alloc: Global,
     steps: &mut Steps<L>,
 ) -> Result<Applied, Refused>
     requires stored { IsStored schema.now dict.old table.old }
     requires kept { IsTreeOfTable schema.now table.old tree.old }
-    requires dims { batch.now.dims ≡ length schema.now.dims }
-    requires measures { batch.now.measures ≡ length schema.now.measures }
+    requires dims { batch.dims ≡ length schema.now.dims }
+    requires measures { batch.measures ≡ length schema.now.measures }
     ensures gives { (then : State) × Gives refusal_in (applied_in then) result
-        (result_of (state_of schema.now dict.old table.old) (Ok batch.now.changes)) }
-    ensures steps { OnOk result (steps.new ≤ steps.old + cost_in (state_of schema.now dict.old table.old) batch.now.changes) }
+        (result_of (state_of schema.now dict.old table.old) (Ok batch.changes)) }
+    ensures steps { OnOk result (steps.new ≤ steps.old + cost_in (state_of schema.now dict.old table.old) batch.changes) }
     ensures state { state_of schema.now dict.new table.new ≡ state_of schema.now dict.old table.old }
     ensures tree { tree.new.now ≡ tree.old.now }
     ensures stored { IsStored schema.now dict.new table.new }
     ensures kept { IsTreeOfTable schema.now table.new tree.new }
 {
-    if let Some(k) = first_repeat(alloc, batch)? {
+    if let Some(k) = first_repeat(alloc, &batch)? {
         return Err(Refused::Twice(k));
     }
     let records = batch.len();

@@ -161,20 +161,20 @@ impl Warehouse {
     // Makes changes, all of them or none.
     fn change<L: Ledger>(
         &mut self,
-        batch: &RawBatch,
+        batch: RawBatch,
         in_place: bool,
         steps: &mut Steps<L>,
     ) -> Result<Applied, Refused>
-        requires dims { batch.now.dims ≡ length self.old.state.schema.dims }
-        requires measures { batch.now.measures ≡ length self.old.state.schema.measures }
-        ensures gives { Gives refusal_in (applied_in self.new.state) result (result_of self.old.state (Ok batch.now.changes)) }
+        requires dims { batch.dims ≡ length self.old.state.schema.dims }
+        requires measures { batch.measures ≡ length self.old.state.schema.measures }
+        ensures gives { Gives refusal_in (applied_in self.new.state) result (result_of self.old.state (Ok batch.changes)) }
         ensures numbers { OnOk result (in_place ≡ true → KeepsNodes
-            (with_codes self.new.state.texts (kept (deleted batch.now.changes) self.old.state.rows)) self.old.tree self.new.tree) }
+            (with_codes self.new.state.texts (kept (deleted batch.changes) self.old.state.rows)) self.old.tree self.new.tree) }
         ensures apart { OnOk result (in_place ≡ true → KeepsApart
-            (with_codes self.new.state.texts (gone (deleted batch.now.changes) self.old.state.rows
-            ++ inserted batch.now.changes)) self.old.tree self.new.tree) }
+            (with_codes self.new.state.texts (gone (deleted batch.changes) self.old.state.rows
+            ++ inserted batch.changes)) self.old.tree self.new.tree) }
         ensures steps { OnOk result (in_place ≡ true → steps.new
-            ≤ steps.old + cost_in self.old.state batch.now.changes) }
+            ≤ steps.old + cost_in self.old.state batch.changes) }
         ensures valid { AreContents self.new }
         ensures state { OnErr result (self.new.state ≡ self.old.state) }
         ensures tree { OnErr result (self.new.tree ≡ self.old.tree) }
@@ -210,7 +210,7 @@ impl Warehouse {
             return Err(Refused::NotEmpty);
         }
         match read_base(self.alloc, &self.schema, bytes) {
-            Ok(batch) => self.change(&batch, false, steps),
+            Ok(batch) => self.change(batch, false, steps),
             Err(refused) => Err(refused_file(refused)),
         }
     }
@@ -235,7 +235,7 @@ impl Warehouse {
         ensures index { OnErr result (self.new.index ≡ self.old.index) }
     {
         match read_batch(self.alloc, &self.schema, bytes) {
-            Ok(batch) => self.change(&batch, true, steps),
+            Ok(batch) => self.change(batch, true, steps),
             Err(refused) => Err(refused_file(refused)),
         }
     }
@@ -243,13 +243,13 @@ impl Warehouse {
     // Tells what changes would come to, and takes them back.
     fn try_change<L: Ledger>(
         &mut self,
-        batch: &RawBatch,
+        batch: RawBatch,
         steps: &mut Steps<L>,
     ) -> Result<Applied, Refused>
-        requires dims { batch.now.dims ≡ length self.old.state.schema.dims }
-        requires measures { batch.now.measures ≡ length self.old.state.schema.measures }
-        ensures gives { (then : State) × Gives refusal_in (applied_in then) result (result_of self.old.state (Ok batch.now.changes)) }
-        ensures steps { OnOk result (steps.new ≤ steps.old + cost_in self.old.state batch.now.changes) }
+        requires dims { batch.dims ≡ length self.old.state.schema.dims }
+        requires measures { batch.measures ≡ length self.old.state.schema.measures }
+        ensures gives { (then : State) × Gives refusal_in (applied_in then) result (result_of self.old.state (Ok batch.changes)) }
+        ensures steps { OnOk result (steps.new ≤ steps.old + cost_in self.old.state batch.changes) }
         ensures same { self.new ≡ self.old }
         ensures valid { AreContents self.new }
     {
@@ -280,7 +280,7 @@ impl Warehouse {
         ensures valid { AreContents self.new }
     {
         match read_batch(self.alloc, &self.schema, bytes) {
-            Ok(batch) => self.try_change(&batch, steps),
+            Ok(batch) => self.try_change(batch, steps),
             Err(refused) => Err(refused_file(refused)),
         }
     }

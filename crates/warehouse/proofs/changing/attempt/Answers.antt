@@ -7,14 +7,14 @@ use Rattle.warehouse.proofs.changing.attempt.Goals as goal
 
 pub returns-in-Ok-clause-gives : goal.returns-in-Ok-clause-gives
 returns-in-Ok-clause-gives g c =
-    let changes = c.args.batch.now.changes in
+    let changes = c.args.batch.changes in
     let old = state_of c.args.schema.now c.args.dict.now c.args.table.now in
     (after old changes, rw (c.in-Ok.ensures.none, c.in-Ok.ensures.classes, c.len-records.ensures.count) refl)
 
 pub returns-in-Err-clause-gives : goal.returns-in-Err-clause-gives
 returns-in-Err-clause-gives g c =
     let old = state_of c.args.schema.now c.args.dict.now c.args.table.now in
-    (old, refused-so old c.args.batch.now.changes (refusal_in c.in-Err.refused) c.in-Err.ensures.cause)
+    (old, refused-so old c.args.batch.changes (refusal_in c.in-Err.refused) c.in-Err.ensures.cause)
 
 pub returns-in_err-k-clause-gives : goal.returns-in_err-k-clause-gives
 returns-in_err-k-clause-gives g c =
@@ -23,5 +23,5 @@ returns-in_err-k-clause-gives g c =
 
 pub returns-in-Some-clause-gives : goal.returns-in-Some-clause-gives
 returns-in-Some-clause-gives g c =
-    let twice : first_twice c.args.batch.now.changes ≡ Some c.in-Some.k = sym c.in_ok-k.ensures ∙ c.in-Some.is in
+    let twice : first_twice c.args.batch.changes ≡ Some c.in-Some.k = sym c.in_ok-k.ensures ∙ c.in-Some.is in
     (state_of c.args.schema.now c.args.dict.now c.args.table.now, rw twice refl)

@@ -38,10 +38,10 @@ change_and_index-requires-clause-few_nodes g c =
 pub returns-in-Ok-clause-stored : goal.returns-in-Ok-clause-stored
 returns-in-Ok-clause-stored g c =
     let dict = c.change_and_index.new.dict in
-    let texts : dict.lists ≡ texts_after c.args.dict.now.lists c.args.batch.now.changes = ap (λ (s : State). s.texts) c.in-Ok.ensures.made in
+    let texts : dict.lists ≡ texts_after c.args.dict.now.lists c.args.batch.changes = ap (λ (s : State). s.texts) c.in-Ok.ensures.made in
     let rest = c.commit_both.ensures.frame ∙ ap closed c.change_and_index.ensures.frame ∙ ap (λ (t : Places). frame (closed t)) c.open_batch-lens.ensures.table in
     stored-next c.args.schema.now c.args.dict.now dict c.args.table.now c.commit_both.new.table c.requires.stored rest c.commit_both.ensures.valid c.change_and_index.ensures.max c.change_and_index.ensures.longer.dims
-    (rw texts (values-after c.args.batch.now c.args.dict.now.lists c.len-records.ensures.valid c.requires.stored.values))
+    (rw texts (values-after c.args.batch c.args.dict.now.lists c.len-records.ensures.valid c.requires.stored.values))
     (subst (λ (rows : List (Row ℕ)). RowsAreCodes dict.lists rows) (sym c.commit_both.ensures.rows) c.in-Ok.ensures.known) c.change_and_index.ensures.dictionary
 
 pub returns-in-Ok-clause-kept : goal.returns-in-Ok-clause-kept
@@ -59,7 +59,7 @@ returns-in-Ok-clause-kept g c =
 
 pub returns-in-Ok-clause-gives : goal.returns-in-Ok-clause-gives
 returns-in-Ok-clause-gives g c =
-    let changes = c.args.batch.now.changes in
+    let changes = c.args.batch.changes in
     let dict = c.change_and_index.new.dict in
     let old = state_of c.args.schema.now c.args.dict.now c.args.table.now in
     let with : List (Row ℕ) → State = λ rows. record { schema = c.args.schema.now; rows = map (decoded_row dict.lists) rows; texts = dict.lists } in
@@ -101,7 +101,7 @@ returns-in-Err-clause-kept g c =
 
 pub returns-in-Err-clause-gives : goal.returns-in-Err-clause-gives
 returns-in-Err-clause-gives g c =
-    let changes = c.args.batch.now.changes in
+    let changes = c.args.batch.changes in
     let old = state_of c.args.schema.now c.args.dict.now c.args.table.now in
     refused-so old changes (refusal_in c.in-Err.refused) (subst (λ (s : State). IsCause c.in-Err.refused s changes) c.open_batch-lens.ensures.state c.in-Err.ensures.cause)
 
@@ -123,7 +123,7 @@ returns-in-Err-clause-indexed g c =
 pub returns-in-Ok-clause-numbers : goal.returns-in-Ok-clause-numbers
 returns-in-Ok-clause-numbers g c = λ in_place.
     let lists = c.change_and_index.new.dict.lists in
-    let ids = deleted c.args.batch.now.changes in
+    let ids = deleted c.args.batch.changes in
     let was : c.open_batch-lens.new.tree.now ≡ c.args.tree.now.now = ap (λ (a : Arena). a.now) c.open_batch-lens.ensures.tree in
     let is : c.commit_both.new.tree.now ≡ c.change_and_index.new.tree.now = ap (λ (a : Arena). a.now) c.commit_both.ensures.tree in
     subst (λ (rs : List (Row Text)). KeepsNodes (with_codes lists (kept ids rs)) c.args.tree.now.now c.commit_both.new.tree.now) (ap (λ (s : State). s.rows) c.open_batch-lens.ensures.state)
@@ -133,7 +133,7 @@ returns-in-Ok-clause-numbers g c = λ in_place.
 pub returns-in-Ok-clause-apart : goal.returns-in-Ok-clause-apart
 returns-in-Ok-clause-apart g c = λ in_place.
     let lists = c.change_and_index.new.dict.lists in
-    let changes = c.args.batch.now.changes in
+    let changes = c.args.batch.changes in
     let ids = deleted changes in
     let was : c.open_batch-lens.new.tree.now ≡ c.args.tree.now.now = ap (λ (a : Arena). a.now) c.open_batch-lens.ensures.tree in
     let is : c.commit_both.new.tree.now ≡ c.change_and_index.new.tree.now = ap (λ (a : Arena). a.now) c.commit_both.ensures.tree in
@@ -143,4 +143,4 @@ returns-in-Ok-clause-apart g c = λ in_place.
 
 pub returns-in-Ok-clause-steps : goal.returns-in-Ok-clause-steps
 returns-in-Ok-clause-steps g c = λ in_place.
-    subst (λ (s : State). c.change_and_index.new.steps ≤ c.args.steps.now + cost_in s c.args.batch.now.changes) c.open_batch-lens.ensures.state (c.in-Ok.ensures.steps in_place)
+    subst (λ (s : State). c.change_and_index.new.steps ≤ c.args.steps.now + cost_in s c.args.batch.changes) c.open_batch-lens.ensures.state (c.in-Ok.ensures.steps in_place)

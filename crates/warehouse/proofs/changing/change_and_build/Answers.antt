@@ -21,7 +21,7 @@ returns-in-Ok-make_tree-clause-none g c =
     let table = c.change_rows.new.table in
     let max : c.change_rows.new.tree.max ≡ c.args.schema.now.nodes = ap (λ (a : Arena). a.max) c.change_rows.ensures.tree_frame ∙ c.requires.most_nodes in
     c.in-Ok.ensures.last
-    ∙ last-none s c.args.batch.now.changes (decoded_rows dict.lists table) (length (nodes nat_cmp (rows_of table))) (ap (λ (t : State). t.rows) c.in-Ok.ensures.made)
+    ∙ last-none s c.args.batch.changes (decoded_rows dict.lists table) (length (nodes nat_cmp (rows_of table))) (ap (λ (t : State). t.rows) c.in-Ok.ensures.made)
     (nodes-decoded dict.lists (rows_of table) c.in-Ok.ensures.known c.in-Ok.ensures.dictionary.distinct) (subst (λ (max : ℕ). length (nodes nat_cmp (rows_of table)) ≤ max) max c.in-Ok-make_tree.ensures.fits)
 
 pub returns-in-Err-Full-clause-cause : goal.returns-in-Err-Full-clause-cause
@@ -31,19 +31,19 @@ returns-in-Err-Full-clause-cause g c =
     let table = c.change_rows.new.table in
     let max : c.change_rows.new.tree.max ≡ c.args.schema.now.nodes = ap (λ (a : Arena). a.max) c.change_rows.ensures.tree_frame ∙ c.requires.most_nodes in
     c.in-Ok.ensures.last
-    ∙ last-full s c.args.batch.now.changes (decoded_rows dict.lists table) (length (nodes nat_cmp (rows_of table))) (ap (λ (t : State). t.rows) c.in-Ok.ensures.made)
+    ∙ last-full s c.args.batch.changes (decoded_rows dict.lists table) (length (nodes nat_cmp (rows_of table))) (ap (λ (t : State). t.rows) c.in-Ok.ensures.made)
     (nodes-decoded dict.lists (rows_of table) c.in-Ok.ensures.known c.in-Ok.ensures.dictionary.distinct) (subst (λ (max : ℕ). max < length (nodes nat_cmp (rows_of table))) max (c.in-Err-Full.ensures.full (ap Err c.in-Err-Full.field-0-is)))
 
 pub returns-in-Ok-make_tree-clause-numbers : goal.returns-in-Ok-make_tree-clause-numbers
 returns-in-Ok-make_tree-clause-numbers g c = λ in_place.
     let is = c.in-Ok.ensures in
-    batch-numbers (rows_of c.args.table.now) c.change_rows.new.table c.in-Ok.first c.args.dict.now.lists c.change_rows.new.dict.lists c.args.batch.now.changes is.longer c.requires.stored.known is.known is.dictionary.distinct is.left
+    batch-numbers (rows_of c.args.table.now) c.change_rows.new.table c.in-Ok.first c.args.dict.now.lists c.change_rows.new.dict.lists c.args.batch.changes is.longer c.requires.stored.known is.known is.dictionary.distinct is.left
     (ap (λ (s : State). s.rows) is.made) c.args.tree.now.now c.change_rows.new.tree.now c.make_tree.new.tree.now is.numbers (c.make_tree.ensures.numbers in_place)
 
 pub returns-in-Ok-make_tree-clause-apart : goal.returns-in-Ok-make_tree-clause-apart
 returns-in-Ok-make_tree-clause-apart g c = λ in_place.
     let is = c.in-Ok.ensures in
-    batch-apart (rows_of c.args.table.now) c.change_rows.new.table c.in-Ok.first c.args.dict.now.lists c.change_rows.new.dict.lists c.args.batch.now.changes is.longer c.requires.stored.known is.known is.dictionary.distinct is.left
+    batch-apart (rows_of c.args.table.now) c.change_rows.new.table c.in-Ok.first c.args.dict.now.lists c.change_rows.new.dict.lists c.args.batch.changes is.longer c.requires.stored.known is.known is.dictionary.distinct is.left
     (ap (λ (s : State). s.rows) is.made) c.args.tree.now.now c.change_rows.new.tree.now c.make_tree.new.tree.now is.apart (c.make_tree.ensures.apart in_place)
 
 pub returns-in-Ok-make_tree-clause-steps : goal.returns-in-Ok-make_tree-clause-steps
@@ -56,10 +56,10 @@ returns-in-Ok-make_tree-clause-steps g c = λ in_place.
     let end = c.make_tree.new.steps in
     let dims : t.dims ≡ length c.args.schema.now.dims = c.requires.stored.dims in
     let dims' : t'.dims ≡ length c.args.schema.now.dims = ap (λ (t : Places). t.dims) c.change_rows.ensures.frame ∙ dims in
-    let going : here ≤ begun + cost_of_going (length c.args.schema.now.dims) (rows_of t) (deleted c.args.batch.now.changes) =
-    subst (λ (n : ℕ). here ≤ begun + cost_of_going n (rows_of t) (deleted c.args.batch.now.changes)) dims is.steps in
+    let going : here ≤ begun + cost_of_going (length c.args.schema.now.dims) (rows_of t) (deleted c.args.batch.changes) =
+    subst (λ (n : ℕ). here ≤ begun + cost_of_going n (rows_of t) (deleted c.args.batch.changes)) dims is.steps in
     let coming : end ≤ here + cost_of (length c.args.schema.now.dims) (rows_before t' c.in-Ok.first) (rows_behind t' c.in-Ok.first) =
     subst (λ (n : ℕ). end ≤ here + cost_of n (rows_before t' c.in-Ok.first) (rows_behind t' c.in-Ok.first)) dims' (c.in-Ok-make_tree.ensures.steps in_place) in
-    subst (λ (lists : List (List Text)). end ≤ begun + cost_of_batch (length c.args.schema.now.dims) lists (decoded_rows c.args.dict.now.lists t) c.args.batch.now.changes) (ap (λ (s : State). s.texts) is.made)
-    (batch-steps (rows_of t) t' c.in-Ok.first c.args.dict.now.lists c.change_rows.new.dict.lists c.args.batch.now.changes is.longer c.requires.stored.known is.known is.dictionary.distinct is.left
+    subst (λ (lists : List (List Text)). end ≤ begun + cost_of_batch (length c.args.schema.now.dims) lists (decoded_rows c.args.dict.now.lists t) c.args.batch.changes) (ap (λ (s : State). s.texts) is.made)
+    (batch-steps (rows_of t) t' c.in-Ok.first c.args.dict.now.lists c.change_rows.new.dict.lists c.args.batch.changes is.longer c.requires.stored.known is.known is.dictionary.distinct is.left
     (ap (λ (s : State). s.rows) is.made) (length c.args.schema.now.dims) begun here end going coming)

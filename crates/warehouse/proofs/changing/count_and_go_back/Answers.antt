@@ -60,16 +60,16 @@ returns-clause-kept g c =
     kept-back c.args.schema.now c.args.table.now c.go_back.new.table c.args.tree.now c.go_back.new.tree c.requires.kept rows back c.go_back.ensures.closed max
 
 pub returns-clause-none : goal.returns-clause-none
-returns-clause-none g c = subst (λ (s : State). OnOk c.change_and_count-counted.result (refusal_of s c.args.batch.now.changes ≡ None)) c.open_batch-lens.ensures.state c.change_and_count-counted.ensures.none
+returns-clause-none g c = subst (λ (s : State). OnOk c.change_and_count-counted.result (refusal_of s c.args.batch.changes ≡ None)) c.open_batch-lens.ensures.state c.change_and_count-counted.ensures.none
 
 pub returns-clause-classes : goal.returns-clause-classes
 returns-clause-classes g c =
-    subst (λ (s : State). IfOk c.change_and_count-counted.result (λ count. count ≡ length (classes text_cmp (rows_after s.rows c.args.batch.now.changes)))) c.open_batch-lens.ensures.state
+    subst (λ (s : State). IfOk c.change_and_count-counted.result (λ count. count ≡ length (classes text_cmp (rows_after s.rows c.args.batch.changes)))) c.open_batch-lens.ensures.state
     c.change_and_count-counted.ensures.classes
 
 pub returns-clause-cause : goal.returns-clause-cause
-returns-clause-cause g c = subst (λ (s : State). IfErr c.change_and_count-counted.result (λ refused. IsCause refused s c.args.batch.now.changes)) c.open_batch-lens.ensures.state c.change_and_count-counted.ensures.cause
+returns-clause-cause g c = subst (λ (s : State). IfErr c.change_and_count-counted.result (λ refused. IsCause refused s c.args.batch.changes)) c.open_batch-lens.ensures.state c.change_and_count-counted.ensures.cause
 
 pub returns-clause-steps : goal.returns-clause-steps
 returns-clause-steps g c =
-    subst (λ (s : State). OnOk c.change_and_count-counted.result (c.change_and_count-counted.new.steps ≤ c.args.steps.now + cost_in s c.args.batch.now.changes)) c.open_batch-lens.ensures.state c.change_and_count-counted.ensures.steps
+    subst (λ (s : State). OnOk c.change_and_count-counted.result (c.change_and_count-counted.new.steps ≤ c.args.steps.now + cost_in s c.args.batch.changes)) c.open_batch-lens.ensures.state c.change_and_count-counted.ensures.steps
