@@ -14,3 +14,5 @@ mod rows;
 mod schemas;
 #[cfg(test)]
 mod texts;
+#[cfg(test)]
+mod widths;

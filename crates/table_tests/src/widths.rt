@@ -1,0 +1,137 @@
+// What rows of each width share.
+ghost use Rattle.std.specs.Prelude.{All, is_some, length, true, ◌<◌, ◌≡◌, ◌≤◌};
+
+use base_table::Table;
+use cell_closure::{closure_of, meet_fixed};
+use cell_core::{ANY, Cell, Entry};
+use std::alloc::{AllocError, Global};
+use std::test::Fail;
+
+// The codes of a row in its first and its last dimension. Between them each code is 7.
+type Ends = (u8, u8);
+
+fn code_in(row: Ends, dims: u8, dim: u8) -> u32
+    ensures { result < 256 }
+{
+    let (first, last) = row;
+    if dim as u32 + 1 == dims as u32 {
+        last as u32
+    } else if dim == 0 {
+        first as u32
+    } else {
+        7
+    }
+}
+
+fn tuple(alloc: Global, row: Ends, dims: u8) -> Cell
+    requires { dims ≤ 16 }
+    ensures dims { length result ≡ dims }
+    ensures full { All (λ entry. is_some entry ≡ true) result }
+{
+    let mut tuple = Cell::any(alloc, dims);
+    'dims: for dim in 0..dims {
+        tuple.set(dim, Entry::Is(code_in(row, dims, dim)));
+    }
+    tuple
+}
+
+// Whether a row without amounts was put in.
+fn put(table: &mut Table, id: u64, tuple: &Cell) -> bool
+    requires is_open { is_some table.old.was ≡ true }
+    requires full { All (λ entry. is_some entry ≡ true) tuple.now }
+    ensures { is_some table.new.was ≡ true }
+{
+    if table.dims() != tuple.dims() || table.measures() != 0 {
+        return false;
+    }
+    table.insert(id, tuple, &[]).is_ok()
+}
+
+// A table of so many dimensions with these rows.
+fn wide_table(alloc: Global, rows: &[Ends], dims: u8) -> Result<Table, AllocError>
+    requires some { 0 < dims }
+    requires few { dims ≤ 16 }
+{
+    let mut table = Table::new(alloc, dims, 0, 100)?;
+    table.begin();
+    'rows: for place in 0..rows.len() {
+        put(&mut table, place as u64, &tuple(alloc, rows[place], dims));
+    }
+    table.commit();
+    Ok(table)
+}
+
+// What all rows have in a dimension, by a plain loop.
+fn entry_of(rows: &[Ends], dims: u8, dim: u8) -> Entry {
+    let mut entry = Entry::Any;
+    'rows: for place in 0..rows.len() {
+        let code = code_in(rows[place], dims, dim);
+        if place == 0 {
+            entry = Entry::Is(code);
+        } else if entry != Entry::Is(code) {
+            return Entry::Any;
+        }
+    }
+    entry
+}
+
+// Whether the cell has in each dimension what all rows have.
+fn is_shared(cell: &Cell, rows: &[Ends], dims: u8) -> bool {
+    if cell.dims() != dims {
+        return false;
+    }
+    'dims: for dim in 0..dims {
+        if cell.get(dim) != entry_of(rows, dims, dim) {
+            return false;
+        }
+    }
+    true
+}
+
+// Whether the closure of all rows of such a table is what a plain loop finds.
+fn agrees(alloc: Global, rows: &[Ends], dims: u8) -> Result<bool, AllocError> {
+    if dims == 0 || dims > 16 {
+        return Ok(false);
+    }
+    let table = wide_table(alloc, rows, dims)?;
+    let nos = table.all(alloc)?;
+    if nos.len() != rows.len() || nos.is_empty() {
+        return Ok(false);
+    }
+    Ok(is_shared(&closure_of(&table, &nos), rows, dims))
+}
+
+// One row, equal rows, and rows that differ in the first dimension, in the last, and in both.
+static ROWS: [&[Ends]; 6] = [
+    &[(1, 2)],
+    &[(1, 2), (1, 2), (1, 2)],
+    &[(1, 2), (3, 2)],
+    &[(1, 2), (1, 2), (1, 4)],
+    &[(1, 2), (3, 4), (1, 2)],
+    &[(0, 0), (0, 0)],
+];
+
+// Whether all of them agree in so many dimensions.
+fn all_agree(alloc: Global, dims: u8) -> Result<bool, AllocError> {
+    'rows: for rows in &ROWS {
+        if !agrees(alloc, *rows, dims)? {
+            return Ok(false);
+        }
+    }
+    Ok(true)
+}
+
+#[test]
+fn rows_of_each_width_share_their_values(rt: HostRuntime) -> Result<(), Fail> {
+    for dims in 1..17 {
+        assert!(rt; all_agree(rt.alloc(), dims)?, "{dims} dimensions");
+    }
+    Ok(())
+}
+
+#[test]
+fn a_code_stays_where_both_have_it(rt: HostRuntime) {
+    let mut acc = [1, 2, ANY, ANY, 0];
+    meet_fixed(&mut acc, &[1, 3, ANY, 4, 0]);
+    assert!(rt; acc == [1, ANY, ANY, ANY, 0]);
+}
