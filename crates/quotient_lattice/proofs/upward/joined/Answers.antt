@@ -1,0 +1,22 @@
+use Rattle.std.proofs.Common.{◌≡◌, ◌^◌, Some, filter, map, ◌∙◌, ap, arith}
+use Rattle.std.specs.List.{range_with_len}
+use Rattle.std.proofs.lemmas.Nat.{one_shl}
+use Rattle.cube_defs.specs.Tree.{cell_at}
+use Rattle.cells_below.specs.Numbers.{cell_of_number}
+use Rattle.quotient_lattice.specs.Joined.{joins}
+use Rattle.quotient_lattice.proofs.Numbers.{nodes_more}
+use Rattle.quotient_lattice.proofs.upward.joined.Goals as goal
+
+pub numbers-preserved : goal.numbers-preserved
+numbers-preserved g c = record {
+  dims = c.joined_at-node.ensures.dims;
+  nodes = λ source h.
+      nodes_more (λ k. cell_at (g.T.Nodes.tree c.args.tree.now) k.0) c.args.u.now (joins source c.args.u.now) c.numbers.m c.numbers.nodes.items c.push_some.new.nodes.items c.joined_at-node.result
+      c.in_ok-push_some.ensures (c.numbers.invariant.nodes source h) (c.joined_at-node.ensures.value source h);
+  steps = omega (arith, c.numbers.invariant.steps, c.joined_at-node.ensures.steps);
+}
+
+pub returns-clause-nodes : goal.returns-clause-nodes
+returns-clause-nodes g c = λ source h.
+    let end : c.numbers.m ≡ 2 ^ c.args.d = omega (arith, one_shl c.args.d 32 (omega arith)) in
+    c.numbers.invariant.nodes source h ∙ ap (λ n. map (λ m. Some (cell_of_number c.args.u.now m)) (filter (joins source c.args.u.now) (range_with_len 0 n))) end

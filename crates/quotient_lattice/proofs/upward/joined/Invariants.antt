@@ -1,0 +1,14 @@
+use Rattle.std.proofs.Common.{◌≡◌, ℕ, ◌+◌, ◌*◌, ◌^◌, ◌≤◌, Some, filter, length, map}
+use Rattle.std.specs.List.{range_with_len}
+use Rattle.cube_defs.specs.Tree.{cell_at}
+use Rattle.tree_search.specs.Found.{IsTreeOf, TreeRows}
+use Rattle.cells_below.specs.Numbers.{cell_of_number}
+use Rattle.quotient_lattice.specs.Joined.{joins}
+use Rattle.quotient_lattice.proofs.upward.joined.Given as goal
+
+abbrev pub invariant-numbers : goal.invariant-numbers
+invariant-numbers g l = record {
+  dims : length l.cell ≡ length l.u;
+  nodes : (source : TreeRows) → IsTreeOf (g.T.Nodes.width l.tree) (g.T.Nodes.tree l.tree) source → map (λ k. cell_at (g.T.Nodes.tree l.tree) k.0) l.nodes.items ≡ map (λ m. Some (cell_of_number l.u m)) (filter (joins source l.u) (range_with_len 0 l.m));
+  steps : l.steps ≤ l.fn.steps + l.m * (2 * length l.u + 2);
+}

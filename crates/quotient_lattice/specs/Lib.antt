@@ -1,0 +1,5 @@
+pub mod Neighbours
+pub mod Joined
+pub mod LeadsHome
+pub mod Led
+pub mod Told

@@ -1,0 +1,84 @@
+// Whether the cell of a number is a parent of a class.
+ghost use Rattle.std.specs.Option.{option_map};
+ghost use Rattle.std.specs.Ordering.{eq_by_cmp, nat_cmp};
+ghost use Rattle.std.specs.Prelude.{None, Some, if◌then◌else◌, length, ℕ, ◌*◌, ◌+◌, ◌<◌, ◌^◌, ◌≡◌, ◌≤◌};
+ghost use Rattle.cube_defs.specs.Tree.{cell_at};
+ghost use Rattle.tree_search.specs.Found.{IsTreeOf, IsTree, TreeRows, closure_in};
+ghost use Rattle.cells_below.specs.Closed.{IsMarkedBelow};
+ghost use Rattle.cells_below.specs.Numbers.{cell_of_number};
+ghost use Rattle.cube_laws.specs.Parts.{value_count};
+ghost use Rattle.quotient_lattice.specs.Joined.{is_most, joins};
+
+use cell_core::{Cell, NodeNo, Steps};
+use cells_below::{Marks, has, put_cell, turn};
+use cube_defs::MAX_DIMS;
+use qc_arena::Nodes;
+use std::sync::ledger::Ledger;
+use tree_search::find;
+
+// Of numbers with d bits: whether each with one bit more is marked.
+fn most(marks: &Marks, d: u32, m: u32) -> bool
+    requires few { d ≤ MAX_DIMS }
+    requires number { m < 2 ^ d }
+    requires room { 2 ^ d ≤ length marks.now }
+    ensures { result ≡ is_most marks.now d m }
+{
+    'bits: for k in 0..d {
+        if !has(m, k) && !marks.get(turn(m, k)) {
+            return false;
+        }
+    }
+    true
+}
+
+// The node of a class.
+fn node_of<T: Nodes, L: Ledger>(tree: &T, cell: &Cell, steps: &mut Steps<L>) -> NodeNo
+    requires tree { IsTree (T.width tree.now) (T.tree tree.now) }
+    requires dims { length cell.now ≡ T.width tree.now }
+    requires class { (source : TreeRows) → IsTreeOf (T.width tree.now) (T.tree tree.now) source →
+        closure_in source cell.now ≡ Some cell.now }
+    ensures cell { cell_at (T.tree tree.now) result.0 ≡ Some cell.now }
+    ensures steps { steps.new ≤ steps.old + (2 * length cell.now + 2) }
+{
+    match find(tree, cell, steps) {
+        Some(node) => node,
+        None => unreachable!(),
+    }
+}
+
+// The node of the number's cell, where that is a parent of u. All numbers are marked whose cells have
+// the closure u.
+pub(crate) fn joined_at<T: Nodes, L: Ledger>(
+    tree: &T,
+    u: &Cell,
+    marks: &Marks,
+    d: u32,
+    m: u32,
+    cell: &mut Cell,
+    steps: &mut Steps<L>,
+) -> Option<NodeNo>
+    requires tree { IsTree (T.width tree.now) (T.tree tree.now) }
+    requires upper { length u.now ≡ T.width tree.now }
+    requires class { (source : TreeRows) → IsTreeOf (T.width tree.now) (T.tree tree.now) source →
+        closure_in source u.now ≡ Some u.now }
+    requires dims { length cell.old ≡ length u.now }
+    requires values { d ≡ value_count u.now }
+    requires few { d ≤ MAX_DIMS }
+    requires number { m < 2 ^ d }
+    requires room { 2 ^ d ≤ length marks.now }
+    requires marked { (source : TreeRows) → IsTreeOf (T.width tree.now) (T.tree tree.now) source →
+        IsMarkedBelow source u.now marks.now (2 ^ d) }
+    ensures value { (source : TreeRows) → IsTreeOf (T.width tree.now) (T.tree tree.now) source →
+        option_map (λ k. cell_at (T.tree tree.now) k.0) result ≡ (if joins source u.now m then Some (Some (cell_of_number u.now m)) else None) }
+    ensures dims { length cell.new ≡ length u.now }
+    ensures steps { steps.new ≤ steps.old + (2 * length u.now + 2) }
+{
+    if marks.get(m) {
+        return None;
+    }
+    if !most(marks, d, m) {
+        return None;
+    }
+    put_cell(u, m, cell);
+    Some(node_of(tree, cell, steps))
+}

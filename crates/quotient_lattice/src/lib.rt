@@ -1,0 +1,9 @@
+//! The quotient lattice: the classes just above a class and just below it, found by searches in a tree of nodes.
+#![tactic(auto)]
+
+mod joined;
+pub mod laws;
+mod upward;
+
+pub use cube_defs::Memory;
+pub use upward::parents;

@@ -1,0 +1,153 @@
+// The parents of a class, in cell order.
+ghost use Rattle.std.specs.List.{range_with_len};
+ghost use Rattle.std.specs.Ordering.{nat_cmp};
+ghost use Rattle.std.specs.Prelude.{All, IfOk, IsSome, OnOk, Some, false, true, filter, length, map, ℕ, ◌*◌, ◌+◌, ◌++◌, ◌<◌, ◌^◌, ◌≡◌, ◌≤◌};
+ghost use Rattle.cube_defs.specs.Tree.{as_list, cell_at};
+ghost use Rattle.qc_arena.specs.Seen.{record_at};
+ghost use Rattle.tree_search.specs.Found.{IsTreeOf, IsTree, TreeRows, closure_in};
+ghost use Rattle.cells_below.specs.Closed.{AreNeeded, IsMarkedBelow, has_closure_in};
+ghost use Rattle.cells_below.specs.Marks.{is_marked};
+ghost use Rattle.cells_below.specs.Numbers.{cell_of_number};
+ghost use Rattle.cube_laws.specs.Parts.{value_count};
+ghost use Rattle.quotient_lattice.specs.Neighbours as lattice;
+ghost use Rattle.quotient_lattice.specs.Told.{told_nodes};
+ghost use Rattle.cube_defs.specs.Text.{text_cmp};
+ghost use Rattle.cube_laws.specs.Recoding.{RowsAreKnown};
+ghost use Rattle.value_dict.specs.Recoded.{has_code, told_rows};
+ghost use Rattle.value_dict.specs.Told.{told_cell};
+ghost use Rattle.quotient_lattice.specs.Joined.{joins};
+
+use crate::Memory;
+use crate::joined::joined_at;
+use cell_core::{Cell, NodeNo, Steps};
+use cells_below::{Marks, bounds_at, count_values, needed};
+use cube_defs::MAX_DIMS;
+use qc_arena::Nodes;
+use std::alloc::Global;
+use std::sync::ledger::Ledger;
+use tree_search::upper_into;
+use value_dict::Dict;
+
+/// The nodes of all parents of a class, in cell order by the texts of the dictionary. It isn't read: cells
+/// below one cell stand in the same order by their codes. With n dimensions and d values of the class it
+/// takes at most 16 (n + 1) 2^d steps.
+pub fn parents<T: Nodes, L: Ledger>(
+    alloc: Global,
+    tree: &T,
+    dict: &Dict,
+    node: NodeNo,
+    steps: &mut Steps<L>,
+) -> Result<Vec<NodeNo>, Memory>
+    requires tree { IsTree (T.width tree.now) (T.tree tree.now) }
+    requires class { IsSome (record_at (T.tree tree.now) node.0).class }
+    requires dims { length dict.now.lists ≡ T.width tree.now }
+    ensures nodes { (source : TreeRows) → IsTreeOf (T.width tree.now) (T.tree tree.now) source → RowsAreKnown (has_code dict.now.lists) source.rows →
+        IfOk result (λ nodes. told_nodes dict.now.lists (T.tree tree.now) nodes.items
+        ≡ lattice.parents text_cmp (told_rows dict.now.lists source.rows) (told_cell dict.now.lists (record_at (T.tree tree.now) node.0).cell)) }
+    ensures classes { IfOk result (λ nodes. All (λ node. IsSome (record_at (T.tree tree.now) node.0).class) nodes.items) }
+    ensures steps { steps.new ≤ steps.old + 16 * (T.width tree.now + 1) * 2 ^ value_count (record_at (T.tree tree.now) node.0).cell }
+{
+    let _dims = dict.dims();
+    let mut u = Cell::any(alloc, tree.dims());
+    upper_into(tree, node, &mut u, steps);
+    parents_below(alloc, tree, node, &u, steps)
+}
+
+// The parents of the node's cell u.
+fn parents_below<T: Nodes, L: Ledger>(
+    alloc: Global,
+    tree: &T,
+    node: NodeNo,
+    u: &Cell,
+    steps: &mut Steps<L>,
+) -> Result<Vec<NodeNo>, Memory>
+    requires tree { IsTree (T.width tree.now) (T.tree tree.now) }
+    requires upper { cell_at (T.tree tree.now) node.0 ≡ Some u.now }
+    requires own { (source : TreeRows) → IsTreeOf (T.width tree.now) (T.tree tree.now) source →
+        has_closure_in source u.now u.now ≡ true }
+    ensures nodes { (source : TreeRows) → IsTreeOf (T.width tree.now) (T.tree tree.now) source →
+        IfOk result (λ nodes. map (λ k. cell_at (T.tree tree.now) k.0) nodes.items ≡ map (λ c. Some c) (lattice.parents nat_cmp source.rows u.now)) }
+    ensures steps { steps.new ≤ steps.old + (value_count u.now + 2 * 2 ^ value_count u.now) * (2 * length u.now + 2) }
+{
+    let d = count_values(u);
+    let mut marks = Marks::new(alloc, 1 << d)?;
+    let mut cell = u.copy();
+    let needed = needed(tree, node, u, d, &mut cell, steps);
+    mark_all(tree, node, u, &mut marks, d, needed, &mut cell, steps);
+    joined(alloc, tree, u, &marks, d, &mut cell, steps)
+}
+
+// Marks the numbers whose cells have the closure u.
+fn mark_all<T: Nodes, L: Ledger>(
+    tree: &T,
+    node: NodeNo,
+    u: &Cell,
+    marks: &mut Marks,
+    d: u32,
+    needed: u32,
+    cell: &mut Cell,
+    steps: &mut Steps<L>,
+)
+    requires tree { IsTree (T.width tree.now) (T.tree tree.now) }
+    requires upper { cell_at (T.tree tree.now) node.0 ≡ Some u.now }
+    requires own { (source : TreeRows) → IsTreeOf (T.width tree.now) (T.tree tree.now) source →
+        has_closure_in source u.now u.now ≡ true }
+    requires needed { (source : TreeRows) → IsTreeOf (T.width tree.now) (T.tree tree.now) source →
+        AreNeeded source u.now needed }
+    requires dims { length cell.old ≡ length u.now }
+    requires values { d ≡ value_count u.now }
+    requires few { d ≤ MAX_DIMS }
+    requires room { 2 ^ d ≤ length marks.old }
+    requires none { (j : ℕ) → is_marked marks.old j ≡ false }
+    ensures marked { (source : TreeRows) → IsTreeOf (T.width tree.now) (T.tree tree.now) source →
+        IsMarkedBelow source u.now marks.new (2 ^ d) }
+    ensures dims { length cell.new ≡ length u.now }
+    ensures room { 2 ^ d ≤ length marks.new }
+    ensures steps { steps.new ≤ steps.old + 2 ^ d * (2 * length u.now + 2) }
+{
+    'numbers: for m in 0..1 << d {
+        bounds_at(tree, node, u, marks, d, needed, m, cell, steps);
+    }
+}
+
+// The nodes of the numbers that join u.
+fn joined<T: Nodes, L: Ledger>(
+    alloc: Global,
+    tree: &T,
+    u: &Cell,
+    marks: &Marks,
+    d: u32,
+    cell: &mut Cell,
+    steps: &mut Steps<L>,
+) -> Result<Vec<NodeNo>, Memory>
+    requires tree { IsTree (T.width tree.now) (T.tree tree.now) }
+    requires upper { length u.now ≡ T.width tree.now }
+    requires class { (source : TreeRows) → IsTreeOf (T.width tree.now) (T.tree tree.now) source →
+        closure_in source u.now ≡ Some u.now }
+    requires dims { length cell.old ≡ length u.now }
+    requires values { d ≡ value_count u.now }
+    requires few { d ≤ MAX_DIMS }
+    requires room { 2 ^ d ≤ length marks.now }
+    requires marked { (source : TreeRows) → IsTreeOf (T.width tree.now) (T.tree tree.now) source →
+        IsMarkedBelow source u.now marks.now (2 ^ d) }
+    ensures nodes { (source : TreeRows) → IsTreeOf (T.width tree.now) (T.tree tree.now) source →
+        IfOk result (λ nodes. map (λ k. cell_at (T.tree tree.now) k.0) nodes.items ≡ map (λ m. Some (cell_of_number u.now m)) (filter (joins source u.now) (range_with_len 0 (2 ^ d)))) }
+    ensures steps { steps.new ≤ steps.old + 2 ^ d * (2 * length u.now + 2) }
+{
+    let mut nodes = Vec::new(alloc);
+    'numbers: for m in 0..1 << d {
+        let node = joined_at(tree, u, marks, d, m, cell, steps);
+        push_some(&mut nodes, node)?;
+    }
+    Ok(nodes)
+}
+
+// Puts a node last, where there is one.
+fn push_some(nodes: &mut Vec<NodeNo>, node: Option<NodeNo>) -> Result<(), Memory>
+    ensures { OnOk result (nodes.new.items ≡ nodes.old.items ++ as_list nat_cmp node) }
+{
+    if let Some(node) = node {
+        nodes.push(node)?;
+    }
+    Ok(())
+}
