@@ -1,5 +1,5 @@
 -- The neighbours of a class, and how far up it can be rolled, under other values: the same cells.
-use Rattle.std.proofs.Common.{◌≡◌, ℕ, Bool, true, not, ◌&&◌, ◌||◌, List, [], ◌∷◌, map, filter, refl, sym, ap, ap₂, subst, ◌∙◌, inl, inr}
+use Rattle.std.proofs.Common.{◌≡◌, ℕ, Bool, true, not, ◌&&◌, ◌||◌, List, [], ◌∷◌, map, refl, sym, ap, ap₂, ◌∙◌, inl, inr}
 use Rattle.std.proofs.lemmas.Bool.{and_parts, and_from}
 use Rattle.std.specs.declared.cmp.Ordering.{Ordering}
 use Rattle.std.specs.Ordering.{eq_by_cmp}
@@ -7,8 +7,8 @@ use Rattle.std.specs.Cmp.{IsTotalOrder, both_ways}
 use Rattle.std.specs.FinMap.{IsAntisymmetric}
 use Rattle.std.specs.List.{list_all}
 use Rattle.cube_defs.specs.Answers.{Ask, is_asked}
-use Rattle.cube_defs.specs.Cell.{Cell, cell_eq, leq}
-use Rattle.cube_defs.specs.Rows.{Row, agg, is_class}
+use Rattle.cube_defs.specs.Cell.{Cell}
+use Rattle.cube_defs.specs.Rows.{Row, is_class}
 use Rattle.cube_defs.specs.Tree.{classes, covered}
 use Rattle.cube_laws.specs.Lists.{Among}
 use Rattle.cube_laws.specs.Recoding.{coded_cell, coded_row, TellsApart, AreKnown, RowsAreKnown}

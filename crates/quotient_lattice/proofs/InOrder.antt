@@ -1,22 +1,20 @@
 -- The parents of a class are the cells of the numbers that join it, in cell order.
-use Rattle.std.proofs.Common.{◌≡◌, ◌≢◌, ◌↔◌, ℕ, suc, ◌^◌, Bool, true, false, not, ◌&&◌, ◌||◌, Some, None, List, [], ◌∷◌, map, filter, length, refl, sym, ap, ap₂, ◌∙◌, subst, arith, true≢false, inl, inr}
+use Rattle.std.proofs.Common.{◌≡◌, ◌≢◌, ℕ, ◌^◌, Bool, true, false, not, ◌&&◌, ◌||◌, Some, List, map, filter, length, refl, sym, ap, ◌∙◌, subst, true≢false}
 use Rattle.std.proofs.lemmas.Bool.{and_parts, and_from}
-use Rattle.std.specs.declared.cmp.Ordering.{Ordering}
-use Rattle.std.specs.declared.cmp.Ordering.TheVariants.{Less}
-use Rattle.std.specs.Cmp.{IsTotalOrder, nat_cmp_total, both_ways, tied_itself}
+use Rattle.std.specs.Cmp.{nat_cmp_total, both_ways}
 use Rattle.std.specs.FinMap as map
 use Rattle.std.specs.List.{AllByRecursion, list_all, range_with_len}
-use Rattle.std.specs.Ordering.{nat_cmp, eq_by_cmp, ordering_then}
+use Rattle.std.specs.Ordering.{nat_cmp, eq_by_cmp}
 use Rattle.cube_defs.specs.Cell.{Cell, cell_cmp, cell_eq, leq}
 use Rattle.cube_defs.specs.Rows.{Row, closure, is_class}
 use Rattle.cube_defs.specs.Tree.{classes}
 use Rattle.cube_laws.specs.Lists.{Among}
-use Rattle.cube_laws.proofs.Cells.{IsEquality, cell_eq-exact, cell_eq-from, cell_eq-same}
+use Rattle.cube_laws.proofs.Cells.{cell_eq-exact, cell_eq-from}
 use Rattle.cube_laws.proofs.Closures.{is_class-is}
 use Rattle.cube_laws.proofs.Covered.{cell_total, cell_anti}
 use Rattle.cube_laws.proofs.Distinct.{rises_same}
 use Rattle.cube_laws.proofs.Listed.{classes-is, classes_rise, covered-length, rises-filter}
-use Rattle.cube_laws.proofs.Lists.{always, among_append, among_filter, among_map, filter_among, filter_same, map-filter}
+use Rattle.cube_laws.proofs.Lists.{always, among_filter, filter_among, filter_same, map-filter}
 use Rattle.cube_laws.proofs.Orders.{code_equality}
 use Rattle.tree_laws.specs.Below.{below}
 use Rattle.tree_laws.proofs.LowerBounds.{below-is, below_rises}
@@ -39,6 +37,10 @@ module _ (dims : ℕ) (rows : List (Row ℕ)) (wide : AllByRecursion (λ row. le
       let a = and_parts (leq (eq_by_cmp nat_cmp) p u && not (cell_eq (eq_by_cmp nat_cmp) p u)) _ h in
       let b = and_parts (leq (eq_by_cmp nat_cmp) p u) _ a.0 in
       (b.0, b.1, a.1)
+
+  -- a parent is another cell below
+  pub parent_above : (p u : Cell ℕ) → is_parent nat_cmp rows p u ≡ true → (leq (eq_by_cmp nat_cmp) p u ≡ true) × (p ≢ u)
+  parent_above p u h = ((parts p u h).0, λ e. true≢false (sym (parts p u h).1 ∙ ap not (cell_eq-from code_equality p u e)))
 
   pub parent_join : (p u : Cell ℕ) → is_class (eq_by_cmp nat_cmp) rows p ≡ true → is_parent nat_cmp rows p u ≡ true → IsJoin rows p u
   parent_join p u own h = record {

@@ -1,16 +1,12 @@
 -- The parents of a class are the cells below it that have another closure and no value to spare.
-use Rattle.std.proofs.Common.{◌≡◌, ◌≢◌, ℕ, suc, ◌+◌, ◌^◌, ◌<◌, ◌≤◌, Bool, true, false, not, ◌&&◌, ◌||◌, Some, None, List, map, filter, length, refl, sym, ap, ap₂, ◌∙◌, subst, arith, true≢false}
+use Rattle.std.proofs.Common.{◌≡◌, ◌≢◌, ℕ, ◌<◌, Bool, true, false, not, ◌||◌, Some, List, refl, sym, ap, ◌∙◌, subst, arith, true≢false}
 use Rattle.std.proofs.lemmas.Bool.{and_parts, and_from}
-use Rattle.std.specs.Cmp.{nat_cmp_total, both_ways}
-use Rattle.std.specs.FinMap as map
-use Rattle.std.specs.List.{AllByRecursion, list_all, range_with_len}
+use Rattle.std.specs.List.{list_all, range_with_len}
 use Rattle.std.specs.Ordering.{nat_cmp, eq_by_cmp}
 use Rattle.cube_defs.specs.Cell.{Cell, cell_eq, leq}
-use Rattle.cube_defs.specs.Rows.{Row, closure, is_class}
-use Rattle.cube_defs.specs.Tree.{classes, covered}
-use Rattle.cube_laws.specs.Lists.{Among}
-use Rattle.cube_laws.proofs.Cells.{IsEquality, leq_antisymm, leq_refl, leq_trans, cell_eq-exact, cell_eq-from, cell_eq-same}
-use Rattle.cube_laws.proofs.Closures.{closure_idem, closure_mono, closure_some, leq-closure, is_class-is, option_eq-is}
+use Rattle.cube_defs.specs.Rows.{Row, closure}
+use Rattle.cube_laws.proofs.Cells.{leq_trans, cell_eq-exact, cell_eq-from}
+use Rattle.cube_laws.proofs.Closures.{closure_idem, closure_mono, closure_some, leq-closure, option_eq-is}
 use Rattle.cube_laws.proofs.Orders.{code_equality}
 use Rattle.tree_search.specs.Found.{TreeRows}
 use Rattle.cells_below.specs.Closed.{closes, has_closure_in}
@@ -20,7 +16,6 @@ use Rattle.cells_below.proofs.Between.{between}
 use Rattle.cells_below.proofs.Cells.{cell_below, more_bits}
 use Rattle.cells_below.proofs.Ranges.{each_of_all, list_all_each}
 use Rattle.cells_below.proofs.Turned.{turned_other}
-use Rattle.quotient_lattice.specs.Neighbours.{is_apart, is_parent}
 use Rattle.quotient_lattice.specs.Joined.{joins}
 use Rattle.quotient_lattice.proofs.StepUp.{length-cell, leq-length, not_below, step_up}
 

@@ -1,9 +1,8 @@
 -- The labels of a node on the way to a class that lead to a class, by their dimensions.
-use Rattle.std.proofs.Common.{◌≡◌, ◌≢◌, ◌==◌, ℕ, zero, suc, ◌+◌, ◌-◌, ◌<◌, ◌≤◌, Bool, true, false, ◌&&◌, cond, Option, Some, None, List, [], ◌∷◌, ◌++◌, map, filter, take, length, get_or, length-append, refl, sym, ap, ap₂, ◌∙◌, subst, arith, true≢false, inl, inr, nat_lt, ltb-true, lt-ltb}
+use Rattle.std.proofs.Common.{◌≡◌, ◌==◌, ℕ, zero, suc, ◌+◌, ◌-◌, ◌<◌, ◌≤◌, Bool, true, false, cond, Option, Some, None, List, [], ◌∷◌, ◌++◌, map, filter, length, length-append, refl, sym, ap, ap₂, ◌∙◌, subst, arith, inl, inr, nat_lt, ltb-true, lt-ltb}
 use Rattle.std.specs.Prelude.{slice_get, IsSome}
 use Rattle.std.proofs.lemmas.Bool.{and_parts, and_from}
-use Rattle.std.proofs.lemmas.List.{length-map, take_more}
-use Rattle.std.proofs.lemmas.Option.{slice_get_within}
+use Rattle.std.proofs.lemmas.List.{length-map}
 use Rattle.std.specs.declared.cmp.Ordering.{Ordering}
 use Rattle.std.specs.declared.cmp.Ordering.TheVariants.{Less, Equal, Greater}
 use Rattle.std.specs.Cmp.{nat_cmp_total, tied_itself}
@@ -12,16 +11,15 @@ use Rattle.std.specs.List.{AllByRecursion, range_with_len}
 use Rattle.std.specs.List.Sorted.{IsStrictlySortedBy}
 use Rattle.std.specs.Option.{option_map}
 use Rattle.std.specs.Ordering.{nat_cmp, eq_by_cmp, ordering_then}
-use Rattle.cube_defs.specs.Cell.{Cell, depth, cell_front, leq, one_deeper, with_value}
-use Rattle.cube_defs.specs.Rows.{Row, closure, is_node}
+use Rattle.cube_defs.specs.Cell.{Cell, depth, cell_front, with_value}
+use Rattle.cube_defs.specs.Rows.{closure, is_node}
 use Rattle.cube_defs.specs.Tree.{Edge, Node, Tree, cell_at, next_value, renamed_edge}
 use Rattle.cube_laws.specs.Lists.{Among}
-use Rattle.cube_laws.proofs.Cells.{depth-le}
 use Rattle.cube_laws.proofs.Closures.{leq-closure, option_eq-is}
 use Rattle.cube_laws.proofs.Counts.{leq_entry}
 use Rattle.cube_laws.proofs.Distinct.{rises_same}
 use Rattle.cube_laws.proofs.Listed.{rises-filter}
-use Rattle.cube_laws.proofs.Lists.{all_at, all_from, among_filter, among_map, filter_among, map_among, map-filter}
+use Rattle.cube_laws.proofs.Lists.{all_from, among_filter, among_map, filter_among, map_among, map-filter}
 use Rattle.cube_laws.proofs.Nodes.{front_of_class}
 use Rattle.cube_laws.proofs.Numbers.{nat_anti, nat_total}
 use Rattle.cube_laws.proofs.Orders.{code_equality}
@@ -39,7 +37,7 @@ use Rattle.cells_below.specs.Closed.{has_closure_in}
 use Rattle.cells_below.proofs.Between.{closed}
 use Rattle.cells_below.proofs.Ranges.{range-append}
 use Rattle.quotient_lattice.specs.Led.{label_leads, lead_count, leads_to}
-use Rattle.quotient_lattice.proofs.Downward.{label_there, put_there}
+use Rattle.quotient_lattice.proofs.ChildLaws.{label_there, put_there}
 use Rattle.quotient_lattice.proofs.NewValues.{Leads, leads-from, leads_is}
 
 -- behind a front's last value and before its end the cell has none
@@ -221,3 +219,29 @@ module _ (dims : ℕ) (tree : Tree ℕ) (source : TreeRows) (h : IsTreeOf dims t
       ∙ ap (λ xs. length (filter (leads_to source u d) xs)) (range-append low (end - low) (dims - end))
       ∙ count-append (leads_to source u d) (range_with_len low (end - low)) (range_with_len (low + (end - low)) (dims - end))
       ∙ ap (λ a. length (filter (leads_to source u d) (range_with_len low (end - low))) + length (filter (leads_to source u d) (range_with_len a (dims - end)))) at)
+
+-- each edge of a node lies behind its last value
+module _ (dims : ℕ) (tree : Tree ℕ) (source : TreeRows) (h : IsTreeOf dims tree source) (k : ℕ) (t : IsSome (map.get tree k)) where
+  abbrev at : Cell ℕ
+  at = (record_at tree k).cell
+
+  pub edge_behind : (x : Edge ℕ ℕ) → Among x (record_at tree k).edges → depth at ≤ x.dim
+  edge_behind x m = go (closure (eq_by_cmp nat_cmp) source.rows at) refl
+    where
+      is : is_node (eq_by_cmp nat_cmp) source.rows at ≡ true
+      is = (h.canonical.each k (record_at tree k) (there_is tree k t)).0
+
+      go : (o : Option (Cell ℕ)) → closure (eq_by_cmp nat_cmp) source.rows at ≡ o → depth at ≤ x.dim
+      go None e =
+          let front : option_map (cell_front (depth at)) (closure (eq_by_cmp nat_cmp) source.rows at) ≡ Some at = (option_eq-is code_equality (option_map (cell_front (depth at)) (closure (eq_by_cmp nat_cmp) source.rows at)) at).0 is in
+          let bad : None ≡ Some at = sym (ap (option_map (cell_front (depth at))) e) ∙ front in
+          cc
+      go (Some w) e =
+          let edges : List (Edge ℕ (Cell ℕ)) = (record_of nat_cmp source.measures source.rows at w).edges in
+          let same : map (renamed_edge (cell_at tree)) (record_at tree k).edges ≡ map (renamed_edge (λ c. Some c)) edges
+          = ap (λ (n : Node ℕ (Option (Cell ℕ))). n.edges) (record_read nat_cmp_total map.nat_cmp-IsAntisymmetric dims source.measures source.rows h.wide tree h.canonical k (record_at tree k) w (there_is tree k t) e) in
+          let y : (y : Edge ℕ (Cell ℕ)) × Among y edges × (renamed_edge (cell_at tree) x ≡ renamed_edge (λ c. Some c) y)
+          = among_map (renamed_edge (λ c. Some c)) (renamed_edge (cell_at tree) x) edges (subst (Among (renamed_edge (cell_at tree) x)) same (map_among (renamed_edge (cell_at tree)) x (record_at tree k).edges m)) in
+          let l : IsLabel nat_cmp source.rows at (next_value nat_cmp (depth at) w) y.0 = (edges-are nat_cmp_total map.nat_cmp-IsAntisymmetric source.measures source.rows at w e (front_of_class code_equality source.rows at w e is).1 y.0).0 y.1 in
+          let d : x.dim ≡ y.0.dim = ap (λ (z : Edge ℕ (Option (Cell ℕ))). z.dim) y.2 in
+          omega (arith, d, l.place.behind)

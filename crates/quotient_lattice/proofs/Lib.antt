@@ -4,8 +4,13 @@ pub mod Joins
 mod Coded
 mod InOrder
 mod Numbers
-mod Downward
+mod ChildLaws
 mod NewValues
 mod LabelsLead
+mod Listing
+mod OnWay
+mod PickedNodes
+mod PlacedOrder
+mod ChildNodes
 mod ToldNodes
 mod ParentNodes

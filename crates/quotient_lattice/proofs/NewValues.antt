@@ -1,31 +1,26 @@
 -- A class above another is a child of it just where each of its new values leads to it.
-use Rattle.std.proofs.Common.{◌≡◌, ◌≢◌, ◌↔◌, ℕ, zero, suc, ◌+◌, ◌-◌, ◌<◌, ◌≤◌, Bool, true, false, Option, Some, None, List, [], ◌∷◌, map, filter, length, is_some, refl, sym, ap, ap₂, ◌∙◌, subst, arith, true≢false, inl}
+use Rattle.std.proofs.Common.{◌≡◌, ◌≢◌, ℕ, zero, suc, ◌+◌, ◌-◌, ◌<◌, Bool, true, Option, Some, None, List, [], ◌∷◌, filter, length, is_some, refl, sym, ap, ap₂, ◌∙◌, subst, arith, true≢false, inl}
 use Rattle.std.specs.Prelude.{slice_get}
-use Rattle.std.proofs.lemmas.Bool.{and_parts, false_from_ne_true}
+use Rattle.std.proofs.lemmas.Bool.{and_parts}
 use Rattle.std.proofs.lemmas.List.{length-map}
 use Rattle.std.proofs.lemmas.Option.{slice_get_within}
-use Rattle.std.specs.List.{AllByRecursion, range_with_len}
+use Rattle.std.specs.List.{range_with_len}
 use Rattle.std.specs.Ordering.{nat_cmp, eq_by_cmp}
-use Rattle.cube_defs.specs.Cell.{Cell, entry_leq, leq, with_value}
-use Rattle.cube_defs.specs.Rows.{Row, closure}
+use Rattle.cube_defs.specs.Cell.{Cell, leq, with_value}
+use Rattle.cube_defs.specs.Rows.{closure}
 use Rattle.cube_laws.specs.Lists.{Among}
 use Rattle.cube_laws.specs.Parts.{value_count}
-use Rattle.cube_laws.proofs.Cells.{leq_antisymm}
 use Rattle.cube_laws.proofs.Closures.{closure_idem, leq-closure, option_eq-is}
-use Rattle.cube_laws.proofs.Counts.{leq_entry}
 use Rattle.cube_laws.proofs.Lists.{all_at, all_from, all_passed, among_filter, filter_all, filter_among, filter_filter, filter_same, map-filter}
 use Rattle.cube_laws.proofs.Orders.{code_equality}
 use Rattle.cube_laws.proofs.Partition.{leq_with_any}
 use Rattle.cube_laws.proofs.Cells.{leq_trans}
 use Rattle.tree_laws.proofs.Lists.{among_range}
 use Rattle.tree_search.specs.Found.{TreeRows}
-use Rattle.cells_below.specs.Closed.{has_closure_in}
 use Rattle.cells_below.proofs.Between.{closed}
 use Rattle.cells_below.proofs.Ranges.{range-shift}
 use Rattle.quotient_lattice.specs.LeadsHome.{LeadsHome}
 use Rattle.quotient_lattice.specs.Led.{lead_count, leads_by, leads_to, new_value}
-use Rattle.quotient_lattice.specs.Neighbours.{is_parent}
-use Rattle.quotient_lattice.proofs.Downward.{child-is, put_there}
 
 -- a value that is new
 new_is : (e f : Option (Option ℕ)) (v : ℕ) → new_value e f ≡ Some v → (e ≡ Some None) × (f ≡ Some (Some v))

@@ -1,20 +1,13 @@
 -- The parents of a class, number by number.
-use Rattle.std.proofs.Common.{◌≡◌, ℕ, ◌+◌, ◌^◌, ◌<◌, ◌≤◌, Bool, true, false, not, cond, ◌&&◌, ◌||◌, Option, Some, None, List, [], ◌∷◌, ◌++◌, map, filter, length, refl, sym, ap, ap₂, ◌∙◌, subst, arith, true≢false}
-use Rattle.std.specs.Prelude.{IsSome, if◌then◌else◌}
-use Rattle.std.specs.Cmp.{nat_cmp_total}
-use Rattle.std.specs.FinMap as numbers
+use Rattle.std.proofs.Common.{◌≡◌, ℕ, ◌+◌, ◌^◌, ◌<◌, Bool, true, false, not, cond, ◌&&◌, ◌||◌, Option, Some, None, List, [], ◌∷◌, ◌++◌, map, filter, refl, sym, ap, ap₂, ◌∙◌, subst, arith, true≢false}
+use Rattle.std.specs.Prelude.{if◌then◌else◌}
 use Rattle.std.specs.List.{list_all, range_with_len}
 use Rattle.std.specs.Option.{option_map}
-use Rattle.std.specs.Ordering.{nat_cmp, eq_by_cmp}
-use Rattle.cube_defs.specs.Cell.{Cell, cell_eq, depth}
-use Rattle.cube_defs.specs.Rows.{agg, closure}
+use Rattle.std.specs.Ordering.{nat_cmp}
+use Rattle.cube_defs.specs.Cell.{Cell}
 use Rattle.cube_defs.specs.Tree.{as_list}
-use Rattle.cube_laws.proofs.Cells.{IsEquality, cell_eq-exact}
-use Rattle.cube_laws.proofs.Orders.{code_equality}
-use Rattle.qc_arena.specs.Seen.{record_at}
 use Rattle.tree_laws.proofs.Lists.{some_same}
-use Rattle.tree_search.specs.Found.{IsTreeOf, TreeRows, closure_in}
-use Rattle.tree_search.proofs.Walked.{there_is}
+use Rattle.tree_search.specs.Found.{TreeRows, closure_in}
 use Rattle.cells_below.specs.Closed.{IsMarkedBelow, closes}
 use Rattle.cells_below.specs.Marks.{is_marked}
 use Rattle.cells_below.specs.Numbers.{cell_of_number, has_bit, turned}

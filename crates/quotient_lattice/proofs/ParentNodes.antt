@@ -1,10 +1,8 @@
 -- The nodes of the parents of a class, with the texts of their codes.
-use Rattle.std.proofs.Common.{◌≡◌, ◌↔◌, ℕ, zero, suc, ◌<◌, Bool, true, false, Option, Some, None, is_some, List, [], ◌∷◌, length, get_or, map, filter, refl, sym, ap, ap₂, subst, ◌∙◌, arith, true≢false, inl, inr}
+use Rattle.std.proofs.Common.{◌≡◌, ◌↔◌, ℕ, zero, suc, ◌<◌, true, Some, None, is_some, List, [], ◌∷◌, length, get_or, map, refl, sym, ap, ap₂, subst, ◌∙◌, arith, true≢false, inl, inr}
 use Rattle.std.specs.Prelude.{IsSome}
-use Rattle.std.specs.declared.cmp.Ordering.{Ordering}
-use Rattle.std.specs.declared.cmp.Ordering.TheVariants.{Less, Equal, Greater}
+use Rattle.std.specs.declared.cmp.Ordering.TheVariants.{Less, Equal}
 use Rattle.std.specs.Ordering.{nat_cmp, eq_by_cmp, ordering_then}
-use Rattle.std.specs.Option.{option_cmp, option_map}
 use Rattle.std.specs.Cmp.{nat_cmp_total, tied_itself}
 use Rattle.std.specs.FinMap as numbers
 use Rattle.std.specs.List.{All, AllByRecursion}
@@ -12,26 +10,26 @@ use Rattle.std.specs.List.Sorted.{IsStrictlySortedBy}
 use Rattle.std.proofs.lemmas.Bool.{and_parts}
 use Rattle.std.proofs.lemmas.Simd.{map-map}
 use Rattle.cube_defs.specs.Text.{Text, text_cmp}
-use Rattle.cube_defs.specs.Cell.{Cell, cell_cmp, cell_eq, leq}
-use Rattle.cube_defs.specs.Rows.{Row, Agg, agg, closure, is_class}
+use Rattle.cube_defs.specs.Cell.{Cell, cell_cmp, leq}
+use Rattle.cube_defs.specs.Rows.{is_class}
 use Rattle.cube_defs.specs.Tree.{Tree, cell_at, classes}
 use Rattle.cube_laws.specs.Lists.{Among}
-use Rattle.cube_laws.specs.Recoding.{AreKnown, RowsAreKnown, coded_cell}
+use Rattle.cube_laws.specs.Recoding.{RowsAreKnown, coded_cell}
 use Rattle.cube_laws.proofs.Closures.{is_class-is}
 use Rattle.cube_laws.proofs.Listed.{classes-is, classes_rise, rises-filter}
-use Rattle.cube_laws.proofs.Lists.{all_from, among_filter, among_map, filter_among, map_among}
+use Rattle.cube_laws.proofs.Lists.{among_filter, among_map, filter_among, map_among}
 use Rattle.cube_laws.proofs.Orders.{code_equality}
 use Rattle.cell_core.specs.declared.cell.NodeNo.{NodeNo}
 use Rattle.qc_arena.specs.Seen.{number, record_at}
 use Rattle.tree_laws.proofs.Climbs.{class_is}
-use Rattle.tree_laws.proofs.Lists.{some_same, there}
+use Rattle.tree_laws.proofs.Lists.{there}
 use Rattle.tree_search.specs.Found.{IsTreeOf, TreeRows}
 use Rattle.tree_search.proofs.Walked.{cell_of, cell_there, there_is}
 use Rattle.value_dict.specs.TextLists.{IsDictionary, TextLists}
 use Rattle.value_dict.specs.Recoded.{has_code, text_in, told_rows}
 use Rattle.value_dict.specs.Told.{told_cell}
 use Rattle.value_dict.proofs.TextsApart.{told-known}
-use Rattle.quotient_lattice.specs.Neighbours.{is_apart, is_parent, parents}
+use Rattle.quotient_lattice.specs.Neighbours.{is_parent, parents}
 use Rattle.quotient_lattice.specs.Told.{told_nodes}
 use Rattle.quotient_lattice.proofs.Coded.{is_parent-coded}
 use Rattle.quotient_lattice.proofs.ToldNodes.{Passes, class_known, nodes_alike, tells, text_anti, text_total, told_passing}

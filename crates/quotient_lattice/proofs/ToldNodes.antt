@@ -1,5 +1,5 @@
 -- The nodes of the classes that pass a test, with the texts of their codes.
-use Rattle.std.proofs.Common.{◌≡◌, ◌↔◌, ℕ, Bool, true, ◌&&◌, Some, List, [], ◌∷◌, length, map, filter, refl, sym, ap, ap₂, subst, ◌∙◌, arith, inl, inr}
+use Rattle.std.proofs.Common.{◌≡◌, ◌↔◌, ℕ, Bool, true, Some, List, [], ◌∷◌, length, map, filter, refl, sym, ap, ap₂, subst, ◌∙◌, arith, inl, inr}
 use Rattle.std.specs.Prelude.{IsSome}
 use Rattle.std.specs.Ordering.{nat_cmp, eq_by_cmp}
 use Rattle.std.specs.Cmp.{IsTotalOrder, nat_cmp_total}
@@ -8,11 +8,10 @@ use Rattle.std.specs.FinMap as numbers
 use Rattle.std.specs.List.Sorted.{IsStrictlySortedBy}
 use Rattle.cube_defs.specs.Text.{Text, text_cmp}
 use Rattle.cube_defs.specs.Cell.{Cell, cell_cmp, depth, cell_front}
-use Rattle.cube_defs.specs.Rows.{Row, is_class}
+use Rattle.cube_defs.specs.Rows.{is_class}
 use Rattle.cube_defs.specs.Tree.{Tree, cell_at, classes}
 use Rattle.cube_laws.specs.Lists.{Among}
 use Rattle.cube_laws.specs.Recoding.{AreKnown, RowsAreKnown, TellsApart, coded_cell}
-use Rattle.cube_laws.proofs.Cells.{IsEquality}
 use Rattle.cube_laws.proofs.Closures.{is_class-is}
 use Rattle.cube_laws.proofs.Covered.{cell_anti, cell_total}
 use Rattle.cube_laws.proofs.Distinct.{rises_same}

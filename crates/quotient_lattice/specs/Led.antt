@@ -1,9 +1,10 @@
 -- Which values lead from a class to a class above it.
-use Rattle.std.specs.Prelude.{◌≡◌, ℕ, ◌+◌, ◌-◌, Bool, false, ◌&&◌, Option, Some, None, List, filter, length, nat_eq, nat_lt, slice_get, IsSome}
+use Rattle.std.specs.Prelude.{◌≡◌, ℕ, zero, suc, ◌+◌, ◌-◌, Bool, false, ◌&&◌, Option, Some, None, List, filter, length, nat_eq, nat_lt, slice_get, IsSome}
 use Rattle.std.specs.FinMap as map
 use Rattle.std.specs.List.{All, range_with_len}
 use Rattle.cube_defs.specs.Cell.{Cell, with_value}
 use Rattle.cube_defs.specs.Tree.{Edge, Tree}
+use Rattle.cube_laws.specs.Parts.{value_count}
 use Rattle.qc_arena.specs.Seen.{record_at}
 use Rattle.tree_search.specs.Found.{TreeRows}
 use Rattle.cells_below.specs.Closed.{has_closure_in}
@@ -42,3 +43,16 @@ AreFound source tree u a n ks = (k : ℕ) → IsSome (map.get tree k) → times 
 -- each number is that of a node
 abbrev pub AreThere : Tree ℕ → List ℕ → Type 0
 AreThere tree ks = All (λ k. IsSome (map.get tree k)) ks
+
+abbrev pub above_of : (ℕ → ℕ) → Option ℕ → ℕ
+above_of f None = 0
+above_of f (Some k) = f k
+
+-- how many edges the records have of a node and of so many nodes above it on the way to the root
+abbrev pub edges_up : Tree ℕ → ℕ → ℕ → ℕ
+edges_up tree zero k = length (record_at tree k).edges
+edges_up tree (suc n) k = length (record_at tree k).edges + above_of (edges_up tree n) (record_at tree k).parent
+
+-- of all nodes from the root to this one
+abbrev pub edges_on_way : Tree ℕ → ℕ → ℕ
+edges_on_way tree k = edges_up tree (value_count (record_at tree k).cell) k

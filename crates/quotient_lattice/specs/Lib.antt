@@ -3,3 +3,4 @@ pub mod Joined
 pub mod LeadsHome
 pub mod Led
 pub mod Told
+pub mod Placed

@@ -1,6 +1,5 @@
-use Rattle.std.proofs.Common.{◌≡◌, Bool, Option, Some, None, sym, ap, ◌∙◌}
+use Rattle.std.proofs.Common.{Bool, Some, None, sym, ap, ◌∙◌}
 use Rattle.std.specs.Prelude.{if◌then◌else◌}
-use Rattle.cube_defs.specs.Cell.{Cell}
 use Rattle.cells_below.specs.Numbers.{cell_of_number}
 use Rattle.quotient_lattice.proofs.Numbers.{is_joined, joined_own, not_marked, not_most}
 use Rattle.quotient_lattice.proofs.joined.joined_at.Goals as goal

@@ -1,4 +1,4 @@
-use Rattle.std.proofs.Common.{◌≡◌, ℕ, ◌+◌, ◌*◌, ◌^◌, ◌≤◌, Some, filter, length, map}
+use Rattle.std.proofs.Common.{◌≡◌, ◌+◌, ◌*◌, ◌≤◌, Some, filter, length, map}
 use Rattle.std.specs.List.{range_with_len}
 use Rattle.cube_defs.specs.Tree.{cell_at}
 use Rattle.tree_search.specs.Found.{IsTreeOf, TreeRows}

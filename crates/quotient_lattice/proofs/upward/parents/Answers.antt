@@ -1,19 +1,13 @@
 use Rattle.std.proofs.Common.{◌≡◌, ◌+◌, ◌*◌, ◌^◌, ◌≤◌, length, subst, sym, ap, ◌∙◌, arith}
-use Rattle.std.specs.Ordering.{nat_cmp, eq_by_cmp}
 use Rattle.std.proofs.lemmas.Result.{IfOk-weaker}
 use Rattle.cube_defs.specs.Text.{text_cmp}
 use Rattle.cube_laws.specs.Parts.{value_count}
-use Rattle.cube_laws.proofs.Closures.{is_class-is}
-use Rattle.cube_laws.proofs.Orders.{code_equality}
 use Rattle.qc_arena.specs.Seen.{record_at}
 use Rattle.tree_search.proofs.Walked.{cell_of}
 use Rattle.value_dict.specs.Recoded.{told_rows}
 use Rattle.value_dict.specs.Told.{told_cell}
-use Rattle.cells_below.proofs.Between.{closed}
-use Rattle.lower_bounds.proofs.Counted.{few_values}
 use Rattle.lower_bounds.proofs.OwnClosure.{own_closure}
 use Rattle.quotient_lattice.specs.Neighbours as lattice
-use Rattle.quotient_lattice.specs.Told.{told_nodes}
 use Rattle.quotient_lattice.proofs.Counted.{steps_of_parents}
 use Rattle.quotient_lattice.proofs.ParentNodes.{parents_are_classes, parents_told}
 use Rattle.quotient_lattice.proofs.upward.parents.Goals as goal

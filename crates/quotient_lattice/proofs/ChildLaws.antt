@@ -1,15 +1,13 @@
 -- The children of a class: which closures of the class with a value more have no other between.
-use Rattle.std.proofs.Common.{◌≡◌, ◌≢◌, ◌↔◌, ℕ, zero, suc, ◌<◌, ◌≤◌, Bool, true, false, Option, Some, None, List, [], ◌∷◌, length, refl, sym, ap, ◌∙◌, subst, arith, true≢false, ◌⊎◌, inl, inr}
+use Rattle.std.proofs.Common.{◌≡◌, ◌≢◌, ◌↔◌, ℕ, zero, suc, ◌<◌, ◌≤◌, Bool, true, false, Some, None, List, [], ◌∷◌, length, refl, sym, ap, ◌∙◌, subst, arith, true≢false, ◌⊎◌, inl, inr}
 use Rattle.std.specs.Prelude.{slice_get}
 use Rattle.std.proofs.lemmas.Bool.{and_parts, and_from}
-use Rattle.std.specs.Cmp.{nat_cmp_total}
-use Rattle.std.specs.FinMap as map
 use Rattle.std.specs.Ordering.{nat_cmp, eq_by_cmp}
 use Rattle.std.specs.Option.{option_map}
 use Rattle.cube_defs.specs.Cell.{Cell, depth, entry_leq, cell_front, leq, upto, with_value}
 use Rattle.cube_defs.specs.Rows.{Row, closure}
 use Rattle.cube_defs.specs.Tree.{next_value}
-use Rattle.cube_laws.proofs.Cells.{IsEquality, cell_front-leq, leq_antisymm, leq_refl, leq_trans, length-cell_front}
+use Rattle.cube_laws.proofs.Cells.{cell_front-leq, leq_antisymm, leq_trans, length-cell_front}
 use Rattle.cube_laws.proofs.Closures.{closure_idem, closure_mono, closure_some, leq-closure}
 use Rattle.cube_laws.proofs.Counts.{leq_entry, no_new}
 use Rattle.cube_laws.proofs.Orders.{code_equality}

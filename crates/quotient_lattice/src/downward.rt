@@ -1,0 +1,143 @@
+// The children of a class, in cell order.
+ghost use Rattle.std.specs.FinMap as map;
+ghost use Rattle.std.specs.List.{IsDistinct};
+ghost use Rattle.std.specs.List.Sorted.{IsSorted};
+ghost use Rattle.std.specs.Ordering.{nat_cmp};
+ghost use Rattle.std.specs.Prelude.{All, IfOk, IsSome, OnOk, Some, [], cond, length, map as mapped, nat_eq, ℕ, ◌*◌, ◌+◌, ◌++◌, ◌<◌, ◌≡◌, ◌≤◌, ◌↔◌, ◌∷◌};
+ghost use Rattle.cube_defs.specs.Text.{text_cmp};
+ghost use Rattle.cube_laws.specs.Lists.{Among};
+ghost use Rattle.cube_laws.specs.Parts.{value_count};
+ghost use Rattle.cube_laws.specs.Recoding.{RowsAreKnown};
+ghost use Rattle.qc_arena.specs.Seen.{record_at};
+ghost use Rattle.tree_search.specs.Found.{IsTreeOf, IsTree, TreeRows};
+ghost use Rattle.value_dict.specs.Recoded.{has_code, told_rows};
+ghost use Rattle.value_dict.specs.Told.{told_cell};
+ghost use Rattle.quotient_lattice.specs.Led.{AreThere, edges_on_way};
+ghost use Rattle.quotient_lattice.specs.Neighbours as lattice;
+ghost use Rattle.quotient_lattice.specs.Placed as places;
+ghost use Rattle.quotient_lattice.specs.Placed.{AreAt, IsPicked, number_of};
+ghost use Rattle.quotient_lattice.specs.Told.{told_nodes};
+
+use crate::Memory;
+use crate::led::led_from;
+use crate::placed::{Placed, sort, without_cells};
+use cell_core::{Cell, NodeNo, Steps};
+use cells_below::count_values;
+use qc_arena::Nodes;
+use std::alloc::Global;
+use std::sync::ledger::Ledger;
+use tree_search::upper_into;
+use value_dict::Dict;
+
+// Whether a number stands for the last time in a list in order.
+fn is_last(led: &Vec<u32>, i: usize) -> bool
+    requires { i < length led.now.items }
+    ensures { result ≡ places.is_last led.now.items i }
+{
+    i + 1 >= led.len() || led[i + 1] != led[i]
+}
+
+// Puts a node last, with its cell, where it has just so many values more.
+fn push_child<T: Nodes, L: Ledger>(
+    tree: &T,
+    node: NodeNo,
+    values: u32,
+    more: usize,
+    cell: &mut Cell,
+    children: &mut Vec<Placed>,
+    steps: &mut Steps<L>,
+) -> Result<(), Memory>
+    requires tree { IsTree (T.width tree.now) (T.tree tree.now) }
+    requires node { IsSome (map.get (T.tree tree.now) node.0) }
+    requires dims { length cell.old ≡ T.width tree.now }
+    ensures dims { length cell.new ≡ length cell.old }
+    ensures numbers { OnOk result (mapped number_of children.new.items
+        ≡ mapped number_of children.old.items ++ cond (nat_eq (more + values) (value_count (record_at (T.tree tree.now) node.0).cell)) (node.0 ∷ []) []) }
+    ensures cells { AreAt (T.tree tree.now) children.old.items → OnOk result (AreAt (T.tree tree.now) children.new.items) }
+    ensures steps { steps.new ≤ steps.old + (2 * length cell.old + 2) }
+{
+    upper_into(tree, node, cell, steps);
+    let all = count_values(cell) as usize;
+    if more <= all && all - more == values as usize {
+        let cell = cell.copy();
+        children.push(Placed { node, cell })?;
+    }
+    Ok(())
+}
+
+// Of the numbers in order, each stands as often as values lead to its class: the classes that have just
+// these values more than u, which has `values`.
+fn picked<T: Nodes, L: Ledger>(
+    alloc: Global,
+    tree: &T,
+    values: u32,
+    led: &Vec<u32>,
+    steps: &mut Steps<L>,
+) -> Result<Vec<Placed>, Memory>
+    requires tree { IsTree (T.width tree.now) (T.tree tree.now) }
+    requires there { AreThere (T.tree tree.now) led.now.items }
+    requires sorted { IsSorted nat_cmp led.now.items }
+    ensures each { IfOk result (λ found. (k : ℕ) → Among k (mapped number_of found.items) ↔ IsPicked (T.tree tree.now) values led.now.items (length led.now.items) k) }
+    ensures once { IfOk result (λ found. IsDistinct nat_eq (mapped number_of found.items)) }
+    ensures cells { IfOk result (λ found. AreAt (T.tree tree.now) found.items) }
+    ensures steps { steps.new ≤ steps.old + length led.now.items * (2 * T.width tree.now + 2) }
+{
+    let mut found = Vec::new(alloc);
+    let mut cell = Cell::any(alloc, tree.dims());
+    let mut more = 0;
+    'led: for i in 0..led.len() {
+        more += 1;
+        if is_last(led, i) {
+            match push_child(
+                tree,
+                NodeNo(led[i]),
+                values,
+                more,
+                &mut cell,
+                &mut found,
+                steps,
+            ) {
+                Ok(()) => {}
+                Err(error) => return Err(error),
+            }
+            more = 0;
+        }
+    }
+    Ok(found)
+}
+
+/// The nodes of all children of a class, in cell order by the texts of the dictionary. With n dimensions,
+/// and E edges at the nodes from the root to the class's, it takes at most 16 (n + 1) (E + 1) steps.
+pub fn children<T: Nodes, L: Ledger>(
+    alloc: Global,
+    tree: &T,
+    dict: &Dict,
+    node: NodeNo,
+    steps: &mut Steps<L>,
+) -> Result<Vec<NodeNo>, Memory>
+    requires tree { IsTree (T.width tree.now) (T.tree tree.now) }
+    requires class { IsSome (record_at (T.tree tree.now) node.0).class }
+    requires dims { length dict.now.lists ≡ T.width tree.now }
+    ensures nodes { (source : TreeRows) → IsTreeOf (T.width tree.now) (T.tree tree.now) source → RowsAreKnown (has_code dict.now.lists) source.rows →
+        IfOk result (λ nodes. told_nodes dict.now.lists (T.tree tree.now) nodes.items
+        ≡ lattice.children text_cmp (told_rows dict.now.lists source.rows) (told_cell dict.now.lists (record_at (T.tree tree.now) node.0).cell)) }
+    ensures classes { IfOk result (λ nodes. All (λ node. IsSome (record_at (T.tree tree.now) node.0).class) nodes.items) }
+    ensures steps { steps.new ≤ steps.old + 16 * (T.width tree.now + 1) * (edges_on_way (T.tree tree.now) node.0 + 1) }
+{
+    let _dims = dict.dims();
+    let mut u = Cell::any(alloc, tree.dims());
+    upper_into(tree, node, &mut u, steps);
+    let mut led = match led_from(alloc, tree, node, &mut u, steps) {
+        Ok(led) => led,
+        Err(error) => return Err(error),
+    };
+    led.sort_unstable();
+    let mut found = match picked(alloc, tree, count_values(&u), &led, steps) {
+        Ok(found) => found,
+        Err(error) => return Err(error),
+    };
+    match sort(dict, &mut found) {
+        Ok(()) => without_cells(alloc, found),
+        Err(error) => Err(error),
+    }
+}
