@@ -22,12 +22,11 @@ use Rattle.iceberg_query.proofs.Sorted.{all_among}
 use Rattle.quotient_lattice.specs.declared.placed.Placed.{Placed}
 use Rattle.quotient_lattice.specs.Led.{AreFound, AreThere, lead_count, times}
 use Rattle.quotient_lattice.specs.Neighbours.{is_parent}
-use Rattle.quotient_lattice.specs.Placed.{IsPicked, number_of}
+use Rattle.quotient_lattice.specs.Placed.{IsPassing, IsPicked, number_of}
 use Rattle.quotient_lattice.proofs.ChildLaws.{child-is}
 use Rattle.quotient_lattice.proofs.InOrder.{parent_above}
 use Rattle.quotient_lattice.proofs.Listing.{times_among}
 use Rattle.quotient_lattice.proofs.NewValues.{Leads, count_home, home_count, led_above, led_other, led_own, one_leads, some_new}
-use Rattle.quotient_lattice.proofs.PlacedOrder.{PassesHere}
 
 -- before the first place nothing is picked
 pub none_picked : (tree : Tree ℕ) (values : ℕ) (xs : List ℕ) (found : List Placed) → found ≡ [] → (k : ℕ) → Among k (map number_of found) ↔ IsPicked tree values xs 0 k
@@ -52,10 +51,10 @@ module _ (dims : ℕ) (tree : Tree ℕ) (source : TreeRows) (h : IsTreeOf dims t
   as_often : (k : ℕ) → IsSome (numbers.get tree k) → times k sorted ≡ lead_count source u (cell k) 0 dims
   as_often k t = times_permutation k led sorted same ∙ found k t
 
-  pub picked_child : (k : ℕ) → IsPicked tree values sorted (length sorted) k ↔ PassesHere tree source (λ d. is_parent nat_cmp source.rows u d) k
+  pub picked_child : (k : ℕ) → IsPicked tree values sorted (length sorted) k ↔ IsPassing tree source (λ d. is_parent nat_cmp source.rows u d) k
   picked_child k = (to, from)
     where
-      to : IsPicked tree values sorted (length sorted) k → PassesHere tree source (λ d. is_parent nat_cmp source.rows u d) k
+      to : IsPicked tree values sorted (length sorted) k → IsPassing tree source (λ d. is_parent nat_cmp source.rows u d) k
       to p =
           let t : IsSome (numbers.get tree k) = all_among (λ k. IsSome (numbers.get tree k)) k sorted there (times_among k sorted p.some) in
           let often = as_often k t in
@@ -69,7 +68,7 @@ module _ (dims : ℕ) (tree : Tree ℕ) (source : TreeRows) (h : IsTreeOf dims t
             passes = (child-is dims source.rows u (cell k) h.wide own self low (led_other source u (cell k) l.0 l.1)).1 home;
           }
 
-      from : PassesHere tree source (λ d. is_parent nat_cmp source.rows u d) k → IsPicked tree values sorted (length sorted) k
+      from : IsPassing tree source (λ d. is_parent nat_cmp source.rows u d) k → IsPicked tree values sorted (length sorted) k
       from p =
           let often = as_often k p.there in
           let a = parent_above dims source.rows h.wide u (cell k) p.passes in

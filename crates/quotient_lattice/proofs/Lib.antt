@@ -12,5 +12,8 @@ mod OnWay
 mod PickedNodes
 mod PlacedOrder
 mod ChildNodes
+mod Rolled
+mod Visited
+mod Lowest
 mod ToldNodes
 mod ParentNodes

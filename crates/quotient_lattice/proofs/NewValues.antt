@@ -60,7 +60,7 @@ news_count (Some v ∷ u) (Some w ∷ d) h l =
     omega (arith, count-shift (is_new (Some v ∷ u) (Some w ∷ d)) (is_new u d) (length u) (λ i. refl), news_count u d (and_parts (eq_by_cmp nat_cmp v w) _ h).1 (omega arith))
 
 -- and with no new ones it is the same
-only_same : (u d : Cell ℕ) → leq (eq_by_cmp nat_cmp) u d ≡ true → length u ≡ length d → value_count u ≡ value_count d → u ≡ d
+pub only_same : (u d : Cell ℕ) → leq (eq_by_cmp nat_cmp) u d ≡ true → length u ≡ length d → value_count u ≡ value_count d → u ≡ d
 only_same [] [] h l c = refl
 only_same [] (f ∷ d) h l c = absurd (omega arith)
 only_same (e ∷ u) [] h l c = absurd (omega arith)

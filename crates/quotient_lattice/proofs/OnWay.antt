@@ -1,14 +1,15 @@
 -- On the way from a class's node up to the root.
-use Rattle.std.proofs.Common.{◌≡◌, ℕ, zero, suc, ◌+◌, ◌-◌, ◌<◌, ◌≤◌, Bool, true, false, cond, ◌&&◌, nat_eq, nat_lt, eqb-true, eq-eqb, lt-ltb, ltb-true, Option, Some, None, List, [], ◌∷◌, take, filter, length, refl, sym, ap, ◌∙◌, arith}
+use Rattle.std.proofs.Common.{◌≡◌, ℕ, zero, suc, ◌+◌, ◌-◌, ◌<◌, ◌≤◌, Bool, true, false, cond, ◌&&◌, nat_eq, nat_lt, lt-ltb, ltb-true, Option, Some, None, List, [], ◌∷◌, take, filter, length, refl, sym, ap, ◌∙◌, arith}
 use Rattle.std.specs.Prelude.{slice_get, slice_set, IsSome}
 use Rattle.std.proofs.lemmas.Bool.{false_from_ne_true}
-use Rattle.std.specs.Cmp.{both_ways, nat_cmp_total}
+use Rattle.std.specs.Cmp.{nat_cmp_total}
 use Rattle.std.specs.FinMap as map
 use Rattle.std.specs.List.{range_with_len}
 use Rattle.std.specs.Option.{option_map}
 use Rattle.cube_defs.specs.Cell.{Cell, depth, cell_front, one_deeper, with_value}
 use Rattle.cube_defs.specs.Tree.{Edge, Tree, cell_at}
 use Rattle.cube_laws.specs.Parts.{value_count}
+use Rattle.cube_laws.proofs.Orders.{nat_eq-turned}
 use Rattle.qc_arena.specs.Seen.{record_at}
 use Rattle.tree_laws.specs.Walk.{last_label}
 use Rattle.tree_laws.proofs.Climbs.{label_none, label_some, parent_is}
@@ -30,13 +31,10 @@ put_back (f ∷ c) (suc i) v e = ap (λ x. f ∷ x) (put_back c i v e)
 abbrev pub one_if : Bool → ℕ
 one_if b = cond b 1 0
 
-nat_eq-sym : (x y : ℕ) → nat_eq x y ≡ nat_eq y x
-nat_eq-sym x y = both_ways _ _ (λ e. eq-eqb y x (sym (eqb-true x y e))) (λ e. eq-eqb x y (sym (eqb-true y x e)))
-
 -- what a search finds, counted
 module _ (dims : ℕ) (tree : Tree ℕ) (source : TreeRows) (h : IsTreeOf dims tree source) (c : Cell ℕ) (k : ℕ) (t : IsSome (map.get tree k)) where
   pub found_some : (m : ℕ) → IsNumberOfCell tree (Some m) (closure_in source c) → ◌≡◌ {A = ℕ} (cond (nat_eq k m) 1 0) (cond (has_closure_in source (record_at tree k).cell c) 1 0)
-  found_some m e = ap (λ (b : Bool). one_if b) (nat_eq-sym k m ∙ leads_some dims tree k (record_at tree k).cell (cell_there tree k t) source h c m e)
+  found_some m e = ap (λ (b : Bool). one_if b) (nat_eq-turned k m ∙ leads_some dims tree k (record_at tree k).cell (cell_there tree k t) source h c m e)
 
 -- one edge more
 pub edges_more : {T : Type 0} (p : Edge ℕ T → Bool) (xs : List (Edge ℕ T)) (j : ℕ) (x : Edge ℕ T) → slice_get xs j ≡ Some x → length (filter p (take (j + 1) xs)) ≡ length (filter p (take j xs)) + cond (p x) 1 0

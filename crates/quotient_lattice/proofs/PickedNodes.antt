@@ -14,7 +14,7 @@ use Rattle.quotient_lattice.specs.Placed.{IsPicked, is_last}
 use Rattle.quotient_lattice.proofs.Listing.{in_all, none_before, none_behind, one_more}
 
 -- one item more that wasn't there
-distinct_push : (xs : List ℕ) (k : ℕ) → IsDistinct nat_eq xs → (Among k xs → ⊥) → IsDistinct nat_eq (xs ++ k ∷ [])
+pub distinct_push : (xs : List ℕ) (k : ℕ) → IsDistinct nat_eq xs → (Among k xs → ⊥) → IsDistinct nat_eq (xs ++ k ∷ [])
 unfolding IsDistinct
 distinct_push [] k h lacks = (tt, tt)
 distinct_push (x ∷ xs) k h lacks = (behind xs h.0, distinct_push xs k h.1 (λ m. lacks (inr m)))

@@ -37,6 +37,15 @@ text_total = lists_total nat_cmp_total
 pub text_anti : numbers.IsAntisymmetric text_cmp
 text_anti = numbers.slice_cmp-IsAntisymmetric numbers.nat_cmp-IsAntisymmetric
 
+module _ (dims : ℕ) (tree : Tree ℕ) (source : TreeRows) (h : IsTreeOf dims tree source) where
+  -- the node of a class
+  pub class_node : (c : Cell ℕ) → is_class (eq_by_cmp nat_cmp) source.rows c ≡ true → (k : ℕ) × IsSome (numbers.get tree k) × ((record_at tree k).cell ≡ c)
+  class_node c e =
+      let whole : cell_front (depth c) c ≡ c = cell_front-beyond (depth c) c (omega arith) in
+      let f : (k : ℕ) × (cell_at tree k ≡ Some (cell_front (depth c) c)) = h.canonical.all (cell_front (depth c) c) (class_fronts code_equality source.rows (depth c) c e) in
+      let at : cell_at tree f.0 ≡ Some c = f.1 ∙ ap (λ d. Some d) whole in
+      (f.0, there tree f.0 c at, cell_of tree f.0 c at)
+
 module _ (dims : ℕ) (tree : Tree ℕ) (dict : TextLists) (source : TreeRows) (h : IsTreeOf dims tree source) (dictionary : IsDictionary dict) (rows_known : RowsAreKnown (has_code dict.lists) source.rows) (same_dims : length dict.lists ≡ dims) where
   pub tells : TellsApart (has_code dict.lists) (text_in dict.lists)
   tells = texts-apart dict.lists dictionary.distinct
@@ -53,14 +62,6 @@ module _ (dims : ℕ) (tree : Tree ℕ) (dict : TextLists) (source : TreeRows) (
 
   pub told_alike : (k : ℕ) → IsSome (numbers.get tree k) → telling.told_cell dict.lists (cell k) ≡ told k
   told_alike k t = told-known dict.lists (cell k) (omega (arith, wide dims tree source h k t, same_dims))
-
-  -- the node of a class
-  pub class_node : (c : Cell ℕ) → is_class (eq_by_cmp nat_cmp) source.rows c ≡ true → (k : ℕ) × IsSome (numbers.get tree k) × (cell k ≡ c)
-  class_node c e =
-      let whole : cell_front (depth c) c ≡ c = cell_front-beyond (depth c) c (omega arith) in
-      let f : (k : ℕ) × (cell_at tree k ≡ Some (cell_front (depth c) c)) = h.canonical.all (cell_front (depth c) c) (class_fronts code_equality source.rows (depth c) c e) in
-      let at : cell_at tree f.0 ≡ Some c = f.1 ∙ ap (λ d. Some d) whole in
-      (f.0, there tree f.0 c at, cell_of tree f.0 c at)
 
   -- what is known of the node of a class that passes
   pub record Passes (P : Cell ℕ → Bool) (k : ℕ) : Type 0 where
@@ -91,7 +92,7 @@ module _ (dims : ℕ) (tree : Tree ℕ) (dict : TextLists) (source : TreeRows) (
             let c : (c : Cell ℕ) × Among c (classes nat_cmp source.rows) × (x ≡ coded_cell (text_in dict.lists) 0 c)
             = (classes-coded nat_cmp_total numbers.nat_cmp-IsAntisymmetric text_total text_anti tells source.rows rows_known x).0 f.0 in
             let e : is_class (eq_by_cmp nat_cmp) source.rows c.0 ≡ true = (classes-is nat_cmp_total numbers.nat_cmp-IsAntisymmetric source.rows dims h.wide c.0).0 c.1 in
-            let k : (k : ℕ) × IsSome (numbers.get tree k) × (cell k ≡ c.0) = class_node c.0 e in
+            let k : (k : ℕ) × IsSome (numbers.get tree k) × (cell k ≡ c.0) = class_node dims tree source h c.0 e in
             let p : P (cell k.0) ≡ true = ap P k.2 ∙ sym (same c.0 (class_known c.0 e)) ∙ ap P' (sym c.2) ∙ f.1 in
             let is : x ≡ told k.0 = c.2 ∙ ap (coded_cell (text_in dict.lists) 0) (sym k.2) in
             subst (λ y. Among y (map told ks)) (sym is)

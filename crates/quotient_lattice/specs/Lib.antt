@@ -4,3 +4,4 @@ pub mod LeadsHome
 pub mod Led
 pub mod Told
 pub mod Placed
+pub mod Visits

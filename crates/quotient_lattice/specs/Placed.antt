@@ -1,11 +1,14 @@
 -- Nodes with their cells, as they are picked and put in order.
-use Rattle.std.specs.Prelude.{◌≡◌, ℕ, ◌+◌, ◌<◌, Bool, not, ◌||◌, List, nat_eq, nat_lt, length, take, slice_index_or}
+use Rattle.std.specs.Prelude.{◌≡◌, ℕ, ◌+◌, ◌<◌, Bool, true, not, IsSome, ◌||◌, List, nat_eq, nat_lt, length, take, slice_index_or}
 use Rattle.std.specs.List.{All}
 use Rattle.std.specs.declared.cmp.Ordering.{Ordering}
-use Rattle.std.specs.Ordering.{is_lt}
+use Rattle.std.specs.FinMap as map
+use Rattle.std.specs.Ordering.{eq_by_cmp, is_lt, nat_cmp}
 use Rattle.cube_defs.specs.Cell as defs
 use Rattle.cube_defs.specs.Text.{Text, text_cmp}
+use Rattle.cube_defs.specs.Rows.{is_class}
 use Rattle.cube_defs.specs.Tree.{Tree}
+use Rattle.tree_search.specs.Found.{TreeRows}
 use Rattle.cube_laws.specs.Parts.{value_count}
 use Rattle.cube_laws.specs.Recoding.{coded_cell}
 use Rattle.cell_core.specs.declared.cell.NodeNo.{NodeNo}
@@ -43,3 +46,9 @@ pub record IsPicked (tree : Tree ℕ) (values : ℕ) (xs : List ℕ) (i k : ℕ)
   pub some : 0 < times k xs
   pub done : times k (take i xs) ≡ times k xs
   pub enough : times k xs + values ≡ value_count (record_at tree k).cell
+
+-- the node of a class that passes a test
+pub record IsPassing (tree : Tree ℕ) (source : TreeRows) (P : defs.Cell ℕ → Bool) (k : ℕ) : Type 0 where
+  pub there : IsSome (map.get tree k)
+  pub class : is_class (eq_by_cmp nat_cmp) source.rows (record_at tree k).cell ≡ true
+  pub passes : P (record_at tree k).cell ≡ true

@@ -15,7 +15,7 @@ ghost use Rattle.value_dict.specs.Told.{told_cell};
 ghost use Rattle.quotient_lattice.specs.Led.{AreThere, edges_on_way};
 ghost use Rattle.quotient_lattice.specs.Neighbours as lattice;
 ghost use Rattle.quotient_lattice.specs.Placed as places;
-ghost use Rattle.quotient_lattice.specs.Placed.{AreAt, IsPicked, number_of};
+ghost use Rattle.quotient_lattice.specs.Placed.{AreAt, IsPassing, IsPicked, number_of};
 ghost use Rattle.quotient_lattice.specs.Told.{told_nodes};
 
 use crate::Memory;
@@ -106,6 +106,32 @@ fn picked<T: Nodes, L: Ledger>(
     Ok(found)
 }
 
+/// All children of a class, in no order that is told.
+pub(crate) fn found_children<T: Nodes, L: Ledger>(
+    alloc: Global,
+    tree: &T,
+    node: NodeNo,
+    steps: &mut Steps<L>,
+) -> Result<Vec<Placed>, Memory>
+    requires tree { IsTree (T.width tree.now) (T.tree tree.now) }
+    requires class { IsSome (record_at (T.tree tree.now) node.0).class }
+    ensures each { (source : TreeRows) → IsTreeOf (T.width tree.now) (T.tree tree.now) source →
+        IfOk result (λ found. (k : ℕ) → Among k (mapped number_of found.items)
+        ↔ IsPassing (T.tree tree.now) source (λ d. lattice.is_parent nat_cmp source.rows (record_at (T.tree tree.now) node.0).cell d) k) }
+    ensures once { IfOk result (λ found. IsDistinct nat_eq (mapped number_of found.items)) }
+    ensures cells { IfOk result (λ found. AreAt (T.tree tree.now) found.items) }
+    ensures steps { steps.new ≤ steps.old + 16 * (T.width tree.now + 1) * (edges_on_way (T.tree tree.now) node.0 + 1) }
+{
+    let mut u = Cell::any(alloc, tree.dims());
+    upper_into(tree, node, &mut u, steps);
+    let mut led = match led_from(alloc, tree, node, &mut u, steps) {
+        Ok(led) => led,
+        Err(error) => return Err(error),
+    };
+    led.sort_unstable();
+    picked(alloc, tree, count_values(&u), &led, steps)
+}
+
 /// The nodes of all children of a class, in cell order by the texts of the dictionary. With n dimensions,
 /// and E edges at the nodes from the root to the class's, it takes at most 16 (n + 1) (E + 1) steps.
 pub fn children<T: Nodes, L: Ledger>(
@@ -125,14 +151,7 @@ pub fn children<T: Nodes, L: Ledger>(
     ensures steps { steps.new ≤ steps.old + 16 * (T.width tree.now + 1) * (edges_on_way (T.tree tree.now) node.0 + 1) }
 {
     let _dims = dict.dims();
-    let mut u = Cell::any(alloc, tree.dims());
-    upper_into(tree, node, &mut u, steps);
-    let mut led = match led_from(alloc, tree, node, &mut u, steps) {
-        Ok(led) => led,
-        Err(error) => return Err(error),
-    };
-    led.sort_unstable();
-    let mut found = match picked(alloc, tree, count_values(&u), &led, steps) {
+    let mut found = match found_children(alloc, tree, node, steps) {
         Ok(found) => found,
         Err(error) => return Err(error),
     };

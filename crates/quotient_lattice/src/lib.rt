@@ -1,4 +1,5 @@
-//! The quotient lattice: the classes just above a class and just below it, found by searches in a tree of nodes.
+//! The quotient lattice: the classes just above a class, just below it, and the most general ones from it on that are asked for.
+//! They are found by searches in a tree of nodes.
 #![tactic(auto)]
 
 mod downward;
@@ -6,8 +7,10 @@ mod joined;
 pub mod laws;
 mod led;
 mod placed;
+mod rolling;
 mod upward;
 
 pub use cube_defs::Memory;
 pub use downward::children;
+pub use rolling::rollup;
 pub use upward::parents;

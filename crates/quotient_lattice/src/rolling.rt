@@ -1,0 +1,214 @@
+// How far up a class can be rolled: the most general classes from it on that are asked for.
+ghost use Rattle.std.specs.FinMap as map;
+ghost use Rattle.std.specs.List.{IsDistinct};
+ghost use Rattle.std.specs.Prelude.{All, IfOk, IsSome, OnOk, [], filter, length, map as mapped, nat_eq, ℕ, ◌≡◌, ◌≤◌, ◌↔◌, ◌∷◌, ◌++◌, true};
+ghost use Rattle.std.specs.Ordering.{nat_cmp};
+ghost use Rattle.cube_defs.specs.Answers as answers;
+ghost use Rattle.cube_defs.specs.Text.{text_cmp};
+ghost use Rattle.cube_laws.specs.Lists.{Among};
+ghost use Rattle.cube_laws.specs.Recoding.{RowsAreKnown};
+ghost use Rattle.aggregates.specs.Views.{IsThere, agg_in};
+ghost use Rattle.iceberg_query.specs.Asked.{HasMeasure, ask_in};
+ghost use Rattle.indexmap.specs.IndexSet.{insert_all};
+ghost use Rattle.qc_arena.specs.Seen.{record_at};
+ghost use Rattle.tree_search.specs.Found.{IsTreeOf, IsTree, TreeRows};
+ghost use Rattle.value_dict.specs.Recoded.{has_code, told_rows};
+ghost use Rattle.value_dict.specs.Told.{told_cell};
+ghost use Rattle.quotient_lattice.specs.Neighbours as lattice;
+ghost use Rattle.quotient_lattice.specs.Placed.{AreAt, IsPassing, number_of};
+ghost use Rattle.quotient_lattice.specs.Told.{told_nodes};
+ghost use Rattle.quotient_lattice.specs.Visits as visits;
+ghost use Rattle.quotient_lattice.specs.Visits.{AreMet, IsVisited};
+
+use crate::Memory;
+use crate::downward::found_children;
+use crate::placed::{Placed, sort, without_cells};
+use aggregates::{Agg, compare, value_of};
+use cell_core::{Cell, NodeNo, Steps, leq};
+use iceberg_query::{Ask, Bound};
+use indexmap::IndexSet;
+use qc_arena::Nodes;
+use std::alloc::Global;
+use std::sync::ledger::Ledger;
+use tree_search::upper_into;
+use value_dict::Dict;
+
+// Whether a class with this aggregate is asked for.
+fn is_asked(ask: &Ask, agg: &Agg) -> bool
+    requires there { IsThere agg.now.measures ask.now.kind }
+    requires scale { ask.now.scale ≤ 6 }
+    ensures { result ≡ answers.is_asked (ask_in ask.now) (agg_in agg.now) }
+{
+    let order = compare(&value_of(agg, ask.kind, ask.scale), &ask.value);
+    match ask.bound {
+        Bound::AtLeast => order.is_ge(),
+        Bound::AtMost => order.is_le(),
+    }
+}
+
+// Whether the class of a node is asked for.
+fn wants<T: Nodes, L: Ledger>(tree: &T, ask: &Ask, node: NodeNo, steps: &mut Steps<L>) -> bool
+    requires class { IsSome (record_at (T.tree tree.now) node.0).class }
+    requires measure { HasMeasure (T.width tree.now) (T.tree tree.now) ask.now.kind }
+    requires scale { ask.now.scale ≤ 6 }
+    ensures { result ≡ visits.wants (T.tree tree.now) ask.now node.0 }
+{
+    let total = tree.class(node, steps).unwrap();
+    is_asked(ask, &total)
+}
+
+// Puts numbers in that are not there yet.
+fn insert_each(seen: &mut IndexSet<u32>, found: &Vec<Placed>) -> Result<(), Memory>
+    ensures { OnOk result (seen.new.keys ≡ insert_all nat_eq seen.old.keys (mapped number_of found.now.items)) }
+{
+    'found: for k in 0..found.len() {
+        seen.insert(found[k].node.0)?;
+    }
+    Ok(())
+}
+
+// Puts a node last, with its cell.
+fn push_placed<T: Nodes, L: Ledger>(
+    alloc: Global,
+    tree: &T,
+    node: NodeNo,
+    met: &mut Vec<Placed>,
+    steps: &mut Steps<L>,
+) -> Result<(), Memory>
+    requires tree { IsTree (T.width tree.now) (T.tree tree.now) }
+    requires node { IsSome (map.get (T.tree tree.now) node.0) }
+    ensures numbers { OnOk result (mapped number_of met.new.items ≡ mapped number_of met.old.items ++ node.0 ∷ []) }
+    ensures cells { AreAt (T.tree tree.now) met.old.items → OnOk result (AreAt (T.tree tree.now) met.new.items) }
+{
+    let mut cell = Cell::any(alloc, tree.dims());
+    upper_into(tree, node, &mut cell, steps);
+    met.push(Placed { node, cell })?;
+    Ok(())
+}
+
+// Takes a class that is asked for; of another it sees the children.
+fn visit<T: Nodes, L: Ledger>(
+    alloc: Global,
+    tree: &T,
+    ask: &Ask,
+    node: NodeNo,
+    seen: &mut IndexSet<u32>,
+    met: &mut Vec<Placed>,
+    steps: &mut Steps<L>,
+) -> Result<(), Memory>
+    requires tree { IsTree (T.width tree.now) (T.tree tree.now) }
+    requires class { IsSome (record_at (T.tree tree.now) node.0).class }
+    requires measure { HasMeasure (T.width tree.now) (T.tree tree.now) ask.now.kind }
+    requires scale { ask.now.scale ≤ 6 }
+    ensures visited { (source : TreeRows) → IsTreeOf (T.width tree.now) (T.tree tree.now) source →
+        OnOk result (IsVisited (T.tree tree.now) source ask.now node.0 seen.old.keys seen.new.keys (mapped number_of met.old.items) (mapped number_of met.new.items)) }
+    ensures cells { AreAt (T.tree tree.now) met.old.items → OnOk result (AreAt (T.tree tree.now) met.new.items) }
+{
+    if wants(tree, ask, node, steps) {
+        return push_placed(alloc, tree, node, met, steps);
+    }
+    match found_children(alloc, tree, node, steps) {
+        Ok(found) => insert_each(seen, &found),
+        Err(error) => Err(error),
+    }
+}
+
+// From a class on: all classes that are asked for and are met on the way through the children of those
+// that aren't, each visited once.
+fn met_from<T: Nodes, L: Ledger>(
+    alloc: Global,
+    tree: &T,
+    ask: &Ask,
+    node: NodeNo,
+    steps: &mut Steps<L>,
+) -> Result<Vec<Placed>, Memory>
+    requires tree { IsTree (T.width tree.now) (T.tree tree.now) }
+    requires class { IsSome (record_at (T.tree tree.now) node.0).class }
+    requires measure { HasMeasure (T.width tree.now) (T.tree tree.now) ask.now.kind }
+    requires scale { ask.now.scale ≤ 6 }
+    ensures met { (source : TreeRows) → IsTreeOf (T.width tree.now) (T.tree tree.now) source →
+        IfOk result (λ met. AreMet (T.tree tree.now) source ask.now node.0 (mapped number_of met.items)) }
+    ensures once { IfOk result (λ met. IsDistinct nat_eq (mapped number_of met.items)) }
+    ensures cells { IfOk result (λ met. AreAt (T.tree tree.now) met.items) }
+{
+    let mut seen = IndexSet::new(alloc);
+    let mut met = Vec::new(alloc);
+    seen.insert(node.0)?;
+    let mut i = 0;
+    'seen: while i < seen.len() {
+        let number = *seen.get_index(i).unwrap();
+        match visit(alloc, tree, ask, NodeNo(number), &mut seen, &mut met, steps) {
+            Ok(()) => {}
+            Err(error) => return Err(error),
+        }
+        i += 1;
+    }
+    Ok(met)
+}
+
+// Whether none of some nodes is another below one.
+fn is_lowest(met: &Vec<Placed>, x: &Placed) -> bool
+    requires { All (λ y. length y.cell ≡ length x.now.cell) met.now.items }
+    ensures { result ≡ visits.is_lowest met.now.items x.now }
+{
+    'met: for k in 0..met.len() {
+        let y = &met[k];
+        if leq(&y.cell, &x.cell) && y.node.0 != x.node.0 {
+            return false;
+        }
+    }
+    true
+}
+
+// Of some nodes those that have no other below.
+fn lowest(alloc: Global, met: &Vec<Placed>) -> Result<Vec<Placed>, Memory>
+    requires { All (λ x. All (λ y. length y.cell ≡ length x.cell) met.now.items) met.now.items }
+    ensures { IfOk result (λ kept. kept.items ≡ filter (visits.is_lowest met.now.items) met.now.items) }
+{
+    let mut kept = Vec::new(alloc);
+    'met: for k in 0..met.len() {
+        let x = &met[k];
+        if is_lowest(met, x) {
+            kept.push(Placed {
+                node: x.node,
+                cell: x.cell.copy(),
+            })?;
+        }
+    }
+    Ok(kept)
+}
+
+/// The nodes of the most general classes that are asked for, of a class and those above it, in cell order
+/// by the texts of the dictionary. It goes through the children, but not past a class that is asked for.
+pub fn rollup<T: Nodes, L: Ledger>(
+    alloc: Global,
+    tree: &T,
+    dict: &Dict,
+    node: NodeNo,
+    ask: &Ask,
+    steps: &mut Steps<L>,
+) -> Result<Vec<NodeNo>, Memory>
+    requires tree { IsTree (T.width tree.now) (T.tree tree.now) }
+    requires class { IsSome (record_at (T.tree tree.now) node.0).class }
+    requires dims { length dict.now.lists ≡ T.width tree.now }
+    requires measure { HasMeasure (T.width tree.now) (T.tree tree.now) ask.now.kind }
+    requires scale { ask.now.scale ≤ 6 }
+    ensures nodes { (source : TreeRows) → IsTreeOf (T.width tree.now) (T.tree tree.now) source → RowsAreKnown (has_code dict.now.lists) source.rows →
+        IfOk result (λ nodes. told_nodes dict.now.lists (T.tree tree.now) nodes.items
+        ≡ lattice.rollup text_cmp source.measures (told_rows dict.now.lists source.rows) (ask_in ask.now) (told_cell dict.now.lists (record_at (T.tree tree.now) node.0).cell)) }
+    ensures classes { IfOk result (λ nodes. All (λ node. IsSome (record_at (T.tree tree.now) node.0).class) nodes.items) }
+{
+    let _dims = dict.dims();
+    let met = match met_from(alloc, tree, ask, node, steps) {
+        Ok(met) => met,
+        Err(error) => return Err(error),
+    };
+    let mut kept = match lowest(alloc, &met) {
+        Ok(kept) => kept,
+        Err(error) => return Err(error),
+    };
+    match sort(dict, &mut kept) {
+        Ok(()) => without_cells(alloc, kept),
+        Err(error) => Err(error),
+    }
+}
