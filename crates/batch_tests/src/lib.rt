@@ -1,8 +1,10 @@
 //! Tests of batches over whole warehouses: after each batch the tree is compared, record by record, with
 //! one that is built anew from a base file of the rows, and each node that the rows left after the
-//! deletions have too keeps its number.
+//! deletions have too keeps its number. Beside them what batches answer, and the worked tree.
 #![tactic(auto)]
 
+#[cfg(test)]
+mod answers;
 #[cfg(test)]
 mod batches;
 #[cfg(test)]
@@ -17,3 +19,5 @@ mod shops;
 mod steps;
 #[cfg(test)]
 mod worked;
+#[cfg(test)]
+mod worked_tree;

@@ -1,8 +1,9 @@
 // The worked tree: its cells are found under their numbers again.
-ghost use Rattle.std.specs.Prelude.{IfSome, length, ◌<◌, ◌≡◌, ◌≤◌};
+ghost use Rattle.std.specs.Prelude.{◌<◌, ◌≡◌};
 
-use cell_core::{Cell, Entry, NodeNo, Steps};
-use qc_schema::read_schema;
+use crate::answers::{apply, opened};
+use crate::worked_tree::{BASE, MINUS, PLUS, SCHEMA, Texts, cell_of};
+use cell_core::{NodeNo, Steps};
 use std::alloc::Global;
 use std::marker::Brand;
 use std::sync::ledger::{Blank, Ledger};
@@ -10,16 +11,8 @@ use std::test::Fail;
 use tree_search::find;
 use warehouse::Warehouse;
 
-const SCHEMA: &[u8] = b"qcube 1\nid id\ndim store\ndim product\ndim season\nmeasure sale 0\n";
-
-const BASE: &[u8] = b"id,store,product,season,sale\n1,S1,P1,s,6\n2,S1,P2,s,12\n3,S2,P1,f,9\n";
-
-const PLUS: &[u8] = b"op,id,store,product,season,sale\n+,4,S2,P2,f,3\n";
-
-const MINUS: &[u8] = b"op,id,store,product,season,sale\n-,4,,,,\n";
-
 // The cells of the nodes, with the place of the closure of each; `*` stands for Any.
-const NODES: [([&str; 3], usize); 11] = [
+const NODES: [(Texts, usize); 11] = [
     (["*", "*", "*"], 0),
     (["*", "P1", "*"], 1),
     (["S1", "*", "*"], 3),
@@ -38,29 +31,11 @@ const S2: usize = 8;
 
 type Numbers = [Option<NodeNo>; 11];
 
-// The cell with these texts, where all are known.
-fn cell_of(alloc: Global, shop: &Warehouse, texts: &[&'static str; 3]) -> Option<Cell>
-    ensures { IfSome result (λ cell. length cell ≡ length shop.now.state.schema.dims) }
-{
-    if shop.schema().dims() != 3 {
-        return None;
-    }
-    let mut cell = Cell::any(alloc, 3);
-    'dims: for dim in 0..3u8 {
-        let text = texts[usize::from(dim)];
-        if text != "*" {
-            let code = shop.dict().code(dim, text)?;
-            cell.set(dim, Entry::Is(code));
-        }
-    }
-    Some(cell)
-}
-
 // The number of a cell's closure.
 fn number_of<L: Ledger>(
     alloc: Global,
     shop: &Warehouse,
-    texts: &[&'static str; 3],
+    texts: &Texts,
     steps: &mut Steps<L>,
 ) -> Option<NodeNo> {
     let cell = cell_of(alloc, shop, texts)?;
@@ -76,28 +51,14 @@ fn numbers<L: Ledger>(alloc: Global, shop: &Warehouse, steps: &mut Steps<L>) -> 
     numbers
 }
 
-// A warehouse of the base file.
-fn opened<L: Ledger>(alloc: Global, steps: &mut Steps<L>) -> Result<Warehouse, Fail> {
-    let Ok(schema) = read_schema(alloc, SCHEMA) else {
-        return Err(Fail::new("no schema"));
-    };
-    let mut shop = Warehouse::new(alloc, schema)?;
-    match shop.load(BASE, steps) {
-        Ok(_) => Ok(shop),
-        Err(_) => Err(Fail::new("refused base file")),
-    }
-}
-
 // The numbers after a batch, where it is taken.
 fn numbers_after<L: Ledger>(
     alloc: Global,
     shop: &mut Warehouse,
     batch: &[u8],
     steps: &mut Steps<L>,
-) -> Option<Numbers>
-    requires { length batch.now ≤ 1000 }
-{
-    match shop.apply(batch, steps) {
+) -> Option<Numbers> {
+    match apply(shop, batch) {
         Ok(_) => Some(numbers(alloc, shop, steps)),
         Err(_) => None,
     }
@@ -110,7 +71,7 @@ fn found<L: Ledger>(alloc: Global, blank: Blank) -> Result<[Option<Numbers>; 3],
     requires some { 0 < L.parts }
 {
     let mut steps = Steps::<L>::start(blank);
-    let mut shop = opened(alloc, &mut steps)?;
+    let mut shop = opened(alloc, SCHEMA, BASE)?;
     let first = numbers(alloc, &shop, &mut steps);
     let with = numbers_after(alloc, &mut shop, PLUS, &mut steps);
     let last = numbers_after(alloc, &mut shop, MINUS, &mut steps);

@@ -11,5 +11,4 @@ mod Texts
 mod Values
 mod Rows
 mod States
-mod Targets
 mod Trees

@@ -11,10 +11,6 @@ mod one_batch;
 mod refused;
 mod repair;
 mod store;
-#[cfg(test)]
-mod tests;
-#[cfg(test)]
-mod tree_tests;
 
 pub use cube_defs::Memory;
 pub use refused::{Applied, Refused, Stats};

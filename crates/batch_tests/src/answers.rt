@@ -1,6 +1,6 @@
+// What base files and batches answer, and what is there afterwards.
 ghost use Rattle.std.specs.Prelude.{◌<◌, ◌≡◌, ◌≤◌};
 
-use crate::{Applied, Refused, Warehouse};
 use cell_core::{Cell, Steps};
 use qc_schema::read_schema;
 use std::alloc::Global;
@@ -8,6 +8,7 @@ use std::marker::Brand;
 use std::sync::ledger::{Blank, Ledger};
 use std::test::Fail;
 use tree_search::total_at;
+use warehouse::{Applied, Refused, Warehouse};
 
 // At most three rows, and two texts in each dimension.
 const SCHEMA: &[u8] = b"qcube 1\nid id\ndim city\ndim item\nmeasure sale 0\nrows 3\nvalues 2\n";

@@ -1,4 +1,4 @@
-use Rattle.warehouse.proofs.tree_tests.is_tree.Given as goal
+use Rattle.batch_tests.proofs.worked_tree.is_tree.Given as goal
 
 abbrev pub ghosts-has_lines : goal.ghosts-has_lines
 ghosts-has_lines a = record { name = a.blank.name; parts = a.blank.parts }

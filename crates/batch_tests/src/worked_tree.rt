@@ -2,8 +2,7 @@
 ghost use Rattle.std.specs.FinMap as map;
 ghost use Rattle.std.specs.Prelude.{IfSome, IsSome, length, ◌<◌, ◌≡◌};
 
-use crate::tests::{apply, code, opened};
-use crate::{Refused, Stats, Warehouse};
+use crate::answers::{apply, code, opened};
 use aggregates::Agg;
 use cell_core::{Cell, Code, Entry, NodeNo, Steps, leq};
 use qc_arena::Nodes;
@@ -12,17 +11,20 @@ use std::marker::Brand;
 use std::sync::ledger::{Blank, Ledger};
 use std::test::Fail;
 use tree_search::{find, upper_into};
+use warehouse::{Refused, Stats, Warehouse};
 
-const SCHEMA: &[u8] = b"qcube 1\nid id\ndim store\ndim product\ndim season\nmeasure sale 0\n";
+pub(crate) const SCHEMA: &[u8] =
+    b"qcube 1\nid id\ndim store\ndim product\ndim season\nmeasure sale 0\n";
 
-const BASE: &[u8] = b"id,store,product,season,sale\n1,S1,P1,s,6\n2,S1,P2,s,12\n3,S2,P1,f,9\n";
+pub(crate) const BASE: &[u8] =
+    b"id,store,product,season,sale\n1,S1,P1,s,6\n2,S1,P2,s,12\n3,S2,P1,f,9\n";
 
-const PLUS: &[u8] = b"op,id,store,product,season,sale\n+,4,S2,P2,f,3\n";
+pub(crate) const PLUS: &[u8] = b"op,id,store,product,season,sale\n+,4,S2,P2,f,3\n";
 
-const MINUS: &[u8] = b"op,id,store,product,season,sale\n-,4,,,,\n";
+pub(crate) const MINUS: &[u8] = b"op,id,store,product,season,sale\n-,4,,,,\n";
 
 // The texts of a cell; `*` stands for Any.
-type Texts = [&'static str; 3];
+pub(crate) type Texts = [&'static str; 3];
 
 const ALL: Texts = ["*", "*", "*"];
 
@@ -158,7 +160,7 @@ const COUNTS_AFTER: Stats = Stats {
 };
 
 // The cell with these texts, where all are known.
-fn cell_of(alloc: Global, shop: &Warehouse, texts: &Texts) -> Option<Cell>
+pub(crate) fn cell_of(alloc: Global, shop: &Warehouse, texts: &Texts) -> Option<Cell>
     ensures { IfSome result (λ cell. length cell ≡ length shop.now.state.schema.dims) }
 {
     if shop.schema().dims() != 3 {

@@ -4,8 +4,8 @@ use Rattle.cube_defs.specs.Tree.{Tree}
 use Rattle.qc_arena.specs.Seen.{record_at}
 use Rattle.tree_laws.specs.Walk.{target_at}
 use Rattle.warehouse.specs.State.{source_of}
-use Rattle.warehouse.proofs.Targets.{edge-there}
-use Rattle.warehouse.proofs.tree_tests.edge_from.Goals as goal
+use Rattle.batch_tests.proofs.Targets.{edge-there}
+use Rattle.batch_tests.proofs.worked_tree.edge_from.Goals as goal
 
 pub returns : goal.returns
 returns g c =

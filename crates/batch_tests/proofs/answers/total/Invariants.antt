@@ -1,4 +1,4 @@
-use Rattle.warehouse.proofs.tests.total.Given as goal
+use Rattle.batch_tests.proofs.answers.total.Given as goal
 
 abbrev pub ghosts-total_on : goal.ghosts-total_on
 ghosts-total_on a = record { name = a.blank.name; parts = a.blank.parts }
