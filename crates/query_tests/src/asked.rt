@@ -1,8 +1,9 @@
 // Drawn fields of a range query, and what they ask for.
 ghost use Rattle.std.specs.Prelude.{IfOk, length, ◌≡◌};
 
-use crate::drawn::{Draw, Places, text_at};
+use crate::drawn::{Places, text_at};
 use cell_core::{Field, Fields, Memory, Text, Texts};
+use insert_tests::draw::Draw;
 use std::alloc::Global;
 
 // Texts of the tables, and others before, between and behind them.

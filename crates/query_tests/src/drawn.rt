@@ -1,6 +1,5 @@
 // Drawn tables of three dimensions, and what a cell comes to by going through all rows.
-ghost use Rattle.std.specs.Prelude.{◌<◌};
-
+use insert_tests::draw::Draw;
 use std::alloc::{AllocError, Global};
 
 /// The texts of each dimension, in order.
@@ -14,26 +13,6 @@ pub type Places = [u64; 3];
 pub struct Row {
     pub places: Places,
     pub amount: i64,
-}
-
-/// Numbers that look like drawn ones, the same for the same seed.
-#[derive(Drop)]
-pub struct Draw {
-    pub seed: u64,
-}
-
-impl Draw {
-    /// The next number below a bound.
-    pub fn below(&mut self, bound: u64) -> u64
-        requires { 0 < bound }
-        ensures { result < bound }
-    {
-        self.seed = self
-            .seed
-            .wrapping_mul(6_364_136_223_846_793_005)
-            .wrapping_add(1_442_695_040_888_963_407);
-        (self.seed >> 33) % bound
-    }
 }
 
 /// Up to six rows.

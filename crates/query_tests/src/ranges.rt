@@ -6,8 +6,9 @@ ghost use Rattle.range_query.specs.Told.{told_hits};
 ghost use Rattle.value_dict.specs.Boxes.{asked_box};
 
 use crate::asked::{allow, fields};
-use crate::drawn::{Draw, Places, Row, cell_at, file_of, rows, sums, text_at};
+use crate::drawn::{Places, Row, cell_at, file_of, rows, sums, text_at};
 use cell_core::{Cell, Entry, Fields, Steps};
+use insert_tests::draw::Draw;
 use qc_schema::read_schema;
 use range_query::{Hit, RangeRefused, range};
 use std::alloc::Global;
