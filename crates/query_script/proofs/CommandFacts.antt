@@ -1,6 +1,6 @@
 -- Lines as commands.
 use Rattle.std.proofs.Common.{Option, ◌<◌, ◌+◌, Some, None, ◌≡◌, ℕ, List, [], ◌∷◌, length, refl, arith, Ok, Err, true, false, Bool, cond, IsUtf8}
-use Rattle.std.specs.Prelude.{◌&&◌, ◌||◌, Result, IfOk, codes}
+use Rattle.std.specs.Prelude.{◌&&◌, ◌||◌, All, Result, IfOk, codes}
 use Rattle.std.specs.Str.{bytes_eq, is_utf8}
 use Rattle.std.proofs.lemmas.Str.{IsUtf8-from_is_utf8, is_utf8-from_IsUtf8}
 use Rattle.std.proofs.lemmas.Bool.{and_from}
@@ -11,9 +11,11 @@ use Rattle.query_script.specs.Faults as faults
 use Rattle.cell_core.specs.Gives.{Gives}
 use Rattle.query_script.specs.Faults.{LineFault, line_fault_in}
 use Rattle.query_script.specs.Lines.{may_want_memory, names_more, rest_of, stats_line, word_of}
-use Rattle.query_script.specs.Commands.{IsMeasured, IsQuestion, asked_with, command_in, command_named, name_in, record_in, wants_memory}
+use Rattle.query_script.specs.Commands.{IsCellField, IsMeasured, IsQuestion, asked_with, command_in, command_named, name_in, record_in, wants_memory}
 use Rattle.query_script.specs.Icebergs.{bound_at, bound_named, iceberg_in, iceberg_of, makes, value_at, with_aggregate, with_bound, with_measure, with_value}
-use Rattle.query_script.specs.Questions.{Apply, Bounds, Iceberg, Load, Point, Question, Range, Stats, question_in}
+use Rattle.query_script.specs.Questions.{Apply, Bounds, Children, Iceberg, Load, Parents, Point, Question, Range, Rollup, Stats, question_in}
+use Rattle.query_script.specs.Rollups as rollups
+use Rattle.query_script.specs.Rollups.{rollup_in}
 use Rattle.query_script.specs.declared.line.Command.{Command}
 use Rattle.query_script.specs.declared.record.Shape.TheVariants as shapes
 use Rattle.query_script.specs.declared.line.LineRefused.{LineRefused}
@@ -107,25 +109,65 @@ module _ (layout : Layout) where
       by true m = bound-is answers.Count 2 words q tt m
       by false m = aggregate-is word words (makes word) q refl m
 
+-- a roll-up of a measure that is there, of a cell with an entry for each dimension
+module _ (layout : Layout) where
+  rolled-is : (kind : answers.AggKind) (bound : answers.Bound) (k : ℕ) (word : Text) (read : Result (List asked.Field) LineFault) (q : Question) → IsMeasured (length layout.measures) kind
+      → ((fields : List asked.Field) → read ≡ Ok fields → (length fields ≡ length layout.dims) × All IsCellField fields) → rollups.with_record kind bound k word read ≡ Ok q → IsQuestion layout q
+  rolled-is kind bound k word (Err fault) q made are e = absurd (cc e)
+  rolled-is kind bound k word (Ok fields) q made are e = by (fraction_written word) e
+    where
+      by : (o : Option Fraction) → rollups.with_value kind bound fields o ≡ Ok q → IsQuestion layout q
+      by None m = absurd (cc m)
+      by (Some value) m = let same : Rollup kind bound value fields ≡ q = cc in rw (← same) (made, (are fields refl).0, (are fields refl).1)
+
+  rolled-value : (kind : answers.AggKind) (bound : answers.Bound) (k : ℕ) (word : Text) (rest : List ℕ) (q : Question) → IsMeasured (length layout.measures) kind → rollups.value_at (length layout.dims) kind bound k word rest ≡ Ok q → IsQuestion layout q
+  rolled-value kind bound k [] rest q made e = absurd (cc e)
+  rolled-value kind bound k (b ∷ bs) rest q made e = rolled-is kind bound k (b ∷ bs) (record_in shapes.Cell (length layout.dims) rest) q made (cell-fields (length layout.dims) rest) e
+
+  rolled-bound : (kind : answers.AggKind) (k : ℕ) (rest : List ℕ) (o : Option answers.Bound) (q : Question) → IsMeasured (length layout.measures) kind → rollups.with_bound (length layout.dims) kind k rest o ≡ Ok q → IsQuestion layout q
+  rolled-bound kind k rest None q made e = absurd (cc e)
+  rolled-bound kind k rest (Some bound) q made e = rolled-value kind bound (k + 1) (word_of rest) (rest_of rest) q made e
+
+  rolled-measure : (make : ℕ → answers.AggKind) (rest : List ℕ) (o : Option ℕ) (q : Question) → ((m : ℕ) → o ≡ Some m → IsMeasured (length layout.measures) (make m)) → rollups.with_measure (length layout.dims) make rest o ≡ Ok q → IsQuestion layout q
+  rolled-measure make rest None q made e = absurd (cc e)
+  rolled-measure make rest (Some m) q made e = rolled-bound (make m) 3 (rest_of rest) (bound_named (word_of rest)) q (made m refl) e
+
+  rolled-aggregate : (word : Text) (rest : List ℕ) (o : Option (ℕ → answers.AggKind)) (q : Question) → makes word ≡ o → rollups.with_aggregate layout rest o ≡ Ok q → IsQuestion layout q
+  rolled-aggregate word rest None q is e = absurd (cc e)
+  rolled-aggregate word rest (Some make) q is e =
+      rolled-measure make (rest_of rest) (measure_from layout.measures 0 (word_of rest)) q (λ m there. made-is layout word make m (omega (arith, measure-there layout.measures 0 m (word_of rest) there)) is) e
+
+  rollup-is : (rest : List ℕ) (q : Question) → rollup_in layout rest ≡ Ok q → IsQuestion layout q
+  rollup-is rest q e = by (bytes_eq (word_of rest) (codes "count")) e
+    where
+      by : (count : Bool) → cond count (rollups.bound_at (length layout.dims) answers.Count 2 (rest_of rest)) (rollups.with_aggregate layout (rest_of rest) (makes (word_of rest))) ≡ Ok q → IsQuestion layout q
+      by true m = rolled-bound answers.Count 2 (rest_of (rest_of rest)) (bound_named (word_of (rest_of rest))) q tt m
+      by false m = rolled-aggregate (word_of rest) (rest_of rest) (makes (word_of rest)) q refl m
+
 -- the words of the commands that name something behind them, each with what it asks
-abbrev Named : Layout → List ℕ → (load apply point range bounds iceberg : Bool) → Result Question LineFault
-Named layout rest load apply point range bounds iceberg =
+abbrev Named : Layout → List ℕ → (load apply point range bounds iceberg parents children rollup : Bool) → Result Question LineFault
+Named layout rest load apply point range bounds iceberg parents children rollup =
     cond load (asked_with Load (name_in rest)) (cond apply (asked_with Apply (name_in rest))
     (cond point (asked_with Point (record_in shapes.Cell (length layout.dims) rest)) (cond range (asked_with Range (record_in shapes.Box (length layout.dims) rest))
-    (cond bounds (asked_with Bounds (record_in shapes.Cell (length layout.dims) rest)) (cond iceberg (iceberg_in layout rest) (Err faults.Command))))))
+    (cond bounds (asked_with Bounds (record_in shapes.Cell (length layout.dims) rest)) (cond iceberg (iceberg_in layout rest)
+    (cond parents (asked_with Parents (record_in shapes.Cell (length layout.dims) rest)) (cond children (asked_with Children (record_in shapes.Cell (length layout.dims) rest)) (cond rollup (rollup_in layout rest) (Err faults.Command)))))))))
 
 named-is : (layout : Layout) (word : Text) (rest : List ℕ) (q : Question) → command_named layout word rest ≡ Ok q → IsQuestion layout q
 named-is layout word rest q e =
-    by (bytes_eq word (codes "load")) (bytes_eq word (codes "apply")) (bytes_eq word (codes "point")) (bytes_eq word (codes "range")) (bytes_eq word (codes "bounds")) (bytes_eq word (codes "iceberg")) e
+    by (bytes_eq word (codes "load")) (bytes_eq word (codes "apply")) (bytes_eq word (codes "point")) (bytes_eq word (codes "range")) (bytes_eq word (codes "bounds")) (bytes_eq word (codes "iceberg"))
+    (bytes_eq word (codes "parents")) (bytes_eq word (codes "children")) (bytes_eq word (codes "rollup")) e
   where
-    by : (load apply point range bounds iceberg : Bool) → Named layout rest load apply point range bounds iceberg ≡ Ok q → IsQuestion layout q
-    by true apply point range bounds iceberg m = load-is layout rest q m
-    by false true point range bounds iceberg m = apply-is layout rest q m
-    by false false true range bounds iceberg m = fields-are layout (record_in shapes.Cell (length layout.dims) rest) Point q (cell-fields (length layout.dims) rest) m
-    by false false false true bounds iceberg m = fields-are layout (record_in shapes.Box (length layout.dims) rest) Range q (box-fields (length layout.dims) rest) m
-    by false false false false true iceberg m = fields-are layout (record_in shapes.Cell (length layout.dims) rest) Bounds q (cell-fields (length layout.dims) rest) m
-    by false false false false false true m = iceberg-is layout (words_of rest) q m
-    by false false false false false false m = absurd (cc m)
+    by : (load apply point range bounds iceberg parents children rollup : Bool) → Named layout rest load apply point range bounds iceberg parents children rollup ≡ Ok q → IsQuestion layout q
+    by true apply point range bounds iceberg parents children rollup m = load-is layout rest q m
+    by false true point range bounds iceberg parents children rollup m = apply-is layout rest q m
+    by false false true range bounds iceberg parents children rollup m = fields-are layout (record_in shapes.Cell (length layout.dims) rest) Point q (cell-fields (length layout.dims) rest) m
+    by false false false true bounds iceberg parents children rollup m = fields-are layout (record_in shapes.Box (length layout.dims) rest) Range q (box-fields (length layout.dims) rest) m
+    by false false false false true iceberg parents children rollup m = fields-are layout (record_in shapes.Cell (length layout.dims) rest) Bounds q (cell-fields (length layout.dims) rest) m
+    by false false false false false true parents children rollup m = iceberg-is layout (words_of rest) q m
+    by false false false false false false true children rollup m = fields-are layout (record_in shapes.Cell (length layout.dims) rest) Parents q (cell-fields (length layout.dims) rest) m
+    by false false false false false false false true rollup m = fields-are layout (record_in shapes.Cell (length layout.dims) rest) Children q (cell-fields (length layout.dims) rest) m
+    by false false false false false false false false true m = rollup-is layout rest q m
+    by false false false false false false false false false m = absurd (cc m)
 
 pub line-is : (layout : Layout) (line : List ℕ) (r : Result Command LineRefused) → Gives line_fault_in question_in r (command_in layout line) → IfOk r (λ command. IsQuestion layout (question_in command))
 line-is layout line (Err refused) h = tt
@@ -140,16 +182,20 @@ line-is layout line (Ok command) h = by (is_utf8 line) (bytes_eq line stats_line
 
 named-wants : (layout : Layout) (word : Text) (rest : List ℕ) (q : Question) → command_named layout word rest ≡ Ok q → names_more word ≡ true
 named-wants layout word rest q e =
-    by (bytes_eq word (codes "load")) (bytes_eq word (codes "apply")) (bytes_eq word (codes "point")) (bytes_eq word (codes "range")) (bytes_eq word (codes "bounds")) (bytes_eq word (codes "iceberg")) e
+    by (bytes_eq word (codes "load")) (bytes_eq word (codes "apply")) (bytes_eq word (codes "point")) (bytes_eq word (codes "range")) (bytes_eq word (codes "bounds")) (bytes_eq word (codes "iceberg"))
+    (bytes_eq word (codes "parents")) (bytes_eq word (codes "children")) (bytes_eq word (codes "rollup")) e
   where
-    by : (load apply point range bounds iceberg : Bool) → Named layout rest load apply point range bounds iceberg ≡ Ok q → (load || apply || point || range || bounds || iceberg) ≡ true
-    by true apply point range bounds iceberg m = refl
-    by false true point range bounds iceberg m = refl
-    by false false true range bounds iceberg m = refl
-    by false false false true bounds iceberg m = refl
-    by false false false false true iceberg m = refl
-    by false false false false false true m = refl
-    by false false false false false false m = absurd (cc m)
+    by : (load apply point range bounds iceberg parents children rollup : Bool) → Named layout rest load apply point range bounds iceberg parents children rollup ≡ Ok q → (load || apply || point || range || bounds || iceberg || parents || children || rollup) ≡ true
+    by true apply point range bounds iceberg parents children rollup m = refl
+    by false true point range bounds iceberg parents children rollup m = refl
+    by false false true range bounds iceberg parents children rollup m = refl
+    by false false false true bounds iceberg parents children rollup m = refl
+    by false false false false true iceberg parents children rollup m = refl
+    by false false false false false true parents children rollup m = refl
+    by false false false false false false true children rollup m = refl
+    by false false false false false false false true rollup m = refl
+    by false false false false false false false false true m = refl
+    by false false false false false false false false false m = absurd (cc m)
 
 line-wants : (layout : Layout) (line : List ℕ) (q : Question) → command_in layout line ≡ Ok q → wants_memory q ≡ true → may_want_memory line ≡ true
 line-wants layout line q h wants = by (is_utf8 line) (bytes_eq line stats_line) h

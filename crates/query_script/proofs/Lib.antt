@@ -1,4 +1,5 @@
 mod Asking
+mod LowFaults
 mod PlainFields
 mod Asked
 mod CommandFacts

@@ -1,35 +1,24 @@
 -- What a line asks, or its fault.
 use Rattle.std.specs.Prelude.{◌≡◌, ◌<◌, ⊤, ℕ, Bool, true, false, List, [], ◌∷◌, length, codes, All, Result, Ok, Err, if◌then◌else◌}
-use Rattle.std.specs.List.{flat_map}
 use Rattle.std.specs.Str.{bytes_eq, is_utf8}
-use Rattle.csv.specs.Reading.{default_config, records}
 use Rattle.cube_defs.specs.Text.{Text}
 use Rattle.cube_defs.specs.Answers as answers
 use Rattle.cell_core.specs.declared.fields.Field as asked
 use Rattle.cell_core.specs.declared.fields.Field.TheVariants as asks
-use Rattle.text_lines.specs.Lines.{begins_with_mark}
 use Rattle.qc_schema.specs.Schema.{Layout}
 use Rattle.query_script.specs.Faults as faults
 use Rattle.query_script.specs.Faults.{LineFault}
-use Rattle.query_script.specs.Fields.{field_of, fields_from}
+pub use Rattle.query_script.specs.Records.{fields_in, record_in}
 use Rattle.query_script.specs.Icebergs.{iceberg_in}
 use Rattle.query_script.specs.Lines.{rest_of, stats_line, word_of}
-use Rattle.query_script.specs.Questions.{Apply, Bounds, Iceberg, Load, Point, Question, Range, Stats}
-use Rattle.query_script.specs.declared.record.Shape.{Shape}
+use Rattle.query_script.specs.Questions.{Apply, Bounds, Children, Iceberg, Load, Parents, Point, Question, Range, Rollup, Stats}
+use Rattle.query_script.specs.Rollups.{rollup_in}
 use Rattle.query_script.specs.declared.record.Shape.TheVariants as shapes
 
 -- the name of a file, which is not empty
 abbrev pub name_in : List ℕ → Result Text LineFault
 name_in [] = Err (faults.Field 1)
 name_in (b ∷ bs) = Ok (b ∷ bs)
-
--- the fields of all records of a text, one after another
-abbrev pub fields_in : List ℕ → List Text
-fields_in rest = flat_map (λ fields. fields) (records default_config rest)
-
--- what a record asks of so many dimensions; a byte order mark in front makes the first field none that is allowed
-abbrev pub record_in : Shape → ℕ → List ℕ → Result (List asked.Field) LineFault
-record_in shape dims rest = if begins_with_mark rest then Err (faults.Field 1) else fields_from (field_of shape) 1 dims (fields_in rest)
 
 -- what is asked of what was read, or the fault
 abbrev pub asked_with : {X : Type 0} → (X → Question) → Result X LineFault → Result Question LineFault
@@ -45,6 +34,9 @@ command_named layout word rest =
     else if bytes_eq word (codes "range") then asked_with Range (record_in shapes.Box (length layout.dims) rest)
     else if bytes_eq word (codes "bounds") then asked_with Bounds (record_in shapes.Cell (length layout.dims) rest)
     else if bytes_eq word (codes "iceberg") then iceberg_in layout rest
+    else if bytes_eq word (codes "parents") then asked_with Parents (record_in shapes.Cell (length layout.dims) rest)
+    else if bytes_eq word (codes "children") then asked_with Children (record_in shapes.Cell (length layout.dims) rest)
+    else if bytes_eq word (codes "rollup") then rollup_in layout rest
     else Err faults.Command
 
 -- what a line asks of a cube of this schema; `stats` with anything behind it is no command
@@ -61,6 +53,9 @@ wants_memory (Point fields) = true
 wants_memory (Range fields) = true
 wants_memory (Bounds fields) = true
 wants_memory (Iceberg kind bound value) = true
+wants_memory (Parents fields) = true
+wants_memory (Children fields) = true
+wants_memory (Rollup kind bound value fields) = true
 wants_memory Stats = false
 
 -- what a cell may ask of a dimension
@@ -87,4 +82,7 @@ IsQuestion layout (Point fields) = (length fields ≡ length layout.dims) × All
 IsQuestion layout (Range fields) = length fields ≡ length layout.dims
 IsQuestion layout (Bounds fields) = (length fields ≡ length layout.dims) × All IsCellField fields
 IsQuestion layout (Iceberg kind bound value) = IsMeasured (length layout.measures) kind
+IsQuestion layout (Parents fields) = (length fields ≡ length layout.dims) × All IsCellField fields
+IsQuestion layout (Children fields) = (length fields ≡ length layout.dims) × All IsCellField fields
+IsQuestion layout (Rollup kind bound value fields) = IsMeasured (length layout.measures) kind × (length fields ≡ length layout.dims) × All IsCellField fields
 IsQuestion layout Stats = ⊤

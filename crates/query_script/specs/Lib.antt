@@ -4,6 +4,8 @@ pub mod Fields
 pub mod Progress
 pub mod Questions
 pub mod Icebergs
+pub mod Records
+pub mod Rollups
 pub mod Commands
 pub mod Makes
 pub mod Coded

@@ -24,6 +24,7 @@ abbrev pub names_more : List ℕ → Bool
 names_more word =
     bytes_eq word (codes "load") || bytes_eq word (codes "apply") || bytes_eq word (codes "point")
     || bytes_eq word (codes "range") || bytes_eq word (codes "bounds") || bytes_eq word (codes "iceberg")
+    || bytes_eq word (codes "parents") || bytes_eq word (codes "children") || bytes_eq word (codes "rollup")
 
 -- Whether a line may want memory: it is UTF-8 and begins with such a word. The line `stats` wants none.
 abbrev pub may_want_memory : List ℕ → Bool

@@ -10,7 +10,8 @@ use Rattle.query_script.specs.declared.line.Command.{Command}
 use Rattle.query_script.specs.declared.line.Command.TheVariants as commands
 
 -- The rows of a file come in place of none or are changed; the cell, the class of the cell or the box of some fields; the classes
--- whose aggregate is bounded by a value; or what is counted.
+-- whose aggregate is bounded by a value; the parents or the children of the class of a cell, or how far up it can be rolled; or what is
+-- counted.
 pub data Question : Type 0 where
   Load : Text → Question
   Apply : Text → Question
@@ -18,6 +19,9 @@ pub data Question : Type 0 where
   Range : List asked.Field → Question
   Bounds : List asked.Field → Question
   Iceberg : AggKind → Bound → Fraction → Question
+  Parents : List asked.Field → Question
+  Children : List asked.Field → Question
+  Rollup : AggKind → Bound → Fraction → List asked.Field → Question
   Stats : Question
 
 abbrev pub question_in : Command → Question
@@ -27,4 +31,7 @@ question_in (commands.Point fields) = Point fields
 question_in (commands.Range fields) = Range fields
 question_in (commands.Bounds fields) = Bounds fields
 question_in (commands.Iceberg kind bound value) = Iceberg (kind_in kind) (bound_in bound) (fraction_in value)
+question_in (commands.Parents fields) = Parents fields
+question_in (commands.Children fields) = Children fields
+question_in (commands.Rollup kind bound value fields) = Rollup (kind_in kind) (bound_in bound) (fraction_in value) fields
 question_in commands.Stats = Stats

@@ -15,9 +15,9 @@ use iceberg_query::Bound;
 use qc_schema::Schema;
 use text_lines::split_word;
 
-// The aggregates of a measure.
+/// The aggregates of a measure.
 #[derive(Clone, Copy)]
-enum OfMeasure {
+pub(crate) enum OfMeasure {
     Sum,
     Least,
     Greatest,
@@ -27,8 +27,8 @@ enum OfMeasure {
 ghost use Rattle.query_script.specs.Makes.{make_of};
 
 impl OfMeasure {
-    // The one that a word names.
-    fn named(word: &[u8]) -> Option<OfMeasure>
+    /// The one that a word names.
+    pub(crate) fn named(word: &[u8]) -> Option<OfMeasure>
         ensures { option_map make_of result ≡ makes word.now }
     {
         if word == b"sum".as_slice() {
@@ -44,8 +44,8 @@ impl OfMeasure {
         }
     }
 
-    // That of a measure.
-    fn of(self, measure: u8) -> AggKind
+    /// That of a measure.
+    pub(crate) fn of(self, measure: u8) -> AggKind
         ensures { kind_in result ≡ make_of self measure }
     {
         match self {

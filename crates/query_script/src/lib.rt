@@ -6,6 +6,7 @@ mod iceberg;
 mod line;
 mod plain;
 mod record;
+mod rollup;
 mod values;
 
 pub use coded::{Coded, read_codes};

@@ -9,6 +9,7 @@ ghost use Rattle.query_script.specs.Lines.{may_want_memory, names_more, rest_of,
 
 use crate::iceberg::read_iceberg;
 use crate::record::{Shape, read_fields};
+use crate::rollup::read_rollup;
 use aggregates::{AggKind, Fraction};
 use cell_core::{Fields, Text};
 use cube_defs::MAX_FILE;
@@ -33,6 +34,13 @@ pub enum Command {
     /// Tell the classes whose aggregate, in the unit of the measure's scale, is at least or at most
     /// the value.
     Iceberg(AggKind, Bound, Fraction),
+    /// Tell the parents of the class of a point.
+    Parents(Fields),
+    /// Tell the children of the class of a point.
+    Children(Fields),
+    /// Tell the most general classes, from the class of a point on, whose aggregate, in the unit of the
+    /// measure's scale, is at least or at most the value.
+    Rollup(AggKind, Bound, Fraction, Fields),
     /// Tell what is counted of the rows and of their tree.
     Stats,
 }
@@ -67,8 +75,8 @@ impl From<AllocError> for LineRefused {
     }
 }
 
-// The command word, and what follows the space behind it.
-fn split_command(line: &str) -> (&str, &str)
+/// The command word, and what follows the space behind it.
+pub(crate) fn split_command(line: &str) -> (&str, &str)
     ensures word { result.0.now ≡ word_of line.now }
     ensures rest { result.1.now ≡ rest_of line.now }
     ensures shorter { length result.1.now ≤ length line.now }
@@ -114,6 +122,9 @@ fn read_command(
         "range" => Ok(Command::Range(read_fields(alloc, Shape::Box, schema, rest)?)),
         "bounds" => Ok(Command::Bounds(read_fields(alloc, Shape::Cell, schema, rest)?)),
         "iceberg" => read_iceberg(schema, rest),
+        "parents" => Ok(Command::Parents(read_fields(alloc, Shape::Cell, schema, rest)?)),
+        "children" => Ok(Command::Children(read_fields(alloc, Shape::Cell, schema, rest)?)),
+        "rollup" => read_rollup(alloc, schema, rest),
         _ => Err(LineRefused::Command),
     }
 }
@@ -125,7 +136,8 @@ fn read_command(
 /// `?` for each value, a list of values with `|` in front of each, or two texts with `~` in front of
 /// each for the values from the one to the other by their bytes. Behind `iceberg` stand words: an
 /// aggregate (`count`, `sum`, `least`, `greatest` or `mean`), its measure but for `count`, `>=` or
-/// `<=`, and a number.
+/// `<=`, and a number. Behind `parents` and `children` stand fields as behind `point`, and behind `rollup`
+/// the words of an iceberg, each up to one space, and then such fields.
 pub fn read_line(alloc: Global, schema: &Schema, line: &[u8]) -> Result<Command, LineRefused>
     requires { length line.now ≤ MAX_FILE }
     ensures gives { Gives line_fault_in question_in result (command_in schema.now line.now) }

@@ -1,0 +1,12 @@
+use Rattle.std.proofs.Common.{length, arith}
+use Rattle.query_script.specs.Faults.{line_fault_in}
+use Rattle.query_script.specs.Records.{record_in}
+use Rattle.query_script.specs.declared.record.Shape.TheVariants as shapes
+use Rattle.query_script.proofs.LowFaults.{low-cause, record-low}
+use Rattle.query_script.proofs.rollup.read_record.Goals as goal
+
+pub moved-requires-clause-low : goal.moved-requires-clause-low
+moved-requires-clause-low c =
+    let dims = length c.args.schema.now.dims in
+    low-cause (line_fault_in c.in-Err.cause) (record_in shapes.Cell dims c.args.rest.now)
+    (λ fault e. record-low shapes.Cell dims c.args.rest.now fault (omega (arith, c.dims-dims.ensures.layout.few_dims)) e) c.in-Err.ensures

@@ -1,0 +1,126 @@
+// What a roll-up asks.
+ghost use Rattle.std.specs.Option.{option_map};
+ghost use Rattle.std.specs.Prelude.{IfSome, length, ◌<◌, ◌≡◌, ◌≤◌};
+ghost use Rattle.cell_core.specs.Gives.{Gives};
+ghost use Rattle.aggregates.specs.Views.{kind_in};
+ghost use Rattle.iceberg_query.specs.Asked.{bound_in};
+ghost use Rattle.query_script.specs.Faults.{line_fault_in};
+ghost use Rattle.query_script.specs.Lines.{rest_of, word_of};
+ghost use Rattle.query_script.specs.Questions.{question_in};
+ghost use Rattle.query_script.specs.Records.{record_in};
+ghost use Rattle.query_script.specs.Rollups.{IsLow, behind_words, bound_at, rollup_in, value_at, with_record};
+ghost use Rattle.query_script.specs.declared.record.Shape.TheVariants as shapes;
+
+use crate::iceberg::OfMeasure;
+use crate::line::{Command, LineRefused, split_command};
+use crate::record::{Shape, read_fields};
+use aggregates::{AggKind, read_fraction};
+use cube_defs::MAX_FILE;
+use iceberg_query::Bound;
+use qc_schema::Schema;
+use std::alloc::Global;
+
+// The refusal of a record that stands behind so many words.
+fn moved(cause: LineRefused, words: u32) -> LineRefused
+    requires few { words < 10 }
+    requires low { IfSome (line_fault_in cause) IsLow }
+    ensures { line_fault_in result ≡ option_map (behind_words words) (line_fault_in cause) }
+{
+    match cause {
+        LineRefused::Field(place) => LineRefused::Field(words + place),
+        LineRefused::Utf8 => LineRefused::Utf8,
+        LineRefused::Command => LineRefused::Command,
+        LineRefused::Number => LineRefused::Number,
+        LineRefused::Memory => LineRefused::Memory,
+    }
+}
+
+// The record of the cell behind so many words, the last of which is the value.
+fn read_record(
+    alloc: Global,
+    schema: &Schema,
+    kind: AggKind,
+    bound: Bound,
+    words: u32,
+    word: &str,
+    rest: &str,
+) -> Result<Command, LineRefused>
+    requires few { words < 10 }
+    requires size { length rest.now ≤ MAX_FILE }
+    ensures { Gives line_fault_in question_in result
+        (with_record (kind_in kind) (bound_in bound) words word.now (record_in shapes.Cell (length schema.now.dims) rest.now)) }
+{
+    let _dims = schema.dims();
+    let fields = match read_fields(alloc, Shape::Cell, schema, rest) {
+        Ok(fields) => fields,
+        Err(cause) => return Err(moved(cause, words)),
+    };
+    match read_fraction(word.as_bytes()) {
+        Some(value) => Ok(Command::Rollup(kind, bound, value, fields)),
+        None => Err(LineRefused::Number),
+    }
+}
+
+// The value, at a place, and the record behind it.
+fn read_value(
+    alloc: Global,
+    schema: &Schema,
+    kind: AggKind,
+    bound: Bound,
+    place: u32,
+    words: &str,
+) -> Result<Command, LineRefused>
+    requires few { place < 10 }
+    requires size { length words.now ≤ MAX_FILE }
+    ensures { Gives line_fault_in question_in result
+        (value_at (length schema.now.dims) (kind_in kind) (bound_in bound) place (word_of words.now) (rest_of words.now)) }
+{
+    let (word, rest) = split_command(words);
+    if word.is_empty() {
+        return Err(LineRefused::Field(place));
+    }
+    read_record(alloc, schema, kind, bound, place, word, rest)
+}
+
+// The bound, at a place, and what stands behind it.
+fn read_bound(
+    alloc: Global,
+    schema: &Schema,
+    kind: AggKind,
+    place: u32,
+    words: &str,
+) -> Result<Command, LineRefused>
+    requires few { place < 9 }
+    requires size { length words.now ≤ MAX_FILE }
+    ensures { Gives line_fault_in question_in result (bound_at (length schema.now.dims) (kind_in kind) place words.now) }
+{
+    let (word, rest) = split_command(words);
+    match word {
+        ">=" => read_value(alloc, schema, kind, Bound::AtLeast, place + 1, rest),
+        "<=" => read_value(alloc, schema, kind, Bound::AtMost, place + 1, rest),
+        _ => Err(LineRefused::Field(place)),
+    }
+}
+
+/// Reads what follows the word `rollup`.
+pub(crate) fn read_rollup(
+    alloc: Global,
+    schema: &Schema,
+    rest: &str,
+) -> Result<Command, LineRefused>
+    requires { length rest.now ≤ MAX_FILE }
+    ensures { Gives line_fault_in question_in result (rollup_in schema.now rest.now) }
+{
+    let (word, behind) = split_command(rest);
+    if word == "count" {
+        return read_bound(alloc, schema, AggKind::Count, 2, behind);
+    }
+    let Some(aggregate) = OfMeasure::named(word.as_bytes()) else {
+        return Err(LineRefused::Field(1));
+    };
+    let (name, behind) = split_command(behind);
+    let Some(measure) = schema.measure_named(name.as_bytes()) else {
+        return Err(LineRefused::Field(2));
+    };
+    read_bound(alloc, schema, aggregate.of(measure), 3, behind)
+}
