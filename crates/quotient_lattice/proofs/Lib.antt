@@ -15,5 +15,6 @@ mod ChildNodes
 mod Rolled
 mod Visited
 mod Lowest
+pub mod AloneTold
 mod ToldNodes
 mod ParentNodes

@@ -1,9 +1,9 @@
 -- The neighbours of a class in the lattice of classes, and how far up it can be rolled.
-use Rattle.std.specs.Prelude.{ℕ, Bool, not, ◌&&◌, ◌||◌, List, filter}
+use Rattle.std.specs.Prelude.{ℕ, Bool, not, ◌&&◌, ◌||◌, List, [], filter}
 use Rattle.std.specs.declared.cmp.Ordering.{Ordering}
 use Rattle.std.specs.Ordering.{eq_by_cmp}
 use Rattle.std.specs.List.{list_all}
-use Rattle.cube_defs.specs.Answers.{Ask, is_asked}
+use Rattle.cube_defs.specs.Answers.{Ask, ClassHit, is_asked}
 use Rattle.cube_defs.specs.Cell.{Cell, cell_eq, leq}
 use Rattle.cube_defs.specs.Rows.{Row, agg}
 use Rattle.cube_defs.specs.Tree.{classes}
@@ -40,3 +40,7 @@ module _ {A : Type 0} (cmp : A → A → Ordering) where
   -- the most general classes from u on that are asked for, in cell order
   abbrev pub rollup : ℕ → List (Row A) → Ask → Cell A → List (Cell A)
   rollup measures rows ask u = filter (is_rolled measures rows ask u) (classes cmp rows)
+
+  -- a class without its lower bounds
+  abbrev pub class_alone : ℕ → List (Row A) → Cell A → ClassHit A
+  class_alone measures rows u = record { upper = u; agg = agg (eq_by_cmp cmp) measures rows u; lowers = [] }

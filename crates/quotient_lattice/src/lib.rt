@@ -2,6 +2,7 @@
 //! They are found by searches in a tree of nodes.
 #![tactic(auto)]
 
+mod classes;
 mod downward;
 mod joined;
 pub mod laws;
@@ -10,6 +11,7 @@ mod placed;
 mod rolling;
 mod upward;
 
+pub use classes::classes_alone;
 pub use cube_defs::Memory;
 pub use downward::children;
 pub use rolling::rollup;

@@ -1,0 +1,58 @@
+// The classes of nodes, as they are told.
+ghost use Rattle.std.specs.Ordering.{nat_cmp};
+ghost use Rattle.std.specs.Prelude.{All, IfOk, IsSome, length, map, ◌≡◌};
+ghost use Rattle.lower_bounds.specs.Classes.{hit_in};
+ghost use Rattle.qc_arena.specs.Seen.{record_at};
+ghost use Rattle.tree_search.specs.Found.{IsTreeOf, IsTree, TreeRows};
+ghost use Rattle.quotient_lattice.specs.Neighbours as lattice;
+
+use crate::Memory;
+use cell_core::{Cell, Cells, NodeNo, Steps};
+use lower_bounds::Class;
+use qc_arena::Nodes;
+use std::alloc::Global;
+use std::sync::ledger::Ledger;
+use tree_search::upper_into;
+
+// The class of a node, without its lower bounds.
+fn class_alone<T: Nodes, L: Ledger>(
+    alloc: Global,
+    tree: &T,
+    node: NodeNo,
+    steps: &mut Steps<L>,
+) -> Class
+    requires tree { IsTree (T.width tree.now) (T.tree tree.now) }
+    requires class { IsSome (record_at (T.tree tree.now) node.0).class }
+    ensures { (source : TreeRows) → IsTreeOf (T.width tree.now) (T.tree tree.now) source →
+        hit_in result ≡ lattice.class_alone nat_cmp source.measures source.rows (record_at (T.tree tree.now) node.0).cell }
+{
+    let mut upper = Cell::any(alloc, tree.dims());
+    upper_into(tree, node, &mut upper, steps);
+    let total = tree.class(node, steps).unwrap();
+    Class {
+        upper,
+        total,
+        lowers: Cells::new(alloc),
+    }
+}
+
+/// The classes of some nodes, without their lower bounds.
+pub fn classes_alone<T: Nodes, L: Ledger>(
+    alloc: Global,
+    tree: &T,
+    nodes: &[NodeNo],
+    steps: &mut Steps<L>,
+) -> Result<Vec<Class>, Memory>
+    requires tree { IsTree (T.width tree.now) (T.tree tree.now) }
+    requires classes { All (λ node. IsSome (record_at (T.tree tree.now) node.0).class) nodes.now }
+    ensures { (source : TreeRows) → IsTreeOf (T.width tree.now) (T.tree tree.now) source →
+        IfOk result (λ classes. map hit_in classes.items
+        ≡ map (λ node. lattice.class_alone nat_cmp source.measures source.rows (record_at (T.tree tree.now) node.0).cell) nodes.now) }
+{
+    let mut classes = Vec::with_capacity(alloc, nodes.len())?;
+    'nodes: for node in nodes {
+        let class = class_alone(alloc, tree, *node, steps);
+        classes.push(class)?;
+    }
+    Ok(classes)
+}
