@@ -15,7 +15,7 @@ use Rattle.reply_text.specs.Replies.{memory_text, refused_text, size_texts}
 use Rattle.warehouse.specs.Batch as batches
 use Rattle.warehouse.specs.Batch.{Applied, FileUse, Refusal, after, refusal_of, result, result_of, rows_after, unless}
 use Rattle.warehouse.specs.State.{State}
-use Rattle.qc_session.specs.Answers.{Answered, answer, answer_to, changed, file_answer, stays}
+use Rattle.qc_session.specs.Answers.{Answered, answer, answer_to, changed, file_answer, stays, try_answer}
 use Rattle.qc_session.specs.Lines.{is_passed}
 use Rattle.qc_session.specs.Runs.{Took}
 use Rattle.qc_session.specs.Transcript.{Item, Run, answered, items, run_at, step, transcript}
@@ -52,10 +52,15 @@ named-schema : (s : State) (line : ℕ) (kind : FileUse) (bytes : Option (List �
 named-schema s line kind None = tt
 named-schema s line kind (Some bytes) = file-schema s line kind bytes
 
+tried-schema : (s : State) (line : ℕ) (bytes : Option (List ℕ)) → IfSome (option_map (try_answer s line) bytes) (λ a. a.state.schema ≡ s.schema)
+tried-schema s line None = tt
+tried-schema s line (Some bytes) = refl
+
 answer-schema : (s : State) (t : Told) (line : ℕ) (asked : Result Question LineFault) → IfSome (answer_to s t line asked) (λ a. a.state.schema ≡ s.schema)
 answer-schema s t line (Err fault) = refl
 answer-schema s t line (Ok (asks.Load name)) = named-schema s line batches.Load (t name)
 answer-schema s t line (Ok (asks.Apply name)) = named-schema s line batches.Apply (t name)
+answer-schema s t line (Ok (asks.Try name)) = tried-schema s line (t name)
 answer-schema s t line (Ok (asks.Point asked)) = refl
 answer-schema s t line (Ok (asks.Range asked)) = refl
 answer-schema s t line (Ok (asks.Bounds asked)) = refl

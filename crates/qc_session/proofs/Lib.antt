@@ -1,5 +1,7 @@
+mod Answered
 mod Asked
 mod ClassTold
+mod Completed
 mod Ended
 mod Found
 mod Handed

@@ -45,6 +45,10 @@ file_answer state line kind bytes =
     if nat_lt MAX_FILE (length bytes) then stays state (refused_text line size_texts)
     else changed state line (result state kind bytes)
 
+-- what applying a file would answer; nothing changes
+abbrev pub try_answer : State → ℕ → List ℕ → Answered
+try_answer state line bytes = stays state (file_answer state line Apply bytes).reply
+
 -- what a field of a point asks of its dimension: Any, or a value
 abbrev pub entry_asked : Field → Option Text
 entry_asked fields.Any = None
@@ -114,6 +118,7 @@ abbrev pub answer_to : State → Told → ℕ → Result Question LineFault → 
 answer_to state told line (Err fault) = Some (stays state (refused_text line (line_texts fault)))
 answer_to state told line (Ok (asks.Load name)) = option_map (file_answer state line Load) (told name)
 answer_to state told line (Ok (asks.Apply name)) = option_map (file_answer state line Apply) (told name)
+answer_to state told line (Ok (asks.Try name)) = option_map (try_answer state line) (told name)
 answer_to state told line (Ok (asks.Point asked)) = Some (stays state (pointed state line (cell_asked asked)))
 answer_to state told line (Ok (asks.Range asked)) = Some (stays state (ranged state line asked))
 answer_to state told line (Ok (asks.Bounds asked)) = Some (stays state (bounded state line (cell_asked asked)))
@@ -128,6 +133,7 @@ abbrev pub file_named : Result Question LineFault → Option Text
 file_named (Err fault) = None
 file_named (Ok (asks.Load name)) = Some name
 file_named (Ok (asks.Apply name)) = Some name
+file_named (Ok (asks.Try name)) = Some name
 file_named (Ok (asks.Point asked)) = None
 file_named (Ok (asks.Range asked)) = None
 file_named (Ok (asks.Bounds asked)) = None

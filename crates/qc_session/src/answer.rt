@@ -6,6 +6,7 @@ ghost use Rattle.query_script.specs.Lines.{may_want_memory};
 ghost use Rattle.query_script.specs.Questions.{question_in};
 ghost use Rattle.warehouse.specs.Batch as batches;
 ghost use Rattle.warehouse.specs.InPlace.{IsTaken, IsWithinCost, LeavesApart, LeavesNumbers};
+ghost use Rattle.warehouse.specs.State.{State};
 ghost use Rattle.qc_session.specs.Answers.{answer, answer_to, changed, file_answer, file_named, file_of};
 
 use crate::bounds::answer_bounds;
@@ -30,6 +31,8 @@ pub enum FileUse {
     Load,
     /// A batch of corrections.
     Apply,
+    /// A batch of corrections that isn't kept.
+    Try,
 }
 
 /// Why a line has no reply.
@@ -41,12 +44,12 @@ pub enum LineStop {
     Fault(Text),
 }
 
-ghost use Rattle.qc_session.specs.Stops.{MatchLineStop, kind_in};
+ghost use Rattle.qc_session.specs.Stops.{MatchLineStop, kind_in, leaving, left_by};
 ghost use Rattle.reply_text.specs.Words.{reply_bytes};
 ghost use Rattle.cell_core.specs.Gives.{Gives};
 ghost use Rattle.warehouse.specs.Stored.{applied_in, refusal_in};
 
-// Takes the bytes of a file. A batch is applied in place.
+// Takes the bytes of a file. A batch is applied in place, or only tried.
 fn take_file<L: Ledger>(
     warehouse: &mut Warehouse,
     kind: FileUse,
@@ -54,16 +57,19 @@ fn take_file<L: Ledger>(
     steps: &mut Steps<L>,
 ) -> Result<Applied, Refused>
     requires { length bytes.now ≤ MAX_FILE }
-    ensures gives { Gives refusal_in (applied_in warehouse.new.state) result (batches.result warehouse.old.state (kind_in kind) bytes.now) }
-    ensures numbers { OnOk result (kind_in kind ≡ batches.Apply → LeavesNumbers warehouse.old bytes.now warehouse.new) }
-    ensures apart { OnOk result (kind_in kind ≡ batches.Apply → LeavesApart warehouse.old bytes.now warehouse.new) }
-    ensures steps { OnOk result (kind_in kind ≡ batches.Apply → IsWithinCost warehouse.old bytes.now warehouse.new steps.old steps.new) }
+    ensures gives { (then : State) × Gives refusal_in (applied_in then) result (batches.result warehouse.old.state (kind_in kind) bytes.now)
+        × OnOk result (warehouse.new.state ≡ left_by kind warehouse.old.state then) }
+    ensures tried { kind ≡ FileUse.Try → warehouse.new ≡ warehouse.old }
+    ensures numbers { OnOk result (kind ≡ FileUse.Apply → LeavesNumbers warehouse.old bytes.now warehouse.new) }
+    ensures apart { OnOk result (kind ≡ FileUse.Apply → LeavesApart warehouse.old bytes.now warehouse.new) }
+    ensures steps { OnOk result (kind_in kind ≡ batches.Apply → IsWithinCost warehouse.old.state bytes.now steps.old steps.new) }
     ensures state { OnErr result (warehouse.new.state ≡ warehouse.old.state) }
     ensures tree { OnErr result (warehouse.new.tree ≡ warehouse.old.tree) }
 {
     match kind {
         FileUse::Load => warehouse.load(bytes, steps),
         FileUse::Apply => warehouse.apply(bytes, steps),
+        FileUse::Try => warehouse.attempt(bytes, steps),
     }
 }
 
@@ -76,12 +82,14 @@ fn change<L: Ledger>(
     steps: &mut Steps<L>,
 ) -> Result<ShortReply, Memory>
     requires { length bytes.now ≤ MAX_FILE }
-    ensures ok { IfOk result (λ reply. changed warehouse.old.state number (batches.result warehouse.old.state (kind_in kind) bytes.now)
+    ensures ok { IfOk result (λ reply.
+        leaving kind warehouse.old.state (changed warehouse.old.state number (batches.result warehouse.old.state (kind_in kind) bytes.now))
         ≡ record { state = warehouse.new.state; reply = reply }) }
-    ensures numbers { kind_in kind ≡ batches.Apply → LeavesNumbers warehouse.old bytes.now warehouse.new }
-    ensures apart { kind_in kind ≡ batches.Apply → LeavesApart warehouse.old bytes.now warehouse.new }
+    ensures tried { kind ≡ FileUse.Try → warehouse.new ≡ warehouse.old }
+    ensures numbers { kind ≡ FileUse.Apply → LeavesNumbers warehouse.old bytes.now warehouse.new }
+    ensures apart { kind ≡ FileUse.Apply → LeavesApart warehouse.old bytes.now warehouse.new }
     ensures steps { OnOk result (kind_in kind ≡ batches.Apply → IsTaken warehouse.old.state bytes.now →
-        IsWithinCost warehouse.old bytes.now warehouse.new steps.old steps.new) }
+        IsWithinCost warehouse.old.state bytes.now steps.old steps.new) }
     ensures state { OnErr result (warehouse.new.state ≡ warehouse.old.state) }
     ensures tree { OnErr result (warehouse.new.tree ≡ warehouse.old.tree) }
 {
@@ -112,14 +120,15 @@ fn answer_file<F: Files, L: Ledger>(
     ensures fault { IfErr result (λ stop. MatchLineStop stop ⊤ (λ file. (file ≡ name) × Rose (F.faults files.old) (F.faults files.new))) }
     ensures untold { IfErr result (λ stop. MatchLineStop stop ⊤ (λ file. IsTrue (F.steady files.old) → IfSome (F.told files.old) (λ t. t file ≡ None))) }
     ensures answered { IfOk result (λ reply. IfSome (F.told files.old)
-        (λ t. option_map (file_answer warehouse.old.state number (kind_in kind)) (t name)
+        (λ t. option_map (λ bytes. leaving kind warehouse.old.state (file_answer warehouse.old.state number (kind_in kind) bytes)) (t name)
         ≡ Some (record { state = warehouse.new.state; reply = reply_bytes reply }))) }
+    ensures tried { kind ≡ FileUse.Try → warehouse.new ≡ warehouse.old }
     ensures numbers { IfSome (F.told files.old) (λ t. IfSome (t name)
-        (λ bytes. kind_in kind ≡ batches.Apply → LeavesNumbers warehouse.old bytes warehouse.new)) }
-    ensures apart { IfSome (F.told files.old) (λ t. IfSome (t name) (λ bytes. kind_in kind ≡ batches.Apply → LeavesApart warehouse.old bytes warehouse.new)) }
+        (λ bytes. kind ≡ FileUse.Apply → LeavesNumbers warehouse.old bytes warehouse.new)) }
+    ensures apart { IfSome (F.told files.old) (λ t. IfSome (t name) (λ bytes. kind ≡ FileUse.Apply → LeavesApart warehouse.old bytes warehouse.new)) }
     ensures steps { OnOk result (IfSome (F.told files.old)
         (λ t. IfSome (t name) (λ bytes. kind_in kind ≡ batches.Apply → IsTaken warehouse.old.state bytes →
-        IsWithinCost warehouse.old bytes warehouse.new steps.old steps.new))) }
+        IsWithinCost warehouse.old.state bytes steps.old steps.new))) }
 {
     match read_all(alloc, files, name.as_str(), MAX_FILE) {
         Ok(bytes) => match change(warehouse, number, kind, &bytes, steps) {
@@ -170,6 +179,15 @@ fn answer_command<F: Files, L: Ledger>(
             warehouse,
             number,
             FileUse::Apply,
+            name,
+            steps,
+        ),
+        Command::Try(name) => answer_file(
+            alloc,
+            files,
+            warehouse,
+            number,
+            FileUse::Try,
             name,
             steps,
         ),

@@ -11,5 +11,5 @@ pub fn is_passed_over(line: &[u8]) -> bool
 
 /// Whether a line has the word of a command that names a file.
 pub fn names_file(line: &[u8]) -> bool {
-    line.starts_with(b"load ") || line.starts_with(b"apply ")
+    line.starts_with(b"load ") || line.starts_with(b"apply ") || line.starts_with(b"try ")
 }

@@ -320,6 +320,9 @@ pub fn run<F: Files, O: Sink, E: Sink>(
         → (result.status ≡ 0) ⊎ (result.status ≡ 5))) }
     ensures found { IsTrue (F.steady files.old) → IfRun (form_of words.now)
         (λ names. IfSome (F.told files.old) (λ t. AllTold t names → result.status ≡ 3 → ⊥)) }
+    ensures complete_steady { IsTrue (F.steady files.old) → IfRun (form_of words.now) (λ names. IfSome (F.told files.old) (λ t.
+        AllTold t names → IsNone (refusal_of (t names.schema) names (t names.script))
+        → (Rose (O.faults out.old) (O.faults out.new) → ⊥) → (result.status ≡ 0) ⊎ (result.status ≡ 5))) }
 
     // The words `gen ROWS SEED`: the record of the generated state, and no other status.
     ensures gen_known { IfGen (form_of words.now) (λ drawing. ((result.status ≡ 0) ⊎ (result.status ≡ 4) ⊎ (result.status ≡ 5)) × (result.skipped.items ≡ [])) }

@@ -13,7 +13,7 @@ use Rattle.query_script.specs.Faults.{LineFault, line_fault_in}
 use Rattle.query_script.specs.Lines.{may_want_memory, names_more, rest_of, stats_line, word_of}
 use Rattle.query_script.specs.Commands.{IsCellField, IsMeasured, IsQuestion, asked_with, command_in, command_named, name_in, record_in, wants_memory}
 use Rattle.query_script.specs.Icebergs.{bound_at, bound_named, iceberg_in, iceberg_of, makes, value_at, with_aggregate, with_bound, with_measure, with_value}
-use Rattle.query_script.specs.Questions.{Apply, Bounds, Children, Iceberg, Load, Parents, Point, Question, Range, Rollup, Stats, question_in}
+use Rattle.query_script.specs.Questions.{Apply, Bounds, Children, Iceberg, Load, Parents, Point, Question, Range, Rollup, Stats, Try, question_in}
 use Rattle.query_script.specs.Rollups as rollups
 use Rattle.query_script.specs.Rollups.{rollup_in}
 use Rattle.query_script.specs.declared.line.Command.{Command}
@@ -45,13 +45,10 @@ wants-memory line u e = and_from _ _ (is_utf8-from_IsUtf8 line u) e
 
 -- ---- what each line asks
 
-load-is : (layout : Layout) (rest : List ℕ) (q : Question) → asked_with Load (name_in rest) ≡ Ok q → IsQuestion layout q
-load-is layout [] q e = absurd (cc e)
-load-is layout (b ∷ bs) q e = let same : Load (b ∷ bs) ≡ q = cc in rw (← same) (omega arith)
-
-apply-is : (layout : Layout) (rest : List ℕ) (q : Question) → asked_with Apply (name_in rest) ≡ Ok q → IsQuestion layout q
-apply-is layout [] q e = absurd (cc e)
-apply-is layout (b ∷ bs) q e = let same : Apply (b ∷ bs) ≡ q = cc in rw (← same) (omega arith)
+-- what names a file
+file-is : (layout : Layout) (rest : List ℕ) (make : Text → Question) (q : Question) → ((b : ℕ) (bs : List ℕ) → IsQuestion layout (make (b ∷ bs))) → asked_with make (name_in rest) ≡ Ok q → IsQuestion layout q
+file-is layout [] make q made e = absurd (cc e)
+file-is layout (b ∷ bs) make q made e = let same : make (b ∷ bs) ≡ q = cc in rw (← same) (made b bs)
 
 -- what asks for fields
 fields-are : (layout : Layout) (read : Result (List asked.Field) LineFault) (make : List asked.Field → Question) (q : Question) → ((fields : List asked.Field) → read ≡ Ok fields → IsQuestion layout (make fields))
@@ -145,29 +142,30 @@ module _ (layout : Layout) where
       by false m = rolled-aggregate (word_of rest) (rest_of rest) (makes (word_of rest)) q refl m
 
 -- the words of the commands that name something behind them, each with what it asks
-abbrev Named : Layout → List ℕ → (load apply point range bounds iceberg parents children rollup : Bool) → Result Question LineFault
-Named layout rest load apply point range bounds iceberg parents children rollup =
-    cond load (asked_with Load (name_in rest)) (cond apply (asked_with Apply (name_in rest))
+abbrev Named : Layout → List ℕ → (load apply tried point range bounds iceberg parents children rollup : Bool) → Result Question LineFault
+Named layout rest load apply tried point range bounds iceberg parents children rollup =
+    cond load (asked_with Load (name_in rest)) (cond apply (asked_with Apply (name_in rest)) (cond tried (asked_with Try (name_in rest))
     (cond point (asked_with Point (record_in shapes.Cell (length layout.dims) rest)) (cond range (asked_with Range (record_in shapes.Box (length layout.dims) rest))
     (cond bounds (asked_with Bounds (record_in shapes.Cell (length layout.dims) rest)) (cond iceberg (iceberg_in layout rest)
-    (cond parents (asked_with Parents (record_in shapes.Cell (length layout.dims) rest)) (cond children (asked_with Children (record_in shapes.Cell (length layout.dims) rest)) (cond rollup (rollup_in layout rest) (Err faults.Command)))))))))
+    (cond parents (asked_with Parents (record_in shapes.Cell (length layout.dims) rest)) (cond children (asked_with Children (record_in shapes.Cell (length layout.dims) rest)) (cond rollup (rollup_in layout rest) (Err faults.Command))))))))))
 
 named-is : (layout : Layout) (word : Text) (rest : List ℕ) (q : Question) → command_named layout word rest ≡ Ok q → IsQuestion layout q
 named-is layout word rest q e =
-    by (bytes_eq word (codes "load")) (bytes_eq word (codes "apply")) (bytes_eq word (codes "point")) (bytes_eq word (codes "range")) (bytes_eq word (codes "bounds")) (bytes_eq word (codes "iceberg"))
+    by (bytes_eq word (codes "load")) (bytes_eq word (codes "apply")) (bytes_eq word (codes "try")) (bytes_eq word (codes "point")) (bytes_eq word (codes "range")) (bytes_eq word (codes "bounds")) (bytes_eq word (codes "iceberg"))
     (bytes_eq word (codes "parents")) (bytes_eq word (codes "children")) (bytes_eq word (codes "rollup")) e
   where
-    by : (load apply point range bounds iceberg parents children rollup : Bool) → Named layout rest load apply point range bounds iceberg parents children rollup ≡ Ok q → IsQuestion layout q
-    by true apply point range bounds iceberg parents children rollup m = load-is layout rest q m
-    by false true point range bounds iceberg parents children rollup m = apply-is layout rest q m
-    by false false true range bounds iceberg parents children rollup m = fields-are layout (record_in shapes.Cell (length layout.dims) rest) Point q (cell-fields (length layout.dims) rest) m
-    by false false false true bounds iceberg parents children rollup m = fields-are layout (record_in shapes.Box (length layout.dims) rest) Range q (box-fields (length layout.dims) rest) m
-    by false false false false true iceberg parents children rollup m = fields-are layout (record_in shapes.Cell (length layout.dims) rest) Bounds q (cell-fields (length layout.dims) rest) m
-    by false false false false false true parents children rollup m = iceberg-is layout (words_of rest) q m
-    by false false false false false false true children rollup m = fields-are layout (record_in shapes.Cell (length layout.dims) rest) Parents q (cell-fields (length layout.dims) rest) m
-    by false false false false false false false true rollup m = fields-are layout (record_in shapes.Cell (length layout.dims) rest) Children q (cell-fields (length layout.dims) rest) m
-    by false false false false false false false false true m = rollup-is layout rest q m
-    by false false false false false false false false false m = absurd (cc m)
+    by : (load apply tried point range bounds iceberg parents children rollup : Bool) → Named layout rest load apply tried point range bounds iceberg parents children rollup ≡ Ok q → IsQuestion layout q
+    by true apply tried point range bounds iceberg parents children rollup m = file-is layout rest Load q (λ b bs. omega arith) m
+    by false true tried point range bounds iceberg parents children rollup m = file-is layout rest Apply q (λ b bs. omega arith) m
+    by false false true point range bounds iceberg parents children rollup m = file-is layout rest Try q (λ b bs. omega arith) m
+    by false false false true range bounds iceberg parents children rollup m = fields-are layout (record_in shapes.Cell (length layout.dims) rest) Point q (cell-fields (length layout.dims) rest) m
+    by false false false false true bounds iceberg parents children rollup m = fields-are layout (record_in shapes.Box (length layout.dims) rest) Range q (box-fields (length layout.dims) rest) m
+    by false false false false false true iceberg parents children rollup m = fields-are layout (record_in shapes.Cell (length layout.dims) rest) Bounds q (cell-fields (length layout.dims) rest) m
+    by false false false false false false true parents children rollup m = iceberg-is layout (words_of rest) q m
+    by false false false false false false false true children rollup m = fields-are layout (record_in shapes.Cell (length layout.dims) rest) Parents q (cell-fields (length layout.dims) rest) m
+    by false false false false false false false false true rollup m = fields-are layout (record_in shapes.Cell (length layout.dims) rest) Children q (cell-fields (length layout.dims) rest) m
+    by false false false false false false false false false true m = rollup-is layout rest q m
+    by false false false false false false false false false false m = absurd (cc m)
 
 pub line-is : (layout : Layout) (line : List ℕ) (r : Result Command LineRefused) → Gives line_fault_in question_in r (command_in layout line) → IfOk r (λ command. IsQuestion layout (question_in command))
 line-is layout line (Err refused) h = tt
@@ -182,20 +180,21 @@ line-is layout line (Ok command) h = by (is_utf8 line) (bytes_eq line stats_line
 
 named-wants : (layout : Layout) (word : Text) (rest : List ℕ) (q : Question) → command_named layout word rest ≡ Ok q → names_more word ≡ true
 named-wants layout word rest q e =
-    by (bytes_eq word (codes "load")) (bytes_eq word (codes "apply")) (bytes_eq word (codes "point")) (bytes_eq word (codes "range")) (bytes_eq word (codes "bounds")) (bytes_eq word (codes "iceberg"))
+    by (bytes_eq word (codes "load")) (bytes_eq word (codes "apply")) (bytes_eq word (codes "try")) (bytes_eq word (codes "point")) (bytes_eq word (codes "range")) (bytes_eq word (codes "bounds")) (bytes_eq word (codes "iceberg"))
     (bytes_eq word (codes "parents")) (bytes_eq word (codes "children")) (bytes_eq word (codes "rollup")) e
   where
-    by : (load apply point range bounds iceberg parents children rollup : Bool) → Named layout rest load apply point range bounds iceberg parents children rollup ≡ Ok q → (load || apply || point || range || bounds || iceberg || parents || children || rollup) ≡ true
-    by true apply point range bounds iceberg parents children rollup m = refl
-    by false true point range bounds iceberg parents children rollup m = refl
-    by false false true range bounds iceberg parents children rollup m = refl
-    by false false false true bounds iceberg parents children rollup m = refl
-    by false false false false true iceberg parents children rollup m = refl
-    by false false false false false true parents children rollup m = refl
-    by false false false false false false true children rollup m = refl
-    by false false false false false false false true rollup m = refl
-    by false false false false false false false false true m = refl
-    by false false false false false false false false false m = absurd (cc m)
+    by : (load apply tried point range bounds iceberg parents children rollup : Bool) → Named layout rest load apply tried point range bounds iceberg parents children rollup ≡ Ok q → (load || apply || tried || point || range || bounds || iceberg || parents || children || rollup) ≡ true
+    by true apply tried point range bounds iceberg parents children rollup m = refl
+    by false true tried point range bounds iceberg parents children rollup m = refl
+    by false false true point range bounds iceberg parents children rollup m = refl
+    by false false false true range bounds iceberg parents children rollup m = refl
+    by false false false false true bounds iceberg parents children rollup m = refl
+    by false false false false false true iceberg parents children rollup m = refl
+    by false false false false false false true parents children rollup m = refl
+    by false false false false false false false true children rollup m = refl
+    by false false false false false false false false true rollup m = refl
+    by false false false false false false false false false true m = refl
+    by false false false false false false false false false false m = absurd (cc m)
 
 line-wants : (layout : Layout) (line : List ℕ) (q : Question) → command_in layout line ≡ Ok q → wants_memory q ≡ true → may_want_memory line ≡ true
 line-wants layout line q h wants = by (is_utf8 line) (bytes_eq line stats_line) h

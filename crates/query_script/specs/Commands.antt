@@ -11,7 +11,7 @@ use Rattle.query_script.specs.Faults.{LineFault}
 pub use Rattle.query_script.specs.Records.{fields_in, record_in}
 use Rattle.query_script.specs.Icebergs.{iceberg_in}
 use Rattle.query_script.specs.Lines.{rest_of, stats_line, word_of}
-use Rattle.query_script.specs.Questions.{Apply, Bounds, Children, Iceberg, Load, Parents, Point, Question, Range, Rollup, Stats}
+use Rattle.query_script.specs.Questions.{Apply, Bounds, Children, Iceberg, Load, Parents, Point, Question, Range, Rollup, Stats, Try}
 use Rattle.query_script.specs.Rollups.{rollup_in}
 use Rattle.query_script.specs.declared.record.Shape.TheVariants as shapes
 
@@ -30,6 +30,7 @@ abbrev pub command_named : Layout → Text → List ℕ → Result Question Line
 command_named layout word rest =
     if bytes_eq word (codes "load") then asked_with Load (name_in rest)
     else if bytes_eq word (codes "apply") then asked_with Apply (name_in rest)
+    else if bytes_eq word (codes "try") then asked_with Try (name_in rest)
     else if bytes_eq word (codes "point") then asked_with Point (record_in shapes.Cell (length layout.dims) rest)
     else if bytes_eq word (codes "range") then asked_with Range (record_in shapes.Box (length layout.dims) rest)
     else if bytes_eq word (codes "bounds") then asked_with Bounds (record_in shapes.Cell (length layout.dims) rest)
@@ -49,6 +50,7 @@ command_in layout line =
 abbrev pub wants_memory : Question → Bool
 wants_memory (Load name) = true
 wants_memory (Apply name) = true
+wants_memory (Try name) = true
 wants_memory (Point fields) = true
 wants_memory (Range fields) = true
 wants_memory (Bounds fields) = true
@@ -78,6 +80,7 @@ IsMeasured measures (answers.Mean m) = m < measures
 abbrev pub IsQuestion : Layout → Question → Type 0
 IsQuestion layout (Load name) = 0 < length name
 IsQuestion layout (Apply name) = 0 < length name
+IsQuestion layout (Try name) = 0 < length name
 IsQuestion layout (Point fields) = (length fields ≡ length layout.dims) × All IsCellField fields
 IsQuestion layout (Range fields) = length fields ≡ length layout.dims
 IsQuestion layout (Bounds fields) = (length fields ≡ length layout.dims) × All IsCellField fields

@@ -22,7 +22,7 @@ stats_line = codes "stats"
 -- the words of the commands that name something behind them
 abbrev pub names_more : List ℕ → Bool
 names_more word =
-    bytes_eq word (codes "load") || bytes_eq word (codes "apply") || bytes_eq word (codes "point")
+    bytes_eq word (codes "load") || bytes_eq word (codes "apply") || bytes_eq word (codes "try") || bytes_eq word (codes "point")
     || bytes_eq word (codes "range") || bytes_eq word (codes "bounds") || bytes_eq word (codes "iceberg")
     || bytes_eq word (codes "parents") || bytes_eq word (codes "children") || bytes_eq word (codes "rollup")
 

@@ -25,6 +25,8 @@ pub enum Command {
     Load(Text),
     /// Apply the batch of this name.
     Apply(Text),
+    /// Tell what applying the batch of this name would come to.
+    Try(Text),
     /// Answer the point of these fields, one for each dimension.
     Point(Fields),
     /// Answer each cell of a box that covers a row. There is a field for each dimension.
@@ -118,6 +120,7 @@ fn read_command(
     match word {
         "load" => Ok(Command::Load(read_name(alloc, rest)?)),
         "apply" => Ok(Command::Apply(read_name(alloc, rest)?)),
+        "try" => Ok(Command::Try(read_name(alloc, rest)?)),
         "point" => Ok(Command::Point(read_fields(alloc, Shape::Cell, schema, rest)?)),
         "range" => Ok(Command::Range(read_fields(alloc, Shape::Box, schema, rest)?)),
         "bounds" => Ok(Command::Bounds(read_fields(alloc, Shape::Cell, schema, rest)?)),
@@ -130,9 +133,9 @@ fn read_command(
 }
 
 /// Reads a line without its end. The line `stats` is just that word. Else the first word runs to the
-/// first space. Behind `load` and `apply` stands the name of a file, which may hold spaces. Behind
-/// `point`, `bounds` and `range` stand fields as in a CSV file: `*` is Any, `=` stands in front of a
-/// value of any bytes, and each other field is that value. Only behind `range` a field may also be
+/// first space. Behind `load`, `apply` and `try` stands the name of a file, which may hold spaces.
+/// Behind `point`, `bounds` and `range` stand fields as in a CSV file: `*` is Any, `=` stands in front
+/// of a value of any bytes, and each other field is that value. Only behind `range` a field may also be
 /// `?` for each value, a list of values with `|` in front of each, or two texts with `~` in front of
 /// each for the values from the one to the other by their bytes. Behind `iceberg` stand words: an
 /// aggregate (`count`, `sum`, `least`, `greatest` or `mean`), its measure but for `count`, `>=` or

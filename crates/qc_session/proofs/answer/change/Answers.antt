@@ -8,7 +8,7 @@ words_of_file-requires-clause-dim g c =
     let old = c.args.warehouse.now.state in
     let same = c.in-Err.ensures.state in
     let valid = subst IsState same c.schema.ensures.valid.state in
-    let within = dim-within old _ c.args.bytes.now c.in-Err.cause valid c.in-Err.ensures.gives in
+    let within = dim-within old _ c.args.bytes.now c.in-Err.cause valid c.in-Err.ensures.gives.1 in
     rw (c.schema.ensures.value, same) within
 
 pub words_of_file-requires-clause-layout : goal.words_of_file-requires-clause-layout

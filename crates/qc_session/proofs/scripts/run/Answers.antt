@@ -1,7 +1,8 @@
-use Rattle.std.proofs.Common.{refl, sym, ◌∙◌, ◌≤◌, IsTrue, arith}
+use Rattle.std.proofs.Common.{refl, subst, sym, ◌∙◌, ◌≤◌, IsTrue, arith}
 use Rattle.warehouse.specs.State.{empty}
 use Rattle.qc_session.specs.Forms.{FileNames, form_of}
 use Rattle.qc_session.specs.Failures.{cause_of}
+use Rattle.qc_session.proofs.Completed.{IsRunStatus, complete-script, complete-steady, never-written, unread-status}
 use Rattle.qc_session.proofs.Ended.{complete-run, finished-run, refusal-run, rose-later, skipped-run}
 use Rattle.qc_session.proofs.Found.{found-all}
 use Rattle.qc_session.proofs.Refusals.{refused-schema, refused-script, unread-line, unread-schema, unread-script}
@@ -79,3 +80,24 @@ returns-clause-complete g c =
     rw (← c.in-Run.ensures.form)
     (complete-run (g.F.Files.told c.args.files.now) names _ _ _ c.run_script.ensures.known
     (λ h. rose-later (g.F.Files.faults c.args.files.now) (g.F.Files.faults c.read_named.new.files) _ later (c.run_script.ensures.read_fault h)) c.run_script.ensures.write_fault)
+
+pub returns-in-Err-clause-complete_steady : goal.returns-in-Err-clause-complete_steady
+returns-in-Err-clause-complete_steady g c = λ steady.
+    let cause = cause_of c.in-Err.failure in
+    complete-steady (form_of c.args.words.now) (g.F.Files.told c.args.files.now) _ _ _
+    (subst IsRunStatus (sym c.fail-in-Err.ensures.status) (unread-status (g.F.Files.told c.args.files.now) c.in-Run.schema_name.now _ _ _ cause c.in-Err.ensures.err))
+    (λ h. absurd (never-written (g.F.Files.told c.args.files.now) c.in-Run.schema_name.now _ _ _ cause c.in-Err.ensures.err (sym c.fail-in-Err.ensures.status ∙ h)))
+    (returns-in-Err-clause-found g c steady) (returns-in-Err-clause-refused g c)
+
+pub returns-in-Err-read_named-clause-complete_steady : goal.returns-in-Err-read_named-clause-complete_steady
+returns-in-Err-read_named-clause-complete_steady g c = λ steady.
+    let cause = cause_of c.in-Err-read_named.failure in
+    let fails = c.in-Err-read_named.ensures.err in
+    complete-steady (form_of c.args.words.now) (g.F.Files.told c.args.files.now) _ _ _
+    (subst IsRunStatus (sym c.fail-in-Err-read_named.ensures.status) (unread-status _ c.in-Run.script_name.now _ _ _ cause fails))
+    (λ h. absurd (never-written _ c.in-Run.script_name.now _ _ _ cause fails (sym c.fail-in-Err-read_named.ensures.status ∙ h)))
+    (returns-in-Err-read_named-clause-found g c steady) (returns-in-Err-read_named-clause-refused g c)
+
+pub returns-clause-complete_steady : goal.returns-clause-complete_steady
+returns-clause-complete_steady g c = λ steady.
+    complete-script (form_of c.args.words.now) (g.F.Files.told c.args.files.now) c.run_script.result.status _ c.run_script.ensures.known c.run_script.ensures.write_fault (returns-clause-found g c steady)

@@ -1,7 +1,6 @@
-use Rattle.std.proofs.Common.{List, ◌≡◌, ◌∙◌, ap, length, sym}
+use Rattle.std.proofs.Common.{◌∙◌, ap, length}
 use Rattle.base_table.specs.Places.{Places, rows_of}
-use Rattle.cube_defs.specs.Rows.{Row}
-use Rattle.cube_defs.specs.Text.{Text, text_cmp}
+use Rattle.cube_defs.specs.Text.{text_cmp}
 use Rattle.cube_defs.specs.Tree.{classes}
 use Rattle.warehouse.specs.State.{State}
 use Rattle.warehouse.proofs.Counted.{classes-kept}

@@ -5,7 +5,6 @@ use Rattle.base_table.specs.Places.{Base, Places, base_of, rows_of}
 use Rattle.cube_defs.specs.Rows.{Row}
 use Rattle.cube_defs.specs.Text.{text_cmp}
 use Rattle.cube_defs.specs.Tree.{IsCanonical, classes, nodes}
-use Rattle.qc_arena.specs.Codes.{Shape}
 use Rattle.qc_arena.specs.Map.{Arena}
 use Rattle.value_dict.specs.TextLists.{TextLists}
 use Rattle.value_dict.specs.Told.{RowsAreCodes}
@@ -13,7 +12,7 @@ use Rattle.warehouse.specs.Batch.{refusal_of, rows_after}
 use Rattle.warehouse.specs.InPlace.{cost_in}
 use Rattle.warehouse.specs.State.{State}
 use Rattle.warehouse.specs.Steps.{IsCause, closed, frame}
-use Rattle.warehouse.specs.Stored.{IsStored, state_of}
+use Rattle.warehouse.specs.Stored.{IsStored}
 use Rattle.warehouse.proofs.Growing.{cut-back}
 use Rattle.warehouse.proofs.States.{stored-next}
 use Rattle.warehouse.proofs.Trees.{kept-back}
