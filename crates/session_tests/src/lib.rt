@@ -9,6 +9,8 @@ ghost use Rattle.qc_session.specs.Forms.{Gen, form_of};
 mod lines;
 #[cfg(test)]
 mod replies;
+#[cfg(test)]
+mod tries;
 
 /// The most rows that are drawn, with zeros in front, and the greatest seed are a form of the words. Such a run takes too long
 /// for a test.

@@ -16,7 +16,7 @@ type Line = (&'static [u8], Result<&'static str, LineRefused>);
 
 const SHOP: &[u8] = b"qcube 1\nid order\ndim store\ndim product\ndim season\n";
 
-static LINES: [Line; 109] = [
+static LINES: [Line; 114] = [
     // Command words, and names of files.
     (b"load a.csv", Ok("load:a.csv")),
     (b"load a b.csv", Ok("load:a b.csv")),
@@ -25,10 +25,15 @@ static LINES: [Line; 109] = [
     (b"load \xef\xbb\xbfa", Ok("load:\u{feff}a")),
     (b"apply b.csv", Ok("apply:b.csv")),
     (b"apply *,?", Ok("apply:*,?")),
+    (b"try b c.csv", Ok("try:b c.csv")),
+    (b"try *,?", Ok("try:*,?")),
     (b"load", Err(LineRefused::Field(1))),
     (b"load ", Err(LineRefused::Field(1))),
     (b"apply", Err(LineRefused::Field(1))),
     (b"apply ", Err(LineRefused::Field(1))),
+    (b"try", Err(LineRefused::Field(1))),
+    (b"try ", Err(LineRefused::Field(1))),
+    (b"trying x", Err(LineRefused::Command)),
     (b"frobnicate", Err(LineRefused::Command)),
     (b"stats", Ok("stats")),
     (b"stats ", Err(LineRefused::Command)),
@@ -237,6 +242,7 @@ fn list_command(alloc: Global, command: &Command) -> Result<String, Memory> {
     match command {
         Command::Load(name) => list_name("load:", name, &mut list)?,
         Command::Apply(name) => list_name("apply:", name, &mut list)?,
+        Command::Try(name) => list_name("try:", name, &mut list)?,
         Command::Point(fields) => list_fields("point:", fields, &mut list)?,
         Command::Bounds(fields) => list_fields("bounds:", fields, &mut list)?,
         Command::Range(fields) => list_fields("range:", fields, &mut list)?,

@@ -7,16 +7,16 @@ use std::alloc::{AllocError, Global};
 use std::process::Abort;
 use std::test::Fail;
 
-const SCHEMA: &str = "qcube 1\nid id\ndim store\ndim product\ndim season\nmeasure sale 0\n";
+pub const SCHEMA: &str = "qcube 1\nid id\ndim store\ndim product\ndim season\nmeasure sale 0\n";
 
-const BASE: &[u8] = b"id,store,product,season,sale\n1,S1,P1,s,6\n2,S1,P2,s,12\n3,S2,P1,f,9\n";
+pub const BASE: &[u8] = b"id,store,product,season,sale\n1,S1,P1,s,6\n2,S1,P2,s,12\n3,S2,P1,f,9\n";
 
 // The worked table with a second measure.
 const TAXED: &[u8] =
     b"id,store,product,season,sale,tax\n1,S1,P1,s,6,0.5\n2,S1,P2,s,12,1\n3,S2,P1,f,9,-0.3\n";
 
 // The fourth row of the worked table comes, and goes.
-const PLUS: &[u8] = b"op,id,store,product,season,sale\n+,4,S2,P2,f,3\n";
+pub const PLUS: &[u8] = b"op,id,store,product,season,sale\n+,4,S2,P2,f,3\n";
 
 const MINUS: &[u8] = b"op,id,store,product,season,sale\n-,4,,,,\n";
 
@@ -315,7 +315,7 @@ static CASES: [Case; 33] = [
 ];
 
 // Limits behind the schema, a file, and the code with which it is refused.
-type Refusal = (&'static str, &'static [u8], &'static str);
+pub type Refusal = (&'static str, &'static [u8], &'static str);
 
 const FOUR_ROWS: &[u8] =
     b"id,store,product,season,sale\n1,a,P,s,6\n2,b,P,s,6\n3,b,Q,s,6\n4,b,R,s,6\n";
@@ -384,7 +384,7 @@ static BASES: [Refusal; 19] = [
     ("nodes 14\n", FOUR_ROWS, "nodes"),
 ];
 
-static BATCHES: [Refusal; 19] = [
+pub static BATCHES: [Refusal; 19] = [
     ("", b"", "header"),
     ("", b"id,store,product,season,sale\n4,S9,P1,s,1\n", "header"),
     ("", b"op,op,id,store,product,season,sale\n", "header"),
@@ -592,7 +592,7 @@ fn run_over(
 }
 
 // With ample memory a script has these replies, and no line is skipped.
-fn answers(
+pub fn answers(
     rt: &impl Abort,
     alloc: Global,
     schema: &[u8],
