@@ -50,7 +50,7 @@ module _ (texts : List (List Text)) (measures : ℕ) (rows : List (Row Text)) (h
 
 module _ (s : State) (is : IsState s) where
   -- each row has a text for each list
-  wide : AllByRecursion (λ row. length row.tuple ≡ length s.texts) s.rows
+  pub wide : AllByRecursion (λ row. length row.tuple ≡ length s.texts) s.rows
   wide =
       all_map (IsLoaded (length s.schema.dims) (length s.schema.measures)) (λ row. length row.tuple ≡ length s.texts) s.rows (λ row r. r.tuple ∙ sym is.lists)
       (recursion_from_All (IsLoaded (length s.schema.dims) (length s.schema.measures)) s.rows is.rows)

@@ -65,6 +65,9 @@ answer-schema s t line (Ok (asks.Point asked)) = refl
 answer-schema s t line (Ok (asks.Range asked)) = refl
 answer-schema s t line (Ok (asks.Bounds asked)) = refl
 answer-schema s t line (Ok (asks.Iceberg kind bound value)) = refl
+answer-schema s t line (Ok (asks.Parents asked)) = refl
+answer-schema s t line (Ok (asks.Children asked)) = refl
+answer-schema s t line (Ok (asks.Rollup kind bound value asked)) = refl
 answer-schema s t line (Ok asks.Stats) = refl
 
 answered-schema : (run : Run) (a : Option Answered) → IfSome a (λ a. a.state.schema ≡ run.state.schema) → (answered run a).state.schema ≡ run.state.schema

@@ -2,6 +2,7 @@ mod Answered
 mod Asked
 mod ClassTold
 mod Completed
+mod Uppers
 mod Ended
 mod Found
 mod Handed

@@ -26,6 +26,7 @@ use Rattle.warehouse.specs.Batch.{Applied, FileUse, Load, Apply, Refusal, result
 use Rattle.warehouse.specs.State.{State}
 use Rattle.reply_text.specs.Replies.{applied_text, batch_texts, bounds_reply, iceberg_text, line_texts, point_reply, range_reply, refused_text, size_texts, stats_text}
 use Rattle.cube_defs.specs.declared.limits.TheConstants.{MAX_FILE}
+use Rattle.qc_session.specs.Lattice.{followed, parented, rolled}
 
 -- a state and a reply
 pub record Answered : Type 0 where
@@ -123,6 +124,9 @@ answer_to state told line (Ok (asks.Point asked)) = Some (stays state (pointed s
 answer_to state told line (Ok (asks.Range asked)) = Some (stays state (ranged state line asked))
 answer_to state told line (Ok (asks.Bounds asked)) = Some (stays state (bounded state line (cell_asked asked)))
 answer_to state told line (Ok (asks.Iceberg kind bound value)) = Some (stays state (passing state line kind bound value))
+answer_to state told line (Ok (asks.Parents asked)) = Some (stays state (parented state line (cell_asked asked)))
+answer_to state told line (Ok (asks.Children asked)) = Some (stays state (followed state line (cell_asked asked)))
+answer_to state told line (Ok (asks.Rollup kind bound value asked)) = Some (stays state (rolled state line (ask_of state.schema.measures kind bound value) (cell_asked asked)))
 answer_to state told line (Ok asks.Stats) = Some (stays state (counted state line))
 
 abbrev pub answer : State → Told → ℕ → List ℕ → Option Answered
@@ -138,6 +142,9 @@ file_named (Ok (asks.Point asked)) = None
 file_named (Ok (asks.Range asked)) = None
 file_named (Ok (asks.Bounds asked)) = None
 file_named (Ok (asks.Iceberg kind bound value)) = None
+file_named (Ok (asks.Parents asked)) = None
+file_named (Ok (asks.Children asked)) = None
+file_named (Ok (asks.Rollup kind bound value asked)) = None
 file_named (Ok asks.Stats) = None
 
 -- the file that a line names, over a schema

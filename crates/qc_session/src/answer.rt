@@ -11,6 +11,7 @@ ghost use Rattle.qc_session.specs.Answers.{answer, answer_to, changed, file_answ
 
 use crate::bounds::answer_bounds;
 use crate::iceberg::answer_iceberg;
+use crate::lattice::{answer_children, answer_parents, answer_rollup};
 use crate::point::answer_point;
 use crate::range::answer_range;
 use cell_core::{Memory, Steps, Text};
@@ -205,6 +206,22 @@ fn answer_command<F: Files, L: Ledger>(
         },
         Command::Iceberg(kind, bound, value) => {
             match answer_iceberg(alloc, warehouse, number, kind, bound, value, steps) {
+                Ok(reply) => Ok(reply),
+                Err(_) => Err(LineStop::Memory),
+            }
+        }
+        Command::Parents(asked) => match answer_parents(alloc, warehouse, number, &asked, steps) {
+            Ok(reply) => Ok(reply),
+            Err(_) => Err(LineStop::Memory),
+        },
+        Command::Children(asked) => {
+            match answer_children(alloc, warehouse, number, &asked, steps) {
+                Ok(reply) => Ok(reply),
+                Err(_) => Err(LineStop::Memory),
+            }
+        }
+        Command::Rollup(kind, bound, value, asked) => {
+            match answer_rollup(alloc, warehouse, number, kind, bound, value, &asked, steps) {
                 Ok(reply) => Ok(reply),
                 Err(_) => Err(LineStop::Memory),
             }

@@ -19,8 +19,8 @@ use std::alloc::Global;
 use std::sync::ledger::Ledger;
 use warehouse::Warehouse;
 
-// The scale of the measure of a kind; a count has none.
-fn scale_of_kind(schema: &Schema, kind: AggKind) -> u8
+/// The scale of the measure of a kind; a count has none.
+pub(crate) fn scale_of_kind(schema: &Schema, kind: AggKind) -> u8
     requires layout { IsLayout schema.now }
     requires measured { IsMeasured (length schema.now.measures) (kind_in kind) }
     ensures value { result ≡ scale_of schema.now.measures (kind_in kind) }

@@ -5,6 +5,7 @@ mod answer;
 mod bounds;
 mod failure;
 mod iceberg;
+mod lattice;
 mod lines;
 mod pending;
 mod point;
