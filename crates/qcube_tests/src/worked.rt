@@ -72,7 +72,7 @@ fn has_transcript(rt: &impl Abort, alloc: Global, row: &Row, piece: usize) -> Re
 
 #[test]
 fn worked_scripts(rt: HostRuntime) -> Result<(), Fail> {
-    let rows: [Row; 31] = [
+    let rows: [Row; 32] = [
         (
             SCHEMA,
             &[BASE],
@@ -297,6 +297,12 @@ fn worked_scripts(rt: HostRuntime) -> Result<(), Fail> {
             ],
             b"load base.csv\napply a.csv\napply b.csv\napply c.csv\n",
             "applied,1,3,6\napplied,2,1,6\nrefused,3,id,1\nrefused,4,amount,1\n",
+        ),
+        (
+            SCHEMA,
+            &[BASE, PLUS],
+            b"load base.csv\ntry plus4.csv\nstats\n",
+            "applied,1,3,6\napplied,2,1,9\nstats,3,3,6,11,10,5\n",
         ),
         (
             b"qcube 1\nid id\ndim store\ndim product\ndim season\nmeasure sale 0\nrows 3\n",
