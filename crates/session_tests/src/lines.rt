@@ -160,6 +160,23 @@ static LINES: [Line; 114] = [
 
 const SALES: &[u8] = b"qcube 1\nid order\ndim store\nmeasure price 0\n";
 
+static ROLLUPS: [Line; 11] = [
+    (b"parents =a", Ok("parents:is a;")),
+    (b"children *", Ok("children:*;")),
+    (b"children |a", Err(LineRefused::Field(1))),
+    (b"rollup count <= 1/2 *", Ok("rollup:Count AtMost 1/2 *;")),
+    (
+        b"rollup mean price >= 3 a b",
+        Ok("rollup:Mean(0) AtLeast 3/1 is a b;"),
+    ),
+    (b"rollup mean price >= 3 ", Err(LineRefused::Field(5))),
+    (b"rollup mean price >=  3", Err(LineRefused::Field(4))),
+    (b"rollup mean prices >= 3 *", Err(LineRefused::Field(2))),
+    (b"rollup mean price > 3 *", Err(LineRefused::Field(3))),
+    (b"rollup count >= x *,*", Err(LineRefused::Field(5))),
+    (b"rollup count >= x *", Err(LineRefused::Number)),
+];
+
 static ICEBERGS: [Line; 5] = [
     (b"iceberg count >= 2", Ok("iceberg:Count AtLeast 2/1")),
     (
@@ -236,6 +253,16 @@ fn list_iceberg(
     format!(in alloc; "iceberg:{kind:?} {bound:?} {num}/{den}")
 }
 
+fn list_rollup(
+    alloc: Global,
+    kind: AggKind,
+    bound: Bound,
+    value: Fraction,
+) -> Result<String, Memory> {
+    let (num, den) = (value.num, value.den);
+    format!(in alloc; "rollup:{kind:?} {bound:?} {num}/{den} ")
+}
+
 // The command, with `:` behind its name.
 fn list_command(alloc: Global, command: &Command) -> Result<String, Memory> {
     let mut list = String::new(alloc);
@@ -247,6 +274,12 @@ fn list_command(alloc: Global, command: &Command) -> Result<String, Memory> {
         Command::Bounds(fields) => list_fields("bounds:", fields, &mut list)?,
         Command::Range(fields) => list_fields("range:", fields, &mut list)?,
         Command::Iceberg(kind, bound, value) => return list_iceberg(alloc, *kind, *bound, *value),
+        Command::Parents(fields) => list_fields("parents:", fields, &mut list)?,
+        Command::Children(fields) => list_fields("children:", fields, &mut list)?,
+        Command::Rollup(kind, bound, value, fields) => {
+            let words = list_rollup(alloc, *kind, *bound, *value)?;
+            list_fields(words.as_str(), fields, &mut list)?;
+        }
         Command::Stats => list.push_str("stats")?,
     }
     Ok(list)
@@ -279,5 +312,6 @@ fn read_all(rt: &impl Abort, alloc: Global, text: &[u8], lines: &[Line]) -> Resu
 #[test]
 fn lines_are_read(rt: HostRuntime) -> Result<(), Fail> {
     read_all(&rt, rt.alloc(), SHOP, &LINES)?;
-    read_all(&rt, rt.alloc(), SALES, &ICEBERGS)
+    read_all(&rt, rt.alloc(), SALES, &ICEBERGS)?;
+    read_all(&rt, rt.alloc(), SALES, &ROLLUPS)
 }

@@ -36,7 +36,40 @@ type Case = (
 
 const LOAD: &[u8] = b"load base.csv\npoint *,*,*";
 
-static CASES: [Case; 33] = [
+static CASES: [Case; 37] = [
+    // The lattice of classes.
+    (
+        SCHEMA,
+        BASE,
+        NONE,
+        b"load base.csv\nparents S1,P1,*\nchildren *,*,*\nparents *,*,*\nchildren S3,*,*",
+        "applied,1,3,6\nclass,2,*,P1,*,2,15,6,9,15/2\nclass,2,S1,*,s,2,18,6,12,9/1\nend,2,2\n\
+            class,3,*,P1,*,2,15,6,9,15/2\nclass,3,S1,*,s,2,18,6,12,9/1\nend,3,2\nend,4,0\nnone,5\n",
+    ),
+    (
+        SCHEMA,
+        BASE,
+        NONE,
+        b"load base.csv\nrollup sum sale <= 15 *,*,*\nrollup count >= 2\nrollup count >= 9 *,*,*\nrollup count >= 1 S9,*,*",
+        "applied,1,3,6\nclass,2,*,P1,*,2,15,6,9,15/2\nclass,2,S1,P2,s,1,12,12,12,12/1\nend,2,2\nrefused,3,field,4\nend,4,0\nnone,5\n",
+    ),
+    (
+        SCHEMA,
+        BASE,
+        NONE,
+        b"load base.csv\nchildren S1,*,*\nparents S2,*,*\nchildren S1,P2,*\nparents *,*\nchildren ?,*,*",
+        "applied,1,3,6\nclass,2,S1,P1,s,1,6,6,6,6/1\nclass,2,S1,P2,s,1,12,12,12,12/1\nend,2,2\n\
+            class,3,*,P1,*,2,15,6,9,15/2\nend,3,1\nend,4,0\nrefused,5,field,3\nrefused,6,field,1\n",
+    ),
+    (
+        SCHEMA,
+        BASE,
+        NONE,
+        b"parents *,*,*\nload base.csv\nrollup\nrollup sum\nrollup sum price >= 1 *,*,*\nrollup  count >= 2 *,*,*\nrollup count >= \n\
+            rollup count >= x *,*\nrollup count >= x *,*,*\nrollups count >= 1 *,*,*",
+        "none,1\napplied,2,3,6\nrefused,3,field,1\nrefused,4,field,2\nrefused,5,field,2\nrefused,6,field,1\nrefused,7,field,3\n\
+            refused,8,field,6\nrefused,9,number\nrefused,10,command\n",
+    ),
     // Bounds.
     (
         SCHEMA,
