@@ -1,4 +1,5 @@
 use Rattle.std.proofs.Common.{length, arith}
+use Rattle.qc_schema.proofs.Keeping.{dims-few}
 use Rattle.query_script.specs.Faults.{line_fault_in}
 use Rattle.query_script.specs.Records.{record_in}
 use Rattle.query_script.specs.declared.record.Shape.TheVariants as shapes
@@ -9,4 +10,4 @@ pub moved-requires-clause-low : goal.moved-requires-clause-low
 moved-requires-clause-low c =
     let dims = length c.args.schema.now.dims in
     low-cause (line_fault_in c.in-Err.cause) (record_in shapes.Cell dims c.args.rest.now)
-    (λ fault e. record-low shapes.Cell dims c.args.rest.now fault (omega (arith, c.dims-dims.ensures.layout.few_dims)) e) c.in-Err.ensures
+    (λ fault e. record-low shapes.Cell dims c.args.rest.now fault (omega (arith, dims-few c.args.schema.now c.dims-dims.ensures.layout)) e) c.in-Err.ensures
