@@ -116,7 +116,8 @@ pub fn answer_rollup<L: Ledger>(
     requires dims { length asked.now ≡ length warehouse.now.state.schema.dims }
     requires point { All IsCellField asked.now }
     ensures { IfOk result (λ reply. reply_bytes reply
-        ≡ rolled warehouse.now.state number (ask_of warehouse.now.state.schema.measures (kind_in kind) (bound_in bound) (fraction_in value)) (cell_asked asked.now)) }
+        ≡ rolled warehouse.now.state number
+        (ask_of warehouse.now.state.schema.measures (kind_in kind) (bound_in bound) (fraction_in value)) (cell_asked asked.now)) }
 {
     let Some(node) = upper_asked(warehouse, asked, steps) else {
         return Ok(Reply::Short(none(number)));

@@ -77,7 +77,8 @@ fn picked<T: Nodes, L: Ledger>(
     requires tree { IsTree (T.width tree.now) (T.tree tree.now) }
     requires there { AreThere (T.tree tree.now) led.now.items }
     requires sorted { IsSorted nat_cmp led.now.items }
-    ensures each { IfOk result (λ found. (k : ℕ) → Among k (mapped number_of found.items) ↔ IsPicked (T.tree tree.now) values led.now.items (length led.now.items) k) }
+    ensures each { IfOk result (λ found. (k : ℕ) → Among k (mapped number_of found.items)
+        ↔ IsPicked (T.tree tree.now) values led.now.items (length led.now.items) k) }
     ensures once { IfOk result (λ found. IsDistinct nat_eq (mapped number_of found.items)) }
     ensures cells { IfOk result (λ found. AreAt (T.tree tree.now) found.items) }
     ensures steps { steps.new ≤ steps.old + length led.now.items * (2 * T.width tree.now + 2) }

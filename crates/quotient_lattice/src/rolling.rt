@@ -101,7 +101,8 @@ fn visit<T: Nodes, L: Ledger>(
     requires measure { HasMeasure (T.width tree.now) (T.tree tree.now) ask.now.kind }
     requires scale { ask.now.scale ≤ 6 }
     ensures visited { (source : TreeRows) → IsTreeOf (T.width tree.now) (T.tree tree.now) source →
-        OnOk result (IsVisited (T.tree tree.now) source ask.now node.0 seen.old.keys seen.new.keys (mapped number_of met.old.items) (mapped number_of met.new.items)) }
+        OnOk result (IsVisited (T.tree tree.now) source ask.now node.0 seen.old.keys seen.new.keys
+        (mapped number_of met.old.items) (mapped number_of met.new.items)) }
     ensures cells { AreAt (T.tree tree.now) met.old.items → OnOk result (AreAt (T.tree tree.now) met.new.items) }
 {
     if wants(tree, ask, node, steps) {
@@ -195,7 +196,8 @@ pub fn rollup<T: Nodes, L: Ledger>(
     requires scale { ask.now.scale ≤ 6 }
     ensures nodes { (source : TreeRows) → IsTreeOf (T.width tree.now) (T.tree tree.now) source → RowsAreKnown (has_code dict.now.lists) source.rows →
         IfOk result (λ nodes. told_nodes dict.now.lists (T.tree tree.now) nodes.items
-        ≡ lattice.rollup text_cmp source.measures (told_rows dict.now.lists source.rows) (ask_in ask.now) (told_cell dict.now.lists (record_at (T.tree tree.now) node.0).cell)) }
+        ≡ lattice.rollup text_cmp source.measures (told_rows dict.now.lists source.rows) (ask_in ask.now)
+        (told_cell dict.now.lists (record_at (T.tree tree.now) node.0).cell)) }
     ensures classes { IfOk result (λ nodes. All (λ node. IsSome (record_at (T.tree tree.now) node.0).class) nodes.items) }
 {
     let _dims = dict.dims();

@@ -131,7 +131,8 @@ fn joined<T: Nodes, L: Ledger>(
     requires marked { (source : TreeRows) → IsTreeOf (T.width tree.now) (T.tree tree.now) source →
         IsMarkedBelow source u.now marks.now (2 ^ d) }
     ensures nodes { (source : TreeRows) → IsTreeOf (T.width tree.now) (T.tree tree.now) source →
-        IfOk result (λ nodes. map (λ k. cell_at (T.tree tree.now) k.0) nodes.items ≡ map (λ m. Some (cell_of_number u.now m)) (filter (joins source u.now) (range_with_len 0 (2 ^ d)))) }
+        IfOk result (λ nodes. map (λ k. cell_at (T.tree tree.now) k.0) nodes.items
+        ≡ map (λ m. Some (cell_of_number u.now m)) (filter (joins source u.now) (range_with_len 0 (2 ^ d)))) }
     ensures steps { steps.new ≤ steps.old + 2 ^ d * (2 * length u.now + 2) }
 {
     let mut nodes = Vec::new(alloc);
