@@ -4,6 +4,7 @@ use Rattle.std.specs.Prelude.{IfSome, IsSome, option_map, is_some}
 use Rattle.std.specs.FinMap as numbers
 use Rattle.std.specs.Ordering.{nat_cmp, eq_by_cmp}
 use Rattle.std.specs.List.{All}
+use Rattle.cube_laws.proofs.Lists.{all_among}
 use Rattle.cube_defs.specs.Text.{Text, text_cmp, text_eq}
 use Rattle.cube_defs.specs.Cell.{Cell}
 use Rattle.cube_defs.specs.Rows.{Row, agg, closure}
@@ -24,7 +25,6 @@ use Rattle.qc_session.specs.Lattice.{upper_of}
 use Rattle.value_dict.proofs.ToldCells.{fits}
 use Rattle.value_dict.proofs.ToldClasses.{class-told}
 use Rattle.cube_laws.specs.Lists.{Among}
-use Rattle.iceberg_query.proofs.Sorted.{all_among}
 use Rattle.quotient_lattice.specs.Told.{told_nodes}
 use Rattle.value_dict.specs.Recoded.{told_rows}
 use Rattle.qc_session.proofs.Asked.{cell-found}
@@ -88,4 +88,4 @@ moved relation s is lists same before tree t node nodes e =
     (here ∙ ap (λ rows. relation rows (told_cell lists (record_at tree node.0).cell)) (rows-told s is lists same))
 
 pub each-class : (tree : Tree ℕ) (nodes : List NodeNo) → All (λ node. IsSome (record_at tree node.0).class) nodes → (node : NodeNo) → Among node nodes → IsSome (record_at tree node.0).class
-each-class tree nodes all node m = all_among (λ (n : NodeNo). IsSome (record_at tree n.0).class) node nodes all m
+each-class tree nodes all node m = all_among (λ (n : NodeNo). IsSome (record_at tree n.0).class) nodes all node m

@@ -5,6 +5,7 @@ use Rattle.std.specs.List.{All}
 use Rattle.std.specs.Ordering.{nat_cmp, eq_by_cmp}
 use Rattle.std.specs.FinMap as numbers
 use Rattle.std.proofs.lemmas.List.FromFn.{length-map-range_with_len}
+use Rattle.cube_laws.proofs.Lists.{all_among}
 use Rattle.cube_defs.specs.Answers.{ClassHit}
 use Rattle.cube_defs.specs.Cell.{Cell}
 use Rattle.cube_defs.specs.Rows.{Agg, agg, amounts_of, cov, is_class, part_of}
@@ -22,7 +23,6 @@ use Rattle.tree_search.specs.Found.{IsTreeOf, TreeRows}
 use Rattle.tree_search.proofs.Climbed.{wide}
 use Rattle.tree_search.proofs.Walked.{cell_there}
 use Rattle.iceberg_query.specs.Hits.{told_classes}
-use Rattle.iceberg_query.proofs.Sorted.{all_among}
 use Rattle.value_dict.specs.TextLists.{IsDictionary, TextLists}
 use Rattle.value_dict.specs.Recoded.{has_code, text_in, told_rows}
 use Rattle.value_dict.specs.Told as telling

@@ -13,12 +13,11 @@ use Rattle.cube_defs.specs.Tree.{Tree}
 use Rattle.cube_laws.specs.Lists.{Among}
 use Rattle.cube_laws.specs.Parts.{value_count}
 use Rattle.cube_laws.proofs.Closures.{is_class-is}
-use Rattle.cube_laws.proofs.Lists.{take_all}
+use Rattle.cube_laws.proofs.Lists.{all_among, take_all}
 use Rattle.cube_laws.proofs.Orders.{code_equality}
 use Rattle.qc_arena.specs.Seen.{record_at}
 use Rattle.tree_search.specs.Found.{IsTreeOf, TreeRows}
 use Rattle.tree_search.proofs.Climbed.{wide}
-use Rattle.iceberg_query.proofs.Sorted.{all_among}
 use Rattle.quotient_lattice.specs.declared.placed.Placed.{Placed}
 use Rattle.quotient_lattice.specs.Led.{AreFound, AreThere, lead_count, times}
 use Rattle.quotient_lattice.specs.Neighbours.{is_parent}
@@ -56,7 +55,7 @@ module _ (dims : ℕ) (tree : Tree ℕ) (source : TreeRows) (h : IsTreeOf dims t
     where
       to : IsPicked tree values sorted (length sorted) k → IsPassing tree source (λ d. is_parent nat_cmp source.rows u d) k
       to p =
-          let t : IsSome (numbers.get tree k) = all_among (λ k. IsSome (numbers.get tree k)) k sorted there (times_among k sorted p.some) in
+          let t : IsSome (numbers.get tree k) = all_among (λ k. IsSome (numbers.get tree k)) sorted there k (times_among k sorted p.some) in
           let often = as_often k t in
           let l : (i : ℕ) × Leads source u (cell k) i = one_leads source u (cell k) dims long (omega (arith, often, p.some)) in
           let low = led_above source u (cell k) l.0 l.1 in

@@ -13,7 +13,7 @@ use Rattle.cube_laws.specs.Lists.{Among}
 use Rattle.cube_laws.specs.Parts.{value_count}
 use Rattle.cube_laws.proofs.Cells.{cell_eq-exact, cell_eq-from, leq_antisymm, leq_trans}
 use Rattle.cube_laws.proofs.Listed.{classes-is}
-use Rattle.cube_laws.proofs.Lists.{among_filter, among_map, filter_among, map_among}
+use Rattle.cube_laws.proofs.Lists.{all_among, among_filter, among_map, filter_among, map_among}
 use Rattle.cube_laws.proofs.Orders.{code_equality, leq_is}
 use Rattle.qc_arena.specs.Seen.{record_at}
 use Rattle.tree_search.specs.Found.{IsTreeOf, TreeRows}
@@ -21,7 +21,6 @@ use Rattle.tree_search.proofs.Climbed.{wide}
 use Rattle.tree_search.proofs.Walked.{cell_there}
 use Rattle.iceberg_query.specs.declared.ask.Ask.{Ask}
 use Rattle.iceberg_query.specs.Asked.{ask_in}
-use Rattle.iceberg_query.proofs.Sorted.{all_among}
 use Rattle.quotient_lattice.specs.declared.placed.Placed.{Placed}
 use Rattle.quotient_lattice.specs.Neighbours.{is_no_other, is_rolled, qualifies}
 use Rattle.quotient_lattice.specs.Placed.{AreAt, IsPassing, number_of}
@@ -50,7 +49,7 @@ lowest_once p (x ∷ xs) d = go (lowest_once p xs d.1) (p x)
     go more false = more
 
 pub lowest_at : (tree : Tree ℕ) (p : Placed → Bool) (xs : List Placed) → AreAt tree xs → AreAt tree (filter p xs)
-lowest_at tree p xs at = all_items _ (filter p xs) (λ x m. all_among (λ (x : Placed). (record_at tree x.node.0).cell ≡ x.cell) x xs at (filter_among p x xs m).0)
+lowest_at tree p xs at = all_items _ (filter p xs) (λ x m. all_among (λ (x : Placed). (record_at tree x.node.0).cell ≡ x.cell) xs at x (filter_among p x xs m).0)
 
 module _ (dims : ℕ) (tree : Tree ℕ) (source : TreeRows) (h : IsTreeOf dims tree source) (ask : Ask) (start : ℕ) (met : List Placed) (at : AreAt tree met) (are : AreMet tree source ask start (map number_of met)) where
   abbrev cell : ℕ → Cell ℕ
@@ -66,7 +65,7 @@ module _ (dims : ℕ) (tree : Tree ℕ) (source : TreeRows) (h : IsTreeOf dims t
   rolled d = is_rolled nat_cmp source.measures source.rows (ask_in ask) u d
 
   own : (x : Placed) → Among x met → cell (number_of x) ≡ x.cell
-  own x m = all_among (λ (x : Placed). cell (number_of x) ≡ x.cell) x met at m
+  own x m = all_among (λ (x : Placed). cell (number_of x) ≡ x.cell) met at x m
 
   number_met : (x : Placed) → Among x met → Among (number_of x) (map number_of met)
   number_met x m = map_among number_of x met m

@@ -16,7 +16,7 @@ use Rattle.cube_defs.specs.Tree.{Node, Tree, classes}
 use Rattle.cube_laws.specs.Lists.{Among}
 use Rattle.cube_laws.specs.Recoding.{AreKnown, RowsAreKnown, coded_cell}
 use Rattle.cube_laws.proofs.Covered.{cell_anti, cell_total}
-use Rattle.cube_laws.proofs.Lists.{among_map, map_among}
+use Rattle.cube_laws.proofs.Lists.{all_among, among_map, map_among}
 use Rattle.cube_laws.proofs.Orders.{code_equality, equality_by, is_equal}
 use Rattle.cube_laws.proofs.Recoded.{coded-apart}
 use Rattle.cell_core.specs.declared.cell.NodeNo.{NodeNo}
@@ -26,7 +26,7 @@ use Rattle.tree_search.proofs.Walked.{cell_there}
 use Rattle.value_dict.specs.TextLists.{IsDictionary, TextLists}
 use Rattle.value_dict.specs.Told as telling
 use Rattle.value_dict.specs.Recoded.{has_code, text_in, told_rows}
-use Rattle.iceberg_query.proofs.Sorted.{all_among, among_permutation, flips, once_permutation, sorted_rises}
+use Rattle.iceberg_query.proofs.Sorted.{among_permutation, flips, once_permutation, sorted_rises}
 use Rattle.quotient_lattice.specs.declared.placed.Placed.{Placed}
 use Rattle.quotient_lattice.specs.Placed.{AreAt, IsPassing, is_before, node_of, number_of, place_cmp, told_place}
 use Rattle.quotient_lattice.specs.Told.{told_node, told_nodes}
@@ -79,7 +79,7 @@ module _ (dims : ℕ) (tree : Tree ℕ) (source : TreeRows) (h : IsTreeOf dims t
 
       -- the cell that goes with a node is its own
       own : (x : Placed) → Among x found → cell (number_of x) ≡ x.cell
-      own x m = all_among (λ (x : Placed). cell (number_of x) ≡ x.cell) x found at m
+      own x m = all_among (λ (x : Placed). cell (number_of x) ≡ x.cell) found at x m
 
       known : (x : Placed) → Among x found → AreKnown (has_code dict.lists) 0 (cell (number_of x))
       known x m = class_known dims tree dict source h dictionary rows_known same_dims (cell (number_of x)) ((each (number_of x)).0 (map_among number_of x found m)).class

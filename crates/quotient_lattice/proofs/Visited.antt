@@ -80,11 +80,11 @@ all_front ks (x ∷ xs) =
     joined [] ys zs = refl
     joined (x ∷ xs) ys zs = ap (λ ws. x ∷ ws) (joined xs ys zs)
 
-pub all_among : (ks xs : List ℕ) (j : ℕ) → Among j (insert_all nat_eq ks xs) ↔ (Among j ks ⊎ Among j xs)
-all_among ks [] j = (λ m. inl m, λ s. elim s [ inl m ↦ m | inr n ↦ absurd n ])
-all_among ks (x ∷ xs) j =
+pub inserted_among : (ks xs : List ℕ) (j : ℕ) → Among j (insert_all nat_eq ks xs) ↔ (Among j ks ⊎ Among j xs)
+inserted_among ks [] j = (λ m. inl m, λ s. elim s [ inl m ↦ m | inr n ↦ absurd n ])
+inserted_among ks (x ∷ xs) j =
     let a = one_among ks x j in
-    let b : Among j (insert_all nat_eq (insert_key nat_eq ks x) xs) ↔ (Among j (insert_key nat_eq ks x) ⊎ Among j xs) = all_among (insert_key nat_eq ks x) xs j in (
+    let b : Among j (insert_all nat_eq (insert_key nat_eq ks x) xs) ↔ (Among j (insert_key nat_eq ks x) ⊎ Among j xs) = inserted_among (insert_key nat_eq ks x) xs j in (
       λ m. elim (b.0 m) [ inl p ↦ elim (a.0 p) [ inl q ↦ inl q | inr e ↦ inr (inl e) ] | inr q ↦ inr (inr q) ],
       λ s. b.1 (elim s [ inl p ↦ inl (a.1 (inl p)) | inr q ↦ elim q [ inl e ↦ inl (a.1 (inr e)) | inr m ↦ inr m ] ]),
     )
@@ -101,7 +101,7 @@ module _ (dims : ℕ) (tree : Tree ℕ) (source : TreeRows) (h : IsTreeOf dims t
   visited_take = ap (take (i + 1)) front.1 ∙ take-append-le (i + 1) seen front.0 (omega arith) ∙ take_more seen i 0 l ∙ ap (λ y. take i seen ++ y ∷ []) at
 
   still : (k : ℕ) → Among k seen → Among k after
-  still k m = subst (Among k) (sym v.seen_more) ((all_among seen v.found k).1 (inl m))
+  still k m = subst (Among k) (sym v.seen_more) ((inserted_among seen v.found k).1 (inl m))
 
   pub visited_seen : AreSeen tree source ask start after (i + 1)
   visited_seen = record { above = above; on = on }
@@ -115,7 +115,7 @@ module _ (dims : ℕ) (tree : Tree ℕ) (source : TreeRows) (h : IsTreeOf dims t
           there (y ∷ xs) (suc i) l = inr (there xs i (omega arith))
 
       above : (k : ℕ) → Among k after → IsPassing tree source (λ d. leq (eq_by_cmp nat_cmp) (cell start) d) k
-      above k m = elim ((all_among seen v.found k).0 (subst (Among k) v.seen_more m)) [
+      above k m = elim ((inserted_among seen v.found k).0 (subst (Among k) v.seen_more m)) [
         | inl a ↦ was.above k a
         | inr b ↦
             let p = ((v.each k).0 b).1 in
@@ -128,7 +128,7 @@ module _ (dims : ℕ) (tree : Tree ℕ) (source : TreeRows) (h : IsTreeOf dims t
         | inl a ↦ still j (was.on k a w j p)
         | inr b ↦ elim b [
           | inl e ↦
-              subst (Among j) (sym v.seen_more) ((all_among seen v.found j).1 (inr ((v.each j).1 (ap (wants tree ask) (sym e) ∙ w, subst (λ y. IsPassing tree source (λ d. is_parent nat_cmp source.rows (cell y) d) j) e p))))
+              subst (Among j) (sym v.seen_more) ((inserted_among seen v.found j).1 (inr ((v.each j).1 (ap (wants tree ask) (sym e) ∙ w, subst (λ y. IsPassing tree source (λ d. is_parent nat_cmp source.rows (cell y) d) j) e p))))
           | inr n ↦ absurd n
         ]
       ]

@@ -217,9 +217,10 @@ fn change_rows<L: Ledger>(
     }
     let first = table.places();
     match add_rows(schema, table, dict, &batch, alloc) {
-        Ok(()) => Ok(first),
-        Err(refused) => Err(refused),
+        Ok(()) => {}
+        Err(refused) => return Err(refused),
     }
+    Ok(first)
 }
 
 // Makes the tree of the table's rows anew. After a refusal the tree is none in particular.

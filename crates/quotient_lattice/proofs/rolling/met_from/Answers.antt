@@ -10,7 +10,7 @@ use Rattle.quotient_lattice.specs.Placed.{number_of}
 use Rattle.quotient_lattice.specs.Visits.{AreSeen, wants}
 use Rattle.quotient_lattice.proofs.ChildNodes.{once_none}
 use Rattle.quotient_lattice.proofs.ParentNodes.{class_some}
-use Rattle.quotient_lattice.proofs.Visited.{all_among, all_met, all_once, alone, first_seen, grown, none_met, visited_met, visited_once, visited_seen}
+use Rattle.quotient_lattice.proofs.Visited.{inserted_among, all_met, all_once, alone, first_seen, grown, none_met, visited_met, visited_once, visited_seen}
 use Rattle.quotient_lattice.proofs.rolling.met_from.Goals as goal
 
 pub seen-init : goal.seen-init
@@ -54,7 +54,7 @@ seen-preserved g c =
     let v = c.in-Ok.ensures.visited source h in
     record {
       within = omega (arith, l, grown seen after v.found v.seen_more);
-      first = subst (Among c.args.node.0) (sym v.seen_more) ((all_among seen v.found c.args.node.0).1 (inl inv.first));
+      first = subst (Among c.args.node.0) (sym v.seen_more) ((inserted_among seen v.found c.args.node.0).1 (inl inv.first));
       apart = subst (IsDistinct nat_eq) (sym v.seen_more) (all_once seen v.found inv.apart);
       seen = λ source h. visited_seen n tree source h ask c.args.node.0 seen after c.seen.i x l at met more (inv.seen source h) (c.in-Ok.ensures.visited source h);
       each = visited_met n tree source h ask c.args.node.0 seen after c.seen.i x l at met more (inv.seen source h) v inv.apart inv.each;
