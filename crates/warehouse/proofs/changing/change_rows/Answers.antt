@@ -71,8 +71,8 @@ returns-in-Err-add_rows-clause-cause g c =
     c.requires.once c.in-Ok.ensures.none c.in-Ok.ensures.rows c.first_present.ensures c.in_default.is c.rows.ensures c.is_full.ensures c.if-is_full.false)
     (rw full at c.in-Err-add_rows.ensures.full)
 
-pub returns-in-Ok-add_rows-clause-last : goal.returns-in-Ok-add_rows-clause-last
-returns-in-Ok-add_rows-clause-last g c =
+pub returns-clause-last : goal.returns-clause-last
+returns-clause-last g c =
     let s = state_of c.args.schema.now c.args.dict.now c.args.table.now in
     let changes = c.args.batch.changes in
     let now = c.add_rows.new.dict in
@@ -82,8 +82,8 @@ returns-in-Ok-add_rows-clause-last g c =
     c.requires.once c.in-Ok.ensures.none c.in-Ok.ensures.rows c.first_present.ensures c.in_default.is c.rows.ensures c.is_full.ensures c.if-is_full.false
     ∙ ap (λ (o : Option ℕ). or_else (option_map (λ (dim : ℕ). batches.ValuesFull dim) o) (last_refusal s changes)) within
 
-pub returns-in-Ok-add_rows-clause-made : goal.returns-in-Ok-add_rows-clause-made
-returns-in-Ok-add_rows-clause-made g c =
+pub returns-clause-made : goal.returns-clause-made
+returns-clause-made g c =
     let lists = c.args.dict.now.lists in
     let rows = rows_of c.args.table.now in
     let left = rows_of c.delete_rows.new.table in
