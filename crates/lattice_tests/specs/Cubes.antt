@@ -4,8 +4,8 @@ use Rattle.std.specs.Bool.{⊤}
 use Rattle.cube_defs.specs.Tree.{Tree}
 use Rattle.aggregates.specs.Views.{IsThere}
 use Rattle.tree_search.specs.Found.{IsTreeOf, TreeRows}
-use Rattle.lattice_tests.specs.declared.lines.Question.{Question}
-use Rattle.lattice_tests.specs.declared.lines.Question.TheVariants.{Parents, Children, Rollup}
+use Rattle.lattice_tests.specs.declared.question.Question.{Question}
+use Rattle.lattice_tests.specs.declared.question.Question.TheVariants.{Parents, Children, Rollup}
 
 -- the tree is that of some rows of three dimensions and one measure
 abbrev pub IsOfOneMeasure : Tree ℕ → Type 0

@@ -6,7 +6,8 @@ ghost use Rattle.qc_arena.specs.Seen.{record_at};
 ghost use Rattle.lattice_tests.specs.Cubes.{IsAskable, IsOfOneMeasure};
 
 use crate::cube::{cell_of, dict_of, lines_of, table_of, tree_of};
-use crate::lines::{Line, Question, Sale, cell_at, is_class, is_right};
+use crate::lines::{Line, Sale, cell_at, is_class, is_right};
+use crate::question::Question;
 use aggregates::{AggKind, read_fraction};
 use cell_core::{NodeNo, Steps};
 use iceberg_query::{Ask, Bound};

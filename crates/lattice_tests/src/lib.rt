@@ -7,3 +7,6 @@ mod cube;
 mod lattices;
 #[cfg(test)]
 mod lines;
+mod question;
+
+pub use question::Question;

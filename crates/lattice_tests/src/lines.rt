@@ -1,5 +1,6 @@
 // The definitions of the lattice over all cells of a cube of three dimensions.
 
+use crate::question::Question;
 use aggregates::{AggKind, Fraction};
 use iceberg_query::{Ask, Bound};
 use std::cmp::Ordering;
@@ -15,14 +16,6 @@ pub(crate) const ANY: u8 = 3;
 pub(crate) struct Sale {
     pub(crate) values: Line,
     pub(crate) amount: i64,
-}
-
-/// What is asked of a class.
-#[derive(Clone, Copy)]
-pub(crate) enum Question {
-    Parents,
-    Children,
-    Rollup(Ask),
 }
 
 /// The cell with a place among all, counted from 0 to 63.
