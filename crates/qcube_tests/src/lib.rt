@@ -6,11 +6,7 @@ mod batches;
 #[cfg(test)]
 mod bounds;
 #[cfg(test)]
-mod faults;
-#[cfg(test)]
 mod generated;
-#[cfg(test)]
-mod long;
 #[cfg(test)]
 mod many;
 #[cfg(test)]

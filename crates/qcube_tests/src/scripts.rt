@@ -68,7 +68,7 @@ pub struct Ran {
     pub err: MemorySink,
 }
 
-pub fn words(alloc: Global) -> Result<Vec<String>, AllocError> {
+fn words(alloc: Global) -> Result<Vec<String>, AllocError> {
     let mut words = Vec::new(alloc);
     for word in ["run", "schema", "script"] {
         words.push(String::from_str(alloc, word)?)?;
