@@ -5,15 +5,18 @@ use qc_io::{RealFiles, RealSink};
 use qc_session::run;
 use std::alloc::AllocError;
 use std::env;
+use std::io::ErrorKind;
 use std::process::ExitCode;
 
 const OUT_OF_MEMORY: u8 = 5;
 
-// The words after the program's name, and none where they can't be had as texts.
+// The words after the program's name, and none where they are no texts.
 fn words_of(rt: &HostRuntime) -> Result<Vec<String>, AllocError> {
     let mut words = Vec::new(rt.alloc());
-    let Ok(args) = env::args(rt) else {
-        return Ok(words);
+    let args = match env::args(rt) {
+        Ok(args) => args,
+        Err(error) if error.kind() == ErrorKind::OutOfMemory => return Err(AllocError),
+        Err(_) => return Ok(words),
     };
     for word in args.skip(1) {
         words.push(word)?;
