@@ -1,8 +1,8 @@
 #!/usr/bin/env bash
 # Measures PROGRAM beside another program of the same words and replies, on the same inputs, in turn: ratios of the median
 # processor times of five runs, and of the median peak memory. Loads of 300,000, 50,000 and 400,000 rows of 6 skewed dimensions,
-# points behind a load, ranges, bounds, icebergs by a walk and by indexes, what three index lines add to a load, batches with and
-# without them, 500,000 rows and points of one dimension, and generated runs.
+# points behind a load, ranges, bounds, parents and children of classes, icebergs by a walk and by indexes, what three index lines
+# add to a load, batches with and without them, 500,000 rows and points of one dimension, and generated runs.
 #
 #     bench/beside.sh OTHER [PROGRAM]
 #
@@ -50,6 +50,8 @@ def cells(word, many):
 
 script("points", cells("point", 200_000))
 script("bounds", cells("bounds", 20_000))
+script("parents", cells("parents", 2_000))
+script("children", cells("children", 2_000))
 script("ranges", ("range " + ",".join(box_field(name, n) for name, n in zip("abcdef", counts)) for _ in range(1_000)))
 script("icebergs", (line for k in range(17) for line in (
     f"iceberg count >= {1_000 + 600 * k}", f"iceberg sum sale >= {2_000_000 + 200_000 * k}", f"iceberg mean sale >= {14_980 + k}.5")))
@@ -109,8 +111,9 @@ def behind(name, script, schema, load, most):
 load = medians("run", "rows.schema", "load300000")
 say("load of 300,000 rows", load[0][0], load[1][0], "s", 1.25)
 say("    its peak", load[0][1], load[1][1], "MiB", 1.2)
-for name in ("points", "bounds", "ranges", "icebergs", "batches"):
-    behind(name, name, "rows.schema", load, 1.1 if name == "points" else 1.25)
+bounds = {"points": 1.1, "parents": 1.5, "children": 1.5}
+for name in ("points", "bounds", "parents", "children", "ranges", "icebergs", "batches"):
+    behind(name, name, "rows.schema", load, bounds.get(name, 1.25))
 indexed = medians("run", "indexed.schema", "load300000")
 say("what three index lines add", indexed[0][0] - load[0][0], indexed[1][0] - load[1][0], "s", 1.25)
 for name in ("icebergs", "batches"):

@@ -1,6 +1,6 @@
 #!/usr/bin/env bash
-# 1,000 ranges and 50 icebergs over 300,000 rows of 6 skewed dimensions, icebergs with indexes and without, and what three
-# indexes add to a load: times, beside another program of the same commands where one is named.
+# 1,000 ranges, the parents and children of 2,000 classes and 50 icebergs over 300,000 rows of 6 skewed dimensions, icebergs with
+# indexes and without, and what three indexes add to a load: times, beside another program of the same commands where one is named.
 #
 #     bench/queries.sh [PROGRAM [OTHER]]
 #
@@ -41,6 +41,12 @@ with open("ranges", "w") as file:
     file.write("load rows.csv\n")
     for _ in range(1_000):
         file.write("range " + ",".join(field(name, n) for name, n in zip("abcdef", counts)) + "\n")
+for word in ("parents", "children"):
+    with open(word, "w") as file:
+        file.write("load rows.csv\n")
+        for _ in range(2_000):
+            texts = draw.choice(rows)
+            file.write(word + " " + ",".join("*" if draw.random() < 0.5 else text for text in texts) + "\n")
 with open("icebergs", "w") as file:
     file.write("load rows.csv\n")
     for k in range(17):
@@ -60,7 +66,9 @@ loads = {schema: [best(p, "run", f"{schema}.schema", "load") for p in programs] 
 extra = [indexed[0] - plain[0] for indexed, plain in zip(loads["indexed"], loads["plain"])]
 print(f"load {loads['plain'][0][0]:.2f} s, {loads['plain'][0][2] / 2**20:.0f} MiB; three indexes add {extra[0]:.2f} s and "
       f"{(loads['indexed'][0][2] - loads['plain'][0][2]) / 2**20:.0f} MiB{ratio(extra)}")
-for schema, script, one in (("plain", "ranges", "cell,"), ("plain", "icebergs", "class,"), ("indexed", "icebergs", "class,")):
+asked = (("plain", "ranges", "cell,"), ("plain", "parents", "class,"), ("plain", "children", "class,"), ("plain", "icebergs", "class,"),
+         ("indexed", "icebergs", "class,"))
+for schema, script, one in asked:
     runs = [best(p, "run", f"{schema}.schema", script) for p in programs]
     assert all(out == runs[0][1] for _, out, _ in runs), script
     answers = sum(line.startswith(one) for line in runs[0][1])
