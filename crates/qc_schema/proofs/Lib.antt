@@ -6,3 +6,4 @@ mod Reading
 mod Wording
 pub mod Returning
 mod Spelled
+mod Widening

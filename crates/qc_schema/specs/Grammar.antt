@@ -75,6 +75,10 @@ two_words words = Err Words
 abbrev pub is_used : Layout → Text → Bool
 is_used l name = list_any (λ y. bytes_eq y name) (names_of l)
 
+-- whether a column that is added may have the name
+abbrev pub is_new_name : Layout → Text → Bool
+is_new_name l word = is_name word && not (is_used l word)
+
 abbrev pub new_name : Layout → Text → Result Text SchemaCause
 new_name l word = if is_name word && not (is_used l word) then Ok word else Err Name
 

@@ -1,5 +1,5 @@
 -- What a schema says, and what the grammar keeps of each.
-use Rattle.std.specs.Prelude.{ℕ, Bool, true, false, not, ◌≡◌, ◌≤◌, ◌&&◌, ◌==◌, List, [], ◌∷◌, ◌++◌, length, map, codes, nat_le, slice_index}
+use Rattle.std.specs.Prelude.{ℕ, Bool, true, not, ◌≡◌, ◌≤◌, ◌&&◌, ◌==◌, List, [], ◌∷◌, ◌++◌, length, map, codes, nat_le, slice_index}
 use Rattle.std.specs.Char.{is_ascii_alphabetic, is_ascii_alphanumeric}
 use Rattle.std.specs.List.{list_all, list_any, AllByRecursion}
 use Rattle.std.specs.Prelude.{◌||◌}
@@ -57,6 +57,10 @@ is_name name = is_ascii_alphabetic (slice_index name 0) && list_all is_name_byte
 -- the names of the id, the dimensions and the measures
 abbrev pub names_of : Layout → List Text
 names_of l = l.id ∷ (l.dims ++ map (λ m. m.name) l.measures)
+
+-- one more dimension behind the others
+abbrev pub with_dim : Layout → Text → Layout
+with_dim l name = record l { dims = l.dims ++ name ∷ [] }
 
 -- no element is equal to one behind it
 abbrev pub all_different : {X : Type 0} → (X → X → Bool) → List X → Bool

@@ -1,19 +1,20 @@
 // What the lines of a schema say.
-ghost use Rattle.std.specs.Prelude.{◌≡◌, ◌≤◌, map, length, string_bytes};
+ghost use Rattle.std.specs.Prelude.{IfOk, [], ◌∷◌, ◌++◌, ◌≡◌, ◌≤◌, map, length, string_bytes};
 ghost use Rattle.std.specs.List.{list_any};
 ghost use Rattle.std.specs.Str.{bytes_eq};
-ghost use Rattle.qc_schema.specs.Grammar.{is_used, kind_named, kind_of, measure_from, new_kind, new_name, start};
+ghost use Rattle.qc_schema.specs.Grammar.{is_new_name, is_used, kind_named, kind_of, measure_from, new_kind, new_name, start};
 ghost use Rattle.text_lines.specs.Cuts.{words_of};
 ghost use Rattle.aggregates.specs.Views.{same_kind};
 ghost use Rattle.cell_core.specs.Gives.{Gives};
 ghost use Rattle.qc_schema.specs.Progress.{cause_in, layout_in, measure_in};
+ghost use Rattle.qc_schema.specs.Schema.{with_dim};
 
 use crate::limits::{DEFAULT_NODES, SchemaVersion};
 use crate::lines::only_word;
 use crate::refusal::{SchemaCause, SchemaLineRefused};
-use crate::words::name_in;
+use crate::words::{is_good_name, name_in};
 use aggregates::{AggKind, same_kind};
-use cube_defs::{MAX_CODES, MAX_MEASURES, MAX_ROWS};
+use cube_defs::{MAX_CODES, MAX_MEASURES, MAX_ROWS, Memory};
 use std::alloc::Global;
 use text_lines::split_word;
 
@@ -106,6 +107,31 @@ fn has_kind(kinds: &Vec<AggKind>, kind: AggKind) -> bool
     false
 }
 
+// The names, copied, and one more behind them.
+fn names_and(alloc: Global, names: &Vec<String>, last: &str) -> Result<Vec<String>, Memory>
+    ensures { IfOk result (λ more. map string_bytes more.items ≡ map string_bytes names.now.items ++ last.now ∷ []) }
+{
+    let mut more = Vec::with_capacity(alloc, names.len() + 1)?;
+    for name in names {
+        more.push(String::from_str(alloc, name.as_str())?)?;
+    }
+    more.push(String::from_str(alloc, last)?)?;
+    Ok(more)
+}
+
+// The measures, copied.
+fn copied_measures(alloc: Global, measures: &Vec<Measure>) -> Result<Vec<Measure>, Memory>
+    ensures { IfOk result (λ copy. map measure_in copy.items ≡ map measure_in measures.now.items) }
+{
+    let mut copy = Vec::with_capacity(alloc, measures.len())?;
+    for measure in measures {
+        let name = String::from_str(alloc, measure.name.as_str())?;
+        let scale = measure.scale;
+        copy.push(Measure { name, scale })?;
+    }
+    Ok(copy)
+}
+
 impl Draft {
     /// Nothing read yet, and what holds by default.
     pub fn new(alloc: Global) -> Draft
@@ -132,6 +158,33 @@ impl Draft {
             return true;
         }
         has_name(&self.dims, name) || has_measure(&self.measures, name)
+    }
+
+    /// Whether the word is a name that isn't used yet.
+    pub fn may_name(&self, word: &[u8]) -> bool
+        ensures { result ≡ is_new_name (layout_in self.now) word.now }
+    {
+        is_good_name(word) && !self.has_column(word)
+    }
+
+    /// The same, with one more dimension behind the others.
+    pub fn with_dim(&self, alloc: Global, name: &str) -> Result<Draft, Memory>
+        ensures { IfOk result (λ draft. layout_in draft ≡ with_dim (layout_in self.now) name.now) }
+    {
+        let id = String::from_str(alloc, self.id.as_str())?;
+        let dims = names_and(alloc, &self.dims, name)?;
+        let measures = copied_measures(alloc, &self.measures)?;
+        let indexes = Vec::from_slice(alloc, self.indexes.as_slice())?;
+        Ok(Draft {
+            version: self.version,
+            id,
+            dims,
+            measures,
+            indexes,
+            nodes: self.nodes,
+            rows: self.rows,
+            values: self.values,
+        })
     }
 
     /// The word, where it is a name that isn't used yet.

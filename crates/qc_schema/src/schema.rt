@@ -1,8 +1,8 @@
 // A schema, and what it says.
-ghost use Rattle.std.specs.Prelude.{◌≡◌, ◌≤◌, ◌<◌, ◌+◌, [], length, map, slice_index_or};
-ghost use Rattle.qc_schema.specs.Grammar.{measure_from, read_lines, schema_in, start};
+ghost use Rattle.std.specs.Prelude.{IfOk, true, ◌≡◌, ◌≤◌, ◌<◌, ◌+◌, [], length, map, slice_index_or};
+ghost use Rattle.qc_schema.specs.Grammar.{is_new_name, measure_from, read_lines, schema_in, start};
 ghost use Rattle.text_lines.specs.Lines.{lines_of, without_cr};
-ghost use Rattle.qc_schema.specs.Schema.{IsLayout, no_measure, version_number, version_word};
+ghost use Rattle.qc_schema.specs.Schema.{IsLayout, max_dims, no_measure, version_number, version_word, with_dim};
 ghost use Rattle.cell_core.specs.Gives.{Gives};
 ghost use Rattle.qc_schema.specs.Progress.{layout_in, schema_fault_in};
 
@@ -10,7 +10,7 @@ use crate::draft::{Draft, measure_named};
 use crate::reader::SchemaReader;
 use crate::refusal::{SchemaCause, SchemaRefused};
 use aggregates::AggKind;
-use cube_defs::MAX_FILE;
+use cube_defs::{MAX_FILE, Memory};
 use std::alloc::Global;
 use std::marker::Model;
 use text_lines::{split_line, trim_cr, trim_mark};
@@ -126,6 +126,31 @@ impl Schema {
         ensures { result ≡ self.now.values }
     {
         self.draft.values
+    }
+
+    /// How many dimensions there may be in the version.
+    pub fn max_dims(&self) -> u8
+        ensures { result ≡ max_dims self.now.version }
+    {
+        self.draft.version.max_dims()
+    }
+
+    /// Whether a dimension that is added may have this name: it is in the grammar of names, isn't `op`,
+    /// and neither the id nor a dimension nor a measure has it.
+    pub fn may_name(&self, name: &[u8]) -> bool
+        ensures { result ≡ is_new_name self.now name.now }
+    {
+        self.draft.may_name(name)
+    }
+
+    /// The schema with one more dimension, behind the others. All else is the same.
+    pub fn with_dim(&self, alloc: Global, name: &str) -> Result<Schema, Memory>
+        requires few { length self.now.dims < max_dims self.now.version }
+        requires new { is_new_name self.now name.now ≡ true }
+        ensures { IfOk result (λ schema. schema ≡ with_dim self.now name.now) }
+    {
+        let draft = self.draft.with_dim(alloc, name)?;
+        Ok(Schema { draft })
     }
 }
 

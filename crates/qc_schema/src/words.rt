@@ -16,7 +16,8 @@ fn has_name_bytes(word: &[u8]) -> bool
     word.iter().all(|b| b.is_ascii_alphanumeric() || *b == b'_')
 }
 
-fn is_good_name(word: &[u8]) -> bool
+/// Whether the word is a name.
+pub fn is_good_name(word: &[u8]) -> bool
     ensures { result ≡ is_name word.now }
 {
     if word.is_empty() || word.len() > 32 || word == b"op".as_slice() {

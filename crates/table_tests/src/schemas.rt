@@ -215,3 +215,77 @@ fn each_measure_has_its_scale(rt: HostRuntime) -> Result<(), Fail> {
     }
     Ok(())
 }
+
+// The text of a schema with one more dimension, where there may be one of this name.
+fn wider_text(alloc: Global, text: &[u8], name: &str) -> Result<Option<Vec<u8>>, AllocError> {
+    if text.len() > 1000 {
+        return Ok(None);
+    }
+    let Ok(schema) = read_schema(alloc, text) else {
+        return Ok(None);
+    };
+    if schema.dims() >= schema.max_dims() || !schema.may_name(name.as_bytes()) {
+        return Ok(None);
+    }
+    let wider = schema.with_dim(alloc, name)?;
+    Ok(Some(schema_text(alloc, &wider)?))
+}
+
+// Whether a schema gets a dimension of the name and has this text then, or gets none where the text is
+// empty.
+fn is_wider(alloc: Global, text: &[u8], name: &str, want: &[u8]) -> Result<bool, AllocError> {
+    match wider_text(alloc, text, name)? {
+        Some(wider) => Ok(wider.as_slice() == want),
+        None => Ok(want.is_empty()),
+    }
+}
+
+static WIDER: [(&[u8], &str, &[u8]); 11] = [
+    (
+        b"qcube 1\nid i\ndim a\nmeasure m 2\nindex mean m\nindex count\nnodes 7\nrows 8\nvalues 9\n",
+        "year",
+        b"qcube 1\nid i\ndim a\ndim year\nmeasure m 2\nindex mean m\nindex count\nnodes 7\nrows 8\nvalues 9\n",
+    ),
+    (
+        b"qcube 2\nid i\ndim a\ndim b\nmeasure m 6\nmeasure n 0\nindex sum n\n",
+        "_",
+        b"",
+    ),
+    (
+        b"qcube 2\nid i\ndim a\ndim b\nmeasure m 6\nmeasure n 0\nindex sum n\n",
+        "A",
+        b"qcube 2\nid i\ndim a\ndim b\ndim A\nmeasure m 6\nmeasure n 0\nindex sum n\nnodes 1000000\nrows 1000000\nvalues 4000000\n",
+    ),
+    (b"qcube 1\nid i\ndim a\nmeasure m 2\n", "op", b""),
+    (b"qcube 1\nid i\ndim a\nmeasure m 2\n", "i", b""),
+    (b"qcube 1\nid i\ndim a\nmeasure m 2\n", "a", b""),
+    (b"qcube 1\nid i\ndim a\nmeasure m 2\n", "m", b""),
+    (
+        b"qcube 1\nid i\ndim a\nmeasure m 2\n",
+        "abcdefghijklmnopqrstuvwxyz0123456",
+        b"",
+    ),
+    (
+        b"qcube 1\nid i\ndim a\ndim b\ndim c\ndim d\ndim e\ndim f\ndim g\ndim h\ndim k\ndim l\ndim m\ndim n\n",
+        "o",
+        b"",
+    ),
+    (
+        b"qcube 2\nid i\ndim a\ndim b\ndim c\ndim d\ndim e\ndim f\ndim g\ndim h\ndim k\ndim l\ndim m\ndim n\ndim o\ndim p\ndim q\n",
+        "r",
+        b"qcube 2\nid i\ndim a\ndim b\ndim c\ndim d\ndim e\ndim f\ndim g\ndim h\ndim k\ndim l\ndim m\ndim n\ndim o\ndim p\ndim q\ndim r\nnodes 1000000\nrows 1000000\nvalues 4000000\n",
+    ),
+    (
+        b"qcube 2\nid i\ndim a\ndim b\ndim c\ndim d\ndim e\ndim f\ndim g\ndim h\ndim k\ndim l\ndim m\ndim n\ndim o\ndim p\ndim q\ndim r\n",
+        "s",
+        b"",
+    ),
+];
+
+#[test]
+fn a_dimension_more(rt: HostRuntime) -> Result<(), Fail> {
+    for (text, name, want) in &WIDER {
+        assert!(rt; is_wider(rt.alloc(), *text, *name, *want)?, "{name}");
+    }
+    Ok(())
+}

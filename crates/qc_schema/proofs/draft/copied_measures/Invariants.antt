@@ -1,0 +1,6 @@
+use Rattle.std.proofs.Common.{◌≡◌, map, take}
+use Rattle.qc_schema.specs.Progress.{measure_in}
+use Rattle.qc_schema.proofs.draft.copied_measures.Given as goal
+
+abbrev pub invariant-loop-measure : goal.invariant-loop-measure
+invariant-loop-measure l = map measure_in l.copy.items ≡ map measure_in (take l.measure-index l.measures.items)
