@@ -19,9 +19,15 @@ enum Step {
     Order(Code, Code, Ordering),
     /// Each list is cut to its first texts, so many of each.
     Cut([u32; 2]),
+    /// A dimension is added, with this text.
+    Added(&'static str),
+    /// The last dimension goes.
+    Dropped,
+    /// How many dimensions there are.
+    Dims(u8),
 }
 
-use Step::{Code as CodeOf, Cut, Learnt, Len, Order, Text};
+use Step::{Added, Code as CodeOf, Cut, Dims, Dropped, Learnt, Len, Order, Text};
 
 fn is_learnt(dict: &mut Dict, dim: u8, text: &str, want: Result<Code, Learn>) -> bool {
     dim < dict.dims() && dict.learn(dim, text) == want
@@ -47,6 +53,18 @@ fn is_cut(dict: &mut Dict, lens: &[u32]) -> bool {
     true
 }
 
+fn is_added(dict: &mut Dict, text: &str) -> bool {
+    dict.dims() < 16 && dict.add_dim(text).is_ok()
+}
+
+fn is_dropped(dict: &mut Dict) -> bool {
+    if dict.dims() < 2 {
+        return false;
+    }
+    dict.drop_dim();
+    true
+}
+
 // Whether a step gives what it says.
 fn holds(dict: &mut Dict, step: Step) -> bool {
     match step {
@@ -56,11 +74,14 @@ fn holds(dict: &mut Dict, step: Step) -> bool {
         Len(dim, want) => is_len(dict, dim, want),
         Order(a, b, want) => dict.rank_cmp(0, a, b) == want,
         Cut(lens) => is_cut(dict, &lens),
+        Added(text) => is_added(dict, text),
+        Dropped => is_dropped(dict),
+        Dims(want) => dict.dims() == want,
     }
 }
 
-// Two dimensions of at most two texts each.
-static STEPS: [Step; 21] = [
+// Two dimensions of at most two texts each, and for a while a third.
+static STEPS: [Step; 34] = [
     Learnt(0, "S2", Ok(0)),
     Learnt(0, "S1", Ok(1)),
     Learnt(0, "S2", Ok(0)),
@@ -82,6 +103,19 @@ static STEPS: [Step; 21] = [
     Learnt(0, "S3", Ok(1)),
     Cut([0, 0]),
     CodeOf(0, "S2", None),
+    Learnt(0, "S1", Ok(0)),
+    Added("2003"),
+    Dims(3),
+    Len(2, 1),
+    CodeOf(2, "2003", Some(0)),
+    Text(2, 0, "2003"),
+    Learnt(2, "2004", Ok(1)),
+    Learnt(2, "2005", Err(Learn::Full)),
+    CodeOf(1, "2003", None),
+    CodeOf(0, "S1", Some(0)),
+    Dropped,
+    Dims(2),
+    CodeOf(0, "S1", Some(0)),
 ];
 
 #[test]

@@ -1,5 +1,5 @@
 -- What a contract sees of a dictionary.
-use Rattle.std.specs.Prelude.{ℕ, ◌<◌, ◌≤◌, All, List, [], map, length, slice_index_or, slice_set, replicate, ◌++◌, ◌∷◌, take, Option, Some, None, String, string_bytes, position, is_some, if◌then◌else◌}
+use Rattle.std.specs.Prelude.{ℕ, ◌<◌, ◌≤◌, ◌-◌, All, List, [], map, length, slice_index_or, slice_set, replicate, ◌++◌, ◌∷◌, take, Option, Some, None, String, string_bytes, position, is_some, if◌then◌else◌}
 use Rattle.std.specs.List.{IsDistinct}
 use Rattle.std.specs.Option.{option_map, option_and_then}
 use Rattle.std.specs.Str.{bytes_eq}
@@ -53,6 +53,14 @@ abbrev pub cut : List (List Text) → List ℕ → List (List Text)
 cut [] lens = []
 cut (texts ∷ lists) [] = texts ∷ lists
 cut (texts ∷ lists) (len ∷ lens) = take len texts ∷ cut lists lens
+
+-- one more dimension behind the others, whose list is this text
+abbrev pub with_dim : TextLists → Text → TextLists
+with_dim d text = record d { lists = d.lists ++ (text ∷ []) ∷ [] }
+
+-- all dimensions but the last
+abbrev pub without_last_dim : TextLists → TextLists
+without_last_dim d = record d { lists = take (length d.lists - 1) d.lists }
 
 -- the entry that a field asks for: Any, or the code of one text that is there
 abbrev pub entry_in : List Text → Field → Option (Option ℕ)

@@ -5,10 +5,11 @@
 ghost use Rattle.cell_core.specs.Entry.{IsCode, IsSmall, value_in};
 ghost use Rattle.std.specs.Option.{option_map};
 ghost use Rattle.std.specs.Prelude.{Err, IfOk, IfSome, None, OnErr, OnOk, Some, length, slice_get, ◌<◌, ◌≡◌, ◌≤◌, ◌↔◌};
-ghost use Rattle.value_dict.specs.TextLists.{IsDictionary, cell_in, code_in, cut, entry_in, learnt, list_at, no_texts};
+ghost use Rattle.value_dict.specs.TextLists.{IsDictionary, cell_in, code_in, cut, entry_in, learnt, list_at, no_texts, with_dim, without_last_dim};
 
 mod asked;
 mod boxes;
+mod law;
 mod order;
 mod sets;
 
@@ -17,6 +18,7 @@ use cell_core::{Cell, Code, Entry, Field, Fields};
 pub use cube_defs::Memory;
 use cube_defs::{MAX_CODES, MAX_DIMS};
 use indexmap::IndexSet;
+pub use law::a_dimension_that_came_goes;
 use std::alloc::{AllocError, Global};
 use std::marker::Model;
 use thiserror::Error;
@@ -132,6 +134,27 @@ impl Dict {
         ensures dictionary { IsDictionary self.new }
     {
         sets::cut_back(&mut self.lists, lens);
+    }
+
+    /// One more dimension behind the others, whose list is this text.
+    pub fn add_dim(&mut self, text: &str) -> Result<(), Memory>
+        requires few { length self.old.lists < MAX_DIMS }
+        ensures ok { OnOk result (self.new ≡ with_dim self.old text.now) }
+        ensures err { OnErr result (self.new ≡ self.old) }
+        ensures dictionary { IsDictionary self.new }
+    {
+        let list = sets::only(*self.lists.allocator(), text)?;
+        self.lists.push(list)?;
+        Ok(())
+    }
+
+    /// The last dimension goes, with its texts. It takes no memory.
+    pub fn drop_dim(&mut self)
+        requires some { 1 < length self.old.lists }
+        ensures value { self.new ≡ without_last_dim self.old }
+        ensures dictionary { IsDictionary self.new }
+    {
+        self.lists.pop();
     }
 
     // The entry that a field asks for, where it asks for Any or for one text that is there.
