@@ -11,7 +11,8 @@ use Rattle.cube_defs.specs.Cell.{Cell, cell_of}
 use Rattle.cube_defs.specs.Rows.{Row}
 use Rattle.base_table.specs.Last.{picked}
 use Rattle.base_table.specs.Places.{IsRow, row_of, values_of}
-use Rattle.base_table.specs.Store.{IsStore, StoredRows, code_or_any, fingerprint, id_of, picked_lines, print_of, rows_from}
+use Rattle.base_table.proofs.Placed.{picked-le}
+use Rattle.base_table.specs.Store.{IsStore, StoredRows, code_or_any, id_of, picked_lines, print_in, print_of, rows_from}
 
 -- the values of a tuple's cell
 pub values-codes : (cell : Cell ℕ) → All (λ entry. is_some entry ≡ true) cell → values_of cell ≡ map code_or_any cell
@@ -58,7 +59,7 @@ All-picked P (false ∷ kept) (x ∷ xs) h = All-picked P kept xs (All-tail P x 
 plus_one : (l w : ℕ) → l * w + w ≡ (l + 1) * w
 plus_one l w = grind arith
 
-one_line : (l n : ℕ) → suc l * n ≡ n + l * n
+pub one_line : (l n : ℕ) → suc l * n ≡ n + l * n
 one_line l n = grind arith
 
 module _ {A : Type 0} where
@@ -108,11 +109,11 @@ module _ (n m : ℕ) where
   amounts_at (id ∷ ids) codes amounts zero d h = ap (take m) (sym (no_lines m amounts))
   amounts_at (id ∷ ids) codes amounts (suc k) d h = amounts_at ids (drop n codes) (drop m amounts) k d (omega arith) ∙ ap (take m) (deeper m k amounts)
 
-  same_row : (id : ℕ) {t u : List ℕ} {a b : List ℤ} {rest more : List (Row ℕ)} → t ≡ u → a ≡ b → rest ≡ more
+  pub same_row : (id : ℕ) {t u : List ℕ} {a b : List ℤ} {rest more : List (Row ℕ)} → t ≡ u → a ≡ b → rest ≡ more
       → ◌≡◌ {A = List (Row ℕ)} (record { id = id; tuple = t; amounts = a } ∷ rest) (record { id = id; tuple = u; amounts = b } ∷ more)
   same_row id e f g = λ j. record { id = id; tuple = e j; amounts = f j } ∷ g j
 
-  same_parts : (ids : List ℕ) {c e : List ℕ} {a b : List ℤ} → c ≡ e → a ≡ b → rows_from n m ids c a ≡ rows_from n m ids e b
+  pub same_parts : (ids : List ℕ) {c e : List ℕ} {a b : List ℤ} → c ≡ e → a ≡ b → rows_from n m ids c a ≡ rows_from n m ids e b
   same_parts ids e f = λ j. rows_from n m ids (e j) (f j)
 
   pub rows-push : (ids codes : List ℕ) (amounts : List ℤ) (id : ℕ) (c : List ℕ) (a : List ℤ) → length codes ≡ length ids * n → length amounts ≡ length ids * m → length c ≡ n → length a ≡ m
@@ -146,9 +147,9 @@ module _ (n m : ℕ) where
   rows-keep (false ∷ kept) (id ∷ ids) codes amounts e hc ha = rows-keep kept ids (drop n codes) (drop m amounts) (omega arith) (rest_len n (length ids) codes hc) (rest_len m (length ids) amounts ha)
 
   -- the store after a row more
-  pub store_pushed : (ids prints codes : List ℕ) (amounts : List ℤ) (id : ℕ) (tuple : Cell ℕ) (a : List ℤ) → IsStore n m ids prints codes amounts → All (λ entry. is_some entry ≡ true) tuple → IsRow n m (row_of id tuple a)
-      → IsStore n m (ids ++ id ∷ []) (prints ++ fingerprint tuple ∷ []) (codes ++ values_of tuple) (amounts ++ a)
-  store_pushed ids prints codes amounts id tuple a s full r =
+  pub store_pushed : (k t : ℕ) (ids prints codes : List ℕ) (amounts : List ℤ) (room more id : ℕ) (tuple : Cell ℕ) (a : List ℤ) → IsStore n m k t ids prints codes amounts room → (length ids + 1) * 16 ≤ more → All (λ entry. is_some entry ≡ true) tuple → IsRow n m (row_of id tuple a)
+      → IsStore n m k t (ids ++ id ∷ []) (prints ++ print_in k tuple ∷ []) (codes ++ values_of tuple) (amounts ++ a) more
+  store_pushed k t ids prints codes amounts room more id tuple a s fits full r =
       let rows = rows_from n m ids codes amounts in
       let new : rows_from n m (ids ++ id ∷ []) (codes ++ values_of tuple) (amounts ++ a) ≡ rows ++ row_of id tuple a ∷ [] = rows-push ids codes amounts id (values_of tuple) a s.codes_len s.amounts_len r.tuple r.amounts in
       record {
@@ -156,16 +157,19 @@ module _ (n m : ℕ) where
         few_measures = s.few_measures;
         codes_len = length-append codes (values_of tuple) ∙ ap₂ (λ p q. p + q) s.codes_len r.tuple ∙ more_lines (length ids) n (length (ids ++ id ∷ [])) (length-append ids (id ∷ []));
         amounts_len = length-append amounts a ∙ ap₂ (λ p q. p + q) s.amounts_len r.amounts ∙ more_lines (length ids) m (length (ids ++ id ∷ [])) (length-append ids (id ∷ []));
-        prints_are = ap₂ (λ p q. p ++ fingerprint q ∷ []) s.prints_are (sym (cell-values tuple full)) ∙ sym (map-append print_of rows (row_of id tuple a ∷ [])) ∙ ap (map print_of) (sym new);
+        prints_are = ap₂ (λ p q. p ++ print_in k q ∷ []) s.prints_are (sym (cell-values tuple full)) ∙ sym (map-append (print_of k) rows (row_of id tuple a ∷ [])) ∙ ap (map (print_of k)) (sym new);
+        keyed_le = s.keyed_le;
+        then_le = s.then_le;
+        room_for_all = omega (arith, fits, length-append ids (id ∷ []));
         each = subst (All (IsRow n m)) (sym new) (All-push (IsRow n m) rows (row_of id tuple a) s.each r);
       }
     where
       more_lines : (l w k : ℕ) → k ≡ l + 1 → l * w + w ≡ k * w
       more_lines l w k e = plus_one l w ∙ ap (λ k. k * w) (sym e)
 
-  pub store_cut : (len : ℕ) (ids prints codes : List ℕ) (amounts : List ℤ) → IsStore n m ids prints codes amounts → len ≤ length ids
-      → IsStore n m (take len ids) (take len prints) (take (len * n) codes) (take (len * m) amounts)
-  store_cut len ids prints codes amounts s h =
+  pub store_cut : (k t len : ℕ) (ids prints codes : List ℕ) (amounts : List ℤ) (room more : ℕ) → IsStore n m k t ids prints codes amounts room → room ≤ more → len ≤ length ids
+      → IsStore n m k t (take len ids) (take len prints) (take (len * n) codes) (take (len * m) amounts) more
+  store_cut k t len ids prints codes amounts room more s le h =
       let rows = rows_from n m ids codes amounts in
       let new : rows_from n m (take len ids) (take (len * n) codes) (take (len * m) amounts) ≡ take len rows = rows-take len ids codes amounts in
       record {
@@ -173,16 +177,19 @@ module _ (n m : ℕ) where
         few_measures = s.few_measures;
         codes_len = length-take-le (len * n) codes (shorter len (length ids) n (length codes) h s.codes_len) ∙ ap (λ k. k * n) (sym (length-take-le len ids h));
         amounts_len = length-take-le (len * m) amounts (shorter len (length ids) m (length amounts) h s.amounts_len) ∙ ap (λ k. k * m) (sym (length-take-le len ids h));
-        prints_are = ap (take len) s.prints_are ∙ take-map print_of len rows ∙ ap (map print_of) (sym new);
+        prints_are = ap (take len) s.prints_are ∙ take-map (print_of k) len rows ∙ ap (map (print_of k)) (sym new);
+        keyed_le = s.keyed_le;
+        then_le = s.then_le;
+        room_for_all = omega (arith, s.room_for_all, le, h, length-take-le len ids h);
         each = subst (All (IsRow n m)) (sym new) (All-take (IsRow n m) len rows s.each);
       }
     where
       shorter : (l k w c : ℕ) → l ≤ k → c ≡ k * w → l * w ≤ c
       shorter l k w c h e = omega (arith, e, mul-le l w k w h (omega arith))
 
-  pub store_kept : (kept : List Bool) (ids prints codes : List ℕ) (amounts : List ℤ) → IsStore n m ids prints codes amounts → length kept ≡ length ids
-      → IsStore n m (picked kept ids) (picked kept prints) (picked_lines n kept codes) (picked_lines m kept amounts)
-  store_kept kept ids prints codes amounts s h =
+  pub store_kept : (k t : ℕ) (kept : List Bool) (ids prints codes : List ℕ) (amounts : List ℤ) (room more : ℕ) → IsStore n m k t ids prints codes amounts room → room ≤ more → length kept ≡ length ids
+      → IsStore n m k t (picked kept ids) (picked kept prints) (picked_lines n kept codes) (picked_lines m kept amounts) more
+  store_kept k t kept ids prints codes amounts room more s le h =
       let rows = rows_from n m ids codes amounts in
       let new : rows_from n m (picked kept ids) (picked_lines n kept codes) (picked_lines m kept amounts) ≡ picked kept rows = rows-keep kept ids codes amounts h s.codes_len s.amounts_len in
       record {
@@ -190,12 +197,15 @@ module _ (n m : ℕ) where
         few_measures = s.few_measures;
         codes_len = length-lines n kept ids codes h s.codes_len;
         amounts_len = length-lines m kept ids amounts h s.amounts_len;
-        prints_are = ap (picked kept) s.prints_are ∙ picked-map print_of kept rows ∙ ap (map print_of) (sym new);
+        prints_are = ap (picked kept) s.prints_are ∙ picked-map (print_of k) kept rows ∙ ap (map (print_of k)) (sym new);
+        keyed_le = s.keyed_le;
+        then_le = s.then_le;
+        room_for_all = omega (arith, s.room_for_all, le, h, picked-le kept ids);
         each = subst (All (IsRow n m)) (sym new) (All-picked (IsRow n m) kept rows s.each);
       }
 
   -- the row at a place of a store
-  module _ (ids prints codes : List ℕ) (amounts : List ℤ) (s : IsStore n m ids prints codes amounts) (rows : StoredRows) (view : ◌≡◌ {A = StoredRows} (record { dims = n; measures = m; rows = rows_from n m ids codes amounts }) rows) where
+  module _ (keyed then : ℕ) (ids prints codes : List ℕ) (amounts : List ℤ) (room : ℕ) (s : IsStore n m keyed then ids prints codes amounts room) (rows : StoredRows) (view : ◌≡◌ {A = StoredRows} (record { dims = n; dims_then = then; keyed = keyed; measures = m; rows = rows_from n m ids codes amounts }) rows) where
     pub length-view : length rows.rows ≡ length ids
     length-view = sym (ap (λ (r : StoredRows). length r.rows) view) ∙ length-rows ids codes amounts
 
@@ -217,8 +227,8 @@ module _ (n m : ℕ) where
     pub ids-view : ids ≡ map id_of rows.rows
     ids-view = sym (ids-rows ids codes amounts) ∙ ap (λ (r : StoredRows). map id_of r.rows) view
 
-    pub prints-view : prints ≡ map print_of rows.rows
-    prints-view = s.prints_are ∙ ap (λ (r : StoredRows). map print_of r.rows) view
+    pub prints-view : prints ≡ map (print_of rows.keyed) rows.rows
+    prints-view = s.prints_are ∙ ap (λ (r : StoredRows). map (print_of r.keyed) r.rows) view
 
     pub length-prints : length prints ≡ length ids
-    length-prints = ap length s.prints_are ∙ length-map (rows_from n m ids codes amounts) print_of ∙ length-rows ids codes amounts
+    length-prints = ap length s.prints_are ∙ length-map (rows_from n m ids codes amounts) (print_of keyed) ∙ length-rows ids codes amounts

@@ -1,15 +1,16 @@
 -- A table's parts stay in step.
 use Rattle.std.proofs.Common.{◌≡◌, ℕ, ◌+◌, ◌-◌, ◌*◌, ◌^◌, ◌<◌, ◌≤◌, Bool, true, false, cond, if◌then◌else◌, List, [], ◌∷◌, ◌++◌, Option, Some, None, IfSome, length, take, map, get_or, set, refl, ap, ap₂, sym, ◌∙◌, subst, arith, suc, nat_eq, is_some, true≢false, length-append}
-use Rattle.std.specs.List.{All}
-use Rattle.std.proofs.lemmas.List.{get_or_default, length-set, length-take-le, take-append-le, take_all}
+use Rattle.std.specs.List.{All, IsDistinct}
+use Rattle.std.proofs.lemmas.List.{get_or_default, length-map, length-set, length-take-le, take-append-le, take-map, take_all}
 use Rattle.std.proofs.lemmas.List.Elements.{All-nil, All-push, All-take}
 use Rattle.cube_defs.specs.Rows.{Row}
 use Rattle.base_table.specs.Last.{last_of, picked}
-use Rattle.base_table.specs.Places.{Base, AreRows, IsRow, IsTable, Places, cleared, has_id, rows_in}
-use Rattle.base_table.specs.Store.{AreLast, IsFound, AreTableFields, IsMarked, StoredRows, id_of, marks_then, placed, places_with, restored}
+use Rattle.base_table.specs.Places.{Base, AreRows, IsRow, IsTable, Places, cleared, has_id, narrowed, rows_in, with_code}
+use Rattle.base_table.specs.Store.{AreLast, IsFound, AreTableFields, base_then, IsMarked, StoredRows, id_of, marks_then, placed, places_with, restored}
 use Rattle.base_table.proofs.Batches.{distinct_ids, last_fewer, last_pushed, length-noted, length-restored, marks_stay, noted, noted_below}
-use Rattle.base_table.proofs.Columns.{All-picked}
+use Rattle.base_table.proofs.Columns.{All-picked, picked-map}
 use Rattle.base_table.proofs.Placed.{IsAt, at_place, length-placed, placed_at, picked-append, picked-le, picked-push, picked-take, picked_fewer, placed_goes, rows_in-placed}
+use Rattle.base_table.proofs.Wider.{All-mapped, ids_mapped, marked_mapped, narrowed-all, narrowed-longer, row-longer, row-shorter}
 
 -- some rows of so many dimensions
 abbrev pub base : ℕ → List (Row ℕ) → Base
@@ -30,6 +31,14 @@ are_rows dims measures here rows count max m each = record {
   distinct = distinct_ids here rows m.last;
 }
 
+-- the same rows with the first dimensions alone
+rows_shorter : (dims measures max v : ℕ) (rows : List (Row ℕ)) → v ≤ dims → AreRows dims measures max rows → AreRows v measures max (map (narrowed v) rows)
+rows_shorter dims measures max v rows le h = record {
+  few = omega (arith, length-map rows (narrowed v), h.few);
+  each = All-mapped (IsRow dims measures) (IsRow v measures) (narrowed v) (λ row r. row-shorter dims measures v row le r) rows h.each;
+  distinct = subst (IsDistinct nat_eq) (sym (ids_mapped (narrowed v) (λ row. refl) rows)) h.distinct;
+}
+
 module _ (store : StoredRows) (here : List Bool) (touched : List ℕ) (room begun count_then : ℕ) (o : Bool) (count max : ℕ) (h : AreTableFields store here touched room begun count_then o count max) where
   pub length-marks : length (marks_then here touched begun) ≡ begun
   length-marks = length-restored touched (take begun here) ∙ length-take-le begun here h.begun_le
@@ -41,11 +50,12 @@ module _ (store : StoredRows) (here : List Bool) (touched : List ℕ) (room begu
   pub now_rows : rows_in (placed here store.rows) ≡ picked here store.rows
   now_rows = rows_in-placed here store.rows
 
-  were : (o : Bool) → IfSome (if o then Some (base store.dims (picked (marks_then here touched begun) store.rows)) else None) (λ b. AreRows b.dims store.measures max b.rows)
+  were : (o : Bool) → IfSome (if o then Some (base_then store (picked (marks_then here touched begun) store.rows)) else None) (λ b. AreRows b.dims store.measures max b.rows)
   were false = tt
   were true =
-      subst (AreRows store.dims store.measures max) then_rows
-      (are_rows store.dims store.measures (marks_then here touched begun) (take begun store.rows) count_then max h.was_then (All-take (IsRow store.dims store.measures) begun store.rows h.each))
+      rows_shorter store.dims store.measures max store.dims_then (picked (marks_then here touched begun) store.rows) h.then_le
+      (subst (AreRows store.dims store.measures max) then_rows
+      (are_rows store.dims store.measures (marks_then here touched begun) (take begun store.rows) count_then max h.was_then (All-take (IsRow store.dims store.measures) begun store.rows h.each)))
 
   pub valid : IsTable (places_with store here touched begun o max)
   valid = record {
@@ -83,10 +93,10 @@ module _ (store : StoredRows) (here : List Bool) (touched : List ℕ) (room begu
     count-view = h.is_now.count_is ∙ ap length rows-view
 
     pub closed-view : t.was ≡ None → o ≡ false
-    closed-view e = is_closed o (base store.dims (picked (marks_then here touched begun) store.rows)) (ap (λ (t : Places). t.was) view ∙ e)
+    closed-view e = is_closed o (base_then store (picked (marks_then here touched begun) store.rows)) (ap (λ (t : Places). t.was) view ∙ e)
 
     pub open-view : is_some t.was ≡ true → o ≡ true
-    open-view e = is_opened o (base store.dims (picked (marks_then here touched begun) store.rows)) (ap (λ (t : Places). is_some t.was) view ∙ e)
+    open-view e = is_opened o (base_then store (picked (marks_then here touched begun) store.rows)) (ap (λ (t : Places). is_some t.was) view ∙ e)
 
     pub at-view : (k : ℕ) → is_some (get_or t.places k None) ≡ true → IsAt here store.rows k
     at-view k e = at_place here store.rows k h.places (ap (λ (t : Places). is_some (get_or t.places k None)) view ∙ e)
@@ -117,6 +127,9 @@ pub begun_table : (store : StoredRows) (here : List Bool) (touched : List ℕ) (
 begun_table store here touched room begun count_then count max h = record {
   some_dims = h.some_dims;
   few_dims = h.few_dims;
+  some_then = h.some_then;
+  then_le = h.then_le;
+  closed_dims = λ f. absurd (true≢false f);
   few_measures = h.few_measures;
   some_rows = h.some_rows;
   few_rows = h.few_rows;
@@ -133,10 +146,12 @@ begun_table store here touched room begun count_then count max h = record {
   room_for_all = h.room_for_all;
 }
 
-pub begun_rows : (store : StoredRows) (here : List Bool) (touched : List ℕ) (room begun count_then count max : ℕ) → AreTableFields store here touched room begun count_then false count max → picked (marks_then here touched begun) store.rows ≡ rows_in (placed here store.rows)
+pub begun_rows : (store : StoredRows) (here : List Bool) (touched : List ℕ) (room begun count_then count max : ℕ) → AreTableFields store here touched room begun count_then false count max → map (narrowed store.dims_then) (picked (marks_then here touched begun) store.rows) ≡ rows_in (placed here store.rows)
 begun_rows store here touched room begun count_then count max h =
     let c = h.closed refl in
-    ap₂ (λ (ps : List ℕ) (n : ℕ). picked (restored ps (take n here)) store.rows) c.1 c.0 ∙ ap (λ (l : List Bool). picked l store.rows) (take_all (length here) here (omega arith)) ∙ sym (rows_in-placed here store.rows)
+    ap (λ n. map (narrowed n) (picked (marks_then here touched begun) store.rows)) (h.closed_dims refl)
+    ∙ narrowed-all store.dims store.measures (picked (marks_then here touched begun) store.rows) (All-picked (IsRow store.dims store.measures) (marks_then here touched begun) store.rows h.each)
+    ∙ ap₂ (λ (ps : List ℕ) (n : ℕ). picked (restored ps (take n here)) store.rows) c.1 c.0 ∙ ap (λ (l : List Bool). picked l store.rows) (take_all (length here) here (omega arith)) ∙ sym (rows_in-placed here store.rows)
 
 -- a row more
 pub put_table : (store : StoredRows) (here : List Bool) (touched : List ℕ) (room room' begun count_then count max : ℕ) (row : Row ℕ) → AreTableFields store here touched room begun count_then true count max
@@ -145,6 +160,9 @@ pub put_table : (store : StoredRows) (here : List Bool) (touched : List ℕ) (ro
 put_table store here touched room room' begun count_then count max row h r absent free small more = record {
   some_dims = h.some_dims;
   few_dims = h.few_dims;
+  some_then = h.some_then;
+  then_le = h.then_le;
+  closed_dims = λ f. absurd (true≢false f);
   few_measures = h.few_measures;
   some_rows = h.some_rows;
   few_rows = h.few_rows;
@@ -181,6 +199,9 @@ take_table store here touched room begun count_then count max k h lt there =
     record {
       some_dims = h.some_dims;
       few_dims = h.few_dims;
+      some_then = h.some_then;
+      then_le = h.then_le;
+      closed_dims = λ f. absurd (true≢false f);
       few_measures = h.few_measures;
       some_rows = h.some_rows;
       few_rows = h.few_rows;
@@ -214,8 +235,8 @@ taken_places store here touched room begun count_then o count max k d h a =
 
 -- no batch is open, and the table is as it is
 pub settled_table : (store : StoredRows) (here : List Bool) (room n count max : ℕ) → 0 < store.dims → store.dims ≤ 16 → store.measures ≤ 4 → 0 < max → max ≤ 1000000 → length here < 2 ^ 32 → length store.rows ≡ length here → All (IsRow store.dims store.measures) store.rows
-    → IsMarked here store.rows count max → n ≡ length here → length here ≤ 2 * count → length here ≤ room → AreTableFields store here [] room n count false count max
-settled_table store here room n count max some_dims few_dims few_measures some_rows few_rows few_places places each is_now e dense room_for_all = record {
+    → IsMarked here store.rows count max → n ≡ length here → length here ≤ 2 * count → length here ≤ room → store.dims_then ≡ store.dims → AreTableFields store here [] room n count false count max
+settled_table store here room n count max some_dims few_dims few_measures some_rows few_rows few_places places each is_now e dense room_for_all as_many = record {
   some_dims = some_dims;
   few_dims = few_dims;
   few_measures = few_measures;
@@ -231,16 +252,61 @@ settled_table store here room n count max some_dims few_dims few_measures some_r
   begun_le = omega (arith, e);
   dense = omega (arith, e, dense);
   closed = λ _. (e, refl);
+  some_then = omega (arith, as_many, some_dims);
+  then_le = omega (arith, as_many);
+  closed_dims = λ _. as_many;
   touched_below = All-nil (λ k. k < n);
   touched_le = omega (arith, is_now.count_is, picked-le here store.rows);
   room_for_all = room_for_all;
 }
 
--- the batch is taken back
+-- the batch is taken back: the rows of then, with the dimensions of then
+abbrev pub rolled_store : StoredRows → ℕ → StoredRows
+rolled_store store begun = record store { dims = store.dims_then; rows = map (narrowed store.dims_then) (take begun store.rows) }
+
 pub rolled_table : (store : StoredRows) (here : List Bool) (touched : List ℕ) (room begun count_then : ℕ) (o : Bool) (count max : ℕ) → AreTableFields store here touched room begun count_then o count max
-    → AreTableFields (record store { rows = take begun store.rows }) (marks_then here touched begun) [] room begun count_then false count_then max
+    → AreTableFields (rolled_store store begun) (marks_then here touched begun) [] room begun count_then false count_then max
 rolled_table store here touched room begun count_then o count max h =
     let len : length (marks_then here touched begun) ≡ begun = length-marks store here touched room begun count_then o count max h in
-    settled_table (record store { rows = take begun store.rows }) (marks_then here touched begun) room begun count_then max h.some_dims h.few_dims h.few_measures h.some_rows h.few_rows
-    (omega (arith, len, h.few_places, h.begun_le)) (omega (arith, len, length-take-le begun store.rows (omega (arith, h.begun_le, h.places)))) (All-take (IsRow store.dims store.measures) begun store.rows h.each)
-    h.was_then (omega (arith, len)) (omega (arith, len, h.dense)) (omega (arith, len, h.begun_le, h.room_for_all))
+    let rows = take begun store.rows in
+    let many : length rows ≡ begun = length-take-le begun store.rows (omega (arith, h.begun_le, h.places)) in
+    settled_table (rolled_store store begun) (marks_then here touched begun) room begun count_then max h.some_then (omega (arith, h.then_le, h.few_dims)) h.few_measures h.some_rows h.few_rows
+    (omega (arith, len, h.few_places, h.begun_le)) (omega (arith, len, many, length-map rows (narrowed store.dims_then)))
+    (All-mapped (IsRow store.dims store.measures) (IsRow store.dims_then store.measures) (narrowed store.dims_then) (λ row r. row-shorter store.dims store.measures store.dims_then row h.then_le r) rows (All-take (IsRow store.dims store.measures) begun store.rows h.each))
+    (marked_mapped (narrowed store.dims_then) (λ row. refl) (marks_then here touched begun) rows count_then max (omega (arith, len, many)) h.was_then)
+    (omega (arith, len)) (omega (arith, len, h.dense)) (omega (arith, len, h.begun_le, h.room_for_all)) refl
+
+-- one dimension more
+pub wider_table : (store : StoredRows) (here : List Bool) (touched : List ℕ) (room begun count_then count max code : ℕ) → store.dims < 16 → code < 4000000 → AreTableFields store here touched room begun count_then true count max
+    → AreTableFields (record store { dims = store.dims + 1; rows = map (with_code code) store.rows }) here touched room begun count_then true count max
+wider_table store here touched room begun count_then count max code few small h = record {
+  some_dims = omega arith;
+  few_dims = omega (arith, few);
+  some_then = h.some_then;
+  then_le = omega (arith, h.then_le);
+  closed_dims = λ f. absurd (true≢false f);
+  few_measures = h.few_measures;
+  some_rows = h.some_rows;
+  few_rows = h.few_rows;
+  few_places = h.few_places;
+  places = length-map store.rows (with_code code) ∙ h.places;
+  each = All-mapped (IsRow store.dims store.measures) (IsRow (store.dims + 1) store.measures) (with_code code) (λ row r. row-longer store.dims store.measures code row small r) store.rows h.each;
+  is_now = marked_mapped (with_code code) (λ row. refl) here store.rows count max (omega (arith, h.places)) h.is_now;
+  was_then =
+      subst (λ (l : List (Row ℕ)). IsMarked (marks_then here touched begun) l count_then max) (sym (take-map (with_code code) begun store.rows))
+      (marked_mapped (with_code code) (λ row. refl) (marks_then here touched begun) (take begun store.rows) count_then max
+      (omega (arith, length-marks store here touched room begun count_then true count max h, length-take-le begun store.rows (omega (arith, h.begun_le, h.places)))) h.was_then);
+  begun_le = h.begun_le;
+  dense = h.dense;
+  closed = λ f. absurd (true≢false f);
+  touched_below = h.touched_below;
+  touched_le = h.touched_le;
+  room_for_all = h.room_for_all;
+}
+
+-- the rows of then, whose tuples have no more codes than then
+pub wider_then : (store : StoredRows) (here : List Bool) (touched : List ℕ) (room begun count_then : ℕ) (o : Bool) (count max code : ℕ) → AreTableFields store here touched room begun count_then o count max
+    → map (narrowed store.dims_then) (picked (marks_then here touched begun) (map (with_code code) store.rows)) ≡ map (narrowed store.dims_then) (picked (marks_then here touched begun) store.rows)
+wider_then store here touched room begun count_then o count max code h =
+    ap (map (narrowed store.dims_then)) (picked-map (with_code code) (marks_then here touched begun) store.rows)
+    ∙ narrowed-longer store.dims store.measures store.dims_then code (picked (marks_then here touched begun) store.rows) h.then_le (All-picked (IsRow store.dims store.measures) (marks_then here touched begun) store.rows h.each)

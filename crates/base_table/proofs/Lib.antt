@@ -7,4 +7,6 @@ pub mod Keep
 pub mod LastPlaces
 pub mod Numbers
 pub mod Placed
+pub mod Stretched
+pub mod Wider
 pub mod Widths

@@ -1,5 +1,5 @@
 -- What a contract sees of a table: places, each with a row or empty. A row's number is its place.
-use Rattle.std.specs.Prelude.{ℕ, ℤ, true, ◌≡◌, ◌<◌, ◌≤◌, ◌^◌, ◌==◌, Bool, true, not, nat_abs, nat_eq, List, [], ◌∷◌, ◌++◌, length, filter, filter_map, map, slice_index_or, is_some, pos, replicate, ◌-◌, Option, Some, None, IfSome, if◌then◌else◌}
+use Rattle.std.specs.Prelude.{ℕ, ℤ, true, ◌≡◌, ◌<◌, ◌≤◌, ◌+◌, ◌^◌, ◌==◌, Bool, true, not, nat_abs, nat_eq, List, [], ◌∷◌, ◌++◌, length, filter, filter_map, map, slice_index_or, is_some, option_map, pos, replicate, take, ◌-◌, Option, Some, None, IfSome, if◌then◌else◌}
 use Rattle.std.specs.List.{All, IsDistinct, find, list_any, range_with_len}
 use Rattle.aggregates.specs.Bounds.{largest_amount}
 use Rattle.cube_defs.specs.Cell.{Cell, cell_of, cell_eq}
@@ -76,6 +76,18 @@ row_of id tuple amounts = record { id = id; tuple = values_of tuple; amounts = a
 abbrev pub cleared : ℕ → Option (Row ℕ) → Option (Row ℕ)
 cleared id None = None
 cleared id (Some row) = if row.id == id then None else Some row
+
+-- a row with one code more, behind the others
+abbrev pub with_code : ℕ → Row ℕ → Row ℕ
+with_code code row = record row { tuple = row.tuple ++ code ∷ [] }
+
+-- a row with its first so many codes alone
+abbrev pub narrowed : ℕ → Row ℕ → Row ℕ
+narrowed dims row = record row { tuple = take dims row.tuple }
+
+-- one dimension more behind the others, in which each row has the code
+abbrev pub widened : ℕ → Places → Places
+widened code t = record t { dims = t.dims + 1; places = map (option_map (with_code code)) t.places }
 
 -- four amounts, those behind the measures zero
 abbrev pub padded : List ℤ → List ℤ

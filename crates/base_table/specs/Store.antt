@@ -1,17 +1,21 @@
 -- What a store of rows keeps: the ids, the codes and the amounts of its rows, each in one list; and
 -- what a table keeps: a store, and for each row of it whether the row is still there.
-use Rattle.std.specs.Prelude.{◌≡◌, ℕ, ℤ, ◌+◌, ◌*◌, ◌%◌, ◌^◌, ◌<◌, ◌≤◌, ◌++◌, Bool, true, false, cond, ◌&&◌, if◌then◌else◌, Option, Some, None, List, [], ◌∷◌, length, map, take, drop, fold, nat_eq, slice_index_or, slice_set}
+use Rattle.std.specs.Prelude.{◌≡◌, ℕ, ℤ, ◌+◌, ◌*◌, ◌%◌, ◌^◌, ◌<◌, ◌≤◌, ◌++◌, Bool, true, false, cond, ◌&&◌, if◌then◌else◌, Option, Some, None, List, [], ◌∷◌, length, map, take, drop, fold, nat_eq, slice_index_or, slice_set, suc, zero}
 use Rattle.std.specs.List.{All}
 use Rattle.aggregates.specs.Rows.{agg_of_row}
 use Rattle.cube_defs.specs.Cell.{Cell, cell_eq, cell_of}
 use Rattle.cube_defs.specs.Rows.{Agg, Row}
 use Rattle.base_table.specs.Last.{last_of, picked}
-use Rattle.base_table.specs.Places.{IsRow, Places}
+use Rattle.base_table.specs.Places.{Base, IsRow, Places, narrowed}
 use Rattle.cube_defs.specs.declared.limits.TheConstants.{MAX_DIMS, MAX_MEASURES, MAX_ROWS}
 
 -- rows in the order in which they came
 pub record StoredRows : Type 0 where
   pub dims : ℕ
+  -- how many dimensions there were when the rows were settled last
+  pub dims_then : ℕ
+  -- of how many of its first codes a tuple's number is made
+  pub keyed : ℕ
   pub measures : ℕ
   pub rows : List (Row ℕ)
 
@@ -35,20 +39,38 @@ code_or_any (Some code) = code
 abbrev pub fingerprint : Cell ℕ → ℕ
 fingerprint cell = fold (λ h entry. (h * 2654435761 % 4294967296 + code_or_any entry) % 4294967296) 0 cell
 
+-- the number of a cell, made of its first so many entries
+abbrev pub print_in : ℕ → Cell ℕ → ℕ
+print_in keyed cell = fingerprint (take keyed cell)
+
 -- a row's id, and its tuple's number
 abbrev pub id_of : Row ℕ → ℕ
 id_of row = row.id
 
-abbrev pub print_of : Row ℕ → ℕ
-print_of row = fingerprint (cell_of row.tuple)
+abbrev pub print_of : ℕ → Row ℕ → ℕ
+print_of keyed row = print_in keyed (cell_of row.tuple)
+
+-- of lists of one width that lie one after another, each with one element more behind it
+abbrev pub longer_lines : {A : Type 0} → ℕ → A → ℕ → List A → List A
+longer_lines width x zero cells = []
+longer_lines width x (suc lines) cells = (take width cells ++ x ∷ []) ++ longer_lines width x lines (drop width cells)
+
+-- of lists of one width that lie one after another, the first elements of each
+abbrev pub shorter_lines : {A : Type 0} → ℕ → ℕ → ℕ → List A → List A
+shorter_lines width first zero cells = []
+shorter_lines width first (suc lines) cells = take first cells ++ shorter_lines width first lines (drop width cells)
 
 -- each row has its codes, its amounts and its tuple's number
-pub record IsStore (dims measures : ℕ) (ids prints codes : List ℕ) (amounts : List ℤ) : Type 0 where
+pub record IsStore (dims measures keyed dims_then : ℕ) (ids prints codes : List ℕ) (amounts : List ℤ) (room : ℕ) : Type 0 where
   pub few_dims : dims ≤ MAX_DIMS
   pub few_measures : measures ≤ MAX_MEASURES
   pub codes_len : length codes ≡ length ids * dims
   pub amounts_len : length amounts ≡ length ids * measures
-  pub prints_are : prints ≡ map print_of (rows_from dims measures ids codes amounts)
+  pub keyed_le : keyed ≤ dims_then
+  pub then_le : dims_then ≤ dims
+  -- so that a dimension more takes no memory
+  pub room_for_all : length ids * MAX_DIMS ≤ room
+  pub prints_are : prints ≡ map (print_of keyed) (rows_from dims measures ids codes amounts)
   pub each : All (IsRow dims measures) (rows_from dims measures ids codes amounts)
 
 -- the rows that are here at their places
@@ -82,6 +104,10 @@ pub record IsFound (here : List Bool) (rows : List (Row ℕ)) (id k : ℕ) : Typ
   pub named : (d : Row ℕ) → (slice_index_or rows k d).id ≡ id
   pub only : (i : ℕ) (d : Row ℕ) → i < length here → slice_index_or here i false ≡ true → (slice_index_or rows i d).id ≡ id → i ≡ k
 
+-- some rows, with the dimensions that there were when the rows were settled last
+abbrev pub base_then : StoredRows → List (Row ℕ) → Base
+base_then store rows = record { dims = store.dims_then; rows = map (narrowed store.dims_then) rows }
+
 -- the marks, the store and the number of rows that are here are in step
 pub record IsMarked (here : List Bool) (rows : List (Row ℕ)) (count max : ℕ) : Type 0 where
   pub last : AreLast here rows
@@ -92,6 +118,8 @@ pub record IsMarked (here : List Bool) (rows : List (Row ℕ)) (count max : ℕ)
 pub record AreTableFields (store : StoredRows) (here : List Bool) (touched : List ℕ) (room begun count_then : ℕ) (is_open : Bool) (count max : ℕ) : Type 0 where
   pub some_dims : 0 < store.dims
   pub few_dims : store.dims ≤ MAX_DIMS
+  pub some_then : 0 < store.dims_then
+  pub then_le : store.dims_then ≤ store.dims
   pub few_measures : store.measures ≤ MAX_MEASURES
   pub some_rows : 0 < max
   pub few_rows : max ≤ MAX_ROWS
@@ -104,6 +132,7 @@ pub record AreTableFields (store : StoredRows) (here : List Bool) (touched : Lis
   -- at most half of the places were empty
   pub dense : begun ≤ 2 * count_then
   pub closed : is_open ≡ false → (begun ≡ length here) × (touched ≡ [])
+  pub closed_dims : is_open ≡ false → store.dims_then ≡ store.dims
   pub touched_below : All (λ k. k < begun) touched
   -- so a deletion takes no memory
   pub touched_le : length touched + count ≤ length here
@@ -116,5 +145,5 @@ places_with store here touched begun is_open max = record {
   measures = store.measures;
   max = max;
   places = placed here store.rows;
-  was = if is_open then Some (record { dims = store.dims; rows = picked (marks_then here touched begun) store.rows }) else None;
+  was = if is_open then Some (base_then store (picked (marks_then here touched begun) store.rows)) else None;
 }

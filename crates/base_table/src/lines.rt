@@ -1,7 +1,7 @@
 // Lists of one width that lie one after another in a vector.
 ghost use Rattle.std.specs.Prelude.{length, vec_capacity, vec_len, ◌*◌, ◌+◌, ◌++◌, ◌≡◌, ◌≤◌, All, ◌<◌, nat_eq, is_some, true, take, drop};
 ghost use Rattle.base_table.specs.Places.{values_of};
-ghost use Rattle.base_table.specs.Store.{code_or_any, fingerprint, picked_lines};
+ghost use Rattle.base_table.specs.Store.{code_or_any, longer_lines, picked_lines, print_in, shorter_lines};
 ghost use Rattle.cell_core.specs.Entry.{IsCode, value_in};
 ghost use Rattle.cube_defs.specs.Cell.{cell_eq, cell_of};
 
@@ -23,7 +23,8 @@ pub(crate) fn line<T: Copy>(cells: &Vec<T>, place: u32, width: u8) -> &[T]
 // Keeps the lists whose mark is set, in order. It takes no memory.
 pub(crate) fn retain_lines<T: Copy + Drop>(cells: &mut Vec<T>, width: usize, kept: &[bool])
     requires { length cells.old.items ≡ length kept.now * width }
-    ensures { cells.new.items ≡ picked_lines width kept.now cells.old.items }
+    ensures items { cells.new.items ≡ picked_lines width kept.now cells.old.items }
+    ensures capacity { vec_capacity cells.new ≡ vec_capacity cells.old }
 {
     let mut from = 0;
     let mut to = 0;
@@ -54,6 +55,7 @@ pub(crate) fn push_codes(codes: &mut Vec<u32>, tuple: &Cell)
     ensures items { codes.new.items ≡ codes.old.items ++ values_of tuple.now }
     ensures small { All IsCode (values_of tuple.now) }
     ensures dims { length (values_of tuple.now) ≡ length tuple.now }
+    ensures capacity { vec_capacity codes.new ≡ vec_capacity codes.old }
 {
     'codes: for dim in 0..tuple.dims() {
         codes.push_reserved(code_or_any(tuple.get(dim)));
@@ -68,12 +70,43 @@ pub(crate) fn push_amounts(amounts: &mut Vec<i64>, more: &[i64])
     amounts.extend_from_slice(more).unwrap();
 }
 
-// A number that equal cells share.
-pub(crate) fn fingerprint(tuple: &Cell) -> u32
-    ensures { result ≡ fingerprint tuple.now }
+// Puts the element behind each of so many lists, for which there is room.
+pub(crate) fn lengthen(cells: &mut Vec<u32>, width: usize, lines: usize, last: u32)
+    requires lines { length cells.old.items ≡ lines * width }
+    requires few { width ≤ MAX_DIMS }
+    requires room { lines * (width + 1) ≤ vec_capacity cells.old }
+    ensures items { cells.new.items ≡ longer_lines width last lines cells.old.items }
+    ensures capacity { vec_capacity cells.old ≤ vec_capacity cells.new }
+{
+    cells.resize(lines * (width + 1), last).unwrap();
+    'lines: for line in (0..lines).rev() {
+        let from = line * width;
+        cells.copy_within(from..from + width, from + line);
+        cells[from + line + width] = last;
+    }
+}
+
+// Keeps the first elements of each of so many lists.
+pub(crate) fn shorten(cells: &mut Vec<u32>, width: usize, first: usize, lines: usize)
+    requires lines { length cells.old.items ≡ lines * width }
+    requires first { first ≤ width }
+    ensures items { cells.new.items ≡ shorter_lines width first lines cells.old.items }
+    ensures capacity { vec_capacity cells.new ≡ vec_capacity cells.old }
+{
+    'lines: for line in 0..lines {
+        let from = line * width;
+        cells.copy_within(from..from + first, line * first);
+    }
+    cells.truncate(lines * first);
+}
+
+// A number that equal cells share, made of so many of their entries.
+pub(crate) fn fingerprint(tuple: &Cell, keyed: u8) -> u32
+    requires { keyed ≤ length tuple.now }
+    ensures { result ≡ print_in keyed tuple.now }
 {
     let mut print: u32 = 0;
-    'entries: for dim in 0..tuple.dims() {
+    'entries: for dim in 0..keyed {
         print = print
             .wrapping_mul(2_654_435_761)
             .wrapping_add(code_or_any(tuple.get(dim)));

@@ -5,8 +5,8 @@ ghost use Rattle.aggregates.specs.Bounds.{largest_amount};
 ghost use Rattle.cube_defs.specs.Cell.{cell_eq, cell_of};
 ghost use Rattle.cube_defs.specs.Rows.{Row};
 ghost use Rattle.base_table.specs.Last.{last_of, picked};
-ghost use Rattle.base_table.specs.Places.{IsRow, row_of};
-ghost use Rattle.base_table.specs.Store.{fingerprint, id_of, print_of};
+ghost use Rattle.base_table.specs.Places.{IsRow, narrowed, row_of, with_code};
+ghost use Rattle.base_table.specs.Store.{id_of, print_in, print_of};
 
 use crate::chains::{self, Chains};
 use crate::{Memory, lines};
@@ -20,10 +20,16 @@ use std::marker::Model;
 #[derive(Drop)]
 pub struct Store {
     dims: u8,
+    // How many dimensions there were when the rows were settled last.
+    dims_then: u8,
+    // Of how many of its first codes a tuple's number is made: those that it had from the start, so
+    // that numbers stay when there are more dimensions or fewer.
+    keyed: u8,
     measures: u8,
     ids: Chains<u64>,
     // A number for each tuple, that equal tuples share.
     prints: Chains<u32>,
+    // It has room for as many dimensions as there may be, so that one more takes no memory.
     codes: Vec<u32>,
     amounts: Vec<i64>,
 }
@@ -33,19 +39,29 @@ impl Model for Store {
 
     ghost Value = { StoredRows };
 
-    ghost view = { λ s. record { dims = s.dims; measures = s.measures; rows = rows_from s.dims s.measures s.ids s.codes.items s.amounts.items } };
+    ghost use Rattle.std.specs.Prelude.{vec_capacity};
 
-    ghost invariant = { λ s. IsStore s.dims s.measures s.ids s.prints s.codes.items s.amounts.items };
+    ghost view = { λ s. record {
+      dims = s.dims;
+      dims_then = s.dims_then;
+      keyed = s.keyed;
+      measures = s.measures;
+      rows = rows_from s.dims s.measures s.ids s.codes.items s.amounts.items;
+    } };
+
+    ghost invariant = { λ s. IsStore s.dims s.measures s.keyed s.dims_then s.ids s.prints s.codes.items s.amounts.items (vec_capacity s.codes) };
 }
 
 impl Store {
     pub fn new(alloc: Global, dims: u8, measures: u8) -> Store
         requires dims { dims ≤ MAX_DIMS }
         requires measures { measures ≤ MAX_MEASURES }
-        ensures { result ≡ record { dims = dims; measures = measures; rows = [] } }
+        ensures { result ≡ record { dims = dims; dims_then = dims; keyed = dims; measures = measures; rows = [] } }
     {
         Store {
             dims,
+            dims_then: dims,
+            keyed: dims,
             measures,
             ids: Chains::new(alloc),
             prints: Chains::new(alloc),
@@ -82,15 +98,17 @@ impl Store {
 
     /// One more than the last place of a tuple that shares its number with the cell, or 0.
     pub fn last_alike(&self, tuple: &Cell) -> u32
-        ensures { result ≡ last_of (nat_eq (fingerprint tuple.now)) (map print_of self.now.rows) }
+        requires { length tuple.now ≡ self.now.dims }
+        ensures { result ≡ last_of (nat_eq (print_in self.now.keyed tuple.now)) (map (print_of self.now.keyed) self.now.rows) }
     {
-        self.prints.last(&lines::fingerprint(tuple))
+        self.prints.last(&lines::fingerprint(tuple, self.keyed))
     }
 
     /// One more than the last place before this one whose row has the fingerprint of the row here, or 0.
     pub fn alike_before(&self, place: u32) -> u32
         requires { place < length self.now.rows }
-        ensures { (d : Row ℕ) → result ≡ last_of (nat_eq (print_of (slice_index_or self.now.rows place d))) (take place (map print_of self.now.rows)) }
+        ensures { (d : Row ℕ) → result ≡ last_of (nat_eq (print_of self.now.keyed (slice_index_or self.now.rows place d)))
+            (take place (map (print_of self.now.keyed) self.now.rows)) }
     {
         self.prints.before(place)
     }
@@ -165,10 +183,11 @@ impl Store {
         ensures row { OnOk result (IsRow self.old.dims self.old.measures (row_of id tuple.now amounts.now)) }
         ensures err { OnErr result (self.new ≡ self.old) }
     {
-        self.codes.reserve(self.dims as usize)?;
+        let most = (self.ids.len() as usize + 1) * MAX_DIMS as usize;
+        self.codes.reserve(most - self.codes.len())?;
         self.amounts.reserve(self.measures as usize)?;
         self.ids.push(id)?;
-        let Ok(()) = self.prints.push(lines::fingerprint(tuple)) else {
+        let Ok(()) = self.prints.push(lines::fingerprint(tuple, self.keyed)) else {
             self.ids.pop();
             return Err(AllocError);
         };
@@ -197,5 +216,39 @@ impl Store {
         self.prints.retain_marked(kept);
         lines::retain_lines(&mut self.codes, self.dims as usize, kept);
         lines::retain_lines(&mut self.amounts, self.measures as usize, kept);
+    }
+
+    /// One more dimension behind the others, in which each row has the code. It takes no memory.
+    pub fn widen(&mut self, code: u32)
+        requires few { self.old.dims < MAX_DIMS }
+        requires small { IsCode code }
+        ensures { self.new ≡ record self.old { dims = self.old.dims + 1; rows = map (with_code code) self.old.rows } }
+    {
+        let rows = self.ids.len() as usize;
+        lines::lengthen(&mut self.codes, self.dims as usize, rows, code);
+        self.dims += 1;
+    }
+
+    /// The dimensions go that came since the rows were settled last. It takes no memory.
+    pub fn narrow(&mut self)
+        ensures { self.new ≡ record self.old { dims = self.old.dims_then; rows = map (narrowed self.old.dims_then) self.old.rows } }
+    {
+        if self.dims_then < self.dims {
+            let rows = self.ids.len() as usize;
+            lines::shorten(
+                &mut self.codes,
+                self.dims as usize,
+                self.dims_then as usize,
+                rows,
+            );
+            self.dims = self.dims_then;
+        }
+    }
+
+    /// The rows are settled, with as many dimensions as they have.
+    pub fn settle(&mut self)
+        ensures { self.new ≡ record self.old { dims_then = self.old.dims } }
+    {
+        self.dims_then = self.dims;
     }
 }

@@ -1,7 +1,7 @@
 // Rows at places, and a batch that can be taken back.
 ghost use Rattle.std.specs.Prelude.{All, nat_abs, pos, true, false, Err, IfOk, IfSome, None, OnErr, OnOk, Some, [], length, map, slice_index_or, ◌++◌, ◌<◌, ◌∷◌, ◌≡◌, ◌≤◌, ◌↔◌, is_some};
 ghost use Rattle.cell_core.specs.Entry.{IsCode};
-ghost use Rattle.base_table.specs.Places.{AreThere, IsTable, base_of, cleared, has_id, named, numbers, padded, row_at, row_of, row_with_id, rows_of, total_of, with_tuple, without_id};
+ghost use Rattle.base_table.specs.Places.{AreThere, IsTable, base_of, cleared, has_id, named, numbers, padded, row_at, row_of, row_with_id, rows_of, total_of, widened, with_code, with_tuple, without_id};
 ghost use Rattle.std.specs.Option.{option_map};
 ghost use Rattle.cube_defs.specs.Cell.{cell_of};
 ghost use Rattle.aggregates.specs.Bounds.{largest_amount};
@@ -271,6 +271,18 @@ impl Table {
         }
     }
 
+    /// One more dimension behind the others, in which each row has the code. It takes no memory, and
+    /// touches each row.
+    pub fn widen(&mut self, code: Code)
+        requires is_open { is_some self.old.was ≡ true }
+        requires few { self.old.dims < MAX_DIMS }
+        requires small { IsCode code }
+        ensures value { self.new ≡ widened code self.old }
+        ensures rows { rows_of self.new ≡ map (with_code code) (rows_of self.old) }
+    {
+        self.store.widen(code);
+    }
+
     /// Keeps the batch. Rows may get other numbers. It takes no memory.
     pub fn commit(&mut self)
         requires is_open { is_some self.old.was ≡ true }
@@ -283,6 +295,7 @@ impl Table {
         self.is_open = false;
         self.touched.clear();
         presence::thin_out(&mut self.store, &mut self.here, self.count);
+        self.store.settle();
         self.begun = self.here.len() as u32;
         self.count_then = self.count;
     }
@@ -297,6 +310,7 @@ impl Table {
     {
         self.is_open = false;
         self.store.cut(self.begun);
+        self.store.narrow();
         self.here.truncate(self.begun as usize);
         presence::restore(&mut self.here, &self.touched);
         self.touched.clear();

@@ -15,4 +15,6 @@ mod schemas;
 #[cfg(test)]
 mod texts;
 #[cfg(test)]
+mod wider;
+#[cfg(test)]
 mod widths;

@@ -25,4 +25,5 @@ returns c =
       items = c.codes.invariant.put ∙ ap (λ (l : List ℕ). c.args.codes.now.items ++ l) same;
       small = subst (λ (l : List ℕ). All (λ code. code < 4000000) l) same c.codes.invariant.small;
       dims = ap length values ∙ length-map c.args.tuple.now code_or_any;
+      capacity = c.codes.invariant.room;
     }

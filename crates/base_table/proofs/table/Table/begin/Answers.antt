@@ -1,4 +1,4 @@
-use Rattle.std.proofs.Common.{◌∙◌, ap, subst, Bool, false, Some}
+use Rattle.std.proofs.Common.{◌∙◌, ap, refl, subst, Bool, false, Some}
 use Rattle.base_table.specs.Places.{Places}
 use Rattle.base_table.proofs.Holding.{base, begun_table, begun_rows, closed-view}
 use Rattle.base_table.proofs.table.Table.begin.Goals as goal
@@ -25,6 +25,6 @@ returns c =
         measures = ap (λ (t : Places). t.measures) c.self.view_is j;
         max = ap (λ (t : Places). t.max) c.self.view_is j;
         places = ap (λ (t : Places). t.places) c.self.view_is j;
-        was = Some (base (ap (λ (t : Places). t.dims) c.self.view_is j) ((begun_rows m.store m.here.items m.touched.items _ m.begun m.count_then m.count m.max (closed c) ∙ ap rows_of c.self.view_is) j));
+        was = Some (base (((closed c).closed_dims refl ∙ ap (λ (t : Places). t.dims) c.self.view_is) j) ((begun_rows m.store m.here.items m.touched.items _ m.begun m.count_then m.count m.max (closed c) ∙ ap rows_of c.self.view_is) j));
       };
     }

@@ -1,5 +1,6 @@
-use Rattle.std.proofs.Common.{◌∙◌, ap, arith, sym, subst, ℕ, false, List, length, vec_capacity}
-use Rattle.base_table.specs.Store.{AreTableFields, IsMarked}
+use Rattle.std.proofs.Common.{◌∙◌, ap, arith, refl, sym, subst, ℕ, false, List, length, vec_capacity}
+use Rattle.base_table.specs.Store.{AreTableFields, IsMarked, StoredRows, placed}
+use Rattle.base_table.specs.Places.{rows_in}
 use Rattle.base_table.proofs.Holding.{settled_table, rows-view}
 use Rattle.base_table.proofs.table.Table.commit.Goals as goal
 use Rattle.base_table.proofs.Placed.{rows_in-placed}
@@ -10,12 +11,15 @@ invariant_of-self c =
     let h = c.self.invariant in
     let t = c.thin_out.ensures in
     let marked : IsMarked c.thin_out.new.here.items c.thin_out.new.store.rows m.count m.max = record { last = t.last; count_is = h.is_now.count_is ∙ ap length (sym t.rows); few = h.is_now.few } in
-    subst (λ (l : List ℕ). AreTableFields c.thin_out.new.store c.thin_out.new.here.items l (vec_capacity c.clear.new.self) c.len.result m.count false m.count m.max) (sym c.clear.ensures.items)
-    (settled_table c.thin_out.new.store c.thin_out.new.here.items (vec_capacity c.clear.new.self) c.len.result m.count m.max
+    let store : StoredRows = record c.thin_out.new.store { dims_then = c.thin_out.new.store.dims } in
+    subst (λ (s : StoredRows). AreTableFields s c.thin_out.new.here.items c.clear.new.self.items (vec_capacity c.clear.new.self) c.len.result m.count false m.count m.max) (sym c.settle.ensures)
+    (subst (λ (l : List ℕ). AreTableFields store c.thin_out.new.here.items l (vec_capacity c.clear.new.self) c.len.result m.count false m.count m.max) (sym c.clear.ensures.items)
+    (settled_table store c.thin_out.new.here.items (vec_capacity c.clear.new.self) c.len.result m.count m.max
     (omega (arith, t.dims, h.some_dims)) (omega (arith, t.dims, h.few_dims)) (omega (arith, t.measures, h.few_measures)) h.some_rows h.few_rows (omega (arith, t.fewer, h.few_places))
-    t.places t.each marked (omega (arith, c.len.ensures)) t.dense (omega (arith, t.fewer, h.room_for_all, c.clear.ensures.capacity)))
+    t.places t.each marked (omega (arith, c.len.ensures)) t.dense (omega (arith, t.fewer, h.room_for_all, c.clear.ensures.capacity)) refl))
 
 pub returns-clause-rows : goal.returns-clause-rows
 returns-clause-rows c =
     let m = c.self.inside in
-    rows_in-placed c.thin_out.new.here.items c.thin_out.new.store.rows ∙ c.thin_out.ensures.rows ∙ rows-view m.store m.here.items m.touched.items _ m.begun m.count_then m.is_open m.count m.max c.self.invariant c.args.self.now c.self.view_is
+    ap (λ (s : StoredRows). rows_in (placed c.thin_out.new.here.items s.rows)) c.settle.ensures
+    ∙ rows_in-placed c.thin_out.new.here.items c.thin_out.new.store.rows ∙ c.thin_out.ensures.rows ∙ rows-view m.store m.here.items m.touched.items _ m.begun m.count_then m.is_open m.count m.max c.self.invariant c.args.self.now c.self.view_is

@@ -1,9 +1,9 @@
 use Rattle.std.proofs.Common.{◌≡◌, ◌∙◌, ap, arith, sym, subst, ℕ, ◌+◌, ◌++◌, ◌∷◌, Bool, true, List, [], Some, None, vec_capacity}
 use Rattle.cube_defs.specs.Rows.{Row}
 use Rattle.base_table.specs.Places.{Places}
-use Rattle.base_table.specs.Store.{AreTableFields, StoredRows, marks_then, placed}
+use Rattle.base_table.specs.Store.{AreTableFields, StoredRows, base_then, marks_then, placed}
 use Rattle.base_table.specs.Last.{picked}
-use Rattle.base_table.proofs.Holding.{base, put_table, put_was, open-view, rows-view, count-view, max-view}
+use Rattle.base_table.proofs.Holding.{put_table, put_was, open-view, rows-view, count-view, max-view}
 use Rattle.base_table.proofs.table.Table.put.Goals as goal
 use Rattle.std.proofs.Common.{if◌then◌else◌}
 use Rattle.base_table.specs.Places.{has_id, row_of}
@@ -38,7 +38,7 @@ returns-clause-ok c =
       measures = (ap (λ (s : StoredRows). s.measures) c.in_ok-push.ensures.ok ∙ ap (λ (t : Places). t.measures) c.self.view_is) j;
       max = ap (λ (t : Places). t.max) c.self.view_is j;
       places = ((λ i. placed (here c i) (c.in_ok-push.ensures.ok i).rows) ∙ placed-push m.here.items m.store.rows row c.self.invariant.places ∙ ap (λ (t : Places). t.places ++ Some row ∷ []) c.self.view_is) j;
-      was = ((λ i. if m.is_open then Some (base (c.in_ok-push.ensures.ok i).dims (picked (marks_then (here c i) (c.reserve-2.ensures.items i) m.begun) (c.in_ok-push.ensures.ok i).rows)) else None)
-          ∙ ap (λ (l : List (Row ℕ)). if m.is_open then Some (base m.store.dims l) else None) (put_was m.store m.here.items m.touched.items _ m.begun m.count_then m.count m.max row (opened c))
+      was = ((λ i. if m.is_open then Some (base_then (c.in_ok-push.ensures.ok i) (picked (marks_then (here c i) (c.reserve-2.ensures.items i) m.begun) (c.in_ok-push.ensures.ok i).rows)) else None)
+          ∙ ap (λ (l : List (Row ℕ)). if m.is_open then Some (base_then m.store l) else None) (put_was m.store m.here.items m.touched.items _ m.begun m.count_then m.count m.max row (opened c))
           ∙ ap (λ (t : Places). t.was) c.self.view_is) j;
     }

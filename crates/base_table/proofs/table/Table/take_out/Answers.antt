@@ -1,9 +1,9 @@
 use Rattle.std.proofs.Common.{◌≡◌, ◌∙◌, ap, arith, sym, subst, ℕ, ◌-◌, Bool, true, false, List, [], get_or, Some, None, set, map, vec_capacity}
 use Rattle.cube_defs.specs.Rows.{Row}
 use Rattle.base_table.specs.Places.{Places}
-use Rattle.base_table.specs.Store.{AreTableFields, marks_then}
+use Rattle.base_table.specs.Store.{AreTableFields, base_then, marks_then}
 use Rattle.base_table.specs.Last.{picked}
-use Rattle.base_table.proofs.Holding.{base, some_here, take_table, taken_places, at-view, at_row, open-view, row-view}
+use Rattle.base_table.proofs.Holding.{some_here, take_table, taken_places, at-view, at_row, open-view, row-view}
 use Rattle.base_table.proofs.table.Table.take_out.Goals as goal
 use Rattle.std.proofs.Common.{if◌then◌else◌}
 use Rattle.base_table.specs.Places.{cleared, padded}
@@ -59,8 +59,8 @@ returns-clause-table c =
       measures = ap (λ (t : Places). t.measures) c.self.view_is j;
       max = ap (λ (t : Places). t.max) c.self.view_is j;
       places = (taken_places m.store m.here.items m.touched.items _ m.begun m.count_then m.is_open m.count m.max c.args.place no_row c.self.invariant at ∙ ap (λ (t : Places). map (cleared id) t.places) c.self.view_is) j;
-      was = (ap (λ (l : List ℕ). if m.is_open then Some (base m.store.dims (picked (marks_then (set m.here.items c.args.place false) l m.begun) m.store.rows)) else None) c.note.ensures.items
-          ∙ ap (λ (l : List Bool). if m.is_open then Some (base m.store.dims (picked l m.store.rows)) else None) (marks_stay m.here.items m.touched.items m.begun c.args.place at.there)
+      was = (ap (λ (l : List ℕ). if m.is_open then Some (base_then m.store (picked (marks_then (set m.here.items c.args.place false) l m.begun) m.store.rows)) else None) c.note.ensures.items
+          ∙ ap (λ (l : List Bool). if m.is_open then Some (base_then m.store (picked l m.store.rows)) else None) (marks_stay m.here.items m.touched.items m.begun c.args.place at.there)
           ∙ ap (λ (t : Places). t.was) c.self.view_is) j;
     })
 

@@ -1,0 +1,190 @@
+// Rows that get a dimension more, and lose it where the batch is taken back.
+ghost use Rattle.std.specs.Prelude.{All, None, is_some, length, true, ◌≡◌};
+
+use crate::rows::Change::{Delete, Insert};
+use crate::rows::make;
+use base_table::Table;
+use cell_core::{Cell, Code, Entry};
+use std::alloc::{AllocError, Global};
+use std::test::Fail;
+
+// Puts two rows into an empty table, and keeps them.
+fn fill(alloc: Global, table: &mut Table)
+    requires { table.old.was ≡ None }
+    ensures { table.new.was ≡ None }
+{
+    table.begin();
+    make(alloc, table, Insert(1, 3, 4, 10));
+    make(alloc, table, Insert(2, 3, 5, 20));
+    table.commit();
+}
+
+// Whether the rows could get the code.
+fn widen(table: &mut Table, code: Code) -> bool
+    requires { is_some table.old.was ≡ true }
+    ensures { is_some table.new.was ≡ true }
+{
+    if table.dims() >= 16 || code >= 4_000_000 {
+        return false;
+    }
+    table.widen(code);
+    true
+}
+
+// The codes of the row at a place, none where no row is there.
+fn codes(alloc: Global, table: &Table, place: u32) -> Result<Vec<Code>, AllocError> {
+    let mut codes = Vec::new(alloc);
+    if place >= table.places() {
+        return Ok(codes);
+    }
+    let Some(row) = table.at(place) else {
+        return Ok(codes);
+    };
+    'dims: for dim in 0..table.dims() {
+        codes.push(table.code(row, dim))?;
+    }
+    Ok(codes)
+}
+
+// A batch: the code that the rows get, the row that goes then, whether it is kept, and the codes at the
+// two places after it.
+struct Batch {
+    code: Code,
+    deleted: u64,
+    is_kept: bool,
+    first: &'static [Code],
+    second: &'static [Code],
+}
+
+// Whether a batch goes as it says.
+fn is_right(alloc: Global, table: &mut Table, batch: &Batch) -> Result<bool, AllocError>
+    requires { table.old.was ≡ None }
+    ensures { table.new.was ≡ None }
+{
+    table.begin();
+    let is_wider = widen(table, batch.code);
+    make(alloc, table, Delete(batch.deleted));
+    if batch.is_kept {
+        table.commit();
+    } else {
+        table.rollback();
+    }
+    let first = codes(alloc, table, 0)?;
+    let second = codes(alloc, table, 1)?;
+    Ok(is_wider && first.as_slice() == batch.first && second.as_slice() == batch.second)
+}
+
+// No row has the id 9.
+static BATCHES: [Batch; 5] = [
+    Batch {
+        code: 7,
+        deleted: 9,
+        is_kept: false,
+        first: &[3, 4],
+        second: &[3, 5],
+    },
+    Batch {
+        code: 7,
+        deleted: 2,
+        is_kept: false,
+        first: &[3, 4],
+        second: &[3, 5],
+    },
+    Batch {
+        code: 7,
+        deleted: 9,
+        is_kept: true,
+        first: &[3, 4, 7],
+        second: &[3, 5, 7],
+    },
+    Batch {
+        code: 0,
+        deleted: 1,
+        is_kept: false,
+        first: &[3, 4, 7],
+        second: &[3, 5, 7],
+    },
+    Batch {
+        code: 3_999_999,
+        deleted: 1,
+        is_kept: true,
+        first: &[],
+        second: &[3, 5, 7, 3_999_999],
+    },
+];
+
+// Whether all batches go as they say.
+fn all_right(alloc: Global) -> Result<bool, AllocError> {
+    let mut table = Table::new(alloc, 2, 1, 4)?;
+    fill(alloc, &mut table);
+    let mut all = true;
+    'batches: for batch in &BATCHES {
+        let is_right = is_right(alloc, &mut table, batch)?;
+        all = all && is_right;
+    }
+    Ok(all)
+}
+
+#[test]
+fn rows_get_a_code(rt: HostRuntime) -> Result<(), Fail> {
+    assert!(rt; all_right(rt.alloc())?);
+    Ok(())
+}
+
+// A tuple of three dimensions.
+fn triple(alloc: Global, a: u8, b: u8, c: u8) -> Cell
+    ensures dims { length result ≡ 3 }
+    ensures full { All (λ entry. is_some entry ≡ true) result }
+{
+    let mut tuple = Cell::any(alloc, 3);
+    tuple.set(0, Entry::Is(a as u32));
+    tuple.set(1, Entry::Is(b as u32));
+    tuple.set(2, Entry::Is(c as u32));
+    tuple
+}
+
+// Whether a row of three dimensions was put in.
+fn put(table: &mut Table, id: u64, tuple: &Cell) -> bool
+    requires is_open { is_some table.old.was ≡ true }
+    requires full { All (λ entry. is_some entry ≡ true) tuple.now }
+    ensures { is_some table.new.was ≡ true }
+{
+    if table.dims() != tuple.dims() || table.measures() != 1 {
+        return false;
+    }
+    table.insert(id, tuple, &[5]).is_ok()
+}
+
+// The sum of the rows of a tuple.
+fn sum_of(alloc: Global, table: &Table, a: u8, b: u8, c: u8) -> Option<i64> {
+    if table.dims() != 3 {
+        return None;
+    }
+    let agg = table.group(&triple(alloc, a, b, c))?;
+    Some(agg.parts[0].sum)
+}
+
+// A row that comes behind the others has a code of its own.
+fn sums(alloc: Global) -> Result<[Option<i64>; 4], AllocError> {
+    let mut table = Table::new(alloc, 2, 1, 4)?;
+    fill(alloc, &mut table);
+    table.begin();
+    widen(&mut table, 7);
+    table.commit();
+    table.begin();
+    put(&mut table, 3, &triple(alloc, 3, 4, 8));
+    put(&mut table, 4, &triple(alloc, 3, 4, 7));
+    table.commit();
+    Ok([
+        sum_of(alloc, &table, 3, 4, 7),
+        sum_of(alloc, &table, 3, 4, 8),
+        sum_of(alloc, &table, 3, 5, 7),
+        sum_of(alloc, &table, 3, 5, 8),
+    ])
+}
+
+#[test]
+fn rows_of_a_tuple_after_it(rt: HostRuntime) -> Result<(), Fail> {
+    assert!(rt; sums(rt.alloc())? == [Some(15), Some(5), Some(20), None]);
+    Ok(())
+}
