@@ -1,0 +1,4 @@
+pub mod LongerCells
+pub mod LongerRows
+pub mod LongerRecords
+pub mod LongerNodes
