@@ -2,3 +2,4 @@ pub mod LongerCells
 pub mod LongerRows
 pub mod LongerRecords
 pub mod LongerNodes
+pub mod WidenedTrees

@@ -28,7 +28,7 @@ module _ {A : Type 0} {eq : A → A → Bool} (equality : IsEquality eq) (v : A)
   wide-longer n [] wide = tt
   wide-longer n (row ∷ rows) wide = (omega (arith, length-append row.tuple (v ∷ []), wide.0), wide-longer n rows wide.1)
 
-  node_length : (m : ℕ) (rows : List (Row A)) (c : Cell A) → HaveWidth m rows → is_node eq rows c ≡ true → length c ≡ m
+  pub node_length : (m : ℕ) (rows : List (Row A)) (c : Cell A) → HaveWidth m rows → is_node eq rows c ≡ true → length c ≡ m
   node_length m rows c wide h =
       let r = node_closed equality rows c h in
       ap length (sym r.2) ∙ length-cell_front (depth c) r.0 ∙ subst (λ (o : Option (Cell A)). IfSome o (λ u. length u ≡ m)) r.1 (closure_wide equality v m rows c wide)

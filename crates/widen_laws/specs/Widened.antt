@@ -1,9 +1,10 @@
 -- Rows that all got the same value in a new last dimension, and the records of their nodes.
-use Rattle.std.specs.Prelude.{ℕ, List, [], ◌∷◌, ◌++◌, Some, None, map, is_some, if◌then◌else◌}
+use Rattle.std.specs.Prelude.{◌≡◌, ◌⊎◌, ℕ, true, false, List, [], ◌∷◌, ◌++◌, Some, None, map, is_some, if◌then◌else◌}
+use Rattle.std.specs.FinMap as maps
 use Rattle.std.specs.Option.{option_map}
 use Rattle.cube_defs.specs.Cell.{Cell}
 use Rattle.cube_defs.specs.Rows.{Row}
-use Rattle.cube_defs.specs.Tree.{Edge, Node, renamed_edge}
+use Rattle.cube_defs.specs.Tree.{Edge, Node, Tree, renamed_edge}
 
 module _ {A : Type 0} where
   -- a row with one value more, and some rows with it
@@ -49,3 +50,26 @@ module _ {A : Type 0} where
   -- the record with Any in the new dimension of a node, whether it is a class's or not
   abbrev pub widened : ℕ → A → Node A (Cell A) → Node A (Cell A)
   widened dim v n = if is_some n.class then handed_on dim v n else kept n
+
+  -- the records by numbers: with Any in the new dimension, of a class, and of its child
+  abbrev pub kept_by_number : Node A ℕ → Node A ℕ
+  kept_by_number n = record n { cell = and_any n.cell }
+
+  abbrev pub handed_on_by_number : ℕ → A → ℕ → Node A ℕ → Node A ℕ
+  handed_on_by_number dim v child n = record n {
+    cell = and_any n.cell;
+    class = None;
+    forced = Some (record { dim = dim; value = v; target = child });
+    edges = n.edges ++ record { dim = dim; value = v; target = child } ∷ [];
+  }
+
+  abbrev pub child_by_number : A → ℕ → Node A ℕ → Node A ℕ
+  child_by_number v parent n = record { cell = and_value v n.cell; parent = Some parent; class = n.class; forced = None; edges = [] }
+
+  -- each node keeps its number, and each class has a child under a number of its own
+  pub record IsWidened (dim : ℕ) (v : A) (child : ℕ → ℕ) (tree wide : Tree A) : Type 0 where
+    pub others : (k : ℕ) (n : Node A ℕ) → maps.get tree k ≡ Some n → is_some n.class ≡ false → maps.get wide k ≡ Some (kept_by_number n)
+    pub classes : (k : ℕ) (n : Node A ℕ) → maps.get tree k ≡ Some n → is_some n.class ≡ true → maps.get wide k ≡ Some (handed_on_by_number dim v (child k) n)
+    pub children : (k : ℕ) (n : Node A ℕ) → maps.get tree k ≡ Some n → is_some n.class ≡ true → maps.get wide (child k) ≡ Some (child_by_number v k n)
+    pub only : (q : ℕ) (m : Node A ℕ) → maps.get wide q ≡ Some m
+        → ((n : Node A ℕ) × (maps.get tree q ≡ Some n)) ⊎ ((k : ℕ) × (n : Node A ℕ) × (maps.get tree k ≡ Some n) × (is_some n.class ≡ true) × (q ≡ child k))

@@ -6,8 +6,8 @@ ghost use Rattle.std.specs.Prelude.{List, length, true, ℕ, ◌≡◌, ◌⊎�
 ghost use Rattle.std.specs.List.{AllByRecursion};
 ghost use Rattle.cube_defs.specs.Cell.{Cell};
 ghost use Rattle.cube_defs.specs.Rows.{Row, closure, is_class, is_node};
-ghost use Rattle.cube_defs.specs.Tree.{node_of};
-ghost use Rattle.widen_laws.specs.Widened.{all_longer, and_any, and_value, child_of, widened};
+ghost use Rattle.cube_defs.specs.Tree.{IsCanonical, Tree, node_of};
+ghost use Rattle.widen_laws.specs.Widened.{IsWidened, all_longer, and_any, and_value, child_of, widened};
 
 use cube_laws::values::Value;
 
@@ -46,4 +46,12 @@ pub fn records_are_kept_or_handed_on<V: Value>()
     ensures value { (n measures : ℕ) (rows : List (Row V)) (v : V) (u : Cell V) → AllByRecursion (λ row. length row.tuple ≡ n) rows →
         length u ≡ n → is_class (eq_by_cmp V.cmp) rows u ≡ true →
         node_of V.cmp measures (all_longer v rows) (and_value v u) ≡ option_map (child_of v) (node_of V.cmp measures rows u) }
+{}
+
+/// Where each node keeps its number, each that is no class its whole record, and each class hands its
+/// aggregate to a child under a number of its own, the canonical tree becomes that of the rows with the value.
+pub fn a_widened_tree_is_canonical<V: Value>()
+    ensures { (n measures : ℕ) (rows : List (Row V)) (v : V) (child : ℕ → ℕ) (tree wide : Tree V) →
+        AllByRecursion (λ row. length row.tuple ≡ n) rows → IsCanonical V.cmp measures rows tree →
+        IsWidened n v child tree wide → IsCanonical V.cmp measures (all_longer v rows) wide }
 {}
