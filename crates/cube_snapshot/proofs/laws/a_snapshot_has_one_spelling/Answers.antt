@@ -1,0 +1,8 @@
+use Rattle.cube_snapshot.proofs.SnapshotLaws.{one_spelling, same_parts}
+use Rattle.cube_snapshot.proofs.laws.a_snapshot_has_one_spelling.Goals as goal
+
+pub returns-clause-read : goal.returns-clause-read
+returns-clause-read c = one_spelling
+
+pub returns-clause-same : goal.returns-clause-same
+returns-clause-same c = same_parts
