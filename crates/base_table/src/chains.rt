@@ -148,6 +148,14 @@ impl<K: Eq + Hash + Copy + Drop> Chains<K> {
         self.keys.len() as u32
     }
 
+    /// The key at a place.
+    pub fn key(&self, place: u32) -> K
+        requires { place < length self.now }
+        ensures { (d : K) → result ≡ slice_index_or self.now place d }
+    {
+        self.keys[place as usize]
+    }
+
     /// One more than the last place of the key, or 0.
     pub fn last(&self, key: &K) -> u32
         ensures value { result ≡ last_of (K.eq key.now) self.now }

@@ -89,6 +89,14 @@ impl Store {
         self.ids.len()
     }
 
+    /// The id of a row.
+    pub fn id(&self, place: u32) -> u64
+        requires { place < length self.now.rows }
+        ensures { (d : Row ℕ) → result ≡ (slice_index_or self.now.rows place d).id }
+    {
+        self.ids.key(place)
+    }
+
     /// One more than the place of the last row with the id, or 0.
     pub fn last(&self, id: u64) -> u32
         ensures { result ≡ last_of (nat_eq id) (map id_of self.now.rows) }

@@ -164,6 +164,14 @@ impl Table {
         }
     }
 
+    /// The id of a row. It takes no memory.
+    pub fn id(&self, row: RowNo) -> u64
+        requires { is_some (row_at self.now row.0) ≡ true }
+        ensures { IfSome (row_at self.now row.0) (λ r. result ≡ r.id) }
+    {
+        self.store.id(row.0)
+    }
+
     /// The code of a row in a dimension.
     pub fn code(&self, row: RowNo, dim: u8) -> Code
         requires row { is_some (row_at self.now row.0) ≡ true }
