@@ -1,7 +1,7 @@
 mod Counted
 mod Causes
 mod Changes
-mod Decoding
+pub mod Decoding
 mod Going
 mod Growing
 mod Indexed
@@ -10,5 +10,5 @@ mod Inserting
 mod Texts
 mod Values
 mod Rows
-mod States
+pub mod States
 mod Trees

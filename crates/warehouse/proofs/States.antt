@@ -28,7 +28,7 @@ loaded-row lists dims measures row are values is = record {
   small = is.small;
 }
 
-loaded-rows : (lists : List (List Text)) (dims measures : ℕ) (rows : List (Row ℕ)) → RowsAreCodes lists rows → All (All IsValue) lists → All (IsRow dims measures) rows → All (IsLoaded dims measures) (map (decoded_row lists) rows)
+pub loaded-rows : (lists : List (List Text)) (dims measures : ℕ) (rows : List (Row ℕ)) → RowsAreCodes lists rows → All (All IsValue) lists → All (IsRow dims measures) rows → All (IsLoaded dims measures) (map (decoded_row lists) rows)
 loaded-rows lists dims measures [] are values all = All-nil (IsLoaded dims measures)
 loaded-rows lists dims measures (row ∷ rows) are values all =
     All-cons (IsLoaded dims measures) (decoded_row lists row) (map (decoded_row lists) rows)

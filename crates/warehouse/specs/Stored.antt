@@ -1,10 +1,11 @@
 -- How a warehouse keeps its state: rows of codes beside a dictionary, and the tree of the rows.
 use Rattle.std.specs.Prelude.{ℕ, ◌≡◌, ◌≤◌, List, false, length, map, Option, Some, None}
 use Rattle.std.specs.Ordering.{nat_cmp}
+use Rattle.std.specs.FinMap as finmap
 use Rattle.std.specs.List.{All}
 use Rattle.cube_defs.specs.Text.{Text}
 use Rattle.cube_defs.specs.Rows.{Row}
-use Rattle.cube_defs.specs.Tree.{Tree, nodes}
+use Rattle.cube_defs.specs.Tree.{IsCanonical, Tree, nodes}
 use Rattle.base_table.specs.Places.{IsTable, Places, rows_of}
 use Rattle.csv_load.specs.Batch.{IsValue}
 use Rattle.csv_load.specs.Faults as files
@@ -48,6 +49,14 @@ pub record IsTreeOfTable (schema : Layout) (table : Places) (tree : Arena) : Typ
   pub max : tree.max ≡ schema.nodes
   pub few : length (nodes nat_cmp (rows_of table)) ≤ schema.nodes
   pub from : IsTreeOf (length schema.dims) tree.now (record { measures = length schema.measures; rows = rows_of table })
+
+-- the tree is that of the rows, made in a batch that is open and began without nodes
+pub record IsNewTree (schema : Layout) (table : Places) (tree : Arena) : Type 0 where
+  pub was : tree.was ≡ Some (record { width = length schema.dims; tree = finmap.empty })
+  pub width : tree.width ≡ length schema.dims
+  pub max : tree.max ≡ schema.nodes
+  pub few : length (nodes nat_cmp (rows_of table)) ≤ schema.nodes
+  pub canonical : IsCanonical nat_cmp table.measures (rows_of table) tree.now
 
 -- the tree is that of some rows that fit the schema
 abbrev pub IsTreeOfSome : Layout → Tree ℕ → Type 0

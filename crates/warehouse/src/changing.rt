@@ -223,8 +223,8 @@ fn change_rows<L: Ledger>(
     Ok(first)
 }
 
-// Makes the tree of the table's rows anew. After a refusal the tree is none in particular.
-fn rebuild<L: Ledger>(
+/// Makes the tree of the table's rows anew. After a refusal the tree is none in particular.
+pub(crate) fn rebuild<L: Ledger>(
     table: &Table,
     tree: &mut QcArena,
     alloc: Global,

@@ -8,10 +8,11 @@ mod deleting;
 mod indexing;
 mod learning;
 mod one_batch;
+mod parts;
 mod refused;
 mod repair;
 mod store;
 
 pub use cube_defs::Memory;
-pub use refused::{Applied, Refused, Stats};
+pub use refused::{Applied, PartsRefused, Refused, Stats};
 pub use store::Warehouse;

@@ -73,6 +73,28 @@ impl From<Memory> for Refused {
     }
 }
 
+/// Why the parts of a state make no warehouse.
+#[derive(Clone, Copy, Debug, PartialEq, Eq, Error)]
+pub enum PartsRefused {
+    /// The tree would have more nodes than the schema allows.
+    #[error("the tree would have more nodes than the schema allows")]
+    NodesFull,
+    /// Memory ran out.
+    #[error("memory ran out")]
+    Memory,
+}
+
+impl From<Memory> for PartsRefused {
+    ghost use Rattle.std.specs.Prelude.{◌≡◌};
+    ghost use Rattle.warehouse.specs.declared.refused.PartsRefused.TheVariants as refusals;
+
+    ghost from_gives = { λ _ refused. refused ≡ refusals.Memory };
+
+    fn from(_memory: Memory) -> PartsRefused {
+        PartsRefused::Memory
+    }
+}
+
 /// What is counted of the rows and of their tree (Lakshmanan, Pei, Zhao, SIGMOD 2003; which links
 /// are kept is own).
 #[derive(Clone, Copy, Debug, PartialEq, Eq)]

@@ -1,5 +1,6 @@
 // The state, the tree of its rows, the index of the tree's classes, and what files do to them.
-ghost use Rattle.std.specs.Prelude.{Err, IfOk, IfSome, List, Ok, OnErr, OnOk, Result, length, true, ◌+◌, ◌++◌, ◌≡◌, ◌≤◌};
+ghost use Rattle.std.specs.Prelude.{Err, IfOk, IfSome, List, None, Ok, OnErr, OnOk, Result, length, true, ◌+◌, ◌++◌, ◌<◌, ◌≡◌, ◌≤◌};
+ghost use Rattle.base_table.specs.Places.{rows_of};
 ghost use Rattle.cell_core.specs.Gives.{Gives};
 ghost use Rattle.csv_load.specs.Batch.{Change, deleted, inserted};
 ghost use Rattle.csv_load.specs.Faults.{Fault, fault_in};
@@ -12,13 +13,14 @@ ghost use Rattle.measure_index.specs.Rankings.{IsIndex};
 ghost use Rattle.warehouse.specs.Batch as batches;
 ghost use Rattle.warehouse.specs.Batch.{result_of};
 ghost use Rattle.warehouse.specs.InPlace.{IsWithinCost, KeepsApart, KeepsNodes, LeavesApart, LeavesNumbers, cost_in, gone, kept, with_codes};
-ghost use Rattle.warehouse.specs.State.{AreContents, State, empty, scale_in};
-ghost use Rattle.warehouse.specs.Stored.{applied_in, refusal_in};
+ghost use Rattle.warehouse.specs.State.{AreContents, State, coded_rows, empty, scale_in};
+ghost use Rattle.warehouse.specs.Stored.{IsStored, applied_in, decoded_rows, refusal_in, state_of};
 
 use crate::Memory;
 use crate::changing::{attempt, change};
 use crate::indexing::new_index;
-use crate::refused::{Applied, Refused, Stats};
+use crate::parts::tree_and_index;
+use crate::refused::{Applied, PartsRefused, Refused, Stats};
 use base_table::Table;
 use cell_core::Steps;
 use csv_load::{LoadRefused, RawBatch, read_base, read_batch};
@@ -94,6 +96,34 @@ impl Warehouse {
         })
     }
 
+    /// The state of a schema, texts and rows that were made elsewhere, with the tree of the rows and the
+    /// index of its classes. NodesFull is the answer exactly where the tree has more nodes than the
+    /// schema allows, unless memory runs out. The parts are dropped on a refusal.
+    pub fn from_parts<L: Ledger>(
+        alloc: Global,
+        schema: Schema,
+        dict: Dict,
+        table: Table,
+        steps: &mut Steps<L>,
+    ) -> Result<Warehouse, PartsRefused>
+        requires { IsStored schema dict table }
+        ensures state { IfOk result (λ warehouse. warehouse.state ≡ state_of schema dict table) }
+        ensures valid { IfOk result (λ warehouse. AreContents warehouse) }
+        ensures nodes_full { result ≡ Err PartsRefused.NodesFull → schema.nodes < length (trees.nodes text_cmp (decoded_rows dict.lists table)) }
+    {
+        match tree_and_index(alloc, &schema, &table, steps) {
+            Ok((tree, index)) => Ok(Warehouse {
+                schema,
+                dict,
+                table,
+                tree,
+                index,
+                alloc,
+            }),
+            Err(refused) => Err(refused),
+        }
+    }
+
     /// The schema.
     pub fn schema(&self) -> &Schema
         ensures value { result.now ≡ self.now.state.schema }
@@ -109,6 +139,17 @@ impl Warehouse {
         ensures valid { AreContents self.now }
     {
         &self.dict
+    }
+
+    /// The rows by their codes. It takes no memory.
+    pub fn table(&self) -> &Table
+        ensures rows { rows_of result.now ≡ coded_rows self.now.state }
+        ensures dims { result.now.dims ≡ length self.now.state.schema.dims }
+        ensures measures { result.now.measures ≡ length self.now.state.schema.measures }
+        ensures closed { result.now.was ≡ None }
+        ensures valid { AreContents self.now }
+    {
+        &self.table
     }
 
     /// Says what is true of every warehouse. It does nothing.
