@@ -1,3 +1,9 @@
 pub mod FormatLaws
+pub mod Looping
+pub mod NextRow
+pub mod NextText
 pub mod PartLaws
+pub mod Putting
 pub mod SnapshotLaws
+pub mod Stages
+pub mod StateLaws

@@ -1,25 +1,22 @@
 -- A snapshot has one spelling.
 use Rattle.std.proofs.Common.{◌≡◌, ◌↔◌, ℕ, ◌^◌, ◌<◌, Bool, true, false, cond, List, Option, Some, None, Result, Ok, Err, length, refl, sym, ap, ◌∙◌, subst}
-use Rattle.std.specs.Cmp.{nat_cmp_total}
-use Rattle.std.specs.Cmp.Lexicographic.{lists_total}
-use Rattle.std.specs.FinMap as map
+use Rattle.std.specs.Cmp.Lexicographic.{bytes_decides}
+use Rattle.std.specs.Str.{bytes_eq}
 use Rattle.std.specs.Int.{w32}
 use Rattle.std.specs.List.{AllByRecursion}
-use Rattle.cube_defs.specs.Text.{Text, text_eq}
+use Rattle.cube_defs.specs.Text.{Text}
 use Rattle.cube_defs.specs.Rows.{Row}
-use Rattle.cube_laws.proofs.Cells.{IsEquality}
-use Rattle.cube_laws.proofs.Orders.{equality_by}
 use Rattle.qc_schema.specs.Schema.{Layout}
 use Rattle.qc_schema.specs.Grammar.{schema_in}
 use Rattle.qc_schema.specs.Spelling.{layout_text}
 use Rattle.cube_snapshot.specs.Format.{IsBytes, followed, number, run, sized, times, whole}
 use Rattle.cube_snapshot.specs.Parts.{AreTexts, IsRow, rows, texts}
-use Rattle.cube_snapshot.specs.Snapshot.{AreLists, AreRows, IsSnapshot, IsSpelled, Parts, Sequence, if_canonical, mark, mark_in, mark_text, parts_of, schema, schema_of, sequence, sequence_of, snapshot}
+use Rattle.cube_snapshot.specs.Snapshot.{AreLists, AreRows, IsSnapshot, IsSpelled, Parts, Sequence, behind, if_canonical, mark, mark_in, mark_text, parts_of, schema, schema_of, sequence, sequence_of, snapshot}
 use Rattle.cube_snapshot.proofs.FormatLaws.{IsFormat, fits-is, followed-is, number-is, run-is, seen-is, sized-is, times-is, whole-again, whole-is, wide32}
 use Rattle.cube_snapshot.proofs.PartLaws.{rows-is, texts-is}
 
-law : IsEquality text_eq
-law = equality_by (lists_total nat_cmp_total) (map.slice_cmp-IsAntisymmetric map.nat_cmp-IsAntisymmetric)
+itself : (text : Text) → bytes_eq text text ≡ true
+itself text = (bytes_decides text text).1 refl
 
 passed : {X : Type 0} (b : Bool) (x y : X) → cond b (Some x) None ≡ Some y → (b ≡ true) × (x ≡ y)
 passed true x y e = (refl, cc)
@@ -27,20 +24,20 @@ passed false x y e = absurd cc
 
 pub mark-is : IsFormat mark (λ _. Unit {0})
 mark-is = seen-is (run 8) (λ _. mark_text) mark_in (λ text. length text ≡ 8) (λ _. Unit {0}) (run-is 8)
-    (λ _ _. (refl, ap (λ b. cond b (Some tt) None) (law.same mark_text)))
-    (λ x _ h e. (law.exact mark_text x (passed (text_eq mark_text x) tt _ e).0, tt))
+    (λ _ _. (refl, ap (λ b. cond b (Some tt) None) (itself mark_text)))
+    (λ x _ h e. (sym ((bytes_decides x mark_text).0 (passed (bytes_eq x mark_text) tt _ e).0), tt))
 
 pub schema-is : IsFormat schema IsSpelled
 schema-is = seen-is (sized (number w32)) layout_text schema_of (λ text. length text < 2 ^ 32) IsSpelled
     (sized-is (number w32) (λ n. n < 2 ^ 32) (number-is w32 (2 ^ 32) wide32))
-    (λ l h. (h.few, ap (if_canonical (layout_text l)) h.again ∙ ap (λ b. cond b (Some l) None) (law.same (layout_text l))))
+    (λ l h. (h.few, ap (if_canonical (layout_text l)) h.again ∙ ap (λ b. cond b (Some l) None) (itself (layout_text l))))
     (λ x l h e. let b = back schema_in x l (schema_in x) refl e in (b.0, record { few = subst (λ t. length t < 2 ^ 32) (sym b.0) h; again = b.1 }))
   where
     back : {E : Type 0} (read : List ℕ → Result Layout E) (x : List ℕ) (l : Layout) (r : Result Layout E) → read x ≡ r → if_canonical x r ≡ Some l → (layout_text l ≡ x) × (read (layout_text l) ≡ Ok l)
     back read x l (Err f) q e = absurd cc
     back read x l (Ok k) q e =
-        let p = passed (text_eq (layout_text k) x) k l e in
-        let same : layout_text l ≡ x = ap layout_text (sym p.1) ∙ law.exact (layout_text k) x p.0 in
+        let p = passed (bytes_eq x (layout_text k)) k l e in
+        let same : layout_text l ≡ x = ap layout_text (sym p.1) ∙ sym ((bytes_decides x (layout_text k)).0 p.0) in
         (same, ap read same ∙ q ∙ ap (λ y. Ok y) p.1)
 
 -- what holds of the parts that have a spelling, one behind another
@@ -58,14 +55,14 @@ list-of-rows-is : (dims measures : ℕ) → IsFormat (rows dims measures) (AreRo
 list-of-rows-is dims measures = fits-is (rows dims measures) (λ rs. (length rs < 2 ^ 32) × AllByRecursion (IsRow dims measures) rs) (rows-is dims measures) (AreRows dims measures)
     (λ rs h. (h.few, h.each)) (λ rs h. record { few = h.0; each = h.1 })
 
-behind-is : (l : Layout) → IsFormat (followed (times texts (length l.dims)) (λ _. rows (length l.dims) (length l.measures))) (FitsBehind l)
+behind-is : (l : Layout) → IsFormat (behind l) (FitsBehind l)
 behind-is l = followed-is (times texts (length l.dims)) (λ _. rows (length l.dims) (length l.measures)) (AreLists (length l.dims)) (λ _. AreRows (length l.dims) (length l.measures))
     (lists-is (length l.dims)) (λ _ _. list-of-rows-is (length l.dims) (length l.measures))
 
 sequence-is : IsFormat sequence FitsSequence
 sequence-is =
-    followed-is mark (λ _. followed schema (λ l. followed (times texts (length l.dims)) (λ _. rows (length l.dims) (length l.measures)))) (λ _. Unit {0}) (λ _ q. IsSpelled q.0 × FitsBehind q.0 q.1) mark-is
-    (λ _ _. followed-is schema (λ l. followed (times texts (length l.dims)) (λ _. rows (length l.dims) (length l.measures))) IsSpelled FitsBehind schema-is (λ l _. behind-is l))
+    followed-is mark (λ _. followed schema behind) (λ _. Unit {0}) (λ _ q. IsSpelled q.0 × FitsBehind q.0 q.1) mark-is
+    (λ _ _. followed-is schema behind IsSpelled FitsBehind schema-is (λ l _. behind-is l))
 
 pub snapshot-is : IsFormat snapshot IsSnapshot
 snapshot-is = seen-is sequence sequence_of (λ s. Some (parts_of s)) FitsSequence IsSnapshot sequence-is there back

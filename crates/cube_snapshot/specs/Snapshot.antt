@@ -1,8 +1,9 @@
 -- A whole snapshot: its mark, its schema, the texts of each dimension and the rows by their codes.
-use Rattle.std.specs.Prelude.{◌≡◌, ◌<◌, ◌^◌, ℕ, List, Option, Some, None, Result, Ok, Err, codes, length, if◌then◌else◌}
+use Rattle.std.specs.Prelude.{◌≡◌, ◌<◌, ◌^◌, ◌++◌, ℕ, List, Option, Some, None, Result, Ok, Err, codes, length, if◌then◌else◌}
 use Rattle.std.specs.Int.{w32}
 use Rattle.std.specs.List.{AllByRecursion}
-use Rattle.cube_defs.specs.Text.{Text, text_eq}
+use Rattle.std.specs.Str.{bytes_eq}
+use Rattle.cube_defs.specs.Text.{Text}
 use Rattle.cube_defs.specs.Rows.{Row}
 use Rattle.qc_schema.specs.Schema.{Layout}
 use Rattle.qc_schema.specs.Grammar.{schema_in}
@@ -15,7 +16,7 @@ abbrev pub mark_text : List ℕ
 mark_text = codes "QCUBESN1"
 
 abbrev pub mark_in : List ℕ → Option (Unit {0})
-mark_in bytes = if text_eq mark_text bytes then Some tt else None
+mark_in bytes = if bytes_eq bytes mark_text then Some tt else None
 
 abbrev pub mark : Format (Unit {0})
 mark = seen_as (run 8) (λ _. mark_text) mark_in
@@ -23,7 +24,7 @@ mark = seen_as (run 8) (λ _. mark_text) mark_in
 -- the schema that a text is the canonical text of
 abbrev pub if_canonical : {E : Type 0} → List ℕ → Result Layout E → Option Layout
 if_canonical bytes (Err e) = None
-if_canonical bytes (Ok layout) = if text_eq (layout_text layout) bytes then Some layout else None
+if_canonical bytes (Ok layout) = if bytes_eq bytes (layout_text layout) then Some layout else None
 
 abbrev pub schema_of : List ℕ → Option Layout
 schema_of bytes = if_canonical bytes (schema_in bytes)
@@ -48,14 +49,20 @@ sequence_of p = (tt, (p.schema, (p.texts, p.rows)))
 abbrev pub parts_of : Sequence → Parts
 parts_of s = record { schema = s.1.0; texts = s.1.1.0; rows = s.1.1.1 }
 
+-- the texts and the rows that stand behind a schema
+abbrev pub behind : Layout → Format (List (List Text) × List (Row ℕ))
+behind layout = followed (times texts (length layout.dims)) (λ _. rows (length layout.dims) (length layout.measures))
+
 abbrev pub sequence : Format Sequence
-sequence =
-    followed mark (λ _. followed schema (λ layout.
-    followed (times texts (length layout.dims)) (λ _. rows (length layout.dims) (length layout.measures))))
+sequence = followed mark (λ _. followed schema behind)
 
 -- the whole of them; nothing follows
 abbrev pub snapshot : Format Parts
 snapshot = seen_as sequence sequence_of (λ s. Some (parts_of s))
+
+-- the spelling of parts, by the text of their schema and its numbers of dimensions and measures
+abbrev pub laid : List ℕ → List (List Text) → ℕ → ℕ → List (Row ℕ) → List ℕ
+laid text lists dims measures list = mark_text ++ (((number w32).put (length text) ++ text) ++ ((times texts dims).put lists ++ (rows dims measures).put list))
 
 -- a schema whose canonical text is read as it
 pub record IsSpelled (layout : Layout) : Type 0 where

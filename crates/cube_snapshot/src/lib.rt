@@ -1,4 +1,17 @@
-//! Snapshots: a state as bytes, each state in one spelling.
+//! Snapshots: a state as bytes, and back. Each state has one spelling.
 #![tactic(auto)]
 
+mod decoding;
+mod encoding;
 pub mod laws;
+mod reading;
+mod refused;
+mod rows;
+mod sizes;
+mod texts;
+mod whole;
+mod writing;
+
+pub use decoding::decode;
+pub use encoding::encode;
+pub use refused::{DecodeRefused, EncodeRefused};

@@ -1,0 +1,40 @@
+// A state from its bytes.
+ghost use Rattle.std.specs.Prelude.{Err, IfOk, MatchResult, length, ◌≡◌, ◌≢◌, ◌≤◌};
+ghost use Rattle.warehouse.specs.State.{AreContents, IsState, State};
+ghost use Rattle.cube_snapshot.specs.States.{HasTooManyNodes, IsWithin, spelling};
+
+use crate::refused::{DecodeRefused, PartRefused};
+use crate::whole::read_parts;
+use cell_core::Steps;
+use cube_defs::MAX_FILE;
+use std::alloc::Global;
+use std::sync::ledger::Ledger;
+use warehouse::{PartsRefused, Warehouse};
+
+/// The state whose snapshot the bytes are. Unless memory runs out, it is the answer exactly where
+/// they are the snapshot of a state; NodesFull exactly where they are spelled so for a state that
+/// has more nodes than its schema allows, and is within all other limits; and else Form. Each byte
+/// is read once, and the tree is built once.
+pub fn decode<L: Ledger>(
+    alloc: Global,
+    bytes: &[u8],
+    steps: &mut Steps<L>,
+) -> Result<Warehouse, DecodeRefused>
+    requires { length bytes.now ≤ MAX_FILE }
+    ensures spelled { IfOk result (λ warehouse. bytes.now ≡ spelling warehouse.state) }
+    ensures valid { IfOk result (λ warehouse. AreContents warehouse) }
+    ensures found { (s : State) → IsState s → bytes.now ≡ spelling s → MatchResult result (λ warehouse. warehouse.state ≡ s) (λ e. e ≡ DecodeRefused.Memory) }
+    ensures form { result ≡ Err DecodeRefused.Form → (s : State) → IsWithin s → bytes.now ≢ spelling s }
+    ensures nodes_full { result ≡ Err DecodeRefused.NodesFull → (s : State) × HasTooManyNodes bytes.now s }
+{
+    let (schema, dict, table) = match read_parts(alloc, bytes) {
+        Ok(made) => made,
+        Err(PartRefused::Form) => return Err(DecodeRefused::Form),
+        Err(PartRefused::Memory) => return Err(DecodeRefused::Memory),
+    };
+    match Warehouse::from_parts(alloc, schema, dict, table, steps) {
+        Ok(warehouse) => Ok(warehouse),
+        Err(PartsRefused::NodesFull) => Err(DecodeRefused::NodesFull),
+        Err(PartsRefused::Memory) => Err(DecodeRefused::Memory),
+    }
+}

@@ -1,0 +1,34 @@
+// A state as bytes.
+ghost use Rattle.std.specs.Prelude.{Err, IfOk, length, ◌<◌, ◌≡◌, ◌≤◌};
+ghost use Rattle.cube_snapshot.specs.States.{spelling};
+
+use crate::refused::EncodeRefused;
+use crate::sizes::snapshot_len;
+use crate::writing::put_all;
+use cube_defs::MAX_FILE;
+use qc_schema::schema_text;
+use std::alloc::Global;
+use warehouse::Warehouse;
+
+/// The snapshot of a state: the mark `QCUBESN1`; the length of the schema's canonical text and the
+/// text; for each dimension the number of its texts, and each behind its length; the number of rows,
+/// and for each its id, a code in each dimension, which is the place of a text, and its amounts in
+/// two's complement. The length of a text is one byte, an id and an amount are eight, and all other
+/// numbers four, the highest byte first. Nothing follows.
+///
+/// TooLong is the answer exactly where this has more bytes than a file may have, unless memory runs
+/// out. Room for all bytes is taken at once, and each is written once.
+pub fn encode(alloc: Global, warehouse: &Warehouse) -> Result<Vec<u8>, EncodeRefused>
+    ensures bytes { IfOk result (λ bytes. bytes.items ≡ spelling warehouse.now.state) }
+    ensures fits { IfOk result (λ bytes. length bytes.items ≤ MAX_FILE) }
+    ensures too_long { result ≡ Err EncodeRefused.TooLong → MAX_FILE < length (spelling warehouse.now.state) }
+{
+    let schema = schema_text(alloc, warehouse.schema())?;
+    let dict = warehouse.dict();
+    let table = warehouse.table();
+    let len = snapshot_len(&schema, dict, table);
+    if len > MAX_FILE as u64 {
+        return Err(EncodeRefused::TooLong);
+    }
+    Ok(put_all(alloc, len as usize, &schema, dict, table)?)
+}

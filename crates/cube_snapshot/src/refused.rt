@@ -1,0 +1,48 @@
+// Why a state has no snapshot, and why bytes are none.
+use cube_defs::Memory;
+use thiserror::Error;
+
+/// Why a state has no snapshot.
+#[derive(Clone, Copy, Debug, PartialEq, Eq, Error)]
+pub enum EncodeRefused {
+    /// It would have more bytes than a file may have.
+    #[error("the snapshot would have more bytes than a file may have")]
+    TooLong,
+    /// Memory ran out.
+    #[error("memory ran out")]
+    Memory,
+}
+
+impl From<Memory> for EncodeRefused {
+    ghost use Rattle.std.specs.Prelude.{◌≡◌};
+    ghost use Rattle.cube_snapshot.specs.declared.refused.EncodeRefused.TheVariants as refusals;
+
+    ghost from_gives = { λ _ refused. refused ≡ refusals.Memory };
+
+    fn from(_memory: Memory) -> EncodeRefused {
+        EncodeRefused::Memory
+    }
+}
+
+/// Why the part of a snapshot is not read.
+#[derive(Clone, Copy, Debug, PartialEq, Eq)]
+pub(crate) enum PartRefused {
+    /// The bytes are no such part.
+    Form,
+    /// Memory ran out.
+    Memory,
+}
+
+/// Why bytes are no snapshot of a state.
+#[derive(Clone, Copy, Debug, PartialEq, Eq, Error)]
+pub enum DecodeRefused {
+    /// The bytes are spelled for no state.
+    #[error("the bytes are no snapshot")]
+    Form,
+    /// The tree would have more nodes than the schema allows.
+    #[error("the tree would have more nodes than the schema allows")]
+    NodesFull,
+    /// Memory ran out.
+    #[error("memory ran out")]
+    Memory,
+}

@@ -1,0 +1,55 @@
+// How many bytes the parts of a snapshot have.
+ghost use Rattle.std.specs.Prelude.{All, length, ◌+◌, ◌*◌, ◌<◌, ◌≡◌, ◌≤◌};
+ghost use Rattle.std.specs.List.{flat_map};
+ghost use Rattle.base_table.specs.Places.{rows_of};
+ghost use Rattle.cube_snapshot.specs.Parts.{rows, text, texts};
+ghost use Rattle.cube_snapshot.specs.Snapshot.{laid};
+ghost use Rattle.value_dict.specs.TextLists.{list_at};
+
+use base_table::Table;
+use cube_defs::MAX_CODES;
+use value_dict::Dict;
+
+// The bytes of the texts of a dimension, each behind its length, without their number.
+fn texts_len(dict: &Dict, dim: u8) -> usize
+    requires dim { dim < length dict.now.lists }
+    requires short { All (λ t. length t ≤ 255) (list_at dict.now dim) }
+    ensures value { result ≡ length (flat_map text.put (list_at dict.now dim)) }
+    ensures small { result ≤ 256 * MAX_CODES }
+{
+    let mut len = 0;
+    'texts: for code in 0..dict.len(dim) {
+        len += 1 + dict.text(dim, code).len();
+    }
+    len
+}
+
+// The bytes of the texts of all dimensions.
+fn dict_len(dict: &Dict) -> usize
+    requires { All (All (λ t. length t ≤ 255)) dict.now.lists }
+    ensures value { result ≡ length (flat_map texts.put dict.now.lists) }
+    ensures small { result ≤ 16 * (4 + 256 * MAX_CODES) }
+{
+    let mut len = 0;
+    'dims: for dim in 0..dict.dims() {
+        len += 4 + texts_len(dict, dim);
+    }
+    len
+}
+
+// The bytes of the rows, with their number.
+fn rows_len(table: &Table) -> usize
+    ensures value { result ≡ length ((rows table.now.dims table.now.measures).put (rows_of table.now)) }
+    ensures small { result ≤ 4 + 1000000 * (8 + 4 * 16 + 8 * 4) }
+{
+    let row = 8 + 4 * usize::from(table.dims()) + 8 * usize::from(table.measures());
+    4 + table.count() as usize * row
+}
+
+/// The bytes of a whole snapshot.
+pub(crate) fn snapshot_len(schema: &Vec<u8>, dict: &Dict, table: &Table) -> u64
+    requires { All (All (λ t. length t ≤ 255)) dict.now.lists }
+    ensures { result ≡ length (laid schema.now.items dict.now.lists table.now.dims table.now.measures (rows_of table.now)) }
+{
+    12 + schema.len() as u64 + dict_len(dict) as u64 + rows_len(table) as u64
+}

@@ -1,0 +1,157 @@
+// The bytes of the parts of a snapshot, put behind those of the parts before.
+ghost use Rattle.std.specs.Prelude.{All, IfOk, OnOk, Some, [], is_some, length, nat_abs, true, ℕ, ◌∷◌, ◌++◌, ◌<◌, ◌≡◌, ◌≤◌};
+ghost use Rattle.std.specs.Int.{w32, w64};
+ghost use Rattle.std.specs.List.{flat_map};
+ghost use Rattle.aggregates.specs.Bounds.{largest_amount};
+ghost use Rattle.base_table.specs.Places.{row_at, rows_in, rows_of};
+ghost use Rattle.cube_defs.specs.Rows.{Row};
+ghost use Rattle.cube_snapshot.specs.Format.{number};
+ghost use Rattle.cube_snapshot.specs.Parts.{amount, row, rows, text, texts};
+ghost use Rattle.cube_snapshot.specs.Snapshot.{laid, mark_text};
+ghost use Rattle.value_dict.specs.TextLists.{list_at};
+
+use base_table::{RowNo, Table};
+use cube_defs::{MAX_FILE, Memory};
+use std::alloc::Global;
+use value_dict::Dict;
+
+/// Puts a number of four bytes.
+pub(crate) fn put_u32(out: &mut Vec<u8>, value: u32) -> Result<(), Memory>
+    ensures { OnOk result (out.new.items ≡ out.old.items ++ (number w32).put value) }
+{
+    out.extend_from_slice(&value.to_be_bytes())?;
+    Ok(())
+}
+
+fn put_u64(out: &mut Vec<u8>, value: u64) -> Result<(), Memory>
+    ensures { OnOk result (out.new.items ≡ out.old.items ++ (number w64).put value) }
+{
+    out.extend_from_slice(&value.to_be_bytes())?;
+    Ok(())
+}
+
+// Puts an amount in two's complement.
+fn put_amount(out: &mut Vec<u8>, value: i64) -> Result<(), Memory>
+    ensures { OnOk result (out.new.items ≡ out.old.items ++ amount.put value) }
+{
+    put_u64(out, value.cast_unsigned())
+}
+
+// Puts a text behind its length.
+fn put_text(out: &mut Vec<u8>, value: &str) -> Result<(), Memory>
+    requires { length value.now ≤ 255 }
+    ensures { OnOk result (out.new.items ≡ out.old.items ++ text.put value.now) }
+{
+    let bytes = value.as_bytes();
+    out.push(bytes.len() as u8)?;
+    out.extend_from_slice(bytes)?;
+    Ok(())
+}
+
+// Puts the texts of a dimension behind their number.
+fn put_texts(out: &mut Vec<u8>, dict: &Dict, dim: u8) -> Result<(), Memory>
+    requires dim { dim < length dict.now.lists }
+    requires short { All (λ t. length t ≤ 255) (list_at dict.now dim) }
+    ensures { OnOk result (out.new.items ≡ out.old.items ++ texts.put (list_at dict.now dim)) }
+{
+    put_u32(out, dict.len(dim))?;
+    'texts: for code in 0..dict.len(dim) {
+        put_text(out, dict.text(dim, code))?;
+    }
+    Ok(())
+}
+
+/// Puts the texts of all dimensions.
+pub(crate) fn put_dict(out: &mut Vec<u8>, dict: &Dict) -> Result<(), Memory>
+    requires { All (All (λ t. length t ≤ 255)) dict.now.lists }
+    ensures { OnOk result (out.new.items ≡ out.old.items ++ flat_map texts.put dict.now.lists) }
+{
+    'dims: for dim in 0..dict.dims() {
+        put_texts(out, dict, dim)?;
+    }
+    Ok(())
+}
+
+// Puts the codes of a row.
+fn put_codes(out: &mut Vec<u8>, table: &Table, no: RowNo) -> Result<(), Memory>
+    requires { is_some (row_at table.now no.0) ≡ true }
+    ensures { OnOk result ((r : Row ℕ) → row_at table.now no.0 ≡ Some r → out.new.items ≡ out.old.items ++ flat_map (number w32).put r.tuple) }
+{
+    'dims: for dim in 0..table.dims() {
+        put_u32(out, table.code(no, dim))?;
+    }
+    Ok(())
+}
+
+// Puts amounts.
+fn put_amounts(out: &mut Vec<u8>, amounts: &[i64]) -> Result<(), Memory>
+    requires { All (λ a. nat_abs a ≤ largest_amount) amounts.now }
+    ensures { OnOk result (out.new.items ≡ out.old.items ++ flat_map amount.put amounts.now) }
+{
+    'amounts: for value in amounts {
+        put_amount(out, *value)?;
+    }
+    Ok(())
+}
+
+// Puts a row.
+fn put_row(out: &mut Vec<u8>, table: &Table, no: RowNo) -> Result<(), Memory>
+    requires { is_some (row_at table.now no.0) ≡ true }
+    ensures { OnOk result ((r : Row ℕ) → row_at table.now no.0 ≡ Some r → out.new.items ≡ out.old.items ++ (row table.now.dims table.now.measures).put r) }
+{
+    put_u64(out, table.id(no))?;
+    put_codes(out, table, no)?;
+    put_amounts(out, table.amounts(no))
+}
+
+// Puts the row at a place, where one is there.
+fn put_place(out: &mut Vec<u8>, table: &Table, place: u32) -> Result<(), Memory>
+    requires { place < length table.now.places }
+    ensures { OnOk result (out.new.items ≡ out.old.items ++ flat_map (row table.now.dims table.now.measures).put (rows_in (row_at table.now place ∷ []))) }
+{
+    match table.at(place) {
+        Some(no) => put_row(out, table, no),
+        None => Ok(()),
+    }
+}
+
+/// Puts the rows behind their number.
+pub(crate) fn put_rows(out: &mut Vec<u8>, table: &Table) -> Result<(), Memory>
+    ensures { OnOk result (out.new.items ≡ out.old.items ++ (rows table.now.dims table.now.measures).put (rows_of table.now)) }
+{
+    put_u32(out, table.count())?;
+    'places: for place in 0..table.places() {
+        put_place(out, table, place)?;
+    }
+    Ok(())
+}
+
+// Puts the mark and the text of the schema.
+fn put_schema(out: &mut Vec<u8>, schema: &Vec<u8>) -> Result<(), Memory>
+    requires { length schema.now.items ≤ MAX_FILE }
+    ensures { OnOk result (out.new.items ≡ (out.old.items ++ mark_text) ++ ((number w32).put (length schema.now.items) ++ schema.now.items)) }
+{
+    out.extend_from_slice(b"QCUBESN1")?;
+    put_u32(out, schema.len() as u32)?;
+    out.extend_from_slice(schema)?;
+    Ok(())
+}
+
+/// The parts one behind another, in a buffer with room for so many bytes.
+pub(crate) fn put_all(
+    alloc: Global,
+    len: usize,
+    schema: &Vec<u8>,
+    dict: &Dict,
+    table: &Table,
+) -> Result<Vec<u8>, Memory>
+    requires schema { length schema.now.items ≤ MAX_FILE }
+    requires short { All (All (λ t. length t ≤ 255)) dict.now.lists }
+    ensures { IfOk result (λ out. out.items ≡ laid schema.now.items dict.now.lists table.now.dims table.now.measures (rows_of table.now)) }
+{
+    let mut out = Vec::with_capacity(alloc, len)?;
+    put_schema(&mut out, schema)?;
+    put_dict(&mut out, dict)?;
+    put_rows(&mut out, table)?;
+    Ok(out)
+}
