@@ -1,14 +1,12 @@
 -- A ranking after entries came and went, and after a change was undone.
 use Rattle.std.proofs.Common.{◌≡◌, ◌&&◌, ◌||◌, not, ℕ, suc, List, [], ◌∷◌, length, map, refl, sym, ap, ap₂, ◌∙◌, arith}
-use Rattle.std.specs.List.{All}
 use Rattle.std.specs.BTreeSet.{BTreeSet}
 use Rattle.aggregates.specs.declared.agg.Agg.{Agg}
 use Rattle.aggregates.specs.declared.kind.AggKind.{AggKind}
 use Rattle.cell_core.specs.declared.cell.NodeNo.{NodeNo}
 use Rattle.measure_index.specs.declared.entry.Entry.{Entry}
 use Rattle.measure_index.specs.Changes.{AreFresh, ArePlanned, Came, HasChanged, Went, has, lists}
-use Rattle.measure_index.specs.Index.{units}
-use Rattle.measure_index.specs.Rankings.{Ranking, no_entries}
+use Rattle.measure_index.specs.Rankings.{Ranking}
 use Rattle.measure_index.proofs.EntryLemmas.{same_entries}
 use Rattle.measure_index.proofs.KeyLemmas.{back_again, changed}
 
@@ -33,20 +31,3 @@ has_gone_back old mid new put came went fresh q c w =
     same_entries before after c.alike.was_rising w.alike.rising
     (λ e. back_again (has old e) (lists put e) (has mid e) (lists came e) (has new e) (c.entry e) (fresh e) (w.entry e ∙ ap (λ es. has mid e && not (lists es e)) q)) in
     λ i. record { kind = (w.alike.kind ∙ c.alike.kind) i; scale = (w.alike.scale ∙ c.alike.scale) i; entries = sym entries i }
-
--- columns that had no entries have none again
-pub emptied : (olds news : List Ranking) → All (λ r. length r.entries ≡ 0) olds → units news ≡ units olds → map (λ r. no_entries r.kind r.scale) news ≡ olds
-emptied [] [] h e = refl
-emptied [] (n ∷ news) h e = cc
-emptied (o ∷ olds) [] h e = cc
-emptied (o ∷ olds) (n ∷ news) h e =
-    let first : ◌≡◌ {A = AggKind × ℕ} (n.kind, n.scale) (o.kind, o.scale) = cc in
-    let rest : units news ≡ units olds = cc in
-    ap₂ (λ x xs. x ∷ xs) (same (ap (λ p. p.0) first) (ap (λ p. p.1) first) (nothing o.entries (h 0 o (omega arith)))) (emptied olds news (λ k d l. h (suc k) d (omega (arith, l))) rest)
-  where
-    nothing : (es : List Entry) → length es ≡ 0 → [] ≡ es
-    nothing [] e = refl
-    nothing (x ∷ es) e = absurd (omega (arith, e))
-
-    same : n.kind ≡ o.kind → n.scale ≡ o.scale → [] ≡ o.entries → no_entries n.kind n.scale ≡ o
-    same k s e = λ i. record { kind = k i; scale = s i; entries = e i }

@@ -25,7 +25,7 @@ use Rattle.measure_index.specs.declared.entry.Entry.{Entry}
 use Rattle.measure_index.specs.Changes.{HasChanged, has, lists}
 use Rattle.measure_index.specs.Entries.{AreEntries, IsEntry, entry_cmp, entry_total}
 use Rattle.measure_index.specs.Index.{empty_ranking, ranking_of, scale_of, units}
-use Rattle.measure_index.specs.Rankings.{IsIndex, IsRanking, Ranking}
+use Rattle.measure_index.specs.Rankings.{IsIndex, IsRanking, Ranking, no_entries}
 use Rattle.measure_index.proofs.EntryLemmas.{exact, same_entry}
 use Rattle.measure_index.proofs.LowestTerms.{same_ratio}
 
@@ -238,15 +238,16 @@ none_rise : IsStrictlySortedBy entry_cmp []
 unfolding IsStrictlySortedBy
 none_rise = tt
 
+-- a ranking without entries is that of no classes
+pub no_classes : (kind : AggKind) (scale : ℕ) → IsRanking (λ _. None) (no_entries kind scale)
+no_classes kind scale = record { rising = none_rise; classes = λ e m. absurd m; all = λ k a e. cc }
+
 pub empty_index : (scales : List ℕ) (kinds : List AggKind) → IsIndex (λ _. None) (map (empty_ranking scales) kinds)
 empty_index scales [] = λ k d l. absurd (omega (arith, l))
 empty_index scales (kind ∷ kinds) = behind (empty_index scales kinds)
   where
-    none : IsRanking (λ _. None) (empty_ranking scales kind)
-    none = record { rising = none_rise; classes = λ e m. absurd m; all = λ k a e. cc }
-
     behind : IsIndex (λ _. None) (map (empty_ranking scales) kinds) → IsIndex (λ _. None) (map (empty_ranking scales) (kind ∷ kinds))
-    behind more zero d l = none
+    behind more zero d l = no_classes kind (scale_of scales kind)
     behind more (suc k) d l = more k d (omega (arith, l))
 
 pub same_kinds : (a b : AggKind) → same_kind a b ≡ true → a ≡ b

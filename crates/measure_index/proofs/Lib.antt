@@ -9,3 +9,4 @@ pub mod Measured
 pub mod Keyed
 pub mod Filled
 pub mod Units
+pub mod FillingLemmas

@@ -4,5 +4,6 @@ pub mod Rankings
 pub mod Changes
 pub mod Divisors
 pub mod Kept
+pub mod Filling
 pub mod Index
 pub mod Walks

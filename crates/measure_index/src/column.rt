@@ -1,10 +1,10 @@
 // The classes in order of the value of one kind.
-ghost use Rattle.std.specs.Prelude.{IfOk, OnErr, OnOk, [], length, ◌<◌, ◌^◌, ◌≡◌, ◌≤◌};
+ghost use Rattle.std.specs.Prelude.{IfOk, OnErr, OnOk, length, ◌<◌, ◌^◌, ◌≡◌, ◌≤◌};
 ghost use Rattle.measure_index.specs.Entries.{HaveMeasure};
 ghost use Rattle.measure_index.specs.Rankings.{IsRising, Ranking, no_entries};
-ghost use Rattle.std.specs.List.{AllZip};
-ghost use Rattle.measure_index.specs.Changes.{AreFresh, ArePlanned, Came, HasChanged, Went};
-ghost use Rattle.measure_index.specs.Kept.{IsKey, entries_at};
+ghost use Rattle.measure_index.specs.Changes.{AreFresh, ArePlanned, Came, Went};
+ghost use Rattle.measure_index.specs.Filling.{IsRankingOf};
+ghost use Rattle.measure_index.specs.Kept.{entries_at};
 ghost use Rattle.measure_index.specs.Walks.{qualifying};
 
 use crate::key::Key;
@@ -57,6 +57,27 @@ impl Column {
         }
     }
 
+    /// The classes of these keys, of which there may be up to 4,294,967,295, without a search for each.
+    pub(crate) fn filled(
+        alloc: Global,
+        kind: AggKind,
+        scale: u8,
+        keys: Vec<Key>,
+    ) -> Result<Column, Memory>
+        requires { scale ≤ 6 }
+        ensures { IfOk result (λ column. IsRankingOf (record { kind = kind; scale = scale; keys = keys.items }) column) }
+    {
+        let set = set_of(alloc, keys)?;
+        if set.len() > u32::MAX as usize {
+            return Err(AllocError);
+        }
+        Ok(Column {
+            kind,
+            scale,
+            keys: set,
+        })
+    }
+
     pub(crate) fn kind(&self) -> AggKind
         ensures { result ≡ self.now.kind }
     {
@@ -98,36 +119,6 @@ impl Column {
         removed.sort_unstable();
         let going = lacked_by(alloc, &added, &removed)?;
         Ok(Plan { added, going })
-    }
-
-    /// The keys of some classes, to be put in once there is nothing else to be kept.
-    pub(crate) fn keyed(&self, alloc: Global, classes: &[(NodeNo, Agg)]) -> Result<Vec<Key>, Memory>
-        requires { HaveMeasure self.now.kind classes.now }
-        ensures { IfOk result (λ keys. AllZip (IsKey self.now.kind) classes.now keys.items) }
-    {
-        keys_of(alloc, self.kind, classes)
-    }
-
-    /// Puts classes into a column without entries, up to 4,294,967,295 of them, without a search for
-    /// each. A refusal leaves it as it was.
-    pub(crate) fn fill(&mut self, alloc: Global, keys: Vec<Key>) -> Result<(), Memory>
-        requires { length self.old.entries ≡ 0 }
-        ensures ok { OnOk result ((classes : _) → AllZip (IsKey self.old.kind) classes keys.items → HasChanged classes [] self.old self.new) }
-        ensures err { OnErr result (self.new ≡ self.old) }
-    {
-        let set = set_of(alloc, keys)?;
-        if set.len() > u32::MAX as usize {
-            return Err(AllocError);
-        }
-        self.keys = set;
-        Ok(())
-    }
-
-    /// Takes all entries out.
-    pub(crate) fn clear(&mut self)
-        ensures { self.new ≡ no_entries self.old.kind self.old.scale }
-    {
-        self.keys.clear();
     }
 
     /// Puts entries in, up to 4,294,967,295 in all, and gives those that were not there. A refusal leaves

@@ -36,7 +36,7 @@ impl Model for Index {
 }
 
 // The scale of the kind's measure. A count has none.
-fn scale_in(scales: &[u8], kind: AggKind) -> u8
+pub(crate) fn scale_in(scales: &[u8], kind: AggKind) -> u8
     requires there { IsThere (length scales.now) kind }
     requires scales { All (λ scale. scale ≤ 6) scales.now }
     ensures value { result ≡ scale_of scales.now kind }
@@ -82,44 +82,6 @@ fn change_columns(
     }
 }
 
-// Takes all entries out of all columns.
-fn clear_columns(columns: &mut [Column])
-    ensures { columns.new ≡ map (λ r. no_entries r.kind r.scale) columns.old }
-{
-    let Some((first, rest)) = columns.split_first_mut() else {
-        return;
-    };
-    first.clear();
-    clear_columns(rest);
-}
-
-// Puts classes into columns without entries. They are let go once their values are taken, before the first
-// column is filled.
-fn fill_columns(
-    alloc: Global,
-    columns: &mut [Column],
-    classes: Vec<(NodeNo, Agg)>,
-) -> Result<(), Memory>
-    requires empty { All (λ r. length r.entries ≡ 0) columns.old }
-    requires measures { All (λ r. HaveMeasure r.kind classes.items) columns.old }
-    ensures ok { OnOk result (AllZip (HasChanged classes.items []) columns.old columns.new) }
-    ensures units { units columns.new ≡ units columns.old }
-    ensures err { OnErr result (columns.new ≡ columns.old) }
-{
-    let Some((first, rest)) = columns.split_first_mut() else {
-        return Ok(());
-    };
-    let keys = first.keyed(alloc, &classes)?;
-    fill_columns(alloc, rest, classes)?;
-    match first.fill(alloc, keys) {
-        Ok(()) => Ok(()),
-        Err(error) => {
-            clear_columns(rest);
-            Err(error)
-        }
-    }
-}
-
 fn is_empty(column: &Column) -> bool
     ensures { result ≡ true → length column.now.entries ≡ 0 }
 {
@@ -139,6 +101,12 @@ impl Index {
             columns.push(Column::new(alloc, *kind, scale_in(scales, *kind)))?;
         }
         Ok(Index { columns })
+    }
+
+    pub(crate) fn of(columns: Vec<Column>) -> Index
+        ensures { result ≡ columns.items }
+    {
+        Index { columns }
     }
 
     // The column of a kind.
@@ -170,21 +138,6 @@ impl Index {
         ensures { result ≡ true → All (λ r. length r.entries ≡ 0) self.now }
     {
         self.columns.iter().all(|column| is_empty(column))
-    }
-
-    /// Classes come into an index without entries. It takes no search for each, and so less time than
-    /// `change`, and less memory than to keep the classes meanwhile. A refusal leaves it as it was.
-    pub fn fill(&mut self, classes: Vec<(NodeNo, Agg)>) -> Result<(), Memory>
-        requires empty { All (λ r. length r.entries ≡ 0) self.old }
-        requires measures { All (λ r. HaveMeasure r.kind classes.items) self.old }
-        ensures entries { OnOk result (AllZip (HasChanged classes.items []) self.old self.new) }
-        ensures classes { OnOk result ((from to : ℕ → Option defs.Agg) → AreNew from to classes.items → AreNew to from [] → IsIndex from self.old →
-            IsIndex to self.new) }
-        ensures units { units self.new ≡ units self.old }
-        ensures err { OnErr result (self.new ≡ self.old) }
-    {
-        let alloc = *self.columns.allocator();
-        fill_columns(alloc, &mut self.columns, classes)
     }
 
     /// The classes of `remove` go and those of `add` come, in each kind; an entry that is in both

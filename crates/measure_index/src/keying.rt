@@ -13,15 +13,15 @@ use cube_defs::Memory;
 use std::alloc::Global;
 
 impl Key {
-    fn of(kind: AggKind, class: &(NodeNo, Agg)) -> Key
-        requires { IsThere class.now.1.measures kind }
-        ensures { IsKey kind class.now result }
+    pub(crate) fn of(kind: AggKind, node: NodeNo, class: &Agg) -> Key
+        requires { IsThere class.now.measures kind }
+        ensures { IsKey kind (node, class.now) result }
     {
-        let value = Quotient::of(&class.1, kind);
+        let value = Quotient::of(class, kind);
         Key {
             num: value.num,
             den: value.den,
-            node: class.0.0,
+            node: node.0,
         }
     }
 
@@ -58,7 +58,7 @@ pub(crate) fn keys_of(
 {
     let mut keys = Vec::with_capacity(alloc, classes.len())?;
     'classes: for class in classes {
-        keys.push(Key::of(kind, class))?;
+        keys.push(Key::of(kind, class.0, &class.1))?;
     }
     Ok(keys)
 }

@@ -3,6 +3,7 @@
 
 mod column;
 mod entry;
+mod filling;
 mod index;
 mod key;
 mod keying;
@@ -11,6 +12,7 @@ mod walk;
 
 pub use cube_defs::Memory;
 pub use entry::Entry;
+pub use filling::Filling;
 pub use index::Index;
 pub use walk::Walk;
 

@@ -2,7 +2,7 @@ ghost use Rattle.std.specs.Prelude.{All, IfOk, OnOk, nat_abs, ◌≡◌, ◌≤�
 ghost use Rattle.aggregates.specs.Bounds.{largest_amount};
 ghost use Rattle.aggregates.specs.Views.{IsThere};
 
-use crate::{Index, Memory, Walk};
+use crate::{Filling, Index, Memory, Walk};
 use aggregates::{Agg, AggKind, read_fraction};
 use cell_core::NodeNo;
 use std::alloc::Global;
@@ -39,19 +39,21 @@ fn change(
     index.change(&add, &remove)
 }
 
-// Fills an index of kinds of one measure.
-fn fill<R: Abort>(
-    rt: &R,
+// An index of kinds of one measure, filled.
+fn filled(
     alloc: Global,
-    index: &mut Index,
+    kinds: &[AggKind],
     add: &[(u32, i64)],
-) -> Result<(), Memory>
-    requires kinds { All (λ r. IsThere 1 r.kind) index.old }
+) -> Result<Index, Memory>
+    requires kinds { All (IsThere 1) kinds.now }
     requires add { All (λ class. nat_abs class.1 ≤ largest_amount) add.now }
 {
-    let add = classes(alloc, add)?;
-    assert!(rt; index.is_empty());
-    index.fill(add)
+    let mut filling = Filling::new(alloc, kinds, &[2], add.len())?;
+    'told: for k in 0..add.len() {
+        let (node, amount) = add[k];
+        filling.push(NodeNo(node), &Agg::one(&[amount]))?;
+    }
+    filling.finish()
 }
 
 // The numbers of the first nodes that are left, with zeros behind them.
@@ -112,9 +114,8 @@ fn an_index_is_filled(rt: HostRuntime) -> Result<(), Fail> {
         [([9, 7, 5, 4, 2, 0], 5), ([2, 4, 5, 7, 9, 0], 5)],
         [([4, 2, 7, 5, 0, 0], 5), ([9, 5, 0, 0, 0, 0], 3)],
     ];
-    let mut index = Index::new(rt.alloc(), &KINDS, &[2])?;
     let told = [(4, 150), (9, -200), (2, 150), (7, 0), (5, -33)];
-    fill(&rt, rt.alloc(), &mut index, &told)?;
+    let index = filled(rt.alloc(), &KINDS, &told)?;
     assert!(rt; !index.is_empty());
     for k in 0..3 {
         assert_eq!(rt; asked(&rt, &index, KINDS[k], VALUES[k]), EXPECTED[k]);

@@ -13,7 +13,7 @@ ghost use Rattle.qc_arena.specs.Map.{AreRooted, CanChange, IsPlace, edges_in, fr
 ghost use Rattle.qc_arena.specs.Seen.{edge_of, record_at};
 
 use crate::Memory;
-use crate::changes::changed;
+use crate::changes::{changed, class_in_place};
 use crate::counted::{record_in, tree_edges_of};
 use crate::edges::StoredEdge;
 use crate::images::Images;
@@ -407,6 +407,26 @@ impl QcArena {
         ensures { IfOk result (λ pairs. AreNew (class_now self.now) (class_was self.now) pairs.items) }
     {
         changed(alloc, &self.nodes, &self.parts, &self.images, false)
+    }
+
+    /// How many numbers there are at most: no node's number is this or more. It is refused where these are more than
+    /// 4,294,967,295.
+    pub fn numbers(&self) -> Result<u32, Memory>
+        ensures { IfOk result (λ numbers. (q : ℕ) → numbers ≤ q → map.get self.now.now q ≡ None) }
+    {
+        let places = self.places();
+        if places > u32::MAX as usize {
+            return Err(AllocError);
+        }
+        Ok(places as u32)
+    }
+
+    /// What the rows of the node with a number come to, where there is one that is a class. It serves who goes
+    /// through all classes, and is no step.
+    pub fn class_at(&self, number: u32) -> Option<Agg>
+        ensures { option_map agg_in result ≡ class_now self.now number }
+    {
+        class_in_place(&self.nodes, &self.parts, number)
     }
 
     /// How many nodes are classes.

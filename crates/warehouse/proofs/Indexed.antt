@@ -30,14 +30,17 @@ use Rattle.warehouse.specs.Stored.{IsTreeOfSome}
 use Rattle.cube_laws.proofs.Lists.{got}
 
 -- the classes of a tree have the measures of the schema
+has-measure : (schema : Layout) (tree : Tree ℕ) → IsTreeOfSome schema tree → (k : ℕ) (class : Agg) → class_of_node tree k ≡ Some (agg_in class) → (kind : AggKind) → IsThere (length schema.measures) kind → IsThere class.measures kind
+has-measure schema tree is k class told kind there =
+    let same = sym told ∙ class_same (numbers.get tree k) in
+    there_is_measure (length schema.dims) tree (record { measures = length schema.measures; rows = is.0 }) is.1 k (class_there tree k (subst (λ o. IsSome o) same refl)) class kind same there
+
 have-measure : (schema : Layout) (tree : Tree ℕ) → IsTreeOfSome schema tree → (from : ℕ → Option defs.Agg) (pairs : List (NodeNo × Agg)) → AreNew from (class_of_node tree) pairs → (kind : AggKind) → IsThere (length schema.measures) kind → HaveMeasure kind pairs
 have-measure schema tree is from pairs new kind there = λ k d l.
     let x = slice_index_or pairs k d in
-    let told : class_in (numbers.get tree x.0.0) ≡ Some (agg_in x.1) = new.listed k x (got pairs k d l) in
-    let class = sym told ∙ class_same (numbers.get tree x.0.0) in
-    there_is_measure (length schema.dims) tree (record { measures = length schema.measures; rows = is.0 }) is.1 x.0.0 (class_there tree x.0.0 (subst (λ o. IsSome o) class refl)) x.1 kind class there
+    has-measure schema tree is x.0.0 x.1 (new.listed k x (got pairs k d l)) kind there
 
-abbrev unit-in : Layout → AggKind → AggKind × ℕ
+abbrev pub unit-in : Layout → AggKind → AggKind × ℕ
 unit-in schema kind = (kind, scale_in schema kind)
 
 none-left : (schema : Layout) (r : Ranking) (index : List Ranking) → units (r ∷ index) ≡ map (unit-in schema) [] → ⊥
@@ -57,14 +60,18 @@ pub measured : (schema : Layout) (tree : Tree ℕ) (index : List Ranking) → Is
     → AreNew from (class_of_node tree) pairs → All (λ r. HaveMeasure r.kind pairs) index
 measured schema tree index layout is e from pairs new = all-measured schema pairs (have-measure schema tree is from pairs new) index schema.indexes e layout.indexes
 
+-- a class of a tree of the schema has the measures of the kinds that the schema names
+pub class-measured : (schema : Layout) (tree : Tree ℕ) → IsLayout schema → IsTreeOfSome schema tree → (k : ℕ) (class : Agg) → class_of_node tree k ≡ Some (agg_in class) → (units : List (AggKind × ℕ)) → units ≡ map (unit-in schema) schema.indexes
+    → All (λ unit. IsThere class.measures unit.0) units
+class-measured schema tree layout is k class told units e = subst (λ (us : List (AggKind × ℕ)). All (λ unit. IsThere class.measures unit.0) us) (sym e) (go schema.indexes layout.indexes)
+  where
+    go : (kinds : List AggKind) → AllByRecursion (IsThere (length schema.measures)) kinds → All (λ unit. IsThere class.measures unit.0) (map (unit-in schema) kinds)
+    go [] there = All-nil (λ (unit : AggKind × ℕ). IsThere class.measures unit.0)
+    go (kind ∷ kinds) there = All-cons (λ (unit : AggKind × ℕ). IsThere class.measures unit.0) (unit-in schema kind) (map (unit-in schema) kinds) (has-measure schema tree is k class told kind there.0) (go kinds there.1)
+
 -- the classes at the begin of a batch are those of the tree then
 was-is : (a : Arena) (before : Shape) → a.was ≡ Some before → class_was a ≡ class_of_node before.tree
 was-is a before e = λ i q. class_in (option_and_then (λ s. numbers.get s.tree q) (e i))
-
--- where no class went, none is listed
-pub none-went : (from to : ℕ → Option defs.Agg) (pairs : List (NodeNo × Agg)) → length pairs ≡ 0 → AreNew from to pairs → AreNew from to []
-none-went from to [] e h = h
-none-went from to (p ∷ pairs) e h = absurd (omega (arith, e))
 
 -- what is known of an open batch, with the tree at its begin named
 pub record IsBegun (schema : Layout) (a : Arena) (index : List Ranking) : Type 0 where

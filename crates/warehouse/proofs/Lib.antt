@@ -5,6 +5,7 @@ pub mod Decoding
 mod Going
 mod Growing
 mod Indexed
+mod ListedClasses
 mod Repairing
 mod Inserting
 mod Texts

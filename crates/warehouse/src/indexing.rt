@@ -1,13 +1,19 @@
 // The index of the tree's classes: it is made for a schema, and changed with a batch.
 ghost use Rattle.std.specs.FinMap as finmap;
-ghost use Rattle.std.specs.Prelude.{IfOk, IfSome, OnErr, OnOk, length, map, take, true, ◌≡◌};
+ghost use Rattle.std.specs.Prelude.{All, IfOk, IfSome, List, MatchOption, OnErr, OnOk, [], length, map, take, true, ◌++◌, ◌∷◌, ◌≡◌};
+ghost use Rattle.aggregates.specs.Views.{IsThere};
+ghost use Rattle.aggregates.specs.declared.agg.Agg as aggs;
+ghost use Rattle.cell_core.specs.declared.cell.NodeNo as numbers;
+ghost use Rattle.measure_index.specs.Filling.{AreKeysOf, coming_units};
 ghost use Rattle.qc_arena.specs.Map.{is_open};
 ghost use Rattle.qc_schema.specs.Schema.{IsLayout};
 ghost use Rattle.warehouse.specs.State.{IsIndexed};
 ghost use Rattle.warehouse.specs.Stored.{IsTreeOfSome};
 
 use crate::Memory;
-use measure_index::Index;
+use aggregates::Agg;
+use cell_core::NodeNo;
+use measure_index::{Filling, Index};
 use qc_arena::QcArena;
 use qc_schema::Schema;
 use std::alloc::Global;
@@ -34,8 +40,39 @@ pub(crate) fn new_index(alloc: Global, schema: &Schema) -> Result<Index, Memory>
     Index::new(alloc, schema.indexes(), &all[..count])
 }
 
+// What a number stands for comes into an index that is filled, where it is a class.
+fn push_class(filling: &mut Filling, number: u32, class: &Option<Agg>) -> Result<(), Memory>
+    requires { IfSome class.now (λ class. All (λ unit. IsThere class.measures unit.0) (coming_units filling.old)) }
+    ensures units { coming_units filling.new ≡ coming_units filling.old }
+    ensures classes { OnOk result (MatchOption class.now (filling.new ≡ filling.old) (λ class. (before : List (numbers.NodeNo × aggs.Agg)) →
+        AreKeysOf before filling.old → AreKeysOf (before ++ (record { 0 = number }, class) ∷ []) filling.new)) }
+{
+    match class {
+        None => Ok(()),
+        Some(class) => filling.push(NodeNo(number), class),
+    }
+}
+
+// The index of the tree's classes, made of all of them.
+fn filled_index(alloc: Global, schema: &Schema, tree: &QcArena) -> Result<Index, Memory>
+    requires layout { IsLayout schema.now }
+    requires tree { IsTreeOfSome schema.now tree.now.now }
+    ensures { IfOk result (λ index. IsIndexed schema.now tree.now.now index) }
+{
+    let all = scales(schema);
+    let count = usize::from(schema.measures());
+    let room = tree.class_count() as usize;
+    let mut filling = Filling::new(alloc, schema.indexes(), &all[..count], room)?;
+    let numbers = tree.numbers()?;
+    'numbers: for number in 0..numbers {
+        push_class(&mut filling, number, &tree.class_at(number))?;
+    }
+    filling.finish()
+}
+
 /// Makes of the index of the tree at the begin of the batch that of the tree now. A refusal leaves it as
-/// it was. Where the schema names no kind, the classes are not listed.
+/// it was. Where the schema names no kind, the classes are not listed; where the index has none, it is made of all of them,
+/// without a list.
 pub(crate) fn change_index(
     schema: &Schema,
     tree: &QcArena,
@@ -52,12 +89,12 @@ pub(crate) fn change_index(
     if schema.indexes().is_empty() {
         return Ok(());
     }
-    let removed = tree.classes_removed(alloc)?;
-    let added = tree.classes_added(alloc)?;
-    if removed.is_empty() && index.is_empty() {
-        index.fill(added)?;
+    if index.is_empty() {
+        *index = filled_index(alloc, schema, tree)?;
         return Ok(());
     }
+    let removed = tree.classes_removed(alloc)?;
+    let added = tree.classes_added(alloc)?;
     index.change(&added, &removed)?;
     Ok(())
 }

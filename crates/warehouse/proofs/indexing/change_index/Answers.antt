@@ -1,4 +1,4 @@
-use Rattle.std.proofs.Common.{◌≡◌, ℕ, Option, List, ◌∙◌, arith, eqb-true, length, subst, sym}
+use Rattle.std.proofs.Common.{ℕ, Option, List, ◌∙◌, subst, sym}
 use Rattle.std.specs.List.{All}
 use Rattle.aggregates.specs.declared.agg.Agg.{Agg}
 use Rattle.cell_core.specs.declared.cell.NodeNo.{NodeNo}
@@ -6,7 +6,7 @@ use Rattle.cube_defs.specs.Rows as defs
 use Rattle.measure_index.specs.Entries.{HaveMeasure}
 use Rattle.measure_index.specs.Rankings.{IsIndex}
 use Rattle.qc_arena.specs.Changes.{AreNew, class_now, class_was}
-use Rattle.warehouse.proofs.Indexed.{IsBegun, begun, measured, none-went}
+use Rattle.warehouse.proofs.Indexed.{IsBegun, begun, measured}
 use Rattle.warehouse.proofs.indexing.change_index.Goals as goal
 
 pub change-requires-clause-add : goal.change-requires-clause-add
@@ -35,23 +35,4 @@ returns-clause-indexed c =
           (subst (λ (ps : List (NodeNo × Agg)). AreNew (class_now tree) (class_was tree) ps) (sym c.deref-2.ensures.value) c.in_ok-removed.ensures)
           (subst (λ (class : ℕ → Option defs.Agg). IsIndex class c.args.index.now) (sym b.was) b.indexed.classes);
       kinds = c.in_ok-change.ensures.units ∙ b.indexed.kinds;
-    }
-
-pub fill-requires-clause-measures : goal.fill-requires-clause-measures
-fill-requires-clause-measures c =
-    let tree = c.args.tree.now in
-    let b : IsBegun c.args.schema.now tree c.args.index.now = begun c.args.schema.now tree c.args.index.now c.requires.opened c.requires.before in
-    measured c.args.schema.now tree.now c.args.index.now c.requires.layout c.requires.now b.indexed.kinds (class_was tree) c.in_ok-added.added.items c.in_ok-added.ensures
-
-pub returns-then-is_empty-3-clause-indexed : goal.returns-then-is_empty-3-clause-indexed
-returns-then-is_empty-3-clause-indexed c =
-    let tree = c.args.tree.now in
-    let b : IsBegun c.args.schema.now tree c.args.index.now = begun c.args.schema.now tree c.args.index.now c.requires.opened c.requires.before in
-    let none : length c.in_ok-removed.removed.items ≡ 0 = omega (arith, c.in_ok-removed.removed.ok.0, eqb-true _ 0 (sym c.is_empty-2.ensures ∙ c.if-is_empty-2.true)) in
-    record {
-      classes =
-          c.in_ok-fill.ensures.classes (class_was tree) (class_now tree) c.in_ok-added.ensures
-          (none-went (class_now tree) (class_was tree) c.in_ok-removed.removed.items none c.in_ok-removed.ensures)
-          (subst (λ (class : ℕ → Option defs.Agg). IsIndex class c.args.index.now) (sym b.was) b.indexed.classes);
-      kinds = c.in_ok-fill.ensures.units ∙ b.indexed.kinds;
     }

@@ -1,0 +1,87 @@
+-- Classes on their way into an index, and the index of them.
+use Rattle.std.proofs.Common.{◌≡◌, ℕ, zero, suc, Option, None, Some, List, [], ◌∷◌, ◌++◌, length, map, refl, sym, ap, ap₂, subst, ◌∙◌, arith}
+use Rattle.std.specs.List.{All, AllZip}
+use Rattle.cube_defs.specs.Rows as defs
+use Rattle.aggregates.specs.Views.{IsThere}
+use Rattle.aggregates.specs.declared.agg.Agg.{Agg}
+use Rattle.aggregates.specs.declared.kind.AggKind.{AggKind}
+use Rattle.cell_core.specs.declared.cell.NodeNo.{NodeNo}
+use Rattle.measure_index.specs.declared.key.Key.{Key}
+use Rattle.qc_arena.specs.Changes.{AreNew}
+use Rattle.measure_index.specs.Filling.{AreKeysOf, Coming, HasOneMore, IsRankingOf, coming_units}
+use Rattle.measure_index.specs.Index.{scale_of, units}
+use Rattle.measure_index.specs.Kept.{IsKey}
+use Rattle.measure_index.specs.Rankings.{IsIndex, IsRanking, Ranking, no_entries}
+use Rattle.measure_index.proofs.Classes.{no_classes, ranking_changed}
+use Rattle.measure_index.proofs.Zips.{zip_more}
+
+-- ---- before a class comes
+
+abbrev pub bare_coming : List ℕ → AggKind → Coming
+bare_coming scales kind = record { kind = kind; scale = scale_of scales kind; keys = [] }
+
+pub bare_units : (scales : List ℕ) (kinds : List AggKind) → coming_units (map (bare_coming scales) kinds) ≡ map (λ kind. (kind, scale_of scales kind)) kinds
+bare_units scales [] = refl
+bare_units scales (kind ∷ kinds) = ap (λ us. (kind, scale_of scales kind) ∷ us) (bare_units scales kinds)
+
+pub bare_keys : (scales : List ℕ) (kinds : List AggKind) → AreKeysOf [] (map (bare_coming scales) kinds)
+bare_keys scales [] = λ k d l. absurd (omega (arith, l))
+bare_keys scales (kind ∷ kinds) = behind (bare_keys scales kinds)
+  where
+    behind : AreKeysOf [] (map (bare_coming scales) kinds) → AreKeysOf [] (map (bare_coming scales) (kind ∷ kinds))
+    behind more zero d l = tt
+    behind more (suc k) d l = more k d (omega (arith, l))
+
+-- ---- a class comes
+
+pub of_units : (measures : ℕ) (comings : List Coming) → All (λ unit. IsThere measures unit.0) (coming_units comings) → All (λ c. IsThere measures c.kind) comings
+of_units measures [] h = λ k d l. absurd (omega (arith, l))
+of_units measures (c ∷ comings) h = behind (of_units measures comings (λ k d l. h (suc k) d (omega (arith, l))))
+  where
+    behind : All (λ c. IsThere measures c.kind) comings → All (λ c. IsThere measures c.kind) (c ∷ comings)
+    behind more zero d l = h 0 (c.kind, c.scale) (omega arith)
+    behind more (suc k) d l = more k d (omega (arith, l))
+
+pub one_more : (class : NodeNo × Agg) (olds news : List Coming) → AllZip (HasOneMore class) olds news → (before : List (NodeNo × Agg)) → AreKeysOf before olds → AreKeysOf (before ++ class ∷ []) news
+one_more class [] [] h before are = λ k d l. absurd (omega (arith, l))
+one_more class [] (n ∷ news) h before are = absurd h
+one_more class (o ∷ olds) [] h before are = absurd h
+one_more class (o ∷ olds) (n ∷ news) h before are = behind (one_more class olds news h.1 before (λ k d l. are (suc k) d (omega (arith, l))))
+  where
+    first : AllZip (IsKey n.kind) (before ++ class ∷ []) n.keys
+    first =
+        subst (λ (c : Coming). AllZip (IsKey c.kind) (before ++ class ∷ []) c.keys) (sym h.0.2)
+        (zip_more (IsKey o.kind) before o.keys class h.0.0 (are 0 o (omega arith)) h.0.1)
+
+    behind : AreKeysOf (before ++ class ∷ []) news → AreKeysOf (before ++ class ∷ []) (n ∷ news)
+    behind more zero d l = first
+    behind more (suc k) d l = more k d (omega (arith, l))
+
+-- ---- the index
+
+pub ranked_units : (comings : List Coming) (index : List Ranking) → AllZip IsRankingOf comings index → units index ≡ coming_units comings
+ranked_units [] [] h = refl
+ranked_units [] (r ∷ index) h = absurd h
+ranked_units (c ∷ comings) [] h = absurd h
+ranked_units (c ∷ comings) (r ∷ index) h = ap₂ (λ u us. u ∷ us) (λ i. (h.0.kind i, h.0.scale i)) (ranked_units comings index h.1)
+
+none_was : (class : ℕ → Option defs.Agg) → AreNew class (λ _. None) []
+none_was class = record {
+  listed = λ i x e. cc;
+  new = λ i x e. cc;
+  all = λ q a e. cc;
+  once = λ i j x y l e. cc;
+}
+
+pub ranked_index : (comings : List Coming) (index : List Ranking) → AllZip IsRankingOf comings index → (classes : List (NodeNo × Agg)) (class : ℕ → Option defs.Agg) → AreKeysOf classes comings → AreNew (λ _. None) class classes → IsIndex class index
+ranked_index [] [] h classes class are new = λ k d l. absurd (omega (arith, l))
+ranked_index [] (r ∷ index) h classes class are new = absurd h
+ranked_index (c ∷ comings) [] h classes class are new = absurd h
+ranked_index (c ∷ comings) (r ∷ index) h classes class are new = behind (ranked_index comings index h.1 classes class (λ k d l. are (suc k) d (omega (arith, l))) new)
+  where
+    first : IsRanking class r
+    first = ranking_changed classes [] (λ _. None) class new (none_was class) (no_entries c.kind c.scale) r (h.0.classes classes (are 0 c (omega arith))) (no_classes c.kind c.scale)
+
+    behind : IsIndex class index → IsIndex class (r ∷ index)
+    behind more zero d l = first
+    behind more (suc k) d l = more k d (omega (arith, l))

@@ -1,5 +1,0 @@
-use Rattle.std.proofs.Common.{length}
-use Rattle.measure_index.proofs.index.+fill_columns.Given as goal
-
-abbrev pub decreases-fill_columns : goal.decreases-fill_columns
-decreases-fill_columns l = length l.columns.now

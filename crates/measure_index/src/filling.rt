@@ -1,0 +1,143 @@
+// Classes on their way into an index.
+ghost use Rattle.std.specs.List.{AllZip};
+ghost use Rattle.std.specs.Prelude.{All, IfOk, List, None, OnOk, Option, [], length, map, ℕ, ◌++◌, ◌∷◌, ◌≡◌, ◌≤◌};
+ghost use Rattle.aggregates.specs.Views.{IsThere};
+ghost use Rattle.aggregates.specs.declared.agg.Agg as aggs;
+ghost use Rattle.cell_core.specs.declared.cell.NodeNo as numbers;
+ghost use Rattle.cube_defs.specs.Rows as defs;
+ghost use Rattle.qc_arena.specs.Changes.{AreNew};
+ghost use Rattle.measure_index.specs.Filling.{AreKeysOf, Coming, HasOneMore, IsRankingOf, coming_units};
+ghost use Rattle.measure_index.specs.Index.{scale_of, units};
+ghost use Rattle.measure_index.specs.Rankings.{IsIndex};
+
+use crate::column::Column;
+use crate::index::{Index, scale_in};
+use crate::key::Key;
+use aggregates::{Agg, AggKind};
+use cell_core::NodeNo;
+use cube_defs::Memory;
+use std::alloc::Global;
+use std::marker::Model;
+
+// For a kind, in the unit of its measure's scale, the keys of the classes so far.
+#[derive(Drop)]
+pub(crate) struct ComingKeys {
+    kind: AggKind,
+    scale: u8,
+    keys: Vec<Key>,
+}
+
+impl Model for ComingKeys {
+    ghost use Rattle.std.specs.Prelude.{◌≤◌};
+    ghost use Rattle.measure_index.specs.Filling.{Coming};
+
+    ghost Value = { Coming };
+
+    ghost view = { λ c. record { kind = c.kind; scale = c.scale; keys = c.keys.items } };
+
+    ghost invariant = { λ c. c.scale ≤ 6 };
+}
+
+impl ComingKeys {
+    fn new(alloc: Global, kind: AggKind, scale: u8, room: usize) -> Result<ComingKeys, Memory>
+        requires { scale ≤ 6 }
+        ensures { IfOk result (λ coming. coming ≡ record { kind = kind; scale = scale; keys = [] }) }
+    {
+        Ok(ComingKeys {
+            kind,
+            scale,
+            keys: Vec::with_capacity(alloc, room)?,
+        })
+    }
+
+    fn push(&mut self, node: NodeNo, class: &Agg) -> Result<(), Memory>
+        requires { IsThere class.now.measures self.old.kind }
+        ensures more { OnOk result (HasOneMore (node, class.now) self.old self.new) }
+        ensures kind { self.new.kind ≡ self.old.kind }
+        ensures scale { self.new.scale ≡ self.old.scale }
+    {
+        self.keys.push(Key::of(self.kind, node, class))?;
+        Ok(())
+    }
+
+    fn in_order(self, alloc: Global) -> Result<Column, Memory>
+        ensures { IfOk result (λ column. IsRankingOf self column) }
+    {
+        Column::filled(alloc, self.kind, self.scale, self.keys)
+    }
+}
+
+// A class comes, for each kind.
+fn push_all(columns: &mut [ComingKeys], node: NodeNo, class: &Agg) -> Result<(), Memory>
+    requires { All (λ c. IsThere class.now.measures c.kind) columns.old }
+    ensures more { OnOk result (AllZip (HasOneMore (node, class.now)) columns.old columns.new) }
+    ensures units { coming_units columns.new ≡ coming_units columns.old }
+{
+    let Some((first, rest)) = columns.split_first_mut() else {
+        return Ok(());
+    };
+    first.push(node, class)?;
+    push_all(rest, node, class)
+}
+
+/// Classes that are to become an index, for some kinds of aggregates. They may come in any order; each is to come once.
+#[derive(Drop)]
+pub struct Filling {
+    columns: Vec<ComingKeys>,
+}
+
+impl Model for Filling {
+    ghost use Rattle.std.specs.Prelude.{List};
+    ghost use Rattle.measure_index.specs.Filling.{Coming};
+
+    ghost Value = { List Coming };
+
+    ghost view = { λ x. x.columns.items };
+}
+
+impl Filling {
+    /// No classes yet, and room for some. `scales` has the scales of the measures.
+    pub fn new(
+        alloc: Global,
+        kinds: &[AggKind],
+        scales: &[u8],
+        room: usize,
+    ) -> Result<Filling, Memory>
+        requires there { All (IsThere (length scales.now)) kinds.now }
+        requires scales { All (λ scale. scale ≤ 6) scales.now }
+        ensures units { IfOk result (λ filling. coming_units filling ≡ map (λ kind. (kind, scale_of scales.now kind)) kinds.now) }
+        ensures classes { IfOk result (AreKeysOf []) }
+    {
+        let mut columns = Vec::with_capacity(alloc, kinds.len())?;
+        'kinds: for kind in kinds {
+            columns.push(ComingKeys::new(alloc, *kind, scale_in(scales, *kind), room)?)?;
+        }
+        Ok(Filling { columns })
+    }
+
+    /// A class comes, with its node.
+    pub fn push(&mut self, node: NodeNo, class: &Agg) -> Result<(), Memory>
+        requires { All (λ unit. IsThere class.now.measures unit.0) (coming_units self.old) }
+        ensures classes { OnOk result ((before : List (numbers.NodeNo × aggs.Agg)) → AreKeysOf before self.old →
+            AreKeysOf (before ++ (node, class.now) ∷ []) self.new) }
+        ensures units { coming_units self.new ≡ coming_units self.old }
+    {
+        push_all(&mut self.columns, node, class)
+    }
+
+    /// The index of the classes that came. It takes no search for each. A refusal comes also where there are more than
+    /// 4,294,967,295 classes.
+    pub fn finish(self) -> Result<Index, Memory>
+        ensures units { IfOk result (λ index. units index ≡ coming_units self) }
+        ensures classes { IfOk result (λ index. (classes : List (numbers.NodeNo × aggs.Agg)) (class : ℕ → Option defs.Agg) → AreKeysOf classes self →
+            AreNew (λ _. None) class classes → IsIndex class index) }
+    {
+        let alloc = *self.columns.allocator();
+        let mut columns = Vec::with_capacity(alloc, self.columns.len())?;
+        'kinds: for keys in self.columns {
+            let column = keys.in_order(alloc)?;
+            columns.push(column)?;
+        }
+        Ok(Index::of(columns))
+    }
+}
