@@ -40,11 +40,7 @@ fn change(
 }
 
 // An index of kinds of one measure, filled.
-fn filled(
-    alloc: Global,
-    kinds: &[AggKind],
-    add: &[(u32, i64)],
-) -> Result<Index, Memory>
+fn filled(alloc: Global, kinds: &[AggKind], add: &[(u32, i64)]) -> Result<Index, Memory>
     requires kinds { All (IsThere 1) kinds.now }
     requires add { All (λ class. nat_abs class.1 ≤ largest_amount) add.now }
 {
