@@ -2,7 +2,7 @@
 ghost use Rattle.std.specs.Prelude.{◌<◌, ◌≡◌, ◌≤◌};
 
 use cell_core::{Cell, Steps};
-use qc_schema::read_schema;
+use qc_schema::{Schema, read_schema};
 use std::alloc::Global;
 use std::marker::Brand;
 use std::sync::ledger::{Blank, Ledger};
@@ -16,18 +16,29 @@ const SCHEMA: &[u8] = b"qcube 1\nid id\ndim city\ndim item\nmeasure sale 0\nrows
 // The rows 1 and 2. City has the text Bonn alone, item has ink and pen.
 const BASE: &[u8] = b"id,city,item,sale\n1,Bonn,ink,5\n2,Bonn,pen,7\n";
 
+// Loads a base file that isn't refused.
+fn fill(shop: &mut Warehouse, base: &[u8]) -> Result<(), Fail> {
+    match load(shop, base) {
+        Ok(_) => Ok(()),
+        Err(_) => Err(Fail::new("no rows")),
+    }
+}
+
 // A warehouse that has taken a base file.
+fn loaded(alloc: Global, schema: Schema, base: &[u8]) -> Result<Warehouse, Fail> {
+    let mut shop = Warehouse::new(alloc, schema)?;
+    fill(&mut shop, base)?;
+    Ok(shop)
+}
+
+// The same, by the bytes of its schema.
 pub(crate) fn opened(alloc: Global, schema: &[u8], base: &[u8]) -> Result<Warehouse, Fail> {
     if schema.len() > 1000 {
         return Err(Fail::new("long schema"));
     }
-    let Ok(schema) = read_schema(alloc, schema) else {
-        return Err(Fail::new("no schema"));
-    };
-    let mut shop = Warehouse::new(alloc, schema)?;
-    match load(&mut shop, base) {
-        Ok(_) => Ok(shop),
-        Err(_) => Err(Fail::new("no rows")),
+    match read_schema(alloc, schema) {
+        Ok(schema) => loaded(alloc, schema, base),
+        Err(_) => Err(Fail::new("no schema")),
     }
 }
 
@@ -105,11 +116,10 @@ pub(crate) fn apply(shop: &mut Warehouse, file: &[u8]) -> Result<u32, Refused> {
 }
 
 // How many records a batch has that is taken, and what the rows come to then.
-fn taken(alloc: Global, file: &[u8]) -> Result<Option<(u32, (u32, i64))>, Fail> {
-    let mut shop = shop(alloc)?;
-    match apply(&mut shop, file) {
-        Ok(records) => Ok(Some((records, total(alloc, &shop)))),
-        Err(_) => Ok(None),
+fn taken_by(alloc: Global, shop: &mut Warehouse, file: &[u8]) -> Option<(u32, (u32, i64))> {
+    match apply(shop, file) {
+        Ok(records) => Some((records, total(alloc, shop))),
+        Err(_) => None,
     }
 }
 
@@ -121,174 +131,215 @@ fn is_unchanged(alloc: Global, shop: &Warehouse) -> bool {
 }
 
 // Why a batch is refused, where nothing changes.
-fn refusal(alloc: Global, file: &[u8]) -> Result<Option<Refused>, Fail> {
-    let mut shop = shop(alloc)?;
-    let answer = apply(&mut shop, file);
-    if is_unchanged(alloc, &shop) {
-        Ok(answer.err())
+fn refusal_by(alloc: Global, shop: &mut Warehouse, file: &[u8]) -> Option<Refused> {
+    let answer = apply(shop, file);
+    if is_unchanged(alloc, shop) {
+        answer.err()
     } else {
-        Ok(None)
+        None
     }
+}
+
+// A batch that is taken, how many records it has, how many rows there are then, and what their amounts come to.
+type Taken = (&'static [u8], u32, (u32, i64));
+
+static TAKEN: [Taken; 7] = [
+    // Nothing.
+    (b"op,id,city,item,sale\n", 0, (2, 12)),
+    // A deletion and an insertion of one id, in either order.
+    (
+        b"op,id,city,item,sale\n-,1,,,\n+,1,Bonn,ink,6\n",
+        2,
+        (2, 13),
+    ),
+    (
+        b"op,id,city,item,sale\n+,1,Bonn,ink,6\n-,1,,,\n",
+        2,
+        (2, 13),
+    ),
+    // As many rows as there may be, and as many texts.
+    (b"op,id,city,item,sale\n+,3,Ulm,ink,1\n", 1, (3, 13)),
+    (
+        b"op,id,city,item,sale\n+,3,Ulm,ink,1\n+,4,Ulm,pen,1\n-,2,,,\n",
+        3,
+        (3, 7),
+    ),
+    // Only deletions.
+    (b"op,id,city,item,sale\n-,2,,,\n", 1, (1, 5)),
+    (b"op,id,city,item,sale\n-,2,,,\n-,1,,,\n", 2, (0, 0)),
+];
+
+fn is_taken(alloc: Global, case: &Taken) -> Result<bool, Fail> {
+    let mut shop = shop(alloc)?;
+    Ok(taken_by(alloc, &mut shop, case.0) == Some((case.1, case.2)))
 }
 
 #[test]
 fn batches_that_are_taken(rt: HostRuntime) -> Result<(), Fail> {
-    let cases: [(&[u8], u32, (u32, i64)); 7] = [
-        // Nothing.
-        (b"op,id,city,item,sale\n", 0, (2, 12)),
-        // A deletion and an insertion of one id, in either order.
-        (
-            b"op,id,city,item,sale\n-,1,,,\n+,1,Bonn,ink,6\n",
-            2,
-            (2, 13),
-        ),
-        (
-            b"op,id,city,item,sale\n+,1,Bonn,ink,6\n-,1,,,\n",
-            2,
-            (2, 13),
-        ),
-        // As many rows as there may be, and as many texts.
-        (b"op,id,city,item,sale\n+,3,Ulm,ink,1\n", 1, (3, 13)),
-        (
-            b"op,id,city,item,sale\n+,3,Ulm,ink,1\n+,4,Ulm,pen,1\n-,2,,,\n",
-            3,
-            (3, 7),
-        ),
-        // Only deletions.
-        (b"op,id,city,item,sale\n-,2,,,\n", 1, (1, 5)),
-        (b"op,id,city,item,sale\n-,2,,,\n-,1,,,\n", 2, (0, 0)),
-    ];
-    for (file, records, after) in cases {
-        assert_eq!(rt; taken(rt.alloc(), file)?, Some((records, after)));
+    'cases: for case in &TAKEN {
+        assert!(rt; is_taken(rt.alloc(), case)?);
     }
     Ok(())
 }
 
+// A batch that changes nothing, and why.
+type Spoilt = (&'static [u8], Refused);
+
+static SPOILT: [Spoilt; 16] = [
+    // Changes that can't be made.
+    (b"", Refused::Header),
+    (b"op,id,city,item\n", Refused::Header),
+    (b"op,id,city,item,sale\n-,1,,,\n*,2,,,\n", Refused::Op(2)),
+    (b"op,id,city,item,sale\n-,1,,,\n-,1,,,\n", Refused::Twice(2)),
+    (
+        b"op,id,city,item,sale\n-,9,,,\n+,3,Bonn,ink,1\n+,3,Ulm,pen,2\n",
+        Refused::Twice(3),
+    ),
+    (
+        b"op,id,city,item,sale\n-,1,,,\n-,3,,,\n",
+        Refused::Missing(2),
+    ),
+    // Its own insertion is not there before it.
+    (
+        b"op,id,city,item,sale\n+,3,Bonn,ink,1\n-,3,,,\n",
+        Refused::Missing(2),
+    ),
+    // A later deletion is looked at before an insertion.
+    (
+        b"op,id,city,item,sale\n+,1,Bonn,ink,1\n-,3,,,\n",
+        Refused::Missing(2),
+    ),
+    (
+        b"op,id,city,item,sale\n+,1,Bonn,ink,1\n",
+        Refused::Present(1),
+    ),
+    (
+        b"op,id,city,item,sale\n-,1,,,\n+,1,Bonn,ink,1\n+,2,Bonn,ink,1\n",
+        Refused::Present(3),
+    ),
+    // Present comes before too many rows.
+    (
+        b"op,id,city,item,sale\n+,3,Bonn,ink,1\n+,4,Bonn,ink,1\n+,2,Bonn,ink,1\n",
+        Refused::Present(3),
+    ),
+    // Batches that are too large.
+    (
+        b"op,id,city,item,sale\n+,3,Bonn,ink,1\n+,4,Bonn,ink,1\n",
+        Refused::RowsFull,
+    ),
+    // Too many rows come before too many texts.
+    (
+        b"op,id,city,item,sale\n+,3,Bonn,cup,1\n+,4,Bonn,ink,1\n",
+        Refused::RowsFull,
+    ),
+    (
+        b"op,id,city,item,sale\n+,3,Bonn,cup,1\n",
+        Refused::ValuesFull(1),
+    ),
+    // The texts of rows that go stay.
+    (
+        b"op,id,city,item,sale\n-,1,,,\n-,2,,,\n+,3,Bonn,cup,1\n",
+        Refused::ValuesFull(1),
+    ),
+    // Item is full first, and stands first in the file; city is first in the schema.
+    (
+        b"item,op,city,sale,id\n,-,,,1\ncup,+,Ulm,1,3\nink,+,Jena,1,4\n",
+        Refused::ValuesFull(0),
+    ),
+];
+
+fn is_refused(alloc: Global, case: &Spoilt) -> Result<bool, Fail> {
+    let mut shop = shop(alloc)?;
+    Ok(refusal_by(alloc, &mut shop, case.0) == Some(case.1))
+}
+
 #[test]
-fn batches_with_changes_that_cannot_be_made(rt: HostRuntime) -> Result<(), Fail> {
-    let cases: [(&[u8], Refused); 11] = [
-        (b"", Refused::Header),
-        (b"op,id,city,item\n", Refused::Header),
-        (b"op,id,city,item,sale\n-,1,,,\n*,2,,,\n", Refused::Op(2)),
-        (b"op,id,city,item,sale\n-,1,,,\n-,1,,,\n", Refused::Twice(2)),
-        (
-            b"op,id,city,item,sale\n-,9,,,\n+,3,Bonn,ink,1\n+,3,Ulm,pen,2\n",
-            Refused::Twice(3),
-        ),
-        (
-            b"op,id,city,item,sale\n-,1,,,\n-,3,,,\n",
-            Refused::Missing(2),
-        ),
-        // Its own insertion is not there before it.
-        (
-            b"op,id,city,item,sale\n+,3,Bonn,ink,1\n-,3,,,\n",
-            Refused::Missing(2),
-        ),
-        // A later deletion is looked at before an insertion.
-        (
-            b"op,id,city,item,sale\n+,1,Bonn,ink,1\n-,3,,,\n",
-            Refused::Missing(2),
-        ),
-        (
-            b"op,id,city,item,sale\n+,1,Bonn,ink,1\n",
-            Refused::Present(1),
-        ),
-        (
-            b"op,id,city,item,sale\n-,1,,,\n+,1,Bonn,ink,1\n+,2,Bonn,ink,1\n",
-            Refused::Present(3),
-        ),
-        // Present comes before too many rows.
-        (
-            b"op,id,city,item,sale\n+,3,Bonn,ink,1\n+,4,Bonn,ink,1\n+,2,Bonn,ink,1\n",
-            Refused::Present(3),
-        ),
-    ];
-    for (file, refused) in cases {
-        assert_eq!(rt; refusal(rt.alloc(), file)?, Some(refused));
+fn batches_that_are_refused(rt: HostRuntime) -> Result<(), Fail> {
+    'cases: for case in &SPOILT {
+        assert!(rt; is_refused(rt.alloc(), case)?);
     }
     Ok(())
 }
 
-#[test]
-fn batches_that_are_too_large(rt: HostRuntime) -> Result<(), Fail> {
-    let cases: [(&[u8], Refused); 5] = [
-        (
-            b"op,id,city,item,sale\n+,3,Bonn,ink,1\n+,4,Bonn,ink,1\n",
-            Refused::RowsFull,
-        ),
-        // Too many rows come before too many texts.
-        (
-            b"op,id,city,item,sale\n+,3,Bonn,cup,1\n+,4,Bonn,ink,1\n",
-            Refused::RowsFull,
-        ),
-        (
-            b"op,id,city,item,sale\n+,3,Bonn,cup,1\n",
-            Refused::ValuesFull(1),
-        ),
-        // The texts of rows that go stay.
-        (
-            b"op,id,city,item,sale\n-,1,,,\n-,2,,,\n+,3,Bonn,cup,1\n",
-            Refused::ValuesFull(1),
-        ),
-        // Item is full first, and stands first in the file; city is first in the schema.
-        (
-            b"item,op,city,sale,id\n,-,,,1\ncup,+,Ulm,1,3\nink,+,Jena,1,4\n",
-            Refused::ValuesFull(0),
-        ),
-    ];
-    for (file, refused) in cases {
-        assert_eq!(rt; refusal(rt.alloc(), file)?, Some(refused));
-    }
-    Ok(())
+// Whether the texts of a batch that is refused leave no codes for one that is taken.
+fn leaves_no_codes(shop: &mut Warehouse, refused: &[u8], taken: &[u8]) -> bool {
+    let (refused, taken) = (apply(shop, refused), apply(shop, taken));
+    let (bonn, jena) = (code(shop, 0, "Bonn"), code(shop, 0, "Jena"));
+    refused == Err(Refused::ValuesFull(1)) && taken == Ok(1) && bonn == Some(0) && jena == Some(1)
+}
+
+fn are_codes_free(alloc: Global, refused: &[u8], taken: &[u8]) -> Result<bool, Fail> {
+    let mut shop = shop(alloc)?;
+    Ok(leaves_no_codes(&mut shop, refused, taken))
 }
 
 #[test]
 fn texts_of_a_refused_batch_leave_no_codes(rt: HostRuntime) -> Result<(), Fail> {
-    let mut shop = shop(rt.alloc())?;
-    let refused = apply(&mut shop, b"op,id,city,item,sale\n+,3,Ulm,cup,1\n");
-    let applied = apply(&mut shop, b"op,id,city,item,sale\n+,3,Jena,ink,1\n");
-    assert_eq!(rt; (refused, applied), (Err(Refused::ValuesFull(1)), Ok(1)));
-    let codes = (code(&shop, 0, "Bonn"), code(&shop, 0, "Jena"));
-    assert_eq!(rt; codes, (Some(0), Some(1)));
+    let refused = b"op,id,city,item,sale\n+,3,Ulm,cup,1\n";
+    let taken = b"op,id,city,item,sale\n+,3,Jena,ink,1\n";
+    assert!(rt; are_codes_free(rt.alloc(), refused, taken)?);
     Ok(())
+}
+
+fn is_not_empty(alloc: Global, file: &[u8]) -> Result<bool, Fail> {
+    let mut shop = shop(alloc)?;
+    Ok(load(&mut shop, file) == Err(Refused::NotEmpty))
 }
 
 #[test]
 fn no_base_file_is_loaded_where_a_row_is(rt: HostRuntime) -> Result<(), Fail> {
-    let mut shop = shop(rt.alloc())?;
-    assert_eq!(rt; load(&mut shop, b"x"), Err(Refused::NotEmpty));
+    assert!(rt; is_not_empty(rt.alloc(), b"x")?);
     Ok(())
+}
+
+// Deletes the rows.
+fn empty(shop: &mut Warehouse) -> Result<(), Fail> {
+    match apply(shop, b"op,id,city,item,sale\n-,2,,,\n-,1,,,\n") {
+        Ok(_) => Ok(()),
+        Err(_) => Err(Fail::new("rows not deleted")),
+    }
 }
 
 // A warehouse whose rows are deleted again.
 fn emptied(alloc: Global) -> Result<Warehouse, Fail> {
     let mut shop = shop(alloc)?;
-    match apply(&mut shop, b"op,id,city,item,sale\n-,2,,,\n-,1,,,\n") {
-        Ok(_) => Ok(shop),
-        Err(_) => Err(Fail::new("rows not deleted")),
-    }
+    empty(&mut shop)?;
+    Ok(shop)
+}
+
+// Whether a base file is refused for the id of its second record, and leaves no code.
+fn refuses_twice(shop: &mut Warehouse, base: &[u8]) -> bool {
+    load(shop, base) == Err(Refused::Twice(2)) && code(shop, 0, "Ulm").is_none()
+}
+
+fn is_twice(alloc: Global, base: &[u8]) -> Result<bool, Fail> {
+    let mut shop = emptied(alloc)?;
+    Ok(refuses_twice(&mut shop, base))
 }
 
 #[test]
 fn a_base_file_with_an_id_twice_is_refused(rt: HostRuntime) -> Result<(), Fail> {
-    let mut shop = emptied(rt.alloc())?;
-    let refused = load(&mut shop, b"id,city,item,sale\n7,Ulm,ink,1\n7,Ulm,pen,1\n");
-    assert_eq!(rt; refused, Err(Refused::Twice(2)));
-    assert_eq!(rt; code(&shop, 0, "Ulm"), None);
+    let base = b"id,city,item,sale\n7,Ulm,ink,1\n7,Ulm,pen,1\n";
+    assert!(rt; is_twice(rt.alloc(), base)?);
     Ok(())
+}
+
+// Whether a base file of two records and three classes is loaded, whose amounts come to 21.
+fn loads(alloc: Global, shop: &mut Warehouse, base: &[u8]) -> bool {
+    let (records, classes) = (2, 3);
+    load(shop, base) == Ok(Applied { records, classes })
+        && total(alloc, shop) == (2, 21)
+        && code(shop, 0, "Ulm") == Some(1)
+}
+
+fn is_loaded(alloc: Global, base: &[u8]) -> Result<bool, Fail> {
+    let mut shop = emptied(alloc)?;
+    Ok(loads(alloc, &mut shop, base))
 }
 
 #[test]
 fn a_base_file_is_loaded_where_no_row_is(rt: HostRuntime) -> Result<(), Fail> {
-    let mut shop = emptied(rt.alloc())?;
-    let loaded = load(
-        &mut shop,
-        b"op,id,city,item,sale\n-,7,Ulm,ink,20\n+,1,Ulm,pen,1\n",
-    );
-    let records = 2;
-    let classes = 3;
-    assert_eq!(rt; loaded, Ok(Applied { records, classes }));
-    let after = (total(rt.alloc(), &shop), code(&shop, 0, "Ulm"));
-    assert_eq!(rt; after, ((2, 21), Some(1)));
+    let base = b"op,id,city,item,sale\n-,7,Ulm,ink,20\n+,1,Ulm,pen,1\n";
+    assert!(rt; is_loaded(rt.alloc(), base)?);
     Ok(())
 }

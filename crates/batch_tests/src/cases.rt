@@ -104,64 +104,65 @@ fn is_right(alloc: Global, base: &[Line], batches: &[&[Line]]) -> Result<bool, F
 }
 
 // Three rows of six classes.
-const BASE: [Line; 3] = [
+static BASE: [Line; 3] = [
     (PLUS, 1, [0, 0], 6),
     (PLUS, 2, [0, 1], 12),
     (PLUS, 3, [1, 0], 9),
 ];
 
+static SCRIPTS: [&[&[Line]]; 9] = [
+    // A row goes and comes again with its id, in either order, with its values and with others.
+    &[
+        &[(MINUS, 1, [0, 0], 6), (PLUS, 1, [0, 0], 6)],
+        &[(PLUS, 1, [0, 0], 7), (MINUS, 1, [0, 0], 6)],
+    ],
+    &[
+        &[(MINUS, 1, [0, 0], 6), (PLUS, 1, [2, 2], 6)],
+        &[(PLUS, 1, [0, 0], 6), (MINUS, 1, [2, 2], 6)],
+    ],
+    // All rows go, and come again in one batch.
+    &[
+        &[
+            (MINUS, 3, [1, 0], 9),
+            (MINUS, 1, [0, 0], 6),
+            (MINUS, 2, [0, 1], 12),
+        ],
+        &[
+            (PLUS, 2, [0, 1], 12),
+            (PLUS, 1, [0, 0], 6),
+            (PLUS, 3, [1, 0], 9),
+        ],
+    ],
+    // A twin comes, and then each of the two goes.
+    &[
+        &[(PLUS, 4, [0, 0], 2)],
+        &[(MINUS, 1, [0, 0], 6)],
+        &[(MINUS, 4, [0, 0], 2)],
+    ],
+    // The class of the value 0 in the first dimension goes, and so does that in the second.
+    &[&[(MINUS, 2, [0, 1], 12)], &[(MINUS, 3, [1, 0], 9)]],
+    // The root is no class: all rows that are left share a value.
+    &[&[(MINUS, 3, [1, 0], 9)], &[(PLUS, 3, [1, 0], 9)]],
+    // A new greatest amount and a new least one come and go.
+    &[
+        &[(PLUS, 4, [0, 1], 20)],
+        &[(PLUS, 5, [0, 1], -20)],
+        &[(MINUS, 4, [0, 1], 20)],
+        &[(MINUS, 5, [0, 1], -20)],
+    ],
+    // The row with the least amount goes, and then that with the greatest.
+    &[
+        &[(PLUS, 4, [1, 1], 7)],
+        &[(MINUS, 1, [0, 0], 6)],
+        &[(MINUS, 2, [0, 1], 12)],
+    ],
+    // The only row with the greatest amount goes as another with it comes.
+    &[&[(MINUS, 2, [0, 1], 12), (PLUS, 4, [1, 1], 12)]],
+];
+
 #[test]
 fn batches_that_are_written_out(rt: HostRuntime) -> Result<(), Fail> {
-    let table: [&[&[Line]]; 9] = [
-        // A row goes and comes again with its id, in either order, with its values and with others.
-        &[
-            &[(MINUS, 1, [0, 0], 6), (PLUS, 1, [0, 0], 6)],
-            &[(PLUS, 1, [0, 0], 7), (MINUS, 1, [0, 0], 6)],
-        ],
-        &[
-            &[(MINUS, 1, [0, 0], 6), (PLUS, 1, [2, 2], 6)],
-            &[(PLUS, 1, [0, 0], 6), (MINUS, 1, [2, 2], 6)],
-        ],
-        // All rows go, and come again in one batch.
-        &[
-            &[
-                (MINUS, 3, [1, 0], 9),
-                (MINUS, 1, [0, 0], 6),
-                (MINUS, 2, [0, 1], 12),
-            ],
-            &[
-                (PLUS, 2, [0, 1], 12),
-                (PLUS, 1, [0, 0], 6),
-                (PLUS, 3, [1, 0], 9),
-            ],
-        ],
-        // A twin comes, and then each of the two goes.
-        &[
-            &[(PLUS, 4, [0, 0], 2)],
-            &[(MINUS, 1, [0, 0], 6)],
-            &[(MINUS, 4, [0, 0], 2)],
-        ],
-        // The class of the value 0 in the first dimension goes, and so does that in the second.
-        &[&[(MINUS, 2, [0, 1], 12)], &[(MINUS, 3, [1, 0], 9)]],
-        // The root is no class: all rows that are left share a value.
-        &[&[(MINUS, 3, [1, 0], 9)], &[(PLUS, 3, [1, 0], 9)]],
-        // A new greatest amount and a new least one come and go.
-        &[
-            &[(PLUS, 4, [0, 1], 20)],
-            &[(PLUS, 5, [0, 1], -20)],
-            &[(MINUS, 4, [0, 1], 20)],
-            &[(MINUS, 5, [0, 1], -20)],
-        ],
-        // The row with the least amount goes, and then that with the greatest.
-        &[
-            &[(PLUS, 4, [1, 1], 7)],
-            &[(MINUS, 1, [0, 0], 6)],
-            &[(MINUS, 2, [0, 1], 12)],
-        ],
-        // The only row with the greatest amount goes as another with it comes.
-        &[&[(MINUS, 2, [0, 1], 12), (PLUS, 4, [1, 1], 12)]],
-    ];
-    for batches in table {
+    'scripts: for batches in &SCRIPTS {
         assert!(rt; is_right(rt.alloc(), &BASE, batches)?);
     }
     Ok(())

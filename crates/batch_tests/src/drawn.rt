@@ -27,6 +27,30 @@ struct Met {
 }
 
 impl Met {
+    fn none() -> Met {
+        Met {
+            taken: 0,
+            full: 0,
+            missing: 0,
+            present: 0,
+            twice: 0,
+            amount: 0,
+            again: 0,
+        }
+    }
+
+    // Whether each of 300 batches was taken or refused for its nodes, and each cause was met often.
+    fn is_enough(&self) -> bool {
+        self.taken.wrapping_add(self.full) == 300
+            && self.missing > 20
+            && self.present > 20
+            && self.twice > 20
+            && self.amount > 20
+            && self.taken > 200
+            && self.full > 20
+            && self.again == 30
+    }
+
     fn refused(&mut self, cause: Refused) {
         match cause {
             Refused::Missing(_) => self.missing = self.missing.wrapping_add(1),
@@ -166,47 +190,52 @@ fn is_right(alloc: Global, seed: u64, size: &Size, met: &mut Met) -> Result<bool
     script::<Brand>(alloc, seed, size, met, Blank::new(1))
 }
 
-#[test]
-fn batches_leave_the_tree_of_the_rows(rt: HostRuntime) -> Result<(), Fail> {
-    // The dimensions, how many values there are in each, and how many nodes there may be.
-    let table: [(u8, u8, u32); 10] = [
-        (1, 3, 300),
-        (1, 4, 300),
-        (2, 2, 300),
-        (2, 4, 10),
-        (3, 2, 300),
-        (3, 3, 14),
-        (4, 2, 300),
-        (4, 3, 20),
-        (5, 2, 300),
-        (5, 3, 30),
-    ];
-    let mut met = Met {
-        taken: 0,
-        full: 0,
-        missing: 0,
-        present: 0,
-        twice: 0,
-        amount: 0,
-        again: 0,
+// The dimensions, how many values there are in each, and how many nodes there may be.
+static SIZES: [(u8, u8, u32); 10] = [
+    (1, 3, 300),
+    (1, 4, 300),
+    (2, 2, 300),
+    (2, 4, 10),
+    (3, 2, 300),
+    (3, 3, 14),
+    (4, 2, 300),
+    (4, 3, 20),
+    (5, 2, 300),
+    (5, 3, 30),
+];
+
+// Whether the three scripts of a size are right that are drawn from this number and the two behind it.
+fn are_right(
+    alloc: Global,
+    sizes: &(u8, u8, u32),
+    first: u64,
+    met: &mut Met,
+) -> Result<bool, Fail> {
+    let (dims, values, nodes) = *sizes;
+    let size = Size {
+        dims,
+        values,
+        nodes,
     };
-    let mut seed = 0u64;
-    for (dims, values, nodes) in table {
-        let size = Size {
-            dims,
-            values,
-            nodes,
-        };
-        for _ in 0..3 {
-            seed = seed.wrapping_add(1);
-            assert!(rt;
-                is_right(rt.alloc(), seed, &size, &mut met)?,
-                "{dims} {values} {seed}"
-            );
+    'seeds: for k in 0..3u64 {
+        if !is_right(alloc, first.wrapping_add(k), &size, met)? {
+            return Ok(false);
         }
     }
-    assert_eq!(rt; met.taken.wrapping_add(met.full), 300);
-    assert!(rt; met.missing > 20 && met.present > 20 && met.twice > 20 && met.amount > 20);
-    assert!(rt; met.taken > 200 && met.full > 20 && met.again == 30);
+    Ok(true)
+}
+
+#[test]
+fn batches_leave_the_tree_of_the_rows(rt: HostRuntime) -> Result<(), Fail> {
+    let mut met = Met::none();
+    let mut seed = 1u64;
+    'sizes: for sizes in &SIZES {
+        assert!(rt;
+            are_right(rt.alloc(), sizes, seed, &mut met)?,
+            "from {seed} on"
+        );
+        seed = seed.wrapping_add(3);
+    }
+    assert!(rt; met.is_enough());
     Ok(())
 }

@@ -275,20 +275,53 @@ fn is_class(class: Option<Agg>, wanted: Option<(u32, i64, i64, i64)>) -> bool {
     }
 }
 
+// Whether the node has the parent of a line.
+fn has_parent<L: Ledger>(
+    alloc: Global,
+    shop: &Warehouse,
+    node: NodeNo,
+    line: &Line,
+    steps: &mut Steps<L>,
+) -> bool
+    requires { IsSome (map.get shop.now.tree node.0) }
+{
+    let parent = shop.tree().parent(node, steps);
+    is_number(alloc, shop, parent, &line.1, steps)
+}
+
+// Whether the node is a class as a line says.
+fn has_class<L: Ledger>(shop: &Warehouse, node: NodeNo, line: &Line, steps: &mut Steps<L>) -> bool
+    requires { IsSome (map.get shop.now.tree node.0) }
+{
+    is_class(shop.tree().class(node, steps), line.2)
+}
+
+// Whether the node has the forced child of a line.
+fn has_forced<L: Ledger>(
+    alloc: Global,
+    shop: &Warehouse,
+    node: NodeNo,
+    line: &Line,
+    steps: &mut Steps<L>,
+) -> bool
+    requires { IsSome (map.get shop.now.tree node.0) }
+{
+    let forced = match shop.tree().forced(node, steps) {
+        Some(forced) => Some(forced.child),
+        None => None,
+    };
+    is_number(alloc, shop, forced, &line.3, steps)
+}
+
 // Whether the node with a line's cell is there with this record, its edges aside.
 fn is_line<L: Ledger>(alloc: Global, shop: &Warehouse, line: &Line, steps: &mut Steps<L>) -> bool {
     let Some(node) = node_of(alloc, shop, &line.0, steps) else {
         return false;
     };
-    let parent = shop.tree().parent(node, steps);
-    let forced = match shop.tree().forced(node, steps) {
-        Some(forced) => Some(forced.child),
-        None => None,
-    };
     has_cell(alloc, shop, node, line, steps)
-        && is_number(alloc, shop, parent, &line.1, steps)
-        && is_class(shop.tree().class(node, steps), line.2)
-        && is_number(alloc, shop, forced, &line.3, steps)
+        && has_parent(alloc, shop, node, line, steps)
+        && has_class(shop, node, line, steps)
+        && has_forced(alloc, shop, node, line, steps)
 }
 
 // Whether the edge at this place of its node is there, with this label and target.
@@ -352,35 +385,50 @@ fn is_after(alloc: Global, shop: &Warehouse) -> bool {
     shop.stats() == COUNTS_AFTER && is_tree(alloc, shop, &NODES_AFTER, &EDGES_AFTER)
 }
 
-// A warehouse that has taken the base file and these batches, of one record each.
-fn grown(alloc: Global, schema: &[u8], batches: &[&[u8]]) -> Result<Warehouse, Fail> {
-    let mut shop = opened(alloc, schema, BASE)?;
+// Applies these batches, of one record each.
+fn grow(shop: &mut Warehouse, batches: &[&[u8]]) -> Result<(), Fail> {
     'batches: for batch in batches {
-        if apply(&mut shop, batch) != Ok(1) {
+        if apply(shop, batch) != Ok(1) {
             return Err(Fail::new("refused batch"));
         }
     }
+    Ok(())
+}
+
+// A warehouse that has taken the base file and these batches.
+fn grown(alloc: Global, schema: &[u8], batches: &[&[u8]]) -> Result<Warehouse, Fail> {
+    let mut shop = opened(alloc, schema, BASE)?;
+    grow(&mut shop, batches)?;
     Ok(shop)
+}
+
+// Whether these batches leave the tree of the base file.
+fn leave_before(alloc: Global, batches: &[&[u8]]) -> Result<bool, Fail> {
+    let shop = grown(alloc, SCHEMA, batches)?;
+    Ok(is_before(alloc, &shop))
+}
+
+// Whether they leave that after a fourth row.
+fn leave_after(alloc: Global, batches: &[&[u8]]) -> Result<bool, Fail> {
+    let shop = grown(alloc, SCHEMA, batches)?;
+    Ok(is_after(alloc, &shop))
 }
 
 #[test]
 fn the_worked_tree(rt: HostRuntime) -> Result<(), Fail> {
-    let shop = grown(rt.alloc(), SCHEMA, &[])?;
-    assert!(rt; is_before(rt.alloc(), &shop));
+    assert!(rt; leave_before(rt.alloc(), &[])?);
     Ok(())
 }
 
 #[test]
 fn the_worked_tree_after_a_fourth_row(rt: HostRuntime) -> Result<(), Fail> {
-    let shop = grown(rt.alloc(), SCHEMA, &[PLUS])?;
-    assert!(rt; is_after(rt.alloc(), &shop));
+    assert!(rt; leave_after(rt.alloc(), &[PLUS])?);
     Ok(())
 }
 
 #[test]
 fn the_worked_tree_once_the_fourth_row_is_gone(rt: HostRuntime) -> Result<(), Fail> {
-    let shop = grown(rt.alloc(), SCHEMA, &[PLUS, MINUS])?;
-    assert!(rt; is_before(rt.alloc(), &shop));
+    assert!(rt; leave_before(rt.alloc(), &[PLUS, MINUS])?);
     Ok(())
 }
 
@@ -396,35 +444,50 @@ const FEWER: &[u8] =
 const MIXED: &[u8] =
     b"op,id,store,product,season,sale\n-,1,,,,\n+,4,S2,P2,f,3\n+,5,S3,P3,t,1\n+,6,S4,P3,t,1\n";
 
+// Whether a batch has room for its nodes.
+fn has_room(alloc: Global, batch: &[u8]) -> Result<bool, Fail> {
+    let shop = grown(alloc, JUST, &[batch])?;
+    Ok(shop.stats() == COUNTS_AFTER)
+}
+
 #[test]
 fn as_many_nodes_as_there_may_be(rt: HostRuntime) -> Result<(), Fail> {
-    let shop = grown(rt.alloc(), JUST, &[PLUS])?;
-    assert_eq!(rt; shop.stats(), COUNTS_AFTER);
+    assert!(rt; has_room(rt.alloc(), PLUS)?);
     Ok(())
 }
 
 // Whether a batch is refused for its nodes, and the tree and the texts are as they were.
+fn refuses_nodes(alloc: Global, shop: &mut Warehouse, batch: &[u8]) -> bool {
+    let answer = apply(shop, batch);
+    let codes = (code(shop, 0, "S3"), code(shop, 2, "t"));
+    answer == Err(Refused::NodesFull) && codes == (None, None) && is_before(alloc, shop)
+}
+
 fn is_nodes_full(alloc: Global, batch: &[u8]) -> Result<bool, Fail> {
     let mut shop = opened(alloc, FEWER, BASE)?;
-    let answer = apply(&mut shop, batch);
-    let codes = (code(&shop, 0, "S3"), code(&shop, 2, "t"));
-    Ok(answer == Err(Refused::NodesFull) && codes == (None, None) && is_before(alloc, &shop))
+    Ok(refuses_nodes(alloc, &mut shop, batch))
 }
 
 #[test]
 fn too_many_nodes_leave_all_as_it_was(rt: HostRuntime) -> Result<(), Fail> {
-    'batches: for batch in [PLUS, MIXED] {
-        assert!(rt; is_nodes_full(rt.alloc(), batch)?);
-    }
+    assert!(rt; is_nodes_full(rt.alloc(), PLUS)?);
+    assert!(rt; is_nodes_full(rt.alloc(), MIXED)?);
     Ok(())
+}
+
+// Whether a row with too many nodes is refused, and then not there to be deleted.
+fn refuses_both(shop: &mut Warehouse, plus: &[u8], minus: &[u8]) -> bool {
+    let (plus, minus) = (apply(shop, plus), apply(shop, minus));
+    plus == Err(Refused::NodesFull) && minus == Err(Refused::Missing(1))
+}
+
+fn is_not_there(alloc: Global, plus: &[u8], minus: &[u8]) -> Result<bool, Fail> {
+    let mut shop = opened(alloc, FEWER, BASE)?;
+    Ok(refuses_both(&mut shop, plus, minus))
 }
 
 #[test]
 fn a_row_with_too_many_nodes_is_not_there(rt: HostRuntime) -> Result<(), Fail> {
-    let mut shop = opened(rt.alloc(), FEWER, BASE)?;
-    let plus = apply(&mut shop, PLUS);
-    let minus = apply(&mut shop, MINUS);
-    let wanted = (Err(Refused::NodesFull), Err(Refused::Missing(1)));
-    assert_eq!(rt; (plus, minus), wanted);
+    assert!(rt; is_not_there(rt.alloc(), PLUS, MINUS)?);
     Ok(())
 }

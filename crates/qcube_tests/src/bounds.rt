@@ -1,9 +1,8 @@
 // Bounds, beside a plain program that goes over the cells.
 
-use crate::scripts::{ANY, ASKED, Draw, WRITTEN, Written, answers};
+use crate::scripts::{ANY, ASKED, Draw, WRITTEN, Written, has_transcript};
 use qc_io::MemoryFiles;
 use std::alloc::{AllocError, Global};
-use std::process::Abort;
 use std::test::Fail;
 
 const DIMS: usize = 6;
@@ -155,14 +154,13 @@ fn count_classes(alloc: Global, rows: &[Cell]) -> Result<usize, AllocError> {
     Ok(classes.len())
 }
 
-// Loads the rows, and asks for the bounds of these cells.
-fn ask_bounds(
-    rt: &impl Abort,
+// Whether a script that loads the rows and asks for the bounds of these cells has the replies.
+fn has_bounds(
     alloc: Global,
     dims: usize,
     rows: &[Cell],
     cells: &[Cell],
-) -> Result<(), AllocError> {
+) -> Result<bool, AllocError> {
     let mut written = Written::new(alloc);
     let (records, classes) = (rows.len(), count_classes(alloc, rows)?);
     let loaded = format!(in alloc; "applied,{},{records},{classes}\n", written.next_line())?;
@@ -177,7 +175,7 @@ fn ask_bounds(
     let base = file_of(alloc, dims, rows)?;
     files.add("base.csv", base.as_bytes())?;
     let schema = schema_of(alloc, dims)?;
-    answers(rt, alloc, &mut files, schema.as_bytes(), &written)
+    has_transcript(alloc, &mut files, schema.as_bytes(), &written)
 }
 
 // Seven rows of three dimensions, with three values each.
@@ -214,13 +212,13 @@ fn bounds_of_all_cells(rt: HostRuntime) -> Result<(), Fail> {
     let cells = all_cells(alloc)?;
     for state in [3, 8] {
         let rows = drawn_rows(alloc, state)?;
-        ask_bounds(&rt, alloc, 3, &rows, &cells)?;
+        assert!(rt; has_bounds(alloc, 3, &rows, &cells)?, "drawn from {state}");
     }
     Ok(())
 }
 
 // Each other row agrees with the first one in some dimensions, and differs from it in the last one.
-const WIDE: [Cell; 5] = [
+static WIDE: [Cell; 5] = [
     [3, 3, 3, 3, 3, 3],
     [3, 3, 3, 1, 1, 1],
     [3, 1, 1, 3, 3, 1],
@@ -228,23 +226,32 @@ const WIDE: [Cell; 5] = [
     [1, 1, 3, 1, 3, 1],
 ];
 
-#[test]
-fn bounds_in_six_dimensions(rt: HostRuntime) -> Result<(), Fail> {
-    let alloc = rt.alloc();
-    let one = "class,2,\u{E9},\u{E9},\u{E9},\u{E9},\u{E9},\u{E9},1\nlower,2,*,*,*,*,*,\u{E9}\n\
-        lower,2,*,*,\u{E9},\u{E9},*,*\nlower,2,*,\u{E9},*,*,\u{E9},*\nlower,2,\u{E9},*,\u{E9},*,\u{E9},*\n\
-        lower,2,\u{E9},\u{E9},*,\u{E9},*,*\nend,2,1\n";
-    let plain = reply(alloc, 2, DIMS, &WIDE, &WIDE[0])?;
-    assert_eq!(rt; plain.as_str(), one);
+// The bounds of the first of these rows.
+const FIRST: &str =
+    "class,2,\u{E9},\u{E9},\u{E9},\u{E9},\u{E9},\u{E9},1\nlower,2,*,*,*,*,*,\u{E9}\n\
+    lower,2,*,*,\u{E9},\u{E9},*,*\nlower,2,*,\u{E9},*,*,\u{E9},*\nlower,2,\u{E9},*,\u{E9},*,\u{E9},*\n\
+    lower,2,\u{E9},\u{E9},*,\u{E9},*,*\nend,2,1\n";
+
+// The root, and some cells above each row.
+fn cells_above(alloc: Global, rows: &[Cell]) -> Result<Vec<Cell>, AllocError> {
     let mut cells = Vec::new(alloc);
     cells.push(ROOT)?;
-    for row in &WIDE {
+    for row in rows {
         for number in [63, 48, 9] {
             if let Some(cell) = kept(row, number) {
                 cells.push(cell)?;
             }
         }
     }
-    ask_bounds(&rt, alloc, DIMS, &WIDE, &cells)?;
+    Ok(cells)
+}
+
+#[test]
+fn bounds_in_six_dimensions(rt: HostRuntime) -> Result<(), Fail> {
+    let alloc = rt.alloc();
+    let plain = reply(alloc, 2, DIMS, &WIDE, &WIDE[0])?;
+    assert_eq!(rt; plain.as_str(), FIRST);
+    let cells = cells_above(alloc, &WIDE)?;
+    assert!(rt; has_bounds(alloc, DIMS, &WIDE, &cells)?);
     Ok(())
 }

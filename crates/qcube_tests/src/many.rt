@@ -1,7 +1,6 @@
 // Half a million rows of one dimension, and as many points: no point goes over the rows.
 
-use crate::scripts::run_over;
-use qc_io::MemoryFiles;
+use crate::scripts::{files_of, run_script};
 use std::alloc::{AllocError, Global};
 use std::test::Fail;
 
@@ -41,15 +40,20 @@ fn transcript(alloc: Global) -> Result<String, AllocError> {
     Ok(transcript)
 }
 
+// Whether a run over the files of these bytes has this transcript.
+fn is_right(alloc: Global, base: &str, script: &str, transcript: &str) -> Result<bool, AllocError> {
+    let mut files = files_of(alloc, &[], 65_536)?;
+    files.add("schema", SCHEMA)?;
+    files.add("base.csv", base.as_bytes())?;
+    files.add("script", script.as_bytes())?;
+    let ran = run_script(alloc, &mut files, &[], 65_536)?;
+    Ok(ran.ended_with(0, transcript.as_bytes(), b""))
+}
+
 #[test]
 fn many_points_over_many_rows(rt: HostRuntime) -> Result<(), Fail> {
     let alloc = rt.alloc();
-    let mut files = MemoryFiles::new(alloc, &[], 65_536)?;
-    files.add("schema", SCHEMA)?;
-    files.add("base.csv", base(alloc)?.as_bytes())?;
-    files.add("script", script(alloc)?.as_bytes())?;
-    let ran = run_over(alloc, &mut files, &[], 65_536)?;
-    assert_eq!(rt; ran.status, 0);
-    assert!(rt; ran.out.bytes() == transcript(alloc)?.as_bytes());
+    let (base, script, transcript) = (base(alloc)?, script(alloc)?, transcript(alloc)?);
+    assert!(rt; is_right(alloc, base.as_str(), script.as_str(), transcript.as_str())?);
     Ok(())
 }

@@ -1,10 +1,9 @@
 // What the tests share: values, and scripts with the transcripts that they are to have.
-ghost use Rattle.std.specs.Prelude.{None, ◌≡◌, ◌≤◌};
+ghost use Rattle.std.specs.Prelude.{IfOk, None, ◌≡◌};
 
-use qc_io::{MemoryFiles, MemorySink, SureFiles, SureSink};
-use qc_session::run;
+use outside_tests::runs::{RUN, Ran, run_over, sink};
+use qc_io::MemoryFiles;
 use std::alloc::{AllocError, Global};
-use std::process::Abort;
 
 /// Four values as they stand in a file, and as they are asked; the last entry asks Any.
 pub const WRITTEN: [&str; 4] = ["", "*", "\"x,y\"", "\u{E9}"];
@@ -59,67 +58,43 @@ impl Written {
     }
 }
 
-/// How a run ended, what it wrote and what it told.
-#[derive(Drop)]
-pub struct Ran {
-    pub status: u8,
-    pub skipped: usize,
-    pub out: MemorySink,
-    pub err: MemorySink,
-}
+/// A file: its name, and its bytes.
+pub type File<'a> = (&'a str, &'a [u8]);
 
-fn words(alloc: Global) -> Result<Vec<String>, AllocError> {
-    let mut words = Vec::new(alloc);
-    for word in ["run", "schema", "script"] {
-        words.push(String::from_str(alloc, word)?)?;
+/// These files in memory, which give so many bytes a read.
+pub fn files_of(alloc: Global, given: &[File<'_>], piece: usize) -> Result<MemoryFiles, AllocError>
+    ensures { IfOk result (λ files. files.store.open_name ≡ None) }
+{
+    let mut files = MemoryFiles::new(alloc, &[], piece.max(1))?;
+    'given: for file in given {
+        files.add(file.0, file.1)?;
     }
-    Ok(words)
+    Ok(files)
 }
 
-/// Runs over these files. The writes to out that are listed fail, and each takes at most so many bytes.
-pub fn run_over(
+/// Runs the script over these files. The writes to out that are listed fail, and each takes at most so many bytes.
+pub fn run_script(
     alloc: Global,
     files: &mut MemoryFiles,
     writes: &[u64],
     piece: usize,
-) -> Result<Ran, AllocError>
-    requires { 1 ≤ piece }
-{
-    let words = words(alloc)?;
-    let mut out = MemorySink::new(alloc, writes, piece, 16_000_000)?;
-    let mut err = MemorySink::new(alloc, &[], piece, 1000)?;
-    let outcome = run(alloc, &words, files, &mut out, &mut err);
-    Ok(Ran {
-        status: outcome.status,
-        skipped: outcome.skipped.len(),
-        out,
-        err,
-    })
+) -> Result<Ran, AllocError> {
+    let out = sink(alloc, writes, piece, 16_000_000)?;
+    let err = sink(alloc, &[], piece, 1000)?;
+    run_over(alloc, &RUN, files, out, err)
 }
 
-/// Runs over files and sinks that never fail. Gives the status, and how many lines were skipped.
-pub fn run_surely(alloc: Global, files: &mut SureFiles) -> Result<(u8, usize), AllocError> {
-    let words = words(alloc)?;
-    let mut out = SureSink::new();
-    let mut err = SureSink::new();
-    let outcome = run(alloc, &words, files, &mut out, &mut err);
-    Ok((outcome.status, outcome.skipped.len()))
-}
-
-/// Over these files and a schema the script has just that transcript.
-pub fn answers(
-    rt: &impl Abort,
+/// Whether over these files and a schema the script has just that transcript.
+pub fn has_transcript(
     alloc: Global,
     files: &mut MemoryFiles,
     schema: &[u8],
     written: &Written,
-) -> Result<(), AllocError>
+) -> Result<bool, AllocError>
     requires { files.old.store.open_name ≡ None }
 {
     files.add("schema", schema)?;
     files.add("script", written.script.as_bytes())?;
-    let ran = run_over(alloc, files, &[], 4096)?;
-    assert_eq!(rt; ran.status, 0);
-    assert_eq!(rt; ran.out.bytes(), written.transcript.as_bytes());
-    Ok(())
+    let ran = run_script(alloc, files, &[], 4096)?;
+    Ok(ran.ended_with(0, written.transcript.as_bytes(), b""))
 }
