@@ -7,7 +7,7 @@ ghost use Rattle.cube_snapshot.specs.Snapshot.{laid};
 ghost use Rattle.value_dict.specs.TextLists.{list_at};
 
 use base_table::Table;
-use cube_defs::MAX_CODES;
+use cube_defs::{MAX_CODES, MAX_ROWS};
 use value_dict::Dict;
 
 // The bytes of the texts of a dimension, each behind its length, without their number.
@@ -40,7 +40,7 @@ fn dict_len(dict: &Dict) -> usize
 // The bytes of the rows, with their number.
 fn rows_len(table: &Table) -> usize
     ensures value { result ≡ length ((rows table.now.dims table.now.measures).put (rows_of table.now)) }
-    ensures small { result ≤ 4 + 1000000 * (8 + 4 * 16 + 8 * 4) }
+    ensures small { result ≤ 4 + MAX_ROWS * (8 + 4 * 16 + 8 * 4) }
 {
     let row = 8 + 4 * usize::from(table.dims()) + 8 * usize::from(table.measures());
     4 + table.count() as usize * row
