@@ -74,7 +74,7 @@ with open("rows.csv", "w") as file:
 with open("load", "w") as file:
     file.write("load rows.csv\n")
 endings = {}
-for megabytes in [*range(2, 30, 4), *range(30, 401, 10)]:
+for megabytes in range(30, 401, 10):
     most = megabytes << 20
     run = subprocess.run([program, "run", "rows.schema", "load"], capture_output=True, preexec_fn=lambda: resource.setrlimit(resource.RLIMIT_AS, (most, most)))
     ending = (run.returncode, run.stdout.decode())
