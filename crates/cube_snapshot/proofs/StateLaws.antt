@@ -4,7 +4,6 @@ use Rattle.std.specs.Int.{w32}
 use Rattle.std.specs.List.{All, AllByRecursion, IsDistinct}
 use Rattle.std.proofs.lemmas.List.Elements.{All-cons, All-nil}
 use Rattle.base_table.specs.Places.{Places, rows_of}
-use Rattle.base_table.specs.Places as places
 use Rattle.std.specs.Str.{bytes_eq}
 use Rattle.std.proofs.lemmas.List.{length-map}
 use Rattle.cell_closure.proofs.Rows.{all_recursion}
@@ -23,32 +22,17 @@ use Rattle.value_dict.specs.Told.{AreCodes, RowsAreCodes, has_text, place_in}
 use Rattle.value_dict.proofs.ToldCells.{Fits, fits}
 use Rattle.value_dict.proofs.Places.{any-within}
 use Rattle.value_dict.proofs.TextsApart.{rows-back}
-use Rattle.warehouse.specs.State.{IsState, State, coded_rows, ids_of}
+use Rattle.warehouse.specs.State.{IsState, IsConsistent, State, coded_rows, ids_of}
 use Rattle.warehouse.specs.Stored.{IsStored, state_of}
 use Rattle.warehouse.proofs.Decoding as decoding
-use Rattle.warehouse.proofs.Decoding.{ids-decoded, length-rows}
-use Rattle.warehouse.proofs.States.{loaded-rows}
 use Rattle.cube_snapshot.specs.Format.{IsBytes, number, whole}
 use Rattle.cube_snapshot.specs.Parts.{AreTexts, IsRow, rows, texts}
 use Rattle.cube_snapshot.specs.Readers.{AreWithin, IsMade, Refuses, parts_made}
 use Rattle.cube_snapshot.specs.Snapshot.{IsSnapshot, Parts, behind, mark_text, snapshot}
-use Rattle.cube_snapshot.specs.States.{IsWithin, parts_in, spelling}
+use Rattle.cube_snapshot.specs.States.{parts_in, spelling}
 use Rattle.cube_snapshot.specs.declared.refused.PartRefused.TheVariants.{Form}
 use Rattle.cube_snapshot.proofs.Looping.{some_is}
 use Rattle.cube_snapshot.proofs.SnapshotLaws.{one_spelling, same_parts}
-
-pub state-within : (s : State) → IsState s → IsWithin s
-state-within s is = record {
-  layout = is.layout;
-  rows = is.rows;
-  ids = is.ids;
-  few_rows = is.few_rows;
-  lists = is.lists;
-  values = is.values;
-  distinct = is.distinct;
-  few_texts = is.few_texts;
-  known = is.known;
-}
 
 -- the text of the schema is a part of the whole
 schema-within : (s : State) → length (layout_text s.schema) ≤ length (spelling s)
@@ -93,7 +77,7 @@ each-few lists max few i = go lists (all_recursion (λ (texts : List Text). leng
     go (l ∷ ls) all (suc k) = go ls all.1 k
 
 -- the parts of a state whose spelling is no longer than a file may be have one
-pub state-spelled : (s : State) → IsWithin s → length (spelling s) ≤ 268435456 → IsSnapshot (parts_in s)
+pub state-spelled : (s : State) → IsConsistent s → length (spelling s) ≤ 268435456 → IsSnapshot (parts_in s)
 state-spelled s is short = record {
   spelled = record { few = omega (arith, schema-within s, short); again = read-again s.schema is.layout };
   texts_are = record {
@@ -108,7 +92,7 @@ state-spelled s is short = record {
 }
 
 -- states with the same parts are the same
-same-state : (s t : State) → IsWithin s → IsWithin t → parts_in s ≡ parts_in t → s ≡ t
+same-state : (s t : State) → IsConsistent s → IsConsistent t → parts_in s ≡ parts_in t → s ≡ t
 same-state s t is it e =
     let texts : s.texts ≡ t.texts = ap (λ (p : Parts). p.texts) e in
     let rows : s.rows ≡ t.rows = sym (rows-back s.texts s.rows is.known) ∙ ap₂ (λ (ls : List (List Text)) (rs : List (Row ℕ)). map (coded_row (text_in ls)) rs) texts (ap (λ (p : Parts). p.rows) e) ∙ rows-back t.texts t.rows it.known in
@@ -116,9 +100,7 @@ same-state s t is it e =
 
 pub one-state : (s t : State) → IsState s → IsState t → length (spelling s) ≤ 268435456 → spelling s ≡ spelling t → s ≡ t
 one-state s t is it short e =
-    let a = state-within s is in
-    let b = state-within t it in
-    same-state s t a b (same_parts (parts_in s) (parts_in t) (state-spelled s a short) (state-spelled t b (subst (λ (l : List ℕ). length l ≤ 268435456) e short)) e)
+    same-state s t is.consistent it.consistent (same_parts (parts_in s) (parts_in t) (state-spelled s is.consistent short) (state-spelled t it.consistent (subst (λ (l : List ℕ). length l ≤ 268435456) e short)) e)
 
 pub short-values : (lists : List (List Text)) → All (All IsValue) lists → All (All (λ t. length t ≤ 255)) lists
 short-values lists values k d lt i e l = (values k d lt i e l).short
@@ -142,7 +124,7 @@ ids-coded : (texts : List (List Text)) (rows : List (Row Text)) → map (λ (row
 ids-coded texts [] = refl
 ids-coded texts (row ∷ rows) = ap (λ (l : List ℕ). row.id ∷ l) (ids-coded texts rows)
 
-pub parts-within : (s : State) → IsWithin s → AreWithin (parts_in s)
+pub parts-within : (s : State) → IsConsistent s → AreWithin (parts_in s)
 parts-within s is =
     let wide = all_map (IsLoaded (length s.schema.dims) (length s.schema.measures)) (λ (row : Row Text). length row.tuple ≤ length s.texts) s.rows (λ row loaded. omega (arith, loaded.tuple, is.lists))
     (all_recursion (IsLoaded (length s.schema.dims) (length s.schema.measures)) s.rows is.rows) in (
@@ -178,31 +160,16 @@ parts-stored schema dict table is =
     let rows = sym (decoding.rows-back dict.lists (rows_of table) is.known is.dictionary.distinct) in
     λ j. let p : Parts = record { schema = schema; texts = dict.lists; rows = rows j } in p
 
-pub state-stored : (schema : Layout) (dict : TextLists) (table : Places) → IsStored schema dict table → IsWithin (state_of schema dict table)
-state-stored schema dict table is = record {
-  layout = is.layout;
-  rows =
-      let all : All (places.IsRow (length schema.dims) (length schema.measures)) (rows_of table) = rw (is.dims, is.measures) at is.are_rows.rows.each in
-      loaded-rows dict.lists (length schema.dims) (length schema.measures) (rows_of table) is.known is.values all;
-  ids = subst (λ (ids : List ℕ). IsDistinct nat_eq ids) (sym (ids-decoded dict.lists (rows_of table))) is.are_rows.rows.distinct;
-  few_rows = omega (arith, length-rows dict.lists (rows_of table), is.are_rows.rows.few, is.most_rows);
-  lists = is.lists;
-  values = is.values;
-  distinct = is.dictionary.distinct;
-  few_texts = subst (λ (n : ℕ). All (λ (texts : List Text). length texts ≤ n) dict.lists) is.most_texts is.dictionary.within;
-  known = decoding.rows-known dict.lists (rows_of table) is.known;
-}
-
 -- bytes that are no longer than a file may be
 module _ (bytes : List ℕ) (bounded : IsBytes bytes) (short : length bytes ≤ 268435456) where
-  spelled-parts : (s : State) → IsWithin s → bytes ≡ spelling s → whole snapshot bytes ≡ Some (parts_in s)
+  spelled-parts : (s : State) → IsConsistent s → bytes ≡ spelling s → whole snapshot bytes ≡ Some (parts_in s)
   spelled-parts s is e = (one_spelling bytes (parts_in s) bounded).1 (e, state-spelled s is (subst (λ (l : List ℕ). length l ≤ 268435456) e short))
 
   -- they are the spelling of one state
-  pub unique : (s t : State) → IsWithin s → IsWithin t → bytes ≡ spelling s → bytes ≡ spelling t → s ≡ t
+  pub unique : (s t : State) → IsConsistent s → IsConsistent t → bytes ≡ spelling s → bytes ≡ spelling t → s ≡ t
   unique s t is it e f = same-state s t is it (some_is (parts_in s) (parts_in t) (sym (spelled-parts s is e) ∙ spelled-parts t it f))
 
-  pub refused-state : Refuses AreWithin Form (whole snapshot bytes) → (s : State) → IsWithin s → bytes ≡ spelling s → ⊥
+  pub refused-state : Refuses AreWithin Form (whole snapshot bytes) → (s : State) → IsConsistent s → bytes ≡ spelling s → ⊥
   refused-state refused s is e = refused (parts_in s) (spelled-parts s is e) (parts-within s is)
 
   pub made-spelled : (schema : Layout) (dict : TextLists) (table : Places) → IsStored schema dict table → whole snapshot bytes ≡ Some (parts_made schema dict table) → bytes ≡ spelling (state_of schema dict table)

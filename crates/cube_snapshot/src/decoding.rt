@@ -1,7 +1,7 @@
 // A state from its bytes.
 ghost use Rattle.std.specs.Prelude.{Err, IfOk, MatchResult, length, ◌≡◌, ◌≢◌, ◌≤◌};
-ghost use Rattle.warehouse.specs.State.{AreContents, IsState, State};
-ghost use Rattle.cube_snapshot.specs.States.{HasTooManyNodes, IsWithin, spelling};
+ghost use Rattle.warehouse.specs.State.{AreContents, IsConsistent, IsState, State};
+ghost use Rattle.cube_snapshot.specs.States.{HasTooManyNodes, spelling};
 
 use crate::refused::{DecodeRefused, PartRefused};
 use crate::whole::read_parts;
@@ -24,7 +24,7 @@ pub fn decode<L: Ledger>(
     ensures spelled { IfOk result (λ warehouse. bytes.now ≡ spelling warehouse.state) }
     ensures valid { IfOk result (λ warehouse. AreContents warehouse) }
     ensures found { (s : State) → IsState s → bytes.now ≡ spelling s → MatchResult result (λ warehouse. warehouse.state ≡ s) (λ e. e ≡ DecodeRefused.Memory) }
-    ensures form { result ≡ Err DecodeRefused.Form → (s : State) → IsWithin s → bytes.now ≢ spelling s }
+    ensures form { result ≡ Err DecodeRefused.Form → (s : State) → IsConsistent s → bytes.now ≢ spelling s }
     ensures nodes_full { result ≡ Err DecodeRefused.NodesFull → (s : State) × HasTooManyNodes bytes.now s }
 {
     let (schema, dict, table) = match read_parts(alloc, bytes) {

@@ -52,16 +52,16 @@ module _ (s : State) (is : IsState s) where
   -- each row has a text for each list
   pub wide : AllByRecursion (λ row. length row.tuple ≡ length s.texts) s.rows
   wide =
-      all_map (IsLoaded (length s.schema.dims) (length s.schema.measures)) (λ row. length row.tuple ≡ length s.texts) s.rows (λ row r. r.tuple ∙ sym is.lists)
-      (recursion_from_All (IsLoaded (length s.schema.dims) (length s.schema.measures)) s.rows is.rows)
+      all_map (IsLoaded (length s.schema.dims) (length s.schema.measures)) (λ row. length row.tuple ≡ length s.texts) s.rows (λ row r. r.tuple ∙ sym is.consistent.lists)
+      (recursion_from_All (IsLoaded (length s.schema.dims) (length s.schema.measures)) s.rows is.consistent.rows)
 
   pub state-found : (lists : List (List Text)) (asked : List Field) (cell : Cell ℕ) (found : Option Class) → lists ≡ s.texts → All IsCellField asked → Some cell ≡ cell_in lists asked
       → option_map hit_in found ≡ class_of nat_cmp (source_of s).measures (source_of s).rows cell → IsFoundClass s.texts (length s.schema.measures) s.rows (cell_asked asked) found
-  state-found lists asked cell found same point e h = class-found s.texts (length s.schema.measures) s.rows is.known wide lists asked cell found same point (sym e) h
+  state-found lists asked cell found same point e h = class-found s.texts (length s.schema.measures) s.rows is.consistent.known wide lists asked cell found same point (sym e) h
 
   pub state-none : (lists : List (List Text)) (asked : List Field) → lists ≡ s.texts → length asked ≡ length s.schema.dims → All IsCellField asked → None ≡ cell_in lists asked
       → None ≡ class_of text_cmp (length s.schema.measures) s.rows (cell_asked asked)
-  state-none lists asked same len point e = class-none s.texts (length s.schema.measures) s.rows is.known wide lists asked same (len ∙ sym is.lists) point (sym e)
+  state-none lists asked same len point e = class-none s.texts (length s.schema.measures) s.rows is.consistent.known wide lists asked same (len ∙ sym is.consistent.lists) point (sym e)
 
 -- the codes of the asked cell tell it
 pub asked-told : (texts lists : List (List Text)) (asked : List Field) (cell : Cell ℕ) → lists ≡ texts → length asked ≡ length texts → All IsCellField asked → cell_in lists asked ≡ Some cell → told_cell texts cell ≡ cell_asked asked

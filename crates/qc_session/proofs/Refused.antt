@@ -74,7 +74,7 @@ values-within s changes dim is e =
     values (Some d) e h =
         let same : d ≡ dim = cc in
         let within = full-within s.schema.values (texts_after s.texts changes) d e in
-        omega (arith, within, same, length-after s.texts (inserted changes), is.lists)
+        omega (arith, within, same, length-after s.texts (inserted changes), is.consistent.lists)
 
 unless-err : (o : Option Refusal) (applied : Applied) (r : Refusal) → unless o applied ≡ Err r → o ≡ Some r
 unless-err None applied r e = cc

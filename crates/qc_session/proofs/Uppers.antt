@@ -65,7 +65,7 @@ module _ (s : State) (is : IsState s) (lists : List (List Text)) (asked : List F
   pub upper-told : (cell : Cell ℕ) → Some cell ≡ cell_in lists asked → option_map (told_cell s.texts) (closure_in (source_of s) cell) ≡ upper_of s (cell_asked asked)
   upper-told cell e =
       let at = cell-found s.texts 0 s.texts asked cell (fits s.texts) point (rw same at (sym e)) in
-      let told = class-told s.texts (length s.schema.measures) s.rows is.known (wide s is) (cell_asked asked) (class_of nat_cmp (length s.schema.measures) (source_of s).rows cell) at.known (ap (class_of nat_cmp (length s.schema.measures) (source_of s).rows) at.code) in
+      let told = class-told s.texts (length s.schema.measures) s.rows is.consistent.known (wide s is) (cell_asked asked) (class_of nat_cmp (length s.schema.measures) (source_of s).rows cell) at.known (ap (class_of nat_cmp (length s.schema.measures) (source_of s).rows) at.code) in
       sym (uppers-told s.texts (length s.schema.measures) (source_of s).rows (closure_in (source_of s) cell))
       ∙ ap (option_map (λ (h : ClassHit Text). h.upper)) told.value
       ∙ uppers-are (length s.schema.measures) s.rows (upper_of s (cell_asked asked))

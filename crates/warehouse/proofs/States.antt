@@ -12,7 +12,7 @@ use Rattle.csv_load.specs.Batch.{IsLoaded, IsValue}
 use Rattle.qc_schema.specs.Schema.{IsLayout, Layout}
 use Rattle.qc_schema.proofs.Keeping.{dims-few, measures-few}
 use Rattle.value_dict.specs.TextLists.{IsDictionary, TextLists, no_texts}
-use Rattle.warehouse.specs.State.{IsState}
+use Rattle.warehouse.specs.State.{IsState, IsConsistent}
 use Rattle.warehouse.specs.Steps.{closed, frame}
 use Rattle.warehouse.specs.Stored.{IsStored, state_of}
 use Rattle.value_dict.specs.Told.{AreCodes, RowsAreCodes, decoded_row}
@@ -35,8 +35,8 @@ loaded-rows lists dims measures (row ∷ rows) are values all =
     (loaded-row lists dims measures row (All-head (λ (r : Row ℕ). AreCodes lists r.tuple) row rows are) values (All-head (IsRow dims measures) row rows all))
     (loaded-rows lists dims measures rows (All-tail (λ (r : Row ℕ). AreCodes lists r.tuple) row rows are) values (All-tail (IsRow dims measures) row rows all))
 
-pub is-state : (schema : Layout) (dict : TextLists) (table : Places) → IsStored schema dict table → length (nodes nat_cmp (rows_of table)) ≤ schema.nodes → IsState (state_of schema dict table)
-is-state schema dict table is few = record {
+pub is-consistent : (schema : Layout) (dict : TextLists) (table : Places) → IsStored schema dict table → IsConsistent (state_of schema dict table)
+is-consistent schema dict table is = record {
   layout = is.layout;
   rows =
       let all : All (IsRow (length schema.dims) (length schema.measures)) (rows_of table) = rw (is.dims, is.measures) at is.are_rows.rows.each in
@@ -48,6 +48,11 @@ is-state schema dict table is few = record {
   distinct = is.dictionary.distinct;
   few_texts = subst (λ (n : ℕ). All (λ (texts : List Text). length texts ≤ n) dict.lists) is.most_texts is.dictionary.within;
   known = rows-known dict.lists (rows_of table) is.known;
+}
+
+pub is-state : (schema : Layout) (dict : TextLists) (table : Places) → IsStored schema dict table → length (nodes nat_cmp (rows_of table)) ≤ schema.nodes → IsState (state_of schema dict table)
+is-state schema dict table is few = record {
+  consistent = is-consistent schema dict table is;
   few_nodes = subst (λ (n : ℕ). n ≤ schema.nodes) (nodes-decoded dict.lists (rows_of table) is.known is.dictionary.distinct) few;
 }
 

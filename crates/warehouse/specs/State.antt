@@ -33,8 +33,8 @@ ids_of rows = map (λ row. row.id) rows
 abbrev pub coded_rows : State → List (Row ℕ)
 coded_rows s = map (coded_row (place_in s.texts)) s.rows
 
--- what is true of every state
-pub record IsState (s : State) : Type 0 where
+-- a schema, rows and texts that fit together: what is true of every state, but for the number of its nodes
+pub record IsConsistent (s : State) : Type 0 where
   pub layout : IsLayout s.schema
   pub rows : All (IsLoaded (length s.schema.dims) (length s.schema.measures)) s.rows
   pub ids : IsDistinct nat_eq (ids_of s.rows)
@@ -44,6 +44,10 @@ pub record IsState (s : State) : Type 0 where
   pub distinct : All (IsDistinct bytes_eq) s.texts
   pub few_texts : All (λ texts. length texts ≤ s.schema.values) s.texts
   pub known : RowsAreKnown (has_text s.texts) s.rows
+
+-- what is true of every state
+pub record IsState (s : State) : Type 0 where
+  pub consistent : IsConsistent s
   pub few_nodes : length (nodes text_cmp s.rows) ≤ s.schema.nodes
 
 -- the scale of the measure of a kind; a count has none

@@ -8,7 +8,8 @@ use Rattle.cube_snapshot.specs.Readers.{AreWithin, Refuses}
 use Rattle.cube_snapshot.specs.Snapshot.{snapshot}
 use Rattle.cube_snapshot.specs.States.{spelling}
 use Rattle.cube_snapshot.specs.declared.refused.PartRefused.{PartRefused}
-use Rattle.cube_snapshot.proofs.StateLaws.{made-spelled, refused-state, state-stored, state-within, stored-made, unique}
+use Rattle.warehouse.proofs.States.{is-consistent}
+use Rattle.cube_snapshot.proofs.StateLaws.{made-spelled, refused-state, stored-made, unique}
 use Rattle.cube_snapshot.proofs.decoding.decode.Goals as goal
 use Rattle.std.proofs.Common.{◌∙◌, sym}
 
@@ -24,7 +25,7 @@ pub returns-in-Err-Form-clause-found : goal.returns-in-Err-Form-clause-found
 returns-in-Err-Form-clause-found g c = λ s is e.
     absurd
     (refused-state c.args.bytes.now (λ i. omega (arith, c.type_inv.bytes i)) c.requires
-    (subst (λ (e : PartRefused). Refuses AreWithin e (whole snapshot c.args.bytes.now)) c.in-Err-Form.field-0-is c.in-Err-Form.ensures.reads) s (state-within s is) e)
+    (subst (λ (e : PartRefused). Refuses AreWithin e (whole snapshot c.args.bytes.now)) c.in-Err-Form.field-0-is c.in-Err-Form.ensures.reads) s is.consistent e)
 
 pub returns-in-Ok-from_parts-clause-spelled : goal.returns-in-Ok-from_parts-clause-spelled
 returns-in-Ok-from_parts-clause-spelled g c =
@@ -41,7 +42,7 @@ returns-in-Ok-from_parts-clause-found g c = λ s is e.
     let made = c.in-Ok.made in
     let stored : IsStored made.0 made.1 made.2 = stored-made made.0 made.1 made.2 c.in-Ok.ensures.made c.in-Ok.ensures.reads.1 in
     c.in-Ok-from_parts.ensures.state
-    ∙ unique bytes bounded c.requires (state_of made.0 made.1 made.2) s (state-stored made.0 made.1 made.2 stored) (state-within s is) (made-spelled bytes bounded c.requires made.0 made.1 made.2 stored c.in-Ok.ensures.reads.0) e
+    ∙ unique bytes bounded c.requires (state_of made.0 made.1 made.2) s (is-consistent made.0 made.1 made.2 stored) is.consistent (made-spelled bytes bounded c.requires made.0 made.1 made.2 stored c.in-Ok.ensures.reads.0) e
 
 pub returns-in-Err-NodesFull-clause-nodes_full : goal.returns-in-Err-NodesFull-clause-nodes_full
 returns-in-Err-NodesFull-clause-nodes_full g c = λ _.
@@ -52,7 +53,7 @@ returns-in-Err-NodesFull-clause-nodes_full g c = λ _.
       state_of made.0 made.1 made.2,
       record {
         spelled = made-spelled bytes bounded c.requires made.0 made.1 made.2 stored c.in-Ok.ensures.reads.0;
-        within = state-stored made.0 made.1 made.2 stored;
+        consistent = is-consistent made.0 made.1 made.2 stored;
         many = c.in-Err-NodesFull.ensures.nodes_full (ap Err c.in-Err-NodesFull.field-0-is);
       },
     )
@@ -63,6 +64,6 @@ returns-in-Err-NodesFull-clause-found g c = λ s is e.
     let bounded : IsBytes bytes = λ i. omega (arith, c.type_inv.bytes i) in
     let made = c.in-Ok.made in
     let stored : IsStored made.0 made.1 made.2 = stored-made made.0 made.1 made.2 c.in-Ok.ensures.made c.in-Ok.ensures.reads.1 in
-    let same : state_of made.0 made.1 made.2 ≡ s = unique bytes bounded c.requires (state_of made.0 made.1 made.2) s (state-stored made.0 made.1 made.2 stored) (state-within s is) (made-spelled bytes bounded c.requires made.0 made.1 made.2 stored c.in-Ok.ensures.reads.0) e in
+    let same : state_of made.0 made.1 made.2 ≡ s = unique bytes bounded c.requires (state_of made.0 made.1 made.2) s (is-consistent made.0 made.1 made.2 stored) is.consistent (made-spelled bytes bounded c.requires made.0 made.1 made.2 stored c.in-Ok.ensures.reads.0) e in
     let many = subst (λ (t : State). t.schema.nodes < length (nodes text_cmp t.rows)) same (c.in-Err-NodesFull.ensures.nodes_full (ap Err c.in-Err-NodesFull.field-0-is)) in
     absurd (omega (arith, many, is.few_nodes))

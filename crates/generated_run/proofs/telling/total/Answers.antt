@@ -15,4 +15,4 @@ returns g c =
     c.total_at.ensures.value (source_of s) (rw (c.tree.ensures.width, c.tree.ensures.value) c.tree.ensures.valid.tree)
     ∙ total-at (source_of s) c.any-cell.result
     ∙ ap (agg_at (eq_by_cmp nat_cmp) (length s.schema.measures) (coded_rows s)) cell
-    ∙ total-of-all s.texts (length s.schema.measures) s.rows n c.tree.ensures.valid.state.known
+    ∙ total-of-all s.texts (length s.schema.measures) s.rows n c.tree.ensures.valid.state.consistent.known

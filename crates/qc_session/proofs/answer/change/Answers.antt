@@ -12,4 +12,4 @@ words_of_file-requires-clause-dim g c =
     rw (c.schema.ensures.value, same) within
 
 pub words_of_file-requires-clause-layout : goal.words_of_file-requires-clause-layout
-words_of_file-requires-clause-layout g c = rw c.schema.ensures.value c.schema.ensures.valid.state.layout
+words_of_file-requires-clause-layout g c = rw c.schema.ensures.value c.schema.ensures.valid.state.consistent.layout

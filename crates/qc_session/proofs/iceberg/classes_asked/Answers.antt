@@ -18,7 +18,7 @@ use Rattle.qc_session.proofs.Recoded.{rows-known, rows-told}
 use Rattle.qc_session.proofs.iceberg.classes_asked.Goals as goal
 
 pub scale_of_kind-requires-clause-layout : goal.scale_of_kind-requires-clause-layout
-scale_of_kind-requires-clause-layout g c = rw c.schema.ensures.value c.schema.ensures.valid.state.layout
+scale_of_kind-requires-clause-layout g c = rw c.schema.ensures.value c.schema.ensures.valid.state.consistent.layout
 
 pub scale_of_kind-requires-clause-measured : goal.scale_of_kind-requires-clause-measured
 scale_of_kind-requires-clause-measured g c = rw c.schema.ensures.value c.requires
@@ -36,7 +36,7 @@ iceberg-requires-clause-unit g c =
     subst (λ (n : ℕ). IfSome (ranking_of kind c.index.result.now) (λ r. r.scale ≡ n)) scale (c.index.ensures.unit kind)
 
 pub iceberg-requires-clause-dims : goal.iceberg-requires-clause-dims
-iceberg-requires-clause-dims g c = ap length c.dict.ensures.texts ∙ c.dict.ensures.valid.state.lists ∙ sym c.tree.ensures.width
+iceberg-requires-clause-dims g c = ap length c.dict.ensures.texts ∙ c.dict.ensures.valid.state.consistent.lists ∙ sym c.tree.ensures.width
 
 pub iceberg-requires-clause-measure : goal.iceberg-requires-clause-measure
 iceberg-requires-clause-measure g c =

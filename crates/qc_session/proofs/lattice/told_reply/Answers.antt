@@ -28,7 +28,7 @@ iceberg_reply-requires g c =
     let known = rows-known s c.dict-dict.ensures.valid.state dict.lists c.dict-dict.ensures.texts in
     let e = subst (λ t. map hit_in classes ≡ map (λ (node : NodeNo). class_alone nat_cmp source.measures source.rows (record_at t node.0).cell) nodes) c.tree.ensures.value
     (c.in_ok-classes.ensures source (rw (c.tree.ensures.width, c.tree.ensures.value) c.tree.ensures.valid.tree)) in
-    let told = alone_tellable (length s.schema.dims) tree dict source c.tree.ensures.valid.tree c.dims-dims.ensures.dictionary known (ap length c.dict-dict.ensures.texts ∙ c.dict-dict.ensures.valid.state.lists) nodes classes (each-class tree nodes c.requires) e in
+    let told = alone_tellable (length s.schema.dims) tree dict source c.tree.ensures.valid.tree c.dims-dims.ensures.dictionary known (ap length c.dict-dict.ensures.texts ∙ c.dict-dict.ensures.valid.state.consistent.lists) nodes classes (each-class tree nodes c.requires) e in
     subst (λ xs. All (λ class. IsTellableClass dict.lists (length c.schema.result.now.measures) (hit_in class)) xs) (sym c.deref.ensures.value)
     (subst (λ (l : Layout). All (λ class. IsTellableClass dict.lists (length l.measures) (hit_in class)) classes) (sym c.schema.ensures.value) told)
 
@@ -43,7 +43,7 @@ returns g c =
     let known = rows-known s c.dict-dict.ensures.valid.state dict.lists c.dict-dict.ensures.texts in
     let e = subst (λ t. map hit_in classes ≡ map (λ (node : NodeNo). class_alone nat_cmp source.measures source.rows (record_at t node.0).cell) nodes) c.tree.ensures.value
     (c.in_ok-classes.ensures source (rw (c.tree.ensures.width, c.tree.ensures.value) c.tree.ensures.valid.tree)) in
-    let told = alone_told (length s.schema.dims) tree dict source c.tree.ensures.valid.tree c.dims-dims.ensures.dictionary known (ap length c.dict-dict.ensures.texts ∙ c.dict-dict.ensures.valid.state.lists) nodes classes (each-class tree nodes c.requires) e in
+    let told = alone_told (length s.schema.dims) tree dict source c.tree.ensures.valid.tree c.dims-dims.ensures.dictionary known (ap length c.dict-dict.ensures.texts ∙ c.dict-dict.ensures.valid.state.consistent.lists) nodes classes (each-class tree nodes c.requires) e in
     c.in_ok-reply.ensures
     ∙ ap (λ (l : Layout). iceberg_text c.args.number l.measures (told_classes dict.lists c.deref.result.now)) c.schema.ensures.value
     ∙ ap (λ xs. iceberg_text c.args.number s.schema.measures (told_classes dict.lists xs)) c.deref.ensures.value

@@ -11,7 +11,7 @@ use Rattle.tree_search.proofs.TotalAt.{total-at}
 pub returns-in_err-cell-clause-value : goal.returns-in_err-cell-clause-value
 returns-in_err-cell-clause-value g c =
     let s = c.args.warehouse.now.state in
-    let none = total-none s.texts c.dict.result.now.lists (length s.schema.measures) s.rows c.args.asked.now c.dict.ensures.texts (c.requires.dims ∙ sym c.dict.ensures.valid.state.lists) c.dict.ensures.valid.state.known c.requires.point (sym c.cell_of.ensures ∙ c.in_err-cell.was) in
+    let none = total-none s.texts c.dict.result.now.lists (length s.schema.measures) s.rows c.args.asked.now c.dict.ensures.texts (c.requires.dims ∙ sym c.dict.ensures.valid.state.consistent.lists) c.dict.ensures.valid.state.consistent.known c.requires.point (sym c.cell_of.ensures ∙ c.in_err-cell.was) in
     ap (option_map (λ found. agg_in found.1)) c.from_residual.ensures ∙ sym none
 
 pub total_at-requires-clause-dims : goal.total_at-requires-clause-dims
@@ -29,7 +29,7 @@ returns-in_err-total-clause-value g c =
     ∙ sym (ap (option_map agg_in) c.in_err-total.was)
     ∙ c.total_at.ensures.value (source_of s) (rw (c.tree.ensures.width, c.tree.ensures.value) c.tree.ensures.valid.tree)
     ∙ total-at (source_of s) c.in_ok-cell.cell
-    ∙ total-found s.texts c.dict.result.now.lists (length s.schema.measures) s.rows c.args.asked.now c.in_ok-cell.cell c.dict.ensures.texts c.dict.ensures.valid.state.known c.requires.point (sym c.cell_of.ensures ∙ c.in_ok-cell.was)
+    ∙ total-found s.texts c.dict.result.now.lists (length s.schema.measures) s.rows c.args.asked.now c.in_ok-cell.cell c.dict.ensures.texts c.dict.ensures.valid.state.consistent.known c.requires.point (sym c.cell_of.ensures ∙ c.in_ok-cell.was)
 
 pub returns-in_err-total-clause-steps : goal.returns-in_err-total-clause-steps
 returns-in_err-total-clause-steps g c =
@@ -42,7 +42,7 @@ returns-clause-value g c =
     sym (ap (option_map agg_in) c.in_ok-total.was)
     ∙ c.total_at.ensures.value (source_of s) (rw (c.tree.ensures.width, c.tree.ensures.value) c.tree.ensures.valid.tree)
     ∙ total-at (source_of s) c.in_ok-cell.cell
-    ∙ total-found s.texts c.dict.result.now.lists (length s.schema.measures) s.rows c.args.asked.now c.in_ok-cell.cell c.dict.ensures.texts c.dict.ensures.valid.state.known c.requires.point (sym c.cell_of.ensures ∙ c.in_ok-cell.was)
+    ∙ total-found s.texts c.dict.result.now.lists (length s.schema.measures) s.rows c.args.asked.now c.in_ok-cell.cell c.dict.ensures.texts c.dict.ensures.valid.state.consistent.known c.requires.point (sym c.cell_of.ensures ∙ c.in_ok-cell.was)
 
 pub returns-clause-measures : goal.returns-clause-measures
 returns-clause-measures g c =
@@ -52,12 +52,12 @@ returns-clause-measures g c =
 pub returns-clause-told : goal.returns-clause-told
 returns-clause-told g c =
     let s = c.args.warehouse.now.state in
-    asked-told s.texts c.dict.result.now.lists c.args.asked.now c.in_ok-cell.cell c.dict.ensures.texts (c.requires.dims ∙ sym c.dict.ensures.valid.state.lists) c.requires.point (sym c.cell_of.ensures ∙ c.in_ok-cell.was)
+    asked-told s.texts c.dict.result.now.lists c.args.asked.now c.in_ok-cell.cell c.dict.ensures.texts (c.requires.dims ∙ sym c.dict.ensures.valid.state.consistent.lists) c.requires.point (sym c.cell_of.ensures ∙ c.in_ok-cell.was)
 
 pub returns-clause-texts : goal.returns-clause-texts
 returns-clause-texts g c =
     let s = c.args.warehouse.now.state in
-    asked-texts s.texts c.dict.result.now.lists c.args.asked.now c.in_ok-cell.cell c.dict.ensures.texts (c.requires.dims ∙ sym c.dict.ensures.valid.state.lists) c.requires.point (sym c.cell_of.ensures ∙ c.in_ok-cell.was)
+    asked-texts s.texts c.dict.result.now.lists c.args.asked.now c.in_ok-cell.cell c.dict.ensures.texts (c.requires.dims ∙ sym c.dict.ensures.valid.state.consistent.lists) c.requires.point (sym c.cell_of.ensures ∙ c.in_ok-cell.was)
 
 pub returns-clause-steps : goal.returns-clause-steps
 returns-clause-steps g c =

@@ -7,16 +7,16 @@ use Rattle.qc_session.proofs.Recoded.{range-told, rows-known, work-told}
 use Rattle.qc_session.proofs.range.hits_asked.Goals as goal
 
 pub box_of-requires : goal.box_of-requires
-box_of-requires g c = c.requires.dims ∙ sym c.dict-dict.ensures.valid.state.lists ∙ ap length (sym c.dict-dict.ensures.texts)
+box_of-requires g c = c.requires.dims ∙ sym c.dict-dict.ensures.valid.state.consistent.lists ∙ ap length (sym c.dict-dict.ensures.texts)
 
 pub range-requires-clause-tree : goal.range-requires-clause-tree
 range-requires-clause-tree g c = (source_of c.args.warehouse.now.state, rw (c.tree.ensures.width, c.tree.ensures.value) c.tree.ensures.valid.tree)
 
 pub range-requires-clause-dims : goal.range-requires-clause-dims
-range-requires-clause-dims g c = c.in-Ok.ensures.dims ∙ ap length c.dict-dict.ensures.texts ∙ c.dict-dict.ensures.valid.state.lists ∙ sym c.tree.ensures.width
+range-requires-clause-dims g c = c.in-Ok.ensures.dims ∙ ap length c.dict-dict.ensures.texts ∙ c.dict-dict.ensures.valid.state.consistent.lists ∙ sym c.tree.ensures.width
 
 pub range-requires-clause-dict_dims : goal.range-requires-clause-dict_dims
-range-requires-clause-dict_dims g c = ap length c.dict-dict.ensures.texts ∙ c.dict-dict.ensures.valid.state.lists ∙ sym c.tree.ensures.width
+range-requires-clause-dict_dims g c = ap length c.dict-dict.ensures.texts ∙ c.dict-dict.ensures.valid.state.consistent.lists ∙ sym c.tree.ensures.width
 
 pub returns-in-Ok-clause-hits : goal.returns-in-Ok-clause-hits
 returns-in-Ok-clause-hits g c =

@@ -20,7 +20,7 @@ returns-in-Ok g c =
     let s = c.args.shop.now.state in
     let cells = c.in-Ok.cells in
     let asked = c.args.asked.now in
-    let known = c.dict.ensures.valid.state.known in
+    let known = c.dict.ensures.valid.state.consistent.known in
     let box = subst (λ (l : List (List Text)). told_box l cells ≡ known_box (has_text l) 0 (asked_box l 0 asked)) c.dict.ensures.texts c.in-Ok.ensures.value in
     let codes = subst (λ (l : List (List Text)). RowsAreKnown (has_code l) (coded_rows s)) (sym c.dict-in-Ok.ensures.texts) (rows-coded s.texts s.rows known) in
     IfOk-weaker c.range.result _ _
