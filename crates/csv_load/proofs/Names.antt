@@ -10,7 +10,7 @@ use Rattle.std.proofs.lemmas.List.{drop_more, length-map, get_or_append_left, le
 use Rattle.std.proofs.lemmas.List.Elements.{All-cons}
 use Rattle.cube_defs.specs.Text.{Text}
 use Rattle.qc_schema.specs.Schema.{IsLayout, Layout, Measure, all_different, is_name, is_name_byte, names_of}
-use Rattle.qc_schema.proofs.Keeping.{bytes-flip, push-different}
+use Rattle.qc_schema.proofs.Widening.{bytes-flip, push-different}
 use Rattle.csv_load.proofs.Sizes.{Apart}
 use Rattle.csv_load.specs.Columns.{cons_some, fields_at, needed_names, place_from, places_in}
 

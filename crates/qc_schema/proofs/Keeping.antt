@@ -7,14 +7,12 @@ use Rattle.std.specs.Str.Parse.{digits_value}
 use Rattle.std.proofs.lemmas.Bool.{and_parts, leb-true, ltb-true, or_parts, not-true}
 use Rattle.std.proofs.lemmas.Bool.Decides.{nat_tests}
 use Rattle.std.specs.Bool.{Decides}
-use Rattle.std.proofs.lemmas.Slice.Eq.{bytes_eq-Decides}
-use Rattle.std.proofs.lemmas.List.{map-append, length_push, append-nil}
-use Rattle.std.proofs.lemmas.List.Folds.{list_any-append}
+use Rattle.std.proofs.lemmas.List.{map-append, length_push}
 use Rattle.aggregates.specs.Views.{IsThere, same_kind}
 use Rattle.aggregates.specs.declared.kind.AggKind.{AggKind}
 use Rattle.aggregates.specs.declared.kind.AggKind.TheVariants as kinds
 use Rattle.cube_defs.specs.Text.{Text}
-use Rattle.qc_schema.specs.Schema.{IsLayout, Layout, Measure, all_different, is_name, max_dims, max_measures, names_of}
+use Rattle.qc_schema.specs.Schema.{IsLayout, Layout, Measure, all_different, is_name, max_dims, max_measures, names_of, with_dim}
 use Rattle.qc_schema.specs.declared.limits.SchemaVersion.{SchemaVersion}
 use Rattle.qc_schema.specs.declared.limits.SchemaVersion.TheVariants as versions
 use Rattle.qc_schema.specs.Progress.{Progress, Fault, Line}
@@ -25,6 +23,7 @@ use Rattle.qc_schema.specs.declared.reader.Stage.{Stage}
 use Rattle.qc_schema.specs.declared.reader.Stage.TheVariants as stages
 use Rattle.qc_schema.specs.declared.refusal.SchemaCause.{SchemaCause}
 use Rattle.qc_schema.specs.declared.refusal.SchemaCause.TheVariants.{End, Name, Number, Order, Version}
+use Rattle.qc_schema.proofs.Widening.{bytes-flip, flip-by, push-all, push-different, wider}
 
 -- what holds behind a line of each kind
 abbrev pub AtStage : Stage → Layout → Type 0
@@ -75,28 +74,9 @@ cond_err true x y c e = absurd (cc e)
 cond_err false x y c e = (refl, cc)
 
 -- an element more
-push-all : {X : Type 0} (p : X → Bool) (xs : List X) (y : X) → list_all p xs ≡ true → p y ≡ true → list_all p (xs ++ y ∷ []) ≡ true
-push-all p [] y all h = rw h refl
-push-all p (x ∷ xs) y all h = let parts = and_parts (p x) (list_all p xs) all in rw (parts.0, push-all p xs y parts.1 h) refl
-
-pub push-different : {X : Type 0} (eq : X → X → Bool) → ((a b : X) → eq a b ≡ false → eq b a ≡ false) → (xs : List X) (y : X)
-    → all_different eq xs ≡ true → list_any (λ x. eq x y) xs ≡ false → all_different eq (xs ++ y ∷ []) ≡ true
-push-different eq flip [] y d n = refl
-push-different eq flip (x ∷ xs) y d n =
-    let p = and_parts (not (list_any (λ z. eq z x) xs)) (all_different eq xs) d in
-    let q = or_parts (eq x y) (list_any (λ z. eq z y) xs) n in
-    rw (list_any-append (λ z. eq z x) xs (y ∷ []), not-true (list_any (λ z. eq z x) xs) p.0, flip x y q.0, push-different eq flip xs y p.1 q.1) refl
-
 push-every : {X : Type 0} (P : X → Type 0) (xs : List X) (y : X) → AllByRecursion P xs → P y → AllByRecursion P (xs ++ y ∷ [])
 push-every P [] y all h = (h, tt)
 push-every P (x ∷ xs) y all h = (all.0, push-every P xs y all.1 h)
-
-flip-by : {P Q : Type 0} (a b : Bool) → Decides a P → Decides b Q → (Q → P) → a ≡ false → b ≡ false
-flip-by a true p q turn e = let same : a ≡ true = p.1 (turn (q.0 refl)) in absurd (cc same)
-flip-by a false p q turn e = refl
-
-pub bytes-flip : (a b : List ℕ) → bytes_eq a b ≡ false → bytes_eq b a ≡ false
-bytes-flip a b e = flip-by (bytes_eq a b) (bytes_eq b a) (bytes_eq-Decides a b) (bytes_eq-Decides b a) (λ same. sym same) e
 
 pub eq-flip : (m n : ℕ) → (m == n) ≡ false → (n == m) ≡ false
 eq-flip m n e = grind (arith, nat_tests)
@@ -208,26 +188,8 @@ first-dim version id name i n u = record {
   few_values = omega arith;
 }
 
-no-more : (dims : List Text) (ms : List Measure) → ms ≡ [] → dims ++ map (λ m. m.name) ms ≡ dims
-no-more dims ms e = rw e (append-nil dims)
-
-next-dim : (l : Layout) (name : Text) → IsLayout l → l.measures ≡ [] → length l.dims < max_dims l.version → is_name name ≡ true → is_used l name ≡ false → IsLayout (record l { dims = l.dims ++ name ∷ [] })
-next-dim l name h none few n u = record {
-  some_dims = omega (arith, length_push l.dims name, h.some_dims);
-  few_dims = omega (arith, length_push l.dims name);
-  few_measures = h.few_measures;
-  scales = h.scales;
-  names = rw (no-more (l.dims ++ name ∷ []) l.measures none) (push-all is_name (l.id ∷ l.dims) name (rw (no-more l.dims l.measures none) at h.names) n);
-  different_names = rw (no-more (l.dims ++ name ∷ []) l.measures none) (push-different bytes_eq bytes-flip (l.id ∷ l.dims) name (rw (no-more l.dims l.measures none) at h.different_names) (rw (no-more l.dims l.measures none) at u));
-  indexes = h.indexes;
-  different_indexes = h.different_indexes;
-  some_nodes = h.some_nodes;
-  few_nodes = h.few_nodes;
-  some_rows = h.some_rows;
-  few_rows = h.few_rows;
-  some_values = h.some_values;
-  few_values = h.few_values;
-}
+next-dim : (l : Layout) (name : Text) → IsLayout l → length l.dims < max_dims l.version → is_name name ≡ true → is_used l name ≡ false → IsLayout (with_dim l name)
+next-dim l name h few n u = wider l name h few (rw (n, u) refl)
 
 more-names : (l : Layout) (m : Measure) → names_of (record l { measures = l.measures ++ m ∷ [] }) ≡ names_of l ++ m.name ∷ []
 more-names l m = ap (λ xs. l.id ∷ (l.dims ++ xs)) (map-append (λ x. x.name) l.measures (m ∷ [])) ∙ ap (λ xs. l.id ∷ xs) (sym (append_assoc l.dims (map (λ x. x.name) l.measures) (m.name ∷ [])))
@@ -349,7 +311,7 @@ keeps-dim stages.Qcube l name may h few n u = absurd (cc may)
 keeps-dim stages.Id l name may h few n u =
     let P : Layout → Type 0 = λ x. is_used x name ≡ false → AtStage stages.Dim (record x { dims = x.dims ++ name ∷ [] }) in
     subst P (sym h.1) (λ v. (first-dim l.version l.id name h.0 n v, refl, refl)) u
-keeps-dim stages.Dim l name may h few n u = (next-dim l name h.0 h.1 few n u, h.1, h.2)
+keeps-dim stages.Dim l name may h few n u = (next-dim l name h.0 few n u, h.1, h.2)
 keeps-dim stages.Measure l name may h few n u = absurd (cc may)
 keeps-dim stages.Index l name may h few n u = absurd (cc may)
 keeps-dim stages.Nodes l name may h few n u = absurd (cc may)

@@ -6,4 +6,4 @@ mod Reading
 mod Wording
 pub mod Returning
 mod Spelled
-mod Widening
+pub mod Widening

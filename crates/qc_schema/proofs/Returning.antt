@@ -25,7 +25,8 @@ use Rattle.qc_schema.specs.Progress.{Progress}
 use Rattle.qc_schema.specs.declared.reader.Stage.{Stage}
 use Rattle.qc_schema.specs.declared.reader.Stage.TheVariants as stages
 use Rattle.qc_schema.specs.declared.refusal.SchemaCause.{SchemaCause}
-use Rattle.qc_schema.proofs.Keeping.{bind_ok, bytes-flip, kind-flip}
+use Rattle.qc_schema.proofs.Keeping.{bind_ok, kind-flip}
+use Rattle.qc_schema.proofs.Widening.{bytes-flip}
 use Rattle.qc_schema.proofs.Naming.{name-bytes}
 use Rattle.qc_schema.proofs.Reading.{schema-text}
 use Rattle.qc_schema.proofs.Wording.{IsLine, IsWord, digits-bytes, joined, lines-more, not-comment, text-utf8, words-joined}

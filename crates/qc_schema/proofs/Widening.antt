@@ -1,14 +1,15 @@
 -- A schema with one more dimension is a schema.
-use Rattle.std.proofs.Common.{◌≡◌, ◌<◌, ◌∙◌, List, [], ◌∷◌, ◌++◌, Bool, true, false, length, map, refl, ap, arith, append_assoc}
+use Rattle.std.proofs.Common.{◌≡◌, ◌<◌, ◌∙◌, ℕ, List, [], ◌∷◌, ◌++◌, Bool, true, false, length, map, refl, sym, ap, arith, append_assoc}
 use Rattle.std.specs.Prelude.{not}
+use Rattle.std.specs.Bool.{Decides}
 use Rattle.std.specs.List.{list_all, list_any}
 use Rattle.std.specs.Str.{bytes_eq}
 use Rattle.std.proofs.lemmas.Bool.{and_parts, not-true, or_parts}
-use Rattle.std.proofs.lemmas.List.{length_push}
+use Rattle.std.proofs.lemmas.Slice.Eq.{bytes_eq-Decides}
+use Rattle.std.proofs.lemmas.List.{append-nil, length_push}
 use Rattle.cube_defs.specs.Text.{Text}
 use Rattle.qc_schema.specs.Grammar.{is_new_name, is_used}
 use Rattle.qc_schema.specs.Schema.{IsLayout, Layout, all_different, is_name, max_dims, names_of, with_dim}
-use Rattle.qc_schema.proofs.Keeping.{bytes-flip}
 
 -- an element put between others
 put-all : {X : Type 0} (p : X → Bool) (xs ys : List X) (y : X) → list_all p (xs ++ ys) ≡ true → p y ≡ true → list_all p (xs ++ y ∷ ys) ≡ true
@@ -27,6 +28,21 @@ put-different eq flip (x ∷ xs) ys y d n =
     let q = or_parts (eq x y) (list_any (λ z. eq z y) (xs ++ ys)) n in
     let apart = put-any (λ z. eq z x) xs ys y (not-true (list_any (λ z. eq z x) (xs ++ ys)) p.0) (flip x y q.0) in
     rw (apart, put-different eq flip xs ys y p.1 q.1) refl
+
+-- an element more
+pub push-all : {X : Type 0} (p : X → Bool) (xs : List X) (y : X) → list_all p xs ≡ true → p y ≡ true → list_all p (xs ++ y ∷ []) ≡ true
+push-all p xs y all h = put-all p xs [] y (ap (list_all p) (append-nil xs) ∙ all) h
+
+pub push-different : {X : Type 0} (eq : X → X → Bool) → ((a b : X) → eq a b ≡ false → eq b a ≡ false) → (xs : List X) (y : X)
+    → all_different eq xs ≡ true → list_any (λ x. eq x y) xs ≡ false → all_different eq (xs ++ y ∷ []) ≡ true
+push-different eq flip xs y d n = put-different eq flip xs [] y (ap (all_different eq) (append-nil xs) ∙ d) (ap (list_any (λ x. eq x y)) (append-nil xs) ∙ n)
+
+pub flip-by : {P Q : Type 0} (a b : Bool) → Decides a P → Decides b Q → (Q → P) → a ≡ false → b ≡ false
+flip-by a true p q turn e = let same : a ≡ true = p.1 (turn (q.0 refl)) in absurd (cc same)
+flip-by a false p q turn e = refl
+
+pub bytes-flip : (a b : List ℕ) → bytes_eq a b ≡ false → bytes_eq b a ≡ false
+bytes-flip a b e = flip-by (bytes_eq a b) (bytes_eq b a) (bytes_eq-Decides a b) (bytes_eq-Decides b a) (λ same. sym same) e
 
 -- the names, with that of the dimension between those of the others and of the measures
 wider-names : (l : Layout) (name : Text) → names_of (with_dim l name) ≡ (l.id ∷ l.dims) ++ name ∷ map (λ m. m.name) l.measures
