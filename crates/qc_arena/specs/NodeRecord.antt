@@ -22,6 +22,15 @@ abbrev pub cell_on : List (ℕ × ℕ) → Cell ℕ
 cell_on [] = []
 cell_on (first ∷ labels) = with_labels (replicate first.0 None) labels
 
+-- the labels of a trail are of its dimensions
+abbrev pub IsInside : ℕ → List (ℕ × ℕ) → Type 0
+IsInside n [] = Unit {0}
+IsInside n (label ∷ rest) = (label.0 < n) × IsInside n rest
+
+abbrev pub IsTrail : List (ℕ × ℕ) → Type 0
+IsTrail [] = Unit {0}
+IsTrail (first ∷ labels) = IsInside first.0 labels
+
 -- the last dimension with a value, and the value; 255 at the root
 abbrev pub label_in : ℕ → ℕ → Option (ℕ × ℕ)
 label_in dim code = if nat_eq dim 255 then None else Some (dim, code)
@@ -50,6 +59,7 @@ pub record IsRec (trail : List (ℕ × ℕ)) (noted : List (ℕ × Agg)) (dim co
   pub small_forced : forced_code ≢ 4294967295 → IsCode forced_code
   pub few_dims : length (cell_on trail) ≤ MAX_DIMS
   pub begun : trail ≢ []
+  pub within : IsTrail trail
   pub rising : rises (edges_to edges) ≡ true
   pub few : length edges < 4294967296
   pub small_edges : list_all is_small (edges_to edges) ≡ true

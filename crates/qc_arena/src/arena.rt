@@ -7,6 +7,7 @@ ghost use Rattle.std.specs.Option.{option_map};
 ghost use Rattle.std.specs.Ordering.{nat_cmp};
 ghost use Rattle.aggregates.specs.Views.{agg_in};
 ghost use Rattle.tree_laws.specs.Counts.{classes_in, links_in, tree_edges_in};
+ghost use Rattle.widen_laws.specs.Widened.{kept_by_number};
 ghost use Rattle.qc_arena.specs.Changes.{AreNew, class_now, class_was};
 ghost use Rattle.qc_arena.specs.Edges.{with_edge, without_edge};
 ghost use Rattle.qc_arena.specs.Map.{AreRooted, CanChange, IsPlace, edges_in, frame, is_open, is_touched, new_record, no_nodes, over, shape_of, was_at, with_class, with_forced};
@@ -24,7 +25,7 @@ use crate::place::Place;
 use crate::records::NodeRecord;
 use crate::slots::{
     add_record, class_at, clear_all, copy_at, drop_edge_at, kill_at, put_back, record_of,
-    set_class_at, set_edge_at, set_forced_at,
+    resize_all, resize_from, set_class_at, set_edge_at, set_forced_at,
 };
 use crate::touched::Touched;
 use crate::tree_totals::{Counts, TreeTotals};
@@ -59,6 +60,7 @@ pub struct QcArena {
     last: Moved,
     is_open: bool,
     dims: u8,
+    dims_then: u8,
     max: u32,
     kept: TreeTotals,
     was: TreeTotals,
@@ -77,13 +79,13 @@ impl Model for QcArena {
       width = a.dims;
       max = a.max;
       now = now_of a.nodes;
-      was = begun a.is_open a.dims
+      was = begun a.is_open a.dims_then
           (was_of (now_of a.nodes) a.images);
       touched = touched_in a.images;
       last = a.last;
     } };
 
-    ghost invariant = { λ a. IsArena a.dims a.max a.nodes a.images a.is_open a.kept a.was × IsStored a.nodes a.parts };
+    ghost invariant = { λ a. IsArena a.dims a.dims_then a.max a.nodes a.images a.is_open a.kept a.was × IsStored a.nodes a.parts };
 }
 
 impl QcArena {
@@ -108,6 +110,7 @@ impl QcArena {
             last: Moved::none(alloc),
             is_open: false,
             dims,
+            dims_then: dims,
             max,
             kept: none,
             was: none,
@@ -121,6 +124,19 @@ impl QcArena {
     {
         self.last = Moved::none(self.images.allocator());
         self.is_open = true;
+    }
+
+    /// Gives each cell Any in a new last dimension. It takes no memory, and `rollback` takes the dimension away again.
+    pub fn widen(&mut self)
+        requires opened { is_open self.old ≡ true }
+        requires untouched { self.old.touched ≡ set.empty }
+        requires few { self.old.width < MAX_DIMS }
+        ensures value { self.new ≡ record self.old { width = self.old.width + 1; now = self.new.now } }
+        ensures nodes { (q : ℕ) → map.get self.new.now q ≡ option_map kept_by_number (map.get self.old.now q) }
+    {
+        let dims = self.dims + 1;
+        resize_all(&mut self.nodes, dims);
+        self.dims = dims;
     }
 
     // The record of a node that is to come.
@@ -325,20 +341,22 @@ impl QcArena {
     }
 
     /// The map stays as it is, and the batch is closed. What the touched nodes were is kept until the
-    /// next batch, or until it is moved out.
+    /// next batch, or until it is moved out: where a dimension came in the batch, that is of no use.
     pub fn commit(&mut self)
         requires { is_open self.old ≡ true }
         ensures value { self.new ≡ record self.old { was = None; touched = set.empty; last = self.new.last } }
-        ensures last { (q : ℕ) → map.get self.new.last q ≡ (if is_touched self.old q then Some (was_at self.old q) else None) }
-        ensures back { IfSome self.old.was (λ shape. over self.new.last self.new.now ≡ shape.tree) }
+        ensures last { IfSome self.old.was (λ shape. shape.width ≡ self.old.width →
+            (q : ℕ) → map.get self.new.last q ≡ (if is_touched self.old q then Some (was_at self.old q) else None)) }
+        ensures back { IfSome self.old.was (λ shape. shape.width ≡ self.old.width → over self.new.last self.new.now ≡ shape.tree) }
     {
         clear_all(&mut self.nodes, &self.images);
         self.last = self.images.take();
         self.is_open = false;
+        self.dims_then = self.dims;
         self.was = self.kept;
     }
 
-    /// The map is that at `begin`, numbers included, and the batch is closed.
+    /// The map is that at `begin`, dimensions and numbers included, and the batch is closed.
     pub fn rollback(&mut self)
         requires { is_open self.old ≡ true }
         ensures back { Some (shape_of self.new) ≡ self.old.was }
@@ -348,6 +366,8 @@ impl QcArena {
         ensures last { self.new.last ≡ self.old.last }
     {
         put_back(&mut self.nodes, &mut self.parts, &mut self.images);
+        resize_from(&mut self.nodes, self.dims, self.dims_then);
+        self.dims = self.dims_then;
         self.is_open = false;
         self.kept = self.was;
     }

@@ -1,11 +1,13 @@
 // What a number has.
-ghost use Rattle.std.specs.Prelude.{IfOk, IfSome, IsSome, None, OnErr, OnOk, Some, is_some, length, not, ◌≡◌};
+ghost use Rattle.std.specs.Prelude.{IfOk, IfSome, IsSome, None, OnErr, OnOk, Some, is_some, length, not, ◌≡◌, ◌≤◌};
 ghost use Rattle.cell_core.specs.Entry.{IsCode};
 ghost use Rattle.std.specs.Option.{option_copied, option_map};
 ghost use Rattle.aggregates.specs.Views.{agg_in};
 ghost use Rattle.qc_arena.specs.Edges.{edge_to, with_edge, without_edge};
 ghost use Rattle.qc_arena.specs.Slot.{node_in};
 ghost use Rattle.qc_arena.specs.Map.{with_class, with_forced};
+ghost use Rattle.cube_defs.specs.Cell.{depth};
+ghost use Rattle.qc_arena.specs.Resized.{resized};
 ghost use Rattle.qc_arena.specs.Seen.{edge_of, record_or};
 
 use crate::Memory;
@@ -14,6 +16,7 @@ use crate::nodes::Forced;
 use crate::records::NodeRecord;
 use aggregates::Agg;
 use cell_core::Code;
+use cube_defs::MAX_DIMS;
 use std::marker::Model;
 
 /// A number's place: the record of its node, or nothing once the node was killed. The record of a
@@ -120,5 +123,15 @@ impl Place {
         ensures { self.new ≡ option_map (with_class (option_map agg_in class)) self.old }
     {
         self.rec.set_class(class);
+    }
+
+    // Gives the cell so many dimensions.
+    pub(crate) fn set_width(&mut self, dims: u8)
+        requires there { IsSome self.old }
+        requires few { dims ≤ MAX_DIMS }
+        requires deep { depth (record_or self.old).cell ≤ dims }
+        ensures { self.new ≡ option_map (resized dims) self.old }
+    {
+        self.rec.set_width(dims);
     }
 }

@@ -8,6 +8,7 @@ ghost use Rattle.cube_defs.specs.Cell.{depth, with_value};
 ghost use Rattle.tree_laws.specs.Walk.{last_label, target_at};
 ghost use Rattle.qc_arena.specs.Edges.{edge_to, rises, with_edge, without_edge};
 ghost use Rattle.qc_arena.specs.Map.{bare, with_class, with_forced};
+ghost use Rattle.qc_arena.specs.Resized.{resized};
 ghost use Rattle.qc_arena.specs.Seen.{edge_of, label_lt, number};
 
 use crate::Memory;
@@ -189,6 +190,15 @@ impl NodeRecord {
                 self.count = 0;
             }
         }
+    }
+
+    // Gives the cell so many dimensions, of which those behind its last value are Any.
+    pub(crate) fn set_width(&mut self, dims: u8)
+        requires few { dims ≤ MAX_DIMS }
+        requires deep { depth self.old.node.cell ≤ dims }
+        ensures { self.new ≡ record self.old { node = resized dims self.old.node } }
+    {
+        self.trail = self.trail.behind(&dims, &0);
     }
 
     // Marks the node as killed.

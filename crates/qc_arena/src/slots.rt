@@ -1,16 +1,17 @@
 // The work on the places of nodes, and on what was in them at `begin`.
-ghost use Rattle.std.specs.Prelude.{IfOk, IfSome, IsSome, None, OnErr, OnOk, Some, [], if◌then◌else◌, is_some, length, nat_eq, true, ℕ, ◌<◌, ◌≡◌, ◌≢◌};
+ghost use Rattle.std.specs.Prelude.{IfOk, IfSome, IsSome, None, OnErr, OnOk, Some, [], if◌then◌else◌, is_some, length, nat_eq, true, ℕ, ◌<◌, ◌≡◌, ◌≢◌, ◌≤◌};
 ghost use Rattle.cell_core.specs.Entry.{IsCode};
 ghost use Rattle.std.specs.Option.{option_map};
 ghost use Rattle.std.specs.Ordering.{nat_cmp};
 ghost use Rattle.aggregates.specs.Views.{agg_in};
 ghost use Rattle.slab.specs.Slab as slots;
-ghost use Rattle.cube_defs.specs.Cell.{cell_eq};
+ghost use Rattle.cube_defs.specs.Cell.{cell_eq, depth};
 ghost use Rattle.tree_laws.specs.Counts.{is_under};
 ghost use Rattle.qc_arena.specs.Edges.{edge_to, with_edge, without_edge};
 ghost use Rattle.qc_arena.specs.Inside.{IsRooted, image_at, image_or, join};
 ghost use Rattle.qc_arena.specs.Map.{with_class, with_forced};
 ghost use Rattle.qc_arena.specs.Parts.{HasRoom, IsShown, IsStored, shown};
+ghost use Rattle.qc_arena.specs.Resized.{resized};
 ghost use Rattle.qc_arena.specs.Seen.{edge_of, record_or};
 
 use crate::Memory;
@@ -23,6 +24,7 @@ use crate::records::NodeRecord;
 use crate::touched::Touched;
 use aggregates::Agg;
 use cell_core::Code;
+use cube_defs::MAX_DIMS;
 use slab::Slab;
 use std::alloc::AllocError;
 
@@ -92,6 +94,47 @@ pub(crate) fn clear_all(nodes: &mut Slab<Place>, images: &Touched)
 {
     'images: for k in 0..images.len() {
         clear_killed(nodes, images.number(k));
+    }
+}
+
+// Gives the cell of the node at a place so many dimensions, if there is one.
+fn resize_at(nodes: &mut Slab<Place>, place: usize, dims: u8)
+    requires few { dims ≤ MAX_DIMS }
+    requires none_killed { slots.get nodes.old place ≢ Some None }
+    requires deep { IfSome (join (slots.get nodes.old place)) (λ n. depth n.cell ≤ dims) }
+    ensures here { join (slots.get nodes.new place) ≡ option_map (resized dims) (join (slots.get nodes.old place)) }
+    ensures none_killed { slots.get nodes.new place ≢ Some None }
+    ensures others { (q : ℕ) → q ≢ place → slots.get nodes.new q ≡ slots.get nodes.old q }
+{
+    if nodes.contains(place) {
+        nodes[place].set_width(dims);
+    }
+}
+
+// Gives each cell so many dimensions.
+pub(crate) fn resize_all(nodes: &mut Slab<Place>, dims: u8)
+    requires few { dims ≤ MAX_DIMS }
+    requires none_killed { (q : ℕ) → slots.get nodes.old q ≢ Some None }
+    requires deep { (q : ℕ) → IfSome (join (slots.get nodes.old q)) (λ n. depth n.cell ≤ dims) }
+    ensures nodes { (q : ℕ) → join (slots.get nodes.new q) ≡ option_map (resized dims) (join (slots.get nodes.old q)) }
+    ensures none_killed { (q : ℕ) → slots.get nodes.new q ≢ Some None }
+{
+    'places: for place in 0..nodes.capacity() {
+        resize_at(nodes, place, dims);
+    }
+}
+
+// Gives each cell so many dimensions, where it has not as many.
+pub(crate) fn resize_from(nodes: &mut Slab<Place>, had: u8, dims: u8)
+    requires few { dims ≤ MAX_DIMS }
+    requires none_killed { (q : ℕ) → slots.get nodes.old q ≢ Some None }
+    requires deep { (q : ℕ) → IfSome (join (slots.get nodes.old q)) (λ n. depth n.cell ≤ dims) }
+    requires had { (q : ℕ) → IfSome (join (slots.get nodes.old q)) (λ n. length n.cell ≡ had) }
+    ensures nodes { (q : ℕ) → join (slots.get nodes.new q) ≡ option_map (resized dims) (join (slots.get nodes.old q)) }
+    ensures none_killed { (q : ℕ) → slots.get nodes.new q ≢ Some None }
+{
+    if had != dims {
+        resize_all(nodes, dims);
     }
 }
 

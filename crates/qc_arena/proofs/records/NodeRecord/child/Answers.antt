@@ -7,8 +7,9 @@ use Rattle.qc_arena.specs.declared.edges.StoredEdge.{StoredEdge}
 use Rattle.qc_arena.specs.Edges.{edges_to}
 use Rattle.qc_arena.specs.Slot.{Slot}
 use Rattle.qc_arena.specs.Map.{Known}
-use Rattle.qc_arena.specs.NodeRecord.{cell_on, class_on}
+use Rattle.qc_arena.specs.NodeRecord.{IsTrail, cell_on, class_on}
 use Rattle.qc_arena.proofs.Imaged.{eq_apart}
+use Rattle.qc_arena.proofs.Sizes.{within_more}
 use Rattle.qc_arena.proofs.Trails.{cell_on-more, label-with_value, more_begun}
 use Rattle.qc_arena.proofs.records.NodeRecord.child.Goals as goal
 
@@ -28,6 +29,7 @@ invariant_of-result c =
       small_forced = λ h. absurd (h refl);
       few_dims = let same = ap (λ (x : Cell ℕ). length x) is in let set = length-set cell c.args.dim (Some c.args.code) in omega arith;
       begun = subst (λ (x : List (ℕ × ℕ)). x ≢ []) (sym c.and.ensures) (more_begun c.self.inside.trail.items (c.args.dim, c.args.code));
+      within = subst IsTrail (sym c.and.ensures) (within_more c.self.inside.trail.items (c.args.dim, c.args.code) c.self.invariant.begun c.self.invariant.within (omega arith));
       rising = search rules;
       few = search rules;
       small_edges = search rules;
