@@ -18,6 +18,8 @@ mod shops;
 #[cfg(test)]
 mod steps;
 #[cfg(test)]
+mod wider_tree;
+#[cfg(test)]
 mod worked;
 #[cfg(test)]
 mod worked_tree;

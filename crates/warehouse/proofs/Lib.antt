@@ -13,3 +13,5 @@ mod Values
 mod Rows
 pub mod States
 mod Trees
+mod Handed
+mod Wider

@@ -3,3 +3,5 @@ pub mod Batch
 pub mod Stored
 pub mod InPlace
 pub mod Steps
+pub mod Widening
+pub mod Handing

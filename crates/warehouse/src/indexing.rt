@@ -53,8 +53,8 @@ fn push_class(filling: &mut Filling, number: u32, class: &Option<Agg>) -> Result
     }
 }
 
-// The index of the tree's classes, made of all of them.
-fn filled_index(alloc: Global, schema: &Schema, tree: &QcArena) -> Result<Index, Memory>
+/// The index of the tree's classes, made of all of them.
+pub(crate) fn filled_index(alloc: Global, schema: &Schema, tree: &QcArena) -> Result<Index, Memory>
     requires layout { IsLayout schema.now }
     requires tree { IsTreeOfSome schema.now tree.now.now }
     ensures { IfOk result (λ index. IsIndexed schema.now tree.now.now index) }

@@ -12,7 +12,8 @@ mod parts;
 mod refused;
 mod repair;
 mod store;
+mod widening;
 
 pub use cube_defs::Memory;
-pub use refused::{Applied, PartsRefused, Refused, Stats};
+pub use refused::{Applied, PartsRefused, Refused, Stats, WidenRefused};
 pub use store::Warehouse;

@@ -95,6 +95,31 @@ impl From<Memory> for PartsRefused {
     }
 }
 
+/// Why no dimension is added. Of several causes the first in this order is named.
+#[derive(Clone, Copy, Debug, PartialEq, Eq, Error)]
+pub enum WidenRefused {
+    /// The schema has as many dimensions as its version allows.
+    #[error("the schema has as many dimensions as its version allows")]
+    DimsFull,
+    /// The tree would have more nodes than the schema allows.
+    #[error("the tree would have more nodes than the schema allows")]
+    NodesFull,
+    /// Memory ran out.
+    #[error("memory ran out")]
+    Memory,
+}
+
+impl From<Memory> for WidenRefused {
+    ghost use Rattle.std.specs.Prelude.{◌≡◌};
+    ghost use Rattle.warehouse.specs.declared.refused.WidenRefused.TheVariants as refusals;
+
+    ghost from_gives = { λ _ refused. refused ≡ refusals.Memory };
+
+    fn from(_memory: Memory) -> WidenRefused {
+        WidenRefused::Memory
+    }
+}
+
 /// What is counted of the rows and of their tree (Lakshmanan, Pei, Zhao, SIGMOD 2003; which links
 /// are kept is own).
 #[derive(Clone, Copy, Debug, PartialEq, Eq)]

@@ -15,12 +15,15 @@ ghost use Rattle.warehouse.specs.Batch.{result_of};
 ghost use Rattle.warehouse.specs.InPlace.{IsWithinCost, KeepsApart, KeepsNodes, LeavesApart, LeavesNumbers, cost_in, gone, kept, with_codes};
 ghost use Rattle.warehouse.specs.State.{AreContents, State, coded_rows, empty, scale_in};
 ghost use Rattle.warehouse.specs.Stored.{IsStored, applied_in, decoded_rows, refusal_in, state_of};
+ghost use Rattle.warehouse.specs.Widening.{KeepsWidened, cost_of_widening, widen_refusal_in, widen_result};
+ghost use Rattle.qc_schema.specs.Grammar.{is_new_name};
 
 use crate::Memory;
 use crate::changing::{attempt, change};
 use crate::indexing::new_index;
 use crate::parts::tree_and_index;
-use crate::refused::{Applied, PartsRefused, Refused, Stats};
+use crate::refused::{Applied, PartsRefused, Refused, Stats, WidenRefused};
+use crate::widening::widen;
 use base_table::Table;
 use cell_core::Steps;
 use csv_load::{LoadRefused, RawBatch, read_base, read_batch};
@@ -324,5 +327,41 @@ impl Warehouse {
             Ok(batch) => self.try_change(batch, steps),
             Err(refused) => Err(refused_file(refused)),
         }
+    }
+
+    /// Adds a dimension behind the others, in which each row that is present has the value, and whose only
+    /// text this is. The tree is changed in place: each node keeps its number, and each that is no class
+    /// its record with Any in the new dimension; each class gets a forced child with the value, which has
+    /// its aggregate from then on. It answers no records, and the classes after it. DimsFull is the answer
+    /// exactly where the schema has as many dimensions as its version allows, and else NodesFull exactly
+    /// where nodes and classes together are more than the schema's nodes, unless memory runs out. After a
+    /// refusal everything is as it was.
+    pub fn widen<L: Ledger>(
+        &mut self,
+        name: &str,
+        value: &str,
+        steps: &mut Steps<L>,
+    ) -> Result<Applied, WidenRefused>
+        requires name { is_new_name self.old.state.schema name.now ≡ true }
+        requires value { length value.now ≤ 255 }
+        ensures gives { Gives widen_refusal_in (applied_in self.new.state) result (widen_result self.old.state name.now value.now) }
+        ensures records { OnOk result (KeepsWidened (length self.old.state.schema.dims) self.old.tree self.new.tree) }
+        ensures steps { OnOk result (steps.new ≤ steps.old + cost_of_widening (length self.old.state.schema.dims) self.old.tree) }
+        ensures valid { AreContents self.new }
+        ensures state { OnErr result (self.new.state ≡ self.old.state) }
+        ensures tree { OnErr result (self.new.tree ≡ self.old.tree) }
+        ensures index { OnErr result (self.new.index ≡ self.old.index) }
+    {
+        widen(
+            &mut self.schema,
+            &mut self.table,
+            &mut self.dict,
+            &mut self.tree,
+            &mut self.index,
+            name,
+            value,
+            self.alloc,
+            steps,
+        )
     }
 }

@@ -1,0 +1,23 @@
+use Rattle.std.proofs.Common.{◌∙◌, ap, sym}
+use Rattle.std.specs.Option.{option_map}
+use Rattle.aggregates.specs.Views.{agg_in}
+use Rattle.warehouse.proofs.Handed.{class-shallow, hands-child, hands-class, hands-none}
+use Rattle.warehouse.proofs.widening.hand_on_at.Goals as goal
+
+pub returns-in_default-clause-next : goal.returns-in_default-clause-next
+returns-in_default-clause-next g c = λ before wide was. hands-none c.args.dim c.args.number before c.args.tree.now.now wide was (sym c.class_at.ensures ∙ ap (option_map agg_in) c.in_default.is)
+
+pub returns-then-ends_in-clause-next : goal.returns-then-ends_in-clause-next
+returns-then-ends_in-clause-next g c = λ before wide was. hands-child c.args.dim c.args.number before c.args.tree.now.now wide was (sym c.ends_in.ensures.value ∙ c.if-ends_in.true)
+
+pub hand_on-requires-clause-room : goal.hand_on-requires-clause-room
+hand_on-requires-clause-room g c =
+    let b = c.requires.before in
+    class-shallow c.args.dim c.args.number b.0 c.args.tree.now.now (agg_in c.in-Some.class) b.1 b.2
+    (sym c.class_at.ensures ∙ ap (option_map agg_in) c.in-Some.is) (sym c.ends_in.ensures.value ∙ c.if-ends_in.false)
+
+pub returns-in-Ok-clause-next : goal.returns-in-Ok-clause-next
+returns-in-Ok-clause-next g c = λ before wide was.
+    hands-class c.args.dim c.args.number before c.args.tree.now.now c.hand_on.new.tree.now c.in-Ok.field-0.0 (agg_in c.in-Some.class) wide was
+    (sym c.class_at.ensures ∙ ap (option_map agg_in) c.in-Some.is) (sym c.ends_in.ensures.value ∙ c.if-ends_in.false)
+    c.in-Ok.ensures.here c.in-Ok.ensures.child c.in-Ok.ensures.free c.in-Ok.ensures.others

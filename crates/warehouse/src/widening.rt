@@ -1,0 +1,378 @@
+// A dimension is added: each row gets its value there, and each class of the tree a child that has it.
+ghost use Rattle.std.specs.FinMap as finmap;
+ghost use Rattle.std.specs.FinSet as set;
+ghost use Rattle.std.specs.Option.{option_map};
+ghost use Rattle.std.specs.Ordering.{nat_cmp};
+ghost use Rattle.std.specs.Prelude.{Err, IfOk, IsSome, None, Ok, OnErr, OnOk, Some, false, if◌then◌else◌, is_some, length, map, nat_le, nat_lt, true, ℕ, ◌*◌, ◌+◌, ◌<◌, ◌≡◌, ◌≢◌, ◌≤◌};
+ghost use Rattle.aggregates.specs.Views.{agg_in};
+ghost use Rattle.base_table.specs.Places.{IsTable, rows_of, widened, with_code};
+ghost use Rattle.cell_core.specs.Gives.{Gives};
+ghost use Rattle.cube_defs.specs.Cell.{depth};
+ghost use Rattle.cube_defs.specs.Tree.{Tree};
+ghost use Rattle.qc_arena.specs.Map.{CanChange, frame, is_open, is_touched, shape_of};
+ghost use Rattle.qc_arena.specs.Seen.{record_at};
+ghost use Rattle.qc_schema.specs.Grammar.{is_new_name};
+ghost use Rattle.qc_schema.specs.Schema.{IsLayout, max_dims};
+ghost use Rattle.tree_laws.specs.Counts.{classes_in};
+ghost use Rattle.tree_laws.specs.Walk.{last_label};
+ghost use Rattle.tree_search.specs.Found.{IsTreeOf};
+ghost use Rattle.value_dict.specs.TextLists as texts;
+ghost use Rattle.value_dict.specs.TextLists.{IsDictionary};
+ghost use Rattle.warehouse.specs.Handing.{HandsOn, IsWide, is_in, led_to, made_child};
+ghost use Rattle.warehouse.specs.State.{IsIndexed};
+ghost use Rattle.warehouse.specs.Steps as steps_of;
+ghost use Rattle.warehouse.specs.Stored.{IsStored, IsTreeOfTable, applied_in, state_of};
+ghost use Rattle.warehouse.specs.Widening.{KeepsWidened, cost_of_widening, widen_refusal_in, widen_result};
+
+use crate::Memory;
+use crate::indexing::filled_index;
+use crate::one_batch::commit_both;
+use crate::refused::{Applied, WidenRefused};
+use aggregates::Agg;
+use base_table::Table;
+use cell_core::{NodeNo, Steps};
+use cube_defs::MAX_DIMS;
+use measure_index::Index;
+use qc_arena::{Forced, Nodes, QcArena};
+use qc_schema::Schema;
+use std::alloc::{AllocError, Global};
+use std::sync::ledger::Ledger;
+use value_dict::Dict;
+
+// Adds a class's child, with the value 0 in the dimension. After a refusal the tree is none in particular.
+fn add_child<L: Ledger>(
+    tree: &mut QcArena,
+    node: NodeNo,
+    dim: u8,
+    class: Agg,
+    steps: &mut Steps<L>,
+) -> Result<NodeNo, Memory>
+    requires opened { is_open tree.old ≡ true }
+    requires node { IsSome (finmap.get tree.old.now node.0) }
+    requires room { depth (record_at tree.old.now node.0).cell ≤ dim }
+    requires dim { dim < tree.old.width }
+    ensures child { IfOk result (λ child. finmap.get tree.new.now child.0
+        ≡ Some (made_child dim node.0 (agg_in class) (record_at tree.old.now node.0).cell)) }
+    ensures free { IfOk result (λ child. finmap.get tree.old.now child.0 ≡ None) }
+    ensures others { IfOk result (λ child. (q : ℕ) → q ≢ child.0 → finmap.get tree.new.now q ≡ finmap.get tree.old.now q) }
+    ensures touched { IfOk result (λ child. (q : ℕ) → is_touched tree.old q ≡ true → is_touched tree.new q ≡ true) }
+    ensures frame { frame tree.new ≡ frame tree.old }
+    ensures steps { steps.new ≤ steps.old + 2 }
+{
+    let child = match tree.add_node(Some((node, dim, 0)), steps) {
+        Ok(child) => child,
+        // That there is room was seen before.
+        Err(_) => return Err(AllocError),
+    };
+    tree.set_class(child, Some(class), steps);
+    Ok(child)
+}
+
+// Makes a child the forced one of its parent, which is no class any more.
+fn lead_to<L: Ledger>(
+    tree: &mut QcArena,
+    node: NodeNo,
+    dim: u8,
+    child: NodeNo,
+    steps: &mut Steps<L>,
+) -> Result<(), Memory>
+    requires change { CanChange tree.old node.0 }
+    requires child { IsSome (finmap.get tree.old.now child.0) }
+    requires dim { dim < tree.old.width }
+    ensures here { OnOk result (finmap.get tree.new.now node.0 ≡ option_map (led_to dim child.0) (finmap.get tree.old.now node.0)) }
+    ensures others { (q : ℕ) → q ≢ node.0 → finmap.get tree.new.now q ≡ finmap.get tree.old.now q }
+    ensures frame { frame tree.new ≡ frame tree.old }
+    ensures steps { steps.new ≤ steps.old + 3 }
+{
+    tree.set_class(node, None, steps);
+    let forced = Forced {
+        dim,
+        code: 0,
+        child,
+    };
+    tree.set_forced(node, Some(forced), steps);
+    tree.set_edge(node, dim, 0, child, steps)
+}
+
+// Hands the class of a node to a new child. After a refusal the tree is none in particular.
+fn hand_on<L: Ledger>(
+    tree: &mut QcArena,
+    node: NodeNo,
+    dim: u8,
+    class: Agg,
+    steps: &mut Steps<L>,
+) -> Result<NodeNo, Memory>
+    requires opened { is_open tree.old ≡ true }
+    requires node { IsSome (finmap.get tree.old.now node.0) }
+    requires room { depth (record_at tree.old.now node.0).cell ≤ dim }
+    requires dim { dim < tree.old.width }
+    ensures here { IfOk result (λ child. finmap.get tree.new.now node.0 ≡ option_map (led_to dim child.0) (finmap.get tree.old.now node.0)) }
+    ensures child { IfOk result (λ child. finmap.get tree.new.now child.0
+        ≡ Some (made_child dim node.0 (agg_in class) (record_at tree.old.now node.0).cell)) }
+    ensures free { IfOk result (λ child. finmap.get tree.old.now child.0 ≡ None) }
+    ensures others { IfOk result (λ child. (q : ℕ) → q ≢ node.0 → q ≢ child.0 → finmap.get tree.new.now q ≡ finmap.get tree.old.now q) }
+    ensures frame { frame tree.new ≡ frame tree.old }
+    ensures steps { steps.new ≤ steps.old + 6 }
+{
+    tree.touch(node, steps)?;
+    let child = match add_child(tree, node, dim, class, steps) {
+        Ok(child) => child,
+        Err(error) => return Err(error),
+    };
+    match lead_to(tree, node, dim, child, steps) {
+        Ok(()) => Ok(child),
+        Err(error) => Err(error),
+    }
+}
+
+// Whether a node's last value is in the dimension.
+fn ends_in<L: Ledger>(tree: &QcArena, node: NodeNo, dim: u8, steps: &mut Steps<L>) -> bool
+    requires { IsSome (finmap.get tree.now.now node.0) }
+    ensures value { result ≡ is_in dim (last_label (record_at tree.now.now node.0).cell) }
+    ensures steps { steps.new ≡ steps.old + 1 }
+{
+    match tree.end_of(node, steps) {
+        Some((last, _)) => last == dim,
+        None => false,
+    }
+}
+
+// Hands the class of a number on, where it has one and is no new child. It tells how many classes may still
+// be met.
+fn hand_on_at<L: Ledger>(
+    tree: &mut QcArena,
+    number: u32,
+    dim: u8,
+    left: u64,
+    steps: &mut Steps<L>,
+) -> Result<u64, Memory>
+    requires opened { is_open tree.old ≡ true }
+    requires width { tree.old.width ≡ dim + 1 }
+    requires before { (before : Tree ℕ) × IsWide dim before × HandsOn number dim before tree.old.now }
+    ensures next { OnOk result ((before : Tree ℕ) → IsWide dim before → HandsOn number dim before tree.old.now
+        → HandsOn (number + 1) dim before tree.new.now) }
+    ensures frame { frame tree.new ≡ frame tree.old }
+    ensures steps { IfOk result (λ now. steps.new + 8 * now ≤ steps.old + 8 * left) }
+{
+    let Some(class) = tree.class_at(number) else {
+        return Ok(left);
+    };
+    // Each old class is met once, and each new child once.
+    if left == 0 {
+        return Err(AllocError);
+    }
+    let node = NodeNo(number);
+    if ends_in(tree, node, dim, steps) {
+        return Ok(left - 1);
+    }
+    match hand_on(tree, node, dim, class, steps) {
+        Ok(_) => Ok(left - 1),
+        Err(error) => Err(error),
+    }
+}
+
+// Hands all classes on, of which so many may be met. After a refusal the tree is none in particular.
+fn hand_all_on<L: Ledger>(
+    tree: &mut QcArena,
+    dim: u8,
+    most: u64,
+    steps: &mut Steps<L>,
+) -> Result<(), Memory>
+    requires opened { is_open tree.old ≡ true }
+    requires width { tree.old.width ≡ dim + 1 }
+    requires before { (before : Tree ℕ) × IsWide dim before × HandsOn 0 dim before tree.old.now }
+    ensures kept { OnOk result ((before : Tree ℕ) → IsWide dim before → HandsOn 0 dim before tree.old.now → KeepsWidened dim before tree.new.now) }
+    ensures frame { frame tree.new ≡ frame tree.old }
+    ensures steps { OnOk result (steps.new ≤ steps.old + 8 * most) }
+{
+    let numbers = tree.numbers()?;
+    let mut left = most;
+    'numbers: for number in 0..numbers {
+        left = match hand_on_at(tree, number, dim, left, steps) {
+            Ok(left) => left,
+            Err(error) => return Err(error),
+        };
+    }
+    Ok(())
+}
+
+// The tree gets a dimension, in which all rows have the code 0. After a refusal it is none in particular.
+fn widen_tree<L: Ledger>(tree: &mut QcArena, steps: &mut Steps<L>) -> Result<(), Memory>
+    requires opened { is_open tree.old ≡ true }
+    requires untouched { tree.old.touched ≡ set.empty }
+    requires few { tree.old.width < MAX_DIMS }
+    requires wide { IsWide tree.old.width tree.old.now }
+    ensures kept { OnOk result (KeepsWidened tree.old.width tree.old.now tree.new.now) }
+    ensures frame { frame tree.new ≡ record (frame tree.old) { width = tree.old.width + 1 } }
+    ensures steps { OnOk result (steps.new ≤ steps.old + 16 * finmap.len tree.old.now) }
+{
+    let dim = tree.dims();
+    let most = 2 * u64::from(tree.live());
+    tree.widen();
+    hand_all_on(tree, dim, most, steps)
+}
+
+// Says that the tree has no more nodes than it may have. It does nothing.
+fn is_small(tree: &QcArena)
+    ensures { finmap.len tree.now.now ≤ tree.now.max }
+{
+    let _nodes = tree.live();
+}
+
+// Rows and tree get the dimension in a batch that is open, and the index of the tree's classes is made. After a
+// refusal the tree is none in particular.
+fn widen_both<L: Ledger>(
+    wide: &Schema,
+    table: &mut Table,
+    tree: &mut QcArena,
+    alloc: Global,
+    steps: &mut Steps<L>,
+) -> Result<Index, Memory>
+    requires layout { IsLayout wide.now }
+    requires dims { length wide.now.dims ≡ table.old.dims + 1 }
+    requires measures { length wide.now.measures ≡ table.old.measures }
+    requires few { table.old.dims < MAX_DIMS }
+    requires is_open { is_some table.old.was ≡ true }
+    requires opened { is_open tree.old ≡ true }
+    requires untouched { tree.old.touched ≡ set.empty }
+    requires width { tree.old.width ≡ table.old.dims }
+    requires tree { IsTreeOf table.old.dims tree.old.now (record { measures = table.old.measures; rows = rows_of table.old }) }
+    ensures table { table.new ≡ widened 0 table.old }
+    ensures rows { rows_of table.new ≡ map (with_code 0) (rows_of table.old) }
+    ensures tree { OnOk result (IsTreeOf (table.old.dims + 1) tree.new.now
+        (record { measures = table.old.measures; rows = rows_of table.new })) }
+    ensures kept { OnOk result (KeepsWidened table.old.dims tree.old.now tree.new.now) }
+    ensures few { finmap.len tree.new.now ≤ tree.new.max }
+    ensures frame { frame tree.new ≡ record (frame tree.old) { width = table.old.dims + 1 } }
+    ensures index { IfOk result (λ index. IsIndexed wide.now tree.new.now index) }
+    ensures steps { OnOk result (steps.new ≤ steps.old + 16 * finmap.len tree.old.now) }
+{
+    table.widen(0);
+    let done = widen_tree(tree, steps);
+    is_small(tree);
+    match done {
+        Ok(()) => {}
+        Err(error) => return Err(error),
+    }
+    filled_index(alloc, wide, tree)
+}
+
+// Adds the dimension to rows, texts and tree, and makes the index of the tree's classes. After a refusal all is
+// as it was.
+fn widen_parts<L: Ledger>(
+    wide: &Schema,
+    table: &mut Table,
+    dict: &mut Dict,
+    tree: &mut QcArena,
+    value: &str,
+    alloc: Global,
+    steps: &mut Steps<L>,
+) -> Result<Index, Memory>
+    requires layout { IsLayout wide.now }
+    requires dims { length wide.now.dims ≡ table.old.dims + 1 }
+    requires measures { length wide.now.measures ≡ table.old.measures }
+    requires few { table.old.dims < MAX_DIMS }
+    requires lists { length dict.old.lists ≡ table.old.dims }
+    requires valid { IsTable table.old }
+    requires is_closed { table.old.was ≡ None }
+    requires closed { is_open tree.old ≡ false }
+    requires width { tree.old.width ≡ table.old.dims }
+    requires tree { IsTreeOf table.old.dims tree.old.now (record { measures = table.old.measures; rows = rows_of table.old }) }
+    ensures texts { OnOk result (dict.new ≡ texts.with_dim dict.old value.now) }
+    ensures dictionary { IsDictionary dict.new }
+    ensures rows { OnOk result (rows_of table.new ≡ map (with_code 0) (rows_of table.old)) }
+    ensures table { OnOk result (steps_of.frame table.new ≡ record (steps_of.frame table.old) { dims = table.old.dims + 1 }) }
+    ensures valid { IsTable table.new }
+    ensures tree { OnOk result (IsTreeOf (table.old.dims + 1) tree.new.now
+        (record { measures = table.old.measures; rows = rows_of table.new })) }
+    ensures kept { OnOk result (KeepsWidened table.old.dims tree.old.now tree.new.now) }
+    ensures few { OnOk result (finmap.len tree.new.now ≤ tree.new.max) }
+    ensures width { OnOk result (tree.new.width ≡ table.old.dims + 1) }
+    ensures max { tree.new.max ≡ tree.old.max }
+    ensures closed { is_open tree.new ≡ false }
+    ensures index { IfOk result (λ index. IsIndexed wide.now tree.new.now index) }
+    ensures steps { OnOk result (steps.new ≤ steps.old + 16 * finmap.len tree.old.now) }
+    ensures texts_back { OnErr result (dict.new ≡ dict.old) }
+    ensures rows_back { OnErr result (rows_of table.new ≡ rows_of table.old) }
+    ensures table_back { OnErr result (steps_of.frame table.new ≡ steps_of.frame table.old) }
+    ensures tree_back { OnErr result (shape_of tree.new ≡ shape_of tree.old) }
+{
+    dict.add_dim(value)?;
+    table.begin();
+    tree.begin();
+    match widen_both(wide, table, tree, alloc, steps) {
+        Ok(index) => {
+            commit_both(table, tree);
+            Ok(index)
+        }
+        Err(error) => {
+            table.rollback();
+            table.is_valid();
+            tree.rollback();
+            dict.drop_dim();
+            Err(error)
+        }
+    }
+}
+
+// Why no dimension can be added, if none can be.
+fn full_cause(schema: &Schema, tree: &QcArena) -> Option<WidenRefused>
+    ensures { result ≡ (if nat_le (max_dims schema.now.version) (length schema.now.dims) then Some WidenRefused.DimsFull
+        else (if nat_lt schema.now.nodes (finmap.len tree.now.now + classes_in nat_cmp tree.now.now) then Some WidenRefused.NodesFull else None)) }
+{
+    if schema.max_dims() <= schema.dims() {
+        return Some(WidenRefused::DimsFull);
+    }
+    let nodes = u64::from(tree.live()) + u64::from(tree.class_count());
+    if u64::from(schema.nodes()) < nodes {
+        return Some(WidenRefused::NodesFull);
+    }
+    None
+}
+
+/// Adds a dimension with one value to all parts of a warehouse, or to none.
+pub(crate) fn widen<L: Ledger>(
+    schema: &mut Schema,
+    table: &mut Table,
+    dict: &mut Dict,
+    tree: &mut QcArena,
+    index: &mut Index,
+    name: &str,
+    value: &str,
+    alloc: Global,
+    steps: &mut Steps<L>,
+) -> Result<Applied, WidenRefused>
+    requires stored { IsStored schema.old dict.old table.old }
+    requires kept { IsTreeOfTable schema.old table.old tree.old }
+    requires indexed { IsIndexed schema.old tree.old.now index.old }
+    requires name { is_new_name schema.old name.now ≡ true }
+    requires value { length value.now ≤ 255 }
+    ensures gives { Gives widen_refusal_in (applied_in (state_of schema.new dict.new table.new)) result
+        (widen_result (state_of schema.old dict.old table.old) name.now value.now) }
+    ensures records { OnOk result (KeepsWidened (length schema.old.dims) tree.old.now tree.new.now) }
+    ensures steps { OnOk result (steps.new ≤ steps.old + cost_of_widening (length schema.old.dims) tree.old.now) }
+    ensures state { OnErr result (state_of schema.new dict.new table.new ≡ state_of schema.old dict.old table.old) }
+    ensures tree { OnErr result (tree.new.now ≡ tree.old.now) }
+    ensures index { OnErr result (index.new ≡ index.old) }
+    ensures stored { IsStored schema.new dict.new table.new }
+    ensures kept { IsTreeOfTable schema.new table.new tree.new }
+    ensures indexed { IsIndexed schema.new tree.new.now index.new }
+{
+    if let Some(refused) = full_cause(schema, tree) {
+        return Err(refused);
+    }
+    let wide = schema.with_dim(alloc, name)?;
+    // A schema has a layout of its own.
+    let _dims = wide.dims();
+    let made = match widen_parts(&wide, table, dict, tree, value, alloc, steps) {
+        Ok(made) => made,
+        Err(_) => return Err(WidenRefused::Memory),
+    };
+    *schema = wide;
+    *index = made;
+    let classes = tree.class_count();
+    Ok(Applied {
+        records: 0,
+        classes,
+    })
+}
