@@ -1,9 +1,10 @@
 -- Lines as commands.
-use Rattle.std.proofs.Common.{Option, ◌<◌, ◌+◌, Some, None, ◌≡◌, ℕ, List, [], ◌∷◌, length, refl, arith, Ok, Err, true, false, Bool, cond, IsUtf8}
-use Rattle.std.specs.Prelude.{◌&&◌, ◌||◌, All, Result, IfOk, codes}
+use Rattle.std.proofs.Common.{Option, ◌<◌, ◌≤◌, ◌+◌, Some, None, ◌≡◌, ℕ, List, [], ◌∷◌, length, refl, arith, Ok, Err, true, false, Bool, cond, IsUtf8}
+use Rattle.std.specs.Prelude.{◌&&◌, ◌||◌, All, Result, IfOk, codes, nat_le, nat_lt}
 use Rattle.std.specs.Str.{bytes_eq, is_utf8}
 use Rattle.std.proofs.lemmas.Str.{IsUtf8-from_is_utf8, is_utf8-from_IsUtf8}
 use Rattle.std.proofs.lemmas.Bool.{and_from}
+use Rattle.std.proofs.lemmas.Bool.Decides.{nat_tests}
 use Rattle.cube_defs.specs.Text.{Text}
 use Rattle.cell_core.specs.declared.fields.Field as asked
 use Rattle.qc_schema.specs.Schema.{Layout}
@@ -13,13 +14,14 @@ use Rattle.query_script.specs.Faults.{LineFault, line_fault_in}
 use Rattle.query_script.specs.Lines.{may_want_memory, names_more, rest_of, stats_line, word_of}
 use Rattle.query_script.specs.Commands.{IsCellField, IsMeasured, IsQuestion, asked_with, command_in, command_named, name_in, record_in, wants_memory}
 use Rattle.query_script.specs.Icebergs.{bound_at, bound_named, iceberg_in, iceberg_of, makes, value_at, with_aggregate, with_bound, with_measure, with_value}
-use Rattle.query_script.specs.Questions.{Apply, Bounds, Children, Iceberg, Load, Parents, Point, Question, Range, Rollup, Stats, Try, question_in}
+use Rattle.query_script.specs.Questions.{Apply, Bounds, Children, Iceberg, Load, Parents, Point, Question, Range, Rollup, Stats, Try, Widen, question_in}
 use Rattle.query_script.specs.Rollups as rollups
 use Rattle.query_script.specs.Rollups.{rollup_in}
+use Rattle.query_script.specs.Widens.{has_value, widen_in}
 use Rattle.query_script.specs.declared.line.Command.{Command}
 use Rattle.query_script.specs.declared.record.Shape.TheVariants as shapes
 use Rattle.query_script.specs.declared.line.LineRefused.{LineRefused}
-use Rattle.qc_schema.specs.Grammar.{measure_from}
+use Rattle.qc_schema.specs.Grammar.{is_new_name, measure_from}
 use Rattle.qc_schema.proofs.Keeping.{measure-there}
 use Rattle.cube_defs.specs.Answers as answers
 use Rattle.cube_defs.specs.Rows.{Fraction}
@@ -141,31 +143,49 @@ module _ (layout : Layout) where
       by true m = rolled-bound answers.Count 2 (rest_of (rest_of rest)) (bound_named (word_of (rest_of rest))) q tt m
       by false m = rolled-aggregate (word_of rest) (rest_of rest) (makes (word_of rest)) q refl m
 
+most-255 : (b : Bool) (n : ℕ) → (b && nat_le n 255) ≡ true → n ≤ 255
+most-255 false n h = absurd (cc h)
+most-255 true n h = grind (arith, nat_tests)
+
+-- a new name, and a short value
+widened-is : (layout : Layout) (rest : List ℕ) (q : Question) → widen_in layout rest ≡ Ok q → IsQuestion layout q
+widened-is layout rest q e = by (is_new_name layout (word_of rest)) (has_value rest) refl refl e
+  where
+    by : (new valued : Bool) → is_new_name layout (word_of rest) ≡ new → has_value rest ≡ valued
+        → cond new (cond valued (Ok (Widen (word_of rest) (rest_of rest))) (Err (faults.Field 2))) (Err (faults.Field 1)) ≡ Ok q → IsQuestion layout q
+    by true true n v m =
+        let same : Widen (word_of rest) (rest_of rest) ≡ q = cc in
+        rw (← same) (n, most-255 (nat_lt (length (word_of rest)) (length rest)) (length (rest_of rest)) v)
+    by true false n v m = absurd (cc m)
+    by false valued n v m = absurd (cc m)
+
 -- the words of the commands that name something behind them, each with what it asks
-abbrev Named : Layout → List ℕ → (load apply tried point range bounds iceberg parents children rollup : Bool) → Result Question LineFault
-Named layout rest load apply tried point range bounds iceberg parents children rollup =
+abbrev Named : Layout → List ℕ → (load apply tried point range bounds iceberg parents children rollup widen : Bool) → Result Question LineFault
+Named layout rest load apply tried point range bounds iceberg parents children rollup widen =
     cond load (asked_with Load (name_in rest)) (cond apply (asked_with Apply (name_in rest)) (cond tried (asked_with Try (name_in rest))
     (cond point (asked_with Point (record_in shapes.Cell (length layout.dims) rest)) (cond range (asked_with Range (record_in shapes.Box (length layout.dims) rest))
     (cond bounds (asked_with Bounds (record_in shapes.Cell (length layout.dims) rest)) (cond iceberg (iceberg_in layout rest)
-    (cond parents (asked_with Parents (record_in shapes.Cell (length layout.dims) rest)) (cond children (asked_with Children (record_in shapes.Cell (length layout.dims) rest)) (cond rollup (rollup_in layout rest) (Err faults.Command))))))))))
+    (cond parents (asked_with Parents (record_in shapes.Cell (length layout.dims) rest)) (cond children (asked_with Children (record_in shapes.Cell (length layout.dims) rest)) (cond rollup (rollup_in layout rest)
+    (cond widen (widen_in layout rest) (Err faults.Command)))))))))))
 
 named-is : (layout : Layout) (word : Text) (rest : List ℕ) (q : Question) → command_named layout word rest ≡ Ok q → IsQuestion layout q
 named-is layout word rest q e =
     by (bytes_eq word (codes "load")) (bytes_eq word (codes "apply")) (bytes_eq word (codes "try")) (bytes_eq word (codes "point")) (bytes_eq word (codes "range")) (bytes_eq word (codes "bounds")) (bytes_eq word (codes "iceberg"))
-    (bytes_eq word (codes "parents")) (bytes_eq word (codes "children")) (bytes_eq word (codes "rollup")) e
+    (bytes_eq word (codes "parents")) (bytes_eq word (codes "children")) (bytes_eq word (codes "rollup")) (bytes_eq word (codes "widen")) e
   where
-    by : (load apply tried point range bounds iceberg parents children rollup : Bool) → Named layout rest load apply tried point range bounds iceberg parents children rollup ≡ Ok q → IsQuestion layout q
-    by true apply tried point range bounds iceberg parents children rollup m = file-is layout rest Load q (λ b bs. omega arith) m
-    by false true tried point range bounds iceberg parents children rollup m = file-is layout rest Apply q (λ b bs. omega arith) m
-    by false false true point range bounds iceberg parents children rollup m = file-is layout rest Try q (λ b bs. omega arith) m
-    by false false false true range bounds iceberg parents children rollup m = fields-are layout (record_in shapes.Cell (length layout.dims) rest) Point q (cell-fields (length layout.dims) rest) m
-    by false false false false true bounds iceberg parents children rollup m = fields-are layout (record_in shapes.Box (length layout.dims) rest) Range q (box-fields (length layout.dims) rest) m
-    by false false false false false true iceberg parents children rollup m = fields-are layout (record_in shapes.Cell (length layout.dims) rest) Bounds q (cell-fields (length layout.dims) rest) m
-    by false false false false false false true parents children rollup m = iceberg-is layout (words_of rest) q m
-    by false false false false false false false true children rollup m = fields-are layout (record_in shapes.Cell (length layout.dims) rest) Parents q (cell-fields (length layout.dims) rest) m
-    by false false false false false false false false true rollup m = fields-are layout (record_in shapes.Cell (length layout.dims) rest) Children q (cell-fields (length layout.dims) rest) m
-    by false false false false false false false false false true m = rollup-is layout rest q m
-    by false false false false false false false false false false m = absurd (cc m)
+    by : (load apply tried point range bounds iceberg parents children rollup widen : Bool) → Named layout rest load apply tried point range bounds iceberg parents children rollup widen ≡ Ok q → IsQuestion layout q
+    by true apply tried point range bounds iceberg parents children rollup widen m = file-is layout rest Load q (λ b bs. omega arith) m
+    by false true tried point range bounds iceberg parents children rollup widen m = file-is layout rest Apply q (λ b bs. omega arith) m
+    by false false true point range bounds iceberg parents children rollup widen m = file-is layout rest Try q (λ b bs. omega arith) m
+    by false false false true range bounds iceberg parents children rollup widen m = fields-are layout (record_in shapes.Cell (length layout.dims) rest) Point q (cell-fields (length layout.dims) rest) m
+    by false false false false true bounds iceberg parents children rollup widen m = fields-are layout (record_in shapes.Box (length layout.dims) rest) Range q (box-fields (length layout.dims) rest) m
+    by false false false false false true iceberg parents children rollup widen m = fields-are layout (record_in shapes.Cell (length layout.dims) rest) Bounds q (cell-fields (length layout.dims) rest) m
+    by false false false false false false true parents children rollup widen m = iceberg-is layout (words_of rest) q m
+    by false false false false false false false true children rollup widen m = fields-are layout (record_in shapes.Cell (length layout.dims) rest) Parents q (cell-fields (length layout.dims) rest) m
+    by false false false false false false false false true rollup widen m = fields-are layout (record_in shapes.Cell (length layout.dims) rest) Children q (cell-fields (length layout.dims) rest) m
+    by false false false false false false false false false true widen m = rollup-is layout rest q m
+    by false false false false false false false false false false true m = widened-is layout rest q m
+    by false false false false false false false false false false false m = absurd (cc m)
 
 pub line-is : (layout : Layout) (line : List ℕ) (r : Result Command LineRefused) → Gives line_fault_in question_in r (command_in layout line) → IfOk r (λ command. IsQuestion layout (question_in command))
 line-is layout line (Err refused) h = tt
@@ -181,20 +201,21 @@ line-is layout line (Ok command) h = by (is_utf8 line) (bytes_eq line stats_line
 named-wants : (layout : Layout) (word : Text) (rest : List ℕ) (q : Question) → command_named layout word rest ≡ Ok q → names_more word ≡ true
 named-wants layout word rest q e =
     by (bytes_eq word (codes "load")) (bytes_eq word (codes "apply")) (bytes_eq word (codes "try")) (bytes_eq word (codes "point")) (bytes_eq word (codes "range")) (bytes_eq word (codes "bounds")) (bytes_eq word (codes "iceberg"))
-    (bytes_eq word (codes "parents")) (bytes_eq word (codes "children")) (bytes_eq word (codes "rollup")) e
+    (bytes_eq word (codes "parents")) (bytes_eq word (codes "children")) (bytes_eq word (codes "rollup")) (bytes_eq word (codes "widen")) e
   where
-    by : (load apply tried point range bounds iceberg parents children rollup : Bool) → Named layout rest load apply tried point range bounds iceberg parents children rollup ≡ Ok q → (load || apply || tried || point || range || bounds || iceberg || parents || children || rollup) ≡ true
-    by true apply tried point range bounds iceberg parents children rollup m = refl
-    by false true tried point range bounds iceberg parents children rollup m = refl
-    by false false true point range bounds iceberg parents children rollup m = refl
-    by false false false true range bounds iceberg parents children rollup m = refl
-    by false false false false true bounds iceberg parents children rollup m = refl
-    by false false false false false true iceberg parents children rollup m = refl
-    by false false false false false false true parents children rollup m = refl
-    by false false false false false false false true children rollup m = refl
-    by false false false false false false false false true rollup m = refl
-    by false false false false false false false false false true m = refl
-    by false false false false false false false false false false m = absurd (cc m)
+    by : (load apply tried point range bounds iceberg parents children rollup widen : Bool) → Named layout rest load apply tried point range bounds iceberg parents children rollup widen ≡ Ok q → (load || apply || tried || point || range || bounds || iceberg || parents || children || rollup || widen) ≡ true
+    by true apply tried point range bounds iceberg parents children rollup widen m = refl
+    by false true tried point range bounds iceberg parents children rollup widen m = refl
+    by false false true point range bounds iceberg parents children rollup widen m = refl
+    by false false false true range bounds iceberg parents children rollup widen m = refl
+    by false false false false true bounds iceberg parents children rollup widen m = refl
+    by false false false false false true iceberg parents children rollup widen m = refl
+    by false false false false false false true parents children rollup widen m = refl
+    by false false false false false false false true children rollup widen m = refl
+    by false false false false false false false false true rollup widen m = refl
+    by false false false false false false false false false true widen m = refl
+    by false false false false false false false false false false true m = refl
+    by false false false false false false false false false false false m = absurd (cc m)
 
 line-wants : (layout : Layout) (line : List ℕ) (q : Question) → command_in layout line ≡ Ok q → wants_memory q ≡ true → may_want_memory line ≡ true
 line-wants layout line q h wants = by (is_utf8 line) (bytes_eq line stats_line) h

@@ -1,18 +1,20 @@
 -- What a line asks, or its fault.
-use Rattle.std.specs.Prelude.{◌≡◌, ◌<◌, ⊤, ℕ, Bool, true, false, List, [], ◌∷◌, length, codes, All, Result, Ok, Err, if◌then◌else◌}
+use Rattle.std.specs.Prelude.{◌≡◌, ◌<◌, ◌≤◌, ⊤, ℕ, Bool, true, false, List, [], ◌∷◌, length, codes, All, Result, Ok, Err, if◌then◌else◌}
 use Rattle.std.specs.Str.{bytes_eq, is_utf8}
 use Rattle.cube_defs.specs.Text.{Text}
 use Rattle.cube_defs.specs.Answers as answers
 use Rattle.cell_core.specs.declared.fields.Field as asked
 use Rattle.cell_core.specs.declared.fields.Field.TheVariants as asks
+use Rattle.qc_schema.specs.Grammar.{is_new_name}
 use Rattle.qc_schema.specs.Schema.{Layout}
 use Rattle.query_script.specs.Faults as faults
 use Rattle.query_script.specs.Faults.{LineFault}
 pub use Rattle.query_script.specs.Records.{fields_in, record_in}
 use Rattle.query_script.specs.Icebergs.{iceberg_in}
 use Rattle.query_script.specs.Lines.{rest_of, stats_line, word_of}
-use Rattle.query_script.specs.Questions.{Apply, Bounds, Children, Iceberg, Load, Parents, Point, Question, Range, Rollup, Stats, Try}
+use Rattle.query_script.specs.Questions.{Apply, Bounds, Children, Iceberg, Load, Parents, Point, Question, Range, Rollup, Stats, Try, Widen}
 use Rattle.query_script.specs.Rollups.{rollup_in}
+use Rattle.query_script.specs.Widens.{widen_in}
 use Rattle.query_script.specs.declared.record.Shape.TheVariants as shapes
 
 -- the name of a file, which is not empty
@@ -38,6 +40,7 @@ command_named layout word rest =
     else if bytes_eq word (codes "parents") then asked_with Parents (record_in shapes.Cell (length layout.dims) rest)
     else if bytes_eq word (codes "children") then asked_with Children (record_in shapes.Cell (length layout.dims) rest)
     else if bytes_eq word (codes "rollup") then rollup_in layout rest
+    else if bytes_eq word (codes "widen") then widen_in layout rest
     else Err faults.Command
 
 -- what a line asks of a cube of this schema; `stats` with anything behind it is no command
@@ -51,6 +54,7 @@ abbrev pub wants_memory : Question → Bool
 wants_memory (Load name) = true
 wants_memory (Apply name) = true
 wants_memory (Try name) = true
+wants_memory (Widen name value) = true
 wants_memory (Point fields) = true
 wants_memory (Range fields) = true
 wants_memory (Bounds fields) = true
@@ -76,11 +80,13 @@ IsMeasured measures (answers.Least m) = m < measures
 IsMeasured measures (answers.Greatest m) = m < measures
 IsMeasured measures (answers.Mean m) = m < measures
 
--- a name isn't empty, something is asked of each dimension, and a measure is one of the schema's
+-- a file's name isn't empty, that of a new dimension is new and its value short, something is asked of each dimension, and a measure is
+-- one of the schema's
 abbrev pub IsQuestion : Layout → Question → Type 0
 IsQuestion layout (Load name) = 0 < length name
 IsQuestion layout (Apply name) = 0 < length name
 IsQuestion layout (Try name) = 0 < length name
+IsQuestion layout (Widen name value) = (is_new_name layout name ≡ true) × (length value ≤ 255)
 IsQuestion layout (Point fields) = (length fields ≡ length layout.dims) × All IsCellField fields
 IsQuestion layout (Range fields) = length fields ≡ length layout.dims
 IsQuestion layout (Bounds fields) = (length fields ≡ length layout.dims) × All IsCellField fields

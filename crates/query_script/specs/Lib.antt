@@ -6,6 +6,7 @@ pub mod Questions
 pub mod Icebergs
 pub mod Records
 pub mod Rollups
+pub mod Widens
 pub mod Commands
 pub mod Makes
 pub mod Coded

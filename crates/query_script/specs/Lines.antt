@@ -25,6 +25,7 @@ names_more word =
     bytes_eq word (codes "load") || bytes_eq word (codes "apply") || bytes_eq word (codes "try") || bytes_eq word (codes "point")
     || bytes_eq word (codes "range") || bytes_eq word (codes "bounds") || bytes_eq word (codes "iceberg")
     || bytes_eq word (codes "parents") || bytes_eq word (codes "children") || bytes_eq word (codes "rollup")
+    || bytes_eq word (codes "widen")
 
 -- Whether a line may want memory: it is UTF-8 and begins with such a word. The line `stats` wants none.
 abbrev pub may_want_memory : List ℕ → Bool

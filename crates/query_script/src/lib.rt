@@ -8,6 +8,7 @@ mod plain;
 mod record;
 mod rollup;
 mod values;
+mod widen;
 
 pub use coded::{Coded, read_codes};
 pub use line::{Command, LineRefused, read_line};

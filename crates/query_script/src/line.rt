@@ -10,6 +10,7 @@ ghost use Rattle.query_script.specs.Lines.{may_want_memory, names_more, rest_of,
 use crate::iceberg::read_iceberg;
 use crate::record::{Shape, read_fields};
 use crate::rollup::read_rollup;
+use crate::widen::read_widen;
 use aggregates::{AggKind, Fraction};
 use cell_core::{Fields, Text};
 use cube_defs::MAX_FILE;
@@ -27,6 +28,8 @@ pub enum Command {
     Apply(Text),
     /// Tell what applying the batch of this name would come to.
     Try(Text),
+    /// Add a dimension of this name behind the others, in which each row has the value.
+    Widen(Text, Text),
     /// Answer the point of these fields, one for each dimension.
     Point(Fields),
     /// Answer each cell of a box that covers a row. There is a field for each dimension.
@@ -128,6 +131,7 @@ fn read_command(
         "parents" => Ok(Command::Parents(read_fields(alloc, Shape::Cell, schema, rest)?)),
         "children" => Ok(Command::Children(read_fields(alloc, Shape::Cell, schema, rest)?)),
         "rollup" => read_rollup(alloc, schema, rest),
+        "widen" => read_widen(alloc, schema, rest),
         _ => Err(LineRefused::Command),
     }
 }
@@ -140,7 +144,9 @@ fn read_command(
 /// each for the values from the one to the other by their bytes. Behind `iceberg` stand words: an
 /// aggregate (`count`, `sum`, `least`, `greatest` or `mean`), its measure but for `count`, `>=` or
 /// `<=`, and a number. Behind `parents` and `children` stand fields as behind `point`, and behind `rollup`
-/// the words of an iceberg, each up to one space, and then such fields.
+/// the words of an iceberg, each up to one space, and then such fields. Behind `widen` stands a name that
+/// no column of the schema has, up to one space, and then a value of at most 255 bytes. The schema that
+/// `run` hands in is that of the state before the line.
 pub fn read_line(alloc: Global, schema: &Schema, line: &[u8]) -> Result<Command, LineRefused>
     requires { length line.now ≤ MAX_FILE }
     ensures gives { Gives line_fault_in question_in result (command_in schema.now line.now) }
