@@ -13,6 +13,7 @@ use Rattle.query_script.specs.Faults as lines
 use Rattle.query_script.specs.Fields.{is_several}
 use Rattle.range_query.specs.declared.TheConstants.{MAX_RANGE_CELLS}
 use Rattle.warehouse.specs.Batch as batches
+use Rattle.warehouse.specs.Widening as widenings
 
 -- fields joined by commas, ended by LF
 abbrev pub record_text : List Text → List ℕ
@@ -54,6 +55,11 @@ batch_texts schema batches.RowsFull = codes "rows" ∷ []
 batch_texts schema (batches.ValuesFull dim) = codes "values" ∷ slice_index_or schema.dims dim [] ∷ []
 batch_texts schema batches.NodesFull = codes "nodes" ∷ []
 
+-- for the tree that a dimension more would make
+abbrev pub widen_texts : widenings.WidenRefusal → List Text
+widen_texts widenings.DimsFull = codes "dims" ∷ []
+widen_texts widenings.NodesFull = codes "nodes" ∷ []
+
 -- for its size
 abbrev pub size_texts : List Text
 size_texts = codes "size" ∷ []
@@ -67,6 +73,10 @@ refused_text line refusal = record_text (codes "refused" ∷ decimal line ∷ re
 
 abbrev pub applied_text : ℕ → ℕ → ℕ → List ℕ
 applied_text line records classes = record_text (codes "applied" ∷ decimal line ∷ decimal records ∷ decimal classes ∷ [])
+
+-- a dimension came: how many dimensions and classes there are after it
+abbrev pub widened_text : ℕ → ℕ → ℕ → List ℕ
+widened_text line dims classes = record_text (codes "widened" ∷ decimal line ∷ decimal dims ∷ decimal classes ∷ [])
 
 -- how many rows, classes and nodes there are, how many edges lead to a node with one value more, and how many others
 abbrev pub stats_text : ℕ → ℕ → ℕ → ℕ → ℕ → ℕ → List ℕ

@@ -16,5 +16,6 @@ pub use points::{point_reply, push_point};
 pub use ranges::range_reply;
 pub use refusals::{
     Detail, RefusalWords, words_of_file, words_of_line, words_of_many, words_of_size,
+    words_of_widening,
 };
-pub use short::{Reply, ShortReply, applied, memory, none, refused, stats};
+pub use short::{Reply, ShortReply, applied, memory, none, refused, stats, widened};

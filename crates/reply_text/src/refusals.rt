@@ -1,12 +1,13 @@
 // What a refusal says.
 ghost use Rattle.std.specs.Prelude.{IfSome, [], length, option_map, ◌<◌, ◌∷◌, ◌≡◌, ◌≤◌};
 ghost use Rattle.qc_schema.specs.Schema.{IsLayout};
-ghost use Rattle.reply_text.specs.Replies.{batch_texts, line_texts, many_texts, numbered, size_texts};
+ghost use Rattle.reply_text.specs.Replies.{batch_texts, line_texts, many_texts, numbered, size_texts, widen_texts};
 ghost use Rattle.warehouse.specs.Stored.{refusal_in};
+ghost use Rattle.warehouse.specs.Widening.{widen_refusal_in};
 
 use qc_schema::Schema;
 use query_script::LineRefused;
-use warehouse::Refused;
+use warehouse::{Refused, WidenRefused};
 
 /// What a refusal says of its code.
 #[derive(Clone, Copy, Debug)]
@@ -99,6 +100,18 @@ pub fn words_of_file(refused: Refused, schema: &Schema) -> Option<RefusalWords<'
         Refused::ValuesFull(dim) => Some(RefusalWords::name("values", schema.dim_name(dim))),
         Refused::NodesFull => Some(RefusalWords::code("nodes")),
         Refused::Memory => None,
+    }
+}
+
+/// Why no dimension comes. None for want of memory.
+pub fn words_of_widening(refused: WidenRefused) -> Option<RefusalWords<'static>>
+    ensures texts { option_map texts_of result ≡ option_map widen_texts (widen_refusal_in refused) }
+    ensures short { IfSome result (λ words. IsShort words) }
+{
+    match refused {
+        WidenRefused::DimsFull => Some(RefusalWords::code("dims")),
+        WidenRefused::NodesFull => Some(RefusalWords::code("nodes")),
+        WidenRefused::Memory => None,
     }
 }
 

@@ -1,6 +1,6 @@
 // Replies that are made without memory.
 ghost use Rattle.std.specs.Prelude.{[], decimal, length, ◌+◌, ◌++◌, ◌<◌, ◌∷◌, ◌≡◌, ◌≤◌};
-ghost use Rattle.reply_text.specs.Replies.{applied_text, memory_text, none_text, refused_text, stats_text};
+ghost use Rattle.reply_text.specs.Replies.{applied_text, memory_text, none_text, refused_text, stats_text, widened_text};
 
 use crate::refusals::{Detail, RefusalWords};
 use arrayvec::ArrayString;
@@ -107,6 +107,16 @@ pub fn applied(line: u32, records: u32, classes: u32) -> ShortReply
 {
     let mut reply = begun("applied", line);
     reply.field(Buffer::new().format(records));
+    reply.field(Buffer::new().format(classes));
+    reply.ended()
+}
+
+/// A dimension came, and so many dimensions and classes are there after it.
+pub fn widened(line: u32, dims: u8, classes: u32) -> ShortReply
+    ensures { result ≡ widened_text line dims classes }
+{
+    let mut reply = begun("widened", line);
+    reply.field(Buffer::new().format(dims));
     reply.field(Buffer::new().format(classes));
     reply.ended()
 }
