@@ -1,6 +1,5 @@
 -- What widens a cube: the name of a dimension, and behind the space that ends it the value of each row there.
 use Rattle.std.specs.Prelude.{ℕ, Bool, ◌&&◌, List, Result, Ok, Err, length, nat_le, nat_lt, if◌then◌else◌}
-use Rattle.cube_defs.specs.Text.{Text}
 use Rattle.qc_schema.specs.Grammar.{is_new_name}
 use Rattle.qc_schema.specs.Schema.{Layout}
 use Rattle.query_script.specs.Faults.{LineFault, Field}
