@@ -1,5 +1,5 @@
 -- Where each file that is named is told, steady files are all read.
-use Rattle.std.proofs.Common.{◌≡◌, ℕ, Option, Some, None, IfSome, List, [], ◌∷◌, ◌++◌, inl, inr}
+use Rattle.std.proofs.Common.{◌≡◌, ◌∙◌, ℕ, Option, Some, None, IfSome, List, [], ◌∷◌, ◌++◌, inl, inr}
 use Rattle.std.specs.Prelude.{IsSome}
 use Rattle.std.specs.List.{AllByRecursion}
 use Rattle.std.proofs.lemmas.List.Elements.{recursion_from_All}
@@ -8,7 +8,7 @@ use Rattle.qc_session.specs.Forms.{Form, Gen, IfRun, FileNames, Run}
 use Rattle.qc_session.specs.Lines.{script_lines}
 use Rattle.qc_session.specs.Answers.{file_of}
 use Rattle.qc_session.specs.Runs.{AllTold, CannotRead, IsLineTold, LineUnread, Said, Unread}
-use Rattle.qc_session.proofs.Kept.{took-schema}
+use Rattle.qc_session.proofs.FileNamed.{file-same}
 
 all-at : {X : Type 0} (P : X → Type 0) (done : List X) (x : X) (rest : List X) → AllByRecursion P (done ++ x ∷ rest) → P x
 all-at P [] x rest h = h.0
@@ -30,8 +30,7 @@ line-unread t sure names skipped name before now surely all u =
     let s = u.stopped in
     let lines = recursion_from_All (IsLineTold t u.start.schema) (script_lines u.script) (all.lines u.start u.script u.start_read u.script_read) in
     let line = all-at (IsLineTold t u.start.schema) s.done s.line s.rest (rw s.split at lines) in
-    let same = took-schema t u.start skipped s.done s.wrote.state s.wrote.replies s.wrote.took in
-    not-none (t name) (s.untold surely) (line-told t (file_of u.start.schema s.line) name (rw same at s.names) line)
+    not-none (t name) (s.untold surely) (line-told t (file_of u.start.schema s.line) name (file-same u.start.schema s.wrote.state.schema s.line ∙ s.names) line)
 
 none-unread : (t : Told) (sure : Type 0) (names : FileNames) (skipped name : List ℕ) (before now : Option (List ℕ)) → sure → AllTold t names → Unread t sure names skipped name before now → ⊥
 none-unread t sure names skipped name before now surely all (inl u) = not-none (t names.schema) (rw u.is_schema at (u.untold surely)) all.schema

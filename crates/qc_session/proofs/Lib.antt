@@ -4,9 +4,9 @@ mod ClassTold
 mod Completed
 mod Uppers
 mod Ended
+mod FileNamed
 mod Found
 mod Handed
-mod Kept
 mod Measured
 mod Named
 mod Pointed

@@ -24,7 +24,8 @@ use Rattle.value_dict.specs.Boxes.{asked_box}
 use Rattle.value_dict.specs.Told.{has_text}
 use Rattle.warehouse.specs.Batch.{Applied, FileUse, Load, Apply, Refusal, result}
 use Rattle.warehouse.specs.State.{State}
-use Rattle.reply_text.specs.Replies.{applied_text, batch_texts, bounds_reply, iceberg_text, line_texts, point_reply, range_reply, refused_text, size_texts, stats_text}
+use Rattle.warehouse.specs.Widening.{WidenRefusal, widen_result}
+use Rattle.reply_text.specs.Replies.{applied_text, batch_texts, bounds_reply, iceberg_text, line_texts, point_reply, range_reply, refused_text, size_texts, stats_text, widen_texts, widened_text}
 use Rattle.cube_defs.specs.declared.limits.TheConstants.{MAX_FILE}
 use Rattle.qc_session.specs.Lattice.{followed, parented, rolled}
 
@@ -49,6 +50,15 @@ file_answer state line kind bytes =
 -- what applying a file would answer; nothing changes
 abbrev pub try_answer : State → ℕ → List ℕ → Answered
 try_answer state line bytes = stays state (file_answer state line Apply bytes).reply
+
+-- the dimension that came, or why none came
+abbrev pub widened_by : State → ℕ → Result Applied WidenRefusal → Answered
+widened_by state line (Ok applied) = record { state = applied.state; reply = widened_text line (length applied.state.schema.dims) applied.classes }
+widened_by state line (Err refusal) = stays state (refused_text line (widen_texts refusal))
+
+-- the answer to `widen`
+abbrev pub widen_answer : State → ℕ → Text → Text → Answered
+widen_answer state line name value = widened_by state line (widen_result state name value)
 
 -- what a field of a point asks of its dimension: Any, or a value
 abbrev pub entry_asked : Field → Option Text
@@ -120,6 +130,7 @@ answer_to state told line (Err fault) = Some (stays state (refused_text line (li
 answer_to state told line (Ok (asks.Load name)) = option_map (file_answer state line Load) (told name)
 answer_to state told line (Ok (asks.Apply name)) = option_map (file_answer state line Apply) (told name)
 answer_to state told line (Ok (asks.Try name)) = option_map (try_answer state line) (told name)
+answer_to state told line (Ok (asks.Widen name value)) = Some (widen_answer state line name value)
 answer_to state told line (Ok (asks.Point asked)) = Some (stays state (pointed state line (cell_asked asked)))
 answer_to state told line (Ok (asks.Range asked)) = Some (stays state (ranged state line asked))
 answer_to state told line (Ok (asks.Bounds asked)) = Some (stays state (bounded state line (cell_asked asked)))
@@ -129,6 +140,7 @@ answer_to state told line (Ok (asks.Children asked)) = Some (stays state (follow
 answer_to state told line (Ok (asks.Rollup kind bound value asked)) = Some (stays state (rolled state line (ask_of state.schema.measures kind bound value) (cell_asked asked)))
 answer_to state told line (Ok asks.Stats) = Some (stays state (counted state line))
 
+-- the answer to a line, which is read with the schema of the state before it
 abbrev pub answer : State → Told → ℕ → List ℕ → Option Answered
 answer state told number line = answer_to state told number (command_in state.schema line)
 
@@ -138,6 +150,7 @@ file_named (Err fault) = None
 file_named (Ok (asks.Load name)) = Some name
 file_named (Ok (asks.Apply name)) = Some name
 file_named (Ok (asks.Try name)) = Some name
+file_named (Ok (asks.Widen name value)) = None
 file_named (Ok (asks.Point asked)) = None
 file_named (Ok (asks.Range asked)) = None
 file_named (Ok (asks.Bounds asked)) = None

@@ -9,11 +9,13 @@ ghost use Rattle.warehouse.specs.InPlace.{IsTaken, IsWithinCost, LeavesApart, Le
 ghost use Rattle.warehouse.specs.State.{State};
 ghost use Rattle.qc_session.specs.Answers.{answer, answer_to, changed, file_answer, file_named, file_of};
 
+use self::FileUse::{Apply, Load, Try};
 use crate::bounds::answer_bounds;
 use crate::iceberg::answer_iceberg;
 use crate::lattice::{answer_children, answer_parents, answer_rollup};
 use crate::point::answer_point;
 use crate::range::answer_range;
+use crate::widening::answer_widen;
 use cell_core::{Memory, Steps, Text};
 use cube_defs::MAX_FILE;
 use qc_io::{Files, ReadRefused, read_all};
@@ -43,6 +45,17 @@ pub enum LineStop {
     Memory,
     /// The file of this name couldn't be read.
     Fault(Text),
+}
+
+impl From<AllocError> for LineStop {
+    ghost use Rattle.std.specs.Prelude.{◌≡◌};
+    ghost use Rattle.qc_session.specs.declared.answer.LineStop.TheVariants as stops;
+
+    ghost from_gives = { λ _ stop. stop ≡ stops.Memory };
+
+    fn from(_: AllocError) -> Self {
+        LineStop::Memory
+    }
 }
 
 ghost use Rattle.qc_session.specs.Stops.{MatchLineStop, kind_in, leaving, left_by};
@@ -165,67 +178,21 @@ fn answer_command<F: Files, L: Ledger>(
         (λ t. answer_to warehouse.old.state t number (Ok (question_in command)) ≡ Some (record { state = warehouse.new.state; reply = reply_bytes reply }))) }
 {
     match command {
-        Command::Load(name) => answer_file(
-            alloc,
-            files,
-            warehouse,
-            number,
-            FileUse::Load,
-            name,
-            steps,
-        ),
-        Command::Apply(name) => answer_file(
-            alloc,
-            files,
-            warehouse,
-            number,
-            FileUse::Apply,
-            name,
-            steps,
-        ),
-        Command::Try(name) => answer_file(
-            alloc,
-            files,
-            warehouse,
-            number,
-            FileUse::Try,
-            name,
-            steps,
-        ),
-        Command::Point(asked) => match answer_point(alloc, warehouse, number, &asked, steps) {
-            Ok(reply) => Ok(reply),
-            Err(_) => Err(LineStop::Memory),
-        },
-        Command::Range(asked) => match answer_range(alloc, warehouse, number, &asked, steps) {
-            Ok(reply) => Ok(reply),
-            Err(_) => Err(LineStop::Memory),
-        },
-        Command::Bounds(asked) => match answer_bounds(alloc, warehouse, number, &asked, steps) {
-            Ok(reply) => Ok(reply),
-            Err(_) => Err(LineStop::Memory),
-        },
+        Command::Load(name) => answer_file(alloc, files, warehouse, number, Load, name, steps),
+        Command::Apply(name) => answer_file(alloc, files, warehouse, number, Apply, name, steps),
+        Command::Try(name) => answer_file(alloc, files, warehouse, number, Try, name, steps),
+        Command::Widen(name, value) => Ok(answer_widen(warehouse, number, &name, &value, steps)?),
+        Command::Point(asked) => Ok(answer_point(alloc, warehouse, number, &asked, steps)?),
+        Command::Range(asked) => Ok(answer_range(alloc, warehouse, number, &asked, steps)?),
+        Command::Bounds(asked) => Ok(answer_bounds(alloc, warehouse, number, &asked, steps)?),
         Command::Iceberg(kind, bound, value) => {
-            match answer_iceberg(alloc, warehouse, number, kind, bound, value, steps) {
-                Ok(reply) => Ok(reply),
-                Err(_) => Err(LineStop::Memory),
-            }
+            Ok(answer_iceberg(alloc, warehouse, number, kind, bound, value, steps)?)
         }
-        Command::Parents(asked) => match answer_parents(alloc, warehouse, number, &asked, steps) {
-            Ok(reply) => Ok(reply),
-            Err(_) => Err(LineStop::Memory),
-        },
-        Command::Children(asked) => {
-            match answer_children(alloc, warehouse, number, &asked, steps) {
-                Ok(reply) => Ok(reply),
-                Err(_) => Err(LineStop::Memory),
-            }
-        }
-        Command::Rollup(kind, bound, value, asked) => {
-            match answer_rollup(alloc, warehouse, number, kind, bound, value, &asked, steps) {
-                Ok(reply) => Ok(reply),
-                Err(_) => Err(LineStop::Memory),
-            }
-        }
+        Command::Parents(asked) => Ok(answer_parents(alloc, warehouse, number, &asked, steps)?),
+        Command::Children(asked) => Ok(answer_children(alloc, warehouse, number, &asked, steps)?),
+        Command::Rollup(kind, bound, value, asked) => Ok(answer_rollup(
+            alloc, warehouse, number, kind, bound, value, &asked, steps,
+        )?),
         Command::Stats => Ok(Reply::Short(stats(number, warehouse.stats()))),
     }
 }

@@ -12,6 +12,7 @@ mod point;
 mod range;
 mod scripts;
 mod session;
+mod widening;
 mod words;
 
 pub use scripts::{Outcome, run};
