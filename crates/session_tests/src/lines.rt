@@ -16,7 +16,7 @@ type Line = (&'static [u8], Result<&'static str, LineRefused>);
 
 const SHOP: &[u8] = b"qcube 1\nid order\ndim store\ndim product\ndim season\n";
 
-static LINES: [Line; 114] = [
+static LINES: [Line; 128] = [
     // Command words, and names of files.
     (b"load a.csv", Ok("load:a.csv")),
     (b"load a b.csv", Ok("load:a b.csv")),
@@ -57,6 +57,27 @@ static LINES: [Line; 114] = [
     (b"frobnicate \xed\xa0\x80", Err(LineRefused::Utf8)),
     (b" ", Err(LineRefused::Command)),
     (b"point *,*,a\rb", Err(LineRefused::Field(4))),
+    // A dimension that comes.
+    (b"widen year 2003", Ok("widen:year=2003")),
+    (b"widen year  a, \"b\" ", Ok("widen:year= a, \"b\" ")),
+    (b"widen year ", Ok("widen:year=")),
+    (b"widen Y_1 *", Ok("widen:Y_1=*")),
+    (b"widen year", Err(LineRefused::Field(2))),
+    (b"widen", Err(LineRefused::Field(1))),
+    (b"widen ", Err(LineRefused::Field(1))),
+    (b"widen  year 2003", Err(LineRefused::Field(1))),
+    (b"widen store x", Err(LineRefused::Field(1))),
+    (b"widen order", Err(LineRefused::Field(1))),
+    (b"widen op x", Err(LineRefused::Field(1))),
+    (b"widen 1st x", Err(LineRefused::Field(1))),
+    (
+        b"widen year vvvvvvvvvvvvvvvvvvvvvvvvvvvvvvvvvvvvvvvvvvvvvvvvvvvvvvvvvvvvvvvvvvvvvvvvvvvvvvvv\
+            vvvvvvvvvvvvvvvvvvvvvvvvvvvvvvvvvvvvvvvvvvvvvvvvvvvvvvvvvvvvvvvvvvvvvvvvvvvvvvvv\
+            vvvvvvvvvvvvvvvvvvvvvvvvvvvvvvvvvvvvvvvvvvvvvvvvvvvvvvvvvvvvvvvvvvvvvvvvvvvvvvvv\
+            vvvvvvvvvvvvvvvv",
+        Err(LineRefused::Field(2)),
+    ),
+    (b"widens year x", Err(LineRefused::Command)),
     // Points.
     (b"point S1,P1,s", Ok("point:is S1;is P1;is s;")),
     (b"point *,*,*", Ok("point:*;*;*;")),
@@ -270,6 +291,10 @@ fn list_command(alloc: Global, command: &Command) -> Result<String, Memory> {
         Command::Load(name) => list_name("load:", name, &mut list)?,
         Command::Apply(name) => list_name("apply:", name, &mut list)?,
         Command::Try(name) => list_name("try:", name, &mut list)?,
+        Command::Widen(name, value) => {
+            list_name("widen:", name, &mut list)?;
+            list_name("=", value, &mut list)?;
+        }
         Command::Point(fields) => list_fields("point:", fields, &mut list)?,
         Command::Bounds(fields) => list_fields("bounds:", fields, &mut list)?,
         Command::Range(fields) => list_fields("range:", fields, &mut list)?,

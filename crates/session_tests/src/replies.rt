@@ -36,7 +36,57 @@ type Case = (
 
 const LOAD: &[u8] = b"load base.csv\npoint *,*,*";
 
-static CASES: [Case; 37] = [
+static CASES: [Case; 43] = [
+    // A dimension that comes.
+    (
+        SCHEMA,
+        BASE,
+        [
+            PLUS,
+            b"op,id,store,product,season,sale,year\n+,4,S2,P2,f,3,2004\n",
+            b"",
+        ],
+        b"load base.csv\nwiden year 2003\nstats\nbounds *,*,s,*\napply b.csv\napply c.csv",
+        "applied,1,3,6\nwidened,2,4,6\nstats,3,3,6,17,16,5\nclass,4,S1,*,s,2003,2,18,6,12,9/1\nlower,4,*,*,s,*\nlower,4,S1,*,*,*\nend,4,1\n\
+            refused,5,header\napplied,6,1,10\n",
+    ),
+    (
+        "qcube 1\nid id\ndim store\ndim product\ndim season\nmeasure sale 0\nnodes 16\n",
+        BASE,
+        NONE,
+        b"load base.csv\nwiden year 2003\nwiden store x\nwiden age",
+        "applied,1,3,6\nrefused,2,nodes\nrefused,3,field,1\nrefused,4,field,2\n",
+    ),
+    (
+        "qcube 1\nid id\ndim store\ndim product\ndim season\nmeasure sale 0\nnodes 17\n",
+        BASE,
+        NONE,
+        b"load base.csv\nwiden year 2003\nwiden store x\nwiden age",
+        "applied,1,3,6\nwidened,2,4,6\nrefused,3,field,1\nrefused,4,field,2\n",
+    ),
+    (
+        SCHEMA,
+        BASE,
+        NONE,
+        b"widen year 2003\nload base.csv",
+        "widened,1,4,0\nrefused,2,header\n",
+    ),
+    (
+        "qcube 1\nid id\ndim a\ndim b\ndim c\ndim d\ndim e\ndim f\ndim g\ndim h\ndim i\ndim j\ndim k\ndim l\n",
+        b"",
+        NONE,
+        b"widen x 1",
+        "refused,1,dims\n",
+    ),
+    // Each line is read with the schema that the lines before it left.
+    (
+        SCHEMA,
+        BASE,
+        NONE,
+        b"load base.csv\nwiden year \npoint *,*,*\npoint *,*,*,\nwiden year x\nwiden month 5\npoint S1,*,*,*,5",
+        "applied,1,3,6\nwidened,2,4,6\nrefused,3,field,4\npoint,4,*,*,*,,3,27,6,12,9/1\nrefused,5,field,1\nwidened,6,5,6\n\
+            point,7,S1,*,*,*,5,2,18,6,12,9/1\n",
+    ),
     // The lattice of classes.
     (
         SCHEMA,
