@@ -1,13 +1,12 @@
 -- How a script ended, over the names that the run has for it.
-use Rattle.std.proofs.Common.{◌≡◌, ◌≤◌, ◌⊎◌, ℕ, List, [], Option, Some, None, IfSome, sym, refl, inl, inr, arith, length}
-use Rattle.std.specs.Prelude.{⊤, IsNone, IsSome, MatchOption}
-use Rattle.std.proofs.lemmas.Bool.{le-ltb}
+use Rattle.std.proofs.Common.{◌≡◌, ◌≤◌, ◌⊎◌, ◌∙◌, ℕ, List, [], Option, Some, None, IfSome, sym, refl, inl, inr, arith, length}
+use Rattle.std.specs.Prelude.{⊤, MatchOption, Ok, Err}
 use Rattle.cube_defs.specs.declared.limits.TheConstants.{MAX_FILE}
 use Rattle.qc_io.specs.Outside.{Rose, Told}
 use Rattle.warehouse.specs.State.{State}
-use Rattle.qc_session.specs.Forms.{FileNames}
+use Rattle.qc_session.specs.Forms.{FileNames, FromSchema, FromSnapshot, Source}
 use Rattle.qc_session.specs.Lines.{script_lines}
-use Rattle.qc_session.specs.Runs.{AreSkipped, CannotRead, Cause, Finished, IsScriptOf, IsStartOf, Said, StoppedAt, StoppedWriting, WroteAll, refusal_of}
+use Rattle.qc_session.specs.Runs.{AreSkipped, Begins, BeginsNot, CannotRead, Cause, Finished, IsLong, IsRefused, IsScriptOf, IsStartOf, IsUnrefused, Said, StoppedAt, StoppedWriting, WroteAll}
 use Rattle.qc_session.specs.Session.{IfStop}
 use Rattle.qc_session.specs.declared.session.Stop.{Stop}
 use Rattle.qc_session.specs.declared.session.Stop.TheVariants as stops
@@ -36,7 +35,7 @@ broken-ended stop told start start2 skipped skipped2 lines lines2 before now is 
     go None h = tt
     go (Some t) h = rw (sym s, k, sym l) h
 
-pub finished-run : (told : Option Told) (names : FileNames) (start : State) (script skipped : List ℕ) (end : Option State) (before now : Option (List ℕ)) → IfSome told (λ t. IsStartOf t names.schema start) → IfSome told (λ t. IsScriptOf t names.script script)
+pub finished-run : (told : Option Told) (names : FileNames) (start : State) (script skipped : List ℕ) (end : Option State) (before now : Option (List ℕ)) → IfSome told (λ t. IsStartOf t names start) → IfSome told (λ t. IsScriptOf t names.script script)
     → IfSome told (λ t. WroteAll t start skipped (script_lines script) end before now) → IfSome told (λ t. Finished t names skipped end before now)
 finished-run None names start script skipped end before now is is_script wrote = tt
 finished-run (Some t) names start script skipped end before now is is_script wrote = record { start = start; script = script; start_read = is; script_read = is_script; wrote = wrote }
@@ -46,23 +45,33 @@ pub skipped-run : (told : Option Told) (names : FileNames) (script skipped : Lis
 skipped-run None names script skipped is_script are = tt
 skipped-run (Some t) names script skipped is_script are = rw is_script.is_told are
 
-unrefused : (t : Told) (names : FileNames) (start : State) (script : List ℕ) → IsStartOf t names.schema start → IsScriptOf t names.script script → refusal_of (t names.schema) names (t names.script) ≡ None
-unrefused t names start script is is_script = rw (is.is_told, is_script.is_told, le-ltb MAX_FILE (length is.bytes) is.within, is.read, le-ltb MAX_FILE (length script) is_script.within) refl
-
-pub refusal-run : (told : Option Told) (names : FileNames) (start : State) (script : List ℕ) (ends : Type 0) → IfSome told (λ t. IsStartOf t names.schema start) → IfSome told (λ t. IsScriptOf t names.script script)
-    → IfSome told (λ t. IsSome (refusal_of (t names.schema) names (t names.script)) → ends)
-refusal-run None names start script ends is is_script = tt
-refusal-run (Some t) names start script ends is is_script = λ refused. absurd (go (refusal_of (t names.schema) names (t names.script)) (unrefused t names start script is is_script) refused)
+-- no bytes tell a start and tell none
+not-both : (source : Source) (bytes : List ℕ) (start : State) (cause : Cause) → Begins source bytes start → BeginsNot source bytes cause → ⊥
+not-both FromSchema bytes start cause (schema, is, same) (fault, is_not, why) = differ (sym is ∙ is_not)
   where
-    go : (o : Option Cause) → o ≡ None → IsSome o → ⊥
-    go None e h = cc
-    go (Some cause) e h = cc
+    differ : Ok schema ≡ Err fault → ⊥
+    differ e = cc
+not-both FromSnapshot bytes start cause (is, valid) (none, why) = none start valid is
+
+-- a file that is no longer than it may be isn't longer
+not-long : (t : Told) (name bytes : List ℕ) (cause : Cause) → t name ≡ Some bytes → length bytes ≤ MAX_FILE → IsLong t name cause → ⊥
+not-long t name bytes cause is within long = let more = rw is at long.0 in omega (arith, more, within)
+
+unrefused : (t : Told) (names : FileNames) (start : State) (script : List ℕ) → IsStartOf t names start → IsScriptOf t names.script script → IsUnrefused t names
+unrefused t names start script is is_script cause (inl long) = not-long t names.first is.bytes cause is.is_told is.within long
+unrefused t names start script is is_script cause (inr (inl none)) = let why = rw is.is_told at none in not-both names.source is.bytes start cause is.begins why.1
+unrefused t names start script is is_script cause (inr (inr (other, other_is, long))) = not-long t names.script script cause is_script.is_told is_script.within long
+
+pub refusal-run : (told : Option Told) (names : FileNames) (start : State) (script : List ℕ) (ends : Type 0) → IfSome told (λ t. IsStartOf t names start) → IfSome told (λ t. IsScriptOf t names.script script)
+    → IfSome told (λ t. (cause : Cause) → IsRefused t names cause → ends)
+refusal-run None names start script ends is is_script = tt
+refusal-run (Some t) names start script ends is is_script = λ cause refused. absurd (unrefused t names start script is is_script cause refused)
 
 pub rose-later : (first before now : ℕ) → first ≤ before → Rose before now → Rose first now
 rose-later first before now le h = omega (arith, le, h)
 
 pub complete-run : (told : Option Told) (names : FileNames) (status : ℕ) (files out : Type 0) → ((status ≡ 0) ⊎ (status ≡ 3) ⊎ (status ≡ 4) ⊎ (status ≡ 5)) → (status ≡ 3 → files) → (status ≡ 4 → out)
-    → IfSome told (λ t. IsNone (refusal_of (t names.schema) names (t names.script)) → (files → ⊥) → (out → ⊥) → (status ≡ 0) ⊎ (status ≡ 5))
+    → IfSome told (λ t. IsUnrefused t names → (files → ⊥) → (out → ⊥) → (status ≡ 0) ⊎ (status ≡ 5))
 complete-run None names status files out known f o = tt
 complete-run (Some t) names status files out known f o = λ fine no_files no_out. go known no_files no_out
   where

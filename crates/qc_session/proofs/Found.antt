@@ -33,7 +33,7 @@ line-unread t sure names skipped name before now surely all u =
     not-none (t name) (s.untold surely) (line-told t (file_of u.start.schema s.line) name (file-same u.start.schema s.wrote.state.schema s.line ∙ s.names) line)
 
 none-unread : (t : Told) (sure : Type 0) (names : FileNames) (skipped name : List ℕ) (before now : Option (List ℕ)) → sure → AllTold t names → Unread t sure names skipped name before now → ⊥
-none-unread t sure names skipped name before now surely all (inl u) = not-none (t names.schema) (rw u.is_schema at (u.untold surely)) all.schema
+none-unread t sure names skipped name before now surely all (inl u) = not-none (t names.first) (rw u.is_first at (u.untold surely)) all.first
 none-unread t sure names skipped name before now surely all (inr (inl u)) = not-none (t names.script) (rw u.is_script at (u.untold surely)) all.script
 none-unread t sure names skipped name before now surely all (inr (inr u)) = line-unread t sure names skipped name before now surely all u
 

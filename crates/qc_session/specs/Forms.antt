@@ -5,9 +5,15 @@ use Rattle.std.specs.Str.{bytes_eq}
 use Rattle.aggregates.specs.Numbers.{id_in}
 use Rattle.cube_defs.specs.declared.limits.TheConstants.{MAX_ROWS}
 
--- the names of a schema and of a script
+-- how the first file tells the state at which a run starts
+pub data Source : Type 0 where
+  FromSchema : Source
+  FromSnapshot : Source
+
+-- the names of the first file and of the script, and what the first is
 pub record FileNames : Type 0 where
-  pub schema : List ℕ
+  pub source : Source
+  pub first : List ℕ
   pub script : List ℕ
 
 -- how many rows the base file has, and the seed from which they are drawn
@@ -15,7 +21,7 @@ pub record Drawing : Type 0 where
   pub rows : ℕ
   pub seed : ℕ
 
--- a listed form: `run SCHEMA SCRIPT`, or `gen ROWS SEED`
+-- a listed form: `run SCHEMA SCRIPT` or `open SNAPSHOT SCRIPT`, or `gen ROWS SEED`
 pub data Form : Type 0 where
   Run : FileNames → Form
   Gen : Drawing → Form
@@ -32,7 +38,8 @@ form_of [] = None
 form_of (a ∷ []) = None
 form_of (a ∷ b ∷ []) = None
 form_of (a ∷ b ∷ c ∷ []) =
-    if bytes_eq (string_bytes a) (codes "run") then Some (Run (record { schema = string_bytes b; script = string_bytes c }))
+    if bytes_eq (string_bytes a) (codes "run") then Some (Run (record { source = FromSchema; first = string_bytes b; script = string_bytes c }))
+    else if bytes_eq (string_bytes a) (codes "open") then Some (Run (record { source = FromSnapshot; first = string_bytes b; script = string_bytes c }))
     else if bytes_eq (string_bytes a) (codes "gen") then drawing_of (id_in (string_bytes b)) (id_in (string_bytes c))
     else None
 form_of (a ∷ b ∷ c ∷ d ∷ more) = None

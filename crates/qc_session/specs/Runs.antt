@@ -1,5 +1,5 @@
 -- How a run ends.
-use Rattle.std.specs.Prelude.{◌≡◌, ◌≤◌, ◌<◌, ◌&&◌, ◌⊎◌, ◌++◌, ℕ, zero, suc, Bool, true, not, List, [], ◌∷◌, length, take, Option, Some, None, IfSome, IsSome, IsSomeAnd, codes, slice_index_or, decimal, Result, Ok, Err, nat_lt, option_map, ⊤, if◌then◌else◌}
+use Rattle.std.specs.Prelude.{◌≡◌, ◌≢◌, ◌≤◌, ◌<◌, ◌&&◌, ◌⊎◌, ◌++◌, ℕ, zero, suc, Bool, true, not, List, [], ◌∷◌, length, take, Option, Some, None, IfSome, IsSome, IsSomeAnd, codes, slice_index_or, decimal, Result, Ok, Err, nat_lt, option_map, ⊤, if◌then◌else◌}
 use Rattle.std.specs.List.{All, AllByRecursion}
 use Rattle.cube_defs.specs.declared.limits.TheConstants.{MAX_FILE}
 use Rattle.qc_io.specs.Outside.{Told, taking}
@@ -9,9 +9,10 @@ use Rattle.qc_schema.specs.Progress as schemas
 use Rattle.qc_schema.specs.declared.refusal.SchemaCause.{SchemaCause}
 use Rattle.qc_schema.specs.declared.refusal.SchemaCause.TheVariants as causes
 use Rattle.query_script.specs.Lines.{may_want_memory}
-use Rattle.warehouse.specs.State.{Contents, State, empty}
+use Rattle.warehouse.specs.State.{Contents, IsState, State, empty}
 use Rattle.qc_session.specs.Answers.{file_of}
-use Rattle.qc_session.specs.Forms.{FileNames}
+use Rattle.cube_snapshot.specs.States.{spelling}
+use Rattle.qc_session.specs.Forms.{FileNames, FromSchema, FromSnapshot, Source}
 use Rattle.qc_session.specs.Lines.{is_passed, script_lines}
 use Rattle.qc_session.specs.Transcript.{run_at, transcript}
 
@@ -25,6 +26,7 @@ pub data Cause : Type 0 where
   CannotWrite : Cause
   OutOfMemory : Cause
   NoSchema : schemas.Fault → Cause
+  NoSnapshot : Cause
   TooLong : List ℕ → Cause
 
 abbrev pub status_of : Cause → ℕ
@@ -33,6 +35,7 @@ status_of (CannotRead name) = 3
 status_of CannotWrite = 4
 status_of OutOfMemory = 5
 status_of (NoSchema fault) = 6
+status_of NoSnapshot = 6
 status_of (TooLong name) = 6
 
 abbrev pub cause_text : SchemaCause → List ℕ
@@ -50,46 +53,51 @@ fault_text (schemas.Line line cause) = codes "line " ++ decimal line ++ codes ":
 
 -- the line that tells it
 abbrev pub error_text : Cause → List ℕ
-error_text Usage = codes "usage: qcube run SCHEMA SCRIPT | qcube gen ROWS SEED\n"
+error_text Usage = codes "usage: qcube run SCHEMA SCRIPT | qcube gen ROWS SEED | qcube open SNAPSHOT SCRIPT\n"
 error_text (CannotRead name) = codes "qcube: cannot read " ++ name ++ 10 ∷ []
 error_text CannotWrite = codes "qcube: cannot write\n"
 error_text OutOfMemory = codes "qcube: out of memory\n"
 error_text (NoSchema fault) = codes "qcube: schema " ++ fault_text fault ++ 10 ∷ []
+error_text NoSnapshot = codes "qcube: snapshot refused\n"
 error_text (TooLong name) = codes "qcube: " ++ name ++ codes " is too long\n"
 
--- the state at which a run starts, as the bytes of its first file tell it: they are a schema, and there are no rows
-abbrev pub at_start : Result Layout schemas.Fault → Result State schemas.Fault
-at_start (Ok schema) = Ok (empty schema)
-at_start (Err fault) = Err fault
+-- these bytes of the first file tell this start: they are a schema, and there are no rows; or they are its snapshot
+abbrev pub Begins : Source → List ℕ → State → Type 0
+Begins FromSchema bytes start = (schema : Layout) × (schema_in bytes ≡ Ok schema) × (start ≡ empty schema)
+Begins FromSnapshot bytes start = (bytes ≡ spelling start) × IsState start
 
-abbrev pub start_in : List ℕ → Result State schemas.Fault
-start_in bytes = at_start (schema_in bytes)
+-- they tell none, for this cause
+abbrev pub BeginsNot : Source → List ℕ → Cause → Type 0
+BeginsNot FromSchema bytes cause = (fault : schemas.Fault) × (schema_in bytes ≡ Err fault) × (cause ≡ NoSchema fault)
+BeginsNot FromSnapshot bytes cause = ((s : State) → IsState s → bytes ≢ spelling s) × (cause ≡ NoSnapshot)
 
--- a start that is read: the file is there, is no longer than a file may be, and tells it
-pub record IsStartOf (told : Told) (name : List ℕ) (start : State) : Type 0 where
+-- a start that is read: the first file is there, is no longer than a file may be, and tells it
+pub record IsStartOf (told : Told) (names : FileNames) (start : State) : Type 0 where
   pub bytes : List ℕ
-  pub is_told : told name ≡ Some bytes
+  pub is_told : told names.first ≡ Some bytes
   pub within : length bytes ≤ MAX_FILE
-  pub read : start_in bytes ≡ Ok start
+  pub begins : Begins names.source bytes start
 
 -- a script that is read
 pub record IsScriptOf (told : Told) (name bytes : List ℕ) : Type 0 where
   pub is_told : told name ≡ Some bytes
   pub within : length bytes ≤ MAX_FILE
 
--- Why a run is refused before its first line: the first file is too long or tells no start, or else the script is too long.
-abbrev pub fault_or : Result State schemas.Fault → Option Cause → Option Cause
-fault_or (Ok start) other = other
-fault_or (Err fault) other = Some (NoSchema fault)
+-- the file of a name is longer than a file may be
+abbrev pub IsLong : Told → List ℕ → Cause → Type 0
+IsLong told name cause = IsSomeAnd (told name) (λ bytes. MAX_FILE < length bytes) × (cause ≡ TooLong name)
 
-abbrev pub refusal_of : Option (List ℕ) → FileNames → Option (List ℕ) → Option Cause
-refusal_of None names script = None
-refusal_of (Some schema) names None =
-    if nat_lt MAX_FILE (length schema) then Some (TooLong names.schema)
-    else fault_or (start_in schema) None
-refusal_of (Some schema) names (Some script) =
-    if nat_lt MAX_FILE (length schema) then Some (TooLong names.schema)
-    else fault_or (start_in schema) (if nat_lt MAX_FILE (length script) then Some (TooLong names.script) else None)
+-- the first file tells no start
+abbrev pub HasNoStart : FileNames → Cause → Told → Type 0
+HasNoStart names cause told = IsSomeAnd (told names.first) (λ bytes. (length bytes ≤ MAX_FILE) × BeginsNot names.source bytes cause)
+
+-- Why a run is refused before its first line: the first file is too long or tells no start, or else the script is too long.
+abbrev pub IsRefused : Told → FileNames → Cause → Type 0
+IsRefused told names cause =
+    IsLong told names.first cause ⊎ HasNoStart names cause told ⊎ ((start : State) × IsStartOf told names start × IsLong told names.script cause)
+
+abbrev pub IsUnrefused : Told → FileNames → Type 0
+IsUnrefused told names = (cause : Cause) → IsRefused told names cause → ⊥
 
 -- the line with a number, counted from 1, and no bytes where there is none
 abbrev pub line_at : List (List ℕ) → ℕ → List ℕ
@@ -159,26 +167,23 @@ abbrev pub Said : Type 0 → Cause → Option (List ℕ) → Option (List ℕ) �
 Said rose cause before now = (rose → ⊥) → now ≡ taking (error_text cause) before
 
 -- why a file of the words wasn't read: a fault, want of memory, or what it holds
-abbrev pub ReadFails : Option Told → List ℕ → Type 0 → Type 0 → (schemas.Fault → Told → Type 0) → Cause → Type 0
+abbrev pub ReadFails : Option Told → List ℕ → Type 0 → Type 0 → (Cause → Told → Type 0) → Cause → Type 0
 ReadFails told name rose sure form Usage = ⊥
 ReadFails told name rose sure form (CannotRead file) = (file ≡ name) × rose × IfSome told (λ t. sure → t name ≡ None)
 ReadFails told name rose sure form CannotWrite = ⊥
 ReadFails told name rose sure form OutOfMemory = ⊤
-ReadFails told name rose sure form (NoSchema fault) = IfSome told (form fault)
+ReadFails told name rose sure form (NoSchema fault) = IfSome told (form (NoSchema fault))
+ReadFails told name rose sure form NoSnapshot = IfSome told (form NoSnapshot)
 ReadFails told name rose sure form (TooLong file) = (file ≡ name) × IfSome told (λ t. IsSomeAnd (t name) (λ bytes. MAX_FILE < length bytes))
 
--- the bytes of a file with this fault of a schema
-abbrev pub IsNoSchema : List ℕ → schemas.Fault → Told → Type 0
-IsNoSchema name fault t = IsSomeAnd (t name) (λ bytes. (length bytes ≤ MAX_FILE) × (start_in bytes ≡ Err fault))
-
-abbrev pub IsNever : schemas.Fault → Told → Type 0
-IsNever fault t = ⊥
+abbrev pub IsNever : Cause → Told → Type 0
+IsNever cause t = ⊥
 
 -- the whole transcript of the script's lines was written, and the run hands back the state at its end
 pub record Finished (told : Told) (names : FileNames) (skipped : List ℕ) (end : Option State) (before now : Option (List ℕ)) : Type 0 where
   pub start : State
   pub script : List ℕ
-  pub start_read : IsStartOf told names.schema start
+  pub start_read : IsStartOf told names start
   pub script_read : IsScriptOf told names.script script
   pub wrote : WroteAll told start skipped (script_lines script) end before now
 
@@ -186,7 +191,7 @@ pub record Finished (told : Told) (names : FileNames) (skipped : List ℕ) (end 
 pub record BrokenOff (told : Told) (names : FileNames) (skipped : List ℕ) (before now : Option (List ℕ)) : Type 0 where
   pub start : State
   pub script : List ℕ
-  pub start_read : IsStartOf told names.schema start
+  pub start_read : IsStartOf told names start
   pub script_read : IsScriptOf told names.script script
   pub wrote : StoppedWriting told start skipped (script_lines script) before now
 
@@ -194,27 +199,27 @@ pub record BrokenOff (told : Told) (names : FileNames) (skipped : List ℕ) (bef
 pub record LineUnread (told : Told) (sure : Type 0) (names : FileNames) (skipped : List ℕ) (name : List ℕ) (before now : Option (List ℕ)) : Type 0 where
   pub start : State
   pub script : List ℕ
-  pub start_read : IsStartOf told names.schema start
+  pub start_read : IsStartOf told names start
   pub script_read : IsScriptOf told names.script script
   pub stopped : StoppedAt told sure start skipped (script_lines script) name before now
 
--- the schema couldn't be read
-pub record SchemaUnread (told : Told) (sure : Type 0) (names : FileNames) (name : List ℕ) (before now : Option (List ℕ)) : Type 0 where
-  pub is_schema : name ≡ names.schema
+-- the first file couldn't be read
+pub record FirstUnread (told : Told) (sure : Type 0) (names : FileNames) (name : List ℕ) (before now : Option (List ℕ)) : Type 0 where
+  pub is_first : name ≡ names.first
   pub nothing : now ≡ before
   pub untold : sure → told name ≡ None
 
--- the script couldn't be read, and the schema was
+-- the script couldn't be read, and the first file was
 pub record ScriptUnread (told : Told) (sure : Type 0) (names : FileNames) (name : List ℕ) (before now : Option (List ℕ)) : Type 0 where
   pub is_script : name ≡ names.script
   pub start : State
-  pub start_read : IsStartOf told names.schema start
+  pub start_read : IsStartOf told names start
   pub nothing : now ≡ before
   pub untold : sure → told name ≡ None
 
 abbrev pub Unread : Told → Type 0 → FileNames → List ℕ → List ℕ → Option (List ℕ) → Option (List ℕ) → Type 0
 Unread told sure names skipped name before now =
-    SchemaUnread told sure names name before now ⊎ ScriptUnread told sure names name before now ⊎ LineUnread told sure names skipped name before now
+    FirstUnread told sure names name before now ⊎ ScriptUnread told sure names name before now ⊎ LineUnread told sure names skipped name before now
 
 -- the file that a line names is told, where it names one
 abbrev pub IsLineTold : Told → Layout → List ℕ → Type 0
@@ -222,6 +227,6 @@ IsLineTold told schema line = IfSome (file_of schema line) (λ name. IsSome (tol
 
 -- each file that the words and the lines name is told
 pub record AllTold (told : Told) (names : FileNames) : Type 0 where
-  pub schema : IsSome (told names.schema)
+  pub first : IsSome (told names.first)
   pub script : IsSome (told names.script)
-  pub lines : (start : State) (script : List ℕ) → IsStartOf told names.schema start → IsScriptOf told names.script script → All (IsLineTold told start.schema) (script_lines script)
+  pub lines : (start : State) (script : List ℕ) → IsStartOf told names start → IsScriptOf told names.script script → All (IsLineTold told start.schema) (script_lines script)

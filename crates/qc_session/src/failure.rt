@@ -21,6 +21,8 @@ pub enum Failure<'a> {
     OutOfMemory,
     /// The bytes of the schema give none, for this cause.
     NoSchema(SchemaRefused),
+    /// The bytes of the snapshot are that of no state.
+    NoSnapshot,
     /// The file of this name has more bytes than a file may have.
     TooLong(&'a str),
 }
@@ -79,7 +81,7 @@ impl<'a> Failure<'a> {
             Failure::CannotRead(_) => 3,
             Failure::CannotWrite => 4,
             Failure::OutOfMemory | Failure::NoSchema(SchemaRefused::Memory) => 5,
-            Failure::NoSchema(_) | Failure::TooLong(_) => 6,
+            Failure::NoSchema(_) | Failure::NoSnapshot | Failure::TooLong(_) => 6,
         }
     }
 
@@ -100,7 +102,7 @@ impl<'a> Failure<'a> {
     {
         match self {
             Failure::Usage => (
-                "usage: qcube run SCHEMA SCRIPT | qcube gen ROWS SEED\n",
+                "usage: qcube run SCHEMA SCRIPT | qcube gen ROWS SEED | qcube open SNAPSHOT SCRIPT\n",
                 "",
                 "",
             ),
@@ -109,6 +111,7 @@ impl<'a> Failure<'a> {
             Failure::OutOfMemory => ("qcube: out of memory\n", "", ""),
             Failure::NoSchema(SchemaRefused::Memory) => ("qcube: out of memory\n", "", ""),
             Failure::NoSchema(_) => ("qcube: schema ", schema_text, "\n"),
+            Failure::NoSnapshot => ("qcube: snapshot refused\n", "", ""),
             Failure::TooLong(name) => ("qcube: ", name, " is too long\n"),
         }
     }

@@ -1,22 +1,23 @@
 // The top call.
-ghost use Rattle.std.specs.Prelude.{◌≡◌, ◌≤◌, ◌<◌, ◌^◌, ◌⊎◌, ◌↔◌, [], Some, None, IfOk, IfErr, IfSome, IsSome, IsNone, IsTrue, is_some, true, MatchOption, length, take};
+ghost use Rattle.std.specs.Prelude.{◌≡◌, ◌≤◌, ◌<◌, ◌^◌, ◌⊎◌, ◌↔◌, [], Some, None, IfOk, IfErr, IfSome, IsNone, IsTrue, is_some, true, MatchOption, length, take};
 ghost use Rattle.cube_defs.specs.declared.limits.TheConstants.{MAX_ROWS};
 ghost use Rattle.qc_io.specs.Outside.{IsOpenAs, Rose, taking};
 ghost use Rattle.qc_session.specs.Lines.{lines_of, script_lines};
 ghost use Rattle.generated_run.specs.Generated.{generated_record, generated_state};
 ghost use Rattle.qc_session.specs.Forms.{IfGen, IfRun, form_of};
-ghost use Rattle.qc_session.specs.Runs.{AllTold, AreSkipped, BrokenOff, Cause, CannotRead, CannotWrite, Finished, IsNever, IsNoSchema, IsScriptOf, IsStartOf, IsStatus, OutOfMemory, ReadFails, Said, StoppedAt, StoppedWriting, Unread, Usage, WroteAll, refusal_of, state_in, status_of};
-ghost use Rattle.warehouse.specs.State.{AreContents, empty};
+ghost use Rattle.qc_session.specs.Runs.{AllTold, AreSkipped, Begins, BeginsNot, BrokenOff, Cause, CannotRead, CannotWrite, Finished, HasNoStart, IsNever, IsRefused, IsScriptOf, IsStartOf, IsStatus, IsUnrefused, OutOfMemory, ReadFails, Said, StoppedAt, StoppedWriting, Unread, Usage, WroteAll, state_in, status_of};
+ghost use Rattle.warehouse.specs.State.{AreContents};
 
 use crate::failure::{Failure, tell};
 use crate::pending::Pending;
 use crate::session::{Session, Stop, take_lines};
-use crate::words::{Form, read_words};
+use crate::words::{Form, Names, Source, read_words};
 use cell_core::Steps;
 use cube_defs::MAX_FILE;
+use cube_snapshot::{DecodeRefused, decode};
 use generated_run::generate;
 use qc_io::{Files, ReadRefused, Sink, read_all, write_all};
-use qc_schema::{Schema, read_schema};
+use qc_schema::read_schema;
 use std::alloc::Global;
 use std::marker::Brand;
 use std::sync::ledger::{Blank, Ledger};
@@ -35,6 +36,7 @@ pub struct Outcome {
 }
 
 ghost use Rattle.qc_session.specs.Failures.{cause_of};
+ghost use Rattle.qc_session.specs.Words.{names_in, source_in};
 
 // How many lines a text has.
 fn count_lines(text: &[u8]) -> usize
@@ -89,22 +91,85 @@ fn read_named<'a, F: Files>(
     }
 }
 
-// Reads the schema that the words name.
-fn read_named_schema<'a, F: Files>(
+// The state that these bytes of the first file tell.
+fn start_of<L: Ledger>(
+    alloc: Global,
+    source: Source,
+    bytes: &[u8],
+    steps: &mut Steps<L>,
+) -> Result<Warehouse, Failure<'static>>
+    requires { length bytes.now ≤ MAX_FILE }
+    ensures begins { IfOk result (λ warehouse. Begins (source_in source) bytes.now warehouse.state) }
+    ensures none { IfErr result (λ f. (cause_of f ≡ OutOfMemory) ⊎ BeginsNot (source_in source) bytes.now (cause_of f)) }
+{
+    match source {
+        Source::FromSchema => {
+            let schema = match read_schema(alloc, bytes) {
+                Ok(schema) => schema,
+                Err(refused) => return Err(Failure::NoSchema(refused)),
+            };
+            match Warehouse::new(alloc, schema) {
+                Ok(warehouse) => Ok(warehouse),
+                Err(_) => Err(Failure::OutOfMemory),
+            }
+        }
+        Source::FromSnapshot => match decode(alloc, bytes, steps) {
+            Ok(warehouse) => Ok(warehouse),
+            Err(DecodeRefused::Memory) => Err(Failure::OutOfMemory),
+            Err(DecodeRefused::Form | DecodeRefused::NodesFull) => Err(Failure::NoSnapshot),
+        },
+    }
+}
+
+// Reads the state at which a run starts, with one count of steps under the blank's name.
+fn read_start<'a, F: Files, L: Ledger>(
     alloc: Global,
     files: &mut F,
-    name: &'a str,
-) -> Result<Schema, Failure<'a>>
+    names: Names<'a>,
+    blank: Blank,
+) -> Result<Warehouse, Failure<'a>>
+    requires name { blank.name ≡ L.name }
+    requires parts { blank.parts ≡ L.parts }
+    requires some { 0 < L.parts }
     ensures later { F.faults files.old ≤ F.faults files.new }
     ensures told { F.told files.new ≡ F.told files.old }
     ensures steady { IsTrue (F.steady files.old) → IsTrue (F.steady files.new) }
-    ensures ok { IfOk result (λ schema. IfSome (F.told files.old) (λ t. IsStartOf t name.now (empty schema))) }
-    ensures open_file { IsOpenAs (F.told files.old) (F.cursor files.new) name.now }
-    ensures err { IfErr result (λ f. ReadFails (F.told files.old) name.now (Rose (F.faults files.old) (F.faults files.new)) (IsTrue (F.steady files.old))
-        (IsNoSchema name.now) (cause_of f)) }
+    ensures ok { IfOk result (λ warehouse. IfSome (F.told files.old) (λ t. IsStartOf t (names_in names.entry) warehouse.state)) }
+    ensures open_file { IsOpenAs (F.told files.old) (F.cursor files.new) names.entry.first.now }
+    ensures err { IfErr result (λ f. ReadFails (F.told files.old) names.entry.first.now (Rose (F.faults files.old) (F.faults files.new))
+        (IsTrue (F.steady files.old)) (HasNoStart (names_in names.entry)) (cause_of f)) }
 {
-    let bytes = read_named(alloc, files, name)?;
-    Ok(read_schema(alloc, &bytes)?)
+    let mut steps = Steps::<L>::start(blank);
+    match read_named(alloc, files, names.first) {
+        Ok(bytes) => match start_of(alloc, names.source, &bytes, &mut steps) {
+            Ok(warehouse) => Ok(warehouse),
+            Err(failure) => Err(failure),
+        },
+        Err(failure) => Err(failure),
+    }
+}
+
+// Reads the script behind the first file, and hands on the warehouse.
+fn read_behind<'a, F: Files>(
+    alloc: Global,
+    files: &mut F,
+    warehouse: Warehouse,
+    name: &'a str,
+) -> Result<(Warehouse, Vec<u8>), Failure<'a>>
+    ensures kept { IfOk result (λ made. made.0 ≡ warehouse) }
+    ensures later { F.faults files.old ≤ F.faults files.new }
+    ensures told { F.told files.new ≡ F.told files.old }
+    ensures steady { IsTrue (F.steady files.old) → IsTrue (F.steady files.new) }
+    ensures ok { IfOk result (λ made. IfSome (F.told files.old) (λ t. IsScriptOf t name.now made.1.items)) }
+    ensures short { IfOk result (λ made. length made.1.items ≤ MAX_FILE) }
+    ensures open_file { IsOpenAs (F.told files.old) (F.cursor files.new) name.now }
+    ensures err { IfErr result (λ f. ReadFails (F.told files.old) name.now (Rose (F.faults files.old) (F.faults files.new))
+        (IsTrue (F.steady files.old)) IsNever (cause_of f)) }
+{
+    match read_named(alloc, files, name) {
+        Ok(script) => Ok((warehouse, script)),
+        Err(failure) => Err(failure),
+    }
 }
 
 // Ends a run at the end of its script.
@@ -135,13 +200,13 @@ fn stopped(status: u8, session: Session) -> Outcome
     }
 }
 
-// Takes the lines of a script over a schema, with one count of steps under the blank's name.
+// Takes the lines of a script from a state on, with one count of steps under the blank's name.
 fn run_script<F: Files, O: Sink, E: Sink, L: Ledger>(
     alloc: Global,
     files: &mut F,
     out: &mut O,
     err: &mut E,
-    schema: Schema,
+    warehouse: Warehouse,
     script: &[u8],
     blank: Blank,
 ) -> Outcome
@@ -152,18 +217,18 @@ fn run_script<F: Files, O: Sink, E: Sink, L: Ledger>(
     ensures known { (result.status ≡ 0) ⊎ (result.status ≡ 3) ⊎ (result.status ≡ 4) ⊎ (result.status ≡ 5) }
     ensures skipped { AreSkipped (script_lines script.now) result.skipped.items }
     ensures all { result.status ≡ 0 → IfSome (F.told files.old)
-        (λ t. WroteAll t (empty schema) result.skipped.items (script_lines script.now) (state_in result.end) (O.taken out.old) (O.taken out.new)) }
+        (λ t. WroteAll t warehouse.state result.skipped.items (script_lines script.now) (state_in result.end) (O.taken out.old) (O.taken out.new)) }
     ensures held { IfSome result.end AreContents }
     ensures there { result.status ≡ 0 → is_some result.end ≡ true }
     ensures none { (result.status ≡ 0 → ⊥) → result.end ≡ None }
     ensures silent { result.status ≡ 0 → err.new ≡ err.old }
     ensures read_fault { result.status ≡ 3 → Rose (F.faults files.old) (F.faults files.new) }
     ensures unread { result.status ≡ 3 → IfSome (F.told files.old) (λ t. (name : List ℕ)
-        × StoppedAt t (IsTrue (F.steady files.old)) (empty schema) result.skipped.items (script_lines script.now) name (O.taken out.old) (O.taken out.new)
+        × StoppedAt t (IsTrue (F.steady files.old)) warehouse.state result.skipped.items (script_lines script.now) name (O.taken out.old) (O.taken out.new)
         × Said (Rose (E.faults err.old) (E.faults err.new)) (CannotRead name) (E.taken err.old) (E.taken err.new)) }
     ensures write_fault { result.status ≡ 4 → Rose (O.faults out.old) (O.faults out.new) }
     ensures broken { result.status ≡ 4 → IfSome (F.told files.old)
-        (λ t. StoppedWriting t (empty schema) result.skipped.items (script_lines script.now) (O.taken out.old) (O.taken out.new)) }
+        (λ t. StoppedWriting t warehouse.state result.skipped.items (script_lines script.now) (O.taken out.old) (O.taken out.new)) }
     ensures said_write { result.status ≡ 4 → Said (Rose (E.faults err.old) (E.faults err.new)) CannotWrite (E.taken err.old) (E.taken err.new) }
     ensures unbegun { result.status ≡ 5 → F.cursor files.new ≡ F.cursor files.old }
     ensures nothing { result.status ≡ 5 → (O.taken out.new ≡ O.taken out.old) × (result.skipped.items ≡ []) }
@@ -171,9 +236,6 @@ fn run_script<F: Files, O: Sink, E: Sink, L: Ledger>(
 {
     let script = trim_mark(script);
     let Ok(skipped) = Vec::with_capacity(alloc, count_lines(script)) else {
-        return fail(alloc, err, &Failure::OutOfMemory);
-    };
-    let Ok(warehouse) = Warehouse::new(alloc, schema) else {
         return fail(alloc, err, &Failure::OutOfMemory);
     };
     let Ok(pending) = Pending::new(alloc) else {
@@ -256,14 +318,15 @@ fn run_generated<O: Sink, E: Sink, L: Ledger>(
 ghost use Rattle.std.specs.Prelude.{List, ℕ};
 
 /// Runs `qcube` with these words: `run SCHEMA SCRIPT` reads a schema, and then takes the lines of a
-/// script in order, each with its reply on `out`; `gen ROWS SEED` draws so many rows and the batches
-/// that follow them from the seed, and writes one record on `out`.
+/// script in order, each with its reply on `out`; `open SNAPSHOT SCRIPT` does the same from the state
+/// whose snapshot it reads; `gen ROWS SEED` draws so many rows and the batches that follow them from
+/// the seed, and writes one record on `out`.
 ///
 /// Status 0 says that the script was read to its end, or the record written. Status 2: the words are
 /// no listed form. Status 3: a file couldn't be read. Status 4: a reply couldn't be written. Status 5:
 /// memory ran out before the first line, or anywhere in a generated run. Status 6: the schema's text
-/// is none, or the schema or the script has more than 268,435,456 bytes. `err` gets one line at each
-/// status but 0.
+/// is none, the bytes of the snapshot are that of no state, or one of the two files has more than
+/// 268,435,456 bytes. `err` gets one line at each status but 0.
 ///
 /// A line that finds no memory changes nothing; its number is put into `skipped`, and its reply says so.
 pub fn run<F: Files, O: Sink, E: Sink>(
@@ -305,23 +368,23 @@ pub fn run<F: Files, O: Sink, E: Sink>(
     // Status 5 and 6: nothing was begun.
     ensures nothing { (result.status ≡ 5) ⊎ (result.status ≡ 6) → (O.taken out.new ≡ O.taken out.old) × (result.skipped.items ≡ []) }
     ensures unbegun { result.status ≡ 5 → IfRun (form_of words.now) (λ names.
-        IsOpenAs (F.told files.old) (F.cursor files.new) names.schema ⊎ IsOpenAs (F.told files.old) (F.cursor files.new) names.script) }
+        IsOpenAs (F.told files.old) (F.cursor files.new) names.first ⊎ IsOpenAs (F.told files.old) (F.cursor files.new) names.script) }
     ensures said_memory { result.status ≡ 5 → Said (Rose (E.faults err.old) (E.faults err.new)) OutOfMemory (E.taken err.old) (E.taken err.new) }
     ensures refused { result.status ≡ 6 → IfRun (form_of words.now) (λ names. IfSome (F.told files.old) (λ t. (cause : Cause)
-        × (refusal_of (t names.schema) names (t names.script) ≡ Some cause)
+        × IsRefused t names cause
         × Said (Rose (E.faults err.old) (E.faults err.new)) cause (E.taken err.old) (E.taken err.new))) }
 
     // A refused schema or script ends with 6, unless memory or a fault came first. All else is carried out.
     ensures refusal { IfRun (form_of words.now) (λ names. IfSome (F.told files.old) (λ t.
-        IsSome (refusal_of (t names.schema) names (t names.script)) → (result.status ≡ 6) ⊎ (result.status ≡ 5) ⊎ (result.status ≡ 3))) }
+        (cause : Cause) → IsRefused t names cause → (result.status ≡ 6) ⊎ (result.status ≡ 5) ⊎ (result.status ≡ 3))) }
     ensures complete { IfRun (form_of words.now) (λ names. IfSome (F.told files.old) (λ t.
-        IsNone (refusal_of (t names.schema) names (t names.script))
+        IsUnrefused t names
         → (Rose (F.faults files.old) (F.faults files.new) → ⊥) → (Rose (O.faults out.old) (O.faults out.new) → ⊥)
         → (result.status ≡ 0) ⊎ (result.status ≡ 5))) }
     ensures found { IsTrue (F.steady files.old) → IfRun (form_of words.now)
         (λ names. IfSome (F.told files.old) (λ t. AllTold t names → result.status ≡ 3 → ⊥)) }
     ensures complete_steady { IsTrue (F.steady files.old) → IfRun (form_of words.now) (λ names. IfSome (F.told files.old) (λ t.
-        AllTold t names → IsNone (refusal_of (t names.schema) names (t names.script))
+        AllTold t names → IsUnrefused t names
         → (Rose (O.faults out.old) (O.faults out.new) → ⊥) → (result.status ≡ 0) ⊎ (result.status ≡ 5))) }
 
     // The words `gen ROWS SEED`: the record of the generated state, and no other status.
@@ -333,20 +396,20 @@ pub fn run<F: Files, O: Sink, E: Sink>(
     ensures gen_front { result.status ≡ 4 → IfGen (form_of words.now) (λ drawing. (n : ℕ)
         × (O.taken out.new ≡ taking (take n (generated_record drawing.rows drawing.seed)) (O.taken out.old))) }
 {
-    let (schema_name, script_name) = match read_words(words) {
-        Form::Run(schema_name, script_name) => (schema_name, script_name),
+    let names = match read_words(words) {
+        Form::Run(names) => names,
         Form::Gen(rows, seed) => {
             return run_generated::<O, E, Brand>(alloc, out, err, rows, seed, Blank::new(1));
         }
         Form::Unlisted => return fail(alloc, err, &Failure::Usage),
     };
-    let schema = match read_named_schema(alloc, files, schema_name) {
-        Ok(schema) => schema,
+    let warehouse = match read_start::<F, Brand>(alloc, files, names, Blank::new(1)) {
+        Ok(warehouse) => warehouse,
         Err(failure) => return fail(alloc, err, &failure),
     };
-    let script = match read_named(alloc, files, script_name) {
-        Ok(script) => script,
+    let (warehouse, script) = match read_behind(alloc, files, warehouse, names.script) {
+        Ok(made) => made,
         Err(failure) => return fail(alloc, err, &failure),
     };
-    run_script::<F, O, E, Brand>(alloc, files, out, err, schema, &script, Blank::new(1))
+    run_script::<F, O, E, Brand>(alloc, files, out, err, warehouse, &script, Blank::new(1))
 }

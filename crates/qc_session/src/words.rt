@@ -6,11 +6,28 @@ ghost use Rattle.qc_session.specs.Forms.{drawing_of, form_of};
 use aggregates::read_id;
 use cube_defs::MAX_ROWS;
 
+/// How the first file tells the state at which a run starts.
+#[derive(Clone, Copy, Debug, PartialEq, Eq)]
+pub enum Source {
+    /// It is a schema. There are no rows.
+    FromSchema,
+    /// It is the snapshot of the state.
+    FromSnapshot,
+}
+
+/// The names of the first file and of the script, and what the first is.
+#[derive(Clone, Copy, Debug)]
+pub struct Names<'a> {
+    pub source: Source,
+    pub first: &'a str,
+    pub script: &'a str,
+}
+
 /// A form of the words.
 #[derive(Clone, Copy, Debug)]
 pub enum Form<'a> {
-    /// `run SCHEMA SCRIPT`: the names of a schema and of a script.
-    Run(&'a str, &'a str),
+    /// `run SCHEMA SCRIPT` or `open SNAPSHOT SCRIPT`: the names of two files.
+    Run(Names<'a>),
     /// `gen ROWS SEED`: how many rows, and the seed from which they are drawn.
     Gen(u32, u64),
     /// The words are no listed form.
@@ -38,10 +55,16 @@ pub fn read_words(words: &[String]) -> Form<'_>
     ensures few { HasFewRows result }
 {
     match words {
-        [word, schema, script] if word.as_str() == "run" => Form::Run(
-            schema.as_str(),
-            script.as_str(),
-        ),
+        [word, first, script] if word.as_str() == "run" => Form::Run(Names {
+            source: Source::FromSchema,
+            first: first.as_str(),
+            script: script.as_str(),
+        }),
+        [word, first, script] if word.as_str() == "open" => Form::Run(Names {
+            source: Source::FromSnapshot,
+            first: first.as_str(),
+            script: script.as_str(),
+        }),
         [word, rows, seed] if word.as_str() == "gen" => read_numbers(rows.as_str(), seed.as_str()),
         _ => Form::Unlisted,
     }

@@ -6,7 +6,8 @@ use outside_tests::runs::{run_over, sink};
 use std::alloc::{AllocError, Global};
 use std::test::Fail;
 
-const USAGE: &[u8] = b"usage: qcube run SCHEMA SCRIPT | qcube gen ROWS SEED\n";
+const USAGE: &[u8] =
+    b"usage: qcube run SCHEMA SCRIPT | qcube gen ROWS SEED | qcube open SNAPSHOT SCRIPT\n";
 
 // The words, the writes to out that fail, the status, and what out and err take.
 type Case = (
