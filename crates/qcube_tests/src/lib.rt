@@ -12,4 +12,6 @@ mod many;
 #[cfg(test)]
 mod scripts;
 #[cfg(test)]
+mod snapshots;
+#[cfg(test)]
 mod worked;
