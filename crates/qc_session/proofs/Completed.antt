@@ -2,8 +2,8 @@
 use Rattle.std.proofs.Common.{◌≡◌, ◌⊎◌, ℕ, List, Option, Some, None, IfSome, arith, inl, inr, refl}
 use Rattle.std.specs.Prelude.{⊤}
 use Rattle.qc_io.specs.Outside.{Told}
-use Rattle.qc_session.specs.Forms.{FileNames, Form, Gen, IfRun, Run}
-use Rattle.qc_session.specs.Runs.{AllTold, CannotRead, CannotWrite, Cause, IsRefused, IsUnrefused, NoSchema, NoSnapshot, OutOfMemory, ReadFails, TooLong, Usage, status_of}
+use Rattle.qc_session.specs.Forms.{FileNames, Form, Gen, IfRun, Pack, Run}
+use Rattle.qc_session.specs.Runs.{AllTold, CannotRead, CannotWrite, Cause, IsRefused, IsUnrefused, LongSnapshot, NoSchema, NoSnapshot, OutOfMemory, ReadFails, TooLong, Usage, status_of}
 
 -- the statuses of a run of a script
 abbrev pub IsRunStatus : ℕ → Type 0
@@ -16,6 +16,7 @@ unread-status told name rose sure form CannotWrite h = absurd h
 unread-status told name rose sure form OutOfMemory h = inr (inr (inr (inl refl)))
 unread-status told name rose sure form (NoSchema fault) h = inr (inr (inr (inr refl)))
 unread-status told name rose sure form NoSnapshot h = inr (inr (inr (inr refl)))
+unread-status told name rose sure form LongSnapshot h = absurd h
 unread-status told name rose sure form (TooLong file) h = inr (inr (inr (inr refl)))
 
 pub unread-rose : (told : Option Told) (name : List ℕ) (rose sure : Type 0) (form : Cause → Told → Type 0) (cause : Cause) → ReadFails told name rose sure form cause → status_of cause ≡ 3 → rose
@@ -25,6 +26,7 @@ unread-rose told name rose sure form CannotWrite h e = absurd h
 unread-rose told name rose sure form OutOfMemory h e = absurd (omega (arith, e))
 unread-rose told name rose sure form (NoSchema fault) h e = absurd (omega (arith, e))
 unread-rose told name rose sure form NoSnapshot h e = absurd (omega (arith, e))
+unread-rose told name rose sure form LongSnapshot h e = absurd h
 unread-rose told name rose sure form (TooLong file) h e = absurd (omega (arith, e))
 
 pub never-written : (told : Option Told) (name : List ℕ) (rose sure : Type 0) (form : Cause → Told → Type 0) (cause : Cause) → ReadFails told name rose sure form cause → status_of cause ≡ 4 → ⊥
@@ -34,6 +36,7 @@ never-written told name rose sure form CannotWrite h e = absurd h
 never-written told name rose sure form OutOfMemory h e = absurd (omega (arith, e))
 never-written told name rose sure form (NoSchema fault) h e = absurd (omega (arith, e))
 never-written told name rose sure form NoSnapshot h e = absurd (omega (arith, e))
+never-written told name rose sure form LongSnapshot h e = absurd h
 never-written told name rose sure form (TooLong file) h e = absurd (omega (arith, e))
 
 script-status : (status : ℕ) → ((status ≡ 0) ⊎ (status ≡ 3) ⊎ (status ≡ 4) ⊎ (status ≡ 5)) → IsRunStatus status
@@ -53,6 +56,7 @@ pub complete-steady : (form : Option Form) (told : Option Told) (status : ℕ) (
     → (status ≡ 6 → IfRun form (λ names. IfSome told (λ t. (cause : Cause) × IsRefused t names cause × Told_err cause)))
     → IfRun form (λ names. IfSome told (λ t. AllTold t names → IsUnrefused t names → (out → ⊥) → (status ≡ 0) ⊎ (status ≡ 5)))
 complete-steady None told status out Told_err known wrote found refused = tt
+complete-steady (Some (Pack names)) told status out Told_err known wrote found refused = tt
 complete-steady (Some (Gen drawing)) told status out Told_err known wrote found refused = tt
 complete-steady (Some (Run names)) None status out Told_err known wrote found refused = tt
 complete-steady (Some (Run names)) (Some t) status out Told_err known wrote found refused = λ all fine quiet. go all fine quiet known
@@ -69,6 +73,7 @@ pub complete-early : (form : Option Form) (told : Option Told) (status : ℕ) (f
     → (status ≡ 6 → IfRun form (λ names. IfSome told (λ t. (cause : Cause) × IsRefused t names cause × Told_err cause)))
     → IfRun form (λ names. IfSome told (λ t. IsUnrefused t names → (files → ⊥) → (out → ⊥) → (status ≡ 0) ⊎ (status ≡ 5)))
 complete-early None told status files out Told_err known read wrote refused = tt
+complete-early (Some (Pack names)) told status files out Told_err known read wrote refused = tt
 complete-early (Some (Gen drawing)) told status files out Told_err known read wrote refused = tt
 complete-early (Some (Run names)) None status files out Told_err known read wrote refused = tt
 complete-early (Some (Run names)) (Some t) status files out Told_err known read wrote refused = λ fine no_files no_out. go fine no_files no_out known

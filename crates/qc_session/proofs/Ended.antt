@@ -57,7 +57,7 @@ not-both FromSnapshot bytes start cause (is, valid) (none, why) = none start val
 not-long : (t : Told) (name bytes : List ℕ) (cause : Cause) → t name ≡ Some bytes → length bytes ≤ MAX_FILE → IsLong t name cause → ⊥
 not-long t name bytes cause is within long = let more = rw is at long.0 in omega (arith, more, within)
 
-unrefused : (t : Told) (names : FileNames) (start : State) (script : List ℕ) → IsStartOf t names start → IsScriptOf t names.script script → IsUnrefused t names
+pub unrefused : (t : Told) (names : FileNames) (start : State) (script : List ℕ) → IsStartOf t names start → IsScriptOf t names.script script → IsUnrefused t names
 unrefused t names start script is is_script cause (inl long) = not-long t names.first is.bytes cause is.is_told is.within long
 unrefused t names start script is is_script cause (inr (inl none)) = let why = rw is.is_told at none in not-both names.source is.bytes start cause is.begins why.1
 unrefused t names start script is is_script cause (inr (inr (other, other_is, long))) = not-long t names.script script cause is_script.is_told is_script.within long

@@ -4,7 +4,7 @@ use Rattle.std.specs.Prelude.{IsSome}
 use Rattle.std.specs.List.{AllByRecursion}
 use Rattle.std.proofs.lemmas.List.Elements.{recursion_from_All}
 use Rattle.qc_io.specs.Outside.{Told}
-use Rattle.qc_session.specs.Forms.{Form, Gen, IfRun, FileNames, Run}
+use Rattle.qc_session.specs.Forms.{Form, Gen, IfRun, FileNames, Pack, Run}
 use Rattle.qc_session.specs.Lines.{script_lines}
 use Rattle.qc_session.specs.Answers.{file_of}
 use Rattle.qc_session.specs.Runs.{AllTold, CannotRead, IsLineTold, LineUnread, Said, Unread}
@@ -41,6 +41,7 @@ pub found-all : (form : Option Form) (told : Option Told) (sure rose ends : Type
     → (ends → IfRun form (λ names. IfSome told (λ t. (name : List ℕ) × Unread t sure names skipped name before now × Said rose (CannotRead name) err err2)))
     → IfRun form (λ names. IfSome told (λ t. AllTold t names → ends → ⊥))
 found-all None told sure rose ends skipped before now err err2 surely h = tt
+found-all (Some (Pack names)) told sure rose ends skipped before now err err2 surely h = tt
 found-all (Some (Gen drawing)) told sure rose ends skipped before now err err2 surely h = tt
 found-all (Some (Run names)) None sure rose ends skipped before now err err2 surely h = tt
 found-all (Some (Run names)) (Some t) sure rose ends skipped before now err err2 surely h = λ all is.

@@ -9,6 +9,7 @@ mod Found
 mod Handed
 mod Measured
 mod Named
+mod Packed
 mod Pointed
 mod Recoded
 mod Refusals

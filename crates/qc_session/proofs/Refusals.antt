@@ -3,7 +3,7 @@ use Rattle.std.proofs.Common.{◌≡◌, ◌≤◌, ◌<◌, ℕ, List, refl, Op
 use Rattle.qc_io.specs.Outside.{Told}
 use Rattle.qc_schema.specs.Progress.{Fault}
 use Rattle.qc_session.specs.Lines.{script_lines}
-use Rattle.qc_session.specs.Runs.{Cause, Usage, CannotRead, CannotWrite, HasNoStart, IsRefused, OutOfMemory, NoSchema, NoSnapshot, TooLong, IsNever, IsStartOf, IsScriptOf, StoppedAt, ReadFails, Said, Unread, status_of}
+use Rattle.qc_session.specs.Runs.{Cause, Usage, CannotRead, CannotWrite, HasNoStart, IsRefused, OutOfMemory, LongSnapshot, NoSchema, NoSnapshot, TooLong, IsNever, IsStartOf, IsScriptOf, StoppedAt, ReadFails, Said, Unread, status_of}
 use Rattle.qc_session.specs.Forms.{FileNames}
 use Rattle.warehouse.specs.State.{State}
 
@@ -18,6 +18,7 @@ unread-first told names rose sure r CannotWrite skipped before now err err2 h is
 unread-first told names rose sure r OutOfMemory skipped before now err err2 h is same said = absurd (omega (arith, is))
 unread-first told names rose sure r (NoSchema fault) skipped before now err err2 h is same said = absurd (omega (arith, is))
 unread-first told names rose sure r NoSnapshot skipped before now err err2 h is same said = absurd (omega (arith, is))
+unread-first told names rose sure r LongSnapshot skipped before now err err2 h is same said = absurd h
 unread-first told names rose sure r (TooLong file) skipped before now err err2 h is same said = absurd (omega (arith, is))
 
 pub refused-first : (told : Option Told) (names : FileNames) (rose sure r : Type 0) (cause : Cause) (err err2 : Option (List ℕ))
@@ -31,6 +32,7 @@ refused-first None names rose sure r (NoSchema fault) err err2 h is said = tt
 refused-first (Some t) names rose sure r (NoSchema fault) err err2 h is said = (NoSchema fault, inr (inl h), said)
 refused-first None names rose sure r NoSnapshot err err2 h is said = tt
 refused-first (Some t) names rose sure r NoSnapshot err err2 h is said = (NoSnapshot, inr (inl h), said)
+refused-first told names rose sure r LongSnapshot err err2 h is said = absurd h
 refused-first None names rose sure r (TooLong file) err err2 h is said = tt
 refused-first (Some t) names rose sure r (TooLong file) err err2 h is said = (TooLong names.first, inl (h.1, refl), rw h.0 at said)
 
@@ -46,6 +48,7 @@ unread-script told names start rose sure sure2 r CannotWrite skipped before now 
 unread-script told names start rose sure sure2 r OutOfMemory skipped before now err err2 is_read surer h is same said = absurd (omega (arith, is))
 unread-script told names start rose sure sure2 r (NoSchema fault) skipped before now err err2 is_read surer h is same said = absurd (omega (arith, is))
 unread-script told names start rose sure sure2 r NoSnapshot skipped before now err err2 is_read surer h is same said = absurd (omega (arith, is))
+unread-script told names start rose sure sure2 r LongSnapshot skipped before now err err2 is_read surer h is same said = absurd h
 unread-script told names start rose sure sure2 r (TooLong file) skipped before now err err2 is_read surer h is same said = absurd (omega (arith, is))
 
 pub refused-script : (told : Option Told) (names : FileNames) (start : State) (rose sure r : Type 0) (cause : Cause) (err err2 : Option (List ℕ))
@@ -60,6 +63,7 @@ refused-script None names start rose sure r (NoSchema fault) err err2 is_read h 
 refused-script (Some t) names start rose sure r (NoSchema fault) err err2 is_read h is said = absurd h
 refused-script None names start rose sure r NoSnapshot err err2 is_read h is said = tt
 refused-script (Some t) names start rose sure r NoSnapshot err err2 is_read h is said = absurd h
+refused-script told names start rose sure r LongSnapshot err err2 is_read h is said = absurd h
 refused-script None names start rose sure r (TooLong file) err err2 is_read h is said = tt
 refused-script (Some t) names start rose sure r (TooLong file) err err2 is_read h is said =
     (TooLong names.script, inr (inr (start, is_read, (h.1, refl))), rw h.0 at said)

@@ -18,6 +18,7 @@ cause_of failures.CannotWrite = runs.CannotWrite
 cause_of failures.OutOfMemory = runs.OutOfMemory
 cause_of (failures.NoSchema refused) = schema_cause (schema_fault_in refused)
 cause_of failures.NoSnapshot = runs.NoSnapshot
+cause_of failures.LongSnapshot = runs.LongSnapshot
 cause_of (failures.TooLong name) = runs.TooLong name.now
 
 -- a text that tells the fault of a schema, where there is one

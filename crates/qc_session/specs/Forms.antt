@@ -21,9 +21,10 @@ pub record Drawing : Type 0 where
   pub rows : ℕ
   pub seed : ℕ
 
--- a listed form: `run SCHEMA SCRIPT` or `open SNAPSHOT SCRIPT`, or `gen ROWS SEED`
+-- a listed form: `run SCHEMA SCRIPT` or `open SNAPSHOT SCRIPT`, `pack SCHEMA SCRIPT`, or `gen ROWS SEED`
 pub data Form : Type 0 where
   Run : FileNames → Form
+  Pack : FileNames → Form
   Gen : Drawing → Form
 
 -- from one row to the most that a cube may have; the numbers are there where the words are decimal digits alone, of a value below 2 ^ 64
@@ -40,18 +41,28 @@ form_of (a ∷ b ∷ []) = None
 form_of (a ∷ b ∷ c ∷ []) =
     if bytes_eq (string_bytes a) (codes "run") then Some (Run (record { source = FromSchema; first = string_bytes b; script = string_bytes c }))
     else if bytes_eq (string_bytes a) (codes "open") then Some (Run (record { source = FromSnapshot; first = string_bytes b; script = string_bytes c }))
+    else if bytes_eq (string_bytes a) (codes "pack") then Some (Pack (record { source = FromSchema; first = string_bytes b; script = string_bytes c }))
     else if bytes_eq (string_bytes a) (codes "gen") then drawing_of (id_in (string_bytes b)) (id_in (string_bytes c))
     else None
 form_of (a ∷ b ∷ c ∷ d ∷ more) = None
 
--- a fact of the two names, where the form is that of a run
+-- a fact of the two names, where the form is that of a run with its replies
 abbrev pub IfRun : Option Form → (FileNames → Type 0) → Type 0
 IfRun None P = ⊤
 IfRun (Some (Run names)) P = P names
+IfRun (Some (Pack names)) P = ⊤
 IfRun (Some (Gen drawing)) P = ⊤
+
+-- a fact of the two names, where the form is that of a run for its snapshot
+abbrev pub IfPack : Option Form → (FileNames → Type 0) → Type 0
+IfPack None P = ⊤
+IfPack (Some (Run names)) P = ⊤
+IfPack (Some (Pack names)) P = P names
+IfPack (Some (Gen drawing)) P = ⊤
 
 -- a fact of the two numbers, where the form is that of a generated run
 abbrev pub IfGen : Option Form → (Drawing → Type 0) → Type 0
 IfGen None P = ⊤
 IfGen (Some (Run names)) P = ⊤
+IfGen (Some (Pack names)) P = ⊤
 IfGen (Some (Gen drawing)) P = P drawing

@@ -9,3 +9,5 @@ pub mod Session
 pub mod Failures
 pub mod Forms
 pub mod Words
+pub mod Quiet
+pub mod Packs

@@ -1,5 +1,5 @@
 -- How a run ends.
-use Rattle.std.specs.Prelude.{◌≡◌, ◌≢◌, ◌≤◌, ◌<◌, ◌&&◌, ◌⊎◌, ◌++◌, ℕ, zero, suc, Bool, true, not, List, [], ◌∷◌, length, take, Option, Some, None, IfSome, IsSome, IsSomeAnd, codes, slice_index_or, decimal, Result, Ok, Err, nat_lt, option_map, ⊤, if◌then◌else◌}
+use Rattle.std.specs.Prelude.{◌≡◌, ◌≢◌, ◌≤◌, ◌<◌, ◌&&◌, ◌⊎◌, ◌++◌, ℕ, zero, suc, Bool, true, not, List, [], ◌∷◌, length, take, Option, Some, None, IfSome, IsSome, IsSomeAnd, codes, slice_index_or, decimal, Result, Ok, Err, option_map, ⊤}
 use Rattle.std.specs.List.{All, AllByRecursion}
 use Rattle.cube_defs.specs.declared.limits.TheConstants.{MAX_FILE}
 use Rattle.qc_io.specs.Outside.{Told, taking}
@@ -27,6 +27,7 @@ pub data Cause : Type 0 where
   OutOfMemory : Cause
   NoSchema : schemas.Fault → Cause
   NoSnapshot : Cause
+  LongSnapshot : Cause
   TooLong : List ℕ → Cause
 
 abbrev pub status_of : Cause → ℕ
@@ -36,6 +37,7 @@ status_of CannotWrite = 4
 status_of OutOfMemory = 5
 status_of (NoSchema fault) = 6
 status_of NoSnapshot = 6
+status_of LongSnapshot = 6
 status_of (TooLong name) = 6
 
 abbrev pub cause_text : SchemaCause → List ℕ
@@ -53,12 +55,13 @@ fault_text (schemas.Line line cause) = codes "line " ++ decimal line ++ codes ":
 
 -- the line that tells it
 abbrev pub error_text : Cause → List ℕ
-error_text Usage = codes "usage: qcube run SCHEMA SCRIPT | qcube gen ROWS SEED | qcube open SNAPSHOT SCRIPT\n"
+error_text Usage = codes "usage: qcube run SCHEMA SCRIPT | qcube gen ROWS SEED | qcube pack SCHEMA SCRIPT | qcube open SNAPSHOT SCRIPT\n"
 error_text (CannotRead name) = codes "qcube: cannot read " ++ name ++ 10 ∷ []
 error_text CannotWrite = codes "qcube: cannot write\n"
 error_text OutOfMemory = codes "qcube: out of memory\n"
 error_text (NoSchema fault) = codes "qcube: schema " ++ fault_text fault ++ 10 ∷ []
 error_text NoSnapshot = codes "qcube: snapshot refused\n"
+error_text LongSnapshot = codes "qcube: snapshot is too long\n"
 error_text (TooLong name) = codes "qcube: " ++ name ++ codes " is too long\n"
 
 -- these bytes of the first file tell this start: they are a schema, and there are no rows; or they are its snapshot
@@ -174,6 +177,7 @@ ReadFails told name rose sure form CannotWrite = ⊥
 ReadFails told name rose sure form OutOfMemory = ⊤
 ReadFails told name rose sure form (NoSchema fault) = IfSome told (form (NoSchema fault))
 ReadFails told name rose sure form NoSnapshot = IfSome told (form NoSnapshot)
+ReadFails told name rose sure form LongSnapshot = ⊥
 ReadFails told name rose sure form (TooLong file) = (file ≡ name) × IfSome told (λ t. IsSomeAnd (t name) (λ bytes. MAX_FILE < length bytes))
 
 abbrev pub IsNever : Cause → Told → Type 0

@@ -17,11 +17,13 @@ names_in names = record { source = source_in names.source; first = names.first.n
 
 abbrev pub form_in : Form → Option forms.Form
 form_in (declared.Run names) = Some (forms.Run (names_in names))
+form_in (declared.Pack names) = Some (forms.Pack (names_in names))
 form_in (declared.Gen rows seed) = Some (forms.Gen (record { rows = rows; seed = seed }))
 form_in declared.Unlisted = None
 
 -- no more rows than a cube may have
 abbrev pub HasFewRows : Form → Type 0
 HasFewRows (declared.Run names) = ⊤
+HasFewRows (declared.Pack names) = ⊤
 HasFewRows (declared.Gen rows seed) = rows ≤ MAX_ROWS
 HasFewRows declared.Unlisted = ⊤

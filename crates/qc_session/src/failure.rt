@@ -23,6 +23,8 @@ pub enum Failure<'a> {
     NoSchema(SchemaRefused),
     /// The bytes of the snapshot are that of no state.
     NoSnapshot,
+    /// The snapshot has more bytes than a file may have.
+    LongSnapshot,
     /// The file of this name has more bytes than a file may have.
     TooLong(&'a str),
 }
@@ -81,7 +83,10 @@ impl<'a> Failure<'a> {
             Failure::CannotRead(_) => 3,
             Failure::CannotWrite => 4,
             Failure::OutOfMemory | Failure::NoSchema(SchemaRefused::Memory) => 5,
-            Failure::NoSchema(_) | Failure::NoSnapshot | Failure::TooLong(_) => 6,
+            Failure::NoSchema(_)
+            | Failure::NoSnapshot
+            | Failure::LongSnapshot
+            | Failure::TooLong(_) => 6,
         }
     }
 
@@ -102,7 +107,7 @@ impl<'a> Failure<'a> {
     {
         match self {
             Failure::Usage => (
-                "usage: qcube run SCHEMA SCRIPT | qcube gen ROWS SEED | qcube open SNAPSHOT SCRIPT\n",
+                "usage: qcube run SCHEMA SCRIPT | qcube gen ROWS SEED | qcube pack SCHEMA SCRIPT | qcube open SNAPSHOT SCRIPT\n",
                 "",
                 "",
             ),
@@ -112,6 +117,7 @@ impl<'a> Failure<'a> {
             Failure::NoSchema(SchemaRefused::Memory) => ("qcube: out of memory\n", "", ""),
             Failure::NoSchema(_) => ("qcube: schema ", schema_text, "\n"),
             Failure::NoSnapshot => ("qcube: snapshot refused\n", "", ""),
+            Failure::LongSnapshot => ("qcube: snapshot is too long\n", "", ""),
             Failure::TooLong(name) => ("qcube: ", name, " is too long\n"),
         }
     }

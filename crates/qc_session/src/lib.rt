@@ -9,6 +9,7 @@ mod lattice;
 mod lines;
 mod pending;
 mod point;
+mod quiet;
 mod range;
 mod scripts;
 mod session;

@@ -1,27 +1,29 @@
 // The top call.
-ghost use Rattle.std.specs.Prelude.{◌≡◌, ◌≤◌, ◌<◌, ◌^◌, ◌⊎◌, ◌↔◌, [], Some, None, IfOk, IfErr, IfSome, IsNone, IsTrue, is_some, true, MatchOption, length, take};
+ghost use Rattle.std.specs.Prelude.{◌≡◌, ◌≤◌, ◌<◌, ◌⊎◌, ◌↔◌, ℕ, List, [], Some, None, IfOk, IfErr, IfSome, IsNone, IsTrue, is_some, true, MatchOption, length, take};
 ghost use Rattle.cube_defs.specs.declared.limits.TheConstants.{MAX_ROWS};
 ghost use Rattle.qc_io.specs.Outside.{IsOpenAs, Rose, taking};
-ghost use Rattle.qc_session.specs.Lines.{lines_of, script_lines};
+ghost use Rattle.qc_session.specs.Lines.{script_lines};
 ghost use Rattle.generated_run.specs.Generated.{generated_record, generated_state};
-ghost use Rattle.qc_session.specs.Forms.{IfGen, IfRun, form_of};
-ghost use Rattle.qc_session.specs.Runs.{AllTold, AreSkipped, Begins, BeginsNot, BrokenOff, Cause, CannotRead, CannotWrite, Finished, HasNoStart, IsNever, IsRefused, IsScriptOf, IsStartOf, IsStatus, IsUnrefused, OutOfMemory, ReadFails, Said, StoppedAt, StoppedWriting, Unread, Usage, WroteAll, state_in, status_of};
+ghost use Rattle.qc_session.specs.Forms.{IfGen, IfPack, IfRun, form_of};
+ghost use Rattle.qc_session.specs.Runs.{AllTold, AreSkipped, Begins, BeginsNot, BrokenOff, Cause, CannotRead, CannotWrite, Finished, HasNoStart, IsNever, IsRefused, IsScriptOf, IsStartOf, IsStatus, IsUnrefused, LongSnapshot, OutOfMemory, ReadFails, Said, StoppedAt, StoppedWriting, Unread, Usage, WroteAll, state_in, status_of};
+ghost use Rattle.qc_session.specs.Packs.{IsPackRefused, IsPackStatus, IsPackUnrefused, LeadsTooFar, Packed, PackedFront, WroteSnapshot, WroteSnapshotFront};
+ghost use Rattle.cube_snapshot.specs.States.{spelling};
 ghost use Rattle.warehouse.specs.State.{AreContents};
 
 use crate::failure::{Failure, tell};
-use crate::pending::Pending;
-use crate::session::{Session, Stop, take_lines};
+use crate::quiet::{QuietStop, take_quietly};
+use crate::session::{Session, Stop, begin, take_lines};
 use crate::words::{Form, Names, Source, read_words};
 use cell_core::Steps;
 use cube_defs::MAX_FILE;
-use cube_snapshot::{DecodeRefused, decode};
+use cube_snapshot::{DecodeRefused, EncodeRefused, decode, encode};
 use generated_run::generate;
 use qc_io::{Files, ReadRefused, Sink, read_all, write_all};
 use qc_schema::read_schema;
 use std::alloc::Global;
 use std::marker::Brand;
 use std::sync::ledger::{Blank, Ledger};
-use text_lines::{split_line, trim_mark};
+use text_lines::trim_mark;
 use warehouse::Warehouse;
 
 /// How a run ended.
@@ -37,21 +39,6 @@ pub struct Outcome {
 
 ghost use Rattle.qc_session.specs.Failures.{cause_of};
 ghost use Rattle.qc_session.specs.Words.{names_in, source_in};
-
-// How many lines a text has.
-fn count_lines(text: &[u8]) -> usize
-    ensures count { result ≡ length (lines_of text.now) }
-    ensures bound { result ≤ length text.now }
-{
-    let mut rest = text;
-    let mut count = 0;
-    'lines: while !rest.is_empty() {
-        let (_, behind) = split_line(rest);
-        rest = behind;
-        count += 1;
-    }
-    count
-}
 
 // Ends a run before its first line.
 fn fail<E: Sink>(alloc: Global, err: &mut E, failure: &Failure<'_>) -> Outcome
@@ -235,18 +222,8 @@ fn run_script<F: Files, O: Sink, E: Sink, L: Ledger>(
     ensures said_memory { result.status ≡ 5 → Said (Rose (E.faults err.old) (E.faults err.new)) OutOfMemory (E.taken err.old) (E.taken err.new) }
 {
     let script = trim_mark(script);
-    let Ok(skipped) = Vec::with_capacity(alloc, count_lines(script)) else {
+    let Ok(mut session) = begin(alloc, warehouse, script) else {
         return fail(alloc, err, &Failure::OutOfMemory);
-    };
-    let Ok(pending) = Pending::new(alloc) else {
-        return fail(alloc, err, &Failure::OutOfMemory);
-    };
-    let mut session = Session {
-        number: 0,
-        warehouse,
-        skipped,
-        pending,
-        reply: Vec::new(alloc),
     };
     let mut steps = Steps::<L>::start(blank);
     match take_lines(alloc, files, out, &mut session, script, &mut steps) {
@@ -315,18 +292,142 @@ fn run_generated<O: Sink, E: Sink, L: Ledger>(
     }
 }
 
-ghost use Rattle.std.specs.Prelude.{List, ℕ};
+// Ends a run for its snapshot, which it writes.
+fn packed<O: Sink, E: Sink>(
+    alloc: Global,
+    out: &mut O,
+    err: &mut E,
+    warehouse: Warehouse,
+) -> Outcome
+    ensures known { (result.status ≡ 0) ⊎ (result.status ≡ 4) ⊎ (result.status ≡ 5) ⊎ (result.status ≡ 6) }
+    ensures skipped { result.skipped.items ≡ [] }
+    ensures fits { (result.status ≡ 0) ⊎ (result.status ≡ 4) → length (spelling warehouse.state) ≤ MAX_FILE }
+    ensures wrote { result.status ≡ 0 → O.taken out.new ≡ taking (spelling warehouse.state) (O.taken out.old) }
+    ensures end { result.status ≡ 0 → state_in result.end ≡ Some warehouse.state }
+    ensures held { IfSome result.end AreContents }
+    ensures there { result.status ≡ 0 → is_some result.end ≡ true }
+    ensures none { (result.status ≡ 0 → ⊥) → result.end ≡ None }
+    ensures silent { result.status ≡ 0 → err.new ≡ err.old }
+    ensures write_fault { result.status ≡ 4 → Rose (O.faults out.old) (O.faults out.new) }
+    ensures part { result.status ≡ 4 → (n : ℕ) × (O.taken out.new ≡ taking (take n (spelling warehouse.state)) (O.taken out.old)) }
+    ensures said_write { result.status ≡ 4 → Said (Rose (E.faults err.old) (E.faults err.new)) CannotWrite (E.taken err.old) (E.taken err.new) }
+    ensures nothing { (result.status ≡ 5) ⊎ (result.status ≡ 6) → O.taken out.new ≡ O.taken out.old }
+    ensures said_memory { result.status ≡ 5 → Said (Rose (E.faults err.old) (E.faults err.new)) OutOfMemory (E.taken err.old) (E.taken err.new) }
+    ensures long { result.status ≡ 6 → MAX_FILE < length (spelling warehouse.state) }
+    ensures said_long { result.status ≡ 6 → Said (Rose (E.faults err.old) (E.faults err.new)) LongSnapshot (E.taken err.old) (E.taken err.new) }
+{
+    match encode(alloc, &warehouse) {
+        Ok(bytes) => match write_all(out, &bytes) {
+            Ok(()) => filled(alloc, warehouse),
+            Err(_) => fail(alloc, err, &Failure::CannotWrite),
+        },
+        Err(EncodeRefused::TooLong) => fail(alloc, err, &Failure::LongSnapshot),
+        Err(EncodeRefused::Memory) => fail(alloc, err, &Failure::OutOfMemory),
+    }
+}
+
+// Takes the lines of a script from a state on without their replies, and writes the snapshot of the
+// state that they leave. The count of steps goes under the blank's name.
+fn pack_script<F: Files, O: Sink, E: Sink, L: Ledger>(
+    alloc: Global,
+    files: &mut F,
+    out: &mut O,
+    err: &mut E,
+    warehouse: Warehouse,
+    script: &[u8],
+    blank: Blank,
+) -> Outcome
+    requires short { length script.now ≤ MAX_FILE }
+    requires name { blank.name ≡ L.name }
+    requires parts { blank.parts ≡ L.parts }
+    requires some { 0 < L.parts }
+    ensures known { IsPackStatus result.status }
+    ensures skipped { result.skipped.items ≡ [] }
+    ensures all { result.status ≡ 0 → IfSome (F.told files.old)
+        (λ t. WroteSnapshot t warehouse.state (script_lines script.now) (state_in result.end) (O.taken out.old) (O.taken out.new)) }
+    ensures held { IfSome result.end AreContents }
+    ensures there { result.status ≡ 0 → is_some result.end ≡ true }
+    ensures none { (result.status ≡ 0 → ⊥) → result.end ≡ None }
+    ensures silent { result.status ≡ 0 → err.new ≡ err.old }
+    ensures read_fault { result.status ≡ 3 → Rose (F.faults files.old) (F.faults files.new) }
+    ensures unread { result.status ≡ 3 → IfSome (F.told files.old) (λ t. (name : List ℕ)
+        × StoppedAt t (IsTrue (F.steady files.old)) warehouse.state [] (script_lines script.now) name None None
+        × Said (Rose (E.faults err.old) (E.faults err.new)) (CannotRead name) (E.taken err.old) (E.taken err.new)) }
+    ensures write_fault { result.status ≡ 4 → Rose (O.faults out.old) (O.faults out.new) }
+    ensures part { result.status ≡ 4 → IfSome (F.told files.old)
+        (λ t. WroteSnapshotFront t warehouse.state (script_lines script.now) (O.taken out.old) (O.taken out.new)) }
+    ensures said_write { result.status ≡ 4 → Said (Rose (E.faults err.old) (E.faults err.new)) CannotWrite (E.taken err.old) (E.taken err.new) }
+    ensures nothing { (result.status ≡ 3) ⊎ (result.status ≡ 5) ⊎ (result.status ≡ 6) → O.taken out.new ≡ O.taken out.old }
+    ensures said_memory { result.status ≡ 5 → Said (Rose (E.faults err.old) (E.faults err.new)) OutOfMemory (E.taken err.old) (E.taken err.new) }
+    ensures long { result.status ≡ 6 → IfSome (F.told files.old) (λ t. LeadsTooFar t warehouse.state (script_lines script.now)) }
+    ensures said_long { result.status ≡ 6 → Said (Rose (E.faults err.old) (E.faults err.new)) LongSnapshot (E.taken err.old) (E.taken err.new) }
+{
+    let script = trim_mark(script);
+    let Ok(mut session) = begin(alloc, warehouse, script) else {
+        return fail(alloc, err, &Failure::OutOfMemory);
+    };
+    let mut steps = Steps::<L>::start(blank);
+    match take_quietly(alloc, files, &mut session, script, &mut steps) {
+        Ok(()) => packed(alloc, out, err, session.warehouse),
+        Err(QuietStop::Read(name)) => fail(alloc, err, &Failure::CannotRead(name.as_str())),
+        Err(QuietStop::Memory) => fail(alloc, err, &Failure::OutOfMemory),
+    }
+}
+
+// Reads a schema and a script, and writes the snapshot of the state that the script's lines leave.
+fn pack_files<F: Files, O: Sink, E: Sink>(
+    alloc: Global,
+    files: &mut F,
+    out: &mut O,
+    err: &mut E,
+    names: Names<'_>,
+) -> Outcome
+    ensures known { IsPackStatus result.status }
+    ensures skipped { result.skipped.items ≡ [] }
+    ensures held { IfSome result.end AreContents }
+    ensures there { result.status ≡ 0 → is_some result.end ≡ true }
+    ensures none { (result.status ≡ 0 → ⊥) → result.end ≡ None }
+    ensures silent { result.status ≡ 0 → err.new ≡ err.old }
+    ensures all { result.status ≡ 0 → IfSome (F.told files.old)
+        (λ t. Packed t (names_in names.entry) (state_in result.end) (O.taken out.old) (O.taken out.new)) }
+    ensures nothing { (result.status ≡ 3) ⊎ (result.status ≡ 5) ⊎ (result.status ≡ 6) → O.taken out.new ≡ O.taken out.old }
+    ensures read_fault { result.status ≡ 3 → Rose (F.faults files.old) (F.faults files.new) }
+    ensures unread { result.status ≡ 3 → IfSome (F.told files.old) (λ t. (name : List ℕ)
+        × Unread t (IsTrue (F.steady files.old)) (names_in names.entry) [] name None None
+        × Said (Rose (E.faults err.old) (E.faults err.new)) (CannotRead name) (E.taken err.old) (E.taken err.new)) }
+    ensures write_fault { result.status ≡ 4 → Rose (O.faults out.old) (O.faults out.new) }
+    ensures part { result.status ≡ 4 → IfSome (F.told files.old) (λ t. PackedFront t (names_in names.entry) (O.taken out.old) (O.taken out.new)) }
+    ensures said_write { result.status ≡ 4 → Said (Rose (E.faults err.old) (E.faults err.new)) CannotWrite (E.taken err.old) (E.taken err.new) }
+    ensures said_memory { result.status ≡ 5 → Said (Rose (E.faults err.old) (E.faults err.new)) OutOfMemory (E.taken err.old) (E.taken err.new) }
+    ensures refused { result.status ≡ 6 → IfSome (F.told files.old) (λ t. (cause : Cause)
+        × IsPackRefused t (names_in names.entry) cause
+        × Said (Rose (E.faults err.old) (E.faults err.new)) cause (E.taken err.old) (E.taken err.new)) }
+    ensures refusal { IfSome (F.told files.old) (λ t. (cause : Cause) → IsPackRefused t (names_in names.entry) cause
+        → (result.status ≡ 6) ⊎ (result.status ≡ 5) ⊎ (result.status ≡ 3)) }
+{
+    let warehouse = match read_start::<F, Brand>(alloc, files, names, Blank::new(1)) {
+        Ok(warehouse) => warehouse,
+        Err(failure) => return fail(alloc, err, &failure),
+    };
+    let (warehouse, script) = match read_behind(alloc, files, warehouse, names.script) {
+        Ok(made) => made,
+        Err(failure) => return fail(alloc, err, &failure),
+    };
+    pack_script::<F, O, E, Brand>(alloc, files, out, err, warehouse, &script, Blank::new(1))
+}
 
 /// Runs `qcube` with these words: `run SCHEMA SCRIPT` reads a schema, and then takes the lines of a
 /// script in order, each with its reply on `out`; `open SNAPSHOT SCRIPT` does the same from the state
-/// whose snapshot it reads; `gen ROWS SEED` draws so many rows and the batches that follow them from
-/// the seed, and writes one record on `out`.
+/// whose snapshot it reads; `pack SCHEMA SCRIPT` takes the lines without their replies, and writes the
+/// snapshot of the state that they leave on `out`; `gen ROWS SEED` draws so many rows and the batches
+/// that follow them from the seed, and writes one record on `out`.
 ///
 /// Status 0 says that the script was read to its end, or the record written. Status 2: the words are
-/// no listed form. Status 3: a file couldn't be read. Status 4: a reply couldn't be written. Status 5:
-/// memory ran out before the first line, or anywhere in a generated run. Status 6: the schema's text
-/// is none, the bytes of the snapshot are that of no state, or one of the two files has more than
-/// 268,435,456 bytes. `err` gets one line at each status but 0.
+/// no listed form. Status 3: a file couldn't be read. Status 4: `out` failed. Status 5: memory ran out
+/// before the first line, or anywhere in a generated run or in one for its snapshot. Status 6: the
+/// schema's text is none, the bytes of the snapshot are that of no state, or one of the two files, or
+/// the snapshot that is to be written, has more than 268,435,456 bytes. `err` gets one line at each
+/// status but 0.
 ///
 /// A line that finds no memory changes nothing; its number is put into `skipped`, and its reply says so.
 pub fn run<F: Files, O: Sink, E: Sink>(
@@ -387,6 +488,30 @@ pub fn run<F: Files, O: Sink, E: Sink>(
         AllTold t names → IsUnrefused t names
         → (Rose (O.faults out.old) (O.faults out.new) → ⊥) → (result.status ≡ 0) ⊎ (result.status ≡ 5))) }
 
+    // The words `pack SCHEMA SCRIPT`: the snapshot of the state at the script's end.
+    ensures pack_known { IfPack (form_of words.now) (λ names. IsPackStatus result.status × (result.skipped.items ≡ [])) }
+    ensures pack_all { result.status ≡ 0 → IfPack (form_of words.now) (λ names. IfSome (F.told files.old)
+        (λ t. Packed t names (state_in result.end) (O.taken out.old) (O.taken out.new))) }
+    ensures pack_nothing { result.status ≡ 3 → IfPack (form_of words.now) (λ names. O.taken out.new ≡ O.taken out.old) }
+    ensures pack_unread { result.status ≡ 3 → IfPack (form_of words.now) (λ names. IfSome (F.told files.old) (λ t. (name : List ℕ)
+        × Unread t (IsTrue (F.steady files.old)) names [] name None None
+        × Said (Rose (E.faults err.old) (E.faults err.new)) (CannotRead name) (E.taken err.old) (E.taken err.new))) }
+    ensures pack_front { result.status ≡ 4 → IfPack (form_of words.now) (λ names. IfSome (F.told files.old)
+        (λ t. PackedFront t names (O.taken out.old) (O.taken out.new))) }
+    ensures pack_refused { result.status ≡ 6 → IfPack (form_of words.now) (λ names. IfSome (F.told files.old) (λ t. (cause : Cause)
+        × IsPackRefused t names cause
+        × Said (Rose (E.faults err.old) (E.faults err.new)) cause (E.taken err.old) (E.taken err.new))) }
+    ensures pack_refusal { IfPack (form_of words.now) (λ names. IfSome (F.told files.old) (λ t. (cause : Cause) → IsPackRefused t names cause
+        → (result.status ≡ 6) ⊎ (result.status ≡ 5) ⊎ (result.status ≡ 3))) }
+    ensures pack_complete { IfPack (form_of words.now) (λ names. IfSome (F.told files.old) (λ t. IsPackUnrefused t names
+        → (Rose (F.faults files.old) (F.faults files.new) → ⊥) → (Rose (O.faults out.old) (O.faults out.new) → ⊥)
+        → (result.status ≡ 0) ⊎ (result.status ≡ 5))) }
+    ensures pack_found { IsTrue (F.steady files.old) → IfPack (form_of words.now)
+        (λ names. IfSome (F.told files.old) (λ t. AllTold t names → result.status ≡ 3 → ⊥)) }
+    ensures pack_complete_steady { IsTrue (F.steady files.old) → IfPack (form_of words.now) (λ names. IfSome (F.told files.old) (λ t.
+        AllTold t names → IsPackUnrefused t names
+        → (Rose (O.faults out.old) (O.faults out.new) → ⊥) → (result.status ≡ 0) ⊎ (result.status ≡ 5))) }
+
     // The words `gen ROWS SEED`: the record of the generated state, and no other status.
     ensures gen_known { IfGen (form_of words.now) (λ drawing. ((result.status ≡ 0) ⊎ (result.status ≡ 4) ⊎ (result.status ≡ 5)) × (result.skipped.items ≡ [])) }
     ensures gen_files { IfGen (form_of words.now) (λ drawing. files.new ≡ files.old) }
@@ -398,6 +523,7 @@ pub fn run<F: Files, O: Sink, E: Sink>(
 {
     let names = match read_words(words) {
         Form::Run(names) => names,
+        Form::Pack(names) => return pack_files(alloc, files, out, err, names),
         Form::Gen(rows, seed) => {
             return run_generated::<O, E, Brand>(alloc, out, err, rows, seed, Blank::new(1));
         }

@@ -1,5 +1,5 @@
 // The lines of a script, in order.
-ghost use Rattle.std.specs.Prelude.{◌≡◌, ◌≤◌, ◌<◌, ◌^◌, ◌+◌, ◌++◌, ◌∷◌, ℕ, [], Some, None, IfErr, IfSome, OnOk, IsTrue, length, map, vec_len, vec_capacity, ⊤};
+ghost use Rattle.std.specs.Prelude.{◌≡◌, ◌≤◌, ◌<◌, ◌^◌, ◌+◌, ◌++◌, ◌∷◌, ℕ, [], Some, None, IfErr, IfOk, IfSome, OnOk, IsTrue, length, map, vec_len, vec_capacity, ⊤};
 ghost use Rattle.qc_io.specs.Outside.{Rose};
 ghost use Rattle.qc_session.specs.Lines.{lines_of, without_cr};
 ghost use Rattle.qc_session.specs.Answers.{file_of};
@@ -11,7 +11,7 @@ use crate::lines::{is_passed_over, names_file};
 use crate::pending::Pending;
 use crate::point::answer_coded;
 use cell_core::{Steps, Text};
-use cube_defs::MAX_FILE;
+use cube_defs::{MAX_FILE, Memory};
 use qc_io::{Files, Sink};
 use reply_text::memory;
 use std::alloc::Global;
@@ -115,6 +115,39 @@ fn take_line<F: Files, O: Sink, L: Ledger>(
             Err(_) => Err(Stop::Write),
         },
     }
+}
+
+// How many lines a text has.
+fn count_lines(text: &[u8]) -> usize
+    ensures count { result ≡ length (lines_of text.now) }
+    ensures bound { result ≤ length text.now }
+{
+    let mut rest = text;
+    let mut count = 0;
+    'lines: while !rest.is_empty() {
+        let (_, behind) = split_line(rest);
+        rest = behind;
+        count += 1;
+    }
+    count
+}
+
+/// A session before the first line of a script, with the memory for the number of each line.
+pub fn begin(alloc: Global, warehouse: Warehouse, script: &[u8]) -> Result<Session, Memory>
+    ensures warehouse { IfOk result (λ session. session.warehouse ≡ warehouse) }
+    ensures fresh { IfOk result (λ session. (session.number ≡ 0) × (session.skipped.items ≡ []) × (session.pending ≡ [])) }
+    ensures room { IfOk result (λ session. length (lines_of script.now) ≤ vec_capacity session.skipped) }
+    ensures few { length (lines_of script.now) ≤ length script.now }
+{
+    let skipped = Vec::with_capacity(alloc, count_lines(script))?;
+    let pending = Pending::new(alloc)?;
+    Ok(Session {
+        number: 0,
+        warehouse,
+        skipped,
+        pending,
+        reply: Vec::new(alloc),
+    })
 }
 
 /// Takes the lines of a script in order, from its first line on, and hands on all their replies.

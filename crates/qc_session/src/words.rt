@@ -28,6 +28,8 @@ pub struct Names<'a> {
 pub enum Form<'a> {
     /// `run SCHEMA SCRIPT` or `open SNAPSHOT SCRIPT`: the names of two files.
     Run(Names<'a>),
+    /// `pack SCHEMA SCRIPT`: the names of two files.
+    Pack(Names<'a>),
     /// `gen ROWS SEED`: how many rows, and the seed from which they are drawn.
     Gen(u32, u64),
     /// The words are no listed form.
@@ -62,6 +64,11 @@ pub fn read_words(words: &[String]) -> Form<'_>
         }),
         [word, first, script] if word.as_str() == "open" => Form::Run(Names {
             source: Source::FromSnapshot,
+            first: first.as_str(),
+            script: script.as_str(),
+        }),
+        [word, first, script] if word.as_str() == "pack" => Form::Pack(Names {
+            source: Source::FromSchema,
             first: first.as_str(),
             script: script.as_str(),
         }),

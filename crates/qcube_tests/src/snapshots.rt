@@ -1,4 +1,4 @@
-// Snapshots that are opened, worked out by hand.
+// Snapshots that are written and opened, worked out by hand.
 use crate::scripts::{File, files_of};
 use outside_tests::runs::{run_over, sink};
 use std::alloc::{AllocError, Global};
@@ -36,6 +36,8 @@ const FULL: &[u8] = b"QCUBESN1\x00\x00\x00h\
     \x00\x00\x00\x00\x00\x00\x00\x02\x00\x00\x00\x00\x00\x00\x00\x01\x00\x00\x00\x00\x00\x00\x00\x00\x00\x00\x00\x0C\
     \x00\x00\x00\x00\x00\x00\x00\x03\x00\x00\x00\x01\x00\x00\x00\x00\x00\x00\x00\x01\x00\x00\x00\x00\x00\x00\x00\x09";
 
+const PACK: &[&str] = &["pack", "s.schema", "script"];
+
 const OPEN: &[&str] = &["open", "snapshot", "script"];
 
 const REFUSED: &[u8] = b"qcube: snapshot refused\n";
@@ -51,7 +53,64 @@ type Case = (
     &'static [u8],
 );
 
-static CASES: [Case; 9] = [
+static CASES: [Case; 17] = [
+    (PACK, b"", b"", &[], 0, EMPTY, b""),
+    (PACK, b"", b"load base.csv", &[], 0, FULL, b""),
+    // Lines that are refused, passed over or asked leave no trace.
+    (
+        PACK,
+        b"",
+        b"#\nload script\nload base.csv\nload base.csv\nlost\npoint *,*,*\ntry plus4.csv\n\nstats\n",
+        &[],
+        0,
+        FULL,
+        b"",
+    ),
+    (
+        PACK,
+        b"",
+        b"load base.csv\nload none.csv\nstats",
+        &[],
+        3,
+        b"",
+        b"qcube: cannot read none.csv\n",
+    ),
+    (
+        PACK,
+        b"",
+        b"load base.csv",
+        &[0],
+        4,
+        b"",
+        b"qcube: cannot write\n",
+    ),
+    (
+        PACK,
+        b"",
+        b"load base.csv",
+        &[1],
+        4,
+        b"QCUBESN",
+        b"qcube: cannot write\n",
+    ),
+    (
+        &["pack", "base.csv", "script"],
+        b"",
+        b"",
+        &[],
+        6,
+        b"",
+        b"qcube: schema line 1: version\n",
+    ),
+    (
+        &["pack", "none", "script"],
+        b"",
+        b"",
+        &[],
+        3,
+        b"",
+        b"qcube: cannot read none\n",
+    ),
     (
         OPEN,
         FULL,
@@ -89,7 +148,7 @@ static CASES: [Case; 9] = [
         &[],
         6,
         b"",
-        b"qcube: schema not UTF-8\n",
+        b"qcube: schema line 1: version\n",
     ),
     (
         &["open", "none", "script"],

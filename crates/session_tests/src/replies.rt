@@ -557,7 +557,7 @@ type Stop = (
 const RUN: &[&str] = &["run", "s.schema", "script"];
 
 const USAGE: &str =
-    "usage: qcube run SCHEMA SCRIPT | qcube gen ROWS SEED | qcube open SNAPSHOT SCRIPT\n";
+    "usage: qcube run SCHEMA SCRIPT | qcube gen ROWS SEED | qcube pack SCHEMA SCRIPT | qcube open SNAPSHOT SCRIPT\n";
 
 static STOPS: [Stop; 16] = [
     (RUN, b"", &[], 6, "qcube: schema line 1: end\n"),

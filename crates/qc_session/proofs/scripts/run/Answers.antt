@@ -1,11 +1,12 @@
-use Rattle.std.proofs.Common.{refl, subst, sym, ◌∙◌, ◌≤◌, IsTrue, arith}
-use Rattle.qc_session.specs.Forms.{FileNames, form_of}
+use Rattle.std.proofs.Common.{[], None, Some, refl, subst, sym, ◌∙◌, ◌≤◌, IsTrue, arith}
+use Rattle.qc_session.specs.Forms.{FileNames, Run, form_of}
 use Rattle.qc_session.specs.Failures.{cause_of}
 use Rattle.qc_session.specs.Runs.{HasNoStart, IsNever}
 use Rattle.qc_session.specs.Words.{names_in}
 use Rattle.qc_session.proofs.Completed.{IsRunStatus, complete-early, complete-script, complete-steady, never-written, unread-rose, unread-status}
 use Rattle.qc_session.proofs.Ended.{complete-run, finished-run, refusal-run, rose-later, skipped-run}
 use Rattle.qc_session.proofs.Found.{found-all}
+use Rattle.qc_session.proofs.Packed.{packed-complete, packed-steady}
 use Rattle.qc_session.proofs.Refusals.{refused-first, refused-script, unread-line, unread-first, unread-script}
 use Rattle.qc_session.proofs.scripts.run.Goals as goal
 
@@ -123,3 +124,19 @@ returns-in-Err-read_behind-clause-complete g c =
     (λ h. rose-later (g.F.Files.faults c.args.files.now) (g.F.Files.faults c.read_start.new.files) _ c.in-Ok.ensures.later (unread-rose _ c.in-Run.names.script.now _ _ IsNever cause fails (same ∙ h)))
     (λ h. absurd (never-written _ c.in-Run.names.script.now _ _ IsNever cause fails (same ∙ h)))
     (returns-in-Err-read_behind-clause-refused g c)
+
+pub returns-in-Pack-clause-pack_complete : goal.returns-in-Pack-clause-pack_complete
+returns-in-Pack-clause-pack_complete g c =
+    let e = c.pack_files.ensures in
+    rw (← c.in-Pack.ensures.form) (packed-complete (g.F.Files.told c.args.files.now) (names_in c.in-Pack.names) c.pack_files.result.status _ _ _ e.known e.read_fault e.write_fault e.refused)
+
+pub returns-in-Pack-clause-pack_found : goal.returns-in-Pack-clause-pack_found
+returns-in-Pack-clause-pack_found g c = λ steady.
+    rw (← c.in-Pack.ensures.form)
+    (found-all (Some (Run (names_in c.in-Pack.names))) (g.F.Files.told c.args.files.now) (IsTrue (g.F.Files.steady c.args.files.now)) _ _ [] None None _ _ steady c.pack_files.ensures.unread)
+
+pub returns-in-Pack-clause-pack_complete_steady : goal.returns-in-Pack-clause-pack_complete_steady
+returns-in-Pack-clause-pack_complete_steady g c = λ steady.
+    let e = c.pack_files.ensures in
+    let found = found-all (Some (Run (names_in c.in-Pack.names))) (g.F.Files.told c.args.files.now) (IsTrue (g.F.Files.steady c.args.files.now)) _ _ [] None None _ _ steady e.unread in
+    rw (← c.in-Pack.ensures.form) (packed-steady (g.F.Files.told c.args.files.now) (names_in c.in-Pack.names) c.pack_files.result.status _ _ e.known e.write_fault found e.refused)

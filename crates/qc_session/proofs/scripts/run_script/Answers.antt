@@ -4,25 +4,26 @@ use Rattle.qc_session.specs.Lines.{lines_of, without_cr}
 use Rattle.qc_session.specs.Runs.{CannotRead, state_in}
 use Rattle.qc_session.proofs.Ended.{all-ended, broken-ended, read-ended}
 use Rattle.qc_session.proofs.scripts.run_script.Goals as goal
+use Rattle.warehouse.specs.State.{Contents}
 use Rattle.text_lines.proofs.Unmarked.{no_longer}
 
 pub returns-in-Ok-take_lines-clause-all : goal.returns-in-Ok-take_lines-clause-all
 returns-in-Ok-take_lines-clause-all g c = λ ends.
     all-ended (g.F.Files.told c.args.files.now) _ _ _ _ _ _ _ _ _ _
-    refl c.finished.ensures.skipped (ap (λ (bs : List ℕ). map without_cr (lines_of bs)) c.trim_mark-script.ensures) (ap state_in c.finished.ensures.end)
+    (ap (λ (w : Contents). w.state) c.in-Ok.ensures.warehouse) c.finished.ensures.skipped (ap (λ (bs : List ℕ). map without_cr (lines_of bs)) c.trim_mark-script.ensures) (ap state_in c.finished.ensures.end)
     c.in-Ok-take_lines.ensures.all
 
 pub returns-in-Err-Read-clause-unread : goal.returns-in-Err-Read-clause-unread
 returns-in-Err-Read-clause-unread g c = λ ends.
     read-ended c.in-Err-Read.field-0 c.in-Err-Read.name (g.F.Files.told c.args.files.now) _ _ _ _ _ _ _ _ _ _ _ _ _
-    c.in-Err-Read.field-0-is refl c.stopped.ensures.skipped (ap (λ (bs : List ℕ). map without_cr (lines_of bs)) c.trim_mark-script.ensures)
+    c.in-Err-Read.field-0-is (ap (λ (w : Contents). w.state) c.in-Ok.ensures.warehouse) c.stopped.ensures.skipped (ap (λ (bs : List ℕ). map without_cr (lines_of bs)) c.trim_mark-script.ensures)
     (ap CannotRead c.as_str.ensures.value) c.in-Err-Read.ensures.before c.tell.ensures.said
 
 pub take_lines-requires-clause-few : goal.take_lines-requires-clause-few
 take_lines-requires-clause-few g c =
     let most : MAX_FILE ≡ 268435456 = refl in
     let same = ap (λ (bs : List ℕ). length bs) c.trim_mark-script.ensures in
-    omega (arith, most, same, c.requires.short, c.count_lines.ensures.count, c.count_lines.ensures.bound, no_longer c.args.script.now)
+    omega (arith, most, same, c.requires.short, c.begin.ensures.few, no_longer c.args.script.now)
 
 pub take_lines-requires-clause-short : goal.take_lines-requires-clause-short
 take_lines-requires-clause-short g c =
@@ -32,5 +33,5 @@ take_lines-requires-clause-short g c =
 pub returns-clause-broken : goal.returns-clause-broken
 returns-clause-broken g c = λ ends.
     broken-ended c.in-Err-Write.field-0 (g.F.Files.told c.args.files.now) _ _ _ _ _ _ _ _
-    c.in-Err-Write.field-0-is refl c.stopped-in-Err-Write.ensures.skipped (ap (λ (bs : List ℕ). map without_cr (lines_of bs)) c.trim_mark-script.ensures)
+    c.in-Err-Write.field-0-is (ap (λ (w : Contents). w.state) c.in-Ok.ensures.warehouse) c.stopped-in-Err-Write.ensures.skipped (ap (λ (bs : List ℕ). map without_cr (lines_of bs)) c.trim_mark-script.ensures)
     c.in-Err-Write.ensures.part

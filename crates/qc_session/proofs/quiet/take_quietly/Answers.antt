@@ -1,0 +1,3 @@
+use Rattle.std.proofs.Common.{◌∙◌, sym}
+use Rattle.qc_session.proofs.Packed.{quiet-all, quiet-read}
+use Rattle.qc_session.proofs.quiet.take_quietly.Goals as goal

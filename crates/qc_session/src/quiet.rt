@@ -1,0 +1,62 @@
+// A script whose replies nobody takes.
+ghost use Rattle.std.specs.Prelude.{◌≡◌, ◌≤◌, ◌<◌, ◌^◌, [], Some, None, IfErr, IfSome, OnOk, IsTrue, length, map, vec_capacity};
+ghost use Rattle.qc_io.specs.Outside.{Rose};
+ghost use Rattle.qc_session.specs.Lines.{lines_of, without_cr};
+ghost use Rattle.qc_session.specs.Runs.{StoppedAt, WroteAll};
+
+use crate::session::{Session, Stop, take_lines};
+use cell_core::{Steps, Text};
+use cube_defs::MAX_FILE;
+use qc_io::{Files, SureSink};
+use std::alloc::Global;
+use std::sync::ledger::Ledger;
+
+/// Why a script whose replies nobody takes comes to no end.
+#[derive(Drop)]
+pub enum QuietStop {
+    /// The file of this name couldn't be read.
+    Read(Text),
+    /// A line found no memory.
+    Memory,
+}
+
+ghost use Rattle.qc_session.specs.Quiet.{IfUnread};
+
+/// Takes the lines of a script in order, from its first line on. Its replies go nowhere.
+pub fn take_quietly<F: Files, L: Ledger>(
+    alloc: Global,
+    files: &mut F,
+    session: &mut Session,
+    script: &[u8],
+    steps: &mut Steps<L>,
+) -> Result<(), QuietStop>
+    requires room { length (lines_of script.now) ≤ vec_capacity session.old.skipped }
+    requires few { length (lines_of script.now) < 2 ^ 32 }
+    requires short { length script.now ≤ MAX_FILE }
+    requires fresh { (session.old.number ≡ 0) × (session.old.skipped.items ≡ []) × (session.old.pending ≡ []) }
+    ensures later_files { F.faults files.old ≤ F.faults files.new }
+    ensures read_fault { IfErr result (λ stop. IfUnread stop (λ name. Rose (F.faults files.old) (F.faults files.new))) }
+    ensures all { OnOk result (IfSome (F.told files.old) (λ t. WroteAll t session.old.warehouse.state []
+        (map without_cr (lines_of script.now)) (Some session.new.warehouse.state) None None)) }
+    ensures before { IfErr result (λ stop. IfUnread stop (λ name. IfSome (F.told files.old)
+        (λ t. StoppedAt t (IsTrue (F.steady files.old)) session.old.warehouse.state [] (map without_cr (lines_of script.now)) name None None))) }
+{
+    let mut out = SureSink::new();
+    match take_lines(alloc, files, &mut out, session, script, steps) {
+        Ok(()) => {
+            if session.skipped.is_empty() {
+                Ok(())
+            } else {
+                Err(QuietStop::Memory)
+            }
+        }
+        Err(Stop::Read(name)) => {
+            if session.skipped.is_empty() {
+                Err(QuietStop::Read(name))
+            } else {
+                Err(QuietStop::Memory)
+            }
+        }
+        Err(Stop::Write) => unreachable!(),
+    }
+}
