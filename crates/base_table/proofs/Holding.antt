@@ -6,7 +6,7 @@ use Rattle.std.proofs.lemmas.List.Elements.{All-nil, All-push, All-take}
 use Rattle.cube_defs.specs.Rows.{Row}
 use Rattle.base_table.specs.Last.{last_of, picked}
 use Rattle.base_table.specs.Places.{Base, AreRows, IsRow, IsTable, Places, cleared, has_id, narrowed, rows_in, with_code}
-use Rattle.base_table.specs.Store.{AreLast, IsFound, AreTableFields, base_then, IsMarked, StoredRows, id_of, marks_then, placed, places_with, restored}
+use Rattle.base_table.specs.Store.{AreLast, IsFound, AreTableFields, HasShape, base_then, IsMarked, StoredRows, id_of, marks_then, placed, places_with, restored}
 use Rattle.base_table.proofs.Batches.{distinct_ids, last_fewer, last_pushed, length-noted, length-restored, marks_stay, noted, noted_below}
 use Rattle.base_table.proofs.Columns.{All-picked, picked-map}
 use Rattle.base_table.proofs.Placed.{IsAt, at_place, length-placed, placed_at, picked-append, picked-le, picked-push, picked-take, picked_fewer, placed_goes, rows_in-placed}
@@ -53,17 +53,17 @@ module _ (store : StoredRows) (here : List Bool) (touched : List ℕ) (room begu
   were : (o : Bool) → IfSome (if o then Some (base_then store (picked (marks_then here touched begun) store.rows)) else None) (λ b. AreRows b.dims store.measures max b.rows)
   were false = tt
   were true =
-      rows_shorter store.dims store.measures max store.dims_then (picked (marks_then here touched begun) store.rows) h.then_le
+      rows_shorter store.dims store.measures max store.dims_then (picked (marks_then here touched begun) store.rows) h.shape.then_le
       (subst (AreRows store.dims store.measures max) then_rows
       (are_rows store.dims store.measures (marks_then here touched begun) (take begun store.rows) count_then max h.was_then (All-take (IsRow store.dims store.measures) begun store.rows h.each)))
 
   pub valid : IsTable (places_with store here touched begun o max)
   valid = record {
-    some_dims = h.some_dims;
-    few_dims = h.few_dims;
-    few_measures = h.few_measures;
-    some_rows = h.some_rows;
-    few_rows = h.few_rows;
+    some_dims = h.shape.some_dims;
+    few_dims = h.shape.few_dims;
+    few_measures = h.shape.few_measures;
+    some_rows = h.shape.some_rows;
+    few_rows = h.shape.few_rows;
     few_places = omega (arith, h.few_places, length-placed here store.rows h.places);
     rows = subst (AreRows store.dims store.measures max) (sym now_rows) (are_rows store.dims store.measures here store.rows count max h.is_now h.each);
     were = were o;
@@ -125,14 +125,8 @@ at_row t k row P e p = subst (λ (o : Option (Row ℕ)). IfSome o P) (sym e) p
 -- a batch begins
 pub begun_table : (store : StoredRows) (here : List Bool) (touched : List ℕ) (room begun count_then count max : ℕ) → AreTableFields store here touched room begun count_then false count max → AreTableFields store here touched room begun count_then true count max
 begun_table store here touched room begun count_then count max h = record {
-  some_dims = h.some_dims;
-  few_dims = h.few_dims;
-  some_then = h.some_then;
-  then_le = h.then_le;
+  shape = h.shape;
   closed_dims = λ f. absurd (true≢false f);
-  few_measures = h.few_measures;
-  some_rows = h.some_rows;
-  few_rows = h.few_rows;
   few_places = h.few_places;
   places = h.places;
   each = h.each;
@@ -158,14 +152,8 @@ pub put_table : (store : StoredRows) (here : List Bool) (touched : List ℕ) (ro
     → IsRow store.dims store.measures row → has_id (picked here store.rows) row.id ≡ false → count < max → length here + 1 < 2 ^ 32 → length here + 1 ≤ room'
     → AreTableFields (record store { rows = store.rows ++ row ∷ [] }) (here ++ true ∷ []) touched room' begun count_then true (count + 1) max
 put_table store here touched room room' begun count_then count max row h r absent free small more = record {
-  some_dims = h.some_dims;
-  few_dims = h.few_dims;
-  some_then = h.some_then;
-  then_le = h.then_le;
+  shape = h.shape;
   closed_dims = λ f. absurd (true≢false f);
-  few_measures = h.few_measures;
-  some_rows = h.some_rows;
-  few_rows = h.few_rows;
   few_places = omega (arith, small, length-append here (true ∷ []));
   places = omega (arith, h.places, length-append here (true ∷ []), length-append store.rows (row ∷ []));
   each = All-push (IsRow store.dims store.measures) store.rows row h.each r;
@@ -197,14 +185,8 @@ pub take_table : (store : StoredRows) (here : List Bool) (touched : List ℕ) (r
 take_table store here touched room begun count_then count max k h lt there =
     let fewer : count ≡ suc (length (picked (set here k false) store.rows)) = h.is_now.count_is ∙ picked_fewer here store.rows k h.places lt there in
     record {
-      some_dims = h.some_dims;
-      few_dims = h.few_dims;
-      some_then = h.some_then;
-      then_le = h.then_le;
+      shape = h.shape;
       closed_dims = λ f. absurd (true≢false f);
-      few_measures = h.few_measures;
-      some_rows = h.some_rows;
-      few_rows = h.few_rows;
       few_places = omega (arith, h.few_places, length-set here k false);
       places = omega (arith, h.places, length-set here k false);
       each = h.each;
@@ -234,14 +216,10 @@ taken_places store here touched room begun count_then o count max k d h a =
     placed_goes here store.rows (get_or store.rows k d).id k d h.places a.within a.there refl (only_at here store.rows k d h.is_now.last a.within a.there)
 
 -- no batch is open, and the table is as it is
-pub settled_table : (store : StoredRows) (here : List Bool) (room n count max : ℕ) → 0 < store.dims → store.dims ≤ 16 → store.measures ≤ 4 → 0 < max → max ≤ 1000000 → length here < 2 ^ 32 → length store.rows ≡ length here → All (IsRow store.dims store.measures) store.rows
+pub settled_table : (store : StoredRows) (here : List Bool) (room n count max : ℕ) → HasShape store.dims store.dims_then store.measures max → length here < 2 ^ 32 → length store.rows ≡ length here → All (IsRow store.dims store.measures) store.rows
     → IsMarked here store.rows count max → n ≡ length here → length here ≤ 2 * count → length here ≤ room → store.dims_then ≡ store.dims → AreTableFields store here [] room n count false count max
-settled_table store here room n count max some_dims few_dims few_measures some_rows few_rows few_places places each is_now e dense room_for_all as_many = record {
-  some_dims = some_dims;
-  few_dims = few_dims;
-  few_measures = few_measures;
-  some_rows = some_rows;
-  few_rows = few_rows;
+settled_table store here room n count max shape few_places places each is_now e dense room_for_all as_many = record {
+  shape = shape;
   few_places = few_places;
   places = places;
   each = each;
@@ -252,8 +230,6 @@ settled_table store here room n count max some_dims few_dims few_measures some_r
   begun_le = omega (arith, e);
   dense = omega (arith, e, dense);
   closed = λ _. (e, refl);
-  some_then = omega (arith, as_many, some_dims);
-  then_le = omega (arith, as_many);
   closed_dims = λ _. as_many;
   touched_below = All-nil (λ k. k < n);
   touched_le = omega (arith, is_now.count_is, picked-le here store.rows);
@@ -270,9 +246,18 @@ rolled_table store here touched room begun count_then o count max h =
     let len : length (marks_then here touched begun) ≡ begun = length-marks store here touched room begun count_then o count max h in
     let rows = take begun store.rows in
     let many : length rows ≡ begun = length-take-le begun store.rows (omega (arith, h.begun_le, h.places)) in
-    settled_table (rolled_store store begun) (marks_then here touched begun) room begun count_then max h.some_then (omega (arith, h.then_le, h.few_dims)) h.few_measures h.some_rows h.few_rows
+    let shape : HasShape store.dims_then store.dims_then store.measures max = record {
+      some_dims = h.shape.some_then;
+      few_dims = omega (arith, h.shape.then_le, h.shape.few_dims);
+      some_then = h.shape.some_then;
+      then_le = omega arith;
+      few_measures = h.shape.few_measures;
+      some_rows = h.shape.some_rows;
+      few_rows = h.shape.few_rows;
+    } in
+    settled_table (rolled_store store begun) (marks_then here touched begun) room begun count_then max shape
     (omega (arith, len, h.few_places, h.begun_le)) (omega (arith, len, many, length-map rows (narrowed store.dims_then)))
-    (All-mapped (IsRow store.dims store.measures) (IsRow store.dims_then store.measures) (narrowed store.dims_then) (λ row r. row-shorter store.dims store.measures store.dims_then row h.then_le r) rows (All-take (IsRow store.dims store.measures) begun store.rows h.each))
+    (All-mapped (IsRow store.dims store.measures) (IsRow store.dims_then store.measures) (narrowed store.dims_then) (λ row r. row-shorter store.dims store.measures store.dims_then row h.shape.then_le r) rows (All-take (IsRow store.dims store.measures) begun store.rows h.each))
     (marked_mapped (narrowed store.dims_then) (λ row. refl) (marks_then here touched begun) rows count_then max (omega (arith, len, many)) h.was_then)
     (omega (arith, len)) (omega (arith, len, h.dense)) (omega (arith, len, h.begun_le, h.room_for_all)) refl
 
@@ -280,14 +265,16 @@ rolled_table store here touched room begun count_then o count max h =
 pub wider_table : (store : StoredRows) (here : List Bool) (touched : List ℕ) (room begun count_then count max code : ℕ) → store.dims < 16 → code < 4000000 → AreTableFields store here touched room begun count_then true count max
     → AreTableFields (record store { dims = store.dims + 1; rows = map (with_code code) store.rows }) here touched room begun count_then true count max
 wider_table store here touched room begun count_then count max code few small h = record {
-  some_dims = omega arith;
-  few_dims = omega (arith, few);
-  some_then = h.some_then;
-  then_le = omega (arith, h.then_le);
+  shape = record {
+    some_dims = omega arith;
+    few_dims = omega (arith, few);
+    some_then = h.shape.some_then;
+    then_le = omega (arith, h.shape.then_le);
+    few_measures = h.shape.few_measures;
+    some_rows = h.shape.some_rows;
+    few_rows = h.shape.few_rows;
+  };
   closed_dims = λ f. absurd (true≢false f);
-  few_measures = h.few_measures;
-  some_rows = h.some_rows;
-  few_rows = h.few_rows;
   few_places = h.few_places;
   places = length-map store.rows (with_code code) ∙ h.places;
   each = All-mapped (IsRow store.dims store.measures) (IsRow (store.dims + 1) store.measures) (with_code code) (λ row r. row-longer store.dims store.measures code row small r) store.rows h.each;
@@ -309,4 +296,4 @@ pub wider_then : (store : StoredRows) (here : List Bool) (touched : List ℕ) (r
     → map (narrowed store.dims_then) (picked (marks_then here touched begun) (map (with_code code) store.rows)) ≡ map (narrowed store.dims_then) (picked (marks_then here touched begun) store.rows)
 wider_then store here touched room begun count_then o count max code h =
     ap (map (narrowed store.dims_then)) (picked-map (with_code code) (marks_then here touched begun) store.rows)
-    ∙ narrowed-longer store.dims store.measures store.dims_then code (picked (marks_then here touched begun) store.rows) h.then_le (All-picked (IsRow store.dims store.measures) (marks_then here touched begun) store.rows h.each)
+    ∙ narrowed-longer store.dims store.measures store.dims_then code (picked (marks_then here touched begun) store.rows) h.shape.then_le (All-picked (IsRow store.dims store.measures) (marks_then here touched begun) store.rows h.each)

@@ -114,15 +114,19 @@ pub record IsMarked (here : List Bool) (rows : List (Row ℕ)) (count max : ℕ)
   pub count_is : count ≡ length (picked here rows)
   pub few : count ≤ max
 
--- the table now, and as it was when the batch began, or where none is open, as it is
-pub record AreTableFields (store : StoredRows) (here : List Bool) (touched : List ℕ) (room begun count_then : ℕ) (is_open : Bool) (count max : ℕ) : Type 0 where
-  pub some_dims : 0 < store.dims
-  pub few_dims : store.dims ≤ MAX_DIMS
-  pub some_then : 0 < store.dims_then
-  pub then_le : store.dims_then ≤ store.dims
-  pub few_measures : store.measures ≤ MAX_MEASURES
+-- how large a table is, and may be
+pub record HasShape (dims dims_then measures max : ℕ) : Type 0 where
+  pub some_dims : 0 < dims
+  pub few_dims : dims ≤ MAX_DIMS
+  pub some_then : 0 < dims_then
+  pub then_le : dims_then ≤ dims
+  pub few_measures : measures ≤ MAX_MEASURES
   pub some_rows : 0 < max
   pub few_rows : max ≤ MAX_ROWS
+
+-- the table now, and as it was when the batch began, or where none is open, as it is
+pub record AreTableFields (store : StoredRows) (here : List Bool) (touched : List ℕ) (room begun count_then : ℕ) (is_open : Bool) (count max : ℕ) : Type 0 where
+  pub shape : HasShape store.dims store.dims_then store.measures max
   pub few_places : length here < 2 ^ 32
   pub places : length store.rows ≡ length here
   pub each : All (IsRow store.dims store.measures) store.rows

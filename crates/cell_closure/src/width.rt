@@ -3,7 +3,7 @@ ghost use Rattle.std.specs.Prelude.{None, Some, false, is_some, length, map, nat
 ghost use Rattle.cube_defs.specs.Cell.{cell_of, meet};
 ghost use Rattle.cube_defs.specs.Rows.{meet_all};
 ghost use Rattle.cell_core.specs.Codes.{entries_of, entry_of, is_kept};
-ghost use Rattle.cell_core.specs.Entry.{IsCode, IsSmall, value_in};
+ghost use Rattle.cell_core.specs.Entry.{IsCode};
 ghost use Rattle.base_table.specs.Places.{AreThere, IsTable, named, row_at};
 ghost use Rattle.cell_closure.specs.Parts.{code_at};
 ghost use Rattle.cell_closure.specs.Widths.{met};
@@ -74,19 +74,6 @@ fn shared_codes<const N: usize>(table: &Table, rows: &[RowNo]) -> [u32; N]
     shared
 }
 
-/// What a code, or [`ANY`], stands for.
-fn entry_with(code: u32) -> Entry
-    requires { is_kept code ≡ true }
-    ensures value { value_in result ≡ entry_of code }
-    ensures small { IsSmall result }
-{
-    if code == ANY {
-        Entry::Any
-    } else {
-        Entry::Is(code)
-    }
-}
-
 /// The values that all the rows have, read as arrays of N codes.
 pub(crate) fn closure_in<const N: usize>(table: &Table, rows: &[RowNo]) -> Cell
     requires some { 0 < length rows.now }
@@ -100,7 +87,7 @@ pub(crate) fn closure_in<const N: usize>(table: &Table, rows: &[RowNo]) -> Cell
     let codes: [u32; N] = shared_codes(table, rows);
     let mut shared = table.tuple(rows[0]);
     'dims: for dim in 0..table.dims() {
-        shared.set(dim, entry_with(codes[dim as usize]));
+        shared.set(dim, Entry::of(codes[dim as usize]));
     }
     shared
 }

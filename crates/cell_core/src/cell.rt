@@ -1,5 +1,6 @@
 // Cells: for each dimension a value, by its code, or Any.
-ghost use Rattle.std.specs.Prelude.{IfSome, None, length, nat_eq, replicate, slice_index_or, slice_set, ◌<◌, ◌≡◌, ◌≤◌};
+ghost use Rattle.std.specs.Prelude.{IfSome, IsTrue, None, length, nat_eq, replicate, slice_index_or, slice_set, ◌<◌, ◌≡◌, ◌≤◌};
+ghost use Rattle.cell_core.specs.Codes.{entry_of, is_kept};
 ghost use Rattle.cell_core.specs.Entry.{IsSmall, value_in};
 ghost use Rattle.cube_defs.specs.Cell as defs;
 
@@ -25,6 +26,21 @@ pub enum Entry {
     Any,
     /// The value with this code.
     Is(Code),
+}
+
+impl Entry {
+    /// What a kept code stands for: its value, and Any for [`ANY`].
+    pub fn of(code: u32) -> Entry
+        requires { IsTrue (is_kept code) }
+        ensures value { value_in result ≡ entry_of code }
+        ensures small { IsSmall result }
+    {
+        if code == ANY {
+            Entry::Any
+        } else {
+            Entry::Is(code)
+        }
+    }
 }
 
 /// For each of at most 16 dimensions a value, or Any. The entries lie in the cell itself, so no
@@ -74,7 +90,7 @@ impl Cell {
         ensures value { value_in result ≡ slice_index_or self.now dim None }
         ensures small { IsSmall result }
     {
-        codes::entry_at(self.codes[dim as usize])
+        Entry::of(self.codes[dim as usize])
     }
 
     /// Puts an entry into a dimension.

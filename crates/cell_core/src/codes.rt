@@ -7,18 +7,6 @@ ghost use Rattle.cube_defs.specs.Cell as defs;
 use crate::{ANY, Entry};
 use cube_defs::MAX_DIMS;
 
-pub(crate) fn entry_at(code: u32) -> Entry
-    requires { IsTrue (is_kept code) }
-    ensures value { value_in result ≡ entry_of code }
-    ensures small { IsSmall result }
-{
-    if code == ANY {
-        Entry::Any
-    } else {
-        Entry::Is(code)
-    }
-}
-
 pub(crate) fn code_of(entry: Entry) -> u32
     requires { IsSmall entry }
     ensures value { entry_of result ≡ value_in entry }

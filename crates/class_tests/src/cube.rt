@@ -8,7 +8,7 @@ ghost use Rattle.qc_arena.specs.Seen.{record_at};
 ghost use Rattle.tree_search.specs.Found.{IsTreeOf};
 ghost use Rattle.class_tests.specs.Cubes.{IsOfOneMeasure};
 
-use crate::lines::{ANY, Line, Sale, line_of};
+use crate::lines::{Line, Sale, line_of};
 use base_table::Table;
 use cell_core::{Cell, Entry, NodeNo, Steps};
 use class_builder::build_classes;
@@ -26,19 +26,6 @@ fn tuple(alloc: Global, values: &Line) -> Cell
     let mut cell = Cell::any(alloc, 3);
     'dims: for dim in 0..3u8 {
         cell.set(dim, Entry::Is(values[dim as usize] as u32));
-    }
-    cell
-}
-
-/// The cell of a line.
-pub(crate) fn cell_of(alloc: Global, line: &Line) -> Cell
-    ensures { length result ≡ 3 }
-{
-    let mut cell = Cell::any(alloc, 3);
-    'dims: for dim in 0..3u8 {
-        if line[dim as usize] != ANY {
-            cell.set(dim, Entry::Is(line[dim as usize] as u32));
-        }
     }
     cell
 }

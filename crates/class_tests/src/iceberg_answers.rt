@@ -38,7 +38,8 @@ fn is_before(ask: &Ask, rows: &[Sale], x: &Class, y: &Class) -> bool {
     turned.then(cell_order(&c, &d)).is_lt()
 }
 
-fn is_total(agg: &Agg, total: &Total) -> bool {
+/// Whether the aggregate is that of the rows.
+pub fn is_total(agg: &Agg, total: &Total) -> bool {
     let parts = agg.parts;
     i64::from(agg.count) == total.count
         && parts[0].sum == total.sum
@@ -56,8 +57,8 @@ fn count_lowers(upper: &Line, rows: &[Sale]) -> u32 {
     count
 }
 
-// Whether just the lower bounds are there, in cell order.
-fn are_lowers(upper: &Line, rows: &[Sale], lowers: &Cells) -> bool {
+/// Whether just the lower bounds are there, in cell order.
+pub fn are_lowers(upper: &Line, rows: &[Sale], lowers: &Cells) -> bool {
     let mut last: Option<Line> = None;
     'lowers: for k in 0..lowers.len() {
         let cell = line_of(lowers.get(k));
@@ -96,7 +97,7 @@ fn count_classes(ask: &Ask, rows: &[Sale]) -> usize {
 }
 
 /// Whether just the classes are answered that are asked for, each right, and in order.
-pub(crate) fn is_right(ask: &Ask, rows: &[Sale], classes: &[Class]) -> bool {
+pub fn is_right(ask: &Ask, rows: &[Sale], classes: &[Class]) -> bool {
     'classes: for k in 0..classes.len() {
         if !is_class_right(ask, rows, &classes[k]) {
             return false;

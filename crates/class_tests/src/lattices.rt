@@ -5,9 +5,9 @@ ghost use Rattle.aggregates.specs.Views.{IsThere};
 ghost use Rattle.qc_arena.specs.Seen.{record_at};
 ghost use Rattle.class_tests.specs.Cubes.{IsAskable, IsOfOneMeasure};
 
-use crate::cube::{cell_of, dict_of, lines_of, table_of, tree_of};
+use crate::cube::{dict_of, lines_of, table_of, tree_of};
 use crate::lattice_answers::is_right;
-use crate::lines::{Line, Sale, cell_at, is_class};
+use crate::lines::{Line, Sale, cell_at, cell_of, is_class};
 use crate::question::Question;
 use crate::rows::drawn;
 use aggregates::{AggKind, read_fraction};

@@ -1,11 +1,10 @@
 //! Tests of icebergs and of the quotient lattice: over small cubes the answers against the definitions over all
-//! cells.
+//! cells. What the definitions say is public, for the tests of pins.
 #![tactic(auto)]
 
 #[cfg(test)]
 mod cube;
-#[cfg(test)]
-mod iceberg_answers;
+pub mod iceberg_answers;
 #[cfg(test)]
 mod icebergs;
 #[cfg(test)]
@@ -14,8 +13,7 @@ mod indexed;
 mod lattice_answers;
 #[cfg(test)]
 mod lattices;
-#[cfg(test)]
-mod lines;
+pub mod lines;
 mod question;
 #[cfg(test)]
 mod rows;

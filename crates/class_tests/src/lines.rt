@@ -1,39 +1,41 @@
 // Rows and cells of three dimensions of three values, and what the definitions say of them.
+ghost use Rattle.std.specs.Prelude.{length, ◌≡◌};
 
 use aggregates::{AggKind, Fraction};
 use cell_core::{Cell, Entry};
 use iceberg_query::{Ask, Bound};
+use std::alloc::Global;
 use std::cmp::Ordering;
 
 /// Of a row the values, and of a cell its entries. The values are 0, 1 and 2.
-pub(crate) type Line = [u8; 3];
+pub type Line = [u8; 3];
 
 /// In a cell.
-pub(crate) const ANY: u8 = 3;
+pub const ANY: u8 = 3;
 
 /// A row: its values, and its amount in tenths.
 #[derive(Clone, Copy)]
-pub(crate) struct Sale {
-    pub(crate) values: Line,
-    pub(crate) amount: i64,
+pub struct Sale {
+    pub values: Line,
+    pub amount: i64,
 }
 
 /// What rows come to.
 #[derive(Clone, Copy)]
-pub(crate) struct Total {
-    pub(crate) count: i64,
-    pub(crate) sum: i64,
-    pub(crate) least: i64,
-    pub(crate) greatest: i64,
+pub struct Total {
+    pub count: i64,
+    pub sum: i64,
+    pub least: i64,
+    pub greatest: i64,
 }
 
 /// The cell with a place among all, counted from 0 to 63.
-pub(crate) fn cell_at(place: u8) -> Line {
+pub fn cell_at(place: u8) -> Line {
     [place / 16 % 4, place / 4 % 4, place % 4]
 }
 
 /// Whether a cell is more general than another, or the same.
-pub(crate) fn is_leq(c: &Line, d: &Line) -> bool {
+pub fn is_leq(c: &Line, d: &Line) -> bool {
     'dims: for i in 0..3 {
         if c[i] != ANY && c[i] != d[i] {
             return false;
@@ -43,7 +45,7 @@ pub(crate) fn is_leq(c: &Line, d: &Line) -> bool {
 }
 
 /// Whether two cells are the same.
-pub(crate) fn is_same(c: &Line, d: &Line) -> bool {
+pub fn is_same(c: &Line, d: &Line) -> bool {
     c[0] == d[0] && c[1] == d[1] && c[2] == d[2]
 }
 
@@ -59,7 +61,7 @@ fn meet(c: &Line, d: &Line) -> Line {
 }
 
 /// What the rows come to that a cell covers.
-pub(crate) fn total_of(cell: &Line, rows: &[Sale]) -> Total {
+pub fn total_of(cell: &Line, rows: &[Sale]) -> Total {
     let mut total = Total {
         count: 0,
         sum: 0,
@@ -92,7 +94,7 @@ fn closure(cell: &Line, rows: &[Sale]) -> Option<Line> {
 }
 
 /// Whether a cell has this closure.
-pub(crate) fn closes(cell: &Line, upper: &Line, rows: &[Sale]) -> bool {
+pub fn closes(cell: &Line, upper: &Line, rows: &[Sale]) -> bool {
     match closure(cell, rows) {
         Some(c) => is_same(&c, upper),
         None => false,
@@ -100,12 +102,12 @@ pub(crate) fn closes(cell: &Line, upper: &Line, rows: &[Sale]) -> bool {
 }
 
 /// Whether a cell is what some rows share that it covers.
-pub(crate) fn is_class(cell: &Line, rows: &[Sale]) -> bool {
+pub fn is_class(cell: &Line, rows: &[Sale]) -> bool {
     closes(cell, cell, rows)
 }
 
 /// The value of a kind, as a numerator and a denominator.
-pub(crate) fn value(total: &Total, kind: AggKind) -> (i64, i64) {
+pub fn value(total: &Total, kind: AggKind) -> (i64, i64) {
     match kind {
         AggKind::Count => (total.count, 1),
         AggKind::Sum(_) => (total.sum, 10),
@@ -116,14 +118,14 @@ pub(crate) fn value(total: &Total, kind: AggKind) -> (i64, i64) {
 }
 
 /// How a value compares with a fraction.
-pub(crate) fn compare(a: (i64, i64), num: i128, den: i128) -> Ordering {
+pub fn compare(a: (i64, i64), num: i128, den: i128) -> Ordering {
     i128::from(a.0)
         .wrapping_mul(den)
         .cmp(&num.wrapping_mul(i128::from(a.1)))
 }
 
 /// Whether what a class comes to passes.
-pub(crate) fn passes(ask: &Ask, total: &Total) -> bool {
+pub fn passes(ask: &Ask, total: &Total) -> bool {
     let Fraction { num, den, .. } = ask.value;
     let order = compare(value(total, ask.kind), num, i128::from(den));
     match ask.bound {
@@ -143,7 +145,7 @@ fn rank(entry: u8) -> u8 {
 }
 
 /// Cell order by the texts.
-pub(crate) fn cell_order(c: &Line, d: &Line) -> Ordering {
+pub fn cell_order(c: &Line, d: &Line) -> Ordering {
     rank(c[0])
         .cmp(&rank(d[0]))
         .then(rank(c[1]).cmp(&rank(d[1])))
@@ -151,7 +153,7 @@ pub(crate) fn cell_order(c: &Line, d: &Line) -> Ordering {
 }
 
 /// The entries of a cell.
-pub(crate) fn line_of(cell: &Cell) -> Line {
+pub fn line_of(cell: &Cell) -> Line {
     let mut line = [ANY; 3];
     'dims: for dim in 0..cell.dims() {
         if let (Entry::Is(code), true) = (cell.get(dim), dim < 3) {
@@ -159,4 +161,17 @@ pub(crate) fn line_of(cell: &Cell) -> Line {
         }
     }
     line
+}
+
+/// The cell of a line.
+pub fn cell_of(alloc: Global, line: &Line) -> Cell
+    ensures { length result ≡ 3 }
+{
+    let mut cell = Cell::any(alloc, 3);
+    'dims: for dim in 0..3u8 {
+        if line[dim as usize] != ANY {
+            cell.set(dim, Entry::Is(line[dim as usize] as u32));
+        }
+    }
+    cell
 }

@@ -74,3 +74,7 @@ module _ (list : List Text) (text : Text) where
 pub learnt_list : (d d' : TextLists) (dim : ℕ) (value text : Text) → dim < length d.lists → d' ≡ learnt d dim value → value ≡ text → list_at d' dim ≡ learnt_in (list_at d dim) text
 learnt_list d d' dim value text lt ok said =
     ap (λ (n : TextLists). list_at n dim) ok ∙ get_or-set_same d.lists dim (learnt_in (list_at d dim) value) [] lt ∙ ap (learnt_in (list_at d dim)) said
+
+-- and the code of the text there
+pub learnt_code : (d d' : TextLists) (dim : ℕ) (value text : Text) (code : ℕ) → dim < length d.lists → d' ≡ learnt d dim value → value ≡ text → code_in (list_at d' dim) value ≡ Some code → code_in (learnt_in (list_at d dim) text) text ≡ Some code
+learnt_code d d' dim value text code lt ok said is = ap₂ code_in (sym (learnt_list d d' dim value text lt ok said)) (sym said) ∙ is

@@ -82,11 +82,11 @@ state-spelled s is short = record {
   spelled = record { few = omega (arith, schema-within s, short); again = read-again s.schema is.layout };
   texts_are = record {
     dims_are = is.lists;
-    each = lists-within s.schema.values s.texts is.layout.few_values (all_recursion (All IsValue) s.texts is.values) (all_recursion (λ (texts : List Text). length texts ≤ s.schema.values) s.texts is.few_texts);
+    each = lists-within s.schema.values s.texts is.layout.limits.few_values (all_recursion (All IsValue) s.texts is.values) (all_recursion (λ (texts : List Text). length texts ≤ s.schema.values) s.texts is.few_texts);
   };
   rows_are = record {
-    few = omega (arith, length-map s.rows (coded_row (place_in s.texts)), is.few_rows, is.layout.few_rows);
-    each = rows-within s.texts s.schema.values is.layout.few_values (each-few s.texts s.schema.values is.few_texts) (length s.schema.dims) (length s.schema.measures) s.rows
+    few = omega (arith, length-map s.rows (coded_row (place_in s.texts)), is.few_rows, is.layout.limits.few_rows);
+    each = rows-within s.texts s.schema.values is.layout.limits.few_values (each-few s.texts s.schema.values is.few_texts) (length s.schema.dims) (length s.schema.measures) s.rows
         (all_recursion (IsLoaded (length s.schema.dims) (length s.schema.measures)) s.rows is.rows) is.known;
   };
 }

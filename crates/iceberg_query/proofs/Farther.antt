@@ -18,7 +18,7 @@ use Rattle.iceberg_query.specs.declared.ask.Ask.{Ask}
 use Rattle.iceberg_query.specs.declared.ask.Bound.{Bound}
 use Rattle.iceberg_query.specs.declared.ask.Bound.TheVariants as bounds
 use Rattle.iceberg_query.specs.Asked.{bound_in}
-use Rattle.iceberg_query.specs.Reach.{IsOfSome, IsWithin, farther, is_reached, outer}
+use Rattle.iceberg_query.specs.Reach.{IsOfSome, IsPartWithin, farther, is_reached, outer}
 use Rattle.iceberg_query.proofs.Fractions.{IsAtMost, at_most_of, ge_rises, le_falls, lowest_at_most, times_le}
 use Rattle.iceberg_query.proofs.Parts.{times_more}
 
@@ -48,47 +48,38 @@ pub data IsValue : answers.AggKind → ℕ → Type 0 where
   of_mean : {m : ℕ} → IsValue (answers.Mean m) m
 
 module _ (measures : ℕ) (whole some : Agg) (is : IsOfSome measures whole some) (m : ℕ) (l : m < measures) (scale : ℕ) where
-  abbrev w : IsWithin (part whole m) some.count (part some m)
+  abbrev w : IsPartWithin (part whole m) some.count (part some m)
   w = is.each m l
 
-  top : (kind : answers.AggKind) → IsValue kind m → (0 < (value_of kind scale some).den) × IsAtMost (value_of kind scale some) (value_of (answers.Greatest m) scale whole)
-  top kind of_least = (
-    lowest_terms-positive (part some m).least (10 ^ scale) (ten-pos scale),
-    lowest_at_most (part some m).least (part whole m).greatest (10 ^ scale) (10 ^ scale) (ten-pos scale) (ten-pos scale) (times_le _ _ (10 ^ scale) w.least_high),
-  )
-  top kind of_greatest = (
-    lowest_terms-positive (part some m).greatest (10 ^ scale) (ten-pos scale),
-    lowest_at_most (part some m).greatest (part whole m).greatest (10 ^ scale) (10 ^ scale) (ten-pos scale) (ten-pos scale) (times_le _ _ (10 ^ scale) w.greatest_high),
-  )
-  top kind of_mean =
-      let p = mul-pos is.any (ten-pos scale) in
-      let e : ((part whole m).greatest *ℤ pos some.count) *ℤ pos (10 ^ scale) ≡ (part whole m).greatest *ℤ pos (some.count * 10 ^ scale) = mul-mul (part whole m).greatest some.count (10 ^ scale) in (
-        lowest_terms-positive (part some m).sum (some.count * 10 ^ scale) p,
-        lowest_at_most (part some m).sum (part whole m).greatest (some.count * 10 ^ scale) (10 ^ scale) p (ten-pos scale) (subst (λ z. ((part some m).sum *ℤ pos (10 ^ scale)) ≤ℤ z) e (times_le _ _ (10 ^ scale) w.sum_high)),
-      )
-
-  bottom : (kind : answers.AggKind) → IsValue kind m → (0 < (value_of kind scale some).den) × IsAtMost (value_of (answers.Least m) scale whole) (value_of kind scale some)
-  bottom kind of_least = (
+  -- between the least and the greatest amount of all
+  between : (kind : answers.AggKind) → IsValue kind m
+      → (0 < (value_of kind scale some).den) × IsAtMost (value_of (answers.Least m) scale whole) (value_of kind scale some) × IsAtMost (value_of kind scale some) (value_of (answers.Greatest m) scale whole)
+  between kind of_least = (
     lowest_terms-positive (part some m).least (10 ^ scale) (ten-pos scale),
     lowest_at_most (part whole m).least (part some m).least (10 ^ scale) (10 ^ scale) (ten-pos scale) (ten-pos scale) (times_le _ _ (10 ^ scale) w.least_low),
+    lowest_at_most (part some m).least (part whole m).greatest (10 ^ scale) (10 ^ scale) (ten-pos scale) (ten-pos scale) (times_le _ _ (10 ^ scale) w.least_high),
   )
-  bottom kind of_greatest = (
+  between kind of_greatest = (
     lowest_terms-positive (part some m).greatest (10 ^ scale) (ten-pos scale),
     lowest_at_most (part whole m).least (part some m).greatest (10 ^ scale) (10 ^ scale) (ten-pos scale) (ten-pos scale) (times_le _ _ (10 ^ scale) w.greatest_low),
+    lowest_at_most (part some m).greatest (part whole m).greatest (10 ^ scale) (10 ^ scale) (ten-pos scale) (ten-pos scale) (times_le _ _ (10 ^ scale) w.greatest_high),
   )
-  bottom kind of_mean =
+  between kind of_mean =
       let p = mul-pos is.any (ten-pos scale) in
-      let e : ((part whole m).least *ℤ pos some.count) *ℤ pos (10 ^ scale) ≡ (part whole m).least *ℤ pos (some.count * 10 ^ scale) = mul-mul (part whole m).least some.count (10 ^ scale) in (
+      let spread : (z : ℤ) → (z *ℤ pos some.count) *ℤ pos (10 ^ scale) ≡ z *ℤ pos (some.count * 10 ^ scale) = λ z. mul-mul z some.count (10 ^ scale) in (
         lowest_terms-positive (part some m).sum (some.count * 10 ^ scale) p,
-        lowest_at_most (part whole m).least (part some m).sum (10 ^ scale) (some.count * 10 ^ scale) (ten-pos scale) p (subst (λ z. z ≤ℤ ((part some m).sum *ℤ pos (10 ^ scale))) e (times_le _ _ (10 ^ scale) w.sum_low)),
+        lowest_at_most (part whole m).least (part some m).sum (10 ^ scale) (some.count * 10 ^ scale) (ten-pos scale) p
+            (subst (λ z. z ≤ℤ ((part some m).sum *ℤ pos (10 ^ scale))) (spread (part whole m).least) (times_le _ _ (10 ^ scale) w.sum_low)),
+        lowest_at_most (part some m).sum (part whole m).greatest (some.count * 10 ^ scale) (10 ^ scale) p (ten-pos scale)
+            (subst (λ z. ((part some m).sum *ℤ pos (10 ^ scale)) ≤ℤ z) (spread (part whole m).greatest) (times_le _ _ (10 ^ scale) w.sum_high)),
       )
 
   -- neither the least, the greatest nor the mean passes, where the outermost amount doesn't
   pub value_fails : (kind : answers.AggKind) (v : IsValue kind m) (bound : Bound) (f : Fraction)
       → answers.is_asked (record { kind = kind_in (outer bound m); scale = scale; bound = bound_in bound; value = f }) whole ≡ false
       → answers.is_asked (record { kind = kind; scale = scale; bound = bound_in bound; value = f }) some ≡ false
-  value_fails kind v bounds.AtLeast f h = false_from_ne_true _ (λ t. let r = top kind v in true≢false (sym (ge_rises _ _ f r.0 r.1 t) ∙ h))
-  value_fails kind v bounds.AtMost f h = false_from_ne_true _ (λ t. let r = bottom kind v in true≢false (sym (le_falls _ _ f r.0 r.1 t) ∙ h))
+  value_fails kind v bounds.AtLeast f h = false_from_ne_true _ (λ t. let r = between kind v in true≢false (sym (ge_rises _ _ f r.0 r.2 t) ∙ h))
+  value_fails kind v bounds.AtMost f h = false_from_ne_true _ (λ t. let r = between kind v in true≢false (sym (le_falls _ _ f r.0 r.1 t) ∙ h))
 
   abbrev sum : Fraction
   sum = value_of (answers.Sum m) scale some

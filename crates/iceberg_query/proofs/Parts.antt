@@ -9,7 +9,7 @@ use Rattle.cube_defs.specs.Rows.{Part, Row, agg_of, amounts_of, part_of}
 use Rattle.cube_defs.specs.Answers.{part}
 use Rattle.cube_laws.proofs.Lists.{filter-le}
 use Rattle.cube_laws.proofs.RowTotals.{part-agg_of}
-use Rattle.iceberg_query.specs.Reach.{IsOfSome, IsWithin}
+use Rattle.iceberg_query.specs.Reach.{IsOfSome, IsPartWithin}
 
 record IsBetween (low high x : ℤ) : Type 0 where
   at_least : low ≤ℤ x
@@ -82,7 +82,7 @@ some_of P f test (x ∷ xs) all = go (test x) (some_of P f test xs all.1)
     go true more = (all.0, more)
     go false more = more
 
-within : (whole : Part) (xs : List ℤ) → 1 ≤ length xs → AllByRecursion (IsBetween whole.least whole.greatest) xs → IsWithin whole (length xs) (part_of xs)
+within : (whole : Part) (xs : List ℤ) → 1 ≤ length xs → AllByRecursion (IsBetween whole.least whole.greatest) xs → IsPartWithin whole (length xs) (part_of xs)
 within whole [] h all = absurd (omega arith)
 within whole (x ∷ xs) h all =
     let low = fold_min whole.least whole.greatest x xs all.0 all.1 in
@@ -114,7 +114,7 @@ of_some measures rows test h = record {
       let some = filter test rows in
       let long = length-amounts m some in
       let is = within (part_of (amounts_of m rows)) (amounts_of m some) (omega (arith, long, h)) (some_of (IsBetween (part_of (amounts_of m rows)).least (part_of (amounts_of m rows)).greatest) _ test rows (all_between (amounts_of m rows))) in
-      subst (λ p. IsWithin p (length some) (part (agg_of measures some) m)) (sym (part-agg_of measures m rows l))
-      (subst (λ p. IsWithin (part_of (amounts_of m rows)) (length some) p) (sym (part-agg_of measures m some l))
-      (subst (λ n. IsWithin (part_of (amounts_of m rows)) n (part_of (amounts_of m some))) long is));
+      subst (λ p. IsPartWithin p (length some) (part (agg_of measures some) m)) (sym (part-agg_of measures m rows l))
+      (subst (λ p. IsPartWithin (part_of (amounts_of m rows)) (length some) p) (sym (part-agg_of measures m some l))
+      (subst (λ n. IsPartWithin (part_of (amounts_of m rows)) n (part_of (amounts_of m some))) long is));
 }

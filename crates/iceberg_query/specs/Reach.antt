@@ -15,7 +15,7 @@ use Rattle.iceberg_query.specs.declared.ask.Bound.TheVariants as bounds
 use Rattle.iceberg_query.specs.Asked.{ask_in}
 
 -- in one measure, what some rows come to, where all come to `whole`
-pub record IsWithin (whole : Part) (count : ℕ) (some : Part) : Type 0 where
+pub record IsPartWithin (whole : Part) (count : ℕ) (some : Part) : Type 0 where
   pub least_low : whole.least ≤ℤ some.least
   pub least_high : some.least ≤ℤ whole.greatest
   pub greatest_low : whole.least ≤ℤ some.greatest
@@ -27,7 +27,7 @@ pub record IsWithin (whole : Part) (count : ℕ) (some : Part) : Type 0 where
 pub record IsOfSome (measures : ℕ) (whole some : Agg) : Type 0 where
   pub any : 1 ≤ some.count
   pub few : some.count ≤ whole.count
-  pub each : (m : ℕ) → m < measures → IsWithin (part whole m) some.count (part some m)
+  pub each : (m : ℕ) → m < measures → IsPartWithin (part whole m) some.count (part some m)
 
 -- the kind that no amount's value is beyond, from the bound's side
 abbrev pub outer : Bound → ℕ → AggKind

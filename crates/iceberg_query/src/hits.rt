@@ -85,9 +85,5 @@ pub(crate) fn values_at<T: Nodes, L: Ledger>(
 pub(crate) fn without_values(alloc: Global, values: Vec<Valued>) -> Result<Vec<Class>, Memory>
     ensures { IfOk result (λ classes. classes.items ≡ map class_of values.items) }
 {
-    let mut classes = Vec::with_capacity(alloc, values.len())?;
-    'values: for value in values {
-        classes.push(value.class)?;
-    }
-    Ok(classes)
+    values.into_iter().map(|value| value.class).collect(alloc)
 }

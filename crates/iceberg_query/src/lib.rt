@@ -10,6 +10,6 @@ mod pick;
 mod reach;
 
 pub use answer::iceberg;
-pub use ask::{Ask, Bound};
+pub use ask::{Ask, Bound, passes};
 pub use cube_defs::Memory;
 pub use lower_bounds::Class;

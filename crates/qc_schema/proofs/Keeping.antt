@@ -6,7 +6,6 @@ use Rattle.std.specs.Str.{bytes_eq, all_ascii_digits}
 use Rattle.std.specs.Str.Parse.{digits_value}
 use Rattle.std.proofs.lemmas.Bool.{and_parts, leb-true, ltb-true, or_parts, not-true}
 use Rattle.std.proofs.lemmas.Bool.Decides.{nat_tests}
-use Rattle.std.specs.Bool.{Decides}
 use Rattle.std.proofs.lemmas.List.{map-append, length_push}
 use Rattle.aggregates.specs.Views.{IsThere, same_kind}
 use Rattle.aggregates.specs.declared.kind.AggKind.{AggKind}
@@ -23,7 +22,7 @@ use Rattle.qc_schema.specs.declared.reader.Stage.{Stage}
 use Rattle.qc_schema.specs.declared.reader.Stage.TheVariants as stages
 use Rattle.qc_schema.specs.declared.refusal.SchemaCause.{SchemaCause}
 use Rattle.qc_schema.specs.declared.refusal.SchemaCause.TheVariants.{End, Name, Number, Order, Version}
-use Rattle.qc_schema.proofs.Widening.{bytes-flip, flip-by, push-all, push-different, wider}
+use Rattle.qc_schema.proofs.Widening.{bytes-flip, push-all, push-different, wider}
 
 -- what holds behind a line of each kind
 abbrev pub AtStage : Stage → Layout → Type 0
@@ -180,12 +179,7 @@ first-dim version id name i n u = record {
   different_names = rw (bytes-flip id name (or_parts (bytes_eq id name) false u).0) refl;
   indexes = tt;
   different_indexes = refl;
-  some_nodes = omega arith;
-  few_nodes = omega arith;
-  some_rows = omega arith;
-  few_rows = omega arith;
-  some_values = omega arith;
-  few_values = omega arith;
+  limits = record { some_nodes = omega arith; few_nodes = omega arith; some_rows = omega arith; few_rows = omega arith; some_values = omega arith; few_values = omega arith };
 }
 
 next-dim : (l : Layout) (name : Text) → IsLayout l → length l.dims < max_dims l.version → is_name name ≡ true → is_used l name ≡ false → IsLayout (with_dim l name)
@@ -204,12 +198,7 @@ next-measure l m h none few small n u = record {
   different_names = ap (all_different bytes_eq) (more-names l m) ∙ push-different bytes_eq bytes-flip (names_of l) m.name h.different_names u;
   indexes = rw none tt;
   different_indexes = h.different_indexes;
-  some_nodes = h.some_nodes;
-  few_nodes = h.few_nodes;
-  some_rows = h.some_rows;
-  few_rows = h.few_rows;
-  some_values = h.some_values;
-  few_values = h.few_values;
+  limits = h.limits;
 }
 
 next-index : (l : Layout) (kind : AggKind) → IsLayout l → IsThere (length l.measures) kind → list_any (λ k. same_kind k kind) l.indexes ≡ false → IsLayout (record l { indexes = l.indexes ++ kind ∷ [] })
@@ -222,12 +211,7 @@ next-index l kind h there fresh = record {
   different_names = h.different_names;
   indexes = push-every (IsThere (length l.measures)) l.indexes kind h.indexes there;
   different_indexes = push-different same_kind kind-flip l.indexes kind h.different_indexes fresh;
-  some_nodes = h.some_nodes;
-  few_nodes = h.few_nodes;
-  some_rows = h.some_rows;
-  few_rows = h.few_rows;
-  some_values = h.some_values;
-  few_values = h.few_values;
+  limits = h.limits;
 }
 
 with-limits : (l : Layout) (nodes rows values : ℕ) → IsLayout l → (1 ≤ nodes) × (nodes ≤ 4000000) → (1 ≤ rows) × (rows ≤ 1000000) → (1 ≤ values) × (values ≤ 4000000) → IsLayout (record l { nodes = nodes; rows = rows; values = values })
@@ -240,12 +224,7 @@ with-limits l nodes rows values h n r v = record {
   different_names = h.different_names;
   indexes = h.indexes;
   different_indexes = h.different_indexes;
-  some_nodes = n.0;
-  few_nodes = n.1;
-  some_rows = r.0;
-  few_rows = r.1;
-  some_values = v.0;
-  few_values = v.1;
+  limits = record { some_nodes = n.0; few_nodes = n.1; some_rows = r.0; few_rows = r.1; some_values = v.0; few_values = v.1 };
 }
 
 -- what stands behind a dimension is a layout
@@ -387,7 +366,7 @@ nodes-kept s t words k e =
     let c = bind_ok (limit_in 4000000 b.0) _ t b.2 in
     let whole : IsLayout s.layout = layout-behind s.stage s.layout (from-values s.stage (from-rows s.stage (from-index s.stage (in-order _ _ a.1)))) k.holds in
     let same : record { stage = stages.Nodes; layout = record s.layout { nodes = c.0 } } ≡ t = cc (c.2) in
-    as-state _ t same (with-limits s.layout c.0 s.layout.rows s.layout.values whole (limit-small 4000000 b.0 c.0 c.1) (whole.some_rows, whole.few_rows) (whole.some_values, whole.few_values))
+    as-state _ t same (with-limits s.layout c.0 s.layout.rows s.layout.values whole (limit-small 4000000 b.0 c.0 c.1) (whole.limits.some_rows, whole.limits.few_rows) (whole.limits.some_values, whole.limits.few_values))
 
 rows-kept : (s t : Progress) (words : List Text) → Keeps s → rows_line s words ≡ Ok t → Keeps t
 unfolding rows_line
@@ -397,7 +376,7 @@ rows-kept s t words k e =
     let c = bind_ok (limit_in 1000000 b.0) _ t b.2 in
     let whole : IsLayout s.layout = layout-behind s.stage s.layout (from-values s.stage (from-rows s.stage (in-order _ _ a.1))) k.holds in
     let same : record { stage = stages.Rows; layout = record s.layout { rows = c.0 } } ≡ t = cc (c.2) in
-    as-state _ t same (with-limits s.layout s.layout.nodes c.0 s.layout.values whole (whole.some_nodes, whole.few_nodes) (limit-small 1000000 b.0 c.0 c.1) (whole.some_values, whole.few_values))
+    as-state _ t same (with-limits s.layout s.layout.nodes c.0 s.layout.values whole (whole.limits.some_nodes, whole.limits.few_nodes) (limit-small 1000000 b.0 c.0 c.1) (whole.limits.some_values, whole.limits.few_values))
 
 values-kept : (s t : Progress) (words : List Text) → Keeps s → values_line s words ≡ Ok t → Keeps t
 unfolding values_line
@@ -407,7 +386,7 @@ values-kept s t words k e =
     let c = bind_ok (limit_in 4000000 b.0) _ t b.2 in
     let whole : IsLayout s.layout = layout-behind s.stage s.layout (from-values s.stage (in-order _ _ a.1)) k.holds in
     let same : record { stage = stages.Values; layout = record s.layout { values = c.0 } } ≡ t = cc (c.2) in
-    as-state _ t same (with-limits s.layout s.layout.nodes s.layout.rows c.0 whole (whole.some_nodes, whole.few_nodes) (whole.some_rows, whole.few_rows) (limit-small 4000000 b.0 c.0 c.1))
+    as-state _ t same (with-limits s.layout s.layout.nodes s.layout.rows c.0 whole (whole.limits.some_nodes, whole.limits.few_nodes) (whole.limits.some_rows, whole.limits.few_rows) (limit-small 4000000 b.0 c.0 c.1))
 
 named-kept : (s t : Progress) (word : Text) (words : List Text) → Keeps s → named_line s word words ≡ Ok t → Keeps t
 unfolding named_line

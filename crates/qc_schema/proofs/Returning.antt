@@ -218,7 +218,7 @@ indexes-run (k ∷ ks) version stage id dims ms done may apart there d =
 -- the lines of the limits
 limits-run : (stage : Stage) (l : Layout) → MayIndex stage → IsLayout l → after (limit_words l) (at l.version stage l.id l.dims l.measures l.indexes) ≡ Ok (record { stage = stages.Values; layout = l })
 unfolding named_line nodes_line rows_line values_line
-limits-run stage l may h = rw (may.begun, may.index, limit-again MAX_NODES l.nodes h.some_nodes h.few_nodes (omega arith), limit-again MAX_ROWS l.rows h.some_rows h.few_rows (omega arith), limit-again MAX_CODES l.values h.some_values h.few_values (omega arith)) refl
+limits-run stage l may h = rw (may.begun, may.index, limit-again MAX_NODES l.nodes h.limits.some_nodes h.limits.few_nodes (omega arith), limit-again MAX_ROWS l.rows h.limits.some_rows h.limits.few_rows (omega arith), limit-again MAX_CODES l.values h.limits.some_values h.limits.few_values (omega arith)) refl
 
 -- the first two lines
 id-fresh : (id : Text) → is_name id ≡ true → bytes_eq [] id ≡ false
@@ -304,10 +304,10 @@ index-lines ms (k ∷ ks) there h = (index-line ms k there.0 h, index-lines ms k
 
 limit-lines : (l : Layout) → IsLayout l → AllByRecursion IsLine (limit_words l)
 limit-lines l h = (
-  pair-line (codes "nodes") (decimal l.nodes) (keyword (codes "nodes") (omega arith) refl) (number-word l.nodes (omega (arith, h.few_nodes))),
+  pair-line (codes "nodes") (decimal l.nodes) (keyword (codes "nodes") (omega arith) refl) (number-word l.nodes (omega (arith, h.limits.few_nodes))),
   (
-    pair-line (codes "rows") (decimal l.rows) (keyword (codes "rows") (omega arith) refl) (number-word l.rows (omega (arith, h.few_rows))),
-    (pair-line (codes "values") (decimal l.values) (keyword (codes "values") (omega arith) refl) (number-word l.values (omega (arith, h.few_values))), tt),
+    pair-line (codes "rows") (decimal l.rows) (keyword (codes "rows") (omega arith) refl) (number-word l.rows (omega (arith, h.limits.few_rows))),
+    (pair-line (codes "values") (decimal l.values) (keyword (codes "values") (omega arith) refl) (number-word l.values (omega (arith, h.limits.few_values))), tt),
   ),
 )
 

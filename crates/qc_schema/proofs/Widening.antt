@@ -61,10 +61,5 @@ wider l name h few new =
           ∙ put-different bytes_eq bytes-flip (l.id ∷ l.dims) (map (λ m. m.name) l.measures) name h.different_names (not-true (is_used l name) parts.1);
       indexes = h.indexes;
       different_indexes = h.different_indexes;
-      some_nodes = h.some_nodes;
-      few_nodes = h.few_nodes;
-      some_rows = h.some_rows;
-      few_rows = h.few_rows;
-      some_values = h.some_values;
-      few_values = h.few_values;
+      limits = h.limits;
     }

@@ -67,6 +67,15 @@ abbrev pub all_different : {X : Type 0} → (X → X → Bool) → List X → Bo
 all_different eq [] = true
 all_different eq (x ∷ xs) = not (list_any (λ y. eq y x) xs) && all_different eq xs
 
+-- how much a schema lets there be: some, and no more than there may ever be
+pub record AreLimits (nodes rows values : ℕ) : Type 0 where
+  pub some_nodes : 1 ≤ nodes
+  pub few_nodes : nodes ≤ MAX_NODES
+  pub some_rows : 1 ≤ rows
+  pub few_rows : rows ≤ MAX_ROWS
+  pub some_values : 1 ≤ values
+  pub few_values : values ≤ MAX_CODES
+
 -- what each schema that the grammar has is known to be
 pub record IsLayout (l : Layout) : Type 0 where
   pub some_dims : 1 ≤ length l.dims
@@ -77,9 +86,4 @@ pub record IsLayout (l : Layout) : Type 0 where
   pub different_names : all_different bytes_eq (names_of l) ≡ true
   pub indexes : AllByRecursion (IsThere (length l.measures)) l.indexes
   pub different_indexes : all_different same_kind l.indexes ≡ true
-  pub some_nodes : 1 ≤ l.nodes
-  pub few_nodes : l.nodes ≤ MAX_NODES
-  pub some_rows : 1 ≤ l.rows
-  pub few_rows : l.rows ≤ MAX_ROWS
-  pub some_values : 1 ≤ l.values
-  pub few_values : l.values ≤ MAX_CODES
+  pub limits : AreLimits l.nodes l.rows l.values

@@ -17,3 +17,4 @@ pub use limits::{DEFAULT_NODES, SchemaVersion, VERSION_1_DIMS, VERSION_1_MEASURE
 pub use refusal::{SchemaCause, SchemaRefused};
 pub use schema::{Schema, read_schema};
 pub use spelling::schema_text;
+pub use words::is_good_name;

@@ -1,14 +1,11 @@
 -- Classes without their lower bounds, with the texts of their codes.
-use Rattle.std.proofs.Common.{◌≡◌, ◌<◌, ℕ, zero, suc, List, [], ◌∷◌, length, map, get_or, refl, sym, ap, ap₂, subst, ◌∙◌, arith, inl, inr}
+use Rattle.std.proofs.Common.{◌≡◌, ℕ, zero, suc, List, [], ◌∷◌, length, map, refl, sym, ap, ap₂, subst, ◌∙◌, arith, inl, inr}
 use Rattle.std.specs.Prelude.{IsSome}
 use Rattle.std.specs.List.{All}
 use Rattle.std.specs.Ordering.{nat_cmp, eq_by_cmp}
-use Rattle.std.specs.FinMap as numbers
 use Rattle.std.proofs.lemmas.List.FromFn.{length-map-range_with_len}
-use Rattle.cube_laws.proofs.Lists.{all_among}
 use Rattle.cube_defs.specs.Answers.{ClassHit}
-use Rattle.cube_defs.specs.Cell.{Cell}
-use Rattle.cube_defs.specs.Rows.{Agg, agg, amounts_of, cov, is_class, part_of}
+use Rattle.cube_defs.specs.Rows.{Agg, agg, amounts_of, cov, part_of}
 use Rattle.cube_defs.specs.Text.{Text, text_cmp}
 use Rattle.cube_defs.specs.Tree.{Tree}
 use Rattle.cube_laws.specs.Lists.{Among}
@@ -24,13 +21,12 @@ use Rattle.tree_search.proofs.Climbed.{wide}
 use Rattle.tree_search.proofs.Walked.{cell_there}
 use Rattle.iceberg_query.specs.Hits.{told_classes}
 use Rattle.value_dict.specs.TextLists.{IsDictionary, TextLists}
-use Rattle.value_dict.specs.Recoded.{has_code, text_in, told_rows}
+use Rattle.value_dict.specs.Recoded.{has_code, told_rows}
 use Rattle.value_dict.specs.Told as telling
 use Rattle.value_dict.proofs.TextsApart.{texts-known}
-use Rattle.lower_bounds.proofs.OwnClosure.{own_closure}
+use Rattle.lower_bounds.proofs.OwnClosure.{class_there, own_closure}
 use Rattle.quotient_lattice.specs.Neighbours.{class_alone}
 use Rattle.quotient_lattice.specs.Told.{told_node, told_nodes}
-use Rattle.quotient_lattice.proofs.PlacedOrder.{class_there}
 use Rattle.quotient_lattice.proofs.ToldNodes.{class_known, tells, text_anti, text_total, told_alike}
 
 module _ (dims : ℕ) (tree : Tree ℕ) (dict : TextLists) (source : TreeRows) (h : IsTreeOf dims tree source) (dictionary : IsDictionary dict) (rows_known : RowsAreKnown (has_code dict.lists) source.rows) (same_dims : length dict.lists ≡ dims) where

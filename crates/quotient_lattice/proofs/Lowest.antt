@@ -13,7 +13,7 @@ use Rattle.cube_laws.specs.Lists.{Among}
 use Rattle.cube_laws.specs.Parts.{value_count}
 use Rattle.cube_laws.proofs.Cells.{cell_eq-exact, cell_eq-from, leq_antisymm, leq_trans}
 use Rattle.cube_laws.proofs.Listed.{classes-is}
-use Rattle.cube_laws.proofs.Lists.{all_among, among_filter, among_map, filter_among, map_among}
+use Rattle.cube_laws.proofs.Lists.{all_among, among_all, among_filter, among_map, filter_among, map_among}
 use Rattle.cube_laws.proofs.Orders.{code_equality, leq_is}
 use Rattle.qc_arena.specs.Seen.{record_at}
 use Rattle.tree_search.specs.Found.{IsTreeOf, TreeRows}
@@ -26,12 +26,11 @@ use Rattle.quotient_lattice.specs.Neighbours.{is_no_other, is_rolled, qualifies}
 use Rattle.quotient_lattice.specs.Placed.{AreAt, IsPassing, number_of}
 use Rattle.quotient_lattice.specs.Visits.{AreMet, is_lowest, is_no_lower}
 use Rattle.quotient_lattice.proofs.Coded.{among_passes, all_pass}
-use Rattle.quotient_lattice.proofs.ParentNodes.{all_items}
 use Rattle.quotient_lattice.proofs.Rolled.{most_general}
 use Rattle.quotient_lattice.proofs.ToldNodes.{class_node}
 use Rattle.quotient_lattice.proofs.Visited.{wants_is}
 
-pub lowest_once : (p : Placed → Bool) (xs : List Placed) → IsDistinct nat_eq (map number_of xs) → IsDistinct nat_eq (map number_of (filter p xs))
+lowest_once : (p : Placed → Bool) (xs : List Placed) → IsDistinct nat_eq (map number_of xs) → IsDistinct nat_eq (map number_of (filter p xs))
 unfolding IsDistinct
 lowest_once p [] d = tt
 lowest_once p (x ∷ xs) d = go (lowest_once p xs d.1) (p x)
@@ -48,8 +47,8 @@ lowest_once p (x ∷ xs) d = go (lowest_once p xs d.1) (p x)
     go more true = (behind xs d.0, more)
     go more false = more
 
-pub lowest_at : (tree : Tree ℕ) (p : Placed → Bool) (xs : List Placed) → AreAt tree xs → AreAt tree (filter p xs)
-lowest_at tree p xs at = all_items _ (filter p xs) (λ x m. all_among (λ (x : Placed). (record_at tree x.node.0).cell ≡ x.cell) xs at x (filter_among p x xs m).0)
+lowest_at : (tree : Tree ℕ) (p : Placed → Bool) (xs : List Placed) → AreAt tree xs → AreAt tree (filter p xs)
+lowest_at tree p xs at = among_all _ (filter p xs) (λ x m. all_among (λ (x : Placed). (record_at tree x.node.0).cell ≡ x.cell) xs at x (filter_among p x xs m).0)
 
 module _ (dims : ℕ) (tree : Tree ℕ) (source : TreeRows) (h : IsTreeOf dims tree source) (ask : Ask) (start : ℕ) (met : List Placed) (at : AreAt tree met) (are : AreMet tree source ask start (map number_of met)) where
   abbrev cell : ℕ → Cell ℕ
@@ -98,7 +97,7 @@ module _ (dims : ℕ) (tree : Tree ℕ) (source : TreeRows) (h : IsTreeOf dims t
       let top : g.0 ≡ cell (number_of x) = sym is ∙ sym (own y.0 y.1) ∙ ap cell (eqb-true (number_of y.0) (number_of x) same) in
       cell_eq-from code_equality e (cell (number_of x)) (leq_antisymm code_equality e (cell (number_of x)) q (subst (λ c. leq (eq_by_cmp nat_cmp) c e ≡ true) top g.3))
 
-  pub lowest_each : (k : ℕ) → Among k (map number_of (filter (is_lowest met) met)) ↔ IsPassing tree source rolled k
+  lowest_each : (k : ℕ) → Among k (map number_of (filter (is_lowest met) met)) ↔ IsPassing tree source rolled k
   lowest_each k = (to, from)
     where
       to : Among k (map number_of (filter (is_lowest met) met)) → IsPassing tree source rolled k
@@ -130,8 +129,14 @@ module _ (dims : ℕ) (tree : Tree ℕ) (source : TreeRows) (h : IsTreeOf dims t
               = sym (ap₂ (λ a b. not (a && b) || cell_eq (eq_by_cmp nat_cmp) (cell (number_of y)) (cell k)) (qualified (number_of y) my) under) ∙ t in
               eq-eqb (number_of y) (number_of x) (one (number_of y) (number_of x) my (number_met x mx) (cell_eq-exact code_equality (cell (number_of y)) (cell k) same ∙ ap cell is))
 
+  -- those that are kept are the nodes that pass, each once
+  pub lowest_kept : (kept : List Placed) → kept ≡ filter (is_lowest met) met → IsDistinct nat_eq (map number_of met) → AreAt tree kept × IsDistinct nat_eq (map number_of kept) × ((k : ℕ) → Among k (map number_of kept) ↔ IsPassing tree source rolled k)
+  lowest_kept kept is once =
+      subst (λ xs. AreAt tree xs × IsDistinct nat_eq (map number_of xs) × ((k : ℕ) → Among k (map number_of xs) ↔ IsPassing tree source rolled k)) (sym is)
+      (lowest_at tree (is_lowest met) met at, lowest_once (is_lowest met) met once, lowest_each)
+
   pub all_wide : All (λ (x : Placed). All (λ (y : Placed). length y.cell ≡ length x.cell) met) met
-  all_wide = all_items _ met (λ x m. all_items _ met (λ y n. long y n ∙ sym (long x m)))
+  all_wide = among_all _ met (λ x m. among_all _ met (λ y n. long y n ∙ sym (long x m)))
     where
       long : (x : Placed) → Among x met → length x.cell ≡ dims
       long x m = ap length (sym (own x m)) ∙ wide dims tree source h (number_of x) (are.each (number_of x) (number_met x m)).0.there

@@ -1,5 +1,5 @@
 -- The nodes of the parents of a class, with the texts of their codes.
-use Rattle.std.proofs.Common.{◌≡◌, ◌↔◌, ℕ, zero, suc, ◌<◌, true, Some, None, is_some, List, [], ◌∷◌, length, get_or, map, refl, sym, ap, ap₂, subst, ◌∙◌, arith, true≢false, inl, inr}
+use Rattle.std.proofs.Common.{◌≡◌, ◌↔◌, ℕ, suc, true, Some, None, is_some, List, [], ◌∷◌, length, map, refl, sym, ap, ap₂, subst, ◌∙◌, arith, true≢false, inl, inr}
 use Rattle.std.specs.Prelude.{IsSome}
 use Rattle.std.specs.declared.cmp.Ordering.TheVariants.{Less, Equal}
 use Rattle.std.specs.Ordering.{nat_cmp, eq_by_cmp, ordering_then}
@@ -17,7 +17,7 @@ use Rattle.cube_laws.specs.Lists.{Among}
 use Rattle.cube_laws.specs.Recoding.{RowsAreKnown, coded_cell}
 use Rattle.cube_laws.proofs.Closures.{is_class-is}
 use Rattle.cube_laws.proofs.Listed.{classes-is, classes_rise, rises-filter}
-use Rattle.cube_laws.proofs.Lists.{among_filter, among_map, filter_among, map_among}
+use Rattle.cube_laws.proofs.Lists.{among_all, among_filter, among_map, filter_among, map_among}
 use Rattle.cube_laws.proofs.Orders.{code_equality}
 use Rattle.cell_core.specs.declared.cell.NodeNo.{NodeNo}
 use Rattle.qc_arena.specs.Seen.{number, record_at}
@@ -33,14 +33,6 @@ use Rattle.quotient_lattice.specs.Neighbours.{is_parent, parents}
 use Rattle.quotient_lattice.specs.Told.{told_nodes}
 use Rattle.quotient_lattice.proofs.Coded.{is_parent-coded}
 use Rattle.quotient_lattice.proofs.ToldNodes.{Passes, class_known, nodes_alike, tells, text_anti, text_total, told_passing}
-
-pub all_items : {X : Type 0} (P : X → Type 0) (xs : List X) → ((x : X) → Among x xs → P x) → All P xs
-all_items P [] f = λ k d l. absurd (omega arith)
-all_items P (x ∷ xs) f = λ k d l. go k d l (all_items P xs (λ y m. f y (inr m)))
-  where
-    go : (k : ℕ) (d : _) → k < length (x ∷ xs) → All P xs → P (get_or (x ∷ xs) k d)
-    go zero d l rest = f x (inl refl)
-    go (suc k) d l rest = rest k d (omega arith)
 
 -- cells below one cell stand in the same order by any values
 below_order : (lists : List (List Text)) (j : ℕ) (u c d : Cell ℕ) → leq (eq_by_cmp nat_cmp) c u ≡ true → leq (eq_by_cmp nat_cmp) d u ≡ true → cell_cmp nat_cmp c d ≡ Less → cell_cmp text_cmp (coded_cell (text_in lists) j c) (coded_cell (text_in lists) j d) ≡ Less
@@ -86,7 +78,7 @@ module _ (dims : ℕ) (tree : Tree ℕ) (source : TreeRows) (h : IsTreeOf dims t
     cell_is_class c m = (classes-is nat_cmp_total numbers.nat_cmp-IsAntisymmetric source.rows dims h.wide c).0 (filter_among (λ p. is_parent nat_cmp source.rows p u) c (classes nat_cmp source.rows) m).0
 
     pub parents_are_classes : All (λ (n : NodeNo). IsSome (record_at tree n.0).class) nodes
-    parents_are_classes = all_items _ nodes (λ n m.
+    parents_are_classes = among_all _ nodes (λ n m.
         let p = parent_of n m in
         class_some n.0 (there tree n.0 p.0 p.2) (ap (is_class (eq_by_cmp nat_cmp) source.rows) (cell_of tree n.0 p.0 p.2) ∙ cell_is_class p.0 p.1))
 

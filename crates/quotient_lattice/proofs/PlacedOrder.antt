@@ -1,5 +1,5 @@
 -- Nodes in cell order are the classes that pass, with the texts of their codes.
-use Rattle.std.proofs.Common.{◌≡◌, ◌↔◌, ℕ, Bool, true, false, List, [], ◌∷◌, Option, Some, None, is_some, length, map, filter, refl, sym, ap, ap₂, subst, ◌∙◌, true≢false, inl, inr, nat_eq, eq-eqb}
+use Rattle.std.proofs.Common.{◌≡◌, ◌↔◌, ℕ, Bool, true, false, List, [], ◌∷◌, Some, length, map, filter, refl, sym, ap, ap₂, subst, ◌∙◌, true≢false, inl, inr, nat_eq, eq-eqb}
 use Rattle.std.specs.Prelude.{IsSome}
 use Rattle.std.specs.declared.cmp.Ordering.TheVariants.{Less}
 use Rattle.std.specs.Ordering.{is_eq}
@@ -12,15 +12,15 @@ use Rattle.std.proofs.lemmas.List.Sorted.{IsPermutation-sym}
 use Rattle.std.proofs.lemmas.Simd.{map-map}
 use Rattle.cube_defs.specs.Text.{Text, text_cmp}
 use Rattle.cube_defs.specs.Cell.{Cell, cell_cmp}
-use Rattle.cube_defs.specs.Tree.{Node, Tree, classes}
+use Rattle.cube_defs.specs.Tree.{Tree, classes}
 use Rattle.cube_laws.specs.Lists.{Among}
 use Rattle.cube_laws.specs.Recoding.{AreKnown, RowsAreKnown, coded_cell}
 use Rattle.cube_laws.proofs.Covered.{cell_anti, cell_total}
-use Rattle.cube_laws.proofs.Lists.{all_among, among_map, map_among}
+use Rattle.cube_laws.proofs.Lists.{all_among, among_all, among_map, map_among}
 use Rattle.cube_laws.proofs.Orders.{code_equality, equality_by, is_equal}
 use Rattle.cube_laws.proofs.Recoded.{coded-apart}
 use Rattle.cell_core.specs.declared.cell.NodeNo.{NodeNo}
-use Rattle.qc_arena.specs.Seen.{record_at, record_or}
+use Rattle.qc_arena.specs.Seen.{record_at}
 use Rattle.tree_search.specs.Found.{IsTreeOf, TreeRows}
 use Rattle.tree_search.proofs.Walked.{cell_there}
 use Rattle.value_dict.specs.TextLists.{IsDictionary, TextLists}
@@ -31,15 +31,7 @@ use Rattle.quotient_lattice.specs.declared.placed.Placed.{Placed}
 use Rattle.quotient_lattice.specs.Placed.{AreAt, IsPassing, is_before, node_of, number_of, place_cmp, told_place}
 use Rattle.quotient_lattice.specs.Told.{told_node, told_nodes}
 use Rattle.quotient_lattice.proofs.ToldNodes.{Passes, class_known, nodes_alike, tells, text_anti, text_total, told_passing}
-use Rattle.quotient_lattice.proofs.ParentNodes.{all_items, class_some}
-
--- a class is at a node
-pub class_there : (tree : Tree ℕ) (k : ℕ) → IsSome (record_at tree k).class → IsSome (numbers.get tree k)
-class_there tree k t = go (numbers.get tree k) refl
-  where
-    go : (o : Option (Node ℕ ℕ)) → numbers.get tree k ≡ o → IsSome (numbers.get tree k)
-    go None e = absurd (true≢false (sym t ∙ ap (λ o. is_some (record_or o).class) e))
-    go (Some n) e = subst (λ o. IsSome o) (sym e) refl
+use Rattle.quotient_lattice.proofs.ParentNodes.{class_some}
 
 pub place_total : (lists : List (List Text)) → IsTotalOrder (place_cmp lists)
 place_total lists = on_total (told_place lists) (cell_total text_total text_anti)
@@ -53,7 +45,7 @@ module _ (dims : ℕ) (tree : Tree ℕ) (source : TreeRows) (h : IsTreeOf dims t
 
   module _ (each : (k : ℕ) → Among k (map number_of found) ↔ IsPassing tree source P k) where
     pub nodes_are_classes : All (λ (n : NodeNo). IsSome (record_at tree n.0).class) nodes
-    nodes_are_classes = subst (All (λ (n : NodeNo). IsSome (record_at tree n.0).class)) (sym are) (all_items _ (map node_of placed) (λ n m.
+    nodes_are_classes = subst (All (λ (n : NodeNo). IsSome (record_at tree n.0).class)) (sym are) (among_all _ (map node_of placed) (λ n m.
         let x : (x : Placed) × Among x placed × (n ≡ node_of x) = among_map node_of n placed m in
         let p = (each (number_of x.0)).0 (map_among number_of x.0 found (back x.0 x.1)) in
         subst (λ (n : NodeNo). IsSome (record_at tree n.0).class) (sym x.2) (class_some dims tree source h (number_of x.0) p.there p.class)))

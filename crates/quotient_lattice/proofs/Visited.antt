@@ -31,8 +31,7 @@ use Rattle.quotient_lattice.specs.Visits.{AreMet, AreSeen, IsVisited, wants}
 use Rattle.quotient_lattice.proofs.InOrder.{parent_above}
 use Rattle.quotient_lattice.proofs.PickedNodes.{distinct_push, one_among as one_picked}
 use Rattle.quotient_lattice.proofs.Rolled.{reached}
-use Rattle.quotient_lattice.proofs.PlacedOrder.{class_there}
-use Rattle.lower_bounds.proofs.OwnClosure.{own_closure}
+use Rattle.lower_bounds.proofs.OwnClosure.{class_there, own_closure}
 use Rattle.quotient_lattice.proofs.ToldNodes.{class_node}
 
 pub nothing_more : (xs : List ℕ) (k : ℕ) (b : Bool) → b ≡ false → xs ≡ xs ++ cond b (k ∷ []) []

@@ -34,9 +34,5 @@ pub(crate) fn sort(dict: &Dict, found: &mut Vec<Placed>) -> Result<(), Memory>
 pub(crate) fn without_cells(alloc: Global, found: Vec<Placed>) -> Result<Vec<NodeNo>, Memory>
     ensures { IfOk result (λ nodes. nodes.items ≡ map node_of found.items) }
 {
-    let mut nodes = Vec::with_capacity(alloc, found.len())?;
-    'found: for placed in found {
-        nodes.push(placed.node)?;
-    }
-    Ok(nodes)
+    found.into_iter().map(|placed| placed.node).collect(alloc)
 }

@@ -3,11 +3,9 @@ ghost use Rattle.std.specs.FinMap as map;
 ghost use Rattle.std.specs.List.{IsDistinct};
 ghost use Rattle.std.specs.Prelude.{All, IfOk, IsSome, OnOk, [], filter, length, map as mapped, nat_eq, ℕ, ◌≡◌, ◌≤◌, ◌↔◌, ◌∷◌, ◌++◌, true};
 ghost use Rattle.std.specs.Ordering.{nat_cmp};
-ghost use Rattle.cube_defs.specs.Answers as answers;
 ghost use Rattle.cube_defs.specs.Text.{text_cmp};
 ghost use Rattle.cube_laws.specs.Lists.{Among};
 ghost use Rattle.cube_laws.specs.Recoding.{RowsAreKnown};
-ghost use Rattle.aggregates.specs.Views.{IsThere, agg_in};
 ghost use Rattle.iceberg_query.specs.Asked.{HasMeasure, ask_in};
 ghost use Rattle.indexmap.specs.IndexSet.{insert_all};
 ghost use Rattle.qc_arena.specs.Seen.{record_at};
@@ -23,28 +21,14 @@ ghost use Rattle.quotient_lattice.specs.Visits.{AreMet, IsVisited};
 use crate::Memory;
 use crate::downward::found_children;
 use crate::placed::{Placed, sort, without_cells};
-use aggregates::{Agg, compare, value_of};
 use cell_core::{Cell, NodeNo, Steps, leq};
-use iceberg_query::{Ask, Bound};
+use iceberg_query::{Ask, passes};
 use indexmap::IndexSet;
 use qc_arena::Nodes;
 use std::alloc::Global;
 use std::sync::ledger::Ledger;
 use tree_search::upper_into;
 use value_dict::Dict;
-
-// Whether a class with this aggregate is asked for.
-fn is_asked(ask: &Ask, agg: &Agg) -> bool
-    requires there { IsThere agg.now.measures ask.now.kind }
-    requires scale { ask.now.scale ≤ 6 }
-    ensures { result ≡ answers.is_asked (ask_in ask.now) (agg_in agg.now) }
-{
-    let order = compare(&value_of(agg, ask.kind, ask.scale), &ask.value);
-    match ask.bound {
-        Bound::AtLeast => order.is_ge(),
-        Bound::AtMost => order.is_le(),
-    }
-}
 
 // Whether the class of a node is asked for.
 fn wants<T: Nodes, L: Ledger>(tree: &T, ask: &Ask, node: NodeNo, steps: &mut Steps<L>) -> bool
@@ -54,7 +38,7 @@ fn wants<T: Nodes, L: Ledger>(tree: &T, ask: &Ask, node: NodeNo, steps: &mut Ste
     ensures { result ≡ visits.wants (T.tree tree.now) ask.now node.0 }
 {
     let total = tree.class(node, steps).unwrap();
-    is_asked(ask, &total)
+    passes(ask, &total)
 }
 
 // Puts numbers in that are not there yet.

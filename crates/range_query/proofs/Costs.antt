@@ -97,11 +97,11 @@ module _ {A : Type 0} (eq : A → A → Bool) (rows : List (Row A)) where
   cells_of box p i v = if_covered eq rows [] (λ q. met eq rows box q (suc i)) (with_value p i v)
 
   -- a step a label and two for each cell that is met
-  pub record IsWithin (box : Box A) (p : Cell A) (i : ℕ) : Type 0 where
+  pub record IsBoundedByLabels (box : Box A) (p : Cell A) (i : ℕ) : Type 0 where
     pub steps : cost eq rows box p i ≤ labels box p i + 2 * length (met eq rows box p i)
     pub cells : length (met eq rows box p i) ≤ 1 + labels box p i
 
-  pub cost_within : (box : Box A) (p : Cell A) (i : ℕ) → IsWithin box p i
+  pub cost_within : (box : Box A) (p : Cell A) (i : ℕ) → IsBoundedByLabels box p i
   cost_within [] p i = record { steps = omega arith; cells = omega arith }
   cost_within (None ∷ box) p i =
       let r = cost_within box p (suc i) in
@@ -112,7 +112,7 @@ module _ {A : Type 0} (eq : A → A → Bool) (rows : List (Row A)) where
       let e = labels_codes box p i vs in
       record { steps = omega (arith, e, r.0); cells = omega (arith, e, r.1) }
     where
-      one : (q : Cell A) (b : Bool) → IsWithin box q (suc i)
+      one : (q : Cell A) (b : Bool) → IsBoundedByLabels box q (suc i)
           → (1 + cond b (cost eq rows box q (suc i)) 0 ≤ 1 + cond b (labels box q (suc i)) 0 + 2 * length (cond b (met eq rows box q (suc i)) []))
           × (length (cond b (met eq rows box q (suc i)) []) ≤ 1 + cond b (labels box q (suc i)) 0)
       one q true w = (omega (arith, w.steps), omega (arith, w.cells))
@@ -133,7 +133,7 @@ module _ {A : Type 0} {cmp : A → A → Ordering} (total : IsTotalOrder cmp) (a
   labels_are : labels (eq_by_cmp cmp) rows box (replicate dims None) 0 ≡ work cmp rows box
   labels_are = total_same (reached_from (eq_by_cmp cmp) rows box (replicate dims None) 0) (reached cmp rows box) box (λ j. ap length (met_is total anti rows dims wide (front_box j box) (front_long j box ∙ fits) (front_ordered cmp j box ordered) some))
 
-  within : IsWithin (eq_by_cmp cmp) rows box (replicate dims None) 0
+  within : IsBoundedByLabels (eq_by_cmp cmp) rows box (replicate dims None) 0
   within = cost_within (eq_by_cmp cmp) rows box (replicate dims None) 0
 
   cells_are : length (met (eq_by_cmp cmp) rows box (replicate dims None) 0) ≡ length (filter (in_box (eq_by_cmp cmp) box) (covered cmp rows))

@@ -139,12 +139,12 @@ module _ (dims : ℕ) (tree : Tree ℕ) (node : ℕ) (p : Cell ℕ) (i : ℕ) (s
       pub entered_none : walk_on (eq_by_cmp nat_cmp) node (record_at tree node) i e ≡ None → entered source box p i e ≡ []
       entered_none w = cond-false _ _ _ (next_none source h e l w)
 
-      module _ (j : ℕ) (w : walk_on (eq_by_cmp nat_cmp) node (record_at tree node) i e ≡ Some j) where
-        pub entered_some : entered source box p i e ≡ met source box (set p i e) (suc i)
-        entered_some = cond-true _ _ _ (next_some source h e l j w).2
+      module _ (j : ℕ) (w : walk_on (eq_by_cmp nat_cmp) node (record_at tree node) i e ≡ Some j) (after : Cell ℕ) (is : after ≡ set p i e) where
+        pub entered_some : entered source box p i e ≡ met source box after (i + 1)
+        entered_some = cond-true _ _ _ (next_some source h e l j w).2 ∙ ap (λ p. met source box p (suc i)) (sym is) ∙ (let next : suc i ≡ i + 1 = omega arith in ap (met source box after) next)
 
-        pub entry_cost_some : entry_cost source box p i e ≡ 1 + cost source box (set p i e) (suc i)
-        entry_cost_some = ap (λ n. 1 + n) (cond-true _ _ _ (next_some source h e l j w).2)
+        pub entry_cost_some : entry_cost source box p i e ≡ 1 + cost source box after (i + 1)
+        entry_cost_some = ap (λ n. 1 + n) (cond-true _ _ _ (next_some source h e l j w).2 ∙ ap (λ p. cost source box p (suc i)) (sym is) ∙ (let next : suc i ≡ i + 1 = omega arith in ap (cost source box after) next))
 
     -- one dimension of a box
     module _ (l : i < length box) where

@@ -1,6 +1,7 @@
 // Bytes that are the snapshot of a state, or of none.
 ghost use Rattle.std.specs.Prelude.{◌<◌, ◌≡◌};
 
+use crate::FULL;
 use cell_core::Steps;
 use cube_defs::MAX_FILE;
 use cube_snapshot::{DecodeRefused, decode, encode};
@@ -10,18 +11,7 @@ use std::sync::ledger::{Blank, Ledger};
 use std::test::Fail;
 use warehouse::Warehouse;
 
-// Of three rows: the mark, the schema, the texts of three dimensions, and the rows.
-const FULL: &[u8] = b"QCUBESN1\x00\x00\x00h\
-    qcube 1\nid id\ndim store\ndim product\ndim season\nmeasure sale 0\nnodes 1000000\nrows 1000000\nvalues 4000000\n\
-    \x00\x00\x00\x02\x02S1\x02S2\
-    \x00\x00\x00\x02\x02P1\x02P2\
-    \x00\x00\x00\x02\x01s\x01f\
-    \x00\x00\x00\x03\
-    \x00\x00\x00\x00\x00\x00\x00\x01\x00\x00\x00\x00\x00\x00\x00\x00\x00\x00\x00\x00\x00\x00\x00\x00\x00\x00\x00\x06\
-    \x00\x00\x00\x00\x00\x00\x00\x02\x00\x00\x00\x00\x00\x00\x00\x01\x00\x00\x00\x00\x00\x00\x00\x00\x00\x00\x00\x0C\
-    \x00\x00\x00\x00\x00\x00\x00\x03\x00\x00\x00\x01\x00\x00\x00\x00\x00\x00\x00\x01\x00\x00\x00\x00\x00\x00\x00\x09";
-
-// The same of a schema that allows ten nodes, where the rows have eleven.
+// [`FULL`], but of a schema that allows ten nodes, where the rows have eleven.
 const CROWDED: &[u8] = b"QCUBESN1\x00\x00\x00c\
     qcube 1\nid id\ndim store\ndim product\ndim season\nmeasure sale 0\nnodes 10\nrows 1000000\nvalues 4000000\n\
     \x00\x00\x00\x02\x02S1\x02S2\

@@ -1,5 +1,6 @@
 // Batches of changes, and the rows that they leave.
-ghost use Rattle.std.specs.Prelude.{All, None, is_some, length, true, ◌<◌, ◌≡◌, ◌≤◌};
+ghost use Rattle.std.specs.Prelude.{All, None, is_some, length, nat_abs, true, ◌<◌, ◌≡◌, ◌≤◌};
+ghost use Rattle.aggregates.specs.Bounds.{largest_amount};
 
 use base_table::{Table, TableRefused};
 use cell_core::{Cell, Code, Entry};
@@ -52,6 +53,19 @@ fn insert(alloc: Global, table: &mut Table, id: u64, tuple: &Cell, amount: i16) 
         Err(TableRefused::Full) => Full,
         Err(TableRefused::Memory) => Reply::Memory,
     }
+}
+
+/// Whether a row was put in, with as many values and amounts as the table has.
+pub(crate) fn put(table: &mut Table, id: u64, tuple: &Cell, amounts: &[i64]) -> bool
+    requires is_open { is_some table.old.was ≡ true }
+    requires full { All (λ entry. is_some entry ≡ true) tuple.now }
+    requires small { All (λ amount. nat_abs amount ≤ largest_amount) amounts.now }
+    ensures { is_some table.new.was ≡ true }
+{
+    if table.dims() != tuple.dims() || table.measures() as usize != amounts.len() {
+        return false;
+    }
+    table.insert(id, tuple, amounts).is_ok()
 }
 
 /// Makes a change of a table of two dimensions and a measure.

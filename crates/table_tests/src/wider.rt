@@ -2,7 +2,7 @@
 ghost use Rattle.std.specs.Prelude.{All, None, is_some, length, true, ◌≡◌};
 
 use crate::rows::Change::{Delete, Insert};
-use crate::rows::make;
+use crate::rows::{make, put};
 use base_table::Table;
 use cell_core::{Cell, Code, Entry};
 use std::alloc::{AllocError, Global};
@@ -143,18 +143,6 @@ fn triple(alloc: Global, a: u8, b: u8, c: u8) -> Cell
     tuple
 }
 
-// Whether a row of three dimensions was put in.
-fn put(table: &mut Table, id: u64, tuple: &Cell) -> bool
-    requires is_open { is_some table.old.was ≡ true }
-    requires full { All (λ entry. is_some entry ≡ true) tuple.now }
-    ensures { is_some table.new.was ≡ true }
-{
-    if table.dims() != tuple.dims() || table.measures() != 1 {
-        return false;
-    }
-    table.insert(id, tuple, &[5]).is_ok()
-}
-
 // The sum of the rows of a tuple.
 fn sum_of(alloc: Global, table: &Table, a: u8, b: u8, c: u8) -> Option<i64> {
     if table.dims() != 3 {
@@ -172,8 +160,8 @@ fn sums(alloc: Global) -> Result<[Option<i64>; 4], AllocError> {
     widen(&mut table, 7);
     table.commit();
     table.begin();
-    put(&mut table, 3, &triple(alloc, 3, 4, 8));
-    put(&mut table, 4, &triple(alloc, 3, 4, 7));
+    put(&mut table, 3, &triple(alloc, 3, 4, 8), &[5]);
+    put(&mut table, 4, &triple(alloc, 3, 4, 7), &[5]);
     table.commit();
     Ok([
         sum_of(alloc, &table, 3, 4, 7),

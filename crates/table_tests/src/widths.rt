@@ -1,6 +1,7 @@
 // What rows of each width share.
 ghost use Rattle.std.specs.Prelude.{All, is_some, length, true, ◌<◌, ◌≡◌, ◌≤◌};
 
+use crate::rows::put;
 use base_table::Table;
 use cell_closure::{closure_of, meet_fixed};
 use cell_core::{ANY, Cell, Entry};
@@ -35,18 +36,6 @@ fn tuple(alloc: Global, row: Ends, dims: u8) -> Cell
     tuple
 }
 
-// Whether a row without amounts was put in.
-fn put(table: &mut Table, id: u64, tuple: &Cell) -> bool
-    requires is_open { is_some table.old.was ≡ true }
-    requires full { All (λ entry. is_some entry ≡ true) tuple.now }
-    ensures { is_some table.new.was ≡ true }
-{
-    if table.dims() != tuple.dims() || table.measures() != 0 {
-        return false;
-    }
-    table.insert(id, tuple, &[]).is_ok()
-}
-
 // A table of so many dimensions with these rows.
 fn wide_table(alloc: Global, rows: &[Ends], dims: u8) -> Result<Table, AllocError>
     requires some { 0 < dims }
@@ -55,7 +44,12 @@ fn wide_table(alloc: Global, rows: &[Ends], dims: u8) -> Result<Table, AllocErro
     let mut table = Table::new(alloc, dims, 0, 100)?;
     table.begin();
     'rows: for place in 0..rows.len() {
-        put(&mut table, place as u64, &tuple(alloc, rows[place], dims));
+        put(
+            &mut table,
+            place as u64,
+            &tuple(alloc, rows[place], dims),
+            &[],
+        );
     }
     table.commit();
     Ok(table)

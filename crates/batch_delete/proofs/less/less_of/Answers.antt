@@ -1,28 +1,34 @@
-use Rattle.std.proofs.Common.{◌≡◌, ◌∙◌, Some, ap, arith, nat_cmp, subst, sym, true}
+use Rattle.std.proofs.Common.{◌≡◌, ◌∙◌, Some, ap, arith, length, nat_cmp, subst, sym, true}
 use Rattle.std.specs.Option.{option_map}
 use Rattle.std.specs.Ordering.{eq_by_cmp}
 use Rattle.aggregates.specs.declared.agg.Agg.{Agg}
 use Rattle.aggregates.specs.Views.{agg_in}
 use Rattle.cube_defs.specs.Cell.{leq}
-use Rattle.cube_laws.specs.Total.{join_aggs}
+use Rattle.cube_laws.specs.Total.{agg_at, join_aggs}
+use Rattle.batch_delete.specs.Rests.{rows_after}
 use Rattle.batch_delete.proofs.Leaving.{few_both, left, tuple_closes, twins_long}
 use Rattle.batch_delete.proofs.Settling.{if_some}
+use Rattle.batch_delete.proofs.less.less_of.Given as given
 use Rattle.batch_delete.proofs.less.less_of.Goals as goal
+use Rattle.batch_delete.proofs.less.less_of.Goals.{In-Some-besides}
 
-pub with_twins-requires-clause-parts : goal.with_twins-requires-clause-parts
-with_twins-requires-clause-parts g c =
+-- what the class comes to afterwards, by its tuple's rows and the others
+stays : (g : given.Over) (c : In-Some-besides g) → (length (agg_in c.in-Some-besides.others).parts ≡ g.d.measures)
+    × (agg_at (eq_by_cmp nat_cmp) g.d.measures (rows_after g.d) c.args.cell.now ≡ join_aggs (agg_at (eq_by_cmp nat_cmp) g.d.measures (rows_after g.d) c.args.row.now.tuple) (Some (agg_in c.in-Some-besides.others)))
+stays g c =
     let up = subst (λ t. leq (eq_by_cmp nat_cmp) c.args.cell.now t ≡ true) (sym c.requires.0.tuple) c.requires.1.0 in
     let e = sym (ap (option_map agg_in) c.in-Some.is) ∙ c.requires.1.1 in
     let f = sym (ap (option_map agg_in) c.in-Some-all.is) ∙ c.requires.0.all in
-    let is = left g.d c.args.cell.now c.args.row.now.tuple up (tuple_closes g.d c.args.row.now.tuple c.requires.0.tuple).0 c.in-Some.whole c.in-Some-all.gone c.in-Some-besides.others e f c.in-Some-besides.ensures.more c.in-Some-besides.ensures.rest in
+    left g.d c.args.cell.now c.args.row.now.tuple up (tuple_closes g.d c.args.row.now.tuple c.requires.0.tuple).0 c.in-Some.whole c.in-Some-all.gone c.in-Some-besides.others e f c.in-Some-besides.ensures.more c.in-Some-besides.ensures.rest
+
+pub with_twins-requires-clause-parts : goal.with_twins-requires-clause-parts
+with_twins-requires-clause-parts g c =
+    let is = stays g (goal.at.with_twins-requires-clause-parts g c).In-Some-besides in
     if_some _ c.args.row.now.twins (λ (agg : Agg) some. is.0 ∙ sym (twins_long g.d c.args.row.now.tuple (agg_in agg) (sym c.requires.0.twins ∙ ap (option_map agg_in) some)))
 
 pub with_twins-requires-clause-few : goal.with_twins-requires-clause-few
 with_twins-requires-clause-few g c =
-    let up = subst (λ t. leq (eq_by_cmp nat_cmp) c.args.cell.now t ≡ true) (sym c.requires.0.tuple) c.requires.1.0 in
-    let e = sym (ap (option_map agg_in) c.in-Some.is) ∙ c.requires.1.1 in
-    let f = sym (ap (option_map agg_in) c.in-Some-all.is) ∙ c.requires.0.all in
-    let is = left g.d c.args.cell.now c.args.row.now.tuple up (tuple_closes g.d c.args.row.now.tuple c.requires.0.tuple).0 c.in-Some.whole c.in-Some-all.gone c.in-Some-besides.others e f c.in-Some-besides.ensures.more c.in-Some-besides.ensures.rest in
+    let is = stays g (goal.at.with_twins-requires-clause-few g c).In-Some-besides in
     let few = c.requires.0.few in
     if_some _ c.args.row.now.twins (λ (agg : Agg) some.
     let both = few_both g.d c.args.cell.now (agg_in agg) (agg_in c.in-Some-besides.others) _ (sym c.requires.0.twins ∙ ap (option_map agg_in) some) is.1 in
@@ -30,8 +36,5 @@ with_twins-requires-clause-few g c =
 
 pub returns-in-Some-besides : goal.returns-in-Some-besides
 returns-in-Some-besides g c =
-    let up = subst (λ t. leq (eq_by_cmp nat_cmp) c.args.cell.now t ≡ true) (sym c.requires.0.tuple) c.requires.1.0 in
-    let e = sym (ap (option_map agg_in) c.in-Some.is) ∙ c.requires.1.1 in
-    let f = sym (ap (option_map agg_in) c.in-Some-all.is) ∙ c.requires.0.all in
-    let is = left g.d c.args.cell.now c.args.row.now.tuple up (tuple_closes g.d c.args.row.now.tuple c.requires.0.tuple).0 c.in-Some.whole c.in-Some-all.gone c.in-Some-besides.others e f c.in-Some-besides.ensures.more c.in-Some-besides.ensures.rest in
+    let is = stays g (goal.at.returns-in-Some-besides g c).In-Some-besides in
     record { agg = c.with_twins.ensures ∙ ap (λ o. join_aggs o (Some (agg_in c.in-Some-besides.others))) c.requires.0.twins ∙ sym is.1 }

@@ -9,7 +9,7 @@ shared_codes-codes-requires g c = (omega (arith, c.requires.small), (c.is_valid.
 pub dims-preserved : goal.dims-preserved
 dims-preserved g c =
     let lt : c.dims.dim < c.args.table.now.dims = omega arith in
-    let s = closing_step c.args.table.now c.dims-dim-end.ensures.valid c.args.rows.now (there c.args.table.now c.args.rows.now c.requires.there) c.requires.some c.dims.dim _ c.dims.shared c.set.new.self lt (c.entry_with.ensures.value ∙ c.shared_codes-codes.ensures.value c.dims.dim lt)
+    let s = closing_step c.args.table.now c.dims-dim-end.ensures.valid c.args.rows.now (there c.args.table.now c.args.rows.now c.requires.there) c.requires.some c.dims.dim _ c.dims.shared c.set.new.self lt (c.of.ensures.value ∙ c.shared_codes-codes.ensures.value c.dims.dim lt)
     (record { long = c.dims.invariant.long; done = c.dims.invariant.done }) c.set.ensures.value in
     record { long = s.long; done = s.done }
 

@@ -1,8 +1,8 @@
-use Rattle.std.proofs.Common.{◌≡◌, ◌≤◌, ◌∙◌, ◌++◌, ◌∷◌, [], ap, ap₂, arith, length, sym, Some}
+use Rattle.std.proofs.Common.{◌≡◌, ◌≤◌, ◌∙◌, ◌++◌, ◌∷◌, [], ap, arith, length}
 use Rattle.cube_defs.specs.Text.{Text}
 use Rattle.std.specs.Prelude.{List}
-use Rattle.value_dict.specs.TextLists.{TextLists, code_in, learnt_in, list_at}
-use Rattle.cube_snapshot.proofs.NextText.{allowed_more, known_again, learnt_list, learnt_new, was_known, was_new}
+use Rattle.value_dict.specs.TextLists.{TextLists, learnt_in, list_at}
+use Rattle.cube_snapshot.proofs.NextText.{allowed_more, known_again, learnt_code, learnt_list, learnt_new, was_known, was_new}
 use Rattle.cube_snapshot.proofs.texts.learn_next.Goals as goal
 
 pub returns-then-code-place-clause-allowed : goal.returns-then-code-place-clause-allowed
@@ -12,9 +12,8 @@ returns-then-code-place-clause-allowed c =
     let dim = c.args.dim in
     let list = list_at d dim in
     let text = c.args.bytes.now in
-    let said : c.in-Ok.value.now ≡ text = c.in-Ok.ensures.cases.0 in
-    let is : list_at d' dim ≡ learnt_in list text = learnt_list d d' dim c.in-Ok.value.now text c.requires.dim c.in-Ok-learn.ensures.ok said in
-    let code : code_in (learnt_in list text) text ≡ Some c.in-Ok-learn.code = ap₂ code_in (sym is) (sym said) ∙ c.in-Ok-learn.ensures.code in
+    let is : list_at d' dim ≡ learnt_in list text = learnt_list d d' dim c.in-Ok.value.now text c.requires.dim c.in-Ok-learn.ensures.ok c.in-Ok.ensures.cases.0 in
+    let code = learnt_code d d' dim c.in-Ok.value.now text c.in-Ok-learn.code c.requires.dim c.in-Ok-learn.ensures.ok c.in-Ok.ensures.cases.0 c.in-Ok-learn.ensures.code in
     let new = was_new list text c.in-Ok-learn.code code (omega (arith, c.if-code-place.true, c.requires.place)) in
     let within : length (list_at d' dim) ≤ d'.max = c.in-Ok-learn.ensures.dictionary.within dim [] (omega (arith, c.requires.dim, c.in-Ok-learn.ensures.dims)) in
     let max : d'.max ≡ d.max = ap (λ (n : TextLists). n.max) c.in-Ok-learn.ensures.ok in
@@ -28,8 +27,6 @@ returns-else-code-place-clause-form c = λ _ more allowed.
     let dim = c.args.dim in
     let list = list_at d dim in
     let text = c.args.bytes.now in
-    let said : c.in-Ok.value.now ≡ text = c.in-Ok.ensures.cases.0 in
-    let is : list_at d' dim ≡ learnt_in list text = learnt_list d d' dim c.in-Ok.value.now text c.requires.dim c.in-Ok-learn.ensures.ok said in
-    let code : code_in (learnt_in list text) text ≡ Some c.in-Ok-learn.code = ap₂ code_in (sym is) (sym said) ∙ c.in-Ok-learn.ensures.code in
+    let code = learnt_code d d' dim c.in-Ok.value.now text c.in-Ok-learn.code c.requires.dim c.in-Ok-learn.ensures.ok c.in-Ok.ensures.cases.0 c.in-Ok-learn.ensures.code in
     let known = was_known list text c.in-Ok-learn.code code (λ e. c.if-code-place.false (omega (arith, e, c.requires.place))) in
     known_again list text d.max known.0 known.1 more allowed

@@ -7,8 +7,8 @@ use Rattle.cube_defs.specs.Rows.{Agg, agg}
 use Rattle.aggregates.specs.Views.{agg_in}
 use Rattle.qc_arena.specs.Seen.{record_at}
 use Rattle.tree_search.proofs.Walked.{cell_of}
+use Rattle.lower_bounds.proofs.OwnClosure.{class_there}
 use Rattle.iceberg_query.proofs.Measures.{class_agg}
-use Rattle.quotient_lattice.proofs.PlacedOrder.{class_there}
 use Rattle.quotient_lattice.proofs.classes.class_alone.Goals as goal
 
 pub returns : goal.returns

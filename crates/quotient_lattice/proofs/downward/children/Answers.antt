@@ -10,10 +10,10 @@ use Rattle.tree_search.proofs.Climbed.{wide}
 use Rattle.tree_search.proofs.Walked.{cell_there}
 use Rattle.value_dict.specs.Recoded.{text_in, told_rows}
 use Rattle.value_dict.proofs.TextsApart.{told-known}
-use Rattle.lower_bounds.proofs.OwnClosure.{own_closure}
+use Rattle.lower_bounds.proofs.OwnClosure.{class_there, own_closure}
 use Rattle.quotient_lattice.specs.Neighbours as lattice
 use Rattle.quotient_lattice.proofs.Coded.{is_parent-coded}
-use Rattle.quotient_lattice.proofs.PlacedOrder.{class_there, nodes_are_classes, nodes_told}
+use Rattle.quotient_lattice.proofs.PlacedOrder.{nodes_are_classes, nodes_told}
 use Rattle.quotient_lattice.proofs.ToldNodes.{class_known, tells, text_anti, text_total}
 use Rattle.quotient_lattice.proofs.downward.children.Goals as goal
 

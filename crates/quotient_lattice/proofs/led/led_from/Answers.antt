@@ -13,8 +13,28 @@ use Rattle.tree_search.proofs.Climbed.{has_parent, last_within}
 use Rattle.tree_search.proofs.Walked.{cell_of}
 use Rattle.quotient_lattice.specs.Led.{edges_on_way, lead_count}
 use Rattle.quotient_lattice.proofs.Counted.{steps_end, steps_up, times_more}
-use Rattle.quotient_lattice.proofs.OnWay.{count_value, goes_up, own_edges, root_edges}
+use Rattle.quotient_lattice.proofs.OnWay.{IsUp, count_value, goes_up, own_edges, root_edges}
+use Rattle.quotient_lattice.proofs.led.led_from.Given as given
 use Rattle.quotient_lattice.proofs.led.led_from.Goals as goal
+use Rattle.quotient_lattice.proofs.led.led_from.Goals.{After-unwrap-at}
+
+-- one node up
+went_up : (g : given.Over) (c : After-unwrap-at g) → IsUp _ _ c.requires.tree.0 c.requires.tree.1 c.up.at.0 c.up.invariant.at c.in-Some.dim c.in-Some._code (sym c.in-Some.ensures.value) c.unwrap-at.result.0
+went_up g c = goes_up _ _ c.requires.tree.0 c.requires.tree.1 c.up.at.0 c.up.invariant.at c.in-Some.dim c.in-Some._code (sym c.in-Some.ensures.value) number c.parent.result c.unwrap-at.result c.parent.ensures.value c.unwrap-at.ensures
+
+-- what is left of the steps there
+left : (g : given.Over) (c : After-unwrap-at g) →
+    c.up.steps + (2 * length c.args.u.now + 3) * (length (record_at (g.T.Nodes.tree c.args.tree.now) c.up.at.0).edges + edges_on_way (g.T.Nodes.tree c.args.tree.now) c.unwrap-at.result.0) + 3 * suc (value_count (record_at (g.T.Nodes.tree c.args.tree.now) c.unwrap-at.result.0).cell)
+    ≤ c.args.steps.now + (2 * length c.args.u.now + 3) * (edges_on_way (g.T.Nodes.tree c.args.tree.now) c.args.node.0 + length (record_at (g.T.Nodes.tree c.args.tree.now) c.up.at.0).edges) + 3 * value_count c.args.u.now + 1
+left g c =
+    let tree = g.T.Nodes.tree c.args.tree.now in
+    let u = c.args.u.now in
+    let at = c.up.at.0 in
+    let on = c.unwrap-at.result.0 in
+    let up = went_up g c in
+    let before = subst (λ v. c.up.steps + (2 * length u + 3) * edges_on_way tree at + 3 * v ≤ c.args.steps.now + (2 * length u + 3) * (edges_on_way tree c.args.node.0 + length (record_at tree at).edges) + 3 * value_count u + 1) up.less
+    c.up.invariant.steps in
+    subst (λ e. c.up.steps + (2 * length u + 3) * e + 3 * suc (value_count (record_at tree on).cell) ≤ c.args.steps.now + (2 * length u + 3) * (edges_on_way tree c.args.node.0 + length (record_at tree at).edges) + 3 * value_count u + 1) up.edges before
 
 pub push_labels-requires-clause-dims : goal.push_labels-requires-clause-dims
 push_labels-requires-clause-dims g c = upper_wide _ _ c.args.node.0 c.args.u.now c.requires.upper c.requires.tree
@@ -57,7 +77,7 @@ push_labels-requires-in-Some-clause-dims g c = ap length c.up.invariant.same ∙
 
 pub push_labels-requires-in-Some-clause-at : goal.push_labels-requires-in-Some-clause-at
 push_labels-requires-in-Some-clause-at g c =
-    (goes_up _ _ c.requires.tree.0 c.requires.tree.1 c.up.at.0 c.up.invariant.at c.in-Some.dim c.in-Some._code (sym c.in-Some.ensures.value) number c.parent.result c.unwrap-at.result c.parent.ensures.value c.unwrap-at.ensures).there
+    (went_up g (goal.at.push_labels-requires-in-Some-clause-at g c).After-unwrap-at).there
 
 pub push_labels-requires-in-Some-clause-end : goal.push_labels-requires-in-Some-clause-end
 push_labels-requires-in-Some-clause-end g c =
@@ -67,7 +87,7 @@ push_labels-requires-in-Some-clause-end g c =
 pub push_labels-requires-in-Some-clause-front : goal.push_labels-requires-in-Some-clause-front
 push_labels-requires-in-Some-clause-front g c =
     let tree = g.T.Nodes.tree c.args.tree.now in
-    let up = goes_up _ _ c.requires.tree.0 c.requires.tree.1 c.up.at.0 c.up.invariant.at c.in-Some.dim c.in-Some._code (sym c.in-Some.ensures.value) number c.parent.result c.unwrap-at.result c.parent.ensures.value c.unwrap-at.ensures in
+    let up = went_up g (goal.at.push_labels-requires-in-Some-clause-front g c).After-unwrap-at in
     let deep = (label_some (record_at tree c.up.at.0).cell c.in-Some.dim c.in-Some._code (sym c.in-Some.ensures.value)).0 in
     up.front ∙ ap (cell_front c.in-Some.dim) c.up.invariant.front
     ∙ cell_front-cell_front c.in-Some.dim (depth (record_at tree c.up.at.0).cell) c.args.u.now (omega (arith, deep))
@@ -90,7 +110,7 @@ push_labels-requires-in-Some-clause-led g c = λ source h k t.
 
 pub up-smaller : goal.up-smaller
 up-smaller g c =
-    let up = goes_up _ _ c.requires.tree.0 c.requires.tree.1 c.up.at.0 c.up.invariant.at c.in-Some.dim c.in-Some._code (sym c.in-Some.ensures.value) number c.parent.result c.unwrap-at.result c.parent.ensures.value c.unwrap-at.ensures in
+    let up = went_up g (goal.at.up-smaller g c).After-unwrap-at in
     let s = up.shallower in
     omega arith
 
@@ -101,15 +121,12 @@ up-preserved g c =
     let u = c.args.u.now in
     let at = c.up.at.0 in
     let on = c.unwrap-at.result.0 in
-    let up = goes_up _ _ c.requires.tree.0 c.requires.tree.1 c.up.at.0 c.up.invariant.at c.in-Some.dim c.in-Some._code (sym c.in-Some.ensures.value) number c.parent.result c.unwrap-at.result c.parent.ensures.value c.unwrap-at.ensures in
+    let up = went_up g (goal.at.up-preserved g c).After-unwrap-at in
     let deep = (label_some (record_at tree at).cell c.in-Some.dim c.in-Some._code (sym c.in-Some.ensures.value)).0 in
     let front = up.front ∙ ap (cell_front c.in-Some.dim) c.up.invariant.front ∙ cell_front-cell_front c.in-Some.dim (depth (record_at tree at).cell) u (omega (arith, deep)) in
     let again = sym (cell_front-beyond (depth (record_at tree on).cell) (record_at tree on).cell (omega arith)) in
     let less = up.shallower in
     let pushed = subst (λ z. c.push_labels-in-Some.new.steps ≤ c.parent.new.steps + (1 + length (record_at tree on).edges * (2 * length z + 3))) c.up.invariant.same c.in-Ok-push_labels.ensures.steps in
-    let before = subst (λ v. c.up.steps + (2 * length u + 3) * edges_on_way tree at + 3 * v ≤ c.args.steps.now + (2 * length u + 3) * (edges_on_way tree c.args.node.0 + length (record_at tree at).edges) + 3 * value_count u + 1) up.less
-    c.up.invariant.steps in
-    let left = subst (λ e. c.up.steps + (2 * length u + 3) * e + 3 * suc (value_count (record_at tree on).cell) ≤ c.args.steps.now + (2 * length u + 3) * (edges_on_way tree c.args.node.0 + length (record_at tree at).edges) + 3 * value_count u + 1) up.edges before in
     record {
       same = c.in-Ok-push_labels.ensures.same ∙ c.up.invariant.same;
       at = up.there;
@@ -117,7 +134,7 @@ up-preserved g c =
       led = λ source h k t. c.in-Ok-push_labels.ensures.led source h k t ∙ ap (λ z. lead_count source z (record_at tree k).cell (depth (record_at tree on).cell) n) c.up.invariant.same;
       there = c.in-Ok-push_labels.ensures.there;
       few = omega (arith, c.in-Ok-push_labels.ensures.few, c.up.invariant.few, up.edges);
-      steps = steps_up (length u) c.up.steps c.args.steps.now (length (record_at tree at).edges) (edges_on_way tree on) (edges_on_way tree c.args.node.0) (value_count u) c.push_labels-in-Some.new.steps (length (record_at tree on).edges) (value_count (record_at tree on).cell) left
+      steps = steps_up (length u) c.up.steps c.args.steps.now (length (record_at tree at).edges) (edges_on_way tree on) (edges_on_way tree c.args.node.0) (value_count u) c.push_labels-in-Some.new.steps (length (record_at tree on).edges) (value_count (record_at tree on).cell) (left g (goal.at.up-preserved g c).After-unwrap-at)
           (omega (arith, pushed, c.end_of.ensures.steps, c.parent.ensures.steps));
     }
 
@@ -128,12 +145,8 @@ returns-in-Err-push_labels-clause-steps g c =
     let u = c.args.u.now in
     let at = c.up.at.0 in
     let on = c.unwrap-at.result.0 in
-    let up = goes_up _ _ c.requires.tree.0 c.requires.tree.1 c.up.at.0 c.up.invariant.at c.in-Some.dim c.in-Some._code (sym c.in-Some.ensures.value) number c.parent.result c.unwrap-at.result c.parent.ensures.value c.unwrap-at.ensures in
     let pushed = subst (λ z. c.push_labels-in-Some.new.steps ≤ c.parent.new.steps + (1 + length (record_at tree on).edges * (2 * length z + 3))) c.up.invariant.same c.in-Err-push_labels.ensures.steps in
-    let before = subst (λ v. c.up.steps + (2 * length u + 3) * edges_on_way tree at + 3 * v ≤ c.args.steps.now + (2 * length u + 3) * (edges_on_way tree c.args.node.0 + length (record_at tree at).edges) + 3 * value_count u + 1) up.less
-    c.up.invariant.steps in
-    let left = subst (λ e. c.up.steps + (2 * length u + 3) * e + 3 * suc (value_count (record_at tree on).cell) ≤ c.args.steps.now + (2 * length u + 3) * (edges_on_way tree c.args.node.0 + length (record_at tree at).edges) + 3 * value_count u + 1) up.edges before in
-    let more = steps_up (length u) c.up.steps c.args.steps.now (length (record_at tree at).edges) (edges_on_way tree on) (edges_on_way tree c.args.node.0) (value_count u) c.push_labels-in-Some.new.steps (length (record_at tree on).edges) (value_count (record_at tree on).cell) left
+    let more = steps_up (length u) c.up.steps c.args.steps.now (length (record_at tree at).edges) (edges_on_way tree on) (edges_on_way tree c.args.node.0) (value_count u) c.push_labels-in-Some.new.steps (length (record_at tree on).edges) (value_count (record_at tree on).cell) (left g (goal.at.returns-in-Err-push_labels-clause-steps g c).After-unwrap-at)
     (omega (arith, pushed, c.end_of.ensures.steps, c.parent.ensures.steps)) in
     let end = steps_end (length u) n c.args.steps.now (edges_on_way tree on) (edges_on_way tree c.args.node.0) (value_count u) c.push_labels-in-Some.new.steps (length (record_at tree on).edges) (value_count (record_at tree on).cell)
     (upper_wide _ _ c.args.node.0 u c.requires.upper c.requires.tree) (few_values u) (own_edges tree on) more in

@@ -1,11 +1,9 @@
-use Rattle.std.proofs.Common.{◌≡◌, ◌↔◌, ℕ, filter, map, nat_eq, sym, ap, subst, ◌∙◌, arith}
+use Rattle.std.proofs.Common.{sym, ap, ◌∙◌, arith}
 use Rattle.std.specs.Cmp.{nat_cmp_total}
 use Rattle.std.specs.FinMap as numbers
-use Rattle.std.specs.List.{IsDistinct}
 use Rattle.std.specs.Ordering.{nat_cmp}
 use Rattle.std.proofs.lemmas.Result.{IfOk-weaker}
 use Rattle.cube_defs.specs.Text.{text_cmp}
-use Rattle.cube_laws.specs.Lists.{Among}
 use Rattle.cube_laws.specs.Recoding.{coded_cell}
 use Rattle.iceberg_query.specs.Asked.{ask_in}
 use Rattle.qc_arena.specs.Seen.{record_at}
@@ -13,13 +11,11 @@ use Rattle.tree_search.proofs.Climbed.{wide}
 use Rattle.tree_search.proofs.Walked.{cell_there}
 use Rattle.value_dict.specs.Recoded.{text_in, told_rows}
 use Rattle.value_dict.proofs.TextsApart.{told-known}
-use Rattle.lower_bounds.proofs.OwnClosure.{own_closure}
+use Rattle.lower_bounds.proofs.OwnClosure.{class_there, own_closure}
 use Rattle.quotient_lattice.specs.Neighbours as lattice
-use Rattle.quotient_lattice.specs.Placed.{AreAt, IsPassing, number_of}
-use Rattle.quotient_lattice.specs.Visits.{is_lowest}
 use Rattle.quotient_lattice.proofs.Coded.{is_rolled-coded}
-use Rattle.quotient_lattice.proofs.Lowest.{all_wide, lowest_at, lowest_each, lowest_once}
-use Rattle.quotient_lattice.proofs.PlacedOrder.{class_there, nodes_are_classes, nodes_told}
+use Rattle.quotient_lattice.proofs.Lowest.{all_wide, lowest_kept}
+use Rattle.quotient_lattice.proofs.PlacedOrder.{nodes_are_classes, nodes_told}
 use Rattle.quotient_lattice.proofs.ToldNodes.{class_known, tells, text_anti, text_total}
 use Rattle.quotient_lattice.proofs.rolling.rollup.Goals as goal
 
@@ -37,16 +33,10 @@ returns-in-Ok-sort-clause-nodes g c = λ source h known.
     let t = class_there tree c.args.node.0 c.requires.class in
     let long = wide n tree source h c.args.node.0 t in
     let own = own_closure _ _ source h c.args.node.0 u (cell_there tree c.args.node.0 t) c.requires.class in
-    let met = c.in-Ok.met.items in
     let kept = c.in-Ok-lowest.kept.items in
-    let is : kept ≡ filter (is_lowest met) met = c.in-Ok-lowest.ensures in
-    let at : AreAt tree kept = subst (AreAt tree) (sym is) (lowest_at tree (is_lowest met) met c.in-Ok.ensures.cells) in
-    let once : IsDistinct nat_eq (map number_of kept) = subst (λ xs. IsDistinct nat_eq (map number_of xs)) (sym is) (lowest_once (is_lowest met) met c.in-Ok.ensures.once) in
-    let each : (k : ℕ) → Among k (map number_of kept) ↔ IsPassing tree source (lattice.is_rolled nat_cmp source.measures source.rows ask u) k
-    = subst (λ xs. (k : ℕ) → Among k (map number_of xs) ↔ IsPassing tree source (lattice.is_rolled nat_cmp source.measures source.rows ask u) k) (sym is)
-    (lowest_each n tree source h c.args.ask.now c.args.node.0 met c.in-Ok.ensures.cells (c.in-Ok.ensures.met source h)) in
+    let low = lowest_kept n tree source h c.args.ask.now c.args.node.0 c.in-Ok.met.items c.in-Ok.ensures.cells (c.in-Ok.ensures.met source h) kept c.in-Ok-lowest.ensures c.in-Ok.ensures.once in
     IfOk-weaker c.without_cells.result _ _
-    (λ nodes are. nodes_told n tree source h (lattice.is_rolled nat_cmp source.measures source.rows ask u) kept c.sort.new.found.items nodes.items at once c.in-Ok-sort.ensures.same are each
+    (λ nodes are. nodes_told n tree source h (lattice.is_rolled nat_cmp source.measures source.rows ask u) kept c.sort.new.found.items nodes.items low.0 low.1 c.in-Ok-sort.ensures.same are low.2
     dict c.dims-dims.ensures.dictionary known c.requires.dims (lattice.is_rolled text_cmp source.measures (told_rows dict.lists source.rows) ask (coded_cell (text_in dict.lists) 0 u))
     (λ d k. is_rolled-coded nat_cmp_total numbers.nat_cmp-IsAntisymmetric text_total text_anti (tells n tree dict source h c.dims-dims.ensures.dictionary known c.requires.dims) source.rows known source.measures ask u
     (class_known n tree dict source h c.dims-dims.ensures.dictionary known c.requires.dims u own) d k)
@@ -62,14 +52,8 @@ returns-in-Ok-sort-clause-classes g c =
     let n = g.T.Nodes.width c.args.tree.now in
     let ask = ask_in c.args.ask.now in
     let u = (record_at tree c.args.node.0).cell in
-    let met = c.in-Ok.met.items in
     let kept = c.in-Ok-lowest.kept.items in
-    let is : kept ≡ filter (is_lowest met) met = c.in-Ok-lowest.ensures in
-    let at : AreAt tree kept = subst (AreAt tree) (sym is) (lowest_at tree (is_lowest met) met c.in-Ok.ensures.cells) in
-    let once : IsDistinct nat_eq (map number_of kept) = subst (λ xs. IsDistinct nat_eq (map number_of xs)) (sym is) (lowest_once (is_lowest met) met c.in-Ok.ensures.once) in
-    let each : (k : ℕ) → Among k (map number_of kept) ↔ IsPassing tree source (lattice.is_rolled nat_cmp source.measures source.rows ask u) k
-    = subst (λ xs. (k : ℕ) → Among k (map number_of xs) ↔ IsPassing tree source (lattice.is_rolled nat_cmp source.measures source.rows ask u) k) (sym is)
-    (lowest_each n tree source h c.args.ask.now c.args.node.0 met c.in-Ok.ensures.cells (c.in-Ok.ensures.met source h)) in
+    let low = lowest_kept n tree source h c.args.ask.now c.args.node.0 c.in-Ok.met.items c.in-Ok.ensures.cells (c.in-Ok.ensures.met source h) kept c.in-Ok-lowest.ensures c.in-Ok.ensures.once in
     IfOk-weaker c.without_cells.result _ _
-    (λ nodes are. nodes_are_classes n tree source h (lattice.is_rolled nat_cmp source.measures source.rows ask u) kept c.sort.new.found.items nodes.items at once c.in-Ok-sort.ensures.same are each)
+    (λ nodes are. nodes_are_classes n tree source h (lattice.is_rolled nat_cmp source.measures source.rows ask u) kept c.sort.new.found.items nodes.items low.0 low.1 c.in-Ok-sort.ensures.same are low.2)
     c.without_cells.ensures

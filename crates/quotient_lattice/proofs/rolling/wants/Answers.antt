@@ -1,10 +1,10 @@
 use Rattle.std.proofs.Common.{sym, ap, ◌∙◌}
 use Rattle.std.specs.Option.{option_map}
 use Rattle.aggregates.specs.Views.{agg_in}
+use Rattle.lower_bounds.proofs.OwnClosure.{class_there}
 use Rattle.iceberg_query.proofs.Measures.{there_is_measure}
-use Rattle.quotient_lattice.proofs.PlacedOrder.{class_there}
 use Rattle.quotient_lattice.proofs.rolling.wants.Goals as goal
 
-pub is_asked-requires-clause-there : goal.is_asked-requires-clause-there
-is_asked-requires-clause-there g c =
+pub passes-requires-clause-there : goal.passes-requires-clause-there
+passes-requires-clause-there g c =
     there_is_measure _ _ c.requires.measure.0 c.requires.measure.1 c.args.node.0 (class_there _ c.args.node.0 c.requires.class) c.unwrap-total.result c.args.ask.now.kind (ap (option_map agg_in) (sym c.unwrap-total.ensures) ∙ c.class.ensures.value) c.requires.measure.2

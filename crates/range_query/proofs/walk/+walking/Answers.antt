@@ -1,9 +1,9 @@
-use Rattle.std.proofs.Common.{◌≡◌, ℕ, suc, ◌+◌, ◌++◌, ◌≤◌, ◌<◌, Some, None, length, map, drop, set, get_or, sym, ap, subst, ◌∙◌, arith, rules}
+use Rattle.std.proofs.Common.{ℕ, ◌+◌, ◌++◌, ◌≤◌, ◌<◌, Some, None, length, map, drop, set, get_or, sym, ap, subst, ◌∙◌, arith, rules}
 use Rattle.std.specs.Ordering.{eq_by_cmp, nat_cmp}
 use Rattle.qc_arena.specs.Seen.{record_at}
 use Rattle.tree_laws.specs.Walk.{by_forced}
 use Rattle.range_query.specs.Told.{hit_at, hit_in}
-use Rattle.range_query.specs.Walk.{cost, entered, entry_cost, met}
+use Rattle.range_query.specs.Walk.{entered, entry_cost}
 use Rattle.range_query.proofs.Standing.{back, codes_cost, codes_met, entered_none, entered_some, entry_cost_some, stands_after, stands_any, stands_whole}
 use Rattle.range_query.proofs.Lists.{all_taken, append_none, some_taken, steps_taken, within_taken}
 use Rattle.range_query.proofs.walk.+walking.Goals as goal
@@ -20,13 +20,9 @@ enter-visit-requires g t c κs within =
 
 pub enter-returns-in-Ok-clause-hits : goal.enter-returns-in-Ok-clause-hits
 enter-returns-in-Ok-clause-hits g t c = λ source h.
-    let next : suc c.args.dim ≡ c.args.dim + 1 = omega arith in
-    let box = drop (c.args.dim + 1) c.args.cells.now in
     c.in-Ok.ensures.hits source h
     ∙ ap (λ cells. map hit_in c.args.hits.now.items ++ map (hit_at source) cells)
-    (ap (λ p. met source box p (c.args.dim + 1)) c.set.ensures.value
-    ∙ ap (λ i. met source box (set c.args.cell.now c.args.dim (Some c.args.code)) i) (sym next)
-    ∙ sym (entered_some _ _ c.args.node.0 c.args.cell.now c.args.dim c.requires.stands source h box (Some c.args.code) c.requires.dim c.in-Some.child.0 (sym c.in-Some.ensures.value)))
+    (sym (entered_some _ _ c.args.node.0 c.args.cell.now c.args.dim c.requires.stands source h (drop (c.args.dim + 1) c.args.cells.now) (Some c.args.code) c.requires.dim c.in-Some.child.0 (sym c.in-Some.ensures.value) c.set.new.self c.set.ensures.value))
 
 pub enter-returns-in-Ok-clause-cell : goal.enter-returns-in-Ok-clause-cell
 enter-returns-in-Ok-clause-cell g t c =
@@ -36,31 +32,19 @@ enter-returns-in-Ok-clause-cell g t c =
 
 pub enter-returns-in-Ok-clause-steps : goal.enter-returns-in-Ok-clause-steps
 enter-returns-in-Ok-clause-steps g t c = λ source h.
-    let next : suc c.args.dim ≡ c.args.dim + 1 = omega arith in
-    let box = drop (c.args.dim + 1) c.args.cells.now in
-    let same : cost source box c.set.new.self (c.args.dim + 1) ≡ cost source box (set c.args.cell.now c.args.dim (Some c.args.code)) (suc c.args.dim)
-    = ap (λ p. cost source box p (c.args.dim + 1)) c.set.ensures.value ∙ ap (λ i. cost source box (set c.args.cell.now c.args.dim (Some c.args.code)) i) (sym next) in
-    let is = entry_cost_some _ _ c.args.node.0 c.args.cell.now c.args.dim c.requires.stands source h box (Some c.args.code) c.requires.dim c.in-Some.child.0 (sym c.in-Some.ensures.value) in
-    omega (arith, same, is, c.in-Ok.ensures.steps source h, c.in-Some.ensures.steps)
+    let is = entry_cost_some _ _ c.args.node.0 c.args.cell.now c.args.dim c.requires.stands source h (drop (c.args.dim + 1) c.args.cells.now) (Some c.args.code) c.requires.dim c.in-Some.child.0 (sym c.in-Some.ensures.value) c.set.new.self c.set.ensures.value in
+    omega (arith, is, c.in-Ok.ensures.steps source h, c.in-Some.ensures.steps)
 
 pub enter-returns-in-Err-clause-too_many : goal.enter-returns-in-Err-clause-too_many
 enter-returns-in-Err-clause-too_many g t c = λ e source h.
-    let next : suc c.args.dim ≡ c.args.dim + 1 = omega arith in
-    let box = drop (c.args.dim + 1) c.args.cells.now in
     subst (λ cells. c.args.limit < length c.args.hits.now.items + length cells)
-    (ap (λ p. met source box p (c.args.dim + 1)) c.set.ensures.value
-    ∙ ap (λ i. met source box (set c.args.cell.now c.args.dim (Some c.args.code)) i) (sym next)
-    ∙ sym (entered_some _ _ c.args.node.0 c.args.cell.now c.args.dim c.requires.stands source h box (Some c.args.code) c.requires.dim c.in-Some.child.0 (sym c.in-Some.ensures.value)))
+    (sym (entered_some _ _ c.args.node.0 c.args.cell.now c.args.dim c.requires.stands source h (drop (c.args.dim + 1) c.args.cells.now) (Some c.args.code) c.requires.dim c.in-Some.child.0 (sym c.in-Some.ensures.value) c.set.new.self c.set.ensures.value))
     (c.in-Err.ensures.too_many e source h)
 
 pub enter-returns-in-Err-clause-steps : goal.enter-returns-in-Err-clause-steps
 enter-returns-in-Err-clause-steps g t c = λ source h.
-    let next : suc c.args.dim ≡ c.args.dim + 1 = omega arith in
-    let box = drop (c.args.dim + 1) c.args.cells.now in
-    let same : cost source box c.set.new.self (c.args.dim + 1) ≡ cost source box (set c.args.cell.now c.args.dim (Some c.args.code)) (suc c.args.dim)
-    = ap (λ p. cost source box p (c.args.dim + 1)) c.set.ensures.value ∙ ap (λ i. cost source box (set c.args.cell.now c.args.dim (Some c.args.code)) i) (sym next) in
-    let is = entry_cost_some _ _ c.args.node.0 c.args.cell.now c.args.dim c.requires.stands source h box (Some c.args.code) c.requires.dim c.in-Some.child.0 (sym c.in-Some.ensures.value) in
-    omega (arith, same, is, c.in-Err.ensures.steps source h, c.in-Some.ensures.steps)
+    let is = entry_cost_some _ _ c.args.node.0 c.args.cell.now c.args.dim c.requires.stands source h (drop (c.args.dim + 1) c.args.cells.now) (Some c.args.code) c.requires.dim c.in-Some.child.0 (sym c.in-Some.ensures.value) c.set.new.self c.set.ensures.value in
+    omega (arith, is, c.in-Err.ensures.steps source h, c.in-Some.ensures.steps)
 
 pub visit-add_hit-requires-clause-node : goal.visit-add_hit-requires-clause-node
 visit-add_hit-requires-clause-node g t c = λ source h.
