@@ -1,6 +1,7 @@
 -- Images sorted by their numbers, and looked up.
-use Rattle.std.proofs.Common.{◌≡◌, ◌≢◌, ◌∙◌, ℕ, zero, suc, ◌<◌, Bool, true, false, cond, Option, Some, None, List, [], ◌∷◌, ◌++◌, Ok, Err, length, map, get_or, nat_eq, nat_cmp, refl, sym, ap, subst, arith, inl, inr}
+use Rattle.std.proofs.Common.{is_some, length-append, ◌+◌, ◌≡◌, ◌≢◌, ◌∙◌, ℕ, zero, suc, ◌<◌, Bool, true, false, cond, Option, Some, None, List, [], ◌∷◌, ◌++◌, Ok, Err, length, map, get_or, nat_eq, nat_cmp, refl, sym, ap, subst, arith, inl, inr}
 use Rattle.std.specs.FinMap as map
+use Rattle.std.proofs.lemmas.List.{length-map}
 use Rattle.std.specs.Cmp.{nat_cmp_total}
 use Rattle.std.specs.List.{AllByRecursion, IsDistinct}
 use Rattle.std.specs.List.Sorted.{IsBinarySearchResult, IsPermutation, IsSortedByKey}
@@ -54,7 +55,7 @@ module _ {X : Type 0} where
       go true more h = cc
       go false more h = more h
 
-  none_before : (k : ℕ) (es fs : List (ℕ × X)) → lookup (nat_eq k) (es ++ fs) ≡ None → lookup (nat_eq k) es ≡ None
+  pub none_before : (k : ℕ) (es fs : List (ℕ × X)) → lookup (nat_eq k) (es ++ fs) ≡ None → lookup (nat_eq k) es ≡ None
   none_before k [] fs h = refl
   none_before k (e ∷ es) fs h = go (nat_eq k e.0) (none_before k es fs) h
     where
@@ -132,3 +133,16 @@ new_missed k (n ∷ ks) h = cond-false _ _ _ (ne_eqb k n (λ s. h 0 n (omega ari
 -- what is found is what the images say
 pub looked : (images : ImageMap) (es : List (ℕ × Option Known)) (k : ℕ) (o : Option (Option Known)) → map.from_entries es ≡ images → lookup (nat_eq k) es ≡ o → o ≡ map.get images k
 looked images es k o view is = sym is ∙ sym (get_images es k) ∙ ap (λ m. map.get m k) view
+
+-- how many there are
+pub len_once : {X : Type 0} (es : List (ℕ × X)) → IsOnce es → map.len (map.from_entries {R = nat_cmp} es) ≡ length es
+len_once {X = X} [] h = map.len-empty nat_cmp X
+len_once (e ∷ es) h =
+    let out : map.contains_key (map.from_entries {R = nat_cmp} es) e.0 ≡ false = ap is_some (get_images es e.0 ∙ h.0) in
+    let more = map.len-insert nat_cmp_total (map.from_entries es) e.0 e.1 ∙ cond-false _ _ _ out in
+    let rest = len_once es h.1 in
+    omega (arith, more, rest)
+
+pub counted : (images : ImageMap) (es : List (ℕ × Option Known)) (ks : List ℕ) → IsOnce (es ++ all_new ks) → map.from_entries (es ++ all_new ks) ≡ images → length es + length ks ≡ map.len images
+counted images es ks once is =
+    sym (ap map.len (sym is) ∙ len_once (es ++ all_new ks) once ∙ length-append es (all_new ks) ∙ ap (λ (n : ℕ). length es + n) (length-map ks (λ k. (k, None))))

@@ -1,15 +1,19 @@
 // What nodes were before a batch, by their numbers.
 ghost use Rattle.std.specs.FinMap as map;
 ghost use Rattle.std.specs.Map.{lookup};
-ghost use Rattle.std.specs.Prelude.{IfNone, IfSome, None, Some, if◌then◌else◌, length, nat_eq, slice_index_or, ◌++◌, ◌<◌, ◌≡◌};
+ghost use Rattle.std.specs.Prelude.{IfErr, IfNone, IfSome, None, OnErr, OnOk, Some, if◌then◌else◌, length, nat_eq, slice_index_or, ℕ, ◌++◌, ◌<◌, ◌≡◌};
+ghost use Rattle.std.specs.Option.{option_or};
 ghost use Rattle.std.specs.List.Sorted.{IsSorted, IsSortedByKey};
 ghost use Rattle.std.specs.Ordering.{nat_cmp};
 ghost use Rattle.qc_arena.specs.Entries.{IsOnce, all_new, entry_number};
 ghost use Rattle.qc_arena.specs.Looks.{seen};
 
 use crate::image::{Image, Record};
+use crate::lists::Lists;
+use crate::merge::Merge;
 use cell_core::NodeNo;
 use std::marker::Model;
+use std::mem::replace;
 
 /// What images say of a number.
 pub enum Look<'a> {
@@ -72,6 +76,39 @@ impl Images {
             return Look::Gone;
         }
         Look::Same
+    }
+
+    /// Of how many numbers something is said.
+    pub fn count(&self) -> usize
+        ensures { result ≡ map.len self.now }
+    {
+        self.changed.len() + self.added.len()
+    }
+
+    /// Puts these images over later ones: of each number they say what they said of it, and where they
+    /// said nothing, what the later ones say. Without memory for it the later ones are given back, and all
+    /// is as it was.
+    pub fn take_in(&mut self, later: Images) -> Result<(), Images>
+        ensures ok { OnOk result ((q : ℕ) → map.get self.new q ≡ option_or (map.get self.old q) (map.get later q)) }
+        ensures err { IfErr result (λ same. same ≡ later) }
+        ensures kept { OnErr result (self.new ≡ self.old) }
+    {
+        let alloc = *self.added.allocator();
+        let changed = self.changed.len() + later.changed.len();
+        let added = self.added.len() + later.added.len();
+        let Ok(room) = Lists::with_room(alloc, changed, added) else {
+            return Err(later);
+        };
+        let older = Lists {
+            changed: replace(&mut self.changed, Vec::new(alloc)),
+            added: replace(&mut self.added, Vec::new(alloc)),
+        };
+        let later = Lists {
+            changed: later.changed,
+            added: later.added,
+        };
+        *self = Merge::of(older, later, room).all();
+        Ok(())
     }
 }
 

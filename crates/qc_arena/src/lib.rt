@@ -7,6 +7,8 @@ mod counted;
 mod edges;
 mod image;
 mod images;
+mod lists;
+mod merge;
 mod moved;
 mod nodes;
 mod parts;
@@ -24,6 +26,3 @@ pub use image::Record;
 pub use images::{Images, Look};
 pub use nodes::{Forced, Nodes};
 pub use tree_totals::Counts;
-
-#[cfg(test)]
-mod tests;

@@ -1,0 +1,154 @@
+// Images of two batches, put together.
+ghost use Rattle.std.specs.Prelude.{false, true, ◌<◌, ◌≡◌};
+ghost use Rattle.qc_arena.specs.Map.{is_open};
+
+use crate::images::{Told, told};
+use cell_core::{NodeNo, Steps};
+use qc_arena::{Images, Nodes, QcArena};
+use std::alloc::Global;
+use std::marker::Brand;
+use std::sync::ledger::{Blank, Ledger};
+use std::test::Fail;
+
+// What a batch does to a node.
+#[derive(Clone, Copy)]
+enum Change {
+    Touched,
+    Dropped,
+    Killed,
+}
+
+// Adds a root and a node under it with the value 7 in dimension 1, and the edge to it, if there is no root.
+fn plant<L: Ledger>(arena: &mut QcArena, steps: &mut Steps<L>) -> Option<()>
+    requires { is_open arena.old ≡ true }
+    ensures { is_open arena.new ≡ true }
+{
+    if arena.dims() != 3 || arena.root(steps).is_some() {
+        return None;
+    }
+    let root = arena.add_node(None, steps).ok()?;
+    let child = arena.add_node(Some((root, 1, 7)), steps).ok()?;
+    arena.set_edge(root, 1, 7, child, steps).ok()
+}
+
+// Touches a node that is there, and drops its edge or kills it, if that is asked.
+fn edit<L: Ledger>(arena: &mut QcArena, node: NodeNo, what: Change, steps: &mut Steps<L>)
+    requires { is_open arena.old ≡ true }
+    ensures { is_open arena.new ≡ true }
+{
+    if !arena.has(node) || arena.touch(node, steps).is_err() {
+        return;
+    }
+    match what {
+        Change::Touched => {}
+        Change::Dropped => arena.drop_edge(node, 1, 7, steps),
+        Change::Killed => arena.kill(node, steps),
+    }
+}
+
+// One of seven batches. The numbers of the root and of the node under it are 0 and 1, also where both were
+// killed and are added again.
+fn batch<L: Ledger>(arena: &mut QcArena, number: u8, steps: &mut Steps<L>)
+    requires { is_open arena.old ≡ false }
+    ensures { is_open arena.new ≡ false }
+{
+    arena.begin();
+    match number {
+        0 | 3 => {
+            plant(arena, steps);
+        }
+        1 => edit(arena, NodeNo(1), Change::Killed, steps),
+        2 => edit(arena, NodeNo(0), Change::Killed, steps),
+        4 => edit(arena, NodeNo(0), Change::Dropped, steps),
+        5 => edit(arena, NodeNo(0), Change::Touched, steps),
+        _ => {}
+    }
+    arena.commit();
+}
+
+// The images of a batch, after those before it.
+fn images_of<L: Ledger>(alloc: Global, last: u8, blank: Blank) -> Option<Images>
+    requires name { blank.name ≡ L.name }
+    requires parts { blank.parts ≡ L.parts }
+    requires some { 0 < L.parts }
+{
+    let mut steps = Steps::<L>::start(blank);
+    let Ok(mut arena) = QcArena::new(alloc, 3, 2) else {
+        return None;
+    };
+    'batches: for number in 0..last {
+        batch(&mut arena, number, &mut steps);
+    }
+    batch(&mut arena, last, &mut steps);
+    Some(arena.last_images())
+}
+
+fn images_uncounted(alloc: Global, last: u8) -> Option<Images> {
+    images_of::<Brand>(alloc, last, Blank::new(1))
+}
+
+// The images of an older batch put over those of a later one, of how many numbers they speak, and what they say of
+// the root, of the node under it, and of a number without a node.
+type Case = (u8, u8, usize, [Told; 3]);
+
+const SAME: Told = None;
+
+const GONE: Told = Some(None);
+
+const ROOT: Told = Some(Some((1, None)));
+
+const BARE: Told = Some(Some((0, None)));
+
+const CHILD: Told = Some(Some((0, Some((1, 7)))));
+
+const CASES: [Case; 10] = [
+    // Numbers in one of both.
+    (1, 2, 2, [ROOT, CHILD, SAME]),
+    (2, 1, 2, [ROOT, CHILD, SAME]),
+    (1, 5, 2, [BARE, CHILD, SAME]),
+    // Added and then killed; killed and then added again.
+    (0, 1, 2, [GONE, GONE, SAME]),
+    (0, 4, 2, [GONE, GONE, SAME]),
+    (1, 3, 2, [GONE, CHILD, SAME]),
+    // A record in both.
+    (4, 5, 1, [ROOT, SAME, SAME]),
+    (5, 4, 1, [BARE, SAME, SAME]),
+    // Nothing in one of both.
+    (6, 1, 1, [SAME, CHILD, SAME]),
+    (3, 6, 2, [GONE, GONE, SAME]),
+];
+
+fn holds(alloc: Global, case: &Case) -> bool {
+    let (older, later, count, said) = case;
+    let Some(mut images) = images_uncounted(alloc, *older) else {
+        return false;
+    };
+    let Some(others) = images_uncounted(alloc, *later) else {
+        return false;
+    };
+    if images.take_in(others).is_err() {
+        return false;
+    }
+    let found = [
+        told(&images, NodeNo(0)),
+        told(&images, NodeNo(1)),
+        told(&images, NodeNo(9)),
+    ];
+    images.count() == *count && found == *said
+}
+
+fn all_hold(alloc: Global) -> bool {
+    let cases = CASES;
+    'cases: for case in &cases {
+        if !holds(alloc, case) {
+            return false;
+        }
+    }
+    true
+}
+
+#[test]
+fn images_are_put_together(rt: HostRuntime) -> Result<(), Fail> {
+    assert!(rt; all_hold(rt.alloc()));
+    Ok(())
+}

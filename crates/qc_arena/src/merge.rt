@@ -1,0 +1,103 @@
+// Images that are put together, from the largest number down.
+ghost use Rattle.std.specs.Prelude.{[], length, ℕ, ◌++◌, ◌+◌, ◌<◌, ◌≡◌, ◌≤◌};
+ghost use Rattle.std.specs.Bool.{OnFalse, OnTrue};
+ghost use Rattle.std.specs.Option.{option_or};
+ghost use Rattle.std.specs.FinMap as map;
+ghost use Rattle.std.specs.Vec.{vec_capacity};
+ghost use Rattle.qc_arena.specs.Entries.{IsOnce};
+ghost use Rattle.qc_arena.specs.Merges.{AreRising, IsMerge, all_in, count_in};
+
+use crate::images::Images;
+use crate::lists::{Entry, Lists, larger};
+use crate::moved::Moved;
+use std::marker::Model;
+
+/// What is said of numbers, of which the largest are merged, and how many entries are left.
+#[derive(Drop)]
+pub(crate) struct Merge {
+    older: Lists,
+    later: Lists,
+    merged: Lists,
+}
+
+impl Model for Merge {
+    ghost use Rattle.std.specs.Prelude.{length, ℕ, ◌++◌, ◌+◌, ◌≤◌};
+    ghost use Rattle.std.specs.FinMap as map;
+    ghost use Rattle.std.specs.Coded.{coded×, coded_ℕ};
+    ghost use Rattle.std.specs.Vec.{vec_capacity};
+    ghost use Rattle.qc_arena.specs.Entries.{IsOnce};
+    ghost use Rattle.qc_arena.specs.Map.{ImageMap, images_code};
+    ghost use Rattle.qc_arena.specs.Merges.{AreRising, IsMerge, all_in, count_in};
+
+    ghost Value = { ImageMap × ℕ };
+
+    ghost coded = { coded× images_code coded_ℕ };
+
+    ghost view = { λ m. (map.from_entries (all_in m.merged ++ (all_in m.older ++ all_in m.later)), count_in m.older + count_in m.later) };
+
+    ghost invariant = { λ m. IsMerge m.older m.later m.merged };
+}
+
+// The first of two entries, if there is one.
+fn first(older: Option<Entry>, later: Option<Entry>) -> Option<Entry>
+    ensures { result ≡ option_or older later }
+{
+    match older {
+        Some(entry) => Some(entry),
+        None => later,
+    }
+}
+
+impl Merge {
+    // Nothing is merged yet.
+    pub(crate) fn of(older: Lists, later: Lists, merged: Lists) -> Merge
+        requires older { AreRising older }
+        requires later { AreRising later }
+        requires none { all_in merged ≡ [] }
+        requires changed { length older.changed.items + length later.changed.items ≤ vec_capacity merged.changed }
+        requires added { length older.added.items + length later.added.items ≤ vec_capacity merged.added }
+        ensures { result.0 ≡ map.from_entries (all_in older ++ all_in later) }
+    {
+        Merge {
+            older,
+            later,
+            merged,
+        }
+    }
+
+    // Merges what is said of the largest number that is left.
+    fn next(&mut self) -> bool
+        ensures same { self.new.0 ≡ self.old.0 }
+        ensures less { OnTrue result (self.new.1 < self.old.1) }
+        ensures done { OnFalse result (self.new.1 ≡ 0) }
+    {
+        let end = larger(self.older.end(), self.later.end());
+        if end == 0 {
+            return false;
+        }
+        let node = (end - 1) as u32;
+        let older = self.older.take(node);
+        let later = self.later.take(node);
+        if let Some(entry) = first(older, later) {
+            self.merged.put(node, entry);
+        }
+        true
+    }
+
+    // All that is merged, where nothing is left.
+    fn finish(self) -> Images
+        requires { self.1 ≡ 0 }
+        ensures { result ≡ self.0 }
+    {
+        Moved::of(self.merged.changed, self.merged.added).sorted()
+    }
+
+    // Merges what is left.
+    pub(crate) fn all(self) -> Images
+        ensures { result ≡ self.0 }
+    {
+        let mut merge = self;
+        'numbers: while merge.next() {}
+        merge.finish()
+    }
+}
