@@ -1,7 +1,8 @@
 // What base files and batches answer, and what is there afterwards.
 ghost use Rattle.std.specs.Prelude.{◌<◌, ◌≡◌, ◌≤◌};
 
-use cell_core::{Cell, Steps};
+use cell_core::{Cell, NodeNo, Steps};
+use qc_arena::Look;
 use qc_schema::{Schema, read_schema};
 use std::alloc::Global;
 use std::marker::Brand;
@@ -341,5 +342,40 @@ fn is_loaded(alloc: Global, base: &[u8]) -> Result<bool, Fail> {
 fn a_base_file_is_loaded_where_no_row_is(rt: HostRuntime) -> Result<(), Fail> {
     let base = b"op,id,city,item,sale\n-,7,Ulm,ink,20\n+,1,Ulm,pen,1\n";
     assert!(rt; is_loaded(rt.alloc(), base)?);
+    Ok(())
+}
+
+// What the images of the last change say of the root: nothing, that there was none, or how many edges
+// it had.
+fn root_before(shop: &mut Warehouse) -> Option<Option<u32>> {
+    let images = shop.last_images();
+    match images.look(NodeNo(0)) {
+        Look::Same => None,
+        Look::Gone => Some(None),
+        Look::Was(root) => Some(Some(root.edge_count())),
+    }
+}
+
+// Whether the root had the edge of Bonn alone, which all rows shared, before another city came; and whether
+// images are there once, and none after a refusal.
+fn tells_of_the_root(shop: &mut Warehouse) -> bool {
+    let (loaded, again) = (root_before(shop), root_before(shop));
+    let came = apply(shop, b"op,id,city,item,sale\n+,3,Ulm,ink,1\n");
+    let applied = root_before(shop);
+    let went = apply(shop, b"op,id,city,item,sale\n-,3,,,\n");
+    let lacks = apply(shop, b"op,id,city,item,sale\n-,3,,,\n");
+    let refused = root_before(shop);
+    let answers = (came, went, lacks) == (Ok(1), Ok(1), Err(Refused::Missing(1)));
+    answers && (loaded, again, applied, refused) == (Some(None), None, Some(Some(1)), None)
+}
+
+fn is_root_told(alloc: Global) -> Result<bool, Fail> {
+    let mut shop = shop(alloc)?;
+    Ok(tells_of_the_root(&mut shop))
+}
+
+#[test]
+fn images_are_those_of_the_last_change(rt: HostRuntime) -> Result<(), Fail> {
+    assert!(rt; is_root_told(rt.alloc())?);
     Ok(())
 }

@@ -1,5 +1,5 @@
 -- The index of the tree's classes.
-use Rattle.std.proofs.Common.{◌≡◌, ℕ, ◌≤◌, List, [], ◌∷◌, Option, Some, None, length, map, refl, sym, ap, subst, true, is_some, true≢false, ◌∙◌, arith}
+use Rattle.std.proofs.Common.{◌≡◌, ℕ, ◌≤◌, List, [], ◌∷◌, Option, Some, None, length, map, refl, sym, ap, subst, true, is_some, true≢false, ◌∙◌}
 use Rattle.std.specs.Prelude.{Err, IfOk, IfSome, IsSome, Ok, Result, slice_index_or}
 use Rattle.std.specs.FinMap as numbers
 use Rattle.std.specs.List.{All, AllByRecursion}

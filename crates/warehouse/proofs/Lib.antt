@@ -11,7 +11,9 @@ mod Inserting
 mod Texts
 mod Values
 mod Rows
+pub mod Pinned
 pub mod States
 mod Trees
 mod Handed
 mod Wider
+mod Images

@@ -85,7 +85,7 @@ stored-empty schema layout dictionary = record {
   values = All-replicate (All IsValue) (length schema.dims) [] (All-nil IsValue);
   known = All-nil (λ (row : Row ℕ). AreCodes (replicate (length schema.dims) []) row.tuple);
   dictionary = dictionary;
-  are_rows = table-empty (length schema.dims) (length schema.measures) schema.rows (omega (arith, layout.some_dims)) (omega (arith, dims-few schema layout)) (omega (arith, measures-few schema layout)) (omega (arith, layout.some_rows)) layout.few_rows;
+  are_rows = table-empty (length schema.dims) (length schema.measures) schema.rows (omega (arith, layout.some_dims)) (omega (arith, dims-few schema layout)) (omega (arith, measures-few schema layout)) (omega (arith, layout.limits.some_rows)) layout.limits.few_rows;
 }
 
 -- a dictionary and a table in the place of those before

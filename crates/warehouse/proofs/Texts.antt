@@ -68,7 +68,7 @@ longer-tuple [] tuple = longer-same []
 longer-tuple (texts ∷ lists) [] = longer-same (texts ∷ lists)
 longer-tuple (texts ∷ lists) (text ∷ tuple) = longer-cons texts (learnt_in texts text) lists (with_tuple lists tuple) (longer-learnt_in texts text) (longer-tuple lists tuple)
 
-longer-rows : (lists : List (List Text)) (rows : List (Row Text)) → AreLonger lists (fold with_row lists rows)
+pub longer-rows : (lists : List (List Text)) (rows : List (Row Text)) → AreLonger lists (fold with_row lists rows)
 longer-rows lists [] = longer-same lists
 longer-rows lists (row ∷ rows) = longer-longer lists (with_tuple lists row.tuple) (fold with_row (with_tuple lists row.tuple) rows) (longer-tuple lists row.tuple) (longer-rows (with_tuple lists row.tuple) rows)
 

@@ -73,7 +73,7 @@ kept-back schema table table' tree tree' is same back closed max =
           (subst (λ (rs : List (Row ℕ)). IsTreeOf (length schema.dims) tree.now (record { measures = length schema.measures; rows = rs })) (sym rows) is.from);
     }
 
-pub is-held : (schema : Layout) (dict : TextLists) (table : Places) (tree : Arena) (index : List Ranking) → IsStored schema dict table → IsTreeOfTable schema table tree → IsIndexed schema tree.now index → AreContents (record { state = state_of schema dict table; tree = tree.now; index = index })
+pub is-held : (schema : Layout) (dict : TextLists) (table : Places) (tree : Arena) (index : List Ranking) → IsStored schema dict table → IsTreeOfTable schema table tree → IsIndexed schema tree.now index → AreContents (record { state = state_of schema dict table; tree = tree.now; index = index; images = tree.last })
 is-held schema dict table tree index stored kept indexed = record {
   state = is-state schema dict table stored kept.few;
   tree =

@@ -5,3 +5,4 @@ pub mod InPlace
 pub mod Steps
 pub mod Widening
 pub mod Handing
+pub mod Counted

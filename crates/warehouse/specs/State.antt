@@ -11,6 +11,7 @@ use Rattle.csv_load.specs.Batch.{IsLoaded, IsValue}
 use Rattle.iceberg_query.specs.Indexed.{class_of_node}
 use Rattle.measure_index.specs.Index.{scale_of, units}
 use Rattle.measure_index.specs.Rankings.{IsIndex, Ranking}
+use Rattle.qc_arena.specs.Map.{ImageMap}
 use Rattle.qc_schema.specs.Schema.{Layout, IsLayout}
 use Rattle.tree_search.specs.Found.{TreeRows, IsTreeOf}
 use Rattle.value_dict.specs.Told.{has_text, place_in}
@@ -59,15 +60,26 @@ pub record IsIndexed (schema : Layout) (tree : Tree ℕ) (index : List Ranking) 
   pub classes : IsIndex (class_of_node tree) index
   pub kinds : units index ≡ map (λ kind. (kind, scale_in schema kind)) schema.indexes
 
--- a state, and the tree and the index that are kept of its rows
+-- a state, the tree and the index that are kept of its rows, and what the nodes were that the last change
+-- touched, until it is asked for
 pub record Contents : Type 0 where
   pub state : State
   pub tree : Tree ℕ
   pub index : List Ranking
+  pub images : ImageMap
 
 -- the rows with codes for their texts
 abbrev pub source_of : State → TreeRows
 source_of s = record { measures = length s.schema.measures; rows = coded_rows s }
+
+-- the state with other rows
+abbrev pub with_rows : State → List (Row Text) → State
+with_rows s rows = record s { rows = rows }
+
+-- the tree is the canonical tree of a state's rows
+pub record HasTree (s : State) (tree : Tree ℕ) : Type 0 where
+  pub state : IsState s
+  pub canonical : IsTreeOf (length s.schema.dims) tree (source_of s)
 
 -- what is true of every warehouse: the tree is the canonical tree of the rows, and the index that of its classes
 pub record AreContents (held : Contents) : Type 0 where

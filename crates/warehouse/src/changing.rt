@@ -1,5 +1,6 @@
 // Changes are made to rows and texts, all of them or none, and the tree is made that of the rows after
 // them: in place for a batch, and anew for a base file.
+ghost use Rattle.std.specs.FinMap as finmap;
 ghost use Rattle.std.specs.Prelude.{Err, IfErr, IfOk, IfSome, None, Ok, OnErr, OnOk, Some, [], false, is_some, length, option_map, true, ◌+◌, ◌++◌, ◌<◌, ◌∷◌, ◌≡◌, ◌≤◌};
 ghost use Rattle.base_table.specs.Places.{has_id, rows_of};
 ghost use Rattle.cell_core.specs.Gives.{Gives};
@@ -7,7 +8,7 @@ ghost use Rattle.cube_defs.specs.Text.{text_cmp};
 ghost use Rattle.csv_load.specs.Batch.{IsBatch, change_at, deleted, id_of, inserted, is_deletion, row_of};
 ghost use Rattle.cube_defs.specs.Tree.{IsCanonical, classes, nodes};
 ghost use Rattle.qc_arena.specs.Map as arena;
-ghost use Rattle.qc_arena.specs.Map.{is_open};
+ghost use Rattle.qc_arena.specs.Map.{is_open, over};
 ghost use Rattle.std.specs.Ordering.{nat_cmp};
 ghost use Rattle.value_dict.specs.TextLists.{IsDictionary};
 ghost use Rattle.warehouse.specs.Batch as batches;
@@ -402,6 +403,7 @@ pub(crate) fn change<L: Ledger>(
     requires stored { IsStored schema.now dict.old table.old }
     requires kept { IsTreeOfTable schema.now table.old tree.old }
     requires indexed { IsIndexed schema.now tree.old.now index.old }
+    requires images { tree.old.last ≡ finmap.empty }
     requires dims { batch.dims ≡ length schema.now.dims }
     requires measures { batch.measures ≡ length schema.now.measures }
     ensures gives { Gives refusal_in (applied_in (state_of schema.now dict.new table.new)) result
@@ -419,6 +421,8 @@ pub(crate) fn change<L: Ledger>(
     ensures stored { IsStored schema.now dict.new table.new }
     ensures kept { IsTreeOfTable schema.now table.new tree.new }
     ensures indexed { IsIndexed schema.now tree.new.now index.new }
+    ensures images { OnOk result (over tree.new.last tree.new.now ≡ tree.old.now) }
+    ensures no_images { OnErr result (tree.new.last ≡ finmap.empty) }
 {
     if let Some(k) = first_repeat(alloc, &batch)? {
         return Err(Refused::Twice(k));
@@ -502,6 +506,7 @@ fn count_and_go_back<L: Ledger>(
     ensures tree { tree.new.now ≡ tree.old.now }
     ensures stored { IsStored schema.now dict.new table.new }
     ensures kept { IsTreeOfTable schema.now table.new tree.new }
+    ensures images { tree.new.last ≡ finmap.empty }
 {
     let lens = open_batch(schema, table, dict, tree);
     let counted = change_and_count(schema, table, dict, tree, batch, alloc, steps);
@@ -522,6 +527,7 @@ pub(crate) fn attempt<L: Ledger>(
 ) -> Result<Applied, Refused>
     requires stored { IsStored schema.now dict.old table.old }
     requires kept { IsTreeOfTable schema.now table.old tree.old }
+    requires images { tree.old.last ≡ finmap.empty }
     requires dims { batch.dims ≡ length schema.now.dims }
     requires measures { batch.measures ≡ length schema.now.measures }
     ensures gives { (then : State) × Gives refusal_in (applied_in then) result
@@ -531,6 +537,7 @@ pub(crate) fn attempt<L: Ledger>(
     ensures tree { tree.new.now ≡ tree.old.now }
     ensures stored { IsStored schema.now dict.new table.new }
     ensures kept { IsTreeOfTable schema.now table.new tree.new }
+    ensures images { tree.new.last ≡ finmap.empty }
 {
     if let Some(k) = first_repeat(alloc, &batch)? {
         return Err(Refused::Twice(k));

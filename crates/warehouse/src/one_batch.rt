@@ -1,9 +1,9 @@
 // A batch on rows, texts and tree: it is opened, and then kept or taken back.
 ghost use Rattle.std.specs.FinMap as finmap;
 ghost use Rattle.std.specs.FinSet as set;
-ghost use Rattle.std.specs.Prelude.{None, Some, false, is_some, length, map, take, true, ◌≡◌, ◌≤◌};
+ghost use Rattle.std.specs.Prelude.{IfSome, None, Some, false, is_some, length, map, take, true, ◌≡◌, ◌≤◌};
 ghost use Rattle.base_table.specs.Places.{IsTable, base_of, rows_of};
-ghost use Rattle.qc_arena.specs.Map.{is_open, shape_of};
+ghost use Rattle.qc_arena.specs.Map.{is_open, over, shape_of};
 ghost use Rattle.value_dict.specs.TextLists.{IsDictionary, cut};
 ghost use Rattle.warehouse.specs.Steps.{closed, frame};
 ghost use Rattle.warehouse.specs.Stored.{IsTreeOfTable, IsStored, state_of};
@@ -34,20 +34,19 @@ pub(crate) fn open_batch(
     lengths(dict, schema.dims())
 }
 
-/// Keeps what was done in the batch.
+/// Keeps what was done in the batch. What the nodes were that it touched is kept too, until it is asked for.
 pub(crate) fn commit_both(table: &mut Table, tree: &mut QcArena)
     requires rows { is_some table.old.was ≡ true }
     requires tree { is_open tree.old ≡ true }
     ensures rows { rows_of table.new ≡ rows_of table.old }
     ensures frame { frame table.new ≡ frame (closed table.old) }
     ensures valid { IsTable table.new }
-    ensures tree { tree.new ≡ record tree.old { was = None; touched = set.empty; last = finmap.empty } }
+    ensures tree { tree.new ≡ record tree.old { was = None; touched = set.empty; last = tree.new.last } }
+    ensures images { IfSome tree.old.was (λ shape. shape.width ≡ tree.old.width → over tree.new.last tree.new.now ≡ shape.tree) }
 {
     table.commit();
     table.is_valid();
     tree.commit();
-    // What the nodes were is let go at once: nobody asks for it.
-    tree.drop_images();
 }
 
 /// Takes the batch back: rows and tree are those at its begin, and each dimension has so many texts.
@@ -64,6 +63,7 @@ pub(crate) fn go_back(table: &mut Table, dict: &mut Dict, tree: &mut QcArena, le
     ensures tree { Some (shape_of tree.new) ≡ tree.old.was }
     ensures closed { is_open tree.new ≡ false }
     ensures max { tree.new.max ≡ tree.old.max }
+    ensures images { tree.new.last ≡ tree.old.last }
 {
     table.rollback();
     table.is_valid();

@@ -1,4 +1,5 @@
 // The state, the tree of its rows, the index of the tree's classes, and what files do to them.
+ghost use Rattle.std.specs.FinMap as finmap;
 ghost use Rattle.std.specs.Prelude.{Err, IfOk, IfSome, List, None, Ok, OnErr, OnOk, Result, length, true, ◌+◌, ◌++◌, ◌<◌, ◌≡◌, ◌≤◌};
 ghost use Rattle.base_table.specs.Places.{rows_of};
 ghost use Rattle.cell_core.specs.Gives.{Gives};
@@ -10,6 +11,7 @@ ghost use Rattle.aggregates.specs.declared.kind.AggKind.{AggKind};
 ghost use Rattle.iceberg_query.specs.Indexed.{class_of_node};
 ghost use Rattle.measure_index.specs.Index.{ranking_of};
 ghost use Rattle.measure_index.specs.Rankings.{IsIndex};
+ghost use Rattle.qc_arena.specs.Map.{over};
 ghost use Rattle.warehouse.specs.Batch as batches;
 ghost use Rattle.warehouse.specs.Batch.{result_of};
 ghost use Rattle.warehouse.specs.InPlace.{IsWithinCost, KeepsApart, KeepsNodes, LeavesApart, LeavesNumbers, cost_in, gone, kept, with_codes};
@@ -29,7 +31,7 @@ use cell_core::Steps;
 use csv_load::{LoadRefused, RawBatch, read_base, read_batch};
 use cube_defs::MAX_FILE;
 use measure_index::Index;
-use qc_arena::QcArena;
+use qc_arena::{Images, QcArena};
 use qc_schema::Schema;
 use std::alloc::Global;
 use std::marker::Model;
@@ -37,7 +39,8 @@ use std::sync::ledger::Ledger;
 use value_dict::Dict;
 
 /// A schema, the rows that are present, for each dimension the texts that were ever accepted, in
-/// the order in which they were accepted, the tree of the rows, and the index of its classes.
+/// the order in which they were accepted, the tree of the rows, and the index of its classes. What the
+/// nodes were that the last change touched is kept until it is asked for, or until the next change.
 #[derive(Drop)]
 pub struct Warehouse {
     schema: Schema,
@@ -51,14 +54,15 @@ pub struct Warehouse {
 impl Model for Warehouse {
     ghost use Rattle.std.specs.Coded.{codes};
     ghost use Rattle.qc_arena.specs.Codes.{tree_code};
+    ghost use Rattle.qc_arena.specs.Map.{images_code};
     ghost use Rattle.warehouse.specs.State.{Contents, IsIndexed};
     ghost use Rattle.warehouse.specs.Stored.{IsTreeOfTable, IsStored, state_of};
 
     ghost Value = { Contents };
 
-    ghost coded = { Prim.hlevel (codes, tree_code) };
+    ghost coded = { Prim.hlevel (codes, tree_code, images_code) };
 
-    ghost view = { λ w. record { state = state_of w.schema w.dict w.table; tree = w.tree.now; index = w.index } };
+    ghost view = { λ w. record { state = state_of w.schema w.dict w.table; tree = w.tree.now; index = w.index; images = w.tree.last } };
 
     ghost invariant = { λ w. IsStored w.schema w.dict w.table × IsTreeOfTable w.schema w.table w.tree × IsIndexed w.schema w.tree.now w.index };
 }
@@ -202,7 +206,24 @@ impl Warehouse {
         }
     }
 
-    // Makes changes, all of them or none.
+    // Drops what the nodes were that the change before touched.
+    fn drop_images(&mut self)
+        ensures rest { self.new ≡ record self.old { images = finmap.empty } }
+    {
+        self.tree.drop_images();
+    }
+
+    /// Hands out what the nodes were that the last `load` or `apply` touched, by their numbers. After a
+    /// refusal, after `attempt`, after `widen` and at a second call there are none. It takes no memory.
+    pub fn last_images(&mut self) -> Images
+        ensures images { result ≡ self.old.images }
+        ensures rest { self.new ≡ record self.old { images = finmap.empty } }
+        ensures valid { AreContents self.new }
+    {
+        self.tree.last_images()
+    }
+
+    // Makes changes, all of them or none, where no images are left of the change before.
     fn change<L: Ledger>(
         &mut self,
         batch: RawBatch,
@@ -211,6 +232,7 @@ impl Warehouse {
     ) -> Result<Applied, Refused>
         requires dims { batch.dims ≡ length self.old.state.schema.dims }
         requires measures { batch.measures ≡ length self.old.state.schema.measures }
+        requires images { self.old.images ≡ finmap.empty }
         ensures gives { Gives refusal_in (applied_in self.new.state) result (result_of self.old.state (Ok batch.changes)) }
         ensures numbers { OnOk result (in_place ≡ true → KeepsNodes
             (with_codes self.new.state.texts (kept (deleted batch.changes) self.old.state.rows)) self.old.tree self.new.tree) }
@@ -223,6 +245,8 @@ impl Warehouse {
         ensures state { OnErr result (self.new.state ≡ self.old.state) }
         ensures tree { OnErr result (self.new.tree ≡ self.old.tree) }
         ensures index { OnErr result (self.new.index ≡ self.old.index) }
+        ensures images { over self.new.images self.new.tree ≡ self.old.tree }
+        ensures no_images { OnErr result (self.new.images ≡ finmap.empty) }
     {
         change(
             &self.schema,
@@ -249,7 +273,10 @@ impl Warehouse {
         ensures state { OnErr result (self.new.state ≡ self.old.state) }
         ensures tree { OnErr result (self.new.tree ≡ self.old.tree) }
         ensures index { OnErr result (self.new.index ≡ self.old.index) }
+        ensures images { over self.new.images self.new.tree ≡ self.old.tree }
+        ensures no_images { OnErr result (self.new.images ≡ finmap.empty) }
     {
+        self.drop_images();
         if self.table.count() != 0 {
             return Err(Refused::NotEmpty);
         }
@@ -277,14 +304,17 @@ impl Warehouse {
         ensures state { OnErr result (self.new.state ≡ self.old.state) }
         ensures tree { OnErr result (self.new.tree ≡ self.old.tree) }
         ensures index { OnErr result (self.new.index ≡ self.old.index) }
+        ensures images { over self.new.images self.new.tree ≡ self.old.tree }
+        ensures no_images { OnErr result (self.new.images ≡ finmap.empty) }
     {
+        self.drop_images();
         match read_batch(self.alloc, &self.schema, bytes) {
             Ok(batch) => self.change(batch, true, steps),
             Err(refused) => Err(refused_file(refused)),
         }
     }
 
-    // Tells what changes would come to, and takes them back.
+    // Tells what changes would come to, and takes them back, where no images are left of the change before.
     fn try_change<L: Ledger>(
         &mut self,
         batch: RawBatch,
@@ -292,6 +322,7 @@ impl Warehouse {
     ) -> Result<Applied, Refused>
         requires dims { batch.dims ≡ length self.old.state.schema.dims }
         requires measures { batch.measures ≡ length self.old.state.schema.measures }
+        requires images { self.old.images ≡ finmap.empty }
         ensures gives { (then : State) × Gives refusal_in (applied_in then) result (result_of self.old.state (Ok batch.changes)) }
         ensures steps { OnOk result (steps.new ≤ steps.old + cost_in self.old.state batch.changes) }
         ensures same { self.new ≡ self.old }
@@ -311,7 +342,7 @@ impl Warehouse {
     /// Tells what `apply` would answer to a batch, and leaves everything as it was, whatever the
     /// answer: the rows, the texts, the index, and the tree with the numbers of its nodes. The batch is
     /// made as `apply` makes it, in as many steps, and then it is taken back, for which no memory is
-    /// needed.
+    /// needed. Like each change it drops what the nodes were that the change before touched.
     pub fn attempt<L: Ledger>(
         &mut self,
         bytes: &[u8],
@@ -320,9 +351,10 @@ impl Warehouse {
         requires { length bytes.now ≤ MAX_FILE }
         ensures gives { (then : State) × Gives refusal_in (applied_in then) result (batches.result self.old.state batches.Apply bytes.now) }
         ensures steps { OnOk result (IsWithinCost self.old.state bytes.now steps.old steps.new) }
-        ensures same { self.new ≡ self.old }
+        ensures same { self.new ≡ record self.old { images = finmap.empty } }
         ensures valid { AreContents self.new }
     {
+        self.drop_images();
         match read_batch(self.alloc, &self.schema, bytes) {
             Ok(batch) => self.try_change(batch, steps),
             Err(refused) => Err(refused_file(refused)),
@@ -351,7 +383,9 @@ impl Warehouse {
         ensures state { OnErr result (self.new.state ≡ self.old.state) }
         ensures tree { OnErr result (self.new.tree ≡ self.old.tree) }
         ensures index { OnErr result (self.new.index ≡ self.old.index) }
+        ensures no_images { self.new.images ≡ finmap.empty }
     {
+        self.drop_images();
         widen(
             &mut self.schema,
             &mut self.table,

@@ -278,6 +278,7 @@ fn widen_parts<L: Ledger>(
     requires closed { is_open tree.old ≡ false }
     requires width { tree.old.width ≡ table.old.dims }
     requires tree { IsTreeOf table.old.dims tree.old.now (record { measures = table.old.measures; rows = rows_of table.old }) }
+    requires images { tree.old.last ≡ finmap.empty }
     ensures texts { OnOk result (dict.new ≡ texts.with_dim dict.old value.now) }
     ensures dictionary { IsDictionary dict.new }
     ensures rows { OnOk result (rows_of table.new ≡ map (with_code 0) (rows_of table.old)) }
@@ -290,6 +291,7 @@ fn widen_parts<L: Ledger>(
     ensures width { OnOk result (tree.new.width ≡ table.old.dims + 1) }
     ensures max { tree.new.max ≡ tree.old.max }
     ensures closed { is_open tree.new ≡ false }
+    ensures images { tree.new.last ≡ finmap.empty }
     ensures index { IfOk result (λ index. IsIndexed wide.now tree.new.now index) }
     ensures steps { OnOk result (steps.new ≤ steps.old + 16 * finmap.len tree.old.now) }
     ensures texts_back { OnErr result (dict.new ≡ dict.old) }
@@ -303,6 +305,8 @@ fn widen_parts<L: Ledger>(
     match widen_both(wide, table, tree, alloc, steps) {
         Ok(index) => {
             commit_both(table, tree);
+            // Where a dimension came, what the nodes were is of no use.
+            tree.drop_images();
             Ok(index)
         }
         Err(error) => {
@@ -345,6 +349,7 @@ pub(crate) fn widen<L: Ledger>(
     requires stored { IsStored schema.old dict.old table.old }
     requires kept { IsTreeOfTable schema.old table.old tree.old }
     requires indexed { IsIndexed schema.old tree.old.now index.old }
+    requires images { tree.old.last ≡ finmap.empty }
     requires name { is_new_name schema.old name.now ≡ true }
     requires value { length value.now ≤ 255 }
     ensures gives { Gives widen_refusal_in (applied_in (state_of schema.new dict.new table.new)) result
@@ -357,6 +362,7 @@ pub(crate) fn widen<L: Ledger>(
     ensures stored { IsStored schema.new dict.new table.new }
     ensures kept { IsTreeOfTable schema.new table.new tree.new }
     ensures indexed { IsIndexed schema.new tree.new.now index.new }
+    ensures images { tree.new.last ≡ finmap.empty }
 {
     if let Some(refused) = full_cause(schema, tree) {
         return Err(refused);

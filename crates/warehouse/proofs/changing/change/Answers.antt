@@ -22,6 +22,7 @@ use Rattle.warehouse.proofs.Growing.{cut-back}
 use Rattle.warehouse.proofs.States.{stored-next}
 use Rattle.warehouse.proofs.Trees.{kept-back, kept-canonical}
 use Rattle.warehouse.proofs.Values.{values-after}
+use Rattle.warehouse.proofs.Images.{over-begun}
 use Rattle.warehouse.proofs.changing.change.Goals as goal
 use Rattle.tree_laws.proofs.Lists.{some_same}
 
@@ -144,3 +145,11 @@ returns-in-Ok-clause-apart g c = λ in_place.
 pub returns-in-Ok-clause-steps : goal.returns-in-Ok-clause-steps
 returns-in-Ok-clause-steps g c = λ in_place.
     subst (λ (s : State). c.change_and_index.new.steps ≤ c.args.steps.now + cost_in s c.args.batch.changes) c.open_batch-lens.ensures.state (c.in-Ok.ensures.steps in_place)
+
+pub returns-in-Ok-clause-images : goal.returns-in-Ok-clause-images
+returns-in-Ok-clause-images g c =
+    over-begun c.args.tree.now c.open_batch-lens.new.tree c.change_and_index.new.tree c.commit_both.new.tree.last c.commit_both.new.tree.now
+    c.open_batch-lens.ensures.tree c.change_and_index.ensures.tree_frame c.commit_both.ensures.images
+
+pub returns-in-Err-clause-no_images : goal.returns-in-Err-clause-no_images
+returns-in-Err-clause-no_images g c = c.go_back.ensures.images ∙ ap (λ (a : Arena). a.last) c.change_and_index.ensures.tree_frame ∙ ap (λ (a : Arena). a.last) c.open_batch-lens.ensures.tree

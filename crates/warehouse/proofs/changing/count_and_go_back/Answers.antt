@@ -72,3 +72,7 @@ returns-clause-cause g c = subst (λ (s : State). IfErr c.change_and_count-count
 pub returns-clause-steps : goal.returns-clause-steps
 returns-clause-steps g c =
     subst (λ (s : State). OnOk c.change_and_count-counted.result (c.change_and_count-counted.new.steps ≤ c.args.steps.now + cost_in s c.args.batch.changes)) c.open_batch-lens.ensures.state c.change_and_count-counted.ensures.steps
+
+pub returns-clause-images : goal.returns-clause-images
+returns-clause-images g c =
+    c.go_back.ensures.images ∙ ap (λ (a : Arena). a.last) c.change_and_count-counted.ensures.tree_frame ∙ ap (λ (a : Arena). a.last) c.open_batch-lens.ensures.tree

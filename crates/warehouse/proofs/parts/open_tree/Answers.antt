@@ -4,7 +4,7 @@ use Rattle.std.specs.FinSet as set
 use Rattle.std.specs.Ordering.{nat_cmp}
 use Rattle.base_table.specs.Places.{rows_of}
 use Rattle.cube_defs.specs.Tree.{nodes}
-use Rattle.qc_arena.specs.Map.{Arena, is_open, no_nodes, shape_of}
+use Rattle.qc_arena.specs.Map.{Arena, no_nodes, shape_of}
 use Rattle.warehouse.proofs.parts.open_tree.Goals as goal
 
 -- an arena in which a batch is opened

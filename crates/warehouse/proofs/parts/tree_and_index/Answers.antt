@@ -1,4 +1,4 @@
-use Rattle.std.proofs.Common.{Option, Some, ◌≡◌, ◌∙◌, [], ap, length, subst, sym}
+use Rattle.std.proofs.Common.{Option, ◌∙◌, [], ap, subst, sym}
 use Rattle.std.specs.Prelude.{IfSome}
 use Rattle.std.specs.Ordering.{nat_cmp}
 use Rattle.base_table.specs.Places.{rows_of}

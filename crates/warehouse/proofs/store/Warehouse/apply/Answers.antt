@@ -1,39 +1,67 @@
-use Rattle.std.proofs.Common.{Ok, ap, subst, ◌+◌, ◌++◌, ◌≡◌, ◌≤◌}
-use Rattle.csv_load.specs.Batch.{deleted, inserted}
+use Rattle.std.proofs.Common.{Err, List, Ok, Result, ap, subst, sym, true, ◌+◌, ◌++◌, ◌∙◌, ◌≡◌, ◌≤◌}
+use Rattle.std.specs.Prelude.{IfSome, OnOk}
+use Rattle.cell_core.specs.Gives.{Gives}
+use Rattle.csv_load.specs.Batch.{Change, deleted, inserted}
+use Rattle.csv_load.specs.Faults.{Fault}
 use Rattle.csv_load.specs.Files.{batch_in}
-use Rattle.qc_schema.specs.Schema.{Layout}
+use Rattle.cube_defs.specs.Text.{Text}
+use Rattle.warehouse.specs.Batch.{result_of}
 use Rattle.warehouse.specs.InPlace.{KeepsApart, KeepsNodes, cost_in, gone, kept, with_codes}
-use Rattle.warehouse.specs.State.{Contents}
+use Rattle.warehouse.specs.State.{Contents, State}
+use Rattle.warehouse.proofs.Images.{over-none}
 use Rattle.warehouse.proofs.Repairing.{of-batch}
-use Rattle.warehouse.specs.Stored.{state_of}
+use Rattle.warehouse.specs.Stored.{applied_in, refusal_in, state_of}
 use Rattle.warehouse.proofs.Trees.{is-held}
 use Rattle.warehouse.proofs.store.Warehouse.apply.Goals as goal
 
 pub returns-in-Err-clause-gives : goal.returns-in-Err-clause-gives
 returns-in-Err-clause-gives g c =
     let inside = c.self.inside in
-    rw (← c.self.view_is) (c.refused_file.ensures (state_of inside.schema inside.dict inside.table) (batch_in inside.schema c.args.bytes.now) c.in-Err.ensures.gives)
+    let state = ap (λ (w : Contents). w.state) (c.self.view_is ∙ c.drop_images.ensures.rest) in
+    subst (λ (s : State). IfSome (refusal_in c.refused_file.result) (λ refusal. result_of s (batch_in s.schema c.args.bytes.now) ≡ Err refusal)) state
+    (c.refused_file.ensures (state_of inside.schema inside.dict inside.table) (batch_in inside.schema c.args.bytes.now) c.in-Err.ensures.gives)
+
+pub returns-in-Ok-clause-gives : goal.returns-in-Ok-clause-gives
+returns-in-Ok-clause-gives g c =
+    let state = ap (λ (w : Contents). w.state) (c.self.view_is ∙ c.drop_images.ensures.rest) in
+    let was = ap (λ (w : Contents). w.state) c.drop_images.ensures.rest in
+    let new = c.change.new.self.state in
+    let read : batch_in c.args.self.now.state.schema c.args.bytes.now ≡ Ok c.in-Ok.batch.changes = subst (λ (s : State). batch_in s.schema c.args.bytes.now ≡ Ok c.in-Ok.batch.changes) state c.in-Ok.ensures.gives in
+    subst (λ (r : Result (List (Change Text)) Fault). Gives refusal_in (applied_in new) c.change.result (result_of c.args.self.now.state r)) (sym read)
+    (subst (λ (s : State). Gives refusal_in (applied_in new) c.change.result (result_of s (Ok c.in-Ok.batch.changes))) was c.change.ensures.gives)
 
 pub returns-in-Err-clause-valid : goal.returns-in-Err-clause-valid
 returns-in-Err-clause-valid g c = rw (← c.self.view_is) (is-held c.self.inside.schema c.self.inside.dict c.self.inside.table c.self.inside.tree c.self.inside.index c.self.invariant.0 c.self.invariant.1 c.self.invariant.2)
 
+pub returns-in-Err-clause-images : goal.returns-in-Err-clause-images
+returns-in-Err-clause-images g c = rw (c.drop_images.ensures.rest) (over-none c.args.self.now.tree)
+
 pub returns-in-Ok-clause-numbers : goal.returns-in-Ok-clause-numbers
 returns-in-Ok-clause-numbers g c =
-    let schema = ap (λ (h : Contents). h.state.schema) c.self.view_is in
-    of-batch c.change.result c.args.self.now.state.schema c.args.bytes.now c.in-Ok.batch.changes
-    (λ changes. KeepsNodes (with_codes c.change.new.self.state.texts (kept (deleted changes) c.args.self.now.state.rows)) c.args.self.now.tree c.change.new.self.tree)
-    (subst (λ (s : Layout). batch_in s c.args.bytes.now ≡ Ok c.in-Ok.batch.changes) schema c.in-Ok.ensures.gives) c.change.ensures.numbers
+    let state = ap (λ (w : Contents). w.state) (c.self.view_is ∙ c.drop_images.ensures.rest) in
+    let changes = c.in-Ok.batch.changes in
+    let lists = c.change.new.self.state.texts in
+    of-batch c.change.result c.args.self.now.state.schema c.args.bytes.now changes
+    (λ xs. KeepsNodes (with_codes lists (kept (deleted xs) c.args.self.now.state.rows)) c.args.self.now.tree c.change.new.self.tree)
+    (subst (λ (s : State). batch_in s.schema c.args.bytes.now ≡ Ok changes) state c.in-Ok.ensures.gives)
+    (subst (λ (w : Contents). OnOk c.change.result (true ≡ true → KeepsNodes (with_codes lists (kept (deleted changes) w.state.rows)) w.tree c.change.new.self.tree)) c.drop_images.ensures.rest c.change.ensures.numbers)
 
 pub returns-in-Ok-clause-apart : goal.returns-in-Ok-clause-apart
 returns-in-Ok-clause-apart g c =
-    let schema = ap (λ (h : Contents). h.state.schema) c.self.view_is in
-    of-batch c.change.result c.args.self.now.state.schema c.args.bytes.now c.in-Ok.batch.changes
-    (λ changes. KeepsApart (with_codes c.change.new.self.state.texts (gone (deleted changes) c.args.self.now.state.rows ++ inserted changes)) c.args.self.now.tree c.change.new.self.tree)
-    (subst (λ (s : Layout). batch_in s c.args.bytes.now ≡ Ok c.in-Ok.batch.changes) schema c.in-Ok.ensures.gives) c.change.ensures.apart
+    let state = ap (λ (w : Contents). w.state) (c.self.view_is ∙ c.drop_images.ensures.rest) in
+    let changes = c.in-Ok.batch.changes in
+    let lists = c.change.new.self.state.texts in
+    of-batch c.change.result c.args.self.now.state.schema c.args.bytes.now changes
+    (λ xs. KeepsApart (with_codes lists (gone (deleted xs) c.args.self.now.state.rows ++ inserted xs)) c.args.self.now.tree c.change.new.self.tree)
+    (subst (λ (s : State). batch_in s.schema c.args.bytes.now ≡ Ok changes) state c.in-Ok.ensures.gives)
+    (subst (λ (w : Contents). OnOk c.change.result (true ≡ true → KeepsApart (with_codes lists (gone (deleted changes) w.state.rows ++ inserted changes)) w.tree c.change.new.self.tree)) c.drop_images.ensures.rest
+    c.change.ensures.apart)
 
 pub returns-in-Ok-clause-steps : goal.returns-in-Ok-clause-steps
 returns-in-Ok-clause-steps g c =
-    let schema = ap (λ (h : Contents). h.state.schema) c.self.view_is in
-    of-batch c.change.result c.args.self.now.state.schema c.args.bytes.now c.in-Ok.batch.changes
-    (λ changes. c.change.new.steps ≤ c.args.steps.now + cost_in c.args.self.now.state changes)
-    (subst (λ (s : Layout). batch_in s c.args.bytes.now ≡ Ok c.in-Ok.batch.changes) schema c.in-Ok.ensures.gives) c.change.ensures.steps
+    let state = ap (λ (w : Contents). w.state) (c.self.view_is ∙ c.drop_images.ensures.rest) in
+    let changes = c.in-Ok.batch.changes in
+    of-batch c.change.result c.args.self.now.state.schema c.args.bytes.now changes
+    (λ xs. c.change.new.steps ≤ c.args.steps.now + cost_in c.args.self.now.state xs)
+    (subst (λ (s : State). batch_in s.schema c.args.bytes.now ≡ Ok changes) state c.in-Ok.ensures.gives)
+    (subst (λ (w : Contents). OnOk c.change.result (true ≡ true → c.change.new.steps ≤ c.args.steps.now + cost_in w.state changes)) c.drop_images.ensures.rest c.change.ensures.steps)

@@ -1,14 +1,24 @@
+use Rattle.std.proofs.Common.{length, subst, ◌+◌, ◌∙◌, ◌≤◌}
+use Rattle.std.specs.Prelude.{OnOk}
+use Rattle.cell_core.specs.Gives.{Gives}
+use Rattle.warehouse.specs.State.{Contents}
+use Rattle.warehouse.specs.Stored.{applied_in, state_of}
+use Rattle.warehouse.specs.Widening.{KeepsWidened, cost_of_widening, widen_refusal_in, widen_result}
 use Rattle.warehouse.proofs.Trees.{is-held}
 use Rattle.warehouse.proofs.store.Warehouse.widen.Goals as goal
 
 pub returns-clause-gives : goal.returns-clause-gives
-returns-clause-gives g c = rw (← c.self.view_is) c.widen.ensures.gives
+returns-clause-gives g c =
+    let then_state = state_of c.widen.new.schema c.widen.new.dict c.widen.new.table in
+    subst (λ (w : Contents). Gives widen_refusal_in (applied_in then_state) c.widen.result (widen_result w.state c.args.name.now c.args.value.now)) (c.self.view_is ∙ c.drop_images.ensures.rest) c.widen.ensures.gives
 
 pub returns-clause-records : goal.returns-clause-records
-returns-clause-records g c = rw (← c.self.view_is) c.widen.ensures.records
+returns-clause-records g c =
+    subst (λ (w : Contents). OnOk c.widen.result (KeepsWidened (length w.state.schema.dims) w.tree c.widen.new.tree.now)) (c.self.view_is ∙ c.drop_images.ensures.rest) c.widen.ensures.records
 
 pub returns-clause-steps : goal.returns-clause-steps
-returns-clause-steps g c = rw (← c.self.view_is) c.widen.ensures.steps
+returns-clause-steps g c =
+    subst (λ (w : Contents). OnOk c.widen.result (c.widen.new.steps ≤ c.args.steps.now + cost_of_widening (length w.state.schema.dims) w.tree)) (c.self.view_is ∙ c.drop_images.ensures.rest) c.widen.ensures.steps
 
 pub returns-clause-valid : goal.returns-clause-valid
 returns-clause-valid g c = is-held c.widen.new.schema c.widen.new.dict c.widen.new.table c.widen.new.tree c.widen.new.index c.widen.ensures.stored c.widen.ensures.kept c.widen.ensures.indexed

@@ -1,0 +1,13 @@
+-- What is counted of rows and of their tree.
+use Rattle.std.specs.Prelude.{◌≡◌, List, length}
+use Rattle.cube_defs.specs.Rows.{Row}
+use Rattle.cube_defs.specs.Text.{Text, text_cmp}
+use Rattle.cube_defs.specs.Tree as trees
+use Rattle.warehouse.specs.declared.refused.Stats.{Stats}
+
+pub record AreCounted (present : List (Row Text)) (stats : Stats) : Type 0 where
+  pub rows : stats.rows ≡ length present
+  pub classes : stats.classes ≡ length (trees.classes text_cmp present)
+  pub nodes : stats.nodes ≡ length (trees.nodes text_cmp present)
+  pub tree_edges : stats.tree_edges ≡ trees.tree_edges text_cmp present
+  pub links : stats.links ≡ trees.links text_cmp present
