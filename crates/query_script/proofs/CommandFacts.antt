@@ -11,10 +11,12 @@ use Rattle.qc_schema.specs.Schema.{Layout}
 use Rattle.query_script.specs.Faults as faults
 use Rattle.cell_core.specs.Gives.{Gives}
 use Rattle.query_script.specs.Faults.{LineFault, line_fault_in}
-use Rattle.query_script.specs.Lines.{may_want_memory, names_more, rest_of, stats_line, word_of}
-use Rattle.query_script.specs.Commands.{IsCellField, IsMeasured, IsQuestion, asked_with, command_in, command_named, name_in, record_in, wants_memory}
+use Rattle.query_script.specs.Lines.{may_want_memory, names_more, names_query, rest_of, stats_line, word_of}
+use Rattle.query_script.specs.Commands.{IsCellField, IsMeasured, IsQuery, IsQuestion, asked_with, at_in, command_in, command_named, is_pin_name, name_in, pin_name_in, query_in_line, query_named, record_in, wants_memory}
 use Rattle.query_script.specs.Icebergs.{bound_at, bound_named, iceberg_in, iceberg_of, makes, value_at, with_aggregate, with_bound, with_measure, with_value}
-use Rattle.query_script.specs.Questions.{Apply, Bounds, Children, Iceberg, Load, Parents, Point, Question, Range, Rollup, Stats, Try, Widen, question_in}
+use Rattle.query_script.specs.Queries as queries
+use Rattle.query_script.specs.Queries.{Query}
+use Rattle.query_script.specs.Questions.{Apply, At, Load, Pin, Question, Stats, Try, Unpin, Widen, question_in, question_of}
 use Rattle.query_script.specs.Rollups as rollups
 use Rattle.query_script.specs.Rollups.{rollup_in}
 use Rattle.query_script.specs.Widens.{has_value, widen_in}
@@ -53,8 +55,8 @@ file-is layout [] make q made e = absurd (cc e)
 file-is layout (b ∷ bs) make q made e = let same : make (b ∷ bs) ≡ q = cc in rw (← same) (made b bs)
 
 -- what asks for fields
-fields-are : (layout : Layout) (read : Result (List asked.Field) LineFault) (make : List asked.Field → Question) (q : Question) → ((fields : List asked.Field) → read ≡ Ok fields → IsQuestion layout (make fields))
-    → asked_with make read ≡ Ok q → IsQuestion layout q
+fields-are : (layout : Layout) (read : Result (List asked.Field) LineFault) (make : List asked.Field → Query) (q : Query) → ((fields : List asked.Field) → read ≡ Ok fields → IsQuery layout (make fields))
+    → asked_with make read ≡ Ok q → IsQuery layout q
 fields-are layout (Err fault) make q made m = absurd (cc m)
 fields-are layout (Ok fields) make q made m = let same : make fields ≡ q = cc in rw (← same) (made fields refl)
 
@@ -63,20 +65,20 @@ module _ (layout : Layout) where
   abbrev IsMade : answers.AggKind → Type 0
   IsMade kind = IsMeasured (length layout.measures) kind
 
-  value-is : (kind : answers.AggKind) (bound : answers.Bound) (k : ℕ) (words : List Text) (q : Question) → IsMade kind → value_at kind bound k words ≡ Ok q → IsQuestion layout q
+  value-is : (kind : answers.AggKind) (bound : answers.Bound) (k : ℕ) (words : List Text) (q : Query) → IsMade kind → value_at kind bound k words ≡ Ok q → IsQuery layout q
   value-is kind bound k [] q made e = absurd (cc e)
   value-is kind bound k (word ∷ []) q made e = by (fraction_written word) e
     where
-      by : (o : Option Fraction) → with_value kind bound o ≡ Ok q → IsQuestion layout q
+      by : (o : Option Fraction) → with_value kind bound o ≡ Ok q → IsQuery layout q
       by None m = absurd (cc m)
-      by (Some value) m = let same : Iceberg kind bound value ≡ q = cc in rw (← same) made
+      by (Some value) m = let same : queries.Iceberg kind bound value ≡ q = cc in rw (← same) made
   value-is kind bound k (word ∷ more ∷ words) q made e = absurd (cc e)
 
-  bound-is : (kind : answers.AggKind) (k : ℕ) (words : List Text) (q : Question) → IsMade kind → bound_at kind k words ≡ Ok q → IsQuestion layout q
+  bound-is : (kind : answers.AggKind) (k : ℕ) (words : List Text) (q : Query) → IsMade kind → bound_at kind k words ≡ Ok q → IsQuery layout q
   bound-is kind k [] q made e = absurd (cc e)
   bound-is kind k (word ∷ words) q made e = by (bound_named word) e
     where
-      by : (o : Option answers.Bound) → with_bound kind k words o ≡ Ok q → IsQuestion layout q
+      by : (o : Option answers.Bound) → with_bound kind k words o ≡ Ok q → IsQuery layout q
       by None m = absurd (cc m)
       by (Some bound) m = value-is kind bound (k + 1) words q made m
 
@@ -90,56 +92,56 @@ module _ (layout : Layout) where
       by false false false true h = let same : answers.Mean ≡ make = cc in rw (← same) lt
       by false false false false h = absurd (cc h)
 
-  measure-is : (make : ℕ → answers.AggKind) (words : List Text) (o : Option ℕ) (q : Question) → ((m : ℕ) → o ≡ Some m → IsMade (make m)) → with_measure make words o ≡ Ok q → IsQuestion layout q
+  measure-is : (make : ℕ → answers.AggKind) (words : List Text) (o : Option ℕ) (q : Query) → ((m : ℕ) → o ≡ Some m → IsMade (make m)) → with_measure make words o ≡ Ok q → IsQuery layout q
   measure-is make words None q made e = absurd (cc e)
   measure-is make words (Some m) q made e = bound-is (make m) 3 words q (made m refl) e
 
-  aggregate-is : (word : Text) (words : List Text) (o : Option (ℕ → answers.AggKind)) (q : Question) → makes word ≡ o → with_aggregate layout.measures words o ≡ Ok q → IsQuestion layout q
+  aggregate-is : (word : Text) (words : List Text) (o : Option (ℕ → answers.AggKind)) (q : Query) → makes word ≡ o → with_aggregate layout.measures words o ≡ Ok q → IsQuery layout q
   aggregate-is word words None q is e = absurd (cc e)
   aggregate-is word [] (Some make) q is e = absurd (cc e)
   aggregate-is word (name ∷ words) (Some make) q is e =
       measure-is make words (measure_from layout.measures 0 name) q (λ m there. made-is word make m (omega (arith, measure-there layout.measures 0 m name there)) is) e
 
-  iceberg-is : (words : List Text) (q : Question) → iceberg_of layout.measures words ≡ Ok q → IsQuestion layout q
+  iceberg-is : (words : List Text) (q : Query) → iceberg_of layout.measures words ≡ Ok q → IsQuery layout q
   iceberg-is [] q e = absurd (cc e)
   iceberg-is (word ∷ words) q e = by (bytes_eq word (codes "count")) e
     where
-      by : (count : Bool) → cond count (bound_at answers.Count 2 words) (with_aggregate layout.measures words (makes word)) ≡ Ok q → IsQuestion layout q
+      by : (count : Bool) → cond count (bound_at answers.Count 2 words) (with_aggregate layout.measures words (makes word)) ≡ Ok q → IsQuery layout q
       by true m = bound-is answers.Count 2 words q tt m
       by false m = aggregate-is word words (makes word) q refl m
 
 -- a roll-up of a measure that is there, of a cell with an entry for each dimension
 module _ (layout : Layout) where
-  rolled-is : (kind : answers.AggKind) (bound : answers.Bound) (k : ℕ) (word : Text) (read : Result (List asked.Field) LineFault) (q : Question) → IsMeasured (length layout.measures) kind
-      → ((fields : List asked.Field) → read ≡ Ok fields → (length fields ≡ length layout.dims) × All IsCellField fields) → rollups.with_record kind bound k word read ≡ Ok q → IsQuestion layout q
+  rolled-is : (kind : answers.AggKind) (bound : answers.Bound) (k : ℕ) (word : Text) (read : Result (List asked.Field) LineFault) (q : Query) → IsMeasured (length layout.measures) kind
+      → ((fields : List asked.Field) → read ≡ Ok fields → (length fields ≡ length layout.dims) × All IsCellField fields) → rollups.with_record kind bound k word read ≡ Ok q → IsQuery layout q
   rolled-is kind bound k word (Err fault) q made are e = absurd (cc e)
   rolled-is kind bound k word (Ok fields) q made are e = by (fraction_written word) e
     where
-      by : (o : Option Fraction) → rollups.with_value kind bound fields o ≡ Ok q → IsQuestion layout q
+      by : (o : Option Fraction) → rollups.with_value kind bound fields o ≡ Ok q → IsQuery layout q
       by None m = absurd (cc m)
-      by (Some value) m = let same : Rollup kind bound value fields ≡ q = cc in rw (← same) (made, (are fields refl).0, (are fields refl).1)
+      by (Some value) m = let same : queries.Rollup kind bound value fields ≡ q = cc in rw (← same) (made, (are fields refl).0, (are fields refl).1)
 
-  rolled-value : (kind : answers.AggKind) (bound : answers.Bound) (k : ℕ) (word : Text) (rest : List ℕ) (q : Question) → IsMeasured (length layout.measures) kind → rollups.value_at (length layout.dims) kind bound k word rest ≡ Ok q → IsQuestion layout q
+  rolled-value : (kind : answers.AggKind) (bound : answers.Bound) (k : ℕ) (word : Text) (rest : List ℕ) (q : Query) → IsMeasured (length layout.measures) kind → rollups.value_at (length layout.dims) kind bound k word rest ≡ Ok q → IsQuery layout q
   rolled-value kind bound k [] rest q made e = absurd (cc e)
   rolled-value kind bound k (b ∷ bs) rest q made e = rolled-is kind bound k (b ∷ bs) (record_in shapes.Cell (length layout.dims) rest) q made (cell-fields (length layout.dims) rest) e
 
-  rolled-bound : (kind : answers.AggKind) (k : ℕ) (rest : List ℕ) (o : Option answers.Bound) (q : Question) → IsMeasured (length layout.measures) kind → rollups.with_bound (length layout.dims) kind k rest o ≡ Ok q → IsQuestion layout q
+  rolled-bound : (kind : answers.AggKind) (k : ℕ) (rest : List ℕ) (o : Option answers.Bound) (q : Query) → IsMeasured (length layout.measures) kind → rollups.with_bound (length layout.dims) kind k rest o ≡ Ok q → IsQuery layout q
   rolled-bound kind k rest None q made e = absurd (cc e)
   rolled-bound kind k rest (Some bound) q made e = rolled-value kind bound (k + 1) (word_of rest) (rest_of rest) q made e
 
-  rolled-measure : (make : ℕ → answers.AggKind) (rest : List ℕ) (o : Option ℕ) (q : Question) → ((m : ℕ) → o ≡ Some m → IsMeasured (length layout.measures) (make m)) → rollups.with_measure (length layout.dims) make rest o ≡ Ok q → IsQuestion layout q
+  rolled-measure : (make : ℕ → answers.AggKind) (rest : List ℕ) (o : Option ℕ) (q : Query) → ((m : ℕ) → o ≡ Some m → IsMeasured (length layout.measures) (make m)) → rollups.with_measure (length layout.dims) make rest o ≡ Ok q → IsQuery layout q
   rolled-measure make rest None q made e = absurd (cc e)
   rolled-measure make rest (Some m) q made e = rolled-bound (make m) 3 (rest_of rest) (bound_named (word_of rest)) q (made m refl) e
 
-  rolled-aggregate : (word : Text) (rest : List ℕ) (o : Option (ℕ → answers.AggKind)) (q : Question) → makes word ≡ o → rollups.with_aggregate layout rest o ≡ Ok q → IsQuestion layout q
+  rolled-aggregate : (word : Text) (rest : List ℕ) (o : Option (ℕ → answers.AggKind)) (q : Query) → makes word ≡ o → rollups.with_aggregate layout rest o ≡ Ok q → IsQuery layout q
   rolled-aggregate word rest None q is e = absurd (cc e)
   rolled-aggregate word rest (Some make) q is e =
       rolled-measure make (rest_of rest) (measure_from layout.measures 0 (word_of rest)) q (λ m there. made-is layout word make m (omega (arith, measure-there layout.measures 0 m (word_of rest) there)) is) e
 
-  rollup-is : (rest : List ℕ) (q : Question) → rollup_in layout rest ≡ Ok q → IsQuestion layout q
+  rollup-is : (rest : List ℕ) (q : Query) → rollup_in layout rest ≡ Ok q → IsQuery layout q
   rollup-is rest q e = by (bytes_eq (word_of rest) (codes "count")) e
     where
-      by : (count : Bool) → cond count (rollups.bound_at (length layout.dims) answers.Count 2 (rest_of rest)) (rollups.with_aggregate layout (rest_of rest) (makes (word_of rest))) ≡ Ok q → IsQuestion layout q
+      by : (count : Bool) → cond count (rollups.bound_at (length layout.dims) answers.Count 2 (rest_of rest)) (rollups.with_aggregate layout (rest_of rest) (makes (word_of rest))) ≡ Ok q → IsQuery layout q
       by true m = rolled-bound answers.Count 2 (rest_of (rest_of rest)) (bound_named (word_of (rest_of rest))) q tt m
       by false m = rolled-aggregate (word_of rest) (rest_of rest) (makes (word_of rest)) q refl m
 
@@ -159,33 +161,94 @@ widened-is layout rest q e = by (is_new_name layout (word_of rest)) (has_value r
     by true false n v m = absurd (cc m)
     by false valued n v m = absurd (cc m)
 
+-- ---- queries
+
+-- the words of the queries, each with what it asks
+abbrev Queried : Layout → List ℕ → (point range bounds iceberg parents children rollup : Bool) → Result Query LineFault
+Queried layout rest point range bounds iceberg parents children rollup =
+    cond point (asked_with queries.Point (record_in shapes.Cell (length layout.dims) rest)) (cond range (asked_with queries.Range (record_in shapes.Box (length layout.dims) rest))
+    (cond bounds (asked_with queries.Bounds (record_in shapes.Cell (length layout.dims) rest)) (cond iceberg (iceberg_in layout rest)
+    (cond parents (asked_with queries.Parents (record_in shapes.Cell (length layout.dims) rest)) (cond children (asked_with queries.Children (record_in shapes.Cell (length layout.dims) rest)) (cond rollup (rollup_in layout rest)
+    (Err faults.Command)))))))
+
+query-is : (layout : Layout) (word : Text) (rest : List ℕ) (q : Query) → query_named layout word rest ≡ Ok q → IsQuery layout q
+query-is layout word rest q e =
+    by (bytes_eq word (codes "point")) (bytes_eq word (codes "range")) (bytes_eq word (codes "bounds")) (bytes_eq word (codes "iceberg"))
+    (bytes_eq word (codes "parents")) (bytes_eq word (codes "children")) (bytes_eq word (codes "rollup")) e
+  where
+    by : (point range bounds iceberg parents children rollup : Bool) → Queried layout rest point range bounds iceberg parents children rollup ≡ Ok q → IsQuery layout q
+    by true range bounds iceberg parents children rollup m = fields-are layout (record_in shapes.Cell (length layout.dims) rest) queries.Point q (cell-fields (length layout.dims) rest) m
+    by false true bounds iceberg parents children rollup m = fields-are layout (record_in shapes.Box (length layout.dims) rest) queries.Range q (box-fields (length layout.dims) rest) m
+    by false false true iceberg parents children rollup m = fields-are layout (record_in shapes.Cell (length layout.dims) rest) queries.Bounds q (cell-fields (length layout.dims) rest) m
+    by false false false true parents children rollup m = iceberg-is layout (words_of rest) q m
+    by false false false false true children rollup m = fields-are layout (record_in shapes.Cell (length layout.dims) rest) queries.Parents q (cell-fields (length layout.dims) rest) m
+    by false false false false false true rollup m = fields-are layout (record_in shapes.Cell (length layout.dims) rest) queries.Children q (cell-fields (length layout.dims) rest) m
+    by false false false false false false true m = rollup-is layout rest q m
+    by false false false false false false false m = absurd (cc m)
+
+query-line : (layout : Layout) (line : List ℕ) (q : Query) → query_in_line layout line ≡ Ok q → IsQuery layout q
+query-line layout line q e = by (bytes_eq line stats_line) e
+  where
+    by : (stats : Bool) → cond stats (Ok queries.Stats) (query_named layout (word_of line) (rest_of line)) ≡ Ok q → IsQuery layout q
+    by true m = let same : queries.Stats ≡ q = cc in rw (← same) tt
+    by false m = query-is layout (word_of line) (rest_of line) q m
+
+-- a query of the present rows
+present-is : (layout : Layout) (q : Query) → IsQuery layout q → IsQuestion layout (question_of q)
+present-is layout (queries.Point fields) h = h
+present-is layout (queries.Range fields) h = h
+present-is layout (queries.Bounds fields) h = h
+present-is layout (queries.Iceberg kind bound value) h = h
+present-is layout queries.Stats h = h
+present-is layout (queries.Parents fields) h = h
+present-is layout (queries.Children fields) h = h
+present-is layout (queries.Rollup kind bound value fields) h = h
+
+asked-is : (layout : Layout) (read : Result Query LineFault) (make : Query → Question) (q : Question) → ((query : Query) → read ≡ Ok query → IsQuestion layout (make query)) → asked_with make read ≡ Ok q → IsQuestion layout q
+asked-is layout (Err fault) make q made m = absurd (cc m)
+asked-is layout (Ok query) make q made m = let same : make query ≡ q = cc in rw (← same) (made query refl)
+
+-- ---- pins
+
+-- the name of a pin
+pin-is : (layout : Layout) (name : List ℕ) (make : Text → Question) (q : Question) → (is_pin_name name ≡ true → IsQuestion layout (make name)) → asked_with make (pin_name_in name) ≡ Ok q → IsQuestion layout q
+pin-is layout name make q made e = by (is_pin_name name) refl e
+  where
+    by : (named : Bool) → is_pin_name name ≡ named → asked_with make (cond named (Ok name) (Err (faults.Field 1))) ≡ Ok q → IsQuestion layout q
+    by true n m = let same : make name ≡ q = cc in rw (← same) (made n)
+    by false n m = absurd (cc m)
+
+-- what is asked of the rows of a name
+at-is : (layout : Layout) (rest : List ℕ) (q : Question) → at_in layout rest ≡ Ok q → IsQuestion layout q
+at-is layout rest q e = by (is_pin_name (word_of rest)) refl e
+  where
+    by : (named : Bool) → is_pin_name (word_of rest) ≡ named → cond named (asked_with (At (word_of rest)) (query_in_line layout (rest_of rest))) (Err (faults.Field 1)) ≡ Ok q → IsQuestion layout q
+    by true n m = asked-is layout (query_in_line layout (rest_of rest)) (At (word_of rest)) q (λ query e. (n, query-line layout (rest_of rest) query e)) m
+    by false n m = absurd (cc m)
+
+-- ---- each word
+
 -- the words of the commands that name something behind them, each with what it asks
-abbrev Named : Layout → List ℕ → (load apply tried point range bounds iceberg parents children rollup widen : Bool) → Result Question LineFault
-Named layout rest load apply tried point range bounds iceberg parents children rollup widen =
+abbrev Named : Layout → Text → List ℕ → (load apply tried widen pin unpin at : Bool) → Result Question LineFault
+Named layout word rest load apply tried widen pin unpin at =
     cond load (asked_with Load (name_in rest)) (cond apply (asked_with Apply (name_in rest)) (cond tried (asked_with Try (name_in rest))
-    (cond point (asked_with Point (record_in shapes.Cell (length layout.dims) rest)) (cond range (asked_with Range (record_in shapes.Box (length layout.dims) rest))
-    (cond bounds (asked_with Bounds (record_in shapes.Cell (length layout.dims) rest)) (cond iceberg (iceberg_in layout rest)
-    (cond parents (asked_with Parents (record_in shapes.Cell (length layout.dims) rest)) (cond children (asked_with Children (record_in shapes.Cell (length layout.dims) rest)) (cond rollup (rollup_in layout rest)
-    (cond widen (widen_in layout rest) (Err faults.Command)))))))))))
+    (cond widen (widen_in layout rest) (cond pin (asked_with Pin (pin_name_in rest)) (cond unpin (asked_with Unpin (pin_name_in rest)) (cond at (at_in layout rest)
+    (asked_with question_of (query_named layout word rest))))))))
 
 named-is : (layout : Layout) (word : Text) (rest : List ℕ) (q : Question) → command_named layout word rest ≡ Ok q → IsQuestion layout q
 named-is layout word rest q e =
-    by (bytes_eq word (codes "load")) (bytes_eq word (codes "apply")) (bytes_eq word (codes "try")) (bytes_eq word (codes "point")) (bytes_eq word (codes "range")) (bytes_eq word (codes "bounds")) (bytes_eq word (codes "iceberg"))
-    (bytes_eq word (codes "parents")) (bytes_eq word (codes "children")) (bytes_eq word (codes "rollup")) (bytes_eq word (codes "widen")) e
+    by (bytes_eq word (codes "load")) (bytes_eq word (codes "apply")) (bytes_eq word (codes "try")) (bytes_eq word (codes "widen"))
+    (bytes_eq word (codes "pin")) (bytes_eq word (codes "unpin")) (bytes_eq word (codes "at")) e
   where
-    by : (load apply tried point range bounds iceberg parents children rollup widen : Bool) → Named layout rest load apply tried point range bounds iceberg parents children rollup widen ≡ Ok q → IsQuestion layout q
-    by true apply tried point range bounds iceberg parents children rollup widen m = file-is layout rest Load q (λ b bs. omega arith) m
-    by false true tried point range bounds iceberg parents children rollup widen m = file-is layout rest Apply q (λ b bs. omega arith) m
-    by false false true point range bounds iceberg parents children rollup widen m = file-is layout rest Try q (λ b bs. omega arith) m
-    by false false false true range bounds iceberg parents children rollup widen m = fields-are layout (record_in shapes.Cell (length layout.dims) rest) Point q (cell-fields (length layout.dims) rest) m
-    by false false false false true bounds iceberg parents children rollup widen m = fields-are layout (record_in shapes.Box (length layout.dims) rest) Range q (box-fields (length layout.dims) rest) m
-    by false false false false false true iceberg parents children rollup widen m = fields-are layout (record_in shapes.Cell (length layout.dims) rest) Bounds q (cell-fields (length layout.dims) rest) m
-    by false false false false false false true parents children rollup widen m = iceberg-is layout (words_of rest) q m
-    by false false false false false false false true children rollup widen m = fields-are layout (record_in shapes.Cell (length layout.dims) rest) Parents q (cell-fields (length layout.dims) rest) m
-    by false false false false false false false false true rollup widen m = fields-are layout (record_in shapes.Cell (length layout.dims) rest) Children q (cell-fields (length layout.dims) rest) m
-    by false false false false false false false false false true widen m = rollup-is layout rest q m
-    by false false false false false false false false false false true m = widened-is layout rest q m
-    by false false false false false false false false false false false m = absurd (cc m)
+    by : (load apply tried widen pin unpin at : Bool) → Named layout word rest load apply tried widen pin unpin at ≡ Ok q → IsQuestion layout q
+    by true apply tried widen pin unpin at m = file-is layout rest Load q (λ b bs. omega arith) m
+    by false true tried widen pin unpin at m = file-is layout rest Apply q (λ b bs. omega arith) m
+    by false false true widen pin unpin at m = file-is layout rest Try q (λ b bs. omega arith) m
+    by false false false true pin unpin at m = widened-is layout rest q m
+    by false false false false true unpin at m = pin-is layout rest Pin q (λ n. n) m
+    by false false false false false true at m = pin-is layout rest Unpin q (λ n. n) m
+    by false false false false false false true m = at-is layout rest q m
+    by false false false false false false false m = asked-is layout (query_named layout word rest) question_of q (λ query e. present-is layout query (query-is layout word rest query e)) m
 
 pub line-is : (layout : Layout) (line : List ℕ) (r : Result Command LineRefused) → Gives line_fault_in question_in r (command_in layout line) → IfOk r (λ command. IsQuestion layout (question_in command))
 line-is layout line (Err refused) h = tt
@@ -198,24 +261,39 @@ line-is layout line (Ok command) h = by (is_utf8 line) (bytes_eq line stats_line
 
 -- ---- which lines want memory
 
+query-wants : (layout : Layout) (word : Text) (rest : List ℕ) (q : Query) → query_named layout word rest ≡ Ok q → names_query word ≡ true
+query-wants layout word rest q e =
+    by (bytes_eq word (codes "point")) (bytes_eq word (codes "range")) (bytes_eq word (codes "bounds")) (bytes_eq word (codes "iceberg"))
+    (bytes_eq word (codes "parents")) (bytes_eq word (codes "children")) (bytes_eq word (codes "rollup")) e
+  where
+    by : (point range bounds iceberg parents children rollup : Bool) → Queried layout rest point range bounds iceberg parents children rollup ≡ Ok q → (point || range || bounds || iceberg || parents || children || rollup) ≡ true
+    by true range bounds iceberg parents children rollup m = refl
+    by false true bounds iceberg parents children rollup m = refl
+    by false false true iceberg parents children rollup m = refl
+    by false false false true parents children rollup m = refl
+    by false false false false true children rollup m = refl
+    by false false false false false true rollup m = refl
+    by false false false false false false true m = refl
+    by false false false false false false false m = absurd (cc m)
+
+present-wants : (layout : Layout) (word : Text) (rest : List ℕ) (read : Result Query LineFault) (q : Question) → query_named layout word rest ≡ read → asked_with question_of read ≡ Ok q → names_query word ≡ true
+present-wants layout word rest (Err fault) q e m = absurd (cc m)
+present-wants layout word rest (Ok query) q e m = query-wants layout word rest query e
+
 named-wants : (layout : Layout) (word : Text) (rest : List ℕ) (q : Question) → command_named layout word rest ≡ Ok q → names_more word ≡ true
 named-wants layout word rest q e =
-    by (bytes_eq word (codes "load")) (bytes_eq word (codes "apply")) (bytes_eq word (codes "try")) (bytes_eq word (codes "point")) (bytes_eq word (codes "range")) (bytes_eq word (codes "bounds")) (bytes_eq word (codes "iceberg"))
-    (bytes_eq word (codes "parents")) (bytes_eq word (codes "children")) (bytes_eq word (codes "rollup")) (bytes_eq word (codes "widen")) e
+    by (bytes_eq word (codes "load")) (bytes_eq word (codes "apply")) (bytes_eq word (codes "try")) (bytes_eq word (codes "widen"))
+    (bytes_eq word (codes "pin")) (bytes_eq word (codes "unpin")) (bytes_eq word (codes "at")) e
   where
-    by : (load apply tried point range bounds iceberg parents children rollup widen : Bool) → Named layout rest load apply tried point range bounds iceberg parents children rollup widen ≡ Ok q → (load || apply || tried || point || range || bounds || iceberg || parents || children || rollup || widen) ≡ true
-    by true apply tried point range bounds iceberg parents children rollup widen m = refl
-    by false true tried point range bounds iceberg parents children rollup widen m = refl
-    by false false true point range bounds iceberg parents children rollup widen m = refl
-    by false false false true range bounds iceberg parents children rollup widen m = refl
-    by false false false false true bounds iceberg parents children rollup widen m = refl
-    by false false false false false true iceberg parents children rollup widen m = refl
-    by false false false false false false true parents children rollup widen m = refl
-    by false false false false false false false true children rollup widen m = refl
-    by false false false false false false false false true rollup widen m = refl
-    by false false false false false false false false false true widen m = refl
-    by false false false false false false false false false false true m = refl
-    by false false false false false false false false false false false m = absurd (cc m)
+    by : (load apply tried widen pin unpin at : Bool) → Named layout word rest load apply tried widen pin unpin at ≡ Ok q → (load || apply || tried || widen || pin || unpin || at || names_query word) ≡ true
+    by true apply tried widen pin unpin at m = refl
+    by false true tried widen pin unpin at m = refl
+    by false false true widen pin unpin at m = refl
+    by false false false true pin unpin at m = refl
+    by false false false false true unpin at m = refl
+    by false false false false false true at m = refl
+    by false false false false false false true m = refl
+    by false false false false false false false m = present-wants layout word rest (query_named layout word rest) q refl m
 
 line-wants : (layout : Layout) (line : List ℕ) (q : Question) → command_in layout line ≡ Ok q → wants_memory q ≡ true → may_want_memory line ≡ true
 line-wants layout line q h wants = by (is_utf8 line) (bytes_eq line stats_line) h

@@ -5,3 +5,4 @@ mod Asked
 mod CommandFacts
 mod Listed
 mod CodedFields
+pub mod PinNames

@@ -2,6 +2,7 @@ pub mod Lines
 pub mod Faults
 pub mod Fields
 pub mod Progress
+pub mod Queries
 pub mod Questions
 pub mod Icebergs
 pub mod Records

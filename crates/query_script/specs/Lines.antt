@@ -19,13 +19,17 @@ rest_of line = after_first is_space line
 abbrev pub stats_line : List ℕ
 stats_line = codes "stats"
 
+-- the words of the queries that name something behind them
+abbrev pub names_query : List ℕ → Bool
+names_query word =
+    bytes_eq word (codes "point") || bytes_eq word (codes "range") || bytes_eq word (codes "bounds") || bytes_eq word (codes "iceberg")
+    || bytes_eq word (codes "parents") || bytes_eq word (codes "children") || bytes_eq word (codes "rollup")
+
 -- the words of the commands that name something behind them
 abbrev pub names_more : List ℕ → Bool
 names_more word =
-    bytes_eq word (codes "load") || bytes_eq word (codes "apply") || bytes_eq word (codes "try") || bytes_eq word (codes "point")
-    || bytes_eq word (codes "range") || bytes_eq word (codes "bounds") || bytes_eq word (codes "iceberg")
-    || bytes_eq word (codes "parents") || bytes_eq word (codes "children") || bytes_eq word (codes "rollup")
-    || bytes_eq word (codes "widen")
+    bytes_eq word (codes "load") || bytes_eq word (codes "apply") || bytes_eq word (codes "try") || bytes_eq word (codes "widen")
+    || bytes_eq word (codes "pin") || bytes_eq word (codes "unpin") || bytes_eq word (codes "at") || names_query word
 
 -- Whether a line may want memory: it is UTF-8 and begins with such a word. The line `stats` wants none.
 abbrev pub may_want_memory : List ℕ → Bool

@@ -7,9 +7,10 @@ ghost use Rattle.text_lines.specs.Cuts.{words_of};
 ghost use Rattle.iceberg_query.specs.Asked.{bound_in};
 ghost use Rattle.query_script.specs.Faults.{line_fault_in};
 ghost use Rattle.query_script.specs.Icebergs.{bound_at, iceberg_in, makes, value_at};
-ghost use Rattle.query_script.specs.Questions.{question_in};
+ghost use Rattle.query_script.specs.Queries.{query_in};
 
-use crate::line::{Command, LineRefused};
+use crate::line::LineRefused;
+use crate::query::Query;
 use aggregates::{AggKind, read_fraction};
 use iceberg_query::Bound;
 use qc_schema::Schema;
@@ -58,9 +59,9 @@ impl OfMeasure {
 }
 
 // The value, at a place, behind which no word may stand.
-fn read_value(kind: AggKind, bound: Bound, place: u32, words: &[u8]) -> Result<Command, LineRefused>
+fn read_value(kind: AggKind, bound: Bound, place: u32, words: &[u8]) -> Result<Query, LineRefused>
     requires { place < 10 }
-    ensures { Gives line_fault_in question_in result (value_at (kind_in kind) (bound_in bound) place (words_of words.now)) }
+    ensures { Gives line_fault_in query_in result (value_at (kind_in kind) (bound_in bound) place (words_of words.now)) }
 {
     let Some((word, behind)) = split_word(words) else {
         return Err(LineRefused::Field(place));
@@ -69,15 +70,15 @@ fn read_value(kind: AggKind, bound: Bound, place: u32, words: &[u8]) -> Result<C
         return Err(LineRefused::Field(place + 1));
     }
     match read_fraction(word) {
-        Some(value) => Ok(Command::Iceberg(kind, bound, value)),
+        Some(value) => Ok(Query::Iceberg(kind, bound, value)),
         None => Err(LineRefused::Number),
     }
 }
 
 // The bound, at a place, and the value behind it.
-fn read_bound(kind: AggKind, place: u32, words: &[u8]) -> Result<Command, LineRefused>
+fn read_bound(kind: AggKind, place: u32, words: &[u8]) -> Result<Query, LineRefused>
     requires { place < 9 }
-    ensures { Gives line_fault_in question_in result (bound_at (kind_in kind) place (words_of words.now)) }
+    ensures { Gives line_fault_in query_in result (bound_at (kind_in kind) place (words_of words.now)) }
 {
     let Some((word, behind)) = split_word(words) else {
         return Err(LineRefused::Field(place));
@@ -90,8 +91,8 @@ fn read_bound(kind: AggKind, place: u32, words: &[u8]) -> Result<Command, LineRe
 }
 
 /// Reads what follows the word `iceberg`.
-pub fn read_iceberg(schema: &Schema, rest: &str) -> Result<Command, LineRefused>
-    ensures { Gives line_fault_in question_in result (iceberg_in schema.now rest.now) }
+pub fn read_iceberg(schema: &Schema, rest: &str) -> Result<Query, LineRefused>
+    ensures { Gives line_fault_in query_in result (iceberg_in schema.now rest.now) }
 {
     let Some((word, behind)) = split_word(rest.as_bytes()) else {
         return Err(LineRefused::Field(1));

@@ -1,10 +1,12 @@
 //! Reads the lines of a script into commands.
 #![tactic(auto)]
 
+mod at;
 mod coded;
 mod iceberg;
 mod line;
 mod plain;
+mod query;
 mod record;
 mod rollup;
 mod values;
@@ -12,3 +14,4 @@ mod widen;
 
 pub use coded::{Coded, read_codes};
 pub use line::{Command, LineRefused, read_line};
+pub use query::Query;

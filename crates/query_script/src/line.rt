@@ -7,9 +7,8 @@ ghost use Rattle.query_script.specs.Faults.{line_fault_in};
 ghost use Rattle.query_script.specs.Questions.{question_in};
 ghost use Rattle.query_script.specs.Lines.{may_want_memory, names_more, rest_of, stats_line, word_of};
 
-use crate::iceberg::read_iceberg;
-use crate::record::{Shape, read_fields};
-use crate::rollup::read_rollup;
+use crate::at::{read_at, read_pin_name};
+use crate::query::{Query, read_query};
 use crate::widen::read_widen;
 use aggregates::{AggKind, Fraction};
 use cell_core::{Fields, Text};
@@ -30,6 +29,12 @@ pub enum Command {
     Try(Text),
     /// Add a dimension of this name behind the others, in which each row has the value.
     Widen(Text, Text),
+    /// Give the present rows this name.
+    Pin(Text),
+    /// Take this name away.
+    Unpin(Text),
+    /// Answer a query of the rows of this name.
+    At(Text, Query),
     /// Answer the point of these fields, one for each dimension.
     Point(Fields),
     /// Answer each cell of a box that covers a row. There is a field for each dimension.
@@ -102,8 +107,8 @@ fn read_name(alloc: Global, rest: &str) -> Result<Text, LineRefused>
     Ok(Text::new(alloc, rest)?)
 }
 
-// Whether the line is the one word that stands alone.
-fn is_stats(line: &str) -> bool
+/// Whether the line is the one word that stands alone.
+pub(crate) fn is_stats(line: &str) -> bool
     ensures { result ≡ bytes_eq line.now stats_line }
 {
     line == "stats"
@@ -124,15 +129,14 @@ fn read_command(
         "load" => Ok(Command::Load(read_name(alloc, rest)?)),
         "apply" => Ok(Command::Apply(read_name(alloc, rest)?)),
         "try" => Ok(Command::Try(read_name(alloc, rest)?)),
-        "point" => Ok(Command::Point(read_fields(alloc, Shape::Cell, schema, rest)?)),
-        "range" => Ok(Command::Range(read_fields(alloc, Shape::Box, schema, rest)?)),
-        "bounds" => Ok(Command::Bounds(read_fields(alloc, Shape::Cell, schema, rest)?)),
-        "iceberg" => read_iceberg(schema, rest),
-        "parents" => Ok(Command::Parents(read_fields(alloc, Shape::Cell, schema, rest)?)),
-        "children" => Ok(Command::Children(read_fields(alloc, Shape::Cell, schema, rest)?)),
-        "rollup" => read_rollup(alloc, schema, rest),
         "widen" => read_widen(alloc, schema, rest),
-        _ => Err(LineRefused::Command),
+        "pin" => Ok(Command::Pin(read_pin_name(alloc, rest)?)),
+        "unpin" => Ok(Command::Unpin(read_pin_name(alloc, rest)?)),
+        "at" => read_at(alloc, schema, rest),
+        _ => match read_query(alloc, schema, word, rest) {
+            Ok(query) => Ok(query.into_command()),
+            Err(cause) => Err(cause),
+        },
     }
 }
 
@@ -145,8 +149,12 @@ fn read_command(
 /// aggregate (`count`, `sum`, `least`, `greatest` or `mean`), its measure but for `count`, `>=` or
 /// `<=`, and a number. Behind `parents` and `children` stand fields as behind `point`, and behind `rollup`
 /// the words of an iceberg, each up to one space, and then such fields. Behind `widen` stands a name that
-/// no column of the schema has, up to one space, and then a value of at most 255 bytes. The schema that
-/// `run` hands in is that of the state before the line.
+/// no column of the schema has, up to one space, and then a value of at most 255 bytes. Behind `pin` and
+/// `unpin` stands a name: it begins with a letter, goes on with letters, digits or `_`, and has at most
+/// 32 bytes. Behind `at` stands such a name, up to one space, and then a line that asks
+/// something of its rows: `point`, `range`, `bounds`, `iceberg`, `stats`, `parents`, `children` or
+/// `rollup`, whose fields are counted as without `at`. The schema that `run` hands in is that of the state
+/// before the line.
 pub fn read_line(alloc: Global, schema: &Schema, line: &[u8]) -> Result<Command, LineRefused>
     requires { length line.now ≤ MAX_FILE }
     ensures gives { Gives line_fault_in question_in result (command_in schema.now line.now) }

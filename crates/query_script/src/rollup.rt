@@ -6,13 +6,14 @@ ghost use Rattle.aggregates.specs.Views.{kind_in};
 ghost use Rattle.iceberg_query.specs.Asked.{bound_in};
 ghost use Rattle.query_script.specs.Faults.{line_fault_in};
 ghost use Rattle.query_script.specs.Lines.{rest_of, word_of};
-ghost use Rattle.query_script.specs.Questions.{question_in};
+ghost use Rattle.query_script.specs.Queries.{query_in};
 ghost use Rattle.query_script.specs.Records.{record_in};
 ghost use Rattle.query_script.specs.Rollups.{IsLow, behind_words, bound_at, rollup_in, value_at, with_record};
 ghost use Rattle.query_script.specs.declared.record.Shape.TheVariants as shapes;
 
 use crate::iceberg::OfMeasure;
-use crate::line::{Command, LineRefused, split_command};
+use crate::line::{LineRefused, split_command};
+use crate::query::Query;
 use crate::record::{Shape, read_fields};
 use aggregates::{AggKind, read_fraction};
 use cube_defs::MAX_FILE;
@@ -44,10 +45,10 @@ fn read_record(
     words: u32,
     word: &str,
     rest: &str,
-) -> Result<Command, LineRefused>
+) -> Result<Query, LineRefused>
     requires few { words < 10 }
     requires size { length rest.now ≤ MAX_FILE }
-    ensures { Gives line_fault_in question_in result
+    ensures { Gives line_fault_in query_in result
         (with_record (kind_in kind) (bound_in bound) words word.now (record_in shapes.Cell (length schema.now.dims) rest.now)) }
 {
     let _dims = schema.dims();
@@ -56,7 +57,7 @@ fn read_record(
         Err(cause) => return Err(moved(cause, words)),
     };
     match read_fraction(word.as_bytes()) {
-        Some(value) => Ok(Command::Rollup(kind, bound, value, fields)),
+        Some(value) => Ok(Query::Rollup(kind, bound, value, fields)),
         None => Err(LineRefused::Number),
     }
 }
@@ -69,10 +70,10 @@ fn read_value(
     bound: Bound,
     place: u32,
     words: &str,
-) -> Result<Command, LineRefused>
+) -> Result<Query, LineRefused>
     requires few { place < 10 }
     requires size { length words.now ≤ MAX_FILE }
-    ensures { Gives line_fault_in question_in result
+    ensures { Gives line_fault_in query_in result
         (value_at (length schema.now.dims) (kind_in kind) (bound_in bound) place (word_of words.now) (rest_of words.now)) }
 {
     let (word, rest) = split_command(words);
@@ -89,10 +90,10 @@ fn read_bound(
     kind: AggKind,
     place: u32,
     words: &str,
-) -> Result<Command, LineRefused>
+) -> Result<Query, LineRefused>
     requires few { place < 9 }
     requires size { length words.now ≤ MAX_FILE }
-    ensures { Gives line_fault_in question_in result (bound_at (length schema.now.dims) (kind_in kind) place words.now) }
+    ensures { Gives line_fault_in query_in result (bound_at (length schema.now.dims) (kind_in kind) place words.now) }
 {
     let (word, rest) = split_command(words);
     match word {
@@ -103,13 +104,9 @@ fn read_bound(
 }
 
 /// Reads what follows the word `rollup`.
-pub(crate) fn read_rollup(
-    alloc: Global,
-    schema: &Schema,
-    rest: &str,
-) -> Result<Command, LineRefused>
+pub(crate) fn read_rollup(alloc: Global, schema: &Schema, rest: &str) -> Result<Query, LineRefused>
     requires { length rest.now ≤ MAX_FILE }
-    ensures { Gives line_fault_in question_in result (rollup_in schema.now rest.now) }
+    ensures { Gives line_fault_in query_in result (rollup_in schema.now rest.now) }
 {
     let (word, behind) = split_command(rest);
     if word == "count" {

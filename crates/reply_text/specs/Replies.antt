@@ -60,6 +60,21 @@ abbrev pub widen_texts : widenings.WidenRefusal → List Text
 widen_texts widenings.DimsFull = codes "dims" ∷ []
 widen_texts widenings.NodesFull = codes "nodes" ∷ []
 
+-- for a name that is pinned, or that would be one too many
+abbrev pub name_taken_texts : List Text
+name_taken_texts = codes "name-taken" ∷ []
+
+abbrev pub all_pinned_texts : List Text
+all_pinned_texts = codes "all-pinned" ∷ []
+
+-- for a name that isn't pinned
+abbrev pub not_pinned_texts : List Text
+not_pinned_texts = codes "not-pinned" ∷ []
+
+-- for a dimension more while a name is pinned
+abbrev pub pinned_texts : List Text
+pinned_texts = codes "pinned" ∷ []
+
 -- for its size
 abbrev pub size_texts : List Text
 size_texts = codes "size" ∷ []
@@ -77,6 +92,14 @@ applied_text line records classes = record_text (codes "applied" ∷ decimal lin
 -- a dimension came: how many dimensions and classes there are after it
 abbrev pub widened_text : ℕ → ℕ → ℕ → List ℕ
 widened_text line dims classes = record_text (codes "widened" ∷ decimal line ∷ decimal dims ∷ decimal classes ∷ [])
+
+-- the present rows, with so many classes, got a name
+abbrev pub pinned_text : ℕ → Text → ℕ → List ℕ
+pinned_text line name classes = record_text (codes "pinned" ∷ decimal line ∷ name ∷ decimal classes ∷ [])
+
+-- a name went
+abbrev pub unpinned_text : ℕ → Text → List ℕ
+unpinned_text line name = record_text (codes "unpinned" ∷ decimal line ∷ name ∷ [])
 
 -- how many rows, classes and nodes there are, how many edges lead to a node with one value more, and how many others
 abbrev pub stats_text : ℕ → ℕ → ℕ → ℕ → ℕ → ℕ → List ℕ

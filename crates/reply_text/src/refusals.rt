@@ -1,7 +1,7 @@
 // What a refusal says.
 ghost use Rattle.std.specs.Prelude.{IfSome, [], length, option_map, ◌<◌, ◌∷◌, ◌≡◌, ◌≤◌};
 ghost use Rattle.qc_schema.specs.Schema.{IsLayout};
-ghost use Rattle.reply_text.specs.Replies.{batch_texts, line_texts, many_texts, numbered, size_texts, widen_texts};
+ghost use Rattle.reply_text.specs.Replies.{all_pinned_texts, batch_texts, line_texts, many_texts, name_taken_texts, not_pinned_texts, numbered, pinned_texts, size_texts, widen_texts};
 ghost use Rattle.warehouse.specs.Stored.{refusal_in};
 ghost use Rattle.warehouse.specs.Widening.{widen_refusal_in};
 
@@ -113,6 +113,38 @@ pub fn words_of_widening(refused: WidenRefused) -> Option<RefusalWords<'static>>
         WidenRefused::NodesFull => Some(RefusalWords::code("nodes")),
         WidenRefused::Memory => None,
     }
+}
+
+/// The name is pinned.
+pub fn words_of_name_taken() -> RefusalWords<'static>
+    ensures texts { texts_of result ≡ name_taken_texts }
+    ensures short { IsShort result }
+{
+    RefusalWords::code("name-taken")
+}
+
+/// So many names are pinned that none may be added.
+pub fn words_of_all_pinned() -> RefusalWords<'static>
+    ensures texts { texts_of result ≡ all_pinned_texts }
+    ensures short { IsShort result }
+{
+    RefusalWords::code("all-pinned")
+}
+
+/// The name isn't pinned.
+pub fn words_of_not_pinned() -> RefusalWords<'static>
+    ensures texts { texts_of result ≡ not_pinned_texts }
+    ensures short { IsShort result }
+{
+    RefusalWords::code("not-pinned")
+}
+
+/// A name is pinned, so no dimension comes.
+pub fn words_of_pinned() -> RefusalWords<'static>
+    ensures texts { texts_of result ≡ pinned_texts }
+    ensures short { IsShort result }
+{
+    RefusalWords::code("pinned")
 }
 
 /// The file has too many bytes.

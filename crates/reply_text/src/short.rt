@@ -1,6 +1,6 @@
 // Replies that are made without memory.
 ghost use Rattle.std.specs.Prelude.{[], decimal, length, ◌+◌, ◌++◌, ◌<◌, ◌∷◌, ◌≡◌, ◌≤◌};
-ghost use Rattle.reply_text.specs.Replies.{applied_text, memory_text, none_text, refused_text, stats_text, widened_text};
+ghost use Rattle.reply_text.specs.Replies.{applied_text, memory_text, none_text, pinned_text, refused_text, stats_text, unpinned_text, widened_text};
 
 use crate::refusals::{Detail, RefusalWords};
 use arrayvec::ArrayString;
@@ -118,6 +118,27 @@ pub fn widened(line: u32, dims: u8, classes: u32) -> ShortReply
     let mut reply = begun("widened", line);
     reply.field(Buffer::new().format(dims));
     reply.field(Buffer::new().format(classes));
+    reply.ended()
+}
+
+/// The present rows, with so many classes, got this name.
+pub fn pinned(line: u32, name: &str, classes: u32) -> ShortReply
+    requires { length name.now ≤ 32 }
+    ensures { result ≡ pinned_text line name.now classes }
+{
+    let mut reply = begun("pinned", line);
+    reply.field(name);
+    reply.field(Buffer::new().format(classes));
+    reply.ended()
+}
+
+/// This name went.
+pub fn unpinned(line: u32, name: &str) -> ShortReply
+    requires { length name.now ≤ 32 }
+    ensures { result ≡ unpinned_text line name.now }
+{
+    let mut reply = begun("unpinned", line);
+    reply.field(name);
     reply.ended()
 }
 

@@ -1,0 +1,40 @@
+// The name of a pin, and what is asked of its rows.
+ghost use Rattle.std.specs.Prelude.{length, ◌≡◌, ◌≤◌};
+ghost use Rattle.cell_core.specs.Gives.{Gives};
+ghost use Rattle.query_script.specs.Commands.{at_in, is_pin_name, pin_name_in};
+ghost use Rattle.query_script.specs.Faults.{line_fault_in};
+ghost use Rattle.query_script.specs.Questions.{question_in};
+
+use crate::line::{Command, LineRefused, split_command};
+use crate::query::read_query_line;
+use cell_core::Text;
+use cube_defs::MAX_FILE;
+use qc_schema::{Schema, is_good_name};
+use std::alloc::Global;
+
+// Whether it may name a pin: it is a name, or `op`.
+fn may_name_pin(name: &str) -> bool
+    ensures { result ≡ is_pin_name name.now }
+{
+    is_good_name(name.as_bytes()) || name == "op"
+}
+
+/// Reads the name of a pin.
+pub(crate) fn read_pin_name(alloc: Global, name: &str) -> Result<Text, LineRefused>
+    ensures { Gives line_fault_in (λ name. name) result (pin_name_in name.now) }
+{
+    if !may_name_pin(name) {
+        return Err(LineRefused::Field(1));
+    }
+    Ok(Text::new(alloc, name)?)
+}
+
+/// Reads what follows the word `at`.
+pub(crate) fn read_at(alloc: Global, schema: &Schema, rest: &str) -> Result<Command, LineRefused>
+    requires { length rest.now ≤ MAX_FILE }
+    ensures { Gives line_fault_in question_in result (at_in schema.now rest.now) }
+{
+    let (name, line) = split_command(rest);
+    let name = read_pin_name(alloc, name)?;
+    Ok(Command::At(name, read_query_line(alloc, schema, line)?))
+}

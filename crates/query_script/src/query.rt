@@ -1,0 +1,100 @@
+// What is asked of rows, and the line that asks it.
+ghost use Rattle.std.specs.Prelude.{IfErr, length, true, ◌≡◌, ◌≤◌};
+ghost use Rattle.cell_core.specs.Gives.{Gives};
+ghost use Rattle.query_script.specs.Commands.{query_in_line, query_named};
+ghost use Rattle.query_script.specs.Faults.{line_fault_in};
+ghost use Rattle.query_script.specs.Lines.{names_query};
+ghost use Rattle.query_script.specs.Queries.{query_in};
+ghost use Rattle.query_script.specs.Questions.{question_in, question_of};
+
+use crate::iceberg::read_iceberg;
+use crate::line::{Command, LineRefused, is_stats, split_command};
+use crate::record::{Shape, read_fields};
+use crate::rollup::read_rollup;
+use aggregates::{AggKind, Fraction};
+use cell_core::Fields;
+use cube_defs::MAX_FILE;
+use iceberg_query::Bound;
+use qc_schema::Schema;
+use std::alloc::Global;
+
+/// What a line may ask of the rows of a pin. Each is what the command of its name asks.
+#[derive(Drop)]
+pub enum Query {
+    /// The point of these fields.
+    Point(Fields),
+    /// Each cell of a box that covers a row.
+    Range(Fields),
+    /// The bounds of the class of a point.
+    Bounds(Fields),
+    /// The classes whose aggregate is at least or at most the value.
+    Iceberg(AggKind, Bound, Fraction),
+    /// What is counted of the rows and of their tree.
+    Stats,
+    /// The parents of the class of a point.
+    Parents(Fields),
+    /// The children of the class of a point.
+    Children(Fields),
+    /// The most general classes, from the class of a point on, whose aggregate is at least or at most
+    /// the value.
+    Rollup(AggKind, Bound, Fraction, Fields),
+}
+
+impl Query {
+    /// The command that asks this of the present rows.
+    pub(crate) fn into_command(self) -> Command
+        ensures { question_in result ≡ question_of (query_in self) }
+    {
+        match self {
+            Query::Point(fields) => Command::Point(fields),
+            Query::Range(fields) => Command::Range(fields),
+            Query::Bounds(fields) => Command::Bounds(fields),
+            Query::Iceberg(kind, bound, value) => Command::Iceberg(kind, bound, value),
+            Query::Stats => Command::Stats,
+            Query::Parents(fields) => Command::Parents(fields),
+            Query::Children(fields) => Command::Children(fields),
+            Query::Rollup(kind, bound, value, fields) => Command::Rollup(
+                kind, bound, value, fields,
+            ),
+        }
+    }
+}
+
+/// The query of a word with something behind it.
+pub(crate) fn read_query(
+    alloc: Global,
+    schema: &Schema,
+    word: &str,
+    rest: &str,
+) -> Result<Query, LineRefused>
+    requires { length rest.now ≤ MAX_FILE }
+    ensures gives { Gives line_fault_in query_in result (query_named schema.now word.now rest.now) }
+    ensures memory { IfErr result (λ e. e ≡ LineRefused.Memory → names_query word.now ≡ true) }
+{
+    match word {
+        "point" => Ok(Query::Point(read_fields(alloc, Shape::Cell, schema, rest)?)),
+        "range" => Ok(Query::Range(read_fields(alloc, Shape::Box, schema, rest)?)),
+        "bounds" => Ok(Query::Bounds(read_fields(alloc, Shape::Cell, schema, rest)?)),
+        "iceberg" => read_iceberg(schema, rest),
+        "parents" => Ok(Query::Parents(read_fields(alloc, Shape::Cell, schema, rest)?)),
+        "children" => Ok(Query::Children(read_fields(alloc, Shape::Cell, schema, rest)?)),
+        "rollup" => read_rollup(alloc, schema, rest),
+        _ => Err(LineRefused::Command),
+    }
+}
+
+/// Reads a line that is a query. The line `stats` is just that word.
+pub(crate) fn read_query_line(
+    alloc: Global,
+    schema: &Schema,
+    line: &str,
+) -> Result<Query, LineRefused>
+    requires { length line.now ≤ MAX_FILE }
+    ensures { Gives line_fault_in query_in result (query_in_line schema.now line.now) }
+{
+    if is_stats(line) {
+        return Ok(Query::Stats);
+    }
+    let (word, rest) = split_command(line);
+    read_query(alloc, schema, word, rest)
+}
