@@ -1,0 +1,4 @@
+mod FirstImages
+mod Joining
+mod Refusing
+mod Staying

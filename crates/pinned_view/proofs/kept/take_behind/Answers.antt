@@ -1,0 +1,12 @@
+use Rattle.std.proofs.Common.{◌-◌, arith, sym}
+use Rattle.std.proofs.lemmas.Result.{on_ok_weaker}
+use Rattle.qc_arena.proofs.ImagesOver.{over_both}
+use Rattle.pinned_view.proofs.Joining.{behind_last}
+use Rattle.pinned_view.proofs.kept.take_behind.Goals as goal
+
+pub returns-clause-ok : goal.returns-clause-ok
+returns-clause-ok c =
+    let last = c.index_mut-last.result.now in
+    on_ok_weaker c.take_in.result (λ put place tree w.
+    behind_last c.args.kept.now.items (c.len-at.result - 1) last c.args.later c.take_in.new.self (omega (arith, c.len-at.ensures, c.requires)) c.index_mut-last.ensures.value
+    (λ t. sym (over_both last c.args.later c.take_in.new.self t put)) place tree (omega (arith, c.len-at.ensures, w))) c.take_in.ensures.ok

@@ -1,0 +1,11 @@
+use Rattle.std.proofs.Common.{List, ap, length}
+use Rattle.warehouse.specs.State.{Contents}
+use Rattle.pinned_view.specs.declared.pins.Pin.{Pin}
+use Rattle.pinned_view.proofs.Staying.{no_pins}
+use Rattle.pinned_view.proofs.pinned.Pinned.new.Goals as goal
+
+pub invariant_of-result : goal.invariant_of-result
+invariant_of-result c = (
+  no_pins c.last_images.new.self c.new.result.items c.in_ok-pins.pins.items (ap (λ (pins : List Pin). length pins) c.in_ok-pins.ensures.items) (ap (λ (held : Contents). held.images) c.last_images.ensures.rest),
+  c.in_ok-pins.ensures.capacity,
+)

@@ -1,0 +1,9 @@
+use Rattle.std.proofs.Common.{ℕ, ◌<◌, ◌≤◌, get_or}
+use Rattle.pinned_view.specs.declared.pins.Pin.{Pin}
+use Rattle.pinned_view.proofs.pins.oldest.Given as goal
+
+abbrev pub invariant-pins : goal.invariant-pins
+invariant-pins l = record {
+  end : l.least ≤ l.end;
+  each : (k : ℕ) (d : Pin) → k < l.pin-index → l.least ≤ (get_or l.pins.items k d).from;
+}

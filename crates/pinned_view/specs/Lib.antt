@@ -1,0 +1,5 @@
+pub mod Past
+pub mod Pins
+pub mod Refusals
+pub mod Versions
+pub mod Views

@@ -1,0 +1,16 @@
+-- Several images over one tree.
+use Rattle.std.specs.Prelude.{ℕ, Option, None, List, [], ◌∷◌}
+use Rattle.std.specs.FinMap as map
+use Rattle.std.specs.Option.{option_or}
+use Rattle.cube_defs.specs.Tree.{Tree}
+use Rattle.qc_arena.specs.Map.{ImageMap, Known, over}
+
+-- a tree with several images put over it, of which the oldest stand first and are put over last
+abbrev pub past : List ImageMap → Tree ℕ → Tree ℕ
+past [] tree = tree
+past (images ∷ later) tree = over images (past later tree)
+
+-- what the first images say that say something of the number
+abbrev pub first_image : List ImageMap → ℕ → Option (Option Known)
+first_image [] q = None
+first_image (images ∷ later) q = option_or (map.get images q) (first_image later q)

@@ -1,0 +1,104 @@
+// The images that are kept for the versions, the oldest first.
+ghost use Rattle.std.specs.List.{list_any};
+ghost use Rattle.std.specs.Prelude.{IfErr, OnErr, OnOk, drop, false, length, true, vec_capacity, ℕ, ◌<◌, ◌==◌, ◌≡◌, ◌≤◌};
+ghost use Rattle.cube_defs.specs.Tree.{Tree};
+ghost use Rattle.qc_arena.specs.Map.{over};
+ghost use Rattle.pinned_view.specs.Past.{past};
+ghost use Rattle.pinned_view.specs.Pins.{AreBefore, AreWithin, ReadSame};
+
+use crate::pins::{Pin, stands_at};
+use cube_defs::Memory;
+use qc_arena::Images;
+
+/// The images from a place on.
+pub(crate) fn since(kept: &Vec<Images>, from: usize) -> &[Images]
+    requires { from ≤ length kept.now.items }
+    ensures { result.now ≡ drop from kept.now.items }
+{
+    &kept[from..]
+}
+
+/// Takes so many of the oldest images out.
+pub(crate) fn cut_front(kept: &mut Vec<Images>, count: usize)
+    requires { count ≤ length kept.old.items }
+    ensures { kept.new.items ≡ drop count kept.old.items }
+{
+    let left = kept.len() - count;
+    kept.rotate_left(count);
+    kept.truncate(left);
+}
+
+/// Takes the place for the images of one more change, where a version is pinned.
+pub(crate) fn reserve_one(kept: &mut Vec<Images>, pins: &Vec<Pin>) -> Result<(), Memory>
+    ensures items { kept.new.items ≡ kept.old.items }
+    ensures room { OnOk result (0 < length pins.now.items → length kept.new.items < vec_capacity kept.new) }
+{
+    if pins.is_empty() {
+        return Ok(());
+    }
+    kept.reserve(1)
+}
+
+// Whether images that come last may be one with those before them: no version reads from between them, and
+// those before aren't much more. So each number is moved but a few times, and the list stays short.
+fn may_join(kept: &Vec<Images>, pins: &Vec<Pin>, last: &Images) -> bool
+    ensures some { result ≡ true → 0 < length kept.now.items }
+    ensures between { result ≡ true → list_any (λ pin. pin.from == length kept.now.items) pins.now.items ≡ false }
+{
+    match kept.last() {
+        Some(before) => before.count() / 2 <= last.count() && !stands_at(pins, kept.len()),
+        None => false,
+    }
+}
+
+// Puts the last images of the list over later ones, so that both are one, or gives the later ones back.
+fn take_behind(kept: &mut Vec<Images>, later: Images) -> Result<(), Images>
+    requires { 0 < length kept.old.items }
+    ensures ok { OnOk result ((place : ℕ) (tree : Tree ℕ) → place < length kept.old.items →
+        past (drop place kept.new.items) tree ≡ past (drop place kept.old.items) (over later tree)) }
+    ensures err { OnErr result (kept.new.items ≡ kept.old.items) }
+    ensures back { IfErr result (λ back. back ≡ later) }
+    ensures len { length kept.new.items ≡ length kept.old.items }
+    ensures capacity { vec_capacity kept.new ≡ vec_capacity kept.old }
+{
+    let at = kept.len() - 1;
+    let last = &mut kept[at];
+    last.take_in(later)
+}
+
+// Makes one of the last images and those before them, where it may be, and tells whether it did.
+fn join_last(kept: &mut Vec<Images>, pins: &Vec<Pin>) -> bool
+    requires { AreBefore (length kept.old.items) pins.now.items }
+    ensures shorter { result ≡ true → length kept.new.items < length kept.old.items }
+    ensures before { AreBefore (length kept.new.items) pins.now.items }
+    ensures same { (tree : Tree ℕ) → ReadSame kept.old.items tree kept.new.items tree pins.now.items }
+{
+    let Some(last) = kept.pop() else {
+        return false;
+    };
+    if !may_join(kept, pins, &last) {
+        kept.push(last).unwrap();
+        return false;
+    }
+    match take_behind(kept, last) {
+        Ok(()) => true,
+        Err(last) => {
+            kept.push(last).unwrap();
+            false
+        }
+    }
+}
+
+/// Keeps the images of a change, where a version reads over them.
+pub(crate) fn keep(kept: &mut Vec<Images>, pins: &Vec<Pin>, images: Images)
+    requires room { 0 < length pins.now.items → length kept.old.items < vec_capacity kept.old }
+    requires within { AreWithin (length kept.old.items) pins.now.items }
+    ensures within { AreWithin (length kept.new.items) pins.now.items }
+    ensures same { (tree : Tree ℕ) → ReadSame kept.old.items (over images tree) kept.new.items tree pins.now.items }
+{
+    if pins.is_empty() {
+        return;
+    }
+    kept.push(images).unwrap();
+    'joins: while join_last(kept, pins) {}
+}

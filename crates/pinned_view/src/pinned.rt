@@ -1,0 +1,263 @@
+// A warehouse with some of its earlier versions.
+ghost use Rattle.std.specs.FinMap as finmap;
+ghost use Rattle.std.specs.Prelude.{Err, IfNone, IfOk, IfSome, IsSome, None, OnErr, OnOk, Some, [], length, true, ◌+◌, ◌++◌, ◌<◌, ◌∷◌, ◌↔◌, ◌≡◌, ◌≢◌, ◌≤◌};
+ghost use Rattle.cell_core.specs.Gives.{Gives};
+ghost use Rattle.qc_schema.specs.Grammar.{is_new_name};
+ghost use Rattle.pinned_view.specs.Refusals.{pin_refusal, widen_refusal_in};
+ghost use Rattle.pinned_view.specs.Versions.{AreVersions, Version, version_now, version_of, without};
+ghost use Rattle.pinned_view.specs.Views.{IsViewOf};
+ghost use Rattle.warehouse.specs.Batch as batches;
+ghost use Rattle.warehouse.specs.InPlace.{IsWithinCost, LeavesApart, LeavesNumbers};
+ghost use Rattle.warehouse.specs.State.{AreContents, State};
+ghost use Rattle.warehouse.specs.Stored.{applied_in, refusal_in};
+ghost use Rattle.warehouse.specs.Widening as widening;
+ghost use Rattle.warehouse.specs.Widening.{KeepsWidened, cost_of_widening, widen_result};
+
+use crate::kept::{cut_front, keep, reserve_one, since};
+use crate::pins::{MAX_PINS, Pin, drop_named, move_back, oldest, pin_of};
+use crate::refused::{NotPinned, PinRefused, PinnedWiden};
+use crate::view::PinnedView;
+use cell_core::Steps;
+use cube_defs::{MAX_FILE, Memory};
+use qc_arena::Images;
+use std::alloc::Global;
+use std::marker::Model;
+use std::sync::ledger::Ledger;
+use warehouse::{Applied, Refused, Warehouse, WidenRefused};
+
+/// A warehouse, and versions of it that are pinned under names: whatever files it takes afterwards, each
+/// can still be read as it was. A pin costs no copy of the tree. What each change made of the nodes that
+/// it touched is kept once for all pins, and a read of a version looks through at most what was kept since
+/// it was pinned.
+#[derive(Drop)]
+pub struct Pinned {
+    warehouse: Warehouse,
+    kept: Vec<Images>,
+    pins: Vec<Pin>,
+}
+
+impl Model for Pinned {
+    ghost use Rattle.std.specs.Coded.{codes};
+    ghost use Rattle.std.specs.Prelude.{map, vec_capacity, ◌≤◌};
+    ghost use Rattle.qc_arena.specs.Codes.{tree_code};
+    ghost use Rattle.qc_arena.specs.Map.{images_code};
+    ghost use Rattle.pinned_view.specs.Pins.{ArePins, version_in};
+    ghost use Rattle.pinned_view.specs.Versions.{Versions};
+    ghost use Rattle.pinned_view.specs.declared.pins.TheConstants.{MAX_PINS};
+
+    ghost Value = { Versions };
+
+    ghost coded = { Prim.hlevel (codes, tree_code, images_code) };
+
+    ghost view = { λ p. record { now = p.warehouse; pins = map version_in p.pins.items } };
+
+    ghost invariant = { λ p. ArePins p.warehouse p.kept.items p.pins.items × (MAX_PINS ≤ vec_capacity p.pins) };
+}
+
+impl Pinned {
+    /// No version is pinned. What the last change of the warehouse made of its nodes is let go.
+    pub fn new(alloc: Global, warehouse: Warehouse) -> Result<Pinned, Memory>
+        ensures { IfOk result (λ p. p ≡ record { now = record warehouse { images = finmap.empty }; pins = [] }) }
+    {
+        let pins = Vec::with_capacity(alloc, MAX_PINS)?;
+        let mut warehouse = warehouse;
+        warehouse.last_images();
+        Ok(Pinned {
+            warehouse,
+            kept: Vec::new(alloc),
+            pins,
+        })
+    }
+
+    /// The warehouse of now.
+    pub fn now(&self) -> &Warehouse
+        ensures value { result.now ≡ self.now.now }
+        ensures valid { AreContents self.now.now }
+        ensures versions { AreVersions self.now }
+    {
+        self.warehouse.is_valid();
+        &self.warehouse
+    }
+
+    /// How many versions are pinned.
+    pub fn count(&self) -> usize
+        ensures { result ≡ length self.now.pins }
+    {
+        self.pins.len()
+    }
+
+    /// The warehouse alone. The versions are let go.
+    pub fn finish(self) -> Warehouse
+        ensures { result ≡ self.now }
+    {
+        self.warehouse
+    }
+
+    /// The tree of a version and what was counted of it. None where no version has the name. It takes no
+    /// memory.
+    pub fn view(&self, name: &str) -> Option<PinnedView<'_>>
+        ensures none { IfNone result (version_of self.now.pins name.now ≡ None) }
+        ensures some { IfSome result (λ view. (version : Version) × (version_of self.now.pins name.now ≡ Some version)
+            × IsViewOf self.now.now.state version view) }
+    {
+        let pin = pin_of(&self.pins, name)?;
+        let over = since(&self.kept, pin.from);
+        Some(PinnedView::over(self.warehouse.tree(), over, pin.root, pin.stats))
+    }
+
+    /// Pins what is present now under a name. It takes no memory.
+    pub fn pin(&mut self, name: &str) -> Result<(), PinRefused>
+        requires { length name.now ≤ 32 }
+        ensures refused { result ≡ pin_refusal self.old.pins name.now }
+        ensures ok { OnOk result (self.new ≡ record self.old { pins = self.old.pins ++ version_now name.now self.old.now ∷ [] }) }
+        ensures err { OnErr result (self.new ≡ self.old) }
+    {
+        if pin_of(&self.pins, name).is_some() {
+            return Err(PinRefused::NameTaken);
+        }
+        if self.pins.len() >= MAX_PINS {
+            return Err(PinRefused::AllPinned);
+        }
+        let pin = Pin::of(&self.warehouse, name, self.kept.len());
+        self.pins.push(pin).unwrap();
+        Ok(())
+    }
+
+    /// Lets a version go, and with it what was kept for no other. It takes no memory.
+    pub fn unpin(&mut self, name: &str) -> Result<(), NotPinned>
+        ensures found { OnOk result (IsSome (version_of self.old.pins name.now)) }
+        ensures ok { OnOk result (self.new ≡ record self.old { pins = without self.old.pins name.now }) }
+        ensures missing { OnErr result (version_of self.old.pins name.now ≡ None) }
+        ensures err { OnErr result (self.new ≡ self.old) }
+    {
+        if pin_of(&self.pins, name).is_none() {
+            return Err(NotPinned);
+        }
+        drop_named(&mut self.pins, name);
+        let first = oldest(&self.pins, self.kept.len());
+        cut_front(&mut self.kept, first);
+        move_back(&mut self.pins, first);
+        Ok(())
+    }
+
+    /// Loads a base file, as `Warehouse::load` does. No version changes. Where one is pinned, the place for
+    /// what the file makes of the nodes is taken first.
+    pub fn load<L: Ledger>(
+        &mut self,
+        bytes: &[u8],
+        steps: &mut Steps<L>,
+    ) -> Result<Applied, Refused>
+        requires { length bytes.now ≤ MAX_FILE }
+        ensures gives { Gives refusal_in (applied_in self.new.now.state) result (batches.result self.old.now.state batches.Load bytes.now) }
+        ensures valid { AreContents self.new.now }
+        ensures pins { self.new.pins ≡ self.old.pins }
+        ensures err { OnErr result (self.new ≡ self.old) }
+    {
+        match reserve_one(&mut self.kept, &self.pins) {
+            Ok(()) => {}
+            Err(_) => {
+                self.warehouse.is_valid();
+                return Err(Refused::Memory);
+            }
+        }
+        match self.warehouse.load(bytes, steps) {
+            Ok(applied) => {
+                keep(&mut self.kept, &self.pins, self.warehouse.last_images());
+                Ok(applied)
+            }
+            Err(refused) => Err(refused),
+        }
+    }
+
+    /// Applies a batch of corrections, as `Warehouse::apply` does. No version changes. Where one is pinned,
+    /// the place for what the batch makes of the nodes is taken first.
+    pub fn apply<L: Ledger>(
+        &mut self,
+        bytes: &[u8],
+        steps: &mut Steps<L>,
+    ) -> Result<Applied, Refused>
+        requires { length bytes.now ≤ MAX_FILE }
+        ensures gives { Gives refusal_in (applied_in self.new.now.state) result (batches.result self.old.now.state batches.Apply bytes.now) }
+        ensures numbers { OnOk result (LeavesNumbers self.old.now bytes.now self.new.now) }
+        ensures apart { OnOk result (LeavesApart self.old.now bytes.now self.new.now) }
+        ensures steps { OnOk result (IsWithinCost self.old.now.state bytes.now steps.old steps.new) }
+        ensures valid { AreContents self.new.now }
+        ensures pins { self.new.pins ≡ self.old.pins }
+        ensures err { OnErr result (self.new ≡ self.old) }
+    {
+        match reserve_one(&mut self.kept, &self.pins) {
+            Ok(()) => {}
+            Err(_) => {
+                self.warehouse.is_valid();
+                return Err(Refused::Memory);
+            }
+        }
+        match self.warehouse.apply(bytes, steps) {
+            Ok(applied) => {
+                keep(&mut self.kept, &self.pins, self.warehouse.last_images());
+                Ok(applied)
+            }
+            Err(refused) => Err(refused),
+        }
+    }
+
+    /// Tells what `apply` would answer to a batch, as `Warehouse::attempt` does, and leaves everything as it
+    /// was, whatever the answer.
+    pub fn attempt<L: Ledger>(
+        &mut self,
+        bytes: &[u8],
+        steps: &mut Steps<L>,
+    ) -> Result<Applied, Refused>
+        requires { length bytes.now ≤ MAX_FILE }
+        ensures gives { (then : State) × Gives refusal_in (applied_in then) result (batches.result self.old.now.state batches.Apply bytes.now) }
+        ensures steps { OnOk result (IsWithinCost self.old.now.state bytes.now steps.old steps.new) }
+        ensures same { self.new ≡ self.old }
+    {
+        match reserve_one(&mut self.kept, &self.pins) {
+            Ok(()) => {}
+            Err(_) => return Err(Refused::Memory),
+        }
+        self.warehouse.attempt(bytes, steps)
+    }
+
+    /// Adds a dimension, as `Warehouse::widen` does, where no version is pinned. Pinned is the answer exactly
+    /// where one is.
+    pub fn widen<L: Ledger>(
+        &mut self,
+        name: &str,
+        value: &str,
+        steps: &mut Steps<L>,
+    ) -> Result<Applied, PinnedWiden>
+        requires name { is_new_name self.old.now.state.schema name.now ≡ true }
+        requires value { length value.now ≤ 255 }
+        ensures pinned { (result ≡ Err PinnedWiden.Pinned) ↔ (0 < length self.old.pins) }
+        ensures gives { length self.old.pins ≡ 0 →
+            Gives widen_refusal_in (applied_in self.new.now.state) result (widen_result self.old.now.state name.now value.now) }
+        ensures records { OnOk result (KeepsWidened (length self.old.now.state.schema.dims) self.old.now.tree self.new.now.tree) }
+        ensures steps { OnOk result (steps.new ≤ steps.old + cost_of_widening (length self.old.now.state.schema.dims) self.old.now.tree) }
+        ensures valid { AreContents self.new.now }
+        ensures pins { self.new.pins ≡ self.old.pins }
+        ensures err { OnErr result (self.new ≡ self.old) }
+    {
+        if !self.pins.is_empty() {
+            self.warehouse.is_valid();
+            return Err(PinnedWiden::Pinned);
+        }
+        match self.warehouse.widen(name, value, steps) {
+            Ok(applied) => Ok(applied),
+            Err(refused) => Err(widen_refused(refused)),
+        }
+    }
+}
+
+// The refusal where no version is pinned.
+fn widen_refused(refused: WidenRefused) -> PinnedWiden
+    ensures same { widen_refusal_in result ≡ widening.widen_refusal_in refused }
+    ensures other { result ≢ PinnedWiden.Pinned }
+{
+    match refused {
+        WidenRefused::DimsFull => PinnedWiden::DimsFull,
+        WidenRefused::NodesFull => PinnedWiden::NodesFull,
+        WidenRefused::Memory => PinnedWiden::Memory,
+    }
+}

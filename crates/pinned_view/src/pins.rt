@@ -1,0 +1,115 @@
+// What is kept of a version that is pinned.
+ghost use Rattle.std.specs.Prelude.{filter, length, map, not, option_copied, vec_capacity, ◌<◌, ◌==◌, ◌≡◌, ◌≤◌};
+ghost use Rattle.std.specs.List.{All, find, list_any};
+ghost use Rattle.pinned_view.specs.Pins.{bears, moved_back, version_in};
+ghost use Rattle.pinned_view.specs.Versions.{version_now};
+ghost use Rattle.pinned_view.specs.Views.{IsRootOf};
+ghost use Rattle.warehouse.specs.Counted.{AreCounted};
+ghost use Rattle.warehouse.specs.State.{AreContents};
+
+use arrayvec::ArrayString;
+use cell_core::{NodeNo, Steps};
+use qc_arena::{Nodes, QcArena};
+use std::marker::Brand;
+use std::snapshot::Snapshot;
+use std::sync::ledger::{Blank, Ledger};
+use warehouse::{Stats, Warehouse};
+
+/// So many versions may be pinned.
+pub const MAX_PINS: usize = 16;
+
+/// A version: its name, the place of the first images that were kept since, the root of its tree, what
+/// was counted of it, and, for proofs alone, the warehouse as it was.
+#[derive(Drop)]
+pub(crate) struct Pin {
+    pub name: ArrayString<32>,
+    pub from: usize,
+    pub root: Option<NodeNo>,
+    pub stats: Stats,
+    pub was: Snapshot<Warehouse>,
+}
+
+impl Pin {
+    // The version of now, behind so many images.
+    pub(crate) fn of(warehouse: &Warehouse, name: &str, from: usize) -> Pin
+        requires { length name.now ≤ 32 }
+        ensures version { version_in result ≡ version_now name.now warehouse.now }
+        ensures from { result.from ≡ from }
+        ensures root { IsRootOf (length warehouse.now.state.schema.dims) warehouse.now.tree result.root }
+        ensures stats { AreCounted warehouse.now.state.rows result.stats }
+        ensures valid { AreContents warehouse.now }
+    {
+        let mut own = ArrayString::new();
+        own.push_str(name);
+        Pin {
+            name: own,
+            from,
+            root: root_of(warehouse.tree()),
+            stats: warehouse.stats(),
+            was: Snapshot::of(warehouse),
+        }
+    }
+}
+
+// The root of a tree.
+fn root_of(tree: &QcArena) -> Option<NodeNo>
+    ensures { IsRootOf tree.now.width tree.now.now result }
+{
+    root_on::<Brand>(tree, Blank::new(1))
+}
+
+fn root_on<L: Ledger>(tree: &QcArena, blank: Blank) -> Option<NodeNo>
+    requires name { blank.name ≡ L.name }
+    requires parts { blank.parts ≡ L.parts }
+    requires some { 0 < L.parts }
+    ensures { IsRootOf tree.now.width tree.now.now result }
+{
+    let mut steps = Steps::<L>::start(blank);
+    tree.root(&mut steps)
+}
+
+/// The version of a name, if there is one.
+pub(crate) fn pin_of<'a>(pins: &'a Vec<Pin>, name: &str) -> Option<&'a Pin>
+    ensures { option_copied result ≡ find (bears name.now) pins.now.items }
+{
+    pins.iter().find(|pin| pin.name.as_str() == name)
+}
+
+/// Lets the versions of a name go.
+pub(crate) fn drop_named(pins: &mut Vec<Pin>, name: &str)
+    ensures items { pins.new.items ≡ filter (λ pin. not (bears name.now pin)) pins.old.items }
+    ensures capacity { vec_capacity pins.new ≡ vec_capacity pins.old }
+{
+    pins.retain(|pin| pin.name.as_str() != name);
+}
+
+/// Whether a version reads from a place on.
+pub(crate) fn stands_at(pins: &Vec<Pin>, place: usize) -> bool
+    ensures { result ≡ list_any (λ pin. pin.from == place) pins.now.items }
+{
+    pins.iter().any(|pin| pin.from == place)
+}
+
+/// The least place from which a version reads, or the end where there is none.
+pub(crate) fn oldest(pins: &Vec<Pin>, end: usize) -> usize
+    ensures each { All (λ pin. result ≤ pin.from) pins.now.items }
+    ensures end { result ≤ end }
+{
+    let mut least = end;
+    'pins: for pin in pins {
+        least = least.min(pin.from);
+    }
+    least
+}
+
+/// Moves the places of all versions back by so many.
+pub(crate) fn move_back(pins: &mut Vec<Pin>, by: usize)
+    requires { All (λ pin. by ≤ pin.from) pins.old.items }
+    ensures items { pins.new.items ≡ map (moved_back by) pins.old.items }
+    ensures capacity { vec_capacity pins.new ≡ vec_capacity pins.old }
+{
+    'pins: for at in 0..pins.len() {
+        let pin = &mut pins[at];
+        pin.from -= by;
+    }
+}

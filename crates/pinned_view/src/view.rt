@@ -1,0 +1,186 @@
+// The tree as it was, read over the tree of now.
+ghost use Rattle.std.specs.FinMap as map;
+ghost use Rattle.std.specs.Prelude.{IfNone, IfSome, IsSome, Some, ◌≡◌};
+ghost use Rattle.qc_arena.specs.Looks.{seen};
+ghost use Rattle.pinned_view.specs.Past.{first_image, past};
+ghost use Rattle.pinned_view.specs.Views.{IsRootOf};
+
+use aggregates::Agg;
+use cell_core::{Code, NodeNo, Steps};
+use qc_arena::{Forced, Images, Look, Nodes, QcArena, Record};
+use std::marker::Model;
+use std::sync::ledger::Ledger;
+use warehouse::Stats;
+
+/// The tree of a version that is pinned, and what was counted of it then. It is the tree of now with the
+/// images put over it that were kept since, the oldest first; a read looks through them, each by two
+/// binary searches, up to the first that says something of the node. Making it and reading it take no
+/// memory.
+#[derive(Drop)]
+pub struct PinnedView<'a> {
+    tree: &'a QcArena,
+    over: &'a [Images],
+    root: Option<NodeNo>,
+    stats: Stats,
+}
+
+impl<'a> Model for PinnedView<'a> {
+    ghost use Rattle.std.specs.Coded.{codes};
+    ghost use Rattle.qc_arena.specs.Codes.{tree_code};
+    ghost use Rattle.pinned_view.specs.Past.{past};
+    ghost use Rattle.pinned_view.specs.Views.{CountedTree, IsRootOf};
+
+    ghost Value = { CountedTree };
+
+    ghost coded = { Prim.hlevel (codes, tree_code) };
+
+    ghost view = { λ v. record { width = v.tree.now.width; tree = past v.over.now v.tree.now.now; stats = v.stats } };
+
+    ghost invariant = { λ v. IsRootOf v.tree.now.width (past v.over.now v.tree.now.now) v.root };
+}
+
+impl<'a> PinnedView<'a> {
+    // The view of a tree under images, with its root and what was counted.
+    pub(crate) fn over(
+        tree: &'a QcArena,
+        over: &'a [Images],
+        root: Option<NodeNo>,
+        stats: Stats,
+    ) -> PinnedView<'a>
+        requires { IsRootOf tree.now.width (past over.now tree.now.now) root }
+        ensures tree { result.tree ≡ past over.now tree.now.now }
+        ensures width { result.width ≡ tree.now.width }
+        ensures stats { result.stats ≡ stats }
+    {
+        PinnedView {
+            tree,
+            over,
+            root,
+            stats,
+        }
+    }
+
+    /// What was counted of the rows and of their tree when the version was pinned.
+    pub fn stats(&self) -> Stats
+        ensures { result ≡ self.now.stats }
+    {
+        self.stats
+    }
+}
+
+// What the first images say of the number that say something of it.
+fn look_in<'a>(over: &'a [Images], node: NodeNo) -> Look<'a>
+    ensures { seen result ≡ first_image over.now node.0 }
+{
+    'images: for images in over {
+        match images.look(node) {
+            Look::Same => {}
+            look => return look,
+        }
+    }
+    Look::Same
+}
+
+// The record that a node had, where it isn't the one that it has now.
+fn image_of<'a>(tree: &QcArena, over: &'a [Images], node: NodeNo) -> Option<&'a Record>
+    requires { IsSome (map.get (past over.now tree.now.now) node.0) }
+    ensures some { IfSome result (λ r. map.get (past over.now tree.now.now) node.0 ≡ Some r.now) }
+    ensures none { IfNone result (map.get (past over.now tree.now.now) node.0 ≡ map.get tree.now.now node.0) }
+{
+    match look_in(over, node) {
+        Look::Same => None,
+        Look::Was(record) => Some(record),
+        Look::Gone => unreachable!(),
+    }
+}
+
+impl<'a> Nodes for PinnedView<'a> {
+    ghost width = { λ v. v.width };
+
+    ghost tree = { λ v. v.tree };
+
+    fn dims(&self) -> u8 {
+        self.tree.dims()
+    }
+
+    fn root<L: Ledger>(&self, steps: &mut Steps<L>) -> Option<NodeNo> {
+        steps.tick();
+        self.root
+    }
+
+    fn end_of<L: Ledger>(&self, node: NodeNo, steps: &mut Steps<L>) -> Option<(u8, Code)> {
+        match image_of(self.tree, self.over, node) {
+            Some(record) => {
+                steps.tick();
+                record.end_of()
+            }
+            None => self.tree.end_of(node, steps),
+        }
+    }
+
+    fn parent<L: Ledger>(&self, node: NodeNo, steps: &mut Steps<L>) -> Option<NodeNo> {
+        match image_of(self.tree, self.over, node) {
+            Some(record) => {
+                steps.tick();
+                record.parent()
+            }
+            None => self.tree.parent(node, steps),
+        }
+    }
+
+    fn forced<L: Ledger>(&self, node: NodeNo, steps: &mut Steps<L>) -> Option<Forced> {
+        match image_of(self.tree, self.over, node) {
+            Some(record) => {
+                steps.tick();
+                record.forced()
+            }
+            None => self.tree.forced(node, steps),
+        }
+    }
+
+    fn edge<L: Ledger>(
+        &self,
+        node: NodeNo,
+        dim: u8,
+        code: Code,
+        steps: &mut Steps<L>,
+    ) -> Option<NodeNo> {
+        match image_of(self.tree, self.over, node) {
+            Some(record) => {
+                steps.tick();
+                record.edge(dim, code)
+            }
+            None => self.tree.edge(node, dim, code, steps),
+        }
+    }
+
+    fn edge_count<L: Ledger>(&self, node: NodeNo, steps: &mut Steps<L>) -> u32 {
+        match image_of(self.tree, self.over, node) {
+            Some(record) => {
+                steps.tick();
+                record.edge_count()
+            }
+            None => self.tree.edge_count(node, steps),
+        }
+    }
+
+    fn edge_at<L: Ledger>(&self, node: NodeNo, k: u32, steps: &mut Steps<L>) -> (u8, Code, NodeNo) {
+        match image_of(self.tree, self.over, node) {
+            Some(record) => {
+                steps.tick();
+                record.edge_at(k)
+            }
+            None => self.tree.edge_at(node, k, steps),
+        }
+    }
+
+    fn class<L: Ledger>(&self, node: NodeNo, steps: &mut Steps<L>) -> Option<Agg> {
+        match image_of(self.tree, self.over, node) {
+            Some(record) => {
+                steps.tick();
+                record.class()
+            }
+            None => self.tree.class(node, steps),
+        }
+    }
+}
