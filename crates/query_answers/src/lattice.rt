@@ -1,0 +1,154 @@
+// The answers that tell classes of the quotient lattice.
+ghost use Rattle.std.specs.Prelude.{All, IfOk, IfSome, IsSome, List, length, option_map, ◌≡◌};
+ghost use Rattle.aggregates.specs.Views.{fraction_in, kind_in};
+ghost use Rattle.cube_defs.specs.Rows.{Row};
+ghost use Rattle.cube_defs.specs.Text.{Text};
+ghost use Rattle.iceberg_query.specs.Asked.{bound_in};
+ghost use Rattle.qc_arena.specs.Seen.{record_at};
+ghost use Rattle.query_script.specs.Commands.{IsCellField, IsMeasured};
+ghost use Rattle.quotient_lattice.specs.Told.{told_nodes};
+ghost use Rattle.reply_text.specs.Words.{reply_bytes};
+ghost use Rattle.value_dict.specs.Told.{told_cell};
+ghost use Rattle.query_answers.specs.Queries.{IsTreeOfRows, ask_of, cell_asked};
+ghost use Rattle.query_answers.specs.Lattice.{followed, parented, rolled, upper_of, uppers_text};
+ghost use Rattle.warehouse.specs.State.{HasTree, with_rows};
+
+use crate::iceberg::scale_of_kind;
+use aggregates::{AggKind, Fraction};
+use cell_core::{Fields, Memory, NodeNo, Steps};
+use iceberg_query::{Ask, Bound};
+use qc_arena::Nodes;
+use quotient_lattice::{children, classes_alone, parents, rollup};
+use reply_text::{Reply, iceberg_reply, none};
+use std::alloc::Global;
+use std::sync::ledger::Ledger;
+use tree_search::find;
+use warehouse::Warehouse;
+
+// The node of the class of the asked cell. None where the cell covers no row.
+fn upper_asked<T: Nodes, L: Ledger>(
+    warehouse: &Warehouse,
+    tree: &T,
+    asked: &Fields,
+    steps: &mut Steps<L>,
+) -> Option<NodeNo>
+    requires dims { length asked.now ≡ length warehouse.now.state.schema.dims }
+    requires point { All IsCellField asked.now }
+    requires rows { IsTreeOfRows warehouse.now (T.width tree.now) (T.tree tree.now) }
+    ensures class { IfSome result (λ node. IsSome (record_at (T.tree tree.now) node.0).class) }
+    ensures upper { (rows : List (Row Text)) → HasTree (with_rows warehouse.now.state rows) (T.tree tree.now) →
+        option_map (λ node. told_cell warehouse.now.state.texts (record_at (T.tree tree.now) node.0).cell) result
+        ≡ upper_of (with_rows warehouse.now.state rows) (cell_asked asked.now) }
+{
+    let Some(cell) = warehouse.dict().cell_of(asked) else {
+        return None;
+    };
+    find(tree, &cell, steps)
+}
+
+// Tells the classes of some nodes.
+fn told_reply<T: Nodes, L: Ledger>(
+    alloc: Global,
+    warehouse: &Warehouse,
+    tree: &T,
+    number: u32,
+    nodes: &[NodeNo],
+    steps: &mut Steps<L>,
+) -> Result<Reply, Memory>
+    requires classes { All (λ node. IsSome (record_at (T.tree tree.now) node.0).class) nodes.now }
+    requires rows { IsTreeOfRows warehouse.now (T.width tree.now) (T.tree tree.now) }
+    ensures { (rows : List (Row Text)) → HasTree (with_rows warehouse.now.state rows) (T.tree tree.now) →
+        IfOk result (λ reply. reply_bytes reply
+        ≡ uppers_text (with_rows warehouse.now.state rows) number (told_nodes warehouse.now.state.texts (T.tree tree.now) nodes.now)) }
+{
+    let dict = warehouse.dict();
+    let _dims = dict.dims();
+    let classes = classes_alone(alloc, tree, nodes, steps)?;
+    let reply = iceberg_reply(alloc, number, warehouse.schema(), dict, &classes)?;
+    Ok(Reply::Long(reply))
+}
+
+/// Tells the parents of the class of a cell with Any or a value in each dimension.
+pub fn answer_parents<T: Nodes, L: Ledger>(
+    alloc: Global,
+    warehouse: &Warehouse,
+    tree: &T,
+    number: u32,
+    asked: &Fields,
+    steps: &mut Steps<L>,
+) -> Result<Reply, Memory>
+    requires dims { length asked.now ≡ length warehouse.now.state.schema.dims }
+    requires point { All IsCellField asked.now }
+    requires rows { IsTreeOfRows warehouse.now (T.width tree.now) (T.tree tree.now) }
+    ensures { (rows : List (Row Text)) → HasTree (with_rows warehouse.now.state rows) (T.tree tree.now) →
+        IfOk result (λ reply. reply_bytes reply ≡ parented (with_rows warehouse.now.state rows) number (cell_asked asked.now)) }
+{
+    let Some(node) = upper_asked(warehouse, tree, asked, steps) else {
+        return Ok(Reply::Short(none(number)));
+    };
+    match parents(alloc, tree, warehouse.dict(), node, steps) {
+        Ok(nodes) => told_reply(alloc, warehouse, tree, number, &nodes, steps),
+        Err(error) => Err(error),
+    }
+}
+
+/// Tells the children of the class of a cell with Any or a value in each dimension.
+pub fn answer_children<T: Nodes, L: Ledger>(
+    alloc: Global,
+    warehouse: &Warehouse,
+    tree: &T,
+    number: u32,
+    asked: &Fields,
+    steps: &mut Steps<L>,
+) -> Result<Reply, Memory>
+    requires dims { length asked.now ≡ length warehouse.now.state.schema.dims }
+    requires point { All IsCellField asked.now }
+    requires rows { IsTreeOfRows warehouse.now (T.width tree.now) (T.tree tree.now) }
+    ensures { (rows : List (Row Text)) → HasTree (with_rows warehouse.now.state rows) (T.tree tree.now) →
+        IfOk result (λ reply. reply_bytes reply ≡ followed (with_rows warehouse.now.state rows) number (cell_asked asked.now)) }
+{
+    let Some(node) = upper_asked(warehouse, tree, asked, steps) else {
+        return Ok(Reply::Short(none(number)));
+    };
+    match children(alloc, tree, warehouse.dict(), node, steps) {
+        Ok(nodes) => told_reply(alloc, warehouse, tree, number, &nodes, steps),
+        Err(error) => Err(error),
+    }
+}
+
+/// Tells the most general classes, from that of a cell with Any or a value in each dimension on, whose
+/// value, in the unit of the measure, is at least or at most what is asked.
+pub fn answer_rollup<T: Nodes, L: Ledger>(
+    alloc: Global,
+    warehouse: &Warehouse,
+    tree: &T,
+    number: u32,
+    kind: AggKind,
+    bound: Bound,
+    value: Fraction,
+    asked: &Fields,
+    steps: &mut Steps<L>,
+) -> Result<Reply, Memory>
+    requires measured { IsMeasured (length warehouse.now.state.schema.measures) (kind_in kind) }
+    requires dims { length asked.now ≡ length warehouse.now.state.schema.dims }
+    requires point { All IsCellField asked.now }
+    requires rows { IsTreeOfRows warehouse.now (T.width tree.now) (T.tree tree.now) }
+    ensures { (rows : List (Row Text)) → HasTree (with_rows warehouse.now.state rows) (T.tree tree.now) →
+        IfOk result (λ reply. reply_bytes reply
+        ≡ rolled (with_rows warehouse.now.state rows) number
+        (ask_of warehouse.now.state.schema.measures (kind_in kind) (bound_in bound) (fraction_in value)) (cell_asked asked.now)) }
+{
+    let Some(node) = upper_asked(warehouse, tree, asked, steps) else {
+        return Ok(Reply::Short(none(number)));
+    };
+    let ask = Ask {
+        kind,
+        scale: scale_of_kind(warehouse.schema(), kind),
+        bound,
+        value,
+    };
+    match rollup(alloc, tree, warehouse.dict(), node, &ask, steps) {
+        Ok(nodes) => told_reply(alloc, warehouse, tree, number, &nodes, steps),
+        Err(error) => Err(error),
+    }
+}

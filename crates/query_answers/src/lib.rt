@@ -1,0 +1,17 @@
+//! The answers to queries, over the tree of some rows of a warehouse's schema: those that are present, or
+//! those of an earlier time.
+#![tactic(auto)]
+
+mod bounds;
+mod iceberg;
+mod lattice;
+mod point;
+mod query;
+mod range;
+
+pub use bounds::answer_bounds;
+pub use iceberg::{answer_iceberg, empty_index};
+pub use lattice::{answer_children, answer_parents, answer_rollup};
+pub use point::{answer_coded, answer_point};
+pub use query::{answer_now, answer_query};
+pub use range::answer_range;

@@ -1,0 +1,137 @@
+// The answer to a point.
+ghost use Rattle.std.specs.Prelude.{All, IfOk, IfSome, List, Ok, length, option_map, true, ◌*◌, ◌+◌, ◌≡◌, ◌≤◌};
+ghost use Rattle.aggregates.specs.Views.{agg_in};
+ghost use Rattle.cell_core.specs.declared.fields.Field as asks;
+ghost use Rattle.cube_defs.specs.Rows.{Row};
+ghost use Rattle.cube_defs.specs.Text.{Text, text_eq};
+ghost use Rattle.cube_laws.specs.Total.{agg_at};
+ghost use Rattle.query_script.specs.Commands.{IsCellField, command_in};
+ghost use Rattle.query_script.specs.Questions.{Point};
+ghost use Rattle.query_answers.specs.Queries.{IsTreeOfRows, cell_asked, pointed};
+ghost use Rattle.reply_text.specs.Replies.{none_text, point_text};
+ghost use Rattle.reply_text.specs.Words.{reply_bytes};
+ghost use Rattle.value_dict.specs.Told.{HasTexts, told_cell};
+ghost use Rattle.warehouse.specs.State.{HasTree, with_rows};
+
+use aggregates::Agg;
+use cell_core::{Cell, Fields, Memory, Steps};
+use qc_arena::Nodes;
+use query_script::{Coded, read_codes};
+use reply_text::{Reply, none, point_reply, push_point};
+use std::alloc::Global;
+use std::sync::ledger::Ledger;
+use tree_search::total_at;
+use warehouse::Warehouse;
+
+// The codes of the asked cell, and what the rows that it covers come to. None where it covers none.
+fn total_asked<T: Nodes, L: Ledger>(
+    warehouse: &Warehouse,
+    tree: &T,
+    asked: &Fields,
+    steps: &mut Steps<L>,
+) -> Option<(Cell, Agg)>
+    requires dims { length asked.now ≡ length warehouse.now.state.schema.dims }
+    requires point { All IsCellField asked.now }
+    requires rows { IsTreeOfRows warehouse.now (T.width tree.now) (T.tree tree.now) }
+    ensures value { (rows : List (Row Text)) → HasTree (with_rows warehouse.now.state rows) (T.tree tree.now) → option_map (λ found. agg_in found.1) result
+        ≡ agg_at text_eq (length warehouse.now.state.schema.measures) rows (cell_asked asked.now) }
+    ensures measures { IfSome result (λ found. length (agg_in found.1).parts ≡ length warehouse.now.state.schema.measures) }
+    ensures told { IfSome result (λ found. told_cell warehouse.now.state.texts found.0 ≡ cell_asked asked.now) }
+    ensures texts { IfSome result (λ found. HasTexts warehouse.now.state.texts found.0) }
+    ensures steps { steps.new ≤ steps.old + (2 * length warehouse.now.state.schema.dims + 3) }
+{
+    let cell = warehouse.dict().cell_of(asked)?;
+    let total = total_at(tree, &cell, steps)?;
+    Some((cell, total))
+}
+
+/// Answers a point that asks Any or a value of each dimension. With n dimensions it takes at most
+/// 2n + 3 steps.
+pub fn answer_point<T: Nodes, L: Ledger>(
+    alloc: Global,
+    warehouse: &Warehouse,
+    tree: &T,
+    number: u32,
+    asked: &Fields,
+    steps: &mut Steps<L>,
+) -> Result<Reply, Memory>
+    requires dims { length asked.now ≡ length warehouse.now.state.schema.dims }
+    requires point { All IsCellField asked.now }
+    requires rows { IsTreeOfRows warehouse.now (T.width tree.now) (T.tree tree.now) }
+    ensures reply { (rows : List (Row Text)) → HasTree (with_rows warehouse.now.state rows) (T.tree tree.now) →
+        IfOk result (λ reply. reply_bytes reply ≡ pointed (with_rows warehouse.now.state rows) number (cell_asked asked.now)) }
+    ensures steps { steps.new ≤ steps.old + (2 * length warehouse.now.state.schema.dims + 3) }
+{
+    let Some((cell, total)) = total_asked(warehouse, tree, asked, steps) else {
+        return Ok(Reply::Short(none(number)));
+    };
+    let reply = point_reply(
+        alloc,
+        number,
+        warehouse.schema(),
+        warehouse.dict(),
+        &cell,
+        &total,
+    )?;
+    Ok(Reply::Long(reply))
+}
+
+// Puts the reply that no row is covered in place of what is there. False where memory ran out.
+fn put_none(number: u32, reply: &mut Vec<u8>) -> bool
+    ensures { result ≡ true → reply.new.items ≡ none_text number }
+{
+    reply.clear();
+    reply.extend_from_slice(none(number).as_bytes()).is_ok()
+}
+
+// The same with the reply that the rows that a cell covers come to so much.
+fn put_total(
+    warehouse: &Warehouse,
+    number: u32,
+    cell: &Cell,
+    total: &Agg,
+    reply: &mut Vec<u8>,
+) -> bool
+    requires texts { HasTexts warehouse.now.state.texts cell.now }
+    requires parts { length (agg_in total.now).parts ≡ length warehouse.now.state.schema.measures }
+    ensures { result ≡ true → reply.new.items ≡ point_text number (told_cell warehouse.now.state.texts cell.now) warehouse.now.state.schema.measures
+        (agg_in total.now) }
+{
+    reply.clear();
+    push_point(
+        reply,
+        number,
+        warehouse.schema(),
+        warehouse.dict(),
+        cell,
+        total,
+    )
+    .is_ok()
+}
+
+/// Answers a line that is a point without quotes, over the rows that are present, and puts its reply in
+/// place of what is there. False where the line isn't one, or finds no memory. With n dimensions it takes
+/// at most 2n + 3 steps.
+pub fn answer_coded<L: Ledger>(
+    alloc: Global,
+    warehouse: &Warehouse,
+    number: u32,
+    line: &[u8],
+    reply: &mut Vec<u8>,
+    steps: &mut Steps<L>,
+) -> bool
+    ensures answered { result ≡ true → (asked : List asks.Field) × (command_in warehouse.now.state.schema line.now ≡ Ok (Point asked))
+        × (reply.new.items ≡ pointed warehouse.now.state number (cell_asked asked)) }
+    ensures steps { steps.new ≤ steps.old + (2 * length warehouse.now.state.schema.dims + 3) }
+{
+    let dict = warehouse.dict();
+    let mut cell = Cell::any(alloc, dict.dims());
+    match read_codes(warehouse.schema(), dict, line, &mut cell) {
+        Coded::Unread => false,
+        Coded::Unknown => put_none(number, reply),
+        Coded::Known => match total_at(warehouse.tree(), &cell, steps) {
+            Some(total) => put_total(warehouse, number, &cell, &total, reply),
+            None => put_none(number, reply),
+        },
+    }
+}
