@@ -1,6 +1,24 @@
 -- What holds of an answer, where there is one.
-use Rattle.std.specs.Prelude.{Err, Ok, OnOk, Result}
+use Rattle.std.proofs.Common.{◌≡◌, ℕ, Option, Some, None, List, refl}
+use Rattle.std.specs.Prelude.{Err, IfSome, Ok, OnOk, Result}
+use Rattle.cell_core.specs.declared.fields.Field.{Field}
+use Rattle.qc_io.specs.Outside.{Told}
+use Rattle.query_answers.specs.Queries.{cell_asked, pointed}
+use Rattle.query_script.specs.Commands.{command_in}
+use Rattle.query_script.specs.Questions.{Point}
+use Rattle.qc_session.specs.Answers.{answer}
+use Rattle.qc_session.specs.Pins.{PinnedState, keeps}
 
 pub on-ok : {T E : Type 0} (r : Result T E) (P : Type 0) → P → OnOk r P
 on-ok (Ok x) P p = p
 on-ok (Err e) P p = tt
+
+-- what holds whatever the files tell holds of what they tell
+pub for_told : (told : Option Told) (P : Told → Type 0) → ((t : Told) → P t) → IfSome told P
+for_told None P h = tt
+for_told (Some t) P h = h t
+
+-- a line that asks a point is answered by what it comes to
+pub point-is : (s : PinnedState) (line : List ℕ) (number : ℕ) (reply : List ℕ) → (asked : List Field) × (command_in s.state.schema line ≡ Ok (Point asked)) × (reply ≡ pointed s.state number (cell_asked asked))
+    → (told : Told) → answer s told number line ≡ Some (keeps s reply)
+point-is s line number reply (asked, command, e) told = rw (command, e) refl

@@ -69,14 +69,3 @@ refusal-run (Some t) names start script ends is is_script = λ cause refused. ab
 
 pub rose-later : (first before now : ℕ) → first ≤ before → Rose before now → Rose first now
 rose-later first before now le h = omega (arith, le, h)
-
-pub complete-run : (told : Option Told) (names : FileNames) (status : ℕ) (files out : Type 0) → ((status ≡ 0) ⊎ (status ≡ 3) ⊎ (status ≡ 4) ⊎ (status ≡ 5)) → (status ≡ 3 → files) → (status ≡ 4 → out)
-    → IfSome told (λ t. IsUnrefused t names → (files → ⊥) → (out → ⊥) → (status ≡ 0) ⊎ (status ≡ 5))
-complete-run None names status files out known f o = tt
-complete-run (Some t) names status files out known f o = λ fine no_files no_out. go known no_files no_out
-  where
-    go : ((status ≡ 0) ⊎ (status ≡ 3) ⊎ (status ≡ 4) ⊎ (status ≡ 5)) → (files → ⊥) → (out → ⊥) → (status ≡ 0) ⊎ (status ≡ 5)
-    go (inl h) no_files no_out = inl h
-    go (inr (inl h)) no_files no_out = absurd (no_files (f h))
-    go (inr (inr (inl h))) no_files no_out = absurd (no_out (o h))
-    go (inr (inr (inr h))) no_files no_out = inr h

@@ -4,7 +4,7 @@ use Rattle.std.specs.Prelude.{IsSome}
 use Rattle.std.specs.List.{AllByRecursion}
 use Rattle.std.proofs.lemmas.List.Elements.{recursion_from_All}
 use Rattle.qc_io.specs.Outside.{Told}
-use Rattle.qc_session.specs.Forms.{Form, Gen, IfRun, FileNames, Pack, Run}
+use Rattle.qc_session.specs.Forms.{FileNames}
 use Rattle.qc_session.specs.Lines.{script_lines}
 use Rattle.qc_session.specs.Answers.{file_of}
 use Rattle.qc_session.specs.Runs.{AllTold, CannotRead, IsLineTold, LineUnread, Said, Unread}
@@ -30,20 +30,17 @@ line-unread t sure names skipped name before now surely all u =
     let s = u.stopped in
     let lines = recursion_from_All (IsLineTold t u.start.schema) (script_lines u.script) (all.lines u.start u.script u.start_read u.script_read) in
     let line = all-at (IsLineTold t u.start.schema) s.done s.line s.rest (rw s.split at lines) in
-    not-none (t name) (s.untold surely) (line-told t (file_of u.start.schema s.line) name (file-same u.start.schema s.wrote.state.schema s.line ∙ s.names) line)
+    not-none (t name) (s.untold surely) (line-told t (file_of u.start.schema s.line) name (file-same u.start.schema s.wrote.state.state.schema s.line ∙ s.names) line)
 
 none-unread : (t : Told) (sure : Type 0) (names : FileNames) (skipped name : List ℕ) (before now : Option (List ℕ)) → sure → AllTold t names → Unread t sure names skipped name before now → ⊥
 none-unread t sure names skipped name before now surely all (inl u) = not-none (t names.first) (rw u.is_first at (u.untold surely)) all.first
 none-unread t sure names skipped name before now surely all (inr (inl u)) = not-none (t names.script) (rw u.is_script at (u.untold surely)) all.script
 none-unread t sure names skipped name before now surely all (inr (inr u)) = line-unread t sure names skipped name before now surely all u
 
-pub found-all : (form : Option Form) (told : Option Told) (sure rose ends : Type 0) (skipped : List ℕ) (before now err err2 : Option (List ℕ)) → sure
-    → (ends → IfRun form (λ names. IfSome told (λ t. (name : List ℕ) × Unread t sure names skipped name before now × Said rose (CannotRead name) err err2)))
-    → IfRun form (λ names. IfSome told (λ t. AllTold t names → ends → ⊥))
-found-all None told sure rose ends skipped before now err err2 surely h = tt
-found-all (Some (Pack names)) told sure rose ends skipped before now err err2 surely h = tt
-found-all (Some (Gen drawing)) told sure rose ends skipped before now err err2 surely h = tt
-found-all (Some (Run names)) None sure rose ends skipped before now err err2 surely h = tt
-found-all (Some (Run names)) (Some t) sure rose ends skipped before now err err2 surely h = λ all is.
+pub found-all : (told : Option Told) (names : FileNames) (sure rose ends : Type 0) (skipped : List ℕ) (before now err err2 : Option (List ℕ)) → sure
+    → (ends → IfSome told (λ t. (name : List ℕ) × Unread t sure names skipped name before now × Said rose (CannotRead name) err err2))
+    → IfSome told (λ t. AllTold t names → ends → ⊥)
+found-all None names sure rose ends skipped before now err err2 surely h = tt
+found-all (Some t) names sure rose ends skipped before now err err2 surely h = λ all is.
     let u = h is in
     none-unread t sure names skipped u.0 before now surely all u.1

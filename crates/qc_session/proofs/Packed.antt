@@ -11,9 +11,9 @@ use Rattle.qc_schema.specs.Schema.{Layout}
 use Rattle.warehouse.specs.State.{State, empty}
 use Rattle.qc_session.specs.Forms.{FileNames, FromSchema, FromSnapshot, Source}
 use Rattle.qc_session.specs.Lines.{script_lines}
-use Rattle.qc_session.specs.Packs.{IsPackRefused, IsPackStatus, IsPackUnrefused, IsRead, Leads, LeadsTooFar, Packed, PackedFront, WroteSnapshot, WroteSnapshotFront}
+use Rattle.qc_session.specs.Packs.{IsPackRefused, IsPackUnrefused, IsRead, Leads, LeadsTooFar, Packed, PackedFront, WroteSnapshot, WroteSnapshotFront}
 use Rattle.qc_session.specs.Quiet.{IfUnread}
-use Rattle.qc_session.specs.Runs.{AllTold, Begins, CannotRead, Cause, IsRefused, IsScriptOf, IsStartOf, LongSnapshot, Said, StoppedAt, WroteAll}
+use Rattle.qc_session.specs.Runs.{AllTold, Begins, CannotRead, Cause, IsRefused, IsScriptOf, IsScriptStatus, IsStartOf, LongSnapshot, Said, StoppedAt, WroteAll}
 use Rattle.qc_session.specs.Session.{IfStop}
 use Rattle.qc_session.specs.Transcript.{Run}
 use Rattle.qc_session.specs.declared.quiet.QuietStop.{QuietStop}
@@ -51,16 +51,16 @@ quiet-ended stop name told sure rose start start2 lines lines2 cause err err2 is
 
 -- what a script that was taken whole leads to
 leads-to : (t : Told) (start : State) (lines : List (List ℕ)) (state : State) → WroteAll t start [] lines (Some state) None None → Leads t start lines state
-leads-to t start lines state h = record { replies = h.wrote.replies; took = rw (same h.ended) h.wrote.took }
+leads-to t start lines state h = record { pins = h.wrote.state.pins; replies = h.wrote.replies; took = rw (same h.ended) h.wrote.took }
   where
     same : {x y : State} → Some x ≡ Some y → x ≡ y
     same e = cc
 
--- the same over the state and the lines by their other names
-pub led-to : (told : Option Told) (start start2 : State) (lines lines2 : List (List ℕ)) (state : State) → start2 ≡ start → lines2 ≡ lines
-    → IfSome told (λ t. WroteAll t start2 [] lines2 (Some state) None None) → IfSome told (λ t. Leads t start lines state)
-led-to None start start2 lines lines2 state s l h = tt
-led-to (Some t) start start2 lines lines2 state s l h = rw (sym s, sym l) (leads-to t start2 lines2 state h)
+-- the same over the states and the lines by their other names
+pub led-to : (told : Option Told) (start start2 : State) (lines lines2 : List (List ℕ)) (state state2 : State) → start2 ≡ start → lines2 ≡ lines → state2 ≡ state
+    → IfSome told (λ t. WroteAll t start2 [] lines2 (Some state) None None) → IfSome told (λ t. Leads t start lines state2)
+led-to None start start2 lines lines2 state state2 s l e h = tt
+led-to (Some t) start start2 lines lines2 state state2 s l e h = rw (sym s, sym l, e) (leads-to t start2 lines2 state h)
 
 pub snapshot-all : (told : Option Told) (start : State) (lines : List (List ℕ)) (state : State) (end : Option State) (before now : Option (List ℕ)) → IfSome told (λ t. Leads t start lines state)
     → length (spelling state) ≤ MAX_FILE → now ≡ taking (spelling state) before → end ≡ Some state → IfSome told (λ t. WroteSnapshot t start lines end before now)
@@ -119,7 +119,7 @@ start-once t names start other a b =
 
 -- the same lines lead from the same state to one state at most
 leads-once : (t : Told) (start : State) (lines : List (List ℕ)) (state other : State) → Leads t start lines state → Leads t start lines other → state ≡ other
-leads-once t start lines state other a b = ap (λ (r : Run). r.state) (sym a.took.is ∙ b.took.is)
+leads-once t start lines state other a b = ap (λ (r : Run). r.state.state) (sym a.took.is ∙ b.took.is)
 
 -- a run whose snapshot is no longer than a file may be isn't refused
 not-far : (t : Told) (names : FileNames) (start : State) (script : List ℕ) (state : State) → IsStartOf t names start → IsScriptOf t names.script script → Leads t start (script_lines script) state → length (spelling state) ≤ MAX_FILE
@@ -134,7 +134,7 @@ not-far t names start script state is is_script leads fits cause (inr (far, why)
     let long : MAX_FILE < length (spelling state) = subst (λ (s : State). MAX_FILE < length (spelling s)) same far.holds.long in
     omega (arith, long, fits)
 
-pub packed-refusal : (told : Option Told) (names : FileNames) (start : State) (script : List ℕ) (end : Option State) (before now : Option (List ℕ)) (status : ℕ) → IsPackStatus status
+pub packed-refusal : (told : Option Told) (names : FileNames) (start : State) (script : List ℕ) (end : Option State) (before now : Option (List ℕ)) (status : ℕ) → IsScriptStatus status
     → IfSome told (λ t. IsStartOf t names start) → IfSome told (λ t. IsScriptOf t names.script script)
     → (status ≡ 0 → IfSome told (λ t. WroteSnapshot t start (script_lines script) end before now))
     → (status ≡ 4 → IfSome told (λ t. WroteSnapshotFront t start (script_lines script) before now))
@@ -142,39 +142,12 @@ pub packed-refusal : (told : Option Told) (names : FileNames) (start : State) (s
 packed-refusal None names start script end before now status known is is_script all front = tt
 packed-refusal (Some t) names start script end before now status known is is_script all front = λ cause refused. go cause refused known
   where
-    go : (cause : Cause) → IsPackRefused t names cause → IsPackStatus status → (status ≡ 6) ⊎ (status ≡ 5) ⊎ (status ≡ 3)
+    go : (cause : Cause) → IsPackRefused t names cause → IsScriptStatus status → (status ≡ 6) ⊎ (status ≡ 5) ⊎ (status ≡ 3)
     go cause refused (inl h) = let w = all h in absurd (not-far t names start script w.state is is_script w.leads w.fits cause refused)
     go cause refused (inr (inl h)) = inr (inr h)
     go cause refused (inr (inr (inl h))) = let w = front h in absurd (not-far t names start script w.state is is_script w.leads w.fits cause refused)
     go cause refused (inr (inr (inr (inl h)))) = inr (inl h)
     go cause refused (inr (inr (inr (inr h)))) = inl h
-
-pub packed-complete : (told : Option Told) (names : FileNames) (status : ℕ) (files out : Type 0) (S : Cause → Type 0) → IsPackStatus status → (status ≡ 3 → files) → (status ≡ 4 → out)
-    → (status ≡ 6 → IfSome told (λ t. (cause : Cause) × IsPackRefused t names cause × S cause))
-    → IfSome told (λ t. IsPackUnrefused t names → (files → ⊥) → (out → ⊥) → (status ≡ 0) ⊎ (status ≡ 5))
-packed-complete None names status files out S known f o refused = tt
-packed-complete (Some t) names status files out S known f o refused = λ fine no_files no_out. go fine no_files no_out known
-  where
-    go : IsPackUnrefused t names → (files → ⊥) → (out → ⊥) → IsPackStatus status → (status ≡ 0) ⊎ (status ≡ 5)
-    go fine no_files no_out (inl h) = inl h
-    go fine no_files no_out (inr (inl h)) = absurd (no_files (f h))
-    go fine no_files no_out (inr (inr (inl h))) = absurd (no_out (o h))
-    go fine no_files no_out (inr (inr (inr (inl h)))) = inr h
-    go fine no_files no_out (inr (inr (inr (inr h)))) = let why = refused h in absurd (fine why.0 why.1)
-
-pub packed-steady : (told : Option Told) (names : FileNames) (status : ℕ) (out : Type 0) (S : Cause → Type 0) → IsPackStatus status → (status ≡ 4 → out)
-    → IfSome told (λ t. AllTold t names → status ≡ 3 → ⊥)
-    → (status ≡ 6 → IfSome told (λ t. (cause : Cause) × IsPackRefused t names cause × S cause))
-    → IfSome told (λ t. AllTold t names → IsPackUnrefused t names → (out → ⊥) → (status ≡ 0) ⊎ (status ≡ 5))
-packed-steady None names status out S known o found refused = tt
-packed-steady (Some t) names status out S known o found refused = λ all fine no_out. go all fine no_out known
-  where
-    go : AllTold t names → IsPackUnrefused t names → (out → ⊥) → IsPackStatus status → (status ≡ 0) ⊎ (status ≡ 5)
-    go all fine no_out (inl h) = inl h
-    go all fine no_out (inr (inl h)) = absurd (found all h)
-    go all fine no_out (inr (inr (inl h))) = absurd (no_out (o h))
-    go all fine no_out (inr (inr (inr (inl h)))) = inr h
-    go all fine no_out (inr (inr (inr (inr h)))) = let why = refused h in absurd (fine why.0 why.1)
 
 -- the statuses at which out took nothing
 pub no-later : (s n : ℕ) → s ≡ n → n < 5 → (s ≡ 5) ⊎ (s ≡ 6) → ⊥

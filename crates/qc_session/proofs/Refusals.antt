@@ -1,72 +1,116 @@
--- What follows where a file of the words wasn't read.
-use Rattle.std.proofs.Common.{◌≡◌, ◌≤◌, ◌<◌, ℕ, List, refl, Option, Some, None, IfSome, inl, inr, arith, length}
+-- What follows where a file of the words wasn't read, or is refused.
+use Rattle.std.proofs.Common.{◌≡◌, ◌≤◌, ◌<◌, ◌⊎◌, ℕ, List, refl, Option, Some, None, IfSome, inl, inr, arith, length, ap}
+use Rattle.std.specs.Prelude.{IsSomeAnd}
+use Rattle.cube_defs.specs.declared.limits.TheConstants.{MAX_FILE}
 use Rattle.qc_io.specs.Outside.{Told}
 use Rattle.qc_schema.specs.Progress.{Fault}
 use Rattle.qc_session.specs.Lines.{script_lines}
-use Rattle.qc_session.specs.Runs.{Cause, Usage, CannotRead, CannotWrite, HasNoStart, IsRefused, OutOfMemory, LongSnapshot, NoSchema, NoSnapshot, TooLong, IsNever, IsStartOf, IsScriptOf, StoppedAt, ReadFails, Said, Unread, status_of}
+use Rattle.qc_session.specs.Runs.{Cause, Usage, CannotRead, CannotWrite, HasNoStart, IsRefused, IsScriptStatus, NotBegun, OutOfMemory, LongSnapshot, NoSchema, NoSnapshot, TooLong, IsNever, IsStartOf, IsScriptOf, StoppedAt, ReadFails, Said, Unread, status_of}
 use Rattle.qc_session.specs.Forms.{FileNames}
 use Rattle.warehouse.specs.State.{State}
 
-pub unread-first : (told : Option Told) (names : FileNames) (rose sure told_on_err : Type 0) (cause : Cause) (skipped : List ℕ) (before now err err2 : Option (List ℕ))
-    → ReadFails told names.first rose sure (HasNoStart names) cause → status_of cause ≡ 3 → now ≡ before → Said told_on_err cause err err2
-    → IfSome told (λ t. (name : List ℕ) × Unread t sure names skipped name before now × Said told_on_err (CannotRead name) err err2)
-unread-first told names rose sure r Usage skipped before now err err2 h is same said = absurd h
-unread-first None names rose sure r (CannotRead file) skipped before now err err2 h is same said = tt
-unread-first (Some t) names rose sure r (CannotRead file) skipped before now err err2 h is same said =
-    (file, inl (record { is_first = h.0; nothing = same; untold = λ s. rw h.0 (h.2 s) }), said)
-unread-first told names rose sure r CannotWrite skipped before now err err2 h is same said = absurd h
-unread-first told names rose sure r OutOfMemory skipped before now err err2 h is same said = absurd (omega (arith, is))
-unread-first told names rose sure r (NoSchema fault) skipped before now err err2 h is same said = absurd (omega (arith, is))
-unread-first told names rose sure r NoSnapshot skipped before now err err2 h is same said = absurd (omega (arith, is))
-unread-first told names rose sure r LongSnapshot skipped before now err err2 h is same said = absurd h
-unread-first told names rose sure r (TooLong file) skipped before now err err2 h is same said = absurd (omega (arith, is))
+-- a cause with the status 3, of which it is told what wasn't read
+abbrev IsUnread : Option Told → FileNames → Type 0 → Cause → Type 0
+IsUnread told names sure cause =
+    IfSome told (λ t. (name : List ℕ) × (cause ≡ CannotRead name) × ((skipped : List ℕ) (bytes : Option (List ℕ)) → Unread t sure names skipped name bytes bytes))
 
-pub refused-first : (told : Option Told) (names : FileNames) (rose sure r : Type 0) (cause : Cause) (err err2 : Option (List ℕ))
-    → ReadFails told names.first rose sure (HasNoStart names) cause → status_of cause ≡ 6 → Said r cause err err2
+module _ (told : Option Told) (names : FileNames) (rose sure : Type 0) where
+  unread-named : (file : List ℕ) → rose → IsUnread told names sure (CannotRead file) → NotBegun told names rose sure (CannotRead file)
+  unread-named file did h = record { known = inl refl; rose = λ _. did; unread = λ _. h; refused = λ e. absurd (omega (arith, e)) }
+
+  no-memory : NotBegun told names rose sure OutOfMemory
+  no-memory = record { known = inr (inl refl); rose = λ e. absurd (omega (arith, e)); unread = λ e. absurd (omega (arith, e)); refused = λ e. absurd (omega (arith, e)) }
+
+  refused-for : (cause : Cause) → status_of cause ≡ 6 → IfSome told (λ t. IsRefused t names cause) → NotBegun told names rose sure cause
+  refused-for cause six h = record { known = inr (inr six); rose = λ e. absurd (omega (arith, six, e)); unread = λ e. absurd (omega (arith, six, e)); refused = λ _. h }
+
+pub first-not-begun : (told : Option Told) (names : FileNames) (rose sure : Type 0) (cause : Cause) → ReadFails told names.first rose sure (HasNoStart names) cause → NotBegun told names rose sure cause
+first-not-begun told names rose sure Usage h = absurd h
+first-not-begun told names rose sure (CannotRead file) h = unread-named told names rose sure file h.1 (by told h.2)
+  where
+    by : (told : Option Told) → IfSome told (λ t. sure → t names.first ≡ None) → IsUnread told names sure (CannotRead file)
+    by None u = tt
+    by (Some t) u = (file, refl, λ skipped bytes. inl (record { is_first = h.0; nothing = refl; untold = λ s. rw h.0 (u s) }))
+first-not-begun told names rose sure CannotWrite h = absurd h
+first-not-begun told names rose sure OutOfMemory h = no-memory told names rose sure
+first-not-begun told names rose sure (NoSchema fault) h = refused-for told names rose sure (NoSchema fault) refl (by told h)
+  where
+    by : (told : Option Told) → IfSome told (HasNoStart names (NoSchema fault)) → IfSome told (λ t. IsRefused t names (NoSchema fault))
+    by None u = tt
+    by (Some t) u = inr (inl u)
+first-not-begun told names rose sure NoSnapshot h = refused-for told names rose sure NoSnapshot refl (by told h)
+  where
+    by : (told : Option Told) → IfSome told (HasNoStart names NoSnapshot) → IfSome told (λ t. IsRefused t names NoSnapshot)
+    by None u = tt
+    by (Some t) u = inr (inl u)
+first-not-begun told names rose sure LongSnapshot h = absurd h
+first-not-begun told names rose sure (TooLong file) h = refused-for told names rose sure (TooLong file) refl (by told h.1)
+  where
+    by : (told : Option Told) → IfSome told (λ t. IsSomeAnd (t names.first) (λ bytes. MAX_FILE < length bytes)) → IfSome told (λ t. IsRefused t names (TooLong file))
+    by None u = tt
+    by (Some t) u = inl (u, ap TooLong h.0)
+
+pub script-not-begun : (told : Option Told) (names : FileNames) (start : State) (rose later sure sure2 : Type 0) (cause : Cause) → IfSome told (λ t. IsStartOf t names start) → (sure → sure2) → (later → rose)
+    → ReadFails told names.script later sure2 IsNever cause → NotBegun told names rose sure cause
+script-not-begun told names start rose later sure sure2 Usage is surer sooner h = absurd h
+script-not-begun told names start rose later sure sure2 (CannotRead file) is surer sooner h = unread-named told names rose sure file (sooner h.1) (by told is h.2)
+  where
+    by : (told : Option Told) → IfSome told (λ t. IsStartOf t names start) → IfSome told (λ t. sure2 → t names.script ≡ None) → IsUnread told names sure (CannotRead file)
+    by None is u = tt
+    by (Some t) is u = (file, refl, λ skipped bytes. inr (inl (record { is_script = h.0; start = start; start_read = is; nothing = refl; untold = λ s. rw h.0 (u (surer s)) })))
+script-not-begun told names start rose later sure sure2 CannotWrite is surer sooner h = absurd h
+script-not-begun told names start rose later sure sure2 OutOfMemory is surer sooner h = no-memory told names rose sure
+script-not-begun told names start rose later sure sure2 (NoSchema fault) is surer sooner h = refused-for told names rose sure (NoSchema fault) refl (by told h)
+  where
+    by : (told : Option Told) → IfSome told (IsNever (NoSchema fault)) → IfSome told (λ t. IsRefused t names (NoSchema fault))
+    by None u = tt
+    by (Some t) u = absurd u
+script-not-begun told names start rose later sure sure2 NoSnapshot is surer sooner h = refused-for told names rose sure NoSnapshot refl (by told h)
+  where
+    by : (told : Option Told) → IfSome told (IsNever NoSnapshot) → IfSome told (λ t. IsRefused t names NoSnapshot)
+    by None u = tt
+    by (Some t) u = absurd u
+script-not-begun told names start rose later sure sure2 LongSnapshot is surer sooner h = absurd h
+script-not-begun told names start rose later sure sure2 (TooLong file) is surer sooner h = refused-for told names rose sure (TooLong file) refl (by told is h.1)
+  where
+    by : (told : Option Told) → IfSome told (λ t. IsStartOf t names start) → IfSome told (λ t. IsSomeAnd (t names.script) (λ bytes. MAX_FILE < length bytes)) → IfSome told (λ t. IsRefused t names (TooLong file))
+    by None is u = tt
+    by (Some t) is u = inr (inr (start, is, (u, ap TooLong h.0)))
+
+-- what a run tells that ends so
+pub begun-status : (told : Option Told) (names : FileNames) (rose sure : Type 0) (cause : Cause) (status : ℕ) → NotBegun told names rose sure cause → status ≡ status_of cause → IsScriptStatus status
+begun-status told names rose sure cause status h is = rw is (by h.known)
+  where
+    by : (status_of cause ≡ 3) ⊎ (status_of cause ≡ 5) ⊎ (status_of cause ≡ 6) → IsScriptStatus (status_of cause)
+    by (inl e) = inr (inl e)
+    by (inr late) = inr (inr (inr late))
+
+pub begun-unread : (told : Option Told) (names : FileNames) (rose sure r : Type 0) (cause : Cause) (skipped : List ℕ) (bytes err err2 : Option (List ℕ)) → NotBegun told names rose sure cause → status_of cause ≡ 3 → Said r cause err err2
+    → IfSome told (λ t. (name : List ℕ) × Unread t sure names skipped name bytes bytes × Said r (CannotRead name) err err2)
+begun-unread told names rose sure r cause skipped bytes err err2 h is said = by told (h.unread is)
+  where
+    by : (told : Option Told) → IsUnread told names sure cause → IfSome told (λ t. (name : List ℕ) × Unread t sure names skipped name bytes bytes × Said r (CannotRead name) err err2)
+    by None u = tt
+    by (Some t) (name, same, unread) = (name, unread skipped bytes, rw same at said)
+
+pub begun-refused : (told : Option Told) (names : FileNames) (rose sure r : Type 0) (cause : Cause) (err err2 : Option (List ℕ)) → NotBegun told names rose sure cause → status_of cause ≡ 6 → Said r cause err err2
     → IfSome told (λ t. (found : Cause) × IsRefused t names found × Said r found err err2)
-refused-first told names rose sure r Usage err err2 h is said = absurd h
-refused-first told names rose sure r (CannotRead file) err err2 h is said = absurd (omega (arith, is))
-refused-first told names rose sure r CannotWrite err err2 h is said = absurd h
-refused-first told names rose sure r OutOfMemory err err2 h is said = absurd (omega (arith, is))
-refused-first None names rose sure r (NoSchema fault) err err2 h is said = tt
-refused-first (Some t) names rose sure r (NoSchema fault) err err2 h is said = (NoSchema fault, inr (inl h), said)
-refused-first None names rose sure r NoSnapshot err err2 h is said = tt
-refused-first (Some t) names rose sure r NoSnapshot err err2 h is said = (NoSnapshot, inr (inl h), said)
-refused-first told names rose sure r LongSnapshot err err2 h is said = absurd h
-refused-first None names rose sure r (TooLong file) err err2 h is said = tt
-refused-first (Some t) names rose sure r (TooLong file) err err2 h is said = (TooLong names.first, inl (h.1, refl), rw h.0 at said)
+begun-refused told names rose sure r cause err err2 h is said = by told (h.refused is)
+  where
+    by : (told : Option Told) → IfSome told (λ t. IsRefused t names cause) → IfSome told (λ t. (found : Cause) × IsRefused t names found × Said r found err err2)
+    by None u = tt
+    by (Some t) u = (cause, u, said)
 
-pub unread-script : (told : Option Told) (names : FileNames) (start : State) (rose sure sure2 told_on_err : Type 0) (cause : Cause) (skipped : List ℕ) (before now err err2 : Option (List ℕ))
-    → IfSome told (λ t. IsStartOf t names start)
-    → (sure → sure2) → ReadFails told names.script rose sure2 IsNever cause → status_of cause ≡ 3 → now ≡ before → Said told_on_err cause err err2
-    → IfSome told (λ t. (name : List ℕ) × Unread t sure names skipped name before now × Said told_on_err (CannotRead name) err err2)
-unread-script told names start rose sure sure2 r Usage skipped before now err err2 is_read surer h is same said = absurd h
-unread-script None names start rose sure sure2 r (CannotRead file) skipped before now err err2 is_read surer h is same said = tt
-unread-script (Some t) names start rose sure sure2 r (CannotRead file) skipped before now err err2 is_read surer h is same said =
-    (file, inr (inl (record { is_script = h.0; start = start; start_read = is_read; nothing = same; untold = λ s. rw h.0 (h.2 (surer s)) })), said)
-unread-script told names start rose sure sure2 r CannotWrite skipped before now err err2 is_read surer h is same said = absurd h
-unread-script told names start rose sure sure2 r OutOfMemory skipped before now err err2 is_read surer h is same said = absurd (omega (arith, is))
-unread-script told names start rose sure sure2 r (NoSchema fault) skipped before now err err2 is_read surer h is same said = absurd (omega (arith, is))
-unread-script told names start rose sure sure2 r NoSnapshot skipped before now err err2 is_read surer h is same said = absurd (omega (arith, is))
-unread-script told names start rose sure sure2 r LongSnapshot skipped before now err err2 is_read surer h is same said = absurd h
-unread-script told names start rose sure sure2 r (TooLong file) skipped before now err err2 is_read surer h is same said = absurd (omega (arith, is))
-
-pub refused-script : (told : Option Told) (names : FileNames) (start : State) (rose sure r : Type 0) (cause : Cause) (err err2 : Option (List ℕ))
-    → IfSome told (λ t. IsStartOf t names start)
-    → ReadFails told names.script rose sure IsNever cause → status_of cause ≡ 6 → Said r cause err err2
-    → IfSome told (λ t. (found : Cause) × IsRefused t names found × Said r found err err2)
-refused-script told names start rose sure r Usage err err2 is_read h is said = absurd h
-refused-script told names start rose sure r (CannotRead file) err err2 is_read h is said = absurd (omega (arith, is))
-refused-script told names start rose sure r CannotWrite err err2 is_read h is said = absurd h
-refused-script told names start rose sure r OutOfMemory err err2 is_read h is said = absurd (omega (arith, is))
-refused-script None names start rose sure r (NoSchema fault) err err2 is_read h is said = tt
-refused-script (Some t) names start rose sure r (NoSchema fault) err err2 is_read h is said = absurd h
-refused-script None names start rose sure r NoSnapshot err err2 is_read h is said = tt
-refused-script (Some t) names start rose sure r NoSnapshot err err2 is_read h is said = absurd h
-refused-script told names start rose sure r LongSnapshot err err2 is_read h is said = absurd h
-refused-script None names start rose sure r (TooLong file) err err2 is_read h is said = tt
-refused-script (Some t) names start rose sure r (TooLong file) err err2 is_read h is said =
-    (TooLong names.script, inr (inr (start, is_read, (h.1, refl))), rw h.0 at said)
+-- where one is refused, no other status comes
+pub begun-refusal : (told : Option Told) (names : FileNames) (rose sure : Type 0) (cause : Cause) (status : ℕ) (R : Told → Cause → Type 0) → NotBegun told names rose sure cause → status ≡ status_of cause
+    → IfSome told (λ t. (found : Cause) → R t found → (status ≡ 6) ⊎ (status ≡ 5) ⊎ (status ≡ 3))
+begun-refusal None names rose sure cause status R h is = tt
+begun-refusal (Some t) names rose sure cause status R h is = λ found refused. rw is (by h.known)
+  where
+    by : (status_of cause ≡ 3) ⊎ (status_of cause ≡ 5) ⊎ (status_of cause ≡ 6) → (status_of cause ≡ 6) ⊎ (status_of cause ≡ 5) ⊎ (status_of cause ≡ 3)
+    by (inl e) = inr (inr e)
+    by (inr (inl e)) = inr (inl e)
+    by (inr (inr e)) = inl e
 
 pub unread-line : (told : Option Told) (names : FileNames) (start : State) (script : List ℕ) (sure sure2 r : Type 0) (skipped : List ℕ) (before now err err2 : Option (List ℕ))
     → IfSome told (λ t. IsStartOf t names start) → IfSome told (λ t. IsScriptOf t names.script script)

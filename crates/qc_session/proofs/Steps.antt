@@ -7,6 +7,7 @@ use Rattle.std.proofs.lemmas.Bool.Decides.{nat_tests}
 use Rattle.qc_io.specs.Outside.{Told, taking}
 use Rattle.qc_session.specs.Handed.{IsHandedOn, TookFront}
 use Rattle.qc_session.specs.Lines.{is_passed}
+use Rattle.qc_session.specs.Pins.{PinnedState, unpinned}
 use Rattle.reply_text.specs.Replies.{memory_text}
 use Rattle.qc_session.specs.Answers.{answer, file_of}
 use Rattle.warehouse.specs.State.{State}
@@ -26,43 +27,43 @@ skipped_now : (number : ℕ) (skipped : List ℕ) → is_skipped (skipped ++ (nu
 skipped_now number [] = grind (arith, nat_tests)
 skipped_now number (k ∷ ks) = rw (skipped_now number ks) (grind (arith, nat_tests))
 
-replies-answer : (t : Told) (skipped : List ℕ) (number : ℕ) (state : State) (line : List ℕ) (state2 : State) (reply : List ℕ) → is_passed line ≡ false → AreUpTo number skipped
+replies-answer : (t : Told) (skipped : List ℕ) (number : ℕ) (state : PinnedState) (line : List ℕ) (state2 : PinnedState) (reply : List ℕ) → is_passed line ≡ false → AreUpTo number skipped
     → answer state t (number + 1) line ≡ Some (record { state = state2; reply = reply }) → Replies t skipped (number + 1) state line state2 reply
 replies-answer t skipped number state line state2 reply passed up e = record { is = λ replies. rw (passed, not_skipped number skipped up, e) refl }
 
-replies-memory : (t : Told) (skipped : List ℕ) (number : ℕ) (state : State) (line : List ℕ) → is_passed line ≡ false
+replies-memory : (t : Told) (skipped : List ℕ) (number : ℕ) (state : PinnedState) (line : List ℕ) → is_passed line ≡ false
     → Replies t (skipped ++ (number + 1) ∷ []) (number + 1) state line state (memory_text (number + 1))
 replies-memory t skipped number state line passed = record { is = λ replies. rw (passed, skipped_now number skipped) refl }
 
-replies-passed : (t : Told) (skipped : List ℕ) (number : ℕ) (state : State) (line : List ℕ) → is_passed line ≡ true → Replies t skipped (number + 1) state line state []
+replies-passed : (t : Told) (skipped : List ℕ) (number : ℕ) (state : PinnedState) (line : List ℕ) → is_passed line ≡ true → Replies t skipped (number + 1) state line state []
 replies-passed t skipped number state line passed = record { is = λ replies. rw (passed, append-nil replies) refl }
 
-pub wrote-answer : (told : Option Told) (skipped : List ℕ) (number : ℕ) (state : State) (line : List ℕ) (state2 : State) (reply kept kept2 : List ℕ) (before now : Option (List ℕ)) → is_passed line ≡ false → AreUpTo number skipped
+pub wrote-answer : (told : Option Told) (skipped : List ℕ) (number : ℕ) (state : PinnedState) (line : List ℕ) (state2 : PinnedState) (reply kept kept2 : List ℕ) (before now : Option (List ℕ)) → is_passed line ≡ false → AreUpTo number skipped
     → IfSome told (λ t. answer state t (number + 1) line ≡ Some (record { state = state2; reply = reply })) → IsHandedOn (kept ++ reply) kept2 before now → WroteLine told skipped (number + 1) state line state2 kept kept2 before now
 wrote-answer None skipped number state line state2 reply kept kept2 before now passed up e w = tt
 wrote-answer (Some t) skipped number state line state2 reply kept kept2 before now passed up e w = (reply, replies-answer t skipped number state line state2 reply passed up e, w)
 
-pub part-answer : (told : Option Told) (skipped : List ℕ) (number : ℕ) (state : State) (line : List ℕ) (state2 : State) (reply kept : List ℕ) (before now : Option (List ℕ)) → is_passed line ≡ false → AreUpTo number skipped
+pub part-answer : (told : Option Told) (skipped : List ℕ) (number : ℕ) (state : PinnedState) (line : List ℕ) (state2 : PinnedState) (reply kept : List ℕ) (before now : Option (List ℕ)) → is_passed line ≡ false → AreUpTo number skipped
     → IfSome told (λ t. answer state t (number + 1) line ≡ Some (record { state = state2; reply = reply })) → TookFront (kept ++ reply) before now → WrotePart told skipped skipped (number + 1) state line state2 kept before now
 part-answer None skipped number state line state2 reply kept before now passed up e w = tt
 part-answer (Some t) skipped number state line state2 reply kept before now passed up e w = inr (reply, replies-answer t skipped number state line state2 reply passed up e, w)
 
-pub wrote-memory : (told : Option Told) (skipped new : List ℕ) (number : ℕ) (state state2 : State) (line kept kept2 : List ℕ) (before now : Option (List ℕ)) → is_passed line ≡ false → new ≡ skipped ++ (number + 1) ∷ []
+pub wrote-memory : (told : Option Told) (skipped new : List ℕ) (number : ℕ) (state state2 : PinnedState) (line kept kept2 : List ℕ) (before now : Option (List ℕ)) → is_passed line ≡ false → new ≡ skipped ++ (number + 1) ∷ []
     → state2 ≡ state → IsHandedOn (kept ++ memory_text (number + 1)) kept2 before now → WroteLine told new (number + 1) state line state2 kept kept2 before now
 wrote-memory None skipped new number state state2 line kept kept2 before now passed is same w = tt
 wrote-memory (Some t) skipped new number state state2 line kept kept2 before now passed is same w = (memory_text (number + 1), rw (is, same) (replies-memory t skipped number state line passed), w)
 
-pub part-memory : (told : Option Told) (skipped new : List ℕ) (number : ℕ) (state state2 : State) (line kept : List ℕ) (before now : Option (List ℕ)) → is_passed line ≡ false → new ≡ skipped ++ (number + 1) ∷ []
+pub part-memory : (told : Option Told) (skipped new : List ℕ) (number : ℕ) (state state2 : PinnedState) (line kept : List ℕ) (before now : Option (List ℕ)) → is_passed line ≡ false → new ≡ skipped ++ (number + 1) ∷ []
     → state2 ≡ state → TookFront (kept ++ memory_text (number + 1)) before now → WrotePart told skipped new (number + 1) state line state2 kept before now
 part-memory None skipped new number state state2 line kept before now passed is same w = tt
 part-memory (Some t) skipped new number state state2 line kept before now passed is same w = inr (memory_text (number + 1), rw (is, same) (replies-memory t skipped number state line passed), w)
 
 -- the line wasn't taken
-pub part-before : (told : Option Told) (skipped : List ℕ) (number : ℕ) (state : State) (line : List ℕ) (state2 : State) (kept : List ℕ) (before now : Option (List ℕ)) → TookFront kept before now → WrotePart told skipped skipped number state line state2 kept before now
+pub part-before : (told : Option Told) (skipped : List ℕ) (number : ℕ) (state : PinnedState) (line : List ℕ) (state2 : PinnedState) (kept : List ℕ) (before now : Option (List ℕ)) → TookFront kept before now → WrotePart told skipped skipped number state line state2 kept before now
 part-before None skipped number state line state2 kept before now w = tt
 part-before (Some t) skipped number state line state2 kept before now w = inl (refl, w)
 
-pub wrote-passed : (told : Option Told) (skipped : List ℕ) (number : ℕ) (state : State) (line kept : List ℕ) (before : Option (List ℕ)) → is_passed line ≡ true → WroteLine told skipped (number + 1) state line state kept kept before before
+pub wrote-passed : (told : Option Told) (skipped : List ℕ) (number : ℕ) (state : PinnedState) (line kept : List ℕ) (before : Option (List ℕ)) → is_passed line ≡ true → WroteLine told skipped (number + 1) state line state kept kept before before
 wrote-passed None skipped number state line kept before passed = tt
 wrote-passed (Some t) skipped number state line kept before passed = ([], replies-passed t skipped number state line passed, rw (append-nil kept) (handed-none kept before))
 
@@ -85,20 +86,20 @@ items-push skipped n (l ∷ lines) line =
     ap (λ (more : List Item). item skipped (n + 1) l ∷ more) (items-push skipped (n + 1) lines line ∙ ap (λ m. items skipped (n + 1) lines ++ item skipped m line ∷ []) same)
 
 -- the transcript with one line more
-took-push : (t : Told) (start : State) (skipped : List ℕ) (lines : List (List ℕ)) (line : List ℕ) (state : State) (replies : List ℕ) (state2 : State) (reply : List ℕ) → Took t start skipped lines state replies
+took-push : (t : Told) (start : State) (skipped : List ℕ) (lines : List (List ℕ)) (line : List ℕ) (state : PinnedState) (replies : List ℕ) (state2 : PinnedState) (reply : List ℕ) → Took t start skipped lines state replies
     → Replies t skipped (length lines + 1) state line state2 reply → Took t start skipped (lines ++ line ∷ []) state2 (replies ++ reply)
 unfolding transcript
 took-push t start skipped lines line state replies state2 reply took r =
     let num : 0 + length lines + 1 ≡ length lines + 1 = omega arith in
     record {
-      is = ap (λ (xs : List Item). fold (step t) (run_at start []) xs) (items-push skipped 0 lines line)
-          ∙ fold-append (step t) (run_at start []) (items skipped 0 lines) (item skipped (0 + length lines + 1) line ∷ [])
+      is = ap (λ (xs : List Item). fold (step t) (run_at (unpinned start) []) xs) (items-push skipped 0 lines line)
+          ∙ fold-append (step t) (run_at (unpinned start) []) (items skipped 0 lines) (item skipped (0 + length lines + 1) line ∷ [])
           ∙ ap (λ (r : Run). step t r (item skipped (0 + length lines + 1) line)) took.is
           ∙ ap (λ m. step t (run_at state replies) (item skipped m line)) num
           ∙ r.is replies;
     }
 
-took-skips : (t : Told) (start : State) (skipped new : List ℕ) (lines : List (List ℕ)) (line : List ℕ) (state : State) (replies : List ℕ) → Skips skipped (length lines + 1) line new → Took t start skipped lines state replies → Took t start new lines state replies
+took-skips : (t : Told) (start : State) (skipped new : List ℕ) (lines : List (List ℕ)) (line : List ℕ) (state : PinnedState) (replies : List ℕ) → Skips skipped (length lines + 1) line new → Took t start skipped lines state replies → Took t start new lines state replies
 unfolding transcript
 took-skips t start skipped new lines line state replies (inl same) took = rw same took
 took-skips t start skipped new lines line state replies (inr more) took =
@@ -106,16 +107,16 @@ took-skips t start skipped new lines line state replies (inr more) took =
     record { is = rw (more.0, items-later skipped 0 (length lines + 1) lines past) took.is }
 
 -- what a loop over the lines knows
-abbrev pub GatheredSoFar : Option Told → State → List ℕ → List (List ℕ) → State → List ℕ → Option (List ℕ) → Option (List ℕ) → Type 0
+abbrev pub GatheredSoFar : Option Told → State → List ℕ → List (List ℕ) → PinnedState → List ℕ → Option (List ℕ) → Option (List ℕ) → Type 0
 GatheredSoFar told start skipped lines state kept before now = IfSome told (λ t. Gathered t start skipped lines state kept before now)
 
-pub so_far-none : (told : Option Told) (start : State) (first : Option (List ℕ)) → GatheredSoFar told start [] [] start [] first first
+pub so_far-none : (told : Option Told) (start : State) (first : Option (List ℕ)) → GatheredSoFar told start [] [] (unpinned start) [] first first
 unfolding transcript items
 so_far-none None start first = tt
 so_far-none (Some t) start first = record { replies = []; took = record { is = refl }; handed = handed-none [] first }
 
 -- the lines so far with one line more
-pub so_far-push : (told : Option Told) (start : State) (skipped new : List ℕ) (lines : List (List ℕ)) (line : List ℕ) (number : ℕ) (state state2 : State) (kept kept2 : List ℕ) (first before now : Option (List ℕ)) → length lines ≡ number
+pub so_far-push : (told : Option Told) (start : State) (skipped new : List ℕ) (lines : List (List ℕ)) (line : List ℕ) (number : ℕ) (state state2 : PinnedState) (kept kept2 : List ℕ) (first before now : Option (List ℕ)) → length lines ≡ number
     → Skips skipped (number + 1) line new → GatheredSoFar told start skipped lines state kept first before → WroteLine told new (number + 1) state line state2 kept kept2 before now → GatheredSoFar told start new (lines ++ line ∷ []) state2 kept2 first now
 so_far-push None start skipped new lines line number state state2 kept kept2 first before now len skips w h = tt
 so_far-push (Some t) start skipped new lines line number state state2 kept kept2 first before now len skips w h =
@@ -127,14 +128,14 @@ so_far-push (Some t) start skipped new lines line number state state2 kept kept2
     }
 
 -- out took a front of the replies of the lines so far
-stopped-writing : (t : Told) (start : State) (skipped : List ℕ) (lines rest all : List (List ℕ)) (state : State) (replies : List ℕ) (first now : Option (List ℕ)) → Took t start skipped lines state replies → TookFront replies first now → all ≡ lines ++ rest
+stopped-writing : (t : Told) (start : State) (skipped : List ℕ) (lines rest all : List (List ℕ)) (state : PinnedState) (replies : List ℕ) (first now : Option (List ℕ)) → Took t start skipped lines state replies → TookFront replies first now → all ≡ lines ++ rest
     → StoppedWriting t start skipped all first now
 stopped-writing t start skipped lines rest all state replies first now took front split =
     let (count, is) = taken-count replies first now front in
     record { done = lines; rest = rest; split = split; wrote = record { state = state; replies = replies; count = count; took = took; wrote = is } }
 
 -- the same with a part of one line's reply
-pub front-push : (told : Option Told) (start : State) (skipped new : List ℕ) (lines : List (List ℕ)) (line : List ℕ) (rest : List (List ℕ)) (number : ℕ) (state state2 : State) (kept : List ℕ) (first before now : Option (List ℕ)) → length lines ≡ number
+pub front-push : (told : Option Told) (start : State) (skipped new : List ℕ) (lines : List (List ℕ)) (line : List ℕ) (rest : List (List ℕ)) (number : ℕ) (state state2 : PinnedState) (kept : List ℕ) (first before now : Option (List ℕ)) → length lines ≡ number
     → Skips skipped (number + 1) line new → GatheredSoFar told start skipped lines state kept first before → WrotePart told skipped new (number + 1) state line state2 kept before now → (all : List (List ℕ)) → all ≡ lines ++ line ∷ rest
     → IfSome told (λ t. StoppedWriting t start new all first now)
 front-push None start skipped new lines line rest number state state2 kept first before now len skips w h all split = tt
@@ -148,7 +149,7 @@ front-push (Some t) start skipped new lines line rest number state state2 kept f
     (split ∙ sym (append_assoc lines (line ∷ []) rest))
 
 -- the same at the end of the lines
-pub front-end : (told : Option Told) (start : State) (skipped : List ℕ) (lines all : List (List ℕ)) (state : State) (kept : List ℕ) (first before now : Option (List ℕ)) → GatheredSoFar told start skipped lines state kept first before → TookFront kept before now
+pub front-end : (told : Option Told) (start : State) (skipped : List ℕ) (lines all : List (List ℕ)) (state : PinnedState) (kept : List ℕ) (first before now : Option (List ℕ)) → GatheredSoFar told start skipped lines state kept first before → TookFront kept before now
     → all ≡ lines ++ [] → IfSome told (λ t. StoppedWriting t start skipped all first now)
 front-end None start skipped lines all state kept first before now w front split = tt
 front-end (Some t) start skipped lines all state kept first before now w front split =
@@ -160,8 +161,8 @@ all-handed replies kept first before now h end =
     let whole = handed-then replies kept [] first before now h end in
     whole.took ∙ ap (λ (xs : List ℕ). taking xs first) (sym (whole.split ∙ append-nil whole.front))
 
-pub stopped-at : (told : Option Told) (sure : Type 0) (start : State) (skipped new : List ℕ) (lines : List (List ℕ)) (line : List ℕ) (rest : List (List ℕ)) (name : List ℕ) (state : State) (kept : List ℕ) (first before now : Option (List ℕ))
-    → file_of state.schema line ≡ Some name → new ≡ skipped → IsHandedOn kept [] before now → GatheredSoFar told start skipped lines state kept first before
+pub stopped-at : (told : Option Told) (sure : Type 0) (start : State) (skipped new : List ℕ) (lines : List (List ℕ)) (line : List ℕ) (rest : List (List ℕ)) (name : List ℕ) (state : PinnedState) (kept : List ℕ) (first before now : Option (List ℕ))
+    → file_of state.state.schema line ≡ Some name → new ≡ skipped → IsHandedOn kept [] before now → GatheredSoFar told start skipped lines state kept first before
     → (sure → IfSome told (λ t. t name ≡ None)) → (all : List (List ℕ)) → all ≡ lines ++ line ∷ rest
     → IfSome told (λ t. StoppedAt t sure start new all name first now)
 stopped-at None sure start skipped new lines line rest name state kept first before now names is end w untold all split = tt
@@ -175,8 +176,8 @@ stopped-at (Some t) sure start skipped new lines line rest name state kept first
   untold = untold;
 }
 
-pub wrote-all : (told : Option Told) (start : State) (skipped : List ℕ) (lines all : List (List ℕ)) (state : State) (kept : List ℕ) (first before now : Option (List ℕ)) → all ≡ lines ++ [] → GatheredSoFar told start skipped lines state kept first before
-    → IsHandedOn kept [] before now → IfSome told (λ t. WroteAll t start skipped all (Some state) first now)
+pub wrote-all : (told : Option Told) (start : State) (skipped : List ℕ) (lines all : List (List ℕ)) (state : PinnedState) (kept : List ℕ) (first before now : Option (List ℕ)) → all ≡ lines ++ [] → GatheredSoFar told start skipped lines state kept first before
+    → IsHandedOn kept [] before now → IfSome told (λ t. WroteAll t start skipped all (Some state.state) first now)
 wrote-all None start skipped lines all state kept first before now e w end = tt
 wrote-all (Some t) start skipped lines all state kept first before now e w end =
     let same : all ≡ lines = e ∙ append-nil lines in

@@ -1,6 +1,6 @@
 pub mod Lines
 pub mod Handed
-pub mod Lattice
+pub mod Pins
 pub mod Answers
 pub mod Transcript
 pub mod Runs

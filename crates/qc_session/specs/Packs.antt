@@ -6,15 +6,14 @@ use Rattle.qc_io.specs.Outside.{Told, taking}
 use Rattle.warehouse.specs.State.{State}
 use Rattle.qc_session.specs.Forms.{FileNames}
 use Rattle.qc_session.specs.Lines.{script_lines}
+use Rattle.qc_session.specs.Pins.{Pin}
 use Rattle.qc_session.specs.Runs.{Cause, IsRefused, IsScriptOf, IsStartOf, LongSnapshot, Took}
-
-abbrev pub IsPackStatus : ℕ → Type 0
-IsPackStatus s = (s ≡ 0) ⊎ (s ≡ 3) ⊎ (s ≡ 4) ⊎ (s ≡ 5) ⊎ (s ≡ 6)
 
 -- none of these lines is skipped, and they lead from one state to another
 pub record Leads (told : Told) (start : State) (lines : List (List ℕ)) (state : State) : Type 0 where
+  pub pins : List Pin
   pub replies : List ℕ
-  pub took : Took told start [] lines state replies
+  pub took : Took told start [] lines (record { state = state; pins = pins }) replies
 
 -- to one whose snapshot is longer than a file may be
 pub record LeadsTooFar (told : Told) (start : State) (lines : List (List ℕ)) : Type 0 where

@@ -14,10 +14,15 @@ use Rattle.qc_session.specs.Answers.{file_of}
 use Rattle.cube_snapshot.specs.States.{spelling}
 use Rattle.qc_session.specs.Forms.{FileNames, FromSchema, FromSnapshot, Source}
 use Rattle.qc_session.specs.Lines.{is_passed, script_lines}
+use Rattle.qc_session.specs.Pins.{PinnedState}
 use Rattle.qc_session.specs.Transcript.{run_at, transcript}
 
 abbrev pub IsStatus : ℕ → Type 0
 IsStatus s = (s ≡ 0) ⊎ (s ≡ 2) ⊎ (s ≡ 3) ⊎ (s ≡ 4) ⊎ (s ≡ 5) ⊎ (s ≡ 6)
+
+-- that of a run of a script, or of one for its snapshot
+abbrev pub IsScriptStatus : ℕ → Type 0
+IsScriptStatus s = (s ≡ 0) ⊎ (s ≡ 3) ⊎ (s ≡ 4) ⊎ (s ≡ 5) ⊎ (s ≡ 6)
 
 -- why a run ended before the end of its script
 pub data Cause : Type 0 where
@@ -125,12 +130,12 @@ abbrev pub state_in : Option Contents → Option State
 state_in end = option_map (λ held. held.state) end
 
 -- these lines were taken, and these were their replies
-pub record Took (told : Told) (start : State) (skipped : List ℕ) (lines : List (List ℕ)) (state : State) (replies : List ℕ) : Type 0 where
+pub record Took (told : Told) (start : State) (skipped : List ℕ) (lines : List (List ℕ)) (state : PinnedState) (replies : List ℕ) : Type 0 where
   pub is : transcript told start skipped lines ≡ run_at state replies
 
 -- out took the replies of these lines
 pub record Wrote (told : Told) (start : State) (skipped : List ℕ) (lines : List (List ℕ)) (before now : Option (List ℕ)) : Type 0 where
-  pub state : State
+  pub state : PinnedState
   pub replies : List ℕ
   pub took : Took told start skipped lines state replies
   pub wrote : now ≡ taking replies before
@@ -138,11 +143,11 @@ pub record Wrote (told : Told) (start : State) (skipped : List ℕ) (lines : Lis
 -- the same, and this is the state that they left
 pub record WroteAll (told : Told) (start : State) (skipped : List ℕ) (lines : List (List ℕ)) (end : Option State) (before now : Option (List ℕ)) : Type 0 where
   pub wrote : Wrote told start skipped lines before now
-  pub ended : end ≡ Some wrote.state
+  pub ended : end ≡ Some wrote.state.state
 
 -- out took a front of the replies of these lines
 pub record WroteFront (told : Told) (start : State) (skipped : List ℕ) (lines : List (List ℕ)) (before now : Option (List ℕ)) : Type 0 where
-  pub state : State
+  pub state : PinnedState
   pub replies : List ℕ
   pub count : ℕ
   pub took : Took told start skipped lines state replies
@@ -155,7 +160,7 @@ pub record StoppedAt (told : Told) (sure : Type 0) (start : State) (skipped : Li
   pub rest : List (List ℕ)
   pub split : lines ≡ done ++ line ∷ rest
   pub wrote : Wrote told start skipped done before now
-  pub names : file_of wrote.state.schema line ≡ Some name
+  pub names : file_of wrote.state.state.schema line ≡ Some name
   pub untold : sure → told name ≡ None
 
 -- out took a front of the replies of some first lines
@@ -234,3 +239,11 @@ pub record AllTold (told : Told) (names : FileNames) : Type 0 where
   pub first : IsSome (told names.first)
   pub script : IsSome (told names.script)
   pub lines : (start : State) (script : List ℕ) → IsStartOf told names start → IsScriptOf told names.script script → All (IsLineTold told start.schema) (script_lines script)
+
+-- why no line of a script was begun: a file of the words couldn't be read, memory lacked, or one of them is refused
+pub record NotBegun (told : Option Told) (names : FileNames) (faulted sure : Type 0) (cause : Cause) : Type 0 where
+  pub known : (status_of cause ≡ 3) ⊎ (status_of cause ≡ 5) ⊎ (status_of cause ≡ 6)
+  pub rose : status_of cause ≡ 3 → faulted
+  pub unread : status_of cause ≡ 3
+      → IfSome told (λ t. (name : List ℕ) × (cause ≡ CannotRead name) × ((skipped : List ℕ) (bytes : Option (List ℕ)) → Unread t sure names skipped name bytes bytes))
+  pub refused : status_of cause ≡ 6 → IfSome told (λ t. IsRefused t names cause)

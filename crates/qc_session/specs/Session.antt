@@ -2,6 +2,7 @@
 use Rattle.std.specs.Prelude.{◌≡◌, ◌≤◌, ◌⊎◌, ◌++◌, ℕ, true, List, [], ◌∷◌, Option, IfSome, ⊤}
 use Rattle.qc_io.specs.Outside.{Told}
 use Rattle.warehouse.specs.State.{State}
+use Rattle.qc_session.specs.Pins.{PinnedState}
 use Rattle.qc_session.specs.Transcript.{item, run_at, step}
 use Rattle.qc_session.specs.Handed.{IsHandedOn, TookFront}
 use Rattle.qc_session.specs.Runs.{Took, may_skip}
@@ -23,22 +24,22 @@ abbrev pub Skips : List ℕ → ℕ → List ℕ → List ℕ → Type 0
 Skips old number line new = (new ≡ old) ⊎ ((new ≡ old ++ number ∷ []) × (may_skip line ≡ true))
 
 -- a line that leads from this state to that gives this reply
-pub record Replies (told : Told) (skipped : List ℕ) (number : ℕ) (state : State) (line : List ℕ) (state2 : State) (reply : List ℕ) : Type 0 where
+pub record Replies (told : Told) (skipped : List ℕ) (number : ℕ) (state : PinnedState) (line : List ℕ) (state2 : PinnedState) (reply : List ℕ) : Type 0 where
   pub is : (replies : List ℕ) → step told (run_at state replies) (item skipped number line) ≡ run_at state2 (replies ++ reply)
 
 -- out took a front of what was kept and of the reply of a line, and the rest is kept
-abbrev pub WroteLine : Option Told → List ℕ → ℕ → State → List ℕ → State → List ℕ → List ℕ → Option (List ℕ) → Option (List ℕ) → Type 0
+abbrev pub WroteLine : Option Told → List ℕ → ℕ → PinnedState → List ℕ → PinnedState → List ℕ → List ℕ → Option (List ℕ) → Option (List ℕ) → Type 0
 WroteLine told skipped number state line state2 kept kept2 before now =
     IfSome told (λ t. (reply : List ℕ) × Replies t skipped number state line state2 reply × IsHandedOn (kept ++ reply) kept2 before now)
 
 -- out refused the rest: of what was kept before the line, or of that and the line's reply
-abbrev pub WrotePart : Option Told → List ℕ → List ℕ → ℕ → State → List ℕ → State → List ℕ → Option (List ℕ) → Option (List ℕ) → Type 0
+abbrev pub WrotePart : Option Told → List ℕ → List ℕ → ℕ → PinnedState → List ℕ → PinnedState → List ℕ → Option (List ℕ) → Option (List ℕ) → Type 0
 WrotePart told old new number state line state2 kept before now =
     IfSome told (λ t. ((new ≡ old) × TookFront kept before now)
     ⊎ ((reply : List ℕ) × Replies t new number state line state2 reply × TookFront (kept ++ reply) before now))
 
 -- these lines were taken, out took a front of their replies, and the rest is kept
-pub record Gathered (told : Told) (start : State) (skipped : List ℕ) (lines : List (List ℕ)) (state : State) (kept : List ℕ) (before now : Option (List ℕ)) : Type 0 where
+pub record Gathered (told : Told) (start : State) (skipped : List ℕ) (lines : List (List ℕ)) (state : PinnedState) (kept : List ℕ) (before now : Option (List ℕ)) : Type 0 where
   pub replies : List ℕ
   pub took : Took told start skipped lines state replies
   pub handed : IsHandedOn replies kept before now

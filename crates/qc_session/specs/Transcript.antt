@@ -5,16 +5,17 @@ use Rattle.qc_io.specs.Outside.{Told}
 use Rattle.qc_session.specs.Lines.{is_passed}
 use Rattle.reply_text.specs.Replies.{memory_text}
 use Rattle.warehouse.specs.State.{State}
-use Rattle.qc_session.specs.Answers.{Answered, answer}
+use Rattle.qc_session.specs.Answers.{answer}
+use Rattle.qc_session.specs.Pins.{PinnedAnswer, PinnedState, unpinned}
 
--- how far a script has come: the state, the replies, and whether a file lacked
+-- how far a script has come: the state with its pins, the replies, and whether a file lacked
 pub record Run : Type 0 where
-  pub state : State
+  pub state : PinnedState
   pub replies : List ℕ
   pub lacked : Bool
 
 -- a run in which no file lacked
-abbrev pub run_at : State → List ℕ → Run
+abbrev pub run_at : PinnedState → List ℕ → Run
 run_at state replies = record { state = state; replies = replies; lacked = false }
 
 -- a line with its number, and whether it is skipped for want of memory
@@ -34,12 +35,12 @@ unfoldable pub items : List ℕ → ℕ → List (List ℕ) → List Item
 items skipped n [] = []
 items skipped n (line ∷ lines) = item skipped (n + 1) line ∷ items skipped (n + 1) lines
 
-abbrev pub answered : Run → Option Answered → Run
+abbrev pub answered : Run → Option PinnedAnswer → Run
 answered run None = record run { lacked = true }
 answered run (Some a) = record run { state = a.state; replies = run.replies ++ a.reply }
 
--- One line more. A line that is passed over adds nothing, a skipped one adds the reply on memory and keeps the state,
--- and each other one adds its answer. Where a file lacks, the transcript ends before that line.
+-- One line more. A line that is passed over adds nothing, a skipped one adds the reply on memory and keeps the state
+-- and its pins, and each other one adds its answer. Where a file lacks, the transcript ends before that line.
 abbrev pub step : Told → Run → Item → Run
 step told run item =
     if run.lacked then run
@@ -47,6 +48,6 @@ step told run item =
     else if item.skipped then record run { replies = run.replies ++ memory_text item.number }
     else answered run (answer run.state told item.number item.line)
 
--- from the state at which a run starts
+-- from the state at which a run starts, where no name is pinned
 unfoldable pub transcript : Told → State → List ℕ → List (List ℕ) → Run
-transcript told start skipped lines = fold (step told) (run_at start []) (items skipped 0 lines)
+transcript told start skipped lines = fold (step told) (run_at (unpinned start) []) (items skipped 0 lines)

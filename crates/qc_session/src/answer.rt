@@ -7,25 +7,27 @@ ghost use Rattle.query_script.specs.Questions.{question_in};
 ghost use Rattle.warehouse.specs.Batch as batches;
 ghost use Rattle.warehouse.specs.InPlace.{IsTaken, IsWithinCost, LeavesApart, LeavesNumbers};
 ghost use Rattle.warehouse.specs.State.{State};
-ghost use Rattle.qc_session.specs.Answers.{answer, answer_to, changed, file_answer, file_named, file_of};
+ghost use Rattle.qc_session.specs.Answers.{answer, answer_to, beside, changed, file_answer, file_named, file_of};
+ghost use Rattle.qc_session.specs.Pins.{held_in};
+ghost use Rattle.query_answers.specs.Queries.{query_reply};
+ghost use Rattle.query_script.specs.Commands.{IsQuery};
+ghost use Rattle.query_script.specs.Queries.{query_in};
 
 use self::FileUse::{Apply, Load, Try};
-use crate::bounds::answer_bounds;
-use crate::iceberg::answer_iceberg;
-use crate::lattice::{answer_children, answer_parents, answer_rollup};
-use crate::point::answer_point;
-use crate::range::answer_range;
+use crate::pins::{answer_at, answer_pin, answer_unpin};
 use crate::widening::answer_widen;
 use cell_core::{Memory, Steps, Text};
 use cube_defs::MAX_FILE;
+use pinned_view::Pinned;
 use qc_io::{Files, ReadRefused, read_all};
-use query_script::{Command, read_line};
+use query_answers::answer_now;
+use query_script::{Command, Query, read_line};
 use reply_text::{
     Reply, ShortReply, applied, refused, stats, words_of_file, words_of_line, words_of_size,
 };
 use std::alloc::{AllocError, Global};
 use std::sync::ledger::Ledger;
-use warehouse::{Applied, Refused, Warehouse};
+use warehouse::{Applied, Refused};
 
 /// What a file is taken for.
 #[derive(Clone, Copy, Debug, PartialEq, Eq)]
@@ -65,31 +67,31 @@ ghost use Rattle.warehouse.specs.Stored.{applied_in, refusal_in};
 
 // Takes the bytes of a file. A batch is applied in place, or only tried.
 fn take_file<L: Ledger>(
-    warehouse: &mut Warehouse,
+    pinned: &mut Pinned,
     kind: FileUse,
     bytes: &[u8],
     steps: &mut Steps<L>,
 ) -> Result<Applied, Refused>
     requires { length bytes.now ≤ MAX_FILE }
-    ensures gives { (then : State) × Gives refusal_in (applied_in then) result (batches.result warehouse.old.state (kind_in kind) bytes.now)
-        × OnOk result (warehouse.new.state ≡ left_by kind warehouse.old.state then) }
-    ensures tried { kind ≡ FileUse.Try → warehouse.new ≡ warehouse.old }
-    ensures numbers { OnOk result (kind ≡ FileUse.Apply → LeavesNumbers warehouse.old bytes.now warehouse.new) }
-    ensures apart { OnOk result (kind ≡ FileUse.Apply → LeavesApart warehouse.old bytes.now warehouse.new) }
-    ensures steps { OnOk result (kind_in kind ≡ batches.Apply → IsWithinCost warehouse.old.state bytes.now steps.old steps.new) }
-    ensures state { OnErr result (warehouse.new.state ≡ warehouse.old.state) }
-    ensures tree { OnErr result (warehouse.new.tree ≡ warehouse.old.tree) }
+    ensures gives { (then : State) × Gives refusal_in (applied_in then) result (batches.result pinned.old.now.state (kind_in kind) bytes.now)
+        × OnOk result (pinned.new.now.state ≡ left_by kind pinned.old.now.state then) }
+    ensures pins { pinned.new.pins ≡ pinned.old.pins }
+    ensures tried { kind ≡ FileUse.Try → pinned.new ≡ pinned.old }
+    ensures numbers { OnOk result (kind ≡ FileUse.Apply → LeavesNumbers pinned.old.now bytes.now pinned.new.now) }
+    ensures apart { OnOk result (kind ≡ FileUse.Apply → LeavesApart pinned.old.now bytes.now pinned.new.now) }
+    ensures steps { OnOk result (kind_in kind ≡ batches.Apply → IsWithinCost pinned.old.now.state bytes.now steps.old steps.new) }
+    ensures same { OnErr result (pinned.new ≡ pinned.old) }
 {
     match kind {
-        FileUse::Load => warehouse.load(bytes, steps),
-        FileUse::Apply => warehouse.apply(bytes, steps),
-        FileUse::Try => warehouse.attempt(bytes, steps),
+        FileUse::Load => pinned.load(bytes, steps),
+        FileUse::Apply => pinned.apply(bytes, steps),
+        FileUse::Try => pinned.attempt(bytes, steps),
     }
 }
 
 // Takes the bytes of a file, and gives the reply to its line.
 fn change<L: Ledger>(
-    warehouse: &mut Warehouse,
+    pinned: &mut Pinned,
     number: u32,
     kind: FileUse,
     bytes: &[u8],
@@ -97,19 +99,19 @@ fn change<L: Ledger>(
 ) -> Result<ShortReply, Memory>
     requires { length bytes.now ≤ MAX_FILE }
     ensures ok { IfOk result (λ reply.
-        leaving kind warehouse.old.state (changed warehouse.old.state number (batches.result warehouse.old.state (kind_in kind) bytes.now))
-        ≡ record { state = warehouse.new.state; reply = reply }) }
-    ensures tried { kind ≡ FileUse.Try → warehouse.new ≡ warehouse.old }
-    ensures numbers { kind ≡ FileUse.Apply → LeavesNumbers warehouse.old bytes.now warehouse.new }
-    ensures apart { kind ≡ FileUse.Apply → LeavesApart warehouse.old bytes.now warehouse.new }
-    ensures steps { OnOk result (kind_in kind ≡ batches.Apply → IsTaken warehouse.old.state bytes.now →
-        IsWithinCost warehouse.old.state bytes.now steps.old steps.new) }
-    ensures state { OnErr result (warehouse.new.state ≡ warehouse.old.state) }
-    ensures tree { OnErr result (warehouse.new.tree ≡ warehouse.old.tree) }
+        leaving kind pinned.old.now.state (changed pinned.old.now.state number (batches.result pinned.old.now.state (kind_in kind) bytes.now))
+        ≡ record { state = pinned.new.now.state; reply = reply }) }
+    ensures pins { pinned.new.pins ≡ pinned.old.pins }
+    ensures tried { kind ≡ FileUse.Try → pinned.new ≡ pinned.old }
+    ensures numbers { kind ≡ FileUse.Apply → LeavesNumbers pinned.old.now bytes.now pinned.new.now }
+    ensures apart { kind ≡ FileUse.Apply → LeavesApart pinned.old.now bytes.now pinned.new.now }
+    ensures steps { OnOk result (kind_in kind ≡ batches.Apply → IsTaken pinned.old.now.state bytes.now →
+        IsWithinCost pinned.old.now.state bytes.now steps.old steps.new) }
+    ensures same { OnErr result (pinned.new ≡ pinned.old) }
 {
-    match take_file(warehouse, kind, bytes, steps) {
+    match take_file(pinned, kind, bytes, steps) {
         Ok(taken) => Ok(applied(number, taken.records, taken.classes)),
-        Err(cause) => match words_of_file(cause, warehouse.schema()) {
+        Err(cause) => match words_of_file(cause, pinned.now().schema()) {
             Some(words) => Ok(refused(number, words)),
             None => Err(AllocError),
         },
@@ -120,7 +122,7 @@ fn change<L: Ledger>(
 fn answer_file<F: Files, L: Ledger>(
     alloc: Global,
     files: &mut F,
-    warehouse: &mut Warehouse,
+    pinned: &mut Pinned,
     number: u32,
     kind: FileUse,
     name: Text,
@@ -129,23 +131,23 @@ fn answer_file<F: Files, L: Ledger>(
     ensures later { F.faults files.old ≤ F.faults files.new }
     ensures told { F.told files.new ≡ F.told files.old }
     ensures steady { IsTrue (F.steady files.old) → IsTrue (F.steady files.new) }
-    ensures state { OnErr result (warehouse.new.state ≡ warehouse.old.state) }
-    ensures tree { OnErr result (warehouse.new.tree ≡ warehouse.old.tree) }
+    ensures same { OnErr result (pinned.new ≡ pinned.old) }
     ensures fault { IfErr result (λ stop. MatchLineStop stop ⊤ (λ file. (file ≡ name) × Rose (F.faults files.old) (F.faults files.new))) }
     ensures untold { IfErr result (λ stop. MatchLineStop stop ⊤ (λ file. IsTrue (F.steady files.old) → IfSome (F.told files.old) (λ t. t file ≡ None))) }
     ensures answered { IfOk result (λ reply. IfSome (F.told files.old)
-        (λ t. option_map (λ bytes. leaving kind warehouse.old.state (file_answer warehouse.old.state number (kind_in kind) bytes)) (t name)
-        ≡ Some (record { state = warehouse.new.state; reply = reply_bytes reply }))) }
-    ensures tried { kind ≡ FileUse.Try → warehouse.new ≡ warehouse.old }
+        (λ t. option_map (λ bytes. beside (held_in pinned.old) (leaving kind pinned.old.now.state
+        (file_answer pinned.old.now.state number (kind_in kind) bytes))) (t name)
+        ≡ Some (record { state = held_in pinned.new; reply = reply_bytes reply }))) }
+    ensures tried { kind ≡ FileUse.Try → pinned.new ≡ pinned.old }
     ensures numbers { IfSome (F.told files.old) (λ t. IfSome (t name)
-        (λ bytes. kind ≡ FileUse.Apply → LeavesNumbers warehouse.old bytes warehouse.new)) }
-    ensures apart { IfSome (F.told files.old) (λ t. IfSome (t name) (λ bytes. kind ≡ FileUse.Apply → LeavesApart warehouse.old bytes warehouse.new)) }
+        (λ bytes. kind ≡ FileUse.Apply → LeavesNumbers pinned.old.now bytes pinned.new.now)) }
+    ensures apart { IfSome (F.told files.old) (λ t. IfSome (t name) (λ bytes. kind ≡ FileUse.Apply → LeavesApart pinned.old.now bytes pinned.new.now)) }
     ensures steps { OnOk result (IfSome (F.told files.old)
-        (λ t. IfSome (t name) (λ bytes. kind_in kind ≡ batches.Apply → IsTaken warehouse.old.state bytes →
-        IsWithinCost warehouse.old.state bytes steps.old steps.new))) }
+        (λ t. IfSome (t name) (λ bytes. kind_in kind ≡ batches.Apply → IsTaken pinned.old.now.state bytes →
+        IsWithinCost pinned.old.now.state bytes steps.old steps.new))) }
 {
     match read_all(alloc, files, name.as_str(), MAX_FILE) {
-        Ok(bytes) => match change(warehouse, number, kind, &bytes, steps) {
+        Ok(bytes) => match change(pinned, number, kind, &bytes, steps) {
             Ok(reply) => Ok(Reply::Short(reply)),
             Err(_) => Err(LineStop::Memory),
         },
@@ -155,45 +157,67 @@ fn answer_file<F: Files, L: Ledger>(
     }
 }
 
+// Answers a query of the rows that are present.
+fn ask<L: Ledger>(
+    alloc: Global,
+    pinned: &Pinned,
+    number: u32,
+    query: &Query,
+    steps: &mut Steps<L>,
+) -> Result<Reply, LineStop>
+    requires { IsQuery pinned.now.now.state.schema (query_in query.now) }
+    ensures reply { IfOk result (λ reply. reply_bytes reply ≡ query_reply pinned.now.now.state number (query_in query.now)) }
+    ensures memory { IfErr result (λ stop. stop ≡ LineStop.Memory) }
+{
+    match answer_now(alloc, pinned.now(), number, query, steps) {
+        Ok(reply) => Ok(reply),
+        Err(_) => Err(LineStop::Memory),
+    }
+}
+
 // Carries out a command, and gives its reply.
 fn answer_command<F: Files, L: Ledger>(
     alloc: Global,
     files: &mut F,
-    warehouse: &mut Warehouse,
+    pinned: &mut Pinned,
     number: u32,
     command: Command,
     steps: &mut Steps<L>,
 ) -> Result<Reply, LineStop>
-    requires { IsQuestion warehouse.old.state.schema (question_in command) }
+    requires { IsQuestion pinned.old.now.state.schema (question_in command) }
     ensures later { F.faults files.old ≤ F.faults files.new }
     ensures told { F.told files.new ≡ F.told files.old }
     ensures steady { IsTrue (F.steady files.old) → IsTrue (F.steady files.new) }
-    ensures state { OnErr result (warehouse.new.state ≡ warehouse.old.state) }
-    ensures tree { OnErr result (warehouse.new.tree ≡ warehouse.old.tree) }
+    ensures same { OnErr result (pinned.new ≡ pinned.old) }
     ensures memory { IfErr result (λ stop. MatchLineStop stop (wants_memory (question_in command) ≡ true) (λ file. ⊤)) }
     ensures fault { IfErr result (λ stop. MatchLineStop stop ⊤
         (λ file. (file_named (Ok (question_in command)) ≡ Some file) × Rose (F.faults files.old) (F.faults files.new))) }
     ensures untold { IfErr result (λ stop. MatchLineStop stop ⊤ (λ file. IsTrue (F.steady files.old) → IfSome (F.told files.old) (λ t. t file ≡ None))) }
     ensures answered { IfOk result (λ reply. IfSome (F.told files.old)
-        (λ t. answer_to warehouse.old.state t number (Ok (question_in command)) ≡ Some (record { state = warehouse.new.state; reply = reply_bytes reply }))) }
+        (λ t. answer_to (held_in pinned.old) t number (Ok (question_in command)) ≡ Some (record { state = held_in pinned.new; reply = reply_bytes reply }))) }
 {
     match command {
-        Command::Load(name) => answer_file(alloc, files, warehouse, number, Load, name, steps),
-        Command::Apply(name) => answer_file(alloc, files, warehouse, number, Apply, name, steps),
-        Command::Try(name) => answer_file(alloc, files, warehouse, number, Try, name, steps),
-        Command::Widen(name, value) => Ok(answer_widen(warehouse, number, &name, &value, steps)?),
-        Command::Point(asked) => Ok(answer_point(alloc, warehouse, number, &asked, steps)?),
-        Command::Range(asked) => Ok(answer_range(alloc, warehouse, number, &asked, steps)?),
-        Command::Bounds(asked) => Ok(answer_bounds(alloc, warehouse, number, &asked, steps)?),
+        Command::Load(name) => answer_file(alloc, files, pinned, number, Load, name, steps),
+        Command::Apply(name) => answer_file(alloc, files, pinned, number, Apply, name, steps),
+        Command::Try(name) => answer_file(alloc, files, pinned, number, Try, name, steps),
+        Command::Widen(name, value) => Ok(answer_widen(pinned, number, &name, &value, steps)?),
+        Command::Pin(name) => Ok(Reply::Short(answer_pin(pinned, number, &name))),
+        Command::Unpin(name) => Ok(Reply::Short(answer_unpin(pinned, number, &name))),
+        Command::At(name, query) => Ok(answer_at(alloc, pinned, number, &name, &query, steps)?),
+        Command::Point(asked) => ask(alloc, pinned, number, &Query::Point(asked), steps),
+        Command::Range(asked) => ask(alloc, pinned, number, &Query::Range(asked), steps),
+        Command::Bounds(asked) => ask(alloc, pinned, number, &Query::Bounds(asked), steps),
         Command::Iceberg(kind, bound, value) => {
-            Ok(answer_iceberg(alloc, warehouse, number, kind, bound, value, steps)?)
+            let query = Query::Iceberg(kind, bound, value);
+            ask(alloc, pinned, number, &query, steps)
         }
-        Command::Parents(asked) => Ok(answer_parents(alloc, warehouse, number, &asked, steps)?),
-        Command::Children(asked) => Ok(answer_children(alloc, warehouse, number, &asked, steps)?),
-        Command::Rollup(kind, bound, value, asked) => Ok(answer_rollup(
-            alloc, warehouse, number, kind, bound, value, &asked, steps,
-        )?),
-        Command::Stats => Ok(Reply::Short(stats(number, warehouse.stats()))),
+        Command::Parents(asked) => ask(alloc, pinned, number, &Query::Parents(asked), steps),
+        Command::Children(asked) => ask(alloc, pinned, number, &Query::Children(asked), steps),
+        Command::Rollup(kind, bound, value, asked) => {
+            let query = Query::Rollup(kind, bound, value, asked);
+            ask(alloc, pinned, number, &query, steps)
+        }
+        Command::Stats => Ok(Reply::Short(stats(number, pinned.now().stats()))),
     }
 }
 
@@ -201,7 +225,7 @@ fn answer_command<F: Files, L: Ledger>(
 pub fn answer_line<F: Files, L: Ledger>(
     alloc: Global,
     files: &mut F,
-    warehouse: &mut Warehouse,
+    pinned: &mut Pinned,
     number: u32,
     line: &[u8],
     steps: &mut Steps<L>,
@@ -210,17 +234,16 @@ pub fn answer_line<F: Files, L: Ledger>(
     ensures later { F.faults files.old ≤ F.faults files.new }
     ensures told { F.told files.new ≡ F.told files.old }
     ensures steady { IsTrue (F.steady files.old) → IsTrue (F.steady files.new) }
-    ensures state { OnErr result (warehouse.new.state ≡ warehouse.old.state) }
-    ensures tree { OnErr result (warehouse.new.tree ≡ warehouse.old.tree) }
+    ensures same { OnErr result (pinned.new ≡ pinned.old) }
     ensures skips { IfErr result (λ stop. MatchLineStop stop (may_want_memory line.now ≡ true)
-        (λ file. file_of warehouse.old.state.schema line.now ≡ Some file)) }
+        (λ file. file_of pinned.old.now.state.schema line.now ≡ Some file)) }
     ensures fault { IfErr result (λ stop. MatchLineStop stop ⊤ (λ file. Rose (F.faults files.old) (F.faults files.new))) }
     ensures untold { IfErr result (λ stop. MatchLineStop stop ⊤ (λ file. IsTrue (F.steady files.old) → IfSome (F.told files.old) (λ t. t file ≡ None))) }
     ensures answered { IfOk result (λ reply. IfSome (F.told files.old)
-        (λ t. answer warehouse.old.state t number line.now ≡ Some (record { state = warehouse.new.state; reply = reply_bytes reply }))) }
+        (λ t. answer (held_in pinned.old) t number line.now ≡ Some (record { state = held_in pinned.new; reply = reply_bytes reply }))) }
 {
-    match read_line(alloc, warehouse.schema(), line) {
-        Ok(command) => answer_command(alloc, files, warehouse, number, command, steps),
+    match read_line(alloc, pinned.now().schema(), line) {
+        Ok(command) => answer_command(alloc, files, pinned, number, command, steps),
         Err(cause) => match words_of_line(cause) {
             Some(words) => Ok(Reply::Short(refused(number, words))),
             None => Err(LineStop::Memory),

@@ -2,15 +2,11 @@
 #![tactic(auto)]
 
 mod answer;
-mod bounds;
 mod failure;
-mod iceberg;
-mod lattice;
 mod lines;
 mod pending;
-mod point;
+mod pins;
 mod quiet;
-mod range;
 mod scripts;
 mod session;
 mod widening;

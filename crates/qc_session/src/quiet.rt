@@ -33,13 +33,13 @@ pub fn take_quietly<F: Files, L: Ledger>(
     requires room { length (lines_of script.now) ≤ vec_capacity session.old.skipped }
     requires few { length (lines_of script.now) < 2 ^ 32 }
     requires short { length script.now ≤ MAX_FILE }
-    requires fresh { (session.old.number ≡ 0) × (session.old.skipped.items ≡ []) × (session.old.pending ≡ []) }
+    requires fresh { (session.old.number ≡ 0) × (session.old.skipped.items ≡ []) × (session.old.pending ≡ []) × (session.old.pinned.pins ≡ []) }
     ensures later_files { F.faults files.old ≤ F.faults files.new }
     ensures read_fault { IfErr result (λ stop. IfUnread stop (λ name. Rose (F.faults files.old) (F.faults files.new))) }
-    ensures all { OnOk result (IfSome (F.told files.old) (λ t. WroteAll t session.old.warehouse.state []
-        (map without_cr (lines_of script.now)) (Some session.new.warehouse.state) None None)) }
+    ensures all { OnOk result (IfSome (F.told files.old) (λ t. WroteAll t session.old.pinned.now.state []
+        (map without_cr (lines_of script.now)) (Some session.new.pinned.now.state) None None)) }
     ensures before { IfErr result (λ stop. IfUnread stop (λ name. IfSome (F.told files.old)
-        (λ t. StoppedAt t (IsTrue (F.steady files.old)) session.old.warehouse.state [] (map without_cr (lines_of script.now)) name None None))) }
+        (λ t. StoppedAt t (IsTrue (F.steady files.old)) session.old.pinned.now.state [] (map without_cr (lines_of script.now)) name None None))) }
 {
     let mut out = SureSink::new();
     match take_lines(alloc, files, &mut out, session, script, steps) {

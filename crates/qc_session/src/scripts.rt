@@ -5,8 +5,8 @@ ghost use Rattle.qc_io.specs.Outside.{IsOpenAs, Rose, taking};
 ghost use Rattle.qc_session.specs.Lines.{script_lines};
 ghost use Rattle.generated_run.specs.Generated.{generated_record, generated_state};
 ghost use Rattle.qc_session.specs.Forms.{IfGen, IfPack, IfRun, form_of};
-ghost use Rattle.qc_session.specs.Runs.{AllTold, AreSkipped, Begins, BeginsNot, BrokenOff, Cause, CannotRead, CannotWrite, Finished, HasNoStart, IsNever, IsRefused, IsScriptOf, IsStartOf, IsStatus, IsUnrefused, LongSnapshot, OutOfMemory, ReadFails, Said, StoppedAt, StoppedWriting, Unread, Usage, WroteAll, state_in, status_of};
-ghost use Rattle.qc_session.specs.Packs.{IsPackRefused, IsPackStatus, IsPackUnrefused, LeadsTooFar, Packed, PackedFront, WroteSnapshot, WroteSnapshotFront};
+ghost use Rattle.qc_session.specs.Runs.{AllTold, AreSkipped, Begins, BeginsNot, BrokenOff, Cause, CannotRead, CannotWrite, Finished, HasNoStart, IsNever, IsRefused, IsScriptOf, IsScriptStatus, IsStartOf, IsStatus, IsUnrefused, LongSnapshot, NotBegun, OutOfMemory, ReadFails, Said, StoppedAt, StoppedWriting, Unread, Usage, WroteAll, state_in, status_of};
+ghost use Rattle.qc_session.specs.Packs.{IsPackRefused, IsPackUnrefused, LeadsTooFar, Packed, PackedFront, WroteSnapshot, WroteSnapshotFront};
 ghost use Rattle.cube_snapshot.specs.States.{spelling};
 ghost use Rattle.warehouse.specs.State.{AreContents};
 
@@ -159,18 +159,50 @@ fn read_behind<'a, F: Files>(
     }
 }
 
+// Reads the first file and the script behind it, with one count of steps under the blank's name.
+fn read_files<'a, F: Files, L: Ledger>(
+    alloc: Global,
+    files: &mut F,
+    names: Names<'a>,
+    blank: Blank,
+) -> Result<(Warehouse, Vec<u8>), Failure<'a>>
+    requires name { blank.name ≡ L.name }
+    requires parts { blank.parts ≡ L.parts }
+    requires some { 0 < L.parts }
+    ensures later { F.faults files.old ≤ F.faults files.new }
+    ensures told { F.told files.new ≡ F.told files.old }
+    ensures steady { IsTrue (F.steady files.old) → IsTrue (F.steady files.new) }
+    ensures start { IfOk result (λ made. IfSome (F.told files.old) (λ t. IsStartOf t (names_in names.entry) made.0.state)) }
+    ensures script { IfOk result (λ made. IfSome (F.told files.old) (λ t. IsScriptOf t names.entry.script.now made.1.items)) }
+    ensures short { IfOk result (λ made. length made.1.items ≤ MAX_FILE) }
+    ensures open_file { IsOpenAs (F.told files.old) (F.cursor files.new) names.entry.first.now
+        ⊎ IsOpenAs (F.told files.old) (F.cursor files.new) names.entry.script.now }
+    ensures err { IfErr result (λ f. NotBegun (F.told files.old) (names_in names.entry) (Rose (F.faults files.old) (F.faults files.new))
+        (IsTrue (F.steady files.old)) (cause_of f)) }
+{
+    let warehouse = match read_start::<F, L>(alloc, files, names, blank) {
+        Ok(warehouse) => warehouse,
+        Err(failure) => return Err(failure),
+    };
+    match read_behind(alloc, files, warehouse, names.script) {
+        Ok(made) => Ok(made),
+        Err(failure) => Err(failure),
+    }
+}
+
 // Ends a run at the end of its script.
 fn finished(session: Session) -> Outcome
     ensures status { result.status ≡ 0 }
     ensures skipped { result.skipped.items ≡ session.skipped.items }
-    ensures end { result.end ≡ Some session.warehouse }
-    ensures held { AreContents session.warehouse }
+    ensures end { result.end ≡ Some session.pinned.now }
+    ensures held { AreContents session.pinned.now }
 {
-    session.warehouse.is_valid();
+    let warehouse = session.pinned.finish();
+    warehouse.is_valid();
     Outcome {
         status: 0,
         skipped: session.skipped,
-        end: Some(session.warehouse),
+        end: Some(warehouse),
     }
 }
 
@@ -341,7 +373,7 @@ fn pack_script<F: Files, O: Sink, E: Sink, L: Ledger>(
     requires name { blank.name ≡ L.name }
     requires parts { blank.parts ≡ L.parts }
     requires some { 0 < L.parts }
-    ensures known { IsPackStatus result.status }
+    ensures known { IsScriptStatus result.status }
     ensures skipped { result.skipped.items ≡ [] }
     ensures all { result.status ≡ 0 → IfSome (F.told files.old)
         (λ t. WroteSnapshot t warehouse.state (script_lines script.now) (state_in result.end) (O.taken out.old) (O.taken out.new)) }
@@ -368,7 +400,7 @@ fn pack_script<F: Files, O: Sink, E: Sink, L: Ledger>(
     };
     let mut steps = Steps::<L>::start(blank);
     match take_quietly(alloc, files, &mut session, script, &mut steps) {
-        Ok(()) => packed(alloc, out, err, session.warehouse),
+        Ok(()) => packed(alloc, out, err, session.pinned.finish()),
         Err(QuietStop::Read(name)) => fail(alloc, err, &Failure::CannotRead(name.as_str())),
         Err(QuietStop::Memory) => fail(alloc, err, &Failure::OutOfMemory),
     }
@@ -382,7 +414,7 @@ fn pack_files<F: Files, O: Sink, E: Sink>(
     err: &mut E,
     names: Names<'_>,
 ) -> Outcome
-    ensures known { IsPackStatus result.status }
+    ensures known { IsScriptStatus result.status }
     ensures skipped { result.skipped.items ≡ [] }
     ensures held { IfSome result.end AreContents }
     ensures there { result.status ≡ 0 → is_some result.end ≡ true }
@@ -405,15 +437,53 @@ fn pack_files<F: Files, O: Sink, E: Sink>(
     ensures refusal { IfSome (F.told files.old) (λ t. (cause : Cause) → IsPackRefused t (names_in names.entry) cause
         → (result.status ≡ 6) ⊎ (result.status ≡ 5) ⊎ (result.status ≡ 3)) }
 {
-    let warehouse = match read_start::<F, Brand>(alloc, files, names, Blank::new(1)) {
-        Ok(warehouse) => warehouse,
-        Err(failure) => return fail(alloc, err, &failure),
-    };
-    let (warehouse, script) = match read_behind(alloc, files, warehouse, names.script) {
+    let (warehouse, script) = match read_files::<F, Brand>(alloc, files, names, Blank::new(1)) {
         Ok(made) => made,
         Err(failure) => return fail(alloc, err, &failure),
     };
     pack_script::<F, O, E, Brand>(alloc, files, out, err, warehouse, &script, Blank::new(1))
+}
+
+// Reads the first file and a script, and takes the script's lines.
+fn run_files<F: Files, O: Sink, E: Sink>(
+    alloc: Global,
+    files: &mut F,
+    out: &mut O,
+    err: &mut E,
+    names: Names<'_>,
+) -> Outcome
+    ensures known { IsScriptStatus result.status }
+    ensures transcript { result.status ≡ 0 → IfSome (F.told files.old)
+        (λ t. Finished t (names_in names.entry) result.skipped.items (state_in result.end) (O.taken out.old) (O.taken out.new)) }
+    ensures silent { result.status ≡ 0 → err.new ≡ err.old }
+    ensures there { result.status ≡ 0 → is_some result.end ≡ true }
+    ensures held { IfSome result.end AreContents }
+    ensures none { (result.status ≡ 0 → ⊥) → result.end ≡ None }
+    ensures skipped { IfSome (F.told files.old)
+        (λ t. MatchOption (t names.entry.script.now) (result.skipped.items ≡ []) (λ script. AreSkipped (script_lines script) result.skipped.items)) }
+    ensures read_fault { result.status ≡ 3 → Rose (F.faults files.old) (F.faults files.new) }
+    ensures unread { result.status ≡ 3 → IfSome (F.told files.old) (λ t. (name : List ℕ)
+        × Unread t (IsTrue (F.steady files.old)) (names_in names.entry) result.skipped.items name (O.taken out.old) (O.taken out.new)
+        × Said (Rose (E.faults err.old) (E.faults err.new)) (CannotRead name) (E.taken err.old) (E.taken err.new)) }
+    ensures write_fault { result.status ≡ 4 → Rose (O.faults out.old) (O.faults out.new) }
+    ensures broken_off { result.status ≡ 4 → IfSome (F.told files.old)
+        (λ t. BrokenOff t (names_in names.entry) result.skipped.items (O.taken out.old) (O.taken out.new)) }
+    ensures said_write { result.status ≡ 4 → Said (Rose (E.faults err.old) (E.faults err.new)) CannotWrite (E.taken err.old) (E.taken err.new) }
+    ensures nothing { (result.status ≡ 5) ⊎ (result.status ≡ 6) → (O.taken out.new ≡ O.taken out.old) × (result.skipped.items ≡ []) }
+    ensures unbegun { result.status ≡ 5 → IsOpenAs (F.told files.old) (F.cursor files.new) names.entry.first.now
+        ⊎ IsOpenAs (F.told files.old) (F.cursor files.new) names.entry.script.now }
+    ensures said_memory { result.status ≡ 5 → Said (Rose (E.faults err.old) (E.faults err.new)) OutOfMemory (E.taken err.old) (E.taken err.new) }
+    ensures refused { result.status ≡ 6 → IfSome (F.told files.old) (λ t. (cause : Cause)
+        × IsRefused t (names_in names.entry) cause
+        × Said (Rose (E.faults err.old) (E.faults err.new)) cause (E.taken err.old) (E.taken err.new)) }
+    ensures refusal { IfSome (F.told files.old) (λ t. (cause : Cause) → IsRefused t (names_in names.entry) cause
+        → (result.status ≡ 6) ⊎ (result.status ≡ 5) ⊎ (result.status ≡ 3)) }
+{
+    let (warehouse, script) = match read_files::<F, Brand>(alloc, files, names, Blank::new(1)) {
+        Ok(made) => made,
+        Err(failure) => return fail(alloc, err, &failure),
+    };
+    run_script::<F, O, E, Brand>(alloc, files, out, err, warehouse, &script, Blank::new(1))
 }
 
 /// Runs `qcube` with these words: `run SCHEMA SCRIPT` reads a schema, and then takes the lines of a
@@ -489,7 +559,7 @@ pub fn run<F: Files, O: Sink, E: Sink>(
         → (Rose (O.faults out.old) (O.faults out.new) → ⊥) → (result.status ≡ 0) ⊎ (result.status ≡ 5))) }
 
     // The words `pack SCHEMA SCRIPT`: the snapshot of the state at the script's end.
-    ensures pack_known { IfPack (form_of words.now) (λ names. IsPackStatus result.status × (result.skipped.items ≡ [])) }
+    ensures pack_known { IfPack (form_of words.now) (λ names. IsScriptStatus result.status × (result.skipped.items ≡ [])) }
     ensures pack_all { result.status ≡ 0 → IfPack (form_of words.now) (λ names. IfSome (F.told files.old)
         (λ t. Packed t names (state_in result.end) (O.taken out.old) (O.taken out.new))) }
     ensures pack_nothing { result.status ≡ 3 → IfPack (form_of words.now) (λ names. O.taken out.new ≡ O.taken out.old) }
@@ -521,21 +591,12 @@ pub fn run<F: Files, O: Sink, E: Sink>(
     ensures gen_front { result.status ≡ 4 → IfGen (form_of words.now) (λ drawing. (n : ℕ)
         × (O.taken out.new ≡ taking (take n (generated_record drawing.rows drawing.seed)) (O.taken out.old))) }
 {
-    let names = match read_words(words) {
-        Form::Run(names) => names,
-        Form::Pack(names) => return pack_files(alloc, files, out, err, names),
+    match read_words(words) {
+        Form::Run(names) => run_files(alloc, files, out, err, names),
+        Form::Pack(names) => pack_files(alloc, files, out, err, names),
         Form::Gen(rows, seed) => {
-            return run_generated::<O, E, Brand>(alloc, out, err, rows, seed, Blank::new(1));
+            run_generated::<O, E, Brand>(alloc, out, err, rows, seed, Blank::new(1))
         }
-        Form::Unlisted => return fail(alloc, err, &Failure::Usage),
-    };
-    let warehouse = match read_start::<F, Brand>(alloc, files, names, Blank::new(1)) {
-        Ok(warehouse) => warehouse,
-        Err(failure) => return fail(alloc, err, &failure),
-    };
-    let (warehouse, script) = match read_behind(alloc, files, warehouse, names.script) {
-        Ok(made) => made,
-        Err(failure) => return fail(alloc, err, &failure),
-    };
-    run_script::<F, O, E, Brand>(alloc, files, out, err, warehouse, &script, Blank::new(1))
+        Form::Unlisted => fail(alloc, err, &Failure::Usage),
+    }
 }

@@ -4,15 +4,17 @@ ghost use Rattle.qc_io.specs.Outside.{Rose};
 ghost use Rattle.qc_session.specs.Lines.{lines_of, without_cr};
 ghost use Rattle.qc_session.specs.Answers.{file_of};
 ghost use Rattle.qc_session.specs.Handed.{IsHandedOn};
+ghost use Rattle.qc_session.specs.Pins.{held_in};
 ghost use Rattle.qc_session.specs.Runs.{AreSkipped, StoppedAt, StoppedWriting, WroteAll};
 
 use crate::answer::{LineStop, answer_line};
 use crate::lines::{is_passed_over, names_file};
 use crate::pending::Pending;
-use crate::point::answer_coded;
 use cell_core::{Steps, Text};
 use cube_defs::{MAX_FILE, Memory};
+use pinned_view::Pinned;
 use qc_io::{Files, Sink};
+use query_answers::answer_coded;
 use reply_text::memory;
 use std::alloc::Global;
 use std::sync::ledger::Ledger;
@@ -32,7 +34,7 @@ pub enum Stop {
 #[derive(Drop)]
 pub struct Session {
     pub number: u32,
-    pub warehouse: Warehouse,
+    pub pinned: Pinned,
     pub skipped: Vec<u32>,
     pub pending: Pending,
     /// The reply to a point, whose memory serves for the next.
@@ -60,16 +62,16 @@ fn take_line<F: Files, O: Sink, L: Ledger>(
     ensures told { F.told files.new ≡ F.told files.old }
     ensures steady { IsTrue (F.steady files.old) → IsTrue (F.steady files.new) }
     ensures read_fault { IfErr result (λ stop. IfStop stop (λ name. Rose (F.faults files.old) (F.faults files.new)) ⊤) }
-    ensures names { IfErr result (λ stop. IfStop stop (λ name. file_of session.old.warehouse.state.schema line.now ≡ Some name) ⊤) }
+    ensures names { IfErr result (λ stop. IfStop stop (λ name. file_of session.old.pinned.now.state.schema line.now ≡ Some name) ⊤) }
     ensures untold { IfErr result (λ stop. IfStop stop (λ name. IsTrue (F.steady files.old) → IfSome (F.told files.old) (λ t. t name ≡ None)) ⊤) }
     ensures write_fault { IfErr result (λ stop. IfStop stop (λ name. ⊤) (Rose (O.faults out.old) (O.faults out.new))) }
     ensures stays { IfErr result (λ stop. IfStop stop (λ name. IsHandedOn session.old.pending [] (O.taken out.old) (O.taken out.new)
         × (session.new.skipped.items ≡ session.old.skipped.items)) ⊤) }
-    ensures wrote { OnOk result (WroteLine (F.told files.old) session.new.skipped.items (session.old.number + 1) session.old.warehouse.state line.now
-        session.new.warehouse.state session.old.pending session.new.pending (O.taken out.old) (O.taken out.new)) }
+    ensures wrote { OnOk result (WroteLine (F.told files.old) session.new.skipped.items (session.old.number + 1) (held_in session.old.pinned) line.now
+        (held_in session.new.pinned) session.old.pending session.new.pending (O.taken out.old) (O.taken out.new)) }
     ensures part { IfErr result (λ stop. IfStop stop (λ name. ⊤)
-        (WrotePart (F.told files.old) session.old.skipped.items session.new.skipped.items (session.old.number + 1) session.old.warehouse.state line.now
-        session.new.warehouse.state session.old.pending (O.taken out.old) (O.taken out.new))) }
+        (WrotePart (F.told files.old) session.old.skipped.items session.new.skipped.items (session.old.number + 1) (held_in session.old.pinned) line.now
+        (held_in session.new.pinned) session.old.pending (O.taken out.old) (O.taken out.new))) }
     ensures skips { Skips session.old.skipped.items (session.old.number + 1) line.now session.new.skipped.items }
     ensures number { OnOk result (session.new.number ≡ session.old.number + 1) }
     ensures capacity { vec_capacity session.old.skipped ≤ vec_capacity session.new.skipped }
@@ -82,7 +84,7 @@ fn take_line<F: Files, O: Sink, L: Ledger>(
     }
     if answer_coded(
         alloc,
-        &session.warehouse,
+        session.pinned.now(),
         number,
         line,
         &mut session.reply,
@@ -97,7 +99,7 @@ fn take_line<F: Files, O: Sink, L: Ledger>(
     let Ok(()) = session.pending.hand_on_if(out, alone) else {
         return Err(Stop::Write);
     };
-    match answer_line(alloc, files, &mut session.warehouse, number, line, steps) {
+    match answer_line(alloc, files, &mut session.pinned, number, line, steps) {
         Ok(reply) => match session.pending.put(out, reply.as_bytes(), alone) {
             Ok(()) => Ok(()),
             Err(_) => Err(Stop::Write),
@@ -134,16 +136,17 @@ fn count_lines(text: &[u8]) -> usize
 
 /// A session before the first line of a script, with the memory for the number of each line.
 pub fn begin(alloc: Global, warehouse: Warehouse, script: &[u8]) -> Result<Session, Memory>
-    ensures warehouse { IfOk result (λ session. session.warehouse ≡ warehouse) }
-    ensures fresh { IfOk result (λ session. (session.number ≡ 0) × (session.skipped.items ≡ []) × (session.pending ≡ [])) }
+    ensures state { IfOk result (λ session. session.pinned.now.state ≡ warehouse.state) }
+    ensures fresh { IfOk result (λ session. (session.number ≡ 0) × (session.skipped.items ≡ []) × (session.pending ≡ []) × (session.pinned.pins ≡ [])) }
     ensures room { IfOk result (λ session. length (lines_of script.now) ≤ vec_capacity session.skipped) }
     ensures few { length (lines_of script.now) ≤ length script.now }
 {
     let skipped = Vec::with_capacity(alloc, count_lines(script))?;
     let pending = Pending::new(alloc)?;
+    let pinned = Pinned::new(alloc, warehouse)?;
     Ok(Session {
         number: 0,
-        warehouse,
+        pinned,
         skipped,
         pending,
         reply: Vec::new(alloc),
@@ -162,19 +165,19 @@ pub fn take_lines<F: Files, O: Sink, L: Ledger>(
     requires room { length (lines_of script.now) ≤ vec_capacity session.old.skipped }
     requires few { length (lines_of script.now) < 2 ^ 32 }
     requires short { length script.now ≤ MAX_FILE }
-    requires fresh { (session.old.number ≡ 0) × (session.old.skipped.items ≡ []) × (session.old.pending ≡ []) }
+    requires fresh { (session.old.number ≡ 0) × (session.old.skipped.items ≡ []) × (session.old.pending ≡ []) × (session.old.pinned.pins ≡ []) }
     ensures later_files { F.faults files.old ≤ F.faults files.new }
     ensures later_out { O.faults out.old ≤ O.faults out.new }
     ensures read_fault { IfErr result (λ stop. IfStop stop (λ name. Rose (F.faults files.old) (F.faults files.new)) ⊤) }
     ensures write_fault { IfErr result (λ stop. IfStop stop (λ name. ⊤) (Rose (O.faults out.old) (O.faults out.new))) }
     ensures skipped { AreSkipped (map without_cr (lines_of script.now)) session.new.skipped.items }
-    ensures all { OnOk result (IfSome (F.told files.old) (λ t. WroteAll t session.old.warehouse.state session.new.skipped.items
-        (map without_cr (lines_of script.now)) (Some session.new.warehouse.state) (O.taken out.old) (O.taken out.new))) }
+    ensures all { OnOk result (IfSome (F.told files.old) (λ t. WroteAll t session.old.pinned.now.state session.new.skipped.items
+        (map without_cr (lines_of script.now)) (Some session.new.pinned.now.state) (O.taken out.old) (O.taken out.new))) }
     ensures before { IfErr result (λ stop. IfStop stop (λ name. IfSome (F.told files.old)
-        (λ t. StoppedAt t (IsTrue (F.steady files.old)) session.old.warehouse.state session.new.skipped.items
+        (λ t. StoppedAt t (IsTrue (F.steady files.old)) session.old.pinned.now.state session.new.skipped.items
         (map without_cr (lines_of script.now)) name (O.taken out.old) (O.taken out.new))) ⊤) }
     ensures part { IfErr result (λ stop. IfStop stop (λ name. ⊤)
-        (IfSome (F.told files.old) (λ t. StoppedWriting t session.old.warehouse.state session.new.skipped.items
+        (IfSome (F.told files.old) (λ t. StoppedWriting t session.old.pinned.now.state session.new.skipped.items
         (map without_cr (lines_of script.now)) (O.taken out.old) (O.taken out.new)))) }
 {
     let mut rest = script;

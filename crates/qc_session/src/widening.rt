@@ -1,38 +1,52 @@
 // A dimension that comes.
-ghost use Rattle.std.specs.Prelude.{IfOk, OnErr, length, true, ◌≡◌, ◌≤◌};
+ghost use Rattle.std.specs.Prelude.{IfOk, IfSome, OnErr, length, true, ◌≡◌, ◌≤◌};
 ghost use Rattle.qc_schema.specs.Grammar.{is_new_name};
+ghost use Rattle.reply_text.specs.Replies.{refused_text, widen_texts};
 ghost use Rattle.reply_text.specs.Words.{reply_bytes};
-ghost use Rattle.qc_session.specs.Answers.{widen_answer};
+ghost use Rattle.warehouse.specs.Widening.{widen_refusal_in};
+ghost use Rattle.qc_session.specs.Answers.{widen_with};
+ghost use Rattle.qc_session.specs.Pins.{held_in};
 
 use cell_core::{Memory, Steps, Text};
-use reply_text::{Reply, refused, widened, words_of_widening};
+use pinned_view::{Pinned, PinnedWiden};
+use reply_text::{Reply, refused, widened, words_of_pinned, words_of_widening};
 use std::alloc::AllocError;
 use std::sync::ledger::Ledger;
-use warehouse::Warehouse;
+use warehouse::WidenRefused;
 
-/// Adds a dimension of a new name, in which each row has the value, and gives the reply to its line.
+// Why no dimension comes.
+fn refused_widening(number: u32, cause: WidenRefused) -> Result<Reply, Memory>
+    ensures { IfOk result (λ reply. IfSome (widen_refusal_in cause) (λ refusal. reply_bytes reply ≡ refused_text number (widen_texts refusal))) }
+{
+    match words_of_widening(cause) {
+        Some(words) => Ok(Reply::Short(refused(number, words))),
+        None => Err(AllocError),
+    }
+}
+
+/// Adds a dimension of a new name, in which each row has the value, where no name is pinned, and gives
+/// the reply to its line.
 pub fn answer_widen<L: Ledger>(
-    warehouse: &mut Warehouse,
+    pinned: &mut Pinned,
     number: u32,
     name: &Text,
     value: &Text,
     steps: &mut Steps<L>,
 ) -> Result<Reply, Memory>
-    requires name { is_new_name warehouse.old.state.schema name.now ≡ true }
+    requires name { is_new_name pinned.old.now.state.schema name.now ≡ true }
     requires value { length value.now ≤ 255 }
-    ensures ok { IfOk result (λ reply. widen_answer warehouse.old.state number name.now value.now
-        ≡ record { state = warehouse.new.state; reply = reply_bytes reply }) }
-    ensures state { OnErr result (warehouse.new.state ≡ warehouse.old.state) }
-    ensures tree { OnErr result (warehouse.new.tree ≡ warehouse.old.tree) }
+    ensures ok { IfOk result (λ reply. widen_with (held_in pinned.old) (held_in pinned.old).pins number name.now value.now
+        ≡ record { state = held_in pinned.new; reply = reply_bytes reply }) }
+    ensures same { OnErr result (pinned.new ≡ pinned.old) }
 {
-    match warehouse.widen(name.as_str(), value.as_str(), steps) {
+    match pinned.widen(name.as_str(), value.as_str(), steps) {
         Ok(taken) => {
-            let dims = warehouse.schema().dims();
+            let dims = pinned.now().schema().dims();
             Ok(Reply::Short(widened(number, dims, taken.classes)))
         }
-        Err(cause) => match words_of_widening(cause) {
-            Some(words) => Ok(Reply::Short(refused(number, words))),
-            None => Err(AllocError),
-        },
+        Err(PinnedWiden::Pinned) => Ok(Reply::Short(refused(number, words_of_pinned()))),
+        Err(PinnedWiden::DimsFull) => refused_widening(number, WidenRefused::DimsFull),
+        Err(PinnedWiden::NodesFull) => refused_widening(number, WidenRefused::NodesFull),
+        Err(PinnedWiden::Memory) => Err(AllocError),
     }
 }

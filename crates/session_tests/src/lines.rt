@@ -6,7 +6,7 @@ use cell_core::{Field, Fields, Text, Texts};
 use cube_defs::Memory;
 use iceberg_query::Bound;
 use qc_schema::{Schema, read_schema};
-use query_script::{Command, LineRefused, read_line};
+use query_script::{Command, LineRefused, Query, read_line};
 use std::alloc::Global;
 use std::process::Abort;
 use std::test::Fail;
@@ -218,6 +218,68 @@ static ICEBERGS: [Line; 5] = [
     ),
 ];
 
+static PINS: [Line; 47] = [
+    (b"pin before", Ok("pin:before")),
+    (b"pin stats", Ok("pin:stats")),
+    (
+        b"pin n2345678901234567890123456789_32",
+        Ok("pin:n2345678901234567890123456789_32"),
+    ),
+    (
+        b"pin n23456789012345678901234567890_33",
+        Err(LineRefused::Field(1)),
+    ),
+    (b"pin", Err(LineRefused::Field(1))),
+    (b"pin ", Err(LineRefused::Field(1))),
+    (b"pin op", Ok("pin:op")),
+    (b"pin a b", Err(LineRefused::Field(1))),
+    (b"pin  a", Err(LineRefused::Field(1))),
+    (b"pin 1st", Err(LineRefused::Field(1))),
+    (b"pins a", Err(LineRefused::Command)),
+    (b"unpin before", Ok("unpin:before")),
+    (b"unpin", Err(LineRefused::Field(1))),
+    (b"unpin before ", Err(LineRefused::Field(1))),
+    (b"at a stats", Ok("at:a stats")),
+    (b"at stats stats", Ok("at:stats stats")),
+    (b"at a point *,=x,s", Ok("at:a point:*;is x;is s;")),
+    (b"at a range *,?,s", Ok("at:a range:*;each;is s;")),
+    (b"at a bounds *,*,s", Ok("at:a bounds:*;*;is s;")),
+    (
+        b"at a iceberg count >= 2",
+        Ok("at:a iceberg:Count AtLeast 2/1"),
+    ),
+    (b"at a parents *,*,s", Ok("at:a parents:*;*;is s;")),
+    (b"at a children *,*,s", Ok("at:a children:*;*;is s;")),
+    (
+        b"at a rollup count <= 1/2 *,*,s",
+        Ok("at:a rollup:Count AtMost 1/2 *;*;is s;"),
+    ),
+    (b"at", Err(LineRefused::Field(1))),
+    (b"at ", Err(LineRefused::Field(1))),
+    (b"at op stats", Ok("at:op stats")),
+    (b"at  a stats", Err(LineRefused::Field(1))),
+    (b"at 1st frobnicate", Err(LineRefused::Field(1))),
+    (b"at a", Err(LineRefused::Command)),
+    (b"at a ", Err(LineRefused::Command)),
+    (b"at a  stats", Err(LineRefused::Command)),
+    (b"at a stats ", Err(LineRefused::Command)),
+    (b"at a #", Err(LineRefused::Command)),
+    (b"at a # stats", Err(LineRefused::Command)),
+    (b"at a load base.csv", Err(LineRefused::Command)),
+    (b"at a apply b.csv", Err(LineRefused::Command)),
+    (b"at a try b.csv", Err(LineRefused::Command)),
+    (b"at a widen year x", Err(LineRefused::Command)),
+    (b"at a pin b", Err(LineRefused::Command)),
+    (b"at a unpin b", Err(LineRefused::Command)),
+    (b"at a at b stats", Err(LineRefused::Command)),
+    (b"at a point *,*", Err(LineRefused::Field(3))),
+    (b"at a point |a,*,*", Err(LineRefused::Field(1))),
+    (b"at a iceberg count > 2", Err(LineRefused::Field(2))),
+    (b"at a rollup count >= 2 *,*", Err(LineRefused::Field(6))),
+    (b"at a iceberg count >= x", Err(LineRefused::Number)),
+    (b"at a point \xff,*,*", Err(LineRefused::Utf8)),
+];
+
 // The values, with `|` behind each.
 fn list_values(values: &Texts, list: &mut String) -> Result<(), Memory> {
     'values: for k in 0..values.len() {
@@ -284,6 +346,32 @@ fn list_rollup(
     format!(in alloc; "rollup:{kind:?} {bound:?} {num}/{den} ")
 }
 
+// The query, with `:` behind its name.
+fn list_query(alloc: Global, query: &Query) -> Result<String, Memory> {
+    let mut list = String::new(alloc);
+    match query {
+        Query::Point(fields) => list_fields("point:", fields, &mut list)?,
+        Query::Bounds(fields) => list_fields("bounds:", fields, &mut list)?,
+        Query::Range(fields) => list_fields("range:", fields, &mut list)?,
+        Query::Iceberg(kind, bound, value) => return list_iceberg(alloc, *kind, *bound, *value),
+        Query::Parents(fields) => list_fields("parents:", fields, &mut list)?,
+        Query::Children(fields) => list_fields("children:", fields, &mut list)?,
+        Query::Rollup(kind, bound, value, fields) => {
+            let words = list_rollup(alloc, *kind, *bound, *value)?;
+            list_fields(words.as_str(), fields, &mut list)?;
+        }
+        Query::Stats => list.push_str("stats")?,
+    }
+    Ok(list)
+}
+
+// The name of a pin, and what is asked of its rows.
+fn list_at(alloc: Global, name: &Text, query: &Query) -> Result<String, Memory> {
+    let listed = list_query(alloc, query)?;
+    let (name, query) = (name.as_str(), listed.as_str());
+    format!(in alloc; "at:{name} {query}")
+}
+
 // The command, with `:` behind its name.
 fn list_command(alloc: Global, command: &Command) -> Result<String, Memory> {
     let mut list = String::new(alloc);
@@ -295,6 +383,9 @@ fn list_command(alloc: Global, command: &Command) -> Result<String, Memory> {
             list_name("widen:", name, &mut list)?;
             list_name("=", value, &mut list)?;
         }
+        Command::Pin(name) => list_name("pin:", name, &mut list)?,
+        Command::Unpin(name) => list_name("unpin:", name, &mut list)?,
+        Command::At(name, query) => return list_at(alloc, name, query),
         Command::Point(fields) => list_fields("point:", fields, &mut list)?,
         Command::Bounds(fields) => list_fields("bounds:", fields, &mut list)?,
         Command::Range(fields) => list_fields("range:", fields, &mut list)?,
@@ -337,6 +428,7 @@ fn read_all(rt: &impl Abort, alloc: Global, text: &[u8], lines: &[Line]) -> Resu
 #[test]
 fn lines_are_read(rt: HostRuntime) -> Result<(), Fail> {
     read_all(&rt, rt.alloc(), SHOP, &LINES)?;
+    read_all(&rt, rt.alloc(), SHOP, &PINS)?;
     read_all(&rt, rt.alloc(), SALES, &ICEBERGS)?;
     read_all(&rt, rt.alloc(), SALES, &ROLLUPS)
 }

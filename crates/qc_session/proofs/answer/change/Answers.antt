@@ -1,14 +1,14 @@
-use Rattle.std.proofs.Common.{subst}
-use Rattle.warehouse.specs.State.{IsState}
+use Rattle.std.proofs.Common.{◌≡◌, ◌∙◌, ap, subst}
+use Rattle.pinned_view.specs.Versions.{Versions}
+use Rattle.warehouse.specs.State.{Contents, IsState}
 use Rattle.qc_session.proofs.Refused.{dim-within}
 use Rattle.qc_session.proofs.answer.change.Goals as goal
 
 pub words_of_file-requires-clause-dim : goal.words_of_file-requires-clause-dim
 words_of_file-requires-clause-dim g c =
-    let old = c.args.warehouse.now.state in
-    let same = c.in-Err.ensures.state in
+    let same : c.now.result.now.state ≡ c.args.pinned.now.now.state = ap (λ (h : Contents). h.state) c.now.ensures.value ∙ ap (λ (v : Versions). v.now.state) c.in-Err.ensures.same in
     let valid = subst IsState same c.schema.ensures.valid.state in
-    let within = dim-within old _ c.args.bytes.now c.in-Err.cause valid c.in-Err.ensures.gives.1 in
+    let within = dim-within c.args.pinned.now.now.state _ c.args.bytes.now c.in-Err.cause valid c.in-Err.ensures.gives.1 in
     rw (c.schema.ensures.value, same) within
 
 pub words_of_file-requires-clause-layout : goal.words_of_file-requires-clause-layout

@@ -2,6 +2,7 @@ use Rattle.std.proofs.Common.{◌==◌, true, arith, refl, ◌∙◌, sym, ap, [
 use Rattle.std.proofs.lemmas.Bool.Decides.{nat_tests}
 use Rattle.std.proofs.lemmas.Grind.{common_steps}
 use Rattle.qc_session.specs.Lines.{lines_of, without_cr}
+use Rattle.qc_session.specs.Pins.{held_in}
 use Rattle.qc_session.specs.Session.{WrotePart}
 use Rattle.qc_session.specs.Answers.{file_of}
 use Rattle.qc_session.specs.Handed.{IsHandedOn}
@@ -23,7 +24,7 @@ lines-init g c = record {
     refl,
     sym c.requires.fresh.0,
     rw c.requires.fresh.1 (record { rising = tt; commands = tt }),
-    rw (c.requires.fresh.1, c.requires.fresh.2) (so_far-none _ _ _),
+    rw (c.requires.fresh.1, c.requires.fresh.2, c.requires.fresh.3) (so_far-none _ _ _),
   );
 }
 
@@ -72,7 +73,7 @@ returns-in-Err-clause-part g c =
     ap (map without_cr) c.split_line.ensures.lines ∙ ap (λ (line : List ℕ). line ∷ map without_cr (lines_of c.split_line.result.1.now)) (sym c.trim_cr.ensures.value) in
     let (done, all, len, skipped, so_far) = inv.so_far in
     if_write c.in-Err.stop _ _
-    (λ (h : WrotePart told c.lines.session.skipped.items c.take_line.new.session.skipped.items (c.lines.session.number + 1) c.lines.session.warehouse.state c.trim_cr.result.now c.take_line.new.session.warehouse.state
+    (λ (h : WrotePart told c.lines.session.skipped.items c.take_line.new.session.skipped.items (c.lines.session.number + 1) (held_in c.lines.session.pinned) c.trim_cr.result.now (held_in c.take_line.new.session.pinned)
     c.lines.session.pending (g.O.Sink.taken c.lines.out) (g.O.Sink.taken c.take_line.new.out)).
     front-push told _ _ _ done c.trim_cr.result.now (map without_cr (lines_of c.split_line.result.1.now)) c.lines.session.number _ _ _ _ _ _ len e.skips so_far h
     (map without_cr (lines_of c.args.script.now)) (all ∙ ap (λ (xs : List (List ℕ)). done ++ xs) cut))
@@ -87,7 +88,7 @@ returns-in-Err-clause-before g c =
     ap (map without_cr) c.split_line.ensures.lines ∙ ap (λ (line : List ℕ). line ∷ map without_cr (lines_of c.split_line.result.1.now)) (sym c.trim_cr.ensures.value) in
     let (done, all, len, skipped, so_far) = inv.so_far in
     if_read c.in-Err.stop
-    (λ name. file_of c.lines.session.warehouse.state.schema c.trim_cr.result.now ≡ Some name)
+    (λ name. file_of c.lines.session.pinned.now.state.schema c.trim_cr.result.now ≡ Some name)
     (λ name. IsHandedOn c.lines.session.pending [] (g.O.Sink.taken c.lines.out) (g.O.Sink.taken c.take_line.new.out) × (c.take_line.new.session.skipped.items ≡ c.lines.session.skipped.items))
     (λ name. IsTrue (g.F.Files.steady c.lines.files) → IfSome told (λ t. t name ≡ None))
     _

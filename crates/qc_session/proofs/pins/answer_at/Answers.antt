@@ -1,0 +1,22 @@
+use Rattle.std.proofs.Common.{◌∙◌, List, ap, sym}
+use Rattle.cube_defs.specs.Text.{Text}
+use Rattle.query_script.specs.Queries.{query_in}
+use Rattle.reply_text.specs.Replies.{refused_text}
+use Rattle.warehouse.specs.Counted.{AreCounted}
+use Rattle.warehouse.specs.State.{HasTree, with_rows}
+use Rattle.qc_session.proofs.PinAnswers.{at-none, at-version}
+use Rattle.qc_session.proofs.pins.answer_at.Goals as goal
+
+pub returns-in_default : goal.returns-in_default
+returns-in_default g c =
+    c.refused.ensures
+    ∙ ap (λ (texts : List Text). refused_text c.args.number texts) c.words_of_not_pinned.ensures.texts
+    ∙ sym (at-none c.args.held.now c.args.number c.args.name.now (query_in c.args.query.now) (rw c.as_str.ensures.value at c.in_default.ensures.none))
+
+pub returns : goal.returns
+returns g c =
+    let (version, found, is) = rw c.as_str.ensures.value at c.in-Some.ensures.some in
+    let has : HasTree (with_rows c.now.result.now.state version.rows) c.in-Some.view.tree = rw (c.now.ensures.value, is.tree) is.has in
+    let counted : AreCounted version.rows c.stats.result = rw c.stats.ensures is.stats in
+    let reply = rw c.now.ensures.value at (c.answer_query.ensures.reply version.rows has counted) in
+    rw (at-version c.args.held.now c.args.number c.args.name.now (query_in c.args.query.now) version found) reply

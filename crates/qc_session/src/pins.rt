@@ -1,0 +1,68 @@
+// Names for the rows that are present, and what is asked of the rows of a name.
+ghost use Rattle.std.specs.Prelude.{IfOk, length, ◌≡◌, ◌≤◌};
+ghost use Rattle.query_script.specs.Commands.{IsQuery};
+ghost use Rattle.query_script.specs.Queries.{query_in};
+ghost use Rattle.reply_text.specs.Words.{reply_bytes};
+ghost use Rattle.qc_session.specs.Pins.{at_reply, held_in, pin_answer, unpin_answer};
+
+use cell_core::{Memory, Steps, Text};
+use pinned_view::{NotPinned, PinRefused, Pinned};
+use query_answers::{answer_query, empty_index};
+use query_script::Query;
+use reply_text::{
+    Reply, ShortReply, pinned, refused, unpinned, words_of_all_pinned, words_of_name_taken,
+    words_of_not_pinned,
+};
+use std::alloc::Global;
+use std::sync::ledger::Ledger;
+
+/// Pins the rows that are present under a name, and gives the reply to its line. It takes no memory.
+pub fn answer_pin(held: &mut Pinned, number: u32, name: &Text) -> ShortReply
+    requires { length name.now ≤ 32 }
+    ensures { pin_answer (held_in held.old) number name.now ≡ record { state = held_in held.new; reply = result } }
+{
+    match held.pin(name.as_str()) {
+        Ok(()) => pinned(number, name.as_str(), held.now().stats().classes),
+        Err(PinRefused::NameTaken) => refused(number, words_of_name_taken()),
+        Err(PinRefused::AllPinned) => refused(number, words_of_all_pinned()),
+    }
+}
+
+/// Takes a pin away, and gives the reply to its line. It takes no memory.
+pub fn answer_unpin(held: &mut Pinned, number: u32, name: &Text) -> ShortReply
+    requires { length name.now ≤ 32 }
+    ensures { unpin_answer (held_in held.old) number name.now ≡ record { state = held_in held.new; reply = result } }
+{
+    match held.unpin(name.as_str()) {
+        Ok(()) => unpinned(number, name.as_str()),
+        Err(NotPinned) => refused(number, words_of_not_pinned()),
+    }
+}
+
+/// Answers a query of the rows of a pin, over the tree that they had.
+pub fn answer_at<L: Ledger>(
+    alloc: Global,
+    held: &Pinned,
+    number: u32,
+    name: &Text,
+    query: &Query,
+    steps: &mut Steps<L>,
+) -> Result<Reply, Memory>
+    requires { IsQuery held.now.now.state.schema (query_in query.now) }
+    ensures { IfOk result (λ reply. reply_bytes reply ≡ at_reply (held_in held.now) number name.now (query_in query.now)) }
+{
+    let Some(view) = held.view(name.as_str()) else {
+        return Ok(Reply::Short(refused(number, words_of_not_pinned())));
+    };
+    let index = empty_index(alloc)?;
+    answer_query(
+        alloc,
+        held.now(),
+        &view,
+        &index,
+        view.stats(),
+        number,
+        query,
+        steps,
+    )
+}
