@@ -154,7 +154,7 @@ pub no-later : (s n : ℕ) → s ≡ n → n < 5 → (s ≡ 5) ⊎ (s ≡ 6) →
 no-later s n is early (inl h) = absurd (omega (arith, is, early, h))
 no-later s n is early (inr h) = absurd (omega (arith, is, early, h))
 
-never-unread : (s : ℕ) → (s ≡ 0) ⊎ (s ≡ 4) ⊎ (s ≡ 5) ⊎ (s ≡ 6) → s ≡ 3 → ⊥
+pub never-unread : (s : ℕ) → (s ≡ 0) ⊎ (s ≡ 4) ⊎ (s ≡ 5) ⊎ (s ≡ 6) → s ≡ 3 → ⊥
 never-unread s (inl h) e = absurd (omega (arith, h, e))
 never-unread s (inr (inl h)) e = absurd (omega (arith, h, e))
 never-unread s (inr (inr (inl h))) e = absurd (omega (arith, h, e))
@@ -163,3 +163,8 @@ never-unread s (inr (inr (inr h))) e = absurd (omega (arith, h, e))
 pub packed-nothing : (s : ℕ) (P : Type 0) → (s ≡ 0) ⊎ (s ≡ 4) ⊎ (s ≡ 5) ⊎ (s ≡ 6) → ((s ≡ 5) ⊎ (s ≡ 6) → P) → (s ≡ 3) ⊎ (s ≡ 5) ⊎ (s ≡ 6) → P
 packed-nothing s P known h (inl e) = absurd (never-unread s known e)
 packed-nothing s P known h (inr late) = h late
+
+pub packed-known : (s : ℕ) → (s ≡ 0) ⊎ (s ≡ 4) ⊎ (s ≡ 5) ⊎ (s ≡ 6) → IsScriptStatus s
+packed-known s (inl h) = inl h
+packed-known s (inr (inl h)) = inr (inr (inl h))
+packed-known s (inr (inr late)) = inr (inr (inr late))

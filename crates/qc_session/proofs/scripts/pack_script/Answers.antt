@@ -3,7 +3,7 @@ use Rattle.warehouse.specs.State.{Contents}
 use Rattle.qc_session.specs.Lines.{lines_of, without_cr}
 use Rattle.qc_session.specs.Runs.{CannotRead}
 use Rattle.qc_session.proofs.BareScripts.{bare-few, bare-short}
-use Rattle.qc_session.proofs.Packed.{led-to, packed-nothing, quiet-ended, snapshot-all, snapshot-front, snapshot-long}
+use Rattle.qc_session.proofs.Packed.{led-to, never-unread, packed-known, packed-nothing, quiet-ended, snapshot-all, snapshot-front, snapshot-long}
 use Rattle.qc_session.proofs.scripts.pack_script.Goals as goal
 
 pub take_quietly-requires-clause-few : goal.take_quietly-requires-clause-few
@@ -38,3 +38,9 @@ returns-in-Err-Read-clause-unread g c = λ is.
 
 pub returns-in-Ok-take_quietly-clause-nothing : goal.returns-in-Ok-take_quietly-clause-nothing
 returns-in-Ok-take_quietly-clause-nothing g c = packed-nothing _ _ c.packed.ensures.known c.packed.ensures.nothing
+
+pub returns-in-Ok-take_quietly-clause-known : goal.returns-in-Ok-take_quietly-clause-known
+returns-in-Ok-take_quietly-clause-known g c = packed-known _ c.packed.ensures.known
+
+pub returns-in-Ok-take_quietly-clause-unread : goal.returns-in-Ok-take_quietly-clause-unread
+returns-in-Ok-take_quietly-clause-unread g c = λ is. absurd (never-unread _ c.packed.ensures.known is)
