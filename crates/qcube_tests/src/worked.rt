@@ -35,53 +35,7 @@ const ICEBERG_CLASSES: &str = "applied,1,3,6\nclass,2,*,*,*,3,27,6,12,9/1\nlower
     class,3,S1,*,s,2,18,6,12,9/1\nlower,3,*,*,s\nlower,3,S1,*,*\nclass,3,S2,P1,f,1,9,9,9,9/1\nlower,3,*,*,f\nlower,3,S2,*,*\n\
     class,3,*,P1,*,2,15,6,9,15/2\nlower,3,*,P1,*\nend,3,5\n";
 
-// All rows go.
-const NONE_LEFT: Kept = (
-    "none_left.csv",
-    b"op,id,store,product,season,sale\n-,1,,,,\n-,2,,,,\n-,3,,,,\n",
-);
-
-// Sixteen names that are pinned, and one more.
-const SIXTEEN: &[u8] =
-    b"load base.csv\npin p2\npin p3\npin p4\npin p5\npin p6\npin p7\npin p8\npin p9\npin p10\npin p11\n\
-    pin p12\npin p13\npin p14\npin p15\npin p16\npin p17\npin p18\npin p2\nunpin p9\npin p18\n";
-
-const SIXTEEN_PINNED: &str =
-    "applied,1,3,6\npinned,2,p2,6\npinned,3,p3,6\npinned,4,p4,6\npinned,5,p5,6\npinned,6,p6,6\n\
-    pinned,7,p7,6\npinned,8,p8,6\npinned,9,p9,6\npinned,10,p10,6\npinned,11,p11,6\npinned,12,p12,6\npinned,13,p13,6\n\
-    pinned,14,p14,6\npinned,15,p15,6\npinned,16,p16,6\npinned,17,p17,6\nrefused,18,all-pinned\nrefused,19,name-taken\n\
-    unpinned,20,p9\npinned,21,p18,6\n";
-
-static ROWS: [Row; 36] = [
-    // What is asked of a pin is told of the rows at its line.
-    (
-        SCHEMA,
-        &[BASE, PLUS],
-        b"load base.csv\npin before\napply plus4.csv\nat before stats\nstats\nat before point *,P2,*\npoint *,P2,*\n\
-        widen year 2003\nunpin before\nat before stats\n",
-        "applied,1,3,6\npinned,2,before,6\napplied,3,1,9\nstats,4,3,6,11,10,5\nstats,5,4,9,15,14,6\n\
-        point,6,*,P2,*,1,12,12,12,12/1\npoint,7,*,P2,*,2,15,3,12,15/2\nrefused,8,pinned\nunpinned,9,before\n\
-        refused,10,not-pinned\n",
-    ),
-    // All rows of a pin go, and come anew under other numbers.
-    (
-        SCHEMA,
-        &[BASE, NONE_LEFT],
-        b"load base.csv\npin a\napply none_left.csv\nat a point *,*,*\nload base.csv\npin a\nat a bounds *,*,s\nat a load base.csv\n",
-        "applied,1,3,6\npinned,2,a,6\napplied,3,3,0\npoint,4,*,*,*,3,27,6,12,9/1\napplied,5,3,6\nrefused,6,name-taken\n\
-        class,7,S1,*,s,2,18,6,12,9/1\nlower,7,*,*,s\nlower,7,S1,*,*\nend,7,1\nrefused,8,command\n",
-    ),
-    (SCHEMA, &[BASE], SIXTEEN, SIXTEEN_PINNED),
-    // A line behind `at` is read before its name is looked up; no rows can be pinned, and `op` is a name.
-    (
-        SCHEMA,
-        &[],
-        b"pin\npin 9x\nunpin a b\nunpin a\nat\nat 9x lost\nat a\nat a # a\nat a lost\nat a point *,*\nat a point *,*,*\n\
-        at a iceberg count >= x\npin op\nat op stats\nat op stats \nat op range ?,*,*\nunpin op\nunpin op\n",
-        "refused,1,field,1\nrefused,2,field,1\nrefused,3,field,1\nrefused,4,not-pinned\nrefused,5,field,1\nrefused,6,field,1\n\
-        refused,7,command\nrefused,8,command\nrefused,9,command\nrefused,10,field,3\nrefused,11,not-pinned\nrefused,12,number\n\
-        pinned,13,op,0\nstats,14,0,0,0,0,0\nrefused,15,command\nend,16,0\nunpinned,17,op\nrefused,18,not-pinned\n",
-    ),
+static ROWS: [Row; 32] = [
     (
         SCHEMA,
         &[BASE],
