@@ -18,6 +18,3 @@ pub use print::{print_amount, print_number, print_ratio};
 pub use quotient::Quotient;
 pub use read::{read_amount, read_fraction, read_id};
 pub use value::{compare, mean, value_of};
-
-#[cfg(test)]
-mod tests;

@@ -9,6 +9,3 @@ pub use classes::mark_class;
 pub use cube_defs::Memory;
 pub use labels::set_link;
 pub use nodes::{add_child, add_root};
-
-#[cfg(test)]
-mod tests;

@@ -14,6 +14,3 @@ pub use cube_defs::Memory;
 pub use fields::{Field, Fields};
 pub use steps::Steps;
 pub use texts::{Text, Texts};
-
-#[cfg(test)]
-mod tests;

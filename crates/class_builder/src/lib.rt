@@ -14,6 +14,3 @@ mod walk;
 
 pub use cube_defs::Memory;
 pub use tree::build_classes;
-
-#[cfg(test)]
-mod tests;

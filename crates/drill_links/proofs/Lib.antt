@@ -1,2 +1,1 @@
 mod Downward
-mod Single

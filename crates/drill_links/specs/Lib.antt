@@ -1,2 +1,1 @@
 pub mod Way
-pub mod Single

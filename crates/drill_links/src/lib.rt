@@ -7,6 +7,3 @@ mod way;
 pub use cube_defs::Memory;
 pub use linking::link_all;
 pub use way::descend;
-
-#[cfg(test)]
-mod tests;

@@ -15,6 +15,3 @@ pub use entry::Entry;
 pub use filling::Filling;
 pub use index::Index;
 pub use walk::Walk;
-
-#[cfg(test)]
-mod tests;

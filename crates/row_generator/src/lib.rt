@@ -5,8 +5,6 @@
 mod draws;
 mod files;
 mod rows;
-#[cfg(test)]
-mod tests;
 
 pub use draws::Draws;
 pub use files::{BATCHES, write_base, write_batch};

@@ -6,8 +6,6 @@ mod byte_order_mark;
 mod lines;
 mod plain;
 mod record_reader;
-#[cfg(test)]
-mod tests;
 mod words;
 
 pub use byte_order_mark::{has_mark, has_two_marks, trim_mark};

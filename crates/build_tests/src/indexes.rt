@@ -1,0 +1,190 @@
+ghost use Rattle.std.specs.Prelude.{All, IfOk, OnOk, nat_abs, ◌≡◌, ◌≤◌};
+ghost use Rattle.aggregates.specs.Bounds.{largest_amount};
+ghost use Rattle.aggregates.specs.Views.{IsThere};
+
+use aggregates::{Agg, AggKind, read_fraction};
+use cell_core::NodeNo;
+use cube_defs::Memory;
+use measure_index::{Filling, Index, Walk};
+use std::alloc::Global;
+use std::process::Abort;
+use std::test::Fail;
+
+// Classes of one row, by the numbers of their nodes and their amounts.
+fn classes(alloc: Global, told: &[(u32, i64)]) -> Result<Vec<(NodeNo, Agg)>, Memory>
+    requires { All (λ class. nat_abs class.1 ≤ largest_amount) told.now }
+    ensures { IfOk result (λ classes. All (λ class. class.1.measures ≡ 1) classes.items) }
+{
+    let mut classes = Vec::new(alloc);
+    'told: for k in 0..told.len() {
+        let (node, amount) = told[k];
+        classes.push((NodeNo(node), Agg::one(&[amount])))?;
+    }
+    Ok(classes)
+}
+
+// Changes an index of kinds of one measure.
+fn change(
+    alloc: Global,
+    index: &mut Index,
+    add: &[(u32, i64)],
+    remove: &[(u32, i64)],
+) -> Result<(), Memory>
+    requires kinds { All (λ r. IsThere 1 r.kind) index.old }
+    requires add { All (λ class. nat_abs class.1 ≤ largest_amount) add.now }
+    requires remove { All (λ class. nat_abs class.1 ≤ largest_amount) remove.now }
+    ensures { OnOk result (All (λ r. IsThere 1 r.kind) index.new) }
+{
+    let add = classes(alloc, add)?;
+    let remove = classes(alloc, remove)?;
+    index.change(&add, &remove)
+}
+
+// An index of kinds of one measure, filled.
+fn filled(alloc: Global, kinds: &[AggKind], add: &[(u32, i64)]) -> Result<Index, Memory>
+    requires kinds { All (IsThere 1) kinds.now }
+    requires add { All (λ class. nat_abs class.1 ≤ largest_amount) add.now }
+{
+    let mut filling = Filling::new(alloc, kinds, &[2], add.len())?;
+    'told: for k in 0..add.len() {
+        let (node, amount) = add[k];
+        filling.push(NodeNo(node), &Agg::one(&[amount]))?;
+    }
+    filling.finish()
+}
+
+// The numbers of the first nodes that are left, with zeros behind them.
+fn nodes_left(walk: &mut Walk<'_>) -> [u32; 6] {
+    let mut nodes = [0; 6];
+    'walk: for k in 0..6 {
+        if let Some((node, _value)) = walk.next() {
+            nodes[k] = node.0;
+        }
+    }
+    nodes
+}
+
+// What qualifies with at least a value, and with at most the value, each with the entries read.
+fn asked<R: Abort>(rt: &R, index: &Index, kind: AggKind, value: &[u8]) -> [([u32; 6], u64); 2] {
+    let value = read_fraction(value).expect(rt, "a fraction");
+    assert!(rt; index.has(kind));
+    let mut falling = index.at_least(kind, &value);
+    let least = nodes_left(&mut falling);
+    let mut rising = index.at_most(kind, &value);
+    let most = nodes_left(&mut rising);
+    [(least, falling.taken()), (most, rising.taken())]
+}
+
+#[test]
+fn classes_are_walked_from_either_end(rt: HostRuntime) -> Result<(), Fail> {
+    const KIND: AggKind = AggKind::Sum(0);
+    let mut index = Index::new(rt.alloc(), &[KIND], &[2])?;
+    let told = [(4, 150), (9, -200), (2, 150), (7, 0), (5, -33)];
+    change(rt.alloc(), &mut index, &told, &[])?;
+    // The value, and the nodes with at least the value and with at most, with the entries read.
+    let table: [(&[u8], [([u32; 6], u64); 2]); 6] = [
+        (b"3/2", [([4, 2, 0, 0, 0, 0], 3), ([9, 5, 7, 2, 4, 0], 5)]),
+        (b"-1/3", [([4, 2, 7, 5, 0, 0], 5), ([9, 0, 0, 0, 0, 0], 2)]),
+        (
+            b"-33/100",
+            [([4, 2, 7, 5, 0, 0], 5), ([9, 5, 0, 0, 0, 0], 3)],
+        ),
+        (
+            b"-0.330001",
+            [([4, 2, 7, 5, 0, 0], 5), ([9, 0, 0, 0, 0, 0], 2)],
+        ),
+        (b"1.51", [([0; 6], 1), ([9, 5, 7, 2, 4, 0], 5)]),
+        (b"-2.01", [([4, 2, 7, 5, 9, 0], 5), ([0; 6], 1)]),
+    ];
+    for (value, expected) in &table {
+        assert_eq!(rt; asked(&rt, &index, KIND, value), *expected);
+    }
+    Ok(())
+}
+
+#[test]
+fn an_index_is_filled(rt: HostRuntime) -> Result<(), Fail> {
+    const KINDS: [AggKind; 3] = [AggKind::Sum(0), AggKind::Count, AggKind::Mean(0)];
+    const VALUES: [&[u8]; 3] = [b"-0.33", b"1", b"-33/100"];
+    const EXPECTED: [[([u32; 6], u64); 2]; 3] = [
+        [([4, 2, 7, 5, 0, 0], 5), ([9, 5, 0, 0, 0, 0], 3)],
+        [([9, 7, 5, 4, 2, 0], 5), ([2, 4, 5, 7, 9, 0], 5)],
+        [([4, 2, 7, 5, 0, 0], 5), ([9, 5, 0, 0, 0, 0], 3)],
+    ];
+    let told = [(4, 150), (9, -200), (2, 150), (7, 0), (5, -33)];
+    let index = filled(rt.alloc(), &KINDS, &told)?;
+    assert!(rt; !index.is_empty());
+    for k in 0..3 {
+        assert_eq!(rt; asked(&rt, &index, KINDS[k], VALUES[k]), EXPECTED[k]);
+    }
+    Ok(())
+}
+
+#[test]
+fn classes_come_and_go(rt: HostRuntime) -> Result<(), Fail> {
+    const KIND: AggKind = AggKind::Least(0);
+    let mut index = Index::new(rt.alloc(), &[KIND], &[0])?;
+    change(rt.alloc(), &mut index, &[(1, 5), (2, 5), (3, -7)], &[])?;
+    change(
+        rt.alloc(),
+        &mut index,
+        &[(1, 5), (3, 5), (4, 6)],
+        &[(1, 5), (2, 5), (3, -7)],
+    )?;
+    assert_eq!(rt;
+        asked(&rt, &index, KIND, b"5"),
+        [([4, 3, 1, 0, 0, 0], 3), ([1, 3, 0, 0, 0, 0], 3)]
+    );
+    change(rt.alloc(), &mut index, &[], &[(1, 5), (3, 5), (4, 6)])?;
+    assert_eq!(rt; asked(&rt, &index, KIND, b"5"), [([0; 6], 0), ([0; 6], 0)]);
+    Ok(())
+}
+
+// What is asked of the one class of two rows, with the amounts -3 and 8.
+fn asked_of_two_rows<R: Abort>(
+    rt: &R,
+    alloc: Global,
+    kind: AggKind,
+    value: &[u8],
+) -> Result<[([u32; 6], u64); 2], Memory>
+    requires { IsThere 1 kind }
+{
+    let mut agg = Agg::one(&[-3]);
+    agg.add_row(&[8]);
+    let classes = [(NodeNo(3), agg)];
+    let mut index = Index::new(alloc, &[kind], &[1])?;
+    index.change(&classes, &[])?;
+    Ok(asked(rt, &index, kind, value))
+}
+
+#[test]
+fn each_kind_has_its_values(rt: HostRuntime) -> Result<(), Fail> {
+    const KINDS: [AggKind; 5] = [
+        AggKind::Count,
+        AggKind::Sum(0),
+        AggKind::Least(0),
+        AggKind::Greatest(0),
+        AggKind::Mean(0),
+    ];
+    const VALUES: [&[u8]; 5] = [b"2", b"0.5", b"-3/10", b"8/10", b"0.25"];
+    for k in 0..5 {
+        let found = asked_of_two_rows(&rt, rt.alloc(), KINDS[k], VALUES[k])?;
+        assert_eq!(rt; found, [([3, 0, 0, 0, 0, 0], 1), ([3, 0, 0, 0, 0, 0], 1)]);
+    }
+    Ok(())
+}
+
+#[test]
+fn only_kinds_that_were_named_are_there(rt: HostRuntime) -> Result<(), Fail> {
+    let index = Index::new(rt.alloc(), &[AggKind::Mean(0), AggKind::Count], &[0])?;
+    let table = [
+        (AggKind::Count, true),
+        (AggKind::Mean(0), true),
+        (AggKind::Mean(1), false),
+        (AggKind::Sum(0), false),
+    ];
+    for (kind, there) in &table {
+        assert_eq!(rt; index.has(*kind), *there);
+    }
+    Ok(())
+}
