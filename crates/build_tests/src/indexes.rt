@@ -7,7 +7,6 @@ use cell_core::NodeNo;
 use cube_defs::Memory;
 use measure_index::{Filling, Index, Walk};
 use std::alloc::Global;
-use std::process::Abort;
 use std::test::Fail;
 
 // Classes of one row, by the numbers of their nodes and their amounts.
@@ -64,97 +63,147 @@ fn nodes_left(walk: &mut Walk<'_>) -> [u32; 6] {
     nodes
 }
 
-// What qualifies with at least a value, and with at most the value, each with the entries read.
-fn asked<R: Abort>(rt: &R, index: &Index, kind: AggKind, value: &[u8]) -> [([u32; 6], u64); 2] {
-    let value = read_fraction(value).expect(rt, "a fraction");
-    assert!(rt; index.has(kind));
+// What qualifies with at least a value, and with at most the value, each with the entries read. None where the value is no
+// fraction, or the index doesn't have the kind.
+fn asked(index: &Index, kind: AggKind, value: &[u8]) -> Option<[([u32; 6], u64); 2]> {
+    let value = read_fraction(value)?;
+    if !index.has(kind) {
+        return None;
+    }
     let mut falling = index.at_least(kind, &value);
     let least = nodes_left(&mut falling);
     let mut rising = index.at_most(kind, &value);
     let most = nodes_left(&mut rising);
-    [(least, falling.taken()), (most, rising.taken())]
+    Some([(least, falling.taken()), (most, rising.taken())])
+}
+
+static TOLD: [(u32, i64); 5] = [(4, 150), (9, -200), (2, 150), (7, 0), (5, -33)];
+
+// The value, and the nodes with at least the value and with at most, with the entries read.
+static WALKS: [(&[u8], [([u32; 6], u64); 2]); 6] = [
+    (b"3/2", [([4, 2, 0, 0, 0, 0], 3), ([9, 5, 7, 2, 4, 0], 5)]),
+    (b"-1/3", [([4, 2, 7, 5, 0, 0], 5), ([9, 0, 0, 0, 0, 0], 2)]),
+    (
+        b"-33/100",
+        [([4, 2, 7, 5, 0, 0], 5), ([9, 5, 0, 0, 0, 0], 3)],
+    ),
+    (
+        b"-0.330001",
+        [([4, 2, 7, 5, 0, 0], 5), ([9, 0, 0, 0, 0, 0], 2)],
+    ),
+    (b"1.51", [([0; 6], 1), ([9, 5, 7, 2, 4, 0], 5)]),
+    (b"-2.01", [([4, 2, 7, 5, 9, 0], 5), ([0; 6], 1)]),
+];
+
+// Whether all walks over an index of sums give what they should.
+fn are_walks_right(index: &Index) -> bool {
+    'walks: for (value, expected) in &WALKS {
+        if asked(index, AggKind::Sum(0), value) != Some(*expected) {
+            return false;
+        }
+    }
+    true
+}
+
+fn are_classes_walked(alloc: Global) -> Result<bool, Memory> {
+    let mut index = Index::new(alloc, &[AggKind::Sum(0)], &[2])?;
+    let changed = change(alloc, &mut index, &TOLD, &[]);
+    let is_right = are_walks_right(&index);
+    drop(index);
+    changed?;
+    Ok(is_right)
 }
 
 #[test]
 fn classes_are_walked_from_either_end(rt: HostRuntime) -> Result<(), Fail> {
-    const KIND: AggKind = AggKind::Sum(0);
-    let mut index = Index::new(rt.alloc(), &[KIND], &[2])?;
-    let told = [(4, 150), (9, -200), (2, 150), (7, 0), (5, -33)];
-    change(rt.alloc(), &mut index, &told, &[])?;
-    // The value, and the nodes with at least the value and with at most, with the entries read.
-    let table: [(&[u8], [([u32; 6], u64); 2]); 6] = [
-        (b"3/2", [([4, 2, 0, 0, 0, 0], 3), ([9, 5, 7, 2, 4, 0], 5)]),
-        (b"-1/3", [([4, 2, 7, 5, 0, 0], 5), ([9, 0, 0, 0, 0, 0], 2)]),
-        (
-            b"-33/100",
-            [([4, 2, 7, 5, 0, 0], 5), ([9, 5, 0, 0, 0, 0], 3)],
-        ),
-        (
-            b"-0.330001",
-            [([4, 2, 7, 5, 0, 0], 5), ([9, 0, 0, 0, 0, 0], 2)],
-        ),
-        (b"1.51", [([0; 6], 1), ([9, 5, 7, 2, 4, 0], 5)]),
-        (b"-2.01", [([4, 2, 7, 5, 9, 0], 5), ([0; 6], 1)]),
-    ];
-    for (value, expected) in &table {
-        assert_eq!(rt; asked(&rt, &index, KIND, value), *expected);
-    }
+    assert!(rt; are_classes_walked(rt.alloc())?);
     Ok(())
+}
+
+const KINDS: [AggKind; 3] = [AggKind::Sum(0), AggKind::Count, AggKind::Mean(0)];
+
+// What is asked of a filled index of three kinds, and what comes.
+static FILLED: [(&[u8], [([u32; 6], u64); 2]); 3] = [
+    (b"-0.33", [([4, 2, 7, 5, 0, 0], 5), ([9, 5, 0, 0, 0, 0], 3)]),
+    (b"1", [([9, 7, 5, 4, 2, 0], 5), ([2, 4, 5, 7, 9, 0], 5)]),
+    (
+        b"-33/100",
+        [([4, 2, 7, 5, 0, 0], 5), ([9, 5, 0, 0, 0, 0], 3)],
+    ),
+];
+
+fn is_filled_right(index: &Index) -> bool {
+    'kinds: for k in 0..3 {
+        let (value, expected) = FILLED[k];
+        if asked(index, KINDS[k], value) != Some(expected) {
+            return false;
+        }
+    }
+    !index.is_empty()
+}
+
+fn is_filled(alloc: Global) -> Result<bool, Memory> {
+    let index = filled(alloc, &KINDS, &TOLD)?;
+    let is_right = is_filled_right(&index);
+    drop(index);
+    Ok(is_right)
 }
 
 #[test]
 fn an_index_is_filled(rt: HostRuntime) -> Result<(), Fail> {
-    const KINDS: [AggKind; 3] = [AggKind::Sum(0), AggKind::Count, AggKind::Mean(0)];
-    const VALUES: [&[u8]; 3] = [b"-0.33", b"1", b"-33/100"];
-    const EXPECTED: [[([u32; 6], u64); 2]; 3] = [
-        [([4, 2, 7, 5, 0, 0], 5), ([9, 5, 0, 0, 0, 0], 3)],
-        [([9, 7, 5, 4, 2, 0], 5), ([2, 4, 5, 7, 9, 0], 5)],
-        [([4, 2, 7, 5, 0, 0], 5), ([9, 5, 0, 0, 0, 0], 3)],
-    ];
-    let told = [(4, 150), (9, -200), (2, 150), (7, 0), (5, -33)];
-    let index = filled(rt.alloc(), &KINDS, &told)?;
-    assert!(rt; !index.is_empty());
-    for k in 0..3 {
-        assert_eq!(rt; asked(&rt, &index, KINDS[k], VALUES[k]), EXPECTED[k]);
-    }
+    assert!(rt; is_filled(rt.alloc())?);
     Ok(())
+}
+
+const LEAST: AggKind = AggKind::Least(0);
+
+// Three classes come; one of them goes and comes, two go and two come; all go.
+fn come_and_go(alloc: Global, index: &mut Index) -> Result<bool, Memory>
+    requires { All (λ r. IsThere 1 r.kind) index.old }
+{
+    change(alloc, index, &[(1, 5), (2, 5), (3, -7)], &[])?;
+    change(
+        alloc,
+        index,
+        &[(1, 5), (3, 5), (4, 6)],
+        &[(1, 5), (2, 5), (3, -7)],
+    )?;
+    let is_changed = asked(index, LEAST, b"5")
+        == Some([([4, 3, 1, 0, 0, 0], 3), ([1, 3, 0, 0, 0, 0], 3)]);
+    change(alloc, index, &[], &[(1, 5), (3, 5), (4, 6)])?;
+    Ok(is_changed && asked(index, LEAST, b"5") == Some([([0; 6], 0), ([0; 6], 0)]))
+}
+
+fn have_come_and_gone(alloc: Global) -> Result<bool, Memory> {
+    let mut index = Index::new(alloc, &[LEAST], &[0])?;
+    let is_right = come_and_go(alloc, &mut index);
+    drop(index);
+    is_right
 }
 
 #[test]
 fn classes_come_and_go(rt: HostRuntime) -> Result<(), Fail> {
-    const KIND: AggKind = AggKind::Least(0);
-    let mut index = Index::new(rt.alloc(), &[KIND], &[0])?;
-    change(rt.alloc(), &mut index, &[(1, 5), (2, 5), (3, -7)], &[])?;
-    change(
-        rt.alloc(),
-        &mut index,
-        &[(1, 5), (3, 5), (4, 6)],
-        &[(1, 5), (2, 5), (3, -7)],
-    )?;
-    assert_eq!(rt;
-        asked(&rt, &index, KIND, b"5"),
-        [([4, 3, 1, 0, 0, 0], 3), ([1, 3, 0, 0, 0, 0], 3)]
-    );
-    change(rt.alloc(), &mut index, &[], &[(1, 5), (3, 5), (4, 6)])?;
-    assert_eq!(rt; asked(&rt, &index, KIND, b"5"), [([0; 6], 0), ([0; 6], 0)]);
+    assert!(rt; have_come_and_gone(rt.alloc())?);
     Ok(())
 }
 
 // What is asked of the one class of two rows, with the amounts -3 and 8.
-fn asked_of_two_rows<R: Abort>(
-    rt: &R,
+fn asked_of_two_rows(
     alloc: Global,
     kind: AggKind,
     value: &[u8],
-) -> Result<[([u32; 6], u64); 2], Memory>
+) -> Result<Option<[([u32; 6], u64); 2]>, Memory>
     requires { IsThere 1 kind }
 {
     let mut agg = Agg::one(&[-3]);
     agg.add_row(&[8]);
     let classes = [(NodeNo(3), agg)];
     let mut index = Index::new(alloc, &[kind], &[1])?;
-    index.change(&classes, &[])?;
-    Ok(asked(rt, &index, kind, value))
+    let changed = index.change(&classes, &[]);
+    let found = asked(&index, kind, value);
+    drop(index);
+    changed?;
+    Ok(found)
 }
 
 #[test]
@@ -167,24 +216,29 @@ fn each_kind_has_its_values(rt: HostRuntime) -> Result<(), Fail> {
         AggKind::Mean(0),
     ];
     const VALUES: [&[u8]; 5] = [b"2", b"0.5", b"-3/10", b"8/10", b"0.25"];
-    for k in 0..5 {
-        let found = asked_of_two_rows(&rt, rt.alloc(), KINDS[k], VALUES[k])?;
-        assert_eq!(rt; found, [([3, 0, 0, 0, 0, 0], 1), ([3, 0, 0, 0, 0, 0], 1)]);
+    'kinds: for k in 0..5 {
+        let found = asked_of_two_rows(rt.alloc(), KINDS[k], VALUES[k])?;
+        assert!(rt; found == Some([([3, 0, 0, 0, 0, 0], 1), ([3, 0, 0, 0, 0, 0], 1)]));
     }
     Ok(())
 }
 
+fn are_kinds_named(index: &Index) -> bool {
+    index.has(AggKind::Count)
+        && index.has(AggKind::Mean(0))
+        && !index.has(AggKind::Mean(1))
+        && !index.has(AggKind::Sum(0))
+}
+
+fn has_named_kinds(alloc: Global) -> Result<bool, Memory> {
+    let index = Index::new(alloc, &[AggKind::Mean(0), AggKind::Count], &[0])?;
+    let is_right = are_kinds_named(&index);
+    drop(index);
+    Ok(is_right)
+}
+
 #[test]
 fn only_kinds_that_were_named_are_there(rt: HostRuntime) -> Result<(), Fail> {
-    let index = Index::new(rt.alloc(), &[AggKind::Mean(0), AggKind::Count], &[0])?;
-    let table = [
-        (AggKind::Count, true),
-        (AggKind::Mean(0), true),
-        (AggKind::Mean(1), false),
-        (AggKind::Sum(0), false),
-    ];
-    for (kind, there) in &table {
-        assert_eq!(rt; index.has(*kind), *there);
-    }
+    assert!(rt; has_named_kinds(rt.alloc())?);
     Ok(())
 }

@@ -441,6 +441,28 @@ fn built<L: Ledger>(
     }
 }
 
+// Whether this tree is that of the rows, and there may not be one node fewer than it has.
+fn is_whole_right<L: Ledger>(
+    alloc: Global,
+    table: &Table,
+    arena: QcArena,
+    rows: &[Line],
+    dims: u8,
+    steps: &mut Steps<L>,
+) -> bool
+    requires some_dims { 0 < table.now.dims }
+    requires few_dims { table.now.dims ≤ MAX_DIMS }
+    requires dims { dims ≤ 5 }
+    requires few_rows { length rows.now ≤ 100 }
+    requires max { arena.max ≡ 4000 }
+    requires tree { IsCanonical nat_cmp table.now.measures (rows_of table.now) arena.now }
+{
+    let nodes = arena.live();
+    let is_right = is_right(table, &arena, rows, dims, steps);
+    drop(arena);
+    is_right && is_full_below(alloc, table, nodes, steps)
+}
+
 // Whether the rows' tree is right, and there may not be one node fewer than it has.
 fn is_built_right<L: Ledger>(alloc: Global, dims: u8, rows: &[Line], blank: Blank) -> bool
     requires name { blank.name ≡ L.name }
@@ -454,12 +476,12 @@ fn is_built_right<L: Ledger>(alloc: Global, dims: u8, rows: &[Line], blank: Blan
     let Ok(table) = table_of(alloc, dims, rows) else {
         return false;
     };
-    let Ok(arena) = built(alloc, &table, 4000, &mut steps) else {
-        return false;
+    let is_right = match built(alloc, &table, 4000, &mut steps) {
+        Ok(arena) => is_whole_right(alloc, &table, arena, rows, dims, &mut steps),
+        Err(_) => false,
     };
-    let nodes = arena.live();
-    is_right(&table, &arena, rows, dims, &mut steps)
-        && is_full_below(alloc, &table, nodes, &mut steps)
+    drop(table);
+    is_right
 }
 
 // Whether there may be so many nodes, and not one fewer.
@@ -471,12 +493,16 @@ fn is_full_below<L: Ledger>(alloc: Global, table: &Table, nodes: u32, steps: &mu
     if nodes < 2 {
         return true;
     }
-    match (
-        built(alloc, table, nodes, steps),
-        built(alloc, table, nodes - 1, steps),
-    ) {
-        (Ok(_), Err(ArenaRefused::Full)) => true,
-        _ => false,
+    match built(alloc, table, nodes, steps) {
+        Ok(arena) => drop(arena),
+        Err(_) => return false,
+    }
+    match built(alloc, table, nodes - 1, steps) {
+        Ok(arena) => {
+            drop(arena);
+            false
+        }
+        Err(refused) => matches!(refused, ArenaRefused::Full),
     }
 }
 

@@ -1,10 +1,11 @@
+// Cells, and lists of cells, texts and fields.
 ghost use Rattle.cell_core.specs.Entry.{IsSmall};
 ghost use Rattle.std.specs.Prelude.{length, ◌≡◌};
 
 use cell_core::{
     Cell, Cells, Entry, Field, Fields, Text, Texts, last, leq, mask_of, meet_into, upto,
 };
-use std::alloc::Global;
+use std::alloc::{AllocError, Global};
 use std::test::Fail;
 
 const ANY: Entry = Entry::Any;
@@ -22,105 +23,144 @@ fn cell(alloc: Global, first: Entry, second: Entry, third: Entry) -> Cell
     cell
 }
 
-#[test]
-fn entries_are_insert_sorted(rt: HostRuntime) -> Result<(), Fail> {
-    let mut cell = Cell::any(rt.alloc(), 16);
+fn entries_are_set(alloc: Global) -> bool {
+    let mut cell = Cell::any(alloc, 16);
     cell.set(15, Entry::Is(3_999_999));
     cell.set(0, Entry::Is(0));
     cell.set(0, ANY);
-    assert_eq!(rt; cell.dims(), 16);
-    assert_eq!(rt; cell.get(0), ANY);
-    assert_eq!(rt; cell.get(15), Entry::Is(3_999_999));
-    assert_eq!(rt; last(&cell), Some(15));
-    assert_eq!(rt; mask_of(&cell), 32768);
-    Ok(())
+    cell.dims() == 16
+        && cell.get(0) == ANY
+        && cell.get(15) == Entry::Is(3_999_999)
+        && last(&cell) == Some(15)
+        && mask_of(&cell) == 32768
 }
 
 #[test]
-fn cells_are_ordered_by_their_values(rt: HostRuntime) -> Result<(), Fail> {
-    let alloc = rt.alloc();
+fn entries_stay_as_they_are_set(rt: HostRuntime) {
+    assert!(rt; entries_are_set(rt.alloc()));
+}
+
+fn are_cells_ordered(alloc: Global) -> bool {
     let front = cell(alloc, Entry::Is(1), ANY, ANY);
     let tuple = cell(alloc, Entry::Is(1), Entry::Is(0), Entry::Is(2));
     let other = cell(alloc, Entry::Is(2), ANY, ANY);
-    assert!(rt; leq(&front, &tuple));
-    assert!(rt; leq(&tuple, &tuple));
-    assert!(rt; leq(&Cell::any(alloc, 3), &front));
-    assert!(rt; !leq(&tuple, &front));
-    assert!(rt; !leq(&other, &tuple));
-    Ok(())
+    leq(&front, &tuple)
+        && leq(&tuple, &tuple)
+        && leq(&Cell::any(alloc, 3), &front)
+        && !leq(&tuple, &front)
+        && !leq(&other, &tuple)
 }
 
 #[test]
-fn what_cells_share_is_their_meet(rt: HostRuntime) -> Result<(), Fail> {
-    let alloc = rt.alloc();
+fn cells_are_ordered_by_their_values(rt: HostRuntime) {
+    assert!(rt; are_cells_ordered(rt.alloc()));
+}
+
+fn is_meet(alloc: Global) -> bool {
     let mut meet = cell(alloc, Entry::Is(1), Entry::Is(5), Entry::Is(2));
-    meet_into(
-        &mut meet,
-        &cell(alloc, Entry::Is(1), Entry::Is(6), Entry::Is(2)),
-    );
-    assert_eq!(rt; meet.get(0), Entry::Is(1));
-    assert_eq!(rt; meet.get(1), ANY);
-    assert_eq!(rt; meet.get(2), Entry::Is(2));
-    assert_eq!(rt; mask_of(&meet), 5);
-    meet_into(&mut meet, &cell(alloc, ANY, Entry::Is(5), Entry::Is(2)));
-    assert_eq!(rt; mask_of(&meet), 4);
-    Ok(())
+    let second = cell(alloc, Entry::Is(1), Entry::Is(6), Entry::Is(2));
+    meet_into(&mut meet, &second);
+    let is_first = meet.get(0) == Entry::Is(1)
+        && meet.get(1) == ANY
+        && meet.get(2) == Entry::Is(2)
+        && mask_of(&meet) == 5;
+    let third = cell(alloc, ANY, Entry::Is(5), Entry::Is(2));
+    meet_into(&mut meet, &third);
+    is_first && mask_of(&meet) == 4
 }
 
 #[test]
-fn fronts_end_at_a_dimension(rt: HostRuntime) -> Result<(), Fail> {
-    let alloc = rt.alloc();
+fn what_cells_share_is_their_meet(rt: HostRuntime) {
+    assert!(rt; is_meet(rt.alloc()));
+}
+
+fn are_prefixes(alloc: Global) -> bool {
     let mut front = cell(alloc, Entry::Is(7), ANY, Entry::Is(9));
-    assert_eq!(rt; last(&front), Some(2));
+    let is_whole = last(&front) == Some(2);
     upto(&mut front, 2);
-    assert_eq!(rt; front.get(2), Entry::Is(9));
+    let is_same = front.get(2) == Entry::Is(9);
     upto(&mut front, 1);
-    assert_eq!(rt; front.get(0), Entry::Is(7));
-    assert_eq!(rt; front.get(2), ANY);
-    assert_eq!(rt; last(&front), Some(0));
-    assert_eq!(rt; last(&Cell::any(alloc, 3)), None);
-    Ok(())
+    is_whole
+        && is_same
+        && front.get(0) == Entry::Is(7)
+        && front.get(2) == ANY
+        && last(&front) == Some(0)
+        && last(&Cell::any(alloc, 3)).is_none()
+}
+
+#[test]
+fn prefixes_end_at_a_dimension(rt: HostRuntime) {
+    assert!(rt; are_prefixes(rt.alloc()));
+}
+
+fn are_cells_listed(alloc: Global) -> Result<bool, AllocError> {
+    let mut cells = Cells::new(alloc);
+    let is_new = cells.is_empty();
+    let tuple = cell(alloc, Entry::Is(1), Entry::Is(2), Entry::Is(3));
+    cells.push(tuple.copy())?;
+    cells.push(Cell::any(alloc, 2))?;
+    Ok(
+        is_new
+            && cells.len() == 2
+            && leq(cells.get(0), &tuple)
+            && leq(&tuple, cells.get(0))
+            && cells.get(1).dims() == 2,
+    )
 }
 
 #[test]
 fn cells_stay_in_order(rt: HostRuntime) -> Result<(), Fail> {
-    let alloc = rt.alloc();
-    let mut cells = Cells::new(alloc);
-    assert!(rt; cells.is_empty());
-    let tuple = cell(alloc, Entry::Is(1), Entry::Is(2), Entry::Is(3));
-    cells.push(tuple.copy())?;
-    cells.push(Cell::any(alloc, 2))?;
-    assert_eq!(rt; cells.len(), 2);
-    assert!(rt; leq(cells.get(0), &tuple) && leq(&tuple, cells.get(0)));
-    assert_eq!(rt; cells.get(1).dims(), 2);
+    assert!(rt; are_cells_listed(rt.alloc())?);
     Ok(())
+}
+
+fn are_texts_listed(alloc: Global) -> Result<bool, AllocError> {
+    let mut texts = Texts::new(alloc);
+    let is_new = texts.is_empty();
+    texts.push(Text::new(alloc, "S1")?)?;
+    texts.push(Text::new(alloc, "")?)?;
+    Ok(is_new && texts.len() == 2 && texts.get(0).as_str() == "S1" && texts.get(1).as_str() == "")
 }
 
 #[test]
 fn texts_stay_in_order(rt: HostRuntime) -> Result<(), Fail> {
-    let alloc = rt.alloc();
-    let mut texts = Texts::new(alloc);
-    assert!(rt; texts.is_empty());
-    texts.push(Text::new(alloc, "S1")?)?;
-    texts.push(Text::new(alloc, "")?)?;
-    assert_eq!(rt; texts.len(), 2);
-    assert_eq!(rt; texts.get(0).as_str(), "S1");
-    assert_eq!(rt; texts.get(1).as_str(), "");
+    assert!(rt; are_texts_listed(rt.alloc())?);
     Ok(())
+}
+
+fn between(alloc: Global, lo: &str, hi: &str) -> Result<Field, AllocError> {
+    Ok(Field::Between(Text::new(alloc, lo)?, Text::new(alloc, hi)?))
+}
+
+fn is_one(field: &Field, text: &str) -> bool {
+    match field {
+        Field::One(one) => one.as_str() == text,
+        _ => false,
+    }
+}
+
+fn is_between(field: &Field, first: &str, second: &str) -> bool {
+    match field {
+        Field::Between(lo, hi) => lo.as_str() == first && hi.as_str() == second,
+        _ => false,
+    }
+}
+
+fn are_fields_listed(alloc: Global) -> Result<bool, AllocError> {
+    let mut fields = Fields::new(alloc);
+    fields.push(Field::Any)?;
+    fields.push(Field::One(Text::new(alloc, "P1")?))?;
+    fields.push(between(alloc, "a", "b")?)?;
+    Ok(
+        fields.len() == 3
+            && matches!(fields.get(0), Field::Any)
+            && is_one(fields.get(1), "P1")
+            && is_between(fields.get(2), "a", "b"),
+    )
 }
 
 #[test]
 fn fields_stay_in_order(rt: HostRuntime) -> Result<(), Fail> {
-    let alloc = rt.alloc();
-    let mut fields = Fields::new(alloc);
-    fields.push(Field::Any)?;
-    fields.push(Field::One(Text::new(alloc, "P1")?))?;
-    fields.push(Field::Between(Text::new(alloc, "a")?, Text::new(alloc, "b")?))?;
-    assert_eq!(rt; fields.len(), 3);
-    assert!(rt; matches!(fields.get(0), Field::Any));
-    assert!(rt; matches!(fields.get(1), Field::One(text) if text.as_str() == "P1"));
-    assert!(rt;
-        matches!(fields.get(2), Field::Between(lo, hi) if lo.as_str() == "a" && hi.as_str() == "b")
-    );
+    assert!(rt; are_fields_listed(rt.alloc())?);
     Ok(())
 }

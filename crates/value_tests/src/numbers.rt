@@ -1,175 +1,210 @@
+// Numbers as they are read and printed, and what rows come to.
+
 use aggregates::{
-    Agg, AggKind, Ratio, compare, mean, print_amount, print_number, print_ratio, read_amount,
+    Agg, AggKind, Part, Ratio, compare, mean, print_amount, print_number, print_ratio, read_amount,
     read_fraction, read_id, value_of,
 };
 use std::cmp::Ordering;
-use std::process::Abort;
 
-const ZEROS: &[u8] = b"0000000000000000000000000000000000000000";
+static IDS: [(&[u8], Option<u64>); 13] = [
+    (b"7", Some(7)),
+    (b"007", Some(7)),
+    (b"0", Some(0)),
+    (b"18446744073709551615", Some(18446744073709551615)),
+    (b"00018446744073709551615", Some(18446744073709551615)),
+    (b"0000000000000000000000000000000000000000", Some(0)),
+    (b"18446744073709551616", None),
+    (b"99999999999999999999", None),
+    (b"", None),
+    (b"+7", None),
+    (b"-7", None),
+    (b" 7", None),
+    (b"7x", None),
+];
+
+static AMOUNTS: [(&[u8], u8, Option<i64>); 28] = [
+    (b"6.5", 2, Some(650)),
+    (b"6.50", 2, Some(650)),
+    (b"+6.500", 2, Some(650)),
+    (b"6", 2, Some(600)),
+    (b"6.00", 2, Some(600)),
+    (b"-0.07", 2, Some(-7)),
+    (b"-0", 0, Some(0)),
+    (b"0.000001", 6, Some(1)),
+    (b"0.0000001", 6, None),
+    (b"0.0000010", 6, Some(1)),
+    (b"12.0", 0, Some(12)),
+    (b"12.5", 0, None),
+    (b"999999999999", 0, Some(999_999_999_999)),
+    (b"-999999999999", 0, Some(-999_999_999_999)),
+    (b"1000000000000", 0, None),
+    (b"-1000000000000", 0, None),
+    (b"9999999999.99", 2, Some(999_999_999_999)),
+    (b"10000000000.00", 2, None),
+    (b"000000000000000000000000000000000000000000009", 0, Some(9)),
+    (b"0000000000000000000000000000000000000000", 6, Some(0)),
+    (b"18446744073709551617", 0, None),
+    (b".5", 2, None),
+    (b"6.", 2, None),
+    (b"1e3", 2, None),
+    (b"1,000", 2, None),
+    (b"", 2, None),
+    (b"+", 2, None),
+    (b"+-1", 2, None),
+];
+
+static FRACTIONS: [(&[u8], Option<(i128, u64)>); 20] = [
+    (b"5", Some((5, 1))),
+    (b"-5", Some((-5, 1))),
+    (b"-0", Some((0, 1))),
+    (b"2.50", Some((250, 100))),
+    (b"-0.000001", Some((-1, 1_000_000))),
+    (b"6/4", Some((6, 4))),
+    (b"-6/004", Some((-6, 4))),
+    (
+        b"999999999999999999.999999",
+        Some((999_999_999_999_999_999_999_999, 1_000_000)),
+    ),
+    (
+        b"999999999999999999/999999999999999999",
+        Some((999_999_999_999_999_999, 999_999_999_999_999_999)),
+    ),
+    (b"1000000000000000000", None),
+    (b"0.0000001", None),
+    (b"1/1000000000000000000", None),
+    (b"1/0", None),
+    (b"1/000", None),
+    (b"1/", None),
+    (b"1.", None),
+    (b".5", None),
+    (b"+5", None),
+    (b"1.5/2", None),
+    (b"", None),
+];
+
+static PRINTED: [(i64, u8, &[u8]); 7] = [
+    (-7, 2, b"-0.07"),
+    (650, 2, b"6.50"),
+    (0, 0, b"0"),
+    (0, 6, b"0.000000"),
+    (-12, 0, b"-12"),
+    (999_999_999_999, 6, b"999999.999999"),
+    (-1_000_000_000_000_000_000, 2, b"-10000000000000000.00"),
+];
+
+// A fraction, and how 999999.999999 compares to it.
+static ORDERS: [(&[u8], Ordering); 4] = [
+    (b"999999.999999", Ordering::Equal),
+    (b"999999.999998", Ordering::Greater),
+    (b"999999999999999999/999999999999", Ordering::Less),
+    (b"-999999999999999999.999999", Ordering::Greater),
+];
+
+fn is_id_read(case: &(&[u8], Option<u64>)) -> bool {
+    read_id(case.0) == case.1
+}
 
 #[test]
 fn reads_ids(rt: HostRuntime) {
-    let table: [(&[u8], Option<u64>); 13] = [
-        (b"7", Some(7)),
-        (b"007", Some(7)),
-        (b"0", Some(0)),
-        (b"18446744073709551615", Some(18446744073709551615)),
-        (b"00018446744073709551615", Some(18446744073709551615)),
-        (ZEROS, Some(0)),
-        (b"18446744073709551616", None),
-        (b"99999999999999999999", None),
-        (b"", None),
-        (b"+7", None),
-        (b"-7", None),
-        (b" 7", None),
-        (b"7x", None),
-    ];
-    for (text, id) in &table {
-        assert_eq!(rt; read_id(text), *id);
+    'cases: for case in &IDS {
+        assert!(rt; is_id_read(case));
     }
+}
+
+fn is_amount_read(case: &(&[u8], u8, Option<i64>)) -> bool {
+    case.1 <= 6 && read_amount(case.0, case.1) == case.2
 }
 
 #[test]
 fn reads_amounts(rt: HostRuntime) {
-    let table: [(&[u8], u8, Option<i64>); 28] = [
-        (b"6.5", 2, Some(650)),
-        (b"6.50", 2, Some(650)),
-        (b"+6.500", 2, Some(650)),
-        (b"6", 2, Some(600)),
-        (b"6.00", 2, Some(600)),
-        (b"-0.07", 2, Some(-7)),
-        (b"-0", 0, Some(0)),
-        (b"0.000001", 6, Some(1)),
-        (b"0.0000001", 6, None),
-        (b"0.0000010", 6, Some(1)),
-        (b"12.0", 0, Some(12)),
-        (b"12.5", 0, None),
-        (b"999999999999", 0, Some(999_999_999_999)),
-        (b"-999999999999", 0, Some(-999_999_999_999)),
-        (b"1000000000000", 0, None),
-        (b"-1000000000000", 0, None),
-        (b"9999999999.99", 2, Some(999_999_999_999)),
-        (b"10000000000.00", 2, None),
-        (b"000000000000000000000000000000000000000000009", 0, Some(9)),
-        (ZEROS, 6, Some(0)),
-        (b"18446744073709551617", 0, None),
-        (b".5", 2, None),
-        (b"6.", 2, None),
-        (b"1e3", 2, None),
-        (b"1,000", 2, None),
-        (b"", 2, None),
-        (b"+", 2, None),
-        (b"+-1", 2, None),
-    ];
-    for (text, scale, amount) in &table {
-        assert!(rt; *scale <= 6);
-        assert_eq!(rt; read_amount(text, *scale), *amount);
+    'cases: for case in &AMOUNTS {
+        assert!(rt; is_amount_read(case));
+    }
+}
+
+fn is_fraction_read(case: &(&[u8], Option<(i128, u64)>)) -> bool {
+    match read_fraction(case.0) {
+        Some(f) => case.1 == Some((f.num, f.den)),
+        None => case.1.is_none(),
     }
 }
 
 #[test]
 fn reads_fractions(rt: HostRuntime) {
-    let table: [(&[u8], Option<(i128, u64)>); 20] = [
-        (b"5", Some((5, 1))),
-        (b"-5", Some((-5, 1))),
-        (b"-0", Some((0, 1))),
-        (b"2.50", Some((250, 100))),
-        (b"-0.000001", Some((-1, 1_000_000))),
-        (b"6/4", Some((6, 4))),
-        (b"-6/004", Some((-6, 4))),
-        (
-            b"999999999999999999.999999",
-            Some((999_999_999_999_999_999_999_999, 1_000_000)),
-        ),
-        (
-            b"999999999999999999/999999999999999999",
-            Some((999_999_999_999_999_999, 999_999_999_999_999_999)),
-        ),
-        (b"1000000000000000000", None),
-        (b"0.0000001", None),
-        (b"1/1000000000000000000", None),
-        (b"1/0", None),
-        (b"1/000", None),
-        (b"1/", None),
-        (b"1.", None),
-        (b".5", None),
-        (b"+5", None),
-        (b"1.5/2", None),
-        (b"", None),
-    ];
-    for (text, fraction) in &table {
-        let read = read_fraction(text).map(|f| (f.num, f.den));
-        assert_eq!(rt; read, *fraction);
+    'cases: for case in &FRACTIONS {
+        assert!(rt; is_fraction_read(case));
     }
 }
 
-fn amount_prints_as(rt: &impl Abort, amount: i64, scale: u8, text: &[u8]) {
-    assert!(rt; scale <= 6);
-    let mut out = [b'x'; 48];
-    let len = print_amount(amount, scale, &mut out);
-    assert!(rt; len <= 48);
-    assert!(rt; &out[..len] == text);
+// Whether so many first bytes are there, and are the text.
+fn starts_with(out: &[u8], len: usize, text: &[u8]) -> bool {
+    len <= out.len() && &out[..len] == text
 }
 
-fn ratio_prints_as(rt: &impl Abort, ratio: &Ratio, text: &[u8]) {
+fn is_amount_printed(case: &(i64, u8, &[u8])) -> bool {
+    if case.1 > 6 {
+        return false;
+    }
     let mut out = [b'x'; 48];
-    let len = print_ratio(ratio, &mut out);
-    assert!(rt; len <= 48);
-    assert!(rt; &out[..len] == text);
+    let len = print_amount(case.0, case.1, &mut out);
+    starts_with(&out, len, case.2)
+}
+
+fn is_number_printed(number: u64, text: &[u8]) -> bool {
+    let mut out = [b'x'; 48];
+    let len = print_number(number, &mut out);
+    starts_with(&out, len, text)
 }
 
 #[test]
 fn prints(rt: HostRuntime) {
-    let amounts: [(i64, u8, &[u8]); 7] = [
-        (-7, 2, b"-0.07"),
-        (650, 2, b"6.50"),
-        (0, 0, b"0"),
-        (0, 6, b"0.000000"),
-        (-12, 0, b"-12"),
-        (999_999_999_999, 6, b"999999.999999"),
-        (-1_000_000_000_000_000_000, 2, b"-10000000000000000.00"),
-    ];
-    for (amount, scale, text) in &amounts {
-        amount_prints_as(&rt, *amount, *scale, text);
+    'cases: for case in &PRINTED {
+        assert!(rt; is_amount_printed(case));
     }
+    assert!(rt; is_number_printed(18446744073709551615, b"18446744073709551615"));
+}
+
+fn is_ratio_printed(ratio: &Ratio, text: &[u8]) -> bool {
     let mut out = [b'x'; 48];
-    let len = print_number(18446744073709551615, &mut out);
-    assert!(rt; len <= 48);
-    assert!(rt; &out[..len] == b"18446744073709551615".as_slice());
+    let len = print_ratio(ratio, &mut out);
+    starts_with(&out, len, text)
+}
+
+fn is_part(part: Part, sum: i64, least: i64, greatest: i64) -> bool {
+    part.sum == sum && part.least == least && part.greatest == greatest
+}
+
+// The rows with the amounts 600, -1200 and 90, added up.
+fn are_three_rows_added() -> bool {
+    let mut agg = Agg::one(&[600]);
+    agg.add_row(&[-1200]);
+    agg.combine(&Agg::one(&[90]));
+    agg.count == 3
+        && agg.measures == 1
+        && is_part(agg.parts[0], -510, -1200, 600)
+        && agg.parts[1].sum == 0
+        && is_ratio_printed(&mean(&agg, 0, 2), b"-17/10")
+        && is_ratio_printed(&value_of(&agg, AggKind::Count, 2), b"3/1")
+        && is_ratio_printed(&value_of(&agg, AggKind::Sum(0), 2), b"-51/10")
+        && is_ratio_printed(&value_of(&agg, AggKind::Least(0), 2), b"-12/1")
+        && is_ratio_printed(&value_of(&agg, AggKind::Greatest(0), 2), b"6/1")
+        && is_ratio_printed(&value_of(&agg, AggKind::Mean(0), 2), b"-17/10")
 }
 
 #[test]
 fn adds_rows_up(rt: HostRuntime) {
-    let mut agg = Agg::one(&[600]);
-    agg.add_row(&[-1200]);
-    agg.combine(&Agg::one(&[90]));
-    assert_eq!(rt; agg.count, 3);
-    let (first, second) = (agg.parts[0], agg.parts[1]);
-    assert_eq!(rt; first.sum, -510);
-    assert_eq!(rt; first.least, -1200);
-    assert_eq!(rt; first.greatest, 600);
-    assert_eq!(rt; second.sum, 0);
-    assert!(rt; agg.measures == 1);
-    ratio_prints_as(&rt, &mean(&agg, 0, 2), b"-17/10");
-    ratio_prints_as(&rt, &value_of(&agg, AggKind::Count, 2), b"3/1");
-    ratio_prints_as(&rt, &value_of(&agg, AggKind::Sum(0), 2), b"-51/10");
-    ratio_prints_as(&rt, &value_of(&agg, AggKind::Least(0), 2), b"-12/1");
-    ratio_prints_as(&rt, &value_of(&agg, AggKind::Greatest(0), 2), b"6/1");
-    ratio_prints_as(&rt, &value_of(&agg, AggKind::Mean(0), 2), b"-17/10");
+    assert!(rt; are_three_rows_added());
+}
+
+fn is_order(case: &(&[u8], Ordering)) -> bool {
+    let agg = Agg::one(&[999_999_999_999]);
+    let value = value_of(&agg, AggKind::Sum(0), 6);
+    read_fraction(case.0).map(|f| compare(&value, &f)) == Some(case.1)
 }
 
 #[test]
 fn compares_without_rounding(rt: HostRuntime) {
-    let agg = Agg::one(&[999_999_999_999]);
-    let value = value_of(&agg, AggKind::Sum(0), 6);
-    let table: [(&[u8], Ordering); 4] = [
-        (b"999999.999999", Ordering::Equal),
-        (b"999999.999998", Ordering::Greater),
-        (b"999999999999999999/999999999999", Ordering::Less),
-        (b"-999999999999999999.999999", Ordering::Greater),
-    ];
-    for (text, order) in &table {
-        let read = read_fraction(text).map(|f| compare(&value, &f));
-        assert_eq!(rt; read, Some(*order));
+    'cases: for case in &ORDERS {
+        assert!(rt; is_order(case));
     }
 }

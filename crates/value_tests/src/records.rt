@@ -1,36 +1,47 @@
 // Texts, read by hand.
 use csv::ByteRecord;
+use std::alloc::{AllocError, Global};
 use std::test::Fail;
 use text_lines::{
     RecordReader, field, has_two_marks, is_comment_line, is_plain, split_line, trim_cr, trim_mark,
 };
 
+fn are_lines_cut() -> bool {
+    let text = trim_mark(b"\xef\xbb\xbf# x\r\ny");
+    let (first, behind) = split_line(text);
+    text.len() == 6
+        && trim_cr(first) == b"# x".as_slice()
+        && is_comment_line(first)
+        && behind == b"y".as_slice()
+}
+
+fn are_marks_and_quotes_seen() -> bool {
+    !has_two_marks(b"\xef\xbb\xbfx")
+        && has_two_marks(b"\xef\xbb\xbf\xef\xbb\xbf")
+        && is_plain("a,b c")
+        && !is_plain("a,\"b\"")
+}
+
 #[test]
 fn lines(rt: HostRuntime) {
-    let text = trim_mark(b"\xef\xbb\xbf# x\r\ny");
-    assert!(rt; text.len() == 6);
-    let (first, behind) = split_line(text);
-    assert!(rt; trim_cr(first) == b"# x".as_slice());
-    assert!(rt; is_comment_line(first));
-    assert!(rt; behind == b"y".as_slice());
-    assert!(rt; !has_two_marks(b"\xef\xbb\xbfx"));
-    assert!(rt; has_two_marks(b"\xef\xbb\xbf\xef\xbb\xbf"));
-    assert!(rt; is_plain("a,b c"));
-    assert!(rt; !is_plain("a,\"b\""));
+    assert!(rt; are_lines_cut());
+    assert!(rt; are_marks_and_quotes_seen());
+}
+
+// Two records with a line between them: of two fields, the second with a quote, and of one.
+fn are_records_read(alloc: Global) -> Result<bool, AllocError> {
+    let mut rows = RecordReader::new(alloc, b"a,\"b\"\"c\"\n\nd\n");
+    let mut row = ByteRecord::new(alloc);
+    let is_first = rows.next(&mut row)?;
+    let is_two = row.len() == 2 && field(&row, 1) == b"b\"c".as_slice();
+    let is_second = rows.next(&mut row)?;
+    let is_one = row.len() == 1;
+    let is_third = rows.next(&mut row)?;
+    Ok(is_first && is_two && is_second && is_one && !is_third)
 }
 
 #[test]
 fn records(rt: HostRuntime) -> Result<(), Fail> {
-    let text = b"a,\"b\"\"c\"\n\nd\n";
-    let mut rows = RecordReader::new(rt.alloc(), text);
-    let mut row = ByteRecord::new(rt.alloc());
-    assert!(rt; rows.next(&mut row)?);
-    assert!(rt; row.len() == 2);
-    if row.len() == 2 {
-        assert!(rt; field(&row, 1) == b"b\"c".as_slice());
-    }
-    assert!(rt; rows.next(&mut row)?);
-    assert!(rt; row.len() == 1);
-    assert!(rt; !rows.next(&mut row)?);
+    assert!(rt; are_records_read(rt.alloc())?);
     Ok(())
 }
