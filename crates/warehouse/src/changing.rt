@@ -169,14 +169,14 @@ fn add_rows(
 }
 
 // Makes the changes to rows and texts in a batch that is open, and takes the rows that go out of the
-// tree. It tells how many places the table has before the rows that come. The changes of the file are let
-// go of then, before a tree is made. After a refusal some of the changes are made.
+// tree. It tells how many places the table has before the rows that come. After a refusal some of the
+// changes are made.
 fn change_rows<L: Ledger>(
     schema: &Schema,
     table: &mut Table,
     dict: &mut Dict,
     tree: &mut QcArena,
-    batch: RawBatch,
+    batch: &RawBatch,
     alloc: Global,
     steps: &mut Steps<L>,
 ) -> Result<u32, Refused>
@@ -186,38 +186,38 @@ fn change_rows<L: Ledger>(
     requires width { tree.old.width ≡ length schema.now.dims }
     requires tree { IsCanonical nat_cmp table.old.measures (rows_of table.old) tree.old.now }
     requires few_nodes { length (nodes nat_cmp (rows_of table.old)) ≤ tree.old.max }
-    requires dims { batch.dims ≡ length schema.now.dims }
-    requires measures { batch.measures ≡ length schema.now.measures }
-    requires once { first_twice batch.changes ≡ None }
-    requires valid { IsBatch batch }
-    ensures last { OnOk result (refusal_of (state_of schema.now dict.old table.old) batch.changes
-        ≡ last_refusal (state_of schema.now dict.old table.old) batch.changes) }
-    ensures made { OnOk result (state_of schema.now dict.new table.new ≡ after (state_of schema.now dict.old table.old) batch.changes) }
+    requires dims { batch.now.dims ≡ length schema.now.dims }
+    requires measures { batch.now.measures ≡ length schema.now.measures }
+    requires once { first_twice batch.now.changes ≡ None }
+    requires valid { IsBatch batch.now }
+    ensures last { OnOk result (refusal_of (state_of schema.now dict.old table.old) batch.now.changes
+        ≡ last_refusal (state_of schema.now dict.old table.old) batch.now.changes) }
+    ensures made { OnOk result (state_of schema.now dict.new table.new ≡ after (state_of schema.now dict.old table.old) batch.now.changes) }
     ensures known { OnOk result (RowsAreCodes dict.new.lists (rows_of table.new)) }
-    ensures cause { IfErr result (λ refused. IsCause refused (state_of schema.now dict.old table.old) batch.changes) }
+    ensures cause { IfErr result (λ refused. IsCause refused (state_of schema.now dict.old table.old) batch.now.changes) }
     ensures longer { AreLonger dict.old.lists dict.new.lists }
     ensures max { dict.new.max ≡ dict.old.max }
     ensures dictionary { IsDictionary dict.new }
     ensures frame { frame table.new ≡ frame table.old }
-    ensures left { IfOk result (λ first. rows_before table.new first ≡ kept (deleted batch.changes) (rows_of table.old)) }
+    ensures left { IfOk result (λ first. rows_before table.new first ≡ kept (deleted batch.now.changes) (rows_of table.old)) }
     ensures tree { IfOk result (λ first. IsTreeBefore table.new tree.new first) }
-    ensures numbers { OnOk result (KeepsNodes (kept (deleted batch.changes) (rows_of table.old)) tree.old.now tree.new.now) }
-    ensures apart { OnOk result (KeepsApart (gone (deleted batch.changes) (rows_of table.old)) tree.old.now tree.new.now) }
-    ensures steps { OnOk result (steps.new ≤ steps.old + cost_of_going table.old.dims (rows_of table.old) (deleted batch.changes)) }
+    ensures numbers { OnOk result (KeepsNodes (kept (deleted batch.now.changes) (rows_of table.old)) tree.old.now tree.new.now) }
+    ensures apart { OnOk result (KeepsApart (gone (deleted batch.now.changes) (rows_of table.old)) tree.old.now tree.new.now) }
+    ensures steps { OnOk result (steps.new ≤ steps.old + cost_of_going table.old.dims (rows_of table.old) (deleted batch.now.changes)) }
     ensures tree_frame { arena.frame tree.new ≡ arena.frame tree.old }
 {
-    match delete_rows(table, tree, &batch, alloc, steps) {
+    match delete_rows(table, tree, batch, alloc, steps) {
         Ok(()) => {}
         Err(refused) => return Err(refused),
     }
-    if let Some(k) = first_present(table, &batch) {
+    if let Some(k) = first_present(table, batch) {
         return Err(Refused::Present(k));
     }
-    if is_full(table, &batch, schema.rows()) {
+    if is_full(table, batch, schema.rows()) {
         return Err(Refused::RowsFull);
     }
     let first = table.places();
-    match add_rows(schema, table, dict, &batch, alloc) {
+    match add_rows(schema, table, dict, batch, alloc) {
         Ok(()) => {}
         Err(refused) => return Err(refused),
     }
@@ -322,10 +322,15 @@ fn change_and_build<L: Ledger>(
     ensures frame { frame table.new ≡ frame table.old }
     ensures tree_frame { arena.frame tree.new ≡ arena.frame tree.old }
 {
-    let first = match change_rows(schema, table, dict, tree, batch, alloc, steps) {
+    let first = match change_rows(schema, table, dict, tree, &batch, alloc, steps) {
         Ok(first) => first,
-        Err(refused) => return Err(refused),
+        Err(refused) => {
+            drop(batch);
+            return Err(refused);
+        }
     };
+    // The changes of the file are let go of before a tree is made.
+    drop(batch);
     match make_tree(table, tree, first, in_place, alloc, steps) {
         Ok(()) => Ok(()),
         Err(ArenaRefused::Full) => Err(Refused::NodesFull),

@@ -46,12 +46,12 @@ impl Seen {
     }
 }
 
-/// The number of the first change with the operation and the id of an earlier one.
-pub(crate) fn first_repeat(alloc: Global, batch: &RawBatch) -> Result<Option<u32>, Memory>
+// The number of the first change that is one of an earlier operation and id, where none is noted yet.
+fn first_seen(seen: &mut Seen, batch: &RawBatch) -> Result<Option<u32>, Memory>
+    requires { AreSeen seen.old.gone.keys seen.old.come.keys [] }
     ensures { IfOk result (λ k. k ≡ first_twice batch.now.changes) }
 {
     let count = batch.len();
-    let mut seen = Seen::with_capacity(alloc, count as usize)?;
     'changes: for before in 0..count {
         let number = before + 1;
         if !seen.is_new(batch, number)? {
@@ -59,6 +59,16 @@ pub(crate) fn first_repeat(alloc: Global, batch: &RawBatch) -> Result<Option<u32
         }
     }
     Ok(None)
+}
+
+/// The number of the first change with the operation and the id of an earlier one.
+pub(crate) fn first_repeat(alloc: Global, batch: &RawBatch) -> Result<Option<u32>, Memory>
+    ensures { IfOk result (λ k. k ≡ first_twice batch.now.changes) }
+{
+    let mut seen = Seen::with_capacity(alloc, batch.len() as usize)?;
+    let found = first_seen(&mut seen, batch);
+    drop(seen);
+    found
 }
 
 /// The number of the first insertion whose id a row of the table has.

@@ -22,8 +22,7 @@ ghost use Rattle.qc_schema.specs.Grammar.{is_new_name};
 
 use crate::Memory;
 use crate::changing::{attempt, change};
-use crate::indexing::new_index;
-use crate::parts::tree_and_index;
+use crate::parts::{no_rows, no_tree, tree_and_index};
 use crate::refused::{Applied, PartsRefused, Refused, Stats, WidenRefused};
 use crate::widening::widen;
 use base_table::Table;
@@ -89,18 +88,28 @@ impl Warehouse {
     pub fn new(alloc: Global, schema: Schema) -> Result<Warehouse, Memory>
         ensures { IfOk result (λ warehouse. warehouse.state ≡ empty schema) }
     {
-        let dict = Dict::new(alloc, schema.dims(), schema.values())?;
-        let table = Table::new(alloc, schema.dims(), schema.measures(), schema.rows())?;
-        let tree = QcArena::new(alloc, schema.dims(), schema.nodes())?;
-        let index = new_index(alloc, &schema)?;
-        Ok(Warehouse {
-            schema,
-            dict,
-            table,
-            tree,
-            index,
-            alloc,
-        })
+        match no_rows(alloc, &schema) {
+            Ok((dict, table)) => match no_tree(alloc, &schema) {
+                Ok((tree, index)) => Ok(Warehouse {
+                    schema,
+                    dict,
+                    table,
+                    tree,
+                    index,
+                    alloc,
+                }),
+                Err(error) => {
+                    drop(schema);
+                    drop(dict);
+                    drop(table);
+                    Err(error)
+                }
+            },
+            Err(error) => {
+                drop(schema);
+                Err(error)
+            }
+        }
     }
 
     /// The state of a schema, texts and rows that were made elsewhere, with the tree of the rows and the
@@ -127,7 +136,12 @@ impl Warehouse {
                 index,
                 alloc,
             }),
-            Err(refused) => Err(refused),
+            Err(refused) => {
+                drop(schema);
+                drop(dict);
+                drop(table);
+                Err(refused)
+            }
         }
     }
 

@@ -372,7 +372,10 @@ pub(crate) fn widen<L: Ledger>(
     let _dims = wide.dims();
     let made = match widen_parts(&wide, table, dict, tree, value, alloc, steps) {
         Ok(made) => made,
-        Err(_) => return Err(WidenRefused::Memory),
+        Err(_) => {
+            drop(wide);
+            return Err(WidenRefused::Memory);
+        }
     };
     *schema = wide;
     *index = made;

@@ -27,7 +27,7 @@ returns-then-is_full-clause-longer g c = longer-same c.args.dict.now.lists
 pub returns-in-Err-clause-cause : goal.returns-in-Err-clause-cause
 returns-in-Err-clause-cause g c =
     let s = state_of c.args.schema.now c.args.dict.now c.args.table.now in
-    let changes = c.args.batch.changes in
+    let changes = c.args.batch.now.changes in
     missing-caused s changes (refusal_in c.in-Err.refused) c.requires.once
     (subst (λ (o : Option ℕ). IfSome (refusal_in c.in-Err.refused) (λ refusal. option_map (λ (k : ℕ). batches.Missing k) o ≡ Some refusal))
     (sym (missing-decoded c.args.dict.now.lists (rows_of c.args.table.now) changes)) c.in-Err.ensures.missing)
@@ -38,7 +38,7 @@ returns-in-Some-clause-cause g c =
     let lists = c.args.dict.now.lists in
     let rows = rows_of c.args.table.now in
     let left = rows_of c.delete_rows.new.table in
-    let changes = c.args.batch.changes in
+    let changes = c.args.batch.now.changes in
     cause-present s changes c.in-Some.k c.requires.once
     (missing-decoded lists rows changes ∙ c.in-Ok.ensures.none)
     (present-decoded lists rows left changes c.in-Ok.ensures.rows ∙ sym c.first_present.ensures ∙ c.in-Some.is)
@@ -49,7 +49,7 @@ returns-then-is_full-clause-cause g c =
     let lists = c.args.dict.now.lists in
     let rows = rows_of c.args.table.now in
     let left = rows_of c.delete_rows.new.table in
-    let changes = c.args.batch.changes in
+    let changes = c.args.batch.now.changes in
     cause-rows s changes c.requires.once
     (missing-decoded lists rows changes ∙ c.in-Ok.ensures.none)
     (present-decoded lists rows left changes c.in-Ok.ensures.rows ∙ sym c.first_present.ensures ∙ c.in_default.is)
@@ -58,12 +58,12 @@ returns-then-is_full-clause-cause g c =
 pub add_rows-requires-clause-known : goal.add_rows-requires-clause-known
 add_rows-requires-clause-known g c =
     rw c.in-Ok.ensures.rows
-    (All-filter (λ (row : Row ℕ). not (is_among row.id (deleted c.args.batch.changes))) (λ (row : Row ℕ). AreCodes c.args.dict.now.lists row.tuple) (rows_of c.args.table.now) c.requires.stored.known)
+    (All-filter (λ (row : Row ℕ). not (is_among row.id (deleted c.args.batch.now.changes))) (λ (row : Row ℕ). AreCodes c.args.dict.now.lists row.tuple) (rows_of c.args.table.now) c.requires.stored.known)
 
 pub returns-in-Err-add_rows-clause-cause : goal.returns-in-Err-add_rows-clause-cause
 returns-in-Err-add_rows-clause-cause g c =
     let s = state_of c.args.schema.now c.args.dict.now c.args.table.now in
-    let changes = c.args.batch.changes in
+    let changes = c.args.batch.now.changes in
     let full : full_dim c.args.dict.now.max (texts_after c.args.dict.now.lists changes) ≡ full_dim c.args.schema.now.values (texts_after c.args.dict.now.lists changes) =
     ap (λ (max : ℕ). full_dim max (texts_after c.args.dict.now.lists changes)) c.requires.stored.most_texts in
     caused s changes (refusal_in c.in-Err-add_rows.refused) _
@@ -74,7 +74,7 @@ returns-in-Err-add_rows-clause-cause g c =
 pub returns-clause-last : goal.returns-clause-last
 returns-clause-last g c =
     let s = state_of c.args.schema.now c.args.dict.now c.args.table.now in
-    let changes = c.args.batch.changes in
+    let changes = c.args.batch.now.changes in
     let now = c.add_rows.new.dict in
     let within : full_dim c.args.schema.now.values (texts_after c.args.dict.now.lists changes) ≡ None =
     ap₂ full_dim (sym (c.in-Ok-add_rows.ensures.max ∙ c.requires.stored.most_texts)) (sym c.in-Ok-add_rows.ensures.lists) ∙ full-none now.max now.lists c.in-Ok-add_rows.ensures.dictionary.within in
@@ -87,7 +87,7 @@ returns-clause-made g c =
     let lists = c.args.dict.now.lists in
     let rows = rows_of c.args.table.now in
     let left = rows_of c.delete_rows.new.table in
-    let changes = c.args.batch.changes in
+    let changes = c.args.batch.now.changes in
     let made : decoded_rows c.add_rows.new.dict.lists c.add_rows.new.table ≡ rows_after (decoded_rows lists c.args.table.now) changes =
     c.in-Ok-add_rows.ensures.rows ∙ sym (rows-decoded lists rows left changes c.in-Ok.ensures.rows) in
     ap₂ (λ (rs : List (Row Text)) (ts : List (List Text)). let s : State = record { schema = c.args.schema.now; rows = rs; texts = ts } in s) made c.in-Ok-add_rows.ensures.lists

@@ -34,4 +34,4 @@ returns-clause-tree g c =
 pub returns-clause-index : goal.returns-clause-index
 returns-clause-index g c =
     let now = ap (λ (a : Arena). a.now) c.drop_images.ensures ∙ ap (λ (a : Arena). a.now) c.commit.ensures.value in
-    subst (λ (tree : Tree ℕ). IsIndexed c.args.schema.now tree c.change_index.new.index) (sym now) c.in_ok-change_index.ensures.indexed
+    subst (λ (tree : Tree ℕ). IsIndexed c.args.schema.now tree c.change_index.new.index) (sym now) c.in-Ok-change_index.ensures.indexed

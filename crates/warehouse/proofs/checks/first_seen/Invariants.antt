@@ -1,7 +1,7 @@
 use Rattle.std.proofs.Common.{◌≡◌, ◌+◌, drop, take}
 use Rattle.warehouse.specs.Batch.{first_twice, twice_from}
 use Rattle.warehouse.specs.Steps.{AreSeen}
-use Rattle.warehouse.proofs.checks.first_repeat.Given as goal
+use Rattle.warehouse.proofs.checks.first_seen.Given as goal
 
 abbrev pub invariant-changes : goal.invariant-changes
 invariant-changes l =

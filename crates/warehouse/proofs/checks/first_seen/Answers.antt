@@ -5,7 +5,7 @@ use Rattle.cube_defs.specs.Text.{Text}
 use Rattle.csv_load.specs.Batch.{Change, change_at}
 use Rattle.warehouse.specs.Batch.{same_change}
 use Rattle.warehouse.proofs.Changes.{one-before, repeat-here, repeat-later}
-use Rattle.warehouse.proofs.checks.first_repeat.Goals as goal
+use Rattle.warehouse.proofs.checks.first_seen.Goals as goal
 
 pub returns-then-not-branch : goal.returns-then-not-branch
 returns-then-not-branch c =
