@@ -97,6 +97,7 @@ pub(crate) fn keep(kept: &mut Vec<Images>, pins: &Vec<Pin>, images: Images)
     ensures same { (tree : Tree ℕ) → ReadSame kept.old.items (over images tree) kept.new.items tree pins.now.items }
 {
     if pins.is_empty() {
+        drop(images);
         return;
     }
     kept.push(images).unwrap();

@@ -20,7 +20,7 @@ use crate::view::PinnedView;
 use cell_core::Steps;
 use cube_defs::{MAX_FILE, Memory};
 use qc_arena::Images;
-use std::alloc::Global;
+use std::alloc::{AllocError, Global};
 use std::marker::Model;
 use std::sync::ledger::Ledger;
 use warehouse::{Applied, Refused, Warehouse, WidenRefused};
@@ -59,9 +59,12 @@ impl Pinned {
     pub fn new(alloc: Global, warehouse: Warehouse) -> Result<Pinned, Memory>
         ensures { IfOk result (λ p. p ≡ record { now = record warehouse { images = finmap.empty }; pins = [] }) }
     {
-        let pins = Vec::with_capacity(alloc, MAX_PINS)?;
+        let Ok(pins) = Vec::with_capacity(alloc, MAX_PINS) else {
+            drop(warehouse);
+            return Err(AllocError);
+        };
         let mut warehouse = warehouse;
-        warehouse.last_images();
+        drop(warehouse.last_images());
         Ok(Pinned {
             warehouse,
             kept: Vec::new(alloc),
@@ -90,7 +93,14 @@ impl Pinned {
     pub fn finish(self) -> Warehouse
         ensures { result ≡ self.now }
     {
-        self.warehouse
+        let Pinned {
+            warehouse,
+            kept,
+            pins,
+        } = self;
+        drop(kept);
+        drop(pins);
+        warehouse
     }
 
     /// The tree of a version and what was counted of it. None where no version has the name. It takes no

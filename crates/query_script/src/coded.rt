@@ -15,7 +15,7 @@ use text_lines::{has_mark, is_plain};
 use value_dict::Dict;
 
 /// How a line was read.
-#[derive(Clone, Copy, Debug, PartialEq, Eq)]
+#[derive(Clone, Copy)]
 pub enum Coded {
     /// It is no point, or one that has to be read by its fields.
     Unread,

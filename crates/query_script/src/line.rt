@@ -1,13 +1,13 @@
 // A line of a script.
 ghost use Rattle.std.specs.Prelude.{◌≡◌, ◌≤◌, true, length, IfOk, IfErr};
 ghost use Rattle.std.specs.Str.{bytes_eq};
-ghost use Rattle.query_script.specs.Commands.{IsQuestion, command_in, command_named, name_in, wants_memory};
+ghost use Rattle.query_script.specs.Commands.{IsQuestion, asked_with, command_in, command_named, name_in, query_named, wants_memory};
 ghost use Rattle.cell_core.specs.Gives.{Gives};
 ghost use Rattle.query_script.specs.Faults.{line_fault_in};
-ghost use Rattle.query_script.specs.Questions.{question_in};
-ghost use Rattle.query_script.specs.Lines.{may_want_memory, names_more, rest_of, stats_line, word_of};
+ghost use Rattle.query_script.specs.Questions.{question_in, question_of};
+ghost use Rattle.query_script.specs.Lines.{may_want_memory, names_more, names_query, rest_of, stats_line, word_of};
 
-use crate::at::{read_at, read_pin_name};
+use crate::at::{read_at, read_pin, read_unpin};
 use crate::query::{Query, read_query};
 use crate::widen::read_widen;
 use aggregates::{AggKind, Fraction};
@@ -107,6 +107,56 @@ fn read_name(alloc: Global, rest: &str) -> Result<Text, LineRefused>
     Ok(Text::new(alloc, rest)?)
 }
 
+// What is done with a file.
+#[derive(Clone, Copy)]
+enum OfFile {
+    Load,
+    Apply,
+    Try,
+}
+
+ghost use Rattle.query_script.specs.Makes.{question_of_file};
+
+impl OfFile {
+    // The command that does it with the file of this name.
+    fn command(self, name: Text) -> Command
+        ensures { question_in result ≡ question_of_file self name }
+    {
+        match self {
+            OfFile::Load => Command::Load(name),
+            OfFile::Apply => Command::Apply(name),
+            OfFile::Try => Command::Try(name),
+        }
+    }
+}
+
+// The command of the file whose name stands behind its word.
+fn read_of_file(alloc: Global, of: OfFile, rest: &str) -> Result<Command, LineRefused>
+    ensures { Gives line_fault_in question_in result (asked_with (question_of_file of) (name_in rest.now)) }
+{
+    match read_name(alloc, rest) {
+        Ok(name) => Ok(of.command(name)),
+        Err(cause) => Err(cause),
+    }
+}
+
+// The command that asks a query of the present rows.
+fn read_asked(
+    alloc: Global,
+    schema: &Schema,
+    word: &str,
+    rest: &str,
+) -> Result<Command, LineRefused>
+    requires { length rest.now ≤ MAX_FILE }
+    ensures gives { Gives line_fault_in question_in result (asked_with question_of (query_named schema.now word.now rest.now)) }
+    ensures memory { IfErr result (λ e. e ≡ LineRefused.Memory → names_query word.now ≡ true) }
+{
+    match read_query(alloc, schema, word, rest) {
+        Ok(query) => Ok(query.into_command()),
+        Err(cause) => Err(cause),
+    }
+}
+
 /// Whether the line is the one word that stands alone.
 pub(crate) fn is_stats(line: &str) -> bool
     ensures { result ≡ bytes_eq line.now stats_line }
@@ -126,17 +176,14 @@ fn read_command(
     ensures memory { IfErr result (λ e. e ≡ LineRefused.Memory → names_more word.now ≡ true) }
 {
     match word {
-        "load" => Ok(Command::Load(read_name(alloc, rest)?)),
-        "apply" => Ok(Command::Apply(read_name(alloc, rest)?)),
-        "try" => Ok(Command::Try(read_name(alloc, rest)?)),
+        "load" => read_of_file(alloc, OfFile::Load, rest),
+        "apply" => read_of_file(alloc, OfFile::Apply, rest),
+        "try" => read_of_file(alloc, OfFile::Try, rest),
         "widen" => read_widen(alloc, schema, rest),
-        "pin" => Ok(Command::Pin(read_pin_name(alloc, rest)?)),
-        "unpin" => Ok(Command::Unpin(read_pin_name(alloc, rest)?)),
+        "pin" => read_pin(alloc, rest),
+        "unpin" => read_unpin(alloc, rest),
         "at" => read_at(alloc, schema, rest),
-        _ => match read_query(alloc, schema, word, rest) {
-            Ok(query) => Ok(query.into_command()),
-            Err(cause) => Err(cause),
-        },
+        _ => read_asked(alloc, schema, word, rest),
     }
 }
 

@@ -8,7 +8,8 @@ ghost use Rattle.query_script.specs.Faults.{line_fault_in};
 ghost use Rattle.query_script.specs.Fields.{field_of, value_of};
 ghost use Rattle.query_script.specs.Progress.{asked_after};
 ghost use Rattle.text_lines.specs.Lines.{begins_with_mark};
-ghost use Rattle.text_lines.specs.Records.{bytes_in};
+ghost use Rattle.std.specs.List.{flat_map};
+ghost use Rattle.text_lines.specs.Records.{bytes_in, bytes_in_all};
 
 use crate::line::LineRefused;
 use crate::plain::read_plain;
@@ -21,7 +22,7 @@ use std::alloc::Global;
 use text_lines::{RecordReader, field, has_mark, is_plain};
 
 /// What the fields of a record ask for together.
-#[derive(Clone, Copy, Debug, PartialEq, Eq)]
+#[derive(Clone, Copy)]
 pub enum Shape {
     /// A cell: each field is Any or one value.
     Cell,
@@ -118,6 +119,30 @@ pub fn check_count(shape: Shape, dims: u8, fields: Fields) -> Result<Fields, Lin
     Ok(fields)
 }
 
+// Puts what the fields of all records that are left ask behind what those before them ask.
+fn push_records(
+    alloc: Global,
+    shape: Shape,
+    dims: u8,
+    rows: &mut RecordReader<'_>,
+    row: &mut ByteRecord,
+    fields: &mut Fields,
+) -> Result<(), LineRefused>
+    requires text { All (All IsUtf8) rows.old }
+    requires size { bytes_in_all rows.old ≤ MAX_FILE }
+    requires few { length fields.old ≤ dims }
+    ensures ok { OnOk result (asked_after (field_of shape) dims fields.new []
+        ≡ asked_after (field_of shape) dims fields.old (flat_map (λ fields. fields) rows.old)) }
+    ensures few { OnOk result (length fields.new ≤ dims) }
+    ensures err { IfErr result (λ e. IfSome (line_fault_in e)
+        (λ fault. asked_after (field_of shape) dims fields.old (flat_map (λ fields. fields) rows.old) ≡ Err fault)) }
+{
+    'records: while rows.next(row)? {
+        push_fields(alloc, shape, dims, row, fields)?;
+    }
+    Ok(())
+}
+
 // Reads the fields of all records of a text. Not inlined: a reader of records has tables of 16 KiB, which
 // whoever makes one clears as it is entered, and hardly a line has quotes.
 #[inline(never)]
@@ -129,10 +154,13 @@ fn read_records(alloc: Global, shape: Shape, dims: u8, rest: &str) -> Result<Fie
     let mut rows = RecordReader::new(alloc, rest.as_bytes());
     let mut row = ByteRecord::new(alloc);
     let mut fields = Fields::new(alloc);
-    'records: while rows.next(&mut row)? {
-        push_fields(alloc, shape, dims, &row, &mut fields)?;
+    let pushed = push_records(alloc, shape, dims, &mut rows, &mut row, &mut fields);
+    drop(rows);
+    drop(row);
+    match pushed {
+        Ok(()) => check_count(shape, dims, fields),
+        Err(cause) => Err(cause),
     }
-    check_count(shape, dims, fields)
 }
 
 /// Reads what follows the word of a command that asks a cell, or a box of cells.

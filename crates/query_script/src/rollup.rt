@@ -4,11 +4,13 @@ ghost use Rattle.std.specs.Prelude.{IfSome, length, ◌<◌, ◌≡◌, ◌≤�
 ghost use Rattle.cell_core.specs.Gives.{Gives};
 ghost use Rattle.aggregates.specs.Views.{kind_in};
 ghost use Rattle.iceberg_query.specs.Asked.{bound_in};
+ghost use Rattle.qc_schema.specs.Grammar.{measure_from};
 ghost use Rattle.query_script.specs.Faults.{line_fault_in};
 ghost use Rattle.query_script.specs.Lines.{rest_of, word_of};
 ghost use Rattle.query_script.specs.Queries.{query_in};
 ghost use Rattle.query_script.specs.Records.{record_in};
-ghost use Rattle.query_script.specs.Rollups.{IsLow, behind_words, bound_at, rollup_in, value_at, with_record};
+ghost use Rattle.query_script.specs.Makes.{make_of};
+ghost use Rattle.query_script.specs.Rollups.{IsLow, behind_words, bound_at, rollup_in, value_at, with_measure, with_record};
 ghost use Rattle.query_script.specs.declared.record.Shape.TheVariants as shapes;
 
 use crate::iceberg::OfMeasure;
@@ -103,6 +105,24 @@ fn read_bound(
     }
 }
 
+// The measure of an aggregate, and what stands behind it.
+fn read_measured(
+    alloc: Global,
+    schema: &Schema,
+    aggregate: OfMeasure,
+    words: &str,
+) -> Result<Query, LineRefused>
+    requires { length words.now ≤ MAX_FILE }
+    ensures { Gives line_fault_in query_in result
+        (with_measure (length schema.now.dims) (make_of aggregate) (rest_of words.now) (measure_from schema.now.measures 0 (word_of words.now))) }
+{
+    let (name, behind) = split_command(words);
+    match schema.measure_named(name.as_bytes()) {
+        Some(measure) => read_bound(alloc, schema, aggregate.of(measure), 3, behind),
+        None => Err(LineRefused::Field(2)),
+    }
+}
+
 /// Reads what follows the word `rollup`.
 pub(crate) fn read_rollup(alloc: Global, schema: &Schema, rest: &str) -> Result<Query, LineRefused>
     requires { length rest.now ≤ MAX_FILE }
@@ -112,12 +132,8 @@ pub(crate) fn read_rollup(alloc: Global, schema: &Schema, rest: &str) -> Result<
     if word == "count" {
         return read_bound(alloc, schema, AggKind::Count, 2, behind);
     }
-    let Some(aggregate) = OfMeasure::named(word.as_bytes()) else {
-        return Err(LineRefused::Field(1));
-    };
-    let (name, behind) = split_command(behind);
-    let Some(measure) = schema.measure_named(name.as_bytes()) else {
-        return Err(LineRefused::Field(2));
-    };
-    read_bound(alloc, schema, aggregate.of(measure), 3, behind)
+    match OfMeasure::named(word.as_bytes()) {
+        Some(aggregate) => read_measured(alloc, schema, aggregate, behind),
+        None => Err(LineRefused::Field(1)),
+    }
 }

@@ -1,52 +1,20 @@
-use Rattle.std.proofs.Common.{◌∙◌, ◌≡◌, ◌∷◌, All, IsUtf8, sym, ap, arith, length, refl}
-use Rattle.std.specs.List.{flat_map}
-use Rattle.std.proofs.lemmas.List.Elements.{All-head, All-rest, All-same}
-use Rattle.std.proofs.lemmas.Result.{err_from_is_err_and}
-use Rattle.csv.specs.Records.{fields_of}
-use Rattle.text_lines.specs.Records.{bytes_in_all}
+use Rattle.std.proofs.Common.{◌∙◌, sym, ap, arith, length}
 use Rattle.query_script.proofs.Asked.{record-asks, rows-text}
 use Rattle.query_script.proofs.record.read_records.Goals as goal
 
-pub records-init : goal.records-init
-records-init c = record {
-  asked = rw c.new-fields.ensures refl;
-  few = omega (arith, ap length c.new-fields.ensures);
-  text = rows-text c.args.rest.now c.as_bytes.result.now c.new-rows.result c.utf8.rest c.as_bytes.ensures.value c.new-rows.ensures.records;
-  size = omega (arith, c.new-rows.ensures.size, ap length c.as_bytes.ensures.value, c.requires.size);
-}
+pub push_records-pushed-requires-clause-text : goal.push_records-pushed-requires-clause-text
+push_records-pushed-requires-clause-text c = rows-text c.args.rest.now c.as_bytes.result.now c.new-rows.result c.utf8.rest c.as_bytes.ensures.value c.new-rows.ensures.records
 
-pub push_fields-requires-clause-text : goal.push_fields-requires-clause-text
-push_fields-requires-clause-text c =
-    let left : c.records.rows ≡ fields_of c.next.new.row ∷ c.next.new.self = rw c.if-branch.true at c.in_ok-next.ensures.next in
-    All-head (All IsUtf8) (fields_of c.next.new.row) c.next.new.self (All-same (All IsUtf8) (fields_of c.next.new.row ∷ c.next.new.self) c.records.rows (sym left) c.records.invariant.text)
+pub push_records-pushed-requires-clause-size : goal.push_records-pushed-requires-clause-size
+push_records-pushed-requires-clause-size c = omega (arith, c.new-rows.ensures.size, ap length c.as_bytes.ensures.value, c.requires.size)
 
-pub records-preserved : goal.records-preserved
-records-preserved c =
-    let left : c.records.rows ≡ fields_of c.next.new.row ∷ c.next.new.self = rw c.if-branch.true at c.in_ok-next.ensures.next in
-    record {
-      asked = c.in_ok-push_fields.ensures.ok (flat_map (λ fields. fields) c.next.new.self) ∙ rw left at c.records.invariant.asked;
-      few = c.in_ok-push_fields.ensures.few;
-      text = All-rest (All IsUtf8) (fields_of c.next.new.row) c.next.new.self c.records.rows left c.records.invariant.text;
-      size = omega (arith, ap bytes_in_all left, c.records.invariant.size);
-    }
-
-pub returns-in_err-push_fields : goal.returns-in_err-push_fields
-returns-in_err-push_fields c =
-    let left : c.records.rows ≡ fields_of c.next.new.row ∷ c.next.new.self = rw c.if-branch.true at c.in_ok-next.ensures.next in
-    let so_far = rw left at c.records.invariant.asked in
-    let whole = record-asks c.args.shape c.args.dims c.args.rest.now c.as_bytes.result.now c.new-rows.result c.as_bytes.ensures.value c.requires.unmarked c.new-rows.ensures.records ∙ sym so_far in
-    let fails = c.in_err-push_fields.ensures.err (flat_map (λ fields. fields) c.next.new.self) in
-    let p = err_from_is_err_and c.from_residual-in_err-push_fields.result c.from_residual-in_err-push_fields.ensures.1 in
-    rw (p.1, p.2, whole) fails
-
-pub returns : goal.returns
-returns c =
-    let none = rw c.if-branch.false at c.in_ok-next.ensures.next in
-    let so_far = rw none.0 at c.records.invariant.asked in
+pub returns-in-Ok : goal.returns-in-Ok
+returns-in-Ok c =
+    let so_far = rw (c.in-Ok.is, c.new-fields.ensures) at c.push_records-pushed.ensures.ok in
     let whole = record-asks c.args.shape c.args.dims c.args.rest.now c.as_bytes.result.now c.new-rows.result c.as_bytes.ensures.value c.requires.unmarked c.new-rows.ensures.records ∙ sym so_far in
     rw whole c.check_count.ensures
 
-pub push_fields-requires-clause-size : goal.push_fields-requires-clause-size
-push_fields-requires-clause-size c =
-    let left : c.records.rows ≡ fields_of c.next.new.row ∷ c.next.new.self = rw c.if-branch.true at c.in_ok-next.ensures.next in
-    omega (arith, ap bytes_in_all left, c.records.invariant.size)
+pub returns-in-Err : goal.returns-in-Err
+returns-in-Err c =
+    let whole = record-asks c.args.shape c.args.dims c.args.rest.now c.as_bytes.result.now c.new-rows.result c.as_bytes.ensures.value c.requires.unmarked c.new-rows.ensures.records in
+    rw whole (rw (c.in-Err.is, c.new-fields.ensures) at c.push_records-pushed.ensures.err)
