@@ -65,10 +65,14 @@ fn canonical(alloc: Global, text: &[u8]) -> Result<Schema, PartRefused>
             if text == canonical.as_slice() {
                 Ok(schema)
             } else {
+                drop(schema);
                 Err(PartRefused::Form)
             }
         }
-        Err(_) => Err(PartRefused::Memory),
+        Err(_) => {
+            drop(schema);
+            Err(PartRefused::Memory)
+        }
     }
 }
 
@@ -93,14 +97,18 @@ fn start(alloc: Global, schema: &Schema) -> Result<(Dict, Table), PartRefused>
     ensures begun { IfOk result (λ made. IsBegun schema.now made.0 made.1) }
     ensures memory { IfErr result (λ refused. refused ≡ PartRefused.Memory) }
 {
-    let dict = Dict::new(alloc, schema.dims(), schema.values());
-    let table = Table::new(alloc, schema.dims(), schema.measures(), schema.rows());
-    match (dict, table) {
-        (Ok(dict), Ok(mut table)) => {
+    let Ok(dict) = Dict::new(alloc, schema.dims(), schema.values()) else {
+        return Err(PartRefused::Memory);
+    };
+    match Table::new(alloc, schema.dims(), schema.measures(), schema.rows()) {
+        Ok(mut table) => {
             table.begin();
             Ok((dict, table))
         }
-        _ => Err(PartRefused::Memory),
+        Err(_) => {
+            drop(dict);
+            Err(PartRefused::Memory)
+        }
     }
 }
 
@@ -146,11 +154,19 @@ fn parts_behind(
 {
     let (mut dict, mut table) = match start(alloc, &schema) {
         Ok(made) => made,
-        Err(refused) => return Err(refused),
+        Err(refused) => {
+            drop(schema);
+            return Err(refused);
+        }
     };
     match read_behind(alloc, &schema, &mut dict, &mut table, bytes) {
         Ok(()) => Ok((schema, dict, table)),
-        Err(refused) => Err(refused),
+        Err(refused) => {
+            drop(schema);
+            drop(dict);
+            drop(table);
+            Err(refused)
+        }
     }
 }
 

@@ -44,8 +44,11 @@ batches_taken (suc k) rows before draws state =
     batches_taken k rows (before + 1) (after_rows (batch_rows rows) draws) (file_taken state Apply (batch_text rows before draws))
 
 -- the base file of so many rows, drawn from a seed, and then the batches
+unfoldable pub filled : ℕ → ℕ → State → State
+filled rows seed state = batches_taken BATCHES rows 0 (after_rows rows seed) (file_taken state Load (base_text rows seed))
+
 unfoldable pub generated_state : ℕ → ℕ → State
-generated_state rows seed = batches_taken BATCHES rows 0 (after_rows rows seed) (file_taken (empty layout) Load (base_text rows seed))
+generated_state rows seed = filled rows seed (empty layout)
 
 -- the sum of the first measure, where there are rows
 abbrev pub sum_in : Option Agg → ℤ

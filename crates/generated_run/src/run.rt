@@ -1,7 +1,7 @@
 // A whole generated run.
-ghost use Rattle.std.specs.Prelude.{IfOk, ◌≡◌, ◌≤◌};
+ghost use Rattle.std.specs.Prelude.{IfOk, OnOk, ◌≡◌, ◌≤◌};
 ghost use Rattle.cube_defs.specs.declared.limits.TheConstants.{MAX_ROWS};
-ghost use Rattle.generated_run.specs.Generated.{generated_record, generated_state};
+ghost use Rattle.generated_run.specs.Generated.{filled, generated_record, generated_state, record_text};
 
 use crate::files::{apply_batches, load_base, new_warehouse};
 use crate::telling::write_record;
@@ -20,6 +20,26 @@ pub struct Generated {
     pub text: Vec<u8>,
 }
 
+// Loads the base file and applies the batches, and gives the record that tells of the warehouse then.
+fn fill<L: Ledger>(
+    alloc: Global,
+    warehouse: &mut Warehouse,
+    rows: u32,
+    seed: u64,
+    steps: &mut Steps<L>,
+) -> Result<Vec<u8>, Memory>
+    requires { rows ≤ MAX_ROWS }
+    ensures state { OnOk result (warehouse.new.state ≡ filled rows seed warehouse.old.state) }
+    ensures text { IfOk result (λ text. text.items ≡ record_text rows seed warehouse.new.state) }
+{
+    let mut draws = Draws { state: seed };
+    let mut file = Vec::new(alloc);
+    load_base(warehouse, rows, &mut draws, &mut file, steps)?;
+    apply_batches(warehouse, rows, &mut draws, &mut file, steps)?;
+    write_record(alloc, &mut file, rows, seed, warehouse, steps)?;
+    Ok(file)
+}
+
 /// Loads a base file of so many rows, drawn from a seed, into a new warehouse, and applies the
 /// batches that follow it. It is refused only where memory runs out.
 pub fn generate<L: Ledger>(
@@ -33,13 +53,11 @@ pub fn generate<L: Ledger>(
     ensures text { IfOk result (λ g. g.text.items ≡ generated_record rows seed) }
 {
     let mut warehouse = new_warehouse(alloc)?;
-    let mut draws = Draws { state: seed };
-    let mut file = Vec::new(alloc);
-    load_base(&mut warehouse, rows, &mut draws, &mut file, steps)?;
-    apply_batches(&mut warehouse, rows, &mut draws, &mut file, steps)?;
-    write_record(alloc, &mut file, rows, seed, &warehouse, steps)?;
-    Ok(Generated {
-        warehouse,
-        text: file,
-    })
+    match fill(alloc, &mut warehouse, rows, seed, steps) {
+        Ok(text) => Ok(Generated { warehouse, text }),
+        Err(error) => {
+            drop(warehouse);
+            Err(error)
+        }
+    }
 }
