@@ -47,6 +47,7 @@ fn comes<L: Ledger>(
 {
     let mut arena = inserted(alloc, dims, rows, place, max, steps)?;
     let Ok(cells) = cells(alloc, &arena, steps) else {
+        drop(arena);
         return None;
     };
     let tuple = tuple(alloc, &rows[place], dims);
@@ -57,10 +58,39 @@ fn comes<L: Ledger>(
         }
         Err(ArenaRefused::Memory) => false,
     };
-    Some(is_as_wanted && are_kept(&cells, before, &arena, steps))
+    let is_right = is_as_wanted && are_kept(&cells, before, &arena, steps);
+    drop(arena);
+    Some(is_right)
 }
 
 // The same for each number of nodes from that before it to that with it.
+fn comes_between<L: Ledger>(
+    alloc: Global,
+    dims: u8,
+    rows: &[Line],
+    place: usize,
+    before: &QcArena,
+    after: &QcArena,
+    steps: &mut Steps<L>,
+) -> Option<bool>
+    requires some_dims { 0 < dims }
+    requires few_dims { dims ≤ 6 }
+    requires rows { length rows.now ≤ 100 }
+    requires place { place < length rows.now }
+{
+    let (least, most) = (before.live(), after.live());
+    if most > 600 {
+        return None;
+    }
+    'max: for max in least..most + 1 {
+        if max > 0 && comes(alloc, dims, rows, place, max, before, after, steps) != Some(true) {
+            return Some(false);
+        }
+    }
+    Some(true)
+}
+
+// The same between trees of its own.
 fn comes_at_each<L: Ledger>(
     alloc: Global,
     dims: u8,
@@ -74,17 +104,14 @@ fn comes_at_each<L: Ledger>(
     requires place { place < length rows.now }
 {
     let before = built(alloc, dims, rows, place, steps)?;
-    let after = built(alloc, dims, rows, place + 1, steps)?;
-    let (least, most) = (before.live(), after.live());
-    if most > 600 {
+    let Some(after) = built(alloc, dims, rows, place + 1, steps) else {
+        drop(before);
         return None;
-    }
-    'max: for max in least..most + 1 {
-        if max > 0 && comes(alloc, dims, rows, place, max, &before, &after, steps) != Some(true) {
-            return Some(false);
-        }
-    }
-    Some(true)
+    };
+    let comes = comes_between(alloc, dims, rows, place, &before, &after, steps);
+    drop(before);
+    drop(after);
+    comes
 }
 
 // The same for each of the rows.

@@ -32,6 +32,30 @@ fn table_of(alloc: Global, dims: u8, rows: &[Line], count: usize) -> Option<Tabl
     Some(table)
 }
 
+// The tree of a table's rows.
+fn built_of<L: Ledger>(
+    alloc: Global,
+    dims: u8,
+    table: &Table,
+    steps: &mut Steps<L>,
+) -> Option<QcArena>
+    requires some_dims { 0 < dims }
+    requires few_dims { dims ≤ 6 }
+    requires dims { table.now.dims ≡ dims }
+{
+    let Ok(mut arena) = QcArena::new(alloc, dims, 4000) else {
+        return None;
+    };
+    arena.begin();
+    match build_classes(alloc, table, &mut arena, steps) {
+        Ok(()) => Some(arena),
+        Err(_) => {
+            drop(arena);
+            None
+        }
+    }
+}
+
 // The tree of the first rows, built anew.
 pub(crate) fn built<L: Ledger>(
     alloc: Global,
@@ -46,14 +70,9 @@ pub(crate) fn built<L: Ledger>(
     requires count { count ≤ length rows.now }
 {
     let table = table_of(alloc, dims, rows, count)?;
-    let Ok(mut arena) = QcArena::new(alloc, dims, 4000) else {
-        return None;
-    };
-    arena.begin();
-    match build_classes(alloc, &table, &mut arena, steps) {
-        Ok(()) => Some(arena),
-        Err(_) => None,
-    }
+    let arena = built_of(alloc, dims, &table, steps);
+    drop(table);
+    arena
 }
 
 // One row comes, in a batch of its own.
@@ -112,7 +131,10 @@ pub(crate) fn inserted<L: Ledger>(
         let tuple = tuple(alloc, &rows[place], dims);
         match add(alloc, &mut arena, &tuple, place, steps) {
             Ok(()) => {}
-            Err(_) => return None,
+            Err(_) => {
+                drop(arena);
+                return None;
+            }
         }
     }
     Some(arena)

@@ -63,7 +63,10 @@ fn built<L: Ledger>(alloc: Global, table: &Table, steps: &mut Steps<L>) -> Optio
     arena.begin();
     match build_classes(alloc, table, &mut arena, steps) {
         Ok(()) => {}
-        Err(_) => return None,
+        Err(_) => {
+            drop(arena);
+            return None;
+        }
     }
     arena.commit();
     table.is_valid();
@@ -169,8 +172,52 @@ fn stopped_in_building<L: Ledger>(
     fits
 }
 
-// The numbers of all cells at first, after a kill, after a tree that was built in part, and after one
-// that was built whole.
+// The numbers of all cells in a tree of few rows at first, after a kill, after a tree that was built in part,
+// and after one that was built whole.
+fn found_each<L: Ledger>(
+    alloc: Global,
+    few: &Table,
+    more: &Table,
+    arena: &mut QcArena,
+    steps: &mut Steps<L>,
+) -> Option<[[Option<NodeNo>; 9]; 4]>
+    requires few { few.now.dims ≡ 2 }
+    requires more { more.now.dims ≡ 2 }
+    requires width { arena.old.width ≡ 2 }
+    requires closed { is_open arena.old ≡ false }
+    requires tree { IsTree arena.old.width arena.old.now }
+{
+    let first = numbers(alloc, arena, steps);
+    stopped_after_a_kill(arena, steps);
+    let killed = numbers(alloc, arena, steps);
+    let Some(false) = stopped_in_building(alloc, more, arena, steps) else {
+        return None;
+    };
+    let in_part = numbers(alloc, arena, steps);
+    let Some(true) = stopped_in_building(alloc, few, arena, steps) else {
+        return None;
+    };
+    let whole = numbers(alloc, arena, steps);
+    Some([first, killed, in_part, whole])
+}
+
+// The same in a new tree.
+fn found_in<L: Ledger>(
+    alloc: Global,
+    few: &Table,
+    more: &Table,
+    steps: &mut Steps<L>,
+) -> Option<[[Option<NodeNo>; 9]; 4]>
+    requires few { few.now.dims ≡ 2 }
+    requires more { more.now.dims ≡ 2 }
+{
+    let mut arena = built(alloc, few, steps)?;
+    let found = found_each(alloc, few, more, &mut arena, steps);
+    drop(arena);
+    found
+}
+
+// The same for tables of their own.
 fn found_again<L: Ledger>(alloc: Global, blank: Blank) -> Option<[[Option<NodeNo>; 9]; 4]>
     requires name { blank.name ≡ L.name }
     requires parts { blank.parts ≡ L.parts }
@@ -178,20 +225,14 @@ fn found_again<L: Ledger>(alloc: Global, blank: Blank) -> Option<[[Option<NodeNo
 {
     let mut steps = Steps::<L>::start(blank);
     let few = table_of(alloc, &FEW)?;
-    let more = table_of(alloc, &MORE)?;
-    let mut arena = built(alloc, &few, &mut steps)?;
-    let first = numbers(alloc, &arena, &mut steps);
-    stopped_after_a_kill(&mut arena, &mut steps);
-    let killed = numbers(alloc, &arena, &mut steps);
-    let Some(false) = stopped_in_building(alloc, &more, &mut arena, &mut steps) else {
+    let Some(more) = table_of(alloc, &MORE) else {
+        drop(few);
         return None;
     };
-    let in_part = numbers(alloc, &arena, &mut steps);
-    let Some(true) = stopped_in_building(alloc, &few, &mut arena, &mut steps) else {
-        return None;
-    };
-    let whole = numbers(alloc, &arena, &mut steps);
-    Some([first, killed, in_part, whole])
+    let found = found_in(alloc, &few, &more, &mut steps);
+    drop(few);
+    drop(more);
+    found
 }
 
 fn found_uncounted(alloc: Global) -> Option<[[Option<NodeNo>; 9]; 4]> {
