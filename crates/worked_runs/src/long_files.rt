@@ -36,8 +36,16 @@ fn write_zeros(rt: &HostRuntime, path: &str, length: u64) -> io::Result<()> {
 /// Writes them.
 pub fn write(rt: &HostRuntime) -> io::Result<()> {
     let (base, replies) = (base(rt.alloc())?, replies(rt.alloc())?);
-    fs::write(rt, "runs/as-many-cells-as-a-range-answers/base.csv", base.as_str())?;
-    fs::write(rt, "runs/as-many-cells-as-a-range-answers/stdout", replies.as_str())?;
+    fs::write(
+        rt,
+        "runs/as-many-cells-as-a-range-answers/base.csv",
+        base.as_str(),
+    )?;
+    fs::write(
+        rt,
+        "runs/as-many-cells-as-a-range-answers/stdout",
+        replies.as_str(),
+    )?;
     write_zeros(rt, "runs/file-too-long/long.csv", TOO_LONG)?;
     write_zeros(rt, "runs/schema-too-long/long", TOO_LONG)?;
     write_zeros(rt, "runs/script-too-long/long", TOO_LONG)?;

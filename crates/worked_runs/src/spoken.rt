@@ -62,6 +62,9 @@ impl Spoken {
 
     /// Whether a message ends so.
     pub fn has_message(&self, end: &str) -> bool {
-        self.messages.as_str().lines().any(|line| line.ends_with(end))
+        self.messages
+            .as_str()
+            .lines()
+            .any(|line| line.ends_with(end))
     }
 }
