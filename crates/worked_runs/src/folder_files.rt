@@ -38,11 +38,6 @@ impl<'a, R: std::rt::Files> FolderFiles<'a, R> {
         let path = self.path_of(name).ok()?;
         fs::open(self.rt, path.as_str()).ok()
     }
-
-    fn fail(&mut self) -> Failed {
-        self.faults = self.faults.saturating_add(1);
-        Failed
-    }
 }
 
 impl<'a, R: std::rt::Files> Files for FolderFiles<'a, R> {
@@ -63,18 +58,22 @@ impl<'a, R: std::rt::Files> Files for FolderFiles<'a, R> {
     fn open(&mut self, name: &str) -> Result<(), Failed> {
         self.file = self.opened(name);
         if self.file.is_none() {
-            return Err(self.fail());
+            self.faults = self.faults.saturating_add(1);
+            return Err(Failed);
         }
         Ok(())
     }
 
     fn read(&mut self, buf: &mut [u8]) -> Result<usize, Failed> {
         let Some(file) = &mut self.file else {
-            return Err(self.fail());
+            unreachable!()
         };
         match file.read(buf) {
             Ok(count) => Ok(count),
-            Err(_) => Err(self.fail()),
+            Err(_) => {
+                self.faults = self.faults.saturating_add(1);
+                Err(Failed)
+            }
         }
     }
 }
