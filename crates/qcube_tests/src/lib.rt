@@ -1,17 +1,29 @@
-//! Tests that cross crates.
+//! Tests of runs that no file can show: over an outside that fails, over the longest files, and beside plain programs.
 #![tactic(auto)]
+
+ghost use Rattle.std.specs.Prelude.{◌≡◌, ◌∷◌, [], Some, String, codes, string_bytes};
+ghost use Rattle.std.specs.declared.alloc.Global.{Global};
+ghost use Rattle.qc_session.specs.Forms.{Gen, form_of};
 
 #[cfg(test)]
 mod batches;
 #[cfg(test)]
 mod bounds;
 #[cfg(test)]
-mod generated;
+mod faults;
+#[cfg(test)]
+mod long;
 #[cfg(test)]
 mod many;
+pub mod runs;
 #[cfg(test)]
 mod scripts;
 #[cfg(test)]
-mod snapshots;
-#[cfg(test)]
-mod worked;
+mod sure;
+
+/// The most rows that are drawn, with zeros in front, and the greatest seed are a form of the words. Such a run takes too long
+/// for a test.
+pub fn greatest_numbers()
+    ensures { (word rows seed : String Global) → string_bytes word ≡ codes "gen" → string_bytes rows ≡ codes "000001000000" → string_bytes seed ≡ codes "18446744073709551615"
+        → form_of (word ∷ rows ∷ seed ∷ []) ≡ Some (Gen (record { rows = 1000000; seed = 18446744073709551615 })) }
+{}

@@ -1,7 +1,7 @@
 // What the tests share: values, and scripts with the transcripts that they are to have.
 ghost use Rattle.std.specs.Prelude.{IfOk, None, ◌≡◌};
 
-use outside_tests::runs::{RUN, Ran, run_over, sink};
+use crate::runs::{RUN, Ran, run_over, sink};
 use qc_io::MemoryFiles;
 use std::alloc::{AllocError, Global};
 

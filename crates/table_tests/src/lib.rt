@@ -1,5 +1,5 @@
-//! Tests of what lies below a tree: schemas, files, dictionaries of texts, tables of rows, and what rows
-//! share. Each has its cases in a table, which one small loop goes through.
+//! Tests of what lies below a tree: what a schema, a batch and a line say, dictionaries of texts, tables of rows, and what
+//! rows share. Each has its cases in a table, which one small loop goes through.
 #![tactic(auto)]
 
 #[cfg(test)]
@@ -8,6 +8,8 @@ mod closures;
 mod fields;
 #[cfg(test)]
 mod files;
+#[cfg(test)]
+mod lines;
 #[cfg(test)]
 mod rows;
 #[cfg(test)]
