@@ -7,7 +7,7 @@ ghost use Rattle.qc_arena.specs.Map.{is_open};
 use crate::{add_child, add_root, mark_class, set_link};
 use aggregates::Agg;
 use cell_core::{Code, NodeNo, Steps};
-use qc_arena::{Forced, Nodes, QcArena};
+use qc_arena::{Nodes, QcArena};
 use std::alloc::Global;
 use std::marker::Brand;
 use std::sync::ledger::{Blank, Ledger};
@@ -24,6 +24,7 @@ fn planted<L: Ledger>(alloc: Global, steps: &mut Steps<L>) -> Option<(QcArena, N
     };
     arena.begin();
     let Ok(root) = add_root(&mut arena, steps) else {
+        drop(arena);
         return None;
     };
     Some((arena, root))
@@ -106,7 +107,7 @@ fn marked<L: Ledger>(
 // What is read of the root: the forced child, the edges, and how many rows its class has.
 #[derive(Drop)]
 struct Seen {
-    forced: Option<Forced>,
+    forced: Option<(u8, Code, NodeNo)>,
     edges: [Option<NodeNo>; 4],
     rows: u32,
 }
@@ -124,7 +125,10 @@ fn read_root<L: Ledger>(arena: &QcArena, root: NodeNo, steps: &mut Steps<L>) -> 
         Some(agg) => agg.count,
         None => 0,
     };
-    let forced = arena.forced(root, steps);
+    let forced = match arena.forced(root, steps) {
+        Some(edge) => Some((edge.dim, edge.code, edge.child)),
+        None => None,
+    };
     Seen {
         forced,
         edges,
@@ -132,8 +136,25 @@ fn read_root<L: Ledger>(arena: &QcArena, root: NodeNo, steps: &mut Steps<L>) -> 
     }
 }
 
-// What is read of a root with two children, the second forced, and a link to the second; and the
-// numbers of both.
+// Gives a root two children, the second forced, and a link to the second. What is then read of it, and the numbers
+// of both.
+fn act_on<L: Ledger>(
+    arena: &mut QcArena,
+    root: NodeNo,
+    steps: &mut Steps<L>,
+) -> Option<(Seen, NodeNo, NodeNo)>
+    requires width { arena.old.width ≡ 3 }
+    requires opened { is_open arena.old ≡ true }
+    requires root { cell_at arena.old.now root.0 ≡ Some (replicate 3 None) }
+{
+    let first = grown(arena, root, 0, 5, false, steps)?;
+    let second = grown(arena, root, 2, 7, true, steps)?;
+    linked(arena, root, 1, 6, second, steps)?;
+    marked(arena, root, Agg::one(&[4]), steps)?;
+    Some((read_root(arena, root, steps), first, second))
+}
+
+// The same in a new arena.
 fn acted<L: Ledger>(alloc: Global, blank: Blank) -> Option<(Seen, NodeNo, NodeNo)>
     requires name { blank.name ≡ L.name }
     requires parts { blank.parts ≡ L.parts }
@@ -141,11 +162,9 @@ fn acted<L: Ledger>(alloc: Global, blank: Blank) -> Option<(Seen, NodeNo, NodeNo
 {
     let mut steps = Steps::<L>::start(blank);
     let (mut arena, root) = planted(alloc, &mut steps)?;
-    let first = grown(&mut arena, root, 0, 5, false, &mut steps)?;
-    let second = grown(&mut arena, root, 2, 7, true, &mut steps)?;
-    linked(&mut arena, root, 1, 6, second, &mut steps)?;
-    marked(&mut arena, root, Agg::one(&[4]), &mut steps)?;
-    Some((read_root(&arena, root, &mut steps), first, second))
+    let seen = act_on(&mut arena, root, &mut steps);
+    drop(arena);
+    seen
 }
 
 fn acted_uncounted(alloc: Global) -> Option<(Seen, NodeNo, NodeNo)> {
@@ -157,12 +176,7 @@ fn acts_are_read_back(rt: HostRuntime) -> Result<(), Fail> {
     let Some((seen, first, second)) = acted_uncounted(rt.alloc()) else {
         return Err(Fail::new("no such arena"));
     };
-    let child = Forced {
-        dim: 2,
-        code: 7,
-        child: second,
-    };
-    assert_eq!(rt; seen.forced, Some(child));
+    assert_eq!(rt; seen.forced, Some((2, 7, second)));
     assert_eq!(rt; seen.edges, [Some(first), Some(second), Some(second), None]);
     assert_eq!(rt; seen.rows, 1);
     Ok(())
