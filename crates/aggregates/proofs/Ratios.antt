@@ -5,6 +5,7 @@ use Rattle.std.specs.Ordering.{int_cmp}
 use Rattle.std.proofs.lemmas.Cmp.{by_ranked, int_ranked, tied_itself}
 use Rattle.std.proofs.lemmas.Nat.Gcd.{same_from_IsGcd}
 use Rattle.std.proofs.Math.Nat.{div-le_self, mul-div_cancel'}
+use Rattle.std.proofs.lemmas.Nat.{mul-le}
 use Rattle.std.specs.Prelude.{int_div}
 use Rattle.cube_defs.specs.Rows.{gcd, lowest_terms}
 use Rattle.cube_laws.proofs.Divisors.{gcd-is, lowest_terms-coprime, lowest_terms-positive}
@@ -48,3 +49,7 @@ order-over a b k p = by_ranked (a <ℤ b) (a ≡ b) (b <ℤ a) (int_cmp a b) (in
     (λ e h. e ∙ sym (less_is _ _ (mono a b k p h)))
     (λ e h. e ∙ sym (ap (λ (x : ℤ). int_cmp (x *ℤ pos k) (b *ℤ pos k)) h ∙ tied_itself int_cmp_total (b *ℤ pos k)))
     (λ e h. e ∙ sym (more_is _ _ (mono b a k p h)))
+
+-- a product of small numbers is small
+pub small-product : (a b m n k : ℕ) → a ≤ m → b ≤ n → m * n < k → a * b < k
+small-product a b m n k h i small = omega (arith, mul-le a b m n h i, small)

@@ -2,7 +2,7 @@
 ghost use Rattle.aggregates.specs.Bounds.{IsAggregate};
 
 /// The sum of some amounts, the least and the greatest.
-#[derive(Clone, Copy, Debug, PartialEq, Eq)]
+#[derive(Clone, Copy)]
 pub struct Part {
     pub sum: i64,
     pub least: i64,
@@ -11,7 +11,7 @@ pub struct Part {
 
 /// How many rows, and what they come to in each measure. The parts behind those of the measures
 /// are zero.
-#[derive(Clone, Copy, Debug, PartialEq, Eq)]
+#[derive(Clone, Copy)]
 pub struct Agg {
     pub count: u32,
     pub measures: u8,

@@ -11,7 +11,7 @@ use std::cmp::Ordering;
 
 /// The value of a kind as a number over the rows that it is divided by, which is 1 for all kinds but
 /// the mean. It isn't in lowest terms, so it is quick to make and to compare.
-#[derive(Clone, Copy, Debug)]
+#[derive(Clone, Copy)]
 pub struct Quotient {
     pub num: i64,
     pub den: u32,

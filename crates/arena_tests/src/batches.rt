@@ -35,9 +35,11 @@ fn taken_back<L: Ledger>(alloc: Global, blank: Blank) -> Option<Seen>
     let built = arena.edge_total();
     arena.begin();
     if arena.touch(root, &mut steps).is_err() {
+        drop(arena);
         return None;
     }
     if arena.set_edge(root, 1, 7, root, &mut steps).is_err() {
+        drop(arena);
         return None;
     }
     let changed = arena.edge_total();
@@ -49,6 +51,7 @@ fn taken_back<L: Ledger>(alloc: Global, blank: Blank) -> Option<Seen>
         arena.edge(root, 0, 7, &mut steps).is_some(),
         arena.edge(root, 2, 7, &mut steps).is_some(),
     ];
+    drop(arena);
     Some(Seen {
         built,
         changed,
@@ -108,11 +111,14 @@ fn widened<L: Ledger>(alloc: Global, blank: Blank, keep: bool) -> Option<[(u8, u
     let (mut arena, root) = planted(alloc, &mut steps)?;
     widen_kept(&mut arena);
     if arena.add_node(Some((root, 3, 7)), &mut steps).is_err() {
+        drop(arena);
         return None;
     }
     let inside = (arena.dims(), arena.live());
     close(&mut arena, keep);
-    Some([inside, (arena.dims(), arena.live())])
+    let after = (arena.dims(), arena.live());
+    drop(arena);
+    Some([inside, after])
 }
 
 fn widened_uncounted(alloc: Global, keep: bool) -> Option<[(u8, u32); 2]> {
@@ -143,13 +149,16 @@ fn killed<L: Ledger>(alloc: Global, blank: Blank) -> Option<(u32, u64, u32)>
     arena.commit();
     arena.begin();
     if arena.touch(child, &mut steps).is_err() {
+        drop(arena);
         return None;
     }
     arena.kill(child, &mut steps);
     let after = arena.live();
     let edges = arena.edge_total();
     arena.rollback();
-    Some((after, edges, arena.live()))
+    let back = arena.live();
+    drop(arena);
+    Some((after, edges, back))
 }
 
 // Drops the edge of the root.
@@ -163,9 +172,12 @@ fn dropped<L: Ledger>(alloc: Global, blank: Blank) -> Option<(u64, u64)>
     arena.commit();
     arena.begin();
     if arena.touch(root, &mut steps).is_err() {
+        drop(arena);
         return None;
     }
-    Some(dropped_twice(&mut arena, root, &mut steps))
+    let edges = dropped_twice(&mut arena, root, &mut steps);
+    drop(arena);
+    Some(edges)
 }
 
 // Drops an edge that isn't there, and one that is.
@@ -178,6 +190,42 @@ fn dropped_twice<L: Ledger>(arena: &mut QcArena, node: NodeNo, steps: &mut Steps
     (kept, arena.edge_total())
 }
 
+// How many classes were added, and how many removed.
+fn added_and_removed(alloc: Global, arena: &QcArena) -> Option<(usize, usize)>
+    requires { is_open arena.now ≡ true }
+{
+    let Ok(added) = arena.classes_added(alloc) else {
+        return None;
+    };
+    let Ok(removed) = arena.classes_removed(alloc) else {
+        return None;
+    };
+    Some((added.len(), removed.len()))
+}
+
+// Keeps the class of a node, and takes it away in a batch of its own. How many classes were added and removed before,
+// and how many with the node touched and then without its class.
+fn class_taken<L: Ledger>(
+    alloc: Global,
+    arena: &mut QcArena,
+    node: NodeNo,
+    steps: &mut Steps<L>,
+) -> Option<[usize; 4]>
+    requires { CanChange arena.old node.0 }
+{
+    arena.set_class(node, Some(Agg::one(&[])), steps);
+    let (first, none) = added_and_removed(alloc, arena)?;
+    arena.commit();
+    arena.begin();
+    if arena.touch(node, steps).is_err() {
+        return None;
+    }
+    let (same, _) = added_and_removed(alloc, arena)?;
+    arena.set_class(node, None, steps);
+    let (_, gone) = added_and_removed(alloc, arena)?;
+    Some([first, none, same, gone])
+}
+
 // How many classes were added and removed: the root's, and after a commit another instead of it.
 fn classes_changed<L: Ledger>(alloc: Global, blank: Blank) -> Option<[usize; 4]>
     requires name { blank.name ≡ L.name }
@@ -186,26 +234,9 @@ fn classes_changed<L: Ledger>(alloc: Global, blank: Blank) -> Option<[usize; 4]>
 {
     let mut steps = Steps::<L>::start(blank);
     let (mut arena, root) = planted(alloc, &mut steps)?;
-    arena.set_class(root, Some(Agg::one(&[])), &mut steps);
-    let Ok(first) = arena.classes_added(alloc) else {
-        return None;
-    };
-    let Ok(none) = arena.classes_removed(alloc) else {
-        return None;
-    };
-    arena.commit();
-    arena.begin();
-    if arena.touch(root, &mut steps).is_err() {
-        return None;
-    }
-    let Ok(same) = arena.classes_added(alloc) else {
-        return None;
-    };
-    arena.set_class(root, None, &mut steps);
-    let Ok(gone) = arena.classes_removed(alloc) else {
-        return None;
-    };
-    Some([first.len(), none.len(), same.len(), gone.len()])
+    let found = class_taken(alloc, &mut arena, root, &mut steps);
+    drop(arena);
+    found
 }
 
 fn killed_uncounted(alloc: Global) -> Option<(u32, u64, u32)> {

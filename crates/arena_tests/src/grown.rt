@@ -20,6 +20,7 @@ pub(crate) fn planted<L: Ledger>(alloc: Global, steps: &mut Steps<L>) -> Option<
     };
     arena.begin();
     let Ok(root) = arena.add_node(None, steps) else {
+        drop(arena);
         return None;
     };
     Some((arena, root))
@@ -37,13 +38,16 @@ pub(crate) fn grown<L: Ledger>(
 {
     let (mut arena, root) = planted(alloc, steps)?;
     let Ok(child) = arena.add_node(Some((root, 1, 7)), steps) else {
+        drop(arena);
         return None;
     };
     // A third node is one too many.
     let Err(ArenaRefused::Full) = arena.add_node(Some((root, 2, 1)), steps) else {
+        drop(arena);
         return None;
     };
     if arena.set_edge(root, 1, 7, child, steps).is_err() {
+        drop(arena);
         return None;
     }
     Some((arena, root, child))

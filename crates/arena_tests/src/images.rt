@@ -1,9 +1,11 @@
 // What images say of numbers.
-ghost use Rattle.std.specs.Prelude.{◌<◌, ◌≡◌};
+ghost use Rattle.std.specs.Prelude.{IsSome, true, ◌<◌, ◌≡◌};
+ghost use Rattle.std.specs.FinMap as map;
+ghost use Rattle.qc_arena.specs.Map.{is_open};
 
 use crate::grown::grown;
 use cell_core::{Code, NodeNo, Steps};
-use qc_arena::{Images, Look};
+use qc_arena::{Images, Look, QcArena};
 use std::alloc::Global;
 use std::marker::Brand;
 use std::sync::ledger::{Blank, Ledger};
@@ -31,26 +33,57 @@ fn looked<L: Ledger>(alloc: Global, blank: Blank) -> Option<[Told; 5]>
     let mut steps = Steps::<L>::start(blank);
     let (mut arena, root, child) = grown(alloc, &mut steps)?;
     arena.commit();
-    let first = arena.last_images();
+    let first = told_of(arena.last_images(), child);
     arena.begin();
-    if arena.touch(child, &mut steps).is_err() {
+    if !cut_off(&mut arena, root, child, &mut steps) {
+        drop(arena);
         return None;
     }
-    arena.kill(child, &mut steps);
-    if !arena.has(root) || arena.touch(root, &mut steps).is_err() {
-        return None;
-    }
-    arena.drop_edge(root, 1, 7, &mut steps);
     arena.commit();
-    let images = arena.last_images();
-    let rest = arena.last_images();
-    Some([
-        told(&first, child),
+    let [of_root, of_child, of_none] = told_of_three(arena.last_images(), root, child);
+    let rest = told_of(arena.last_images(), root);
+    drop(arena);
+    Some([first, of_root, of_child, of_none, rest])
+}
+
+// Kills a node and drops the edge to it. It tells whether memory was there.
+fn cut_off<L: Ledger>(
+    arena: &mut QcArena,
+    root: NodeNo,
+    child: NodeNo,
+    steps: &mut Steps<L>,
+) -> bool
+    requires opened { is_open arena.old ≡ true }
+    requires child { IsSome (map.get arena.old.now child.0) }
+    ensures { is_open arena.new ≡ true }
+{
+    if arena.touch(child, steps).is_err() {
+        return false;
+    }
+    arena.kill(child, steps);
+    if !arena.has(root) || arena.touch(root, steps).is_err() {
+        return false;
+    }
+    arena.drop_edge(root, 1, 7, steps);
+    true
+}
+
+// What images say of a node.
+fn told_of(images: Images, node: NodeNo) -> Told {
+    let seen = told(&images, node);
+    drop(images);
+    seen
+}
+
+// What images say of two nodes, and of a number without a node.
+fn told_of_three(images: Images, root: NodeNo, child: NodeNo) -> [Told; 3] {
+    let seen = [
         told(&images, root),
         told(&images, child),
         told(&images, NodeNo(9)),
-        told(&rest, root),
-    ])
+    ];
+    drop(images);
+    seen
 }
 
 fn looked_uncounted(alloc: Global) -> Option<[Told; 5]> {

@@ -80,7 +80,9 @@ fn images_of<L: Ledger>(alloc: Global, last: u8, blank: Blank) -> Option<Images>
         batch(&mut arena, number, &mut steps);
     }
     batch(&mut arena, last, &mut steps);
-    Some(arena.last_images())
+    let images = arena.last_images();
+    drop(arena);
+    Some(images)
 }
 
 fn images_uncounted(alloc: Global, last: u8) -> Option<Images> {
@@ -118,23 +120,44 @@ const CASES: [Case; 10] = [
     (3, 6, 2, [GONE, GONE, SAME]),
 ];
 
-fn holds(alloc: Global, case: &Case) -> bool {
-    let (older, later, count, said) = case;
-    let Some(mut images) = images_uncounted(alloc, *older) else {
-        return false;
-    };
-    let Some(others) = images_uncounted(alloc, *later) else {
-        return false;
-    };
-    if images.take_in(others).is_err() {
-        return false;
-    }
+// Whether images say so much of the three numbers.
+fn say(images: Images, count: usize, said: &[Told; 3]) -> bool {
     let found = [
         told(&images, NodeNo(0)),
         told(&images, NodeNo(1)),
         told(&images, NodeNo(9)),
     ];
-    images.count() == *count && found == *said
+    let all = images.count();
+    drop(images);
+    all == count && found == *said
+}
+
+// The images put over later ones, if memory is there.
+fn put_over(images: Images, later: Images) -> Option<Images> {
+    let mut images = images;
+    match images.take_in(later) {
+        Ok(()) => Some(images),
+        Err(later) => {
+            drop(later);
+            drop(images);
+            None
+        }
+    }
+}
+
+fn holds(alloc: Global, case: &Case) -> bool {
+    let (older, later, count, said) = case;
+    let Some(images) = images_uncounted(alloc, *older) else {
+        return false;
+    };
+    let Some(others) = images_uncounted(alloc, *later) else {
+        drop(images);
+        return false;
+    };
+    match put_over(images, others) {
+        Some(images) => say(images, *count, said),
+        None => false,
+    }
 }
 
 fn all_hold(alloc: Global) -> bool {

@@ -1,7 +1,7 @@
 // A list of keys that finds the last place of a key, and from each place the one before of the same key.
-ghost use Rattle.std.specs.Prelude.{◌≡◌, ℕ, ◌+◌, ◌-◌, ◌^◌, ◌<◌, ◌≤◌, length, Some, OnOk, OnErr, slice_index_or, take, ◌++◌, ◌∷◌, [], is_some, true, Option};
+ghost use Rattle.std.specs.Prelude.{◌≡◌, ℕ, ◌+◌, ◌-◌, ◌^◌, ◌<◌, ◌≤◌, length, Some, OnOk, OnErr, slice_index_or, take, ◌++◌, ◌∷◌, [], is_some, true, Option, vec_capacity, vec_len};
 ghost use Rattle.std.specs.Option.{unwrap_or};
-ghost use Rattle.indexmap.specs.IndexMap.{get, UpdatesBy};
+ghost use Rattle.indexmap.specs.IndexMap.{get, IsUnchanged, Updates, UpdatesBy};
 ghost use Rattle.base_table.specs.Last.{last_of, AreChains, picked, HasKeys};
 
 use indexmap::IndexMap;
@@ -65,6 +65,32 @@ fn put_head<K: Eq + Hash>(heads: &mut IndexMap<K, u32>, key: &K, head: u32) -> u
         *place = head;
     }
     was
+}
+
+// Makes room for one more key and its place.
+fn make_room<K>(keys: &mut Vec<K>, before: &mut Vec<u32>) -> Result<(), AllocError>
+    ensures keys { keys.new.items ≡ keys.old.items }
+    ensures before { before.new.items ≡ before.old.items }
+    ensures key_room { OnOk result (vec_len keys.new < vec_capacity keys.new) }
+    ensures place_room { OnOk result (vec_len before.new < vec_capacity before.new) }
+{
+    keys.reserve(1)?;
+    before.reserve(1)
+}
+
+// Writes the last place of a key, which comes in where the map has no such key.
+fn write_head<K: Eq + Hash + Copy + Drop>(
+    heads: &mut IndexMap<K, u32>,
+    key: K,
+    head: u32,
+) -> Result<(), AllocError>
+    ensures updates { OnOk result (Updates K.eq heads.old heads.new key (Some head)) }
+    ensures err { OnErr result (IsUnchanged heads.old heads.new) }
+{
+    match heads.insert(key, head) {
+        Ok(_) => Ok(()),
+        Err(_) => Err(AllocError),
+    }
 }
 
 // Moves the kept keys to the front, and writes their places anew.
@@ -178,10 +204,9 @@ impl<K: Eq + Hash + Copy + Drop> Chains<K> {
         ensures err { OnErr result (self.new ≡ self.old) }
     {
         let head = self.last(&key);
-        self.keys.reserve(1)?;
-        self.before.reserve(1)?;
+        make_room(&mut self.keys, &mut self.before)?;
         let len = self.keys.len() as u32;
-        self.heads.insert(key, len + 1)?;
+        write_head(&mut self.heads, key, len + 1)?;
         self.before.push_reserved(head);
         self.keys.push_reserved(key);
         Ok(())

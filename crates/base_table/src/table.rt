@@ -14,33 +14,28 @@ use cell_core::{Cell, Code};
 use cube_defs::{MAX_DIMS, MAX_MEASURES, MAX_ROWS};
 use std::alloc::{AllocError, Global};
 use std::marker::Model;
-use thiserror::Error;
 
 /// The number of a row: its place in the table.
-#[derive(Clone, Copy, Debug, PartialEq, Eq)]
+#[derive(Clone, Copy)]
 pub struct RowNo(pub u32);
 
 /// Why a row wasn't put in.
-#[derive(Clone, Copy, Debug, PartialEq, Eq, Error)]
+#[derive(Clone, Copy)]
 pub enum TableRefused {
     /// A row with this id is there.
-    #[error("a row with this id is there")]
     Present,
     /// There are as many rows as there may be.
-    #[error("there are as many rows as there may be")]
     Full,
     /// Memory ran out.
-    #[error("memory ran out")]
     Memory,
 }
 
 /// No row has the id.
-#[derive(Clone, Copy, Debug, PartialEq, Eq, Error)]
-#[error("no row has the id")]
+#[derive(Clone, Copy)]
 pub struct Missing;
 
 /// What a row had that was taken out. The amounts behind those of the measures are zero.
-#[derive(Drop, Debug)]
+#[derive(Drop)]
 pub struct Taken {
     pub tuple: Cell,
     pub amounts: [i64; 4],

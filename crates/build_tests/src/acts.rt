@@ -7,10 +7,11 @@ ghost use Rattle.qc_arena.specs.Map.{is_open};
 use aggregates::Agg;
 use build_acts::{add_child, add_root, mark_class, set_link};
 use cell_core::{Code, NodeNo, Steps};
-use qc_arena::{Forced, Nodes, QcArena};
+use qc_arena::{Nodes, QcArena};
 use std::alloc::Global;
 use std::marker::Brand;
 use std::sync::ledger::{Blank, Ledger};
+use std::test::Fail;
 
 // An arena of at most three nodes, with its root.
 fn planted<L: Ledger>(alloc: Global, steps: &mut Steps<L>) -> Option<(QcArena, NodeNo)>
@@ -106,7 +107,7 @@ fn marked<L: Ledger>(
 // What is read of the root: the forced child, the edges, and how many rows its class has.
 #[derive(Drop)]
 struct Seen {
-    forced: Option<Forced>,
+    forced: Option<(u8, Code, NodeNo)>,
     edges: [Option<NodeNo>; 4],
     rows: u32,
 }
@@ -124,7 +125,10 @@ fn read_root<L: Ledger>(arena: &QcArena, root: NodeNo, steps: &mut Steps<L>) -> 
         Some(agg) => agg.count,
         None => 0,
     };
-    let forced = arena.forced(root, steps);
+    let forced = match arena.forced(root, steps) {
+        Some(edge) => Some((edge.dim, edge.code, edge.child)),
+        None => None,
+    };
     Seen {
         forced,
         edges,
@@ -132,9 +136,9 @@ fn read_root<L: Ledger>(arena: &QcArena, root: NodeNo, steps: &mut Steps<L>) -> 
     }
 }
 
-// What is read of a root with two children, the second forced, and a link to the second; and the
-// numbers of both.
-fn acted_on<L: Ledger>(
+// Gives a root two children, the second forced, and a link to the second. What is then read of it, and the numbers
+// of both.
+fn act_on<L: Ledger>(
     arena: &mut QcArena,
     root: NodeNo,
     steps: &mut Steps<L>,
@@ -150,6 +154,7 @@ fn acted_on<L: Ledger>(
     Some((read_root(arena, root, steps), first, second))
 }
 
+// The same in a new arena.
 fn acted<L: Ledger>(alloc: Global, blank: Blank) -> Option<(Seen, NodeNo, NodeNo)>
     requires name { blank.name ≡ L.name }
     requires parts { blank.parts ≡ L.parts }
@@ -157,31 +162,22 @@ fn acted<L: Ledger>(alloc: Global, blank: Blank) -> Option<(Seen, NodeNo, NodeNo
 {
     let mut steps = Steps::<L>::start(blank);
     let (mut arena, root) = planted(alloc, &mut steps)?;
-    let acted = acted_on(&mut arena, root, &mut steps);
+    let seen = act_on(&mut arena, root, &mut steps);
     drop(arena);
-    acted
+    seen
 }
 
 fn acted_uncounted(alloc: Global) -> Option<(Seen, NodeNo, NodeNo)> {
     acted::<Brand>(alloc, Blank::new(1))
 }
 
-fn is_read_back(seen: &Seen, first: NodeNo, second: NodeNo) -> bool {
-    let child = Forced {
-        dim: 2,
-        code: 7,
-        child: second,
-    };
-    seen.forced == Some(child)
-        && seen.edges == [Some(first), Some(second), Some(second), None]
-        && seen.rows == 1
-}
-
 #[test]
-fn acts_are_read_back(rt: HostRuntime) {
-    let is_right = match acted_uncounted(rt.alloc()) {
-        Some((seen, first, second)) => is_read_back(&seen, first, second),
-        None => false,
+fn acts_are_read_back(rt: HostRuntime) -> Result<(), Fail> {
+    let Some((seen, first, second)) = acted_uncounted(rt.alloc()) else {
+        return Err(Fail::new("no such arena"));
     };
-    assert!(rt; is_right);
+    assert_eq!(rt; seen.forced, Some((2, 7, second)));
+    assert_eq!(rt; seen.edges, [Some(first), Some(second), Some(second), None]);
+    assert_eq!(rt; seen.rows, 1);
+    Ok(())
 }

@@ -78,8 +78,29 @@ pub(crate) fn tree_of<L: Ledger>(
     arena.begin();
     match build_classes(alloc, table, &mut arena, steps) {
         Ok(()) => Ok(arena),
-        Err(_) => Err(AllocError),
+        Err(_) => {
+            drop(arena);
+            Err(AllocError)
+        }
     }
+}
+
+/// The tree of rows.
+pub(crate) fn tree_of_rows<L: Ledger>(
+    alloc: Global,
+    rows: &[Sale],
+    steps: &mut Steps<L>,
+) -> Result<QcArena, Memory>
+    requires { All (λ row. nat_abs row.amount ≤ largest_amount) rows.now }
+    ensures width { IfOk result (λ arena. arena.width ≡ 3) }
+    ensures opened { IfOk result (λ arena. is_open arena ≡ true) }
+    ensures tree { IfOk result (λ arena. IsOfOneMeasure arena.now) }
+    ensures fresh { IfOk result (λ arena. (q : ℕ) → class_was arena q ≡ None) }
+{
+    let table = table_of(alloc, rows)?;
+    let arena = tree_of(alloc, &table, steps);
+    drop(table);
+    arena
 }
 
 /// The cells of nodes, as lines.

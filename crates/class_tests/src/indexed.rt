@@ -9,14 +9,14 @@ ghost use Rattle.qc_arena.specs.Changes.{class_was};
 ghost use Rattle.qc_arena.specs.Map.{is_open};
 ghost use Rattle.class_tests.specs.Cubes.{IsOfOneMeasure};
 
-use crate::cube::{dict_of, table_of, tree_of};
+use crate::cube::{dict_of, tree_of_rows};
 use crate::lines::Sale;
 use aggregates::AggKind;
 use cell_core::Steps;
 use iceberg_query::{Ask, Class, Memory, iceberg};
 use measure_index::Index;
 use qc_arena::QcArena;
-use std::alloc::Global;
+use std::alloc::{AllocError, Global};
 use std::sync::ledger::{Blank, Ledger};
 
 fn index_of(alloc: Global, arena: &QcArena, kinds: &[AggKind]) -> Result<Index, Memory>
@@ -31,6 +31,33 @@ fn index_of(alloc: Global, arena: &QcArena, kinds: &[AggKind]) -> Result<Index, 
     let mut index = Index::new(alloc, kinds, &[1])?;
     index.change(&added, &[])?;
     Ok(index)
+}
+
+// What is asked of a tree, where the index has some kinds.
+fn answer_in<L: Ledger>(
+    alloc: Global,
+    arena: &QcArena,
+    kinds: &[AggKind],
+    ask: &Ask,
+    steps: &mut Steps<L>,
+) -> Result<Vec<Class>, Memory>
+    requires opened { is_open arena.now ≡ true }
+    requires width { arena.now.width ≡ 3 }
+    requires tree { IsOfOneMeasure arena.now.now }
+    requires fresh { (q : ℕ) → class_was arena.now q ≡ None }
+    requires kinds { All (IsThere 1) kinds.now }
+    requires kind { IsThere 1 ask.now.kind }
+    requires scale { ask.now.scale ≡ scale_of (1 ∷ []) ask.now.kind }
+{
+    let index = index_of(alloc, arena, kinds)?;
+    let Ok(dict) = dict_of(alloc) else {
+        drop(index);
+        return Err(AllocError);
+    };
+    let classes = iceberg(alloc, arena, &index, &dict, ask, steps);
+    drop(index);
+    drop(dict);
+    classes
 }
 
 /// What is asked of these rows, where the index has some kinds.
@@ -50,9 +77,8 @@ pub(crate) fn answer<L: Ledger>(
     requires scale { ask.now.scale ≡ scale_of (1 ∷ []) ask.now.kind }
 {
     let mut steps = Steps::<L>::start(blank);
-    let table = table_of(alloc, rows)?;
-    let dict = dict_of(alloc)?;
-    let arena = tree_of(alloc, &table, &mut steps)?;
-    let index = index_of(alloc, &arena, kinds)?;
-    iceberg(alloc, &arena, &index, &dict, ask, &mut steps)
+    let arena = tree_of_rows(alloc, rows, &mut steps)?;
+    let classes = answer_in(alloc, &arena, kinds, ask, &mut steps);
+    drop(arena);
+    classes
 }

@@ -5,7 +5,7 @@ ghost use Rattle.aggregates.specs.Views.{IsThere};
 ghost use Rattle.qc_arena.specs.Seen.{record_at};
 ghost use Rattle.class_tests.specs.Cubes.{IsAskable, IsOfOneMeasure};
 
-use crate::cube::{dict_of, lines_of, table_of, tree_of};
+use crate::cube::{dict_of, lines_of, tree_of_rows};
 use crate::lattice_answers::is_right;
 use crate::lines::{Line, Sale, cell_at, cell_of, is_class};
 use crate::question::Question;
@@ -73,6 +73,49 @@ fn is_right_at<L: Ledger>(
     Ok(is_right(question, upper, rows, &lines))
 }
 
+// Whether the answers are right at all classes of the rows, in their tree.
+fn are_right_at_each<L: Ledger>(
+    alloc: Global,
+    arena: &QcArena,
+    dict: &Dict,
+    rows: &[Sale],
+    question: &Question,
+    steps: &mut Steps<L>,
+) -> Result<bool, Memory>
+    requires tree { IsOfOneMeasure arena.now.now }
+    requires width { arena.now.width ≡ 3 }
+    requires dims { length dict.now.lists ≡ 3 }
+    requires question { IsAskable question.now }
+{
+    'cells: for place in 0..64 {
+        let upper = cell_at(place);
+        if is_class(&upper, rows)
+            && !is_right_at(alloc, arena, dict, rows, question, &upper, steps)?
+        {
+            return Ok(false);
+        }
+    }
+    Ok(true)
+}
+
+// The same with a dictionary of its own.
+fn are_right_in<L: Ledger>(
+    alloc: Global,
+    arena: &QcArena,
+    rows: &[Sale],
+    question: &Question,
+    steps: &mut Steps<L>,
+) -> Result<bool, Memory>
+    requires tree { IsOfOneMeasure arena.now.now }
+    requires width { arena.now.width ≡ 3 }
+    requires question { IsAskable question.now }
+{
+    let dict = dict_of(alloc)?;
+    let are_right = are_right_at_each(alloc, arena, &dict, rows, question, steps);
+    drop(dict);
+    are_right
+}
+
 // Whether the answers are right at all classes of the rows.
 fn are_right<L: Ledger>(
     alloc: Global,
@@ -87,18 +130,10 @@ fn are_right<L: Ledger>(
     requires question { IsAskable question.now }
 {
     let mut steps = Steps::<L>::start(blank);
-    let table = table_of(alloc, rows)?;
-    let dict = dict_of(alloc)?;
-    let arena = tree_of(alloc, &table, &mut steps)?;
-    'cells: for place in 0..64 {
-        let upper = cell_at(place);
-        if is_class(&upper, rows)
-            && !is_right_at(alloc, &arena, &dict, rows, question, &upper, &mut steps)?
-        {
-            return Ok(false);
-        }
-    }
-    Ok(true)
+    let arena = tree_of_rows(alloc, rows, &mut steps)?;
+    let are_right = are_right_in(alloc, &arena, rows, question, &mut steps);
+    drop(arena);
+    are_right
 }
 
 fn are_right_uncounted(alloc: Global, rows: &[Sale], question: &Question) -> Result<bool, Memory>

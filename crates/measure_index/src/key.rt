@@ -7,7 +7,7 @@ use std::cmp::Ordering;
 /// The value of a class, as a number over the rows that it is divided by, with the number of its node; in
 /// order of value and then of number. It isn't put in lowest terms, so it is quick to make, and smaller
 /// than an entry.
-#[derive(Clone, Copy, Debug)]
+#[derive(Clone, Copy)]
 pub struct Key {
     pub num: i64,
     pub den: u32,

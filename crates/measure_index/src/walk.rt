@@ -12,7 +12,7 @@ use std::collections::btree_set::Iter;
 use std::marker::Model;
 
 /// From which end entries are read.
-#[derive(Clone, Copy, Debug, PartialEq, Eq)]
+#[derive(Clone, Copy)]
 pub(crate) enum Direction {
     /// The greatest value first, down to a bound.
     Falling,

@@ -37,16 +37,13 @@ use std::alloc::{AllocError, Global};
 use std::marker::Model;
 use std::mem::replace;
 use std::sync::ledger::Ledger;
-use thiserror::Error;
 
 /// Why a node was not added.
-#[derive(Clone, Copy, Debug, PartialEq, Eq, Error)]
+#[derive(Clone, Copy)]
 pub enum ArenaRefused {
     /// There are as many nodes as there may be.
-    #[error("there are as many nodes as there may be")]
     Full,
     /// Memory ran out.
-    #[error("memory ran out")]
     Memory,
 }
 

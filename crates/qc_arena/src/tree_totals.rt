@@ -6,7 +6,7 @@ use cell_core::{Code, NodeNo};
 use cube_defs::MAX_NODES;
 
 /// How many nodes, classes, tree edges and links there are.
-#[derive(Clone, Copy, Debug, PartialEq, Eq)]
+#[derive(Clone, Copy)]
 pub struct Counts {
     pub nodes: u32,
     pub classes: u32,
@@ -17,7 +17,7 @@ pub struct Counts {
 }
 
 /// The root, if there is one, and how many nodes, classes and edges there are.
-#[derive(Clone, Copy, Debug, PartialEq, Eq)]
+#[derive(Clone, Copy)]
 pub(crate) struct TreeTotals {
     pub root: Option<NodeNo>,
     pub nodes: u32,

@@ -15,7 +15,7 @@ struct Named {
     bytes: Vec<u8>,
 }
 
-#[derive(Clone, Copy, Debug, Drop)]
+#[derive(Clone, Copy, Drop)]
 enum Opened {
     Nothing,
     Empty,

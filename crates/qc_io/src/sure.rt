@@ -78,7 +78,7 @@ impl Files for SureFiles {
 }
 
 /// Takes each piece whole and keeps nothing.
-#[derive(Clone, Copy, Debug, Drop)]
+#[derive(Clone, Copy, Drop)]
 pub struct SureSink;
 
 impl SureSink {

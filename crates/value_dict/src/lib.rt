@@ -21,16 +21,13 @@ use indexmap::IndexSet;
 pub use law::a_dimension_that_came_goes;
 use std::alloc::{AllocError, Global};
 use std::marker::Model;
-use thiserror::Error;
 
 /// Why a text was not learnt.
-#[derive(Clone, Copy, Debug, PartialEq, Eq, Error)]
+#[derive(Clone, Copy)]
 pub enum Learn {
     /// The text is unknown, and the dimension has as many texts as it may have.
-    #[error("the dimension has as many texts as it may have")]
     Full,
     /// Memory ran out.
-    #[error("memory ran out")]
     Memory,
 }
 
