@@ -11,3 +11,4 @@ mod PinAnswers
 mod Refusals
 mod Refused
 mod Steps
+mod NoFile

@@ -1,6 +1,6 @@
 // The answer to one line.
 ghost use Rattle.std.specs.Prelude.{Err, IfErr, IfOk, IfSome, IsTrue, None, Ok, OnErr, OnOk, Some, length, option_map, true, ⊤, ◌≡◌, ◌≤◌};
-ghost use Rattle.qc_io.specs.Outside.{Rose};
+ghost use Rattle.qc_io.specs.Outside.{Rose, Told};
 ghost use Rattle.query_script.specs.Commands.{IsQuestion, wants_memory};
 ghost use Rattle.query_script.specs.Lines.{may_want_memory};
 ghost use Rattle.query_script.specs.Questions.{question_in};
@@ -30,7 +30,7 @@ use std::sync::ledger::Ledger;
 use warehouse::{Applied, Refused};
 
 /// What a file is taken for.
-#[derive(Clone, Copy, Debug, PartialEq, Eq)]
+#[derive(Clone, Copy)]
 pub enum FileUse {
     /// A base file.
     Load,
@@ -162,16 +162,50 @@ fn ask<L: Ledger>(
     alloc: Global,
     pinned: &Pinned,
     number: u32,
-    query: &Query,
+    query: Query,
     steps: &mut Steps<L>,
-) -> Result<Reply, LineStop>
-    requires { IsQuery pinned.now.now.state.schema (query_in query.now) }
-    ensures reply { IfOk result (λ reply. reply_bytes reply ≡ query_reply pinned.now.now.state number (query_in query.now)) }
-    ensures memory { IfErr result (λ stop. stop ≡ LineStop.Memory) }
+) -> Result<Reply, Memory>
+    requires { IsQuery pinned.now.now.state.schema (query_in query) }
+    ensures { IfOk result (λ reply. reply_bytes reply ≡ query_reply pinned.now.now.state number (query_in query)) }
 {
-    match answer_now(alloc, pinned.now(), number, query, steps) {
-        Ok(reply) => Ok(reply),
-        Err(_) => Err(LineStop::Memory),
+    answer_now(alloc, pinned.now(), number, &query, steps)
+}
+
+// Carries out a command that names no file, and gives its reply.
+fn answer_held<L: Ledger>(
+    alloc: Global,
+    pinned: &mut Pinned,
+    number: u32,
+    command: Command,
+    steps: &mut Steps<L>,
+) -> Result<Reply, Memory>
+    requires question { IsQuestion pinned.old.now.state.schema (question_in command) }
+    requires unnamed { file_named (Ok (question_in command)) ≡ None }
+    ensures same { OnErr result (pinned.new ≡ pinned.old) }
+    ensures memory { OnErr result (wants_memory (question_in command) ≡ true) }
+    ensures answered { IfOk result (λ reply. (t : Told) → answer_to (held_in pinned.old) t number (Ok (question_in command))
+        ≡ Some (record { state = held_in pinned.new; reply = reply_bytes reply })) }
+{
+    match command {
+        Command::Widen(name, value) => answer_widen(pinned, number, &name, &value, steps),
+        Command::Pin(name) => Ok(Reply::Short(answer_pin(pinned, number, &name))),
+        Command::Unpin(name) => Ok(Reply::Short(answer_unpin(pinned, number, &name))),
+        Command::At(name, query) => answer_at(alloc, pinned, number, &name, query, steps),
+        Command::Point(asked) => ask(alloc, pinned, number, Query::Point(asked), steps),
+        Command::Range(asked) => ask(alloc, pinned, number, Query::Range(asked), steps),
+        Command::Bounds(asked) => ask(alloc, pinned, number, Query::Bounds(asked), steps),
+        Command::Iceberg(kind, bound, value) => {
+            let query = Query::Iceberg(kind, bound, value);
+            ask(alloc, pinned, number, query, steps)
+        }
+        Command::Parents(asked) => ask(alloc, pinned, number, Query::Parents(asked), steps),
+        Command::Children(asked) => ask(alloc, pinned, number, Query::Children(asked), steps),
+        Command::Rollup(kind, bound, value, asked) => {
+            let query = Query::Rollup(kind, bound, value, asked);
+            ask(alloc, pinned, number, query, steps)
+        }
+        Command::Stats => Ok(Reply::Short(stats(number, pinned.now().stats()))),
+        Command::Load(_) | Command::Apply(_) | Command::Try(_) => unreachable!(),
     }
 }
 
@@ -200,24 +234,10 @@ fn answer_command<F: Files, L: Ledger>(
         Command::Load(name) => answer_file(alloc, files, pinned, number, Load, name, steps),
         Command::Apply(name) => answer_file(alloc, files, pinned, number, Apply, name, steps),
         Command::Try(name) => answer_file(alloc, files, pinned, number, Try, name, steps),
-        Command::Widen(name, value) => Ok(answer_widen(pinned, number, &name, &value, steps)?),
-        Command::Pin(name) => Ok(Reply::Short(answer_pin(pinned, number, &name))),
-        Command::Unpin(name) => Ok(Reply::Short(answer_unpin(pinned, number, &name))),
-        Command::At(name, query) => Ok(answer_at(alloc, pinned, number, &name, &query, steps)?),
-        Command::Point(asked) => ask(alloc, pinned, number, &Query::Point(asked), steps),
-        Command::Range(asked) => ask(alloc, pinned, number, &Query::Range(asked), steps),
-        Command::Bounds(asked) => ask(alloc, pinned, number, &Query::Bounds(asked), steps),
-        Command::Iceberg(kind, bound, value) => {
-            let query = Query::Iceberg(kind, bound, value);
-            ask(alloc, pinned, number, &query, steps)
-        }
-        Command::Parents(asked) => ask(alloc, pinned, number, &Query::Parents(asked), steps),
-        Command::Children(asked) => ask(alloc, pinned, number, &Query::Children(asked), steps),
-        Command::Rollup(kind, bound, value, asked) => {
-            let query = Query::Rollup(kind, bound, value, asked);
-            ask(alloc, pinned, number, &query, steps)
-        }
-        Command::Stats => Ok(Reply::Short(stats(number, pinned.now().stats()))),
+        other => match answer_held(alloc, pinned, number, other, steps) {
+            Ok(reply) => Ok(reply),
+            Err(_) => Err(LineStop::Memory),
+        },
     }
 }
 

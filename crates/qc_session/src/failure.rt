@@ -9,7 +9,7 @@ use qc_io::{Sink, WriteFailed, write_all};
 use qc_schema::{SchemaCause, SchemaRefused};
 
 /// Why a run ended before the end of its script.
-#[derive(Clone, Copy, Debug)]
+#[derive(Clone, Copy)]
 pub enum Failure<'a> {
     /// The words are no listed form.
     Usage,

@@ -9,7 +9,9 @@ mod pins;
 mod quiet;
 mod scripts;
 mod session;
+mod status;
 mod widening;
 mod words;
 
 pub use scripts::{Outcome, run};
+pub use status::run_to_status;

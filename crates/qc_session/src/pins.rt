@@ -13,7 +13,7 @@ use reply_text::{
     Reply, ShortReply, pinned, refused, unpinned, words_of_all_pinned, words_of_name_taken,
     words_of_not_pinned,
 };
-use std::alloc::Global;
+use std::alloc::{AllocError, Global};
 use std::sync::ledger::Ledger;
 
 /// Pins the rows that are present under a name, and gives the reply to its line. It takes no memory.
@@ -45,24 +45,32 @@ pub fn answer_at<L: Ledger>(
     held: &Pinned,
     number: u32,
     name: &Text,
-    query: &Query,
+    query: Query,
     steps: &mut Steps<L>,
 ) -> Result<Reply, Memory>
-    requires { IsQuery held.now.now.state.schema (query_in query.now) }
-    ensures { IfOk result (λ reply. reply_bytes reply ≡ at_reply (held_in held.now) number name.now (query_in query.now)) }
+    requires { IsQuery held.now.now.state.schema (query_in query) }
+    ensures { IfOk result (λ reply. reply_bytes reply ≡ at_reply (held_in held.now) number name.now (query_in query)) }
 {
     let Some(view) = held.view(name.as_str()) else {
+        drop(query);
         return Ok(Reply::Short(refused(number, words_of_not_pinned())));
     };
-    let index = empty_index(alloc)?;
-    answer_query(
+    let Ok(index) = empty_index(alloc) else {
+        drop(query);
+        return Err(AllocError);
+    };
+    let stats = view.stats();
+    let reply = answer_query(
         alloc,
         held.now(),
         &view,
         &index,
-        view.stats(),
+        stats,
         number,
-        query,
+        &query,
         steps,
-    )
+    );
+    drop(index);
+    drop(query);
+    reply
 }

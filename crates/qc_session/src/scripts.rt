@@ -155,7 +155,10 @@ fn read_behind<'a, F: Files>(
 {
     match read_named(alloc, files, name) {
         Ok(script) => Ok((warehouse, script)),
-        Err(failure) => Err(failure),
+        Err(failure) => {
+            drop(warehouse);
+            Err(failure)
+        }
     }
 }
 
@@ -212,6 +215,7 @@ fn stopped(status: u8, session: Session) -> Outcome
     ensures skipped { result.skipped.items ≡ session.skipped.items }
     ensures end { result.end ≡ None }
 {
+    drop(session.pinned);
     Outcome {
         status,
         skipped: session.skipped,
@@ -318,9 +322,14 @@ fn run_generated<O: Sink, E: Sink, L: Ledger>(
     let Ok(generated) = generate(alloc, rows, seed, &mut steps) else {
         return fail(alloc, err, &Failure::OutOfMemory);
     };
-    match write_all(out, &generated.text) {
-        Ok(()) => filled(alloc, generated.warehouse),
-        Err(_) => fail(alloc, err, &Failure::CannotWrite),
+    let text = generated.text;
+    let warehouse = generated.warehouse;
+    match write_all(out, &text) {
+        Ok(()) => filled(alloc, warehouse),
+        Err(_) => {
+            drop(warehouse);
+            fail(alloc, err, &Failure::CannotWrite)
+        }
     }
 }
 
@@ -351,10 +360,19 @@ fn packed<O: Sink, E: Sink>(
     match encode(alloc, &warehouse) {
         Ok(bytes) => match write_all(out, &bytes) {
             Ok(()) => filled(alloc, warehouse),
-            Err(_) => fail(alloc, err, &Failure::CannotWrite),
+            Err(_) => {
+                drop(warehouse);
+                fail(alloc, err, &Failure::CannotWrite)
+            }
         },
-        Err(EncodeRefused::TooLong) => fail(alloc, err, &Failure::LongSnapshot),
-        Err(EncodeRefused::Memory) => fail(alloc, err, &Failure::OutOfMemory),
+        Err(EncodeRefused::TooLong) => {
+            drop(warehouse);
+            fail(alloc, err, &Failure::LongSnapshot)
+        }
+        Err(EncodeRefused::Memory) => {
+            drop(warehouse);
+            fail(alloc, err, &Failure::OutOfMemory)
+        }
     }
 }
 
@@ -401,8 +419,14 @@ fn pack_script<F: Files, O: Sink, E: Sink, L: Ledger>(
     let mut steps = Steps::<L>::start(blank);
     match take_quietly(alloc, files, &mut session, script, &mut steps) {
         Ok(()) => packed(alloc, out, err, session.pinned.finish()),
-        Err(QuietStop::Read(name)) => fail(alloc, err, &Failure::CannotRead(name.as_str())),
-        Err(QuietStop::Memory) => fail(alloc, err, &Failure::OutOfMemory),
+        Err(QuietStop::Read(name)) => {
+            drop(session);
+            fail(alloc, err, &Failure::CannotRead(name.as_str()))
+        }
+        Err(QuietStop::Memory) => {
+            drop(session);
+            fail(alloc, err, &Failure::OutOfMemory)
+        }
     }
 }
 

@@ -134,6 +134,17 @@ fn count_lines(text: &[u8]) -> usize
     count
 }
 
+// The memory for the number of each line, and for the replies.
+fn rooms(alloc: Global, script: &[u8]) -> Result<(Vec<u32>, Pending), Memory>
+    ensures fresh { IfOk result (λ made. (made.0.items ≡ []) × (made.1 ≡ [])) }
+    ensures room { IfOk result (λ made. length (lines_of script.now) ≤ vec_capacity made.0) }
+    ensures few { length (lines_of script.now) ≤ length script.now }
+{
+    let skipped = Vec::with_capacity(alloc, count_lines(script))?;
+    let pending = Pending::new(alloc)?;
+    Ok((skipped, pending))
+}
+
 /// A session before the first line of a script, with the memory for the number of each line.
 pub fn begin(alloc: Global, warehouse: Warehouse, script: &[u8]) -> Result<Session, Memory>
     ensures state { IfOk result (λ session. session.pinned.now.state ≡ warehouse.state) }
@@ -141,16 +152,22 @@ pub fn begin(alloc: Global, warehouse: Warehouse, script: &[u8]) -> Result<Sessi
     ensures room { IfOk result (λ session. length (lines_of script.now) ≤ vec_capacity session.skipped) }
     ensures few { length (lines_of script.now) ≤ length script.now }
 {
-    let skipped = Vec::with_capacity(alloc, count_lines(script))?;
-    let pending = Pending::new(alloc)?;
-    let pinned = Pinned::new(alloc, warehouse)?;
-    Ok(Session {
-        number: 0,
-        pinned,
-        skipped,
-        pending,
-        reply: Vec::new(alloc),
-    })
+    match rooms(alloc, script) {
+        Ok((skipped, pending)) => {
+            let pinned = Pinned::new(alloc, warehouse)?;
+            Ok(Session {
+                number: 0,
+                pinned,
+                skipped,
+                pending,
+                reply: Vec::new(alloc),
+            })
+        }
+        Err(refused) => {
+            drop(warehouse);
+            Err(refused)
+        }
+    }
 }
 
 /// Takes the lines of a script in order, from its first line on, and hands on all their replies.

@@ -1,5 +1,5 @@
 // What the words behind the program's name ask for.
-ghost use Rattle.std.specs.Prelude.{◌≡◌};
+ghost use Rattle.std.specs.Prelude.{◌≡◌, ◌∷◌, []};
 ghost use Rattle.aggregates.specs.Numbers.{id_in};
 ghost use Rattle.qc_session.specs.Forms.{drawing_of, form_of};
 
@@ -7,7 +7,7 @@ use aggregates::read_id;
 use cube_defs::MAX_ROWS;
 
 /// How the first file tells the state at which a run starts.
-#[derive(Clone, Copy, Debug, PartialEq, Eq)]
+#[derive(Clone, Copy)]
 pub enum Source {
     /// It is a schema. There are no rows.
     FromSchema,
@@ -16,7 +16,7 @@ pub enum Source {
 }
 
 /// The names of the first file and of the script, and what the first is.
-#[derive(Clone, Copy, Debug)]
+#[derive(Clone, Copy)]
 pub struct Names<'a> {
     pub source: Source,
     pub first: &'a str,
@@ -24,7 +24,7 @@ pub struct Names<'a> {
 }
 
 /// A form of the words.
-#[derive(Clone, Copy, Debug)]
+#[derive(Clone, Copy)]
 pub enum Form<'a> {
     /// `run SCHEMA SCRIPT` or `open SNAPSHOT SCRIPT`: the names of two files.
     Run(Names<'a>),
@@ -51,28 +51,40 @@ fn read_numbers<'a>(rows: &str, seed: &str) -> Form<'a>
     }
 }
 
+// The form of three words.
+fn read_three<'a>(word: &String, first: &'a String, script: &'a String) -> Form<'a>
+    ensures form { form_in result ≡ form_of (word.now ∷ first.entry.now ∷ script.entry.now ∷ []) }
+    ensures few { HasFewRows result }
+{
+    let (first, script) = (first.as_str(), script.as_str());
+    match word.as_str() {
+        "run" => Form::Run(Names {
+            source: Source::FromSchema,
+            first,
+            script,
+        }),
+        "open" => Form::Run(Names {
+            source: Source::FromSnapshot,
+            first,
+            script,
+        }),
+        "pack" => Form::Pack(Names {
+            source: Source::FromSchema,
+            first,
+            script,
+        }),
+        "gen" => read_numbers(first, script),
+        _ => Form::Unlisted,
+    }
+}
+
 /// The form of these words.
 pub fn read_words(words: &[String]) -> Form<'_>
     ensures form { form_in result ≡ form_of words.now }
     ensures few { HasFewRows result }
 {
-    match words {
-        [word, first, script] if word.as_str() == "run" => Form::Run(Names {
-            source: Source::FromSchema,
-            first: first.as_str(),
-            script: script.as_str(),
-        }),
-        [word, first, script] if word.as_str() == "open" => Form::Run(Names {
-            source: Source::FromSnapshot,
-            first: first.as_str(),
-            script: script.as_str(),
-        }),
-        [word, first, script] if word.as_str() == "pack" => Form::Pack(Names {
-            source: Source::FromSchema,
-            first: first.as_str(),
-            script: script.as_str(),
-        }),
-        [word, rows, seed] if word.as_str() == "gen" => read_numbers(rows.as_str(), seed.as_str()),
-        _ => Form::Unlisted,
-    }
+    let [word, first, script] = words else {
+        return Form::Unlisted;
+    };
+    read_three(word, first, script)
 }

@@ -11,12 +11,12 @@ pub returns-in_default : goal.returns-in_default
 returns-in_default g c =
     c.refused.ensures
     ∙ ap (λ (texts : List Text). refused_text c.args.number texts) c.words_of_not_pinned.ensures.texts
-    ∙ sym (at-none c.args.held.now c.args.number c.args.name.now (query_in c.args.query.now) (rw c.as_str.ensures.value at c.in_default.ensures.none))
+    ∙ sym (at-none c.args.held.now c.args.number c.args.name.now (query_in c.args.query) (rw c.as_str.ensures.value at c.in_default.ensures.none))
 
 pub returns : goal.returns
 returns g c =
     let (version, found, is) = rw c.as_str.ensures.value at c.in-Some.ensures.some in
     let has : HasTree (with_rows c.now.result.now.state version.rows) c.in-Some.view.tree = rw (c.now.ensures.value, is.tree) is.has in
-    let counted : AreCounted version.rows c.stats.result = rw c.stats.ensures is.stats in
-    let reply = rw c.now.ensures.value at (c.answer_query.ensures.reply version.rows has counted) in
-    rw (at-version c.args.held.now c.args.number c.args.name.now (query_in c.args.query.now) version found) reply
+    let counted : AreCounted version.rows c.stats-stats.result = rw c.stats-stats.ensures is.stats in
+    let reply = rw c.now.ensures.value at (c.answer_query-reply.ensures.reply version.rows has counted) in
+    rw (at-version c.args.held.now c.args.number c.args.name.now (query_in c.args.query) version found) reply
