@@ -4,7 +4,7 @@
 use std::alloc::{AllocError, Global};
 use std::{fs, io};
 
-const VALUES: u32 = 100;
+const VALUES: u32 = 100_000;
 
 const TOO_LONG: u64 = 268_435_457;
 
