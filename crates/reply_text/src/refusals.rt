@@ -10,7 +10,7 @@ use query_script::LineRefused;
 use warehouse::{Refused, WidenRefused};
 
 /// What a refusal says of its code.
-#[derive(Clone, Copy, Debug)]
+#[derive(Clone, Copy)]
 pub enum Detail<'a> {
     Nothing,
     Number(u32),
@@ -18,7 +18,7 @@ pub enum Detail<'a> {
 }
 
 /// The code of a refusal, and what it says of it.
-#[derive(Clone, Copy, Debug)]
+#[derive(Clone, Copy)]
 pub struct RefusalWords<'a> {
     pub(crate) code: &'static str,
     pub(crate) detail: Detail<'a>,
