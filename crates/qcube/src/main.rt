@@ -2,7 +2,7 @@
 #![tactic(auto)]
 
 use qc_io::{RealFiles, RealSink};
-use qc_session::run;
+use qc_session::run_to_status;
 use std::alloc::AllocError;
 use std::env;
 use std::io::ErrorKind;
@@ -31,6 +31,5 @@ fn main(rt: HostRuntime) -> ExitCode {
     let mut files = RealFiles::new(&rt);
     let mut out = RealSink::new(rt.stdout());
     let mut err = RealSink::new(rt.stderr());
-    let outcome = run(rt.alloc(), &words, &mut files, &mut out, &mut err);
-    ExitCode::from(outcome.status)
+    ExitCode::from(run_to_status(rt.alloc(), &words, &mut files, &mut out, &mut err))
 }
