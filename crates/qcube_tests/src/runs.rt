@@ -32,11 +32,13 @@ pub fn run_words<F: Files, O: Sink, E: Sink>(
     err: &mut E,
 ) -> Ended {
     let outcome = run(alloc, words, files, out, err);
-    Ended {
+    let ended = Ended {
         status: outcome.status,
         skipped: outcome.skipped.len(),
         has_end: outcome.end.is_some(),
-    }
+    };
+    drop(outcome);
+    ended
 }
 
 /// Runs with these words over these files and sinks.
