@@ -1,13 +1,18 @@
 // The top call for a program, which asks for the status alone.
-ghost use Rattle.std.specs.Prelude.{◌≡◌, ◌↔◌, IsNone};
-ghost use Rattle.qc_io.specs.Outside.{Rose};
-ghost use Rattle.qc_session.specs.Forms.{form_of};
+ghost use Rattle.std.specs.Prelude.{◌≡◌, ◌⊎◌, ◌↔◌, List, ℕ, Option, IfSome, IsNone, IsTrue};
+ghost use Rattle.generated_run.specs.Generated.{generated_record};
+ghost use Rattle.qc_io.specs.Outside.{Rose, taking};
+ghost use Rattle.qc_session.specs.Forms.{IfGen, IfPack, IfRun, form_of};
+ghost use Rattle.qc_session.specs.Packs.{IsPackRefused, IsPackUnrefused, Packed};
+ghost use Rattle.qc_session.specs.Runs.{AllTold, Cause, Finished, IsRefused, IsStatus, IsUnrefused};
+ghost use Rattle.warehouse.specs.State.{State};
 
 use crate::scripts::run;
 use qc_io::{Files, Sink};
 use std::alloc::Global;
 
-/// Runs as `run` does, and lets go of all but the status.
+/// Runs as `run` does, and lets go of all but the status. What `run` says of the lines that found no memory, and of the
+/// state at the end, is said here of some such lines and some state.
 pub fn run_to_status<F: Files, O: Sink, E: Sink>(
     alloc: Global,
     words: &[String],
@@ -15,10 +20,35 @@ pub fn run_to_status<F: Files, O: Sink, E: Sink>(
     out: &mut O,
     err: &mut E,
 ) -> u8
+    ensures known { IsStatus result }
     ensures usage { result ≡ 2 ↔ IsNone (form_of words.now) }
+
+    // Status 0: the transcript, the snapshot or the record, whole.
+    ensures transcript { result ≡ 0 → (skipped : List ℕ) × (end : Option State) × IfRun (form_of words.now) (λ names.
+        IfSome (F.told files.old) (λ t. Finished t names skipped end (O.taken out.old) (O.taken out.new))) }
+    ensures pack_all { result ≡ 0 → (end : Option State) × IfPack (form_of words.now) (λ names.
+        IfSome (F.told files.old) (λ t. Packed t names end (O.taken out.old) (O.taken out.new))) }
+    ensures gen_all { result ≡ 0 → IfGen (form_of words.now)
+        (λ drawing. O.taken out.new ≡ taking (generated_record drawing.rows drawing.seed) (O.taken out.old)) }
     ensures silent { result ≡ 0 → err.new ≡ err.old }
+
+    // Where the other statuses come.
     ensures read_fault { result ≡ 3 → Rose (F.faults files.old) (F.faults files.new) }
     ensures write_fault { result ≡ 4 → Rose (O.faults out.old) (O.faults out.new) }
+    ensures refusal { IfRun (form_of words.now) (λ names. IfSome (F.told files.old) (λ t.
+        (cause : Cause) → IsRefused t names cause → (result ≡ 6) ⊎ (result ≡ 5) ⊎ (result ≡ 3))) }
+    ensures complete { IfRun (form_of words.now) (λ names. IfSome (F.told files.old) (λ t.
+        IsUnrefused t names
+        → (Rose (F.faults files.old) (F.faults files.new) → ⊥) → (Rose (O.faults out.old) (O.faults out.new) → ⊥)
+        → (result ≡ 0) ⊎ (result ≡ 5))) }
+    ensures complete_steady { IsTrue (F.steady files.old) → IfRun (form_of words.now) (λ names. IfSome (F.told files.old) (λ t.
+        AllTold t names → IsUnrefused t names
+        → (Rose (O.faults out.old) (O.faults out.new) → ⊥) → (result ≡ 0) ⊎ (result ≡ 5))) }
+    ensures pack_refusal { IfPack (form_of words.now) (λ names. IfSome (F.told files.old) (λ t. (cause : Cause) → IsPackRefused t names cause
+        → (result ≡ 6) ⊎ (result ≡ 5) ⊎ (result ≡ 3))) }
+    ensures pack_complete { IfPack (form_of words.now) (λ names. IfSome (F.told files.old) (λ t. IsPackUnrefused t names
+        → (Rose (F.faults files.old) (F.faults files.new) → ⊥) → (Rose (O.faults out.old) (O.faults out.new) → ⊥)
+        → (result ≡ 0) ⊎ (result ≡ 5))) }
 {
     let outcome = run(alloc, words, files, out, err);
     let status = outcome.status;
