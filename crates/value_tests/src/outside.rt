@@ -119,21 +119,18 @@ fn a_file_of_the_same_name_is_replaced(rt: HostRuntime) -> Result<(), Fail> {
     Ok(())
 }
 
-// Whether the next bytes of the open file are these.
-fn are_next(files: &mut MemoryFiles, want: &[u8]) -> bool {
-    let mut buf = [0u8; 8];
-    match files.read(&mut buf) {
-        Ok(count) => count <= 8 && &buf[..count] == want,
-        Err(_) => false,
-    }
-}
-
 fn may_be_added_meanwhile(alloc: Global) -> Result<bool, AllocError> {
     let mut files = MemoryFiles::new(alloc, &[], 4)?;
     files.add("a", b"abcdef")?;
-    let is_begun = files.open("a").is_ok() && are_next(&mut files, b"abcd");
+    if files.open("a").is_err() {
+        return Ok(false);
+    }
+    let mut buf = [0u8; 8];
+    let is_first = files.read(&mut buf) == Ok(4) && &buf[..4] == b"abcd".as_slice();
     files.add("b", b"uvw")?;
-    Ok(is_begun && are_next(&mut files, b"ef") && are_next(&mut files, b""))
+    let is_second = files.read(&mut buf) == Ok(2) && &buf[..2] == b"ef".as_slice();
+    let is_end = files.read(&mut buf) == Ok(0);
+    Ok(is_first && is_second && is_end)
 }
 
 #[test]
