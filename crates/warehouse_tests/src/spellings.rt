@@ -1,0 +1,143 @@
+// Bytes that are the snapshot of a state, or of none.
+ghost use Rattle.std.specs.Prelude.{◌<◌, ◌≡◌};
+
+use cell_core::Steps;
+use cube_defs::MAX_FILE;
+use cube_snapshot::{DecodeRefused, decode, encode};
+use std::alloc::{AllocError, Global};
+use std::marker::Brand;
+use std::sync::ledger::{Blank, Ledger};
+use std::test::Fail;
+use warehouse::Warehouse;
+
+// A snapshot of three rows: the mark, the schema, the texts of three dimensions, and the rows.
+const FULL: &[u8] = b"QCUBESN1\x00\x00\x00h\
+    qcube 1\nid id\ndim store\ndim product\ndim season\nmeasure sale 0\nnodes 1000000\nrows 1000000\nvalues 4000000\n\
+    \x00\x00\x00\x02\x02S1\x02S2\
+    \x00\x00\x00\x02\x02P1\x02P2\
+    \x00\x00\x00\x02\x01s\x01f\
+    \x00\x00\x00\x03\
+    \x00\x00\x00\x00\x00\x00\x00\x01\x00\x00\x00\x00\x00\x00\x00\x00\x00\x00\x00\x00\x00\x00\x00\x00\x00\x00\x00\x06\
+    \x00\x00\x00\x00\x00\x00\x00\x02\x00\x00\x00\x00\x00\x00\x00\x01\x00\x00\x00\x00\x00\x00\x00\x00\x00\x00\x00\x0C\
+    \x00\x00\x00\x00\x00\x00\x00\x03\x00\x00\x00\x01\x00\x00\x00\x00\x00\x00\x00\x01\x00\x00\x00\x00\x00\x00\x00\x09";
+
+// [`FULL`], but of a schema that allows ten nodes, where the rows have eleven.
+const CROWDED: &[u8] = b"QCUBESN1\x00\x00\x00c\
+    qcube 1\nid id\ndim store\ndim product\ndim season\nmeasure sale 0\nnodes 10\nrows 1000000\nvalues 4000000\n\
+    \x00\x00\x00\x02\x02S1\x02S2\
+    \x00\x00\x00\x02\x02P1\x02P2\
+    \x00\x00\x00\x02\x01s\x01f\
+    \x00\x00\x00\x03\
+    \x00\x00\x00\x00\x00\x00\x00\x01\x00\x00\x00\x00\x00\x00\x00\x00\x00\x00\x00\x00\x00\x00\x00\x00\x00\x00\x00\x06\
+    \x00\x00\x00\x00\x00\x00\x00\x02\x00\x00\x00\x00\x00\x00\x00\x01\x00\x00\x00\x00\x00\x00\x00\x00\x00\x00\x00\x0C\
+    \x00\x00\x00\x00\x00\x00\x00\x03\x00\x00\x00\x01\x00\x00\x00\x00\x00\x00\x00\x01\x00\x00\x00\x00\x00\x00\x00\x09";
+
+// What bytes are.
+#[derive(Clone, Copy, PartialEq, Eq)]
+enum Verdict {
+    /// The snapshot of a state.
+    Spelled,
+    /// Read as a state whose snapshot is another.
+    Misread,
+    /// Refused.
+    Refused(DecodeRefused),
+}
+
+// Whether these are the bytes of a state.
+fn spells(alloc: Global, warehouse: &Warehouse, bytes: &[u8]) -> Verdict {
+    match encode(alloc, warehouse) {
+        Ok(spelling) if spelling.as_slice() == bytes => Verdict::Spelled,
+        _ => Verdict::Misread,
+    }
+}
+
+fn answer_of<L: Ledger>(alloc: Global, bytes: &[u8], blank: Blank) -> Verdict
+    requires name { blank.name ≡ L.name }
+    requires parts { blank.parts ≡ L.parts }
+    requires some { 0 < L.parts }
+{
+    if bytes.len() > MAX_FILE {
+        return Verdict::Misread;
+    }
+    let mut steps = Steps::<L>::start(blank);
+    match decode(alloc, bytes, &mut steps) {
+        Ok(warehouse) => {
+            let verdict = spells(alloc, &warehouse, bytes);
+            drop(warehouse);
+            verdict
+        }
+        Err(refused) => Verdict::Refused(refused),
+    }
+}
+
+// What the bytes are, where no steps are counted.
+fn answer(alloc: Global, bytes: &[u8]) -> Verdict {
+    answer_of::<Brand>(alloc, bytes, Blank::new(1))
+}
+
+#[test]
+fn a_snapshot_is_spelled(rt: HostRuntime) -> Result<(), Fail> {
+    assert!(rt; answer(rt.alloc(), FULL) == Verdict::Spelled);
+    Ok(())
+}
+
+#[test]
+fn a_tree_has_too_many_nodes(rt: HostRuntime) -> Result<(), Fail> {
+    assert!(rt; answer(rt.alloc(), CROWDED) == Verdict::Refused(DecodeRefused::NodesFull));
+    Ok(())
+}
+
+// Whether the first bytes of a snapshot, so many of them, are refused.
+fn is_cut_refused(alloc: Global, len: usize) -> bool {
+    match FULL.get(..len) {
+        Some(front) => answer(alloc, front) == Verdict::Refused(DecodeRefused::Form),
+        None => false,
+    }
+}
+
+#[test]
+fn no_front_of_a_snapshot_is_one(rt: HostRuntime) -> Result<(), Fail> {
+    'lens: for len in 0..232 {
+        assert!(rt; is_cut_refused(rt.alloc(), len), "{}", len);
+    }
+    Ok(())
+}
+
+// Whether a byte more behind a snapshot is refused.
+fn is_longer_refused(alloc: Global, byte: u8) -> Result<bool, AllocError> {
+    let mut bytes = Vec::from_slice(alloc, FULL)?;
+    bytes.push(byte)?;
+    Ok(answer(alloc, &bytes) == Verdict::Refused(DecodeRefused::Form))
+}
+
+#[test]
+fn nothing_stands_behind_a_snapshot(rt: HostRuntime) -> Result<(), Fail> {
+    'bytes: for byte in 0..4 {
+        assert!(rt; is_longer_refused(rt.alloc(), byte)?);
+    }
+    Ok(())
+}
+
+// Whether a snapshot with one byte changed is refused, or that of another state.
+fn is_changed_well(alloc: Global, place: usize, mask: u8) -> Result<bool, AllocError> {
+    let mut bytes = Vec::from_slice(alloc, FULL)?;
+    if let Some(byte) = bytes.get_mut(place) {
+        *byte ^= mask;
+    }
+    Ok(match answer(alloc, &bytes) {
+        Verdict::Spelled | Verdict::Refused(DecodeRefused::Form | DecodeRefused::NodesFull) => true,
+        Verdict::Misread | Verdict::Refused(DecodeRefused::Memory) => false,
+    })
+}
+
+#[test]
+fn each_byte_of_a_snapshot_counts(rt: HostRuntime) -> Result<(), Fail> {
+    'places: for place in 0..232 {
+        assert!(rt;
+            is_changed_well(rt.alloc(), place, 1)? && is_changed_well(rt.alloc(), place, 128)?,
+            "{}",
+            place
+        );
+    }
+    Ok(())
+}

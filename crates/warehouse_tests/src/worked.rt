@@ -1,0 +1,121 @@
+// The worked tree: its cells are found under their numbers again.
+ghost use Rattle.std.specs.Prelude.{◌<◌, ◌≡◌};
+
+use crate::answers::{apply, opened};
+use crate::worked_tree::{BASE, MINUS, PLUS, SCHEMA, Texts, cell_of};
+use cell_core::{NodeNo, Steps};
+use std::alloc::Global;
+use std::marker::Brand;
+use std::sync::ledger::{Blank, Ledger};
+use std::test::Fail;
+use tree_search::find;
+use warehouse::Warehouse;
+
+// The cells of the nodes, with the place of the closure of each; `*` stands for Any.
+static NODES: [(Texts, usize); 11] = [
+    (["*", "*", "*"], 0),
+    (["*", "P1", "*"], 1),
+    (["S1", "*", "*"], 3),
+    (["S1", "*", "s"], 3),
+    (["S1", "P1", "*"], 5),
+    (["S1", "P1", "s"], 5),
+    (["S1", "P2", "*"], 7),
+    (["S1", "P2", "s"], 7),
+    (["S2", "*", "*"], 10),
+    (["S2", "P1", "*"], 10),
+    (["S2", "P1", "f"], 10),
+];
+
+// The place of the one cell whose closure is another while the fourth row is there.
+const S2: usize = 8;
+
+type Numbers = [Option<NodeNo>; 11];
+
+// The number of a cell's closure.
+fn number_of<L: Ledger>(
+    alloc: Global,
+    shop: &Warehouse,
+    texts: &Texts,
+    steps: &mut Steps<L>,
+) -> Option<NodeNo> {
+    let cell = cell_of(alloc, shop, texts)?;
+    find(shop.tree(), &cell, steps)
+}
+
+fn numbers<L: Ledger>(alloc: Global, shop: &Warehouse, steps: &mut Steps<L>) -> Numbers {
+    let mut numbers = [None; 11];
+    'nodes: for place in 0..11 {
+        let (texts, _) = NODES[place];
+        numbers[place] = number_of(alloc, shop, &texts, steps);
+    }
+    numbers
+}
+
+// The numbers after a batch, where it is taken.
+fn numbers_after<L: Ledger>(
+    alloc: Global,
+    shop: &mut Warehouse,
+    batch: &[u8],
+    steps: &mut Steps<L>,
+) -> Option<Numbers> {
+    match apply(shop, batch) {
+        Ok(_) => Some(numbers(alloc, shop, steps)),
+        Err(_) => None,
+    }
+}
+
+// The numbers after the base file, after the fourth row came, and after it went.
+fn found<L: Ledger>(alloc: Global, blank: Blank) -> Result<[Option<Numbers>; 3], Fail>
+    requires name { blank.name ≡ L.name }
+    requires parts { blank.parts ≡ L.parts }
+    requires some { 0 < L.parts }
+{
+    let mut steps = Steps::<L>::start(blank);
+    let mut shop = opened(alloc, SCHEMA, BASE)?;
+    let first = numbers(alloc, &shop, &mut steps);
+    let with = numbers_after(alloc, &mut shop, PLUS, &mut steps);
+    let last = numbers_after(alloc, &mut shop, MINUS, &mut steps);
+    drop(shop);
+    Ok([Some(first), with, last])
+}
+
+fn found_uncounted(alloc: Global) -> Result<[Option<Numbers>; 3], Fail> {
+    found::<Brand>(alloc, Blank::new(1))
+}
+
+// Whether two cells have one number just where they have one closure.
+fn are_closures(numbers: &Numbers) -> bool {
+    for one in 0..11 {
+        for other in 0..11 {
+            let is_same = NODES[one].1 == NODES[other].1;
+            if numbers[one].is_none() || (numbers[one] == numbers[other]) != is_same {
+                return false;
+            }
+        }
+    }
+    true
+}
+
+// Whether each cell but one has its number again.
+fn differ_at_one(with: &Numbers, first: &Numbers) -> bool {
+    'cells: for place in 0..11 {
+        if (with[place] == first[place]) != (place != S2) {
+            return false;
+        }
+    }
+    true
+}
+
+// Whether these are the numbers after the base file, after the fourth row came, and after it went.
+fn are_kept(numbers: &[Option<Numbers>; 3]) -> bool {
+    let [Some(first), Some(with), Some(last)] = *numbers else {
+        return false;
+    };
+    are_closures(&first) && differ_at_one(&with, &first) && last == first
+}
+
+#[test]
+fn the_worked_tree_keeps_its_numbers(rt: HostRuntime) -> Result<(), Fail> {
+    assert!(rt; are_kept(&found_uncounted(rt.alloc())?));
+    Ok(())
+}
