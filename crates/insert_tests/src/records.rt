@@ -2,6 +2,7 @@
 ghost use Rattle.std.specs.FinMap as map;
 ghost use Rattle.std.specs.Prelude.{IsSome};
 
+use aggregates::Part;
 use cell_core::{NodeNo, Steps};
 use qc_arena::{Nodes, QcArena};
 use std::alloc::{AllocError, Global};
@@ -109,6 +110,17 @@ fn are_edges_same<L: Ledger>(
     true
 }
 
+// Whether both come to the same in each measure.
+fn are_parts_same(parts: &[Part; 4], own: &[Part; 4]) -> bool {
+    'measures: for k in 0..4 {
+        let (part, other) = (parts[k], own[k]);
+        if part.sum != other.sum || part.least != other.least || part.greatest != other.greatest {
+            return false;
+        }
+    }
+    true
+}
+
 // Whether both are classes of the same aggregate, or none is one.
 fn is_class_same<L: Ledger>(
     one: &QcArena,
@@ -121,7 +133,7 @@ fn is_class_same<L: Ledger>(
     requires b { IsSome (map.get other.now.now b.0) }
 {
     match (one.class(a, steps), other.class(b, steps)) {
-        (Some(agg), Some(own)) => agg.count == own.count && agg.parts == own.parts,
+        (Some(agg), Some(own)) => agg.count == own.count && are_parts_same(&agg.parts, &own.parts),
         (None, None) => true,
         _ => false,
     }

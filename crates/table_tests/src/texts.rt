@@ -30,7 +30,14 @@ enum Step {
 use Step::{Added, Code as CodeOf, Cut, Dims, Dropped, Learnt, Len, Order, Text};
 
 fn is_learnt(dict: &mut Dict, dim: u8, text: &str, want: Result<Code, Learn>) -> bool {
-    dim < dict.dims() && dict.learn(dim, text) == want
+    if dim >= dict.dims() {
+        return false;
+    }
+    match (dict.learn(dim, text), want) {
+        (Ok(code), Ok(wanted)) => code == wanted,
+        (Err(Learn::Full), Err(Learn::Full)) => true,
+        _ => false,
+    }
 }
 
 fn is_code(dict: &Dict, dim: u8, text: &str, want: Option<Code>) -> bool {
