@@ -7,7 +7,7 @@
 #
 # PROGRAM is the built program, by default crates/qcube/out/qcube.
 source "$(dirname "${BASH_SOURCE[0]}")/common.sh"
-cp "$top"/examples/store/* .
+cp "$top"/crates/worked_runs/data/runs/store/* .
 
 ends() {
     local want=$1 got=0

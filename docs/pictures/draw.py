@@ -3,7 +3,7 @@
 
     docs/pictures/draw.py [PROGRAM]
 
-PROGRAM is the built program, by default crates/qcube/out/qcube. The table is that of examples/store, before and after its batch. Which
+PROGRAM is the built program, by default crates/qcube/out/qcube. The table is that of crates/worked_runs/data/runs/store, before and after its batch. Which
 cells there are, which class each is of, and what each class comes to is asked of the program; the nodes and links of the tree follow from
 that as docs/concepts.md says."""
 import csv, itertools, os, subprocess, sys, tempfile
@@ -11,7 +11,7 @@ from html import escape
 
 HERE = os.path.dirname(os.path.realpath(__file__))
 TOP = os.path.dirname(os.path.dirname(HERE))
-STORE = f"{TOP}/examples/store"
+STORE = f"{TOP}/crates/worked_runs/data/runs/store"
 PROGRAM = os.path.abspath(sys.argv[1]) if len(sys.argv) > 1 else f"{TOP}/crates/qcube/out/qcube"
 DIMS = 3
 COLOURS = ["#4e79a7", "#f28e2b", "#59a14f", "#e15759", "#b07aa1", "#76b7b2", "#edc948", "#9c755f", "#ff9da7"]
