@@ -1,4 +1,4 @@
-// The images that are kept for the versions, the oldest first.
+// The before-images that are kept for the versions, the oldest first.
 ghost use Rattle.std.specs.List.{list_any};
 ghost use Rattle.std.specs.Prelude.{IfErr, OnErr, OnOk, drop, false, length, true, vec_capacity, ℕ, ◌<◌, ◌==◌, ◌≡◌, ◌≤◌};
 ghost use Rattle.cube_defs.specs.Tree.{Tree};
@@ -10,7 +10,7 @@ use crate::pins::{Pin, stands_at};
 use cube_defs::Memory;
 use qc_arena::Images;
 
-/// The images from a place on.
+/// The before-images from a place on.
 pub(crate) fn since(kept: &Vec<Images>, from: usize) -> &[Images]
     requires { from ≤ length kept.now.items }
     ensures { result.now ≡ drop from kept.now.items }
@@ -18,7 +18,7 @@ pub(crate) fn since(kept: &Vec<Images>, from: usize) -> &[Images]
     &kept[from..]
 }
 
-/// Takes so many of the oldest images out.
+/// Removes so many of the oldest before-images.
 pub(crate) fn cut_front(kept: &mut Vec<Images>, count: usize)
     requires { count ≤ length kept.old.items }
     ensures { kept.new.items ≡ drop count kept.old.items }
@@ -28,7 +28,7 @@ pub(crate) fn cut_front(kept: &mut Vec<Images>, count: usize)
     kept.truncate(left);
 }
 
-/// Takes the place for the images of one more change, where a version is pinned.
+/// Reserves the place for the before-images of one more change, if a version is pinned.
 pub(crate) fn reserve_one(kept: &mut Vec<Images>, pins: &Vec<Pin>) -> Result<(), Memory>
     ensures items { kept.new.items ≡ kept.old.items }
     ensures room { OnOk result (0 < length pins.now.items → length kept.new.items < vec_capacity kept.new) }
@@ -39,8 +39,9 @@ pub(crate) fn reserve_one(kept: &mut Vec<Images>, pins: &Vec<Pin>) -> Result<(),
     kept.reserve(1)
 }
 
-// Whether images that come last may be one with those before them: no version reads from between them, and
-// those before aren't much more. So each number is moved but a few times, and the list stays short.
+// Whether the last before-images may be merged with those before them. That is so if no version
+// reads from between them and those before aren't much more. So each number is moved a few times,
+// and the list stays short.
 fn may_join(kept: &Vec<Images>, pins: &Vec<Pin>, last: &Images) -> bool
     ensures some { result ≡ true → 0 < length kept.now.items }
     ensures between { result ≡ true → list_any (λ pin. pin.from == length kept.now.items) pins.now.items ≡ false }
@@ -51,7 +52,8 @@ fn may_join(kept: &Vec<Images>, pins: &Vec<Pin>, last: &Images) -> bool
     }
 }
 
-// Puts the last images of the list over later ones, so that both are one, or gives the later ones back.
+// Puts the last before-images of the list over later ones, so that both are one. Returns the later
+// ones if out of memory.
 fn take_behind(kept: &mut Vec<Images>, later: Images) -> Result<(), Images>
     requires { 0 < length kept.old.items }
     ensures ok { OnOk result ((place : ℕ) (tree : Tree ℕ) → place < length kept.old.items →
@@ -66,7 +68,7 @@ fn take_behind(kept: &mut Vec<Images>, later: Images) -> Result<(), Images>
     last.take_in(later)
 }
 
-// Makes one of the last images and those before them, where it may be, and tells whether it did.
+// Merges the last before-images with those before them, if it may, and says whether it did.
 fn join_last(kept: &mut Vec<Images>, pins: &Vec<Pin>) -> bool
     requires { AreBefore (length kept.old.items) pins.now.items }
     ensures shorter { result ≡ true → length kept.new.items < length kept.old.items }
@@ -89,7 +91,7 @@ fn join_last(kept: &mut Vec<Images>, pins: &Vec<Pin>) -> bool
     }
 }
 
-/// Keeps the images of a change, where a version reads over them.
+/// Keeps the before-images of a change, if a version needs them.
 pub(crate) fn keep(kept: &mut Vec<Images>, pins: &Vec<Pin>, images: Images)
     requires room { 0 < length pins.now.items → length kept.old.items < vec_capacity kept.old }
     requires within { AreWithin (length kept.old.items) pins.now.items }

@@ -1,4 +1,4 @@
-// A warehouse with some of its earlier versions.
+// A warehouse with its pinned versions.
 ghost use Rattle.std.specs.FinMap as finmap;
 ghost use Rattle.std.specs.Prelude.{Err, IfNone, IfOk, IfSome, IsSome, None, OnErr, OnOk, Some, [], length, true, ◌+◌, ◌++◌, ◌<◌, ◌∷◌, ◌↔◌, ◌≡◌, ◌≢◌, ◌≤◌};
 ghost use Rattle.cell_core.specs.Gives.{Gives};
@@ -25,10 +25,10 @@ use std::marker::Model;
 use std::sync::ledger::Ledger;
 use warehouse::{Applied, Refused, Warehouse, WidenRefused};
 
-/// A warehouse, and versions of it that are pinned under names: whatever files it takes afterwards, each
-/// can still be read as it was. A pin costs no copy of the tree. What each change made of the nodes that
-/// it touched is kept once for all pins, and a read of a version looks through at most what was kept since
-/// it was pinned.
+/// A warehouse, and versions of it that are pinned under names. Whatever files it takes afterwards,
+/// each version can be read as it was. A pin copies no node. The before-images of each change are
+/// kept once for all pins. A read of a version looks through those that were kept since it was
+/// pinned.
 #[derive(Drop)]
 pub struct Pinned {
     warehouse: Warehouse,
@@ -55,7 +55,7 @@ impl Model for Pinned {
 }
 
 impl Pinned {
-    /// No version is pinned. What the last change of the warehouse made of its nodes is let go.
+    /// A warehouse with no version. Drops the before-images of the last change.
     pub fn new(alloc: Global, warehouse: Warehouse) -> Result<Pinned, Memory>
         ensures { IfOk result (λ p. p ≡ record { now = record warehouse { images = finmap.empty }; pins = [] }) }
     {
@@ -72,7 +72,7 @@ impl Pinned {
         })
     }
 
-    /// The warehouse of now.
+    /// The present warehouse.
     pub fn now(&self) -> &Warehouse
         ensures value { result.now ≡ self.now.now }
         ensures valid { AreContents self.now.now }
@@ -82,14 +82,14 @@ impl Pinned {
         &self.warehouse
     }
 
-    /// How many versions are pinned.
+    /// The number of pinned versions.
     pub fn count(&self) -> usize
         ensures { result ≡ length self.now.pins }
     {
         self.pins.len()
     }
 
-    /// The warehouse alone. The versions are let go.
+    /// The warehouse alone. Drops the versions.
     pub fn finish(self) -> Warehouse
         ensures { result ≡ self.now }
     {
@@ -103,8 +103,7 @@ impl Pinned {
         warehouse
     }
 
-    /// The tree of a version and what was counted of it. None where no version has the name. It takes no
-    /// memory.
+    /// The tree of a version, and its counts. None if no version has the name. Takes no memory.
     pub fn view(&self, name: &str) -> Option<PinnedView<'_>>
         ensures none { IfNone result (version_of self.now.pins name.now ≡ None) }
         ensures some { IfSome result (λ view. (version : Version) × (version_of self.now.pins name.now ≡ Some version)
@@ -115,7 +114,7 @@ impl Pinned {
         Some(PinnedView::over(self.warehouse.tree(), over, pin.root, pin.stats))
     }
 
-    /// Pins what is present now under a name. It takes no memory.
+    /// Pins the present rows under a name. Takes no memory.
     pub fn pin(&mut self, name: &str) -> Result<(), PinRefused>
         requires { length name.now ≤ 32 }
         ensures refused { result ≡ pin_refusal self.old.pins name.now }
@@ -133,7 +132,7 @@ impl Pinned {
         Ok(())
     }
 
-    /// Lets a version go, and with it what was kept for no other. It takes no memory.
+    /// Drops a version, and the before-images that only it needs. Takes no memory.
     pub fn unpin(&mut self, name: &str) -> Result<(), NotPinned>
         ensures found { OnOk result (IsSome (version_of self.old.pins name.now)) }
         ensures ok { OnOk result (self.new ≡ record self.old { pins = without self.old.pins name.now }) }
@@ -150,8 +149,8 @@ impl Pinned {
         Ok(())
     }
 
-    /// Loads a base file, as `Warehouse::load` does. No version changes. Where one is pinned, the place for
-    /// what the file makes of the nodes is taken first.
+    /// Loads a base file, as `Warehouse::load` does. No version changes. If one is pinned, the
+    /// place for the before-images is reserved first.
     pub fn load<L: Ledger>(
         &mut self,
         bytes: &[u8],
@@ -179,8 +178,8 @@ impl Pinned {
         }
     }
 
-    /// Applies a batch of corrections, as `Warehouse::apply` does. No version changes. Where one is pinned,
-    /// the place for what the batch makes of the nodes is taken first.
+    /// Applies a batch, as `Warehouse::apply` does. No version changes. If one is pinned, the place
+    /// for the before-images is reserved first.
     pub fn apply<L: Ledger>(
         &mut self,
         bytes: &[u8],
@@ -211,8 +210,8 @@ impl Pinned {
         }
     }
 
-    /// Tells what `apply` would answer to a batch, as `Warehouse::attempt` does, and leaves everything as it
-    /// was, whatever the answer.
+    /// A dry run of a batch, as `Warehouse::attempt` is: answers what `apply` would answer, and
+    /// leaves everything as it was.
     pub fn attempt<L: Ledger>(
         &mut self,
         bytes: &[u8],
@@ -230,8 +229,8 @@ impl Pinned {
         self.warehouse.attempt(bytes, steps)
     }
 
-    /// Adds a dimension, as `Warehouse::widen` does, where no version is pinned. Pinned is the answer exactly
-    /// where one is.
+    /// Adds a dimension, as `Warehouse::widen` does, if no version is pinned. Pinned is the answer
+    /// exactly if one is.
     pub fn widen<L: Ledger>(
         &mut self,
         name: &str,
@@ -260,7 +259,7 @@ impl Pinned {
     }
 }
 
-// The refusal where no version is pinned.
+// The refusal if no version is pinned.
 fn widen_refused(refused: WidenRefused) -> PinnedWiden
     ensures same { widen_refusal_in result ≡ widening.widen_refusal_in refused }
     ensures other { result ≢ PinnedWiden.Pinned }

@@ -1,4 +1,4 @@
-// What is kept of a version that is pinned.
+// What is kept of a pinned version.
 ghost use Rattle.std.specs.Prelude.{filter, length, map, not, option_copied, vec_capacity, ◌<◌, ◌==◌, ◌≡◌, ◌≤◌};
 ghost use Rattle.std.specs.List.{All, find, list_any};
 ghost use Rattle.pinned_view.specs.Pins.{bears, moved_back, version_in};
@@ -15,11 +15,11 @@ use std::snapshot::Snapshot;
 use std::sync::ledger::{Blank, Ledger};
 use warehouse::{Stats, Warehouse};
 
-/// So many versions may be pinned.
+/// The most versions that may be pinned.
 pub const MAX_PINS: usize = 16;
 
-/// A version: its name, the place of the first images that were kept since, the root of its tree, what
-/// was counted of it, and, for proofs alone, the warehouse as it was.
+/// A version: its name, the place of the first before-images that were kept since, the root of its
+/// tree and its counts. Proofs also have the warehouse as it was.
 #[derive(Drop)]
 pub(crate) struct Pin {
     pub name: ArrayString<32>,
@@ -30,7 +30,7 @@ pub(crate) struct Pin {
 }
 
 impl Pin {
-    // The version of now, behind so many images.
+    // The present version, after so many before-images.
     pub(crate) fn of(warehouse: &Warehouse, name: &str, from: usize) -> Pin
         requires { length name.now ≤ 32 }
         ensures version { version_in result ≡ version_now name.now warehouse.now }
@@ -75,7 +75,7 @@ pub(crate) fn pin_of<'a>(pins: &'a Vec<Pin>, name: &str) -> Option<&'a Pin>
     pins.iter().find(|pin| pin.name.as_str() == name)
 }
 
-/// Lets the versions of a name go.
+/// Drops the versions of a name.
 pub(crate) fn drop_named(pins: &mut Vec<Pin>, name: &str)
     ensures items { pins.new.items ≡ filter (λ pin. not (bears name.now pin)) pins.old.items }
     ensures capacity { vec_capacity pins.new ≡ vec_capacity pins.old }
@@ -90,7 +90,7 @@ pub(crate) fn stands_at(pins: &Vec<Pin>, place: usize) -> bool
     pins.iter().any(|pin| pin.from == place)
 }
 
-/// The least place from which a version reads, or the end where there is none.
+/// The least place from which a version reads, or the end if there is no version.
 pub(crate) fn oldest(pins: &Vec<Pin>, end: usize) -> usize
     ensures each { All (λ pin. result ≤ pin.from) pins.now.items }
     ensures end { result ≤ end }

@@ -1,14 +1,14 @@
-// Why a version isn't pinned, or not let go, or no dimension is added.
+// Why a version isn't pinned or dropped, or no dimension is added.
 
 use thiserror::Error;
 
-/// Why a version isn't pinned. Of both causes the first is named.
+/// Why a version isn't pinned. If both causes hold, the first is reported.
 #[derive(Clone, Copy, Debug, PartialEq, Eq, Error)]
 pub enum PinRefused {
     /// There is a version of this name.
     #[error("there is a version of this name")]
     NameTaken,
-    /// There are as many versions as there may be.
+    /// The most versions are pinned.
     #[error("there are as many versions as there may be")]
     AllPinned,
 }
@@ -18,8 +18,7 @@ pub enum PinRefused {
 #[error("there is no version of this name")]
 pub struct NotPinned;
 
-/// Why no dimension is added where versions may be pinned. Of several causes the first in this order is
-/// named.
+/// Why no dimension is added. If several causes hold, the first in this order is reported.
 #[derive(Clone, Copy, Debug, PartialEq, Eq, Error)]
 pub enum PinnedWiden {
     /// A version is pinned.

@@ -1,4 +1,4 @@
-// The tree as it was, read over the tree of now.
+// The tree of a version, read over the present tree.
 ghost use Rattle.std.specs.FinMap as map;
 ghost use Rattle.std.specs.Prelude.{IfNone, IfSome, IsSome, Some, ◌≡◌};
 ghost use Rattle.qc_arena.specs.Looks.{seen};
@@ -12,10 +12,9 @@ use std::marker::Model;
 use std::sync::ledger::Ledger;
 use warehouse::Stats;
 
-/// The tree of a version that is pinned, and what was counted of it then. It is the tree of now with the
-/// images put over it that were kept since, the oldest first; a read looks through them, each by two
-/// binary searches, up to the first that says something of the node. Making it and reading it take no
-/// memory.
+/// The tree of a pinned version, and its counts. It is the present tree with the before-images put
+/// over it that were kept since, the oldest first. A read looks through them, each by two binary
+/// searches, up to the first that has the node. Making and reading a view take no memory.
 #[derive(Drop)]
 pub struct PinnedView<'a> {
     tree: &'a QcArena,
@@ -40,7 +39,7 @@ impl<'a> Model for PinnedView<'a> {
 }
 
 impl<'a> PinnedView<'a> {
-    // The view of a tree under images, with its root and what was counted.
+    // The view of a tree under before-images, with its root and its counts.
     pub(crate) fn over(
         tree: &'a QcArena,
         over: &'a [Images],
@@ -60,7 +59,7 @@ impl<'a> PinnedView<'a> {
         }
     }
 
-    /// What was counted of the rows and of their tree when the version was pinned.
+    /// The counts of the rows and of their tree at the pin.
     pub fn stats(&self) -> Stats
         ensures { result ≡ self.now.stats }
     {
@@ -68,7 +67,7 @@ impl<'a> PinnedView<'a> {
     }
 }
 
-// What the first images say of the number that say something of it.
+// What the first before-images that have the number say of it.
 fn look_in<'a>(over: &'a [Images], node: NodeNo) -> Look<'a>
     ensures { seen result ≡ first_image over.now node.0 }
 {
@@ -81,7 +80,7 @@ fn look_in<'a>(over: &'a [Images], node: NodeNo) -> Look<'a>
     Look::Same
 }
 
-// The record that a node had, where it isn't the one that it has now.
+// The record that a node had, if it isn't the present one.
 fn image_of<'a>(tree: &QcArena, over: &'a [Images], node: NodeNo) -> Option<&'a Record>
     requires { IsSome (map.get (past over.now tree.now.now) node.0) }
     ensures some { IfSome result (λ r. map.get (past over.now tree.now.now) node.0 ≡ Some r.now) }
