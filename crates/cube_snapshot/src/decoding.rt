@@ -11,10 +11,10 @@ use std::alloc::Global;
 use std::sync::ledger::Ledger;
 use warehouse::{PartsRefused, Warehouse};
 
-/// The state whose snapshot the bytes are. Unless memory runs out, it is the answer exactly where
-/// they are the snapshot of a state; NodesFull exactly where they are spelled so for a state that
-/// has more nodes than its schema allows, and is within all other limits; and else Form. Each byte
-/// is read once, and the tree is built once.
+/// The state whose snapshot the bytes are. Unless memory runs out, it is the answer exactly if they
+/// are the snapshot of a state. NodesFull comes exactly if they encode a state that has more nodes
+/// than its schema allows and is within all other limits. Else the answer is Form. Each byte is
+/// read once, and the tree is built once.
 pub fn decode<L: Ledger>(
     alloc: Global,
     bytes: &[u8],

@@ -1,4 +1,4 @@
-//! A snapshot has one spelling.
+//! A snapshot has one encoding.
 ghost use Rattle.std.specs.Prelude.{List, Some, length, ℕ, ◌↔◌, ◌≡◌, ◌≤◌};
 ghost use Rattle.cube_defs.specs.declared.limits.TheConstants.{MAX_FILE};
 ghost use Rattle.warehouse.specs.State.{IsState, State};
@@ -6,9 +6,9 @@ ghost use Rattle.cube_snapshot.specs.Format.{IsBytes, whole};
 ghost use Rattle.cube_snapshot.specs.Snapshot.{IsSnapshot, Parts, snapshot};
 ghost use Rattle.cube_snapshot.specs.States.{spelling};
 
-/// Bytes are read as parts just where they are the spelling of those parts, so bytes are the
-/// spelling of one value at most; and values with one spelling are the same. So two states are
-/// equal just where their snapshots are, of those that are no longer than a file may be.
+/// Bytes are read as parts exactly if they are the encoding of those parts. So bytes are the
+/// encoding of at most one value, and values with one encoding are equal. Two states are equal
+/// exactly if their snapshots are, if these are no longer than a file may be.
 pub fn a_snapshot_has_one_spelling()
     ensures read { (bytes : List ℕ) (p : Parts) → IsBytes bytes → (whole snapshot bytes ≡ Some p) ↔ ((bytes ≡ snapshot.put p) × IsSnapshot p) }
     ensures same { (p q : Parts) → IsSnapshot p → IsSnapshot q → snapshot.put p ≡ snapshot.put q → p ≡ q }

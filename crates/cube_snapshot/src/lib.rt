@@ -1,4 +1,4 @@
-//! Snapshots: a state as bytes, and back. Each state has one spelling.
+//! Snapshots: a state as bytes, and back. Each state has one encoding.
 #![tactic(auto)]
 
 mod decoding;

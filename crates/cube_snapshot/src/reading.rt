@@ -1,4 +1,4 @@
-// The parts of a snapshot from the front of some bytes.
+// The parts of a snapshot, read from the beginning of some bytes.
 ghost use Rattle.std.specs.Int.{w32, w64};
 ghost use Rattle.std.specs.Option.{option_map};
 ghost use Rattle.std.specs.Prelude.{IfSome, length, nat_abs, ◌≡◌, ◌≤◌};
@@ -6,7 +6,7 @@ ghost use Rattle.aggregates.specs.Bounds.{largest_amount};
 ghost use Rattle.cube_snapshot.specs.Format.{byte, number};
 ghost use Rattle.cube_snapshot.specs.Parts.{amount, text};
 
-/// A number of four bytes, and the bytes behind it.
+/// A number of four bytes, and the bytes after it.
 pub(crate) fn u32_at(bytes: &[u8]) -> Option<(u32, &[u8])>
     ensures { option_map (λ x. (x.0, x.1.now)) result ≡ (number w32).get bytes.now }
 {
@@ -18,7 +18,7 @@ pub(crate) fn u32_at(bytes: &[u8]) -> Option<(u32, &[u8])>
     Some((value, rest))
 }
 
-/// A number of eight bytes, and the bytes behind it.
+/// A number of eight bytes, and the bytes after it.
 pub(crate) fn u64_at(bytes: &[u8]) -> Option<(u64, &[u8])>
     ensures { option_map (λ x. (x.0, x.1.now)) result ≡ (number w64).get bytes.now }
 {
@@ -41,7 +41,7 @@ fn byte_at(bytes: &[u8]) -> Option<(u8, &[u8])>
     }
 }
 
-/// An amount in two's complement, and the bytes behind it.
+/// An amount in two's complement, and the bytes after it.
 pub(crate) fn amount_at(bytes: &[u8]) -> Option<(i64, &[u8])>
     ensures read { option_map (λ x. (x.0, x.1.now)) result ≡ amount.get bytes.now }
     ensures small { IfSome result (λ x. nat_abs x.0 ≤ largest_amount) }
@@ -54,7 +54,7 @@ pub(crate) fn amount_at(bytes: &[u8]) -> Option<(i64, &[u8])>
     Some((value, rest))
 }
 
-/// The bytes of a text behind its length, and the bytes behind them.
+/// The bytes of a text after its length, and the bytes after them.
 pub(crate) fn text_at(bytes: &[u8]) -> Option<(&[u8], &[u8])>
     ensures read { option_map (λ x. (x.0.now, x.1.now)) result ≡ text.get bytes.now }
     ensures short { IfSome result (λ x. length x.0.now ≤ 255) }

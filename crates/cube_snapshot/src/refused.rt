@@ -1,4 +1,4 @@
-// Why a state has no snapshot, and why bytes are none.
+// Why a state has no snapshot, and why bytes aren't one.
 use cube_defs::Memory;
 use thiserror::Error;
 
@@ -24,10 +24,10 @@ impl From<Memory> for EncodeRefused {
     }
 }
 
-/// Why the part of a snapshot is not read.
+/// Why a part of a snapshot is not read.
 #[derive(Clone, Copy, Debug, PartialEq, Eq)]
 pub(crate) enum PartRefused {
-    /// The bytes are no such part.
+    /// The bytes aren't such a part.
     Form,
     /// Memory ran out.
     Memory,
@@ -36,7 +36,7 @@ pub(crate) enum PartRefused {
 /// Why bytes are no snapshot of a state.
 #[derive(Clone, Copy, Debug, PartialEq, Eq, Error)]
 pub enum DecodeRefused {
-    /// The bytes are spelled for no state.
+    /// The bytes encode no state.
     #[error("the bytes are no snapshot")]
     Form,
     /// The tree would have more nodes than the schema allows.

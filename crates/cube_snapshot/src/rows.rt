@@ -18,7 +18,7 @@ use cube_defs::MAX_MEASURES;
 use std::alloc::Global;
 use value_dict::Dict;
 
-// A code of a dimension that has a text, and the bytes behind it.
+// A code of a dimension that has a text, and the bytes after it.
 fn code_at<'a>(dict: &Dict, dim: u8, bytes: &'a [u8]) -> Option<(Code, &'a [u8])>
     requires { dim < length dict.now.lists }
     ensures { Finds (λ y. y.0 < length (slice_index_or dict.now.lists dim [])) (λ x. (x.0, x.1.now)) result ((number w32).get bytes.now) }
@@ -31,7 +31,7 @@ fn code_at<'a>(dict: &Dict, dim: u8, bytes: &'a [u8]) -> Option<(Code, &'a [u8])
     }
 }
 
-// A code in each dimension, each with a text, and the bytes behind them.
+// A code in each dimension, each with a text, and the bytes after them.
 fn codes_at<'a>(dict: &Dict, cell: &mut Cell, bytes: &'a [u8]) -> Option<&'a [u8]>
     requires { length cell.old ≡ length dict.now.lists }
     ensures finds { Finds (λ y. AreCodes dict.now.lists y.0) (λ rest. (values_of cell.new, rest.now)) result
@@ -48,7 +48,7 @@ fn codes_at<'a>(dict: &Dict, cell: &mut Cell, bytes: &'a [u8]) -> Option<&'a [u8
     Some(rest)
 }
 
-// So many amounts, and the bytes behind them.
+// So many amounts, and the bytes after them.
 fn amounts_at<'a>(amounts: &mut [i64; 4], count: u8, bytes: &'a [u8]) -> Option<&'a [u8]>
     requires { count ≤ MAX_MEASURES }
     ensures read { option_map (λ rest. (take count amounts.new, rest.now)) result ≡ get_times amount count bytes.now }
@@ -63,7 +63,7 @@ fn amounts_at<'a>(amounts: &mut [i64; 4], count: u8, bytes: &'a [u8]) -> Option<
     Some(rest)
 }
 
-// A row that may come behind those of the table, and the bytes behind it.
+// A row that may follow those of the table, and the bytes after it.
 fn read_row<'a>(
     table: &mut Table,
     dict: &Dict,
@@ -97,7 +97,7 @@ fn read_row<'a>(
     }
 }
 
-// So many rows for a table that has none, and the bytes behind them.
+// So many rows for a table that has none, and the bytes after them.
 fn rows_at<'a>(
     alloc: Global,
     table: &mut Table,
@@ -124,7 +124,7 @@ fn rows_at<'a>(
     Ok(rest)
 }
 
-/// The rows for a table that has none, and the bytes behind them.
+/// The rows for a table that has none, and the bytes after them.
 pub(crate) fn read_rows<'a>(
     alloc: Global,
     table: &mut Table,

@@ -10,7 +10,7 @@ use base_table::Table;
 use cube_defs::{MAX_CODES, MAX_ROWS};
 use value_dict::Dict;
 
-// The bytes of the texts of a dimension, each behind its length, without their number.
+// The bytes of the texts of a dimension, each with its length before it, without their number.
 fn texts_len(dict: &Dict, dim: u8) -> usize
     requires dim { dim < length dict.now.lists }
     requires short { All (λ t. length t ≤ 255) (list_at dict.now dim) }

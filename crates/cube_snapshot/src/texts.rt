@@ -37,7 +37,7 @@ fn learn_next(dict: &mut Dict, dim: u8, place: u32, bytes: &[u8]) -> Result<(), 
     }
 }
 
-// So many texts for a dimension that has none, and the bytes behind them.
+// So many texts for a dimension that has none, and the bytes after them.
 fn learn_texts<'a>(
     dict: &mut Dict,
     dim: u8,
@@ -63,7 +63,7 @@ fn learn_texts<'a>(
     Ok(rest)
 }
 
-// The texts of a dimension that has none, and the bytes behind them.
+// The texts of a dimension that has none, and the bytes after them.
 fn texts_at<'a>(dict: &mut Dict, dim: u8, bytes: &'a [u8]) -> Result<&'a [u8], PartRefused>
     requires dim { dim < length dict.old.lists }
     requires empty { list_at dict.old dim ≡ [] }
@@ -76,7 +76,7 @@ fn texts_at<'a>(dict: &mut Dict, dim: u8, bytes: &'a [u8]) -> Result<&'a [u8], P
     }
 }
 
-/// The texts of all dimensions, of which none has any, and the bytes behind them.
+/// The texts of all dimensions, which are all without texts, and the bytes after them.
 pub(crate) fn read_dict<'a>(dict: &mut Dict, bytes: &'a [u8]) -> Result<&'a [u8], PartRefused>
     requires { dict.old ≡ no_texts (length dict.old.lists) dict.old.max }
     ensures reads { Reads (λ y. All (AreAllowed dict.old.max) y.0) (λ rest. (dict.new.lists, rest.now)) result

@@ -19,7 +19,7 @@ use qc_schema::{Schema, SchemaRefused, read_schema, schema_text};
 use std::alloc::Global;
 use value_dict::Dict;
 
-// The bytes behind the mark.
+// The bytes after the mark.
 fn mark_at(bytes: &[u8]) -> Option<&[u8]>
     ensures read { option_map (λ rest. (tt, rest.now)) result ≡ mark.get bytes.now }
     ensures within { IfSome result (λ rest. length rest.now ≤ length bytes.now) }
@@ -35,7 +35,7 @@ fn mark_at(bytes: &[u8]) -> Option<&[u8]>
     }
 }
 
-// Bytes behind their number, and the bytes behind them.
+// Bytes with their number before them, and the bytes after them.
 fn sized_at(bytes: &[u8]) -> Option<(&[u8], &[u8])>
     ensures read { option_map (λ x. (x.0.now, x.1.now)) result ≡ (sized (number w32)).get bytes.now }
     ensures within { IfSome result (λ x. length x.0.now ≤ length bytes.now) }
@@ -76,7 +76,7 @@ fn canonical(alloc: Global, text: &[u8]) -> Result<Schema, PartRefused>
     }
 }
 
-// The schema, and the bytes behind it.
+// The schema, and the bytes after it.
 fn schema_at(alloc: Global, bytes: &[u8]) -> Result<(Schema, &[u8]), PartRefused>
     requires { length bytes.now ≤ MAX_FILE }
     ensures reads { Reads (λ _. ⊤) (λ x. (x.0, x.1.now)) result (schema.get bytes.now) }
@@ -141,7 +141,7 @@ fn read_behind(
     Ok(())
 }
 
-// The parts behind a schema that was read.
+// The parts after a schema that was read.
 fn parts_behind(
     alloc: Global,
     schema: Schema,
@@ -170,8 +170,8 @@ fn parts_behind(
     }
 }
 
-/// The parts that the bytes are the spelling of, where a state may have them but for the number of
-/// its nodes.
+/// The parts that the bytes encode, if they are within all limits of a state, except for the number
+/// of nodes.
 pub(crate) fn read_parts(alloc: Global, bytes: &[u8]) -> Result<(Schema, Dict, Table), PartRefused>
     requires { length bytes.now ≤ MAX_FILE }
     ensures reads { Reads AreWithin (λ made. parts_made made.0 made.1 made.2) result (whole snapshot bytes.now) }

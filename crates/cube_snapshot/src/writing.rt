@@ -1,4 +1,4 @@
-// The bytes of the parts of a snapshot, put behind those of the parts before.
+// The bytes of the parts of a snapshot, appended to those of the parts before.
 ghost use Rattle.std.specs.Prelude.{All, IfOk, OnOk, Some, [], is_some, length, nat_abs, true, ℕ, ◌∷◌, ◌++◌, ◌<◌, ◌≡◌, ◌≤◌};
 ghost use Rattle.std.specs.Int.{w32, w64};
 ghost use Rattle.std.specs.List.{flat_map};
@@ -15,7 +15,7 @@ use cube_defs::{MAX_FILE, Memory};
 use std::alloc::Global;
 use value_dict::Dict;
 
-/// Puts a number of four bytes.
+/// Appends a number of four bytes.
 pub(crate) fn put_u32(out: &mut Vec<u8>, value: u32) -> Result<(), Memory>
     ensures { OnOk result (out.new.items ≡ out.old.items ++ (number w32).put value) }
 {
@@ -30,14 +30,14 @@ fn put_u64(out: &mut Vec<u8>, value: u64) -> Result<(), Memory>
     Ok(())
 }
 
-// Puts an amount in two's complement.
+// Appends an amount in two's complement.
 fn put_amount(out: &mut Vec<u8>, value: i64) -> Result<(), Memory>
     ensures { OnOk result (out.new.items ≡ out.old.items ++ amount.put value) }
 {
     put_u64(out, value.cast_unsigned())
 }
 
-// Puts a text behind its length.
+// Appends a text, with its length before it.
 fn put_text(out: &mut Vec<u8>, value: &str) -> Result<(), Memory>
     requires { length value.now ≤ 255 }
     ensures { OnOk result (out.new.items ≡ out.old.items ++ text.put value.now) }
@@ -48,7 +48,7 @@ fn put_text(out: &mut Vec<u8>, value: &str) -> Result<(), Memory>
     Ok(())
 }
 
-// Puts the texts of a dimension behind their number.
+// Appends the texts of a dimension, with their number before them.
 fn put_texts(out: &mut Vec<u8>, dict: &Dict, dim: u8) -> Result<(), Memory>
     requires dim { dim < length dict.now.lists }
     requires short { All (λ t. length t ≤ 255) (list_at dict.now dim) }
@@ -61,7 +61,7 @@ fn put_texts(out: &mut Vec<u8>, dict: &Dict, dim: u8) -> Result<(), Memory>
     Ok(())
 }
 
-/// Puts the texts of all dimensions.
+/// Appends the texts of all dimensions.
 pub(crate) fn put_dict(out: &mut Vec<u8>, dict: &Dict) -> Result<(), Memory>
     requires { All (All (λ t. length t ≤ 255)) dict.now.lists }
     ensures { OnOk result (out.new.items ≡ out.old.items ++ flat_map texts.put dict.now.lists) }
@@ -72,7 +72,7 @@ pub(crate) fn put_dict(out: &mut Vec<u8>, dict: &Dict) -> Result<(), Memory>
     Ok(())
 }
 
-// Puts the codes of a row.
+// Appends the codes of a row.
 fn put_codes(out: &mut Vec<u8>, table: &Table, no: RowNo) -> Result<(), Memory>
     requires { is_some (row_at table.now no.0) ≡ true }
     ensures { OnOk result ((r : Row ℕ) → row_at table.now no.0 ≡ Some r → out.new.items ≡ out.old.items ++ flat_map (number w32).put r.tuple) }
@@ -83,7 +83,7 @@ fn put_codes(out: &mut Vec<u8>, table: &Table, no: RowNo) -> Result<(), Memory>
     Ok(())
 }
 
-// Puts amounts.
+// Appends amounts.
 fn put_amounts(out: &mut Vec<u8>, amounts: &[i64]) -> Result<(), Memory>
     requires { All (λ a. nat_abs a ≤ largest_amount) amounts.now }
     ensures { OnOk result (out.new.items ≡ out.old.items ++ flat_map amount.put amounts.now) }
@@ -94,7 +94,7 @@ fn put_amounts(out: &mut Vec<u8>, amounts: &[i64]) -> Result<(), Memory>
     Ok(())
 }
 
-// Puts a row.
+// Appends a row.
 fn put_row(out: &mut Vec<u8>, table: &Table, no: RowNo) -> Result<(), Memory>
     requires { is_some (row_at table.now no.0) ≡ true }
     ensures { OnOk result ((r : Row ℕ) → row_at table.now no.0 ≡ Some r → out.new.items ≡ out.old.items ++ (row table.now.dims table.now.measures).put r) }
@@ -104,7 +104,7 @@ fn put_row(out: &mut Vec<u8>, table: &Table, no: RowNo) -> Result<(), Memory>
     put_amounts(out, table.amounts(no))
 }
 
-// Puts the row at a place, where one is there.
+// Appends the row at a place, if there is one.
 fn put_place(out: &mut Vec<u8>, table: &Table, place: u32) -> Result<(), Memory>
     requires { place < length table.now.places }
     ensures { OnOk result (out.new.items ≡ out.old.items ++ flat_map (row table.now.dims table.now.measures).put (rows_in (row_at table.now place ∷ []))) }
@@ -115,7 +115,7 @@ fn put_place(out: &mut Vec<u8>, table: &Table, place: u32) -> Result<(), Memory>
     }
 }
 
-/// Puts the rows behind their number.
+/// Appends the rows, with their number before them.
 pub(crate) fn put_rows(out: &mut Vec<u8>, table: &Table) -> Result<(), Memory>
     ensures { OnOk result (out.new.items ≡ out.old.items ++ (rows table.now.dims table.now.measures).put (rows_of table.now)) }
 {
@@ -126,7 +126,7 @@ pub(crate) fn put_rows(out: &mut Vec<u8>, table: &Table) -> Result<(), Memory>
     Ok(())
 }
 
-// Puts the mark and the text of the schema.
+// Appends the mark and the text of the schema.
 fn put_schema(out: &mut Vec<u8>, schema: &Vec<u8>) -> Result<(), Memory>
     requires { length schema.now.items ≤ MAX_FILE }
     ensures { OnOk result (out.new.items ≡ (out.old.items ++ mark_text) ++ ((number w32).put (length schema.now.items) ++ schema.now.items)) }
@@ -137,7 +137,7 @@ fn put_schema(out: &mut Vec<u8>, schema: &Vec<u8>) -> Result<(), Memory>
     Ok(())
 }
 
-/// The parts one behind another, in a buffer with room for so many bytes.
+/// The parts one after another, in a buffer with room for so many bytes.
 pub(crate) fn put_all(
     alloc: Global,
     len: usize,
