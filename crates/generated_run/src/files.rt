@@ -1,4 +1,4 @@
-// The files that a warehouse takes.
+// The files that a generated warehouse takes.
 ghost use Rattle.std.specs.Prelude.{IfErr, IfOk, IsSome, OnOk, ◌<◌, ◌≡◌, ◌≤◌};
 ghost use Rattle.cube_defs.specs.declared.limits.TheConstants.{MAX_ROWS};
 ghost use Rattle.generated_run.specs.Generated.{batches_taken, file_taken, layout};
@@ -30,7 +30,7 @@ pub fn new_warehouse(alloc: Global) -> Result<Warehouse, Memory>
     }
 }
 
-// A file that is refused changes nothing, and only want of memory ends the run.
+// A refused file changes nothing. Only 'out of memory' ends the run.
 fn settled(taken: Result<Applied, Refused>) -> Result<(), Memory>
     ensures { OnOk result (IfErr taken (λ refused. IsSome (refusal_in refused))) }
 {
@@ -56,7 +56,7 @@ pub fn load_base<L: Ledger>(
     settled(warehouse.load(file, steps))
 }
 
-// Applies the batch that so many others stand before.
+// Applies the batch that so many others precede.
 fn apply_batch<L: Ledger>(
     warehouse: &mut Warehouse,
     rows: u32,

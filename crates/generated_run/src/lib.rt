@@ -1,4 +1,4 @@
-//! A warehouse whose rows are drawn from a number, and the record that tells it.
+//! A warehouse whose rows are drawn from a seed, and its record.
 #![tactic(auto)]
 
 mod files;

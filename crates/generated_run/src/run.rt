@@ -16,11 +16,11 @@ use warehouse::Warehouse;
 #[derive(Drop)]
 pub struct Generated {
     pub warehouse: Warehouse,
-    /// The record that tells it.
+    /// Its record: one line, as the reply to `gen`.
     pub text: Vec<u8>,
 }
 
-// Loads the base file and applies the batches, and gives the record that tells of the warehouse then.
+// Loads the base file, applies the batches, and gives the record of the warehouse then.
 fn fill<L: Ledger>(
     alloc: Global,
     warehouse: &mut Warehouse,
@@ -41,7 +41,7 @@ fn fill<L: Ledger>(
 }
 
 /// Loads a base file of so many rows, drawn from a seed, into a new warehouse, and applies the
-/// batches that follow it. It is refused only where memory runs out.
+/// batches that follow it. It is refused only if out of memory.
 pub fn generate<L: Ledger>(
     alloc: Global,
     rows: u32,

@@ -1,4 +1,4 @@
-// The record that tells a generated warehouse.
+// The record of a generated warehouse.
 ghost use Rattle.std.specs.Prelude.{OnOk, decimal, option_map, ◌++◌, ◌<◌, ◌∷◌, ◌≡◌, ◌≤◌};
 ghost use Rattle.aggregates.specs.Texts.{amount_text};
 ghost use Rattle.aggregates.specs.Views.{agg_in};
@@ -13,7 +13,7 @@ use std::sync::ledger::Ledger;
 use tree_search::total_at;
 use warehouse::Warehouse;
 
-// What all rows come to, where there are any.
+// The aggregate of all rows, if there are any.
 fn total<L: Ledger>(alloc: Global, warehouse: &Warehouse, steps: &mut Steps<L>) -> Option<Agg>
     ensures { option_map agg_in result ≡ total_of warehouse.now.state }
 {
@@ -31,7 +31,7 @@ fn sum_of(total: Option<Agg>) -> i64
     }
 }
 
-// A number behind a comma.
+// A number, with a comma before it.
 fn push_number(out: &mut Vec<u8>, number: u64) -> Result<(), Memory>
     ensures { OnOk result (out.new.items ≡ out.old.items ++ field_text (decimal number)) }
 {
@@ -40,7 +40,7 @@ fn push_number(out: &mut Vec<u8>, number: u64) -> Result<(), Memory>
     Ok(())
 }
 
-// An amount in hundredths, behind a comma.
+// An amount in hundredths, with a comma before it.
 fn push_amount(out: &mut Vec<u8>, amount: i64) -> Result<(), Memory>
     ensures { OnOk result (out.new.items ≡ out.old.items ++ field_text (amount_text 2 amount)) }
 {
