@@ -1,4 +1,4 @@
-// The answer to a question for bounds.
+// The answer to `bounds`.
 ghost use Rattle.std.specs.Option.{option_map};
 ghost use Rattle.std.specs.Prelude.{All, IfOk, IfSome, List, length, ◌*◌, ◌+◌, ◌^◌, ◌≡◌, ◌≤◌};
 ghost use Rattle.cube_defs.specs.Rows.{Row};
@@ -19,7 +19,7 @@ use std::alloc::Global;
 use std::sync::ledger::Ledger;
 use warehouse::Warehouse;
 
-// The class of the asked cell. None where the cell covers no row.
+// The class of the asked cell. None if the cell covers no row.
 fn class_asked<T: Nodes, L: Ledger>(
     alloc: Global,
     warehouse: &Warehouse,
@@ -43,8 +43,8 @@ fn class_asked<T: Nodes, L: Ledger>(
     find_class(alloc, tree, &cell, steps)
 }
 
-/// Tells the bounds of the class of a cell with Any or a value in each dimension. With n dimensions
-/// it takes at most 7 (n + 1) 2^n steps.
+/// Reports the bounds of the class of a cell, which has Any or a value in each dimension. With n
+/// dimensions it takes at most 7 (n + 1) 2^n steps.
 pub fn answer_bounds<T: Nodes, L: Ledger>(
     alloc: Global,
     warehouse: &Warehouse,

@@ -1,4 +1,4 @@
-// The answers that tell classes of the quotient lattice.
+// The answers that report classes of the quotient lattice.
 ghost use Rattle.std.specs.Prelude.{All, IfOk, IfSome, IsSome, List, length, option_map, ◌≡◌};
 ghost use Rattle.aggregates.specs.Views.{fraction_in, kind_in};
 ghost use Rattle.cube_defs.specs.Rows.{Row};
@@ -25,7 +25,7 @@ use std::sync::ledger::Ledger;
 use tree_search::find;
 use warehouse::Warehouse;
 
-// The node of the class of the asked cell. None where the cell covers no row.
+// The node of the class of the asked cell. None if the cell covers no row.
 fn upper_asked<T: Nodes, L: Ledger>(
     warehouse: &Warehouse,
     tree: &T,
@@ -46,7 +46,7 @@ fn upper_asked<T: Nodes, L: Ledger>(
     find(tree, &cell, steps)
 }
 
-// Tells the classes of some nodes.
+// Reports the classes of some nodes.
 fn told_reply<T: Nodes, L: Ledger>(
     alloc: Global,
     warehouse: &Warehouse,
@@ -68,7 +68,7 @@ fn told_reply<T: Nodes, L: Ledger>(
     Ok(Reply::Long(reply))
 }
 
-/// Tells the parents of the class of a cell with Any or a value in each dimension.
+/// Reports the parents of the class of a cell, which has Any or a value in each dimension.
 pub fn answer_parents<T: Nodes, L: Ledger>(
     alloc: Global,
     warehouse: &Warehouse,
@@ -92,7 +92,7 @@ pub fn answer_parents<T: Nodes, L: Ledger>(
     }
 }
 
-/// Tells the children of the class of a cell with Any or a value in each dimension.
+/// Reports the children of the class of a cell, which has Any or a value in each dimension.
 pub fn answer_children<T: Nodes, L: Ledger>(
     alloc: Global,
     warehouse: &Warehouse,
@@ -116,8 +116,9 @@ pub fn answer_children<T: Nodes, L: Ledger>(
     }
 }
 
-/// Tells the most general classes, from that of a cell with Any or a value in each dimension on, whose
-/// value, in the unit of the measure, is at least or at most what is asked.
+/// Reports the most general classes whose value, in the unit of the measure, is at least or at most
+/// the asked one, among those that the class of the cell generalizes. The cell has Any or a value
+/// in each dimension.
 pub fn answer_rollup<T: Nodes, L: Ledger>(
     alloc: Global,
     warehouse: &Warehouse,

@@ -1,5 +1,5 @@
-//! The answers to queries, over the tree of some rows of a warehouse's schema: those that are present, or
-//! those of an earlier time.
+//! The answers to queries, over the tree of some rows of a warehouse's schema: the present ones, or
+//! those of a pin.
 #![tactic(auto)]
 
 mod bounds;

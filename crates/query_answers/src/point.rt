@@ -23,7 +23,7 @@ use std::sync::ledger::Ledger;
 use tree_search::total_at;
 use warehouse::Warehouse;
 
-// The codes of the asked cell, and what the rows that it covers come to. None where it covers none.
+// The codes of the asked cell, and its aggregate. None if it covers no row.
 fn total_asked<T: Nodes, L: Ledger>(
     warehouse: &Warehouse,
     tree: &T,
@@ -45,7 +45,7 @@ fn total_asked<T: Nodes, L: Ledger>(
     Some((cell, total))
 }
 
-/// Answers a point that asks Any or a value of each dimension. With n dimensions it takes at most
+/// Answers a point, which has Any or a value in each dimension. With n dimensions it takes at most
 /// 2n + 3 steps.
 pub fn answer_point<T: Nodes, L: Ledger>(
     alloc: Global,
@@ -76,7 +76,7 @@ pub fn answer_point<T: Nodes, L: Ledger>(
     Ok(Reply::Long(reply))
 }
 
-// Puts the reply that no row is covered in place of what is there. False where memory ran out.
+// Replaces the reply by `none`. False if out of memory.
 fn put_none(number: u32, reply: &mut Vec<u8>) -> bool
     ensures { result ≡ true → reply.new.items ≡ none_text number }
 {
@@ -84,7 +84,7 @@ fn put_none(number: u32, reply: &mut Vec<u8>) -> bool
     reply.extend_from_slice(none(number).as_bytes()).is_ok()
 }
 
-// The same with the reply that the rows that a cell covers come to so much.
+// Replaces the reply by that of a cell with this aggregate. False if out of memory.
 fn put_total(
     warehouse: &Warehouse,
     number: u32,
@@ -109,9 +109,9 @@ fn put_total(
     .is_ok()
 }
 
-/// Answers a line that is a point without quotes, over the rows that are present, and puts its reply in
-/// place of what is there. False where the line isn't one, or finds no memory. With n dimensions it takes
-/// at most 2n + 3 steps.
+/// Answers a line that is a point without quotes, over the present rows, and replaces the reply by
+/// its own. False if the line isn't one, or if out of memory. With n dimensions it takes at most 2n
+/// + 3 steps.
 pub fn answer_coded<L: Ledger>(
     alloc: Global,
     warehouse: &Warehouse,

@@ -28,8 +28,9 @@ use std::alloc::Global;
 use std::sync::ledger::Ledger;
 use warehouse::{Stats, Warehouse};
 
-/// Answers a query of the rows of a tree, with the schema and the texts of the warehouse. `index` is of the
-/// classes of the tree, and may have any kinds; `counts` tells what is counted of the rows.
+/// Answers a query of the rows of a tree, with the schema and the texts of the warehouse. `index`
+/// is an index of the tree's classes, of any kinds. `counts` has the counts of the rows and of
+/// their tree.
 pub fn answer_query<T: Nodes, L: Ledger>(
     alloc: Global,
     warehouse: &Warehouse,
@@ -67,7 +68,7 @@ pub fn answer_query<T: Nodes, L: Ledger>(
     }
 }
 
-/// Answers a query of the rows that are present.
+/// Answers a query of the present rows.
 pub fn answer_now<L: Ledger>(
     alloc: Global,
     warehouse: &Warehouse,
