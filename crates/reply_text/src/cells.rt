@@ -1,4 +1,4 @@
-// A cell of codes, told by the texts of a dictionary.
+// A cell of codes, written with the texts of a dictionary.
 ghost use Rattle.std.specs.Option.{option_map};
 ghost use Rattle.std.specs.Prelude.{None, OnOk, decimal, length, map, slice_index_or, ◌++◌, ◌<◌, ◌∷◌, ◌≡◌};
 ghost use Rattle.reply_text.specs.Replies.{entry_text, fields_text};
@@ -10,7 +10,7 @@ use crate::values::push_value;
 use cell_core::{Cell, Entry, Memory};
 use value_dict::Dict;
 
-// What a cell has in a dimension, behind a comma.
+// The entry of a cell in a dimension, with a comma before it.
 fn push_entry(out: &mut Vec<u8>, dict: &Dict, cell: &Cell, dim: u8) -> Result<(), Memory>
     requires dim { dim < length cell.now }
     requires texts { HasTexts dict.now.lists cell.now }
@@ -22,7 +22,7 @@ fn push_entry(out: &mut Vec<u8>, dict: &Dict, cell: &Cell, dim: u8) -> Result<()
     }
 }
 
-/// The cell's fields.
+/// Appends the cell's fields, each with a comma before it.
 pub fn push_cell(out: &mut Vec<u8>, dict: &Dict, cell: &Cell) -> Result<(), Memory>
     requires { HasTexts dict.now.lists cell.now }
     ensures { OnOk result (out.new.items ≡ out.old.items ++ fields_text (map entry_text (told_cell dict.now.lists cell.now))) }
@@ -33,7 +33,7 @@ pub fn push_cell(out: &mut Vec<u8>, dict: &Dict, cell: &Cell) -> Result<(), Memo
     Ok(())
 }
 
-/// The first fields of a record: a word, the line's number and a cell.
+/// Appends the first fields of a record: a word, the line's number and a cell.
 pub fn push_head(
     out: &mut Vec<u8>,
     word: &[u8],

@@ -1,4 +1,4 @@
-// The replies that tell classes with their bounds.
+// The replies that report classes with their bounds.
 ghost use Rattle.std.specs.List.{All, flat_map};
 ghost use Rattle.std.specs.Prelude.{IfOk, OnOk, length, map, ◌++◌, ◌≡◌};
 ghost use Rattle.iceberg_query.specs.Hits.{told_classes};
@@ -70,7 +70,7 @@ fn push_classes(
     Ok(())
 }
 
-/// The reply that tells the bounds of a class.
+/// The reply to `bounds`.
 pub fn bounds_reply(
     alloc: Global,
     line: u32,
@@ -87,7 +87,7 @@ pub fn bounds_reply(
     Ok(out)
 }
 
-/// The reply that tells the classes of an iceberg.
+/// The reply to `iceberg`.
 pub fn iceberg_reply(
     alloc: Global,
     line: u32,

@@ -5,7 +5,7 @@ ghost use Rattle.reply_text.specs.Replies.{end_text};
 use cell_core::Memory;
 use itoa::Buffer;
 
-/// A field behind a comma.
+/// Appends a field, with a comma before it.
 pub fn push_field(out: &mut Vec<u8>, field: &[u8]) -> Result<(), Memory>
     ensures { OnOk result (out.new.items ≡ out.old.items ++ 44 ∷ field.now) }
 {
@@ -14,14 +14,14 @@ pub fn push_field(out: &mut Vec<u8>, field: &[u8]) -> Result<(), Memory>
     Ok(())
 }
 
-/// A number behind a comma.
+/// Appends a number, with a comma before it.
 pub fn push_number(out: &mut Vec<u8>, number: u64) -> Result<(), Memory>
     ensures { OnOk result (out.new.items ≡ out.old.items ++ 44 ∷ decimal number) }
 {
     push_field(out, Buffer::new().format(number).as_bytes())
 }
 
-/// The last record of a reply that tells so many.
+/// Appends the last record of a reply with so many entries.
 pub fn push_end(out: &mut Vec<u8>, line: u32, count: u64) -> Result<(), Memory>
     ensures { OnOk result (out.new.items ≡ out.old.items ++ end_text line count) }
 {

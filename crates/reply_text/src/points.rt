@@ -15,7 +15,7 @@ use value_dict::Dict;
 // The memory that is taken for a reply at once. Few replies are longer.
 const ROOM: usize = 128;
 
-/// Puts the reply to a point that covers some row behind what is there.
+/// Appends the reply to a point that covers a row.
 pub fn push_point(
     out: &mut Vec<u8>,
     line: u32,
@@ -34,7 +34,7 @@ pub fn push_point(
     Ok(())
 }
 
-/// The reply to a point that covers some row.
+/// The reply to a point that covers a row.
 pub fn point_reply(
     alloc: Global,
     line: u32,

@@ -1,4 +1,4 @@
-// The reply that tells the cells of a box.
+// The reply that reports the cells of a box.
 ghost use Rattle.std.specs.List.{All, flat_map};
 ghost use Rattle.std.specs.Prelude.{IfOk, OnOk, length, ◌++◌, ◌≡◌};
 ghost use Rattle.range_query.specs.Told.{IsTellableHit, hit_in, told_hit, told_hits};
@@ -47,7 +47,7 @@ fn push_hits(
     Ok(())
 }
 
-/// The reply that tells the cells of a box.
+/// The reply to `range`.
 pub fn range_reply(
     alloc: Global,
     line: u32,

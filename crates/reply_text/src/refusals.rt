@@ -1,4 +1,4 @@
-// What a refusal says.
+// The words of a refusal.
 ghost use Rattle.std.specs.Prelude.{IfSome, [], length, option_map, ◌<◌, ◌∷◌, ◌≡◌, ◌≤◌};
 ghost use Rattle.qc_schema.specs.Schema.{IsLayout};
 ghost use Rattle.reply_text.specs.Replies.{all_pinned_texts, batch_texts, line_texts, many_texts, name_taken_texts, not_pinned_texts, numbered, pinned_texts, size_texts, widen_texts};
@@ -9,7 +9,7 @@ use qc_schema::Schema;
 use query_script::LineRefused;
 use warehouse::{Refused, WidenRefused};
 
-/// What a refusal says of its code.
+/// What follows the word of a refusal: nothing, a number or a name.
 #[derive(Clone, Copy)]
 pub enum Detail<'a> {
     Nothing,
@@ -17,7 +17,7 @@ pub enum Detail<'a> {
     Name(&'a str),
 }
 
-/// The code of a refusal, and what it says of it.
+/// The word of a refusal, and what follows it.
 #[derive(Clone, Copy)]
 pub struct RefusalWords<'a> {
     pub(crate) code: &'static str,
@@ -63,7 +63,7 @@ impl<'a> RefusalWords<'a> {
     }
 }
 
-/// Why a line is no command. None for want of memory.
+/// Why a line is no command. None for 'out of memory'.
 pub fn words_of_line(refused: LineRefused) -> Option<RefusalWords<'static>>
     ensures texts { option_map texts_of result ≡ option_map line_texts (line_fault_in refused) }
     ensures short { IfSome result (λ words. IsShort words) }
@@ -77,7 +77,7 @@ pub fn words_of_line(refused: LineRefused) -> Option<RefusalWords<'static>>
     }
 }
 
-/// Why a file of changes is refused. None for want of memory.
+/// Why a file of changes is refused. None for 'out of memory'.
 pub fn words_of_file(refused: Refused, schema: &Schema) -> Option<RefusalWords<'_>>
     requires dim { IsDimension refused (length schema.now.dims) }
     requires layout { IsLayout schema.now }
@@ -103,7 +103,7 @@ pub fn words_of_file(refused: Refused, schema: &Schema) -> Option<RefusalWords<'
     }
 }
 
-/// Why no dimension comes. None for want of memory.
+/// Why no dimension is added. None for 'out of memory'.
 pub fn words_of_widening(refused: WidenRefused) -> Option<RefusalWords<'static>>
     ensures texts { option_map texts_of result ≡ option_map widen_texts (widen_refusal_in refused) }
     ensures short { IfSome result (λ words. IsShort words) }
@@ -123,7 +123,7 @@ pub fn words_of_name_taken() -> RefusalWords<'static>
     RefusalWords::code("name-taken")
 }
 
-/// So many names are pinned that none may be added.
+/// The most names are pinned.
 pub fn words_of_all_pinned() -> RefusalWords<'static>
     ensures texts { texts_of result ≡ all_pinned_texts }
     ensures short { IsShort result }
@@ -139,7 +139,7 @@ pub fn words_of_not_pinned() -> RefusalWords<'static>
     RefusalWords::code("not-pinned")
 }
 
-/// A name is pinned, so no dimension comes.
+/// A name is pinned, so no dimension is added.
 pub fn words_of_pinned() -> RefusalWords<'static>
     ensures texts { texts_of result ≡ pinned_texts }
     ensures short { IsShort result }
@@ -155,7 +155,7 @@ pub fn words_of_size() -> RefusalWords<'static>
     RefusalWords::code("size")
 }
 
-/// More cells of the box cover a row than are told.
+/// More cells of the box cover a row than are reported.
 pub fn words_of_many() -> RefusalWords<'static>
     ensures texts { texts_of result ≡ many_texts }
     ensures short { IsShort result }

@@ -1,4 +1,4 @@
-// Replies that are made without memory.
+// Replies that take no memory.
 ghost use Rattle.std.specs.Prelude.{[], decimal, length, ◌+◌, ◌++◌, ◌<◌, ◌∷◌, ◌≡◌, ◌≤◌};
 ghost use Rattle.reply_text.specs.Replies.{applied_text, memory_text, none_text, pinned_text, refused_text, stats_text, unpinned_text, widened_text};
 
@@ -54,7 +54,7 @@ impl Reply {
     }
 }
 
-// The word and the line's number, behind which so many bytes have room.
+// The word and the line's number, with room for so many bytes after them.
 fn begun(word: &str, line: u32) -> ShortReply
     requires { length word.now ≤ 8 }
     ensures text { result ≡ word.now ++ 44 ∷ decimal line }
@@ -68,7 +68,7 @@ fn begun(word: &str, line: u32) -> ShortReply
 }
 
 impl ShortReply {
-    // A field more.
+    // Appends a field.
     fn field(&mut self, field: &str)
         requires { length self.old + length field.now < 95 }
         ensures text { self.new ≡ self.old ++ 44 ∷ field.now }
@@ -77,7 +77,7 @@ impl ShortReply {
         self.text.push_str(field);
     }
 
-    // The end of the record.
+    // Ends the record.
     fn ended(mut self) -> ShortReply
         requires { length self < 96 }
         ensures { result ≡ self ++ 10 ∷ [] }
@@ -87,7 +87,7 @@ impl ShortReply {
     }
 }
 
-/// A line found no memory.
+/// The line ran out of memory. It changed nothing.
 pub fn memory(line: u32) -> ShortReply
     ensures { result ≡ memory_text line }
 {
@@ -101,7 +101,7 @@ pub fn none(line: u32) -> ShortReply
     begun("none", line).ended()
 }
 
-/// A file of so many records was taken, and so many classes are there after it.
+/// A file of so many records was applied, and there are so many classes after it.
 pub fn applied(line: u32, records: u32, classes: u32) -> ShortReply
     ensures { result ≡ applied_text line records classes }
 {
@@ -111,7 +111,7 @@ pub fn applied(line: u32, records: u32, classes: u32) -> ShortReply
     reply.ended()
 }
 
-/// A dimension came, and so many dimensions and classes are there after it.
+/// A dimension was added, and there are so many dimensions and classes after it.
 pub fn widened(line: u32, dims: u8, classes: u32) -> ShortReply
     ensures { result ≡ widened_text line dims classes }
 {
@@ -121,7 +121,7 @@ pub fn widened(line: u32, dims: u8, classes: u32) -> ShortReply
     reply.ended()
 }
 
-/// The present rows, with so many classes, got this name.
+/// The name stands for the present rows, which have so many classes.
 pub fn pinned(line: u32, name: &str, classes: u32) -> ShortReply
     requires { length name.now ≤ 32 }
     ensures { result ≡ pinned_text line name.now classes }
@@ -132,7 +132,7 @@ pub fn pinned(line: u32, name: &str, classes: u32) -> ShortReply
     reply.ended()
 }
 
-/// This name went.
+/// The name stands for nothing any more.
 pub fn unpinned(line: u32, name: &str) -> ShortReply
     requires { length name.now ≤ 32 }
     ensures { result ≡ unpinned_text line name.now }
@@ -142,7 +142,7 @@ pub fn unpinned(line: u32, name: &str) -> ShortReply
     reply.ended()
 }
 
-/// What is counted of the rows and of their tree.
+/// The counts of the rows and of their tree.
 pub fn stats(line: u32, counts: Stats) -> ShortReply
     ensures { result ≡ stats_text line counts.rows counts.classes counts.nodes counts.tree_edges counts.links }
 {

@@ -1,4 +1,4 @@
-// What some rows come to, as fields.
+// The aggregate of some rows, as fields.
 ghost use Rattle.std.specs.Prelude.{OnOk, length, ◌++◌, ◌<◌, ◌∷◌, ◌≡◌, ◌≤◌};
 ghost use Rattle.aggregates.specs.Texts.{amount_text, ratio_text};
 ghost use Rattle.aggregates.specs.Views.{agg_in, part_in, ratio_in};
@@ -35,7 +35,7 @@ fn part_at(agg: &Agg, measure: u8) -> Part
     agg.parts[usize::from(measure)]
 }
 
-// The four numbers of a measure.
+// The four numbers of a measure: sum, least, greatest and mean.
 fn push_part(out: &mut Vec<u8>, agg: &Agg, measure: u8, scale: u8) -> Result<(), Memory>
     requires there { measure < agg.now.measures }
     requires scale { scale ≤ 6 }
@@ -69,7 +69,7 @@ fn push_parts(out: &mut Vec<u8>, schema: &Schema, agg: &Agg) -> Result<(), Memor
     Ok(())
 }
 
-/// What some rows come to: their count, and the four numbers of each measure.
+/// Appends the aggregate of some rows: their count, and the four numbers of each measure.
 pub fn push_agg(out: &mut Vec<u8>, schema: &Schema, agg: &Agg) -> Result<(), Memory>
     requires { length (agg_in agg.now).parts ≡ length schema.now.measures }
     ensures { OnOk result (out.new.items ≡ out.old.items ++ fields_text (agg_texts schema.now.measures (agg_in agg.now))) }

@@ -20,7 +20,7 @@ fn needs_quotes(value: &[u8]) -> bool
         .any(|b| *b == b',' || *b == b'"' || *b == b'\r' || *b == b'\n')
 }
 
-// The bytes of a value, each quote twice.
+// The bytes of a value, with each quote doubled.
 fn push_doubled(out: &mut Vec<u8>, value: &[u8]) -> Result<(), Memory>
     ensures { OnOk result (out.new.items ≡ out.old.items ++ flat_map doubled value.now) }
 {
@@ -33,7 +33,7 @@ fn push_doubled(out: &mut Vec<u8>, value: &[u8]) -> Result<(), Memory>
     Ok(())
 }
 
-// A value behind a comma, in quotes.
+// A value in quotes, with a comma before it.
 fn push_quoted(out: &mut Vec<u8>, value: &[u8]) -> Result<(), Memory>
     requires { list_any wants_quotes value.now ≡ true }
     ensures { OnOk result (out.new.items ≡ out.old.items ++ 44 ∷ quoted (value_text value.now)) }
@@ -47,7 +47,7 @@ fn push_quoted(out: &mut Vec<u8>, value: &[u8]) -> Result<(), Memory>
     Ok(())
 }
 
-// A value behind a comma, as it stands.
+// A value as it stands, with a comma before it.
 fn push_plain(out: &mut Vec<u8>, value: &[u8]) -> Result<(), Memory>
     requires { list_any wants_quotes value.now ≡ false }
     ensures { OnOk result (out.new.items ≡ out.old.items ++ 44 ∷ quoted (value_text value.now)) }
@@ -60,7 +60,8 @@ fn push_plain(out: &mut Vec<u8>, value: &[u8]) -> Result<(), Memory>
     Ok(())
 }
 
-/// A value behind a comma.
+/// Appends a value, with a comma before it. It has `=` or quotes if it would be read as something
+/// else without them.
 pub fn push_value(out: &mut Vec<u8>, value: &[u8]) -> Result<(), Memory>
     ensures { OnOk result (out.new.items ≡ out.old.items ++ 44 ∷ quoted (value_text value.now)) }
 {
