@@ -1,4 +1,4 @@
-// The name of a pin, and what is asked of its rows.
+// The name of a pin, and the query of its rows.
 ghost use Rattle.std.specs.Prelude.{length, ◌≡◌, ◌≤◌};
 ghost use Rattle.cell_core.specs.Gives.{Gives};
 ghost use Rattle.query_script.specs.Commands.{asked_with, at_in, is_pin_name, pin_name_in};
@@ -12,7 +12,7 @@ use cube_defs::MAX_FILE;
 use qc_schema::{Schema, is_good_name};
 use std::alloc::Global;
 
-// Whether it may name a pin: it is a name, or `op`.
+// Whether a pin may have this name: it is a name of the grammar, or `op`.
 fn may_name_pin(name: &str) -> bool
     ensures { result ≡ is_pin_name name.now }
 {

@@ -14,20 +14,21 @@ use qc_schema::Schema;
 use text_lines::{has_mark, is_plain};
 use value_dict::Dict;
 
-/// How a line was read.
+/// The outcome of reading a line as a point.
 #[derive(Clone, Copy)]
 pub enum Coded {
-    /// It is no point, or one that has to be read by its fields.
+    /// The line is no point, or one that has to be read field by field.
     Unread,
-    /// It asks for a value that isn't known.
+    /// The line asks for a value that isn't known, so the cell covers no row.
     Unknown,
-    /// It asks for the cell.
+    /// The line asks for the cell.
     Known,
 }
 
 ghost use Rattle.query_script.specs.Coded.{AreCoded, IsCoded, pieces_left};
 
-// The entry that a field asks for. None where the field isn't allowed, and in it where its value isn't known.
+// The entry that a field asks for. The outer None: the field isn't allowed. The inner None: its
+// value isn't known.
 fn entry_of(dict: &Dict, dim: u8, field: &str) -> Option<Option<Entry>>
     requires { dim < length dict.now.lists }
     ensures value { option_map (λ found. option_map value_in found) result ≡ option_map (entry_in (list_at dict.now dim)) (field_of shapes.Cell field.now) }
@@ -43,7 +44,7 @@ fn entry_of(dict: &Dict, dim: u8, field: &str) -> Option<Option<Entry>>
     }
 }
 
-// Puts an entry into a cell, where there is one, and says whether all are there.
+// Puts an entry into a cell, if there is one, and says whether all are there.
 fn put_entry(cell: &mut Cell, dim: u8, found: Option<Entry>, known: bool) -> bool
     requires dim { dim < length cell.old }
     requires small { IfSome found IsSmall }
@@ -59,7 +60,7 @@ fn put_entry(cell: &mut Cell, dim: u8, found: Option<Entry>, known: bool) -> boo
     }
 }
 
-// The text up to the first comma, what is behind it, and whether there is one.
+// The text up to the first comma, the text after it, and whether there is one.
 fn split_piece(text: &str) -> (&str, &str, bool)
     ensures pieces { pieces text.now ≡ result.0.now ∷ pieces_left result.2 result.1.now }
     ensures utf8 { IsUtf8 result.1.now }
@@ -70,7 +71,7 @@ fn split_piece(text: &str) -> (&str, &str, bool)
     }
 }
 
-// Puts the codes of what stands between commas into a cell.
+// Puts the codes of the pieces between commas into a cell.
 fn put_codes(dict: &Dict, text: &str, cell: &mut Cell) -> Coded
     requires { length cell.old ≡ length dict.now.lists }
     ensures coded { AreCoded result dict.now.lists (pieces text.now) cell.new }
@@ -97,7 +98,7 @@ fn put_codes(dict: &Dict, text: &str, cell: &mut Cell) -> Coded
     if known { Coded::Known } else { Coded::Unknown }
 }
 
-// What is behind the command word of a point.
+// What follows the command word of a point.
 fn behind_point(line: &[u8]) -> Option<&[u8]>
     ensures { IfSome result (λ rest. line.now ≡ codes "point " ++ rest.now) }
 {
@@ -107,7 +108,8 @@ fn behind_point(line: &[u8]) -> Option<&[u8]>
     }
 }
 
-/// Reads a line that is a point without quotes into the codes of what it asks. A line that is refused is never read so.
+/// Reads a line that is a point without quotes into the codes of the asked cell. It never reads a
+/// line that is refused.
 pub fn read_codes(schema: &Schema, dict: &Dict, line: &[u8], cell: &mut Cell) -> Coded
     requires dims { length cell.old ≡ length dict.now.lists }
     requires schema { length schema.now.dims ≡ length dict.now.lists }

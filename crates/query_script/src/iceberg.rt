@@ -1,4 +1,4 @@
-// What an iceberg asks.
+// The question of an iceberg.
 ghost use Rattle.std.specs.Prelude.{◌≡◌, ◌≤◌, ◌<◌, ℕ};
 ghost use Rattle.std.specs.Option.{option_map};
 ghost use Rattle.cell_core.specs.Gives.{Gives};
@@ -28,7 +28,7 @@ pub(crate) enum OfMeasure {
 ghost use Rattle.query_script.specs.Makes.{make_of};
 
 impl OfMeasure {
-    /// The one that a word names.
+    /// The aggregate that a word names.
     pub(crate) fn named(word: &[u8]) -> Option<OfMeasure>
         ensures { option_map make_of result ≡ makes word.now }
     {
@@ -45,7 +45,7 @@ impl OfMeasure {
         }
     }
 
-    /// That of a measure.
+    /// The aggregate of a measure.
     pub(crate) fn of(self, measure: u8) -> AggKind
         ensures { kind_in result ≡ make_of self measure }
     {
@@ -58,7 +58,7 @@ impl OfMeasure {
     }
 }
 
-// The value, at a place, behind which no word may stand.
+// The value, at a place. No word may follow it.
 fn read_value(kind: AggKind, bound: Bound, place: u32, words: &[u8]) -> Result<Query, LineRefused>
     requires { place < 10 }
     ensures { Gives line_fault_in query_in result (value_at (kind_in kind) (bound_in bound) place (words_of words.now)) }
@@ -75,7 +75,7 @@ fn read_value(kind: AggKind, bound: Bound, place: u32, words: &[u8]) -> Result<Q
     }
 }
 
-// The bound, at a place, and the value behind it.
+// The bound, at a place, and the value after it.
 fn read_bound(kind: AggKind, place: u32, words: &[u8]) -> Result<Query, LineRefused>
     requires { place < 9 }
     ensures { Gives line_fault_in query_in result (bound_at (kind_in kind) place (words_of words.now)) }

@@ -18,40 +18,40 @@ use qc_schema::Schema;
 use std::alloc::{AllocError, Global};
 use thiserror::Error;
 
-/// What a line asks for.
+/// A line of a script, read.
 #[derive(Drop)]
 pub enum Command {
     /// Load the base file of this name.
     Load(Text),
     /// Apply the batch of this name.
     Apply(Text),
-    /// Tell what applying the batch of this name would come to.
+    /// A dry run of the batch of this name.
     Try(Text),
-    /// Add a dimension of this name behind the others, in which each row has the value.
+    /// Add a last dimension of this name, in which each row has the value.
     Widen(Text, Text),
-    /// Give the present rows this name.
+    /// Pin the present rows under this name.
     Pin(Text),
-    /// Take this name away.
+    /// Drop the pin of this name.
     Unpin(Text),
-    /// Answer a query of the rows of this name.
+    /// Answer a query of the rows of the pin of this name.
     At(Text, Query),
-    /// Answer the point of these fields, one for each dimension.
+    /// Report the aggregate of a cell, by one field for each dimension.
     Point(Fields),
-    /// Answer each cell of a box that covers a row. There is a field for each dimension.
+    /// Report each cell of a box that covers a row, by one field for each dimension.
     Range(Fields),
-    /// Tell the bounds of the class of a point.
+    /// Report the bounds of the class of a cell.
     Bounds(Fields),
-    /// Tell the classes whose aggregate, in the unit of the measure's scale, is at least or at most
-    /// the value.
+    /// Report the classes whose aggregate is at least or at most the value, which is in the unit of
+    /// the printed amounts.
     Iceberg(AggKind, Bound, Fraction),
-    /// Tell the parents of the class of a point.
+    /// Report the parents of the class of a cell.
     Parents(Fields),
-    /// Tell the children of the class of a point.
+    /// Report the children of the class of a cell.
     Children(Fields),
-    /// Tell the most general classes, from the class of a point on, whose aggregate, in the unit of the
-    /// measure's scale, is at least or at most the value.
+    /// Report the most general classes whose aggregate is at least or at most the value, among
+    /// those that the class of a cell generalizes. The value is in the unit of the printed amounts.
     Rollup(AggKind, Bound, Fraction, Fields),
-    /// Tell what is counted of the rows and of their tree.
+    /// Report the counts of the rows and of their tree.
     Stats,
 }
 
@@ -85,7 +85,7 @@ impl From<AllocError> for LineRefused {
     }
 }
 
-/// The command word, and what follows the space behind it.
+/// The command word, and what follows the one space after it.
 pub(crate) fn split_command(line: &str) -> (&str, &str)
     ensures word { result.0.now ≡ word_of line.now }
     ensures rest { result.1.now ≡ rest_of line.now }
@@ -130,7 +130,7 @@ impl OfFile {
     }
 }
 
-// The command of the file whose name stands behind its word.
+// The command of the file whose name follows its word.
 fn read_of_file(alloc: Global, of: OfFile, rest: &str) -> Result<Command, LineRefused>
     ensures { Gives line_fault_in question_in result (asked_with (question_of_file of) (name_in rest.now)) }
 {
@@ -157,14 +157,14 @@ fn read_asked(
     }
 }
 
-/// Whether the line is the one word that stands alone.
+/// Whether the line is the word `stats` alone.
 pub(crate) fn is_stats(line: &str) -> bool
     ensures { result ≡ bytes_eq line.now stats_line }
 {
     line == "stats"
 }
 
-// The command of a word with something behind it.
+// The command of a word and what follows it.
 fn read_command(
     alloc: Global,
     schema: &Schema,
@@ -187,21 +187,25 @@ fn read_command(
     }
 }
 
-/// Reads a line without its end. The line `stats` is just that word. Else the first word runs to the
-/// first space. Behind `load`, `apply` and `try` stands the name of a file, which may hold spaces.
-/// Behind `point`, `bounds` and `range` stand fields as in a CSV file: `*` is Any, `=` stands in front
-/// of a value of any bytes, and each other field is that value. Only behind `range` a field may also be
-/// `?` for each value, a list of values with `|` in front of each, or two texts with `~` in front of
-/// each for the values from the one to the other by their bytes. Behind `iceberg` stand words: an
-/// aggregate (`count`, `sum`, `least`, `greatest` or `mean`), its measure but for `count`, `>=` or
-/// `<=`, and a number. Behind `parents` and `children` stand fields as behind `point`, and behind `rollup`
-/// the words of an iceberg, each up to one space, and then such fields. Behind `widen` stands a name that
-/// no column of the schema has, up to one space, and then a value of at most 255 bytes. Behind `pin` and
-/// `unpin` stands a name: it begins with a letter, goes on with letters, digits or `_`, and has at most
-/// 32 bytes. Behind `at` stands such a name, up to one space, and then a line that asks
-/// something of its rows: `point`, `range`, `bounds`, `iceberg`, `stats`, `parents`, `children` or
-/// `rollup`, whose fields are counted as without `at`. The schema that `run` hands in is that of the state
-/// before the line.
+/// Reads a line without its end, with the schema of the state before it. The grammar is that of
+/// docs/formats.md.
+///
+/// The line `stats` is just that word. Else the first word runs to the first space. After `load`,
+/// `apply` and `try` follows the name of a file, which may hold spaces.
+///
+/// After `point`, `bounds`, `parents`, `children` and `range` follow fields as in a CSV file. `*`
+/// is Any, `=` stands before a value of any bytes, and each other field is that value. In a `range`
+/// a field may also be `?` for each value, a list of values with `|` before each, or two texts with
+/// `~` before each for the values from the one to the other, by their bytes.
+///
+/// After `iceberg` follow words: an aggregate (`count`, `sum`, `least`, `greatest` or `mean`), its
+/// measure but for `count`, `>=` or `<=`, and a number. After `rollup` follow these words, each up
+/// to one space, and then fields as for `point`.
+///
+/// After `widen` follows a name that no column of the schema has, up to one space, and then a value
+/// of at most 255 bytes. After `pin` and `unpin` follows a name: a letter, and then letters, digits
+/// or `_`, at most 32 bytes. After `at` follows such a name, up to one space, and then a query of
+/// its rows, whose fields are counted as without `at`.
 pub fn read_line(alloc: Global, schema: &Schema, line: &[u8]) -> Result<Command, LineRefused>
     requires { length line.now ≤ MAX_FILE }
     ensures gives { Gives line_fault_in question_in result (command_in schema.now line.now) }

@@ -1,4 +1,4 @@
-// Fields that have nothing but commas between them, read where they stand.
+// Fields with nothing but commas between them, read where they stand.
 ghost use Rattle.std.specs.Prelude.{◌≡◌, ◌≤◌, ◌++◌, [], true, List, length, Err, IfErr, IfSome, OnOk};
 ghost use Rattle.std.specs.List.{list_all};
 ghost use Rattle.cube_defs.specs.Text.{Text};
@@ -15,7 +15,7 @@ use cell_core::Fields;
 use cube_defs::MAX_FILE;
 use std::alloc::Global;
 
-// Puts what the pieces between commas ask behind what those before them ask.
+// Appends what the pieces between commas ask.
 fn push_pieces(
     alloc: Global,
     shape: Shape,
@@ -39,7 +39,7 @@ fn push_pieces(
     push_field(alloc, shape, dims, left, fields)
 }
 
-/// Reads the fields of a plain text. An empty one has none.
+/// Reads the fields of a text without quotes. An empty text has no fields.
 pub fn read_plain(alloc: Global, shape: Shape, dims: u8, text: &str) -> Result<Fields, LineRefused>
     requires plain { list_all is_plain_byte text.now ≡ true }
     requires size { length text.now ≤ MAX_FILE }

@@ -1,4 +1,4 @@
-// What is asked of rows, and the line that asks it.
+// Queries, and the lines that ask them.
 ghost use Rattle.std.specs.Prelude.{IfErr, length, true, ◌≡◌, ◌≤◌};
 ghost use Rattle.cell_core.specs.Gives.{Gives};
 ghost use Rattle.query_script.specs.Commands.{asked_with, query_in_line, query_named, record_in};
@@ -18,25 +18,27 @@ use iceberg_query::Bound;
 use qc_schema::Schema;
 use std::alloc::Global;
 
-/// What a line may ask of the rows of a pin. Each is what the command of its name asks.
+/// A question about rows: the present ones, or those of a pin. Each variant asks what the command
+/// of its name asks.
 #[derive(Drop)]
 pub enum Query {
-    /// The point of these fields.
+    /// The aggregate of a cell, by its fields.
     Point(Fields),
-    /// Each cell of a box that covers a row.
+    /// Each cell of a box that covers a row, with its aggregate.
     Range(Fields),
-    /// The bounds of the class of a point.
+    /// The bounds of the class of a cell.
     Bounds(Fields),
-    /// The classes whose aggregate is at least or at most the value.
+    /// The classes whose aggregate is at least or at most the value, which is in the unit of the
+    /// printed amounts.
     Iceberg(AggKind, Bound, Fraction),
-    /// What is counted of the rows and of their tree.
+    /// The counts of the rows and of their tree.
     Stats,
-    /// The parents of the class of a point.
+    /// The parents of the class of a cell.
     Parents(Fields),
-    /// The children of the class of a point.
+    /// The children of the class of a cell.
     Children(Fields),
-    /// The most general classes, from the class of a point on, whose aggregate is at least or at most
-    /// the value.
+    /// The most general classes whose aggregate is at least or at most the value, among those that
+    /// the class of a cell generalizes.
     Rollup(AggKind, Bound, Fraction, Fields),
 }
 
@@ -60,7 +62,7 @@ impl Query {
     }
 }
 
-// What is asked of fields alone.
+// The queries that have fields alone.
 #[derive(Clone, Copy)]
 enum OfFields {
     Point,
@@ -99,7 +101,7 @@ impl OfFields {
     }
 }
 
-// The query of the fields that stand behind its word.
+// The query of the fields that follow its word.
 fn read_of_fields(
     alloc: Global,
     of: OfFields,
@@ -115,7 +117,7 @@ fn read_of_fields(
     }
 }
 
-/// The query of a word with something behind it.
+/// The query of a word and what follows it.
 pub(crate) fn read_query(
     alloc: Global,
     schema: &Schema,

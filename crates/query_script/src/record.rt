@@ -1,4 +1,4 @@
-// The fields of a record that asks something of each dimension.
+// The fields of a record that asks for a cell or a box.
 ghost use Rattle.std.specs.Prelude.{◌≡◌, ◌≤◌, ◌++◌, ◌∷◌, [], false, List, All, length, IfOk, Err, IfErr, IfSome, OnOk, IsUtf8};
 ghost use Rattle.csv.specs.Records.{fields_of};
 ghost use Rattle.cube_defs.specs.Text.{Text};
@@ -30,7 +30,7 @@ pub enum Shape {
     Box,
 }
 
-/// The value that a field names.
+/// The value that a field names: without the `=` before it, if it has one.
 pub fn named_value(field: &str) -> &str
     ensures { result.now ≡ value_of field.now }
 {
@@ -55,7 +55,7 @@ fn read_field(alloc: Global, shape: Shape, field: &str) -> Result<Option<Field>,
     }
 }
 
-/// Puts what a field asks behind what those before it ask.
+/// Appends what a field asks.
 pub fn push_field(
     alloc: Global,
     shape: Shape,
@@ -107,7 +107,7 @@ fn push_fields(
 }
 
 #[tactic(auto, using(crate::proofs::Asking::asks_all, crate::proofs::Asking::asks_too_few))]
-/// Hands the fields back where none is missing.
+/// Returns the fields if none is missing.
 pub fn check_count(shape: Shape, dims: u8, fields: Fields) -> Result<Fields, LineRefused>
     requires { length fields ≤ dims }
     ensures { Gives line_fault_in (λ fields. fields) result (asked_after (field_of shape) dims fields []) }
@@ -119,7 +119,7 @@ pub fn check_count(shape: Shape, dims: u8, fields: Fields) -> Result<Fields, Lin
     Ok(fields)
 }
 
-// Puts what the fields of all records that are left ask behind what those before them ask.
+// Appends what the fields of all remaining records ask.
 fn push_records(
     alloc: Global,
     shape: Shape,
@@ -143,8 +143,8 @@ fn push_records(
     Ok(())
 }
 
-// Reads the fields of all records of a text. Not inlined: a reader of records has tables of 16 KiB, which
-// whoever makes one clears as it is entered, and hardly a line has quotes.
+// Reads the fields of all records of a text. Not inlined: a reader of records has tables of 16 KiB,
+// which a function that makes one clears when it is entered, and hardly a line has quotes.
 #[inline(never)]
 fn read_records(alloc: Global, shape: Shape, dims: u8, rest: &str) -> Result<Fields, LineRefused>
     requires size { length rest.now ≤ MAX_FILE }
@@ -163,7 +163,7 @@ fn read_records(alloc: Global, shape: Shape, dims: u8, rest: &str) -> Result<Fie
     }
 }
 
-/// Reads what follows the word of a command that asks a cell, or a box of cells.
+/// Reads what follows the word of a command that asks for a cell or a box of cells.
 pub fn read_fields(
     alloc: Global,
     shape: Shape,

@@ -1,4 +1,4 @@
-// What a roll-up asks.
+// The question of a roll-up.
 ghost use Rattle.std.specs.Option.{option_map};
 ghost use Rattle.std.specs.Prelude.{IfSome, length, ◌<◌, ◌≡◌, ◌≤◌};
 ghost use Rattle.cell_core.specs.Gives.{Gives};
@@ -23,7 +23,7 @@ use iceberg_query::Bound;
 use qc_schema::Schema;
 use std::alloc::Global;
 
-// The refusal of a record that stands behind so many words.
+// The refusal of a record that follows so many words.
 fn moved(cause: LineRefused, words: u32) -> LineRefused
     requires few { words < 10 }
     requires low { IfSome (line_fault_in cause) IsLow }
@@ -38,7 +38,7 @@ fn moved(cause: LineRefused, words: u32) -> LineRefused
     }
 }
 
-// The record of the cell behind so many words, the last of which is the value.
+// The record of the cell after so many words, the last of which is the value.
 fn read_record(
     alloc: Global,
     schema: &Schema,
@@ -64,7 +64,7 @@ fn read_record(
     }
 }
 
-// The value, at a place, and the record behind it.
+// The value, at a place, and the record after it.
 fn read_value(
     alloc: Global,
     schema: &Schema,
@@ -85,7 +85,7 @@ fn read_value(
     read_record(alloc, schema, kind, bound, place, word, rest)
 }
 
-// The bound, at a place, and what stands behind it.
+// The bound, at a place, and what follows it.
 fn read_bound(
     alloc: Global,
     schema: &Schema,
@@ -105,7 +105,7 @@ fn read_bound(
     }
 }
 
-// The measure of an aggregate, and what stands behind it.
+// The measure of an aggregate, and what follows it.
 fn read_measured(
     alloc: Global,
     schema: &Schema,

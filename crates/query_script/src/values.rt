@@ -7,7 +7,7 @@ use cell_core::{Field, Memory, Text, Texts};
 use cube_defs::MAX_FILE;
 use std::alloc::Global;
 
-// The texts that `|` stands between.
+// The texts with `|` between them.
 fn read_list(alloc: Global, text: &str) -> Result<Texts, Memory>
     requires { length text.now ≤ MAX_FILE }
     ensures { IfOk result (λ list. list ≡ cut_at 124 text.now) }

@@ -1,4 +1,4 @@
-// A dimension that comes.
+// A new dimension.
 ghost use Rattle.std.specs.Prelude.{◌≡◌};
 ghost use Rattle.cell_core.specs.Gives.{Gives};
 ghost use Rattle.query_script.specs.Faults.{line_fault_in};
@@ -11,10 +11,10 @@ use cell_core::Text;
 use qc_schema::Schema;
 use std::alloc::Global;
 
-// How many bytes the value of a dimension has at most.
+// The most bytes of the value of a dimension.
 const LONGEST_VALUE: usize = 255;
 
-// Whether a space ends the name, and what is behind it is short enough.
+// Whether a space ends the name, and what follows it is short enough.
 fn has_short_value(rest: &str, name: &str, value: &str) -> bool
     requires name { name.now ≡ word_of rest.now }
     requires value { value.now ≡ rest_of rest.now }
