@@ -1,4 +1,4 @@
-// What the lines of a schema say.
+// The contents of a schema, before all of it is read.
 ghost use Rattle.std.specs.Prelude.{IfOk, [], ◌∷◌, ◌++◌, ◌≡◌, ◌≤◌, map, length, string_bytes};
 ghost use Rattle.std.specs.List.{list_any};
 ghost use Rattle.std.specs.Str.{bytes_eq};
@@ -18,14 +18,14 @@ use cube_defs::{MAX_CODES, MAX_MEASURES, MAX_ROWS, Memory};
 use std::alloc::Global;
 use text_lines::split_word;
 
-/// A column of amounts, with so many digits behind the point.
+/// A column of amounts, and the number of digits after the point.
 #[derive(Drop)]
 pub struct Measure {
     pub name: String,
     pub scale: u8,
 }
 
-/// What a schema says, as far as it is read.
+/// What was read of a schema so far.
 #[derive(Drop)]
 pub struct Draft {
     pub version: SchemaVersion,
@@ -75,7 +75,7 @@ pub fn measure_named(measures: &Vec<Measure>, name: &[u8]) -> Option<u8>
     None
 }
 
-// What the aggregate is called, of the measure.
+// The aggregate of this name, of the measure.
 fn kind_with(aggregate: &[u8], measure: Option<u8>) -> Result<AggKind, SchemaLineRefused>
     ensures { Gives cause_in (λ kind. kind) result (kind_named aggregate.now measure) }
 {
@@ -107,7 +107,7 @@ fn has_kind(kinds: &Vec<AggKind>, kind: AggKind) -> bool
     false
 }
 
-// The names, copied, and one more behind them.
+// The names, copied, with one more at the end.
 fn names_and(alloc: Global, names: &Vec<String>, last: &str) -> Result<Vec<String>, Memory>
     ensures { IfOk result (λ more. map string_bytes more.items ≡ map string_bytes names.now.items ++ last.now ∷ []) }
 {
@@ -133,7 +133,7 @@ fn copied_measures(alloc: Global, measures: &Vec<Measure>) -> Result<Vec<Measure
 }
 
 impl Draft {
-    /// Nothing read yet, and what holds by default.
+    /// Nothing read yet: the limits are the defaults.
     pub fn new(alloc: Global) -> Draft
         ensures { layout_in result ≡ start.layout }
     {
@@ -167,7 +167,7 @@ impl Draft {
         is_good_name(word) && !self.has_column(word)
     }
 
-    /// The same, with one more dimension behind the others.
+    /// The same, with one more dimension at the end.
     pub fn with_dim(&self, alloc: Global, name: &str) -> Result<Draft, Memory>
         ensures { IfOk result (λ draft. layout_in draft ≡ with_dim (layout_in self.now) name.now) }
     {
@@ -187,7 +187,7 @@ impl Draft {
         })
     }
 
-    /// The word, where it is a name that isn't used yet.
+    /// The word, if it is a name that isn't used yet.
     pub fn unused_name<'a>(&self, word: &'a [u8]) -> Result<&'a str, SchemaLineRefused>
         ensures { Gives cause_in (λ s. s.now) result (new_name (layout_in self.now) word.now) }
     {
@@ -219,7 +219,7 @@ impl Draft {
         kind_with(aggregate, measure_named(&self.measures, name))
     }
 
-    /// The aggregate, where it isn't indexed yet.
+    /// The aggregate, if it isn't indexed yet.
     pub fn unused_kind(&self, kind: AggKind) -> Result<AggKind, SchemaLineRefused>
         ensures { Gives cause_in (λ fresh. fresh) result (new_kind (layout_in self.now) kind) }
     {

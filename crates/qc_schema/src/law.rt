@@ -1,4 +1,4 @@
-// What holds of the schemas and their texts.
+// A law of schemas and their texts.
 ghost use Rattle.std.specs.Prelude.{◌≡◌, Ok};
 ghost use Rattle.qc_schema.specs.Grammar.{schema_in};
 ghost use Rattle.qc_schema.specs.Schema.{IsLayout, Layout};

@@ -1,4 +1,4 @@
-//! Reads and writes schemas: the names of a cube's columns, its limits, and what is indexed.
+//! Reads and writes schemas: the names of a cube's columns, its limits, and its indexes.
 #![tactic(auto)]
 
 mod draft;

@@ -1,16 +1,16 @@
-// What a schema may have, by its version.
+// The limits of a schema, by its version.
 ghost use Rattle.std.specs.Prelude.{◌≡◌};
 ghost use Rattle.qc_schema.specs.Schema.{max_dims, max_measures, version_number, version_word};
 
 use cube_defs::{MAX_DIMS, MAX_MEASURES};
 
-/// The dimensions of a schema of version 1.
+/// The most dimensions of a schema of version 1.
 pub const VERSION_1_DIMS: u8 = 12;
 
-/// The measures of a schema of version 1.
+/// The most measures of a schema of version 1.
 pub const VERSION_1_MEASURES: u8 = 1;
 
-/// The nodes of a tree whose schema doesn't say how many.
+/// The most nodes of a tree whose schema has no line `nodes`.
 pub const DEFAULT_NODES: u32 = 1_000_000;
 
 /// The version of a schema, which its first line names.
@@ -43,7 +43,7 @@ impl SchemaVersion {
         }
     }
 
-    /// How many dimensions a schema of the version may have.
+    /// The most dimensions of a schema of the version.
     pub fn max_dims(self) -> u8
         ensures { result ≡ max_dims self }
     {
@@ -53,7 +53,7 @@ impl SchemaVersion {
         }
     }
 
-    /// How many measures a schema of the version may have.
+    /// The most measures of a schema of the version.
     pub fn max_measures(self) -> u8
         ensures { result ≡ max_measures self }
     {

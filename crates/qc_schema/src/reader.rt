@@ -53,7 +53,7 @@ impl Stage {
         matches!(self, Stage::Dim | Stage::Measure)
     }
 
-    // Whether a line of an index may come next; a line of nodes may come where it may.
+    // Whether an `index` line may come next. A `nodes` line may come at the same places.
     fn may_index(self) -> bool
         ensures { result ≡ may_index self }
     {
@@ -79,7 +79,7 @@ impl Stage {
     }
 }
 
-/// What is read so far.
+/// A schema that is being read.
 #[derive(Drop)]
 pub struct SchemaReader {
     pub stage: Stage,
@@ -219,7 +219,7 @@ impl SchemaReader {
         Ok(())
     }
 
-    // A line behind the first, by its first word.
+    // A line after the first, by its first word.
     #[tactic(auto, unfolding(crate::specs::Grammar::named_line))]
     fn read_named(
         &mut self,
@@ -249,7 +249,7 @@ impl SchemaReader {
         }
     }
 
-    /// Takes a line, or names the first cause that holds.
+    /// Takes a line, or reports the first cause that holds.
     #[tactic(auto, unfolding(crate::specs::Grammar::take_line))]
     pub fn read_line(&mut self, alloc: Global, line: &[u8]) -> Result<(), SchemaLineRefused>
         requires { length self.old.draft.measures.items ≤ MAX_MEASURES }

@@ -6,7 +6,7 @@ ghost use Rattle.qc_schema.specs.Progress.{refused_at};
 use std::alloc::{AllocError, AllocFailed};
 use thiserror::Error;
 
-/// What is wrong with a line. Of several causes the first in this order is named.
+/// What is wrong with a line. If several causes hold, the first in this order is reported.
 #[derive(Clone, Copy, Debug, PartialEq, Eq, Error)]
 pub enum SchemaCause {
     /// The first line is neither `qcube 1` nor `qcube 2`.
@@ -18,7 +18,7 @@ pub enum SchemaCause {
     /// The line has too many or too few words.
     #[error("the line has too many or too few words")]
     Words,
-    /// A name isn't one, or is used before; or an index is unknown or stands a second time.
+    /// A name has another form, or is used before; or an index is unknown or stands a second time.
     #[error("a name is none, or was used before")]
     Name,
     /// A number is outside its range.
@@ -29,14 +29,14 @@ pub enum SchemaCause {
     End,
 }
 
-/// Why bytes give no schema.
+/// Why bytes are no schema.
 #[derive(Clone, Copy, Debug, PartialEq, Eq, Error)]
 pub enum SchemaRefused {
     /// The text isn't UTF-8.
     #[error("the text is not UTF-8")]
     NotUtf8,
-    /// The first line that isn't right, counted from 1. At the end of the text it is one more than
-    /// the number of lines.
+    /// The first wrong line, counted from 1. At the end of the text it is one more than the number
+    /// of lines.
     #[error("line {line}: {cause}")]
     Line { line: u32, cause: SchemaCause },
     /// Memory ran out.
@@ -52,7 +52,7 @@ pub enum SchemaLineRefused {
 }
 
 impl SchemaLineRefused {
-    /// Why the text is refused, of which this is the line with that number.
+    /// The refusal of the text, if this is about the line with that number.
     pub fn at(self, line: u32) -> SchemaRefused
         ensures { result ≡ refused_at line self }
     {

@@ -1,4 +1,4 @@
-// A schema, and what it says.
+// A schema, and its readers.
 ghost use Rattle.std.specs.Prelude.{IfOk, true, ◌≡◌, ◌≤◌, ◌<◌, ◌+◌, [], length, map, slice_index_or};
 ghost use Rattle.qc_schema.specs.Grammar.{is_new_name, measure_from, read_lines, schema_in, start};
 ghost use Rattle.text_lines.specs.Lines.{lines_of, without_cr};
@@ -33,8 +33,8 @@ impl Model for Schema {
 }
 
 impl Schema {
-    /// The number of the version that the first line names: 1 or 2. In version 1 there are at most 12
-    /// dimensions and one measure, in version 2 at most 16 and four.
+    /// The version, which the first line names: 1 or 2. Version 1 has at most 12 dimensions and one
+    /// measure, version 2 at most 16 and four.
     pub fn version(&self) -> u8
         ensures { result ≡ version_number self.now.version }
     {
@@ -54,7 +54,7 @@ impl Schema {
         self.draft.id.as_str()
     }
 
-    /// How many dimensions there are.
+    /// The number of dimensions.
     pub fn dims(&self) -> u8
         ensures count { result ≡ length self.now.dims }
         ensures layout { IsLayout self.now }
@@ -70,7 +70,7 @@ impl Schema {
         self.draft.dims[dim as usize].as_str()
     }
 
-    /// How many measures there are.
+    /// The number of measures.
     pub fn measures(&self) -> u8
         ensures { result ≡ length self.now.measures }
     {
@@ -92,7 +92,7 @@ impl Schema {
         measure_named(&self.draft.measures, name)
     }
 
-    /// How many digits an amount of a measure has behind the point.
+    /// The scale of a measure: the number of digits of its amounts after the point.
     pub fn scale(&self, measure: u8) -> u8
         requires { measure < length self.now.measures }
         ensures { result ≡ (slice_index_or self.now.measures measure no_measure).scale }
@@ -107,43 +107,43 @@ impl Schema {
         self.draft.indexes.as_slice()
     }
 
-    /// How many nodes there may be.
+    /// The most nodes of the tree.
     pub fn nodes(&self) -> u32
         ensures { result ≡ self.now.nodes }
     {
         self.draft.nodes
     }
 
-    /// How many rows there may be.
+    /// The most rows.
     pub fn rows(&self) -> u32
         ensures { result ≡ self.now.rows }
     {
         self.draft.rows
     }
 
-    /// How many texts there may be in each dimension.
+    /// The most texts of each dimension.
     pub fn values(&self) -> u32
         ensures { result ≡ self.now.values }
     {
         self.draft.values
     }
 
-    /// How many dimensions there may be in the version.
+    /// The most dimensions of the schema's version.
     pub fn max_dims(&self) -> u8
         ensures { result ≡ max_dims self.now.version }
     {
         self.draft.version.max_dims()
     }
 
-    /// Whether a dimension that is added may have this name: it is in the grammar of names, isn't `op`,
-    /// and neither the id nor a dimension nor a measure has it.
+    /// Whether a new dimension may have this name. It is in the grammar of names, isn't `op`, and
+    /// isn't the name of the id, a dimension or a measure.
     pub fn may_name(&self, name: &[u8]) -> bool
         ensures { result ≡ is_new_name self.now name.now }
     {
         self.draft.may_name(name)
     }
 
-    /// The schema with one more dimension, behind the others. All else is the same.
+    /// The schema with one more dimension at the end. All else is the same.
     pub fn with_dim(&self, alloc: Global, name: &str) -> Result<Schema, Memory>
         requires few { length self.now.dims < max_dims self.now.version }
         requires new { is_new_name self.now name.now ≡ true }
@@ -179,11 +179,12 @@ fn read_draft(alloc: Global, text: &[u8]) -> Result<Draft, SchemaRefused>
     Ok(reader.draft)
 }
 
-/// Reads the text of a schema: lines of words with spaces between them. They are `qcube 1` or
-/// `qcube 2`, which is the version, `id NAME`, 1 to 12 times `dim NAME` in version 1 and 1 to 16 times
-/// in version 2, `measure NAME SCALE` at most once in version 1 and at most four times in version 2,
-/// lines `index count` or `index AGG NAME`, and at most one each of `nodes N`, `rows N` and `values N`.
-/// Lines without words and those that begin with `#` are passed over.
+/// Reads the text of a schema: lines of words with spaces between them, as docs/formats.md says.
+///
+/// They are `qcube 1` or `qcube 2`, the version; `id NAME`; `dim NAME` 1 to 12 times in version 1
+/// and 1 to 16 times in version 2; `measure NAME SCALE` at most once in version 1 and at most four
+/// times in version 2; lines `index count` or `index AGG NAME`; and at most one each of `nodes N`,
+/// `rows N` and `values N`. Lines without words, and those that begin with `#`, are skipped.
 pub fn read_schema(alloc: Global, bytes: &[u8]) -> Result<Schema, SchemaRefused>
     requires { length bytes.now ≤ MAX_FILE }
     ensures { Gives schema_fault_in (λ schema. schema) result (schema_in bytes.now) }

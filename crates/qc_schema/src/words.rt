@@ -26,7 +26,7 @@ pub fn is_good_name(word: &[u8]) -> bool
     word[0].is_ascii_alphabetic() && has_name_bytes(word)
 }
 
-/// The word, where it is a name.
+/// The word, if it is a name.
 pub fn name_in(word: &[u8]) -> Option<&str>
     ensures { option_map (λ s. s.now) result ≡ (if is_name word.now then Some word.now else None) }
 {
@@ -36,7 +36,7 @@ pub fn name_in(word: &[u8]) -> Option<&str>
     str::from_utf8(word).ok()
 }
 
-// The number that at most 7 digits spell.
+// The number that at most 7 digits write.
 fn short_number(word: &[u8]) -> Option<u32>
     requires { length word.now ≤ 7 }
     ensures { result ≡ (if all_ascii_digits word.now then Some (digits_value 10 word.now) else None) }
@@ -51,7 +51,7 @@ fn short_number(word: &[u8]) -> Option<u32>
     Some(value)
 }
 
-/// The scale that a word spells.
+/// The scale that a word writes.
 pub fn read_scale(word: &[u8]) -> Result<u8, SchemaLineRefused>
     ensures { Gives cause_in (λ n. n) result (scale_in word.now) }
 {
@@ -64,7 +64,7 @@ pub fn read_scale(word: &[u8]) -> Result<u8, SchemaLineRefused>
     Err(SchemaLineRefused::Cause(SchemaCause::Number))
 }
 
-/// The limit that a word spells, from 1 to the most.
+/// The limit that a word writes, from 1 to the most.
 pub fn read_limit(most: u32, word: &[u8]) -> Result<u32, SchemaLineRefused>
     ensures { Gives cause_in (λ n. n) result (limit_in most word.now) }
 {
