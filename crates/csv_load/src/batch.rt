@@ -1,4 +1,4 @@
-// The changes that a file brings.
+// The changes of a file.
 ghost use Rattle.std.specs.Prelude.{◌≡◌, ◌≤◌, ◌<◌, [], length, false, not, count_by};
 ghost use Rattle.csv_load.specs.Batch.{AreChanges, IsBatch, amount_at, batch_of, change_at, id_of, inserted, is_deletion, row_of, text_at};
 
@@ -6,8 +6,8 @@ use crate::changes::Changes;
 use std::alloc::Global;
 use std::marker::Model;
 
-/// Changes that are not yet made to a table: deletions by id, and insertions of rows, each with an
-/// id, a text in each dimension, and an amount of each measure. Changes are counted from 1,
+/// Changes that are not yet made to a table: deletions by id, and insertions of rows. A row has an
+/// id, a text in each dimension, and an amount in each measure. Changes are counted from 1,
 /// dimensions and measures from 0.
 #[derive(Drop)]
 pub struct RawBatch {
@@ -46,7 +46,7 @@ impl RawBatch {
         }
     }
 
-    /// The changes that lie one behind the other.
+    /// The changes that are stored one after another.
     pub(crate) fn of_changes(dims: u8, measures: u8, changes: Changes) -> RawBatch
         requires { AreChanges dims measures changes }
         ensures { result ≡ batch_of dims measures changes }
@@ -58,7 +58,7 @@ impl RawBatch {
         }
     }
 
-    /// How many changes there are.
+    /// The number of changes.
     pub fn len(&self) -> u32
         ensures count { result ≡ length self.now.changes }
         ensures valid { IsBatch self.now }
@@ -66,7 +66,7 @@ impl RawBatch {
         self.changes.ids.len() as u32
     }
 
-    /// How many of them are insertions.
+    /// The number of insertions among them.
     pub fn insertions(&self) -> u32
         ensures { result ≡ length (inserted self.now.changes) }
     {
@@ -82,7 +82,7 @@ impl RawBatch {
         self.changes.deletes[k as usize - 1]
     }
 
-    /// The id of the row that goes or comes.
+    /// The id of the row that is deleted or inserted.
     pub fn id(&self, k: u32) -> u64
         requires first { 1 ≤ k }
         requires last { k ≤ length self.now.changes }
@@ -103,7 +103,7 @@ impl RawBatch {
         self.changes.texts.get(at)
     }
 
-    /// The amounts of an inserted row, each in units of the last place of its measure's scale.
+    /// The amounts of an inserted row, each in units of the last digit of its measure's scale.
     pub fn amounts(&self, k: u32) -> &[i64]
         requires first { 1 ≤ k }
         requires last { k ≤ length self.now.changes }
@@ -115,7 +115,7 @@ impl RawBatch {
         &self.changes.amounts[start..start + measures]
     }
 
-    /// The amount of an inserted row in a measure, in units of the last place of its scale.
+    /// The amount of an inserted row in a measure, in units of the last digit of its scale.
     pub fn amount(&self, k: u32, measure: u8) -> i64
         requires first { 1 ≤ k }
         requires last { k ≤ length self.now.changes }

@@ -1,11 +1,11 @@
-// Changes as they lie one behind the other.
+// Changes, stored one after another.
 ghost use Rattle.std.specs.Prelude.{◌≡◌, ◌++◌, [], ◌∷◌, IfOk, OnOk};
 
 use crate::texts::FieldTexts;
 use std::alloc::{AllocError, Global};
 
-/// The ids, texts and amounts of changes. A deletion has texts and amounts as well, which say
-/// nothing, so that those of the k-th change lie at the k-th place.
+/// The ids, texts and amounts of changes. A deletion has texts and amounts too, which mean nothing,
+/// so that those of the k-th change are at the k-th place.
 #[derive(Drop)]
 pub struct Changes {
     pub ids: Vec<u64>,
@@ -42,7 +42,7 @@ impl Changes {
         })
     }
 
-    /// Puts an id behind the others, whose texts and amounts are there already.
+    /// Appends an id, whose texts and amounts are there already.
     pub fn push_id(&mut self, id: u64, deletes: bool) -> Result<(), AllocError>
         ensures ids { OnOk result (self.new.ids.items ≡ self.old.ids.items ++ id ∷ []) }
         ensures deletes { OnOk result (self.new.deletes.items ≡ self.old.deletes.items ++ deletes ∷ []) }

@@ -1,4 +1,4 @@
-// Where a file has the columns that a schema names.
+// The places of a schema's columns in a file.
 ghost use Rattle.std.specs.Prelude.{◌≡◌, ◌<◌, ◌≤◌, [], ◌∷◌, ◌++◌, codes, length, IfOk, IfSome, option_map, slice_index_or};
 ghost use Rattle.csv.specs.Records.{fields_of};
 ghost use Rattle.qc_schema.specs.Schema.{IsLayout, names_of};
@@ -12,10 +12,10 @@ use text_lines::field;
 /// The columns of a header.
 #[derive(Drop)]
 pub struct Columns {
-    /// How many columns there are.
+    /// The number of columns.
     pub width: usize,
-    /// The places of those of the id, the dimensions and the measures, in the schema's order, and
-    /// behind them that of the operation.
+    /// The places of the id, the dimensions and the measures, in the schema's order, and then that
+    /// of the operation.
     pub places: Vec<usize>,
     /// Whether records have an operation.
     pub has_op: bool,
@@ -30,7 +30,7 @@ pub fn needed_field<'a>(columns: &Columns, row: &'a ByteRecord, column: usize) -
     field(row, columns.places[column])
 }
 
-// The place of the one field that is this name.
+// The place of the only field that is this name.
 fn place_of(header: &ByteRecord, name: &str) -> Option<usize>
     ensures { result ≡ place_from 0 name.now (fields_of header.now) }
 {
@@ -46,7 +46,7 @@ fn place_of(header: &ByteRecord, name: &str) -> Option<usize>
     found
 }
 
-// The name of a needed column, counted from 0; that of the operation stands behind the others.
+// The name of a needed column, counted from 0. The operation comes last.
 fn needed_name(schema: &Schema, column: usize) -> &str
     requires { column ≤ length (names_of schema.now) }
     ensures { result.now ≡ slice_index_or (names_of schema.now ++ codes "op" ∷ []) column [] }
@@ -64,7 +64,7 @@ fn needed_name(schema: &Schema, column: usize) -> &str
     }
 }
 
-// How many columns are needed.
+// The number of needed columns.
 fn needed_count(schema: &Schema, has_op: bool) -> usize
     ensures count { result ≡ length (needed_names has_op schema.now) }
     ensures layout { IsLayout schema.now }
@@ -73,7 +73,7 @@ fn needed_count(schema: &Schema, has_op: bool) -> usize
     if has_op { count + 1 } else { count }
 }
 
-/// Finds the needed columns in a header, where each stands just once.
+/// Finds the needed columns in a header, if each stands there exactly once.
 pub fn find_columns(
     alloc: Global,
     schema: &Schema,

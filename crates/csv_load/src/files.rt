@@ -1,4 +1,4 @@
-// Base files and batches of corrections.
+// Base files and batches.
 ghost use Rattle.std.specs.Prelude.{◌≡◌, ◌≢◌, ◌≤◌, ℕ, length, IfOk, IfErr};
 ghost use Rattle.csv_load.specs.Files.{base_in, batch_in, file_in};
 ghost use Rattle.csv_load.specs.Batch.{AreInsertions};
@@ -16,11 +16,11 @@ use std::alloc::{AllocError, AllocFailed, Global};
 use text_lines::{RecordReader, has_two_marks, trim_mark};
 use thiserror::Error;
 
-/// Why a file gives no changes. A number is that of the first record that is wrong, counted from 1
-/// without the header; of several faults the first in this order is named.
+/// Why a file gives no changes. A number is that of the first wrong record, counted from 1 after
+/// the header. If several faults hold, the first in this order is reported.
 #[derive(Clone, Copy, Debug, PartialEq, Eq, Error)]
 pub enum LoadRefused {
-    /// There is no header, or a needed column isn't there just once.
+    /// There is no header, or a needed column doesn't stand in it exactly once.
     #[error("a needed column is not there just once")]
     Header,
     /// The record has another number of fields than the header.
@@ -32,10 +32,10 @@ pub enum LoadRefused {
     /// The operation of a record of a batch is neither `+` nor `-`.
     #[error("record {0} is neither an insertion nor a deletion")]
     Op(u32),
-    /// The id is no number that fits 64 bits.
+    /// The id is no whole number that fits 64 bits.
     #[error("record {0} has an id that is no number of 64 bits")]
     Id(u32),
-    /// An amount of an insertion is none of its measure's scale, or is too large.
+    /// An amount of an insertion has another form than its measure's scale allows, or is too large.
     #[error("record {0} has an amount that is none of its scale, or too large")]
     Amount(u32),
     /// The text of a dimension of an insertion has more than 255 bytes.
@@ -94,9 +94,8 @@ fn read_file(
     read_changes(schema, &columns, &mut rows, &mut row, changes)
 }
 
-/// Reads a file of comma-separated values whose header has the columns of the schema, in any order
-/// and among others. Each record is an insertion; a text is kept as it stands, and the same id may
-/// come twice.
+/// Reads a CSV file whose header has the columns of the schema, in any order and among others. Each
+/// record is an insertion. A text is kept as it stands, and an id may come twice.
 pub fn read_base(alloc: Global, schema: &Schema, bytes: &[u8]) -> Result<RawBatch, LoadRefused>
     requires { length bytes.now ≤ MAX_FILE }
     ensures gives { Gives fault_in (λ batch. batch.changes) result (base_in schema.now bytes.now) }
@@ -108,8 +107,8 @@ pub fn read_base(alloc: Global, schema: &Schema, bytes: &[u8]) -> Result<RawBatc
     read_file(alloc, schema, bytes, false)
 }
 
-/// Reads a batch of corrections: such a file with the column `op`, which has `+` in an insertion
-/// and `-` in a deletion. The same id may come any number of times.
+/// Reads a batch: a CSV file that also has the column `op`, with `+` in an insertion and `-` in a
+/// deletion. An id may come any number of times.
 pub fn read_batch(alloc: Global, schema: &Schema, bytes: &[u8]) -> Result<RawBatch, LoadRefused>
     requires { length bytes.now ≤ MAX_FILE }
     ensures gives { Gives fault_in (λ batch. batch.changes) result (batch_in schema.now bytes.now) }

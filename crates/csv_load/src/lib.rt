@@ -1,4 +1,4 @@
-//! Reads files of comma-separated values into changes of a table, by the columns of a schema.
+//! Reads CSV files into changes of a table, by the columns of a schema.
 #![tactic(auto)]
 
 mod batch;

@@ -25,7 +25,7 @@ use text_lines::RecordReader;
 
 const LONGEST_TEXT: usize = 255;
 
-// Puts the texts of a record's dimensions behind the others, and says whether each is short enough.
+// Appends the texts of a record's dimensions, and says whether each is short enough.
 fn push_texts(
     schema: &Schema,
     columns: &Columns,
@@ -56,7 +56,7 @@ fn push_texts(
     Ok(are_short)
 }
 
-// Whether a record is a deletion, where it has an operation that is one.
+// Whether a record is a deletion, if its operation is valid.
 fn read_kind(schema: &Schema, columns: &Columns, row: &ByteRecord) -> Option<bool>
     requires columns { AreColumns schema.now columns.now }
     requires width { length (fields_of row.now) ≡ columns.now.width }
@@ -73,7 +73,7 @@ fn read_kind(schema: &Schema, columns: &Columns, row: &ByteRecord) -> Option<boo
     }
 }
 
-// Puts the amounts of a record behind the others.
+// Appends the amounts of a record.
 fn push_amounts(
     schema: &Schema,
     columns: &Columns,
@@ -99,7 +99,7 @@ fn push_amounts(
     Ok(())
 }
 
-// Puts zeros behind the others.
+// Appends zeros.
 fn push_zeros(count: u8, amounts: &mut Vec<i64>) -> Result<(), AllocError>
     ensures { OnOk result ((zeros : List ℤ) × (length zeros ≡ count) × (amounts.new.items ≡ amounts.old.items ++ zeros)) }
 {
@@ -109,8 +109,7 @@ fn push_zeros(count: u8, amounts: &mut Vec<i64>) -> Result<(), AllocError>
     Ok(())
 }
 
-// Puts the amounts of an insertion behind the others, where its texts are short, and zeros for a
-// deletion.
+// Appends the amounts of an insertion, if its texts are short enough, and zeros for a deletion.
 fn push_amounts_or_zeros(
     schema: &Schema,
     columns: &Columns,
@@ -140,7 +139,7 @@ fn push_amounts_or_zeros(
     Ok(())
 }
 
-// Puts the change of a record behind the others. After a refusal they are of no use.
+// Appends the change of a record. After a refusal the changes are of no use.
 fn push_change(
     schema: &Schema,
     columns: &Columns,
@@ -173,7 +172,7 @@ fn push_change(
     Ok(())
 }
 
-/// Reads the changes of the records that are left, and puts them into `changes`.
+/// Reads the changes of the remaining records, and puts them into `changes`.
 pub fn read_changes(
     schema: &Schema,
     columns: &Columns,

@@ -1,4 +1,4 @@
-// Texts that lie one behind the other in one buffer.
+// Texts that are stored one after another in one buffer.
 ghost use Rattle.std.specs.Prelude.{◌≡◌, ◌<◌, ◌+◌, ◌^◌, ◌++◌, [], ◌∷◌, length, OnOk, OnErr, IfOk, slice_index_or, string_bytes};
 ghost use Rattle.text_lines.specs.Records.{bytes_in};
 ghost use Rattle.csv_load.specs.FieldTexts.{IsCut, text_between, texts_of};
@@ -6,7 +6,7 @@ ghost use Rattle.csv_load.specs.FieldTexts.{IsCut, text_between, texts_of};
 use std::alloc::{AllocError, Global};
 use std::marker::Model;
 
-/// Seen as the list of its texts.
+/// A list of texts in one buffer.
 #[derive(Drop)]
 pub struct FieldTexts {
     bytes: String,
@@ -24,7 +24,7 @@ impl Model for FieldTexts {
     ghost invariant = { λ t. IsCut t.ends.items (string_bytes t.bytes) };
 }
 
-// Puts a text behind the others, or leaves them as they are.
+// Appends a text, or leaves the others as they are.
 fn push_text(bytes: &mut String, ends: &mut Vec<u32>, text: &str) -> Result<(), AllocError>
     requires cut { IsCut ends.old.items (string_bytes bytes.old) }
     requires room { length (string_bytes bytes.old) + length text.now < 2 ^ 32 }
