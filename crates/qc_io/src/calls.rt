@@ -1,4 +1,4 @@
-// Which calls are to fail, and how many have.
+// Which calls shall fail, and how many have failed.
 ghost use Rattle.std.specs.Prelude.{◌≡◌, ◌≤◌, IfOk, IsTrue, false};
 ghost use Rattle.qc_io.specs.Outside.{Rose};
 ghost use Rattle.qc_io.specs.Memory.{Calls, next_calls, next_count, first_call, is_listed, none_to_come};
@@ -7,7 +7,7 @@ use crate::outside::{Failed, Memory};
 use std::alloc::Global;
 use std::marker::Model;
 
-/// The numbers of the calls that are to fail, the number of the next call, and the count of faults.
+/// The numbers of the calls that shall fail, the number of the next call, and the count of faults.
 #[derive(Drop)]
 pub(crate) struct CallList {
     fails: Vec<u64>,
@@ -34,7 +34,7 @@ impl CallList {
         })
     }
 
-    /// Counts a call, and answers whether it is to fail.
+    /// Counts a call, and says whether it shall fail.
     #[tactic(auto, using(crate::proofs::Counts::counts))]
     pub(crate) fn next_fails(&mut self) -> bool
         ensures listed { result ≡ is_listed self.old }

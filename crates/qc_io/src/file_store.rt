@@ -91,7 +91,7 @@ impl FileStore {
         }
     }
 
-    /// Adds a file, in the place of one of that name.
+    /// Adds a file. It replaces one of that name.
     pub(crate) fn add(&mut self, name: &str, bytes: &[u8]) -> Result<(), Memory>
         requires { self.old.open_name ≢ Some name.now }
         ensures ok { OnOk result (self.new ≡ record self.old { entries = adding name.now bytes.now self.old.entries }) }
@@ -101,7 +101,7 @@ impl FileStore {
         Ok(())
     }
 
-    /// Opens the bytes under a name, or answers that there are none.
+    /// Opens the bytes under a name, or answers that there is no such file.
     pub(crate) fn open(&mut self, name: &str) -> bool
         ensures found { result ≡ is_some (lookup self.old.entries name.now) }
         ensures after { self.new ≡ opened_store name.now self.old }
@@ -119,7 +119,7 @@ impl FileStore {
         }
     }
 
-    /// Opens the bytes under a name, or no bytes where there are none.
+    /// Opens the bytes under a name, or no bytes if there is no such file.
     pub(crate) fn open_surely(&mut self, name: &str)
         ensures { self.new ≡ sure_store name.now self.old }
     {
@@ -134,7 +134,7 @@ impl FileStore {
         self.opened = Opened::Nothing;
     }
 
-    /// The next bytes of what is open.
+    /// The next bytes of the open file.
     pub(crate) fn read(&mut self, buf: &mut [u8]) -> usize
         requires is_open { IsSome self.old.current }
         requires room { 0 < length buf.old }

@@ -33,7 +33,7 @@ impl SureFiles {
         })
     }
 
-    /// Adds a file, in the place of one of that name.
+    /// Adds a file. It replaces one of that name.
     pub fn add(&mut self, name: &str, bytes: &[u8]) -> Result<(), Memory>
         requires { self.old.open_name ≢ Some name.now }
         ensures ok { OnOk result (self.new ≡ record self.old { entries = adding name.now bytes.now self.old.entries }) }
