@@ -10,13 +10,14 @@ use qc_schema::schema_text;
 use std::alloc::Global;
 use warehouse::Warehouse;
 
-/// The snapshot of a state: the mark `QCUBESN1`; the length of the schema's canonical text and the
-/// text; for each dimension the number of its texts, and each behind its length; the number of rows,
-/// and for each its id, a code in each dimension, which is the place of a text, and its amounts in
-/// two's complement. The length of a text is one byte, an id and an amount are eight, and all other
-/// numbers four, the highest byte first. Nothing follows.
+/// The snapshot of a state, in this order. The mark `QCUBESN1`. The length of the schema's
+/// canonical text, and the text. For each dimension the number of its texts, and each text with its
+/// length before it. The number of rows, and for each its id, a code in each dimension, and its
+/// amounts in two's complement. A code is the place of a text. The length of a text has one byte,
+/// an id and an amount have eight, and all other numbers four, the highest byte first. Nothing
+/// follows.
 ///
-/// TooLong is the answer exactly where this has more bytes than a file may have, unless memory runs
+/// TooLong is the answer exactly if this has more bytes than a file may have, unless memory runs
 /// out. Room for all bytes is taken at once, and each is written once.
 pub fn encode(alloc: Global, warehouse: &Warehouse) -> Result<Vec<u8>, EncodeRefused>
     ensures bytes { IfOk result (λ bytes. bytes.items ≡ spelling warehouse.now.state) }
