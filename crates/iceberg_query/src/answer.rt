@@ -61,7 +61,7 @@ fn in_order<T: Nodes, L: Ledger>(
     }
 }
 
-// The nodes of the classes that are asked for.
+// The nodes of the classes that pass.
 fn picked<T: Nodes, L: Ledger>(
     alloc: Global,
     tree: &T,
@@ -83,7 +83,7 @@ fn picked<T: Nodes, L: Ledger>(
     }
 }
 
-// The nodes of the classes that are asked for, from the index where it has the kind.
+// The nodes of the classes that pass, from the index if it has the kind.
 fn nodes_of<T: Nodes, L: Ledger>(
     alloc: Global,
     tree: &T,
@@ -106,11 +106,13 @@ fn nodes_of<T: Nodes, L: Ledger>(
     }
 }
 
-/// The classes whose value is at least or at most what is asked, falling or rising by value, ties in
-/// cell order by the texts, each with its lower bounds in cell order. Where the index has the kind,
-/// it reads the index up to the first entry that doesn't qualify, and of the tree nothing but the
-/// answer's classes: with n dimensions at most 32 (n + 1)^2 2^n steps for each. Else it walks down the
-/// tree, but not below a class of whose rows none can come to what is asked.
+/// The classes whose value is at least or at most the asked one, falling or rising by value, ties
+/// in cell order by the texts. Each has its lower bounds in cell order.
+///
+/// If the index has the kind, it reads the index up to the first entry that doesn't pass, and of
+/// the tree nothing but the answer's classes: with n dimensions at most 32 (n + 1)^2 2^n steps for
+/// each. Else it walks down the tree, and skips the descendants of a class if no part of its rows
+/// can pass.
 pub fn iceberg<T: Nodes, L: Ledger>(
     alloc: Global,
     tree: &T,

@@ -1,4 +1,4 @@
-// The classes of nodes, with the values that were asked for.
+// The classes of nodes, with their values.
 ghost use Rattle.std.specs.Prelude.{All, IfOk, IsSome, length, map, ◌*◌, ◌+◌, ◌^◌, ◌≡◌, ◌≤◌};
 ghost use Rattle.qc_arena.specs.Seen.{record_at};
 ghost use Rattle.tree_search.specs.Found.{IsTreeOf, IsTree, TreeRows};

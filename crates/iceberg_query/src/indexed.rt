@@ -1,4 +1,4 @@
-// The nodes of the classes that are asked for, from an index.
+// The nodes of the classes that pass, from an index.
 ghost use Rattle.std.specs.Prelude.{IfOk, IsSome, map, ◌≡◌};
 ghost use Rattle.measure_index.specs.Index.{ranking_of};
 ghost use Rattle.iceberg_query.specs.Below.{numbers};
@@ -9,7 +9,7 @@ use cell_core::NodeNo;
 use measure_index::{Index, Walk};
 use std::alloc::Global;
 
-// The classes that are asked for, in their order by value.
+// The classes that pass, in their order by value.
 fn walk_of<'a>(index: &'a Index, ask: &Ask) -> Walk<'a>
     requires { IsSome (ranking_of ask.now.kind index.now) }
     ensures { result.left ≡ asked_entries ask.now index.now }
@@ -20,8 +20,8 @@ fn walk_of<'a>(index: &'a Index, ask: &Ask) -> Walk<'a>
     }
 }
 
-/// The nodes of the classes that are asked for. Of the index it reads no more than their entries
-/// and one more.
+/// The nodes of the classes that pass. It reads no more of the index than their entries and one
+/// more.
 pub(crate) fn indexed_nodes(alloc: Global, index: &Index, ask: &Ask) -> Result<Vec<NodeNo>, Memory>
     requires { IsSome (ranking_of ask.now.kind index.now) }
     ensures { IfOk result (λ nodes. numbers nodes.items ≡ map node_of (asked_entries ask.now index.now)) }

@@ -1,4 +1,4 @@
-//! Iceberg queries: the classes whose value passes, in order of value.
+//! Iceberg queries: the classes whose aggregate passes a bound, in order of value.
 #![tactic(auto)]
 
 mod answer;

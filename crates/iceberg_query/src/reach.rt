@@ -1,4 +1,4 @@
-// Whether a class of fewer rows may be asked for.
+// Whether a class of fewer rows may pass.
 ghost use Rattle.std.specs.Ordering.{int_cmp};
 ghost use Rattle.std.specs.Prelude.{false, pos, ℕ, ◌*ℤ◌, ◌<◌, ◌≡◌, ◌≤◌};
 ghost use Rattle.cube_defs.specs.Answers as answers;
@@ -11,7 +11,7 @@ use crate::ask::passes;
 use crate::{Ask, Bound};
 use aggregates::{Agg, AggKind, value_of};
 
-// The kind that no amount's value is beyond.
+// The kind that bounds each amount: the greatest or the least.
 fn outer_kind(bound: Bound, measure: u8) -> AggKind
     ensures { result ≡ outer bound measure }
 {
@@ -46,7 +46,8 @@ fn reaches(bound: Bound, reached: i128, wanted: i128) -> bool
     }
 }
 
-// A sum of amounts is no farther than one outermost amount, or than as many as there are rows.
+// Whether a sum may pass. A sum of amounts is no farther out than one outermost amount, or than as
+// many as there are rows.
 fn may_pass_by_sum(ask: &Ask, agg: &Agg, measure: u8) -> bool
     requires there { measure < agg.now.measures }
     requires scale { ask.now.scale ≤ 6 }
@@ -65,8 +66,8 @@ fn may_pass_by_sum(ask: &Ask, agg: &Agg, measure: u8) -> bool
     reaches(ask.bound, reached, wanted)
 }
 
-/// Whether what some of the rows come to may pass, where all come to the aggregate. Where it can't,
-/// no class below is asked for.
+/// Whether the aggregate of some of the rows may pass, where that of all is given. If it can't, no
+/// more special class passes.
 pub(crate) fn may_pass(ask: &Ask, agg: &Agg) -> bool
     requires there { IsThere agg.now.measures ask.now.kind }
     requires scale { ask.now.scale ≤ 6 }
