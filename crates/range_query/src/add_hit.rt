@@ -1,4 +1,4 @@
-// The hits, of which there are at most so many.
+// The hits, which have a limit.
 ghost use Rattle.std.specs.Prelude.{Err, IsSome, OnOk, [], length, map, ◌+◌, ◌++◌, ◌<◌, ◌≡◌, ◌≤◌, ◌∷◌};
 ghost use Rattle.cube_defs.specs.Tree.{cell_at};
 ghost use Rattle.tree_search.specs.Found.{IsTreeOf, IsTree, TreeRows, closure_in};
@@ -9,7 +9,7 @@ use cell_core::{Cell, NodeNo, Steps};
 use qc_arena::Nodes;
 use std::sync::ledger::Ledger;
 
-// Puts a hit last, where there is room for one.
+// Appends a hit, if the limit allows one.
 fn push_within(hits: &mut Vec<Hit>, limit: u32, hit: Hit) -> Result<(), RangeRefused>
     requires { length hits.old.items ≤ limit }
     ensures ok { OnOk result (hits.new.items ≡ hits.old.items ++ hit ∷ []) }
@@ -25,7 +25,7 @@ fn push_within(hits: &mut Vec<Hit>, limit: u32, hit: Hit) -> Result<(), RangeRef
     }
 }
 
-// Keeps a cell with what its rows come to, as it stands at the node of its closure.
+// Appends a cell with its aggregate, at the node of its closure.
 pub(crate) fn add_hit<T: Nodes, L: Ledger>(
     tree: &T,
     limit: u32,

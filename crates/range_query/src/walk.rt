@@ -1,5 +1,5 @@
-// The walk of a tree along a box: on from a node, dimension by dimension, through the entries that the
-// box allows. It is only led on where rows are left, and reads a node's forced child once.
+// The walk of a tree along a box: from a node on, dimension by dimension, through the entries that
+// the box allows. It goes on only if rows are left, and reads a node's forced child once.
 ghost use Rattle.std.specs.FinMap as map;
 ghost use Rattle.std.specs.Option.{option_map};
 ghost use Rattle.std.specs.Ordering.{eq_by_cmp, nat_cmp};
@@ -21,7 +21,7 @@ use std::sync::ledger::Ledger;
 use tree_search::step_by;
 use value_dict::CellBox;
 
-// The forced child, where it lies in the dimension. With Any the walk else stays at its node.
+// The forced child, if it is in the dimension. Without one, the walk stays at its node for Any.
 fn child_in(forced: Option<Forced>, dim: u8) -> Option<NodeNo>
     ensures child { IfSome result (λ child. (k : ℕ) (n : Node ℕ ℕ) → by_forced (eq_by_cmp nat_cmp) k n dim None (option_map edge_of forced) ≡ Some child.0) }
     ensures stays { IfNone result ((k : ℕ) (n : Node ℕ ℕ) → by_forced (eq_by_cmp nat_cmp) k n dim None (option_map edge_of forced) ≡ Some k) }
@@ -65,7 +65,7 @@ pub(crate) fn visit<T: Nodes, L: Ledger>(
     go_on(tree, cells, limit, node, forced, dim, cell, hits, steps)
 }
 
-// Goes on in the box from a dimension, at a node whose forced child was read.
+// Continues in the box from a dimension, at a node whose forced child was read.
 #[cycle(walking)]
 fn go_on<T: Nodes, L: Ledger>(
     tree: &T,
