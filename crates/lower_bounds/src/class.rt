@@ -14,12 +14,12 @@ use std::alloc::Global;
 use std::sync::ledger::Ledger;
 use tree_search::{find, upper_into};
 
-/// A class of the rows, by codes.
+/// A class of the rows, in codes.
 #[derive(Drop)]
 pub struct Class {
     /// Its upper bound.
     pub upper: Cell,
-    /// What its rows come to.
+    /// Its aggregate.
     pub total: Agg,
     /// Its lower bounds, in cell order.
     pub lowers: Cells,
@@ -27,8 +27,8 @@ pub struct Class {
 
 ghost use Rattle.lower_bounds.specs.Classes.{hit_in};
 
-/// The class that the cell's closure names. None where the cell covers no row. With n dimensions it
-/// takes at most 7 (n + 1) 2^n steps.
+/// The class of the cell's closure. None if the cell covers no row. With n dimensions it takes at
+/// most 7 (n + 1) 2^n steps.
 pub fn find_class<T: Nodes, L: Ledger>(
     alloc: Global,
     tree: &T,

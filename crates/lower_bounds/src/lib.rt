@@ -1,5 +1,5 @@
-//! The lower bounds of a class: the least cells whose closure is the class, found by searches in a
-//! tree of nodes.
+//! The lower bounds of a class: the most general cells whose closure is the class (Lakshmanan, Pei,
+//! Han, VLDB 2002). They are found by searches in the tree.
 #![tactic(auto)]
 
 mod bounds;
