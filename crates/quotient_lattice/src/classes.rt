@@ -1,4 +1,4 @@
-// The classes of nodes, as they are told.
+// The classes of nodes, as they are reported.
 ghost use Rattle.std.specs.Ordering.{nat_cmp};
 ghost use Rattle.std.specs.Prelude.{All, IfOk, IsSome, length, map, ◌≡◌};
 ghost use Rattle.lower_bounds.specs.Classes.{hit_in};

@@ -29,7 +29,7 @@ use std::sync::ledger::Ledger;
 use tree_search::upper_into;
 use value_dict::Dict;
 
-// Whether a number stands for the last time in a list in order.
+// Whether this is the last place of a number in a sorted list.
 fn is_last(led: &Vec<u32>, i: usize) -> bool
     requires { i < length led.now.items }
     ensures { result ≡ places.is_last led.now.items i }
@@ -37,7 +37,7 @@ fn is_last(led: &Vec<u32>, i: usize) -> bool
     i + 1 >= led.len() || led[i + 1] != led[i]
 }
 
-// Puts a node last, with its cell, where it has just so many values more.
+// Appends a node with its cell, if the cell has exactly so many values more.
 fn push_child<T: Nodes, L: Ledger>(
     tree: &T,
     node: NodeNo,
@@ -65,8 +65,8 @@ fn push_child<T: Nodes, L: Ledger>(
     Ok(())
 }
 
-// Of the numbers in order, each stands as often as values lead to its class: the classes that have just
-// these values more than u, which has `values`.
+// The children among sorted numbers. Each number stands as often as values lead to its class. A
+// child is a class that has exactly these values more than u, which has `values`.
 fn picked<T: Nodes, L: Ledger>(
     alloc: Global,
     tree: &T,
@@ -107,7 +107,7 @@ fn picked<T: Nodes, L: Ledger>(
     Ok(found)
 }
 
-/// All children of a class, in no order that is told.
+/// All children of a class, in no given order.
 pub(crate) fn found_children<T: Nodes, L: Ledger>(
     alloc: Global,
     tree: &T,

@@ -16,7 +16,7 @@ use qc_arena::Nodes;
 use std::sync::ledger::Ledger;
 use tree_search::find;
 
-// Of numbers with d bits: whether each with one bit more is marked.
+// Whether each number with one bit more than m is marked, among the numbers of d bits.
 fn most(marks: &Marks, d: u32, m: u32) -> bool
     requires few { d ≤ MAX_DIMS }
     requires number { m < 2 ^ d }
@@ -46,7 +46,7 @@ fn node_of<T: Nodes, L: Ledger>(tree: &T, cell: &Cell, steps: &mut Steps<L>) -> 
     }
 }
 
-// The node of the number's cell, where that is a parent of u. All numbers are marked whose cells have
+// The node of the number's cell, if that is a parent of u. All numbers are marked whose cells have
 // the closure u.
 pub(crate) fn joined_at<T: Nodes, L: Ledger>(
     tree: &T,

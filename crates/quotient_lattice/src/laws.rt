@@ -9,15 +9,16 @@ ghost use Rattle.tree_laws.specs.Labels.{IsWithin, target_of_label};
 ghost use Rattle.quotient_lattice.specs.LeadsHome.{LeadsHome};
 ghost use Rattle.quotient_lattice.specs.Neighbours.{is_parent};
 
-/// A class above u is a child of u just where each value that it has and u has not leads from u to it.
+/// A class that u generalizes is a child of u exactly if each value that it has and u hasn't leads
+/// from u to it.
 pub fn children_by_their_new_values()
     ensures { (dims : ℕ) (rows : List (Row ℕ)) (u d : Cell ℕ) → AllByRecursion (λ row. length row.tuple ≡ dims) rows →
         closure (eq_by_cmp nat_cmp) rows u ≡ Some u → closure (eq_by_cmp nat_cmp) rows d ≡ Some d →
         leq (eq_by_cmp nat_cmp) u d ≡ true → u ≢ d → (is_parent nat_cmp rows u d ≡ true) ↔ LeadsHome rows u d }
 {}
 
-/// Where a class with a value more covers a row, the class's front before that dimension has a label
-/// with that value.
+/// If a class with one value more covers a row, the class's prefix before that dimension has a
+/// label with that value.
 pub fn label_of_a_value_more()
     ensures { (rows : List (Row ℕ)) (u w x : Cell ℕ) (i v : ℕ) → closure (eq_by_cmp nat_cmp) rows u ≡ Some u →
         slice_get u i ≡ Some None → closure (eq_by_cmp nat_cmp) rows (with_value u i v) ≡ Some w →

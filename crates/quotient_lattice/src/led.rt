@@ -1,4 +1,4 @@
-// The classes to which the values lead that a class has not.
+// The classes to which the values lead that a class hasn't.
 ghost use Rattle.std.specs.FinMap as map;
 ghost use Rattle.std.specs.Prelude.{IfOk, IsSome, None, OnOk, Some, cond, length, slice_get, true, ℕ, ◌*◌, ◌+◌, ◌≡◌, ◌≤◌};
 ghost use Rattle.cell_core.specs.Entry.{IsCode};
@@ -16,7 +16,7 @@ use std::alloc::Global;
 use std::sync::ledger::Ledger;
 use tree_search::find;
 
-// Puts last the number of the class to which a value more leads from u, where it leads to one.
+// Appends the number of the class to which one value more leads from u, if it leads to one.
 fn push_led<T: Nodes, L: Ledger>(
     tree: &T,
     u: &mut Cell,
@@ -46,8 +46,8 @@ fn push_led<T: Nodes, L: Ledger>(
     Ok(())
 }
 
-// Puts last the numbers of the classes to which the labels of a node on the way to u lead: those before
-// a dimension, behind which the values are done.
+// Appends the numbers of the classes to which the labels of a node on the way to u lead: those
+// before a dimension; the later ones are done.
 fn push_labels<T: Nodes, L: Ledger>(
     tree: &T,
     u: &mut Cell,
@@ -85,7 +85,7 @@ fn push_labels<T: Nodes, L: Ledger>(
     Ok(())
 }
 
-/// The numbers of the classes to which the values lead that a class has not, a number for each value.
+/// The numbers of the classes to which the values lead that a class hasn't, one for each value.
 /// Each value has its label at a node on the way to the class.
 pub(crate) fn led_from<T: Nodes, L: Ledger>(
     alloc: Global,

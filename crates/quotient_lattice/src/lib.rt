@@ -1,5 +1,6 @@
-//! The quotient lattice: the classes just above a class, just below it, and the most general ones from it on that are asked for.
-//! They are found by searches in a tree of nodes.
+//! The quotient lattice (Lakshmanan, Pei, Han, VLDB 2002): the parents and the children of a class,
+//! and the most general classes that pass a bound, from a class on. They are found by searches in
+//! the tree.
 #![tactic(auto)]
 
 mod classes;

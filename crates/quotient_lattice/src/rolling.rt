@@ -1,4 +1,4 @@
-// How far up a class can be rolled: the most general classes from it on that are asked for.
+// Roll-ups: the most general classes that pass, from a class on.
 ghost use Rattle.std.specs.FinMap as map;
 ghost use Rattle.std.specs.List.{IsDistinct};
 ghost use Rattle.std.specs.Prelude.{All, IfOk, IsSome, OnOk, [], filter, length, map as mapped, nat_eq, ℕ, ◌≡◌, ◌≤◌, ◌↔◌, ◌∷◌, ◌++◌, true};
@@ -30,7 +30,7 @@ use std::sync::ledger::Ledger;
 use tree_search::upper_into;
 use value_dict::Dict;
 
-// Whether the class of a node is asked for.
+// Whether the class of a node passes.
 fn wants<T: Nodes, L: Ledger>(tree: &T, ask: &Ask, node: NodeNo, steps: &mut Steps<L>) -> bool
     requires class { IsSome (record_at (T.tree tree.now) node.0).class }
     requires measure { HasMeasure (T.width tree.now) (T.tree tree.now) ask.now.kind }
@@ -41,7 +41,7 @@ fn wants<T: Nodes, L: Ledger>(tree: &T, ask: &Ask, node: NodeNo, steps: &mut Ste
     passes(ask, &total)
 }
 
-// Puts numbers in that are not there yet.
+// Inserts the numbers that are not there yet.
 fn insert_each(seen: &mut IndexSet<u32>, found: &Vec<Placed>) -> Result<(), Memory>
     ensures { OnOk result (seen.new.keys ≡ insert_all nat_eq seen.old.keys (mapped number_of found.now.items)) }
 {
@@ -51,7 +51,7 @@ fn insert_each(seen: &mut IndexSet<u32>, found: &Vec<Placed>) -> Result<(), Memo
     Ok(())
 }
 
-// Puts a node last, with its cell.
+// Appends a node with its cell.
 fn push_placed<T: Nodes, L: Ledger>(
     alloc: Global,
     tree: &T,
@@ -70,7 +70,7 @@ fn push_placed<T: Nodes, L: Ledger>(
     Ok(())
 }
 
-// Takes a class that is asked for; of another it sees the children.
+// Takes a class that passes; of another it looks at the children.
 fn visit<T: Nodes, L: Ledger>(
     alloc: Global,
     tree: &T,
@@ -98,8 +98,8 @@ fn visit<T: Nodes, L: Ledger>(
     }
 }
 
-// From a class on: all classes that are asked for and are met on the way through the children of those
-// that aren't, each visited once.
+// From a class on: all classes that pass and are met through the children of those that don't. Each
+// class is visited once.
 fn met_from<T: Nodes, L: Ledger>(
     alloc: Global,
     tree: &T,
@@ -131,7 +131,7 @@ fn met_from<T: Nodes, L: Ledger>(
     Ok(met)
 }
 
-// Whether none of some nodes is another below one.
+// Whether no other of some nodes generalizes this one.
 fn is_lowest(met: &Vec<Placed>, x: &Placed) -> bool
     requires { All (λ y. length y.cell ≡ length x.now.cell) met.now.items }
     ensures { result ≡ visits.is_lowest met.now.items x.now }
@@ -145,7 +145,7 @@ fn is_lowest(met: &Vec<Placed>, x: &Placed) -> bool
     true
 }
 
-// Of some nodes those that have no other below.
+// The nodes that no other of them generalizes.
 fn lowest(alloc: Global, met: &Vec<Placed>) -> Result<Vec<Placed>, Memory>
     requires { All (λ x. All (λ y. length y.cell ≡ length x.cell) met.now.items) met.now.items }
     ensures { IfOk result (λ kept. kept.items ≡ filter (visits.is_lowest met.now.items) met.now.items) }
@@ -163,8 +163,9 @@ fn lowest(alloc: Global, met: &Vec<Placed>) -> Result<Vec<Placed>, Memory>
     Ok(kept)
 }
 
-/// The nodes of the most general classes that are asked for, of a class and those above it, in cell order
-/// by the texts of the dictionary. It goes through the children, but not past a class that is asked for.
+/// The nodes of the most general classes that pass, of those that a class generalizes, itself
+/// included, in cell order by the texts of the dictionary. It goes through the children, but not
+/// past a class that passes.
 pub fn rollup<T: Nodes, L: Ledger>(
     alloc: Global,
     tree: &T,

@@ -28,9 +28,9 @@ use std::sync::ledger::Ledger;
 use tree_search::upper_into;
 use value_dict::Dict;
 
-/// The nodes of all parents of a class, in cell order by the texts of the dictionary. It isn't read: cells
-/// below one cell stand in the same order by their codes. With n dimensions and d values of the class it
-/// takes at most 16 (n + 1) 2^d steps.
+/// The nodes of all parents of a class, in cell order by the texts of the dictionary. The
+/// dictionary isn't read: cells that generalize one cell stand in the same order by their codes.
+/// With n dimensions and d values of the class it takes at most 16 (n + 1) 2^d steps.
 pub fn parents<T: Nodes, L: Ledger>(
     alloc: Global,
     tree: &T,
@@ -110,7 +110,7 @@ fn mark_all<T: Nodes, L: Ledger>(
     }
 }
 
-// The nodes of the numbers that join u.
+// The nodes of the numbers that are parents of u.
 fn joined<T: Nodes, L: Ledger>(
     alloc: Global,
     tree: &T,
@@ -143,7 +143,7 @@ fn joined<T: Nodes, L: Ledger>(
     Ok(nodes)
 }
 
-// Puts a node last, where there is one.
+// Appends a node, if there is one.
 fn push_some(nodes: &mut Vec<NodeNo>, node: Option<NodeNo>) -> Result<(), Memory>
     ensures { OnOk result (nodes.new.items ≡ nodes.old.items ++ as_list nat_cmp node) }
 {
