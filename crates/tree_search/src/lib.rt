@@ -1,5 +1,5 @@
-//! Searches in a tree of nodes: the node of a cell's closure, a node's cell, and what the rows come
-//! to that a cell covers. No call takes memory.
+//! Searches in a tree: the node of a cell's closure, a node's cell, and a cell's aggregate. This is
+//! the point query of QC-trees (Lakshmanan, Pei, Zhao, SIGMOD 2003). No call takes memory.
 #![tactic(auto)]
 
 mod climb;
