@@ -65,7 +65,7 @@ fn codes_between(
     Ok(codes)
 }
 
-// Puts the code of a text last, where the text is there.
+// Appends the code of a text, if the text is known.
 fn push_code(dict: &Dict, dim: u8, text: &str, codes: &mut Vec<Code>) -> Result<(), Memory>
     requires { dim < length dict.now.lists }
     ensures value { OnOk result (map (text_in dict.now.lists dim) codes.new.items
@@ -81,7 +81,7 @@ fn push_code(dict: &Dict, dim: u8, text: &str, codes: &mut Vec<Code>) -> Result<
     }
 }
 
-// The code of a text, where it is there.
+// The code of a text, if it is known.
 fn code_of(dict: &Dict, alloc: Global, dim: u8, text: &Text) -> Result<Vec<Code>, Memory>
     requires { dim < length dict.now.lists }
     ensures value { IfOk result (λ codes. map (text_in dict.now.lists dim) codes.items ≡ filter (has_text dict.now.lists dim) (text.now ∷ [])) }
@@ -92,7 +92,7 @@ fn code_of(dict: &Dict, alloc: Global, dim: u8, text: &Text) -> Result<Vec<Code>
     Ok(codes)
 }
 
-// The codes of those of the texts that are there, in the order of the texts.
+// The codes of the known ones among the texts, in the order of the texts.
 fn codes_of(dict: &Dict, alloc: Global, dim: u8, texts: &Texts) -> Result<Vec<Code>, Memory>
     requires { dim < length dict.now.lists }
     ensures value { IfOk result (λ codes. map (text_in dict.now.lists dim) codes.items ≡ filter (has_text dict.now.lists dim) texts.now) }
@@ -146,7 +146,7 @@ impl Dict {
         }
     }
 
-    /// The box that the fields ask for. Texts that are not there are left out: they cover nothing.
+    /// The box that the fields ask for. Unknown texts are left out: they cover nothing.
     pub fn box_of(&self, alloc: Global, fields: &Fields) -> Result<CellBox, Memory>
         requires { length fields.now ≡ length self.now.lists }
         ensures value { IfOk result (λ cells. told_box self.now.lists cells

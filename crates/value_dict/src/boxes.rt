@@ -1,4 +1,4 @@
-// Boxes: what is allowed in each dimension.
+// Boxes: the entries that are allowed in each dimension.
 ghost use Rattle.std.specs.Prelude.{All, IfNone, IfSome, None, OnErr, OnOk, Some, [], length, slice_index_or, ◌++◌, ◌<◌, ◌≡◌, ◌≤◌, ◌∷◌};
 ghost use Rattle.cell_core.specs.Entry.{IsCode};
 
@@ -8,8 +8,8 @@ use cube_defs::MAX_DIMS;
 use std::alloc::Global;
 use std::marker::Model;
 
-/// For each of at most 16 dimensions Any alone, or a list of codes: the cells that have in each
-/// dimension what the box allows there.
+/// Allows in each of at most 16 dimensions Any alone, or a list of codes. Its cells have in each
+/// dimension an entry that the box allows there.
 #[derive(Drop)]
 pub struct CellBox {
     choices: Vec<Option<Vec<Code>>>,
@@ -27,7 +27,7 @@ impl Model for CellBox {
 }
 
 impl CellBox {
-    /// The box of no dimensions, made without memory.
+    /// The box of no dimensions. Takes no memory.
     pub fn new(alloc: Global) -> CellBox
         ensures { result ≡ [] }
     {
@@ -36,7 +36,7 @@ impl CellBox {
         }
     }
 
-    /// One dimension more, in which Any alone is allowed, or these codes. A refusal drops them.
+    /// Adds a dimension in which Any alone is allowed, or these codes. A refusal drops them.
     pub fn push(&mut self, choice: Option<Vec<Code>>) -> Result<(), Memory>
         requires few { length self.old < MAX_DIMS }
         requires small { IfSome choice (λ codes. All IsCode codes.items) }
@@ -48,7 +48,7 @@ impl CellBox {
         Ok(())
     }
 
-    /// How many dimensions there are.
+    /// The number of dimensions.
     pub fn dims(&self) -> u8
         ensures value { result ≡ length self.now }
         ensures few { length self.now ≤ MAX_DIMS }
@@ -56,7 +56,7 @@ impl CellBox {
         self.choices.len() as u8
     }
 
-    /// The codes that are allowed in a dimension, counted from 0. None where it is Any alone.
+    /// The codes that are allowed in a dimension, counted from 0. None for Any alone.
     pub fn codes(&self, dim: u8) -> Option<&[Code]>
         requires { dim < length self.now }
         ensures any { IfNone result (slice_index_or self.now dim None ≡ None) }

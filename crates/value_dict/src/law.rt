@@ -1,9 +1,9 @@
-// What holds of the calls on a dictionary, one after another.
+// A law of the calls on a dictionary, one after another.
 ghost use Rattle.std.specs.Prelude.{◌≡◌};
 ghost use Rattle.cube_defs.specs.Text.{Text};
 ghost use Rattle.value_dict.specs.TextLists.{TextLists, with_dim, without_last_dim};
 
-/// Where a dimension is added and the last one goes, all is as it was.
+/// If a dimension is added and the last one dropped, all is as it was.
 pub fn a_dimension_that_came_goes()
     ensures { (d : TextLists) (text : Text) → without_last_dim (with_dim d text) ≡ d }
 {}

@@ -32,7 +32,8 @@ pub enum Learn {
 }
 
 /// For each of 1 to 16 dimensions a list of distinct texts, at most `max` each. A text's code is
-/// its place, counted from 0. Texts are found by their hash, whose seed is fixed.
+/// its place, counted from 0. Texts are found by their hash, whose seed is fixed: texts that are
+/// chosen to collide make it slow.
 #[derive(Drop)]
 pub struct Dict {
     lists: Vec<IndexSet<String>>,
@@ -67,7 +68,7 @@ impl Dict {
         Ok(Dict { lists, max })
     }
 
-    /// How many dimensions there are.
+    /// The number of dimensions.
     pub fn dims(&self) -> u8
         ensures value { result ≡ length self.now.lists }
         ensures dictionary { IsDictionary self.now }
@@ -75,7 +76,7 @@ impl Dict {
         self.lists.len() as u8
     }
 
-    /// How many texts the dimension has.
+    /// The number of texts of the dimension.
     pub fn len(&self, dim: u8) -> u32
         requires { dim < length self.now.lists }
         ensures value { result ≡ length (list_at self.now dim) }
@@ -84,7 +85,7 @@ impl Dict {
         self.lists[dim as usize].len() as u32
     }
 
-    /// The code of a text, where it is there.
+    /// The code of a text, if it is known.
     pub fn code(&self, dim: u8, text: &str) -> Option<Code>
         requires { dim < length self.now.lists }
         ensures value { result ≡ code_in (list_at self.now dim) text.now }
@@ -106,7 +107,7 @@ impl Dict {
         texts[code as usize].as_str()
     }
 
-    /// The code of a known text, or the text put last.
+    /// The code of a text. An unknown text is added as the last.
     pub fn learn(&mut self, dim: u8, text: &str) -> Result<Code, Learn>
         requires { dim < length self.old.lists }
         ensures code { IfOk result (λ code. code_in (list_at self.new dim) text.now ≡ Some code) }
@@ -122,7 +123,7 @@ impl Dict {
         sets::learn(&mut self.lists[dim as usize], max, text)
     }
 
-    /// Cuts each list to its first so many texts. It takes no memory.
+    /// Cuts each list to its first so many texts. Takes no memory.
     pub fn cut_back(&mut self, lens: &[u32])
         requires { length lens.now ≡ length self.old.lists }
         ensures lists { self.new.lists ≡ cut self.old.lists lens.now }
@@ -133,7 +134,7 @@ impl Dict {
         sets::cut_back(&mut self.lists, lens);
     }
 
-    /// One more dimension behind the others, whose list is this text.
+    /// Adds a last dimension, whose list is this text.
     pub fn add_dim(&mut self, text: &str) -> Result<(), Memory>
         requires few { length self.old.lists < MAX_DIMS }
         ensures ok { OnOk result (self.new ≡ with_dim self.old text.now) }
@@ -145,7 +146,7 @@ impl Dict {
         Ok(())
     }
 
-    /// The last dimension goes, with its texts. It takes no memory.
+    /// Drops the last dimension, with its texts. Takes no memory.
     pub fn drop_dim(&mut self)
         requires some { 1 < length self.old.lists }
         ensures value { self.new ≡ without_last_dim self.old }
@@ -154,7 +155,7 @@ impl Dict {
         self.lists.pop();
     }
 
-    // The entry that a field asks for, where it asks for Any or for one text that is there.
+    // The entry that a field asks for, if it asks for Any or for one known text.
     fn entry_of(&self, dim: u8, field: &Field) -> Option<Entry>
         requires { dim < length self.now.lists }
         ensures value { option_map value_in result ≡ entry_in (list_at self.now dim) field.now }
@@ -170,8 +171,8 @@ impl Dict {
         }
     }
 
-    /// The cell that the fields ask for, each of them Any or one text. None where a text isn't
-    /// there, or a field asks for more than one value.
+    /// The cell that the fields ask for, each of them Any or one text. None if a text is unknown,
+    /// or a field asks for more than one value.
     pub fn cell_of(&self, fields: &Fields) -> Option<Cell>
         requires { length fields.now ≡ length self.now.lists }
         ensures { result ≡ cell_in self.now.lists fields.now }

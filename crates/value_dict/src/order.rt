@@ -11,7 +11,7 @@ use crate::Dict;
 use cell_core::{Cell, Code, Entry};
 use std::cmp::Ordering;
 
-// The text of a code, and no bytes where the code is not there.
+// The text of a code, or no bytes if there is no such code.
 fn text_or_none(dict: &Dict, dim: u8, code: Code) -> &str
     ensures { result.now ≡ text_in dict.now.lists dim code }
 {
@@ -34,7 +34,7 @@ fn entry_cmp(dict: &Dict, dim: u8, a: Entry, b: Entry) -> Ordering
 
 impl Dict {
     /// The order of two codes by the bytes of their texts. A code that is not there counts as the
-    /// text without bytes.
+    /// text of no bytes.
     pub fn rank_cmp(&self, dim: u8, a: Code, b: Code) -> Ordering
         ensures { result ≡ text_cmp (text_in self.now.lists dim a) (text_in self.now.lists dim b) }
     {
