@@ -9,7 +9,8 @@ use std::alloc::{AllocError, Global};
 use std::hash::Hash;
 use std::marker::Model;
 
-/// A list of keys. Each key's last place is found in one step, and from a place the one before of the same key.
+/// A list of keys. The last place of a key is found in one step, and from a place the one before of
+/// the same key.
 #[derive(Drop)]
 pub struct Chains<K: Eq + Hash> {
     heads: IndexMap<K, u32>,
@@ -28,7 +29,7 @@ impl<K: Eq + Hash> Model for Chains<K> {
     ghost invariant = { λ c. AreChains K.eq c.heads c.keys.items c.before.items };
 }
 
-// Writes the last place of a key that has one, or takes the key out.
+// Writes the last place of a key that has one, or removes the key.
 fn set_head<K: Eq + Hash + Drop>(heads: &mut IndexMap<K, u32>, key: &K, head: u32)
     requires { 0 < unwrap_or (get K.eq heads.old key.now) 0 }
     ensures { (w : Option ℕ) × UpdatesBy K.eq (K.eq key.now) heads.old heads.new w × (unwrap_or w 0 ≡ head) }
@@ -53,7 +54,7 @@ fn blank<K: Eq + Hash>(heads: &mut IndexMap<K, u32>)
     }
 }
 
-// Writes the last place of a key that the map has, and gives the one that stood there.
+// Writes the last place of a key that the map has, and returns the old one.
 fn put_head<K: Eq + Hash>(heads: &mut IndexMap<K, u32>, key: &K, head: u32) -> u32
     requires { is_some (get K.eq heads.old key.now) ≡ true }
     ensures was { result ≡ unwrap_or (get K.eq heads.old key.now) 0 }
@@ -78,7 +79,7 @@ fn make_room<K>(keys: &mut Vec<K>, before: &mut Vec<u32>) -> Result<(), AllocErr
     before.reserve(1)
 }
 
-// Writes the last place of a key, which comes in where the map has no such key.
+// Writes the last place of a key, which is inserted if the map has no such key.
 fn write_head<K: Eq + Hash + Copy + Drop>(
     heads: &mut IndexMap<K, u32>,
     key: K,
@@ -93,7 +94,7 @@ fn write_head<K: Eq + Hash + Copy + Drop>(
     }
 }
 
-// Moves the kept keys to the front, and writes their places anew.
+// Moves the kept keys to the beginning, and rewrites their places.
 fn repack<K: Eq + Hash + Copy + Drop>(
     heads: &mut IndexMap<K, u32>,
     keys: &mut [K],
@@ -123,7 +124,7 @@ fn repack<K: Eq + Hash + Copy + Drop>(
     len
 }
 
-// Takes out the keys that have no place.
+// Removes the keys that have no place.
 fn sweep<K: Eq + Hash + Drop>(heads: &mut IndexMap<K, u32>)
     ensures { (k : K) → unwrap_or (get K.eq heads.new k) 0 ≡ unwrap_or (get K.eq heads.old k) 0 }
 {
@@ -134,7 +135,7 @@ fn sweep<K: Eq + Hash + Drop>(heads: &mut IndexMap<K, u32>)
     }
 }
 
-// Takes out the key at the index where it has no place.
+// Removes the key at the index if it has no place.
 fn drop_blank<K: Eq + Hash + Drop>(heads: &mut IndexMap<K, u32>, index: usize)
     ensures { (k : K) → unwrap_or (get K.eq heads.new k) 0 ≡ unwrap_or (get K.eq heads.old k) 0 }
 {
@@ -145,7 +146,7 @@ fn drop_blank<K: Eq + Hash + Drop>(heads: &mut IndexMap<K, u32>, index: usize)
     }
 }
 
-// Takes keys away down to a length. It takes no memory.
+// Removes keys down to a length. Takes no memory.
 pub(crate) fn cut<K: Eq + Hash + Copy + Drop>(chains: &mut Chains<K>, len: u32)
     requires { len ≤ length chains.old }
     ensures { chains.new ≡ take len chains.old }
@@ -167,7 +168,7 @@ impl<K: Eq + Hash + Copy + Drop> Chains<K> {
         }
     }
 
-    /// How many keys there are.
+    /// The number of keys.
     pub fn len(&self) -> u32
         ensures { result ≡ length self.now }
     {
@@ -189,7 +190,7 @@ impl<K: Eq + Hash + Copy + Drop> Chains<K> {
         self.heads.get(key).copied().unwrap_or(0)
     }
 
-    /// One more than the last place of the same key below the place, or 0.
+    /// One more than the last place of the same key before the place, or 0.
     pub fn before(&self, place: u32) -> u32
         requires { place < length self.now }
         ensures { (d : K) → result ≡ last_of (K.eq (slice_index_or self.now place d)) (take place self.now) }
@@ -197,7 +198,7 @@ impl<K: Eq + Hash + Copy + Drop> Chains<K> {
         self.before[place as usize]
     }
 
-    /// Puts a key last.
+    /// Appends a key.
     pub fn push(&mut self, key: K) -> Result<(), AllocError>
         requires { length self.old + 1 < 2 ^ 32 }
         ensures ok { OnOk result (self.new ≡ self.old ++ key ∷ []) }
@@ -212,7 +213,7 @@ impl<K: Eq + Hash + Copy + Drop> Chains<K> {
         Ok(())
     }
 
-    /// Takes the last key away. It takes no memory.
+    /// Removes the last key. Takes no memory.
     pub fn pop(&mut self)
         requires { 0 < length self.old }
         ensures { self.new ≡ take (length self.old - 1) self.old }
@@ -222,7 +223,7 @@ impl<K: Eq + Hash + Copy + Drop> Chains<K> {
         set_head(&mut self.heads, &key, head);
     }
 
-    /// Keeps the marked places alone, in order. It takes no memory.
+    /// Keeps the marked places alone, in order. Takes no memory.
     pub fn retain_marked(&mut self, kept: &[bool])
         requires { length kept.now ≡ length self.old }
         ensures { self.new ≡ picked kept.now self.old }

@@ -1,4 +1,4 @@
-// What the rows of one tuple come to.
+// The aggregate of the rows of one tuple.
 ghost use Rattle.std.specs.Prelude.{All, IfSome, None, Some, false, length, nat_abs, nat_eq, slice_index_or, true, ℕ, ◌<◌, ◌≡◌, ◌≤◌};
 ghost use Rattle.std.specs.Option.{option_map};
 ghost use Rattle.aggregates.specs.Bounds.{largest_amount};
@@ -16,7 +16,7 @@ use aggregates::Agg;
 use cell_core::Cell;
 use cube_defs::{MAX_MEASURES, MAX_ROWS};
 
-// One row more.
+// The aggregate with one more row.
 fn with_row(sum: Option<Agg>, amounts: &[i64]) -> Agg
     requires four { length amounts.now ≤ MAX_MEASURES }
     requires measures { IfSome sum (λ agg. agg.measures ≡ length amounts.now) }
@@ -35,7 +35,7 @@ fn with_row(sum: Option<Agg>, amounts: &[i64]) -> Agg
     }
 }
 
-// The row at a place more, where it is here and has the tuple.
+// The aggregate with the row at a place, if it is present and has the tuple.
 fn with_place(
     store: &Store,
     here: &Vec<bool>,
@@ -58,8 +58,8 @@ fn with_place(
     Some(with_row(sum, store.amounts(place)))
 }
 
-// What the rows here that have just this tuple come to. Only rows that share the tuple's number are
-// read.
+// The aggregate of the present rows that have exactly this tuple. Only rows that share the tuple's
+// fingerprint are read.
 pub(crate) fn group_in(store: &Store, here: &Vec<bool>, tuple: &Cell) -> Option<Agg>
     requires places { length store.now.rows ≡ length here.now.items }
     requires few { length (picked here.now.items store.now.rows) ≤ MAX_ROWS }

@@ -1,4 +1,5 @@
-//! Rows under their ids, in the order in which they came; a batch of changes can be taken back.
+//! Rows under their ids, in the order in which they were inserted. A batch of changes can be taken
+//! back.
 #![tactic(auto)]
 
 mod chains;

@@ -20,7 +20,7 @@ pub(crate) fn line<T: Copy>(cells: &Vec<T>, place: u32, width: u8) -> &[T]
     &cells.as_slice()[from..from + width]
 }
 
-// Keeps the lists whose mark is set, in order. It takes no memory.
+// Keeps the lists whose mark is set, in order. Takes no memory.
 pub(crate) fn retain_lines<T: Copy + Drop>(cells: &mut Vec<T>, width: usize, kept: &[bool])
     requires { length cells.old.items ≡ length kept.now * width }
     ensures items { cells.new.items ≡ picked_lines width kept.now cells.old.items }
@@ -48,7 +48,7 @@ fn code_or_any(entry: Entry) -> u32
     }
 }
 
-// Puts the codes of a tuple last, for which there is room.
+// Appends the codes of a tuple, for which there is room.
 pub(crate) fn push_codes(codes: &mut Vec<u32>, tuple: &Cell)
     requires room { vec_len codes.old + length tuple.now ≤ vec_capacity codes.old }
     requires no_any { All (λ entry. is_some entry ≡ true) tuple.now }
@@ -62,7 +62,7 @@ pub(crate) fn push_codes(codes: &mut Vec<u32>, tuple: &Cell)
     }
 }
 
-// Puts amounts last, for which there is room.
+// Appends amounts, for which there is room.
 pub(crate) fn push_amounts(amounts: &mut Vec<i64>, more: &[i64])
     requires { vec_len amounts.old + length more.now ≤ vec_capacity amounts.old }
     ensures { amounts.new.items ≡ amounts.old.items ++ more.now }
@@ -70,7 +70,7 @@ pub(crate) fn push_amounts(amounts: &mut Vec<i64>, more: &[i64])
     amounts.extend_from_slice(more).unwrap();
 }
 
-// Puts the element behind each of so many lists, for which there is room.
+// Puts the element after each of so many lists, for which there is room.
 pub(crate) fn lengthen(cells: &mut Vec<u32>, width: usize, lines: usize, last: u32)
     requires lines { length cells.old.items ≡ lines * width }
     requires few { width ≤ MAX_DIMS }

@@ -1,4 +1,4 @@
-// Work on the marks that say which rows are here.
+// Work on the marks that say which rows are present.
 ghost use Rattle.std.specs.Prelude.{All, IfNone, IfOk, IfSome, None, Some, [], filter, if◌then◌else◌, length, map, nat_lt, slice_index_or, vec_capacity, vec_len, ◌*◌, ◌++◌, ◌<◌, ◌^◌, ◌∷◌, ◌≡◌, ◌≤◌, false};
 ghost use Rattle.std.specs.List.{range_with_len};
 ghost use Rattle.base_table.specs.Last.{picked};
@@ -11,7 +11,7 @@ use crate::table::RowNo;
 use cube_defs::MAX_MEASURES;
 use std::alloc::Global;
 
-// The place of the row that is here under the id.
+// The place of the present row with the id.
 pub(crate) fn find(store: &Store, here: &Vec<bool>, id: u64) -> Option<u32>
     requires last { AreLast here.now.items store.now.rows }
     requires places { length store.now.rows ≡ length here.now.items }
@@ -30,7 +30,7 @@ pub(crate) fn find(store: &Store, here: &Vec<bool>, id: u64) -> Option<u32>
     }
 }
 
-// Four amounts, those behind the given ones zero.
+// Four amounts: the given ones, and then zeros.
 pub(crate) fn padded(amounts: &[i64]) -> [i64; 4]
     requires { length amounts.now ≤ MAX_MEASURES }
     ensures { result ≡ padded amounts.now }
@@ -53,7 +53,7 @@ pub(crate) fn restore(here: &mut Vec<bool>, touched: &Vec<u32>)
     }
 }
 
-// Notes the place of a row that goes, where it was there when the batch began.
+// Notes the place of a deleted row, if it was there when the batch began.
 pub(crate) fn note(touched: &mut Vec<u32>, place: u32, begun: u32)
     requires { vec_len touched.old < vec_capacity touched.old }
     ensures items { touched.new.items ≡ (if nat_lt place begun then touched.old.items ++ place ∷ [] else touched.old.items) }
@@ -64,7 +64,7 @@ pub(crate) fn note(touched: &mut Vec<u32>, place: u32, begun: u32)
     }
 }
 
-// Takes the empty places away.
+// Removes the empty places.
 fn compact(store: &mut Store, here: &mut Vec<bool>)
     requires { length store.old.rows ≡ length here.old.items }
     ensures store { store.new ≡ record store.old { rows = picked here.old.items store.old.rows } }
@@ -74,7 +74,7 @@ fn compact(store: &mut Store, here: &mut Vec<bool>)
     here.retain(|mark| *mark);
 }
 
-// Takes the empty places away where there are more of them than rows. It takes no memory.
+// Removes the empty places if there are more of them than rows. Takes no memory.
 pub(crate) fn thin_out(store: &mut Store, here: &mut Vec<bool>, count: u32)
     requires last { AreLast here.old.items store.old.rows }
     requires places { length store.old.rows ≡ length here.old.items }

@@ -1,4 +1,4 @@
-// Rows in the order in which they came, whether they are still there or not.
+// Rows in the order in which they were inserted, the deleted ones too.
 ghost use Rattle.std.specs.Prelude.{All, [], length, map, nat_abs, nat_eq, pos, slice_index_or, take, true, ℕ, ◌+◌, ◌++◌, ◌<◌, ◌∷◌, ◌^◌, ◌≡◌, ◌≤◌, OnErr, OnOk, is_some};
 ghost use Rattle.cell_core.specs.Entry.{IsCode};
 ghost use Rattle.aggregates.specs.Bounds.{largest_amount};
@@ -15,21 +15,21 @@ use cube_defs::{MAX_DIMS, MAX_MEASURES};
 use std::alloc::{AllocError, Global};
 use std::marker::Model;
 
-/// Rows in the order in which they came. The last row of an id and of a tuple is found in one step,
-/// and from a row the one before of the same tuple.
+/// Rows in the order in which they were inserted. The last row of an id and of a tuple is found in
+/// one step, and from a row the one before of the same tuple.
 #[derive(Drop)]
 pub struct Store {
     dims: u8,
-    // How many dimensions there were when the rows were settled last.
+    // The number of dimensions when the rows were settled last.
     dims_then: u8,
-    // Of how many of its first codes a tuple's number is made: those that it had from the start, so
-    // that numbers stay when there are more dimensions or fewer.
+    // How many of its first codes make a tuple's fingerprint: those that it had from the start, so
+    // that fingerprints stay when the number of dimensions changes.
     keyed: u8,
     measures: u8,
     ids: Chains<u64>,
-    // A number for each tuple, that equal tuples share.
+    // A fingerprint for each tuple. Equal tuples have equal ones.
     prints: Chains<u32>,
-    // It has room for as many dimensions as there may be, so that one more takes no memory.
+    // It has room for the most dimensions, so that a new one takes no memory.
     codes: Vec<u32>,
     amounts: Vec<i64>,
 }
@@ -82,7 +82,7 @@ impl Store {
         self.measures
     }
 
-    /// How many rows there are.
+    /// The number of rows.
     pub fn len(&self) -> u32
         ensures { result ≡ length self.now.rows }
     {
@@ -104,7 +104,7 @@ impl Store {
         self.ids.last(&id)
     }
 
-    /// One more than the last place of a tuple that shares its number with the cell, or 0.
+    /// One more than the last place of a tuple that shares its fingerprint with the cell, or 0.
     pub fn last_alike(&self, tuple: &Cell) -> u32
         requires { length tuple.now ≡ self.now.dims }
         ensures { result ≡ last_of (nat_eq (print_in self.now.keyed tuple.now)) (map (print_of self.now.keyed) self.now.rows) }
@@ -180,7 +180,7 @@ impl Store {
         lines::is_cell(self.codes(place), tuple)
     }
 
-    /// Puts a row last.
+    /// Appends a row.
     pub fn push(&mut self, id: u64, tuple: &Cell, amounts: &[i64]) -> Result<(), Memory>
         requires dims { length tuple.now ≡ self.old.dims }
         requires no_any { All (λ entry. is_some entry ≡ true) tuple.now }
@@ -204,7 +204,7 @@ impl Store {
         Ok(())
     }
 
-    /// Takes rows away from the end, down to so many. It takes no memory.
+    /// Removes rows from the end, down to so many. Takes no memory.
     pub fn cut(&mut self, len: u32)
         requires { len ≤ length self.old.rows }
         ensures { self.new ≡ record self.old { rows = take len self.old.rows } }
@@ -215,7 +215,7 @@ impl Store {
         self.amounts.truncate(len as usize * self.measures as usize);
     }
 
-    /// Keeps the rows whose mark is set, in order. It takes no memory.
+    /// Keeps the rows whose mark is set, in order. Takes no memory.
     pub fn retain_marked(&mut self, kept: &[bool])
         requires { length kept.now ≡ length self.old.rows }
         ensures { self.new ≡ record self.old { rows = picked kept.now self.old.rows } }
@@ -226,7 +226,7 @@ impl Store {
         lines::retain_lines(&mut self.amounts, self.measures as usize, kept);
     }
 
-    /// One more dimension behind the others, in which each row has the code. It takes no memory.
+    /// Adds a last dimension, in which each row has the code. Takes no memory.
     pub fn widen(&mut self, code: u32)
         requires few { self.old.dims < MAX_DIMS }
         requires small { IsCode code }
@@ -237,7 +237,7 @@ impl Store {
         self.dims += 1;
     }
 
-    /// The dimensions go that came since the rows were settled last. It takes no memory.
+    /// Drops the dimensions that were added since the rows were settled last. Takes no memory.
     pub fn narrow(&mut self)
         ensures { self.new ≡ record self.old { dims = self.old.dims_then; rows = map (narrowed self.old.dims_then) self.old.rows } }
     {
@@ -253,7 +253,7 @@ impl Store {
         }
     }
 
-    /// The rows are settled, with as many dimensions as they have.
+    /// Settles the rows, with as many dimensions as they have.
     pub fn settle(&mut self)
         ensures { self.new ≡ record self.old { dims_then = self.old.dims } }
     {

@@ -19,12 +19,12 @@ use std::marker::Model;
 #[derive(Clone, Copy)]
 pub struct RowNo(pub u32);
 
-/// Why a row wasn't put in.
+/// Why a row wasn't inserted.
 #[derive(Clone, Copy)]
 pub enum TableRefused {
     /// A row with this id is there.
     Present,
-    /// There are as many rows as there may be.
+    /// There are as many rows as allowed.
     Full,
     /// Memory ran out.
     Memory,
@@ -34,24 +34,24 @@ pub enum TableRefused {
 #[derive(Clone, Copy)]
 pub struct Missing;
 
-/// What a row had that was taken out. The amounts behind those of the measures are zero.
+/// The tuple and the amounts of a deleted row. The amounts after those of the measures are zero.
 #[derive(Drop)]
 pub struct Taken {
     pub tuple: Cell,
     pub amounts: [i64; 4],
 }
 
-/// Rows under distinct ids, each with a code in every dimension and an amount of every measure, in
-/// the order in which they came.
+/// Rows under distinct ids, each with a code in every dimension and an amount in every measure, in
+/// the order in which they were inserted.
 #[derive(Drop)]
 pub struct Table {
     store: Store,
-    // Whether the row at each place is there. A row that was taken out stays in the store.
+    // Whether the row at each place is present. A deleted row stays in the store.
     here: Vec<bool>,
-    // The places of the rows that were there when the batch began, and went since. It has room for
-    // every place, so that a deletion takes no memory.
+    // The places of the rows that were there when the batch began and were deleted since. It has
+    // room for every place, so that a deletion takes no memory.
     touched: Vec<u32>,
-    // How many places and rows there were when the batch began; where none is open, as there are.
+    // The numbers of places and rows when the batch began, or the present ones if none is open.
     begun: u32,
     count_then: u32,
     is_open: bool,
@@ -71,12 +71,12 @@ impl Model for Table {
     ghost invariant = { λ t. AreTableFields t.store t.here.items t.touched.items (vec_capacity t.touched) t.begun t.count_then t.is_open t.count t.max };
 }
 
-// The numbers of so many places fit. Only a batch that puts rows in and takes them out without end
-// needs more, and that is want of memory.
+// The most places that have numbers. Only a batch that inserts and deletes rows without end needs
+// more; that counts as out of memory.
 const MOST_PLACES: usize = 4_000_000_000;
 
 impl Table {
-    /// No rows, and no batch is open.
+    /// A table without rows. No batch is open.
     pub fn new(alloc: Global, dims: u8, measures: u8, max: u32) -> Result<Table, Memory>
         requires some_dims { 0 < dims }
         requires few_dims { dims ≤ MAX_DIMS }
@@ -97,7 +97,7 @@ impl Table {
         })
     }
 
-    /// How many dimensions a row has.
+    /// The number of dimensions.
     pub fn dims(&self) -> u8
         ensures value { result ≡ self.now.dims }
         ensures valid { IsTable self.now }
@@ -105,7 +105,7 @@ impl Table {
         self.store.dims()
     }
 
-    /// How many measures a row has.
+    /// The number of measures.
     pub fn measures(&self) -> u8
         ensures value { result ≡ self.now.measures }
         ensures valid { IsTable self.now }
@@ -120,7 +120,7 @@ impl Table {
         let _read = self.max;
     }
 
-    /// How many rows there are.
+    /// The number of rows.
     pub fn count(&self) -> u32
         ensures value { result ≡ length (rows_of self.now) }
         ensures valid { IsTable self.now }
@@ -138,7 +138,7 @@ impl Table {
         }
     }
 
-    /// How many places there are, with a row or empty.
+    /// The number of places, with a row or empty.
     pub fn places(&self) -> u32
         ensures value { result ≡ length self.now.places }
         ensures valid { IsTable self.now }
@@ -146,7 +146,7 @@ impl Table {
         self.here.len() as u32
     }
 
-    /// The row at a place, counted from 0, where one is there.
+    /// The row at a place, counted from 0, if there is one.
     pub fn at(&self, place: u32) -> Option<RowNo>
         requires { place < length self.now.places }
         ensures some { IfSome result (λ no. (no.0 ≡ place) × (is_some (row_at self.now place) ≡ true)) }
@@ -159,7 +159,7 @@ impl Table {
         }
     }
 
-    /// The id of a row. It takes no memory.
+    /// The id of a row. Takes no memory.
     pub fn id(&self, row: RowNo) -> u64
         requires { is_some (row_at self.now row.0) ≡ true }
         ensures { IfSome (row_at self.now row.0) (λ r. result ≡ r.id) }
@@ -186,7 +186,7 @@ impl Table {
         self.store.tuple(row.0)
     }
 
-    /// The amount of a row in a measure, in units of the last place of its scale.
+    /// The amount of a row in a measure, in units of the last digit of its scale.
     pub fn amount(&self, row: RowNo, measure: u8) -> i64
         requires row { is_some (row_at self.now row.0) ≡ true }
         requires measure { measure < self.now.measures }
@@ -195,7 +195,7 @@ impl Table {
         self.store.amount(row.0, measure)
     }
 
-    /// The amounts of a row, one of each measure.
+    /// The amounts of a row, one for each measure.
     pub fn amounts(&self, row: RowNo) -> &[i64]
         requires row { is_some (row_at self.now row.0) ≡ true }
         ensures value { IfSome (row_at self.now row.0) (λ r. result.now ≡ r.amounts) }
@@ -205,7 +205,7 @@ impl Table {
         self.store.amounts(row.0)
     }
 
-    /// What the rows with just this tuple come to. None where there are none.
+    /// The aggregate of the rows with exactly this tuple. None if there is no such row.
     pub fn group(&self, tuple: &Cell) -> Option<Agg>
         requires { length tuple.now ≡ self.now.dims }
         ensures value { option_map agg_in result ≡ total_of self.now.measures (with_tuple (rows_of self.now) tuple.now) }
@@ -214,8 +214,8 @@ impl Table {
         group::group_in(&self.store, &self.here, tuple)
     }
 
-    /// The numbers of all rows, in their order. A row's number stays until the batch that is open
-    /// is kept or taken back, or until another begins and is.
+    /// The numbers of all rows, in their order. A row's number stays until the open batch, or else
+    /// the next one, is kept or taken back.
     pub fn all(&self, alloc: Global) -> Result<Vec<RowNo>, Memory>
         ensures numbers { IfOk result (λ nos. map (λ no. no.0) nos.items ≡ numbers self.now) }
         ensures rows { IfOk result (λ nos. named self.now nos.items ≡ rows_of self.now) }
@@ -224,7 +224,7 @@ impl Table {
         presence::numbers_in(alloc, &self.here)
     }
 
-    /// A batch is open from now on. It takes no memory.
+    /// Opens a batch. Takes no memory.
     pub fn begin(&mut self)
         requires closed { self.old.was ≡ None }
         ensures value { self.new ≡ record self.old { was = Some (base_of self.old) } }
@@ -232,7 +232,7 @@ impl Table {
         self.is_open = true;
     }
 
-    /// Puts a row last.
+    /// Inserts a row as the last.
     pub fn insert(&mut self, id: u64, tuple: &Cell, amounts: &[i64]) -> Result<(), TableRefused>
         requires is_open { is_some self.old.was ≡ true }
         requires dims { length tuple.now ≡ self.old.dims }
@@ -257,7 +257,7 @@ impl Table {
         }
     }
 
-    /// Takes the row of an id out. No other row moves, and it takes no memory.
+    /// Deletes the row of an id. No other row moves, and it takes no memory.
     pub fn delete(&mut self, id: u64) -> Result<Taken, Missing>
         requires is_open { is_some self.old.was ≡ true }
         ensures ok { OnOk result (self.new ≡ record self.old { places = map (cleared id) self.old.places }) }
@@ -274,8 +274,8 @@ impl Table {
         }
     }
 
-    /// One more dimension behind the others, in which each row has the code. It takes no memory, and
-    /// touches each row.
+    /// Adds a last dimension, in which each row has the code. It takes no memory, and touches each
+    /// row.
     pub fn widen(&mut self, code: Code)
         requires is_open { is_some self.old.was ≡ true }
         requires few { self.old.dims < MAX_DIMS }
@@ -286,7 +286,7 @@ impl Table {
         self.store.widen(code);
     }
 
-    /// Keeps the batch. Rows may get other numbers. It takes no memory.
+    /// Keeps the batch. Rows may get other numbers. Takes no memory.
     pub fn commit(&mut self)
         requires is_open { is_some self.old.was ≡ true }
         ensures rows { rows_of self.new ≡ rows_of self.old }
@@ -303,7 +303,7 @@ impl Table {
         self.count_then = self.count;
     }
 
-    /// Takes the batch back: rows and dimensions are those at its begin. It takes no memory.
+    /// Takes the batch back: rows and dimensions are those at its begin. Takes no memory.
     pub fn rollback(&mut self)
         requires is_open { is_some self.old.was ≡ true }
         ensures back { Some (base_of self.new) ≡ self.old.was }
@@ -320,7 +320,7 @@ impl Table {
         self.count = self.count_then;
     }
 
-    // Puts a row last that isn't there, and for which there is a number.
+    // Appends a row that isn't there, and for which there is a number.
     fn put(&mut self, id: u64, tuple: &Cell, amounts: &[i64]) -> Result<(), Memory>
         requires is_open { is_some self.old.was ≡ true }
         requires dims { length tuple.now ≡ self.old.dims }
@@ -344,7 +344,7 @@ impl Table {
         Ok(())
     }
 
-    // The row at a place goes.
+    // Deletes the row at a place.
     fn take_out(&mut self, place: u32) -> Taken
         requires is_open { is_some self.old.was ≡ true }
         requires there { is_some (row_at self.old place) ≡ true }
