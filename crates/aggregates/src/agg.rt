@@ -1,4 +1,4 @@
-// What rows come to.
+// Aggregates of rows.
 ghost use Rattle.aggregates.specs.Bounds.{IsAggregate};
 
 /// The sum of some amounts, the least and the greatest.
@@ -9,7 +9,7 @@ pub struct Part {
     pub greatest: i64,
 }
 
-/// How many rows, and what they come to in each measure. The parts behind those of the measures
+/// COUNT of some rows, and SUM, MIN and MAX in each measure. The parts after those of the measures
 /// are zero.
 #[derive(Clone, Copy)]
 pub struct Agg {

@@ -1,4 +1,4 @@
-// Fractions, as the values of aggregates and as they are asked for.
+// Fractions: the values of aggregates, and the values that queries compare them with.
 ghost use Rattle.aggregates.specs.Bounds.{IsRatio, IsFraction};
 
 use crate::value::order_of;

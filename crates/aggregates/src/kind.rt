@@ -1,8 +1,8 @@
-// What a class is asked for.
+// The kinds of aggregates.
 ghost use Rattle.std.specs.Prelude.{◌≡◌};
 ghost use Rattle.aggregates.specs.Views.{same_kind};
 
-/// What is asked of an aggregate. All but the count name a measure.
+/// An aggregate that an iceberg compares or an index sorts by. All but the count name a measure.
 #[derive(Clone, Copy, Debug, PartialEq, Eq)]
 pub enum AggKind {
     Count,

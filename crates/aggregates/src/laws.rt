@@ -1,5 +1,5 @@
-//! Laws of rows that are added up, and of numbers that are printed and read again, as the
-//! contracts of functions that have nothing to do.
+//! Laws of aggregates, and of numbers that are printed and read again, as the contracts of
+//! functions without a body.
 ghost use Rattle.std.specs.Prelude.{◌≡◌, ℕ, ℤ, ◌*◌, ◌<◌, ◌≤◌, ◌^◌, ◌==◌, IsTrue, List, [], ◌∷◌, ◌++◌, Some, decimal, drop, length, nat_abs};
 ghost use Rattle.std.specs.List.{list_all};
 ghost use Rattle.cube_defs.specs.Rows.{Fraction, Row, agg_of};
@@ -33,14 +33,14 @@ pub fn printed_amounts_are_read()
         amount_in scale (amount_text scale amount) ≡ Some amount }
 {}
 
-/// A ratio that was printed is read as itself, where both its numbers have at most 18 digits.
+/// A ratio that was printed is read as itself, if both its numbers have at most 18 digits.
 pub fn printed_ratios_are_read()
     ensures { (ratio : Fraction) → nat_abs ratio.num < 10 ^ 18 → 0 < ratio.den → ratio.den < 10 ^ 18 →
         fraction_written (ratio_text ratio) ≡ Some ratio }
 {}
 
-/// The digits behind a point stand for their number over a power of ten, in units of the scale's
-/// last place, where those behind that place are all 0.
+/// The digits after a point are a number over a power of ten, in units of the scale's last digit,
+/// if all later digits are 0.
 pub fn places_are_a_number()
     ensures { (scale : ℕ) (text : List ℕ) → IsTrue (list_all (λ c. c == 48) (drop scale text)) →
         places scale text * 10 ^ length text ≡ number text * 10 ^ scale }

@@ -1,5 +1,5 @@
-//! Aggregates of rows, the values that classes are asked for, and numbers as they are read and
-//! printed. No call takes memory.
+//! Aggregates of rows, their values, and numbers as they are read and printed. No call takes
+//! memory.
 #![tactic(auto)]
 
 mod agg;

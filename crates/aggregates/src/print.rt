@@ -7,7 +7,7 @@ use crate::Ratio;
 use crate::value::power_of_ten;
 use itoa::Buffer;
 
-/// A whole number. The text stands at the front of `out`, and its length is returned.
+/// A whole number. The text is put at the beginning of `out`, and its length is returned.
 pub fn print_number(value: u64, out: &mut [u8]) -> usize
     requires { 48 ≤ length out.old }
     ensures text { out.new ≡ decimal value ++ drop result out.old }
@@ -16,7 +16,7 @@ pub fn print_number(value: u64, out: &mut [u8]) -> usize
     put_number(value, out, 0)
 }
 
-/// An amount in units of the scale's last place. The text stands at the front of `out`, and its
+/// An amount in units of the scale's last digit. The text is put at the beginning of `out`, and its
 /// length is returned.
 pub fn print_amount(value: i64, scale: u8, out: &mut [u8]) -> usize
     requires room { 48 ≤ length out.old }
@@ -30,7 +30,7 @@ pub fn print_amount(value: i64, scale: u8, out: &mut [u8]) -> usize
     put_places(magnitude, scale, out, whole)
 }
 
-/// A fraction. The text stands at the front of `out`, and its length is returned.
+/// A fraction. The text is put at the beginning of `out`, and its length is returned.
 pub fn print_ratio(value: &Ratio, out: &mut [u8]) -> usize
     requires { 48 ≤ length out.old }
     ensures text { out.new ≡ ratio_text (ratio_in value.now) ++ drop result out.old }
@@ -41,7 +41,7 @@ pub fn print_ratio(value: &Ratio, out: &mut [u8]) -> usize
     put_number(value.den, out, slash)
 }
 
-// The text from `at` on; what it returns is where it ends.
+// Puts the text at `at`, and returns the place of its end.
 fn put(text: &[u8], out: &mut [u8], at: usize) -> usize
     requires { at + length text.now ≤ length out.old }
     ensures end { result ≡ at + length text.now }
@@ -61,7 +61,7 @@ fn put_number(value: u64, out: &mut [u8], at: usize) -> usize
     put(Buffer::new().format(value).as_bytes(), out, at)
 }
 
-// A minus at the front, where the value is below 0.
+// A minus at the beginning, if the value is negative.
 fn put_sign(value: i64, out: &mut [u8]) -> usize
     requires { 1 ≤ length out.old }
     ensures end { result ≡ length (sign_text value) }
@@ -75,7 +75,7 @@ fn put_sign(value: i64, out: &mut [u8]) -> usize
     1
 }
 
-// A point and as many digits as the scale says, where it says any.
+// A point and as many digits as the scale, if it isn't 0.
 fn put_places(value: u64, scale: u8, out: &mut [u8], at: usize) -> usize
     requires room { at + 7 ≤ length out.old }
     requires scale { scale ≤ 6 }

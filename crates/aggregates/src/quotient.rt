@@ -1,4 +1,4 @@
-// Values of aggregates before they are put in lowest terms.
+// Values of aggregates before they are reduced to lowest terms.
 ghost use Rattle.std.specs.Prelude.{◌≡◌, ◌<◌, ◌≤◌, ◌*◌, ◌^◌, ◌*ℤ◌, pos};
 ghost use Rattle.std.specs.Ordering.{int_cmp};
 ghost use Rattle.cube_defs.specs.Rows.{lowest_terms};
@@ -9,8 +9,8 @@ use crate::value::{lowest, order_of, part_at, power_of_ten};
 use crate::{Agg, AggKind, Ratio};
 use std::cmp::Ordering;
 
-/// The value of a kind as a number over the rows that it is divided by, which is 1 for all kinds but
-/// the mean. It isn't in lowest terms, so it is quick to make and to compare.
+/// The value of a kind as a number and a divisor: the number of rows for the mean, else 1. It isn't
+/// in lowest terms, so it is quick to make and to compare.
 #[derive(Clone, Copy)]
 pub struct Quotient {
     pub num: i64,
@@ -26,7 +26,7 @@ fn whole(num: i64) -> Quotient
     Quotient { num, den: 1 }
 }
 
-// How many of the amounts' least units make one of the measure's units. A count has no others.
+// How many units of the last digit make one of the measure's units; 1 for a count.
 fn unit(kind: AggKind, scale: u8) -> u64
     requires { scale ≤ 6 }
     ensures value { result ≡ unit_of kind scale }
@@ -43,7 +43,7 @@ fn unit(kind: AggKind, scale: u8) -> u64
 }
 
 impl Quotient {
-    /// The value of the kind, in the least units of its measure's amounts.
+    /// The value of the kind, in units of the last digit of its measure.
     pub fn of(agg: &Agg, kind: AggKind) -> Quotient
         requires { IsThere agg.now.measures kind }
         ensures { IsQuotient kind agg.now result.num result.den }

@@ -20,7 +20,7 @@ pub fn read_id(text: &[u8]) -> Option<u64>
     Some(digits.value)
 }
 
-/// An amount, in units of the scale's last place.
+/// An amount, in units of the scale's last digit.
 pub fn read_amount(text: &[u8], scale: u8) -> Option<i64>
     requires { scale ≤ 6 }
     ensures { result ≡ amount_in scale text.now }
@@ -60,7 +60,7 @@ fn read_tail(text: &[u8], scale: u8) -> Option<u64>
     }
 }
 
-// The digits behind the point, of which those behind the scale's last place are all 0.
+// The digits after the point. Those after the scale's last digit are all 0.
 fn read_places(text: &[u8], scale: u8) -> Option<u64>
     requires { scale ≤ 6 }
     ensures value { result ≡ places_in scale text.now }
@@ -85,7 +85,7 @@ fn read_places(text: &[u8], scale: u8) -> Option<u64>
     Some(value)
 }
 
-/// A fraction as it is asked for, in the terms that it is written in.
+/// A fraction as it is written, not reduced.
 pub fn read_fraction(text: &[u8]) -> Option<Fraction>
     ensures { option_map fraction_in result ≡ fraction_written text.now }
 {
@@ -171,7 +171,7 @@ struct Digits {
     len: usize,
 }
 
-// The number of the digits at the front, and how many they are, unless the number is too large.
+// The number that the first digits write, and how many they are, unless the number is too large.
 fn leading_digits(text: &[u8]) -> Option<Digits>
     ensures { MatchOption result (2 ^ 64 ≤ number (digits_front text.now))
         (λ d. (d.value ≡ number (digits_front text.now)) × (d.len ≡ length (digits_front text.now))) }

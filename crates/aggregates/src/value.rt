@@ -1,4 +1,4 @@
-// What an aggregate comes to, as fractions in lowest terms.
+// Values of aggregates, as fractions in lowest terms.
 ghost use Rattle.std.specs.Prelude.{◌≡◌, ◌<◌, ◌≤◌, ◌*◌, ◌^◌, ◌*ℤ◌, pos, nat_abs, int_div};
 ghost use Rattle.std.specs.Ordering.{int_cmp};
 ghost use Rattle.cube_defs.specs.Answers.{fraction_cmp, part, value_of as value_in};
@@ -20,7 +20,7 @@ pub fn mean(agg: &Agg, measure: u8, scale: u8) -> Ratio
     )
 }
 
-/// The value of the kind, in the measure's unit. The count has none.
+/// The value of the kind, in the measure's unit. A count has no unit.
 pub fn value_of(agg: &Agg, kind: AggKind, scale: u8) -> Ratio
     requires there { IsThere agg.now.measures kind }
     requires scale { scale ≤ 6 }
@@ -29,7 +29,7 @@ pub fn value_of(agg: &Agg, kind: AggKind, scale: u8) -> Ratio
     Quotient::of(agg, kind).in_lowest_terms(kind, scale)
 }
 
-/// The order of a value and what is asked, by value, without rounding.
+/// The order of a value and an asked one, by value, without rounding.
 pub fn compare(a: &Ratio, b: &Fraction) -> Ordering
     ensures { result ≡ fraction_cmp (ratio_in a.now) (fraction_in b.now) }
 {
