@@ -1,4 +1,4 @@
-// Cells: for each dimension a value, by its code, or Any.
+// Cells: a value, by its code, or Any for each dimension.
 ghost use Rattle.std.specs.Prelude.{IfSome, IsTrue, None, length, nat_eq, replicate, slice_index_or, slice_set, ◌<◌, ◌≡◌, ◌≤◌};
 ghost use Rattle.cell_core.specs.Codes.{entry_of, is_kept};
 ghost use Rattle.cell_core.specs.Entry.{IsSmall, value_in};
@@ -9,17 +9,17 @@ use cube_defs::MAX_DIMS;
 use std::alloc::Global;
 use std::marker::Model;
 
-/// The number of a value in its dimension, counted from 0. Every code is below 4,000,000.
+/// The number of a value in its dimension, counted from 0. Every code is less than 4,000,000.
 pub type Code = u32;
 
-/// Stands for Any where a code stands for a value.
+/// The stored code of Any.
 pub const ANY: u32 = u32::MAX;
 
 /// The number of a node.
 #[derive(Clone, Copy, Debug, PartialEq, Eq, Hash)]
 pub struct NodeNo(pub u32);
 
-/// What a cell has in a dimension.
+/// The entry of a cell in a dimension.
 #[derive(Clone, Copy, Debug, PartialEq, Eq)]
 pub enum Entry {
     /// No value.
@@ -29,7 +29,7 @@ pub enum Entry {
 }
 
 impl Entry {
-    /// What a kept code stands for: its value, and Any for [`ANY`].
+    /// The entry of a stored code: its value, or Any for [`ANY`].
     pub fn of(code: u32) -> Entry
         requires { IsTrue (is_kept code) }
         ensures value { value_in result ≡ entry_of code }
@@ -43,8 +43,8 @@ impl Entry {
     }
 }
 
-/// For each of at most 16 dimensions a value, or Any. The entries lie in the cell itself, so no
-/// call on a cell takes memory.
+/// A value or Any for each of at most 16 dimensions. The entries are stored in the cell itself, so
+/// no call on a cell takes memory.
 #[derive(Drop, Debug)]
 pub struct Cell {
     codes: [u32; 16],
@@ -76,7 +76,7 @@ impl Cell {
         }
     }
 
-    /// How many dimensions the cell has.
+    /// The number of dimensions.
     pub fn dims(&self) -> u8
         ensures value { result ≡ length self.now }
         ensures few { length self.now ≤ MAX_DIMS }
@@ -93,7 +93,7 @@ impl Cell {
         Entry::of(self.codes[dim as usize])
     }
 
-    /// Puts an entry into a dimension.
+    /// Replaces the entry in a dimension.
     pub fn set(&mut self, dim: u8, entry: Entry)
         requires dim { dim < length self.old }
         requires entry { IsSmall entry }
@@ -114,7 +114,7 @@ impl Cell {
     }
 }
 
-/// Whether d has c's value wherever c has one: c covers d.
+/// Whether c generalizes d: d has c's value wherever c has one.
 pub fn leq(c: &Cell, d: &Cell) -> bool
     requires { length c.now ≡ length d.now }
     ensures { result ≡ defs.leq nat_eq c.now d.now }
@@ -131,7 +131,7 @@ pub fn meet_into(c: &mut Cell, d: &Cell)
     codes::meet_into(&mut c.codes[..c.dims as usize], &d.codes[..d.dims as usize]);
 }
 
-/// The last dimension with a value. None where all is Any.
+/// The last dimension with a value. None if all is Any.
 pub fn last(c: &Cell) -> Option<u8>
     ensures value { result ≡ defs.last c.now }
     ensures within { IfSome result (λ dim. dim < length c.now) }
@@ -142,7 +142,7 @@ pub fn last(c: &Cell) -> Option<u8>
     }
 }
 
-/// Makes each entry behind dimension j Any.
+/// Makes each entry after dimension j Any.
 pub fn upto(c: &mut Cell, j: u8)
     requires { j < length c.old }
     ensures value { c.new ≡ defs.upto c.old j }
@@ -151,7 +151,7 @@ pub fn upto(c: &mut Cell, j: u8)
     codes::upto(&mut c.codes[..c.dims as usize], j as usize);
 }
 
-/// The dimensions with a value: bit i is set where dimension i has one.
+/// The dimensions with a value: bit i is set if dimension i has one.
 pub fn mask_of(c: &Cell) -> u16
     ensures { result ≡ defs.mask c.now }
 {

@@ -22,7 +22,7 @@ impl Model for Cells {
 }
 
 impl Cells {
-    /// The empty list, made without memory.
+    /// The empty list. Takes no memory.
     pub fn new(alloc: Global) -> Cells
         ensures { result ≡ [] }
     {
@@ -31,7 +31,7 @@ impl Cells {
         }
     }
 
-    /// Puts a cell last. A refusal drops it.
+    /// Appends a cell. A refusal drops it.
     pub fn push(&mut self, cell: Cell) -> Result<(), Memory>
         requires { length self.old < 4294967295 }
         ensures ok { OnOk result (self.new ≡ self.old ++ cell ∷ []) }
@@ -49,7 +49,7 @@ impl Cells {
         &self.cells[k as usize]
     }
 
-    /// How many cells there are.
+    /// The number of cells.
     pub fn len(&self) -> u32
         ensures { result ≡ length self.now }
     {

@@ -1,4 +1,4 @@
-// The work on the entries of a cell, each kept as a code.
+// The work on the entries of a cell, each stored as a code.
 ghost use Rattle.std.specs.Prelude.{All, IfSome, ◌≡◌, ◌<◌, ◌≤◌, IsTrue, length, nat_eq};
 ghost use Rattle.cell_core.specs.Codes.{entries_of, entry_of, is_kept};
 ghost use Rattle.cell_core.specs.Entry.{IsSmall, value_in};

@@ -1,11 +1,11 @@
-// What a query asks of each dimension.
+// The fields of a query.
 ghost use Rattle.std.specs.Prelude.{◌≡◌, ◌<◌, ◌==◌, ◌++◌, ◌∷◌, [], Some, OnOk, OnErr, length, slice_get};
 
 use crate::{Memory, Text, Texts};
 use std::alloc::Global;
 use std::marker::Model;
 
-/// What is asked of one dimension.
+/// What a query asks of one dimension.
 #[derive(Drop)]
 pub enum Field {
     /// Any alone.
@@ -38,7 +38,7 @@ impl Model for Fields {
 }
 
 impl Fields {
-    /// The empty list, made without memory.
+    /// The empty list. Takes no memory.
     pub fn new(alloc: Global) -> Fields
         ensures { result ≡ [] }
     {
@@ -47,7 +47,7 @@ impl Fields {
         }
     }
 
-    /// Puts a field last. A refusal drops it.
+    /// Appends a field. A refusal drops it.
     pub fn push(&mut self, field: Field) -> Result<(), Memory>
         requires { length self.old < 4294967295 }
         ensures ok { OnOk result (self.new ≡ self.old ++ field ∷ []) }
@@ -65,7 +65,7 @@ impl Fields {
         &self.fields[k as usize]
     }
 
-    /// How many fields there are.
+    /// The number of fields.
     pub fn len(&self) -> u32
         ensures { result ≡ length self.now }
     {

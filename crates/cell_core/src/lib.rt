@@ -1,4 +1,4 @@
-//! Cells of a cube, texts, and what a query asks of each dimension.
+//! Cells of a cube, texts, and the fields of a query.
 #![tactic(auto)]
 
 mod cell;

@@ -4,7 +4,7 @@ ghost use Rattle.std.specs.Prelude.{◌<◌, ◌≡◌, ◌+◌};
 use std::marker::Model;
 use std::sync::ledger::{Blank, Book, Ledger, Share};
 
-/// How many steps were taken, seen as a whole number. It has no bytes at run time; the ledger only
+/// The number of steps taken, seen as a whole number. It has no bytes at run time; the ledger only
 /// names it.
 #[derive(Drop)]
 pub struct Steps<L: Ledger> {
@@ -34,7 +34,7 @@ impl<L: Ledger> Steps<L> {
         Steps { book, share }
     }
 
-    /// One step more.
+    /// Counts one more step.
     pub fn tick(&mut self)
         ensures { self.new ≡ self.old + 1 }
     {

@@ -54,7 +54,7 @@ impl Model for Texts {
 }
 
 impl Texts {
-    /// The empty list, made without memory.
+    /// The empty list. Takes no memory.
     pub fn new(alloc: Global) -> Texts
         ensures { result ≡ [] }
     {
@@ -63,7 +63,7 @@ impl Texts {
         }
     }
 
-    /// Puts a text last. A refusal drops it.
+    /// Appends a text. A refusal drops it.
     pub fn push(&mut self, text: Text) -> Result<(), Memory>
         requires { length self.old < 4294967295 }
         ensures ok { OnOk result (self.new ≡ self.old ++ text ∷ []) }
@@ -81,7 +81,7 @@ impl Texts {
         &self.texts[k as usize]
     }
 
-    /// How many texts there are.
+    /// The number of texts.
     pub fn len(&self) -> u32
         ensures { result ≡ length self.now }
     {
