@@ -3,9 +3,9 @@
 
     docs/pictures/draw.py [PROGRAM]
 
-PROGRAM is the built program, by default crates/qcube/out/qcube. The table is that of crates/worked_runs/data/runs/store, before and after its batch. Which
-cells there are, which class each is of, and what each class comes to is asked of the program; the nodes and links of the tree follow from
-that as docs/concepts.md says."""
+PROGRAM is the built program, by default crates/qcube/out/qcube. The table is that of crates/worked_runs/data/runs/store, before and after
+its batch. The script asks the program which cells there are, and for the class and the aggregate of each. The nodes and links of the tree
+follow from that, as docs/concepts.md says."""
 import csv, itertools, os, subprocess, sys, tempfile
 from html import escape
 
