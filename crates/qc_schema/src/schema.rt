@@ -184,7 +184,7 @@ fn read_draft(alloc: Global, text: &[u8]) -> Result<Draft, SchemaRefused>
 /// They are `qcube 1` or `qcube 2`, the version; `id NAME`; `dim NAME` 1 to 12 times in version 1
 /// and 1 to 16 times in version 2; `measure NAME SCALE` at most once in version 1 and at most four
 /// times in version 2; lines `index count` or `index AGG NAME`; and at most one each of `nodes N`,
-/// `rows N` and `values N`. Lines without words, and those that begin with `#`, are skipped.
+/// `rows N` and `values N`. Lines without words, and those that begin with `#`, are ignored.
 pub fn read_schema(alloc: Global, bytes: &[u8]) -> Result<Schema, SchemaRefused>
     requires { length bytes.now ≤ MAX_FILE }
     ensures { Gives schema_fault_in (λ schema. schema) result (schema_in bytes.now) }
