@@ -29,14 +29,14 @@ use std::alloc::{AllocError, Global};
 use std::sync::ledger::Ledger;
 use warehouse::{Applied, Refused};
 
-/// What a file is taken for.
+/// What a file is read for.
 #[derive(Clone, Copy)]
 pub enum FileUse {
     /// A base file.
     Load,
-    /// A batch of corrections.
+    /// A batch.
     Apply,
-    /// A batch of corrections that isn't kept.
+    /// A dry run of a batch.
     Try,
 }
 
@@ -65,7 +65,7 @@ ghost use Rattle.reply_text.specs.Words.{reply_bytes};
 ghost use Rattle.cell_core.specs.Gives.{Gives};
 ghost use Rattle.warehouse.specs.Stored.{applied_in, refusal_in};
 
-// Takes the bytes of a file. A batch is applied in place, or only tried.
+// Takes the bytes of a file. A batch is applied in place, or is a dry run.
 fn take_file<L: Ledger>(
     pinned: &mut Pinned,
     kind: FileUse,
@@ -89,7 +89,7 @@ fn take_file<L: Ledger>(
     }
 }
 
-// Takes the bytes of a file, and gives the reply to its line.
+// Takes the bytes of a file, and makes the reply to its line.
 fn change<L: Ledger>(
     pinned: &mut Pinned,
     number: u32,
@@ -157,7 +157,7 @@ fn answer_file<F: Files, L: Ledger>(
     }
 }
 
-// Answers a query of the rows that are present.
+// Answers a query of the present rows.
 fn ask<L: Ledger>(
     alloc: Global,
     pinned: &Pinned,
@@ -171,7 +171,7 @@ fn ask<L: Ledger>(
     answer_now(alloc, pinned.now(), number, &query, steps)
 }
 
-// Carries out a command that names no file, and gives its reply.
+// Carries out a command that names no file, and makes its reply.
 fn answer_held<L: Ledger>(
     alloc: Global,
     pinned: &mut Pinned,
@@ -209,7 +209,7 @@ fn answer_held<L: Ledger>(
     }
 }
 
-// Carries out a command, and gives its reply.
+// Carries out a command, and makes its reply.
 fn answer_command<F: Files, L: Ledger>(
     alloc: Global,
     files: &mut F,
@@ -241,7 +241,7 @@ fn answer_command<F: Files, L: Ledger>(
     }
 }
 
-/// Carries out a line that isn't passed over, and gives its reply.
+/// Carries out a line that isn't ignored, and makes its reply.
 pub fn answer_line<F: Files, L: Ledger>(
     alloc: Global,
     files: &mut F,

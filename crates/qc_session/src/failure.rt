@@ -1,4 +1,4 @@
-// Why a run ended before the end of its script, and the line that tells it.
+// Why a run ended before the end of its script, and the line on standard error that says so.
 ghost use Rattle.std.specs.Prelude.{◌≡◌, ◌≤◌, ◌++◌, OnOk, length};
 ghost use Rattle.qc_io.specs.Outside.{HasCause, Rose, taking};
 ghost use Rattle.qc_session.specs.Runs.{Said, cause_text, error_text, status_of};
@@ -11,7 +11,7 @@ use qc_schema::{SchemaCause, SchemaRefused};
 /// Why a run ended before the end of its script.
 #[derive(Clone, Copy)]
 pub enum Failure<'a> {
-    /// The words are no listed form.
+    /// Usage error: the words have no listed form.
     Usage,
     /// The file of this name couldn't be read.
     CannotRead(&'a str),
@@ -19,9 +19,9 @@ pub enum Failure<'a> {
     CannotWrite,
     /// Memory ran out before the first line.
     OutOfMemory,
-    /// The bytes of the schema give none, for this cause.
+    /// The bytes are no schema, for this cause.
     NoSchema(SchemaRefused),
-    /// The bytes of the snapshot are that of no state.
+    /// The bytes are the snapshot of no state.
     NoSnapshot,
     /// The snapshot has more bytes than a file may have.
     LongSnapshot,
@@ -45,7 +45,7 @@ fn cause_word(cause: SchemaCause) -> &'static str
     }
 }
 
-// The words that tell why bytes give no schema, where that isn't want of memory.
+// The words for why bytes are no schema, if that isn't 'out of memory'.
 fn fault_words(refused: SchemaRefused) -> ArrayString<32>
     ensures { TellsFault refused result.bytes }
 {
@@ -90,7 +90,7 @@ impl<'a> Failure<'a> {
         }
     }
 
-    // The words that tell the fault of a schema, where there is one.
+    // The words for the fault of a schema, if there is one.
     fn schema_text(&self) -> ArrayString<32>
         ensures { TellsSchema self.now result.bytes }
     {
@@ -100,7 +100,7 @@ impl<'a> Failure<'a> {
         }
     }
 
-    // The line that tells it, in three parts.
+    // The line for the failure, in three parts.
     fn parts<'b>(&'b self, schema_text: &'b str) -> (&'b str, &'b str, &'b str)
         requires { TellsSchema self.now schema_text.now }
         ensures { result.0.now ++ (result.1.now ++ result.2.now) ≡ error_text (cause_of self.now) }
@@ -123,7 +123,7 @@ impl<'a> Failure<'a> {
     }
 }
 
-// Writes three parts one behind the other.
+// Writes three parts, one after another.
 fn write_parts<E: Sink>(err: &mut E, front: &str, name: &str, back: &str) -> Result<(), WriteFailed>
     ensures cause { HasCause (E.faults err.old) (E.faults err.new) result }
     ensures all { OnOk result (E.taken err.new ≡ taking (front.now ++ (name.now ++ back.now)) (E.taken err.old)) }
@@ -134,7 +134,7 @@ fn write_parts<E: Sink>(err: &mut E, front: &str, name: &str, back: &str) -> Res
     Ok(())
 }
 
-/// Tells a failure. Where a write fails, nothing more is written.
+/// Writes the line for a failure. If a write fails, nothing more is written.
 pub fn tell<E: Sink>(err: &mut E, failure: &Failure<'_>)
     ensures later { E.faults err.old ≤ E.faults err.new }
     ensures said { Said (Rose (E.faults err.old) (E.faults err.new)) (cause_of failure.now) (E.taken err.old) (E.taken err.new) }

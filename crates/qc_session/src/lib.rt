@@ -1,4 +1,4 @@
-//! The top call: a script over a base table, with its transcript.
+//! The top call: runs a script over a base table, and writes its replies.
 #![tactic(auto)]
 
 mod answer;

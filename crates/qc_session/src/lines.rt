@@ -1,4 +1,4 @@
-// Lines that are passed over.
+// Lines that are ignored.
 ghost use Rattle.std.specs.Prelude.{◌≡◌};
 ghost use Rattle.qc_session.specs.Lines.{is_passed};
 

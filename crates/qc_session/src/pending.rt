@@ -1,4 +1,4 @@
-// Replies that are gathered until they are handed on.
+// Replies that are gathered until they are flushed.
 ghost use Rattle.std.specs.Prelude.{◌≡◌, ◌++◌, [], IfOk, OnErr, OnOk};
 ghost use Rattle.qc_io.specs.Outside.{HasCause};
 ghost use Rattle.qc_session.specs.Handed.{IsHandedOn, TookFront};
@@ -8,10 +8,10 @@ use qc_io::{Sink, WriteFailed, write_all};
 use std::alloc::Global;
 use std::marker::Model;
 
-// How many bytes are gathered at most.
+// The most bytes that are gathered.
 const ROOM: usize = 65_536;
 
-/// Replies that are gathered, and not yet handed on. Seen as their bytes.
+/// Replies that are gathered, and not yet flushed. Seen as their bytes.
 #[derive(Drop)]
 pub struct Pending {
     bytes: Vec<u8>,
@@ -29,7 +29,7 @@ impl Model for Pending {
 }
 
 impl Pending {
-    /// No replies, with the memory for all that are gathered later.
+    /// No replies. The memory for all later ones is taken here.
     pub fn new(alloc: Global) -> Result<Self, Memory>
         ensures { IfOk result (λ pending. pending ≡ []) }
     {
@@ -38,7 +38,7 @@ impl Pending {
         })
     }
 
-    /// Hands on all that is gathered.
+    /// Flushes all replies.
     pub fn hand_on<O: Sink>(&mut self, out: &mut O) -> Result<(), WriteFailed>
         ensures cause { HasCause (O.faults out.old) (O.faults out.new) result }
         ensures ok { OnOk result (IsHandedOn self.old [] (O.taken out.old) (O.taken out.new)) }
@@ -50,7 +50,7 @@ impl Pending {
         Ok(())
     }
 
-    /// Hands the replies on, each of them once, where that is due.
+    /// Flushes all replies, each of them once, if that is due.
     pub fn hand_on_if<O: Sink>(&mut self, out: &mut O, due: bool) -> Result<(), WriteFailed>
         ensures cause { HasCause (O.faults out.old) (O.faults out.new) result }
         ensures ok { OnOk result (IsHandedOn self.old self.new (O.taken out.old) (O.taken out.new)) }
@@ -59,7 +59,7 @@ impl Pending {
         if due { self.hand_on(out) } else { Ok(()) }
     }
 
-    // Puts a reply behind those that are gathered. Where it has no room behind them, they are handed on first.
+    // Appends a reply. If it has no room, the gathered ones are flushed first.
     fn add<O: Sink>(&mut self, out: &mut O, reply: &[u8]) -> Result<(), WriteFailed>
         ensures cause { HasCause (O.faults out.old) (O.faults out.new) result }
         ensures ok { OnOk result (IsHandedOn (self.old ++ reply.now) self.new (O.taken out.old) (O.taken out.new)) }
@@ -77,7 +77,7 @@ impl Pending {
         write_all(out, reply)
     }
 
-    /// Puts a reply behind those that are gathered, and hands all on where it is not to wait.
+    /// Appends a reply, and flushes all if it is not to wait.
     pub fn put<O: Sink>(
         &mut self,
         out: &mut O,

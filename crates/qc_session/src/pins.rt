@@ -1,4 +1,4 @@
-// Names for the rows that are present, and what is asked of the rows of a name.
+// Names for the present rows, and queries of the rows of a name.
 ghost use Rattle.std.specs.Prelude.{IfOk, length, ◌≡◌, ◌≤◌};
 ghost use Rattle.query_script.specs.Commands.{IsQuery};
 ghost use Rattle.query_script.specs.Queries.{query_in};
@@ -16,7 +16,7 @@ use reply_text::{
 use std::alloc::{AllocError, Global};
 use std::sync::ledger::Ledger;
 
-/// Pins the rows that are present under a name, and gives the reply to its line. It takes no memory.
+/// Pins the present rows under a name, and makes the reply to its line. Takes no memory.
 pub fn answer_pin(held: &mut Pinned, number: u32, name: &Text) -> ShortReply
     requires { length name.now ≤ 32 }
     ensures { pin_answer (held_in held.old) number name.now ≡ record { state = held_in held.new; reply = result } }
@@ -28,7 +28,7 @@ pub fn answer_pin(held: &mut Pinned, number: u32, name: &Text) -> ShortReply
     }
 }
 
-/// Takes a pin away, and gives the reply to its line. It takes no memory.
+/// Drops a pin, and makes the reply to its line. Takes no memory.
 pub fn answer_unpin(held: &mut Pinned, number: u32, name: &Text) -> ShortReply
     requires { length name.now ≤ 32 }
     ensures { unpin_answer (held_in held.old) number name.now ≡ record { state = held_in held.new; reply = result } }
@@ -39,7 +39,7 @@ pub fn answer_unpin(held: &mut Pinned, number: u32, name: &Text) -> ShortReply
     }
 }
 
-/// Answers a query of the rows of a pin, over the tree that they had.
+/// Answers a query of the rows of a pin, over the tree of that time.
 pub fn answer_at<L: Ledger>(
     alloc: Global,
     held: &Pinned,

@@ -1,4 +1,4 @@
-// A script whose replies nobody takes.
+// A script without replies.
 ghost use Rattle.std.specs.Prelude.{◌≡◌, ◌≤◌, ◌<◌, ◌^◌, [], Some, None, IfErr, IfSome, OnOk, IsTrue, length, map, vec_capacity};
 ghost use Rattle.qc_io.specs.Outside.{Rose};
 ghost use Rattle.qc_session.specs.Lines.{lines_of, without_cr};
@@ -11,18 +11,18 @@ use qc_io::{Files, SureSink};
 use std::alloc::Global;
 use std::sync::ledger::Ledger;
 
-/// Why a script whose replies nobody takes comes to no end.
+/// Why a script without replies didn't end.
 #[derive(Drop)]
 pub enum QuietStop {
     /// The file of this name couldn't be read.
     Read(Text),
-    /// A line found no memory.
+    /// A line ran out of memory.
     Memory,
 }
 
 ghost use Rattle.qc_session.specs.Quiet.{IfUnread};
 
-/// Takes the lines of a script in order, from its first line on. Its replies go nowhere.
+/// Carries out the lines of a script in order, without their replies.
 pub fn take_quietly<F: Files, L: Ledger>(
     alloc: Global,
     files: &mut F,

@@ -29,11 +29,11 @@ use warehouse::Warehouse;
 /// How a run ended.
 #[derive(Drop)]
 pub struct Outcome {
-    /// 0 where the script was read to its end, and else the status of the failure that `err` tells.
+    /// 0 if the script was read to its end, else the status of the failure that `err` reports.
     pub status: u8,
-    /// The numbers of the lines that found no memory.
+    /// The numbers of the lines that ran out of memory.
     pub skipped: Vec<u32>,
-    /// At status 0 the warehouse as the run leaves it.
+    /// The warehouse after the run, at status 0.
     pub end: Option<Warehouse>,
 }
 
@@ -78,7 +78,7 @@ fn read_named<'a, F: Files>(
     }
 }
 
-// The state that these bytes of the first file tell.
+// The state that the bytes of the first file give.
 fn start_of<L: Ledger>(
     alloc: Global,
     source: Source,
@@ -136,7 +136,7 @@ fn read_start<'a, F: Files, L: Ledger>(
     }
 }
 
-// Reads the script behind the first file, and hands on the warehouse.
+// Reads the script after the first file, and passes the warehouse on.
 fn read_behind<'a, F: Files>(
     alloc: Global,
     files: &mut F,
@@ -162,7 +162,7 @@ fn read_behind<'a, F: Files>(
     }
 }
 
-// Reads the first file and the script behind it, with one count of steps under the blank's name.
+// Reads the first file and then the script, with one count of steps under the blank's name.
 fn read_files<'a, F: Files, L: Ledger>(
     alloc: Global,
     files: &mut F,
@@ -223,7 +223,8 @@ fn stopped(status: u8, session: Session) -> Outcome
     }
 }
 
-// Takes the lines of a script from a state on, with one count of steps under the blank's name.
+// Carries out the lines of a script from a state on, with one count of steps under the blank's
+// name.
 fn run_script<F: Files, O: Sink, E: Sink, L: Ledger>(
     alloc: Global,
     files: &mut F,
@@ -290,8 +291,8 @@ fn filled(alloc: Global, warehouse: Warehouse) -> Outcome
     }
 }
 
-// Makes a warehouse of so many drawn rows, and writes the record that tells it. The count of steps
-// goes under the blank's name.
+// Makes a warehouse of so many drawn rows, and writes its record. The count of steps has the
+// blank's name.
 fn run_generated<O: Sink, E: Sink, L: Ledger>(
     alloc: Global,
     out: &mut O,
@@ -333,7 +334,7 @@ fn run_generated<O: Sink, E: Sink, L: Ledger>(
     }
 }
 
-// Ends a run for its snapshot, which it writes.
+// Ends a run of `pack`, and writes its snapshot.
 fn packed<O: Sink, E: Sink>(
     alloc: Global,
     out: &mut O,
@@ -376,8 +377,8 @@ fn packed<O: Sink, E: Sink>(
     }
 }
 
-// Takes the lines of a script from a state on without their replies, and writes the snapshot of the
-// state that they leave. The count of steps goes under the blank's name.
+// Carries out the lines of a script from a state on without their replies, and writes the snapshot
+// of the state after them. The count of steps has the blank's name.
 fn pack_script<F: Files, O: Sink, E: Sink, L: Ledger>(
     alloc: Global,
     files: &mut F,
@@ -430,7 +431,7 @@ fn pack_script<F: Files, O: Sink, E: Sink, L: Ledger>(
     }
 }
 
-// Reads a schema and a script, and writes the snapshot of the state that the script's lines leave.
+// Reads a schema and a script, and writes the snapshot of the state after the script's lines.
 fn pack_files<F: Files, O: Sink, E: Sink>(
     alloc: Global,
     files: &mut F,
@@ -468,7 +469,7 @@ fn pack_files<F: Files, O: Sink, E: Sink>(
     pack_script::<F, O, E, Brand>(alloc, files, out, err, warehouse, &script, Blank::new(1))
 }
 
-// Reads the first file and a script, and takes the script's lines.
+// Reads the first file and a script, and carries out the script's lines.
 fn run_files<F: Files, O: Sink, E: Sink>(
     alloc: Global,
     files: &mut F,
@@ -510,20 +511,23 @@ fn run_files<F: Files, O: Sink, E: Sink>(
     run_script::<F, O, E, Brand>(alloc, files, out, err, warehouse, &script, Blank::new(1))
 }
 
-/// Runs `qcube` with these words: `run SCHEMA SCRIPT` reads a schema, and then takes the lines of a
-/// script in order, each with its reply on `out`; `open SNAPSHOT SCRIPT` does the same from the state
-/// whose snapshot it reads; `pack SCHEMA SCRIPT` takes the lines without their replies, and writes the
-/// snapshot of the state that they leave on `out`; `gen ROWS SEED` draws so many rows and the batches
-/// that follow them from the seed, and writes one record on `out`.
+/// Runs `qcube` with these words.
 ///
-/// Status 0 says that the script was read to its end, or the record written. Status 2: the words are
-/// no listed form. Status 3: a file couldn't be read. Status 4: `out` failed. Status 5: memory ran out
-/// before the first line, or anywhere in a generated run or in one for its snapshot. Status 6: the
-/// schema's text is none, the bytes of the snapshot are that of no state, or one of the two files, or
-/// the snapshot that is to be written, has more than 268,435,456 bytes. `err` gets one line at each
-/// status but 0.
+/// `run SCHEMA SCRIPT` reads a schema, and carries out the lines of a script in order, each with
+/// its reply on `out`. `open SNAPSHOT SCRIPT` does the same from the state whose snapshot it reads.
+/// `pack SCHEMA SCRIPT` carries out the lines without their replies, and writes the snapshot of the
+/// state after them on `out`. `gen ROWS SEED` draws so many rows and the batches that follow them
+/// from the seed, and writes one record on `out`.
 ///
-/// A line that finds no memory changes nothing; its number is put into `skipped`, and its reply says so.
+/// Status 0: the script was read to its end, or the record or the snapshot was written. Status 2:
+/// usage error, the words have no listed form. Status 3: a file couldn't be read. Status 4: `out`
+/// failed. Status 5: out of memory before the first line, or anywhere in `gen` or `pack`. Status 6:
+/// the schema is wrong, the bytes of the snapshot are that of no state, or one of the two files, or
+/// the snapshot to be written, has more than 268,435,456 bytes. `err` gets one line at each status
+/// but 0.
+///
+/// A line that runs out of memory changes nothing. Its number is put into `skipped`, and its reply
+/// says so.
 pub fn run<F: Files, O: Sink, E: Sink>(
     alloc: Global,
     words: &[String],

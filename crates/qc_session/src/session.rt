@@ -30,21 +30,21 @@ pub enum Stop {
     Write,
 }
 
-/// How far a script has come.
+/// How far a script has been carried out.
 #[derive(Drop)]
 pub struct Session {
     pub number: u32,
     pub pinned: Pinned,
     pub skipped: Vec<u32>,
     pub pending: Pending,
-    /// The reply to a point, whose memory serves for the next.
+    /// The reply to a point, in a buffer that the next one uses again.
     pub reply: Vec<u8>,
 }
 
 ghost use Rattle.qc_session.specs.Session.{AreUpTo, IfStop, Skips, WroteLine, WrotePart};
 
-// Takes one line, and gathers its reply. Around a line that names a file all is handed on, and at a
-// stop nothing is left.
+// Takes one line, and gathers its reply. Before and after a line that names a file all replies are
+// flushed, and at a stop none is left.
 fn take_line<F: Files, O: Sink, L: Ledger>(
     alloc: Global,
     files: &mut F,
@@ -119,7 +119,7 @@ fn take_line<F: Files, O: Sink, L: Ledger>(
     }
 }
 
-// How many lines a text has.
+// The number of lines of a text.
 fn count_lines(text: &[u8]) -> usize
     ensures count { result ≡ length (lines_of text.now) }
     ensures bound { result ≤ length text.now }
@@ -170,7 +170,7 @@ pub fn begin(alloc: Global, warehouse: Warehouse, script: &[u8]) -> Result<Sessi
     }
 }
 
-/// Takes the lines of a script in order, from its first line on, and hands on all their replies.
+/// Carries out the lines of a script in order, and flushes all their replies.
 pub fn take_lines<F: Files, O: Sink, L: Ledger>(
     alloc: Global,
     files: &mut F,

@@ -1,4 +1,4 @@
-// The top call for a program, which asks for the status alone.
+// The top call for a program, which returns the status alone.
 ghost use Rattle.std.specs.Prelude.{◌≡◌, ◌⊎◌, ◌↔◌, List, ℕ, Option, IfSome, IsNone, IsTrue};
 ghost use Rattle.generated_run.specs.Generated.{generated_record};
 ghost use Rattle.qc_io.specs.Outside.{Rose, taking};
@@ -11,8 +11,8 @@ use crate::scripts::run;
 use qc_io::{Files, Sink};
 use std::alloc::Global;
 
-/// Runs as `run` does, and lets go of all but the status. What `run` says of the lines that found no memory, and of the
-/// state at the end, is said here of some such lines and some state.
+/// Runs as `run` does, and drops all but the status. What `run` says of the lines that ran out of
+/// memory, and of the state at the end, is said here of some such lines and some state.
 pub fn run_to_status<F: Files, O: Sink, E: Sink>(
     alloc: Global,
     words: &[String],

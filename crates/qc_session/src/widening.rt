@@ -1,4 +1,4 @@
-// A dimension that comes.
+// A new dimension.
 ghost use Rattle.std.specs.Prelude.{IfOk, IfSome, OnErr, length, true, ◌≡◌, ◌≤◌};
 ghost use Rattle.qc_schema.specs.Grammar.{is_new_name};
 ghost use Rattle.reply_text.specs.Replies.{refused_text, widen_texts};
@@ -14,7 +14,7 @@ use std::alloc::AllocError;
 use std::sync::ledger::Ledger;
 use warehouse::WidenRefused;
 
-// Why no dimension comes.
+// Why no dimension is added.
 fn refused_widening(number: u32, cause: WidenRefused) -> Result<Reply, Memory>
     ensures { IfOk result (λ reply. IfSome (widen_refusal_in cause) (λ refusal. reply_bytes reply ≡ refused_text number (widen_texts refusal))) }
 {
@@ -24,7 +24,7 @@ fn refused_widening(number: u32, cause: WidenRefused) -> Result<Reply, Memory>
     }
 }
 
-/// Adds a dimension of a new name, in which each row has the value, where no name is pinned, and gives
+/// Adds a dimension of a new name, in which each row has the value, if no name is pinned, and makes
 /// the reply to its line.
 pub fn answer_widen<L: Ledger>(
     pinned: &mut Pinned,

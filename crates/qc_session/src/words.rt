@@ -1,4 +1,4 @@
-// What the words behind the program's name ask for.
+// The words after the program's name.
 ghost use Rattle.std.specs.Prelude.{◌≡◌, ◌∷◌, []};
 ghost use Rattle.aggregates.specs.Numbers.{id_in};
 ghost use Rattle.qc_session.specs.Forms.{drawing_of, form_of};
@@ -6,16 +6,16 @@ ghost use Rattle.qc_session.specs.Forms.{drawing_of, form_of};
 use aggregates::read_id;
 use cube_defs::MAX_ROWS;
 
-/// How the first file tells the state at which a run starts.
+/// The kind of the first file, which gives the state at which a run starts.
 #[derive(Clone, Copy)]
 pub enum Source {
-    /// It is a schema. There are no rows.
+    /// A schema: there are no rows.
     FromSchema,
-    /// It is the snapshot of the state.
+    /// The snapshot of a state.
     FromSnapshot,
 }
 
-/// The names of the first file and of the script, and what the first is.
+/// The names of the first file and of the script, and the kind of the first.
 #[derive(Clone, Copy)]
 pub struct Names<'a> {
     pub source: Source,
@@ -23,16 +23,16 @@ pub struct Names<'a> {
     pub script: &'a str,
 }
 
-/// A form of the words.
+/// The form of the words.
 #[derive(Clone, Copy)]
 pub enum Form<'a> {
     /// `run SCHEMA SCRIPT` or `open SNAPSHOT SCRIPT`: the names of two files.
     Run(Names<'a>),
     /// `pack SCHEMA SCRIPT`: the names of two files.
     Pack(Names<'a>),
-    /// `gen ROWS SEED`: how many rows, and the seed from which they are drawn.
+    /// `gen ROWS SEED`: the number of rows, and the seed from which they are drawn.
     Gen(u32, u64),
-    /// The words are no listed form.
+    /// Usage error: the words have no listed form.
     Unlisted,
 }
 
