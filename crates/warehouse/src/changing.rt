@@ -1,5 +1,5 @@
-// Changes are made to rows and texts, all of them or none, and the tree is made that of the rows after
-// them: in place for a batch, and anew for a base file.
+// Changes are made to rows and texts, all of them or none. The tree becomes that of the rows after
+// them: in place for a batch, from scratch for a base file.
 ghost use Rattle.std.specs.FinMap as finmap;
 ghost use Rattle.std.specs.Prelude.{Err, IfErr, IfOk, IfSome, None, Ok, OnErr, OnOk, Some, [], false, is_some, length, option_map, true, ◌+◌, ◌++◌, ◌<◌, ◌∷◌, ◌≡◌, ◌≤◌};
 ghost use Rattle.base_table.specs.Places.{has_id, rows_of};
@@ -38,7 +38,7 @@ use std::alloc::Global;
 use std::sync::ledger::Ledger;
 use value_dict::{Dict, Learn};
 
-// Puts a row in whose id isn't there, where there is room.
+// Inserts a row whose id isn't there, if there is room.
 fn insert_row(
     table: &mut Table,
     dict: &mut Dict,
@@ -83,7 +83,7 @@ fn insert_row(
     }
 }
 
-// Puts the rows in that are inserted. None of their ids is there, and there is room.
+// Inserts the rows of the file. None of their ids is there, and there is room.
 fn insert_rows(
     table: &mut Table,
     dict: &mut Dict,
@@ -122,8 +122,8 @@ fn insert_rows(
     Ok(())
 }
 
-// Puts the rows in that are inserted, if no dimension would have too many texts. None of their ids
-// is there, and there is room.
+// Inserts the rows of the file, if no dimension would have too many texts. None of their ids is
+// there, and there is room.
 fn add_rows(
     schema: &Schema,
     table: &mut Table,
@@ -168,9 +168,8 @@ fn add_rows(
     }
 }
 
-// Makes the changes to rows and texts in a batch that is open, and takes the rows that go out of the
-// tree. It tells how many places the table has before the rows that come. After a refusal some of the
-// changes are made.
+// Makes the changes to rows and texts in an open batch, and takes deleted rows out of the tree.
+// Returns the number of places before the new rows. After a refusal some of the changes are made.
 fn change_rows<L: Ledger>(
     schema: &Schema,
     table: &mut Table,
@@ -224,7 +223,7 @@ fn change_rows<L: Ledger>(
     Ok(first)
 }
 
-/// Makes the tree of the table's rows anew. After a refusal the tree is none in particular.
+/// Builds the tree of the table's rows from scratch. After a refusal nothing is known of the tree.
 pub(crate) fn rebuild<L: Ledger>(
     table: &Table,
     tree: &mut QcArena,
@@ -252,8 +251,8 @@ pub(crate) fn rebuild<L: Ledger>(
     }
 }
 
-// Makes the tree of the table's rows: from that of the rows before a place, in place, or else anew.
-// After a refusal the tree is none in particular.
+// Makes the tree of the table's rows: in place from that of the rows before a place, or else from
+// scratch. After a refusal nothing is known of the tree.
 fn make_tree<L: Ledger>(
     table: &Table,
     tree: &mut QcArena,
@@ -280,8 +279,8 @@ fn make_tree<L: Ledger>(
     }
 }
 
-// Makes the changes in a batch that is open, and the tree of the rows after them. After a refusal some
-// of them are made.
+// Makes the changes in an open batch, and the tree of the rows after them. After a refusal some of
+// them are made.
 fn change_and_build<L: Ledger>(
     schema: &Schema,
     table: &mut Table,
@@ -329,7 +328,7 @@ fn change_and_build<L: Ledger>(
             return Err(refused);
         }
     };
-    // The changes of the file are let go of before a tree is made.
+    // The changes of the file are dropped before a tree is made.
     drop(batch);
     match make_tree(table, tree, first, in_place, alloc, steps) {
         Ok(()) => Ok(()),
@@ -338,8 +337,8 @@ fn change_and_build<L: Ledger>(
     }
 }
 
-// Makes the changes in a batch that is open, the tree of the rows after them, and last of all the index
-// of its classes. After a refusal some of the changes are made, and the index is as it was.
+// Makes the changes in an open batch, the tree of the rows after them, and last the index of its
+// classes. After a refusal some of the changes are made, and the index is as it was.
 fn change_and_index<L: Ledger>(
     schema: &Schema,
     table: &mut Table,
@@ -449,8 +448,8 @@ pub(crate) fn change<L: Ledger>(
     }
 }
 
-// Makes the changes in a batch that is open, and the tree of the rows after them, in place, and tells how
-// many classes they have. After a refusal some of the changes are made.
+// Makes the changes in an open batch, and the tree of the rows after them, in place. Returns the
+// number of their classes. After a refusal some of the changes are made.
 fn change_and_count<L: Ledger>(
     schema: &Schema,
     table: &mut Table,
@@ -486,8 +485,8 @@ fn change_and_count<L: Ledger>(
     Ok(tree.class_count())
 }
 
-// Makes the changes in a batch of their own, with the tree of the rows after them, tells how many classes
-// they have, and takes them all back.
+// Makes the changes in a batch of their own, with the tree of the rows after them, returns the
+// number of their classes, and takes all back.
 fn count_and_go_back<L: Ledger>(
     schema: &Schema,
     table: &mut Table,
@@ -520,7 +519,7 @@ fn count_and_go_back<L: Ledger>(
     counted
 }
 
-/// Tells what changes would come to, and leaves rows, texts and tree as they were.
+/// A dry run of changes: leaves rows, texts and tree as they were.
 pub(crate) fn attempt<L: Ledger>(
     schema: &Schema,
     table: &mut Table,

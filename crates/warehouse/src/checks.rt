@@ -1,4 +1,4 @@
-// What is looked for before rows are put in.
+// The checks before rows are inserted.
 ghost use Rattle.std.specs.Prelude.{IfOk, Ok, [], length, nat_lt, not, true, ◌+◌, ◌-◌, ◌≡◌, ◌≤◌, take};
 ghost use Rattle.std.specs.List.{list_any};
 ghost use Rattle.base_table.specs.Places.{rows_of};
@@ -28,7 +28,7 @@ impl Seen {
         Ok(Seen { gone, come })
     }
 
-    // Whether a change is none of those so far. It is noted as one of them.
+    // Whether no earlier change has the same operation and id. Notes the change.
     fn is_new(&mut self, batch: &RawBatch, k: u32) -> Result<bool, Memory>
         requires first { 1 ≤ k }
         requires last { k ≤ length batch.now.changes }
@@ -46,7 +46,7 @@ impl Seen {
     }
 }
 
-// The number of the first change that is one of an earlier operation and id, where none is noted yet.
+// The number of the first change that repeats an earlier operation and id. No change is noted yet.
 fn first_seen(seen: &mut Seen, batch: &RawBatch) -> Result<Option<u32>, Memory>
     requires { AreSeen seen.old.gone.keys seen.old.come.keys [] }
     ensures { IfOk result (λ k. k ≡ first_twice batch.now.changes) }
@@ -87,7 +87,7 @@ pub(crate) fn first_present(table: &Table, batch: &RawBatch) -> Option<u32>
     None
 }
 
-/// Whether the rows of a table and those that come are too many.
+/// Whether the rows of a table and the new ones are too many.
 pub(crate) fn is_full(table: &Table, batch: &RawBatch, most: u32) -> bool
     ensures { result ≡ nat_lt most (length (rows_of table.now) + length (inserted batch.now.changes)) }
 {

@@ -1,4 +1,4 @@
-// Rows that go are taken out of the table, and out of the tree in place, one after another.
+// Deletes rows from the table, and from the tree in place, one after another.
 ghost use Rattle.std.specs.Prelude.{IfErr, IfSome, None, OnOk, Some, is_some, length, option_map, true, ◌+◌, ◌∷◌, ◌≡◌, ◌≤◌, []};
 ghost use Rattle.base_table.specs.Places.{row_with_id, rows_of, without_id};
 ghost use Rattle.batch_delete.specs.Rests.{Deletion};
@@ -25,8 +25,8 @@ use qc_arena::QcArena;
 use std::alloc::Global;
 use std::sync::ledger::Ledger;
 
-// Takes the row with an id out of the table, and out of the tree of the table's rows. After a refusal
-// the tree is none in particular.
+// Deletes the row of an id from the table, and from the tree of the table's rows. After a refusal
+// nothing is known of the tree.
 fn take_out<L: Ledger>(
     table: &mut Table,
     tree: &mut QcArena,
@@ -60,9 +60,9 @@ fn take_out<L: Ledger>(
     }
 }
 
-/// Takes the rows that are deleted out of the table, and out of the tree of the table's rows. It is
-/// refused at the first deletion of an id that isn't there. After a refusal the tree is none in
-/// particular.
+/// Deletes the rows of the file from the table, and from the tree of the table's rows. It is
+/// refused at the first deletion of an id that isn't there. After a refusal nothing is known of the
+/// tree.
 pub(crate) fn delete_rows<L: Ledger>(
     table: &mut Table,
     tree: &mut QcArena,

@@ -40,7 +40,7 @@ pub(crate) fn new_index(alloc: Global, schema: &Schema) -> Result<Index, Memory>
     Index::new(alloc, schema.indexes(), &all[..count])
 }
 
-// What a number stands for comes into an index that is filled, where it is a class.
+// Puts the class of a number into an index that is being filled, if it is one.
 fn push_class(filling: &mut Filling, number: u32, class: &Option<Agg>) -> Result<(), Memory>
     requires { IfSome class.now (λ class. All (λ unit. IsThere class.measures unit.0) (coming_units filling.old)) }
     ensures units { coming_units filling.new ≡ coming_units filling.old }
@@ -53,7 +53,7 @@ fn push_class(filling: &mut Filling, number: u32, class: &Option<Agg>) -> Result
     }
 }
 
-/// The index of the tree's classes, made of all of them.
+/// The index of the tree's classes, built from all of them.
 pub(crate) fn filled_index(alloc: Global, schema: &Schema, tree: &QcArena) -> Result<Index, Memory>
     requires layout { IsLayout schema.now }
     requires tree { IsTreeOfSome schema.now tree.now.now }
@@ -70,9 +70,9 @@ pub(crate) fn filled_index(alloc: Global, schema: &Schema, tree: &QcArena) -> Re
     filling.finish()
 }
 
-/// Makes of the index of the tree at the begin of the batch that of the tree now. A refusal leaves it as
-/// it was. Where the schema names no kind, the classes are not listed; where the index has none, it is made of all of them,
-/// without a list.
+/// Changes the index of the tree at the begin of the batch into that of the present tree. A refusal
+/// leaves it as it was. If the schema names no kind, the classes are not listed. If the index has
+/// no class, it is built from all of them, without a list.
 pub(crate) fn change_index(
     schema: &Schema,
     tree: &QcArena,

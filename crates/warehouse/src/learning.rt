@@ -1,4 +1,4 @@
-// Texts are learnt: row by row, or dimension by dimension.
+// Learns texts, row by row or dimension by dimension.
 ghost use Rattle.std.specs.Prelude.{[], Err, IfOk, IfSome, OnOk, Some, false, length, map, option_map, slice_set, take, ◌<◌, ◌≡◌, ◌≤◌};
 ghost use Rattle.csv_load.specs.Batch.{IsBatch, change_at, is_deletion, row_of};
 ghost use Rattle.value_dict.specs.TextLists.{IsDictionary, list_at};
@@ -14,7 +14,7 @@ use csv_load::RawBatch;
 use cube_defs::MAX_DIMS;
 use value_dict::{Dict, Learn};
 
-/// How many texts each dimension has.
+/// The number of texts of each dimension.
 pub(crate) fn lengths(dict: &Dict, dims: u8) -> [u32; 16]
     requires dims { dims ≡ length dict.now.lists }
     requires few { dims ≤ MAX_DIMS }
@@ -58,7 +58,7 @@ pub(crate) fn learn_tuple(
     Ok(())
 }
 
-// Learns what the insertions have in a dimension.
+// Learns the texts of the insertions in a dimension.
 fn learn_column(dict: &mut Dict, batch: &RawBatch, dim: u8) -> Result<(), Learn>
     requires dim { dim < batch.now.dims }
     requires dims { length dict.old.lists ≡ batch.now.dims }

@@ -1,5 +1,5 @@
-//! The state of a cube of data: a schema, its rows, their texts, their tree and the index of its
-//! classes, changed by whole files.
+//! The state of a cube: a schema, its rows, their texts, their tree and the index of its classes.
+//! Whole files change it.
 #![tactic(auto)]
 
 mod changing;

@@ -14,8 +14,8 @@ use qc_arena::QcArena;
 use qc_schema::Schema;
 use value_dict::Dict;
 
-/// Opens a batch. The state is as it was, and so is the tree. It tells how many texts each dimension
-/// has, which is what they are cut back to when the batch is taken back.
+/// Opens a batch. The state and the tree are as they were. Returns the number of texts of each
+/// dimension, to which they are cut when the batch is taken back.
 pub(crate) fn open_batch(
     schema: &Schema,
     table: &mut Table,
@@ -34,7 +34,7 @@ pub(crate) fn open_batch(
     lengths(dict, schema.dims())
 }
 
-/// Keeps what was done in the batch. What the nodes were that it touched is kept too, until it is asked for.
+/// Keeps the batch. The before-images of the touched nodes are kept too, until they are asked for.
 pub(crate) fn commit_both(table: &mut Table, tree: &mut QcArena)
     requires rows { is_some table.old.was ≡ true }
     requires tree { is_open tree.old ≡ true }
@@ -49,7 +49,8 @@ pub(crate) fn commit_both(table: &mut Table, tree: &mut QcArena)
     tree.commit();
 }
 
-/// Takes the batch back: rows and tree are those at its begin, and each dimension has so many texts.
+/// Takes the batch back: rows and tree are those at its begin, and each dimension has so many
+/// texts.
 pub(crate) fn go_back(table: &mut Table, dict: &mut Dict, tree: &mut QcArena, lens: &[u32])
     requires rows { is_some table.old.was ≡ true }
     requires tree { is_open tree.old ≡ true }

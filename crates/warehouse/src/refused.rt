@@ -1,24 +1,24 @@
-// What a file of changes does, or why it is refused; and what is counted.
+// What a file of changes does, or why it is refused; and the counts of a tree.
 use crate::Memory;
 use thiserror::Error;
 
-/// A file of changes was taken.
+/// A file of changes was applied.
 #[derive(Clone, Copy, Debug, PartialEq, Eq)]
 pub struct Applied {
-    /// How many records the file has.
+    /// The number of records of the file.
     pub records: u32,
-    /// How many classes of cells the rows have after it (Lakshmanan, Pei, Han, VLDB 2002).
+    /// The number of classes of the rows after it (Lakshmanan, Pei, Han, VLDB 2002).
     pub classes: u32,
 }
 
-/// Why a file of changes is refused. Of several causes the first in this order is named. A number
-/// is that of a record, counted from 1 without the header; a dimension is counted from 0.
+/// Why a file of changes is refused. If several causes hold, the first in this order is reported. A
+/// number is that of a record, counted from 1 after the header. A dimension is counted from 0.
 #[derive(Clone, Copy, Debug, PartialEq, Eq, Error)]
 pub enum Refused {
-    /// A base file is loaded where a row is present.
+    /// A base file is loaded, and a row is present.
     #[error("a base file is loaded where a row is present")]
     NotEmpty,
-    /// There is no header, or a needed column isn't there just once.
+    /// There is no header, or a needed column doesn't stand in it exactly once.
     #[error("a needed column is not there just once")]
     Header,
     /// The record has another number of fields than the header.
@@ -30,10 +30,10 @@ pub enum Refused {
     /// The operation is neither `+` nor `-`.
     #[error("record {0} is neither an insertion nor a deletion")]
     Op(u32),
-    /// The id is no number that fits 64 bits.
+    /// The id is no whole number that fits 64 bits.
     #[error("record {0} has an id that is no number of 64 bits")]
     Id(u32),
-    /// An amount is none of its measure's scale, or is too large.
+    /// An amount has another form than its measure's scale allows, or is too large.
     #[error("record {0} has an amount that is none of its scale, or too large")]
     Amount(u32),
     /// The text of a dimension has more than 255 bytes.
@@ -95,7 +95,7 @@ impl From<Memory> for PartsRefused {
     }
 }
 
-/// Why no dimension is added. Of several causes the first in this order is named.
+/// Why no dimension is added. If several causes hold, the first in this order is reported.
 #[derive(Clone, Copy, Debug, PartialEq, Eq, Error)]
 pub enum WidenRefused {
     /// The schema has as many dimensions as its version allows.
@@ -120,14 +120,14 @@ impl From<Memory> for WidenRefused {
     }
 }
 
-/// What is counted of the rows and of their tree (Lakshmanan, Pei, Zhao, SIGMOD 2003; which links
-/// are kept is own).
+/// The counts of the rows and of their tree (Lakshmanan, Pei, Zhao, SIGMOD 2003; which links are
+/// kept is our own choice).
 #[derive(Clone, Copy, Debug, PartialEq, Eq)]
 pub struct Stats {
     pub rows: u32,
     pub classes: u32,
     pub nodes: u32,
-    /// Edges that lead from a node to the node with one value more.
+    /// Edges that lead from a node to a node with one value more.
     pub tree_edges: u64,
     /// All other edges.
     pub links: u64,

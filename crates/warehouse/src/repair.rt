@@ -1,4 +1,4 @@
-// Rows that came are put into the tree in place, one after another.
+// Puts new rows into the tree in place, one after another.
 ghost use Rattle.std.specs.Prelude.{Err, OnOk, length, true, ◌+◌, ◌<◌, ◌≡◌, ◌≤◌};
 ghost use Rattle.base_table.specs.Places.{rows_of};
 ghost use Rattle.cube_defs.specs.Tree.{IsCanonical, nodes};
@@ -45,9 +45,9 @@ fn repair_at<L: Ledger>(
     }
 }
 
-/// Puts the rows behind so many places into the tree of those before. It is refused as full exactly
-/// where the table's rows have more nodes than there may be. After a refusal the tree is none in
-/// particular.
+/// Puts the rows after so many places into the tree of those before. It is refused as full exactly
+/// if the tree of the table's rows has more nodes than allowed. After a refusal nothing is known of
+/// the tree.
 pub(crate) fn repair<L: Ledger>(
     table: &Table,
     tree: &mut QcArena,

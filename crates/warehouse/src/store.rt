@@ -37,9 +37,9 @@ use std::marker::Model;
 use std::sync::ledger::Ledger;
 use value_dict::Dict;
 
-/// A schema, the rows that are present, for each dimension the texts that were ever accepted, in
-/// the order in which they were accepted, the tree of the rows, and the index of its classes. What the
-/// nodes were that the last change touched is kept until it is asked for, or until the next change.
+/// A schema, the present rows, their tree, and the index of its classes. For each dimension it has
+/// the texts that were ever accepted, in the order in which they were accepted. The before-images
+/// of the last change are kept until they are asked for, or until the next change.
 #[derive(Drop)]
 pub struct Warehouse {
     schema: Schema,
@@ -112,9 +112,9 @@ impl Warehouse {
         }
     }
 
-    /// The state of a schema, texts and rows that were made elsewhere, with the tree of the rows and the
-    /// index of its classes. NodesFull is the answer exactly where the tree has more nodes than the
-    /// schema allows, unless memory runs out. The parts are dropped on a refusal.
+    /// The state of a given schema, texts and rows, with the tree of the rows and the index of its
+    /// classes. NodesFull is the answer exactly if the tree has more nodes than the schema allows,
+    /// unless memory runs out. A refusal drops the parts.
     pub fn from_parts<L: Ledger>(
         alloc: Global,
         schema: Schema,
@@ -162,7 +162,7 @@ impl Warehouse {
         &self.dict
     }
 
-    /// The rows by their codes. It takes no memory.
+    /// The rows by their codes. Takes no memory.
     pub fn table(&self) -> &Table
         ensures rows { rows_of result.now ≡ coded_rows self.now.state }
         ensures dims { result.now.dims ≡ length self.now.state.schema.dims }
@@ -200,7 +200,7 @@ impl Warehouse {
         &self.index
     }
 
-    /// What is counted of the rows and of their tree, without counting anew.
+    /// The counts of the rows and of their tree. They are kept, not computed here.
     pub fn stats(&self) -> Stats
         ensures rows { result.rows ≡ length self.now.state.rows }
         ensures classes { result.classes ≡ length (trees.classes text_cmp self.now.state.rows) }
@@ -220,15 +220,16 @@ impl Warehouse {
         }
     }
 
-    // Drops what the nodes were that the change before touched.
+    // Drops the before-images of the last change.
     fn drop_images(&mut self)
         ensures rest { self.new ≡ record self.old { images = finmap.empty } }
     {
         self.tree.drop_images();
     }
 
-    /// Hands out what the nodes were that the last `load` or `apply` touched, by their numbers. After a
-    /// refusal, after `attempt`, after `widen` and at a second call there are none. It takes no memory.
+    /// Moves out the before-images of the nodes that the last `load` or `apply` touched, by their
+    /// numbers. After a refusal, after `attempt`, after `widen` and at a second call there are
+    /// none. Takes no memory.
     pub fn last_images(&mut self) -> Images
         ensures images { result ≡ self.old.images }
         ensures rest { self.new ≡ record self.old { images = finmap.empty } }
@@ -237,7 +238,7 @@ impl Warehouse {
         self.tree.last_images()
     }
 
-    // Makes changes, all of them or none, where no images are left of the change before.
+    // Makes changes, all of them or none. No before-images of an earlier change are left.
     fn change<L: Ledger>(
         &mut self,
         batch: RawBatch,
@@ -275,7 +276,7 @@ impl Warehouse {
         )
     }
 
-    /// Loads a base file. All of its rows are taken, or it is refused and nothing changes.
+    /// Loads a base file. All of its rows are inserted, or it is refused and nothing changes.
     pub fn load<L: Ledger>(
         &mut self,
         bytes: &[u8],
@@ -300,10 +301,10 @@ impl Warehouse {
         }
     }
 
-    /// Applies a batch of corrections: its deletions, and then its insertions in their order. It
-    /// is taken whole, or refused and nothing changes. The tree is changed in place: each node of the
-    /// rows that are left after the deletions keeps its number, and a node that is below the tuple of
-    /// no row that goes or comes keeps its record.
+    /// Applies a batch: its deletions, and then its insertions in their order. It is applied whole,
+    /// or refused and nothing changes. The tree is changed in place. Each node that the rows left
+    /// after the deletions have too keeps its number. A node that generalizes the tuple of no
+    /// deleted or inserted row keeps its record.
     pub fn apply<L: Ledger>(
         &mut self,
         bytes: &[u8],
@@ -328,7 +329,7 @@ impl Warehouse {
         }
     }
 
-    // Tells what changes would come to, and takes them back, where no images are left of the change before.
+    // A dry run of changes, which are taken back. No before-images of an earlier change are left.
     fn try_change<L: Ledger>(
         &mut self,
         batch: RawBatch,
@@ -353,10 +354,10 @@ impl Warehouse {
         )
     }
 
-    /// Tells what `apply` would answer to a batch, and leaves everything as it was, whatever the
-    /// answer: the rows, the texts, the index, and the tree with the numbers of its nodes. The batch is
-    /// made as `apply` makes it, in as many steps, and then it is taken back, for which no memory is
-    /// needed. Like each change it drops what the nodes were that the change before touched.
+    /// A dry run of a batch: answers what `apply` would answer, and leaves everything as it was,
+    /// whatever the answer: the rows, the texts, the index, and the tree with the numbers of its
+    /// nodes. The batch is made as `apply` makes it, in as many steps, and then taken back, which
+    /// takes no memory. Like each change it drops the before-images of the last one.
     pub fn attempt<L: Ledger>(
         &mut self,
         bytes: &[u8],
@@ -375,13 +376,16 @@ impl Warehouse {
         }
     }
 
-    /// Adds a dimension behind the others, in which each row that is present has the value, and whose only
-    /// text this is. The tree is changed in place: each node keeps its number, and each that is no class
-    /// its record with Any in the new dimension; each class gets a forced child with the value, which has
-    /// its aggregate from then on. It answers no records, and the classes after it. DimsFull is the answer
-    /// exactly where the schema has as many dimensions as its version allows, and else NodesFull exactly
-    /// where nodes and classes together are more than the schema's nodes, unless memory runs out. After a
-    /// refusal everything is as it was.
+    /// Adds a last dimension, in which each present row has the value. The value is the dimension's
+    /// only text.
+    ///
+    /// The tree is changed in place. Each node keeps its number. A node that is no class keeps its
+    /// record, with Any in the new dimension. Each class gets a forced child with the value, which
+    /// takes over its aggregate. The answer has no records, and the number of classes after it.
+    ///
+    /// DimsFull is the answer exactly if the schema has as many dimensions as its version allows.
+    /// Else NodesFull is the answer exactly if nodes and classes together are more than the
+    /// schema's nodes, unless memory runs out. After a refusal everything is as it was.
     pub fn widen<L: Ledger>(
         &mut self,
         name: &str,

@@ -1,4 +1,5 @@
-// A dimension is added: each row gets its value there, and each class of the tree a child that has it.
+// Adds a dimension: each row gets its value there, and each class of the tree a child with the
+// value.
 ghost use Rattle.std.specs.FinMap as finmap;
 ghost use Rattle.std.specs.FinSet as set;
 ghost use Rattle.std.specs.Option.{option_map};
@@ -39,7 +40,8 @@ use std::alloc::{AllocError, Global};
 use std::sync::ledger::Ledger;
 use value_dict::Dict;
 
-// Adds a class's child, with the value 0 in the dimension. After a refusal the tree is none in particular.
+// Adds a class's child, with the value 0 in the dimension. After a refusal nothing is known of the
+// tree.
 fn add_child<L: Ledger>(
     tree: &mut QcArena,
     node: NodeNo,
@@ -61,14 +63,14 @@ fn add_child<L: Ledger>(
 {
     let child = match tree.add_node(Some((node, dim, 0)), steps) {
         Ok(child) => child,
-        // That there is room was seen before.
+        // It was checked before that there is room.
         Err(_) => return Err(AllocError),
     };
     tree.set_class(child, Some(class), steps);
     Ok(child)
 }
 
-// Makes a child the forced one of its parent, which is no class any more.
+// Makes a child the forced one of its parent, which is no longer a class.
 fn lead_to<L: Ledger>(
     tree: &mut QcArena,
     node: NodeNo,
@@ -94,7 +96,7 @@ fn lead_to<L: Ledger>(
     tree.set_edge(node, dim, 0, child, steps)
 }
 
-// Hands the class of a node to a new child. After a refusal the tree is none in particular.
+// Moves the class of a node to a new child. After a refusal nothing is known of the tree.
 fn hand_on<L: Ledger>(
     tree: &mut QcArena,
     node: NodeNo,
@@ -137,8 +139,8 @@ fn ends_in<L: Ledger>(tree: &QcArena, node: NodeNo, dim: u8, steps: &mut Steps<L
     }
 }
 
-// Hands the class of a number on, where it has one and is no new child. It tells how many classes may still
-// be met.
+// Moves the class of a number to a new child, if it has one and is no new child itself. Returns how
+// many classes may still be met.
 fn hand_on_at<L: Ledger>(
     tree: &mut QcArena,
     number: u32,
@@ -171,7 +173,8 @@ fn hand_on_at<L: Ledger>(
     }
 }
 
-// Hands all classes on, of which so many may be met. After a refusal the tree is none in particular.
+// Moves all classes to new children, of which so many may be met. After a refusal nothing is known
+// of the tree.
 fn hand_all_on<L: Ledger>(
     tree: &mut QcArena,
     dim: u8,
@@ -196,7 +199,8 @@ fn hand_all_on<L: Ledger>(
     Ok(())
 }
 
-// The tree gets a dimension, in which all rows have the code 0. After a refusal it is none in particular.
+// Adds a dimension to the tree, in which all rows have the code 0. After a refusal nothing is known
+// of the tree.
 fn widen_tree<L: Ledger>(tree: &mut QcArena, steps: &mut Steps<L>) -> Result<(), Memory>
     requires opened { is_open tree.old ≡ true }
     requires untouched { tree.old.touched ≡ set.empty }
@@ -219,8 +223,8 @@ fn is_small(tree: &QcArena)
     let _nodes = tree.live();
 }
 
-// Rows and tree get the dimension in a batch that is open, and the index of the tree's classes is made. After a
-// refusal the tree is none in particular.
+// Adds the dimension to rows and tree in an open batch, and builds the index of the tree's classes.
+// After a refusal nothing is known of the tree.
 fn widen_both<L: Ledger>(
     wide: &Schema,
     table: &mut Table,
@@ -257,8 +261,8 @@ fn widen_both<L: Ledger>(
     filled_index(alloc, wide, tree)
 }
 
-// Adds the dimension to rows, texts and tree, and makes the index of the tree's classes. After a refusal all is
-// as it was.
+// Adds the dimension to rows, texts and tree, and builds the index of the tree's classes. After a
+// refusal all is as it was.
 fn widen_parts<L: Ledger>(
     wide: &Schema,
     table: &mut Table,
@@ -305,7 +309,7 @@ fn widen_parts<L: Ledger>(
     match widen_both(wide, table, tree, alloc, steps) {
         Ok(index) => {
             commit_both(table, tree);
-            // Where a dimension came, what the nodes were is of no use.
+            // After a new dimension the before-images are of no use.
             tree.drop_images();
             Ok(index)
         }
@@ -319,7 +323,7 @@ fn widen_parts<L: Ledger>(
     }
 }
 
-// Why no dimension can be added, if none can be.
+// Why no dimension can be added, if that is so.
 fn full_cause(schema: &Schema, tree: &QcArena) -> Option<WidenRefused>
     ensures { result ≡ (if nat_le (max_dims schema.now.version) (length schema.now.dims) then Some WidenRefused.DimsFull
         else (if nat_lt schema.now.nodes (finmap.len tree.now.now + classes_in nat_cmp tree.now.now) then Some WidenRefused.NodesFull else None)) }
