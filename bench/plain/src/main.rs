@@ -1,98 +1,121 @@
-// What a plain program does with the same files: `rows FILE` reads the records and keeps them, `texts FILE` learns the
-// distinct texts of the second column, `tree FILE` builds the tree of its rows, and tells how many nodes it has; `points FILE`
-// builds it too, and asks 500,000 points of cells above its rows, and tells how many of them cover a row and how many seconds
-// they took.
+//! A plain program with the words, files and replies of qcube, hand-written for speed and without proofs. The benchmarks run
+//! qcube beside it. Its tree is canonical by care alone.
+//!
+//! It has all words and commands but these: the pins (`pin`, `unpin` and `at` stop it with status 9), and the reply `memory` and
+//! status 5: where memory runs out it is aborted. It is no reference: where its reply differs from qcube's, qcube's is proved.
+mod build;
+mod delete;
+mod fields;
+mod generated;
+mod index;
+mod insert;
+mod numbers;
+mod parts;
+mod queries;
+mod ranges;
+mod records;
+mod reply;
+mod rows;
+mod schema;
+mod script;
+mod snapshot;
+mod texts;
 mod tree;
+mod warehouse;
 
-use tree::{Row, Tree};
-use csv::{ReaderBuilder, StringRecord};
-use indexmap::IndexSet;
-use std::error::Error;
+use schema::{without_mark, Schema};
+use script::{read_file, Stop, MOST_BYTES};
+use std::io::Write;
+use std::os::unix::ffi::OsStringExt;
+use warehouse::Warehouse;
 
-/// Rows of codes, and for each dimension the texts that the codes stand for.
-#[derive(Default)]
-struct Table {
-    rows: Vec<Row>,
-    texts: [IndexSet<String>; 6],
+const USAGE: &str = "usage: qcube run SCHEMA SCRIPT | qcube gen ROWS SEED | qcube pack SCHEMA SCRIPT | qcube open SNAPSHOT SCRIPT";
+
+/// A status and the line on standard error.
+type End = (i32, Vec<u8>);
+
+fn end(status: i32, message: &str) -> End {
+    (status, message.as_bytes().to_vec())
 }
 
-impl Table {
-    fn code(&mut self, dim: usize, text: &str) -> u32 {
-        match self.texts[dim].get_index_of(text) {
-            Some(place) => place as u32,
-            None => self.texts[dim].insert_full(text.to_string()).0 as u32,
-        }
-    }
-
-    // Records of an id, six texts and an amount.
-    fn read(&mut self, bytes: &[u8]) -> Result<(), Box<dyn Error>> {
-        let mut reader = ReaderBuilder::new().flexible(true).from_reader(bytes);
-        let mut record = StringRecord::new();
-        while reader.read_record(&mut record)? {
-            let mut codes = [0; 6];
-            for dim in 0..6 {
-                codes[dim] = self.code(dim, &record[1 + dim]);
-            }
-            let amount = (record[7].parse::<f64>()? * 100.0).round() as i64;
-            self.rows.push(Row { codes, amount });
-        }
-        Ok(())
+fn stopped(stop: Stop) -> End {
+    match stop {
+        Stop::CannotRead(name) => (3, [b"cannot read ", &name[..]].concat()),
+        Stop::CannotWrite => end(4, "cannot write"),
+        Stop::LeftOut(word) => (9, [b"left out: ", &word[..]].concat()),
     }
 }
 
-fn build(word: &str, file: &str) -> Result<usize, Box<dyn Error>> {
-    let mut table = Table::default();
-    table.read(&std::fs::read(file)?)?;
-    let rows = table.rows;
-    let tree = Tree::of(&rows);
-    if word == "tree" {
-        let children = tree.nodes.iter().filter(|node| node.parent == 0).count();
-        let sum: i64 = tree.nodes.iter().filter_map(|node| node.class).map(|class| class.parts[0].0).sum();
-        eprintln!("{children} {sum}");
-        return Ok(tree.nodes.len());
+fn read_first(name: &[u8]) -> Result<Vec<u8>, End> {
+    let bytes = read_file(name).map_err(stopped)?;
+    if bytes.len() > MOST_BYTES {
+        return Err((6, [name, b" is too long"].concat()));
     }
-    let mut state = 7_u64;
-    let mut found = 0;
-    let begin = std::time::Instant::now();
-    for _ in 0..500_000 {
-        state = state.wrapping_mul(6_364_136_223_846_793_005).wrapping_add(1_442_695_040_888_963_407);
-        let mut asked = rows[(state >> 33) as usize % rows.len()].codes;
-        for (dim, code) in asked.iter_mut().enumerate() {
-            if state >> dim & 1 == 1 {
-                *code = u32::MAX;
-            }
-        }
-        found += usize::from(tree.find(&asked).is_some_and(|class| class.count > 0));
-    }
-    println!("{:.4}", begin.elapsed().as_secs_f64());
-    Ok(found)
+    Ok(bytes)
 }
 
-fn read(word: &str, bytes: &[u8]) -> Result<usize, Box<dyn Error>> {
-    let mut reader = ReaderBuilder::new().flexible(true).from_reader(bytes);
-    let mut record = StringRecord::new();
-    if word == "rows" {
-        let mut kept = Vec::new();
-        while reader.read_record(&mut record)? {
-            kept.push(record.clone());
-        }
-        return Ok(kept.len());
-    }
-    let mut texts: IndexSet<String> = IndexSet::new();
-    while reader.read_record(&mut record)? {
-        if !texts.contains(&record[1]) {
-            texts.insert(record[1].to_string());
-        }
-    }
-    Ok(texts.len())
+fn read_schema(bytes: &[u8]) -> Result<Warehouse, End> {
+    let text = std::str::from_utf8(without_mark(bytes)).map_err(|_| end(6, "schema not UTF-8"))?;
+    let schema = Schema::read(text).map_err(|fault| end(6, &format!("schema line {}: {}", fault.0, fault.1)))?;
+    Ok(Warehouse::new(schema))
 }
 
-fn main() -> Result<(), Box<dyn Error>> {
-    let words: Vec<String> = std::env::args().collect();
-    let count = match words[1].as_str() {
-        "tree" | "points" => build(&words[1], &words[2])?,
-        word => read(word, &std::fs::read(&words[2])?)?,
+fn write(bytes: &[u8]) -> Result<(), End> {
+    let mut out = std::io::stdout().lock();
+    out.write_all(bytes).and_then(|()| out.flush()).map_err(|_| stopped(Stop::CannotWrite))
+}
+
+fn run(word: &str, first: &[u8], script: &[u8]) -> Result<(), End> {
+    let first = read_first(first)?;
+    let script = read_first(script)?;
+    let mut warehouse = match word {
+        "open" => snapshot::open(&first).ok_or_else(|| end(6, "snapshot refused"))?,
+        _ => read_schema(&first)?,
     };
-    println!("{count}");
-    Ok(())
+    drop(first);
+    if word == "pack" {
+        script::run(&mut warehouse, &script, None).map_err(stopped)?;
+        let bytes = snapshot::pack(&warehouse);
+        if bytes.len() > MOST_BYTES {
+            return Err(end(6, "snapshot is too long"));
+        }
+        return write(&bytes);
+    }
+    script::run(&mut warehouse, &script, Some(&mut std::io::stdout().lock())).map_err(stopped)
+}
+
+fn generate(rows: &[u8], seed: &[u8]) -> Option<Result<(), End>> {
+    let rows = numbers::id(rows).filter(|rows| (1..=1_000_000).contains(rows))?;
+    let seed = numbers::id(seed)?;
+    Some(match generated::run(rows, seed) {
+        Some(record) => write(&record),
+        None => Err(end(9, "a generated file was refused")),
+    })
+}
+
+fn take_words(words: &[Vec<u8>]) -> Option<Result<(), End>> {
+    let [word, first, second] = words else { return None };
+    match std::str::from_utf8(word).unwrap_or("") {
+        "gen" => generate(first, second),
+        word @ ("run" | "pack" | "open") => Some(run(word, first, second)),
+        _ => None,
+    }
+}
+
+fn main() {
+    let words: Vec<Vec<u8>> = std::env::args_os().skip(1).map(|word| word.into_vec()).collect();
+    if let [word, file] = &words[..] {
+        let (word, file) = (String::from_utf8_lossy(word), String::from_utf8_lossy(file));
+        if ["rows", "texts", "tree", "points"].contains(&&word[..]) {
+            let count = parts::run(&word, &file).unwrap_or_else(|error| panic!("{error}"));
+            return println!("{count}");
+        }
+    }
+    let (status, message) = match take_words(&words) {
+        Some(Ok(())) => return,
+        Some(Err((status, message))) => (status, [b"qcube: ", &message[..]].concat()),
+        None => (2, USAGE.as_bytes().to_vec()),
+    };
+    let _ = std::io::stderr().write_all(&[&message[..], b"\n"].concat());
+    std::process::exit(status);
 }

@@ -1,207 +1,324 @@
-// The tree of rows by depth-first building, as qcube builds it: drill on each later dimension that is Any, part the rows
-// by their codes there, and where a part shares a value before that dimension set a link, which is found from the front
-// that both have in common.
-pub const DIMS: usize = 6;
-const ANY: u32 = u32::MAX;
+//! The canonical tree as docs/tree.md draws it, and searches in it.
+//!
+//! A node of no class has its forced child as the last of its edges, and one of a class has none. Edges are sorted by label.
+use crate::rows::Rows;
+use crate::schema::MAX_DIMS;
+use crate::texts::Fast;
+use smallvec::SmallVec;
+use std::collections::HashMap;
 
-#[derive(Clone, Copy)]
-pub struct Row {
-    pub codes: [u32; DIMS],
-    pub amount: i64,
+pub const ANY: u32 = u32::MAX;
+pub const NONE: u32 = u32::MAX;
+pub const ROOT: u32 = 0;
+
+pub type Cell = [u32; MAX_DIMS];
+
+/// A dimension and a code in one number, so that labels compare by dimension and then by code.
+pub type Label = u32;
+
+pub fn label(dim: usize, code: u32) -> Label {
+    (dim as u32) << 24 | code
 }
 
-/// The count, sum, least and greatest of some rows, in four parts.
-#[derive(Clone, Copy)]
-pub struct Class {
-    pub count: u32,
-    pub parts: [(i64, i64, i64); 4],
+pub fn dim_of(label: Label) -> usize {
+    (label >> 24) as usize
 }
 
-/// An edge: a dimension, a code and the number of a node.
-pub type Edge = (u8, u32, u32);
+pub fn code_of(label: Label) -> u32 {
+    label & 0xFF_FFFF
+}
 
-/// A node, with its cell in 16 places as qcube keeps it.
+#[derive(Clone, Copy, PartialEq, Eq)]
+pub struct Edge {
+    pub label: Label,
+    pub node: u32,
+}
+
+#[derive(Clone)]
 pub struct Node {
-    pub cell: [u32; 16],
+    pub edges: SmallVec<[Edge; 2]>,
     pub parent: u32,
-    pub forced: Option<Edge>,
-    pub class: Option<Class>,
-    pub edges: Vec<Edge>,
+    /// The label of the node's last value. The root has none.
+    pub label: Label,
+    /// How many rows the node's class has; 0 where it is no upper bound.
+    pub count: u32,
+    /// The exclusive or of the slots of the class's rows: of two rows it gives the one beside the other.
+    pub rows: u32,
+}
+
+/// The sum, the least and the greatest of a measure.
+#[derive(Clone, Copy, PartialEq, Eq)]
+pub struct Part {
+    pub sum: i64,
+    pub least: i64,
+    pub greatest: i64,
+}
+
+impl Part {
+    pub const EMPTY: Part = Part { sum: 0, least: i64::MAX, greatest: i64::MIN };
+
+    pub fn of(amount: i64) -> Part {
+        Part { sum: amount, least: amount, greatest: amount }
+    }
+
+    pub fn add(&mut self, other: Part) {
+        self.sum += other.sum;
+        self.least = self.least.min(other.least);
+        self.greatest = self.greatest.max(other.greatest);
+    }
 }
 
 #[derive(Default)]
-struct Parts {
-    rows: Vec<u32>,
-    ends: Vec<usize>,
-    starts: Vec<usize>,
-}
-
-pub struct Tree<'a> {
-    rows: &'a [Row],
-    spare: Vec<Parts>,
+pub struct Tree {
+    pub dims: usize,
+    pub measures: usize,
     pub nodes: Vec<Node>,
+    /// For each node as many parts as there are measures.
+    pub parts: Vec<Part>,
+    pub free: Vec<u32>,
+    pub classes: usize,
+    /// How many edges there are, tree edges and links.
+    pub edges: usize,
+    /// The rows of each tuple with more than one.
+    pub groups: HashMap<u32, Vec<u32>, Fast>,
+    /// The classes that were changed, where an index wants to know.
+    pub changed: Option<Vec<u32>>,
 }
 
-type Path = [u32; DIMS + 1];
-
-impl<'a> Tree<'a> {
-    pub fn of(rows: &'a [Row]) -> Tree<'a> {
-        let mut tree = Tree { rows, spare: Vec::new(), nodes: Vec::new() };
-        if !rows.is_empty() {
-            let all: Vec<u32> = (0..rows.len() as u32).collect();
-            let mut upper = [ANY; 16];
-            for dim in 0..DIMS {
-                upper[dim] = tree.shared(&all, dim);
-            }
-            tree.nodes.push(Node { cell: [ANY; 16], parent: 0, forced: None, class: None, edges: Vec::new() });
-            tree.drill(&all, upper, 0, [0; DIMS + 1]);
-        }
-        tree
+impl Tree {
+    pub fn new(dims: usize, measures: usize) -> Tree {
+        Tree { dims, measures, ..Tree::default() }
     }
 
-    /// What the rows come to that a cell covers, if it covers any.
-    pub fn find(&self, asked: &[u32; DIMS]) -> Option<&Class> {
-        let mut at = 0;
-        for (dim, &code) in asked.iter().enumerate() {
-            let node = &self.nodes[at as usize];
-            match node.forced {
-                Some((i, value, child)) if usize::from(i) == dim => {
-                    if code != ANY && code != value {
-                        return None;
-                    }
-                    at = child;
-                }
-                _ if code == ANY => {}
-                _ => at = self.edge(at, dim, code)?,
-            }
-        }
-        self.nodes[at as usize].class.as_ref()
+    pub fn len(&self) -> usize {
+        self.nodes.len() - self.free.len()
     }
 
-    fn edge(&self, node: u32, dim: usize, code: u32) -> Option<u32> {
-        let edges = &self.nodes[node as usize].edges;
-        let place = edges.binary_search_by_key(&(dim as u8, code), |edge| (edge.0, edge.1)).ok()?;
-        Some(edges[place].2)
+    pub fn links(&self) -> usize {
+        self.edges - self.len().saturating_sub(1)
     }
 
-    fn child(&mut self, parent: u32, dim: usize, code: u32, is_forced: bool) -> u32 {
-        let number = self.nodes.len() as u32;
-        let mut cell = self.nodes[parent as usize].cell;
-        cell[dim] = code;
-        self.nodes.push(Node { cell, parent, forced: None, class: None, edges: Vec::new() });
-        let edge = (dim as u8, code, number);
-        let node = &mut self.nodes[parent as usize];
-        node.edges.push(edge);
-        if is_forced {
-            node.forced = Some(edge);
-        }
-        number
+    pub fn is_empty(&self) -> bool {
+        self.nodes.is_empty()
     }
 
-    fn code(&self, row: u32, dim: usize) -> u32 {
-        self.rows[row as usize].codes[dim]
+    pub fn clear(&mut self) {
+        let changed = self.changed.take().map(|_| (0..self.nodes.len() as u32).collect());
+        *self = Tree { changed, ..Tree::new(self.dims, self.measures) };
     }
 
-    fn shared(&self, rows: &[u32], dim: usize) -> u32 {
-        let code = self.code(rows[0], dim);
-        if rows.iter().all(|row| self.code(*row, dim) == code) {
-            code
-        } else {
-            ANY
-        }
+    pub fn node(&self, node: u32) -> &Node {
+        &self.nodes[node as usize]
     }
 
-    fn drill(&mut self, rows: &[u32], upper: [u32; 16], first: usize, mut path: Path) {
-        for dim in first..DIMS {
-            if upper[dim] == ANY {
-                let mut parts = self.spare.pop().unwrap_or_default();
-                self.part(rows, dim, &mut parts);
-                let mut start = 0;
-                for k in 0..parts.ends.len() {
-                    let end = parts.ends[k];
-                    self.drill_part(&parts.rows[start..end], upper, dim, path);
-                    start = end;
-                }
-                self.spare.push(parts);
-                path[dim + 1] = path[dim];
-            } else {
-                path[dim + 1] = self.child(path[dim], dim, upper[dim], true);
-            }
-        }
-        let class = self.class(rows);
-        self.nodes[path[DIMS] as usize].class = Some(class);
+    pub fn node_mut(&mut self, node: u32) -> &mut Node {
+        &mut self.nodes[node as usize]
     }
 
-    fn drill_part(&mut self, rows: &[u32], upper: [u32; 16], dim: usize, mut path: Path) {
-        let code = self.code(rows[0], dim);
-        match (0..dim).find(|i| upper[*i] == ANY && self.shared(rows, *i) != ANY) {
-            Some(at) => {
-                let target = self.descend(rows, upper, at, dim, path[at]);
-                self.nodes[path[dim] as usize].edges.push((dim as u8, code, target));
+    pub fn parts(&self, node: u32) -> &[Part] {
+        &self.parts[node as usize * self.measures..][..self.measures]
+    }
+
+    pub fn parts_mut(&mut self, node: u32) -> &mut [Part] {
+        &mut self.parts[node as usize * self.measures..][..self.measures]
+    }
+
+    /// Adds a node without edges. Its parent's edge is the caller's to set.
+    pub fn add(&mut self, parent: u32, label: Label) -> u32 {
+        let node = Node { edges: SmallVec::new(), parent, label, count: 0, rows: 0 };
+        match self.free.pop() {
+            Some(number) => {
+                self.nodes[number as usize] = node;
+                number
             }
             None => {
-                let mut next = upper;
-                next[dim] = code;
-                for i in dim + 1..DIMS {
-                    if upper[i] == ANY {
-                        next[i] = self.shared(rows, i);
-                    }
-                }
-                path[dim + 1] = self.child(path[dim], dim, code, false);
-                self.drill(rows, next, dim + 1, path);
+                self.nodes.push(node);
+                self.parts.resize(self.parts.len() + self.measures, Part::EMPTY);
+                self.nodes.len() as u32 - 1
             }
         }
     }
 
-    fn descend(&self, rows: &[u32], upper: [u32; 16], at: usize, dim: usize, from: u32) -> u32 {
-        let mut node = from;
-        for i in at..=dim {
-            let code = if upper[i] == ANY { self.shared(rows, i) } else { upper[i] };
-            if code != ANY {
-                node = self.edge(node, i, code).unwrap();
-            }
+    pub fn note(&mut self, node: u32) {
+        if let Some(changed) = &mut self.changed {
+            changed.push(node);
+        }
+    }
+
+    /// The first dimension behind a node's last value.
+    pub fn next_dim(&self, node: u32) -> usize {
+        if node == ROOT { 0 } else { dim_of(self.node(node).label) + 1 }
+    }
+
+    /// The edge to a node's forced child.
+    pub fn forced(&self, node: u32) -> Option<Edge> {
+        let node = self.node(node);
+        if node.count > 0 { None } else { node.edges.last().copied() }
+    }
+
+    /// Where a label leads.
+    pub fn target(&self, node: u32, label: Label) -> Option<u32> {
+        find(&self.node(node).edges, label).ok().map(|place| self.node(node).edges[place].node)
+    }
+
+    /// A node's edges with labels of a dimension.
+    pub fn labels(&self, node: u32, dim: usize) -> &[Edge] {
+        let edges = &self.node(node).edges;
+        let begin = edges.partition_point(|edge| edge.label < label(dim, 0));
+        let end = begin + edges[begin..].partition_point(|edge| edge.label < label(dim + 1, 0));
+        &edges[begin..end]
+    }
+
+    /// The upper bound of a node's rows.
+    pub fn class_of(&self, mut node: u32) -> u32 {
+        while let Some(edge) = self.forced(node) {
+            node = edge.node;
         }
         node
     }
 
-    fn part(&self, rows: &[u32], dim: usize, parts: &mut Parts) {
-        parts.rows.clear();
-        parts.ends.clear();
-        if rows.len() <= 20 {
-            parts.rows.extend_from_slice(rows);
-            parts.rows.sort_by_key(|row| self.code(*row, dim));
-        } else {
-            let most = rows.iter().map(|row| self.code(*row, dim)).max().unwrap_or(0) as usize;
-            parts.starts.clear();
-            parts.starts.resize(most + 2, 0);
-            for row in rows {
-                parts.starts[self.code(*row, dim) as usize + 1] += 1;
+    /// Goes on from the node that stands before dimension `dim` by the values of a cell from there up to `end`.
+    pub fn walk(&self, mut node: u32, cell: &[u32], dim: usize, end: usize) -> Option<u32> {
+        for i in dim..end {
+            let code = cell[i];
+            if code == ANY {
+                continue;
             }
-            for v in 1..parts.starts.len() {
-                parts.starts[v] += parts.starts[v - 1];
-            }
-            parts.rows.resize(rows.len(), 0);
-            for row in rows {
-                let place = &mut parts.starts[self.code(*row, dim) as usize];
-                parts.rows[*place] = *row;
-                *place += 1;
-            }
+            node = self.step(node, i, code)?;
         }
-        for k in 1..parts.rows.len() {
-            if self.code(parts.rows[k], dim) != self.code(parts.rows[k - 1], dim) {
-                parts.ends.push(k);
-            }
-        }
-        parts.ends.push(parts.rows.len());
+        Some(node)
     }
 
-    fn class(&self, rows: &[u32]) -> Class {
-        let amount = |row: &u32| self.rows[*row as usize].amount;
-        let mut part = (0, i64::MAX, i64::MIN);
-        for row in rows {
-            let amount = amount(row);
-            part = (part.0 + amount, part.1.min(amount), part.2.max(amount));
+    /// Goes by a value in a dimension that stands behind the node's last value.
+    pub fn step(&self, mut node: u32, dim: usize, code: u32) -> Option<u32> {
+        let wanted = label(dim, code);
+        loop {
+            let at = self.node(node);
+            if at.count > 0 {
+                return self.target(node, wanted);
+            }
+            let forced = *at.edges.last()?;
+            if forced.label >= label(dim, 0) {
+                return if forced.label == wanted {
+                    Some(forced.node)
+                } else if dim_of(forced.label) == dim {
+                    None
+                } else {
+                    self.target(node, wanted)
+                };
+            }
+            node = forced.node;
         }
-        Class { count: rows.len() as u32, parts: [part, (0, 0, 0), (0, 0, 0), (0, 0, 0)] }
+    }
+
+    /// The upper bound of a cell's class, where the cell covers a row.
+    pub fn find(&self, cell: &[u32]) -> Option<u32> {
+        if self.is_empty() {
+            return None;
+        }
+        Some(self.class_of(self.walk(ROOT, cell, 0, self.dims)?))
+    }
+
+    /// The cell of a node.
+    pub fn cell(&self, mut node: u32) -> Cell {
+        let mut cell = [ANY; MAX_DIMS];
+        while node != ROOT {
+            let at = self.node(node);
+            cell[dim_of(at.label)] = code_of(at.label);
+            node = at.parent;
+        }
+        cell
+    }
+
+    /// The dimensions of a node's values.
+    pub fn mask(&self, mut node: u32) -> u32 {
+        let mut mask = 0;
+        while node != ROOT {
+            let at = self.node(node);
+            mask |= 1 << dim_of(at.label);
+            node = at.parent;
+        }
+        mask
+    }
+
+    /// The ancestor whose last value stands in a dimension.
+    pub fn ancestor(&self, mut node: u32, dim: usize) -> u32 {
+        while dim_of(self.node(node).label) > dim {
+            node = self.node(node).parent;
+        }
+        node
+    }
+
+    /// What some rows come to in each measure.
+    pub fn set_class(&mut self, node: u32, rows: &[u32], table: &Rows) {
+        let at = self.node_mut(node);
+        at.count = rows.len() as u32;
+        at.rows = rows.iter().fold(0, |rows, row| rows ^ row);
+        for measure in 0..self.measures {
+            let mut part = Part::EMPTY;
+            for row in rows {
+                part.add(Part::of(table.amounts(*row)[measure]));
+            }
+            self.parts_mut(node)[measure] = part;
+        }
+        self.classes += 1;
+    }
+
+    /// Gives each row the code 0 in a new last dimension.
+    pub fn widen(&mut self) {
+        let dim = self.dims;
+        self.dims += 1;
+        for node in 0..self.nodes.len() as u32 {
+            if self.node(node).count == 0 {
+                continue;
+            }
+            let child = self.add(node, label(dim, 0));
+            self.note(node);
+            self.note(child);
+            for measure in 0..self.measures {
+                self.parts_mut(child)[measure] = self.parts(node)[measure];
+            }
+            let at = self.node_mut(node);
+            let (count, rows) = (at.count, at.rows);
+            at.count = 0;
+            at.rows = 0;
+            at.edges.push(Edge { label: label(dim, 0), node: child });
+            let at = self.node_mut(child);
+            at.count = count;
+            at.rows = rows;
+            self.edges += 1;
+            if let Some(group) = self.groups.remove(&node) {
+                self.groups.insert(child, group);
+            }
+        }
+    }
+}
+
+/// The place of a label among sorted edges, or where it is to be.
+pub fn find(edges: &[Edge], label: Label) -> Result<usize, usize> {
+    edges.binary_search_by_key(&label, |edge| edge.label)
+}
+
+impl Tree {
+    /// The node of a class's own path that stands before a dimension in which the class is Any.
+    pub fn before(&self, mut node: u32, dim: usize) -> u32 {
+        while node != ROOT && dim_of(self.node(node).label) > dim {
+            node = self.node(node).parent;
+        }
+        node
+    }
+
+    /// The parts of a class's rows by their codes in a dimension in which the class is Any: each code with the upper bound of
+    /// its rows. It ends once `go_on` answers false.
+    pub fn parts_of(&self, node: u32, cell: &Cell, dim: usize, mut go_on: impl FnMut(u32, u32) -> bool) {
+        let next = self.next_dim(node);
+        for edge in self.labels(self.before(node, dim), dim) {
+            let found = if dim >= next { Some(edge.node) } else { self.walk(edge.node, cell, dim + 1, self.dims) };
+            if let Some(found) = found {
+                if !go_on(code_of(edge.label), self.class_of(found)) {
+                    return;
+                }
+            }
+        }
     }
 }
