@@ -4,15 +4,17 @@
 # points behind a load, ranges, bounds, parents and children of classes, icebergs by a walk and by indexes, what three index lines
 # add to a load, batches with and without them, 500,000 rows and points of one dimension, and generated runs.
 #
-#     bench/beside.sh OTHER [PROGRAM]
+#     bench/beside.sh [OTHER [PROGRAM]]
 #
-# OTHER is the other program, or a folder whose `build.sh` builds it and prints its path. PROGRAM is the built program, by default
-# crates/qcube/out/qcube. The inputs are generated anew from fixed seeds. Both are to write the same replies. A time "behind its
-# load" is the median of the whole script less that of its load.
-other=$(realpath "${1:?OTHER is missing}")
+# OTHER is the other program, or a folder whose `build.sh` builds it and prints its path. Where it is missing or empty, it is the
+# plain program (bench/plain), a hand-written Rust program without proofs, which cargo builds. PROGRAM is the built program, by
+# default crates/qcube/out/qcube. RUNS sets another number of runs. The inputs are generated anew from fixed seeds. Both are to
+# write the same replies. A time "behind its load" is the median of the whole script less that of its load.
+other=${1:+$(realpath "$1")}
 [ -d "$other" ] && other=$("$other/build.sh")
-shift
+[ $# -gt 0 ] && shift
 source "$(dirname "${BASH_SOURCE[0]}")/common.sh"
+[ -n "$other" ] || { need_plain; other=$plain; }
 
 python3 - <<'PY'
 import random
@@ -81,6 +83,7 @@ import subprocess
 import sys
 
 programs = sys.argv[1:]
+RUNS = int(os.environ.get("RUNS", "5"))
 
 def run(program, words):
     process = subprocess.Popen([program, *words], stdout=subprocess.PIPE, stderr=subprocess.DEVNULL)
@@ -95,7 +98,7 @@ def run(program, words):
 def medians(*words):
     """The median processor time and peak memory in MiB of each program."""
     runs = [[], []]
-    for turn in range(5):
+    for turn in range(RUNS):
         for which in (0, 1) if turn % 2 == 0 else (1, 0):
             runs[which].append(run(programs[which], words))
     assert len({told for one in runs for _, _, told in one}) == 1, words

@@ -1,6 +1,6 @@
 # Sourced by the benchmarks, with their arguments: the built program (by default crates/qcube/out/qcube), a folder of its own
-# for the inputs, which is the current one from here on, and the plain program (bench/plain), which cargo builds where
-# Debian's librust-csv-dev and librust-indexmap-dev are installed; elsewhere its name is empty.
+# for the inputs, which is the current one from here on, and the plain program (bench/plain), which cargo builds offline where
+# Debian's packages of its crates are installed; elsewhere its name is empty.
 set -eu
 top=$(cd "$(dirname "${BASH_SOURCE[0]}")/.." && pwd)
 program=$(realpath "${1:-$top/crates/qcube/out/qcube}")
@@ -8,13 +8,26 @@ folder=$(mktemp -d)
 trap 'rm -rf "$folder"' EXIT
 export PYTHONPATH="$top/bench" PYTHONDONTWRITEBYTECODE=1
 
+packages="librust-csv-dev librust-indexmap-dev librust-itoa-dev librust-smallvec-dev"
+
+# Leaves the name of the plain program in `plain`, which is empty where it can't be built.
 build_plain() {
     plain=
-    local registry=/usr/share/cargo/registry
-    if command -v cargo > /dev/null && compgen -G "$registry/csv-1*" > /dev/null && compgen -G "$registry/indexmap-*" > /dev/null; then
-        cargo build --quiet --release --offline --manifest-path "$top/bench/plain/Cargo.toml" --target-dir "$folder/target" \
-            --config 'source.crates-io.replace-with="debian"' --config "source.debian.directory=\"$registry\""
-        plain="$folder/target/release/plain"
-    fi
+    local registry=/usr/share/cargo/registry crate
+    command -v cargo > /dev/null || return 0
+    for crate in csv-1 indexmap-1 itoa-1 smallvec-1; do
+        compgen -G "$registry/$crate.*" > /dev/null || return 0
+    done
+    cargo build --quiet --jobs 1 --release --offline --manifest-path "$top/bench/plain/Cargo.toml" --target-dir "$folder/target" \
+        --config 'source.crates-io.replace-with="debian"' --config "source.debian.directory=\"$registry\""
+    plain="$folder/target/release/plain"
+}
+
+# The same, for a benchmark that is nothing without the plain program.
+need_plain() {
+    build_plain
+    [ -n "$plain" ] && return
+    echo "the plain program needs cargo and Debian's packages of its crates: apt-get install $packages" >&2
+    exit 1
 }
 cd "$folder"

@@ -7,7 +7,7 @@
 #
 # PROGRAM is the built program, by default crates/qcube/out/qcube. The inputs are generated anew from a fixed seed;
 # values are drawn by a Zipf law from 200, 100, 50, 20, 8 and 4. The plain program (bench/plain) is built by cargo
-# where Debian's librust-csv-dev and librust-indexmap-dev are installed, and is left out elsewhere.
+# where Debian's packages of its crates are installed (bench/common.sh), and is left out elsewhere.
 source "$(dirname "${BASH_SOURCE[0]}")/common.sh"
 build_plain
 

@@ -9,7 +9,6 @@ use crate::tree::*;
 /// A node below the tuple.
 struct Seen {
     node: u32,
-    mask: u32,
     class: u32,
     labels: (u32, u32),
 }
@@ -103,7 +102,7 @@ impl Deletion<'_> {
             }
         }
         let labels = (begin, self.plan.drills.len() as u32);
-        self.plan.seen.push(Seen { node, mask, class: NONE, labels });
+        self.plan.seen.push(Seen { node, class: NONE, labels });
         for k in labels.0..labels.1 {
             let drill = &self.plan.drills[k as usize];
             if drill.mask == mask | 1 << drill.dim {

@@ -2,12 +2,20 @@
 //! sorted list is made again.
 use crate::numbers::Fraction;
 use crate::schema::{Agg, Key};
-use crate::tree::{Node, Part, Tree};
+use crate::tree::{Part, Tree};
 use std::cmp::Ordering;
+
+/// A class with its aggregate as a numerator and a denominator.
+#[derive(Clone, Copy, Default)]
+struct Entry {
+    num: i64,
+    den: u32,
+    node: u32,
+}
 
 #[derive(Default)]
 pub struct Indexes {
-    sorted: Vec<(Key, Vec<u32>)>,
+    sorted: Vec<(Key, Vec<Entry>)>,
     changed: Vec<u32>,
     marks: Vec<u64>,
 }
@@ -63,13 +71,11 @@ impl Indexes {
         }
         self.changed.clear();
         self.marks.clear();
-        for (key, nodes) in &mut self.sorted {
-            let is_class = |(_, node): &(usize, &Node)| node.count > 0;
-            let classes = tree.nodes.iter().enumerate().filter(is_class);
-            let mut pairs: Vec<((i64, u32), u32)> =
-                classes.map(|(k, node)| (value_of(*key, node.count, tree.parts(k as u32)), k as u32)).collect();
-            pairs.sort_unstable_by(|a, b| compare(a.0, b.0));
-            *nodes = pairs.into_iter().map(|pair| pair.1).collect();
+        for (key, entries) in &mut self.sorted {
+            entries.clear();
+            entries.reserve_exact(tree.classes);
+            entries.extend((0..tree.nodes.len() as u32).filter_map(|node| entry(tree, *key, node)));
+            sort(entries);
         }
     }
 
@@ -88,32 +94,26 @@ impl Indexes {
             }
         }
         tree.changed = Some(changed);
-        if self.changed.len() > 1_000 + tree.classes / 16 {
+        if self.changed.len() > 1_000 + tree.classes / 12 {
             self.merge(tree);
         }
     }
 
     // Takes the marked classes into the sorted lists.
     fn merge(&mut self, tree: &mut Tree) {
-        let is_class = |node: &u32| tree.nodes.get(*node as usize).is_some_and(|node| node.count > 0);
-        for (key, nodes) in &mut self.sorted {
-            let value = |node: u32| value_of(*key, tree.node(node).count, tree.parts(node));
-            let mut come: Vec<((i64, u32), u32)> =
-                self.changed.iter().filter(|node| is_class(node)).map(|node| (value(*node), *node)).collect();
-            come.sort_unstable_by(|a, b| compare(a.0, b.0));
+        for (key, entries) in &mut self.sorted {
+            let mut come: Vec<Entry> = self.changed.iter().filter_map(|node| entry(tree, *key, *node)).collect();
+            sort(&mut come);
             let mut come = come.into_iter().peekable();
-            let mut merged = Vec::with_capacity(nodes.len() + come.len());
-            for &node in nodes.iter().filter(|node| self.marks[**node as usize / 64] >> (**node % 64) & 1 == 0) {
-                if come.peek().is_some() {
-                    let own = value(node);
-                    while let Some((_, other)) = come.next_if(|other| compare(other.0, own).is_lt()) {
-                        merged.push(other);
-                    }
+            let mut merged = Vec::with_capacity(entries.len() + come.len());
+            for own in entries.iter().filter(|own| self.marks[own.node as usize / 64] >> (own.node % 64) & 1 == 0) {
+                while let Some(other) = come.next_if(|other| other.compare(own).is_lt()) {
+                    merged.push(other);
                 }
-                merged.push(node);
+                merged.push(*own);
             }
-            merged.extend(come.map(|pair| pair.1));
-            *nodes = merged;
+            merged.extend(come);
+            *entries = merged;
         }
         self.changed.clear();
         self.marks.fill(0);
@@ -121,7 +121,7 @@ impl Indexes {
 
     /// The classes that pass, where there is an index of the aggregate.
     pub fn ask(&self, tree: &Tree, ask: &Ask) -> Option<Vec<u32>> {
-        let nodes = &self.sorted.iter().find(|index| index.0 == ask.key)?.1;
+        let entries = &self.sorted.iter().find(|index| index.0 == ask.key)?.1;
         let mut answer: Vec<u32> = self
             .changed
             .iter()
@@ -129,18 +129,63 @@ impl Indexes {
             .filter(|node| (*node as usize) < tree.nodes.len() && ask.is_asked(tree, *node))
             .collect();
         let is_marked = |node: u32| self.marks.get(node as usize / 64).is_some_and(|word| word >> (node % 64) & 1 == 1);
-        let mut take = |node: &u32| {
-            let goes_on = is_marked(*node) || ask.is_asked(tree, *node);
-            if goes_on && !is_marked(*node) {
-                answer.push(*node);
-            }
-            goes_on
-        };
-        if ask.at_least {
-            nodes.iter().rev().all(&mut take);
+        let fails = |entry: &Entry| !ask.passes((entry.num, entry.den));
+        let passing = if ask.at_least {
+            &entries[entries.partition_point(fails)..]
         } else {
-            nodes.iter().all(&mut take);
-        }
+            &entries[..entries.partition_point(|entry| !fails(entry))]
+        };
+        answer.extend(passing.iter().map(|entry| entry.node).filter(|node| !is_marked(*node)));
         Some(answer)
+    }
+}
+
+impl Entry {
+    fn compare(&self, other: &Entry) -> Ordering {
+        compare((self.num, self.den), (other.num, other.den))
+    }
+
+    // A number that rises with the quotient, but for quotients that are nearly equal.
+    fn rank(&self) -> u64 {
+        let bits = (self.num as f64 / f64::from(self.den)).to_bits();
+        if bits >> 63 == 1 { !bits } else { bits | 1 << 63 }
+    }
+}
+
+fn entry(tree: &Tree, key: Key, node: u32) -> Option<Entry> {
+    let count = tree.nodes.get(node as usize)?.count;
+    let (num, den) = if count > 0 { value_of(key, count, tree.parts(node)) } else { return None };
+    Some(Entry { num, den, node })
+}
+
+// Sorts by digits of 16 bits of the rank, and then puts in order what stands nearly so.
+fn sort(entries: &mut Vec<Entry>) {
+    if entries.len() < 10_000 {
+        return entries.sort_unstable_by(Entry::compare);
+    }
+    let mut sorted = vec![Entry::default(); entries.len()];
+    for shift in [0, 16, 32, 48] {
+        let digit = |entry: &Entry| (entry.rank() >> shift & 0xFFFF) as usize;
+        let mut starts = vec![0_u32; 0x1_0001];
+        entries.iter().for_each(|entry| starts[digit(entry) + 1] += 1);
+        if starts.contains(&(entries.len() as u32)) {
+            continue;
+        }
+        for k in 1..starts.len() {
+            starts[k] += starts[k - 1];
+        }
+        for entry in entries.iter() {
+            let start = &mut starts[digit(entry)];
+            sorted[*start as usize] = *entry;
+            *start += 1;
+        }
+        std::mem::swap(entries, &mut sorted);
+    }
+    for k in 1..entries.len() {
+        let mut at = k;
+        while at > 0 && entries[at - 1].compare(&entries[at]).is_gt() {
+            entries.swap(at - 1, at);
+            at -= 1;
+        }
     }
 }

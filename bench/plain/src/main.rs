@@ -67,12 +67,12 @@ fn write(bytes: &[u8]) -> Result<(), End> {
 
 fn run(word: &str, first: &[u8], script: &[u8]) -> Result<(), End> {
     let first = read_first(first)?;
-    let script = read_first(script)?;
     let mut warehouse = match word {
         "open" => snapshot::open(&first).ok_or_else(|| end(6, "snapshot refused"))?,
         _ => read_schema(&first)?,
     };
     drop(first);
+    let script = read_first(script)?;
     if word == "pack" {
         script::run(&mut warehouse, &script, None).map_err(stopped)?;
         let bytes = snapshot::pack(&warehouse);
@@ -81,7 +81,10 @@ fn run(word: &str, first: &[u8], script: &[u8]) -> Result<(), End> {
         }
         return write(&bytes);
     }
-    script::run(&mut warehouse, &script, Some(&mut std::io::stdout().lock())).map_err(stopped)
+    let result = script::run(&mut warehouse, &script, Some(&mut std::io::stdout().lock())).map_err(stopped);
+    // The end of the process frees all at once.
+    std::mem::forget(warehouse);
+    result
 }
 
 fn generate(rows: &[u8], seed: &[u8]) -> Option<Result<(), End>> {
