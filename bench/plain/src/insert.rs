@@ -64,10 +64,11 @@ impl Inserter<'_> {
         loop {
             let forced = self.tree.forced(from);
             let end = forced.map_or(self.tree.dims, |edge| dim_of(edge.label));
-            let labels = std::mem::take(&mut self.tree.node_mut(from).edges);
+            // Taken out and put back, so this is no change that a pin is to know.
+            let labels = std::mem::take(&mut self.tree.nodes[from as usize].edges);
             let many = labels.len() - usize::from(forced.is_some());
             self.tree.node_mut(node).edges.extend_from_slice(&labels[..many]);
-            self.tree.node_mut(from).edges = labels;
+            self.tree.nodes[from as usize].edges = labels;
             self.tree.edges += many;
             for i in dim..end {
                 self.drill(node, mask, i);

@@ -1,8 +1,9 @@
 //! A plain program with the words, files and replies of qcube, hand-written for speed and without proofs. The benchmarks run
 //! qcube beside it. Its tree is canonical by care alone.
 //!
-//! It has all words and commands but these: the pins (`pin`, `unpin` and `at` stop it with status 9), and the reply `memory` and
-//! status 5: where memory runs out it is aborted. It is no reference: where its reply differs from qcube's, qcube's is proved.
+//! It has all words and commands. It has not the reply `memory` and status 5: where memory runs out it is aborted. Its indexes are
+//! of the rows of now, so an iceberg at a pin walks the tree. It is no reference: where its reply differs from qcube's, qcube's is
+//! proved.
 mod build;
 mod delete;
 mod fields;
@@ -11,6 +12,7 @@ mod index;
 mod insert;
 mod numbers;
 mod parts;
+mod pins;
 mod queries;
 mod ranges;
 mod records;
@@ -42,7 +44,6 @@ fn stopped(stop: Stop) -> End {
     match stop {
         Stop::CannotRead(name) => (3, [b"cannot read ", &name[..]].concat()),
         Stop::CannotWrite => end(4, "cannot write"),
-        Stop::LeftOut(word) => (9, [b"left out: ", &word[..]].concat()),
     }
 }
 

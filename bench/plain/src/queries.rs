@@ -1,5 +1,6 @@
 //! Answers about classes: bounds, neighbours, icebergs, roll-ups.
 use crate::index::{compare, value_of, Ask};
+use crate::pins::NOW;
 use crate::reply::push_record;
 use crate::tree::*;
 use crate::warehouse::Warehouse;
@@ -146,10 +147,19 @@ impl Warehouse {
         push_record(out, "end", line, &[classes.len()]);
     }
 
+    // At a pin a number may stand for a node that came later, so the walk follows the edges.
+    fn passing_then(&self, ask: &Ask) -> Vec<u32> {
+        let mut passing = Vec::new();
+        if !self.tree.is_empty() {
+            self.visit_above(&[ANY; 16], ROOT, &mut |node| passing.extend(Some(node).filter(|node| ask.is_asked(&self.tree, *node))));
+        }
+        passing
+    }
+
     pub fn iceberg(&self, out: &mut Vec<u8>, line: usize, ask: &Ask) {
         let tree = &self.tree;
         let walk = || (0..tree.nodes.len() as u32).filter(|node| ask.is_asked(tree, *node)).collect();
-        let classes: Vec<u32> = self.indexes.ask(tree, ask).unwrap_or_else(walk);
+        let classes = if tree.view == NOW { self.indexes.ask(tree, ask).unwrap_or_else(walk) } else { self.passing_then(ask) };
         let value = |node: u32| value_of(ask.key, tree.node(node).count, tree.parts(node));
         let mut answer: Vec<_> = classes.into_iter().map(|node| (value(node), self.place_of(node), node)).collect();
         answer.sort_unstable_by(|a, b| {

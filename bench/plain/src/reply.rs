@@ -1,5 +1,6 @@
 //! The records of replies.
 use crate::numbers::*;
+use crate::pins::{Counts, NOW};
 use crate::texts::Texts;
 use crate::tree::*;
 use crate::warehouse::Warehouse;
@@ -59,11 +60,20 @@ impl Warehouse {
         out.push(b'\n');
     }
 
+    /// The counts of the rows that readers see.
+    pub fn counts(&self) -> Counts {
+        let tree = &self.tree;
+        if tree.view != NOW {
+            return tree.pins[tree.view].counts;
+        }
+        Counts { rows: self.rows.len(), classes: tree.classes, nodes: tree.len(), links: tree.links() }
+    }
+
     pub fn push_stats(&self, out: &mut Vec<u8>, line: usize) {
         out.extend_from_slice(b"stats,");
         push_number(out, line);
-        let edges = self.tree.len().saturating_sub(1);
-        for number in [self.rows.len(), self.tree.classes, self.tree.len(), edges, self.tree.links()] {
+        let Counts { rows, classes, nodes, links } = self.counts();
+        for number in [rows, classes, nodes, nodes.saturating_sub(1), links] {
             out.push(b',');
             push_number(out, number);
         }

@@ -2,7 +2,8 @@
 use crate::fields::{AskedCell, Fault};
 use crate::numbers::push_number;
 use crate::reply::{push_record, push_refusal};
-use crate::schema::{lines, without_mark};
+use crate::pins::{MOST_PINS, NOW};
+use crate::schema::{is_name, lines, without_mark};
 use crate::warehouse::Warehouse;
 use std::io::{Read, Write};
 
@@ -13,7 +14,6 @@ pub const MOST_BYTES: usize = 268_435_456;
 pub enum Stop {
     CannotRead(Vec<u8>),
     CannotWrite,
-    LeftOut(Vec<u8>),
 }
 
 /// Reads a file, of which one byte more than it may have is enough.
@@ -66,19 +66,80 @@ fn take_line(warehouse: &mut Warehouse, out: &mut Vec<u8>, line: usize, text: &[
     match word {
         b"load" | b"apply" | b"try" => return take_file(warehouse, out, line, word, rest),
         b"widen" => widen(warehouse, out, line, rest),
-        b"pin" | b"unpin" | b"at" => return Err(Stop::LeftOut(word.to_vec())),
-        b"stats" if end.is_none() => warehouse.push_stats(out, line),
+        b"pin" if end.is_some() => pin(warehouse, out, line, rest),
+        b"unpin" if end.is_some() => unpin(warehouse, out, line, rest),
+        b"pin" | b"unpin" => push_refusal(out, line, "field,1"),
+        b"at" => at(warehouse, out, line, rest),
         _ => {
-            if let Err(fault) = ask(warehouse, out, line, word, rest) {
-                match fault {
-                    Some(Fault::Field(k)) => push_refusal(out, line, &format!("field,{k}")),
-                    Some(Fault::Number) => push_refusal(out, line, "number"),
-                    None => push_refusal(out, line, "command"),
-                }
+            if let Err(fault) = ask_line(warehouse, out, line, text) {
+                push_fault(out, line, fault);
             }
         }
     }
     Ok(())
+}
+
+fn push_fault(out: &mut Vec<u8>, line: usize, fault: Option<Fault>) {
+    match fault {
+        Some(Fault::Field(k)) => push_refusal(out, line, &format!("field,{k}")),
+        Some(Fault::Number) => push_refusal(out, line, "number"),
+        None => push_refusal(out, line, "command"),
+    }
+}
+
+fn name_of(text: &[u8]) -> Option<&str> {
+    std::str::from_utf8(text).ok().filter(|name| is_name(name))
+}
+
+fn pin(warehouse: &mut Warehouse, out: &mut Vec<u8>, line: usize, rest: &[u8]) {
+    let Some(name) = name_of(rest) else { return push_refusal(out, line, "field,1") };
+    if warehouse.tree.pinned(name).is_some() {
+        return push_refusal(out, line, "name-taken");
+    }
+    if warehouse.tree.pins.len() == MOST_PINS {
+        return push_refusal(out, line, "all-pinned");
+    }
+    let counts = warehouse.counts();
+    warehouse.tree.pin(name, counts);
+    out.extend_from_slice(format!("pinned,{line},{name},{}\n", counts.classes).as_bytes());
+}
+
+fn unpin(warehouse: &mut Warehouse, out: &mut Vec<u8>, line: usize, rest: &[u8]) {
+    let Some(name) = name_of(rest) else { return push_refusal(out, line, "field,1") };
+    match warehouse.tree.pinned(name) {
+        None => push_refusal(out, line, "not-pinned"),
+        Some(place) => {
+            warehouse.tree.unpin(place);
+            out.extend_from_slice(format!("unpinned,{line},{name}\n").as_bytes());
+        }
+    }
+}
+
+// A fault of the line behind the name comes before a name that isn't pinned.
+fn at(warehouse: &mut Warehouse, out: &mut Vec<u8>, line: usize, rest: &[u8]) {
+    let end = rest.iter().position(|&byte| byte == b' ');
+    let Some(name) = name_of(&rest[..end.unwrap_or(rest.len())]) else { return push_refusal(out, line, "field,1") };
+    let begin = out.len();
+    let pin = warehouse.tree.pinned(name);
+    warehouse.tree.view = pin.unwrap_or(NOW);
+    let result = ask_line(warehouse, out, line, end.map_or(b"", |end| &rest[end + 1..]));
+    warehouse.tree.view = NOW;
+    if let Err(fault) = result {
+        push_fault(out, line, fault);
+    } else if pin.is_none() {
+        out.truncate(begin);
+        push_refusal(out, line, "not-pinned");
+    }
+}
+
+// Answers a line that only asks.
+fn ask_line(warehouse: &mut Warehouse, out: &mut Vec<u8>, line: usize, text: &[u8]) -> Result<(), Option<Fault>> {
+    let end = text.iter().position(|&byte| byte == b' ');
+    if text == b"stats" {
+        warehouse.push_stats(out, line);
+        return Ok(());
+    }
+    ask(warehouse, out, line, &text[..end.unwrap_or(text.len())], end.map_or(b"", |end| &text[end + 1..]))
 }
 
 fn take_file(warehouse: &mut Warehouse, out: &mut Vec<u8>, line: usize, word: &[u8], name: &[u8]) -> Result<(), Stop> {
@@ -112,6 +173,9 @@ fn widen(warehouse: &mut Warehouse, out: &mut Vec<u8>, line: usize, rest: &[u8])
     let Some(value) = end.map(|end| &rest[end + 1..]).filter(|value| value.len() <= 255) else {
         return push_refusal(out, line, "field,2");
     };
+    if !warehouse.tree.pins.is_empty() {
+        return push_refusal(out, line, "pinned");
+    }
     match warehouse.widen(name, value) {
         Ok(()) => push_record(out, "widened", line, &[warehouse.schema.dims.len(), warehouse.tree.classes]),
         Err(code) => push_refusal(out, line, &code),

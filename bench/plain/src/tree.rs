@@ -1,6 +1,7 @@
 //! The canonical tree as docs/tree.md draws it, and searches in it.
 //!
 //! A node of no class has its forced child as the last of its edges, and one of a class has none. Edges are sorted by label.
+use crate::pins::{Pin, NOW};
 use crate::rows::Rows;
 use crate::schema::MAX_DIMS;
 use crate::texts::Fast;
@@ -83,11 +84,14 @@ pub struct Tree {
     pub groups: HashMap<u32, Vec<u32>, Fast>,
     /// The classes that were changed, where an index wants to know.
     pub changed: Option<Vec<u32>>,
+    pub pins: Vec<Pin>,
+    /// The place of the pin that readers see, or `NOW`.
+    pub view: usize,
 }
 
 impl Tree {
     pub fn new(dims: usize, measures: usize) -> Tree {
-        Tree { dims, measures, ..Tree::default() }
+        Tree { dims, measures, view: NOW, ..Tree::default() }
     }
 
     pub fn len(&self) -> usize {
@@ -99,34 +103,47 @@ impl Tree {
     }
 
     pub fn is_empty(&self) -> bool {
-        self.nodes.is_empty()
+        if self.view == NOW { self.nodes.is_empty() } else { self.pins[self.view].counts.nodes == 0 }
     }
 
     pub fn clear(&mut self) {
+        if !self.pins.is_empty() {
+            (0..self.nodes.len() as u32).for_each(|node| self.save(node));
+        }
         let changed = self.changed.take().map(|_| (0..self.nodes.len() as u32).collect());
-        *self = Tree { changed, ..Tree::new(self.dims, self.measures) };
+        let pins = std::mem::take(&mut self.pins);
+        *self = Tree { changed, pins, ..Tree::new(self.dims, self.measures) };
     }
 
     pub fn node(&self, node: u32) -> &Node {
-        &self.nodes[node as usize]
+        if self.view == NOW { &self.nodes[node as usize] } else { self.node_then(node) }
     }
 
     pub fn node_mut(&mut self, node: u32) -> &mut Node {
+        if !self.pins.is_empty() {
+            self.save(node);
+        }
         &mut self.nodes[node as usize]
     }
 
     pub fn parts(&self, node: u32) -> &[Part] {
+        if self.view != NOW {
+            return self.parts_then(node);
+        }
         &self.parts[node as usize * self.measures..][..self.measures]
     }
 
     pub fn parts_mut(&mut self, node: u32) -> &mut [Part] {
+        if !self.pins.is_empty() {
+            self.save(node);
+        }
         &mut self.parts[node as usize * self.measures..][..self.measures]
     }
 
     /// Adds a node without edges. Its parent's edge is the caller's to set.
     pub fn add(&mut self, parent: u32, label: Label) -> u32 {
         let node = Node { edges: SmallVec::new(), parent, label, count: 0, rows: 0 };
-        match self.free.pop() {
+        let number = match self.free.pop() {
             Some(number) => {
                 self.nodes[number as usize] = node;
                 number
@@ -136,7 +153,11 @@ impl Tree {
                 self.parts.resize(self.parts.len() + self.measures, Part::EMPTY);
                 self.nodes.len() as u32 - 1
             }
+        };
+        if !self.pins.is_empty() {
+            self.save_new(number);
         }
+        number
     }
 
     pub fn note(&mut self, node: u32) {
