@@ -54,7 +54,7 @@ impl Tree {
     }
 
     pub fn node_then(&self, node: u32) -> &Node {
-        self.image(node).map_or(&self.nodes[node as usize], |image| &image.node)
+        self.image(node).map_or_else(|| &self.nodes[node as usize], |image| &image.node)
     }
 
     pub fn parts_then(&self, node: u32) -> &[Part] {

@@ -289,10 +289,8 @@ impl Tree {
     pub fn widen(&mut self) {
         let dim = self.dims;
         self.dims += 1;
-        for node in 0..self.nodes.len() as u32 {
-            if self.node(node).count == 0 {
-                continue;
-            }
+        let classes: Vec<u32> = (0..self.nodes.len() as u32).filter(|node| self.node(*node).count > 0).collect();
+        for node in classes {
             let child = self.add(node, label(dim, 0));
             self.note(node);
             self.note(child);
