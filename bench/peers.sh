@@ -8,7 +8,7 @@
 # PROGRAM is the built program, by default crates/qcube/out/qcube. The Debian packages are `postgresql`, `clickhouse-server`
 # with `clickhouse-client`, and `sqlite3`; a peer whose package is missing is left out. ROWS sets another number of rows, PEERS
 # the peers to run, as `PEERS="postgres sqlite"`. The servers run in a folder of their own, as the user nobody where root
-# starts this script, and are stopped at the end. All in all it takes about 15 minutes on an idle machine.
+# starts this script, and are stopped at the end. All in all it takes more than 10 minutes on an idle machine.
 #
 # Times of qcube and SQLite are processor seconds of their process, those of PostgreSQL and ClickHouse the processor seconds of
 # all processes of the server, so other load on the machine shows little in them. A point of a server is the median of the times

@@ -22,6 +22,15 @@ impl Rows {
         Rows { dims, measures, ..Rows::default() }
     }
 
+    /// Makes room for some rows more.
+    pub fn reserve(&mut self, rows: usize) {
+        self.codes.reserve_exact(rows * self.dims);
+        self.amounts.reserve_exact(rows * self.measures);
+        self.ids.reserve_exact(rows);
+        self.order.reserve_exact(rows);
+        self.by_id.reserve(rows);
+    }
+
     pub fn len(&self) -> usize {
         self.by_id.len()
     }

@@ -62,6 +62,7 @@ impl Warehouse {
         let dims = self.schema.dims.len();
         let measures = self.schema.measures.len();
         self.rows.clear();
+        self.rows.reserve(changes.insertions.len());
         for (k, (id, record)) in changes.insertions.iter().enumerate() {
             if self.rows.slot(*id).is_some() {
                 return Err(format!("twice,{record}"));
