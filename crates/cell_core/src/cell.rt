@@ -45,7 +45,7 @@ impl Entry {
 
 /// A value or Any for each of at most 16 dimensions. The entries are stored in the cell itself, so
 /// no call on a cell takes memory.
-#[derive(Drop, Debug)]
+#[derive(Drop)]
 pub struct Cell {
     codes: [u32; 16],
     dims: u8,

@@ -14,7 +14,7 @@ pub const VERSION_1_MEASURES: u8 = 1;
 pub const DEFAULT_NODES: u32 = 1_000_000;
 
 /// The version of a schema, which its first line names.
-#[derive(Clone, Copy, Debug, PartialEq, Eq)]
+#[derive(Clone, Copy)]
 pub enum SchemaVersion {
     /// 1 to 12 dimensions and at most one measure.
     One,

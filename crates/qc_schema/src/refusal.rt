@@ -7,7 +7,7 @@ use std::alloc::{AllocError, AllocFailed};
 use thiserror::Error;
 
 /// What is wrong with a line. If several causes hold, the first in this order is reported.
-#[derive(Clone, Copy, Debug, PartialEq, Eq, Error)]
+#[derive(Clone, Copy, Debug, Error)]
 pub enum SchemaCause {
     /// The first line is neither `qcube 1` nor `qcube 2`.
     #[error("the first line is neither `qcube 1` nor `qcube 2`")]
@@ -30,7 +30,7 @@ pub enum SchemaCause {
 }
 
 /// Why bytes are no schema.
-#[derive(Clone, Copy, Debug, PartialEq, Eq, Error)]
+#[derive(Clone, Copy, Debug, Error)]
 pub enum SchemaRefused {
     /// The text isn't UTF-8.
     #[error("the text is not UTF-8")]
@@ -45,7 +45,7 @@ pub enum SchemaRefused {
 }
 
 /// Why a line isn't taken.
-#[derive(Clone, Copy, Debug, PartialEq, Eq)]
+#[derive(Clone, Copy)]
 pub enum SchemaLineRefused {
     Cause(SchemaCause),
     Memory,

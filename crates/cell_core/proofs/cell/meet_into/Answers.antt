@@ -1,0 +1,33 @@
+use Rattle.std.proofs.Common.{IsTrue, List, Option, ap, ap₂, nat_eq, arith, drop, length, sym, take, ℕ, ◌∙◌, ◌≡◌, ◌≤◌}
+use Rattle.std.proofs.lemmas.List.{length-map, length-take-le}
+use Rattle.std.proofs.lemmas.List.Elements.{All-append, All-drop, All-take}
+use Rattle.cube_defs.specs.Cell.{meet}
+use Rattle.cell_core.specs.Codes.{entry_of, is_kept}
+use Rattle.cell_core.proofs.CodesLemmas.{entries-front}
+use Rattle.cell_core.proofs.cell.meet_into.Goals as goal
+
+long : (c : goal.After-meet_into) → length c.meet_into.new.c ≡ c.c.inside.dims
+long c =
+    let few : c.c.inside.dims ≤ 16 = c.c.invariant.0 in
+    c.meet_into.auto.c ∙ length-take-le c.c.inside.dims c.c.inside.codes (omega (arith, few, c.c.told))
+
+pub returns-clause-value : goal.returns-clause-value
+returns-clause-value c = entries-front c.meet_into.new.c _ c.c.inside.dims (long c) ∙ c.meet_into.ensures.meet ∙ ap₂ (λ (x y : List (Option ℕ)). meet nat_eq x y) c.c.view_is c.d.view_is
+
+pub returns-clause-dims : goal.returns-clause-dims
+returns-clause-dims c =
+    ap (λ (es : List (Option ℕ)). length es) (entries-front c.meet_into.new.c _ c.c.inside.dims (long c))
+    ∙ length-map c.meet_into.new.c entry_of
+    ∙ c.meet_into.auto.c
+    ∙ sym (length-map (take c.c.inside.dims c.c.inside.codes) entry_of)
+    ∙ ap (λ (es : List (Option ℕ)). length es) c.c.view_is
+
+pub invariant_of-c : goal.invariant_of-c
+invariant_of-c c =
+    let P = λ (code : ℕ). IsTrue (is_kept code) in
+    let kept = c.c.invariant.1 in (
+      c.c.invariant.0,
+      All-append P c.meet_into.new.c _
+          (c.meet_into.ensures.kept (All-take P c.c.inside.dims c.c.inside.codes kept))
+          (All-drop P c.c.inside.dims (drop 0 c.c.inside.codes) (All-drop P 0 c.c.inside.codes kept)),
+    )
