@@ -1,7 +1,7 @@
 -- What the rows of a part share, where a cell covers them.
-use Rattle.std.proofs.Common.{◌≡◌, ℕ, suc, ◌<◌, ◌≤◌, true≢false, sym, ◌∙◌, arith, true, false, Some, List, length, nat_eq, subst}
+use Rattle.std.proofs.Common.{◌≡◌, ◌==◌, ◌&&◌, ℕ, suc, ◌<◌, ◌≤◌, true≢false, sym, refl, ap, ◌∙◌, arith, eq-eqb, get_or, true, false, Some, List, [], ◌∷◌, length, nat_eq, subst}
 use Rattle.std.proofs.lemmas.Bool.{false_from_ne_true}
-use Rattle.std.specs.List.{AllByRecursion}
+use Rattle.std.specs.List.{AllByRecursion, list_all}
 use Rattle.cube_defs.specs.Cell.{Cell, leq, cell_front, cell_eq}
 use Rattle.cube_defs.specs.Rows.{Row, covers}
 use Rattle.cube_laws.specs.Tuples.{cells_of}
@@ -11,6 +11,10 @@ use Rattle.tree_laws.proofs.Fronts.{cell_front-cell_front}
 use Rattle.cube_laws.proofs.Shared.{IsShared, entry}
 use Rattle.build_trace.specs.Walk.{same_front}
 use Rattle.build_trace.proofs.Fronts.{leq_entry}
+use Rattle.base_table.specs.Places.{Places}
+use Rattle.base_table.specs.declared.table.RowNo.{RowNo}
+use Rattle.cell_closure.specs.Parts.{code_at}
+use Rattle.cell_closure.proofs.Closing.{zeroth}
 use Rattle.class_builder.proofs.Fronts.{front_from_points, front_less, front_points}
 
 abbrev pub AreCovered : Cell ℕ → List (Row ℕ) → Type 0
@@ -35,3 +39,12 @@ differs_behind j k c d l h = false_from_ne_true _ (λ t. true≢false (sym (subs
 -- a front is none of a cell that differs before it
 pub front_apart : (k n : ℕ) (c d : Cell ℕ) → k ≤ n → same_front k c d ≡ false → cell_front k (cell_front n c) ≡ cell_front k d → ⊥
 front_apart k n c d l h e = true≢false (sym (subst (λ x. cell_eq nat_eq (cell_front k c) x ≡ true) (sym (cell_front-cell_front k n c l) ∙ e) (cell_eq-same nat_equality (cell_front k c))) ∙ h)
+
+-- the code of the first of the rows, which all have where there is no other
+abbrev pub first_code : Places → ℕ → List RowNo → ℕ
+first_code t k nos = code_at t k (get_or nos 0 zeroth)
+
+pub lone_code : (t : Places) (k : ℕ) (nos : List RowNo) → length nos ≡ 1 → list_all (λ n. code_at t k n == first_code t k nos) nos ≡ true
+lone_code t k [] h = absurd (omega arith)
+lone_code t k (x ∷ []) h = ap (λ b. b && true) (eq-eqb (code_at t k x) (code_at t k x) refl)
+lone_code t k (x ∷ y ∷ nos) h = absurd (omega arith)

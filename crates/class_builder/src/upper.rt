@@ -29,6 +29,24 @@ fn entry_of(table: &Table, rows: &[RowNo], upper: &Cell, dim: u8) -> Entry
     }
 }
 
+/// Whether the rows share a value in the dimension. One row alone isn't read for that: most groups
+/// have no other.
+fn is_shared(table: &Table, rows: &[RowNo], dim: u8) -> bool
+    requires table { IsTable table.now }
+    requires some { 0 < length rows.now }
+    requires there { AreThere table.now rows.now }
+    requires dim { dim < table.now.dims }
+    ensures { result ≡ is_some (slice_index_or (shared_by (named table.now rows.now)) dim None) }
+{
+    if rows.len() == 1 {
+        return true;
+    }
+    match shared_entry(table, rows, dim) {
+        Entry::Is(_) => true,
+        Entry::Any => false,
+    }
+}
+
 /// Whether the rows share a value in the dimension where `upper`, which covers them, has Any.
 fn gains(table: &Table, rows: &[RowNo], upper: &Cell, dim: u8) -> bool
     requires table { IsTable table.now }
@@ -44,10 +62,7 @@ fn gains(table: &Table, rows: &[RowNo], upper: &Cell, dim: u8) -> bool
 {
     match upper.get(dim) {
         Entry::Is(_) => false,
-        Entry::Any => match shared_entry(table, rows, dim) {
-            Entry::Is(_) => true,
-            Entry::Any => false,
-        },
+        Entry::Any => is_shared(table, rows, dim),
     }
 }
 

@@ -1,4 +1,4 @@
-use Rattle.std.proofs.Common.{◌≡◌, ◌<◌, ◌∙◌, length, subst, sym, arith, rules}
+use Rattle.std.proofs.Common.{◌<◌, length, subst, sym, arith, rules}
 use Rattle.cell_closure.proofs.Rows.{there}
 use Rattle.class_builder.specs.Noted.{AreNoted}
 use Rattle.class_builder.proofs.Notes.{front_of_row, noted_more}
