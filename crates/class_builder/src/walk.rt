@@ -1,14 +1,17 @@
 // The walk over the classes, depth first (Lakshmanan, Pei, Han, VLDB 2002).
+ghost use Rattle.std.specs.FinMap as map;
 ghost use Rattle.std.specs.Ordering.{nat_cmp};
-ghost use Rattle.std.specs.Prelude.{Err, None, OnOk, length, slice_index_or, ◌+◌, ◌<◌, ◌≡◌, ◌≤◌};
+ghost use Rattle.std.specs.Prelude.{Err, IfOk, IsSome, None, OnOk, length, slice_index_or, ◌+◌, ◌<◌, ◌≡◌, ◌≤◌};
 ghost use Rattle.cube_defs.specs.Tree.{nodes};
 ghost use Rattle.base_table.specs.Places.{named, rows_of};
+ghost use Rattle.cell_closure.specs.Parts.{parted};
 ghost use Rattle.build_trace.specs.Trace.{acts_at, part_acts};
 ghost use Rattle.build_acts.specs.Building.{PerformsActs, ActsComeNext};
 ghost use Rattle.qc_arena.specs.Map.{frame};
 ghost use Rattle.class_builder.specs.Walk.{IsGroup, IsOnPath, IsPart, acts_from};
 ghost use Rattle.class_builder.specs.Noted.{AreNoted};
 
+use crate::Memory;
 use crate::builder::Builder;
 use crate::labels::{add_front, link_part};
 use crate::part::{ChildEdge, Group, Part};
@@ -16,7 +19,8 @@ use crate::path::Path;
 use crate::total::total;
 use crate::upper::{closure_of_part, first_new_value};
 use build_acts::mark_class;
-use cell_core::Entry;
+use cell_closure::Parts;
+use cell_core::{Entry, NodeNo};
 use qc_arena::ArenaRefused;
 use std::sync::ledger::Ledger;
 
@@ -104,6 +108,29 @@ fn drill_at<L: Ledger>(
     }
 }
 
+/// The rows by their codes in the dimension. The node, to which each group is to give an edge, has
+/// room for them all.
+fn groups_of<L: Ledger>(
+    builder: &mut Builder<'_, L>,
+    part: &Part<'_>,
+    dim: u8,
+    node: NodeNo,
+) -> Result<Parts, Memory>
+    requires part { IsPart part.now.table.now part.now.rows.now part.now.shared }
+    requires dim { dim < part.now.table.now.dims }
+    requires node { IsSome (map.get builder.old.arena.now.now node.0) }
+    ensures parts { IfOk result (λ parts. parts ≡ parted part.now.table.now part.now.rows.now dim) }
+    ensures arena { builder.new.arena.now ≡ builder.old.arena.now }
+    ensures fronts { builder.new.fronts.now ≡ builder.old.fronts.now }
+    ensures same { builder.new.arena.ghost_name ≡ builder.old.arena.ghost_name }
+{
+    let parts = builder.room.part(part.table, part.rows, dim)?;
+    match builder.arena.reserve_edges(node, parts.len()) {
+        Ok(()) => Ok(parts),
+        Err(error) => Err(error),
+    }
+}
+
 /// Builds these nodes where the rows share no value in the dimension: those of each group of rows
 /// with one code there, in turn.
 #[cycle(drilling)]
@@ -128,7 +155,7 @@ fn drill_in<L: Ledger>(
     ensures frame { frame builder.new.arena.now ≡ frame builder.old.arena.now }
     ensures same { builder.new.arena.ghost_name ≡ builder.old.arena.ghost_name }
 {
-    let Ok(parts) = builder.room.part(part.table, part.rows, dim) else {
+    let Ok(parts) = groups_of(builder, part, dim, path.at(dim)) else {
         return Err(ArenaRefused::Memory);
     };
     'parts: for k in 0..parts.len() {

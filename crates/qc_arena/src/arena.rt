@@ -25,7 +25,7 @@ use crate::place::Place;
 use crate::records::NodeRecord;
 use crate::slots::{
     add_record, class_at, clear_all, copy_at, drop_edge_at, kill_at, put_back, record_of,
-    resize_all, resize_from, set_class_at, set_edge_at, set_forced_at,
+    reserve_edges_at, resize_all, resize_from, set_class_at, set_edge_at, set_forced_at,
 };
 use crate::touched::Touched;
 use crate::tree_totals::{Counts, TreeTotals};
@@ -197,6 +197,15 @@ impl QcArena {
         }
         let image = copy_at(&self.nodes, &self.parts, node.0)?;
         self.images.add_was(node.0, image)
+    }
+
+    /// Makes room for so many more edges of a node, so that they are set without memory being asked
+    /// for again and again.
+    pub fn reserve_edges(&mut self, node: NodeNo, more: u32) -> Result<(), Memory>
+        requires { IsSome (map.get self.old.now node.0) }
+        ensures { self.new ≡ self.old }
+    {
+        reserve_edges_at(&mut self.nodes, node.0, more)
     }
 
     /// Adds an edge with this label, or gives the one that is there another target.

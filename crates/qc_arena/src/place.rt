@@ -99,6 +99,13 @@ impl Place {
         self.rec.set_edge(edge)
     }
 
+    // Makes room for so many edges more.
+    pub(crate) fn reserve_edges(&mut self, more: u32) -> Result<(), Memory>
+        ensures { self.new ≡ self.old }
+    {
+        self.rec.reserve_edges(more)
+    }
+
     // Takes an edge away, and tells how many edges there were, and how many there are.
     pub(crate) fn drop_edge(&mut self, dim: u8, code: Code) -> (u32, u32)
         requires { IsSome self.old }

@@ -147,6 +147,13 @@ impl NodeRecord {
         }
     }
 
+    // Makes room for so many edges more.
+    pub(crate) fn reserve_edges(&mut self, more: u32) -> Result<(), Memory>
+        ensures { self.new ≡ self.old }
+    {
+        self.edges.reserve_exact(more as usize)
+    }
+
     // Takes the edge with a label away, if there is one. It tells how many edges there were, and how
     // many there are.
     pub(crate) fn drop_edge(&mut self, dim: u8, code: Code) -> (u32, u32)

@@ -297,6 +297,16 @@ pub(crate) fn set_edge_at(
     nodes[node as usize].set_edge(edge)
 }
 
+// Makes room for so many more edges of a node.
+pub(crate) fn reserve_edges_at(nodes: &mut Slab<Place>, node: u32, more: u32) -> Result<(), Memory>
+    requires { IsSome (join (slots.get nodes.old node)) }
+    ensures others { (q : ℕ) → q ≢ node → slots.get nodes.new q ≡ slots.get nodes.old q }
+    ensures there { IsSome (join (slots.get nodes.new node)) }
+    ensures here { join (slots.get nodes.new node) ≡ join (slots.get nodes.old node) }
+{
+    nodes[node as usize].reserve_edges(more)
+}
+
 // Takes an edge of a node away, and tells how many edges it had, and how many it has.
 pub(crate) fn drop_edge_at(nodes: &mut Slab<Place>, node: u32, dim: u8, code: Code) -> (u32, u32)
     requires { IsSome (join (slots.get nodes.old node)) }

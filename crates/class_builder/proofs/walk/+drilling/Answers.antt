@@ -98,10 +98,10 @@ pub drill_in-drill_part-requires : goal.drill_in-drill_part-requires
 drill_in-drill_part-requires g t c =
     let table = c.args.part.now.table.now in
     let nos = c.args.part.now.rows.now in
-    let l : length c.in-Ok.parts ≡ length (parted table nos c.args.dim) = ap length c.in-Ok.ensures in
+    let l : length c.in-Ok.parts ≡ length (parted table nos c.args.dim) = ap length c.in-Ok.ensures.parts in
     let lt : c.parts.k < length (parted table nos c.args.dim) = omega (arith, c.parts-test.true, c.len-k-end.ensures) in
-    let is : c.rows.result.now ≡ (get_or (parted table nos c.args.dim) c.parts.k no_part).rows = c.rows.ensures ∙ ap (λ p. (get_or p c.parts.k no_part).rows) c.in-Ok.ensures in
-    let code : c.code.result ≡ (get_or (parted table nos c.args.dim) c.parts.k no_part).code = c.code.ensures ∙ ap (λ p. (get_or p c.parts.k no_part).code) c.in-Ok.ensures in
+    let is : c.rows.result.now ≡ (get_or (parted table nos c.args.dim) c.parts.k no_part).rows = c.rows.ensures ∙ ap (λ p. (get_or p c.parts.k no_part).rows) c.in-Ok.ensures.parts in
+    let code : c.code.result ≡ (get_or (parted table nos c.args.dim) c.parts.k no_part).code = c.code.ensures ∙ ap (λ p. (get_or p c.parts.k no_part).code) c.in-Ok.ensures.parts in
     let here : There table nos = there table nos c.requires.part.there in
     let few : length c.rows.result.now ≤ length nos = subst (λ r. length r ≤ length nos) (sym is) (part_few table c.requires.part.table nos here c.args.dim c.parts.k lt) in
     let v = code ∙ part_is table c.requires.part.table nos here c.args.dim c.parts.k lt in
@@ -128,10 +128,10 @@ pub drill_in-parts-preserved : goal.drill_in-parts-preserved
 drill_in-parts-preserved g t c =
     let table = c.args.part.now.table.now in
     let nos = c.args.part.now.rows.now in
-    let l : length c.in-Ok.parts ≡ length (parted table nos c.args.dim) = ap length c.in-Ok.ensures in
+    let l : length c.in-Ok.parts ≡ length (parted table nos c.args.dim) = ap length c.in-Ok.ensures.parts in
     let lt : c.parts.k < length (parted table nos c.args.dim) = omega (arith, c.parts-test.true, c.len-k-end.ensures) in
-    let is : c.rows.result.now ≡ (get_or (parted table nos c.args.dim) c.parts.k no_part).rows = c.rows.ensures ∙ ap (λ p. (get_or p c.parts.k no_part).rows) c.in-Ok.ensures in
-    let code : c.code.result ≡ (get_or (parted table nos c.args.dim) c.parts.k no_part).code = c.code.ensures ∙ ap (λ p. (get_or p c.parts.k no_part).code) c.in-Ok.ensures in
+    let is : c.rows.result.now ≡ (get_or (parted table nos c.args.dim) c.parts.k no_part).rows = c.rows.ensures ∙ ap (λ p. (get_or p c.parts.k no_part).rows) c.in-Ok.ensures.parts in
+    let code : c.code.result ≡ (get_or (parted table nos c.args.dim) c.parts.k no_part).code = c.code.ensures ∙ ap (λ p. (get_or p c.parts.k no_part).code) c.in-Ok.ensures.parts in
     let here : There table nos = there table nos c.requires.part.there in
     let more = acts_from table (c.args.dim + 1) in
     let es = part_acts more c.args.dim c.args.part.now.shared c.code.result (named table c.rows.result.now) in
@@ -151,7 +151,7 @@ pub drill_in-returns-in-Ok-give_back-clause-does : goal.drill_in-returns-in-Ok-g
 drill_in-returns-in-Ok-give_back-clause-does g t c =
     let table = c.args.part.now.table.now in
     let nos = c.args.part.now.rows.now in
-    let l : length c.in-Ok.parts ≡ length (parted table nos c.args.dim) = ap length c.in-Ok.ensures in
+    let l : length c.in-Ok.parts ≡ length (parted table nos c.args.dim) = ap length c.in-Ok.ensures.parts in
     let le : length (parted table nos c.args.dim) ≤ c.parts.k = omega (arith, c.parts-test.false, c.len-k-end.ensures) in
     c.parts.invariant.whole c.parts.builder.arena.now
     (subst (λ xs. PerformsActs table.measures (rows_of table) xs c.parts.builder.arena.now c.parts.builder.arena.now) (sym (parts_end table c.requires.part.table nos (there table nos c.requires.part.there) c.args.dim c.parts.k c.args.part.now.shared le)) (does_nothing c.parts.builder.arena.now))
