@@ -71,3 +71,10 @@ values_more ask before now v e are one = subst (All (IsValued ask)) (sym e) (All
 
 pub steps_more : (i one before now start : ℕ) → before ≤ start + i * one → now ≤ before + one → now ≤ start + (i + 1) * one
 steps_more i one before now start a b = let e : (i + 1) * one ≡ i * one + one = grind arith in omega (arith, a, b, e)
+
+-- the steps for so many classes are within those for all
+pub steps_all : (i n one now start : ℕ) → i ≤ n → now ≤ start + i * one → now ≤ start + n * one
+steps_all i n one now start l a = let m : i * one ≤ n * one = mul-le-mul l (omega arith) in omega (arith, a, m)
+
+pub steps_cut : (i n one before now start : ℕ) → i < n → before ≤ start + i * one → now ≤ before + one → now ≤ start + n * one
+steps_cut i n one before now start l a b = steps_all (i + 1) n one now start (omega (arith, l)) (steps_more i one before now start a b)

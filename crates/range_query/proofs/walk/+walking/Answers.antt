@@ -1,11 +1,11 @@
-use Rattle.std.proofs.Common.{ℕ, ◌+◌, ◌++◌, ◌≤◌, ◌<◌, Some, None, length, map, drop, set, get_or, sym, ap, subst, ◌∙◌, arith, rules}
+use Rattle.std.proofs.Common.{ℕ, ◌≡◌, ◌+◌, ◌++◌, ◌≤◌, ◌<◌, Some, None, length, map, drop, set, get_or, sym, ap, subst, ◌∙◌, arith, rules}
 use Rattle.std.specs.Ordering.{eq_by_cmp, nat_cmp}
 use Rattle.qc_arena.specs.Seen.{record_at}
 use Rattle.tree_laws.specs.Walk.{by_forced}
 use Rattle.range_query.specs.Told.{hit_at, hit_in}
 use Rattle.range_query.specs.Walk.{entered, entry_cost}
 use Rattle.range_query.proofs.Standing.{back, codes_cost, codes_met, entered_none, entered_some, entry_cost_some, stands_after, stands_any, stands_whole}
-use Rattle.range_query.proofs.Lists.{all_taken, append_none, some_taken, steps_taken, within_taken}
+use Rattle.range_query.proofs.Lists.{all_taken, append_none, cost_more, found_more, some_taken, steps_taken, within_taken}
 use Rattle.range_query.proofs.walk.+walking.Goals as goal
 
 pub enter-returns-in_default-clause-hits : goal.enter-returns-in_default-clause-hits
@@ -102,3 +102,22 @@ go_on-go_on-requires g t c κs within =
     ∙ c.in-None.ensures.stays c.args.node.0 (record_at (g.T.Nodes.tree c.args.tree.now) c.args.node.0) in
     let at = stands_any _ _ c.args.node.0 c.args.cell.now c.args.dim c.requires.stands c.requires.tree l c.args.node.0 leads in
     (search rules, (within.0, (within.1, (c.requires.tree, (c.requires.dims, (c.requires.few_dims, (at, (c.requires.forced, c.requires.few))))))))
+
+pub visit_codes-codes-preserved : goal.visit_codes-codes-preserved
+visit_codes-codes-preserved g t c =
+    let inv = c.codes.invariant in
+    let e = c.in-Ok.ensures in
+    let code = get_or c.args.codes.now c.codes.k 0 in
+    let k : c.codes.k < length c.args.codes.now = omega (arith, c.codes-test.true) in
+    record {
+      cell = e.cell ∙ inv.cell;
+      few = e.few;
+      hits = λ source h.
+          found_more (λ v. entered source (drop (c.args.dim + 1) c.args.cells.now) c.args.cell.now c.args.dim (Some v)) (hit_at source) hit_in c.args.hits.now.items c.codes.hits.items c.enter.new.hits.items c.args.codes.now c.codes.k 0 k
+          (inv.hits source h)
+          (subst (λ p. map hit_in c.enter.new.hits.items ≡ map hit_in c.codes.hits.items ++ map (hit_at source) (entered source (drop (c.args.dim + 1) c.args.cells.now) p c.args.dim (Some code))) inv.cell (e.hits source h));
+      steps = λ source h.
+          cost_more (λ v. entry_cost source (drop (c.args.dim + 1) c.args.cells.now) c.args.cell.now c.args.dim (Some v)) c.args.codes.now c.codes.k 0 c.args.steps.now c.codes.steps c.enter.new.steps k
+          (inv.steps source h)
+          (subst (λ p. c.enter.new.steps ≤ c.codes.steps + entry_cost source (drop (c.args.dim + 1) c.args.cells.now) p c.args.dim (Some code)) inv.cell (e.steps source h));
+    }
