@@ -40,3 +40,6 @@ returns-in-Ok g c = λ rows has.
     ∙ ap (related s c.args.number (lattice.rollup text_cmp measures s.rows asked)) (c.in-Some.ensures.upper rows has)
     ∙ ap (λ a. related s c.args.number (lattice.rollup text_cmp measures s.rows a) (upper_of s (cell_asked c.args.asked.now))) same)
     (c.told_reply.ensures rows has)
+
+pub rollup-requires-clause-scale : goal.rollup-requires-clause-scale
+rollup-requires-clause-scale g c = c.scale_of_kind.ensures.few
