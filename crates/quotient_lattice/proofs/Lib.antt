@@ -18,3 +18,4 @@ mod Lowest
 pub mod AloneTold
 mod ToldNodes
 mod ParentNodes
+mod Turns

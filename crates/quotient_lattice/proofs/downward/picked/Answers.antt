@@ -1,4 +1,4 @@
-use Rattle.std.proofs.Common.{[], ◌∷◌, ◌++◌, cond, ◌≡◌, ◌↔◌, ◌+◌, ◌<◌, get_or, length, map, nat_eq, refl, sym, ap, subst, ◌∙◌, arith}
+use Rattle.std.proofs.Common.{[], ◌∷◌, ◌++◌, cond, ◌≡◌, ◌↔◌, ◌+◌, ◌*◌, ◌<◌, ◌≤◌, get_or, length, map, nat_eq, refl, sym, ap, subst, ◌∙◌, arith}
 use Rattle.std.specs.List.{IsDistinct}
 use Rattle.cube_laws.specs.Lists.{Among}
 use Rattle.cube_laws.specs.Parts.{value_count}
@@ -8,6 +8,7 @@ use Rattle.qc_arena.specs.Seen.{record_at}
 use Rattle.quotient_lattice.specs.Placed.{AreAt, IsPicked, number_of}
 use Rattle.quotient_lattice.proofs.ChildNodes.{none_picked, once_none}
 use Rattle.quotient_lattice.proofs.PickedNodes.{first_next, once_last, picked_early, picked_last, same_next}
+use Rattle.quotient_lattice.proofs.Turns.{steps_all}
 use Rattle.quotient_lattice.proofs.downward.picked.Goals as goal
 use Rattle.quotient_lattice.proofs.downward.picked.Goals.{then-is_last+in-Ok, else-is_last}
 
@@ -59,3 +60,15 @@ led-preserved g c =
             steps = omega (arith, w.steps-is, inv.steps);
           }
     ]
+
+pub returns-in-Err-clause-steps : goal.returns-in-Err-clause-steps
+returns-in-Err-clause-steps g c =
+    let inv = c.led.invariant in
+    let within : c.led.i + 1 ≤ length c.args.led.now.items = omega (arith, c.led-test.true, c.len-i-end.ensures) in
+    let cost : c.push_child.new.steps ≤ c.args.steps.now + (c.led.i + 1) * (2 * g.T.Nodes.width c.args.tree.now + 2) = omega (arith, c.in-Err.ensures.steps, inv.steps, inv.dims) in
+    steps_all (c.led.i + 1) (length c.args.led.now.items) (2 * g.T.Nodes.width c.args.tree.now + 2) c.push_child.new.steps c.args.steps.now within cost
+
+pub returns-clause-steps : goal.returns-clause-steps
+returns-clause-steps g c =
+    let within : c.led.i ≤ length c.args.led.now.items = omega (arith, c.led.auto.i-end, c.len-i-end.ensures) in
+    steps_all c.led.i (length c.args.led.now.items) (2 * g.T.Nodes.width c.args.tree.now + 2) c.led.steps c.args.steps.now within c.led.invariant.steps

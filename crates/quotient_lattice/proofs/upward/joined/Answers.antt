@@ -1,10 +1,11 @@
-use Rattle.std.proofs.Common.{◌≡◌, ◌^◌, Some, filter, map, ◌∙◌, ap, arith}
+use Rattle.std.proofs.Common.{◌≡◌, ◌+◌, ◌*◌, ◌^◌, ◌≤◌, Some, filter, length, map, ◌∙◌, ap, arith}
 use Rattle.std.specs.List.{range_with_len}
 use Rattle.std.proofs.lemmas.Nat.{one_shl}
 use Rattle.cube_defs.specs.Tree.{cell_at}
 use Rattle.cells_below.specs.Numbers.{cell_of_number}
 use Rattle.quotient_lattice.specs.Joined.{joins}
 use Rattle.quotient_lattice.proofs.Numbers.{nodes_more}
+use Rattle.quotient_lattice.proofs.Turns.{steps_all}
 use Rattle.quotient_lattice.proofs.upward.joined.Goals as goal
 
 pub numbers-preserved : goal.numbers-preserved
@@ -20,3 +21,14 @@ pub returns-clause-nodes : goal.returns-clause-nodes
 returns-clause-nodes g c = λ source h.
     let end : c.numbers.m ≡ 2 ^ c.args.d = omega (arith, one_shl c.args.d 32 (omega arith)) in
     c.numbers.invariant.nodes source h ∙ ap (λ n. map (λ m. Some (cell_of_number c.args.u.now m)) (filter (joins source c.args.u.now) (range_with_len 0 n))) end
+
+pub returns-in_err-push_some-clause-steps : goal.returns-in_err-push_some-clause-steps
+returns-in_err-push_some-clause-steps g c =
+    let within : c.numbers.m + 1 ≤ 2 ^ c.args.d = omega (arith, c.numbers-test.true, one_shl c.args.d 32 (omega arith)) in
+    let cost : c.joined_at-node.new.steps ≤ c.args.steps.now + (c.numbers.m + 1) * (2 * length c.args.u.now + 2) = omega (arith, c.numbers.invariant.steps, c.joined_at-node.ensures.steps) in
+    steps_all (c.numbers.m + 1) (2 ^ c.args.d) (2 * length c.args.u.now + 2) c.joined_at-node.new.steps c.args.steps.now within cost
+
+pub returns-clause-steps : goal.returns-clause-steps
+returns-clause-steps g c =
+    let end : c.numbers.m ≡ 2 ^ c.args.d = omega (arith, one_shl c.args.d 32 (omega arith)) in
+    steps_all c.numbers.m (2 ^ c.args.d) (2 * length c.args.u.now + 2) c.numbers.steps c.args.steps.now (omega (arith, end)) c.numbers.invariant.steps
