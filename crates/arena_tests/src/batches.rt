@@ -12,68 +12,30 @@ use qc_arena::{Nodes, QcArena};
 use std::alloc::Global;
 use std::marker::Brand;
 use std::sync::ledger::{Blank, Ledger};
-use std::test::Fail;
 
-// How many edges an arena has: one, the same with another target, and taken back.
-#[derive(Drop)]
-struct Seen {
-    built: u64,
-    changed: u64,
-    back: u64,
-    found: [bool; 4],
-}
-
-// Takes a batch back.
-fn taken_back<L: Ledger>(alloc: Global, blank: Blank) -> Option<Seen>
-    requires name { blank.name ≡ L.name }
-    requires parts { blank.parts ≡ L.parts }
-    requires some { 0 < L.parts }
-{
-    let mut steps = Steps::<L>::start(blank);
-    let (mut arena, root, child) = grown(alloc, &mut steps)?;
+// Whether a batch is taken back that gave an edge another target.
+fn is_taken_back<L: Ledger>(alloc: Global, steps: &mut Steps<L>) -> bool {
+    let Some((mut arena, root, child)) = grown(alloc, steps) else {
+        return false;
+    };
     arena.commit();
     let built = arena.edge_total();
     arena.begin();
-    if arena.touch(root, &mut steps).is_err() {
+    if arena.touch(root, steps).is_err() || arena.set_edge(root, 1, 7, root, steps).is_err() {
         drop(arena);
-        return None;
-    }
-    if arena.set_edge(root, 1, 7, root, &mut steps).is_err() {
-        drop(arena);
-        return None;
+        return false;
     }
     let changed = arena.edge_total();
     arena.rollback();
     let back = arena.edge_total();
     let found = [
-        arena.edge(root, 1, 7, &mut steps) == Some(child),
-        arena.edge(root, 1, 8, &mut steps).is_some(),
-        arena.edge(root, 0, 7, &mut steps).is_some(),
-        arena.edge(root, 2, 7, &mut steps).is_some(),
+        arena.edge(root, 1, 7, steps) == Some(child),
+        arena.edge(root, 1, 8, steps).is_some(),
+        arena.edge(root, 0, 7, steps).is_some(),
+        arena.edge(root, 2, 7, steps).is_some(),
     ];
     drop(arena);
-    Some(Seen {
-        built,
-        changed,
-        back,
-        found,
-    })
-}
-
-fn taken_back_uncounted(alloc: Global) -> Option<Seen> {
-    taken_back::<Brand>(alloc, Blank::new(1))
-}
-
-#[test]
-fn a_batch_is_taken_back(rt: HostRuntime) -> Result<(), Fail> {
-    let Some(seen) = taken_back_uncounted(rt.alloc()) else {
-        return Err(Fail::new("no such arena"));
-    };
-    assert_eq!(rt; seen.built, 1);
-    assert_eq!(rt; seen.changed, 1);
-    assert_eq!(rt; seen.back, 1);
-    assert_eq!(rt; seen.found, [true, false, false, false]);
-    Ok(())
+    [built, changed, back] == [1; 3] && found == [true, false, false, false]
 }
 
 // Keeps what was done to an arena, opens a batch, and widens it.
@@ -102,82 +64,40 @@ fn close(arena: &mut QcArena, keep: bool)
 
 // Adds a node with a value in a new dimension, and keeps that or takes it back. How many dimensions and nodes
 // there are before and behind.
-fn widened<L: Ledger>(alloc: Global, blank: Blank, keep: bool) -> Option<[(u8, u32); 2]>
-    requires name { blank.name ≡ L.name }
-    requires parts { blank.parts ≡ L.parts }
-    requires some { 0 < L.parts }
-{
-    let mut steps = Steps::<L>::start(blank);
-    let (mut arena, root) = planted(alloc, &mut steps)?;
+fn widened<L: Ledger>(alloc: Global, keep: bool, steps: &mut Steps<L>) -> [(u8, u32); 2] {
+    let Some((mut arena, root)) = planted(alloc, steps) else {
+        return [(0, 0); 2];
+    };
     widen_kept(&mut arena);
-    if arena.add_node(Some((root, 3, 7)), &mut steps).is_err() {
+    if arena.add_node(Some((root, 3, 7)), steps).is_err() {
         drop(arena);
-        return None;
+        return [(0, 0); 2];
     }
     let inside = (arena.dims(), arena.live());
     close(&mut arena, keep);
     let after = (arena.dims(), arena.live());
     drop(arena);
-    Some([inside, after])
+    [inside, after]
 }
 
-fn widened_uncounted(alloc: Global, keep: bool) -> Option<[(u8, u32); 2]> {
-    widened::<Brand>(alloc, Blank::new(1), keep)
-}
-
-#[test]
-fn a_dimension_comes_and_goes(rt: HostRuntime) -> Result<(), Fail> {
-    let Some(kept) = widened_uncounted(rt.alloc(), true) else {
-        return Err(Fail::new("no such arena"));
+// Kills the node to which an edge leads, and takes that back. Whether the node is out at once, with its edge still there.
+fn is_killed<L: Ledger>(alloc: Global, steps: &mut Steps<L>) -> bool {
+    let Some((mut arena, _, child)) = grown(alloc, steps) else {
+        return false;
     };
-    let Some(back) = widened_uncounted(rt.alloc(), false) else {
-        return Err(Fail::new("no such arena"));
-    };
-    assert_eq!(rt; kept, [(4, 2), (4, 2)]);
-    assert_eq!(rt; back, [(4, 2), (3, 1)]);
-    Ok(())
-}
-
-// Kills the node to which an edge leads, and takes that back.
-fn killed<L: Ledger>(alloc: Global, blank: Blank) -> Option<(u32, u64, u32)>
-    requires name { blank.name ≡ L.name }
-    requires parts { blank.parts ≡ L.parts }
-    requires some { 0 < L.parts }
-{
-    let mut steps = Steps::<L>::start(blank);
-    let (mut arena, _, child) = grown(alloc, &mut steps)?;
     arena.commit();
     arena.begin();
-    if arena.touch(child, &mut steps).is_err() {
+    if arena.touch(child, steps).is_err() {
         drop(arena);
-        return None;
+        return false;
     }
-    arena.kill(child, &mut steps);
+    arena.kill(child, steps);
     let after = arena.live();
     let edges = arena.edge_total();
     arena.rollback();
     let back = arena.live();
     drop(arena);
-    Some((after, edges, back))
-}
-
-// Drops the edge of the root.
-fn dropped<L: Ledger>(alloc: Global, blank: Blank) -> Option<(u64, u64)>
-    requires name { blank.name ≡ L.name }
-    requires parts { blank.parts ≡ L.parts }
-    requires some { 0 < L.parts }
-{
-    let mut steps = Steps::<L>::start(blank);
-    let (mut arena, root, _) = grown(alloc, &mut steps)?;
-    arena.commit();
-    arena.begin();
-    if arena.touch(root, &mut steps).is_err() {
-        drop(arena);
-        return None;
-    }
-    let edges = dropped_twice(&mut arena, root, &mut steps);
-    drop(arena);
-    Some(edges)
+    after == 1 && edges == 1 && back == 2
 }
 
 // Drops an edge that isn't there, and one that is.
@@ -188,6 +108,22 @@ fn dropped_twice<L: Ledger>(arena: &mut QcArena, node: NodeNo, steps: &mut Steps
     let kept = arena.edge_total();
     arena.drop_edge(node, 1, 7, steps);
     (kept, arena.edge_total())
+}
+
+// Whether the edge of the root goes by its label alone.
+fn is_dropped<L: Ledger>(alloc: Global, steps: &mut Steps<L>) -> bool {
+    let Some((mut arena, root, _)) = grown(alloc, steps) else {
+        return false;
+    };
+    arena.commit();
+    arena.begin();
+    if arena.touch(root, steps).is_err() {
+        drop(arena);
+        return false;
+    }
+    let (kept, after) = dropped_twice(&mut arena, root, steps);
+    drop(arena);
+    kept == 1 && after == 0
 }
 
 // How many classes were added, and how many removed.
@@ -210,73 +146,59 @@ fn class_taken<L: Ledger>(
     arena: &mut QcArena,
     node: NodeNo,
     steps: &mut Steps<L>,
-) -> Option<[usize; 4]>
+) -> [Option<(usize, usize)>; 3]
     requires { CanChange arena.old node.0 }
 {
     arena.set_class(node, Some(Agg::one(&[])), steps);
-    let (first, none) = added_and_removed(alloc, arena)?;
+    let first = added_and_removed(alloc, arena);
     arena.commit();
     arena.begin();
     if arena.touch(node, steps).is_err() {
-        return None;
+        return [None; 3];
     }
-    let (same, _) = added_and_removed(alloc, arena)?;
+    let same = added_and_removed(alloc, arena);
     arena.set_class(node, None, steps);
-    let (_, gone) = added_and_removed(alloc, arena)?;
-    Some([first, none, same, gone])
+    [first, same, added_and_removed(alloc, arena)]
 }
 
-// How many classes were added and removed: the root's, and after a commit another instead of it.
-fn classes_changed<L: Ledger>(alloc: Global, blank: Blank) -> Option<[usize; 4]>
+// Whether the root's class is added, and is removed in another batch.
+fn are_classes_told<L: Ledger>(alloc: Global, steps: &mut Steps<L>) -> bool {
+    let Some((mut arena, root)) = planted(alloc, steps) else {
+        return false;
+    };
+    let told = class_taken(alloc, &mut arena, root, steps);
+    drop(arena);
+    told == [Some((1, 0)), Some((0, 0)), Some((0, 1))]
+}
+
+// Whether all that is so: an edge, a dimension that stays, one that goes, a node, an edge that is dropped, and classes.
+fn all_hold<L: Ledger>(alloc: Global, blank: Blank) -> [bool; 6]
     requires name { blank.name ≡ L.name }
     requires parts { blank.parts ≡ L.parts }
     requires some { 0 < L.parts }
 {
     let mut steps = Steps::<L>::start(blank);
-    let (mut arena, root) = planted(alloc, &mut steps)?;
-    let found = class_taken(alloc, &mut arena, root, &mut steps);
-    drop(arena);
-    found
+    [
+        is_taken_back(alloc, &mut steps),
+        widened(alloc, true, &mut steps) == [(4, 2), (4, 2)],
+        widened(alloc, false, &mut steps) == [(4, 2), (3, 1)],
+        is_killed(alloc, &mut steps),
+        is_dropped(alloc, &mut steps),
+        are_classes_told(alloc, &mut steps),
+    ]
 }
 
-fn killed_uncounted(alloc: Global) -> Option<(u32, u64, u32)> {
-    killed::<Brand>(alloc, Blank::new(1))
-}
-
-fn dropped_uncounted(alloc: Global) -> Option<(u64, u64)> {
-    dropped::<Brand>(alloc, Blank::new(1))
-}
-
-fn classes_uncounted(alloc: Global) -> Option<[usize; 4]> {
-    classes_changed::<Brand>(alloc, Blank::new(1))
+// The same, where no steps are counted.
+fn all_hold_uncounted(alloc: Global) -> [bool; 6] {
+    all_hold::<Brand>(alloc, Blank::new(1))
 }
 
 #[test]
-fn a_killed_node_is_out_at_once(rt: HostRuntime) -> Result<(), Fail> {
-    let Some((after, edges, back)) = killed_uncounted(rt.alloc()) else {
-        return Err(Fail::new("no such arena"));
-    };
-    assert_eq!(rt; after, 1);
-    assert_eq!(rt; edges, 1);
-    assert_eq!(rt; back, 2);
-    Ok(())
-}
-
-#[test]
-fn an_edge_is_dropped(rt: HostRuntime) -> Result<(), Fail> {
-    let Some((kept, after)) = dropped_uncounted(rt.alloc()) else {
-        return Err(Fail::new("no such arena"));
-    };
-    assert_eq!(rt; kept, 1);
-    assert_eq!(rt; after, 0);
-    Ok(())
-}
-
-#[test]
-fn classes_come_and_go(rt: HostRuntime) -> Result<(), Fail> {
-    let Some(found) = classes_uncounted(rt.alloc()) else {
-        return Err(Fail::new("no such arena"));
-    };
-    assert_eq!(rt; found, [1, 0, 0, 1]);
-    Ok(())
+fn batches_are_kept_and_taken_back(rt: HostRuntime) {
+    let [edge, kept, gone, killed, dropped, classes] = all_hold_uncounted(rt.alloc());
+    assert!(rt; edge);
+    assert!(rt; kept && gone);
+    assert!(rt; killed);
+    assert!(rt; dropped);
+    assert!(rt; classes);
 }
