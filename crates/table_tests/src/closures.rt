@@ -5,7 +5,6 @@ use base_table::Table;
 use cell_closure::{Parts, closure_of};
 use cell_core::{Code, Entry};
 use std::alloc::{AllocError, Global};
-use std::test::Fail;
 
 // A table of these codes, a row each, whose ids are their places.
 fn table_of(alloc: Global, rows: &[(u8, u8)]) -> Result<Table, AllocError> {
@@ -28,18 +27,30 @@ fn push_part(parts: &Parts, k: u32, pairs: &mut Vec<(Code, u32)>) -> Result<(), 
     Ok(())
 }
 
-// The codes of the rows in a dimension, each with the row's place, part by part.
-fn parted(alloc: Global, rows: &[(u8, u8)], dim: u8) -> Result<Vec<(Code, u32)>, AllocError> {
-    let table = table_of(alloc, rows)?;
+// The codes of the rows, each with the row's place, part by part.
+fn pairs_of(alloc: Global, parts: &Parts) -> Result<Vec<(Code, u32)>, AllocError> {
     let mut pairs = Vec::new(alloc);
-    if dim < table.dims() {
-        let mut parts = Parts::new(alloc);
-        parts.part_into(&table, &table.all(alloc)?, dim)?;
-        'parts: for k in 0..parts.len() {
-            push_part(&parts, k, &mut pairs)?;
-        }
+    'parts: for k in 0..parts.len() {
+        push_part(parts, k, &mut pairs)?;
     }
     Ok(pairs)
+}
+
+// Whether the rows' codes in a dimension are these, each with the row's place, part by part.
+fn are_parts(
+    alloc: Global,
+    table: &Table,
+    dim: u8,
+    want: &[(Code, u32)],
+) -> Result<bool, AllocError> {
+    if dim >= table.dims() {
+        return Ok(false);
+    }
+    let nos = table.all(alloc)?;
+    let mut parts = Parts::new(alloc);
+    parts.part_into(table, &nos, dim)?;
+    let pairs = pairs_of(alloc, &parts)?;
+    Ok(pairs.as_slice() == want)
 }
 
 const FIVE: [(u8, u8); 5] = [(2, 7), (0, 7), (2, 8), (1, 7), (0, 7)];
@@ -73,7 +84,9 @@ const MANY: [(u8, u8); 24] = [
 ];
 
 // Rows, a dimension, and the codes with the places.
-static PARTS: [(&[(u8, u8)], u8, &[(Code, u32)]); 3] = [
+type Parted = (&'static [(u8, u8)], u8, &'static [(Code, u32)]);
+
+static PARTS: [Parted; 3] = [
     (&FIVE, 0, &[(0, 1), (0, 4), (1, 3), (2, 0), (2, 2)]),
     (&FIVE, 1, &[(7, 0), (7, 1), (7, 3), (7, 4), (8, 2)]),
     (
@@ -108,36 +121,58 @@ static PARTS: [(&[(u8, u8)], u8, &[(Code, u32)]); 3] = [
     ),
 ];
 
+fn is_parted(alloc: Global, case: &Parted) -> bool {
+    let (rows, dim, want) = *case;
+    let Ok(table) = table_of(alloc, rows) else {
+        return false;
+    };
+    let are_parts = are_parts(alloc, &table, dim, want);
+    drop(table);
+    matches!(are_parts, Ok(true))
+}
+
 #[test]
-fn rows_are_parted(rt: HostRuntime) -> Result<(), Fail> {
-    for (rows, dim, want) in &PARTS {
-        assert!(rt; parted(rt.alloc(), *rows, *dim)?.as_slice() == *want);
+fn rows_are_parted(rt: HostRuntime) {
+    'cases: for case in &PARTS {
+        assert!(rt; is_parted(rt.alloc(), case));
     }
-    Ok(())
 }
 
-// What rows share in both dimensions. Any where there are no rows.
-fn shared(alloc: Global, rows: &[(u8, u8)]) -> Result<(Entry, Entry), AllocError> {
-    let table = table_of(alloc, rows)?;
-    let nos = table.all(alloc)?;
+// Whether all rows share just these entries.
+fn share(alloc: Global, table: &Table, first: Entry, second: Entry) -> bool {
+    let Ok(nos) = table.all(alloc) else {
+        return false;
+    };
     if nos.is_empty() || table.dims() != 2 {
-        return Ok((Entry::Any, Entry::Any));
+        return false;
     }
-    let cell = closure_of(&table, &nos);
-    Ok((cell.get(0), cell.get(1)))
+    let cell = closure_of(table, &nos);
+    cell.get(0) == first && cell.get(1) == second
 }
 
-static SHARED: [(&[(u8, u8)], (Entry, Entry)); 4] = [
-    (&[(3, 7)], (Entry::Is(3), Entry::Is(7))),
-    (&[(3, 7), (0, 7), (3, 7)], (Entry::Any, Entry::Is(7))),
-    (&[(3, 7), (3, 7), (3, 0)], (Entry::Is(3), Entry::Any)),
-    (&[(3, 7), (7, 3)], (Entry::Any, Entry::Any)),
+// Rows, and what they share in both dimensions.
+type Shared = (&'static [(u8, u8)], Entry, Entry);
+
+static SHARED: [Shared; 4] = [
+    (&[(3, 7)], Entry::Is(3), Entry::Is(7)),
+    (&[(3, 7), (0, 7), (3, 7)], Entry::Any, Entry::Is(7)),
+    (&[(3, 7), (3, 7), (3, 0)], Entry::Is(3), Entry::Any),
+    (&[(3, 7), (7, 3)], Entry::Any, Entry::Any),
 ];
 
+fn is_shared(alloc: Global, case: &Shared) -> bool {
+    let (rows, first, second) = *case;
+    let Ok(table) = table_of(alloc, rows) else {
+        return false;
+    };
+    let is_shared = share(alloc, &table, first, second);
+    drop(table);
+    is_shared
+}
+
 #[test]
-fn rows_share_their_values(rt: HostRuntime) -> Result<(), Fail> {
-    for (rows, want) in &SHARED {
-        assert!(rt; shared(rt.alloc(), *rows)? == *want);
+fn rows_share_their_values(rt: HostRuntime) {
+    'cases: for case in &SHARED {
+        assert!(rt; is_shared(rt.alloc(), case));
     }
-    Ok(())
 }

@@ -1,9 +1,9 @@
 // Cells and boxes that fields ask for, in the order of texts.
+ghost use Rattle.std.specs.Prelude.{length, ◌≡◌};
 
 use cell_core::{Cell, Code, Entry, Field, Fields, Text, Texts};
 use std::alloc::{AllocError, Global};
 use std::cmp::Ordering;
-use std::test::Fail;
 use value_dict::Dict;
 
 #[derive(Clone, Copy)]
@@ -37,11 +37,27 @@ fn field(alloc: Global, asked: Asked) -> Result<Field, AllocError> {
     }
 }
 
+fn push_both(
+    alloc: Global,
+    fields: &mut Fields,
+    first: Asked,
+    second: Asked,
+) -> Result<(), AllocError>
+    requires { length fields.old ≡ 0 }
+{
+    fields.push(field(alloc, first)?)?;
+    fields.push(field(alloc, second)?)
+}
+
 fn fields(alloc: Global, first: Asked, second: Asked) -> Result<Fields, AllocError> {
     let mut fields = Fields::new(alloc);
-    fields.push(field(alloc, first)?)?;
-    fields.push(field(alloc, second)?)?;
-    Ok(fields)
+    match push_both(alloc, &mut fields, first, second) {
+        Ok(()) => Ok(fields),
+        Err(error) => {
+            drop(fields);
+            Err(error)
+        }
+    }
 }
 
 fn learn(dict: &mut Dict, dim: u8, word: &str) {
@@ -50,12 +66,14 @@ fn learn(dict: &mut Dict, dim: u8, word: &str) {
     }
 }
 
-// Two dimensions of b, a, ab and a text of no bytes, in this order.
+static WORDS: [&str; 4] = ["b", "a", "ab", ""];
+
+// Two dimensions of these words, in this order.
 fn letters(alloc: Global) -> Result<Dict, AllocError> {
     let mut dict = Dict::new(alloc, 2, 4)?;
-    for word in ["b", "a", "ab", ""] {
-        learn(&mut dict, 0, word);
-        learn(&mut dict, 1, word);
+    'words: for word in &WORDS {
+        learn(&mut dict, 0, *word);
+        learn(&mut dict, 1, *word);
     }
     Ok(dict)
 }
@@ -75,60 +93,39 @@ fn cell(
     }
 }
 
-fn entries(cell: &Cell) -> Option<(Entry, Entry)> {
-    if cell.dims() == 2 {
-        Some((cell.get(0), cell.get(1)))
-    } else {
-        None
-    }
-}
+// Two fields, and the entries of the cell that they ask for, where they ask for one.
+type Asking = (Asked, Asked, Option<(Entry, Entry)>);
 
-// The codes that a field asks for.
-fn codes(alloc: Global, dict: &Dict, asked: Asked) -> Result<Vec<Code>, AllocError> {
-    let fields = fields(alloc, asked, Any)?;
-    let mut codes = Vec::new(alloc);
-    if fields.len() == u32::from(dict.dims()) {
-        let cells = dict.box_of(alloc, &fields)?;
-        if cells.dims() > 0 {
-            if let Some(found) = cells.codes(0) {
-                codes.extend_from_slice(found)?;
-            }
-        }
-    }
-    Ok(codes)
-}
-
-// How the cells of two fields of the first dimension are ordered.
-fn order(
-    alloc: Global,
-    dict: &Dict,
-    one: Asked,
-    other: Asked,
-) -> Result<Option<Ordering>, AllocError> {
-    let Some(one) = cell(alloc, dict, one, Any)? else {
-        return Ok(None);
-    };
-    let Some(other) = cell(alloc, dict, other, Any)? else {
-        return Ok(None);
-    };
-    Ok(Some(dict.cell_cmp(&one, &other)))
-}
-
-static CELLS: [(Asked, Asked, Option<(Entry, Entry)>); 4] = [
+static CELLS: [Asking; 4] = [
     (One("a"), Any, Some((Entry::Is(1), Entry::Any))),
     (One("ab"), One(""), Some((Entry::Is(2), Entry::Is(3)))),
     (One("a"), One("c"), None),
     (All, Any, None),
 ];
 
-#[test]
-fn fields_ask_for_cells(rt: HostRuntime) -> Result<(), Fail> {
-    let dict = letters(rt.alloc())?;
-    for (first, second, want) in &CELLS {
-        let found = cell(rt.alloc(), &dict, *first, *second)?;
-        assert!(rt; found.and_then(|cell| entries(&cell)) == *want);
+fn has_entries(cell: &Cell, first: Entry, second: Entry) -> bool {
+    cell.dims() == 2 && cell.get(0) == first && cell.get(1) == second
+}
+
+fn is_cell(alloc: Global, dict: &Dict, case: &Asking) -> bool {
+    let (first, second, want) = *case;
+    let Ok(found) = cell(alloc, dict, first, second) else {
+        return false;
+    };
+    match (&found, want) {
+        (Some(cell), Some((first, second))) => has_entries(cell, first, second),
+        (None, None) => true,
+        _ => false,
     }
-    Ok(())
+}
+
+fn are_cells(alloc: Global, dict: &Dict) -> bool {
+    'cases: for case in &CELLS {
+        if !is_cell(alloc, dict, case) {
+            return false;
+        }
+    }
+    true
 }
 
 static BOXES: [(Asked, &[Code]); 7] = [
@@ -141,26 +138,75 @@ static BOXES: [(Asked, &[Code]); 7] = [
     (One("z"), &[]),
 ];
 
-#[test]
-fn fields_ask_for_boxes(rt: HostRuntime) -> Result<(), Fail> {
-    let dict = letters(rt.alloc())?;
-    for (asked, want) in &BOXES {
-        assert!(rt; codes(rt.alloc(), &dict, *asked)?.as_slice() == *want);
+// Whether a field asks for these codes.
+fn is_box(alloc: Global, dict: &Dict, asked: Asked, want: &[Code]) -> Result<bool, AllocError> {
+    let fields = fields(alloc, asked, Any)?;
+    if fields.len() != u32::from(dict.dims()) {
+        return Ok(false);
     }
-    Ok(())
+    let cells = dict.box_of(alloc, &fields)?;
+    if cells.dims() == 0 {
+        return Ok(false);
+    }
+    Ok(cells.codes(0).unwrap_or(&[]) == want)
 }
 
-static ORDERS: [(Asked, Asked, Ordering); 3] = [
+fn are_boxes(alloc: Global, dict: &Dict) -> bool {
+    'cases: for (asked, want) in &BOXES {
+        if !matches!(is_box(alloc, dict, *asked, *want), Ok(true)) {
+            return false;
+        }
+    }
+    true
+}
+
+// Two fields of the first dimension, and how their cells are ordered.
+type Ordered = (Asked, Asked, Ordering);
+
+static ORDERS: [Ordered; 3] = [
     (Any, One(""), Ordering::Less),
     (One(""), One("b"), Ordering::Less),
     (One("b"), One("b"), Ordering::Equal),
 ];
 
-#[test]
-fn cells_are_ordered_by_their_texts(rt: HostRuntime) -> Result<(), Fail> {
-    let dict = letters(rt.alloc())?;
-    for (one, other, want) in &ORDERS {
-        assert!(rt; order(rt.alloc(), &dict, *one, *other)? == Some(*want));
+fn is_order(alloc: Global, dict: &Dict, case: &Ordered) -> bool {
+    let (one, other, want) = *case;
+    let Ok(Some(one)) = cell(alloc, dict, one, Any) else {
+        return false;
+    };
+    let Ok(Some(other)) = cell(alloc, dict, other, Any) else {
+        return false;
+    };
+    dict.cell_cmp(&one, &other) == want
+}
+
+fn are_ordered(alloc: Global, dict: &Dict) -> bool {
+    'cases: for case in &ORDERS {
+        if !is_order(alloc, dict, case) {
+            return false;
+        }
     }
-    Ok(())
+    true
+}
+
+// Whether fields ask for the cells and the boxes that they should, and whether cells are ordered by their texts.
+fn understood(alloc: Global) -> Option<[bool; 3]> {
+    let Ok(dict) = letters(alloc) else {
+        return None;
+    };
+    let found = [
+        are_cells(alloc, &dict),
+        are_boxes(alloc, &dict),
+        are_ordered(alloc, &dict),
+    ];
+    drop(dict);
+    Some(found)
+}
+
+#[test]
+fn fields_ask_for_cells_and_boxes(rt: HostRuntime) {
+    let [cells, boxes, orders] = understood(rt.alloc()).unwrap_or([false; 3]);
+    assert!(rt; cells);
+    assert!(rt; boxes);
+    assert!(rt; orders);
 }

@@ -1,8 +1,8 @@
 // What a batch says of its changes.
 
 use csv_load::{RawBatch, read_batch};
-use qc_schema::read_schema;
-use std::test::Fail;
+use qc_schema::{Schema, read_schema};
+use std::alloc::Global;
 
 const ONE_DIM: &[u8] = b"qcube 1\nid id\ndim a\nmeasure m 2\n";
 
@@ -16,12 +16,36 @@ fn counts(batch: &RawBatch) -> Option<(u32, u32, i64)> {
     Some((last, batch.insertions(), amount))
 }
 
+const CHANGES: &[u8] = b"op,id,a,m\n+,1,x,5\n-,2,y,6\n+,3,z,-7\n";
+
+// The same of the batch of a file.
+fn counts_read(alloc: Global, schema: &Schema) -> Option<(u32, u32, i64)> {
+    let Ok(batch) = read_batch(alloc, schema, CHANGES) else {
+        return None;
+    };
+    let counts = counts(&batch);
+    drop(batch);
+    counts
+}
+
+fn are_counted(alloc: Global) -> bool {
+    let Ok(schema) = read_schema(alloc, ONE_DIM) else {
+        return false;
+    };
+    let counts = counts_read(alloc, &schema);
+    drop(schema);
+    counts == Some((3, 2, -700))
+}
+
+fn is_empty(alloc: Global) -> bool {
+    let batch = RawBatch::empty(alloc, 12, 1);
+    let count = batch.len();
+    drop(batch);
+    count == 0
+}
+
 #[test]
-fn changes_are_counted(rt: HostRuntime) -> Result<(), Fail> {
-    let schema = read_schema(rt.alloc(), ONE_DIM).map_err(|_| "schema")?;
-    let file = b"op,id,a,m\n+,1,x,5\n-,2,y,6\n+,3,z,-7\n";
-    let batch = read_batch(rt.alloc(), &schema, file).map_err(|_| "batch")?;
-    assert!(rt; counts(&batch) == Some((3, 2, -700)));
-    assert_eq!(rt; RawBatch::empty(rt.alloc(), 12, 1).len(), 0);
-    Ok(())
+fn changes_are_counted(rt: HostRuntime) {
+    assert!(rt; are_counted(rt.alloc()));
+    assert!(rt; is_empty(rt.alloc()));
 }

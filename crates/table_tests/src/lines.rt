@@ -3,25 +3,37 @@
 use qc_schema::read_schema;
 use query_script::{Command, LineRefused, read_line};
 use std::alloc::Global;
-use std::test::Fail;
 
 const SHOP: &[u8] = b"qcube 1\nid order\ndim store\ndim product\ndim season\n";
 
+// How many fields a command asks for as a point, and none where it is another.
+fn fields_of(command: Command) -> u32 {
+    let fields = match &command {
+        Command::Point(fields) => fields.len(),
+        _ => 0,
+    };
+    drop(command);
+    fields
+}
+
 // How many fields the line asks for as a point, or its refusal.
-fn fields_of(alloc: Global, line: &[u8]) -> Option<Result<u32, LineRefused>> {
+fn read(alloc: Global, line: &[u8]) -> Result<u32, LineRefused> {
     if line.len() > 1000 {
-        return None;
+        return Ok(0);
     }
-    let schema = read_schema(alloc, SHOP).ok()?;
-    match read_line(alloc, &schema, line) {
-        Ok(Command::Point(fields)) => Some(Ok(fields.len())),
-        Ok(_) => None,
-        Err(refused) => Some(Err(refused)),
+    let Ok(schema) = read_schema(alloc, SHOP) else {
+        return Ok(0);
+    };
+    let read = read_line(alloc, &schema, line);
+    drop(schema);
+    match read {
+        Ok(command) => Ok(fields_of(command)),
+        Err(refused) => Err(refused),
     }
 }
 
 #[test]
 fn lines_that_no_script_has(rt: HostRuntime) {
-    assert!(rt; fields_of(rt.alloc(), b"") == Some(Err(LineRefused::Command)));
-    assert!(rt; fields_of(rt.alloc(), b"point a\nb,c") == Some(Ok(3)));
+    assert!(rt; read(rt.alloc(), b"") == Err(LineRefused::Command));
+    assert!(rt; read(rt.alloc(), b"point a\nb,c") == Ok(3));
 }

@@ -4,8 +4,7 @@ ghost use Rattle.aggregates.specs.Bounds.{largest_amount};
 
 use base_table::{Table, TableRefused};
 use cell_core::{Cell, Code, Entry};
-use std::alloc::{AllocError, Global};
-use std::test::Fail;
+use std::alloc::Global;
 
 #[derive(Clone, Copy)]
 pub enum Change {
@@ -95,26 +94,33 @@ fn have_replies(alloc: Global, table: &mut Table, changes: &[(Change, Reply)]) -
     all
 }
 
-// The amounts of all rows, in their order.
-fn amounts(alloc: Global, table: &Table) -> Result<Vec<i64>, AllocError> {
-    let mut amounts = Vec::new(alloc);
-    if table.measures() == 0 {
-        return Ok(amounts);
+// Whether these are the amounts of all rows, in their order.
+fn are_amounts(alloc: Global, table: &Table, want: &[i64]) -> bool {
+    let Ok(nos) = table.all(alloc) else {
+        return false;
+    };
+    if nos.len() != want.len() || table.measures() == 0 {
+        return false;
     }
-    let nos = table.all(alloc)?;
     'rows: for k in 0..nos.len() {
-        amounts.push(table.amount(nos[k], 0))?;
+        if table.amount(nos[k], 0) != want[k] {
+            return false;
+        }
     }
-    Ok(amounts)
+    true
 }
 
-// Which places have a row.
-fn places(alloc: Global, table: &Table) -> Result<Vec<bool>, AllocError> {
-    let mut places = Vec::new(alloc);
-    'places: for place in 0..table.places() {
-        places.push(table.at(place).is_some())?;
+// Whether just the places that are true have a row.
+fn are_places(table: &Table, want: &[bool]) -> bool {
+    if table.places() as usize != want.len() {
+        return false;
     }
-    Ok(places)
+    'places: for place in 0..table.places() {
+        if table.at(place).is_some() != want[place as usize] {
+            return false;
+        }
+    }
+    true
 }
 
 // The count, the sum, the least and the greatest amount of the rows of a tuple.
@@ -148,7 +154,7 @@ fn is_open_right(alloc: Global, table: &mut Table, batch: &Batch) -> bool
 }
 
 // Whether a batch goes as it says.
-fn is_right(alloc: Global, table: &mut Table, batch: &Batch) -> Result<bool, AllocError>
+fn is_right(alloc: Global, table: &mut Table, batch: &Batch) -> bool
     requires { table.old.was ≡ None }
     ensures { table.new.was ≡ None }
 {
@@ -159,12 +165,10 @@ fn is_right(alloc: Global, table: &mut Table, batch: &Batch) -> Result<bool, All
     } else {
         table.rollback();
     }
-    Ok(
-        is_open_right
-            && amounts(alloc, table)?.as_slice() == batch.amounts
-            && places(alloc, table)?.as_slice() == batch.places
-            && table.count() as usize == batch.amounts.len(),
-    )
+    is_open_right
+        && are_amounts(alloc, table, batch.amounts)
+        && are_places(table, batch.places)
+        && table.count() as usize == batch.amounts.len()
 }
 
 // At most two rows.
@@ -273,25 +277,27 @@ static EMPTY_PLACES: [Batch; 4] = [
 ];
 
 // Whether all batches go as they say, in a table of at most so many rows.
-fn all_right(alloc: Global, max: u32, batches: &[Batch]) -> Result<bool, AllocError>
+fn all_right(alloc: Global, max: u32, batches: &[Batch]) -> bool
     requires some { 0 < max }
     requires few { max ≤ 100 }
 {
-    let mut table = Table::new(alloc, 2, 1, max)?;
+    let Ok(mut table) = Table::new(alloc, 2, 1, max) else {
+        return false;
+    };
     let mut all = true;
     'batches: for batch in batches {
-        let is_right = is_right(alloc, &mut table, batch)?;
+        let is_right = is_right(alloc, &mut table, batch);
         all = all && is_right;
     }
-    Ok(all)
+    drop(table);
+    all
 }
 
 #[test]
-fn batches_change_the_rows(rt: HostRuntime) -> Result<(), Fail> {
-    assert!(rt; all_right(rt.alloc(), 2, &REFUSED)?);
-    assert!(rt; all_right(rt.alloc(), 4, &TAKEN_BACK)?);
-    assert!(rt; all_right(rt.alloc(), 6, &EMPTY_PLACES)?);
-    Ok(())
+fn batches_change_the_rows(rt: HostRuntime) {
+    assert!(rt; all_right(rt.alloc(), 2, &REFUSED));
+    assert!(rt; all_right(rt.alloc(), 4, &TAKEN_BACK));
+    assert!(rt; all_right(rt.alloc(), 6, &EMPTY_PLACES));
 }
 
 // The codes, the second entry of the tuple and the amount of the row at the first place.
@@ -311,6 +317,16 @@ fn first_row(table: &Table) -> Seen {
     ))
 }
 
+// The amounts of a row that is taken out of an open table, and zeros where it isn't there.
+fn taken_out(table: &mut Table, id: u64) -> [i64; 4]
+    requires { is_some table.old.was ≡ true }
+{
+    match table.delete(id) {
+        Ok(taken) => taken.amounts,
+        Err(_) => [0; 4],
+    }
+}
+
 // Puts a row into a table and takes it out again: the row, and the amounts that went.
 fn read_and_taken(alloc: Global, id: u64) -> Option<(Seen, [i64; 4])> {
     let Ok(mut table) = Table::new(alloc, 2, 1, 1) else {
@@ -319,13 +335,9 @@ fn read_and_taken(alloc: Global, id: u64) -> Option<(Seen, [i64; 4])> {
     table.begin();
     make(alloc, &mut table, Insert(id, 7, 9, -5));
     let seen = first_row(&table);
-    match table.delete(id) {
-        Ok(taken) => {
-            let amounts = taken.amounts;
-            Some((seen, amounts))
-        }
-        Err(_) => None,
-    }
+    let amounts = taken_out(&mut table, id);
+    drop(table);
+    Some((seen, amounts))
 }
 
 #[test]

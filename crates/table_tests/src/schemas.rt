@@ -2,7 +2,7 @@
 
 use aggregates::AggKind;
 use qc_schema::{Schema, read_schema};
-use std::test::Fail;
+use std::alloc::Global;
 
 // Whether the dimensions and the measure are these.
 fn has_names(schema: &Schema, first: &str, second: &str, measure: &str, scale: u8) -> bool {
@@ -14,19 +14,28 @@ fn has_names(schema: &Schema, first: &str, second: &str, measure: &str, scale: u
         && schema.scale(0) == scale
 }
 
-#[test]
-fn readers(rt: HostRuntime) -> Result<(), Fail> {
+fn has_limits(schema: &Schema, nodes: u32, rows: u32, values: u32) -> bool {
+    schema.nodes() == nodes && schema.rows() == rows && schema.values() == values
+}
+
+fn is_read(alloc: Global) -> bool {
     let text =
         b"qcube 1\nid order\ndim store\ndim product\nmeasure sale 2\nindex sum sale\nnodes 11\nrows 12\nvalues 13\n";
-    let schema = read_schema(rt.alloc(), text).map_err(|_| "a schema")?;
-    assert_eq!(rt; schema.id_name(), "order");
-    assert!(rt; has_names(&schema, "store", "product", "sale", 2));
-    assert!(rt; schema.indexes() == [AggKind::Sum(0)].as_slice());
-    assert_eq!(rt; schema.nodes(), 11);
-    assert_eq!(rt; schema.rows(), 12);
-    assert_eq!(rt; schema.values(), 13);
-    assert_eq!(rt; schema.version(), 1);
-    Ok(())
+    let Ok(schema) = read_schema(alloc, text) else {
+        return false;
+    };
+    let is_right = schema.id_name() == "order"
+        && has_names(&schema, "store", "product", "sale", 2)
+        && schema.indexes() == [AggKind::Sum(0)].as_slice()
+        && has_limits(&schema, 11, 12, 13)
+        && schema.version() == 1;
+    drop(schema);
+    is_right
+}
+
+#[test]
+fn readers(rt: HostRuntime) {
+    assert!(rt; is_read(rt.alloc()));
 }
 
 // The scale of a measure that is named, and 99 where none is.
@@ -37,23 +46,38 @@ fn scale_named(schema: &Schema, name: &[u8]) -> u8 {
     }
 }
 
-#[test]
-fn each_measure_has_its_scale(rt: HostRuntime) -> Result<(), Fail> {
+static SCALES: [(&[u8], u8); 5] = [
+    (b"sale", 2),
+    (b"tax", 1),
+    (b"count", 0),
+    (b"share", 6),
+    (b"store", 99),
+];
+
+fn has_scales(schema: &Schema) -> bool {
+    'names: for (name, scale) in &SCALES {
+        if scale_named(schema, *name) != *scale {
+            return false;
+        }
+    }
+    true
+}
+
+fn are_scales_read(alloc: Global) -> bool {
     let text =
         b"qcube 2\nid order\ndim store\nmeasure sale 2\nmeasure tax 1\nmeasure count 0\nmeasure share 6\nindex mean share\n";
-    let schema = read_schema(rt.alloc(), text).map_err(|_| "a schema")?;
-    assert_eq!(rt; schema.version(), 2);
-    assert_eq!(rt; schema.measures(), 4);
-    assert!(rt; schema.indexes() == [AggKind::Mean(3)].as_slice());
-    static SCALES: [(&[u8], u8); 5] = [
-        (b"sale", 2),
-        (b"tax", 1),
-        (b"count", 0),
-        (b"share", 6),
-        (b"store", 99),
-    ];
-    for (name, scale) in &SCALES {
-        assert_eq!(rt; scale_named(&schema, *name), *scale);
-    }
-    Ok(())
+    let Ok(schema) = read_schema(alloc, text) else {
+        return false;
+    };
+    let is_right = schema.version() == 2
+        && schema.measures() == 4
+        && schema.indexes() == [AggKind::Mean(3)].as_slice()
+        && has_scales(&schema);
+    drop(schema);
+    is_right
+}
+
+#[test]
+fn each_measure_has_its_scale(rt: HostRuntime) {
+    assert!(rt; are_scales_read(rt.alloc()));
 }

@@ -5,8 +5,7 @@ use crate::rows::Change::{Delete, Insert};
 use crate::rows::{make, put};
 use base_table::Table;
 use cell_core::{Cell, Code, Entry};
-use std::alloc::{AllocError, Global};
-use std::test::Fail;
+use std::alloc::Global;
 
 // Puts two rows into an empty table, and keeps them.
 fn fill(alloc: Global, table: &mut Table)
@@ -31,19 +30,23 @@ fn widen(table: &mut Table, code: Code) -> bool
     true
 }
 
-// The codes of the row at a place, none where no row is there.
-fn codes(alloc: Global, table: &Table, place: u32) -> Result<Vec<Code>, AllocError> {
-    let mut codes = Vec::new(alloc);
+// Whether these are the codes of the row at a place, none where no row is there.
+fn are_codes(table: &Table, place: u32, want: &[Code]) -> bool {
     if place >= table.places() {
-        return Ok(codes);
+        return want.is_empty();
     }
     let Some(row) = table.at(place) else {
-        return Ok(codes);
+        return want.is_empty();
     };
-    'dims: for dim in 0..table.dims() {
-        codes.push(table.code(row, dim))?;
+    if usize::from(table.dims()) != want.len() {
+        return false;
     }
-    Ok(codes)
+    'dims: for dim in 0..table.dims() {
+        if table.code(row, dim) != want[dim as usize] {
+            return false;
+        }
+    }
+    true
 }
 
 // A batch: the code that the rows get, the row that goes then, whether it is kept, and the codes at the
@@ -57,7 +60,7 @@ struct Batch {
 }
 
 // Whether a batch goes as it says.
-fn is_right(alloc: Global, table: &mut Table, batch: &Batch) -> Result<bool, AllocError>
+fn is_right(alloc: Global, table: &mut Table, batch: &Batch) -> bool
     requires { table.old.was ≡ None }
     ensures { table.new.was ≡ None }
 {
@@ -69,9 +72,7 @@ fn is_right(alloc: Global, table: &mut Table, batch: &Batch) -> Result<bool, All
     } else {
         table.rollback();
     }
-    let first = codes(alloc, table, 0)?;
-    let second = codes(alloc, table, 1)?;
-    Ok(is_wider && first.as_slice() == batch.first && second.as_slice() == batch.second)
+    is_wider && are_codes(table, 0, batch.first) && are_codes(table, 1, batch.second)
 }
 
 // No row has the id 9.
@@ -114,21 +115,23 @@ static BATCHES: [Batch; 5] = [
 ];
 
 // Whether all batches go as they say.
-fn all_right(alloc: Global) -> Result<bool, AllocError> {
-    let mut table = Table::new(alloc, 2, 1, 4)?;
+fn all_right(alloc: Global) -> bool {
+    let Ok(mut table) = Table::new(alloc, 2, 1, 4) else {
+        return false;
+    };
     fill(alloc, &mut table);
     let mut all = true;
     'batches: for batch in &BATCHES {
-        let is_right = is_right(alloc, &mut table, batch)?;
+        let is_right = is_right(alloc, &mut table, batch);
         all = all && is_right;
     }
-    Ok(all)
+    drop(table);
+    all
 }
 
 #[test]
-fn rows_get_a_code(rt: HostRuntime) -> Result<(), Fail> {
-    assert!(rt; all_right(rt.alloc())?);
-    Ok(())
+fn rows_get_a_code(rt: HostRuntime) {
+    assert!(rt; all_right(rt.alloc()));
 }
 
 // A tuple of three dimensions.
@@ -152,27 +155,35 @@ fn sum_of(alloc: Global, table: &Table, a: u8, b: u8, c: u8) -> Option<i64> {
     Some(agg.parts[0].sum)
 }
 
-// A row that comes behind the others has a code of its own.
-fn sums(alloc: Global) -> Result<[Option<i64>; 4], AllocError> {
-    let mut table = Table::new(alloc, 2, 1, 4)?;
+// Gives the rows a code, and puts in two rows with codes of their own.
+fn widen_and_add(alloc: Global, table: &mut Table)
+    requires { table.old.was ≡ None }
+{
+    table.begin();
+    widen(table, 7);
+    table.commit();
+    table.begin();
+    put(table, 3, &triple(alloc, 3, 4, 8), &[5]);
+    put(table, 4, &triple(alloc, 3, 4, 7), &[5]);
+    table.commit();
+}
+
+// Whether a row that comes behind the others has a code of its own.
+fn are_sums(alloc: Global) -> bool {
+    let Ok(mut table) = Table::new(alloc, 2, 1, 4) else {
+        return false;
+    };
     fill(alloc, &mut table);
-    table.begin();
-    widen(&mut table, 7);
-    table.commit();
-    table.begin();
-    put(&mut table, 3, &triple(alloc, 3, 4, 8), &[5]);
-    put(&mut table, 4, &triple(alloc, 3, 4, 7), &[5]);
-    table.commit();
-    Ok([
-        sum_of(alloc, &table, 3, 4, 7),
-        sum_of(alloc, &table, 3, 4, 8),
-        sum_of(alloc, &table, 3, 5, 7),
-        sum_of(alloc, &table, 3, 5, 8),
-    ])
+    widen_and_add(alloc, &mut table);
+    let are_right = sum_of(alloc, &table, 3, 4, 7) == Some(15)
+        && sum_of(alloc, &table, 3, 4, 8) == Some(5)
+        && sum_of(alloc, &table, 3, 5, 7) == Some(20)
+        && sum_of(alloc, &table, 3, 5, 8).is_none();
+    drop(table);
+    are_right
 }
 
 #[test]
-fn rows_of_a_tuple_after_it(rt: HostRuntime) -> Result<(), Fail> {
-    assert!(rt; sums(rt.alloc())? == [Some(15), Some(5), Some(20), None]);
-    Ok(())
+fn rows_of_a_tuple_after_it(rt: HostRuntime) {
+    assert!(rt; are_sums(rt.alloc()));
 }
