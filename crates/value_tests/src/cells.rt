@@ -6,7 +6,6 @@ use cell_core::{
     Cell, Cells, Entry, Field, Fields, Text, Texts, last, leq, mask_of, meet_into, upto,
 };
 use std::alloc::{AllocError, Global};
-use std::test::Fail;
 
 const ANY: Entry = Entry::Any;
 
@@ -35,11 +34,6 @@ fn entries_are_set(alloc: Global) -> bool {
         && mask_of(&cell) == 32768
 }
 
-#[test]
-fn entries_stay_as_they_are_set(rt: HostRuntime) {
-    assert!(rt; entries_are_set(rt.alloc()));
-}
-
 fn are_cells_ordered(alloc: Global) -> bool {
     let front = cell(alloc, Entry::Is(1), ANY, ANY);
     let tuple = cell(alloc, Entry::Is(1), Entry::Is(0), Entry::Is(2));
@@ -49,11 +43,6 @@ fn are_cells_ordered(alloc: Global) -> bool {
         && leq(&Cell::any(alloc, 3), &front)
         && !leq(&tuple, &front)
         && !leq(&other, &tuple)
-}
-
-#[test]
-fn cells_are_ordered_by_their_values(rt: HostRuntime) {
-    assert!(rt; are_cells_ordered(rt.alloc()));
 }
 
 fn is_meet(alloc: Global) -> bool {
@@ -69,11 +58,7 @@ fn is_meet(alloc: Global) -> bool {
     is_first && mask_of(&meet) == 4
 }
 
-#[test]
-fn what_cells_share_is_their_meet(rt: HostRuntime) {
-    assert!(rt; is_meet(rt.alloc()));
-}
-
+// Prefixes end at a dimension.
 fn are_prefixes(alloc: Global) -> bool {
     let mut front = cell(alloc, Entry::Is(7), ANY, Entry::Is(9));
     let is_whole = last(&front) == Some(2);
@@ -89,7 +74,10 @@ fn are_prefixes(alloc: Global) -> bool {
 }
 
 #[test]
-fn prefixes_end_at_a_dimension(rt: HostRuntime) {
+fn cells(rt: HostRuntime) {
+    assert!(rt; entries_are_set(rt.alloc()));
+    assert!(rt; are_cells_ordered(rt.alloc()));
+    assert!(rt; is_meet(rt.alloc()));
     assert!(rt; are_prefixes(rt.alloc()));
 }
 
@@ -108,28 +96,34 @@ fn are_cells_listed(alloc: Global) -> Result<bool, AllocError> {
     )
 }
 
-#[test]
-fn cells_stay_in_order(rt: HostRuntime) -> Result<(), Fail> {
-    assert!(rt; are_cells_listed(rt.alloc())?);
-    Ok(())
+fn push_texts(alloc: Global, texts: &mut Texts) -> Result<(), AllocError>
+    requires { length texts.old ≡ 0 }
+{
+    texts.push(Text::new(alloc, "S1")?)?;
+    texts.push(Text::new(alloc, "")?)
 }
 
-fn are_texts_listed(alloc: Global) -> Result<bool, AllocError> {
+fn are_texts_listed(alloc: Global) -> bool {
     let mut texts = Texts::new(alloc);
     let is_new = texts.is_empty();
-    texts.push(Text::new(alloc, "S1")?)?;
-    texts.push(Text::new(alloc, "")?)?;
-    Ok(is_new && texts.len() == 2 && texts.get(0).as_str() == "S1" && texts.get(1).as_str() == "")
-}
-
-#[test]
-fn texts_stay_in_order(rt: HostRuntime) -> Result<(), Fail> {
-    assert!(rt; are_texts_listed(rt.alloc())?);
-    Ok(())
+    let are_pushed = push_texts(alloc, &mut texts).is_ok();
+    is_new
+        && are_pushed
+        && texts.len() == 2
+        && texts.get(0).as_str() == "S1"
+        && texts.get(1).as_str() == ""
 }
 
 fn between(alloc: Global, lo: &str, hi: &str) -> Result<Field, AllocError> {
     Ok(Field::Between(Text::new(alloc, lo)?, Text::new(alloc, hi)?))
+}
+
+fn push_fields(alloc: Global, fields: &mut Fields) -> Result<(), AllocError>
+    requires { length fields.old ≡ 0 }
+{
+    fields.push(Field::Any)?;
+    fields.push(Field::One(Text::new(alloc, "P1")?))?;
+    fields.push(between(alloc, "a", "b")?)
 }
 
 fn is_one(field: &Field, text: &str) -> bool {
@@ -146,21 +140,19 @@ fn is_between(field: &Field, first: &str, second: &str) -> bool {
     }
 }
 
-fn are_fields_listed(alloc: Global) -> Result<bool, AllocError> {
+fn are_fields_listed(alloc: Global) -> bool {
     let mut fields = Fields::new(alloc);
-    fields.push(Field::Any)?;
-    fields.push(Field::One(Text::new(alloc, "P1")?))?;
-    fields.push(between(alloc, "a", "b")?)?;
-    Ok(
-        fields.len() == 3
-            && matches!(fields.get(0), Field::Any)
-            && is_one(fields.get(1), "P1")
-            && is_between(fields.get(2), "a", "b"),
-    )
+    let are_pushed = push_fields(alloc, &mut fields).is_ok();
+    are_pushed
+        && fields.len() == 3
+        && matches!(fields.get(0), Field::Any)
+        && is_one(fields.get(1), "P1")
+        && is_between(fields.get(2), "a", "b")
 }
 
 #[test]
-fn fields_stay_in_order(rt: HostRuntime) -> Result<(), Fail> {
-    assert!(rt; are_fields_listed(rt.alloc())?);
-    Ok(())
+fn lists_stay_in_order(rt: HostRuntime) {
+    assert!(rt; matches!(are_cells_listed(rt.alloc()), Ok(true)));
+    assert!(rt; are_texts_listed(rt.alloc()));
+    assert!(rt; are_fields_listed(rt.alloc()));
 }

@@ -1,4 +1,5 @@
 // Files that are read whole, and sinks that are written to.
+ghost use Rattle.std.specs.Prelude.{IfSome, None, ◌≡◌};
 
 use cube_defs::MAX_FILE;
 use qc_io::{
@@ -30,26 +31,108 @@ fn ends<F: Files>(alloc: Global, files: &mut F, name: &str, limit: usize, end: E
     }
 }
 
-// Two files, read in pieces of so many bytes.
-fn are_read_in(alloc: Global, piece: usize) -> Result<bool, AllocError> {
-    let mut files = MemoryFiles::new(alloc, &[], piece.max(1))?;
-    files.add("ten", b"0123456789")?;
-    files.add("empty", b"")?;
-    Ok(
-        ends(alloc, &mut files, "ten", 10, End::Whole(b"0123456789"))
-            && ends(alloc, &mut files, "ten", 9, End::TooLong)
-            && ends(alloc, &mut files, "ten", 0, End::TooLong)
-            && ends(alloc, &mut files, "empty", 0, End::Whole(b""))
-            && ends(alloc, &mut files, "missing", 10, End::Failed),
-    )
+// A file that is read with a limit, and how that ends.
+type Reading = (&'static str, usize, End<'static>);
+
+// Whether the readings end so, one after the other.
+fn all_end<F: Files>(alloc: Global, files: &mut F, readings: &[Reading]) -> bool {
+    'readings: for (name, limit, end) in readings {
+        if !ends(alloc, files, *name, *limit, *end) {
+            return false;
+        }
+    }
+    true
 }
 
-#[test]
-fn a_file_is_read_up_to_the_limit(rt: HostRuntime) -> Result<(), Fail> {
-    'pieces: for piece in [1, 3, 10, 100] {
-        assert!(rt; are_read_in(rt.alloc(), piece)?, "in {piece}");
+// A file: its name, and its bytes.
+type File<'a> = (&'a str, &'a [u8]);
+
+// These files in memory, which give so many bytes a read. Of their calls those that are listed fail.
+fn files_of(alloc: Global, fails: &[u64], piece: usize, given: &[File<'_>]) -> Option<MemoryFiles>
+    ensures { IfSome result (λ files. files.store.open_name ≡ None) }
+{
+    let Ok(mut files) = MemoryFiles::new(alloc, fails, piece.max(1)) else {
+        return None;
+    };
+    'given: for file in given {
+        let Ok(()) = files.add(file.0, file.1) else {
+            drop(files);
+            return None;
+        };
     }
-    Ok(())
+    Some(files)
+}
+
+// Whether over these files the readings end so.
+fn are_read(
+    alloc: Global,
+    fails: &[u64],
+    piece: usize,
+    given: &[File<'_>],
+    readings: &[Reading],
+) -> bool {
+    let Some(mut files) = files_of(alloc, fails, piece, given) else {
+        return false;
+    };
+    let all_end = all_end(alloc, &mut files, readings);
+    drop(files);
+    all_end
+}
+
+static TWO: [File<'static>; 2] = [("ten", b"0123456789"), ("empty", b"")];
+
+static LIMITS: [Reading; 5] = [
+    ("ten", 10, End::Whole(b"0123456789")),
+    ("ten", 9, End::TooLong),
+    ("ten", 0, End::TooLong),
+    ("empty", 0, End::Whole(b"")),
+    ("missing", 10, End::Failed),
+];
+
+static PIECES: [usize; 4] = [1, 3, 10, 100];
+
+// A whole reading in pieces of three is one `open` and five `read`s, the last at the end. The call that fails is of the first
+// reading or of the second, and the third has none.
+static FIRST_FAILS: [Reading; 3] = [
+    ("ten", 10, End::Failed),
+    ("ten", 10, End::Whole(b"0123456789")),
+    ("ten", 10, End::Whole(b"0123456789")),
+];
+
+static SECOND_FAILS: [Reading; 3] = [
+    ("ten", 10, End::Whole(b"0123456789")),
+    ("ten", 10, End::Failed),
+    ("ten", 10, End::Whole(b"0123456789")),
+];
+
+fn fails_at(alloc: Global, call: u64) -> bool {
+    let readings = if call < 6 {
+        &FIRST_FAILS
+    } else {
+        &SECOND_FAILS
+    };
+    are_read(alloc, &[call], 3, &TWO, readings)
+}
+
+static SAME_NAME: [File<'static>; 3] = [("a", b"first"), ("b", b"other"), ("a", b"second one")];
+
+static REPLACED: [Reading; 2] = [
+    ("a", 100, End::Whole(b"second one")),
+    ("b", 100, End::Whole(b"other")),
+];
+
+#[test]
+fn files_are_read(rt: HostRuntime) {
+    'pieces: for piece in &PIECES {
+        assert!(rt;
+            are_read(rt.alloc(), &[], *piece, &TWO, &LIMITS),
+            "in {piece}"
+        );
+    }
+    'calls: for call in 0..8 {
+        assert!(rt; fails_at(rt.alloc(), call), "at {call}");
+    }
+    assert!(rt; are_read(rt.alloc(), &[], 4, &SAME_NAME, &REPLACED));
 }
 
 fn many_bytes(alloc: Global) -> Result<Vec<u8>, AllocError> {
@@ -60,63 +143,22 @@ fn many_bytes(alloc: Global) -> Result<Vec<u8>, AllocError> {
     Ok(content)
 }
 
-fn is_long_file_read(alloc: Global) -> Result<bool, AllocError> {
-    let content = many_bytes(alloc)?;
-    let mut files = MemoryFiles::new(alloc, &[], 1_000_000)?;
-    files.add("long", &content)?;
-    Ok(
-        ends(alloc, &mut files, "long", 200_000, End::Whole(&content))
-            && ends(alloc, &mut files, "long", 199_999, End::TooLong),
-    )
-}
-
-#[test]
-fn a_file_of_several_pieces_is_read(rt: HostRuntime) -> Result<(), Fail> {
-    assert!(rt; is_long_file_read(rt.alloc())?);
-    Ok(())
-}
-
-// A whole reading in pieces of three is one `open` and five `read`s, the last at the end. The call that fails is of the first
-// reading or of the second, and the third has none.
-fn fails_at(alloc: Global, call: u64) -> Result<bool, AllocError> {
-    let mut files = MemoryFiles::new(alloc, &[call], 3)?;
-    files.add("ten", b"0123456789")?;
-    let whole = End::Whole(b"0123456789");
-    let (first, second) = if call < 6 {
-        (End::Failed, whole)
-    } else {
-        (whole, End::Failed)
+// Whether a file is read in one piece, and refused where it is longer by a byte.
+fn is_long_file(alloc: Global, content: &[u8]) -> bool {
+    let Some(mut files) = files_of(alloc, &[], 1_000_000, &[("long", content)]) else {
+        return false;
     };
-    Ok(
-        ends(alloc, &mut files, "ten", 10, first)
-            && ends(alloc, &mut files, "ten", 10, second)
-            && ends(alloc, &mut files, "ten", 10, whole),
-    )
+    let is_read = ends(alloc, &mut files, "long", 200_000, End::Whole(content))
+        && ends(alloc, &mut files, "long", 199_999, End::TooLong);
+    drop(files);
+    is_read
 }
 
-#[test]
-fn each_call_of_a_reading_may_fail(rt: HostRuntime) -> Result<(), Fail> {
-    'calls: for call in 0..8 {
-        assert!(rt; fails_at(rt.alloc(), call)?, "at {call}");
+fn is_long_file_read(alloc: Global) -> bool {
+    match many_bytes(alloc) {
+        Ok(content) => is_long_file(alloc, &content),
+        Err(_) => false,
     }
-    Ok(())
-}
-
-fn is_replaced(alloc: Global) -> Result<bool, AllocError> {
-    let mut files = MemoryFiles::new(alloc, &[], 4)?;
-    files.add("a", b"first")?;
-    files.add("b", b"other")?;
-    files.add("a", b"second one")?;
-    Ok(
-        ends(alloc, &mut files, "a", 100, End::Whole(b"second one"))
-            && ends(alloc, &mut files, "b", 100, End::Whole(b"other")),
-    )
-}
-
-#[test]
-fn a_file_of_the_same_name_is_replaced(rt: HostRuntime) -> Result<(), Fail> {
-    assert!(rt; is_replaced(rt.alloc())?);
-    Ok(())
 }
 
 fn may_be_added_meanwhile(alloc: Global) -> Result<bool, AllocError> {
@@ -133,26 +175,33 @@ fn may_be_added_meanwhile(alloc: Global) -> Result<bool, AllocError> {
     Ok(is_first && is_second && is_end)
 }
 
-#[test]
-fn a_file_may_be_added_while_another_is_open(rt: HostRuntime) -> Result<(), Fail> {
-    assert!(rt; may_be_added_meanwhile(rt.alloc())?);
-    Ok(())
-}
+static SURE: [Reading; 2] = [
+    ("a", 3, End::Whole(b"abc")),
+    ("missing", 0, End::Whole(b"")),
+];
 
-fn has_every_name(alloc: Global) -> Result<bool, AllocError> {
-    let mut files = SureFiles::new(alloc, 1)?;
+fn add_twice(files: &mut SureFiles) -> Result<(), AllocError>
+    requires { files.old.open_name ≡ None }
+{
     files.add("a", b"old")?;
-    files.add("a", b"abc")?;
-    Ok(
-        ends(alloc, &mut files, "a", 3, End::Whole(b"abc"))
-            && ends(alloc, &mut files, "missing", 0, End::Whole(b"")),
-    )
+    files.add("a", b"abc")
+}
+
+// Whether sure files have every name, and the last file of each.
+fn has_every_name(alloc: Global) -> bool {
+    let Ok(mut files) = SureFiles::new(alloc, 1) else {
+        return false;
+    };
+    let are_right = add_twice(&mut files).is_ok() && all_end(alloc, &mut files, &SURE);
+    drop(files);
+    are_right
 }
 
 #[test]
-fn sure_files_have_every_name(rt: HostRuntime) -> Result<(), Fail> {
-    assert!(rt; has_every_name(rt.alloc())?);
-    Ok(())
+fn other_files_are_read(rt: HostRuntime) {
+    assert!(rt; is_long_file_read(rt.alloc()));
+    assert!(rt; matches!(may_be_added_meanwhile(rt.alloc()), Ok(true)));
+    assert!(rt; has_every_name(rt.alloc()));
 }
 
 // Whether all is written, or the first so many bytes where there are.
@@ -163,23 +212,23 @@ fn is_written<S: Sink>(sink: &mut S, bytes: &[u8], stop: Option<usize>) -> bool 
     }
 }
 
-fn takes_what_has_room(alloc: Global) -> Result<bool, AllocError> {
-    let mut sink = MemorySink::new(alloc, &[1], 2, 5)?;
-    let is_cut = is_written(&mut sink, b"abc", Some(2)) && sink.bytes() == b"ab".as_slice();
-    Ok(
-        is_cut
-            && is_written(&mut sink, b"", None)
-            && is_written(&mut sink, b"cdefg", Some(3))
-            && sink.bytes() == b"abcde".as_slice()
-            && sink.write(b"h").is_err()
-            && is_written(&mut SureSink::new(), b"abc", None),
-    )
+// Whether a sink that fails at its second write takes what has room.
+fn is_filled(sink: &mut MemorySink) -> bool {
+    let is_cut = is_written(sink, b"abc", Some(2)) && sink.bytes() == b"ab".as_slice();
+    is_cut
+        && is_written(sink, b"", None)
+        && is_written(sink, b"cdefg", Some(3))
+        && sink.bytes() == b"abcde".as_slice()
+        && sink.write(b"h").is_err()
 }
 
-#[test]
-fn a_sink_takes_what_its_room_allows(rt: HostRuntime) -> Result<(), Fail> {
-    assert!(rt; takes_what_has_room(rt.alloc())?);
-    Ok(())
+fn takes_what_has_room(alloc: Global) -> bool {
+    let Ok(mut sink) = MemorySink::new(alloc, &[1], 2, 5) else {
+        return false;
+    };
+    let is_filled = is_filled(&mut sink);
+    drop(sink);
+    is_filled
 }
 
 #[test]
@@ -209,6 +258,8 @@ fn is_slice_filled() -> bool {
 }
 
 #[test]
-fn a_writer_is_written_to(rt: HostRuntime) {
+fn sinks_are_written_to(rt: HostRuntime) {
+    assert!(rt; takes_what_has_room(rt.alloc()));
+    assert!(rt; is_written(&mut SureSink::new(), b"abc", None));
     assert!(rt; is_slice_filled());
 }
