@@ -20,6 +20,9 @@ use Rattle.warehouse.proofs.Decoding.{filter-decoded, ids-decoded, length-rows}
 use Rattle.warehouse.specs.InPlace.{kept}
 use Rattle.warehouse.proofs.Rows.{has-kept}
 
+pub cause-twice : (changes : List (Change Text)) (k : ℕ) → first_twice changes ≡ Some k → (s : State) → refusal_of s changes ≡ Some (batches.Twice k)
+cause-twice changes k twice s = rw twice refl
+
 pub cause-missing : (s : State) (changes : List (Change Text)) (k : ℕ) → first_twice changes ≡ None → first_number (is_missing (ids_of s.rows)) changes ≡ Some k → refusal_of s changes ≡ Some (batches.Missing k)
 cause-missing s changes k once missing = rw (once, missing) refl
 

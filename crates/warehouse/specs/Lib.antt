@@ -6,3 +6,4 @@ pub mod Steps
 pub mod Widening
 pub mod Handing
 pub mod Counted
+pub mod Dimensions

@@ -19,7 +19,7 @@ ghost use Rattle.warehouse.specs.Steps.{AreLonger, HasFront, IsCause, IsOver, Is
 ghost use Rattle.warehouse.specs.Stored.{IsTreeOfTable, IsStored, IsTreeOfSome, applied_in, decoded_rows, refusal_in, state_of};
 ghost use Rattle.value_dict.specs.Told.{RowsAreCodes};
 
-use crate::checks::{first_present, first_repeat, is_full};
+use crate::checks::{check_once, first_present, is_full};
 use crate::deleting::delete_rows;
 use crate::indexing::change_index;
 use crate::learning::{learn_tuple, lengths, values_full};
@@ -428,8 +428,12 @@ pub(crate) fn change<L: Ledger>(
     ensures images { OnOk result (over tree.new.last tree.new.now ≡ tree.old.now) }
     ensures no_images { OnErr result (tree.new.last ≡ finmap.empty) }
 {
-    if let Some(k) = first_repeat(alloc, &batch)? {
-        return Err(Refused::Twice(k));
+    match check_once(alloc, &batch) {
+        Ok(()) => {}
+        Err(refused) => {
+            drop(batch);
+            return Err(refused);
+        }
     }
     let records = batch.len();
     let lens = open_batch(schema, table, dict, tree);
@@ -543,8 +547,12 @@ pub(crate) fn attempt<L: Ledger>(
     ensures kept { IsTreeOfTable schema.now table.new tree.new }
     ensures images { tree.new.last ≡ finmap.empty }
 {
-    if let Some(k) = first_repeat(alloc, &batch)? {
-        return Err(Refused::Twice(k));
+    match check_once(alloc, &batch) {
+        Ok(()) => {}
+        Err(refused) => {
+            drop(batch);
+            return Err(refused);
+        }
     }
     let records = batch.len();
     match count_and_go_back(schema, table, dict, tree, batch, alloc, steps) {

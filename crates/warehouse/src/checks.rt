@@ -1,16 +1,18 @@
 // The checks before rows are inserted.
-ghost use Rattle.std.specs.Prelude.{IfOk, Ok, [], length, nat_lt, not, true, ◌+◌, ◌-◌, ◌≡◌, ◌≤◌, take};
+ghost use Rattle.std.specs.Prelude.{IfErr, IfOk, None, Ok, OnOk, [], length, nat_lt, not, true, ◌+◌, ◌-◌, ◌≡◌, ◌≤◌, take};
 ghost use Rattle.std.specs.List.{list_any};
 ghost use Rattle.base_table.specs.Places.{rows_of};
 ghost use Rattle.csv_load.specs.Batch.{change_at, inserted};
 ghost use Rattle.warehouse.specs.Batch.{first_number, first_twice, same_change};
-ghost use Rattle.warehouse.specs.Steps.{AreSeen, is_there};
+ghost use Rattle.warehouse.specs.State.{State};
+ghost use Rattle.warehouse.specs.Steps.{AreSeen, IsCause, is_there};
 
 use crate::Memory;
+use crate::refused::Refused;
 use base_table::Table;
 use csv_load::RawBatch;
 use indexmap::IndexSet;
-use std::alloc::Global;
+use std::alloc::{AllocError, Global};
 
 // The ids of the deletions so far, and those of the insertions.
 #[derive(Drop)]
@@ -24,7 +26,10 @@ impl Seen {
         ensures { IfOk result (λ seen. AreSeen seen.gone.keys seen.come.keys []) }
     {
         let gone = IndexSet::with_capacity(alloc, capacity)?;
-        let come = IndexSet::with_capacity(alloc, capacity)?;
+        let Ok(come) = IndexSet::with_capacity(alloc, capacity) else {
+            drop(gone);
+            return Err(AllocError);
+        };
         Ok(Seen { gone, come })
     }
 
@@ -61,14 +66,28 @@ fn first_seen(seen: &mut Seen, batch: &RawBatch) -> Result<Option<u32>, Memory>
     Ok(None)
 }
 
-/// The number of the first change with the operation and the id of an earlier one.
-pub(crate) fn first_repeat(alloc: Global, batch: &RawBatch) -> Result<Option<u32>, Memory>
+// The number of the first change with the operation and the id of an earlier one.
+fn first_repeat(alloc: Global, batch: &RawBatch) -> Result<Option<u32>, Memory>
     ensures { IfOk result (λ k. k ≡ first_twice batch.now.changes) }
 {
     let mut seen = Seen::with_capacity(alloc, batch.len() as usize)?;
     let found = first_seen(&mut seen, batch);
     drop(seen);
     found
+}
+
+/// Refuses changes of which one has the operation and the id of an earlier one.
+pub(crate) fn check_once(alloc: Global, batch: &RawBatch) -> Result<(), Refused>
+    ensures once { OnOk result (first_twice batch.now.changes ≡ None) }
+    ensures cause { IfErr result (λ refused. (s : State) → IsCause refused s batch.now.changes) }
+{
+    let Ok(repeated) = first_repeat(alloc, batch) else {
+        return Err(Refused::Memory);
+    };
+    if let Some(k) = repeated {
+        return Err(Refused::Twice(k));
+    }
+    Ok(())
 }
 
 /// The number of the first insertion whose id a row of the table has.

@@ -10,18 +10,17 @@ ghost use Rattle.base_table.specs.Places.{IsTable, rows_of, widened, with_code};
 ghost use Rattle.cell_core.specs.Gives.{Gives};
 ghost use Rattle.cube_defs.specs.Cell.{depth};
 ghost use Rattle.cube_defs.specs.Tree.{Tree};
-ghost use Rattle.qc_arena.specs.Map.{CanChange, frame, is_open, is_touched, shape_of};
+ghost use Rattle.qc_arena.specs.Map.{CanChange, frame, is_open, is_touched};
 ghost use Rattle.qc_arena.specs.Seen.{record_at};
 ghost use Rattle.qc_schema.specs.Grammar.{is_new_name};
 ghost use Rattle.qc_schema.specs.Schema.{IsLayout, max_dims};
 ghost use Rattle.tree_laws.specs.Counts.{classes_in};
 ghost use Rattle.tree_laws.specs.Walk.{last_label};
 ghost use Rattle.tree_search.specs.Found.{IsTreeOf};
-ghost use Rattle.value_dict.specs.TextLists as texts;
 ghost use Rattle.value_dict.specs.TextLists.{IsDictionary};
+ghost use Rattle.warehouse.specs.Dimensions.{AreBack, AreWidened};
 ghost use Rattle.warehouse.specs.Handing.{HandsOn, IsWide, is_in, led_to, made_child};
 ghost use Rattle.warehouse.specs.State.{IsIndexed};
-ghost use Rattle.warehouse.specs.Steps as steps_of;
 ghost use Rattle.warehouse.specs.Stored.{IsStored, IsTreeOfTable, applied_in, state_of};
 ghost use Rattle.warehouse.specs.Widening.{KeepsWidened, cost_of_widening, widen_refusal_in, widen_result};
 
@@ -283,25 +282,15 @@ fn widen_parts<L: Ledger>(
     requires width { tree.old.width ≡ table.old.dims }
     requires tree { IsTreeOf table.old.dims tree.old.now (record { measures = table.old.measures; rows = rows_of table.old }) }
     requires images { tree.old.last ≡ finmap.empty }
-    ensures texts { OnOk result (dict.new ≡ texts.with_dim dict.old value.now) }
+    ensures widened { OnOk result (AreWidened value.now dict.old dict.new table.old table.new tree.old tree.new) }
+    ensures back { OnErr result (AreBack dict.old dict.new table.old table.new tree.old tree.new) }
     ensures dictionary { IsDictionary dict.new }
-    ensures rows { OnOk result (rows_of table.new ≡ map (with_code 0) (rows_of table.old)) }
-    ensures table { OnOk result (steps_of.frame table.new ≡ record (steps_of.frame table.old) { dims = table.old.dims + 1 }) }
     ensures valid { IsTable table.new }
-    ensures tree { OnOk result (IsTreeOf (table.old.dims + 1) tree.new.now
-        (record { measures = table.old.measures; rows = rows_of table.new })) }
-    ensures kept { OnOk result (KeepsWidened table.old.dims tree.old.now tree.new.now) }
-    ensures few { OnOk result (finmap.len tree.new.now ≤ tree.new.max) }
-    ensures width { OnOk result (tree.new.width ≡ table.old.dims + 1) }
     ensures max { tree.new.max ≡ tree.old.max }
     ensures closed { is_open tree.new ≡ false }
     ensures images { tree.new.last ≡ finmap.empty }
     ensures index { IfOk result (λ index. IsIndexed wide.now tree.new.now index) }
     ensures steps { OnOk result (steps.new ≤ steps.old + 16 * finmap.len tree.old.now) }
-    ensures texts_back { OnErr result (dict.new ≡ dict.old) }
-    ensures rows_back { OnErr result (rows_of table.new ≡ rows_of table.old) }
-    ensures table_back { OnErr result (steps_of.frame table.new ≡ steps_of.frame table.old) }
-    ensures tree_back { OnErr result (shape_of tree.new ≡ shape_of tree.old) }
 {
     dict.add_dim(value)?;
     table.begin();

@@ -42,10 +42,10 @@ returns-in-Err-clause-stored g c =
     let table = c.args.table.now in
     let now = c.widen_parts.new.table in
     let stored = c.requires.stored in
-    let rest : frame now ≡ frame (closed table) = c.in-Err.ensures.table_back ∙ ap (λ w. let t : Places = record (frame table) { was = w } in t) stored.closed in
-    subst (λ (d : TextLists). IsStored schema d now) (sym c.in-Err.ensures.texts_back)
+    let rest : frame now ≡ frame (closed table) = c.in-Err.ensures.back.frame ∙ ap (λ w. let t : Places = record (frame table) { was = w } in t) stored.closed in
+    subst (λ (d : TextLists). IsStored schema d now) (sym c.in-Err.ensures.back.texts)
     (stored-next schema dict dict table now stored rest c.widen_parts.ensures.valid refl refl stored.values
-    (subst (λ (rs : List (Row ℕ)). RowsAreCodes dict.lists rs) (sym c.in-Err.ensures.rows_back) stored.known) stored.dictionary)
+    (subst (λ (rs : List (Row ℕ)). RowsAreCodes dict.lists rs) (sym c.in-Err.ensures.back.rows) stored.known) stored.dictionary)
 
 pub returns-clause-stored : goal.returns-clause-stored
 returns-clause-stored g c =
@@ -56,8 +56,8 @@ returns-clause-stored g c =
     let name = c.args.name.now in
     let value = c.args.value.now in
     let longer : c.in_ok-wide.wide ≡ with_dim schema name = c.in_ok-wide.ensures in
-    let more : c.widen_parts.new.dict ≡ texts.with_dim dict value = c.in-Ok.ensures.texts in
-    let is = stored-wide schema dict table now name value c.requires.stored c.requires.kept.from.wide c.in-Ok.ensures.rows c.in-Ok.ensures.table
+    let more : c.widen_parts.new.dict ≡ texts.with_dim dict value = c.in-Ok.ensures.widened.texts in
+    let is = stored-wide schema dict table now name value c.requires.stored c.requires.kept.from.wide c.in-Ok.ensures.widened.rows c.in-Ok.ensures.widened.frame
     (subst IsLayout longer c.dims-dims.ensures.layout) c.widen_parts.ensures.valid (subst IsDictionary more c.widen_parts.ensures.dictionary)
     (record { utf8 = c.utf8.value; short = c.requires.value }) in
     subst (λ (l : Layout). IsStored l c.widen_parts.new.dict now) (sym longer) (subst (λ (d : TextLists). IsStored (with_dim schema name) d now) (sym more) is)
@@ -72,8 +72,8 @@ returns-clause-kept g c =
     let long : length wide.dims ≡ table.dims + 1 = ap (λ (l : Layout). length l.dims) longer ∙ length-append schema.dims (c.args.name.now ∷ []) ∙ ap (λ (n : ℕ). n + 1) (sym stored.dims) in
     let measures : table.measures ≡ length wide.measures = stored.measures ∙ sym (ap (λ (l : Layout). length l.measures) longer) in
     let max = c.widen_parts.ensures.max ∙ c.requires.kept.max ∙ sym (ap (λ (l : Layout). l.nodes) longer) in
-    kept-wide wide c.widen_parts.new.table c.widen_parts.new.tree (table.dims + 1) long c.widen_parts.ensures.closed c.in-Ok.ensures.width max c.in-Ok.ensures.few
-    (subst (λ (m : ℕ). IsTreeOf (table.dims + 1) c.widen_parts.new.tree.now (record { measures = m; rows = rows_of c.widen_parts.new.table })) measures c.in-Ok.ensures.tree)
+    kept-wide wide c.widen_parts.new.table c.widen_parts.new.tree (table.dims + 1) long c.widen_parts.ensures.closed c.in-Ok.ensures.widened.width max c.in-Ok.ensures.widened.few
+    (subst (λ (m : ℕ). IsTreeOf (table.dims + 1) c.widen_parts.new.tree.now (record { measures = m; rows = rows_of c.widen_parts.new.table })) measures c.in-Ok.ensures.widened.canonical)
 
 pub returns-clause-gives : goal.returns-clause-gives
 returns-clause-gives g c =
@@ -87,12 +87,12 @@ returns-clause-gives g c =
     let stored = c.requires.stored in
     let from = c.requires.kept.from in
     let longer : c.in_ok-wide.wide ≡ with_dim schema name = c.in_ok-wide.ensures in
-    let more : c.widen_parts.new.dict ≡ texts.with_dim dict value = c.in-Ok.ensures.texts in
+    let more : c.widen_parts.new.dict ≡ texts.with_dim dict value = c.in-Ok.ensures.widened.texts in
     let old = state_of schema dict table in
     let count : finmap.len tree + classes_in nat_cmp tree ≡ nodes_then old =
     ap₂ (λ (m n : ℕ). m + n) (nodes-kept dict.lists (rows_of table) stored.known stored.dictionary.distinct _ _ tree from) (classes-kept dict.lists (rows_of table) stored.known stored.dictionary.distinct _ _ tree from) in
     let made : state_of c.in_ok-wide.wide c.widen_parts.new.dict now ≡ widened name value old =
-    ap₂ (λ (l : Layout) (d : TextLists). state_of l d now) longer more ∙ state-wide schema dict table now name value stored from.wide c.in-Ok.ensures.rows c.in-Ok.ensures.table in
+    ap₂ (λ (l : Layout) (d : TextLists). state_of l d now) longer more ∙ state-wide schema dict table now name value stored from.wide c.in-Ok.ensures.widened.rows c.in-Ok.ensures.widened.frame in
     let is : IsStored c.in_ok-wide.wide c.widen_parts.new.dict now = returns-clause-stored g c in
     let kept : IsTreeOfTable c.in_ok-wide.wide now c.widen_parts.new.tree = returns-clause-kept g c in
     let many : c.class_count-classes.result ≡ length (classes text_cmp (widened name value old).rows) =
