@@ -1,5 +1,5 @@
 -- An index of classes stays one where its entries change as the classes do.
-use Rattle.std.proofs.Common.{◌≡◌, ◌≢◌, ◌⊎◌, inl, inr, ℕ, zero, suc, ◌&&◌, ◌||◌, not, Bool, true, false, cond, Option, None, Some, List, [], ◌∷◌, ℤ, int_eq, refl, sym, ap, subst, ◌∙◌, arith, true≢false, nat_eq, eqb-true}
+use Rattle.std.proofs.Common.{◌≡◌, ◌≢◌, ◌⊎◌, inl, inr, ℕ, zero, suc, ◌&&◌, ◌||◌, not, Bool, true, false, cond, Option, None, Some, List, [], ◌∷◌, ℤ, int_eq, refl, sym, ap, ap₂, subst, ◌∙◌, ◌+◌, ◌<◌, ◌≤◌, ◌++◌, arith, get_or, length, take, true≢false, nat_eq, eqb-true}
 use Rattle.std.specs.Prelude.{map, slice_get}
 use Rattle.std.specs.List.{AllByRecursion, AllZip, IsDistinct}
 use Rattle.std.specs.List.Sorted.{IsStrictlySortedBy}
@@ -7,6 +7,7 @@ use Rattle.std.specs.Ordering.{is_eq}
 use Rattle.std.specs.Cmp.{tied_itself}
 use Rattle.std.specs.declared.cmp.Ordering.TheVariants.{Less, Equal}
 use Rattle.std.proofs.lemmas.Bool.{false_from_ne_true}
+use Rattle.std.proofs.lemmas.List.{map-append, take_all, take_more}
 use Rattle.std.proofs.lemmas.Map.Keys.{sorted_head, sorted_tail}
 use Rattle.std.proofs.lemmas.Bool.Decides.{Decides-int_eq}
 use Rattle.std.proofs.Math.Bool.{or-true}
@@ -252,29 +253,29 @@ empty_index scales (kind ∷ kinds) = behind (empty_index scales kinds)
 
 pub same_kinds : (a b : AggKind) → same_kind a b ≡ true → a ≡ b
 same_kinds kinds.Count kinds.Count h = refl
-same_kinds kinds.Count (kinds.Sum n) h = cc
-same_kinds kinds.Count (kinds.Least n) h = cc
-same_kinds kinds.Count (kinds.Greatest n) h = cc
-same_kinds kinds.Count (kinds.Mean n) h = cc
-same_kinds (kinds.Sum m) kinds.Count h = cc
+same_kinds kinds.Count (kinds.Sum n) h = absurd (true≢false (sym h))
+same_kinds kinds.Count (kinds.Least n) h = absurd (true≢false (sym h))
+same_kinds kinds.Count (kinds.Greatest n) h = absurd (true≢false (sym h))
+same_kinds kinds.Count (kinds.Mean n) h = absurd (true≢false (sym h))
+same_kinds (kinds.Sum m) kinds.Count h = absurd (true≢false (sym h))
 same_kinds (kinds.Sum m) (kinds.Sum n) h = ap (λ (i : ℕ). kinds.Sum i) (eqb-true m n h)
-same_kinds (kinds.Sum m) (kinds.Least n) h = cc
-same_kinds (kinds.Sum m) (kinds.Greatest n) h = cc
-same_kinds (kinds.Sum m) (kinds.Mean n) h = cc
-same_kinds (kinds.Least m) kinds.Count h = cc
-same_kinds (kinds.Least m) (kinds.Sum n) h = cc
+same_kinds (kinds.Sum m) (kinds.Least n) h = absurd (true≢false (sym h))
+same_kinds (kinds.Sum m) (kinds.Greatest n) h = absurd (true≢false (sym h))
+same_kinds (kinds.Sum m) (kinds.Mean n) h = absurd (true≢false (sym h))
+same_kinds (kinds.Least m) kinds.Count h = absurd (true≢false (sym h))
+same_kinds (kinds.Least m) (kinds.Sum n) h = absurd (true≢false (sym h))
 same_kinds (kinds.Least m) (kinds.Least n) h = ap (λ (i : ℕ). kinds.Least i) (eqb-true m n h)
-same_kinds (kinds.Least m) (kinds.Greatest n) h = cc
-same_kinds (kinds.Least m) (kinds.Mean n) h = cc
-same_kinds (kinds.Greatest m) kinds.Count h = cc
-same_kinds (kinds.Greatest m) (kinds.Sum n) h = cc
-same_kinds (kinds.Greatest m) (kinds.Least n) h = cc
+same_kinds (kinds.Least m) (kinds.Greatest n) h = absurd (true≢false (sym h))
+same_kinds (kinds.Least m) (kinds.Mean n) h = absurd (true≢false (sym h))
+same_kinds (kinds.Greatest m) kinds.Count h = absurd (true≢false (sym h))
+same_kinds (kinds.Greatest m) (kinds.Sum n) h = absurd (true≢false (sym h))
+same_kinds (kinds.Greatest m) (kinds.Least n) h = absurd (true≢false (sym h))
 same_kinds (kinds.Greatest m) (kinds.Greatest n) h = ap (λ (i : ℕ). kinds.Greatest i) (eqb-true m n h)
-same_kinds (kinds.Greatest m) (kinds.Mean n) h = cc
-same_kinds (kinds.Mean m) kinds.Count h = cc
-same_kinds (kinds.Mean m) (kinds.Sum n) h = cc
-same_kinds (kinds.Mean m) (kinds.Least n) h = cc
-same_kinds (kinds.Mean m) (kinds.Greatest n) h = cc
+same_kinds (kinds.Greatest m) (kinds.Mean n) h = absurd (true≢false (sym h))
+same_kinds (kinds.Mean m) kinds.Count h = absurd (true≢false (sym h))
+same_kinds (kinds.Mean m) (kinds.Sum n) h = absurd (true≢false (sym h))
+same_kinds (kinds.Mean m) (kinds.Least n) h = absurd (true≢false (sym h))
+same_kinds (kinds.Mean m) (kinds.Greatest n) h = absurd (true≢false (sym h))
 same_kinds (kinds.Mean m) (kinds.Mean n) h = ap (λ (i : ℕ). kinds.Mean i) (eqb-true m n h)
 
 -- the ranking that is found for a kind
@@ -302,3 +303,13 @@ scale_found scales kind (x ∷ index) (k ∷ named) e r f =
     go : (ranking_of kind index ≡ Some r → r.scale ≡ scale_of scales kind) → x.scale ≡ scale_of scales x.kind → (b : Bool) → same_kind kind x.kind ≡ b → cond b (Some x) (ranking_of kind index) ≡ Some r → r.scale ≡ scale_of scales kind
     go more own true same g = let one : x ≡ r = cc in ap (λ y. y.scale) (sym one) ∙ own ∙ ap (scale_of scales) (sym (same_kinds kind x.kind same))
     go more own false other g = more g
+
+-- one ranking more without entries
+pub empty_more : (scales : List ℕ) (kinds : List AggKind) (k : ℕ) (d : AggKind) (scale : ℕ) (made : Ranking) → k < length kinds → made ≡ no_entries (get_or kinds k d) scale → scale ≡ scale_of scales (get_or kinds k d)
+    → (before now : List Ranking) → before ≡ map (empty_ranking scales) (take k kinds) → now ≡ before ++ made ∷ [] → now ≡ map (empty_ranking scales) (take (k + 1) kinds)
+empty_more scales kinds k d scale made lt is unit before now had more =
+    more ∙ ap₂ (λ rs (r : Ranking). rs ++ r ∷ []) had (is ∙ ap (no_entries (get_or kinds k d)) unit)
+    ∙ sym (map-append (empty_ranking scales) (take k kinds) (get_or kinds k d ∷ [])) ∙ ap (map (empty_ranking scales)) (sym (take_more kinds k d lt))
+
+pub empty_all : (scales : List ℕ) (kinds : List AggKind) (k : ℕ) → length kinds ≤ k → (now : List Ranking) → now ≡ map (empty_ranking scales) (take k kinds) → now ≡ map (empty_ranking scales) kinds
+empty_all scales kinds k past now had = had ∙ ap (map (empty_ranking scales)) (take_all k kinds past)
