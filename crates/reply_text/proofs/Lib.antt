@@ -1,3 +1,4 @@
 mod Names
 mod Records
 mod Told
+mod ShortFields

@@ -1,6 +1,6 @@
 // Replies that take no memory.
 ghost use Rattle.std.specs.Prelude.{[], decimal, length, ◌+◌, ◌++◌, ◌<◌, ◌∷◌, ◌≡◌, ◌≤◌};
-ghost use Rattle.reply_text.specs.Replies.{applied_text, memory_text, none_text, pinned_text, refused_text, stats_text, unpinned_text, widened_text};
+ghost use Rattle.reply_text.specs.Replies.{applied_text, fields_text, memory_text, none_text, pinned_text, refused_text, stats_text, unpinned_text, widened_text};
 
 use crate::refusals::{Detail, RefusalWords};
 use arrayvec::ArrayString;
@@ -40,7 +40,7 @@ impl ShortReply {
     }
 }
 
-ghost use Rattle.reply_text.specs.Words.{IsShort, reply_bytes, texts_of};
+ghost use Rattle.reply_text.specs.Words.{IsShort, IsShortDetail, detail_texts, reply_bytes, texts_of};
 
 impl Reply {
     /// The reply's bytes.
@@ -77,6 +77,38 @@ impl ShortReply {
         self.text.push_str(field);
     }
 
+    // A number more.
+    fn number(&mut self, number: u32)
+        requires { length self.old < 85 }
+        ensures text { self.new ≡ self.old ++ 44 ∷ decimal number }
+        ensures long { length self.new ≤ length self.old + 11 }
+    {
+        self.field(Buffer::new().format(number));
+    }
+
+    // A number of edges more.
+    fn edges(&mut self, edges: u64)
+        requires { length self.old < 75 }
+        ensures text { self.new ≡ self.old ++ 44 ∷ decimal edges }
+        ensures long { length self.new ≤ length self.old + 21 }
+    {
+        self.field(Buffer::new().format(edges));
+    }
+
+    // What a refusal says of its code.
+    fn detail(&mut self, detail: Detail<'_>)
+        requires short { IsShortDetail detail }
+        requires room { length self.old < 63 }
+        ensures text { self.new ≡ self.old ++ fields_text (detail_texts detail.entry) }
+        ensures long { length self.new ≤ length self.old + 33 }
+    {
+        match detail {
+            Detail::Nothing => {}
+            Detail::Number(k) => self.number(k),
+            Detail::Name(name) => self.field(name),
+        }
+    }
+
     // Ends the record.
     fn ended(mut self) -> ShortReply
         requires { length self < 96 }
@@ -106,8 +138,8 @@ pub fn applied(line: u32, records: u32, classes: u32) -> ShortReply
     ensures { result ≡ applied_text line records classes }
 {
     let mut reply = begun("applied", line);
-    reply.field(Buffer::new().format(records));
-    reply.field(Buffer::new().format(classes));
+    reply.number(records);
+    reply.number(classes);
     reply.ended()
 }
 
@@ -116,8 +148,8 @@ pub fn widened(line: u32, dims: u8, classes: u32) -> ShortReply
     ensures { result ≡ widened_text line dims classes }
 {
     let mut reply = begun("widened", line);
-    reply.field(Buffer::new().format(dims));
-    reply.field(Buffer::new().format(classes));
+    reply.number(u32::from(dims));
+    reply.number(classes);
     reply.ended()
 }
 
@@ -128,7 +160,7 @@ pub fn pinned(line: u32, name: &str, classes: u32) -> ShortReply
 {
     let mut reply = begun("pinned", line);
     reply.field(name);
-    reply.field(Buffer::new().format(classes));
+    reply.number(classes);
     reply.ended()
 }
 
@@ -147,11 +179,11 @@ pub fn stats(line: u32, counts: Stats) -> ShortReply
     ensures { result ≡ stats_text line counts.rows counts.classes counts.nodes counts.tree_edges counts.links }
 {
     let mut reply = begun("stats", line);
-    reply.field(Buffer::new().format(counts.rows));
-    reply.field(Buffer::new().format(counts.classes));
-    reply.field(Buffer::new().format(counts.nodes));
-    reply.field(Buffer::new().format(counts.tree_edges));
-    reply.field(Buffer::new().format(counts.links));
+    reply.number(counts.rows);
+    reply.number(counts.classes);
+    reply.number(counts.nodes);
+    reply.edges(counts.tree_edges);
+    reply.edges(counts.links);
     reply.ended()
 }
 
@@ -162,10 +194,6 @@ pub fn refused(line: u32, words: RefusalWords<'_>) -> ShortReply
 {
     let mut reply = begun("refused", line);
     reply.field(words.code);
-    match words.detail {
-        Detail::Nothing => {}
-        Detail::Number(k) => reply.field(Buffer::new().format(k)),
-        Detail::Name(name) => reply.field(name),
-    }
+    reply.detail(words.detail);
     reply.ended()
 }
