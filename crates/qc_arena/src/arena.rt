@@ -1,4 +1,4 @@
-// Nodes under numbers; a batch can be taken back, numbers included.
+// Nodes by their numbers. A rollback takes a batch back, numbers included.
 ghost use Rattle.std.specs.Prelude.{Err, IfOk, IfSome, IsSome, None, Ok, OnErr, OnOk, Some, false, if◌then◌else◌, nat_eq, true, ℕ, ◌+◌, ◌<◌, ◌||◌, ◌↔◌, ◌≡◌, ◌≢◌, ◌≤◌};
 ghost use Rattle.cell_core.specs.Entry.{IsCode};
 ghost use Rattle.std.specs.FinMap as map;
@@ -41,14 +41,14 @@ use std::sync::ledger::Ledger;
 /// Why a node was not added.
 #[derive(Clone, Copy)]
 pub enum ArenaRefused {
-    /// There are as many nodes as there may be.
+    /// The tree already has its greatest number of nodes.
     Full,
     /// Memory ran out.
     Memory,
 }
 
-/// Nodes under numbers. While a batch is open, the record that a node had before is kept when the
-/// node is touched, and so the batch can be taken back without memory.
+/// Nodes by their numbers. While a batch is open, the first touch of a node keeps its before-image.
+/// So a rollback takes no memory.
 #[derive(Drop)]
 pub struct QcArena {
     nodes: Slab<Place>,
@@ -86,7 +86,8 @@ impl Model for QcArena {
 }
 
 impl QcArena {
-    /// No nodes, of which there may be so many, and no batch is open.
+    /// An arena without nodes, for cells of `dims` dimensions and at most `max` nodes. No batch is
+    /// open.
     pub fn new(alloc: Global, dims: u8, max: u32) -> Result<QcArena, Memory>
         requires some_dims { 0 < dims }
         requires few_dims { dims ≤ MAX_DIMS }
@@ -114,7 +115,7 @@ impl QcArena {
         })
     }
 
-    /// A batch is open, and no node is touched.
+    /// Opens a batch. No node is touched yet.
     pub fn begin(&mut self)
         requires { is_open self.old ≡ false }
         ensures { self.new ≡ record self.old { was = Some (shape_of self.old); touched = set.empty; last = map.empty } }
@@ -123,7 +124,8 @@ impl QcArena {
         self.is_open = true;
     }
 
-    /// Gives each cell Any in a new last dimension. It takes no memory, and `rollback` takes the dimension away again.
+    /// Adds a last dimension, in which each cell has Any. Takes no memory. `rollback` removes the
+    /// dimension again.
     pub fn widen(&mut self)
         requires opened { is_open self.old ≡ true }
         requires untouched { self.old.touched ≡ set.empty }
@@ -136,7 +138,7 @@ impl QcArena {
         self.dims = dims;
     }
 
-    // The record of a node that is to come.
+    // The record of a node to be added.
     fn new_rec(&self, under: Option<(NodeNo, u8, Code)>) -> NodeRecord
         requires { IsPlace self.now.width self.now.now under }
         ensures { result.node ≡ new_record self.now.width self.now.now under }
@@ -147,8 +149,8 @@ impl QcArena {
         }
     }
 
-    /// Adds the root, or the node with one later value than its parent, under a number that no
-    /// node has nor had at `begin`. It counts as touched.
+    /// Adds the root, or the node with one later value than its parent. Its number is free now, and
+    /// was free at `begin`. The new node counts as touched.
     pub fn add_node<L: Ledger>(
         &mut self,
         under: Option<(NodeNo, u8, Code)>,
@@ -181,7 +183,7 @@ impl QcArena {
         }
     }
 
-    /// Keeps the record of the node as it was at `begin`, so that it may be changed.
+    /// Keeps the before-image of a node. A node must be touched before it is changed.
     pub fn touch<L: Ledger>(&mut self, node: NodeNo, steps: &mut Steps<L>) -> Result<(), Memory>
         requires opened { is_open self.old ≡ true }
         requires node { IsSome (map.get self.old.now node.0) }
@@ -199,8 +201,7 @@ impl QcArena {
         self.images.add_was(node.0, image)
     }
 
-    /// Makes room for so many more edges of a node, so that they are set without memory being asked
-    /// for again and again.
+    /// Makes room for so many more edges of a node, so that its list need not grow step by step.
     pub fn reserve_edges(&mut self, node: NodeNo, more: u32) -> Result<(), Memory>
         requires { IsSome (map.get self.old.now node.0) }
         ensures { self.new ≡ self.old }
@@ -208,7 +209,7 @@ impl QcArena {
         reserve_edges_at(&mut self.nodes, node.0, more)
     }
 
-    /// Adds an edge with this label, or gives the one that is there another target.
+    /// Adds an edge with this label, or gives the edge that has the label a new target.
     pub fn set_edge<L: Ledger>(
         &mut self,
         node: NodeNo,
@@ -247,7 +248,7 @@ impl QcArena {
         }
     }
 
-    /// Takes the edge with this label away, if there is one.
+    /// Removes the edge with this label, if there is one.
     pub fn drop_edge<L: Ledger>(&mut self, node: NodeNo, dim: u8, code: Code, steps: &mut Steps<L>)
         requires change { CanChange self.old node.0 }
         ensures here { map.get self.new.now node.0 ≡ option_map (without_edge dim code) (map.get self.old.now node.0) }
@@ -261,8 +262,8 @@ impl QcArena {
         self.kept = self.kept.with_edges(had, has);
     }
 
-    /// Takes a node out of the map. Edges may lead to it still: from now on they lead nowhere. Its
-    /// number is given to no other node before `commit`.
+    /// Removes a node. Edges that still lead to it lead nowhere from now on. No other node gets its
+    /// number before `commit`.
     pub fn kill<L: Ledger>(&mut self, node: NodeNo, steps: &mut Steps<L>)
         requires change { CanChange self.old node.0 }
         ensures here { map.get self.new.now node.0 ≡ None }
@@ -276,14 +277,14 @@ impl QcArena {
         self.kept = self.kept.without_node(node.0, is_class, had);
     }
 
-    // Takes the node at a place out, if there is one.
+    // Removes the node at a place, if there is one.
     fn clear_place<L: Ledger>(&mut self, place: usize, steps: &mut Steps<L>) -> Result<(), Memory>
         requires { is_open self.old ≡ true }
         ensures here { OnOk result (map.get self.new.now place ≡ None) }
         ensures others { OnOk result ((q : ℕ) → q ≢ place → map.get self.new.now q ≡ map.get self.old.now q) }
         ensures frame { frame self.new ≡ frame self.old }
     {
-        // So many nodes fit into no memory.
+        // So many nodes don't fit in memory.
         if place > u32::MAX as usize {
             return Err(AllocError);
         }
@@ -296,7 +297,7 @@ impl QcArena {
         Ok(())
     }
 
-    /// Takes all nodes out of the map. Where memory runs out, some of them are out.
+    /// Removes all nodes. If memory runs out, some of them are already removed.
     pub fn clear<L: Ledger>(&mut self, steps: &mut Steps<L>) -> Result<(), Memory>
         requires { is_open self.old ≡ true }
         ensures none { OnOk result (self.new.now ≡ map.empty) }
@@ -311,7 +312,7 @@ impl QcArena {
         Ok(())
     }
 
-    /// Sets the forced child, or takes it away.
+    /// Sets or removes the forced child.
     pub fn set_forced<L: Ledger>(
         &mut self,
         node: NodeNo,
@@ -330,7 +331,7 @@ impl QcArena {
         set_forced_at(&mut self.nodes, node.0, forced);
     }
 
-    /// Sets what the rows of the node come to, or marks it as no class.
+    /// Sets the aggregate of the node's class, or marks the node as no class.
     pub fn set_class<L: Ledger>(&mut self, node: NodeNo, class: Option<Agg>, steps: &mut Steps<L>)
         requires change { CanChange self.old node.0 }
         ensures here { map.get self.new.now node.0 ≡ option_map (with_class (option_map agg_in class)) (map.get self.old.now node.0) }
@@ -346,8 +347,8 @@ impl QcArena {
         self.kept = self.kept.with_class(had, class.is_some());
     }
 
-    /// The map stays as it is, and the batch is closed. What the touched nodes were is kept until the
-    /// next batch, or until it is moved out: where a dimension came in the batch, that is of no use.
+    /// Closes the batch and keeps its changes. The before-images stay until the next batch, or
+    /// until they are moved out. They are of no use if the batch added a dimension.
     pub fn commit(&mut self)
         requires { is_open self.old ≡ true }
         ensures value { self.new ≡ record self.old { was = None; touched = set.empty; last = self.new.last } }
@@ -362,7 +363,7 @@ impl QcArena {
         self.was = self.kept;
     }
 
-    /// The map is that at `begin`, dimensions and numbers included, and the batch is closed.
+    /// Closes the batch and restores the state at `begin`, dimensions and numbers included.
     pub fn rollback(&mut self)
         requires { is_open self.old ≡ true }
         ensures back { Some (shape_of self.new) ≡ self.old.was }
@@ -378,8 +379,8 @@ impl QcArena {
         self.kept = self.was;
     }
 
-    /// Moves out what the nodes were that the last committed batch touched, sorted by their numbers.
-    /// A second call gives nothing.
+    /// Moves out the before-images of the last committed batch, sorted by node number. A second
+    /// call gives none.
     pub fn last_images(&mut self) -> Images
         ensures images { result ≡ self.old.last }
         ensures rest { self.new ≡ record self.old { last = map.empty } }
@@ -388,7 +389,7 @@ impl QcArena {
         replace(&mut self.last, none).sorted()
     }
 
-    /// Drops what the nodes were that the last committed batch touched.
+    /// Drops the before-images of the last committed batch.
     pub fn drop_images(&mut self)
         ensures { self.new ≡ record self.old { last = map.empty } }
     {
@@ -402,14 +403,14 @@ impl QcArena {
         record_in(&self.nodes, node.0 as usize).is_some()
     }
 
-    // How many places there are at most: no node's number is this or more.
+    // The number of places. Each node's number is smaller.
     fn places(&self) -> usize
         ensures { (q : ℕ) → result ≤ q → map.get self.now.now q ≡ None }
     {
         self.nodes.capacity()
     }
 
-    /// How many nodes there are.
+    /// The number of nodes.
     pub fn live(&self) -> u32
         ensures value { result ≡ map.len self.now.now }
         ensures few { result ≤ self.now.max }
@@ -417,8 +418,8 @@ impl QcArena {
         self.kept.nodes
     }
 
-    /// The pairs of a node and what its rows come to that are there now and were not at `begin`, each
-    /// once.
+    /// The pairs of node and aggregate that are there now and were not at `begin`, each once. A
+    /// class with a new aggregate counts.
     pub fn classes_added(&self, alloc: Global) -> Result<Vec<(NodeNo, Agg)>, Memory>
         requires { is_open self.now ≡ true }
         ensures { IfOk result (λ pairs. AreNew (class_was self.now) (class_now self.now) pairs.items) }
@@ -426,8 +427,8 @@ impl QcArena {
         changed(alloc, &self.nodes, &self.parts, &self.images, true)
     }
 
-    /// The pairs of a node and what its rows come to that were there at `begin` and are not now, each
-    /// once.
+    /// The pairs of node and aggregate that were there at `begin` and are not now, each once. A
+    /// class with a new aggregate counts.
     pub fn classes_removed(&self, alloc: Global) -> Result<Vec<(NodeNo, Agg)>, Memory>
         requires { is_open self.now ≡ true }
         ensures { IfOk result (λ pairs. AreNew (class_now self.now) (class_was self.now) pairs.items) }
@@ -435,8 +436,7 @@ impl QcArena {
         changed(alloc, &self.nodes, &self.parts, &self.images, false)
     }
 
-    /// How many numbers there are at most: no node's number is this or more. It is refused where these are more than
-    /// 4,294,967,295.
+    /// A number that is larger than each node's number. It is refused if it exceeds 4,294,967,295.
     pub fn numbers(&self) -> Result<u32, Memory>
         ensures { IfOk result (λ numbers. (q : ℕ) → numbers ≤ q → map.get self.now.now q ≡ None) }
     {
@@ -447,22 +447,22 @@ impl QcArena {
         Ok(places as u32)
     }
 
-    /// What the rows of the node with a number come to, where there is one that is a class. It serves who goes
-    /// through all classes, and is no step.
+    /// The aggregate of the node with a number. None if there is no such node, or if it is no
+    /// class. This is for scans of all classes, and counts as no step.
     pub fn class_at(&self, number: u32) -> Option<Agg>
         ensures { option_map agg_in result ≡ class_now self.now number }
     {
         class_in_place(&self.nodes, &self.parts, number)
     }
 
-    /// How many nodes are classes.
+    /// The number of classes.
     pub fn class_count(&self) -> u32
         ensures { result ≡ classes_in nat_cmp self.now.now }
     {
         self.kept.classes
     }
 
-    /// How many edges there are: tree edges and links together.
+    /// The number of edges, tree edges and links together.
     pub fn edge_total(&self) -> u64
         ensures value { result ≡ edges_in self.now.now }
         ensures kinds { result ≡ tree_edges_in nat_cmp self.now.now + links_in nat_cmp self.now.now }
@@ -470,7 +470,7 @@ impl QcArena {
         self.kept.edges
     }
 
-    /// How many nodes, classes, tree edges and links there are. It goes through all edges.
+    /// The numbers of nodes, classes, tree edges and links. Reads all edges.
     pub fn counts(&self) -> Counts
         requires { AreRooted self.now.now }
         ensures nodes { result.nodes ≡ map.len self.now.now }

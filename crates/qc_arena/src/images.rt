@@ -1,4 +1,4 @@
-// What nodes were before a batch, by their numbers.
+// Before-images by node number.
 ghost use Rattle.std.specs.FinMap as map;
 ghost use Rattle.std.specs.Map.{lookup};
 ghost use Rattle.std.specs.Prelude.{IfErr, IfNone, IfSome, None, OnErr, OnOk, Some, if◌then◌else◌, length, nat_eq, slice_index_or, ℕ, ◌++◌, ◌<◌, ◌≡◌};
@@ -15,9 +15,9 @@ use cell_core::NodeNo;
 use std::marker::Model;
 use std::mem::replace;
 
-/// What images say of a number.
+/// The before-image of a number.
 pub enum Look<'a> {
-    /// Nothing: the batch didn't touch such a node.
+    /// The batch touched no such node.
     Same,
     /// There was no such node.
     Gone,
@@ -25,7 +25,8 @@ pub enum Look<'a> {
     Was(&'a Record),
 }
 
-/// What the nodes were that a batch touched, by their numbers: a record each, or that there was none.
+/// The before-images of the nodes that a batch touched: for each number a record, or that there was
+/// no node.
 #[derive(Drop)]
 pub struct Images {
     changed: Vec<(u32, Image)>,
@@ -51,7 +52,7 @@ impl Model for Images {
 }
 
 impl Images {
-    // What some entries say that rise by their numbers.
+    // The images of entries that are sorted by number.
     pub(crate) fn of(changed: Vec<(u32, Image)>, added: Vec<u32>) -> Images
         requires once { IsOnce (changed.items ++ all_new added.items) }
         requires changed { IsSortedByKey entry_number nat_cmp changed.items }
@@ -61,7 +62,7 @@ impl Images {
         Images { changed, added }
     }
 
-    /// What is said of a number, by two binary searches.
+    /// The before-image of a number, by two binary searches.
     pub fn look(&self, node: NodeNo) -> Look<'_>
         ensures { seen result ≡ map.get self.now node.0 }
     {
@@ -78,16 +79,16 @@ impl Images {
         Look::Same
     }
 
-    /// Of how many numbers something is said.
+    /// The number of before-images.
     pub fn count(&self) -> usize
         ensures { result ≡ map.len self.now }
     {
         self.changed.len() + self.added.len()
     }
 
-    /// Puts these images over later ones: of each number they say what they said of it, and where they
-    /// said nothing, what the later ones say. Without memory for it the later ones are given back, and all
-    /// is as it was.
+    /// Puts these before-images over those of a later batch. Where both have an image of a number,
+    /// the earlier one counts. If memory runs out, the later ones are given back and nothing
+    /// changes.
     pub fn take_in(&mut self, later: Images) -> Result<(), Images>
         ensures ok { OnOk result ((q : ℕ) → map.get self.new q ≡ option_or (map.get self.old q) (map.get later q)) }
         ensures err { IfErr result (λ same. same ≡ later) }
@@ -112,7 +113,7 @@ impl Images {
     }
 }
 
-// Where a number stands among entries that rise.
+// The place of a number among sorted entries.
 fn place_of(changed: &Vec<(u32, Image)>, node: u32) -> Option<usize>
     requires { IsSortedByKey entry_number nat_cmp changed.now.items }
     ensures within { IfSome result (λ k. k < length changed.now.items) }
@@ -125,7 +126,7 @@ fn place_of(changed: &Vec<(u32, Image)>, node: u32) -> Option<usize>
     }
 }
 
-// Whether a number is among some that rise.
+// Whether a number is among sorted ones.
 fn is_new(added: &Vec<u32>, node: u32) -> bool
     requires { IsSorted nat_cmp added.now.items }
     ensures { lookup (nat_eq node) (all_new added.now.items) ≡ (if result then Some None else None) }

@@ -1,4 +1,4 @@
-//! The nodes of a tree under their numbers, and what is read of them.
+//! The nodes of a tree by their numbers, and the calls that read them.
 #![tactic(auto)]
 
 mod arena;

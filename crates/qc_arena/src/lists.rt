@@ -1,4 +1,4 @@
-// What is said of nodes, by rising numbers, from which the last is taken first.
+// Before-images in lists sorted by number. The last entry is taken first.
 ghost use Rattle.std.specs.Prelude.{IfNone, IfOk, IfSome, None, Some, IsSome, [], if◌then◌else◌, length, nat_eq, ℕ, ◌++◌, ◌+◌, ◌-◌, ◌∷◌, ◌<◌, ◌≡◌, ◌≤◌, ◌⊎◌};
 ghost use Rattle.std.specs.Bool.{OnFalse, OnTrue};
 ghost use Rattle.std.specs.Map.{lookup};
@@ -12,21 +12,21 @@ use crate::Memory;
 use crate::image::Image;
 use std::alloc::Global;
 
-/// What is said of one number: its image, or that its node is new.
+/// The entry of one number: its before-image, or that its node is new.
 #[derive(Drop)]
 pub(crate) enum Entry {
     Changed(Image),
     Added,
 }
 
-/// What is said of numbers: those with an image, and those whose node is new.
+/// The numbers with a before-image, and those of new nodes.
 #[derive(Drop)]
 pub(crate) struct Lists {
     pub(crate) changed: Vec<(u32, Image)>,
     pub(crate) added: Vec<u32>,
 }
 
-// The number behind the last one.
+// One more than the last number, or 0.
 fn changed_end(changed: &Vec<(u32, Image)>) -> u64
     ensures end { IsEnd changed.now.items result }
     ensures small { result ≤ 4294967296 }
@@ -37,7 +37,7 @@ fn changed_end(changed: &Vec<(u32, Image)>) -> u64
     }
 }
 
-// The same of new nodes.
+// One more than the last number of a new node, or 0.
 fn added_end(added: &Vec<u32>) -> u64
     ensures end { IsEnd (all_new added.now.items) result }
     ensures small { result ≤ 4294967296 }
@@ -48,7 +48,7 @@ fn added_end(added: &Vec<u32>) -> u64
     }
 }
 
-// Takes the last image, if it is that of the number.
+// Takes out the last image, if it belongs to the number.
 fn pop_changed(changed: &mut Vec<(u32, Image)>, node: u32) -> Option<Image>
     requires rising { IsNonDecreasingBy entry_number changed.old.items }
     requires most { IsMost changed.old.items node }
@@ -62,7 +62,7 @@ fn pop_changed(changed: &mut Vec<(u32, Image)>, node: u32) -> Option<Image>
     Some(image)
 }
 
-// Takes the last number, if it is this one.
+// Takes out the last number, if it is this one.
 fn pop_added(added: &mut Vec<u32>, node: u32) -> bool
     requires rising { IsNonDecreasingBy entry_number (all_new added.old.items) }
     requires most { IsMost (all_new added.old.items) node }
@@ -88,7 +88,7 @@ pub(crate) fn larger(one: u64, other: u64) -> u64
 }
 
 impl Lists {
-    // Nothing, with room for so many of both kinds.
+    // Empty lists with room for so many entries of both kinds.
     pub(crate) fn with_room(alloc: Global, changed: usize, added: usize) -> Result<Lists, Memory>
         ensures none { IfOk result (λ e. all_in e ≡ []) }
         ensures changed { IfOk result (λ e. changed ≤ vec_capacity e.changed) }
@@ -99,7 +99,7 @@ impl Lists {
         Ok(Lists { changed, added })
     }
 
-    // The number behind the largest, or 0 where there is none.
+    // One more than the largest number, or 0 if there is none.
     pub(crate) fn end(&self) -> u64
         requires { AreRising self.now }
         ensures most { (q : ℕ) → result ≤ q → lookup (nat_eq q) (all_in self.now) ≡ None }
@@ -109,7 +109,7 @@ impl Lists {
         larger(changed_end(&self.changed), added_end(&self.added))
     }
 
-    // Takes out what is said of a number than which none is larger.
+    // Takes out the entry of a number. No entry has a larger one.
     pub(crate) fn take(&mut self, node: u32) -> Option<Entry>
         requires rising { AreRising self.old }
         requires most { IsMost (all_in self.old) node }
@@ -128,7 +128,7 @@ impl Lists {
         None
     }
 
-    // Puts in what is said of a number of which nothing was said.
+    // Adds the entry of a number that has none.
     pub(crate) fn put(&mut self, node: u32, entry: Entry)
         requires once { IsOnce (all_in self.old) }
         requires none { lookup (nat_eq node) (all_in self.old) ≡ None }

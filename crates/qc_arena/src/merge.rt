@@ -1,4 +1,4 @@
-// Images that are put together, from the largest number down.
+// The merge of two lists of before-images, from the largest number down.
 ghost use Rattle.std.specs.Prelude.{[], length, ℕ, ◌++◌, ◌+◌, ◌<◌, ◌≡◌, ◌≤◌};
 ghost use Rattle.std.specs.Bool.{OnFalse, OnTrue};
 ghost use Rattle.std.specs.Option.{option_or};
@@ -12,7 +12,7 @@ use crate::lists::{Entry, Lists, larger};
 use crate::moved::Moved;
 use std::marker::Model;
 
-/// What is said of numbers, of which the largest are merged, and how many entries are left.
+/// The lists to be merged, the entries that are merged already, and how many are left.
 #[derive(Drop)]
 pub(crate) struct Merge {
     older: Lists,
@@ -38,7 +38,7 @@ impl Model for Merge {
     ghost invariant = { λ m. IsMerge m.older m.later m.merged };
 }
 
-// The first of two entries, if there is one.
+// The earlier of two entries, if there is one.
 fn first(older: Option<Entry>, later: Option<Entry>) -> Option<Entry>
     ensures { result ≡ option_or older later }
 {
@@ -49,7 +49,7 @@ fn first(older: Option<Entry>, later: Option<Entry>) -> Option<Entry>
 }
 
 impl Merge {
-    // Nothing is merged yet.
+    // A merge that hasn't begun.
     pub(crate) fn of(older: Lists, later: Lists, merged: Lists) -> Merge
         requires older { AreRising older }
         requires later { AreRising later }
@@ -65,7 +65,7 @@ impl Merge {
         }
     }
 
-    // Merges what is said of the largest number that is left.
+    // Merges the entries of the largest number that is left. False if none is left.
     fn next(&mut self) -> bool
         ensures same { self.new.0 ≡ self.old.0 }
         ensures less { OnTrue result (self.new.1 < self.old.1) }
@@ -84,7 +84,7 @@ impl Merge {
         true
     }
 
-    // All that is merged, where nothing is left.
+    // The merged before-images, after all are merged.
     fn finish(self) -> Images
         requires { self.1 ≡ 0 }
         ensures { result ≡ self.0 }
@@ -92,7 +92,7 @@ impl Merge {
         Moved::of(self.merged.changed, self.merged.added).sorted()
     }
 
-    // Merges what is left.
+    // Merges all entries.
     pub(crate) fn all(self) -> Images
         ensures { result ≡ self.0 }
     {

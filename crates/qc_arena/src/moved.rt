@@ -1,4 +1,4 @@
-// What nodes were before a batch, as it was noted.
+// The before-images of a batch, in the order of the touches.
 ghost use Rattle.std.specs.FinMap as map;
 ghost use Rattle.std.specs.Prelude.{IfSome, length, slice_get, ◌++◌, ◌<◌, ◌≡◌};
 ghost use Rattle.std.specs.List.Sorted.{IsPermutation, IsSortedByKey};
@@ -10,7 +10,7 @@ use crate::images::Images;
 use std::alloc::Global;
 use std::marker::Model;
 
-/// What the nodes were that a batch touched, in the order in which they were touched first.
+/// The before-images of the nodes that a batch touched, in the order of their first touches.
 #[derive(Drop)]
 pub(crate) struct Moved {
     changed: Vec<(u32, Image)>,
@@ -33,7 +33,7 @@ impl Model for Moved {
 }
 
 impl Moved {
-    // Nothing is said of any number.
+    // No before-images.
     pub(crate) fn none(alloc: Global) -> Moved
         ensures { result ≡ map.empty }
     {
@@ -43,7 +43,7 @@ impl Moved {
         }
     }
 
-    // What some entries say, of which each number has one.
+    // The before-images of these entries. Each number has at most one.
     pub(crate) fn of(changed: Vec<(u32, Image)>, added: Vec<u32>) -> Moved
         requires { IsOnce (changed.items ++ all_new added.items) }
         ensures { result ≡ map.from_entries (changed.items ++ all_new added.items) }
@@ -51,7 +51,7 @@ impl Moved {
         Moved { changed, added }
     }
 
-    // These entries as images, in which a number is found by halving.
+    // The same before-images sorted, so that a number is found by binary search.
     pub(crate) fn sorted(self) -> Images
         ensures { result ≡ self }
     {

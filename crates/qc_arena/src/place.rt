@@ -1,4 +1,4 @@
-// What a number has.
+// The place of a number.
 ghost use Rattle.std.specs.Prelude.{IfOk, IfSome, IsSome, None, OnErr, OnOk, Some, is_some, length, not, ◌≡◌, ◌≤◌};
 ghost use Rattle.cell_core.specs.Entry.{IsCode};
 ghost use Rattle.std.specs.Option.{option_copied, option_map};
@@ -19,8 +19,8 @@ use cell_core::Code;
 use cube_defs::MAX_DIMS;
 use std::marker::Model;
 
-/// A number's place: the record of its node, or nothing once the node was killed. The record of a
-/// killed node stays in memory, but nobody sees it.
+/// The place of a number: the record of its node, or nothing after the node was killed. The record
+/// of a killed node stays in memory, but no reader sees it.
 #[derive(Drop)]
 pub(crate) struct Place {
     rec: NodeRecord,
@@ -74,7 +74,7 @@ impl Place {
         &self.rec
     }
 
-    // Takes the node away. It tells whether that was a class, and how many edges it had.
+    // Removes the node. Gives whether it was a class, and the number of its edges.
     pub(crate) fn kill(&mut self) -> (bool, u32)
         requires { IsSome self.old }
         ensures killed { self.new ≡ None }
@@ -86,7 +86,7 @@ impl Place {
         was
     }
 
-    // Sets an edge, and tells how many edges there were, and how many there are.
+    // Sets an edge. Gives the number of edges before and after.
     pub(crate) fn set_edge(&mut self, edge: StoredEdge) -> Result<(u32, u32), Memory>
         requires there { IsSome self.old }
         requires code { IsCode edge.code }
@@ -99,14 +99,14 @@ impl Place {
         self.rec.set_edge(edge)
     }
 
-    // Makes room for so many edges more.
+    // Makes room for so many more edges.
     pub(crate) fn reserve_edges(&mut self, more: u32) -> Result<(), Memory>
         ensures { self.new ≡ self.old }
     {
         self.rec.reserve_edges(more)
     }
 
-    // Takes an edge away, and tells how many edges there were, and how many there are.
+    // Removes an edge. Gives the number of edges before and after.
     pub(crate) fn drop_edge(&mut self, dim: u8, code: Code) -> (u32, u32)
         requires { IsSome self.old }
         ensures dropped { self.new ≡ option_map (without_edge dim code) self.old }
@@ -132,7 +132,7 @@ impl Place {
         self.rec.set_class(class);
     }
 
-    // Gives the cell so many dimensions.
+    // Gives the cell another number of dimensions.
     pub(crate) fn set_width(&mut self, dims: u8)
         requires there { IsSome self.old }
         requires few { dims ≤ MAX_DIMS }

@@ -1,4 +1,4 @@
-// What is kept of a node.
+// The record of a node.
 ghost use Rattle.std.specs.Prelude.{IfOk, IfSome, None, OnErr, OnOk, Some, [], is_some, length, replicate, slice_get, true, false, ℕ, ◌<◌, ◌≡◌, ◌≢◌, ◌≤◌};
 ghost use Rattle.cell_core.specs.Entry.{IsCode};
 ghost use Rattle.std.specs.Option.{option_map};
@@ -22,15 +22,16 @@ use smallvec::SmallVec;
 use std::alloc::Global;
 use std::marker::Model;
 
-/// Stands for the dimension of the last value at the root, which has none.
+/// The dimension of the last value in the root's record, since the root has no value.
 const ROOT: u8 = 255;
 
-/// Stands for the code of a forced child where there is none.
+/// The code of the forced child in a record that has none.
 const NO_CODE: u32 = u32::MAX;
 
-/// What is known of a node. Its cell isn't kept, but follows from the labels on the way down to it:
-/// the record has the last label and the parent. Of a class it has the heading, and no row count
-/// where there is none. A killed node keeps its record under a mark. One edge lies in the record itself, and more do elsewhere.
+/// The record of a node. Its cell isn't stored: it follows from the labels on the way down from the
+/// root. The record has the last label and the parent. For a class it has COUNT and the number of
+/// measures; COUNT is 0 in other nodes. A killed node keeps its record under a mark. One edge lies
+/// in the record itself, and more edges lie in a list.
 #[derive(Drop)]
 pub(crate) struct NodeRecord {
     trail: Trail<u8, u32>,
@@ -88,7 +89,7 @@ impl NodeRecord {
         }
     }
 
-    // The record of the node with one value more, which has this node for its parent.
+    // The record of the child of a node, with one more value.
     pub(crate) fn child(&self, node: NodeNo, dim: u8, code: Code) -> NodeRecord
         requires behind { depth self.now.node.cell ≤ dim }
         requires dim { dim < length self.now.node.cell }
@@ -131,8 +132,8 @@ impl NodeRecord {
         })
     }
 
-    // Adds an edge in its place, or gives the edge with its label another target. It tells how many
-    // edges there were, and how many there are.
+    // Adds an edge in its place, or gives the edge with its label a new target. Gives the number of
+    // edges before and after.
     pub(crate) fn set_edge(&mut self, edge: StoredEdge) -> Result<(u32, u32), Memory>
         requires { IsCode edge.code }
         ensures ok { OnOk result (self.new ≡ record self.old { node = with_edge (edge_to edge) self.old.node }) }
@@ -147,15 +148,14 @@ impl NodeRecord {
         }
     }
 
-    // Makes room for so many edges more.
+    // Makes room for so many more edges.
     pub(crate) fn reserve_edges(&mut self, more: u32) -> Result<(), Memory>
         ensures { self.new ≡ self.old }
     {
         self.edges.reserve_exact(more as usize)
     }
 
-    // Takes the edge with a label away, if there is one. It tells how many edges there were, and how
-    // many there are.
+    // Removes the edge with a label, if there is one. Gives the number of edges before and after.
     pub(crate) fn drop_edge(&mut self, dim: u8, code: Code) -> (u32, u32)
         ensures dropped { self.new ≡ record self.old { node = without_edge dim code self.old.node } }
         ensures had { result.0 ≡ length self.old.node.edges }
@@ -180,7 +180,7 @@ impl NodeRecord {
         }
     }
 
-    // Sets the class. Its parts are kept elsewhere.
+    // Sets COUNT and the number of measures. The other parts of the aggregate are stored elsewhere.
     pub(crate) fn set_class(&mut self, class: Option<Agg>)
         requires { IfSome class (λ a. length a.parts ≡ 4) }
         ensures { self.new ≡ record self.old { node = with_class (option_map agg_in class) self.old.node } }
@@ -199,7 +199,7 @@ impl NodeRecord {
         }
     }
 
-    // Gives the cell so many dimensions, of which those behind its last value are Any.
+    // Gives the cell another number of dimensions. The new ones are Any.
     pub(crate) fn set_width(&mut self, dims: u8)
         requires few { dims ≤ MAX_DIMS }
         requires deep { depth self.old.node.cell ≤ dims }
@@ -215,7 +215,7 @@ impl NodeRecord {
         self.is_killed = true;
     }
 
-    // This record, not marked as killed.
+    // The record without the mark.
     pub(crate) fn alive(self) -> NodeRecord
         ensures node { result.node ≡ self.node }
         ensures alive { result.is_killed ≡ false }
@@ -241,7 +241,7 @@ impl NodeRecord {
         Some((self.dim, self.code))
     }
 
-    // Whether another node has the same last value, or none either.
+    // Whether two nodes have the same last value, or none each.
     pub(crate) fn shares_end(&self, other: &NodeRecord) -> bool
         ensures same { result ≡ true → last_label self.now.node.cell ≡ last_label other.now.node.cell }
         ensures apart { result ≡ false → last_label self.now.node.cell ≢ last_label other.now.node.cell }
@@ -284,7 +284,7 @@ impl NodeRecord {
         self.count != 0
     }
 
-    // Of how many rows and measures the class is. None where the node is no class.
+    // COUNT and the number of measures. None if the node is no class.
     pub(crate) fn heading(&self) -> Option<(u32, u8)>
         ensures count { option_map (λ h. h.0) result ≡ option_map (λ a. a.count) self.now.node.class }
         ensures measures { option_map (λ h. h.1) result ≡ option_map (λ a. length a.parts) self.now.node.class }

@@ -1,4 +1,4 @@
-// Whether two classes come to the same.
+// Whether two classes have the same aggregate.
 ghost use Rattle.std.specs.Prelude.{false, length, slice_index_or, true, ℕ, ◌<◌, ◌≡◌, ◌≢◌, ◌≤◌};
 ghost use Rattle.std.specs.Option.{option_map};
 ghost use Rattle.aggregates.specs.Bounds.{zero_part};
@@ -45,7 +45,7 @@ fn same_agg(a: &Agg, b: &Agg) -> bool
     same
 }
 
-/// Whether two classes, if they are ones, come to the same.
+/// Whether both are no classes, or classes with the same aggregate.
 pub(crate) fn same_class(a: &Option<Agg>, b: &Option<Agg>) -> bool
     ensures same { result ≡ true → option_map agg_in a.now ≡ option_map agg_in b.now }
     ensures other { result ≡ false → option_map agg_in a.now ≢ option_map agg_in b.now }

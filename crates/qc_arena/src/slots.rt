@@ -1,4 +1,4 @@
-// The work on the places of nodes, and on what was in them at `begin`.
+// Operations on the places of nodes and on their before-images.
 ghost use Rattle.std.specs.Prelude.{IfOk, IfSome, IsSome, None, OnErr, OnOk, Some, [], if◌then◌else◌, is_some, length, nat_eq, true, ℕ, ◌<◌, ◌≡◌, ◌≢◌, ◌≤◌};
 ghost use Rattle.cell_core.specs.Entry.{IsCode};
 ghost use Rattle.std.specs.Option.{option_map};
@@ -37,7 +37,7 @@ fn write_slot(nodes: &mut Slab<Place>, node: u32, rec: NodeRecord)
     nodes[node as usize] = Place::of(rec);
 }
 
-// Gives a node its image: the record that it had, or nothing.
+// Restores a node from its before-image: the record that it had, or none.
 fn put_image(nodes: &mut Slab<Place>, parts: &mut Parts, node: u32, image: Image)
     requires placed { slots.ContainsKey nodes.old node }
     requires stored { IsStored nodes.old parts.old }
@@ -58,7 +58,7 @@ fn put_image(nodes: &mut Slab<Place>, parts: &mut Parts, node: u32, image: Image
     }
 }
 
-// Takes the place of a killed node away.
+// Frees the place of a killed node.
 fn clear_killed(nodes: &mut Slab<Place>, node: u32)
     requires { slots.ContainsKey nodes.old node }
     ensures now { (q : ℕ) → join (slots.get nodes.new q) ≡ join (slots.get nodes.old q) }
@@ -70,7 +70,7 @@ fn clear_killed(nodes: &mut Slab<Place>, node: u32)
     }
 }
 
-// Puts back what each touched node had, and takes away the nodes that are new.
+// Restores each touched node from its before-image, and removes the new nodes.
 pub(crate) fn put_back(nodes: &mut Slab<Place>, parts: &mut Parts, images: &mut Touched)
     requires stored { IsStored nodes.old parts.old }
     requires placed { (q : ℕ) → IsSome (image_at images.old q) → slots.ContainsKey nodes.old q }
@@ -85,7 +85,7 @@ pub(crate) fn put_back(nodes: &mut Slab<Place>, parts: &mut Parts, images: &mut 
     }
 }
 
-// Takes the places of the killed nodes away.
+// Frees the places of the killed nodes.
 pub(crate) fn clear_all(nodes: &mut Slab<Place>, images: &Touched)
     requires placed { (q : ℕ) → IsSome (image_at images.now q) → slots.ContainsKey nodes.old q }
     requires killed { (q : ℕ) → slots.get nodes.old q ≡ Some None → IsSome (image_at images.now q) }
@@ -97,7 +97,7 @@ pub(crate) fn clear_all(nodes: &mut Slab<Place>, images: &Touched)
     }
 }
 
-// Gives the cell of the node at a place so many dimensions, if there is one.
+// Gives the cell of the node at a place another number of dimensions, if there is one.
 fn resize_at(nodes: &mut Slab<Place>, place: usize, dims: u8)
     requires few { dims ≤ MAX_DIMS }
     requires none_killed { slots.get nodes.old place ≢ Some None }
@@ -111,7 +111,7 @@ fn resize_at(nodes: &mut Slab<Place>, place: usize, dims: u8)
     }
 }
 
-// Gives each cell so many dimensions.
+// Gives each cell another number of dimensions.
 pub(crate) fn resize_all(nodes: &mut Slab<Place>, dims: u8)
     requires few { dims ≤ MAX_DIMS }
     requires none_killed { (q : ℕ) → slots.get nodes.old q ≢ Some None }
@@ -124,7 +124,7 @@ pub(crate) fn resize_all(nodes: &mut Slab<Place>, dims: u8)
     }
 }
 
-// Gives each cell so many dimensions, where it has not as many.
+// Gives each cell another number of dimensions, if the number differs.
 pub(crate) fn resize_from(nodes: &mut Slab<Place>, had: u8, dims: u8)
     requires few { dims ≤ MAX_DIMS }
     requires none_killed { (q : ℕ) → slots.get nodes.old q ≢ Some None }
@@ -138,7 +138,7 @@ pub(crate) fn resize_from(nodes: &mut Slab<Place>, had: u8, dims: u8)
     }
 }
 
-// Makes room for a node, and tells its number.
+// Makes room for a node, and gives its number.
 fn reserve_slot(nodes: &mut Slab<Place>) -> Result<u32, Memory>
     ensures number { IfOk result (λ k. k ≡ nodes.new.vacant_key) }
     ensures free { IfOk result (λ k. slots.get nodes.new k ≡ None) }
@@ -153,7 +153,7 @@ fn reserve_slot(nodes: &mut Slab<Place>) -> Result<u32, Memory>
     Ok(key as u32)
 }
 
-// Puts a record at the number that is next.
+// Puts a record at the next free number.
 fn fill_slot(nodes: &mut Slab<Place>, new: NodeRecord)
     requires { slots.HasRoomFor nodes.old 1 }
     ensures here { slots.get nodes.new nodes.old.vacant_key ≡ Some (Some new.node) }
@@ -162,7 +162,7 @@ fn fill_slot(nodes: &mut Slab<Place>, new: NodeRecord)
     nodes.insert_reserved(Place::of(new));
 }
 
-// Puts a new record at a free number, and notes that it is new.
+// Puts a new record at a free number, and marks it as new.
 pub(crate) fn add_record(
     nodes: &mut Slab<Place>,
     parts: &mut Parts,
@@ -209,7 +209,7 @@ fn record_at(nodes: &Slab<Place>, place: usize) -> &NodeRecord
     }
 }
 
-// Whether two nodes have one cell: their labels on the way up are the same.
+// Whether two nodes have the same cell. Compares the labels on the way up.
 fn same_cell(nodes: &Slab<Place>, node: usize, other: usize) -> bool
     requires node { IsSome (join (slots.get nodes.now node)) }
     requires other { IsSome (join (slots.get nodes.now other)) }
@@ -253,7 +253,7 @@ pub(crate) fn is_child(nodes: &Slab<Place>, node: usize, target: u32) -> bool
     }
 }
 
-// What the rows of a node come to, where it is a class.
+// The aggregate of a node, if it is a class.
 pub(crate) fn class_at(nodes: &Slab<Place>, parts: &Parts, node: u32) -> Option<Agg>
     requires node { IsSome (join (slots.get nodes.now node)) }
     requires parts { IfSome (record_or (join (slots.get nodes.now node))).class (λ a. IsShown (shown parts.now node) a) }
@@ -269,7 +269,7 @@ pub(crate) fn class_at(nodes: &Slab<Place>, parts: &Parts, node: u32) -> Option<
     }
 }
 
-// A copy of what a node has.
+// A copy of a node's record and aggregate.
 pub(crate) fn copy_at(nodes: &Slab<Place>, parts: &Parts, node: u32) -> Result<Record, Memory>
     requires node { IsSome (join (slots.get nodes.now node)) }
     requires parts { IfSome (record_or (join (slots.get nodes.now node))).class (λ a. IsShown (shown parts.now node) a) }
@@ -279,7 +279,7 @@ pub(crate) fn copy_at(nodes: &Slab<Place>, parts: &Parts, node: u32) -> Result<R
     Ok(Record::new(record, parts.at(node)))
 }
 
-// Sets an edge of a node, and tells how many edges it had, and how many it has.
+// Sets an edge of a node. Gives the number of edges before and after.
 pub(crate) fn set_edge_at(
     nodes: &mut Slab<Place>,
     node: u32,
@@ -307,7 +307,7 @@ pub(crate) fn reserve_edges_at(nodes: &mut Slab<Place>, node: u32, more: u32) ->
     nodes[node as usize].reserve_edges(more)
 }
 
-// Takes an edge of a node away, and tells how many edges it had, and how many it has.
+// Removes an edge of a node. Gives the number of edges before and after.
 pub(crate) fn drop_edge_at(nodes: &mut Slab<Place>, node: u32, dim: u8, code: Code) -> (u32, u32)
     requires { IsSome (join (slots.get nodes.old node)) }
     ensures others { (q : ℕ) → q ≢ node → slots.get nodes.new q ≡ slots.get nodes.old q }
@@ -318,7 +318,7 @@ pub(crate) fn drop_edge_at(nodes: &mut Slab<Place>, node: u32, dim: u8, code: Co
     nodes[node as usize].drop_edge(dim, code)
 }
 
-// Takes a node out of its place. It tells whether that was a class, and how many edges it had.
+// Removes a node from its place. Gives whether it was a class, and the number of its edges.
 pub(crate) fn kill_at(nodes: &mut Slab<Place>, node: u32) -> (bool, u32)
     requires { IsSome (join (slots.get nodes.old node)) }
     ensures others { (q : ℕ) → q ≢ node → slots.get nodes.new q ≡ slots.get nodes.old q }

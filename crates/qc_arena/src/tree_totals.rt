@@ -1,22 +1,22 @@
-// What is kept of a map of nodes, so that it need not be looked for or counted.
+// Totals of a tree, so that nobody has to count.
 ghost use Rattle.std.specs.Prelude.{IsTrue, None, Some, if◌then◌else◌, true, ◌+◌, ◌<◌, ◌≡◌, ◌≤◌};
 ghost use Rattle.qc_arena.specs.Counted.{root_after, root_without};
 
 use cell_core::{Code, NodeNo};
 use cube_defs::MAX_NODES;
 
-/// How many nodes, classes, tree edges and links there are.
+/// The numbers of nodes, classes, tree edges and links.
 #[derive(Clone, Copy)]
 pub struct Counts {
     pub nodes: u32,
     pub classes: u32,
-    /// Edges that lead from a node to the node with one value more, of which it is the parent.
+    /// Edges that lead from a node to its child: the node with one more value.
     pub tree_edges: u64,
     /// All other edges.
     pub links: u64,
 }
 
-/// The root, if there is one, and how many nodes, classes and edges there are.
+/// The root, if there is one, and the numbers of nodes, classes and edges.
 #[derive(Clone, Copy)]
 pub(crate) struct TreeTotals {
     pub root: Option<NodeNo>,
@@ -26,7 +26,7 @@ pub(crate) struct TreeTotals {
 }
 
 impl TreeTotals {
-    // One node more, which is the root where it stands under none.
+    // The totals after a node is added. A node without a parent is the root.
     pub(crate) fn with_node(self, under: Option<(NodeNo, u8, Code)>, node: u32) -> TreeTotals
         requires { self.nodes < MAX_NODES }
         ensures nodes { result.nodes ≡ self.nodes + 1 }
@@ -46,7 +46,7 @@ impl TreeTotals {
         }
     }
 
-    // The root that is left without a node.
+    // The root after a node is removed.
     fn root_left(self, node: u32) -> Option<NodeNo>
         ensures { result ≡ root_without self.root node }
     {
@@ -56,7 +56,7 @@ impl TreeTotals {
         }
     }
 
-    // One node less, which was a class or none, and had so many edges.
+    // The totals after a node is removed, by whether it was a class and how many edges it had.
     pub(crate) fn without_node(self, node: u32, is_class: bool, had: u32) -> TreeTotals
         requires nodes { 0 < self.nodes }
         requires classes { is_class ≡ true → 0 < self.classes }
@@ -78,7 +78,7 @@ impl TreeTotals {
         }
     }
 
-    // A node had a class or none, and has one now or none.
+    // The totals after a node becomes a class, or is one no more.
     pub(crate) fn with_class(self, had: bool, has: bool) -> TreeTotals
         requires room { self.classes < 4294967295 }
         requires had { had ≡ true → 0 < self.classes }
@@ -102,14 +102,14 @@ impl TreeTotals {
         }
     }
 
-    // Whether the edges of one node more can be counted. So many edges fit into no memory.
+    // Whether the edges of one more node can be counted. More edges wouldn't fit in memory.
     pub(crate) fn has_room(self) -> bool
         ensures { IsTrue result → self.edges + 4294967296 ≤ 18446744073709551615 }
     {
         self.edges <= u64::MAX - 4_294_967_296
     }
 
-    // A node had so many edges, and has so many now.
+    // The totals after a node's number of edges changed.
     pub(crate) fn with_edges(self, had: u32, has: u32) -> TreeTotals
         requires had { had ≤ self.edges }
         requires room { self.edges + has < 18446744073709551616 + had }
