@@ -1,4 +1,4 @@
-// What the walk changes.
+// The state of the walk.
 ghost use Rattle.std.specs.Prelude.{◌≡◌};
 
 use crate::noted::Fronts;
@@ -7,8 +7,8 @@ use cell_core::Steps;
 use qc_arena::QcArena;
 use std::sync::ledger::Ledger;
 
-/// The arena in which a tree is built, the nodes of tuples' fronts in it, room to part rows in, and
-/// the steps so far.
+/// The arena in which a tree is built, the nodes that are noted for prefixes of tuples, reusable
+/// room for parts, and the steps so far.
 pub(crate) struct Builder<'a, L: Ledger> {
     pub(crate) arena: &'a mut QcArena,
     pub(crate) fronts: &'a mut Fronts,
@@ -16,7 +16,7 @@ pub(crate) struct Builder<'a, L: Ledger> {
     pub(crate) steps: &'a mut Steps<L>,
 }
 
-/// What is lent goes back as it is.
+/// Gives back what was borrowed, unchanged.
 impl<L: Ledger> Drop for Builder<'_, L> {
     fn drop(self)
         ensures { self.exit.0.now ≡ self.entry.arena.now }

@@ -1,4 +1,4 @@
-// Labels under the nodes of fronts, to nodes that are added or there.
+// Edges of nodes of prefixes, to nodes that are added or exist already.
 ghost use Rattle.std.specs.FinMap as map;
 ghost use Rattle.cell_core.specs.Entry.{IsCode};
 ghost use Rattle.std.specs.Ordering.{nat_cmp};
@@ -28,8 +28,8 @@ use drill_links::descend;
 use qc_arena::ArenaRefused;
 use std::sync::ledger::Ledger;
 
-/// Adds the node of the front with the dimension of what the rows share, who have the edge's code
-/// there, below that of the front before it. The path goes on to it.
+/// Adds the node of the prefix through dimension `dim` of what the rows share. All rows have the
+/// edge's code there. Its parent is the node before it on the path, and the path goes on to it.
 pub(crate) fn add_front<L: Ledger>(
     builder: &mut Builder<'_, L>,
     part: &Part<'_>,
@@ -74,8 +74,8 @@ pub(crate) fn add_front<L: Ledger>(
     }
 }
 
-/// The node of the front, with the dimension, of the only row of a group, where it is noted for it.
-/// None where the group has more rows.
+/// The node of the prefix through `dim` of a group's only row, if it is noted. None if the group
+/// has more rows.
 fn lone_front(fronts: &Fronts, group: &Group<'_>, dim: u8) -> Option<NodeNo>
     requires group { IsGroup group.now.table.now group.now.rows.now group.now.code group.now.upper.now dim }
     ensures { IfSome result (λ node. (arena : Arena) → AreNoted group.now.table.now arena fronts.now →
@@ -87,8 +87,9 @@ fn lone_front(fronts: &Fronts, group: &Group<'_>, dim: u8) -> Option<NodeNo>
     fronts.at(group.rows[0], dim)
 }
 
-/// The node of the front with dimension `dim` of what a group's rows share, who share a value in
-/// dimension `at` that `upper` lacks: it is noted for them, or gone down to from the path.
+/// The node of the prefix through `dim` of what a group's rows share. They share a value in
+/// dimension `at`, where `upper` has Any. So the node exists already: it is noted, or found by
+/// going down from the path.
 fn shared_front<L: Ledger>(
     builder: &mut Builder<'_, L>,
     group: &Group<'_>,
@@ -121,8 +122,8 @@ fn shared_front<L: Ledger>(
     }
 }
 
-/// Sets the edge that a group takes, whose rows share a value in dimension `at` that `upper` lacks:
-/// its node is there already.
+/// Sets the edge to a group's node. Its rows share a value in dimension `at`, where `upper` has
+/// Any, so the node exists already.
 pub(crate) fn link_part<L: Ledger>(
     builder: &mut Builder<'_, L>,
     group: &Group<'_>,

@@ -1,4 +1,4 @@
-//! The tree of a table's rows, built by one walk.
+//! Builds the tree of a table's rows from scratch, by one walk.
 #![tactic(auto)]
 
 mod builder;

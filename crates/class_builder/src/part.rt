@@ -1,8 +1,8 @@
-// Rows that the walk goes through.
+// Rows that the walk visits together.
 use base_table::{RowNo, Table};
 use cell_core::{Cell, Code};
 
-/// Rows of a table, and what they share.
+/// Rows of a table, and the values that they share.
 #[derive(Drop)]
 pub(crate) struct Part<'a> {
     pub(crate) table: &'a Table,
@@ -10,7 +10,8 @@ pub(crate) struct Part<'a> {
     pub(crate) shared: Cell,
 }
 
-/// Those rows of a part that have the code in a dimension, and what all rows of the part share.
+/// The rows of a part that have the code in a dimension. `upper` is what all rows of the part
+/// share.
 #[derive(Drop)]
 pub(crate) struct Group<'a> {
     pub(crate) table: &'a Table,
@@ -19,7 +20,7 @@ pub(crate) struct Group<'a> {
     pub(crate) upper: &'a Cell,
 }
 
-/// An edge from a node to one with one value more.
+/// An edge from a node to its child, which has one more value.
 #[derive(Clone, Copy)]
 pub(crate) struct ChildEdge {
     pub(crate) code: Code,

@@ -1,25 +1,25 @@
-// The nodes that the walk stands at.
+// The nodes on the walk's path.
 ghost use Rattle.std.specs.Prelude.{ℕ, ◌≡◌, ◌≢◌, ◌≤◌};
 ghost use Rattle.class_builder.specs.Walk.{node_on};
 
 use cell_core::NodeNo;
 use cube_defs::MAX_DIMS;
 
-/// The nodes of a cell's fronts, by how many dimensions a front has.
+/// The nodes of a cell's prefixes, by the number of dimensions of the prefix.
 #[derive(Clone, Copy)]
 pub(crate) struct Path {
     nodes: [NodeNo; 17],
 }
 
 impl Path {
-    /// At the root, which is the front without dimensions.
+    /// A path at the root, which is the prefix without dimensions.
     pub(crate) fn start(root: NodeNo) -> Path
         ensures { node_on result 0 ≡ root.0 }
     {
         Path { nodes: [root; 17] }
     }
 
-    /// The node of the front with so many dimensions.
+    /// The node of the prefix with so many dimensions.
     pub(crate) fn at(&self, dims: u8) -> NodeNo
         requires { dims ≤ MAX_DIMS }
         ensures { result.0 ≡ node_on self.now dims }

@@ -1,4 +1,4 @@
-// Room that the walk uses again.
+// Room that the walk reuses.
 ghost use Rattle.std.specs.Prelude.{IfOk, ◌<◌, ◌≡◌};
 ghost use Rattle.base_table.specs.Places.{AreThere};
 ghost use Rattle.cell_closure.specs.Parts.{parted};
@@ -8,7 +8,7 @@ use base_table::{RowNo, Table};
 use cell_closure::Parts;
 use std::alloc::Global;
 
-/// Parts that are done with.
+/// Parts that are no longer used.
 #[derive(Drop)]
 pub(crate) struct PartsPool {
     spare: Vec<Parts>,
@@ -23,7 +23,7 @@ impl PartsPool {
         }
     }
 
-    /// The rows by their codes in the dimension.
+    /// Groups the rows by their codes in the dimension.
     pub(crate) fn part(&mut self, table: &Table, rows: &[RowNo], dim: u8) -> Result<Parts, Memory>
         requires there { AreThere table.now rows.now }
         requires dim { dim < table.now.dims }
@@ -37,7 +37,7 @@ impl PartsPool {
         Ok(parts)
     }
 
-    /// Takes parts that are done with.
+    /// Takes back parts that are no longer used.
     pub(crate) fn give_back(&mut self, parts: Parts) -> Result<(), Memory> {
         self.spare.push(parts)?;
         Ok(())

@@ -1,4 +1,4 @@
-// What rows come to.
+// The aggregate of rows.
 ghost use Rattle.std.specs.Prelude.{length, ◌<◌, ◌≡◌, ◌≤◌};
 ghost use Rattle.cube_defs.specs.Rows.{agg_of};
 ghost use Rattle.base_table.specs.Places.{AreThere, IsTable, named};
@@ -8,7 +8,7 @@ use aggregates::Agg;
 use base_table::{RowNo, Table};
 use cube_defs::MAX_ROWS;
 
-/// What the rows come to.
+/// The aggregate of the rows.
 pub(crate) fn total(table: &Table, rows: &[RowNo]) -> Agg
     requires table { IsTable table.now }
     requires some { 0 < length rows.now }

@@ -23,7 +23,7 @@ use std::alloc::Global;
 use std::sync::ledger::Ledger;
 
 /// Makes the canonical tree of the table's rows in an open arena without nodes. It is refused as
-/// full exactly where the rows have more nodes than there may be.
+/// full if and only if the tree has more nodes than the arena allows.
 pub fn build_classes<L: Ledger>(
     alloc: Global,
     table: &Table,
@@ -62,7 +62,7 @@ pub fn build_classes<L: Ledger>(
     build_all(&mut builder, &part)
 }
 
-/// Builds the tree below its root, which is added first, from the part of all rows of the table.
+/// Builds the tree: first the root, then its descendants. The part has all rows of the table.
 fn build_all<L: Ledger>(builder: &mut Builder<'_, L>, part: &Part<'_>) -> Result<(), ArenaRefused>
     requires part { IsPart part.now.table.now part.now.rows.now part.now.shared }
     requires all { named part.now.table.now part.now.rows.now ≡ rows_of part.now.table.now }
@@ -86,7 +86,7 @@ fn build_all<L: Ledger>(builder: &mut Builder<'_, L>, part: &Part<'_>) -> Result
     }
 }
 
-/// There are no more nodes than may be.
+/// The arena has at most its greatest number of nodes.
 fn is_within(arena: &QcArena)
     ensures { map.len arena.now.now ≤ arena.now.max }
 {

@@ -1,4 +1,4 @@
-// What the rows of a part share.
+// The values that the rows of a part share.
 ghost use Rattle.std.specs.Prelude.{IfNone, IfSome, None, false, is_some, length, nat_eq, slice_index_or, suc, true, ◌<◌, ◌≡◌, ◌≤◌};
 ghost use Rattle.std.specs.List.{AllByRecursion};
 ghost use Rattle.cube_defs.specs.Cell.{cell_front};
@@ -12,7 +12,7 @@ use base_table::{RowNo, Table};
 use cell_closure::shared_entry;
 use cell_core::{Cell, Entry};
 
-/// What the rows share in the dimension. All of them are covered by `upper`.
+/// The value that the rows share in the dimension, or Any. `upper` covers all of them.
 fn entry_of(table: &Table, rows: &[RowNo], upper: &Cell, dim: u8) -> Entry
     requires table { IsTable table.now }
     requires some { 0 < length rows.now }
@@ -29,8 +29,8 @@ fn entry_of(table: &Table, rows: &[RowNo], upper: &Cell, dim: u8) -> Entry
     }
 }
 
-/// Whether the rows share a value in the dimension. One row alone isn't read for that: most groups
-/// have no other.
+/// Whether the rows share a value in the dimension. A single row isn't read: most groups have only
+/// one.
 fn is_shared(table: &Table, rows: &[RowNo], dim: u8) -> bool
     requires table { IsTable table.now }
     requires some { 0 < length rows.now }
@@ -47,7 +47,7 @@ fn is_shared(table: &Table, rows: &[RowNo], dim: u8) -> bool
     }
 }
 
-/// Whether the rows share a value in the dimension where `upper`, which covers them, has Any.
+/// Whether the rows share a value in the dimension, and `upper`, which covers them, has Any there.
 fn gains(table: &Table, rows: &[RowNo], upper: &Cell, dim: u8) -> bool
     requires table { IsTable table.now }
     requires some { 0 < length rows.now }
@@ -66,8 +66,8 @@ fn gains(table: &Table, rows: &[RowNo], upper: &Cell, dim: u8) -> bool
     }
 }
 
-/// The first dimension before `dim` in which the rows share a value where `upper`, which covers
-/// them, has Any. None where there is none.
+/// The first dimension before `dim` in which the rows share a value and `upper`, which covers them,
+/// has Any. None if there is no such dimension.
 pub(crate) fn first_new_value(table: &Table, rows: &[RowNo], upper: &Cell, dim: u8) -> Option<u8>
     requires table { IsTable table.now }
     requires some { 0 < length rows.now }
@@ -88,7 +88,7 @@ pub(crate) fn first_new_value(table: &Table, rows: &[RowNo], upper: &Cell, dim: 
     None
 }
 
-/// What the rows share, who share no more before the dimension than `upper` has, and a value there.
+/// The closure of rows that share a value in the dimension, and before it no more than `upper` has.
 pub(crate) fn closure_of_part(table: &Table, rows: &[RowNo], upper: &Cell, dim: u8) -> Cell
     requires table { IsTable table.now }
     requires some { 0 < length rows.now }
@@ -109,8 +109,8 @@ pub(crate) fn closure_of_part(table: &Table, rows: &[RowNo], upper: &Cell, dim: 
     next
 }
 
-/// The front with dimension `dim` of what the rows share, who share no more before dimension `at`
-/// than `upper` has. Behind it are the entries of `upper`.
+/// The prefix through `dim` of what the rows share. Before dimension `at` they share no more than
+/// `upper` has. The later entries are those of `upper`.
 pub(crate) fn front_of(table: &Table, rows: &[RowNo], upper: &Cell, at: u8, dim: u8) -> Cell
     requires table { IsTable table.now }
     requires some { 0 < length rows.now }

@@ -24,8 +24,8 @@ use cell_core::{Entry, NodeNo};
 use qc_arena::ArenaRefused;
 use std::sync::ledger::Ledger;
 
-/// Builds the tree of the part's rows below the node of the front, with the first dimensions, of
-/// what they share.
+/// Builds the descendants of the node of the prefix, with the first dimensions, of what the part's
+/// rows share.
 #[cycle(drilling)]
 pub(crate) fn drill<L: Ledger>(
     builder: &mut Builder<'_, L>,
@@ -47,7 +47,8 @@ pub(crate) fn drill<L: Ledger>(
     ensures frame { frame builder.new.arena.now ≡ frame builder.old.arena.now }
     ensures same { builder.new.arena.ghost_name ≡ builder.old.arena.ghost_name }
 {
-    // Before the parts of these rows read each amount on its own, all are read one behind the other.
+    // Reads all amounts in their order now. The groups of these rows later read them in another
+    // order.
     let agg = total(part.table, part.rows);
     'dims: for dim in first..part.table.dims() {
         match drill_at(builder, part, dim, &mut path) {
@@ -64,8 +65,9 @@ pub(crate) fn drill<L: Ledger>(
     Ok(())
 }
 
-/// Builds the nodes below the front whose cells have a value in this dimension and, before it, only
-/// values that the rows share. The path goes on to the front with the dimension.
+/// Does the walk's work in one dimension. If the rows share a value there, adds its node. Else
+/// builds the nodes of each group of rows with one code. The path goes on to the prefix through the
+/// dimension.
 #[cycle(drilling)]
 fn drill_at<L: Ledger>(
     builder: &mut Builder<'_, L>,
@@ -108,8 +110,7 @@ fn drill_at<L: Ledger>(
     }
 }
 
-/// The rows by their codes in the dimension. The node, to which each group is to give an edge, has
-/// room for them all.
+/// Groups the rows by their codes in the dimension. Makes room at the node for one edge a group.
 fn groups_of<L: Ledger>(
     builder: &mut Builder<'_, L>,
     part: &Part<'_>,
@@ -131,8 +132,8 @@ fn groups_of<L: Ledger>(
     }
 }
 
-/// Builds these nodes where the rows share no value in the dimension: those of each group of rows
-/// with one code there, in turn.
+/// Builds the nodes of each group of rows with one code in the dimension, in turn. The rows share
+/// no value there.
 #[cycle(drilling)]
 fn drill_in<L: Ledger>(
     builder: &mut Builder<'_, L>,
@@ -176,8 +177,8 @@ fn drill_in<L: Ledger>(
     }
 }
 
-/// Builds the nodes of a group. Where its rows share a value before the dimension that `upper` lacks, their
-/// class was found before, and only an edge is set.
+/// Builds the nodes of a group. If its rows share a value before the dimension that `upper` doesn't
+/// have, their class was built earlier, and only an edge is set.
 #[cycle(drilling)]
 fn drill_part<L: Ledger>(
     builder: &mut Builder<'_, L>,
