@@ -1,4 +1,4 @@
-//! The edges of a tree that lead to nodes that are there already.
+//! Finds the nodes to which links lead. They exist already.
 #![tactic(auto)]
 
 mod linking;

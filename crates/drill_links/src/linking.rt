@@ -1,4 +1,4 @@
-// What is left to link.
+// The step after the walk of a build.
 ghost use Rattle.std.specs.Ordering.{nat_cmp};
 ghost use Rattle.std.specs.Prelude.{OnOk, true, ◌≡◌};
 ghost use Rattle.cube_defs.specs.Tree.{IsCanonical};
@@ -11,7 +11,7 @@ use qc_arena::{Memory, QcArena};
 use std::alloc::Global;
 use std::sync::ledger::Ledger;
 
-/// All remaining edges, so that the tree is the canonical tree of the table's rows.
+/// Changes nothing, since the walk of a build sets all links.
 pub fn link_all<L: Ledger>(
     alloc: Global,
     table: &Table,

@@ -1,4 +1,4 @@
-// The way down to a node that is there.
+// The way down to an existing node.
 ghost use Rattle.std.specs.Prelude.{Some, length, suc, ◌<◌, ◌≡◌, ◌≤◌};
 ghost use Rattle.cube_defs.specs.Cell.{cell_front};
 ghost use Rattle.cube_defs.specs.Tree.{cell_at};
@@ -8,8 +8,8 @@ use cell_core::{Cell, Entry, NodeNo, Steps};
 use qc_arena::{Nodes, QcArena};
 use std::sync::ledger::Ledger;
 
-/// The node of the target's front with the last dimension, gone down to from that of its front
-/// before the first one.
+/// The node of the target's prefix through dimension `last`. Goes down from the node of the
+/// target's prefix before dimension `first`.
 pub fn descend<L: Ledger>(
     arena: &QcArena,
     from: NodeNo,
