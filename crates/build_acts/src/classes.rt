@@ -1,4 +1,4 @@
-// Classes are marked.
+// Marks of classes.
 ghost use Rattle.std.specs.Prelude.{List, Some, [], ℕ, ◌∷◌, ◌≡◌};
 ghost use Rattle.aggregates.specs.Views.{agg_in};
 ghost use Rattle.cube_defs.specs.Cell.{Cell};
@@ -13,7 +13,7 @@ use cell_core::{NodeNo, Steps};
 use qc_arena::QcArena;
 use std::sync::ledger::Ledger;
 
-/// Marks the class of the node with what its rows come to.
+/// Marks the node as a class with the aggregate of its rows.
 pub fn mark_class<L: Ledger>(arena: &mut QcArena, node: NodeNo, agg: Agg, steps: &mut Steps<L>)
     requires change { CanChange arena.old node.0 }
     ensures made { (measures : ℕ) (rows : List (Row ℕ)) (w : Cell ℕ) → cell_at arena.old.now node.0 ≡ Some w

@@ -1,4 +1,4 @@
-// Edges to nodes that are there already.
+// Edges to existing nodes.
 ghost use Rattle.std.specs.FinMap as map;
 ghost use Rattle.cell_core.specs.Entry.{IsCode};
 ghost use Rattle.std.specs.Prelude.{IsSome, List, OnOk, Some, [], false, ℕ, ◌<◌, ◌∷◌, ◌≡◌};
@@ -14,7 +14,7 @@ use cell_core::{Code, NodeNo, Steps};
 use qc_arena::{Forced, QcArena};
 use std::sync::ledger::Ledger;
 
-/// Sets an edge to a node that isn't the one with one value more.
+/// Sets a link: an edge to a node that is no child.
 pub fn set_link<L: Ledger>(
     arena: &mut QcArena,
     node: NodeNo,
@@ -35,7 +35,7 @@ pub fn set_link<L: Ledger>(
     put_label(arena, node, dim, code, target, false, steps)
 }
 
-// Sets an edge, to the forced child or not.
+// Sets an edge. If asked, its target becomes the forced child.
 pub(crate) fn put_label<L: Ledger>(
     arena: &mut QcArena,
     node: NodeNo,

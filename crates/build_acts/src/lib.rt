@@ -1,4 +1,4 @@
-//! The acts of building a tree, each as one call on an arena.
+//! The acts of building a tree. Each is one call on an arena.
 #![tactic(auto)]
 
 mod classes;

@@ -1,4 +1,4 @@
-// Nodes are added.
+// New nodes.
 ghost use Rattle.cell_core.specs.Entry.{IsCode};
 ghost use Rattle.std.specs.Ordering.{nat_cmp};
 ghost use Rattle.std.specs.Prelude.{Err, IfOk, List, None, OnOk, Some, [], length, replicate, true, ℕ, ◌<◌, ◌∷◌, ◌≡◌, ◌≢◌, ◌≤◌};
@@ -15,7 +15,7 @@ use cell_core::{Code, NodeNo, Steps};
 use qc_arena::{ArenaRefused, QcArena};
 use std::sync::ledger::Ledger;
 
-/// Adds the node without values.
+/// Adds the root, which has no values.
 pub fn add_root<L: Ledger>(
     arena: &mut QcArena,
     steps: &mut Steps<L>,
@@ -33,8 +33,8 @@ pub fn add_root<L: Ledger>(
     arena.add_node(None, steps)
 }
 
-/// Adds the node with one value more than its parent, and the edge that leads to it, to the forced
-/// child or not.
+/// Adds a child with one more value than its parent, and the edge to it. If asked, it becomes the
+/// forced child.
 pub fn add_child<L: Ledger>(
     arena: &mut QcArena,
     parent: NodeNo,
