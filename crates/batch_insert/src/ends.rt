@@ -1,4 +1,4 @@
-// The forced children and the classes of the nodes below the tuple.
+// The forced children and the classes of the nodes that generalize the tuple.
 ghost use Rattle.std.specs.Prelude.{◌+◌, ◌*◌, All, IfSome, None, OnOk, Some, [], ◌∷◌, slice_index_or, ℕ, ◌≢◌, is_some, length, nat_abs, true, ◌≡◌, ◌≤◌};
 ghost use Rattle.aggregates.specs.Bounds.{largest_amount};
 ghost use Rattle.aggregates.specs.Rows.{agg_of_row};
@@ -21,7 +21,7 @@ use cell_core::{Cell, NodeNo, Steps};
 use qc_arena::{Forced, QcArena};
 use std::sync::ledger::Ledger;
 
-/// Each node gets its forced child or its class.
+/// Gives each node its forced child or its class.
 pub(crate) fn end_all<L: Ledger>(
     ends: &[End],
     tuple: &Cell,
@@ -114,7 +114,7 @@ fn force<L: Ledger>(
     Ok(())
 }
 
-// What the rows before came to, if there were any, and the row.
+// The aggregate with the row: that of the earlier rows, if there are any, and the row's amounts.
 fn with_row(before: Option<Agg>, amounts: &[i64]) -> Agg
     requires few { length amounts.now ≤ 4 }
     requires small { All (λ a. nat_abs a ≤ largest_amount) amounts.now }

@@ -1,4 +1,4 @@
-// What the target of an old label and the tuple share.
+// The values that the target of an old label and the tuple share.
 ghost use Rattle.std.specs.FinMap as map;
 ghost use Rattle.std.specs.Prelude.{All, IfNone, IfSome, IsSome, None, Some, false, if◌then◌else◌, is_some, length, nat_eq, slice_index_or, true, ℕ, ◌*◌, ◌+◌, ◌<◌, ◌≡◌, ◌≤◌, ◌^◌};
 ghost use Rattle.std.specs.Option.{option_and_then};
@@ -14,7 +14,7 @@ use cube_defs::MAX_DIMS;
 use qc_arena::{Nodes, QcArena};
 use std::sync::ledger::Ledger;
 
-/// The node of a front of a node's old closure, and whether that is the node itself. None where the
+/// The node of a prefix of a node's old closure, and whether it is the node itself. None if the
 /// node covered no row.
 #[derive(Clone, Copy)]
 pub(crate) struct Chain {
@@ -22,9 +22,9 @@ pub(crate) struct Chain {
     pub(crate) is_own: bool,
 }
 
-/// The mask of the cell that a label with the tuple's value leads to: of what the old target and the
-/// tuple share, or of the tuple's front. Beside it, whether it is the old target. `mask` has what the
-/// chain's node and the tuple share.
+/// The mask of the new target of a label with the tuple's value: what the old target and the tuple
+/// share, or the tuple's prefix if there was no target. Also, whether that is the old target.
+/// `mask` has the values that the chain's node and the tuple share.
 pub(crate) fn shared<L: Ledger>(
     arena: &QcArena,
     tuple: &Cell,
@@ -63,8 +63,8 @@ fn front_of(tuple: &Cell, dim: u8) -> u16
     bit + (bit - 1)
 }
 
-// What a node and the tuple share, read on the way up from the node: as far as the chain's node, of
-// which that is known, or else the root.
+// The mask of what a node and the tuple share. It is read on the way up from the node, to the
+// chain's node, whose mask is known, or to the root.
 fn common<L: Ledger>(
     arena: &QcArena,
     tuple: &Cell,
@@ -106,7 +106,7 @@ fn is_at(chain: Option<NodeNo>, at: NodeNo) -> bool
     }
 }
 
-// The dimension's bit, where the tuple has the value.
+// The dimension's bit if the tuple has the value there, else 0.
 fn bit_of(tuple: &Cell, dim: u8, code: Code) -> u16
     requires no_any { All (λ entry. is_some entry ≡ true) tuple.now }
     requires few { length tuple.now ≤ MAX_DIMS }
