@@ -1,4 +1,4 @@
-// The nodes below a tuple.
+// The nodes that generalize a tuple.
 ghost use Rattle.std.specs.FinMap as map;
 ghost use Rattle.std.specs.Prelude.{IfNone, IfOk, IfSome, IsSome, OnOk, Some, [], false, length, nat_eq, slice_index_or, slice_get, true, ℕ, ◌++◌, ◌∷◌, ◌*◌, ◌+◌, ◌<◌, ◌≡◌, ◌≤◌};
 ghost use Rattle.cube_defs.specs.Cell.{depth, leq, with_value};
@@ -16,7 +16,7 @@ use qc_arena::{Nodes, QcArena};
 use std::alloc::Global;
 use std::sync::ledger::Ledger;
 
-// For so many nodes a list has room at first.
+// A list has room for so many nodes at first.
 const ROOM: usize = 32;
 
 /// A node and its cell.
@@ -26,7 +26,7 @@ pub(crate) struct Below {
     pub cell: Cell,
 }
 
-// The node with one value more, where there is one: the edge with the value leads to it.
+// The child with the value, if there is one. A link with the value doesn't count.
 fn child<L: Ledger>(
     arena: &QcArena,
     node: NodeNo,
@@ -65,7 +65,7 @@ fn add(list: &mut Vec<Below>, below: Below) -> Result<(), Memory>
     Ok(())
 }
 
-// Adds the child that a node has in the dimension with the tuple's value.
+// Adds the node's child with the tuple's value in the dimension, if there is one.
 fn add_child<L: Ledger>(
     arena: &QcArena,
     list: &mut Vec<Below>,
@@ -94,7 +94,7 @@ fn add_child<L: Ledger>(
     }
 }
 
-// Adds the children that the nodes have in the dimension with the tuple's value.
+// Adds the children of all nodes with the tuple's value in the dimension.
 fn add_children<L: Ledger>(
     arena: &QcArena,
     list: &mut Vec<Below>,
@@ -119,7 +119,7 @@ fn add_children<L: Ledger>(
     Ok(())
 }
 
-// The root, if there is one. The list has room for the nodes below a tuple of few dimensions.
+// The root, if there is one. The list has room for a tuple of few dimensions.
 fn start<L: Ledger>(
     alloc: Global,
     arena: &QcArena,
@@ -144,7 +144,7 @@ fn start<L: Ledger>(
     }
 }
 
-/// The nodes below the tuple, each behind those with fewer values.
+/// Collects the nodes that generalize the tuple. Each comes after its ancestors.
 pub(crate) fn collect<L: Ledger>(
     alloc: Global,
     arena: &QcArena,

@@ -1,4 +1,4 @@
-// Fronts of cells, and what stands behind them.
+// Prefixes of cells, and the entries after them.
 ghost use Rattle.std.specs.Prelude.{IfNone, IfSome, None, Some, length, slice_get, slice_index_or, ℕ, ◌<◌, ◌≡◌, ◌≢◌, ◌≤◌};
 ghost use Rattle.cell_core.specs.Entry.{IsCode};
 ghost use Rattle.std.specs.Ordering.{nat_cmp};
@@ -23,7 +23,7 @@ pub(crate) fn depth(cell: &Cell) -> u8
     }
 }
 
-/// The first entries of the cell, and Any behind them.
+/// The first entries of the cell, and Any after them.
 pub(crate) fn front(cell: &Cell, len: u8) -> Cell
     requires { len ≤ length cell.now }
     ensures value { result ≡ defs.cell_front len cell.now }
@@ -39,7 +39,7 @@ pub(crate) fn front(cell: &Cell, len: u8) -> Cell
     front
 }
 
-/// The last dimension of Any.
+/// The last dimension in which the cell has Any.
 pub(crate) fn last_any(cell: &Cell) -> Option<u8>
     ensures none { IfNone result ((k : ℕ) → slice_get cell.now k ≢ Some None) }
     ensures some { IfSome result (λ dim. IsLastAny cell.now dim) }
@@ -54,7 +54,7 @@ pub(crate) fn last_any(cell: &Cell) -> Option<u8>
     None
 }
 
-/// The first dimension from one on in which the cell has a value, and the value.
+/// The first value of the cell from a dimension on, with its dimension.
 pub(crate) fn next_value(cell: &Cell, from: u8) -> Option<(u8, Code)>
     requires { from ≤ length cell.now }
     ensures entry { result ≡ next_entry from cell.now }

@@ -1,4 +1,4 @@
-// A row goes.
+// The deletion of a row.
 ghost use Rattle.std.specs.FinMap as map;
 ghost use Rattle.std.specs.Option.{option_map};
 ghost use Rattle.std.specs.Ordering.{eq_by_cmp, nat_cmp};
@@ -25,11 +25,10 @@ use std::alloc::Global;
 use std::sync::ledger::Ledger;
 
 /// Makes the canonical tree of some rows that of these rows without one, in place (QC-trees:
-/// Lakshmanan, Pei, Zhao, SIGMOD 2003). `rest` is what the other rows of the same tuple come to, if
-/// there are any. Each cell that is a node before and after keeps its number, no number is given anew,
-/// and a node that isn't below the tuple keeps its whole record; only nodes below the tuple are
-/// touched. It is refused for want of memory alone; then the map is no tree in particular, so that
-/// only `rollback` may follow.
+/// Lakshmanan, Pei, Zhao, SIGMOD 2003). `rest` is the aggregate of the other rows with the same
+/// tuple, if there are any. A cell that stays a node keeps its number, and no node is added. A node
+/// that doesn't generalize the tuple keeps its whole record and isn't touched. It is refused only
+/// when out of memory. Then the arena has no tree, and only `rollback` may follow.
 pub fn delete_row<L: Ledger>(
     alloc: Global,
     arena: &mut QcArena,

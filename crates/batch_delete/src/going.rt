@@ -1,4 +1,4 @@
-// The row that goes, and the classes that it is one of.
+// The deleted row and its classes.
 ghost use Rattle.std.specs.Option.{option_map};
 ghost use Rattle.std.specs.Ordering.{eq_by_cmp, nat_cmp};
 ghost use Rattle.std.specs.Prelude.{Some, length, ◌*◌, ◌+◌, ◌≡◌, ◌≤◌};
@@ -19,7 +19,8 @@ use qc_arena::QcArena;
 use std::sync::ledger::Ledger;
 use tree_search::total_at;
 
-/// The row that goes: its tuple, what all rows of this tuple come to, and what the others do.
+/// The deleted row: its tuple, the aggregate of all rows with this tuple, and the aggregate of the
+/// others.
 #[derive(Drop)]
 pub(crate) struct Going {
     pub tuple: Cell,
@@ -27,8 +28,8 @@ pub(crate) struct Going {
     pub twins: Option<Agg>,
 }
 
-/// A class that the row is one of: its cell, what its rows come to, and what they come to without the
-/// row, where that is told without a look at each.
+/// A class of the deleted row: its cell and its aggregate. `less` is the aggregate without the row,
+/// if it follows without a look at each row.
 #[derive(Drop)]
 pub(crate) struct Class {
     pub cell: Cell,
@@ -36,7 +37,7 @@ pub(crate) struct Class {
     pub less: Option<Agg>,
 }
 
-/// The row that goes, by its tuple and what the other rows of the tuple come to.
+/// The deleted row, from its tuple and the aggregate of the other rows with that tuple.
 pub(crate) fn row_of<L: Ledger>(
     arena: &QcArena,
     tuple: &Cell,
@@ -61,7 +62,7 @@ pub(crate) fn row_of<L: Ledger>(
     }
 }
 
-/// The class at a node.
+/// The class of a node.
 pub(crate) fn class_of<L: Ledger>(
     arena: &QcArena,
     row: &Going,

@@ -1,4 +1,4 @@
-// The labels of a node by their dimensions.
+// The labels of a node by dimension.
 ghost use Rattle.std.specs.FinMap as map;
 ghost use Rattle.std.specs.Prelude.{IsSome, Some, length, slice_get, ℕ, ◌+◌, ◌<◌, ◌≡◌, ◌≤◌};
 ghost use Rattle.qc_arena.specs.Seen.{record_at};
@@ -7,7 +7,7 @@ use cell_core::{NodeNo, Steps};
 use qc_arena::{Nodes, QcArena};
 use std::sync::ledger::Ledger;
 
-/// The place of the node's first label in a dimension or behind it, by halving.
+/// The place of the node's first label in a dimension or a later one, by binary search.
 pub(crate) fn first_label<L: Ledger>(
     arena: &QcArena,
     node: NodeNo,

@@ -1,4 +1,4 @@
-// What rows come to without some of them, where that is told without a look at each.
+// Aggregates without some of their rows, if they follow without a look at each row.
 ghost use Rattle.std.specs.Option.{option_map};
 ghost use Rattle.std.specs.Ordering.{eq_by_cmp, nat_cmp};
 ghost use Rattle.std.specs.Prelude.{IfSome, Some, length, nat_abs, true, ◌*◌, ◌+◌, ◌<◌, ◌^◌, ◌≡◌, ◌≤◌};
@@ -18,11 +18,11 @@ use cube_defs::MAX_ROWS;
 use qc_arena::{Nodes, QcArena};
 use std::sync::ledger::Ledger;
 
-// The largest magnitude that an amount may have.
+// The largest magnitude of an amount, in the smallest unit of its measure.
 const LARGEST_AMOUNT: u64 = 999_999_999_999;
 
-// One measure of some rows without others of them, where these have neither its least amount nor its
-// greatest. None too where the sum is too large for so many rows.
+// A measure without some of its rows. None if these have its MIN or its MAX, or if the sum is too
+// large for so many rows.
 fn part_besides(whole: &Part, part: &Part, count: u32) -> Option<Part>
     requires whole { nat_abs whole.now.sum ≤ 10 ^ 18 }
     requires part { nat_abs part.now.sum ≤ 10 ^ 18 }
@@ -44,8 +44,8 @@ fn part_besides(whole: &Part, part: &Part, count: u32) -> Option<Part>
     })
 }
 
-/// What some rows come to without others of them, where these have neither the least nor the greatest
-/// amount of any measure.
+/// The aggregate of some rows without others of them. None if these have the MIN or the MAX of any
+/// measure.
 pub(crate) fn besides(whole: &Agg, part: &Agg) -> Option<Agg>
     ensures rest { IfSome result (λ rest. (o : defs.Agg) → length o.parts ≡ length (agg_in part.now).parts → combine (agg_in part.now) o ≡ agg_in whole.now →
         agg_in rest ≡ o) }
@@ -70,7 +70,7 @@ pub(crate) fn besides(whole: &Agg, part: &Agg) -> Option<Agg>
     })
 }
 
-// The rows of both.
+// The aggregate of both groups of rows.
 fn with_twins(twins: Option<Agg>, others: Agg) -> Agg
     requires parts { IfSome twins (λ agg. length (agg_in others).parts ≡ length (agg_in agg).parts) }
     requires few { IfSome twins (λ agg. agg.count + others.count ≤ MAX_ROWS) }
@@ -85,7 +85,7 @@ fn with_twins(twins: Option<Agg>, others: Agg) -> Agg
     }
 }
 
-/// What the rows of a class come to.
+/// The aggregate of a class.
 pub(crate) fn class_at<L: Ledger>(
     arena: &QcArena,
     cell: &Cell,
@@ -103,8 +103,8 @@ pub(crate) fn class_at<L: Ledger>(
     arena.class(node, steps)
 }
 
-/// What the rows of a class come to without the row, where those of its tuple have neither the least
-/// nor the greatest amount of any measure among them.
+/// The aggregate of a class without the row. None if a row with its tuple has the MIN or the MAX of
+/// any measure.
 pub(crate) fn less_of(row: &Going, cell: &Cell, whole: Option<Agg>) -> Option<Agg>
     ghost d: { Deletion }
     requires row { IsGoing d row.now }

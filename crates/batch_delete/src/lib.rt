@@ -1,4 +1,4 @@
-//! The repair of a tree for a row that goes.
+//! Repairs a canonical tree in place when a row is deleted.
 #![tactic(auto)]
 
 mod below;

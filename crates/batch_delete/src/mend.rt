@@ -25,8 +25,8 @@ use indexmap::IndexMap;
 use qc_arena::{Forced, Nodes, QcArena};
 use std::sync::ledger::Ledger;
 
-// Whether the label of an edge is left: up to the dimension of the next value, and in it with this
-// value alone.
+// Whether an edge with the label may stay: before the dimension of the next value, or with the next
+// value itself.
 fn is_left(next: Option<(u8, Code)>, dim: u8, code: Code) -> bool
     ensures { result ≡ is_left next dim code }
 {
@@ -36,7 +36,7 @@ fn is_left(next: Option<(u8, Code)>, dim: u8, code: Code) -> bool
     }
 }
 
-// How many edges stand before the dimension of the next value: their labels are left.
+// The number of edges before the dimension of the next value. All of them may stay.
 fn left_count<L: Ledger>(
     arena: &QcArena,
     node: NodeNo,
@@ -54,7 +54,7 @@ fn left_count<L: Ledger>(
     }
 }
 
-// Drops an edge whose label isn't left.
+// Drops an edge whose label may not stay.
 fn cut_edge<L: Ledger>(
     arena: &mut QcArena,
     node: NodeNo,
@@ -76,7 +76,7 @@ fn cut_edge<L: Ledger>(
     }
 }
 
-// Drops the edges whose labels aren't left, the last one first.
+// Drops the edges whose labels may not stay, from the last one on.
 fn cut_edges<L: Ledger>(
     arena: &mut QcArena,
     node: NodeNo,
@@ -99,7 +99,7 @@ fn cut_edges<L: Ledger>(
     }
 }
 
-// Gives an edge another target, or takes it away.
+// Gives an edge another target, or removes it.
 fn mend_edge<L: Ledger>(
     arena: &mut QcArena,
     node: NodeNo,
@@ -133,8 +133,8 @@ fn mend_edge<L: Ledger>(
     }
 }
 
-// Leads the edge with the tuple's value in a dimension, if there is one, to the heir of its target; or
-// drops it, where its target has none.
+// Leads the edge with the tuple's value in a dimension, if there is one, to the heir of its target.
+// Drops the edge if its target has no heir.
 fn lead_edge<L: Ledger>(
     arena: &mut QcArena,
     tuple: &Cell,
@@ -168,8 +168,8 @@ fn lead_edge<L: Ledger>(
     }
 }
 
-// Leads the edges with the tuple's values to the heirs of their targets. None of them stands before a
-// dimension.
+// Leads the edges with the tuple's values to the heirs of their targets. None of these edges comes
+// before the dimension.
 fn lead_edges<L: Ledger>(
     arena: &mut QcArena,
     tuple: &Cell,
@@ -199,7 +199,7 @@ fn lead_edges<L: Ledger>(
     Ok(())
 }
 
-// The forced child: where the edge with the next value leads.
+// The forced child: the target of the edge with the next value.
 fn forced_of<L: Ledger>(
     arena: &QcArena,
     node: NodeNo,
@@ -240,7 +240,7 @@ fn mend_forced<L: Ledger>(
     arena.set_forced(node, forced, steps);
 }
 
-// What a node that stays has as class: what its rows come to, where they share no more than its cell.
+// The class of a node that stays: the aggregate of its rows, if they share no more than its cell.
 fn class_of(rest: &Rest, cell: &Cell) -> Option<Agg>
     requires { length rest.now.shared ≡ length cell.now }
     ensures { option_map agg_in result ≡ class_by rest.now cell.now }
@@ -252,7 +252,7 @@ fn class_of(rest: &Rest, cell: &Cell) -> Option<Agg>
     }
 }
 
-// Mends the record of a node that stays.
+// Repairs the record of a node that stays.
 fn mend<L: Ledger>(
     arena: &mut QcArena,
     tuple: &Cell,
@@ -289,7 +289,7 @@ fn mend<L: Ledger>(
     Ok(())
 }
 
-// What the rows of a node come to, if it stays.
+// The rest of a node's rows, if the node stays.
 fn staying(plan: &IndexMap<u32, Fate>, node: NodeNo) -> Option<&Rest>
     ensures { option_copied result ≡ staying plan.now.entries node.0 }
 {
@@ -299,7 +299,7 @@ fn staying(plan: &IndexMap<u32, Fate>, node: NodeNo) -> Option<&Rest>
     }
 }
 
-// What the rows of a node come to, if it is its own heir.
+// The rest of a node's rows, if the node is its own heir.
 fn if_own(node: NodeNo, fate: &Fate) -> Option<&Rest>
     ensures { option_copied result ≡ if_own node.0 fate.now.heir fate.now.after }
 {
@@ -315,7 +315,7 @@ fn if_own(node: NodeNo, fate: &Fate) -> Option<&Rest>
     }
 }
 
-/// Gives a node its record afterwards, or kills it.
+/// Gives a node its new record, or removes the node.
 fn settle<L: Ledger>(
     arena: &mut QcArena,
     tuple: &Cell,
@@ -348,7 +348,7 @@ fn settle<L: Ledger>(
     }
 }
 
-/// Gives each node of the list its record afterwards, or kills it.
+/// Gives each node of the list its new record, or removes it.
 pub(crate) fn settle_all<L: Ledger>(
     arena: &mut QcArena,
     tuple: &Cell,

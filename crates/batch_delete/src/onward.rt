@@ -1,4 +1,4 @@
-// Searches that begin at a node near by.
+// Searches that don't begin at the root.
 ghost use Rattle.std.specs.FinMap as map;
 ghost use Rattle.std.specs.Option.{option_map};
 ghost use Rattle.std.specs.Prelude.{IfSome, IsSome, Some, length, ◌*◌, ◌+◌, ◌<◌, ◌≡◌, ◌≤◌};
@@ -15,7 +15,7 @@ use qc_arena::{Nodes, QcArena};
 use std::sync::ledger::Ledger;
 use tree_search::step;
 
-/// The node of the cell's closure, where a search for the cell goes on from a node behind a dimension.
+/// The node of the cell's closure. The search for the cell goes on from a node, after a dimension.
 pub(crate) fn find_from<L: Ledger>(
     arena: &QcArena,
     cell: &Cell,
@@ -40,7 +40,8 @@ pub(crate) fn find_from<L: Ledger>(
     Some(node)
 }
 
-/// The node of a node's front before its last dimension of Any: up through the values behind it.
+/// The node of the prefix before the cell's last dimension of Any. Goes up from the cell's node
+/// through the later values.
 pub(crate) fn front_at<L: Ledger>(
     arena: &QcArena,
     cell: &Cell,

@@ -1,4 +1,4 @@
-// What the rows of a class share and come to when a row has gone.
+// The closure and the aggregate of a class after the deletion.
 ghost use Rattle.std.specs.FinMap as map;
 ghost use Rattle.std.specs.Prelude.{IfSome, IsSome, List, None, Some, [], false, length, nat_eq, slice_get, slice_index_or, ℕ, ◌*◌, ◌+◌, ◌++◌, ◌∷◌, ◌<◌, ◌≡◌, ◌≤◌};
 ghost use Rattle.cell_core.specs.Entry.{IsCode};
@@ -31,7 +31,7 @@ use qc_arena::{Nodes, QcArena};
 use std::sync::ledger::Ledger;
 use tree_search::upper_into;
 
-/// What rows share, and what they come to.
+/// The values that rows share, and their aggregate.
 #[derive(Drop)]
 pub(crate) struct Rest {
     pub shared: Cell,
@@ -49,7 +49,7 @@ impl Rest {
     }
 }
 
-// The rows of both, where the first has any.
+// The rest of two groups of rows, of which the first may be empty.
 fn joined(rest: Option<Rest>, part: Rest) -> Rest
     requires parts { IfSome rest (λ some. length (agg_in part.agg).parts ≡ length (agg_in some.agg).parts) }
     requires few { IfSome rest (λ some. some.agg.count + part.agg.count ≤ MAX_ROWS) }
@@ -69,8 +69,8 @@ fn joined(rest: Option<Rest>, part: Rest) -> Rest
     }
 }
 
-// What the rows of a cell share and come to, where it covers any, and a search for it goes on from a
-// node behind a dimension.
+// What the rows of a cell share, and their aggregate, if it covers any. The search for the cell
+// goes on from a node, after a dimension.
 fn part_of<L: Ledger>(
     arena: &QcArena,
     cell: &Cell,
@@ -92,7 +92,7 @@ fn part_of<L: Ledger>(
     }
 }
 
-// What the rows of a cell share and come to, at the node of what they share.
+// What the rows of a cell share, and their aggregate. The node is that of the cell's closure.
 fn rest_at<L: Ledger>(
     arena: &QcArena,
     cell: &Cell,
@@ -117,7 +117,8 @@ fn rest_at<L: Ledger>(
     }
 }
 
-// The rest of a cell's rows, where a search for it goes on from a node behind a dimension.
+// The planned rest of a cell's rows. The search for the cell goes on from a node, after a
+// dimension.
 fn own_rest<L: Ledger>(
     arena: &QcArena,
     plan: &IndexMap<u32, Fate>,
@@ -143,8 +144,8 @@ fn own_rest<L: Ledger>(
     }
 }
 
-// The rest of the rows of a class that have the tuple's value in a dimension of Any, where the class's
-// front before it is known.
+// The rest of those rows of a class that have the tuple's value in a dimension of Any. `front` is
+// the node of the class's prefix before that dimension.
 fn own_part<L: Ledger>(
     arena: &QcArena,
     row: &Going,
@@ -181,7 +182,7 @@ fn own_part<L: Ledger>(
     }
 }
 
-// The rest with the rows of a label, which has another value than the tuple in its dimension.
+// The rest joined with the rows of a label. The label's value isn't the tuple's.
 fn with_part<L: Ledger>(
     arena: &QcArena,
     cell: &Cell,
@@ -214,7 +215,7 @@ fn with_part<L: Ledger>(
     }
 }
 
-// The rest with the rows of a label, where it has another value than the tuple in its dimension.
+// The rest joined with the rows of a label, unless the label has the tuple's value.
 fn with_label<L: Ledger>(
     arena: &QcArena,
     row: &Going,
@@ -248,8 +249,8 @@ fn with_label<L: Ledger>(
     with_part(arena, cell, label, rest, steps)
 }
 
-// The rest of a class: that of its rows with the tuple's value in the dimension, put together with the
-// rows of one label after another with another value, until these tell what all come to.
+// The rest of a class. It begins with the rows that have the tuple's value in the dimension. Then
+// the rows of one label after another are joined, until the rest of the whole class is settled.
 fn with_labels<L: Ledger>(
     arena: &QcArena,
     row: &Going,
@@ -289,7 +290,7 @@ fn with_labels<L: Ledger>(
     all
 }
 
-// The parts of a class by its last dimension of Any, put together.
+// The rest of a class, joined from its parts by its last dimension of Any.
 fn all_parts<L: Ledger>(
     arena: &QcArena,
     row: &Going,
@@ -320,7 +321,7 @@ fn all_parts<L: Ledger>(
     with_labels(arena, row, &class, dim, front, own, steps)
 }
 
-/// What the rows of a class below the tuple share and come to afterwards.
+/// The rest of a class that generalizes the tuple.
 pub(crate) fn class_after<L: Ledger>(
     arena: &QcArena,
     row: &Going,

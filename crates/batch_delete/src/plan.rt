@@ -1,4 +1,4 @@
-// What becomes of each node below the tuple, read from the tree before anything is changed.
+// The plan for each node that generalizes the tuple, read from the tree before anything changes.
 ghost use Rattle.std.specs.Prelude.{IfOk, List, OnOk, Some, length, nat_eq, true, ℕ, ◌*◌, ◌+◌, ◌≡◌, ◌≢◌, ◌≤◌};
 ghost use Rattle.std.specs.Option.{option_map};
 ghost use Rattle.std.specs.Ordering.{eq_by_cmp, nat_cmp};
@@ -29,15 +29,16 @@ use qc_arena::{Nodes, QcArena};
 use std::alloc::Global;
 use std::sync::ledger::Ledger;
 
-/// What the rows of a node share and come to afterwards, if there are any; and the node that has the
-/// front of what they share, as long as the node's own cell: itself where it stays.
+/// What the rows of a node share after the deletion, and their aggregate, if any rows are left.
+/// Then the *heir*: the node of the prefix of what they share, as long as the node's cell. A node
+/// that stays is its own heir.
 #[derive(Drop)]
 pub(crate) struct Fate {
     pub after: Option<Rest>,
     pub heir: Option<NodeNo>,
 }
 
-/// The node of a cell that is one, gone down to from the root by the cell's values.
+/// The node of a cell. Goes down from the root by the cell's values.
 pub(crate) fn node_at<L: Ledger>(arena: &QcArena, cell: &Cell, steps: &mut Steps<L>) -> NodeNo
     requires tree { IsTree arena.now.width arena.now.now }
     requires node { (k : ℕ) × (cell_at arena.now.now k ≡ Some cell.now) }
@@ -54,7 +55,7 @@ pub(crate) fn node_at<L: Ledger>(arena: &QcArena, cell: &Cell, steps: &mut Steps
     node
 }
 
-/// What is planned for the rows of a node.
+/// The planned rest of a node's rows.
 pub(crate) fn after_of(plan: &IndexMap<u32, Fate>, node: NodeNo) -> Option<Rest>
     ensures { result ≡ after_in plan.now.entries node.0 }
 {
@@ -64,7 +65,7 @@ pub(crate) fn after_of(plan: &IndexMap<u32, Fate>, node: NodeNo) -> Option<Rest>
     }
 }
 
-// A copy of it.
+// A copy of a rest.
 fn copied(rest: &Option<Rest>) -> Option<Rest>
     ensures { result ≡ rest.now }
 {
@@ -84,8 +85,8 @@ pub(crate) fn heir_of(plan: &IndexMap<u32, Fate>, node: NodeNo) -> Option<NodeNo
     }
 }
 
-// What the rows of a node below the tuple share and come to afterwards, where the nodes with more
-// values are planned for.
+// The rest of the rows of a node that generalizes the tuple. The nodes with more values are planned
+// already.
 fn rest_of<L: Ledger>(
     arena: &QcArena,
     row: &Going,
@@ -111,8 +112,8 @@ fn rest_of<L: Ledger>(
     }
 }
 
-// The node that has the front of what a node's rows share afterwards, as long as its own cell: the
-// node itself where that is its cell.
+// The heir of a node: the node of the prefix of what its rows share after the deletion, as long as
+// its cell. It is the node itself if that is its cell.
 fn heir_at<L: Ledger>(
     arena: &QcArena,
     below: &Below,
@@ -140,7 +141,7 @@ fn heir_at<L: Ledger>(
     }
 }
 
-// What becomes of a node below the tuple, where the nodes with more values are planned for.
+// The fate of a node that generalizes the tuple. The nodes with more values are planned already.
 fn fate_of<L: Ledger>(
     arena: &QcArena,
     row: &Going,
@@ -177,8 +178,8 @@ fn add_fate(plan: &mut IndexMap<u32, Fate>, node: NodeNo, fate: Fate) -> Result<
     Ok(())
 }
 
-/// What becomes of the nodes below the tuple, planned from the last one on: each stands behind all
-/// that are below it.
+/// Plans the fates of the nodes that generalize the tuple, from the last one on. So each is planned
+/// after its descendants.
 pub(crate) fn plan_all<L: Ledger>(
     alloc: Global,
     arena: &QcArena,

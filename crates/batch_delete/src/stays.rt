@@ -1,4 +1,4 @@
-// Whether a class stays as the row goes.
+// Whether a class stays when the row is deleted.
 ghost use Rattle.std.specs.Ordering.{eq_by_cmp, nat_cmp};
 ghost use Rattle.std.specs.Prelude.{IfSome, None, Some, false, length, slice_get, true, ℕ, ◌+◌, ◌<◌, ◌≡◌};
 ghost use Rattle.cube_defs.specs.Rows.{cov};
@@ -13,7 +13,8 @@ use aggregates::Agg;
 use cell_core::{Cell, Entry};
 use qc_arena::QcArena;
 
-// Whether some rows of a class may give it a value in the dimension that is not the tuple's.
+// Whether some rows of a class share a value in the dimension where the class has Any, other than
+// the tuple's.
 fn is_new(tuple: &Cell, cell: &Cell, shared: &Cell, dim: u8) -> bool
     requires cell { dim < length cell.now }
     requires tuple { length tuple.now ≡ length cell.now }
@@ -30,7 +31,7 @@ fn is_new(tuple: &Cell, cell: &Cell, shared: &Cell, dim: u8) -> bool
     }
 }
 
-// Whether what some rows of a class share gives it no value but the tuple's.
+// Whether all values that some rows of a class share, beyond the class's own, are the tuple's.
 fn is_settled(tuple: &Cell, cell: &Cell, shared: &Cell) -> bool
     requires tuple { length tuple.now ≡ length cell.now }
     requires shared { length shared.now ≡ length cell.now }
@@ -54,8 +55,8 @@ fn are_all(some: &Rest, whole: Option<Agg>) -> bool
     }
 }
 
-/// The rest of a class, where it is told by some of its rows: they are all but the row; or what they
-/// share tells that the class stays, and it is known what its rows come to without the row.
+/// The rest of a class, if some of its rows settle it. They do if they are all rows but the deleted
+/// one. They also do if they show that the class stays, and its aggregate without the row is known.
 pub(crate) fn settled(
     arena: &QcArena,
     row: &Going,
