@@ -1,4 +1,4 @@
-// Whether cells below a class are lower bounds of it.
+// Tests whether a cell that generalizes a class is a lower bound of it.
 ghost use Rattle.std.specs.Prelude.{IsTrue, Some, false, length, true, ℕ, ◌*◌, ◌+◌, ◌<◌, ◌^◌, ◌≡◌, ◌≤◌};
 ghost use Rattle.cube_defs.specs.Tree.{cell_at};
 ghost use Rattle.tree_search.specs.Found.{IsTreeOf, IsTree, TreeRows};
@@ -17,7 +17,7 @@ use qc_arena::Nodes;
 use std::sync::ledger::Ledger;
 use tree_search::find;
 
-// Whether the node, whose cell is u, is that of the cell's closure.
+// Whether the cell's closure is u, the cell of the node.
 fn leads_to<T: Nodes, L: Ledger>(
     tree: &T,
     node: NodeNo,
@@ -38,7 +38,7 @@ fn leads_to<T: Nodes, L: Ledger>(
     }
 }
 
-/// Makes `cell` the cell of a number, and says whether its closure is u.
+/// Sets `cell` to the cell of a number. True if its closure is u.
 pub(crate) fn closes_at<T: Nodes, L: Ledger>(
     tree: &T,
     node: NodeNo,
@@ -60,7 +60,7 @@ pub(crate) fn closes_at<T: Nodes, L: Ledger>(
     leads_to(tree, node, u, cell, steps)
 }
 
-// The same for a number with d bits. The cell of the greatest is u, which is its own closure.
+// The same for a number of d bits. The largest number has the cell u, which is its own closure.
 fn closes_below<T: Nodes, L: Ledger>(
     tree: &T,
     node: NodeNo,
@@ -91,10 +91,10 @@ fn closes_below<T: Nodes, L: Ledger>(
     closes_at(tree, node, u, m, cell, steps)
 }
 
-/// Whether the cell of a number is a lower bound of u; `cell` is then that cell. Marks the number where
-/// its cell has the closure u, as it is known of the smaller numbers. Each cell between a cell with
-/// that closure and u has it too: so no search is made where a number with one bit less is marked, nor
-/// where the number lacks a bit that is needed, nor for u itself, which is its own closure.
+/// Whether the cell of a number is a lower bound of u; `cell` is then that cell. Marks the number
+/// if its cell has the closure u. The smaller numbers must be marked already. Each cell between u
+/// and a cell with closure u has this closure too. So no search is made if a number with one bit
+/// less is marked, if a needed bit is missing, or for u itself.
 pub fn bounds_at<T: Nodes, L: Ledger>(
     tree: &T,
     node: NodeNo,

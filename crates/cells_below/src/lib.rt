@@ -1,5 +1,5 @@
-//! The cells below a cell, told by numbers whose bits say which values are kept; marks on these numbers; and
-//! whether such a cell has the closure of a class, found by searches in a tree of nodes.
+//! The cells that generalize a cell, named by numbers. A bit of the number says whether a value is
+//! kept. Marks on these numbers, and tests of such a cell's closure by searches in a tree.
 #![tactic(auto)]
 
 mod closed;

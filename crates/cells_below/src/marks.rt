@@ -22,7 +22,7 @@ impl Model for Marks {
 }
 
 impl Marks {
-    /// Room for so many numbers, none of which is marked.
+    /// Room for so many numbers, counted from 0. None is marked.
     pub fn new(alloc: Global, count: u32) -> Result<Marks, Memory>
         ensures room { IfOk result (λ marks. count ≤ length marks) }
         ensures none { IfOk result (λ marks. (m : ℕ) → is_marked marks m ≡ false) }

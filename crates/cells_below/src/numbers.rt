@@ -1,4 +1,4 @@
-// The cells below a cell, told by numbers.
+// The cells that generalize a cell, named by numbers.
 ghost use Rattle.std.specs.Prelude.{None, if◌then◌else◌, length, ◌<◌, ◌≡◌, ◌≤◌};
 ghost use Rattle.cell_core.specs.Entry.{IsSmall, value_in};
 ghost use Rattle.cells_below.specs.Numbers.{cell_of_number, has_bit, turned};
@@ -7,7 +7,7 @@ ghost use Rattle.cube_laws.specs.Parts.{value_count};
 use cell_core::{Cell, Entry};
 use cube_defs::MAX_DIMS;
 
-/// Whether a number has a bit.
+/// Whether bit k of a number is set.
 pub fn has(m: u32, k: u32) -> bool
     requires { k < 32 }
     ensures { result ≡ has_bit m k }
@@ -15,7 +15,7 @@ pub fn has(m: u32, k: u32) -> bool
     (m >> k) & 1 == 1
 }
 
-/// The number with one bit the other way.
+/// The number with bit k flipped.
 pub fn turn(m: u32, k: u32) -> u32
     requires { k < 32 }
     ensures { result ≡ turned m k }
@@ -23,7 +23,7 @@ pub fn turn(m: u32, k: u32) -> u32
     m ^ (1 << k)
 }
 
-/// How many values a cell has.
+/// The number of values of a cell.
 pub fn count_values(u: &Cell) -> u32
     ensures value { result ≡ value_count u.now }
     ensures few { result ≤ MAX_DIMS }
@@ -37,7 +37,7 @@ pub fn count_values(u: &Cell) -> u32
     count
 }
 
-// An entry of a cell where the number has the bit, and Any elsewhere.
+// The entry if bit k of the number is set, else Any.
 fn kept(entry: Entry, m: u32, k: u32) -> Entry
     requires bit { k < 32 }
     requires small { IsSmall entry }
@@ -47,7 +47,7 @@ fn kept(entry: Entry, m: u32, k: u32) -> Entry
     if has(m, k) { entry } else { Entry::Any }
 }
 
-/// Makes a cell, whatever it has, the cell of a number below u.
+/// Writes the cell of a number, which generalizes u, over `out`.
 pub fn put_cell(u: &Cell, m: u32, out: &mut Cell)
     requires { length out.old ≡ length u.now }
     ensures value { out.new ≡ cell_of_number u.now m }

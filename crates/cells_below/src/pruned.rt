@@ -1,4 +1,4 @@
-// The numbers with which no smaller set of bits is marked.
+// Numbers that no marked number with fewer bits rules out.
 ghost use Rattle.std.specs.Prelude.{length, ◌<◌, ◌^◌, ◌≡◌, ◌≤◌};
 ghost use Rattle.cells_below.specs.Marks.{is_least};
 
@@ -6,7 +6,7 @@ use crate::marks::Marks;
 use crate::numbers::{has, turn};
 use cube_defs::MAX_DIMS;
 
-/// Of numbers with d bits: whether none with one bit less is marked.
+/// Whether no number with one bit less than m is marked. Numbers have d bits.
 pub fn least(marks: &Marks, d: u32, m: u32) -> bool
     requires few { d ≤ MAX_DIMS }
     requires number { m < 2 ^ d }

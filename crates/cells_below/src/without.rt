@@ -1,4 +1,4 @@
-// The values of a class that each cell of it has.
+// The values that all cells of a class have.
 ghost use Rattle.std.specs.Prelude.{Some, if◌then◌else◌, length, true, ◌*◌, ◌+◌, ◌<◌, ◌≡◌, ◌≤◌};
 ghost use Rattle.cube_defs.specs.Tree.{cell_at};
 ghost use Rattle.tree_search.specs.Found.{IsTreeOf, IsTree, TreeRows};
@@ -13,7 +13,7 @@ use cube_defs::MAX_DIMS;
 use qc_arena::Nodes;
 use std::sync::ledger::Ledger;
 
-// The needed bits with one more, unless the cell without it has the closure.
+// The needed bits, with bit k added if the cell without its value has another closure.
 fn noted(needed: u32, k: u32, closes: bool) -> u32
     requires { k < 32 }
     ensures { result ≡ (if closes then needed else turned needed k) }
@@ -21,8 +21,8 @@ fn noted(needed: u32, k: u32, closes: bool) -> u32
     if closes { needed } else { turn(needed, k) }
 }
 
-/// The bits of the values that a cell below u must have to have the closure u: of those that, taken alone
-/// from u, leave a cell of another closure. `cell` is left as some cell below u.
+/// The bits of the values that each cell with closure u has. A value is needed if the cell without
+/// it alone has another closure. `cell` is left as some cell that generalizes u.
 pub fn needed<T: Nodes, L: Ledger>(
     tree: &T,
     node: NodeNo,
@@ -49,7 +49,7 @@ pub fn needed<T: Nodes, L: Ledger>(
     needed
 }
 
-/// Whether a number lacks one of the d first bits that is needed.
+/// Whether one of the needed bits is missing in a number. Only the first d bits count.
 pub fn lacks(m: u32, needed: u32, d: u32) -> bool
     requires { d ≤ MAX_DIMS }
     ensures { result ≡ true → Lacks needed m }
