@@ -1,4 +1,4 @@
-// The classes in order of the value of one kind.
+// The classes in order of one kind's values.
 ghost use Rattle.std.specs.Prelude.{IfOk, OnErr, OnOk, length, ◌<◌, ◌^◌, ◌≡◌, ◌≤◌};
 ghost use Rattle.measure_index.specs.Entries.{HaveMeasure};
 ghost use Rattle.measure_index.specs.Rankings.{IsRising, Ranking, no_entries};
@@ -37,7 +37,7 @@ impl Model for Column {
     ghost invariant = { λ c. AreKept c.scale c.keys.keys };
 }
 
-/// What is to be in a column and what is to go out of it.
+/// The keys that a change adds to a column and takes out of it.
 #[derive(Drop)]
 pub(crate) struct Plan {
     pub(crate) added: Vec<Key>,
@@ -57,7 +57,8 @@ impl Column {
         }
     }
 
-    /// The classes of these keys, of which there may be up to 4,294,967,295, without a search for each.
+    /// A column of the classes with these keys, made without a search for each. There may be up to
+    /// 4,294,967,295.
     pub(crate) fn filled(
         alloc: Global,
         kind: AggKind,
@@ -100,8 +101,8 @@ impl Column {
         Walk::new(self.keys.iter(), self.kind, self.scale, direction, bound)
     }
 
-    /// What a change of classes brings and takes away: entries that are both added and removed do not
-    /// go. Both are in order, so that each is sought near to the one before it.
+    /// Plans a change of classes. An entry that is both added and removed stays. Both lists are in
+    /// order, so each search is near the one before.
     pub(crate) fn plan(
         &self,
         alloc: Global,
@@ -121,8 +122,8 @@ impl Column {
         Ok(Plan { added, going })
     }
 
-    /// Puts entries in, up to 4,294,967,295 in all, and gives those that were not there. A refusal leaves
-    /// all as it was.
+    /// Adds entries, up to 4,294,967,295 in all, and gives those that were not there. A refusal
+    /// leaves the column as it was.
     pub(crate) fn put(&mut self, alloc: Global, added: &[Key]) -> Result<Vec<Key>, Memory>
         ensures came { OnOk result (Came (entries_at self.old.kind self.old.scale added.now) self.old self.new) }
         ensures fresh { IfOk result (λ came. AreFresh self.old (entries_at self.old.kind self.old.scale added.now)
@@ -135,7 +136,7 @@ impl Column {
         insert_all(alloc, &mut self.keys, added)
     }
 
-    /// Takes entries out, as far as they are there.
+    /// Takes out the entries that are there.
     pub(crate) fn take(&mut self, going: &[Key])
         ensures { Went (entries_at self.old.kind self.old.scale going.now) self.old self.new }
     {

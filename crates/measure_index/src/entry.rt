@@ -1,7 +1,8 @@
 // Values with their nodes.
 use aggregates::Ratio;
 
-/// The value of a class with the number of its node, in order of value and then of number.
+/// The value of a class with the number of its node. Entries are ordered by value and then by
+/// number.
 #[derive(Clone, Copy)]
 pub struct Entry {
     pub value: Ratio,

@@ -1,4 +1,4 @@
-// Classes on their way into an index.
+// Classes that are gathered for an index.
 ghost use Rattle.std.specs.List.{AllZip};
 ghost use Rattle.std.specs.Prelude.{All, IfOk, List, None, OnOk, Option, [], length, map, ℕ, ◌++◌, ◌∷◌, ◌≡◌, ◌≤◌};
 ghost use Rattle.aggregates.specs.Views.{IsThere};
@@ -19,7 +19,7 @@ use cube_defs::Memory;
 use std::alloc::Global;
 use std::marker::Model;
 
-// For a kind, in the unit of its measure's scale, the keys of the classes so far.
+// The keys gathered so far for a kind. `scale` is the scale of its measure, the number of decimals.
 #[derive(Drop)]
 pub(crate) struct ComingKeys {
     kind: AggKind,
@@ -67,7 +67,7 @@ impl ComingKeys {
     }
 }
 
-// A class comes, for each kind.
+// Adds a class to each kind.
 fn push_all(columns: &mut [ComingKeys], node: NodeNo, class: &Agg) -> Result<(), Memory>
     requires { All (λ c. IsThere class.now.measures c.kind) columns.old }
     ensures more { OnOk result (AllZip (HasOneMore (node, class.now)) columns.old columns.new) }
@@ -80,7 +80,8 @@ fn push_all(columns: &mut [ComingKeys], node: NodeNo, class: &Agg) -> Result<(),
     push_all(rest, node, class)
 }
 
-/// Classes that are to become an index, for some kinds of aggregates. They may come in any order; each is to come once.
+/// Classes that are gathered for an index of some kinds. They may come in any order, and each must
+/// come once.
 #[derive(Drop)]
 pub struct Filling {
     columns: Vec<ComingKeys>,
@@ -96,7 +97,7 @@ impl Model for Filling {
 }
 
 impl Filling {
-    /// No classes yet, and room for some. `scales` has the scales of the measures.
+    /// No classes yet, with room for some. `scales` has the scales of the measures.
     pub fn new(
         alloc: Global,
         kinds: &[AggKind],
@@ -115,7 +116,7 @@ impl Filling {
         Ok(Filling { columns })
     }
 
-    /// A class comes, with its node.
+    /// Adds a class, with its node.
     pub fn push(&mut self, node: NodeNo, class: &Agg) -> Result<(), Memory>
         requires { All (λ unit. IsThere class.now.measures unit.0) (coming_units self.old) }
         ensures classes { OnOk result ((before : List (numbers.NodeNo × aggs.Agg)) → AreKeysOf before self.old →
@@ -125,8 +126,8 @@ impl Filling {
         push_all(&mut self.columns, node, class)
     }
 
-    /// The index of the classes that came. It takes no search for each. A refusal comes also where there are more than
-    /// 4,294,967,295 classes.
+    /// The index of the classes, made without a search for each. It is also refused if there are
+    /// more than 4,294,967,295 classes.
     pub fn finish(self) -> Result<Index, Memory>
         ensures units { IfOk result (λ index. units index ≡ coming_units self) }
         ensures classes { IfOk result (λ index. (classes : List (numbers.NodeNo × aggs.Agg)) (class : ℕ → Option defs.Agg) → AreKeysOf classes self →

@@ -19,8 +19,8 @@ use cube_defs::Memory;
 use std::alloc::Global;
 use std::marker::Model;
 
-/// For some kinds of aggregates, each in the unit of its measure's scale, the values of classes
-/// with the nodes of these, in rising order of value and then of node.
+/// For some kinds of aggregates, the values of classes with their nodes, in rising order of value
+/// and then of node. A value is in the unit of its measure's scale.
 #[derive(Drop)]
 pub struct Index {
     columns: Vec<Column>,
@@ -35,7 +35,7 @@ impl Model for Index {
     ghost view = { λ x. x.columns.items };
 }
 
-// The scale of the kind's measure. A count has none.
+// The scale of the kind's measure. The scale of COUNT is 0.
 pub(crate) fn scale_in(scales: &[u8], kind: AggKind) -> u8
     requires there { IsThere (length scales.now) kind }
     requires scales { All (λ scale. scale ≤ 6) scales.now }
@@ -51,8 +51,8 @@ pub(crate) fn scale_in(scales: &[u8], kind: AggKind) -> u8
     }
 }
 
-// Changes all columns, or leaves them as they were. What comes goes in first, column by column, so
-// that a refusal is undone by taking out, which needs no memory.
+// Changes all columns, or leaves them as they were. All additions come first, column by column. So
+// a refusal is undone by taking out, which needs no memory.
 fn change_columns(
     alloc: Global,
     columns: &mut [Column],
@@ -89,7 +89,7 @@ fn is_empty(column: &Column) -> bool
 }
 
 impl Index {
-    /// No entries. `scales` has the scales of the measures.
+    /// An index without entries. `scales` has the scales of the measures.
     pub fn new(alloc: Global, kinds: &[AggKind], scales: &[u8]) -> Result<Index, Memory>
         requires there { All (IsThere (length scales.now)) kinds.now }
         requires scales { All (λ scale. scale ≤ 6) scales.now }
@@ -125,7 +125,7 @@ impl Index {
         self.column(kind).is_some()
     }
 
-    /// How many entries the kind has.
+    /// The number of entries of the kind.
     pub fn len(&self, kind: AggKind) -> u32
         requires { IsSome (ranking_of kind self.now) }
         ensures { result ≡ length (entries_of kind self.now) }
@@ -140,9 +140,9 @@ impl Index {
         self.columns.iter().all(|column| is_empty(column))
     }
 
-    /// The classes of `remove` go and those of `add` come, in each kind; an entry that is in both
-    /// stays. It takes the time of a search in the index for each class and kind. A refusal leaves
-    /// the index as it was; it comes also where a kind would have more than 4,294,967,295 entries.
+    /// Removes the classes of `remove` and adds those of `add`, in each kind. An entry that is in
+    /// both stays. Each class and kind takes one search in the index. A refusal leaves the index as
+    /// it was. It is also refused if a kind would have more than 4,294,967,295 entries.
     pub fn change(&mut self, add: &[(NodeNo, Agg)], remove: &[(NodeNo, Agg)]) -> Result<(), Memory>
         requires add { All (λ r. HaveMeasure r.kind add.now) self.old }
         requires remove { All (λ r. HaveMeasure r.kind remove.now) self.old }
@@ -156,8 +156,8 @@ impl Index {
         change_columns(alloc, &mut self.columns, add, remove)
     }
 
-    /// The classes with at least a value, in the unit of the kind's measure, the greatest first. It
-    /// takes no memory, and reads the index as far as the walk goes.
+    /// The classes with at least a value, from the greatest on. The value is in the unit of the
+    /// kind's measure. Takes no memory, and reads only as far as the walk goes.
     pub fn at_least(&self, kind: AggKind, value: &Fraction) -> Walk<'_>
         requires { IsSome (ranking_of kind self.now) }
         ensures left { result.left ≡ reverse (filter (is_at_least value.now) (entries_of kind self.now)) }
@@ -168,8 +168,8 @@ impl Index {
         self.column(kind).unwrap().walk(Direction::Falling, value)
     }
 
-    /// The classes with at most a value, in the unit of the kind's measure, the least first. It takes
-    /// no memory, and reads the index as far as the walk goes.
+    /// The classes with at most a value, from the least on. The value is in the unit of the kind's
+    /// measure. Takes no memory, and reads only as far as the walk goes.
     pub fn at_most(&self, kind: AggKind, value: &Fraction) -> Walk<'_>
         requires { IsSome (ranking_of kind self.now) }
         ensures left { result.left ≡ filter (is_at_most value.now) (entries_of kind self.now) }

@@ -1,12 +1,12 @@
-// The keys by which classes are kept.
+// The keys by which an index is sorted.
 ghost use Rattle.std.specs.Prelude.{nat_abs, pos, ◌*ℤ◌, ◌*◌, ◌<◌, ◌^◌, ◌≡◌};
 ghost use Rattle.aggregates.specs.Quotients.{IsDivisor};
 
 use std::cmp::Ordering;
 
-/// The value of a class, as a number over the rows that it is divided by, with the number of its node; in
-/// order of value and then of number. It isn't put in lowest terms, so it is quick to make, and smaller
-/// than an entry.
+/// The value of a class as a number and its divisor, with the number of its node. Keys are ordered
+/// by value and then by number. A key isn't in lowest terms, so it is quick to make, and it is
+/// smaller than an entry.
 #[derive(Clone, Copy)]
 pub struct Key {
     pub num: i64,
@@ -71,7 +71,8 @@ impl Ord for Key {
 
     ghost matches_eq = { λ x y. refl };
 
-    // The products are always taken: a test for one divisor is a branch that a sort of means can't foretell.
+    // The products are always computed. A test for equal divisors would be a branch that a sort of
+    // means mispredicts.
     fn cmp(&self, other: &Key) -> Ordering {
         let value = times(i128::from(self.num), u64::from(other.den));
         let other_value = times(i128::from(other.num), u64::from(self.den));

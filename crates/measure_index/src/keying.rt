@@ -35,7 +35,7 @@ impl Key {
         }
     }
 
-    /// The entry, for a kind in the unit of its measure's scale.
+    /// The entry of a key. `scale` is that of the kind's measure.
     pub(crate) fn entry(self, kind: AggKind, scale: u8) -> Entry
         requires { scale ≤ 6 }
         ensures { result ≡ entry_of kind scale self }

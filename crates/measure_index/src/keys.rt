@@ -1,4 +1,4 @@
-// Keys that come into a set and go out of it.
+// Sets of keys.
 ghost use Rattle.std.specs.Prelude.{◌≡◌, ◌<◌, ◌≤◌, ◌+◌, ◌&&◌, ◌||◌, ◌++◌, ◌∷◌, [], if◌then◌else◌, length, not, vec_capacity, vec_len, IfOk, OnOk, OnErr};
 ghost use Rattle.std.specs.BTreeSet.{btree_set_len, contains, IsOrdered, IsSameSet};
 ghost use Rattle.std.specs.List.Sorted.{IsSorted};
@@ -8,7 +8,7 @@ use cube_defs::Memory;
 use std::alloc::{AllocError, Global};
 use std::collections::BTreeSet;
 
-/// Takes keys out, as far as they are there.
+/// Takes out the keys that are there.
 pub(crate) fn take_out<K: Ord + Copy>(set: &mut BTreeSet<K, Global>, items: &[K])
     requires { IsOrdered K.cmp set.old }
     ensures has { (q : K) → contains K.cmp set.new q ≡ (contains K.cmp set.old q && not (among K.cmp items.now q)) }
@@ -20,8 +20,8 @@ pub(crate) fn take_out<K: Ord + Copy>(set: &mut BTreeSet<K, Global>, items: &[K]
     }
 }
 
-/// A set of some keys, which takes no search for each. They are sorted in place, and so need no room to be
-/// sorted in.
+/// A set of some keys, made without a search for each. The keys are sorted in place, which needs no
+/// memory.
 pub(crate) fn set_of<K: Ord + Copy>(
     alloc: Global,
     items: Vec<K>,
@@ -34,8 +34,8 @@ pub(crate) fn set_of<K: Ord + Copy>(
     BTreeSet::from_iter(alloc, sorted)
 }
 
-/// Puts keys in, and gives those that were not there, in their order. A refusal leaves the set with the
-/// keys that it had.
+/// Adds keys, and gives those that were not there, in their order. A refusal leaves the set with
+/// the keys that it had.
 pub(crate) fn insert_all<K: Ord + Copy>(
     alloc: Global,
     set: &mut BTreeSet<K, Global>,
@@ -61,7 +61,7 @@ pub(crate) fn insert_all<K: Ord + Copy>(
     Ok(came)
 }
 
-// Puts a key last where it is a new one.
+// Appends a key if it is new.
 fn note<K: Copy>(came: &mut Vec<K>, item: K, added: bool)
     requires { vec_len came.old < vec_capacity came.old }
     ensures items { came.new.items ≡ came.old.items ++ (if added then item ∷ [] else []) }
@@ -73,7 +73,7 @@ fn note<K: Copy>(came: &mut Vec<K>, item: K, added: bool)
     }
 }
 
-// Whether a key is among some in order.
+// Whether a key is among sorted ones.
 fn is_among<K: Ord>(items: &[K], key: &K) -> bool
     requires { IsSorted K.cmp items.now }
     ensures { result ≡ among K.cmp items.now key.now }
@@ -81,7 +81,7 @@ fn is_among<K: Ord>(items: &[K], key: &K) -> bool
     items.binary_search(key).is_ok()
 }
 
-/// The items that others lack, which are in order.
+/// The items that are missing among the others, which are sorted.
 pub(crate) fn lacked_by<K: Ord + Copy>(
     alloc: Global,
     others: &[K],

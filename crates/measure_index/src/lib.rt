@@ -1,4 +1,4 @@
-//! For some kinds of aggregates, the classes in order of their values.
+//! For some kinds of aggregates, keeps the classes sorted by value.
 #![tactic(auto)]
 
 mod column;

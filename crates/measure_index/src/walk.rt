@@ -11,17 +11,17 @@ use cell_core::NodeNo;
 use std::collections::btree_set::Iter;
 use std::marker::Model;
 
-/// From which end entries are read.
+/// The end from which entries are read.
 #[derive(Clone, Copy)]
 pub(crate) enum Direction {
-    /// The greatest value first, down to a bound.
+    /// From the greatest value down to a bound.
     Falling,
-    /// The least value first, up to a bound.
+    /// From the least value up to a bound.
     Rising,
 }
 
-/// The classes whose values qualify, in order of value. It reads no entry behind the first that
-/// doesn't.
+/// The classes whose values qualify, in order of value. It reads at most one entry that doesn't
+/// qualify.
 #[derive(Drop)]
 pub struct Walk<'a> {
     keys: Iter<'a, Key>,
@@ -60,7 +60,7 @@ fn passes(entry: &Entry, direction: Direction, bound: &Fraction) -> bool
     }
 }
 
-// The next key from the end that the direction names.
+// The next key from the direction's end.
 fn next_of<'a>(keys: &mut Iter<'a, Key>, direction: Direction) -> Option<&'a Key>
     ensures key { MatchOption result ((directed direction keys.old ≡ []) × (directed direction keys.new ≡ []))
         (λ k. directed direction keys.old ≡ k.now ∷ directed direction keys.new) }
@@ -72,7 +72,7 @@ fn next_of<'a>(keys: &mut Iter<'a, Key>, direction: Direction) -> Option<&'a Key
     }
 }
 
-// The entry that is read off the next key.
+// The entry of the next key.
 fn next_entry(
     keys: &mut Iter<'_, Key>,
     direction: Direction,
@@ -90,7 +90,7 @@ fn next_entry(
 }
 
 impl<'a> Walk<'a> {
-    /// Of the entries of keys in rising order, for a kind in the unit of its measure's scale, those that qualify.
+    /// The entries that qualify, of keys in rising order. `scale` is that of the kind's measure.
     pub(crate) fn new(
         keys: Iter<'a, Key>,
         kind: AggKind,
@@ -116,7 +116,7 @@ impl<'a> Walk<'a> {
         }
     }
 
-    /// The next class, with its value. None where no class is left that qualifies.
+    /// The next class, with its value. None if no class that qualifies is left.
     pub fn next(&mut self) -> Option<(NodeNo, Ratio)>
         ensures pair { MatchOption result ((self.old.left ≡ []) × (self.new.left ≡ []))
             (λ p. self.old.left ≡ record { value = p.1; node = p.0.0 } ∷ self.new.left) }
@@ -134,7 +134,7 @@ impl<'a> Walk<'a> {
         None
     }
 
-    /// How many entries were read: as many as were given, or one more.
+    /// The number of entries that were read: as many as were given, or one more.
     pub fn taken(&self) -> u64
         ensures taken { result ≡ self.now.taken }
         ensures least { self.now.given ≤ result }
