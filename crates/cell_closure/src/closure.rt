@@ -1,4 +1,4 @@
-// What rows share.
+// The values that rows share.
 ghost use Rattle.std.specs.Prelude.{None, Some, length, map, nat_eq, slice_index_or, ◌<◌, ◌==◌, ◌≡◌};
 ghost use Rattle.std.specs.List.{list_all};
 ghost use Rattle.cube_defs.specs.Cell.{cell_of};
@@ -26,7 +26,7 @@ fn all_have(table: &Table, rows: &[RowNo], dim: u8, code: Code) -> bool
     true
 }
 
-/// The value that all the rows have in the dimension, or Any where they differ.
+/// The value that all the rows have in the dimension. Any if they differ.
 pub fn shared_entry(table: &Table, rows: &[RowNo], dim: u8) -> Entry
     requires table { IsTable table.now }
     requires some { 0 < length rows.now }
@@ -43,7 +43,7 @@ pub fn shared_entry(table: &Table, rows: &[RowNo], dim: u8) -> Entry
     }
 }
 
-// Answers over arrays of the least width that the dimensions fit in.
+// One branch for each array width: the arrays have the least width in which the dimensions fit.
 macro_rules! closure_by_width {
     ($table:expr, $rows:expr, $($width:literal)*) => {
         $(if $table.dims() <= $width {
@@ -52,8 +52,8 @@ macro_rules! closure_by_width {
     };
 }
 
-/// The values that all the rows have, and Any where they differ. It reads rows only until they share
-/// no value any more.
+/// The values that all the rows have, and Any in the other dimensions. It reads rows only until
+/// they share no value any more.
 pub fn closure_of(table: &Table, rows: &[RowNo]) -> Cell
     requires some { 0 < length rows.now }
     requires there { AreThere table.now rows.now }

@@ -1,4 +1,4 @@
-//! What rows share, and rows parted by their codes in a dimension.
+//! The values that rows share, and groups of rows by their codes in a dimension.
 #![tactic(auto)]
 
 mod by_code;

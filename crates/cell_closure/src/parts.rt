@@ -1,4 +1,4 @@
-// Rows parted by a code.
+// Groups of rows by code.
 ghost use Rattle.std.specs.Prelude.{All, IfOk, OnErr, [], length, map, slice_index_or, ℕ, ◌+◌, ◌<◌, ◌≡◌, ◌≤◌};
 ghost use Rattle.base_table.specs.Places.{AreThere};
 ghost use Rattle.cell_closure.specs.Parts.{no_part, parted};
@@ -11,7 +11,7 @@ use cell_core::Code;
 use std::alloc::Global;
 use std::marker::Model;
 
-/// Where a part lies among the rows.
+/// The range of a part among the rows.
 #[derive(Clone, Copy, Drop)]
 struct Cut {
     code: Code,
@@ -19,8 +19,8 @@ struct Cut {
     end: usize,
 }
 
-/// Rows by their codes in a dimension, codes rising. Its room is used again each time rows are
-/// parted into it.
+/// Rows grouped by their codes in a dimension, in rising order of codes. Its room is reused by each
+/// grouping.
 #[derive(Drop)]
 pub struct Parts {
     cuts: Vec<Cut>,
@@ -41,7 +41,7 @@ impl Model for Parts {
 }
 
 impl Parts {
-    /// No parts, made without memory.
+    /// No parts. Takes no memory.
     pub fn new(alloc: Global) -> Parts
         ensures { result ≡ [] }
     {
@@ -52,7 +52,7 @@ impl Parts {
         }
     }
 
-    /// How many parts there are.
+    /// The number of parts.
     pub fn len(&self) -> u32
         ensures { result ≡ length self.now }
     {
@@ -76,8 +76,8 @@ impl Parts {
         &self.rows[cut.start..cut.end]
     }
 
-    /// Parts rows by their codes in a dimension, in place of what was here. Each part has its rows
-    /// in the given order. After a refusal there are no parts.
+    /// Groups rows by their codes in a dimension, in place of the earlier groups. Each part has its
+    /// rows in the given order. After a refusal there are no parts.
     pub fn part_into(&mut self, table: &Table, rows: &[RowNo], dim: u8) -> Result<(), Memory>
         requires there { AreThere table.now rows.now }
         requires dim { dim < table.now.dims }
@@ -93,7 +93,7 @@ impl Parts {
     }
 }
 
-/// The rows parted by their codes in the dimension, each part in the given order.
+/// Groups rows by their codes in the dimension. Each part has its rows in the given order.
 pub fn part(alloc: Global, table: &Table, rows: &[RowNo], dim: u8) -> Result<Parts, Memory>
     requires there { AreThere table.now rows.now }
     requires dim { dim < table.now.dims }
@@ -115,7 +115,7 @@ fn list_rows(rows: &mut Vec<RowNo>, keyed: &[Keyed]) -> Result<(), Memory>
     Ok(())
 }
 
-/// Where the code changes next, from a row on.
+/// The end of the run of equal codes that begins at a row.
 fn run_end(keyed: &[Keyed], start: usize) -> usize
     requires { start < length keyed.now }
     ensures within { (start < result) × (result ≤ length keyed.now) }
@@ -133,7 +133,7 @@ fn run_end(keyed: &[Keyed], start: usize) -> usize
     keyed.len()
 }
 
-/// A cut for each run of the same code. After a refusal there are none.
+/// Makes a cut for each run of equal codes. After a refusal there are none.
 fn list_cuts(cuts: &mut Vec<Cut>, keyed: &[Keyed]) -> Result<(), Memory>
     ensures runs { IfOk result (λ _. pieces cuts.new.items (map (λ k. k.row) keyed.now) ≡ runs keyed.now) }
     ensures within { IfOk result (λ _. All (λ c. (c.start ≤ c.end) × (c.end ≤ length keyed.now)) cuts.new.items) }

@@ -1,4 +1,4 @@
-// What rows share, as arrays of one width.
+// The values that rows share, computed on arrays of a fixed width.
 ghost use Rattle.std.specs.Prelude.{None, Some, false, is_some, length, map, nat_eq, slice_index, slice_index_or, true, ℕ, ◌<◌, ◌≡◌, ◌≤◌};
 ghost use Rattle.cube_defs.specs.Cell.{cell_of, meet};
 ghost use Rattle.cube_defs.specs.Rows.{meet_all};
@@ -12,8 +12,8 @@ ghost use Rattle.cube_laws.specs.Parting.{shared_by};
 use base_table::{RowNo, Table};
 use cell_core::{ANY, Cell, Entry};
 
-/// Makes the accumulator the meet of what it was and a row, entry by entry: the code where both have
-/// it, and [`ANY`], which stands for Any, where they differ. Each has a code or `ANY` in every place.
+/// Replaces the accumulator by its meet with a row, entry by entry: the code if both have it, else
+/// [`ANY`], which stands for Any. Each entry of both is a code or `ANY`.
 pub fn meet_fixed<const N: usize>(acc: &mut [u32; N], row: &[u32; N])
     ensures meet { entries_of acc.new ≡ meet nat_eq (entries_of acc.old) (entries_of row.now) }
     ensures width { length acc.new ≡ N }
@@ -26,7 +26,7 @@ pub fn meet_fixed<const N: usize>(acc: &mut [u32; N], row: &[u32; N])
     }
 }
 
-/// The codes of a row, and 0 behind them.
+/// The codes of a row, and 0 in the places after them.
 fn codes_of<const N: usize>(table: &Table, row: RowNo) -> [u32; N]
     requires row { is_some (row_at table.now row.0) ≡ true }
     requires width { table.now.dims ≤ N }
@@ -40,7 +40,7 @@ fn codes_of<const N: usize>(table: &Table, row: RowNo) -> [u32; N]
     codes
 }
 
-/// Whether a value stands in one of the dimensions.
+/// Whether any dimension has a value.
 fn has_value<const N: usize>(codes: &[u32; N], dims: u8) -> bool
     requires { dims ≤ N }
     ensures { result ≡ false → (j : ℕ) → j < dims → slice_index codes.now j ≡ ANY }
@@ -53,7 +53,7 @@ fn has_value<const N: usize>(codes: &[u32; N], dims: u8) -> bool
     false
 }
 
-/// The code that all the rows have in each dimension, and [`ANY`] where they differ.
+/// The code that all the rows have in each dimension. [`ANY`] if they differ.
 fn shared_codes<const N: usize>(table: &Table, rows: &[RowNo]) -> [u32; N]
     requires table { IsTable table.now }
     requires some { 0 < length rows.now }
