@@ -1,16 +1,16 @@
-// A linear congruential generator.
+// A linear congruential generator, which draws numbers from a seed.
 ghost use Rattle.std.specs.Prelude.{◌<◌, ◌≡◌};
 ghost use Rattle.row_generator.specs.Generator.{after_draw, number_drawn};
 
-/// Numbers that follow from a seed.
+/// Numbers that a seed determines.
 #[derive(Clone, Copy, Debug)]
 pub struct Draws {
-    /// The seed, until the first draw.
+    /// The state. It is the seed before the first draw.
     pub state: u64,
 }
 
 impl Draws {
-    /// One draw more: a number below `most`.
+    /// Draws the next number, which is smaller than `most`.
     pub fn next_below(&mut self, most: u32) -> u32
         requires { 0 < most }
         ensures state { self.new.state ≡ after_draw self.old.state }

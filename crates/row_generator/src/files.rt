@@ -7,10 +7,10 @@ use crate::draws::Draws;
 use crate::rows::{push_deletions, push_rows};
 use cube_defs::Memory;
 
-/// How many batches follow the base file.
+/// The number of batches after the base file.
 pub const BATCHES: u32 = 40;
 
-/// Writes the base file of so many rows into `out`, in place of what it holds.
+/// Replaces the contents of `out` by the base file of so many rows.
 pub fn write_base(out: &mut Vec<u8>, rows: u32, draws: &mut Draws) -> Result<(), Memory>
     requires { rows ≤ MAX_ROWS }
     ensures state { OnOk result (draws.new.state ≡ after_rows rows draws.old.state) }
@@ -22,7 +22,7 @@ pub fn write_base(out: &mut Vec<u8>, rows: u32, draws: &mut Draws) -> Result<(),
     push_rows(out, b"", rows, 1, draws)
 }
 
-// How many rows go and how many come in each batch.
+// The number of deletions of a batch, and of its insertions.
 fn rows_of_batch(rows: u32) -> u32
     ensures rows { result ≡ batch_rows rows }
     ensures few { result ≤ 50 }
@@ -30,8 +30,8 @@ fn rows_of_batch(rows: u32) -> u32
     rows.min(50)
 }
 
-/// Writes a batch into `out`, in place of what it holds: the one that so many others stand before,
-/// behind a base file of so many rows.
+/// Replaces the contents of `out` by a batch. `before` batches come before it, after a base file of
+/// `rows` rows.
 pub fn write_batch(
     out: &mut Vec<u8>,
     rows: u32,

@@ -1,5 +1,5 @@
-//! Base files and batches of rows that are drawn from a number. The bytes of one file are made at a
-//! time, in a buffer that is used again.
+//! Makes base files and batches of rows from a seed. One file at a time is made, in a buffer that
+//! is reused.
 #![tactic(auto)]
 
 mod draws;

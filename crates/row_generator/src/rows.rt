@@ -8,7 +8,7 @@ use aggregates::print_amount;
 use cube_defs::Memory;
 use itoa::Buffer;
 
-// A number.
+// Appends a number.
 fn push_number(out: &mut Vec<u8>, number: u32) -> Result<(), Memory>
     ensures text { OnOk result (out.new.items ≡ out.old.items ++ decimal number) }
     ensures short { OnOk result (length out.new.items ≤ length out.old.items + 10) }
@@ -17,7 +17,7 @@ fn push_number(out: &mut Vec<u8>, number: u32) -> Result<(), Memory>
     Ok(())
 }
 
-// The field of a dimension with so many values, behind its comma.
+// Appends a comma and the field of a dimension with so many values.
 fn push_value(out: &mut Vec<u8>, name: u8, most: u32, draws: &mut Draws) -> Result<(), Memory>
     requires { 0 < most }
     ensures state { draws.new.state ≡ after_draw draws.old.state }
@@ -30,7 +30,7 @@ fn push_value(out: &mut Vec<u8>, name: u8, most: u32, draws: &mut Draws) -> Resu
     push_number(out, number)
 }
 
-// The fields of the dimensions.
+// Appends the fields of the dimensions.
 fn push_values(out: &mut Vec<u8>, draws: &mut Draws) -> Result<(), Memory>
     ensures state { OnOk result (draws.new.state ≡ after_draws 5 draws.old.state) }
     ensures text { OnOk result (out.new.items ≡ out.old.items ++ values_text draws.old.state) }
@@ -50,7 +50,7 @@ fn amount(id: u32) -> i64
     i64::from(id % 1001) - 500
 }
 
-// The field of the amount, behind its comma.
+// Appends a comma and the field of the amount.
 fn push_amount(out: &mut Vec<u8>, id: u32) -> Result<(), Memory>
     ensures text { OnOk result (out.new.items ≡ out.old.items ++ 44 ∷ amount_text 2 (amount_of id)) }
     ensures short { OnOk result (length out.new.items ≤ length out.old.items + 49) }
@@ -62,7 +62,7 @@ fn push_amount(out: &mut Vec<u8>, id: u32) -> Result<(), Memory>
     Ok(())
 }
 
-// The record of the row with an id.
+// Appends the record of the row with an id.
 #[tactic(auto, unfolding(crate::specs::Generator::row_text))]
 fn push_row(out: &mut Vec<u8>, id: u32, draws: &mut Draws) -> Result<(), Memory>
     ensures state { OnOk result (draws.new.state ≡ after_draws 5 draws.old.state) }
@@ -76,7 +76,8 @@ fn push_row(out: &mut Vec<u8>, id: u32, draws: &mut Draws) -> Result<(), Memory>
     Ok(())
 }
 
-/// The records of so many rows, of which the first has this id, each behind the same front.
+/// Appends the records of so many rows. The ids count up from the first, and each record begins
+/// with `front`.
 pub fn push_rows(
     out: &mut Vec<u8>,
     front: &[u8],
@@ -101,7 +102,7 @@ pub fn push_rows(
     Ok(())
 }
 
-// The record that deletes the row with an id.
+// Appends the record that deletes the row with an id.
 fn push_deletion(out: &mut Vec<u8>, id: u32) -> Result<(), Memory>
     ensures text { OnOk result (out.new.items ≡ out.old.items ++ deletion_text id) }
     ensures short { OnOk result (length out.new.items ≤ length out.old.items + 19) }
@@ -112,7 +113,7 @@ fn push_deletion(out: &mut Vec<u8>, id: u32) -> Result<(), Memory>
     Ok(())
 }
 
-/// The records that delete so many rows, of which the first has this id.
+/// Appends the records that delete so many rows. The ids count up from the first.
 pub fn push_deletions(out: &mut Vec<u8>, count: u32, first: u32) -> Result<(), Memory>
     requires { first + count < 2 ^ 32 }
     ensures text { OnOk result (out.new.items ≡ out.old.items ++ deletions_text count first) }
