@@ -1,4 +1,4 @@
-// The byte order mark in front of a text.
+// The byte order mark at the start of a text.
 ghost use Rattle.std.specs.Prelude.{◌≡◌, ◌≤◌};
 ghost use Rattle.text_lines.specs.Lines.{begins_with_mark, begins_with_two_marks, without_mark};
 
@@ -9,14 +9,14 @@ pub fn has_mark(text: &[u8]) -> bool
     matches!(text, [0xEF, 0xBB, 0xBF, ..])
 }
 
-/// Whether a text begins with a byte order mark, and directly behind it another.
+/// Whether a text begins with two byte order marks.
 pub fn has_two_marks(text: &[u8]) -> bool
     ensures { result ≡ begins_with_two_marks text.now }
 {
     has_mark(text) && has_mark(&text[3..])
 }
 
-/// A text without the byte order mark at its front.
+/// A text without the byte order mark at its start.
 pub fn trim_mark(text: &[u8]) -> &[u8]
     ensures { result.now ≡ without_mark text.now }
 {

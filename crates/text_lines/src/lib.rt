@@ -1,5 +1,5 @@
-//! Texts as they are read: their lines, a byte order mark in front, the records of comma-separated
-//! values, the pieces of a plain line, and the words between spaces.
+//! Parses texts: lines, the byte order mark at the start, comma-separated records, plain lines
+//! without quotes, and words between spaces.
 #![tactic(auto)]
 
 mod byte_order_mark;

@@ -1,4 +1,4 @@
-// The records of a CSV text in turn.
+// A reader of CSV records.
 ghost use Rattle.std.specs.Prelude.{false, ◌≡◌, ◌≤◌, ◌<◌, length, [], ◌∷◌, IfOk, OnErr, MatchBool, slice_index_or};
 ghost use Rattle.csv.specs.Reading.{default_config, records};
 ghost use Rattle.csv.specs.Records.{fields_of};
@@ -9,7 +9,7 @@ use csv::{ByteRecord, Reader, ReaderBuilder};
 use std::alloc::{AllocError, Global};
 use std::marker::Model;
 
-/// Seen as the records that are left.
+/// Reads the records of a text one after another. Its model is the records that are left.
 #[derive(Drop)]
 pub struct RecordReader<'a> {
     rdr: Reader<&'a [u8]>,
@@ -38,7 +38,7 @@ pub fn field(row: &ByteRecord, at: usize) -> &[u8]
     row.get(at).unwrap()
 }
 
-// Reads a record of a reader that is between two.
+// Reads the next record. The reader stands between two records.
 fn read_record(rdr: &mut Reader<&[u8]>, row: &mut ByteRecord) -> Result<bool, AllocError>
     requires { IsPlain rdr.old }
     ensures { IfOk result (λ found. Steps rdr.old rdr.new found (fields_of row.new)) }
@@ -51,7 +51,7 @@ fn read_record(rdr: &mut Reader<&[u8]>, row: &mut ByteRecord) -> Result<bool, Al
 
 impl<'a> RecordReader<'a> {
     #[tactic(auto, using(crate::proofs::Sizes::size_records, crate::proofs::Sizes::few_records))]
-    /// Behind the byte order mark, where a text has one.
+    /// A reader of a text. If the text had a byte order mark, it is cut off already.
     pub fn new(alloc: Global, text: &'a [u8]) -> Self
         requires unmarked { begins_with_mark text.now ≡ false }
         ensures records { result ≡ records default_config text.now }
@@ -73,7 +73,7 @@ impl<'a> RecordReader<'a> {
         RecordReader { rdr, done: false }
     }
 
-    /// Reads the next record, and says whether there was one. After an `Err` none is left.
+    /// Reads the next record. False if there is none. After an `Err` no record is left.
     pub fn next(&mut self, row: &mut ByteRecord) -> Result<bool, AllocError>
         ensures next { IfOk result (λ found. MatchBool found (self.old ≡ fields_of row.new ∷ self.new) ((self.old ≡ []) × (self.new ≡ []))) }
         ensures err { OnErr result (self.new ≡ []) }
