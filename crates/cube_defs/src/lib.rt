@@ -1,6 +1,6 @@
-//! The definitions of the cube: cells, rows, closures, classes, nodes, the canonical tree, and the
-//! answers to queries, with what a cube may have at most. It has no functions; contracts of the other
-//! crates cite its `specs/`.
+//! The definitions of the cube: cells, rows, closures, classes, nodes, the canonical tree, answers
+//! to queries, and limits. It has no functions. The contracts of the other crates cite its
+//! `specs/`.
 #![tactic(auto)]
 
 mod limits;

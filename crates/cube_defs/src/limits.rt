@@ -1,19 +1,19 @@
-// What a cube may have at most.
+// The limits of a cube.
 
-/// The dimensions of a cube.
+/// The greatest number of dimensions of a cube.
 pub const MAX_DIMS: u8 = 16;
 
-/// The measures of a cube.
+/// The greatest number of measures of a cube.
 pub const MAX_MEASURES: u8 = 4;
 
-/// The texts of a dimension. Each code of a text is smaller.
+/// The greatest number of texts of a dimension. Each code of a text is smaller.
 pub const MAX_CODES: u32 = 4_000_000;
 
-/// The nodes of a tree.
+/// The greatest number of nodes of a tree.
 pub const MAX_NODES: u32 = 4_000_000;
 
-/// The rows of a table.
+/// The greatest number of rows of a table.
 pub const MAX_ROWS: u32 = 1_000_000;
 
-/// The bytes of a file.
+/// The greatest size of a file, in bytes.
 pub const MAX_FILE: usize = 268_435_456;
