@@ -1,5 +1,5 @@
-//! What becomes of the classes below a tuple as a row of it goes: each follows from a class
-//! with more values.
+//! How the classes that generalize a tuple change when a row with this tuple is deleted. Each
+//! follows from a class with more values.
 ghost use Rattle.std.specs.Prelude.{Bool, IsTrue, List, length, slice_get, ℕ, ◌<◌, ◌≡◌, ◌⊎◌};
 ghost use Rattle.cube_defs.specs.Cell.{Cell, cell_of, cell_front, leq};
 ghost use Rattle.cube_defs.specs.Rows.{Row, covers};
@@ -8,8 +8,8 @@ ghost use Rattle.cube_laws.specs.Step.{IsStep};
 
 use super::values::Value;
 
-/// A cell below a tuple is the tuple itself or has a last dimension of Any, and its front
-/// before that dimension tells which cell it is (own).
+/// A cell that generalizes a tuple is the tuple itself, or has a last dimension of Any. In the
+/// latter case its prefix before that dimension determines it (own).
 pub fn last_any_of_a_cell<V: Value>()
     ensures there { (t : List V) (u : Cell V) → IsTrue (leq V.eq u (cell_of t)) →
         length u ≡ length t →
@@ -19,8 +19,8 @@ pub fn last_any_of_a_cell<V: Value>()
         IsLastAny u i → IsLastAny w i → cell_front i u ≡ cell_front i w → u ≡ w }
 {}
 
-/// The new closure and aggregate of a cell that covers the row that goes, from the new ones of
-/// one cell with more values and the old ones of cells that do not cover the row (own).
+/// The new closure and aggregate of a cell that covers the deleted row. They follow from the new
+/// ones of one cell with more values, and the old ones of cells that don't cover the row (own).
 pub fn class_after_a_row_has_gone<V: Value>()
     ensures { (xs ys : List (Row V)) (r : Row V) (u : Cell V) (i : ℕ) (t : V) →
         slice_get u i ≡ Some None →
@@ -28,8 +28,8 @@ pub fn class_after_a_row_has_gone<V: Value>()
         (w : Cell V) × IsStep V.eq xs r ys u i t w }
 {}
 
-/// What holds of each cell below a tuple if it holds of those with more values, holds of all
-/// cells below the tuple.
+/// Induction over the cells that generalize a tuple. If a property holds of a cell whenever it
+/// holds of those with more values, it holds of all.
 pub fn induction_from_the_most_specific_cell<V: Value>()
     ensures { (holds : Cell V → Bool) (t : List V) →
         ((u : Cell V) → IsTrue (leq V.eq u (cell_of t)) →

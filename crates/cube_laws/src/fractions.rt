@@ -1,15 +1,16 @@
-//! Fractions in lowest terms, as the means of amounts.
+//! Fractions in lowest terms, which the means of amounts are.
 ghost use Rattle.std.specs.Prelude.{nat_abs, pos, ℕ, ℤ, ◌*ℤ◌, ◌<◌, ◌≡◌};
 ghost use Rattle.cube_defs.specs.Rows.{gcd, lowest_terms};
 ghost use Rattle.std.specs.Int.{IsGcd};
 
-/// Euclid's rule, in as many steps as it wants, gives the greatest common divisor.
+/// Euclid's algorithm, with as many steps as it needs, gives the greatest common divisor (Euclid,
+/// Elements, book VII).
 pub fn euclid_gives_the_greatest_common_divisor()
     ensures { (a b : ℕ) → IsGcd a b (gcd a b) }
 {}
 
-/// A fraction in lowest terms has the value of the fraction, a positive denominator, and no
-/// common divisor of both but 1.
+/// A fraction in lowest terms has the same value and a positive denominator. Its terms have no
+/// common divisor but 1.
 pub fn lowest_terms_are_lowest()
     ensures same_value { (a : ℤ) (b : ℕ) → 0 < b →
         (lowest_terms a b).num *ℤ pos b ≡ a *ℤ pos (lowest_terms a b).den }

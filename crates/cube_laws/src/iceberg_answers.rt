@@ -1,4 +1,4 @@
-//! What stands in an iceberg answer, and in which order.
+//! The contents and the order of an iceberg answer.
 ghost use Rattle.std.specs.Prelude.{IsTrue, List, ℕ, ◌↔◌, ◌≡◌};
 ghost use Rattle.std.specs.List.Sorted.{IsStrictlySortedBy};
 ghost use Rattle.cube_defs.specs.Answers.{Ask, ClassHit, answer_cmp, asked, iceberg, is_asked, lower_bounds};
@@ -8,8 +8,8 @@ ghost use Rattle.cube_laws.specs.Lists.{Among};
 
 use super::values::Value;
 
-/// An iceberg answer has the upper bounds that pass, each with its aggregate and its lower
-/// bounds in cell order, and no others: sorting loses none (own).
+/// An iceberg answer has exactly the upper bounds that pass. Each has its aggregate and its lower
+/// bounds in cell order. Sorting loses none of them (own).
 pub fn iceberg_has_the_classes_that_pass<V: Value>()
     ensures sorted { (measures : ℕ) (rows : List (Row V)) (ask : Ask) (hit : ClassHit V) →
         Among hit (iceberg V.cmp measures rows ask) ↔ Among hit (asked V.cmp measures rows ask) }
@@ -20,8 +20,8 @@ pub fn iceberg_has_the_classes_that_pass<V: Value>()
         × (hit.lowers ≡ lower_bounds V.cmp rows hit.upper)) }
 {}
 
-/// An iceberg answer stands in the order of the values, falling or rising as it was asked, and
-/// in cell order where they are equal; no other list of the same classes stands so (own).
+/// An iceberg answer is in the order of values, falling or rising as asked, and in cell order for
+/// equal values. No other list of the same classes is in this order (own).
 pub fn iceberg_is_in_order<V: Value>()
     ensures in_order { (measures : ℕ) (rows : List (Row V)) (ask : Ask) →
         IsStrictlySortedBy (answer_cmp V.cmp ask) (iceberg V.cmp measures rows ask) }

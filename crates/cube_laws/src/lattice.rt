@@ -1,12 +1,12 @@
-//! Cells under generalization: an order with a greatest lower bound of each two cells.
+//! Cells ordered by generalization. Each two cells have a greatest lower bound.
 ghost use Rattle.std.specs.Prelude.{IsTrue, List, [], length, suc, ℕ, ◌++◌, ◌↔◌, ◌∷◌, ◌≡◌, ◌≤◌};
 ghost use Rattle.cube_defs.specs.Cell.{Cell, cell_eq, depth, cell_front, last, leq, meet};
 ghost use Rattle.cube_defs.specs.Rows.{meet_all, meet_with};
 
 use super::values::Value;
 
-/// The generalization of cells is an order, and the test of two cells tells them apart
-/// (Lakshmanan, Pei, Han, VLDB 2002).
+/// Generalization is a partial order of cells, and the test for equal cells is exact (Lakshmanan,
+/// Pei, Han, VLDB 2002).
 pub fn cells_are_ordered<V: Value>()
     ensures reflexive { (c : Cell V) → IsTrue (leq V.eq c c) }
     ensures transitive { (c d e : Cell V) →
@@ -15,8 +15,8 @@ pub fn cells_are_ordered<V: Value>()
     ensures told_apart { (c d : Cell V) → IsTrue (cell_eq V.eq c d) ↔ (c ≡ d) }
 {}
 
-/// The meet of two cells is the greatest of the cells that are below both (Lakshmanan, Pei,
-/// Han, VLDB 2002).
+/// The meet of two cells is the most specific cell that generalizes both (Lakshmanan, Pei, Han,
+/// VLDB 2002).
 pub fn meet_is_the_greatest_lower_bound<V: Value>()
     ensures left { (c d : Cell V) → IsTrue (leq V.eq (meet V.eq c d) c) }
     ensures right { (c d : Cell V) → IsTrue (leq V.eq (meet V.eq c d) d) }
@@ -24,8 +24,8 @@ pub fn meet_is_the_greatest_lower_bound<V: Value>()
         IsTrue (leq V.eq b c) → IsTrue (leq V.eq b d) → IsTrue (leq V.eq b (meet V.eq c d)) }
 {}
 
-/// The meet in algebra: in whichever order cells are met, and how often. One cell is below
-/// another where it is their meet.
+/// The meet is commutative, associative and idempotent. A cell generalizes another if and only if
+/// it is the meet of both.
 pub fn meet_of_cells<V: Value>()
     ensures commutative { (c d : Cell V) → meet V.eq c d ≡ meet V.eq d c }
     ensures associative { (c d e : Cell V) →
@@ -34,8 +34,9 @@ pub fn meet_of_cells<V: Value>()
     ensures order { (c d : Cell V) → IsTrue (leq V.eq c d) ↔ (meet V.eq c d ≡ c) }
 {}
 
-/// The front of a cell is below it, of a greater cell the front is greater, and a cell is its
-/// own front up to its last value (Lakshmanan, Pei, Zhao, SIGMOD 2003).
+/// The prefix of a cell generalizes the cell. If a cell generalizes another, its prefix generalizes
+/// the other's. A cell is its own prefix through its last value (Lakshmanan, Pei, Zhao, SIGMOD
+/// 2003).
 pub fn fronts_of_cells<V: Value>()
     ensures below { (n : ℕ) (c : Cell V) → IsTrue (leq V.eq (cell_front n c) c) }
     ensures monotone { (n : ℕ) (c d : Cell V) →
@@ -43,8 +44,8 @@ pub fn fronts_of_cells<V: Value>()
     ensures whole { (c : Cell V) → cell_front (depth c) c ≡ c }
 {}
 
-/// The depth of a cell is one more than its last dimension with a value, or 0 where it has
-/// none; it is that of its front where the front ends (own).
+/// The depth of a cell is one more than its last dimension with a value, or 0 if it has no value. A
+/// prefix is also the cell's prefix at the prefix's own depth (own).
 pub fn depth_of_cells<V: Value>()
     ensures last { (c : Cell V) (j : ℕ) → last c ≡ Some j → depth c ≡ suc j }
     ensures none { (c : Cell V) → last c ≡ None → depth c ≡ 0 }
@@ -52,7 +53,7 @@ pub fn depth_of_cells<V: Value>()
     ensures front { (n : ℕ) (c : Cell V) → cell_front (depth (cell_front n c)) c ≡ cell_front n c }
 {}
 
-/// The meet of some cells and one more, put behind them, is the meet so far with it (own).
+/// The meet of a list with one more cell at its end is the list's meet, met with the cell (own).
 pub fn meet_of_one_cell_more<V: Value>()
     ensures { (cs : List (Cell V)) (c : Cell V) →
         meet_all V.eq (cs ++ c ∷ []) ≡ Some (meet_with V.eq (meet_all V.eq cs) c) }

@@ -1,5 +1,5 @@
-//! What one row more changes: `xs ++ ys` are the other rows, and `xs ++ r ∷ ys` are they and r.
-//! Read backwards it is what one row less changes.
+//! The changes by one more row: `xs ++ ys` are the other rows, and `xs ++ r ∷ ys` are they and r.
+//! Read backwards, they are the changes by one row less.
 ghost use Rattle.std.specs.Prelude.{IsTrue, List, [], false, pos, slice_index_or, suc, ℕ, ◌++◌, ◌+ℤ◌, ◌-ℤ◌, ◌<◌, ◌∷◌, ◌≡◌};
 ghost use Rattle.cube_defs.specs.Answers.{part};
 ghost use Rattle.cube_defs.specs.Cell.{Cell, cell_of, meet};
@@ -10,8 +10,9 @@ ghost use Rattle.std.specs.Int.{int_max, int_min};
 
 use super::values::Value;
 
-/// The closure of a cell after a row has come: the same where the cell does not cover it, the
-/// row itself where it covers no other row, and else the meet with the row (own).
+/// The closure of a cell after a row is inserted. It is unchanged if the cell doesn't cover the
+/// row. It is the row's tuple if the cell covers no other row. Else it is the meet of the old
+/// closure and the tuple (own).
 pub fn closure_with_one_row_more<V: Value>()
     ensures apart { (xs ys : List (Row V)) (r : Row V) (c : Cell V) → covers V.eq c r ≡ false →
         closure V.eq (xs ++ r ∷ ys) c ≡ closure V.eq (xs ++ ys) c }
@@ -23,8 +24,8 @@ pub fn closure_with_one_row_more<V: Value>()
         closure V.eq (xs ++ r ∷ ys) c ≡ Some (meet V.eq u (cell_of r.tuple)) }
 {}
 
-/// A cell that does not cover the row covers the same rows as before, and is an upper bound or
-/// a node exactly where it was (own).
+/// A cell that doesn't cover the row covers the same rows as before. It is an upper bound or a node
+/// if and only if it was before (own).
 pub fn what_does_not_cover_the_row_stays<V: Value>()
     ensures rows { (xs ys : List (Row V)) (r : Row V) (c : Cell V) → covers V.eq c r ≡ false →
         cov V.eq (xs ++ r ∷ ys) c ≡ cov V.eq (xs ++ ys) c }
@@ -34,9 +35,9 @@ pub fn what_does_not_cover_the_row_stays<V: Value>()
         is_node V.eq (xs ++ r ∷ ys) p ≡ is_node V.eq (xs ++ ys) p }
 {}
 
-/// The aggregate of a cell after a row has come: the same where the cell does not cover it,
-/// that of the row alone where it covers no other row, and else both put together: counts and
-/// sums added, the lesser of the least and the greater of the greatest (own).
+/// The aggregate of a cell after a row is inserted. It is unchanged if the cell doesn't cover the
+/// row. It is the row's aggregate if the cell covers no other row. Else both are combined: COUNT
+/// and SUM are added, and the lesser MIN and the greater MAX are taken (own).
 pub fn aggregate_with_one_row_more<V: Value>()
     ensures apart { (measures : ℕ) (xs ys : List (Row V)) (r : Row V) (c : Cell V) →
         covers V.eq c r ≡ false →
@@ -50,8 +51,8 @@ pub fn aggregate_with_one_row_more<V: Value>()
         ≡ combine (agg_of measures (r ∷ [])) (agg V.eq measures (xs ++ ys) c) }
 {}
 
-/// Each measure of a cell that covers the row and others: a row more in the count, the amount
-/// more in the sum, and the lesser and the greater of it and the others' (own).
+/// The measures of a cell that covers the row and others. COUNT is one more, and SUM is more by the
+/// amount. MIN and MAX are the lesser and the greater of the amount and the others' (own).
 pub fn measures_with_one_row_more<V: Value>()
     ensures count { (measures : ℕ) (xs ys : List (Row V)) (r : Row V) (c : Cell V) →
         IsTrue (covers V.eq c r) →
@@ -73,8 +74,8 @@ pub fn measures_with_one_row_more<V: Value>()
         ≡ int_max (slice_index_or r.amounts m (pos 0)) (part (agg V.eq measures (xs ++ ys) c) m).greatest }
 {}
 
-/// Each measure of a cell that covers the row that goes, and others: the sum is less by the
-/// amount, and the least and the greatest stay where the amount was not equal to them (own).
+/// The measures of a cell that covers the deleted row and others. SUM is less by the amount. MIN
+/// and MAX are unchanged if the amount wasn't equal to them (own).
 pub fn measures_with_one_row_less<V: Value>()
     ensures sum { (measures m : ℕ) (xs ys : List (Row V)) (r : Row V) (c u : Cell V) →
         m < measures →

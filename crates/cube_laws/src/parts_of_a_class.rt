@@ -1,4 +1,5 @@
-//! The rows that a cell with Any in a dimension covers, in parts by their values there.
+//! The parts of the rows that a cell with Any in a dimension covers, by their values in the
+//! dimension.
 ghost use Rattle.std.specs.Prelude.{IsTrue, List, length, slice_get, ℕ, ◌<◌, ◌≡◌};
 ghost use Rattle.std.specs.List.{IsDistinct};
 ghost use Rattle.cube_defs.specs.Cell.{Cell, leq, with_value};
@@ -10,8 +11,8 @@ ghost use Rattle.cube_laws.specs.Total.{agg_at, join_aggs, join_cells, total};
 
 use super::values::Value;
 
-/// The closure of a cell with Any in a dimension is the meet of the closures of its parts,
-/// those without rows left out (own).
+/// The closure of a cell with Any in a dimension is the meet of the closures of its parts. Parts
+/// without rows are left out (own).
 pub fn closure_by_parts<V: Value>()
     ensures { (rows : List (Row V)) (u : Cell V) (i : ℕ) (vs : List V) → slice_get u i ≡ Some None →
         IsDistinct V.eq vs → HasAll V.eq rows u i vs →
@@ -19,8 +20,8 @@ pub fn closure_by_parts<V: Value>()
         ≡ total (join_cells V.eq) None (λ v. closure V.eq rows (with_value u i v)) vs }
 {}
 
-/// The aggregate of a cell with Any in a dimension is those of its parts put together: counts
-/// and sums added, the least of the least and the greatest of the greatest (own).
+/// The aggregate of a cell with Any in a dimension combines those of its parts: COUNT and SUM are
+/// added, and the least MIN and the greatest MAX are taken (own).
 pub fn aggregate_by_parts<V: Value>()
     ensures { (measures : ℕ) (rows : List (Row V)) (u : Cell V) (i : ℕ) (vs : List V) →
         slice_get u i ≡ Some None →
@@ -29,8 +30,7 @@ pub fn aggregate_by_parts<V: Value>()
         ≡ total join_aggs None (λ v. agg_at V.eq measures rows (with_value u i v)) vs }
 {}
 
-/// The aggregate that parts are put together by is that of the cell where it covers some row,
-/// and nothing where it covers none.
+/// The aggregate by parts is that of the cell if it covers a row, and none if it covers no row.
 pub fn aggregate_where_rows_are_covered<V: Value>()
     ensures covered { (measures : ℕ) (rows : List (Row V)) (c u : Cell V) →
         closure V.eq rows c ≡ Some u →
@@ -39,8 +39,8 @@ pub fn aggregate_where_rows_are_covered<V: Value>()
         agg_at V.eq measures rows c ≡ None }
 {}
 
-/// The values that the rows have in a dimension, each once, are such values of parts, and so
-/// they are for each more specific cell and for fewer rows (own).
+/// The values that the rows have in a dimension, each once, give such parts. They also do for each
+/// more specific cell, and for fewer rows (own).
 pub fn column_parts_the_rows<V: Value>()
     ensures once { (rows : List (Row V)) (p : Cell V) (i : ℕ) → IsDistinct V.eq (values_at V.cmp rows p i) }
     ensures enough { (rows some : List (Row V)) (p u : Cell V) (i : ℕ) → IsTrue (leq V.eq p u) →

@@ -1,5 +1,5 @@
-//! Other values for the values of each dimension, as codes for texts: what is known of the one
-//! holds of the other, if no two known values of a dimension have one code.
+//! Recoding replaces the values of each dimension by others, such as texts by codes. If no two
+//! known values of a dimension have one code, facts about cells hold for their codes too.
 ghost use Rattle.std.specs.Prelude.{Bool, List, map, ℕ, ◌↔◌, ◌≡◌};
 ghost use Rattle.cube_defs.specs.Answers.{Ask, Box, ClassHit, Hit, iceberg, lower_bounds, range};
 ghost use Rattle.cube_defs.specs.Cell.{Cell, leq, meet};
@@ -11,7 +11,7 @@ ghost use Rattle.std.specs.Option.{option_map};
 
 use super::values::Value;
 
-/// The codes of cells are ordered, and meet, as the cells do (own).
+/// The codes of cells have the order and the meets of the cells (own).
 pub fn cells_under_recoding<A: Value, B: Value>()
     ensures order { (known : ℕ → A → Bool) (codes : ℕ → A → B) → TellsApart known codes →
         (c d : Cell A) → AreKnown known 0 c → AreKnown known 0 d →
@@ -24,8 +24,8 @@ pub fn cells_under_recoding<A: Value, B: Value>()
         coded_cell codes 0 c ≡ coded_cell codes 0 d → c ≡ d }
 {}
 
-/// The rows that a code covers are the codes of the rows that the cell covers, and its closure
-/// is the code of the cell's (own).
+/// The code of a cell covers exactly the codes of the rows that the cell covers. The closure of the
+/// code is the code of the closure (own).
 pub fn closure_under_recoding<A: Value, B: Value>()
     ensures rows { (known : ℕ → A → Bool) (codes : ℕ → A → B) → TellsApart known codes →
         (rows : List (Row A)) (c : Cell A) → RowsAreKnown known rows → AreKnown known 0 c →
@@ -41,7 +41,7 @@ pub fn closure_under_recoding<A: Value, B: Value>()
         agg B.eq measures (map (coded_row codes) rows) (coded_cell codes 0 c) ≡ agg A.eq measures rows c }
 {}
 
-/// A code is an upper bound, a node or a lower bound exactly where the cell is (own).
+/// The code of a cell is an upper bound, a node or a lower bound if and only if the cell is (own).
 pub fn classes_under_recoding<A: Value, B: Value>()
     ensures upper_bound { (known : ℕ → A → Bool) (codes : ℕ → A → B) → TellsApart known codes →
         (rows : List (Row A)) (u : Cell A) → RowsAreKnown known rows → AreKnown known 0 u →
@@ -56,9 +56,8 @@ pub fn classes_under_recoding<A: Value, B: Value>()
         ≡ is_lower_bound A.eq rows u c }
 {}
 
-/// The cells that cover coded rows are the codes of those that cover the rows, and so it is for
-/// the upper bounds, the nodes and the lower bounds of a class; their order is that of the
-/// codes (own).
+/// The cells that cover coded rows are the codes of the cells that cover the rows. The same holds
+/// for upper bounds, nodes and the lower bounds of a class. Their order is that of the codes (own).
 pub fn lists_under_recoding<A: Value, B: Value>()
     ensures covered { (known : ℕ → A → Bool) (codes : ℕ → A → B) → TellsApart known codes →
         (rows : List (Row A)) (d : Cell B) → RowsAreKnown known rows →
@@ -79,8 +78,8 @@ pub fn lists_under_recoding<A: Value, B: Value>()
         ↔ ((c : Cell A) × Among c (lower_bounds A.cmp rows u) × (d ≡ coded_cell codes 0 c)) }
 {}
 
-/// Among rows of known values a cell that covers a row has known values alone, and a value that
-/// is not known can be left out of a box (own).
+/// If a cell covers a row, and all values of the rows are known, the cell has known values only. So
+/// unknown values can be left out of a box (own).
 pub fn unknown_values_cover_nothing<A: Value>()
     ensures cells { (known : ℕ → A → Bool) (rows : List (Row A)) (c u : Cell A) →
         RowsAreKnown known rows → closure A.eq rows c ≡ Some u → AreKnown known 0 c }
@@ -91,8 +90,8 @@ pub fn unknown_values_cover_nothing<A: Value>()
         BoxIsKnown known 0 (known_box known 0 box) }
 {}
 
-/// The hits of a coded box are the codes of the hits of the box, if the values of the box are
-/// known; their order is that of the codes (own).
+/// If the values of a box are known, the hits of the coded box are the codes of the box's hits.
+/// Their order is that of the codes (own).
 pub fn range_under_recoding<A: Value, B: Value>()
     ensures { (known : ℕ → A → Bool) (codes : ℕ → A → B) → TellsApart known codes →
         (measures : ℕ) (rows : List (Row A)) (box : Box A) (hit : Hit B) →
@@ -102,9 +101,9 @@ pub fn range_under_recoding<A: Value, B: Value>()
         × (hit ≡ coded_hit codes found)) }
 {}
 
-/// The classes of an iceberg answer over coded rows are those of the answer over the rows, with
-/// the same aggregates and the codes of the same lower bounds; classes of one value, and lower
-/// bounds, may stand in another order (own).
+/// An iceberg answer over coded rows has the same classes and aggregates as the answer over the
+/// rows, and the codes of the same lower bounds. Classes of equal value, and lower bounds, may be
+/// in another order (own).
 pub fn iceberg_under_recoding<A: Value, B: Value>()
     ensures no_more { (known : ℕ → A → Bool) (codes : ℕ → A → B) → TellsApart known codes →
         (measures : ℕ) (rows : List (Row A)) (ask : Ask) (hit : ClassHit B) →

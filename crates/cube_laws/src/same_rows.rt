@@ -1,4 +1,4 @@
-//! Rows with the same tuples, in whichever order they stand and how often.
+//! Rows with the same tuples, in any order and with any repetition.
 ghost use Rattle.std.specs.Prelude.{List, ℕ, ◌++◌, ◌∷◌, ◌≡◌};
 ghost use Rattle.cube_defs.specs.Cell.{Cell};
 ghost use Rattle.cube_defs.specs.Rows.{Row, agg, closure, is_class, is_node};
@@ -21,14 +21,14 @@ pub fn order_and_repetition_of_rows<V: Value>()
         is_node V.eq rows p ≡ is_node V.eq more p }
 {}
 
-/// The aggregate of a cell is the same in whichever order the rows stand (own).
+/// The aggregate of a cell doesn't depend on the order of the rows (own).
 pub fn aggregates_in_any_order<V: Value>()
     ensures { (measures : ℕ) (rows more : List (Row V)) (c : Cell V) → Reordered rows more →
         agg V.eq measures more c ≡ agg V.eq measures rows c }
 {}
 
-/// The cells that cover some row, the upper bounds and the nodes, in cell order, are the same
-/// lists for rows with the same tuples (own).
+/// Rows with the same tuples have the same lists, in cell order, of covered cells, upper bounds and
+/// nodes (own).
 pub fn lists_of_cells_in_order<V: Value>()
     ensures covered { (rows more : List (Row V)) → TuplesAmong rows more → TuplesAmong more rows →
         covered V.cmp rows ≡ covered V.cmp more }
@@ -38,8 +38,8 @@ pub fn lists_of_cells_in_order<V: Value>()
         nodes V.cmp rows ≡ nodes V.cmp more }
 {}
 
-/// A row more or less of a tuple that another row has changes no closure, so no upper bound and
-/// no node (own).
+/// If another row has the same tuple, inserting or deleting a row changes no closure, and so no
+/// upper bound and no node (own).
 pub fn second_row_of_a_tuple<V: Value>()
     ensures { (xs ys : List (Row V)) (r s : Row V) (c : Cell V) → Among s (xs ++ ys) →
         s.tuple ≡ r.tuple →

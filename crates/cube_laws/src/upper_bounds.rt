@@ -7,8 +7,7 @@ ghost use Rattle.cube_laws.specs.Tuples.{cells_of};
 
 use super::values::Value;
 
-/// The upper bounds are the meets of some rows, one at least, and no other cells (Lakshmanan,
-/// Pei, Han, VLDB 2002).
+/// The upper bounds are exactly the meets of one or more rows (Lakshmanan, Pei, Han, VLDB 2002).
 pub fn upper_bounds_are_meets_of_rows<V: Value>()
     ensures meets { (rows some : List (Row V)) (u : Cell V) →
         ((r : Row V) → Among r some → Among r rows) →
@@ -18,8 +17,7 @@ pub fn upper_bounds_are_meets_of_rows<V: Value>()
         × (meet_all V.eq (cells_of some) ≡ Some u) }
 {}
 
-/// The nodes are the fronts of the upper bounds, and no other cells (Lakshmanan, Pei, Zhao,
-/// SIGMOD 2003).
+/// The nodes are exactly the prefixes of the upper bounds (Lakshmanan, Pei, Zhao, SIGMOD 2003).
 pub fn nodes_are_fronts_of_upper_bounds<V: Value>()
     ensures fronts { (rows : List (Row V)) (n : ℕ) (u : Cell V) →
         IsTrue (is_class V.eq rows u) → IsTrue (is_node V.eq rows (cell_front n u)) }
@@ -27,7 +25,7 @@ pub fn nodes_are_fronts_of_upper_bounds<V: Value>()
         (u : Cell V) × IsTrue (is_class V.eq rows u) × (cell_front (depth p) u ≡ p) }
 {}
 
-/// A row more, wherever it stands, takes no upper bound away and no node; so a row less adds
+/// An inserted row removes no upper bound and no node, wherever it stands. So a deleted row adds
 /// none (own).
 pub fn upper_bounds_stay_as_a_row_comes<V: Value>()
     ensures classes { (xs ys : List (Row V)) (r : Row V) (u : Cell V) →
@@ -36,8 +34,8 @@ pub fn upper_bounds_stay_as_a_row_comes<V: Value>()
         IsTrue (is_node V.eq (xs ++ ys) p) → IsTrue (is_node V.eq (xs ++ r ∷ ys) p) }
 {}
 
-/// The tuple of a row is an upper bound, the most specific of its rows'; it covers the rows of
-/// this tuple alone (own).
+/// The tuple of a row is an upper bound, the most specific one that covers the row. It covers only
+/// the rows of this tuple (own).
 pub fn tuples_of_rows_are_upper_bounds<V: Value>()
     ensures upper_bound { (rows : List (Row V)) (r : Row V) → Among r rows →
         IsTrue (is_class V.eq rows (cell_of r.tuple)) }

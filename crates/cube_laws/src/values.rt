@@ -1,8 +1,8 @@
 //! The values of a base table.
 ghost use Rattle.std.specs.FinMap.{IsAntisymmetric, nat_cmp-IsAntisymmetric, slice_cmp-IsAntisymmetric};
 
-/// A type of values whose order tells them apart. Each law of this crate holds over every such
-/// type.
+/// A type of values with a total order: only equal values compare as equal. Each law of this crate
+/// holds over every such type.
 pub trait Value: Ord {
     /// Values that compare as equal are the same.
     ghost apart: { IsAntisymmetric Self.cmp };

@@ -1,4 +1,4 @@
-//! How one other row of a class, and a few counts, settle its new closure as a row goes,
+//! How a few counts and one other row of a class settle its new closure when a row is deleted,
 //! without a look at all its parts.
 ghost use Rattle.std.specs.Prelude.{IsTrue, List, false, length, slice_get, suc, ℕ, ◌++◌, ◌<◌, ◌↔◌, ◌∷◌, ◌≡◌, ◌≤◌};
 ghost use Rattle.cube_defs.specs.Cell.{Cell, leq, with_value};
@@ -10,8 +10,8 @@ ghost use Rattle.cube_laws.specs.Total.{agg_at};
 
 use super::values::Value;
 
-/// A greater cell covers fewer rows, or the same. How many rows a cell with a value more covers
-/// tells whether that value is the closure's (own).
+/// A more specific cell covers no more rows. The closure has a value in a dimension of Any if and
+/// only if adding the value keeps the count (own).
 pub fn counts_of_cells<V: Value>()
     ensures fewer { (rows : List (Row V)) (c d : Cell V) → IsTrue (leq V.eq c d) →
         count V.eq rows d ≤ count V.eq rows c }
@@ -23,8 +23,8 @@ pub fn counts_of_cells<V: Value>()
         (slice_get w k ≡ Some (Some v)) ↔ (count V.eq rows (with_value u k v) ≡ count V.eq rows u) }
 {}
 
-/// A greater cell that covers all rows of a class but the row that goes says before what the
-/// class says afterwards (own).
+/// If a more specific cell covers all rows of a class but the deleted one, its old closure and
+/// aggregate are the class's new ones (own).
 pub fn heir_of_a_class<V: Value>()
     ensures closure { (xs ys : List (Row V)) (r : Row V) (u c : Cell V) → IsTrue (covers V.eq u r) →
         IsTrue (leq V.eq u c) → covers V.eq c r ≡ false →
@@ -37,8 +37,8 @@ pub fn heir_of_a_class<V: Value>()
         agg_at V.eq measures (xs ++ ys) u ≡ agg_at V.eq measures (xs ++ r ∷ ys) c }
 {}
 
-/// A class with Any in a dimension has, for each value, a row with another one there; a cell
-/// that covers a row, and some row with a value that this one does not have, covers two (own).
+/// A class with Any in a dimension has, for each value, a row with another value there. A cell that
+/// covers a row, and a row with a value that the first doesn't have, covers at least two (own).
 pub fn witness_of_a_class<V: Value>()
     ensures there { (rows : List (Row V)) (n : ℕ) (u : Cell V) (i : ℕ) (t : V) →
         closure V.eq rows u ≡ Some u →
@@ -51,9 +51,9 @@ pub fn witness_of_a_class<V: Value>()
         closure V.eq (xs ++ r ∷ ys) (with_value u i v) ≡ Some z → 2 ≤ count V.eq (xs ++ r ∷ ys) u }
 {}
 
-/// The values that a class gets as a row goes: each stands in the closure of every greater cell
-/// that does not cover the row, none is the row's own, and the counts before tell which they
-/// are (own).
+/// The values that a class gains when a row is deleted. Each is in the closure of every more
+/// specific cell that covers rows but not this one. None is the row's own, and the counts before
+/// the deletion determine them (own).
 pub fn new_values_of_a_class<V: Value>()
     ensures from_a_witness { (xs ys : List (Row V)) (r : Row V) (u c z w : Cell V) (k : ℕ) (v : V) →
         IsTrue (leq V.eq u c) → covers V.eq c r ≡ false → closure V.eq (xs ++ r ∷ ys) c ≡ Some z →
@@ -78,8 +78,8 @@ pub fn new_values_of_a_class<V: Value>()
         count V.eq (xs ++ ys) d ≡ 0 }
 {}
 
-/// A class stays one as a row goes where no value of a witness stands in all its other rows
-/// (own).
+/// A class stays a class when a row is deleted, if no value of a witness is shared by all its other
+/// rows (own).
 pub fn class_that_stays<V: Value>()
     ensures { (n : ℕ) (xs ys : List (Row V)) (r : Row V) (u c z : Cell V) →
         ((s : Row V) → Among s (xs ++ r ∷ ys) → length s.tuple ≡ n) →
