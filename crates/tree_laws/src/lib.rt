@@ -1,5 +1,6 @@
-//! The laws of the canonical tree, over any type of values. Each is the contract of a function that has
-//! nothing to do. What they speak of stands in the definitions of `cube_defs` and in this crate's `specs/`.
+//! The laws of the canonical tree, over any type of values. Each is the contract of a function with
+//! an empty body. Their terms are defined in `cube_defs` and in this crate's `specs/`. A law marked
+//! (own) is this project's own.
 #![tactic(auto)]
 
 pub mod apart_from_a_row;

@@ -1,5 +1,5 @@
-//! What changes at the nodes that cover a row that comes or goes: `xs ++ ys` are the other rows, and
-//! `xs ++ r ∷ ys` are they and r. All of it is this project's own.
+//! The changes at the nodes that cover an inserted or deleted row: `xs ++ ys` are the other rows,
+//! and `xs ++ r ∷ ys` are they and r. All of it is this project's own.
 ghost use Rattle.std.specs.Option.{option_map};
 ghost use Rattle.std.specs.Ordering.{eq_by_cmp};
 ghost use Rattle.std.specs.Prelude.{IsTrue, List, None, Some, length, min, slice_get, ℕ, ◌++◌, ◌<◌, ◌≤◌, ◌↔◌, ◌∷◌, ◌≡◌, ◌≢◌};
@@ -11,8 +11,8 @@ ghost use Rattle.tree_laws.specs.Labels.{IsWithin, first_new, target_of_label, t
 
 use cube_laws::values::Value;
 
-/// A label with another value than the row's leads where it led before. The label with the row's
-/// value leads to what the old target and the row share, or to the row's front where it led nowhere.
+/// If a label's value isn't the row's, its target stays. The label with the row's value leads to
+/// what the old target and the row share. If there was no target, it leads to the row's prefix.
 pub fn labels_with_one_row_more<V: Value>()
     ensures other { (xs ys : List (Row V)) (r : Row V) (p : Cell V) (i : ℕ) (v : V) → IsTrue (covers (eq_by_cmp V.cmp) p r) →
         depth p ≤ i → i < length p → slice_get r.tuple i ≢ Some v →
@@ -23,8 +23,8 @@ pub fn labels_with_one_row_more<V: Value>()
         ≡ Some (target_after_row (eq_by_cmp V.cmp) (target_of_label (eq_by_cmp V.cmp) (xs ++ ys) p i v) (cell_of r.tuple) i) }
 {}
 
-/// The labels of a node in a dimension behind its record's are those of the node that its closure has
-/// as front there, whose record has them.
+/// In each later dimension, a node has the same labels as the prefix of its closure before that
+/// dimension. The record of that prefix has them.
 pub fn labels_along_the_closure<V: Value>()
     ensures same { (rows : List (Row V)) (p u : Cell V) (i : ℕ) (v : V) → closure (eq_by_cmp V.cmp) rows p ≡ Some u →
         depth p ≤ i → i < length p → i < length u →
@@ -39,9 +39,9 @@ pub fn labels_along_the_closure<V: Value>()
         IsTrue (covers (eq_by_cmp V.cmp) (cell_front i u) r) → cell_front i u ≡ p }
 {}
 
-/// The edges of a node's record after a row has come, by the records before: with another value than the
-/// row's those of the node that its old closure has as front in their dimension, and with the row's
-/// value the one that leads to what that node's old target and the row share.
+/// The edges of a node's record after an insertion. They follow from the old record at the prefix
+/// of the node's old closure before the edge's dimension. If the value isn't the row's, the edge is
+/// that record's. If it is, the edge leads to what the old target and the row share.
 pub fn edges_with_one_row_more<V: Value>()
     ensures other { (measures : ℕ) (xs ys : List (Row V)) (r : Row V) (p u : Cell V) (x : Edge V (Cell V)) →
         IsTrue (covers (eq_by_cmp V.cmp) p r) → closure (eq_by_cmp V.cmp) (xs ++ ys) p ≡ Some u →
@@ -60,8 +60,8 @@ pub fn edges_with_one_row_more<V: Value>()
         (target_of_label (eq_by_cmp V.cmp) (xs ++ ys) (cell_front x.dim u) x.dim x.value) (cell_of r.tuple) x.dim ≡ x.target)) }
 {}
 
-/// After a row has gone, a label leads to the front of the closure that its old target has now, where
-/// it covers a row still, and a label that led nowhere leads nowhere.
+/// After a deletion, a label leads to the prefix of its old target's new closure, if the old target
+/// still covers a row. A label without a target gets none.
 pub fn labels_with_one_row_less<V: Value>()
     ensures leads { (xs ys : List (Row V)) (r : Row V) (p c : Cell V) (i : ℕ) (v : V) → depth p ≤ i → i < length p →
         target_of_label (eq_by_cmp V.cmp) (xs ++ r ∷ ys) p i v ≡ Some c →
@@ -70,9 +70,9 @@ pub fn labels_with_one_row_less<V: Value>()
         target_of_label (eq_by_cmp V.cmp) (xs ++ r ∷ ys) p i v ≡ None → target_of_label (eq_by_cmp V.cmp) (xs ++ ys) p i v ≡ None }
 {}
 
-/// The edges of a node's record after a row that it covers has gone, by its record before: those with
-/// another value than the row's that are within its new reach, and those that lead from an old target
-/// to the front of the closure that this has now.
+/// The edges of a node's record after the deletion of a row that it covers, from the old record.
+/// Each leads to the prefix of its old target's new closure. An edge within the node's new reach
+/// stays if its value isn't the row's.
 pub fn edges_with_one_row_less<V: Value>()
     ensures reach { (xs ys : List (Row V)) (r : Row V) (p u w : Cell V) → IsTrue (covers (eq_by_cmp V.cmp) p r) →
         closure (eq_by_cmp V.cmp) (xs ++ r ∷ ys) p ≡ Some u → closure (eq_by_cmp V.cmp) (xs ++ ys) p ≡ Some w →
@@ -94,7 +94,7 @@ pub fn edges_with_one_row_less<V: Value>()
         × (option_map (λ z. upto z x.dim) (closure (eq_by_cmp V.cmp) (xs ++ ys) t) ≡ Some x.target)) }
 {}
 
-/// Which cells that cover the row are nodes after it has come.
+/// Which cells that cover the inserted row are nodes afterwards.
 pub fn nodes_with_one_row_more<V: Value>()
     ensures alone { (xs ys : List (Row V)) (r : Row V) (p : Cell V) → IsTrue (covers (eq_by_cmp V.cmp) p r) →
         closure (eq_by_cmp V.cmp) (xs ++ ys) p ≡ None →
@@ -105,8 +105,9 @@ pub fn nodes_with_one_row_more<V: Value>()
         ↔ (cell_front (depth p) (meet (eq_by_cmp V.cmp) u (cell_of r.tuple)) ≡ p) }
 {}
 
-/// A node whose closure grows as rows go stays a node just where the first value that the closure
-/// gains stands behind the node's last, and its forced child stands there at the latest.
+/// A node whose closure gains values by deletions stays a node if and only if the first gained
+/// value comes after the node's last value. Its forced child is then in that dimension or an
+/// earlier one.
 pub fn nodes_with_rows_less<V: Value>()
     ensures node { (before after : List (Row V)) (p u w : Cell V) → IsTrue (is_node (eq_by_cmp V.cmp) before p) →
         closure (eq_by_cmp V.cmp) before p ≡ Some u → closure (eq_by_cmp V.cmp) after p ≡ Some w →

@@ -1,6 +1,6 @@
-//! Other values for the values of each dimension, as codes for texts: the tree over the codes is the
-//! tree over the values, if no two known values of a dimension have one code. All of it is this
-//! project's own.
+//! Recoding replaces the values of each dimension by others, such as texts by codes. If no two
+//! known values of a dimension have one code, the tree over the codes is the tree over the values.
+//! All of it is this project's own.
 ghost use Rattle.std.specs.List.{AllByRecursion};
 ghost use Rattle.std.specs.Ordering.{eq_by_cmp};
 ghost use Rattle.std.specs.Prelude.{Bool, IsTrue, List, Some, length, map, ℕ, ◌≡◌};
@@ -13,8 +13,8 @@ ghost use Rattle.tree_laws.specs.Edges.{IsCodedNode};
 
 use cube_laws::values::Value;
 
-/// The record of a node's code among coded rows is the record of the node under its code; its edges
-/// stand in the order of the codes.
+/// The record of a node's code among coded rows is the node's record in codes. Its edges are in the
+/// order of the codes.
 pub fn records_under_recoding<A: Value, B: Value>()
     ensures { (known : ℕ → A → Bool) (codes : ℕ → A → B) → TellsApart known codes →
         (measures : ℕ) (rows : List (Row A)) (p : Cell A) (n : Node A (Cell A)) →
@@ -23,7 +23,7 @@ pub fn records_under_recoding<A: Value, B: Value>()
         (m : Node B (Cell B)) × (node_of B.cmp measures (map (coded_row codes) rows) (coded_cell codes 0 p) ≡ Some m) × IsCodedNode codes n m }
 {}
 
-/// Coded rows have as many classes, nodes, tree edges and links as the rows.
+/// Coded rows have as many classes, nodes, tree edges and links as the rows have.
 pub fn counts_under_recoding<A: Value, B: Value>()
     ensures classes { (known : ℕ → A → Bool) (codes : ℕ → A → B) → TellsApart known codes →
         (rows : List (Row A)) → RowsAreKnown known rows →
@@ -39,8 +39,8 @@ pub fn counts_under_recoding<A: Value, B: Value>()
         links B.cmp (map (coded_row codes) rows) ≡ links A.cmp rows }
 {}
 
-/// The lower bounds of a coded class are the codes of its lower bounds, in the same order, since each
-/// has the class's values alone.
+/// The lower bounds of a coded class are the codes of the class's lower bounds, in the same order.
+/// Each has values of the class alone.
 pub fn lower_bounds_under_recoding<A: Value, B: Value>()
     ensures { (known : ℕ → A → Bool) (codes : ℕ → A → B) → TellsApart known codes →
         (dims : ℕ) (rows : List (Row A)) (u : Cell A) → RowsAreKnown known rows →

@@ -1,4 +1,4 @@
-//! The canonical tree is told by its rows, but for the numbers of its nodes.
+//! The rows determine the canonical tree, except for the numbers of its nodes.
 ghost use Rattle.std.specs.List.{AllByRecursion};
 ghost use Rattle.std.specs.Option.{option_map};
 ghost use Rattle.std.specs.Ordering.{eq_by_cmp};
@@ -12,16 +12,16 @@ ghost use Rattle.tree_laws.specs.Renaming.{IsRenaming, shape};
 
 use cube_laws::values::Value;
 
-/// Two canonical trees of the same rows are equal up to the numbers of their nodes (Lakshmanan, Pei,
-/// Zhao, SIGMOD 2003).
+/// Two canonical trees of the same rows are equal, except for the numbers of their nodes
+/// (Lakshmanan, Pei, Zhao, SIGMOD 2003).
 pub fn trees_of_the_same_rows<V: Value>()
     ensures { (measures : ℕ) (rows : List (Row V)) (tree other : Tree V) →
         IsCanonical V.cmp measures rows tree → IsCanonical V.cmp measures rows other →
         (name : ℕ → ℕ) × IsRenaming name tree other }
 {}
 
-/// Rows with the same tuples, in whichever order they stand and how often, have the same records but
-/// for what the rows come to, and wherever this is the same too, the same records (own).
+/// Rows with the same tuples, in any order and with any repetition, have the same records except
+/// for the aggregates. If the aggregates are the same too, so are the whole records (own).
 pub fn records_of_the_same_tuples<V: Value>()
     ensures shapes { (measures : ℕ) (rows more : List (Row V)) (p : Cell V) → TuplesAmong rows more → TuplesAmong more rows →
         option_map shape (node_of V.cmp measures rows p) ≡ option_map shape (node_of V.cmp measures more p) }
@@ -30,7 +30,7 @@ pub fn records_of_the_same_tuples<V: Value>()
         node_of V.cmp measures rows p ≡ node_of V.cmp measures more p }
 {}
 
-/// In whichever order the rows stand, they have the same records and the same canonical trees (own).
+/// Rows in any order have the same records and the same canonical trees (own).
 pub fn rows_in_any_order<V: Value>()
     ensures records { (measures : ℕ) (rows more : List (Row V)) (p : Cell V) → Reordered rows more →
         node_of V.cmp measures rows p ≡ node_of V.cmp measures more p }
@@ -38,7 +38,7 @@ pub fn rows_in_any_order<V: Value>()
         IsCanonical V.cmp measures rows tree ↔ IsCanonical V.cmp measures more tree }
 {}
 
-/// Rows that all have as many values as there are dimensions have a canonical tree (own).
+/// If all rows have as many values as there are dimensions, they have a canonical tree (own).
 pub fn rows_have_a_tree<V: Value>()
     ensures { (dims measures : ℕ) (rows : List (Row V)) → AllByRecursion (λ row. length row.tuple ≡ dims) rows →
         (tree : Tree V) × IsCanonical V.cmp measures rows tree }

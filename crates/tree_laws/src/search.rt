@@ -1,6 +1,6 @@
-//! How a search walks the canonical tree: from the root through the dimensions in order. At a node
-//! whose forced child lies in the dimension at hand it goes there, unless another value is asked; else
-//! it stays where Any is asked, and follows the edge with the asked value. This walk is this project's
+//! A search in the canonical tree. It goes from the root through the dimensions in order. If the
+//! node's forced child is in the dimension, the search goes there, unless another value is asked.
+//! Else it stays for Any, and follows the edge with the asked value. This search is this project's
 //! own; trees of classes are those of Lakshmanan, Pei, Zhao, SIGMOD 2003.
 ghost use Rattle.std.specs.FinMap as map;
 ghost use Rattle.std.specs.List.{AllByRecursion};
@@ -17,8 +17,8 @@ ghost use Rattle.tree_laws.specs.Walk.{climb, closure_front, walk, walk_on};
 
 use cube_laws::values::Value;
 
-/// From the root a search comes to the node of the cell's closure, and it comes nowhere exactly where
-/// the cell covers no row. Where there is no root, no cell covers a row.
+/// A search from the root finds the node of the cell's closure. It finds none if and only if the
+/// cell covers no row. If there is no root, no cell covers a row.
 pub fn search_finds_the_closure<V: Value>()
     ensures found { (dims measures : ℕ) (rows : List (Row V)) (tree : Tree V) (root : ℕ) (c : Cell V) →
         AllByRecursion (λ row. length row.tuple ≡ dims) rows → IsCanonical V.cmp measures rows tree →
@@ -31,8 +31,8 @@ pub fn search_finds_the_closure<V: Value>()
         closure (eq_by_cmp V.cmp) rows c ≡ None }
 {}
 
-/// One dimension of a search leads from the front of the closure of the cell's first entries to the
-/// front that is one dimension longer, and nowhere exactly where those entries cover no row.
+/// One step of a search goes from the prefix of the closure of the cell's first entries to the
+/// prefix with one dimension more. It finds none if and only if those entries cover no row.
 pub fn one_dimension_of_a_search<V: Value>()
     ensures { (dims measures : ℕ) (rows : List (Row V)) (tree : Tree V) (k : ℕ) (n : Node V ℕ) (c : Cell V) (i : ℕ) (a : Option V) →
         AllByRecursion (λ row. length row.tuple ≡ dims) rows → IsCanonical V.cmp measures rows tree →
@@ -42,7 +42,7 @@ pub fn one_dimension_of_a_search<V: Value>()
         ≡ option_map (λ d. Some d) (closure_front (eq_by_cmp V.cmp) rows c (suc i)) }
 {}
 
-/// At the node of a cell's closure stands the cell's aggregate.
+/// The node of a cell's closure has the cell's aggregate.
 pub fn answer_at_the_closure<V: Value>()
     ensures { (dims measures : ℕ) (rows : List (Row V)) (tree : Tree V) (k : ℕ) (n : Node V ℕ) (c : Cell V) →
         AllByRecursion (λ row. length row.tuple ≡ dims) rows → IsCanonical V.cmp measures rows tree →
@@ -50,8 +50,8 @@ pub fn answer_at_the_closure<V: Value>()
         n.class ≡ Some (agg (eq_by_cmp V.cmp) measures rows c) }
 {}
 
-/// On the way up from a node, the last values of the nodes put into the cell of Any alone give the
-/// node's cell; each parent has the cell without its last value, and the root has none.
+/// On the way up from a node, the last values of the nodes make up the node's cell. Each parent has
+/// the cell without its last value, and the root has no parent.
 pub fn way_up_to_the_root<V: Value>()
     ensures cell { (dims measures : ℕ) (rows : List (Row V)) (tree : Tree V) (k : ℕ) (n : Node V ℕ) →
         AllByRecursion (λ row. length row.tuple ≡ dims) rows → IsCanonical V.cmp measures rows tree →
@@ -65,7 +65,7 @@ pub fn way_up_to_the_root<V: Value>()
         map.get tree k ≡ Some n → depth n.cell ≡ 0 → n.parent ≡ None }
 {}
 
-/// The lower bounds of a class are those of the cells below it that pass the test, in cell order.
+/// The lower bounds of a class are the cells that generalize it and pass the test, in cell order.
 pub fn lower_bounds_below_a_class<V: Value>()
     ensures bounds { (dims : ℕ) (rows : List (Row V)) (u : Cell V) → AllByRecursion (λ row. length row.tuple ≡ dims) rows →
         length u ≡ dims →
