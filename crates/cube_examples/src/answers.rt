@@ -1,4 +1,4 @@
-//! Answers to ranges and icebergs over the shop's rows.
+//! Answers to range and iceberg queries over the shop's rows.
 
 ghost use Rattle.std.specs.Prelude.{◌≡◌, Some, None, [], ◌∷◌, pos, negsuc};
 ghost use Rattle.std.specs.Ordering.{nat_cmp};
@@ -26,8 +26,8 @@ pub fn iceberg_by_count()
     ensures { iceberg nat_cmp 1 (base shop_codes) count_two ≡ twos shop_codes }
 {}
 
-/// The classes with a mean of at least 15/2, falling, the three equal ones in cell order, and the equal
-/// one at the end.
+/// The classes with a mean of at least 15/2, falling. Three classes have the mean 9 and are in cell
+/// order. The class with the mean 15/2 is the last.
 pub fn iceberg_by_mean()
     ensures { iceberg nat_cmp 1 (base shop_codes) mean_high ≡ high_means shop_codes }
 {}

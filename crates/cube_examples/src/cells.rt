@@ -8,7 +8,7 @@ ghost use Rattle.cube_defs.specs.Cell.{last, depth, upto, with_value, without, l
 ghost use Rattle.cube_examples.specs.Shop.{any};
 ghost use Rattle.cube_examples.specs.Codes.{code_cell};
 
-/// The greatest dimension with a value.
+/// The last dimension with a value.
 pub fn last_dimension()
     ensures none { last (code_cell any any any) ≡ None }
     ensures middle { last (code_cell (Some 3) (Some 5) any) ≡ Some 1 }
@@ -16,7 +16,7 @@ pub fn last_dimension()
     ensures depth { depth (code_cell any (Some 5) any) ≡ 2 }
 {}
 
-/// The values up to a dimension, one value more, and one less.
+/// The prefix of a cell, a cell with one more value, and a cell with one less.
 pub fn parts_of_a_cell()
     ensures upto_middle { upto (code_cell (Some 3) any (Some 7)) 1 ≡ code_cell (Some 3) any any }
     ensures upto_last { upto (code_cell (Some 3) any (Some 7)) 2 ≡ code_cell (Some 3) any (Some 7) }
@@ -24,7 +24,7 @@ pub fn parts_of_a_cell()
     ensures fewer { without (code_cell (Some 3) (Some 5) any) 0 ≡ code_cell any (Some 5) any }
 {}
 
-/// A cell is at most another where the other has each of its values.
+/// A cell generalizes another if the other has each of its values.
 pub fn order_of_cells()
     ensures more_general { leq (eq_by_cmp nat_cmp) (code_cell any (Some 5) any) (code_cell (Some 3) (Some 5) any) ≡ true }
     ensures more_special { leq (eq_by_cmp nat_cmp) (code_cell (Some 3) (Some 5) any) (code_cell any (Some 5) any) ≡ false }
@@ -37,14 +37,15 @@ pub fn meet_of_cells()
     ensures { meet (eq_by_cmp nat_cmp) (code_cell (Some 3) (Some 5) any) (code_cell (Some 3) (Some 6) (Some 7)) ≡ code_cell (Some 3) any any }
 {}
 
-/// Two cells are equal where all their entries are.
+/// Two cells are equal if all their entries are.
 pub fn equality_of_cells()
     ensures same { cell_eq (eq_by_cmp nat_cmp) (code_cell (Some 3) any (Some 7)) (code_cell (Some 3) any (Some 7)) ≡ true }
     ensures other_value { cell_eq (eq_by_cmp nat_cmp) (code_cell (Some 3) any (Some 7)) (code_cell (Some 3) any (Some 8)) ≡ false }
     ensures any_is_none { cell_eq (eq_by_cmp nat_cmp) (code_cell (Some 3) any any) (code_cell (Some 3) any (Some 0)) ≡ false }
 {}
 
-/// Cell order goes by the first dimension that differs, Any before each value.
+/// Cell order compares in the first dimension in which the cells differ. Any comes before each
+/// value.
 pub fn cell_order()
     ensures any_first { cell_cmp nat_cmp (code_cell any (Some 9) any) (code_cell (Some 0) any any) ≡ Less }
     ensures first_dimension { cell_cmp nat_cmp (code_cell (Some 2) any any) (code_cell (Some 1) (Some 9) (Some 9)) ≡ Greater }
@@ -59,7 +60,7 @@ pub fn masks()
     ensures middle { mask (code_cell any (Some 0) any) ≡ 2 }
 {}
 
-/// Texts are compared by their bytes, and not by their lengths or as numbers.
+/// Texts are compared by their bytes, not by their lengths and not as numbers.
 pub fn text_order()
     ensures first_byte { text_cmp (codes "S2") (codes "s") ≡ Less }
     ensures later_byte { text_cmp (codes "S10") (codes "S2") ≡ Less }

@@ -1,5 +1,5 @@
-//! Worked values of the cube's definitions, each the contract of a function with an empty body. The
-//! values were found by hand, and those of `sales` by `sqlite3`.
+//! Worked values of the cube's definitions. Each is the contract of a function with an empty body.
+//! The values were worked out by hand, and those of `sales` by `sqlite3`.
 #![tactic(auto)]
 
 pub mod answers;

@@ -1,4 +1,4 @@
-//! What cells say of the shop's rows.
+//! Covered rows, closures, classes and aggregates of the shop's rows.
 
 ghost use Rattle.std.specs.Prelude.{◌≡◌, Some, None, true, false, [], ◌∷◌, pos, negsuc, map};
 ghost use Rattle.std.specs.Ordering.{nat_cmp, eq_by_cmp};
@@ -33,7 +33,7 @@ pub fn class_or_not()
     ensures covers_none { is_class (eq_by_cmp nat_cmp) (base shop_codes) (cell any (Some shop_codes.P2) (Some shop_codes.f)) ≡ false }
 {}
 
-/// A node is the front of a class, up to its own last value.
+/// A node is the prefix of a class through the node's last value.
 pub fn node_or_not()
     ensures class { is_node (eq_by_cmp nat_cmp) (base shop_codes) (cell any (Some shop_codes.P1) any) ≡ true }
     ensures front { is_node (eq_by_cmp nat_cmp) (base shop_codes) (cell (Some shop_codes.S2) any any) ≡ true }
@@ -42,7 +42,7 @@ pub fn node_or_not()
     ensures covers_none { is_node (eq_by_cmp nat_cmp) (base shop_codes) (cell (Some shop_codes.S1) any (Some shop_codes.f)) ≡ false }
 {}
 
-/// The lower bounds of a class are its smallest cells.
+/// The lower bounds of a class are its most general cells.
 pub fn lower_bounds_of_a_class()
     ensures two { lower_bounds nat_cmp (base shop_codes) (cell (Some shop_codes.S1) any (Some shop_codes.s))
         ≡ cell any any (Some shop_codes.s) ∷ cell (Some shop_codes.S1) any any ∷ [] }
@@ -54,7 +54,7 @@ pub fn lower_bounds_of_a_class()
         ≡ cell any (Some shop_codes.P2) (Some shop_codes.s) ∷ cell (Some shop_codes.S1) (Some shop_codes.P2) any ∷ [] }
 {}
 
-/// Count, sum, least and greatest of the covered rows.
+/// COUNT, SUM, MIN and MAX of the covered rows.
 pub fn aggregates()
     ensures all { agg (eq_by_cmp nat_cmp) 1 (base shop_codes) (cell any any any) ≡ sums 3 (pos 27) (pos 6) (pos 12) }
     ensures store { agg (eq_by_cmp nat_cmp) 1 (base shop_codes) (cell (Some shop_codes.S1) any any) ≡ sums 2 (pos 18) (pos 6) (pos 12) }
@@ -63,7 +63,7 @@ pub fn aggregates()
     ensures no_row { agg (eq_by_cmp nat_cmp) 1 (base shop_codes) (cell any (Some shop_codes.P2) (Some shop_codes.f)) ≡ sums 0 (pos 0) (pos 0) (pos 0) }
 {}
 
-/// Means in lowest terms: 27/3, 15/2, (5 - 5)/2, and 12.50/2 with amounts in hundredths.
+/// Means in lowest terms: 27/3, 15/2, (5 - 5)/2, and 12.50/2, whose amounts are in hundredths.
 pub fn means()
     ensures whole { mean_of (part_of (pos 6 ∷ pos 12 ∷ pos 9 ∷ [])) 3 0 ≡ fraction (pos 9) 1 }
     ensures half { mean_of (part_of (pos 12 ∷ pos 3 ∷ [])) 2 0 ≡ fraction (pos 15) 2 }

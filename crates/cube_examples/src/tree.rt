@@ -1,4 +1,4 @@
-//! The canonical tree of the shop's rows, and of the rows with one more.
+//! The canonical tree of the shop's rows, and that of these rows with a fourth.
 
 ghost use Rattle.std.specs.Prelude.{◌≡◌, ◌∷◌, [], length, pos, negsuc};
 ghost use Rattle.std.specs.Ordering.{nat_cmp};
@@ -6,7 +6,7 @@ ghost use Rattle.cube_defs.specs.Tree.{classes, nodes, tree_edges, links, tree, 
 ghost use Rattle.cube_examples.specs.Shop.{base, plus4, base_table, plus4_table, row, store_record};
 ghost use Rattle.cube_examples.specs.Codes.{shop_codes, s_first, table, place_from, numbered_table, numbered_store, no_tree, doubled_table, altered_table};
 
-/// The rows have six classes, eleven nodes, ten edges to children and five links.
+/// The rows have six classes, eleven nodes, ten tree edges and five links.
 pub fn base_counts()
     ensures classes { length (classes nat_cmp (base shop_codes)) ≡ 6 }
     ensures nodes { length (nodes nat_cmp (base shop_codes)) ≡ 11 }
@@ -14,7 +14,7 @@ pub fn base_counts()
     ensures links { links nat_cmp (base shop_codes) ≡ 5 }
 {}
 
-/// With the fourth row there are nine classes, 15 nodes, 14 edges to children and six links.
+/// With the fourth row there are nine classes, 15 nodes, 14 tree edges and six links.
 pub fn plus4_counts()
     ensures classes { length (classes nat_cmp (plus4 shop_codes)) ≡ 9 }
     ensures nodes { length (nodes nat_cmp (plus4 shop_codes)) ≡ 15 }
@@ -22,7 +22,7 @@ pub fn plus4_counts()
     ensures links { links nat_cmp (plus4 shop_codes) ≡ 6 }
 {}
 
-/// Two rows of one tuple are one class, under four nodes in a line.
+/// Two rows with the same tuple make one class, and four nodes in a line.
 pub fn twin_counts()
     ensures classes { length (classes nat_cmp (row 1 0 0 0 (pos 5) ∷ row 2 0 0 0 (negsuc 4) ∷ [])) ≡ 1 }
     ensures nodes { length (nodes nat_cmp (row 1 0 0 0 (pos 5) ∷ row 2 0 0 0 (negsuc 4) ∷ [])) ≡ 4 }
@@ -35,18 +35,18 @@ pub fn base_records()
     ensures { tree nat_cmp 1 (base shop_codes) ≡ base_table shop_codes s_first }
 {}
 
-/// Each record once the fourth row is there.
+/// Each record of the tree with the fourth row.
 pub fn plus4_records()
     ensures { tree nat_cmp 1 (plus4 shop_codes) ≡ plus4_table shop_codes s_first }
 {}
 
-/// Above the fourth row's tuple stand two nodes with seven edges before it comes, and six nodes with
-/// twelve edges after.
+/// Before the fourth row is inserted, two nodes with seven edges generalize its tuple. Afterwards
+/// six nodes with twelve edges do.
 pub fn above_the_fourth()
     ensures { above nat_cmp (base shop_codes) (plus4 shop_codes) (shop_codes.S2 ∷ shop_codes.P2 ∷ shop_codes.f ∷ []) ≡ 27 }
 {}
 
-/// The records with their places as numbers are the canonical tree.
+/// The records, with their places as numbers, are the canonical tree.
 #[tactic(auto, using(crate::proofs::Numbered::numbered_is_canonical))]
 pub fn canonical_base()
     ensures { IsCanonical nat_cmp 1 (base shop_codes) numbered_table }
@@ -57,7 +57,7 @@ pub fn record_with_numbers()
     ensures { renamed (place_from 0 table) (store_record shop_codes) ≡ numbered_store }
 {}
 
-/// A map that lacks a node isn't canonical.
+/// A map in which a node is missing isn't canonical.
 #[tactic(auto, using(crate::proofs::Refused::lacks_nodes))]
 pub fn missing_node()
     ensures { IsCanonical nat_cmp 1 (base shop_codes) no_tree → ⊥ }
