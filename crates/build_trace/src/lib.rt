@@ -1,3 +1,3 @@
-//! The acts of building a tree depth first, in their order, and that they leave the canonical tree.
-//! All of it is laws; there is nothing to call.
+//! The acts of building a tree depth first, in their order. The laws say that they make the
+//! canonical tree; there is nothing to call.
 #![tactic(auto)]
