@@ -1,4 +1,5 @@
-//! The program `qcube`: its words, the files and the streams of the system, and the status of the run.
+//! The program `qcube`. It takes its words from the command line, works on real files and streams,
+//! and exits with the run's status.
 #![tactic(auto)]
 
 use qc_io::{RealFiles, RealSink};
@@ -10,7 +11,7 @@ use std::process::ExitCode;
 
 const OUT_OF_MEMORY: u8 = 5;
 
-// The words after the program's name, and none where they are no texts.
+// The words after the program's name. None if any of them is no valid text.
 fn words_of(rt: &HostRuntime) -> Result<Vec<String>, AllocError> {
     let mut words = Vec::new(rt.alloc());
     let args = match env::args(rt) {
