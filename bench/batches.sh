@@ -1,12 +1,12 @@
 #!/usr/bin/env bash
 # Applies 100 batches of 200 deletions and 200 insertions over 50,000, 300,000 and 500,000 rows of 6 dimensions, whose tree is
-# kept: the time of a batch, the memory of a load, beside another program of the same commands where one is named.
+# kept. Measures the time of a batch and the memory of a load, beside another program of the same commands if one is named.
 #
 #     bench/batches.sh [PROGRAM [OTHER]]
 #
-# PROGRAM is the built program, by default crates/qcube/out/qcube; OTHER is run on the same inputs, as PROGRAM is, and is to
-# write the same replies. The inputs are generated anew from a fixed seed; values are drawn by a Zipf law from 500, 200, 80,
-# 30, 12 and 5. The time of the batches is that of the whole script less that of its load alone, each the least of three runs.
+# PROGRAM is the built program, by default crates/qcube/out/qcube. OTHER runs on the same inputs and must write the same replies.
+# The inputs are generated from a fixed seed; values are drawn by a Zipf law from 500, 200, 80, 30, 12 and 5. The time of the
+# batches is that of the whole script minus that of its load alone, each the least of three runs.
 other=${2:+$(realpath "$2")}
 source "$(dirname "${BASH_SOURCE[0]}")/common.sh"
 

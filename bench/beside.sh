@@ -1,15 +1,15 @@
 #!/usr/bin/env bash
-# Measures PROGRAM beside another program of the same words and replies, on the same inputs, in turn: ratios of the median
-# processor times of five runs, and of the median peak memory. Loads of 300,000, 50,000 and 400,000 rows of 6 skewed dimensions,
-# points behind a load, ranges, bounds, parents and children of classes, icebergs by a walk and by indexes, what three index lines
-# add to a load, batches with and without them, 500,000 rows and points of one dimension, and generated runs.
+# Measures PROGRAM beside another program of the same words and replies, on the same inputs, in turn. Prints ratios of the median
+# processor times of five runs, and of the median peak memory. The runs are: loads of 300,000, 50,000 and 400,000 rows of 6 skewed
+# dimensions; points after a load, ranges, bounds, parents and children of classes; icebergs by a walk and by indexes; what three
+# index lines add to a load; batches with and without them; 500,000 rows and points of one dimension; and generated runs.
 #
 #     bench/beside.sh [OTHER [PROGRAM]]
 #
-# OTHER is the other program, or a folder whose `build.sh` builds it and prints its path. Where it is missing or empty, it is the
+# OTHER is the other program, or a folder whose `build.sh` builds it and prints its path. If it is missing or empty, it is the
 # plain program (bench/plain), a hand-written Rust program without proofs, which cargo builds. PROGRAM is the built program, by
-# default crates/qcube/out/qcube. RUNS sets another number of runs. The inputs are generated anew from fixed seeds. Both are to
-# write the same replies. A time "behind its load" is the median of the whole script less that of its load.
+# default crates/qcube/out/qcube. RUNS sets another number of runs. The inputs are generated from fixed seeds. Both programs must
+# write the same replies. A time "after its load" is the median of the whole script minus that of its load.
 other=${1:+$(realpath "$1")}
 [ -d "$other" ] && other=$("$other/build.sh")
 [ $# -gt 0 ] && shift
@@ -109,7 +109,7 @@ def say(name, ours, theirs, unit, most):
 
 def behind(name, script, schema, load, most):
     both = medians("run", schema, script)
-    say(f"{name}, behind its load", both[0][0] - load[0][0], both[1][0] - load[1][0], "s", most)
+    say(f"{name}, after its load", both[0][0] - load[0][0], both[1][0] - load[1][0], "s", most)
 
 load = medians("run", "rows.schema", "load300000")
 say("load of 300,000 rows", load[0][0], load[1][0], "s", 1.25)

@@ -1,12 +1,12 @@
 #!/usr/bin/env bash
-# Bounds of 200,000 random cells over 300,000 rows of 6 dimensions (fewer would drown in the time of the load), and of 300
-# classes of 12 values, below each of which lie 4,096 cells: time a class.
+# Bounds of 200,000 random cells over 300,000 rows of 6 dimensions (with fewer cells the load would take most of the time), and of
+# 300 classes of 12 values, each of which 4,096 cells generalize: time for each class.
 #
 #     bench/bounds.sh [PROGRAM]
 #
-# PROGRAM is the built program, by default crates/qcube/out/qcube. The inputs are generated anew from a fixed seed; values
-# are drawn by a Zipf law from 500, 200, 80, 30, 12 and 5, and each cell has about half of the values of a row. Times are
-# those of the processor, the least of three runs, less those of the load alone.
+# PROGRAM is the built program, by default crates/qcube/out/qcube. The inputs are generated from a fixed seed; values are drawn by
+# a Zipf law from 500, 200, 80, 30, 12 and 5, and each cell has about half of the values of a row. Times are processor times, the
+# least of three runs, minus those of the load alone.
 source "$(dirname "${BASH_SOURCE[0]}")/common.sh"
 
 python3 - <<'PY'

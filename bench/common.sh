@@ -1,6 +1,6 @@
-# Sourced by the benchmarks, with their arguments: the built program (by default crates/qcube/out/qcube), a folder of its own
-# for the inputs, which is the current one from here on, and the plain program (bench/plain), which cargo builds offline where
-# Debian's packages of its crates are installed; elsewhere its name is empty.
+# Sourced by the benchmarks, with their arguments. It sets `program`, the built program (by default crates/qcube/out/qcube), and
+# goes to a new folder for the inputs. It can also build the plain program (bench/plain), offline by cargo, if Debian's packages
+# of its crates are installed; otherwise its name is empty.
 set -eu
 top=$(cd "$(dirname "${BASH_SOURCE[0]}")/.." && pwd)
 program=$(realpath "${1:-$top/crates/qcube/out/qcube}")
@@ -10,7 +10,7 @@ export PYTHONPATH="$top/bench" PYTHONDONTWRITEBYTECODE=1
 
 packages="librust-csv-dev librust-indexmap-dev librust-itoa-dev librust-smallvec-dev"
 
-# Leaves the name of the plain program in `plain`, which is empty where it can't be built.
+# Sets `plain` to the name of the plain program. It is empty if the program can't be built.
 build_plain() {
     plain=
     local registry=/usr/share/cargo/registry crate
@@ -23,7 +23,7 @@ build_plain() {
     plain="$folder/target/release/plain"
 }
 
-# The same, for a benchmark that is nothing without the plain program.
+# The same, for a benchmark that needs the plain program.
 need_plain() {
     build_plain
     [ -n "$plain" ] && return

@@ -1,13 +1,13 @@
 #!/usr/bin/env bash
-# Loads 500,000 rows of 6 dimensions, and learns 1,000,000 distinct texts of one dimension: time and peak memory,
-# beside a plain Rust program that only reads and keeps them. The schema allows one node, so the load is refused when all is
-# read, learnt and kept and the tree has its root: what the tree costs is measured apart (bench/tree.sh).
+# Loads 500,000 rows of 6 dimensions, and learns 1,000,000 distinct texts of one dimension: time and peak memory, beside a plain
+# Rust program that only reads and keeps them. The schema allows one node. So the load is refused when all is read, learnt and
+# kept, and the tree has its root. bench/tree.sh measures the cost of the tree.
 #
 #     bench/formats.sh [PROGRAM]
 #
-# PROGRAM is the built program, by default crates/qcube/out/qcube. The inputs are generated anew from a fixed seed;
-# values are drawn by a Zipf law from 200, 100, 50, 20, 8 and 4. The plain program (bench/plain) is built by cargo
-# where Debian's packages of its crates are installed (bench/common.sh), and is left out elsewhere.
+# PROGRAM is the built program, by default crates/qcube/out/qcube. The inputs are generated from a fixed seed; values are drawn by
+# a Zipf law from 200, 100, 50, 20, 8 and 4. The plain program (bench/plain) is built by cargo if Debian's packages of its crates
+# are installed (bench/common.sh), and is left out otherwise.
 source "$(dirname "${BASH_SOURCE[0]}")/common.sh"
 build_plain
 

@@ -1,11 +1,11 @@
 #!/usr/bin/env bash
-# Makes warehouses of 20,000 and 200,000 drawn rows with their 40 batches, beside another program of the same words where one
-# is named.
+# Makes warehouses of 20,000 and 200,000 drawn rows with their 40 batches, beside another program of the same words if one is
+# named.
 #
 #     bench/gen.sh [PROGRAM [OTHER]]
 #
-# PROGRAM is the built program, by default crates/qcube/out/qcube; OTHER is to write the same records. Each time is the least
-# of three runs.
+# PROGRAM is the built program, by default crates/qcube/out/qcube. OTHER must write the same records. Each time is the least of
+# three runs.
 other=${2:+$(realpath "$2")}
 source "$(dirname "${BASH_SOURCE[0]}")/common.sh"
 
@@ -20,5 +20,5 @@ for rows in (20_000, 200_000):
     if other:
         beside, record, _ = best(other, "gen", str(rows), "7")
         assert record == told, (record, told)
-        print(f"    the other program: {beside:.2f} s; {took / beside:.2f} times (at most 1.5 once batches with deletions repair in place)")
+        print(f"    the other program: {beside:.2f} s; {took / beside:.2f} times (at most 1.5)")
 PY

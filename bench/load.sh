@@ -1,10 +1,10 @@
 #!/usr/bin/env bash
-# Loads base files of two sizes, trees built, and answers points over the larger: time and peak memory.
+# Loads base files of two sizes, builds their trees, and answers points over the larger: time and peak memory.
 #
 #     bench/load.sh [PROGRAM]
 #
-# PROGRAM is the built program, by default crates/qcube/out/qcube. The inputs are generated anew: rows of
-# 4 dimensions with 200, 50, 12 and 4 values and one amount, from a fixed seed.
+# PROGRAM is the built program, by default crates/qcube/out/qcube. The inputs are generated from a fixed seed: rows of 4
+# dimensions with 200, 50, 12 and 4 values and one amount.
 source "$(dirname "${BASH_SOURCE[0]}")/common.sh"
 
 python3 - <<'PY'

@@ -1,13 +1,14 @@
 #!/usr/bin/env bash
-# Refuses each allocation of a worked run in turn: a load and a batch over a schema with two indexes, a try, the counts, points, bounds
-# and icebergs. A run is to end with status 5 and no output, or with 0 and the transcript of the lines that it doesn't answer
-# `memory`: a line that is skipped changes nothing. It prints how many runs ended so, and stops at the first that didn't.
+# Refuses each allocation of a worked run in turn: a load and a batch over a schema with two indexes, a dry run, the counts,
+# points, bounds and icebergs. A run must end with status 5 and no output, or with status 0 and the transcript of the lines that
+# it doesn't answer with `memory`: a line that is skipped changes nothing. It prints how many runs ended in each way, and stops at
+# the first run that ends in no such way.
 #
 #     bench/memory.sh [PROGRAM]
 #
-# PROGRAM is the built program, by default crates/qcube/out/qcube. It is run under a C library's malloc whose call number N answers
-# that there is no memory, for each N, until a run makes fewer calls; cc has to be there. The transcripts are those of this page's
-# own few lines, which filter and sum.
+# PROGRAM is the built program, by default crates/qcube/out/qcube. It runs under a C library's malloc that refuses call number N,
+# for each N, until a run makes fewer calls; this needs cc. The expected transcripts are computed by a few lines of this page,
+# which filter and sum.
 source "$(dirname "${BASH_SOURCE[0]}")/common.sh"
 
 cat > refuse.c <<'C'
@@ -197,7 +198,7 @@ def transcript(skipped):
 
 
 def ran(number):
-    """The status, the output, and how many calls for memory there were."""
+    """The status, the output, and the number of calls for memory."""
     read, write = os.pipe()
     os.dup2(write, 9)
     os.close(write)

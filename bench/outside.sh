@@ -1,7 +1,8 @@
 #!/usr/bin/env bash
-# Runs over an outside that fails: standard output closed, full, and a pipe that nobody reads (status 4); a script and a base file as
-# long as they may be, with the peak memory beside their length, and longer by one byte; and a load of 300,000 rows of 6 dimensions
-# with 30 to 400 MB of memory, which is to end with status 5 and no output, or with 0 and `memory,1` or the load's reply.
+# Runs with an outside that fails. Standard output is closed, full, or a pipe that nobody reads (status 4). A script and a base
+# file have the greatest allowed length, with the peak memory beside their length, and then one byte more. A load of 300,000 rows
+# of 6 dimensions gets 30 to 400 MB of memory; it must end with status 5 and no output, or with status 0 and `memory,1` or the
+# load's reply.
 #
 #     bench/outside.sh [PROGRAM]
 #
@@ -26,7 +27,7 @@ for way in closed full unread; do
     ends 4 "$way"
     test "$(cat err)" = "qcube: cannot write"
 done
-echo "status 4: standard output closed, full, not read"
+echo "status 4: standard output closed, full, and not read"
 
 python3 - "$program" <<'PY'
 import random
@@ -50,7 +51,7 @@ def long_file(name, front, fill, length):
 for what, script, base, reply in (
     ("script", MOST, 0, "stats,1,0,0,0,0,0"),
     ("base file", 0, MOST, "applied,1,1,1"),
-    ("base file of a byte more", 0, MOST + 1, "refused,1,size"),
+    ("base file with one byte more", 0, MOST + 1, "refused,1,size"),
 ):
     front = b"id,store,product,season,sale\n1,S1,P1,s,6\n"
     long_file("d.csv", front, b"\n", max(base, len(front)))
@@ -62,7 +63,7 @@ for what, script, base, reply in (
 long_file("long", b"stats\n#", b"#", MOST + 1)
 run = subprocess.run([program, "run", "s.schema", "long"], capture_output=True)
 assert (run.returncode, run.stdout, run.stderr) == (6, b"", b"qcube: long is too long\n"), run
-print("script of a byte more: status 6")
+print("script with one byte more: status 6")
 
 draw = random.Random(300_000)
 with open("rows.schema", "w") as file:
@@ -82,5 +83,5 @@ for megabytes in range(30, 401, 10):
     assert good, (megabytes, ending, run.stderr)
     endings.setdefault(ending, []).append(megabytes)
 for (status, told), sizes in endings.items():
-    print(f"status {status}, output {told.strip() or 'empty'}: with {sizes[0]} to {sizes[-1]} MB of addresses")
+    print(f"status {status}, output {told.strip() or 'empty'}: with {sizes[0]} to {sizes[-1]} MB of address space")
 PY

@@ -1,4 +1,4 @@
-"""The peers of bench/peers.sh: each makes the cube, answers 200 points, and takes a batch, in the current folder."""
+"""The peers of bench/peers.sh. Each makes the cube, answers 200 points and applies a batch, in the current folder."""
 import os
 import shutil
 import signal
@@ -53,7 +53,7 @@ def own_folder(name):
 
 
 def where(is_any, equals):
-    """For each cell the condition that finds its row in a cube's table."""
+    """The WHERE condition of each cell, which finds its row in a cube's table."""
     return [" AND ".join(f"{d} {is_any}" if text == "*" else f"{d} {equals} '{text}'" for d, text in zip(DIMS, cell)) for cell in CELLS]
 
 
@@ -87,7 +87,7 @@ class Server:
 
 class Postgres(Server):
     name, title = "postgres", "PostgreSQL"
-    note = "a batch: REFRESH computes the whole cube again. No class bounds, no pins; a dry run is a transaction that computes it all."
+    note = "a batch: REFRESH computes the whole cube again. No class bounds, no pins; a dry run is a transaction that computes the whole cube."
 
     def __init__(self):
         paths = [f"/usr/lib/postgresql/{version}/bin" for version in range(20, 9, -1)]
@@ -140,7 +140,7 @@ class Postgres(Server):
 
 class ClickHouse(Server):
     name, title = "clickhouse", "ClickHouse"
-    note = "a batch: the whole cube again. A value of no bytes and Any are one in it; no class bounds, no dry run, no pins."
+    note = "a batch: the whole cube again. An empty value and Any are the same in it. No class bounds, no dry run, no pins."
     config = """<yandex><logger><level>error</level><log>{0}/log</log><errorlog>{0}/err</errorlog></logger>
 <tcp_port>{1}</tcp_port><listen_host>127.0.0.1</listen_host><path>{0}/</path><tmp_path>{0}/tmp/</tmp_path>
 <mark_cache_size>1000000000</mark_cache_size><users_config>{0}/users.xml</users_config>
@@ -203,7 +203,7 @@ class ClickHouse(Server):
 
 class Sqlite:
     name, title = "sqlite", "SQLite"
-    note = "a batch: the whole cube again. No class bounds, no pins; a dry run is a transaction that computes it all."
+    note = "a batch: the whole cube again. No class bounds, no pins; a dry run is a transaction that computes the whole cube."
 
     def __init__(self):
         self.missing = None if shutil.which("sqlite3") else "sqlite3"
@@ -250,7 +250,7 @@ class Sqlite:
 
 class Qcube:
     name, title, missing = "qcube", "qcube", None
-    note = "a batch: repaired in place. The cube is made from the CSV file, its reading included; its size is the peak memory of the load."
+    note = "a batch: repaired in place. The time of the cube includes reading the CSV file; its size is the peak memory of the load."
 
     def __init__(self, program):
         self.program = program

@@ -1,18 +1,18 @@
 #!/usr/bin/env bash
-# Measures qcube beside what a user might pick instead: PostgreSQL's GROUP BY CUBE, as a materialized table with an index,
-# ClickHouse's WITH CUBE, as a table sorted by the dimensions, and SQLite, as a table of the UNION ALL of the 64 GROUP BYs.
-# Each gets the same table of 300,000 rows of 6 skewed dimensions, the same 200 cells and the same batch.
+# Measures qcube beside what a user might choose instead: PostgreSQL's GROUP BY CUBE, as a materialized table with an index,
+# ClickHouse's WITH CUBE, as a table sorted by the dimensions, and SQLite, as a table of the UNION ALL of the 64 GROUP BYs. Each
+# gets the same table of 300,000 rows of 6 skewed dimensions, the same 200 cells and the same batch.
 #
 #     bench/peers.sh [PROGRAM]
 #
-# PROGRAM is the built program, by default crates/qcube/out/qcube. The Debian packages are `postgresql`, `clickhouse-server`
-# with `clickhouse-client`, and `sqlite3`; a peer whose package is missing is left out. ROWS sets another number of rows, PEERS
-# the peers to run, as `PEERS="postgres sqlite"`. The servers run in a folder of their own, as the user nobody where root
-# starts this script, and are stopped at the end. All in all it takes more than 10 minutes on an idle machine.
+# PROGRAM is the built program, by default crates/qcube/out/qcube. The Debian packages are `postgresql`, `clickhouse-server` with
+# `clickhouse-client`, and `sqlite3`; a peer whose package is missing is left out. ROWS sets another number of rows, and PEERS the
+# peers to run, as in `PEERS="postgres sqlite"`. The servers run in a folder of their own, as the user nobody if root starts this
+# script, and are stopped at the end. The whole run takes more than 10 minutes on an idle machine.
 #
-# Times of qcube and SQLite are processor seconds of their process, those of PostgreSQL and ClickHouse the processor seconds of
-# all processes of the server, so other load on the machine shows little in them. A point of a server is the median of the times
-# that its client saw, of one connection.
+# Times of qcube and SQLite are processor seconds of their process. Those of PostgreSQL and ClickHouse are processor seconds of
+# all processes of the server, so other load on the machine hardly shows in them. A point of a server is the median of the times
+# that its client saw over one connection.
 source "$(dirname "${BASH_SOURCE[0]}")/common.sh"
 chmod 755 "$folder"
 

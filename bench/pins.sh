@@ -1,13 +1,13 @@
 #!/usr/bin/env bash
-# Pins 16 states while 100 batches of 200 deletions and 200 insertions come over 300,000 rows of 6 dimensions: what that adds to the
-# time of a batch and to the memory, and what a point costs at the oldest pin, beside another program of the same commands where
-# one is named.
+# Pins 16 states while 100 batches of 200 deletions and 200 insertions are applied over 300,000 rows of 6 dimensions. Measures
+# what the pins add to the time of a batch and to the memory, and the time of a point at the oldest pin, beside another program of
+# the same commands if one is named.
 #
 #     bench/pins.sh [PROGRAM [OTHER]]
 #
-# PROGRAM is the built program, by default crates/qcube/out/qcube; OTHER is run on the same inputs, as PROGRAM is, and is to
-# write the same replies. The inputs are generated anew from a fixed seed; values are drawn by a Zipf law from 500, 200, 80,
-# 30, 12 and 5. A pin stands before each sixth batch. Each time is the least of three runs, less that of the script that it adds to.
+# PROGRAM is the built program, by default crates/qcube/out/qcube. OTHER runs on the same inputs and must write the same replies.
+# The inputs are generated from a fixed seed; values are drawn by a Zipf law from 500, 200, 80, 30, 12 and 5. A pin is made before
+# each sixth batch. Each time is the least of three runs, minus that of the script that it extends.
 other=${2:+$(realpath "$2")}
 source "$(dirname "${BASH_SOURCE[0]}")/common.sh"
 

@@ -1,12 +1,12 @@
 #!/usr/bin/env bash
 # 1,000 ranges, the parents and children of 2,000 classes and 50 icebergs over 300,000 rows of 6 skewed dimensions, icebergs with
-# indexes and without, and what three indexes add to a load: times, beside another program of the same commands where one is named.
+# and without indexes, and what three indexes add to a load: times, beside another program of the same commands if one is named.
 #
 #     bench/queries.sh [PROGRAM [OTHER]]
 #
-# PROGRAM is the built program, by default crates/qcube/out/qcube; OTHER is run on the same inputs, as PROGRAM is, and is to
-# write the same replies. The inputs are generated anew from a fixed seed; values are drawn by a Zipf law from 500, 200, 80,
-# 30, 12 and 5. Times are those of the processor, the least of three runs, less those of the load alone.
+# PROGRAM is the built program, by default crates/qcube/out/qcube. OTHER runs on the same inputs and must write the same replies.
+# The inputs are generated from a fixed seed; values are drawn by a Zipf law from 500, 200, 80, 30, 12 and 5. Times are processor
+# times, the least of three runs, minus those of the load alone.
 other=${2:+$(realpath "$2")}
 source "$(dirname "${BASH_SOURCE[0]}")/common.sh"
 

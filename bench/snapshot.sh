@@ -1,9 +1,9 @@
 #!/usr/bin/env bash
-# Packs a table of 300,000 rows of 6 skewed dimensions, and opens its snapshot: time beside loading its CSV file.
+# Packs a table of 300,000 rows of 6 skewed dimensions, and opens its snapshot: times beside that of loading its CSV file.
 #
 #     bench/snapshot.sh [PROGRAM]
 #
-# PROGRAM is the built program, by default crates/qcube/out/qcube. The rows are generated anew from a fixed seed.
+# PROGRAM is the built program, by default crates/qcube/out/qcube. The rows are generated from a fixed seed.
 source "$(dirname "${BASH_SOURCE[0]}")/common.sh"
 
 python3 - <<'PY'

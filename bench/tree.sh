@@ -1,13 +1,12 @@
 #!/usr/bin/env bash
-# Loads 300,000 rows of 6 dimensions and builds their tree, asks points of it, and runs a whole day of points over 500,000
-# rows of one dimension: time and memory, beside a plain Rust program of the same building and search.
+# Loads 300,000 rows of 6 dimensions and builds their tree, asks points of it, and runs a whole day of points over 500,000 rows of
+# one dimension: time and memory, beside a plain Rust program with the same build and search.
 #
 #     bench/tree.sh [PROGRAM]
 #
-# PROGRAM is the built program, by default crates/qcube/out/qcube. The inputs are generated anew from a fixed seed; values
-# are drawn by a Zipf law from 500, 200, 80, 30, 12 and 5. Times are those of the processor, the least of three runs. The
-# plain program (bench/plain) is built by cargo where Debian's packages of its crates are installed (bench/common.sh), and
-# is left out elsewhere.
+# PROGRAM is the built program, by default crates/qcube/out/qcube. The inputs are generated from a fixed seed; values are drawn by
+# a Zipf law from 500, 200, 80, 30, 12 and 5. Times are processor times, the least of three runs. The plain program (bench/plain)
+# is built by cargo if Debian's packages of its crates are installed (bench/common.sh), and is left out otherwise.
 source "$(dirname "${BASH_SOURCE[0]}")/common.sh"
 build_plain
 
@@ -61,7 +60,7 @@ whole, out, _ = best(program, "run", "zipf.schema", "points")
 assert sum(line.startswith("point,") for line in out) == 500_000
 lines, out, _ = best(program, "run", "zipf.schema", "lines")
 assert sum(line.startswith("none,") for line in out) == 500_000
-print(f"a point {(whole - load) / 0.5:.2f} microseconds, of which its line {(lines - load) / 0.5:.2f} (one of a value that no row has: it isn't searched, and its reply is short); beside it {(whole - lines) / 0.5:.2f} (at most 4, and the reply)")
+print(f"a point {(whole - load) / 0.5:.2f} microseconds, of which its line {(lines - load) / 0.5:.2f} (the line of a value that no row has, which isn't searched and has a short reply); the rest {(whole - lines) / 0.5:.2f} (at most 4, and the reply)")
 if plain:
     _, out, _ = best(plain, "points", "zipf.csv")
     assert int(out[-1]) == 500_000, out
