@@ -1,12 +1,12 @@
-//! Repairs the tree in place as a row goes.
+//! Repairs the tree in place when a row is deleted.
 //!
-//! All is planned on the old tree and then written. Only nodes below the row's tuple change. Where the tuple has no other row,
-//! a class may come to share a value with all of its remaining rows; it then ends, and the class of the remaining rows, which
-//! is there already, is its heir.
+//! All is planned on the old tree and then written. Only nodes that generalize the row's tuple change. If no other row has the
+//! tuple, all remaining rows of a class may share a further value. The class then ends. The class of the remaining rows exists
+//! already, and is its heir.
 use crate::rows::Rows;
 use crate::tree::*;
 
-/// A node below the tuple.
+/// A node that generalizes the tuple.
 struct Seen {
     node: u32,
     class: u32,
@@ -20,7 +20,7 @@ struct Drill {
     mask: u32,
 }
 
-/// Where one of the remaining rows of a class is known from.
+/// The source of one of the remaining rows of a class.
 #[derive(Clone, Copy)]
 enum Witness {
     Missing,
@@ -28,21 +28,21 @@ enum Witness {
     Class(u32),
 }
 
-/// A class below the tuple, and what becomes of it.
+/// A class that generalizes the tuple, and its fate.
 struct Class {
     node: u32,
     mask: u32,
     count: u32,
-    /// The upper bound of the remaining rows; the class's own node where it stays.
+    /// The upper bound of the remaining rows: the class's own node if the class stays.
     heir: u32,
     /// The dimensions in which the remaining rows share a further value.
     gains: u32,
     witness: Witness,
-    /// Where its new parts stand.
+    /// The place of its new parts.
     parts: usize,
 }
 
-/// What a deletion needs, shared by calls.
+/// Memory of a deletion, shared by calls.
 #[derive(Default)]
 pub struct Deleter {
     seen: Vec<Seen>,
@@ -65,7 +65,7 @@ struct Deletion<'a> {
     plan: &'a mut Deleter,
 }
 
-/// Takes a row out of the tree. The table still has it in its slot.
+/// Removes a row from the tree. The table still has it in its slot.
 pub fn delete(tree: &mut Tree, table: &Rows, row: u32, plan: &mut Deleter) {
     let tuple = table.codes(row);
     let (Some(whole), Some(all)) = (tree.find(tuple), tree.find(&[ANY; 16][..tree.dims])) else { return };
@@ -86,7 +86,7 @@ pub fn delete(tree: &mut Tree, table: &Rows, row: u32, plan: &mut Deleter) {
 }
 
 impl Deletion<'_> {
-    // Collects the nodes below the tuple, each with the place of its class.
+    // Collects the nodes that generalize the tuple, each with the place of its class.
     fn see(&mut self, node: u32, mask: u32) -> u32 {
         let index = self.plan.seen.len();
         self.plan.place[mask as usize] = index as u32;
@@ -126,7 +126,7 @@ impl Deletion<'_> {
         self.plan.classes.len() as u32 - 1
     }
 
-    // From the most specific class on: a mask is greater than each of its parts.
+    // Begins with the most specific class: a mask is greater than each of its subsets.
     fn plan_classes(&mut self) {
         let mut order = std::mem::take(&mut self.plan.order);
         order.clear();
@@ -198,7 +198,8 @@ impl Deletion<'_> {
         }
     }
 
-    // The class of the remaining rows, where it is another one. The tuple stands alone in the dimensions of `alone`.
+    // The class of the remaining rows, if it is another one. In each dimension of `alone`, no other row of the class has the
+    // row's value.
     fn heir(&self, node: u32, count: u32, alone: u32, witness: &mut Witness) -> u32 {
         if let (2, Witness::Row(row)) = (count, *witness) {
             return self.tree.find(self.table.codes(row)).unwrap_or(NONE);
@@ -261,7 +262,7 @@ impl Deletion<'_> {
         any
     }
 
-    // Subtracts the row from a class's parts. Tells whether a least or greatest amount was its own.
+    // Subtracts the row from a class's parts. True if the row had the least or the greatest amount of a measure.
     fn subtract(&mut self, k: usize) -> bool {
         let Class { parts: at, witness, count, .. } = self.plan.classes[k];
         let mut is_own = false;
@@ -279,7 +280,7 @@ impl Deletion<'_> {
         is_own
     }
 
-    // Computes a class's parts from those of its rows by their values in a dimension: the one with the fewest.
+    // Computes a class's parts from those of its rows by their values in a dimension: the dimension with the fewest values.
     fn combine(&mut self, k: usize, done: &[u32]) {
         let Class { node, mask, parts: at, .. } = self.plan.classes[k];
         let cell = self.tree.cell(node);
@@ -306,7 +307,7 @@ impl Deletion<'_> {
         self.plan.parts[at..at + many].copy_from_slice(&sums);
     }
 
-    // Whether a node stays: it has a row left, and its rows share no further value before its last.
+    // Whether a node stays: it has rows left, and they share no further value before its last one.
     fn stays(&self, seen: &Seen) -> bool {
         let class = &self.plan.classes[seen.class as usize];
         let before = (1_u32 << self.tree.next_dim(seen.node)) - 1;

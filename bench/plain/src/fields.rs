@@ -13,10 +13,10 @@ pub enum Fault {
     Number,
 }
 
-/// A cell that is asked, or nothing where a value is one that no row ever had.
+/// The cell that a line asks for. None if it has a value that no row ever had.
 pub type AskedCell = Option<Cell>;
 
-/// Calls `take` with each field of a rest, and its place from 0, until that answers false.
+/// Calls `take` with each field of a rest and its place, counted from 0. It stops when `take` answers false.
 fn each_field<'a>(rest: &'a [u8], mut take: impl FnMut(usize, &[u8]) -> bool) {
     if !rest.iter().any(|byte| matches!(byte, b'"' | b'\r')) {
         if !rest.is_empty() {
@@ -37,7 +37,7 @@ fn each_field<'a>(rest: &'a [u8], mut take: impl FnMut(usize, &[u8]) -> bool) {
     }
 }
 
-/// Reads as many fields as there are dimensions. `take` answers false where a field isn't allowed. The place of the first fault
+/// Reads as many fields as there are dimensions. `take` answers false if a field isn't allowed. The place of the first fault
 /// counts the words before the fields.
 fn read_fields(dims: usize, rest: &[u8], words: usize, mut take: impl FnMut(usize, &[u8]) -> bool) -> Result<(), Fault> {
     if rest.starts_with(b"\xEF\xBB\xBF") {
@@ -118,7 +118,7 @@ impl Warehouse {
         }
     }
 
-    /// Reads the words of an iceberg, or those of a roll-up in front of its cell. The next word is what `next` gives.
+    /// Reads the words of an iceberg, or those of a roll-up before its cell. `next` gives the next word.
     fn read_ask<'a>(&self, mut next: impl FnMut() -> Option<&'a [u8]>) -> Result<(Option<Ask>, usize), Fault> {
         let word = |word: Option<&'a [u8]>| word.and_then(|word| std::str::from_utf8(word).ok());
         let agg = word(next()).and_then(agg_of).ok_or(Fault::Field(1))?;

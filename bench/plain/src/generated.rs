@@ -1,4 +1,4 @@
-//! Generated runs: a base file and 40 batches that follow from a number of rows and a seed.
+//! Generated runs: a base file and 40 batches, drawn from a number of rows and a seed.
 use crate::numbers::{push_amount, push_number};
 use crate::schema::Schema;
 use crate::tree::ROOT;

@@ -1,5 +1,5 @@
-//! Classes sorted by an aggregate. A change marks its class; a marked class is asked apart, until so many are marked that the
-//! sorted list is made again.
+//! Classes sorted by an aggregate. A change marks its class, and a marked class is looked at on its own. When many are marked,
+//! they are merged into the sorted list.
 use crate::numbers::Fraction;
 use crate::schema::{Agg, Key};
 use crate::tree::{Part, Tree};
@@ -39,7 +39,8 @@ pub fn compare(a: (i64, u32), b: (i64, u32)) -> Ordering {
     (i128::from(a.0) * i128::from(b.1)).cmp(&(i128::from(b.0) * i128::from(a.1)))
 }
 
-/// What an iceberg asks: an aggregate, whether it is to be at least the value, and the value in units of the measure's last place.
+/// The bound of an iceberg: an aggregate, whether it must be at least the value, and the value in units of the measure's last
+/// place.
 #[derive(Clone, Copy)]
 pub struct Ask {
     pub key: Key,
@@ -64,7 +65,7 @@ impl Indexes {
         Indexes { sorted: keys.iter().map(|key| (*key, Vec::new())).collect(), ..Indexes::default() }
     }
 
-    /// Sorts all classes of a tree anew.
+    /// Sorts all classes of a tree from scratch.
     pub fn rebuild(&mut self, tree: &mut Tree) {
         if let Some(changed) = &mut tree.changed {
             changed.clear();
@@ -79,7 +80,7 @@ impl Indexes {
         }
     }
 
-    /// Marks what a batch changed.
+    /// Marks the classes that a batch changed.
     pub fn take_changes(&mut self, tree: &mut Tree) {
         let Some(mut changed) = tree.changed.take() else { return };
         self.marks.resize(self.marks.len().max(tree.nodes.len() / 64 + 1), 0);
@@ -99,7 +100,7 @@ impl Indexes {
         }
     }
 
-    // Takes the marked classes into the sorted lists.
+    // Moves the marked classes into the sorted lists.
     fn merge(&mut self, tree: &mut Tree) {
         for (key, entries) in &mut self.sorted {
             let mut come: Vec<Entry> = self.changed.iter().filter_map(|node| entry(tree, *key, *node)).collect();
@@ -119,7 +120,7 @@ impl Indexes {
         self.marks.fill(0);
     }
 
-    /// The classes that pass, where there is an index of the aggregate.
+    /// The classes that pass, if there is an index of the aggregate.
     pub fn ask(&self, tree: &Tree, ask: &Ask) -> Option<Vec<u32>> {
         let entries = &self.sorted.iter().find(|index| index.0 == ask.key)?.1;
         let mut answer: Vec<u32> = self
@@ -145,7 +146,7 @@ impl Entry {
         compare((self.num, self.den), (other.num, other.den))
     }
 
-    // A number that rises with the quotient, but for quotients that are nearly equal.
+    // A number that rises with the quotient, unless quotients are nearly equal.
     fn rank(&self) -> u64 {
         let bits = (self.num as f64 / f64::from(self.den)).to_bits();
         if bits >> 63 == 1 { !bits } else { bits | 1 << 63 }
@@ -158,7 +159,7 @@ fn entry(tree: &Tree, key: Key, node: u32) -> Option<Entry> {
     Some(Entry { num, den, node })
 }
 
-// Sorts by digits of 16 bits of the rank, and then puts in order what stands nearly so.
+// Sorts by digits of 16 bits of the rank, and then corrects the order of nearly equal quotients.
 fn sort(entries: &mut Vec<Entry>) {
     if entries.len() < 10_000 {
         return entries.sort_unstable_by(Entry::compare);

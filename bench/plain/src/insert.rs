@@ -1,8 +1,8 @@
-//! Repairs the tree in place as a row comes.
+//! Repairs the tree in place when a row is inserted.
 //!
-//! Only nodes below the row's tuple change: those whose values are all the tuple's. They are visited depth first, in rising
-//! dimensions. A visited node is either an old one, or a new one whose rows stood at another node before; a new node copies
-//! that node's labels. Of the old tree, a visit reads its own record and nodes that aren't below the tuple, which never change.
+//! Only nodes that generalize the row's tuple change. They are visited depth first, in rising dimensions. A visited node is an
+//! old one, or a new one whose rows were at another node before; a new node copies that node's labels. A visit reads its node's
+//! own record in the old tree, and nodes that don't generalize the tuple, which never change.
 use crate::rows::Rows;
 use crate::tree::*;
 
@@ -15,7 +15,7 @@ struct Inserter<'a> {
     found: &'a mut Vec<u32>,
 }
 
-/// Adds a row of the table to the tree. `found` is memory that calls share.
+/// Adds a row of the table to the tree. Calls share the memory `found`.
 pub fn insert(tree: &mut Tree, table: &Rows, row: u32, found: &mut Vec<u32>) {
     found.resize(1 << tree.dims, NONE);
     let is_empty = tree.is_empty();
@@ -35,7 +35,7 @@ impl Inserter<'_> {
         label(dim, self.tuple[dim])
     }
 
-    // An old node.
+    // Visits an old node.
     fn visit(&mut self, node: u32, mask: u32) {
         self.found[mask as usize] = node;
         let forced = self.tree.forced(node);
@@ -53,18 +53,18 @@ impl Inserter<'_> {
         }
     }
 
-    // A new node below a parent, whose old rows stood at another node.
+    // Adds a child whose old rows were at another node.
     fn visit_new(&mut self, node: u32, mask: u32, from: u32) {
         self.found[mask as usize] = node;
         self.copy(node, mask, from, self.tree.next_dim(node));
     }
 
-    // Takes over the labels of a node that isn't below the tuple, from a dimension on, and of its forced children.
+    // Copies the labels, from a dimension on, of a node that doesn't generalize the tuple, and of its forced children.
     fn copy(&mut self, node: u32, mask: u32, mut from: u32, mut dim: usize) {
         loop {
             let forced = self.tree.forced(from);
             let end = forced.map_or(self.tree.dims, |edge| dim_of(edge.label));
-            // Taken out and put back, so this is no change that a pin is to know.
+            // The record is taken out and put back. This is no change for a pin.
             let labels = std::mem::take(&mut self.tree.nodes[from as usize].edges);
             let many = labels.len() - usize::from(forced.is_some());
             self.tree.node_mut(node).edges.extend_from_slice(&labels[..many]);
@@ -134,7 +134,7 @@ impl Inserter<'_> {
         child
     }
 
-    // A node that has the new row alone, and its forced children.
+    // Adds a node that covers only the new row, and its forced children.
     fn chain(&mut self, mut node: u32, mut mask: u32, next: usize) {
         self.found[mask as usize] = node;
         for dim in next..self.tree.dims {
@@ -164,7 +164,7 @@ impl Inserter<'_> {
         self.tree.note(node);
     }
 
-    // An old class has the row too.
+    // Adds the row to an old class.
     fn count(&mut self, node: u32, mask: u32) {
         if mask + 1 == 1 << self.tree.dims {
             let only = self.tree.node(node).rows;
@@ -178,7 +178,7 @@ impl Inserter<'_> {
         self.add_row(node);
     }
 
-    // A node becomes the upper bound of the rows of an old class and the new one.
+    // Makes a node the upper bound of the rows of an old class and the new one.
     fn become_class(&mut self, node: u32, from: u32) {
         let (count, rows) = (self.tree.node(from).count, self.tree.node(from).rows);
         let at = self.tree.node_mut(node);

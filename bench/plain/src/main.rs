@@ -1,9 +1,9 @@
 //! A plain program with the words, files and replies of qcube, hand-written for speed and without proofs. The benchmarks run
-//! qcube beside it. Its tree is canonical by care alone.
+//! qcube beside it. No proof says that its tree is canonical.
 //!
-//! It has all words and commands. It has not the reply `memory` and status 5: where memory runs out it is aborted. Its indexes are
-//! of the rows of now, so an iceberg at a pin walks the tree. It is no reference: where its reply differs from qcube's, qcube's is
-//! proved.
+//! It has all words and commands, except for the reply `memory` and status 5: it aborts if memory runs out. Its indexes have only
+//! the present rows, so an iceberg at a pin walks the tree. It is no reference: if its reply differs from qcube's, qcube's is the
+//! proved one.
 mod build;
 mod delete;
 mod fields;
@@ -83,7 +83,7 @@ fn run(word: &str, first: &[u8], script: &[u8]) -> Result<(), End> {
         return write(&bytes);
     }
     let result = script::run(&mut warehouse, &script, Some(&mut std::io::stdout().lock())).map_err(stopped);
-    // The end of the process frees all at once.
+    // The end of the process frees all memory at once.
     std::mem::forget(warehouse);
     result
 }

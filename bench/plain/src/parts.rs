@@ -1,6 +1,6 @@
-//! Parts of the work alone, for the benchmarks that measure these: `rows FILE` reads the records of a file and keeps them,
-//! `texts FILE` learns the distinct texts of its second column, `tree FILE` builds the tree of its rows and tells how many nodes
-//! it has, and `points FILE` asks 500,000 points of cells above its rows, and tells how many seconds they took.
+//! Single parts of the work, for the benchmarks that measure them. `rows FILE` reads the records of a file and keeps them. `texts
+//! FILE` learns the distinct texts of its second column. `tree FILE` builds the tree of its rows and prints the number of nodes.
+//! `points FILE` asks 500,000 points of cells that generalize its rows, and prints the seconds they took.
 use crate::schema::Schema;
 use crate::tree::ANY;
 use crate::warehouse::Warehouse;

@@ -1,5 +1,5 @@
-//! Pinned states. Each pin keeps the records that nodes had when they were first changed after it, so a view of a pin reads the
-//! first record that its own pin or a later one keeps, and else the tree's own.
+//! Pinned states. Each pin keeps the records that nodes had when they were first changed after it. So a view of a pin reads the
+//! first record that its pin or a later one keeps, or else that of the tree.
 use crate::texts::Fast;
 use crate::tree::{Node, Part, Tree};
 use std::collections::HashMap;
@@ -7,7 +7,7 @@ use std::collections::HashMap;
 /// The view of a tree as it is.
 pub const NOW: usize = usize::MAX;
 
-/// The most pins at a time.
+/// The greatest number of pins at a time.
 pub const MOST_PINS: usize = 16;
 
 pub struct Image {
@@ -15,7 +15,7 @@ pub struct Image {
     parts: Box<[Part]>,
 }
 
-/// How many rows, classes, nodes and links there are.
+/// The numbers of rows, classes, nodes and links.
 #[derive(Clone, Copy)]
 pub struct Counts {
     pub rows: usize,
@@ -27,7 +27,7 @@ pub struct Counts {
 pub struct Pin {
     name: String,
     pub counts: Counts,
-    /// The records by their numbers; nothing for a node that came later.
+    /// The records by node number. None for a node that was added later.
     images: HashMap<u32, Option<Box<Image>>, Fast>,
 }
 
@@ -42,7 +42,7 @@ impl Tree {
         });
     }
 
-    /// Marks a node as one that the last pin hasn't.
+    /// Marks a node as one that didn't exist at the last pin.
     pub fn save_new(&mut self, node: u32) {
         if let Some(pin) = self.pins.last_mut() {
             pin.images.entry(node).or_insert(None);
@@ -70,7 +70,7 @@ impl Tree {
         self.pins.push(Pin { name: name.to_string(), counts, images: HashMap::default() });
     }
 
-    /// Takes a pin away. What it keeps goes to the one before it.
+    /// Removes a pin. The pin before it takes over its records.
     pub fn unpin(&mut self, place: usize) {
         let pin = self.pins.remove(place);
         if let Some(before) = place.checked_sub(1) {

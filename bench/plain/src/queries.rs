@@ -5,12 +5,12 @@ use crate::reply::push_record;
 use crate::tree::*;
 use crate::warehouse::Warehouse;
 
-/// Subsets of one cell stand in cell order by this key: in the first dimension in which they differ, Any comes first.
+/// A key that sorts cells which generalize one cell in cell order: in the first dimension in which they differ, Any comes first.
 fn order(mask: &u32) -> u32 {
     mask.reverse_bits()
 }
 
-/// The upper bounds that are at most a class, each as its dimensions and its node, without the class itself.
+/// The upper bounds that generalize a class, each as its dimensions and its node. The class itself is left out.
 fn classes_below(tree: &Tree, cell: &[u32], own: u32) -> Vec<(u32, u32)> {
     let mut classes = Vec::new();
     visit_below(tree, cell, own, ROOT, 0, &mut classes);
@@ -36,7 +36,7 @@ fn visit_below(tree: &Tree, cell: &[u32], own: u32, node: u32, mask: u32, classe
     }
 }
 
-/// Those of some classes with no other of them between them and the class above.
+/// The most specific of some classes that generalize a class: no other one is between them and it.
 fn greatest(mut classes: Vec<(u32, u32)>) -> Vec<(u32, u32)> {
     classes.sort_unstable_by_key(|class| std::cmp::Reverse(class.0.count_ones()));
     let mut kept: Vec<(u32, u32)> = Vec::new();
@@ -48,7 +48,7 @@ fn greatest(mut classes: Vec<(u32, u32)>) -> Vec<(u32, u32)> {
     kept
 }
 
-/// The dimensions of the lower bounds of a class: the least sets that leave none of its parents room.
+/// The dimensions of the lower bounds of a class: the least sets that no parent of the class contains.
 fn lower_bounds(tree: &Tree, cell: &[u32], class: u32) -> Vec<u32> {
     let own = tree.mask(class);
     let mut bounds = vec![0_u32];
@@ -111,7 +111,7 @@ impl Warehouse {
         push_record(out, "end", line, &[parents.len()]);
     }
 
-    /// A class that adds values in some dimensions is a child where each of them alone leads to it.
+    /// A class that adds values in some dimensions is a child if each of these values alone leads to it.
     pub fn children(&self, out: &mut Vec<u8>, line: usize, class: u32) {
         let cell = self.tree.cell(class);
         let many = self.tree.mask(class).count_ones();
@@ -138,7 +138,7 @@ impl Warehouse {
         cell[..self.dims()].iter().zip(&self.ranks).map(ranked).collect()
     }
 
-    // `rank_all` comes before.
+    // Needs `rank_all` first.
     fn push_in_cell_order(&self, out: &mut Vec<u8>, line: usize, mut classes: Vec<u32>) {
         classes.sort_by_cached_key(|class| self.place_of(*class));
         for class in &classes {
@@ -147,7 +147,7 @@ impl Warehouse {
         push_record(out, "end", line, &[classes.len()]);
     }
 
-    // At a pin a number may stand for a node that came later, so the walk follows the edges.
+    // At a pin, the number of a node may belong to one that was added later, so the walk follows the edges.
     fn passing_then(&self, ask: &Ask) -> Vec<u32> {
         let mut passing = Vec::new();
         if !self.tree.is_empty() {

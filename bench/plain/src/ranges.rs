@@ -3,10 +3,10 @@ use crate::reply::push_record;
 use crate::tree::*;
 use crate::warehouse::Warehouse;
 
-/// The most cells of an answer.
+/// The greatest number of cells of an answer.
 pub const MOST_CELLS: usize = 100_000;
 
-/// What a box allows in a dimension; values are given by their places in the order of texts.
+/// The values that a box allows in a dimension, as their places in the order of texts.
 pub enum Asked {
     Any,
     Interval(u32, u32),
@@ -23,7 +23,7 @@ struct Range<'a> {
 }
 
 impl Warehouse {
-    /// Writes a range's reply, or answers false where it has too many cells. Asked dimensions are ranked.
+    /// Writes a range's reply. False if it has too many cells. The asked dimensions must be ranked.
     pub fn range(&self, out: &mut Vec<u8>, line: usize, asked: &[Asked]) -> bool {
         let begin = out.len();
         let mut range = Range { warehouse: self, asked, out, line, cell: [ANY; 16], count: 0 };

@@ -4,10 +4,10 @@ use crate::schema::{without_mark, Schema};
 use crate::texts::Texts;
 use csv::{ByteRecord, ReaderBuilder};
 
-/// A refusal, as its reply has it.
+/// A refusal, as it stands in the reply.
 pub type Refusal = String;
 
-/// The deletions and insertions of a file, with the records that they stand in.
+/// The deletions and insertions of a file, with the numbers of their records.
 #[derive(Default)]
 pub struct Changes {
     pub deletions: Vec<(u64, usize)>,
@@ -17,7 +17,7 @@ pub struct Changes {
     pub records: usize,
 }
 
-/// Where the columns stand.
+/// The places of the columns.
 struct Columns {
     many: usize,
     op: Option<usize>,
@@ -43,7 +43,7 @@ impl Columns {
     }
 }
 
-/// Reads a file. Texts are learnt as they come; the caller takes them back where the file is refused.
+/// Reads a file. Texts are learnt during the reading; the caller drops them again if the file is refused.
 pub fn read(schema: &Schema, texts: &mut [Texts], bytes: &[u8], is_batch: bool) -> Result<Changes, Refusal> {
     let bytes = without_mark(bytes);
     if bytes.starts_with(b"\xEF\xBB\xBF") {

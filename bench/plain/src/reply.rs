@@ -44,7 +44,7 @@ impl Warehouse {
         }
     }
 
-    /// Appends what a class comes to, and ends the record.
+    /// Appends the aggregate of a class, and ends the record.
     pub fn push_class(&self, out: &mut Vec<u8>, class: u32) {
         let count = self.tree.node(class).count;
         out.push(b',');
@@ -60,7 +60,7 @@ impl Warehouse {
         out.push(b'\n');
     }
 
-    /// The counts of the rows that readers see.
+    /// The counts of the state that readers see.
     pub fn counts(&self) -> Counts {
         let tree = &self.tree;
         if tree.view != NOW {

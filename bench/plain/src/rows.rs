@@ -10,7 +10,7 @@ pub struct Rows {
     codes: Vec<u32>,
     amounts: Vec<i64>,
     ids: Vec<u64>,
-    /// When the row of each slot was accepted.
+    /// The time at which the row of each slot was accepted, as a count of rows.
     order: Vec<u64>,
     accepted: u64,
     free: Vec<u32>,
@@ -22,7 +22,7 @@ impl Rows {
         Rows { dims, measures, ..Rows::default() }
     }
 
-    /// Makes room for some rows more.
+    /// Makes room for more rows.
     pub fn reserve(&mut self, rows: usize) {
         self.codes.reserve_exact(rows * self.dims);
         self.amounts.reserve_exact(rows * self.measures);
@@ -85,7 +85,7 @@ impl Rows {
         row
     }
 
-    /// Takes a row out of the ids; its slot keeps it until `release`.
+    /// Removes a row from the ids. Its slot keeps it until `release`.
     pub fn remove(&mut self, row: u32) {
         self.by_id.remove(&self.ids[row as usize]);
     }
@@ -95,7 +95,7 @@ impl Rows {
         self.by_id.insert(self.ids[row as usize], row);
     }
 
-    /// Gives the slot of a removed row free.
+    /// Frees the slot of a removed row.
     pub fn release(&mut self, row: u32) {
         self.free.push(row);
     }

@@ -12,7 +12,7 @@ pub enum Agg {
     Mean,
 }
 
-/// An aggregate of a measure; a count has measure 0.
+/// An aggregate of a measure. COUNT has measure 0.
 pub type Key = (Agg, usize);
 
 #[derive(Clone)]
@@ -27,7 +27,7 @@ pub struct Schema {
     pub values: usize,
 }
 
-/// The first line that is wrong, and why.
+/// The first wrong line, and why it is wrong.
 pub struct Fault(pub usize, pub &'static str);
 
 pub fn is_name(text: &str) -> bool {
@@ -49,14 +49,14 @@ pub fn agg_of(word: &str) -> Option<Agg> {
     })
 }
 
-/// The lines of a text, without a CR before each LF or at the end.
+/// The lines of a text, without a CR before an LF or at the end.
 pub fn lines(text: &[u8]) -> impl Iterator<Item = &[u8]> {
     let text = text.strip_suffix(b"\n").map_or((text, !text.is_empty()), |text| (text, true));
     let count = if text.1 { usize::MAX } else { 0 };
     text.0.split(|&byte| byte == b'\n').take(count).map(|line| line.strip_suffix(b"\r").unwrap_or(line))
 }
 
-/// A text without one byte order mark at its front.
+/// A text without the byte order mark at its start, if it has one.
 pub fn without_mark(text: &[u8]) -> &[u8] {
     text.strip_prefix(b"\xEF\xBB\xBF").unwrap_or(text)
 }
@@ -95,7 +95,7 @@ impl Schema {
         Ok(schema)
     }
 
-    // The place in the order that a line has behind a line of place `stage`.
+    // The place of a line in the order, after a line of place `stage`.
     fn place_of(&self, stage: u8, word: &str) -> Option<u8> {
         let (most_dims, most_measures) = if self.version == 1 { (12, 1) } else { (16, 4) };
         let place = match word {

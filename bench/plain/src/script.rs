@@ -7,7 +7,7 @@ use crate::schema::{is_name, lines, without_mark};
 use crate::warehouse::Warehouse;
 use std::io::{Read, Write};
 
-/// The most bytes of a file.
+/// The greatest size of a file, in bytes.
 pub const MOST_BYTES: usize = 268_435_456;
 
 /// Why a run stops before its end.
@@ -16,7 +16,7 @@ pub enum Stop {
     CannotWrite,
 }
 
-/// Reads a file, of which one byte more than it may have is enough.
+/// Reads a file, up to one byte more than is allowed.
 pub fn read_file(name: &[u8]) -> Result<Vec<u8>, Stop> {
     use std::os::unix::ffi::OsStrExt;
     let stop = || Stop::CannotRead(name.to_vec());
@@ -27,7 +27,7 @@ pub fn read_file(name: &[u8]) -> Result<Vec<u8>, Stop> {
     Ok(bytes)
 }
 
-/// Answers each line that isn't passed over. Without a sink no reply is kept.
+/// Answers each line that isn't ignored. Without a sink no reply is kept.
 pub fn run(warehouse: &mut Warehouse, script: &[u8], mut sink: Option<&mut dyn Write>) -> Result<(), Stop> {
     let mut out = Vec::new();
     let mut result = Ok(());
@@ -115,7 +115,7 @@ fn unpin(warehouse: &mut Warehouse, out: &mut Vec<u8>, line: usize, rest: &[u8])
     }
 }
 
-// A fault of the line behind the name comes before a name that isn't pinned.
+// A fault in the line after the name counts before a name that isn't pinned.
 fn at(warehouse: &mut Warehouse, out: &mut Vec<u8>, line: usize, rest: &[u8]) {
     let end = rest.iter().position(|&byte| byte == b' ');
     let Some(name) = name_of(&rest[..end.unwrap_or(rest.len())]) else { return push_refusal(out, line, "field,1") };
@@ -132,7 +132,7 @@ fn at(warehouse: &mut Warehouse, out: &mut Vec<u8>, line: usize, rest: &[u8]) {
     }
 }
 
-// Answers a line that only asks.
+// Answers a line that changes nothing.
 fn ask_line(warehouse: &mut Warehouse, out: &mut Vec<u8>, line: usize, text: &[u8]) -> Result<(), Option<Fault>> {
     let end = text.iter().position(|&byte| byte == b' ');
     if text == b"stats" {

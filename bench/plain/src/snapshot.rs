@@ -52,7 +52,7 @@ impl<'a> Bytes<'a> {
     }
 }
 
-/// Reads a snapshot. Each fault is the one refusal.
+/// Reads a snapshot. There is one refusal for all faults.
 pub fn open(bytes: &[u8]) -> Option<Warehouse> {
     let mut bytes = Bytes(bytes);
     if bytes.take(MARK.len())? != MARK {

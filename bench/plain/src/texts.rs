@@ -39,7 +39,7 @@ impl Hasher for Mixer {
 
 pub type Fast = BuildHasherDefault<Mixer>;
 
-/// The texts of a dimension; a text's place is its code.
+/// The texts of a dimension. A text's place is its code.
 #[derive(Default, Clone)]
 pub struct Texts {
     set: IndexSet<Box<[u8]>, Fast>,

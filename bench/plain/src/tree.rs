@@ -1,6 +1,6 @@
-//! The canonical tree as docs/tree.md draws it, and searches in it.
+//! The canonical tree as docs/concepts.md draws it, and searches in it.
 //!
-//! A node of no class has its forced child as the last of its edges, and one of a class has none. Edges are sorted by label.
+//! A node that is no class has its forced child as the last of its edges. A class has no forced child. Edges are sorted by label.
 use crate::pins::{Pin, NOW};
 use crate::rows::Rows;
 use crate::schema::MAX_DIMS;
@@ -41,13 +41,13 @@ pub struct Node {
     pub parent: u32,
     /// The label of the node's last value. The root has none.
     pub label: Label,
-    /// How many rows the node's class has; 0 where it is no upper bound.
+    /// The number of rows of the node's class. 0 if the node is no upper bound.
     pub count: u32,
-    /// The exclusive or of the slots of the class's rows: of two rows it gives the one beside the other.
+    /// The exclusive or of the slots of the class's rows. If there are two rows, it gives the other one's slot.
     pub rows: u32,
 }
 
-/// The sum, the least and the greatest of a measure.
+/// SUM, MIN and MAX of a measure.
 #[derive(Clone, Copy, PartialEq, Eq)]
 pub struct Part {
     pub sum: i64,
@@ -74,15 +74,15 @@ pub struct Tree {
     pub dims: usize,
     pub measures: usize,
     pub nodes: Vec<Node>,
-    /// For each node as many parts as there are measures.
+    /// The parts of each node, as many as there are measures.
     pub parts: Vec<Part>,
     pub free: Vec<u32>,
     pub classes: usize,
-    /// How many edges there are, tree edges and links.
+    /// The number of edges, tree edges and links together.
     pub edges: usize,
-    /// The rows of each tuple with more than one.
+    /// The rows of each tuple that more than one row has.
     pub groups: HashMap<u32, Vec<u32>, Fast>,
-    /// The classes that were changed, where an index wants to know.
+    /// The classes that were changed, if there is an index to update.
     pub changed: Option<Vec<u32>>,
     pub pins: Vec<Pin>,
     /// The place of the pin that readers see, or `NOW`.
@@ -140,7 +140,7 @@ impl Tree {
         &mut self.parts[node as usize * self.measures..][..self.measures]
     }
 
-    /// Adds a node without edges. Its parent's edge is the caller's to set.
+    /// Adds a node without edges. The caller sets its parent's edge.
     pub fn add(&mut self, parent: u32, label: Label) -> u32 {
         let node = Node { edges: SmallVec::new(), parent, label, count: 0, rows: 0 };
         let number = match self.free.pop() {
@@ -166,7 +166,7 @@ impl Tree {
         }
     }
 
-    /// The first dimension behind a node's last value.
+    /// The first dimension after a node's last value.
     pub fn next_dim(&self, node: u32) -> usize {
         if node == ROOT { 0 } else { dim_of(self.node(node).label) + 1 }
     }
@@ -177,7 +177,7 @@ impl Tree {
         if node.count > 0 { None } else { node.edges.last().copied() }
     }
 
-    /// Where a label leads.
+    /// The target of a label.
     pub fn target(&self, node: u32, label: Label) -> Option<u32> {
         find(&self.node(node).edges, label).ok().map(|place| self.node(node).edges[place].node)
     }
@@ -198,7 +198,7 @@ impl Tree {
         node
     }
 
-    /// Goes on from the node that stands before dimension `dim` by the values of a cell from there up to `end`.
+    /// Goes down from the node before dimension `dim`, by the values of a cell from there up to `end`.
     pub fn walk(&self, mut node: u32, cell: &[u32], dim: usize, end: usize) -> Option<u32> {
         for i in dim..end {
             let code = cell[i];
@@ -210,7 +210,7 @@ impl Tree {
         Some(node)
     }
 
-    /// Goes by a value in a dimension that stands behind the node's last value.
+    /// Goes down by a value in a dimension after the node's last value.
     pub fn step(&self, mut node: u32, dim: usize, code: u32) -> Option<u32> {
         let wanted = label(dim, code);
         loop {
@@ -232,7 +232,7 @@ impl Tree {
         }
     }
 
-    /// The upper bound of a cell's class, where the cell covers a row.
+    /// The upper bound of a cell's class, if the cell covers a row.
     pub fn find(&self, cell: &[u32]) -> Option<u32> {
         if self.is_empty() {
             return None;
@@ -262,7 +262,7 @@ impl Tree {
         mask
     }
 
-    /// The ancestor whose last value stands in a dimension.
+    /// The ancestor whose last value is in a dimension.
     pub fn ancestor(&self, mut node: u32, dim: usize) -> u32 {
         while dim_of(self.node(node).label) > dim {
             node = self.node(node).parent;
@@ -270,7 +270,7 @@ impl Tree {
         node
     }
 
-    /// What some rows come to in each measure.
+    /// The parts of some rows, one for each measure.
     pub fn set_class(&mut self, node: u32, rows: &[u32], table: &Rows) {
         let at = self.node_mut(node);
         at.count = rows.len() as u32;
@@ -313,13 +313,13 @@ impl Tree {
     }
 }
 
-/// The place of a label among sorted edges, or where it is to be.
+/// The place of a label among sorted edges, or the place at which to insert it.
 pub fn find(edges: &[Edge], label: Label) -> Result<usize, usize> {
     edges.binary_search_by_key(&label, |edge| edge.label)
 }
 
 impl Tree {
-    /// The node of a class's own path that stands before a dimension in which the class is Any.
+    /// The node on a class's own path before a dimension in which the class has Any.
     pub fn before(&self, mut node: u32, dim: usize) -> u32 {
         while node != ROOT && dim_of(self.node(node).label) > dim {
             node = self.node(node).parent;
@@ -327,8 +327,8 @@ impl Tree {
         node
     }
 
-    /// The parts of a class's rows by their codes in a dimension in which the class is Any: each code with the upper bound of
-    /// its rows. It ends once `go_on` answers false.
+    /// The groups of a class's rows by their codes in a dimension in which the class has Any: each code with the upper bound of
+    /// its rows. It stops when `go_on` answers false.
     pub fn parts_of(&self, node: u32, cell: &Cell, dim: usize, mut go_on: impl FnMut(u32, u32) -> bool) {
         let next = self.next_dim(node);
         for edge in self.labels(self.before(node, dim), dim) {

@@ -1,4 +1,4 @@
-//! The state: texts, rows, the tree and its indexes, and what files do to it.
+//! The state: texts, rows, the tree and its indexes, and the changes that files make to it.
 use crate::build::build;
 use crate::delete::{delete, Deleter};
 use crate::index::Indexes;
@@ -16,7 +16,7 @@ pub struct Warehouse {
     pub rows: Rows,
     pub tree: Tree,
     pub indexes: Indexes,
-    /// The texts of each dimension in order, where they were asked for.
+    /// The sorted texts of each dimension, if they were asked for.
     pub ranks: Vec<Ranks>,
     found: Vec<u32>,
     deleter: Deleter,
@@ -41,7 +41,7 @@ impl Warehouse {
         }
     }
 
-    /// Loads a base file where no row is present. Answers how many records it has.
+    /// Loads a base file if no row is present. Gives the number of its records.
     pub fn load(&mut self, bytes: Vec<u8>) -> Result<usize, Refusal> {
         if self.rows.len() > 0 {
             return Err("not-empty".into());
@@ -108,7 +108,7 @@ impl Warehouse {
         Ok(())
     }
 
-    /// Applies a batch, or only tries it. Answers how many records it has, and how many classes there are after it.
+    /// Applies a batch, or makes a dry run of it. Gives the number of its records, and of the classes after it.
     pub fn apply(&mut self, bytes: &[u8], is_try: bool) -> Result<(usize, usize), Refusal> {
         let lens = self.lens();
         let result = self.try_apply(bytes, is_try, &lens);
@@ -153,7 +153,7 @@ impl Warehouse {
         if is_full { Err("nodes".into()) } else { Ok((changes.records, classes)) }
     }
 
-    // A tree of the same rows is the same tree, but for the numbers of its nodes.
+    // Trees of the same rows are equal, except for the numbers of their nodes.
     fn undo(&mut self, deleted: &[u32], inserted: &[u32]) {
         for &row in inserted.iter().rev() {
             delete(&mut self.tree, &self.rows, row, &mut self.deleter);
@@ -213,14 +213,14 @@ impl Warehouse {
         Ok(())
     }
 
-    /// Takes rows from elsewhere, as a snapshot, into an empty warehouse.
+    /// Takes rows from another source, such as a snapshot, into an empty warehouse.
     pub fn fill(&mut self, texts: Vec<Texts>, rows: Rows) -> Result<(), Refusal> {
         self.texts = texts;
         self.rows = rows;
         self.build()
     }
 
-    /// Makes sure that the ranks of a dimension's texts are there.
+    /// Makes sure that the texts of a dimension are ranked.
     pub fn rank(&mut self, dim: usize) {
         if self.ranks[dim].codes.len() != self.texts[dim].len() {
             self.ranks[dim] = self.texts[dim].ranks();
