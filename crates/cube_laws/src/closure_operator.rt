@@ -1,4 +1,4 @@
-//! The closure of a cell: the values that all rows share which it covers.
+//! The closure of a cell: the values that all its covered rows share.
 ghost use Rattle.std.specs.Prelude.{IsTrue, List, slice_get, ℕ, ◌↔◌, ◌≡◌};
 ghost use Rattle.cube_defs.specs.Cell.{Cell, leq};
 ghost use Rattle.cube_defs.specs.Rows.{Row, agg, closure, cov, covers};

@@ -1,4 +1,4 @@
-//! Fractions in lowest terms, which the means of amounts are.
+//! Fractions in lowest terms, as means are.
 ghost use Rattle.std.specs.Prelude.{nat_abs, pos, ℕ, ℤ, ◌*ℤ◌, ◌<◌, ◌≡◌};
 ghost use Rattle.cube_defs.specs.Rows.{gcd, lowest_terms};
 ghost use Rattle.std.specs.Int.{IsGcd};
