@@ -142,7 +142,7 @@ class ClickHouse(Server):
     name, title = "clickhouse", "ClickHouse"
     note = "a batch: the whole cube again. An empty value and Any are the same in it. No class bounds, no dry run, no pins."
     config = """<yandex><logger><level>error</level><log>{0}/log</log><errorlog>{0}/err</errorlog></logger>
-<tcp_port>{1}</tcp_port><listen_host>127.0.0.1</listen_host><path>{0}/</path><tmp_path>{0}/tmp/</tmp_path>
+<tcp_port>{1}</tcp_port><listen_host>127.0.0.1</listen_host><path>{0}/</path><tmp_path>{0}/temporary/</tmp_path>
 <mark_cache_size>1000000000</mark_cache_size><users_config>{0}/users.xml</users_config>
 <default_profile>default</default_profile><default_database>default</default_database></yandex>"""
     users = """<yandex><profiles><default><max_memory_usage>10000000000</max_memory_usage></default></profiles>
