@@ -12,3 +12,6 @@ mod Refusals
 mod Refused
 mod Steps
 mod NoFile
+mod Ends
+mod PackEnds
+mod Ran

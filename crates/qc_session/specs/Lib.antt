@@ -11,3 +11,6 @@ pub mod Forms
 pub mod Words
 pub mod Quiet
 pub mod Packs
+pub mod Reading
+pub mod Ends
+pub mod Ran

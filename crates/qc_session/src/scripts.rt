@@ -37,15 +37,18 @@ pub struct Outcome {
     pub end: Option<Warehouse>,
 }
 
+ghost use Rattle.qc_session.specs.Ends.{GenEnds, HandsBack, PackEnds, PackScriptEnds, RunEnds, ScriptEnds, SnapshotEnds, files_over, sink_over};
 ghost use Rattle.qc_session.specs.Failures.{cause_of};
+ghost use Rattle.qc_session.specs.Ran.{Ran};
+ghost use Rattle.qc_session.specs.Reading.{FilesStay};
 ghost use Rattle.qc_session.specs.Words.{names_in, source_in};
 
 // Ends a run before its first line.
 fn fail<E: Sink>(alloc: Global, err: &mut E, failure: &Failure<'_>) -> Outcome
     ensures status { result.status ≡ status_of (cause_of failure.now) }
     ensures skipped { result.skipped.items ≡ [] }
-    ensures none { result.end ≡ None }
     ensures said { Said (Rose (E.faults err.old) (E.faults err.new)) (cause_of failure.now) (E.taken err.old) (E.taken err.new) }
+    ensures hands { HandsBack result }
 {
     tell(err, failure);
     Outcome {
@@ -61,9 +64,7 @@ fn read_named<'a, F: Files>(
     files: &mut F,
     name: &'a str,
 ) -> Result<Vec<u8>, Failure<'a>>
-    ensures later { F.faults files.old ≤ F.faults files.new }
-    ensures told { F.told files.new ≡ F.told files.old }
-    ensures steady { IsTrue (F.steady files.old) → IsTrue (F.steady files.new) }
+    ensures stay { FilesStay (F.faults files.old) (F.faults files.new) (F.told files.old) (F.told files.new) (F.steady files.old) (F.steady files.new) }
     ensures ok { IfOk result (λ bytes. IfSome (F.told files.old) (λ t. IsScriptOf t name.now bytes.items)) }
     ensures short { IfOk result (λ bytes. length bytes.items ≤ MAX_FILE) }
     ensures open_file { IsOpenAs (F.told files.old) (F.cursor files.new) name.now }
@@ -79,12 +80,12 @@ fn read_named<'a, F: Files>(
 }
 
 // The state that the bytes of the first file give.
-fn start_of<L: Ledger>(
+fn start_of<'a, L: Ledger>(
     alloc: Global,
     source: Source,
     bytes: &[u8],
     steps: &mut Steps<L>,
-) -> Result<Warehouse, Failure<'static>>
+) -> Result<Warehouse, Failure<'a>>
     requires { length bytes.now ≤ MAX_FILE }
     ensures begins { IfOk result (λ warehouse. Begins (source_in source) bytes.now warehouse.state) }
     ensures none { IfErr result (λ f. (cause_of f ≡ OutOfMemory) ⊎ BeginsNot (source_in source) bytes.now (cause_of f)) }
@@ -118,9 +119,7 @@ fn read_start<'a, F: Files, L: Ledger>(
     requires name { blank.name ≡ L.name }
     requires parts { blank.parts ≡ L.parts }
     requires some { 0 < L.parts }
-    ensures later { F.faults files.old ≤ F.faults files.new }
-    ensures told { F.told files.new ≡ F.told files.old }
-    ensures steady { IsTrue (F.steady files.old) → IsTrue (F.steady files.new) }
+    ensures stay { FilesStay (F.faults files.old) (F.faults files.new) (F.told files.old) (F.told files.new) (F.steady files.old) (F.steady files.new) }
     ensures ok { IfOk result (λ warehouse. IfSome (F.told files.old) (λ t. IsStartOf t (names_in names.entry) warehouse.state)) }
     ensures open_file { IsOpenAs (F.told files.old) (F.cursor files.new) names.entry.first.now }
     ensures err { IfErr result (λ f. ReadFails (F.told files.old) names.entry.first.now (Rose (F.faults files.old) (F.faults files.new))
@@ -128,35 +127,37 @@ fn read_start<'a, F: Files, L: Ledger>(
 {
     let mut steps = Steps::<L>::start(blank);
     match read_named(alloc, files, names.first) {
-        Ok(bytes) => match start_of(alloc, names.source, &bytes, &mut steps) {
-            Ok(warehouse) => Ok(warehouse),
-            Err(failure) => Err(failure),
-        },
+        Ok(bytes) => start_of(alloc, names.source, &bytes, &mut steps),
         Err(failure) => Err(failure),
     }
+}
+
+// What the files of the words hold.
+#[derive(Drop)]
+struct Loaded {
+    start: Warehouse,
+    script: Vec<u8>,
 }
 
 // Reads the script after the first file, and passes the warehouse on.
 fn read_behind<'a, F: Files>(
     alloc: Global,
     files: &mut F,
-    warehouse: Warehouse,
+    start: Warehouse,
     name: &'a str,
-) -> Result<(Warehouse, Vec<u8>), Failure<'a>>
-    ensures kept { IfOk result (λ made. made.0 ≡ warehouse) }
-    ensures later { F.faults files.old ≤ F.faults files.new }
-    ensures told { F.told files.new ≡ F.told files.old }
-    ensures steady { IsTrue (F.steady files.old) → IsTrue (F.steady files.new) }
-    ensures ok { IfOk result (λ made. IfSome (F.told files.old) (λ t. IsScriptOf t name.now made.1.items)) }
-    ensures short { IfOk result (λ made. length made.1.items ≤ MAX_FILE) }
+) -> Result<Loaded, Failure<'a>>
+    ensures kept { IfOk result (λ loaded. loaded.start ≡ start) }
+    ensures stay { FilesStay (F.faults files.old) (F.faults files.new) (F.told files.old) (F.told files.new) (F.steady files.old) (F.steady files.new) }
+    ensures ok { IfOk result (λ loaded. IfSome (F.told files.old) (λ t. IsScriptOf t name.now loaded.script.items)) }
+    ensures short { IfOk result (λ loaded. length loaded.script.items ≤ MAX_FILE) }
     ensures open_file { IsOpenAs (F.told files.old) (F.cursor files.new) name.now }
     ensures err { IfErr result (λ f. ReadFails (F.told files.old) name.now (Rose (F.faults files.old) (F.faults files.new))
         (IsTrue (F.steady files.old)) IsNever (cause_of f)) }
 {
     match read_named(alloc, files, name) {
-        Ok(script) => Ok((warehouse, script)),
+        Ok(script) => Ok(Loaded { start, script }),
         Err(failure) => {
-            drop(warehouse);
+            drop(start);
             Err(failure)
         }
     }
@@ -168,27 +169,21 @@ fn read_files<'a, F: Files, L: Ledger>(
     files: &mut F,
     names: Names<'a>,
     blank: Blank,
-) -> Result<(Warehouse, Vec<u8>), Failure<'a>>
+) -> Result<Loaded, Failure<'a>>
     requires name { blank.name ≡ L.name }
     requires parts { blank.parts ≡ L.parts }
     requires some { 0 < L.parts }
-    ensures later { F.faults files.old ≤ F.faults files.new }
-    ensures told { F.told files.new ≡ F.told files.old }
-    ensures steady { IsTrue (F.steady files.old) → IsTrue (F.steady files.new) }
-    ensures start { IfOk result (λ made. IfSome (F.told files.old) (λ t. IsStartOf t (names_in names.entry) made.0.state)) }
-    ensures script { IfOk result (λ made. IfSome (F.told files.old) (λ t. IsScriptOf t names.entry.script.now made.1.items)) }
-    ensures short { IfOk result (λ made. length made.1.items ≤ MAX_FILE) }
+    ensures stay { FilesStay (F.faults files.old) (F.faults files.new) (F.told files.old) (F.told files.new) (F.steady files.old) (F.steady files.new) }
+    ensures start { IfOk result (λ loaded. IfSome (F.told files.old) (λ t. IsStartOf t (names_in names.entry) loaded.start.state)) }
+    ensures script { IfOk result (λ loaded. IfSome (F.told files.old) (λ t. IsScriptOf t names.entry.script.now loaded.script.items)) }
+    ensures short { IfOk result (λ loaded. length loaded.script.items ≤ MAX_FILE) }
     ensures open_file { IsOpenAs (F.told files.old) (F.cursor files.new) names.entry.first.now
         ⊎ IsOpenAs (F.told files.old) (F.cursor files.new) names.entry.script.now }
     ensures err { IfErr result (λ f. NotBegun (F.told files.old) (names_in names.entry) (Rose (F.faults files.old) (F.faults files.new))
         (IsTrue (F.steady files.old)) (cause_of f)) }
 {
-    let warehouse = match read_start::<F, L>(alloc, files, names, blank) {
-        Ok(warehouse) => warehouse,
-        Err(failure) => return Err(failure),
-    };
-    match read_behind(alloc, files, warehouse, names.script) {
-        Ok(made) => Ok(made),
+    match read_start::<F, L>(alloc, files, names, blank) {
+        Ok(start) => read_behind(alloc, files, start, names.script),
         Err(failure) => Err(failure),
     }
 }
@@ -197,8 +192,8 @@ fn read_files<'a, F: Files, L: Ledger>(
 fn finished(session: Session) -> Outcome
     ensures status { result.status ≡ 0 }
     ensures skipped { result.skipped.items ≡ session.skipped.items }
-    ensures end { result.end ≡ Some session.pinned.now }
-    ensures held { AreContents session.pinned.now }
+    ensures end { state_in result.end ≡ Some session.pinned.now.state }
+    ensures hands { HandsBack result }
 {
     let warehouse = session.pinned.finish();
     warehouse.is_valid();
@@ -211,9 +206,10 @@ fn finished(session: Session) -> Outcome
 
 // Ends a run before the end of its script.
 fn stopped(status: u8, session: Session) -> Outcome
+    requires { 0 < status }
     ensures status { result.status ≡ status }
     ensures skipped { result.skipped.items ≡ session.skipped.items }
-    ensures end { result.end ≡ None }
+    ensures hands { HandsBack result }
 {
     drop(session.pinned);
     Outcome {
@@ -230,36 +226,23 @@ fn run_script<F: Files, O: Sink, E: Sink, L: Ledger>(
     files: &mut F,
     out: &mut O,
     err: &mut E,
-    warehouse: Warehouse,
-    script: &[u8],
+    loaded: Loaded,
     blank: Blank,
 ) -> Outcome
-    requires short { length script.now ≤ MAX_FILE }
+    requires short { length loaded.script.items ≤ MAX_FILE }
     requires name { blank.name ≡ L.name }
     requires parts { blank.parts ≡ L.parts }
     requires some { 0 < L.parts }
-    ensures known { (result.status ≡ 0) ⊎ (result.status ≡ 3) ⊎ (result.status ≡ 4) ⊎ (result.status ≡ 5) }
-    ensures skipped { AreSkipped (script_lines script.now) result.skipped.items }
-    ensures all { result.status ≡ 0 → IfSome (F.told files.old)
-        (λ t. WroteAll t warehouse.state result.skipped.items (script_lines script.now) (state_in result.end) (O.taken out.old) (O.taken out.new)) }
-    ensures held { IfSome result.end AreContents }
-    ensures there { result.status ≡ 0 → is_some result.end ≡ true }
-    ensures none { (result.status ≡ 0 → ⊥) → result.end ≡ None }
-    ensures silent { result.status ≡ 0 → err.new ≡ err.old }
-    ensures read_fault { result.status ≡ 3 → Rose (F.faults files.old) (F.faults files.new) }
-    ensures unread { result.status ≡ 3 → IfSome (F.told files.old) (λ t. (name : List ℕ)
-        × StoppedAt t (IsTrue (F.steady files.old)) warehouse.state result.skipped.items (script_lines script.now) name (O.taken out.old) (O.taken out.new)
-        × Said (Rose (E.faults err.old) (E.faults err.new)) (CannotRead name) (E.taken err.old) (E.taken err.new)) }
-    ensures write_fault { result.status ≡ 4 → Rose (O.faults out.old) (O.faults out.new) }
-    ensures broken { result.status ≡ 4 → IfSome (F.told files.old)
-        (λ t. StoppedWriting t warehouse.state result.skipped.items (script_lines script.now) (O.taken out.old) (O.taken out.new)) }
-    ensures said_write { result.status ≡ 4 → Said (Rose (E.faults err.old) (E.faults err.new)) CannotWrite (E.taken err.old) (E.taken err.new) }
-    ensures unbegun { result.status ≡ 5 → F.cursor files.new ≡ F.cursor files.old }
-    ensures nothing { result.status ≡ 5 → (O.taken out.new ≡ O.taken out.old) × (result.skipped.items ≡ []) }
-    ensures said_memory { result.status ≡ 5 → Said (Rose (E.faults err.old) (E.faults err.new)) OutOfMemory (E.taken err.old) (E.taken err.new) }
+    ensures ends { ScriptEnds loaded.start.state loaded.script.items
+        (files_over (F.told files.old) (F.steady files.old) (F.faults files.old) (F.faults files.new) (F.cursor files.old) (F.cursor files.new))
+        (sink_over (O.faults out.old) (O.faults out.new) (O.taken out.old) (O.taken out.new))
+        (sink_over (E.faults err.old) (E.faults err.new) (E.taken err.old) (E.taken err.new))
+        (err.new ≡ err.old) result }
+    ensures hands { HandsBack result }
 {
-    let script = trim_mark(script);
-    let Ok(mut session) = begin(alloc, warehouse, script) else {
+    let Loaded { start, script } = loaded;
+    let script = trim_mark(&script);
+    let Ok(mut session) = begin(alloc, start, script) else {
         return fail(alloc, err, &Failure::OutOfMemory);
     };
     let mut steps = Steps::<L>::start(blank);
@@ -280,8 +263,8 @@ fn run_script<F: Files, O: Sink, E: Sink, L: Ledger>(
 fn filled(alloc: Global, warehouse: Warehouse) -> Outcome
     ensures status { result.status ≡ 0 }
     ensures skipped { result.skipped.items ≡ [] }
-    ensures end { result.end ≡ Some warehouse }
-    ensures held { AreContents warehouse }
+    ensures end { state_in result.end ≡ Some warehouse.state }
+    ensures hands { HandsBack result }
 {
     warehouse.is_valid();
     Outcome {
@@ -305,19 +288,11 @@ fn run_generated<O: Sink, E: Sink, L: Ledger>(
     requires name { blank.name ≡ L.name }
     requires parts { blank.parts ≡ L.parts }
     requires some { 0 < L.parts }
-    ensures known { (result.status ≡ 0) ⊎ (result.status ≡ 4) ⊎ (result.status ≡ 5) }
-    ensures skipped { result.skipped.items ≡ [] }
-    ensures wrote { result.status ≡ 0 → O.taken out.new ≡ taking (generated_record rows seed) (O.taken out.old) }
-    ensures end { result.status ≡ 0 → state_in result.end ≡ Some (generated_state rows seed) }
-    ensures held { IfSome result.end AreContents }
-    ensures there { result.status ≡ 0 → is_some result.end ≡ true }
-    ensures none { (result.status ≡ 0 → ⊥) → result.end ≡ None }
-    ensures silent { result.status ≡ 0 → err.new ≡ err.old }
-    ensures write_fault { result.status ≡ 4 → Rose (O.faults out.old) (O.faults out.new) }
-    ensures part { result.status ≡ 4 → (n : ℕ) × (O.taken out.new ≡ taking (take n (generated_record rows seed)) (O.taken out.old)) }
-    ensures said_write { result.status ≡ 4 → Said (Rose (E.faults err.old) (E.faults err.new)) CannotWrite (E.taken err.old) (E.taken err.new) }
-    ensures nothing { result.status ≡ 5 → O.taken out.new ≡ O.taken out.old }
-    ensures said_memory { result.status ≡ 5 → Said (Rose (E.faults err.old) (E.faults err.new)) OutOfMemory (E.taken err.old) (E.taken err.new) }
+    ensures ends { GenEnds (record { rows = rows; seed = seed })
+        (sink_over (O.faults out.old) (O.faults out.new) (O.taken out.old) (O.taken out.new))
+        (sink_over (E.faults err.old) (E.faults err.new) (E.taken err.old) (E.taken err.new))
+        (err.new ≡ err.old) result }
+    ensures hands { HandsBack result }
 {
     let mut steps = Steps::<L>::start(blank);
     let Ok(generated) = generate(alloc, rows, seed, &mut steps) else {
@@ -341,22 +316,11 @@ fn packed<O: Sink, E: Sink>(
     err: &mut E,
     warehouse: Warehouse,
 ) -> Outcome
-    ensures known { (result.status ≡ 0) ⊎ (result.status ≡ 4) ⊎ (result.status ≡ 5) ⊎ (result.status ≡ 6) }
-    ensures skipped { result.skipped.items ≡ [] }
-    ensures fits { (result.status ≡ 0) ⊎ (result.status ≡ 4) → length (spelling warehouse.state) ≤ MAX_FILE }
-    ensures wrote { result.status ≡ 0 → O.taken out.new ≡ taking (spelling warehouse.state) (O.taken out.old) }
-    ensures end { result.status ≡ 0 → state_in result.end ≡ Some warehouse.state }
-    ensures held { IfSome result.end AreContents }
-    ensures there { result.status ≡ 0 → is_some result.end ≡ true }
-    ensures none { (result.status ≡ 0 → ⊥) → result.end ≡ None }
-    ensures silent { result.status ≡ 0 → err.new ≡ err.old }
-    ensures write_fault { result.status ≡ 4 → Rose (O.faults out.old) (O.faults out.new) }
-    ensures part { result.status ≡ 4 → (n : ℕ) × (O.taken out.new ≡ taking (take n (spelling warehouse.state)) (O.taken out.old)) }
-    ensures said_write { result.status ≡ 4 → Said (Rose (E.faults err.old) (E.faults err.new)) CannotWrite (E.taken err.old) (E.taken err.new) }
-    ensures nothing { (result.status ≡ 5) ⊎ (result.status ≡ 6) → O.taken out.new ≡ O.taken out.old }
-    ensures said_memory { result.status ≡ 5 → Said (Rose (E.faults err.old) (E.faults err.new)) OutOfMemory (E.taken err.old) (E.taken err.new) }
-    ensures long { result.status ≡ 6 → MAX_FILE < length (spelling warehouse.state) }
-    ensures said_long { result.status ≡ 6 → Said (Rose (E.faults err.old) (E.faults err.new)) LongSnapshot (E.taken err.old) (E.taken err.new) }
+    ensures ends { SnapshotEnds warehouse.state
+        (sink_over (O.faults out.old) (O.faults out.new) (O.taken out.old) (O.taken out.new))
+        (sink_over (E.faults err.old) (E.faults err.new) (E.taken err.old) (E.taken err.new))
+        (err.new ≡ err.old) result }
+    ensures hands { HandsBack result }
 {
     match encode(alloc, &warehouse) {
         Ok(bytes) => match write_all(out, &bytes) {
@@ -384,37 +348,23 @@ fn pack_script<F: Files, O: Sink, E: Sink, L: Ledger>(
     files: &mut F,
     out: &mut O,
     err: &mut E,
-    warehouse: Warehouse,
-    script: &[u8],
+    loaded: Loaded,
     blank: Blank,
 ) -> Outcome
-    requires short { length script.now ≤ MAX_FILE }
+    requires short { length loaded.script.items ≤ MAX_FILE }
     requires name { blank.name ≡ L.name }
     requires parts { blank.parts ≡ L.parts }
     requires some { 0 < L.parts }
-    ensures known { IsScriptStatus result.status }
-    ensures skipped { result.skipped.items ≡ [] }
-    ensures all { result.status ≡ 0 → IfSome (F.told files.old)
-        (λ t. WroteSnapshot t warehouse.state (script_lines script.now) (state_in result.end) (O.taken out.old) (O.taken out.new)) }
-    ensures held { IfSome result.end AreContents }
-    ensures there { result.status ≡ 0 → is_some result.end ≡ true }
-    ensures none { (result.status ≡ 0 → ⊥) → result.end ≡ None }
-    ensures silent { result.status ≡ 0 → err.new ≡ err.old }
-    ensures read_fault { result.status ≡ 3 → Rose (F.faults files.old) (F.faults files.new) }
-    ensures unread { result.status ≡ 3 → IfSome (F.told files.old) (λ t. (name : List ℕ)
-        × StoppedAt t (IsTrue (F.steady files.old)) warehouse.state [] (script_lines script.now) name None None
-        × Said (Rose (E.faults err.old) (E.faults err.new)) (CannotRead name) (E.taken err.old) (E.taken err.new)) }
-    ensures write_fault { result.status ≡ 4 → Rose (O.faults out.old) (O.faults out.new) }
-    ensures part { result.status ≡ 4 → IfSome (F.told files.old)
-        (λ t. WroteSnapshotFront t warehouse.state (script_lines script.now) (O.taken out.old) (O.taken out.new)) }
-    ensures said_write { result.status ≡ 4 → Said (Rose (E.faults err.old) (E.faults err.new)) CannotWrite (E.taken err.old) (E.taken err.new) }
-    ensures nothing { (result.status ≡ 3) ⊎ (result.status ≡ 5) ⊎ (result.status ≡ 6) → O.taken out.new ≡ O.taken out.old }
-    ensures said_memory { result.status ≡ 5 → Said (Rose (E.faults err.old) (E.faults err.new)) OutOfMemory (E.taken err.old) (E.taken err.new) }
-    ensures long { result.status ≡ 6 → IfSome (F.told files.old) (λ t. LeadsTooFar t warehouse.state (script_lines script.now)) }
-    ensures said_long { result.status ≡ 6 → Said (Rose (E.faults err.old) (E.faults err.new)) LongSnapshot (E.taken err.old) (E.taken err.new) }
+    ensures ends { PackScriptEnds loaded.start.state loaded.script.items
+        (files_over (F.told files.old) (F.steady files.old) (F.faults files.old) (F.faults files.new) (F.cursor files.old) (F.cursor files.new))
+        (sink_over (O.faults out.old) (O.faults out.new) (O.taken out.old) (O.taken out.new))
+        (sink_over (E.faults err.old) (E.faults err.new) (E.taken err.old) (E.taken err.new))
+        (err.new ≡ err.old) result }
+    ensures hands { HandsBack result }
 {
-    let script = trim_mark(script);
-    let Ok(mut session) = begin(alloc, warehouse, script) else {
+    let Loaded { start, script } = loaded;
+    let script = trim_mark(&script);
+    let Ok(mut session) = begin(alloc, start, script) else {
         return fail(alloc, err, &Failure::OutOfMemory);
     };
     let mut steps = Steps::<L>::start(blank);
@@ -439,34 +389,19 @@ fn pack_files<F: Files, O: Sink, E: Sink>(
     err: &mut E,
     names: Names<'_>,
 ) -> Outcome
-    ensures known { IsScriptStatus result.status }
-    ensures skipped { result.skipped.items ≡ [] }
-    ensures held { IfSome result.end AreContents }
-    ensures there { result.status ≡ 0 → is_some result.end ≡ true }
-    ensures none { (result.status ≡ 0 → ⊥) → result.end ≡ None }
-    ensures silent { result.status ≡ 0 → err.new ≡ err.old }
-    ensures all { result.status ≡ 0 → IfSome (F.told files.old)
-        (λ t. Packed t (names_in names.entry) (state_in result.end) (O.taken out.old) (O.taken out.new)) }
-    ensures nothing { (result.status ≡ 3) ⊎ (result.status ≡ 5) ⊎ (result.status ≡ 6) → O.taken out.new ≡ O.taken out.old }
-    ensures read_fault { result.status ≡ 3 → Rose (F.faults files.old) (F.faults files.new) }
-    ensures unread { result.status ≡ 3 → IfSome (F.told files.old) (λ t. (name : List ℕ)
-        × Unread t (IsTrue (F.steady files.old)) (names_in names.entry) [] name None None
-        × Said (Rose (E.faults err.old) (E.faults err.new)) (CannotRead name) (E.taken err.old) (E.taken err.new)) }
-    ensures write_fault { result.status ≡ 4 → Rose (O.faults out.old) (O.faults out.new) }
-    ensures part { result.status ≡ 4 → IfSome (F.told files.old) (λ t. PackedFront t (names_in names.entry) (O.taken out.old) (O.taken out.new)) }
-    ensures said_write { result.status ≡ 4 → Said (Rose (E.faults err.old) (E.faults err.new)) CannotWrite (E.taken err.old) (E.taken err.new) }
-    ensures said_memory { result.status ≡ 5 → Said (Rose (E.faults err.old) (E.faults err.new)) OutOfMemory (E.taken err.old) (E.taken err.new) }
-    ensures refused { result.status ≡ 6 → IfSome (F.told files.old) (λ t. (cause : Cause)
-        × IsPackRefused t (names_in names.entry) cause
-        × Said (Rose (E.faults err.old) (E.faults err.new)) cause (E.taken err.old) (E.taken err.new)) }
-    ensures refusal { IfSome (F.told files.old) (λ t. (cause : Cause) → IsPackRefused t (names_in names.entry) cause
-        → (result.status ≡ 6) ⊎ (result.status ≡ 5) ⊎ (result.status ≡ 3)) }
+    ensures ends { PackEnds (names_in names.entry)
+        (files_over (F.told files.old) (F.steady files.old) (F.faults files.old) (F.faults files.new) (F.cursor files.old) (F.cursor files.new))
+        (sink_over (O.faults out.old) (O.faults out.new) (O.taken out.old) (O.taken out.new))
+        (sink_over (E.faults err.old) (E.faults err.new) (E.taken err.old) (E.taken err.new))
+        (err.new ≡ err.old) result }
+    ensures hands { HandsBack result }
 {
-    let (warehouse, script) = match read_files::<F, Brand>(alloc, files, names, Blank::new(1)) {
-        Ok(made) => made,
-        Err(failure) => return fail(alloc, err, &failure),
-    };
-    pack_script::<F, O, E, Brand>(alloc, files, out, err, warehouse, &script, Blank::new(1))
+    match read_files::<F, Brand>(alloc, files, names, Blank::new(1)) {
+        Ok(loaded) => {
+            pack_script::<F, O, E, Brand>(alloc, files, out, err, loaded, Blank::new(1))
+        }
+        Err(failure) => fail(alloc, err, &failure),
+    }
 }
 
 // Reads the first file and a script, and carries out the script's lines.
@@ -477,38 +412,41 @@ fn run_files<F: Files, O: Sink, E: Sink>(
     err: &mut E,
     names: Names<'_>,
 ) -> Outcome
-    ensures known { IsScriptStatus result.status }
-    ensures transcript { result.status ≡ 0 → IfSome (F.told files.old)
-        (λ t. Finished t (names_in names.entry) result.skipped.items (state_in result.end) (O.taken out.old) (O.taken out.new)) }
-    ensures silent { result.status ≡ 0 → err.new ≡ err.old }
-    ensures there { result.status ≡ 0 → is_some result.end ≡ true }
-    ensures held { IfSome result.end AreContents }
-    ensures none { (result.status ≡ 0 → ⊥) → result.end ≡ None }
-    ensures skipped { IfSome (F.told files.old)
-        (λ t. MatchOption (t names.entry.script.now) (result.skipped.items ≡ []) (λ script. AreSkipped (script_lines script) result.skipped.items)) }
-    ensures read_fault { result.status ≡ 3 → Rose (F.faults files.old) (F.faults files.new) }
-    ensures unread { result.status ≡ 3 → IfSome (F.told files.old) (λ t. (name : List ℕ)
-        × Unread t (IsTrue (F.steady files.old)) (names_in names.entry) result.skipped.items name (O.taken out.old) (O.taken out.new)
-        × Said (Rose (E.faults err.old) (E.faults err.new)) (CannotRead name) (E.taken err.old) (E.taken err.new)) }
-    ensures write_fault { result.status ≡ 4 → Rose (O.faults out.old) (O.faults out.new) }
-    ensures broken_off { result.status ≡ 4 → IfSome (F.told files.old)
-        (λ t. BrokenOff t (names_in names.entry) result.skipped.items (O.taken out.old) (O.taken out.new)) }
-    ensures said_write { result.status ≡ 4 → Said (Rose (E.faults err.old) (E.faults err.new)) CannotWrite (E.taken err.old) (E.taken err.new) }
-    ensures nothing { (result.status ≡ 5) ⊎ (result.status ≡ 6) → (O.taken out.new ≡ O.taken out.old) × (result.skipped.items ≡ []) }
-    ensures unbegun { result.status ≡ 5 → IsOpenAs (F.told files.old) (F.cursor files.new) names.entry.first.now
-        ⊎ IsOpenAs (F.told files.old) (F.cursor files.new) names.entry.script.now }
-    ensures said_memory { result.status ≡ 5 → Said (Rose (E.faults err.old) (E.faults err.new)) OutOfMemory (E.taken err.old) (E.taken err.new) }
-    ensures refused { result.status ≡ 6 → IfSome (F.told files.old) (λ t. (cause : Cause)
-        × IsRefused t (names_in names.entry) cause
-        × Said (Rose (E.faults err.old) (E.faults err.new)) cause (E.taken err.old) (E.taken err.new)) }
-    ensures refusal { IfSome (F.told files.old) (λ t. (cause : Cause) → IsRefused t (names_in names.entry) cause
-        → (result.status ≡ 6) ⊎ (result.status ≡ 5) ⊎ (result.status ≡ 3)) }
+    ensures ends { RunEnds (names_in names.entry)
+        (files_over (F.told files.old) (F.steady files.old) (F.faults files.old) (F.faults files.new) (F.cursor files.old) (F.cursor files.new))
+        (sink_over (O.faults out.old) (O.faults out.new) (O.taken out.old) (O.taken out.new))
+        (sink_over (E.faults err.old) (E.faults err.new) (E.taken err.old) (E.taken err.new))
+        (err.new ≡ err.old) result }
+    ensures hands { HandsBack result }
 {
-    let (warehouse, script) = match read_files::<F, Brand>(alloc, files, names, Blank::new(1)) {
-        Ok(made) => made,
-        Err(failure) => return fail(alloc, err, &failure),
-    };
-    run_script::<F, O, E, Brand>(alloc, files, out, err, warehouse, &script, Blank::new(1))
+    match read_files::<F, Brand>(alloc, files, names, Blank::new(1)) {
+        Ok(loaded) => run_script::<F, O, E, Brand>(alloc, files, out, err, loaded, Blank::new(1)),
+        Err(failure) => fail(alloc, err, &failure),
+    }
+}
+
+// Runs the form of the words.
+fn run_form<F: Files, O: Sink, E: Sink>(
+    alloc: Global,
+    words: &[String],
+    files: &mut F,
+    out: &mut O,
+    err: &mut E,
+) -> Outcome
+    ensures { Ran (form_of words.now)
+        (files_over (F.told files.old) (F.steady files.old) (F.faults files.old) (F.faults files.new) (F.cursor files.old) (F.cursor files.new))
+        (sink_over (O.faults out.old) (O.faults out.new) (O.taken out.old) (O.taken out.new))
+        (sink_over (E.faults err.old) (E.faults err.new) (E.taken err.old) (E.taken err.new))
+        (files.new ≡ files.old) (out.new ≡ out.old) (err.new ≡ err.old) result }
+{
+    match read_words(words) {
+        Form::Run(names) => run_files(alloc, files, out, err, names),
+        Form::Pack(names) => pack_files(alloc, files, out, err, names),
+        Form::Gen(rows, seed) => {
+            run_generated::<O, E, Brand>(alloc, out, err, rows, seed, Blank::new(1))
+        }
+        Form::Unlisted => fail(alloc, err, &Failure::Usage),
+    }
 }
 
 /// Runs `qcube` with these words.
@@ -619,12 +557,5 @@ pub fn run<F: Files, O: Sink, E: Sink>(
     ensures gen_front { result.status ≡ 4 → IfGen (form_of words.now) (λ drawing. (n : ℕ)
         × (O.taken out.new ≡ taking (take n (generated_record drawing.rows drawing.seed)) (O.taken out.old))) }
 {
-    match read_words(words) {
-        Form::Run(names) => run_files(alloc, files, out, err, names),
-        Form::Pack(names) => pack_files(alloc, files, out, err, names),
-        Form::Gen(rows, seed) => {
-            run_generated::<O, E, Brand>(alloc, out, err, rows, seed, Blank::new(1))
-        }
-        Form::Unlisted => fail(alloc, err, &Failure::Usage),
-    }
+    run_form(alloc, words, files, out, err)
 }

@@ -1,24 +1,42 @@
-use Rattle.std.proofs.Common.{◌∙◌, Err, List, ℕ, ap, arith, take}
+use Rattle.std.proofs.Common.{◌∙◌, ◌≤◌, Err, List, ap, length, refl, subst, take, ℕ}
+use Rattle.cube_defs.specs.declared.limits.TheConstants.{MAX_FILE}
 use Rattle.qc_io.specs.Outside.{taking}
-use Rattle.qc_session.proofs.Packed.{no-later}
+use Rattle.qc_session.proofs.Ends.{by-end, by-memory, by-refusal, by-write}
 use Rattle.qc_session.proofs.scripts.packed.Goals as goal
 
-pub returns-in-Ok-write_all-clause-wrote : goal.returns-in-Ok-write_all-clause-wrote
-returns-in-Ok-write_all-clause-wrote g c = λ _.
-    c.in-Ok-write_all.ensures.all ∙ ap (λ (bytes : List ℕ). taking bytes (g.O.Sink.taken c.args.out.now)) (c.deref.ensures.value ∙ c.in-Ok.ensures.bytes)
+pub returns-in-Ok-write_all-clause-ends : goal.returns-in-Ok-write_all-clause-ends
+returns-in-Ok-write_all-clause-ends g c = record {
+  skipped = c.filled.ensures.skipped;
+  by = by-end c.filled.ensures.status (
+    subst (λ (bytes : List ℕ). length bytes ≤ MAX_FILE) c.in-Ok.ensures.bytes c.in-Ok.ensures.fits,
+    c.in-Ok-write_all.ensures.all ∙ ap (λ (bytes : List ℕ). taking bytes (g.O.Sink.taken c.args.out.now)) (c.deref.ensures.value ∙ c.in-Ok.ensures.bytes),
+    c.filled.ensures.end,
+    refl,
+  );
+}
 
-pub returns-in-Ok-write_all-clause-nothing : goal.returns-in-Ok-write_all-clause-nothing
-returns-in-Ok-write_all-clause-nothing g c = λ late. absurd (no-later _ 0 c.filled.ensures.status (omega arith) late)
+pub returns-in-Ok-clause-ends : goal.returns-in-Ok-clause-ends
+returns-in-Ok-clause-ends g c = record {
+  skipped = c.fail.ensures.skipped;
+  by = by-write c.fail.ensures.status (
+    subst (λ (bytes : List ℕ). length bytes ≤ MAX_FILE) c.in-Ok.ensures.bytes c.in-Ok.ensures.fits,
+    c.in-Err.ensures.cause.failed,
+    (
+      c.in-Err.field-0.written,
+      c.in-Err.ensures.part ∙ ap (λ (bytes : List ℕ). taking (take c.in-Err.field-0.written bytes) (g.O.Sink.taken c.args.out.now)) (c.deref.ensures.value ∙ c.in-Ok.ensures.bytes),
+    ),
+    c.fail.ensures.said,
+  );
+}
 
-pub returns-in-Ok-clause-part : goal.returns-in-Ok-clause-part
-returns-in-Ok-clause-part g c = λ _. (
-  c.in-Err.field-0.written,
-  c.in-Err.ensures.part
-      ∙ ap (λ (bytes : List ℕ). taking (take c.in-Err.field-0.written bytes) (g.O.Sink.taken c.args.out.now)) (c.deref.ensures.value ∙ c.in-Ok.ensures.bytes),
-)
+pub returns-in-Err-TooLong-clause-ends : goal.returns-in-Err-TooLong-clause-ends
+returns-in-Err-TooLong-clause-ends g c = record {
+  skipped = c.fail-in-Err-TooLong.ensures.skipped;
+  by = by-refusal c.fail-in-Err-TooLong.ensures.status (c.in-Err-TooLong.ensures.too_long (ap Err c.in-Err-TooLong.field-0-is), refl, c.fail-in-Err-TooLong.ensures.said);
+}
 
-pub returns-in-Ok-clause-nothing : goal.returns-in-Ok-clause-nothing
-returns-in-Ok-clause-nothing g c = λ late. absurd (no-later _ 4 c.fail.ensures.status (omega arith) late)
-
-pub returns-in-Err-TooLong-clause-long : goal.returns-in-Err-TooLong-clause-long
-returns-in-Err-TooLong-clause-long g c = λ _. c.in-Err-TooLong.ensures.too_long (ap Err c.in-Err-TooLong.field-0-is)
+pub returns-clause-ends : goal.returns-clause-ends
+returns-clause-ends g c = record {
+  skipped = c.fail-in-Err-Memory.ensures.skipped;
+  by = by-memory c.fail-in-Err-Memory.ensures.status (refl, c.fail-in-Err-Memory.ensures.said);
+}

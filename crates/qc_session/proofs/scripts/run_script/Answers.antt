@@ -1,30 +1,30 @@
-use Rattle.std.proofs.Common.{ℕ, List, ◌≡◌, ap, map}
-use Rattle.qc_session.specs.Lines.{lines_of, without_cr}
-use Rattle.qc_session.specs.Runs.{CannotRead, state_in}
+use Rattle.std.proofs.Common.{◌∙◌, ap, refl}
+use Rattle.text_lines.specs.Lines.{without_mark}
+use Rattle.qc_session.specs.Runs.{CannotRead}
 use Rattle.qc_session.proofs.BareScripts.{bare-few, bare-short}
-use Rattle.qc_session.proofs.Ended.{all-ended, broken-ended, read-ended}
+use Rattle.qc_session.proofs.Ends.{script-broken, script-unbegun, script-unread, script-whole}
 use Rattle.qc_session.proofs.scripts.run_script.Goals as goal
 
-pub returns-in-Ok-take_lines-clause-all : goal.returns-in-Ok-take_lines-clause-all
-returns-in-Ok-take_lines-clause-all g c = λ ends.
-    all-ended (g.F.Files.told c.args.files.now) _ _ _ _ _ _ _ _ _ _
-    c.in-Ok.ensures.state c.finished.ensures.skipped (ap (λ (bs : List ℕ). map without_cr (lines_of bs)) c.trim_mark-script.ensures) (ap state_in c.finished.ensures.end)
-    c.in-Ok-take_lines.ensures.all
-
-pub returns-in-Err-Read-clause-unread : goal.returns-in-Err-Read-clause-unread
-returns-in-Err-Read-clause-unread g c = λ ends.
-    read-ended c.in-Err-Read.field-0 c.in-Err-Read.name (g.F.Files.told c.args.files.now) _ _ _ _ _ _ _ _ _ _ _ _ _
-    c.in-Err-Read.field-0-is c.in-Ok.ensures.state c.stopped.ensures.skipped (ap (λ (bs : List ℕ). map without_cr (lines_of bs)) c.trim_mark-script.ensures)
-    (ap CannotRead c.as_str.ensures.value) c.in-Err-Read.ensures.before c.tell.ensures.said
-
 pub take_lines-requires-clause-few : goal.take_lines-requires-clause-few
-take_lines-requires-clause-few g c = bare-few c.args.script.now _ c.trim_mark-script.ensures c.requires.short c.begin.ensures.few
+take_lines-requires-clause-few g c = bare-few c.args.loaded.script.items _ (c.trim_mark-script.ensures ∙ ap without_mark c.deref.ensures.value) c.requires.short c.begin.ensures.few
 
 pub take_lines-requires-clause-short : goal.take_lines-requires-clause-short
-take_lines-requires-clause-short g c = bare-short c.args.script.now _ c.trim_mark-script.ensures c.requires.short
+take_lines-requires-clause-short g c = bare-short c.args.loaded.script.items _ (c.trim_mark-script.ensures ∙ ap without_mark c.deref.ensures.value) c.requires.short
 
-pub returns-clause-broken : goal.returns-clause-broken
-returns-clause-broken g c = λ ends.
-    broken-ended c.in-Err-Write.field-0 (g.F.Files.told c.args.files.now) _ _ _ _ _ _ _ _
-    c.in-Err-Write.field-0-is c.in-Ok.ensures.state c.stopped-in-Err-Write.ensures.skipped (ap (λ (bs : List ℕ). map without_cr (lines_of bs)) c.trim_mark-script.ensures)
-    c.in-Err-Write.ensures.part
+pub returns-in_default-clause-ends : goal.returns-in_default-clause-ends
+returns-in_default-clause-ends g c = script-unbegun refl refl c.fail.ensures.status c.fail.ensures.skipped c.fail.ensures.said
+
+pub returns-in-Ok-take_lines-clause-ends : goal.returns-in-Ok-take_lines-clause-ends
+returns-in-Ok-take_lines-clause-ends g c =
+    script-whole _ _ _ _ (c.trim_mark-script.ensures ∙ ap without_mark c.deref.ensures.value) c.in-Ok.ensures.state c.finished.ensures.status c.finished.ensures.skipped c.finished.ensures.end
+    c.in-Ok-take_lines.ensures.skipped c.in-Ok-take_lines.ensures.all refl
+
+pub returns-in-Err-Read-clause-ends : goal.returns-in-Err-Read-clause-ends
+returns-in-Err-Read-clause-ends g c =
+    script-unread c.in-Err-Read.field-0 c.in-Err-Read.name _ _ _ _ (c.trim_mark-script.ensures ∙ ap without_mark c.deref.ensures.value) c.in-Ok.ensures.state c.stopped.ensures.status c.stopped.ensures.skipped
+    c.in-Err-Read.ensures.skipped c.in-Err-Read.field-0-is c.in-Err-Read.ensures.read_fault c.in-Err-Read.ensures.before (ap CannotRead c.as_str.ensures.value) c.tell.ensures.said
+
+pub returns-clause-ends : goal.returns-clause-ends
+returns-clause-ends g c =
+    script-broken c.in-Err-Write.field-0 _ _ _ (c.trim_mark-script.ensures ∙ ap without_mark c.deref.ensures.value) c.in-Ok.ensures.state c.stopped-in-Err-Write.ensures.status c.stopped-in-Err-Write.ensures.skipped
+    c.in-Err-Write.ensures.skipped c.in-Err-Write.field-0-is c.in-Err-Write.ensures.write_fault c.in-Err-Write.ensures.part c.tell-in-Err-Write.ensures.said

@@ -1,0 +1,10 @@
+-- How the files of the words are read.
+use Rattle.std.specs.Prelude.{◌≡◌, ◌≤◌, ◌⊎◌, ℕ, Bool, List, length, Option, IfSome, IsTrue, Result, MatchResult}
+use Rattle.cube_defs.specs.declared.limits.TheConstants.{MAX_FILE}
+use Rattle.qc_io.specs.Outside.{Told}
+
+-- files after calls: their faults only rise, they tell the same, and they stay steady
+pub record FilesStay (faults_before faults_after : ℕ) (told_before told_after : Option Told) (steady_before steady_after : Bool) : Type 0 where
+  pub later : faults_before ≤ faults_after
+  pub told : told_after ≡ told_before
+  pub steady : IsTrue steady_before → IsTrue steady_after
