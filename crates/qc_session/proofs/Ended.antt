@@ -7,9 +7,6 @@ use Rattle.warehouse.specs.State.{State}
 use Rattle.qc_session.specs.Forms.{FileNames, FromSchema, FromSnapshot, Source}
 use Rattle.qc_session.specs.Lines.{script_lines}
 use Rattle.qc_session.specs.Runs.{AreSkipped, Begins, BeginsNot, CannotRead, Cause, Finished, IsLong, IsRefused, IsScriptOf, IsStartOf, IsUnrefused, Said, StoppedAt, StoppedWriting, WroteAll}
-use Rattle.qc_session.specs.Session.{IfStop}
-use Rattle.qc_session.specs.declared.session.Stop.{Stop}
-use Rattle.qc_session.specs.declared.session.Stop.TheVariants as stops
 
 pub all-ended : (told : Option Told) (start start2 : State) (skipped skipped2 : List ℕ) (lines lines2 : List (List ℕ)) (end end2 : Option State) (before now : Option (List ℕ))
     → start2 ≡ start → skipped2 ≡ skipped → lines2 ≡ lines → end2 ≡ end
@@ -17,23 +14,17 @@ pub all-ended : (told : Option Told) (start start2 : State) (skipped skipped2 : 
 all-ended None start start2 skipped skipped2 lines lines2 end end2 before now s k l e h = tt
 all-ended (Some t) start start2 skipped skipped2 lines lines2 end end2 before now s k l e h = rw (sym s, k, sym l, e) h
 
-pub read-ended : (stop : Stop) (name : List ℕ) (told : Option Told) (sure rose : Type 0) (start start2 : State) (skipped skipped2 : List ℕ) (lines lines2 : List (List ℕ)) (cause : Cause) (before now err err2 : Option (List ℕ))
-    → stop ≡ stops.Read name → start2 ≡ start → skipped2 ≡ skipped → lines2 ≡ lines → cause ≡ CannotRead name
-    → IfStop stop (λ n. IfSome told (λ t. StoppedAt t sure start2 skipped lines2 n before now)) ⊤ → Said rose cause err err2
+pub read-ended : (name : List ℕ) (told : Option Told) (sure rose : Type 0) (start start2 : State) (skipped skipped2 : List ℕ) (lines lines2 : List (List ℕ)) (cause : Cause) (before now err err2 : Option (List ℕ))
+    → start2 ≡ start → skipped2 ≡ skipped → lines2 ≡ lines → cause ≡ CannotRead name
+    → IfSome told (λ t. StoppedAt t sure start2 skipped lines2 name before now) → Said rose cause err err2
     → IfSome told (λ t. (n : List ℕ) × StoppedAt t sure start skipped2 lines n before now × Said rose (CannotRead n) err err2)
-read-ended stop name told sure rose start start2 skipped skipped2 lines lines2 cause before now err err2 is s k l c h said = by told (rw is at h)
-  where
-    by : (told : Option Told) → IfSome told (λ t. StoppedAt t sure start2 skipped lines2 name before now) → IfSome told (λ t. (n : List ℕ) × StoppedAt t sure start skipped2 lines n before now × Said rose (CannotRead n) err err2)
-    by None h = tt
-    by (Some t) h = (name, rw (sym s, k, sym l) h, rw c at said)
+read-ended name None sure rose start start2 skipped skipped2 lines lines2 cause before now err err2 s k l c h said = tt
+read-ended name (Some t) sure rose start start2 skipped skipped2 lines lines2 cause before now err err2 s k l c h said = (name, rw (sym s, k, sym l) h, rw c at said)
 
-pub broken-ended : (stop : Stop) (told : Option Told) (start start2 : State) (skipped skipped2 : List ℕ) (lines lines2 : List (List ℕ)) (before now : Option (List ℕ)) → stop ≡ stops.Write → start2 ≡ start → skipped2 ≡ skipped → lines2 ≡ lines
-    → IfStop stop (λ name. ⊤) (IfSome told (λ t. StoppedWriting t start2 skipped lines2 before now)) → IfSome told (λ t. StoppedWriting t start skipped2 lines before now)
-broken-ended stop told start start2 skipped skipped2 lines lines2 before now is s k l h = go told (rw is at h)
-  where
-    go : (told : Option Told) → IfSome told (λ t. StoppedWriting t start2 skipped lines2 before now) → IfSome told (λ t. StoppedWriting t start skipped2 lines before now)
-    go None h = tt
-    go (Some t) h = rw (sym s, k, sym l) h
+pub broken-ended : (told : Option Told) (start start2 : State) (skipped skipped2 : List ℕ) (lines lines2 : List (List ℕ)) (before now : Option (List ℕ)) → start2 ≡ start → skipped2 ≡ skipped → lines2 ≡ lines
+    → IfSome told (λ t. StoppedWriting t start2 skipped lines2 before now) → IfSome told (λ t. StoppedWriting t start skipped2 lines before now)
+broken-ended None start start2 skipped skipped2 lines lines2 before now s k l h = tt
+broken-ended (Some t) start start2 skipped skipped2 lines lines2 before now s k l h = rw (sym s, k, sym l) h
 
 pub finished-run : (told : Option Told) (names : FileNames) (start : State) (script skipped : List ℕ) (end : Option State) (before now : Option (List ℕ)) → IfSome told (λ t. IsStartOf t names start) → IfSome told (λ t. IsScriptOf t names.script script)
     → IfSome told (λ t. WroteAll t start skipped (script_lines script) end before now) → IfSome told (λ t. Finished t names skipped end before now)

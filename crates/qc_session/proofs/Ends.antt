@@ -9,10 +9,7 @@ use Rattle.qc_session.specs.Forms.{FileNames}
 use Rattle.qc_session.specs.Lines.{lines_of, script_lines, without_cr}
 use Rattle.qc_session.specs.Reading.{FilesStay}
 use Rattle.qc_session.specs.Runs.{AreSkipped, BrokenOff, CannotRead, CannotWrite, Cause, IsScriptOf, IsScriptStatus, IsStartOf, LongSnapshot, NoSchema, NoSnapshot, NotBegun, OutOfMemory, StoppedAt, StoppedWriting, TooLong, Usage, WroteAll, state_in, status_of}
-use Rattle.qc_session.specs.Session.{IfStop}
 use Rattle.qc_session.specs.declared.scripts.Outcome.{Outcome}
-use Rattle.qc_session.specs.declared.session.Stop.{Stop}
-use Rattle.qc_session.specs.declared.session.Stop.TheVariants as stops
 use Rattle.qc_session.proofs.Ended.{all-ended, broken-ended, finished-run, read-ended, refusal-run, rose-later, skipped-run}
 use Rattle.qc_session.proofs.Refusals.{begun-refusal, begun-refused, begun-status, begun-unread, unread-line}
 
@@ -123,31 +120,31 @@ module _ {start : State} {script : List ℕ} {files : FilesOver} {out err : Sink
         by = by-end is (all-ended files.told start start2 skipped o.skipped.items (script_lines script) (map without_cr (lines_of bare)) (Some end) (state_in o.end) out.taken_before out.taken_after start_is k l e wrote, silent);
       }
 
-  pub script-unread : (stop : Stop) (name : List ℕ) (start2 : State) (bare skipped : List ℕ) (cause : Cause) → bare ≡ without_mark script → start2 ≡ start → o.status ≡ 3 → o.skipped.items ≡ skipped
-      → AreSkipped (map without_cr (lines_of bare)) skipped → stop ≡ stops.Read name → IfStop stop (λ n. FilesFailed files) ⊤
-      → IfStop stop (λ n. IfSome files.told (λ t. StoppedAt t (IsTrue files.steady) start2 skipped (map without_cr (lines_of bare)) n out.taken_before out.taken_after)) ⊤
+  pub script-unread : (name : List ℕ) (start2 : State) (bare skipped : List ℕ) (cause : Cause) → bare ≡ without_mark script → start2 ≡ start → o.status ≡ 3 → o.skipped.items ≡ skipped
+      → AreSkipped (map without_cr (lines_of bare)) skipped → FilesFailed files
+      → IfSome files.told (λ t. StoppedAt t (IsTrue files.steady) start2 skipped (map without_cr (lines_of bare)) name out.taken_before out.taken_after)
       → cause ≡ CannotRead name → Tells err cause → ScriptEnds start script files out err Silent o
-  script-unread stop name start2 bare skipped cause bare_is start_is is k are stop_is failed stopped cause_is said =
+  script-unread name start2 bare skipped cause bare_is start_is is k are failed stopped cause_is said =
       let l = bare-lines script bare bare_is in
       record {
         skipped = skips-same (script_lines script) (map without_cr (lines_of bare)) skipped o.skipped.items l k are;
         by = by-file is (
-          rw stop_is at failed,
-          read-ended stop name files.told (IsTrue files.steady) _ start start2 skipped o.skipped.items (script_lines script) (map without_cr (lines_of bare)) cause out.taken_before out.taken_after err.taken_before err.taken_after stop_is start_is k l cause_is stopped said,
+          failed,
+          read-ended name files.told (IsTrue files.steady) _ start start2 skipped o.skipped.items (script_lines script) (map without_cr (lines_of bare)) cause out.taken_before out.taken_after err.taken_before err.taken_after start_is k l cause_is stopped said,
         );
       }
 
-  pub script-broken : (stop : Stop) (start2 : State) (bare skipped : List ℕ) → bare ≡ without_mark script → start2 ≡ start → o.status ≡ 4 → o.skipped.items ≡ skipped
-      → AreSkipped (map without_cr (lines_of bare)) skipped → stop ≡ stops.Write → IfStop stop (λ n. ⊤) (SinkFailed out)
-      → IfStop stop (λ n. ⊤) (IfSome files.told (λ t. StoppedWriting t start2 skipped (map without_cr (lines_of bare)) out.taken_before out.taken_after))
+  pub script-broken : (start2 : State) (bare skipped : List ℕ) → bare ≡ without_mark script → start2 ≡ start → o.status ≡ 4 → o.skipped.items ≡ skipped
+      → AreSkipped (map without_cr (lines_of bare)) skipped → SinkFailed out
+      → IfSome files.told (λ t. StoppedWriting t start2 skipped (map without_cr (lines_of bare)) out.taken_before out.taken_after)
       → Tells err CannotWrite → ScriptEnds start script files out err Silent o
-  script-broken stop start2 bare skipped bare_is start_is is k are stop_is failed stopped said =
+  script-broken start2 bare skipped bare_is start_is is k are failed stopped said =
       let l = bare-lines script bare bare_is in
       record {
         skipped = skips-same (script_lines script) (map without_cr (lines_of bare)) skipped o.skipped.items l k are;
         by = by-write is (
-          rw stop_is at failed,
-          broken-ended stop files.told start start2 skipped o.skipped.items (script_lines script) (map without_cr (lines_of bare)) out.taken_before out.taken_after stop_is start_is k l stopped,
+          failed,
+          broken-ended files.told start start2 skipped o.skipped.items (script_lines script) (map without_cr (lines_of bare)) out.taken_before out.taken_after start_is k l stopped,
           said,
         );
       }

@@ -14,4 +14,6 @@ mod Steps
 mod NoFile
 mod Ends
 mod PackEnds
+mod Statuses
 mod Ran
+mod Taken

@@ -6,15 +6,12 @@ use Rattle.text_lines.specs.Lines.{without_mark}
 use Rattle.qc_session.specs.Ends.{FilesFailed, FilesOver, PackEnds, PackScriptEnds, SinkOver, SnapshotEnds, Tells, TookNothing, files_over, sink_over}
 use Rattle.qc_session.specs.Forms.{FileNames}
 use Rattle.qc_session.specs.Lines.{lines_of, script_lines, without_cr}
-use Rattle.qc_session.specs.Quiet.{IfUnread}
 use Rattle.qc_session.specs.Reading.{FilesStay}
 use Rattle.qc_session.specs.Runs.{CannotRead, Cause, IsScriptOf, IsStartOf, NotBegun, OutOfMemory, StoppedAt, WroteAll, state_in, status_of}
 use Rattle.qc_session.specs.declared.scripts.Outcome.{Outcome}
-use Rattle.qc_session.specs.declared.quiet.QuietStop.{QuietStop}
-use Rattle.qc_session.specs.declared.quiet.QuietStop.TheVariants as quiet
-use Rattle.qc_session.proofs.Ended.{rose-later}
+use Rattle.qc_session.proofs.Ended.{read-ended, rose-later}
 use Rattle.qc_session.proofs.Ends.{bare-lines, by-file, by-memory, memory-only, no-end, no-write}
-use Rattle.qc_session.proofs.Packed.{led-to, packed-front, packed-long, packed-refusal, packed-refused, packed-run, quiet-ended, snapshot-all, snapshot-front, snapshot-long}
+use Rattle.qc_session.proofs.Packed.{led-to, packed-front, packed-long, packed-refusal, packed-refused, packed-run, snapshot-all, snapshot-front, snapshot-long}
 use Rattle.qc_session.proofs.Refusals.{begun-refusal, begun-refused, begun-status, begun-unread, unread-line}
 
 module _ {start : State} {script : List ℕ} {files : FilesOver} {out err : SinkOver} {Silent : Type 0} {o : Outcome} where
@@ -39,16 +36,15 @@ module _ {start : State} {script : List ℕ} {files : FilesOver} {out err : Sink
         };
       }
 
-  pub pack-unread : (stop : QuietStop) (name : List ℕ) (start2 : State) (bare : List ℕ) (cause : Cause) → bare ≡ without_mark script → start2 ≡ start → TookNothing out → o.status ≡ 3 → o.skipped.items ≡ []
-      → stop ≡ quiet.Read name → IfUnread stop (λ n. FilesFailed files)
-      → IfUnread stop (λ n. IfSome files.told (λ t. StoppedAt t (IsTrue files.steady) start2 [] (map without_cr (lines_of bare)) n None None))
+  pub pack-unread : (name : List ℕ) (start2 : State) (bare : List ℕ) (cause : Cause) → bare ≡ without_mark script → start2 ≡ start → TookNothing out → o.status ≡ 3 → o.skipped.items ≡ [] → FilesFailed files
+      → IfSome files.told (λ t. StoppedAt t (IsTrue files.steady) start2 [] (map without_cr (lines_of bare)) name None None)
       → cause ≡ CannotRead name → Tells err cause → PackScriptEnds start script files out err Silent o
-  pack-unread stop name start2 bare cause bare_is start_is nothing is none stop_is failed stopped cause_is said = record {
+  pack-unread name start2 bare cause bare_is start_is nothing is none failed stopped cause_is said = record {
     skipped = none;
     by = by-file is (
       nothing,
-      rw stop_is at failed,
-      quiet-ended stop name files.told (IsTrue files.steady) _ start start2 (script_lines script) (map without_cr (lines_of bare)) cause err.taken_before err.taken_after stop_is start_is (bare-lines script bare bare_is) cause_is stopped said,
+      failed,
+      read-ended name files.told (IsTrue files.steady) _ start start2 [] [] (script_lines script) (map without_cr (lines_of bare)) cause None None err.taken_before err.taken_after start_is refl (bare-lines script bare bare_is) cause_is stopped said,
     );
   }
 

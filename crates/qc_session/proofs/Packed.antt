@@ -12,14 +12,8 @@ use Rattle.warehouse.specs.State.{State, empty}
 use Rattle.qc_session.specs.Forms.{FileNames, FromSchema, FromSnapshot, Source}
 use Rattle.qc_session.specs.Lines.{script_lines}
 use Rattle.qc_session.specs.Packs.{IsPackRefused, IsPackUnrefused, IsRead, Leads, LeadsTooFar, Packed, PackedFront, WroteSnapshot, WroteSnapshotFront}
-use Rattle.qc_session.specs.Quiet.{IfUnread}
 use Rattle.qc_session.specs.Runs.{AllTold, Begins, CannotRead, Cause, IsRefused, IsScriptOf, IsScriptStatus, IsStartOf, LongSnapshot, Said, StoppedAt, WroteAll}
-use Rattle.qc_session.specs.Session.{IfStop}
 use Rattle.qc_session.specs.Transcript.{Run}
-use Rattle.qc_session.specs.declared.quiet.QuietStop.{QuietStop}
-use Rattle.qc_session.specs.declared.quiet.QuietStop.TheVariants as quiet
-use Rattle.qc_session.specs.declared.session.Stop.{Stop}
-use Rattle.qc_session.specs.declared.session.Stop.TheVariants as stops
 use Rattle.qc_session.proofs.Ended.{unrefused}
 
 none-listed : (ks : List ℕ) → (length ks == 0) ≡ true → ks ≡ []
@@ -31,23 +25,10 @@ pub quiet-all : (told : Option Told) (start : State) (skipped : List ℕ) (lines
 quiet-all None start skipped lines end none h = tt
 quiet-all (Some t) start skipped lines end none h = subst (λ (ks : List ℕ). WroteAll t start ks lines end None None) (none-listed skipped none) h
 
-pub quiet-read : (stop : Stop) (name : List ℕ) (told : Option Told) (sure : Type 0) (start : State) (skipped : List ℕ) (lines : List (List ℕ)) → stop ≡ stops.Read name → (length skipped == 0) ≡ true
-    → IfStop stop (λ n. IfSome told (λ t. StoppedAt t sure start skipped lines n None None)) ⊤ → IfSome told (λ t. StoppedAt t sure start [] lines name None None)
-quiet-read stop name told sure start skipped lines is none h = go told (rw is at h)
-  where
-    go : (told : Option Told) → IfSome told (λ t. StoppedAt t sure start skipped lines name None None) → IfSome told (λ t. StoppedAt t sure start [] lines name None None)
-    go None h = tt
-    go (Some t) h = subst (λ (ks : List ℕ). StoppedAt t sure start ks lines name None None) (none-listed skipped none) h
-
-pub quiet-ended : (stop : QuietStop) (name : List ℕ) (told : Option Told) (sure rose : Type 0) (start start2 : State) (lines lines2 : List (List ℕ)) (cause : Cause) (err err2 : Option (List ℕ))
-    → stop ≡ quiet.Read name → start2 ≡ start → lines2 ≡ lines → cause ≡ CannotRead name
-    → IfUnread stop (λ n. IfSome told (λ t. StoppedAt t sure start2 [] lines2 n None None)) → Said rose cause err err2
-    → IfSome told (λ t. (n : List ℕ) × StoppedAt t sure start [] lines n None None × Said rose (CannotRead n) err err2)
-quiet-ended stop name told sure rose start start2 lines lines2 cause err err2 is s l c h said = by told (rw is at h)
-  where
-    by : (told : Option Told) → IfSome told (λ t. StoppedAt t sure start2 [] lines2 name None None) → IfSome told (λ t. (n : List ℕ) × StoppedAt t sure start [] lines n None None × Said rose (CannotRead n) err err2)
-    by None h = tt
-    by (Some t) h = (name, rw (sym s, sym l) h, rw c at said)
+pub quiet-read : (name : List ℕ) (told : Option Told) (sure : Type 0) (start : State) (skipped : List ℕ) (lines : List (List ℕ)) → (length skipped == 0) ≡ true
+    → IfSome told (λ t. StoppedAt t sure start skipped lines name None None) → IfSome told (λ t. StoppedAt t sure start [] lines name None None)
+quiet-read name None sure start skipped lines none h = tt
+quiet-read name (Some t) sure start skipped lines none h = subst (λ (ks : List ℕ). StoppedAt t sure start ks lines name None None) (none-listed skipped none) h
 
 -- what a script that was taken whole leads to
 leads-to : (t : Told) (start : State) (lines : List (List ℕ)) (state : State) → WroteAll t start [] lines (Some state) None None → Leads t start lines state
@@ -148,23 +129,3 @@ packed-refusal (Some t) names start script end before now status known is is_scr
     go cause refused (inr (inr (inl h))) = let w = front h in absurd (not-far t names start script w.state is is_script w.leads w.fits cause refused)
     go cause refused (inr (inr (inr (inl h)))) = inr (inl h)
     go cause refused (inr (inr (inr (inr h)))) = inl h
-
--- the statuses at which out took nothing
-pub no-later : (s n : ℕ) → s ≡ n → n < 5 → (s ≡ 5) ⊎ (s ≡ 6) → ⊥
-no-later s n is early (inl h) = absurd (omega (arith, is, early, h))
-no-later s n is early (inr h) = absurd (omega (arith, is, early, h))
-
-pub never-unread : (s : ℕ) → (s ≡ 0) ⊎ (s ≡ 4) ⊎ (s ≡ 5) ⊎ (s ≡ 6) → s ≡ 3 → ⊥
-never-unread s (inl h) e = absurd (omega (arith, h, e))
-never-unread s (inr (inl h)) e = absurd (omega (arith, h, e))
-never-unread s (inr (inr (inl h))) e = absurd (omega (arith, h, e))
-never-unread s (inr (inr (inr h))) e = absurd (omega (arith, h, e))
-
-pub packed-nothing : (s : ℕ) (P : Type 0) → (s ≡ 0) ⊎ (s ≡ 4) ⊎ (s ≡ 5) ⊎ (s ≡ 6) → ((s ≡ 5) ⊎ (s ≡ 6) → P) → (s ≡ 3) ⊎ (s ≡ 5) ⊎ (s ≡ 6) → P
-packed-nothing s P known h (inl e) = absurd (never-unread s known e)
-packed-nothing s P known h (inr late) = h late
-
-pub packed-known : (s : ℕ) → (s ≡ 0) ⊎ (s ≡ 4) ⊎ (s ≡ 5) ⊎ (s ≡ 6) → IsScriptStatus s
-packed-known s (inl h) = inl h
-packed-known s (inr (inl h)) = inr (inr (inl h))
-packed-known s (inr (inr late)) = inr (inr (inr late))

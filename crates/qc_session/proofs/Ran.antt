@@ -9,24 +9,7 @@ use Rattle.qc_session.specs.Runs.{IsRefused, IsScriptStatus, IsStatus, Usage}
 use Rattle.qc_session.specs.declared.scripts.Outcome.{Outcome}
 use Rattle.qc_session.proofs.Completed.{complete, complete-steady}
 use Rattle.qc_session.proofs.Found.{found-all}
-
-a-status : (s : ℕ) → IsScriptStatus s → IsStatus s
-a-status s (inl h) = inl h
-a-status s (inr h) = inr (inr h)
-
-no-usage : (s : ℕ) → IsScriptStatus s → s ≡ 2 → ⊥
-no-usage s (inl h) e = absurd (omega (arith, h, e))
-no-usage s (inr (inl h)) e = absurd (omega (arith, h, e))
-no-usage s (inr (inr (inl h))) e = absurd (omega (arith, h, e))
-no-usage s (inr (inr (inr (inl h)))) e = absurd (omega (arith, h, e))
-no-usage s (inr (inr (inr (inr h)))) e = absurd (omega (arith, h, e))
-
-usage-only : (form : Form) (s : ℕ) → IsScriptStatus s → (s ≡ 2 ↔ IsNone (Some form))
-usage-only form s known = (λ e. absurd (no-usage s known e), λ h. cc)
-
-at-late : (s : ℕ) (P : Type 0) → (s ≡ 5 → P) → (s ≡ 6 → P) → (s ≡ 5) ⊎ (s ≡ 6) → P
-at-late s P f g (inl h) = f h
-at-late s P f g (inr h) = g h
+use Rattle.qc_session.proofs.Statuses.{a-status, at-late, no-usage, usage-no_end, usage-no_file, usage-no_memory, usage-no_refusal, usage-no_write, usage-only}
 
 gen-status : (drawing : Drawing) {out err : SinkOver} {Silent : Type 0} {o : Outcome} → GenEnds drawing out err Silent o → (o.status ≡ 0) ⊎ (o.status ≡ 4) ⊎ (o.status ≡ 5)
 gen-status drawing {o = o} ends = by ends.by.known
@@ -179,7 +162,7 @@ module _ {files : FilesOver} {out err : SinkOver} {Unopened Unwritten Silent : T
   ran-usage unopened unwritten is none said hands = record {
     known = inr (inl is);
     transcript = λ e. tt;
-    silent = λ e. absurd (omega (arith, is, e));
+    silent = λ e. absurd (usage-no_end o.status is e);
     ended = hands.there;
     held = hands.held;
     no_end = hands.none;
@@ -187,14 +170,14 @@ module _ {files : FilesOver} {out err : SinkOver} {Unopened Unwritten Silent : T
     usage = (λ e. refl, λ h. is);
     unopened = λ e. (unopened, unwritten, none);
     said_usage = λ e. said;
-    read_fault = λ e. absurd (omega (arith, is, e));
+    read_fault = λ e. absurd (usage-no_file o.status is e);
     unread = λ e. tt;
-    write_fault = λ e. absurd (omega (arith, is, e));
+    write_fault = λ e. absurd (usage-no_write o.status is e);
     broken_off = λ e. tt;
-    said_write = λ e. absurd (omega (arith, is, e));
-    nothing = at-late o.status _ (λ e. absurd (omega (arith, is, e))) (λ e. absurd (omega (arith, is, e)));
+    said_write = λ e. absurd (usage-no_write o.status is e);
+    nothing = at-late o.status _ (λ e. absurd (usage-no_memory o.status is e)) (λ e. absurd (usage-no_refusal o.status is e));
     unbegun = λ e. tt;
-    said_memory = λ e. absurd (omega (arith, is, e));
+    said_memory = λ e. absurd (usage-no_memory o.status is e);
     refused = λ e. tt;
     refusal = tt;
     complete = tt;

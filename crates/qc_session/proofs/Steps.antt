@@ -14,9 +14,7 @@ use Rattle.warehouse.specs.State.{State}
 use Rattle.qc_session.specs.Transcript.{Item, Run, is_skipped, item, items, run_at, step, transcript}
 use Rattle.qc_session.specs.Runs.{AreRising, AreSkipped, StoppedAt, StoppedWriting, Took, WroteAll, line_at, may_skip}
 use Rattle.std.specs.Prelude.{⊤}
-use Rattle.qc_session.specs.declared.session.Stop.{Stop}
-use Rattle.qc_session.specs.declared.session.Stop.TheVariants as stops
-use Rattle.qc_session.specs.Session.{AreUpTo, Gathered, IfStop, Replies, Skips, WroteLine, WrotePart}
+use Rattle.qc_session.specs.Session.{AreUpTo, Gathered, Replies, Skips, WroteLine, WrotePart}
 use Rattle.qc_session.proofs.Handed.{front-on, front-then, handed-none, handed-on, handed-then, taken-count}
 
 not_skipped : (number : ℕ) (skipped : List ℕ) → AreUpTo number skipped → is_skipped skipped (number + 1) ≡ false
@@ -247,12 +245,3 @@ lines-regroup done line all rest behind e f = e ∙ ap (λ (xs : List (List ℕ)
 
 pub length-push : (done : List (List ℕ)) (line : List ℕ) (number number2 : ℕ) → length done ≡ number → number2 ≡ number + 1 → length (done ++ line ∷ []) ≡ number2
 length-push done line number number2 e f = omega (arith, length-append done (line ∷ []), e, f)
-
--- facts for each reason to stop
-pub if_write : (stop : Stop) (Q R : Type 0) → (Q → R) → IfStop stop (λ name. ⊤) Q → IfStop stop (λ name. ⊤) R
-if_write (stops.Read name) Q R f h = tt
-if_write stops.Write Q R f h = f h
-
-pub if_read : (stop : Stop) (P Q R S : List ℕ → Type 0) → ((name : List ℕ) → P name → Q name → R name → S name) → IfStop stop P ⊤ → IfStop stop Q ⊤ → IfStop stop R ⊤ → IfStop stop S ⊤
-if_read (stops.Read name) P Q R S f p q r = f name p q r
-if_read stops.Write P Q R S f p q r = tt

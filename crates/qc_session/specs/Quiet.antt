@@ -1,5 +1,8 @@
 -- Why a script whose replies nobody takes stopped.
-use Rattle.std.specs.Prelude.{ℕ, List, ⊤}
+use Rattle.std.specs.Prelude.{ℕ, List, [], Option, Some, None, IfSome, Result, MatchResult, ⊤}
+use Rattle.qc_io.specs.Outside.{Told}
+use Rattle.qc_session.specs.Runs.{StoppedAt, WroteAll}
+use Rattle.qc_session.specs.declared.session.Session.{Session}
 use Rattle.qc_session.specs.declared.quiet.QuietStop.{QuietStop}
 use Rattle.qc_session.specs.declared.quiet.QuietStop.TheVariants as stops
 
@@ -7,3 +10,9 @@ use Rattle.qc_session.specs.declared.quiet.QuietStop.TheVariants as stops
 abbrev pub IfUnread : QuietStop → (List ℕ → Type 0) → Type 0
 IfUnread (stops.Read name) P = P name
 IfUnread stops.Memory P = ⊤
+
+-- how all lines were taken without their replies, none of them skipped; or a file couldn't be read, where the files failed
+pub record QuietEnds {T : Type 0} (told : Option Told) (sure failed : Type 0) (lines : List (List ℕ)) (old new : Session) (result : Result T QuietStop) : Type 0 where
+  pub by : MatchResult result
+      (λ done. IfSome told (λ t. WroteAll t old.pinned.now.state [] lines (Some new.pinned.now.state) None None))
+      (λ stop. IfUnread stop (λ name. failed × IfSome told (λ t. StoppedAt t sure old.pinned.now.state [] lines name None None)))

@@ -1,11 +1,13 @@
 -- How one line goes on from those before it.
-use Rattle.std.specs.Prelude.{◌≡◌, ◌≤◌, ◌⊎◌, ◌++◌, ℕ, true, List, [], ◌∷◌, Option, IfSome, ⊤}
+use Rattle.std.specs.Prelude.{◌≡◌, ◌≤◌, ◌⊎◌, ◌+◌, ◌++◌, ℕ, true, List, [], ◌∷◌, Option, Some, None, IfSome, Result, MatchResult, vec_capacity, ⊤}
 use Rattle.qc_io.specs.Outside.{Told}
 use Rattle.warehouse.specs.State.{State}
-use Rattle.qc_session.specs.Pins.{PinnedState}
+use Rattle.qc_session.specs.Answers.{file_of}
+use Rattle.qc_session.specs.Pins.{PinnedState, held_in}
 use Rattle.qc_session.specs.Transcript.{item, run_at, step}
 use Rattle.qc_session.specs.Handed.{IsHandedOn, TookFront}
-use Rattle.qc_session.specs.Runs.{Took, may_skip}
+use Rattle.qc_session.specs.Runs.{AreSkipped, StoppedAt, StoppedWriting, Took, WroteAll, may_skip}
+use Rattle.qc_session.specs.declared.session.Session.{Session}
 use Rattle.qc_session.specs.declared.session.Stop.{Stop}
 use Rattle.qc_session.specs.declared.session.Stop.TheVariants as stops
 
@@ -43,3 +45,28 @@ pub record Gathered (told : Told) (start : State) (skipped : List ℕ) (lines : 
   pub replies : List ℕ
   pub took : Took told start skipped lines state replies
   pub handed : IsHandedOn replies kept before now
+
+-- how a reply was gathered: out took a front of these bytes, and the rest is kept, or it is refused where out failed
+pub record Puts {T : Type 0} (broke : Type 0) (bytes kept : List ℕ) (before now : Option (List ℕ)) (result : Result T Stop) : Type 0 where
+  pub by : MatchResult result (λ done. IsHandedOn bytes kept before now) (λ stop. IfStop stop (λ name. ⊥) (broke × TookFront bytes before now))
+
+-- how a line was taken: whole; or its file couldn't be read, where the files failed; or a reply couldn't be written, where out broke
+pub record LineEnds {T : Type 0} (told : Option Told) (sure failed broke : Type 0) (line : List ℕ) (old new : Session) (before now : Option (List ℕ)) (result : Result T Stop) : Type 0 where
+  pub number : new.number ≡ old.number
+  pub capacity : vec_capacity old.skipped ≤ vec_capacity new.skipped
+  pub skips : Skips old.skipped.items (old.number + 1) line new.skipped.items
+  pub by : MatchResult result
+      (λ done. WroteLine told new.skipped.items (old.number + 1) (held_in old.pinned) line (held_in new.pinned) old.pending new.pending before now)
+      (λ stop. IfStop stop
+      (λ name. failed × (file_of old.pinned.now.state.schema line ≡ Some name) × (sure → IfSome told (λ t. t name ≡ None))
+      × IsHandedOn old.pending [] before now × (new.skipped.items ≡ old.skipped.items))
+      (broke × WrotePart told old.skipped.items new.skipped.items (old.number + 1) (held_in old.pinned) line (held_in new.pinned) old.pending before now))
+
+-- how all lines were taken, in the same three ways
+pub record LinesEnd {T : Type 0} (told : Option Told) (sure failed broke : Type 0) (lines : List (List ℕ)) (old new : Session) (before now : Option (List ℕ)) (result : Result T Stop) : Type 0 where
+  pub skipped : AreSkipped lines new.skipped.items
+  pub by : MatchResult result
+      (λ done. IfSome told (λ t. WroteAll t old.pinned.now.state new.skipped.items lines (Some new.pinned.now.state) before now))
+      (λ stop. IfStop stop
+      (λ name. failed × IfSome told (λ t. StoppedAt t sure old.pinned.now.state new.skipped.items lines name before now))
+      (broke × IfSome told (λ t. StoppedWriting t old.pinned.now.state new.skipped.items lines before now)))

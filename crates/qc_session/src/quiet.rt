@@ -1,8 +1,7 @@
 // A script without replies.
-ghost use Rattle.std.specs.Prelude.{◌≡◌, ◌≤◌, ◌<◌, ◌^◌, [], Some, None, IfErr, IfSome, OnOk, IsTrue, length, map, vec_capacity};
+ghost use Rattle.std.specs.Prelude.{◌≡◌, ◌≤◌, ◌<◌, ◌^◌, [], IsTrue, length, map, vec_capacity};
 ghost use Rattle.qc_io.specs.Outside.{Rose};
 ghost use Rattle.qc_session.specs.Lines.{lines_of, without_cr};
-ghost use Rattle.qc_session.specs.Runs.{StoppedAt, WroteAll};
 
 use crate::session::{Session, Stop, take_lines};
 use cell_core::{Steps, Text};
@@ -20,7 +19,7 @@ pub enum QuietStop {
     Memory,
 }
 
-ghost use Rattle.qc_session.specs.Quiet.{IfUnread};
+ghost use Rattle.qc_session.specs.Quiet.{QuietEnds};
 
 /// Carries out the lines of a script in order, without their replies.
 pub fn take_quietly<F: Files, L: Ledger>(
@@ -34,12 +33,7 @@ pub fn take_quietly<F: Files, L: Ledger>(
     requires few { length (lines_of script.now) < 2 ^ 32 }
     requires short { length script.now ≤ MAX_FILE }
     requires fresh { (session.old.number ≡ 0) × (session.old.skipped.items ≡ []) × (session.old.pending ≡ []) × (session.old.pinned.pins ≡ []) }
-    ensures later_files { F.faults files.old ≤ F.faults files.new }
-    ensures read_fault { IfErr result (λ stop. IfUnread stop (λ name. Rose (F.faults files.old) (F.faults files.new))) }
-    ensures all { OnOk result (IfSome (F.told files.old) (λ t. WroteAll t session.old.pinned.now.state []
-        (map without_cr (lines_of script.now)) (Some session.new.pinned.now.state) None None)) }
-    ensures before { IfErr result (λ stop. IfUnread stop (λ name. IfSome (F.told files.old)
-        (λ t. StoppedAt t (IsTrue (F.steady files.old)) session.old.pinned.now.state [] (map without_cr (lines_of script.now)) name None None))) }
+    ensures { QuietEnds (F.told files.old) (IsTrue (F.steady files.old)) (Rose (F.faults files.old) (F.faults files.new)) (map without_cr (lines_of script.now)) session.old session.new result }
 {
     let mut out = SureSink::new();
     match take_lines(alloc, files, &mut out, session, script, steps) {

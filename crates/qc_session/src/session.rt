@@ -1,11 +1,8 @@
 // The lines of a script, in order.
-ghost use Rattle.std.specs.Prelude.{◌≡◌, ◌≤◌, ◌<◌, ◌^◌, ◌+◌, ◌++◌, ◌∷◌, ℕ, [], Some, None, IfErr, IfOk, IfSome, OnOk, IsTrue, length, map, vec_len, vec_capacity, ⊤};
+ghost use Rattle.std.specs.Prelude.{◌≡◌, ◌≤◌, ◌<◌, ◌^◌, ◌+◌, ◌++◌, [], IfOk, IsTrue, false, length, map, vec_len, vec_capacity};
 ghost use Rattle.qc_io.specs.Outside.{Rose};
-ghost use Rattle.qc_session.specs.Lines.{lines_of, without_cr};
-ghost use Rattle.qc_session.specs.Answers.{file_of};
-ghost use Rattle.qc_session.specs.Handed.{IsHandedOn};
-ghost use Rattle.qc_session.specs.Pins.{held_in};
-ghost use Rattle.qc_session.specs.Runs.{AreSkipped, StoppedAt, StoppedWriting, WroteAll};
+ghost use Rattle.qc_session.specs.Lines.{is_passed, lines_of, without_cr};
+ghost use Rattle.qc_session.specs.Reading.{FilesStay};
 
 use crate::answer::{LineStop, answer_line};
 use crate::lines::{is_passed_over, names_file};
@@ -33,6 +30,7 @@ pub enum Stop {
 /// How far a script has been carried out.
 #[derive(Drop)]
 pub struct Session {
+    /// How many lines were taken.
     pub number: u32,
     pub pinned: Pinned,
     pub skipped: Vec<u32>,
@@ -41,10 +39,64 @@ pub struct Session {
     pub reply: Vec<u8>,
 }
 
-ghost use Rattle.qc_session.specs.Session.{AreUpTo, IfStop, Skips, WroteLine, WrotePart};
+ghost use Rattle.qc_session.specs.Session.{AreUpTo, LineEnds, LinesEnd, Puts};
 
-// Takes one line, and gathers its reply. Before and after a line that names a file all replies are
-// flushed, and at a stop none is left.
+// Gathers a reply, and flushes all if it is not to wait.
+fn put_reply<O: Sink>(
+    pending: &mut Pending,
+    out: &mut O,
+    reply: &[u8],
+    at_once: bool,
+) -> Result<(), Stop>
+    ensures later { O.faults out.old ≤ O.faults out.new }
+    ensures puts { Puts (Rose (O.faults out.old) (O.faults out.new)) (pending.old ++ reply.now) pending.new (O.taken out.old) (O.taken out.new) result }
+{
+    match pending.put(out, reply, at_once) {
+        Ok(()) => Ok(()),
+        Err(_) => Err(Stop::Write),
+    }
+}
+
+// Carries out a line that isn't ignored, and gathers its reply. Before and after a line that names a
+// file all replies are flushed, and at a stop none is left.
+fn carry_out<F: Files, O: Sink, L: Ledger>(
+    alloc: Global,
+    files: &mut F,
+    out: &mut O,
+    session: &mut Session,
+    line: &[u8],
+    steps: &mut Steps<L>,
+) -> Result<(), Stop>
+    requires room { vec_len session.old.skipped < vec_capacity session.old.skipped }
+    requires short { length line.now ≤ MAX_FILE }
+    requires number { session.old.number + 1 < 2 ^ 32 }
+    requires up_to { AreUpTo session.old.number session.old.skipped.items }
+    requires taken { is_passed line.now ≡ false }
+    ensures stay { FilesStay (F.faults files.old) (F.faults files.new) (F.told files.old) (F.told files.new) (F.steady files.old) (F.steady files.new) }
+    ensures later { O.faults out.old ≤ O.faults out.new }
+    ensures ends { LineEnds (F.told files.old) (IsTrue (F.steady files.old)) (Rose (F.faults files.old) (F.faults files.new)) (Rose (O.faults out.old) (O.faults out.new))
+        line.now session.old session.new (O.taken out.old) (O.taken out.new) result }
+{
+    let number = session.number + 1;
+    let alone = names_file(line);
+    let Ok(()) = session.pending.hand_on_if(out, alone) else {
+        return Err(Stop::Write);
+    };
+    match answer_line(alloc, files, &mut session.pinned, number, line, steps) {
+        Ok(reply) => put_reply(&mut session.pending, out, reply.as_bytes(), alone),
+        Err(LineStop::Memory) => {
+            session.skipped.push(number).unwrap();
+            let reply = memory(number);
+            put_reply(&mut session.pending, out, reply.as_bytes(), alone)
+        }
+        Err(LineStop::Fault(name)) => match session.pending.hand_on(out) {
+            Ok(()) => Err(Stop::Read(name)),
+            Err(_) => Err(Stop::Write),
+        },
+    }
+}
+
+// Takes one line, and gathers its reply.
 fn take_line<F: Files, O: Sink, L: Ledger>(
     alloc: Global,
     files: &mut F,
@@ -57,31 +109,15 @@ fn take_line<F: Files, O: Sink, L: Ledger>(
     requires short { length line.now ≤ MAX_FILE }
     requires number { session.old.number + 1 < 2 ^ 32 }
     requires up_to { AreUpTo session.old.number session.old.skipped.items }
-    ensures later_files { F.faults files.old ≤ F.faults files.new }
-    ensures later_out { O.faults out.old ≤ O.faults out.new }
-    ensures told { F.told files.new ≡ F.told files.old }
-    ensures steady { IsTrue (F.steady files.old) → IsTrue (F.steady files.new) }
-    ensures read_fault { IfErr result (λ stop. IfStop stop (λ name. Rose (F.faults files.old) (F.faults files.new)) ⊤) }
-    ensures names { IfErr result (λ stop. IfStop stop (λ name. file_of session.old.pinned.now.state.schema line.now ≡ Some name) ⊤) }
-    ensures untold { IfErr result (λ stop. IfStop stop (λ name. IsTrue (F.steady files.old) → IfSome (F.told files.old) (λ t. t name ≡ None)) ⊤) }
-    ensures write_fault { IfErr result (λ stop. IfStop stop (λ name. ⊤) (Rose (O.faults out.old) (O.faults out.new))) }
-    ensures stays { IfErr result (λ stop. IfStop stop (λ name. IsHandedOn session.old.pending [] (O.taken out.old) (O.taken out.new)
-        × (session.new.skipped.items ≡ session.old.skipped.items)) ⊤) }
-    ensures wrote { OnOk result (WroteLine (F.told files.old) session.new.skipped.items (session.old.number + 1) (held_in session.old.pinned) line.now
-        (held_in session.new.pinned) session.old.pending session.new.pending (O.taken out.old) (O.taken out.new)) }
-    ensures part { IfErr result (λ stop. IfStop stop (λ name. ⊤)
-        (WrotePart (F.told files.old) session.old.skipped.items session.new.skipped.items (session.old.number + 1) (held_in session.old.pinned) line.now
-        (held_in session.new.pinned) session.old.pending (O.taken out.old) (O.taken out.new))) }
-    ensures skips { Skips session.old.skipped.items (session.old.number + 1) line.now session.new.skipped.items }
-    ensures number { OnOk result (session.new.number ≡ session.old.number + 1) }
-    ensures capacity { vec_capacity session.old.skipped ≤ vec_capacity session.new.skipped }
-    ensures length { vec_len session.new.skipped ≤ vec_len session.old.skipped + 1 }
+    ensures stay { FilesStay (F.faults files.old) (F.faults files.new) (F.told files.old) (F.told files.new) (F.steady files.old) (F.steady files.new) }
+    ensures later { O.faults out.old ≤ O.faults out.new }
+    ensures ends { LineEnds (F.told files.old) (IsTrue (F.steady files.old)) (Rose (F.faults files.old) (F.faults files.new)) (Rose (O.faults out.old) (O.faults out.new))
+        line.now session.old session.new (O.taken out.old) (O.taken out.new) result }
 {
-    let number = session.number + 1;
-    session.number = number;
     if is_passed_over(line) {
         return Ok(());
     }
+    let number = session.number + 1;
     if answer_coded(
         alloc,
         session.pinned.now(),
@@ -90,33 +126,9 @@ fn take_line<F: Files, O: Sink, L: Ledger>(
         &mut session.reply,
         steps,
     ) {
-        return match session.pending.put(out, &session.reply, false) {
-            Ok(()) => Ok(()),
-            Err(_) => Err(Stop::Write),
-        };
+        return put_reply(&mut session.pending, out, &session.reply, false);
     }
-    let alone = names_file(line);
-    let Ok(()) = session.pending.hand_on_if(out, alone) else {
-        return Err(Stop::Write);
-    };
-    match answer_line(alloc, files, &mut session.pinned, number, line, steps) {
-        Ok(reply) => match session.pending.put(out, reply.as_bytes(), alone) {
-            Ok(()) => Ok(()),
-            Err(_) => Err(Stop::Write),
-        },
-        Err(LineStop::Memory) => {
-            session.skipped.push(number).unwrap();
-            let reply = memory(number);
-            match session.pending.put(out, reply.as_bytes(), alone) {
-                Ok(()) => Ok(()),
-                Err(_) => Err(Stop::Write),
-            }
-        }
-        Err(LineStop::Fault(name)) => match session.pending.hand_on(out) {
-            Ok(()) => Err(Stop::Read(name)),
-            Err(_) => Err(Stop::Write),
-        },
-    }
+    carry_out(alloc, files, out, session, line, steps)
 }
 
 // The number of lines of a text.
@@ -183,25 +195,17 @@ pub fn take_lines<F: Files, O: Sink, L: Ledger>(
     requires few { length (lines_of script.now) < 2 ^ 32 }
     requires short { length script.now ≤ MAX_FILE }
     requires fresh { (session.old.number ≡ 0) × (session.old.skipped.items ≡ []) × (session.old.pending ≡ []) × (session.old.pinned.pins ≡ []) }
-    ensures later_files { F.faults files.old ≤ F.faults files.new }
-    ensures later_out { O.faults out.old ≤ O.faults out.new }
-    ensures read_fault { IfErr result (λ stop. IfStop stop (λ name. Rose (F.faults files.old) (F.faults files.new)) ⊤) }
-    ensures write_fault { IfErr result (λ stop. IfStop stop (λ name. ⊤) (Rose (O.faults out.old) (O.faults out.new))) }
-    ensures skipped { AreSkipped (map without_cr (lines_of script.now)) session.new.skipped.items }
-    ensures all { OnOk result (IfSome (F.told files.old) (λ t. WroteAll t session.old.pinned.now.state session.new.skipped.items
-        (map without_cr (lines_of script.now)) (Some session.new.pinned.now.state) (O.taken out.old) (O.taken out.new))) }
-    ensures before { IfErr result (λ stop. IfStop stop (λ name. IfSome (F.told files.old)
-        (λ t. StoppedAt t (IsTrue (F.steady files.old)) session.old.pinned.now.state session.new.skipped.items
-        (map without_cr (lines_of script.now)) name (O.taken out.old) (O.taken out.new))) ⊤) }
-    ensures part { IfErr result (λ stop. IfStop stop (λ name. ⊤)
-        (IfSome (F.told files.old) (λ t. StoppedWriting t session.old.pinned.now.state session.new.skipped.items
-        (map without_cr (lines_of script.now)) (O.taken out.old) (O.taken out.new)))) }
+    ensures { LinesEnd (F.told files.old) (IsTrue (F.steady files.old)) (Rose (F.faults files.old) (F.faults files.new)) (Rose (O.faults out.old) (O.faults out.new))
+        (map without_cr (lines_of script.now)) session.old session.new (O.taken out.old) (O.taken out.new) result }
 {
     let mut rest = script;
     'lines: while !rest.is_empty() {
         let (line, behind) = split_line(rest);
         match take_line(alloc, files, out, session, trim_cr(line), steps) {
-            Ok(()) => rest = behind,
+            Ok(()) => {
+                session.number += 1;
+                rest = behind;
+            }
             Err(stop) => return Err(stop),
         }
     }

@@ -1,3 +1,2 @@
-use Rattle.std.proofs.Common.{◌∙◌, sym}
 use Rattle.qc_session.proofs.Packed.{quiet-all, quiet-read}
 use Rattle.qc_session.proofs.quiet.take_quietly.Goals as goal

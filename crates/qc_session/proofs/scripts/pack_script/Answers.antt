@@ -17,12 +17,13 @@ returns-in_default-clause-ends g c = pack-memory refl c.fail.ensures.status c.fa
 
 pub returns-in-Ok-take_quietly-clause-ends : goal.returns-in-Ok-take_quietly-clause-ends
 returns-in-Ok-take_quietly-clause-ends g c =
-    pack-led _ _ _ _ (c.trim_mark-script.ensures ∙ ap without_mark c.deref.ensures.value) c.in-Ok.ensures.state (ap (λ (h : Contents). h.state) c.finish.ensures) c.in-Ok-take_quietly.ensures.all c.packed.ensures.ends
+    pack-led _ _ _ _ (c.trim_mark-script.ensures ∙ ap without_mark c.deref.ensures.value) c.in-Ok.ensures.state (ap (λ (h : Contents). h.state) c.finish.ensures) c.in-Ok-take_quietly.ensures.by c.packed.ensures.ends
 
 pub returns-in-Err-Read-clause-ends : goal.returns-in-Err-Read-clause-ends
 returns-in-Err-Read-clause-ends g c =
-    pack-unread c.in-Err-Read.field-0 c.in-Err-Read.name _ _ _ (c.trim_mark-script.ensures ∙ ap without_mark c.deref.ensures.value) c.in-Ok.ensures.state refl c.fail-in-Err-Read.ensures.status c.fail-in-Err-Read.ensures.skipped
-    c.in-Err-Read.field-0-is c.in-Err-Read.ensures.read_fault c.in-Err-Read.ensures.before (ap CannotRead c.as_str.ensures.value) c.fail-in-Err-Read.ensures.said
+    let h = rw c.in-Err-Read.field-0-is at c.in-Err-Read.ensures.by in
+    pack-unread c.in-Err-Read.name _ _ _ (c.trim_mark-script.ensures ∙ ap without_mark c.deref.ensures.value) c.in-Ok.ensures.state refl c.fail-in-Err-Read.ensures.status c.fail-in-Err-Read.ensures.skipped
+    h.0 h.1 (ap CannotRead c.as_str.ensures.value) c.fail-in-Err-Read.ensures.said
 
 pub returns-clause-ends : goal.returns-clause-ends
 returns-clause-ends g c = pack-memory refl c.fail-in-Err-Memory.ensures.status c.fail-in-Err-Memory.ensures.skipped c.fail-in-Err-Memory.ensures.said

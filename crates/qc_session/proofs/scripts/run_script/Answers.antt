@@ -17,14 +17,16 @@ returns-in_default-clause-ends g c = script-unbegun refl refl c.fail.ensures.sta
 pub returns-in-Ok-take_lines-clause-ends : goal.returns-in-Ok-take_lines-clause-ends
 returns-in-Ok-take_lines-clause-ends g c =
     script-whole _ _ _ _ (c.trim_mark-script.ensures ∙ ap without_mark c.deref.ensures.value) c.in-Ok.ensures.state c.finished.ensures.status c.finished.ensures.skipped c.finished.ensures.end
-    c.in-Ok-take_lines.ensures.skipped c.in-Ok-take_lines.ensures.all refl
+    c.in-Ok-take_lines.ensures.skipped c.in-Ok-take_lines.ensures.by refl
 
 pub returns-in-Err-Read-clause-ends : goal.returns-in-Err-Read-clause-ends
 returns-in-Err-Read-clause-ends g c =
-    script-unread c.in-Err-Read.field-0 c.in-Err-Read.name _ _ _ _ (c.trim_mark-script.ensures ∙ ap without_mark c.deref.ensures.value) c.in-Ok.ensures.state c.stopped.ensures.status c.stopped.ensures.skipped
-    c.in-Err-Read.ensures.skipped c.in-Err-Read.field-0-is c.in-Err-Read.ensures.read_fault c.in-Err-Read.ensures.before (ap CannotRead c.as_str.ensures.value) c.tell.ensures.said
+    let h = rw c.in-Err-Read.field-0-is at c.in-Err-Read.ensures.by in
+    script-unread c.in-Err-Read.name _ _ _ _ (c.trim_mark-script.ensures ∙ ap without_mark c.deref.ensures.value) c.in-Ok.ensures.state c.stopped.ensures.status c.stopped.ensures.skipped
+    c.in-Err-Read.ensures.skipped h.0 h.1 (ap CannotRead c.as_str.ensures.value) c.tell.ensures.said
 
 pub returns-clause-ends : goal.returns-clause-ends
 returns-clause-ends g c =
-    script-broken c.in-Err-Write.field-0 _ _ _ (c.trim_mark-script.ensures ∙ ap without_mark c.deref.ensures.value) c.in-Ok.ensures.state c.stopped-in-Err-Write.ensures.status c.stopped-in-Err-Write.ensures.skipped
-    c.in-Err-Write.ensures.skipped c.in-Err-Write.field-0-is c.in-Err-Write.ensures.write_fault c.in-Err-Write.ensures.part c.tell-in-Err-Write.ensures.said
+    let h = rw c.in-Err-Write.field-0-is at c.in-Err-Write.ensures.by in
+    script-broken _ _ _ (c.trim_mark-script.ensures ∙ ap without_mark c.deref.ensures.value) c.in-Ok.ensures.state c.stopped-in-Err-Write.ensures.status c.stopped-in-Err-Write.ensures.skipped
+    c.in-Err-Write.ensures.skipped h.0 h.1 c.tell-in-Err-Write.ensures.said
