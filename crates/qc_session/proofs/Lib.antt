@@ -17,3 +17,4 @@ mod PackEnds
 mod Statuses
 mod Ran
 mod Taken
+mod Widened

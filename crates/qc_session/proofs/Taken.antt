@@ -1,5 +1,5 @@
 -- How a line is taken, by how its reply was gathered.
-use Rattle.std.proofs.Common.{◌≡◌, ◌≤◌, ◌+◌, ◌++◌, ℕ, Bool, List, [], ◌∷◌, length, true, false, Some, None, IfSome, IsTrue, refl, inl, inr, ap, arith, length-append}
+use Rattle.std.proofs.Common.{◌≡◌, ◌≤◌, ◌+◌, ◌∙◌, ◌++◌, ℕ, Bool, List, [], ◌∷◌, length, true, false, Some, None, IfSome, IsTrue, refl, inl, inr, ap, arith, length-append}
 use Rattle.std.specs.Prelude.{Option, Result, Ok, Err, vec_capacity, ⊤}
 use Rattle.qc_io.specs.Outside.{Told}
 use Rattle.query_script.specs.Lines.{may_want_memory}
@@ -19,6 +19,10 @@ use Rattle.qc_session.proofs.Steps.{part-answer, part-before, part-memory, wrote
 
 pub stay-same : (faults : ℕ) (told : Option Told) (steady : Bool) → FilesStay faults faults told told steady steady
 stay-same faults told steady = record { later = omega arith; told = refl; steady = λ h. h }
+
+pub stay-then : {faults faults2 faults3 : ℕ} {told told2 told3 : Option Told} {steady steady2 steady3 : Bool} → FilesStay faults faults2 told told2 steady steady2 → FilesStay faults2 faults3 told2 told3 steady2 steady3
+    → FilesStay faults faults3 told told3 steady steady3
+stay-then a b = record { later = omega (arith, a.later, b.later); told = b.told ∙ a.told; steady = λ h. b.steady (a.steady h) }
 
 pub later-same : (n : ℕ) → n ≤ n
 later-same n = omega arith
