@@ -23,11 +23,14 @@ struct Seen {
 }
 
 impl Seen {
-    fn with_capacity(alloc: Global, keys: HashKeys, capacity: usize) -> Result<Seen, Memory>
+    // No change so far, with room for those of the batch.
+    fn of_batch(alloc: Global, keys: HashKeys, batch: &RawBatch) -> Result<Seen, Memory>
         ensures { IfOk result (λ seen. AreSeen seen.gone.keys seen.come.keys []) }
     {
-        let gone = IndexSet::with_capacity_and_hasher(alloc, capacity, keys)?;
-        let Ok(come) = IndexSet::with_capacity_and_hasher(alloc, capacity, keys) else {
+        let insertions = batch.insertions();
+        let deletions = batch.len().saturating_sub(insertions);
+        let gone = IndexSet::with_capacity_and_hasher(alloc, deletions as usize, keys)?;
+        let Ok(come) = IndexSet::with_capacity_and_hasher(alloc, insertions as usize, keys) else {
             drop(gone);
             return Err(AllocError);
         };
@@ -71,7 +74,7 @@ fn first_seen(seen: &mut Seen, batch: &RawBatch) -> Result<Option<u32>, Memory>
 fn first_repeat(alloc: Global, keys: HashKeys, batch: &RawBatch) -> Result<Option<u32>, Memory>
     ensures { IfOk result (λ k. k ≡ first_twice batch.now.changes) }
 {
-    let mut seen = Seen::with_capacity(alloc, keys, batch.len() as usize)?;
+    let mut seen = Seen::of_batch(alloc, keys, batch)?;
     let found = first_seen(&mut seen, batch);
     drop(seen);
     found
