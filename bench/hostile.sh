@@ -3,19 +3,17 @@
 #
 #     bench/hostile.sh [PROGRAM]
 #
-# PROGRAM is the built program, by default crates/qcube/out/qcube. The first files have texts and ids that all collide under the
-# standard library's default hasher, whose seed is fixed. The others have one extreme shape each: a wide header, long lines,
-# quoted fields, one value or one tuple in all rows, an upper bound that is as deep as possible, or a table whose places were
-# emptied again and again.
+# PROGRAM is the built program, by default crates/qcube/out/qcube. A time is the least of three runs, or of RUNS.
+#
+# The first files have texts and ids that collide under the default hasher of the kit, whose seed is fixed. The others have one
+# extreme shape each: a wide header, a long line, quoted fields, one value or one tuple in all rows, rows that share little in many
+# dimensions, or a table whose rows are deleted and inserted again and again.
 source "$(dirname "${BASH_SOURCE[0]}")/common.sh"
 
-python3 - "$program" <<'PY'
+python3 - <<'PY'
 import os
 import random
-import sys
-from common import best
 
-program = sys.argv[1]
 WORD = 1 << 64
 MASK = WORD - 1
 # The default hasher: its first state and its multiplier.
@@ -47,31 +45,19 @@ def ordinary_texts(many):
     return ["".join(draw.choices("abcdefghijklmnopqrstuvwxyz", k=40)) + f"{number:08}" for number in range(many)]
 
 
-def colliding_ids(many):
-    """Ids whose hashes have the same lowest bits, so that all are looked for at one place of the table."""
-    bits = max(8, many.bit_length() - 4)
-    size, step = WORD << bits, (MULTIPLIER ^ 16) << bits
-    # The steps from one multiple that lies below WORD, modulo size, to the next ones: the shortest up, and the shortest down.
-    up = down = None
-    ahead, at, place = 0, 0, 0
-    while up is None or down is None:
-        ahead = (ahead + step) % size
-        at += 1
-        if ahead < WORD and up is None:
-            up = (at, ahead)
-        if size - ahead < WORD and down is None:
-            down = (at, size - ahead)
-    ids, count = [], 0
+def colliding_ids(many, bits):
+    """Ids whose hashes have the same lowest bits, found by trying."""
+    ids, mask = [], (1 << bits) - 1
+    number = 1 << 62
     while len(ids) < many:
-        ids.append(STATE ^ (count << bits))
-        moves = [(number, moved) for number, moved in ((up[0], place + up[1]), (down[0], place - down[1]),
-                 (up[0] + down[0], place + up[1] - down[1])) if 0 <= moved < WORD]
-        number, place = min(moves)
-        count += number
+        number += 1
+        state = fold(STATE ^ number, MULTIPLIER ^ 16)
+        if (state ^ state >> 32) & mask == 0:
+            ids.append(number)
     return ids
 
 
-def write_base(name, ids, texts, amounts=None):
+def write_base(name, ids, texts):
     with open(name, "w") as file:
         file.write("id,a,sale\n")
         file.writelines(f"{row},{text},1\n" for row, text in zip(ids, texts))
@@ -89,29 +75,32 @@ def script(name, *lines):
         file.writelines(line + "\n" for line in lines)
 
 
-def run(schema_name, script_name):
-    took, replies, peak = best(program, "run", schema_name, script_name)
-    assert not any(reply.startswith(("refused", "memory")) for reply in replies), replies[:3]
-    return took, peak / (1 << 20)
+# What is run beside what: a line for each pair, with a schema and two scripts.
+pairs = open("pairs", "w")
 
 
-def beside(what, hostile, ordinary):
-    (slow, much), (usual, some) = hostile, ordinary
-    print(f"{what}: {slow:.2f} s and {much:.0f} MiB; ordinary {usual:.2f} s and {some:.0f} MiB; {slow / usual:.2f} times", flush=True)
+def beside(what, schema_name, hostile, ordinary):
+    pairs.write(f"{what}|{schema_name}|{hostile}|{ordinary}\n")
+
+
+def load(name, *more):
+    script(name, f"load {name}.csv", *more)
 
 
 schema("s")
 for many in (5_000, 20_000, 200_000):
-    for what, ids, texts in (
-        ("texts", range(1, many + 1), colliding_texts(many)),
-        ("ids", colliding_ids(many), ordinary_texts(many)),
-    ):
-        random_ids = draw.sample(range(1 << 50), many)
-        write_base("hostile.csv", ids, texts)
-        write_base("ordinary.csv", ids if what == "texts" else random_ids, ordinary_texts(many))
-        script("hostile", "load hostile.csv")
-        script("ordinary", "load ordinary.csv")
-        beside(f"{many:,} {what} of one hash", run("s", "hostile"), run("s", "ordinary"))
+    write_base(f"texts{many}.csv", range(1, many + 1), colliding_texts(many))
+    write_base(f"usual{many}.csv", range(1, many + 1), ordinary_texts(many))
+    load(f"texts{many}")
+    load(f"usual{many}")
+    beside(f"{many:,} texts of one hash", "s", f"texts{many}", f"usual{many}")
+for many, bits in ((5_000, 8), (20_000, 10), (200_000, 7)):
+    texts = ordinary_texts(many)
+    write_base(f"ids{many}.csv", colliding_ids(many, bits), texts)
+    write_base(f"drawn{many}.csv", draw.sample(range(1 << 62, 1 << 63), many), texts)
+    load(f"ids{many}")
+    load(f"drawn{many}")
+    beside(f"{many:,} ids whose hashes share their lowest {bits} bits", "s", f"ids{many}", f"drawn{many}")
 
 # One extreme shape each, beside a file of the same bytes or the same rows.
 names = [f"c{k}" for k in range(16)]
@@ -119,40 +108,30 @@ schema("wide", names)
 
 
 def table(name, header, rows):
-    with open(name, "w") as file:
+    with open(f"{name}.csv", "w") as file:
         file.write(header + "\n")
         file.writelines(row + "\n" for row in rows)
+    load(name)
 
 
 many = 100_000
-common = [f"{row},x{draw.randrange(500)},1" for row in range(1, many + 1)]
-table("ordinary.csv", "id,a,sale", common)
-script("ordinary", "load ordinary.csv")
-usual = run("s", "ordinary")
+table("usual", "id,a,sale", [f"{row},x{draw.randrange(500)},1" for row in range(1, many + 1)])
 columns = 2_000_000
-table("columns.csv", "id,a,sale," + ",".join(f"n{k}" for k in range(columns)), ["1,x,1," + "," * (columns - 1)])
-table("bytes.csv", "id,a,sale,more", [f"{row},x,1,{'y' * 400}" for row in range(1, 1 + os.path.getsize("columns.csv") // 410)])
-script("columns", "load columns.csv")
-script("bytes", "load bytes.csv")
-beside("a header of 2,000,000 columns", run("s", "columns"), run("s", "bytes"))
-table("line.csv", "id,a,sale,more", ["1,x,1," + "y" * 20_000_000])
-table("lines.csv", "id,a,sale,more", [f"{row},x,1,{'y' * 1000}" for row in range(1, 20_001)])
-script("line", "load line.csv")
-script("lines", "load lines.csv")
-beside("one line of 20 MB", run("s", "line"), run("s", "lines"))
-table("quotes.csv", "id,a,sale,more", ['1,x,1,"' + '""' * 10_000_000 + '"'])
-script("quotes", "load quotes.csv")
-beside("one field of 10,000,000 quotes", run("s", "quotes"), run("s", "lines"))
-table("same.csv", "id,a,sale", [f"{row},x,1" for row in range(1, many + 1)])
-script("same", "load same.csv")
-beside("one value in 100,000 rows", run("s", "same"), usual)
-deep = [f"{row}," + ",".join(f"v{draw.randrange(2)}" for _ in names) + ",1" for row in range(1, 301)]
-shallow = [f"{row}," + ",".join(["v0"] * 8 + [f"v{draw.randrange(2)}" for _ in names[8:]]) + ",1" for row in range(1, 301)]
-table("deep.csv", "id," + ",".join(names) + ",sale", deep)
-table("shallow.csv", "id," + ",".join(names) + ",sale", shallow)
-script("deep", "load deep.csv", "stats")
-script("shallow", "load shallow.csv", "stats")
-beside("300 rows of 16 dimensions that share little", run("wide", "deep"), run("wide", "shallow"))
+table("columns", "id,a,sale," + ",".join(f"n{k}" for k in range(columns)), ["1,x,1," + "," * (columns - 1)])
+size = os.path.getsize("columns.csv")
+table("bytes", "id,a,sale,more", [f"{row},x,1,{'y' * 400}" for row in range(1, 1 + size // 410)])
+beside("a header of 2,000,000 columns", "s", "columns", "bytes")
+table("line", "id,a,sale,more", ["1,x,1," + "y" * 20_000_000])
+table("lines", "id,a,sale,more", [f"{row},x,1,{'y' * 1000}" for row in range(1, 20_001)])
+beside("one line of 20 MB", "s", "line", "lines")
+table("quotes", "id,a,sale,more", ['1,x,1,"' + '""' * 10_000_000 + '"'])
+beside("one field of 10,000,000 quotes", "s", "quotes", "lines")
+table("same", "id,a,sale", [f"{row},x,{row % 7}" for row in range(1, many + 1)])
+beside("one value in 100,000 rows", "s", "same", "usual")
+header = "id," + ",".join(names) + ",sale"
+table("deep", header, [f"{row}," + ",".join(f"v{draw.randrange(2)}" for _ in names) + ",1" for row in range(1, 301)])
+table("flat", header, [f"{row}," + ",".join(["v0"] * 8 + [f"v{draw.randrange(2)}" for _ in names[8:]]) + ",1" for row in range(1, 301)])
+beside("300 rows of 16 dimensions that share little", "wide", "deep", "flat")
 
 
 def batch(name, changes):
@@ -162,14 +141,36 @@ def batch(name, changes):
 
 
 some = 2_000
-batch("chain.batch", [f"-,{row},," for row in range(1, some + 1)] + [f"+,{many + row},x,2" for row in range(1, some + 1)])
-batch("usual.batch", [f"-,{row},," for row in range(1, some + 1)] + [f"+,{many + row},x{row % 500},2" for row in range(1, some + 1)])
+gone = [f"-,{row},," for row in range(1, some + 1)]
+batch("chain.batch", gone + [f"+,{many + row},x,2" for row in range(1, some + 1)])
+batch("usual.batch", gone + [f"+,{many + row},x{row % 500},2" for row in range(1, some + 1)])
 script("chain", "load same.csv", "apply chain.batch")
-script("usual", "load ordinary.csv", "apply usual.batch")
-beside("2,000 deletions and insertions among 100,000 rows of one tuple", run("s", "chain"), run("s", "usual"))
-batch("empty.batch", [f"-,{row},," for row in range(1, many + 1)])
-batch("again.batch", [f"+,{row},x{row % 500},1" for row in range(1, many + 1)])
-script("empty", "load ordinary.csv", *["apply empty.batch", "apply again.batch"] * 3)
-script("load", "load ordinary.csv", *["load ordinary.csv"] * 0)
-beside("all 100,000 rows deleted and inserted again, three times", run("s", "empty"), usual)
+script("changed", "load usual.csv", "apply usual.batch")
+beside("2,000 deletions and 2,000 insertions among 100,000 rows of one tuple", "s", "chain", "changed")
+batch("none.batch", [f"-,{row},," for row in range(1, many + 1)])
+batch("all.batch", [f"+,{row},x{row % 500},1" for row in range(1, many + 1)])
+script("emptied", "load usual.csv", *["apply none.batch", "apply all.batch"] * 3)
+script("once", "load usual.csv", "apply none.batch", "apply all.batch")
+beside("100,000 rows deleted and inserted again, three times beside once", "s", "emptied", "once")
+pairs.close()
+PY
+
+python3 - "$program" <<'PY'
+import os
+import sys
+from common import best
+
+runs = int(os.environ.get("RUNS", "3"))
+
+
+def measure(schema, script):
+    took, replies, peak = best(sys.argv[1], "run", schema, script, runs=runs)
+    assert not any(reply.startswith(("refused", "memory")) for reply in replies), (script, replies[:3])
+    return took, peak / (1 << 20)
+
+
+for line in open("pairs"):
+    what, schema, hostile, ordinary = line.rstrip("\n").split("|")
+    (slow, much), (usual, some) = measure(schema, hostile), measure(schema, ordinary)
+    print(f"{what}: {slow:.3f} s, {much:.0f} MiB; ordinary: {usual:.3f} s, {some:.0f} MiB; {slow / usual:.2f} times", flush=True)
 PY
