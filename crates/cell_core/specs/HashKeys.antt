@@ -1,5 +1,5 @@
 -- What the maps hash under.
-use Rattle.std.specs.Prelude.{Option, Some, None}
+use Rattle.std.specs.Prelude.{Bool, Option, Some, None, is_some}
 use Rattle.std.specs.declared.hash.DefaultHasher.{DefaultHasher}
 use Rattle.std.specs.declared.hash.RandomState.{RandomState}
 use Rattle.std.specs.Hash.DefaultHasher.{initial}
@@ -13,3 +13,7 @@ first_state (Some drawn) = random.initial_hasher drawn
 
 abbrev pub initial_hasher : HashKeys → DefaultHasher
 initial_hasher keys = first_state keys.drawn
+
+-- whether the keys come from a source of random bytes
+abbrev pub is_drawn : HashKeys → Bool
+is_drawn keys = is_some keys.drawn

@@ -1,5 +1,6 @@
 // The keys of the hash maps whose entries come from files.
-ghost use Rattle.cell_core.specs.HashKeys.{initial_hasher};
+ghost use Rattle.std.specs.Prelude.{IfOk, false, true, ◌≡◌};
+ghost use Rattle.cell_core.specs.HashKeys.{initial_hasher, is_drawn};
 
 use std::hash::{BuildHasher, DefaultHasher, RandomState};
 use std::io;
@@ -14,12 +15,16 @@ pub struct HashKeys {
 
 impl HashKeys {
     /// The same keys in each run. Whoever writes a file can choose texts that collide under them.
-    pub fn fixed() -> HashKeys {
+    pub fn fixed() -> HashKeys
+        ensures { is_drawn result ≡ false }
+    {
         HashKeys { drawn: None }
     }
 
     /// Keys drawn from the system's source of random bytes.
-    pub fn draw(source: &impl RandomSource) -> io::Result<HashKeys> {
+    pub fn draw(source: &impl RandomSource) -> io::Result<HashKeys>
+        ensures { IfOk result (λ keys. is_drawn keys ≡ true) }
+    {
         let drawn = RandomState::new(source)?;
         Ok(HashKeys { drawn: Some(drawn) })
     }
