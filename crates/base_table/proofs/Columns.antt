@@ -12,6 +12,7 @@ use Rattle.cube_defs.specs.Rows.{Row}
 use Rattle.base_table.specs.Last.{picked}
 use Rattle.base_table.specs.Places.{IsRow, row_of, values_of}
 use Rattle.base_table.proofs.Placed.{picked-le}
+use Rattle.base_table.specs.declared.fingerprints.Fingerprinter.{Fingerprinter}
 use Rattle.base_table.specs.Store.{IsStore, StoredRows, code_or_any, id_of, picked_lines, print_in, print_of, rows_from}
 
 -- the values of a tuple's cell
@@ -147,7 +148,7 @@ module _ (n m : ℕ) where
   rows-keep (false ∷ kept) (id ∷ ids) codes amounts e hc ha = rows-keep kept ids (drop n codes) (drop m amounts) (omega arith) (rest_len n (length ids) codes hc) (rest_len m (length ids) amounts ha)
 
   -- the store after a row more
-  pub store_pushed : (k t : ℕ) (ids prints codes : List ℕ) (amounts : List ℤ) (room more id : ℕ) (tuple : Cell ℕ) (a : List ℤ) → IsStore n m k t ids prints codes amounts room → (length ids + 1) * 16 ≤ more → All (λ entry. is_some entry ≡ true) tuple → IsRow n m (row_of id tuple a)
+  pub store_pushed : (k : Fingerprinter) (t : ℕ) (ids prints codes : List ℕ) (amounts : List ℤ) (room more id : ℕ) (tuple : Cell ℕ) (a : List ℤ) → IsStore n m k t ids prints codes amounts room → (length ids + 1) * 16 ≤ more → All (λ entry. is_some entry ≡ true) tuple → IsRow n m (row_of id tuple a)
       → IsStore n m k t (ids ++ id ∷ []) (prints ++ print_in k tuple ∷ []) (codes ++ values_of tuple) (amounts ++ a) more
   store_pushed k t ids prints codes amounts room more id tuple a s fits full r =
       let rows = rows_from n m ids codes amounts in
@@ -158,7 +159,7 @@ module _ (n m : ℕ) where
         codes_len = length-append codes (values_of tuple) ∙ ap₂ (λ p q. p + q) s.codes_len r.tuple ∙ more_lines (length ids) n (length (ids ++ id ∷ [])) (length-append ids (id ∷ []));
         amounts_len = length-append amounts a ∙ ap₂ (λ p q. p + q) s.amounts_len r.amounts ∙ more_lines (length ids) m (length (ids ++ id ∷ [])) (length-append ids (id ∷ []));
         prints_are = ap₂ (λ p q. p ++ print_in k q ∷ []) s.prints_are (sym (cell-values tuple full)) ∙ sym (map-append (print_of k) rows (row_of id tuple a ∷ [])) ∙ ap (map (print_of k)) (sym new);
-        keyed_le = s.keyed_le;
+        printer_le = s.printer_le;
         then_le = s.then_le;
         room_for_all = omega (arith, fits, length-append ids (id ∷ []));
         each = subst (All (IsRow n m)) (sym new) (All-push (IsRow n m) rows (row_of id tuple a) s.each r);
@@ -167,7 +168,7 @@ module _ (n m : ℕ) where
       more_lines : (l w k : ℕ) → k ≡ l + 1 → l * w + w ≡ k * w
       more_lines l w k e = plus_one l w ∙ ap (λ k. k * w) (sym e)
 
-  pub store_cut : (k t len : ℕ) (ids prints codes : List ℕ) (amounts : List ℤ) (room more : ℕ) → IsStore n m k t ids prints codes amounts room → room ≤ more → len ≤ length ids
+  pub store_cut : (k : Fingerprinter) (t len : ℕ) (ids prints codes : List ℕ) (amounts : List ℤ) (room more : ℕ) → IsStore n m k t ids prints codes amounts room → room ≤ more → len ≤ length ids
       → IsStore n m k t (take len ids) (take len prints) (take (len * n) codes) (take (len * m) amounts) more
   store_cut k t len ids prints codes amounts room more s le h =
       let rows = rows_from n m ids codes amounts in
@@ -178,7 +179,7 @@ module _ (n m : ℕ) where
         codes_len = length-take-le (len * n) codes (shorter len (length ids) n (length codes) h s.codes_len) ∙ ap (λ k. k * n) (sym (length-take-le len ids h));
         amounts_len = length-take-le (len * m) amounts (shorter len (length ids) m (length amounts) h s.amounts_len) ∙ ap (λ k. k * m) (sym (length-take-le len ids h));
         prints_are = ap (take len) s.prints_are ∙ take-map (print_of k) len rows ∙ ap (map (print_of k)) (sym new);
-        keyed_le = s.keyed_le;
+        printer_le = s.printer_le;
         then_le = s.then_le;
         room_for_all = omega (arith, s.room_for_all, le, h, length-take-le len ids h);
         each = subst (All (IsRow n m)) (sym new) (All-take (IsRow n m) len rows s.each);
@@ -187,7 +188,7 @@ module _ (n m : ℕ) where
       shorter : (l k w c : ℕ) → l ≤ k → c ≡ k * w → l * w ≤ c
       shorter l k w c h e = omega (arith, e, mul-le l w k w h (omega arith))
 
-  pub store_kept : (k t : ℕ) (kept : List Bool) (ids prints codes : List ℕ) (amounts : List ℤ) (room more : ℕ) → IsStore n m k t ids prints codes amounts room → room ≤ more → length kept ≡ length ids
+  pub store_kept : (k : Fingerprinter) (t : ℕ) (kept : List Bool) (ids prints codes : List ℕ) (amounts : List ℤ) (room more : ℕ) → IsStore n m k t ids prints codes amounts room → room ≤ more → length kept ≡ length ids
       → IsStore n m k t (picked kept ids) (picked kept prints) (picked_lines n kept codes) (picked_lines m kept amounts) more
   store_kept k t kept ids prints codes amounts room more s le h =
       let rows = rows_from n m ids codes amounts in
@@ -198,14 +199,14 @@ module _ (n m : ℕ) where
         codes_len = length-lines n kept ids codes h s.codes_len;
         amounts_len = length-lines m kept ids amounts h s.amounts_len;
         prints_are = ap (picked kept) s.prints_are ∙ picked-map (print_of k) kept rows ∙ ap (map (print_of k)) (sym new);
-        keyed_le = s.keyed_le;
+        printer_le = s.printer_le;
         then_le = s.then_le;
         room_for_all = omega (arith, s.room_for_all, le, h, picked-le kept ids);
         each = subst (All (IsRow n m)) (sym new) (All-picked (IsRow n m) kept rows s.each);
       }
 
   -- the row at a place of a store
-  module _ (keyed then : ℕ) (ids prints codes : List ℕ) (amounts : List ℤ) (room : ℕ) (s : IsStore n m keyed then ids prints codes amounts room) (rows : StoredRows) (view : ◌≡◌ {A = StoredRows} (record { dims = n; dims_then = then; keyed = keyed; measures = m; rows = rows_from n m ids codes amounts }) rows) where
+  module _ (printer : Fingerprinter) (then : ℕ) (ids prints codes : List ℕ) (amounts : List ℤ) (room : ℕ) (s : IsStore n m printer then ids prints codes amounts room) (rows : StoredRows) (view : ◌≡◌ {A = StoredRows} (record { dims = n; dims_then = then; printer = printer; measures = m; rows = rows_from n m ids codes amounts }) rows) where
     pub length-view : length rows.rows ≡ length ids
     length-view = sym (ap (λ (r : StoredRows). length r.rows) view) ∙ length-rows ids codes amounts
 
@@ -227,8 +228,8 @@ module _ (n m : ℕ) where
     pub ids-view : ids ≡ map id_of rows.rows
     ids-view = sym (ids-rows ids codes amounts) ∙ ap (λ (r : StoredRows). map id_of r.rows) view
 
-    pub prints-view : prints ≡ map (print_of rows.keyed) rows.rows
-    prints-view = s.prints_are ∙ ap (λ (r : StoredRows). map (print_of r.keyed) r.rows) view
+    pub prints-view : prints ≡ map (print_of rows.printer) rows.rows
+    prints-view = s.prints_are ∙ ap (λ (r : StoredRows). map (print_of r.printer) r.rows) view
 
     pub length-prints : length prints ≡ length ids
-    length-prints = ap length s.prints_are ∙ length-map (rows_from n m ids codes amounts) (print_of keyed) ∙ length-rows ids codes amounts
+    length-prints = ap length s.prints_are ∙ length-map (rows_from n m ids codes amounts) (print_of printer) ∙ length-rows ids codes amounts

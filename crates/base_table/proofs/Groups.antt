@@ -12,6 +12,7 @@ use Rattle.cube_laws.proofs.Cells.{cell_eq-exact, nat_equality}
 use Rattle.cube_laws.proofs.Lists.{filter-le}
 use Rattle.cube_laws.proofs.RowTotals.{agg_total, aggs_add, row_agg}
 use Rattle.cube_laws.proofs.Totals.{total-push}
+use Rattle.base_table.specs.declared.fingerprints.Fingerprinter.{Fingerprinter}
 use Rattle.base_table.specs.Last.{last_of, picked}
 use Rattle.base_table.specs.Places.{IsRow, total_of, with_tuple}
 use Rattle.base_table.specs.Store.{added, print_in, print_of}
@@ -51,16 +52,16 @@ join_none : (a : Option Agg) → join_aggs a None ≡ a
 join_none None = refl
 join_none (Some a) = refl
 
-module _ (keyed : ℕ) (tuple : Cell ℕ) where
+module _ (printer : Fingerprinter) (tuple : Cell ℕ) where
   abbrev is_alike : Row ℕ → Bool
-  is_alike row = nat_eq (print_in keyed tuple) (print_of keyed row)
+  is_alike row = nat_eq (print_in printer tuple) (print_of printer row)
 
   abbrev has_it : Row ℕ → Bool
   has_it row = cell_eq nat_eq (cell_of row.tuple) tuple
 
   -- a row of the tuple shares its number
   alike : (row : Row ℕ) → has_it row ≡ true → is_alike row ≡ true
-  alike row h = eq-eqb (print_in keyed tuple) (print_of keyed row) (ap (print_in keyed) (sym (cell_eq-exact nat_equality (cell_of row.tuple) tuple h)))
+  alike row h = eq-eqb (print_in printer tuple) (print_of printer row) (ap (print_in printer) (sym (cell_eq-exact nat_equality (cell_of row.tuple) tuple h)))
 
   other : (row : Row ℕ) → is_alike row ≡ false → has_it row ≡ false
   other row h = by (has_it row) refl
@@ -113,7 +114,7 @@ module _ (keyed : ℕ) (tuple : Cell ℕ) where
   -- the sum of the rows from a place on
   pub record IsSummed (measures : ℕ) (here : List Bool) (rows : List (Row ℕ)) (sum : Option Agg) (at : ℕ) : Type 0 where
     pub within : at ≤ length here
-    pub last : last_of (nat_eq (print_in keyed tuple)) (take at (map (print_of keyed) rows)) ≡ at
+    pub last : last_of (nat_eq (print_in printer tuple)) (take at (map (print_of printer) rows)) ≡ at
     pub summed : join_aggs sum (total_of measures (group_rows (take at here) rows)) ≡ total_of measures (group_rows (take (length here) here) rows)
 
   module _ (dims measures : ℕ) (here : List Bool) (rows : List (Row ℕ)) (same : length rows ≡ length here) (each : All (IsRow dims measures) rows) where
@@ -121,13 +122,13 @@ module _ (keyed : ℕ) (tuple : Cell ℕ) where
     sum_to k = total_of measures (group_rows (take k here) rows)
 
     -- the last place of the tuple's number below k
-    last_below : (k : ℕ) → last_of (nat_eq (print_in keyed tuple)) (take k (map (print_of keyed) rows)) ≡ last_of is_alike (take k rows)
-    last_below k = ap (last_of (nat_eq (print_in keyed tuple))) (take-map (print_of keyed) k rows) ∙ last_map (print_of keyed) (nat_eq (print_in keyed tuple)) (take k rows)
+    last_below : (k : ℕ) → last_of (nat_eq (print_in printer tuple)) (take k (map (print_of printer) rows)) ≡ last_of is_alike (take k rows)
+    last_below k = ap (last_of (nat_eq (print_in printer tuple))) (take-map (print_of printer) k rows) ∙ last_map (print_of printer) (nat_eq (print_in printer tuple)) (take k rows)
 
-    chain_within : (k : ℕ) → k ≤ length here → last_of (nat_eq (print_in keyed tuple)) (take k (map (print_of keyed) rows)) ≤ k
+    chain_within : (k : ℕ) → k ≤ length here → last_of (nat_eq (print_in printer tuple)) (take k (map (print_of printer) rows)) ≤ k
     chain_within k le = omega (arith, last_below k, last_within is_alike (take k rows), length-take-le k rows (omega arith))
 
-    chain_skip : (k n : ℕ) → n ≡ last_of (nat_eq (print_in keyed tuple)) (take k (map (print_of keyed) rows)) → n ≤ k → group_rows (take n here) rows ≡ group_rows (take k here) rows
+    chain_skip : (k n : ℕ) → n ≡ last_of (nat_eq (print_in printer tuple)) (take k (map (print_of printer) rows)) → n ≤ k → group_rows (take n here) rows ≡ group_rows (take k here) rows
     chain_skip k n e le =
         ap (λ l. with_tuple l tuple) (sym (picked-take k (take n here) rows (short k n le)))
         ∙ ap (λ m. group_rows (take m here) (take k rows)) (e ∙ last_below k)
@@ -137,15 +138,15 @@ module _ (keyed : ℕ) (tuple : Cell ℕ) where
         short : (k n : ℕ) → n ≤ k → length (take n here) ≤ k
         short k n le = omega (arith, length-take n here)
 
-    chain_last : (k n : ℕ) → n ≡ last_of (nat_eq (print_in keyed tuple)) (take k (map (print_of keyed) rows)) → n ≤ k → last_of (nat_eq (print_in keyed tuple)) (take n (map (print_of keyed) rows)) ≡ n
+    chain_last : (k n : ℕ) → n ≡ last_of (nat_eq (print_in printer tuple)) (take k (map (print_of printer) rows)) → n ≤ k → last_of (nat_eq (print_in printer tuple)) (take n (map (print_of printer) rows)) ≡ n
     chain_last k n e le =
-        ap (last_of (nat_eq (print_in keyed tuple))) (sym (take-take n k (map (print_of keyed) rows) le) ∙ ap (λ m. take m (take k (map (print_of keyed) rows))) e) ∙ last_take (nat_eq (print_in keyed tuple)) (take k (map (print_of keyed) rows)) ∙ sym e
+        ap (last_of (nat_eq (print_in printer tuple))) (sym (take-take n k (map (print_of printer) rows) le) ∙ ap (λ m. take m (take k (map (print_of printer) rows))) e) ∙ last_take (nat_eq (print_in printer tuple)) (take k (map (print_of printer) rows)) ∙ sym e
 
     -- the row at the last place shares the number
-    chain_print : (k : ℕ) (d : Row ℕ) → k < length here → last_of (nat_eq (print_in keyed tuple)) (take (suc k) (map (print_of keyed) rows)) ≡ suc k → (print_of keyed) (get_or rows k d) ≡ print_in keyed tuple
+    chain_print : (k : ℕ) (d : Row ℕ) → k < length here → last_of (nat_eq (print_in printer tuple)) (take (suc k) (map (print_of printer) rows)) ≡ suc k → (print_of printer) (get_or rows k d) ≡ print_in printer tuple
     chain_print k d lt l =
-        let passes : nat_eq (print_in keyed tuple) (get_or (take (suc k) (map (print_of keyed) rows)) k 0) ≡ true = last_passes (nat_eq (print_in keyed tuple)) (take (suc k) (map (print_of keyed) rows)) k 0 l in
-        sym (eqb-true (print_in keyed tuple) (print_of keyed (get_or rows k d)) (ap (nat_eq (print_in keyed tuple)) (sym (get_or-take (suc k) (map (print_of keyed) rows) k 0 (omega arith) ∙ get_or-map (print_of keyed) rows k d 0 (omega arith))) ∙ passes))
+        let passes : nat_eq (print_in printer tuple) (get_or (take (suc k) (map (print_of printer) rows)) k 0) ≡ true = last_passes (nat_eq (print_in printer tuple)) (take (suc k) (map (print_of printer) rows)) k 0 l in
+        sym (eqb-true (print_in printer tuple) (print_of printer (get_or rows k d)) (ap (nat_eq (print_in printer tuple)) (sym (get_or-take (suc k) (map (print_of printer) rows) k 0 (omega arith) ∙ get_or-map (print_of printer) rows k d 0 (omega arith))) ∙ passes))
 
     sum_more : (k : ℕ) (d : Row ℕ) → k < length here → sum_to (suc k) ≡ join_aggs (sum_to k) (added here rows tuple k d)
     sum_more k d lt =
@@ -159,21 +160,21 @@ module _ (keyed : ℕ) (tuple : Cell ℕ) where
             ∙ ap₂ join_aggs (sym (agg_total measures (group_rows (take k here) rows)) ∙ sym (total_some measures (group_rows (take k here) rows))) (ap (λ a. Some a) one)
         by false r = ap (total_of measures) (append-nil (group_rows (take k here) rows)) ∙ sym (join_none (sum_to k))
 
-    whole : take (length here) (map (print_of keyed) rows) ≡ map (print_of keyed) rows
-    whole = take_all (length here) (map (print_of keyed) rows) (omega (arith, length-map rows (print_of keyed)))
+    whole : take (length here) (map (print_of printer) rows) ≡ map (print_of printer) rows
+    whole = take_all (length here) (map (print_of printer) rows) (omega (arith, length-map rows (print_of printer)))
 
-    pub begin_sum : (at : ℕ) → at ≡ last_of (nat_eq (print_in keyed tuple)) (map (print_of keyed) rows) → IsSummed measures here rows None at
+    pub begin_sum : (at : ℕ) → at ≡ last_of (nat_eq (print_in printer tuple)) (map (print_of printer) rows) → IsSummed measures here rows None at
     begin_sum at e =
-        let e2 : at ≡ last_of (nat_eq (print_in keyed tuple)) (take (length here) (map (print_of keyed) rows)) = e ∙ ap (last_of (nat_eq (print_in keyed tuple))) (sym whole) in
+        let e2 : at ≡ last_of (nat_eq (print_in printer tuple)) (take (length here) (map (print_of printer) rows)) = e ∙ ap (last_of (nat_eq (print_in printer tuple))) (sym whole) in
         let le : at ≤ length here = omega (arith, e2, chain_within (length here) (omega arith)) in
         record { within = le; last = chain_last (length here) at e2 le; summed = ap (total_of measures) (chain_skip (length here) at e2 le) }
 
-    pub step_sum : (sum sum' : Option Agg) (k at n : ℕ) (d : Row ℕ) → at ≡ suc k → IsSummed measures here rows sum at → sum' ≡ join_aggs sum (added here rows tuple k d) → n ≡ last_of (nat_eq (print_of keyed (get_or rows k d))) (take k (map (print_of keyed) rows))
+    pub step_sum : (sum sum' : Option Agg) (k at n : ℕ) (d : Row ℕ) → at ≡ suc k → IsSummed measures here rows sum at → sum' ≡ join_aggs sum (added here rows tuple k d) → n ≡ last_of (nat_eq (print_of printer (get_or rows k d))) (take k (map (print_of printer) rows))
         → IsSummed measures here rows sum' n × (n ≤ k)
     step_sum sum sum' k at n d e h s b =
         let lt : k < length here = omega (arith, h.within) in
-        let last : last_of (nat_eq (print_in keyed tuple)) (take (suc k) (map (print_of keyed) rows)) ≡ suc k = subst (λ m. last_of (nat_eq (print_in keyed tuple)) (take m (map (print_of keyed) rows)) ≡ m) e h.last in
-        let b2 : n ≡ last_of (nat_eq (print_in keyed tuple)) (take k (map (print_of keyed) rows)) = b ∙ ap (λ m. last_of (nat_eq m) (take k (map (print_of keyed) rows))) (chain_print k d lt last) in
+        let last : last_of (nat_eq (print_in printer tuple)) (take (suc k) (map (print_of printer) rows)) ≡ suc k = subst (λ m. last_of (nat_eq (print_in printer tuple)) (take m (map (print_of printer) rows)) ≡ m) e h.last in
+        let b2 : n ≡ last_of (nat_eq (print_in printer tuple)) (take k (map (print_of printer) rows)) = b ∙ ap (λ m. last_of (nat_eq m) (take k (map (print_of printer) rows))) (chain_print k d lt last) in
         let le : n ≤ k = omega (arith, b2, chain_within k (omega arith)) in (
           record {
             within = omega arith;

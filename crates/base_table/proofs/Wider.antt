@@ -9,6 +9,7 @@ use Rattle.cube_defs.specs.Cell.{cell_of}
 use Rattle.cube_defs.specs.Rows.{Row}
 use Rattle.base_table.specs.Last.{last_of, picked}
 use Rattle.base_table.specs.Places.{IsRow, narrowed, rows_in, with_code}
+use Rattle.base_table.specs.declared.fingerprints.Fingerprinter.{Fingerprinter}
 use Rattle.base_table.specs.Store.{AreLast, IsMarked, IsStore, fingerprint, id_of, longer_lines, placed, print_of, rows_from, shorter_lines}
 use Rattle.base_table.proofs.Columns.{long_enough, one_line, picked-map, rest_len, same_parts, same_row}
 
@@ -66,15 +67,15 @@ cells-longer : (k code : ℕ) (t : List ℕ) → k ≤ length t → take k (cell
 cells-longer k code t le = take-map (λ c. Some c) k (t ++ code ∷ []) ∙ ap (map (λ c. Some c)) (take-append-le k t (code ∷ []) le) ∙ sym (take-map (λ c. Some c) k t)
 
 -- the numbers of tuples stay
-prints-longer : (n m k code : ℕ) (rows : List (Row ℕ)) → k ≤ n → All (IsRow n m) rows → map (print_of k) (map (with_code code) rows) ≡ map (print_of k) rows
+prints-longer : (n m : ℕ) (k : Fingerprinter) (code : ℕ) (rows : List (Row ℕ)) → k.dims ≤ n → All (IsRow n m) rows → map (print_of k) (map (with_code code) rows) ≡ map (print_of k) rows
 prints-longer n m k code rows le h =
     map-map (print_of k) (with_code code) rows
-    ∙ map-all (IsRow n m) (λ row. print_of k (with_code code row)) (print_of k) (λ row r. ap fingerprint (cells-longer k code row.tuple (omega (arith, le, r.tuple)))) rows h
+    ∙ map-all (IsRow n m) (λ row. print_of k (with_code code row)) (print_of k) (λ row r. ap (fingerprint k.multiplier) (cells-longer k.dims code row.tuple (omega (arith, le, r.tuple)))) rows h
 
-prints-shorter : (n m k v : ℕ) (rows : List (Row ℕ)) → k ≤ v → All (IsRow n m) rows → map (print_of k) (map (narrowed v) rows) ≡ map (print_of k) rows
+prints-shorter : (n m : ℕ) (k : Fingerprinter) (v : ℕ) (rows : List (Row ℕ)) → k.dims ≤ v → All (IsRow n m) rows → map (print_of k) (map (narrowed v) rows) ≡ map (print_of k) rows
 prints-shorter n m k v rows le h =
     map-map (print_of k) (narrowed v) rows
-    ∙ map-all (IsRow n m) (λ row. print_of k (narrowed v row)) (print_of k) (λ row r. ap fingerprint (cells-shorter k v row.tuple le)) rows h
+    ∙ map-all (IsRow n m) (λ row. print_of k (narrowed v row)) (print_of k) (λ row r. ap (fingerprint k.multiplier) (cells-shorter k.dims v row.tuple le)) rows h
 
 length-longer : {A : Type 0} (n : ℕ) (x : A) (l : ℕ) (cells : List A) → length cells ≡ l * n → length (longer_lines n x l cells) ≡ l * (n + 1)
 length-longer n x zero cells h = omega arith
@@ -114,7 +115,7 @@ module _ (n m : ℕ) where
       (same_parts v m ids (drop_at line rest v len) refl ∙ rows-shorter v ids (drop n codes) (drop m amounts) le (rest_len n (length ids) codes h))
 
   -- the store with one dimension more
-  pub store_longer : (k t code : ℕ) (ids prints codes : List ℕ) (amounts : List ℤ) (room more : ℕ) → n < 16 → code < 4000000 → room ≤ more → IsStore n m k t ids prints codes amounts room
+  pub store_longer : (k : Fingerprinter) (t code : ℕ) (ids prints codes : List ℕ) (amounts : List ℤ) (room more : ℕ) → n < 16 → code < 4000000 → room ≤ more → IsStore n m k t ids prints codes amounts room
       → IsStore (n + 1) m k t ids prints (longer_lines n code (length ids) codes) amounts more
   store_longer k t code ids prints codes amounts room more few small le s =
       let rows = rows_from n m ids codes amounts in
@@ -124,15 +125,15 @@ module _ (n m : ℕ) where
         few_measures = s.few_measures;
         codes_len = length-longer n code (length ids) codes s.codes_len;
         amounts_len = s.amounts_len;
-        keyed_le = s.keyed_le;
+        printer_le = s.printer_le;
         then_le = omega (arith, s.then_le);
         room_for_all = omega (arith, s.room_for_all, le);
-        prints_are = s.prints_are ∙ sym (prints-longer n m k code rows (omega (arith, s.keyed_le, s.then_le)) s.each) ∙ ap (map (print_of k)) (sym new);
+        prints_are = s.prints_are ∙ sym (prints-longer n m k code rows (omega (arith, s.printer_le, s.then_le)) s.each) ∙ ap (map (print_of k)) (sym new);
         each = subst (All (IsRow (n + 1) m)) (sym new) (All-mapped (IsRow n m) (IsRow (n + 1) m) (with_code code) (λ row r. row-longer n m code row small r) rows s.each);
       }
 
   -- the store with the dimensions alone that there were then
-  pub store_shorter : (k t : ℕ) (ids prints codes : List ℕ) (amounts : List ℤ) (room more : ℕ) → room ≤ more → IsStore n m k t ids prints codes amounts room
+  pub store_shorter : (k : Fingerprinter) (t : ℕ) (ids prints codes : List ℕ) (amounts : List ℤ) (room more : ℕ) → room ≤ more → IsStore n m k t ids prints codes amounts room
       → IsStore t m k t ids prints (shorter_lines n t (length ids) codes) amounts more
   store_shorter k t ids prints codes amounts room more le s =
       let rows = rows_from n m ids codes amounts in
@@ -142,10 +143,10 @@ module _ (n m : ℕ) where
         few_measures = s.few_measures;
         codes_len = length-shorter n t (length ids) codes s.then_le s.codes_len;
         amounts_len = s.amounts_len;
-        keyed_le = s.keyed_le;
+        printer_le = s.printer_le;
         then_le = omega arith;
         room_for_all = omega (arith, s.room_for_all, le);
-        prints_are = s.prints_are ∙ sym (prints-shorter n m k t rows s.keyed_le s.each) ∙ ap (map (print_of k)) (sym new);
+        prints_are = s.prints_are ∙ sym (prints-shorter n m k t rows s.printer_le s.each) ∙ ap (map (print_of k)) (sym new);
         each = subst (All (IsRow t m)) (sym new) (All-mapped (IsRow n m) (IsRow t m) (narrowed t) (λ row r. row-shorter n m t row s.then_le r) rows s.each);
       }
 

@@ -5,6 +5,8 @@ use Rattle.std.specs.List.{All}
 use Rattle.aggregates.specs.Rows.{agg_of_row}
 use Rattle.cube_defs.specs.Cell.{Cell, cell_eq, cell_of}
 use Rattle.cube_defs.specs.Rows.{Agg, Row}
+use Rattle.base_table.specs.declared.fingerprints.Fingerprinter.{Fingerprinter}
+use Rattle.base_table.specs.declared.fingerprints.TheConstants.{PRIME}
 use Rattle.base_table.specs.Last.{last_of, picked}
 use Rattle.base_table.specs.Places.{Base, IsRow, Places, narrowed}
 use Rattle.cube_defs.specs.declared.limits.TheConstants.{MAX_DIMS, MAX_MEASURES, MAX_ROWS}
@@ -14,8 +16,8 @@ pub record StoredRows : Type 0 where
   pub dims : ℕ
   -- how many dimensions there were when the rows were settled last
   pub dims_then : ℕ
-  -- of how many of its first codes a tuple's number is made
-  pub keyed : ℕ
+  -- how a tuple's number is made
+  pub printer : Fingerprinter
   pub measures : ℕ
   pub rows : List (Row ℕ)
 
@@ -36,19 +38,19 @@ code_or_any None = 4294967295
 code_or_any (Some code) = code
 
 -- a number that equal cells share
-abbrev pub fingerprint : Cell ℕ → ℕ
-fingerprint cell = fold (λ h entry. (h * 2654435761 % 4294967296 + code_or_any entry) % 4294967296) 0 cell
+abbrev pub fingerprint : ℕ → Cell ℕ → ℕ
+fingerprint multiplier cell = fold (λ h entry. (h * multiplier + code_or_any entry) % PRIME) 0 cell
 
--- the number of a cell, made of its first so many entries
-abbrev pub print_in : ℕ → Cell ℕ → ℕ
-print_in keyed cell = fingerprint (take keyed cell)
+-- the number of a cell, made of its first entries
+abbrev pub print_in : Fingerprinter → Cell ℕ → ℕ
+print_in printer cell = fingerprint printer.multiplier (take printer.dims cell)
 
 -- a row's id, and its tuple's number
 abbrev pub id_of : Row ℕ → ℕ
 id_of row = row.id
 
-abbrev pub print_of : ℕ → Row ℕ → ℕ
-print_of keyed row = print_in keyed (cell_of row.tuple)
+abbrev pub print_of : Fingerprinter → Row ℕ → ℕ
+print_of printer row = print_in printer (cell_of row.tuple)
 
 -- of lists of one width that lie one after another, each with one element more behind it
 abbrev pub longer_lines : {A : Type 0} → ℕ → A → ℕ → List A → List A
@@ -61,16 +63,16 @@ shorter_lines width first zero cells = []
 shorter_lines width first (suc lines) cells = take first cells ++ shorter_lines width first lines (drop width cells)
 
 -- each row has its codes, its amounts and its tuple's number
-pub record IsStore (dims measures keyed dims_then : ℕ) (ids prints codes : List ℕ) (amounts : List ℤ) (room : ℕ) : Type 0 where
+pub record IsStore (dims measures : ℕ) (printer : Fingerprinter) (dims_then : ℕ) (ids prints codes : List ℕ) (amounts : List ℤ) (room : ℕ) : Type 0 where
   pub few_dims : dims ≤ MAX_DIMS
   pub few_measures : measures ≤ MAX_MEASURES
   pub codes_len : length codes ≡ length ids * dims
   pub amounts_len : length amounts ≡ length ids * measures
-  pub keyed_le : keyed ≤ dims_then
+  pub printer_le : printer.dims ≤ dims_then
   pub then_le : dims_then ≤ dims
   -- so that a dimension more takes no memory
   pub room_for_all : length ids * MAX_DIMS ≤ room
-  pub prints_are : prints ≡ map (print_of keyed) (rows_from dims measures ids codes amounts)
+  pub prints_are : prints ≡ map (print_of printer) (rows_from dims measures ids codes amounts)
   pub each : All (IsRow dims measures) (rows_from dims measures ids codes amounts)
 
 -- the rows that are here at their places

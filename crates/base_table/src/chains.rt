@@ -1,19 +1,23 @@
 // A list of keys that finds the last place of a key, and from each place the one before of the same key.
-ghost use Rattle.std.specs.Prelude.{◌≡◌, ℕ, ◌+◌, ◌-◌, ◌^◌, ◌<◌, ◌≤◌, length, Some, OnOk, OnErr, slice_index_or, take, ◌++◌, ◌∷◌, [], is_some, true, Option, vec_capacity, vec_len};
+ghost use Rattle.std.specs.Prelude.{◌≡◌, ℕ, ◌+◌, ◌-◌, ◌^◌, ◌<◌, ◌≤◌, length, Some, IfOk, OnOk, OnErr, slice_index_or, take, ◌++◌, ◌∷◌, [], is_some, true, Option, vec_capacity, vec_len};
 ghost use Rattle.std.specs.Option.{unwrap_or};
 ghost use Rattle.indexmap.specs.IndexMap.{get, IsUnchanged, Updates, UpdatesBy};
 ghost use Rattle.base_table.specs.Last.{last_of, AreChains, picked, HasKeys};
 
+use cell_core::HashKeys;
 use indexmap::IndexMap;
 use std::alloc::{AllocError, Global};
 use std::hash::Hash;
 use std::marker::Model;
 
+// For each key one more than its last place.
+type Heads<K> = IndexMap<K, u32, HashKeys>;
+
 /// A list of keys. The last place of a key is found in one step, and from a place the one before of
 /// the same key.
 #[derive(Drop)]
 pub struct Chains<K: Eq + Hash> {
-    heads: IndexMap<K, u32>,
+    heads: Heads<K>,
     keys: Vec<K>,
     before: Vec<u32>,
 }
@@ -30,7 +34,7 @@ impl<K: Eq + Hash> Model for Chains<K> {
 }
 
 // Writes the last place of a key that has one, or removes the key.
-fn set_head<K: Eq + Hash + Drop>(heads: &mut IndexMap<K, u32>, key: &K, head: u32)
+fn set_head<K: Eq + Hash + Drop>(heads: &mut Heads<K>, key: &K, head: u32)
     requires { 0 < unwrap_or (get K.eq heads.old key.now) 0 }
     ensures { (w : Option ℕ) × UpdatesBy K.eq (K.eq key.now) heads.old heads.new w × (unwrap_or w 0 ≡ head) }
 {
@@ -44,7 +48,7 @@ fn set_head<K: Eq + Hash + Drop>(heads: &mut IndexMap<K, u32>, key: &K, head: u3
 }
 
 // Writes no last place for every key. The keys stay.
-fn blank<K: Eq + Hash>(heads: &mut IndexMap<K, u32>)
+fn blank<K: Eq + Hash>(heads: &mut Heads<K>)
     ensures zero { (k : K) → unwrap_or (get K.eq heads.new k) 0 ≡ 0 }
     ensures held { (k : K) → is_some (get K.eq heads.new k) ≡ is_some (get K.eq heads.old k) }
 {
@@ -55,7 +59,7 @@ fn blank<K: Eq + Hash>(heads: &mut IndexMap<K, u32>)
 }
 
 // Writes the last place of a key that the map has, and returns the old one.
-fn put_head<K: Eq + Hash>(heads: &mut IndexMap<K, u32>, key: &K, head: u32) -> u32
+fn put_head<K: Eq + Hash>(heads: &mut Heads<K>, key: &K, head: u32) -> u32
     requires { is_some (get K.eq heads.old key.now) ≡ true }
     ensures was { result ≡ unwrap_or (get K.eq heads.old key.now) 0 }
     ensures updates { UpdatesBy K.eq (K.eq key.now) heads.old heads.new (Some head) }
@@ -79,24 +83,26 @@ fn make_room<K>(keys: &mut Vec<K>, before: &mut Vec<u32>) -> Result<(), AllocErr
     before.reserve(1)
 }
 
-// Writes the last place of a key, which is inserted if the map has no such key.
+// Writes the last place of a key, which is inserted if the map has no such key, and returns the old
+// one.
 fn write_head<K: Eq + Hash + Copy + Drop>(
-    heads: &mut IndexMap<K, u32>,
+    heads: &mut Heads<K>,
     key: K,
     head: u32,
-) -> Result<(), AllocError>
+) -> Result<u32, AllocError>
+    ensures was { IfOk result (λ was. was ≡ unwrap_or (get K.eq heads.old key) 0) }
     ensures updates { OnOk result (Updates K.eq heads.old heads.new key (Some head)) }
     ensures err { OnErr result (IsUnchanged heads.old heads.new) }
 {
     match heads.insert(key, head) {
-        Ok(_) => Ok(()),
+        Ok(was) => Ok(was.unwrap_or(0)),
         Err(_) => Err(AllocError),
     }
 }
 
 // Moves the kept keys to the beginning, and rewrites their places.
 fn repack<K: Eq + Hash + Copy + Drop>(
-    heads: &mut IndexMap<K, u32>,
+    heads: &mut Heads<K>,
     keys: &mut [K],
     before: &mut [u32],
     kept: &[bool],
@@ -125,7 +131,7 @@ fn repack<K: Eq + Hash + Copy + Drop>(
 }
 
 // Removes the keys that have no place.
-fn sweep<K: Eq + Hash + Drop>(heads: &mut IndexMap<K, u32>)
+fn sweep<K: Eq + Hash + Drop>(heads: &mut Heads<K>)
     ensures { (k : K) → unwrap_or (get K.eq heads.new k) 0 ≡ unwrap_or (get K.eq heads.old k) 0 }
 {
     let mut i = heads.len();
@@ -136,7 +142,7 @@ fn sweep<K: Eq + Hash + Drop>(heads: &mut IndexMap<K, u32>)
 }
 
 // Removes the key at the index if it has no place.
-fn drop_blank<K: Eq + Hash + Drop>(heads: &mut IndexMap<K, u32>, index: usize)
+fn drop_blank<K: Eq + Hash + Drop>(heads: &mut Heads<K>, index: usize)
     ensures { (k : K) → unwrap_or (get K.eq heads.new k) 0 ≡ unwrap_or (get K.eq heads.old k) 0 }
 {
     if let Some((_, place)) = heads.get_index(index) {
@@ -158,14 +164,19 @@ pub(crate) fn cut<K: Eq + Hash + Copy + Drop>(chains: &mut Chains<K>, len: u32)
 
 impl<K: Eq + Hash + Copy + Drop> Chains<K> {
     /// No keys.
-    pub fn new(alloc: Global) -> Self
+    pub fn new(alloc: Global, keys: HashKeys) -> Self
         ensures { result ≡ [] }
     {
         Chains {
-            heads: IndexMap::new(alloc),
+            heads: IndexMap::with_hasher(alloc, keys),
             keys: Vec::new(alloc),
             before: Vec::new(alloc),
         }
+    }
+
+    /// What the keys are hashed under.
+    pub fn hash_keys(&self) -> HashKeys {
+        *self.heads.hasher()
     }
 
     /// The number of keys.
@@ -204,11 +215,10 @@ impl<K: Eq + Hash + Copy + Drop> Chains<K> {
         ensures ok { OnOk result (self.new ≡ self.old ++ key ∷ []) }
         ensures err { OnErr result (self.new ≡ self.old) }
     {
-        let head = self.last(&key);
         make_room(&mut self.keys, &mut self.before)?;
         let len = self.keys.len() as u32;
-        write_head(&mut self.heads, key, len + 1)?;
-        self.before.push_reserved(head);
+        let before = write_head(&mut self.heads, key, len + 1)?;
+        self.before.push_reserved(before);
         self.keys.push_reserved(key);
         Ok(())
     }

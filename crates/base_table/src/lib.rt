@@ -3,6 +3,7 @@
 #![tactic(auto)]
 
 mod chains;
+mod fingerprints;
 mod group;
 mod lines;
 mod presence;

@@ -1,7 +1,7 @@
 // Lists of one width that lie one after another in a vector.
 ghost use Rattle.std.specs.Prelude.{length, vec_capacity, vec_len, ◌*◌, ◌+◌, ◌++◌, ◌≡◌, ◌≤◌, All, ◌<◌, nat_eq, is_some, true, take, drop};
 ghost use Rattle.base_table.specs.Places.{values_of};
-ghost use Rattle.base_table.specs.Store.{code_or_any, longer_lines, picked_lines, print_in, shorter_lines};
+ghost use Rattle.base_table.specs.Store.{code_or_any, longer_lines, picked_lines, shorter_lines};
 ghost use Rattle.cell_core.specs.Entry.{IsCode, value_in};
 ghost use Rattle.cube_defs.specs.Cell.{cell_eq, cell_of};
 
@@ -39,7 +39,7 @@ pub(crate) fn retain_lines<T: Copy + Drop>(cells: &mut Vec<T>, width: usize, kep
 }
 
 // The code of an entry, and of Any a number that no code is.
-fn code_or_any(entry: Entry) -> u32
+pub(crate) fn code_or_any(entry: Entry) -> u32
     ensures { result ≡ code_or_any (value_in entry) }
 {
     match entry {
@@ -98,20 +98,6 @@ pub(crate) fn shorten(cells: &mut Vec<u32>, width: usize, first: usize, lines: u
         cells.copy_within(from..from + first, line * first);
     }
     cells.truncate(lines * first);
-}
-
-// A number that equal cells share, made of so many of their entries.
-pub(crate) fn fingerprint(tuple: &Cell, keyed: u8) -> u32
-    requires { keyed ≤ length tuple.now }
-    ensures { result ≡ print_in keyed tuple.now }
-{
-    let mut print: u32 = 0;
-    'entries: for dim in 0..keyed {
-        print = print
-            .wrapping_mul(2_654_435_761)
-            .wrapping_add(code_or_any(tuple.get(dim)));
-    }
-    print
 }
 
 // The cell with these codes.

@@ -9,8 +9,9 @@ ghost use Rattle.base_table.specs.Places.{IsRow, narrowed, row_of, with_code};
 ghost use Rattle.base_table.specs.Store.{id_of, print_in, print_of};
 
 use crate::chains::{self, Chains};
+use crate::fingerprints::Fingerprinter;
 use crate::{Memory, lines};
-use cell_core::Cell;
+use cell_core::{Cell, HashKeys};
 use cube_defs::{MAX_DIMS, MAX_MEASURES};
 use std::alloc::{AllocError, Global};
 use std::marker::Model;
@@ -22,9 +23,8 @@ pub struct Store {
     dims: u8,
     // The number of dimensions when the rows were settled last.
     dims_then: u8,
-    // How many of its first codes make a tuple's fingerprint: those that it had from the start, so
-    // that fingerprints stay when the number of dimensions changes.
-    keyed: u8,
+    // It makes fingerprints of the codes that a tuple had from the start.
+    printer: Fingerprinter,
     measures: u8,
     ids: Chains<u64>,
     // A fingerprint for each tuple. Equal tuples have equal ones.
@@ -44,30 +44,37 @@ impl Model for Store {
     ghost view = { λ s. record {
       dims = s.dims;
       dims_then = s.dims_then;
-      keyed = s.keyed;
+      printer = s.printer;
       measures = s.measures;
       rows = rows_from s.dims s.measures s.ids s.codes.items s.amounts.items;
     } };
 
-    ghost invariant = { λ s. IsStore s.dims s.measures s.keyed s.dims_then s.ids s.prints s.codes.items s.amounts.items (vec_capacity s.codes) };
+    ghost invariant = { λ s. IsStore s.dims s.measures s.printer s.dims_then s.ids s.prints s.codes.items s.amounts.items (vec_capacity s.codes) };
 }
 
 impl Store {
-    pub fn new(alloc: Global, dims: u8, measures: u8) -> Store
+    pub fn new(alloc: Global, keys: HashKeys, dims: u8, measures: u8) -> Store
         requires dims { dims ≤ MAX_DIMS }
         requires measures { measures ≤ MAX_MEASURES }
-        ensures { result ≡ record { dims = dims; dims_then = dims; keyed = dims; measures = measures; rows = [] } }
+        ensures dims { result.dims ≡ dims }
+        ensures dims_then { result.dims_then ≡ dims }
+        ensures measures { result.measures ≡ measures }
+        ensures rows { result.rows ≡ [] }
     {
         Store {
             dims,
             dims_then: dims,
-            keyed: dims,
+            printer: Fingerprinter::new(keys, dims),
             measures,
-            ids: Chains::new(alloc),
-            prints: Chains::new(alloc),
+            ids: Chains::new(alloc, keys),
+            prints: Chains::new(alloc, keys),
             codes: Vec::new(alloc),
             amounts: Vec::new(alloc),
         }
+    }
+
+    pub fn hash_keys(&self) -> HashKeys {
+        self.ids.hash_keys()
     }
 
     pub fn dims(&self) -> u8
@@ -107,16 +114,16 @@ impl Store {
     /// One more than the last place of a tuple that shares its fingerprint with the cell, or 0.
     pub fn last_alike(&self, tuple: &Cell) -> u32
         requires { length tuple.now ≡ self.now.dims }
-        ensures { result ≡ last_of (nat_eq (print_in self.now.keyed tuple.now)) (map (print_of self.now.keyed) self.now.rows) }
+        ensures { result ≡ last_of (nat_eq (print_in self.now.printer tuple.now)) (map (print_of self.now.printer) self.now.rows) }
     {
-        self.prints.last(&lines::fingerprint(tuple, self.keyed))
+        self.prints.last(&self.printer.of(tuple))
     }
 
     /// One more than the last place before this one whose row has the fingerprint of the row here, or 0.
     pub fn alike_before(&self, place: u32) -> u32
         requires { place < length self.now.rows }
-        ensures { (d : Row ℕ) → result ≡ last_of (nat_eq (print_of self.now.keyed (slice_index_or self.now.rows place d)))
-            (take place (map (print_of self.now.keyed) self.now.rows)) }
+        ensures { (d : Row ℕ) → result ≡ last_of (nat_eq (print_of self.now.printer (slice_index_or self.now.rows place d)))
+            (take place (map (print_of self.now.printer) self.now.rows)) }
     {
         self.prints.before(place)
     }
@@ -195,7 +202,7 @@ impl Store {
         self.codes.reserve(most - self.codes.len())?;
         self.amounts.reserve(self.measures as usize)?;
         self.ids.push(id)?;
-        let Ok(()) = self.prints.push(lines::fingerprint(tuple, self.keyed)) else {
+        let Ok(()) = self.prints.push(self.printer.of(tuple)) else {
             self.ids.pop();
             return Err(AllocError);
         };

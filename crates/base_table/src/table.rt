@@ -10,7 +10,7 @@ ghost use Rattle.aggregates.specs.Views.{agg_in};
 use crate::store::Store;
 use crate::{Memory, group, presence};
 use aggregates::Agg;
-use cell_core::{Cell, Code};
+use cell_core::{Cell, Code, HashKeys};
 use cube_defs::{MAX_DIMS, MAX_MEASURES, MAX_ROWS};
 use std::alloc::{AllocError, Global};
 use std::marker::Model;
@@ -76,7 +76,8 @@ impl Model for Table {
 const MOST_PLACES: usize = 4_000_000_000;
 
 impl Table {
-    /// A table without rows. No batch is open.
+    /// A table without rows, under fixed hash keys: ids and tuples that are chosen to collide make it
+    /// slow. No batch is open.
     pub fn new(alloc: Global, dims: u8, measures: u8, max: u32) -> Result<Table, Memory>
         requires some_dims { 0 < dims }
         requires few_dims { dims ≤ MAX_DIMS }
@@ -85,8 +86,26 @@ impl Table {
         requires few_rows { max ≤ MAX_ROWS }
         ensures value { IfOk result (λ table. table ≡ record { dims = dims; measures = measures; max = max; places = []; was = None }) }
     {
+        Table::with_keys(alloc, HashKeys::fixed(), dims, measures, max)
+    }
+
+    /// A table without rows, under these hash keys. No batch is open.
+    pub fn with_keys(
+        alloc: Global,
+        keys: HashKeys,
+        dims: u8,
+        measures: u8,
+        max: u32,
+    ) -> Result<Table, Memory>
+        requires some_dims { 0 < dims }
+        requires few_dims { dims ≤ MAX_DIMS }
+        requires few_measures { measures ≤ MAX_MEASURES }
+        requires some_rows { 0 < max }
+        requires few_rows { max ≤ MAX_ROWS }
+        ensures value { IfOk result (λ table. table ≡ record { dims = dims; measures = measures; max = max; places = []; was = None }) }
+    {
         Ok(Table {
-            store: Store::new(alloc, dims, measures),
+            store: Store::new(alloc, keys, dims, measures),
             here: Vec::new(alloc),
             touched: Vec::new(alloc),
             begun: 0,
@@ -95,6 +114,11 @@ impl Table {
             count: 0,
             max,
         })
+    }
+
+    /// The keys under which ids and tuples are hashed.
+    pub fn hash_keys(&self) -> HashKeys {
+        self.store.hash_keys()
     }
 
     /// The number of dimensions.

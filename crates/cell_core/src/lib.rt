@@ -5,6 +5,7 @@ mod cell;
 mod cells;
 mod codes;
 mod fields;
+mod hash_keys;
 mod steps;
 mod texts;
 
@@ -12,5 +13,6 @@ pub use cell::{ANY, Cell, Code, Entry, NodeNo, last, leq, mask_of, meet_into, up
 pub use cells::Cells;
 pub use cube_defs::Memory;
 pub use fields::{Field, Fields};
+pub use hash_keys::HashKeys;
 pub use steps::Steps;
 pub use texts::{Text, Texts};

@@ -12,6 +12,6 @@ mod texts;
 mod whole;
 mod writing;
 
-pub use decoding::decode;
+pub use decoding::{decode, decode_with_keys};
 pub use encoding::encode;
 pub use refused::{DecodeRefused, EncodeRefused};

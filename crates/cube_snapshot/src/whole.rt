@@ -14,6 +14,7 @@ use crate::refused::PartRefused;
 use crate::rows::read_rows;
 use crate::texts::read_dict;
 use base_table::Table;
+use cell_core::HashKeys;
 use cube_defs::MAX_FILE;
 use qc_schema::{Schema, SchemaRefused, read_schema, schema_text};
 use std::alloc::Global;
@@ -92,15 +93,15 @@ fn schema_at(alloc: Global, bytes: &[u8]) -> Result<(Schema, &[u8]), PartRefused
 }
 
 // A table without rows, in which a batch is open, and a dictionary without texts.
-fn start(alloc: Global, schema: &Schema) -> Result<(Dict, Table), PartRefused>
+fn start(alloc: Global, keys: HashKeys, schema: &Schema) -> Result<(Dict, Table), PartRefused>
     requires { IsLayout schema.now }
     ensures begun { IfOk result (λ made. IsBegun schema.now made.0 made.1) }
     ensures memory { IfErr result (λ refused. refused ≡ PartRefused.Memory) }
 {
-    let Ok(dict) = Dict::new(alloc, schema.dims(), schema.values()) else {
+    let Ok(dict) = Dict::with_keys(alloc, keys, schema.dims(), schema.values()) else {
         return Err(PartRefused::Memory);
     };
-    match Table::new(alloc, schema.dims(), schema.measures(), schema.rows()) {
+    match Table::with_keys(alloc, keys, schema.dims(), schema.measures(), schema.rows()) {
         Ok(mut table) => {
             table.begin();
             Ok((dict, table))
@@ -144,6 +145,7 @@ fn read_behind(
 // The parts after a schema that was read.
 fn parts_behind(
     alloc: Global,
+    keys: HashKeys,
     schema: Schema,
     bytes: &[u8],
 ) -> Result<(Schema, Dict, Table), PartRefused>
@@ -152,7 +154,7 @@ fn parts_behind(
     ensures schema { IfOk result (λ made. made.0 ≡ schema) }
     ensures made { IfOk result (λ made. IsMade made.0 made.1 made.2) }
 {
-    let (mut dict, mut table) = match start(alloc, &schema) {
+    let (mut dict, mut table) = match start(alloc, keys, &schema) {
         Ok(made) => made,
         Err(refused) => {
             drop(schema);
@@ -172,7 +174,11 @@ fn parts_behind(
 
 /// The parts that the bytes encode, if they are within all limits of a state, except for the number
 /// of nodes.
-pub(crate) fn read_parts(alloc: Global, bytes: &[u8]) -> Result<(Schema, Dict, Table), PartRefused>
+pub(crate) fn read_parts(
+    alloc: Global,
+    keys: HashKeys,
+    bytes: &[u8],
+) -> Result<(Schema, Dict, Table), PartRefused>
     requires { length bytes.now ≤ MAX_FILE }
     ensures reads { Reads AreWithin (λ made. parts_made made.0 made.1 made.2) result (whole snapshot bytes.now) }
     ensures made { IfOk result (λ made. IsMade made.0 made.1 made.2) }
@@ -181,7 +187,7 @@ pub(crate) fn read_parts(alloc: Global, bytes: &[u8]) -> Result<(Schema, Dict, T
         return Err(PartRefused::Form);
     };
     match schema_at(alloc, rest) {
-        Ok((schema, rest)) => parts_behind(alloc, schema, rest),
+        Ok((schema, rest)) => parts_behind(alloc, keys, schema, rest),
         Err(refused) => Err(refused),
     }
 }

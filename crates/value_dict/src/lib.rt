@@ -14,11 +14,12 @@ mod order;
 mod sets;
 
 pub use boxes::CellBox;
-use cell_core::{Cell, Code, Entry, Field, Fields};
+use cell_core::{Cell, Code, Entry, Field, Fields, HashKeys};
 pub use cube_defs::Memory;
 use cube_defs::{MAX_CODES, MAX_DIMS};
 use indexmap::IndexSet;
 pub use law::a_dimension_that_came_goes;
+use sets::TextSet;
 use std::alloc::{AllocError, Global};
 use std::marker::Model;
 
@@ -32,12 +33,12 @@ pub enum Learn {
 }
 
 /// For each of 1 to 16 dimensions a list of distinct texts, at most `max` each. A text's code is
-/// its place, counted from 0. Texts are found by their hash, whose seed is fixed: texts that are
-/// chosen to collide make it slow.
+/// its place, counted from 0. Texts are found by their hash under the dictionary's keys.
 #[derive(Drop)]
 pub struct Dict {
-    lists: Vec<IndexSet<String>>,
+    lists: Vec<TextSet>,
     max: u32,
+    keys: HashKeys,
 }
 
 impl Model for Dict {
@@ -52,8 +53,20 @@ impl Model for Dict {
 }
 
 impl Dict {
-    /// No texts in any dimension.
+    /// No texts in any dimension, under fixed keys: texts that are chosen to collide make it slow.
     pub fn new(alloc: Global, dims: u8, max: u32) -> Result<Dict, Memory>
+        requires some_dims { 0 < dims }
+        requires few_dims { dims ≤ MAX_DIMS }
+        requires some_texts { 0 < max }
+        requires few_texts { max ≤ MAX_CODES }
+        ensures value { IfOk result (λ dict. dict ≡ no_texts dims max) }
+        ensures dictionary { IfOk result (λ dict. IsDictionary dict) }
+    {
+        Dict::with_keys(alloc, HashKeys::fixed(), dims, max)
+    }
+
+    /// No texts in any dimension, under these keys.
+    pub fn with_keys(alloc: Global, keys: HashKeys, dims: u8, max: u32) -> Result<Dict, Memory>
         requires some_dims { 0 < dims }
         requires few_dims { dims ≤ MAX_DIMS }
         requires some_texts { 0 < max }
@@ -63,9 +76,9 @@ impl Dict {
     {
         let mut lists = Vec::with_capacity(alloc, dims as usize)?;
         for _ in 0..dims {
-            lists.push(IndexSet::new(alloc))?;
+            lists.push(IndexSet::with_hasher(alloc, keys))?;
         }
-        Ok(Dict { lists, max })
+        Ok(Dict { lists, max, keys })
     }
 
     /// The number of dimensions.
@@ -141,7 +154,7 @@ impl Dict {
         ensures err { OnErr result (self.new ≡ self.old) }
         ensures dictionary { IsDictionary self.new }
     {
-        let list = sets::only(*self.lists.allocator(), text)?;
+        let list = sets::only(*self.lists.allocator(), self.keys, text)?;
         self.lists.push(list)?;
         Ok(())
     }

@@ -428,7 +428,7 @@ pub(crate) fn change<L: Ledger>(
     ensures images { OnOk result (over tree.new.last tree.new.now ≡ tree.old.now) }
     ensures no_images { OnErr result (tree.new.last ≡ finmap.empty) }
 {
-    match check_once(alloc, &batch) {
+    match check_once(alloc, table.hash_keys(), &batch) {
         Ok(()) => {}
         Err(refused) => {
             drop(batch);
@@ -547,7 +547,7 @@ pub(crate) fn attempt<L: Ledger>(
     ensures kept { IsTreeOfTable schema.now table.new tree.new }
     ensures images { tree.new.last ≡ finmap.empty }
 {
-    match check_once(alloc, &batch) {
+    match check_once(alloc, table.hash_keys(), &batch) {
         Ok(()) => {}
         Err(refused) => {
             drop(batch);

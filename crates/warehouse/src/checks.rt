@@ -10,6 +10,7 @@ ghost use Rattle.warehouse.specs.Steps.{AreSeen, IsCause, is_there};
 use crate::Memory;
 use crate::refused::Refused;
 use base_table::Table;
+use cell_core::HashKeys;
 use csv_load::RawBatch;
 use indexmap::IndexSet;
 use std::alloc::{AllocError, Global};
@@ -17,16 +18,19 @@ use std::alloc::{AllocError, Global};
 // The ids of the deletions so far, and those of the insertions.
 #[derive(Drop)]
 struct Seen {
-    gone: IndexSet<u64>,
-    come: IndexSet<u64>,
+    gone: IndexSet<u64, HashKeys>,
+    come: IndexSet<u64, HashKeys>,
 }
 
 impl Seen {
-    fn with_capacity(alloc: Global, capacity: usize) -> Result<Seen, Memory>
+    // No change so far, with room for those of the batch.
+    fn of_batch(alloc: Global, keys: HashKeys, batch: &RawBatch) -> Result<Seen, Memory>
         ensures { IfOk result (λ seen. AreSeen seen.gone.keys seen.come.keys []) }
     {
-        let gone = IndexSet::with_capacity(alloc, capacity)?;
-        let Ok(come) = IndexSet::with_capacity(alloc, capacity) else {
+        let insertions = batch.insertions();
+        let deletions = batch.len().saturating_sub(insertions);
+        let gone = IndexSet::with_capacity_and_hasher(alloc, deletions as usize, keys)?;
+        let Ok(come) = IndexSet::with_capacity_and_hasher(alloc, insertions as usize, keys) else {
             drop(gone);
             return Err(AllocError);
         };
@@ -67,21 +71,21 @@ fn first_seen(seen: &mut Seen, batch: &RawBatch) -> Result<Option<u32>, Memory>
 }
 
 // The number of the first change with the operation and the id of an earlier one.
-fn first_repeat(alloc: Global, batch: &RawBatch) -> Result<Option<u32>, Memory>
+fn first_repeat(alloc: Global, keys: HashKeys, batch: &RawBatch) -> Result<Option<u32>, Memory>
     ensures { IfOk result (λ k. k ≡ first_twice batch.now.changes) }
 {
-    let mut seen = Seen::with_capacity(alloc, batch.len() as usize)?;
+    let mut seen = Seen::of_batch(alloc, keys, batch)?;
     let found = first_seen(&mut seen, batch);
     drop(seen);
     found
 }
 
 /// Refuses changes of which one has the operation and the id of an earlier one.
-pub(crate) fn check_once(alloc: Global, batch: &RawBatch) -> Result<(), Refused>
+pub(crate) fn check_once(alloc: Global, keys: HashKeys, batch: &RawBatch) -> Result<(), Refused>
     ensures once { OnOk result (first_twice batch.now.changes ≡ None) }
     ensures cause { IfErr result (λ refused. (s : State) → IsCause refused s batch.now.changes) }
 {
-    let Ok(repeated) = first_repeat(alloc, batch) else {
+    let Ok(repeated) = first_repeat(alloc, keys, batch) else {
         return Err(Refused::Memory);
     };
     if let Some(k) = repeated {

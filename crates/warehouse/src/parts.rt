@@ -15,7 +15,7 @@ use crate::changing::rebuild;
 use crate::indexing::{change_index, new_index};
 use crate::refused::PartsRefused;
 use base_table::Table;
-use cell_core::Steps;
+use cell_core::{HashKeys, Steps};
 use measure_index::Index;
 use qc_arena::{ArenaRefused, QcArena};
 use qc_schema::Schema;
@@ -24,14 +24,18 @@ use std::sync::ledger::Ledger;
 use value_dict::Dict;
 
 /// No texts, and no rows.
-pub(crate) fn no_rows(alloc: Global, schema: &Schema) -> Result<(Dict, Table), Memory>
+pub(crate) fn no_rows(
+    alloc: Global,
+    keys: HashKeys,
+    schema: &Schema,
+) -> Result<(Dict, Table), Memory>
     ensures texts { IfOk result (λ made. made.0 ≡ no_texts (length schema.now.dims) schema.now.values) }
     ensures dictionary { IfOk result (λ made. IsDictionary made.0) }
     ensures rows { IfOk result (λ made. made.1 ≡ record { dims = length schema.now.dims; measures = length schema.now.measures; max = schema.now.rows; places = []; was = None }) }
     ensures layout { IsLayout schema.now }
 {
-    let dict = Dict::new(alloc, schema.dims(), schema.values())?;
-    match Table::new(alloc, schema.dims(), schema.measures(), schema.rows()) {
+    let dict = Dict::with_keys(alloc, keys, schema.dims(), schema.values())?;
+    match Table::with_keys(alloc, keys, schema.dims(), schema.measures(), schema.rows()) {
         Ok(table) => Ok((dict, table)),
         Err(error) => {
             drop(dict);

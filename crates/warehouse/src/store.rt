@@ -26,7 +26,7 @@ use crate::parts::{no_rows, no_tree, tree_and_index};
 use crate::refused::{Applied, PartsRefused, Refused, Stats, WidenRefused};
 use crate::widening::widen;
 use base_table::Table;
-use cell_core::Steps;
+use cell_core::{HashKeys, Steps};
 use csv_load::{LoadRefused, RawBatch, read_base, read_batch};
 use cube_defs::MAX_FILE;
 use measure_index::Index;
@@ -84,11 +84,19 @@ fn refused_file(refused: LoadRefused) -> Refused
 }
 
 impl Warehouse {
-    /// No rows, and no texts.
+    /// No rows, and no texts. What files bring is hashed under fixed keys, so a file of texts that
+    /// are chosen to collide is slow.
     pub fn new(alloc: Global, schema: Schema) -> Result<Warehouse, Memory>
         ensures { IfOk result (λ warehouse. warehouse.state ≡ empty schema) }
     {
-        match no_rows(alloc, &schema) {
+        Warehouse::with_keys(alloc, HashKeys::fixed(), schema)
+    }
+
+    /// No rows, and no texts. What files bring is hashed under these keys.
+    pub fn with_keys(alloc: Global, keys: HashKeys, schema: Schema) -> Result<Warehouse, Memory>
+        ensures { IfOk result (λ warehouse. warehouse.state ≡ empty schema) }
+    {
+        match no_rows(alloc, keys, &schema) {
             Ok((dict, table)) => match no_tree(alloc, &schema) {
                 Ok((tree, index)) => Ok(Warehouse {
                     schema,

@@ -6,7 +6,7 @@ use Rattle.base_table.proofs.group.group_in.Given as goal
 
 abbrev pub invariant-rows : goal.invariant-rows
 invariant-rows l = record {
-  sum : IsSummed l.store.keyed l.tuple l.store.measures l.here.items l.store.rows (option_map agg_in l.sum) l.at;
+  sum : IsSummed l.store.printer l.tuple l.store.measures l.here.items l.store.rows (option_map agg_in l.sum) l.at;
   measures : IfSome l.sum (λ agg. agg.measures ≡ l.store.measures);
 }
 

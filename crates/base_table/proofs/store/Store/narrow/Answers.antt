@@ -10,8 +10,8 @@ codes c = c.shorten.ensures.items ∙ ap (λ n. shorter_lines c.self.inside.dims
 pub invariant_of-self : goal.invariant_of-self
 invariant_of-self c =
     let m = c.self.inside in
-    subst (λ (l : List ℕ). IsStore m.dims_then m.measures m.keyed m.dims_then m.ids m.prints l m.amounts.items (vec_capacity c.shorten.new.cells)) (sym (codes c))
-    (store_shorter m.dims m.measures m.keyed m.dims_then m.ids m.prints m.codes.items m.amounts.items _ _ (omega (arith, c.shorten.ensures.capacity)) c.self.invariant)
+    subst (λ (l : List ℕ). IsStore m.dims_then m.measures m.printer m.dims_then m.ids m.prints l m.amounts.items (vec_capacity c.shorten.new.cells)) (sym (codes c))
+    (store_shorter m.dims m.measures m.printer m.dims_then m.ids m.prints m.codes.items m.amounts.items _ _ (omega (arith, c.shorten.ensures.capacity)) c.self.invariant)
 
 pub returns-then-self : goal.returns-then-self
 returns-then-self c =
@@ -19,7 +19,7 @@ returns-then-self c =
     λ j. record {
       dims = ap (λ (s : StoredRows). s.dims_then) c.self.view_is j;
       dims_then = ap (λ (s : StoredRows). s.dims_then) c.self.view_is j;
-      keyed = ap (λ (s : StoredRows). s.keyed) c.self.view_is j;
+      printer = ap (λ (s : StoredRows). s.printer) c.self.view_is j;
       measures = ap (λ (s : StoredRows). s.measures) c.self.view_is j;
       rows = (ap (λ (l : List ℕ). rows_from m.dims_then m.measures m.ids l m.amounts.items) (codes c) ∙ rows-shorter m.dims m.measures m.dims_then m.ids m.codes.items m.amounts.items c.self.invariant.then_le c.self.invariant.codes_len
           ∙ ap (λ (s : StoredRows). map (narrowed s.dims_then) s.rows) c.self.view_is) j;
@@ -34,7 +34,7 @@ returns-else-self c =
     sym c.self.view_is ∙ (λ j. record {
       dims = same j;
       dims_then = m.dims_then;
-      keyed = m.keyed;
+      printer = m.printer;
       measures = m.measures;
       rows = (sym (narrowed-all m.dims m.measures rows c.self.invariant.each) ∙ ap (λ n. map (narrowed n) rows) same) j;
     }) ∙ ap (λ (s : StoredRows). let t : StoredRows = record s { dims = s.dims_then; rows = map (narrowed s.dims_then) s.rows } in t) c.self.view_is

@@ -10,7 +10,7 @@ use Rattle.cube_snapshot.specs.States.{spelling}
 use Rattle.cube_snapshot.specs.declared.refused.PartRefused.{PartRefused}
 use Rattle.warehouse.proofs.States.{is-consistent}
 use Rattle.cube_snapshot.proofs.StateLaws.{made-spelled, refused-state, stored-made, unique}
-use Rattle.cube_snapshot.proofs.decoding.decode.Goals as goal
+use Rattle.cube_snapshot.proofs.decoding.decode_with_keys.Goals as goal
 use Rattle.std.proofs.Common.{◌∙◌, sym}
 
 pub from_parts-requires : goal.from_parts-requires

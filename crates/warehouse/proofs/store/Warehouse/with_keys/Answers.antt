@@ -4,7 +4,7 @@ use Rattle.warehouse.specs.State.{IsIndexed}
 use Rattle.warehouse.specs.Stored.{IsTreeOfTable, IsStored}
 use Rattle.warehouse.proofs.States.{stored-empty}
 use Rattle.warehouse.proofs.Trees.{kept-empty}
-use Rattle.warehouse.proofs.store.Warehouse.new.Goals as goal
+use Rattle.warehouse.proofs.store.Warehouse.with_keys.Goals as goal
 
 pub invariant_of-result : goal.invariant_of-result
 invariant_of-result c =
