@@ -8,6 +8,8 @@ use Rattle.cube_defs.specs.Text.{Text}
 use Rattle.warehouse.specs.Batch.{result_of}
 use Rattle.warehouse.specs.InPlace.{KeepsApart, KeepsNodes, cost_in, gone, kept, with_codes}
 use Rattle.warehouse.specs.State.{Contents, State}
+use Rattle.warehouse.specs.Changing.{IsInPlace}
+use Rattle.warehouse.proofs.Going.{ok-then}
 use Rattle.warehouse.proofs.Images.{over-none}
 use Rattle.warehouse.proofs.Repairing.{of-batch}
 use Rattle.warehouse.specs.Stored.{applied_in, refusal_in, state_of}
@@ -44,7 +46,8 @@ returns-in-Ok-clause-numbers g c =
     of-batch c.change.result c.args.self.now.state.schema c.args.bytes.now changes
     (λ xs. KeepsNodes (with_codes lists (kept (deleted xs) c.args.self.now.state.rows)) c.args.self.now.tree c.change.new.self.tree)
     (subst (λ (s : State). batch_in s.schema c.args.bytes.now ≡ Ok changes) state c.in-Ok.ensures.gives)
-    (subst (λ (w : Contents). OnOk c.change.result (true ≡ true → KeepsNodes (with_codes lists (kept (deleted changes) w.state.rows)) w.tree c.change.new.self.tree)) c.drop_images.ensures.rest c.change.ensures.numbers)
+    (ok-then c.change.result (λ (made : true ≡ true → IsInPlace c.args.self.now.state changes lists c.args.self.now.tree c.change.new.self.tree c.args.steps.now c.change.new.steps) place. (made place).numbers)
+    (subst (λ (w : Contents). OnOk c.change.result (true ≡ true → IsInPlace w.state changes lists w.tree c.change.new.self.tree c.args.steps.now c.change.new.steps)) c.drop_images.ensures.rest c.change.ensures.in_place))
 
 pub returns-in-Ok-clause-apart : goal.returns-in-Ok-clause-apart
 returns-in-Ok-clause-apart g c =
@@ -54,14 +57,16 @@ returns-in-Ok-clause-apart g c =
     of-batch c.change.result c.args.self.now.state.schema c.args.bytes.now changes
     (λ xs. KeepsApart (with_codes lists (gone (deleted xs) c.args.self.now.state.rows ++ inserted xs)) c.args.self.now.tree c.change.new.self.tree)
     (subst (λ (s : State). batch_in s.schema c.args.bytes.now ≡ Ok changes) state c.in-Ok.ensures.gives)
-    (subst (λ (w : Contents). OnOk c.change.result (true ≡ true → KeepsApart (with_codes lists (gone (deleted changes) w.state.rows ++ inserted changes)) w.tree c.change.new.self.tree)) c.drop_images.ensures.rest
-    c.change.ensures.apart)
+    (ok-then c.change.result (λ (made : true ≡ true → IsInPlace c.args.self.now.state changes lists c.args.self.now.tree c.change.new.self.tree c.args.steps.now c.change.new.steps) place. (made place).apart)
+    (subst (λ (w : Contents). OnOk c.change.result (true ≡ true → IsInPlace w.state changes lists w.tree c.change.new.self.tree c.args.steps.now c.change.new.steps)) c.drop_images.ensures.rest c.change.ensures.in_place))
 
 pub returns-in-Ok-clause-steps : goal.returns-in-Ok-clause-steps
 returns-in-Ok-clause-steps g c =
     let state = ap (λ (w : Contents). w.state) (c.self.view_is ∙ c.drop_images.ensures.rest) in
     let changes = c.in-Ok.batch.changes in
+    let lists = c.change.new.self.state.texts in
     of-batch c.change.result c.args.self.now.state.schema c.args.bytes.now changes
     (λ xs. c.change.new.steps ≤ c.args.steps.now + cost_in c.args.self.now.state xs)
     (subst (λ (s : State). batch_in s.schema c.args.bytes.now ≡ Ok changes) state c.in-Ok.ensures.gives)
-    (subst (λ (w : Contents). OnOk c.change.result (true ≡ true → c.change.new.steps ≤ c.args.steps.now + cost_in w.state changes)) c.drop_images.ensures.rest c.change.ensures.steps)
+    (ok-then c.change.result (λ (made : true ≡ true → IsInPlace c.args.self.now.state changes lists c.args.self.now.tree c.change.new.self.tree c.args.steps.now c.change.new.steps) place. (made place).steps)
+    (subst (λ (w : Contents). OnOk c.change.result (true ≡ true → IsInPlace w.state changes lists w.tree c.change.new.self.tree c.args.steps.now c.change.new.steps)) c.drop_images.ensures.rest c.change.ensures.in_place))
