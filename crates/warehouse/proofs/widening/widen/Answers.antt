@@ -1,4 +1,4 @@
-use Rattle.std.proofs.Common.{◌≡◌, ◌+◌, ◌∙◌, ℕ, List, Some, ap, ap₂, arith, length, map, refl, subst, sym, ◌∷◌, []}
+use Rattle.std.proofs.Common.{◌≡◌, ◌≤◌, ◌*◌, ◌+◌, ◌∙◌, ℕ, List, Some, ap, ap₂, arith, length, map, refl, subst, sym, ◌∷◌, []}
 use Rattle.std.specs.FinMap as finmap
 use Rattle.std.specs.Ordering.{nat_cmp}
 use Rattle.std.specs.Prelude.{Ok}
@@ -20,11 +20,11 @@ use Rattle.warehouse.specs.Changing.{AreParts}
 use Rattle.warehouse.specs.State.{Contents, IsIndexed, State}
 use Rattle.warehouse.specs.Steps.{closed, frame}
 use Rattle.warehouse.specs.Stored.{IsStored, state_of}
-use Rattle.warehouse.specs.Widening.{KeepsWidened, nodes_then, widened}
+use Rattle.warehouse.specs.Widening.{KeepsWidened, cost_of_widening, nodes_then, widened}
 use Rattle.warehouse.proofs.Counted.{classes-kept, nodes-kept}
 use Rattle.warehouse.proofs.States.{stored-next}
 use Rattle.warehouse.proofs.Trees.{kept-back}
-use Rattle.warehouse.proofs.Wider.{kept-wide, refused-full, state-wide, stored-wide, taken-free}
+use Rattle.warehouse.proofs.Wider.{cost-wide, kept-wide, refused-full, state-wide, stored-wide, taken-free}
 use Rattle.warehouse.proofs.widening.widen.Goals as goal
 
 pub returns-in-Some-clause-gives : goal.returns-in-Some-clause-gives
@@ -152,3 +152,8 @@ returns-clause-gives g c =
     ∙ ap (λ (s : State). length (classes text_cmp s.rows)) made in
     taken-free old name value _ count (sym c.in_default.is ∙ c.full_cause.ensures)
     ∙ ap₂ (λ (n : ℕ) (s : State). let x : Applied = record { records = 0; classes = n; state = s } in Ok x) (sym many) (sym made)
+
+pub returns-clause-steps : goal.returns-clause-steps
+returns-clause-steps g c =
+    let within : 16 * finmap.len c.args.tree.now.now ≤ cost_of_widening (length c.args.schema.now.dims) c.args.tree.now.now = cost-wide (length c.args.schema.now.dims) c.args.tree.now.now in
+    omega (arith, within, c.in-Ok.ensures.steps)
