@@ -146,6 +146,12 @@ impl Warehouse {
         }
     }
 
+    /// Drops the warehouse. A crate that calls this needn't prove again how each of its parts is
+    /// dropped.
+    pub fn discard(self) {
+        drop(self);
+    }
+
     /// The schema.
     pub fn schema(&self) -> &Schema
         ensures value { result.now ≡ self.now.state.schema }
