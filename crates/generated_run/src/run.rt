@@ -56,7 +56,7 @@ pub fn generate<L: Ledger>(
     match fill(alloc, &mut warehouse, rows, seed, steps) {
         Ok(text) => Ok(Generated { warehouse, text }),
         Err(error) => {
-            drop(warehouse);
+            warehouse.discard();
             Err(error)
         }
     }

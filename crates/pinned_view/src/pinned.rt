@@ -60,7 +60,7 @@ impl Pinned {
         ensures { IfOk result (λ p. p ≡ record { now = record warehouse { images = finmap.empty }; pins = [] }) }
     {
         let Ok(pins) = Vec::with_capacity(alloc, MAX_PINS) else {
-            drop(warehouse);
+            warehouse.discard();
             return Err(AllocError);
         };
         let mut warehouse = warehouse;

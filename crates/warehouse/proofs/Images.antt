@@ -8,6 +8,7 @@ use Rattle.std.specs.Prelude.{IfSome, OnErr, OnOk}
 use Rattle.cube_defs.specs.Tree.{Tree}
 use Rattle.qc_arena.specs.Codes.{Shape}
 use Rattle.qc_arena.specs.Map.{Arena, ImageMap, Known, frame, over, shape_of, with_images}
+use Rattle.warehouse.specs.State.{Contents}
 
 no-images : finmap.entries (finmap.empty {X = Option Known} {R = nat_cmp}) ≡ []
 no-images = nil_from_length _ (sym (finmap.len-entries (finmap.empty {X = Option Known} {R = nat_cmp})) ∙ finmap.len-empty nat_cmp (Option Known))
@@ -15,10 +16,15 @@ no-images = nil_from_length _ (sym (finmap.len-entries (finmap.empty {X = Option
 pub over-none : (tree : Tree ℕ) → over finmap.empty tree ≡ tree
 over-none tree = ap (λ es. with_images es tree) no-images
 
--- they give the tree before it back, and after a refusal there are none
-pub over-before : {T E : Type 0} (r : Result T E) (images : ImageMap) (now before : Tree ℕ) → OnOk r (over images now ≡ before) → OnErr r (now ≡ before) → OnErr r (images ≡ finmap.empty) → over images now ≡ before
-over-before (Ok x) images now before made same none = made
-over-before (Err e) images now before made same none = ap (λ (i : ImageMap). over i now) none ∙ over-none now ∙ same
+-- they give the tree before it back, and after a refusal all is as it was, without images
+pub over-kept : {T E : Type 0} (r : Result T E) (now before : Contents) → OnOk r (over now.images now.tree ≡ before.tree) → OnErr r (now ≡ before) → before.images ≡ finmap.empty → over now.images now.tree ≡ before.tree
+over-kept (Ok x) now before made same none = made
+over-kept (Err e) now before made same none = ap (λ (i : ImageMap). over i now.tree) (ap (λ (w : Contents). w.images) same ∙ none) ∙ over-none now.tree ∙ ap (λ (w : Contents). w.tree) same
+
+-- what follows from what holds after a refusal
+pub err-then : {T E P Q : Type 0} (r : Result T E) → (P → Q) → OnErr r P → OnErr r Q
+err-then (Ok x) f h = tt
+err-then (Err e) f h = f h
 
 -- an arena in which a batch was opened
 abbrev pub begun : Arena → Arena

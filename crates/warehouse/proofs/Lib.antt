@@ -17,3 +17,4 @@ mod Trees
 mod Handed
 mod Wider
 mod Images
+mod Batches

@@ -1,11 +1,12 @@
 -- The parts of a warehouse with one dimension more.
-use Rattle.std.proofs.Common.{◌≡◌, ℕ, ◌+◌, ◌<◌, ◌≤◌, Bool, true, false, cond, Option, Some, None, List, [], ◌∷◌, ◌++◌, get_or, length, map, nat_le, nat_lt, refl, sym, ap, ap₂, subst, ◌∙◌, arith}
+use Rattle.std.proofs.Common.{◌≡◌, ℕ, ◌*◌, ◌+◌, ◌<◌, ◌≤◌, Bool, true, false, cond, Option, Some, None, List, [], ◌∷◌, ◌++◌, get_or, length, map, nat_le, nat_lt, refl, sym, ap, ap₂, subst, ◌∙◌, arith}
 use Rattle.std.specs.Prelude.{Err, IfSome, Ok, Result}
 use Rattle.std.specs.Cmp.{nat_cmp_total}
 use Rattle.std.specs.FinMap as finmap
 use Rattle.std.specs.List.{All, AllByRecursion}
 use Rattle.std.specs.Ordering.{nat_cmp}
 use Rattle.std.proofs.lemmas.List.{length-append}
+use Rattle.std.proofs.lemmas.Nat.{mul-le}
 use Rattle.std.proofs.lemmas.List.Elements.{All-cons, All-head, All-nil, All-push, All-tail}
 use Rattle.base_table.specs.Places.{IsTable, Places, rows_of, with_code}
 use Rattle.csv_load.specs.Batch.{IsValue}
@@ -17,7 +18,7 @@ use Rattle.cube_laws.specs.Lists.{Among}
 use Rattle.cube_laws.proofs.Lists.{all_from, among_map, map_among}
 use Rattle.cube_laws.proofs.Nodes.{node_closed}
 use Rattle.cube_laws.proofs.Orders.{equality_by}
-use Rattle.qc_arena.specs.Map.{Arena, Known, is_open}
+use Rattle.qc_arena.specs.Map.{Arena, Known, edges_in, is_open}
 use Rattle.qc_schema.specs.Schema.{IsLayout, Layout, max_dims, with_dim}
 use Rattle.tree_laws.specs.Labels.{record_of}
 use Rattle.tree_laws.proofs.Climbs.{node_wide}
@@ -34,7 +35,7 @@ use Rattle.warehouse.specs.Handing.{IsWide}
 use Rattle.warehouse.specs.Steps.{frame}
 use Rattle.warehouse.specs.Stored.{IsStored, IsTreeOfTable, state_of}
 use Rattle.warehouse.specs.State.{State}
-use Rattle.warehouse.specs.Widening.{KeepsWidened, WidenRefusal, nodes_then, widen_refusal_in, widen_result, widened}
+use Rattle.warehouse.specs.Widening.{KeepsWidened, WidenRefusal, cost_of_widening, nodes_then, widen_refusal_in, widen_result, widened}
 use Rattle.warehouse.specs.Widening as wide
 use Rattle.warehouse.specs.declared.refused.WidenRefused.{WidenRefused}
 use Rattle.warehouse.specs.declared.refused.WidenRefused.TheVariants as refusals
@@ -165,3 +166,7 @@ kept-wide schema table tree dims long closed width max few from = record {
   few = let count = nodes_counted nat_cmp_total finmap.nat_cmp-IsAntisymmetric dims (length schema.measures) (rows_of table) from.wide tree.now from.canonical in omega (arith, few, max, count);
   from = subst (λ n. IsTreeOf n tree.now (record { measures = length schema.measures; rows = rows_of table })) (sym long) from;
 }
+
+-- what handing the classes on costs is within what a dimension may cost
+pub cost-wide : (dims : ℕ) (tree : Tree ℕ) → 16 * finmap.len tree ≤ cost_of_widening dims tree
+cost-wide dims tree = mul-le 16 (finmap.len tree) (16 * (dims + 1)) (finmap.len tree + edges_in tree + 1) (omega arith) (omega arith)

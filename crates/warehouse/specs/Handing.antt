@@ -1,12 +1,14 @@
 -- How far the classes of a tree are handed on to new children, as its numbers are gone through.
-use Rattle.std.specs.Prelude.{ℕ, Bool, true, false, ◌≡◌, ◌⊎◌, ◌<◌, ◌≤◌, Option, Some, None, [], length, is_some, nat_eq}
+use Rattle.std.specs.Prelude.{ℕ, Bool, true, false, ◌≡◌, ◌≢◌, ◌⊎◌, ◌<◌, ◌≤◌, Option, Some, None, [], length, is_some, nat_eq}
 use Rattle.std.specs.FinMap as map
 use Rattle.std.specs.List.{AllByRecursion}
+use Rattle.std.specs.Option.{option_map}
 use Rattle.cube_defs.specs.Cell.{Cell, with_value}
 use Rattle.cube_defs.specs.Rows.{Agg}
 use Rattle.cube_defs.specs.Tree.{Edge, Tree}
 use Rattle.qc_arena.specs.Edges.{with_edge}
 use Rattle.qc_arena.specs.Map.{Known, with_class, with_forced}
+use Rattle.qc_arena.specs.Seen.{record_at}
 use Rattle.widen_laws.specs.Widened.{child_by_number, handed_on_by_number, kept_by_number}
 
 -- whether a cell's last label is in the dimension
@@ -45,3 +47,16 @@ pub record IsHanded (place dims : ℕ) (child : ℕ → ℕ) (tree wide : Tree �
 
 abbrev pub HandsOn : ℕ → ℕ → Tree ℕ → Tree ℕ → Type 0
 HandsOn place dims tree wide = (child : ℕ → ℕ) × IsHanded place dims child tree wide
+
+-- a child with a class was added to a node
+pub record HasChild (dim node : ℕ) (class : Agg) (tree tree' : Tree ℕ) (to : ℕ) : Type 0 where
+  pub child : map.get tree' to ≡ Some (made_child dim node class (record_at tree node).cell)
+  pub free : map.get tree to ≡ None
+  pub others : (q : ℕ) → q ≢ to → map.get tree' q ≡ map.get tree q
+
+-- a node handed its class to a new child
+pub record HandsTo (dim node : ℕ) (class : Agg) (tree tree' : Tree ℕ) (to : ℕ) : Type 0 where
+  pub here : map.get tree' node ≡ option_map (led_to dim to) (map.get tree node)
+  pub child : map.get tree' to ≡ Some (made_child dim node class (record_at tree node).cell)
+  pub free : map.get tree to ≡ None
+  pub others : (q : ℕ) → q ≢ node → q ≢ to → map.get tree' q ≡ map.get tree q

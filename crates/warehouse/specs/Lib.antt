@@ -7,3 +7,4 @@ pub mod Widening
 pub mod Handing
 pub mod Counted
 pub mod Dimensions
+pub mod Changing

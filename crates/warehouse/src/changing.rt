@@ -1,23 +1,21 @@
 // Changes are made to rows and texts, all of them or none. The tree becomes that of the rows after
 // them: in place for a batch, from scratch for a base file.
 ghost use Rattle.std.specs.FinMap as finmap;
-ghost use Rattle.std.specs.Prelude.{Err, IfErr, IfOk, IfSome, None, Ok, OnErr, OnOk, Some, [], false, is_some, length, option_map, true, ◌+◌, ◌++◌, ◌<◌, ◌∷◌, ◌≡◌, ◌≤◌};
+ghost use Rattle.std.specs.Prelude.{Err, IfErr, IfOk, IfSome, None, Ok, OnErr, OnOk, Some, [], false, length, option_map, true, ◌+◌, ◌<◌, ◌∷◌, ◌≡◌, ◌≤◌};
 ghost use Rattle.base_table.specs.Places.{has_id, rows_of};
 ghost use Rattle.cell_core.specs.Gives.{Gives};
-ghost use Rattle.cube_defs.specs.Text.{text_cmp};
-ghost use Rattle.csv_load.specs.Batch.{IsBatch, change_at, deleted, id_of, inserted, is_deletion, row_of};
-ghost use Rattle.cube_defs.specs.Tree.{IsCanonical, classes, nodes};
+ghost use Rattle.csv_load.specs.Batch.{change_at, id_of, inserted, is_deletion, row_of};
+ghost use Rattle.cube_defs.specs.Tree.{IsCanonical, nodes};
 ghost use Rattle.qc_arena.specs.Map as arena;
 ghost use Rattle.qc_arena.specs.Map.{is_open, over};
 ghost use Rattle.std.specs.Ordering.{nat_cmp};
-ghost use Rattle.value_dict.specs.TextLists.{IsDictionary};
 ghost use Rattle.warehouse.specs.Batch as batches;
-ghost use Rattle.warehouse.specs.Batch.{after, first_number, first_twice, full_dim, refusal_of, result_of, rows_after, texts_after, with_tuple};
-ghost use Rattle.warehouse.specs.InPlace.{KeepsApart, KeepsNodes, KeepsNumbers, cost_in, cost_of, cost_of_going, gone, kept, with_codes};
+ghost use Rattle.warehouse.specs.Batch.{first_number, first_twice, full_dim, result_of, texts_after, with_tuple};
+ghost use Rattle.warehouse.specs.Changing.{AreAsBefore, AreFit, AreInserted, AreMade, AreParts, CanInsert, IsBegun, IsInPlace, LeavesFrames, OnlyAdds, RowsAreMade, contents_of};
+ghost use Rattle.warehouse.specs.InPlace.{KeepsApart, KeepsNumbers, cost_in, cost_of};
 ghost use Rattle.warehouse.specs.State.{IsIndexed, State};
-ghost use Rattle.warehouse.specs.Steps.{AreLonger, HasFront, IsCause, IsOver, IsTreeBefore, closed, frame, is_there, last_refusal, rows_before, rows_behind};
-ghost use Rattle.warehouse.specs.Stored.{IsTreeOfTable, IsStored, IsTreeOfSome, applied_in, decoded_rows, refusal_in, state_of};
-ghost use Rattle.value_dict.specs.Told.{RowsAreCodes};
+ghost use Rattle.warehouse.specs.Steps.{IsCause, IsOver, IsTreeBefore, is_there, rows_before, rows_behind};
+ghost use Rattle.warehouse.specs.Stored.{IsTreeOfTable, IsStored, IsTreeOfSome, applied_in, refusal_in, state_of};
 
 use crate::checks::{check_once, first_present, is_full};
 use crate::deleting::delete_rows;
@@ -49,27 +47,15 @@ fn insert_row(
     requires first { 1 ≤ k }
     requires last { k ≤ length batch.now.changes }
     requires inserts { is_deletion (change_at batch.now.changes k) ≡ false }
-    requires lists { length dict.old.lists ≡ batch.now.dims }
     requires cell_dims { length cell.old ≡ batch.now.dims }
-    requires dims { table.old.dims ≡ batch.now.dims }
-    requires measures { table.old.measures ≡ batch.now.measures }
-    requires is_open { is_some table.old.was ≡ true }
-    requires dictionary { IsDictionary dict.old }
-    requires known { RowsAreCodes dict.old.lists (rows_of table.old) }
+    requires can { CanInsert dict.old table.old batch.now }
     requires new { has_id (rows_of table.old) (id_of (change_at batch.now.changes k)) ≡ false }
     requires room { length (rows_of table.old) < table.old.max }
-    requires valid { IsBatch batch.now }
-    ensures rows { OnOk result (decoded_rows dict.new.lists table.new
-        ≡ decoded_rows dict.old.lists table.old ++ inserted (change_at batch.now.changes k ∷ [])) }
-    ensures lists { OnOk result (dict.new.lists ≡ with_tuple dict.old.lists (row_of (change_at batch.now.changes k)).tuple) }
-    ensures known { OnOk result (RowsAreCodes dict.new.lists (rows_of table.new)) }
+    ensures inserted { OnOk result (AreInserted (with_tuple dict.old.lists (row_of (change_at batch.now.changes k)).tuple)
+        (inserted (change_at batch.now.changes k ∷ [])) dict.old dict.new table.old table.new) }
     ensures full { result ≡ Err Learn.Full → IsOver dict.old.max (with_tuple dict.old.lists (row_of (change_at batch.now.changes k)).tuple) }
-    ensures longer { AreLonger dict.old.lists dict.new.lists }
-    ensures max { dict.new.max ≡ dict.old.max }
+    ensures adds { OnlyAdds dict.old dict.new table.old table.new }
     ensures cell_dims { length cell.new ≡ length cell.old }
-    ensures dictionary { IsDictionary dict.new }
-    ensures front { HasFront table.old table.new }
-    ensures frame { frame table.new ≡ frame table.old }
 {
     match learn_tuple(dict, cell, batch, k) {
         Ok(()) => {}
@@ -90,25 +76,14 @@ fn insert_rows(
     cell: &mut Cell,
     batch: &RawBatch,
 ) -> Result<(), Learn>
-    requires lists { length dict.old.lists ≡ batch.now.dims }
     requires cell_dims { length cell.old ≡ batch.now.dims }
-    requires dims { table.old.dims ≡ batch.now.dims }
-    requires measures { table.old.measures ≡ batch.now.measures }
-    requires is_open { is_some table.old.was ≡ true }
-    requires dictionary { IsDictionary dict.old }
-    requires known { RowsAreCodes dict.old.lists (rows_of table.old) }
+    requires can { CanInsert dict.old table.old batch.now }
     requires once { first_twice batch.now.changes ≡ None }
     requires new { first_number (is_there (rows_of table.old)) batch.now.changes ≡ None }
     requires room { length (rows_of table.old) + length (inserted batch.now.changes) ≤ table.old.max }
-    ensures rows { OnOk result (decoded_rows dict.new.lists table.new ≡ decoded_rows dict.old.lists table.old ++ inserted batch.now.changes) }
-    ensures lists { OnOk result (dict.new.lists ≡ texts_after dict.old.lists batch.now.changes) }
-    ensures known { OnOk result (RowsAreCodes dict.new.lists (rows_of table.new)) }
+    ensures inserted { OnOk result (AreInserted (texts_after dict.old.lists batch.now.changes) (inserted batch.now.changes) dict.old dict.new table.old table.new) }
     ensures full { result ≡ Err Learn.Full → IsOver dict.old.max (texts_after dict.old.lists batch.now.changes) }
-    ensures longer { AreLonger dict.old.lists dict.new.lists }
-    ensures max { dict.new.max ≡ dict.old.max }
-    ensures dictionary { IsDictionary dict.new }
-    ensures front { HasFront table.old table.new }
-    ensures frame { frame table.new ≡ frame table.old }
+    ensures adds { OnlyAdds dict.old dict.new table.old table.new }
 {
     'changes: for before in 0..batch.len() {
         let number = before + 1;
@@ -132,27 +107,14 @@ fn add_rows(
     alloc: Global,
 ) -> Result<(), Refused>
     requires dims { batch.now.dims ≡ length schema.now.dims }
-    requires measures { batch.now.measures ≡ length schema.now.measures }
-    requires lists { length dict.old.lists ≡ batch.now.dims }
-    requires table_dims { table.old.dims ≡ batch.now.dims }
-    requires table_measures { table.old.measures ≡ batch.now.measures }
-    requires is_open { is_some table.old.was ≡ true }
-    requires dictionary { IsDictionary dict.old }
-    requires known { RowsAreCodes dict.old.lists (rows_of table.old) }
+    requires can { CanInsert dict.old table.old batch.now }
     requires once { first_twice batch.now.changes ≡ None }
     requires new { first_number (is_there (rows_of table.old)) batch.now.changes ≡ None }
     requires room { length (rows_of table.old) + length (inserted batch.now.changes) ≤ table.old.max }
-    requires valid { IsBatch batch.now }
-    ensures rows { OnOk result (decoded_rows dict.new.lists table.new ≡ decoded_rows dict.old.lists table.old ++ inserted batch.now.changes) }
-    ensures lists { OnOk result (dict.new.lists ≡ texts_after dict.old.lists batch.now.changes) }
-    ensures known { OnOk result (RowsAreCodes dict.new.lists (rows_of table.new)) }
+    ensures inserted { OnOk result (AreInserted (texts_after dict.old.lists batch.now.changes) (inserted batch.now.changes) dict.old dict.new table.old table.new) }
     ensures full { IfErr result (λ refused. IfSome (refusal_in refused)
         (λ refusal. option_map (λ dim. batches.ValuesFull dim) (full_dim dict.old.max (texts_after dict.old.lists batch.now.changes)) ≡ Some refusal)) }
-    ensures longer { AreLonger dict.old.lists dict.new.lists }
-    ensures max { dict.new.max ≡ dict.old.max }
-    ensures dictionary { IsDictionary dict.new }
-    ensures front { HasFront table.old table.new }
-    ensures frame { frame table.new ≡ frame table.old }
+    ensures adds { OnlyAdds dict.old dict.new table.old table.new }
 {
     let dims = schema.dims();
     let lens = lengths(dict, dims);
@@ -179,31 +141,11 @@ fn change_rows<L: Ledger>(
     alloc: Global,
     steps: &mut Steps<L>,
 ) -> Result<u32, Refused>
-    requires stored { IsStored schema.now dict.old (closed table.old) }
-    requires is_open { is_some table.old.was ≡ true }
-    requires opened { is_open tree.old ≡ true }
-    requires width { tree.old.width ≡ length schema.now.dims }
-    requires tree { IsCanonical nat_cmp table.old.measures (rows_of table.old) tree.old.now }
-    requires few_nodes { length (nodes nat_cmp (rows_of table.old)) ≤ tree.old.max }
-    requires dims { batch.now.dims ≡ length schema.now.dims }
-    requires measures { batch.now.measures ≡ length schema.now.measures }
-    requires once { first_twice batch.now.changes ≡ None }
-    requires valid { IsBatch batch.now }
-    ensures last { OnOk result (refusal_of (state_of schema.now dict.old table.old) batch.now.changes
-        ≡ last_refusal (state_of schema.now dict.old table.old) batch.now.changes) }
-    ensures made { OnOk result (state_of schema.now dict.new table.new ≡ after (state_of schema.now dict.old table.old) batch.now.changes) }
-    ensures known { OnOk result (RowsAreCodes dict.new.lists (rows_of table.new)) }
+    requires begun { IsBegun schema.now dict.old table.old tree.old }
+    requires fit { AreFit schema.now batch.now }
+    ensures made { IfOk result (λ first. RowsAreMade schema.now batch.now.changes first dict.old dict.new table.old table.new tree.old tree.new steps.old steps.new) }
     ensures cause { IfErr result (λ refused. IsCause refused (state_of schema.now dict.old table.old) batch.now.changes) }
-    ensures longer { AreLonger dict.old.lists dict.new.lists }
-    ensures max { dict.new.max ≡ dict.old.max }
-    ensures dictionary { IsDictionary dict.new }
-    ensures frame { frame table.new ≡ frame table.old }
-    ensures left { IfOk result (λ first. rows_before table.new first ≡ kept (deleted batch.now.changes) (rows_of table.old)) }
-    ensures tree { IfOk result (λ first. IsTreeBefore table.new tree.new first) }
-    ensures numbers { OnOk result (KeepsNodes (kept (deleted batch.now.changes) (rows_of table.old)) tree.old.now tree.new.now) }
-    ensures apart { OnOk result (KeepsApart (gone (deleted batch.now.changes) (rows_of table.old)) tree.old.now tree.new.now) }
-    ensures steps { OnOk result (steps.new ≤ steps.old + cost_of_going table.old.dims (rows_of table.old) (deleted batch.now.changes)) }
-    ensures tree_frame { arena.frame tree.new ≡ arena.frame tree.old }
+    ensures frames { LeavesFrames dict.old dict.new table.old table.new tree.old tree.new }
 {
     match delete_rows(table, tree, batch, alloc, steps) {
         Ok(()) => {}
@@ -291,35 +233,12 @@ fn change_and_build<L: Ledger>(
     alloc: Global,
     steps: &mut Steps<L>,
 ) -> Result<(), Refused>
-    requires stored { IsStored schema.now dict.old (closed table.old) }
-    requires is_open { is_some table.old.was ≡ true }
-    requires opened { is_open tree.old ≡ true }
-    requires width { tree.old.width ≡ length schema.now.dims }
-    requires most_nodes { tree.old.max ≡ schema.now.nodes }
-    requires tree { IsCanonical nat_cmp table.old.measures (rows_of table.old) tree.old.now }
-    requires few_nodes { length (nodes nat_cmp (rows_of table.old)) ≤ tree.old.max }
-    requires dims { batch.dims ≡ length schema.now.dims }
-    requires measures { batch.measures ≡ length schema.now.measures }
-    requires once { first_twice batch.changes ≡ None }
-    requires valid { IsBatch batch }
-    ensures none { OnOk result (refusal_of (state_of schema.now dict.old table.old) batch.changes ≡ None) }
-    ensures made { OnOk result (state_of schema.now dict.new table.new ≡ after (state_of schema.now dict.old table.old) batch.changes) }
-    ensures tree { OnOk result (IsCanonical nat_cmp table.new.measures (rows_of table.new) tree.new.now) }
-    ensures fits { OnOk result (length (nodes nat_cmp (rows_of table.new)) ≤ schema.now.nodes) }
-    ensures numbers { OnOk result (in_place ≡ true → KeepsNodes
-        (with_codes dict.new.lists (kept (deleted batch.changes) (decoded_rows dict.old.lists table.old))) tree.old.now tree.new.now) }
-    ensures apart { OnOk result (in_place ≡ true → KeepsApart
-        (with_codes dict.new.lists (gone (deleted batch.changes) (decoded_rows dict.old.lists table.old)
-        ++ inserted batch.changes)) tree.old.now tree.new.now) }
-    ensures steps { OnOk result (in_place ≡ true → steps.new
-        ≤ steps.old + cost_in (state_of schema.now dict.old table.old) batch.changes) }
-    ensures known { OnOk result (RowsAreCodes dict.new.lists (rows_of table.new)) }
+    requires begun { IsBegun schema.now dict.old table.old tree.old }
+    requires fit { AreFit schema.now batch }
+    ensures made { OnOk result (AreMade schema.now batch.changes dict.old dict.new table.old table.new tree.new) }
+    ensures in_place { OnOk result (in_place ≡ true → IsInPlace (state_of schema.now dict.old table.old) batch.changes dict.new.lists tree.old.now tree.new.now steps.old steps.new) }
     ensures cause { IfErr result (λ refused. IsCause refused (state_of schema.now dict.old table.old) batch.changes) }
-    ensures longer { AreLonger dict.old.lists dict.new.lists }
-    ensures max { dict.new.max ≡ dict.old.max }
-    ensures dictionary { IsDictionary dict.new }
-    ensures frame { frame table.new ≡ frame table.old }
-    ensures tree_frame { arena.frame tree.new ≡ arena.frame tree.old }
+    ensures frames { LeavesFrames dict.old dict.new table.old table.new tree.old tree.new }
 {
     let first = match change_rows(schema, table, dict, tree, &batch, alloc, steps) {
         Ok(first) => first,
@@ -350,40 +269,20 @@ fn change_and_index<L: Ledger>(
     alloc: Global,
     steps: &mut Steps<L>,
 ) -> Result<(), Refused>
-    requires stored { IsStored schema.now dict.old (closed table.old) }
-    requires is_open { is_some table.old.was ≡ true }
-    requires opened { is_open tree.old ≡ true }
-    requires width { tree.old.width ≡ length schema.now.dims }
-    requires most_nodes { tree.old.max ≡ schema.now.nodes }
-    requires tree { IsCanonical nat_cmp table.old.measures (rows_of table.old) tree.old.now }
-    requires few_nodes { length (nodes nat_cmp (rows_of table.old)) ≤ tree.old.max }
-    requires dims { batch.dims ≡ length schema.now.dims }
-    requires measures { batch.measures ≡ length schema.now.measures }
-    requires once { first_twice batch.changes ≡ None }
-    requires valid { IsBatch batch }
+    requires begun { IsBegun schema.now dict.old table.old tree.old }
+    requires fit { AreFit schema.now batch }
     requires before { IfSome tree.old.was (λ before. IsTreeOfSome schema.now before.tree × IsIndexed schema.now before.tree index.old) }
-    ensures none { OnOk result (refusal_of (state_of schema.now dict.old table.old) batch.changes ≡ None) }
-    ensures made { OnOk result (state_of schema.now dict.new table.new ≡ after (state_of schema.now dict.old table.old) batch.changes) }
-    ensures tree { OnOk result (IsCanonical nat_cmp table.new.measures (rows_of table.new) tree.new.now) }
-    ensures fits { OnOk result (length (nodes nat_cmp (rows_of table.new)) ≤ schema.now.nodes) }
-    ensures known { OnOk result (RowsAreCodes dict.new.lists (rows_of table.new)) }
+    ensures made { OnOk result (AreMade schema.now batch.changes dict.old dict.new table.old table.new tree.new) }
+    ensures in_place { OnOk result (in_place ≡ true → IsInPlace (state_of schema.now dict.old table.old) batch.changes dict.new.lists tree.old.now tree.new.now steps.old steps.new) }
     ensures cause { IfErr result (λ refused. IsCause refused (state_of schema.now dict.old table.old) batch.changes) }
-    ensures longer { AreLonger dict.old.lists dict.new.lists }
-    ensures max { dict.new.max ≡ dict.old.max }
-    ensures dictionary { IsDictionary dict.new }
-    ensures frame { frame table.new ≡ frame table.old }
-    ensures tree_frame { arena.frame tree.new ≡ arena.frame tree.old }
-    ensures numbers { OnOk result (in_place ≡ true → KeepsNodes
-        (with_codes dict.new.lists (kept (deleted batch.changes) (decoded_rows dict.old.lists table.old))) tree.old.now tree.new.now) }
-    ensures apart { OnOk result (in_place ≡ true → KeepsApart
-        (with_codes dict.new.lists (gone (deleted batch.changes) (decoded_rows dict.old.lists table.old)
-        ++ inserted batch.changes)) tree.old.now tree.new.now) }
-    ensures steps { OnOk result (in_place ≡ true → steps.new
-        ≤ steps.old + cost_in (state_of schema.now dict.old table.old) batch.changes) }
+    ensures frames { LeavesFrames dict.old dict.new table.old table.new tree.old tree.new }
     ensures indexed { OnOk result (IsIndexed schema.now tree.new.now index.new) }
     ensures same_index { OnErr result (index.new ≡ index.old) }
 {
-    change_and_build(schema, table, dict, tree, batch, in_place, alloc, steps)?;
+    match change_and_build(schema, table, dict, tree, batch, in_place, alloc, steps) {
+        Ok(()) => {}
+        Err(refused) => return Err(refused),
+    }
     table.is_valid();
     match change_index(schema, tree, index, alloc) {
         Ok(()) => Ok(()),
@@ -404,29 +303,16 @@ pub(crate) fn change<L: Ledger>(
     alloc: Global,
     steps: &mut Steps<L>,
 ) -> Result<Applied, Refused>
-    requires stored { IsStored schema.now dict.old table.old }
-    requires kept { IsTreeOfTable schema.now table.old tree.old }
-    requires indexed { IsIndexed schema.now tree.old.now index.old }
+    requires parts { AreParts schema.now dict.old table.old tree.old index.old }
     requires images { tree.old.last ≡ finmap.empty }
     requires dims { batch.dims ≡ length schema.now.dims }
     requires measures { batch.measures ≡ length schema.now.measures }
     ensures gives { Gives refusal_in (applied_in (state_of schema.now dict.new table.new)) result
         (result_of (state_of schema.now dict.old table.old) (Ok batch.changes)) }
-    ensures state { OnErr result (state_of schema.now dict.new table.new ≡ state_of schema.now dict.old table.old) }
-    ensures tree { OnErr result (tree.new.now ≡ tree.old.now) }
-    ensures index { OnErr result (index.new ≡ index.old) }
-    ensures numbers { OnOk result (in_place ≡ true → KeepsNodes
-        (with_codes dict.new.lists (kept (deleted batch.changes) (decoded_rows dict.old.lists table.old))) tree.old.now tree.new.now) }
-    ensures apart { OnOk result (in_place ≡ true → KeepsApart
-        (with_codes dict.new.lists (gone (deleted batch.changes) (decoded_rows dict.old.lists table.old)
-        ++ inserted batch.changes)) tree.old.now tree.new.now) }
-    ensures steps { OnOk result (in_place ≡ true → steps.new
-        ≤ steps.old + cost_in (state_of schema.now dict.old table.old) batch.changes) }
-    ensures stored { IsStored schema.now dict.new table.new }
-    ensures kept { IsTreeOfTable schema.now table.new tree.new }
-    ensures indexed { IsIndexed schema.now tree.new.now index.new }
+    ensures same { OnErr result (contents_of schema.now dict.new table.new tree.new index.new ≡ contents_of schema.now dict.old table.old tree.old index.old) }
+    ensures in_place { OnOk result (in_place ≡ true → IsInPlace (state_of schema.now dict.old table.old) batch.changes dict.new.lists tree.old.now tree.new.now steps.old steps.new) }
+    ensures parts { AreParts schema.now dict.new table.new tree.new index.new }
     ensures images { OnOk result (over tree.new.last tree.new.now ≡ tree.old.now) }
-    ensures no_images { OnErr result (tree.new.last ≡ finmap.empty) }
 {
     match check_once(alloc, table.hash_keys(), &batch) {
         Ok(()) => {}
@@ -452,77 +338,6 @@ pub(crate) fn change<L: Ledger>(
     }
 }
 
-// Makes the changes in an open batch, and the tree of the rows after them, in place. Returns the
-// number of their classes. After a refusal some of the changes are made.
-fn change_and_count<L: Ledger>(
-    schema: &Schema,
-    table: &mut Table,
-    dict: &mut Dict,
-    tree: &mut QcArena,
-    batch: RawBatch,
-    alloc: Global,
-    steps: &mut Steps<L>,
-) -> Result<u32, Refused>
-    requires stored { IsStored schema.now dict.old (closed table.old) }
-    requires is_open { is_some table.old.was ≡ true }
-    requires opened { is_open tree.old ≡ true }
-    requires width { tree.old.width ≡ length schema.now.dims }
-    requires most_nodes { tree.old.max ≡ schema.now.nodes }
-    requires tree { IsCanonical nat_cmp table.old.measures (rows_of table.old) tree.old.now }
-    requires few_nodes { length (nodes nat_cmp (rows_of table.old)) ≤ tree.old.max }
-    requires dims { batch.dims ≡ length schema.now.dims }
-    requires measures { batch.measures ≡ length schema.now.measures }
-    requires once { first_twice batch.changes ≡ None }
-    requires valid { IsBatch batch }
-    ensures none { OnOk result (refusal_of (state_of schema.now dict.old table.old) batch.changes ≡ None) }
-    ensures classes { IfOk result (λ count. count ≡ length (classes text_cmp (rows_after (decoded_rows dict.old.lists table.old) batch.changes))) }
-    ensures cause { IfErr result (λ refused. IsCause refused (state_of schema.now dict.old table.old) batch.changes) }
-    ensures steps { OnOk result (steps.new ≤ steps.old + cost_in (state_of schema.now dict.old table.old) batch.changes) }
-    ensures longer { AreLonger dict.old.lists dict.new.lists }
-    ensures max { dict.new.max ≡ dict.old.max }
-    ensures dictionary { IsDictionary dict.new }
-    ensures frame { frame table.new ≡ frame table.old }
-    ensures tree_frame { arena.frame tree.new ≡ arena.frame tree.old }
-{
-    change_and_build(schema, table, dict, tree, batch, true, alloc, steps)?;
-    table.is_valid();
-    Ok(tree.class_count())
-}
-
-// Makes the changes in a batch of their own, with the tree of the rows after them, returns the
-// number of their classes, and takes all back.
-fn count_and_go_back<L: Ledger>(
-    schema: &Schema,
-    table: &mut Table,
-    dict: &mut Dict,
-    tree: &mut QcArena,
-    batch: RawBatch,
-    alloc: Global,
-    steps: &mut Steps<L>,
-) -> Result<u32, Refused>
-    requires stored { IsStored schema.now dict.old table.old }
-    requires kept { IsTreeOfTable schema.now table.old tree.old }
-    requires dims { batch.dims ≡ length schema.now.dims }
-    requires measures { batch.measures ≡ length schema.now.measures }
-    requires once { first_twice batch.changes ≡ None }
-    requires valid { IsBatch batch }
-    ensures none { OnOk result (refusal_of (state_of schema.now dict.old table.old) batch.changes ≡ None) }
-    ensures classes { IfOk result (λ count. count ≡ length (classes text_cmp (rows_after (decoded_rows dict.old.lists table.old) batch.changes))) }
-    ensures cause { IfErr result (λ refused. IsCause refused (state_of schema.now dict.old table.old) batch.changes) }
-    ensures steps { OnOk result (steps.new ≤ steps.old + cost_in (state_of schema.now dict.old table.old) batch.changes) }
-    ensures state { state_of schema.now dict.new table.new ≡ state_of schema.now dict.old table.old }
-    ensures tree { tree.new.now ≡ tree.old.now }
-    ensures stored { IsStored schema.now dict.new table.new }
-    ensures kept { IsTreeOfTable schema.now table.new tree.new }
-    ensures images { tree.new.last ≡ finmap.empty }
-{
-    let lens = open_batch(schema, table, dict, tree);
-    let counted = change_and_count(schema, table, dict, tree, batch, alloc, steps);
-    let dims = usize::from(schema.dims());
-    go_back(table, dict, tree, &lens[..dims]);
-    counted
-}
-
 /// A dry run of changes: leaves rows, texts and tree as they were.
 pub(crate) fn attempt<L: Ledger>(
     schema: &Schema,
@@ -541,11 +356,7 @@ pub(crate) fn attempt<L: Ledger>(
     ensures gives { (then : State) × Gives refusal_in (applied_in then) result
         (result_of (state_of schema.now dict.old table.old) (Ok batch.changes)) }
     ensures steps { OnOk result (steps.new ≤ steps.old + cost_in (state_of schema.now dict.old table.old) batch.changes) }
-    ensures state { state_of schema.now dict.new table.new ≡ state_of schema.now dict.old table.old }
-    ensures tree { tree.new.now ≡ tree.old.now }
-    ensures stored { IsStored schema.now dict.new table.new }
-    ensures kept { IsTreeOfTable schema.now table.new tree.new }
-    ensures images { tree.new.last ≡ finmap.empty }
+    ensures back { AreAsBefore schema.now dict.old dict.new table.old table.new tree.old tree.new }
 {
     match check_once(alloc, table.hash_keys(), &batch) {
         Ok(()) => {}
@@ -555,8 +366,14 @@ pub(crate) fn attempt<L: Ledger>(
         }
     }
     let records = batch.len();
-    match count_and_go_back(schema, table, dict, tree, batch, alloc, steps) {
-        Ok(classes) => Ok(Applied { records, classes }),
+    let lens = open_batch(schema, table, dict, tree);
+    let built = change_and_build(schema, table, dict, tree, batch, true, alloc, steps);
+    table.is_valid();
+    let classes = tree.class_count();
+    let dims = usize::from(schema.dims());
+    go_back(table, dict, tree, &lens[..dims]);
+    match built {
+        Ok(()) => Ok(Applied { records, classes }),
         Err(refused) => Err(refused),
     }
 }

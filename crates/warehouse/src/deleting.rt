@@ -2,7 +2,6 @@
 ghost use Rattle.std.specs.Prelude.{IfErr, IfSome, None, OnOk, Some, is_some, length, option_map, true, ◌+◌, ◌∷◌, ◌≡◌, ◌≤◌, []};
 ghost use Rattle.base_table.specs.Places.{row_with_id, rows_of, without_id};
 ghost use Rattle.batch_delete.specs.Rests.{Deletion};
-ghost use Rattle.csv_load.specs.Batch.{deleted};
 ghost use Rattle.cube_defs.specs.Cell.{Cell};
 ghost use Rattle.cube_defs.specs.Tree.{IsCanonical, cell_at, nodes};
 ghost use Rattle.qc_arena.specs.Map as arena;
@@ -10,7 +9,8 @@ ghost use Rattle.qc_arena.specs.Map.{is_open};
 ghost use Rattle.std.specs.Ordering.{nat_cmp};
 ghost use Rattle.warehouse.specs.Batch as batches;
 ghost use Rattle.warehouse.specs.Batch.{first_number, first_twice, is_missing};
-ghost use Rattle.warehouse.specs.InPlace.{IsDeletion, KeepsApart, KeepsNodes, cost_of_going, cost_without, gone, kept};
+ghost use Rattle.warehouse.specs.InPlace.{IsDeletion, KeepsApart, KeepsNodes, cost_without};
+ghost use Rattle.warehouse.specs.Changing.{AreDeleted};
 ghost use Rattle.warehouse.specs.State.{ids_of};
 ghost use Rattle.warehouse.specs.Steps.{frame};
 ghost use Rattle.warehouse.specs.Stored.{refusal_in};
@@ -77,15 +77,10 @@ pub(crate) fn delete_rows<L: Ledger>(
     requires tree { IsCanonical nat_cmp table.old.measures (rows_of table.old) tree.old.now }
     requires few_nodes { length (nodes nat_cmp (rows_of table.old)) ≤ tree.old.max }
     ensures none { OnOk result (first_number (is_missing (ids_of (rows_of table.old))) batch.now.changes ≡ None) }
+    ensures deleted { OnOk result (AreDeleted batch.now.changes table.old table.new tree.old tree.new steps.old steps.new) }
     ensures missing { IfErr result (λ refused. IfSome (refusal_in refused)
         (λ refusal. option_map (λ k. batches.Missing k) (first_number (is_missing (ids_of (rows_of table.old))) batch.now.changes) ≡ Some refusal)) }
-    ensures rows { OnOk result (rows_of table.new ≡ kept (deleted batch.now.changes) (rows_of table.old)) }
     ensures frame { frame table.new ≡ frame table.old }
-    ensures tree { OnOk result (IsCanonical nat_cmp table.old.measures (rows_of table.new) tree.new.now) }
-    ensures fits { OnOk result (length (nodes nat_cmp (rows_of table.new)) ≤ tree.old.max) }
-    ensures numbers { OnOk result (KeepsNodes (rows_of table.new) tree.old.now tree.new.now) }
-    ensures apart { OnOk result (KeepsApart (gone (deleted batch.now.changes) (rows_of table.old)) tree.old.now tree.new.now) }
-    ensures steps { OnOk result (steps.new ≤ steps.old + cost_of_going table.old.dims (rows_of table.old) (deleted batch.now.changes)) }
     ensures tree_frame { arena.frame tree.new ≡ arena.frame tree.old }
 {
     'changes: for before in 0..batch.len() {

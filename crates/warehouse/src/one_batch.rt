@@ -1,12 +1,8 @@
 // A batch on rows, texts and tree: it is opened, and then kept or taken back.
-ghost use Rattle.std.specs.FinMap as finmap;
-ghost use Rattle.std.specs.FinSet as set;
-ghost use Rattle.std.specs.Prelude.{IfSome, None, Some, false, is_some, length, map, take, true, ◌≡◌, ◌≤◌};
-ghost use Rattle.base_table.specs.Places.{IsTable, base_of, rows_of};
-ghost use Rattle.qc_arena.specs.Map.{is_open, over, shape_of};
-ghost use Rattle.value_dict.specs.TextLists.{IsDictionary, cut};
-ghost use Rattle.warehouse.specs.Steps.{closed, frame};
-ghost use Rattle.warehouse.specs.Stored.{IsTreeOfTable, IsStored, state_of};
+ghost use Rattle.std.specs.Prelude.{is_some, length, map, take, true, ◌≡◌};
+ghost use Rattle.qc_arena.specs.Map.{is_open};
+ghost use Rattle.warehouse.specs.Changing.{IsBegun, IsCommitted, IsOpened, IsTakenBack};
+ghost use Rattle.warehouse.specs.Stored.{IsStored, IsTreeOfTable};
 
 use crate::learning::lengths;
 use base_table::Table;
@@ -24,9 +20,8 @@ pub(crate) fn open_batch(
 ) -> [u32; 16]
     requires stored { IsStored schema.now dict.now table.old }
     requires kept { IsTreeOfTable schema.now table.old tree.old }
-    ensures table { table.new ≡ record table.old { was = Some (base_of table.old) } }
-    ensures tree { tree.new ≡ record tree.old { was = Some (shape_of tree.old); touched = set.empty; last = finmap.empty } }
-    ensures state { state_of schema.now dict.now table.new ≡ state_of schema.now dict.now table.old }
+    ensures begun { IsBegun schema.now dict.now table.new tree.new }
+    ensures opened { IsOpened table.old table.new tree.old tree.new }
     ensures lens { take (length schema.now.dims) result ≡ map length dict.now.lists }
 {
     table.begin();
@@ -38,11 +33,7 @@ pub(crate) fn open_batch(
 pub(crate) fn commit_both(table: &mut Table, tree: &mut QcArena)
     requires rows { is_some table.old.was ≡ true }
     requires tree { is_open tree.old ≡ true }
-    ensures rows { rows_of table.new ≡ rows_of table.old }
-    ensures frame { frame table.new ≡ frame (closed table.old) }
-    ensures valid { IsTable table.new }
-    ensures tree { tree.new ≡ record tree.old { was = None; touched = set.empty; last = tree.new.last } }
-    ensures images { IfSome tree.old.was (λ shape. shape.width ≡ tree.old.width → over tree.new.last tree.new.now ≡ shape.tree) }
+    ensures { IsCommitted table.old table.new tree.old tree.new }
 {
     table.commit();
     table.is_valid();
@@ -55,16 +46,7 @@ pub(crate) fn go_back(table: &mut Table, dict: &mut Dict, tree: &mut QcArena, le
     requires rows { is_some table.old.was ≡ true }
     requires tree { is_open tree.old ≡ true }
     requires lens { length lens.now ≡ length dict.old.lists }
-    ensures back { Some (base_of table.new) ≡ table.old.was }
-    ensures frame { frame table.new ≡ record (frame (closed table.old)) { dims = table.new.dims } }
-    ensures valid { IsTable table.new }
-    ensures texts { dict.new.lists ≡ cut dict.old.lists lens.now }
-    ensures most_texts { dict.new.max ≡ dict.old.max }
-    ensures dictionary { IsDictionary dict.new }
-    ensures tree { Some (shape_of tree.new) ≡ tree.old.was }
-    ensures closed { is_open tree.new ≡ false }
-    ensures max { tree.new.max ≡ tree.old.max }
-    ensures images { tree.new.last ≡ tree.old.last }
+    ensures { IsTakenBack lens.now dict.old dict.new table.old table.new tree.old tree.new }
 {
     table.rollback();
     table.is_valid();

@@ -1,9 +1,9 @@
 // The state, the tree of its rows, the index of the tree's classes, and what files do to them.
 ghost use Rattle.std.specs.FinMap as finmap;
-ghost use Rattle.std.specs.Prelude.{Err, IfOk, IfSome, List, None, Ok, OnErr, OnOk, Result, length, true, ◌+◌, ◌++◌, ◌<◌, ◌≡◌, ◌≤◌};
+ghost use Rattle.std.specs.Prelude.{Err, IfOk, IfSome, List, None, Ok, OnErr, OnOk, Result, length, true, ◌+◌, ◌<◌, ◌≡◌, ◌≤◌};
 ghost use Rattle.base_table.specs.Places.{rows_of};
 ghost use Rattle.cell_core.specs.Gives.{Gives};
-ghost use Rattle.csv_load.specs.Batch.{Change, deleted, inserted};
+ghost use Rattle.csv_load.specs.Batch.{Change};
 ghost use Rattle.csv_load.specs.Faults.{Fault, fault_in};
 ghost use Rattle.cube_defs.specs.Text.{Text, text_cmp};
 ghost use Rattle.cube_defs.specs.Tree as trees;
@@ -14,7 +14,8 @@ ghost use Rattle.measure_index.specs.Rankings.{IsIndex};
 ghost use Rattle.qc_arena.specs.Map.{over};
 ghost use Rattle.warehouse.specs.Batch as batches;
 ghost use Rattle.warehouse.specs.Batch.{result_of};
-ghost use Rattle.warehouse.specs.InPlace.{IsWithinCost, KeepsApart, KeepsNodes, LeavesApart, LeavesNumbers, cost_in, gone, kept, with_codes};
+ghost use Rattle.warehouse.specs.Changing.{IsInPlace};
+ghost use Rattle.warehouse.specs.InPlace.{IsWithinCost, LeavesApart, LeavesNumbers, cost_in};
 ghost use Rattle.warehouse.specs.State.{AreContents, State, coded_rows, empty, scale_in};
 ghost use Rattle.warehouse.specs.Stored.{IsStored, applied_in, decoded_rows, refusal_in, state_of};
 ghost use Rattle.warehouse.specs.Widening.{KeepsWidened, cost_of_widening, widen_refusal_in, widen_result};
@@ -153,6 +154,12 @@ impl Warehouse {
         }
     }
 
+    /// Drops the warehouse. A crate that calls this needn't prove again how each of its parts is
+    /// dropped.
+    pub fn discard(self) {
+        drop(self);
+    }
+
     /// The schema.
     pub fn schema(&self) -> &Schema
         ensures value { result.now ≡ self.now.state.schema }
@@ -257,19 +264,10 @@ impl Warehouse {
         requires measures { batch.measures ≡ length self.old.state.schema.measures }
         requires images { self.old.images ≡ finmap.empty }
         ensures gives { Gives refusal_in (applied_in self.new.state) result (result_of self.old.state (Ok batch.changes)) }
-        ensures numbers { OnOk result (in_place ≡ true → KeepsNodes
-            (with_codes self.new.state.texts (kept (deleted batch.changes) self.old.state.rows)) self.old.tree self.new.tree) }
-        ensures apart { OnOk result (in_place ≡ true → KeepsApart
-            (with_codes self.new.state.texts (gone (deleted batch.changes) self.old.state.rows
-            ++ inserted batch.changes)) self.old.tree self.new.tree) }
-        ensures steps { OnOk result (in_place ≡ true → steps.new
-            ≤ steps.old + cost_in self.old.state batch.changes) }
+        ensures in_place { OnOk result (in_place ≡ true → IsInPlace self.old.state batch.changes self.new.state.texts self.old.tree self.new.tree steps.old steps.new) }
         ensures valid { AreContents self.new }
-        ensures state { OnErr result (self.new.state ≡ self.old.state) }
-        ensures tree { OnErr result (self.new.tree ≡ self.old.tree) }
-        ensures index { OnErr result (self.new.index ≡ self.old.index) }
+        ensures same { OnErr result (self.new ≡ self.old) }
         ensures images { over self.new.images self.new.tree ≡ self.old.tree }
-        ensures no_images { OnErr result (self.new.images ≡ finmap.empty) }
     {
         change(
             &self.schema,

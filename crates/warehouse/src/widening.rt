@@ -18,8 +18,9 @@ ghost use Rattle.tree_laws.specs.Counts.{classes_in};
 ghost use Rattle.tree_laws.specs.Walk.{last_label};
 ghost use Rattle.tree_search.specs.Found.{IsTreeOf};
 ghost use Rattle.value_dict.specs.TextLists.{IsDictionary};
-ghost use Rattle.warehouse.specs.Dimensions.{AreBack, AreWidened};
-ghost use Rattle.warehouse.specs.Handing.{HandsOn, IsWide, is_in, led_to, made_child};
+ghost use Rattle.warehouse.specs.Changing.{AreParts, contents_of};
+ghost use Rattle.warehouse.specs.Dimensions.{AreBack, AreClosed, AreWidened, CanWiden};
+ghost use Rattle.warehouse.specs.Handing.{HandsOn, HandsTo, HasChild, IsWide, is_in, led_to};
 ghost use Rattle.warehouse.specs.State.{IsIndexed};
 ghost use Rattle.warehouse.specs.Stored.{IsStored, IsTreeOfTable, applied_in, state_of};
 ghost use Rattle.warehouse.specs.Widening.{KeepsWidened, cost_of_widening, widen_refusal_in, widen_result};
@@ -52,10 +53,7 @@ fn add_child<L: Ledger>(
     requires node { IsSome (finmap.get tree.old.now node.0) }
     requires room { depth (record_at tree.old.now node.0).cell ≤ dim }
     requires dim { dim < tree.old.width }
-    ensures child { IfOk result (λ child. finmap.get tree.new.now child.0
-        ≡ Some (made_child dim node.0 (agg_in class) (record_at tree.old.now node.0).cell)) }
-    ensures free { IfOk result (λ child. finmap.get tree.old.now child.0 ≡ None) }
-    ensures others { IfOk result (λ child. (q : ℕ) → q ≢ child.0 → finmap.get tree.new.now q ≡ finmap.get tree.old.now q) }
+    ensures child { IfOk result (λ child. HasChild dim node.0 (agg_in class) tree.old.now tree.new.now child.0) }
     ensures touched { IfOk result (λ child. (q : ℕ) → is_touched tree.old q ≡ true → is_touched tree.new q ≡ true) }
     ensures frame { frame tree.new ≡ frame tree.old }
     ensures steps { steps.new ≤ steps.old + 2 }
@@ -107,11 +105,7 @@ fn hand_on<L: Ledger>(
     requires node { IsSome (finmap.get tree.old.now node.0) }
     requires room { depth (record_at tree.old.now node.0).cell ≤ dim }
     requires dim { dim < tree.old.width }
-    ensures here { IfOk result (λ child. finmap.get tree.new.now node.0 ≡ option_map (led_to dim child.0) (finmap.get tree.old.now node.0)) }
-    ensures child { IfOk result (λ child. finmap.get tree.new.now child.0
-        ≡ Some (made_child dim node.0 (agg_in class) (record_at tree.old.now node.0).cell)) }
-    ensures free { IfOk result (λ child. finmap.get tree.old.now child.0 ≡ None) }
-    ensures others { IfOk result (λ child. (q : ℕ) → q ≢ node.0 → q ≢ child.0 → finmap.get tree.new.now q ≡ finmap.get tree.old.now q) }
+    ensures handed { IfOk result (λ child. HandsTo dim node.0 (agg_in class) tree.old.now tree.new.now child.0) }
     ensures frame { frame tree.new ≡ frame tree.old }
     ensures steps { steps.new ≤ steps.old + 6 }
 {
@@ -271,24 +265,10 @@ fn widen_parts<L: Ledger>(
     alloc: Global,
     steps: &mut Steps<L>,
 ) -> Result<Index, Memory>
-    requires layout { IsLayout wide.now }
-    requires dims { length wide.now.dims ≡ table.old.dims + 1 }
-    requires measures { length wide.now.measures ≡ table.old.measures }
-    requires few { table.old.dims < MAX_DIMS }
-    requires lists { length dict.old.lists ≡ table.old.dims }
-    requires valid { IsTable table.old }
-    requires is_closed { table.old.was ≡ None }
-    requires closed { is_open tree.old ≡ false }
-    requires width { tree.old.width ≡ table.old.dims }
-    requires tree { IsTreeOf table.old.dims tree.old.now (record { measures = table.old.measures; rows = rows_of table.old }) }
-    requires images { tree.old.last ≡ finmap.empty }
+    requires { CanWiden wide.now dict.old table.old tree.old }
     ensures widened { OnOk result (AreWidened value.now dict.old dict.new table.old table.new tree.old tree.new) }
     ensures back { OnErr result (AreBack dict.old dict.new table.old table.new tree.old tree.new) }
-    ensures dictionary { IsDictionary dict.new }
-    ensures valid { IsTable table.new }
-    ensures max { tree.new.max ≡ tree.old.max }
-    ensures closed { is_open tree.new ≡ false }
-    ensures images { tree.new.last ≡ finmap.empty }
+    ensures closed { AreClosed dict.new table.new tree.old tree.new }
     ensures index { IfOk result (λ index. IsIndexed wide.now tree.new.now index) }
     ensures steps { OnOk result (steps.new ≤ steps.old + 16 * finmap.len tree.old.now) }
 {
@@ -339,9 +319,7 @@ pub(crate) fn widen<L: Ledger>(
     alloc: Global,
     steps: &mut Steps<L>,
 ) -> Result<Applied, WidenRefused>
-    requires stored { IsStored schema.old dict.old table.old }
-    requires kept { IsTreeOfTable schema.old table.old tree.old }
-    requires indexed { IsIndexed schema.old tree.old.now index.old }
+    requires parts { AreParts schema.old dict.old table.old tree.old index.old }
     requires images { tree.old.last ≡ finmap.empty }
     requires name { is_new_name schema.old name.now ≡ true }
     requires value { length value.now ≤ 255 }
@@ -349,12 +327,8 @@ pub(crate) fn widen<L: Ledger>(
         (widen_result (state_of schema.old dict.old table.old) name.now value.now) }
     ensures records { OnOk result (KeepsWidened (length schema.old.dims) tree.old.now tree.new.now) }
     ensures steps { OnOk result (steps.new ≤ steps.old + cost_of_widening (length schema.old.dims) tree.old.now) }
-    ensures state { OnErr result (state_of schema.new dict.new table.new ≡ state_of schema.old dict.old table.old) }
-    ensures tree { OnErr result (tree.new.now ≡ tree.old.now) }
-    ensures index { OnErr result (index.new ≡ index.old) }
-    ensures stored { IsStored schema.new dict.new table.new }
-    ensures kept { IsTreeOfTable schema.new table.new tree.new }
-    ensures indexed { IsIndexed schema.new tree.new.now index.new }
+    ensures same { OnErr result (contents_of schema.new dict.new table.new tree.new index.new ≡ contents_of schema.old dict.old table.old tree.old index.old) }
+    ensures parts { AreParts schema.new dict.new table.new tree.new index.new }
     ensures images { tree.new.last ≡ finmap.empty }
 {
     if let Some(refused) = full_cause(schema, tree) {

@@ -1,21 +1,58 @@
-use Rattle.std.proofs.Common.{refl}
+use Rattle.std.proofs.Common.{◌≤◌, ◌+◌, ◌∙◌, ◌≡◌, ℕ, ap, refl, subst, take}
+use Rattle.base_table.specs.Places.{Places}
 use Rattle.warehouse.specs.Batch.{after}
+use Rattle.warehouse.specs.InPlace.{cost_in}
+use Rattle.warehouse.specs.Steps.{IsCause}
 use Rattle.warehouse.specs.Stored.{refusal_in, state_of}
+use Rattle.warehouse.proofs.Batches.{made-gives, taken-back}
 use Rattle.warehouse.proofs.Causes.{refused-so}
 use Rattle.warehouse.proofs.changing.attempt.Goals as goal
-
-pub returns-in-Ok-count_and_go_back-clause-gives : goal.returns-in-Ok-count_and_go_back-clause-gives
-returns-in-Ok-count_and_go_back-clause-gives g c =
-    let changes = c.args.batch.changes in
-    let old = state_of c.args.schema.now c.args.dict.now c.args.table.now in
-    (after old changes, rw (c.in-Ok-count_and_go_back.ensures.none, c.in-Ok-count_and_go_back.ensures.classes, c.len-records.ensures.count) refl)
-
-pub returns-in-Err-count_and_go_back-clause-gives : goal.returns-in-Err-count_and_go_back-clause-gives
-returns-in-Err-count_and_go_back-clause-gives g c =
-    let old = state_of c.args.schema.now c.args.dict.now c.args.table.now in
-    (old, refused-so old c.args.batch.changes (refusal_in c.in-Err-count_and_go_back.refused) c.in-Err-count_and_go_back.ensures.cause)
 
 pub returns-in-Err-clause-gives : goal.returns-in-Err-clause-gives
 returns-in-Err-clause-gives g c =
     let old = state_of c.args.schema.now c.args.dict.now c.args.table.now in
     (old, refused-so old c.args.batch.changes (refusal_in c.in-Err.refused) (c.in-Err.ensures.cause old))
+
+pub returns-in-Err-clause-back : goal.returns-in-Err-clause-back
+returns-in-Err-clause-back g c = record { stored = c.requires.stored; kept = c.requires.kept; same_state = refl; same_tree = refl; images = c.requires.images }
+
+pub change_and_build-built-requires-clause-fit : goal.change_and_build-built-requires-clause-fit
+change_and_build-built-requires-clause-fit g c = record { dims = c.requires.dims; measures = c.requires.measures; once = c.in-Ok.ensures.once; valid = c.len-records.ensures.valid }
+
+pub returns-in-Ok-built-clause-gives : goal.returns-in-Ok-built-clause-gives
+returns-in-Ok-built-clause-gives g c =
+    let schema = c.args.schema.now in
+    let changes = c.args.batch.changes in
+    let built = c.change_and_build-built in (
+      after (state_of schema c.args.dict.now c.args.table.now) changes,
+      made-gives schema c.args.dict.now built.new.dict c.args.table.now c.open_batch-lens.new.table built.new.table c.args.tree.now c.open_batch-lens.new.tree built.new.tree
+          c.requires.stored c.requires.kept c.open_batch-lens.ensures.opened built.ensures.frames c.args.batch c.len-records.ensures.valid c.in-Ok-built.ensures.made
+          c.len-records.result c.class_count-classes.result c.is_valid.ensures c.len-records.ensures.count c.class_count-classes.ensures,
+    )
+
+pub returns-in-Ok-built-clause-steps : goal.returns-in-Ok-built-clause-steps
+returns-in-Ok-built-clause-steps g c =
+    subst (λ (t : Places). c.change_and_build-built.new.steps ≤ c.args.steps.now + cost_in (state_of c.args.schema.now c.args.dict.now t) c.args.batch.changes) c.open_batch-lens.ensures.opened.of_table
+    (c.in-Ok-built.ensures.in_place refl).steps
+
+pub returns-in-Ok-built-clause-back : goal.returns-in-Ok-built-clause-back
+returns-in-Ok-built-clause-back g c =
+    let built = c.change_and_build-built in
+    taken-back c.args.schema.now c.args.dict.now built.new.dict c.args.table.now c.open_batch-lens.new.table built.new.table c.args.tree.now c.open_batch-lens.new.tree built.new.tree
+    c.requires.stored c.requires.kept c.open_batch-lens.ensures.opened built.ensures.frames c.go_back.new.dict c.go_back.new.table c.go_back.new.tree (take c.from-dims.result c.open_batch-lens.result)
+    (ap (λ (n : ℕ). take n c.open_batch-lens.result) (c.from-dims.ensures ∙ c.dims.ensures.count) ∙ c.open_batch-lens.ensures.lens) c.go_back.ensures
+
+pub returns-in-Err-built-clause-gives : goal.returns-in-Err-built-clause-gives
+returns-in-Err-built-clause-gives g c =
+    let old = state_of c.args.schema.now c.args.dict.now c.args.table.now in (
+      old,
+      refused-so old c.args.batch.changes (refusal_in c.in-Err-built.refused)
+          (subst (λ (t : Places). IsCause c.in-Err-built.refused (state_of c.args.schema.now c.args.dict.now t) c.args.batch.changes) c.open_batch-lens.ensures.opened.of_table c.in-Err-built.ensures.cause),
+    )
+
+pub returns-in-Err-built-clause-back : goal.returns-in-Err-built-clause-back
+returns-in-Err-built-clause-back g c =
+    let built = c.change_and_build-built in
+    taken-back c.args.schema.now c.args.dict.now built.new.dict c.args.table.now c.open_batch-lens.new.table built.new.table c.args.tree.now c.open_batch-lens.new.tree built.new.tree
+    c.requires.stored c.requires.kept c.open_batch-lens.ensures.opened built.ensures.frames c.go_back.new.dict c.go_back.new.table c.go_back.new.tree (take c.from-dims.result c.open_batch-lens.result)
+    (ap (λ (n : ℕ). take n c.open_batch-lens.result) (c.from-dims.ensures ∙ c.dims.ensures.count) ∙ c.open_batch-lens.ensures.lens) c.go_back.ensures

@@ -1,9 +1,11 @@
 use Rattle.std.proofs.Common.{◌≡◌, ◌≤◌, ◌<◌, ◌+◌, ◌∙◌, ◌∷◌, ◌++◌, [], ℕ, List, Some, is_some, ap, ap₂, arith, length, sym, subst, true, false, refl, take}
 use Rattle.std.specs.Prelude.{not, option_map}
+use Rattle.std.proofs.lemmas.List.{take_all}
 use Rattle.std.specs.Ordering.{nat_cmp}
 use Rattle.base_table.specs.Places.{Places, has_id, row_with_id, rows_of, without_id}
-use Rattle.csv_load.specs.Batch.{change_at, deleted, id_of, is_deletion}
+use Rattle.csv_load.specs.Batch.{Change, change_at, deleted, id_of, is_deletion}
 use Rattle.cube_defs.specs.Rows.{Row}
+use Rattle.cube_defs.specs.Text.{Text}
 use Rattle.cube_defs.specs.Tree.{IsCanonical, Tree, nodes}
 use Rattle.qc_arena.specs.Map as arena
 use Rattle.qc_arena.specs.Map.{Arena, is_open}
@@ -156,3 +158,20 @@ changes-preserved g c =
             tree_frame = ap arena.frame w.tree-is ∙ inv.tree_frame;
           }
     ]
+
+pub returns-clause-deleted : goal.returns-clause-deleted
+returns-clause-deleted g c =
+    let t = c.args.table.now in
+    let b = c.args.tree.now.now in
+    let inv = c.changes.invariant in
+    let changes = c.args.batch.now.changes in
+    let all : take c.changes.before changes ≡ changes = take_all c.changes.before changes (omega (arith, c.changes-test.false, c.len-before-end.ensures.count)) in
+    let rows : rows_of c.changes.table ≡ kept (deleted changes) (rows_of t) = subst (λ (xs : List (Change Text)). rows_of c.changes.table ≡ kept (deleted xs) (rows_of t)) all inv.rows in
+    record {
+      rows = rows;
+      canonical = subst (λ (rs : List (Row ℕ)). IsCanonical nat_cmp t.measures rs c.changes.tree.now) (sym inv.rows) inv.canonical;
+      fits = subst (λ (rs : List (Row ℕ)). length (nodes nat_cmp rs) ≤ c.args.tree.now.max) (sym inv.rows) inv.fits;
+      numbers = subst (λ (rs : List (Row ℕ)). KeepsNodes rs b c.changes.tree.now) (sym inv.rows) inv.numbers;
+      apart = subst (λ (xs : List (Change Text)). KeepsApart (gone (deleted xs) (rows_of t)) b c.changes.tree.now) all inv.apart;
+      steps = subst (λ (xs : List (Change Text)). c.changes.steps ≤ c.args.steps.now + cost_of_going t.dims (rows_of t) (deleted xs)) all inv.steps;
+    }

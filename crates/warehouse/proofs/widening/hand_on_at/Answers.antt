@@ -20,4 +20,4 @@ pub returns-in-Ok-clause-next : goal.returns-in-Ok-clause-next
 returns-in-Ok-clause-next g c = λ before wide was.
     hands-class c.args.dim c.args.number before c.args.tree.now.now c.hand_on.new.tree.now c.in-Ok.field-0.0 (agg_in c.in-Some.class) wide was
     (sym c.class_at.ensures ∙ ap (option_map agg_in) c.in-Some.is) (sym c.ends_in.ensures.value ∙ c.if-ends_in.false)
-    c.in-Ok.ensures.here c.in-Ok.ensures.child c.in-Ok.ensures.free c.in-Ok.ensures.others
+    c.in-Ok.ensures.handed.here c.in-Ok.ensures.handed.child c.in-Ok.ensures.handed.free c.in-Ok.ensures.handed.others

@@ -1,4 +1,4 @@
-use Rattle.std.proofs.Common.{◌≡◌, ◌+◌, ◌∙◌, ℕ, List, ap, ap₂, length, refl, subst, sym, ◌∷◌, []}
+use Rattle.std.proofs.Common.{◌≡◌, ◌≤◌, ◌*◌, ◌+◌, ◌∙◌, ℕ, List, Some, ap, ap₂, arith, length, map, refl, subst, sym, ◌∷◌, []}
 use Rattle.std.specs.FinMap as finmap
 use Rattle.std.specs.Ordering.{nat_cmp}
 use Rattle.std.specs.Prelude.{Ok}
@@ -6,21 +6,25 @@ use Rattle.std.proofs.lemmas.List.{length-append}
 use Rattle.base_table.specs.Places.{Places, rows_of}
 use Rattle.cube_defs.specs.Rows.{Row}
 use Rattle.cube_defs.specs.Text.{text_cmp}
-use Rattle.cube_defs.specs.Tree.{classes}
+use Rattle.cube_defs.specs.Tree.{Tree, classes}
+use Rattle.qc_arena.specs.Codes.{Shape}
+use Rattle.qc_schema.proofs.Keeping.{dims-few}
 use Rattle.qc_schema.specs.Schema.{IsLayout, Layout, with_dim}
 use Rattle.tree_laws.specs.Counts.{classes_in}
 use Rattle.tree_search.specs.Found.{IsTreeOf}
 use Rattle.value_dict.specs.TextLists as texts
 use Rattle.value_dict.specs.TextLists.{IsDictionary, TextLists}
-use Rattle.value_dict.specs.Told.{RowsAreCodes}
+use Rattle.value_dict.specs.Told.{RowsAreCodes, decoded_row}
 use Rattle.warehouse.specs.Batch.{Applied}
-use Rattle.warehouse.specs.State.{State}
+use Rattle.warehouse.specs.Changing.{AreParts}
+use Rattle.warehouse.specs.State.{Contents, IsIndexed, State}
 use Rattle.warehouse.specs.Steps.{closed, frame}
-use Rattle.warehouse.specs.Stored.{IsStored, IsTreeOfTable, state_of}
-use Rattle.warehouse.specs.Widening.{nodes_then, widened}
+use Rattle.warehouse.specs.Stored.{IsStored, state_of}
+use Rattle.warehouse.specs.Widening.{KeepsWidened, cost_of_widening, nodes_then, widened}
 use Rattle.warehouse.proofs.Counted.{classes-kept, nodes-kept}
 use Rattle.warehouse.proofs.States.{stored-next}
-use Rattle.warehouse.proofs.Wider.{kept-wide, refused-full, state-wide, stored-wide, taken-free}
+use Rattle.warehouse.proofs.Trees.{kept-back}
+use Rattle.warehouse.proofs.Wider.{cost-wide, kept-wide, refused-full, state-wide, stored-wide, taken-free}
 use Rattle.warehouse.proofs.widening.widen.Goals as goal
 
 pub returns-in-Some-clause-gives : goal.returns-in-Some-clause-gives
@@ -29,51 +33,98 @@ returns-in-Some-clause-gives g c =
     let dict = c.args.dict.now in
     let table = c.args.table.now in
     let tree = c.args.tree.now.now in
-    let stored = c.requires.stored in
-    let from = c.requires.kept.from in
+    let stored = c.requires.parts.stored in
+    let from = c.requires.parts.kept.from in
     let count : finmap.len tree + classes_in nat_cmp tree ≡ nodes_then (state_of schema dict table) =
     ap₂ (λ (m n : ℕ). m + n) (nodes-kept dict.lists (rows_of table) stored.known stored.dictionary.distinct _ _ tree from) (classes-kept dict.lists (rows_of table) stored.known stored.dictionary.distinct _ _ tree from) in
     refused-full (state_of schema dict table) c.args.name.now c.args.value.now _ count c.in-Some.refused (sym c.in-Some.is ∙ c.full_cause.ensures)
 
-pub returns-in-Err-clause-stored : goal.returns-in-Err-clause-stored
-returns-in-Err-clause-stored g c =
+pub widen_parts-requires : goal.widen_parts-requires
+widen_parts-requires g c =
+    let schema = c.args.schema.now in
+    let table = c.args.table.now in
+    let tree = c.args.tree.now in
+    let wide = c.in_ok-wide.wide in
+    let stored = c.requires.parts.stored in
+    let kept = c.requires.parts.kept in
+    let longer : wide ≡ with_dim schema c.args.name.now = c.in_ok-wide.ensures in
+    let long : length wide.dims ≡ table.dims + 1 = ap (λ (l : Layout). length l.dims) longer ∙ length-append schema.dims (c.args.name.now ∷ []) ∙ ap (λ (n : ℕ). n + 1) (sym stored.dims) in
+    record {
+      layout = c.dims-dims.ensures.layout;
+      dims = long;
+      measures = ap (λ (l : Layout). length l.measures) longer ∙ sym stored.measures;
+      few = omega (arith, long, dims-few wide c.dims-dims.ensures.layout);
+      lists = stored.lists ∙ sym stored.dims;
+      valid = stored.are_rows;
+      is_closed = stored.closed;
+      closed = kept.closed;
+      width = kept.width ∙ sym stored.dims;
+      source =
+          subst (λ (n : ℕ). IsTreeOf n tree.now (record { measures = table.measures; rows = rows_of table })) (sym stored.dims)
+          (subst (λ (m : ℕ). IsTreeOf (length schema.dims) tree.now (record { measures = m; rows = rows_of table })) (sym stored.measures) kept.from);
+      images = c.requires.images;
+    }
+
+pub returns-in-Err-clause-same : goal.returns-in-Err-clause-same
+returns-in-Err-clause-same g c =
+    let schema = c.args.schema.now in
+    let back = c.in-Err.ensures.back in
+    let state : state_of schema c.widen_parts.new.dict c.widen_parts.new.table ≡ state_of schema c.args.dict.now c.args.table.now =
+    ap₂ (λ (d : TextLists) (rs : List (Row ℕ)). let s : State = record { schema = schema; rows = map (decoded_row d.lists) rs; texts = d.lists } in s) back.texts back.rows in
+    let tree = ap (λ (s : Shape). s.tree) back.shape in
+    let images = c.widen_parts.ensures.closed.images ∙ sym c.requires.images in
+    λ j. let held : Contents = record { state = state j; tree = tree j; index = c.args.index.now; images = images j } in held
+
+pub returns-in-Err-clause-parts : goal.returns-in-Err-clause-parts
+returns-in-Err-clause-parts g c =
     let schema = c.args.schema.now in
     let dict = c.args.dict.now in
     let table = c.args.table.now in
     let now = c.widen_parts.new.table in
-    let stored = c.requires.stored in
-    let rest : frame now ≡ frame (closed table) = c.in-Err.ensures.back.frame ∙ ap (λ w. let t : Places = record (frame table) { was = w } in t) stored.closed in
-    subst (λ (d : TextLists). IsStored schema d now) (sym c.in-Err.ensures.back.texts)
-    (stored-next schema dict dict table now stored rest c.widen_parts.ensures.valid refl refl stored.values
-    (subst (λ (rs : List (Row ℕ)). RowsAreCodes dict.lists rs) (sym c.in-Err.ensures.back.rows) stored.known) stored.dictionary)
+    let stored = c.requires.parts.stored in
+    let back = c.in-Err.ensures.back in
+    let closes = c.widen_parts.ensures.closed in
+    let rest : frame now ≡ frame (closed table) = back.frame ∙ ap (λ w. let t : Places = record (frame table) { was = w } in t) stored.closed in
+    record {
+      stored =
+          subst (λ (d : TextLists). IsStored schema d now) (sym back.texts)
+          (stored-next schema dict dict table now stored rest closes.valid refl refl stored.values (subst (λ (rs : List (Row ℕ)). RowsAreCodes dict.lists rs) (sym back.rows) stored.known) stored.dictionary);
+      kept =
+          kept-back schema table now c.args.tree.now c.widen_parts.new.tree c.requires.parts.kept (ap (λ (rs : List (Row ℕ)). Some rs) back.rows) (ap (λ (s : Shape). Some s) back.shape)
+          closes.closed closes.max;
+      indexed = subst (λ (t : Tree ℕ). IsIndexed schema t c.args.index.now) (sym (ap (λ (s : Shape). s.tree) back.shape)) c.requires.parts.indexed;
+    }
 
-pub returns-clause-stored : goal.returns-clause-stored
-returns-clause-stored g c =
+pub returns-clause-records : goal.returns-clause-records
+returns-clause-records g c = subst (λ (n : ℕ). KeepsWidened n c.args.tree.now.now c.widen_parts.new.tree.now) c.requires.parts.stored.dims c.in-Ok.ensures.widened.kept
+
+pub returns-clause-parts : goal.returns-clause-parts
+returns-clause-parts g c =
     let schema = c.args.schema.now in
     let dict = c.args.dict.now in
     let table = c.args.table.now in
     let now = c.widen_parts.new.table in
     let name = c.args.name.now in
     let value = c.args.value.now in
-    let longer : c.in_ok-wide.wide ≡ with_dim schema name = c.in_ok-wide.ensures in
-    let more : c.widen_parts.new.dict ≡ texts.with_dim dict value = c.in-Ok.ensures.widened.texts in
-    let is = stored-wide schema dict table now name value c.requires.stored c.requires.kept.from.wide c.in-Ok.ensures.widened.rows c.in-Ok.ensures.widened.frame
-    (subst IsLayout longer c.dims-dims.ensures.layout) c.widen_parts.ensures.valid (subst IsDictionary more c.widen_parts.ensures.dictionary)
-    (record { utf8 = c.utf8.value; short = c.requires.value }) in
-    subst (λ (l : Layout). IsStored l c.widen_parts.new.dict now) (sym longer) (subst (λ (d : TextLists). IsStored (with_dim schema name) d now) (sym more) is)
-
-pub returns-clause-kept : goal.returns-clause-kept
-returns-clause-kept g c =
-    let schema = c.args.schema.now in
-    let table = c.args.table.now in
-    let stored = c.requires.stored in
+    let stored = c.requires.parts.stored in
     let wide = c.in_ok-wide.wide in
-    let longer : wide ≡ with_dim schema c.args.name.now = c.in_ok-wide.ensures in
-    let long : length wide.dims ≡ table.dims + 1 = ap (λ (l : Layout). length l.dims) longer ∙ length-append schema.dims (c.args.name.now ∷ []) ∙ ap (λ (n : ℕ). n + 1) (sym stored.dims) in
+    let wider = c.in-Ok.ensures.widened in
+    let closes = c.widen_parts.ensures.closed in
+    let longer : wide ≡ with_dim schema name = c.in_ok-wide.ensures in
+    let more : c.widen_parts.new.dict ≡ texts.with_dim dict value = wider.texts in
+    let long : length wide.dims ≡ table.dims + 1 = ap (λ (l : Layout). length l.dims) longer ∙ length-append schema.dims (name ∷ []) ∙ ap (λ (n : ℕ). n + 1) (sym stored.dims) in
     let measures : table.measures ≡ length wide.measures = stored.measures ∙ sym (ap (λ (l : Layout). length l.measures) longer) in
-    let max = c.widen_parts.ensures.max ∙ c.requires.kept.max ∙ sym (ap (λ (l : Layout). l.nodes) longer) in
-    kept-wide wide c.widen_parts.new.table c.widen_parts.new.tree (table.dims + 1) long c.widen_parts.ensures.closed c.in-Ok.ensures.widened.width max c.in-Ok.ensures.widened.few
-    (subst (λ (m : ℕ). IsTreeOf (table.dims + 1) c.widen_parts.new.tree.now (record { measures = m; rows = rows_of c.widen_parts.new.table })) measures c.in-Ok.ensures.widened.canonical)
+    let max = closes.max ∙ c.requires.parts.kept.max ∙ sym (ap (λ (l : Layout). l.nodes) longer) in
+    let is = stored-wide schema dict table now name value stored c.requires.parts.kept.from.wide wider.rows wider.frame
+    (subst IsLayout longer c.dims-dims.ensures.layout) closes.valid (subst IsDictionary more closes.dictionary)
+    (record { utf8 = c.utf8.value; short = c.requires.value }) in
+    record {
+      stored = subst (λ (l : Layout). IsStored l c.widen_parts.new.dict now) (sym longer) (subst (λ (d : TextLists). IsStored (with_dim schema name) d now) (sym more) is);
+      kept =
+          kept-wide wide now c.widen_parts.new.tree (table.dims + 1) long closes.closed wider.width max wider.few
+          (subst (λ (m : ℕ). IsTreeOf (table.dims + 1) c.widen_parts.new.tree.now (record { measures = m; rows = rows_of now })) measures wider.canonical);
+      indexed = c.in-Ok.ensures.index;
+    }
 
 pub returns-clause-gives : goal.returns-clause-gives
 returns-clause-gives g c =
@@ -84,8 +135,8 @@ returns-clause-gives g c =
     let name = c.args.name.now in
     let value = c.args.value.now in
     let now = c.widen_parts.new.table in
-    let stored = c.requires.stored in
-    let from = c.requires.kept.from in
+    let stored = c.requires.parts.stored in
+    let from = c.requires.parts.kept.from in
     let longer : c.in_ok-wide.wide ≡ with_dim schema name = c.in_ok-wide.ensures in
     let more : c.widen_parts.new.dict ≡ texts.with_dim dict value = c.in-Ok.ensures.widened.texts in
     let old = state_of schema dict table in
@@ -93,10 +144,16 @@ returns-clause-gives g c =
     ap₂ (λ (m n : ℕ). m + n) (nodes-kept dict.lists (rows_of table) stored.known stored.dictionary.distinct _ _ tree from) (classes-kept dict.lists (rows_of table) stored.known stored.dictionary.distinct _ _ tree from) in
     let made : state_of c.in_ok-wide.wide c.widen_parts.new.dict now ≡ widened name value old =
     ap₂ (λ (l : Layout) (d : TextLists). state_of l d now) longer more ∙ state-wide schema dict table now name value stored from.wide c.in-Ok.ensures.widened.rows c.in-Ok.ensures.widened.frame in
-    let is : IsStored c.in_ok-wide.wide c.widen_parts.new.dict now = returns-clause-stored g c in
-    let kept : IsTreeOfTable c.in_ok-wide.wide now c.widen_parts.new.tree = returns-clause-kept g c in
+    let parts : AreParts c.in_ok-wide.wide c.widen_parts.new.dict now c.widen_parts.new.tree c.in-Ok.made = returns-clause-parts g c in
+    let is = parts.stored in
+    let kept = parts.kept in
     let many : c.class_count-classes.result ≡ length (classes text_cmp (widened name value old).rows) =
     c.class_count-classes.ensures ∙ classes-kept c.widen_parts.new.dict.lists (rows_of now) is.known is.dictionary.distinct _ _ c.widen_parts.new.tree.now kept.from
     ∙ ap (λ (s : State). length (classes text_cmp s.rows)) made in
     taken-free old name value _ count (sym c.in_default.is ∙ c.full_cause.ensures)
     ∙ ap₂ (λ (n : ℕ) (s : State). let x : Applied = record { records = 0; classes = n; state = s } in Ok x) (sym many) (sym made)
+
+pub returns-clause-steps : goal.returns-clause-steps
+returns-clause-steps g c =
+    let within : 16 * finmap.len c.args.tree.now.now ≤ cost_of_widening (length c.args.schema.now.dims) c.args.tree.now.now = cost-wide (length c.args.schema.now.dims) c.args.tree.now.now in
+    omega (arith, within, c.in-Ok.ensures.steps)

@@ -1,4 +1,4 @@
-use Rattle.std.proofs.Common.{Err, List, Ok, Result, ap, subst, sym, true, ◌+◌, ◌++◌, ◌∙◌, ◌≡◌, ◌≤◌}
+use Rattle.std.proofs.Common.{Err, List, Ok, Result, ap, length, subst, sym, true, ◌+◌, ◌++◌, ◌∙◌, ◌≡◌, ◌≤◌}
 use Rattle.std.specs.Prelude.{IfSome, OnOk}
 use Rattle.cell_core.specs.Gives.{Gives}
 use Rattle.csv_load.specs.Batch.{Change, deleted, inserted}
@@ -8,7 +8,9 @@ use Rattle.cube_defs.specs.Text.{Text}
 use Rattle.warehouse.specs.Batch.{result_of}
 use Rattle.warehouse.specs.InPlace.{KeepsApart, KeepsNodes, cost_in, gone, kept, with_codes}
 use Rattle.warehouse.specs.State.{Contents, State}
-use Rattle.warehouse.proofs.Images.{over-none}
+use Rattle.warehouse.specs.Changing.{IsInPlace}
+use Rattle.warehouse.proofs.Going.{ok-then}
+use Rattle.warehouse.proofs.Images.{err-then, over-none}
 use Rattle.warehouse.proofs.Repairing.{of-batch}
 use Rattle.warehouse.specs.Stored.{applied_in, refusal_in, state_of}
 use Rattle.warehouse.proofs.Trees.{is-held}
@@ -44,7 +46,8 @@ returns-in-Ok-clause-numbers g c =
     of-batch c.change.result c.args.self.now.state.schema c.args.bytes.now changes
     (λ xs. KeepsNodes (with_codes lists (kept (deleted xs) c.args.self.now.state.rows)) c.args.self.now.tree c.change.new.self.tree)
     (subst (λ (s : State). batch_in s.schema c.args.bytes.now ≡ Ok changes) state c.in-Ok.ensures.gives)
-    (subst (λ (w : Contents). OnOk c.change.result (true ≡ true → KeepsNodes (with_codes lists (kept (deleted changes) w.state.rows)) w.tree c.change.new.self.tree)) c.drop_images.ensures.rest c.change.ensures.numbers)
+    (ok-then c.change.result (λ (made : true ≡ true → IsInPlace c.args.self.now.state changes lists c.args.self.now.tree c.change.new.self.tree c.args.steps.now c.change.new.steps) place. (made place).numbers)
+    (subst (λ (w : Contents). OnOk c.change.result (true ≡ true → IsInPlace w.state changes lists w.tree c.change.new.self.tree c.args.steps.now c.change.new.steps)) c.drop_images.ensures.rest c.change.ensures.in_place))
 
 pub returns-in-Ok-clause-apart : goal.returns-in-Ok-clause-apart
 returns-in-Ok-clause-apart g c =
@@ -54,14 +57,44 @@ returns-in-Ok-clause-apart g c =
     of-batch c.change.result c.args.self.now.state.schema c.args.bytes.now changes
     (λ xs. KeepsApart (with_codes lists (gone (deleted xs) c.args.self.now.state.rows ++ inserted xs)) c.args.self.now.tree c.change.new.self.tree)
     (subst (λ (s : State). batch_in s.schema c.args.bytes.now ≡ Ok changes) state c.in-Ok.ensures.gives)
-    (subst (λ (w : Contents). OnOk c.change.result (true ≡ true → KeepsApart (with_codes lists (gone (deleted changes) w.state.rows ++ inserted changes)) w.tree c.change.new.self.tree)) c.drop_images.ensures.rest
-    c.change.ensures.apart)
+    (ok-then c.change.result (λ (made : true ≡ true → IsInPlace c.args.self.now.state changes lists c.args.self.now.tree c.change.new.self.tree c.args.steps.now c.change.new.steps) place. (made place).apart)
+    (subst (λ (w : Contents). OnOk c.change.result (true ≡ true → IsInPlace w.state changes lists w.tree c.change.new.self.tree c.args.steps.now c.change.new.steps)) c.drop_images.ensures.rest c.change.ensures.in_place))
 
 pub returns-in-Ok-clause-steps : goal.returns-in-Ok-clause-steps
 returns-in-Ok-clause-steps g c =
     let state = ap (λ (w : Contents). w.state) (c.self.view_is ∙ c.drop_images.ensures.rest) in
     let changes = c.in-Ok.batch.changes in
+    let lists = c.change.new.self.state.texts in
     of-batch c.change.result c.args.self.now.state.schema c.args.bytes.now changes
     (λ xs. c.change.new.steps ≤ c.args.steps.now + cost_in c.args.self.now.state xs)
     (subst (λ (s : State). batch_in s.schema c.args.bytes.now ≡ Ok changes) state c.in-Ok.ensures.gives)
-    (subst (λ (w : Contents). OnOk c.change.result (true ≡ true → c.change.new.steps ≤ c.args.steps.now + cost_in w.state changes)) c.drop_images.ensures.rest c.change.ensures.steps)
+    (ok-then c.change.result (λ (made : true ≡ true → IsInPlace c.args.self.now.state changes lists c.args.self.now.tree c.change.new.self.tree c.args.steps.now c.change.new.steps) place. (made place).steps)
+    (subst (λ (w : Contents). OnOk c.change.result (true ≡ true → IsInPlace w.state changes lists w.tree c.change.new.self.tree c.args.steps.now c.change.new.steps)) c.drop_images.ensures.rest c.change.ensures.in_place))
+
+pub returns-in-Ok-clause-state : goal.returns-in-Ok-clause-state
+returns-in-Ok-clause-state g c =
+    err-then c.change.result (λ (same : c.change.new.self ≡ c.drop_images.new.self). ap (λ (w : Contents). w.state) (same ∙ c.drop_images.ensures.rest)) c.change.ensures.same
+
+pub returns-in-Ok-clause-tree : goal.returns-in-Ok-clause-tree
+returns-in-Ok-clause-tree g c =
+    err-then c.change.result (λ (same : c.change.new.self ≡ c.drop_images.new.self). ap (λ (w : Contents). w.tree) (same ∙ c.drop_images.ensures.rest)) c.change.ensures.same
+
+pub returns-in-Ok-clause-index : goal.returns-in-Ok-clause-index
+returns-in-Ok-clause-index g c =
+    err-then c.change.result (λ (same : c.change.new.self ≡ c.drop_images.new.self). ap (λ (w : Contents). w.index) (same ∙ c.drop_images.ensures.rest)) c.change.ensures.same
+
+pub returns-in-Ok-clause-no_images : goal.returns-in-Ok-clause-no_images
+returns-in-Ok-clause-no_images g c =
+    err-then c.change.result (λ (same : c.change.new.self ≡ c.drop_images.new.self). ap (λ (w : Contents). w.images) (same ∙ c.drop_images.ensures.rest)) c.change.ensures.same
+
+pub returns-in-Ok-clause-images : goal.returns-in-Ok-clause-images
+returns-in-Ok-clause-images g c = c.change.ensures.images ∙ ap (λ (w : Contents). w.tree) c.drop_images.ensures.rest
+
+pub change-requires-clause-dims : goal.change-requires-clause-dims
+change-requires-clause-dims g c = c.in-Ok.ensures.dims ∙ ap (λ (w : Contents). length w.state.schema.dims) c.self.view_is
+
+pub change-requires-clause-measures : goal.change-requires-clause-measures
+change-requires-clause-measures g c = c.in-Ok.ensures.measures ∙ ap (λ (w : Contents). length w.state.schema.measures) c.self.view_is
+
+pub change-requires-clause-images : goal.change-requires-clause-images
+change-requires-clause-images g c = ap (λ (w : Contents). w.images) c.drop_images.ensures.rest

@@ -1,22 +1,30 @@
+use Rattle.std.proofs.Common.{◌∙◌, ap}
+use Rattle.warehouse.specs.Changing.{contents_of}
+use Rattle.warehouse.specs.State.{Contents}
+use Rattle.warehouse.proofs.Images.{over-kept}
 use Rattle.warehouse.proofs.Trees.{is-held}
-use Rattle.warehouse.proofs.Images.{over-before}
 use Rattle.warehouse.proofs.store.Warehouse.change.Goals as goal
+
+pub change-requires-clause-parts : goal.change-requires-clause-parts
+change-requires-clause-parts g c = record { stored = c.self.invariant.0; kept = c.self.invariant.1; indexed = c.self.invariant.2 }
 
 pub returns-clause-gives : goal.returns-clause-gives
 returns-clause-gives g c = rw (← c.self.view_is) c.change.ensures.gives
 
-pub returns-clause-numbers : goal.returns-clause-numbers
-returns-clause-numbers g c = rw (← c.self.view_is) c.change.ensures.numbers
+pub returns-clause-in_place : goal.returns-clause-in_place
+returns-clause-in_place g c = rw (← c.self.view_is) c.change.ensures.in_place
 
-pub returns-clause-apart : goal.returns-clause-apart
-returns-clause-apart g c = rw (← c.self.view_is) c.change.ensures.apart
-
-pub returns-clause-steps : goal.returns-clause-steps
-returns-clause-steps g c = rw (← c.self.view_is) c.change.ensures.steps
+pub returns-clause-same : goal.returns-clause-same
+returns-clause-same g c = rw (← c.self.view_is) c.change.ensures.same
 
 pub returns-clause-valid : goal.returns-clause-valid
-returns-clause-valid g c = is-held c.self.inside.schema c.change.new.dict c.change.new.table c.change.new.tree c.change.new.index c.change.ensures.stored c.change.ensures.kept c.change.ensures.indexed
+returns-clause-valid g c =
+    let parts = c.change.ensures.parts in
+    is-held c.self.inside.schema c.change.new.dict c.change.new.table c.change.new.tree c.change.new.index parts.stored parts.kept parts.indexed
 
 pub returns-clause-images : goal.returns-clause-images
 returns-clause-images g c =
-    rw (← c.self.view_is) (over-before c.change.result c.change.new.tree.last c.change.new.tree.now c.self.inside.tree.now c.change.ensures.images c.change.ensures.tree c.change.ensures.no_images)
+    let inside = c.self.inside in
+    rw (← c.self.view_is)
+    (over-kept c.change.result (contents_of inside.schema c.change.new.dict c.change.new.table c.change.new.tree c.change.new.index) (contents_of inside.schema inside.dict inside.table inside.tree inside.index)
+    c.change.ensures.images c.change.ensures.same (ap (λ (w : Contents). w.images) c.self.view_is ∙ c.requires.images))

@@ -10,7 +10,7 @@ use Rattle.warehouse.specs.Batch.{Load, result, result_of}
 use Rattle.warehouse.specs.State.{Contents, State}
 use Rattle.warehouse.specs.Stored.{applied_in, decoded_rows, refusal_in, state_of}
 use Rattle.warehouse.proofs.Decoding.{length-rows}
-use Rattle.warehouse.proofs.Images.{over-none}
+use Rattle.warehouse.proofs.Images.{err-then, over-none}
 use Rattle.warehouse.proofs.Trees.{is-held}
 use Rattle.warehouse.proofs.store.Warehouse.load.Goals as goal
 
@@ -46,3 +46,31 @@ returns-then-count-ne0-clause-images g c = rw (c.drop_images.ensures.rest) (over
 
 pub returns-in-Err-clause-images : goal.returns-in-Err-clause-images
 returns-in-Err-clause-images g c = rw (c.drop_images.ensures.rest) (over-none c.args.self.now.tree)
+
+pub returns-in-Ok-clause-state : goal.returns-in-Ok-clause-state
+returns-in-Ok-clause-state g c =
+    err-then c.change.result (λ (same : c.change.new.self ≡ c.drop_images.new.self). ap (λ (w : Contents). w.state) (same ∙ c.drop_images.ensures.rest)) c.change.ensures.same
+
+pub returns-in-Ok-clause-tree : goal.returns-in-Ok-clause-tree
+returns-in-Ok-clause-tree g c =
+    err-then c.change.result (λ (same : c.change.new.self ≡ c.drop_images.new.self). ap (λ (w : Contents). w.tree) (same ∙ c.drop_images.ensures.rest)) c.change.ensures.same
+
+pub returns-in-Ok-clause-index : goal.returns-in-Ok-clause-index
+returns-in-Ok-clause-index g c =
+    err-then c.change.result (λ (same : c.change.new.self ≡ c.drop_images.new.self). ap (λ (w : Contents). w.index) (same ∙ c.drop_images.ensures.rest)) c.change.ensures.same
+
+pub returns-in-Ok-clause-no_images : goal.returns-in-Ok-clause-no_images
+returns-in-Ok-clause-no_images g c =
+    err-then c.change.result (λ (same : c.change.new.self ≡ c.drop_images.new.self). ap (λ (w : Contents). w.images) (same ∙ c.drop_images.ensures.rest)) c.change.ensures.same
+
+pub returns-in-Ok-clause-images : goal.returns-in-Ok-clause-images
+returns-in-Ok-clause-images g c = c.change.ensures.images ∙ ap (λ (w : Contents). w.tree) c.drop_images.ensures.rest
+
+pub change-requires-clause-dims : goal.change-requires-clause-dims
+change-requires-clause-dims g c = c.in-Ok.ensures.dims ∙ ap (λ (w : Contents). length w.state.schema.dims) c.self.view_is
+
+pub change-requires-clause-measures : goal.change-requires-clause-measures
+change-requires-clause-measures g c = c.in-Ok.ensures.measures ∙ ap (λ (w : Contents). length w.state.schema.measures) c.self.view_is
+
+pub change-requires-clause-images : goal.change-requires-clause-images
+change-requires-clause-images g c = ap (λ (w : Contents). w.images) c.drop_images.ensures.rest

@@ -12,5 +12,6 @@ returns-clause-steps g c = rw (← c.self.view_is) c.attempt.ensures.steps
 
 pub returns-clause-valid : goal.returns-clause-valid
 returns-clause-valid g c =
-    is-held c.self.inside.schema c.attempt.new.dict c.attempt.new.table c.attempt.new.tree c.self.inside.index c.attempt.ensures.stored c.attempt.ensures.kept
-    (subst (λ (t : Tree ℕ). IsIndexed c.self.inside.schema t c.self.inside.index) (sym c.attempt.ensures.tree) c.self.invariant.2)
+    let back = c.attempt.ensures.back in
+    is-held c.self.inside.schema c.attempt.new.dict c.attempt.new.table c.attempt.new.tree c.self.inside.index back.stored back.kept
+    (subst (λ (t : Tree ℕ). IsIndexed c.self.inside.schema t c.self.inside.index) (sym back.same_tree) c.self.invariant.2)

@@ -20,5 +20,10 @@ pub returns-clause-steps : goal.returns-clause-steps
 returns-clause-steps g c =
     subst (λ (w : Contents). OnOk c.widen.result (c.widen.new.steps ≤ c.args.steps.now + cost_of_widening (length w.state.schema.dims) w.tree)) (c.self.view_is ∙ c.drop_images.ensures.rest) c.widen.ensures.steps
 
+pub widen-requires-clause-parts : goal.widen-requires-clause-parts
+widen-requires-clause-parts g c = record { stored = c.self.invariant.0; kept = c.self.invariant.1; indexed = c.self.invariant.2 }
+
 pub returns-clause-valid : goal.returns-clause-valid
-returns-clause-valid g c = is-held c.widen.new.schema c.widen.new.dict c.widen.new.table c.widen.new.tree c.widen.new.index c.widen.ensures.stored c.widen.ensures.kept c.widen.ensures.indexed
+returns-clause-valid g c =
+    let parts = c.widen.ensures.parts in
+    is-held c.widen.new.schema c.widen.new.dict c.widen.new.table c.widen.new.tree c.widen.new.index parts.stored parts.kept parts.indexed
