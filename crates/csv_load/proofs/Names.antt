@@ -101,6 +101,17 @@ places-step header names before i place h e = ap (λ (ns : List Text). places_wi
     by None = refl
     by (Some places) = ap Some (sym (append_assoc before (place ∷ []) places))
 
+pub places-start : (header names : List (List ℕ)) (before : List ℕ) → before ≡ [] → places_with before (places_in header (drop 0 names)) ≡ places_in header names
+places-start header names before e = rw e (whole (places_in header names))
+  where
+    whole : (o : Option (List ℕ)) → places_with [] o ≡ o
+    whole None = refl
+    whole (Some places) = refl
+
+pub places-none : (header names : List (List ℕ)) (before : List ℕ) (i : ℕ) → i < length names → place_from 0 (get_or names i []) header ≡ None
+    → places_with before (places_in header (drop i names)) ≡ None
+places-none header names before i h e = ap (λ (ns : List Text). places_with before (places_in header ns)) (drop_more names i [] h) ∙ rw e refl
+
 pub places-end : (header : List (List ℕ)) (before : List ℕ) → places_with before (places_in header []) ≡ Some before
 places-end header before = ap Some (append-nil before)
 
@@ -112,6 +123,10 @@ names-all layout = omega (arith, length-append layout.dims (map (λ (m : Measure
 pub needed-all : (has_op : Bool) (layout : Layout) → length (needed_names has_op layout) ≡ 1 + length layout.dims + length layout.measures + cond has_op 1 0
 needed-all false layout = omega (arith, names-all layout)
 needed-all true layout = omega (arith, names-all layout, length-append (names_of layout) (codes "op" ∷ []))
+
+pub needed-most : (has_op : Bool) (layout : Layout) → length (needed_names has_op layout) ≤ length (names_of layout) + 1
+needed-most false layout = omega arith
+needed-most true layout = omega (arith, length-append (names_of layout) (codes "op" ∷ []))
 
 pub needed-some : (has_op : Bool) (layout : Layout) → 1 + length layout.dims + length layout.measures ≤ length (needed_names has_op layout)
 needed-some has_op layout = omega (arith, needed-all has_op layout)

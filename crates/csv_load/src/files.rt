@@ -1,9 +1,10 @@
 // Base files and batches.
-ghost use Rattle.std.specs.Prelude.{◌≡◌, ◌≢◌, ◌≤◌, ℕ, length, IfOk, IfErr};
-ghost use Rattle.csv_load.specs.Files.{base_in, batch_in, file_in};
+ghost use Rattle.std.specs.Prelude.{◌≡◌, ◌≢◌, ◌≤◌, ◌<◌, ◌^◌, ℕ, length, IfOk, IfErr};
+ghost use Rattle.csv_load.specs.Files.{base_in, batch_in, changes_of, file_in};
 ghost use Rattle.csv_load.specs.Batch.{AreInsertions};
 ghost use Rattle.cell_core.specs.Gives.{Gives};
 ghost use Rattle.csv_load.specs.Faults.{fault_in};
+ghost use Rattle.text_lines.specs.Records.{bytes_in_all};
 
 use crate::batch::RawBatch;
 use crate::changes::Changes;
@@ -66,6 +67,31 @@ impl<T: Drop> From<AllocFailed<T>> for LoadRefused {
     }
 }
 
+// Reads the header and the changes after it.
+fn read_records(
+    alloc: Global,
+    schema: &Schema,
+    rows: &mut RecordReader,
+    row: &mut ByteRecord,
+    has_op: bool,
+    size: usize,
+) -> Result<RawBatch, LoadRefused>
+    requires few { length rows.old < 2 ^ 32 }
+    requires room { bytes_in_all rows.old < 2 ^ 32 }
+    ensures gives { Gives fault_in (λ batch. batch.changes) result (changes_of has_op schema.now rows.old) }
+    ensures dims { IfOk result (λ batch. batch.dims ≡ length schema.now.dims) }
+    ensures measures { IfOk result (λ batch. batch.measures ≡ length schema.now.measures) }
+{
+    if !rows.next(row)? {
+        return Err(LoadRefused::Header);
+    }
+    let Some(columns) = find_columns(alloc, schema, row, has_op)? else {
+        return Err(LoadRefused::Header);
+    };
+    let changes = Changes::with_room(alloc, size)?;
+    read_changes(schema, &columns, rows, row, changes)
+}
+
 // Reads a file whose records have an operation, or are all insertions.
 #[tactic(auto, using(text_lines::proofs::Unmarked::no_second))]
 fn read_file(
@@ -84,14 +110,10 @@ fn read_file(
     }
     let mut rows = RecordReader::new(alloc, trim_mark(bytes));
     let mut row = ByteRecord::new(alloc);
-    if !rows.next(&mut row)? {
-        return Err(LoadRefused::Header);
-    }
-    let Some(columns) = find_columns(alloc, schema, &row, has_op)? else {
-        return Err(LoadRefused::Header);
-    };
-    let changes = Changes::with_room(alloc, bytes.len())?;
-    read_changes(schema, &columns, &mut rows, &mut row, changes)
+    let read = read_records(alloc, schema, &mut rows, &mut row, has_op, bytes.len());
+    drop(row);
+    drop(rows);
+    read
 }
 
 /// Reads a CSV file whose header has the columns of the schema, in any order and among others. Each

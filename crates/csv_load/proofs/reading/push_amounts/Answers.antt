@@ -1,9 +1,10 @@
-use Rattle.std.proofs.Common.{◌∙◌, ◌≡◌, ◌<◌, ◌+◌, ◌++◌, ◌∷◌, sym, ap, arith, length, get_or, drop, [], Some, None, ℤ, w64, refl}
+use Rattle.std.proofs.Common.{◌∙◌, ◌≡◌, ◌<◌, ◌≤◌, ◌+◌, ◌++◌, ◌∷◌, sym, ap, arith, length, get_or, drop, [], Some, None, ℤ, w64, refl}
 use Rattle.std.proofs.lemmas.Int.{to_z-of_z}
 use Rattle.std.proofs.lemmas.List.{append-nil, drop_all}
+use Rattle.std.proofs.lemmas.List.Elements.{All-from_recursion}
 use Rattle.csv.specs.Records.{fields_of}
 use Rattle.aggregates.specs.Numbers.{amount_in}
-use Rattle.qc_schema.specs.Schema.{no_measure}
+use Rattle.qc_schema.specs.Schema.{Measure, no_measure}
 use Rattle.csv_load.specs.Files.{amounts_in, amounts_of}
 use Rattle.csv_load.specs.Columns.{fields_at}
 use Rattle.csv_load.proofs.Amounts.{abs-fits, amount-small, amounts-none, amounts-step, amounts_with, none-with, some-with}
@@ -45,3 +46,24 @@ returns-in_default-clause-err c =
       none-with c.args.amounts.now.items (amounts_of c.args.schema.now fields)
           (sym c.loop-measure.invariant ∙ amounts-none c.args.schema.now.measures fields c.loop-measure.amounts.items c.loop-measure.measure (1 + length c.args.schema.now.dims + c.loop-measure.measure) lt within none),
     )
+
+pub needed_field-field-requires-clause-there : goal.needed_field-field-requires-clause-there
+needed_field-field-requires-clause-there c = omega (arith, c.requires.columns.all, needed-some c.args.columns.now.has_op c.args.schema.now, c.dims.ensures.count, c.measures-measure-end.ensures)
+
+pub needed_field-field-requires-clause-within : goal.needed_field-field-requires-clause-within
+needed_field-field-requires-clause-within c =
+    let there : 1 + c.dims.result + c.loop-measure.measure < length c.args.columns.now.places.items = omega (arith, c.requires.columns.all, needed-some c.args.columns.now.has_op c.args.schema.now, c.dims.ensures.count, c.measures-measure-end.ensures) in
+    omega (arith, c.requires.columns.within (1 + c.dims.result + c.loop-measure.measure) 0 there, c.requires.width)
+
+pub scale-requires : goal.scale-requires
+scale-requires c = rw c.measures-measure-end.ensures at c.loop-measure-test.true
+
+pub read_amount-requires : goal.read_amount-requires
+read_amount-requires c =
+    let lt : c.loop-measure.measure < length c.args.schema.now.measures = rw c.measures-measure-end.ensures at c.loop-measure-test.true in
+    rw c.scale.ensures (All-from_recursion (λ (m : Measure). m.scale ≤ 6) c.args.schema.now.measures c.dims.ensures.layout.scales c.loop-measure.measure no_measure lt)
+
+pub loop-measure-init : goal.loop-measure-init
+loop-measure-init c =
+    let first : 1 + length c.args.schema.now.dims + 0 ≡ 1 + length c.args.schema.now.dims = omega arith in
+    rw first refl
