@@ -172,33 +172,21 @@ fn are_classes_told<L: Ledger>(alloc: Global, steps: &mut Steps<L>) -> bool {
 }
 
 // Whether all that is so: an edge, a dimension that stays, one that goes, a node, an edge that is dropped, and classes.
-fn all_hold<L: Ledger>(alloc: Global, blank: Blank) -> [bool; 6]
+fn all_hold<L: Ledger>(alloc: Global, blank: Blank) -> bool
     requires name { blank.name ≡ L.name }
     requires parts { blank.parts ≡ L.parts }
     requires some { 0 < L.parts }
 {
     let mut steps = Steps::<L>::start(blank);
-    [
-        is_taken_back(alloc, &mut steps),
-        widened(alloc, true, &mut steps) == [(4, 2), (4, 2)],
-        widened(alloc, false, &mut steps) == [(4, 2), (3, 1)],
-        is_killed(alloc, &mut steps),
-        is_dropped(alloc, &mut steps),
-        are_classes_told(alloc, &mut steps),
-    ]
+    is_taken_back(alloc, &mut steps)
+        && widened(alloc, true, &mut steps) == [(4, 2), (4, 2)]
+        && widened(alloc, false, &mut steps) == [(4, 2), (3, 1)]
+        && is_killed(alloc, &mut steps)
+        && is_dropped(alloc, &mut steps)
+        && are_classes_told(alloc, &mut steps)
 }
 
-// The same, where no steps are counted.
-fn all_hold_uncounted(alloc: Global) -> [bool; 6] {
+/// Whether batches are kept and taken back.
+pub(crate) fn are_right(alloc: Global) -> bool {
     all_hold::<Brand>(alloc, Blank::new(1))
-}
-
-#[test]
-fn batches_are_kept_and_taken_back(rt: HostRuntime) {
-    let [edge, kept, gone, killed, dropped, classes] = all_hold_uncounted(rt.alloc());
-    assert!(rt; edge);
-    assert!(rt; kept && gone);
-    assert!(rt; killed);
-    assert!(rt; dropped);
-    assert!(rt; classes);
 }

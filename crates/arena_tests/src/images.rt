@@ -85,14 +85,9 @@ fn told_of_three(images: Images, root: NodeNo, child: NodeNo) -> [Told; 3] {
     seen
 }
 
-// Whether the images say that, where no steps are counted.
-fn are_looked_up(alloc: Global) -> bool {
+/// Whether the images say that.
+pub(crate) fn are_looked_up(alloc: Global) -> bool {
     let root = Some(Some((1, None)));
     let child = Some(Some((0, Some((1, 7)))));
     looked::<Brand>(alloc, Blank::new(1)) == Some([Some(None), root, child, None, None])
-}
-
-#[test]
-fn images_are_looked_up(rt: HostRuntime) {
-    assert!(rt; are_looked_up(rt.alloc()));
 }

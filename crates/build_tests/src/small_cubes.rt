@@ -14,7 +14,6 @@ use qc_arena::{ArenaRefused, Forced, Nodes, QcArena};
 use std::alloc::{AllocError, Global};
 use std::marker::Brand;
 use std::sync::ledger::{Blank, Ledger};
-use std::test::Fail;
 
 // Of a row the values, and of a cell its entries, of which only those of the dimensions count.
 type Line = [u8; 5];
@@ -515,77 +514,75 @@ fn is_uncounted_right(alloc: Global, dims: u8, rows: &[Line]) -> bool
 }
 
 // All rows of three dimensions with three values each.
-fn product(alloc: Global) -> Result<Vec<Line>, AllocError>
-    ensures { IfOk result (λ rows. length rows.items ≤ 100) }
-{
-    let mut rows = Vec::new(alloc);
-    'rows: for k in 0..27u8 {
-        rows.push([k / 9, k / 3 % 3, k % 3, 0, 0])?;
+const PRODUCT: [Line; 27] = [
+    [0, 0, 0, 0, 0],
+    [0, 0, 1, 0, 0],
+    [0, 0, 2, 0, 0],
+    [0, 1, 0, 0, 0],
+    [0, 1, 1, 0, 0],
+    [0, 1, 2, 0, 0],
+    [0, 2, 0, 0, 0],
+    [0, 2, 1, 0, 0],
+    [0, 2, 2, 0, 0],
+    [1, 0, 0, 0, 0],
+    [1, 0, 1, 0, 0],
+    [1, 0, 2, 0, 0],
+    [1, 1, 0, 0, 0],
+    [1, 1, 1, 0, 0],
+    [1, 1, 2, 0, 0],
+    [1, 2, 0, 0, 0],
+    [1, 2, 1, 0, 0],
+    [1, 2, 2, 0, 0],
+    [2, 0, 0, 0, 0],
+    [2, 0, 1, 0, 0],
+    [2, 0, 2, 0, 0],
+    [2, 1, 0, 0, 0],
+    [2, 1, 1, 0, 0],
+    [2, 1, 2, 0, 0],
+    [2, 2, 0, 0, 0],
+    [2, 2, 1, 0, 0],
+    [2, 2, 2, 0, 0],
+];
+
+// The dimensions, and the rows. The last three cubes have many links.
+static CASES: [(u8, &[Line]); 9] = [
+    (2, &[]),
+    (1, &[[2, 0, 0, 0, 0]]),
+    (5, &[[0, 1, 2, 1, 0]]),
+    (3, &[[0, 1, 2, 0, 0], [0, 1, 2, 0, 0], [0, 1, 2, 0, 0]]),
+    (4, &[[2, 1, 0, 1, 0], [0, 1, 0, 1, 0], [1, 1, 0, 1, 0]]),
+    (4, &[[1, 1, 0, 2, 0], [1, 1, 0, 0, 0], [1, 1, 0, 1, 0]]),
+    (3, &PRODUCT),
+    (
+        4,
+        &[
+            [1, 0, 0, 0, 0],
+            [0, 1, 0, 0, 0],
+            [0, 0, 1, 0, 0],
+            [0, 0, 0, 1, 0],
+        ],
+    ),
+    (
+        5,
+        &[
+            [2, 0, 1, 1, 0],
+            [2, 0, 2, 1, 1],
+            [0, 1, 1, 1, 0],
+            [2, 0, 1, 1, 0],
+            [2, 1, 1, 0, 1],
+        ],
+    ),
+];
+
+/// Whether the trees of all cases are right.
+pub(crate) fn are_right(alloc: Global) -> bool {
+    'cases: for (dims, rows) in &CASES {
+        if *dims == 0 || *dims > 5 || rows.len() > 100 {
+            return false;
+        }
+        if !is_uncounted_right(alloc, *dims, *rows) {
+            return false;
+        }
     }
-    Ok(rows)
-}
-
-#[test]
-fn small_cubes(rt: HostRuntime) -> Result<(), Fail> {
-    let alloc = rt.alloc();
-    assert!(rt; is_uncounted_right(alloc, 2, &[]));
-    assert!(rt; is_uncounted_right(alloc, 1, &[[2, 0, 0, 0, 0]]));
-    assert!(rt; is_uncounted_right(alloc, 5, &[[0, 1, 2, 1, 0]]));
-    assert!(rt;
-        is_uncounted_right(
-            alloc,
-            3,
-            &[[0, 1, 2, 0, 0], [0, 1, 2, 0, 0], [0, 1, 2, 0, 0]]
-        )
-    );
-    assert!(rt;
-        is_uncounted_right(
-            alloc,
-            4,
-            &[[2, 1, 0, 1, 0], [0, 1, 0, 1, 0], [1, 1, 0, 1, 0]]
-        )
-    );
-    assert!(rt;
-        is_uncounted_right(
-            alloc,
-            4,
-            &[[1, 1, 0, 2, 0], [1, 1, 0, 0, 0], [1, 1, 0, 1, 0]]
-        )
-    );
-    Ok(())
-}
-
-#[test]
-fn cubes_with_many_links(rt: HostRuntime) -> Result<(), Fail> {
-    let alloc = rt.alloc();
-    let Ok(product) = product(alloc) else {
-        return Err(Fail::new("no memory"));
-    };
-    assert!(rt; is_uncounted_right(alloc, 3, &product));
-    assert!(rt;
-        is_uncounted_right(
-            alloc,
-            4,
-            &[
-                [1, 0, 0, 0, 0],
-                [0, 1, 0, 0, 0],
-                [0, 0, 1, 0, 0],
-                [0, 0, 0, 1, 0]
-            ]
-        )
-    );
-    assert!(rt;
-        is_uncounted_right(
-            alloc,
-            5,
-            &[
-                [2, 0, 1, 1, 0],
-                [2, 0, 2, 1, 1],
-                [0, 1, 1, 1, 0],
-                [2, 0, 1, 1, 0],
-                [2, 1, 1, 0, 1],
-            ]
-        )
-    );
-    Ok(())
+    true
 }

@@ -75,7 +75,7 @@ fn gone_down_uncounted(alloc: Global) -> Option<(u8, Code)> {
     gone_down::<Brand>(alloc, Blank::new(1))
 }
 
-#[test]
-fn a_way_is_gone_down(rt: HostRuntime) {
-    assert!(rt; gone_down_uncounted(rt.alloc()) == Some((1, 7)));
+/// Whether a way is gone down.
+pub(crate) fn is_right(alloc: Global) -> bool {
+    gone_down_uncounted(alloc) == Some((1, 7))
 }

@@ -1,12 +1,12 @@
 // What a tree answers, beside a filter of rows.
 ghost use Rattle.std.specs.Prelude.{length, ◌≡◌};
-ghost use Rattle.class_tests.specs.Cubes.{IsOfOneMeasure};
+ghost use Rattle.pin_tests.specs.Cubes.{IsOfOneMeasure};
 
+use crate::iceberg_answers::{are_lowers, is_total};
 use crate::icebergs::are_icebergs;
+use crate::lines::{Line, Sale, cell_at, cell_of, closes, is_same, line_of, total_of};
 use crate::ranges::are_ranges;
 use cell_core::{Memory, Steps};
-use class_tests::iceberg_answers::{are_lowers, is_total};
-use class_tests::lines::{Line, Sale, cell_at, cell_of, closes, is_same, line_of, total_of};
 use lower_bounds::{Class, find_class};
 use qc_arena::Nodes;
 use std::alloc::Global;

@@ -1,12 +1,12 @@
 // Icebergs by a walk over a tree, beside the classes that pass.
 ghost use Rattle.std.specs.Prelude.{length, ◌≡◌, ◌≤◌};
 ghost use Rattle.aggregates.specs.Views.{IsThere};
-ghost use Rattle.class_tests.specs.Cubes.{IsOfOneMeasure};
+ghost use Rattle.pin_tests.specs.Cubes.{IsOfOneMeasure};
 
+use crate::iceberg_answers;
+use crate::lines::Sale;
 use aggregates::{AggKind, Fraction, read_fraction};
 use cell_core::{Memory, Steps};
-use class_tests::iceberg_answers;
-use class_tests::lines::Sale;
 use iceberg_query::{Ask, Bound, iceberg};
 use measure_index::Index;
 use qc_arena::Nodes;

@@ -1,13 +1,12 @@
 // A warehouse with pins that takes batches.
 use crate::answers::{Asked, are_right};
-use crate::rows::{LAST_OF_ALL, Row, file_of, sales_at};
+use crate::lines::Sale;
+use crate::rows::{file_at, sales_at};
 use cell_core::{Memory, Steps};
-use class_tests::lines::Sale;
 use pinned_view::{PinRefused, Pinned};
 use qc_schema::read_schema;
 use std::alloc::{AllocError, Global};
 use std::sync::ledger::Ledger;
-use std::test::Fail;
 use warehouse::{Refused, Warehouse};
 
 const SCHEMA: &[u8] = b"qcube 1\nid id\ndim x\ndim y\ndim z\nmeasure sale 1\n";
@@ -18,11 +17,14 @@ const MISSING: &[u8] = b"op,id,x,y,z,sale\n+,1001,a,c,b,1\n-,1002,,,,\n";
 // Of a row that may come.
 const MORE: &[u8] = b"op,id,x,y,z,sale\n+,1001,a,c,b,1\n+,1002,b,d,b,1\n";
 
+/// The number of the batch with which all rows go.
+const LAST_OF_ALL: u32 = 9;
+
 /// A warehouse without rows and without pins.
-pub fn opened(alloc: Global) -> Result<Pinned, Fail> {
+pub fn opened(alloc: Global) -> Option<Pinned> {
     match read_schema(alloc, SCHEMA) {
-        Ok(schema) => Ok(Pinned::new(alloc, Warehouse::new(alloc, schema)?)?),
-        Err(_) => Err(Fail::new("no schema")),
+        Ok(schema) => Pinned::new(alloc, Warehouse::new(alloc, schema).ok()?).ok(),
+        Err(_) => None,
     }
 }
 
@@ -32,39 +34,35 @@ fn name_of(alloc: Global, batch: u32) -> Result<String, AllocError> {
 }
 
 /// Whether a batch is taken. The first one, and that behind the one with which all rows go, is a base file.
-pub fn takes<L: Ledger>(
-    alloc: Global,
-    pinned: &mut Pinned,
-    rows: &[Row],
-    batch: u32,
-    steps: &mut Steps<L>,
-) -> Result<bool, Fail> {
-    let file = file_of(alloc, rows, batch)?;
+pub fn takes<L: Ledger>(pinned: &mut Pinned, text: &str, batch: u32, steps: &mut Steps<L>) -> bool {
+    let file = file_at(text, batch);
     if file.len() > 10_000 {
-        return Err(Fail::new("long file"));
+        return false;
     }
     let answer = if batch == 0 || batch == LAST_OF_ALL + 1 {
         pinned.load(file.as_bytes(), steps)
     } else {
         pinned.apply(file.as_bytes(), steps)
     };
-    Ok(answer.is_ok())
+    answer.is_ok()
 }
 
 /// What pinning the rows of now under the name of a batch answers.
-pub fn pin(alloc: Global, pinned: &mut Pinned, batch: u32) -> Result<Result<(), PinRefused>, Fail> {
-    let name = name_of(alloc, batch)?;
+pub fn pin(alloc: Global, pinned: &mut Pinned, batch: u32) -> Option<Result<(), PinRefused>> {
+    let name = name_of(alloc, batch).ok()?;
     if name.len() > 32 {
-        return Err(Fail::new("long name"));
+        return None;
     }
-    Ok(pinned.pin(name.as_str()))
+    Some(pinned.pin(name.as_str()))
 }
 
 /// Whether the pin of a batch was there, and is let go.
-pub fn unpins(alloc: Global, pinned: &mut Pinned, batch: u32) -> Result<bool, Fail> {
-    let name = name_of(alloc, batch)?;
+pub fn unpins(alloc: Global, pinned: &mut Pinned, batch: u32) -> bool {
+    let Ok(name) = name_of(alloc, batch) else {
+        return false;
+    };
     let answer = pinned.unpin(name.as_str());
-    Ok(answer.is_ok() && pinned.view(name.as_str()).is_none())
+    answer.is_ok() && pinned.view(name.as_str()).is_none()
 }
 
 // Whether the version of a name answers what is asked as the rows that were there.
@@ -91,13 +89,13 @@ pub fn is_kept<L: Ledger>(
     alloc: Global,
     pinned: &Pinned,
     asked: Asked,
-    rows: &[Row],
+    text: &str,
     batch: u32,
     steps: &mut Steps<L>,
-) -> Result<bool, Fail> {
-    let sales = sales_at(alloc, rows, batch)?;
-    let name = name_of(alloc, batch)?;
-    Ok(answers(alloc, pinned, name.as_str(), asked, &sales, steps)?)
+) -> Option<bool> {
+    let sales = sales_at(alloc, text, batch)?;
+    let name = name_of(alloc, batch).ok()?;
+    answers(alloc, pinned, name.as_str(), asked, &sales, steps).ok()
 }
 
 /// Whether a batch is refused that deletes a row that isn't there, and another is tried.

@@ -1,10 +1,10 @@
 // Ranges, beside the cells that are asked and cover rows.
 ghost use Rattle.std.specs.Prelude.{IfOk, length, ◌≡◌};
-ghost use Rattle.class_tests.specs.Cubes.{IsOfOneMeasure};
+ghost use Rattle.pin_tests.specs.Cubes.{IsOfOneMeasure};
 
+use crate::iceberg_answers::is_total;
+use crate::lines::{ANY, Line, Sale, cell_at, cell_order, line_of, total_of};
 use cell_core::{Field, Fields, Memory, Steps, Text, Texts};
-use class_tests::iceberg_answers::is_total;
-use class_tests::lines::{ANY, Line, Sale, cell_at, cell_order, line_of, total_of};
 use qc_arena::Nodes;
 use range_query::{Hit, RangeRefused, range};
 use std::alloc::Global;

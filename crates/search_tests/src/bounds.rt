@@ -8,7 +8,6 @@ use qc_arena::Nodes;
 use std::alloc::Global;
 use std::marker::Brand;
 use std::sync::ledger::{Blank, Ledger};
-use std::test::Fail;
 use tree_search::find;
 
 // The lower bounds of the cell's closure. None where the cell covers no row.
@@ -34,44 +33,55 @@ fn lowers_of(alloc: Global, cell: &Cell) -> Result<Option<Cells>, Memory>
     lowers::<Brand>(alloc, cell, Blank::new(1))
 }
 
-#[test]
-fn classes_have_their_lower_bounds(rt: HostRuntime) -> Result<(), Fail> {
-    const ANY: Entry = Entry::Any;
-    const ZERO: Entry = Entry::Is(0);
-    const ONE: Entry = Entry::Is(1);
-    // A cell of the class, how many lower bounds the class has, and these.
-    let table: [([Entry; 3], u32, [[Entry; 3]; 2]); 7] = [
-        ([ANY, ANY, ANY], 1, [[ANY, ANY, ANY], [ANY, ANY, ANY]]),
-        ([ANY, ZERO, ANY], 1, [[ANY, ZERO, ANY], [ANY, ANY, ANY]]),
-        ([ZERO, ANY, ZERO], 2, [[ANY, ANY, ZERO], [ZERO, ANY, ANY]]),
-        ([ZERO, ANY, ANY], 2, [[ANY, ANY, ZERO], [ZERO, ANY, ANY]]),
-        (
-            [ZERO, ZERO, ZERO],
-            2,
-            [[ANY, ZERO, ZERO], [ZERO, ZERO, ANY]],
-        ),
-        ([ZERO, ONE, ZERO], 1, [[ANY, ONE, ANY], [ANY, ANY, ANY]]),
-        ([ONE, ZERO, ONE], 2, [[ANY, ANY, ONE], [ONE, ANY, ANY]]),
-    ];
-    for (asked, count, expected) in &table {
-        let bounds = lowers_of(rt.alloc(), &cell(rt.alloc(), *asked))?.expect(&rt, "a class");
-        assert_eq!(rt; bounds.len(), *count);
-        assert!(rt; bounds.len() <= 2);
-        for k in 0..bounds.len() {
-            let bound = bounds.get(k);
-            assert_eq!(rt; bound.dims(), 3);
-            assert_eq!(rt;
-                [bound.get(0), bound.get(1), bound.get(2)],
-                expected[k as usize]
-            );
+const ANY: Entry = Entry::Any;
+
+const ZERO: Entry = Entry::Is(0);
+
+const ONE: Entry = Entry::Is(1);
+
+// A cell of the class, how many lower bounds the class has, and these.
+static CLASSES: [([Entry; 3], u32, [[Entry; 3]; 2]); 7] = [
+    ([ANY, ANY, ANY], 1, [[ANY, ANY, ANY], [ANY, ANY, ANY]]),
+    ([ANY, ZERO, ANY], 1, [[ANY, ZERO, ANY], [ANY, ANY, ANY]]),
+    ([ZERO, ANY, ZERO], 2, [[ANY, ANY, ZERO], [ZERO, ANY, ANY]]),
+    ([ZERO, ANY, ANY], 2, [[ANY, ANY, ZERO], [ZERO, ANY, ANY]]),
+    (
+        [ZERO, ZERO, ZERO],
+        2,
+        [[ANY, ZERO, ZERO], [ZERO, ZERO, ANY]],
+    ),
+    ([ZERO, ONE, ZERO], 1, [[ANY, ONE, ANY], [ANY, ANY, ANY]]),
+    ([ONE, ZERO, ONE], 2, [[ANY, ANY, ONE], [ONE, ANY, ANY]]),
+];
+
+// Whether these are the first of the expected bounds.
+fn are_bounds(bounds: &Cells, expected: &[[Entry; 3]; 2]) -> bool {
+    if bounds.len() > 2 {
+        return false;
+    }
+    'bounds: for k in 0..bounds.len() {
+        let bound = bounds.get(k);
+        if bound.dims() != 3 || [bound.get(0), bound.get(1), bound.get(2)] != expected[k as usize] {
+            return false;
         }
     }
-    Ok(())
+    true
 }
 
-#[test]
-fn cells_without_rows_have_none(rt: HostRuntime) -> Result<(), Fail> {
-    let cell = cell(rt.alloc(), [Entry::Is(1), Entry::Is(1), Entry::Any]);
-    assert!(rt; lowers_of(rt.alloc(), &cell)?.is_none());
-    Ok(())
+// Whether the class of a cell has just these bounds.
+fn has_bounds(alloc: Global, asked: [Entry; 3], count: u32, expected: &[[Entry; 3]; 2]) -> bool {
+    match lowers_of(alloc, &cell(alloc, asked)) {
+        Ok(Some(bounds)) => bounds.len() == count && are_bounds(&bounds, expected),
+        _ => false,
+    }
+}
+
+/// Whether classes have their lower bounds, and cells without rows none.
+pub(crate) fn are_right(alloc: Global) -> bool {
+    'classes: for (asked, count, expected) in &CLASSES {
+        if !has_bounds(alloc, *asked, *count, expected) {
+            return false;
+        }
+    }
+    matches!(lowers_of(alloc, &cell(alloc, [ONE, ONE, ANY])), Ok(None))
 }

@@ -9,3 +9,5 @@ mod searches;
 mod shop;
 #[cfg(test)]
 mod stopped;
+#[cfg(test)]
+mod tests;

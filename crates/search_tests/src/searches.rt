@@ -4,6 +4,7 @@ ghost use Rattle.std.specs.Prelude.{length, ◌<◌, ◌≡◌};
 use crate::shop::{Shop, cell};
 use aggregates::Agg;
 use cell_core::{Cell, Entry, Steps};
+use std::alloc::Global;
 use std::marker::Brand;
 use std::sync::ledger::{Blank, Ledger};
 use tree_search::{find, total_at, upper_into};
@@ -30,41 +31,52 @@ fn closed(cell: &mut Cell) -> Option<Agg>
     close::<Brand>(cell, Blank::new(1))
 }
 
-#[test]
-fn cells_have_closures_and_totals(rt: HostRuntime) {
-    const ANY: Entry = Entry::Any;
-    const ZERO: Entry = Entry::Is(0);
-    const ONE: Entry = Entry::Is(1);
-    // The cell, and its closure with how many rows it covers and their sum.
-    let table: [([Entry; 3], [Entry; 3], u32, i64); 8] = [
-        ([ANY, ANY, ANY], [ANY, ANY, ANY], 3, 27),
-        ([ZERO, ANY, ANY], [ZERO, ANY, ZERO], 2, 18),
-        ([ANY, ZERO, ANY], [ANY, ZERO, ANY], 2, 15),
-        ([ANY, ONE, ANY], [ZERO, ONE, ZERO], 1, 12),
-        ([ANY, ANY, ONE], [ONE, ZERO, ONE], 1, 9),
-        ([ONE, ANY, ANY], [ONE, ZERO, ONE], 1, 9),
-        ([ZERO, ZERO, ANY], [ZERO, ZERO, ZERO], 1, 6),
-        ([ANY, ANY, ZERO], [ZERO, ANY, ZERO], 2, 18),
-    ];
-    for (asked, upper, count, sum) in &table {
-        let mut cell = cell(rt.alloc(), *asked);
-        let sums = closed(&mut cell).expect(&rt, "a class");
-        assert_eq!(rt; [cell.get(0), cell.get(1), cell.get(2)], *upper);
-        assert_eq!(rt; sums.count, *count);
-        let parts = sums.parts;
-        assert_eq!(rt; parts[0].sum, *sum);
-    }
+const ANY: Entry = Entry::Any;
+
+const ZERO: Entry = Entry::Is(0);
+
+const ONE: Entry = Entry::Is(1);
+
+// The cell, and its closure with how many rows it covers and their sum.
+static CLOSURES: [([Entry; 3], [Entry; 3], u32, i64); 8] = [
+    ([ANY, ANY, ANY], [ANY, ANY, ANY], 3, 27),
+    ([ZERO, ANY, ANY], [ZERO, ANY, ZERO], 2, 18),
+    ([ANY, ZERO, ANY], [ANY, ZERO, ANY], 2, 15),
+    ([ANY, ONE, ANY], [ZERO, ONE, ZERO], 1, 12),
+    ([ANY, ANY, ONE], [ONE, ZERO, ONE], 1, 9),
+    ([ONE, ANY, ANY], [ONE, ZERO, ONE], 1, 9),
+    ([ZERO, ZERO, ANY], [ZERO, ZERO, ZERO], 1, 6),
+    ([ANY, ANY, ZERO], [ZERO, ANY, ZERO], 2, 18),
+];
+
+// Cells that cover no row.
+static WITHOUT_ROWS: [[Entry; 3]; 3] = [[ONE, ONE, ANY], [ANY, ONE, ONE], [Entry::Is(2), ANY, ANY]];
+
+// Whether a cell has this closure, and covers so many rows with this sum.
+fn is_closed(alloc: Global, asked: [Entry; 3], upper: [Entry; 3], count: u32, sum: i64) -> bool {
+    let mut cell = cell(alloc, asked);
+    let Some(total) = closed(&mut cell) else {
+        return false;
+    };
+    let part = total.parts[0];
+    [cell.get(0), cell.get(1), cell.get(2)] == upper && total.count == count && part.sum == sum
 }
 
-#[test]
-fn cells_without_rows_are_not_found(rt: HostRuntime) {
-    let table: [[Entry; 3]; 3] = [
-        [Entry::Is(1), Entry::Is(1), Entry::Any],
-        [Entry::Any, Entry::Is(1), Entry::Is(1)],
-        [Entry::Is(2), Entry::Any, Entry::Any],
-    ];
-    for asked in &table {
-        let mut cell = cell(rt.alloc(), *asked);
-        assert!(rt; closed(&mut cell).is_none());
+fn are_closed(alloc: Global) -> bool {
+    'cells: for (asked, upper, count, sum) in &CLOSURES {
+        if !is_closed(alloc, *asked, *upper, *count, *sum) {
+            return false;
+        }
     }
+    true
+}
+
+/// Whether cells have their closures and totals, and those without rows none.
+pub(crate) fn are_right(alloc: Global) -> bool {
+    'cells: for asked in &WITHOUT_ROWS {
+        if closed(&mut cell(alloc, *asked)).is_some() {
+            return false;
+        }
+    }
+    are_closed(alloc)
 }

@@ -131,11 +131,13 @@ fn is_parted(alloc: Global, case: &Parted) -> bool {
     matches!(are_parts, Ok(true))
 }
 
-#[test]
-fn rows_are_parted(rt: HostRuntime) {
+fn are_all_parted(alloc: Global) -> bool {
     'cases: for case in &PARTS {
-        assert!(rt; is_parted(rt.alloc(), case));
+        if !is_parted(alloc, case) {
+            return false;
+        }
     }
+    true
 }
 
 // Whether all rows share just these entries.
@@ -170,9 +172,12 @@ fn is_shared(alloc: Global, case: &Shared) -> bool {
     is_shared
 }
 
-#[test]
-fn rows_share_their_values(rt: HostRuntime) {
+/// Whether rows are parted, and share their values.
+pub(crate) fn are_right(alloc: Global) -> bool {
     'cases: for case in &SHARED {
-        assert!(rt; is_shared(rt.alloc(), case));
+        if !is_shared(alloc, case) {
+            return false;
+        }
     }
+    are_all_parted(alloc)
 }

@@ -189,24 +189,12 @@ fn are_ordered(alloc: Global, dict: &Dict) -> bool {
     true
 }
 
-// Whether fields ask for the cells and the boxes that they should, and whether cells are ordered by their texts.
-fn understood(alloc: Global) -> Option<[bool; 3]> {
+/// Whether fields ask for the cells and the boxes that they should, and cells are ordered by their texts.
+pub(crate) fn are_right(alloc: Global) -> bool {
     let Ok(dict) = letters(alloc) else {
-        return None;
+        return false;
     };
-    let found = [
-        are_cells(alloc, &dict),
-        are_boxes(alloc, &dict),
-        are_ordered(alloc, &dict),
-    ];
+    let are_right = are_cells(alloc, &dict) && are_boxes(alloc, &dict) && are_ordered(alloc, &dict);
     drop(dict);
-    Some(found)
-}
-
-#[test]
-fn fields_ask_for_cells_and_boxes(rt: HostRuntime) {
-    let [cells, boxes, orders] = understood(rt.alloc()).unwrap_or([false; 3]);
-    assert!(rt; cells);
-    assert!(rt; boxes);
-    assert!(rt; orders);
+    are_right
 }

@@ -44,8 +44,7 @@ fn is_empty(alloc: Global) -> bool {
     count == 0
 }
 
-#[test]
-fn changes_are_counted(rt: HostRuntime) {
-    assert!(rt; are_counted(rt.alloc()));
-    assert!(rt; is_empty(rt.alloc()));
+/// Whether changes are counted.
+pub(crate) fn are_right(alloc: Global) -> bool {
+    are_counted(alloc) && is_empty(alloc)
 }

@@ -15,6 +15,8 @@ mod rows;
 #[cfg(test)]
 mod schemas;
 #[cfg(test)]
+mod tests;
+#[cfg(test)]
 mod texts;
 #[cfg(test)]
 mod wider;

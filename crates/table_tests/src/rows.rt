@@ -293,13 +293,6 @@ fn all_right(alloc: Global, max: u32, batches: &[Batch]) -> bool
     all
 }
 
-#[test]
-fn batches_change_the_rows(rt: HostRuntime) {
-    assert!(rt; all_right(rt.alloc(), 2, &REFUSED));
-    assert!(rt; all_right(rt.alloc(), 4, &TAKEN_BACK));
-    assert!(rt; all_right(rt.alloc(), 6, &EMPTY_PLACES));
-}
-
 // The codes, the second entry of the tuple and the amount of the row at the first place.
 type Seen = Option<(Code, Code, Entry, i64)>;
 
@@ -340,9 +333,12 @@ fn read_and_taken(alloc: Global, id: u64) -> Option<(Seen, [i64; 4])> {
     Some((seen, amounts))
 }
 
-#[test]
-fn a_row_is_read_and_taken_out(rt: HostRuntime) {
-    let found = read_and_taken(rt.alloc(), 18_446_744_073_709_551_615);
+/// Whether batches change the rows, and a row is read and taken out.
+pub(crate) fn are_right(alloc: Global) -> bool {
+    let found = read_and_taken(alloc, 18_446_744_073_709_551_615);
     let row = Some((7, 9, Entry::Is(9), -5));
-    assert!(rt; found == Some((row, [-5, 0, 0, 0])));
+    found == Some((row, [-5, 0, 0, 0]))
+        && all_right(alloc, 2, &REFUSED)
+        && all_right(alloc, 4, &TAKEN_BACK)
+        && all_right(alloc, 6, &EMPTY_PLACES)
 }

@@ -33,11 +33,6 @@ fn is_read(alloc: Global) -> bool {
     is_right
 }
 
-#[test]
-fn readers(rt: HostRuntime) {
-    assert!(rt; is_read(rt.alloc()));
-}
-
 // The scale of a measure that is named, and 99 where none is.
 fn scale_named(schema: &Schema, name: &[u8]) -> u8 {
     match schema.measure_named(name) {
@@ -77,7 +72,7 @@ fn are_scales_read(alloc: Global) -> bool {
     is_right
 }
 
-#[test]
-fn each_measure_has_its_scale(rt: HostRuntime) {
-    assert!(rt; are_scales_read(rt.alloc()));
+/// Whether schemas are read.
+pub(crate) fn are_right(alloc: Global) -> bool {
+    is_read(alloc) && are_scales_read(alloc)
 }

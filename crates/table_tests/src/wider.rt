@@ -129,11 +129,6 @@ fn all_right(alloc: Global) -> bool {
     all
 }
 
-#[test]
-fn rows_get_a_code(rt: HostRuntime) {
-    assert!(rt; all_right(rt.alloc()));
-}
-
 // A tuple of three dimensions.
 fn triple(alloc: Global, a: u8, b: u8, c: u8) -> Cell
     ensures dims { length result ≡ 3 }
@@ -183,7 +178,7 @@ fn are_sums(alloc: Global) -> bool {
     are_right
 }
 
-#[test]
-fn rows_of_a_tuple_after_it(rt: HostRuntime) {
-    assert!(rt; are_sums(rt.alloc()));
+/// Whether rows get a code, and are those of their tuples then.
+pub(crate) fn are_right(alloc: Global) -> bool {
+    all_right(alloc) && are_sums(alloc)
 }

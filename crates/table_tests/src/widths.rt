@@ -124,16 +124,19 @@ fn all_agree(alloc: Global, dims: u8) -> bool {
     true
 }
 
-#[test]
-fn rows_of_each_width_share_their_values(rt: HostRuntime) {
-    'widths: for dims in 1..17 {
-        assert!(rt; all_agree(rt.alloc(), dims), "{dims} dimensions");
-    }
-}
-
-#[test]
-fn a_code_stays_where_both_have_it(rt: HostRuntime) {
+// Whether a code stays only where both have it.
+fn is_met() -> bool {
     let mut acc = [1, 2, ANY, ANY, 0];
     meet_fixed(&mut acc, &[1, 3, ANY, 4, 0]);
-    assert!(rt; acc == [1, ANY, ANY, ANY, 0]);
+    acc == [1, ANY, ANY, ANY, 0]
+}
+
+/// Whether rows of each width share their values.
+pub(crate) fn are_right(alloc: Global) -> bool {
+    'widths: for dims in 1..17 {
+        if !all_agree(alloc, dims) {
+            return false;
+        }
+    }
+    is_met()
 }

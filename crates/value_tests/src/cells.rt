@@ -73,14 +73,6 @@ fn are_prefixes(alloc: Global) -> bool {
         && last(&Cell::any(alloc, 3)).is_none()
 }
 
-#[test]
-fn cells(rt: HostRuntime) {
-    assert!(rt; entries_are_set(rt.alloc()));
-    assert!(rt; are_cells_ordered(rt.alloc()));
-    assert!(rt; is_meet(rt.alloc()));
-    assert!(rt; are_prefixes(rt.alloc()));
-}
-
 fn are_cells_listed(alloc: Global) -> Result<bool, AllocError> {
     let mut cells = Cells::new(alloc);
     let is_new = cells.is_empty();
@@ -150,9 +142,13 @@ fn are_fields_listed(alloc: Global) -> bool {
         && is_between(fields.get(2), "a", "b")
 }
 
-#[test]
-fn lists_stay_in_order(rt: HostRuntime) {
-    assert!(rt; matches!(are_cells_listed(rt.alloc()), Ok(true)));
-    assert!(rt; are_texts_listed(rt.alloc()));
-    assert!(rt; are_fields_listed(rt.alloc()));
+/// Whether cells are set and compared, and lists stay in order.
+pub(crate) fn are_right(alloc: Global) -> bool {
+    entries_are_set(alloc)
+        && are_cells_ordered(alloc)
+        && is_meet(alloc)
+        && are_prefixes(alloc)
+        && matches!(are_cells_listed(alloc), Ok(true))
+        && are_texts_listed(alloc)
+        && are_fields_listed(alloc)
 }

@@ -82,12 +82,17 @@ fn is_end_right(alloc: Global, rows: u32, end: &str) -> bool {
     write_base(&mut file, rows, &mut draws).is_ok() && file.as_slice().ends_with(end.as_bytes())
 }
 
-#[test]
-fn files_of_few_rows_and_last_rows(rt: HostRuntime) {
+/// Whether files of few rows and the last rows of others are right.
+pub(crate) fn are_right(alloc: Global) -> bool {
     'cases: for case in &FILES {
-        assert!(rt; are_files_right(rt.alloc(), case));
+        if !are_files_right(alloc, case) {
+            return false;
+        }
     }
     'ends: for (rows, end) in &ENDS {
-        assert!(rt; is_end_right(rt.alloc(), *rows, *end));
+        if !is_end_right(alloc, *rows, *end) {
+            return false;
+        }
     }
+    true
 }

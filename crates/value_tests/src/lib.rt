@@ -11,3 +11,5 @@ mod numbers;
 mod outside;
 #[cfg(test)]
 mod records;
+#[cfg(test)]
+mod tests;

@@ -100,40 +100,38 @@ static ORDERS: [(&[u8], Ordering); 4] = [
     (b"-999999999999999999.999999", Ordering::Greater),
 ];
 
-fn is_id_read(case: &(&[u8], Option<u64>)) -> bool {
-    read_id(case.0) == case.1
+fn are_ids_read() -> bool {
+    'cases: for (text, id) in &IDS {
+        if read_id(*text) != *id {
+            return false;
+        }
+    }
+    true
 }
 
-#[test]
-fn reads_ids(rt: HostRuntime) {
-    'cases: for case in &IDS {
-        assert!(rt; is_id_read(case));
+fn are_amounts_read() -> bool {
+    'cases: for (text, scale, amount) in &AMOUNTS {
+        if *scale > 6 || read_amount(*text, *scale) != *amount {
+            return false;
+        }
+    }
+    true
+}
+
+fn is_fraction_read(text: &[u8], parts: Option<(i128, u64)>) -> bool {
+    match read_fraction(text) {
+        Some(f) => parts == Some((f.num, f.den)),
+        None => parts.is_none(),
     }
 }
 
-fn is_amount_read(case: &(&[u8], u8, Option<i64>)) -> bool {
-    case.1 <= 6 && read_amount(case.0, case.1) == case.2
-}
-
-#[test]
-fn reads_amounts(rt: HostRuntime) {
-    'cases: for case in &AMOUNTS {
-        assert!(rt; is_amount_read(case));
+fn are_fractions_read() -> bool {
+    'cases: for (text, parts) in &FRACTIONS {
+        if !is_fraction_read(*text, *parts) {
+            return false;
+        }
     }
-}
-
-fn is_fraction_read(case: &(&[u8], Option<(i128, u64)>)) -> bool {
-    match read_fraction(case.0) {
-        Some(f) => case.1 == Some((f.num, f.den)),
-        None => case.1.is_none(),
-    }
-}
-
-#[test]
-fn reads_fractions(rt: HostRuntime) {
-    'cases: for case in &FRACTIONS {
-        assert!(rt; is_fraction_read(case));
-    }
+    true
 }
 
 // Whether so many first bytes are there, and are the text.
@@ -141,27 +139,28 @@ fn starts_with(out: &[u8], len: usize, text: &[u8]) -> bool {
     len <= out.len() && &out[..len] == text
 }
 
-fn is_amount_printed(case: &(i64, u8, &[u8])) -> bool {
-    if case.1 > 6 {
+fn is_amount_printed(amount: i64, scale: u8, text: &[u8]) -> bool {
+    if scale > 6 {
         return false;
     }
     let mut out = [b'x'; 48];
-    let len = print_amount(case.0, case.1, &mut out);
-    starts_with(&out, len, case.2)
+    let len = print_amount(amount, scale, &mut out);
+    starts_with(&out, len, text)
+}
+
+fn are_amounts_printed() -> bool {
+    'cases: for (amount, scale, text) in &PRINTED {
+        if !is_amount_printed(*amount, *scale, *text) {
+            return false;
+        }
+    }
+    true
 }
 
 fn is_number_printed(number: u64, text: &[u8]) -> bool {
     let mut out = [b'x'; 48];
     let len = print_number(number, &mut out);
     starts_with(&out, len, text)
-}
-
-#[test]
-fn prints(rt: HostRuntime) {
-    'cases: for case in &PRINTED {
-        assert!(rt; is_amount_printed(case));
-    }
-    assert!(rt; is_number_printed(18446744073709551615, b"18446744073709551615"));
 }
 
 fn is_ratio_printed(ratio: &Ratio, text: &[u8]) -> bool {
@@ -191,19 +190,25 @@ fn are_three_rows_added() -> bool {
         && is_ratio_printed(&value_of(&agg, AggKind::Mean(0), 2), b"-17/10")
 }
 
-fn is_order(case: &(&[u8], Ordering)) -> bool {
+fn are_ordered() -> bool {
     let agg = Agg::one(&[999_999_999_999]);
     let value = value_of(&agg, AggKind::Sum(0), 6);
-    match read_fraction(case.0) {
-        Some(f) => compare(&value, &f) == case.1,
-        None => false,
+    'cases: for (text, order) in &ORDERS {
+        match read_fraction(*text) {
+            Some(f) if compare(&value, &f) == *order => {}
+            _ => return false,
+        }
     }
+    true
 }
 
-#[test]
-fn adds_up_and_compares_without_rounding(rt: HostRuntime) {
-    assert!(rt; are_three_rows_added());
-    'cases: for case in &ORDERS {
-        assert!(rt; is_order(case));
-    }
+/// Whether numbers are read and printed as they should be, added up, and compared without rounding.
+pub(crate) fn are_right() -> bool {
+    are_ids_read()
+        && are_amounts_read()
+        && are_fractions_read()
+        && are_amounts_printed()
+        && is_number_printed(18446744073709551615, b"18446744073709551615")
+        && are_three_rows_added()
+        && are_ordered()
 }

@@ -7,8 +7,7 @@ use qc_io::{
     WriteFailed, read_all, write_all,
 };
 use std::alloc::{AllocError, Global};
-use std::fs;
-use std::test::Fail;
+use std::{fs, io};
 
 // How a reading ends, where it doesn't end for memory.
 #[derive(Clone, Copy, PartialEq, Eq)]
@@ -121,18 +120,22 @@ static REPLACED: [Reading; 2] = [
     ("b", 100, End::Whole(b"other")),
 ];
 
-#[test]
-fn files_are_read(rt: HostRuntime) {
+fn are_read_in_pieces(alloc: Global) -> bool {
     'pieces: for piece in &PIECES {
-        assert!(rt;
-            are_read(rt.alloc(), &[], *piece, &TWO, &LIMITS),
-            "in {piece}"
-        );
+        if !are_read(alloc, &[], *piece, &TWO, &LIMITS) {
+            return false;
+        }
     }
+    true
+}
+
+fn fail_at_each_call(alloc: Global) -> bool {
     'calls: for call in 0..8 {
-        assert!(rt; fails_at(rt.alloc(), call), "at {call}");
+        if !fails_at(alloc, call) {
+            return false;
+        }
     }
-    assert!(rt; are_read(rt.alloc(), &[], 4, &SAME_NAME, &REPLACED));
+    true
 }
 
 fn many_bytes(alloc: Global) -> Result<Vec<u8>, AllocError> {
@@ -161,8 +164,10 @@ fn is_long_file_read(alloc: Global) -> bool {
     }
 }
 
-fn may_be_added_meanwhile(alloc: Global) -> Result<bool, AllocError> {
-    let mut files = MemoryFiles::new(alloc, &[], 4)?;
+// Whether a file may be added while another is open, which is read on.
+fn adds_meanwhile(files: &mut MemoryFiles) -> Result<bool, AllocError>
+    requires { files.old.store.open_name ≡ None }
+{
     files.add("a", b"abcdef")?;
     if files.open("a").is_err() {
         return Ok(false);
@@ -173,6 +178,13 @@ fn may_be_added_meanwhile(alloc: Global) -> Result<bool, AllocError> {
     let is_second = files.read(&mut buf) == Ok(2) && &buf[..2] == b"ef".as_slice();
     let is_end = files.read(&mut buf) == Ok(0);
     Ok(is_first && is_second && is_end)
+}
+
+fn may_be_added_meanwhile(alloc: Global) -> Result<bool, AllocError> {
+    let mut files = MemoryFiles::new(alloc, &[], 4)?;
+    let is_right = adds_meanwhile(&mut files);
+    drop(files);
+    is_right
 }
 
 static SURE: [Reading; 2] = [
@@ -195,13 +207,6 @@ fn has_every_name(alloc: Global) -> bool {
     let are_right = add_twice(&mut files).is_ok() && all_end(alloc, &mut files, &SURE);
     drop(files);
     are_right
-}
-
-#[test]
-fn other_files_are_read(rt: HostRuntime) {
-    assert!(rt; is_long_file_read(rt.alloc()));
-    assert!(rt; matches!(may_be_added_meanwhile(rt.alloc()), Ok(true)));
-    assert!(rt; has_every_name(rt.alloc()));
 }
 
 // Whether all is written, or the first so many bytes where there are.
@@ -231,23 +236,20 @@ fn takes_what_has_room(alloc: Global) -> bool {
     is_filled
 }
 
-#[test]
-fn a_file_of_the_system_is_read(rt: HostRuntime) -> Result<(), Fail> {
+/// Whether a file of the system is read, and failed once it is gone.
+pub(crate) fn is_system_file_read(rt: &HostRuntime) -> io::Result<bool> {
     let alloc = rt.alloc();
-    fs::write(&rt, "qc_io_ten", b"0123456789".as_slice())?;
-    let mut files = RealFiles::new(&rt);
-    let is_read = ends(
-        alloc,
-        &mut files,
-        "qc_io_ten",
-        10,
-        End::Whole(b"0123456789"),
-    ) && ends(alloc, &mut files, "qc_io_ten", 9, End::TooLong);
-    fs::remove_file(&rt, "qc_io_ten")?;
-    let is_gone = ends(alloc, &mut files, "qc_io_ten", 10, End::Failed);
-    assert!(rt; is_read && is_gone);
-    Ok(())
+    fs::write(rt, "qc_io_ten", b"0123456789".as_slice())?;
+    let mut files = RealFiles::new(rt);
+    let is_read = all_end(alloc, &mut files, &SYSTEM);
+    fs::remove_file(rt, "qc_io_ten")?;
+    Ok(is_read && ends(alloc, &mut files, "qc_io_ten", 10, End::Failed))
 }
+
+static SYSTEM: [Reading; 2] = [
+    ("qc_io_ten", 10, End::Whole(b"0123456789")),
+    ("qc_io_ten", 9, End::TooLong),
+];
 
 // Rust's writer into a slice takes no bytes once the slice is full.
 fn is_slice_filled() -> bool {
@@ -257,9 +259,15 @@ fn is_slice_filled() -> bool {
     is_cut && room.as_slice() == b"abcde".as_slice()
 }
 
-#[test]
-fn sinks_are_written_to(rt: HostRuntime) {
-    assert!(rt; takes_what_has_room(rt.alloc()));
-    assert!(rt; is_written(&mut SureSink::new(), b"abc", None));
-    assert!(rt; is_slice_filled());
+/// Whether files in memory are read, and sinks written to.
+pub(crate) fn are_right(alloc: Global) -> bool {
+    are_read_in_pieces(alloc)
+        && fail_at_each_call(alloc)
+        && are_read(alloc, &[], 4, &SAME_NAME, &REPLACED)
+        && is_long_file_read(alloc)
+        && matches!(may_be_added_meanwhile(alloc), Ok(true))
+        && has_every_name(alloc)
+        && takes_what_has_room(alloc)
+        && is_written(&mut SureSink::new(), b"abc", None)
+        && is_slice_filled()
 }

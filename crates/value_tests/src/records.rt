@@ -43,9 +43,7 @@ fn are_records_read(alloc: Global) -> bool {
     is_first && is_two && is_second && is_one && is_end
 }
 
-#[test]
-fn lines_and_records(rt: HostRuntime) {
-    assert!(rt; are_lines_cut());
-    assert!(rt; are_marks_and_quotes_seen());
-    assert!(rt; are_records_read(rt.alloc()));
+/// Whether lines and records are read.
+pub(crate) fn are_right(alloc: Global) -> bool {
+    are_lines_cut() && are_marks_and_quotes_seen() && are_records_read(alloc)
 }

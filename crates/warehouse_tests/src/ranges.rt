@@ -1,36 +1,21 @@
-// Range queries beside the definition.
+// Range queries with the cells that they have.
 ghost use Rattle.std.specs.Prelude.{IfOk, length, ◌<◌, ◌≡◌};
 ghost use Rattle.cube_defs.specs.Answers as defs;
 ghost use Rattle.cube_defs.specs.Text.{text_cmp};
 ghost use Rattle.range_query.specs.Told.{told_hits};
 ghost use Rattle.value_dict.specs.Boxes.{asked_box};
 
-use crate::range_fields::{allow, fields};
-use crate::range_rows::{Places, Row, cell_at, file_of, rows, sums, text_at};
-use cell_core::{Cell, Entry, Fields, Steps};
-use insert_tests::draw::Draw;
-use qc_schema::read_schema;
+use crate::range_fields::fields;
+use crate::shops::{base, filled};
+use cell_core::{Entry, Fields, Memory, Steps};
 use range_query::{Hit, RangeRefused, range};
 use std::alloc::Global;
 use std::marker::Brand;
+use std::str;
 use std::sync::ledger::{Blank, Ledger};
-use std::test::Fail;
 use warehouse::Warehouse;
 
 const SCHEMA: &[u8] = b"qcube 1\nid id\ndim x\ndim y\ndim z\nmeasure sale 0\n";
-
-// A warehouse without rows.
-fn empty(alloc: Global) -> Result<Warehouse, Fail> {
-    match read_schema(alloc, SCHEMA) {
-        Ok(schema) => Ok(Warehouse::new(alloc, schema)?),
-        Err(_) => Err(Fail::new("no schema")),
-    }
-}
-
-// Whether the warehouse has taken the file.
-fn load<L: Ledger>(shop: &mut Warehouse, file: &str, steps: &mut Steps<L>) -> bool {
-    file.len() <= 1000 && shop.load(file.as_bytes(), steps).is_ok()
-}
 
 // The answer to a range query.
 fn answer<L: Ledger>(
@@ -54,48 +39,35 @@ fn answer<L: Ledger>(
     }
 }
 
-// Whether an entry is Any or the text at a place.
-fn is_entry(shop: &Warehouse, dim: u8, entry: Entry, place: u64) -> bool {
+// Writes an entry and a comma.
+fn push_entry(line: &mut String, shop: &Warehouse, dim: u8, entry: Entry) -> Result<(), Memory> {
     match entry {
-        Entry::Any => place == 0,
+        Entry::Any => line.push_str("*")?,
         Entry::Is(code) => {
-            place != 0
-                && dim < shop.dict().dims()
-                && code < shop.dict().len(dim)
-                && shop.dict().text(dim, code) == text_at(place)
-        }
-    }
-}
-
-fn is_cell(shop: &Warehouse, cell: &Cell, places: &Places) -> bool {
-    cell.dims() == 3
-        && is_entry(shop, 0, cell.get(0), places[0])
-        && is_entry(shop, 1, cell.get(1), places[1])
-        && is_entry(shop, 2, cell.get(2), places[2])
-}
-
-// The hit is that cell, with how many rows it covers and what they come to.
-fn is_hit(shop: &Warehouse, hit: &Hit, places: &Places, sums: (u32, i64)) -> bool {
-    let part = hit.agg.parts[0];
-    is_cell(shop, &hit.cell, places) && (hit.agg.count, part.sum) == sums
-}
-
-// Whether the hits are the cells that cover rows and are asked for, in order.
-fn are_hits(shop: &Warehouse, rows: &[Row], asked: &Fields, hits: &[Hit]) -> bool
-    requires { length asked.now ≡ 3 }
-{
-    let mut at = 0;
-    for number in 0..64 {
-        let cell = cell_at(number);
-        let sums = sums(&cell, rows);
-        if sums.0 > 0 && allow(asked, &cell) {
-            if at >= hits.len() || !is_hit(shop, &hits[at], &cell, sums) {
-                return false;
+            if dim < shop.dict().dims() && code < shop.dict().len(dim) {
+                line.push_str(shop.dict().text(dim, code))?;
             }
-            at += 1;
         }
     }
-    at == hits.len()
+    line.push_str(",")
+}
+
+// Writes a cell of three dimensions, how many rows it covers and what they come to.
+fn push_hit(alloc: Global, lines: &mut String, shop: &Warehouse, hit: &Hit) -> Result<(), Memory> {
+    'dims: for dim in 0..hit.cell.dims() {
+        push_entry(lines, shop, dim, hit.cell.get(dim))?;
+    }
+    let (count, sum) = (hit.agg.count, hit.agg.parts[0].sum);
+    let end = format!(in alloc; "{count},{sum}\n")?;
+    lines.push_str(end.as_str())
+}
+
+fn lines_of(alloc: Global, shop: &Warehouse, hits: &[Hit]) -> Result<String, Memory> {
+    let mut lines = String::new(alloc);
+    'hits: for hit in hits {
+        push_hit(alloc, &mut lines, shop, hit)?;
+    }
+    Ok(lines)
 }
 
 // Whether just so many cells may be asked for, and one less is too few.
@@ -116,12 +88,12 @@ fn is_exact<L: Ledger>(
     whole.is_ok() && matches!(short, Err(RangeRefused::TooMany))
 }
 
-// Whether the query has its answer.
+// Whether a query has just these cells, in order.
 fn is_answered<L: Ledger>(
     alloc: Global,
     shop: &Warehouse,
-    rows: &[Row],
     asked: &Fields,
+    cells: &str,
     steps: &mut Steps<L>,
 ) -> bool
     requires { length asked.now ≡ 3 }
@@ -132,47 +104,46 @@ fn is_answered<L: Ledger>(
     let Ok(hits) = answer(alloc, shop, asked, 64, steps) else {
         return false;
     };
-    hits.len() <= 64
-        && are_hits(shop, rows, asked, &hits)
-        && is_exact(alloc, shop, asked, hits.len() as u32, steps)
+    let is_right = match lines_of(alloc, shop, &hits) {
+        Ok(lines) => lines.as_str() == cells,
+        Err(_) => false,
+    };
+    is_right && hits.len() <= 64 && is_exact(alloc, shop, asked, hits.len() as u32, steps)
 }
 
-// Whether a warehouse of just these rows answers the range as the definition does.
-fn is_right<L: Ledger>(
-    alloc: Global,
-    rows: &[Row],
-    asked: &Fields,
-    blank: Blank,
-) -> Result<bool, Fail>
+// Whether a warehouse of a base file answers a range as the case says.
+fn is_right<L: Ledger>(alloc: Global, case: &str, steps: &mut Steps<L>) -> Option<bool> {
+    let mut parts = case.split("\n--\n");
+    let (rows, asked, cells) = (parts.next()?, parts.next()?, parts.next()?);
+    let Ok(asked) = fields(alloc, asked) else {
+        return None;
+    };
+    let Some(shop) = filled(alloc, SCHEMA, &[base(rows.as_bytes())], steps) else {
+        drop(asked);
+        return None;
+    };
+    let is_answered = is_answered(alloc, &shop, &asked, cells, steps);
+    drop(shop);
+    drop(asked);
+    Some(is_answered)
+}
+
+fn script<L: Ledger>(alloc: Global, bytes: &[u8], blank: Blank) -> bool
     requires name { blank.name ≡ L.name }
     requires parts { blank.parts ≡ L.parts }
     requires some { 0 < L.parts }
-    requires dims { length asked.now ≡ 3 }
 {
-    let file = file_of(alloc, rows)?;
-    let mut shop = empty(alloc)?;
+    let text = str::from_utf8(bytes).unwrap_or("");
     let mut steps = Steps::<L>::start(blank);
-    let right = load(&mut shop, file.as_str(), &mut steps)
-        && is_answered(alloc, &shop, rows, asked, &mut steps);
-    drop(shop);
-    Ok(right)
-}
-
-// The same, where no steps are counted.
-fn is_range(alloc: Global, rows: &[Row], asked: &Fields) -> Result<bool, Fail>
-    requires { length asked.now ≡ 3 }
-{
-    is_right::<Brand>(alloc, rows, asked, Blank::new(1))
-}
-
-#[test]
-fn ranges_are_the_cells_that_cover_rows(rt: HostRuntime) -> Result<(), Fail> {
-    let alloc = rt.alloc();
-    for seed in 0..200u64 {
-        let mut draw = Draw { seed };
-        let rows = rows(alloc, &mut draw)?;
-        let asked = fields(alloc, &mut draw)?;
-        assert!(rt; is_range(alloc, &rows, &asked)?, "at {seed}");
+    'cases: for case in text.split("\n====\n") {
+        if is_right(alloc, case, &mut steps) != Some(true) {
+            return false;
+        }
     }
-    Ok(())
+    true
+}
+
+/// Whether each case of a file is right.
+pub fn are_right(alloc: Global, bytes: &[u8]) -> bool {
+    script::<Brand>(alloc, bytes, Blank::new(1))
 }

@@ -7,7 +7,6 @@ use cube_snapshot::{DecodeRefused, decode, encode};
 use std::alloc::{AllocError, Global};
 use std::marker::Brand;
 use std::sync::ledger::{Blank, Ledger};
-use std::test::Fail;
 use warehouse::Warehouse;
 
 // A snapshot of three rows: the mark, the schema, the texts of three dimensions, and the rows.
@@ -75,18 +74,6 @@ fn answer(alloc: Global, bytes: &[u8]) -> Verdict {
     answer_of::<Brand>(alloc, bytes, Blank::new(1))
 }
 
-#[test]
-fn a_snapshot_is_spelled(rt: HostRuntime) -> Result<(), Fail> {
-    assert!(rt; answer(rt.alloc(), FULL) == Verdict::Spelled);
-    Ok(())
-}
-
-#[test]
-fn a_tree_has_too_many_nodes(rt: HostRuntime) -> Result<(), Fail> {
-    assert!(rt; answer(rt.alloc(), CROWDED) == Verdict::Refused(DecodeRefused::NodesFull));
-    Ok(())
-}
-
 // Whether the first bytes of a snapshot, so many of them, are refused.
 fn is_cut_refused(alloc: Global, len: usize) -> bool {
     match FULL.get(..len) {
@@ -95,12 +82,14 @@ fn is_cut_refused(alloc: Global, len: usize) -> bool {
     }
 }
 
-#[test]
-fn no_front_of_a_snapshot_is_one(rt: HostRuntime) -> Result<(), Fail> {
+// Whether no prefix of a snapshot is one.
+fn are_cuts_refused(alloc: Global) -> bool {
     'lens: for len in 0..232 {
-        assert!(rt; is_cut_refused(rt.alloc(), len), "{}", len);
+        if !is_cut_refused(alloc, len) {
+            return false;
+        }
     }
-    Ok(())
+    true
 }
 
 // Whether a byte more behind a snapshot is refused.
@@ -110,12 +99,14 @@ fn is_longer_refused(alloc: Global, byte: u8) -> Result<bool, AllocError> {
     Ok(answer(alloc, &bytes) == Verdict::Refused(DecodeRefused::Form))
 }
 
-#[test]
-fn nothing_stands_behind_a_snapshot(rt: HostRuntime) -> Result<(), Fail> {
+// Whether nothing may stand behind a snapshot.
+fn are_longer_refused(alloc: Global) -> Result<bool, AllocError> {
     'bytes: for byte in 0..4 {
-        assert!(rt; is_longer_refused(rt.alloc(), byte)?);
+        if !is_longer_refused(alloc, byte)? {
+            return Ok(false);
+        }
     }
-    Ok(())
+    Ok(true)
 }
 
 // Whether a snapshot with one byte changed is refused, or that of another state.
@@ -130,14 +121,23 @@ fn is_changed_well(alloc: Global, place: usize, mask: u8) -> Result<bool, AllocE
     })
 }
 
-#[test]
-fn each_byte_of_a_snapshot_counts(rt: HostRuntime) -> Result<(), Fail> {
+// Whether each byte of a snapshot counts.
+fn are_changed_well(alloc: Global) -> Result<bool, AllocError> {
     'places: for place in 0..232 {
-        assert!(rt;
-            is_changed_well(rt.alloc(), place, 1)? && is_changed_well(rt.alloc(), place, 128)?,
-            "{}",
-            place
-        );
+        if !is_changed_well(alloc, place, 1)? || !is_changed_well(alloc, place, 128)? {
+            return Ok(false);
+        }
     }
-    Ok(())
+    Ok(true)
+}
+
+/// Whether a snapshot is one, and a tree with too many nodes, a prefix, and more or other bytes are none.
+pub fn are_right(alloc: Global) -> Result<bool, AllocError> {
+    Ok(
+        answer(alloc, FULL) == Verdict::Spelled
+            && answer(alloc, CROWDED) == Verdict::Refused(DecodeRefused::NodesFull)
+            && are_cuts_refused(alloc)
+            && are_longer_refused(alloc)?
+            && are_changed_well(alloc)?,
+    )
 }

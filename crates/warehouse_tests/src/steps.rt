@@ -1,199 +1,244 @@
-// One batch: its answer, and the tree after it.
-use crate::rows::{Change, Row, rows_after, rows_left};
-use crate::shops::{Size, apply, loaded};
-use cell_core::Steps;
-use insert_tests::records::{Line, are_kept, are_same, cells};
-use std::alloc::Global;
-use std::sync::ledger::Ledger;
-use std::test::Fail;
-use warehouse::{Refused, Warehouse};
+// Scripts of base files, batches and new dimensions. Each has its answer, and a base file of the rows after it.
+ghost use Rattle.std.specs.Prelude.{◌<◌, ◌≡◌};
 
-/// Whether the counts and the tree are those of a warehouse that loads just these rows.
-pub fn has_rows<L: Ledger>(
+use crate::shops::{File, base, batch, change, filled};
+use cell_core::Steps;
+use std::alloc::Global;
+use std::marker::Brand;
+use std::str;
+use std::sync::ledger::{Blank, Ledger};
+use tree_records::{Line, are_kept, are_same, cells};
+use warehouse::{Refused, Warehouse, WidenRefused};
+
+// What a script begins with: its schema, the schema of warehouses that load the rows after a step, and a base file and a batch by
+// which the values in these get their codes.
+#[derive(Clone, Copy)]
+struct Start<'a> {
+    schema: &'a str,
+    wide: &'a str,
+    texts: &'a str,
+    gone: &'a str,
+}
+
+// A command with its answer. Base files of the rows that stay, and of the rows after it; and the texts of two dimensions.
+#[derive(Clone, Copy)]
+struct Step<'a> {
+    command: &'a str,
+    answer: &'a str,
+    file: &'a str,
+    between: Option<&'a str>,
+    after: Option<&'a str>,
+    texts: Option<&'a str>,
+}
+
+fn read_start(text: &str) -> Option<Start<'_>> {
+    let mut parts = text.split("\n--\n");
+    Some(Start {
+        schema: parts.next()?,
+        wide: parts.next()?,
+        texts: parts.next()?,
+        gone: parts.next()?,
+    })
+}
+
+fn read_step(text: &str) -> Option<Step<'_>> {
+    let mut parts = text.split("\n--\n");
+    Some(Step {
+        command: parts.next()?,
+        answer: parts.next()?,
+        file: parts.next()?,
+        between: parts.next(),
+        after: parts.next(),
+        texts: parts.next(),
+    })
+}
+
+// A word and two numbers.
+type Answer = (&'static str, u32, u32);
+
+fn refusal(refused: Refused) -> Answer {
+    match refused {
+        Refused::NotEmpty => ("not-empty", 0, 0),
+        Refused::Header => ("header", 0, 0),
+        Refused::Op(k) => ("op", k, 0),
+        Refused::Amount(k) => ("amount", k, 0),
+        Refused::Twice(k) => ("twice", k, 0),
+        Refused::Missing(k) => ("missing", k, 0),
+        Refused::Present(k) => ("present", k, 0),
+        Refused::RowsFull => ("rows", 0, 0),
+        Refused::ValuesFull(dim) => ("values", u32::from(dim), 0),
+        Refused::NodesFull => ("nodes", 0, 0),
+        _ => ("other", 0, 0),
+    }
+}
+
+// How many records and then classes there are, or why the file is refused.
+fn changed<L: Ledger>(shop: &mut Warehouse, file: File<'_>, steps: &mut Steps<L>) -> Answer {
+    match change(shop, file, steps) {
+        Ok(applied) => ("applied", applied.records, applied.classes),
+        Err(refused) => refusal(refused),
+    }
+}
+
+// Whether a dimension of this name and value comes.
+fn widened<L: Ledger>(shop: &mut Warehouse, words: &str, steps: &mut Steps<L>) -> Answer {
+    let (name, value) = words.split_once(' ').unwrap_or(("", ""));
+    if value.len() > 255 || !shop.schema().may_name(name.as_bytes()) {
+        return ("other", 0, 0);
+    }
+    match shop.widen(name, value, steps) {
+        Ok(_) => ("widened", 0, 0),
+        Err(WidenRefused::NodesFull) => ("nodes", 0, 0),
+        Err(_) => ("other", 0, 0),
+    }
+}
+
+// Whether a step has its answer.
+fn answers<L: Ledger>(
     alloc: Global,
-    size: &Size,
-    shop: &Warehouse,
-    rows: &[Row],
+    shop: &mut Warehouse,
+    step: &Step<'_>,
     steps: &mut Steps<L>,
-) -> Result<bool, Fail> {
-    let anew = loaded(alloc, size, rows, steps)?;
+) -> bool {
+    let bytes = step.file.as_bytes();
+    let (word, first, second) = match step.command {
+        "load" => changed(shop, base(bytes), steps),
+        "apply" => changed(shop, batch(bytes), steps),
+        _ => widened(shop, step.file, steps),
+    };
+    match format!(in alloc; "{word} {first} {second}") {
+        Ok(answer) => answer.as_str() == step.answer,
+        Err(_) => false,
+    }
+}
+
+// A warehouse that loads these rows.
+fn anew<L: Ledger>(
+    alloc: Global,
+    start: &Start<'_>,
+    rows: &str,
+    steps: &mut Steps<L>,
+) -> Option<Warehouse> {
+    let files = [
+        base(start.texts.as_bytes()),
+        batch(start.gone.as_bytes()),
+        base(rows.as_bytes()),
+    ];
+    filled(alloc, start.wide.as_bytes(), &files, steps)
+}
+
+// Whether the counts and the tree are those of a warehouse that loads just these rows.
+fn has_rows<L: Ledger>(
+    alloc: Global,
+    start: &Start<'_>,
+    shop: &Warehouse,
+    rows: Option<&str>,
+    steps: &mut Steps<L>,
+) -> bool {
+    let Some(rows) = rows else {
+        return true;
+    };
+    let Some(anew) = anew(alloc, start, rows, steps) else {
+        return false;
+    };
     let is_same = shop.stats() == anew.stats() && are_same(shop.tree(), anew.tree(), steps);
     drop(anew);
-    Ok(is_same)
+    is_same
 }
 
-// Whether the rows need more nodes than there may be.
-fn are_too_many<L: Ledger>(
+// Whether each node that a warehouse of these rows has too keeps its number.
+fn keeps_numbers<L: Ledger>(
     alloc: Global,
-    size: &Size,
-    rows: &[Row],
+    start: &Start<'_>,
+    shop: &Warehouse,
+    before: &[Option<Line>],
+    rows: Option<&str>,
     steps: &mut Steps<L>,
-) -> Result<bool, Fail> {
-    let anew = loaded(alloc, size, rows, steps)?;
-    let nodes = anew.stats().nodes;
-    drop(anew);
-    Ok(nodes > size.nodes)
+) -> bool {
+    let Some(rows) = rows else {
+        return true;
+    };
+    let Some(between) = anew(alloc, start, rows, steps) else {
+        return false;
+    };
+    let are_kept = are_kept(before, between.tree(), shop.tree(), steps);
+    drop(between);
+    are_kept
 }
 
-fn are_equal(one: &[Option<Line>], other: &[Option<Line>]) -> bool {
-    if one.len() != other.len() {
+// Whether a dimension has just the texts of a line, in the order of their codes.
+fn has_line(shop: &Warehouse, dim: u8, line: &str) -> bool {
+    if dim >= shop.dict().dims() {
         return false;
     }
-    'cells: for k in 0..one.len() {
-        if one[k] != other[k] {
+    let mut code = 0u32;
+    'texts: for text in line.split(',') {
+        if code >= shop.dict().len(dim) || shop.dict().text(dim, code) != text {
+            return false;
+        }
+        code = code.wrapping_add(1);
+    }
+    code == shop.dict().len(dim)
+}
+
+fn has_texts(shop: &Warehouse, texts: Option<&str>) -> bool {
+    let Some(texts) = texts else {
+        return true;
+    };
+    let (first, second) = texts.split_once('\n').unwrap_or(("", ""));
+    has_line(shop, 0, first) && has_line(shop, 1, second)
+}
+
+// Whether a step goes as it says.
+fn goes<L: Ledger>(
+    alloc: Global,
+    start: &Start<'_>,
+    shop: &mut Warehouse,
+    step: &Step<'_>,
+    steps: &mut Steps<L>,
+) -> bool {
+    let Ok(before) = cells(alloc, shop.tree(), steps) else {
+        return false;
+    };
+    answers(alloc, shop, step, steps)
+        && keeps_numbers(alloc, start, shop, &before, step.between, steps)
+        && has_rows(alloc, start, shop, step.after, steps)
+        && has_texts(shop, step.texts)
+}
+
+fn all_go<L: Ledger>(
+    alloc: Global,
+    start: &Start<'_>,
+    shop: &mut Warehouse,
+    text: &str,
+    steps: &mut Steps<L>,
+) -> bool {
+    'steps: for part in text.split("\n====\n") {
+        let Some(step) = read_step(part) else {
+            return false;
+        };
+        if !goes(alloc, start, shop, &step, steps) {
             return false;
         }
     }
     true
 }
 
-// Whether each number has the cell that it had.
-fn are_numbers<L: Ledger>(
-    alloc: Global,
-    before: &[Option<Line>],
-    shop: &Warehouse,
-    steps: &mut Steps<L>,
-) -> Result<bool, Fail> {
-    let now = cells(alloc, shop.tree(), steps)?;
-    Ok(are_equal(before, &now))
+fn script<L: Ledger>(alloc: Global, bytes: &[u8], blank: Blank) -> Option<bool>
+    requires name { blank.name ≡ L.name }
+    requires parts { blank.parts ≡ L.parts }
+    requires some { 0 < L.parts }
+{
+    let (start, rest) = str::from_utf8(bytes).ok()?.split_once("\n====\n")?;
+    let start = read_start(start)?;
+    let mut steps = Steps::<L>::start(blank);
+    let mut shop = filled(alloc, start.schema.as_bytes(), &[], &mut steps)?;
+    let go = all_go(alloc, &start, &mut shop, rest, &mut steps);
+    drop(shop);
+    Some(go)
 }
 
-/// Whether a batch is refused, for this cause, and all is as it was, each node's number included.
-pub fn is_refused<L: Ledger>(
-    alloc: Global,
-    size: &Size,
-    shop: &mut Warehouse,
-    rows: &[Row],
-    changes: &[Change],
-    cause: Refused,
-    steps: &mut Steps<L>,
-) -> Result<bool, Fail> {
-    let before = cells(alloc, shop.tree(), steps)?;
-    if apply(alloc, shop, changes, steps)? != Err(cause) {
-        return Ok(false);
-    }
-    if !are_numbers(alloc, &before, shop, steps)? {
-        return Ok(false);
-    }
-    has_rows(alloc, size, shop, rows, steps)
-}
-
-// A warehouse of the rows that a batch leaves.
-fn between<L: Ledger>(
-    alloc: Global,
-    size: &Size,
-    rows: &[Row],
-    changes: &[Change],
-    steps: &mut Steps<L>,
-) -> Result<Warehouse, Fail> {
-    let left = rows_left(alloc, rows, changes)?;
-    loaded(alloc, size, &left, steps)
-}
-
-// Whether each node that the rows left after the deletions have too has its number still.
-fn keeps_numbers<L: Ledger>(
-    alloc: Global,
-    size: &Size,
-    before: &[Option<Line>],
-    shop: &Warehouse,
-    rows: &[Row],
-    changes: &[Change],
-    steps: &mut Steps<L>,
-) -> Result<bool, Fail> {
-    let between = between(alloc, size, rows, changes, steps)?;
-    let kept = are_kept(before, between.tree(), shop.tree(), steps);
-    drop(between);
-    Ok(kept)
-}
-
-// Whether the rows and the tree are those after a batch.
-fn is_after<L: Ledger>(
-    alloc: Global,
-    size: &Size,
-    shop: &Warehouse,
-    rows: &[Row],
-    changes: &[Change],
-    steps: &mut Steps<L>,
-) -> Result<bool, Fail> {
-    let after = rows_after(alloc, rows, changes)?;
-    has_rows(alloc, size, shop, &after, steps)
-}
-
-// How many records a batch has that is taken.
-fn records<L: Ledger>(
-    alloc: Global,
-    shop: &mut Warehouse,
-    changes: &[Change],
-    steps: &mut Steps<L>,
-) -> Result<Option<usize>, Fail> {
-    match apply(alloc, shop, changes, steps)? {
-        Ok(applied) => Ok(Some(applied.records as usize)),
-        Err(_) => Ok(None),
-    }
-}
-
-/// Whether a batch is taken, and each node that the rows left after its deletions have too keeps its number.
-pub fn is_taken<L: Ledger>(
-    alloc: Global,
-    size: &Size,
-    shop: &mut Warehouse,
-    rows: &[Row],
-    changes: &[Change],
-    steps: &mut Steps<L>,
-) -> Result<bool, Fail> {
-    let before = cells(alloc, shop.tree(), steps)?;
-    if records(alloc, shop, changes, steps)? != Some(changes.len()) {
-        return Ok(false);
-    }
-    if !keeps_numbers(alloc, size, &before, shop, rows, changes, steps)? {
-        return Ok(false);
-    }
-    is_after(alloc, size, shop, rows, changes, steps)
-}
-
-/// What comes of a batch.
-#[derive(Clone, Copy, PartialEq, Eq)]
-pub enum Step {
-    Taken,
-    Full,
-    /// Something isn't as it is to be.
-    Wrong,
-}
-
-// Whether the rows after a batch need more nodes than there may be.
-fn is_full<L: Ledger>(
-    alloc: Global,
-    size: &Size,
-    rows: &[Row],
-    changes: &[Change],
-    steps: &mut Steps<L>,
-) -> Result<bool, Fail> {
-    let after = rows_after(alloc, rows, changes)?;
-    are_too_many(alloc, size, &after, steps)
-}
-
-fn settle(alloc: Global, rows: &mut Vec<Row>, changes: &[Change]) -> Result<(), Fail> {
-    *rows = rows_after(alloc, rows, changes)?;
-    Ok(())
-}
-
-/// Makes a batch that is refused for nothing but too many nodes, and the rows those after it.
-pub fn follow<L: Ledger>(
-    alloc: Global,
-    size: &Size,
-    shop: &mut Warehouse,
-    rows: &mut Vec<Row>,
-    changes: &[Change],
-    steps: &mut Steps<L>,
-) -> Result<Step, Fail> {
-    if is_full(alloc, size, rows, changes, steps)? {
-        let full = Refused::NodesFull;
-        let is_right = is_refused(alloc, size, shop, rows, changes, full, steps)?;
-        return Ok(if is_right { Step::Full } else { Step::Wrong });
-    }
-    if !is_taken(alloc, size, shop, rows, changes, steps)? {
-        return Ok(Step::Wrong);
-    }
-    settle(alloc, rows, changes)?;
-    Ok(Step::Taken)
+/// Whether each step of a script goes as it says.
+pub fn is_right(alloc: Global, bytes: &[u8]) -> bool {
+    script::<Brand>(alloc, bytes, Blank::new(1)) == Some(true)
 }

@@ -1,13 +1,12 @@
 // The worked tree: its cells are found under their numbers again.
 ghost use Rattle.std.specs.Prelude.{◌<◌, ◌≡◌};
 
-use crate::answers::{apply, opened};
+use crate::shops::{apply, base, filled};
 use crate::worked_tree::{BASE, MINUS, PLUS, SCHEMA, Texts, cell_of};
 use cell_core::{NodeNo, Steps};
 use std::alloc::Global;
 use std::marker::Brand;
 use std::sync::ledger::{Blank, Ledger};
-use std::test::Fail;
 use tree_search::find;
 use warehouse::Warehouse;
 
@@ -58,28 +57,28 @@ fn numbers_after<L: Ledger>(
     batch: &[u8],
     steps: &mut Steps<L>,
 ) -> Option<Numbers> {
-    match apply(shop, batch) {
+    match apply(shop, batch, steps) {
         Ok(_) => Some(numbers(alloc, shop, steps)),
         Err(_) => None,
     }
 }
 
 // The numbers after the base file, after the fourth row came, and after it went.
-fn found<L: Ledger>(alloc: Global, blank: Blank) -> Result<[Option<Numbers>; 3], Fail>
+fn found<L: Ledger>(alloc: Global, blank: Blank) -> Option<[Option<Numbers>; 3]>
     requires name { blank.name ≡ L.name }
     requires parts { blank.parts ≡ L.parts }
     requires some { 0 < L.parts }
 {
     let mut steps = Steps::<L>::start(blank);
-    let mut shop = opened(alloc, SCHEMA, BASE)?;
+    let mut shop = filled(alloc, SCHEMA, &[base(BASE)], &mut steps)?;
     let first = numbers(alloc, &shop, &mut steps);
     let with = numbers_after(alloc, &mut shop, PLUS, &mut steps);
     let last = numbers_after(alloc, &mut shop, MINUS, &mut steps);
     drop(shop);
-    Ok([Some(first), with, last])
+    Some([Some(first), with, last])
 }
 
-fn found_uncounted(alloc: Global) -> Result<[Option<Numbers>; 3], Fail> {
+fn found_uncounted(alloc: Global) -> Option<[Option<Numbers>; 3]> {
     found::<Brand>(alloc, Blank::new(1))
 }
 
@@ -114,8 +113,10 @@ fn are_kept(numbers: &[Option<Numbers>; 3]) -> bool {
     are_closures(&first) && differ_at_one(&with, &first) && last == first
 }
 
-#[test]
-fn the_worked_tree_keeps_its_numbers(rt: HostRuntime) -> Result<(), Fail> {
-    assert!(rt; are_kept(&found_uncounted(rt.alloc())?));
-    Ok(())
+/// Whether the worked tree keeps its numbers.
+pub fn is_right(alloc: Global) -> bool {
+    match found_uncounted(alloc) {
+        Some(numbers) => are_kept(&numbers),
+        None => false,
+    }
 }

@@ -2,14 +2,13 @@
 ghost use Rattle.std.specs.FinMap as map;
 ghost use Rattle.std.specs.Prelude.{IfSome, IsSome, length, ◌<◌, ◌≡◌};
 
-use crate::answers::{apply, code, opened};
+use crate::shops::{apply, base, code, filled};
 use aggregates::Agg;
 use cell_core::{Cell, Code, Entry, NodeNo, Steps, leq};
 use qc_arena::Nodes;
 use std::alloc::Global;
 use std::marker::Brand;
 use std::sync::ledger::{Blank, Ledger};
-use std::test::Fail;
 use tree_search::{find, upper_into};
 use warehouse::{Refused, Stats, Warehouse};
 
@@ -339,14 +338,14 @@ fn is_lead<L: Ledger>(alloc: Global, shop: &Warehouse, lead: &Lead, steps: &mut 
 }
 
 // Whether these nodes are there, each with its record, its edges aside.
-fn has_lines<L: Ledger>(alloc: Global, shop: &Warehouse, lines: &[Line], blank: Blank) -> bool
-    requires name { blank.name ≡ L.name }
-    requires parts { blank.parts ≡ L.parts }
-    requires some { 0 < L.parts }
-{
-    let mut steps = Steps::<L>::start(blank);
+fn has_lines<L: Ledger>(
+    alloc: Global,
+    shop: &Warehouse,
+    lines: &[Line],
+    steps: &mut Steps<L>,
+) -> bool {
     'lines: for line in lines {
-        if !is_line(alloc, shop, line, &mut steps) {
+        if !is_line(alloc, shop, line, steps) {
             return false;
         }
     }
@@ -354,41 +353,39 @@ fn has_lines<L: Ledger>(alloc: Global, shop: &Warehouse, lines: &[Line], blank: 
 }
 
 // Whether these edges are there.
-fn has_leads<L: Ledger>(alloc: Global, shop: &Warehouse, leads: &[Lead], blank: Blank) -> bool
-    requires name { blank.name ≡ L.name }
-    requires parts { blank.parts ≡ L.parts }
-    requires some { 0 < L.parts }
-{
-    let mut steps = Steps::<L>::start(blank);
+fn has_leads<L: Ledger>(
+    alloc: Global,
+    shop: &Warehouse,
+    leads: &[Lead],
+    steps: &mut Steps<L>,
+) -> bool {
     'leads: for lead in leads {
-        if !is_lead(alloc, shop, lead, &mut steps) {
+        if !is_lead(alloc, shop, lead, steps) {
             return false;
         }
     }
     true
 }
 
-// Whether these nodes and edges are there, where no steps are counted.
-fn is_tree(alloc: Global, shop: &Warehouse, lines: &[Line], leads: &[Lead]) -> bool {
-    has_lines::<Brand>(alloc, shop, lines, Blank::new(1))
-        && has_leads::<Brand>(alloc, shop, leads, Blank::new(1))
-}
-
 // Whether the tree is that of the base file. There are no other nodes and
 // edges, by what is counted.
-fn is_before(alloc: Global, shop: &Warehouse) -> bool {
-    shop.stats() == COUNTS && is_tree(alloc, shop, &NODES, &EDGES)
+fn is_before<L: Ledger>(alloc: Global, shop: &Warehouse, steps: &mut Steps<L>) -> bool {
+    shop.stats() == COUNTS
+        && has_lines(alloc, shop, &NODES, steps)
+        && has_leads(alloc, shop, &EDGES, steps)
 }
 
 // Whether it is that after a fourth row.
-fn is_after(alloc: Global, shop: &Warehouse) -> bool {
-    shop.stats() == COUNTS_AFTER && is_tree(alloc, shop, &NODES_AFTER, &EDGES_AFTER)
+fn is_after<L: Ledger>(alloc: Global, shop: &Warehouse, steps: &mut Steps<L>) -> bool {
+    shop.stats() == COUNTS_AFTER
+        && has_lines(alloc, shop, &NODES_AFTER, steps)
+        && has_leads(alloc, shop, &EDGES_AFTER, steps)
 }
 
 // Whether these batches, of one record each, are taken.
-fn are_taken(shop: &mut Warehouse, batches: &[&[u8]]) -> bool {
+fn are_taken<L: Ledger>(shop: &mut Warehouse, batches: &[&[u8]], steps: &mut Steps<L>) -> bool {
     'batches: for batch in batches {
-        if apply(shop, batch) != Ok(1) {
+        if apply(shop, batch, steps) != Ok(1) {
             return false;
         }
     }
@@ -408,15 +405,25 @@ const MIXED: &[u8] =
     b"op,id,store,product,season,sale\n-,1,,,,\n+,4,S2,P2,f,3\n+,5,S3,P3,t,1\n+,6,S4,P3,t,1\n";
 
 // Whether a batch is refused for its nodes, and the tree and the texts are as they were.
-fn refuses_nodes(alloc: Global, shop: &mut Warehouse, batch: &[u8]) -> bool {
-    let answer = apply(shop, batch);
+fn refuses_nodes<L: Ledger>(
+    alloc: Global,
+    shop: &mut Warehouse,
+    batch: &[u8],
+    steps: &mut Steps<L>,
+) -> bool {
+    let answer = apply(shop, batch, steps);
     let codes = (code(shop, 0, "S3"), code(shop, 2, "t"));
-    answer == Err(Refused::NodesFull) && codes == (None, None) && is_before(alloc, shop)
+    answer == Err(Refused::NodesFull) && codes == (None, None) && is_before(alloc, shop, steps)
 }
 
 // Whether a row with too many nodes is refused, and then not there to be deleted.
-fn refuses_both(shop: &mut Warehouse, plus: &[u8], minus: &[u8]) -> bool {
-    let (plus, minus) = (apply(shop, plus), apply(shop, minus));
+fn refuses_both<L: Ledger>(
+    shop: &mut Warehouse,
+    plus: &[u8],
+    minus: &[u8],
+    steps: &mut Steps<L>,
+) -> bool {
+    let (plus, minus) = (apply(shop, plus, steps), apply(shop, minus, steps));
     plus == Err(Refused::NodesFull) && minus == Err(Refused::Missing(1))
 }
 
@@ -446,27 +453,40 @@ static CASES: [Case; 7] = [
     (FEWER, &[], Then::NotThere(PLUS, MINUS)),
 ];
 
-fn is_so(alloc: Global, shop: &mut Warehouse, then: &Then) -> bool {
+fn is_so<L: Ledger>(
+    alloc: Global,
+    shop: &mut Warehouse,
+    then: &Then,
+    steps: &mut Steps<L>,
+) -> bool {
     match then {
-        Then::Before => is_before(alloc, shop),
-        Then::After => is_after(alloc, shop),
+        Then::Before => is_before(alloc, shop, steps),
+        Then::After => is_after(alloc, shop, steps),
         Then::Room => shop.stats() == COUNTS_AFTER,
-        Then::Full(batch) => refuses_nodes(alloc, shop, batch),
-        Then::NotThere(plus, minus) => refuses_both(shop, plus, minus),
+        Then::Full(batch) => refuses_nodes(alloc, shop, batch, steps),
+        Then::NotThere(plus, minus) => refuses_both(shop, plus, minus, steps),
     }
 }
 
-fn is_met(alloc: Global, case: &Case) -> Result<bool, Fail> {
-    let mut shop = opened(alloc, case.0, BASE)?;
-    let met = are_taken(&mut shop, case.1) && is_so(alloc, &mut shop, &case.2);
+fn is_met<L: Ledger>(alloc: Global, case: &Case, blank: Blank) -> Option<bool>
+    requires name { blank.name ≡ L.name }
+    requires parts { blank.parts ≡ L.parts }
+    requires some { 0 < L.parts }
+{
+    let mut steps = Steps::<L>::start(blank);
+    let mut shop = filled(alloc, case.0, &[base(BASE)], &mut steps)?;
+    let is_met = are_taken(&mut shop, case.1, &mut steps)
+        && is_so(alloc, &mut shop, &case.2, &mut steps);
     drop(shop);
-    Ok(met)
+    Some(is_met)
 }
 
-#[test]
-fn the_worked_tree(rt: HostRuntime) -> Result<(), Fail> {
+/// Whether the worked tree is as it should be, before and after batches.
+pub fn is_right(alloc: Global) -> bool {
     'cases: for case in &CASES {
-        assert!(rt; is_met(rt.alloc(), case)?);
+        if is_met::<Brand>(alloc, case, Blank::new(1)) != Some(true) {
+            return false;
+        }
     }
-    Ok(())
+    true
 }

@@ -4,6 +4,35 @@ use crate::spoken::read_lines;
 use std::io::ErrorKind;
 use std::{fs, io, str};
 
+/// A file whose last byte stands again and again up to this length.
+#[derive(Drop)]
+pub struct Padded {
+    name: String,
+    length: usize,
+}
+
+impl Padded {
+    /// The length of the file of a name, where it is this one, and else 0.
+    pub fn length_of(&self, name: &str) -> usize {
+        if self.name.as_str() == name {
+            self.length
+        } else {
+            0
+        }
+    }
+
+    // The file that a folder names, and one without a name where it names none.
+    fn read(rt: &HostRuntime, folder: &str) -> io::Result<Padded> {
+        let bytes = bytes_of(rt, folder, "padded")?;
+        let text = str::from_utf8(&bytes).unwrap_or("");
+        let (name, length) = text.split_once('\n').unwrap_or(("", ""));
+        Ok(Padded {
+            name: String::from_str(rt.alloc(), name)?,
+            length: length.trim_end().parse::<usize>().unwrap_or(0),
+        })
+    }
+}
+
 /// The words of a run, its status, and what out and err take.
 #[derive(Drop)]
 pub struct Expected {
@@ -13,6 +42,7 @@ pub struct Expected {
     pub err: Vec<u8>,
     /// How many bytes out has room for, where that isn't ample.
     pub room: Option<usize>,
+    pub padded: Padded,
 }
 
 // The bytes of a file of the folder, and none where there is no such file.
@@ -42,12 +72,14 @@ impl Expected {
         let out = bytes_of(rt, folder, "stdout")?;
         let err = bytes_of(rt, folder, "stderr")?;
         let room = number_in(rt, folder, "room")?;
+        let padded = Padded::read(rt, folder)?;
         Ok(Expected {
             words,
             status,
             out,
             err,
             room,
+            padded,
         })
     }
 }

@@ -1,53 +1,104 @@
 // The files of some folders that are too long to be kept: as many values as a range may have cells, with the reply that has them
-// all, and files that are longer by a byte than a file may be.
+// all, and half a million rows of one dimension, with as many points and their replies.
 
 use std::alloc::{AllocError, Global};
 use std::{fs, io};
 
-const VALUES: u32 = 100_000;
-
-const TOO_LONG: u64 = 268_435_457;
-
-fn base(alloc: Global) -> Result<String, AllocError> {
-    let mut file = String::from_str(alloc, "id,v\n")?;
-    'rows: for k in 1..=VALUES {
-        let row = format!(in alloc; "{k},v{k:06}\n")?;
-        file.push_str(row.as_str())?;
-    }
-    Ok(file)
+/// What stands in a line with a number.
+#[derive(Clone, Copy)]
+enum Line {
+    /// A row whose value is its number.
+    Row,
+    /// A cell of that value.
+    Cell,
+    /// A row whose value is its number's last three digits.
+    ShortRow,
+    /// A point of that value.
+    Point,
+    /// The reply to the point.
+    Reply,
 }
 
-fn replies(alloc: Global) -> Result<String, AllocError> {
-    let mut replies = String::from_str(alloc, "applied,1,100000,100001\n")?;
-    'cells: for k in 1..=VALUES {
-        let cell = format!(in alloc; "cell,2,v{k:06},1\n")?;
-        replies.push_str(cell.as_str())?;
-    }
-    replies.push_str("end,2,100000\napplied,3,1,100002\nrefused,4,too-many-cells\n")?;
-    Ok(replies)
+// A file: its first lines, the numbers of those in its middle, and its last lines.
+struct Long {
+    path: &'static str,
+    first: &'static str,
+    line: Line,
+    from: u32,
+    to: u32,
+    last: &'static str,
 }
 
-// A file of this many bytes 0, which takes no room.
-fn write_zeros(rt: &HostRuntime, path: &str, length: u64) -> io::Result<()> {
-    let file = fs::create(rt, path)?;
-    file.set_len(length)
+// In the second folder each value stands in 500 rows. The root and the values are the nodes, and each is a class.
+static FILES: [Long; 5] = [
+    Long {
+        path: "runs/as-many-cells-as-a-range-answers/base.csv",
+        first: "id,v\n",
+        line: Line::Row,
+        from: 1,
+        to: 100_000,
+        last: "",
+    },
+    Long {
+        path: "runs/as-many-cells-as-a-range-answers/stdout",
+        first: "applied,1,100000,100001\n",
+        line: Line::Cell,
+        from: 1,
+        to: 100_000,
+        last: "end,2,100000\napplied,3,1,100002\nrefused,4,too-many-cells\n",
+    },
+    Long {
+        path: "runs/many-points-over-many-rows/base.csv",
+        first: "id,v\n",
+        line: Line::ShortRow,
+        from: 1,
+        to: 500_000,
+        last: "",
+    },
+    Long {
+        path: "runs/many-points-over-many-rows/script",
+        first: "load base.csv\n",
+        line: Line::Point,
+        from: 2,
+        to: 500_001,
+        last: "stats\n",
+    },
+    Long {
+        path: "runs/many-points-over-many-rows/stdout",
+        first: "applied,1,500000,1001\n",
+        line: Line::Reply,
+        from: 2,
+        to: 500_001,
+        last: "stats,500002,500000,1001,1001,1000,0\n",
+    },
+];
+
+fn line_of(alloc: Global, line: Line, k: u32) -> Result<String, AllocError> {
+    let short = k % 1000;
+    match line {
+        Line::Row => format!(in alloc; "{k},v{k:06}\n"),
+        Line::Cell => format!(in alloc; "cell,2,v{k:06},1\n"),
+        Line::ShortRow => format!(in alloc; "{k},v{short:03}\n"),
+        Line::Point => format!(in alloc; "point v{short:03}\n"),
+        Line::Reply => format!(in alloc; "point,{k},v{short:03},500\n"),
+    }
+}
+
+fn text_of(alloc: Global, file: &Long) -> Result<String, AllocError> {
+    let mut text = String::from_str(alloc, file.first)?;
+    'lines: for k in file.from..=file.to {
+        let line = line_of(alloc, file.line, k)?;
+        text.push_str(line.as_str())?;
+    }
+    text.push_str(file.last)?;
+    Ok(text)
 }
 
 /// Writes them.
 pub fn write(rt: &HostRuntime) -> io::Result<()> {
-    let (base, replies) = (base(rt.alloc())?, replies(rt.alloc())?);
-    fs::write(
-        rt,
-        "runs/as-many-cells-as-a-range-answers/base.csv",
-        base.as_str(),
-    )?;
-    fs::write(
-        rt,
-        "runs/as-many-cells-as-a-range-answers/stdout",
-        replies.as_str(),
-    )?;
-    write_zeros(rt, "runs/file-too-long/long.csv", TOO_LONG)?;
-    write_zeros(rt, "runs/schema-too-long/long", TOO_LONG)?;
-    write_zeros(rt, "runs/script-too-long/long", TOO_LONG)?;
-    write_zeros(rt, "runs/snapshot-too-long/long", TOO_LONG)
+    'files: for file in &FILES {
+        let text = text_of(rt.alloc(), file)?;
+        fs::write(rt, file.path, text.as_str())?;
+    }
+    Ok(())
 }

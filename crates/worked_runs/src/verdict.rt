@@ -2,36 +2,10 @@
 
 use crate::expected::Expected;
 use crate::folder_files::FolderFiles;
+use crate::runs::{Ended, Ran, run_over, sink};
 use crate::spoken::Spoken;
-use qcube_tests::runs::{Ended, run_words, sink};
-use std::fmt::{self, Display, Formatter};
+use std::alloc::{AllocError, Global};
 use std::io;
-
-/// What a run has as its folder says, or what not.
-#[derive(Clone, Copy)]
-pub enum Verdict {
-    Same,
-    /// It ended with this status.
-    Status(u8),
-    /// So many lines found no memory.
-    Skipped(usize),
-    /// The first record of out that differs.
-    Out(usize),
-    /// The first line of err that differs.
-    Err(usize),
-}
-
-impl Display for Verdict {
-    fn fmt<W: fmt::Write>(&self, f: &mut Formatter<W>) -> fmt::Result {
-        match self {
-            Verdict::Same => f.write_str("ok"),
-            Verdict::Status(status) => write!(f, "ended with status {status}"),
-            Verdict::Skipped(count) => write!(f, "skipped {count} lines"),
-            Verdict::Out(record) => write!(f, "differs at record {record}"),
-            Verdict::Err(line) => write!(f, "differs at line {line} of its messages"),
-        }
-    }
-}
 
 // The number of the first line that differs.
 fn first_difference(got: &[u8], want: &[u8]) -> Option<usize> {
@@ -55,33 +29,60 @@ fn room_for(bytes: &[u8]) -> usize {
     bytes.len().saturating_add(4096)
 }
 
-// What a run that ended so has of what is expected.
-fn verdict_of(ended: Ended, out: &[u8], err: &[u8], expected: &Expected) -> Verdict {
-    if let Some(record) = first_difference(out, &expected.out) {
-        return Verdict::Out(record);
-    }
-    if let Some(line) = first_difference(err, &expected.err) {
-        return Verdict::Err(line);
-    }
-    if usize::from(ended.status) != expected.status {
-        return Verdict::Status(ended.status);
-    }
-    if ended.skipped > 0 {
-        return Verdict::Skipped(ended.skipped);
-    }
-    Verdict::Same
+// Whether the words run a script over a schema.
+fn is_script(words: &[String]) -> bool {
+    words.first().is_some_and(|word| word.as_str() == "run")
 }
 
-/// Runs `qcube` in a folder of `runs`, and gathers what it is to write.
-pub fn judge(rt: &HostRuntime, name: &str, spoken: &mut Spoken) -> io::Result<Verdict> {
+// What there is to say of how a run ended.
+fn said_of_end(alloc: Global, ended: Ended, expected: &Expected) -> Result<String, AllocError> {
+    let Ended {
+        status,
+        skipped,
+        ..
+    } = ended;
+    if usize::from(status) != expected.status {
+        return format!(in alloc; "ended with status {status}");
+    }
+    if skipped > 0 {
+        return format!(in alloc; "skipped {skipped} lines");
+    }
+    // A script leaves a warehouse at status 0 alone.
+    if is_script(&expected.words) && ended.has_end != (status == 0) {
+        return String::from_str(alloc, "ended with another warehouse");
+    }
+    String::from_str(alloc, "ok")
+}
+
+// What there is to say of a run, beside what is expected.
+fn said_of(alloc: Global, ran: &Ran, expected: &Expected) -> Result<String, AllocError> {
+    if let Some(record) = first_difference(ran.out.bytes(), &expected.out) {
+        return format!(in alloc; "differs at record {record}");
+    }
+    if let Some(line) = first_difference(ran.err.bytes(), &expected.err) {
+        return format!(in alloc; "differs at line {line} of its messages");
+    }
+    said_of_end(alloc, ran.ended, expected)
+}
+
+// Runs in a folder, and says whether that is as expected, or what isn't.
+fn run_in(rt: &HostRuntime, folder: &str, expected: &Expected) -> Result<String, AllocError> {
     let alloc = rt.alloc();
-    let folder = format!(in alloc; "runs/{name}")?;
+    let mut files = FolderFiles::new(rt, alloc, folder, &expected.padded);
+    let room = expected.room.unwrap_or(room_for(&expected.out));
+    let out = sink(alloc, &[], 4096, room)?;
+    let err = sink(alloc, &[], 4096, room_for(&expected.err))?;
+    let ran = run_over(alloc, &expected.words, &mut files, out, err);
+    let said = said_of(alloc, &ran, expected);
+    drop(ran);
+    said
+}
+
+/// Runs `qcube` in a folder of `runs`, and gathers what it is to write. Says whether that is as expected, or what isn't.
+pub fn judge(rt: &HostRuntime, name: &str, spoken: &mut Spoken) -> io::Result<String> {
+    let folder = format!(in rt.alloc(); "runs/{name}")?;
     let expected = Expected::read(rt, folder.as_str())?;
     spoken.push(&expected.out, &expected.err)?;
-    let mut files = FolderFiles::new(rt, alloc, folder.as_str());
-    let room = expected.room.unwrap_or(room_for(&expected.out));
-    let mut out = sink(alloc, &[], 4096, room)?;
-    let mut err = sink(alloc, &[], 4096, room_for(&expected.err))?;
-    let ended = run_words(alloc, &expected.words, &mut files, &mut out, &mut err);
-    Ok(verdict_of(ended, out.bytes(), err.bytes(), &expected))
+    let said = run_in(rt, folder.as_str(), &expected)?;
+    Ok(said)
 }

@@ -1,4 +1,0 @@
-use Rattle.insert_tests.proofs.tests.do_all_come.Given as goal
-
-abbrev pub ghosts-all_come : goal.ghosts-all_come
-ghosts-all_come a = record { name = a.blank.name; parts = a.blank.parts }
