@@ -1,0 +1,38 @@
+use Rattle.std.proofs.Common.{ap, length, map, subst, sym, ◌∙◌, ◌+◌, ◌≡◌, ◌≤◌}
+use Rattle.warehouse.specs.State.{Contents}
+use Rattle.warehouse.specs.Widening.{KeepsWidened, cost_of_widening}
+use Rattle.pinned_view.specs.Pins.{version_in}
+use Rattle.pinned_view.specs.Versions.{Versions}
+use Rattle.pinned_view.proofs.pinned.Pinned.widen.Goals as goal
+use Rattle.pinned_view.proofs.pinned.Pinned.widen.Goals.{in-Ok, in-Err}
+
+pub returns-clause-records : goal.returns-clause-records
+returns-clause-records g c =
+    elim c.match-widen.branch [
+      | in-Ok w ↦ rw w.result-is (subst (λ (v : Versions). KeepsWidened (length v.now.state.schema.dims) v.now.tree c.widen.new.self.tree) c.self.view_is w.in-Ok.ensures.records)
+      | in-Err w ↦ rw w.result-is tt
+    ]
+
+pub returns-clause-steps : goal.returns-clause-steps
+returns-clause-steps g c =
+    elim c.match-widen.branch [
+      | in-Ok w ↦ rw w.result-is (subst (λ (v : Versions). c.widen.new.steps ≤ c.args.steps.now + cost_of_widening (length v.now.state.schema.dims) v.now.tree) c.self.view_is w.in-Ok.ensures.steps)
+      | in-Err w ↦ rw w.result-is tt
+    ]
+
+pub returns-clause-valid : goal.returns-clause-valid
+returns-clause-valid g c = c.widen.ensures.valid
+
+pub returns-clause-pins : goal.returns-clause-pins
+returns-clause-pins g c = ap (λ (v : Versions). v.pins) c.self.view_is
+
+pub returns-clause-err : goal.returns-clause-err
+returns-clause-err g c =
+    elim c.match-widen.branch [
+      | in-Ok w ↦ rw w.result-is tt
+      | in-Err w ↦
+          let said = w.in-Err.ensures in
+          let images = said.no_images ∙ sym c.self.invariant.0.plain in
+          let same : c.widen.new.self ≡ c.self.inside.warehouse = λ j. let held : Contents = record { state = said.state j; tree = said.tree j; index = said.index j; images = images j } in held in
+          rw w.result-is (ap (λ (held : Contents). let v : Versions = record { now = held; pins = map version_in c.self.inside.pins.items } in v) same ∙ c.self.view_is)
+    ]
