@@ -6,3 +6,4 @@ mod CommandFacts
 mod Listed
 mod CodedFields
 pub mod PinNames
+mod AtNames

@@ -6,7 +6,7 @@ ghost use Rattle.aggregates.specs.Views.{kind_in};
 ghost use Rattle.text_lines.specs.Cuts.{words_of};
 ghost use Rattle.iceberg_query.specs.Asked.{bound_in};
 ghost use Rattle.query_script.specs.Faults.{line_fault_in};
-ghost use Rattle.query_script.specs.Icebergs.{bound_at, iceberg_in, makes, value_at};
+ghost use Rattle.query_script.specs.Icebergs.{bound_at, bound_named, iceberg_in, makes, value_at};
 ghost use Rattle.query_script.specs.Queries.{query_in};
 
 use crate::line::LineRefused;
@@ -58,6 +58,19 @@ impl OfMeasure {
     }
 }
 
+/// The bound that a word names.
+pub(crate) fn named_bound(word: &[u8]) -> Option<Bound>
+    ensures { option_map bound_in result ≡ bound_named word.now }
+{
+    if word == b">=".as_slice() {
+        Some(Bound::AtLeast)
+    } else if word == b"<=".as_slice() {
+        Some(Bound::AtMost)
+    } else {
+        None
+    }
+}
+
 // The value, at a place. No word may follow it.
 fn read_value(kind: AggKind, bound: Bound, place: u32, words: &[u8]) -> Result<Query, LineRefused>
     requires { place < 10 }
@@ -83,10 +96,9 @@ fn read_bound(kind: AggKind, place: u32, words: &[u8]) -> Result<Query, LineRefu
     let Some((word, behind)) = split_word(words) else {
         return Err(LineRefused::Field(place));
     };
-    match word {
-        b">=" => read_value(kind, Bound::AtLeast, place + 1, behind),
-        b"<=" => read_value(kind, Bound::AtMost, place + 1, behind),
-        _ => Err(LineRefused::Field(place)),
+    match named_bound(word) {
+        Some(bound) => read_value(kind, bound, place + 1, behind),
+        None => Err(LineRefused::Field(place)),
     }
 }
 

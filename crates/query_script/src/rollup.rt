@@ -13,7 +13,7 @@ ghost use Rattle.query_script.specs.Makes.{make_of};
 ghost use Rattle.query_script.specs.Rollups.{IsLow, behind_words, bound_at, rollup_in, value_at, with_measure, with_record};
 ghost use Rattle.query_script.specs.declared.record.Shape.TheVariants as shapes;
 
-use crate::iceberg::OfMeasure;
+use crate::iceberg::{OfMeasure, named_bound};
 use crate::line::{LineRefused, split_command};
 use crate::query::Query;
 use crate::record::{Shape, read_fields};
@@ -98,10 +98,9 @@ fn read_bound(
     ensures { Gives line_fault_in query_in result (bound_at (length schema.now.dims) (kind_in kind) place words.now) }
 {
     let (word, rest) = split_command(words);
-    match word {
-        ">=" => read_value(alloc, schema, kind, Bound::AtLeast, place + 1, rest),
-        "<=" => read_value(alloc, schema, kind, Bound::AtMost, place + 1, rest),
-        _ => Err(LineRefused::Field(place)),
+    match named_bound(word.as_bytes()) {
+        Some(bound) => read_value(alloc, schema, kind, bound, place + 1, rest),
+        None => Err(LineRefused::Field(place)),
     }
 }
 
