@@ -1,8 +1,8 @@
 // Lower bounds of classes.
 ghost use Rattle.std.specs.Prelude.{length, ◌<◌, ◌≡◌};
 
-use crate::shop::{Shop, cell};
-use cell_core::{Cell, Cells, Entry, Memory, Steps};
+use crate::shop::{Codes, Shop, cell, is_cell};
+use cell_core::{Cell, Cells, Memory, Steps};
 use lower_bounds::lower_bounds;
 use qc_arena::Nodes;
 use std::alloc::Global;
@@ -33,14 +33,14 @@ fn lowers_of(alloc: Global, cell: &Cell) -> Result<Option<Cells>, Memory>
     lowers::<Brand>(alloc, cell, Blank::new(1))
 }
 
-const ANY: Entry = Entry::Any;
+const ANY: Option<u8> = None;
 
-const ZERO: Entry = Entry::Is(0);
+const ZERO: Option<u8> = Some(0);
 
-const ONE: Entry = Entry::Is(1);
+const ONE: Option<u8> = Some(1);
 
 // A cell of the class, how many lower bounds the class has, and these.
-static CLASSES: [([Entry; 3], u32, [[Entry; 3]; 2]); 7] = [
+static CLASSES: [(Codes, u32, [Codes; 2]); 7] = [
     ([ANY, ANY, ANY], 1, [[ANY, ANY, ANY], [ANY, ANY, ANY]]),
     ([ANY, ZERO, ANY], 1, [[ANY, ZERO, ANY], [ANY, ANY, ANY]]),
     ([ZERO, ANY, ZERO], 2, [[ANY, ANY, ZERO], [ZERO, ANY, ANY]]),
@@ -55,13 +55,12 @@ static CLASSES: [([Entry; 3], u32, [[Entry; 3]; 2]); 7] = [
 ];
 
 // Whether these are the first of the expected bounds.
-fn are_bounds(bounds: &Cells, expected: &[[Entry; 3]; 2]) -> bool {
+fn are_bounds(bounds: &Cells, expected: &[Codes; 2]) -> bool {
     if bounds.len() > 2 {
         return false;
     }
     'bounds: for k in 0..bounds.len() {
-        let bound = bounds.get(k);
-        if bound.dims() != 3 || [bound.get(0), bound.get(1), bound.get(2)] != expected[k as usize] {
+        if !is_cell(bounds.get(k), &expected[k as usize]) {
             return false;
         }
     }
@@ -69,7 +68,7 @@ fn are_bounds(bounds: &Cells, expected: &[[Entry; 3]; 2]) -> bool {
 }
 
 // Whether the class of a cell has just these bounds.
-fn has_bounds(alloc: Global, asked: [Entry; 3], count: u32, expected: &[[Entry; 3]; 2]) -> bool {
+fn has_bounds(alloc: Global, asked: &Codes, count: u32, expected: &[Codes; 2]) -> bool {
     match lowers_of(alloc, &cell(alloc, asked)) {
         Ok(Some(bounds)) => bounds.len() == count && are_bounds(&bounds, expected),
         _ => false,
@@ -79,9 +78,9 @@ fn has_bounds(alloc: Global, asked: [Entry; 3], count: u32, expected: &[[Entry; 
 /// Whether classes have their lower bounds, and cells without rows none.
 pub(crate) fn are_right(alloc: Global) -> bool {
     'classes: for (asked, count, expected) in &CLASSES {
-        if !has_bounds(alloc, *asked, *count, expected) {
+        if !has_bounds(alloc, asked, *count, expected) {
             return false;
         }
     }
-    matches!(lowers_of(alloc, &cell(alloc, [ONE, ONE, ANY])), Ok(None))
+    matches!(lowers_of(alloc, &cell(alloc, &[ONE, ONE, ANY])), Ok(None))
 }

@@ -1,9 +1,9 @@
 // Closures of cells, and what the rows come to that they cover.
 ghost use Rattle.std.specs.Prelude.{length, ◌<◌, ◌≡◌};
 
-use crate::shop::{Shop, cell};
+use crate::shop::{Codes, Shop, cell, is_cell};
 use aggregates::Agg;
-use cell_core::{Cell, Entry, Steps};
+use cell_core::{Cell, Steps};
 use std::alloc::Global;
 use std::marker::Brand;
 use std::sync::ledger::{Blank, Ledger};
@@ -31,14 +31,14 @@ fn closed(cell: &mut Cell) -> Option<Agg>
     close::<Brand>(cell, Blank::new(1))
 }
 
-const ANY: Entry = Entry::Any;
+const ANY: Option<u8> = None;
 
-const ZERO: Entry = Entry::Is(0);
+const ZERO: Option<u8> = Some(0);
 
-const ONE: Entry = Entry::Is(1);
+const ONE: Option<u8> = Some(1);
 
 // The cell, and its closure with how many rows it covers and their sum.
-static CLOSURES: [([Entry; 3], [Entry; 3], u32, i64); 8] = [
+static CLOSURES: [(Codes, Codes, u32, i64); 8] = [
     ([ANY, ANY, ANY], [ANY, ANY, ANY], 3, 27),
     ([ZERO, ANY, ANY], [ZERO, ANY, ZERO], 2, 18),
     ([ANY, ZERO, ANY], [ANY, ZERO, ANY], 2, 15),
@@ -50,21 +50,21 @@ static CLOSURES: [([Entry; 3], [Entry; 3], u32, i64); 8] = [
 ];
 
 // Cells that cover no row.
-static WITHOUT_ROWS: [[Entry; 3]; 3] = [[ONE, ONE, ANY], [ANY, ONE, ONE], [Entry::Is(2), ANY, ANY]];
+static WITHOUT_ROWS: [Codes; 3] = [[ONE, ONE, ANY], [ANY, ONE, ONE], [Some(2), ANY, ANY]];
 
 // Whether a cell has this closure, and covers so many rows with this sum.
-fn is_closed(alloc: Global, asked: [Entry; 3], upper: [Entry; 3], count: u32, sum: i64) -> bool {
+fn is_closed(alloc: Global, asked: &Codes, upper: &Codes, count: u32, sum: i64) -> bool {
     let mut cell = cell(alloc, asked);
     let Some(total) = closed(&mut cell) else {
         return false;
     };
     let part = total.parts[0];
-    [cell.get(0), cell.get(1), cell.get(2)] == upper && total.count == count && part.sum == sum
+    is_cell(&cell, upper) && total.count == count && part.sum == sum
 }
 
 fn are_closed(alloc: Global) -> bool {
     'cells: for (asked, upper, count, sum) in &CLOSURES {
-        if !is_closed(alloc, *asked, *upper, *count, *sum) {
+        if !is_closed(alloc, asked, upper, *count, *sum) {
             return false;
         }
     }
@@ -74,7 +74,7 @@ fn are_closed(alloc: Global) -> bool {
 /// Whether cells have their closures and totals, and those without rows none.
 pub(crate) fn are_right(alloc: Global) -> bool {
     'cells: for asked in &WITHOUT_ROWS {
-        if closed(&mut cell(alloc, *asked)).is_some() {
+        if closed(&mut cell(alloc, asked)).is_some() {
             return false;
         }
     }

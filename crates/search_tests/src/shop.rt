@@ -2,7 +2,7 @@
 ghost use Rattle.std.specs.FinMap as map;
 ghost use Rattle.std.specs.Option.{option_map};
 ghost use Rattle.std.specs.Ordering.{eq_by_cmp, nat_cmp};
-ghost use Rattle.std.specs.Prelude.{All, IsSome, [], length, pos, slice_range, ◌+◌, ◌<◌, ◌≡◌, ◌≤◌, ◌∷◌};
+ghost use Rattle.std.specs.Prelude.{IsSome, [], length, pos, slice_range, ◌+◌, ◌<◌, ◌≡◌, ◌≤◌, ◌∷◌};
 ghost use Rattle.aggregates.specs.Views.{agg_in};
 ghost use Rattle.cell_core.specs.Entry.{IsSmall};
 ghost use Rattle.qc_arena.specs.Seen.{number, record_at};
@@ -216,15 +216,34 @@ fn agg(count: u32, sum: u32, least: u32, greatest: u32) -> Agg
     }
 }
 
-/// A cell with these entries.
-pub fn cell(alloc: Global, entries: [Entry; 3]) -> Cell
-    requires { All IsSmall entries }
+/// The code of a store, a product and a season, where there is one.
+pub type Codes = [Option<u8>; 3];
+
+/// The entry with a code, and Any without one.
+pub fn entry(code: Option<u8>) -> Entry
+    ensures { IsSmall result }
+{
+    match code {
+        Some(code) => Entry::Is(u32::from(code)),
+        None => Entry::Any,
+    }
+}
+
+/// A cell with these codes.
+pub fn cell(alloc: Global, codes: &Codes) -> Cell
     ensures { length result ≡ 3 }
 {
-    let [store, product, season] = entries;
     let mut cell = Cell::any(alloc, 3);
-    cell.set(0, store);
-    cell.set(1, product);
-    cell.set(2, season);
+    cell.set(0, entry(codes[0]));
+    cell.set(1, entry(codes[1]));
+    cell.set(2, entry(codes[2]));
     cell
+}
+
+/// Whether a cell has just these codes.
+pub fn is_cell(cell: &Cell, codes: &Codes) -> bool {
+    cell.dims() == 3
+        && cell.get(0) == entry(codes[0])
+        && cell.get(1) == entry(codes[1])
+        && cell.get(2) == entry(codes[2])
 }

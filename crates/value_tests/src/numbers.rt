@@ -190,13 +190,19 @@ fn are_three_rows_added() -> bool {
         && is_ratio_printed(&value_of(&agg, AggKind::Mean(0), 2), b"-17/10")
 }
 
-fn are_ordered() -> bool {
+fn is_order(text: &[u8], order: Ordering) -> bool {
     let agg = Agg::one(&[999_999_999_999]);
     let value = value_of(&agg, AggKind::Sum(0), 6);
+    match read_fraction(text) {
+        Some(f) => compare(&value, &f) == order,
+        None => false,
+    }
+}
+
+fn are_ordered() -> bool {
     'cases: for (text, order) in &ORDERS {
-        match read_fraction(*text) {
-            Some(f) if compare(&value, &f) == *order => {}
-            _ => return false,
+        if !is_order(*text, *order) {
+            return false;
         }
     }
     true

@@ -1,6 +1,6 @@
 //! Runs scripts of base files, batches and new dimensions over whole warehouses. After each step the tree is compared, record by
 //! record, with one that is built from scratch, and each node that the rows left after the deletions have too keeps its number.
-//! Beside them the worked tree, before-images, range queries, and which bytes are a snapshot.
+//! Some have the whole tree as a text. Beside them before-images, range queries, and which bytes are a snapshot.
 #![tactic(auto)]
 
 mod images;
@@ -9,8 +9,8 @@ mod ranges;
 mod shops;
 mod spellings;
 mod steps;
+mod tree_text;
 mod worked;
-mod worked_tree;
 
 use std::{fs, io};
 
@@ -45,7 +45,6 @@ fn main(rt: HostRuntime) -> io::Result<()> {
     print_scripts(&rt)?;
     print_ranges(&rt)?;
     print_case(&rt, "before-images", images::are_right(alloc))?;
-    print_case(&rt, "the worked tree", worked_tree::is_right(alloc))?;
     print_case(&rt, "numbers of the worked tree", worked::is_right(alloc))?;
     print_case(&rt, "snapshots", spellings::are_right(alloc)?)
 }

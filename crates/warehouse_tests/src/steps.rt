@@ -2,6 +2,7 @@
 ghost use Rattle.std.specs.Prelude.{◌<◌, ◌≡◌};
 
 use crate::shops::{File, base, batch, change, filled};
+use crate::tree_text::text_of;
 use cell_core::Steps;
 use std::alloc::Global;
 use std::marker::Brand;
@@ -20,7 +21,7 @@ struct Start<'a> {
     gone: &'a str,
 }
 
-// A command with its answer. Base files of the rows that stay, and of the rows after it; and the texts of two dimensions.
+// A command with its answer. Base files of the rows that stay, and of the rows after it; the texts of the dimensions; and the tree.
 #[derive(Clone, Copy)]
 struct Step<'a> {
     command: &'a str,
@@ -29,6 +30,7 @@ struct Step<'a> {
     between: Option<&'a str>,
     after: Option<&'a str>,
     texts: Option<&'a str>,
+    tree: Option<&'a str>,
 }
 
 fn read_start(text: &str) -> Option<Start<'_>> {
@@ -50,6 +52,7 @@ fn read_step(text: &str) -> Option<Step<'_>> {
         between: parts.next(),
         after: parts.next(),
         texts: parts.next(),
+        tree: parts.next(),
     })
 }
 
@@ -185,8 +188,29 @@ fn has_texts(shop: &Warehouse, texts: Option<&str>) -> bool {
     let Some(texts) = texts else {
         return true;
     };
-    let (first, second) = texts.split_once('\n').unwrap_or(("", ""));
-    has_line(shop, 0, first) && has_line(shop, 1, second)
+    let mut dim = 0u8;
+    'dims: for line in texts.lines() {
+        if !has_line(shop, dim, line) {
+            return false;
+        }
+        dim = dim.wrapping_add(1);
+    }
+    dim == shop.dict().dims()
+}
+
+fn has_tree<L: Ledger>(
+    alloc: Global,
+    shop: &Warehouse,
+    tree: Option<&str>,
+    steps: &mut Steps<L>,
+) -> bool {
+    let Some(tree) = tree else {
+        return true;
+    };
+    match text_of(alloc, shop, steps) {
+        Ok(text) => text.as_str() == tree,
+        Err(_) => false,
+    }
 }
 
 // Whether a step goes as it says.
@@ -204,6 +228,7 @@ fn goes<L: Ledger>(
         && keeps_numbers(alloc, start, shop, &before, step.between, steps)
         && has_rows(alloc, start, shop, step.after, steps)
         && has_texts(shop, step.texts)
+        && has_tree(alloc, shop, step.tree, steps)
 }
 
 fn all_go<L: Ledger>(

@@ -1,14 +1,24 @@
 // The worked tree: its cells are found under their numbers again.
-ghost use Rattle.std.specs.Prelude.{◌<◌, ◌≡◌};
+ghost use Rattle.std.specs.Prelude.{IfSome, length, ◌<◌, ◌≡◌};
 
 use crate::shops::{apply, base, filled};
-use crate::worked_tree::{BASE, MINUS, PLUS, SCHEMA, Texts, cell_of};
-use cell_core::{NodeNo, Steps};
+use cell_core::{Cell, Entry, NodeNo, Steps};
 use std::alloc::Global;
 use std::marker::Brand;
 use std::sync::ledger::{Blank, Ledger};
 use tree_search::find;
 use warehouse::Warehouse;
+
+const SCHEMA: &[u8] = b"qcube 1\nid id\ndim store\ndim product\ndim season\nmeasure sale 0\n";
+
+const BASE: &[u8] = b"id,store,product,season,sale\n1,S1,P1,s,6\n2,S1,P2,s,12\n3,S2,P1,f,9\n";
+
+const PLUS: &[u8] = b"op,id,store,product,season,sale\n+,4,S2,P2,f,3\n";
+
+const MINUS: &[u8] = b"op,id,store,product,season,sale\n-,4,,,,\n";
+
+// The texts of a cell; `*` stands for Any.
+type Texts = [&'static str; 3];
 
 // The cells of the nodes, with the place of the closure of each; `*` stands for Any.
 static NODES: [(Texts, usize); 11] = [
@@ -29,6 +39,24 @@ static NODES: [(Texts, usize); 11] = [
 const S2: usize = 8;
 
 type Numbers = [Option<NodeNo>; 11];
+
+// The cell with these texts, where all are known.
+fn cell_of(alloc: Global, shop: &Warehouse, texts: &Texts) -> Option<Cell>
+    ensures { IfSome result (λ cell. length cell ≡ length shop.now.state.schema.dims) }
+{
+    if shop.schema().dims() != 3 {
+        return None;
+    }
+    let mut cell = Cell::any(alloc, 3);
+    'dims: for dim in 0..3u8 {
+        let text = texts[usize::from(dim)];
+        if text != "*" {
+            let code = shop.dict().code(dim, text)?;
+            cell.set(dim, Entry::Is(code));
+        }
+    }
+    Some(cell)
+}
 
 // The number of a cell's closure.
 fn number_of<L: Ledger>(

@@ -1,5 +1,5 @@
 use Rattle.std.proofs.Common.{◌≡◌, length}
-use Rattle.warehouse_tests.proofs.worked_tree.cell_of.Given as goal
+use Rattle.warehouse_tests.proofs.tree_text.cell_of.Given as goal
 
 abbrev pub invariant-dims : goal.invariant-dims
 invariant-dims l = length l.cell ≡ 3
