@@ -7,3 +7,4 @@ mod Listed
 mod CodedFields
 pub mod PinNames
 mod AtNames
+mod Wanting

@@ -1,7 +1,7 @@
 use Rattle.std.proofs.Common.{◌≡◌, Ok}
 use Rattle.std.specs.Prelude.{Err, IfSome}
 use Rattle.std.proofs.lemmas.Result.{err_from_is_err_and}
-use Rattle.query_script.specs.Commands.{at_in, pin_name_in, query_in_line}
+use Rattle.query_script.specs.Commands.{pin_name_in, query_in_line}
 use Rattle.query_script.specs.Faults.{line_fault_in}
 use Rattle.query_script.specs.Lines.{rest_of, word_of}
 use Rattle.query_script.proofs.AtNames.{at-asks, at-unasked, at-unnamed}
