@@ -1,10 +1,11 @@
-use Rattle.std.proofs.Common.{ap, length, refl, subst, sym}
+use Rattle.std.proofs.Common.{Err, ap, length, map, refl, subst, sym, ◌∙◌, ◌≡◌}
+use Rattle.std.specs.Prelude.{IfSome}
 use Rattle.warehouse.proofs.Pinned.{taken-of, tree-after}
-use Rattle.warehouse.specs.Batch.{Apply}
+use Rattle.warehouse.specs.Batch.{Apply, result}
 use Rattle.warehouse.specs.InPlace.{LeavesApart, LeavesNumbers}
-use Rattle.warehouse.specs.State.{State}
-use Rattle.warehouse.specs.Stored.{applied_in}
-use Rattle.pinned_view.specs.Pins.{AreWithin}
+use Rattle.warehouse.specs.State.{Contents, State}
+use Rattle.warehouse.specs.Stored.{applied_in, refusal_in}
+use Rattle.pinned_view.specs.Pins.{AreWithin, version_in}
 use Rattle.pinned_view.specs.Versions.{Versions}
 use Rattle.pinned_view.proofs.Staying.{after_change, within_all}
 use Rattle.pinned_view.proofs.pinned.Pinned.apply.Goals as goal
@@ -40,3 +41,29 @@ returns-in-Ok-apply-clause-apart g c =
     let m = c.self.inside in
     subst (λ (v : Versions). LeavesApart v.now c.args.bytes.now c.last_images.new.self) c.self.view_is
     (subst (LeavesApart m.warehouse c.args.bytes.now) (sym c.last_images.ensures.rest) c.in-Ok-apply.ensures.apart)
+
+pub returns-in-Err-clause-pins : goal.returns-in-Err-clause-pins
+returns-in-Err-clause-pins g c = ap (λ (v : Versions). v.pins) c.self.view_is
+
+pub returns-in-Err-clause-err : goal.returns-in-Err-clause-err
+returns-in-Err-clause-err g c = c.self.view_is
+
+pub returns-in-Err-apply-clause-gives : goal.returns-in-Err-apply-clause-gives
+returns-in-Err-apply-clause-gives g c =
+    subst (λ (v : Versions). IfSome (refusal_in c.in-Err-apply.refused) (λ refusal. result v.now.state Apply c.args.bytes.now ≡ Err refusal)) c.self.view_is c.in-Err-apply.ensures.gives
+
+pub returns-in-Err-apply-clause-pins : goal.returns-in-Err-apply-clause-pins
+returns-in-Err-apply-clause-pins g c = ap (λ (v : Versions). v.pins) c.self.view_is
+
+pub returns-in-Err-apply-clause-err : goal.returns-in-Err-apply-clause-err
+returns-in-Err-apply-clause-err g c =
+    let said = c.in-Err-apply.ensures in
+    let images = said.no_images ∙ sym c.self.invariant.0.plain in
+    let same : c.apply.new.self ≡ c.self.inside.warehouse = λ j. let held : Contents = record { state = said.state j; tree = said.tree j; index = said.index j; images = images j } in held in
+    ap (λ (held : Contents). let v : Versions = record { now = held; pins = map version_in c.self.inside.pins.items } in v) same ∙ c.self.view_is
+
+pub returns-in-Ok-apply-clause-pins : goal.returns-in-Ok-apply-clause-pins
+returns-in-Ok-apply-clause-pins g c = ap (λ (v : Versions). v.pins) c.self.view_is
+
+pub returns-in-Ok-apply-clause-valid : goal.returns-in-Ok-apply-clause-valid
+returns-in-Ok-apply-clause-valid g c = c.last_images.ensures.valid

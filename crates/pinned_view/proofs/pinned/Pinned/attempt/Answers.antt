@@ -1,7 +1,29 @@
-use Rattle.std.proofs.Common.{OnOk, subst}
+use Rattle.std.proofs.Common.{OnOk, ap, map, subst, sym, ◌∙◌, ◌≡◌}
+use Rattle.cell_core.specs.Gives.{Gives}
+use Rattle.warehouse.specs.Batch.{Apply, result}
 use Rattle.warehouse.specs.InPlace.{IsWithinCost}
+use Rattle.warehouse.specs.State.{Contents, State}
+use Rattle.warehouse.specs.Stored.{applied_in, refusal_in}
+use Rattle.pinned_view.specs.Pins.{version_in}
 use Rattle.pinned_view.specs.Versions.{Versions}
 use Rattle.pinned_view.proofs.pinned.Pinned.attempt.Goals as goal
 
+pub returns-in-Err-clause-gives : goal.returns-in-Err-clause-gives
+returns-in-Err-clause-gives g c = (c.args.self.now.now.state, tt)
+
+pub returns-in-Err-clause-same : goal.returns-in-Err-clause-same
+returns-in-Err-clause-same g c = c.self.view_is
+
+pub returns-clause-gives : goal.returns-clause-gives
+returns-clause-gives g c =
+    subst (λ (v : Versions). (after : State) × Gives refusal_in (applied_in after) c.attempt.result (result v.now.state Apply c.args.bytes.now)) c.self.view_is c.attempt.ensures.gives
+
 pub returns-clause-steps : goal.returns-clause-steps
 returns-clause-steps g c = subst (λ (v : Versions). OnOk c.attempt.result (IsWithinCost v.now.state c.args.bytes.now c.args.steps.now c.attempt.new.steps)) c.self.view_is c.attempt.ensures.steps
+
+pub returns-clause-same : goal.returns-clause-same
+returns-clause-same g c =
+    let was = c.self.inside.warehouse in
+    let plain = c.self.invariant.0.plain in
+    let same : c.attempt.new.self ≡ was = c.attempt.ensures.same ∙ (λ j. let held : Contents = record { state = was.state; tree = was.tree; index = was.index; images = (sym plain) j } in held) in
+    ap (λ (held : Contents). let v : Versions = record { now = held; pins = map version_in c.self.inside.pins.items } in v) same ∙ c.self.view_is

@@ -1,9 +1,11 @@
-use Rattle.std.proofs.Common.{ap, length, refl, subst, sym}
+use Rattle.std.proofs.Common.{Err, ap, length, map, refl, subst, sym, ◌∙◌, ◌≡◌}
+use Rattle.std.specs.Prelude.{IfSome}
 use Rattle.warehouse.proofs.Pinned.{taken-of, tree-after}
-use Rattle.warehouse.specs.Batch.{Load}
-use Rattle.warehouse.specs.State.{State}
-use Rattle.warehouse.specs.Stored.{applied_in}
-use Rattle.pinned_view.specs.Pins.{AreWithin}
+use Rattle.warehouse.specs.Batch.{Load, result}
+use Rattle.warehouse.specs.State.{Contents, State}
+use Rattle.warehouse.specs.Stored.{applied_in, refusal_in}
+use Rattle.pinned_view.specs.Pins.{AreWithin, version_in}
+use Rattle.pinned_view.specs.Versions.{Versions}
 use Rattle.pinned_view.proofs.Staying.{after_change, within_all}
 use Rattle.pinned_view.proofs.pinned.Pinned.load.Goals as goal
 
@@ -25,3 +27,29 @@ invariant_of-self-in-Ok-load g c =
           (λ rows tree has. tree-after was now rows tree Load file applied has c.in-Ok-load.ensures.gives refl c.load.ensures.valid.state) c.self.invariant.0,
       c.self.invariant.1,
     )
+
+pub returns-in-Err-clause-pins : goal.returns-in-Err-clause-pins
+returns-in-Err-clause-pins g c = ap (λ (v : Versions). v.pins) c.self.view_is
+
+pub returns-in-Err-clause-err : goal.returns-in-Err-clause-err
+returns-in-Err-clause-err g c = c.self.view_is
+
+pub returns-in-Err-load-clause-gives : goal.returns-in-Err-load-clause-gives
+returns-in-Err-load-clause-gives g c =
+    subst (λ (v : Versions). IfSome (refusal_in c.in-Err-load.refused) (λ refusal. result v.now.state Load c.args.bytes.now ≡ Err refusal)) c.self.view_is c.in-Err-load.ensures.gives
+
+pub returns-in-Err-load-clause-pins : goal.returns-in-Err-load-clause-pins
+returns-in-Err-load-clause-pins g c = ap (λ (v : Versions). v.pins) c.self.view_is
+
+pub returns-in-Err-load-clause-err : goal.returns-in-Err-load-clause-err
+returns-in-Err-load-clause-err g c =
+    let said = c.in-Err-load.ensures in
+    let images = said.no_images ∙ sym c.self.invariant.0.plain in
+    let same : c.load.new.self ≡ c.self.inside.warehouse = λ j. let held : Contents = record { state = said.state j; tree = said.tree j; index = said.index j; images = images j } in held in
+    ap (λ (held : Contents). let v : Versions = record { now = held; pins = map version_in c.self.inside.pins.items } in v) same ∙ c.self.view_is
+
+pub returns-in-Ok-load-clause-pins : goal.returns-in-Ok-load-clause-pins
+returns-in-Ok-load-clause-pins g c = ap (λ (v : Versions). v.pins) c.self.view_is
+
+pub returns-in-Ok-load-clause-valid : goal.returns-in-Ok-load-clause-valid
+returns-in-Ok-load-clause-valid g c = c.last_images.ensures.valid
