@@ -1,7 +1,7 @@
 // Lower bounds of classes.
 ghost use Rattle.std.specs.Prelude.{length, ◌<◌, ◌≡◌};
 
-use crate::shop::{Codes, Shop, cell, is_cell};
+use crate::shop::{ANY, Codes, Shop, cell, is_cell};
 use cell_core::{Cell, Cells, Memory, Steps};
 use lower_bounds::lower_bounds;
 use qc_arena::Nodes;
@@ -33,25 +33,15 @@ fn lowers_of(alloc: Global, cell: &Cell) -> Result<Option<Cells>, Memory>
     lowers::<Brand>(alloc, cell, Blank::new(1))
 }
 
-const ANY: Option<u8> = None;
-
-const ZERO: Option<u8> = Some(0);
-
-const ONE: Option<u8> = Some(1);
-
 // A cell of the class, how many lower bounds the class has, and these.
 static CLASSES: [(Codes, u32, [Codes; 2]); 7] = [
     ([ANY, ANY, ANY], 1, [[ANY, ANY, ANY], [ANY, ANY, ANY]]),
-    ([ANY, ZERO, ANY], 1, [[ANY, ZERO, ANY], [ANY, ANY, ANY]]),
-    ([ZERO, ANY, ZERO], 2, [[ANY, ANY, ZERO], [ZERO, ANY, ANY]]),
-    ([ZERO, ANY, ANY], 2, [[ANY, ANY, ZERO], [ZERO, ANY, ANY]]),
-    (
-        [ZERO, ZERO, ZERO],
-        2,
-        [[ANY, ZERO, ZERO], [ZERO, ZERO, ANY]],
-    ),
-    ([ZERO, ONE, ZERO], 1, [[ANY, ONE, ANY], [ANY, ANY, ANY]]),
-    ([ONE, ZERO, ONE], 2, [[ANY, ANY, ONE], [ONE, ANY, ANY]]),
+    ([ANY, 0, ANY], 1, [[ANY, 0, ANY], [ANY, ANY, ANY]]),
+    ([0, ANY, 0], 2, [[ANY, ANY, 0], [0, ANY, ANY]]),
+    ([0, ANY, ANY], 2, [[ANY, ANY, 0], [0, ANY, ANY]]),
+    ([0, 0, 0], 2, [[ANY, 0, 0], [0, 0, ANY]]),
+    ([0, 1, 0], 1, [[ANY, 1, ANY], [ANY, ANY, ANY]]),
+    ([1, 0, 1], 2, [[ANY, ANY, 1], [1, ANY, ANY]]),
 ];
 
 // Whether these are the first of the expected bounds.
@@ -82,5 +72,5 @@ pub(crate) fn are_right(alloc: Global) -> bool {
             return false;
         }
     }
-    matches!(lowers_of(alloc, &cell(alloc, &[ONE, ONE, ANY])), Ok(None))
+    matches!(lowers_of(alloc, &cell(alloc, &[1, 1, ANY])), Ok(None))
 }

@@ -1,7 +1,7 @@
 // Closures of cells, and what the rows come to that they cover.
 ghost use Rattle.std.specs.Prelude.{length, ◌<◌, ◌≡◌};
 
-use crate::shop::{Codes, Shop, cell, is_cell};
+use crate::shop::{ANY, Codes, Shop, cell, is_cell};
 use aggregates::Agg;
 use cell_core::{Cell, Steps};
 use std::alloc::Global;
@@ -31,26 +31,20 @@ fn closed(cell: &mut Cell) -> Option<Agg>
     close::<Brand>(cell, Blank::new(1))
 }
 
-const ANY: Option<u8> = None;
-
-const ZERO: Option<u8> = Some(0);
-
-const ONE: Option<u8> = Some(1);
-
 // The cell, and its closure with how many rows it covers and their sum.
 static CLOSURES: [(Codes, Codes, u32, i64); 8] = [
     ([ANY, ANY, ANY], [ANY, ANY, ANY], 3, 27),
-    ([ZERO, ANY, ANY], [ZERO, ANY, ZERO], 2, 18),
-    ([ANY, ZERO, ANY], [ANY, ZERO, ANY], 2, 15),
-    ([ANY, ONE, ANY], [ZERO, ONE, ZERO], 1, 12),
-    ([ANY, ANY, ONE], [ONE, ZERO, ONE], 1, 9),
-    ([ONE, ANY, ANY], [ONE, ZERO, ONE], 1, 9),
-    ([ZERO, ZERO, ANY], [ZERO, ZERO, ZERO], 1, 6),
-    ([ANY, ANY, ZERO], [ZERO, ANY, ZERO], 2, 18),
+    ([0, ANY, ANY], [0, ANY, 0], 2, 18),
+    ([ANY, 0, ANY], [ANY, 0, ANY], 2, 15),
+    ([ANY, 1, ANY], [0, 1, 0], 1, 12),
+    ([ANY, ANY, 1], [1, 0, 1], 1, 9),
+    ([1, ANY, ANY], [1, 0, 1], 1, 9),
+    ([0, 0, ANY], [0, 0, 0], 1, 6),
+    ([ANY, ANY, 0], [0, ANY, 0], 2, 18),
 ];
 
 // Cells that cover no row.
-static WITHOUT_ROWS: [Codes; 3] = [[ONE, ONE, ANY], [ANY, ONE, ONE], [Some(2), ANY, ANY]];
+static WITHOUT_ROWS: [Codes; 3] = [[1, 1, ANY], [ANY, 1, 1], [2, ANY, ANY]];
 
 // Whether a cell has this closure, and covers so many rows with this sum.
 fn is_closed(alloc: Global, asked: &Codes, upper: &Codes, count: u32, sum: i64) -> bool {

@@ -216,16 +216,19 @@ fn agg(count: u32, sum: u32, least: u32, greatest: u32) -> Agg
     }
 }
 
-/// The code of a store, a product and a season, where there is one.
-pub type Codes = [Option<u8>; 3];
+/// The codes of a store, a product and a season, or [`ANY`].
+pub type Codes = [u8; 3];
 
-/// The entry with a code, and Any without one.
-pub fn entry(code: Option<u8>) -> Entry
+/// In place of a code.
+pub const ANY: u8 = 9;
+
+fn entry(code: u8) -> Entry
     ensures { IsSmall result }
 {
-    match code {
-        Some(code) => Entry::Is(u32::from(code)),
-        None => Entry::Any,
+    if code == ANY {
+        Entry::Any
+    } else {
+        Entry::Is(u32::from(code))
     }
 }
 
