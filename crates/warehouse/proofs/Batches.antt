@@ -12,7 +12,7 @@ use Rattle.qc_arena.specs.Map.{Arena, is_open, shape_of}
 use Rattle.qc_schema.specs.Schema.{Layout}
 use Rattle.tree_laws.proofs.Lists.{some_same}
 use Rattle.tree_laws.specs.Counts.{classes_in}
-use Rattle.value_dict.specs.TextLists.{IsDictionary, TextLists}
+use Rattle.value_dict.specs.TextLists.{TextLists}
 use Rattle.value_dict.specs.Told.{RowsAreCodes, decoded_row}
 use Rattle.warehouse.specs.Batch.{after, refusal_of, result_of, rows_after, texts_after}
 use Rattle.warehouse.specs.Changing.{AreAsBefore, AreMade, AreParts, IsCommitted, IsInPlace, IsOpened, IsTakenBack, LeavesFrames}

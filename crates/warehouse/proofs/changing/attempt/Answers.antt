@@ -1,4 +1,4 @@
-use Rattle.std.proofs.Common.{◌≤◌, ◌+◌, ◌∙◌, ◌≡◌, ℕ, ap, refl, subst, take}
+use Rattle.std.proofs.Common.{◌≤◌, ◌+◌, ◌∙◌, ℕ, ap, refl, subst, take}
 use Rattle.base_table.specs.Places.{Places}
 use Rattle.warehouse.specs.Batch.{after}
 use Rattle.warehouse.specs.InPlace.{cost_in}

@@ -1,13 +1,12 @@
-use Rattle.std.proofs.Common.{◌≡◌, ◌∙◌, ℕ, List, Option, ap, length, map, subst, sym, take}
+use Rattle.std.proofs.Common.{◌∙◌, ℕ, List, Option, ap, subst, sym, take}
 use Rattle.std.specs.Prelude.{IfSome}
-use Rattle.cube_defs.specs.Text.{Text}
 use Rattle.cube_defs.specs.Tree.{Tree}
 use Rattle.base_table.specs.Places.{Places, rows_of}
 use Rattle.measure_index.specs.Rankings.{Ranking}
 use Rattle.qc_arena.specs.Codes.{Shape}
 use Rattle.qc_arena.specs.Map.{Arena}
 use Rattle.warehouse.specs.Changing.{AreAsBefore}
-use Rattle.warehouse.specs.State.{Contents, IsIndexed, State}
+use Rattle.warehouse.specs.State.{Contents, IsIndexed}
 use Rattle.warehouse.specs.Steps.{IsCause}
 use Rattle.warehouse.specs.Stored.{IsTreeOfSome, refusal_in, state_of}
 use Rattle.warehouse.proofs.Batches.{kept-gives, kept-in-place, kept-parts, taken-back}

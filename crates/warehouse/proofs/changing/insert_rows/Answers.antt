@@ -5,7 +5,7 @@ use Rattle.cube_defs.specs.Rows.{Row}
 use Rattle.cube_defs.specs.Text.{Text}
 use Rattle.value_dict.specs.TextLists.{TextLists}
 use Rattle.warehouse.specs.Batch.{texts_after, with_tuple}
-use Rattle.warehouse.specs.Steps.{IsOver, frame}
+use Rattle.warehouse.specs.Steps.{IsOver}
 use Rattle.warehouse.specs.Stored.{decoded_rows}
 use Rattle.warehouse.proofs.Changes.{deletion-keeps, inserted-more, tuple_of}
 use Rattle.warehouse.proofs.Inserting.{adds-adds, new-row, room-row}

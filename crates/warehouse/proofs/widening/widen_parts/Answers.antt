@@ -1,13 +1,12 @@
-use Rattle.std.proofs.Common.{◌≡◌, ◌≤◌, ◌+◌, ◌∙◌, ℕ, List, [], Some, ap, is_some, map, subst, sym}
+use Rattle.std.proofs.Common.{◌≡◌, ◌≤◌, ◌+◌, ◌∙◌, ℕ, List, [], ap, is_some, map, subst, sym}
 use Rattle.std.specs.FinMap as finmap
 use Rattle.base_table.specs.Places.{Base, Places, base_of, rows_of, widened, with_code}
 use Rattle.cube_defs.specs.Rows.{Row}
 use Rattle.cube_defs.specs.Tree.{Tree}
-use Rattle.qc_arena.specs.Codes.{Shape}
-use Rattle.qc_arena.specs.Map.{Arena, is_open, shape_of}
+use Rattle.qc_arena.specs.Map.{Arena, is_open}
 use Rattle.tree_laws.proofs.Lists.{some_same}
 use Rattle.tree_search.specs.Found.{IsTreeOf}
-use Rattle.value_dict.specs.TextLists.{TextLists, without_last_dim}
+use Rattle.value_dict.specs.TextLists.{without_last_dim}
 use Rattle.value_dict.proofs.Dictionaries.{came_and_gone}
 use Rattle.warehouse.specs.Steps.{closed, frame}
 use Rattle.warehouse.specs.Widening.{KeepsWidened}
