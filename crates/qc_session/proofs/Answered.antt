@@ -22,3 +22,7 @@ for_told (Some t) P h = h t
 pub point-is : (s : PinnedState) (line : List ℕ) (number : ℕ) (reply : List ℕ) → (asked : List Field) × (command_in s.state.schema line ≡ Ok (Point asked)) × (reply ≡ pointed s.state number (cell_asked asked))
     → (told : Told) → answer s told number line ≡ Some (keeps s reply)
 point-is s line number reply (asked, command, e) told = rw (command, e) refl
+
+-- a reply beside a state that stays
+pub kept : (s : PinnedState) (text reply : List ℕ) → reply ≡ text → Some (keeps s text) ≡ Some (record { state = s; reply = reply })
+kept s text reply e = rw e refl

@@ -18,3 +18,5 @@ mod Statuses
 mod Ran
 mod Taken
 mod Widened
+mod Started
+mod Stopped

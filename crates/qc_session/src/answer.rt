@@ -118,34 +118,41 @@ fn change<L: Ledger>(
     }
 }
 
+// The file that a line names, and what for.
+#[derive(Drop)]
+struct FileLine {
+    kind: FileUse,
+    name: Text,
+}
+
 // Takes the file of a name.
 fn answer_file<F: Files, L: Ledger>(
     alloc: Global,
     files: &mut F,
     pinned: &mut Pinned,
     number: u32,
-    kind: FileUse,
-    name: Text,
+    line: FileLine,
     steps: &mut Steps<L>,
 ) -> Result<Reply, LineStop>
     ensures later { F.faults files.old ≤ F.faults files.new }
     ensures told { F.told files.new ≡ F.told files.old }
     ensures steady { IsTrue (F.steady files.old) → IsTrue (F.steady files.new) }
     ensures same { OnErr result (pinned.new ≡ pinned.old) }
-    ensures fault { IfErr result (λ stop. MatchLineStop stop ⊤ (λ file. (file ≡ name) × Rose (F.faults files.old) (F.faults files.new))) }
+    ensures fault { IfErr result (λ stop. MatchLineStop stop ⊤ (λ file. (file ≡ line.name) × Rose (F.faults files.old) (F.faults files.new))) }
     ensures untold { IfErr result (λ stop. MatchLineStop stop ⊤ (λ file. IsTrue (F.steady files.old) → IfSome (F.told files.old) (λ t. t file ≡ None))) }
     ensures answered { IfOk result (λ reply. IfSome (F.told files.old)
-        (λ t. option_map (λ bytes. beside (held_in pinned.old) (leaving kind pinned.old.now.state
-        (file_answer pinned.old.now.state number (kind_in kind) bytes))) (t name)
+        (λ t. option_map (λ bytes. beside (held_in pinned.old) (leaving line.kind pinned.old.now.state
+        (file_answer pinned.old.now.state number (kind_in line.kind) bytes))) (t line.name)
         ≡ Some (record { state = held_in pinned.new; reply = reply_bytes reply }))) }
-    ensures tried { kind ≡ FileUse.Try → pinned.new ≡ pinned.old }
-    ensures numbers { IfSome (F.told files.old) (λ t. IfSome (t name)
-        (λ bytes. kind ≡ FileUse.Apply → LeavesNumbers pinned.old.now bytes pinned.new.now)) }
-    ensures apart { IfSome (F.told files.old) (λ t. IfSome (t name) (λ bytes. kind ≡ FileUse.Apply → LeavesApart pinned.old.now bytes pinned.new.now)) }
+    ensures tried { line.kind ≡ FileUse.Try → pinned.new ≡ pinned.old }
+    ensures numbers { IfSome (F.told files.old) (λ t. IfSome (t line.name)
+        (λ bytes. line.kind ≡ FileUse.Apply → LeavesNumbers pinned.old.now bytes pinned.new.now)) }
+    ensures apart { IfSome (F.told files.old) (λ t. IfSome (t line.name) (λ bytes. line.kind ≡ FileUse.Apply → LeavesApart pinned.old.now bytes pinned.new.now)) }
     ensures steps { OnOk result (IfSome (F.told files.old)
-        (λ t. IfSome (t name) (λ bytes. kind_in kind ≡ batches.Apply → IsTaken pinned.old.now.state bytes →
+        (λ t. IfSome (t line.name) (λ bytes. kind_in line.kind ≡ batches.Apply → IsTaken pinned.old.now.state bytes →
         IsWithinCost pinned.old.now.state bytes steps.old steps.new))) }
 {
+    let FileLine { kind, name } = line;
     match read_all(alloc, files, name.as_str(), MAX_FILE) {
         Ok(bytes) => match change(pinned, number, kind, &bytes, steps) {
             Ok(reply) => Ok(Reply::Short(reply)),
@@ -231,9 +238,18 @@ fn answer_command<F: Files, L: Ledger>(
         (λ t. answer_to (held_in pinned.old) t number (Ok (question_in command)) ≡ Some (record { state = held_in pinned.new; reply = reply_bytes reply }))) }
 {
     match command {
-        Command::Load(name) => answer_file(alloc, files, pinned, number, Load, name, steps),
-        Command::Apply(name) => answer_file(alloc, files, pinned, number, Apply, name, steps),
-        Command::Try(name) => answer_file(alloc, files, pinned, number, Try, name, steps),
+        Command::Load(name) => {
+            let line = FileLine { kind: Load, name };
+            answer_file(alloc, files, pinned, number, line, steps)
+        }
+        Command::Apply(name) => {
+            let line = FileLine { kind: Apply, name };
+            answer_file(alloc, files, pinned, number, line, steps)
+        }
+        Command::Try(name) => {
+            let line = FileLine { kind: Try, name };
+            answer_file(alloc, files, pinned, number, line, steps)
+        }
         other => match answer_held(alloc, pinned, number, other, steps) {
             Ok(reply) => Ok(reply),
             Err(_) => Err(LineStop::Memory),

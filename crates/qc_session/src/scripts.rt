@@ -14,9 +14,9 @@ use crate::failure::{Failure, tell};
 use crate::quiet::{QuietStop, take_quietly};
 use crate::session::{Session, Stop, begin, take_lines};
 use crate::words::{Form, Names, Source, read_words};
-use cell_core::Steps;
+use cell_core::{HashKeys, Steps};
 use cube_defs::MAX_FILE;
-use cube_snapshot::{DecodeRefused, EncodeRefused, decode, encode};
+use cube_snapshot::{DecodeRefused, EncodeRefused, decode_with_keys, encode};
 use generated_run::generate;
 use qc_io::{Files, ReadRefused, Sink, read_all, write_all};
 use qc_schema::read_schema;
@@ -82,6 +82,7 @@ fn read_named<'a, F: Files>(
 // The state that the bytes of the first file give.
 fn start_of<'a, L: Ledger>(
     alloc: Global,
+    keys: HashKeys,
     source: Source,
     bytes: &[u8],
     steps: &mut Steps<L>,
@@ -96,12 +97,12 @@ fn start_of<'a, L: Ledger>(
                 Ok(schema) => schema,
                 Err(refused) => return Err(Failure::NoSchema(refused)),
             };
-            match Warehouse::new(alloc, schema) {
+            match Warehouse::with_keys(alloc, keys, schema) {
                 Ok(warehouse) => Ok(warehouse),
                 Err(_) => Err(Failure::OutOfMemory),
             }
         }
-        Source::FromSnapshot => match decode(alloc, bytes, steps) {
+        Source::FromSnapshot => match decode_with_keys(alloc, keys, bytes, steps) {
             Ok(warehouse) => Ok(warehouse),
             Err(DecodeRefused::Memory) => Err(Failure::OutOfMemory),
             Err(DecodeRefused::Form | DecodeRefused::NodesFull) => Err(Failure::NoSnapshot),
@@ -112,6 +113,7 @@ fn start_of<'a, L: Ledger>(
 // Reads the state at which a run starts, with one count of steps under the blank's name.
 fn read_start<'a, F: Files, L: Ledger>(
     alloc: Global,
+    keys: HashKeys,
     files: &mut F,
     names: Names<'a>,
     blank: Blank,
@@ -127,7 +129,7 @@ fn read_start<'a, F: Files, L: Ledger>(
 {
     let mut steps = Steps::<L>::start(blank);
     match read_named(alloc, files, names.first) {
-        Ok(bytes) => start_of(alloc, names.source, &bytes, &mut steps),
+        Ok(bytes) => start_of(alloc, keys, names.source, &bytes, &mut steps),
         Err(failure) => Err(failure),
     }
 }
@@ -166,6 +168,7 @@ fn read_behind<'a, F: Files>(
 // Reads the first file and then the script, with one count of steps under the blank's name.
 fn read_files<'a, F: Files, L: Ledger>(
     alloc: Global,
+    keys: HashKeys,
     files: &mut F,
     names: Names<'a>,
     blank: Blank,
@@ -182,7 +185,7 @@ fn read_files<'a, F: Files, L: Ledger>(
     ensures err { IfErr result (λ f. NotBegun (F.told files.old) (names_in names.entry) (Rose (F.faults files.old) (F.faults files.new))
         (IsTrue (F.steady files.old)) (cause_of f)) }
 {
-    match read_start::<F, L>(alloc, files, names, blank) {
+    match read_start::<F, L>(alloc, keys, files, names, blank) {
         Ok(start) => read_behind(alloc, files, start, names.script),
         Err(failure) => Err(failure),
     }
@@ -384,6 +387,7 @@ fn pack_script<F: Files, O: Sink, E: Sink, L: Ledger>(
 // Reads a schema and a script, and writes the snapshot of the state after the script's lines.
 fn pack_files<F: Files, O: Sink, E: Sink>(
     alloc: Global,
+    keys: HashKeys,
     files: &mut F,
     out: &mut O,
     err: &mut E,
@@ -396,7 +400,7 @@ fn pack_files<F: Files, O: Sink, E: Sink>(
         (err.new ≡ err.old) result }
     ensures hands { HandsBack result }
 {
-    match read_files::<F, Brand>(alloc, files, names, Blank::new(1)) {
+    match read_files::<F, Brand>(alloc, keys, files, names, Blank::new(1)) {
         Ok(loaded) => {
             pack_script::<F, O, E, Brand>(alloc, files, out, err, loaded, Blank::new(1))
         }
@@ -407,6 +411,7 @@ fn pack_files<F: Files, O: Sink, E: Sink>(
 // Reads the first file and a script, and carries out the script's lines.
 fn run_files<F: Files, O: Sink, E: Sink>(
     alloc: Global,
+    keys: HashKeys,
     files: &mut F,
     out: &mut O,
     err: &mut E,
@@ -419,15 +424,16 @@ fn run_files<F: Files, O: Sink, E: Sink>(
         (err.new ≡ err.old) result }
     ensures hands { HandsBack result }
 {
-    match read_files::<F, Brand>(alloc, files, names, Blank::new(1)) {
+    match read_files::<F, Brand>(alloc, keys, files, names, Blank::new(1)) {
         Ok(loaded) => run_script::<F, O, E, Brand>(alloc, files, out, err, loaded, Blank::new(1)),
         Err(failure) => fail(alloc, err, &failure),
     }
 }
 
-// Runs the form of the words.
-fn run_form<F: Files, O: Sink, E: Sink>(
+/// Does what `run` does. What the files bring is hashed under these keys, which change no answer.
+pub fn run_with_keys<F: Files, O: Sink, E: Sink>(
     alloc: Global,
+    keys: HashKeys,
     words: &[String],
     files: &mut F,
     out: &mut O,
@@ -440,8 +446,8 @@ fn run_form<F: Files, O: Sink, E: Sink>(
         (files.new ≡ files.old) (out.new ≡ out.old) (err.new ≡ err.old) result }
 {
     match read_words(words) {
-        Form::Run(names) => run_files(alloc, files, out, err, names),
-        Form::Pack(names) => pack_files(alloc, files, out, err, names),
+        Form::Run(names) => run_files(alloc, keys, files, out, err, names),
+        Form::Pack(names) => pack_files(alloc, keys, files, out, err, names),
         Form::Gen(rows, seed) => {
             run_generated::<O, E, Brand>(alloc, out, err, rows, seed, Blank::new(1))
         }
@@ -557,5 +563,5 @@ pub fn run<F: Files, O: Sink, E: Sink>(
     ensures gen_front { result.status ≡ 4 → IfGen (form_of words.now) (λ drawing. (n : ℕ)
         × (O.taken out.new ≡ taking (take n (generated_record drawing.rows drawing.seed)) (O.taken out.old))) }
 {
-    run_form(alloc, words, files, out, err)
+    run_with_keys(alloc, HashKeys::fixed(), words, files, out, err)
 }

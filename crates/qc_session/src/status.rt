@@ -7,14 +7,16 @@ ghost use Rattle.qc_session.specs.Packs.{IsPackRefused, IsPackUnrefused, Packed}
 ghost use Rattle.qc_session.specs.Runs.{AllTold, Cause, Finished, IsRefused, IsStatus, IsUnrefused};
 ghost use Rattle.warehouse.specs.State.{State};
 
-use crate::scripts::run;
+use crate::scripts::run_with_keys;
+use cell_core::HashKeys;
 use qc_io::{Files, Sink};
 use std::alloc::Global;
 
-/// Runs as `run` does, and drops all but the status. What `run` says of the lines that ran out of
-/// memory, and of the state at the end, is said here of some such lines and some state.
+/// Runs as `run_with_keys` does, and drops all but the status. What that says of the lines that ran
+/// out of memory, and of the state at the end, is said here of some such lines and some state.
 pub fn run_to_status<F: Files, O: Sink, E: Sink>(
     alloc: Global,
+    keys: HashKeys,
     words: &[String],
     files: &mut F,
     out: &mut O,
@@ -50,7 +52,7 @@ pub fn run_to_status<F: Files, O: Sink, E: Sink>(
         → (Rose (F.faults files.old) (F.faults files.new) → ⊥) → (Rose (O.faults out.old) (O.faults out.new) → ⊥)
         → (result ≡ 0) ⊎ (result ≡ 5))) }
 {
-    let outcome = run(alloc, words, files, out, err);
+    let outcome = run_with_keys(alloc, keys, words, files, out, err);
     let status = outcome.status;
     drop(outcome);
     status

@@ -2,6 +2,7 @@
 //! and exits with the run's status.
 #![tactic(auto)]
 
+use cell_core::HashKeys;
 use qc_io::{RealFiles, RealSink};
 use qc_session::run_to_status;
 use std::alloc::AllocError;
@@ -25,6 +26,15 @@ fn words_of(rt: &HostRuntime) -> Result<Vec<String>, AllocError> {
     Ok(words)
 }
 
+// The hash keys of this run. No answer depends on them, so a system without random bytes gives the
+// fixed ones.
+fn keys_of(rt: &HostRuntime) -> HashKeys {
+    match HashKeys::draw(rt) {
+        Ok(keys) => keys,
+        Err(_) => HashKeys::fixed(),
+    }
+}
+
 fn main(rt: HostRuntime) -> ExitCode {
     let Ok(words) = words_of(&rt) else {
         return ExitCode::from(OUT_OF_MEMORY);
@@ -32,5 +42,6 @@ fn main(rt: HostRuntime) -> ExitCode {
     let mut files = RealFiles::new(&rt);
     let mut out = RealSink::new(rt.stdout());
     let mut err = RealSink::new(rt.stderr());
-    ExitCode::from(run_to_status(rt.alloc(), &words, &mut files, &mut out, &mut err))
+    let keys = keys_of(&rt);
+    ExitCode::from(run_to_status(rt.alloc(), keys, &words, &mut files, &mut out, &mut err))
 }

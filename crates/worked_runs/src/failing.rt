@@ -2,6 +2,7 @@
 ghost use Rattle.std.specs.Prelude.{IfOk, None, ◌≡◌};
 
 use crate::runs::{Ran, run_over, run_words, sink, words_of};
+use cell_core::HashKeys;
 use qc_io::{MemoryFiles, SureFiles, SureSink};
 use std::alloc::{AllocError, Global};
 
@@ -71,7 +72,7 @@ fn run_failing(
     let mut files = files_of(alloc, calls, &READS)?;
     let out = sink(alloc, out, 1, 1000)?;
     let err = sink(alloc, err, 1, 1000)?;
-    Ok(run_over(alloc, &words, &mut files, out, err))
+    Ok(run_over(alloc, HashKeys::fixed(), &words, &mut files, out, err))
 }
 
 // The file that is read at a call: it is opened, each of its bytes is read, and then its end.
@@ -105,7 +106,7 @@ pub fn stops_at_each_call(alloc: Global) -> Result<bool, AllocError> {
     Ok(true)
 }
 
-// Whether the run ends behind as many bytes of its transcript as are written before the write that fails.
+// Whether the run ends after as many bytes of its transcript as are written before the write that fails.
 fn stops_at_write(alloc: Global, transcript: &[u8], write: usize) -> Result<bool, AllocError> {
     let ran = run_failing(alloc, &RUN, &[], &[write as u64], &[])?;
     if write < transcript.len() {
@@ -144,6 +145,13 @@ pub fn never_fails(alloc: Global) -> Result<bool, AllocError> {
     let words = words_of(alloc, &RUN)?;
     let mut files = sure_files(alloc, &READS)?;
     let (mut out, mut err) = (SureSink::new(), SureSink::new());
-    let ended = run_words(alloc, &words, &mut files, &mut out, &mut err);
+    let ended = run_words(
+        alloc,
+        HashKeys::fixed(),
+        &words,
+        &mut files,
+        &mut out,
+        &mut err,
+    );
     Ok(ended.status == 0 && ended.skipped == 0)
 }

@@ -1,5 +1,6 @@
 // The files of some folders that are too long to be kept: as many values as a range may have cells, with the reply that has them
-// all, and half a million rows of one dimension, with as many points and their replies.
+// all; half a million rows of one dimension, with as many points and their replies; and values that share their hash if it has no
+// keys.
 
 use std::alloc::{AllocError, Global};
 use std::{fs, io};
@@ -17,6 +18,9 @@ enum Line {
     Point,
     /// The reply to the point.
     Reply,
+    /// A row whose value has the same hash as the others under the kit's default hasher: after the first 24 bytes its state is 0,
+    /// and the next 8 don't change it.
+    OneHash,
 }
 
 // A file: its first lines, the numbers of those in its middle, and its last lines.
@@ -30,7 +34,7 @@ struct Long {
 }
 
 // In the second folder each value stands in 500 rows. The root and the values are the nodes, and each is a class.
-static FILES: [Long; 5] = [
+static FILES: [Long; 6] = [
     Long {
         path: "runs/as-many-cells-as-a-range-answers/base.csv",
         first: "id,v\n",
@@ -71,6 +75,15 @@ static FILES: [Long; 5] = [
         to: 500_001,
         last: "stats,500002,500000,1001,1001,1000,0\n",
     },
+    // A load that hashed these without keys would take some minutes.
+    Long {
+        path: "runs/texts-of-one-hash/base.csv",
+        first: "id,v\n",
+        line: Line::OneHash,
+        from: 1,
+        to: 200_000,
+        last: "",
+    },
 ];
 
 fn line_of(alloc: Global, line: Line, k: u32) -> Result<String, AllocError> {
@@ -81,6 +94,9 @@ fn line_of(alloc: Global, line: Line, k: u32) -> Result<String, AllocError> {
         Line::ShortRow => format!(in alloc; "{k},v{short:03}\n"),
         Line::Point => format!(in alloc; "point v{short:03}\n"),
         Line::Reply => format!(in alloc; "point,{k},v{short:03},500\n"),
+        Line::OneHash => {
+            format!(in alloc; "{k},mkgxarrvlzqyfacdcacSq50N{k:08}zzzzzzzzzzzzzzzz\n")
+        }
     }
 }
 

@@ -1,7 +1,8 @@
 // Runs, and how they ended.
 
+use cell_core::HashKeys;
 use qc_io::{Files, MemorySink, Sink};
-use qc_session::run;
+use qc_session::run_with_keys;
 use std::alloc::{AllocError, Global};
 
 /// How a run ended: its status, how many lines were skipped, and whether it left a warehouse.
@@ -21,15 +22,16 @@ pub fn words_of(alloc: Global, texts: &[&str]) -> Result<Vec<String>, AllocError
     Ok(words)
 }
 
-/// Runs with these words over these files and sinks.
+/// Runs under these hash keys, with these words, over these files and sinks.
 pub fn run_words<F: Files, O: Sink, E: Sink>(
     alloc: Global,
+    keys: HashKeys,
     words: &[String],
     files: &mut F,
     out: &mut O,
     err: &mut E,
 ) -> Ended {
-    let outcome = run(alloc, words, files, out, err);
+    let outcome = run_with_keys(alloc, keys, words, files, out, err);
     let ended = Ended {
         status: outcome.status,
         skipped: outcome.skipped.len(),
@@ -69,14 +71,15 @@ impl Ran {
     }
 }
 
-/// Runs with these words over these files and sinks.
+/// Runs under these hash keys, with these words, over these files and sinks.
 pub fn run_over<F: Files>(
     alloc: Global,
+    keys: HashKeys,
     words: &[String],
     files: &mut F,
     mut out: MemorySink,
     mut err: MemorySink,
 ) -> Ran {
-    let ended = run_words(alloc, words, files, &mut out, &mut err);
+    let ended = run_words(alloc, keys, words, files, &mut out, &mut err);
     Ran { ended, out, err }
 }

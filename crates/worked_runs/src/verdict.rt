@@ -4,6 +4,7 @@ use crate::expected::Expected;
 use crate::folder_files::FolderFiles;
 use crate::runs::{Ended, Ran, run_over, sink};
 use crate::spoken::Spoken;
+use cell_core::HashKeys;
 use std::alloc::{AllocError, Global};
 use std::io;
 
@@ -65,24 +66,31 @@ fn said_of(alloc: Global, ran: &Ran, expected: &Expected) -> Result<String, Allo
     said_of_end(alloc, ran.ended, expected)
 }
 
-// Runs in a folder, and says whether that is as expected, or what isn't.
-fn run_in(rt: &HostRuntime, folder: &str, expected: &Expected) -> Result<String, AllocError> {
+// Runs in a folder under hash keys, and says whether that is as expected, or what isn't.
+fn run_in(
+    rt: &HostRuntime,
+    keys: HashKeys,
+    folder: &str,
+    expected: &Expected,
+) -> Result<String, AllocError> {
     let alloc = rt.alloc();
     let mut files = FolderFiles::new(rt, alloc, folder, &expected.padded);
     let room = expected.room.unwrap_or(room_for(&expected.out));
     let out = sink(alloc, &[], 4096, room)?;
     let err = sink(alloc, &[], 4096, room_for(&expected.err))?;
-    let ran = run_over(alloc, &expected.words, &mut files, out, err);
+    let ran = run_over(alloc, keys, &expected.words, &mut files, out, err);
     let said = said_of(alloc, &ran, expected);
     drop(ran);
     said
 }
 
-/// Runs `qcube` in a folder of `runs`, and gathers what it is to write. Says whether that is as expected, or what isn't.
+/// Runs `qcube` in a folder of `runs`, under hash keys that are drawn for it, and gathers what it is to write. Says whether that is
+/// as expected, or what isn't.
 pub fn judge(rt: &HostRuntime, name: &str, spoken: &mut Spoken) -> io::Result<String> {
     let folder = format!(in rt.alloc(); "runs/{name}")?;
     let expected = Expected::read(rt, folder.as_str())?;
     spoken.push(&expected.out, &expected.err)?;
-    let said = run_in(rt, folder.as_str(), &expected)?;
+    let keys = HashKeys::draw(rt)?;
+    let said = run_in(rt, keys, folder.as_str(), &expected)?;
     Ok(said)
 }

@@ -1,5 +1,8 @@
+use Rattle.std.proofs.Common.{refl}
+use Rattle.qc_io.specs.Outside.{Rose}
 use Rattle.qc_session.proofs.Answered.{for_told}
 use Rattle.qc_session.proofs.NoFile.{names-none}
+use Rattle.qc_session.proofs.Stopped.{fault-named, memory-wanted}
 use Rattle.qc_session.proofs.answer.answer_command.Goals as goal
 
 pub answer_held-requires-clause-unnamed : goal.answer_held-requires-clause-unnamed
@@ -7,3 +10,45 @@ answer_held-requires-clause-unnamed g c = names-none c.args.command c.in_default
 
 pub returns-in-Ok-clause-answered : goal.returns-in-Ok-clause-answered
 returns-in-Ok-clause-answered g c = for_told (g.F.Files.told c.args.files.now) _ c.in-Ok.ensures.answered
+
+pub returns-in-Load : goal.returns-in-Load
+returns-in-Load g c =
+    let e = c.answer_file.ensures in
+    rw c.in-Load.is (record {
+      later = e.later;
+      told = e.told;
+      steady = e.steady;
+      same = e.same;
+      memory = memory-wanted c.answer_file.result _ refl;
+      fault = fault-named c.answer_file.result c.in-Load.name (Rose (g.F.Files.faults c.args.files.now) (g.F.Files.faults c.answer_file.new.files)) e.fault;
+      untold = e.untold;
+      answered = e.answered;
+    })
+
+pub returns-in-Apply : goal.returns-in-Apply
+returns-in-Apply g c =
+    let e = c.answer_file-in-Apply.ensures in
+    rw c.in-Apply.is (record {
+      later = e.later;
+      told = e.told;
+      steady = e.steady;
+      same = e.same;
+      memory = memory-wanted c.answer_file-in-Apply.result _ refl;
+      fault = fault-named c.answer_file-in-Apply.result c.in-Apply.name (Rose (g.F.Files.faults c.args.files.now) (g.F.Files.faults c.answer_file-in-Apply.new.files)) e.fault;
+      untold = e.untold;
+      answered = e.answered;
+    })
+
+pub returns-in-Try : goal.returns-in-Try
+returns-in-Try g c =
+    let e = c.answer_file-in-Try.ensures in
+    rw c.in-Try.is (record {
+      later = e.later;
+      told = e.told;
+      steady = e.steady;
+      same = e.same;
+      memory = memory-wanted c.answer_file-in-Try.result _ refl;
+      fault = fault-named c.answer_file-in-Try.result c.in-Try.name (Rose (g.F.Files.faults c.args.files.now) (g.F.Files.faults c.answer_file-in-Try.new.files)) e.fault;
+      untold = e.untold;
+      answered = e.answered;
+    })

@@ -2,7 +2,7 @@ use Rattle.qc_session.proofs.scripts.run.Goals as goal
 
 pub returns : goal.returns
 returns g c =
-    let e = c.run_form.ensures in
+    let e = c.run_with_keys.ensures in
     record {
       known = e.known;
       transcript = e.transcript;

@@ -1,6 +1,6 @@
 use Rattle.std.proofs.Common.{refl}
 use Rattle.qc_session.proofs.Ran.{ran-gen, ran-pack, ran-run, ran-usage}
-use Rattle.qc_session.proofs.scripts.run_form.Goals as goal
+use Rattle.qc_session.proofs.scripts.run_with_keys.Goals as goal
 
 pub returns-in-Run : goal.returns-in-Run
 returns-in-Run g c = rw (← c.in-Run.ensures.form) (ran-run c.run_files.ensures.ends c.run_files.ensures.hands)
