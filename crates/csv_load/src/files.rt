@@ -110,10 +110,7 @@ fn read_file(
     }
     let mut rows = RecordReader::new(alloc, trim_mark(bytes));
     let mut row = ByteRecord::new(alloc);
-    let read = read_records(alloc, schema, &mut rows, &mut row, has_op, bytes.len());
-    drop(row);
-    drop(rows);
-    read
+    read_records(alloc, schema, &mut rows, &mut row, has_op, bytes.len())
 }
 
 /// Reads a CSV file whose header has the columns of the schema, in any order and among others. Each
