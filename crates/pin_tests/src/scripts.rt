@@ -112,7 +112,7 @@ fn script<L: Ledger>(alloc: Global, bytes: &[u8], blank: Blank) -> Option<bool>
         && are_kept(alloc, &pinned, Asked::All, text, 16, &[], &mut steps)
         && is_left(alloc, &mut pinned, text, &mut steps)
         && goes_on(alloc, &mut pinned, text, &mut steps);
-    drop(pinned);
+    pinned.discard();
     Some(is_right)
 }
 

@@ -103,6 +103,11 @@ impl Pinned {
         warehouse
     }
 
+    /// Drops all. A crate that calls this needn't prove again how each part is dropped.
+    pub fn discard(self) {
+        self.finish().discard();
+    }
+
     /// The tree of a version, and its counts. None if no version has the name. Takes no memory.
     pub fn view(&self, name: &str) -> Option<PinnedView<'_>>
         ensures none { IfNone result (version_of self.now.pins name.now ≡ None) }

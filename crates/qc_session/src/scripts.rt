@@ -37,6 +37,15 @@ pub struct Outcome {
     pub end: Option<Warehouse>,
 }
 
+impl Outcome {
+    /// Drops the outcome. A crate that calls this needn't prove again how a warehouse is dropped.
+    pub fn discard(self) {
+        if let Some(warehouse) = self.end {
+            warehouse.discard();
+        }
+    }
+}
+
 ghost use Rattle.qc_session.specs.Ends.{GenEnds, HandsBack, PackEnds, PackScriptEnds, RunEnds, ScriptEnds, SnapshotEnds, files_over, sink_over};
 ghost use Rattle.qc_session.specs.Failures.{cause_of};
 ghost use Rattle.qc_session.specs.Ran.{Ran};
@@ -159,7 +168,7 @@ fn read_behind<'a, F: Files>(
     match read_named(alloc, files, name) {
         Ok(script) => Ok(Loaded { start, script }),
         Err(failure) => {
-            drop(start);
+            start.discard();
             Err(failure)
         }
     }
@@ -214,7 +223,7 @@ fn stopped(status: u8, session: Session) -> Outcome
     ensures skipped { result.skipped.items ≡ session.skipped.items }
     ensures hands { HandsBack result }
 {
-    drop(session.pinned);
+    session.pinned.discard();
     Outcome {
         status,
         skipped: session.skipped,
@@ -306,7 +315,7 @@ fn run_generated<O: Sink, E: Sink, L: Ledger>(
     match write_all(out, &text) {
         Ok(()) => filled(alloc, warehouse),
         Err(_) => {
-            drop(warehouse);
+            warehouse.discard();
             fail(alloc, err, &Failure::CannotWrite)
         }
     }
@@ -329,16 +338,16 @@ fn packed<O: Sink, E: Sink>(
         Ok(bytes) => match write_all(out, &bytes) {
             Ok(()) => filled(alloc, warehouse),
             Err(_) => {
-                drop(warehouse);
+                warehouse.discard();
                 fail(alloc, err, &Failure::CannotWrite)
             }
         },
         Err(EncodeRefused::TooLong) => {
-            drop(warehouse);
+            warehouse.discard();
             fail(alloc, err, &Failure::LongSnapshot)
         }
         Err(EncodeRefused::Memory) => {
-            drop(warehouse);
+            warehouse.discard();
             fail(alloc, err, &Failure::OutOfMemory)
         }
     }
@@ -374,11 +383,11 @@ fn pack_script<F: Files, O: Sink, E: Sink, L: Ledger>(
     match take_quietly(alloc, files, &mut session, script, &mut steps) {
         Ok(()) => packed(alloc, out, err, session.pinned.finish()),
         Err(QuietStop::Read(name)) => {
-            drop(session);
+            session.discard();
             fail(alloc, err, &Failure::CannotRead(name.as_str()))
         }
         Err(QuietStop::Memory) => {
-            drop(session);
+            session.discard();
             fail(alloc, err, &Failure::OutOfMemory)
         }
     }

@@ -39,6 +39,13 @@ pub struct Session {
     pub reply: Vec<u8>,
 }
 
+impl Session {
+    /// Drops the session.
+    pub fn discard(self) {
+        self.pinned.discard();
+    }
+}
+
 ghost use Rattle.qc_session.specs.Session.{AreUpTo, LineEnds, LinesEnd, Puts};
 
 // Gathers a reply, and flushes all if it is not to wait.
@@ -176,7 +183,7 @@ pub fn begin(alloc: Global, warehouse: Warehouse, script: &[u8]) -> Result<Sessi
             })
         }
         Err(refused) => {
-            drop(warehouse);
+            warehouse.discard();
             Err(refused)
         }
     }

@@ -11,9 +11,11 @@ use crate::scripts::run_with_keys;
 use cell_core::HashKeys;
 use qc_io::{Files, Sink};
 use std::alloc::Global;
+use std::mem;
 
-/// Runs as `run_with_keys` does, and drops all but the status. What that says of the lines that ran
-/// out of memory, and of the state at the end, is said here of some such lines and some state.
+/// Runs as `run_with_keys` does, and answers the status alone. What that says of the lines that ran
+/// out of memory, and of the state at the end, is said here of some such lines and some state. The
+/// memory of that state isn't freed: a program ends after this call, and the system takes it back.
 pub fn run_to_status<F: Files, O: Sink, E: Sink>(
     alloc: Global,
     keys: HashKeys,
@@ -54,6 +56,6 @@ pub fn run_to_status<F: Files, O: Sink, E: Sink>(
 {
     let outcome = run_with_keys(alloc, keys, words, files, out, err);
     let status = outcome.status;
-    drop(outcome);
+    mem::forget(outcome);
     status
 }

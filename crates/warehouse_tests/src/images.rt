@@ -51,7 +51,7 @@ fn script<L: Ledger>(alloc: Global, blank: Blank) -> Option<bool>
     let mut steps = Steps::<L>::start(blank);
     let mut shop = filled(alloc, SCHEMA, &[base(BASE)], &mut steps)?;
     let is_right = tell_of_the_root(&mut shop, &mut steps);
-    drop(shop);
+    shop.discard();
     Some(is_right)
 }
 

@@ -123,7 +123,7 @@ fn is_right<L: Ledger>(alloc: Global, case: &str, steps: &mut Steps<L>) -> Optio
         return None;
     };
     let is_answered = is_answered(alloc, &shop, &asked, cells, steps);
-    drop(shop);
+    shop.discard();
     drop(asked);
     Some(is_answered)
 }

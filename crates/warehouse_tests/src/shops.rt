@@ -71,7 +71,7 @@ pub fn filled<L: Ledger>(
     if are_taken(&mut shop, files, steps) {
         Some(shop)
     } else {
-        drop(shop);
+        shop.discard();
         None
     }
 }

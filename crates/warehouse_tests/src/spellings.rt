@@ -62,7 +62,7 @@ fn answer_of<L: Ledger>(alloc: Global, bytes: &[u8], blank: Blank) -> Verdict
     match decode(alloc, bytes, &mut steps) {
         Ok(warehouse) => {
             let verdict = spells(alloc, &warehouse, bytes);
-            drop(warehouse);
+            warehouse.discard();
             verdict
         }
         Err(refused) => Verdict::Refused(refused),

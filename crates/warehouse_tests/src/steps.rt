@@ -145,7 +145,7 @@ fn has_rows<L: Ledger>(
         return false;
     };
     let is_same = shop.stats() == anew.stats() && are_same(shop.tree(), anew.tree(), steps);
-    drop(anew);
+    anew.discard();
     is_same
 }
 
@@ -165,7 +165,7 @@ fn keeps_numbers<L: Ledger>(
         return false;
     };
     let are_kept = are_kept(before, between.tree(), shop.tree(), steps);
-    drop(between);
+    between.discard();
     are_kept
 }
 
@@ -259,7 +259,7 @@ fn script<L: Ledger>(alloc: Global, bytes: &[u8], blank: Blank) -> Option<bool>
     let mut steps = Steps::<L>::start(blank);
     let mut shop = filled(alloc, start.schema.as_bytes(), &[], &mut steps)?;
     let go = all_go(alloc, &start, &mut shop, rest, &mut steps);
-    drop(shop);
+    shop.discard();
     Some(go)
 }
 

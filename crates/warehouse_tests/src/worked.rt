@@ -102,7 +102,7 @@ fn found<L: Ledger>(alloc: Global, blank: Blank) -> Option<[Option<Numbers>; 3]>
     let first = numbers(alloc, &shop, &mut steps);
     let with = numbers_after(alloc, &mut shop, PLUS, &mut steps);
     let last = numbers_after(alloc, &mut shop, MINUS, &mut steps);
-    drop(shop);
+    shop.discard();
     Some([Some(first), with, last])
 }
 

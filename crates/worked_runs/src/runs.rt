@@ -37,7 +37,7 @@ pub fn run_words<F: Files, O: Sink, E: Sink>(
         skipped: outcome.skipped.len(),
         has_end: outcome.end.is_some(),
     };
-    drop(outcome);
+    outcome.discard();
     ended
 }
 
