@@ -1,11 +1,11 @@
 -- The answer to `widen`, by what the code does.
-use Rattle.std.proofs.Common.{◌≡◌, ◌<◌, ◌+◌, ℕ, List, [], ◌∷◌, length, map, refl, arith, Err}
+use Rattle.std.proofs.Common.{◌≡◌, ◌<◌, ℕ, List, [], ◌∷◌, length, map, refl, arith, Err}
 use Rattle.cube_defs.specs.Text.{Text}
 use Rattle.pinned_view.specs.Versions.{Version, Versions}
 use Rattle.reply_text.specs.Replies.{pinned_texts, refused_text, widen_texts}
 use Rattle.warehouse.specs.Widening.{WidenRefusal, widen_result}
 use Rattle.qc_session.specs.Answers.{widen_with}
-use Rattle.qc_session.specs.Pins.{PinnedAnswer, PinnedState, held_in, pin_in}
+use Rattle.qc_session.specs.Pins.{PinnedState, held_in, pin_in}
 
 -- a state whose pins are these versions
 abbrev beside-versions : Versions → List Version → PinnedState
