@@ -1,6 +1,6 @@
 -- How a script ended, over the names that the run has for it.
-use Rattle.std.proofs.Common.{◌≡◌, ◌≤◌, ◌⊎◌, ◌∙◌, ℕ, List, [], Option, Some, None, IfSome, sym, refl, inl, inr, arith, length}
-use Rattle.std.specs.Prelude.{⊤, MatchOption, Ok, Err}
+use Rattle.std.proofs.Common.{◌≡◌, ◌≤◌, ◌∙◌, ℕ, List, [], Option, Some, None, IfSome, sym, inl, inr, arith, length}
+use Rattle.std.specs.Prelude.{MatchOption, Ok, Err}
 use Rattle.cube_defs.specs.declared.limits.TheConstants.{MAX_FILE}
 use Rattle.qc_io.specs.Outside.{Rose, Told}
 use Rattle.warehouse.specs.State.{State}

@@ -1,6 +1,6 @@
 -- How the parts of a run end it.
-use Rattle.std.proofs.Common.{◌≡◌, ◌≤◌, ◌<◌, ◌⊎◌, ◌∙◌, ℕ, Bool, List, [], length, map, Option, Some, None, IfSome, IsTrue, refl, sym, ap, inl, inr, arith, subst, lit<}
-use Rattle.std.specs.Prelude.{⊤, MatchOption}
+use Rattle.std.proofs.Common.{◌≡◌, ◌<◌, ◌⊎◌, ◌∙◌, ℕ, Bool, List, [], map, Option, Some, None, IfSome, IsTrue, refl, sym, ap, inl, inr, arith, subst, lit<}
+use Rattle.std.specs.Prelude.{MatchOption}
 use Rattle.qc_io.specs.Outside.{Cursor, IsOpenAs, Told}
 use Rattle.warehouse.specs.State.{AreContents, Contents, State}
 use Rattle.text_lines.specs.Lines.{without_mark}
@@ -8,7 +8,7 @@ use Rattle.qc_session.specs.Ends.{EndsBy, FilesFailed, FilesOver, HandsBack, Run
 use Rattle.qc_session.specs.Forms.{FileNames}
 use Rattle.qc_session.specs.Lines.{lines_of, script_lines, without_cr}
 use Rattle.qc_session.specs.Reading.{FilesStay}
-use Rattle.qc_session.specs.Runs.{AreSkipped, BrokenOff, CannotRead, CannotWrite, Cause, IsScriptOf, IsScriptStatus, IsStartOf, LongSnapshot, NoSchema, NoSnapshot, NotBegun, OutOfMemory, StoppedAt, StoppedWriting, TooLong, Usage, WroteAll, state_in, status_of}
+use Rattle.qc_session.specs.Runs.{AreSkipped, BrokenOff, CannotRead, CannotWrite, Cause, IsScriptOf, IsStartOf, LongSnapshot, NoSchema, NoSnapshot, NotBegun, OutOfMemory, StoppedAt, StoppedWriting, TooLong, Usage, WroteAll, state_in, status_of}
 use Rattle.qc_session.specs.declared.scripts.Outcome.{Outcome}
 use Rattle.qc_session.proofs.Ended.{all-ended, broken-ended, finished-run, read-ended, refusal-run, rose-later, skipped-run}
 use Rattle.qc_session.proofs.Refusals.{begun-refusal, begun-refused, begun-status, begun-unread, unread-line}

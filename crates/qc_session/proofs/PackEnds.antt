@@ -1,6 +1,6 @@
 -- How the parts of a run for a snapshot end it.
-use Rattle.std.proofs.Common.{◌≡◌, ◌≤◌, ◌<◌, ◌⊎◌, ◌∙◌, ℕ, Bool, List, [], map, Option, Some, None, IfSome, IsTrue, refl, sym, ap, subst}
-use Rattle.qc_io.specs.Outside.{Cursor, IsOpenAs, Told}
+use Rattle.std.proofs.Common.{◌≡◌, ◌∙◌, ℕ, Bool, List, [], map, Option, Some, None, IfSome, IsTrue, refl, sym, subst}
+use Rattle.qc_io.specs.Outside.{Cursor, Told}
 use Rattle.warehouse.specs.State.{State}
 use Rattle.text_lines.specs.Lines.{without_mark}
 use Rattle.qc_session.specs.Ends.{FilesFailed, FilesOver, PackEnds, PackScriptEnds, SinkOver, SnapshotEnds, Tells, TookNothing, files_over, sink_over}

@@ -1,6 +1,6 @@
 -- How a run for its snapshot ends, by how its script ends.
 use Rattle.std.proofs.Common.{◌==◌, ◌≡◌, ◌≤◌, ◌<◌, ◌⊎◌, ◌∙◌, ℕ, List, [], ◌∷◌, length, take, true, Option, Some, None, IfSome, refl, sym, ap, subst, inl, inr, arith}
-use Rattle.std.specs.Prelude.{Ok, Result, ⊤}
+use Rattle.std.specs.Prelude.{Ok, Result}
 use Rattle.std.proofs.lemmas.Bool.Decides.{nat_tests}
 use Rattle.cube_defs.specs.declared.limits.TheConstants.{MAX_FILE}
 use Rattle.cube_snapshot.specs.States.{spelling}
@@ -11,8 +11,8 @@ use Rattle.qc_schema.specs.Schema.{Layout}
 use Rattle.warehouse.specs.State.{State, empty}
 use Rattle.qc_session.specs.Forms.{FileNames, FromSchema, FromSnapshot, Source}
 use Rattle.qc_session.specs.Lines.{script_lines}
-use Rattle.qc_session.specs.Packs.{IsPackRefused, IsPackUnrefused, IsRead, Leads, LeadsTooFar, Packed, PackedFront, WroteSnapshot, WroteSnapshotFront}
-use Rattle.qc_session.specs.Runs.{AllTold, Begins, CannotRead, Cause, IsRefused, IsScriptOf, IsScriptStatus, IsStartOf, LongSnapshot, Said, StoppedAt, WroteAll}
+use Rattle.qc_session.specs.Packs.{IsPackRefused, IsPackUnrefused, Leads, LeadsTooFar, Packed, PackedFront, WroteSnapshot, WroteSnapshotFront}
+use Rattle.qc_session.specs.Runs.{Begins, Cause, IsRefused, IsScriptOf, IsScriptStatus, IsStartOf, LongSnapshot, StoppedAt, WroteAll}
 use Rattle.qc_session.specs.Transcript.{Run}
 use Rattle.qc_session.proofs.Ended.{unrefused}
 

@@ -1,6 +1,6 @@
 -- The answers to lines of pins, by what the code does.
-use Rattle.std.proofs.Common.{◌≡◌, ◌∙◌, ℕ, Bool, true, false, cond, Option, Some, None, List, [], ◌∷◌, ◌++◌, length, map, refl, sym, ap, Result, Ok, Err}
-use Rattle.std.specs.Prelude.{IsSome, filter, is_some, nat_lt, not, option_map}
+use Rattle.std.proofs.Common.{◌≡◌, ℕ, Bool, true, false, cond, Option, Some, None, List, [], ◌∷◌, ◌++◌, length, map, refl, ap, Result, Ok, Err}
+use Rattle.std.specs.Prelude.{IsSome, is_some, nat_lt, not, option_map}
 use Rattle.std.specs.List.{find}
 use Rattle.std.specs.Str.{bytes_eq}
 use Rattle.std.proofs.lemmas.List.{length-map}
@@ -15,7 +15,7 @@ use Rattle.query_answers.specs.Queries.{query_reply}
 use Rattle.query_script.specs.Queries.{Query}
 use Rattle.reply_text.specs.Replies.{all_pinned_texts, name_taken_texts, not_pinned_texts, pinned_text, refused_text, unpinned_text}
 use Rattle.warehouse.specs.State.{with_rows}
-use Rattle.qc_session.specs.Pins.{Pin, at_reply, held_in, is_called, keeps, pin_answer, pin_in, reply_over, rows_at, unpin_answer, unpin_with, without_pin}
+use Rattle.qc_session.specs.Pins.{Pin, at_reply, held_in, is_called, pin_answer, pin_in, rows_at, unpin_answer, without_pin}
 
 -- the rows of a name are those of its version
 rows-of : (versions : List Version) (name : Text) → rows_at (map pin_in versions) name ≡ option_map (λ version. version.rows) (version_of versions name)

@@ -1,11 +1,10 @@
 -- What each form of the words promises is what a run promises.
-use Rattle.std.proofs.Common.{◌≡◌, ◌⊎◌, ℕ, [], true, false, Option, Some, None, IfSome, IsTrue, refl, inl, inr, arith}
-use Rattle.std.specs.Prelude.{◌↔◌, IsNone}
+use Rattle.std.proofs.Common.{◌≡◌, ◌⊎◌, [], Some, None, IsTrue, refl, inl, inr}
 use Rattle.qc_session.specs.Ends.{FilesFailed, FilesOver, GenEnds, HandsBack, PackEnds, RunEnds, SinkFailed, SinkOver, Tells}
-use Rattle.qc_session.specs.Forms.{Drawing, FileNames, Form, Gen, Pack, Run}
+use Rattle.qc_session.specs.Forms.{Drawing, FileNames, Gen, Pack, Run}
 use Rattle.qc_session.specs.Packs.{IsPackRefused}
 use Rattle.qc_session.specs.Ran.{Ran}
-use Rattle.qc_session.specs.Runs.{IsRefused, IsScriptStatus, IsStatus, Usage}
+use Rattle.qc_session.specs.Runs.{IsRefused, IsScriptStatus, Usage}
 use Rattle.qc_session.specs.declared.scripts.Outcome.{Outcome}
 use Rattle.qc_session.proofs.Completed.{complete, complete-steady}
 use Rattle.qc_session.proofs.Found.{found-all}

@@ -1,9 +1,8 @@
 -- What follows where a file of the words wasn't read, or is refused.
-use Rattle.std.proofs.Common.{◌≡◌, ◌≤◌, ◌<◌, ◌⊎◌, ℕ, List, refl, Option, Some, None, IfSome, inl, inr, arith, length, ap}
+use Rattle.std.proofs.Common.{◌≡◌, ◌<◌, ◌⊎◌, ℕ, List, refl, Option, Some, None, IfSome, inl, inr, arith, length, ap}
 use Rattle.std.specs.Prelude.{IsSomeAnd}
 use Rattle.cube_defs.specs.declared.limits.TheConstants.{MAX_FILE}
 use Rattle.qc_io.specs.Outside.{Told}
-use Rattle.qc_schema.specs.Progress.{Fault}
 use Rattle.qc_session.specs.Lines.{script_lines}
 use Rattle.qc_session.specs.Runs.{Cause, Usage, CannotRead, CannotWrite, HasNoStart, IsRefused, IsScriptStatus, NotBegun, OutOfMemory, LongSnapshot, NoSchema, NoSnapshot, TooLong, IsNever, IsStartOf, IsScriptOf, StoppedAt, ReadFails, Said, Unread, status_of}
 use Rattle.qc_session.specs.Forms.{FileNames}

@@ -1,6 +1,5 @@
 -- The state at which a run starts, by what its first file gives.
-use Rattle.std.proofs.Common.{◌≡◌, ◌≤◌, ◌⊎◌, List, length, Option, Some, None, IfSome, inl, inr, ℕ}
-use Rattle.cube_defs.specs.declared.limits.TheConstants.{MAX_FILE}
+use Rattle.std.proofs.Common.{◌≡◌, ◌⊎◌, List, Option, Some, None, IfSome, inl, inr, ℕ}
 use Rattle.qc_io.specs.Outside.{Told}
 use Rattle.warehouse.specs.State.{State}
 use Rattle.qc_session.specs.Forms.{FileNames, FromSchema, FromSnapshot, Source}

@@ -13,7 +13,6 @@ use Rattle.qc_session.specs.Answers.{answer, file_of}
 use Rattle.warehouse.specs.State.{State}
 use Rattle.qc_session.specs.Transcript.{Item, Run, is_skipped, item, items, run_at, step, transcript}
 use Rattle.qc_session.specs.Runs.{AreRising, AreSkipped, StoppedAt, StoppedWriting, Took, WroteAll, line_at, may_skip}
-use Rattle.std.specs.Prelude.{⊤}
 use Rattle.qc_session.specs.Session.{AreUpTo, Gathered, Replies, Skips, WroteLine, WrotePart}
 use Rattle.qc_session.proofs.Handed.{front-on, front-then, handed-none, handed-on, handed-then, taken-count}
 

@@ -1,6 +1,6 @@
 -- How a line is taken, by how its reply was gathered.
-use Rattle.std.proofs.Common.{◌≡◌, ◌≤◌, ◌+◌, ◌∙◌, ◌++◌, ℕ, Bool, List, [], ◌∷◌, length, true, false, Some, None, IfSome, IsTrue, refl, inl, inr, ap, arith, length-append}
-use Rattle.std.specs.Prelude.{Option, Result, Ok, Err, vec_capacity, ⊤}
+use Rattle.std.proofs.Common.{◌≡◌, ◌≤◌, ◌+◌, ◌∙◌, ◌++◌, ℕ, Bool, List, [], ◌∷◌, length, true, false, Some, None, IfSome, refl, inl, inr, ap, arith, length-append}
+use Rattle.std.specs.Prelude.{Option, Result, Ok, Err, vec_capacity}
 use Rattle.qc_io.specs.Outside.{Told}
 use Rattle.query_script.specs.Lines.{may_want_memory}
 use Rattle.reply_text.specs.Replies.{memory_text}

@@ -1,27 +1,15 @@
 -- The answer to `widen`, by what the code does.
-use Rattle.std.proofs.Common.{◌≡◌, ◌<◌, ◌+◌, ℕ, List, [], ◌∷◌, length, map, refl, arith, Ok, Err}
+use Rattle.std.proofs.Common.{◌≡◌, ◌<◌, ℕ, List, [], ◌∷◌, length, map, refl, arith, Err}
 use Rattle.cube_defs.specs.Text.{Text}
 use Rattle.pinned_view.specs.Versions.{Version, Versions}
-use Rattle.reply_text.specs.Replies.{pinned_texts, refused_text, widen_texts, widened_text}
-use Rattle.warehouse.specs.Batch.{Applied}
+use Rattle.reply_text.specs.Replies.{pinned_texts, refused_text, widen_texts}
 use Rattle.warehouse.specs.Widening.{WidenRefusal, widen_result}
 use Rattle.qc_session.specs.Answers.{widen_with}
-use Rattle.qc_session.specs.Pins.{PinnedAnswer, PinnedState, held_in, pin_in}
+use Rattle.qc_session.specs.Pins.{PinnedState, held_in, pin_in}
 
 -- a state whose pins are these versions
 abbrev beside-versions : Versions → List Version → PinnedState
 beside-versions held pins = record { state = held.now.state; pins = map pin_in pins }
-
-pub widen-made : (old new : Versions) (number : ℕ) (name value : Text) (applied : Applied) (reply : List ℕ) → (0 < length old.pins → ⊥)
-    → (length old.pins ≡ 0 → widen_result old.now.state name value ≡ Ok applied) → applied.state ≡ new.now.state → new.pins ≡ old.pins
-    → reply ≡ widened_text number (length new.now.state.schema.dims) applied.classes
-    → widen_with (held_in old) (held_in old).pins number name value ≡ record { state = held_in new; reply = reply }
-widen-made old new number name value applied reply free is state pins made = go old.pins free is pins
-  where
-    go : (before : List Version) → (0 < length before → ⊥) → (length before ≡ 0 → widen_result old.now.state name value ≡ Ok applied) → new.pins ≡ before
-        → widen_with (beside-versions old before) (map pin_in before) number name value ≡ record { state = beside-versions new new.pins; reply = reply }
-    go [] free is same = rw (is refl, state, same, made) refl
-    go (pin ∷ pins) free is same = absurd (free (omega arith))
 
 pub widen-refused : (old : Versions) (number : ℕ) (name value : Text) (refusal : WidenRefusal) (reply : List ℕ) → (0 < length old.pins → ⊥)
     → (length old.pins ≡ 0 → widen_result old.now.state name value ≡ Err refusal) → reply ≡ refused_text number (widen_texts refusal)

@@ -1,6 +1,5 @@
 -- How the files of the words are read.
-use Rattle.std.specs.Prelude.{◌≡◌, ◌≤◌, ◌⊎◌, ℕ, Bool, List, length, Option, IfSome, IsTrue, Result, MatchResult}
-use Rattle.cube_defs.specs.declared.limits.TheConstants.{MAX_FILE}
+use Rattle.std.specs.Prelude.{◌≡◌, ◌≤◌, ℕ, Bool, Option, IsTrue}
 use Rattle.qc_io.specs.Outside.{Told}
 
 -- files after calls: their faults only rise, they tell the same, and they stay steady

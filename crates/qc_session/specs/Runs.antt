@@ -1,5 +1,5 @@
 -- How a run ends.
-use Rattle.std.specs.Prelude.{◌≡◌, ◌≢◌, ◌≤◌, ◌<◌, ◌&&◌, ◌⊎◌, ◌++◌, ℕ, zero, suc, Bool, true, not, List, [], ◌∷◌, length, take, Option, Some, None, IfSome, IsSome, IsSomeAnd, codes, slice_index_or, decimal, Result, Ok, Err, option_map, ⊤}
+use Rattle.std.specs.Prelude.{◌≡◌, ◌≢◌, ◌≤◌, ◌<◌, ◌&&◌, ◌⊎◌, ◌++◌, ℕ, zero, suc, Bool, true, not, List, [], ◌∷◌, length, take, Option, Some, None, IfSome, IsSome, IsSomeAnd, codes, slice_index_or, decimal, Ok, Err, option_map, ⊤}
 use Rattle.std.specs.List.{All, AllByRecursion}
 use Rattle.cube_defs.specs.declared.limits.TheConstants.{MAX_FILE}
 use Rattle.qc_io.specs.Outside.{Told, taking}
