@@ -40,7 +40,9 @@ pub struct Outcome {
 impl Outcome {
     /// Drops the outcome. A crate that calls this needn't prove again how a warehouse is dropped.
     pub fn discard(self) {
-        if let Some(warehouse) = self.end {
+        let Outcome { skipped, end, .. } = self;
+        drop(skipped);
+        if let Some(warehouse) = end {
             warehouse.discard();
         }
     }
