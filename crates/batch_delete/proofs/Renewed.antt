@@ -231,7 +231,7 @@ module _ (width : ℕ) (old new : Tree ℕ) (tuple : Cell ℕ) (d : Deletion) (h
         no_child : (o : Option (Option ℕ)) → slice_get rest.shared (next_value nat_cmp (depth n.cell) rest.shared) ≡ o → get_or rest.shared (next_value nat_cmp (depth n.cell) rest.shared) None ≡ None → made_child o ≡ None
         no_child None k f = refl
         no_child (Some None) k f = refl
-        no_child (Some (Some v)) k f = let bad : None ≡ Some v = sym f ∙ Rattle.batch_delete.proofs.Entries.entry_is rest.shared (next_value nat_cmp (depth n.cell) rest.shared) (Some v) k in cc
+        no_child (Some (Some v)) k f = absurd (none_some (sym f ∙ Rattle.batch_delete.proofs.Entries.entry_is rest.shared (next_value nat_cmp (depth n.cell) rest.shared) (Some v) k))
 
         go : (o : Option ℕ) → get_or rest.shared (next_value nat_cmp (depth n.cell) rest.shared) None ≡ o
             → option_map (renamed_edge (cell_at new)) (forced_by (option_map (λ v. (next_value nat_cmp (depth n.cell) rest.shared, v)) o) (record n { edges = es })) ≡ option_map (renamed_edge (λ c. Some c)) after.forced
