@@ -4,13 +4,13 @@ use Rattle.std.specs.Ordering.{eq_by_cmp}
 use Rattle.cube_defs.specs.Cell.{Cell, cell_front, cell_of, with_value}
 use Rattle.cube_defs.specs.Rows.{closure}
 use Rattle.cube_defs.specs.Tree.{Edge, Tree, cell_at}
+use Rattle.aggregates.specs.declared.agg.Agg.{Agg}
 use Rattle.qc_arena.specs.Edges.{rises}
+use Rattle.qc_arena.specs.Map.{Arena}
 use Rattle.qc_arena.specs.Seen.{record_at}
 use Rattle.tree_search.specs.Found.{IsTreeOf, closure_in}
-use Rattle.batch_delete.specs.declared.going.Class.{Class}
-use Rattle.batch_delete.specs.declared.going.Going.{Going}
 use Rattle.batch_delete.specs.declared.parts.Rest.{Rest}
-use Rattle.batch_delete.specs.Going.{IsClass, IsGoing, IsKnown}
+use Rattle.batch_delete.specs.Going.{AtFront, IsClass, IsGoing}
 use Rattle.batch_delete.specs.Rests.{Deletion, IsRest, IsTotal, other_values, rows_after, rows_before, source_before}
 use Rattle.batch_delete.proofs.Others.{others_taken}
 use Rattle.batch_delete.proofs.Paid.{label_steps, own_label}
@@ -26,13 +26,8 @@ pub record AtLabels (dims : ℕ) (nodes : Tree ℕ) (d : Deletion) (t u : Cell �
   pub dim : i < length u
   pub front : cell_at nodes number ≡ Some (cell_front i u)
 
--- as the function is called
-pub at_labels : {R : Type 0} (dims : ℕ) (nodes : Tree ℕ) (d : Deletion) (row : Going) (class : Class) (i number : ℕ)
-    → IsTreeOf dims nodes (source_before d) × ((length class.cell ≡ dims) × ((length row.tuple ≡ dims) × (IsGoing d row × (IsKnown d class
-    × ((slice_get class.cell i ≡ Some None) × ((i < length class.cell) × ((cell_at nodes number ≡ Some (cell_front i class.cell)) × R)))))))
-    → AtLabels dims nodes d row.tuple class.cell i number
-at_labels dims nodes d row class i number (tree, (long, (tuple, (going, (known, (any, (dim, (front, rest)))))))) =
-    record { tree = tree; long = long; tuple = tuple; row = going.tuple; class = known.is; any = any; dim = dim; front = front }
+pub at_labels : (a : Arena) (d : Deletion) (t : Cell ℕ) (before after : Option Agg) (u : Cell ℕ) (i number : ℕ) → IsGoing d a t before after → AtFront d a u i number → AtLabels a.width a.now d t u i number
+at_labels a d t before after u i number row at = record { tree = row.tree; long = at.long; tuple = row.long; row = row.tuple; class = at.class; any = at.any; dim = at.dim; front = at.front }
 
 module _ {dims : ℕ} {nodes : Tree ℕ} {d : Deletion} {t u : Cell ℕ} {i number : ℕ} (is : AtLabels dims nodes d t u i number) where
   abbrev pub edges : List (Edge ℕ ℕ)

@@ -10,6 +10,7 @@ use Rattle.cell_core.specs.declared.cell.NodeNo.{NodeNo}
 use Rattle.cube_defs.specs.Cell.{Cell, depth, cell_front, with_value}
 use Rattle.cube_defs.specs.Rows.{closure}
 use Rattle.cube_defs.specs.Tree.{Edge, Tree, cell_at}
+use Rattle.cube_laws.proofs.Lists.{none_some}
 use Rattle.cube_laws.specs.Lists.{Among}
 use Rattle.cube_laws.specs.Parts.{IsLastAny}
 use Rattle.cube_laws.proofs.Cells.{depth-le, cell_front-leq, length-cell_front}
@@ -85,7 +86,7 @@ module _ (dims : ℕ) (tree : Tree ℕ) (source : TreeRows) (h : IsTreeOf dims t
       ∙ ap (λ c. Some (Some (cell_front i c))) (a.1 ∙ is) ∙ ap (λ c. Some (Some c)) (cell_front-with_value (cell_front i c) i v (depth-cell_front-le i c))
 
   pub up_there : (k : ℕ) (c : Cell ℕ) (i v : ℕ) → cell_at tree k ≡ Some (cell_front (suc i) c) → slice_get c i ≡ Some (Some v) → (o : Option NodeNo) → option_map number o ≡ (record_at tree k).parent → IsSome o
-  up_there k c i v at has None is = let bad : None ≡ Some (Some (cell_front i c)) = ap (option_map (cell_at tree)) is ∙ one_up k c i v at has in cc
+  up_there k c i v at has None is = absurd (none_some (ap (option_map (cell_at tree)) is ∙ one_up k c i v at has))
   up_there k c i v at has (Some m) is = refl
 
   pub up_to : (k : ℕ) (c : Cell ℕ) (i v : ℕ) → cell_at tree k ≡ Some (cell_front (suc i) c) → slice_get c i ≡ Some (Some v) → (o : Option NodeNo) (m : NodeNo) → option_map number o ≡ (record_at tree k).parent → o ≡ Some m → cell_at tree m.0 ≡ Some (cell_front i c)

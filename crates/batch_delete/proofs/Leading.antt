@@ -14,6 +14,7 @@ use Rattle.tree_laws.specs.Walk.{target_at}
 use Rattle.tree_laws.proofs.Lists.{some_same}
 use Rattle.batch_delete.specs.Plan.{is_value, mixed, own_to, with_heir, with_led, with_mixed, with_own}
 use Rattle.batch_delete.proofs.OwnLabels.{all_kept, led_alike, list_led, not_there, there_led}
+use Rattle.cube_laws.proofs.Lists.{none_some}
 use Rattle.cube_laws.proofs.Orders.{one_test}
 
 -- where an edge leads once those before a dimension are led on
@@ -34,7 +35,7 @@ label_was f i v own (y ∷ ys) t h = go (nat_eq y.dim i && nat_eq y.value v) ref
   where
     go : (b : Bool) → (nat_eq y.dim i && nat_eq y.value v) ≡ b → (o : Option ℕ) → f y ≡ o → target_at nat_eq i v (cons_option (option_map (λ t. let e : Edge ℕ ℕ = record { dim = y.dim; value = y.value; target = t } in e) o) (mixed f 0 ys)) ≡ Some t
         → (target_at nat_eq i v (mixed f 0 ys) ≡ Some t → (k : ℕ) × (slice_get ys k ≡ Some (record { dim = i; value = v; target = t }))) → (k : ℕ) × (slice_get (y ∷ ys) k ≡ Some (record { dim = i; value = v; target = t }))
-    go true a None q e more = let bad : None ≡ Some y.target = sym q ∙ own y a in cc
+    go true a None q e more = absurd (none_some (sym q ∙ own y a))
     go true a (Some r) q e more =
         let p = and_parts (nat_eq y.dim i) (nat_eq y.value v) a in
         let d = eqb-true y.dim i p.0 in

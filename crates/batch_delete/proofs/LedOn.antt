@@ -14,7 +14,7 @@ use Rattle.cube_defs.specs.Tree.{Edge, Tree, cell_at, next_value, renamed_edge}
 use Rattle.cube_laws.specs.Lists.{Among}
 use Rattle.cube_laws.proofs.Cells.{length-cell_front}
 use Rattle.cube_laws.proofs.Distinct.{rises-map, rises_same-by_turn}
-use Rattle.cube_laws.proofs.Lists.{all_from, all_at, among_filter_map, among_map, map_among}
+use Rattle.cube_laws.proofs.Lists.{all_from, all_at, among_filter_map, among_map, map_among, none_some}
 use Rattle.cube_laws.proofs.Nodes.{front_of_class}
 use Rattle.cube_laws.proofs.IcebergOrder.{then_turn}
 use Rattle.qc_arena.specs.Seen.{record_at}
@@ -94,7 +94,7 @@ module _ (p w : Cell ℕ) (same : length p ≡ length w) where
       beyond : (a : Bool) → nat_lt (next_value nat_cmp (depth p) w) (length w) ≡ a → get_or w (next_value nat_cmp (depth p) w) None ≡ None → i ≤ next_value nat_cmp (depth p) w
       beyond true a n =
           let x = next-entry nat_cmp (depth p) w (ltb-true (next_value nat_cmp (depth p) w) (length w) a) in
-          let bad : None ≡ Some x.0 = sym n ∙ entry_is w (next_value nat_cmp (depth p) w) (Some x.0) x.1 in cc
+          absurd (none_some (sym n ∙ entry_is w (next_value nat_cmp (depth p) w) (Some x.0) x.1))
       beyond false a n = let past = ltb-false (next_value nat_cmp (depth p) w) (length w) a in omega (arith, past, l, same)
 
       go : (o : Option ℕ) → get_or w (next_value nat_cmp (depth p) w) None ≡ o → is_left (option_map (λ v. (next_value nat_cmp (depth p) w, v)) o) i v ≡ true → i ≤ next_value nat_cmp (depth p) w
@@ -198,7 +198,7 @@ module _ (width : ℕ) (tree : Tree ℕ) (tuple : Cell ℕ) (d : Deletion) (h : 
 
       go : (o : Option (Cell ℕ)) → target_of_label (eq_by_cmp nat_cmp) (rows_before d) p y.dim y.value ≡ o
           → (x : Edge ℕ ℕ) × (t : ℕ) × Among x (record_at tree q).edges × (led_to tuple (heir_in plan) (next_entry (depth p) w) x ≡ Some t) × (x.dim ≡ y.dim) × (x.value ≡ y.value)
-      go None e = let bad : None ≡ Some y.target = sym (lead_none law d.xs d.r d.ys p y.dim y.value e) ∙ l.leads in cc
+      go None e = absurd (none_some (sym (lead_none law d.xs d.r d.ys p y.dim y.value e) ∙ l.leads))
       go (Some c) e =
           let reach = no_further nat_cmp_total fin.nat_cmp-IsAntisymmetric d.measures d.xs d.r d.ys p u.0 w over u.1 closed node in
           let x = label_edge width tree (source_before d) h q p at (record { dim = y.dim; value = y.value; target = c }) u.0 u.1 (record { place = record { behind = l.place.behind; before = omega (arith, l.place.before, reach); within = l.place.within }; leads = e }) in

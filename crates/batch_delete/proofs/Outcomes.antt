@@ -13,7 +13,7 @@ use Rattle.cube_defs.specs.Tree.{Edge, Tree, cell_at}
 use Rattle.cube_laws.specs.Lists.{Among}
 use Rattle.cube_laws.proofs.Cells.{depth-le, leq_refl, cell_front-leq, meet_right, nat_equality}
 use Rattle.cube_laws.proofs.Covered.{closure_length}
-use Rattle.cube_laws.proofs.Lists.{all-insert, get_among}
+use Rattle.cube_laws.proofs.Lists.{all-insert, get_among, none_some}
 use Rattle.cube_laws.proofs.Nodes.{class_fronts, is_node-is}
 use Rattle.cube_laws.proofs.Closures.{closure_idem, is_class-is}
 use Rattle.qc_arena.specs.Map.{Known}
@@ -33,6 +33,9 @@ use Rattle.batch_delete.specs.Rests.{ArePlanned, Deletion, IsPlanned, IsRest, ro
 use Rattle.batch_delete.proofs.Childs.{cell_wide}
 use Rattle.batch_delete.proofs.Entries.{led_entry}
 use Rattle.batch_delete.proofs.Labelled.{closed_at, edge_label, law}
+
+zero_le : (n : ℕ) → 0 ≤ n
+zero_le n = omega arith
 
 -- a number that is its own heir stays with what is planned for it, and no other stays
 pub own_stays : (plan : List (ℕ × Fate)) (q : ℕ) → heir_in plan q ≡ Some q → staying plan q ≡ after_in plan q
@@ -115,14 +118,14 @@ module _ (width : ℕ) (tree : Tree ℕ) (tuple : Cell ℕ) (d : Deletion) (h : 
     -- a node below the tuple stands in the list
     pub place : (q : ℕ) (c : Cell ℕ) → cell_at tree q ≡ Some c → leq nat_eq c tuple ≡ true → (k : ℕ) × (b : Below) × (slice_get list k ≡ Some b) × (b.node.0 ≡ q) × (b.cell ≡ c)
     place q c at low =
-        let x = below.all q c at low (omega (arith, depth-le c, cell_wide width tree (source_before d) h q c at, long)) in
+        let x = below.all q c at low (subst (λ n. depth c ≤ n) (cell_wide width tree (source_before d) h q c at ∙ sym long) (depth-le c)) in
         (x.0, x.1, x.2, x.3, some_same (sym (below.cells x.0 x.1 x.2) ∙ ap (cell_at tree) x.3 ∙ at))
 
     -- what is planned for it
     pub fate : (q : ℕ) (c : Cell ℕ) → cell_at tree q ≡ Some c → leq nat_eq c tuple ≡ true → IsPlanned d tree plan (record { node = record { 0 = q }; cell = c })
     fate q c at low =
         let x = place q c at low in
-        let p = planned x.0 x.1 (omega arith) x.2 in
+        let p = planned x.0 x.1 (zero_le x.0) x.2 in
         subst (λ n. IsPlanned d tree plan (record { node = record { 0 = n }; cell = c })) x.3 (subst (λ y. IsPlanned d tree plan (record { node = record { 0 = x.1.node.0 }; cell = y })) x.4 (record { after = p.after; heir = p.heir }))
 
     module _ (q : ℕ) (c : Cell ℕ) (at : cell_at tree q ≡ Some c) (low : leq nat_eq c tuple ≡ true) where
@@ -136,11 +139,11 @@ module _ (width : ℕ) (tree : Tree ℕ) (tuple : Cell ℕ) (d : Deletion) (h : 
           )
         where
           named : (o : Option (Cell ℕ)) → option_map (λ c. Some c) o ≡ Some (Some c) → o ≡ Some c
-          named None e = cc
+          named None e = absurd (none_some e)
           named (Some x) e = some_same e
 
           back : (o : Option ℕ) → option_map (cell_at tree) o ≡ Some (Some c) → o ≡ Some q
-          back None e = cc
+          back None e = absurd (none_some e)
           back (Some j) e = ap (λ x. Some x) (h.canonical.once j q c (some_same e) at)
 
       pub stays_if : is_node (eq_by_cmp nat_cmp) (rows_after d) c ≡ true → staying plan q ≡ after_in plan q
@@ -159,7 +162,7 @@ module _ (width : ℕ) (tree : Tree ℕ) (tuple : Cell ℕ) (d : Deletion) (h : 
           go : (o : Option Rest) → after_in plan q ≡ o → (rest : Rest) × (staying plan q ≡ Some rest) × IsRest d.measures (rows_after d) c (Some rest)
           go None e =
               let gone : None ≡ closure (eq_by_cmp nat_cmp) (rows_after d) c = ap shared_of (sym e) ∙ (fate q c at low).after.cells in
-              let bad : None ≡ Some c = ap (option_map (cell_front (depth c))) gone ∙ some in cc
+              absurd (none_some (ap (option_map (cell_front (depth c))) gone ∙ some))
           go (Some rest) e = (rest, stays_if k ∙ e, subst (IsRest d.measures (rows_after d) c) e (fate q c at low).after)
 
       -- and what stays is a node afterwards
@@ -168,7 +171,7 @@ module _ (width : ℕ) (tree : Tree ℕ) (tuple : Cell ℕ) (d : Deletion) (h : 
         where
           go : (b : Bool) → is_node (eq_by_cmp nat_cmp) (rows_after d) c ≡ b → is_node (eq_by_cmp nat_cmp) (rows_after d) c ≡ true
           go true k = k
-          go false k = let bad : Some rest ≡ None = sym e ∙ goes_if k in cc
+          go false k = absurd (none_some (sym (goes_if k) ∙ e))
 
       -- its heir, where there are rows left, is the front of what they share
       pub heir_cell : (t : ℕ) → heir_in plan q ≡ Some t → (w : Cell ℕ) × (closure (eq_by_cmp nat_cmp) (rows_after d) c ≡ Some w) × (cell_at tree t ≡ Some (cell_front (depth c) w))
@@ -178,14 +181,14 @@ module _ (width : ℕ) (tree : Tree ℕ) (tuple : Cell ℕ) (d : Deletion) (h : 
           names = ap (option_map (cell_at tree)) (sym e) ∙ (fate q c at low).heir
 
           go : (o : Option (Cell ℕ)) → closure (eq_by_cmp nat_cmp) (rows_after d) c ≡ o → (w : Cell ℕ) × (closure (eq_by_cmp nat_cmp) (rows_after d) c ≡ Some w) × (cell_at tree t ≡ Some (cell_front (depth c) w))
-          go None k = let bad : Some (cell_at tree t) ≡ None = names ∙ ap (λ o. option_map (λ x. Some x) (option_map (cell_front (depth c)) o)) k in cc
+          go None k = absurd (none_some (sym (names ∙ ap (λ o. option_map (λ x. Some x) (option_map (cell_front (depth c)) o)) k)))
           go (Some w) k = (w, k, some_same (names ∙ ap (λ o. option_map (λ x. Some x) (option_map (cell_front (depth c)) o)) k))
 
       pub heir_some : (w : Cell ℕ) → closure (eq_by_cmp nat_cmp) (rows_after d) c ≡ Some w → (t : ℕ) × (heir_in plan q ≡ Some t)
       heir_some w k = go (heir_in plan q) refl
         where
           go : (o : Option ℕ) → heir_in plan q ≡ o → (t : ℕ) × (heir_in plan q ≡ Some t)
-          go None e = let bad : None ≡ Some (Some (cell_front (depth c) w)) = ap (option_map (cell_at tree)) (sym e) ∙ (fate q c at low).heir ∙ ap (λ o. option_map (λ x. Some x) (option_map (cell_front (depth c)) o)) k in cc
+          go None e = absurd (none_some (ap (option_map (cell_at tree)) (sym e) ∙ (fate q c at low).heir ∙ ap (λ o. option_map (λ x. Some x) (option_map (cell_front (depth c)) o)) k))
           go (Some t) e = (t, e)
 
     -- the front of what rows share is a node of these
@@ -236,7 +239,7 @@ module _ (width : ℕ) (tree : Tree ℕ) (tuple : Cell ℕ) (d : Deletion) (h : 
 
         by_left : (s : Bool) → (if s then (if is_value (get_or tuple x.dim None) x.value then heir_in plan x.target else Some x.target) else None) ≡ Some t → IsSome (fin.get tree t) × Stays list plan t
         by_left true l = by_own (is_value (get_or tuple x.dim None) x.value) refl l
-        by_left false l = cc
+        by_left false l = absurd (none_some l)
 
     pub ready : AreReady width tree tuple plan list
     ready = record {
@@ -251,7 +254,7 @@ module _ (width : ℕ) (tree : Tree ℕ) (tuple : Cell ℕ) (d : Deletion) (h : 
           wide_after b.cell rest.shared (sym (subst (λ y. IsRest d.measures (rows_after d) b.cell (Some y)) (some_same (sym r.1 ∙ s)) r.2).cells);
       dims = λ k j b x e at.
           let to = edge_leads b.node.0 b.cell (below.cells k b e) (below.below k b e) x (get_among (record_at tree b.node.0).edges j x at) in
-          omega (arith, to.3, cell_wide width tree (source_before d) h b.node.0 b.cell (below.cells k b e));
+          subst (λ n. x.dim < n) (cell_wide width tree (source_before d) h b.node.0 b.cell (below.cells k b e)) to.3;
       behind = λ k j b x e at. (edge_leads b.node.0 b.cell (below.cells k b e) (below.below k b e) x (get_among (record_at tree b.node.0).edges j x at)).2;
       targets = λ k j t b rest x e s at led. target_stays k j t b (next_entry (depth b.cell) rest.shared) x e at led;
     }

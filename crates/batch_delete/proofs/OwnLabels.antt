@@ -1,4 +1,5 @@
 -- Edges are led on by their labels: those that aren't left are dropped, and then those with the tuple's values are led to heirs.
+use Rattle.cube_laws.proofs.Lists.{none_some}
 use Rattle.std.proofs.Common.{◌≡◌, ◌∙◌, ℕ, zero, suc, ◌<◌, Bool, true, false, not, ◌&&◌, Option, Some, None, List, [], ◌∷◌, filter_map, length, slice_get, nat_eq, refl, sym, ap, ap₂, subst, arith, eqb-true}
 use Rattle.std.proofs.lemmas.Bool.{and_from, and_parts, cond-true, cond-false}
 use Rattle.std.proofs.lemmas.Bool.Decides.{nat_tests}
@@ -94,8 +95,8 @@ module _ (f g : Edge ℕ ℕ → Option ℕ) (i v : ℕ) (others : (y : Edge ℕ
   not_there (y ∷ ys) h = go (label y) refl (f y) refl h (not_there ys)
     where
       go : (b : Bool) → (nat_eq y.dim i && nat_eq y.value v) ≡ b → (o : Option ℕ) → f y ≡ o → target_at nat_eq i v (cons y o (mixed f 0 ys)) ≡ None → (target_at nat_eq i v (mixed f 0 ys) ≡ None → mixed f 0 ys ≡ mixed g 0 ys) → cons y (f y) (mixed f 0 ys) ≡ cons y (g y) (mixed g 0 ys)
-      go true s None e h more = let bad : None ≡ Some y.target = sym e ∙ own y s in cc
-      go true s (Some t) e h more = let bad : Some t ≡ None = sym (cond-true (label y) (Some t) (target_at nat_eq i v (mixed f 0 ys)) s) ∙ h in cc
+      go true s None e h more = absurd (none_some (sym e ∙ own y s))
+      go true s (Some t) e h more = absurd (none_some (sym (sym (cond-true (label y) (Some t) (target_at nat_eq i v (mixed f 0 ys)) s) ∙ h)))
       go false s None e h more = ap₂ (cons y) (others y s) (more h)
       go false s (Some t) e h more = ap₂ (cons y) (others y s) (more (sym (cond-false (label y) (Some t) (target_at nat_eq i v (mixed f 0 ys)) s) ∙ h))
 
@@ -190,7 +191,7 @@ module _ (f g : Edge ℕ ℕ → Option ℕ) (i v : ℕ) (others : (y : Edge ℕ
 
       go : (b : Bool) → (nat_eq y.dim i && nat_eq y.value v) ≡ b → (o : Option ℕ) → f y ≡ o → target_at nat_eq i v (cons y o (mixed f 0 ys)) ≡ Some t → list_all (label_lt y) ys ≡ true
           → (target_at nat_eq i v (mixed f 0 ys) ≡ Some t → list_led (h t) t (mixed f 0 ys) ≡ mixed g 0 ys) → list_led (h t) t (cons y (f y) (mixed f 0 ys)) ≡ cons y (g y) (mixed g 0 ys)
-      go true a None q e l more = let bad : None ≡ Some y.target = sym q ∙ own y a in cc
+      go true a None q e l more = absurd (none_some (sym q ∙ own y a))
       go true a (Some r) q e l more =
           let target : y.target ≡ r = some_same (sym (own y a) ∙ q) in
           let found : r ≡ t = some_same (sym (cond-true (label y) (Some r) (target_at nat_eq i v (mixed f 0 ys)) a) ∙ e) in

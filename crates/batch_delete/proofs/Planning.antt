@@ -17,7 +17,7 @@ use Rattle.cube_laws.proofs.Closures.{is_class-is, leq-closure}
 use Rattle.cube_laws.proofs.Columns.{entry_of_leq}
 use Rattle.cube_laws.proofs.Covered.{closure_length}
 use Rattle.cube_laws.proofs.LastAny.{tuple_or_last_any}
-use Rattle.cube_laws.proofs.Lists.{all-insert}
+use Rattle.cube_laws.proofs.Lists.{all-insert, none_some}
 use Rattle.cube_laws.proofs.Nodes.{class_fronts}
 use Rattle.cube_laws.proofs.Orders.{one_test}
 use Rattle.qc_arena.specs.Seen.{record_at}
@@ -81,13 +81,13 @@ module _ (measures : ℕ) (rows : List (Row ℕ)) (c : Cell ℕ) where
     where
       go : (o : Option (Cell ℕ)) → closure (eq_by_cmp nat_cmp) rows c ≡ o → closure (eq_by_cmp nat_cmp) rows c ≡ None
       go None q = q
-      go (Some u) q = let bad : Some (agg (eq_by_cmp nat_cmp) measures rows c) ≡ None = ap (option_map (λ _. agg (eq_by_cmp nat_cmp) measures rows c)) (sym q) ∙ total_agg measures rows c ∙ e in cc
+      go (Some u) q = absurd (none_some (sym (ap (option_map (λ _. agg (eq_by_cmp nat_cmp) measures rows c)) (sym q) ∙ total_agg measures rows c ∙ e)))
 
   some_rows : (a : _) → agg_at (eq_by_cmp nat_cmp) measures rows c ≡ Some a → (u : Cell ℕ) × (closure (eq_by_cmp nat_cmp) rows c ≡ Some u)
   some_rows a e = go (closure (eq_by_cmp nat_cmp) rows c) refl
     where
       go : (o : Option (Cell ℕ)) → closure (eq_by_cmp nat_cmp) rows c ≡ o → (u : Cell ℕ) × (closure (eq_by_cmp nat_cmp) rows c ≡ Some u)
-      go None q = let bad : None ≡ Some a = ap (option_map (λ _. agg (eq_by_cmp nat_cmp) measures rows c)) (sym q) ∙ total_agg measures rows c ∙ e in cc
+      go None q = absurd (none_some (ap (option_map (λ _. agg (eq_by_cmp nat_cmp) measures rows c)) (sym q) ∙ total_agg measures rows c ∙ e))
       go (Some u) q = (u, q)
 
 module _ (dims : ℕ) (tree : Tree ℕ) (d : Deletion) (h : IsTreeOf dims tree (source_before d)) (tuple : Cell ℕ) (wide : length tuple ≡ dims) (row : tuple ≡ cell_of d.r.tuple) (u : Cell ℕ) (long : length u ≡ dims)

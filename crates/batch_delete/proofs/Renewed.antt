@@ -14,7 +14,7 @@ use Rattle.cube_defs.specs.Tree.{Edge, Node, Tree, as_list, cell_at, cut_last, e
 use Rattle.cube_laws.specs.Lists.{Among}
 use Rattle.cube_laws.proofs.Cells.{cell_eq-exact, cell_eq-from, leq_antisymm, leq_refl}
 use Rattle.cube_laws.proofs.Closures.{leq-closure}
-use Rattle.cube_laws.proofs.Lists.{all-insert, among_append}
+use Rattle.cube_laws.proofs.Lists.{all-insert, among_append, none_some}
 use Rattle.cube_laws.proofs.OneRow.{node-insert, node_stays}
 use Rattle.cube_laws.proofs.Orders.{leq_is}
 use Rattle.qc_arena.specs.Map.{Known}
@@ -142,10 +142,10 @@ module _ (width : ℕ) (old new : Tree ℕ) (tuple : Cell ℕ) (d : Deletion) (h
   was q m e = go (fin.get old q) refl
     where
       none : fin.get old q ≡ None → fin.get new q ≡ None
-      none k = others q (λ j b at same. let bad : Some b.cell ≡ None = sym (below.cells j b at) ∙ ap (cell_at old) same ∙ ap (option_map (λ (m : Known). m.cell)) k in cc) ∙ k
+      none k = others q (λ j b at same. absurd (none_some (sym (sym (below.cells j b at) ∙ ap (cell_at old) same ∙ ap (option_map (λ (m : Known). m.cell)) k)))) ∙ k
 
       go : (o : Option Known) → fin.get old q ≡ o → (n : Known) × (fin.get old q ≡ Some n)
-      go None k = let bad : Some m ≡ None = sym e ∙ none k in cc
+      go None k = absurd (none_some (sym (none k) ∙ e))
       go (Some n) k = (n, k)
 
   -- and what stands there is a node afterwards
@@ -163,7 +163,7 @@ module _ (width : ℕ) (old new : Tree ℕ) (tuple : Cell ℕ) (d : Deletion) (h
 
               at_now : Now q n → (cell_at old q ≡ Some c) × (is_node (eq_by_cmp nat_cmp) (rows_after d) c ≡ true)
               at_now (Apart k f) = with_cell (ap (λ (x : Known). x.cell) (some_same (sym f ∙ at))) (sym (node_stays law d.xs d.r d.ys n.cell k) ∙ (h.canonical.each q n before).0)
-              at_now (Gone k f) = let bad : None ≡ Some m = sym f ∙ at in cc
+              at_now (Gone k f) = absurd (none_some (sym f ∙ at))
               at_now (Mended k l rest r f) = with_cell (ap (λ (x : Known). x.cell) (some_same (sym f ∙ at))) l
 
   -- the record of a node that isn't below the tuple
@@ -177,7 +177,7 @@ module _ (width : ℕ) (old new : Tree ℕ) (tuple : Cell ℕ) (d : Deletion) (h
       old_is = (h.canonical.each q n e).1 ∙ ap (option_map (renamed (λ c. Some c))) (record_stays nat_cmp law d.measures d.xs d.r d.ys n.cell off)
 
       go : (o : Option (Node ℕ (Cell ℕ))) → node_of nat_cmp d.measures (rows_after d) n.cell ≡ o → Some (renamed (cell_at new) n) ≡ option_map (renamed (λ c. Some c)) (node_of nat_cmp d.measures (rows_after d) n.cell)
-      go None k = let bad : Some (renamed (cell_at old) n) ≡ None = old_is ∙ ap (option_map (renamed (λ c. Some c))) k in cc
+      go None k = absurd (none_some (sym (old_is ∙ ap (option_map (renamed (λ c. Some c))) k)))
       go (Some m) k =
           let u = record_closure nat_cmp_total fin.nat_cmp-IsAntisymmetric d.measures (rows_after d) n.cell m k in
           let form = record_with nat_cmp_total fin.nat_cmp-IsAntisymmetric d.measures (rows_after d) n.cell m k u.0 u.1 in
@@ -231,7 +231,7 @@ module _ (width : ℕ) (old new : Tree ℕ) (tuple : Cell ℕ) (d : Deletion) (h
         no_child : (o : Option (Option ℕ)) → slice_get rest.shared (next_value nat_cmp (depth n.cell) rest.shared) ≡ o → get_or rest.shared (next_value nat_cmp (depth n.cell) rest.shared) None ≡ None → made_child o ≡ None
         no_child None k f = refl
         no_child (Some None) k f = refl
-        no_child (Some (Some v)) k f = let bad : None ≡ Some v = sym f ∙ Rattle.batch_delete.proofs.Entries.entry_is rest.shared (next_value nat_cmp (depth n.cell) rest.shared) (Some v) k in cc
+        no_child (Some (Some v)) k f = absurd (none_some (sym f ∙ Rattle.batch_delete.proofs.Entries.entry_is rest.shared (next_value nat_cmp (depth n.cell) rest.shared) (Some v) k))
 
         go : (o : Option ℕ) → get_or rest.shared (next_value nat_cmp (depth n.cell) rest.shared) None ≡ o
             → option_map (renamed_edge (cell_at new)) (forced_by (option_map (λ v. (next_value nat_cmp (depth n.cell) rest.shared, v)) o) (record n { edges = es })) ≡ option_map (renamed_edge (λ c. Some c)) after.forced
@@ -284,7 +284,7 @@ module _ (width : ℕ) (old new : Tree ℕ) (tuple : Cell ℕ) (d : Deletion) (h
 
           by : Now q n → Some (renamed (cell_at new) m) ≡ option_map (renamed (λ c. Some c)) (node_of nat_cmp d.measures (rows_after d) m.cell)
           by (Apart k f) = target_after_row n (some_same (sym f ∙ e)) (apart_right q n before k)
-          by (Gone k f) = let bad : None ≡ Some m = sym f ∙ e in cc
+          by (Gone k f) = absurd (none_some (sym f ∙ e))
           by (Mended k l rest r f) = target_after_row (mended tuple (heir_in plan) n.cell rest n) (some_same (sym f ∙ e)) (mended_right q n before k l rest r)
 
   pub renewed : IsTreeOf width new (source_after d)

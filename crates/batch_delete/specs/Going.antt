@@ -1,30 +1,48 @@
 -- The row that goes, and the classes that it is one of.
-use Rattle.std.specs.Prelude.{◌≡◌, ◌≤◌, ℕ, suc, true, Some, IfSome, length}
+use Rattle.std.specs.Prelude.{◌≡◌, ◌≤◌, ◌<◌, ℕ, suc, true, Option, Some, None, IfSome, length, slice_get}
 use Rattle.std.specs.Option.{option_map}
 use Rattle.std.specs.Ordering.{eq_by_cmp, nat_cmp}
+use Rattle.aggregates.specs.declared.agg.Agg.{Agg}
 use Rattle.aggregates.specs.Views.{agg_in}
-use Rattle.cube_defs.specs.Cell.{Cell, cell_of}
+use Rattle.cube_defs.specs.Cell.{Cell, cell_front, cell_of}
 use Rattle.cube_defs.specs.Rows.{covers}
-use Rattle.cube_defs.specs.Tree.{Tree}
+use Rattle.cube_defs.specs.Tree.{Tree, cell_at}
 use Rattle.cube_defs.specs.declared.limits.TheConstants.{MAX_ROWS}
 use Rattle.cube_laws.specs.Total.{agg_at}
+use Rattle.qc_arena.specs.Map.{Arena}
 use Rattle.tree_laws.specs.Walk.{closure_front}
-use Rattle.tree_search.specs.Found.{IsNumberOfCell, closure_in}
+use Rattle.tree_search.specs.Found.{IsNumberOfCell, IsTreeOf, closure_in}
 use Rattle.batch_delete.specs.declared.going.Class.{Class}
-use Rattle.batch_delete.specs.declared.going.Going.{Going}
+use Rattle.batch_delete.specs.declared.below.Below.{Below}
 use Rattle.batch_delete.specs.Rests.{Deletion, rows_after, rows_before, source_before}
 
--- what is known of the row that goes: its tuple, and what the tuple's rows come to before and afterwards
-pub record IsGoing (d : Deletion) (row : Going) : Type 0 where
-  pub tuple : row.tuple ≡ cell_of d.r.tuple
-  pub all : option_map agg_in row.all ≡ agg_at (eq_by_cmp nat_cmp) d.measures (rows_before d) row.tuple
-  pub twins : option_map agg_in row.twins ≡ agg_at (eq_by_cmp nat_cmp) d.measures (rows_after d) row.tuple
+-- what is known of the row that goes: the tree before, its tuple, and what the tuple's rows come to before and afterwards
+pub record IsGoing (d : Deletion) (a : Arena) (t : Cell ℕ) (before after : Option Agg) : Type 0 where
+  pub tree : IsTreeOf a.width a.now (source_before d)
+  pub long : length t ≡ a.width
+  pub tuple : t ≡ cell_of d.r.tuple
+  pub all : option_map agg_in before ≡ agg_at (eq_by_cmp nat_cmp) d.measures (rows_before d) t
+  pub twins : option_map agg_in after ≡ agg_at (eq_by_cmp nat_cmp) d.measures (rows_after d) t
   pub few : length (rows_before d) ≤ MAX_ROWS
 
 -- a class that the row is one of
 pub record IsClass (d : Deletion) (c : Cell ℕ) : Type 0 where
   pub below : covers (eq_by_cmp nat_cmp) c d.r ≡ true
   pub own : closure_in (source_before d) c ≡ Some c
+
+-- such a class and its node
+pub record IsClassNode (d : Deletion) (a : Arena) (b : Below) : Type 0 where
+  pub class : IsClass d b.cell
+  pub long : length b.cell ≡ a.width
+  pub node : cell_at a.now b.node.0 ≡ Some b.cell
+
+-- such a class at its front before a dimension in which it has Any
+pub record AtFront (d : Deletion) (a : Arena) (u : Cell ℕ) (i number : ℕ) : Type 0 where
+  pub class : IsClass d u
+  pub long : length u ≡ a.width
+  pub any : slice_get u i ≡ Some None
+  pub dim : i < length u
+  pub front : cell_at a.now number ≡ Some (cell_front i u)
 
 -- what is known of such a class: what its rows come to before, and perhaps afterwards
 pub record IsKnown (d : Deletion) (class : Class) : Type 0 where

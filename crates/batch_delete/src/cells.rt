@@ -47,8 +47,9 @@ pub(crate) fn last_any(cell: &Cell) -> Option<u8>
 {
     'dims: for k in 0..cell.dims() {
         let dim = cell.dims() - 1 - k;
-        if cell.get(dim) == Entry::Any {
-            return Some(dim);
+        match cell.get(dim) {
+            Entry::Any => return Some(dim),
+            Entry::Is(_) => {}
         }
     }
     None

@@ -105,9 +105,9 @@ pub(crate) fn class_at<L: Ledger>(
 
 /// The aggregate of a class without the row. None if a row with its tuple has the MIN or the MAX of
 /// any measure.
-pub(crate) fn less_of(row: &Going, cell: &Cell, whole: Option<Agg>) -> Option<Agg>
+pub(crate) fn less_of(row: &Going<'_>, cell: &Cell, whole: Option<Agg>) -> Option<Agg>
     ghost d: { Deletion }
-    requires row { IsGoing d row.now }
+    requires row { IsGoing d row.now.arena.now row.now.tuple.now row.now.all row.now.twins }
     requires below { defs.covers (eq_by_cmp nat_cmp) cell.now d.r ≡ true }
     requires whole { option_map agg_in whole ≡ agg_at (eq_by_cmp nat_cmp) d.measures (rows_before d) cell.now }
     ensures agg { IfSome result (λ agg. Some (agg_in agg) ≡ agg_at (eq_by_cmp nat_cmp) d.measures (rows_after d) cell.now) }

@@ -12,7 +12,7 @@ ghost use Rattle.cube_laws.specs.Total.{join_aggs, join_cells};
 ghost use Rattle.tree_search.specs.Found.{IsTreeOf, IsNumberOfCell, closure_in};
 ghost use Rattle.batch_delete.specs.declared.below.Below.{Below};
 ghost use Rattle.batch_delete.specs.Below.{AreBelow};
-ghost use Rattle.batch_delete.specs.Going.{GoesOn, IsClass, IsGoing, IsKnown};
+ghost use Rattle.batch_delete.specs.Going.{AtFront, GoesOn, IsClassNode, IsGoing, IsKnown};
 ghost use Rattle.batch_delete.specs.Plan.{after_in, front_labels, is_value, last_any_of};
 ghost use Rattle.batch_delete.specs.Rests.{Deletion, IsRest, IsTotal, agg_of_rest, other_values, rows_after, rows_before, shared_of, source_before};
 
@@ -147,8 +147,7 @@ fn own_rest<L: Ledger>(
 // The rest of those rows of a class that have the tuple's value in a dimension of Any. `front` is
 // the node of the class's prefix before that dimension.
 fn own_part<L: Ledger>(
-    arena: &QcArena,
-    row: &Going,
+    row: &Going<'_>,
     plan: &IndexMap<u32, Fate>,
     cell: &Cell,
     dim: u8,
@@ -156,27 +155,21 @@ fn own_part<L: Ledger>(
     steps: &mut Steps<L>,
 ) -> Option<Rest>
     ghost d: { Deletion }
-    requires tree { IsTreeOf arena.now.width arena.now.now (source_before d) }
-    requires long { length cell.now ≡ arena.now.width }
-    requires tuple { length row.now.tuple ≡ arena.now.width }
-    requires row { IsGoing d row.now }
-    requires class { IsClass d cell.now }
-    requires any { slice_get cell.now dim ≡ Some None }
-    requires dim { dim < length cell.now }
-    requires front { cell_at arena.now.now front.0 ≡ Some (cell_front dim cell.now) }
-    requires planned { (v q : ℕ) (w : _) → slice_index_or row.now.tuple dim None ≡ Some v → closure_in (source_before d) (with_value cell.now dim v) ≡ Some w →
-        cell_at arena.now.now q ≡ Some w → IsRest d.measures (rows_after d) w (after_in plan.now.entries q) }
-    ensures rest { (v : ℕ) → slice_index_or row.now.tuple dim None ≡ Some v → IsRest d.measures (rows_after d) (with_value cell.now dim v) result }
+    requires row { IsGoing d row.now.arena.now row.now.tuple.now row.now.all row.now.twins }
+    requires front { AtFront d row.now.arena.now cell.now dim front.0 }
+    requires planned { (v q : ℕ) (w : _) → slice_index_or row.now.tuple.now dim None ≡ Some v → closure_in (source_before d) (with_value cell.now dim v) ≡ Some w →
+        cell_at row.now.arena.now.now q ≡ Some w → IsRest d.measures (rows_after d) w (after_in plan.now.entries q) }
+    ensures rest { (v : ℕ) → slice_index_or row.now.tuple.now dim None ≡ Some v → IsRest d.measures (rows_after d) (with_value cell.now dim v) result }
     ensures steps { steps.new ≤ steps.old + (2 * length cell.now + 1) }
 {
     match row.tuple.get(dim) {
         Entry::Any => None,
-        Entry::Is(code) => match arena.edge(front, dim, code, steps) {
+        Entry::Is(code) => match row.arena.edge(front, dim, code, steps) {
             None => None,
             Some(target) => {
                 let mut more = cell.copy();
                 more.set(dim, Entry::Is(code));
-                own_rest(arena, plan, &more, dim, target, steps)
+                own_rest(row.arena, plan, &more, dim, target, steps)
             }
         },
     }
@@ -217,43 +210,40 @@ fn with_part<L: Ledger>(
 
 // The rest joined with the rows of a label, unless the label has the tuple's value.
 fn with_label<L: Ledger>(
-    arena: &QcArena,
-    row: &Going,
+    row: &Going<'_>,
     cell: &Cell,
     label: (u8, Code, NodeNo),
     rest: Option<Rest>,
     steps: &mut Steps<L>,
 ) -> Option<Rest>
     ghost d: { Deletion }
-    requires tree { IsTreeOf arena.now.width arena.now.now (source_before d) }
-    requires long { length cell.now ≡ arena.now.width }
-    requires tuple { length row.now.tuple ≡ arena.now.width }
+    requires row { IsGoing d row.now.arena.now row.now.tuple.now row.now.all row.now.twins }
+    requires long { length cell.now ≡ row.now.arena.now.width }
     requires dim { label.0 < length cell.now }
     requires code { IsCode label.1 }
-    requires on { GoesOn d arena.now.now (with_value cell.now label.0 label.1) label.0 label.2.0 }
-    requires few { is_value (slice_index_or row.now.tuple label.0 None) label.1 ≡ false → (part : _) →
+    requires on { GoesOn d row.now.arena.now.now (with_value cell.now label.0 label.1) label.0 label.2.0 }
+    requires few { is_value (slice_index_or row.now.tuple.now label.0 None) label.1 ≡ false → (part : _) →
         IsRest d.measures (rows_before d) (with_value cell.now label.0 label.1) (Some part) → IfSome rest (λ some. some.agg.count + part.agg.count ≤ MAX_ROWS) }
     requires parts { IfSome rest (λ some. length (agg_in some.agg).parts ≡ d.measures) }
     requires shared { IfSome rest (λ some. length some.shared ≡ length cell.now) }
     ensures parts { IfSome result (λ some. length (agg_in some.agg).parts ≡ d.measures) }
     ensures shared { IfSome result (λ some. length some.shared ≡ length cell.now) }
-    ensures total { (v : ℕ) (w : _) (vs : List ℕ) → slice_index_or row.now.tuple label.0 None ≡ Some v → IsTotal d cell.now label.0 v w vs rest →
+    ensures total { (v : ℕ) (w : _) (vs : List ℕ) → slice_index_or row.now.tuple.now label.0 None ≡ Some v → IsTotal d cell.now label.0 v w vs rest →
         IsTotal d cell.now label.0 v w (vs ++ other_values label.0 v (record { dim = label.0; value = label.1; target = label.2.0 } ∷ [])) result }
-    ensures steps { (v : ℕ) → slice_index_or row.now.tuple label.0 None ≡ Some v →
+    ensures steps { (v : ℕ) → slice_index_or row.now.tuple.now label.0 None ≡ Some v →
         steps.new ≤ steps.old + (4 * length cell.now + 5) * length
         (other_values label.0 v (record { dim = label.0; value = label.1; target = label.2.0 } ∷ [])) }
 {
-    if has(&row.tuple, label.0, label.1) {
+    if has(row.tuple, label.0, label.1) {
         return rest;
     }
-    with_part(arena, cell, label, rest, steps)
+    with_part(row.arena, cell, label, rest, steps)
 }
 
 // The rest of a class. It begins with the rows that have the tuple's value in the dimension. Then
 // the rows of one label after another are joined, until the rest of the whole class is settled.
 fn with_labels<L: Ledger>(
-    arena: &QcArena,
-    row: &Going,
+    row: &Going<'_>,
     class: &Class,
     dim: u8,
     front: NodeNo,
@@ -261,91 +251,76 @@ fn with_labels<L: Ledger>(
     steps: &mut Steps<L>,
 ) -> Option<Rest>
     ghost d: { Deletion }
-    requires tree { IsTreeOf arena.now.width arena.now.now (source_before d) }
-    requires long { length class.now.cell ≡ arena.now.width }
-    requires tuple { length row.now.tuple ≡ arena.now.width }
-    requires row { IsGoing d row.now }
+    requires row { IsGoing d row.now.arena.now row.now.tuple.now row.now.all row.now.twins }
     requires class { IsKnown d class.now }
-    requires any { slice_get class.now.cell dim ≡ Some None }
-    requires dim { dim < length class.now.cell }
-    requires front { cell_at arena.now.now front.0 ≡ Some (cell_front dim class.now.cell) }
-    requires rest { (v : ℕ) → slice_index_or row.now.tuple dim None ≡ Some v → IsRest d.measures (rows_after d) (with_value class.now.cell dim v) rest }
+    requires front { AtFront d row.now.arena.now class.now.cell dim front.0 }
+    requires rest { (v : ℕ) → slice_index_or row.now.tuple.now dim None ≡ Some v → IsRest d.measures (rows_after d) (with_value class.now.cell dim v) rest }
     ensures rest { IsRest d.measures (rows_after d) class.now.cell result }
     ensures steps { steps.new + (4 * length class.now.cell + 5)
-        ≤ steps.old + (3 + (4 * length class.now.cell + 7) * length (record_at arena.now.now front.0).edges) }
+        ≤ steps.old + (3 + (4 * length class.now.cell + 7) * length (record_at row.now.arena.now.now front.0).edges) }
 {
     let mut all = rest;
-    let first = first_label(arena, front, dim, steps);
-    'labels: for k in first..arena.edge_count(front, steps) {
-        let label = arena.edge_at(front, k, steps);
+    let first = first_label(row.arena, front, dim, steps);
+    'labels: for k in first..row.arena.edge_count(front, steps) {
+        let label = row.arena.edge_at(front, k, steps);
         if label.0 != dim {
             return all;
         }
-        match settled(arena, row, class, &all) {
+        match settled(row, class, &all) {
             Some(done) => return Some(done),
             None => {}
         }
-        all = with_label(arena, row, &class.cell, label, all, steps);
+        all = with_label(row, &class.cell, label, all, steps);
     }
     all
 }
 
 // The rest of a class, joined from its parts by its last dimension of Any.
 fn all_parts<L: Ledger>(
-    arena: &QcArena,
-    row: &Going,
+    row: &Going<'_>,
     plan: &IndexMap<u32, Fate>,
     below: &Below,
     dim: u8,
     steps: &mut Steps<L>,
 ) -> Option<Rest>
     ghost d: { Deletion }
-    requires tree { IsTreeOf arena.now.width arena.now.now (source_before d) }
-    requires long { length below.now.cell ≡ arena.now.width }
-    requires tuple { length row.now.tuple ≡ arena.now.width }
-    requires row { IsGoing d row.now }
-    requires class { IsClass d below.now.cell }
-    requires node { cell_at arena.now.now below.now.node.0 ≡ Some below.now.cell }
+    requires row { IsGoing d row.now.arena.now row.now.tuple.now row.now.all row.now.twins }
+    requires class { IsClassNode d row.now.arena.now below.now }
     requires last { IsLastAny below.now.cell dim }
     requires dim { dim < length below.now.cell }
-    requires planned { (v q : ℕ) (w : _) → slice_index_or row.now.tuple dim None ≡ Some v →
-        closure_in (source_before d) (with_value below.now.cell dim v) ≡ Some w → cell_at arena.now.now q ≡ Some w →
+    requires planned { (v q : ℕ) (w : _) → slice_index_or row.now.tuple.now dim None ≡ Some v →
+        closure_in (source_before d) (with_value below.now.cell dim v) ≡ Some w → cell_at row.now.arena.now.now q ≡ Some w →
         IsRest d.measures (rows_after d) w (after_in plan.now.entries q) }
     ensures rest { IsRest d.measures (rows_after d) below.now.cell result }
-    ensures steps { (q : ℕ) → cell_at arena.now.now q ≡ Some (cell_front dim below.now.cell) →
-        steps.new ≤ steps.old + ((3 * length below.now.cell + 4) + (4 * length below.now.cell + 7) * length (record_at arena.now.now q).edges) }
+    ensures steps { (q : ℕ) → cell_at row.now.arena.now.now q ≡ Some (cell_front dim below.now.cell) →
+        steps.new ≤ steps.old + ((3 * length below.now.cell + 4) + (4 * length below.now.cell + 7) * length (record_at row.now.arena.now.now q).edges) }
 {
-    let class = class_of(arena, row, below, steps);
-    let front = front_at(arena, &below.cell, dim, below.node, steps);
-    let own = own_part(arena, row, plan, &below.cell, dim, front, steps);
-    with_labels(arena, row, &class, dim, front, own, steps)
+    let class = class_of(row, below, steps);
+    let front = front_at(row.arena, &below.cell, dim, below.node, steps);
+    let own = own_part(row, plan, &below.cell, dim, front, steps);
+    with_labels(row, &class, dim, front, own, steps)
 }
 
 /// The rest of a class that generalizes the tuple.
 pub(crate) fn class_after<L: Ledger>(
-    arena: &QcArena,
-    row: &Going,
+    row: &Going<'_>,
     plan: &IndexMap<u32, Fate>,
     below: &Below,
     steps: &mut Steps<L>,
 ) -> Option<Rest>
     ghost d: { Deletion }
-    requires tree { IsTreeOf arena.now.width arena.now.now (source_before d) }
-    requires long { length below.now.cell ≡ arena.now.width }
-    requires tuple { length row.now.tuple ≡ arena.now.width }
-    requires row { IsGoing d row.now }
-    requires class { IsClass d below.now.cell }
-    requires node { cell_at arena.now.now below.now.node.0 ≡ Some below.now.cell }
-    requires planned { (i v q : ℕ) (w : _) → slice_get below.now.cell i ≡ Some None → slice_index_or row.now.tuple i None ≡ Some v →
-        closure_in (source_before d) (with_value below.now.cell i v) ≡ Some w → cell_at arena.now.now q ≡ Some w →
+    requires row { IsGoing d row.now.arena.now row.now.tuple.now row.now.all row.now.twins }
+    requires class { IsClassNode d row.now.arena.now below.now }
+    requires planned { (i v q : ℕ) (w : _) → slice_get below.now.cell i ≡ Some None → slice_index_or row.now.tuple.now i None ≡ Some v →
+        closure_in (source_before d) (with_value below.now.cell i v) ≡ Some w → cell_at row.now.arena.now.now q ≡ Some w →
         IsRest d.measures (rows_after d) w (after_in plan.now.entries q) }
     ensures rest { IsRest d.measures (rows_after d) below.now.cell result }
-    ensures steps { (list : List Below) → AreBelow arena.now.now row.now.tuple (length row.now.tuple) list →
-        steps.new ≤ steps.old + ((3 * length below.now.cell + 4) + (4 * length below.now.cell + 7) * front_labels arena.now.now list below.now.cell
+    ensures steps { (list : List Below) → AreBelow row.now.arena.now.now row.now.tuple.now (length row.now.tuple.now) list →
+        steps.new ≤ steps.old + ((3 * length below.now.cell + 4) + (4 * length below.now.cell + 7) * front_labels row.now.arena.now.now list below.now.cell
         (last_any_of below.now.cell)) }
 {
     match last_any(&below.cell) {
-        Some(dim) => all_parts(arena, row, plan, below, dim, steps),
+        Some(dim) => all_parts(row, plan, below, dim, steps),
         None => match row.twins {
             None => None,
             Some(agg) => Some(Rest {

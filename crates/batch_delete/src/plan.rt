@@ -19,7 +19,7 @@ ghost use Rattle.batch_delete.specs.Rests.{AreGreaterPlanned, ArePlanned, Deleti
 use crate::Memory;
 use crate::below::Below;
 use crate::cells::{depth, front};
-use crate::going::{Going, row_of};
+use crate::going::Going;
 use crate::parts::{Rest, class_after};
 use aggregates::Agg;
 use cell_core::{Cell, Entry, NodeNo, Steps, leq};
@@ -28,6 +28,7 @@ use indexmap::IndexMap;
 use qc_arena::{Nodes, QcArena};
 use std::alloc::Global;
 use std::sync::ledger::Ledger;
+use tree_search::total_at;
 
 /// What the rows of a node share after the deletion, and their aggregate, if any rows are left.
 /// Then the *heir*: the node of the prefix of what they share, as long as the node's cell. A node
@@ -88,27 +89,24 @@ pub(crate) fn heir_of(plan: &IndexMap<u32, Fate>, node: NodeNo) -> Option<NodeNo
 // The rest of the rows of a node that generalizes the tuple. The nodes with more values are planned
 // already.
 fn rest_of<L: Ledger>(
-    arena: &QcArena,
-    row: &Going,
+    row: &Going<'_>,
     plan: &IndexMap<u32, Fate>,
     below: &Below,
     steps: &mut Steps<L>,
 ) -> Option<Rest>
     ghost d: { Deletion }
-    requires tree { IsTreeOf arena.now.width arena.now.now (source_before d) }
-    requires tuple { length row.now.tuple ≡ arena.now.width }
-    requires row { IsGoing d row.now }
-    requires cell { cell_at arena.now.now below.now.node.0 ≡ Some below.now.cell }
-    requires low { leq nat_eq below.now.cell row.now.tuple ≡ true }
-    requires planned { AreGreaterPlanned d arena.now.now row.now.tuple below.now.cell plan.now.entries }
+    requires row { IsGoing d row.now.arena.now row.now.tuple.now row.now.all row.now.twins }
+    requires cell { cell_at row.now.arena.now.now below.now.node.0 ≡ Some below.now.cell }
+    requires low { leq nat_eq below.now.cell row.now.tuple.now ≡ true }
+    requires planned { AreGreaterPlanned d row.now.arena.now.now row.now.tuple.now below.now.cell plan.now.entries }
     ensures rest { IsRest d.measures (rows_after d) below.now.cell result }
-    ensures steps { (list : List Below) → AreBelow arena.now.now row.now.tuple (length row.now.tuple) list →
-        steps.new ≤ steps.old + ((3 * length row.now.tuple + 5) + (4 * length row.now.tuple + 7) * front_labels arena.now.now list below.now.cell
+    ensures steps { (list : List Below) → AreBelow row.now.arena.now.now row.now.tuple.now (length row.now.tuple.now) list →
+        steps.new ≤ steps.old + ((3 * length row.now.tuple.now + 5) + (4 * length row.now.tuple.now + 7) * front_labels row.now.arena.now.now list below.now.cell
         (last_any_of below.now.cell)) }
 {
-    match arena.forced(below.node, steps) {
+    match row.arena.forced(below.node, steps) {
         Some(forced) => after_of(plan, forced.child),
-        None => class_after(arena, row, plan, below, steps),
+        None => class_after(row, plan, below, steps),
     }
 }
 
@@ -143,27 +141,24 @@ fn heir_at<L: Ledger>(
 
 // The fate of a node that generalizes the tuple. The nodes with more values are planned already.
 fn fate_of<L: Ledger>(
-    arena: &QcArena,
-    row: &Going,
+    row: &Going<'_>,
     plan: &IndexMap<u32, Fate>,
     below: &Below,
     steps: &mut Steps<L>,
 ) -> Fate
     ghost d: { Deletion }
-    requires tree { IsTreeOf arena.now.width arena.now.now (source_before d) }
-    requires tuple { length row.now.tuple ≡ arena.now.width }
-    requires row { IsGoing d row.now }
-    requires cell { cell_at arena.now.now below.now.node.0 ≡ Some below.now.cell }
-    requires low { leq nat_eq below.now.cell row.now.tuple ≡ true }
-    requires planned { AreGreaterPlanned d arena.now.now row.now.tuple below.now.cell plan.now.entries }
+    requires row { IsGoing d row.now.arena.now row.now.tuple.now row.now.all row.now.twins }
+    requires cell { cell_at row.now.arena.now.now below.now.node.0 ≡ Some below.now.cell }
+    requires low { leq nat_eq below.now.cell row.now.tuple.now ≡ true }
+    requires planned { AreGreaterPlanned d row.now.arena.now.now row.now.tuple.now below.now.cell plan.now.entries }
     ensures after { IsRest d.measures (rows_after d) below.now.cell result.after }
-    ensures heir { IsNumberOfCell arena.now.now (option_map number result.heir)
+    ensures heir { IsNumberOfCell row.now.arena.now.now (option_map number result.heir)
         (option_map (cell_front (cells.depth below.now.cell)) (closure (eq_by_cmp nat_cmp) (rows_after d) below.now.cell)) }
-    ensures steps { (list : List Below) → AreBelow arena.now.now row.now.tuple (length row.now.tuple) list →
-        steps.new ≤ steps.old + (4 * length row.now.tuple + 7) * (1 + front_labels arena.now.now list below.now.cell (last_any_of below.now.cell)) }
+    ensures steps { (list : List Below) → AreBelow row.now.arena.now.now row.now.tuple.now (length row.now.tuple.now) list →
+        steps.new ≤ steps.old + (4 * length row.now.tuple.now + 7) * (1 + front_labels row.now.arena.now.now list below.now.cell (last_any_of below.now.cell)) }
 {
-    let after = rest_of(arena, row, plan, below, steps);
-    let heir = heir_at(arena, below, &after, steps);
+    let after = rest_of(row, plan, below, steps);
+    let heir = heir_at(row.arena, below, &after, steps);
     Fate { after, heir }
 }
 
@@ -178,8 +173,31 @@ fn add_fate(plan: &mut IndexMap<u32, Fate>, node: NodeNo, fate: Fate) -> Result<
     Ok(())
 }
 
-/// Plans the fates of the nodes that generalize the tuple, from the last one on. So each is planned
-/// after its descendants.
+// Plans the fates of the nodes of a list, from the last one on. So each is planned after its
+// descendants.
+fn plan_row<L: Ledger>(
+    row: &Going<'_>,
+    list: &Vec<Below>,
+    plan: &mut IndexMap<u32, Fate>,
+    steps: &mut Steps<L>,
+) -> Result<(), Memory>
+    ghost d: { Deletion }
+    requires row { IsGoing d row.now.arena.now row.now.tuple.now row.now.all row.now.twins }
+    requires below { AreBelow row.now.arena.now.now row.now.tuple.now (length row.now.tuple.now) list.now.items }
+    ensures planned { OnOk result (ArePlanned d row.now.arena.now.now plan.new.entries list.now.items 0) }
+    ensures steps { OnOk result (steps.new ≤ steps.old + planning (length row.now.tuple.now) row.now.arena.now.now list.now.items list.now.items) }
+{
+    let many = list.len();
+    plan.reserve(many)?;
+    'nodes: for k in 0..many {
+        let below = &list[many - 1 - k];
+        let fate = fate_of(row, plan, below, steps);
+        add_fate(plan, below.node, fate)?;
+    }
+    Ok(())
+}
+
+/// Plans the fates of the nodes that generalize the tuple.
 pub(crate) fn plan_all<L: Ledger>(
     alloc: Global,
     arena: &QcArena,
@@ -199,14 +217,16 @@ pub(crate) fn plan_all<L: Ledger>(
     ensures steps { IfOk result (λ plan. steps.new ≤ steps.old +
         (2 * length tuple.now + 3 + planning (length tuple.now) arena.now.now list.now.items list.now.items)) }
 {
-    let row = row_of(arena, tuple, twins, steps);
+    let all = total_at(arena, tuple, steps);
+    let row = Going {
+        arena,
+        tuple,
+        all,
+        twins,
+    };
     let mut plan = IndexMap::new(alloc);
-    let many = list.len();
-    plan.reserve(many)?;
-    'nodes: for k in 0..many {
-        let below = &list[many - 1 - k];
-        let fate = fate_of(arena, &row, &plan, below, steps);
-        add_fate(&mut plan, below.node, fate)?;
+    match plan_row(&row, list, &mut plan, steps) {
+        Ok(()) => Ok(plan),
+        Err(error) => Err(error),
     }
-    Ok(plan)
 }

@@ -2,16 +2,14 @@
 ghost use Rattle.std.specs.Ordering.{eq_by_cmp, nat_cmp};
 ghost use Rattle.std.specs.Prelude.{IfSome, None, Some, false, length, slice_get, true, ℕ, ◌+◌, ◌<◌, ◌≡◌};
 ghost use Rattle.cube_defs.specs.Rows.{cov};
-ghost use Rattle.tree_search.specs.Found.{IsTreeOf};
 ghost use Rattle.batch_delete.specs.Going.{IsGoing, IsKnown};
-ghost use Rattle.batch_delete.specs.Rests.{Deletion, IsAbove, IsRest, rows_after, source_before};
+ghost use Rattle.batch_delete.specs.Rests.{Deletion, IsAbove, IsRest, rows_after};
 
 use crate::cells::has;
 use crate::going::{Class, Going};
 use crate::parts::Rest;
 use aggregates::Agg;
 use cell_core::{Cell, Entry};
-use qc_arena::QcArena;
 
 // Whether some rows of a class share a value in the dimension where the class has Any, other than
 // the tuple's.
@@ -57,17 +55,10 @@ fn are_all(some: &Rest, whole: Option<Agg>) -> bool
 
 /// The rest of a class, if some of its rows settle it. They do if they are all rows but the deleted
 /// one. They also do if they show that the class stays, and its aggregate without the row is known.
-pub(crate) fn settled(
-    arena: &QcArena,
-    row: &Going,
-    class: &Class,
-    some: &Option<Rest>,
-) -> Option<Rest>
+pub(crate) fn settled(row: &Going<'_>, class: &Class, some: &Option<Rest>) -> Option<Rest>
     ghost d: { Deletion }
-    requires tree { IsTreeOf arena.now.width arena.now.now (source_before d) }
-    requires long { length class.now.cell ≡ arena.now.width }
-    requires tuple { length row.now.tuple ≡ arena.now.width }
-    requires row { IsGoing d row.now }
+    requires row { IsGoing d row.now.arena.now row.now.tuple.now row.now.all row.now.twins }
+    requires long { length class.now.cell ≡ row.now.arena.now.width }
     requires class { IsKnown d class.now }
     requires shared { IfSome some.now (λ rest. length rest.shared ≡ length class.now.cell) }
     requires above { IfSome some.now (λ rest. IsAbove d class.now.cell rest.shared) }
@@ -84,7 +75,7 @@ pub(crate) fn settled(
             match class.less {
                 None => None,
                 Some(agg) => {
-                    if is_settled(&row.tuple, &class.cell, &rest.shared) {
+                    if is_settled(row.tuple, &class.cell, &rest.shared) {
                         Some(Rest {
                             shared: class.cell.copy(),
                             agg,

@@ -71,6 +71,13 @@ module _ (n e : ℕ) where
       let all : i * (2 * n + 7 + 2 * e) ≤ n * (2 * n + 7 + 2 * e) = mul-le-mul_right (2 * n + 7 + 2 * e) before in
       omega (arith, h, o, p, own, all)
 
+-- a label, and the child that it may lead to
+pub label_costs : (n s s1 s2 k k1 more : ℕ) → s1 ≤ s + 1 → s2 ≤ s1 + (2 * n + 2) → k1 ≡ k + 1 → s2 + k1 ≤ s + k + (2 * n + 5) + more
+label_costs n s s1 s2 k k1 more a b c = omega (arith, a, b, c)
+
+pub child_costs : (n s s1 s2 s3 k k1 k2 k3 below more : ℕ) → s1 ≤ s + 1 → s2 ≤ s1 + (2 * n + 2) → k1 ≡ k + 1 → k2 ≡ k1 + 1 → s3 + k3 + 1 ≤ s2 + k2 + below → below ≡ more → s3 + k3 ≤ s + k + (2 * n + 5) + more
+child_costs n s s1 s2 s3 k k1 k2 k3 below more a b c d e f = omega (arith, a, b, c, d, e, f)
+
 -- all together
 pub all_steps : (n below before after s0 s1 s2 s3 s4 spots writes : ℕ) → below ≤ 128 * (n + 1) ^ 2 * after → s1 ≤ s0 + 1 → s2 + (spots + writes) + 1 ≤ s1 + below → s3 ≤ s2 + 1 + spots → s4 ≤ s3 + writes → s4 ≤ s0 + 256 * (n + 1) ^ 2 * (before + after + 1)
 all_steps n below before after s0 s1 s2 s3 s4 spots writes b one two three four =

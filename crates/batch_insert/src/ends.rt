@@ -5,14 +5,13 @@ ghost use Rattle.aggregates.specs.Rows.{agg_of_row};
 ghost use Rattle.aggregates.specs.Views.{agg_in};
 ghost use Rattle.std.specs.Option.{option_map};
 ghost use Rattle.batch_insert.specs.Numbered.{numbered};
-ghost use Rattle.qc_arena.specs.Map.{is_open, is_touched, with_class, with_forced};
+ghost use Rattle.qc_arena.specs.Map.{CanChange, with_class, with_forced};
 ghost use Rattle.std.specs.FinMap as map;
 ghost use Rattle.batch_insert.specs.Stages.{HaveEnded};
-ghost use Rattle.batch_insert.specs.Kept.{AreNumbers, IsBelow, Keeps};
+ghost use Rattle.batch_insert.specs.Kept.{IsBelow, IsRepairing, Keeps};
 ghost use Rattle.batch_insert.specs.Planned.{IsEnd, IsForcing, TakesMore, sum_with};
 
 use crate::Memory;
-use crate::changes::{put_class, put_forced};
 use crate::numbers::Numbers;
 use crate::plan::{End, Forcing};
 use crate::tuples::code_of;
@@ -30,11 +29,9 @@ pub(crate) fn end_all<L: Ledger>(
     arena: &mut QcArena,
     steps: &mut Steps<L>,
 ) -> Result<(), Memory>
-    requires opened { is_open arena.old ≡ true }
-    requires no_any { All (λ entry. is_some entry ≡ true) tuple.now }
+    requires repair { IsRepairing tuple.now arena.old (numbered numbers.now) }
     requires few { length amounts.now ≤ 4 }
     requires small { All (λ a. nat_abs a ≤ largest_amount) amounts.now }
-    requires numbers { AreNumbers tuple.now arena.old (numbered numbers.now) }
     requires ends { All (λ e. IsEnd (length tuple.now) (length amounts.now) e) ends.now }
     ensures keeps { Keeps tuple.now arena.old arena.new }
     ensures done { OnOk result (HaveEnded tuple.now amounts.now (numbered numbers.now) ends.now arena.old.now arena.new.now) }
@@ -57,11 +54,9 @@ fn end_one<L: Ledger>(
     arena: &mut QcArena,
     steps: &mut Steps<L>,
 ) -> Result<(), Memory>
-    requires opened { is_open arena.old ≡ true }
-    requires no_any { All (λ entry. is_some entry ≡ true) tuple.now }
+    requires repair { IsRepairing tuple.now arena.old (numbered numbers.now) }
     requires few { length amounts.now ≤ 4 }
     requires small { All (λ a. nat_abs a ≤ largest_amount) amounts.now }
-    requires numbers { AreNumbers tuple.now arena.old (numbered numbers.now) }
     requires end { IsEnd (length tuple.now) (length amounts.now) end }
     ensures keeps { Keeps tuple.now arena.old arena.new }
     ensures done { OnOk result (HaveEnded tuple.now amounts.now (numbered numbers.now) (end ∷ []) arena.old.now arena.new.now) }
@@ -89,10 +84,9 @@ fn force<L: Ledger>(
     arena: &mut QcArena,
     steps: &mut Steps<L>,
 ) -> Result<(), Memory>
-    requires opened { is_open arena.old ≡ true }
     requires no_any { All (λ entry. is_some entry ≡ true) tuple.now }
+    requires change { CanChange arena.old node.0 }
     requires node { IsBelow tuple.now arena.old node.0 }
-    requires touched { is_touched arena.old node.0 ≡ true }
     requires dim { IsForcing (length tuple.now) forcing }
     ensures keeps { Keeps tuple.now arena.old arena.new }
     ensures here { OnOk result ((l : ℕ) × (v : ℕ) × (numbered numbers.now forcing.child ≡ Some l) × (slice_index_or tuple.now forcing.dim None ≡ Some v)
@@ -110,7 +104,7 @@ fn force<L: Ledger>(
         code: code_of(tuple, forcing.dim),
         child,
     };
-    put_forced(arena, tuple, node, Some(forced), steps);
+    arena.set_forced(node, Some(forced), steps);
     Ok(())
 }
 
@@ -132,14 +126,13 @@ fn with_row(before: Option<Agg>, amounts: &[i64]) -> Agg
 }
 
 fn mark<L: Ledger>(node: NodeNo, agg: Agg, tuple: &Cell, arena: &mut QcArena, steps: &mut Steps<L>)
-    requires opened { is_open arena.old ≡ true }
+    requires change { CanChange arena.old node.0 }
     requires node { IsBelow tuple.now arena.old node.0 }
-    requires touched { is_touched arena.old node.0 ≡ true }
     ensures keeps { Keeps tuple.now arena.old arena.new }
     ensures here { map.get arena.new.now node.0 ≡ option_map (with_class (Some (agg_in agg))) (option_map (with_forced None) (map.get arena.old.now node.0)) }
     ensures others { (q : ℕ) → q ≢ node.0 → map.get arena.new.now q ≡ map.get arena.old.now q }
     ensures steps { steps.new ≡ steps.old + 2 }
 {
-    put_forced(arena, tuple, node, None, steps);
-    put_class(arena, tuple, node, agg, steps);
+    arena.set_forced(node, None, steps);
+    arena.set_class(node, Some(agg), steps);
 }

@@ -6,12 +6,12 @@ ghost use Rattle.cube_defs.specs.Cell as defs;
 ghost use Rattle.cube_defs.specs.Tree.{cell_at};
 ghost use Rattle.tree_laws.specs.Labels.{target_after_row};
 ghost use Rattle.batch_insert.specs.Masks.{Shares};
-ghost use Rattle.batch_insert.specs.Planned.{IsReady};
+ghost use Rattle.batch_insert.specs.Standing.{IsInsertion};
 
-use crate::tuples::code_of;
+use crate::tuples::{Insertion, code_of};
 use cell_core::{Cell, Code, NodeNo, Steps};
 use cube_defs::MAX_DIMS;
-use qc_arena::{Nodes, QcArena};
+use qc_arena::Nodes;
 use std::sync::ledger::Ledger;
 
 /// The node of a prefix of a node's old closure, and whether it is the node itself. None if the
@@ -26,29 +26,26 @@ pub(crate) struct Chain {
 /// share, or the tuple's prefix if there was no target. Also, whether that is the old target.
 /// `mask` has the values that the chain's node and the tuple share.
 pub(crate) fn shared<L: Ledger>(
-    arena: &QcArena,
-    tuple: &Cell,
+    insertion: &Insertion<'_>,
     mask: u16,
     chain: Chain,
     old: Option<NodeNo>,
     dim: u8,
     steps: &mut Steps<L>,
 ) -> (u16, bool)
-    requires ready { IsReady arena.now }
-    requires no_any { All (λ entry. is_some entry ≡ true) tuple.now }
-    requires width { length tuple.now ≡ arena.now.width }
-    requires few { length tuple.now ≤ MAX_DIMS }
-    requires dim { dim < length tuple.now }
-    requires chain { IfSome chain.node (λ k. Shares tuple.now arena.now.now mask chain.is_own k.0) }
-    requires old { IfSome old (λ k. IsSome (map.get arena.now.now k.0)) }
-    ensures mask { result.0 ≡ defs.mask (target_after_row nat_eq (option_and_then (λ k. cell_at arena.now.now k.0) old) tuple.now dim) }
-    ensures shares { IfSome old (λ k. Shares tuple.now arena.now.now result.0 result.1 k.0) }
+    requires insertion { IsInsertion insertion.now.tuple.now insertion.now.arena.now }
+    requires few { length insertion.now.tuple.now ≤ MAX_DIMS }
+    requires dim { dim < length insertion.now.tuple.now }
+    requires chain { IfSome chain.node (λ k. Shares insertion.now.tuple.now insertion.now.arena.now.now mask chain.is_own k.0) }
+    requires old { IfSome old (λ k. IsSome (map.get insertion.now.arena.now.now k.0)) }
+    ensures mask { result.0 ≡ defs.mask (target_after_row nat_eq (option_and_then (λ k. cell_at insertion.now.arena.now.now k.0) old) insertion.now.tuple.now dim) }
+    ensures shares { IfSome old (λ k. Shares insertion.now.tuple.now insertion.now.arena.now.now result.0 result.1 k.0) }
     ensures none { IfNone old (result.1 ≡ false) }
-    ensures steps { steps.new ≤ steps.old + (2 * length tuple.now + 2) }
+    ensures steps { steps.new ≤ steps.old + (2 * length insertion.now.tuple.now + 2) }
 {
     match old {
-        None => (front_of(tuple, dim), false),
-        Some(node) => common(arena, tuple, mask, chain, node, steps),
+        None => (front_of(insertion.tuple, dim), false),
+        Some(node) => common(insertion, mask, chain, node, steps),
     }
 }
 
@@ -66,33 +63,30 @@ fn front_of(tuple: &Cell, dim: u8) -> u16
 // The mask of what a node and the tuple share. It is read on the way up from the node, to the
 // chain's node, whose mask is known, or to the root.
 fn common<L: Ledger>(
-    arena: &QcArena,
-    tuple: &Cell,
+    insertion: &Insertion<'_>,
     mask: u16,
     chain: Chain,
     node: NodeNo,
     steps: &mut Steps<L>,
 ) -> (u16, bool)
-    requires ready { IsReady arena.now }
-    requires no_any { All (λ entry. is_some entry ≡ true) tuple.now }
-    requires few { length tuple.now ≤ MAX_DIMS }
-    requires width { length tuple.now ≡ arena.now.width }
-    requires chain { IfSome chain.node (λ k. Shares tuple.now arena.now.now mask chain.is_own k.0) }
-    requires node { IsSome (map.get arena.now.now node.0) }
-    ensures shares { Shares tuple.now arena.now.now result.0 result.1 node.0 }
-    ensures steps { steps.new ≤ steps.old + (2 * length tuple.now + 2) }
+    requires insertion { IsInsertion insertion.now.tuple.now insertion.now.arena.now }
+    requires few { length insertion.now.tuple.now ≤ MAX_DIMS }
+    requires chain { IfSome chain.node (λ k. Shares insertion.now.tuple.now insertion.now.arena.now.now mask chain.is_own k.0) }
+    requires node { IsSome (map.get insertion.now.arena.now.now node.0) }
+    ensures shares { Shares insertion.now.tuple.now insertion.now.arena.now.now result.0 result.1 node.0 }
+    ensures steps { steps.new ≤ steps.old + (2 * length insertion.now.tuple.now + 2) }
 {
     let mut at = node;
     let mut values = 0;
     let mut is_below = true;
     'up: while !is_at(chain.node, at) {
-        let Some((dim, code)) = arena.end_of(at, steps) else {
+        let Some((dim, code)) = insertion.arena.end_of(at, steps) else {
             return (values, is_below);
         };
-        let bit = bit_of(tuple, dim, code);
+        let bit = bit_of(insertion.tuple, dim, code);
         values += bit;
         is_below &= bit != 0;
-        at = arena.parent(at, steps).unwrap();
+        at = insertion.arena.parent(at, steps).unwrap();
     }
     (values + mask, is_below & chain.is_own)
 }

@@ -32,37 +32,35 @@ pub fn set_link<L: Ledger>(
         → PerformsActs measures rows (Label false f dim code t ∷ []) arena.old arena.new) }
     ensures frame { frame arena.new ≡ frame arena.old }
 {
-    put_label(arena, node, dim, code, target, false, steps)
+    put_label(arena, node, (dim, code, target), false, steps)
 }
 
 // Sets an edge. If asked, its target becomes the forced child.
 pub(crate) fn put_label<L: Ledger>(
     arena: &mut QcArena,
     node: NodeNo,
-    dim: u8,
-    code: Code,
-    target: NodeNo,
+    label: (u8, Code, NodeNo),
     is_forced: bool,
     steps: &mut Steps<L>,
 ) -> Result<(), Memory>
     requires change { CanChange arena.old node.0 }
-    requires target { IsSome (map.get arena.old.now target.0) }
-    requires dim { dim < arena.old.width }
-    requires code { IsCode code }
+    requires target { IsSome (map.get arena.old.now label.2.0) }
+    requires dim { label.0 < arena.old.width }
+    requires code { IsCode label.1 }
     ensures made { OnOk result ((measures : ℕ) (rows : List (Row ℕ)) (f t : Cell ℕ) → cell_at arena.old.now node.0 ≡ Some f →
-        cell_at arena.old.now target.0 ≡ Some t
-        → PerformsActs measures rows (Label is_forced f dim code t ∷ []) arena.old arena.new) }
+        cell_at arena.old.now label.2.0 ≡ Some t
+        → PerformsActs measures rows (Label is_forced f label.0 label.1 t ∷ []) arena.old arena.new) }
     ensures frame { frame arena.new ≡ frame arena.old }
 {
-    match arena.set_edge(node, dim, code, target, steps) {
+    match arena.set_edge(node, label.0, label.1, label.2, steps) {
         Ok(()) => {}
         Err(error) => return Err(error),
     }
     if is_forced {
         let forced = Forced {
-            dim,
-            code,
-            child: target,
+            dim: label.0,
+            code: label.1,
+            child: label.2,
         };
         arena.set_forced(node, Some(forced), steps);
     }

@@ -59,7 +59,7 @@ pub fn add_child<L: Ledger>(
         Ok(child) => child,
         Err(error) => return Err(error),
     };
-    match put_label(arena, parent, dim, code, child, is_forced, steps) {
+    match put_label(arena, parent, (dim, code, child), is_forced, steps) {
         Ok(()) => Ok(child),
         Err(_) => Err(ArenaRefused::Memory),
     }

@@ -43,8 +43,9 @@ module _ {measures : ℕ} {rows : List (Row ℕ)} where
     going = d.acts n.done (fs ++ n.rest) (subst (λ rs. IsBuilding measures rows n.done rs a) (append_assoc es fs n.rest) n.going);
   }
 
-  pub path_stays : (es : List Act) (a b : Arena) (path : Path) (c : Cell ℕ) (k : ℕ) → PerformsActs measures rows es a b → IsOnPath a path c k → IsOnPath b path c k
-  path_stays es a b path c k d on = record { each = λ j l. d.cells (node_on path j) (cell_front j c) (on.each j l) }
+-- where nodes keep their cells
+pub path_stays : (a b : Arena) (path : Path) (c : Cell ℕ) (k : ℕ) → ((q : ℕ) (x : Cell ℕ) → cell_at a.now q ≡ Some x → cell_at b.now q ≡ Some x) → IsOnPath a path c k → IsOnPath b path c k
+path_stays a b path c k cells on = record { each = λ j l. cells (node_on path j) (cell_front j c) (on.each j l) }
 
 pub front_depth : (tree : Tree ℕ) (k j : ℕ) (c : Cell ℕ) → cell_at tree k ≡ Some (cell_front j c) → depth (record_at tree k).cell ≤ j
 front_depth tree k j c h = subst (λ d. depth d ≤ j) (sym (cell_of_record tree k (cell_front j c) h)) (depth-cell_front-le j c)
@@ -65,6 +66,9 @@ path_on a old new c k on others here = record { each = λ j l. go j (upto_or j k
 -- a node of the path, by its number
 pub on_path : (a : Arena) (path : Path) (c : Cell ℕ) (k j n : ℕ) → IsOnPath a path c k → j ≤ k → n ≡ node_on path j → cell_at a.now n ≡ Some (cell_front j c)
 on_path a path c k j n on l e = ap (λ x. cell_at a.now x) e ∙ on.each j l
+
+pub on_end : (a : Arena) (path : Path) (c : Cell ℕ) (k n : ℕ) → IsOnPath a path c k → n ≡ node_on path k → cell_at a.now n ≡ Some (cell_front k c)
+on_end a path c k n on e = on_path a path c k k n on (omega arith) e
 
 -- a path serves each cell with the same front
 pub path_of : (a : Arena) (path : Path) (c d : Cell ℕ) (k : ℕ) → cell_front k c ≡ cell_front k d → IsOnPath a path c k → IsOnPath a path d k

@@ -6,3 +6,4 @@ mod Steps
 mod Whole
 mod Ways
 mod Notes
+mod Standing

@@ -16,8 +16,6 @@ use Rattle.cell_closure.proofs.Closing.{shared_there}
 use Rattle.base_table.specs.Places.{Places, IsTable, named, row_at}
 use Rattle.base_table.specs.declared.table.RowNo.{RowNo}
 use Rattle.build_trace.proofs.Fronts.{leq_entry}
-use Rattle.build_trace.specs.Trace.{Act}
-use Rattle.build_acts.specs.Building.{PerformsActs}
 use Rattle.qc_arena.specs.Map.{Arena}
 use Rattle.class_builder.specs.Noted.{AreNoted, IsFull, not_noted, noted}
 use Rattle.cell_core.specs.declared.cell.NodeNo.{NodeNo}
@@ -103,16 +101,16 @@ front_of_row t a nos u i d node x valid there some is full lt at =
         let tuple : length row.tuple ≡ t.dims = (is_row t valid (get_or nos i x).0 row e).tuple in
         at ∙ ap (λ c. Some c) (full_front d u row.tuple (long ∙ sym tuple ∙ sym (length-map row.tuple (λ v. Some v))) h full)
 
--- where acts are performed, nodes keep their cells
-pub noted_stay : (measures : ℕ) (rows : List (Row ℕ)) (es : List Act) (t : Places) (a b : Arena) (f : Fronts) → PerformsActs measures rows es a b → AreNoted t a f → AreNoted t b f
-noted_stay measures rows es t a b f does old = record {
+-- where nodes keep their cells
+pub noted_stay : (t : Places) (a b : Arena) (f : Fronts) → ((q : ℕ) (x : Cell ℕ) → cell_at a.now q ≡ Some x → cell_at b.now q ≡ Some x) → AreNoted t a f → AreNoted t b f
+noted_stay t a b f cells old = record {
   dims = old.dims;
   each = λ k d lt some. go k d (row_at t k) (old.each k d lt some);
 }
   where
     go : (k d : ℕ) (o : Option (Row ℕ)) → IfSome o (λ row. cell_at a.now (noted f k d) ≡ Some (cell_front (suc d) (cell_of row.tuple))) → IfSome o (λ row. cell_at b.now (noted f k d) ≡ Some (cell_front (suc d) (cell_of row.tuple)))
     go k d None h = tt
-    go k d (Some row) h = does.cells (noted f k d) (cell_front (suc d) (cell_of row.tuple)) h
+    go k d (Some row) h = cells (noted f k d) (cell_front (suc d) (cell_of row.tuple)) h
 
 -- what is noted for a row of some is the node of the front of what they share, where they share a value in each dimension up to d
 pub found_front : (t : Places) (a : Arena) (f : Fronts) (nos : List RowNo) (c : Cell ℕ) (i d node : ℕ) (x : RowNo) → IsTable t → There t nos → 0 < length nos → d < t.dims → cell_front (suc d) c ≡ cell_front (suc d) (shared_by (named t nos)) → IsFull c d → i < length nos

@@ -37,14 +37,18 @@ pub record IsPart (t : Places) (nos : List RowNo) (u : Cell ℕ) : Type 0 where
   pub there : AreThere t nos
   pub shared : u ≡ shared_by (named t nos)
 
--- rows of a table, of which there are some, that share the code in dimension k and are covered by the cell
-pub record IsGroup (t : Places) (nos : List RowNo) (code : ℕ) (upper : Cell ℕ) (k : ℕ) : Type 0 where
+-- rows of a table, of which there are some, that the cell covers
+pub record AreUnder (t : Places) (nos : List RowNo) (upper : Cell ℕ) : Type 0 where
   pub table : IsTable t
   pub some : 0 < length nos
-  pub few : length nos ≤ MAX_ROWS
   pub there : AreThere t nos
   pub covered : AllByRecursion (λ row. covers nat_eq upper row ≡ true) (named t nos)
   pub long : length upper ≡ t.dims
+
+-- such rows that share the code in dimension k
+pub record IsGroup (t : Places) (nos : List RowNo) (code : ℕ) (upper : Cell ℕ) (k : ℕ) : Type 0 where
+  pub under : AreUnder t nos upper
+  pub few : length nos ≤ MAX_ROWS
   pub dim : k < t.dims
   pub value : slice_index_or (shared_by (named t nos)) k None ≡ Some code
   pub small : IsCode code

@@ -1,19 +1,17 @@
 // Edges of nodes of prefixes, to nodes that are added or exist already.
-ghost use Rattle.std.specs.FinMap as map;
 ghost use Rattle.cell_core.specs.Entry.{IsCode};
 ghost use Rattle.std.specs.Ordering.{nat_cmp};
-ghost use Rattle.std.specs.Prelude.{Err, IfSome, IsSome, List, None, OnOk, Some, [], false, length, slice_index_or, suc, true, ℕ, ◌+◌, ◌<◌, ◌∷◌, ◌≡◌, ◌≤◌};
+ghost use Rattle.std.specs.Prelude.{Err, IfSome, None, OnOk, Some, [], false, length, slice_index_or, suc, true, ◌+◌, ◌<◌, ◌∷◌, ◌≡◌};
 ghost use Rattle.cube_defs.specs.Cell.{cell_front};
-ghost use Rattle.cube_defs.specs.Rows.{Row};
 ghost use Rattle.cube_defs.specs.Tree.{cell_at, nodes};
 ghost use Rattle.base_table.specs.Places.{named, rows_of};
 ghost use Rattle.cube_laws.specs.Parting.{shared_by};
 ghost use Rattle.build_trace.specs.Trace.{Act.{Label}};
 ghost use Rattle.build_trace.specs.Walk.{same_front};
-ghost use Rattle.qc_arena.specs.Map.{Arena, frame, is_open, is_touched};
-ghost use Rattle.build_acts.specs.Building.{PerformsActs, ActsComeNext};
+ghost use Rattle.qc_arena.specs.Map.{Arena, frame};
 ghost use Rattle.class_builder.specs.Walk.{IsGroup, IsOnPath, IsPart, front_acts};
 ghost use Rattle.class_builder.specs.Noted.{AreNoted};
+ghost use Rattle.class_builder.specs.Stands.{HasDone, StandsAt};
 
 use crate::Memory;
 use crate::builder::Builder;
@@ -23,7 +21,6 @@ use crate::path::Path;
 use crate::upper::front_of;
 use build_acts::{add_child, set_link};
 use cell_core::NodeNo;
-use cube_defs::MAX_DIMS;
 use drill_links::descend;
 use qc_arena::ArenaRefused;
 use std::sync::ledger::Ledger;
@@ -37,23 +34,16 @@ pub(crate) fn add_front<L: Ledger>(
     edge: ChildEdge,
     path: &mut Path,
 ) -> Result<(), ArenaRefused>
-    requires opened { is_open builder.old.arena.now ≡ true }
-    requires touched { (k : ℕ) → IsSome (map.get builder.old.arena.now.now k) → is_touched builder.old.arena.now k ≡ true }
     requires part { IsPart part.now.table.now part.now.rows.now part.now.shared }
-    requires long { length part.now.shared ≡ builder.old.arena.now.width }
-    requires few { builder.old.arena.now.width ≤ MAX_DIMS }
-    requires dim { dim < builder.old.arena.now.width }
+    requires dim { dim < part.now.table.now.dims }
     requires value { slice_index_or part.now.shared dim None ≡ Some edge.code }
     requires small { IsCode edge.code }
-    requires path { IsOnPath builder.old.arena.now path.old part.now.shared dim }
-    requires fronts { AreNoted part.now.table.now builder.old.arena.now builder.old.fronts.now }
-    ensures does { OnOk result ((measures : ℕ) (rows : List (Row ℕ)) →
-        PerformsActs measures rows (front_acts edge.is_forced part.now.shared dim edge.code) builder.old.arena.now builder.new.arena.now) }
+    requires stands { StandsAt part.now.table.now part.now.shared dim (front_acts edge.is_forced part.now.shared dim edge.code)
+        builder.old.arena.now path.old builder.old.fronts.now }
+    ensures done { OnOk result (HasDone part.now.table.now (front_acts edge.is_forced part.now.shared dim edge.code)
+        builder.old.arena.now builder.new.arena.now builder.new.fronts.now) }
     ensures path { OnOk result (IsOnPath builder.new.arena.now path.new part.now.shared (dim + 1)) }
-    ensures fronts { OnOk result (AreNoted part.now.table.now builder.new.arena.now builder.new.fronts.now) }
-    ensures full { result ≡ Err ArenaRefused.Full → (measures : ℕ) (rows : List (Row ℕ)) →
-        ActsComeNext measures rows (front_acts edge.is_forced part.now.shared dim edge.code) builder.old.arena.now
-        → builder.old.arena.now.max < length (nodes nat_cmp rows) }
+    ensures full { result ≡ Err ArenaRefused.Full → builder.old.arena.now.max < length (nodes nat_cmp (rows_of part.now.table.now)) }
     ensures frame { frame builder.new.arena.now ≡ frame builder.old.arena.now }
     ensures same { builder.new.arena.ghost_name ≡ builder.old.arena.ghost_name }
 {
@@ -101,12 +91,10 @@ fn shared_front<L: Ledger>(
     requires at { at < dim }
     requires front { same_front at (shared_by (named group.now.table.now group.now.rows.now)) group.now.upper.now ≡ true }
     requires gains { same_front (suc at) (shared_by (named group.now.table.now group.now.rows.now)) group.now.upper.now ≡ false }
-    requires width { builder.old.arena.now.width ≡ group.now.table.now.dims }
-    requires next { ActsComeNext group.now.table.now.measures (rows_of group.now.table.now)
+    requires stands { StandsAt group.now.table.now group.now.upper.now dim
         (Label false (cell_front dim group.now.upper.now) dim group.now.code
-        (cell_front (suc dim) (shared_by (named group.now.table.now group.now.rows.now))) ∷ []) builder.old.arena.now }
-    requires path { IsOnPath builder.old.arena.now path.now group.now.upper.now dim }
-    requires fronts { AreNoted group.now.table.now builder.old.arena.now builder.old.fronts.now }
+        (cell_front (suc dim) (shared_by (named group.now.table.now group.now.rows.now))) ∷ [])
+        builder.old.arena.now path.now builder.old.fronts.now }
     ensures node { cell_at builder.old.arena.now.now result.0 ≡ Some (cell_front (suc dim) (shared_by (named group.now.table.now group.now.rows.now))) }
     ensures arena { builder.new.arena.now ≡ builder.old.arena.now }
     ensures fronts { builder.new.fronts.now ≡ builder.old.fronts.now }
@@ -135,16 +123,14 @@ pub(crate) fn link_part<L: Ledger>(
     requires at { at < dim }
     requires front { same_front at (shared_by (named group.now.table.now group.now.rows.now)) group.now.upper.now ≡ true }
     requires gains { same_front (suc at) (shared_by (named group.now.table.now group.now.rows.now)) group.now.upper.now ≡ false }
-    requires width { builder.old.arena.now.width ≡ group.now.table.now.dims }
-    requires next { ActsComeNext group.now.table.now.measures (rows_of group.now.table.now)
+    requires stands { StandsAt group.now.table.now group.now.upper.now dim
         (Label false (cell_front dim group.now.upper.now) dim group.now.code
-        (cell_front (suc dim) (shared_by (named group.now.table.now group.now.rows.now))) ∷ []) builder.old.arena.now }
-    requires path { IsOnPath builder.old.arena.now path.now group.now.upper.now dim }
-    requires fronts { AreNoted group.now.table.now builder.old.arena.now builder.old.fronts.now }
-    ensures does { OnOk result (PerformsActs group.now.table.now.measures (rows_of group.now.table.now)
+        (cell_front (suc dim) (shared_by (named group.now.table.now group.now.rows.now))) ∷ [])
+        builder.old.arena.now path.now builder.old.fronts.now }
+    ensures done { OnOk result (HasDone group.now.table.now
         (Label false (cell_front dim group.now.upper.now) dim group.now.code
-        (cell_front (suc dim) (shared_by (named group.now.table.now group.now.rows.now))) ∷ []) builder.old.arena.now builder.new.arena.now) }
-    ensures fronts { builder.new.fronts.now ≡ builder.old.fronts.now }
+        (cell_front (suc dim) (shared_by (named group.now.table.now group.now.rows.now))) ∷ [])
+        builder.old.arena.now builder.new.arena.now builder.new.fronts.now) }
     ensures frame { frame builder.new.arena.now ≡ frame builder.old.arena.now }
     ensures same { builder.new.arena.ghost_name ≡ builder.old.arena.ghost_name }
 {

@@ -6,10 +6,9 @@ ghost use Rattle.cube_defs.specs.Tree.{nodes};
 ghost use Rattle.base_table.specs.Places.{named, rows_of};
 ghost use Rattle.cell_closure.specs.Parts.{parted};
 ghost use Rattle.build_trace.specs.Trace.{acts_at, part_acts};
-ghost use Rattle.build_acts.specs.Building.{PerformsActs, ActsComeNext};
 ghost use Rattle.qc_arena.specs.Map.{frame};
 ghost use Rattle.class_builder.specs.Walk.{IsGroup, IsOnPath, IsPart, acts_from};
-ghost use Rattle.class_builder.specs.Noted.{AreNoted};
+ghost use Rattle.class_builder.specs.Stands.{HasDone, StandsAt};
 
 use crate::Memory;
 use crate::builder::Builder;
@@ -35,14 +34,12 @@ pub(crate) fn drill<L: Ledger>(
 ) -> Result<(), ArenaRefused>
     requires part { IsPart part.now.table.now part.now.rows.now part.now.shared }
     requires first { first ≤ part.now.table.now.dims }
-    requires width { builder.old.arena.now.width ≡ part.now.table.now.dims }
-    requires next { ActsComeNext part.now.table.now.measures (rows_of part.now.table.now)
-        (acts_from part.now.table.now first (named part.now.table.now part.now.rows.now)) builder.old.arena.now }
-    requires path { IsOnPath builder.old.arena.now path part.now.shared first }
-    requires fronts { AreNoted part.now.table.now builder.old.arena.now builder.old.fronts.now }
-    ensures does { OnOk result (PerformsActs part.now.table.now.measures (rows_of part.now.table.now)
-        (acts_from part.now.table.now first (named part.now.table.now part.now.rows.now)) builder.old.arena.now builder.new.arena.now) }
-    ensures fronts { OnOk result (AreNoted part.now.table.now builder.new.arena.now builder.new.fronts.now) }
+    requires stands { StandsAt part.now.table.now part.now.shared first
+        (acts_from part.now.table.now first (named part.now.table.now part.now.rows.now))
+        builder.old.arena.now path builder.old.fronts.now }
+    ensures done { OnOk result (HasDone part.now.table.now
+        (acts_from part.now.table.now first (named part.now.table.now part.now.rows.now))
+        builder.old.arena.now builder.new.arena.now builder.new.fronts.now) }
     ensures full { result ≡ Err ArenaRefused.Full → builder.old.arena.now.max < length (nodes nat_cmp (rows_of part.now.table.now)) }
     ensures frame { frame builder.new.arena.now ≡ frame builder.old.arena.now }
     ensures same { builder.new.arena.ghost_name ≡ builder.old.arena.ghost_name }
@@ -77,17 +74,13 @@ fn drill_at<L: Ledger>(
 ) -> Result<(), ArenaRefused>
     requires part { IsPart part.now.table.now part.now.rows.now part.now.shared }
     requires dim { dim < part.now.table.now.dims }
-    requires width { builder.old.arena.now.width ≡ part.now.table.now.dims }
-    requires next { ActsComeNext part.now.table.now.measures (rows_of part.now.table.now)
-        (acts_at (acts_from part.now.table.now (dim + 1)) dim part.now.shared (slice_index_or part.now.shared dim None)
-        (named part.now.table.now part.now.rows.now)) builder.old.arena.now }
-    requires path { IsOnPath builder.old.arena.now path.old part.now.shared dim }
-    requires fronts { AreNoted part.now.table.now builder.old.arena.now builder.old.fronts.now }
-    ensures does { OnOk result (PerformsActs part.now.table.now.measures (rows_of part.now.table.now)
-        (acts_at (acts_from part.now.table.now (dim + 1)) dim part.now.shared (slice_index_or part.now.shared dim None)
-        (named part.now.table.now part.now.rows.now)) builder.old.arena.now builder.new.arena.now) }
+    requires stands { StandsAt part.now.table.now part.now.shared dim
+        (acts_at (acts_from part.now.table.now (dim + 1)) dim part.now.shared (slice_index_or part.now.shared dim None) (named part.now.table.now part.now.rows.now))
+        builder.old.arena.now path.old builder.old.fronts.now }
+    ensures done { OnOk result (HasDone part.now.table.now
+        (acts_at (acts_from part.now.table.now (dim + 1)) dim part.now.shared (slice_index_or part.now.shared dim None) (named part.now.table.now part.now.rows.now))
+        builder.old.arena.now builder.new.arena.now builder.new.fronts.now) }
     ensures path { OnOk result (IsOnPath builder.new.arena.now path.new part.now.shared (dim + 1)) }
-    ensures fronts { OnOk result (AreNoted part.now.table.now builder.new.arena.now builder.new.fronts.now) }
     ensures full { result ≡ Err ArenaRefused.Full → builder.old.arena.now.max < length (nodes nat_cmp (rows_of part.now.table.now)) }
     ensures frame { frame builder.new.arena.now ≡ frame builder.old.arena.now }
     ensures same { builder.new.arena.ghost_name ≡ builder.old.arena.ghost_name }
@@ -143,15 +136,12 @@ fn drill_in<L: Ledger>(
 ) -> Result<(), ArenaRefused>
     requires part { IsPart part.now.table.now part.now.rows.now part.now.shared }
     requires dim { dim < part.now.table.now.dims }
-    requires width { builder.old.arena.now.width ≡ part.now.table.now.dims }
-    requires next { ActsComeNext part.now.table.now.measures (rows_of part.now.table.now)
-        (acts_at (acts_from part.now.table.now (dim + 1)) dim part.now.shared None (named part.now.table.now part.now.rows.now)) builder.old.arena.now }
-    requires path { IsOnPath builder.old.arena.now path.now part.now.shared dim }
-    requires fronts { AreNoted part.now.table.now builder.old.arena.now builder.old.fronts.now }
-    ensures does { OnOk result (PerformsActs part.now.table.now.measures (rows_of part.now.table.now)
-        (acts_at (acts_from part.now.table.now (dim + 1)) dim part.now.shared None
-        (named part.now.table.now part.now.rows.now)) builder.old.arena.now builder.new.arena.now) }
-    ensures fronts { OnOk result (AreNoted part.now.table.now builder.new.arena.now builder.new.fronts.now) }
+    requires stands { StandsAt part.now.table.now part.now.shared dim
+        (acts_at (acts_from part.now.table.now (dim + 1)) dim part.now.shared None (named part.now.table.now part.now.rows.now))
+        builder.old.arena.now path.now builder.old.fronts.now }
+    ensures done { OnOk result (HasDone part.now.table.now
+        (acts_at (acts_from part.now.table.now (dim + 1)) dim part.now.shared None (named part.now.table.now part.now.rows.now))
+        builder.old.arena.now builder.new.arena.now builder.new.fronts.now) }
     ensures full { result ≡ Err ArenaRefused.Full → builder.old.arena.now.max < length (nodes nat_cmp (rows_of part.now.table.now)) }
     ensures frame { frame builder.new.arena.now ≡ frame builder.old.arena.now }
     ensures same { builder.new.arena.ghost_name ≡ builder.old.arena.ghost_name }
@@ -187,16 +177,12 @@ fn drill_part<L: Ledger>(
     path: &Path,
 ) -> Result<(), ArenaRefused>
     requires group { IsGroup group.now.table.now group.now.rows.now group.now.code group.now.upper.now dim }
-    requires width { builder.old.arena.now.width ≡ group.now.table.now.dims }
-    requires next { ActsComeNext group.now.table.now.measures (rows_of group.now.table.now)
-        (part_acts (acts_from group.now.table.now (dim + 1)) dim group.now.upper.now group.now.code
-        (named group.now.table.now group.now.rows.now)) builder.old.arena.now }
-    requires path { IsOnPath builder.old.arena.now path.now group.now.upper.now dim }
-    requires fronts { AreNoted group.now.table.now builder.old.arena.now builder.old.fronts.now }
-    ensures does { OnOk result (PerformsActs group.now.table.now.measures (rows_of group.now.table.now)
-        (part_acts (acts_from group.now.table.now (dim + 1)) dim group.now.upper.now group.now.code
-        (named group.now.table.now group.now.rows.now)) builder.old.arena.now builder.new.arena.now) }
-    ensures fronts { OnOk result (AreNoted group.now.table.now builder.new.arena.now builder.new.fronts.now) }
+    requires stands { StandsAt group.now.table.now group.now.upper.now dim
+        (part_acts (acts_from group.now.table.now (dim + 1)) dim group.now.upper.now group.now.code (named group.now.table.now group.now.rows.now))
+        builder.old.arena.now path.now builder.old.fronts.now }
+    ensures done { OnOk result (HasDone group.now.table.now
+        (part_acts (acts_from group.now.table.now (dim + 1)) dim group.now.upper.now group.now.code (named group.now.table.now group.now.rows.now))
+        builder.old.arena.now builder.new.arena.now builder.new.fronts.now) }
     ensures full { result ≡ Err ArenaRefused.Full → builder.old.arena.now.max < length (nodes nat_cmp (rows_of group.now.table.now)) }
     ensures frame { frame builder.new.arena.now ≡ frame builder.old.arena.now }
     ensures same { builder.new.arena.ghost_name ≡ builder.old.arena.ghost_name }

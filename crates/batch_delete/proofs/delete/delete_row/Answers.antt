@@ -1,8 +1,9 @@
-use Rattle.std.proofs.Common.{◌≡◌, ◌∙◌, OnOk, Ok, Err, ap, length, sym, subst}
+use Rattle.std.proofs.Common.{◌≡◌, ◌∙◌, OnOk, Ok, Err, ap, length, refl, sym, subst}
 use Rattle.std.specs.FinMap as map
 use Rattle.std.specs.declared.result.Result.{Result}
 use Rattle.cube_defs.specs.Tree.{cell_at}
-use Rattle.qc_arena.specs.Map.{Arena}
+use Rattle.qc_arena.specs.Map.{Arena, is_open}
+use Rattle.tree_laws.proofs.Lists as lists
 use Rattle.tree_search.specs.Found.{IsTreeOf, TreeRows}
 use Rattle.batch_delete.specs.Below.{AreBelow}
 use Rattle.batch_delete.specs.Gone.{source_after}
@@ -54,3 +55,46 @@ returns g c =
       frame = c.settle_all.ensures.frame ∙ c.touch_all.ensures.frame;
       steps = on_ok c.settle_all.result c.settle_all.ensures.here (λ here. all_steps a.width a.now tuple g.deletion from long row list below c.args.steps.now c.collect.new.steps c.touch_all.new.steps c.plan_all.new.steps c.settle_all.new.steps c.in-Ok.ensures.steps c.touch_all.ensures.steps c.in-Ok-plan_all.ensures.steps c.settle_all.ensures.steps);
     }
+
+pub collect-requires : goal.collect-requires
+collect-requires g c = record { tree = (source_before g.deletion, c.requires.1.1.1.0); long = c.requires.1.1.0 }
+
+pub touch_all-requires : goal.touch_all-requires
+touch_all-requires g c = record { opened = c.requires.1.0; there = λ k b e. lists.there c.args.arena.now.now b.node.0 b.cell (c.in-Ok.ensures.below.cells k b e) }
+
+pub plan_all-requires : goal.plan_all-requires
+plan_all-requires g c κs within =
+    let width = ap (λ (x : Arena). x.width) c.touch_all.ensures.frame in (
+      within,
+      (
+        still_from c.args.arena.now c.touch_all.new.arena (source_before g.deletion) c.touch_all.ensures.now width c.requires.1.1.1.0,
+        (
+          c.requires.1.1.0 ∙ sym width,
+          (
+            c.requires.1.1.1.1.0,
+            (
+              subst (λ t. AreBelow t c.args.tuple.now (length c.args.tuple.now) c.in-Ok.list.items) (sym c.touch_all.ensures.now) c.in-Ok.ensures.below,
+              (c.requires.1.1.1.1.1.1, c.requires.1.1.1.1.1.0),
+            ),
+          ),
+        ),
+      ),
+    )
+
+pub settle_all-requires-clause-opened : goal.settle_all-requires-clause-opened
+settle_all-requires-clause-opened g c = ap is_open c.touch_all.ensures.frame ∙ c.requires.1.0
+
+pub settle_all-requires-clause-touched : goal.settle_all-requires-clause-touched
+settle_all-requires-clause-touched g c = c.in-Ok-touch_all.ensures.touched
+
+pub settle_all-requires-clause-long : goal.settle_all-requires-clause-long
+settle_all-requires-clause-long g c = c.requires.1.1.0 ∙ sym (ap (λ (x : Arena). x.width) c.touch_all.ensures.frame)
+
+pub returns-in-Err : goal.returns-in-Err
+returns-in-Err g c = record { tree = tt; numbers = tt; none_new = tt; apart = λ k n at off. at; touched = tt; frame = refl; steps = tt }
+
+pub returns-in-Err-touch_all : goal.returns-in-Err-touch_all
+returns-in-Err-touch_all g c = record { tree = tt; numbers = tt; none_new = tt; apart = λ k n at off. ap (λ t. map.get t k) c.touch_all.ensures.now ∙ at; touched = tt; frame = c.touch_all.ensures.frame; steps = tt }
+
+pub returns-in-Err-plan_all : goal.returns-in-Err-plan_all
+returns-in-Err-plan_all g c = record { tree = tt; numbers = tt; none_new = tt; apart = λ k n at off. ap (λ t. map.get t k) c.touch_all.ensures.now ∙ at; touched = tt; frame = c.touch_all.ensures.frame; steps = tt }

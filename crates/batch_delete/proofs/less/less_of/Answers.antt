@@ -14,17 +14,17 @@ use Rattle.batch_delete.proofs.less.less_of.Goals.{In-Some-besides}
 
 -- what the class comes to afterwards, by its tuple's rows and the others
 stays : (g : given.Over) (c : In-Some-besides g) → (length (agg_in c.in-Some-besides.others).parts ≡ g.d.measures)
-    × (agg_at (eq_by_cmp nat_cmp) g.d.measures (rows_after g.d) c.args.cell.now ≡ join_aggs (agg_at (eq_by_cmp nat_cmp) g.d.measures (rows_after g.d) c.args.row.now.tuple) (Some (agg_in c.in-Some-besides.others)))
+    × (agg_at (eq_by_cmp nat_cmp) g.d.measures (rows_after g.d) c.args.cell.now ≡ join_aggs (agg_at (eq_by_cmp nat_cmp) g.d.measures (rows_after g.d) c.args.row.now.tuple.now) (Some (agg_in c.in-Some-besides.others)))
 stays g c =
     let up = subst (λ t. leq (eq_by_cmp nat_cmp) c.args.cell.now t ≡ true) (sym c.requires.0.tuple) c.requires.1.0 in
     let e = sym (ap (option_map agg_in) c.in-Some.is) ∙ c.requires.1.1 in
     let f = sym (ap (option_map agg_in) c.in-Some-all.is) ∙ c.requires.0.all in
-    left g.d c.args.cell.now c.args.row.now.tuple up (tuple_closes g.d c.args.row.now.tuple c.requires.0.tuple).0 c.in-Some.whole c.in-Some-all.gone c.in-Some-besides.others e f c.in-Some-besides.ensures.more c.in-Some-besides.ensures.rest
+    left g.d c.args.cell.now c.args.row.now.tuple.now up (tuple_closes g.d c.args.row.now.tuple.now c.requires.0.tuple).0 c.in-Some.whole c.in-Some-all.gone c.in-Some-besides.others e f c.in-Some-besides.ensures.more c.in-Some-besides.ensures.rest
 
 pub with_twins-requires-clause-parts : goal.with_twins-requires-clause-parts
 with_twins-requires-clause-parts g c =
     let is = stays g (goal.at.with_twins-requires-clause-parts g c).In-Some-besides in
-    if_some _ c.args.row.now.twins (λ (agg : Agg) some. is.0 ∙ sym (twins_long g.d c.args.row.now.tuple (agg_in agg) (sym c.requires.0.twins ∙ ap (option_map agg_in) some)))
+    if_some _ c.args.row.now.twins (λ (agg : Agg) some. is.0 ∙ sym (twins_long g.d c.args.row.now.tuple.now (agg_in agg) (sym c.requires.0.twins ∙ ap (option_map agg_in) some)))
 
 pub with_twins-requires-clause-few : goal.with_twins-requires-clause-few
 with_twins-requires-clause-few g c =

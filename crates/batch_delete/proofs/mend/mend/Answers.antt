@@ -4,7 +4,7 @@ use Rattle.qc_arena.specs.Seen.{record_at}
 use Rattle.tree_search.proofs.Walked.{there_is}
 use Rattle.batch_delete.specs.Plan.{heir_in, led_to, next_entry}
 use Rattle.batch_delete.proofs.Mended.{all_mended, cut_is, cut_rises, cut_was, left_leads}
-use Rattle.batch_delete.proofs.Mending.{there_still}
+use Rattle.batch_delete.proofs.Mending.{changed, there_still}
 use Rattle.batch_delete.proofs.mend.mend.Goals as goal
 
 pub lead_edges-requires-clause-rises : goal.lead_edges-requires-clause-rises
@@ -44,3 +44,39 @@ returns-clause-here g c =
     c.args.tuple.now (heir_in c.args.plan.now.entries) c.args.below.now.cell c.args.rest.now _ _ _ _
     (c.next_value-next.ensures.entry ∙ ap (λ n. next_entry n c.args.rest.now.shared) c.depth-from.ensures.value) c.class_of-class.ensures
     c.in-Ok.ensures.here c.mend_forced.ensures.here c.set_class.ensures.here
+
+pub lead_edges-requires-clause-change : goal.lead_edges-requires-clause-change
+lead_edges-requires-clause-change g c = changed c.args.arena.now c.cut_edges.new.arena c.args.below.now.node.0 _ c.cut_edges.ensures.here c.cut_edges.ensures.touched c.cut_edges.ensures.frame c.requires.change
+
+pub lead_edges-requires-clause-long : goal.lead_edges-requires-clause-long
+lead_edges-requires-clause-long g c = c.requires.long ∙ sym (ap (λ (a : Arena). a.width) c.cut_edges.ensures.frame)
+
+pub mend_forced-requires-clause-change : goal.mend_forced-requires-clause-change
+mend_forced-requires-clause-change g c =
+    changed c.cut_edges.new.arena c.lead_edges.new.arena c.args.below.now.node.0 _ c.in-Ok.ensures.here c.lead_edges.ensures.touched c.lead_edges.ensures.frame
+    (changed c.args.arena.now c.cut_edges.new.arena c.args.below.now.node.0 _ c.cut_edges.ensures.here c.cut_edges.ensures.touched c.cut_edges.ensures.frame c.requires.change)
+
+pub set_class-requires : goal.set_class-requires
+set_class-requires g c = record {
+  change = changed c.lead_edges.new.arena c.mend_forced.new.arena c.args.below.now.node.0 _ c.mend_forced.ensures.here c.mend_forced.ensures.touched c.mend_forced.ensures.frame
+      (changed c.cut_edges.new.arena c.lead_edges.new.arena c.args.below.now.node.0 _ c.in-Ok.ensures.here c.lead_edges.ensures.touched c.lead_edges.ensures.frame
+      (changed c.args.arena.now c.cut_edges.new.arena c.args.below.now.node.0 _ c.cut_edges.ensures.here c.cut_edges.ensures.touched c.cut_edges.ensures.frame c.requires.change));
+}
+
+pub returns-clause-others : goal.returns-clause-others
+returns-clause-others g c = λ q off. c.set_class.ensures.others q off ∙ c.mend_forced.ensures.others q off ∙ c.lead_edges.ensures.others q off ∙ c.cut_edges.ensures.others q off
+
+pub returns-clause-touched : goal.returns-clause-touched
+returns-clause-touched g c = λ q. c.set_class.ensures.touched q ∙ c.mend_forced.ensures.touched q ∙ c.lead_edges.ensures.touched q ∙ c.cut_edges.ensures.touched q
+
+pub returns-clause-frame : goal.returns-clause-frame
+returns-clause-frame g c = c.set_class.ensures.frame ∙ c.mend_forced.ensures.frame ∙ c.lead_edges.ensures.frame ∙ c.cut_edges.ensures.frame
+
+pub returns-in-Err-clause-others : goal.returns-in-Err-clause-others
+returns-in-Err-clause-others g c = λ q off. c.lead_edges.ensures.others q off ∙ c.cut_edges.ensures.others q off
+
+pub returns-in-Err-clause-touched : goal.returns-in-Err-clause-touched
+returns-in-Err-clause-touched g c = λ q. c.lead_edges.ensures.touched q ∙ c.cut_edges.ensures.touched q
+
+pub returns-in-Err-clause-frame : goal.returns-in-Err-clause-frame
+returns-in-Err-clause-frame g c = c.lead_edges.ensures.frame ∙ c.cut_edges.ensures.frame

@@ -9,45 +9,35 @@ pub settle-requires-clause-dims : goal.settle-requires-clause-dims
 settle-requires-clause-dims g c =
     let a = c.args.arena.now in
     let xs = c.args.list.now.items in
-    let ends = c.len-k-end.ensures in
-    let test = c.nodes-test.true in
-    let at = item_at xs c.nodes.k c.index.result.now (omega arith) ∙ ap (λ b. Some b) (sym c.index.ensures) in
+    let at = item_at xs c.nodes.k c.index.result.now (omega (arith, c.len-k-end.ensures, c.nodes-test.true)) ∙ ap (λ b. Some b) (sym c.index.ensures) in
     λ j x e. subst (λ w. x.dim < w) (sym c.nodes.invariant.width) (edges_wide a.width a.now c.args.tuple.now c.args.plan.now.entries xs c.requires.ready c.nodes.k c.index.result.now at c.nodes.arena.now c.nodes.invariant.others c.nodes.invariant.there j x e)
 
 pub settle-requires-clause-behind : goal.settle-requires-clause-behind
 settle-requires-clause-behind g c =
     let a = c.args.arena.now in
     let xs = c.args.list.now.items in
-    let ends = c.len-k-end.ensures in
-    let test = c.nodes-test.true in
-    let at = item_at xs c.nodes.k c.index.result.now (omega arith) ∙ ap (λ b. Some b) (sym c.index.ensures) in
+    let at = item_at xs c.nodes.k c.index.result.now (omega (arith, c.len-k-end.ensures, c.nodes-test.true)) ∙ ap (λ b. Some b) (sym c.index.ensures) in
     edges_behind a.width a.now c.args.tuple.now c.args.plan.now.entries xs c.requires.ready c.nodes.k c.index.result.now at c.nodes.arena.now c.nodes.invariant.others c.nodes.invariant.there
 
 pub settle-requires-clause-targets : goal.settle-requires-clause-targets
 settle-requires-clause-targets g c =
     let a = c.args.arena.now in
     let xs = c.args.list.now.items in
-    let ends = c.len-k-end.ensures in
-    let test = c.nodes-test.true in
-    let at = item_at xs c.nodes.k c.index.result.now (omega arith) ∙ ap (λ b. Some b) (sym c.index.ensures) in
+    let at = item_at xs c.nodes.k c.index.result.now (omega (arith, c.len-k-end.ensures, c.nodes-test.true)) ∙ ap (λ b. Some b) (sym c.index.ensures) in
     led_there a.width a.now c.args.tuple.now c.args.plan.now.entries xs c.requires.ready c.nodes.k c.index.result.now at c.nodes.arena.now c.nodes.invariant.others c.nodes.invariant.there
 
 pub returns-in_err-settle-clause-others : goal.returns-in_err-settle-clause-others
 returns-in_err-settle-clause-others g c =
     let a = c.args.arena.now in
     let xs = c.args.list.now.items in
-    let ends = c.len-k-end.ensures in
-    let test = c.nodes-test.true in
-    let at = item_at xs c.nodes.k c.index.result.now (omega arith) ∙ ap (λ b. Some b) (sym c.index.ensures) in
+    let at = item_at xs c.nodes.k c.index.result.now (omega (arith, c.len-k-end.ensures, c.nodes-test.true)) ∙ ap (λ b. Some b) (sym c.index.ensures) in
     others_all a.width a.now c.args.tuple.now c.args.plan.now.entries xs c.requires.ready c.nodes.k c.index.result.now at c.nodes.arena.now c.nodes.invariant.others c.nodes.invariant.there c.settle.new.arena.now c.settle.ensures.others
 
 pub returns-in_err-settle-clause-steps : goal.returns-in_err-settle-clause-steps
 returns-in_err-settle-clause-steps g c =
     let a = c.args.arena.now in
     let xs = c.args.list.now.items in
-    let ends = c.len-k-end.ensures in
-    let test = c.nodes-test.true in
-    let at = item_at xs c.nodes.k c.index.result.now (omega arith) ∙ ap (λ b. Some b) (sym c.index.ensures) in
+    let at = item_at xs c.nodes.k c.index.result.now (omega (arith, c.len-k-end.ensures, c.nodes-test.true)) ∙ ap (λ b. Some b) (sym c.index.ensures) in
     let long = same_long a.width a.now c.args.tuple.now c.args.plan.now.entries xs c.requires.ready c.nodes.k c.index.result.now at c.nodes.arena.now c.nodes.invariant.others c.nodes.invariant.there in
     let more = settling_more (length c.args.tuple.now) a.now xs c.nodes.k c.index.result.now at in
     let all = settling_taken (length c.args.tuple.now) a.now xs (c.nodes.k + 1) in
@@ -59,9 +49,7 @@ pub nodes-preserved : goal.nodes-preserved
 nodes-preserved g c =
     let a = c.args.arena.now in
     let xs = c.args.list.now.items in
-    let ends = c.len-k-end.ensures in
-    let test = c.nodes-test.true in
-    let at = item_at xs c.nodes.k c.index.result.now (omega arith) ∙ ap (λ b. Some b) (sym c.index.ensures) in
+    let at = item_at xs c.nodes.k c.index.result.now (omega (arith, c.len-k-end.ensures, c.nodes-test.true)) ∙ ap (λ b. Some b) (sym c.index.ensures) in
     let long = same_long a.width a.now c.args.tuple.now c.args.plan.now.entries xs c.requires.ready c.nodes.k c.index.result.now at c.nodes.arena.now c.nodes.invariant.others c.nodes.invariant.there in
     let more = settling_more (length c.args.tuple.now) a.now xs c.nodes.k c.index.result.now at in
     let had = c.nodes.invariant.steps in
@@ -87,9 +75,7 @@ pub settle-requires-clause-change : goal.settle-requires-clause-change
 settle-requires-clause-change g c =
     let a = c.args.arena.now in
     let xs = c.args.list.now.items in
-    let ends = c.len-k-end.ensures in
-    let test = c.nodes-test.true in
-    let at = item_at xs c.nodes.k c.index.result.now (omega arith) ∙ ap (λ b. Some b) (sym c.index.ensures) in
+    let at = item_at xs c.nodes.k c.index.result.now (omega (arith, c.len-k-end.ensures, c.nodes-test.true)) ∙ ap (λ b. Some b) (sym c.index.ensures) in
     record {
       opened = c.nodes.invariant.opened;
       there = still_there a.width a.now c.args.tuple.now c.args.plan.now.entries xs c.requires.ready c.nodes.k c.index.result.now at c.nodes.arena.now c.nodes.invariant.others c.nodes.invariant.there;
@@ -103,18 +89,14 @@ pub settle-requires-clause-cell : goal.settle-requires-clause-cell
 settle-requires-clause-cell g c =
     let a = c.args.arena.now in
     let xs = c.args.list.now.items in
-    let ends = c.len-k-end.ensures in
-    let test = c.nodes-test.true in
-    let at = item_at xs c.nodes.k c.index.result.now (omega arith) ∙ ap (λ b. Some b) (sym c.index.ensures) in
+    let at = item_at xs c.nodes.k c.index.result.now (omega (arith, c.len-k-end.ensures, c.nodes-test.true)) ∙ ap (λ b. Some b) (sym c.index.ensures) in
     c.requires.ready.cells c.nodes.k c.index.result.now at ∙ sym c.nodes.invariant.width
 
 pub settle-requires-clause-shared : goal.settle-requires-clause-shared
 settle-requires-clause-shared g c =
     let a = c.args.arena.now in
     let xs = c.args.list.now.items in
-    let ends = c.len-k-end.ensures in
-    let test = c.nodes-test.true in
-    let at = item_at xs c.nodes.k c.index.result.now (omega arith) ∙ ap (λ b. Some b) (sym c.index.ensures) in
+    let at = item_at xs c.nodes.k c.index.result.now (omega (arith, c.len-k-end.ensures, c.nodes-test.true)) ∙ ap (λ b. Some b) (sym c.index.ensures) in
     shared_wide a.width a.now c.args.tuple.now c.args.plan.now.entries xs c.requires.ready c.nodes.k c.index.result.now at c.nodes.arena.now c.nodes.invariant.others c.nodes.invariant.there c.nodes.arena.width c.nodes.invariant.width
 
 pub returns-in_err-settle-clause-touched : goal.returns-in_err-settle-clause-touched

@@ -1,78 +1,20 @@
-use Rattle.std.proofs.Common.{◌≡◌, ◌∙◌, ◌≤◌, ◌+◌, ◌*◌, ◌-◌, ℕ, suc, Some, ap, arith, drop, length, nat_eq, subst, sym, true}
-use Rattle.cube_defs.specs.Cell.{Cell, leq}
-use Rattle.batch_delete.specs.Below.{AreBelow}
-use Rattle.batch_delete.specs.Plan.{front_labels, last_any_of, planning}
-use Rattle.batch_delete.specs.Rests.{AreGreaterPlanned, ArePlanned}
-use Rattle.batch_delete.proofs.Fated.{greater_planned, planned_more, planning_more}
-use Rattle.batch_delete.proofs.Growing.{item_at}
+use Rattle.std.proofs.Common.{◌∙◌, arith}
+use Rattle.batch_delete.specs.Rests.{rows_before, source_before}
+use Rattle.batch_delete.proofs.Resting.{total_agg}
 use Rattle.batch_delete.proofs.plan.plan_all.Goals as goal
 
-pub row_of-row-requires : goal.row_of-row-requires
-row_of-row-requires g c κs within = (within, (c.requires.1.0, (c.requires.1.1.0, (c.requires.1.1.1.0, (c.requires.1.1.1.1.1.0, c.requires.1.1.1.1.1.1)))))
-
-pub fate_of-fate-requires : goal.fate_of-fate-requires
-fate_of-fate-requires g c κs within =
-    let a = c.args.arena.now in
-    let xs = c.args.list.now.items in
-    let j = c.len-many.result - 1 - c.nodes.k in
-    let many = c.len-many.ensures in
-    let test = c.nodes-test.true in
-    let b = c.index-below.result.now in
-    let at = item_at xs j b (omega arith) ∙ ap (λ b. Some b) (sym c.index-below.ensures) in
-    let next : length xs - c.nodes.k ≡ suc j = omega arith in
-    let tree = c.requires.1.0 in
-    let tuple = c.requires.1.1.0 in
-    let are = c.requires.1.1.1.1.0 in
-    let same = sym c.row_of-row.ensures.tuple in
-    let had = subst (ArePlanned g.d a.now c.nodes.plan.entries xs) next c.nodes.invariant.planned in
-    let greater = greater_planned a.width a.now g.d tree c.args.tuple.now tuple xs are j b at c.nodes.plan.entries had in (
-      within,
-      (
-        tree,
-        (
-          ap length (sym same) ∙ tuple,
-          (
-            c.row_of-row.ensures.row,
-            (
-              are.cells j b at,
-              (subst (λ (t : Cell ℕ). leq nat_eq b.cell t ≡ true) same (are.below j b at), subst (λ (t : Cell ℕ). AreGreaterPlanned g.d a.now t b.cell c.nodes.plan.entries) same greater),
-            ),
-          ),
-        ),
-      ),
-    )
-
-pub nodes-preserved : goal.nodes-preserved
-nodes-preserved g c =
-    let a = c.args.arena.now in
-    let xs = c.args.list.now.items in
-    let n = length c.args.tuple.now in
-    let j = c.len-many.result - 1 - c.nodes.k in
-    let many = c.len-many.ensures in
-    let test = c.nodes-test.true in
-    let b = c.index-below.result.now in
-    let at = item_at xs j b (omega arith) ∙ ap (λ b. Some b) (sym c.index-below.ensures) in
-    let next : length xs - c.nodes.k ≡ suc j = omega arith in
-    let here : j ≡ length xs - (c.nodes.k + 1) = omega arith in
-    let are = c.requires.1.1.1.1.0 in
-    let had = subst (ArePlanned g.d a.now c.nodes.plan.entries xs) next c.nodes.invariant.planned in
-    let made = c.in_ok-add_fate.ensures in
-    let fate = c.fate_of-fate.ensures in
-    let all = planned_more a.width a.now g.d c.requires.1.0 c.args.tuple.now c.requires.1.1.0 xs are j b at c.nodes.plan.entries had c.add_fate.new.plan.entries c.fate_of-fate.result fate.after fate.heir made.here made.heir made.others made.heirs in
-    let more = planning_more n a.now xs xs j b at in
-    let before = c.nodes.invariant.steps in
-    let left : planning n a.now xs (drop (length xs - c.nodes.k) xs) ≡ planning n a.now xs (drop (suc j) xs) = ap (λ m. planning n a.now xs (drop m xs)) next in
-    let now : planning n a.now xs (drop j xs) ≡ planning n a.now xs (drop (length xs - (c.nodes.k + 1)) xs) = ap (λ m. planning n a.now xs (drop m xs)) here in
-    let same = sym c.row_of-row.ensures.tuple in
-    let took = subst (λ (t : Cell ℕ). c.fate_of-fate.new.steps ≤ c.nodes.steps + (4 * length t + 7) * (1 + front_labels a.now xs b.cell (last_any_of b.cell))) (sym same)
-    (fate.steps xs (subst (λ (t : Cell ℕ). AreBelow a.now t (length t) xs) same are)) in
+pub plan_row-requires : goal.plan_row-requires
+plan_row-requires g c κs within = (
+  within,
+  (
     record {
-      planned = subst (ArePlanned g.d a.now c.add_fate.new.plan.entries xs) here all;
-      steps = omega arith;
-    }
-
-pub returns-clause-planned : goal.returns-clause-planned
-returns-clause-planned g c =
-    let past = c.nodes-test.false in
-    let many = c.len-many.ensures in
-    λ j b l e. c.nodes.invariant.planned j b (omega arith) e
+      tree = c.requires.1.0;
+      long = c.requires.1.1.0;
+      tuple = c.requires.1.1.1.0;
+      all = c.total_at-all.ensures.value (source_before g.d) c.requires.1.0 ∙ total_agg g.d.measures (rows_before g.d) c.args.tuple.now;
+      twins = c.requires.1.1.1.1.1.0;
+      few = c.requires.1.1.1.1.1.1;
+    },
+    c.requires.1.1.1.1.0,
+  ),
+)

@@ -1,16 +1,4 @@
-use Rattle.std.proofs.Common.{◌≤◌, ◌+◌, ◌*◌, ◌-◌, drop, length}
-use Rattle.batch_delete.specs.Plan.{planning}
-use Rattle.batch_delete.specs.Rests.{ArePlanned}
 use Rattle.batch_delete.proofs.plan.plan_all.Given as goal
 
-abbrev pub ghost-row_of : goal.ghost-row_of
-ghost-row_of g a = g.d
-
-abbrev pub ghost-fate_of : goal.ghost-fate_of
-ghost-fate_of g a = g.d
-
-abbrev pub invariant-nodes : goal.invariant-nodes
-invariant-nodes g l = record {
-  planned : ArePlanned g.d l.arena.now l.plan.entries l.list.items (length l.list.items - l.k);
-  steps : l.steps ≤ l.fn.steps + (2 * length l.tuple + 3 + planning (length l.tuple) l.arena.now l.list.items (drop (length l.list.items - l.k) l.list.items));
-}
+abbrev pub ghost-plan_row : goal.ghost-plan_row
+ghost-plan_row g a = g.d

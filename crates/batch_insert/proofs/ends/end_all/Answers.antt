@@ -4,11 +4,11 @@ use Rattle.std.proofs.lemmas.List.{take_all}
 use Rattle.batch_insert.specs.Stages.{HaveEnded}
 use Rattle.batch_insert.proofs.Doing.{ended_none, ended_next}
 use Rattle.batch_insert.specs.Numbered.{numbered}
-use Rattle.batch_insert.proofs.Keeping.{keeps_same, keeps_then, numbers_stay}
+use Rattle.batch_insert.proofs.Keeping.{keeps_same, keeps_then, repair_then}
 use Rattle.batch_insert.proofs.ends.end_all.Goals as goal
 
-pub end_one-requires-clause-numbers : goal.end_one-requires-clause-numbers
-end_one-requires-clause-numbers g c = numbers_stay c.args.tuple.now c.args.arena.now c.ends.arena (numbered c.args.numbers.now) c.ends.invariant.keeps c.requires.numbers
+pub end_one-requires-clause-repair : goal.end_one-requires-clause-repair
+end_one-requires-clause-repair g c = repair_then c.args.tuple.now c.args.arena.now c.ends.arena (numbered c.args.numbers.now) c.ends.invariant.keeps c.requires.repair
 
 pub returns-in-Err : goal.returns-in-Err
 returns-in-Err g c = record { keeps = keeps_then c.args.tuple.now c.args.arena.now c.ends.arena c.end_one.new.arena c.ends.invariant.keeps c.in-Err.ensures.keeps; done = tt; steps = tt }
@@ -22,7 +22,7 @@ ends-preserved g c = record {
 }
 
 pub ends-init : goal.ends-init
-ends-init g c = record { keeps = keeps_same c.args.tuple.now c.args.arena.now c.requires.opened; done = ended_none c.args.tuple.now (numbered c.args.numbers.now) c.args.arena.now.now c.args.amounts.now; steps = omega arith }
+ends-init g c = record { keeps = keeps_same c.args.tuple.now c.args.arena.now c.requires.repair.opened; done = ended_none c.args.tuple.now (numbered c.args.numbers.now) c.args.arena.now.now c.args.amounts.now; steps = omega arith }
 
 pub returns-clause-done : goal.returns-clause-done
 returns-clause-done g c = subst (λ xs. HaveEnded c.args.tuple.now c.args.amounts.now (numbered c.args.numbers.now) xs c.args.arena.now.now c.ends.arena.now) (take_all c.ends.k c.args.ends.now (omega (arith, c.ends-test.false))) c.ends.invariant.done

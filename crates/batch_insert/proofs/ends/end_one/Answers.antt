@@ -1,20 +1,23 @@
 use Rattle.batch_insert.specs.Numbered.{numbered}
 use Rattle.batch_insert.proofs.Each.{one_class, one_forced}
 use Rattle.batch_insert.proofs.Reading.{ok_then}
-use Rattle.batch_insert.proofs.Keeping.{number_below, number_touched}
+use Rattle.batch_insert.proofs.Keeping.{keeps_same, number_below, number_change}
 use Rattle.batch_insert.proofs.ends.end_one.Goals as goal
 
-pub force-requires-clause-node : goal.force-requires-clause-node
-force-requires-clause-node g c = number_below c.args.tuple.now c.args.arena.now (numbered c.args.numbers.now) _ _ c.requires.numbers c.in-Ok.ensures
+pub returns-in-Err-clause-keeps : goal.returns-in-Err-clause-keeps
+returns-in-Err-clause-keeps g c = keeps_same c.args.tuple.now c.args.arena.now c.requires.repair.opened
 
-pub force-requires-clause-touched : goal.force-requires-clause-touched
-force-requires-clause-touched g c = number_touched c.args.tuple.now c.args.arena.now (numbered c.args.numbers.now) _ _ c.requires.numbers c.in-Ok.ensures
+pub force-requires-clause-node : goal.force-requires-clause-node
+force-requires-clause-node g c = number_below c.args.tuple.now c.args.arena.now (numbered c.args.numbers.now) _ _ c.requires.repair.numbers c.in-Ok.ensures
+
+pub force-requires-clause-change : goal.force-requires-clause-change
+force-requires-clause-change g c = number_change c.args.tuple.now c.args.arena.now (numbered c.args.numbers.now) _ _ c.requires.repair c.in-Ok.ensures
 
 pub mark-requires-clause-node : goal.mark-requires-clause-node
-mark-requires-clause-node g c = number_below c.args.tuple.now c.args.arena.now (numbered c.args.numbers.now) _ _ c.requires.numbers c.in-Ok.ensures
+mark-requires-clause-node g c = number_below c.args.tuple.now c.args.arena.now (numbered c.args.numbers.now) _ _ c.requires.repair.numbers c.in-Ok.ensures
 
-pub mark-requires-clause-touched : goal.mark-requires-clause-touched
-mark-requires-clause-touched g c = number_touched c.args.tuple.now c.args.arena.now (numbered c.args.numbers.now) _ _ c.requires.numbers c.in-Ok.ensures
+pub mark-requires-clause-change : goal.mark-requires-clause-change
+mark-requires-clause-change g c = number_change c.args.tuple.now c.args.arena.now (numbered c.args.numbers.now) _ _ c.requires.repair c.in-Ok.ensures
 
 pub returns-in-Some-clause-done : goal.returns-in-Some-clause-done
 returns-in-Some-clause-done g c = ok_then c.force.result (λ h. one_forced c.args.tuple.now (numbered c.args.numbers.now) c.args.arena.now.now c.force.new.arena.now c.args.amounts.now c.args.end c.in-Some.forcing _ h.0 h.1 c.in-Some.is c.in-Ok.ensures h.2 h.3 h.4 c.force.ensures.others) c.force.ensures.here

@@ -15,11 +15,11 @@ returns-then-is_forced-clause-made g c = λ measures rows f t at target.
     let a = c.args.arena.now in
     let b = c.set_forced.new.self in
     let k = c.args.node.0 in
-    let e : Edge ℕ ℕ = record { dim = c.args.dim; value = c.args.code; target = c.args.target.0 } in
+    let e : Edge ℕ ℕ = record { dim = c.args.label.0; value = c.args.label.1; target = c.args.label.2.0 } in
     let m = some_there (map.get a.now k) c.requires.change.there in
     let edged = c.in-Ok.ensures.here ∙ ap (option_map (with_edge e)) m.1 in
-    subst (λ forced. PerformsActs measures rows (Label forced f c.args.dim c.args.code t ∷ []) a b) (sym c.if-is_forced.true)
-    (does_label measures rows a b k true f t c.args.dim c.args.code c.args.target.0 at target m.0 m.1
+    subst (λ forced. PerformsActs measures rows (Label forced f c.args.label.0 c.args.label.1 t ∷ []) a b) (sym c.if-is_forced.true)
+    (does_label measures rows a b k true f t c.args.label.0 c.args.label.1 c.args.label.2.0 at target m.0 m.1
     (record {
       here = c.set_forced.ensures.here ∙ ap (option_map (with_forced (Some e))) edged;
       others = λ q n. c.set_forced.ensures.others q n ∙ c.in-Ok.ensures.others q n;
@@ -32,9 +32,9 @@ returns-else-is_forced-clause-made g c = λ measures rows f t at target.
     let a = c.args.arena.now in
     let b = c.set_edge.new.self in
     let k = c.args.node.0 in
-    let e : Edge ℕ ℕ = record { dim = c.args.dim; value = c.args.code; target = c.args.target.0 } in
+    let e : Edge ℕ ℕ = record { dim = c.args.label.0; value = c.args.label.1; target = c.args.label.2.0 } in
     let m = some_there (map.get a.now k) c.requires.change.there in
-    subst (λ forced. PerformsActs measures rows (Label forced f c.args.dim c.args.code t ∷ []) a b) (sym c.if-is_forced.false)
-    (does_label measures rows a b k false f t c.args.dim c.args.code c.args.target.0 at target m.0 m.1
+    subst (λ forced. PerformsActs measures rows (Label forced f c.args.label.0 c.args.label.1 t ∷ []) a b) (sym c.if-is_forced.false)
+    (does_label measures rows a b k false f t c.args.label.0 c.args.label.1 c.args.label.2.0 at target m.0 m.1
     (record { here = c.in-Ok.ensures.here ∙ ap (option_map (with_edge e)) m.1; others = c.in-Ok.ensures.others; rest = c.in-Ok.ensures.frame })
     c.in-Ok.ensures.touched)

@@ -8,12 +8,12 @@ use Rattle.class_builder.proofs.upper.front_of.Goals as goal
 
 pub dims-init : goal.dims-init
 dims-init c = record {
-  long = c.copy-front.ensures.dims ∙ c.requires.long;
+  long = c.copy-front.ensures.dims ∙ c.requires.under.long;
   done = λ j l. ap (λ d. entry d j) c.copy-front.ensures.value ∙ sym (front_at c.args.at j _ c.args.upper.now c.requires.front l);
 }
 
 pub returns : goal.returns
 returns c = record {
-  front = front_from_points (suc c.args.dim) c.dims.front _ (c.dims.invariant.long ∙ sym (shared_long c.args.table.now c.requires.table c.args.rows.now (there c.args.table.now c.args.rows.now c.requires.there) c.requires.some)) (λ j l. c.dims.invariant.done j (omega arith));
+  front = front_from_points (suc c.args.dim) c.dims.front _ (c.dims.invariant.long ∙ sym (shared_long c.args.table.now c.requires.under.table c.args.rows.now (there c.args.table.now c.args.rows.now c.requires.under.there) c.requires.under.some)) (λ j l. c.dims.invariant.done j (omega arith));
   dims = c.dims.invariant.long;
 }

@@ -6,4 +6,4 @@ use Rattle.class_builder.proofs.upper.gains.Goals as goal
 
 pub returns-in-Is-clause-same : goal.returns-in-Is-clause-same
 returns-in-Is-clause-same c = λ e.
-    covered_entry _ _ c.args.upper.now c.args.dim _ (shared_there c.args.table.now c.requires.table c.args.rows.now (there c.args.table.now c.args.rows.now c.requires.there) c.requires.some) c.requires.covered (sym c.in-Is.ensures.value) ∙ c.in-Is.ensures.value
+    covered_entry _ _ c.args.upper.now c.args.dim _ (shared_there c.args.table.now c.requires.under.table c.args.rows.now (there c.args.table.now c.args.rows.now c.requires.under.there) c.requires.under.some) c.requires.under.covered (sym c.in-Is.ensures.value) ∙ c.in-Is.ensures.value

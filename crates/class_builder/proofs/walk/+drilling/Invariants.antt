@@ -1,10 +1,10 @@
 use Rattle.std.proofs.Common.{◌≡◌, ◌+◌, ◌*◌, ◌-◌, None}
-use Rattle.base_table.specs.Places.{named, rows_of}
+use Rattle.base_table.specs.Places.{named}
 use Rattle.build_trace.specs.Trace.{acts_at}
-use Rattle.build_acts.specs.Building.{PerformsActs, ActsComeNext}
 use Rattle.qc_arena.specs.Map.{Arena, frame}
-use Rattle.class_builder.specs.Walk.{IsOnPath, acts_from}
-use Rattle.class_builder.specs.Noted.{AreNoted}
+use Rattle.class_builder.specs.Stands.{HasDone, StandsAt}
+use Rattle.class_builder.specs.Walk.{acts_from}
+use Rattle.class_builder.specs.declared.noted.Fronts.{Fronts}
 use Rattle.class_builder.proofs.Steps.{parts_from}
 use Rattle.class_builder.proofs.walk.+drilling.Given as goal
 
@@ -23,22 +23,18 @@ decreases-drill_part g l = 4 * (l.group.now.table.now.dims - l.dim)
 -- who does what is to come has done the whole
 abbrev pub invariant-drill-dims : goal.invariant-drill-dims
 invariant-drill-dims g l = record {
-  whole : (c : Arena) → PerformsActs l.part.table.now.measures (rows_of l.part.table.now) (acts_from l.part.table.now l.dim (named l.part.table.now l.part.rows.now)) l.builder.arena.now c
-      → PerformsActs l.part.table.now.measures (rows_of l.part.table.now) (acts_from l.part.table.now l.first (named l.part.table.now l.part.rows.now)) l.fn.builder.arena.now c;
-  next : ActsComeNext l.part.table.now.measures (rows_of l.part.table.now) (acts_from l.part.table.now l.dim (named l.part.table.now l.part.rows.now)) l.builder.arena.now;
-  path : IsOnPath l.builder.arena.now l.path l.part.shared l.dim;
-  fronts : AreNoted l.part.table.now l.builder.arena.now l.builder.fronts.now;
+  whole : (c : Arena) (f : Fronts) → HasDone l.part.table.now (acts_from l.part.table.now l.dim (named l.part.table.now l.part.rows.now)) l.builder.arena.now c f
+      → HasDone l.part.table.now (acts_from l.part.table.now l.first (named l.part.table.now l.part.rows.now)) l.fn.builder.arena.now c f;
+  stands : StandsAt l.part.table.now l.part.shared l.dim (acts_from l.part.table.now l.dim (named l.part.table.now l.part.rows.now)) l.builder.arena.now l.path l.builder.fronts.now;
   rest : frame l.builder.arena.now ≡ frame l.fn.builder.arena.now;
   same : l.builder.arena.ghost_name ≡ l.fn.builder.arena.ghost_name;
 }
 
 abbrev pub invariant-drill_in-parts : goal.invariant-drill_in-parts
 invariant-drill_in-parts g l = record {
-  whole : (c : Arena) → PerformsActs l.part.table.now.measures (rows_of l.part.table.now) (parts_from l.part.table.now l.dim l.part.shared (named l.part.table.now l.part.rows.now) l.k) l.builder.arena.now c
-      → PerformsActs l.part.table.now.measures (rows_of l.part.table.now) (acts_at (acts_from l.part.table.now (l.dim + 1)) l.dim l.part.shared None (named l.part.table.now l.part.rows.now)) l.fn.builder.arena.now c;
-  next : ActsComeNext l.part.table.now.measures (rows_of l.part.table.now) (parts_from l.part.table.now l.dim l.part.shared (named l.part.table.now l.part.rows.now) l.k) l.builder.arena.now;
-  path : IsOnPath l.builder.arena.now l.path l.part.shared l.dim;
-  fronts : AreNoted l.part.table.now l.builder.arena.now l.builder.fronts.now;
+  whole : (c : Arena) (f : Fronts) → HasDone l.part.table.now (parts_from l.part.table.now l.dim l.part.shared (named l.part.table.now l.part.rows.now) l.k) l.builder.arena.now c f
+      → HasDone l.part.table.now (acts_at (acts_from l.part.table.now (l.dim + 1)) l.dim l.part.shared None (named l.part.table.now l.part.rows.now)) l.fn.builder.arena.now c f;
+  stands : StandsAt l.part.table.now l.part.shared l.dim (parts_from l.part.table.now l.dim l.part.shared (named l.part.table.now l.part.rows.now) l.k) l.builder.arena.now l.path l.builder.fronts.now;
   rest : frame l.builder.arena.now ≡ frame l.fn.builder.arena.now;
   same : l.builder.arena.ghost_name ≡ l.fn.builder.arena.ghost_name;
 }
