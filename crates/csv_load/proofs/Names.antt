@@ -1,15 +1,15 @@
 -- The places of names in a header.
-use Rattle.std.proofs.Common.{◌≡◌, ◌<◌, ◌≤◌, ◌+◌, ◌∙◌, ℕ, suc, List, [], ◌∷◌, ◌++◌, length, get_or, drop, map, refl, sym, ap, arith, Some, None, true, false, Bool, cond, append_assoc, subst, ◌≢◌, true≢false, ◌&&◌}
+use Rattle.std.proofs.Common.{◌≡◌, ◌<◌, ◌≤◌, ◌+◌, ◌-◌, ◌∙◌, ℕ, zero, suc, List, [], ◌∷◌, ◌++◌, length, get_or, drop, map, refl, sym, ap, arith, Some, None, true, false, Bool, cond, append_assoc, subst, ◌≢◌, true≢false, ◌&&◌}
 use Rattle.std.specs.Prelude.{Option, option_map, unwrap_or, codes, nat_le, not, slice_index}
 use Rattle.std.specs.Char.{is_ascii_alphabetic}
 use Rattle.std.specs.List.{All, AllByRecursion, list_all, list_any}
 use Rattle.std.specs.Str.{bytes_eq}
 use Rattle.std.proofs.lemmas.Bool.{and_parts, not-true, or_parts}
 use Rattle.std.proofs.lemmas.Slice.Eq.{bytes_eq-Decides}
-use Rattle.std.proofs.lemmas.List.{drop_more, length-map, get_or_append_left, length-append, append-nil}
+use Rattle.std.proofs.lemmas.List.{drop_more, length-map, get_or-map, get_or_append_left, get_or_push, length-append, append-nil}
 use Rattle.std.proofs.lemmas.List.Elements.{All-cons}
 use Rattle.cube_defs.specs.Text.{Text}
-use Rattle.qc_schema.specs.Schema.{IsLayout, Layout, Measure, all_different, is_name, is_name_byte, names_of}
+use Rattle.qc_schema.specs.Schema.{IsLayout, Layout, Measure, all_different, is_name, is_name_byte, names_of, no_measure}
 use Rattle.qc_schema.proofs.Widening.{bytes-flip, push-different}
 use Rattle.csv_load.proofs.Sizes.{Apart}
 use Rattle.csv_load.specs.Columns.{cons_some, fields_at, needed_names, place_from, places_in}
@@ -150,3 +150,30 @@ needed-name true layout column h = refl
 
 pub length-at : (places : List ℕ) (fields : List (List ℕ)) → length (fields_at places fields) ≡ length places
 length-at places fields = length-map places (λ place. get_or fields place [])
+
+-- ---- the name of a column, by its place
+
+behind : {X : Type 0} (xs ys : List X) (d : X) (k : ℕ) → length xs ≤ k → get_or (xs ++ ys) k d ≡ get_or ys (k - length xs) d
+behind [] ys d k le = let place : k - 0 ≡ k = omega arith in rw place refl
+behind (x ∷ xs) ys d zero le = absurd (omega arith)
+behind (x ∷ xs) ys d (suc k) le = let place : suc k - suc (length xs) ≡ k - length xs = omega arith in rw place (behind xs ys d k (omega arith))
+
+pub name-of-dim : (layout : Layout) (column : ℕ) → 0 < column → column ≤ length layout.dims → get_or layout.dims (column - 1) [] ≡ get_or (names_of layout ++ codes "op" ∷ []) column []
+name-of-dim layout zero some few = absurd (omega arith)
+name-of-dim layout (suc k) some few =
+    let names : List Text = map (λ (m : Measure). m.name) layout.measures in
+    let place : suc k - 1 ≡ k = omega arith in
+    rw place (sym (get_or_append_left (layout.dims ++ names) (codes "op" ∷ []) [] k (omega (arith, length-append layout.dims names)) ∙ get_or_append_left layout.dims names [] k (omega arith)))
+
+pub name-of-measure : (layout : Layout) (column : ℕ) → length layout.dims < column → column ≤ length layout.dims + length layout.measures
+    → (get_or layout.measures (column - 1 - length layout.dims) no_measure).name ≡ get_or (names_of layout ++ codes "op" ∷ []) column []
+name-of-measure layout zero some few = absurd (omega arith)
+name-of-measure layout (suc k) some few =
+    let names : List Text = map (λ (m : Measure). m.name) layout.measures in
+    let count : length names ≡ length layout.measures = length-map layout.measures (λ (m : Measure). m.name) in
+    let place : suc k - 1 - length layout.dims ≡ k - length layout.dims = omega arith in
+    rw place (sym (get_or_append_left (layout.dims ++ names) (codes "op" ∷ []) [] k (omega (arith, length-append layout.dims names, count)) ∙ behind layout.dims names [] k (omega arith)
+    ∙ get_or-map (λ (m : Measure). m.name) layout.measures (k - length layout.dims) no_measure [] (omega arith)))
+
+pub name-of-op : (layout : Layout) (column : ℕ) → column ≡ 1 + length layout.dims + length layout.measures → codes "op" ≡ get_or (names_of layout ++ codes "op" ∷ []) column []
+name-of-op layout column at = sym (get_or_push (names_of layout) (codes "op") [] column (omega (arith, names-all layout, at)))

@@ -15,35 +15,26 @@ use cube_defs::MAX_FILE;
 use qc_schema::Schema;
 use std::alloc::{AllocError, AllocFailed, Global};
 use text_lines::{RecordReader, has_two_marks, trim_mark};
-use thiserror::Error;
 
 /// Why a file gives no changes. A number is that of the first wrong record, counted from 1 after
 /// the header. If several faults hold, the first in this order is reported.
-#[derive(Clone, Copy, Debug, PartialEq, Eq, Error)]
+#[derive(Clone, Copy)]
 pub enum LoadRefused {
     /// There is no header, or a needed column doesn't stand in it exactly once.
-    #[error("a needed column is not there just once")]
     Header,
     /// The record has another number of fields than the header.
-    #[error("record {0} has another number of fields than the header")]
     Fields(u32),
     /// The text of a dimension isn't UTF-8, in a deletion too.
-    #[error("record {0} has a text that is not UTF-8")]
     Utf8(u32),
     /// The operation of a record of a batch is neither `+` nor `-`.
-    #[error("record {0} is neither an insertion nor a deletion")]
     Op(u32),
     /// The id is no whole number that fits 64 bits.
-    #[error("record {0} has an id that is no number of 64 bits")]
     Id(u32),
     /// An amount of an insertion has another form than its measure's scale allows, or is too large.
-    #[error("record {0} has an amount that is none of its scale, or too large")]
     Amount(u32),
     /// The text of a dimension of an insertion has more than 255 bytes.
-    #[error("record {0} has a text of more than 255 bytes")]
     Value(u32),
     /// Memory ran out.
-    #[error("memory ran out")]
     Memory,
 }
 

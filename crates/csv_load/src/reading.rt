@@ -109,31 +109,37 @@ fn push_zeros(count: u8, amounts: &mut Vec<i64>) -> Result<(), AllocError>
     Ok(())
 }
 
+// What a record does: it deletes a row, or inserts one whose texts are short enough or not.
+#[derive(Clone, Copy)]
+struct Operation {
+    deletes: bool,
+    are_short: bool,
+}
+
 // Appends the amounts of an insertion, if its texts are short enough, and zeros for a deletion.
 fn push_amounts_or_zeros(
     schema: &Schema,
     columns: &Columns,
     row: &ByteRecord,
     number: u32,
-    deletes: bool,
-    are_short: bool,
+    operation: Operation,
     amounts: &mut Vec<i64>,
 ) -> Result<(), LoadRefused>
     requires columns { AreColumns schema.now columns.now }
     requires width { length (fields_of row.now) ≡ columns.now.width }
-    requires short { are_short ≡ list_all is_short (tuple_of schema.now (fields_at columns.now.places.items (fields_of row.now))) }
+    requires short { operation.are_short ≡ list_all is_short (tuple_of schema.now (fields_at columns.now.places.items (fields_of row.now))) }
     ensures ok { OnOk result ((more : List ℤ) × (length more ≡ length schema.now.measures) × (amounts.new.items ≡ amounts.old.items ++ more)
-        × Makes schema.now number (fields_at columns.now.places.items (fields_of row.now)) deletes more) }
+        × Makes schema.now number (fields_at columns.now.places.items (fields_of row.now)) operation.deletes more) }
     ensures err { IfErr result (λ e. (id : ℕ) → IfSome (fault_in e)
-        (λ fault. change_with_id number (Some deletes) (Some id) (tuple_of schema.now (fields_at columns.now.places.items (fields_of row.now)))
+        (λ fault. change_with_id number (Some operation.deletes) (Some id) (tuple_of schema.now (fields_at columns.now.places.items (fields_of row.now)))
         (amounts_of schema.now (fields_at columns.now.places.items (fields_of row.now))) ≡ Err fault)) }
 {
-    if deletes {
+    if operation.deletes {
         push_zeros(schema.measures(), amounts)?;
         return Ok(());
     }
     push_amounts(schema, columns, row, number, amounts)?;
-    if !are_short {
+    if !operation.are_short {
         return Err(LoadRefused::Value(number));
     }
     Ok(())
@@ -166,8 +172,9 @@ fn push_change(
     let Some(id) = read_id(needed_field(columns, row, 0)) else {
         return Err(LoadRefused::Id(number));
     };
+    let operation = Operation { deletes, are_short };
     let amounts = &mut changes.amounts;
-    push_amounts_or_zeros(schema, columns, row, number, deletes, are_short, amounts)?;
+    push_amounts_or_zeros(schema, columns, row, number, operation, amounts)?;
     changes.push_id(id, deletes)?;
     Ok(())
 }

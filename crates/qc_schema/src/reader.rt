@@ -1,9 +1,10 @@
 // Reads a schema line by line.
-ghost use Rattle.std.specs.Prelude.{◌≡◌, ◌≤◌, length};
+ghost use Rattle.std.specs.Prelude.{◌≡◌, ◌≤◌, ◌&&◌, length, nat_lt};
 ghost use Rattle.qc_schema.specs.Grammar.{dim_line, id_line, in_order, index_line, is_start, may_dim, may_end, may_id, may_index, may_measure, may_rows, may_values, measure_line, named_line, nodes_line, rows_line, start, take_line, values_line, version_in, version_line};
 ghost use Rattle.text_lines.specs.Cuts.{words_of};
 ghost use Rattle.cell_core.specs.Gives.{Gives};
-ghost use Rattle.qc_schema.specs.Progress.{cause_in, progress_in};
+ghost use Rattle.qc_schema.specs.Progress.{cause_in, layout_in, progress_in};
+ghost use Rattle.qc_schema.specs.Schema.{max_dims, max_measures};
 
 use crate::draft::{Draft, Measure};
 use crate::limits::SchemaVersion;
@@ -148,12 +149,18 @@ impl SchemaReader {
         Ok(())
     }
 
+    // Whether a `dim` line may come next.
+    fn may_add_dim(&self) -> bool
+        ensures { result ≡ (may_dim self.now.stage && nat_lt (length (layout_in self.now.draft).dims) (max_dims self.now.draft.version)) }
+    {
+        self.stage.may_dim() && self.draft.dims.len() < self.draft.version.max_dims() as usize
+    }
+
     #[tactic(auto, unfolding(crate::specs::Grammar::dim_line))]
     fn read_dim(&mut self, alloc: Global, words: &[u8]) -> Result<(), SchemaLineRefused>
         ensures { Gives cause_in (λ _. progress_in self.new) result (dim_line (progress_in self.old) (words_of words.now)) }
     {
-        let most = self.draft.version.max_dims() as usize;
-        check_order(self.stage.may_dim() && self.draft.dims.len() < most)?;
+        check_order(self.may_add_dim())?;
         let name = self.draft.unused_name(only_word(words)?)?;
         let dim = String::from_str(alloc, name)?;
         self.draft.dims.push(dim)?;
@@ -161,12 +168,19 @@ impl SchemaReader {
         Ok(())
     }
 
+    // Whether a `measure` line may come next.
+    fn may_add_measure(&self) -> bool
+        ensures { result ≡ (may_measure self.now.stage && nat_lt (length (layout_in self.now.draft).measures) (max_measures self.now.draft.version)) }
+    {
+        self.stage.may_measure()
+            && self.draft.measures.len() < self.draft.version.max_measures() as usize
+    }
+
     #[tactic(auto, unfolding(crate::specs::Grammar::measure_line))]
     fn read_measure(&mut self, alloc: Global, words: &[u8]) -> Result<(), SchemaLineRefused>
         ensures { Gives cause_in (λ _. progress_in self.new) result (measure_line (progress_in self.old) (words_of words.now)) }
     {
-        let most = self.draft.version.max_measures() as usize;
-        check_order(self.stage.may_measure() && self.draft.measures.len() < most)?;
+        check_order(self.may_add_measure())?;
         let (word, digit) = only_words(words)?;
         let name = self.draft.unused_name(word)?;
         let scale = read_scale(digit)?;

@@ -4,43 +4,33 @@ ghost use Rattle.qc_schema.specs.declared.refusal.SchemaLineRefused.TheVariants 
 ghost use Rattle.qc_schema.specs.Progress.{refused_at};
 
 use std::alloc::{AllocError, AllocFailed};
-use thiserror::Error;
 
 /// What is wrong with a line. If several causes hold, the first in this order is reported.
-#[derive(Clone, Copy, Debug, Error)]
+#[derive(Clone, Copy)]
 pub enum SchemaCause {
     /// The first line is neither `qcube 1` nor `qcube 2`.
-    #[error("the first line is neither `qcube 1` nor `qcube 2`")]
     Version,
     /// The line's first word isn't known, or the line may not stand here.
-    #[error("the line is unknown or may not stand here")]
     Order,
     /// The line has too many or too few words.
-    #[error("the line has too many or too few words")]
     Words,
     /// A name has another form, or is used before; or an index is unknown or stands a second time.
-    #[error("a name is none, or was used before")]
     Name,
     /// A number is outside its range.
-    #[error("a number is outside its range")]
     Number,
     /// The text ends before it has a dimension.
-    #[error("the text ends before it has a dimension")]
     End,
 }
 
 /// Why bytes are no schema.
-#[derive(Clone, Copy, Debug, Error)]
+#[derive(Clone, Copy)]
 pub enum SchemaRefused {
     /// The text isn't UTF-8.
-    #[error("the text is not UTF-8")]
     NotUtf8,
     /// The first wrong line, counted from 1. At the end of the text it is one more than the number
     /// of lines.
-    #[error("line {line}: {cause}")]
     Line { line: u32, cause: SchemaCause },
     /// Memory ran out.
-    #[error("memory ran out")]
     Memory,
 }
 

@@ -10,7 +10,8 @@ use Rattle.aggregates.specs.declared.agg.Agg as shown
 use Rattle.cell_core.specs.declared.fields.Field.{Field}
 use Rattle.query_script.specs.Coded.{IsPoint}
 use Rattle.query_script.specs.Commands.{command_in}
-use Rattle.query_script.specs.Questions.{Point}
+use Rattle.query_script.specs.Queries.{Point}
+use Rattle.query_script.specs.Questions.{Ask}
 use Rattle.reply_text.specs.Replies.{none_text, point_reply}
 use Rattle.value_dict.specs.Told.{HasTexts, told_cell}
 use Rattle.warehouse.specs.State.{IsState, State, source_of}
@@ -20,7 +21,7 @@ use Rattle.query_answers.proofs.ClassTold.{asked-texts, asked-told}
 
 -- the line asks a point, which is answered by the reply
 abbrev pub IsPointed : State → List ℕ → ℕ → List ℕ → Type 0
-IsPointed s line number reply = (asked : List Field) × (command_in s.schema line ≡ Ok (Point asked)) × (reply ≡ pointed s number (cell_asked asked))
+IsPointed s line number reply = (asked : List Field) × (command_in s.schema line ≡ Ok (Ask (Point asked))) × (reply ≡ pointed s number (cell_asked asked))
 
 -- a point that asks for a value that isn't known
 pub point-unknown : (s : State) (is : IsState s) (line : List ℕ) (number : ℕ) → IsPoint s.schema s.texts line None → (reply : List ℕ) → reply ≡ none_text number → IsPointed s line number reply

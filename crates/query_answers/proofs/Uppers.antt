@@ -7,9 +7,10 @@ use Rattle.std.specs.List.{All}
 use Rattle.cube_laws.proofs.Lists.{all_among}
 use Rattle.cube_defs.specs.Text.{Text, text_cmp}
 use Rattle.cube_defs.specs.Cell.{Cell}
-use Rattle.cube_defs.specs.Rows.{Row, agg}
+use Rattle.cube_defs.specs.Rows.{Fraction, Row, agg}
 use Rattle.cube_defs.specs.Tree.{Tree, cell_at}
-use Rattle.cube_defs.specs.Answers.{ClassHit, class_at, class_of}
+use Rattle.cube_defs.specs.Answers.{AggKind, Ask, Bound, ClassHit, class_at, class_of}
+use Rattle.quotient_lattice.specs.Neighbours.{rollup}
 use Rattle.cell_core.specs.declared.cell.NodeNo.{NodeNo}
 use Rattle.cell_core.specs.declared.fields.Field.{Field}
 use Rattle.qc_arena.specs.Seen.{number, record_at}
@@ -20,8 +21,8 @@ use Rattle.tree_search.proofs.Walked.{cell_of, total_some}
 use Rattle.value_dict.specs.TextLists.{cell_in}
 use Rattle.value_dict.specs.Told.{told_cell, told_hit}
 use Rattle.warehouse.specs.State.{IsState, State, coded_rows, source_of}
-use Rattle.query_answers.specs.Queries.{cell_asked}
-use Rattle.query_answers.specs.Lattice.{upper_of}
+use Rattle.query_answers.specs.Queries.{ask_of, cell_asked, scale_of}
+use Rattle.query_answers.specs.Lattice.{related, rolled, upper_of, uppers_text}
 use Rattle.value_dict.proofs.ToldCells.{fits}
 use Rattle.value_dict.proofs.ToldClasses.{class-told}
 use Rattle.cube_laws.specs.Lists.{Among}
@@ -87,3 +88,15 @@ moved relation s is lists same tree node nodes e =
 
 pub each-class : (tree : Tree ℕ) (nodes : List NodeNo) → All (λ node. IsSome (record_at tree node.0).class) nodes → (node : NodeNo) → Among node nodes → IsSome (record_at tree node.0).class
 each-class tree nodes all node m = all_among (λ (n : NodeNo). IsSome (record_at tree n.0).class) nodes all node m
+
+-- the nodes of a roll-up, told
+pub rolled-told : (s : State) (number : ℕ) (kind : AggKind) (bound : Bound) (value : Fraction) (scale : ℕ) (cell upper : Cell Text) (nodes : List (Cell Text)) (reply : List ℕ)
+    → reply ≡ uppers_text s number nodes
+    → (let asked : Ask = record { kind = kind; scale = scale; bound = bound; value = value } in nodes ≡ rollup text_cmp (length s.schema.measures) s.rows asked upper)
+    → Some upper ≡ upper_of s cell → scale ≡ scale_of s.schema.measures kind
+    → reply ≡ rolled s number (ask_of s.schema.measures kind bound value) cell
+rolled-told s number kind bound value scale cell upper nodes reply told here up scaled =
+    let ask : ℕ → Ask = λ n. record { kind = kind; scale = n; bound = bound; value = value } in
+    told ∙ ap (uppers_text s number) here
+    ∙ ap (related s number (rollup text_cmp (length s.schema.measures) s.rows (ask scale))) up
+    ∙ ap (λ (n : ℕ). related s number (rollup text_cmp (length s.schema.measures) s.rows (ask n)) (upper_of s cell)) scaled

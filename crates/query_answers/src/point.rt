@@ -6,7 +6,8 @@ ghost use Rattle.cube_defs.specs.Rows.{Row};
 ghost use Rattle.cube_defs.specs.Text.{Text, text_eq};
 ghost use Rattle.cube_laws.specs.Total.{agg_at};
 ghost use Rattle.query_script.specs.Commands.{IsCellField, command_in};
-ghost use Rattle.query_script.specs.Questions.{Point};
+ghost use Rattle.query_script.specs.Queries.{Point};
+ghost use Rattle.query_script.specs.Questions.{Ask};
 ghost use Rattle.query_answers.specs.Queries.{IsTreeOfRows, cell_asked, pointed};
 ghost use Rattle.reply_text.specs.Replies.{none_text, point_text};
 ghost use Rattle.reply_text.specs.Words.{reply_bytes};
@@ -120,7 +121,7 @@ pub fn answer_coded<L: Ledger>(
     reply: &mut Vec<u8>,
     steps: &mut Steps<L>,
 ) -> bool
-    ensures answered { result ≡ true → (asked : List asks.Field) × (command_in warehouse.now.state.schema line.now ≡ Ok (Point asked))
+    ensures answered { result ≡ true → (asked : List asks.Field) × (command_in warehouse.now.state.schema line.now ≡ Ok (Ask (Point asked)))
         × (reply.new.items ≡ pointed warehouse.now.state number (cell_asked asked)) }
     ensures steps { steps.new ≤ steps.old + (2 * length warehouse.now.state.schema.dims + 3) }
 {

@@ -19,7 +19,8 @@ use Rattle.value_dict.proofs.Cells.{cell_from_entries, entry_at, no_cell_at}
 use Rattle.query_script.specs.Commands.{command_in, record_in}
 use Rattle.query_script.specs.Fields.{field_of, fields_from}
 use Rattle.query_script.specs.Progress.{asked_after}
-use Rattle.query_script.specs.Questions.{Point}
+use Rattle.query_script.specs.Queries.{Point}
+use Rattle.query_script.specs.Questions.{Ask}
 use Rattle.query_script.specs.Coded.{AreCoded, AskFor, IsCoded, IsPoint, pieces_left}
 use Rattle.query_script.specs.declared.coded.Coded.{Coded}
 use Rattle.query_script.specs.declared.coded.Coded.TheVariants as coded
@@ -151,7 +152,7 @@ record-asked : (layout : Layout) (b : ℕ) (bs : List ℕ) (asked : List Field) 
 record-asked layout b bs asked mark plain e = rw (mark, plain-fields b bs plain, e) refl
 
 point-asks : (layout : Layout) (b : ℕ) (bs : List ℕ) (asked : List Field) → IsUtf8 (b ∷ bs) → begins_with_mark (b ∷ bs) ≡ false → list_all is_plain_byte (b ∷ bs) ≡ true
-    → fields_from ask 1 (length layout.dims) (pieces (b ∷ bs)) ≡ Ok asked → command_in layout (codes "point " ++ b ∷ bs) ≡ Ok (Point asked)
+    → fields_from ask 1 (length layout.dims) (pieces (b ∷ bs)) ≡ Ok asked → command_in layout (codes "point " ++ b ∷ bs) ≡ Ok (Ask (Point asked))
 point-asks layout b bs asked u mark plain e =
     rw (is_utf8-from_IsUtf8 (codes "point " ++ b ∷ bs) (point-utf8 (b ∷ bs) u), record-asked layout b bs asked mark plain e) refl
 

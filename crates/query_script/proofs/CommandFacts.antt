@@ -16,7 +16,7 @@ use Rattle.query_script.specs.Commands.{IsCellField, IsMeasured, IsQuery, IsQues
 use Rattle.query_script.specs.Icebergs.{bound_at, bound_named, iceberg_in, iceberg_of, makes, value_at, with_aggregate, with_bound, with_measure, with_value}
 use Rattle.query_script.specs.Queries as queries
 use Rattle.query_script.specs.Queries.{Query}
-use Rattle.query_script.specs.Questions.{Apply, At, Load, Pin, Question, Stats, Try, Unpin, Widen, question_in, question_of}
+use Rattle.query_script.specs.Questions.{Apply, Ask, At, Load, Pin, Question, Try, Unpin, Widen, question_in}
 use Rattle.query_script.specs.Rollups as rollups
 use Rattle.query_script.specs.Rollups.{rollup_in}
 use Rattle.query_script.specs.Widens.{has_value, widen_in}
@@ -31,7 +31,7 @@ use Rattle.aggregates.specs.Numbers.{fraction_written}
 use Rattle.text_lines.specs.Cuts.{words_of}
 use Rattle.query_script.proofs.Asked.{box-fields, cell-fields}
 
-pub stats-line : (layout : Layout) (line : List ℕ) → IsUtf8 line → bytes_eq line stats_line ≡ true → command_in layout line ≡ Ok Stats
+pub stats-line : (layout : Layout) (line : List ℕ) → IsUtf8 line → bytes_eq line stats_line ≡ true → command_in layout line ≡ Ok (Ask queries.Stats)
 stats-line layout line u e = rw (is_utf8-from_IsUtf8 line u, e) refl
 
 pub text-line : (layout : Layout) (line : List ℕ) → IsUtf8 line → bytes_eq line stats_line ≡ false → command_in layout line ≡ command_named layout (word_of line) (rest_of line)
@@ -40,7 +40,7 @@ text-line layout line u e = rw (is_utf8-from_IsUtf8 line u, e) refl
 pub no-text-line : (layout : Layout) (line : List ℕ) → (IsUtf8 line → ⊥) → command_in layout line ≡ Err faults.Utf8
 no-text-line layout line h = by (is_utf8 line) refl
   where
-    by : (b : Bool) → is_utf8 line ≡ b → cond b (cond (bytes_eq line stats_line) (Ok Stats) (command_named layout (word_of line) (rest_of line))) (Err faults.Utf8) ≡ Err faults.Utf8
+    by : (b : Bool) → is_utf8 line ≡ b → cond b (cond (bytes_eq line stats_line) (Ok (Ask queries.Stats)) (command_named layout (word_of line) (rest_of line))) (Err faults.Utf8) ≡ Err faults.Utf8
     by true e = absurd (h (IsUtf8-from_is_utf8 line e))
     by false e = refl
 
@@ -193,17 +193,6 @@ query-line layout line q e = by (bytes_eq line stats_line) e
     by true m = let same : queries.Stats ≡ q = cc in rw (← same) tt
     by false m = query-is layout (word_of line) (rest_of line) q m
 
--- a query of the present rows
-present-is : (layout : Layout) (q : Query) → IsQuery layout q → IsQuestion layout (question_of q)
-present-is layout (queries.Point fields) h = h
-present-is layout (queries.Range fields) h = h
-present-is layout (queries.Bounds fields) h = h
-present-is layout (queries.Iceberg kind bound value) h = h
-present-is layout queries.Stats h = h
-present-is layout (queries.Parents fields) h = h
-present-is layout (queries.Children fields) h = h
-present-is layout (queries.Rollup kind bound value fields) h = h
-
 asked-is : (layout : Layout) (read : Result Query LineFault) (make : Query → Question) (q : Question) → ((query : Query) → read ≡ Ok query → IsQuestion layout (make query)) → asked_with make read ≡ Ok q → IsQuestion layout q
 asked-is layout (Err fault) make q made m = absurd (cc m)
 asked-is layout (Ok query) make q made m = let same : make query ≡ q = cc in rw (← same) (made query refl)
@@ -233,7 +222,7 @@ abbrev Named : Layout → Text → List ℕ → (load apply tried widen pin unpi
 Named layout word rest load apply tried widen pin unpin at =
     cond load (asked_with Load (name_in rest)) (cond apply (asked_with Apply (name_in rest)) (cond tried (asked_with Try (name_in rest))
     (cond widen (widen_in layout rest) (cond pin (asked_with Pin (pin_name_in rest)) (cond unpin (asked_with Unpin (pin_name_in rest)) (cond at (at_in layout rest)
-    (asked_with question_of (query_named layout word rest))))))))
+    (asked_with Ask (query_named layout word rest))))))))
 
 named-is : (layout : Layout) (word : Text) (rest : List ℕ) (q : Question) → command_named layout word rest ≡ Ok q → IsQuestion layout q
 named-is layout word rest q e =
@@ -248,14 +237,14 @@ named-is layout word rest q e =
     by false false false false true unpin at m = pin-is layout rest Pin q (λ n. n) m
     by false false false false false true at m = pin-is layout rest Unpin q (λ n. n) m
     by false false false false false false true m = at-is layout rest q m
-    by false false false false false false false m = asked-is layout (query_named layout word rest) question_of q (λ query e. present-is layout query (query-is layout word rest query e)) m
+    by false false false false false false false m = asked-is layout (query_named layout word rest) Ask q (λ query e. query-is layout word rest query e) m
 
 pub line-is : (layout : Layout) (line : List ℕ) (r : Result Command LineRefused) → Gives line_fault_in question_in r (command_in layout line) → IfOk r (λ command. IsQuestion layout (question_in command))
 line-is layout line (Err refused) h = tt
 line-is layout line (Ok command) h = by (is_utf8 line) (bytes_eq line stats_line) h
   where
-    by : (b stats : Bool) → cond b (cond stats (Ok Stats) (command_named layout (word_of line) (rest_of line))) (Err faults.Utf8) ≡ Ok (question_in command) → IsQuestion layout (question_in command)
-    by true true m = let same : Stats ≡ question_in command = cc in rw (← same) tt
+    by : (b stats : Bool) → cond b (cond stats (Ok (Ask queries.Stats)) (command_named layout (word_of line) (rest_of line))) (Err faults.Utf8) ≡ Ok (question_in command) → IsQuestion layout (question_in command)
+    by true true m = let same : Ask queries.Stats ≡ question_in command = cc in rw (← same) tt
     by true false m = named-is layout (word_of line) (rest_of line) (question_in command) m
     by false stats m = absurd (cc m)
 
@@ -276,7 +265,7 @@ query-wants layout word rest q e =
     by false false false false false false true m = refl
     by false false false false false false false m = absurd (cc m)
 
-present-wants : (layout : Layout) (word : Text) (rest : List ℕ) (read : Result Query LineFault) (q : Question) → query_named layout word rest ≡ read → asked_with question_of read ≡ Ok q → names_query word ≡ true
+present-wants : (layout : Layout) (word : Text) (rest : List ℕ) (read : Result Query LineFault) (q : Question) → query_named layout word rest ≡ read → asked_with Ask read ≡ Ok q → names_query word ≡ true
 present-wants layout word rest (Err fault) q e m = absurd (cc m)
 present-wants layout word rest (Ok query) q e m = query-wants layout word rest query e
 
@@ -298,10 +287,10 @@ named-wants layout word rest q e =
 line-wants : (layout : Layout) (line : List ℕ) (q : Question) → command_in layout line ≡ Ok q → wants_memory q ≡ true → may_want_memory line ≡ true
 line-wants layout line q h wants = by (is_utf8 line) (bytes_eq line stats_line) h
   where
-    by : (b stats : Bool) → cond b (cond stats (Ok Stats) (command_named layout (word_of line) (rest_of line))) (Err faults.Utf8) ≡ Ok q → (b && names_more (word_of line)) ≡ true
-    by true true m = let same : Stats ≡ q = cc in absurd (never (rw (← same) at wants))
+    by : (b stats : Bool) → cond b (cond stats (Ok (Ask queries.Stats)) (command_named layout (word_of line) (rest_of line))) (Err faults.Utf8) ≡ Ok q → (b && names_more (word_of line)) ≡ true
+    by true true m = let same : Ask queries.Stats ≡ q = cc in absurd (never (rw (← same) at wants))
       where
-        never : wants_memory Stats ≡ true → ⊥
+        never : wants_memory (Ask queries.Stats) ≡ true → ⊥
         never e = cc
     by true false m = named-wants layout (word_of line) (rest_of line) q m
     by false stats m = absurd (cc m)

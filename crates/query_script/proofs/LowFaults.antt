@@ -1,6 +1,7 @@
 -- The fault of a record is at a low place.
-use Rattle.std.proofs.Common.{◌≡◌, ℕ, zero, suc, ◌+◌, ◌≤◌, Bool, true, false, cond, List, [], ◌∷◌, Some, None, Ok, Err, refl, arith}
+use Rattle.std.proofs.Common.{◌≡◌, ℕ, zero, suc, ◌+◌, ◌<◌, ◌≤◌, Bool, true, false, cond, length, List, [], ◌∷◌, Some, None, Ok, Err, refl, arith}
 use Rattle.std.specs.Prelude.{IfSome, Option, Result}
+use Rattle.cube_defs.specs.Answers.{AggKind, Bound}
 use Rattle.cube_defs.specs.Text.{Text}
 use Rattle.cell_core.specs.declared.fields.Field as asked
 use Rattle.text_lines.specs.Lines.{begins_with_mark}
@@ -8,8 +9,9 @@ use Rattle.query_script.specs.Faults as faults
 use Rattle.query_script.specs.Faults.{LineFault}
 use Rattle.query_script.specs.Fields.{cons_asked, field_of, fields_from}
 use Rattle.query_script.specs.Records.{fields_in, record_in}
-use Rattle.query_script.specs.Rollups.{IsLow}
+use Rattle.query_script.specs.Rollups.{IsLow, value_at, with_record}
 use Rattle.query_script.specs.declared.record.Shape.{Shape}
+use Rattle.query_script.specs.declared.record.Shape.TheVariants as shapes
 
 fields-low : (ask : Text → Option asked.Field) (k dims : ℕ) (texts : List Text) (fault : LineFault) → k + dims ≤ 100 → fields_from ask k dims texts ≡ Err fault → IsLow fault
 fields-low ask k zero [] fault l e = absurd (cc e)
@@ -32,3 +34,8 @@ record-low shape dims rest fault l e = by (begins_with_mark rest) e
 pub low-cause : (cause : Option LineFault) (read : Result (List asked.Field) LineFault) → ((fault : LineFault) → read ≡ Err fault → IsLow fault) → IfSome cause (λ fault. read ≡ Err fault) → IfSome cause IsLow
 low-cause None read low e = tt
 low-cause (Some fault) read low e = low fault e
+
+-- the value of a roll-up, where there is a word for it
+pub value-there : (dims : ℕ) (kind : AggKind) (bound : Bound) (k : ℕ) (word : Text) (rest : List ℕ) → 0 < length word → value_at dims kind bound k word rest ≡ with_record kind bound k word (record_in shapes.Cell dims rest)
+value-there dims kind bound k [] rest some = absurd (omega arith)
+value-there dims kind bound k (b ∷ bs) rest some = refl

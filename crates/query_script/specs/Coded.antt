@@ -8,7 +8,8 @@ use Rattle.text_lines.specs.Plain.{pieces}
 use Rattle.value_dict.specs.TextLists.{cell_in}
 use Rattle.query_script.specs.Commands.{IsCellField, command_in}
 use Rattle.query_script.specs.Fields.{field_of, fields_from}
-use Rattle.query_script.specs.Questions.{Point}
+use Rattle.query_script.specs.Queries.{Point}
+use Rattle.query_script.specs.Questions.{Ask}
 use Rattle.query_script.specs.declared.record.Shape.TheVariants as shapes
 use Rattle.query_script.specs.declared.coded.Coded.{Coded}
 use Rattle.query_script.specs.declared.coded.Coded.TheVariants as coded
@@ -33,7 +34,7 @@ AreCoded coded.Known lists texts cell = AskFor lists texts (Some cell)
 -- a point that asks for the cell of these codes, or for none that is known
 pub record IsPoint (layout : Layout) (lists : List (List Text)) (line : List ℕ) (found : Option (Cell ℕ)) : Type 0 where
   pub asked : List Field
-  pub command : command_in layout line ≡ Ok (Point asked)
+  pub command : command_in layout line ≡ Ok (Ask (Point asked))
   pub count : length asked ≡ length layout.dims
   pub each : All IsCellField asked
   pub codes : cell_in lists asked ≡ found

@@ -14,7 +14,7 @@ use Rattle.query_script.specs.Icebergs.{iceberg_in}
 use Rattle.query_script.specs.Lines.{rest_of, stats_line, word_of}
 use Rattle.query_script.specs.Queries as queries
 use Rattle.query_script.specs.Queries.{Query}
-use Rattle.query_script.specs.Questions.{Apply, At, Bounds, Children, Iceberg, Load, Parents, Pin, Point, Question, Range, Rollup, Stats, Try, Unpin, Widen, question_of}
+use Rattle.query_script.specs.Questions.{Apply, Ask, At, Load, Pin, Question, Try, Unpin, Widen}
 use Rattle.query_script.specs.Rollups.{rollup_in}
 use Rattle.query_script.specs.Widens.{widen_in}
 use Rattle.query_script.specs.declared.record.Shape.TheVariants as shapes
@@ -68,13 +68,18 @@ command_named layout word rest =
     else if bytes_eq word (codes "pin") then asked_with Pin (pin_name_in rest)
     else if bytes_eq word (codes "unpin") then asked_with Unpin (pin_name_in rest)
     else if bytes_eq word (codes "at") then at_in layout rest
-    else asked_with question_of (query_named layout word rest)
+    else asked_with Ask (query_named layout word rest)
 
 -- what a line asks of a cube of this schema; `stats` with anything behind it is no command
 abbrev pub command_in : Layout → List ℕ → Result Question LineFault
 command_in layout line =
-    if is_utf8 line then (if bytes_eq line stats_line then Ok Stats else command_named layout (word_of line) (rest_of line))
+    if is_utf8 line then (if bytes_eq line stats_line then Ok (Ask queries.Stats) else command_named layout (word_of line) (rest_of line))
     else Err faults.Utf8
+
+-- whether an answer to a query may want memory
+abbrev pub query_wants : Query → Bool
+query_wants queries.Stats = false
+query_wants query = true
 
 -- whether an answer may want memory
 abbrev pub wants_memory : Question → Bool
@@ -85,14 +90,7 @@ wants_memory (Widen name value) = true
 wants_memory (Pin name) = true
 wants_memory (Unpin name) = true
 wants_memory (At name query) = true
-wants_memory (Point fields) = true
-wants_memory (Range fields) = true
-wants_memory (Bounds fields) = true
-wants_memory (Iceberg kind bound value) = true
-wants_memory (Parents fields) = true
-wants_memory (Children fields) = true
-wants_memory (Rollup kind bound value fields) = true
-wants_memory Stats = false
+wants_memory (Ask query) = query_wants query
 
 -- what a cell may ask of a dimension
 abbrev pub IsCellField : asked.Field → Type 0
@@ -131,11 +129,4 @@ IsQuestion layout (Widen name value) = (is_new_name layout name ≡ true) × (le
 IsQuestion layout (Pin name) = is_pin_name name ≡ true
 IsQuestion layout (Unpin name) = is_pin_name name ≡ true
 IsQuestion layout (At name query) = (is_pin_name name ≡ true) × IsQuery layout query
-IsQuestion layout (Point fields) = IsQuery layout (queries.Point fields)
-IsQuestion layout (Range fields) = IsQuery layout (queries.Range fields)
-IsQuestion layout (Bounds fields) = IsQuery layout (queries.Bounds fields)
-IsQuestion layout (Iceberg kind bound value) = IsQuery layout (queries.Iceberg kind bound value)
-IsQuestion layout (Parents fields) = IsQuery layout (queries.Parents fields)
-IsQuestion layout (Children fields) = IsQuery layout (queries.Children fields)
-IsQuestion layout (Rollup kind bound value fields) = IsQuery layout (queries.Rollup kind bound value fields)
-IsQuestion layout Stats = IsQuery layout queries.Stats
+IsQuestion layout (Ask query) = IsQuery layout query

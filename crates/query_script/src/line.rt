@@ -4,19 +4,16 @@ ghost use Rattle.std.specs.Str.{bytes_eq};
 ghost use Rattle.query_script.specs.Commands.{IsQuestion, asked_with, command_in, command_named, name_in, query_named, wants_memory};
 ghost use Rattle.cell_core.specs.Gives.{Gives};
 ghost use Rattle.query_script.specs.Faults.{line_fault_in};
-ghost use Rattle.query_script.specs.Questions.{question_in, question_of};
+ghost use Rattle.query_script.specs.Questions.{Ask, question_in};
 ghost use Rattle.query_script.specs.Lines.{may_want_memory, names_more, names_query, rest_of, stats_line, word_of};
 
 use crate::at::{read_at, read_pin, read_unpin};
 use crate::query::{Query, read_query};
 use crate::widen::read_widen;
-use aggregates::{AggKind, Fraction};
-use cell_core::{Fields, Text};
+use cell_core::Text;
 use cube_defs::MAX_FILE;
-use iceberg_query::Bound;
 use qc_schema::Schema;
 use std::alloc::{AllocError, Global};
-use thiserror::Error;
 
 /// A line of a script, read.
 #[derive(Drop)]
@@ -35,43 +32,22 @@ pub enum Command {
     Unpin(Text),
     /// Answer a query of the rows of the pin of this name.
     At(Text, Query),
-    /// Report the aggregate of a cell, by one field for each dimension.
-    Point(Fields),
-    /// Report each cell of a box that covers a row, by one field for each dimension.
-    Range(Fields),
-    /// Report the bounds of the class of a cell.
-    Bounds(Fields),
-    /// Report the classes whose aggregate is at least or at most the value, which is in the unit of
-    /// the printed amounts.
-    Iceberg(AggKind, Bound, Fraction),
-    /// Report the parents of the class of a cell.
-    Parents(Fields),
-    /// Report the children of the class of a cell.
-    Children(Fields),
-    /// Report the most general classes whose aggregate is at least or at most the value, among
-    /// those that the class of a cell generalizes. The value is in the unit of the printed amounts.
-    Rollup(AggKind, Bound, Fraction, Fields),
-    /// Report the counts of the rows and of their tree.
-    Stats,
+    /// Answer a query of the present rows.
+    Ask(Query),
 }
 
 /// Why a line is no command.
-#[derive(Clone, Copy, Debug, PartialEq, Eq, Error)]
+#[derive(Clone, Copy, PartialEq)]
 pub enum LineRefused {
     /// The line isn't UTF-8.
-    #[error("the line is not UTF-8")]
     Utf8,
     /// The first word is no command.
-    #[error("the first word is no command")]
     Command,
     /// The field at this place, counted from 1, is missing, isn't allowed or is one too many.
-    #[error("field {0} is missing, not allowed or one too many")]
     Field(u32),
     /// A value is no number.
-    #[error("a value is no number")]
     Number,
     /// Memory ran out.
-    #[error("memory ran out")]
     Memory,
 }
 
@@ -148,11 +124,11 @@ fn read_asked(
     rest: &str,
 ) -> Result<Command, LineRefused>
     requires { length rest.now ≤ MAX_FILE }
-    ensures gives { Gives line_fault_in question_in result (asked_with question_of (query_named schema.now word.now rest.now)) }
+    ensures gives { Gives line_fault_in question_in result (asked_with Ask (query_named schema.now word.now rest.now)) }
     ensures memory { IfErr result (λ e. e ≡ LineRefused.Memory → names_query word.now ≡ true) }
 {
     match read_query(alloc, schema, word, rest) {
-        Ok(query) => Ok(query.into_command()),
+        Ok(query) => Ok(Command::Ask(query)),
         Err(cause) => Err(cause),
     }
 }
@@ -216,7 +192,7 @@ pub fn read_line(alloc: Global, schema: &Schema, line: &[u8]) -> Result<Command,
     match str::from_utf8(line) {
         Ok(text) => {
             if is_stats(text) {
-                return Ok(Command::Stats);
+                return Ok(Command::Ask(Query::Stats));
             }
             let (word, rest) = split_command(text);
             read_command(alloc, schema, word, rest)

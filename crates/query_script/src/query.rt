@@ -5,10 +5,9 @@ ghost use Rattle.query_script.specs.Commands.{asked_with, query_in_line, query_n
 ghost use Rattle.query_script.specs.Faults.{line_fault_in};
 ghost use Rattle.query_script.specs.Lines.{names_query};
 ghost use Rattle.query_script.specs.Queries.{query_in};
-ghost use Rattle.query_script.specs.Questions.{question_in, question_of};
 
 use crate::iceberg::read_iceberg;
-use crate::line::{Command, LineRefused, is_stats, split_command};
+use crate::line::{LineRefused, is_stats, split_command};
 use crate::record::{Shape, read_fields};
 use crate::rollup::read_rollup;
 use aggregates::{AggKind, Fraction};
@@ -18,8 +17,7 @@ use iceberg_query::Bound;
 use qc_schema::Schema;
 use std::alloc::Global;
 
-/// A question about rows: the present ones, or those of a pin. Each variant asks what the command
-/// of its name asks.
+/// A question about rows: the present ones, or those of a pin.
 #[derive(Drop)]
 pub enum Query {
     /// The aggregate of a cell, by its fields.
@@ -40,26 +38,6 @@ pub enum Query {
     /// The most general classes whose aggregate is at least or at most the value, among those that
     /// the class of a cell generalizes.
     Rollup(AggKind, Bound, Fraction, Fields),
-}
-
-impl Query {
-    /// The command that asks this of the present rows.
-    pub(crate) fn into_command(self) -> Command
-        ensures { question_in result ≡ question_of (query_in self) }
-    {
-        match self {
-            Query::Point(fields) => Command::Point(fields),
-            Query::Range(fields) => Command::Range(fields),
-            Query::Bounds(fields) => Command::Bounds(fields),
-            Query::Iceberg(kind, bound, value) => Command::Iceberg(kind, bound, value),
-            Query::Stats => Command::Stats,
-            Query::Parents(fields) => Command::Parents(fields),
-            Query::Children(fields) => Command::Children(fields),
-            Query::Rollup(kind, bound, value, fields) => Command::Rollup(
-                kind, bound, value, fields,
-            ),
-        }
-    }
 }
 
 // The queries that have fields alone.

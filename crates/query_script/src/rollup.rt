@@ -8,10 +8,8 @@ ghost use Rattle.qc_schema.specs.Grammar.{measure_from};
 ghost use Rattle.query_script.specs.Faults.{line_fault_in};
 ghost use Rattle.query_script.specs.Lines.{rest_of, word_of};
 ghost use Rattle.query_script.specs.Queries.{query_in};
-ghost use Rattle.query_script.specs.Records.{record_in};
 ghost use Rattle.query_script.specs.Makes.{make_of};
-ghost use Rattle.query_script.specs.Rollups.{IsLow, behind_words, bound_at, rollup_in, value_at, with_measure, with_record};
-ghost use Rattle.query_script.specs.declared.record.Shape.TheVariants as shapes;
+ghost use Rattle.query_script.specs.Rollups.{IsLow, behind_words, bound_at, rollup_in, value_at, with_measure};
 
 use crate::iceberg::{OfMeasure, named_bound};
 use crate::line::{LineRefused, split_command};
@@ -38,32 +36,6 @@ fn moved(cause: LineRefused, words: u32) -> LineRefused
     }
 }
 
-// The record of the cell after so many words, the last of which is the value.
-fn read_record(
-    alloc: Global,
-    schema: &Schema,
-    kind: AggKind,
-    bound: Bound,
-    words: u32,
-    word: &str,
-    rest: &str,
-) -> Result<Query, LineRefused>
-    requires few { words < 10 }
-    requires size { length rest.now ≤ MAX_FILE }
-    ensures { Gives line_fault_in query_in result
-        (with_record (kind_in kind) (bound_in bound) words word.now (record_in shapes.Cell (length schema.now.dims) rest.now)) }
-{
-    let _dims = schema.dims();
-    let fields = match read_fields(alloc, Shape::Cell, schema, rest) {
-        Ok(fields) => fields,
-        Err(cause) => return Err(moved(cause, words)),
-    };
-    match read_fraction(word.as_bytes()) {
-        Some(value) => Ok(Query::Rollup(kind, bound, value, fields)),
-        None => Err(LineRefused::Number),
-    }
-}
-
 // The value, at a place, and the record after it.
 fn read_value(
     alloc: Global,
@@ -78,11 +50,19 @@ fn read_value(
     ensures { Gives line_fault_in query_in result
         (value_at (length schema.now.dims) (kind_in kind) (bound_in bound) place (word_of words.now) (rest_of words.now)) }
 {
+    let _dims = schema.dims();
     let (word, rest) = split_command(words);
     if word.is_empty() {
         return Err(LineRefused::Field(place));
     }
-    read_record(alloc, schema, kind, bound, place, word, rest)
+    let fields = match read_fields(alloc, Shape::Cell, schema, rest) {
+        Ok(fields) => fields,
+        Err(cause) => return Err(moved(cause, place)),
+    };
+    match read_fraction(word.as_bytes()) {
+        Some(value) => Ok(Query::Rollup(kind, bound, value, fields)),
+        None => Err(LineRefused::Number),
+    }
 }
 
 // The bound, at a place, and what follows it.

@@ -20,15 +20,24 @@ fn needs_quotes(value: &[u8]) -> bool
         .any(|b| *b == b',' || *b == b'"' || *b == b'\r' || *b == b'\n')
 }
 
+// A byte, twice if it is a quote.
+fn push_byte(out: &mut Vec<u8>, b: u8) -> Result<(), Memory>
+    ensures { OnOk result (out.new.items ≡ out.old.items ++ doubled b) }
+{
+    if b == b'"' {
+        out.extend_from_slice(b"\"\"")?;
+        return Ok(());
+    }
+    out.push(b)?;
+    Ok(())
+}
+
 // The bytes of a value, with each quote doubled.
 fn push_doubled(out: &mut Vec<u8>, value: &[u8]) -> Result<(), Memory>
     ensures { OnOk result (out.new.items ≡ out.old.items ++ flat_map doubled value.now) }
 {
     for b in value {
-        if *b == b'"' {
-            out.push(b'"')?;
-        }
-        out.push(*b)?;
+        push_byte(out, *b)?;
     }
     Ok(())
 }

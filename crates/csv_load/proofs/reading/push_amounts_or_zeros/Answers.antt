@@ -1,4 +1,5 @@
 use Rattle.std.proofs.Common.{◌∙◌, ◌+◌, drop, length, sym}
+use Rattle.std.proofs.lemmas.Bool.{not-false}
 use Rattle.csv.specs.Records.{fields_of}
 use Rattle.csv_load.specs.Columns.{fields_at}
 use Rattle.csv_load.proofs.Amounts.{amounts-are}
@@ -11,4 +12,4 @@ returns-clause-ok c =
     let fields = fields_at c.args.columns.now.places.items (fields_of c.args.row.now) in
     let e = c.in_ok-push_amounts.ensures.ok in
     let are = amounts-are layout.measures (drop (1 + length layout.dims) fields) e.0 e.1 in
-    (e.0, are.0, e.2, makes-insertion layout c.args.number fields c.args.deletes e.0 c.if-deletes.false e.1 (sym c.requires.short ∙ c.if-not-are_short.false))
+    (e.0, are.0, e.2, makes-insertion layout c.args.number fields c.args.operation.deletes e.0 c.if-operation.false e.1 (sym c.requires.short ∙ not-false c.args.operation.are_short c.if-not-operation.false))

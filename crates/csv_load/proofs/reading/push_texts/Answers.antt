@@ -41,3 +41,11 @@ loop-dim-preserved c =
         | else-text-gt-LONGEST_TEXT w ↦ rw (w.are_short-is, place) (short-good fields (1 + c.loop-dim.dim) (1 + length c.args.schema.now.dims) c.loop-dim.are_short _ low high (omega (arith, ap length one, w.if-text-gt-LONGEST_TEXT.false)) c.loop-dim.invariant.short)
       ];
     }
+
+pub needed_field-field-requires-clause-there : goal.needed_field-field-requires-clause-there
+needed_field-field-requires-clause-there c = omega (arith, c.requires.columns.all, needed-some c.args.columns.now.has_op c.args.schema.now, c.dims-dim-end.ensures.count)
+
+pub needed_field-field-requires-clause-within : goal.needed_field-field-requires-clause-within
+needed_field-field-requires-clause-within c =
+    let there : 1 + c.loop-dim.dim < length c.args.columns.now.places.items = omega (arith, c.requires.columns.all, needed-some c.args.columns.now.has_op c.args.schema.now, c.dims-dim-end.ensures.count) in
+    omega (arith, c.requires.columns.within (1 + c.loop-dim.dim) 0 there, c.requires.width)

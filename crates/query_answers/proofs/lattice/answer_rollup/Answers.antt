@@ -1,4 +1,4 @@
-use Rattle.std.proofs.Common.{ℕ, length, ap, ◌∙◌}
+use Rattle.std.proofs.Common.{length, ap, ◌∙◌}
 use Rattle.std.proofs.lemmas.Result.{IfOk-weaker}
 use Rattle.aggregates.specs.Views.{fraction_in, kind_in}
 use Rattle.cube_defs.specs.Answers as answers
@@ -7,13 +7,15 @@ use Rattle.iceberg_query.specs.Asked.{bound_in}
 use Rattle.qc_schema.specs.Schema.{Layout}
 use Rattle.quotient_lattice.specs.Neighbours as lattice
 use Rattle.quotient_lattice.specs.Told.{told_nodes}
+use Rattle.qc_arena.specs.Seen.{record_at}
+use Rattle.reply_text.specs.Words.{reply_bytes}
+use Rattle.value_dict.specs.Told.{told_cell}
 use Rattle.warehouse.specs.State.{source_of, with_rows}
-use Rattle.query_answers.specs.Lattice.{related, upper_of, uppers_text}
 use Rattle.query_answers.specs.Queries.{cell_asked, scale_of}
 use Rattle.query_answers.proofs.Measured.{measure-there}
 use Rattle.query_answers.proofs.Recoded.{rows-known}
 use Rattle.query_answers.proofs.SomeRows.{some-tree, tree-of}
-use Rattle.query_answers.proofs.Uppers.{moved}
+use Rattle.query_answers.proofs.Uppers.{moved, rolled-told}
 use Rattle.query_answers.proofs.lattice.answer_rollup.Goals as goal
 
 pub rollup-requires-clause-tree : goal.rollup-requires-clause-tree
@@ -29,16 +31,14 @@ returns-in-Ok g c = λ rows has.
     let s = with_rows c.args.warehouse.now.state rows in
     let tree = g.T.Nodes.tree c.args.tree.now in
     let lists = c.dict.result.now.lists in
-    let measures = length s.schema.measures in
     let asked : answers.Ask = record { kind = kind_in c.args.kind; scale = c.scale_of_kind.result; bound = bound_in c.args.bound; value = fraction_in c.args.value } in
     let scale = c.scale_of_kind.ensures.value ∙ ap (λ (l : Layout). scale_of l.measures (kind_in c.args.kind)) c.schema.ensures.value in
-    let same = ap (λ (n : ℕ). let a : answers.Ask = record { kind = kind_in c.args.kind; scale = n; bound = bound_in c.args.bound; value = fraction_in c.args.value } in a) scale in
     let found = c.in-Ok.ensures.nodes (source_of s) (tree-of _ _ _ c.requires.rows rows has) (rows-known s has.state lists c.dict.ensures.texts) in
-    let here = moved (λ rows u. lattice.rollup text_cmp measures rows asked u) s has.state lists c.dict.ensures.texts tree c.in-Some.node c.in-Ok.nodes.items found in
+    let here = ap (told_nodes s.texts tree) c.deref.ensures.value
+    ∙ moved (λ rows u. lattice.rollup text_cmp (length s.schema.measures) rows asked u) s has.state lists c.dict.ensures.texts tree c.in-Some.node c.in-Ok.nodes.items found in
     IfOk-weaker c.told_reply.result _ _
-    (λ reply e. e ∙ ap (λ nodes. uppers_text s c.args.number (told_nodes s.texts tree nodes)) c.deref.ensures.value ∙ ap (uppers_text s c.args.number) here
-    ∙ ap (related s c.args.number (lattice.rollup text_cmp measures s.rows asked)) (c.in-Some.ensures.upper rows has)
-    ∙ ap (λ a. related s c.args.number (lattice.rollup text_cmp measures s.rows a) (upper_of s (cell_asked c.args.asked.now))) same)
+    (λ reply told. rolled-told s c.args.number (kind_in c.args.kind) (bound_in c.args.bound) (fraction_in c.args.value) c.scale_of_kind.result (cell_asked c.args.asked.now)
+    (told_cell s.texts (record_at tree c.in-Some.node.0).cell) (told_nodes s.texts tree c.deref.result.now) (reply_bytes reply) told here (c.in-Some.ensures.upper rows has) scale)
     (c.told_reply.ensures rows has)
 
 pub rollup-requires-clause-scale : goal.rollup-requires-clause-scale

@@ -1,10 +1,14 @@
 use Rattle.std.proofs.Common.{◌≡◌, Option, Some, None, true, rules}
-use Rattle.std.specs.Prelude.{Err, IfOk, IsSome, Ok, OnOk, Result, is_some}
+use Rattle.std.specs.Prelude.{Err, IfOk, IsSome, Ok, OnErr, OnOk, Result, is_some}
 use Rattle.query_answers.proofs.query.answer_query.Goals as goal
 
 on-ok : {T E : Type 0} (r : Result T E) (P : Type 0) → P → OnOk r P
 on-ok (Ok x) P p = p
 on-ok (Err e) P p = tt
+
+on-err : {T E P : Type 0} (r : Result T E) → P → OnErr r P
+on-err (Ok x) p = tt
+on-err (Err e) p = p
 
 -- what holds where there is a ranking
 ranked : {T E X : Type 0} (r : Result T E) (o : Option X) (P : Type 0) → (IsSome o → IfOk r (λ _. P)) → OnOk r (is_some o ≡ true → P)
@@ -12,8 +16,90 @@ ranked (Ok x) None P h = λ e. cc
 ranked (Ok x) (Some y) P h = λ e. h (search rules)
 ranked (Err e) o P h = tt
 
-pub returns-in-Iceberg-clause-steps : goal.returns-in-Iceberg-clause-steps
-returns-in-Iceberg-clause-steps g c = λ rows has. rw c.in-Iceberg.is (ranked c.answer_iceberg.result _ _ (λ there. c.answer_iceberg.ensures.steps there rows has))
+pub returns-in-Point : goal.returns-in-Point
+returns-in-Point g c = rw c.in-Point.is (record {
+  reply = λ rows has counted. c.answer_point.ensures.reply rows has;
+  steps = λ rows has. on-ok c.answer_point.result _ c.answer_point.ensures.steps;
+  memory = on-err c.answer_point.result (λ e. absurd (cc e));
+})
 
-pub returns-in-Range-clause-steps : goal.returns-in-Range-clause-steps
-returns-in-Range-clause-steps g c = λ rows has. rw c.in-Range.is (on-ok c.answer_range.result _ (c.answer_range.ensures.steps rows has))
+pub returns-in-Range : goal.returns-in-Range
+returns-in-Range g c = rw c.in-Range.is (record {
+  reply = λ rows has counted. c.answer_range.ensures.reply rows has;
+  steps = λ rows has. on-ok c.answer_range.result _ (c.answer_range.ensures.steps rows has);
+  memory = on-err c.answer_range.result (λ e. absurd (cc e));
+})
+
+pub returns-in-Bounds : goal.returns-in-Bounds
+returns-in-Bounds g c = rw c.in-Bounds.is (record {
+  reply = λ rows has counted. c.answer_bounds.ensures.reply rows has;
+  steps = λ rows has. on-ok c.answer_bounds.result _ c.answer_bounds.ensures.steps;
+  memory = on-err c.answer_bounds.result (λ e. absurd (cc e));
+})
+
+pub returns-in-Iceberg : goal.returns-in-Iceberg
+returns-in-Iceberg g c = rw c.in-Iceberg.is (record {
+  reply = λ rows has counted. c.answer_iceberg.ensures.reply rows has;
+  steps = λ rows has. ranked c.answer_iceberg.result _ _ (λ there. c.answer_iceberg.ensures.steps there rows has);
+  memory = on-err c.answer_iceberg.result (λ e. absurd (cc e));
+})
+
+pub returns-in-Parents : goal.returns-in-Parents
+returns-in-Parents g c = rw c.in-Parents.is (record {
+  reply = λ rows has counted. c.answer_parents.ensures rows has;
+  steps = λ rows has. on-ok c.answer_parents.result _ tt;
+  memory = on-err c.answer_parents.result (λ e. absurd (cc e));
+})
+
+pub returns-in-Children : goal.returns-in-Children
+returns-in-Children g c = rw c.in-Children.is (record {
+  reply = λ rows has counted. c.answer_children.ensures rows has;
+  steps = λ rows has. on-ok c.answer_children.result _ tt;
+  memory = on-err c.answer_children.result (λ e. absurd (cc e));
+})
+
+pub returns-in-Rollup : goal.returns-in-Rollup
+returns-in-Rollup g c = rw c.in-Rollup.is (record {
+  reply = λ rows has counted. c.answer_rollup.ensures rows has;
+  steps = λ rows has. on-ok c.answer_rollup.result _ tt;
+  memory = on-err c.answer_rollup.result (λ e. absurd (cc e));
+})
+
+pub answer_point-requires-clause-dims : goal.answer_point-requires-clause-dims
+answer_point-requires-clause-dims g c = let asked = rw c.in-Point.is at c.requires.query in asked.0
+
+pub answer_point-requires-clause-point : goal.answer_point-requires-clause-point
+answer_point-requires-clause-point g c = let asked = rw c.in-Point.is at c.requires.query in asked.1
+
+pub answer_bounds-requires-clause-dims : goal.answer_bounds-requires-clause-dims
+answer_bounds-requires-clause-dims g c = let asked = rw c.in-Bounds.is at c.requires.query in asked.0
+
+pub answer_bounds-requires-clause-point : goal.answer_bounds-requires-clause-point
+answer_bounds-requires-clause-point g c = let asked = rw c.in-Bounds.is at c.requires.query in asked.1
+
+pub answer_parents-requires-clause-dims : goal.answer_parents-requires-clause-dims
+answer_parents-requires-clause-dims g c = let asked = rw c.in-Parents.is at c.requires.query in asked.0
+
+pub answer_parents-requires-clause-point : goal.answer_parents-requires-clause-point
+answer_parents-requires-clause-point g c = let asked = rw c.in-Parents.is at c.requires.query in asked.1
+
+pub answer_children-requires-clause-dims : goal.answer_children-requires-clause-dims
+answer_children-requires-clause-dims g c = let asked = rw c.in-Children.is at c.requires.query in asked.0
+
+pub answer_children-requires-clause-point : goal.answer_children-requires-clause-point
+answer_children-requires-clause-point g c = let asked = rw c.in-Children.is at c.requires.query in asked.1
+
+pub answer_range-requires-clause-dims : goal.answer_range-requires-clause-dims
+answer_range-requires-clause-dims g c = rw c.in-Range.is at c.requires.query
+
+pub answer_iceberg-requires-clause-measured : goal.answer_iceberg-requires-clause-measured
+answer_iceberg-requires-clause-measured g c = rw c.in-Iceberg.is at c.requires.query
+
+pub answer_rollup-requires-clause-measured : goal.answer_rollup-requires-clause-measured
+answer_rollup-requires-clause-measured g c = let asked = rw c.in-Rollup.is at c.requires.query in asked.0
+
+pub answer_rollup-requires-clause-dims : goal.answer_rollup-requires-clause-dims
+answer_rollup-requires-clause-dims g c = let asked = rw c.in-Rollup.is at c.requires.query in asked.1
+
+pub answer_rollup-requires-clause-point : goal.answer_rollup-requires-clause-point
+answer_rollup-requires-clause-point g c = let asked = rw c.in-Rollup.is at c.requires.query in asked.2

@@ -1,7 +1,10 @@
-use Rattle.std.proofs.Common.{◌∙◌, sym, ap, ◌++◌, ℕ, List, append_assoc, arith, take}
+use Rattle.std.proofs.Common.{◌∙◌, ◌<◌, ◌≤◌, sym, ap, ap₂, ◌++◌, ℕ, List, append_assoc, arith, length, take}
+use Rattle.std.proofs.lemmas.List.{take_all}
+use Rattle.std.proofs.lemmas.List.Elements.{All-from_recursion}
 use Rattle.aggregates.specs.Views.{agg_in}
 use Rattle.cube_defs.specs.Answers.{part}
-use Rattle.qc_schema.specs.Schema.{no_measure}
+use Rattle.cube_defs.specs.Rows.{Part}
+use Rattle.qc_schema.specs.Schema.{Measure, no_measure}
 use Rattle.std.specs.Prelude.{slice_index_or}
 use Rattle.reply_text.specs.Replies.{fields_text, part_texts, parts_texts}
 use Rattle.reply_text.proofs.Records.{fields-append, parts-more}
@@ -21,3 +24,19 @@ loop-measure-preserved c =
     ∙ ap (λ (z : List ℕ). z ++ fields_text next) c.loop-measure.invariant
     ∙ append_assoc out (fields_text first) (fields_text next)
     ∙ ap (λ (z : List ℕ). out ++ z) (sym (fields-append first next) ∙ ap fields_text (sym (parts-more agg.count measures parts k (omega arith) c.push_part.ensures.there)))
+
+pub push_part-requires-clause-scale : goal.push_part-requires-clause-scale
+push_part-requires-clause-scale c =
+    let measures = c.args.schema.now.measures in
+    let lt : c.loop-measure.measure < length measures = omega (arith, c.requires, c.measures_of-measure-end.ensures.parts) in
+    rw c.scale.ensures (All-from_recursion (λ (m : Measure). m.scale ≤ 6) measures c.dims-dims.ensures.layout.scales c.loop-measure.measure no_measure lt)
+
+pub returns : goal.returns
+returns c =
+    let agg = c.args.agg.now in
+    let measures = c.args.schema.now.measures in
+    let parts = (agg_in agg).parts in
+    let k = c.loop-measure.measure in
+    let end : length measures ≤ k = omega (arith, c.requires, c.measures_of-measure-end.ensures.parts) in
+    let end2 : length parts ≤ k = omega (arith, c.measures_of-measure-end.ensures.parts) in
+    c.loop-measure.invariant ∙ ap₂ (λ (ms : List Measure) (ps : List Part). c.args.out.now.items ++ fields_text (parts_texts agg.count ms ps)) (take_all k measures end) (take_all k parts end2)
