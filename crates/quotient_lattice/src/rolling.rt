@@ -53,7 +53,6 @@ fn insert_each(seen: &mut IndexSet<u32>, found: &Vec<Placed>) -> Result<(), Memo
 
 // Appends a node with its cell.
 fn push_placed<T: Nodes, L: Ledger>(
-    alloc: Global,
     tree: &T,
     node: NodeNo,
     met: &mut Vec<Placed>,
@@ -64,7 +63,7 @@ fn push_placed<T: Nodes, L: Ledger>(
     ensures numbers { OnOk result (mapped number_of met.new.items ≡ mapped number_of met.old.items ++ node.0 ∷ []) }
     ensures cells { AreAt (T.tree tree.now) met.old.items → OnOk result (AreAt (T.tree tree.now) met.new.items) }
 {
-    let mut cell = Cell::any(alloc, tree.dims());
+    let mut cell = Cell::any(*met.allocator(), tree.dims());
     upper_into(tree, node, &mut cell, steps);
     met.push(Placed { node, cell })?;
     Ok(())
@@ -72,7 +71,6 @@ fn push_placed<T: Nodes, L: Ledger>(
 
 // Takes a class that passes; of another it looks at the children.
 fn visit<T: Nodes, L: Ledger>(
-    alloc: Global,
     tree: &T,
     ask: &Ask,
     node: NodeNo,
@@ -90,9 +88,9 @@ fn visit<T: Nodes, L: Ledger>(
     ensures cells { AreAt (T.tree tree.now) met.old.items → OnOk result (AreAt (T.tree tree.now) met.new.items) }
 {
     if wants(tree, ask, node, steps) {
-        return push_placed(alloc, tree, node, met, steps);
+        return push_placed(tree, node, met, steps);
     }
-    match found_children(alloc, tree, node, steps) {
+    match found_children(*met.allocator(), tree, node, steps) {
         Ok(found) => insert_each(seen, &found),
         Err(error) => Err(error),
     }
@@ -122,7 +120,7 @@ fn met_from<T: Nodes, L: Ledger>(
     let mut i = 0;
     'seen: while i < seen.len() {
         let number = *seen.get_index(i).unwrap();
-        match visit(alloc, tree, ask, NodeNo(number), &mut seen, &mut met, steps) {
+        match visit(tree, ask, NodeNo(number), &mut seen, &mut met, steps) {
             Ok(()) => {}
             Err(error) => return Err(error),
         }

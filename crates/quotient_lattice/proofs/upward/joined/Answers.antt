@@ -10,7 +10,6 @@ use Rattle.quotient_lattice.proofs.upward.joined.Goals as goal
 
 pub numbers-preserved : goal.numbers-preserved
 numbers-preserved g c = record {
-  dims = c.joined_at-node.ensures.dims;
   nodes = λ source h.
       nodes_more (λ k. cell_at (g.T.Nodes.tree c.args.tree.now) k.0) c.args.u.now (joins source c.args.u.now) c.numbers.m c.numbers.nodes.items c.push_some.new.nodes.items c.joined_at-node.result
       c.in_ok-push_some.ensures (c.numbers.invariant.nodes source h) (c.joined_at-node.ensures.value source h);
