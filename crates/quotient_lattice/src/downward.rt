@@ -24,7 +24,7 @@ use crate::placed::{Placed, sort, without_cells};
 use cell_core::{Cell, NodeNo, Steps};
 use cells_below::count_values;
 use qc_arena::Nodes;
-use std::alloc::Global;
+use std::alloc::{AllocError, Global};
 use std::sync::ledger::Ledger;
 use tree_search::upper_into;
 use value_dict::Dict;
@@ -57,7 +57,10 @@ fn push_child<T: Nodes, L: Ledger>(
     upper_into(tree, node, &mut cell, steps);
     let all = count_values(&cell) as usize;
     if more <= all && all - more == values as usize {
-        children.push(Placed { node, cell })?;
+        return match children.push(Placed { node, cell }) {
+            Ok(()) => Ok(()),
+            Err(_) => Err(AllocError),
+        };
     }
     Ok(())
 }

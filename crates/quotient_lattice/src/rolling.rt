@@ -25,7 +25,7 @@ use cell_core::{Cell, NodeNo, Steps, leq};
 use iceberg_query::{Ask, passes};
 use indexmap::IndexSet;
 use qc_arena::Nodes;
-use std::alloc::Global;
+use std::alloc::{AllocError, Global};
 use std::sync::ledger::Ledger;
 use tree_search::upper_into;
 use value_dict::Dict;
@@ -65,8 +65,10 @@ fn push_placed<T: Nodes, L: Ledger>(
 {
     let mut cell = Cell::any(*met.allocator(), tree.dims());
     upper_into(tree, node, &mut cell, steps);
-    met.push(Placed { node, cell })?;
-    Ok(())
+    match met.push(Placed { node, cell }) {
+        Ok(()) => Ok(()),
+        Err(_) => Err(AllocError),
+    }
 }
 
 // Takes a class that passes; of another it looks at the children.
@@ -96,8 +98,42 @@ fn visit<T: Nodes, L: Ledger>(
     }
 }
 
-// From a class on: all classes that pass and are met through the children of those that don't. Each
-// class is visited once.
+// Visits the class of each number that is seen, from the first one on. Each class is visited once.
+fn meet_all<T: Nodes, L: Ledger>(
+    tree: &T,
+    ask: &Ask,
+    node: NodeNo,
+    seen: &mut IndexSet<u32>,
+    met: &mut Vec<Placed>,
+    steps: &mut Steps<L>,
+) -> Result<(), Memory>
+    requires tree { IsTree (T.width tree.now) (T.tree tree.now) }
+    requires class { IsSome (record_at (T.tree tree.now) node.0).class }
+    requires measure { HasMeasure (T.width tree.now) (T.tree tree.now) ask.now.kind }
+    requires scale { ask.now.scale ≤ 6 }
+    requires none_seen { seen.old.keys ≡ [] }
+    requires none_met { met.old.items ≡ [] }
+    ensures met { (source : TreeRows) → IsTreeOf (T.width tree.now) (T.tree tree.now) source →
+        OnOk result (AreMet (T.tree tree.now) source ask.now node.0 (mapped number_of met.new.items)) }
+    ensures once { OnOk result (IsDistinct nat_eq (mapped number_of met.new.items)) }
+    ensures cells { OnOk result (AreAt (T.tree tree.now) met.new.items) }
+{
+    if seen.insert(node.0).is_err() {
+        return Err(AllocError);
+    }
+    let mut i = 0;
+    'seen: while i < seen.len() {
+        let number = *seen.get_index(i).unwrap();
+        match visit(tree, ask, NodeNo(number), seen, met, steps) {
+            Ok(()) => {}
+            Err(error) => return Err(error),
+        }
+        i += 1;
+    }
+    Ok(())
+}
+
+// From a class on: all classes that pass and are met through the children of those that don't.
 fn met_from<T: Nodes, L: Ledger>(
     alloc: Global,
     tree: &T,
@@ -116,17 +152,10 @@ fn met_from<T: Nodes, L: Ledger>(
 {
     let mut seen = IndexSet::new(alloc);
     let mut met = Vec::new(alloc);
-    seen.insert(node.0)?;
-    let mut i = 0;
-    'seen: while i < seen.len() {
-        let number = *seen.get_index(i).unwrap();
-        match visit(tree, ask, NodeNo(number), &mut seen, &mut met, steps) {
-            Ok(()) => {}
-            Err(error) => return Err(error),
-        }
-        i += 1;
+    match meet_all(tree, ask, node, &mut seen, &mut met, steps) {
+        Ok(()) => Ok(met),
+        Err(error) => Err(error),
     }
-    Ok(met)
 }
 
 // Whether no other of some nodes generalizes this one.
