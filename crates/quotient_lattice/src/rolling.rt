@@ -46,7 +46,10 @@ fn insert_each(seen: &mut IndexSet<u32>, found: &Vec<Placed>) -> Result<(), Memo
     ensures { OnOk result (seen.new.keys ≡ insert_all nat_eq seen.old.keys (mapped number_of found.now.items)) }
 {
     'found: for k in 0..found.len() {
-        seen.insert(found[k].node.0)?;
+        match seen.insert(found[k].node.0) {
+            Ok(_) => {}
+            Err(_) => return Err(AllocError),
+        }
     }
     Ok(())
 }
@@ -181,10 +184,14 @@ fn lowest(alloc: Global, met: &Vec<Placed>) -> Result<Vec<Placed>, Memory>
     'met: for k in 0..met.len() {
         let x = &met[k];
         if is_lowest(met, x) {
-            kept.push(Placed {
+            let placed = Placed {
                 node: x.node,
                 cell: x.cell.copy(),
-            })?;
+            };
+            match kept.push(placed) {
+                Ok(()) => {}
+                Err(_) => return Err(AllocError),
+            }
         }
     }
     Ok(kept)

@@ -23,7 +23,7 @@ use cell_core::{Cell, NodeNo, Steps};
 use cells_below::{Marks, bounds_at, count_values, needed};
 use cube_defs::MAX_DIMS;
 use qc_arena::Nodes;
-use std::alloc::Global;
+use std::alloc::{AllocError, Global};
 use std::sync::ledger::Ledger;
 use tree_search::upper_into;
 use value_dict::Dict;
@@ -70,9 +70,13 @@ fn parents_below<T: Nodes, L: Ledger>(
     ensures steps { steps.new ≤ steps.old + (value_count u.now + 2 * 2 ^ value_count u.now) * (2 * length u.now + 2) }
 {
     let d = count_values(u);
-    let mut marks = Marks::new(alloc, 1 << d)?;
-    mark_all(tree, node, u, &mut marks, d, steps);
-    joined(alloc, tree, u, &marks, d, steps)
+    match Marks::new(alloc, 1 << d) {
+        Ok(mut marks) => {
+            mark_all(tree, node, u, &mut marks, d, steps);
+            joined(alloc, tree, u, &marks, d, steps)
+        }
+        Err(error) => Err(error),
+    }
 }
 
 // Marks the numbers whose cells have the closure u.
@@ -130,7 +134,10 @@ fn joined<T: Nodes, L: Ledger>(
     let mut nodes = Vec::new(alloc);
     'numbers: for m in 0..1 << d {
         let node = joined_at(tree, u, marks, d, m, steps);
-        push_some(&mut nodes, node)?;
+        match push_some(&mut nodes, node) {
+            Ok(()) => {}
+            Err(error) => return Err(error),
+        }
     }
     Ok(nodes)
 }
@@ -139,8 +146,11 @@ fn joined<T: Nodes, L: Ledger>(
 fn push_some(nodes: &mut Vec<NodeNo>, node: Option<NodeNo>) -> Result<(), Memory>
     ensures { OnOk result (nodes.new.items ≡ nodes.old.items ++ as_list nat_cmp node) }
 {
-    if let Some(node) = node {
-        nodes.push(node)?;
+    let Some(node) = node else {
+        return Ok(());
+    };
+    match nodes.push(node) {
+        Ok(()) => Ok(()),
+        Err(_) => Err(AllocError),
     }
-    Ok(())
 }
