@@ -1,9 +1,10 @@
-use Rattle.std.proofs.Common.{◌≡◌, ◌&&◌, ◌∙◌, ap, arith, not}
+use Rattle.std.proofs.Common.{◌≡◌, ◌&&◌, ◌||◌, ◌∙◌, ap, arith, length, not}
 use Rattle.std.specs.BTreeSet.{btree_set_len, contains}
 use Rattle.std.specs.List.{list_any}
 use Rattle.std.specs.Ordering.{is_eq}
 use Rattle.measure_index.specs.Keys.{among}
-use Rattle.measure_index.proofs.KeyLemmas.{back_again, came_in, noted, one_at_most}
+use Rattle.cube_laws.proofs.Lists.{take_all}
+use Rattle.measure_index.proofs.KeyLemmas.{back_again, came_in, none_in, noted, one_at_most}
 use Rattle.measure_index.proofs.keys.insert_all.Goals as goal
 
 pub returns-in-Err-clause-err : goal.returns-in-Err-clause-err
@@ -32,3 +33,36 @@ loop-item-preserved g c =
       few = omega (arith, more, few);
       ordered = c.insert.ensures.ordered;
     }
+
+pub loop-item-init : goal.loop-item-init
+loop-item-init g c =
+    let made = c.in_ok-came.ensures in
+    record {
+      has = λ q. none_in (contains g.K.Ord.cmp c.args.set.now q);
+      fresh = λ q. ap (λ xs. among g.K.Ord.cmp xs q) made.items;
+      noted = omega (arith, made.len);
+      room = omega (arith, made.exact);
+      few = omega arith;
+      ordered = c.requires.ordered;
+    }
+
+pub note-requires : goal.note-requires
+note-requires g c = omega (arith, c.loop-item.invariant.noted, c.loop-item.invariant.room, c.loop-item-test.true)
+
+pub returns-in-Err-clause-few : goal.returns-in-Err-clause-few
+returns-in-Err-clause-few g c =
+    let same : btree_set_len c.insert.new.self ≡ btree_set_len c.loop-item.set = ap length c.in-Err.ensures.err in
+    omega (arith, c.take_out.ensures.few, same, c.loop-item.invariant.few, c.loop-item-test.true)
+
+pub returns-clause-has : goal.returns-clause-has
+returns-clause-has g c = λ q.
+    c.loop-item.invariant.has q
+    ∙ ap (λ xs. contains g.K.Ord.cmp c.args.set.now q || among g.K.Ord.cmp xs q) (take_all c.args.items.now c.loop-item.item-index (omega (arith, c.loop-item-test.false)))
+
+pub returns-clause-fresh : goal.returns-clause-fresh
+returns-clause-fresh g c = λ q.
+    c.loop-item.invariant.fresh q
+    ∙ ap (λ xs. among g.K.Ord.cmp xs q && not (contains g.K.Ord.cmp c.args.set.now q)) (take_all c.args.items.now c.loop-item.item-index (omega (arith, c.loop-item-test.false)))
+
+pub returns-clause-few : goal.returns-clause-few
+returns-clause-few g c = omega (arith, c.loop-item.invariant.few, c.loop-item.auto.item-index-end)

@@ -1,4 +1,5 @@
-use Rattle.std.proofs.Common.{◌≡◌, ◌<◌, ◌∙◌, List, ap, get_or, length, subst, sym}
+use Rattle.std.proofs.Common.{◌≡◌, ◌<◌, ◌∙◌, ◌&&◌, arith, not, List, ap, get_or, length, subst, sym}
+use Rattle.cube_laws.proofs.Lists.{take_all}
 use Rattle.measure_index.specs.Keys.{among}
 use Rattle.measure_index.proofs.KeyLemmas.{lacked, not_lacked}
 use Rattle.measure_index.proofs.keys.lacked_by.Goals as goal
@@ -19,3 +20,11 @@ loop-item-preserved g c = λ q.
           ap (λ v. among g.K.Ord.cmp v.items q) w.out-is
           ∙ not_lacked g.met.K.Ord.total xs c.args.others.now c.loop-item.out.items i x q within at (c.loop-item.invariant q) (sym c.is_among.ensures ∙ w.if-not-is_among.false)
     ]
+
+pub loop-item-init : goal.loop-item-init
+loop-item-init g c = λ q. ap (λ (xs : List _). among g.K.Ord.cmp xs q) c.new-out.ensures.items
+
+pub returns : goal.returns
+returns g c =
+    let all = take_all c.args.items.now.items c.loop-item.item-index (omega (arith, c.deref-item-items.ensures.len, c.loop-item-test.false)) in
+    record { has = λ q. c.loop-item.invariant q ∙ ap (λ (xs : List _). among g.K.Ord.cmp xs q && not (among g.K.Ord.cmp c.args.others.now q)) all }
