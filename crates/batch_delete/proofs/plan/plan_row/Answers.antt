@@ -1,4 +1,4 @@
-use Rattle.std.proofs.Common.{◌≡◌, ◌∙◌, ◌≤◌, ◌+◌, ◌*◌, ◌-◌, ℕ, suc, Some, ap, arith, drop, length, nat_eq, subst, sym, true}
+use Rattle.std.proofs.Common.{◌≡◌, ◌∙◌, ◌≤◌, ◌+◌, ◌-◌, suc, Some, ap, arith, drop, length, subst, sym}
 use Rattle.std.proofs.lemmas.Option.{slice_get_within}
 use Rattle.batch_delete.specs.Plan.{planning}
 use Rattle.batch_delete.specs.Rests.{ArePlanned}
