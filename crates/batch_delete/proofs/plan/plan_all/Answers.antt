@@ -1,4 +1,4 @@
-use Rattle.std.proofs.Common.{◌∙◌, arith}
+use Rattle.std.proofs.Common.{◌∙◌}
 use Rattle.batch_delete.specs.Rests.{rows_before, source_before}
 use Rattle.batch_delete.proofs.Resting.{total_agg}
 use Rattle.batch_delete.proofs.plan.plan_all.Goals as goal

@@ -1,8 +1,7 @@
-use Rattle.std.proofs.Common.{◌≡◌, ◌∙◌, ◌≤◌, ◌+◌, ◌*◌, ◌-◌, ℕ, suc, Some, ap, arith, drop, length, nat_eq, subst, sym, true}
-use Rattle.cube_defs.specs.Cell.{Cell, leq}
-use Rattle.batch_delete.specs.Below.{AreBelow}
-use Rattle.batch_delete.specs.Plan.{front_labels, last_any_of, planning}
-use Rattle.batch_delete.specs.Rests.{AreGreaterPlanned, ArePlanned}
+use Rattle.std.proofs.Common.{◌≡◌, ◌∙◌, ◌≤◌, ◌+◌, ◌-◌, suc, Some, ap, arith, drop, length, subst, sym}
+use Rattle.std.proofs.lemmas.Option.{slice_get_within}
+use Rattle.batch_delete.specs.Plan.{planning}
+use Rattle.batch_delete.specs.Rests.{ArePlanned}
 use Rattle.batch_delete.proofs.Fated.{greater_planned, planned_more, planning_more}
 use Rattle.batch_delete.proofs.Growing.{item_at}
 use Rattle.batch_delete.proofs.plan.plan_row.Goals as goal
@@ -47,7 +46,7 @@ nodes-preserved g c =
     let took = fate.steps xs are in
     record {
       planned = subst (ArePlanned g.d a.now c.add_fate.new.plan.entries xs) here all;
-      steps = omega arith;
+      steps = omega (arith, before, took, left, now, more);
     }
 
 pub returns-clause-planned : goal.returns-clause-planned
@@ -55,3 +54,12 @@ returns-clause-planned g c =
     let past = c.nodes-test.false in
     let many = c.len-many.ensures in
     λ j b l e. c.nodes.invariant.planned j b (omega arith) e
+
+pub nodes-init : goal.nodes-init
+nodes-init g c = record { planned = λ j b l e. absurd (omega (arith, l, slice_get_within c.args.list.now.items j b e)); steps = omega arith }
+
+pub returns-clause-steps : goal.returns-clause-steps
+returns-clause-steps g c =
+    let xs = c.args.list.now.items in
+    let z : length xs - c.nodes.k ≡ 0 = omega (arith, c.len-many.ensures, c.nodes-test.false) in
+    subst (λ m. c.nodes.steps ≤ c.args.steps.now + planning (length c.args.row.now.tuple.now) c.args.row.now.arena.now.now xs (drop m xs)) z c.nodes.invariant.steps

@@ -24,3 +24,12 @@ returns-in-Some-clause-done g c = ok_then c.force.result (λ h. one_forced c.arg
 
 pub returns-in-None-clause-done : goal.returns-in-None-clause-done
 returns-in-None-clause-done g c = one_class c.args.tuple.now (numbered c.args.numbers.now) c.args.arena.now.now c.mark.new.arena.now c.args.amounts.now c.args.end _ _ c.in-None.is c.in-Ok.ensures c.with_row-agg.ensures c.mark.ensures.here c.mark.ensures.others
+
+pub returns-in-Some-clause-keeps : goal.returns-in-Some-clause-keeps
+returns-in-Some-clause-keeps g c = c.force.ensures.keeps
+
+pub returns-in-None-clause-keeps : goal.returns-in-None-clause-keeps
+returns-in-None-clause-keeps g c = c.mark.ensures.keeps
+
+pub returns-in-Some-clause-steps : goal.returns-in-Some-clause-steps
+returns-in-Some-clause-steps g c = c.force.ensures.steps

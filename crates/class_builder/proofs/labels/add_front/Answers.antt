@@ -1,4 +1,4 @@
-use Rattle.std.proofs.Common.{◌<◌, [], ◌∷◌, Some, sym, ap, subst, ◌∙◌, arith, length}
+use Rattle.std.proofs.Common.{◌<◌, [], ◌∷◌, Some, sym, ap, subst, ◌∙◌, arith}
 use Rattle.cube_defs.specs.Cell.{cell_front}
 use Rattle.cube_defs.specs.Tree.{cell_at}
 use Rattle.base_table.specs.Places.{rows_of}

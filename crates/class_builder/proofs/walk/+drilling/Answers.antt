@@ -1,4 +1,4 @@
-use Rattle.std.proofs.Common.{◌≡◌, ◌<◌, ◌≤◌, ◌+◌, ◌++◌, [], ◌∷◌, ◌∙◌, Some, ap, ap₂, refl, sym, subst, arith, length, get_or, is_some, true, false, rules, add-one}
+use Rattle.std.proofs.Common.{◌≡◌, ◌<◌, ◌≤◌, ◌+◌, ◌++◌, [], ◌∷◌, ◌∙◌, Some, ap, ap₂, refl, sym, subst, arith, length, get_or, is_some, true, false, rules}
 use Rattle.std.specs.Prelude.{OnOk}
 use Rattle.std.proofs.Math.Numerals.{add-one-le}
 use Rattle.std.proofs.lemmas.Result.{on_ok_weaker}
