@@ -1,15 +1,12 @@
 // Why a state has no snapshot, and why bytes aren't one.
 use cube_defs::Memory;
-use thiserror::Error;
 
 /// Why a state has no snapshot.
-#[derive(Clone, Copy, Debug, PartialEq, Eq, Error)]
+#[derive(Clone, Copy)]
 pub enum EncodeRefused {
     /// It would have more bytes than a file may have.
-    #[error("the snapshot would have more bytes than a file may have")]
     TooLong,
     /// Memory ran out.
-    #[error("memory ran out")]
     Memory,
 }
 
@@ -25,7 +22,7 @@ impl From<Memory> for EncodeRefused {
 }
 
 /// Why a part of a snapshot is not read.
-#[derive(Clone, Copy, Debug, PartialEq, Eq)]
+#[derive(Clone, Copy)]
 pub(crate) enum PartRefused {
     /// The bytes aren't such a part.
     Form,
@@ -34,15 +31,12 @@ pub(crate) enum PartRefused {
 }
 
 /// Why bytes are no snapshot of a state.
-#[derive(Clone, Copy, Debug, PartialEq, Eq, Error)]
+#[derive(Clone, Copy, PartialEq, Eq)]
 pub enum DecodeRefused {
     /// The bytes encode no state.
-    #[error("the bytes are no snapshot")]
     Form,
     /// The tree would have more nodes than the schema allows.
-    #[error("the tree would have more nodes than the schema allows")]
     NodesFull,
     /// Memory ran out.
-    #[error("memory ran out")]
     Memory,
 }

@@ -19,15 +19,13 @@ use value_dict::Dict;
 pub(crate) fn put_u32(out: &mut Vec<u8>, value: u32) -> Result<(), Memory>
     ensures { OnOk result (out.new.items ≡ out.old.items ++ (number w32).put value) }
 {
-    out.extend_from_slice(&value.to_be_bytes())?;
-    Ok(())
+    out.extend_from_slice(&value.to_be_bytes())
 }
 
 fn put_u64(out: &mut Vec<u8>, value: u64) -> Result<(), Memory>
     ensures { OnOk result (out.new.items ≡ out.old.items ++ (number w64).put value) }
 {
-    out.extend_from_slice(&value.to_be_bytes())?;
-    Ok(())
+    out.extend_from_slice(&value.to_be_bytes())
 }
 
 // Appends an amount in two's complement.
@@ -44,8 +42,7 @@ fn put_text(out: &mut Vec<u8>, value: &str) -> Result<(), Memory>
 {
     let bytes = value.as_bytes();
     out.push(bytes.len() as u8)?;
-    out.extend_from_slice(bytes)?;
-    Ok(())
+    out.extend_from_slice(bytes)
 }
 
 // Appends the texts of a dimension, with their number before them.
@@ -133,8 +130,7 @@ fn put_schema(out: &mut Vec<u8>, schema: &Vec<u8>) -> Result<(), Memory>
 {
     out.extend_from_slice(b"QCUBESN1")?;
     put_u32(out, schema.len() as u32)?;
-    out.extend_from_slice(schema)?;
-    Ok(())
+    out.extend_from_slice(schema)
 }
 
 /// The parts one after another, in a buffer with room for so many bytes.

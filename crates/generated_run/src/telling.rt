@@ -11,7 +11,7 @@ use itoa::Buffer;
 use std::alloc::Global;
 use std::sync::ledger::Ledger;
 use tree_search::total_at;
-use warehouse::Warehouse;
+use warehouse::{Stats, Warehouse};
 
 // The aggregate of all rows, if there are any.
 fn total<L: Ledger>(alloc: Global, warehouse: &Warehouse, steps: &mut Steps<L>) -> Option<Agg>
@@ -36,8 +36,7 @@ fn push_number(out: &mut Vec<u8>, number: u64) -> Result<(), Memory>
     ensures { OnOk result (out.new.items ≡ out.old.items ++ field_text (decimal number)) }
 {
     out.push(b',')?;
-    out.extend_from_slice(Buffer::new().format(number).as_bytes())?;
-    Ok(())
+    out.extend_from_slice(Buffer::new().format(number).as_bytes())
 }
 
 // An amount in hundredths, with a comma before it.
@@ -47,8 +46,18 @@ fn push_amount(out: &mut Vec<u8>, amount: i64) -> Result<(), Memory>
     let mut text = [0; 48];
     let len = print_amount(amount, 2, &mut text);
     out.push(b',')?;
-    out.extend_from_slice(&text[..len])?;
-    Ok(())
+    out.extend_from_slice(&text[..len])
+}
+
+// The counts of the rows' tree, each with a comma before it.
+fn push_counts(out: &mut Vec<u8>, counts: Stats) -> Result<(), Memory>
+    ensures { OnOk result (out.new.items ≡ out.old.items ++ field_text (decimal counts.classes) ++ field_text (decimal counts.nodes)
+        ++ field_text (decimal counts.tree_edges) ++ field_text (decimal counts.links)) }
+{
+    push_number(out, u64::from(counts.classes))?;
+    push_number(out, u64::from(counts.nodes))?;
+    push_number(out, counts.tree_edges)?;
+    push_number(out, counts.links)
 }
 
 /// Writes the record into `out`, in place of what it holds.
@@ -62,16 +71,11 @@ pub fn write_record<L: Ledger>(
 ) -> Result<(), Memory>
     ensures { OnOk result (out.new.items ≡ record_text rows seed warehouse.now.state) }
 {
-    let counts = warehouse.stats();
     out.clear();
     out.extend_from_slice(b"gen")?;
     push_number(out, u64::from(rows))?;
     push_number(out, seed)?;
-    push_number(out, u64::from(counts.classes))?;
-    push_number(out, u64::from(counts.nodes))?;
-    push_number(out, counts.tree_edges)?;
-    push_number(out, counts.links)?;
+    push_counts(out, warehouse.stats())?;
     push_amount(out, sum_of(total(alloc, warehouse, steps)))?;
-    out.push(b'\n')?;
-    Ok(())
+    out.extend_from_slice(b"\n")
 }

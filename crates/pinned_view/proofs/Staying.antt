@@ -14,7 +14,7 @@ use Rattle.cube_defs.specs.Tree.{Tree}
 use Rattle.qc_arena.specs.Map.{ImageMap, over}
 use Rattle.qc_schema.specs.Schema.{Layout}
 use Rattle.pinned_view.specs.Past.{past}
-use Rattle.pinned_view.specs.Pins.{ArePins, AreWithin, IsPin, ReadSame, bears, moved_back, version_in}
+use Rattle.pinned_view.specs.Pins.{ArePins, AreWithin, IsPin, ReadSame, bears, moved_back, version_in, was_in}
 use Rattle.pinned_view.specs.Versions.{AreVersions, Version, version_now, version_of, without}
 use Rattle.pinned_view.specs.Views.{IsRootOf}
 use Rattle.warehouse.specs.Counted.{AreCounted}
@@ -33,9 +33,9 @@ module _ (was now : Contents) (kept kept' : List ImageMap) (schema : now.state.s
     record {
       within = within.0;
       tree = same.0 ∙ are.0.tree;
-      root = subst (λ (l : Layout). IsRootOf (length l.dims) pin.was.value.tree pin.root) (sym schema) are.0.root;
+      root = subst (λ (l : Layout). IsRootOf (length l.dims) (was_in pin).tree pin.root) (sym schema) are.0.root;
       stats = are.0.stats;
-      has = trees pin.was.value.state.rows pin.was.value.tree are.0.has;
+      has = trees (was_in pin).state.rows (was_in pin).tree are.0.has;
     },
     each_stays pins same.1 within.1 are.1,
   )
@@ -64,15 +64,15 @@ after_change was mid now kept reserved kept' images pins room back moved rest sa
 pub pin_now : (now : Contents) (kept : List ImageMap) (pin : Pin) (name : Text) → version_in pin ≡ version_now name now → pin.from ≡ length kept
     → IsRootOf (length now.state.schema.dims) now.tree pin.root → AreCounted now.state.rows pin.stats → AreContents now → IsPin now kept pin
 pin_now now kept pin name is from root stats valid =
-    let rows : pin.was.value.state.rows ≡ now.state.rows = ap (λ (v : Version). v.rows) is in
-    let tree : pin.was.value.tree ≡ now.tree = ap (λ (v : Version). v.tree) is in
+    let rows : (was_in pin).state.rows ≡ now.state.rows = ap (λ (v : Version). v.rows) is in
+    let tree : (was_in pin).tree ≡ now.tree = ap (λ (v : Version). v.tree) is in
     record {
       within = omega (arith, from);
       tree = ap (λ n. past (drop n kept) now.tree) from ∙ ap (λ (k : List ImageMap). past k now.tree) (drop-length kept) ∙ sym tree;
       root = subst (λ (t : Tree ℕ). IsRootOf (length now.state.schema.dims) t pin.root) (sym tree) root;
       stats = subst (λ (r : List (Row Text)). AreCounted r pin.stats) (sym rows) stats;
       has =
-          subst (λ (r : List (Row Text)). HasTree (with_rows now.state r) pin.was.value.tree) (sym rows)
+          subst (λ (r : List (Row Text)). HasTree (with_rows now.state r) (was_in pin).tree) (sym rows)
           (subst (HasTree now.state) (sym tree) (record { state = valid.state; canonical = valid.tree }));
     }
 

@@ -2,6 +2,7 @@
 use Rattle.std.specs.Prelude.{ℕ, ◌≡◌, ◌-◌, ◌<◌, ◌≤◌, Bool, List, drop, length, map}
 use Rattle.std.specs.FinMap as finmap
 use Rattle.std.specs.List.{AllByRecursion, IsDistinct}
+use Rattle.std.specs.Mem.{manually_drop_value}
 use Rattle.std.specs.Str.{bytes_eq}
 use Rattle.cube_defs.specs.Text.{Text}
 use Rattle.cube_defs.specs.Tree.{Tree}
@@ -14,9 +15,13 @@ use Rattle.pinned_view.specs.declared.pins.Pin.{Pin}
 use Rattle.pinned_view.specs.declared.pins.TheConstants.{MAX_PINS}
 use Rattle.warehouse.specs.State.{Contents, HasTree, with_rows}
 
+-- the warehouse as it was when it was pinned
+abbrev pub was_in : Pin → Contents
+was_in pin = (manually_drop_value pin.was).value
+
 -- the version that a pin stands for
 abbrev pub version_in : Pin → Version
-version_in pin = record { name = pin.name.bytes; rows = pin.was.value.state.rows; tree = pin.was.value.tree }
+version_in pin = record { name = pin.name.bytes; rows = (was_in pin).state.rows; tree = (was_in pin).tree }
 
 -- whether a pin has the name
 abbrev pub bears : Text → Pin → Bool
@@ -44,10 +49,10 @@ ReadSame kept before kept' now pins = AllByRecursion (λ pin. tree_under kept' n
 -- what is true of a pin: it reads the tree that it remembers, which is still the canonical tree of its rows
 pub record IsPin (now : Contents) (kept : List ImageMap) (pin : Pin) : Type 0 where
   pub within : pin.from ≤ length kept
-  pub tree : tree_under kept now.tree pin ≡ pin.was.value.tree
-  pub root : IsRootOf (length now.state.schema.dims) pin.was.value.tree pin.root
-  pub stats : AreCounted pin.was.value.state.rows pin.stats
-  pub has : HasTree (with_rows now.state pin.was.value.state.rows) pin.was.value.tree
+  pub tree : tree_under kept now.tree pin ≡ (was_in pin).tree
+  pub root : IsRootOf (length now.state.schema.dims) (was_in pin).tree pin.root
+  pub stats : AreCounted (was_in pin).state.rows pin.stats
+  pub has : HasTree (with_rows now.state (was_in pin).state.rows) (was_in pin).tree
 
 -- what is true of all pins
 pub record ArePins (now : Contents) (kept : List ImageMap) (pins : List Pin) : Type 0 where

@@ -11,6 +11,7 @@ use arrayvec::ArrayString;
 use cell_core::{NodeNo, Steps};
 use qc_arena::{Nodes, QcArena};
 use std::marker::Brand;
+use std::mem::ManuallyDrop;
 use std::snapshot::Snapshot;
 use std::sync::ledger::{Blank, Ledger};
 use warehouse::{Stats, Warehouse};
@@ -19,14 +20,15 @@ use warehouse::{Stats, Warehouse};
 pub const MAX_PINS: usize = 16;
 
 /// A version: its name, the place of the first before-images that were kept since, the root of its
-/// tree and its counts. Proofs also have the warehouse as it was.
+/// tree and its counts. Proofs also have the warehouse as it was, of which nothing is kept, so that
+/// nothing of it is dropped.
 #[derive(Drop)]
 pub(crate) struct Pin {
     pub name: ArrayString<32>,
     pub from: usize,
     pub root: Option<NodeNo>,
     pub stats: Stats,
-    pub was: Snapshot<Warehouse>,
+    pub was: ManuallyDrop<Snapshot<Warehouse>>,
 }
 
 impl Pin {
@@ -46,7 +48,7 @@ impl Pin {
             from,
             root: root_of(warehouse.tree()),
             stats: warehouse.stats(),
-            was: Snapshot::of(warehouse),
+            was: warehouse.snapshot(),
         }
     }
 }

@@ -3,7 +3,7 @@ ghost use Rattle.std.specs.Prelude.{◌<◌, ◌≡◌};
 ghost use Rattle.row_generator.specs.Generator.{after_draw, number_drawn};
 
 /// Numbers that a seed determines.
-#[derive(Clone, Copy, Debug)]
+#[derive(Clone, Copy)]
 pub struct Draws {
     /// The state. It is the seed before the first draw.
     pub state: u64,

@@ -13,8 +13,7 @@ fn push_number(out: &mut Vec<u8>, number: u32) -> Result<(), Memory>
     ensures text { OnOk result (out.new.items ≡ out.old.items ++ decimal number) }
     ensures short { OnOk result (length out.new.items ≤ length out.old.items + 10) }
 {
-    out.extend_from_slice(Buffer::new().format(number).as_bytes())?;
-    Ok(())
+    out.extend_from_slice(Buffer::new().format(number).as_bytes())
 }
 
 // Appends a comma and the field of a dimension with so many values.
@@ -58,8 +57,7 @@ fn push_amount(out: &mut Vec<u8>, id: u32) -> Result<(), Memory>
     let mut text = [0; 48];
     let len = print_amount(amount(id), 2, &mut text);
     out.push(b',')?;
-    out.extend_from_slice(&text[..len])?;
-    Ok(())
+    out.extend_from_slice(&text[..len])
 }
 
 // Appends the record of the row with an id.
@@ -72,8 +70,7 @@ fn push_row(out: &mut Vec<u8>, id: u32, draws: &mut Draws) -> Result<(), Memory>
     push_number(out, id)?;
     push_values(out, draws)?;
     push_amount(out, id)?;
-    out.push(b'\n')?;
-    Ok(())
+    out.extend_from_slice(b"\n")
 }
 
 /// Appends the records of so many rows. The ids count up from the first, and each record begins
@@ -109,8 +106,7 @@ fn push_deletion(out: &mut Vec<u8>, id: u32) -> Result<(), Memory>
 {
     out.extend_from_slice(b"-,")?;
     push_number(out, id)?;
-    out.extend_from_slice(b",,,,,,\n")?;
-    Ok(())
+    out.extend_from_slice(b",,,,,,\n")
 }
 
 /// Appends the records that delete so many rows. The ids count up from the first.

@@ -39,7 +39,7 @@ fn all_codes(dict: &Dict, alloc: Global, dim: u8) -> Result<Vec<Code>, Memory>
     let len = dict.len(dim);
     let mut codes = Vec::with_capacity(alloc, len as usize)?;
     'codes: for code in 0..len {
-        codes.push(code)?;
+        codes.push_reserved(code);
     }
     Ok(codes)
 }

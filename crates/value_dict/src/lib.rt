@@ -76,7 +76,7 @@ impl Dict {
     {
         let mut lists = Vec::with_capacity(alloc, dims as usize)?;
         for _ in 0..dims {
-            lists.push(IndexSet::with_hasher(alloc, keys))?;
+            lists.push_reserved(IndexSet::with_hasher(alloc, keys));
         }
         Ok(Dict { lists, max, keys })
     }

@@ -78,7 +78,7 @@ impl From<Memory> for PartsRefused {
 }
 
 /// Why no dimension is added. If several causes hold, the first in this order is reported.
-#[derive(Clone, Copy, PartialEq)]
+#[derive(Clone, Copy)]
 pub enum WidenRefused {
     /// The schema has as many dimensions as its version allows.
     DimsFull,

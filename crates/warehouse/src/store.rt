@@ -1,5 +1,6 @@
 // The state, the tree of its rows, the index of the tree's classes, and what files do to them.
 ghost use Rattle.std.specs.FinMap as finmap;
+ghost use Rattle.std.specs.Mem.{manually_drop_value};
 ghost use Rattle.std.specs.Prelude.{Err, IfOk, IfSome, List, None, Ok, OnErr, OnOk, Result, length, true, ◌+◌, ◌<◌, ◌≡◌, ◌≤◌};
 ghost use Rattle.base_table.specs.Places.{rows_of};
 ghost use Rattle.cell_core.specs.Gives.{Gives};
@@ -35,6 +36,8 @@ use qc_arena::{Images, QcArena};
 use qc_schema::Schema;
 use std::alloc::Global;
 use std::marker::Model;
+use std::mem::ManuallyDrop;
+use std::snapshot::Snapshot;
 use std::sync::ledger::Ledger;
 use value_dict::Dict;
 
@@ -193,6 +196,13 @@ impl Warehouse {
         ensures { AreContents self.now }
     {
         let _read = &self.tree;
+    }
+
+    /// The warehouse as it is, for proofs alone. It takes no memory, and dropping it drops nothing.
+    pub fn snapshot(&self) -> ManuallyDrop<Snapshot<Warehouse>>
+        ensures { (manually_drop_value result).value ≡ self.now }
+    {
+        ManuallyDrop::new(Snapshot::of(self))
     }
 
     /// The tree of the rows.

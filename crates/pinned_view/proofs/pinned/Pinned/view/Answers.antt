@@ -2,7 +2,7 @@ use Rattle.std.proofs.Common.{◌≡◌, ◌∙◌, ℕ, None, Some, ap, ap₂, 
 use Rattle.std.specs.Prelude.{option_map}
 use Rattle.cube_defs.specs.Tree.{Tree}
 use Rattle.pinned_view.specs.Past.{past}
-use Rattle.pinned_view.specs.Pins.{IsPin, version_in}
+use Rattle.pinned_view.specs.Pins.{IsPin, version_in, was_in}
 use Rattle.pinned_view.specs.Versions.{Version, Versions, version_of}
 use Rattle.pinned_view.specs.Views.{IsRootOf, IsViewOf}
 use Rattle.warehouse.specs.Counted.{AreCounted}
@@ -26,7 +26,7 @@ over-requires c =
     let m = c.self.inside in
     let pin = c.in_ok-pin.pin.now in
     let is = found_one (IsPin m.warehouse m.kept.items) c.args.name.now m.pins.items pin (sym c.in_ok-pin.ensures) c.self.invariant.0.each in
-    let tree : past c.since-over.result.now c.tree.result.now.now ≡ pin.was.value.tree = ap₂ past c.since-over.ensures c.tree.ensures.value ∙ is.tree in
+    let tree : past c.since-over.result.now c.tree.result.now.now ≡ (was_in pin).tree = ap₂ past c.since-over.ensures c.tree.ensures.value ∙ is.tree in
     subst (λ w. IsRootOf w (past c.since-over.result.now c.tree.result.now.now) pin.root) (sym c.tree.ensures.width)
     (subst (λ (t : Tree ℕ). IsRootOf (length m.warehouse.state.schema.dims) t pin.root) (sym tree) is.root)
 
@@ -41,7 +41,7 @@ returns-clause-some c =
       record {
         width = c.over.ensures.width ∙ c.tree.ensures.width;
         tree = c.over.ensures.tree ∙ ap₂ past c.since-over.ensures c.tree.ensures.value ∙ is.tree;
-        stats = subst (AreCounted pin.was.value.state.rows) (sym c.over.ensures.stats) is.stats;
+        stats = subst (AreCounted (was_in pin).state.rows) (sym c.over.ensures.stats) is.stats;
         has = is.has;
       },
     )
