@@ -1,11 +1,13 @@
 -- What holds of an answer, where there is one.
-use Rattle.std.proofs.Common.{◌≡◌, ℕ, Option, Some, None, List, refl}
-use Rattle.std.specs.Prelude.{Err, IfSome, Ok, OnOk, Result}
+use Rattle.std.proofs.Common.{◌≡◌, ◌≢◌, ℕ, Option, Some, None, List, refl, true}
+use Rattle.std.specs.Prelude.{Err, IfSome, Ok, OnErr, OnOk, Result}
 use Rattle.cell_core.specs.declared.fields.Field.{Field}
 use Rattle.qc_io.specs.Outside.{Told}
 use Rattle.query_answers.specs.Queries.{cell_asked, pointed}
-use Rattle.query_script.specs.Commands.{command_in}
-use Rattle.query_script.specs.Questions.{Point}
+use Rattle.query_script.specs.Commands.{command_in, query_wants}
+use Rattle.query_script.specs.Queries as queries
+use Rattle.query_script.specs.Queries.{Point, Query}
+use Rattle.query_script.specs.Questions.{Ask}
 use Rattle.qc_session.specs.Answers.{answer}
 use Rattle.qc_session.specs.Pins.{PinnedState, keeps}
 
@@ -19,10 +21,19 @@ for_told None P h = tt
 for_told (Some t) P h = h t
 
 -- a line that asks a point is answered by what it comes to
-pub point-is : (s : PinnedState) (line : List ℕ) (number : ℕ) (reply : List ℕ) → (asked : List Field) × (command_in s.state.schema line ≡ Ok (Point asked)) × (reply ≡ pointed s.state number (cell_asked asked))
+pub point-is : (s : PinnedState) (line : List ℕ) (number : ℕ) (reply : List ℕ) → (asked : List Field) × (command_in s.state.schema line ≡ Ok (Ask (Point asked))) × (reply ≡ pointed s.state number (cell_asked asked))
     → (told : Told) → answer s told number line ≡ Some (keeps s reply)
 point-is s line number reply (asked, command, e) told = rw (command, e) refl
 
 -- a reply beside a state that stays
 pub kept : (s : PinnedState) (text reply : List ℕ) → reply ≡ text → Some (keeps s text) ≡ Some (record { state = s; reply = reply })
 kept s text reply e = rw e refl
+
+-- an answer to a query that runs out of memory may want it
+pub wants-all : {T E : Type 0} (r : Result T E) (query : Query) → OnErr r (query ≢ queries.Stats) → OnErr r (query_wants query ≡ true)
+wants-all (Ok x) query other = tt
+wants-all (Err e) query other = by query other
+  where
+    by : (query : Query) → query ≢ queries.Stats → query_wants query ≡ true
+    by queries.Stats other = absurd (other refl)
+    by query other = refl

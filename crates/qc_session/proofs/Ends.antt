@@ -9,7 +9,10 @@ use Rattle.qc_session.specs.Forms.{FileNames}
 use Rattle.qc_session.specs.Lines.{lines_of, script_lines, without_cr}
 use Rattle.qc_session.specs.Reading.{FilesStay}
 use Rattle.qc_session.specs.Runs.{AreSkipped, BrokenOff, CannotRead, CannotWrite, Cause, IsScriptOf, IsStartOf, LongSnapshot, NoSchema, NoSnapshot, NotBegun, OutOfMemory, StoppedAt, StoppedWriting, TooLong, Usage, WroteAll, state_in, status_of}
+use Rattle.qc_session.specs.Session.{IfStop}
 use Rattle.qc_session.specs.declared.scripts.Outcome.{Outcome}
+use Rattle.qc_session.specs.declared.session.Stop.{Stop}
+use Rattle.qc_session.specs.declared.session.Stop.TheVariants as stops
 use Rattle.qc_session.proofs.Ended.{all-ended, broken-ended, finished-run, read-ended, refusal-run, rose-later, skipped-run}
 use Rattle.qc_session.proofs.Refusals.{begun-refusal, begun-refused, begun-status, begun-unread, unread-line}
 
@@ -120,7 +123,7 @@ module _ {start : State} {script : List ℕ} {files : FilesOver} {out err : Sink
         by = by-end is (all-ended files.told start start2 skipped o.skipped.items (script_lines script) (map without_cr (lines_of bare)) (Some end) (state_in o.end) out.taken_before out.taken_after start_is k l e wrote, silent);
       }
 
-  pub script-unread : (name : List ℕ) (start2 : State) (bare skipped : List ℕ) (cause : Cause) → bare ≡ without_mark script → start2 ≡ start → o.status ≡ 3 → o.skipped.items ≡ skipped
+  script-unread : (name : List ℕ) (start2 : State) (bare skipped : List ℕ) (cause : Cause) → bare ≡ without_mark script → start2 ≡ start → o.status ≡ 3 → o.skipped.items ≡ skipped
       → AreSkipped (map without_cr (lines_of bare)) skipped → FilesFailed files
       → IfSome files.told (λ t. StoppedAt t (IsTrue files.steady) start2 skipped (map without_cr (lines_of bare)) name out.taken_before out.taken_after)
       → cause ≡ CannotRead name → Tells err cause → ScriptEnds start script files out err Silent o
@@ -134,7 +137,7 @@ module _ {start : State} {script : List ℕ} {files : FilesOver} {out err : Sink
         );
       }
 
-  pub script-broken : (start2 : State) (bare skipped : List ℕ) → bare ≡ without_mark script → start2 ≡ start → o.status ≡ 4 → o.skipped.items ≡ skipped
+  script-broken : (start2 : State) (bare skipped : List ℕ) → bare ≡ without_mark script → start2 ≡ start → o.status ≡ 4 → o.skipped.items ≡ skipped
       → AreSkipped (map without_cr (lines_of bare)) skipped → SinkFailed out
       → IfSome files.told (λ t. StoppedWriting t start2 skipped (map without_cr (lines_of bare)) out.taken_before out.taken_after)
       → Tells err CannotWrite → ScriptEnds start script files out err Silent o
@@ -148,6 +151,15 @@ module _ {start : State} {script : List ℕ} {files : FilesOver} {out err : Sink
           said,
         );
       }
+
+  pub script-stopped : (stop : Stop) (start2 : State) (bare skipped : List ℕ) → bare ≡ without_mark script → start2 ≡ start → o.skipped.items ≡ skipped → AreSkipped (map without_cr (lines_of bare)) skipped
+      → IfStop stop
+      (λ name. FilesFailed files × IfSome files.told (λ t. StoppedAt t (IsTrue files.steady) start2 skipped (map without_cr (lines_of bare)) name out.taken_before out.taken_after))
+      (SinkFailed out × IfSome files.told (λ t. StoppedWriting t start2 skipped (map without_cr (lines_of bare)) out.taken_before out.taken_after))
+      → IfStop stop (λ name. (o.status ≡ 3) × Tells err (CannotRead name)) ((o.status ≡ 4) × Tells err CannotWrite)
+      → ScriptEnds start script files out err Silent o
+  script-stopped (stops.Read name) start2 bare skipped bare_is start_is k are h said = script-unread name start2 bare skipped (CannotRead name) bare_is start_is said.0 k are h.0 h.1 refl said.1
+  script-stopped stops.Write start2 bare skipped bare_is start_is k are h said = script-broken start2 bare skipped bare_is start_is said.0 k are h.0 h.1 said.1
 
 none-skipped : (told : Option Told) (name ks : List ℕ) → ks ≡ [] → IfSome told (λ t. MatchOption (t name) (ks ≡ []) (λ script. AreSkipped (script_lines script) ks))
 none-skipped None name ks e = tt

@@ -11,23 +11,16 @@ use Rattle.query_script.specs.Faults.{LineFault}
 use Rattle.query_script.specs.Lines.{rest_of, stats_line, word_of}
 use Rattle.query_script.specs.Queries as queries
 use Rattle.query_script.specs.Queries.{Query}
-use Rattle.query_script.specs.Questions.{Apply, At, Load, Pin, Question, Stats, Try, Unpin, Widen, question_of}
+use Rattle.query_script.specs.Questions.{Apply, Ask, At, Load, Pin, Question, Try, Unpin, Widen}
 use Rattle.query_script.specs.Widens.{has_value, widen_in}
 use Rattle.qc_session.specs.Answers.{file_named, file_of}
 
 abbrev NamesNone : Result Question LineFault → Type 0
 NamesNone read = file_named read ≡ None
 
-of-query : (read : Result Query LineFault) → NamesNone (asked_with question_of read)
+of-query : (read : Result Query LineFault) → NamesNone (asked_with Ask read)
 of-query (Err fault) = refl
-of-query (Ok (queries.Point fields)) = refl
-of-query (Ok (queries.Range fields)) = refl
-of-query (Ok (queries.Bounds fields)) = refl
-of-query (Ok (queries.Iceberg kind bound value)) = refl
-of-query (Ok queries.Stats) = refl
-of-query (Ok (queries.Parents fields)) = refl
-of-query (Ok (queries.Children fields)) = refl
-of-query (Ok (queries.Rollup kind bound value fields)) = refl
+of-query (Ok query) = refl
 
 of-pin : (read : Result Text LineFault) → NamesNone (asked_with Pin read)
 of-pin (Err fault) = refl
@@ -71,7 +64,7 @@ named-same layout word rest =
     by : (load apply tried widen pin unpin at : Bool)
         → file_named (cond load (asked_with Load (name_in rest)) (cond apply (asked_with Apply (name_in rest)) (cond tried (asked_with Try (name_in rest))
         (cond widen (widen_in layout rest) (cond pin (asked_with Pin (pin_name_in rest)) (cond unpin (asked_with Unpin (pin_name_in rest))
-        (cond at (at_in layout rest) (asked_with question_of (query_named layout word rest)))))))))
+        (cond at (at_in layout rest) (asked_with Ask (query_named layout word rest)))))))))
         ≡ cond load (file_named (asked_with Load (name_in rest))) (cond apply (file_named (asked_with Apply (name_in rest))) (cond tried (file_named (asked_with Try (name_in rest))) None))
     by true apply tried widen pin unpin at = refl
     by false true tried widen pin unpin at = refl
@@ -89,7 +82,7 @@ line_names line = cond (is_utf8 line) (cond (bytes_eq line stats_line) None (nam
 line-same : (layout : Layout) (line : List ℕ) → file_of layout line ≡ line_names line
 line-same layout line = by (is_utf8 line) (bytes_eq line stats_line)
   where
-    by : (text stats : Bool) → file_named (cond text (cond stats (Ok Stats) (command_named layout (word_of line) (rest_of line))) (Err faults.Utf8))
+    by : (text stats : Bool) → file_named (cond text (cond stats (Ok (Ask queries.Stats)) (command_named layout (word_of line) (rest_of line))) (Err faults.Utf8))
         ≡ cond text (cond stats None (named_by (word_of line) (rest_of line))) None
     by true true = refl
     by true false = named-same layout (word_of line) (rest_of line)

@@ -1,5 +1,6 @@
 -- How the parts of a run for a snapshot end it.
 use Rattle.std.proofs.Common.{◌≡◌, ◌∙◌, ℕ, Bool, List, [], map, Option, Some, None, IfSome, IsTrue, refl, sym, subst}
+use Rattle.std.specs.Prelude.{⊤}
 use Rattle.qc_io.specs.Outside.{Cursor, Told}
 use Rattle.warehouse.specs.State.{State}
 use Rattle.text_lines.specs.Lines.{without_mark}
@@ -8,6 +9,9 @@ use Rattle.qc_session.specs.Forms.{FileNames}
 use Rattle.qc_session.specs.Lines.{lines_of, script_lines, without_cr}
 use Rattle.qc_session.specs.Reading.{FilesStay}
 use Rattle.qc_session.specs.Runs.{CannotRead, Cause, IsScriptOf, IsStartOf, NotBegun, OutOfMemory, StoppedAt, WroteAll, state_in, status_of}
+use Rattle.qc_session.specs.Quiet.{IfQuietStop}
+use Rattle.qc_session.specs.declared.quiet.QuietStop.{QuietStop}
+use Rattle.qc_session.specs.declared.quiet.QuietStop.TheVariants as stops
 use Rattle.qc_session.specs.declared.scripts.Outcome.{Outcome}
 use Rattle.qc_session.proofs.Ended.{read-ended, rose-later}
 use Rattle.qc_session.proofs.Ends.{bare-lines, by-file, by-memory, memory-only, no-end, no-write}
@@ -36,7 +40,7 @@ module _ {start : State} {script : List ℕ} {files : FilesOver} {out err : Sink
         };
       }
 
-  pub pack-unread : (name : List ℕ) (start2 : State) (bare : List ℕ) (cause : Cause) → bare ≡ without_mark script → start2 ≡ start → TookNothing out → o.status ≡ 3 → o.skipped.items ≡ [] → FilesFailed files
+  pack-unread : (name : List ℕ) (start2 : State) (bare : List ℕ) (cause : Cause) → bare ≡ without_mark script → start2 ≡ start → TookNothing out → o.status ≡ 3 → o.skipped.items ≡ [] → FilesFailed files
       → IfSome files.told (λ t. StoppedAt t (IsTrue files.steady) start2 [] (map without_cr (lines_of bare)) name None None)
       → cause ≡ CannotRead name → Tells err cause → PackScriptEnds start script files out err Silent o
   pack-unread name start2 bare cause bare_is start_is nothing is none failed stopped cause_is said = record {
@@ -47,6 +51,13 @@ module _ {start : State} {script : List ℕ} {files : FilesOver} {out err : Sink
       read-ended name files.told (IsTrue files.steady) _ start start2 [] [] (script_lines script) (map without_cr (lines_of bare)) cause None None err.taken_before err.taken_after start_is refl (bare-lines script bare bare_is) cause_is stopped said,
     );
   }
+
+  pub pack-stopped : (stop : QuietStop) (start2 : State) (bare : List ℕ) → bare ≡ without_mark script → start2 ≡ start → TookNothing out → o.skipped.items ≡ []
+      → IfQuietStop stop (λ name. FilesFailed files × IfSome files.told (λ t. StoppedAt t (IsTrue files.steady) start2 [] (map without_cr (lines_of bare)) name None None)) ⊤
+      → IfQuietStop stop (λ name. (o.status ≡ 3) × Tells err (CannotRead name)) ((o.status ≡ 5) × Tells err OutOfMemory)
+      → PackScriptEnds start script files out err Silent o
+  pack-stopped (stops.Read name) start2 bare bare_is start_is nothing none h said = pack-unread name start2 bare (CannotRead name) bare_is start_is nothing said.0 none h.0 h.1 refl said.1
+  pack-stopped stops.Memory start2 bare bare_is start_is nothing none h said = pack-memory nothing said.0 none said.1
 
 module _ {names : FileNames} {told : Option Told} {steady : Bool} {first last : ℕ} {cursor cursor2 : Option Cursor} {Silent : Type 0} {o : Outcome} where
   pub pack-unbegun : {faults faults2 : ℕ} {bytes : Option (List ℕ)} {err : SinkOver} (cause : Cause)

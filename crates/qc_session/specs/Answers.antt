@@ -7,7 +7,6 @@ use Rattle.qc_schema.specs.Schema.{Layout}
 use Rattle.query_answers.specs.Queries.{query_reply}
 use Rattle.query_script.specs.Commands.{command_in}
 use Rattle.query_script.specs.Faults.{LineFault}
-use Rattle.query_script.specs.Queries as queries
 use Rattle.query_script.specs.Questions as asks
 use Rattle.query_script.specs.Questions.{Question}
 use Rattle.warehouse.specs.Batch.{Applied, FileUse, Load, Apply, Refusal, result}
@@ -66,14 +65,7 @@ answer_to s told line (Ok (asks.Widen name value)) = Some (widen_with s s.pins l
 answer_to s told line (Ok (asks.Pin name)) = Some (pin_answer s line name)
 answer_to s told line (Ok (asks.Unpin name)) = Some (unpin_answer s line name)
 answer_to s told line (Ok (asks.At name query)) = Some (keeps s (at_reply s line name query))
-answer_to s told line (Ok (asks.Point asked)) = Some (keeps s (query_reply s.state line (queries.Point asked)))
-answer_to s told line (Ok (asks.Range asked)) = Some (keeps s (query_reply s.state line (queries.Range asked)))
-answer_to s told line (Ok (asks.Bounds asked)) = Some (keeps s (query_reply s.state line (queries.Bounds asked)))
-answer_to s told line (Ok (asks.Iceberg kind bound value)) = Some (keeps s (query_reply s.state line (queries.Iceberg kind bound value)))
-answer_to s told line (Ok (asks.Parents asked)) = Some (keeps s (query_reply s.state line (queries.Parents asked)))
-answer_to s told line (Ok (asks.Children asked)) = Some (keeps s (query_reply s.state line (queries.Children asked)))
-answer_to s told line (Ok (asks.Rollup kind bound value asked)) = Some (keeps s (query_reply s.state line (queries.Rollup kind bound value asked)))
-answer_to s told line (Ok asks.Stats) = Some (keeps s (query_reply s.state line queries.Stats))
+answer_to s told line (Ok (asks.Ask query)) = Some (keeps s (query_reply s.state line query))
 
 -- the answer to a line, which is read with the schema of the state before it
 abbrev pub answer : PinnedState → Told → ℕ → List ℕ → Option PinnedAnswer
@@ -89,14 +81,7 @@ file_named (Ok (asks.Widen name value)) = None
 file_named (Ok (asks.Pin name)) = None
 file_named (Ok (asks.Unpin name)) = None
 file_named (Ok (asks.At name query)) = None
-file_named (Ok (asks.Point asked)) = None
-file_named (Ok (asks.Range asked)) = None
-file_named (Ok (asks.Bounds asked)) = None
-file_named (Ok (asks.Iceberg kind bound value)) = None
-file_named (Ok (asks.Parents asked)) = None
-file_named (Ok (asks.Children asked)) = None
-file_named (Ok (asks.Rollup kind bound value asked)) = None
-file_named (Ok asks.Stats) = None
+file_named (Ok (asks.Ask query)) = None
 
 -- the file that a line names, over a schema
 abbrev pub file_of : Layout → List ℕ → Option Text

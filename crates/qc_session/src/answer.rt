@@ -1,5 +1,5 @@
 // The answer to one line.
-ghost use Rattle.std.specs.Prelude.{Err, IfErr, IfOk, IfSome, IsTrue, None, Ok, OnErr, OnOk, Some, length, option_map, true, ⊤, ◌≡◌, ◌≤◌};
+ghost use Rattle.std.specs.Prelude.{Err, IfErr, IfOk, IfSome, IsTrue, None, Ok, OnErr, OnOk, Some, length, option_map, true, ⊤, ◌≡◌, ◌≢◌, ◌≤◌};
 ghost use Rattle.qc_io.specs.Outside.{Rose, Told};
 ghost use Rattle.query_script.specs.Commands.{IsQuestion, wants_memory};
 ghost use Rattle.query_script.specs.Lines.{may_want_memory};
@@ -11,6 +11,7 @@ ghost use Rattle.qc_session.specs.Answers.{answer, answer_to, beside, changed, f
 ghost use Rattle.qc_session.specs.Pins.{held_in};
 ghost use Rattle.query_answers.specs.Queries.{query_reply};
 ghost use Rattle.query_script.specs.Commands.{IsQuery};
+ghost use Rattle.query_script.specs.Queries as queries;
 ghost use Rattle.query_script.specs.Queries.{query_in};
 
 use self::FileUse::{Apply, Load, Try};
@@ -23,7 +24,7 @@ use qc_io::{Files, ReadRefused, read_all};
 use query_answers::answer_now;
 use query_script::{Command, Query, read_line};
 use reply_text::{
-    Reply, ShortReply, applied, refused, stats, words_of_file, words_of_line, words_of_size,
+    Reply, ShortReply, applied, refused, words_of_file, words_of_line, words_of_size,
 };
 use std::alloc::{AllocError, Global};
 use std::sync::ledger::Ledger;
@@ -173,7 +174,8 @@ fn ask<L: Ledger>(
     steps: &mut Steps<L>,
 ) -> Result<Reply, Memory>
     requires { IsQuery pinned.now.now.state.schema (query_in query) }
-    ensures { IfOk result (λ reply. reply_bytes reply ≡ query_reply pinned.now.now.state number (query_in query)) }
+    ensures reply { IfOk result (λ reply. reply_bytes reply ≡ query_reply pinned.now.now.state number (query_in query)) }
+    ensures memory { OnErr result (query_in query ≢ queries.Stats) }
 {
     answer_now(alloc, pinned.now(), number, &query, steps)
 }
@@ -198,20 +200,7 @@ fn answer_held<L: Ledger>(
         Command::Pin(name) => Ok(Reply::Short(answer_pin(pinned, number, &name))),
         Command::Unpin(name) => Ok(Reply::Short(answer_unpin(pinned, number, &name))),
         Command::At(name, query) => answer_at(alloc, pinned, number, &name, query, steps),
-        Command::Point(asked) => ask(alloc, pinned, number, Query::Point(asked), steps),
-        Command::Range(asked) => ask(alloc, pinned, number, Query::Range(asked), steps),
-        Command::Bounds(asked) => ask(alloc, pinned, number, Query::Bounds(asked), steps),
-        Command::Iceberg(kind, bound, value) => {
-            let query = Query::Iceberg(kind, bound, value);
-            ask(alloc, pinned, number, query, steps)
-        }
-        Command::Parents(asked) => ask(alloc, pinned, number, Query::Parents(asked), steps),
-        Command::Children(asked) => ask(alloc, pinned, number, Query::Children(asked), steps),
-        Command::Rollup(kind, bound, value, asked) => {
-            let query = Query::Rollup(kind, bound, value, asked);
-            ask(alloc, pinned, number, query, steps)
-        }
-        Command::Stats => Ok(Reply::Short(stats(number, pinned.now().stats()))),
+        Command::Ask(query) => ask(alloc, pinned, number, query, steps),
         Command::Load(_) | Command::Apply(_) | Command::Try(_) => unreachable!(),
     }
 }

@@ -14,6 +14,7 @@ use reply_text::{
     words_of_not_pinned,
 };
 use std::alloc::{AllocError, Global};
+use std::mem;
 use std::sync::ledger::Ledger;
 
 /// Pins the present rows under a name, and makes the reply to its line. Takes no memory.
@@ -70,7 +71,8 @@ pub fn answer_at<L: Ledger>(
         &query,
         steps,
     );
-    drop(index);
+    // An index of no kinds holds no memory, so nothing has to be freed.
+    mem::forget(index);
     drop(query);
     reply
 }

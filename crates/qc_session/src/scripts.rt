@@ -50,8 +50,10 @@ impl Outcome {
 
 ghost use Rattle.qc_session.specs.Ends.{GenEnds, HandsBack, PackEnds, PackScriptEnds, RunEnds, ScriptEnds, SnapshotEnds, files_over, sink_over};
 ghost use Rattle.qc_session.specs.Failures.{cause_of};
+ghost use Rattle.qc_session.specs.Quiet.{IfQuietStop};
 ghost use Rattle.qc_session.specs.Ran.{Ran};
 ghost use Rattle.qc_session.specs.Reading.{FilesStay};
+ghost use Rattle.qc_session.specs.Session.{IfStop};
 ghost use Rattle.qc_session.specs.Words.{names_in, source_in};
 
 // Ends a run before its first line.
@@ -233,6 +235,26 @@ fn stopped(status: u8, session: Session) -> Outcome
     }
 }
 
+// Ends a run before the end of its script, and reports why.
+fn broken_off<E: Sink>(err: &mut E, stop: Stop, session: Session) -> Outcome
+    ensures skipped { result.skipped.items ≡ session.skipped.items }
+    ensures ends { IfStop stop
+        (λ name. (result.status ≡ 3) × Said (Rose (E.faults err.old) (E.faults err.new)) (CannotRead name) (E.taken err.old) (E.taken err.new))
+        ((result.status ≡ 4) × Said (Rose (E.faults err.old) (E.faults err.new)) CannotWrite (E.taken err.old) (E.taken err.new)) }
+    ensures hands { HandsBack result }
+{
+    match stop {
+        Stop::Read(name) => {
+            tell(err, &Failure::CannotRead(name.as_str()));
+            stopped(3, session)
+        }
+        Stop::Write => {
+            tell(err, &Failure::CannotWrite);
+            stopped(4, session)
+        }
+    }
+}
+
 // Carries out the lines of a script from a state on, with one count of steps under the blank's
 // name.
 fn run_script<F: Files, O: Sink, E: Sink, L: Ledger>(
@@ -262,14 +284,7 @@ fn run_script<F: Files, O: Sink, E: Sink, L: Ledger>(
     let mut steps = Steps::<L>::start(blank);
     match take_lines(alloc, files, out, &mut session, script, &mut steps) {
         Ok(()) => finished(session),
-        Err(Stop::Read(name)) => {
-            tell(err, &Failure::CannotRead(name.as_str()));
-            stopped(3, session)
-        }
-        Err(Stop::Write) => {
-            tell(err, &Failure::CannotWrite);
-            stopped(4, session)
-        }
+        Err(stop) => broken_off(err, stop, session),
     }
 }
 
@@ -355,6 +370,20 @@ fn packed<O: Sink, E: Sink>(
     }
 }
 
+// Ends a run of `pack` before the end of its script, and reports why.
+fn unpacked<E: Sink>(alloc: Global, err: &mut E, stop: QuietStop) -> Outcome
+    ensures skipped { result.skipped.items ≡ [] }
+    ensures ends { IfQuietStop stop
+        (λ name. (result.status ≡ 3) × Said (Rose (E.faults err.old) (E.faults err.new)) (CannotRead name) (E.taken err.old) (E.taken err.new))
+        ((result.status ≡ 5) × Said (Rose (E.faults err.old) (E.faults err.new)) OutOfMemory (E.taken err.old) (E.taken err.new)) }
+    ensures hands { HandsBack result }
+{
+    match stop {
+        QuietStop::Read(name) => fail(alloc, err, &Failure::CannotRead(name.as_str())),
+        QuietStop::Memory => fail(alloc, err, &Failure::OutOfMemory),
+    }
+}
+
 // Carries out the lines of a script from a state on without their replies, and writes the snapshot
 // of the state after them. The count of steps has the blank's name.
 fn pack_script<F: Files, O: Sink, E: Sink, L: Ledger>(
@@ -384,13 +413,9 @@ fn pack_script<F: Files, O: Sink, E: Sink, L: Ledger>(
     let mut steps = Steps::<L>::start(blank);
     match take_quietly(alloc, files, &mut session, script, &mut steps) {
         Ok(()) => packed(alloc, out, err, session.pinned.finish()),
-        Err(QuietStop::Read(name)) => {
+        Err(stop) => {
             session.discard();
-            fail(alloc, err, &Failure::CannotRead(name.as_str()))
-        }
-        Err(QuietStop::Memory) => {
-            session.discard();
-            fail(alloc, err, &Failure::OutOfMemory)
+            unpacked(alloc, err, stop)
         }
     }
 }

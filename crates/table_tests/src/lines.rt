@@ -1,7 +1,7 @@
 // Lines that no script has: one of no bytes, and one with an LF in it.
 
 use qc_schema::read_schema;
-use query_script::{Command, LineRefused, read_line};
+use query_script::{Command, LineRefused, Query, read_line};
 use std::alloc::Global;
 
 const SHOP: &[u8] = b"qcube 1\nid order\ndim store\ndim product\ndim season\n";
@@ -9,7 +9,7 @@ const SHOP: &[u8] = b"qcube 1\nid order\ndim store\ndim product\ndim season\n";
 // How many fields a command asks for as a point, and none where it is another.
 fn fields_of(command: Command) -> u32 {
     let fields = match &command {
-        Command::Point(fields) => fields.len(),
+        Command::Ask(Query::Point(fields)) => fields.len(),
         _ => 0,
     };
     drop(command);

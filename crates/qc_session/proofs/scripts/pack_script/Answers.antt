@@ -1,9 +1,8 @@
 use Rattle.std.proofs.Common.{◌∙◌, ap, refl}
 use Rattle.text_lines.specs.Lines.{without_mark}
 use Rattle.warehouse.specs.State.{Contents}
-use Rattle.qc_session.specs.Runs.{CannotRead}
 use Rattle.qc_session.proofs.BareScripts.{bare-few, bare-short}
-use Rattle.qc_session.proofs.PackEnds.{pack-led, pack-memory, pack-unread}
+use Rattle.qc_session.proofs.PackEnds.{pack-led, pack-memory, pack-stopped}
 use Rattle.qc_session.proofs.scripts.pack_script.Goals as goal
 
 pub take_quietly-requires-clause-few : goal.take_quietly-requires-clause-few
@@ -19,11 +18,6 @@ pub returns-in-Ok-take_quietly-clause-ends : goal.returns-in-Ok-take_quietly-cla
 returns-in-Ok-take_quietly-clause-ends g c =
     pack-led _ _ _ _ (c.trim_mark-script.ensures ∙ ap without_mark c.deref.ensures.value) c.in-Ok.ensures.state (ap (λ (h : Contents). h.state) c.finish.ensures) c.in-Ok-take_quietly.ensures.by c.packed.ensures.ends
 
-pub returns-in-Err-Read-clause-ends : goal.returns-in-Err-Read-clause-ends
-returns-in-Err-Read-clause-ends g c =
-    let h = rw c.in-Err-Read.field-0-is at c.in-Err-Read.ensures.by in
-    pack-unread c.in-Err-Read.name _ _ _ (c.trim_mark-script.ensures ∙ ap without_mark c.deref.ensures.value) c.in-Ok.ensures.state refl c.fail-in-Err-Read.ensures.status c.fail-in-Err-Read.ensures.skipped
-    h.0 h.1 (ap CannotRead c.as_str.ensures.value) c.fail-in-Err-Read.ensures.said
-
 pub returns-clause-ends : goal.returns-clause-ends
-returns-clause-ends g c = pack-memory refl c.fail-in-Err-Memory.ensures.status c.fail-in-Err-Memory.ensures.skipped c.fail-in-Err-Memory.ensures.said
+returns-clause-ends g c =
+    pack-stopped c.in-Err.stop _ _ (c.trim_mark-script.ensures ∙ ap without_mark c.deref.ensures.value) c.in-Ok.ensures.state refl c.unpacked.ensures.skipped c.in-Err.ensures.by c.unpacked.ensures.ends

@@ -1,8 +1,7 @@
 use Rattle.std.proofs.Common.{◌∙◌, ap, refl}
 use Rattle.text_lines.specs.Lines.{without_mark}
-use Rattle.qc_session.specs.Runs.{CannotRead}
 use Rattle.qc_session.proofs.BareScripts.{bare-few, bare-short}
-use Rattle.qc_session.proofs.Ends.{script-broken, script-unbegun, script-unread, script-whole}
+use Rattle.qc_session.proofs.Ends.{script-stopped, script-unbegun, script-whole}
 use Rattle.qc_session.proofs.scripts.run_script.Goals as goal
 
 pub take_lines-requires-clause-few : goal.take_lines-requires-clause-few
@@ -19,14 +18,6 @@ returns-in-Ok-take_lines-clause-ends g c =
     script-whole _ _ _ _ (c.trim_mark-script.ensures ∙ ap without_mark c.deref.ensures.value) c.in-Ok.ensures.state c.finished.ensures.status c.finished.ensures.skipped c.finished.ensures.end
     c.in-Ok-take_lines.ensures.skipped c.in-Ok-take_lines.ensures.by refl
 
-pub returns-in-Err-Read-clause-ends : goal.returns-in-Err-Read-clause-ends
-returns-in-Err-Read-clause-ends g c =
-    let h = rw c.in-Err-Read.field-0-is at c.in-Err-Read.ensures.by in
-    script-unread c.in-Err-Read.name _ _ _ _ (c.trim_mark-script.ensures ∙ ap without_mark c.deref.ensures.value) c.in-Ok.ensures.state c.stopped.ensures.status c.stopped.ensures.skipped
-    c.in-Err-Read.ensures.skipped h.0 h.1 (ap CannotRead c.as_str.ensures.value) c.tell.ensures.said
-
 pub returns-clause-ends : goal.returns-clause-ends
 returns-clause-ends g c =
-    let h = rw c.in-Err-Write.field-0-is at c.in-Err-Write.ensures.by in
-    script-broken _ _ _ (c.trim_mark-script.ensures ∙ ap without_mark c.deref.ensures.value) c.in-Ok.ensures.state c.stopped-in-Err-Write.ensures.status c.stopped-in-Err-Write.ensures.skipped
-    c.in-Err-Write.ensures.skipped h.0 h.1 c.tell-in-Err-Write.ensures.said
+    script-stopped c.in-Err.stop _ _ _ (c.trim_mark-script.ensures ∙ ap without_mark c.deref.ensures.value) c.in-Ok.ensures.state c.broken_off.ensures.skipped c.in-Err.ensures.skipped c.in-Err.ensures.by c.broken_off.ensures.ends
