@@ -14,10 +14,10 @@ of-requires c =
 pub classes-preserved : goal.classes-preserved
 classes-preserved c =
     zip_next (IsKey c.args.kind) c.args.classes.now c.classes.class-index c.class-item.result c.class-item.result c.classes.keys.items c.push.new.self.items _ c.classes-test.true c.class-item.is c.classes.invariant
-    c.in_ok-push.ensures.items c.of.ensures
+    c.in-Ok-push.ensures.items c.of.ensures
 
 pub returns : goal.returns
 returns c = subst (λ xs. AllZip (IsKey c.args.kind) xs c.classes.keys.items) (take_all c.args.classes.now c.classes.class-index (omega (arith, c.classes-test.false))) c.classes.invariant
 
 pub classes-init : goal.classes-init
-classes-init c = subst (AllZip (IsKey c.args.kind) []) (sym c.in_ok-keys.ensures.items) tt
+classes-init c = subst (AllZip (IsKey c.args.kind) []) (sym c.in-Ok.ensures.items) tt
