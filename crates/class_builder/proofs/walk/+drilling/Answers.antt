@@ -1,4 +1,4 @@
-use Rattle.std.proofs.Common.{◌≡◌, ◌<◌, ◌≤◌, ◌+◌, ◌++◌, [], ◌∷◌, ◌∙◌, Some, ap, ap₂, refl, sym, subst, arith, length, get_or, is_some, true, false, rules}
+use Rattle.std.proofs.Common.{◌≡◌, ◌<◌, ◌≤◌, ◌+◌, ◌++◌, [], ◌∷◌, ◌∙◌, Some, ap, ap₂, refl, sym, subst, arith, length, get_or, is_some, true, false, rules, None}
 use Rattle.std.specs.Prelude.{OnOk}
 use Rattle.std.proofs.Math.Numerals.{add-one-le}
 use Rattle.std.proofs.lemmas.Result.{on_ok_weaker}
@@ -14,6 +14,8 @@ use Rattle.cell_closure.proofs.Closing.{shared_there}
 use Rattle.build_trace.specs.Trace.{Act.{Mark}, acts_at, part_acts}
 use Rattle.build_acts.specs.Building.{PerformsActs}
 use Rattle.cell_core.specs.Entry.{IsCode}
+use Rattle.qc_arena.specs.Map.{Arena, frame}
+use Rattle.class_builder.specs.declared.noted.Fronts.{Fronts}
 use Rattle.class_builder.specs.Stands.{HasDone, StandsAt}
 use Rattle.class_builder.specs.Walk.{IsGroup, IsPart, acts_from, front_acts, node_on}
 use Rattle.build_trace.proofs.Fronts.{cell_front_all, cell_front_still}
@@ -260,3 +262,45 @@ drill_part-returns-in-Ok-clause-done g t c =
     subst (λ xs. HasDone c.args.group.now.table.now xs c.args.builder.now.arena.now c.link_part.new.builder.arena.now c.link_part.new.builder.fronts.now)
     (sym (part_old (acts_from c.args.group.now.table.now (c.args.dim + 1)) c.args.dim c.args.group.now.upper.now c.args.group.now.code (named c.args.group.now.table.now c.args.group.now.rows.now) (differs_behind c.in-Some.at c.args.dim _ c.args.group.now.upper.now c.in-Some.ensures.before c.in-Some.ensures.gains)))
     c.in-Ok.ensures.done
+
+pub drill_in-parts-init : goal.drill_in-parts-init
+drill_in-parts-init g t c = record {
+  whole = λ b f d. subst (λ (a : Arena). HasDone c.args.part.now.table.now (acts_at (acts_from c.args.part.now.table.now (c.args.dim + 1)) c.args.dim c.args.part.now.shared None (named c.args.part.now.table.now c.args.part.now.rows.now)) a b f) c.groups_of.ensures.arena d;
+  stands = subst (λ (a : Arena). StandsAt c.args.part.now.table.now c.args.part.now.shared c.args.dim (acts_at (acts_from c.args.part.now.table.now (c.args.dim + 1)) c.args.dim c.args.part.now.shared None (named c.args.part.now.table.now c.args.part.now.rows.now)) a c.args.path.now c.groups_of.new.builder.fronts.now) (sym c.groups_of.ensures.arena)
+      (subst (λ (f : Fronts). StandsAt c.args.part.now.table.now c.args.part.now.shared c.args.dim (acts_at (acts_from c.args.part.now.table.now (c.args.dim + 1)) c.args.dim c.args.part.now.shared None (named c.args.part.now.table.now c.args.part.now.rows.now)) c.args.builder.now.arena.now c.args.path.now f) (sym c.groups_of.ensures.fronts) c.requires.stands);
+  rest = ap frame c.groups_of.ensures.arena;
+  same = c.groups_of.ensures.same;
+}
+
+pub drill_part-first_new_value-requires : goal.drill_part-first_new_value-requires
+drill_part-first_new_value-requires g t c = record { under = c.requires.group.under; dim = c.requires.group.dim }
+
+pub drill_part-closure_of_part-requires : goal.drill_part-closure_of_part-requires
+drill_part-closure_of_part-requires g t c = record { under = c.requires.group.under; dim = c.requires.group.dim; value = ap is_some c.requires.group.value; front = c.in-None.ensures.none }
+
+pub drill_part-add_front-requires-clause-part : goal.drill_part-add_front-requires-clause-part
+drill_part-add_front-requires-clause-part g t c = record { table = c.requires.group.under.table; some = c.requires.group.under.some; few = c.requires.group.few; there = c.requires.group.under.there; shared = c.closure_of_part.ensures }
+
+pub drill_part-add_front-requires-clause-dim : goal.drill_part-add_front-requires-clause-dim
+drill_part-add_front-requires-clause-dim g t c = c.requires.group.dim
+
+pub drill_part-add_front-requires-clause-value : goal.drill_part-add_front-requires-clause-value
+drill_part-add_front-requires-clause-value g t c = ap (λ u. entry u c.args.dim) c.closure_of_part.ensures ∙ c.requires.group.value
+
+pub drill_part-add_front-requires-clause-small : goal.drill_part-add_front-requires-clause-small
+drill_part-add_front-requires-clause-small g t c = c.requires.group.small
+
+pub drill_part-link_part-requires-clause-group : goal.drill_part-link_part-requires-clause-group
+drill_part-link_part-requires-clause-group g t c = c.requires.group
+
+pub drill_part-link_part-requires-clause-at : goal.drill_part-link_part-requires-clause-at
+drill_part-link_part-requires-clause-at g t c = c.in-Some.ensures.before
+
+pub drill_part-link_part-requires-clause-front : goal.drill_part-link_part-requires-clause-front
+drill_part-link_part-requires-clause-front g t c = c.in-Some.ensures.front
+
+pub drill_part-link_part-requires-clause-gains : goal.drill_part-link_part-requires-clause-gains
+drill_part-link_part-requires-clause-gains g t c = c.in-Some.ensures.gains
+
+pub drill-total-agg-requires : goal.drill-total-agg-requires
+drill-total-agg-requires g t c = record { table = c.requires.part.table; some = c.requires.part.some; few = c.requires.part.few; there = c.requires.part.there }
