@@ -14,7 +14,6 @@ use reply_text::{
     words_of_not_pinned,
 };
 use std::alloc::{AllocError, Global};
-use std::mem;
 use std::sync::ledger::Ledger;
 
 /// Pins the present rows under a name, and makes the reply to its line. Takes no memory.
@@ -71,8 +70,7 @@ pub fn answer_at<L: Ledger>(
         &query,
         steps,
     );
-    // An index of no kinds holds no memory, so nothing has to be freed.
-    mem::forget(index);
+    drop(index);
     drop(query);
     reply
 }
