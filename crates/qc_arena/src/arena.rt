@@ -197,8 +197,10 @@ impl QcArena {
         if self.images.has(node.0) {
             return Ok(());
         }
-        let image = copy_at(&self.nodes, &self.parts, node.0)?;
-        self.images.add_was(node.0, image)
+        match copy_at(&self.nodes, &self.parts, node.0) {
+            Ok(image) => self.images.add_was(node.0, image),
+            Err(error) => Err(error),
+        }
     }
 
     /// Makes room for so many more edges of a node, so that its list need not grow step by step.
@@ -292,9 +294,13 @@ impl QcArena {
         if !self.has(node) {
             return Ok(());
         }
-        self.touch(node, steps)?;
-        self.kill(node, steps);
-        Ok(())
+        match self.touch(node, steps) {
+            Ok(()) => {
+                self.kill(node, steps);
+                Ok(())
+            }
+            Err(error) => Err(error),
+        }
     }
 
     /// Removes all nodes. If memory runs out, some of them are already removed.

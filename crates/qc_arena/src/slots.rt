@@ -145,7 +145,10 @@ fn reserve_slot(nodes: &mut Slab<Place>) -> Result<u32, Memory>
     ensures room { OnOk result (slots.HasRoomFor nodes.new 1) }
     ensures slots { nodes.new.slots ≡ nodes.old.slots }
 {
-    nodes.reserve(1)?;
+    match nodes.reserve(1) {
+        Ok(()) => {}
+        Err(error) => return Err(error),
+    }
     let key = nodes.vacant_key();
     if key >= 4_000_000_000 {
         return Err(AllocError);
@@ -160,6 +163,37 @@ fn fill_slot(nodes: &mut Slab<Place>, new: NodeRecord)
     ensures others { (q : ℕ) → q ≢ nodes.old.vacant_key → slots.get nodes.new q ≡ slots.get nodes.old q }
 {
     nodes.insert_reserved(Place::of(new));
+}
+
+// Makes room for a node, and marks its number as new.
+fn reserve_node(
+    nodes: &mut Slab<Place>,
+    parts: &mut Parts,
+    images: &mut Touched,
+) -> Result<u32, Memory>
+    requires { (q : ℕ) → IsSome (image_at images.old q) → slots.ContainsKey nodes.old q }
+    ensures parts { (q : ℕ) → shown parts.new q ≡ shown parts.old q }
+    ensures room { (q : ℕ) → HasRoom parts.old q → HasRoom parts.new q }
+    ensures room_here { IfOk result (λ k. HasRoom parts.new k) }
+    ensures number { IfOk result (λ k. k ≡ nodes.new.vacant_key) }
+    ensures free { IfOk result (λ k. slots.get nodes.old k ≡ None) }
+    ensures slot { OnOk result (slots.HasRoomFor nodes.new 1) }
+    ensures slots { nodes.new.slots ≡ nodes.old.slots }
+    ensures images { IfOk result (λ k. (q : ℕ) → image_at images.new q ≡ (if nat_eq k q then Some None else image_at images.old q)) }
+    ensures err_images { OnErr result (images.new ≡ images.old) }
+{
+    let node = match reserve_slot(nodes) {
+        Ok(node) => node,
+        Err(error) => return Err(error),
+    };
+    match parts.reserve(node) {
+        Ok(()) => {}
+        Err(error) => return Err(error),
+    }
+    match images.add_new(node) {
+        Ok(()) => Ok(node),
+        Err(error) => Err(error),
+    }
 }
 
 // Puts a new record at a free number, and marks it as new.
@@ -180,11 +214,16 @@ pub(crate) fn add_record(
     ensures err_nodes { OnErr result (nodes.new.slots ≡ nodes.old.slots) }
     ensures err_images { OnErr result (images.new ≡ images.old) }
 {
-    let node = reserve_slot(nodes)?;
-    parts.reserve(node)?;
-    images.add_new(node)?;
-    fill_slot(nodes, new);
-    Ok(node)
+    match reserve_node(nodes, parts, images) {
+        Ok(node) => {
+            fill_slot(nodes, new);
+            Ok(node)
+        }
+        Err(error) => {
+            drop(new);
+            Err(error)
+        }
+    }
 }
 
 // The record of a node.
@@ -275,8 +314,10 @@ pub(crate) fn copy_at(nodes: &Slab<Place>, parts: &Parts, node: u32) -> Result<R
     requires parts { IfSome (record_or (join (slots.get nodes.now node))).class (λ a. IsShown (shown parts.now node) a) }
     ensures { IfOk result (λ w. join (slots.get nodes.now node) ≡ Some w) }
 {
-    let record = record_of(nodes, node).copy()?;
-    Ok(Record::new(record, parts.at(node)))
+    match record_of(nodes, node).copy() {
+        Ok(record) => Ok(Record::new(record, parts.at(node))),
+        Err(error) => Err(error),
+    }
 }
 
 // Sets an edge of a node. Gives the number of edges before and after.
