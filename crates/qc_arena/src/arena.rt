@@ -145,7 +145,9 @@ impl QcArena {
     {
         match under {
             None => NodeRecord::root(self.images.allocator(), self.dims),
-            Some((node, dim, code)) => record_of(&self.nodes, node.0).child(node, dim, code),
+            Some((node, dim, code)) => record_of(&self.nodes, node.0 as usize).child(
+                node, dim, code,
+            ),
         }
     }
 
@@ -347,7 +349,7 @@ impl QcArena {
         ensures steps { steps.new ≡ steps.old + 1 }
     {
         steps.tick();
-        let had = record_of(&self.nodes, node.0).is_class();
+        let had = record_of(&self.nodes, node.0 as usize).is_class();
         self.parts.put_class(node.0, &class);
         set_class_at(&mut self.nodes, node.0, class);
         self.kept = self.kept.with_class(had, class.is_some());
@@ -500,7 +502,7 @@ impl QcArena {
         requires { IsSome (map.get self.now.now node.0) }
         ensures { result.now.node ≡ record_at self.now.now node.0 }
     {
-        record_of(&self.nodes, node.0)
+        record_of(&self.nodes, node.0 as usize)
     }
 }
 

@@ -156,15 +156,6 @@ fn reserve_slot(nodes: &mut Slab<Place>) -> Result<u32, Memory>
     Ok(key as u32)
 }
 
-// Puts a record at the next free number.
-fn fill_slot(nodes: &mut Slab<Place>, new: NodeRecord)
-    requires { slots.HasRoomFor nodes.old 1 }
-    ensures here { slots.get nodes.new nodes.old.vacant_key ≡ Some (Some new.node) }
-    ensures others { (q : ℕ) → q ≢ nodes.old.vacant_key → slots.get nodes.new q ≡ slots.get nodes.old q }
-{
-    nodes.insert_reserved(Place::of(new));
-}
-
 // Makes room for a node, and marks its number as new.
 fn reserve_node(
     nodes: &mut Slab<Place>,
@@ -216,7 +207,7 @@ pub(crate) fn add_record(
 {
     match reserve_node(nodes, parts, images) {
         Ok(node) => {
-            fill_slot(nodes, new);
+            nodes.insert_reserved(Place::of(new));
             Ok(node)
         }
         Err(error) => {
@@ -227,22 +218,11 @@ pub(crate) fn add_record(
 }
 
 // The record of a node.
-pub(crate) fn record_of(nodes: &Slab<Place>, node: u32) -> &NodeRecord
+pub(crate) fn record_of(nodes: &Slab<Place>, node: usize) -> &NodeRecord
     requires { IsSome (join (slots.get nodes.now node)) }
     ensures { join (slots.get nodes.now node) ≡ Some result.now.node }
 {
-    match nodes.get(node as usize) {
-        Some(place) => place.standing(),
-        None => unreachable!(),
-    }
-}
-
-// The record at a place that has one.
-fn record_at(nodes: &Slab<Place>, place: usize) -> &NodeRecord
-    requires { IsSome (join (slots.get nodes.now place)) }
-    ensures { join (slots.get nodes.now place) ≡ Some result.now.node }
-{
-    match nodes.get(place) {
+    match nodes.get(node) {
         Some(place) => place.standing(),
         None => unreachable!(),
     }
@@ -260,8 +240,8 @@ fn same_cell(nodes: &Slab<Place>, node: usize, other: usize) -> bool
     let mut left = node;
     let mut right = other;
     'up: while left != right {
-        let first = record_at(nodes, left);
-        let second = record_at(nodes, right);
+        let first = record_of(nodes, left);
+        let second = record_of(nodes, right);
         if !first.shares_end(second) {
             return false;
         }
@@ -286,7 +266,7 @@ pub(crate) fn is_child(nodes: &Slab<Place>, node: usize, target: u32) -> bool
     requires rooted { IsRooted nodes.now }
     ensures { result ≡ is_under nat_cmp (record_or (join (slots.get nodes.now node))).cell (Some (record_or (join (slots.get nodes.now target))).cell) }
 {
-    match record_of(nodes, target).parent() {
+    match record_of(nodes, target as usize).parent() {
         None => false,
         Some(parent) => same_cell(nodes, parent.0 as usize, node),
     }
@@ -298,7 +278,7 @@ pub(crate) fn class_at(nodes: &Slab<Place>, parts: &Parts, node: u32) -> Option<
     requires parts { IfSome (record_or (join (slots.get nodes.now node))).class (λ a. IsShown (shown parts.now node) a) }
     ensures { option_map agg_in result ≡ (record_or (join (slots.get nodes.now node))).class }
 {
-    match record_of(nodes, node).heading() {
+    match record_of(nodes, node as usize).heading() {
         None => None,
         Some((count, measures)) => Some(Agg {
             count,
@@ -314,7 +294,7 @@ pub(crate) fn copy_at(nodes: &Slab<Place>, parts: &Parts, node: u32) -> Result<R
     requires parts { IfSome (record_or (join (slots.get nodes.now node))).class (λ a. IsShown (shown parts.now node) a) }
     ensures { IfOk result (λ w. join (slots.get nodes.now node) ≡ Some w) }
 {
-    match record_of(nodes, node).copy() {
+    match record_of(nodes, node as usize).copy() {
         Ok(record) => Ok(Record::new(record, parts.at(node))),
         Err(error) => Err(error),
     }
