@@ -1,4 +1,4 @@
-use Rattle.std.proofs.Common.{Option, ap, subst, sym, ◌∙◌}
+use Rattle.std.proofs.Common.{Option, subst, sym}
 use Rattle.std.specs.Prelude.{IsSome}
 use Rattle.qc_arena.specs.Map.{Known}
 use Rattle.qc_arena.proofs.Written.{written_others, written_same}
