@@ -11,7 +11,7 @@ use aggregates::{Ratio, value_of};
 use cell_core::{Cell, NodeNo, Steps};
 use lower_bounds::{Class, lower_bounds};
 use qc_arena::Nodes;
-use std::alloc::Global;
+use std::alloc::{AllocError, Global};
 use std::sync::ledger::Ledger;
 use tree_search::upper_into;
 
@@ -42,15 +42,17 @@ fn value_at<T: Nodes, L: Ledger>(
     let mut upper = Cell::any(alloc, tree.dims());
     upper_into(tree, node, &mut upper, steps);
     let total = tree.class(node, steps).unwrap();
-    let lowers = lower_bounds(alloc, tree, node, steps)?;
-    Ok(Valued {
-        value: value_of(&total, ask.kind, ask.scale),
-        class: Class {
-            upper,
-            total,
-            lowers,
-        },
-    })
+    match lower_bounds(alloc, tree, node, steps) {
+        Ok(lowers) => Ok(Valued {
+            value: value_of(&total, ask.kind, ask.scale),
+            class: Class {
+                upper,
+                total,
+                lowers,
+            },
+        }),
+        Err(error) => Err(error),
+    }
 }
 
 /// The classes of some nodes.
@@ -70,13 +72,19 @@ pub(crate) fn values_at<T: Nodes, L: Ledger>(
     ensures values { IfOk result (λ vs. All (IsValued ask.now) vs.items) }
     ensures steps { steps.new ≤ steps.old + length nodes.now * (32 * (T.width tree.now + 1) ^ 2 * 2 ^ T.width tree.now) }
 {
-    let mut values = Vec::with_capacity(alloc, nodes.len())?;
+    let mut values = match Vec::with_capacity(alloc, nodes.len()) {
+        Ok(values) => values,
+        Err(error) => return Err(error),
+    };
     'nodes: for node in nodes {
         let value = match value_at(alloc, tree, ask, *node, steps) {
             Ok(value) => value,
             Err(error) => return Err(error),
         };
-        values.push(value)?;
+        match values.push(value) {
+            Ok(()) => {}
+            Err(_) => return Err(AllocError),
+        }
     }
     Ok(values)
 }

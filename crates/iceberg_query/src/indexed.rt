@@ -7,7 +7,7 @@ ghost use Rattle.iceberg_query.specs.Indexed.{asked_entries, node_of};
 use crate::{Ask, Bound, Memory};
 use cell_core::NodeNo;
 use measure_index::{Index, Walk};
-use std::alloc::Global;
+use std::alloc::{AllocError, Global};
 
 // The classes that pass, in their order by value.
 fn walk_of<'a>(index: &'a Index, ask: &Ask) -> Walk<'a>
@@ -29,7 +29,10 @@ pub(crate) fn indexed_nodes(alloc: Global, index: &Index, ask: &Ask) -> Result<V
     let mut nodes = Vec::new(alloc);
     let mut walk = walk_of(index, ask);
     'walk: while let Some((node, _value)) = walk.next() {
-        nodes.push(node)?;
+        match nodes.push(node) {
+            Ok(()) => {}
+            Err(_) => return Err(AllocError),
+        }
     }
     Ok(nodes)
 }

@@ -1,8 +1,9 @@
 -- A ranking after entries came and went, and after a change was undone.
-use Rattle.std.proofs.Common.{◌≡◌, ◌&&◌, ◌||◌, not, ℕ, suc, List, [], ◌∷◌, length, map, refl, sym, ap, ap₂, ◌∙◌, arith}
+use Rattle.std.proofs.Common.{◌≡◌, ◌&&◌, ◌||◌, not, List, ◌∷◌, sym, ap, ap₂, ◌∙◌}
+use Rattle.std.specs.Prelude.{Err, Ok, OnErr, Result}
 use Rattle.std.specs.BTreeSet.{BTreeSet}
+use Rattle.measure_index.specs.Index.{units}
 use Rattle.aggregates.specs.declared.agg.Agg.{Agg}
-use Rattle.aggregates.specs.declared.kind.AggKind.{AggKind}
 use Rattle.cell_core.specs.declared.cell.NodeNo.{NodeNo}
 use Rattle.measure_index.specs.declared.entry.Entry.{Entry}
 use Rattle.measure_index.specs.Changes.{AreFresh, ArePlanned, Came, HasChanged, Went, has, lists}
@@ -31,3 +32,11 @@ has_gone_back old mid new put came went fresh q c w =
     same_entries before after c.alike.was_rising w.alike.rising
     (λ e. back_again (has old e) (lists put e) (has mid e) (lists came e) (has new e) (c.entry e) (fresh e) (w.entry e ∙ ap (λ es. has mid e && not (lists es e)) q)) in
     λ i. record { kind = (w.alike.kind ∙ c.alike.kind) i; scale = (w.alike.scale ∙ c.alike.scale) i; entries = sym entries i }
+
+-- the kinds and scales stay where the first column and the others keep theirs
+pub kept_units : (first next : Ranking) (rest others columns : List Ranking) → columns ≡ first ∷ rest → next.kind ≡ first.kind → next.scale ≡ first.scale → units others ≡ units rest → units (next ∷ others) ≡ units columns
+kept_units first next rest others columns is kind scale more = ap₂ (λ u us. u ∷ us) (ap₂ (λ k s. (k, s)) kind scale) more ∙ sym (ap units is)
+
+pub on_err : {T E P : Type 0} (r : Result T E) → P → OnErr r P
+on_err (Ok x) p = tt
+on_err (Err e) p = p

@@ -1,12 +1,12 @@
 -- Classes on their way into an index, and the index of them.
-use Rattle.std.proofs.Common.{◌≡◌, ℕ, zero, suc, Option, None, Some, List, [], ◌∷◌, ◌++◌, length, map, refl, sym, ap, ap₂, subst, ◌∙◌, arith}
+use Rattle.std.proofs.Common.{◌≡◌, ℕ, zero, suc, ◌+◌, ◌<◌, get_or, take, Option, None, List, [], ◌∷◌, ◌++◌, length, map, refl, sym, ap, ap₂, subst, ◌∙◌, arith}
 use Rattle.std.specs.List.{All, AllZip}
+use Rattle.std.proofs.lemmas.List.{map-append, take_more}
 use Rattle.cube_defs.specs.Rows as defs
 use Rattle.aggregates.specs.Views.{IsThere}
 use Rattle.aggregates.specs.declared.agg.Agg.{Agg}
 use Rattle.aggregates.specs.declared.kind.AggKind.{AggKind}
 use Rattle.cell_core.specs.declared.cell.NodeNo.{NodeNo}
-use Rattle.measure_index.specs.declared.key.Key.{Key}
 use Rattle.qc_arena.specs.Changes.{AreNew}
 use Rattle.measure_index.specs.Filling.{AreKeysOf, Coming, HasOneMore, IsRankingOf, coming_units}
 use Rattle.measure_index.specs.Index.{scale_of, units}
@@ -19,6 +19,12 @@ use Rattle.measure_index.proofs.Zips.{zip_more}
 
 abbrev pub bare_coming : List ℕ → AggKind → Coming
 bare_coming scales kind = record { kind = kind; scale = scale_of scales kind; keys = [] }
+
+pub bare_more : (scales : List ℕ) (kinds : List AggKind) (k : ℕ) (d : AggKind) (scale : ℕ) (made : Coming) → k < length kinds → made ≡ record { kind = get_or kinds k d; scale = scale; keys = [] } → scale ≡ scale_of scales (get_or kinds k d)
+    → (before now : List Coming) → before ≡ map (bare_coming scales) (take k kinds) → now ≡ before ++ made ∷ [] → now ≡ map (bare_coming scales) (take (k + 1) kinds)
+bare_more scales kinds k d scale made lt is unit before now had more =
+    more ∙ ap₂ (λ cs (c : Coming). cs ++ c ∷ []) had (is ∙ ap (λ s. record { kind = get_or kinds k d; scale = s; keys = [] }) unit)
+    ∙ sym (map-append (bare_coming scales) (take k kinds) (get_or kinds k d ∷ [])) ∙ ap (map (bare_coming scales)) (sym (take_more kinds k d lt))
 
 pub bare_units : (scales : List ℕ) (kinds : List AggKind) → coming_units (map (bare_coming scales) kinds) ≡ map (λ kind. (kind, scale_of scales kind)) kinds
 bare_units scales [] = refl

@@ -68,7 +68,10 @@ impl Column {
         requires { scale ≤ 6 }
         ensures { IfOk result (λ column. IsRankingOf (record { kind = kind; scale = scale; keys = keys.items }) column) }
     {
-        let set = set_of(alloc, keys)?;
+        let set = match set_of(alloc, keys) {
+            Ok(set) => set,
+            Err(error) => return Err(error),
+        };
         if set.len() > u32::MAX as usize {
             return Err(AllocError);
         }
@@ -114,8 +117,14 @@ impl Column {
         ensures { IfOk result (λ plan. ArePlanned self.now add.now remove.now (entries_at self.now.kind self.now.scale plan.added.items)
             (entries_at self.now.kind self.now.scale plan.going.items)) }
     {
-        let mut added = keys_of(alloc, self.kind, add)?;
-        let mut removed = keys_of(alloc, self.kind, remove)?;
+        let mut added = match keys_of(alloc, self.kind, add) {
+            Ok(added) => added,
+            Err(error) => return Err(error),
+        };
+        let mut removed = match keys_of(alloc, self.kind, remove) {
+            Ok(removed) => removed,
+            Err(error) => return Err(error),
+        };
         added.sort_unstable();
         removed.sort_unstable();
         let going = lacked_by(alloc, &added, &removed)?;

@@ -43,11 +43,10 @@ impl ComingKeys {
         requires { scale ≤ 6 }
         ensures { IfOk result (λ coming. coming ≡ record { kind = kind; scale = scale; keys = [] }) }
     {
-        Ok(ComingKeys {
-            kind,
-            scale,
-            keys: Vec::with_capacity(alloc, room)?,
-        })
+        match Vec::with_capacity(alloc, room) {
+            Ok(keys) => Ok(ComingKeys { kind, scale, keys }),
+            Err(error) => Err(error),
+        }
     }
 
     fn push(&mut self, node: NodeNo, class: &Agg) -> Result<(), Memory>
@@ -76,8 +75,10 @@ fn push_all(columns: &mut [ComingKeys], node: NodeNo, class: &Agg) -> Result<(),
     let Some((first, rest)) = columns.split_first_mut() else {
         return Ok(());
     };
-    first.push(node, class)?;
-    push_all(rest, node, class)
+    match first.push(node, class) {
+        Ok(()) => push_all(rest, node, class),
+        Err(error) => Err(error),
+    }
 }
 
 /// Classes that are gathered for an index of some kinds. They may come in any order, and each must

@@ -10,7 +10,7 @@ use crate::key::Key;
 use aggregates::{Agg, AggKind, Quotient};
 use cell_core::NodeNo;
 use cube_defs::Memory;
-use std::alloc::Global;
+use std::alloc::{AllocError, Global};
 
 impl Key {
     pub(crate) fn of(kind: AggKind, node: NodeNo, class: &Agg) -> Key
@@ -56,9 +56,15 @@ pub(crate) fn keys_of(
     requires { HaveMeasure kind classes.now }
     ensures { IfOk result (λ keys. AllZip (IsKey kind) classes.now keys.items) }
 {
-    let mut keys = Vec::with_capacity(alloc, classes.len())?;
+    let mut keys = match Vec::with_capacity(alloc, classes.len()) {
+        Ok(keys) => keys,
+        Err(error) => return Err(error),
+    };
     'classes: for class in classes {
-        keys.push(Key::of(kind, class.0, &class.1))?;
+        match keys.push(Key::of(kind, class.0, &class.1)) {
+            Ok(()) => {}
+            Err(_) => return Err(AllocError),
+        }
     }
     Ok(keys)
 }

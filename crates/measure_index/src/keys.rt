@@ -48,7 +48,10 @@ pub(crate) fn insert_all<K: Ord + Copy>(
     ensures few { btree_set_len set.new ≤ btree_set_len set.old + length items.now }
     ensures now_ordered { IsOrdered K.cmp set.new }
 {
-    let mut came = Vec::with_capacity(alloc, items.len())?;
+    let mut came = match Vec::with_capacity(alloc, items.len()) {
+        Ok(came) => came,
+        Err(error) => return Err(error),
+    };
     for item in items {
         match set.insert(*item) {
             Ok(added) => note(&mut came, *item, added),
@@ -93,7 +96,10 @@ pub(crate) fn lacked_by<K: Ord + Copy>(
     let mut out = Vec::new(alloc);
     for item in items {
         if !is_among(others, item) {
-            out.push(*item)?;
+            match out.push(*item) {
+                Ok(()) => {}
+                Err(_) => return Err(AllocError),
+            }
         }
     }
     Ok(out)

@@ -10,7 +10,7 @@ use crate::Memory;
 use cell_core::{Cell, Cells, NodeNo, Steps};
 use lower_bounds::Class;
 use qc_arena::Nodes;
-use std::alloc::Global;
+use std::alloc::{AllocError, Global};
 use std::sync::ledger::Ledger;
 use tree_search::upper_into;
 
@@ -49,10 +49,16 @@ pub fn classes_alone<T: Nodes, L: Ledger>(
         IfOk result (λ classes. map hit_in classes.items
         ≡ map (λ node. lattice.class_alone nat_cmp source.measures source.rows (record_at (T.tree tree.now) node.0).cell) nodes.now) }
 {
-    let mut classes = Vec::with_capacity(alloc, nodes.len())?;
+    let mut classes = match Vec::with_capacity(alloc, nodes.len()) {
+        Ok(classes) => classes,
+        Err(error) => return Err(error),
+    };
     'nodes: for node in nodes {
         let class = class_alone(alloc, tree, *node, steps);
-        classes.push(class)?;
+        match classes.push(class) {
+            Ok(()) => {}
+            Err(_) => return Err(AllocError),
+        }
     }
     Ok(classes)
 }

@@ -24,7 +24,7 @@ use crate::placed::{Placed, sort, without_cells};
 use cell_core::{Cell, NodeNo, Steps};
 use cells_below::count_values;
 use qc_arena::Nodes;
-use std::alloc::Global;
+use std::alloc::{AllocError, Global};
 use std::sync::ledger::Ledger;
 use tree_search::upper_into;
 use value_dict::Dict;
@@ -43,24 +43,24 @@ fn push_child<T: Nodes, L: Ledger>(
     node: NodeNo,
     values: u32,
     more: usize,
-    cell: &mut Cell,
     children: &mut Vec<Placed>,
     steps: &mut Steps<L>,
 ) -> Result<(), Memory>
     requires tree { IsTree (T.width tree.now) (T.tree tree.now) }
     requires node { IsSome (map.get (T.tree tree.now) node.0) }
-    requires dims { length cell.old ≡ T.width tree.now }
-    ensures dims { length cell.new ≡ length cell.old }
     ensures numbers { OnOk result (mapped number_of children.new.items
         ≡ mapped number_of children.old.items ++ cond (nat_eq (more + values) (value_count (record_at (T.tree tree.now) node.0).cell)) (node.0 ∷ []) []) }
     ensures cells { AreAt (T.tree tree.now) children.old.items → OnOk result (AreAt (T.tree tree.now) children.new.items) }
-    ensures steps { steps.new ≤ steps.old + (2 * length cell.old + 2) }
+    ensures steps { steps.new ≤ steps.old + (2 * T.width tree.now + 2) }
 {
-    upper_into(tree, node, cell, steps);
-    let all = count_values(cell) as usize;
+    let mut cell = Cell::any(*children.allocator(), tree.dims());
+    upper_into(tree, node, &mut cell, steps);
+    let all = count_values(&cell) as usize;
     if more <= all && all - more == values as usize {
-        let cell = cell.copy();
-        children.push(Placed { node, cell })?;
+        return match children.push(Placed { node, cell }) {
+            Ok(()) => Ok(()),
+            Err(_) => Err(AllocError),
+        };
     }
     Ok(())
 }
@@ -84,20 +84,11 @@ fn picked<T: Nodes, L: Ledger>(
     ensures steps { steps.new ≤ steps.old + length led.now.items * (2 * T.width tree.now + 2) }
 {
     let mut found = Vec::new(alloc);
-    let mut cell = Cell::any(alloc, tree.dims());
     let mut more = 0;
     'led: for i in 0..led.len() {
         more += 1;
         if is_last(led, i) {
-            match push_child(
-                tree,
-                NodeNo(led[i]),
-                values,
-                more,
-                &mut cell,
-                &mut found,
-                steps,
-            ) {
+            match push_child(tree, NodeNo(led[i]), values, more, &mut found, steps) {
                 Ok(()) => {}
                 Err(error) => return Err(error),
             }

@@ -54,14 +54,12 @@ pub(crate) fn joined_at<T: Nodes, L: Ledger>(
     marks: &Marks,
     d: u32,
     m: u32,
-    cell: &mut Cell,
     steps: &mut Steps<L>,
 ) -> Option<NodeNo>
     requires tree { IsTree (T.width tree.now) (T.tree tree.now) }
     requires upper { length u.now ≡ T.width tree.now }
     requires class { (source : TreeRows) → IsTreeOf (T.width tree.now) (T.tree tree.now) source →
         closure_in source u.now ≡ Some u.now }
-    requires dims { length cell.old ≡ length u.now }
     requires values { d ≡ value_count u.now }
     requires few { d ≤ MAX_DIMS }
     requires number { m < 2 ^ d }
@@ -70,7 +68,6 @@ pub(crate) fn joined_at<T: Nodes, L: Ledger>(
         IsMarkedBelow source u.now marks.now (2 ^ d) }
     ensures value { (source : TreeRows) → IsTreeOf (T.width tree.now) (T.tree tree.now) source →
         option_map (λ k. cell_at (T.tree tree.now) k.0) result ≡ (if joins source u.now m then Some (Some (cell_of_number u.now m)) else None) }
-    ensures dims { length cell.new ≡ length u.now }
     ensures steps { steps.new ≤ steps.old + (2 * length u.now + 2) }
 {
     if marks.get(m) {
@@ -79,6 +76,7 @@ pub(crate) fn joined_at<T: Nodes, L: Ledger>(
     if !most(marks, d, m) {
         return None;
     }
-    put_cell(u, m, cell);
-    Some(node_of(tree, cell, steps))
+    let mut cell = u.copy();
+    put_cell(u, m, &mut cell);
+    Some(node_of(tree, &cell, steps))
 }

@@ -12,7 +12,7 @@ ghost use Rattle.quotient_lattice.specs.Led.{AreFound, AreThere, edges_on_way, t
 use crate::Memory;
 use cell_core::{Cell, Code, Entry, NodeNo, Steps};
 use qc_arena::Nodes;
-use std::alloc::Global;
+use std::alloc::{AllocError, Global};
 use std::sync::ledger::Ledger;
 use tree_search::find;
 
@@ -40,10 +40,13 @@ fn push_led<T: Nodes, L: Ledger>(
     u.set(dim, Entry::Is(code));
     let found = find(tree, u, steps);
     u.set(dim, Entry::Any);
-    if let Some(node) = found {
-        led.push(node.0)?;
+    let Some(node) = found else {
+        return Ok(());
+    };
+    match led.push(node.0) {
+        Ok(()) => Ok(()),
+        Err(_) => Err(AllocError),
     }
-    Ok(())
 }
 
 // Appends the numbers of the classes to which the labels of a node on the way to u lead: those

@@ -25,7 +25,7 @@ use cell_core::{Cell, NodeNo, Steps, leq};
 use iceberg_query::{Ask, passes};
 use indexmap::IndexSet;
 use qc_arena::Nodes;
-use std::alloc::Global;
+use std::alloc::{AllocError, Global};
 use std::sync::ledger::Ledger;
 use tree_search::upper_into;
 use value_dict::Dict;
@@ -46,14 +46,16 @@ fn insert_each(seen: &mut IndexSet<u32>, found: &Vec<Placed>) -> Result<(), Memo
     ensures { OnOk result (seen.new.keys ≡ insert_all nat_eq seen.old.keys (mapped number_of found.now.items)) }
 {
     'found: for k in 0..found.len() {
-        seen.insert(found[k].node.0)?;
+        match seen.insert(found[k].node.0) {
+            Ok(_) => {}
+            Err(_) => return Err(AllocError),
+        }
     }
     Ok(())
 }
 
 // Appends a node with its cell.
 fn push_placed<T: Nodes, L: Ledger>(
-    alloc: Global,
     tree: &T,
     node: NodeNo,
     met: &mut Vec<Placed>,
@@ -64,15 +66,16 @@ fn push_placed<T: Nodes, L: Ledger>(
     ensures numbers { OnOk result (mapped number_of met.new.items ≡ mapped number_of met.old.items ++ node.0 ∷ []) }
     ensures cells { AreAt (T.tree tree.now) met.old.items → OnOk result (AreAt (T.tree tree.now) met.new.items) }
 {
-    let mut cell = Cell::any(alloc, tree.dims());
+    let mut cell = Cell::any(*met.allocator(), tree.dims());
     upper_into(tree, node, &mut cell, steps);
-    met.push(Placed { node, cell })?;
-    Ok(())
+    match met.push(Placed { node, cell }) {
+        Ok(()) => Ok(()),
+        Err(_) => Err(AllocError),
+    }
 }
 
 // Takes a class that passes; of another it looks at the children.
 fn visit<T: Nodes, L: Ledger>(
-    alloc: Global,
     tree: &T,
     ask: &Ask,
     node: NodeNo,
@@ -90,16 +93,50 @@ fn visit<T: Nodes, L: Ledger>(
     ensures cells { AreAt (T.tree tree.now) met.old.items → OnOk result (AreAt (T.tree tree.now) met.new.items) }
 {
     if wants(tree, ask, node, steps) {
-        return push_placed(alloc, tree, node, met, steps);
+        return push_placed(tree, node, met, steps);
     }
-    match found_children(alloc, tree, node, steps) {
+    match found_children(*met.allocator(), tree, node, steps) {
         Ok(found) => insert_each(seen, &found),
         Err(error) => Err(error),
     }
 }
 
-// From a class on: all classes that pass and are met through the children of those that don't. Each
-// class is visited once.
+// Visits the class of each number that is seen, from the first one on. Each class is visited once.
+fn meet_all<T: Nodes, L: Ledger>(
+    tree: &T,
+    ask: &Ask,
+    node: NodeNo,
+    seen: &mut IndexSet<u32>,
+    met: &mut Vec<Placed>,
+    steps: &mut Steps<L>,
+) -> Result<(), Memory>
+    requires tree { IsTree (T.width tree.now) (T.tree tree.now) }
+    requires class { IsSome (record_at (T.tree tree.now) node.0).class }
+    requires measure { HasMeasure (T.width tree.now) (T.tree tree.now) ask.now.kind }
+    requires scale { ask.now.scale ≤ 6 }
+    requires none_seen { seen.old.keys ≡ [] }
+    requires none_met { met.old.items ≡ [] }
+    ensures met { (source : TreeRows) → IsTreeOf (T.width tree.now) (T.tree tree.now) source →
+        OnOk result (AreMet (T.tree tree.now) source ask.now node.0 (mapped number_of met.new.items)) }
+    ensures once { OnOk result (IsDistinct nat_eq (mapped number_of met.new.items)) }
+    ensures cells { OnOk result (AreAt (T.tree tree.now) met.new.items) }
+{
+    if seen.insert(node.0).is_err() {
+        return Err(AllocError);
+    }
+    let mut i = 0;
+    'seen: while i < seen.len() {
+        let number = *seen.get_index(i).unwrap();
+        match visit(tree, ask, NodeNo(number), seen, met, steps) {
+            Ok(()) => {}
+            Err(error) => return Err(error),
+        }
+        i += 1;
+    }
+    Ok(())
+}
+
+// From a class on: all classes that pass and are met through the children of those that don't.
 fn met_from<T: Nodes, L: Ledger>(
     alloc: Global,
     tree: &T,
@@ -118,17 +155,10 @@ fn met_from<T: Nodes, L: Ledger>(
 {
     let mut seen = IndexSet::new(alloc);
     let mut met = Vec::new(alloc);
-    seen.insert(node.0)?;
-    let mut i = 0;
-    'seen: while i < seen.len() {
-        let number = *seen.get_index(i).unwrap();
-        match visit(alloc, tree, ask, NodeNo(number), &mut seen, &mut met, steps) {
-            Ok(()) => {}
-            Err(error) => return Err(error),
-        }
-        i += 1;
+    match meet_all(tree, ask, node, &mut seen, &mut met, steps) {
+        Ok(()) => Ok(met),
+        Err(error) => Err(error),
     }
-    Ok(met)
 }
 
 // Whether no other of some nodes generalizes this one.
@@ -154,10 +184,14 @@ fn lowest(alloc: Global, met: &Vec<Placed>) -> Result<Vec<Placed>, Memory>
     'met: for k in 0..met.len() {
         let x = &met[k];
         if is_lowest(met, x) {
-            kept.push(Placed {
+            let placed = Placed {
                 node: x.node,
                 cell: x.cell.copy(),
-            })?;
+            };
+            match kept.push(placed) {
+                Ok(()) => {}
+                Err(_) => return Err(AllocError),
+            }
         }
     }
     Ok(kept)

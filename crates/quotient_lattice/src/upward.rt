@@ -5,7 +5,7 @@ ghost use Rattle.std.specs.Prelude.{All, IfOk, IsSome, OnOk, Some, false, true, 
 ghost use Rattle.cube_defs.specs.Tree.{as_list, cell_at};
 ghost use Rattle.qc_arena.specs.Seen.{record_at};
 ghost use Rattle.tree_search.specs.Found.{IsTreeOf, IsTree, TreeRows, closure_in};
-ghost use Rattle.cells_below.specs.Closed.{AreNeeded, IsMarkedBelow, has_closure_in};
+ghost use Rattle.cells_below.specs.Closed.{IsMarkedBelow, has_closure_in};
 ghost use Rattle.cells_below.specs.Marks.{is_marked};
 ghost use Rattle.cells_below.specs.Numbers.{cell_of_number};
 ghost use Rattle.cube_laws.specs.Parts.{value_count};
@@ -23,7 +23,7 @@ use cell_core::{Cell, NodeNo, Steps};
 use cells_below::{Marks, bounds_at, count_values, needed};
 use cube_defs::MAX_DIMS;
 use qc_arena::Nodes;
-use std::alloc::Global;
+use std::alloc::{AllocError, Global};
 use std::sync::ledger::Ledger;
 use tree_search::upper_into;
 use value_dict::Dict;
@@ -70,11 +70,13 @@ fn parents_below<T: Nodes, L: Ledger>(
     ensures steps { steps.new ≤ steps.old + (value_count u.now + 2 * 2 ^ value_count u.now) * (2 * length u.now + 2) }
 {
     let d = count_values(u);
-    let mut marks = Marks::new(alloc, 1 << d)?;
-    let mut cell = u.copy();
-    let needed = needed(tree, node, u, d, &mut cell, steps);
-    mark_all(tree, node, u, &mut marks, d, needed, &mut cell, steps);
-    joined(alloc, tree, u, &marks, d, &mut cell, steps)
+    match Marks::new(alloc, 1 << d) {
+        Ok(mut marks) => {
+            mark_all(tree, node, u, &mut marks, d, steps);
+            joined(alloc, tree, u, &marks, d, steps)
+        }
+        Err(error) => Err(error),
+    }
 }
 
 // Marks the numbers whose cells have the closure u.
@@ -84,29 +86,25 @@ fn mark_all<T: Nodes, L: Ledger>(
     u: &Cell,
     marks: &mut Marks,
     d: u32,
-    needed: u32,
-    cell: &mut Cell,
     steps: &mut Steps<L>,
 )
     requires tree { IsTree (T.width tree.now) (T.tree tree.now) }
     requires upper { cell_at (T.tree tree.now) node.0 ≡ Some u.now }
     requires own { (source : TreeRows) → IsTreeOf (T.width tree.now) (T.tree tree.now) source →
         has_closure_in source u.now u.now ≡ true }
-    requires needed { (source : TreeRows) → IsTreeOf (T.width tree.now) (T.tree tree.now) source →
-        AreNeeded source u.now needed }
-    requires dims { length cell.old ≡ length u.now }
     requires values { d ≡ value_count u.now }
     requires few { d ≤ MAX_DIMS }
     requires room { 2 ^ d ≤ length marks.old }
     requires none { (j : ℕ) → is_marked marks.old j ≡ false }
     ensures marked { (source : TreeRows) → IsTreeOf (T.width tree.now) (T.tree tree.now) source →
         IsMarkedBelow source u.now marks.new (2 ^ d) }
-    ensures dims { length cell.new ≡ length u.now }
     ensures room { 2 ^ d ≤ length marks.new }
-    ensures steps { steps.new ≤ steps.old + 2 ^ d * (2 * length u.now + 2) }
+    ensures steps { steps.new ≤ steps.old + (d + 2 ^ d) * (2 * length u.now + 2) }
 {
+    let mut cell = u.copy();
+    let needed = needed(tree, node, u, d, &mut cell, steps);
     'numbers: for m in 0..1 << d {
-        bounds_at(tree, node, u, marks, d, needed, m, cell, steps);
+        bounds_at(tree, node, u, marks, d, needed, m, &mut cell, steps);
     }
 }
 
@@ -117,14 +115,12 @@ fn joined<T: Nodes, L: Ledger>(
     u: &Cell,
     marks: &Marks,
     d: u32,
-    cell: &mut Cell,
     steps: &mut Steps<L>,
 ) -> Result<Vec<NodeNo>, Memory>
     requires tree { IsTree (T.width tree.now) (T.tree tree.now) }
     requires upper { length u.now ≡ T.width tree.now }
     requires class { (source : TreeRows) → IsTreeOf (T.width tree.now) (T.tree tree.now) source →
         closure_in source u.now ≡ Some u.now }
-    requires dims { length cell.old ≡ length u.now }
     requires values { d ≡ value_count u.now }
     requires few { d ≤ MAX_DIMS }
     requires room { 2 ^ d ≤ length marks.now }
@@ -137,8 +133,11 @@ fn joined<T: Nodes, L: Ledger>(
 {
     let mut nodes = Vec::new(alloc);
     'numbers: for m in 0..1 << d {
-        let node = joined_at(tree, u, marks, d, m, cell, steps);
-        push_some(&mut nodes, node)?;
+        let node = joined_at(tree, u, marks, d, m, steps);
+        match push_some(&mut nodes, node) {
+            Ok(()) => {}
+            Err(error) => return Err(error),
+        }
     }
     Ok(nodes)
 }
@@ -147,8 +146,11 @@ fn joined<T: Nodes, L: Ledger>(
 fn push_some(nodes: &mut Vec<NodeNo>, node: Option<NodeNo>) -> Result<(), Memory>
     ensures { OnOk result (nodes.new.items ≡ nodes.old.items ++ as_list nat_cmp node) }
 {
-    if let Some(node) = node {
-        nodes.push(node)?;
+    let Some(node) = node else {
+        return Ok(());
+    };
+    match nodes.push(node) {
+        Ok(()) => Ok(()),
+        Err(_) => Err(AllocError),
     }
-    Ok(())
 }

@@ -156,6 +156,11 @@ module _ (dims : ℕ) (tree : Tree ℕ) (node : ℕ) (p : Cell ℕ) (i : ℕ) (s
           let next : i + 1 ≡ suc i = omega arith in
           ap (λ n. met source (drop (i + 1) box) p n) next ∙ sym (ap (λ b. met source b p i) (front_of ∙ ap (λ a. a ∷ drop (i + 1) box) is))
 
+      pub any_cost : get_or box i None ≡ None → cost source (drop i box) p i ≡ 1 + cost source (drop (i + 1) box) p (i + 1)
+      any_cost is =
+          let next : suc i ≡ i + 1 = omega arith in
+          ap (λ b. cost source b p i) (front_of ∙ ap (λ a. a ∷ drop (i + 1) box) is) ∙ ap (λ n. 1 + cost source (drop (i + 1) box) p n) next
+
       module _ (vs : List ℕ) (is : get_or box i None ≡ Some vs) where
         pub codes_met : met source (drop i box) p i ≡ flat_map (λ v. entered source (drop (i + 1) box) p i (Some v)) vs
         codes_met = ap (λ b. met source b p i) (front_of ∙ ap (λ a. a ∷ drop (i + 1) box) is)

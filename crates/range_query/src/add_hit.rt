@@ -1,8 +1,7 @@
 // The hits, which have a limit.
-ghost use Rattle.std.specs.Prelude.{Err, IsSome, OnOk, [], length, map, ◌+◌, ◌++◌, ◌<◌, ◌≡◌, ◌≤◌, ◌∷◌};
-ghost use Rattle.cube_defs.specs.Tree.{cell_at};
-ghost use Rattle.tree_search.specs.Found.{IsTreeOf, IsTree, TreeRows, closure_in};
-ghost use Rattle.range_query.specs.Told.{hit_at, hit_in};
+ghost use Rattle.std.specs.Prelude.{Err, OnOk, [], length, ◌++◌, ◌≡◌, ◌≤◌, ◌∷◌};
+ghost use Rattle.tree_search.specs.Found.{IsTree};
+ghost use Rattle.range_query.specs.Walk.{Ends, Finds};
 
 use crate::{Hit, RangeRefused};
 use cell_core::{Cell, NodeNo, Steps};
@@ -35,16 +34,10 @@ pub(crate) fn add_hit<T: Nodes, L: Ledger>(
     steps: &mut Steps<L>,
 ) -> Result<(), RangeRefused>
     requires tree { IsTree (T.width tree.now) (T.tree tree.now) }
-    requires long { length cell.now ≡ T.width tree.now }
-    requires node { (source : TreeRows) → IsTreeOf (T.width tree.now) (T.tree tree.now) source →
-        cell_at (T.tree tree.now) node.0 ≡ closure_in source cell.now }
-    requires there { IsSome (cell_at (T.tree tree.now) node.0) }
+    requires ends { Ends (T.width tree.now) (T.tree tree.now) node.0 cell.now }
     requires few { length hits.old.items ≤ limit }
-    ensures hit { (source : TreeRows) → IsTreeOf (T.width tree.now) (T.tree tree.now) source →
-        OnOk result (map hit_in hits.new.items ≡ map hit_in hits.old.items ++ hit_at source cell.now ∷ []) }
-    ensures few { OnOk result (length hits.new.items ≤ limit) }
-    ensures too_many { result ≡ Err RangeRefused.TooMany → limit ≡ length hits.old.items }
-    ensures steps { steps.new ≤ steps.old + 1 }
+    ensures { Finds (T.width tree.now) (T.tree tree.now) limit (λ source. cell.now ∷ []) (λ source. 1)
+        hits.old.items hits.new.items cell.now cell.now steps.old steps.new result }
 {
     let agg = tree.class(node, steps).unwrap();
     let hit = Hit {

@@ -7,7 +7,7 @@ ghost use Rattle.value_dict.specs.Boxes.{IsOrdered, told_box};
 ghost use Rattle.value_dict.specs.Recoded.{has_code};
 ghost use Rattle.range_query.specs.Told.{IsTellableHit, hit_in, told_hits, told_range, told_work};
 
-use crate::walk::visit;
+use crate::walk::{Scan, visit};
 use crate::{Hit, RangeRefused};
 use cell_core::{Cell, Steps};
 use qc_arena::Nodes;
@@ -50,7 +50,8 @@ pub fn range<T: Nodes, L: Ledger>(
         return Ok(hits);
     };
     let mut cell = Cell::any(alloc, dims);
-    match visit(tree, cells, limit, root, 0, &mut cell, &mut hits, steps) {
+    let scan = Scan { tree, cells, limit };
+    match visit(&scan, root, 0, &mut cell, &mut hits, steps) {
         Ok(()) => Ok(hits),
         Err(error) => Err(error),
     }

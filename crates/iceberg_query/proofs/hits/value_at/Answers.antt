@@ -5,11 +5,11 @@ use Rattle.iceberg_query.proofs.Bounded.{class_there, steps_within}
 use Rattle.iceberg_query.proofs.Measures.{there_is_measure}
 use Rattle.iceberg_query.proofs.hits.value_at.Goals as goal
 
-pub returns-in_err-lowers-clause-steps : goal.returns-in_err-lowers-clause-steps
-returns-in_err-lowers-clause-steps g c = steps_within _ _ c.requires.tree.0 c.requires.tree.1 c.args.node.0 _ _ _ _ _ c.requires.class (c.any-upper.ensures.dims ∙ c.dims.ensures.value) c.upper_into.ensures.steps c.class.ensures.steps c.lower_bounds.ensures.steps
+pub returns-in-Err-clause-steps : goal.returns-in-Err-clause-steps
+returns-in-Err-clause-steps g c = steps_within _ _ c.requires.tree.0 c.requires.tree.1 c.args.node.0 _ _ _ _ _ c.requires.class (c.any-upper.ensures.dims ∙ c.dims.ensures.value) c.upper_into.ensures.steps c.class.ensures.steps c.lower_bounds.ensures.steps
 
-pub returns-clause-steps : goal.returns-clause-steps
-returns-clause-steps g c = steps_within _ _ c.requires.tree.0 c.requires.tree.1 c.args.node.0 _ _ _ _ _ c.requires.class (c.any-upper.ensures.dims ∙ c.dims.ensures.value) c.upper_into.ensures.steps c.class.ensures.steps c.lower_bounds.ensures.steps
+pub returns-in-Ok-clause-steps : goal.returns-in-Ok-clause-steps
+returns-in-Ok-clause-steps g c = steps_within _ _ c.requires.tree.0 c.requires.tree.1 c.args.node.0 _ _ _ _ _ c.requires.class (c.any-upper.ensures.dims ∙ c.dims.ensures.value) c.upper_into.ensures.steps c.class.ensures.steps c.lower_bounds.ensures.steps
 
 pub value_of-requires-clause-there : goal.value_of-requires-clause-there
 value_of-requires-clause-there g c =

@@ -1,4 +1,6 @@
-use Rattle.std.proofs.Common.{subst, sym}
+use Rattle.std.proofs.Common.{[], arith, subst, sym}
+use Rattle.std.specs.List.{AllZip}
+use Rattle.cube_laws.proofs.Lists.{take_all}
 use Rattle.std.proofs.lemmas.List.Elements.{All-get_or}
 use Rattle.aggregates.specs.Views.{IsThere}
 use Rattle.measure_index.specs.Kept.{IsKey}
@@ -12,4 +14,10 @@ of-requires c =
 pub classes-preserved : goal.classes-preserved
 classes-preserved c =
     zip_next (IsKey c.args.kind) c.args.classes.now c.classes.class-index c.class-item.result c.class-item.result c.classes.keys.items c.push.new.self.items _ c.classes-test.true c.class-item.is c.classes.invariant
-    c.in_ok-push.ensures.items c.of.ensures
+    c.in-Ok-push.ensures.items c.of.ensures
+
+pub returns : goal.returns
+returns c = subst (λ xs. AllZip (IsKey c.args.kind) xs c.classes.keys.items) (take_all c.args.classes.now c.classes.class-index (omega (arith, c.classes-test.false))) c.classes.invariant
+
+pub classes-init : goal.classes-init
+classes-init c = subst (AllZip (IsKey c.args.kind) []) (sym c.in-Ok.ensures.items) tt

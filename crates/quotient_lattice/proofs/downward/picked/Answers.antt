@@ -14,7 +14,6 @@ use Rattle.quotient_lattice.proofs.downward.picked.Goals.{then-is_last+in-Ok, el
 
 pub led-init : goal.led-init
 led-init g c = record {
-  dims = c.any-cell.ensures.dims ∙ c.dims.ensures.value;
   more = λ l. refl;
   few = omega arith;
   each = none_picked (g.T.Nodes.tree c.args.tree.now) c.args.values c.args.led.now.items c.new-found.result.items c.new-found.ensures.items;
@@ -39,19 +38,17 @@ led-preserved g c =
           let pushed = ap (λ v. map number_of v.items) w.found-is ∙ w.in-Ok.ensures.numbers
           ∙ ap (λ z. ps ++ cond (nat_eq ((c.led.more + 1) + c.args.values) (value_count (record_at tree z).cell)) (z ∷ []) []) at in
           record {
-            dims = ap length w.cell-is ∙ w.in-Ok.ensures.dims ∙ inv.dims;
             more = λ l. w.more-is ∙ first_next tree c.args.values xs c.requires.sorted i within last l;
             few = omega (arith, w.more-is);
             each = λ k. subst (λ ys. Among k ys ↔ IsPicked tree c.args.values xs (i + 1) k) (sym pushed) (picked_last tree c.args.values xs c.requires.sorted i within last c.led.more here ps inv.each k);
             once = subst (IsDistinct nat_eq) (sym pushed) (once_last tree c.args.values xs c.requires.sorted i within last c.led.more here ps inv.each inv.once);
             cells = subst (λ v. AreAt tree v.items) (sym w.found-is) (w.in-Ok.ensures.cells inv.cells);
-            steps = omega (arith, w.steps-is, w.in-Ok.ensures.steps, inv.steps, inv.dims);
+            steps = omega (arith, w.steps-is, w.in-Ok.ensures.steps, inv.steps);
           }
       | else-is_last w ↦
           let early = sym w.if-is_last.ensures in
           let here = inv.more within in
           record {
-            dims = ap length w.cell-is ∙ inv.dims;
             more = λ l. w.more-is ∙ same_next tree c.args.values xs c.requires.sorted i within early c.led.more here;
             few = omega (arith, w.more-is, inv.few);
             each = λ k. subst (λ v. Among k (map number_of v.items) ↔ IsPicked tree c.args.values xs (i + 1) k) (sym w.found-is) (picked_early tree c.args.values xs c.requires.sorted i within early ps inv.each k);
@@ -65,7 +62,7 @@ pub returns-in-Err-clause-steps : goal.returns-in-Err-clause-steps
 returns-in-Err-clause-steps g c =
     let inv = c.led.invariant in
     let within : c.led.i + 1 ≤ length c.args.led.now.items = omega (arith, c.led-test.true, c.len-i-end.ensures) in
-    let cost : c.push_child.new.steps ≤ c.args.steps.now + (c.led.i + 1) * (2 * g.T.Nodes.width c.args.tree.now + 2) = omega (arith, c.in-Err.ensures.steps, inv.steps, inv.dims) in
+    let cost : c.push_child.new.steps ≤ c.args.steps.now + (c.led.i + 1) * (2 * g.T.Nodes.width c.args.tree.now + 2) = omega (arith, c.in-Err.ensures.steps, inv.steps) in
     steps_all (c.led.i + 1) (length c.args.led.now.items) (2 * g.T.Nodes.width c.args.tree.now + 2) c.push_child.new.steps c.args.steps.now within cost
 
 pub returns-clause-steps : goal.returns-clause-steps

@@ -7,7 +7,6 @@ use Rattle.quotient_lattice.proofs.downward.picked.Given as goal
 
 abbrev pub invariant-led : goal.invariant-led
 invariant-led g l = record {
-  dims : length l.cell ≡ g.T.Nodes.width l.tree;
   more : l.i < length l.led.items → l.more ≡ times (get_or l.led.items l.i 0) (take l.i l.led.items);
   few : l.more ≤ l.i;
   each : (k : ℕ) → Among k (map number_of l.found.items) ↔ IsPicked (g.T.Nodes.tree l.tree) l.values l.led.items l.i k;

@@ -10,10 +10,9 @@ use Rattle.quotient_lattice.proofs.upward.joined.Goals as goal
 
 pub numbers-preserved : goal.numbers-preserved
 numbers-preserved g c = record {
-  dims = c.joined_at-node.ensures.dims;
   nodes = λ source h.
       nodes_more (λ k. cell_at (g.T.Nodes.tree c.args.tree.now) k.0) c.args.u.now (joins source c.args.u.now) c.numbers.m c.numbers.nodes.items c.push_some.new.nodes.items c.joined_at-node.result
-      c.in_ok-push_some.ensures (c.numbers.invariant.nodes source h) (c.joined_at-node.ensures.value source h);
+      c.in-Ok.ensures (c.numbers.invariant.nodes source h) (c.joined_at-node.ensures.value source h);
   steps = omega (arith, c.numbers.invariant.steps, c.joined_at-node.ensures.steps);
 }
 
@@ -22,8 +21,8 @@ returns-clause-nodes g c = λ source h.
     let end : c.numbers.m ≡ 2 ^ c.args.d = omega (arith, one_shl c.args.d 32 (omega arith)) in
     c.numbers.invariant.nodes source h ∙ ap (λ n. map (λ m. Some (cell_of_number c.args.u.now m)) (filter (joins source c.args.u.now) (range_with_len 0 n))) end
 
-pub returns-in_err-push_some-clause-steps : goal.returns-in_err-push_some-clause-steps
-returns-in_err-push_some-clause-steps g c =
+pub returns-in-Err-clause-steps : goal.returns-in-Err-clause-steps
+returns-in-Err-clause-steps g c =
     let within : c.numbers.m + 1 ≤ 2 ^ c.args.d = omega (arith, c.numbers-test.true, one_shl c.args.d 32 (omega arith)) in
     let cost : c.joined_at-node.new.steps ≤ c.args.steps.now + (c.numbers.m + 1) * (2 * length c.args.u.now + 2) = omega (arith, c.numbers.invariant.steps, c.joined_at-node.ensures.steps) in
     steps_all (c.numbers.m + 1) (2 ^ c.args.d) (2 * length c.args.u.now + 2) c.joined_at-node.new.steps c.args.steps.now within cost

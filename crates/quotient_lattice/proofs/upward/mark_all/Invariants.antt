@@ -10,5 +10,5 @@ invariant-numbers g l = record {
   dims : length l.cell ≡ length l.u;
   below : (source : TreeRows) → IsTreeOf (g.T.Nodes.width l.tree) (g.T.Nodes.tree l.tree) source → IsMarkedBelow source l.u l.marks l.m;
   above : (j : ℕ) → l.m ≤ j → is_marked l.marks j ≡ false;
-  steps : l.steps ≤ l.fn.steps + l.m * (2 * length l.u + 2);
+  steps : l.steps ≤ l.fn.steps + (l.d + l.m) * (2 * length l.u + 2);
 }

@@ -17,8 +17,8 @@ joined-requires-clause-class g c = λ source h. closed source c.args.u.now c.arg
 pub joined-requires-clause-upper : goal.joined-requires-clause-upper
 joined-requires-clause-upper g c = upper_wide _ _ c.args.node.0 c.args.u.now c.requires.upper c.requires.tree
 
-pub returns-clause-nodes : goal.returns-clause-nodes
-returns-clause-nodes g c = λ source h.
+pub returns-in-Ok-clause-nodes : goal.returns-in-Ok-clause-nodes
+returns-in-Ok-clause-nodes g c = λ source h.
     let u = c.args.u.now in
     let all = parents_are _ source.rows h.wide source.measures u (closed source u u (c.requires.own source h)) (upper_wide _ _ c.args.node.0 u c.requires.upper c.requires.tree) in
     subst (λ (b : List (Option (Cell _))). IfOk c.joined.result (λ nodes. map (λ k. cell_at (g.T.Nodes.tree c.args.tree.now) k.0) nodes.items ≡ b))

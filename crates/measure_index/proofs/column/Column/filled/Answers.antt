@@ -10,5 +10,5 @@ returns c =
     record {
       kind = refl;
       scale = refl;
-      classes = λ classes are. filled c.args.kind c.args.scale c.requires classes c.args.keys.items empty c.in_ok-set.set are refl c.in_ok-set.ensures.ordered c.in_ok-set.ensures.has;
+      classes = λ classes are. filled c.args.kind c.args.scale c.requires classes c.args.keys.items empty c.in-Ok.set are refl c.in-Ok.ensures.ordered c.in-Ok.ensures.has;
     }

@@ -3,7 +3,7 @@ use Rattle.std.specs.List.{All, AllZip}
 use Rattle.std.proofs.lemmas.Result.{on_ok_weaker}
 use Rattle.std.proofs.lemmas.Slice.Zip.{AllZip-long}
 use Rattle.aggregates.specs.Views.{IsThere}
-use Rattle.measure_index.specs.Filling.{AreKeysOf, Coming, HasOneMore, coming_units}
+use Rattle.measure_index.specs.Filling.{AreKeysOf, Coming, HasOneMore}
 use Rattle.measure_index.proofs.FillingLemmas.{of_units, one_more}
 use Rattle.measure_index.proofs.Zips.{written_over}
 use Rattle.measure_index.proofs.filling.Filling.push.Goals as goal

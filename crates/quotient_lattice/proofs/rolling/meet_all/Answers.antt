@@ -1,5 +1,5 @@
-use Rattle.std.proofs.Common.{true, ◌≡◌, ◌<◌, Some, [], ◌∷◌, length, map, nat_eq, take, get_or, refl, sym, ap, subst, ◌∙◌, arith, inl}
-use Rattle.std.specs.Prelude.{slice_get}
+use Rattle.std.proofs.Common.{true, false, true≢false, ◌≡◌, ◌<◌, Some, [], ◌∷◌, length, map, nat_eq, take, get_or, refl, sym, ap, subst, ◌∙◌, arith, inl}
+use Rattle.std.specs.Prelude.{Err, Ok, OnOk, Result, is_err, slice_get}
 use Rattle.std.specs.Option.{option_copied}
 use Rattle.std.specs.List.{IsDistinct}
 use Rattle.cube_laws.specs.Lists.{Among}
@@ -11,21 +11,25 @@ use Rattle.quotient_lattice.specs.Visits.{AreSeen, wants}
 use Rattle.quotient_lattice.proofs.ChildNodes.{once_none}
 use Rattle.quotient_lattice.proofs.ParentNodes.{class_some}
 use Rattle.quotient_lattice.proofs.Visited.{inserted_among, all_met, all_once, alone, first_seen, grown, none_met, visited_met, visited_once, visited_seen}
-use Rattle.quotient_lattice.proofs.rolling.met_from.Goals as goal
+use Rattle.quotient_lattice.proofs.rolling.meet_all.Goals as goal
+
+ok_gives : {T E P : Type 0} (r : Result T E) → is_err r ≡ false → OnOk r P → P
+ok_gives (Ok x) e p = p
+ok_gives (Err x) e p = absurd (true≢false e)
 
 pub seen-init : goal.seen-init
 seen-init g c =
     let tree = g.T.Nodes.tree c.args.tree.now in
     let keys = c.insert.new.self.keys in
-    let is : keys ≡ c.args.node.0 ∷ [] = c.in_ok-insert.ensures.keys ∙ ap (λ ks. insert_key nat_eq ks c.args.node.0) c.new-seen.ensures.empty in
+    let is : keys ≡ c.args.node.0 ∷ [] = ok_gives c.insert.result (sym c.if-is_err.ensures.value) c.insert.ensures.keys ∙ ap (λ ks. insert_key nat_eq ks c.args.node.0) c.requires.none_seen in
     record {
       within = omega arith;
       first = subst (Among c.args.node.0) (sym is) (inl refl);
       apart = alone keys c.args.node.0 is;
       seen = λ source h. first_seen _ tree source h c.args.ask.now c.args.node.0 keys is c.requires.class;
-      each = none_met tree c.args.ask.now keys c.new-met.result.items c.new-met.ensures.items;
-      once = once_none c.new-met.result.items c.new-met.ensures.items;
-      cells = λ k d l. absurd (omega (arith, l, ap length c.new-met.ensures.items));
+      each = none_met tree c.args.ask.now keys c.args.met.now.items c.requires.none_met;
+      once = once_none c.args.met.now.items c.requires.none_met;
+      cells = λ k d l. absurd (omega (arith, l, ap length c.requires.none_met));
     }
 
 pub visit-requires-clause-class : goal.visit-requires-clause-class

@@ -4,7 +4,7 @@ use Rattle.cube_laws.specs.Lists.{Among}
 use Rattle.tree_search.specs.Found.{IsTreeOf, TreeRows}
 use Rattle.quotient_lattice.specs.Placed.{AreAt, number_of}
 use Rattle.quotient_lattice.specs.Visits.{AreSeen, wants}
-use Rattle.quotient_lattice.proofs.rolling.met_from.Given as goal
+use Rattle.quotient_lattice.proofs.rolling.meet_all.Given as goal
 
 abbrev pub invariant-seen : goal.invariant-seen
 invariant-seen g l = record {
