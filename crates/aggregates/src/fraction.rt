@@ -5,7 +5,7 @@ use crate::value::order_of;
 use std::cmp::Ordering;
 
 /// The value of an aggregate, in lowest terms. Ratios are ordered by value.
-#[derive(Clone, Copy, Debug)]
+#[derive(Clone, Copy)]
 pub struct Ratio {
     pub num: i64,
     pub den: u64,
@@ -13,7 +13,7 @@ pub struct Ratio {
 }
 
 /// A fraction that values are compared with. It needn't be in lowest terms.
-#[derive(Clone, Copy, Debug)]
+#[derive(Clone, Copy)]
 pub struct Fraction {
     pub num: i128,
     pub den: u64,

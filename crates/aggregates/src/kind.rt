@@ -3,7 +3,7 @@ ghost use Rattle.std.specs.Prelude.{◌≡◌};
 ghost use Rattle.aggregates.specs.Views.{same_kind};
 
 /// An aggregate that an iceberg compares or an index sorts by. All but the count name a measure.
-#[derive(Clone, Copy, Debug, PartialEq, Eq)]
+#[derive(Clone, Copy, PartialEq, Eq)]
 pub enum AggKind {
     Count,
     Sum(u8),

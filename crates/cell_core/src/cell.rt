@@ -16,11 +16,11 @@ pub type Code = u32;
 pub const ANY: u32 = u32::MAX;
 
 /// The number of a node.
-#[derive(Clone, Copy, Debug, PartialEq, Eq, Hash)]
+#[derive(Clone, Copy, PartialEq, Eq, Hash)]
 pub struct NodeNo(pub u32);
 
 /// The entry of a cell in a dimension.
-#[derive(Clone, Copy, Debug, PartialEq, Eq)]
+#[derive(Clone, Copy, PartialEq, Eq)]
 pub enum Entry {
     /// No value.
     Any,

@@ -145,7 +145,9 @@ impl QcArena {
     {
         match under {
             None => NodeRecord::root(self.images.allocator(), self.dims),
-            Some((node, dim, code)) => record_of(&self.nodes, node.0).child(node, dim, code),
+            Some((node, dim, code)) => record_of(&self.nodes, node.0 as usize).child(
+                node, dim, code,
+            ),
         }
     }
 
@@ -197,8 +199,10 @@ impl QcArena {
         if self.images.has(node.0) {
             return Ok(());
         }
-        let image = copy_at(&self.nodes, &self.parts, node.0)?;
-        self.images.add_was(node.0, image)
+        match copy_at(&self.nodes, &self.parts, node.0) {
+            Ok(image) => self.images.add_was(node.0, image),
+            Err(error) => Err(error),
+        }
     }
 
     /// Makes room for so many more edges of a node, so that its list need not grow step by step.
@@ -292,9 +296,13 @@ impl QcArena {
         if !self.has(node) {
             return Ok(());
         }
-        self.touch(node, steps)?;
-        self.kill(node, steps);
-        Ok(())
+        match self.touch(node, steps) {
+            Ok(()) => {
+                self.kill(node, steps);
+                Ok(())
+            }
+            Err(error) => Err(error),
+        }
     }
 
     /// Removes all nodes. If memory runs out, some of them are already removed.
@@ -341,7 +349,7 @@ impl QcArena {
         ensures steps { steps.new ≡ steps.old + 1 }
     {
         steps.tick();
-        let had = record_of(&self.nodes, node.0).is_class();
+        let had = record_of(&self.nodes, node.0 as usize).is_class();
         self.parts.put_class(node.0, &class);
         set_class_at(&mut self.nodes, node.0, class);
         self.kept = self.kept.with_class(had, class.is_some());
@@ -494,7 +502,7 @@ impl QcArena {
         requires { IsSome (map.get self.now.now node.0) }
         ensures { result.now.node ≡ record_at self.now.now node.0 }
     {
-        record_of(&self.nodes, node.0)
+        record_of(&self.nodes, node.0 as usize)
     }
 }
 

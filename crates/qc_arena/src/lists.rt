@@ -94,9 +94,14 @@ impl Lists {
         ensures changed { IfOk result (λ e. changed ≤ vec_capacity e.changed) }
         ensures added { IfOk result (λ e. added ≤ vec_capacity e.added) }
     {
-        let changed = Vec::with_capacity(alloc, changed)?;
-        let added = Vec::with_capacity(alloc, added)?;
-        Ok(Lists { changed, added })
+        let added = match Vec::with_capacity(alloc, added) {
+            Ok(added) => added,
+            Err(error) => return Err(error),
+        };
+        match Vec::with_capacity(alloc, changed) {
+            Ok(changed) => Ok(Lists { changed, added }),
+            Err(error) => Err(error),
+        }
     }
 
     // One more than the largest number, or 0 if there is none.

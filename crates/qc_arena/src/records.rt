@@ -115,7 +115,10 @@ impl NodeRecord {
     pub(crate) fn copy(&self) -> Result<NodeRecord, Memory>
         ensures { IfOk result (λ r. r.node ≡ self.now.node) }
     {
-        let edges = SmallVec::from_slice(*self.edges.allocator(), self.edges.as_slice())?;
+        let edges = match SmallVec::from_slice(*self.edges.allocator(), self.edges.as_slice()) {
+            Ok(edges) => edges,
+            Err(error) => return Err(error),
+        };
         Ok(NodeRecord {
             trail: self.trail.copy(),
             noted: self.noted.copy(),

@@ -145,7 +145,10 @@ fn reserve_slot(nodes: &mut Slab<Place>) -> Result<u32, Memory>
     ensures room { OnOk result (slots.HasRoomFor nodes.new 1) }
     ensures slots { nodes.new.slots ≡ nodes.old.slots }
 {
-    nodes.reserve(1)?;
+    match nodes.reserve(1) {
+        Ok(()) => {}
+        Err(error) => return Err(error),
+    }
     let key = nodes.vacant_key();
     if key >= 4_000_000_000 {
         return Err(AllocError);
@@ -153,13 +156,35 @@ fn reserve_slot(nodes: &mut Slab<Place>) -> Result<u32, Memory>
     Ok(key as u32)
 }
 
-// Puts a record at the next free number.
-fn fill_slot(nodes: &mut Slab<Place>, new: NodeRecord)
-    requires { slots.HasRoomFor nodes.old 1 }
-    ensures here { slots.get nodes.new nodes.old.vacant_key ≡ Some (Some new.node) }
-    ensures others { (q : ℕ) → q ≢ nodes.old.vacant_key → slots.get nodes.new q ≡ slots.get nodes.old q }
+// Makes room for a node, and marks its number as new.
+fn reserve_node(
+    nodes: &mut Slab<Place>,
+    parts: &mut Parts,
+    images: &mut Touched,
+) -> Result<u32, Memory>
+    requires { (q : ℕ) → IsSome (image_at images.old q) → slots.ContainsKey nodes.old q }
+    ensures parts { (q : ℕ) → shown parts.new q ≡ shown parts.old q }
+    ensures room { (q : ℕ) → HasRoom parts.old q → HasRoom parts.new q }
+    ensures room_here { IfOk result (λ k. HasRoom parts.new k) }
+    ensures number { IfOk result (λ k. k ≡ nodes.new.vacant_key) }
+    ensures free { IfOk result (λ k. slots.get nodes.old k ≡ None) }
+    ensures slot { OnOk result (slots.HasRoomFor nodes.new 1) }
+    ensures slots { nodes.new.slots ≡ nodes.old.slots }
+    ensures images { IfOk result (λ k. (q : ℕ) → image_at images.new q ≡ (if nat_eq k q then Some None else image_at images.old q)) }
+    ensures err_images { OnErr result (images.new ≡ images.old) }
 {
-    nodes.insert_reserved(Place::of(new));
+    let node = match reserve_slot(nodes) {
+        Ok(node) => node,
+        Err(error) => return Err(error),
+    };
+    match parts.reserve(node) {
+        Ok(()) => {}
+        Err(error) => return Err(error),
+    }
+    match images.add_new(node) {
+        Ok(()) => Ok(node),
+        Err(error) => Err(error),
+    }
 }
 
 // Puts a new record at a free number, and marks it as new.
@@ -180,30 +205,24 @@ pub(crate) fn add_record(
     ensures err_nodes { OnErr result (nodes.new.slots ≡ nodes.old.slots) }
     ensures err_images { OnErr result (images.new ≡ images.old) }
 {
-    let node = reserve_slot(nodes)?;
-    parts.reserve(node)?;
-    images.add_new(node)?;
-    fill_slot(nodes, new);
-    Ok(node)
-}
-
-// The record of a node.
-pub(crate) fn record_of(nodes: &Slab<Place>, node: u32) -> &NodeRecord
-    requires { IsSome (join (slots.get nodes.now node)) }
-    ensures { join (slots.get nodes.now node) ≡ Some result.now.node }
-{
-    match nodes.get(node as usize) {
-        Some(place) => place.standing(),
-        None => unreachable!(),
+    match reserve_node(nodes, parts, images) {
+        Ok(node) => {
+            nodes.insert_reserved(Place::of(new));
+            Ok(node)
+        }
+        Err(error) => {
+            drop(new);
+            Err(error)
+        }
     }
 }
 
-// The record at a place that has one.
-fn record_at(nodes: &Slab<Place>, place: usize) -> &NodeRecord
-    requires { IsSome (join (slots.get nodes.now place)) }
-    ensures { join (slots.get nodes.now place) ≡ Some result.now.node }
+// The record of a node.
+pub(crate) fn record_of(nodes: &Slab<Place>, node: usize) -> &NodeRecord
+    requires { IsSome (join (slots.get nodes.now node)) }
+    ensures { join (slots.get nodes.now node) ≡ Some result.now.node }
 {
-    match nodes.get(place) {
+    match nodes.get(node) {
         Some(place) => place.standing(),
         None => unreachable!(),
     }
@@ -221,8 +240,8 @@ fn same_cell(nodes: &Slab<Place>, node: usize, other: usize) -> bool
     let mut left = node;
     let mut right = other;
     'up: while left != right {
-        let first = record_at(nodes, left);
-        let second = record_at(nodes, right);
+        let first = record_of(nodes, left);
+        let second = record_of(nodes, right);
         if !first.shares_end(second) {
             return false;
         }
@@ -247,7 +266,7 @@ pub(crate) fn is_child(nodes: &Slab<Place>, node: usize, target: u32) -> bool
     requires rooted { IsRooted nodes.now }
     ensures { result ≡ is_under nat_cmp (record_or (join (slots.get nodes.now node))).cell (Some (record_or (join (slots.get nodes.now target))).cell) }
 {
-    match record_of(nodes, target).parent() {
+    match record_of(nodes, target as usize).parent() {
         None => false,
         Some(parent) => same_cell(nodes, parent.0 as usize, node),
     }
@@ -259,7 +278,7 @@ pub(crate) fn class_at(nodes: &Slab<Place>, parts: &Parts, node: u32) -> Option<
     requires parts { IfSome (record_or (join (slots.get nodes.now node))).class (λ a. IsShown (shown parts.now node) a) }
     ensures { option_map agg_in result ≡ (record_or (join (slots.get nodes.now node))).class }
 {
-    match record_of(nodes, node).heading() {
+    match record_of(nodes, node as usize).heading() {
         None => None,
         Some((count, measures)) => Some(Agg {
             count,
@@ -275,8 +294,10 @@ pub(crate) fn copy_at(nodes: &Slab<Place>, parts: &Parts, node: u32) -> Result<R
     requires parts { IfSome (record_or (join (slots.get nodes.now node))).class (λ a. IsShown (shown parts.now node) a) }
     ensures { IfOk result (λ w. join (slots.get nodes.now node) ≡ Some w) }
 {
-    let record = record_of(nodes, node).copy()?;
-    Ok(Record::new(record, parts.at(node)))
+    match record_of(nodes, node as usize).copy() {
+        Ok(record) => Ok(Record::new(record, parts.at(node))),
+        Err(error) => Err(error),
+    }
 }
 
 // Sets an edge of a node. Gives the number of edges before and after.

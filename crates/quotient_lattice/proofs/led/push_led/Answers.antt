@@ -1,4 +1,4 @@
-use Rattle.std.proofs.Common.{◌+◌, ◌∷◌, ◌++◌, [], None, arith, length, set, subst, sym, ap, ◌∙◌}
+use Rattle.std.proofs.Common.{◌+◌, None, arith, set, subst, sym, ap, ◌∙◌}
 use Rattle.std.specs.FinMap as map
 use Rattle.std.specs.Prelude.{IsSome}
 use Rattle.std.proofs.lemmas.List.Elements.{All-push}
