@@ -9,7 +9,6 @@ use build_acts::{add_child, add_root, mark_class, set_link};
 use cell_core::{Code, NodeNo, Steps};
 use qc_arena::{Nodes, QcArena};
 use std::alloc::Global;
-use std::mem;
 use std::sync::ledger::Ledger;
 
 // An arena of at most three nodes, with its root.
@@ -23,7 +22,7 @@ fn planted<L: Ledger>(alloc: Global, steps: &mut Steps<L>) -> Option<(QcArena, N
     };
     arena.begin();
     let Ok(root) = add_root(&mut arena, steps) else {
-        mem::forget(arena);
+        drop(arena);
         return None;
     };
     Some((arena, root))
@@ -157,11 +156,11 @@ fn act_on<L: Ledger>(
 fn acted<L: Ledger>(alloc: Global, steps: &mut Steps<L>) -> Option<(Seen, NodeNo, NodeNo)> {
     let (mut arena, root) = planted(alloc, steps)?;
     let Some((first, second)) = act_on(&mut arena, root, steps) else {
-        mem::forget(arena);
+        drop(arena);
         return None;
     };
     let seen = read_root(&arena, root, steps);
-    mem::forget(arena);
+    drop(arena);
     Some((seen, first, second))
 }
 

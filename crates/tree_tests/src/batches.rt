@@ -10,7 +10,6 @@ use aggregates::Agg;
 use cell_core::{NodeNo, Steps};
 use qc_arena::{Nodes, QcArena};
 use std::alloc::Global;
-use std::mem;
 use std::sync::ledger::Ledger;
 
 // Whether a batch is taken back that gave an edge another target.
@@ -22,7 +21,7 @@ fn is_taken_back<L: Ledger>(alloc: Global, steps: &mut Steps<L>) -> bool {
     let built = arena.edge_total();
     arena.begin();
     if arena.touch(root, steps).is_err() || arena.set_edge(root, 1, 7, root, steps).is_err() {
-        mem::forget(arena);
+        drop(arena);
         return false;
     }
     let changed = arena.edge_total();
@@ -34,7 +33,7 @@ fn is_taken_back<L: Ledger>(alloc: Global, steps: &mut Steps<L>) -> bool {
         arena.edge(root, 0, 7, steps).is_some(),
         arena.edge(root, 2, 7, steps).is_some(),
     ];
-    mem::forget(arena);
+    drop(arena);
     [built, changed, back] == [1; 3] && found == [true, false, false, false]
 }
 
@@ -70,13 +69,13 @@ fn widened<L: Ledger>(alloc: Global, keep: bool, steps: &mut Steps<L>) -> [(u8, 
     };
     widen_kept(&mut arena);
     if arena.add_node(Some((root, 3, 7)), steps).is_err() {
-        mem::forget(arena);
+        drop(arena);
         return [(0, 0); 2];
     }
     let inside = (arena.dims(), arena.live());
     close(&mut arena, keep);
     let after = (arena.dims(), arena.live());
-    mem::forget(arena);
+    drop(arena);
     [inside, after]
 }
 
@@ -88,7 +87,7 @@ fn is_killed<L: Ledger>(alloc: Global, steps: &mut Steps<L>) -> bool {
     arena.commit();
     arena.begin();
     if arena.touch(child, steps).is_err() {
-        mem::forget(arena);
+        drop(arena);
         return false;
     }
     arena.kill(child, steps);
@@ -96,7 +95,7 @@ fn is_killed<L: Ledger>(alloc: Global, steps: &mut Steps<L>) -> bool {
     let edges = arena.edge_total();
     arena.rollback();
     let back = arena.live();
-    mem::forget(arena);
+    drop(arena);
     after == 1 && edges == 1 && back == 2
 }
 
@@ -118,11 +117,11 @@ fn is_dropped<L: Ledger>(alloc: Global, steps: &mut Steps<L>) -> bool {
     arena.commit();
     arena.begin();
     if arena.touch(root, steps).is_err() {
-        mem::forget(arena);
+        drop(arena);
         return false;
     }
     let (kept, after) = dropped_twice(&mut arena, root, steps);
-    mem::forget(arena);
+    drop(arena);
     kept == 1 && after == 0
 }
 
@@ -167,7 +166,7 @@ fn are_classes_told<L: Ledger>(alloc: Global, steps: &mut Steps<L>) -> bool {
         return false;
     };
     let told = class_taken(alloc, &mut arena, root, steps);
-    mem::forget(arena);
+    drop(arena);
     told == [Some((1, 0)), Some((0, 0)), Some((0, 1))]
 }
 

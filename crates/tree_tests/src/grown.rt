@@ -6,7 +6,6 @@ ghost use Rattle.qc_arena.specs.Map.{bare, is_open, is_touched};
 use cell_core::{NodeNo, Steps};
 use qc_arena::{ArenaRefused, QcArena};
 use std::alloc::Global;
-use std::mem;
 use std::sync::ledger::Ledger;
 
 // An arena of at most two nodes, with its root.
@@ -22,7 +21,7 @@ pub(crate) fn planted<L: Ledger>(alloc: Global, steps: &mut Steps<L>) -> Option<
     };
     arena.begin();
     let Ok(root) = arena.add_node(None, steps) else {
-        mem::forget(arena);
+        drop(arena);
         return None;
     };
     Some((arena, root))
@@ -40,16 +39,16 @@ pub(crate) fn grown<L: Ledger>(
 {
     let (mut arena, root) = planted(alloc, steps)?;
     let Ok(child) = arena.add_node(Some((root, 1, 7)), steps) else {
-        mem::forget(arena);
+        drop(arena);
         return None;
     };
     // A third node is one too many.
     let Err(ArenaRefused::Full) = arena.add_node(Some((root, 2, 1)), steps) else {
-        mem::forget(arena);
+        drop(arena);
         return None;
     };
     if arena.set_edge(root, 1, 7, child, steps).is_err() {
-        mem::forget(arena);
+        drop(arena);
         return None;
     }
     Some((arena, root, child))

@@ -7,7 +7,6 @@ use crate::grown::grown;
 use cell_core::{Code, NodeNo, Steps};
 use qc_arena::{Images, Look, QcArena};
 use std::alloc::Global;
-use std::mem;
 use std::sync::ledger::Ledger;
 
 // What images say: of how many edges a node was, and its last value.
@@ -30,13 +29,13 @@ fn looked<L: Ledger>(alloc: Global, steps: &mut Steps<L>) -> Option<[Told; 5]> {
     let first = told_of(arena.last_images(), child);
     arena.begin();
     if !cut_off(&mut arena, root, child, steps) {
-        mem::forget(arena);
+        drop(arena);
         return None;
     }
     arena.commit();
     let [of_root, of_child, of_none] = told_of_three(arena.last_images(), root, child);
     let rest = told_of(arena.last_images(), root);
-    mem::forget(arena);
+    drop(arena);
     Some([first, of_root, of_child, of_none, rest])
 }
 
@@ -65,7 +64,7 @@ fn cut_off<L: Ledger>(
 // What images say of a node.
 fn told_of(images: Images, node: NodeNo) -> Told {
     let seen = told(&images, node);
-    mem::forget(images);
+    drop(images);
     seen
 }
 
@@ -76,7 +75,7 @@ fn told_of_three(images: Images, root: NodeNo, child: NodeNo) -> [Told; 3] {
         told(&images, child),
         told(&images, NodeNo(9)),
     ];
-    mem::forget(images);
+    drop(images);
     seen
 }
 

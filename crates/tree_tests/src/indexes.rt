@@ -7,7 +7,6 @@ use cell_core::NodeNo;
 use cube_defs::Memory;
 use measure_index::{Filling, Index, Walk};
 use std::alloc::Global;
-use std::mem;
 
 // Classes of one row, by the numbers of their nodes and their amounts.
 fn classes(alloc: Global, told: &[(u32, i64)]) -> Result<Vec<(NodeNo, Agg)>, Memory>
@@ -109,7 +108,7 @@ fn are_classes_walked(alloc: Global) -> Result<bool, Memory> {
     let mut index = Index::new(alloc, &[AggKind::Sum(0)], &[2])?;
     let changed = change(alloc, &mut index, &TOLD, &[]);
     let is_right = are_walks_right(&index);
-    mem::forget(index);
+    drop(index);
     changed?;
     Ok(is_right)
 }
@@ -139,7 +138,7 @@ fn is_filled_right(index: &Index) -> bool {
 fn is_filled(alloc: Global) -> Result<bool, Memory> {
     let index = filled(alloc, &KINDS, &TOLD)?;
     let is_right = is_filled_right(&index);
-    mem::forget(index);
+    drop(index);
     Ok(is_right)
 }
 
@@ -165,7 +164,7 @@ fn come_and_go(alloc: Global, index: &mut Index) -> Result<bool, Memory>
 fn have_come_and_gone(alloc: Global) -> Result<bool, Memory> {
     let mut index = Index::new(alloc, &[LEAST], &[0])?;
     let is_right = come_and_go(alloc, &mut index);
-    mem::forget(index);
+    drop(index);
     is_right
 }
 
@@ -183,7 +182,7 @@ fn asked_of_two_rows(
     let mut index = Index::new(alloc, &[kind], &[1])?;
     let changed = index.change(&classes, &[]);
     let found = asked(&index, kind, value);
-    mem::forget(index);
+    drop(index);
     changed?;
     Ok(found)
 }
@@ -217,7 +216,7 @@ fn are_kinds_named(index: &Index) -> bool {
 fn has_named_kinds(alloc: Global) -> Result<bool, Memory> {
     let index = Index::new(alloc, &[AggKind::Mean(0), AggKind::Count], &[0])?;
     let is_right = are_kinds_named(&index);
-    mem::forget(index);
+    drop(index);
     Ok(is_right)
 }
 

@@ -7,7 +7,6 @@ use crate::trees::{add, built, inserted};
 use cell_core::Steps;
 use qc_arena::{ArenaRefused, QcArena};
 use std::alloc::Global;
-use std::mem;
 use std::sync::ledger::Ledger;
 use tree_records::{Line, are_kept, are_same, cells};
 
@@ -46,7 +45,7 @@ fn comes<L: Ledger>(
 {
     let mut arena = inserted(alloc, dims, rows, place, max, steps)?;
     let Ok(cells) = cells(alloc, &arena, steps) else {
-        mem::forget(arena);
+        drop(arena);
         return None;
     };
     let tuple = tuple(alloc, &rows[place], dims);
@@ -58,7 +57,7 @@ fn comes<L: Ledger>(
         Err(ArenaRefused::Memory) => false,
     };
     let is_right = is_as_wanted && are_kept(&cells, before, &arena, steps);
-    mem::forget(arena);
+    drop(arena);
     Some(is_right)
 }
 
@@ -104,12 +103,12 @@ fn comes_at_each<L: Ledger>(
 {
     let before = built(alloc, dims, rows, place, steps)?;
     let Some(after) = built(alloc, dims, rows, place + 1, steps) else {
-        mem::forget(before);
+        drop(before);
         return None;
     };
     let comes = comes_between(alloc, dims, rows, place, &before, &after, steps);
-    mem::forget(before);
-    mem::forget(after);
+    drop(before);
+    drop(after);
     comes
 }
 

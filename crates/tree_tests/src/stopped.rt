@@ -10,7 +10,6 @@ use cell_core::{Cell, Entry, NodeNo, Steps};
 use class_builder::build_classes;
 use qc_arena::{ArenaRefused, Nodes, QcArena};
 use std::alloc::Global;
-use std::mem;
 use std::sync::ledger::Ledger;
 use tree_records::Line;
 use tree_search::find;
@@ -40,7 +39,7 @@ fn built<L: Ledger>(alloc: Global, table: &Table, steps: &mut Steps<L>) -> Optio
     match build_classes(alloc, table, &mut arena, steps) {
         Ok(()) => {}
         Err(_) => {
-            mem::forget(arena);
+            drop(arena);
             return None;
         }
     }
@@ -189,7 +188,7 @@ fn found_in<L: Ledger>(
 {
     let mut arena = built(alloc, few, steps)?;
     let found = found_each(alloc, few, more, &mut arena, steps);
-    mem::forget(arena);
+    drop(arena);
     found
 }
 
@@ -197,12 +196,12 @@ fn found_in<L: Ledger>(
 fn found_again<L: Ledger>(alloc: Global, steps: &mut Steps<L>) -> Option<[[Option<NodeNo>; 9]; 4]> {
     let few = table_of(alloc, 2, &FEW, 3)?;
     let Some(more) = table_of(alloc, 2, &MORE, 4) else {
-        mem::forget(few);
+        drop(few);
         return None;
     };
     let found = found_in(alloc, &few, &more, steps);
-    mem::forget(few);
-    mem::forget(more);
+    drop(few);
+    drop(more);
     found
 }
 

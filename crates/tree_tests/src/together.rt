@@ -6,7 +6,6 @@ use crate::images::{Told, told};
 use cell_core::{NodeNo, Steps};
 use qc_arena::{Images, Nodes, QcArena};
 use std::alloc::Global;
-use std::mem;
 use std::sync::ledger::Ledger;
 
 // What a batch does to a node.
@@ -76,7 +75,7 @@ fn images_of<L: Ledger>(alloc: Global, last: u8, steps: &mut Steps<L>) -> Option
     }
     batch(&mut arena, last, steps);
     let images = arena.last_images();
-    mem::forget(arena);
+    drop(arena);
     Some(images)
 }
 
@@ -117,7 +116,7 @@ fn say(images: Images, count: usize, of_root: Told, of_child: Told) -> bool {
     let child = told(&images, NodeNo(1));
     let none = told(&images, NodeNo(9));
     let all = images.count();
-    mem::forget(images);
+    drop(images);
     all == count && root == of_root && child == of_child && none.is_none()
 }
 
@@ -127,8 +126,8 @@ fn put_over(images: Images, later: Images) -> Option<Images> {
     match images.take_in(later) {
         Ok(()) => Some(images),
         Err(later) => {
-            mem::forget(later);
-            mem::forget(images);
+            drop(later);
+            drop(images);
             None
         }
     }
@@ -140,7 +139,7 @@ fn holds<L: Ledger>(alloc: Global, case: &Case, steps: &mut Steps<L>) -> bool {
         return false;
     };
     let Some(others) = images_of(alloc, later, steps) else {
-        mem::forget(images);
+        drop(images);
         return false;
     };
     match put_over(images, others) {

@@ -10,7 +10,6 @@ use cell_core::{Cell, Steps};
 use class_builder::build_classes;
 use qc_arena::{ArenaRefused, QcArena};
 use std::alloc::Global;
-use std::mem;
 use std::sync::ledger::Ledger;
 use tree_records::Line;
 
@@ -52,7 +51,7 @@ fn built_of<L: Ledger>(
     match build_classes(alloc, table, &mut arena, steps) {
         Ok(()) => Some(arena),
         Err(_) => {
-            mem::forget(arena);
+            drop(arena);
             None
         }
     }
@@ -73,7 +72,7 @@ pub(crate) fn built<L: Ledger>(
 {
     let table = table_of(alloc, dims, rows, count)?;
     let arena = built_of(alloc, dims, &table, steps);
-    mem::forget(table);
+    drop(table);
     arena
 }
 
@@ -134,7 +133,7 @@ pub(crate) fn inserted<L: Ledger>(
         match add(alloc, &mut arena, &tuple, place, steps) {
             Ok(()) => {}
             Err(_) => {
-                mem::forget(arena);
+                drop(arena);
                 return None;
             }
         }

@@ -10,7 +10,6 @@ use cell_core::{Cell, Code, Entry, NodeNo, Steps};
 use drill_links::descend;
 use qc_arena::{Nodes, QcArena};
 use std::alloc::Global;
-use std::mem;
 use std::sync::ledger::Ledger;
 
 // An arena with its root, a node under it with the value 7 in dimension 1, and the edge to that.
@@ -20,11 +19,11 @@ fn grown<L: Ledger>(alloc: Global, steps: &mut Steps<L>) -> Option<(QcArena, Nod
 {
     let (mut arena, root) = planted(alloc, steps)?;
     let Ok(child) = arena.add_node(Some((root, 1, 7)), steps) else {
-        mem::forget(arena);
+        drop(arena);
         return None;
     };
     let Ok(()) = arena.set_edge(root, 1, 7, child, steps) else {
-        mem::forget(arena);
+        drop(arena);
         return None;
     };
     Some((arena, root))
@@ -43,7 +42,7 @@ fn gone_down<L: Ledger>(alloc: Global, steps: &mut Steps<L>) -> Option<(u8, Code
     let (arena, root) = grown(alloc, steps)?;
     let node = descend(&arena, root, &target(alloc), 0, 2, steps);
     let end = arena.end_of(node, steps);
-    mem::forget(arena);
+    drop(arena);
     end
 }
 
