@@ -4,6 +4,7 @@ ghost use Rattle.std.specs.Prelude.{length, ◌≡◌};
 use cell_core::{Cell, Code, Entry, Field, Fields, Text, Texts};
 use std::alloc::{AllocError, Global};
 use std::cmp::Ordering;
+use std::mem;
 use value_dict::Dict;
 
 #[derive(Clone, Copy)]
@@ -54,7 +55,7 @@ fn fields(alloc: Global, first: Asked, second: Asked) -> Result<Fields, AllocErr
     match push_both(alloc, &mut fields, first, second) {
         Ok(()) => Ok(fields),
         Err(error) => {
-            drop(fields);
+            mem::forget(fields);
             Err(error)
         }
     }
@@ -86,11 +87,13 @@ fn cell(
     second: Asked,
 ) -> Result<Option<Cell>, AllocError> {
     let fields = fields(alloc, first, second)?;
-    if fields.len() == u32::from(dict.dims()) {
-        Ok(dict.cell_of(&fields))
+    let found = if fields.len() == u32::from(dict.dims()) {
+        dict.cell_of(&fields)
     } else {
-        Ok(None)
-    }
+        None
+    };
+    mem::forget(fields);
+    Ok(found)
 }
 
 // Two fields, and the entries of the cell that they ask for, where they ask for one.
@@ -138,22 +141,32 @@ static BOXES: [(Asked, &[Code]); 7] = [
     (One("z"), &[]),
 ];
 
-// Whether a field asks for these codes.
-fn is_box(alloc: Global, dict: &Dict, asked: Asked, want: &[Code]) -> Result<bool, AllocError> {
-    let fields = fields(alloc, asked, Any)?;
+// Whether the first of these fields asks for these codes.
+fn has_codes(alloc: Global, dict: &Dict, fields: &Fields, want: &[Code]) -> bool {
     if fields.len() != u32::from(dict.dims()) {
-        return Ok(false);
+        return false;
     }
-    let cells = dict.box_of(alloc, &fields)?;
-    if cells.dims() == 0 {
-        return Ok(false);
-    }
-    Ok(cells.codes(0).unwrap_or(&[]) == want)
+    let Ok(cells) = dict.box_of(alloc, fields) else {
+        return false;
+    };
+    let has_codes = cells.dims() > 0 && cells.codes(0).unwrap_or(&[]) == want;
+    mem::forget(cells);
+    has_codes
+}
+
+// Whether a field asks for these codes.
+fn is_box(alloc: Global, dict: &Dict, asked: Asked, want: &[Code]) -> bool {
+    let Ok(fields) = fields(alloc, asked, Any) else {
+        return false;
+    };
+    let has_codes = has_codes(alloc, dict, &fields, want);
+    mem::forget(fields);
+    has_codes
 }
 
 fn are_boxes(alloc: Global, dict: &Dict) -> bool {
     'cases: for (asked, want) in &BOXES {
-        if !matches!(is_box(alloc, dict, *asked, *want), Ok(true)) {
+        if !is_box(alloc, dict, *asked, *want) {
             return false;
         }
     }
@@ -195,6 +208,6 @@ pub(crate) fn are_right(alloc: Global) -> bool {
         return false;
     };
     let are_right = are_cells(alloc, &dict) && are_boxes(alloc, &dict) && are_ordered(alloc, &dict);
-    drop(dict);
+    mem::forget(dict);
     are_right
 }

@@ -3,6 +3,7 @@
 use qc_schema::read_schema;
 use query_script::{Command, LineRefused, Query, read_line};
 use std::alloc::Global;
+use std::mem;
 
 const SHOP: &[u8] = b"qcube 1\nid order\ndim store\ndim product\ndim season\n";
 
@@ -12,7 +13,7 @@ fn fields_of(command: Command) -> u32 {
         Command::Ask(Query::Point(fields)) => fields.len(),
         _ => 0,
     };
-    drop(command);
+    mem::forget(command);
     fields
 }
 
@@ -25,7 +26,7 @@ fn read(alloc: Global, line: &[u8]) -> Result<u32, LineRefused> {
         return Ok(0);
     };
     let read = read_line(alloc, &schema, line);
-    drop(schema);
+    mem::forget(schema);
     match read {
         Ok(command) => Ok(fields_of(command)),
         Err(refused) => Err(refused),

@@ -5,6 +5,7 @@ ghost use Rattle.aggregates.specs.Bounds.{largest_amount};
 use base_table::{Table, TableRefused};
 use cell_core::{Cell, Code, Entry};
 use std::alloc::Global;
+use std::mem;
 
 #[derive(Clone, Copy)]
 pub enum Change {
@@ -289,7 +290,7 @@ fn all_right(alloc: Global, max: u32, batches: &[Batch]) -> bool
         let is_right = is_right(alloc, &mut table, batch);
         all = all && is_right;
     }
-    drop(table);
+    mem::forget(table);
     all
 }
 
@@ -329,7 +330,7 @@ fn read_and_taken(alloc: Global, id: u64) -> Option<(Seen, [i64; 4])> {
     make(alloc, &mut table, Insert(id, 7, 9, -5));
     let seen = first_row(&table);
     let amounts = taken_out(&mut table, id);
-    drop(table);
+    mem::forget(table);
     Some((seen, amounts))
 }
 

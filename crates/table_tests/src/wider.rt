@@ -6,6 +6,7 @@ use crate::rows::{make, put};
 use base_table::Table;
 use cell_core::{Cell, Code, Entry};
 use std::alloc::Global;
+use std::mem;
 
 // Puts two rows into an empty table, and keeps them.
 fn fill(alloc: Global, table: &mut Table)
@@ -125,7 +126,7 @@ fn all_right(alloc: Global) -> bool {
         let is_right = is_right(alloc, &mut table, batch);
         all = all && is_right;
     }
-    drop(table);
+    mem::forget(table);
     all
 }
 
@@ -163,7 +164,7 @@ fn widen_and_add(alloc: Global, table: &mut Table)
     table.commit();
 }
 
-// Whether a row that comes behind the others has a code of its own.
+// Whether a row that comes after the others has a code of its own.
 fn are_sums(alloc: Global) -> bool {
     let Ok(mut table) = Table::new(alloc, 2, 1, 4) else {
         return false;
@@ -174,7 +175,7 @@ fn are_sums(alloc: Global) -> bool {
         && sum_of(alloc, &table, 3, 4, 8) == Some(5)
         && sum_of(alloc, &table, 3, 5, 7) == Some(20)
         && sum_of(alloc, &table, 3, 5, 8).is_none();
-    drop(table);
+    mem::forget(table);
     are_right
 }
 

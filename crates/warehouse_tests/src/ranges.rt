@@ -1,5 +1,5 @@
 // Range queries with the cells that they have.
-ghost use Rattle.std.specs.Prelude.{IfOk, length, ◌<◌, ◌≡◌};
+ghost use Rattle.std.specs.Prelude.{IfOk, length, ◌≡◌};
 ghost use Rattle.cube_defs.specs.Answers as defs;
 ghost use Rattle.cube_defs.specs.Text.{text_cmp};
 ghost use Rattle.range_query.specs.Told.{told_hits};
@@ -10,9 +10,8 @@ use crate::shops::{base, filled};
 use cell_core::{Entry, Fields, Memory, Steps};
 use range_query::{Hit, RangeRefused, range};
 use std::alloc::Global;
-use std::marker::Brand;
 use std::str;
-use std::sync::ledger::{Blank, Ledger};
+use std::sync::ledger::Ledger;
 use warehouse::Warehouse;
 
 const SCHEMA: &[u8] = b"qcube 1\nid id\ndim x\ndim y\ndim z\nmeasure sale 0\n";
@@ -128,22 +127,13 @@ fn is_right<L: Ledger>(alloc: Global, case: &str, steps: &mut Steps<L>) -> Optio
     Some(is_answered)
 }
 
-fn script<L: Ledger>(alloc: Global, bytes: &[u8], blank: Blank) -> bool
-    requires name { blank.name ≡ L.name }
-    requires parts { blank.parts ≡ L.parts }
-    requires some { 0 < L.parts }
-{
+/// Whether each case of a file is right.
+pub fn are_right<L: Ledger>(alloc: Global, bytes: &[u8], steps: &mut Steps<L>) -> bool {
     let text = str::from_utf8(bytes).unwrap_or("");
-    let mut steps = Steps::<L>::start(blank);
     'cases: for case in text.split("\n====\n") {
-        if is_right(alloc, case, &mut steps) != Some(true) {
+        if is_right(alloc, case, steps) != Some(true) {
             return false;
         }
     }
     true
-}
-
-/// Whether each case of a file is right.
-pub fn are_right(alloc: Global, bytes: &[u8]) -> bool {
-    script::<Brand>(alloc, bytes, Blank::new(1))
 }

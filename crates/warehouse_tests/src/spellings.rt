@@ -1,12 +1,10 @@
 // Bytes that are the snapshot of a state, or of none.
-ghost use Rattle.std.specs.Prelude.{◌<◌, ◌≡◌};
 
 use cell_core::Steps;
 use cube_defs::MAX_FILE;
 use cube_snapshot::{DecodeRefused, decode, encode};
 use std::alloc::{AllocError, Global};
-use std::marker::Brand;
-use std::sync::ledger::{Blank, Ledger};
+use std::sync::ledger::Ledger;
 use warehouse::Warehouse;
 
 // A snapshot of three rows: the mark, the schema, the texts of three dimensions, and the rows.
@@ -50,16 +48,12 @@ fn spells(alloc: Global, warehouse: &Warehouse, bytes: &[u8]) -> Verdict {
     }
 }
 
-fn answer_of<L: Ledger>(alloc: Global, bytes: &[u8], blank: Blank) -> Verdict
-    requires name { blank.name ≡ L.name }
-    requires parts { blank.parts ≡ L.parts }
-    requires some { 0 < L.parts }
-{
+// What the bytes are.
+fn answer<L: Ledger>(alloc: Global, bytes: &[u8], steps: &mut Steps<L>) -> Verdict {
     if bytes.len() > MAX_FILE {
         return Verdict::Misread;
     }
-    let mut steps = Steps::<L>::start(blank);
-    match decode(alloc, bytes, &mut steps) {
+    match decode(alloc, bytes, steps) {
         Ok(warehouse) => {
             let verdict = spells(alloc, &warehouse, bytes);
             warehouse.discard();
@@ -69,40 +63,39 @@ fn answer_of<L: Ledger>(alloc: Global, bytes: &[u8], blank: Blank) -> Verdict
     }
 }
 
-// What the bytes are, where no steps are counted.
-fn answer(alloc: Global, bytes: &[u8]) -> Verdict {
-    answer_of::<Brand>(alloc, bytes, Blank::new(1))
-}
-
 // Whether the first bytes of a snapshot, so many of them, are refused.
-fn is_cut_refused(alloc: Global, len: usize) -> bool {
+fn is_cut_refused<L: Ledger>(alloc: Global, len: usize, steps: &mut Steps<L>) -> bool {
     match FULL.get(..len) {
-        Some(front) => answer(alloc, front) == Verdict::Refused(DecodeRefused::Form),
+        Some(front) => answer(alloc, front, steps) == Verdict::Refused(DecodeRefused::Form),
         None => false,
     }
 }
 
 // Whether no prefix of a snapshot is one.
-fn are_cuts_refused(alloc: Global) -> bool {
+fn are_cuts_refused<L: Ledger>(alloc: Global, steps: &mut Steps<L>) -> bool {
     'lens: for len in 0..232 {
-        if !is_cut_refused(alloc, len) {
+        if !is_cut_refused(alloc, len, steps) {
             return false;
         }
     }
     true
 }
 
-// Whether a byte more behind a snapshot is refused.
-fn is_longer_refused(alloc: Global, byte: u8) -> Result<bool, AllocError> {
+// Whether a byte more after a snapshot is refused.
+fn is_longer_refused<L: Ledger>(
+    alloc: Global,
+    byte: u8,
+    steps: &mut Steps<L>,
+) -> Result<bool, AllocError> {
     let mut bytes = Vec::from_slice(alloc, FULL)?;
     bytes.push(byte)?;
-    Ok(answer(alloc, &bytes) == Verdict::Refused(DecodeRefused::Form))
+    Ok(answer(alloc, &bytes, steps) == Verdict::Refused(DecodeRefused::Form))
 }
 
-// Whether nothing may stand behind a snapshot.
-fn are_longer_refused(alloc: Global) -> Result<bool, AllocError> {
+// Whether nothing may stand after a snapshot.
+fn are_longer_refused<L: Ledger>(alloc: Global, steps: &mut Steps<L>) -> Result<bool, AllocError> {
     'bytes: for byte in 0..4 {
-        if !is_longer_refused(alloc, byte)? {
+        if !is_longer_refused(alloc, byte, steps)? {
             return Ok(false);
         }
     }
@@ -110,21 +103,28 @@ fn are_longer_refused(alloc: Global) -> Result<bool, AllocError> {
 }
 
 // Whether a snapshot with one byte changed is refused, or that of another state.
-fn is_changed_well(alloc: Global, place: usize, mask: u8) -> Result<bool, AllocError> {
+fn is_changed_well<L: Ledger>(
+    alloc: Global,
+    place: usize,
+    mask: u8,
+    steps: &mut Steps<L>,
+) -> Result<bool, AllocError> {
     let mut bytes = Vec::from_slice(alloc, FULL)?;
     if let Some(byte) = bytes.get_mut(place) {
         *byte ^= mask;
     }
-    Ok(match answer(alloc, &bytes) {
+    Ok(match answer(alloc, &bytes, steps) {
         Verdict::Spelled | Verdict::Refused(DecodeRefused::Form | DecodeRefused::NodesFull) => true,
         Verdict::Misread | Verdict::Refused(DecodeRefused::Memory) => false,
     })
 }
 
 // Whether each byte of a snapshot counts.
-fn are_changed_well(alloc: Global) -> Result<bool, AllocError> {
+fn are_changed_well<L: Ledger>(alloc: Global, steps: &mut Steps<L>) -> Result<bool, AllocError> {
     'places: for place in 0..232 {
-        if !is_changed_well(alloc, place, 1)? || !is_changed_well(alloc, place, 128)? {
+        if !is_changed_well(alloc, place, 1, steps)?
+            || !is_changed_well(alloc, place, 128, steps)?
+        {
             return Ok(false);
         }
     }
@@ -132,12 +132,12 @@ fn are_changed_well(alloc: Global) -> Result<bool, AllocError> {
 }
 
 /// Whether a snapshot is one, and a tree with too many nodes, a prefix, and more or other bytes are none.
-pub fn are_right(alloc: Global) -> Result<bool, AllocError> {
+pub fn are_right<L: Ledger>(alloc: Global, steps: &mut Steps<L>) -> Result<bool, AllocError> {
     Ok(
-        answer(alloc, FULL) == Verdict::Spelled
-            && answer(alloc, CROWDED) == Verdict::Refused(DecodeRefused::NodesFull)
-            && are_cuts_refused(alloc)
-            && are_longer_refused(alloc)?
-            && are_changed_well(alloc)?,
+        answer(alloc, FULL, steps) == Verdict::Spelled
+            && answer(alloc, CROWDED, steps) == Verdict::Refused(DecodeRefused::NodesFull)
+            && are_cuts_refused(alloc, steps)
+            && are_longer_refused(alloc, steps)?
+            && are_changed_well(alloc, steps)?,
     )
 }

@@ -1,13 +1,11 @@
 // Scripts of base files, batches and new dimensions. Each has its answer, and a base file of the rows after it.
-ghost use Rattle.std.specs.Prelude.{◌<◌, ◌≡◌};
 
 use crate::shops::{File, base, batch, change, filled};
 use crate::tree_text::text_of;
 use cell_core::Steps;
 use std::alloc::Global;
-use std::marker::Brand;
 use std::str;
-use std::sync::ledger::{Blank, Ledger};
+use std::sync::ledger::Ledger;
 use tree_records::{Line, are_kept, are_same, cells};
 use warehouse::{Refused, Warehouse, WidenRefused};
 
@@ -249,21 +247,16 @@ fn all_go<L: Ledger>(
     true
 }
 
-fn script<L: Ledger>(alloc: Global, bytes: &[u8], blank: Blank) -> Option<bool>
-    requires name { blank.name ≡ L.name }
-    requires parts { blank.parts ≡ L.parts }
-    requires some { 0 < L.parts }
-{
+fn script<L: Ledger>(alloc: Global, bytes: &[u8], steps: &mut Steps<L>) -> Option<bool> {
     let (start, rest) = str::from_utf8(bytes).ok()?.split_once("\n====\n")?;
     let start = read_start(start)?;
-    let mut steps = Steps::<L>::start(blank);
-    let mut shop = filled(alloc, start.schema.as_bytes(), &[], &mut steps)?;
-    let go = all_go(alloc, &start, &mut shop, rest, &mut steps);
+    let mut shop = filled(alloc, start.schema.as_bytes(), &[], steps)?;
+    let go = all_go(alloc, &start, &mut shop, rest, steps);
     shop.discard();
     Some(go)
 }
 
 /// Whether each step of a script goes as it says.
-pub fn is_right(alloc: Global, bytes: &[u8]) -> bool {
-    script::<Brand>(alloc, bytes, Blank::new(1)) == Some(true)
+pub fn is_right<L: Ledger>(alloc: Global, bytes: &[u8], steps: &mut Steps<L>) -> bool {
+    script(alloc, bytes, steps) == Some(true)
 }

@@ -1,6 +1,6 @@
-// The tree of a warehouse of three dimensions as a text: the counts, and a line for each node, in the order of bytes.
+// The tree of a warehouse of up to six dimensions as a text: the counts, and a line for each node, in the order of bytes.
 ghost use Rattle.std.specs.FinMap as map;
-ghost use Rattle.std.specs.Prelude.{IsSome, length, ◌≡◌};
+ghost use Rattle.std.specs.Prelude.{IsSome, length, ◌≡◌, ◌≤◌};
 
 use aggregates::Agg;
 use cell_core::{Cell, Entry, NodeNo, Steps};
@@ -23,7 +23,10 @@ fn text_at(dict: &Dict, dim: u8, code: u32) -> &str {
 
 // Writes the texts of a cell, with `*` for Any.
 fn push_cell(text: &mut String, dict: &Dict, cell: &Line) -> Result<(), AllocError> {
-    'dims: for dim in 0..3u8 {
+    'dims: for dim in 0..6u8 {
+        if dim == dict.dims() {
+            break;
+        }
         let value = cell[usize::from(dim)];
         let entry = if value == ANY {
             "*"
@@ -111,11 +114,12 @@ fn push_record<L: Ledger>(
     push_edges(alloc, text, tree, dict, node, steps)
 }
 
-fn cell_of(alloc: Global, line: &Line) -> Cell
-    ensures { length result ≡ 3 }
+fn cell_of(alloc: Global, line: &Line, dims: u8) -> Cell
+    requires { dims ≤ 6 }
+    ensures { length result ≡ dims }
 {
-    let mut cell = Cell::any(alloc, 3);
-    'dims: for dim in 0..3u8 {
+    let mut cell = Cell::any(alloc, dims);
+    'dims: for dim in 0..dims {
         let value = line[usize::from(dim)];
         if value != ANY {
             cell.set(dim, Entry::Is(u32::from(value)));
@@ -131,11 +135,12 @@ fn is_found<L: Ledger>(
     node: NodeNo,
     steps: &mut Steps<L>,
 ) -> bool {
-    if shop.schema().dims() != 3 {
+    let dims = shop.schema().dims();
+    if dims > 6 {
         return false;
     }
     match cell_at(shop.tree(), node, steps) {
-        Some(line) => find(shop.tree(), &cell_of(alloc, &line), steps) == Some(node),
+        Some(line) => find(shop.tree(), &cell_of(alloc, &line, dims), steps) == Some(node),
         None => false,
     }
 }

@@ -1,11 +1,10 @@
 // The worked tree: its cells are found under their numbers again.
-ghost use Rattle.std.specs.Prelude.{IfSome, length, ◌<◌, ◌≡◌};
+ghost use Rattle.std.specs.Prelude.{IfSome, length, ◌≡◌};
 
 use crate::shops::{apply, base, filled};
 use cell_core::{Cell, Entry, NodeNo, Steps};
 use std::alloc::Global;
-use std::marker::Brand;
-use std::sync::ledger::{Blank, Ledger};
+use std::sync::ledger::Ledger;
 use tree_search::find;
 use warehouse::Warehouse;
 
@@ -92,22 +91,13 @@ fn numbers_after<L: Ledger>(
 }
 
 // The numbers after the base file, after the fourth row came, and after it went.
-fn found<L: Ledger>(alloc: Global, blank: Blank) -> Option<[Option<Numbers>; 3]>
-    requires name { blank.name ≡ L.name }
-    requires parts { blank.parts ≡ L.parts }
-    requires some { 0 < L.parts }
-{
-    let mut steps = Steps::<L>::start(blank);
-    let mut shop = filled(alloc, SCHEMA, &[base(BASE)], &mut steps)?;
-    let first = numbers(alloc, &shop, &mut steps);
-    let with = numbers_after(alloc, &mut shop, PLUS, &mut steps);
-    let last = numbers_after(alloc, &mut shop, MINUS, &mut steps);
+fn found<L: Ledger>(alloc: Global, steps: &mut Steps<L>) -> Option<[Option<Numbers>; 3]> {
+    let mut shop = filled(alloc, SCHEMA, &[base(BASE)], steps)?;
+    let first = numbers(alloc, &shop, steps);
+    let with = numbers_after(alloc, &mut shop, PLUS, steps);
+    let last = numbers_after(alloc, &mut shop, MINUS, steps);
     shop.discard();
     Some([Some(first), with, last])
-}
-
-fn found_uncounted(alloc: Global) -> Option<[Option<Numbers>; 3]> {
-    found::<Brand>(alloc, Blank::new(1))
 }
 
 // Whether two cells have one number just where they have one closure.
@@ -142,8 +132,8 @@ fn are_kept(numbers: &[Option<Numbers>; 3]) -> bool {
 }
 
 /// Whether the worked tree keeps its numbers.
-pub fn is_right(alloc: Global) -> bool {
-    match found_uncounted(alloc) {
+pub fn is_right<L: Ledger>(alloc: Global, steps: &mut Steps<L>) -> bool {
+    match found(alloc, steps) {
         Some(numbers) => are_kept(&numbers),
         None => false,
     }

@@ -13,7 +13,7 @@ pub fn read_lines(rt: &HostRuntime, path: &str) -> io::Result<Vec<String>> {
     Ok(lines)
 }
 
-// Whether the record `refused,LINE,WORD` or one with more behind it has this word.
+// Whether the record `refused,LINE,WORD` or one with more after it has this word.
 fn is_refused_with(record: &str, word: &str) -> bool {
     let mut fields = record.split(',');
     if fields.next() != Some("refused") {
@@ -30,7 +30,7 @@ pub struct Spoken {
     messages: String,
 }
 
-// Puts bytes behind a text, where they are one.
+// Appends bytes to a text, where they are one.
 fn push_text(text: &mut String, bytes: &[u8]) -> Result<(), AllocError> {
     match str::from_utf8(bytes) {
         Ok(more) => text.push_str(more),

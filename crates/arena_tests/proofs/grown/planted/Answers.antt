@@ -1,8 +1,0 @@
-use Rattle.std.proofs.Common.{◌∙◌, ap, sym}
-use Rattle.cube_defs.specs.Tree.{cell_at}
-use Rattle.qc_arena.specs.Map.{Arena}
-use Rattle.qc_arena.proofs.TotalsSteps.{none_there}
-use Rattle.arena_tests.proofs.grown.planted.Goals as goal
-
-pub add_node-requires-clause-under : goal.add_node-requires-clause-under
-add_node-requires-clause-under g c = λ k e. none_there k _ (sym (ap (λ t. cell_at t k) (ap (λ (v : Arena). v.now) c.begin.ensures ∙ ap (λ (v : Arena). v.now) c.in-Ok.ensures)) ∙ e)

@@ -1,8 +1,0 @@
-use Rattle.std.proofs.Common.{◌≡◌, ℕ, ◌<◌, Option, get_or, is_some, length, true}
-use Rattle.search_tests.proofs.stopped.tuple.Given as goal
-
-abbrev pub invariant-dims : goal.invariant-dims
-invariant-dims l = record {
-  long : length l.cell ≡ 2;
-  full : (k : ℕ) (d : Option ℕ) → k < l.dim → is_some (get_or l.cell k d) ≡ true;
-}

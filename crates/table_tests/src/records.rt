@@ -1,0 +1,50 @@
+// Texts, read by hand.
+use csv::ByteRecord;
+use std::alloc::Global;
+use std::mem;
+use text_lines::{
+    RecordReader, field, has_two_marks, is_comment_line, is_plain, split_line, trim_cr, trim_mark,
+};
+
+fn are_lines_cut() -> bool {
+    let text = trim_mark(b"\xef\xbb\xbf# x\r\ny");
+    let (first, after) = split_line(text);
+    text.len() == 6
+        && trim_cr(first) == b"# x".as_slice()
+        && is_comment_line(first)
+        && after == b"y".as_slice()
+}
+
+fn are_marks_and_quotes_seen() -> bool {
+    !has_two_marks(b"\xef\xbb\xbfx")
+        && has_two_marks(b"\xef\xbb\xbf\xef\xbb\xbf")
+        && is_plain("a,b c")
+        && !is_plain("a,\"b\"")
+}
+
+// Whether a record comes next, or none.
+fn is_next(rows: &mut RecordReader<'_>, row: &mut ByteRecord, comes: bool) -> bool {
+    match rows.next(row) {
+        Ok(came) => came == comes,
+        Err(_) => false,
+    }
+}
+
+// Two records with a line between them: of two fields, the second with a quote, and of one.
+fn are_records_read(alloc: Global) -> bool {
+    let mut rows = RecordReader::new(alloc, b"a,\"b\"\"c\"\n\nd\n");
+    let mut row = ByteRecord::new(alloc);
+    let is_first = is_next(&mut rows, &mut row, true);
+    let is_two = row.len() == 2 && field(&row, 1) == b"b\"c".as_slice();
+    let is_second = is_next(&mut rows, &mut row, true);
+    let is_one = row.len() == 1;
+    let is_end = is_next(&mut rows, &mut row, false);
+    mem::forget(row);
+    mem::forget(rows);
+    is_first && is_two && is_second && is_one && is_end
+}
+
+/// Whether lines and records are read.
+pub(crate) fn are_right(alloc: Global) -> bool {
+    are_lines_cut() && are_marks_and_quotes_seen() && are_records_read(alloc)
+}

@@ -1,4 +1,0 @@
-use Rattle.warehouse_tests.proofs.steps.is_right.Given as goal
-
-abbrev pub ghosts-script : goal.ghosts-script
-ghosts-script a = record { name = a.blank.name; parts = a.blank.parts }
