@@ -5,7 +5,6 @@ use base_table::Table;
 use cell_closure::{Parts, closure_of};
 use cell_core::{Code, Entry};
 use std::alloc::{AllocError, Global};
-use std::mem;
 
 // A table of these codes, a row each, whose ids are their places.
 fn table_of(alloc: Global, rows: &[(u8, u8)]) -> Result<Table, AllocError> {
@@ -128,7 +127,7 @@ fn is_parted(alloc: Global, case: &Parted) -> bool {
         return false;
     };
     let are_parts = are_parts(alloc, &table, dim, want);
-    mem::forget(table);
+    drop(table);
     matches!(are_parts, Ok(true))
 }
 
@@ -169,7 +168,7 @@ fn is_shared(alloc: Global, case: &Shared) -> bool {
         return false;
     };
     let is_shared = share(alloc, &table, first, second);
-    mem::forget(table);
+    drop(table);
     is_shared
 }
 

@@ -4,7 +4,6 @@ ghost use Rattle.std.specs.Prelude.{length, ◌≡◌};
 use cell_core::{Cell, Code, Entry, Field, Fields, Text, Texts};
 use std::alloc::{AllocError, Global};
 use std::cmp::Ordering;
-use std::mem;
 use value_dict::Dict;
 
 #[derive(Clone, Copy)]
@@ -12,20 +11,33 @@ enum Asked {
     Any,
     All,
     One(&'static str),
-    /// b, c, a text of no bytes, and b again.
+    /// Those of [`LISTED`].
     Among,
     Between(&'static str, &'static str),
 }
 
 use Asked::{All, Among, Any, Between, One};
 
+static LISTED: [&str; 4] = ["b", "c", "", "b"];
+
+fn push_listed(alloc: Global, texts: &mut Texts) -> Result<(), AllocError> {
+    'words: for word in &LISTED {
+        if texts.len() < 9 {
+            texts.push(Text::new(alloc, *word)?)?;
+        }
+    }
+    Ok(())
+}
+
 fn among(alloc: Global) -> Result<Field, AllocError> {
     let mut texts = Texts::new(alloc);
-    texts.push(Text::new(alloc, "b")?)?;
-    texts.push(Text::new(alloc, "c")?)?;
-    texts.push(Text::new(alloc, "")?)?;
-    texts.push(Text::new(alloc, "b")?)?;
-    Ok(Field::Among(texts))
+    match push_listed(alloc, &mut texts) {
+        Ok(()) => Ok(Field::Among(texts)),
+        Err(error) => {
+            drop(texts);
+            Err(error)
+        }
+    }
 }
 
 fn field(alloc: Global, asked: Asked) -> Result<Field, AllocError> {
@@ -55,7 +67,7 @@ fn fields(alloc: Global, first: Asked, second: Asked) -> Result<Fields, AllocErr
     match push_both(alloc, &mut fields, first, second) {
         Ok(()) => Ok(fields),
         Err(error) => {
-            mem::forget(fields);
+            drop(fields);
             Err(error)
         }
     }
@@ -92,7 +104,7 @@ fn cell(
     } else {
         None
     };
-    mem::forget(fields);
+    drop(fields);
     Ok(found)
 }
 
@@ -150,7 +162,7 @@ fn has_codes(alloc: Global, dict: &Dict, fields: &Fields, want: &[Code]) -> bool
         return false;
     };
     let has_codes = cells.dims() > 0 && cells.codes(0).unwrap_or(&[]) == want;
-    mem::forget(cells);
+    drop(cells);
     has_codes
 }
 
@@ -160,7 +172,7 @@ fn is_box(alloc: Global, dict: &Dict, asked: Asked, want: &[Code]) -> bool {
         return false;
     };
     let has_codes = has_codes(alloc, dict, &fields, want);
-    mem::forget(fields);
+    drop(fields);
     has_codes
 }
 
@@ -208,6 +220,6 @@ pub(crate) fn are_right(alloc: Global) -> bool {
         return false;
     };
     let are_right = are_cells(alloc, &dict) && are_boxes(alloc, &dict) && are_ordered(alloc, &dict);
-    mem::forget(dict);
+    drop(dict);
     are_right
 }

@@ -3,7 +3,6 @@
 use csv_load::{RawBatch, read_batch};
 use qc_schema::{Schema, read_schema};
 use std::alloc::Global;
-use std::mem;
 
 const ONE_DIM: &[u8] = b"qcube 1\nid id\ndim a\nmeasure m 2\n";
 
@@ -25,7 +24,7 @@ fn counts_read(alloc: Global, schema: &Schema) -> Option<(u32, u32, i64)> {
         return None;
     };
     let counts = counts(&batch);
-    mem::forget(batch);
+    drop(batch);
     counts
 }
 
@@ -34,14 +33,14 @@ fn are_counted(alloc: Global) -> bool {
         return false;
     };
     let counts = counts_read(alloc, &schema);
-    mem::forget(schema);
+    drop(schema);
     counts == Some((3, 2, -700))
 }
 
 fn is_empty(alloc: Global) -> bool {
     let batch = RawBatch::empty(alloc, 12, 1);
     let count = batch.len();
-    mem::forget(batch);
+    drop(batch);
     count == 0
 }
 

@@ -55,7 +55,7 @@ fn files_of(alloc: Global, fails: &[u64], piece: usize, given: &[File<'_>]) -> O
     };
     'given: for file in given {
         let Ok(()) = files.add(file.0, file.1) else {
-            mem::forget(files);
+            drop(files);
             return None;
         };
     }
@@ -74,7 +74,7 @@ fn are_read(
         return false;
     };
     let all_end = all_end(alloc, &mut files, readings);
-    mem::forget(files);
+    drop(files);
     all_end
 }
 
@@ -153,7 +153,7 @@ fn is_long_file(alloc: Global, content: &[u8]) -> bool {
     };
     let is_read = ends(alloc, &mut files, "long", 200_000, End::Whole(content))
         && ends(alloc, &mut files, "long", 199_999, End::TooLong);
-    mem::forget(files);
+    drop(files);
     is_read
 }
 
@@ -183,7 +183,7 @@ fn adds_meanwhile(files: &mut MemoryFiles) -> Result<bool, AllocError>
 fn may_be_added_meanwhile(alloc: Global) -> Result<bool, AllocError> {
     let mut files = MemoryFiles::new(alloc, &[], 4)?;
     let is_right = adds_meanwhile(&mut files);
-    mem::forget(files);
+    drop(files);
     is_right
 }
 
@@ -205,7 +205,7 @@ fn has_every_name(alloc: Global) -> bool {
         return false;
     };
     let are_right = add_twice(&mut files).is_ok() && all_end(alloc, &mut files, &SURE);
-    mem::forget(files);
+    drop(files);
     are_right
 }
 
@@ -232,7 +232,7 @@ fn takes_what_has_room(alloc: Global) -> bool {
         return false;
     };
     let is_filled = is_filled(&mut sink);
-    mem::forget(sink);
+    drop(sink);
     is_filled
 }
 

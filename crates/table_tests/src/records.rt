@@ -1,7 +1,6 @@
 // Texts, read by hand.
 use csv::ByteRecord;
 use std::alloc::Global;
-use std::mem;
 use text_lines::{
     RecordReader, field, has_two_marks, is_comment_line, is_plain, split_line, trim_cr, trim_mark,
 };
@@ -39,8 +38,8 @@ fn are_records_read(alloc: Global) -> bool {
     let is_second = is_next(&mut rows, &mut row, true);
     let is_one = row.len() == 1;
     let is_end = is_next(&mut rows, &mut row, false);
-    mem::forget(row);
-    mem::forget(rows);
+    drop(row);
+    drop(rows);
     is_first && is_two && is_second && is_one && is_end
 }
 

@@ -5,7 +5,6 @@ ghost use Rattle.aggregates.specs.Bounds.{largest_amount};
 use base_table::{Table, TableRefused};
 use cell_core::{Cell, Code, Entry};
 use std::alloc::Global;
-use std::mem;
 
 #[derive(Clone, Copy)]
 pub enum Change {
@@ -290,7 +289,7 @@ fn all_right(alloc: Global, max: u32, batches: &[Batch]) -> bool
         let is_right = is_right(alloc, &mut table, batch);
         all = all && is_right;
     }
-    mem::forget(table);
+    drop(table);
     all
 }
 
@@ -330,7 +329,7 @@ fn read_and_taken(alloc: Global, id: u64) -> Option<(Seen, [i64; 4])> {
     make(alloc, &mut table, Insert(id, 7, 9, -5));
     let seen = first_row(&table);
     let amounts = taken_out(&mut table, id);
-    mem::forget(table);
+    drop(table);
     Some((seen, amounts))
 }
 

@@ -3,7 +3,6 @@
 use aggregates::AggKind;
 use qc_schema::{Schema, read_schema};
 use std::alloc::Global;
-use std::mem;
 
 // Whether the dimensions and the measure are these.
 fn has_names(schema: &Schema, first: &str, second: &str, measure: &str, scale: u8) -> bool {
@@ -30,7 +29,7 @@ fn is_read(alloc: Global) -> bool {
         && schema.indexes() == [AggKind::Sum(0)].as_slice()
         && has_limits(&schema, 11, 12, 13)
         && schema.version() == 1;
-    mem::forget(schema);
+    drop(schema);
     is_right
 }
 
@@ -69,7 +68,7 @@ fn are_scales_read(alloc: Global) -> bool {
         && schema.measures() == 4
         && schema.indexes() == [AggKind::Mean(3)].as_slice()
         && has_scales(&schema);
-    mem::forget(schema);
+    drop(schema);
     is_right
 }
 

@@ -3,7 +3,6 @@
 use cell_core::Code;
 use std::alloc::Global;
 use std::cmp::Ordering;
-use std::mem;
 use value_dict::{Dict, Learn};
 
 #[derive(Clone, Copy)]
@@ -142,6 +141,6 @@ pub(crate) fn are_right(alloc: Global) -> bool {
         return false;
     };
     let are_right = all_hold(&mut dict, &STEPS);
-    mem::forget(dict);
+    drop(dict);
     are_right
 }

@@ -6,7 +6,6 @@ use crate::rows::{make, put};
 use base_table::Table;
 use cell_core::{Cell, Code, Entry};
 use std::alloc::Global;
-use std::mem;
 
 // Puts two rows into an empty table, and keeps them.
 fn fill(alloc: Global, table: &mut Table)
@@ -126,7 +125,7 @@ fn all_right(alloc: Global) -> bool {
         let is_right = is_right(alloc, &mut table, batch);
         all = all && is_right;
     }
-    mem::forget(table);
+    drop(table);
     all
 }
 
@@ -175,7 +174,7 @@ fn are_sums(alloc: Global) -> bool {
         && sum_of(alloc, &table, 3, 4, 8) == Some(5)
         && sum_of(alloc, &table, 3, 5, 7) == Some(20)
         && sum_of(alloc, &table, 3, 5, 8).is_none();
-    mem::forget(table);
+    drop(table);
     are_right
 }
 

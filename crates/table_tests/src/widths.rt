@@ -6,7 +6,6 @@ use base_table::Table;
 use cell_closure::{closure_of, meet_fixed};
 use cell_core::{ANY, Cell, Entry};
 use std::alloc::{AllocError, Global};
-use std::mem;
 
 // The codes of a row in its first and its last dimension. Between them each code is 7.
 type Ends = (u8, u8);
@@ -101,7 +100,7 @@ fn agrees(alloc: Global, rows: &[Ends], dims: u8) -> bool {
         return false;
     };
     let is_closure = is_closure(alloc, &table, rows, dims);
-    mem::forget(table);
+    drop(table);
     is_closure
 }
 
