@@ -29,7 +29,7 @@ pub fn value_of(agg: &Agg, kind: AggKind, scale: u8) -> Ratio
     Quotient::of(agg, kind).in_lowest_terms(kind, scale)
 }
 
-/// The order of a value and an asked one, by value, without rounding.
+/// The order of a value and a fraction, by value, without rounding.
 pub fn compare(a: &Ratio, b: &Fraction) -> Ordering
     ensures { result ≡ fraction_cmp (ratio_in a.now) (fraction_in b.now) }
 {

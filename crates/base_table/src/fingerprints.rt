@@ -5,12 +5,13 @@ ghost use Rattle.base_table.specs.Store.{print_in};
 use crate::lines::code_or_any;
 use cell_core::{Cell, HashKeys};
 
-// A prime below 2^32. Two tuples share a fingerprint under at most as many multipliers below it as
-// they have codes.
+// A prime less than 2^32. Of the multipliers less than it, two tuples share a fingerprint under at
+// most as many as they have codes.
 const PRIME: u64 = 4_294_967_291;
 
 /// How the fingerprint of a tuple is made: its codes are the coefficients of a polynomial, taken at
-/// the multiplier. Only the first codes count, so that a fingerprint stays when a dimension comes.
+/// the multiplier. Only the first codes count, so that a fingerprint stays when a dimension is
+/// added.
 #[derive(Clone, Copy)]
 pub struct Fingerprinter {
     dims: u8,

@@ -1,4 +1,4 @@
-//! Rows under their ids, in the order in which they were inserted. A batch of changes can be taken
+//! Rows under their ids, in the order in which they were inserted. A batch of changes can be rolled
 //! back.
 #![tactic(auto)]
 

@@ -53,7 +53,7 @@ pub(crate) fn restore(here: &mut Vec<bool>, touched: &Vec<u32>)
     }
 }
 
-// Notes the place of a deleted row, if it was there when the batch began.
+// Records the place of a deleted row, if it was there when the batch began.
 pub(crate) fn note(touched: &mut Vec<u32>, place: u32, begun: u32)
     requires { vec_len touched.old < vec_capacity touched.old }
     ensures items { touched.new.items ≡ (if nat_lt place begun then touched.old.items ++ place ∷ [] else touched.old.items) }

@@ -1,4 +1,4 @@
-// Rows at places, and a batch that can be taken back.
+// Rows at places, and a batch that can be rolled back.
 ghost use Rattle.std.specs.Prelude.{All, nat_abs, pos, true, false, Err, IfOk, IfSome, None, OnErr, OnOk, Some, [], length, map, slice_index_or, ◌++◌, ◌<◌, ◌∷◌, ◌≡◌, ◌≤◌, ◌↔◌, is_some};
 ghost use Rattle.cell_core.specs.Entry.{IsCode};
 ghost use Rattle.base_table.specs.Places.{AreThere, IsTable, base_of, cleared, has_id, named, numbers, padded, row_at, row_of, row_with_id, rows_of, total_of, widened, with_code, with_tuple, without_id};
@@ -30,7 +30,7 @@ pub enum TableRefused {
     Memory,
 }
 
-/// No row has the id.
+/// The refusal of a deletion: no row has the id.
 #[derive(Clone, Copy)]
 pub struct Missing;
 
@@ -137,7 +137,7 @@ impl Table {
         self.store.measures()
     }
 
-    /// Says what is true of every table. It does nothing.
+    /// Gives a proof what is true of every table. At run time it does nothing.
     pub fn is_valid(&self)
         ensures { IsTable self.now }
     {
@@ -238,8 +238,8 @@ impl Table {
         group::group_in(&self.store, &self.here, tuple)
     }
 
-    /// The numbers of all rows, in their order. A row's number stays until the open batch, or else
-    /// the next one, is kept or taken back.
+    /// The numbers of all rows, in insertion order. A row's number stays until the next `commit` or
+    /// `rollback`.
     pub fn all(&self, alloc: Global) -> Result<Vec<RowNo>, Memory>
         ensures numbers { IfOk result (λ nos. map (λ no. no.0) nos.items ≡ numbers self.now) }
         ensures rows { IfOk result (λ nos. named self.now nos.items ≡ rows_of self.now) }
@@ -310,7 +310,7 @@ impl Table {
         self.store.widen(code);
     }
 
-    /// Keeps the batch. Rows may get other numbers. Takes no memory.
+    /// Commits the batch. Rows may get other numbers. Takes no memory.
     pub fn commit(&mut self)
         requires is_open { is_some self.old.was ≡ true }
         ensures rows { rows_of self.new ≡ rows_of self.old }
@@ -327,7 +327,7 @@ impl Table {
         self.count_then = self.count;
     }
 
-    /// Takes the batch back: rows and dimensions are those at its begin. Takes no memory.
+    /// Rolls the batch back: rows and dimensions are again those at its begin. Takes no memory.
     pub fn rollback(&mut self)
         requires is_open { is_some self.old.was ≡ true }
         ensures back { Some (base_of self.new) ≡ self.old.was }

@@ -144,7 +144,7 @@ fn start<L: Ledger>(
     }
 }
 
-/// Collects the nodes that generalize the tuple. Each comes after its ancestors.
+/// Collects the nodes that generalize the tuple. Each is after its ancestors in the list.
 pub(crate) fn collect<L: Ledger>(
     alloc: Global,
     arena: &QcArena,

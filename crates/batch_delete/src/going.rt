@@ -10,8 +10,8 @@ use cell_core::{Cell, Steps};
 use qc_arena::QcArena;
 use std::sync::ledger::Ledger;
 
-/// The deleted row: the tree before, its tuple, the aggregate of all rows with this tuple, and the
-/// aggregate of the others.
+/// What is known of the deleted row: the tree before the deletion, its tuple, the aggregate of all
+/// rows with this tuple, and the aggregate of the others.
 #[derive(Drop)]
 pub(crate) struct Going<'a> {
     pub arena: &'a QcArena,

@@ -133,8 +133,8 @@ fn mend_edge<L: Ledger>(
     }
 }
 
-// Leads the edge with the tuple's value in a dimension, if there is one, to the heir of its target.
-// Drops the edge if its target has no heir.
+// Redirects the edge with the tuple's value in a dimension, if there is one, to the heir of its
+// target. Drops the edge if its target has no heir.
 fn lead_edge<L: Ledger>(
     arena: &mut QcArena,
     tuple: &Cell,
@@ -168,7 +168,7 @@ fn lead_edge<L: Ledger>(
     }
 }
 
-// Leads the edges with the tuple's values to the heirs of their targets. None of these edges comes
+// Redirects the edges with the tuple's values to the heirs of their targets. None of these edges is
 // before the dimension.
 fn lead_edges<L: Ledger>(
     arena: &mut QcArena,
@@ -252,7 +252,7 @@ fn class_of(rest: &Rest, cell: &Cell) -> Option<Agg>
     }
 }
 
-// Repairs the record of a node that stays.
+// Writes the new record of a node that stays.
 fn mend<L: Ledger>(
     arena: &mut QcArena,
     tuple: &Cell,

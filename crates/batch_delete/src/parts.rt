@@ -31,7 +31,7 @@ use qc_arena::{Nodes, QcArena};
 use std::sync::ledger::Ledger;
 use tree_search::upper_into;
 
-/// The values that rows share, and their aggregate.
+/// The values that some rows share, and the aggregate of these rows.
 #[derive(Drop)]
 pub(crate) struct Rest {
     pub shared: Cell,

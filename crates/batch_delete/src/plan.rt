@@ -30,8 +30,8 @@ use std::alloc::Global;
 use std::sync::ledger::Ledger;
 use tree_search::total_at;
 
-/// What the rows of a node share after the deletion, and their aggregate, if any rows are left.
-/// Then the *heir*: the node of the prefix of what they share, as long as the node's cell. A node
+/// The plan for a node: the rest of its rows after the deletion, if any are left, and its *heir*.
+/// The heir is the node of the prefix of what these rows share, as long as the node's cell. A node
 /// that stays is its own heir.
 #[derive(Drop)]
 pub(crate) struct Fate {

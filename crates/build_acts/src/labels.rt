@@ -35,7 +35,7 @@ pub fn set_link<L: Ledger>(
     put_label(arena, node, (dim, code, target), false, steps)
 }
 
-// Sets an edge. If asked, its target becomes the forced child.
+// Sets an edge. With `is_forced`, its target becomes the forced child.
 pub(crate) fn put_label<L: Ledger>(
     arena: &mut QcArena,
     node: NodeNo,

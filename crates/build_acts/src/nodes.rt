@@ -33,8 +33,8 @@ pub fn add_root<L: Ledger>(
     arena.add_node(None, steps)
 }
 
-/// Adds a child with one more value than its parent, and the edge to it. If asked, it becomes the
-/// forced child.
+/// Adds a child with one more value than its parent, and the edge to it. With `is_forced`, it
+/// becomes the forced child.
 pub fn add_child<L: Ledger>(
     arena: &mut QcArena,
     parent: NodeNo,

@@ -1,4 +1,4 @@
-// Numbers that no marked number with fewer bits rules out.
+// Minimal numbers: no number with one bit less is marked.
 ghost use Rattle.std.specs.Prelude.{length, ◌<◌, ◌^◌, ◌≡◌, ◌≤◌};
 ghost use Rattle.cells_below.specs.Marks.{is_least};
 

@@ -7,8 +7,8 @@ use cell_core::Steps;
 use qc_arena::QcArena;
 use std::sync::ledger::Ledger;
 
-/// The arena in which a tree is built, the nodes that are noted for prefixes of tuples, reusable
-/// room for parts, and the steps so far.
+/// The arena in which a tree is built, the nodes stored for prefixes of tuples, reusable room for
+/// parts, and the steps so far.
 pub(crate) struct Builder<'a, L: Ledger> {
     pub(crate) arena: &'a mut QcArena,
     pub(crate) fronts: &'a mut Fronts,

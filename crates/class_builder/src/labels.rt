@@ -64,7 +64,7 @@ pub(crate) fn add_front<L: Ledger>(
     }
 }
 
-/// The node of the prefix through `dim` of a group's only row, if it is noted. None if the group
+/// The node of the prefix through `dim` of a group's only row, if it is stored. None if the group
 /// has more rows.
 fn lone_front(fronts: &Fronts, group: &Group<'_>, dim: u8) -> Option<NodeNo>
     requires group { IsGroup group.now.table.now group.now.rows.now group.now.code group.now.upper.now dim }
@@ -78,8 +78,8 @@ fn lone_front(fronts: &Fronts, group: &Group<'_>, dim: u8) -> Option<NodeNo>
 }
 
 /// The node of the prefix through `dim` of what a group's rows share. They share a value in
-/// dimension `at`, where `upper` has Any. So the node exists already: it is noted, or found by
-/// going down from the path.
+/// dimension `at`, where `upper` has Any. So the node exists already: it is stored, or found by a
+/// descent from the path.
 fn shared_front<L: Ledger>(
     builder: &mut Builder<'_, L>,
     group: &Group<'_>,

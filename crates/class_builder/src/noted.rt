@@ -13,18 +13,18 @@ use cell_core::{Cell, Entry, NodeNo};
 use std::alloc::Global;
 
 /// For each row and dimension, the node of the tuple's prefix through that dimension, if it is
-/// noted.
+/// stored.
 #[derive(Drop)]
 pub(crate) struct Fronts {
     nodes: Vec<NodeNo>,
     dims: u8,
 }
 
-// Marks that no node is noted.
+// Marks that no node is stored.
 const NOT_NOTED: NodeNo = NodeNo(u32::MAX);
 
 impl Fronts {
-    /// Nothing is noted yet. Takes memory for a node for each row and dimension.
+    /// No node is stored yet. Takes memory for a node for each row and dimension.
     pub(crate) fn new(alloc: Global, table: &Table) -> Result<Fronts, Memory>
         ensures none { IfOk result (λ fronts. (no d : ℕ) → noted fronts no d ≡ not_noted) }
         ensures dims { IfOk result (λ fronts. fronts.dims ≡ table.now.dims) }
@@ -41,7 +41,7 @@ impl Fronts {
         row.0 as usize * self.dims as usize + dim as usize
     }
 
-    /// The node noted for the row and the dimension.
+    /// The node stored for the row and the dimension.
     pub(crate) fn at(&self, row: RowNo, dim: u8) -> Option<NodeNo>
         ensures node { IfSome result (λ node. noted self.now row.0 dim ≡ node.0) }
         ensures some { IfSome result (λ node. node.0 ≢ not_noted) }
@@ -50,7 +50,7 @@ impl Fronts {
         if node == NOT_NOTED { None } else { Some(node) }
     }
 
-    /// The node noted for the row, which the cell covers. None if the cell has Any in a dimension
+    /// The node stored for the row, which the cell covers. None if the cell has Any in a dimension
     /// up to this one.
     pub(crate) fn find(&self, row: RowNo, cell: &Cell, dim: u8) -> Option<NodeNo>
         requires { dim < length cell.now }
@@ -65,7 +65,7 @@ impl Fronts {
         }
     }
 
-    /// Notes the node of the prefix through `dim` of what the rows share, if they share a value in
+    /// Stores the node of the prefix through `dim` of what the rows share, if they share a value in
     /// each dimension up to it.
     pub(crate) fn note(&mut self, part: &Part<'_>, dim: u8, node: NodeNo)
         requires part { IsPart part.now.table.now part.now.rows.now part.now.shared }

@@ -20,7 +20,7 @@ pub fn closure_by_parts<V: Value>()
         ≡ total (join_cells V.eq) None (λ v. closure V.eq rows (with_value u i v)) vs }
 {}
 
-/// The aggregate of a cell with Any in a dimension combines those of its parts: COUNT and SUM are
+/// The aggregate of a cell with Any in a dimension combines those of its parts. COUNT and SUM are
 /// added, and the least MIN and the greatest MAX are taken (own).
 pub fn aggregate_by_parts<V: Value>()
     ensures { (measures : ℕ) (rows : List (Row V)) (u : Cell V) (i : ℕ) (vs : List V) →

@@ -1,4 +1,4 @@
-//! Finds the nodes to which links lead. They exist already.
+//! Finds the targets of links, which are nodes that exist already.
 #![tactic(auto)]
 
 mod linking;

@@ -60,7 +60,7 @@ fn push_counts(out: &mut Vec<u8>, counts: Stats) -> Result<(), Memory>
     push_number(out, counts.links)
 }
 
-/// Writes the record into `out`, in place of what it holds.
+/// Replaces the contents of `out` by the record.
 pub fn write_record<L: Ledger>(
     alloc: Global,
     out: &mut Vec<u8>,

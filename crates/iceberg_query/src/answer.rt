@@ -106,13 +106,13 @@ fn nodes_of<T: Nodes, L: Ledger>(
     }
 }
 
-/// The classes whose value is at least or at most the asked one, falling or rising by value, ties
+/// The classes whose value is at least or at most the given one, falling or rising by value, ties
 /// in cell order by the texts. Each has its lower bounds in cell order.
 ///
-/// If the index has the kind, it reads the index up to the first entry that doesn't pass, and of
-/// the tree nothing but the answer's classes: with n dimensions at most 32 (n + 1)^2 2^n steps for
-/// each. Else it walks down the tree, and skips the descendants of a class if no part of its rows
-/// can pass.
+/// If the index has the kind, it reads the index up to the first entry that doesn't pass. Of the
+/// tree it then reads only the answer's classes: with n dimensions at most 32 (n + 1)^2 2^n steps
+/// for each. Else it walks down the tree, and skips the descendants of a class if no part of its
+/// rows can pass.
 pub fn iceberg<T: Nodes, L: Ledger>(
     alloc: Global,
     tree: &T,

@@ -81,8 +81,8 @@ fn push_all(columns: &mut [ComingKeys], node: NodeNo, class: &Agg) -> Result<(),
     }
 }
 
-/// Classes that are gathered for an index of some kinds. They may come in any order, and each must
-/// come once.
+/// Classes that are gathered for an index of some kinds. They may be added in any order, each of
+/// them once.
 #[derive(Drop)]
 pub struct Filling {
     columns: Vec<ComingKeys>,

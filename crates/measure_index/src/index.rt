@@ -52,7 +52,7 @@ pub(crate) fn scale_in(scales: &[u8], kind: AggKind) -> u8
 }
 
 // Changes all columns, or leaves them as they were. All additions come first, column by column. So
-// a refusal is undone by taking out, which needs no memory.
+// a refusal is undone by removals, which take no memory.
 fn change_columns(
     alloc: Global,
     columns: &mut [Column],

@@ -1,4 +1,4 @@
-// The before-images that are kept for the versions, the oldest first.
+// The before-images that are stored for the versions, the oldest first.
 ghost use Rattle.std.specs.List.{list_any};
 ghost use Rattle.std.specs.Prelude.{IfErr, OnErr, OnOk, drop, false, length, true, vec_capacity, ℕ, ◌<◌, ◌==◌, ◌≡◌, ◌≤◌};
 ghost use Rattle.cube_defs.specs.Tree.{Tree};
@@ -39,9 +39,9 @@ pub(crate) fn reserve_one(kept: &mut Vec<Images>, pins: &Vec<Pin>) -> Result<(),
     kept.reserve(1)
 }
 
-// Whether the last before-images may be merged with those before them. That is so if no version
-// reads from between them and those before aren't much more. So each number is moved a few times,
-// and the list stays short.
+// Whether the last entry of the list may be merged into the one before it. It may if no version
+// reads from between them, and if the one before isn't much larger. So each number is moved a few
+// times, and the list stays short.
 fn may_join(kept: &Vec<Images>, pins: &Vec<Pin>, last: &Images) -> bool
     ensures some { result ≡ true → 0 < length kept.now.items }
     ensures between { result ≡ true → list_any (λ pin. pin.from == length kept.now.items) pins.now.items ≡ false }
@@ -52,8 +52,8 @@ fn may_join(kept: &Vec<Images>, pins: &Vec<Pin>, last: &Images) -> bool
     }
 }
 
-// Puts the last before-images of the list over later ones, so that both are one. Returns the later
-// ones if out of memory.
+// Merges later before-images into the last ones of the list. Returns the later ones if out of
+// memory.
 fn take_behind(kept: &mut Vec<Images>, later: Images) -> Result<(), Images>
     requires { 0 < length kept.old.items }
     ensures ok { OnOk result ((place : ℕ) (tree : Tree ℕ) → place < length kept.old.items →
@@ -91,7 +91,7 @@ fn join_last(kept: &mut Vec<Images>, pins: &Vec<Pin>) -> bool
     }
 }
 
-/// Keeps the before-images of a change, if a version needs them.
+/// Stores the before-images of a change, if a version needs them.
 pub(crate) fn keep(kept: &mut Vec<Images>, pins: &Vec<Pin>, images: Images)
     requires room { 0 < length pins.now.items → length kept.old.items < vec_capacity kept.old }
     requires within { AreWithin (length kept.old.items) pins.now.items }

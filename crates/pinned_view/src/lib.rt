@@ -1,5 +1,5 @@
-//! Earlier states of a warehouse under names (pins). A version is read over the present tree and
-//! the before-images that were kept since.
+//! Earlier states of a warehouse under names (pins). A version is read from the present tree and
+//! the before-images that were stored since.
 #![tactic(auto)]
 
 mod kept;

@@ -27,7 +27,7 @@ use warehouse::{Applied, Refused, Warehouse, WidenRefused};
 
 /// A warehouse, and versions of it that are pinned under names. Whatever files it takes afterwards,
 /// each version can be read as it was. A pin copies no node. The before-images of each change are
-/// kept once for all pins. A read of a version looks through those that were kept since it was
+/// stored once for all pins. A read of a version looks through those that were stored since it was
 /// pinned.
 #[derive(Drop)]
 pub struct Pinned {

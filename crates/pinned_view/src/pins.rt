@@ -1,4 +1,4 @@
-// What is kept of a pinned version.
+// Pinned versions.
 ghost use Rattle.std.specs.Prelude.{filter, length, map, not, option_copied, vec_capacity, ◌<◌, ◌==◌, ◌≡◌, ◌≤◌};
 ghost use Rattle.std.specs.List.{All, find, list_any};
 ghost use Rattle.pinned_view.specs.Pins.{bears, moved_back, version_in};
@@ -19,9 +19,9 @@ use warehouse::{Stats, Warehouse};
 /// The most versions that may be pinned.
 pub const MAX_PINS: usize = 16;
 
-/// A version: its name, the place of the first before-images that were kept since, the root of its
-/// tree and its counts. Proofs also have the warehouse as it was, of which nothing is kept, so that
-/// nothing of it is dropped.
+/// A version: its name, the place of the first before-images that were stored since, the root of
+/// its tree and its counts. Proofs also have the warehouse as it was. Nothing of it is in memory,
+/// so nothing of it is dropped.
 #[derive(Drop)]
 pub(crate) struct Pin {
     pub name: ArrayString<32>,

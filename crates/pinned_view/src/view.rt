@@ -12,8 +12,8 @@ use std::marker::Model;
 use std::sync::ledger::Ledger;
 use warehouse::Stats;
 
-/// The tree of a pinned version, and its counts. It is the present tree with the before-images put
-/// over it that were kept since, the oldest first. A read looks through them, each by two binary
+/// The tree of a pinned version, and its counts. It is the present tree under the before-images
+/// that were stored since, the oldest first. A read looks through them, each by two binary
 /// searches, up to the first that has the node. Making and reading a view take no memory.
 #[derive(Drop)]
 pub struct PinnedView<'a> {

@@ -1,4 +1,4 @@
-// Nodes by their numbers. A rollback takes a batch back, numbers included.
+// Nodes by their numbers. A rollback restores the nodes of `begin`, numbers included.
 ghost use Rattle.std.specs.Prelude.{Err, IfOk, IfSome, IsSome, None, Ok, OnErr, OnOk, Some, false, if◌then◌else◌, nat_eq, true, ℕ, ◌+◌, ◌<◌, ◌||◌, ◌↔◌, ◌≡◌, ◌≢◌, ◌≤◌};
 ghost use Rattle.cell_core.specs.Entry.{IsCode};
 ghost use Rattle.std.specs.FinMap as map;
@@ -47,8 +47,8 @@ pub enum ArenaRefused {
     Memory,
 }
 
-/// Nodes by their numbers. While a batch is open, the first touch of a node keeps its before-image.
-/// So a rollback takes no memory.
+/// Nodes by their numbers. While a batch is open, the first touch of a node stores its
+/// before-image. So a rollback takes no memory.
 #[derive(Drop)]
 pub struct QcArena {
     nodes: Slab<Place>,
@@ -185,7 +185,7 @@ impl QcArena {
         }
     }
 
-    /// Keeps the before-image of a node. A node must be touched before it is changed.
+    /// Stores the before-image of a node. A node must be touched before it is changed.
     pub fn touch<L: Ledger>(&mut self, node: NodeNo, steps: &mut Steps<L>) -> Result<(), Memory>
         requires opened { is_open self.old ≡ true }
         requires node { IsSome (map.get self.old.now node.0) }
@@ -266,7 +266,7 @@ impl QcArena {
         self.kept = self.kept.with_edges(had, has);
     }
 
-    /// Removes a node. Edges that still lead to it lead nowhere from now on. No other node gets its
+    /// Removes a node. Edges to it stay, and lead nowhere from now on. No other node gets its
     /// number before `commit`.
     pub fn kill<L: Ledger>(&mut self, node: NodeNo, steps: &mut Steps<L>)
         requires change { CanChange self.old node.0 }
@@ -355,8 +355,8 @@ impl QcArena {
         self.kept = self.kept.with_class(had, class.is_some());
     }
 
-    /// Closes the batch and keeps its changes. The before-images stay until the next batch, or
-    /// until they are moved out. They are of no use if the batch added a dimension.
+    /// Closes the batch. Its changes stay. The before-images stay until the next batch, or until
+    /// they are moved out. They are of no use if the batch added a dimension.
     pub fn commit(&mut self)
         requires { is_open self.old ≡ true }
         ensures value { self.new ≡ record self.old { was = None; touched = set.empty; last = self.new.last } }

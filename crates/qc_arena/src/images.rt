@@ -17,11 +17,11 @@ use std::mem::replace;
 
 /// The before-image of a number.
 pub enum Look<'a> {
-    /// The batch touched no such node.
+    /// The batch touched no node of this number.
     Same,
-    /// There was no such node.
+    /// No node had the number.
     Gone,
-    /// There was a node with this record.
+    /// A node had the number, with this record.
     Was(&'a Record),
 }
 
@@ -86,9 +86,8 @@ impl Images {
         self.changed.len() + self.added.len()
     }
 
-    /// Puts these before-images over those of a later batch. Where both have an image of a number,
-    /// the earlier one counts. If memory runs out, the later ones are given back and nothing
-    /// changes.
+    /// Merges the before-images of a later batch into these. If both have an image of a number, the
+    /// earlier one stays. If memory runs out, the later ones are given back and nothing changes.
     pub fn take_in(&mut self, later: Images) -> Result<(), Images>
         ensures ok { OnOk result ((q : ℕ) → map.get self.new q ≡ option_or (map.get self.old q) (map.get later q)) }
         ensures err { IfErr result (λ same. same ≡ later) }

@@ -1,4 +1,4 @@
-// Totals of a tree, so that nobody has to count.
+// Totals of a tree, updated with each change.
 ghost use Rattle.std.specs.Prelude.{IsTrue, None, Some, if◌then◌else◌, true, ◌+◌, ◌<◌, ◌≡◌, ◌≤◌};
 ghost use Rattle.qc_arena.specs.Counted.{root_after, root_without};
 

@@ -14,7 +14,7 @@ pub enum SchemaCause {
     Order,
     /// The line has too many or too few words.
     Words,
-    /// A name has another form, or is used before; or an index is unknown or stands a second time.
+    /// A name has another form, or is used before; or an index is unknown or given twice.
     Name,
     /// A number is outside its range.
     Number,

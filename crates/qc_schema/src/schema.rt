@@ -181,10 +181,11 @@ fn read_draft(alloc: Global, text: &[u8]) -> Result<Draft, SchemaRefused>
 
 /// Reads the text of a schema: lines of words with spaces between them, as docs/formats.md says.
 ///
-/// They are `qcube 1` or `qcube 2`, the version; `id NAME`; `dim NAME` 1 to 12 times in version 1
-/// and 1 to 16 times in version 2; `measure NAME SCALE` at most once in version 1 and at most four
-/// times in version 2; lines `index count` or `index AGG NAME`; and at most one each of `nodes N`,
-/// `rows N` and `values N`. Lines without words, and those that begin with `#`, are ignored.
+/// The first line is the version, `qcube 1` or `qcube 2`. A line `id NAME` follows, and then lines
+/// `dim NAME`: 1 to 12 in version 1, and 1 to 16 in version 2. Lines `measure NAME SCALE` may
+/// follow: at most one in version 1, and at most four in version 2. At the end there may be lines
+/// `index count` or `index AGG NAME`, and at most one each of `nodes N`, `rows N` and `values N`.
+/// Lines without words, and those that begin with `#`, are ignored.
 pub fn read_schema(alloc: Global, bytes: &[u8]) -> Result<Schema, SchemaRefused>
     requires { length bytes.now ≤ MAX_FILE }
     ensures { Gives schema_fault_in (λ schema. schema) result (schema_in bytes.now) }

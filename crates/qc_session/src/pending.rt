@@ -11,7 +11,7 @@ use std::marker::Model;
 // The most bytes that are gathered.
 const ROOM: usize = 65_536;
 
-/// Replies that are gathered, and not yet flushed. Seen as their bytes.
+/// Replies that are gathered, and not yet flushed. The model is their bytes.
 #[derive(Drop)]
 pub struct Pending {
     bytes: Vec<u8>,

@@ -123,7 +123,7 @@ fn start_of<'a, L: Ledger>(
     }
 }
 
-// Reads the state at which a run starts, with one count of steps under the blank's name.
+// Reads the state at which a run starts. The steps are counted for the ledger that the blank names.
 fn read_start<'a, F: Files, L: Ledger>(
     alloc: Global,
     keys: HashKeys,
@@ -147,7 +147,7 @@ fn read_start<'a, F: Files, L: Ledger>(
     }
 }
 
-// What the files of the words hold.
+// What the two files hold: the state at the start, and the script.
 #[derive(Drop)]
 struct Loaded {
     start: Warehouse,
@@ -178,7 +178,8 @@ fn read_behind<'a, F: Files>(
     }
 }
 
-// Reads the first file and then the script, with one count of steps under the blank's name.
+// Reads the first file and then the script. The steps are counted for the ledger that the blank
+// names.
 fn read_files<'a, F: Files, L: Ledger>(
     alloc: Global,
     keys: HashKeys,
@@ -255,8 +256,8 @@ fn broken_off<E: Sink>(err: &mut E, stop: Stop, session: Session) -> Outcome
     }
 }
 
-// Carries out the lines of a script from a state on, with one count of steps under the blank's
-// name.
+// Carries out the lines of a script, starting from a state. The steps are counted for the ledger
+// that the blank names.
 fn run_script<F: Files, O: Sink, E: Sink, L: Ledger>(
     alloc: Global,
     files: &mut F,
@@ -303,8 +304,8 @@ fn filled(alloc: Global, warehouse: Warehouse) -> Outcome
     }
 }
 
-// Makes a warehouse of so many drawn rows, and writes its record. The count of steps has the
-// blank's name.
+// Makes a warehouse of so many drawn rows, and writes its record. The steps are counted for the
+// ledger that the blank names.
 fn run_generated<O: Sink, E: Sink, L: Ledger>(
     alloc: Global,
     out: &mut O,
@@ -384,8 +385,8 @@ fn unpacked<E: Sink>(alloc: Global, err: &mut E, stop: QuietStop) -> Outcome
     }
 }
 
-// Carries out the lines of a script from a state on without their replies, and writes the snapshot
-// of the state after them. The count of steps has the blank's name.
+// Carries out the lines of a script, starting from a state, without their replies. Writes the
+// snapshot of the state after them. The steps are counted for the ledger that the blank names.
 fn pack_script<F: Files, O: Sink, E: Sink, L: Ledger>(
     alloc: Global,
     files: &mut F,
@@ -502,9 +503,9 @@ pub fn run_with_keys<F: Files, O: Sink, E: Sink>(
 /// Status 0: the script was read to its end, or the record or the snapshot was written. Status 2:
 /// usage error, the words have no listed form. Status 3: a file couldn't be read. Status 4: `out`
 /// failed. Status 5: out of memory before the first line, or anywhere in `gen` or `pack`. Status 6:
-/// the schema is wrong, the bytes of the snapshot are that of no state, or one of the two files, or
-/// the snapshot to be written, has more than 268,435,456 bytes. `err` gets one line at each status
-/// but 0.
+/// the schema is wrong, or the bytes are the snapshot of no state. It is also the status if one of
+/// the two files, or the snapshot to be written, has more than 268,435,456 bytes. `err` gets one
+/// line at each status but 0.
 ///
 /// A line that runs out of memory changes nothing. Its number is put into `skipped`, and its reply
 /// says so.

@@ -27,7 +27,7 @@ pub enum Stop {
     Write,
 }
 
-/// How far a script has been carried out.
+/// The state of a run after some lines of its script.
 #[derive(Drop)]
 pub struct Session {
     /// How many lines were taken.

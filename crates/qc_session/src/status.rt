@@ -13,9 +13,10 @@ use qc_io::{Files, Sink};
 use std::alloc::Global;
 use std::mem;
 
-/// Runs as `run_with_keys` does, and answers the status alone. What that says of the lines that ran
-/// out of memory, and of the state at the end, is said here of some such lines and some state. The
-/// memory of that state isn't freed: a program ends after this call, and the system takes it back.
+/// Runs as `run_with_keys` does, and answers the status alone. That call's promises about the lines
+/// that ran out of memory, and about the state at the end, hold here for some such lines and some
+/// state. The memory of that state isn't freed: a program ends after this call, and the system
+/// takes it back.
 pub fn run_to_status<F: Files, O: Sink, E: Sink>(
     alloc: Global,
     keys: HashKeys,
@@ -36,7 +37,7 @@ pub fn run_to_status<F: Files, O: Sink, E: Sink>(
         (λ drawing. O.taken out.new ≡ taking (generated_record drawing.rows drawing.seed) (O.taken out.old)) }
     ensures silent { result ≡ 0 → err.new ≡ err.old }
 
-    // Where the other statuses come.
+    // The other statuses.
     ensures read_fault { result ≡ 3 → Rose (F.faults files.old) (F.faults files.new) }
     ensures write_fault { result ≡ 4 → Rose (O.faults out.old) (O.faults out.new) }
     ensures refusal { IfRun (form_of words.now) (λ names. IfSome (F.told files.old) (λ t.

@@ -19,7 +19,7 @@ use std::alloc::Global;
 use std::sync::ledger::Ledger;
 use warehouse::Warehouse;
 
-// The class of the asked cell. None if the cell covers no row.
+// The class of the fields' cell. None if the cell covers no row.
 fn class_asked<T: Nodes, L: Ledger>(
     alloc: Global,
     warehouse: &Warehouse,

@@ -83,7 +83,7 @@ fn classes_asked<T: Nodes, L: Ledger>(
     iceberg(alloc, tree, index, warehouse.dict(), &ask, steps)
 }
 
-/// Reports the classes whose value, in the unit of the measure, is at least or at most the asked
+/// Reports the classes whose value, in the unit of the measure, is at least or at most the given
 /// one. If the index has the kind, it reads no more of the tree than these classes. With n
 /// dimensions it then takes at most 32 (n + 1)^2 2^n steps for each.
 pub fn answer_iceberg<T: Nodes, L: Ledger>(

@@ -25,7 +25,7 @@ use std::sync::ledger::Ledger;
 use tree_search::find;
 use warehouse::Warehouse;
 
-// The node of the class of the asked cell. None if the cell covers no row.
+// The node of the class of the fields' cell. None if the cell covers no row.
 fn upper_asked<T: Nodes, L: Ledger>(
     warehouse: &Warehouse,
     tree: &T,
@@ -116,9 +116,9 @@ pub fn answer_children<T: Nodes, L: Ledger>(
     }
 }
 
-/// Reports the most general classes whose value, in the unit of the measure, is at least or at most
-/// the asked one, among those that the class of the cell generalizes. The cell has Any or a value
-/// in each dimension.
+/// Reports the most general classes that pass, among those that the class of the cell generalizes.
+/// A class passes if its value, in the unit of the measure, is at least or at most the given one.
+/// The cell has Any or a value in each dimension.
 pub fn answer_rollup<T: Nodes, L: Ledger>(
     alloc: Global,
     warehouse: &Warehouse,

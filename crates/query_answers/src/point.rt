@@ -24,7 +24,7 @@ use std::sync::ledger::Ledger;
 use tree_search::total_at;
 use warehouse::Warehouse;
 
-// The codes of the asked cell, and its aggregate. None if it covers no row.
+// The fields' cell in codes, and its aggregate. None if it covers no row.
 fn total_asked<T: Nodes, L: Ledger>(
     warehouse: &Warehouse,
     tree: &T,

@@ -15,7 +15,7 @@ use std::alloc::{AllocError, Global};
 use std::sync::ledger::Ledger;
 use warehouse::Warehouse;
 
-// The cells of the asked box that cover rows.
+// The cells of the fields' box that cover rows.
 fn hits_asked<T: Nodes, L: Ledger>(
     alloc: Global,
     warehouse: &Warehouse,

@@ -1,4 +1,4 @@
-// Points that are read into codes where they stand.
+// Points that are read into codes without a copy of their fields.
 ghost use Rattle.std.specs.Prelude.{◌≡◌, ◌≤◌, ◌<◌, ◌∷◌, ◌++◌, None, IfSome, IsUtf8, MatchOption, codes, false, length, slice_set};
 ghost use Rattle.std.specs.Option.{option_map};
 ghost use Rattle.cell_core.specs.Entry.{IsSmall, value_in};
@@ -19,9 +19,9 @@ use value_dict::Dict;
 pub enum Coded {
     /// The line is no point, or one that has to be read field by field.
     Unread,
-    /// The line asks for a value that isn't known, so the cell covers no row.
+    /// A value of the point isn't known, so its cell covers no row.
     Unknown,
-    /// The line asks for the cell.
+    /// All values are known, and the cell has their codes.
     Known,
 }
 
@@ -108,8 +108,8 @@ fn behind_point(line: &[u8]) -> Option<&[u8]>
     }
 }
 
-/// Reads a line that is a point without quotes into the codes of the asked cell. It never reads a
-/// line that is refused.
+/// Reads a line that is a point without quotes into the codes of its cell. It reads no line that
+/// `read_line` refuses.
 pub fn read_codes(schema: &Schema, dict: &Dict, line: &[u8], cell: &mut Cell) -> Coded
     requires dims { length cell.old ≡ length dict.now.lists }
     requires schema { length schema.now.dims ≡ length dict.now.lists }

@@ -1,4 +1,4 @@
-// The question of an iceberg.
+// The words of an iceberg query.
 ghost use Rattle.std.specs.Prelude.{◌≡◌, ◌≤◌, ◌<◌, ℕ};
 ghost use Rattle.std.specs.Option.{option_map};
 ghost use Rattle.cell_core.specs.Gives.{Gives};

@@ -171,8 +171,8 @@ fn read_command(
 ///
 /// After `point`, `bounds`, `parents`, `children` and `range` follow fields as in a CSV file. `*`
 /// is Any, `=` stands before a value of any bytes, and each other field is that value. In a `range`
-/// a field may also be `?` for each value, a list of values with `|` before each, or two texts with
-/// `~` before each for the values from the one to the other, by their bytes.
+/// a field may also be `?` for each value, or a list of values with `|` before each. Two texts with
+/// `~` before each stand for the values from the one to the other, by their bytes.
 ///
 /// After `iceberg` follow words: an aggregate (`count`, `sum`, `least`, `greatest` or `mean`), its
 /// measure but for `count`, `>=` or `<=`, and a number. After `rollup` follow these words, each up

@@ -1,4 +1,4 @@
-// Fields with nothing but commas between them, read where they stand.
+// Fields with nothing but commas between them, read without a copy.
 ghost use Rattle.std.specs.Prelude.{◌≡◌, ◌≤◌, ◌++◌, [], true, List, length, Err, IfErr, IfSome, OnOk};
 ghost use Rattle.std.specs.List.{list_all};
 ghost use Rattle.cube_defs.specs.Text.{Text};

@@ -1,4 +1,4 @@
-// The question of a roll-up.
+// The words of a roll-up.
 ghost use Rattle.std.specs.Option.{option_map};
 ghost use Rattle.std.specs.Prelude.{IfSome, length, ◌<◌, ◌≡◌, ◌≤◌};
 ghost use Rattle.cell_core.specs.Gives.{Gives};

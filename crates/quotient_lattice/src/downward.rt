@@ -65,8 +65,9 @@ fn push_child<T: Nodes, L: Ledger>(
     Ok(())
 }
 
-// The children among sorted numbers. Each number stands as often as values lead to its class. A
-// child is a class that has exactly these values more than u, which has `values`.
+// The children among sorted candidates. A number is there once for each value that, added to u,
+// gives its class. A child is a class with exactly that many values more than u, which has
+// `values`.
 fn picked<T: Nodes, L: Ledger>(
     alloc: Global,
     tree: &T,

@@ -9,8 +9,8 @@ ghost use Rattle.tree_laws.specs.Labels.{IsWithin, target_of_label};
 ghost use Rattle.quotient_lattice.specs.LeadsHome.{LeadsHome};
 ghost use Rattle.quotient_lattice.specs.Neighbours.{is_parent};
 
-/// A class that u generalizes is a child of u exactly if each value that it has and u hasn't leads
-/// from u to it.
+/// A class that u generalizes is a child of u exactly if it is the closure of u with each one of
+/// the values that it has and u hasn't.
 pub fn children_by_their_new_values()
     ensures { (dims : ℕ) (rows : List (Row ℕ)) (u d : Cell ℕ) → AllByRecursion (λ row. length row.tuple ≡ dims) rows →
         closure (eq_by_cmp nat_cmp) rows u ≡ Some u → closure (eq_by_cmp nat_cmp) rows d ≡ Some d →

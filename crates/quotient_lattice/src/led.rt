@@ -1,4 +1,4 @@
-// The classes to which the values lead that a class hasn't.
+// The candidates for the children of a class: the classes of its cell with one more value.
 ghost use Rattle.std.specs.FinMap as map;
 ghost use Rattle.std.specs.Prelude.{IfOk, IsSome, None, OnOk, Some, cond, length, slice_get, true, ℕ, ◌*◌, ◌+◌, ◌≡◌, ◌≤◌};
 ghost use Rattle.cell_core.specs.Entry.{IsCode};
@@ -16,7 +16,7 @@ use std::alloc::{AllocError, Global};
 use std::sync::ledger::Ledger;
 use tree_search::find;
 
-// Appends the number of the class to which one value more leads from u, if it leads to one.
+// Appends the number of the class of u with one more value, if that cell covers a row.
 fn push_led<T: Nodes, L: Ledger>(
     tree: &T,
     u: &mut Cell,
@@ -49,8 +49,8 @@ fn push_led<T: Nodes, L: Ledger>(
     }
 }
 
-// Appends the numbers of the classes to which the labels of a node on the way to u lead: those
-// before a dimension; the later ones are done.
+// Appends these numbers for the labels of a node on the path from the root to u. Labels from
+// dimension `end` on are done already.
 fn push_labels<T: Nodes, L: Ledger>(
     tree: &T,
     u: &mut Cell,
@@ -88,8 +88,8 @@ fn push_labels<T: Nodes, L: Ledger>(
     Ok(())
 }
 
-/// The numbers of the classes to which the values lead that a class hasn't, one for each value.
-/// Each value has its label at a node on the way to the class.
+/// The numbers of the classes of u with one more value, once for each value with which the cell
+/// covers a row. Each of these values is in a label at a node on the path from the root to u.
 pub(crate) fn led_from<T: Nodes, L: Ledger>(
     alloc: Global,
     tree: &T,

@@ -15,10 +15,10 @@ use std::alloc::Global;
 use std::sync::ledger::Ledger;
 use value_dict::{CellBox, Dict};
 
-/// The cells of the box that cover a row, in cell order, each with its aggregate. The order is that
-/// of the texts, in which the box's lists stand. TooMany comes if there are more than `limit`. It
-/// takes at most one step, one for each cell that is reached before a dimension and each value that
-/// the box allows there, and two for each cell of the answer.
+/// The cells of the box that cover a row, in cell order, each with its aggregate. Both the box's
+/// lists and the cells are in the order of the texts. TooMany is the answer if there are more than
+/// `limit`. It takes at most one step, and two for each cell of the answer. It takes one more for
+/// each cell that is reached before a dimension and each value that the box allows there.
 pub fn range<T: Nodes, L: Ledger>(
     alloc: Global,
     tree: &T,

@@ -26,7 +26,7 @@ pub(crate) struct Scan<'a, T: Nodes> {
     pub(crate) limit: u32,
 }
 
-/// Where a walk stands: before a dimension, at a node whose forced child was read.
+/// A position of the walk: the next dimension, and a node whose forced child was read.
 #[derive(Clone, Copy)]
 struct Stand {
     node: NodeNo,

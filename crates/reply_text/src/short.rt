@@ -95,7 +95,7 @@ impl ShortReply {
         self.field(Buffer::new().format(edges));
     }
 
-    // What a refusal says of its code.
+    // Appends what follows the code of a refusal.
     fn detail(&mut self, detail: Detail<'_>)
         requires short { IsShortDetail detail }
         requires room { length self.old < 63 }
@@ -119,21 +119,21 @@ impl ShortReply {
     }
 }
 
-/// The line ran out of memory. It changed nothing.
+/// The reply to a line that ran out of memory and changed nothing.
 pub fn memory(line: u32) -> ShortReply
     ensures { result ≡ memory_text line }
 {
     begun("memory", line).ended()
 }
 
-/// The asked cell covers no row.
+/// The reply to a query of a cell that covers no row.
 pub fn none(line: u32) -> ShortReply
     ensures { result ≡ none_text line }
 {
     begun("none", line).ended()
 }
 
-/// A file of so many records was applied, and there are so many classes after it.
+/// The reply to a file that was applied: its number of records, and the number of classes after it.
 pub fn applied(line: u32, records: u32, classes: u32) -> ShortReply
     ensures { result ≡ applied_text line records classes }
 {
@@ -143,7 +143,7 @@ pub fn applied(line: u32, records: u32, classes: u32) -> ShortReply
     reply.ended()
 }
 
-/// A dimension was added, and there are so many dimensions and classes after it.
+/// The reply to `widen`: the numbers of dimensions and classes after it.
 pub fn widened(line: u32, dims: u8, classes: u32) -> ShortReply
     ensures { result ≡ widened_text line dims classes }
 {
@@ -153,7 +153,7 @@ pub fn widened(line: u32, dims: u8, classes: u32) -> ShortReply
     reply.ended()
 }
 
-/// The name stands for the present rows, which have so many classes.
+/// The reply to `pin`: the name, and the number of classes of the rows that it pins.
 pub fn pinned(line: u32, name: &str, classes: u32) -> ShortReply
     requires { length name.now ≤ 32 }
     ensures { result ≡ pinned_text line name.now classes }
@@ -164,7 +164,7 @@ pub fn pinned(line: u32, name: &str, classes: u32) -> ShortReply
     reply.ended()
 }
 
-/// The name stands for nothing any more.
+/// The reply to `unpin`, with the name that was dropped.
 pub fn unpinned(line: u32, name: &str) -> ShortReply
     requires { length name.now ≤ 32 }
     ensures { result ≡ unpinned_text line name.now }
@@ -187,7 +187,7 @@ pub fn stats(line: u32, counts: Stats) -> ShortReply
     reply.ended()
 }
 
-/// A line was refused, and changed nothing.
+/// The reply to a line that was refused and changed nothing.
 pub fn refused(line: u32, words: RefusalWords<'_>) -> ShortReply
     requires { IsShort words }
     ensures { result ≡ refused_text line (texts_of words.entry) }

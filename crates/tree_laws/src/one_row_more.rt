@@ -71,8 +71,8 @@ pub fn labels_with_one_row_less<V: Value>()
 {}
 
 /// The edges of a node's record after the deletion of a row that it covers, from the old record.
-/// Each leads to the prefix of its old target's new closure. An edge within the node's new reach
-/// stays if its value isn't the row's.
+/// Each leads to the prefix of its old target's new closure. An edge up to the new closure's next
+/// value stays if its value isn't the row's.
 pub fn edges_with_one_row_less<V: Value>()
     ensures reach { (xs ys : List (Row V)) (r : Row V) (p u w : Cell V) → IsTrue (covers (eq_by_cmp V.cmp) p r) →
         closure (eq_by_cmp V.cmp) (xs ++ r ∷ ys) p ≡ Some u → closure (eq_by_cmp V.cmp) (xs ++ ys) p ≡ Some w →

@@ -112,7 +112,7 @@ fn are_edges_same<L: Ledger>(
     true
 }
 
-// Whether both come to the same in each measure.
+// Whether both aggregates are equal in each measure.
 fn are_parts_same(parts: &[Part; 4], own: &[Part; 4]) -> bool {
     'measures: for k in 0..4 {
         let (part, other) = (parts[k], own[k]);
@@ -163,8 +163,9 @@ fn is_record_same<L: Ledger>(
     )
 }
 
-/// Whether two trees have the same records, whatever the numbers: by the cells of the nodes, of their
-/// parents and forced children, by the classes' aggregates, and by labels and targets of the edges.
+/// Whether two trees have the same records, whatever the numbers. Nodes, parents and forced
+/// children are compared by their cells, classes by their aggregates, and edges by their labels and
+/// targets.
 pub fn are_same<L: Ledger>(one: &QcArena, other: &QcArena, steps: &mut Steps<L>) -> bool {
     let mut found = 0u32;
     'nodes: for number in 0..NUMBERS {

@@ -184,8 +184,8 @@ impl Dict {
         }
     }
 
-    /// The cell that the fields ask for, each of them Any or one text. None if a text is unknown,
-    /// or a field asks for more than one value.
+    /// The cell of the fields, each of which is Any or one text. None if a text is unknown, or a
+    /// field allows more than one value.
     pub fn cell_of(&self, fields: &Fields) -> Option<Cell>
         requires { length fields.now ≡ length self.now.lists }
         ensures { result ≡ cell_in self.now.lists fields.now }

@@ -37,7 +37,7 @@ impl Seen {
         Ok(Seen { gone, come })
     }
 
-    // Whether no earlier change has the same operation and id. Notes the change.
+    // Whether no earlier change has the same operation and id. Stores the id for later changes.
     fn is_new(&mut self, batch: &RawBatch, k: u32) -> Result<bool, Memory>
         requires first { 1 ≤ k }
         requires last { k ≤ length batch.now.changes }
@@ -55,7 +55,7 @@ impl Seen {
     }
 }
 
-// The number of the first change that repeats an earlier operation and id. No change is noted yet.
+// The number of the first change that repeats an earlier operation and id. No id is stored yet.
 fn first_seen(seen: &mut Seen, batch: &RawBatch) -> Result<Option<u32>, Memory>
     requires { AreSeen seen.old.gone.keys seen.old.come.keys [] }
     ensures { IfOk result (λ k. k ≡ first_twice batch.now.changes) }

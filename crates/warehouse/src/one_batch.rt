@@ -1,4 +1,4 @@
-// A batch on rows, texts and tree: it is opened, and then kept or taken back.
+// A batch on rows, texts and tree: it is opened, and then committed or rolled back.
 ghost use Rattle.std.specs.Prelude.{is_some, length, map, take, true, ◌≡◌};
 ghost use Rattle.qc_arena.specs.Map.{is_open};
 ghost use Rattle.warehouse.specs.Changing.{IsBegun, IsCommitted, IsOpened, IsTakenBack};
@@ -11,7 +11,7 @@ use qc_schema::Schema;
 use value_dict::Dict;
 
 /// Opens a batch. The state and the tree are as they were. Returns the number of texts of each
-/// dimension, to which they are cut when the batch is taken back.
+/// dimension, to which a rollback cuts them.
 pub(crate) fn open_batch(
     schema: &Schema,
     table: &mut Table,
@@ -29,7 +29,7 @@ pub(crate) fn open_batch(
     lengths(dict, schema.dims())
 }
 
-/// Keeps the batch. The before-images of the touched nodes are kept too, until they are asked for.
+/// Commits the batch. The before-images of the touched nodes stay until they are moved out.
 pub(crate) fn commit_both(table: &mut Table, tree: &mut QcArena)
     requires rows { is_some table.old.was ≡ true }
     requires tree { is_open tree.old ≡ true }
@@ -40,8 +40,8 @@ pub(crate) fn commit_both(table: &mut Table, tree: &mut QcArena)
     tree.commit();
 }
 
-/// Takes the batch back: rows and tree are those at its begin, and each dimension has so many
-/// texts.
+/// Rolls the batch back: rows and tree are again those at its begin, and each dimension is cut to
+/// so many texts.
 pub(crate) fn go_back(table: &mut Table, dict: &mut Dict, tree: &mut QcArena, lens: &[u32])
     requires rows { is_some table.old.was ≡ true }
     requires tree { is_open tree.old ≡ true }

@@ -1,7 +1,7 @@
 // What a file of changes does, or why it is refused; and the counts of a tree.
 use crate::Memory;
 
-/// A file of changes was applied.
+/// The result of a file of changes that was applied.
 #[derive(Clone, Copy, PartialEq)]
 pub struct Applied {
     /// The number of records of the file.
@@ -99,8 +99,8 @@ impl From<Memory> for WidenRefused {
     }
 }
 
-/// The counts of the rows and of their tree (Lakshmanan, Pei, Zhao, SIGMOD 2003; which links are
-/// kept is our own choice).
+/// The counts of the rows and of their tree (Lakshmanan, Pei, Zhao, SIGMOD 2003; which links a tree
+/// has is our own choice).
 #[derive(Clone, Copy, PartialEq)]
 pub struct Stats {
     pub rows: u32,

@@ -43,7 +43,7 @@ use value_dict::Dict;
 
 /// A schema, the present rows, their tree, and the index of its classes. For each dimension it has
 /// the texts that were ever accepted, in the order in which they were accepted. The before-images
-/// of the last change are kept until they are asked for, or until the next change.
+/// of the last change stay until `last_images` moves them out, or until the next change.
 #[derive(Drop)]
 pub struct Warehouse {
     schema: Schema,
@@ -191,7 +191,7 @@ impl Warehouse {
         &self.table
     }
 
-    /// Says what is true of every warehouse. It does nothing.
+    /// Gives a proof what is true of every warehouse. At run time it does nothing.
     pub fn is_valid(&self)
         ensures { AreContents self.now }
     {
@@ -225,7 +225,7 @@ impl Warehouse {
         &self.index
     }
 
-    /// The counts of the rows and of their tree. They are kept, not computed here.
+    /// The counts of the rows and of their tree. They are stored, not computed here.
     pub fn stats(&self) -> Stats
         ensures rows { result.rows ≡ length self.now.state.rows }
         ensures classes { result.classes ≡ length (trees.classes text_cmp self.now.state.rows) }
@@ -345,7 +345,8 @@ impl Warehouse {
         }
     }
 
-    // A dry run of changes, which are taken back. No before-images of an earlier change are left.
+    // A dry run of changes: they are made and rolled back. No before-images of an earlier change
+    // are left.
     fn try_change<L: Ledger>(
         &mut self,
         batch: RawBatch,
@@ -370,10 +371,10 @@ impl Warehouse {
         )
     }
 
-    /// A dry run of a batch: answers what `apply` would answer, and leaves everything as it was,
-    /// whatever the answer: the rows, the texts, the index, and the tree with the numbers of its
-    /// nodes. The batch is made as `apply` makes it, in as many steps, and then taken back, which
-    /// takes no memory. Like each change it drops the before-images of the last one.
+    /// A dry run of a batch: answers what `apply` would answer. Whatever the answer, the rows, the
+    /// texts, the index, the tree and the numbers of its nodes are as they were. The batch is made
+    /// as `apply` makes it, in as many steps, and then rolled back, which takes no memory. Like
+    /// each change it drops the before-images of the last one.
     pub fn attempt<L: Ledger>(
         &mut self,
         bytes: &[u8],

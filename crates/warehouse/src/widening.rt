@@ -209,7 +209,7 @@ fn widen_tree<L: Ledger>(tree: &mut QcArena, steps: &mut Steps<L>) -> Result<(),
     hand_all_on(tree, dim, most, steps)
 }
 
-// Says that the tree has no more nodes than it may have. It does nothing.
+// Gives a proof that the tree has no more nodes than it may have. At run time it does nothing.
 fn is_small(tree: &QcArena)
     ensures { finmap.len tree.now.now ≤ tree.now.max }
 {
