@@ -11,11 +11,11 @@ use Rattle.std.proofs.Math.Nat.{div-add-mod, div-le_self, mod-one, pow-succ'}
 use Rattle.std.proofs.Math.Arith.{mod-mul}
 use Rattle.std.proofs.lemmas.Bool.{lt-ltb}
 use Rattle.cube_defs.specs.Rows.{Fraction}
-use Rattle.aggregates.specs.Bounds.{largest_amount}
 use Rattle.aggregates.specs.Numbers.{amount_in, behind_digits, digits_front, fraction_tail, fraction_written, id_in, is_number, is_short, magnitude_in, number, places, positive_fraction, slash_tail, tail_in, within}
 use Rattle.aggregates.specs.Texts.{amount_text, last_digits, places_text, ratio_text}
 use Rattle.aggregates.proofs.Digits.{is_number-all, own, ten-pos}
 use Rattle.aggregates.proofs.Reading.{is_le, within-is}
+use Rattle.cube_defs.specs.declared.limits.TheConstants.{MAX_AMOUNT}
 
 -- a text that begins with digits, which end with what follows
 pub front-append : (ds rest : List ℕ) → all_ascii_digits ds ≡ true → digits_front rest ≡ [] → digits_front (ds ++ rest) ≡ ds
@@ -84,7 +84,7 @@ places-behind zero n = refl
 places-behind (suc scale) n = refl
 
 -- an amount without its sign
-module _ (scale n : ℕ) (h : n ≤ largest_amount) where
+module _ (scale n : ℕ) (h : n ≤ MAX_AMOUNT) where
   abbrev whole : ℕ
   whole = n / 10 ^ scale
 
@@ -134,7 +134,7 @@ amount_in-plain scale (c ∷ cs) h =
     let d = digit-first c cs h in
     rw (no_minus c cs d) (rw (no_plus c cs d) refl)
 
-pub amount_in-text : (scale : ℕ) (amount : ℤ) → nat_abs amount ≤ largest_amount → amount_in scale (amount_text scale amount) ≡ Some amount
+pub amount_in-text : (scale : ℕ) (amount : ℤ) → nat_abs amount ≤ MAX_AMOUNT → amount_in scale (amount_text scale amount) ≡ Some amount
 amount_in-text scale (pos n) h = amount_in-plain scale (amount_text scale (pos n)) (front-text scale n h) ∙ ap (option_map (λ k. pos k)) (magnitude_in-text scale n h)
 amount_in-text scale (negsuc n) h = ap (option_map (λ k. neg_ℤ (pos k))) (magnitude_in-text scale (suc n) h)
 

@@ -6,9 +6,10 @@ use Rattle.std.proofs.lemmas.Bool.Decides.{nat_tests}
 use Rattle.std.proofs.Math.Nat.{mul-le-mul, mul-le-mul_left, pow-le-pow_right}
 use Rattle.std.proofs.lemmas.List.{length-drop, take_all}
 use Rattle.std.proofs.lemmas.Bool.{lt-ltb, le-ltb}
-use Rattle.aggregates.specs.Bounds.{largest_amount, IsFraction}
+use Rattle.aggregates.specs.Bounds.{IsFraction}
 use Rattle.aggregates.specs.Numbers.{number, is_number, digits_front, behind_digits, id_in, is_short, positive_fraction, fraction_tail, magnitude_in, tail_in, within}
 use Rattle.aggregates.proofs.Digits.{number-short, is_number-is, is_number-some, is_number-none, is_number-front, ten-pos, behind_digits-drop, digits_front-all, all_ascii_digits-front}
+use Rattle.cube_defs.specs.declared.limits.TheConstants.{MAX_AMOUNT, MAX_SCALE}
 
 pub is_le : (a b : ℕ) → a ≤ b → nat_le a b ≡ true
 is_le a b h = grind (arith, nat_tests)
@@ -63,15 +64,15 @@ module _ (text : List ℕ) where
     pub magnitude-is : 0 < length (digits_front text) → magnitude_in scale text ≡ within (option_map (λ n. number (digits_front text) * 10 ^ scale + n) (tail_in scale (drop (length (digits_front text)) text)))
     magnitude-is h = rw (is_number-front text h) (ap (λ t. within (option_map (λ n. number (digits_front text) * 10 ^ scale + n) (tail_in scale t))) (behind_digits-drop text))
 
-    pub magnitude-large : largest_amount < number (digits_front text) → magnitude_in scale text ≡ None
+    pub magnitude-large : MAX_AMOUNT < number (digits_front text) → magnitude_in scale text ≡ None
     magnitude-large h = go (is_number (digits_front text)) refl
       where
-        units : (n : ℕ) → largest_amount < number (digits_front text) * 10 ^ scale + n
+        units : (n : ℕ) → MAX_AMOUNT < number (digits_front text) * 10 ^ scale + n
         units n = let p = mul-le-mul_left (number (digits_front text)) (ten-pos scale) in omega (arith, p, h)
 
         large : (o : Option ℕ) → within (option_map (λ n. number (digits_front text) * 10 ^ scale + n) o) ≡ None
         large None = refl
-        large (Some n) = rw (not_le (number (digits_front text) * 10 ^ scale + n) largest_amount (units n)) refl
+        large (Some n) = rw (not_le (number (digits_front text) * 10 ^ scale + n) MAX_AMOUNT (units n)) refl
 
         go : (b : Bool) → is_number (digits_front text) ≡ b → magnitude_in scale text ≡ None
         go true e = rw e (large (tail_in scale (behind_digits text)))
@@ -137,20 +138,20 @@ module _ (text : List ℕ) (k v : ℕ) (e : k ≡ length (digits_front text)) (f
       ∙ ap (λ a. within (option_map (λ n. a * 10 ^ scale + n) o)) (sym f)
       ∙ ap (λ b. within (option_map (λ n. v * b + n) o)) (sym g)
 
-pub within-large : (n : ℕ) → largest_amount < n → within (Some n) ≡ None
-within-large n h = rw (not_le n largest_amount h) refl
+pub within-large : (n : ℕ) → MAX_AMOUNT < n → within (Some n) ≡ None
+within-large n h = rw (not_le n MAX_AMOUNT h) refl
 
-pub within-is : (n : ℕ) → n ≤ largest_amount → within (Some n) ≡ Some n
-within-is n h = rw (is_le n largest_amount h) refl
+pub within-is : (n : ℕ) → n ≤ MAX_AMOUNT → within (Some n) ≡ Some n
+within-is n h = rw (is_le n MAX_AMOUNT h) refl
 
 pub fraction-from : (y : ℤ) (n d : ℕ) → y ≡ pos n → 0 < d → d < 10 ^ 18 → n < 10 ^ 24 → IsFraction y d
 fraction-from y n d e h l m =
     let P : ℤ → Type 0 = λ (z : ℤ). IsFraction z d in
     subst P (sym e) (record { positive = h; small = l; numerator = m })
 
-pub numerator-small : (whole den value k : ℕ) → whole < 10 ^ 18 → k ≤ 6 → den ≡ 10 ^ k → value < 10 ^ k → whole * den + value < 10 ^ 24
+pub numerator-small : (whole den value k : ℕ) → whole < 10 ^ 18 → k ≤ MAX_SCALE → den ≡ 10 ^ k → value < 10 ^ k → whole * den + value < 10 ^ 24
 numerator-small whole den value k h l e v =
-    let p : 10 ^ k ≤ 10 ^ 6 = pow-le-pow_right (omega arith) l in
+    let p : 10 ^ k ≤ 10 ^ MAX_SCALE = pow-le-pow_right (omega arith) l in
     let w : whole ≤ 999999999999999999 = omega arith in
     let q = mul-le-mul w p in
     let d = ap (λ n. whole * n) e in

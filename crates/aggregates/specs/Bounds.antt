@@ -2,11 +2,7 @@
 use Rattle.std.specs.Prelude.{◌≡◌, ℕ, ◌*◌, ◌^◌, ◌<◌, ◌≤◌, List, ℤ, pos, nat_abs, slice_index_or}
 use Rattle.cube_defs.specs.Rows.{gcd}
 use Rattle.aggregates.specs.declared.agg.Part.{Part}
-use Rattle.cube_defs.specs.declared.limits.TheConstants.{MAX_MEASURES, MAX_ROWS}
-
--- no amount has a greater magnitude
-abbrev pub largest_amount : ℕ
-largest_amount = 999999999999
+use Rattle.cube_defs.specs.declared.limits.TheConstants.{MAX_AMOUNT, MAX_MEASURES, MAX_ROWS}
 
 abbrev pub zero_part : Part
 zero_part = record { sum = pos 0; least = pos 0; greatest = pos 0 }
@@ -21,7 +17,7 @@ pub record IsAggregate (count measures : ℕ) (parts : List Part) : Type 0 where
   pub some : 1 ≤ count
   pub few : count ≤ MAX_ROWS
   pub four : measures ≤ MAX_MEASURES
-  pub sums : (k : ℕ) → nat_abs (slice_index_or parts k zero_part).sum ≤ count * largest_amount
+  pub sums : (k : ℕ) → nat_abs (slice_index_or parts k zero_part).sum ≤ count * MAX_AMOUNT
   pub unused : (k : ℕ) → measures ≤ k → IsZero (slice_index_or parts k zero_part)
 
 -- the denominator is that of a value of an aggregate, and the terms are lowest

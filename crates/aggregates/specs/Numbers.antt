@@ -5,7 +5,7 @@ use Rattle.std.specs.List.{list_all}
 use Rattle.std.specs.Option.{option_map}
 use Rattle.std.specs.Str.{all_ascii_digits}
 use Rattle.cube_defs.specs.Rows.{Fraction}
-use Rattle.aggregates.specs.Bounds.{largest_amount}
+use Rattle.cube_defs.specs.declared.limits.TheConstants.{MAX_AMOUNT, MAX_SCALE}
 
 -- the number that digits write behind those of n
 abbrev pub number_after : ℕ → List ℕ → ℕ
@@ -51,7 +51,7 @@ tail_in scale (c ∷ cs) = if c == 46 then places_in scale cs else None
 
 abbrev pub within : Option ℕ → Option ℕ
 within None = None
-within (Some n) = if nat_le n largest_amount then Some n else None
+within (Some n) = if nat_le n MAX_AMOUNT then Some n else None
 
 -- an amount without its sign: one or more digits, and then what may follow, of a number that is not too large
 abbrev pub magnitude_in : ℕ → List ℕ → Option ℕ
@@ -73,7 +73,7 @@ is_short most text = is_number text && nat_le (length text) most
 
 -- n with the digits behind a point
 abbrev pub point_tail : ℕ → List ℕ → Option Fraction
-point_tail n text = if is_short 6 text then Some (record { num = pos (n * 10 ^ length text + number text); den = 10 ^ length text }) else None
+point_tail n text = if is_short MAX_SCALE text then Some (record { num = pos (n * 10 ^ length text + number text); den = 10 ^ length text }) else None
 
 -- n over digits that are not all 0
 abbrev pub slash_tail : ℕ → List ℕ → Option Fraction

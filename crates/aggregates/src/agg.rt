@@ -15,13 +15,12 @@ pub struct Part {
 pub struct Agg {
     pub count: u32,
     pub measures: u8,
-    pub parts: [Part; 4],
+    pub parts: [Part; MAX_MEASURES as usize],
     pub ghost in_range: { IsAggregate count measures parts },
 }
 
 impl Agg {
     ghost use Rattle.std.specs.Prelude.{◌≡◌, ◌+◌, ◌<◌, ◌≤◌, length, nat_abs, All};
-    ghost use Rattle.aggregates.specs.Bounds.{largest_amount};
     ghost use Rattle.aggregates.specs.Rows.{agg_of_row};
     ghost use Rattle.aggregates.specs.Views.{agg_in};
     ghost use Rattle.cube_laws.specs.Total.{combine};
@@ -29,11 +28,11 @@ impl Agg {
     /// The aggregate of one row with these amounts.
     pub fn one(amounts: &[i64]) -> Agg
         requires few { length amounts.now ≤ MAX_MEASURES }
-        requires small { All (λ a. nat_abs a ≤ largest_amount) amounts.now }
+        requires small { All (λ a. nat_abs a ≤ MAX_AMOUNT) amounts.now }
         ensures aggregate { agg_in result ≡ agg_of_row amounts.now }
         ensures measures { result.measures ≡ length amounts.now }
     {
-        let mut parts = [ZERO; 4];
+        let mut parts = [ZERO; MAX_MEASURES as usize];
         set_parts(&mut parts, amounts);
         Agg {
             count: 1,
@@ -45,7 +44,7 @@ impl Agg {
     /// Adds one row with these amounts.
     pub fn add_row(&mut self, amounts: &[i64])
         requires measures { length amounts.now ≡ self.old.measures }
-        requires small { All (λ a. nat_abs a ≤ largest_amount) amounts.now }
+        requires small { All (λ a. nat_abs a ≤ MAX_AMOUNT) amounts.now }
         requires few { self.old.count < MAX_ROWS }
         ensures aggregate { agg_in self.new ≡ combine (agg_in self.old) (agg_of_row amounts.now) }
         ensures measures { self.new.measures ≡ self.old.measures }
@@ -76,7 +75,7 @@ ghost use Rattle.std.specs.Prelude.{◌≡◌, ℕ, ◌+◌, ◌<◌, ◌≤◌,
 ghost use Rattle.aggregates.specs.Bounds.{zero_part};
 ghost use Rattle.aggregates.specs.Rows.{joined, single};
 
-use cube_defs::{MAX_MEASURES, MAX_ROWS};
+use cube_defs::{MAX_AMOUNT, MAX_MEASURES, MAX_ROWS};
 
 impl Part {
     fn single(amount: i64) -> Part
@@ -101,20 +100,20 @@ impl Part {
     }
 }
 
-fn set_parts(parts: &mut [Part; 4], amounts: &[i64])
+fn set_parts(parts: &mut [Part; MAX_MEASURES as usize], amounts: &[i64])
     requires { length amounts.now ≤ MAX_MEASURES }
     ensures set { (k : ℕ) → k < length amounts.now →
         slice_index_or parts.new k zero_part ≡ single (slice_index_or amounts.now k (pos 0)) }
     ensures others { (k : ℕ) → length amounts.now ≤ k →
         slice_index_or parts.new k zero_part ≡ slice_index_or parts.old k zero_part }
-    ensures four { length parts.new ≡ 4 }
+    ensures four { length parts.new ≡ MAX_MEASURES }
 {
     'parts: for i in 0..amounts.len() {
         parts[i] = Part::single(amounts[i]);
     }
 }
 
-fn add_amounts(parts: &mut [Part; 4], amounts: &[i64])
+fn add_amounts(parts: &mut [Part; MAX_MEASURES as usize], amounts: &[i64])
     requires few { length amounts.now ≤ MAX_MEASURES }
     requires fits { (k : ℕ) → k < length amounts.now →
         nat_abs (slice_index_or parts.old k zero_part).sum
@@ -124,14 +123,18 @@ fn add_amounts(parts: &mut [Part; 4], amounts: &[i64])
         ≡ joined (slice_index_or parts.old k zero_part) (single (slice_index_or amounts.now k (pos 0))) }
     ensures others { (k : ℕ) → length amounts.now ≤ k →
         slice_index_or parts.new k zero_part ≡ slice_index_or parts.old k zero_part }
-    ensures four { length parts.new ≡ 4 }
+    ensures four { length parts.new ≡ MAX_MEASURES }
 {
     'parts: for i in 0..amounts.len() {
         parts[i] = parts[i].joined(Part::single(amounts[i]));
     }
 }
 
-fn join_parts(parts: &mut [Part; 4], others: &[Part; 4], measures: u8)
+fn join_parts(
+    parts: &mut [Part; MAX_MEASURES as usize],
+    others: &[Part; MAX_MEASURES as usize],
+    measures: u8,
+)
     requires few { measures ≤ MAX_MEASURES }
     requires fits { (k : ℕ) → k < measures →
         nat_abs (slice_index_or parts.old k zero_part).sum
@@ -141,7 +144,7 @@ fn join_parts(parts: &mut [Part; 4], others: &[Part; 4], measures: u8)
         ≡ joined (slice_index_or parts.old k zero_part) (slice_index_or others.now k zero_part) }
     ensures others { (k : ℕ) → measures ≤ k →
         slice_index_or parts.new k zero_part ≡ slice_index_or parts.old k zero_part }
-    ensures four { length parts.new ≡ 4 }
+    ensures four { length parts.new ≡ MAX_MEASURES }
 {
     'parts: for i in 0..usize::from(measures) {
         parts[i] = parts[i].joined(others[i]);

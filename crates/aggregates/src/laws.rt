@@ -4,11 +4,11 @@ ghost use Rattle.std.specs.Prelude.{◌≡◌, ℕ, ℤ, ◌*◌, ◌<◌, ◌�
 ghost use Rattle.std.specs.List.{list_all};
 ghost use Rattle.cube_defs.specs.Rows.{Fraction, Row, agg_of};
 ghost use Rattle.cube_laws.specs.Total.{combine};
-ghost use Rattle.aggregates.specs.Bounds.{largest_amount};
 ghost use Rattle.aggregates.specs.Numbers.{amount_in, fraction_written, id_in, number, places};
 ghost use Rattle.aggregates.specs.Rows.{agg_of_row};
 ghost use Rattle.aggregates.specs.Texts.{amount_text, ratio_text};
 
+use cube_defs::MAX_AMOUNT;
 use cube_laws::values::Value;
 
 /// The aggregate of one row is that of its amounts, and the aggregate of rows put together is
@@ -26,10 +26,10 @@ pub fn printed_ids_are_read()
 
 /// An amount that was printed is read as itself, at each scale, and no two amounts have one text.
 pub fn printed_amounts_are_read()
-    ensures apart { (scale : ℕ) (amount other : ℤ) → nat_abs amount ≤ largest_amount →
-        nat_abs other ≤ largest_amount → amount_text scale amount ≡ amount_text scale other →
+    ensures apart { (scale : ℕ) (amount other : ℤ) → nat_abs amount ≤ MAX_AMOUNT →
+        nat_abs other ≤ MAX_AMOUNT → amount_text scale amount ≡ amount_text scale other →
         amount ≡ other }
-    ensures read { (scale : ℕ) (amount : ℤ) → nat_abs amount ≤ largest_amount →
+    ensures read { (scale : ℕ) (amount : ℤ) → nat_abs amount ≤ MAX_AMOUNT →
         amount_in scale (amount_text scale amount) ≡ Some amount }
 {}
 

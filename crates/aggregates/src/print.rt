@@ -5,6 +5,7 @@ ghost use Rattle.aggregates.specs.Views.{ratio_in};
 
 use crate::Ratio;
 use crate::value::power_of_ten;
+use cube_defs::MAX_SCALE;
 use itoa::Buffer;
 
 /// A whole number. The text is put at the beginning of `out`, and its length is returned.
@@ -20,7 +21,7 @@ pub fn print_number(value: u64, out: &mut [u8]) -> usize
 /// length is returned.
 pub fn print_amount(value: i64, scale: u8, out: &mut [u8]) -> usize
     requires room { 48 ≤ length out.old }
-    requires scale { scale ≤ 6 }
+    requires scale { scale ≤ MAX_SCALE }
     ensures text { out.new ≡ amount_text scale value ++ drop result out.old }
     ensures len { result ≡ length (amount_text scale value) }
 {
@@ -78,7 +79,7 @@ fn put_sign(value: i64, out: &mut [u8]) -> usize
 // A point and as many digits as the scale, if it isn't 0.
 fn put_places(value: u64, scale: u8, out: &mut [u8], at: usize) -> usize
     requires room { at + 7 ≤ length out.old }
-    requires scale { scale ≤ 6 }
+    requires scale { scale ≤ MAX_SCALE }
     ensures end { result ≡ at + length (places_text scale value) }
     ensures text { out.new ≡ take at out.old ++ places_text scale value ++ drop result out.old }
 {

@@ -7,6 +7,7 @@ ghost use Rattle.aggregates.specs.Views.{IsThere, ratio_in};
 
 use crate::value::{lowest, order_of, part_at, power_of_ten};
 use crate::{Agg, AggKind, Ratio};
+use cube_defs::MAX_SCALE;
 use std::cmp::Ordering;
 
 /// The value of a kind as a number and a divisor: the number of rows for the mean, else 1. It isn't
@@ -28,10 +29,10 @@ fn whole(num: i64) -> Quotient
 
 // How many units of the last digit make one of the measure's units; 1 for a count.
 fn unit(kind: AggKind, scale: u8) -> u64
-    requires { scale ≤ 6 }
+    requires { scale ≤ MAX_SCALE }
     ensures value { result ≡ unit_of kind scale }
     ensures positive { 0 < result }
-    ensures small { result ≤ 10 ^ 6 }
+    ensures small { result ≤ 10 ^ MAX_SCALE }
 {
     match kind {
         AggKind::Count => 1,
@@ -62,7 +63,7 @@ impl Quotient {
 
     /// The value in the measure's unit, in lowest terms.
     pub fn in_lowest_terms(self, kind: AggKind, scale: u8) -> Ratio
-        requires { scale ≤ 6 }
+        requires { scale ≤ MAX_SCALE }
         ensures { ratio_in result ≡ lowest_terms self.num (self.den * unit_of kind scale) }
     {
         lowest(self.num, u64::from(self.den) * unit(kind, scale))

@@ -6,8 +6,7 @@ ghost use Rattle.aggregates.specs.Views.{fraction_in};
 
 use crate::Fraction;
 use crate::value::power_of_ten;
-
-const LARGEST_AMOUNT: u64 = 999_999_999_999;
+use cube_defs::{MAX_AMOUNT, MAX_SCALE};
 
 /// The id of a row: one or more digits.
 pub fn read_id(text: &[u8]) -> Option<u64>
@@ -22,7 +21,7 @@ pub fn read_id(text: &[u8]) -> Option<u64>
 
 /// An amount, in units of the scale's last digit.
 pub fn read_amount(text: &[u8], scale: u8) -> Option<i64>
-    requires { scale ≤ 6 }
+    requires { scale ≤ MAX_SCALE }
     ensures { result ≡ amount_in scale text.now }
 {
     match text {
@@ -33,25 +32,25 @@ pub fn read_amount(text: &[u8], scale: u8) -> Option<i64>
 }
 
 fn read_magnitude(text: &[u8], scale: u8) -> Option<u64>
-    requires { scale ≤ 6 }
+    requires { scale ≤ MAX_SCALE }
     ensures value { result ≡ magnitude_in scale text.now }
-    ensures small { IfSome result (λ n. n ≤ 999999999999) }
+    ensures small { IfSome result (λ n. n ≤ MAX_AMOUNT) }
 {
     let whole = leading_digits(text)?;
-    if whole.len == 0 || whole.value > LARGEST_AMOUNT {
+    if whole.len == 0 || whole.value > MAX_AMOUNT {
         return None;
     }
     let units = whole.value * power_of_ten(scale) + read_tail(&text[whole.len..], scale)?;
-    if units > LARGEST_AMOUNT {
+    if units > MAX_AMOUNT {
         return None;
     }
     Some(units)
 }
 
 fn read_tail(text: &[u8], scale: u8) -> Option<u64>
-    requires { scale ≤ 6 }
+    requires { scale ≤ MAX_SCALE }
     ensures value { result ≡ tail_in scale text.now }
-    ensures small { IfSome result (λ n. n ≤ 10 ^ 6) }
+    ensures small { IfSome result (λ n. n ≤ 10 ^ MAX_SCALE) }
 {
     match text {
         [] => Some(0),
@@ -62,9 +61,9 @@ fn read_tail(text: &[u8], scale: u8) -> Option<u64>
 
 // The digits after the point. Those after the scale's last digit are all 0.
 fn read_places(text: &[u8], scale: u8) -> Option<u64>
-    requires { scale ≤ 6 }
+    requires { scale ≤ MAX_SCALE }
     ensures value { result ≡ places_in scale text.now }
-    ensures small { IfSome result (λ n. n ≤ 10 ^ 6) }
+    ensures small { IfSome result (λ n. n ≤ 10 ^ MAX_SCALE) }
 {
     if text.is_empty() {
         return None;
@@ -130,7 +129,7 @@ fn read_decimal(whole: u64, places: &[u8]) -> Option<Fraction>
     requires { whole < 10 ^ 18 }
     ensures { option_map fraction_in result ≡ point_tail whole places.now }
 {
-    if places.len() > 6 {
+    if places.len() > usize::from(MAX_SCALE) {
         return None;
     }
     let value = read_id(places)?;

@@ -6,12 +6,13 @@ ghost use Rattle.cube_defs.specs.Rows.{gcd, lowest_terms, mean_of};
 ghost use Rattle.aggregates.specs.Views.{IsThere, agg_in, fraction_in, kind_in, part_in, ratio_in};
 
 use crate::{Agg, AggKind, Fraction, Part, Quotient, Ratio};
+use cube_defs::MAX_SCALE;
 use std::cmp::Ordering;
 
 /// The mean of a measure, in the measure's unit.
 pub fn mean(agg: &Agg, measure: u8, scale: u8) -> Ratio
     requires there { measure < agg.now.measures }
-    requires scale { scale ≤ 6 }
+    requires scale { scale ≤ MAX_SCALE }
     ensures { ratio_in result ≡ mean_of (part (agg_in agg.now) measure) agg.now.count scale }
 {
     lowest(
@@ -23,7 +24,7 @@ pub fn mean(agg: &Agg, measure: u8, scale: u8) -> Ratio
 /// The value of the kind, in the measure's unit. A count has no unit.
 pub fn value_of(agg: &Agg, kind: AggKind, scale: u8) -> Ratio
     requires there { IsThere agg.now.measures kind }
-    requires scale { scale ≤ 6 }
+    requires scale { scale ≤ MAX_SCALE }
     ensures { ratio_in result ≡ value_in (kind_in kind) scale (agg_in agg.now) }
 {
     Quotient::of(agg, kind).in_lowest_terms(kind, scale)
@@ -62,10 +63,10 @@ pub(crate) fn part_at(agg: &Agg, measure: u8) -> Part
 }
 
 pub(crate) fn power_of_ten(scale: u8) -> u64
-    requires scale { scale ≤ 6 }
+    requires scale { scale ≤ MAX_SCALE }
     ensures value { result ≡ 10 ^ scale }
     ensures positive { 0 < result }
-    ensures small { result ≤ 10 ^ 6 }
+    ensures small { result ≤ 10 ^ MAX_SCALE }
 {
     match scale {
         0 => 1,

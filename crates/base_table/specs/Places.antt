@@ -1,11 +1,10 @@
 -- What a contract sees of a table: places, each with a row or empty. A row's number is its place.
 use Rattle.std.specs.Prelude.{ℕ, ℤ, true, ◌≡◌, ◌<◌, ◌≤◌, ◌+◌, ◌^◌, ◌==◌, Bool, true, not, nat_abs, nat_eq, List, [], ◌∷◌, ◌++◌, length, filter, filter_map, map, slice_index_or, is_some, option_map, pos, replicate, take, ◌-◌, Option, Some, None, IfSome, if◌then◌else◌}
 use Rattle.std.specs.List.{All, IsDistinct, find, list_any, range_with_len}
-use Rattle.aggregates.specs.Bounds.{largest_amount}
 use Rattle.cube_defs.specs.Cell.{Cell, cell_of, cell_eq}
 use Rattle.cube_defs.specs.Rows.{Row, Agg, agg_of}
 use Rattle.base_table.specs.declared.table.RowNo.{RowNo}
-use Rattle.cube_defs.specs.declared.limits.TheConstants.{MAX_DIMS, MAX_MEASURES, MAX_ROWS}
+use Rattle.cube_defs.specs.declared.limits.TheConstants.{MAX_AMOUNT, MAX_DIMS, MAX_MEASURES, MAX_ROWS}
 use Rattle.cell_core.specs.Entry.{IsCode}
 
 -- rows, and how many dimensions they have
@@ -91,7 +90,7 @@ widened code t = record t { dims = t.dims + 1; places = map (option_map (with_co
 
 -- four amounts, those behind the measures zero
 abbrev pub padded : List ℤ → List ℤ
-padded amounts = amounts ++ replicate (4 - length amounts) (pos 0)
+padded amounts = amounts ++ replicate (MAX_MEASURES - length amounts) (pos 0)
 
 -- a row that a table with so many dimensions and measures may have
 pub record IsRow (dims measures : ℕ) (row : Row ℕ) : Type 0 where
@@ -99,7 +98,7 @@ pub record IsRow (dims measures : ℕ) (row : Row ℕ) : Type 0 where
   pub tuple : length row.tuple ≡ dims
   pub codes : All IsCode row.tuple
   pub amounts : length row.amounts ≡ measures
-  pub small : All (λ a. nat_abs a ≤ largest_amount) row.amounts
+  pub small : All (λ a. nat_abs a ≤ MAX_AMOUNT) row.amounts
 
 pub record AreRows (dims measures max : ℕ) (rows : List (Row ℕ)) : Type 0 where
   pub few : length rows ≤ max

@@ -1,7 +1,6 @@
 // The aggregate of the rows of one tuple.
 ghost use Rattle.std.specs.Prelude.{All, IfSome, None, Some, false, length, nat_abs, nat_eq, slice_index_or, true, ℕ, ◌<◌, ◌≡◌, ◌≤◌};
 ghost use Rattle.std.specs.Option.{option_map};
-ghost use Rattle.aggregates.specs.Bounds.{largest_amount};
 ghost use Rattle.aggregates.specs.Rows.{agg_of_row};
 ghost use Rattle.aggregates.specs.Views.{agg_in};
 ghost use Rattle.cube_defs.specs.Cell.{cell_eq, cell_of};
@@ -14,13 +13,13 @@ ghost use Rattle.base_table.specs.Store.{added};
 use crate::store::Store;
 use aggregates::Agg;
 use cell_core::Cell;
-use cube_defs::{MAX_MEASURES, MAX_ROWS};
+use cube_defs::{MAX_AMOUNT, MAX_MEASURES, MAX_ROWS};
 
 // The aggregate with one more row.
 fn with_row(sum: Option<Agg>, amounts: &[i64]) -> Agg
     requires four { length amounts.now ≤ MAX_MEASURES }
     requires measures { IfSome sum (λ agg. agg.measures ≡ length amounts.now) }
-    requires small { All (λ a. nat_abs a ≤ largest_amount) amounts.now }
+    requires small { All (λ a. nat_abs a ≤ MAX_AMOUNT) amounts.now }
     requires few { IfSome sum (λ agg. agg.count < MAX_ROWS) }
     ensures aggregate { Some (agg_in result) ≡ join_aggs (option_map agg_in sum) (Some (agg_of_row amounts.now)) }
     ensures measures { result.measures ≡ length amounts.now }

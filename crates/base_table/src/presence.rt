@@ -31,11 +31,11 @@ pub(crate) fn find(store: &Store, here: &Vec<bool>, id: u64) -> Option<u32>
 }
 
 // Four amounts: the given ones, and then zeros.
-pub(crate) fn padded(amounts: &[i64]) -> [i64; 4]
+pub(crate) fn padded(amounts: &[i64]) -> [i64; MAX_MEASURES as usize]
     requires { length amounts.now ≤ MAX_MEASURES }
     ensures { result ≡ padded amounts.now }
 {
-    let mut four = [0; 4];
+    let mut four = [0; MAX_MEASURES as usize];
     'amounts: for i in 0..amounts.len() {
         four[i] = amounts[i];
     }

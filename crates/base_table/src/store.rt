@@ -1,7 +1,6 @@
 // Rows in the order in which they were inserted, the deleted ones too.
 ghost use Rattle.std.specs.Prelude.{All, [], length, map, nat_abs, nat_eq, pos, slice_index_or, take, true, ℕ, ◌+◌, ◌++◌, ◌<◌, ◌∷◌, ◌^◌, ◌≡◌, ◌≤◌, OnErr, OnOk, is_some};
 ghost use Rattle.cell_core.specs.Entry.{IsCode};
-ghost use Rattle.aggregates.specs.Bounds.{largest_amount};
 ghost use Rattle.cube_defs.specs.Cell.{cell_eq, cell_of};
 ghost use Rattle.cube_defs.specs.Rows.{Row};
 ghost use Rattle.base_table.specs.Last.{last_of, picked};
@@ -12,7 +11,7 @@ use crate::chains::{self, Chains};
 use crate::fingerprints::Fingerprinter;
 use crate::{Memory, lines};
 use cell_core::{Cell, HashKeys};
-use cube_defs::{MAX_DIMS, MAX_MEASURES};
+use cube_defs::{MAX_AMOUNT, MAX_DIMS, MAX_MEASURES};
 use std::alloc::{AllocError, Global};
 use std::marker::Model;
 
@@ -145,7 +144,7 @@ impl Store {
         ensures value { (d : Row ℕ) → result.now ≡ (slice_index_or self.now.rows place d).amounts }
         ensures measures { length result.now ≡ self.now.measures }
         ensures few { self.now.measures ≤ MAX_MEASURES }
-        ensures small { All (λ a. nat_abs a ≤ largest_amount) result.now }
+        ensures small { All (λ a. nat_abs a ≤ MAX_AMOUNT) result.now }
     {
         lines::line(&self.amounts, place, self.measures)
     }
@@ -192,7 +191,7 @@ impl Store {
         requires dims { length tuple.now ≡ self.old.dims }
         requires no_any { All (λ entry. is_some entry ≡ true) tuple.now }
         requires measures { length amounts.now ≡ self.old.measures }
-        requires small { All (λ a. nat_abs a ≤ largest_amount) amounts.now }
+        requires small { All (λ a. nat_abs a ≤ MAX_AMOUNT) amounts.now }
         requires few { length self.old.rows + 1 < 2 ^ 32 }
         ensures ok { OnOk result (self.new ≡ record self.old { rows = self.old.rows ++ row_of id tuple.now amounts.now ∷ [] }) }
         ensures row { OnOk result (IsRow self.old.dims self.old.measures (row_of id tuple.now amounts.now)) }

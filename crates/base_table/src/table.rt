@@ -4,14 +4,13 @@ ghost use Rattle.cell_core.specs.Entry.{IsCode};
 ghost use Rattle.base_table.specs.Places.{AreThere, IsTable, base_of, cleared, has_id, named, numbers, padded, row_at, row_of, row_with_id, rows_of, total_of, widened, with_code, with_tuple, without_id};
 ghost use Rattle.std.specs.Option.{option_map};
 ghost use Rattle.cube_defs.specs.Cell.{cell_of};
-ghost use Rattle.aggregates.specs.Bounds.{largest_amount};
 ghost use Rattle.aggregates.specs.Views.{agg_in};
 
 use crate::store::Store;
 use crate::{Memory, group, presence};
 use aggregates::Agg;
 use cell_core::{Cell, Code, HashKeys};
-use cube_defs::{MAX_DIMS, MAX_MEASURES, MAX_ROWS};
+use cube_defs::{MAX_AMOUNT, MAX_DIMS, MAX_MEASURES, MAX_ROWS};
 use std::alloc::{AllocError, Global};
 use std::marker::Model;
 
@@ -38,7 +37,7 @@ pub struct Missing;
 #[derive(Drop)]
 pub struct Taken {
     pub tuple: Cell,
-    pub amounts: [i64; 4],
+    pub amounts: [i64; MAX_MEASURES as usize],
 }
 
 /// Rows under distinct ids, each with a code in every dimension and an amount in every measure, in
@@ -224,7 +223,7 @@ impl Table {
         requires row { is_some (row_at self.now row.0) ≡ true }
         ensures value { IfSome (row_at self.now row.0) (λ r. result.now ≡ r.amounts) }
         ensures measures { length result.now ≡ self.now.measures }
-        ensures small { All (λ a. nat_abs a ≤ largest_amount) result.now }
+        ensures small { All (λ a. nat_abs a ≤ MAX_AMOUNT) result.now }
     {
         self.store.amounts(row.0)
     }
@@ -262,7 +261,7 @@ impl Table {
         requires dims { length tuple.now ≡ self.old.dims }
         requires no_any { All (λ entry. is_some entry ≡ true) tuple.now }
         requires measures { length amounts.now ≡ self.old.measures }
-        requires small { All (λ a. nat_abs a ≤ largest_amount) amounts.now }
+        requires small { All (λ a. nat_abs a ≤ MAX_AMOUNT) amounts.now }
         ensures ok { OnOk result (self.new ≡ record self.old { places = self.old.places ++ Some (row_of id tuple.now amounts.now) ∷ [] }) }
         ensures rows { OnOk result (rows_of self.new ≡ rows_of self.old ++ row_of id tuple.now amounts.now ∷ []) }
         ensures err { OnErr result (self.new ≡ self.old) }
@@ -350,7 +349,7 @@ impl Table {
         requires dims { length tuple.now ≡ self.old.dims }
         requires no_any { All (λ entry. is_some entry ≡ true) tuple.now }
         requires measures { length amounts.now ≡ self.old.measures }
-        requires small { All (λ a. nat_abs a ≤ largest_amount) amounts.now }
+        requires small { All (λ a. nat_abs a ≤ MAX_AMOUNT) amounts.now }
         requires absent { has_id (rows_of self.old) id ≡ false }
         requires room { length (rows_of self.old) < self.old.max }
         ensures ok { OnOk result (self.new ≡ record self.old { places = self.old.places ++ Some (row_of id tuple.now amounts.now) ∷ [] }) }

@@ -2,7 +2,6 @@
 ghost use Rattle.std.specs.Option.{option_map};
 ghost use Rattle.std.specs.Ordering.{eq_by_cmp, nat_cmp};
 ghost use Rattle.std.specs.Prelude.{IfSome, Some, length, nat_abs, true, ◌*◌, ◌+◌, ◌<◌, ◌^◌, ◌≡◌, ◌≤◌};
-ghost use Rattle.aggregates.specs.Bounds.{largest_amount};
 ghost use Rattle.aggregates.specs.Views.{agg_in, part_in};
 ghost use Rattle.cube_defs.specs.Rows as defs;
 ghost use Rattle.cube_defs.specs.Tree.{cell_at};
@@ -14,12 +13,9 @@ ghost use Rattle.batch_delete.specs.Rests.{Deletion, rows_after, rows_before, so
 use crate::going::Going;
 use aggregates::{Agg, Part};
 use cell_core::{Cell, NodeNo, Steps};
-use cube_defs::MAX_ROWS;
+use cube_defs::{MAX_AMOUNT, MAX_ROWS};
 use qc_arena::{Nodes, QcArena};
 use std::sync::ledger::Ledger;
-
-// The largest magnitude of an amount, in the smallest unit of its measure.
-const LARGEST_AMOUNT: u64 = 999_999_999_999;
 
 // A measure without some of its rows. None if these have its MIN or its MAX, or if the sum is too
 // large for so many rows.
@@ -28,13 +24,13 @@ fn part_besides(whole: &Part, part: &Part, count: u32) -> Option<Part>
     requires part { nat_abs part.now.sum ≤ 10 ^ 18 }
     requires count { count ≤ MAX_ROWS }
     ensures rest { IfSome result (λ rest. (o : defs.Part) → combine_part (part_in part.now) o ≡ part_in whole.now → part_in rest ≡ o) }
-    ensures small { IfSome result (λ rest. nat_abs rest.sum ≤ count * largest_amount) }
+    ensures small { IfSome result (λ rest. nat_abs rest.sum ≤ count * MAX_AMOUNT) }
 {
     if whole.least >= part.least || whole.greatest <= part.greatest {
         return None;
     }
     let sum = whole.sum - part.sum;
-    if sum.unsigned_abs() > count as u64 * LARGEST_AMOUNT {
+    if sum.unsigned_abs() > count as u64 * MAX_AMOUNT {
         return None;
     }
     Some(Part {

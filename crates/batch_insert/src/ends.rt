@@ -1,6 +1,5 @@
 // The forced children and the classes of the nodes that generalize the tuple.
 ghost use Rattle.std.specs.Prelude.{◌+◌, ◌*◌, All, IfSome, None, OnOk, Some, [], ◌∷◌, slice_index_or, ℕ, ◌≢◌, is_some, length, nat_abs, true, ◌≡◌, ◌≤◌};
-ghost use Rattle.aggregates.specs.Bounds.{largest_amount};
 ghost use Rattle.aggregates.specs.Rows.{agg_of_row};
 ghost use Rattle.aggregates.specs.Views.{agg_in};
 ghost use Rattle.std.specs.Option.{option_map};
@@ -17,6 +16,7 @@ use crate::plan::{End, Forcing};
 use crate::tuples::code_of;
 use aggregates::Agg;
 use cell_core::{Cell, NodeNo, Steps};
+use cube_defs::{MAX_AMOUNT, MAX_MEASURES};
 use qc_arena::{Forced, QcArena};
 use std::sync::ledger::Ledger;
 
@@ -30,8 +30,8 @@ pub(crate) fn end_all<L: Ledger>(
     steps: &mut Steps<L>,
 ) -> Result<(), Memory>
     requires repair { IsRepairing tuple.now arena.old (numbered numbers.now) }
-    requires few { length amounts.now ≤ 4 }
-    requires small { All (λ a. nat_abs a ≤ largest_amount) amounts.now }
+    requires few { length amounts.now ≤ MAX_MEASURES }
+    requires small { All (λ a. nat_abs a ≤ MAX_AMOUNT) amounts.now }
     requires ends { All (λ e. IsEnd (length tuple.now) (length amounts.now) e) ends.now }
     ensures keeps { Keeps tuple.now arena.old arena.new }
     ensures done { OnOk result (HaveEnded tuple.now amounts.now (numbered numbers.now) ends.now arena.old.now arena.new.now) }
@@ -55,8 +55,8 @@ fn end_one<L: Ledger>(
     steps: &mut Steps<L>,
 ) -> Result<(), Memory>
     requires repair { IsRepairing tuple.now arena.old (numbered numbers.now) }
-    requires few { length amounts.now ≤ 4 }
-    requires small { All (λ a. nat_abs a ≤ largest_amount) amounts.now }
+    requires few { length amounts.now ≤ MAX_MEASURES }
+    requires small { All (λ a. nat_abs a ≤ MAX_AMOUNT) amounts.now }
     requires end { IsEnd (length tuple.now) (length amounts.now) end }
     ensures keeps { Keeps tuple.now arena.old arena.new }
     ensures done { OnOk result (HaveEnded tuple.now amounts.now (numbered numbers.now) (end ∷ []) arena.old.now arena.new.now) }
@@ -110,8 +110,8 @@ fn force<L: Ledger>(
 
 // The aggregate with the row: that of the earlier rows, if there are any, and the row's amounts.
 fn with_row(before: Option<Agg>, amounts: &[i64]) -> Agg
-    requires few { length amounts.now ≤ 4 }
-    requires small { All (λ a. nat_abs a ≤ largest_amount) amounts.now }
+    requires few { length amounts.now ≤ MAX_MEASURES }
+    requires small { All (λ a. nat_abs a ≤ MAX_AMOUNT) amounts.now }
     requires before { IfSome before (λ a. TakesMore (length amounts.now) a) }
     ensures { agg_in result ≡ sum_with (option_map agg_in before) (agg_of_row amounts.now) }
 {

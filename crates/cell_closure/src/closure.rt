@@ -11,6 +11,7 @@ ghost use Rattle.cube_laws.specs.Parting.{shared_by};
 use crate::width::closure_in;
 use base_table::{RowNo, Table};
 use cell_core::{Cell, Code, Entry};
+use cube_defs::MAX_DIMS;
 
 /// Whether all the rows have the code in the dimension.
 fn all_have(table: &Table, rows: &[RowNo], dim: u8, code: Code) -> bool
@@ -43,6 +44,9 @@ pub fn shared_entry(table: &Table, rows: &[RowNo], dim: u8) -> Entry
     }
 }
 
+// The width of an array that every row fits.
+const WIDEST: usize = MAX_DIMS as usize;
+
 // One branch for each array width: the arrays have the least width in which the dimensions fit.
 macro_rules! closure_by_width {
     ($table:expr, $rows:expr, $($width:literal)*) => {
@@ -61,5 +65,5 @@ pub fn closure_of(table: &Table, rows: &[RowNo]) -> Cell
     ensures dims { length result ≡ table.now.dims }
 {
     closure_by_width!(table, rows, 4 8 12);
-    closure_in::<16>(table, rows)
+    closure_in::<WIDEST>(table, rows)
 }

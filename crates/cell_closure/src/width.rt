@@ -11,6 +11,7 @@ ghost use Rattle.cube_laws.specs.Parting.{shared_by};
 
 use base_table::{RowNo, Table};
 use cell_core::{ANY, Cell, Entry};
+use cube_defs::MAX_DIMS;
 
 /// Replaces the accumulator by its meet with a row, entry by entry: the code if both have it, else
 /// [`ANY`], which stands for Any. Each entry of both is a code or `ANY`.
@@ -79,7 +80,7 @@ pub(crate) fn closure_in<const N: usize>(table: &Table, rows: &[RowNo]) -> Cell
     requires some { 0 < length rows.now }
     requires there { AreThere table.now rows.now }
     requires width { table.now.dims ≤ N }
-    requires small { N ≤ 16 }
+    requires small { N ≤ MAX_DIMS }
     ensures closure { Some result ≡ meet_all nat_eq (map (λ row. cell_of row.tuple) (named table.now rows.now)) }
     ensures dims { length result ≡ table.now.dims }
 {

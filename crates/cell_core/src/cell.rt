@@ -47,7 +47,7 @@ impl Entry {
 /// no call on a cell takes memory.
 #[derive(Drop)]
 pub struct Cell {
-    codes: [u32; 16],
+    codes: [u32; MAX_DIMS as usize],
     dims: u8,
 }
 
@@ -71,7 +71,7 @@ impl Cell {
         ensures dims { length result ≡ dims }
     {
         Cell {
-            codes: [ANY; 16],
+            codes: [ANY; MAX_DIMS as usize],
             dims,
         }
     }

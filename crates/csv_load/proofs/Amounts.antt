@@ -8,6 +8,7 @@ use Rattle.std.proofs.lemmas.List.{drop_more}
 use Rattle.std.proofs.lemmas.List.Elements.{All-cons}
 use Rattle.std.proofs.lemmas.Option.{cond_some}
 use Rattle.aggregates.specs.Numbers.{amount_in, behind_digits, digits_front, id_in, is_number, magnitude_in, number, tail_in, within}
+use Rattle.cube_defs.specs.declared.limits.TheConstants.{MAX_AMOUNT}
 use Rattle.qc_schema.specs.Schema.{Measure, no_measure}
 use Rattle.csv_load.specs.Files.{amounts_in}
 use Rattle.csv_load.specs.Batch.{IsSmall}
@@ -19,14 +20,14 @@ id-small text n e =
     let q = and_parts (is_number text) (nat_lt (number text) (2 ^ 64)) p.0 in
     omega (arith, p.1, ltb-true (number text) (2 ^ 64) q.1)
 
-within-small : (o : Option ℕ) (n : ℕ) → within o ≡ Some n → n ≤ 999999999999
+within-small : (o : Option ℕ) (n : ℕ) → within o ≡ Some n → n ≤ MAX_AMOUNT
 within-small None n e = absurd (cc e)
-within-small (Some m) n e = let p = cond_some (nat_le m 999999999999) m n e in omega (arith, p.1, leb-true m 999999999999 p.0)
+within-small (Some m) n e = let p = cond_some (nat_le m MAX_AMOUNT) m n e in omega (arith, p.1, leb-true m MAX_AMOUNT p.0)
 
-magnitude-small : (scale : ℕ) (text : List ℕ) (n : ℕ) → magnitude_in scale text ≡ Some n → n ≤ 999999999999
+magnitude-small : (scale : ℕ) (text : List ℕ) (n : ℕ) → magnitude_in scale text ≡ Some n → n ≤ MAX_AMOUNT
 magnitude-small scale text n e = by (is_number (digits_front text)) e
   where
-    by : (b : Bool) → cond b (within (option_map (λ m. number (digits_front text) * 10 ^ scale + m) (tail_in scale (behind_digits text)))) None ≡ Some n → n ≤ 999999999999
+    by : (b : Bool) → cond b (within (option_map (λ m. number (digits_front text) * 10 ^ scale + m) (tail_in scale (behind_digits text)))) None ≡ Some n → n ≤ MAX_AMOUNT
     by true m = within-small (option_map (λ m. number (digits_front text) * 10 ^ scale + m) (tail_in scale (behind_digits text))) n m
     by false m = absurd (cc m)
 
@@ -34,21 +35,21 @@ abs-neg : (n : ℕ) → nat_abs (neg_ℤ (pos n)) ≡ n
 abs-neg zero = refl
 abs-neg (suc n) = omega arith
 
-mapped-small : (f : ℕ → ℤ) → ((n : ℕ) → nat_abs (f n) ≡ n) → (scale : ℕ) (text : List ℕ) (o : Option ℕ) (a : ℤ) → magnitude_in scale text ≡ o → option_map f o ≡ Some a → nat_abs a ≤ 999999999999
+mapped-small : (f : ℕ → ℤ) → ((n : ℕ) → nat_abs (f n) ≡ n) → (scale : ℕ) (text : List ℕ) (o : Option ℕ) (a : ℤ) → magnitude_in scale text ≡ o → option_map f o ≡ Some a → nat_abs a ≤ MAX_AMOUNT
 mapped-small f same scale text None a e m = absurd (cc m)
 mapped-small f same scale text (Some n) a e m =
     let is : f n ≡ a = cc in
     omega (arith, ap nat_abs is, same n, magnitude-small scale text n e)
 
-pub amount-small : (scale : ℕ) (text : List ℕ) (a : ℤ) → amount_in scale text ≡ Some a → nat_abs a ≤ 999999999999
+pub amount-small : (scale : ℕ) (text : List ℕ) (a : ℤ) → amount_in scale text ≡ Some a → nat_abs a ≤ MAX_AMOUNT
 amount-small scale [] a e = absurd (cc e)
 amount-small scale (c ∷ cs) a e = by (c == 45) e
   where
-    by : (b : Bool) → cond b (option_map (λ n. neg_ℤ (pos n)) (magnitude_in scale cs)) (option_map (λ n. pos n) (magnitude_in scale (cond (c == 43) cs (c ∷ cs)))) ≡ Some a → nat_abs a ≤ 999999999999
+    by : (b : Bool) → cond b (option_map (λ n. neg_ℤ (pos n)) (magnitude_in scale cs)) (option_map (λ n. pos n) (magnitude_in scale (cond (c == 43) cs (c ∷ cs)))) ≡ Some a → nat_abs a ≤ MAX_AMOUNT
     by true m = mapped-small (λ n. neg_ℤ (pos n)) abs-neg scale cs _ a refl m
     by false m = mapped-small pos (λ n. refl) scale (cond (c == 43) cs (c ∷ cs)) _ a refl m
 
-pub abs-fits : (z : ℤ) → nat_abs z ≤ 999999999999 → FitsSigned w64 z
+pub abs-fits : (z : ℤ) → nat_abs z ≤ MAX_AMOUNT → FitsSigned w64 z
 abs-fits (pos n) h = omega (arith, ints)
 abs-fits (negsuc n) h = omega (arith, ints)
 

@@ -9,6 +9,7 @@ use Rattle.std.proofs.lemmas.List.Elements.{All-cons}
 use Rattle.std.proofs.lemmas.Str.{IsUtf8-from_is_utf8}
 use Rattle.cube_defs.specs.Text.{Text}
 use Rattle.aggregates.specs.Numbers.{id_in}
+use Rattle.cube_defs.specs.declared.limits.TheConstants.{MAX_TEXT}
 use Rattle.qc_schema.specs.Schema.{Layout}
 use Rattle.csv_load.specs.Batch.{Change, Delete, Insert, IsChange, IsValue}
 use Rattle.csv_load.specs.Columns.{fields_at}
@@ -36,7 +37,7 @@ all-values [] g h = λ k d lt. absurd (omega arith)
 all-values (t ∷ ts) g h =
     let p = and_parts (is_utf8 t) (list_all is_utf8 ts) g in
     let q = and_parts (is_short t) (list_all is_short ts) h in
-    All-cons IsValue t ts (record { utf8 = IsUtf8-from_is_utf8 t p.0; short = leb-true (length t) 255 q.0 }) (all-values ts p.1 q.1)
+    All-cons IsValue t ts (record { utf8 = IsUtf8-from_is_utf8 t p.0; short = leb-true (length t) MAX_TEXT q.0 }) (all-values ts p.1 q.1)
 
 is-same : (dims measures : ℕ) (a b : Change Text) → (let r : Result (Change Text) Fault = Ok a in r) ≡ Ok b → IsChange dims measures a → IsChange dims measures b
 is-same dims measures a b e is =

@@ -12,6 +12,7 @@ use Rattle.cube_defs.specs.Text.{Text}
 use Rattle.csv_load.specs.Batch.{Adds, AreChanges, Change, Delete, Insert, IsChange, IsLoaded, change_at_place, change_with, id_of, inserted, is_deletion, row_at_place, row_of}
 use Rattle.csv_load.specs.declared.changes.Changes.{Changes}
 use Rattle.csv_load.proofs.Ranges.{range-append, range-behind, same-below, get_or-range}
+use Rattle.cube_defs.specs.declared.limits.TheConstants.{MAX_AMOUNT}
 
 abbrev pub all_in : ℕ → ℕ → Changes → List (Change Text)
 all_in dims measures changes = map (change_at_place dims measures changes) (range_with_len 0 (length changes.ids.items))
@@ -70,13 +71,13 @@ loaded-row dims measures (Delete id) is e = absurd (cc e)
 loaded-row dims measures (Insert row) is e = is
 
 pub amount-small : (dims measures : ℕ) (changes : Changes) (k i : ℕ) (d : Change Text) → AreChanges dims measures changes → k < length changes.ids.items
-    → is_deletion (get_or (all_in dims measures changes) k d) ≡ false → i < measures → nat_abs (get_or changes.amounts.items (k * measures + i) (pos 0)) ≤ 999999999999
+    → is_deletion (get_or (all_in dims measures changes) k d) ≡ false → i < measures → nat_abs (get_or changes.amounts.items (k * measures + i) (pos 0)) ≤ MAX_AMOUNT
 amount-small dims measures changes k i d are h e lt =
     let at : IsLoaded dims measures (row_of (get_or (all_in dims measures changes) k d))
     = loaded-row dims measures (get_or (all_in dims measures changes) k d) (are.is_batch.loaded k d (omega (arith, h, length-all dims measures changes))) e in
-    let small : nat_abs (get_or (row_of (get_or (all_in dims measures changes) k d)).amounts i (pos 0)) ≤ 999999999999 = at.small i (pos 0) (omega (arith, at.amounts)) in
+    let small : nat_abs (get_or (row_of (get_or (all_in dims measures changes) k d)).amounts i (pos 0)) ≤ MAX_AMOUNT = at.small i (pos 0) (omega (arith, at.amounts)) in
     let same = amount-at dims measures changes k i d h e lt in
-    let P : ℤ → Type 0 = λ z. nat_abs z ≤ 999999999999 in
+    let P : ℤ → Type 0 = λ z. nat_abs z ≤ MAX_AMOUNT in
     subst P same small
 
 -- ---- one more

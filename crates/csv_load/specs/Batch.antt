@@ -4,6 +4,7 @@ use Rattle.std.specs.List.{All, range_with_len}
 use Rattle.cube_defs.specs.Rows.{Row}
 use Rattle.cube_defs.specs.Text.{Text}
 use Rattle.csv_load.specs.declared.changes.Changes.{Changes}
+use Rattle.cube_defs.specs.declared.limits.TheConstants.{MAX_AMOUNT, MAX_TEXT}
 
 -- the row with an id goes, or a row comes
 pub data Change (A : Type 0) : Type 0 where
@@ -68,11 +69,11 @@ amount_at changes k measure = slice_index_or (row_of (change_at changes k)).amou
 -- a text that a dimension may have
 pub record IsValue (text : Text) : Type 0 where
   pub utf8 : IsUtf8 text
-  pub short : length text ≤ 255
+  pub short : length text ≤ MAX_TEXT
 
--- an amount of at most twelve digits
+-- no larger than an amount may be
 abbrev pub IsSmall : ℤ → Type 0
-IsSmall amount = nat_abs amount ≤ 999999999999
+IsSmall amount = nat_abs amount ≤ MAX_AMOUNT
 
 -- a row of a batch with so many dimensions and measures
 pub record IsLoaded (dims measures : ℕ) (row : Row Text) : Type 0 where

@@ -5,15 +5,16 @@ use Rattle.std.specs.Str.{bytes_eq, is_utf8}
 use Rattle.csv.specs.Reading.{default_config, records}
 use Rattle.cube_defs.specs.Text.{Text}
 use Rattle.aggregates.specs.Numbers.{amount_in, id_in}
+use Rattle.cube_defs.specs.declared.limits.TheConstants.{MAX_TEXT}
 use Rattle.qc_schema.specs.Schema.{Layout, Measure, names_of}
 use Rattle.csv_load.specs.Batch.{Change, Delete, Insert, change_with}
 use Rattle.csv_load.specs.Columns.{cons_some, fields_at, needed_names, places_in}
 use Rattle.csv_load.specs.Faults.{Fault, Header, Fields, Utf8, Op, Id, Amount, Value, cons_ok}
 use Rattle.text_lines.specs.Lines.{begins_with_two_marks, without_mark}
 
--- at most 255 bytes
+-- no longer than a text may be
 abbrev pub is_short : Text → Bool
-is_short text = nat_le (length text) 255
+is_short text = nat_le (length text) MAX_TEXT
 
 -- an amount for each measure, at its scale
 abbrev pub amounts_in : List Measure → List (List ℕ) → Option (List ℤ)

@@ -19,11 +19,10 @@ use crate::files::LoadRefused;
 use crate::texts::FieldTexts;
 use aggregates::{read_amount, read_id};
 use csv::ByteRecord;
+use cube_defs::MAX_TEXT;
 use qc_schema::Schema;
 use std::alloc::AllocError;
 use text_lines::RecordReader;
-
-const LONGEST_TEXT: usize = 255;
 
 // Appends the texts of a record's dimensions, and says whether each is short enough.
 fn push_texts(
@@ -48,7 +47,7 @@ fn push_texts(
         let Ok(text) = str::from_utf8(field) else {
             return Err(LoadRefused::Utf8(number));
         };
-        if text.len() > LONGEST_TEXT {
+        if text.len() > MAX_TEXT {
             are_short = false;
         }
         texts.push(text)?;

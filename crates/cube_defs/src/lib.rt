@@ -5,7 +5,10 @@
 
 mod limits;
 
-pub use limits::{MAX_CODES, MAX_DIMS, MAX_FILE, MAX_MEASURES, MAX_NODES, MAX_ROWS};
+pub use limits::{
+    MAX_AMOUNT, MAX_CODES, MAX_DIMS, MAX_FILE, MAX_MEASURES, MAX_NODES, MAX_ROWS, MAX_SCALE,
+    MAX_TEXT,
+};
 
 /// Memory ran out.
 pub type Memory = std::alloc::AllocError;

@@ -10,6 +10,7 @@ use Rattle.std.proofs.lemmas.List.Quantifiers.{position-Some}
 use Rattle.std.proofs.lemmas.Map.Keys as keys
 use Rattle.cube_defs.specs.Text.{Text}
 use Rattle.csv_load.specs.Batch.{IsValue}
+use Rattle.cube_defs.specs.declared.limits.TheConstants.{MAX_TEXT}
 use Rattle.value_dict.specs.TextLists.{TextLists, code_in, learnt, learnt_in, list_at}
 use Rattle.value_dict.proofs.Distinct.{IsDistinct-push, same_bytes}
 use Rattle.value_dict.proofs.Lists.{code_pushed}
@@ -63,7 +64,7 @@ module _ (list : List Text) (text : Text) where
   pub learnt_new : code_in list text ≡ None → learnt_in list text ≡ list ++ text ∷ []
   learnt_new e = ap (λ (o : Option ℕ). cond (is_some o) list (list ++ text ∷ [])) e
 
-  pub allowed_more : (max : ℕ) → AreAllowed max list → IsUtf8 text → length text ≤ 255 → code_in list text ≡ None → length (list ++ text ∷ []) ≤ max → AreAllowed max (list ++ text ∷ [])
+  pub allowed_more : (max : ℕ) → AreAllowed max list → IsUtf8 text → length text ≤ MAX_TEXT → code_in list text ≡ None → length (list ++ text ∷ []) ≤ max → AreAllowed max (list ++ text ∷ [])
   allowed_more max allowed utf8 short new room = record {
     values = All-push IsValue list text allowed.values (record { utf8 = utf8; short = short });
     distinct = IsDistinct-push list text new allowed.distinct;

@@ -1,11 +1,11 @@
 -- The laws of the parts of a snapshot.
 use Rattle.std.proofs.Common.{◌≡◌, ℕ, ◌^◌, ◌<◌, Bool, true, false, cond, Option, Some, None, ℤ, length, nat_abs, refl, sym, ap, ◌∙◌, subst, arith, leb}
-use Rattle.aggregates.specs.Bounds.{largest_amount}
 use Rattle.std.specs.Int.{w32, w64, cast_signed, cast_unsigned}
 use Rattle.std.specs.List.{AllByRecursion}
 use Rattle.std.proofs.lemmas.Bool.{leb-true, le-leb}
 use Rattle.std.proofs.lemmas.Int.{fits_signed_from_abs, of_z-to_z, to_z-of_z}
 use Rattle.cube_defs.specs.Rows.{Row}
+use Rattle.cube_defs.specs.declared.limits.TheConstants.{MAX_AMOUNT}
 use Rattle.cube_snapshot.specs.Format.{byte, followed, number, times}
 use Rattle.cube_snapshot.specs.Parts.{AreTexts, IsAmount, IsRow, amount, amount_of, row, row_of, rows, text, texts}
 use Rattle.cube_snapshot.proofs.FormatLaws.{IsFormat, byte-is, counted-is, followed-is, number-is, seen-is, sized-is, times-is, wide32, wide64}
@@ -25,7 +25,7 @@ amount-is = seen-is (number w64) (cast_unsigned w64) amount_of (λ n. n < 2 ^ 64
     there z h =
         let fits = fits_signed_from_abs w64 z (omega arith) in
         let same = to_z-of_z w64 z fits in
-        ((of_z_fits w64 z fits).fits, ap (λ x. cond (leb (nat_abs x) largest_amount) (Some x) None) same ∙ ap (λ b. cond b (Some z) None) (le-leb _ _ h))
+        ((of_z_fits w64 z fits).fits, ap (λ x. cond (leb (nat_abs x) MAX_AMOUNT) (Some x) None) same ∙ ap (λ b. cond b (Some z) None) (le-leb _ _ h))
 
     passed : (b : Bool) (x z : ℤ) → cond b (Some x) None ≡ Some z → (b ≡ true) × (x ≡ z)
     passed true x z e = (refl, cc)
@@ -33,7 +33,7 @@ amount-is = seen-is (number w64) (cast_unsigned w64) amount_of (λ n. n < 2 ^ 64
 
     back : (n : ℕ) (z : ℤ) → n < 2 ^ 64 → amount_of n ≡ Some z → (cast_unsigned w64 z ≡ n) × IsAmount z
     back n z l e =
-        let p = passed (leb (nat_abs (cast_signed w64 n)) largest_amount) (cast_signed w64 n) z e in
+        let p = passed (leb (nat_abs (cast_signed w64 n)) MAX_AMOUNT) (cast_signed w64 n) z e in
         (ap (cast_unsigned w64) (sym p.1) ∙ of_z-to_z w64 n l, subst IsAmount p.1 (leb-true _ _ p.0))
 
 -- rows of so many dimensions and measures

@@ -10,6 +10,7 @@ use Rattle.cell_closure.proofs.Rows.{all_recursion}
 use Rattle.cube_defs.specs.Cell.{cell_of}
 use Rattle.cube_defs.specs.Rows.{Row}
 use Rattle.cube_defs.specs.Text.{Text}
+use Rattle.cube_defs.specs.declared.limits.TheConstants.{MAX_TEXT}
 use Rattle.cube_laws.specs.Recoding.{AreKnown, RowsAreKnown, coded_row, coded_tuple}
 use Rattle.cube_laws.proofs.Lists.{all_map}
 use Rattle.csv_load.specs.Batch.{IsLoaded, IsSmall, IsValue}
@@ -102,7 +103,7 @@ pub one-state : (s t : State) → IsState s → IsState t → length (spelling s
 one-state s t is it short e =
     same-state s t is.consistent it.consistent (same_parts (parts_in s) (parts_in t) (state-spelled s is.consistent short) (state-spelled t it.consistent (subst (λ (l : List ℕ). length l ≤ 268435456) e short)) e)
 
-pub short-values : (lists : List (List Text)) → All (All IsValue) lists → All (All (λ t. length t ≤ 255)) lists
+pub short-values : (lists : List (List Text)) → All (All IsValue) lists → All (All (λ t. length t ≤ MAX_TEXT)) lists
 short-values lists values k d lt i e l = (values k d lt i e l).short
 
 -- the parts of a state are within all limits but that of its nodes

@@ -2,12 +2,12 @@
 use Rattle.std.specs.Prelude.{◌≡◌, ℕ, ◌<◌, ◌≤◌, ◌^◌, List, Option, Some, None, ℤ, length, nat_abs, nat_le, if◌then◌else◌}
 use Rattle.std.specs.Int.{w32, w64, cast_signed, cast_unsigned}
 use Rattle.std.specs.List.{AllByRecursion}
-use Rattle.aggregates.specs.Bounds.{largest_amount}
 use Rattle.cube_defs.specs.Text.{Text}
 use Rattle.cube_defs.specs.Rows.{Row}
+use Rattle.cube_defs.specs.declared.limits.TheConstants.{MAX_AMOUNT}
 use Rattle.cube_snapshot.specs.Format.{Format, byte, counted, followed, number, seen_as, sized, times}
 
--- a text of at most 255 bytes
+-- a text whose length takes one byte
 abbrev pub text : Format Text
 text = sized byte
 
@@ -17,7 +17,7 @@ texts = counted text (number w32)
 
 -- an amount in two's complement
 abbrev pub amount_of : ℕ → Option ℤ
-amount_of n = if nat_le (nat_abs (cast_signed w64 n)) largest_amount then Some (cast_signed w64 n) else None
+amount_of n = if nat_le (nat_abs (cast_signed w64 n)) MAX_AMOUNT then Some (cast_signed w64 n) else None
 
 abbrev pub amount : Format ℤ
 amount = seen_as (number w64) (cast_unsigned w64) amount_of
@@ -39,7 +39,7 @@ abbrev pub AreTexts : List Text → Type 0
 AreTexts ts = (length ts < 2 ^ 32) × AllByRecursion (λ t. length t < 256) ts
 
 abbrev pub IsAmount : ℤ → Type 0
-IsAmount z = nat_abs z ≤ largest_amount
+IsAmount z = nat_abs z ≤ MAX_AMOUNT
 
 -- a row of so many dimensions and measures that has a spelling
 pub record IsRow (dims measures : ℕ) (r : Row ℕ) : Type 0 where

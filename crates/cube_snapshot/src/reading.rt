@@ -2,9 +2,10 @@
 ghost use Rattle.std.specs.Int.{w32, w64};
 ghost use Rattle.std.specs.Option.{option_map};
 ghost use Rattle.std.specs.Prelude.{IfSome, length, nat_abs, ◌≡◌, ◌≤◌};
-ghost use Rattle.aggregates.specs.Bounds.{largest_amount};
 ghost use Rattle.cube_snapshot.specs.Format.{byte, number};
 ghost use Rattle.cube_snapshot.specs.Parts.{amount, text};
+
+use cube_defs::{MAX_AMOUNT, MAX_TEXT};
 
 /// A number of four bytes, and the bytes after it.
 pub(crate) fn u32_at(bytes: &[u8]) -> Option<(u32, &[u8])>
@@ -44,11 +45,11 @@ fn byte_at(bytes: &[u8]) -> Option<(u8, &[u8])>
 /// An amount in two's complement, and the bytes after it.
 pub(crate) fn amount_at(bytes: &[u8]) -> Option<(i64, &[u8])>
     ensures read { option_map (λ x. (x.0, x.1.now)) result ≡ amount.get bytes.now }
-    ensures small { IfSome result (λ x. nat_abs x.0 ≤ largest_amount) }
+    ensures small { IfSome result (λ x. nat_abs x.0 ≤ MAX_AMOUNT) }
 {
     let (bits, rest) = u64_at(bytes)?;
     let value = bits.cast_signed();
-    if value.unsigned_abs() > 999_999_999_999 {
+    if value.unsigned_abs() > MAX_AMOUNT {
         return None;
     }
     Some((value, rest))
@@ -57,7 +58,7 @@ pub(crate) fn amount_at(bytes: &[u8]) -> Option<(i64, &[u8])>
 /// The bytes of a text after its length, and the bytes after them.
 pub(crate) fn text_at(bytes: &[u8]) -> Option<(&[u8], &[u8])>
     ensures read { option_map (λ x. (x.0.now, x.1.now)) result ≡ text.get bytes.now }
-    ensures short { IfSome result (λ x. length x.0.now ≤ 255) }
+    ensures short { IfSome result (λ x. length x.0.now ≤ MAX_TEXT) }
 {
     let (len, rest) = byte_at(bytes)?;
     let len = len as usize;

@@ -2,7 +2,6 @@
 ghost use Rattle.std.specs.Int.{w32};
 ghost use Rattle.std.specs.Option.{option_map};
 ghost use Rattle.std.specs.Prelude.{All, Err, IfOk, List, None, OnOk, Some, [], is_some, length, nat_abs, slice_index_or, take, true, ℕ, ◌<◌, ◌≡◌, ◌≢◌, ◌≤◌};
-ghost use Rattle.aggregates.specs.Bounds.{largest_amount};
 ghost use Rattle.base_table.specs.Places.{rows_of, values_of};
 ghost use Rattle.cube_defs.specs.Rows.{Row};
 ghost use Rattle.value_dict.specs.Told.{AreCodes};
@@ -14,7 +13,7 @@ use crate::reading::{amount_at, u32_at, u64_at};
 use crate::refused::PartRefused;
 use base_table::{Table, TableRefused};
 use cell_core::{Cell, Code, Entry};
-use cube_defs::MAX_MEASURES;
+use cube_defs::{MAX_AMOUNT, MAX_MEASURES};
 use std::alloc::Global;
 use value_dict::Dict;
 
@@ -49,10 +48,14 @@ fn codes_at<'a>(dict: &Dict, cell: &mut Cell, bytes: &'a [u8]) -> Option<&'a [u8
 }
 
 // So many amounts, and the bytes after them.
-fn amounts_at<'a>(amounts: &mut [i64; 4], count: u8, bytes: &'a [u8]) -> Option<&'a [u8]>
+fn amounts_at<'a>(
+    amounts: &mut [i64; MAX_MEASURES as usize],
+    count: u8,
+    bytes: &'a [u8],
+) -> Option<&'a [u8]>
     requires { count ≤ MAX_MEASURES }
     ensures read { option_map (λ rest. (take count amounts.new, rest.now)) result ≡ get_times amount count bytes.now }
-    ensures small { result ≢ None → All (λ a. nat_abs a ≤ largest_amount) (take count amounts.new) }
+    ensures small { result ≢ None → All (λ a. nat_abs a ≤ MAX_AMOUNT) (take count amounts.new) }
 {
     let mut rest = bytes;
     'amounts: for measure in 0..count {
@@ -84,7 +87,7 @@ fn read_row<'a>(
     let Some(rest) = codes_at(dict, cell, rest) else {
         return Err(PartRefused::Form);
     };
-    let mut amounts = [0; 4];
+    let mut amounts = [0; MAX_MEASURES as usize];
     let measures = table.measures();
     let Some(rest) = amounts_at(&mut amounts, measures, rest) else {
         return Err(PartRefused::Form);

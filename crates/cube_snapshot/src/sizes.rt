@@ -7,15 +7,15 @@ ghost use Rattle.cube_snapshot.specs.Snapshot.{laid};
 ghost use Rattle.value_dict.specs.TextLists.{list_at};
 
 use base_table::Table;
-use cube_defs::{MAX_CODES, MAX_ROWS};
+use cube_defs::{MAX_CODES, MAX_DIMS, MAX_MEASURES, MAX_ROWS, MAX_TEXT};
 use value_dict::Dict;
 
 // The bytes of the texts of a dimension, each with its length before it, without their number.
 fn texts_len(dict: &Dict, dim: u8) -> usize
     requires dim { dim < length dict.now.lists }
-    requires short { All (λ t. length t ≤ 255) (list_at dict.now dim) }
+    requires short { All (λ t. length t ≤ MAX_TEXT) (list_at dict.now dim) }
     ensures value { result ≡ length (flat_map text.put (list_at dict.now dim)) }
-    ensures small { result ≤ 256 * MAX_CODES }
+    ensures small { result ≤ (1 + MAX_TEXT) * MAX_CODES }
 {
     let mut len = 0;
     'texts: for code in 0..dict.len(dim) {
@@ -26,9 +26,9 @@ fn texts_len(dict: &Dict, dim: u8) -> usize
 
 // The bytes of the texts of all dimensions.
 fn dict_len(dict: &Dict) -> usize
-    requires { All (All (λ t. length t ≤ 255)) dict.now.lists }
+    requires { All (All (λ t. length t ≤ MAX_TEXT)) dict.now.lists }
     ensures value { result ≡ length (flat_map texts.put dict.now.lists) }
-    ensures small { result ≤ 16 * (4 + 256 * MAX_CODES) }
+    ensures small { result ≤ MAX_DIMS * (4 + (1 + MAX_TEXT) * MAX_CODES) }
 {
     let mut len = 0;
     'dims: for dim in 0..dict.dims() {
@@ -40,7 +40,7 @@ fn dict_len(dict: &Dict) -> usize
 // The bytes of the rows, with their number.
 fn rows_len(table: &Table) -> usize
     ensures value { result ≡ length ((rows table.now.dims table.now.measures).put (rows_of table.now)) }
-    ensures small { result ≤ 4 + MAX_ROWS * (8 + 4 * 16 + 8 * 4) }
+    ensures small { result ≤ 4 + MAX_ROWS * (8 + 4 * MAX_DIMS + 8 * MAX_MEASURES) }
 {
     let row = 8 + 4 * usize::from(table.dims()) + 8 * usize::from(table.measures());
     4 + table.count() as usize * row
@@ -48,7 +48,7 @@ fn rows_len(table: &Table) -> usize
 
 /// The bytes of a whole snapshot.
 pub(crate) fn snapshot_len(schema: &Vec<u8>, dict: &Dict, table: &Table) -> u64
-    requires { All (All (λ t. length t ≤ 255)) dict.now.lists }
+    requires { All (All (λ t. length t ≤ MAX_TEXT)) dict.now.lists }
     ensures { result ≡ length (laid schema.now.items dict.now.lists table.now.dims table.now.measures (rows_of table.now)) }
 {
     12 + schema.len() as u64 + dict_len(dict) as u64 + rows_len(table) as u64

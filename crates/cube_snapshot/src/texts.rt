@@ -9,13 +9,14 @@ ghost use Rattle.cube_snapshot.specs.Readers.{AreAllowed, Reads};
 
 use crate::reading::{text_at, u32_at};
 use crate::refused::PartRefused;
+use cube_defs::MAX_TEXT;
 use value_dict::{Dict, Learn};
 
 // Learns a text that is to be the next of its dimension.
 fn learn_next(dict: &mut Dict, dim: u8, place: u32, bytes: &[u8]) -> Result<(), PartRefused>
     requires dim { dim < length dict.old.lists }
     requires place { place ≡ length (list_at dict.old dim) }
-    requires short { length bytes.now ≤ 255 }
+    requires short { length bytes.now ≤ MAX_TEXT }
     requires allowed { AreAllowed dict.old.max (list_at dict.old dim) }
     ensures ok { OnOk result (dict.new ≡ record dict.old { lists = slice_set dict.old.lists dim (list_at dict.old dim ++ bytes.now ∷ []) }) }
     ensures allowed { OnOk result (AreAllowed dict.old.max (list_at dict.old dim ++ bytes.now ∷ [])) }

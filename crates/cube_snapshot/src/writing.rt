@@ -2,7 +2,6 @@
 ghost use Rattle.std.specs.Prelude.{All, IfOk, OnOk, Some, [], is_some, length, nat_abs, true, ℕ, ◌∷◌, ◌++◌, ◌<◌, ◌≡◌, ◌≤◌};
 ghost use Rattle.std.specs.Int.{w32, w64};
 ghost use Rattle.std.specs.List.{flat_map};
-ghost use Rattle.aggregates.specs.Bounds.{largest_amount};
 ghost use Rattle.base_table.specs.Places.{row_at, rows_in, rows_of};
 ghost use Rattle.cube_defs.specs.Rows.{Row};
 ghost use Rattle.cube_snapshot.specs.Format.{number};
@@ -11,7 +10,7 @@ ghost use Rattle.cube_snapshot.specs.Snapshot.{laid, mark_text};
 ghost use Rattle.value_dict.specs.TextLists.{list_at};
 
 use base_table::{RowNo, Table};
-use cube_defs::{MAX_FILE, Memory};
+use cube_defs::{MAX_AMOUNT, MAX_FILE, MAX_TEXT, Memory};
 use std::alloc::Global;
 use value_dict::Dict;
 
@@ -37,7 +36,7 @@ fn put_amount(out: &mut Vec<u8>, value: i64) -> Result<(), Memory>
 
 // Appends a text, with its length before it.
 fn put_text(out: &mut Vec<u8>, value: &str) -> Result<(), Memory>
-    requires { length value.now ≤ 255 }
+    requires { length value.now ≤ MAX_TEXT }
     ensures { OnOk result (out.new.items ≡ out.old.items ++ text.put value.now) }
 {
     let bytes = value.as_bytes();
@@ -48,7 +47,7 @@ fn put_text(out: &mut Vec<u8>, value: &str) -> Result<(), Memory>
 // Appends the texts of a dimension, with their number before them.
 fn put_texts(out: &mut Vec<u8>, dict: &Dict, dim: u8) -> Result<(), Memory>
     requires dim { dim < length dict.now.lists }
-    requires short { All (λ t. length t ≤ 255) (list_at dict.now dim) }
+    requires short { All (λ t. length t ≤ MAX_TEXT) (list_at dict.now dim) }
     ensures { OnOk result (out.new.items ≡ out.old.items ++ texts.put (list_at dict.now dim)) }
 {
     put_u32(out, dict.len(dim))?;
@@ -60,7 +59,7 @@ fn put_texts(out: &mut Vec<u8>, dict: &Dict, dim: u8) -> Result<(), Memory>
 
 /// Appends the texts of all dimensions.
 pub(crate) fn put_dict(out: &mut Vec<u8>, dict: &Dict) -> Result<(), Memory>
-    requires { All (All (λ t. length t ≤ 255)) dict.now.lists }
+    requires { All (All (λ t. length t ≤ MAX_TEXT)) dict.now.lists }
     ensures { OnOk result (out.new.items ≡ out.old.items ++ flat_map texts.put dict.now.lists) }
 {
     'dims: for dim in 0..dict.dims() {
@@ -82,7 +81,7 @@ fn put_codes(out: &mut Vec<u8>, table: &Table, no: RowNo) -> Result<(), Memory>
 
 // Appends amounts.
 fn put_amounts(out: &mut Vec<u8>, amounts: &[i64]) -> Result<(), Memory>
-    requires { All (λ a. nat_abs a ≤ largest_amount) amounts.now }
+    requires { All (λ a. nat_abs a ≤ MAX_AMOUNT) amounts.now }
     ensures { OnOk result (out.new.items ≡ out.old.items ++ flat_map amount.put amounts.now) }
 {
     'amounts: for value in amounts {
@@ -142,7 +141,7 @@ pub(crate) fn put_all(
     table: &Table,
 ) -> Result<Vec<u8>, Memory>
     requires schema { length schema.now.items ≤ MAX_FILE }
-    requires short { All (All (λ t. length t ≤ 255)) dict.now.lists }
+    requires short { All (All (λ t. length t ≤ MAX_TEXT)) dict.now.lists }
     ensures { IfOk result (λ out. out.items ≡ laid schema.now.items dict.now.lists table.now.dims table.now.measures (rows_of table.now)) }
 {
     let mut out = Vec::with_capacity(alloc, len)?;

@@ -42,7 +42,6 @@ fn in_order<T: Nodes, L: Ledger>(
     requires dictionary { IsDictionary dict.now }
     requires picked { ArePicked (T.tree tree.now) ask.now (numbers nodes.now) }
     requires measure { HasMeasure (T.width tree.now) (T.tree tree.now) ask.now.kind }
-    requires scale { ask.now.scale ≤ 6 }
     ensures classes { (source : TreeRows) → IsTreeOf (T.width tree.now) (T.tree tree.now) source → RowsAreKnown (has_code dict.now.lists) source.rows →
         IfOk result (λ classes. told_classes dict.now.lists classes.items
         ≡ answers.iceberg text_cmp source.measures (told_rows dict.now.lists source.rows) (ask_in ask.now)) }
@@ -70,7 +69,6 @@ fn picked<T: Nodes, L: Ledger>(
 ) -> Result<Vec<NodeNo>, Memory>
     requires tree { IsTree (T.width tree.now) (T.tree tree.now) }
     requires measure { HasMeasure (T.width tree.now) (T.tree tree.now) ask.now.kind }
-    requires scale { ask.now.scale ≤ 6 }
     ensures { IfOk result (λ nodes. ArePicked (T.tree tree.now) ask.now (numbers nodes.items)) }
 {
     let mut nodes = Vec::new(alloc);
@@ -95,7 +93,6 @@ fn nodes_of<T: Nodes, L: Ledger>(
     requires index { IsIndex (class_of_node (T.tree tree.now)) index.now }
     requires unit { IfSome (ranking_of ask.now.kind index.now) (λ r. r.scale ≡ ask.now.scale) }
     requires measure { HasMeasure (T.width tree.now) (T.tree tree.now) ask.now.kind }
-    requires scale { ask.now.scale ≤ 6 }
     ensures picked { IfOk result (λ nodes. ArePicked (T.tree tree.now) ask.now (numbers nodes.items)) }
     ensures steps { IsSome (ranking_of ask.now.kind index.now) → steps.new ≡ steps.old }
 {
@@ -126,7 +123,6 @@ pub fn iceberg<T: Nodes, L: Ledger>(
     requires unit { IfSome (ranking_of ask.now.kind index.now) (λ r. r.scale ≡ ask.now.scale) }
     requires dims { length dict.now.lists ≡ T.width tree.now }
     requires measure { HasMeasure (T.width tree.now) (T.tree tree.now) ask.now.kind }
-    requires scale { ask.now.scale ≤ 6 }
     ensures classes { (source : TreeRows) → IsTreeOf (T.width tree.now) (T.tree tree.now) source → RowsAreKnown (has_code dict.now.lists) source.rows →
         IfOk result (λ classes. told_classes dict.now.lists classes.items
         ≡ answers.iceberg text_cmp source.measures (told_rows dict.now.lists source.rows) (ask_in ask.now)) }

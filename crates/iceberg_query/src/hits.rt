@@ -33,7 +33,6 @@ fn value_at<T: Nodes, L: Ledger>(
     requires tree { IsTree (T.width tree.now) (T.tree tree.now) }
     requires class { IsSome (record_at (T.tree tree.now) node.0).class }
     requires measure { HasMeasure (T.width tree.now) (T.tree tree.now) ask.now.kind }
-    requires scale { ask.now.scale ≤ 6 }
     ensures hit { (source : TreeRows) → IsTreeOf (T.width tree.now) (T.tree tree.now) source →
         IfOk result (λ v. valued_of v ≡ class_at source (T.tree tree.now) node.0) }
     ensures value { IfOk result (λ v. IsValued ask.now v) }
@@ -66,7 +65,6 @@ pub(crate) fn values_at<T: Nodes, L: Ledger>(
     requires tree { IsTree (T.width tree.now) (T.tree tree.now) }
     requires classes { AreClasses (T.tree tree.now) (numbers nodes.now) }
     requires measure { HasMeasure (T.width tree.now) (T.tree tree.now) ask.now.kind }
-    requires scale { ask.now.scale ≤ 6 }
     ensures hits { (source : TreeRows) → IsTreeOf (T.width tree.now) (T.tree tree.now) source →
         IfOk result (λ vs. map valued_of vs.items ≡ map (class_at source (T.tree tree.now)) (numbers nodes.now)) }
     ensures values { IfOk result (λ vs. All (IsValued ask.now) vs.items) }

@@ -6,10 +6,12 @@ mod ask;
 mod hits;
 mod indexed;
 mod order;
+mod passing;
 mod pick;
 mod reach;
 
 pub use answer::iceberg;
-pub use ask::{Ask, Bound, passes};
+pub use ask::{Ask, Bound};
 pub use cube_defs::Memory;
 pub use lower_bounds::Class;
+pub use passing::passes;

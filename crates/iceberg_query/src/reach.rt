@@ -1,13 +1,13 @@
 // Whether a class of fewer rows may pass.
 ghost use Rattle.std.specs.Ordering.{int_cmp};
-ghost use Rattle.std.specs.Prelude.{false, pos, ℕ, ◌*ℤ◌, ◌<◌, ◌≡◌, ◌≤◌};
+ghost use Rattle.std.specs.Prelude.{false, pos, ℕ, ◌*ℤ◌, ◌<◌, ◌≡◌};
 ghost use Rattle.cube_defs.specs.Answers as answers;
 ghost use Rattle.cube_defs.specs.Rows as defs;
 ghost use Rattle.aggregates.specs.Views.{IsThere, agg_in};
 ghost use Rattle.iceberg_query.specs.Asked.{ask_in};
 ghost use Rattle.iceberg_query.specs.Reach.{IsOfSome, farther, is_reached, is_sum_asked, outer};
 
-use crate::ask::passes;
+use crate::passing::passes;
 use crate::{Ask, Bound};
 use aggregates::{Agg, AggKind, value_of};
 
@@ -49,8 +49,7 @@ fn reaches(bound: Bound, reached: i128, wanted: i128) -> bool
 // Whether a sum may pass. A sum of amounts is no farther out than one outermost amount, or than as
 // many as there are rows.
 fn may_pass_by_sum(ask: &Ask, agg: &Agg, measure: u8) -> bool
-    requires there { measure < agg.now.measures }
-    requires scale { ask.now.scale ≤ 6 }
+    requires { measure < agg.now.measures }
     ensures { result ≡ false → (measures : ℕ) (some : defs.Agg) → measure < measures → IsOfSome measures (agg_in agg.now) some →
         is_sum_asked ask.now measure some ≡ false }
 {
@@ -69,8 +68,7 @@ fn may_pass_by_sum(ask: &Ask, agg: &Agg, measure: u8) -> bool
 /// Whether the aggregate of some of the rows may pass, where that of all is given. If it can't, no
 /// more special class passes.
 pub(crate) fn may_pass(ask: &Ask, agg: &Agg) -> bool
-    requires there { IsThere agg.now.measures ask.now.kind }
-    requires scale { ask.now.scale ≤ 6 }
+    requires { IsThere agg.now.measures ask.now.kind }
     ensures { result ≡ false → (measures : ℕ) (some : defs.Agg) → IsThere measures ask.now.kind → IsOfSome measures (agg_in agg.now) some →
         answers.is_asked (ask_in ask.now) some ≡ false }
 {
@@ -83,7 +81,9 @@ pub(crate) fn may_pass(ask: &Ask, agg: &Agg) -> bool
         AggKind::Least(measure) | AggKind::Greatest(measure) | AggKind::Mean(measure) => {
             let outermost = Ask {
                 kind: outer_kind(ask.bound, measure),
-                ..*ask
+                scale: ask.scale,
+                bound: ask.bound,
+                value: ask.value,
             };
             passes(&outermost, agg)
         }

@@ -6,6 +6,7 @@ use Rattle.std.specs.BTreeSet.{BTreeSet, contains}
 use Rattle.aggregates.specs.declared.agg.Agg.{Agg}
 use Rattle.aggregates.specs.declared.kind.AggKind.{AggKind}
 use Rattle.cell_core.specs.declared.cell.NodeNo.{NodeNo}
+use Rattle.cube_defs.specs.declared.limits.TheConstants.{MAX_SCALE}
 use Rattle.measure_index.specs.declared.key.Key.{Key}
 use Rattle.measure_index.specs.Changes.{HasChanged, lists}
 use Rattle.measure_index.specs.Entries.{entry_total}
@@ -19,7 +20,7 @@ or_none : (b : Bool) → b ≡ (b || (false && true))
 or_none true = refl
 or_none false = refl
 
-module _ (kind : AggKind) (scale : ℕ) (six : scale ≤ 6) where
+module _ (kind : AggKind) (scale : ℕ) (within : scale ≤ MAX_SCALE) where
   abbrev ranking : List Key → Ranking
   ranking ks = record { kind = kind; scale = scale; entries = entries_at kind scale ks }
 
@@ -33,7 +34,7 @@ module _ (kind : AggKind) (scale : ℕ) (six : scale ≤ 6) where
         alike = record { kind = refl; scale = refl; was_rising = rising kind scale [] tt; rising = rising kind scale new.keys sorted };
         added = entries_at kind scale items;
         removed = [];
-        adds = are_entries kind scale six classes items are;
+        adds = are_entries kind scale within classes items are;
         removes = tt;
         entry = λ q.
             any_turned entry_total (entries_at kind scale new.keys) q

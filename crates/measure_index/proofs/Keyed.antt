@@ -12,6 +12,7 @@ use Rattle.std.proofs.lemmas.List.Sorted.{IsPermutation-map, list_any-IsPermutat
 use Rattle.std.proofs.Math.Nat.{min-eq_left}
 use Rattle.cube_defs.specs.Rows.{Fraction, lowest_terms}
 use Rattle.cube_defs.specs.Answers.{fraction_cmp}
+use Rattle.cube_defs.specs.declared.limits.TheConstants.{MAX_SCALE}
 use Rattle.cube_laws.proofs.Divisors.{lowest_terms-positive, lowest_terms-value, mul-mul}
 use Rattle.cube_laws.proofs.FractionOrder.{value_total}
 use Rattle.cube_laws.proofs.Orders.{is_equal}
@@ -68,7 +69,7 @@ module _ (kind : AggKind) (scale : ℕ) where
 
   over_units : (x y : Key) → by_value (whole x) (whole y) ≡ fraction_cmp (quotient_in x) (quotient_in y)
   over_units x y =
-      let u = unit_of kind (min scale 6) in
+      let u = unit_of kind (min scale MAX_SCALE) in
       sym (order-over (x.num *ℤ pos y.den) (y.num *ℤ pos x.den) u (some kind scale).0
       ∙ ap₂ int_cmp (mul-mul x.num y.den u) (mul-mul y.num x.den u))
 
@@ -129,9 +130,9 @@ module _ (kind : AggKind) (scale : ℕ) where
 
   -- ---- entries of classes, for a scale as there is one
 
-  module _ (six : scale ≤ 6) where
-    as_it_is : min scale 6 ≡ scale
-    as_it_is = min-eq_left six
+  module _ (within : scale ≤ MAX_SCALE) where
+    as_it_is : min scale MAX_SCALE ≡ scale
+    as_it_is = min-eq_left within
 
     pub is_that : (k : Key) (e : Entry) → e.node ≡ k.node → ratio_in e.value ≡ lowest_terms k.num (k.den * unit_of kind scale) → e ≡ entry_of kind scale k
     unfolding entry_of

@@ -6,6 +6,7 @@ use Rattle.std.specs.Ordering.{nat_cmp, ordering_then}
 use Rattle.std.specs.Cmp.{IsTotalOrder, nat_cmp_total, on_total, then_total}
 use Rattle.cube_defs.specs.Rows.{Fraction, lowest_terms}
 use Rattle.cube_defs.specs.Answers.{fraction_cmp}
+use Rattle.cube_defs.specs.declared.limits.TheConstants.{MAX_SCALE}
 use Rattle.cube_laws.proofs.FractionOrder.{value_total}
 use Rattle.aggregates.specs.Quotients.{IsQuotient, unit_of}
 use Rattle.aggregates.specs.declared.agg.Agg.{Agg}
@@ -31,9 +32,9 @@ key_total = then_total (value_total quotient_in (λ k. k.in_range.positive)) (on
 abbrev pub IsKey : AggKind → NodeNo × Agg → Key → Type 0
 IsKey kind class k = (k.node ≡ class.0.0) × IsQuotient kind class.1 k.num k.den
 
--- over how much the key's number is divided, for a kind in the unit of its measure's scale, which is at most 6
+-- over how much the key's number is divided, for a kind in the unit of its measure's scale, which is at most MAX_SCALE
 abbrev pub divisor : AggKind → ℕ → Key → ℕ
-divisor kind scale k = k.den * unit_of kind (min scale 6)
+divisor kind scale k = k.den * unit_of kind (min scale MAX_SCALE)
 
 -- the entry that is read off the key, for a kind in the unit of its measure's scale
 unfoldable pub entry_of : AggKind → ℕ → Key → Entry
@@ -51,6 +52,6 @@ entries_at kind scale keys = map (entry_of kind scale) keys
 
 -- what holds of the keys that are kept for a kind in the unit of its measure's scale
 pub record AreKept (scale : ℕ) (keys : List Key) : Type 0 where
-  pub scale_small : scale ≤ 6
+  pub scale_small : scale ≤ MAX_SCALE
   pub few : length keys < 2 ^ 32
   pub rising : IsStrictlySortedBy key_cmp keys

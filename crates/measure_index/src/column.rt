@@ -13,7 +13,7 @@ use crate::keys::{insert_all, lacked_by, set_of, take_out};
 use crate::walk::{Direction, Walk};
 use aggregates::{Agg, AggKind, Fraction};
 use cell_core::NodeNo;
-use cube_defs::Memory;
+use cube_defs::{MAX_SCALE, Memory};
 use std::alloc::{AllocError, Global};
 use std::collections::BTreeSet;
 use std::marker::Model;
@@ -47,7 +47,7 @@ pub(crate) struct Plan {
 impl Column {
     /// No entries.
     pub(crate) fn new(alloc: Global, kind: AggKind, scale: u8) -> Column
-        requires { scale ≤ 6 }
+        requires { scale ≤ MAX_SCALE }
         ensures { result ≡ no_entries kind scale }
     {
         Column {
@@ -65,7 +65,7 @@ impl Column {
         scale: u8,
         keys: Vec<Key>,
     ) -> Result<Column, Memory>
-        requires { scale ≤ 6 }
+        requires { scale ≤ MAX_SCALE }
         ensures { IfOk result (λ column. IsRankingOf (record { kind = kind; scale = scale; keys = keys.items }) column) }
     {
         let set = match set_of(alloc, keys) {

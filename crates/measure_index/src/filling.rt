@@ -15,7 +15,7 @@ use crate::index::{Index, scale_in};
 use crate::key::Key;
 use aggregates::{Agg, AggKind};
 use cell_core::NodeNo;
-use cube_defs::Memory;
+use cube_defs::{MAX_SCALE, Memory};
 use std::alloc::Global;
 use std::marker::Model;
 
@@ -29,18 +29,19 @@ pub(crate) struct ComingKeys {
 
 impl Model for ComingKeys {
     ghost use Rattle.std.specs.Prelude.{◌≤◌};
+    ghost use Rattle.cube_defs.specs.declared.limits.TheConstants.{MAX_SCALE};
     ghost use Rattle.measure_index.specs.Filling.{Coming};
 
     ghost Value = { Coming };
 
     ghost view = { λ c. record { kind = c.kind; scale = c.scale; keys = c.keys.items } };
 
-    ghost invariant = { λ c. c.scale ≤ 6 };
+    ghost invariant = { λ c. c.scale ≤ MAX_SCALE };
 }
 
 impl ComingKeys {
     fn new(alloc: Global, kind: AggKind, scale: u8, room: usize) -> Result<ComingKeys, Memory>
-        requires { scale ≤ 6 }
+        requires { scale ≤ MAX_SCALE }
         ensures { IfOk result (λ coming. coming ≡ record { kind = kind; scale = scale; keys = [] }) }
     {
         match Vec::with_capacity(alloc, room) {
@@ -106,7 +107,7 @@ impl Filling {
         room: usize,
     ) -> Result<Filling, Memory>
         requires there { All (IsThere (length scales.now)) kinds.now }
-        requires scales { All (λ scale. scale ≤ 6) scales.now }
+        requires scales { All (λ scale. scale ≤ MAX_SCALE) scales.now }
         ensures units { IfOk result (λ filling. coming_units filling ≡ map (λ kind. (kind, scale_of scales.now kind)) kinds.now) }
         ensures classes { IfOk result (AreKeysOf []) }
     {

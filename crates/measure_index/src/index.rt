@@ -15,7 +15,7 @@ use crate::column::Column;
 use crate::walk::{Direction, Walk};
 use aggregates::{Agg, AggKind, Fraction, same_kind};
 use cell_core::NodeNo;
-use cube_defs::Memory;
+use cube_defs::{MAX_SCALE, Memory};
 use std::alloc::Global;
 use std::marker::Model;
 
@@ -38,9 +38,9 @@ impl Model for Index {
 // The scale of the kind's measure. The scale of COUNT is 0.
 pub(crate) fn scale_in(scales: &[u8], kind: AggKind) -> u8
     requires there { IsThere (length scales.now) kind }
-    requires scales { All (λ scale. scale ≤ 6) scales.now }
+    requires scales { All (λ scale. scale ≤ MAX_SCALE) scales.now }
     ensures value { result ≡ scale_of scales.now kind }
-    ensures small { result ≤ 6 }
+    ensures small { result ≤ MAX_SCALE }
 {
     match kind {
         AggKind::Count => 0,
@@ -92,7 +92,7 @@ impl Index {
     /// An index without entries. `scales` has the scales of the measures.
     pub fn new(alloc: Global, kinds: &[AggKind], scales: &[u8]) -> Result<Index, Memory>
         requires there { All (IsThere (length scales.now)) kinds.now }
-        requires scales { All (λ scale. scale ≤ 6) scales.now }
+        requires scales { All (λ scale. scale ≤ MAX_SCALE) scales.now }
         ensures value { IfOk result (λ index. index ≡ map (empty_ranking scales.now) kinds.now) }
         ensures classes { IfOk result (λ index. IsIndex (λ _. None) index) }
     {

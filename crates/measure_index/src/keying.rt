@@ -9,7 +9,7 @@ use crate::entry::Entry;
 use crate::key::Key;
 use aggregates::{Agg, AggKind, Quotient};
 use cell_core::NodeNo;
-use cube_defs::Memory;
+use cube_defs::{MAX_SCALE, Memory};
 use std::alloc::{AllocError, Global};
 
 impl Key {
@@ -37,7 +37,7 @@ impl Key {
 
     /// The entry of a key. `scale` is that of the kind's measure.
     pub(crate) fn entry(self, kind: AggKind, scale: u8) -> Entry
-        requires { scale ≤ 6 }
+        requires { scale ≤ MAX_SCALE }
         ensures { result ≡ entry_of kind scale self }
     {
         Entry {

@@ -8,6 +8,7 @@ use crate::entry::Entry;
 use crate::key::Key;
 use aggregates::{AggKind, Fraction, Ratio, compare};
 use cell_core::NodeNo;
+use cube_defs::MAX_SCALE;
 use std::collections::btree_set::Iter;
 use std::marker::Model;
 
@@ -37,6 +38,7 @@ impl<'a> Model for Walk<'a> {
     ghost use Rattle.std.specs.Prelude.{◌+◌, ◌-◌, ◌<◌, ◌≤◌, ◌^◌, cond, length};
     ghost use Rattle.measure_index.specs.Kept.{entries_at};
     ghost use Rattle.measure_index.specs.Walks.{Walking, left_of};
+    ghost use Rattle.cube_defs.specs.declared.limits.TheConstants.{MAX_SCALE};
 
     ghost Value = { Walking };
 
@@ -47,7 +49,7 @@ impl<'a> Model for Walk<'a> {
       taken = w.taken;
     } };
 
-    ghost invariant = { λ w. (w.taken + length w.keys < 2 ^ 63) × (cond w.stopped 1 0 ≤ w.taken) × (w.scale ≤ 6) };
+    ghost invariant = { λ w. (w.taken + length w.keys < 2 ^ 63) × (cond w.stopped 1 0 ≤ w.taken) × (w.scale ≤ MAX_SCALE) };
 }
 
 fn passes(entry: &Entry, direction: Direction, bound: &Fraction) -> bool
@@ -79,7 +81,7 @@ fn next_entry(
     kind: AggKind,
     scale: u8,
 ) -> Option<Entry>
-    requires { scale ≤ 6 }
+    requires { scale ≤ MAX_SCALE }
     ensures entry { MatchOption result ((directed direction (entries_at kind scale keys.old) ≡ [])
         × (directed direction (entries_at kind scale keys.new) ≡ []))
         (λ e. directed direction (entries_at kind scale keys.old) ≡ e ∷ directed direction (entries_at kind scale keys.new)) }
@@ -100,7 +102,7 @@ impl<'a> Walk<'a> {
     ) -> Walk<'a>
         requires rising { IsStrictlySortedBy key_cmp keys }
         requires few { length keys < 2 ^ 63 }
-        requires scale { scale ≤ 6 }
+        requires scale { scale ≤ MAX_SCALE }
         ensures left { result.left ≡ qualifying direction bound.now (entries_at kind scale keys.entry) }
         ensures given { result.given ≡ 0 }
         ensures taken { result.taken ≡ 0 }

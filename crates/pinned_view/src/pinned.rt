@@ -18,7 +18,7 @@ use crate::pins::{MAX_PINS, Pin, drop_named, move_back, oldest, pin_of};
 use crate::refused::{NotPinned, PinRefused, PinnedWiden};
 use crate::view::PinnedView;
 use cell_core::Steps;
-use cube_defs::{MAX_FILE, Memory};
+use cube_defs::{MAX_FILE, MAX_TEXT, Memory};
 use qc_arena::Images;
 use std::alloc::{AllocError, Global};
 use std::marker::Model;
@@ -243,7 +243,7 @@ impl Pinned {
         steps: &mut Steps<L>,
     ) -> Result<Applied, PinnedWiden>
         requires name { is_new_name self.old.now.state.schema name.now ≡ true }
-        requires value { length value.now ≤ 255 }
+        requires value { length value.now ≤ MAX_TEXT }
         ensures pinned { (result ≡ Err PinnedWiden.Pinned) ↔ (0 < length self.old.pins) }
         ensures gives { length self.old.pins ≡ 0 →
             Gives widen_refusal_in (applied_in self.new.now.state) result (widen_result self.old.now.state name.now value.now) }

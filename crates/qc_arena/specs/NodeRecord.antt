@@ -9,7 +9,7 @@ use Rattle.aggregates.specs.Views.{agg_in}
 use Rattle.tree_laws.specs.Walk.{last_label}
 use Rattle.qc_arena.specs.declared.edges.StoredEdge.{StoredEdge}
 use Rattle.qc_arena.specs.Edges.{edges_to, is_small, rises}
-use Rattle.cube_defs.specs.declared.limits.TheConstants.{MAX_DIMS}
+use Rattle.cube_defs.specs.declared.limits.TheConstants.{MAX_DIMS, MAX_MEASURES}
 use Rattle.cell_core.specs.Entry.{IsCode}
 
 -- a cell with the values of some labels
@@ -49,7 +49,7 @@ class_on (e ∷ rest) = Some (agg_in e.1)
 -- its rows and measures, and no rows where there is none
 abbrev pub IsHeading : List (ℕ × Agg) → ℕ → ℕ → Type 0
 IsHeading [] count measures = count ≡ 0
-IsHeading (e ∷ rest) count measures = (count ≡ e.1.count) × (measures ≡ e.1.measures) × (length e.1.parts ≡ 4)
+IsHeading (e ∷ rest) count measures = (count ≡ e.1.count) × (measures ≡ e.1.measures) × (length e.1.parts ≡ MAX_MEASURES)
 
 -- the last label is that of the trail, the heading that of the class, labels rise, and codes are small
 pub record IsRec (trail : List (ℕ × ℕ)) (noted : List (ℕ × Agg)) (dim code forced_code count measures : ℕ) (edges : List StoredEdge) : Type 0 where

@@ -16,7 +16,7 @@ use crate::nodes::Forced;
 use crate::records::NodeRecord;
 use aggregates::Agg;
 use cell_core::Code;
-use cube_defs::MAX_DIMS;
+use cube_defs::{MAX_DIMS, MAX_MEASURES};
 use std::marker::Model;
 
 /// The place of a number: the record of its node, or nothing after the node was killed. The record
@@ -126,7 +126,7 @@ impl Place {
 
     pub(crate) fn set_class(&mut self, class: Option<Agg>)
         requires there { IsSome self.old }
-        requires four { IfSome class (λ a. length a.parts ≡ 4) }
+        requires four { IfSome class (λ a. length a.parts ≡ MAX_MEASURES) }
         ensures { self.new ≡ option_map (with_class (option_map agg_in class)) self.old }
     {
         self.rec.set_class(class);

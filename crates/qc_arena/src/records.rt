@@ -17,7 +17,7 @@ use crate::nodes::Forced;
 use crate::trail::Trail;
 use aggregates::Agg;
 use cell_core::{Code, NodeNo};
-use cube_defs::MAX_DIMS;
+use cube_defs::{MAX_DIMS, MAX_MEASURES};
 use smallvec::SmallVec;
 use std::alloc::Global;
 use std::marker::Model;
@@ -185,7 +185,7 @@ impl NodeRecord {
 
     // Sets COUNT and the number of measures. The other parts of the aggregate are stored elsewhere.
     pub(crate) fn set_class(&mut self, class: Option<Agg>)
-        requires { IfSome class (λ a. length a.parts ≡ 4) }
+        requires { IfSome class (λ a. length a.parts ≡ MAX_MEASURES) }
         ensures { self.new ≡ record self.old { node = with_class (option_map agg_in class) self.old.node } }
     {
         let none = Trail::<u32, Agg>::new();

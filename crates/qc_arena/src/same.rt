@@ -14,14 +14,18 @@ fn same_part(a: Part, b: Part) -> bool
     a.sum == b.sum && a.least == b.least && a.greatest == b.greatest
 }
 
-fn same_parts(a: &[Part; 4], b: &[Part; 4], measures: u8) -> bool
+fn same_parts(
+    a: &[Part; MAX_MEASURES as usize],
+    b: &[Part; MAX_MEASURES as usize],
+    measures: u8,
+) -> bool
     requires { measures ≤ MAX_MEASURES }
     ensures same { result ≡ true → (k : ℕ) → k < measures →
         part_in (slice_index_or a.now k zero_part) ≡ part_in (slice_index_or b.now k zero_part) }
     ensures other { result ≡ false → (k : ℕ) × (k < measures)
         × (part_in (slice_index_or a.now k zero_part) ≢ part_in (slice_index_or b.now k zero_part)) }
-    ensures four_a { length a.now ≡ 4 }
-    ensures four_b { length b.now ≡ 4 }
+    ensures four_a { length a.now ≡ MAX_MEASURES }
+    ensures four_b { length b.now ≡ MAX_MEASURES }
 {
     'parts: for k in 0..usize::from(measures) {
         if !same_part(a[k], b[k]) {

@@ -24,7 +24,7 @@ use crate::records::NodeRecord;
 use crate::touched::Touched;
 use aggregates::Agg;
 use cell_core::Code;
-use cube_defs::MAX_DIMS;
+use cube_defs::{MAX_DIMS, MAX_MEASURES};
 use slab::Slab;
 use std::alloc::AllocError;
 
@@ -363,7 +363,7 @@ pub(crate) fn set_forced_at(nodes: &mut Slab<Place>, node: u32, forced: Option<F
 // Sets the class of a node.
 pub(crate) fn set_class_at(nodes: &mut Slab<Place>, node: u32, class: Option<Agg>)
     requires node { IsSome (join (slots.get nodes.old node)) }
-    requires four { IfSome class (λ a. length a.parts ≡ 4) }
+    requires four { IfSome class (λ a. length a.parts ≡ MAX_MEASURES) }
     ensures others { (q : ℕ) → q ≢ node → slots.get nodes.new q ≡ slots.get nodes.old q }
     ensures here { join (slots.get nodes.new node) ≡ option_map (with_class (option_map agg_in class)) (join (slots.get nodes.old node)) }
 {

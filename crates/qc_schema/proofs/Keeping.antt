@@ -11,6 +11,7 @@ use Rattle.aggregates.specs.Views.{IsThere, same_kind}
 use Rattle.aggregates.specs.declared.kind.AggKind.{AggKind}
 use Rattle.aggregates.specs.declared.kind.AggKind.TheVariants as kinds
 use Rattle.cube_defs.specs.Text.{Text}
+use Rattle.cube_defs.specs.declared.limits.TheConstants.{MAX_SCALE}
 use Rattle.qc_schema.specs.Schema.{IsLayout, Layout, Measure, all_different, is_name, max_dims, max_measures, names_of, with_dim}
 use Rattle.qc_schema.specs.declared.limits.SchemaVersion.{SchemaVersion}
 use Rattle.qc_schema.specs.declared.limits.SchemaVersion.TheVariants as versions
@@ -119,11 +120,11 @@ name-new l word name e =
     let P : Text → Type 0 = λ x. (is_name x ≡ true) × (is_used l x ≡ false) in
     subst P p.1 (q.0, not-true (is_used l word) q.1)
 
-scale-small : (word : Text) (n : ℕ) → scale_in word ≡ Ok n → n ≤ 6
+scale-small : (word : Text) (n : ℕ) → scale_in word ≡ Ok n → n ≤ MAX_SCALE
 scale-small word n e =
-    let p = cond_ok ((length word == 1) && all_ascii_digits word && nat_le (digits_value 10 word) 6) (digits_value 10 word) n Number e in
-    let q = and_parts ((length word == 1) && all_ascii_digits word) (nat_le (digits_value 10 word) 6) p.0 in
-    omega (arith, p.1, leb-true (digits_value 10 word) 6 q.1)
+    let p = cond_ok ((length word == 1) && all_ascii_digits word && nat_le (digits_value 10 word) MAX_SCALE) (digits_value 10 word) n Number e in
+    let q = and_parts ((length word == 1) && all_ascii_digits word) (nat_le (digits_value 10 word) MAX_SCALE) p.0 in
+    omega (arith, p.1, leb-true (digits_value 10 word) MAX_SCALE q.1)
 
 limit-small : (most : ℕ) (word : Text) (n : ℕ) → limit_in most word ≡ Ok n → (1 ≤ n) × (n ≤ most)
 limit-small most word n e =
@@ -188,12 +189,12 @@ next-dim l name h few n u = wider l name h few (rw (n, u) refl)
 more-names : (l : Layout) (m : Measure) → names_of (record l { measures = l.measures ++ m ∷ [] }) ≡ names_of l ++ m.name ∷ []
 more-names l m = ap (λ xs. l.id ∷ (l.dims ++ xs)) (map-append (λ x. x.name) l.measures (m ∷ [])) ∙ ap (λ xs. l.id ∷ xs) (sym (append_assoc l.dims (map (λ x. x.name) l.measures) (m.name ∷ [])))
 
-next-measure : (l : Layout) (m : Measure) → IsLayout l → l.indexes ≡ [] → length l.measures < max_measures l.version → m.scale ≤ 6 → is_name m.name ≡ true → is_used l m.name ≡ false → IsLayout (record l { measures = l.measures ++ m ∷ [] })
+next-measure : (l : Layout) (m : Measure) → IsLayout l → l.indexes ≡ [] → length l.measures < max_measures l.version → m.scale ≤ MAX_SCALE → is_name m.name ≡ true → is_used l m.name ≡ false → IsLayout (record l { measures = l.measures ++ m ∷ [] })
 next-measure l m h none few small n u = record {
   some_dims = h.some_dims;
   few_dims = h.few_dims;
   few_measures = omega (arith, length_push l.measures m);
-  scales = push-every (λ m. m.scale ≤ 6) l.measures m h.scales small;
+  scales = push-every (λ m. m.scale ≤ MAX_SCALE) l.measures m h.scales small;
   names = ap (list_all is_name) (more-names l m) ∙ push-all is_name (names_of l) m.name h.names n;
   different_names = ap (all_different bytes_eq) (more-names l m) ∙ push-different bytes_eq bytes-flip (names_of l) m.name h.different_names u;
   indexes = rw none tt;
@@ -297,7 +298,7 @@ keeps-dim stages.Nodes l name may h few n u = absurd (cc may)
 keeps-dim stages.Rows l name may h few n u = absurd (cc may)
 keeps-dim stages.Values l name may h few n u = absurd (cc may)
 
-keeps-measure : (stage : Stage) (l : Layout) (m : Measure) → may_measure stage ≡ true → AtStage stage l → length l.measures < max_measures l.version → m.scale ≤ 6 → is_name m.name ≡ true → is_used l m.name ≡ false → AtStage stages.Measure (record l { measures = l.measures ++ m ∷ [] })
+keeps-measure : (stage : Stage) (l : Layout) (m : Measure) → may_measure stage ≡ true → AtStage stage l → length l.measures < max_measures l.version → m.scale ≤ MAX_SCALE → is_name m.name ≡ true → is_used l m.name ≡ false → AtStage stages.Measure (record l { measures = l.measures ++ m ∷ [] })
 keeps-measure stages.Start l m may h few small n u = absurd (cc may)
 keeps-measure stages.Qcube l m may h few small n u = absurd (cc may)
 keeps-measure stages.Id l m may h few small n u = absurd (cc may)

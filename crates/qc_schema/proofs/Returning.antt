@@ -14,7 +14,7 @@ use Rattle.aggregates.specs.Views.{IsThere, same_kind}
 use Rattle.aggregates.specs.declared.kind.AggKind.{AggKind}
 use Rattle.aggregates.specs.declared.kind.AggKind.TheVariants as kinds
 use Rattle.cube_defs.specs.Text.{Text}
-use Rattle.cube_defs.specs.declared.limits.TheConstants.{MAX_CODES, MAX_NODES, MAX_ROWS}
+use Rattle.cube_defs.specs.declared.limits.TheConstants.{MAX_CODES, MAX_NODES, MAX_ROWS, MAX_SCALE}
 use Rattle.qc_schema.specs.Grammar.{◌>>=◌, and_on, dim_line, id_line, index_line, is_start, kind_of, limit_in, line_of_words, may_dim, may_end, may_index, may_measure, measure_from, measure_line, named_line, nodes_line, read_lines, rows_line, scale_in, schema_in, start, take_line, values_line, version_line}
 use Rattle.text_lines.specs.Lines.{lines_of, without_cr}
 use Rattle.qc_schema.specs.Schema.{IsLayout, Layout, Measure, all_different, is_name, is_name_byte, max_dims, max_measures, version_word}
@@ -99,10 +99,10 @@ bytes-same a = (bytes_eq-Decides a a).1 refl
 own : IsNumeralModel (λ ds. all_ascii_digits ds ≡ true) (digits_value 10)
 own = numerals_by_value (λ ds. all_ascii_digits ds ≡ true) tells_all_ascii_digits
 
-scale-again : (n : ℕ) → n ≤ 6 → scale_in (decimal n) ≡ Ok n
+scale-again : (n : ℕ) → n ≤ MAX_SCALE → scale_in (decimal n) ≡ Ok n
 scale-again n h =
     let one : length (decimal n) ≡ 1 = ap length (decimal_digit n (omega arith)) in
-    rw (one, digits_decimal own n (omega arith), digits_value-decimal own n (omega arith), le-leb n 6 h) refl
+    rw (one, digits_decimal own n (omega arith), digits_value-decimal own n (omega arith), le-leb n MAX_SCALE h) refl
 
 limit-again : (most n : ℕ) → 1 ≤ n → n ≤ most → most < 10000000 → limit_in most (decimal n) ≡ Ok n
 limit-again most n some few small =
@@ -150,7 +150,7 @@ dims-run (x ∷ xs) version stage id done begun may few n d =
     ∙ ap₂ (λ (s : Stage) (ys : List Text). Ok (at version s id ys [] [])) (behind-same stages.Dim xs) joined_up
 
 -- the lines of measures
-measure-step : (version : SchemaVersion) (stage : Stage) (id : Text) (dims : List Text) (done : List Measure) (m : Measure) → is_start stage ≡ false → may_measure stage ≡ true → length done < max_measures version → m.scale ≤ 6 → is_name m.name ≡ true
+measure-step : (version : SchemaVersion) (stage : Stage) (id : Text) (dims : List Text) (done : List Measure) (m : Measure) → is_start stage ≡ false → may_measure stage ≡ true → length done < max_measures version → m.scale ≤ MAX_SCALE → is_name m.name ≡ true
     → list_any (λ y. bytes_eq y m.name) (id ∷ (dims ++ map (λ m. m.name) done)) ≡ false → line_of_words (at version stage id dims done []) (measure_words m) ≡ Ok (at version stages.Measure id dims (done ++ m ∷ []) [])
 unfolding named_line measure_line
 measure-step version stage id dims done m begun may few small n u = rw (begun, may, lt-ltb (length done) (max_measures version) few, n, u, scale-again m.scale small) refl
@@ -160,7 +160,7 @@ names-behind : (dims : List Text) (done : List Measure) (m : Measure) (ms : List
 names-behind dims done m ms = ap (λ (xs : List Text). dims ++ xs) (map-append (λ m. m.name) done (m ∷ ms)) ∙ sym (append_assoc dims (map (λ m. m.name) done) (m.name ∷ map (λ m. m.name) ms))
 
 measures-run : (ms : List Measure) (version : SchemaVersion) (stage : Stage) (id : Text) (dims : List Text) (done : List Measure) → is_start stage ≡ false → may_measure stage ≡ true → length done + length ms ≤ max_measures version
-    → AllByRecursion (λ m. m.scale ≤ 6) ms → list_all is_name (map (λ m. m.name) ms) ≡ true → all_different bytes_eq (id ∷ (dims ++ map (λ m. m.name) (done ++ ms))) ≡ true
+    → AllByRecursion (λ m. m.scale ≤ MAX_SCALE) ms → list_all is_name (map (λ m. m.name) ms) ≡ true → all_different bytes_eq (id ∷ (dims ++ map (λ m. m.name) (done ++ ms))) ≡ true
     → after (map measure_words ms) (at version stage id dims done []) ≡ Ok (at version (stage_behind stage stages.Measure ms) id dims (done ++ ms) [])
 measures-run [] version stage id dims done begun may few small n d = ap (λ (xs : List Measure). Ok (at version stage id dims xs [])) (sym (append-nil done))
 measures-run (m ∷ ms) version stage id dims done begun may few small n d =
@@ -279,11 +279,11 @@ dim-lines (x ∷ xs) h =
     let p = and_parts (is_name x) (list_all is_name xs) h in
     (pair-line (codes "dim") x (keyword (codes "dim") (omega arith) refl) (name-word x p.0), dim-lines xs p.1)
 
-measure-lines : (ms : List Measure) → AllByRecursion (λ m. m.scale ≤ 6) ms → list_all is_name (map (λ m. m.name) ms) ≡ true → AllByRecursion IsLine (map measure_words ms)
+measure-lines : (ms : List Measure) → AllByRecursion (λ m. m.scale ≤ MAX_SCALE) ms → list_all is_name (map (λ m. m.name) ms) ≡ true → AllByRecursion IsLine (map measure_words ms)
 measure-lines [] small h = tt
 measure-lines (m ∷ ms) small h =
     let p = and_parts (is_name m.name) (list_all is_name (map (λ m. m.name) ms)) h in
-    let few : m.scale ≤ 6 = small.0 in
+    let few : m.scale ≤ MAX_SCALE = small.0 in
     (triple-line (codes "measure") m.name (decimal m.scale) (keyword (codes "measure") (omega arith) refl) (name-word m.name p.0) (number-word m.scale (omega arith)), measure-lines ms small.1 p.1)
 
 name-there : (ms : List Measure) (m : ℕ) → m < length ms → list_all is_name (map (λ m. m.name) ms) ≡ true → IsWord (name_at ms m)

@@ -19,7 +19,7 @@ use Rattle.qc_schema.specs.declared.refusal.SchemaCause.TheVariants.{Version, Or
 use Rattle.qc_schema.specs.declared.limits.SchemaVersion.{SchemaVersion}
 use Rattle.qc_schema.specs.declared.limits.SchemaVersion.TheVariants as versions
 use Rattle.qc_schema.specs.declared.limits.TheConstants.{DEFAULT_NODES}
-use Rattle.cube_defs.specs.declared.limits.TheConstants.{MAX_CODES, MAX_NODES, MAX_ROWS}
+use Rattle.cube_defs.specs.declared.limits.TheConstants.{MAX_CODES, MAX_NODES, MAX_ROWS, MAX_SCALE}
 
 infixl 10 ◌>>=◌
 abbrev pub ◌>>=◌ : {A B : Type 0} → Result A SchemaCause → (A → Result B SchemaCause) → Result B SchemaCause
@@ -82,9 +82,9 @@ is_new_name l word = is_name word && not (is_used l word)
 abbrev pub new_name : Layout → Text → Result Text SchemaCause
 new_name l word = if is_name word && not (is_used l word) then Ok word else Err Name
 
--- one digit from 0 to 6
+-- one digit, up to MAX_SCALE
 abbrev pub scale_in : Text → Result ℕ SchemaCause
-scale_in word = if (length word == 1) && all_ascii_digits word && nat_le (digits_value 10 word) 6 then Ok (digits_value 10 word) else Err Number
+scale_in word = if (length word == 1) && all_ascii_digits word && nat_le (digits_value 10 word) MAX_SCALE then Ok (digits_value 10 word) else Err Number
 
 -- 1 to 7 digits, of a value from 1 to the most
 abbrev pub limit_in : ℕ → Text → Result ℕ SchemaCause

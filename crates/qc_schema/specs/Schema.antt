@@ -10,7 +10,7 @@ use Rattle.aggregates.specs.declared.kind.AggKind.{AggKind}
 use Rattle.qc_schema.specs.declared.limits.SchemaVersion.{SchemaVersion}
 use Rattle.qc_schema.specs.declared.limits.SchemaVersion.TheVariants as versions
 use Rattle.qc_schema.specs.declared.limits.TheConstants.{VERSION_1_DIMS, VERSION_1_MEASURES}
-use Rattle.cube_defs.specs.declared.limits.TheConstants.{MAX_CODES, MAX_DIMS, MAX_MEASURES, MAX_NODES, MAX_ROWS}
+use Rattle.cube_defs.specs.declared.limits.TheConstants.{MAX_CODES, MAX_DIMS, MAX_MEASURES, MAX_NODES, MAX_ROWS, MAX_SCALE}
 
 -- what a version is called, and what a schema of it may have
 abbrev pub version_number : SchemaVersion → ℕ
@@ -81,7 +81,7 @@ pub record IsLayout (l : Layout) : Type 0 where
   pub some_dims : 1 ≤ length l.dims
   pub few_dims : length l.dims ≤ max_dims l.version
   pub few_measures : length l.measures ≤ max_measures l.version
-  pub scales : AllByRecursion (λ m. m.scale ≤ 6) l.measures
+  pub scales : AllByRecursion (λ m. m.scale ≤ MAX_SCALE) l.measures
   pub names : list_all is_name (names_of l) ≡ true
   pub different_names : all_different bytes_eq (names_of l) ≡ true
   pub indexes : AllByRecursion (IsThere (length l.measures)) l.indexes

@@ -9,6 +9,7 @@ ghost use Rattle.cell_core.specs.Gives.{Gives};
 ghost use Rattle.qc_schema.specs.Progress.{cause_in};
 
 use crate::refusal::{SchemaCause, SchemaLineRefused};
+use cube_defs::MAX_SCALE;
 
 fn has_name_bytes(word: &[u8]) -> bool
     ensures { result ≡ list_all is_name_byte word.now }
@@ -57,7 +58,7 @@ pub fn read_scale(word: &[u8]) -> Result<u8, SchemaLineRefused>
 {
     if word.len() == 1
         && let Some(value) = short_number(word)
-        && value <= 6
+        && value <= u32::from(MAX_SCALE)
     {
         return Ok(value as u8);
     }

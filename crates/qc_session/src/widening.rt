@@ -8,6 +8,7 @@ ghost use Rattle.qc_session.specs.Answers.{widen_with};
 ghost use Rattle.qc_session.specs.Pins.{held_in};
 
 use cell_core::{Memory, Steps, Text};
+use cube_defs::MAX_TEXT;
 use pinned_view::{Pinned, PinnedWiden};
 use reply_text::{Reply, refused, widened, words_of_pinned, words_of_widening};
 use std::alloc::AllocError;
@@ -34,7 +35,7 @@ pub fn answer_widen<L: Ledger>(
     steps: &mut Steps<L>,
 ) -> Result<Reply, Memory>
     requires name { is_new_name pinned.old.now.state.schema name.now ≡ true }
-    requires value { length value.now ≤ 255 }
+    requires value { length value.now ≤ MAX_TEXT }
     ensures ok { IfOk result (λ reply. widen_with (held_in pinned.old) (held_in pinned.old).pins number name.now value.now
         ≡ record { state = held_in pinned.new; reply = reply_bytes reply }) }
     ensures same { OnErr result (pinned.new ≡ pinned.old) }

@@ -19,6 +19,7 @@ ghost use Rattle.warehouse.specs.State.{HasTree, scale_in, with_rows};
 
 use aggregates::{AggKind, Fraction};
 use cell_core::{Memory, Steps};
+use cube_defs::MAX_SCALE;
 use iceberg_query::{Ask, Bound, Class, iceberg};
 use measure_index::Index;
 use qc_arena::Nodes;
@@ -33,7 +34,7 @@ pub(crate) fn scale_of_kind(schema: &Schema, kind: AggKind) -> u8
     requires layout { IsLayout schema.now }
     requires measured { IsMeasured (length schema.now.measures) (kind_in kind) }
     ensures value { result ≡ scale_of schema.now.measures (kind_in kind) }
-    ensures few { result ≤ 6 }
+    ensures few { result ≤ MAX_SCALE }
 {
     match kind {
         AggKind::Count => 0,

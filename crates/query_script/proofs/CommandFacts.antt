@@ -7,6 +7,7 @@ use Rattle.std.proofs.lemmas.Bool.{and_from}
 use Rattle.std.proofs.lemmas.Bool.Decides.{nat_tests}
 use Rattle.cube_defs.specs.Text.{Text}
 use Rattle.cell_core.specs.declared.fields.Field as asked
+use Rattle.cube_defs.specs.declared.limits.TheConstants.{MAX_TEXT}
 use Rattle.qc_schema.specs.Schema.{Layout}
 use Rattle.query_script.specs.Faults as faults
 use Rattle.cell_core.specs.Gives.{Gives}
@@ -145,9 +146,9 @@ module _ (layout : Layout) where
       by true m = rolled-bound answers.Count 2 (rest_of (rest_of rest)) (bound_named (word_of (rest_of rest))) q tt m
       by false m = rolled-aggregate (word_of rest) (rest_of rest) (makes (word_of rest)) q refl m
 
-most-255 : (b : Bool) (n : ℕ) → (b && nat_le n 255) ≡ true → n ≤ 255
-most-255 false n h = absurd (cc h)
-most-255 true n h = grind (arith, nat_tests)
+most-text : (b : Bool) (n : ℕ) → (b && nat_le n MAX_TEXT) ≡ true → n ≤ MAX_TEXT
+most-text false n h = absurd (cc h)
+most-text true n h = grind (arith, nat_tests)
 
 -- a new name, and a short value
 widened-is : (layout : Layout) (rest : List ℕ) (q : Question) → widen_in layout rest ≡ Ok q → IsQuestion layout q
@@ -157,7 +158,7 @@ widened-is layout rest q e = by (is_new_name layout (word_of rest)) (has_value r
         → cond new (cond valued (Ok (Widen (word_of rest) (rest_of rest))) (Err (faults.Field 2))) (Err (faults.Field 1)) ≡ Ok q → IsQuestion layout q
     by true true n v m =
         let same : Widen (word_of rest) (rest_of rest) ≡ q = cc in
-        rw (← same) (n, most-255 (nat_lt (length (word_of rest)) (length rest)) (length (rest_of rest)) v)
+        rw (← same) (n, most-text (nat_lt (length (word_of rest)) (length rest)) (length (rest_of rest)) v)
     by true false n v m = absurd (cc m)
     by false valued n v m = absurd (cc m)
 

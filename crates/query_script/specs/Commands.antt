@@ -5,6 +5,7 @@ use Rattle.cube_defs.specs.Text.{Text}
 use Rattle.cube_defs.specs.Answers as answers
 use Rattle.cell_core.specs.declared.fields.Field as asked
 use Rattle.cell_core.specs.declared.fields.Field.TheVariants as asks
+use Rattle.cube_defs.specs.declared.limits.TheConstants.{MAX_TEXT}
 use Rattle.qc_schema.specs.Grammar.{is_new_name}
 use Rattle.qc_schema.specs.Schema.{Layout, is_name}
 use Rattle.query_script.specs.Faults as faults
@@ -125,7 +126,7 @@ abbrev pub IsQuestion : Layout → Question → Type 0
 IsQuestion layout (Load name) = 0 < length name
 IsQuestion layout (Apply name) = 0 < length name
 IsQuestion layout (Try name) = 0 < length name
-IsQuestion layout (Widen name value) = (is_new_name layout name ≡ true) × (length value ≤ 255)
+IsQuestion layout (Widen name value) = (is_new_name layout name ≡ true) × (length value ≤ MAX_TEXT)
 IsQuestion layout (Pin name) = is_pin_name name ≡ true
 IsQuestion layout (Unpin name) = is_pin_name name ≡ true
 IsQuestion layout (At name query) = (is_pin_name name ≡ true) × IsQuery layout query

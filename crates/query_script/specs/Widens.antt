@@ -1,14 +1,15 @@
 -- What widens a cube: the name of a dimension, and behind the space that ends it the value of each row there.
 use Rattle.std.specs.Prelude.{ℕ, Bool, ◌&&◌, List, Result, Ok, Err, length, nat_le, nat_lt, if◌then◌else◌}
+use Rattle.cube_defs.specs.declared.limits.TheConstants.{MAX_TEXT}
 use Rattle.qc_schema.specs.Grammar.{is_new_name}
 use Rattle.qc_schema.specs.Schema.{Layout}
 use Rattle.query_script.specs.Faults.{LineFault, Field}
 use Rattle.query_script.specs.Lines.{rest_of, word_of}
 use Rattle.query_script.specs.Questions.{Question, Widen}
 
--- a value that may stand behind the name, where a space ends it: it has at most 255 bytes
+-- a value that may stand behind the name, where a space ends it: it is no longer than a text may be
 abbrev pub has_value : List ℕ → Bool
-has_value rest = nat_lt (length (word_of rest)) (length rest) && nat_le (length (rest_of rest)) 255
+has_value rest = nat_lt (length (word_of rest)) (length rest) && nat_le (length (rest_of rest)) MAX_TEXT
 
 -- what a line asks behind the word `widen`: the name is a new one, and all behind that one space is the value
 abbrev pub widen_in : Layout → List ℕ → Result Question LineFault

@@ -8,11 +8,9 @@ ghost use Rattle.query_script.specs.Widens.{has_value, widen_in};
 
 use crate::line::{Command, LineRefused, split_command};
 use cell_core::Text;
+use cube_defs::MAX_TEXT;
 use qc_schema::Schema;
 use std::alloc::Global;
-
-// The most bytes of the value of a dimension.
-const LONGEST_VALUE: usize = 255;
 
 // Whether a space ends the name, and what follows it is short enough.
 fn has_short_value(rest: &str, name: &str, value: &str) -> bool
@@ -20,7 +18,7 @@ fn has_short_value(rest: &str, name: &str, value: &str) -> bool
     requires value { value.now ≡ rest_of rest.now }
     ensures { result ≡ has_value rest.now }
 {
-    name.len() < rest.len() && value.len() <= LONGEST_VALUE
+    name.len() < rest.len() && value.len() <= MAX_TEXT
 }
 
 /// Reads what follows the word `widen`.

@@ -1,7 +1,7 @@
 // Roll-ups: the most general classes that pass, from a class on.
 ghost use Rattle.std.specs.FinMap as map;
 ghost use Rattle.std.specs.List.{IsDistinct};
-ghost use Rattle.std.specs.Prelude.{All, IfOk, IsSome, OnOk, [], filter, length, map as mapped, nat_eq, ℕ, ◌≡◌, ◌≤◌, ◌↔◌, ◌∷◌, ◌++◌, true};
+ghost use Rattle.std.specs.Prelude.{All, IfOk, IsSome, OnOk, [], filter, length, map as mapped, nat_eq, ℕ, ◌≡◌, ◌↔◌, ◌∷◌, ◌++◌, true};
 ghost use Rattle.std.specs.Ordering.{nat_cmp};
 ghost use Rattle.cube_defs.specs.Text.{text_cmp};
 ghost use Rattle.cube_laws.specs.Lists.{Among};
@@ -34,7 +34,6 @@ use value_dict::Dict;
 fn wants<T: Nodes, L: Ledger>(tree: &T, ask: &Ask, node: NodeNo, steps: &mut Steps<L>) -> bool
     requires class { IsSome (record_at (T.tree tree.now) node.0).class }
     requires measure { HasMeasure (T.width tree.now) (T.tree tree.now) ask.now.kind }
-    requires scale { ask.now.scale ≤ 6 }
     ensures { result ≡ visits.wants (T.tree tree.now) ask.now node.0 }
 {
     let total = tree.class(node, steps).unwrap();
@@ -86,7 +85,6 @@ fn visit<T: Nodes, L: Ledger>(
     requires tree { IsTree (T.width tree.now) (T.tree tree.now) }
     requires class { IsSome (record_at (T.tree tree.now) node.0).class }
     requires measure { HasMeasure (T.width tree.now) (T.tree tree.now) ask.now.kind }
-    requires scale { ask.now.scale ≤ 6 }
     ensures visited { (source : TreeRows) → IsTreeOf (T.width tree.now) (T.tree tree.now) source →
         OnOk result (IsVisited (T.tree tree.now) source ask.now node.0 seen.old.keys seen.new.keys
         (mapped number_of met.old.items) (mapped number_of met.new.items)) }
@@ -113,7 +111,6 @@ fn meet_all<T: Nodes, L: Ledger>(
     requires tree { IsTree (T.width tree.now) (T.tree tree.now) }
     requires class { IsSome (record_at (T.tree tree.now) node.0).class }
     requires measure { HasMeasure (T.width tree.now) (T.tree tree.now) ask.now.kind }
-    requires scale { ask.now.scale ≤ 6 }
     requires none_seen { seen.old.keys ≡ [] }
     requires none_met { met.old.items ≡ [] }
     ensures met { (source : TreeRows) → IsTreeOf (T.width tree.now) (T.tree tree.now) source →
@@ -147,7 +144,6 @@ fn met_from<T: Nodes, L: Ledger>(
     requires tree { IsTree (T.width tree.now) (T.tree tree.now) }
     requires class { IsSome (record_at (T.tree tree.now) node.0).class }
     requires measure { HasMeasure (T.width tree.now) (T.tree tree.now) ask.now.kind }
-    requires scale { ask.now.scale ≤ 6 }
     ensures met { (source : TreeRows) → IsTreeOf (T.width tree.now) (T.tree tree.now) source →
         IfOk result (λ met. AreMet (T.tree tree.now) source ask.now node.0 (mapped number_of met.items)) }
     ensures once { IfOk result (λ met. IsDistinct nat_eq (mapped number_of met.items)) }
@@ -212,7 +208,6 @@ pub fn rollup<T: Nodes, L: Ledger>(
     requires class { IsSome (record_at (T.tree tree.now) node.0).class }
     requires dims { length dict.now.lists ≡ T.width tree.now }
     requires measure { HasMeasure (T.width tree.now) (T.tree tree.now) ask.now.kind }
-    requires scale { ask.now.scale ≤ 6 }
     ensures nodes { (source : TreeRows) → IsTreeOf (T.width tree.now) (T.tree tree.now) source → RowsAreKnown (has_code dict.now.lists) source.rows →
         IfOk result (λ nodes. told_nodes dict.now.lists (T.tree tree.now) nodes.items
         ≡ lattice.rollup text_cmp source.measures (told_rows dict.now.lists source.rows) (ask_in ask.now)

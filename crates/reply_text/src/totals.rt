@@ -8,10 +8,11 @@ ghost use Rattle.reply_text.specs.Replies.{agg_texts, fields_text, part_texts, p
 use crate::fields::{push_field, push_number};
 use aggregates::{Agg, Part, Ratio, mean, print_amount, print_ratio};
 use cell_core::Memory;
+use cube_defs::MAX_SCALE;
 use qc_schema::Schema;
 
 fn push_amount(out: &mut Vec<u8>, amount: i64, scale: u8) -> Result<(), Memory>
-    requires { scale ≤ 6 }
+    requires { scale ≤ MAX_SCALE }
     ensures { OnOk result (out.new.items ≡ out.old.items ++ 44 ∷ amount_text scale amount) }
 {
     let mut text = [0; 48];
@@ -38,7 +39,7 @@ fn part_at(agg: &Agg, measure: u8) -> Part
 // The four numbers of a measure: sum, least, greatest and mean.
 fn push_part(out: &mut Vec<u8>, agg: &Agg, measure: u8, scale: u8) -> Result<(), Memory>
     requires there { measure < agg.now.measures }
-    requires scale { scale ≤ 6 }
+    requires scale { scale ≤ MAX_SCALE }
     ensures there { measure < length (agg_in agg.now).parts }
     ensures numbers { OnOk result (out.new.items ≡ out.old.items ++ fields_text (part_texts agg.now.count scale (part (agg_in agg.now) measure))) }
 {

@@ -1,9 +1,9 @@
 // Batches of changes, and the rows that they leave.
 ghost use Rattle.std.specs.Prelude.{All, None, is_some, length, nat_abs, true, ◌<◌, ◌≡◌, ◌≤◌};
-ghost use Rattle.aggregates.specs.Bounds.{largest_amount};
 
 use base_table::{Table, TableRefused};
 use cell_core::{Cell, Code, Entry};
+use cube_defs::MAX_AMOUNT;
 use std::alloc::Global;
 
 #[derive(Clone, Copy)]
@@ -58,7 +58,7 @@ fn insert(alloc: Global, table: &mut Table, id: u64, tuple: &Cell, amount: i16) 
 pub(crate) fn put(table: &mut Table, id: u64, tuple: &Cell, amounts: &[i64]) -> bool
     requires is_open { is_some table.old.was ≡ true }
     requires full { All (λ entry. is_some entry ≡ true) tuple.now }
-    requires small { All (λ amount. nat_abs amount ≤ largest_amount) amounts.now }
+    requires small { All (λ amount. nat_abs amount ≤ MAX_AMOUNT) amounts.now }
     ensures { is_some table.new.was ≡ true }
 {
     if table.dims() != tuple.dims() || table.measures() as usize != amounts.len() {

@@ -1,16 +1,15 @@
 ghost use Rattle.std.specs.Prelude.{All, IfOk, OnOk, nat_abs, ◌≡◌, ◌≤◌};
-ghost use Rattle.aggregates.specs.Bounds.{largest_amount};
 ghost use Rattle.aggregates.specs.Views.{IsThere};
 
 use aggregates::{Agg, AggKind, read_fraction};
 use cell_core::NodeNo;
-use cube_defs::Memory;
+use cube_defs::{MAX_AMOUNT, Memory};
 use measure_index::{Filling, Index, Walk};
 use std::alloc::Global;
 
 // Classes of one row, by the numbers of their nodes and their amounts.
 fn classes(alloc: Global, told: &[(u32, i64)]) -> Result<Vec<(NodeNo, Agg)>, Memory>
-    requires { All (λ class. nat_abs class.1 ≤ largest_amount) told.now }
+    requires { All (λ class. nat_abs class.1 ≤ MAX_AMOUNT) told.now }
     ensures { IfOk result (λ classes. All (λ class. class.1.measures ≡ 1) classes.items) }
 {
     let mut classes = Vec::new(alloc);
@@ -29,8 +28,8 @@ fn change(
     remove: &[(u32, i64)],
 ) -> Result<(), Memory>
     requires kinds { All (λ r. IsThere 1 r.kind) index.old }
-    requires add { All (λ class. nat_abs class.1 ≤ largest_amount) add.now }
-    requires remove { All (λ class. nat_abs class.1 ≤ largest_amount) remove.now }
+    requires add { All (λ class. nat_abs class.1 ≤ MAX_AMOUNT) add.now }
+    requires remove { All (λ class. nat_abs class.1 ≤ MAX_AMOUNT) remove.now }
     ensures { OnOk result (All (λ r. IsThere 1 r.kind) index.new) }
 {
     let add = classes(alloc, add)?;
@@ -41,7 +40,7 @@ fn change(
 // An index of kinds of one measure, filled.
 fn filled(alloc: Global, kinds: &[AggKind], add: &[(u32, i64)]) -> Result<Index, Memory>
     requires kinds { All (IsThere 1) kinds.now }
-    requires add { All (λ class. nat_abs class.1 ≤ largest_amount) add.now }
+    requires add { All (λ class. nat_abs class.1 ≤ MAX_AMOUNT) add.now }
 {
     let mut filling = Filling::new(alloc, kinds, &[2], add.len())?;
     'told: for k in 0..add.len() {

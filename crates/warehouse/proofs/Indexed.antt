@@ -12,6 +12,7 @@ use Rattle.aggregates.specs.Views.{IsThere, agg_in}
 use Rattle.aggregates.specs.declared.agg.Agg.{Agg}
 use Rattle.aggregates.specs.declared.kind.AggKind.{AggKind}
 use Rattle.cell_core.specs.declared.cell.NodeNo.{NodeNo}
+use Rattle.cube_defs.specs.declared.limits.TheConstants.{MAX_SCALE}
 use Rattle.measure_index.specs.Entries.{HaveMeasure}
 use Rattle.measure_index.specs.Index.{empty_ranking, ranking_of, scale_of, units}
 use Rattle.measure_index.specs.Rankings.{IsIndex, Ranking}
@@ -102,9 +103,9 @@ index-empty schema scales index same made is = record {
 }
 
 -- the scales of a schema are those of its measures
-pub small-scales : (measures : List Measure) → AllByRecursion (λ m. m.scale ≤ 6) measures → All (λ scale. scale ≤ 6) (map (λ (m : Measure). m.scale) measures)
-small-scales [] h = All-nil (λ scale. scale ≤ 6)
-small-scales (m ∷ measures) h = All-cons (λ scale. scale ≤ 6) m.scale (map (λ (m : Measure). m.scale) measures) h.0 (small-scales measures h.1)
+pub small-scales : (measures : List Measure) → AllByRecursion (λ m. m.scale ≤ MAX_SCALE) measures → All (λ scale. scale ≤ MAX_SCALE) (map (λ (m : Measure). m.scale) measures)
+small-scales [] h = All-nil (λ scale. scale ≤ MAX_SCALE)
+small-scales (m ∷ measures) h = All-cons (λ scale. scale ≤ MAX_SCALE) m.scale (map (λ (m : Measure). m.scale) measures) h.0 (small-scales measures h.1)
 
 -- the same of an index that may not be had for want of memory
 pub made-empty : {E : Type 0} (schema : Layout) (scales : List ℕ) (kinds : List AggKind) (r : Result (List Ranking) E) → scales ≡ map (λ (m : Measure). m.scale) schema.measures → kinds ≡ schema.indexes

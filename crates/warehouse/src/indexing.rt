@@ -13,17 +13,18 @@ ghost use Rattle.warehouse.specs.Stored.{IsTreeOfSome};
 use crate::Memory;
 use aggregates::Agg;
 use cell_core::NodeNo;
+use cube_defs::MAX_MEASURES;
 use measure_index::{Filling, Index};
 use qc_arena::QcArena;
 use qc_schema::Schema;
 use std::alloc::Global;
 
 // The scales of the measures.
-fn scales(schema: &Schema) -> [u8; 4]
+fn scales(schema: &Schema) -> [u8; MAX_MEASURES as usize]
     requires { IsLayout schema.now }
     ensures { take (length schema.now.measures) result ≡ map (λ m. m.scale) schema.now.measures }
 {
-    let mut scales = [0; 4];
+    let mut scales = [0; MAX_MEASURES as usize];
     'measures: for measure in 0..schema.measures() {
         scales[usize::from(measure)] = schema.scale(measure);
     }

@@ -15,12 +15,12 @@ use cube_defs::MAX_DIMS;
 use value_dict::{Dict, Learn};
 
 /// The number of texts of each dimension.
-pub(crate) fn lengths(dict: &Dict, dims: u8) -> [u32; 16]
+pub(crate) fn lengths(dict: &Dict, dims: u8) -> [u32; MAX_DIMS as usize]
     requires dims { dims ≡ length dict.now.lists }
     requires few { dims ≤ MAX_DIMS }
     ensures lengths { take dims result ≡ map length dict.now.lists }
 {
-    let mut lens = [0; 16];
+    let mut lens = [0; MAX_DIMS as usize];
     'dims: for dim in 0..dims {
         lens[usize::from(dim)] = dict.len(dim);
     }

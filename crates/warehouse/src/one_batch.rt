@@ -6,6 +6,7 @@ ghost use Rattle.warehouse.specs.Stored.{IsStored, IsTreeOfTable};
 
 use crate::learning::lengths;
 use base_table::Table;
+use cube_defs::MAX_DIMS;
 use qc_arena::QcArena;
 use qc_schema::Schema;
 use value_dict::Dict;
@@ -17,7 +18,7 @@ pub(crate) fn open_batch(
     table: &mut Table,
     dict: &Dict,
     tree: &mut QcArena,
-) -> [u32; 16]
+) -> [u32; MAX_DIMS as usize]
     requires stored { IsStored schema.now dict.now table.old }
     requires kept { IsTreeOfTable schema.now table.old tree.old }
     ensures begun { IsBegun schema.now dict.now table.new tree.new }

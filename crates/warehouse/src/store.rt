@@ -30,7 +30,7 @@ use crate::widening::widen;
 use base_table::Table;
 use cell_core::{HashKeys, Steps};
 use csv_load::{LoadRefused, RawBatch, read_base, read_batch};
-use cube_defs::MAX_FILE;
+use cube_defs::{MAX_FILE, MAX_TEXT};
 use measure_index::Index;
 use qc_arena::{Images, QcArena};
 use qc_schema::Schema;
@@ -410,7 +410,7 @@ impl Warehouse {
         steps: &mut Steps<L>,
     ) -> Result<Applied, WidenRefused>
         requires name { is_new_name self.old.state.schema name.now ≡ true }
-        requires value { length value.now ≤ 255 }
+        requires value { length value.now ≤ MAX_TEXT }
         ensures gives { Gives widen_refusal_in (applied_in self.new.state) result (widen_result self.old.state name.now value.now) }
         ensures records { OnOk result (KeepsWidened (length self.old.state.schema.dims) self.old.tree self.new.tree) }
         ensures steps { OnOk result (steps.new ≤ steps.old + cost_of_widening (length self.old.state.schema.dims) self.old.tree) }

@@ -32,7 +32,7 @@ use crate::refused::{Applied, WidenRefused};
 use aggregates::Agg;
 use base_table::Table;
 use cell_core::{NodeNo, Steps};
-use cube_defs::MAX_DIMS;
+use cube_defs::{MAX_DIMS, MAX_TEXT};
 use measure_index::Index;
 use qc_arena::{Forced, Nodes, QcArena};
 use qc_schema::Schema;
@@ -322,7 +322,7 @@ pub(crate) fn widen<L: Ledger>(
     requires parts { AreParts schema.old dict.old table.old tree.old index.old }
     requires images { tree.old.last ≡ finmap.empty }
     requires name { is_new_name schema.old name.now ≡ true }
-    requires value { length value.now ≤ 255 }
+    requires value { length value.now ≤ MAX_TEXT }
     ensures gives { Gives widen_refusal_in (applied_in (state_of schema.new dict.new table.new)) result
         (widen_result (state_of schema.old dict.old table.old) name.now value.now) }
     ensures records { OnOk result (KeepsWidened (length schema.old.dims) tree.old.now tree.new.now) }

@@ -1,5 +1,5 @@
 // Icebergs by a walk over a tree, beside the classes that pass.
-ghost use Rattle.std.specs.Prelude.{length, ◌≡◌, ◌≤◌};
+ghost use Rattle.std.specs.Prelude.{length, ◌≡◌};
 ghost use Rattle.aggregates.specs.Views.{IsThere};
 ghost use Rattle.warehouse_tests.specs.Cubes.{IsOfOneMeasure};
 
@@ -37,7 +37,6 @@ fn is_right<T: Nodes, L: Ledger>(
     requires width { T.width tree.now ≡ 3 }
     requires lists { length dict.now.lists ≡ 3 }
     requires kind { IsThere 1 ask.now.kind }
-    requires scale { ask.now.scale ≤ 6 }
 {
     let index = Index::new(alloc, &[], &[1])?;
     let classes = iceberg(alloc, tree, &index, dict, ask, steps);

@@ -2,10 +2,11 @@ use Rattle.std.proofs.Common.{◌≡◌, ℕ, ◌<◌, ◌≤◌, length, pos, s
 use Rattle.aggregates.specs.Bounds.{zero_part}
 use Rattle.aggregates.specs.Rows.{single}
 use Rattle.aggregates.proofs.agg.set_parts.Given as goal
+use Rattle.cube_defs.specs.declared.limits.TheConstants.{MAX_MEASURES}
 
 abbrev pub invariant-parts : goal.invariant-parts
 invariant-parts l = record {
   set : (k : ℕ) → k < l.i → slice_index_or l.parts k zero_part ≡ single (slice_index_or l.amounts k (pos 0));
   others : (k : ℕ) → l.i ≤ k → slice_index_or l.parts k zero_part ≡ slice_index_or l.fn.parts k zero_part;
-  four : length l.parts ≡ 4;
+  four : length l.parts ≡ MAX_MEASURES;
 }

@@ -4,6 +4,7 @@ use Rattle.std.proofs.lemmas.List.{append-nil, drop_all}
 use Rattle.std.proofs.lemmas.List.Elements.{All-from_recursion}
 use Rattle.csv.specs.Records.{fields_of}
 use Rattle.aggregates.specs.Numbers.{amount_in}
+use Rattle.cube_defs.specs.declared.limits.TheConstants.{MAX_SCALE}
 use Rattle.qc_schema.specs.Schema.{Measure, no_measure}
 use Rattle.csv_load.specs.Files.{amounts_in, amounts_of}
 use Rattle.csv_load.specs.Columns.{fields_at}
@@ -61,7 +62,7 @@ scale-requires c = rw c.measures-measure-end.ensures at c.loop-measure-test.true
 pub read_amount-requires : goal.read_amount-requires
 read_amount-requires c =
     let lt : c.loop-measure.measure < length c.args.schema.now.measures = rw c.measures-measure-end.ensures at c.loop-measure-test.true in
-    rw c.scale.ensures (All-from_recursion (λ (m : Measure). m.scale ≤ 6) c.args.schema.now.measures c.dims.ensures.layout.scales c.loop-measure.measure no_measure lt)
+    rw c.scale.ensures (All-from_recursion (λ (m : Measure). m.scale ≤ MAX_SCALE) c.args.schema.now.measures c.dims.ensures.layout.scales c.loop-measure.measure no_measure lt)
 
 pub loop-measure-init : goal.loop-measure-init
 loop-measure-init c =

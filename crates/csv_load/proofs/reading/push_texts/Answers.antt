@@ -7,7 +7,7 @@ use Rattle.csv_load.proofs.Fields.{bad-first, good-first, not-utf8, short-bad, s
 use Rattle.csv_load.proofs.Names.{length-at, needed-some}
 use Rattle.csv_load.proofs.Sizes.{room-more}
 use Rattle.csv_load.proofs.reading.push_texts.Goals as goal
-use Rattle.csv_load.proofs.reading.push_texts.Goals.{then-text-gt-LONGEST_TEXT, else-text-gt-LONGEST_TEXT}
+use Rattle.csv_load.proofs.reading.push_texts.Goals.{then-text-gt-MAX_TEXT, else-text-gt-MAX_TEXT}
 
 pub returns-in_default-clause-err : goal.returns-in_default-clause-err
 returns-in_default-clause-err c =
@@ -36,9 +36,9 @@ loop-dim-preserved c =
     record {
       texts = rw (c.in_ok-push.ensures.ok, one, place) (sym (texts-more c.loop-dim.texts fields (1 + c.loop-dim.dim) (1 + length c.args.schema.now.dims) low high) ∙ c.loop-dim.invariant.texts);
       utf8 = rw place (sym (good-first is_utf8 fields (1 + c.loop-dim.dim) (1 + length c.args.schema.now.dims) low high good) ∙ c.loop-dim.invariant.utf8);
-      short = elim c.if-text-gt-LONGEST_TEXT.branch [
-        | then-text-gt-LONGEST_TEXT w ↦ rw w.are_short-is (sym (short-bad fields (1 + c.loop-dim.dim) (1 + length c.args.schema.now.dims) c.loop-dim.are_short _ low high (omega (arith, ap length one, w.if-text-gt-LONGEST_TEXT.true)) c.loop-dim.invariant.short))
-        | else-text-gt-LONGEST_TEXT w ↦ rw (w.are_short-is, place) (short-good fields (1 + c.loop-dim.dim) (1 + length c.args.schema.now.dims) c.loop-dim.are_short _ low high (omega (arith, ap length one, w.if-text-gt-LONGEST_TEXT.false)) c.loop-dim.invariant.short)
+      short = elim c.if-text-gt-MAX_TEXT.branch [
+        | then-text-gt-MAX_TEXT w ↦ rw w.are_short-is (sym (short-bad fields (1 + c.loop-dim.dim) (1 + length c.args.schema.now.dims) c.loop-dim.are_short _ low high (omega (arith, ap length one, w.if-text-gt-MAX_TEXT.true)) c.loop-dim.invariant.short))
+        | else-text-gt-MAX_TEXT w ↦ rw (w.are_short-is, place) (short-good fields (1 + c.loop-dim.dim) (1 + length c.args.schema.now.dims) c.loop-dim.are_short _ low high (omega (arith, ap length one, w.if-text-gt-MAX_TEXT.false)) c.loop-dim.invariant.short)
       ];
     }
 

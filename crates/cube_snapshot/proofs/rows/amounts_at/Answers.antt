@@ -3,7 +3,7 @@ use Rattle.std.proofs.lemmas.Int.{fits_signed_from_abs, to_z-of_z}
 use Rattle.std.proofs.lemmas.List.{length-set, take_more_set}
 use Rattle.std.proofs.lemmas.List.Elements.{All-push}
 use Rattle.std.specs.Int.{w64}
-use Rattle.aggregates.specs.Bounds.{largest_amount}
+use Rattle.cube_defs.specs.declared.limits.TheConstants.{MAX_AMOUNT}
 use Rattle.cube_snapshot.specs.Format.{get_times}
 use Rattle.cube_snapshot.specs.Parts.{IsAmount, amount}
 use Rattle.cube_snapshot.proofs.Looping.{fails, goes_on, with_front}
@@ -28,7 +28,7 @@ amounts-preserved c =
     ap₂ (λ (i : _) (z : ℤ). take (k + 1) (set c.amounts.amounts i z)) c.from.ensures same ∙ take_more_set c.amounts.amounts k value lt in
     record {
       len = length-set c.amounts.amounts c.from.result (to_z w64 (of_z w64 value)) ∙ inv.len;
-      small = subst (All (λ a. nat_abs a ≤ largest_amount)) (sym took) (All-push (λ a. nat_abs a ≤ largest_amount) front value inv.small small);
+      small = subst (All (λ a. nat_abs a ≤ MAX_AMOUNT)) (sym took) (All-push (λ a. nat_abs a ≤ MAX_AMOUNT) front value inv.small small);
       so_far = ap (λ (l : List ℤ). with_front amount l (get_times amount (c.args.count - (k + 1)) c.in_ok-value.after.now)) took
           ∙ goes_on amount front c.args.count k c.amounts.rest.now (get_times amount c.args.count c.args.bytes.now) value c.in_ok-value.after.now c.amounts-test.true (sym c.in_ok-value.ensures.read) inv.so_far;
     }

@@ -3,6 +3,7 @@ use Rattle.std.proofs.lemmas.Option.{get_or_from_slice_get}
 use Rattle.std.specs.Int.{w32}
 use Rattle.std.specs.List.{flat_map}
 use Rattle.cube_defs.specs.Text.{Text}
+use Rattle.cube_defs.specs.declared.limits.TheConstants.{MAX_TEXT}
 use Rattle.value_dict.specs.TextLists.{list_at}
 use Rattle.cube_snapshot.specs.Format.{number}
 use Rattle.cube_snapshot.specs.Parts.{text}
@@ -22,7 +23,7 @@ pub put_text-requires : goal.put_text-requires
 put_text-requires c =
     let list = list_at c.args.dict.now c.args.dim in
     let lt : c.texts.code < length list = omega (arith, c.texts-test.true, c.len-code-end.ensures.value) in
-    subst (λ (t : Text). length t ≤ 255) (get_or_from_slice_get list c.texts.code c.text.result.now [] c.text.ensures.value) (c.requires.short c.texts.code [] lt)
+    subst (λ (t : Text). length t ≤ MAX_TEXT) (get_or_from_slice_get list c.texts.code c.text.result.now [] c.text.ensures.value) (c.requires.short c.texts.code [] lt)
 
 pub returns : goal.returns
 returns c =

@@ -40,6 +40,3 @@ returns-in-Ok g c = λ rows has.
     (λ reply told. rolled-told s c.args.number (kind_in c.args.kind) (bound_in c.args.bound) (fraction_in c.args.value) c.scale_of_kind.result (cell_asked c.args.asked.now)
     (told_cell s.texts (record_at tree c.in-Some.node.0).cell) (told_nodes s.texts tree c.deref.result.now) (reply_bytes reply) told here (c.in-Some.ensures.upper rows has) scale)
     (c.told_reply.ensures rows has)
-
-pub rollup-requires-clause-scale : goal.rollup-requires-clause-scale
-rollup-requires-clause-scale g c = c.scale_of_kind.ensures.few

@@ -4,6 +4,7 @@ use Rattle.std.proofs.lemmas.List.Elements.{All-from_recursion}
 use Rattle.aggregates.specs.Views.{agg_in}
 use Rattle.cube_defs.specs.Answers.{part}
 use Rattle.cube_defs.specs.Rows.{Part}
+use Rattle.cube_defs.specs.declared.limits.TheConstants.{MAX_SCALE}
 use Rattle.qc_schema.specs.Schema.{Measure, no_measure}
 use Rattle.std.specs.Prelude.{slice_index_or}
 use Rattle.reply_text.specs.Replies.{fields_text, part_texts, parts_texts}
@@ -29,7 +30,7 @@ pub push_part-requires-clause-scale : goal.push_part-requires-clause-scale
 push_part-requires-clause-scale c =
     let measures = c.args.schema.now.measures in
     let lt : c.loop-measure.measure < length measures = omega (arith, c.requires, c.measures_of-measure-end.ensures.parts) in
-    rw c.scale.ensures (All-from_recursion (λ (m : Measure). m.scale ≤ 6) measures c.dims-dims.ensures.layout.scales c.loop-measure.measure no_measure lt)
+    rw c.scale.ensures (All-from_recursion (λ (m : Measure). m.scale ≤ MAX_SCALE) measures c.dims-dims.ensures.layout.scales c.loop-measure.measure no_measure lt)
 
 pub returns : goal.returns
 returns c =

@@ -8,6 +8,7 @@ use Rattle.aggregates.specs.declared.agg.Agg.{Agg}
 use Rattle.aggregates.specs.declared.kind.AggKind.{AggKind}
 use Rattle.cell_core.specs.declared.cell.NodeNo.{NodeNo}
 use Rattle.cube_defs.specs.Rows as defs
+use Rattle.cube_defs.specs.declared.limits.TheConstants.{MAX_SCALE}
 use Rattle.measure_index.specs.Filling.{AreKeysOf, Coming, coming_units}
 use Rattle.measure_index.specs.Index.{scale_of, units}
 use Rattle.measure_index.specs.Rankings.{IsIndex, Ranking}
@@ -38,7 +39,7 @@ new-requires-clause-scales c =
     let measures = c.args.schema.now.measures in
     let same : take c.from-count.result c.scales-all.result ≡ map (λ (m : Measure). m.scale) measures =
     ap (λ (n : ℕ). take n c.scales-all.result) (c.from-count.ensures ∙ c.measures.ensures) ∙ c.scales-all.ensures in
-    subst (λ (ss : List ℕ). All (λ scale. scale ≤ 6) ss) (sym same) (small-scales measures c.requires.layout.scales)
+    subst (λ (ss : List ℕ). All (λ scale. scale ≤ MAX_SCALE) ss) (sym same) (small-scales measures c.requires.layout.scales)
 
 pub numbers-init : goal.numbers-init
 numbers-init c =

@@ -1,5 +1,6 @@
 use Rattle.std.proofs.Common.{◌≡◌, ◌≤◌, ◌∙◌, ℕ, List, ap, map, subst, sym, take}
 use Rattle.std.specs.List.{All}
+use Rattle.cube_defs.specs.declared.limits.TheConstants.{MAX_SCALE}
 use Rattle.qc_schema.specs.Schema.{Measure}
 use Rattle.warehouse.proofs.Indexed.{made-empty, small-scales}
 use Rattle.warehouse.proofs.indexing.new_index.Goals as goal
@@ -9,7 +10,7 @@ new-requires-clause-scales c =
     let measures = c.args.schema.now.measures in
     let same : take c.from-count.result c.scales-all.result ≡ map (λ (m : Measure). m.scale) measures =
     ap (λ (n : ℕ). take n c.scales-all.result) (c.from-count.ensures ∙ c.measures.ensures) ∙ c.scales-all.ensures in
-    subst (λ (ss : List ℕ). All (λ scale. scale ≤ 6) ss) (sym same) (small-scales measures c.requires.scales)
+    subst (λ (ss : List ℕ). All (λ scale. scale ≤ MAX_SCALE) ss) (sym same) (small-scales measures c.requires.scales)
 
 pub returns : goal.returns
 returns c =

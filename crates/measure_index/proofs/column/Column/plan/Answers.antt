@@ -18,7 +18,7 @@ pub returns : goal.returns
 returns c =
     let kind = c.self.inside.kind in
     let scale = c.self.inside.scale in
-    let six = c.self.invariant.scale_small in
+    let within = c.self.invariant.scale_small in
     let added = c.in-Ok.added.items in
     let removed = c.in-Ok-keys_of.removed.items in
     let coming = c.sort_unstable.new.self.items in
@@ -30,8 +30,8 @@ returns c =
     subst (λ r. ArePlanned r c.args.add.now c.args.remove.now (entries_at r.kind r.scale coming) (entries_at r.kind r.scale going)) c.self.view_is (record {
       added = entries_at kind scale added;
       removed = entries_at kind scale removed;
-      adds = are_entries kind scale six c.args.add.now added c.in-Ok.ensures;
-      removes = are_entries kind scale six c.args.remove.now removed c.in-Ok-keys_of.ensures;
+      adds = are_entries kind scale within c.args.add.now added c.in-Ok.ensures;
+      removes = are_entries kind scale within c.args.remove.now removed c.in-Ok-keys_of.ensures;
       comes = come;
       goes = λ q. carried kind scale (λ a b. a && not b) refl leaving coming going lacked q ∙ ap₂ (λ a b. a && not b) (leave q) (come q);
     })
