@@ -1,143 +1,128 @@
 // Tests whether a cell that generalizes a class is a lower bound of it.
-ghost use Rattle.std.specs.Prelude.{IsTrue, Some, false, length, true, ℕ, ◌*◌, ◌+◌, ◌<◌, ◌^◌, ◌≡◌, ◌≤◌};
-ghost use Rattle.cube_defs.specs.Tree.{cell_at};
-ghost use Rattle.tree_search.specs.Found.{IsTreeOf, IsTree, TreeRows};
+ghost use Rattle.std.specs.Prelude.{IsTrue, false, length, ℕ, ◌*◌, ◌+◌, ◌<◌, ◌^◌, ◌≡◌, ◌≤◌};
+ghost use Rattle.tree_search.specs.Found.{IsTreeOf, TreeRows};
 ghost use Rattle.cells_below.specs.Closed.{AreNeeded, IsMarkedBelow, bounds, closes, has_closure_in};
 ghost use Rattle.cells_below.specs.Marks.{is_marked};
 ghost use Rattle.cells_below.specs.Numbers.{cell_of_number};
-ghost use Rattle.cube_laws.specs.Parts.{value_count};
+ghost use Rattle.cells_below.specs.Upper.{IsCellOfNode, IsUpperBound};
 
 use crate::marks::Marks;
 use crate::numbers::put_cell;
 use crate::pruned::least;
+use crate::upper::UpperBound;
 use crate::without::lacks;
-use cell_core::{Cell, NodeNo, Steps};
-use cube_defs::MAX_DIMS;
+use cell_core::{Cell, Steps};
 use qc_arena::Nodes;
 use std::sync::ledger::Ledger;
 use tree_search::find;
 
-// Whether the cell's closure is u, the cell of the node.
-fn leads_to<T: Nodes, L: Ledger>(
-    tree: &T,
-    node: NodeNo,
-    u: &Cell,
-    cell: &Cell,
-    steps: &mut Steps<L>,
-) -> bool
-    requires tree { IsTree (T.width tree.now) (T.tree tree.now) }
-    requires upper { cell_at (T.tree tree.now) node.0 ≡ Some u.now }
-    requires dims { length cell.now ≡ T.width tree.now }
-    ensures value { (source : TreeRows) → IsTreeOf (T.width tree.now) (T.tree tree.now) source →
-        result ≡ has_closure_in source u.now cell.now }
+// Whether the cell's closure is the upper bound.
+fn leads_to<T: Nodes, L: Ledger>(upper: &UpperBound<T>, cell: &Cell, steps: &mut Steps<L>) -> bool
+    requires upper { IsCellOfNode (T.width upper.now.tree.now) (T.tree upper.now.tree.now)
+        upper.now.node.0 upper.now.cell.now upper.now.values }
+    requires dims { length cell.now ≡ T.width upper.now.tree.now }
+    ensures value { (source : TreeRows) →
+        IsTreeOf (T.width upper.now.tree.now) (T.tree upper.now.tree.now) source →
+        result ≡ has_closure_in source upper.now.cell.now cell.now }
     ensures steps { steps.new ≤ steps.old + (2 * length cell.now + 2) }
 {
-    match find(tree, cell, steps) {
-        Some(found) => found.0 == node.0,
+    match find(upper.tree, cell, steps) {
+        Some(found) => found.0 == upper.node.0,
         None => false,
     }
 }
 
-/// Sets `cell` to the cell of a number. True if its closure is u.
+/// Sets `cell` to the cell of a number. True if its closure is the upper bound.
 pub(crate) fn closes_at<T: Nodes, L: Ledger>(
-    tree: &T,
-    node: NodeNo,
-    u: &Cell,
+    upper: &UpperBound<T>,
     m: u32,
     cell: &mut Cell,
     steps: &mut Steps<L>,
 ) -> bool
-    requires tree { IsTree (T.width tree.now) (T.tree tree.now) }
-    requires upper { cell_at (T.tree tree.now) node.0 ≡ Some u.now }
-    requires dims { length cell.old ≡ length u.now }
-    ensures value { (source : TreeRows) → IsTreeOf (T.width tree.now) (T.tree tree.now) source →
-        result ≡ closes source u.now m }
-    ensures cell { cell.new ≡ cell_of_number u.now m }
-    ensures dims { length cell.new ≡ length u.now }
-    ensures steps { steps.new ≤ steps.old + (2 * length u.now + 2) }
+    requires upper { IsCellOfNode (T.width upper.now.tree.now) (T.tree upper.now.tree.now)
+        upper.now.node.0 upper.now.cell.now upper.now.values }
+    requires dims { length cell.old ≡ length upper.now.cell.now }
+    ensures value { (source : TreeRows) →
+        IsTreeOf (T.width upper.now.tree.now) (T.tree upper.now.tree.now) source →
+        result ≡ closes source upper.now.cell.now m }
+    ensures cell { cell.new ≡ cell_of_number upper.now.cell.now m }
+    ensures dims { length cell.new ≡ length upper.now.cell.now }
+    ensures steps { steps.new ≤ steps.old + (2 * length upper.now.cell.now + 2) }
 {
-    put_cell(u, m, cell);
-    leads_to(tree, node, u, cell, steps)
+    put_cell(upper.cell, m, cell);
+    leads_to(upper, cell, steps)
 }
 
-// The same for a number of d bits. The largest number has the cell u, which is its own closure.
+// The same for a number of as many bits as there are values. The cell of the largest is the upper
+// bound itself.
 fn closes_below<T: Nodes, L: Ledger>(
-    tree: &T,
-    node: NodeNo,
-    u: &Cell,
-    d: u32,
+    upper: &UpperBound<T>,
     m: u32,
     cell: &mut Cell,
     steps: &mut Steps<L>,
 ) -> bool
-    requires tree { IsTree (T.width tree.now) (T.tree tree.now) }
-    requires upper { cell_at (T.tree tree.now) node.0 ≡ Some u.now }
-    requires own { (source : TreeRows) → IsTreeOf (T.width tree.now) (T.tree tree.now) source →
-        has_closure_in source u.now u.now ≡ true }
-    requires dims { length cell.old ≡ length u.now }
-    requires values { d ≡ value_count u.now }
-    requires few { d ≤ MAX_DIMS }
-    requires number { m < 2 ^ d }
-    ensures value { (source : TreeRows) → IsTreeOf (T.width tree.now) (T.tree tree.now) source →
-        result ≡ closes source u.now m }
-    ensures cell { cell.new ≡ cell_of_number u.now m }
-    ensures dims { length cell.new ≡ length u.now }
-    ensures steps { steps.new ≤ steps.old + (2 * length u.now + 2) }
+    requires upper { IsUpperBound (T.width upper.now.tree.now) (T.tree upper.now.tree.now)
+        upper.now.node.0 upper.now.cell.now upper.now.values }
+    requires dims { length cell.old ≡ length upper.now.cell.now }
+    requires number { m < 2 ^ upper.now.values }
+    ensures value { (source : TreeRows) →
+        IsTreeOf (T.width upper.now.tree.now) (T.tree upper.now.tree.now) source →
+        result ≡ closes source upper.now.cell.now m }
+    ensures cell { cell.new ≡ cell_of_number upper.now.cell.now m }
+    ensures dims { length cell.new ≡ length upper.now.cell.now }
+    ensures steps { steps.new ≤ steps.old + (2 * length upper.now.cell.now + 2) }
 {
-    if m + 1 == 1 << d {
-        put_cell(u, m, cell);
+    if m + 1 == 1 << upper.values {
+        put_cell(upper.cell, m, cell);
         return true;
     }
-    closes_at(tree, node, u, m, cell, steps)
+    closes_at(upper, m, cell, steps)
 }
 
-/// Whether the cell of a number is a lower bound of u; `cell` is then that cell. Marks the number
-/// if its cell has the closure u. The smaller numbers must be marked already. Each cell between u
-/// and a cell with closure u has this closure too. So no search is made if a number with one bit
-/// less is marked, if a needed bit is missing, or for u itself.
+/// Whether the cell of a number is a lower bound of the class; `cell` is then that cell. Marks the
+/// number if its cell is in the class. The smaller numbers must be marked already. Each cell
+/// between one of the class and the upper bound is in the class too. So no search is made if a
+/// number with one bit less is marked, if a needed bit is missing, or for the upper bound itself.
 pub fn bounds_at<T: Nodes, L: Ledger>(
-    tree: &T,
-    node: NodeNo,
-    u: &Cell,
-    marks: &mut Marks,
-    d: u32,
+    upper: &UpperBound<T>,
     needed: u32,
+    marks: &mut Marks,
     m: u32,
     cell: &mut Cell,
     steps: &mut Steps<L>,
 ) -> bool
-    requires tree { IsTree (T.width tree.now) (T.tree tree.now) }
-    requires upper { cell_at (T.tree tree.now) node.0 ≡ Some u.now }
-    requires own { (source : TreeRows) → IsTreeOf (T.width tree.now) (T.tree tree.now) source →
-        has_closure_in source u.now u.now ≡ true }
-    requires needed { (source : TreeRows) → IsTreeOf (T.width tree.now) (T.tree tree.now) source →
-        AreNeeded source u.now needed }
-    requires dims { length cell.old ≡ length u.now }
-    requires values { d ≡ value_count u.now }
-    requires few { d ≤ MAX_DIMS }
-    requires number { m < 2 ^ d }
-    requires room { 2 ^ d ≤ length marks.old }
-    requires below { (source : TreeRows) → IsTreeOf (T.width tree.now) (T.tree tree.now) source →
-        IsMarkedBelow source u.now marks.old m }
+    requires upper { IsUpperBound (T.width upper.now.tree.now) (T.tree upper.now.tree.now)
+        upper.now.node.0 upper.now.cell.now upper.now.values }
+    requires needed { (source : TreeRows) →
+        IsTreeOf (T.width upper.now.tree.now) (T.tree upper.now.tree.now) source →
+        AreNeeded source upper.now.cell.now needed }
+    requires dims { length cell.old ≡ length upper.now.cell.now }
+    requires number { m < 2 ^ upper.now.values }
+    requires room { 2 ^ upper.now.values ≤ length marks.old }
+    requires below { (source : TreeRows) →
+        IsTreeOf (T.width upper.now.tree.now) (T.tree upper.now.tree.now) source →
+        IsMarkedBelow source upper.now.cell.now marks.old m }
     requires above { (j : ℕ) → m ≤ j → is_marked marks.old j ≡ false }
-    ensures value { (source : TreeRows) → IsTreeOf (T.width tree.now) (T.tree tree.now) source →
-        result ≡ bounds source u.now m }
-    ensures cell { IsTrue result → cell.new ≡ cell_of_number u.now m }
-    ensures dims { length cell.new ≡ length u.now }
+    ensures value { (source : TreeRows) →
+        IsTreeOf (T.width upper.now.tree.now) (T.tree upper.now.tree.now) source →
+        result ≡ bounds source upper.now.cell.now m }
+    ensures cell { IsTrue result → cell.new ≡ cell_of_number upper.now.cell.now m }
+    ensures dims { length cell.new ≡ length upper.now.cell.now }
     ensures room { length marks.new ≡ length marks.old }
-    ensures below { (source : TreeRows) → IsTreeOf (T.width tree.now) (T.tree tree.now) source →
-        IsMarkedBelow source u.now marks.new (m + 1) }
+    ensures below { (source : TreeRows) →
+        IsTreeOf (T.width upper.now.tree.now) (T.tree upper.now.tree.now) source →
+        IsMarkedBelow source upper.now.cell.now marks.new (m + 1) }
     ensures above { (j : ℕ) → m + 1 ≤ j → is_marked marks.new j ≡ false }
-    ensures steps { steps.new ≤ steps.old + (2 * length u.now + 2) }
+    ensures steps { steps.new ≤ steps.old + (2 * length upper.now.cell.now + 2) }
 {
-    if lacks(m, needed, d) {
+    if lacks(m, needed, upper.values) {
         return false;
     }
-    if !least(marks, d, m) {
+    if !least(marks, upper.values, m) {
         marks.set(m);
         return false;
     }
-    if !closes_below(tree, node, u, d, m, cell, steps) {
+    if !closes_below(upper, m, cell, steps) {
         return false;
     }
     marks.set(m);

@@ -6,6 +6,7 @@ mod closed;
 mod marks;
 mod numbers;
 mod pruned;
+mod upper;
 mod without;
 
 pub use closed::bounds_at;
@@ -13,4 +14,5 @@ pub use cube_defs::Memory;
 pub use marks::Marks;
 pub use numbers::{count_values, has, put_cell, turn};
 pub use pruned::least;
+pub use upper::UpperBound;
 pub use without::needed;

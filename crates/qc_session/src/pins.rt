@@ -7,7 +7,7 @@ ghost use Rattle.qc_session.specs.Pins.{at_reply, held_in, pin_answer, unpin_ans
 
 use cell_core::{Memory, Steps, Text};
 use pinned_view::{NotPinned, PinRefused, Pinned};
-use query_answers::{answer_query, empty_index};
+use query_answers::{Source, answer_query, empty_index};
 use query_script::Query;
 use reply_text::{
     Reply, ShortReply, pinned, refused, unpinned, words_of_all_pinned, words_of_name_taken,
@@ -59,17 +59,13 @@ pub fn answer_at<L: Ledger>(
         drop(query);
         return Err(AllocError);
     };
-    let stats = view.stats();
-    let reply = answer_query(
-        alloc,
-        held.now(),
-        &view,
-        &index,
-        stats,
-        number,
-        &query,
-        steps,
-    );
+    let source = Source {
+        warehouse: held.now(),
+        tree: &view,
+        index: &index,
+        counts: view.stats(),
+    };
+    let reply = answer_query(alloc, &source, number, &query, steps);
     drop(index);
     drop(query);
     reply

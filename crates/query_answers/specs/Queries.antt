@@ -1,5 +1,5 @@
 -- What a query is answered: a filter and a sum over the rows of a state.
-use Rattle.std.specs.Prelude.{ℕ, ◌≡◌, ◌≤◌, ◌+◌, ◌*◌, ◌^◌, Bool, true, ⊤, Option, Some, None, List, length, map, slice_index_or}
+use Rattle.std.specs.Prelude.{ℕ, ◌≡◌, ◌≤◌, ◌+◌, ◌*◌, ◌^◌, Bool, true, ⊤, Option, Some, None, IfSome, List, length, map, slice_index_or}
 use Rattle.std.specs.List.{list_any}
 use Rattle.aggregates.specs.declared.kind.AggKind.{AggKind as Kinds}
 use Rattle.aggregates.specs.Views.{fraction_in, kind_in, same_kind}
@@ -15,6 +15,9 @@ use Rattle.cell_core.specs.declared.fields.Field.{Field}
 use Rattle.cell_core.specs.declared.fields.Field.TheVariants as fields
 use Rattle.qc_schema.specs.Schema.{Layout, Measure, no_measure}
 use Rattle.iceberg_query.specs.Asked.{bound_in}
+use Rattle.iceberg_query.specs.Indexed.{class_of_node}
+use Rattle.measure_index.specs.Index.{ranking_of}
+use Rattle.measure_index.specs.Rankings.{IsIndex, Ranking}
 use Rattle.query_script.specs.Queries as asks
 use Rattle.query_script.specs.Queries.{Query}
 use Rattle.query_script.specs.declared.query.Query as code
@@ -24,13 +27,19 @@ use Rattle.reply_text.specs.Replies.{bounds_reply, iceberg_text, point_reply, ra
 use Rattle.value_dict.specs.Boxes.{asked_box}
 use Rattle.value_dict.specs.Told.{has_text}
 use Rattle.query_answers.specs.Lattice.{followed, parented, rolled}
-use Rattle.warehouse.specs.State.{Contents, HasTree, State, with_rows}
+use Rattle.warehouse.specs.State.{Contents, HasTree, State, scale_in, with_rows}
 
 -- the tree is that of some rows of the schema, whose texts are among those of now
 pub record IsTreeOfRows (held : Contents) (width : ℕ) (tree : Tree ℕ) : Type 0 where
   pub rows : List (Row Text)
   pub kept : HasTree (with_rows held.state rows) tree
   pub wide : width ≡ length held.state.schema.dims
+
+-- so it is, and the index is one of its classes, with each value in the unit of its measure
+pub record IsSource (held : Contents) (width : ℕ) (tree : Tree ℕ) (index : List Ranking) : Type 0 where
+  pub rows : IsTreeOfRows held width tree
+  pub indexed : IsIndex (class_of_node tree) index
+  pub unit : (kind : Kinds) → IfSome (ranking_of kind index) (λ r. r.scale ≡ scale_in held.state.schema kind)
 
 -- what a field of a point asks of its dimension: Any, or a value
 abbrev pub entry_asked : Field → Option Text

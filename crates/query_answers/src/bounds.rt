@@ -4,65 +4,76 @@ ghost use Rattle.std.specs.Prelude.{All, IfOk, IfSome, List, length, ◌*◌, �
 ghost use Rattle.cube_defs.specs.Rows.{Row};
 ghost use Rattle.cube_defs.specs.Text.{Text, text_cmp};
 ghost use Rattle.query_script.specs.Commands.{IsCellField};
-ghost use Rattle.query_answers.specs.Queries.{IsTreeOfRows, bounded, cell_asked};
+ghost use Rattle.query_answers.specs.Queries.{IsSource, bounded, cell_asked};
 ghost use Rattle.cube_defs.specs.Answers.{class_of};
 ghost use Rattle.lower_bounds.specs.Classes.{hit_in};
 ghost use Rattle.value_dict.specs.Told.{IsTellableClass, told_hit};
 ghost use Rattle.reply_text.specs.Words.{reply_bytes};
 ghost use Rattle.warehouse.specs.State.{HasTree, with_rows};
 
+use crate::source::Source;
 use cell_core::{Fields, Memory, Steps};
 use lower_bounds::{Class, find_class};
 use qc_arena::Nodes;
 use reply_text::{Reply, bounds_reply, none};
 use std::alloc::Global;
 use std::sync::ledger::Ledger;
-use warehouse::Warehouse;
 
 // The class of the fields' cell. None if the cell covers no row.
 fn class_asked<T: Nodes, L: Ledger>(
     alloc: Global,
-    warehouse: &Warehouse,
-    tree: &T,
+    source: &Source<T>,
     asked: &Fields,
     steps: &mut Steps<L>,
 ) -> Result<Option<Class>, Memory>
-    requires dims { length asked.now ≡ length warehouse.now.state.schema.dims }
+    requires dims { length asked.now ≡ length source.now.warehouse.now.state.schema.dims }
     requires point { All IsCellField asked.now }
-    requires rows { IsTreeOfRows warehouse.now (T.width tree.now) (T.tree tree.now) }
-    ensures value { (rows : List (Row Text)) → HasTree (with_rows warehouse.now.state rows) (T.tree tree.now) →
-        IfOk result (λ class. option_map (λ c. told_hit warehouse.now.state.texts (hit_in c)) class
-        ≡ class_of text_cmp (length warehouse.now.state.schema.measures) rows (cell_asked asked.now)) }
-    ensures told { IfOk result (λ class. IfSome class (λ c. IsTellableClass warehouse.now.state.texts (length warehouse.now.state.schema.measures)
-        (hit_in c))) }
-    ensures steps { steps.new ≤ steps.old + 7 * (length warehouse.now.state.schema.dims + 1) * 2 ^ length warehouse.now.state.schema.dims }
+    requires source { IsSource source.now.warehouse.now (T.width source.now.tree.now)
+        (T.tree source.now.tree.now) source.now.index.now }
+    ensures value { (rows : List (Row Text)) →
+        HasTree (with_rows source.now.warehouse.now.state rows) (T.tree source.now.tree.now) →
+        IfOk result (λ class.
+        option_map (λ c. told_hit source.now.warehouse.now.state.texts (hit_in c)) class
+        ≡ class_of text_cmp (length source.now.warehouse.now.state.schema.measures) rows
+        (cell_asked asked.now)) }
+    ensures told { IfOk result (λ class. IfSome class (λ c.
+        IsTellableClass source.now.warehouse.now.state.texts
+        (length source.now.warehouse.now.state.schema.measures) (hit_in c))) }
+    ensures steps { steps.new ≤ steps.old
+        + 7 * (length source.now.warehouse.now.state.schema.dims + 1)
+        * 2 ^ length source.now.warehouse.now.state.schema.dims }
 {
-    let Some(cell) = warehouse.dict().cell_of(asked) else {
+    let Some(cell) = source.warehouse.dict().cell_of(asked) else {
         return Ok(None);
     };
-    find_class(alloc, tree, &cell, steps)
+    find_class(alloc, source.tree, &cell, steps)
 }
 
 /// Reports the bounds of the class of a cell, which has Any or a value in each dimension. With n
 /// dimensions it takes at most 7 (n + 1) 2^n steps.
 pub fn answer_bounds<T: Nodes, L: Ledger>(
     alloc: Global,
-    warehouse: &Warehouse,
-    tree: &T,
+    source: &Source<T>,
     number: u32,
     asked: &Fields,
     steps: &mut Steps<L>,
 ) -> Result<Reply, Memory>
-    requires dims { length asked.now ≡ length warehouse.now.state.schema.dims }
+    requires dims { length asked.now ≡ length source.now.warehouse.now.state.schema.dims }
     requires point { All IsCellField asked.now }
-    requires rows { IsTreeOfRows warehouse.now (T.width tree.now) (T.tree tree.now) }
-    ensures reply { (rows : List (Row Text)) → HasTree (with_rows warehouse.now.state rows) (T.tree tree.now) →
-        IfOk result (λ reply. reply_bytes reply ≡ bounded (with_rows warehouse.now.state rows) number (cell_asked asked.now)) }
-    ensures steps { steps.new ≤ steps.old + 7 * (length warehouse.now.state.schema.dims + 1) * 2 ^ length warehouse.now.state.schema.dims }
+    requires source { IsSource source.now.warehouse.now (T.width source.now.tree.now)
+        (T.tree source.now.tree.now) source.now.index.now }
+    ensures reply { (rows : List (Row Text)) →
+        HasTree (with_rows source.now.warehouse.now.state rows) (T.tree source.now.tree.now) →
+        IfOk result (λ reply. reply_bytes reply
+        ≡ bounded (with_rows source.now.warehouse.now.state rows) number (cell_asked asked.now)) }
+    ensures steps { steps.new ≤ steps.old
+        + 7 * (length source.now.warehouse.now.state.schema.dims + 1)
+        * 2 ^ length source.now.warehouse.now.state.schema.dims }
 {
-    let Some(class) = class_asked(alloc, warehouse, tree, asked, steps)? else {
+    let Some(class) = class_asked(alloc, source, asked, steps)? else {
         return Ok(Reply::Short(none(number)));
     };
+    let warehouse = source.warehouse;
     let reply = bounds_reply(alloc, number, warehouse.schema(), warehouse.dict(), &class)?;
     Ok(Reply::Long(reply))
 }

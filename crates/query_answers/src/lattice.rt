@@ -9,85 +9,92 @@ ghost use Rattle.query_script.specs.Commands.{IsCellField, IsMeasured};
 ghost use Rattle.quotient_lattice.specs.Told.{told_nodes};
 ghost use Rattle.reply_text.specs.Words.{reply_bytes};
 ghost use Rattle.value_dict.specs.Told.{told_cell};
-ghost use Rattle.query_answers.specs.Queries.{IsTreeOfRows, ask_of, cell_asked};
+ghost use Rattle.query_answers.specs.Queries.{IsSource, ask_of, cell_asked};
 ghost use Rattle.query_answers.specs.Lattice.{followed, parented, rolled, upper_of, uppers_text};
 ghost use Rattle.warehouse.specs.State.{HasTree, with_rows};
 
 use crate::iceberg::scale_of_kind;
-use aggregates::{AggKind, Fraction};
+use crate::source::{Condition, Source};
 use cell_core::{Fields, Memory, NodeNo, Steps};
-use iceberg_query::{Ask, Bound};
+use iceberg_query::Ask;
 use qc_arena::Nodes;
 use quotient_lattice::{children, classes_alone, parents, rollup};
 use reply_text::{Reply, iceberg_reply, none};
 use std::alloc::Global;
 use std::sync::ledger::Ledger;
 use tree_search::find;
-use warehouse::Warehouse;
 
 // The node of the class of the fields' cell. None if the cell covers no row.
 fn upper_asked<T: Nodes, L: Ledger>(
-    warehouse: &Warehouse,
-    tree: &T,
+    source: &Source<T>,
     asked: &Fields,
     steps: &mut Steps<L>,
 ) -> Option<NodeNo>
-    requires dims { length asked.now ≡ length warehouse.now.state.schema.dims }
+    requires dims { length asked.now ≡ length source.now.warehouse.now.state.schema.dims }
     requires point { All IsCellField asked.now }
-    requires rows { IsTreeOfRows warehouse.now (T.width tree.now) (T.tree tree.now) }
-    ensures class { IfSome result (λ node. IsSome (record_at (T.tree tree.now) node.0).class) }
-    ensures upper { (rows : List (Row Text)) → HasTree (with_rows warehouse.now.state rows) (T.tree tree.now) →
-        option_map (λ node. told_cell warehouse.now.state.texts (record_at (T.tree tree.now) node.0).cell) result
-        ≡ upper_of (with_rows warehouse.now.state rows) (cell_asked asked.now) }
+    requires source { IsSource source.now.warehouse.now (T.width source.now.tree.now)
+        (T.tree source.now.tree.now) source.now.index.now }
+    ensures class { IfSome result (λ node.
+        IsSome (record_at (T.tree source.now.tree.now) node.0).class) }
+    ensures upper { (rows : List (Row Text)) →
+        HasTree (with_rows source.now.warehouse.now.state rows) (T.tree source.now.tree.now) →
+        option_map (λ node. told_cell source.now.warehouse.now.state.texts
+        (record_at (T.tree source.now.tree.now) node.0).cell) result
+        ≡ upper_of (with_rows source.now.warehouse.now.state rows) (cell_asked asked.now) }
 {
-    let Some(cell) = warehouse.dict().cell_of(asked) else {
+    let Some(cell) = source.warehouse.dict().cell_of(asked) else {
         return None;
     };
-    find(tree, &cell, steps)
+    find(source.tree, &cell, steps)
 }
 
 // Reports the classes of some nodes.
 fn told_reply<T: Nodes, L: Ledger>(
     alloc: Global,
-    warehouse: &Warehouse,
-    tree: &T,
+    source: &Source<T>,
     number: u32,
     nodes: &[NodeNo],
     steps: &mut Steps<L>,
 ) -> Result<Reply, Memory>
-    requires classes { All (λ node. IsSome (record_at (T.tree tree.now) node.0).class) nodes.now }
-    requires rows { IsTreeOfRows warehouse.now (T.width tree.now) (T.tree tree.now) }
-    ensures { (rows : List (Row Text)) → HasTree (with_rows warehouse.now.state rows) (T.tree tree.now) →
+    requires classes { All (λ node.
+        IsSome (record_at (T.tree source.now.tree.now) node.0).class) nodes.now }
+    requires source { IsSource source.now.warehouse.now (T.width source.now.tree.now)
+        (T.tree source.now.tree.now) source.now.index.now }
+    ensures { (rows : List (Row Text)) →
+        HasTree (with_rows source.now.warehouse.now.state rows) (T.tree source.now.tree.now) →
         IfOk result (λ reply. reply_bytes reply
-        ≡ uppers_text (with_rows warehouse.now.state rows) number (told_nodes warehouse.now.state.texts (T.tree tree.now) nodes.now)) }
+        ≡ uppers_text (with_rows source.now.warehouse.now.state rows) number
+        (told_nodes source.now.warehouse.now.state.texts (T.tree source.now.tree.now) nodes.now)) }
 {
-    let dict = warehouse.dict();
+    let dict = source.warehouse.dict();
     let _dims = dict.dims();
-    let classes = classes_alone(alloc, tree, nodes, steps)?;
-    let reply = iceberg_reply(alloc, number, warehouse.schema(), dict, &classes)?;
+    let classes = classes_alone(alloc, source.tree, nodes, steps)?;
+    let reply = iceberg_reply(alloc, number, source.warehouse.schema(), dict, &classes)?;
     Ok(Reply::Long(reply))
 }
 
 /// Reports the parents of the class of a cell, which has Any or a value in each dimension.
 pub fn answer_parents<T: Nodes, L: Ledger>(
     alloc: Global,
-    warehouse: &Warehouse,
-    tree: &T,
+    source: &Source<T>,
     number: u32,
     asked: &Fields,
     steps: &mut Steps<L>,
 ) -> Result<Reply, Memory>
-    requires dims { length asked.now ≡ length warehouse.now.state.schema.dims }
+    requires dims { length asked.now ≡ length source.now.warehouse.now.state.schema.dims }
     requires point { All IsCellField asked.now }
-    requires rows { IsTreeOfRows warehouse.now (T.width tree.now) (T.tree tree.now) }
-    ensures { (rows : List (Row Text)) → HasTree (with_rows warehouse.now.state rows) (T.tree tree.now) →
-        IfOk result (λ reply. reply_bytes reply ≡ parented (with_rows warehouse.now.state rows) number (cell_asked asked.now)) }
+    requires source { IsSource source.now.warehouse.now (T.width source.now.tree.now)
+        (T.tree source.now.tree.now) source.now.index.now }
+    ensures { (rows : List (Row Text)) →
+        HasTree (with_rows source.now.warehouse.now.state rows) (T.tree source.now.tree.now) →
+        IfOk result (λ reply. reply_bytes reply
+        ≡ parented (with_rows source.now.warehouse.now.state rows) number (cell_asked asked.now)) }
 {
-    let Some(node) = upper_asked(warehouse, tree, asked, steps) else {
+    let Some(node) = upper_asked(source, asked, steps) else {
         return Ok(Reply::Short(none(number)));
     };
-    match parents(alloc, tree, warehouse.dict(), node, steps) {
-        Ok(nodes) => told_reply(alloc, warehouse, tree, number, &nodes, steps),
+    match parents(alloc, source.tree, source.warehouse.dict(), node, steps) {
+        Ok(nodes) => told_reply(alloc, source, number, &nodes, steps),
         Err(error) => Err(error),
     }
 }
@@ -95,23 +102,25 @@ pub fn answer_parents<T: Nodes, L: Ledger>(
 /// Reports the children of the class of a cell, which has Any or a value in each dimension.
 pub fn answer_children<T: Nodes, L: Ledger>(
     alloc: Global,
-    warehouse: &Warehouse,
-    tree: &T,
+    source: &Source<T>,
     number: u32,
     asked: &Fields,
     steps: &mut Steps<L>,
 ) -> Result<Reply, Memory>
-    requires dims { length asked.now ≡ length warehouse.now.state.schema.dims }
+    requires dims { length asked.now ≡ length source.now.warehouse.now.state.schema.dims }
     requires point { All IsCellField asked.now }
-    requires rows { IsTreeOfRows warehouse.now (T.width tree.now) (T.tree tree.now) }
-    ensures { (rows : List (Row Text)) → HasTree (with_rows warehouse.now.state rows) (T.tree tree.now) →
-        IfOk result (λ reply. reply_bytes reply ≡ followed (with_rows warehouse.now.state rows) number (cell_asked asked.now)) }
+    requires source { IsSource source.now.warehouse.now (T.width source.now.tree.now)
+        (T.tree source.now.tree.now) source.now.index.now }
+    ensures { (rows : List (Row Text)) →
+        HasTree (with_rows source.now.warehouse.now.state rows) (T.tree source.now.tree.now) →
+        IfOk result (λ reply. reply_bytes reply
+        ≡ followed (with_rows source.now.warehouse.now.state rows) number (cell_asked asked.now)) }
 {
-    let Some(node) = upper_asked(warehouse, tree, asked, steps) else {
+    let Some(node) = upper_asked(source, asked, steps) else {
         return Ok(Reply::Short(none(number)));
     };
-    match children(alloc, tree, warehouse.dict(), node, steps) {
-        Ok(nodes) => told_reply(alloc, warehouse, tree, number, &nodes, steps),
+    match children(alloc, source.tree, source.warehouse.dict(), node, steps) {
+        Ok(nodes) => told_reply(alloc, source, number, &nodes, steps),
         Err(error) => Err(error),
     }
 }
@@ -121,35 +130,44 @@ pub fn answer_children<T: Nodes, L: Ledger>(
 /// The cell has Any or a value in each dimension.
 pub fn answer_rollup<T: Nodes, L: Ledger>(
     alloc: Global,
-    warehouse: &Warehouse,
-    tree: &T,
+    source: &Source<T>,
     number: u32,
-    kind: AggKind,
-    bound: Bound,
-    value: Fraction,
+    condition: Condition,
     asked: &Fields,
     steps: &mut Steps<L>,
 ) -> Result<Reply, Memory>
-    requires measured { IsMeasured (length warehouse.now.state.schema.measures) (kind_in kind) }
-    requires dims { length asked.now ≡ length warehouse.now.state.schema.dims }
+    requires measured { IsMeasured (length source.now.warehouse.now.state.schema.measures)
+        (kind_in condition.kind) }
+    requires dims { length asked.now ≡ length source.now.warehouse.now.state.schema.dims }
     requires point { All IsCellField asked.now }
-    requires rows { IsTreeOfRows warehouse.now (T.width tree.now) (T.tree tree.now) }
-    ensures { (rows : List (Row Text)) → HasTree (with_rows warehouse.now.state rows) (T.tree tree.now) →
+    requires source { IsSource source.now.warehouse.now (T.width source.now.tree.now)
+        (T.tree source.now.tree.now) source.now.index.now }
+    ensures { (rows : List (Row Text)) →
+        HasTree (with_rows source.now.warehouse.now.state rows) (T.tree source.now.tree.now) →
         IfOk result (λ reply. reply_bytes reply
-        ≡ rolled (with_rows warehouse.now.state rows) number
-        (ask_of warehouse.now.state.schema.measures (kind_in kind) (bound_in bound) (fraction_in value)) (cell_asked asked.now)) }
+        ≡ rolled (with_rows source.now.warehouse.now.state rows) number
+        (ask_of source.now.warehouse.now.state.schema.measures
+        (kind_in condition.kind) (bound_in condition.bound) (fraction_in condition.value))
+        (cell_asked asked.now)) }
 {
-    let Some(node) = upper_asked(warehouse, tree, asked, steps) else {
+    let Some(node) = upper_asked(source, asked, steps) else {
         return Ok(Reply::Short(none(number)));
     };
     let ask = Ask {
-        kind,
-        scale: scale_of_kind(warehouse.schema(), kind),
-        bound,
-        value,
+        kind: condition.kind,
+        scale: scale_of_kind(source.warehouse.schema(), condition.kind),
+        bound: condition.bound,
+        value: condition.value,
     };
-    match rollup(alloc, tree, warehouse.dict(), node, &ask, steps) {
-        Ok(nodes) => told_reply(alloc, warehouse, tree, number, &nodes, steps),
+    match rollup(
+        alloc,
+        source.tree,
+        source.warehouse.dict(),
+        node,
+        &ask,
+        steps,
+    ) {
+        Ok(nodes) => told_reply(alloc, source, number, &nodes, steps),
         Err(error) => Err(error),
     }
 }

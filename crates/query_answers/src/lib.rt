@@ -8,6 +8,7 @@ mod lattice;
 mod point;
 mod query;
 mod range;
+mod source;
 
 pub use bounds::answer_bounds;
 pub use iceberg::{answer_iceberg, empty_index};
@@ -15,3 +16,4 @@ pub use lattice::{answer_children, answer_parents, answer_rollup};
 pub use point::{answer_coded, answer_point};
 pub use query::{answer_now, answer_query};
 pub use range::answer_range;
+pub use source::{Condition, Source};

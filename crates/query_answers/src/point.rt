@@ -8,12 +8,13 @@ ghost use Rattle.cube_laws.specs.Total.{agg_at};
 ghost use Rattle.query_script.specs.Commands.{IsCellField, command_in};
 ghost use Rattle.query_script.specs.Queries.{Point};
 ghost use Rattle.query_script.specs.Questions.{Ask};
-ghost use Rattle.query_answers.specs.Queries.{IsTreeOfRows, cell_asked, pointed};
+ghost use Rattle.query_answers.specs.Queries.{IsSource, cell_asked, pointed};
 ghost use Rattle.reply_text.specs.Replies.{none_text, point_text};
 ghost use Rattle.reply_text.specs.Words.{reply_bytes};
 ghost use Rattle.value_dict.specs.Told.{HasTexts, told_cell};
 ghost use Rattle.warehouse.specs.State.{HasTree, with_rows};
 
+use crate::source::Source;
 use aggregates::Agg;
 use cell_core::{Cell, Fields, Memory, Steps};
 use qc_arena::Nodes;
@@ -26,23 +27,29 @@ use warehouse::Warehouse;
 
 // The fields' cell in codes, and its aggregate. None if it covers no row.
 fn total_asked<T: Nodes, L: Ledger>(
-    warehouse: &Warehouse,
-    tree: &T,
+    source: &Source<T>,
     asked: &Fields,
     steps: &mut Steps<L>,
 ) -> Option<(Cell, Agg)>
-    requires dims { length asked.now ≡ length warehouse.now.state.schema.dims }
+    requires dims { length asked.now ≡ length source.now.warehouse.now.state.schema.dims }
     requires point { All IsCellField asked.now }
-    requires rows { IsTreeOfRows warehouse.now (T.width tree.now) (T.tree tree.now) }
-    ensures value { (rows : List (Row Text)) → HasTree (with_rows warehouse.now.state rows) (T.tree tree.now) → option_map (λ found. agg_in found.1) result
-        ≡ agg_at text_eq (length warehouse.now.state.schema.measures) rows (cell_asked asked.now) }
-    ensures measures { IfSome result (λ found. length (agg_in found.1).parts ≡ length warehouse.now.state.schema.measures) }
-    ensures told { IfSome result (λ found. told_cell warehouse.now.state.texts found.0 ≡ cell_asked asked.now) }
-    ensures texts { IfSome result (λ found. HasTexts warehouse.now.state.texts found.0) }
-    ensures steps { steps.new ≤ steps.old + (2 * length warehouse.now.state.schema.dims + 3) }
+    requires source { IsSource source.now.warehouse.now (T.width source.now.tree.now)
+        (T.tree source.now.tree.now) source.now.index.now }
+    ensures value { (rows : List (Row Text)) →
+        HasTree (with_rows source.now.warehouse.now.state rows) (T.tree source.now.tree.now) →
+        option_map (λ found. agg_in found.1) result
+        ≡ agg_at text_eq (length source.now.warehouse.now.state.schema.measures) rows
+        (cell_asked asked.now) }
+    ensures measures { IfSome result (λ found.
+        length (agg_in found.1).parts ≡ length source.now.warehouse.now.state.schema.measures) }
+    ensures told { IfSome result (λ found.
+        told_cell source.now.warehouse.now.state.texts found.0 ≡ cell_asked asked.now) }
+    ensures texts { IfSome result (λ found. HasTexts source.now.warehouse.now.state.texts found.0) }
+    ensures steps { steps.new
+        ≤ steps.old + (2 * length source.now.warehouse.now.state.schema.dims + 3) }
 {
-    let cell = warehouse.dict().cell_of(asked)?;
-    let total = total_at(tree, &cell, steps)?;
+    let cell = source.warehouse.dict().cell_of(asked)?;
+    let total = total_at(source.tree, &cell, steps)?;
     Some((cell, total))
 }
 
@@ -50,27 +57,30 @@ fn total_asked<T: Nodes, L: Ledger>(
 /// 2n + 3 steps.
 pub fn answer_point<T: Nodes, L: Ledger>(
     alloc: Global,
-    warehouse: &Warehouse,
-    tree: &T,
+    source: &Source<T>,
     number: u32,
     asked: &Fields,
     steps: &mut Steps<L>,
 ) -> Result<Reply, Memory>
-    requires dims { length asked.now ≡ length warehouse.now.state.schema.dims }
+    requires dims { length asked.now ≡ length source.now.warehouse.now.state.schema.dims }
     requires point { All IsCellField asked.now }
-    requires rows { IsTreeOfRows warehouse.now (T.width tree.now) (T.tree tree.now) }
-    ensures reply { (rows : List (Row Text)) → HasTree (with_rows warehouse.now.state rows) (T.tree tree.now) →
-        IfOk result (λ reply. reply_bytes reply ≡ pointed (with_rows warehouse.now.state rows) number (cell_asked asked.now)) }
-    ensures steps { steps.new ≤ steps.old + (2 * length warehouse.now.state.schema.dims + 3) }
+    requires source { IsSource source.now.warehouse.now (T.width source.now.tree.now)
+        (T.tree source.now.tree.now) source.now.index.now }
+    ensures reply { (rows : List (Row Text)) →
+        HasTree (with_rows source.now.warehouse.now.state rows) (T.tree source.now.tree.now) →
+        IfOk result (λ reply. reply_bytes reply
+        ≡ pointed (with_rows source.now.warehouse.now.state rows) number (cell_asked asked.now)) }
+    ensures steps { steps.new
+        ≤ steps.old + (2 * length source.now.warehouse.now.state.schema.dims + 3) }
 {
-    let Some((cell, total)) = total_asked(warehouse, tree, asked, steps) else {
+    let Some((cell, total)) = total_asked(source, asked, steps) else {
         return Ok(Reply::Short(none(number)));
     };
     let reply = point_reply(
         alloc,
         number,
-        warehouse.schema(),
-        warehouse.dict(),
+        source.warehouse.schema(),
+        source.warehouse.dict(),
         &cell,
         &total,
     )?;

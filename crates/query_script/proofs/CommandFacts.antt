@@ -1,5 +1,5 @@
 -- Lines as commands.
-use Rattle.std.proofs.Common.{Option, ◌<◌, ◌≤◌, ◌+◌, Some, None, ◌≡◌, ℕ, List, [], ◌∷◌, length, refl, arith, Ok, Err, true, false, Bool, cond, IsUtf8}
+use Rattle.std.proofs.Common.{Option, ◌<◌, ◌≤◌, ◌+◌, Some, None, ◌≡◌, ℕ, List, [], ◌∷◌, length, refl, arith, Ok, Err, true, false, Bool, cond, IsUtf8, ◌⊎◌, inl, inr}
 use Rattle.std.specs.Prelude.{◌&&◌, ◌||◌, All, Result, IfOk, codes, nat_le, nat_lt}
 use Rattle.std.specs.Str.{bytes_eq, is_utf8}
 use Rattle.std.proofs.lemmas.Str.{IsUtf8-from_is_utf8, is_utf8-from_IsUtf8}
@@ -14,7 +14,7 @@ use Rattle.cell_core.specs.Gives.{Gives}
 use Rattle.query_script.specs.Faults.{LineFault, line_fault_in}
 use Rattle.query_script.specs.Lines.{may_want_memory, names_more, names_query, rest_of, stats_line, word_of}
 use Rattle.query_script.specs.Commands.{IsCellField, IsMeasured, IsQuery, IsQuestion, asked_with, at_in, command_in, command_named, is_pin_name, name_in, pin_name_in, query_in_line, query_named, record_in, wants_memory}
-use Rattle.query_script.specs.Icebergs.{bound_at, bound_named, iceberg_in, iceberg_of, makes, value_at, with_aggregate, with_bound, with_measure, with_value}
+use Rattle.query_script.specs.Icebergs.{bound_at, bound_named, iceberg_of, makes, value_at, with_aggregate, with_bound, with_measure, with_value}
 use Rattle.query_script.specs.Queries as queries
 use Rattle.query_script.specs.Queries.{Query}
 use Rattle.query_script.specs.Questions.{Apply, Ask, At, Load, Pin, Question, Try, Unpin, Widen, question_in}
@@ -164,28 +164,41 @@ widened-is layout rest q e = by (is_new_name layout (word_of rest)) (has_value r
 
 -- ---- queries
 
--- the words of the queries, each with what it asks
-abbrev Queried : Layout → List ℕ → (point range bounds iceberg parents children rollup : Bool) → Result Query LineFault
-Queried layout rest point range bounds iceberg parents children rollup =
-    cond point (asked_with queries.Point (record_in shapes.Cell (length layout.dims) rest)) (cond range (asked_with queries.Range (record_in shapes.Box (length layout.dims) rest))
-    (cond bounds (asked_with queries.Bounds (record_in shapes.Cell (length layout.dims) rest)) (cond iceberg (iceberg_in layout rest)
-    (cond parents (asked_with queries.Parents (record_in shapes.Cell (length layout.dims) rest)) (cond children (asked_with queries.Children (record_in shapes.Cell (length layout.dims) rest)) (cond rollup (rollup_in layout rest)
-    (Err faults.Command)))))))
+-- what follows from either outcome of a test
+by_test : {X E P : Type 0} (b : Bool) {asked other : Result X E} {x : X} → cond b asked other ≡ Ok x → (asked ≡ Ok x → P) → (other ≡ Ok x → P) → P
+by_test true e holds fails = holds e
+by_test false e holds fails = fails e
 
+-- one of the tests so far holds, or the outcome is what follows them
+next_test : {X E : Type 0} (so_far b : Bool) (asked other : Result X E) {x : X} → (so_far ≡ true) ⊎ (cond b asked other ≡ Ok x) → ((so_far || b) ≡ true) ⊎ (other ≡ Ok x)
+next_test true b asked other h = inl refl
+next_test false true asked other h = inl refl
+next_test false false asked other (inl h) = absurd (cc h)
+next_test false false asked other (inr e) = inr e
+
+last_test : {X E : Type 0} (so_far last : Bool) (other : Result X E) {x : X} → (so_far ≡ true) ⊎ (other ≡ Ok x) → (other ≡ Ok x → last ≡ true) → (so_far || last) ≡ true
+last_test true last other h then = refl
+last_test false last other (inl h) then = absurd (cc h)
+last_test false last other (inr e) then = then e
+
+some_test : {X E : Type 0} (b : Bool) (fault : E) {x : X} → (b ≡ true) ⊎ (◌≡◌ {A = Result X E} (Err fault) (Ok x)) → b ≡ true
+some_test b fault (inl h) = h
+some_test b fault (inr e) = absurd (cc e)
+
+-- each word in turn: what it asks of what follows it
 query-is : (layout : Layout) (word : Text) (rest : List ℕ) (q : Query) → query_named layout word rest ≡ Ok q → IsQuery layout q
 query-is layout word rest q e =
-    by (bytes_eq word (codes "point")) (bytes_eq word (codes "range")) (bytes_eq word (codes "bounds")) (bytes_eq word (codes "iceberg"))
-    (bytes_eq word (codes "parents")) (bytes_eq word (codes "children")) (bytes_eq word (codes "rollup")) e
-  where
-    by : (point range bounds iceberg parents children rollup : Bool) → Queried layout rest point range bounds iceberg parents children rollup ≡ Ok q → IsQuery layout q
-    by true range bounds iceberg parents children rollup m = fields-are layout (record_in shapes.Cell (length layout.dims) rest) queries.Point q (cell-fields (length layout.dims) rest) m
-    by false true bounds iceberg parents children rollup m = fields-are layout (record_in shapes.Box (length layout.dims) rest) queries.Range q (box-fields (length layout.dims) rest) m
-    by false false true iceberg parents children rollup m = fields-are layout (record_in shapes.Cell (length layout.dims) rest) queries.Bounds q (cell-fields (length layout.dims) rest) m
-    by false false false true parents children rollup m = iceberg-is layout (words_of rest) q m
-    by false false false false true children rollup m = fields-are layout (record_in shapes.Cell (length layout.dims) rest) queries.Parents q (cell-fields (length layout.dims) rest) m
-    by false false false false false true rollup m = fields-are layout (record_in shapes.Cell (length layout.dims) rest) queries.Children q (cell-fields (length layout.dims) rest) m
-    by false false false false false false true m = rollup-is layout rest q m
-    by false false false false false false false m = absurd (cc m)
+    let cell = record_in shapes.Cell (length layout.dims) rest in
+    let box = record_in shapes.Box (length layout.dims) rest in
+    let is_cell = cell-fields (length layout.dims) rest in
+    let is_box = box-fields (length layout.dims) rest in
+    by_test (bytes_eq word (codes "point")) e (fields-are layout cell queries.Point q is_cell) (λ e.
+    by_test (bytes_eq word (codes "range")) e (fields-are layout box queries.Range q is_box) (λ e.
+    by_test (bytes_eq word (codes "bounds")) e (fields-are layout cell queries.Bounds q is_cell) (λ e.
+    by_test (bytes_eq word (codes "iceberg")) e (iceberg-is layout (words_of rest) q) (λ e.
+    by_test (bytes_eq word (codes "parents")) e (fields-are layout cell queries.Parents q is_cell) (λ e.
+    by_test (bytes_eq word (codes "children")) e (fields-are layout cell queries.Children q is_cell) (λ e.
+    by_test (bytes_eq word (codes "rollup")) e (rollup-is layout rest q) (λ e. absurd (cc e))))))))
 
 query-line : (layout : Layout) (line : List ℕ) (q : Query) → query_in_line layout line ≡ Ok q → IsQuery layout q
 query-line layout line q e = by (bytes_eq line stats_line) e
@@ -218,27 +231,16 @@ at-is layout rest q e = by (is_pin_name (word_of rest)) refl e
 
 -- ---- each word
 
--- the words of the commands that name something behind them, each with what it asks
-abbrev Named : Layout → Text → List ℕ → (load apply tried widen pin unpin at : Bool) → Result Question LineFault
-Named layout word rest load apply tried widen pin unpin at =
-    cond load (asked_with Load (name_in rest)) (cond apply (asked_with Apply (name_in rest)) (cond tried (asked_with Try (name_in rest))
-    (cond widen (widen_in layout rest) (cond pin (asked_with Pin (pin_name_in rest)) (cond unpin (asked_with Unpin (pin_name_in rest)) (cond at (at_in layout rest)
-    (asked_with Ask (query_named layout word rest))))))))
-
 named-is : (layout : Layout) (word : Text) (rest : List ℕ) (q : Question) → command_named layout word rest ≡ Ok q → IsQuestion layout q
 named-is layout word rest q e =
-    by (bytes_eq word (codes "load")) (bytes_eq word (codes "apply")) (bytes_eq word (codes "try")) (bytes_eq word (codes "widen"))
-    (bytes_eq word (codes "pin")) (bytes_eq word (codes "unpin")) (bytes_eq word (codes "at")) e
-  where
-    by : (load apply tried widen pin unpin at : Bool) → Named layout word rest load apply tried widen pin unpin at ≡ Ok q → IsQuestion layout q
-    by true apply tried widen pin unpin at m = file-is layout rest Load q (λ b bs. omega arith) m
-    by false true tried widen pin unpin at m = file-is layout rest Apply q (λ b bs. omega arith) m
-    by false false true widen pin unpin at m = file-is layout rest Try q (λ b bs. omega arith) m
-    by false false false true pin unpin at m = widened-is layout rest q m
-    by false false false false true unpin at m = pin-is layout rest Pin q (λ n. n) m
-    by false false false false false true at m = pin-is layout rest Unpin q (λ n. n) m
-    by false false false false false false true m = at-is layout rest q m
-    by false false false false false false false m = asked-is layout (query_named layout word rest) Ask q (λ query e. query-is layout word rest query e) m
+    by_test (bytes_eq word (codes "load")) e (file-is layout rest Load q (λ b bs. omega arith)) (λ e.
+    by_test (bytes_eq word (codes "apply")) e (file-is layout rest Apply q (λ b bs. omega arith)) (λ e.
+    by_test (bytes_eq word (codes "try")) e (file-is layout rest Try q (λ b bs. omega arith)) (λ e.
+    by_test (bytes_eq word (codes "widen")) e (widened-is layout rest q) (λ e.
+    by_test (bytes_eq word (codes "pin")) e (pin-is layout rest Pin q (λ n. n)) (λ e.
+    by_test (bytes_eq word (codes "unpin")) e (pin-is layout rest Unpin q (λ n. n)) (λ e.
+    by_test (bytes_eq word (codes "at")) e (at-is layout rest q) (λ e.
+    asked-is layout (query_named layout word rest) Ask q (query-is layout word rest) e)))))))
 
 pub line-is : (layout : Layout) (line : List ℕ) (r : Result Command LineRefused) → Gives line_fault_in question_in r (command_in layout line) → IfOk r (λ command. IsQuestion layout (question_in command))
 line-is layout line (Err refused) h = tt
@@ -253,18 +255,14 @@ line-is layout line (Ok command) h = by (is_utf8 line) (bytes_eq line stats_line
 
 query-wants : (layout : Layout) (word : Text) (rest : List ℕ) (q : Query) → query_named layout word rest ≡ Ok q → names_query word ≡ true
 query-wants layout word rest q e =
-    by (bytes_eq word (codes "point")) (bytes_eq word (codes "range")) (bytes_eq word (codes "bounds")) (bytes_eq word (codes "iceberg"))
-    (bytes_eq word (codes "parents")) (bytes_eq word (codes "children")) (bytes_eq word (codes "rollup")) e
-  where
-    by : (point range bounds iceberg parents children rollup : Bool) → Queried layout rest point range bounds iceberg parents children rollup ≡ Ok q → (point || range || bounds || iceberg || parents || children || rollup) ≡ true
-    by true range bounds iceberg parents children rollup m = refl
-    by false true bounds iceberg parents children rollup m = refl
-    by false false true iceberg parents children rollup m = refl
-    by false false false true parents children rollup m = refl
-    by false false false false true children rollup m = refl
-    by false false false false false true rollup m = refl
-    by false false false false false false true m = refl
-    by false false false false false false false m = absurd (cc m)
+    let e = next_test false (bytes_eq word (codes "point")) _ _ (inr e) in
+    let e = next_test _ (bytes_eq word (codes "range")) _ _ e in
+    let e = next_test _ (bytes_eq word (codes "bounds")) _ _ e in
+    let e = next_test _ (bytes_eq word (codes "iceberg")) _ _ e in
+    let e = next_test _ (bytes_eq word (codes "parents")) _ _ e in
+    let e = next_test _ (bytes_eq word (codes "children")) _ _ e in
+    let e = next_test _ (bytes_eq word (codes "rollup")) _ _ e in
+    some_test _ faults.Command e
 
 present-wants : (layout : Layout) (word : Text) (rest : List ℕ) (read : Result Query LineFault) (q : Question) → query_named layout word rest ≡ read → asked_with Ask read ≡ Ok q → names_query word ≡ true
 present-wants layout word rest (Err fault) q e m = absurd (cc m)
@@ -272,18 +270,14 @@ present-wants layout word rest (Ok query) q e m = query-wants layout word rest q
 
 named-wants : (layout : Layout) (word : Text) (rest : List ℕ) (q : Question) → command_named layout word rest ≡ Ok q → names_more word ≡ true
 named-wants layout word rest q e =
-    by (bytes_eq word (codes "load")) (bytes_eq word (codes "apply")) (bytes_eq word (codes "try")) (bytes_eq word (codes "widen"))
-    (bytes_eq word (codes "pin")) (bytes_eq word (codes "unpin")) (bytes_eq word (codes "at")) e
-  where
-    by : (load apply tried widen pin unpin at : Bool) → Named layout word rest load apply tried widen pin unpin at ≡ Ok q → (load || apply || tried || widen || pin || unpin || at || names_query word) ≡ true
-    by true apply tried widen pin unpin at m = refl
-    by false true tried widen pin unpin at m = refl
-    by false false true widen pin unpin at m = refl
-    by false false false true pin unpin at m = refl
-    by false false false false true unpin at m = refl
-    by false false false false false true at m = refl
-    by false false false false false false true m = refl
-    by false false false false false false false m = present-wants layout word rest (query_named layout word rest) q refl m
+    let e = next_test false (bytes_eq word (codes "load")) _ _ (inr e) in
+    let e = next_test _ (bytes_eq word (codes "apply")) _ _ e in
+    let e = next_test _ (bytes_eq word (codes "try")) _ _ e in
+    let e = next_test _ (bytes_eq word (codes "widen")) _ _ e in
+    let e = next_test _ (bytes_eq word (codes "pin")) _ _ e in
+    let e = next_test _ (bytes_eq word (codes "unpin")) _ _ e in
+    let e = next_test _ (bytes_eq word (codes "at")) _ _ e in
+    last_test _ (names_query word) _ e (present-wants layout word rest (query_named layout word rest) q refl)
 
 line-wants : (layout : Layout) (line : List ℕ) (q : Question) → command_in layout line ≡ Ok q → wants_memory q ≡ true → may_want_memory line ≡ true
 line-wants layout line q h wants = by (is_utf8 line) (bytes_eq line stats_line) h

@@ -83,39 +83,6 @@ fn read_name(alloc: Global, rest: &str) -> Result<Text, LineRefused>
     Ok(Text::new(alloc, rest)?)
 }
 
-// What is done with a file.
-#[derive(Clone, Copy)]
-enum OfFile {
-    Load,
-    Apply,
-    Try,
-}
-
-ghost use Rattle.query_script.specs.Makes.{question_of_file};
-
-impl OfFile {
-    // The command that does it with the file of this name.
-    fn command(self, name: Text) -> Command
-        ensures { question_in result ≡ question_of_file self name }
-    {
-        match self {
-            OfFile::Load => Command::Load(name),
-            OfFile::Apply => Command::Apply(name),
-            OfFile::Try => Command::Try(name),
-        }
-    }
-}
-
-// The command of the file whose name follows its word.
-fn read_of_file(alloc: Global, of: OfFile, rest: &str) -> Result<Command, LineRefused>
-    ensures { Gives line_fault_in question_in result (asked_with (question_of_file of) (name_in rest.now)) }
-{
-    match read_name(alloc, rest) {
-        Ok(name) => Ok(of.command(name)),
-        Err(cause) => Err(cause),
-    }
-}
-
 // The command that asks a query of the present rows.
 fn read_asked(
     alloc: Global,
@@ -152,9 +119,9 @@ fn read_command(
     ensures memory { IfErr result (λ e. e ≡ LineRefused.Memory → names_more word.now ≡ true) }
 {
     match word {
-        "load" => read_of_file(alloc, OfFile::Load, rest),
-        "apply" => read_of_file(alloc, OfFile::Apply, rest),
-        "try" => read_of_file(alloc, OfFile::Try, rest),
+        "load" => read_name(alloc, rest).map(Command::Load),
+        "apply" => read_name(alloc, rest).map(Command::Apply),
+        "try" => read_name(alloc, rest).map(Command::Try),
         "widen" => read_widen(alloc, schema, rest),
         "pin" => read_pin(alloc, rest),
         "unpin" => read_unpin(alloc, rest),
@@ -169,14 +136,14 @@ fn read_command(
 /// The line `stats` is just that word. Else the first word runs to the first space. After `load`,
 /// `apply` and `try` follows the name of a file, which may hold spaces.
 ///
-/// After `point`, `bounds`, `parents`, `children` and `range` follow fields as in a CSV file. `*`
-/// is Any, `=` stands before a value of any bytes, and each other field is that value. In a `range`
-/// a field may also be `?` for each value, or a list of values with `|` before each. Two texts with
-/// `~` before each stand for the values from the one to the other, by their bytes.
+/// After the word of a query follow fields as in a CSV file. `*` is Any, `=` stands before a value
+/// of any bytes, and each other field is that value. In a `range` a field may also be `?` for each
+/// value, or a list of values with `|` before each. Two texts with `~` before each stand for the
+/// values from the one to the other, by their bytes.
 ///
-/// After `iceberg` follow words: an aggregate (`count`, `sum`, `least`, `greatest` or `mean`), its
-/// measure but for `count`, `>=` or `<=`, and a number. After `rollup` follow these words, each up
-/// to one space, and then fields as for `point`.
+/// After `iceberg` follow words instead: an aggregate (`count`, `sum`, `least`, `greatest` or
+/// `mean`), its measure but for `count`, `>=` or `<=`, and a number. After `rollup` follow these
+/// words, each up to one space, and then fields as for `point`.
 ///
 /// After `widen` follows a name that no column of the schema has, up to one space, and then a value
 /// of at most 255 bytes. After `pin` and `unpin` follows a name: a letter, and then letters, digits

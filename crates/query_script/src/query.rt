@@ -1,7 +1,7 @@
 // Queries, and the lines that ask them.
 ghost use Rattle.std.specs.Prelude.{IfErr, length, true, ◌≡◌, ◌≤◌};
 ghost use Rattle.cell_core.specs.Gives.{Gives};
-ghost use Rattle.query_script.specs.Commands.{asked_with, query_in_line, query_named, record_in};
+ghost use Rattle.query_script.specs.Commands.{query_in_line, query_named};
 ghost use Rattle.query_script.specs.Faults.{line_fault_in};
 ghost use Rattle.query_script.specs.Lines.{names_query};
 ghost use Rattle.query_script.specs.Queries.{query_in};
@@ -40,61 +40,6 @@ pub enum Query {
     Rollup(AggKind, Bound, Fraction, Fields),
 }
 
-// The queries that have fields alone.
-#[derive(Clone, Copy)]
-enum OfFields {
-    Point,
-    Range,
-    Bounds,
-    Parents,
-    Children,
-}
-
-ghost use Rattle.query_script.specs.Makes.{query_of, shape_of};
-
-impl OfFields {
-    // What the fields may ask for together.
-    fn shape(self) -> Shape
-        ensures { result ≡ shape_of self }
-    {
-        match self {
-            OfFields::Range => Shape::Box,
-            OfFields::Point | OfFields::Bounds | OfFields::Parents | OfFields::Children => {
-                Shape::Cell
-            }
-        }
-    }
-
-    // The query of these fields.
-    fn query(self, fields: Fields) -> Query
-        ensures { query_in result ≡ query_of self fields }
-    {
-        match self {
-            OfFields::Point => Query::Point(fields),
-            OfFields::Range => Query::Range(fields),
-            OfFields::Bounds => Query::Bounds(fields),
-            OfFields::Parents => Query::Parents(fields),
-            OfFields::Children => Query::Children(fields),
-        }
-    }
-}
-
-// The query of the fields that follow its word.
-fn read_of_fields(
-    alloc: Global,
-    of: OfFields,
-    schema: &Schema,
-    rest: &str,
-) -> Result<Query, LineRefused>
-    requires { length rest.now ≤ MAX_FILE }
-    ensures { Gives line_fault_in query_in result (asked_with (query_of of) (record_in (shape_of of) (length schema.now.dims) rest.now)) }
-{
-    match read_fields(alloc, of.shape(), schema, rest) {
-        Ok(fields) => Ok(of.query(fields)),
-        Err(cause) => Err(cause),
-    }
-}
-
 /// The query of a word and what follows it.
 pub(crate) fn read_query(
     alloc: Global,
@@ -107,12 +52,12 @@ pub(crate) fn read_query(
     ensures memory { IfErr result (λ e. e ≡ LineRefused.Memory → names_query word.now ≡ true) }
 {
     match word {
-        "point" => read_of_fields(alloc, OfFields::Point, schema, rest),
-        "range" => read_of_fields(alloc, OfFields::Range, schema, rest),
-        "bounds" => read_of_fields(alloc, OfFields::Bounds, schema, rest),
+        "point" => read_fields(alloc, Shape::Cell, schema, rest).map(Query::Point),
+        "range" => read_fields(alloc, Shape::Box, schema, rest).map(Query::Range),
+        "bounds" => read_fields(alloc, Shape::Cell, schema, rest).map(Query::Bounds),
         "iceberg" => read_iceberg(schema, rest),
-        "parents" => read_of_fields(alloc, OfFields::Parents, schema, rest),
-        "children" => read_of_fields(alloc, OfFields::Children, schema, rest),
+        "parents" => read_fields(alloc, Shape::Cell, schema, rest).map(Query::Parents),
+        "children" => read_fields(alloc, Shape::Cell, schema, rest).map(Query::Children),
         "rollup" => read_rollup(alloc, schema, rest),
         _ => Err(LineRefused::Command),
     }

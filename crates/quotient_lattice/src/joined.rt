@@ -6,11 +6,11 @@ ghost use Rattle.cube_defs.specs.Tree.{cell_at};
 ghost use Rattle.tree_search.specs.Found.{IsTreeOf, IsTree, TreeRows, closure_in};
 ghost use Rattle.cells_below.specs.Closed.{IsMarkedBelow};
 ghost use Rattle.cells_below.specs.Numbers.{cell_of_number};
-ghost use Rattle.cube_laws.specs.Parts.{value_count};
+ghost use Rattle.cells_below.specs.Upper.{IsUpperBound};
 ghost use Rattle.quotient_lattice.specs.Joined.{is_most, joins};
 
 use cell_core::{Cell, NodeNo, Steps};
-use cells_below::{Marks, has, put_cell, turn};
+use cells_below::{Marks, UpperBound, has, put_cell, turn};
 use cube_defs::MAX_DIMS;
 use qc_arena::Nodes;
 use std::sync::ledger::Ledger;
@@ -46,37 +46,35 @@ fn node_of<T: Nodes, L: Ledger>(tree: &T, cell: &Cell, steps: &mut Steps<L>) -> 
     }
 }
 
-// The node of the number's cell, if that is a parent of u. All numbers are marked whose cells have
-// the closure u.
+// The node of the number's cell, if that is a parent of the class. All numbers are marked whose
+// cells are in the class.
 pub(crate) fn joined_at<T: Nodes, L: Ledger>(
-    tree: &T,
-    u: &Cell,
+    upper: &UpperBound<T>,
     marks: &Marks,
-    d: u32,
     m: u32,
     steps: &mut Steps<L>,
 ) -> Option<NodeNo>
-    requires tree { IsTree (T.width tree.now) (T.tree tree.now) }
-    requires upper { length u.now ≡ T.width tree.now }
-    requires class { (source : TreeRows) → IsTreeOf (T.width tree.now) (T.tree tree.now) source →
-        closure_in source u.now ≡ Some u.now }
-    requires values { d ≡ value_count u.now }
-    requires few { d ≤ MAX_DIMS }
-    requires number { m < 2 ^ d }
-    requires room { 2 ^ d ≤ length marks.now }
-    requires marked { (source : TreeRows) → IsTreeOf (T.width tree.now) (T.tree tree.now) source →
-        IsMarkedBelow source u.now marks.now (2 ^ d) }
-    ensures value { (source : TreeRows) → IsTreeOf (T.width tree.now) (T.tree tree.now) source →
-        option_map (λ k. cell_at (T.tree tree.now) k.0) result ≡ (if joins source u.now m then Some (Some (cell_of_number u.now m)) else None) }
-    ensures steps { steps.new ≤ steps.old + (2 * length u.now + 2) }
+    requires upper { IsUpperBound (T.width upper.now.tree.now) (T.tree upper.now.tree.now)
+        upper.now.node.0 upper.now.cell.now upper.now.values }
+    requires number { m < 2 ^ upper.now.values }
+    requires room { 2 ^ upper.now.values ≤ length marks.now }
+    requires marked { (source : TreeRows) →
+        IsTreeOf (T.width upper.now.tree.now) (T.tree upper.now.tree.now) source →
+        IsMarkedBelow source upper.now.cell.now marks.now (2 ^ upper.now.values) }
+    ensures value { (source : TreeRows) →
+        IsTreeOf (T.width upper.now.tree.now) (T.tree upper.now.tree.now) source →
+        option_map (λ k. cell_at (T.tree upper.now.tree.now) k.0) result
+        ≡ (if joins source upper.now.cell.now m then
+        Some (Some (cell_of_number upper.now.cell.now m)) else None) }
+    ensures steps { steps.new ≤ steps.old + (2 * length upper.now.cell.now + 2) }
 {
     if marks.get(m) {
         return None;
     }
-    if !most(marks, d, m) {
+    if !most(marks, upper.values, m) {
         return None;
     }
-    let mut cell = u.copy();
-    put_cell(u, m, &mut cell);
-    Some(node_of(tree, &cell, steps))
+    let mut cell = upper.cell.copy();
+    put_cell(upper.cell, m, &mut cell);
+    Some(node_of(upper.tree, &cell, steps))
 }

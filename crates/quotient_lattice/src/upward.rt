@@ -4,10 +4,11 @@ ghost use Rattle.std.specs.Ordering.{nat_cmp};
 ghost use Rattle.std.specs.Prelude.{All, IfOk, IsSome, OnOk, Some, false, true, filter, length, map, ℕ, ◌*◌, ◌+◌, ◌++◌, ◌<◌, ◌^◌, ◌≡◌, ◌≤◌};
 ghost use Rattle.cube_defs.specs.Tree.{as_list, cell_at};
 ghost use Rattle.qc_arena.specs.Seen.{record_at};
-ghost use Rattle.tree_search.specs.Found.{IsTreeOf, IsTree, TreeRows, closure_in};
+ghost use Rattle.tree_search.specs.Found.{IsTreeOf, IsTree, TreeRows};
 ghost use Rattle.cells_below.specs.Closed.{IsMarkedBelow, has_closure_in};
 ghost use Rattle.cells_below.specs.Marks.{is_marked};
 ghost use Rattle.cells_below.specs.Numbers.{cell_of_number};
+ghost use Rattle.cells_below.specs.Upper.{IsUpperBound};
 ghost use Rattle.cube_laws.specs.Parts.{value_count};
 ghost use Rattle.quotient_lattice.specs.Neighbours as lattice;
 ghost use Rattle.quotient_lattice.specs.Told.{told_nodes};
@@ -20,8 +21,7 @@ ghost use Rattle.quotient_lattice.specs.Joined.{joins};
 use crate::Memory;
 use crate::joined::joined_at;
 use cell_core::{Cell, NodeNo, Steps};
-use cells_below::{Marks, bounds_at, count_values, needed};
-use cube_defs::MAX_DIMS;
+use cells_below::{Marks, UpperBound, bounds_at, count_values, needed};
 use qc_arena::Nodes;
 use std::alloc::{AllocError, Global};
 use std::sync::ledger::Ledger;
@@ -72,68 +72,63 @@ fn parents_below<T: Nodes, L: Ledger>(
     let d = count_values(u);
     match Marks::new(alloc, 1 << d) {
         Ok(mut marks) => {
-            mark_all(tree, node, u, &mut marks, d, steps);
-            joined(alloc, tree, u, &marks, d, steps)
+            let upper = UpperBound {
+                tree,
+                node,
+                cell: u,
+                values: d,
+            };
+            mark_all(&upper, &mut marks, steps);
+            joined(alloc, &upper, &marks, steps)
         }
         Err(error) => Err(error),
     }
 }
 
-// Marks the numbers whose cells have the closure u.
-fn mark_all<T: Nodes, L: Ledger>(
-    tree: &T,
-    node: NodeNo,
-    u: &Cell,
-    marks: &mut Marks,
-    d: u32,
-    steps: &mut Steps<L>,
-)
-    requires tree { IsTree (T.width tree.now) (T.tree tree.now) }
-    requires upper { cell_at (T.tree tree.now) node.0 ≡ Some u.now }
-    requires own { (source : TreeRows) → IsTreeOf (T.width tree.now) (T.tree tree.now) source →
-        has_closure_in source u.now u.now ≡ true }
-    requires values { d ≡ value_count u.now }
-    requires few { d ≤ MAX_DIMS }
-    requires room { 2 ^ d ≤ length marks.old }
+// Marks the numbers whose cells are in the class.
+fn mark_all<T: Nodes, L: Ledger>(upper: &UpperBound<T>, marks: &mut Marks, steps: &mut Steps<L>)
+    requires upper { IsUpperBound (T.width upper.now.tree.now) (T.tree upper.now.tree.now)
+        upper.now.node.0 upper.now.cell.now upper.now.values }
+    requires room { 2 ^ upper.now.values ≤ length marks.old }
     requires none { (j : ℕ) → is_marked marks.old j ≡ false }
-    ensures marked { (source : TreeRows) → IsTreeOf (T.width tree.now) (T.tree tree.now) source →
-        IsMarkedBelow source u.now marks.new (2 ^ d) }
-    ensures room { 2 ^ d ≤ length marks.new }
-    ensures steps { steps.new ≤ steps.old + (d + 2 ^ d) * (2 * length u.now + 2) }
+    ensures marked { (source : TreeRows) →
+        IsTreeOf (T.width upper.now.tree.now) (T.tree upper.now.tree.now) source →
+        IsMarkedBelow source upper.now.cell.now marks.new (2 ^ upper.now.values) }
+    ensures room { 2 ^ upper.now.values ≤ length marks.new }
+    ensures steps { steps.new ≤ steps.old
+        + (upper.now.values + 2 ^ upper.now.values) * (2 * length upper.now.cell.now + 2) }
 {
-    let mut cell = u.copy();
-    let needed = needed(tree, node, u, d, &mut cell, steps);
-    'numbers: for m in 0..1 << d {
-        bounds_at(tree, node, u, marks, d, needed, m, &mut cell, steps);
+    let mut cell = upper.cell.copy();
+    let needed = needed(upper, &mut cell, steps);
+    'numbers: for m in 0..1 << upper.values {
+        bounds_at(upper, needed, marks, m, &mut cell, steps);
     }
 }
 
-// The nodes of the numbers that are parents of u.
+// The nodes of the numbers that are parents of the class.
 fn joined<T: Nodes, L: Ledger>(
     alloc: Global,
-    tree: &T,
-    u: &Cell,
+    upper: &UpperBound<T>,
     marks: &Marks,
-    d: u32,
     steps: &mut Steps<L>,
 ) -> Result<Vec<NodeNo>, Memory>
-    requires tree { IsTree (T.width tree.now) (T.tree tree.now) }
-    requires upper { length u.now ≡ T.width tree.now }
-    requires class { (source : TreeRows) → IsTreeOf (T.width tree.now) (T.tree tree.now) source →
-        closure_in source u.now ≡ Some u.now }
-    requires values { d ≡ value_count u.now }
-    requires few { d ≤ MAX_DIMS }
-    requires room { 2 ^ d ≤ length marks.now }
-    requires marked { (source : TreeRows) → IsTreeOf (T.width tree.now) (T.tree tree.now) source →
-        IsMarkedBelow source u.now marks.now (2 ^ d) }
-    ensures nodes { (source : TreeRows) → IsTreeOf (T.width tree.now) (T.tree tree.now) source →
-        IfOk result (λ nodes. map (λ k. cell_at (T.tree tree.now) k.0) nodes.items
-        ≡ map (λ m. Some (cell_of_number u.now m)) (filter (joins source u.now) (range_with_len 0 (2 ^ d)))) }
-    ensures steps { steps.new ≤ steps.old + 2 ^ d * (2 * length u.now + 2) }
+    requires upper { IsUpperBound (T.width upper.now.tree.now) (T.tree upper.now.tree.now)
+        upper.now.node.0 upper.now.cell.now upper.now.values }
+    requires room { 2 ^ upper.now.values ≤ length marks.now }
+    requires marked { (source : TreeRows) →
+        IsTreeOf (T.width upper.now.tree.now) (T.tree upper.now.tree.now) source →
+        IsMarkedBelow source upper.now.cell.now marks.now (2 ^ upper.now.values) }
+    ensures nodes { (source : TreeRows) →
+        IsTreeOf (T.width upper.now.tree.now) (T.tree upper.now.tree.now) source →
+        IfOk result (λ nodes. map (λ k. cell_at (T.tree upper.now.tree.now) k.0) nodes.items
+        ≡ map (λ m. Some (cell_of_number upper.now.cell.now m))
+        (filter (joins source upper.now.cell.now) (range_with_len 0 (2 ^ upper.now.values)))) }
+    ensures steps { steps.new ≤ steps.old
+        + 2 ^ upper.now.values * (2 * length upper.now.cell.now + 2) }
 {
     let mut nodes = Vec::new(alloc);
-    'numbers: for m in 0..1 << d {
-        let node = joined_at(tree, u, marks, d, m, steps);
+    'numbers: for m in 0..1 << upper.values {
+        let node = joined_at(upper, marks, m, steps);
         match push_some(&mut nodes, node) {
             Ok(()) => {}
             Err(error) => return Err(error),

@@ -7,18 +7,26 @@ use Rattle.cube_laws.specs.Parts.{value_count}
 
 pub returns-then-not-least-clause-value : goal.returns-then-not-least-clause-value
 returns-then-not-least-clause-value g c = λ source h.
-    no_bound source c.args.u.now c.args.marks.now c.args.m (subst (λ d. c.args.m < 2 ^ d) c.requires.values c.requires.number) (c.requires.below source h)
-    (subst (λ d. is_least c.args.marks.now d c.args.m ≡ false) c.requires.values (sym c.if-not-least.ensures))
+    let values = c.requires.upper.at_node.values in
+    no_bound source c.args.upper.now.cell.now c.args.marks.now c.args.m
+    (subst (λ d. c.args.m < 2 ^ d) values c.requires.number) (c.requires.below source h)
+    (subst (λ d. is_least c.args.marks.now d c.args.m ≡ false) values (sym c.if-not-least.ensures))
 
 pub returns-then-not-least-clause-below : goal.returns-then-not-least-clause-below
 returns-then-not-least-clause-below g c = λ source h.
-    let l : c.args.m < 2 ^ value_count c.args.u.now = subst (λ d. c.args.m < 2 ^ d) c.requires.values c.requires.number in
-    subst (λ marks. IsMarkedBelow source c.args.u.now marks (c.args.m + 1)) (sym c.set.ensures)
-    (marked_more source c.args.u.now c.args.marks.now c.args.m l (c.requires.below source h) (omega arith)
-    (not_least source c.args.u.now c.args.marks.now c.args.m l (c.requires.below source h) (subst (λ d. is_least c.args.marks.now d c.args.m ≡ false) c.requires.values (sym c.if-not-least.ensures))))
+    let u = c.args.upper.now.cell.now in
+    let old = c.args.marks.now in
+    let values = c.requires.upper.at_node.values in
+    let l : c.args.m < 2 ^ value_count u = subst (λ d. c.args.m < 2 ^ d) values c.requires.number in
+    let least = subst (λ d. is_least old d c.args.m ≡ false) values (sym c.if-not-least.ensures) in
+    subst (λ marks. IsMarkedBelow source u marks (c.args.m + 1)) (sym c.set.ensures)
+    (marked_more source u old c.args.m l (c.requires.below source h) (omega arith)
+    (not_least source u old c.args.m l (c.requires.below source h) least))
 
 pub returns-clause-value : goal.returns-clause-value
 returns-clause-value g c = λ source h.
-    is_bound source c.args.u.now c.args.marks.now c.args.m (subst (λ d. c.args.m < 2 ^ d) c.requires.values c.requires.number) (c.requires.below source h)
+    let values = c.requires.upper.at_node.values in
+    is_bound source c.args.upper.now.cell.now c.args.marks.now c.args.m
+    (subst (λ d. c.args.m < 2 ^ d) values c.requires.number) (c.requires.below source h)
     (sym (c.if-not-closes_below.ensures.value source h))
-    (subst (λ d. is_least c.args.marks.now d c.args.m ≡ true) c.requires.values (sym c.if-not-least.ensures))
+    (subst (λ d. is_least c.args.marks.now d c.args.m ≡ true) values (sym c.if-not-least.ensures))

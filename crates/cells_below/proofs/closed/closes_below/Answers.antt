@@ -5,8 +5,9 @@ use Rattle.cells_below.proofs.Cells.{whole_cell}
 use Rattle.cells_below.proofs.closed.closes_below.Goals as goal
 use Rattle.cube_laws.specs.Parts.{value_count}
 
-pub returns-then-m-d-clause-value : goal.returns-then-m-d-clause-value
-returns-then-m-d-clause-value g c = λ source h.
-    let bits : c.args.m + 1 ≡ 2 ^ c.args.d = omega (arith, one_shl c.args.d 32 (omega arith)) in
-    let whole : c.args.m + 1 ≡ 2 ^ value_count c.args.u.now = bits ∙ ap (λ (n : ℕ). 2 ^ n) c.requires.values in
-    sym (ap (has_closure_in source c.args.u.now) (whole_cell c.args.u.now c.args.m whole) ∙ c.requires.own source h)
+pub returns-then-m-upper-clause-value : goal.returns-then-m-upper-clause-value
+returns-then-m-upper-clause-value g c = λ source h.
+    let upper = c.args.upper.now in
+    let bits : c.args.m + 1 ≡ 2 ^ upper.values = omega (arith, one_shl upper.values 32 (omega arith)) in
+    let whole : c.args.m + 1 ≡ 2 ^ value_count upper.cell.now = bits ∙ ap (λ (n : ℕ). 2 ^ n) c.requires.upper.at_node.values in
+    sym (ap (has_closure_in source upper.cell.now) (whole_cell upper.cell.now c.args.m whole) ∙ c.requires.upper.own source h)

@@ -5,7 +5,8 @@ use Rattle.cells_below.proofs.without.needed.Given as goal
 
 abbrev pub invariant-bits : goal.invariant-bits
 invariant-bits g l = record {
-  dims : length l.cell ≡ length l.u;
-  are : (source : TreeRows) → IsTreeOf (g.T.Nodes.width l.tree) (g.T.Nodes.tree l.tree) source → AreNeeded source l.u l.needed;
-  steps : l.steps ≤ l.fn.steps + l.k * (2 * length l.u + 2);
+  dims : length l.cell ≡ length l.upper.cell.now;
+  are : (source : TreeRows) → IsTreeOf (g.T.Nodes.width l.upper.tree.now) (g.T.Nodes.tree l.upper.tree.now) source →
+      AreNeeded source l.upper.cell.now l.needed;
+  steps : l.steps ≤ l.fn.steps + l.k * (2 * length l.upper.cell.now + 2);
 }

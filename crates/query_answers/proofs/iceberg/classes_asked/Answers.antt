@@ -25,41 +25,41 @@ pub scale_of_kind-requires-clause-measured : goal.scale_of_kind-requires-clause-
 scale_of_kind-requires-clause-measured g c = rw c.schema.ensures.value c.requires.measured
 
 pub iceberg-requires-clause-tree : goal.iceberg-requires-clause-tree
-iceberg-requires-clause-tree g c = some-tree _ _ _ c.requires.rows
+iceberg-requires-clause-tree g c = some-tree _ _ _ c.requires.source.rows
 
 pub iceberg-requires-clause-unit : goal.iceberg-requires-clause-unit
 iceberg-requires-clause-unit g c =
-    let kind = c.args.kind in
-    let scale = scale-is c.args.warehouse.now.state.schema kind ∙ sym (c.scale_of_kind.ensures.value ∙ ap (λ (l : Layout). scale_of l.measures (kind_in kind)) c.schema.ensures.value) in
-    subst (λ (n : ℕ). IfSome (ranking_of kind c.args.index.now) (λ r. r.scale ≡ n)) scale (c.requires.unit kind)
+    let kind = c.args.condition.kind in
+    let scale = scale-is c.args.source.now.warehouse.now.state.schema kind ∙ sym (c.scale_of_kind.ensures.value ∙ ap (λ (l : Layout). scale_of l.measures (kind_in kind)) c.schema.ensures.value) in
+    subst (λ (n : ℕ). IfSome (ranking_of kind c.args.source.now.index.now) (λ r. r.scale ≡ n)) scale (c.requires.source.unit kind)
 
 pub iceberg-requires-clause-dims : goal.iceberg-requires-clause-dims
-iceberg-requires-clause-dims g c = ap length c.dict.ensures.texts ∙ c.dict.ensures.valid.state.consistent.lists ∙ sym c.requires.rows.wide
+iceberg-requires-clause-dims g c = ap length c.dict.ensures.texts ∙ c.dict.ensures.valid.state.consistent.lists ∙ sym c.requires.source.rows.wide
 
 pub iceberg-requires-clause-measure : goal.iceberg-requires-clause-measure
 iceberg-requires-clause-measure g c =
-    let s = with_rows c.args.warehouse.now.state c.requires.rows.rows in
-    (source_of s, tree-of _ _ _ c.requires.rows s.rows c.requires.rows.kept, measure-there (length s.schema.measures) c.args.kind c.requires.measured)
+    let s = with_rows c.args.source.now.warehouse.now.state c.requires.source.rows.rows in
+    (source_of s, tree-of _ _ _ c.requires.source.rows s.rows c.requires.source.rows.kept, measure-there (length s.schema.measures) c.args.condition.kind c.requires.measured)
 
 pub returns-clause-classes : goal.returns-clause-classes
 returns-clause-classes g c = λ rows has.
-    let s = with_rows c.args.warehouse.now.state rows in
-    let scale = c.scale_of_kind.ensures.value ∙ ap (λ (l : Layout). scale_of l.measures (kind_in c.args.kind)) c.schema.ensures.value in
-    let ask = ap (λ (n : ℕ). let a : answers.Ask = record { kind = kind_in c.args.kind; scale = n; bound = bound_in c.args.bound; value = fraction_in c.args.value } in a) scale in
+    let s = with_rows c.args.source.now.warehouse.now.state rows in
+    let scale = c.scale_of_kind.ensures.value ∙ ap (λ (l : Layout). scale_of l.measures (kind_in c.args.condition.kind)) c.schema.ensures.value in
+    let ask = ap (λ (n : ℕ). let a : answers.Ask = record { kind = kind_in c.args.condition.kind; scale = n; bound = bound_in c.args.condition.bound; value = fraction_in c.args.condition.value } in a) scale in
     IfOk-weaker c.iceberg.result _ _
     (λ classes e.
     ap (λ l. told_classes l classes.items) (sym c.dict.ensures.texts) ∙ e
     ∙ ap₂ (answers.iceberg text_cmp (length s.schema.measures)) (rows-told s has.state c.dict.result.now.lists c.dict.ensures.texts) ask)
-    (c.iceberg.ensures.classes (source_of s) (tree-of _ _ _ c.requires.rows rows has) (rows-known s has.state c.dict.result.now.lists c.dict.ensures.texts))
+    (c.iceberg.ensures.classes (source_of s) (tree-of _ _ _ c.requires.source.rows rows has) (rows-known s has.state c.dict.result.now.lists c.dict.ensures.texts))
 
 pub returns-clause-told : goal.returns-clause-told
 returns-clause-told g c =
-    let rows = c.requires.rows.rows in
-    let has = c.requires.rows.kept in
-    let s = with_rows c.args.warehouse.now.state rows in
+    let rows = c.requires.source.rows.rows in
+    let has = c.requires.source.rows.kept in
+    let s = with_rows c.args.source.now.warehouse.now.state rows in
     IfOk-weaker c.iceberg.result _ _
     (λ classes e. subst (λ l. All (λ class. IsTellableClass l (length s.schema.measures) (hit_in class)) classes.items) c.dict.ensures.texts e)
-    (c.iceberg.ensures.told (source_of s) (tree-of _ _ _ c.requires.rows rows has) (rows-known s has.state c.dict.result.now.lists c.dict.ensures.texts))
+    (c.iceberg.ensures.told (source_of s) (tree-of _ _ _ c.requires.source.rows rows has) (rows-known s has.state c.dict.result.now.lists c.dict.ensures.texts))
 
 pub returns-clause-steps : goal.returns-clause-steps
-returns-clause-steps g c = λ there. rw (← c.requires.rows.wide) (c.iceberg.ensures.steps there)
+returns-clause-steps g c = λ there. rw (← c.requires.source.rows.wide) (c.iceberg.ensures.steps there)

@@ -11,14 +11,14 @@ use Rattle.query_answers.proofs.Uppers.{moved}
 use Rattle.query_answers.proofs.lattice.answer_parents.Goals as goal
 
 pub parents-requires-clause-tree : goal.parents-requires-clause-tree
-parents-requires-clause-tree g c = some-tree _ _ _ c.requires.rows
+parents-requires-clause-tree g c = some-tree _ _ _ c.requires.source.rows
 
 pub returns-in-Ok : goal.returns-in-Ok
 returns-in-Ok g c = λ rows has.
-    let s = with_rows c.args.warehouse.now.state rows in
-    let tree = g.T.Nodes.tree c.args.tree.now in
+    let s = with_rows c.args.source.now.warehouse.now.state rows in
+    let tree = g.T.Nodes.tree c.args.source.now.tree.now in
     let lists = c.dict.result.now.lists in
-    let found = c.in-Ok.ensures.nodes (source_of s) (tree-of _ _ _ c.requires.rows rows has) (rows-known s has.state lists c.dict.ensures.texts) in
+    let found = c.in-Ok.ensures.nodes (source_of s) (tree-of _ _ _ c.requires.source.rows rows has) (rows-known s has.state lists c.dict.ensures.texts) in
     let here = moved (parents text_cmp) s has.state lists c.dict.ensures.texts tree c.in-Some.node c.in-Ok.nodes.items found in
     IfOk-weaker c.told_reply.result _ _
     (λ reply e. e ∙ ap (λ nodes. uppers_text s c.args.number (told_nodes s.texts tree nodes)) c.deref.ensures.value ∙ ap (uppers_text s c.args.number) here ∙ ap (related s c.args.number (parents text_cmp s.rows)) (c.in-Some.ensures.upper rows has))

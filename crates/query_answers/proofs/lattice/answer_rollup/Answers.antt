@@ -19,24 +19,24 @@ use Rattle.query_answers.proofs.Uppers.{moved, rolled-told}
 use Rattle.query_answers.proofs.lattice.answer_rollup.Goals as goal
 
 pub rollup-requires-clause-tree : goal.rollup-requires-clause-tree
-rollup-requires-clause-tree g c = some-tree _ _ _ c.requires.rows
+rollup-requires-clause-tree g c = some-tree _ _ _ c.requires.source.rows
 
 pub rollup-requires-clause-measure : goal.rollup-requires-clause-measure
 rollup-requires-clause-measure g c =
-    let s = with_rows c.args.warehouse.now.state c.requires.rows.rows in
-    (source_of s, tree-of _ _ _ c.requires.rows s.rows c.requires.rows.kept, measure-there (length s.schema.measures) c.args.kind c.requires.measured)
+    let s = with_rows c.args.source.now.warehouse.now.state c.requires.source.rows.rows in
+    (source_of s, tree-of _ _ _ c.requires.source.rows s.rows c.requires.source.rows.kept, measure-there (length s.schema.measures) c.args.condition.kind c.requires.measured)
 
 pub returns-in-Ok : goal.returns-in-Ok
 returns-in-Ok g c = λ rows has.
-    let s = with_rows c.args.warehouse.now.state rows in
-    let tree = g.T.Nodes.tree c.args.tree.now in
+    let s = with_rows c.args.source.now.warehouse.now.state rows in
+    let tree = g.T.Nodes.tree c.args.source.now.tree.now in
     let lists = c.dict.result.now.lists in
-    let asked : answers.Ask = record { kind = kind_in c.args.kind; scale = c.scale_of_kind.result; bound = bound_in c.args.bound; value = fraction_in c.args.value } in
-    let scale = c.scale_of_kind.ensures.value ∙ ap (λ (l : Layout). scale_of l.measures (kind_in c.args.kind)) c.schema.ensures.value in
-    let found = c.in-Ok.ensures.nodes (source_of s) (tree-of _ _ _ c.requires.rows rows has) (rows-known s has.state lists c.dict.ensures.texts) in
+    let asked : answers.Ask = record { kind = kind_in c.args.condition.kind; scale = c.scale_of_kind.result; bound = bound_in c.args.condition.bound; value = fraction_in c.args.condition.value } in
+    let scale = c.scale_of_kind.ensures.value ∙ ap (λ (l : Layout). scale_of l.measures (kind_in c.args.condition.kind)) c.schema.ensures.value in
+    let found = c.in-Ok.ensures.nodes (source_of s) (tree-of _ _ _ c.requires.source.rows rows has) (rows-known s has.state lists c.dict.ensures.texts) in
     let here = ap (told_nodes s.texts tree) c.deref.ensures.value
     ∙ moved (λ rows u. lattice.rollup text_cmp (length s.schema.measures) rows asked u) s has.state lists c.dict.ensures.texts tree c.in-Some.node c.in-Ok.nodes.items found in
     IfOk-weaker c.told_reply.result _ _
-    (λ reply told. rolled-told s c.args.number (kind_in c.args.kind) (bound_in c.args.bound) (fraction_in c.args.value) c.scale_of_kind.result (cell_asked c.args.asked.now)
+    (λ reply told. rolled-told s c.args.number (kind_in c.args.condition.kind) (bound_in c.args.condition.bound) (fraction_in c.args.condition.value) c.scale_of_kind.result (cell_asked c.args.asked.now)
     (told_cell s.texts (record_at tree c.in-Some.node.0).cell) (told_nodes s.texts tree c.deref.result.now) (reply_bytes reply) told here (c.in-Some.ensures.upper rows has) scale)
     (c.told_reply.ensures rows has)

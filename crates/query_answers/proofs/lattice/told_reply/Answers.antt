@@ -17,31 +17,31 @@ use Rattle.query_answers.proofs.lattice.told_reply.Goals as goal
 
 pub iceberg_reply-requires : goal.iceberg_reply-requires
 iceberg_reply-requires g c =
-    let rows = c.requires.rows.rows in
-    let has = c.requires.rows.kept in
-    let s = with_rows c.args.warehouse.now.state rows in
-    let tree = g.T.Nodes.tree c.args.tree.now in
+    let rows = c.requires.source.rows.rows in
+    let has = c.requires.source.rows.kept in
+    let s = with_rows c.args.source.now.warehouse.now.state rows in
+    let tree = g.T.Nodes.tree c.args.source.now.tree.now in
     let source = source_of s in
     let dict = c.dict-dict.result.now in
     let nodes = c.args.nodes.now in
     let classes = c.in_ok-classes.classes.items in
     let known = rows-known s has.state dict.lists c.dict-dict.ensures.texts in
-    let e = c.in_ok-classes.ensures source (tree-of _ _ _ c.requires.rows rows has) in
-    let told = alone_tellable _ tree dict source (tree-of _ _ _ c.requires.rows rows has) c.dims-dims.ensures.dictionary known (ap length c.dict-dict.ensures.texts ∙ c.dict-dict.ensures.valid.state.consistent.lists ∙ sym c.requires.rows.wide) nodes classes (each-class tree nodes c.requires.classes) e in
+    let e = c.in_ok-classes.ensures source (tree-of _ _ _ c.requires.source.rows rows has) in
+    let told = alone_tellable _ tree dict source (tree-of _ _ _ c.requires.source.rows rows has) c.dims-dims.ensures.dictionary known (ap length c.dict-dict.ensures.texts ∙ c.dict-dict.ensures.valid.state.consistent.lists ∙ sym c.requires.source.rows.wide) nodes classes (each-class tree nodes c.requires.classes) e in
     subst (λ xs. All (λ class. IsTellableClass dict.lists (length c.schema.result.now.measures) (hit_in class)) xs) (sym c.deref.ensures.value)
     (subst (λ (l : Layout). All (λ class. IsTellableClass dict.lists (length l.measures) (hit_in class)) classes) (sym c.schema.ensures.value) told)
 
 pub returns : goal.returns
 returns g c = λ rows has.
-    let s = with_rows c.args.warehouse.now.state rows in
-    let tree = g.T.Nodes.tree c.args.tree.now in
+    let s = with_rows c.args.source.now.warehouse.now.state rows in
+    let tree = g.T.Nodes.tree c.args.source.now.tree.now in
     let source = source_of s in
     let dict = c.dict-dict.result.now in
     let nodes = c.args.nodes.now in
     let classes = c.in_ok-classes.classes.items in
     let known = rows-known s has.state dict.lists c.dict-dict.ensures.texts in
-    let e = c.in_ok-classes.ensures source (tree-of _ _ _ c.requires.rows rows has) in
-    let told = alone_told _ tree dict source (tree-of _ _ _ c.requires.rows rows has) c.dims-dims.ensures.dictionary known (ap length c.dict-dict.ensures.texts ∙ c.dict-dict.ensures.valid.state.consistent.lists ∙ sym c.requires.rows.wide) nodes classes (each-class tree nodes c.requires.classes) e in
+    let e = c.in_ok-classes.ensures source (tree-of _ _ _ c.requires.source.rows rows has) in
+    let told = alone_told _ tree dict source (tree-of _ _ _ c.requires.source.rows rows has) c.dims-dims.ensures.dictionary known (ap length c.dict-dict.ensures.texts ∙ c.dict-dict.ensures.valid.state.consistent.lists ∙ sym c.requires.source.rows.wide) nodes classes (each-class tree nodes c.requires.classes) e in
     c.in_ok-reply.ensures
     ∙ ap (λ (l : Layout). iceberg_text c.args.number l.measures (told_classes dict.lists c.deref.result.now)) c.schema.ensures.value
     ∙ ap (λ xs. iceberg_text c.args.number s.schema.measures (told_classes dict.lists xs)) c.deref.ensures.value

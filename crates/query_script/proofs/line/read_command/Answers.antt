@@ -2,15 +2,6 @@ use Rattle.std.proofs.Common.{refl}
 use Rattle.query_script.proofs.Wanting.{if_refused}
 use Rattle.query_script.proofs.line.read_command.Goals as goal
 
-pub returns-in-load : goal.returns-in-load
-returns-in-load c = rw c.in-load.is (record { gives = c.read_of_file.ensures; memory = if_refused c.read_of_file.result _ _ refl })
-
-pub returns-in-apply : goal.returns-in-apply
-returns-in-apply c = rw c.in-apply.is (record { gives = c.read_of_file-in-apply.ensures; memory = if_refused c.read_of_file-in-apply.result _ _ refl })
-
-pub returns-in-try : goal.returns-in-try
-returns-in-try c = rw c.in-try.is (record { gives = c.read_of_file-in-try.ensures; memory = if_refused c.read_of_file-in-try.result _ _ refl })
-
 pub returns-in-widen : goal.returns-in-widen
 returns-in-widen c = rw c.in-widen.is (record { gives = c.read_widen.ensures; memory = if_refused c.read_widen.result _ _ refl })
 

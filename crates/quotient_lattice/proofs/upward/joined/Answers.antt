@@ -11,23 +11,32 @@ use Rattle.quotient_lattice.proofs.upward.joined.Goals as goal
 pub numbers-preserved : goal.numbers-preserved
 numbers-preserved g c = record {
   nodes = λ source h.
-      nodes_more (λ k. cell_at (g.T.Nodes.tree c.args.tree.now) k.0) c.args.u.now (joins source c.args.u.now) c.numbers.m c.numbers.nodes.items c.push_some.new.nodes.items c.joined_at-node.result
+      let upper = c.args.upper.now in
+      nodes_more (λ k. cell_at (g.T.Nodes.tree upper.tree.now) k.0) upper.cell.now (joins source upper.cell.now) c.numbers.m
+      c.numbers.nodes.items c.push_some.new.nodes.items c.joined_at-node.result
       c.in-Ok.ensures (c.numbers.invariant.nodes source h) (c.joined_at-node.ensures.value source h);
   steps = omega (arith, c.numbers.invariant.steps, c.joined_at-node.ensures.steps);
 }
 
 pub returns-clause-nodes : goal.returns-clause-nodes
 returns-clause-nodes g c = λ source h.
-    let end : c.numbers.m ≡ 2 ^ c.args.d = omega (arith, one_shl c.args.d 32 (omega arith)) in
-    c.numbers.invariant.nodes source h ∙ ap (λ n. map (λ m. Some (cell_of_number c.args.u.now m)) (filter (joins source c.args.u.now) (range_with_len 0 n))) end
+    let upper = c.args.upper.now in
+    let end : c.numbers.m ≡ 2 ^ upper.values = omega (arith, one_shl upper.values 32 (omega arith)) in
+    c.numbers.invariant.nodes source h
+    ∙ ap (λ n. map (λ m. Some (cell_of_number upper.cell.now m)) (filter (joins source upper.cell.now) (range_with_len 0 n))) end
 
 pub returns-in-Err-clause-steps : goal.returns-in-Err-clause-steps
 returns-in-Err-clause-steps g c =
-    let within : c.numbers.m + 1 ≤ 2 ^ c.args.d = omega (arith, c.numbers-test.true, one_shl c.args.d 32 (omega arith)) in
-    let cost : c.joined_at-node.new.steps ≤ c.args.steps.now + (c.numbers.m + 1) * (2 * length c.args.u.now + 2) = omega (arith, c.numbers.invariant.steps, c.joined_at-node.ensures.steps) in
-    steps_all (c.numbers.m + 1) (2 ^ c.args.d) (2 * length c.args.u.now + 2) c.joined_at-node.new.steps c.args.steps.now within cost
+    let d = c.args.upper.now.values in
+    let each = 2 * length c.args.upper.now.cell.now + 2 in
+    let within : c.numbers.m + 1 ≤ 2 ^ d = omega (arith, c.numbers-test.true, one_shl d 32 (omega arith)) in
+    let cost : c.joined_at-node.new.steps ≤ c.args.steps.now + (c.numbers.m + 1) * each =
+    omega (arith, c.numbers.invariant.steps, c.joined_at-node.ensures.steps) in
+    steps_all (c.numbers.m + 1) (2 ^ d) each c.joined_at-node.new.steps c.args.steps.now within cost
 
 pub returns-clause-steps : goal.returns-clause-steps
 returns-clause-steps g c =
-    let end : c.numbers.m ≡ 2 ^ c.args.d = omega (arith, one_shl c.args.d 32 (omega arith)) in
-    steps_all c.numbers.m (2 ^ c.args.d) (2 * length c.args.u.now + 2) c.numbers.steps c.args.steps.now (omega (arith, end)) c.numbers.invariant.steps
+    let d = c.args.upper.now.values in
+    let each = 2 * length c.args.upper.now.cell.now + 2 in
+    let end : c.numbers.m ≡ 2 ^ d = omega (arith, one_shl d 32 (omega arith)) in
+    steps_all c.numbers.m (2 ^ d) each c.numbers.steps c.args.steps.now (omega (arith, end)) c.numbers.invariant.steps

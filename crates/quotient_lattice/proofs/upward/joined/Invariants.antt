@@ -8,6 +8,8 @@ use Rattle.quotient_lattice.proofs.upward.joined.Given as goal
 
 abbrev pub invariant-numbers : goal.invariant-numbers
 invariant-numbers g l = record {
-  nodes : (source : TreeRows) → IsTreeOf (g.T.Nodes.width l.tree) (g.T.Nodes.tree l.tree) source → map (λ k. cell_at (g.T.Nodes.tree l.tree) k.0) l.nodes.items ≡ map (λ m. Some (cell_of_number l.u m)) (filter (joins source l.u) (range_with_len 0 l.m));
-  steps : l.steps ≤ l.fn.steps + l.m * (2 * length l.u + 2);
+  nodes : (source : TreeRows) → IsTreeOf (g.T.Nodes.width l.upper.tree.now) (g.T.Nodes.tree l.upper.tree.now) source →
+      map (λ k. cell_at (g.T.Nodes.tree l.upper.tree.now) k.0) l.nodes.items
+      ≡ map (λ m. Some (cell_of_number l.upper.cell.now m)) (filter (joins source l.upper.cell.now) (range_with_len 0 l.m));
+  steps : l.steps ≤ l.fn.steps + l.m * (2 * length l.upper.cell.now + 2);
 }

@@ -6,9 +6,10 @@ use Rattle.quotient_lattice.proofs.upward.mark_all.Given as goal
 
 abbrev pub invariant-numbers : goal.invariant-numbers
 invariant-numbers g l = record {
-  room : 2 ^ l.d ≤ length l.marks;
-  dims : length l.cell ≡ length l.u;
-  below : (source : TreeRows) → IsTreeOf (g.T.Nodes.width l.tree) (g.T.Nodes.tree l.tree) source → IsMarkedBelow source l.u l.marks l.m;
+  room : 2 ^ l.upper.values ≤ length l.marks;
+  dims : length l.cell ≡ length l.upper.cell.now;
+  below : (source : TreeRows) → IsTreeOf (g.T.Nodes.width l.upper.tree.now) (g.T.Nodes.tree l.upper.tree.now) source →
+      IsMarkedBelow source l.upper.cell.now l.marks l.m;
   above : (j : ℕ) → l.m ≤ j → is_marked l.marks j ≡ false;
-  steps : l.steps ≤ l.fn.steps + (l.d + l.m) * (2 * length l.u + 2);
+  steps : l.steps ≤ l.fn.steps + (l.upper.values + l.m) * (2 * length l.upper.cell.now + 2);
 }

@@ -11,12 +11,6 @@ use Rattle.quotient_lattice.specs.Joined.{joins}
 use Rattle.quotient_lattice.proofs.InOrder.{parents_are}
 use Rattle.quotient_lattice.proofs.upward.parents_below.Goals as goal
 
-pub joined-requires-clause-class : goal.joined-requires-clause-class
-joined-requires-clause-class g c = λ source h. closed source c.args.u.now c.args.u.now (c.requires.own source h)
-
-pub joined-requires-clause-upper : goal.joined-requires-clause-upper
-joined-requires-clause-upper g c = upper_wide _ _ c.args.node.0 c.args.u.now c.requires.upper c.requires.tree
-
 pub returns-in-Ok-clause-nodes : goal.returns-in-Ok-clause-nodes
 returns-in-Ok-clause-nodes g c = λ source h.
     let u = c.args.u.now in
