@@ -331,12 +331,7 @@ ok-same : (read : Result (List (Change Text)) Fault) (xs ys : List (Change Text)
 ok-same read xs ys one two = cc
 
 pub of-batch : {T E : Type 0} (result : Result T E) (schema : Layout) (bytes : List ℕ) (changes : List (Change Text)) (Holds : List (Change Text) → Type 0) → batch_in schema bytes ≡ Ok changes
-    → OnOk result (true ≡ true → Holds changes) → OnOk result (OfBatch schema bytes Holds)
+    → OnOk result (Holds changes) → OnOk result (OfBatch schema bytes Holds)
 of-batch (Err e) schema bytes changes Holds same holds = tt
 of-batch (Ok x) schema bytes changes Holds same holds = λ other read.
-    subst Holds (ok-same (batch_in schema bytes) changes other same read) (holds refl)
-
--- what holds where there is an answer holds there under any premise
-pub on-premise : {T E : Type 0} (result : Result T E) (P Q : Type 0) → OnOk result Q → OnOk result (P → Q)
-on-premise (Err e) P Q holds = tt
-on-premise (Ok x) P Q holds = λ p. holds
+    subst Holds (ok-same (batch_in schema bytes) changes other same read) holds

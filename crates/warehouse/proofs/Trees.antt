@@ -14,9 +14,10 @@ use Rattle.qc_arena.specs.Codes.{Shape}
 use Rattle.qc_arena.specs.Map.{Arena, is_open, no_nodes, shape_of}
 use Rattle.qc_schema.specs.Schema.{Layout}
 use Rattle.tree_search.specs.Found.{IsTreeOf}
-use Rattle.value_dict.specs.TextLists.{TextLists}
-use Rattle.warehouse.specs.State.{AreContents, IsIndexed}
-use Rattle.warehouse.specs.Stored.{IsTreeOfTable, IsStored, state_of}
+use Rattle.warehouse.specs.Changing.{AreParts, contents_of}
+use Rattle.warehouse.specs.State.{AreContents}
+use Rattle.warehouse.specs.Stored.{IsTreeOfTable}
+use Rattle.warehouse.specs.declared.cube.Cube.{Cube}
 use Rattle.warehouse.proofs.Decoding.{rows-back}
 use Rattle.warehouse.proofs.States.{is-state, no_rows}
 use Rattle.tree_laws.proofs.Lists.{some_same}
@@ -73,11 +74,11 @@ kept-back schema table table' tree tree' is same back closed max =
           (subst (λ (rs : List (Row ℕ)). IsTreeOf (length schema.dims) tree.now (record { measures = length schema.measures; rows = rs })) (sym rows) is.from);
     }
 
-pub is-held : (schema : Layout) (dict : TextLists) (table : Places) (tree : Arena) (index : List Ranking) → IsStored schema dict table → IsTreeOfTable schema table tree → IsIndexed schema tree.now index → AreContents (record { state = state_of schema dict table; tree = tree.now; index = index; images = tree.last })
-is-held schema dict table tree index stored kept indexed = record {
-  state = is-state schema dict table stored kept.few;
+pub is-held : (schema : Layout) (cube : Cube) (index : List Ranking) → AreParts schema cube index → AreContents (contents_of schema cube index)
+is-held schema cube index parts = record {
+  state = is-state schema cube.dict cube.table parts.stored parts.kept.few;
   tree =
-      subst (λ (rows : List (Row ℕ)). IsTreeOf (length schema.dims) tree.now (record { measures = length schema.measures; rows = rows }))
-      (sym (rows-back dict.lists (rows_of table) stored.known stored.dictionary.distinct)) kept.from;
-  index = indexed;
+      subst (λ (rows : List (Row ℕ)). IsTreeOf (length schema.dims) cube.tree.now (record { measures = length schema.measures; rows = rows }))
+      (sym (rows-back cube.dict.lists (rows_of cube.table) parts.stored.known parts.stored.dictionary.distinct)) parts.kept.from;
+  index = parts.indexed;
 }

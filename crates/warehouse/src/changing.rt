@@ -11,17 +11,17 @@ ghost use Rattle.qc_arena.specs.Map.{is_open, over};
 ghost use Rattle.std.specs.Ordering.{nat_cmp};
 ghost use Rattle.warehouse.specs.Batch as batches;
 ghost use Rattle.warehouse.specs.Batch.{first_number, first_twice, full_dim, result_of, texts_after, with_tuple};
-ghost use Rattle.warehouse.specs.Changing.{AreAsBefore, AreFit, AreInserted, AreMade, AreParts, CanInsert, IsBegun, IsInPlace, LeavesFrames, OnlyAdds, RowsAreMade, contents_of};
+ghost use Rattle.warehouse.specs.Changing.{AreAsBefore, AreFit, AreInserted, AreMade, AreParts, CanInsert, IsBegun, IsInPlace, LeavesFrames, OnlyAdds, RowsAreMade, contents_of, state_in};
 ghost use Rattle.warehouse.specs.InPlace.{KeepsApart, KeepsNumbers, cost_in, cost_of};
 ghost use Rattle.warehouse.specs.State.{IsIndexed, State};
 ghost use Rattle.warehouse.specs.Steps.{IsCause, IsOver, IsTreeBefore, is_there, rows_before, rows_behind};
-ghost use Rattle.warehouse.specs.Stored.{IsTreeOfTable, IsStored, IsTreeOfSome, applied_in, refusal_in, state_of};
+ghost use Rattle.warehouse.specs.Stored.{IsTreeOfTable, IsStored, IsTreeOfSome, applied_in, refusal_in};
 
 use crate::checks::{check_once, first_present, is_full};
+use crate::cube::Cube;
 use crate::deleting::delete_rows;
 use crate::indexing::change_index;
 use crate::learning::{learn_tuple, lengths, values_full};
-use crate::one_batch::{commit_both, go_back, open_batch};
 use crate::refused::{Applied, Refused};
 use crate::repair::repair;
 use base_table::{Table, TableRefused};
@@ -35,6 +35,15 @@ use qc_schema::Schema;
 use std::alloc::Global;
 use std::sync::ledger::Ledger;
 use value_dict::{Dict, Learn};
+
+/// How the tree of the rows after a change is made.
+#[derive(Clone, Copy)]
+pub(crate) enum Building {
+    /// From the tree of the rows before the change.
+    InPlace,
+    /// From no tree.
+    FromScratch,
+}
 
 // Inserts a row whose id isn't there, if there is room.
 fn insert_row(
@@ -64,8 +73,7 @@ fn insert_row(
     match table.insert(batch.id(k), cell, batch.amounts(k)) {
         Ok(()) => Ok(()),
         Err(TableRefused::Memory) => Err(Learn::Memory),
-        Err(TableRefused::Present) => unreachable!(),
-        Err(TableRefused::Full) => unreachable!(),
+        Err(TableRefused::Present | TableRefused::Full) => unreachable!(),
     }
 }
 
@@ -134,31 +142,30 @@ fn add_rows(
 // Returns the number of places before the new rows. After a refusal some of the changes are made.
 fn change_rows<L: Ledger>(
     schema: &Schema,
-    table: &mut Table,
-    dict: &mut Dict,
-    tree: &mut QcArena,
+    cube: &mut Cube,
     batch: &RawBatch,
-    alloc: Global,
     steps: &mut Steps<L>,
 ) -> Result<u32, Refused>
-    requires begun { IsBegun schema.now dict.old table.old tree.old }
+    requires begun { IsBegun schema.now cube.old }
     requires fit { AreFit schema.now batch.now }
-    ensures made { IfOk result (λ first. RowsAreMade schema.now batch.now.changes first dict.old dict.new table.old table.new tree.old tree.new steps.old steps.new) }
-    ensures cause { IfErr result (λ refused. IsCause refused (state_of schema.now dict.old table.old) batch.now.changes) }
-    ensures frames { LeavesFrames dict.old dict.new table.old table.new tree.old tree.new }
+    ensures made { IfOk result (λ first.
+        RowsAreMade schema.now batch.now.changes first cube.old cube.new steps.old steps.new) }
+    ensures cause { IfErr result (λ refused.
+        IsCause refused (state_in schema.now cube.old) batch.now.changes) }
+    ensures frames { LeavesFrames cube.old cube.new }
 {
-    match delete_rows(table, tree, batch, alloc, steps) {
+    match delete_rows(&mut cube.table, &mut cube.tree, batch, cube.alloc, steps) {
         Ok(()) => {}
         Err(refused) => return Err(refused),
     }
-    if let Some(k) = first_present(table, batch) {
+    if let Some(k) = first_present(&cube.table, batch) {
         return Err(Refused::Present(k));
     }
-    if is_full(table, batch, schema.rows()) {
+    if is_full(&cube.table, batch, schema.rows()) {
         return Err(Refused::RowsFull);
     }
-    let first = table.places();
-    match add_rows(schema, table, dict, batch, alloc) {
+    let first = cube.table.places();
+    match add_rows(schema, &mut cube.table, &mut cube.dict, batch, cube.alloc) {
         Ok(()) => {}
         Err(refused) => return Err(refused),
     }
@@ -199,7 +206,7 @@ fn make_tree<L: Ledger>(
     table: &Table,
     tree: &mut QcArena,
     first: u32,
-    in_place: bool,
+    building: Building,
     alloc: Global,
     steps: &mut Steps<L>,
 ) -> Result<(), ArenaRefused>
@@ -209,15 +216,16 @@ fn make_tree<L: Ledger>(
     ensures tree { OnOk result (IsCanonical nat_cmp table.now.measures (rows_of table.now) tree.new.now) }
     ensures fits { OnOk result (length (nodes nat_cmp (rows_of table.now)) ≤ tree.old.max) }
     ensures full { result ≡ Err ArenaRefused.Full → tree.old.max < length (nodes nat_cmp (rows_of table.now)) }
-    ensures numbers { in_place ≡ true → KeepsNumbers tree.old.now tree.new.now }
-    ensures apart { in_place ≡ true → KeepsApart (rows_behind table.now first) tree.old.now tree.new.now }
-    ensures steps { OnOk result (in_place ≡ true → steps.new ≤ steps.old + cost_of table.now.dims (rows_before table.now first) (rows_behind table.now first)) }
+    ensures numbers { building ≡ Building.InPlace → KeepsNumbers tree.old.now tree.new.now }
+    ensures apart { building ≡ Building.InPlace →
+        KeepsApart (rows_behind table.now first) tree.old.now tree.new.now }
+    ensures steps { OnOk result (building ≡ Building.InPlace → steps.new ≤ steps.old
+        + cost_of table.now.dims (rows_before table.now first) (rows_behind table.now first)) }
     ensures frame { arena.frame tree.new ≡ arena.frame tree.old }
 {
-    if in_place {
-        repair(table, tree, first, alloc, steps)
-    } else {
-        rebuild(table, tree, alloc, steps)
+    match building {
+        Building::InPlace => repair(table, tree, first, alloc, steps),
+        Building::FromScratch => rebuild(table, tree, alloc, steps),
     }
 }
 
@@ -225,22 +233,22 @@ fn make_tree<L: Ledger>(
 // them are made.
 fn change_and_build<L: Ledger>(
     schema: &Schema,
-    table: &mut Table,
-    dict: &mut Dict,
-    tree: &mut QcArena,
+    cube: &mut Cube,
     batch: RawBatch,
-    in_place: bool,
-    alloc: Global,
+    building: Building,
     steps: &mut Steps<L>,
 ) -> Result<(), Refused>
-    requires begun { IsBegun schema.now dict.old table.old tree.old }
+    requires begun { IsBegun schema.now cube.old }
     requires fit { AreFit schema.now batch }
-    ensures made { OnOk result (AreMade schema.now batch.changes dict.old dict.new table.old table.new tree.new) }
-    ensures in_place { OnOk result (in_place ≡ true → IsInPlace (state_of schema.now dict.old table.old) batch.changes dict.new.lists tree.old.now tree.new.now steps.old steps.new) }
-    ensures cause { IfErr result (λ refused. IsCause refused (state_of schema.now dict.old table.old) batch.changes) }
-    ensures frames { LeavesFrames dict.old dict.new table.old table.new tree.old tree.new }
+    ensures made { OnOk result (AreMade schema.now batch.changes cube.old cube.new) }
+    ensures in_place { OnOk result (building ≡ Building.InPlace →
+        IsInPlace (state_in schema.now cube.old) batch.changes cube.new.dict.lists
+        cube.old.tree.now cube.new.tree.now steps.old steps.new) }
+    ensures cause { IfErr result (λ refused.
+        IsCause refused (state_in schema.now cube.old) batch.changes) }
+    ensures frames { LeavesFrames cube.old cube.new }
 {
-    let first = match change_rows(schema, table, dict, tree, &batch, alloc, steps) {
+    let first = match change_rows(schema, cube, &batch, steps) {
         Ok(first) => first,
         Err(refused) => {
             drop(batch);
@@ -249,7 +257,14 @@ fn change_and_build<L: Ledger>(
     };
     // The changes of the file are dropped before a tree is made.
     drop(batch);
-    match make_tree(table, tree, first, in_place, alloc, steps) {
+    match make_tree(
+        &cube.table,
+        &mut cube.tree,
+        first,
+        building,
+        cube.alloc,
+        steps,
+    ) {
         Ok(()) => Ok(()),
         Err(ArenaRefused::Full) => Err(Refused::NodesFull),
         Err(ArenaRefused::Memory) => Err(Refused::Memory),
@@ -260,31 +275,32 @@ fn change_and_build<L: Ledger>(
 // classes. After a refusal some of the changes are made, and the index is as it was.
 fn change_and_index<L: Ledger>(
     schema: &Schema,
-    table: &mut Table,
-    dict: &mut Dict,
-    tree: &mut QcArena,
+    cube: &mut Cube,
     index: &mut Index,
     batch: RawBatch,
-    in_place: bool,
-    alloc: Global,
+    building: Building,
     steps: &mut Steps<L>,
 ) -> Result<(), Refused>
-    requires begun { IsBegun schema.now dict.old table.old tree.old }
+    requires begun { IsBegun schema.now cube.old }
     requires fit { AreFit schema.now batch }
-    requires before { IfSome tree.old.was (λ before. IsTreeOfSome schema.now before.tree × IsIndexed schema.now before.tree index.old) }
-    ensures made { OnOk result (AreMade schema.now batch.changes dict.old dict.new table.old table.new tree.new) }
-    ensures in_place { OnOk result (in_place ≡ true → IsInPlace (state_of schema.now dict.old table.old) batch.changes dict.new.lists tree.old.now tree.new.now steps.old steps.new) }
-    ensures cause { IfErr result (λ refused. IsCause refused (state_of schema.now dict.old table.old) batch.changes) }
-    ensures frames { LeavesFrames dict.old dict.new table.old table.new tree.old tree.new }
-    ensures indexed { OnOk result (IsIndexed schema.now tree.new.now index.new) }
+    requires before { IfSome cube.old.tree.was (λ before.
+        IsTreeOfSome schema.now before.tree × IsIndexed schema.now before.tree index.old) }
+    ensures made { OnOk result (AreMade schema.now batch.changes cube.old cube.new) }
+    ensures in_place { OnOk result (building ≡ Building.InPlace →
+        IsInPlace (state_in schema.now cube.old) batch.changes cube.new.dict.lists
+        cube.old.tree.now cube.new.tree.now steps.old steps.new) }
+    ensures cause { IfErr result (λ refused.
+        IsCause refused (state_in schema.now cube.old) batch.changes) }
+    ensures frames { LeavesFrames cube.old cube.new }
+    ensures indexed { OnOk result (IsIndexed schema.now cube.new.tree.now index.new) }
     ensures same_index { OnErr result (index.new ≡ index.old) }
 {
-    match change_and_build(schema, table, dict, tree, batch, in_place, alloc, steps) {
+    match change_and_build(schema, cube, batch, building, steps) {
         Ok(()) => {}
         Err(refused) => return Err(refused),
     }
-    table.is_valid();
-    match change_index(schema, tree, index, alloc) {
+    cube.table.is_valid();
+    match change_index(schema, &cube.tree, index, cube.alloc) {
         Ok(()) => Ok(()),
         Err(_) => Err(Refused::Memory),
     }
@@ -294,27 +310,27 @@ fn change_and_index<L: Ledger>(
 /// them and the index of its classes.
 pub(crate) fn change<L: Ledger>(
     schema: &Schema,
-    table: &mut Table,
-    dict: &mut Dict,
-    tree: &mut QcArena,
+    cube: &mut Cube,
     index: &mut Index,
     batch: RawBatch,
-    in_place: bool,
-    alloc: Global,
+    building: Building,
     steps: &mut Steps<L>,
 ) -> Result<Applied, Refused>
-    requires parts { AreParts schema.now dict.old table.old tree.old index.old }
-    requires images { tree.old.last ≡ finmap.empty }
+    requires parts { AreParts schema.now cube.old index.old }
+    requires images { cube.old.tree.last ≡ finmap.empty }
     requires dims { batch.dims ≡ length schema.now.dims }
     requires measures { batch.measures ≡ length schema.now.measures }
-    ensures gives { Gives refusal_in (applied_in (state_of schema.now dict.new table.new)) result
-        (result_of (state_of schema.now dict.old table.old) (Ok batch.changes)) }
-    ensures same { OnErr result (contents_of schema.now dict.new table.new tree.new index.new ≡ contents_of schema.now dict.old table.old tree.old index.old) }
-    ensures in_place { OnOk result (in_place ≡ true → IsInPlace (state_of schema.now dict.old table.old) batch.changes dict.new.lists tree.old.now tree.new.now steps.old steps.new) }
-    ensures parts { AreParts schema.now dict.new table.new tree.new index.new }
-    ensures images { OnOk result (over tree.new.last tree.new.now ≡ tree.old.now) }
+    ensures gives { Gives refusal_in (applied_in (state_in schema.now cube.new)) result
+        (result_of (state_in schema.now cube.old) (Ok batch.changes)) }
+    ensures same { OnErr result
+        (contents_of schema.now cube.new index.new ≡ contents_of schema.now cube.old index.old) }
+    ensures in_place { OnOk result (building ≡ Building.InPlace →
+        IsInPlace (state_in schema.now cube.old) batch.changes cube.new.dict.lists
+        cube.old.tree.now cube.new.tree.now steps.old steps.new) }
+    ensures parts { AreParts schema.now cube.new index.new }
+    ensures images { OnOk result (over cube.new.tree.last cube.new.tree.now ≡ cube.old.tree.now) }
 {
-    match check_once(alloc, table.hash_keys(), &batch) {
+    match check_once(cube.alloc, cube.table.hash_keys(), &batch) {
         Ok(()) => {}
         Err(refused) => {
             drop(batch);
@@ -322,17 +338,15 @@ pub(crate) fn change<L: Ledger>(
         }
     }
     let records = batch.len();
-    let lens = open_batch(schema, table, dict, tree);
-    match change_and_index(
-        schema, table, dict, tree, index, batch, in_place, alloc, steps,
-    ) {
+    let lens = cube.begin(schema);
+    match change_and_index(schema, cube, index, batch, building, steps) {
         Ok(()) => {
-            commit_both(table, tree);
-            let classes = tree.class_count();
+            cube.commit();
+            let classes = cube.tree.class_count();
             Ok(Applied { records, classes })
         }
         Err(refused) => {
-            go_back(table, dict, tree, &lens[..usize::from(schema.dims())]);
+            cube.roll_back(&lens[..usize::from(schema.dims())]);
             Err(refused)
         }
     }
@@ -341,24 +355,22 @@ pub(crate) fn change<L: Ledger>(
 /// A dry run of changes: leaves rows, texts and tree as they were.
 pub(crate) fn attempt<L: Ledger>(
     schema: &Schema,
-    table: &mut Table,
-    dict: &mut Dict,
-    tree: &mut QcArena,
+    cube: &mut Cube,
     batch: RawBatch,
-    alloc: Global,
     steps: &mut Steps<L>,
 ) -> Result<Applied, Refused>
-    requires stored { IsStored schema.now dict.old table.old }
-    requires kept { IsTreeOfTable schema.now table.old tree.old }
-    requires images { tree.old.last ≡ finmap.empty }
+    requires stored { IsStored schema.now cube.old.dict cube.old.table }
+    requires kept { IsTreeOfTable schema.now cube.old.table cube.old.tree }
+    requires images { cube.old.tree.last ≡ finmap.empty }
     requires dims { batch.dims ≡ length schema.now.dims }
     requires measures { batch.measures ≡ length schema.now.measures }
     ensures gives { (then : State) × Gives refusal_in (applied_in then) result
-        (result_of (state_of schema.now dict.old table.old) (Ok batch.changes)) }
-    ensures steps { OnOk result (steps.new ≤ steps.old + cost_in (state_of schema.now dict.old table.old) batch.changes) }
-    ensures back { AreAsBefore schema.now dict.old dict.new table.old table.new tree.old tree.new }
+        (result_of (state_in schema.now cube.old) (Ok batch.changes)) }
+    ensures steps { OnOk result
+        (steps.new ≤ steps.old + cost_in (state_in schema.now cube.old) batch.changes) }
+    ensures back { AreAsBefore schema.now cube.old cube.new }
 {
-    match check_once(alloc, table.hash_keys(), &batch) {
+    match check_once(cube.alloc, cube.table.hash_keys(), &batch) {
         Ok(()) => {}
         Err(refused) => {
             drop(batch);
@@ -366,12 +378,12 @@ pub(crate) fn attempt<L: Ledger>(
         }
     }
     let records = batch.len();
-    let lens = open_batch(schema, table, dict, tree);
-    let built = change_and_build(schema, table, dict, tree, batch, true, alloc, steps);
-    table.is_valid();
-    let classes = tree.class_count();
+    let lens = cube.begin(schema);
+    let built = change_and_build(schema, cube, batch, Building::InPlace, steps);
+    cube.table.is_valid();
+    let classes = cube.tree.class_count();
     let dims = usize::from(schema.dims());
-    go_back(table, dict, tree, &lens[..dims]);
+    cube.roll_back(&lens[..dims]);
     match built {
         Ok(()) => Ok(Applied { records, classes }),
         Err(refused) => Err(refused),

@@ -1,16 +1,15 @@
 // Deletes rows from the table, and from the tree in place, one after another.
-ghost use Rattle.std.specs.Prelude.{IfErr, IfSome, None, OnOk, Some, is_some, length, option_map, true, ◌+◌, ◌∷◌, ◌≡◌, ◌≤◌, []};
-ghost use Rattle.base_table.specs.Places.{row_with_id, rows_of, without_id};
+ghost use Rattle.std.specs.Prelude.{IfErr, IfOk, IfSome, None, OnOk, Some, is_some, length, option_map, true, ◌≡◌, ◌≤◌};
+ghost use Rattle.base_table.specs.Places.{has_id, rows_of};
 ghost use Rattle.batch_delete.specs.Rests.{Deletion};
-ghost use Rattle.cube_defs.specs.Cell.{Cell};
-ghost use Rattle.cube_defs.specs.Tree.{IsCanonical, cell_at, nodes};
+ghost use Rattle.cube_defs.specs.Tree.{IsCanonical, nodes};
 ghost use Rattle.qc_arena.specs.Map as arena;
 ghost use Rattle.qc_arena.specs.Map.{is_open};
 ghost use Rattle.std.specs.Ordering.{nat_cmp};
 ghost use Rattle.warehouse.specs.Batch as batches;
 ghost use Rattle.warehouse.specs.Batch.{first_number, first_twice, is_missing};
-ghost use Rattle.warehouse.specs.InPlace.{IsDeletion, KeepsApart, KeepsNodes, cost_without};
-ghost use Rattle.warehouse.specs.Changing.{AreDeleted};
+ghost use Rattle.warehouse.specs.Changing.{AreDeleted, IsTakenOut};
+ghost use Rattle.warehouse.specs.InPlace.{IsDeletion};
 ghost use Rattle.warehouse.specs.State.{ids_of};
 ghost use Rattle.warehouse.specs.Steps.{frame};
 ghost use Rattle.warehouse.specs.Stored.{refusal_in};
@@ -25,38 +24,37 @@ use qc_arena::QcArena;
 use std::alloc::Global;
 use std::sync::ledger::Ledger;
 
-// Deletes the row of an id from the table, and from the tree of the table's rows. After a refusal
-// nothing is known of the tree.
+// Deletes the row of an id, if there is one, from the table, and from the tree of the table's rows.
+// Returns whether there was one. After a refusal nothing is known of the tree.
 fn take_out<L: Ledger>(
     table: &mut Table,
     tree: &mut QcArena,
     id: u64,
     alloc: Global,
     steps: &mut Steps<L>,
-) -> Result<(), Memory>
+) -> Result<bool, Memory>
     ghost deletion: { Deletion }
-    requires goes { IsDeletion table.old id deletion }
+    requires goes { has_id (rows_of table.old) id ≡ true → IsDeletion table.old id deletion }
     requires batch { is_some table.old.was ≡ true }
     requires opened { is_open tree.old ≡ true }
     requires width { tree.old.width ≡ table.old.dims }
     requires tree { IsCanonical nat_cmp table.old.measures (rows_of table.old) tree.old.now }
-    ensures rows { rows_of table.new ≡ without_id (rows_of table.old) id }
+    ensures there { IfOk result (λ there. there ≡ has_id (rows_of table.old) id) }
+    ensures gone { IfOk result (λ there. there ≡ true →
+        IsTakenOut id deletion.r table.old table.new tree.old.now tree.new.now steps.old steps.new) }
     ensures frame { frame table.new ≡ frame table.old }
-    ensures fewer { length (nodes nat_cmp (rows_of table.new)) ≤ length (nodes nat_cmp (rows_of table.old)) }
-    ensures tree { OnOk result (IsCanonical nat_cmp table.old.measures (rows_of table.new) tree.new.now) }
-    ensures numbers { OnOk result (KeepsNodes (rows_of table.new) tree.old.now tree.new.now) }
-    ensures none_new { OnOk result ((k : _) (c : Cell _) → cell_at tree.new.now k ≡ Some c → cell_at tree.old.now k ≡ Some c) }
-    ensures apart { KeepsApart (deletion.r ∷ []) tree.old.now tree.new.now }
-    ensures steps { OnOk result (steps.new ≤ steps.old + cost_without table.old.dims (rows_of table.old) (row_with_id (rows_of table.old) id)) }
     ensures tree_frame { arena.frame tree.new ≡ arena.frame tree.old }
 {
     table.is_valid();
     match table.delete(id) {
         Ok(taken) => {
             let rest = table.group(&taken.tuple);
-            delete_row(alloc, tree, &taken.tuple, rest, steps)
+            match delete_row(alloc, tree, &taken.tuple, rest, steps) {
+                Ok(()) => Ok(true),
+                Err(error) => Err(error),
+            }
         }
-        Err(_) => unreachable!(),
+        Err(_) => Ok(false),
     }
 }
 
@@ -86,12 +84,9 @@ pub(crate) fn delete_rows<L: Ledger>(
     'changes: for before in 0..batch.len() {
         let number = before + 1;
         if batch.is_delete(number) {
-            let id = batch.id(number);
-            if !table.has(id) {
-                return Err(Refused::Missing(number));
-            }
-            match take_out(table, tree, id, alloc, steps) {
-                Ok(()) => {}
+            match take_out(table, tree, batch.id(number), alloc, steps) {
+                Ok(true) => {}
+                Ok(false) => return Err(Refused::Missing(number)),
                 Err(_) => return Err(Refused::Memory),
             }
         }

@@ -4,10 +4,10 @@
 
 mod changing;
 mod checks;
+mod cube;
 mod deleting;
 mod indexing;
 mod learning;
-mod one_batch;
 mod parts;
 mod refused;
 mod repair;

@@ -23,7 +23,8 @@ ghost use Rattle.warehouse.specs.Widening.{KeepsWidened, cost_of_widening, widen
 ghost use Rattle.qc_schema.specs.Grammar.{is_new_name};
 
 use crate::Memory;
-use crate::changing::{attempt, change};
+use crate::changing::{Building, attempt, change};
+use crate::cube::Cube;
 use crate::parts::{no_rows, no_tree, tree_and_index};
 use crate::refused::{Applied, PartsRefused, Refused, Stats, WidenRefused};
 use crate::widening::widen;
@@ -47,27 +48,24 @@ use value_dict::Dict;
 #[derive(Drop)]
 pub struct Warehouse {
     schema: Schema,
-    dict: Dict,
-    table: Table,
-    tree: QcArena,
+    cube: Cube,
     index: Index,
-    alloc: Global,
 }
 
 impl Model for Warehouse {
     ghost use Rattle.std.specs.Coded.{codes};
     ghost use Rattle.qc_arena.specs.Codes.{tree_code};
     ghost use Rattle.qc_arena.specs.Map.{images_code};
-    ghost use Rattle.warehouse.specs.State.{Contents, IsIndexed};
-    ghost use Rattle.warehouse.specs.Stored.{IsTreeOfTable, IsStored, state_of};
+    ghost use Rattle.warehouse.specs.Changing.{AreParts, contents_of};
+    ghost use Rattle.warehouse.specs.State.{Contents};
 
     ghost Value = { Contents };
 
     ghost coded = { Prim.hlevel (codes, tree_code, images_code) };
 
-    ghost view = { λ w. record { state = state_of w.schema w.dict w.table; tree = w.tree.now; index = w.index; images = w.tree.last } };
+    ghost view = { λ w. contents_of w.schema w.cube w.index };
 
-    ghost invariant = { λ w. IsStored w.schema w.dict w.table × IsTreeOfTable w.schema w.table w.tree × IsIndexed w.schema w.tree.now w.index };
+    ghost invariant = { λ w. AreParts w.schema w.cube w.index };
 }
 
 // The refusal for a file that gives no rows.
@@ -104,11 +102,13 @@ impl Warehouse {
             Ok((dict, table)) => match no_tree(alloc, &schema) {
                 Ok((tree, index)) => Ok(Warehouse {
                     schema,
-                    dict,
-                    table,
-                    tree,
+                    cube: Cube {
+                        table,
+                        dict,
+                        tree,
+                        alloc,
+                    },
                     index,
-                    alloc,
                 }),
                 Err(error) => {
                     drop(schema);
@@ -142,11 +142,13 @@ impl Warehouse {
         match tree_and_index(alloc, &schema, &table, steps) {
             Ok((tree, index)) => Ok(Warehouse {
                 schema,
-                dict,
-                table,
-                tree,
+                cube: Cube {
+                    table,
+                    dict,
+                    tree,
+                    alloc,
+                },
                 index,
-                alloc,
             }),
             Err(refused) => {
                 drop(schema);
@@ -177,7 +179,7 @@ impl Warehouse {
         ensures most { result.now.max ≡ self.now.state.schema.values }
         ensures valid { AreContents self.now }
     {
-        &self.dict
+        &self.cube.dict
     }
 
     /// The rows by their codes. Takes no memory.
@@ -188,14 +190,14 @@ impl Warehouse {
         ensures closed { result.now.was ≡ None }
         ensures valid { AreContents self.now }
     {
-        &self.table
+        &self.cube.table
     }
 
     /// Gives a proof what is true of every warehouse. At run time it does nothing.
     pub fn is_valid(&self)
         ensures { AreContents self.now }
     {
-        let _read = &self.tree;
+        let _read = &self.cube.tree;
     }
 
     /// The warehouse as it is, for proofs alone. It takes no memory, and dropping it drops nothing.
@@ -212,7 +214,7 @@ impl Warehouse {
         ensures max { result.now.max ≡ self.now.state.schema.nodes }
         ensures valid { AreContents self.now }
     {
-        &self.tree
+        &self.cube.tree
     }
 
     /// The classes of the tree in order of value, for each kind that the schema's index lines name.
@@ -233,15 +235,15 @@ impl Warehouse {
         ensures tree_edges { result.tree_edges ≡ trees.tree_edges text_cmp self.now.state.rows }
         ensures links { result.links ≡ trees.links text_cmp self.now.state.rows }
     {
-        let nodes = self.tree.live();
+        let nodes = self.cube.tree.live();
         // Each node but the root is the child of one node.
         let tree_edges = u64::from(nodes.saturating_sub(1));
         Stats {
-            rows: self.table.count(),
-            classes: self.tree.class_count(),
+            rows: self.cube.table.count(),
+            classes: self.cube.tree.class_count(),
             nodes,
             tree_edges,
-            links: self.tree.edge_total() - tree_edges,
+            links: self.cube.tree.edge_total() - tree_edges,
         }
     }
 
@@ -249,7 +251,7 @@ impl Warehouse {
     fn drop_images(&mut self)
         ensures rest { self.new ≡ record self.old { images = finmap.empty } }
     {
-        self.tree.drop_images();
+        self.cube.drop_images();
     }
 
     /// Moves out the before-images of the nodes that the last `load` or `apply` touched, by their
@@ -260,34 +262,33 @@ impl Warehouse {
         ensures rest { self.new ≡ record self.old { images = finmap.empty } }
         ensures valid { AreContents self.new }
     {
-        self.tree.last_images()
+        self.cube.last_images()
     }
 
     // Makes changes, all of them or none. No before-images of an earlier change are left.
     fn change<L: Ledger>(
         &mut self,
         batch: RawBatch,
-        in_place: bool,
+        building: Building,
         steps: &mut Steps<L>,
     ) -> Result<Applied, Refused>
         requires dims { batch.dims ≡ length self.old.state.schema.dims }
         requires measures { batch.measures ≡ length self.old.state.schema.measures }
         requires images { self.old.images ≡ finmap.empty }
         ensures gives { Gives refusal_in (applied_in self.new.state) result (result_of self.old.state (Ok batch.changes)) }
-        ensures in_place { OnOk result (in_place ≡ true → IsInPlace self.old.state batch.changes self.new.state.texts self.old.tree self.new.tree steps.old steps.new) }
+        ensures in_place { OnOk result (building ≡ Building.InPlace →
+            IsInPlace self.old.state batch.changes self.new.state.texts
+            self.old.tree self.new.tree steps.old steps.new) }
         ensures valid { AreContents self.new }
         ensures same { OnErr result (self.new ≡ self.old) }
         ensures images { over self.new.images self.new.tree ≡ self.old.tree }
     {
         change(
             &self.schema,
-            &mut self.table,
-            &mut self.dict,
-            &mut self.tree,
+            &mut self.cube,
             &mut self.index,
             batch,
-            in_place,
-            self.alloc,
+            building,
             steps,
         )
     }
@@ -308,11 +309,11 @@ impl Warehouse {
         ensures no_images { OnErr result (self.new.images ≡ finmap.empty) }
     {
         self.drop_images();
-        if self.table.count() != 0 {
+        if self.cube.table.count() != 0 {
             return Err(Refused::NotEmpty);
         }
-        match read_base(self.alloc, &self.schema, bytes) {
-            Ok(batch) => self.change(batch, false, steps),
+        match read_base(self.cube.alloc, &self.schema, bytes) {
+            Ok(batch) => self.change(batch, Building::FromScratch, steps),
             Err(refused) => Err(refused_file(refused)),
         }
     }
@@ -339,8 +340,8 @@ impl Warehouse {
         ensures no_images { OnErr result (self.new.images ≡ finmap.empty) }
     {
         self.drop_images();
-        match read_batch(self.alloc, &self.schema, bytes) {
-            Ok(batch) => self.change(batch, true, steps),
+        match read_batch(self.cube.alloc, &self.schema, bytes) {
+            Ok(batch) => self.change(batch, Building::InPlace, steps),
             Err(refused) => Err(refused_file(refused)),
         }
     }
@@ -360,15 +361,7 @@ impl Warehouse {
         ensures same { self.new ≡ self.old }
         ensures valid { AreContents self.new }
     {
-        attempt(
-            &self.schema,
-            &mut self.table,
-            &mut self.dict,
-            &mut self.tree,
-            batch,
-            self.alloc,
-            steps,
-        )
+        attempt(&self.schema, &mut self.cube, batch, steps)
     }
 
     /// A dry run of a batch: answers what `apply` would answer. Whatever the answer, the rows, the
@@ -387,7 +380,7 @@ impl Warehouse {
         ensures valid { AreContents self.new }
     {
         self.drop_images();
-        match read_batch(self.alloc, &self.schema, bytes) {
+        match read_batch(self.cube.alloc, &self.schema, bytes) {
             Ok(batch) => self.try_change(batch, steps),
             Err(refused) => Err(refused_file(refused)),
         }
@@ -423,13 +416,10 @@ impl Warehouse {
         self.drop_images();
         widen(
             &mut self.schema,
-            &mut self.table,
-            &mut self.dict,
-            &mut self.tree,
+            &mut self.cube,
             &mut self.index,
             name,
             value,
-            self.alloc,
             steps,
         )
     }

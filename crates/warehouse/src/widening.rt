@@ -6,7 +6,7 @@ ghost use Rattle.std.specs.Option.{option_map};
 ghost use Rattle.std.specs.Ordering.{nat_cmp};
 ghost use Rattle.std.specs.Prelude.{Err, IfOk, IsSome, None, Ok, OnErr, OnOk, Some, false, if◌then◌else◌, is_some, length, map, nat_le, nat_lt, true, ℕ, ◌*◌, ◌+◌, ◌<◌, ◌≡◌, ◌≢◌, ◌≤◌};
 ghost use Rattle.aggregates.specs.Views.{agg_in};
-ghost use Rattle.base_table.specs.Places.{IsTable, rows_of, widened, with_code};
+ghost use Rattle.base_table.specs.Places.{rows_of, widened, with_code};
 ghost use Rattle.cell_core.specs.Gives.{Gives};
 ghost use Rattle.cube_defs.specs.Cell.{depth};
 ghost use Rattle.cube_defs.specs.Tree.{Tree};
@@ -17,17 +17,16 @@ ghost use Rattle.qc_schema.specs.Schema.{IsLayout, max_dims};
 ghost use Rattle.tree_laws.specs.Counts.{classes_in};
 ghost use Rattle.tree_laws.specs.Walk.{last_label};
 ghost use Rattle.tree_search.specs.Found.{IsTreeOf};
-ghost use Rattle.value_dict.specs.TextLists.{IsDictionary};
-ghost use Rattle.warehouse.specs.Changing.{AreParts, contents_of};
+ghost use Rattle.warehouse.specs.Changing.{AreParts, contents_of, state_in};
 ghost use Rattle.warehouse.specs.Dimensions.{AreBack, AreClosed, AreWidened, CanWiden};
 ghost use Rattle.warehouse.specs.Handing.{HandsOn, HandsTo, HasChild, IsWide, is_in, led_to};
 ghost use Rattle.warehouse.specs.State.{IsIndexed};
-ghost use Rattle.warehouse.specs.Stored.{IsStored, IsTreeOfTable, applied_in, state_of};
+ghost use Rattle.warehouse.specs.Stored.{applied_in};
 ghost use Rattle.warehouse.specs.Widening.{KeepsWidened, cost_of_widening, widen_refusal_in, widen_result};
 
 use crate::Memory;
+use crate::cube::Cube;
 use crate::indexing::filled_index;
-use crate::one_batch::commit_both;
 use crate::refused::{Applied, WidenRefused};
 use aggregates::Agg;
 use base_table::Table;
@@ -258,35 +257,32 @@ fn widen_both<L: Ledger>(
 // refusal all is as it was.
 fn widen_parts<L: Ledger>(
     wide: &Schema,
-    table: &mut Table,
-    dict: &mut Dict,
-    tree: &mut QcArena,
+    cube: &mut Cube,
     value: &str,
-    alloc: Global,
     steps: &mut Steps<L>,
 ) -> Result<Index, Memory>
-    requires { CanWiden wide.now dict.old table.old tree.old }
-    ensures widened { OnOk result (AreWidened value.now dict.old dict.new table.old table.new tree.old tree.new) }
-    ensures back { OnErr result (AreBack dict.old dict.new table.old table.new tree.old tree.new) }
-    ensures closed { AreClosed dict.new table.new tree.old tree.new }
-    ensures index { IfOk result (λ index. IsIndexed wide.now tree.new.now index) }
-    ensures steps { OnOk result (steps.new ≤ steps.old + 16 * finmap.len tree.old.now) }
+    requires { CanWiden wide.now cube.old }
+    ensures widened { OnOk result (AreWidened value.now cube.old cube.new) }
+    ensures back { OnErr result (AreBack cube.old cube.new) }
+    ensures closed { AreClosed cube.old cube.new }
+    ensures index { IfOk result (λ index. IsIndexed wide.now cube.new.tree.now index) }
+    ensures steps { OnOk result (steps.new ≤ steps.old + 16 * finmap.len cube.old.tree.now) }
 {
-    dict.add_dim(value)?;
-    table.begin();
-    tree.begin();
-    match widen_both(wide, table, tree, alloc, steps) {
+    cube.dict.add_dim(value)?;
+    cube.table.begin();
+    cube.tree.begin();
+    match widen_both(wide, &mut cube.table, &mut cube.tree, cube.alloc, steps) {
         Ok(index) => {
-            commit_both(table, tree);
+            cube.commit();
             // After a new dimension the before-images are of no use.
-            tree.drop_images();
+            cube.tree.drop_images();
             Ok(index)
         }
         Err(error) => {
-            table.rollback();
-            table.is_valid();
-            tree.rollback();
-            dict.drop_dim();
+            cube.table.rollback();
+            cube.table.is_valid();
+            cube.tree.rollback();
+            cube.dict.drop_dim();
             Err(error)
         }
     }
@@ -310,34 +306,34 @@ fn full_cause(schema: &Schema, tree: &QcArena) -> Option<WidenRefused>
 /// Adds a dimension with one value to all parts of a warehouse, or to none.
 pub(crate) fn widen<L: Ledger>(
     schema: &mut Schema,
-    table: &mut Table,
-    dict: &mut Dict,
-    tree: &mut QcArena,
+    cube: &mut Cube,
     index: &mut Index,
     name: &str,
     value: &str,
-    alloc: Global,
     steps: &mut Steps<L>,
 ) -> Result<Applied, WidenRefused>
-    requires parts { AreParts schema.old dict.old table.old tree.old index.old }
-    requires images { tree.old.last ≡ finmap.empty }
+    requires parts { AreParts schema.old cube.old index.old }
+    requires images { cube.old.tree.last ≡ finmap.empty }
     requires name { is_new_name schema.old name.now ≡ true }
     requires value { length value.now ≤ MAX_TEXT }
-    ensures gives { Gives widen_refusal_in (applied_in (state_of schema.new dict.new table.new)) result
-        (widen_result (state_of schema.old dict.old table.old) name.now value.now) }
-    ensures records { OnOk result (KeepsWidened (length schema.old.dims) tree.old.now tree.new.now) }
-    ensures steps { OnOk result (steps.new ≤ steps.old + cost_of_widening (length schema.old.dims) tree.old.now) }
-    ensures same { OnErr result (contents_of schema.new dict.new table.new tree.new index.new ≡ contents_of schema.old dict.old table.old tree.old index.old) }
-    ensures parts { AreParts schema.new dict.new table.new tree.new index.new }
-    ensures images { tree.new.last ≡ finmap.empty }
+    ensures gives { Gives widen_refusal_in (applied_in (state_in schema.new cube.new)) result
+        (widen_result (state_in schema.old cube.old) name.now value.now) }
+    ensures records { OnOk result
+        (KeepsWidened (length schema.old.dims) cube.old.tree.now cube.new.tree.now) }
+    ensures steps { OnOk result
+        (steps.new ≤ steps.old + cost_of_widening (length schema.old.dims) cube.old.tree.now) }
+    ensures same { OnErr result
+        (contents_of schema.new cube.new index.new ≡ contents_of schema.old cube.old index.old) }
+    ensures parts { AreParts schema.new cube.new index.new }
+    ensures images { cube.new.tree.last ≡ finmap.empty }
 {
-    if let Some(refused) = full_cause(schema, tree) {
+    if let Some(refused) = full_cause(schema, &cube.tree) {
         return Err(refused);
     }
-    let wide = schema.with_dim(alloc, name)?;
+    let wide = schema.with_dim(cube.alloc, name)?;
     // A schema has a layout of its own.
     let _dims = wide.dims();
-    let made = match widen_parts(&wide, table, dict, tree, value, alloc, steps) {
+    let made = match widen_parts(&wide, cube, value, steps) {
         Ok(made) => made,
         Err(_) => {
             drop(wide);
@@ -346,7 +342,7 @@ pub(crate) fn widen<L: Ledger>(
     };
     *schema = wide;
     *index = made;
-    let classes = tree.class_count();
+    let classes = cube.tree.class_count();
     Ok(Applied {
         records: 0,
         classes,

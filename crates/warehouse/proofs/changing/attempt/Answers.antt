@@ -1,16 +1,17 @@
 use Rattle.std.proofs.Common.{◌≤◌, ◌+◌, ◌∙◌, ℕ, ap, refl, subst, take}
-use Rattle.base_table.specs.Places.{Places}
 use Rattle.warehouse.specs.Batch.{after}
+use Rattle.warehouse.specs.Changing.{state_in}
 use Rattle.warehouse.specs.InPlace.{cost_in}
 use Rattle.warehouse.specs.Steps.{IsCause}
-use Rattle.warehouse.specs.Stored.{refusal_in, state_of}
+use Rattle.warehouse.specs.Stored.{refusal_in}
+use Rattle.warehouse.specs.declared.cube.Cube.{Cube}
 use Rattle.warehouse.proofs.Batches.{made-gives, taken-back}
 use Rattle.warehouse.proofs.Causes.{refused-so}
 use Rattle.warehouse.proofs.changing.attempt.Goals as goal
 
 pub returns-in-Err-clause-gives : goal.returns-in-Err-clause-gives
 returns-in-Err-clause-gives g c =
-    let old = state_of c.args.schema.now c.args.dict.now c.args.table.now in
+    let old = state_in c.args.schema.now c.args.cube.now in
     (old, refused-so old c.args.batch.changes (refusal_in c.in-Err.refused) (c.in-Err.ensures.cause old))
 
 pub returns-in-Err-clause-back : goal.returns-in-Err-clause-back
@@ -21,38 +22,33 @@ change_and_build-built-requires-clause-fit g c = record { dims = c.requires.dims
 
 pub returns-in-Ok-built-clause-gives : goal.returns-in-Ok-built-clause-gives
 returns-in-Ok-built-clause-gives g c =
-    let schema = c.args.schema.now in
-    let changes = c.args.batch.changes in
     let built = c.change_and_build-built in (
-      after (state_of schema c.args.dict.now c.args.table.now) changes,
-      made-gives schema c.args.dict.now built.new.dict c.args.table.now c.open_batch-lens.new.table built.new.table c.args.tree.now c.open_batch-lens.new.tree built.new.tree
-          c.requires.stored c.requires.kept c.open_batch-lens.ensures.opened built.ensures.frames c.args.batch c.len-records.ensures.valid c.in-Ok-built.ensures.made
-          c.len-records.result c.class_count-classes.result c.is_valid.ensures c.len-records.ensures.count c.class_count-classes.ensures,
+      after (state_in c.args.schema.now c.args.cube.now) c.args.batch.changes,
+      made-gives c.args.schema.now c.args.cube.now c.begin-lens.new.self built.new.cube c.requires.stored c.requires.kept c.begin-lens.ensures.opened built.ensures.frames
+          c.args.batch c.len-records.ensures.valid c.in-Ok-built.ensures.made c.len-records.result c.class_count-classes.result c.is_valid.ensures c.len-records.ensures.count c.class_count-classes.ensures,
     )
 
 pub returns-in-Ok-built-clause-steps : goal.returns-in-Ok-built-clause-steps
 returns-in-Ok-built-clause-steps g c =
-    subst (λ (t : Places). c.change_and_build-built.new.steps ≤ c.args.steps.now + cost_in (state_of c.args.schema.now c.args.dict.now t) c.args.batch.changes) c.open_batch-lens.ensures.opened.of_table
+    subst (λ (cube : Cube). c.change_and_build-built.new.steps ≤ c.args.steps.now + cost_in (state_in c.args.schema.now cube) c.args.batch.changes) c.begin-lens.ensures.opened
     (c.in-Ok-built.ensures.in_place refl).steps
 
 pub returns-in-Ok-built-clause-back : goal.returns-in-Ok-built-clause-back
 returns-in-Ok-built-clause-back g c =
     let built = c.change_and_build-built in
-    taken-back c.args.schema.now c.args.dict.now built.new.dict c.args.table.now c.open_batch-lens.new.table built.new.table c.args.tree.now c.open_batch-lens.new.tree built.new.tree
-    c.requires.stored c.requires.kept c.open_batch-lens.ensures.opened built.ensures.frames c.go_back.new.dict c.go_back.new.table c.go_back.new.tree (take c.from-dims.result c.open_batch-lens.result)
-    (ap (λ (n : ℕ). take n c.open_batch-lens.result) (c.from-dims.ensures ∙ c.dims.ensures.count) ∙ c.open_batch-lens.ensures.lens) c.go_back.ensures
+    taken-back c.args.schema.now c.args.cube.now c.begin-lens.new.self built.new.cube c.requires.stored c.requires.kept c.begin-lens.ensures.opened built.ensures.frames
+    c.roll_back.new.self (take c.from-dims.result c.begin-lens.result) (ap (λ (n : ℕ). take n c.begin-lens.result) (c.from-dims.ensures ∙ c.dims.ensures.count) ∙ c.begin-lens.ensures.lens) c.roll_back.ensures
 
 pub returns-in-Err-built-clause-gives : goal.returns-in-Err-built-clause-gives
 returns-in-Err-built-clause-gives g c =
-    let old = state_of c.args.schema.now c.args.dict.now c.args.table.now in (
+    let old = state_in c.args.schema.now c.args.cube.now in (
       old,
       refused-so old c.args.batch.changes (refusal_in c.in-Err-built.refused)
-          (subst (λ (t : Places). IsCause c.in-Err-built.refused (state_of c.args.schema.now c.args.dict.now t) c.args.batch.changes) c.open_batch-lens.ensures.opened.of_table c.in-Err-built.ensures.cause),
+          (subst (λ (cube : Cube). IsCause c.in-Err-built.refused (state_in c.args.schema.now cube) c.args.batch.changes) c.begin-lens.ensures.opened c.in-Err-built.ensures.cause),
     )
 
 pub returns-in-Err-built-clause-back : goal.returns-in-Err-built-clause-back
 returns-in-Err-built-clause-back g c =
     let built = c.change_and_build-built in
-    taken-back c.args.schema.now c.args.dict.now built.new.dict c.args.table.now c.open_batch-lens.new.table built.new.table c.args.tree.now c.open_batch-lens.new.tree built.new.tree
-    c.requires.stored c.requires.kept c.open_batch-lens.ensures.opened built.ensures.frames c.go_back.new.dict c.go_back.new.table c.go_back.new.tree (take c.from-dims.result c.open_batch-lens.result)
-    (ap (λ (n : ℕ). take n c.open_batch-lens.result) (c.from-dims.ensures ∙ c.dims.ensures.count) ∙ c.open_batch-lens.ensures.lens) c.go_back.ensures
+    taken-back c.args.schema.now c.args.cube.now c.begin-lens.new.self built.new.cube c.requires.stored c.requires.kept c.begin-lens.ensures.opened built.ensures.frames
+    c.roll_back.new.self (take c.from-dims.result c.begin-lens.result) (ap (λ (n : ℕ). take n c.begin-lens.result) (c.from-dims.ensures ∙ c.dims.ensures.count) ∙ c.begin-lens.ensures.lens) c.roll_back.ensures

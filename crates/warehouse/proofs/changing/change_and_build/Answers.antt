@@ -6,10 +6,11 @@ use Rattle.cube_defs.specs.Text.{Text}
 use Rattle.cube_defs.specs.Tree.{nodes}
 use Rattle.qc_arena.specs.Map.{Arena, is_open}
 use Rattle.warehouse.specs.Batch.{rows_after}
+use Rattle.warehouse.specs.Changing.{state_in}
 use Rattle.warehouse.specs.InPlace.{cost_of, cost_of_batch, cost_of_going}
 use Rattle.warehouse.specs.State.{State}
 use Rattle.warehouse.specs.Steps.{rows_before, rows_behind}
-use Rattle.warehouse.specs.Stored.{decoded_rows, state_of}
+use Rattle.warehouse.specs.Stored.{decoded_rows}
 use Rattle.warehouse.proofs.Causes.{last-full, last-none}
 use Rattle.warehouse.proofs.Counted.{nodes-decoded}
 use Rattle.warehouse.proofs.Repairing.{batch-apart, batch-numbers, batch-steps}
@@ -17,11 +18,11 @@ use Rattle.warehouse.proofs.changing.change_and_build.Goals as goal
 
 pub returns-in-Ok-make_tree-clause-made : goal.returns-in-Ok-make_tree-clause-made
 returns-in-Ok-make_tree-clause-made g c =
-    let s = state_of c.args.schema.now c.args.dict.now c.args.table.now in
-    let dict = c.change_rows.new.dict in
-    let table = c.change_rows.new.table in
+    let s = state_in c.args.schema.now c.args.cube.now in
+    let dict = c.change_rows.new.cube.dict in
+    let table = c.change_rows.new.cube.table in
     let is = c.in-Ok.ensures.made in
-    let max : c.change_rows.new.tree.max ≡ c.args.schema.now.nodes = ap (λ (a : Arena). a.max) c.change_rows.ensures.frames.of_tree ∙ c.requires.begun.most_nodes in
+    let max : c.change_rows.new.cube.tree.max ≡ c.args.schema.now.nodes = ap (λ (a : Arena). a.max) c.change_rows.ensures.frames.of_tree ∙ c.requires.begun.most_nodes in
     let fits : length (nodes nat_cmp (rows_of table)) ≤ c.args.schema.now.nodes = subst (λ (max : ℕ). length (nodes nat_cmp (rows_of table)) ≤ max) max c.in-Ok-make_tree.ensures.fits in
     record {
       none = is.last
@@ -37,10 +38,10 @@ pub returns-in-Ok-make_tree-clause-in_place : goal.returns-in-Ok-make_tree-claus
 returns-in-Ok-make_tree-clause-in_place g c = λ in_place.
     let is = c.in-Ok.ensures.made in
     let frames = c.change_rows.ensures.frames in
-    let t = c.args.table.now in
-    let t' = c.change_rows.new.table in
-    let lists = c.args.dict.now.lists in
-    let now = c.change_rows.new.dict.lists in
+    let t = c.args.cube.now.table in
+    let t' = c.change_rows.new.cube.table in
+    let lists = c.args.cube.now.dict.lists in
+    let now = c.change_rows.new.cube.dict.lists in
     let begun = c.args.steps.now in
     let here = c.change_rows.new.steps in
     let end = c.make_tree.new.steps in
@@ -54,9 +55,9 @@ returns-in-Ok-make_tree-clause-in_place g c = λ in_place.
     subst (λ (n : ℕ). end ≤ here + cost_of n (rows_before t' c.in-Ok.first) (rows_behind t' c.in-Ok.first)) dims' (c.in-Ok-make_tree.ensures.steps in_place) in
     record {
       numbers = batch-numbers (rows_of t) t' c.in-Ok.first lists now c.args.batch.changes frames.longer known is.known frames.dictionary.distinct is.left rows
-          c.args.tree.now.now c.change_rows.new.tree.now c.make_tree.new.tree.now is.numbers (c.make_tree.ensures.numbers in_place);
+          c.args.cube.now.tree.now c.change_rows.new.cube.tree.now c.make_tree.new.tree.now is.numbers (c.make_tree.ensures.numbers in_place);
       apart = batch-apart (rows_of t) t' c.in-Ok.first lists now c.args.batch.changes frames.longer known is.known frames.dictionary.distinct is.left rows
-          c.args.tree.now.now c.change_rows.new.tree.now c.make_tree.new.tree.now is.apart (c.make_tree.ensures.apart in_place);
+          c.args.cube.now.tree.now c.change_rows.new.cube.tree.now c.make_tree.new.tree.now is.apart (c.make_tree.ensures.apart in_place);
       steps = subst (λ (ls : List (List Text)). end ≤ begun + cost_of_batch (length c.args.schema.now.dims) ls (decoded_rows lists t) c.args.batch.changes) (ap (λ (s : State). s.texts) is.made)
           (batch-steps (rows_of t) t' c.in-Ok.first lists now c.args.batch.changes frames.longer known is.known frames.dictionary.distinct is.left rows
           (length c.args.schema.now.dims) begun here end going coming);
@@ -90,10 +91,10 @@ returns-in-Err-Memory-clause-frames g c =
 
 pub returns-in-Err-Full-clause-cause : goal.returns-in-Err-Full-clause-cause
 returns-in-Err-Full-clause-cause g c =
-    let s = state_of c.args.schema.now c.args.dict.now c.args.table.now in
-    let dict = c.change_rows.new.dict in
-    let table = c.change_rows.new.table in
-    let max : c.change_rows.new.tree.max ≡ c.args.schema.now.nodes = ap (λ (a : Arena). a.max) c.change_rows.ensures.frames.of_tree ∙ c.requires.begun.most_nodes in
+    let s = state_in c.args.schema.now c.args.cube.now in
+    let dict = c.change_rows.new.cube.dict in
+    let table = c.change_rows.new.cube.table in
+    let max : c.change_rows.new.cube.tree.max ≡ c.args.schema.now.nodes = ap (λ (a : Arena). a.max) c.change_rows.ensures.frames.of_tree ∙ c.requires.begun.most_nodes in
     c.in-Ok.ensures.made.last
     ∙ last-full s c.args.batch.changes (decoded_rows dict.lists table) (length (nodes nat_cmp (rows_of table))) (ap (λ (t : State). t.rows) c.in-Ok.ensures.made.made)
     (nodes-decoded dict.lists (rows_of table) c.in-Ok.ensures.made.known c.change_rows.ensures.frames.dictionary.distinct) (subst (λ (max : ℕ). max < length (nodes nat_cmp (rows_of table))) max (c.in-Err-Full.ensures.full (ap Err c.in-Err-Full.field-0-is)))

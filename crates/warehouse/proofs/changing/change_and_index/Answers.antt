@@ -10,10 +10,10 @@ use Rattle.warehouse.proofs.changing.change_and_index.Goals as goal
 
 pub change_index-requires-clause-now : goal.change_index-requires-clause-now
 change_index-requires-clause-now g c =
-    let table = c.change_and_build.new.table in
+    let table = c.change_and_build.new.cube.table in
     let frame = c.change_and_build.ensures.frames.of_table in (
       rows_of table,
-      tree-from c.args.schema.now table c.change_and_build.new.tree.now c.is_valid.ensures (ap (λ (t : Places). t.dims) frame ∙ c.requires.begun.stored.dims)
+      tree-from c.args.schema.now table c.change_and_build.new.cube.tree.now c.is_valid.ensures (ap (λ (t : Places). t.dims) frame ∙ c.requires.begun.stored.dims)
           (ap (λ (t : Places). t.measures) frame ∙ c.requires.begun.stored.measures) c.in-Ok.ensures.made.canonical,
     )
 

@@ -10,6 +10,7 @@ use Rattle.cube_defs.specs.Tree.{IsCanonical, nodes}
 use Rattle.qc_arena.specs.Map.{Arena}
 use Rattle.warehouse.specs.Batch as batches
 use Rattle.warehouse.specs.Batch.{full_dim, is_among, or_else, rows_after, texts_after}
+use Rattle.warehouse.specs.Changing.{state_in}
 use Rattle.warehouse.specs.InPlace.{KeepsNodes, kept}
 use Rattle.warehouse.specs.State.{State}
 use Rattle.warehouse.specs.Steps.{last_refusal, rows_before}
@@ -25,15 +26,15 @@ delete_rows-requires-clause-width g c = c.requires.begun.width ∙ sym c.require
 
 pub returns-in-Err-clause-frames : goal.returns-in-Err-clause-frames
 returns-in-Err-clause-frames g c =
-    record { longer = longer-same c.args.dict.now.lists; most_texts = refl; dictionary = c.requires.begun.stored.dictionary; of_table = c.delete_rows.ensures.frame; of_tree = c.delete_rows.ensures.tree_frame }
+    record { longer = longer-same c.args.cube.now.dict.lists; most_texts = refl; dictionary = c.requires.begun.stored.dictionary; of_table = c.delete_rows.ensures.frame; of_tree = c.delete_rows.ensures.tree_frame }
 
 pub returns-in-Some-clause-frames : goal.returns-in-Some-clause-frames
 returns-in-Some-clause-frames g c =
-    record { longer = longer-same c.args.dict.now.lists; most_texts = refl; dictionary = c.requires.begun.stored.dictionary; of_table = c.delete_rows.ensures.frame; of_tree = c.delete_rows.ensures.tree_frame }
+    record { longer = longer-same c.args.cube.now.dict.lists; most_texts = refl; dictionary = c.requires.begun.stored.dictionary; of_table = c.delete_rows.ensures.frame; of_tree = c.delete_rows.ensures.tree_frame }
 
 pub returns-then-is_full-clause-frames : goal.returns-then-is_full-clause-frames
 returns-then-is_full-clause-frames g c =
-    record { longer = longer-same c.args.dict.now.lists; most_texts = refl; dictionary = c.requires.begun.stored.dictionary; of_table = c.delete_rows.ensures.frame; of_tree = c.delete_rows.ensures.tree_frame }
+    record { longer = longer-same c.args.cube.now.dict.lists; most_texts = refl; dictionary = c.requires.begun.stored.dictionary; of_table = c.delete_rows.ensures.frame; of_tree = c.delete_rows.ensures.tree_frame }
 
 pub returns-in-Err-add_rows-clause-frames : goal.returns-in-Err-add_rows-clause-frames
 returns-in-Err-add_rows-clause-frames g c =
@@ -47,17 +48,17 @@ returns-clause-frames g c =
 
 pub returns-in-Err-clause-cause : goal.returns-in-Err-clause-cause
 returns-in-Err-clause-cause g c =
-    let s = state_of c.args.schema.now c.args.dict.now c.args.table.now in
+    let s = state_in c.args.schema.now c.args.cube.now in
     let changes = c.args.batch.now.changes in
     missing-caused s changes (refusal_in c.in-Err.refused) c.requires.fit.once
     (subst (λ (o : Option ℕ). IfSome (refusal_in c.in-Err.refused) (λ refusal. option_map (λ (k : ℕ). batches.Missing k) o ≡ Some refusal))
-    (sym (missing-decoded c.args.dict.now.lists (rows_of c.args.table.now) changes)) c.in-Err.ensures.missing)
+    (sym (missing-decoded c.args.cube.now.dict.lists (rows_of c.args.cube.now.table) changes)) c.in-Err.ensures.missing)
 
 pub returns-in-Some-clause-cause : goal.returns-in-Some-clause-cause
 returns-in-Some-clause-cause g c =
-    let s = state_of c.args.schema.now c.args.dict.now c.args.table.now in
-    let lists = c.args.dict.now.lists in
-    let rows = rows_of c.args.table.now in
+    let s = state_in c.args.schema.now c.args.cube.now in
+    let lists = c.args.cube.now.dict.lists in
+    let rows = rows_of c.args.cube.now.table in
     let left = rows_of c.delete_rows.new.table in
     let changes = c.args.batch.now.changes in
     cause-present s changes c.in-Some.k c.requires.fit.once
@@ -66,9 +67,9 @@ returns-in-Some-clause-cause g c =
 
 pub returns-then-is_full-clause-cause : goal.returns-then-is_full-clause-cause
 returns-then-is_full-clause-cause g c =
-    let s = state_of c.args.schema.now c.args.dict.now c.args.table.now in
-    let lists = c.args.dict.now.lists in
-    let rows = rows_of c.args.table.now in
+    let s = state_in c.args.schema.now c.args.cube.now in
+    let lists = c.args.cube.now.dict.lists in
+    let rows = rows_of c.args.cube.now.table in
     let left = rows_of c.delete_rows.new.table in
     let changes = c.args.batch.now.changes in
     cause-rows s changes c.requires.fit.once
@@ -88,27 +89,27 @@ add_rows-requires-clause-can g c =
       dictionary = stored.dictionary;
       known =
           rw c.in-Ok.ensures.deleted.rows
-          (All-filter (λ (row : Row ℕ). not (is_among row.id (deleted c.args.batch.now.changes))) (λ (row : Row ℕ). AreCodes c.args.dict.now.lists row.tuple) (rows_of c.args.table.now) stored.known);
+          (All-filter (λ (row : Row ℕ). not (is_among row.id (deleted c.args.batch.now.changes))) (λ (row : Row ℕ). AreCodes c.args.cube.now.dict.lists row.tuple) (rows_of c.args.cube.now.table) stored.known);
       valid = c.requires.fit.valid;
     }
 
 pub returns-in-Err-add_rows-clause-cause : goal.returns-in-Err-add_rows-clause-cause
 returns-in-Err-add_rows-clause-cause g c =
-    let s = state_of c.args.schema.now c.args.dict.now c.args.table.now in
+    let s = state_in c.args.schema.now c.args.cube.now in
     let changes = c.args.batch.now.changes in
-    let full : full_dim c.args.dict.now.max (texts_after c.args.dict.now.lists changes) ≡ full_dim c.args.schema.now.values (texts_after c.args.dict.now.lists changes) =
-    ap (λ (max : ℕ). full_dim max (texts_after c.args.dict.now.lists changes)) c.requires.begun.stored.most_texts in
+    let full : full_dim c.args.cube.now.dict.max (texts_after c.args.cube.now.dict.lists changes) ≡ full_dim c.args.schema.now.values (texts_after c.args.cube.now.dict.lists changes) =
+    ap (λ (max : ℕ). full_dim max (texts_after c.args.cube.now.dict.lists changes)) c.requires.begun.stored.most_texts in
     caused s changes (refusal_in c.in-Err-add_rows.refused) _
-    (passed c.args.schema.now c.args.dict.now c.args.table.now c.delete_rows.new.table changes c.first_present.result c.rows.result c.is_full.result
+    (passed c.args.schema.now c.args.cube.now.dict c.args.cube.now.table c.delete_rows.new.table changes c.first_present.result c.rows.result c.is_full.result
     c.requires.fit.once c.in-Ok.ensures.none c.in-Ok.ensures.deleted.rows c.first_present.ensures c.in_default.is c.rows.ensures c.is_full.ensures c.if-is_full.false)
     (rw full at c.in-Err-add_rows.ensures.full)
 
 pub returns-clause-made : goal.returns-clause-made
 returns-clause-made g c =
     let schema = c.args.schema.now in
-    let dict = c.args.dict.now in
+    let dict = c.args.cube.now.dict in
     let lists = dict.lists in
-    let table = c.args.table.now in
+    let table = c.args.cube.now.table in
     let rows = rows_of table in
     let less = c.delete_rows.new.table in
     let changes = c.args.batch.now.changes in
@@ -137,9 +138,9 @@ returns-clause-made g c =
             (subst (λ (rs : List (Row ℕ)). IsCanonical nat_cmp table.measures rs c.delete_rows.new.tree.now) (sym before) deletes.canonical);
         fits =
             subst (λ (n : ℕ). length (nodes nat_cmp (rows_before then_table c.places-first.result)) ≤ n) (sym (ap (λ (a : Arena). a.max) c.delete_rows.ensures.tree_frame))
-            (subst (λ (rs : List (Row ℕ)). length (nodes nat_cmp rs) ≤ c.args.tree.now.max) (sym before) deletes.fits);
+            (subst (λ (rs : List (Row ℕ)). length (nodes nat_cmp rs) ≤ c.args.cube.now.tree.max) (sym before) deletes.fits);
       };
-      numbers = subst (λ (rs : List (Row ℕ)). KeepsNodes rs c.args.tree.now.now c.delete_rows.new.tree.now) deletes.rows deletes.numbers;
+      numbers = subst (λ (rs : List (Row ℕ)). KeepsNodes rs c.args.cube.now.tree.now c.delete_rows.new.tree.now) deletes.rows deletes.numbers;
       apart = deletes.apart;
       steps = deletes.steps;
     }

@@ -18,7 +18,7 @@ use Rattle.warehouse.proofs.Changes.{below-more, deletion-adds, deletion-missing
 use Rattle.warehouse.proofs.Going.{apart-gone, deletion-is, found-at, nodes-more, row_or, steps-going}
 use Rattle.warehouse.proofs.Rows.{kept-more, kept-none, missing-before, there-before}
 use Rattle.warehouse.proofs.deleting.delete_rows.Goals as goal
-use Rattle.warehouse.proofs.deleting.delete_rows.Goals.{then-is_delete+else-not-has+in-Ok, else-is_delete}
+use Rattle.warehouse.proofs.deleting.delete_rows.Goals.{then-is_delete+in-Ok-true, else-is_delete}
 
 pub changes-init : goal.changes-init
 changes-init g c =
@@ -39,8 +39,8 @@ changes-init g c =
 pub returns-clause-none : goal.returns-clause-none
 returns-clause-none g c = number-none (is_missing (ids_of (rows_of c.args.table.now))) c.args.batch.now.changes (λ j lt. c.changes.invariant.none j (omega (arith, lt, c.changes-test.false, c.len-before-end.ensures.count)))
 
-pub returns-then-not-has-clause-missing : goal.returns-then-not-has-clause-missing
-returns-then-not-has-clause-missing g c =
+pub returns-in-Ok-false-clause-missing : goal.returns-in-Ok-false-clause-missing
+returns-in-Ok-false-clause-missing g c =
     let begun = rows_of c.args.table.now in
     let changes = c.args.batch.now.changes in
     let k = c.changes.before in
@@ -48,8 +48,8 @@ returns-then-not-has-clause-missing g c =
     let lt : k < length changes = omega (arith, c.changes-test.true, c.len-before-end.ensures.count) in
     let is : is_deletion change ≡ true = sym c.is_delete.ensures ∙ c.if-is_delete.true in
     let ids = deleted (take k changes) in
-    let none : has_id (rows_of c.changes.table) c.id-id.result ≡ false = grind (arith, c.has.ensures, c.if-not-has.true) in
-    let missing : has_id (kept ids begun) (id_of change) ≡ false = sym (ap₂ has_id c.changes.invariant.rows c.id-id.ensures) ∙ none in
+    let none : has_id (rows_of c.changes.table) c.id.result ≡ false = sym c.in-Ok-false.ensures.there ∙ c.in-Ok-false.field-0-test in
+    let missing : has_id (kept ids begun) (id_of change) ≡ false = sym (ap₂ has_id c.changes.invariant.rows c.id.ensures) ∙ none in
     ap (option_map (λ (n : ℕ). batches.Missing n))
     (number-here (is_missing (ids_of begun)) changes k lt c.changes.invariant.none
     (deletion-missing (ids_of begun) change is ∙ ap not (missing-before begun ids (id_of change) missing (new-deletion changes k c.requires.once lt is))))
@@ -57,11 +57,10 @@ returns-then-not-has-clause-missing g c =
 pub take_out-requires : goal.take_out-requires
 take_out-requires g c κs within =
     let t = c.changes.table in
-    let there : has_id (rows_of t) c.id-id.result ≡ true = grind (arith, c.has.ensures, c.if-not-has.false) in
     let dims : t.dims ≡ c.args.table.now.dims = ap (λ (t : Places). t.dims) c.changes.invariant.frame in (
       within,
       (
-        deletion-is t c.id-id.result there,
+        deletion-is t c.id.result,
         (
           ap (λ (t : Places). is_some t.was) c.changes.invariant.frame ∙ c.requires.batch,
           (
@@ -89,14 +88,15 @@ changes-preserved g c =
     let ids = deleted (take k changes) in
     let ids' = deleted (take (k + 1) changes) in
     elim c.if-is_delete.branch [
-      | then-is_delete+else-not-has+in-Ok w ↦
+      | then-is_delete+in-Ok-true w ↦
           let is : is_deletion change ≡ true = sym c.is_delete.ensures ∙ w.if-is_delete.true in
           let id = id_of change in
-          let there : has_id (rows_of c.changes.table) w.id-id.result ≡ true = grind (arith, w.has.ensures, w.if-not-has.false) in
-          let there' : has_id (kept ids begun) id ≡ true = sym (ap₂ has_id inv.rows w.id-id.ensures) ∙ there in
+          let there : has_id (rows_of c.changes.table) w.id.result ≡ true = sym w.in-Ok-true.ensures.there ∙ w.in-Ok-true.field-0-test in
+          let out = w.in-Ok-true.ensures.gone w.in-Ok-true.field-0-test in
+          let there' : has_id (kept ids begun) id ≡ true = sym (ap₂ has_id inv.rows w.id.ensures) ∙ there in
           let adds : ids' ≡ ids ++ id ∷ [] = deletion-adds changes k lt is in
           let left : rows_of w.take_out.new.table ≡ kept ids' begun =
-          w.take_out.ensures.rows ∙ ap₂ without_id inv.rows w.id-id.ensures ∙ kept-more begun ids id ∙ ap (λ (is : List ℕ). kept is begun) (sym adds) in
+          out.rows ∙ ap₂ without_id inv.rows w.id.ensures ∙ kept-more begun ids id ∙ ap (λ (is : List ℕ). kept is begun) (sym adds) in
           let measures : c.changes.table.measures ≡ t.measures = ap (λ (t : Places). t.measures) inv.frame in
           let dims : c.changes.table.dims ≡ t.dims = ap (λ (t : Places). t.dims) inv.frame in
           let d = c.changes.tree.now in
@@ -104,16 +104,16 @@ changes-preserved g c =
           let now : e ≡ c.if-is_delete.tree.now = sym (ap (λ (a : Arena). a.now) w.tree-is) in
           let canonical : IsCanonical nat_cmp t.measures (kept ids' begun) e =
           subst (λ (m : ℕ). IsCanonical nat_cmp m (kept ids' begun) e) measures
-          (subst (λ (rs : List (Row ℕ)). IsCanonical nat_cmp c.changes.table.measures rs e) left w.in-Ok.ensures.tree) in
-          let r = row_or (row_with_id (rows_of c.changes.table) w.id-id.result) in
-          let found : row_with_id (kept ids begun) id ≡ Some r = sym (ap₂ row_with_id inv.rows w.id-id.ensures) ∙ found-at (rows_of c.changes.table) w.id-id.result there in
+          (subst (λ (rs : List (Row ℕ)). IsCanonical nat_cmp c.changes.table.measures rs e) left out.canonical) in
+          let r = row_or (row_with_id (rows_of c.changes.table) w.id.result) in
+          let found : row_with_id (kept ids begun) id ≡ Some r = sym (ap₂ row_with_id inv.rows w.id.ensures) ∙ found-at (rows_of c.changes.table) w.id.result there in
           let costs : w.take_out.new.steps ≤ c.changes.steps + cost_without t.dims (kept ids begun) (row_with_id (kept ids begun) id) =
           subst (λ (n : ℕ). w.take_out.new.steps ≤ c.changes.steps + cost_without n (kept ids begun) (row_with_id (kept ids begun) id)) dims
           (subst (λ (rs : List (Row ℕ)). w.take_out.new.steps ≤ c.changes.steps + cost_without c.changes.table.dims rs (row_with_id rs id)) inv.rows
-          (subst (λ (n : ℕ). w.take_out.new.steps ≤ c.changes.steps + cost_without c.changes.table.dims (rows_of c.changes.table) (row_with_id (rows_of c.changes.table) n)) w.id-id.ensures w.in-Ok.ensures.steps)) in
+          (subst (λ (n : ℕ). w.take_out.new.steps ≤ c.changes.steps + cost_without c.changes.table.dims (rows_of c.changes.table) (row_with_id (rows_of c.changes.table) n)) w.id.ensures out.steps)) in
           let fewer : length (nodes nat_cmp (kept ids' begun)) ≤ length (nodes nat_cmp (kept ids begun)) =
           subst (λ (rs : List (Row ℕ)). length (nodes nat_cmp rs) ≤ length (nodes nat_cmp (kept ids begun))) left
-          (subst (λ (rs : List (Row ℕ)). length (nodes nat_cmp (rows_of w.take_out.new.table)) ≤ length (nodes nat_cmp rs)) inv.rows w.take_out.ensures.fewer) in
+          (subst (λ (rs : List (Row ℕ)). length (nodes nat_cmp (rows_of w.take_out.new.table)) ≤ length (nodes nat_cmp rs)) inv.rows out.fewer) in
           record {
             rows = ap (λ (t : Places). rows_of t) w.table-is ∙ left;
             none = below-more (is_missing (ids_of begun)) changes k inv.none (deletion-missing (ids_of begun) change is ∙ ap not (there-before begun ids id there'));
@@ -122,12 +122,12 @@ changes-preserved g c =
             fits = omega (arith, fewer, inv.fits);
             numbers =
                 subst (λ (x : Tree ℕ). KeepsNodes (kept ids' begun) b x) now
-                (nodes-more t.measures (kept ids begun) (kept ids' begun) b d e inv.canonical canonical w.in-Ok.ensures.none_new inv.numbers
-                (subst (λ (rs : List (Row ℕ)). KeepsNodes rs d e) left w.in-Ok.ensures.numbers));
+                (nodes-more t.measures (kept ids begun) (kept ids' begun) b d e inv.canonical canonical out.none_new inv.numbers
+                (subst (λ (rs : List (Row ℕ)). KeepsNodes rs d e) left out.numbers));
             apart =
                 subst (λ (x : Tree ℕ). KeepsApart (gone ids' begun) b x) now
                 (subst (λ (is : List ℕ). KeepsApart (gone is begun) b e) (sym adds)
-                (apart-gone ids id begun r b d e (new-deletion changes k c.requires.once lt is) found inv.apart w.take_out.ensures.apart));
+                (apart-gone ids id begun r b d e (new-deletion changes k c.requires.once lt is) found inv.apart out.apart));
             steps =
                 subst (λ (n : ℕ). n ≤ c.args.steps.now + cost_of_going t.dims begun ids') (sym w.steps-is)
                 (subst (λ (is : List ℕ). w.take_out.new.steps ≤ c.args.steps.now + cost_of_going t.dims begun is) (sym adds)

@@ -1,14 +1,16 @@
 use Rattle.std.proofs.Common.{◌∙◌, ◌≡◌, ap, sym}
 use Rattle.base_table.specs.Places.{Places, rows_of}
 use Rattle.cube_defs.specs.Cell.{cell_of}
-use Rattle.warehouse.proofs.Going.{apart-after, canonical-after, few-before, fewer-nodes, from-is, numbers-after, rest-of, steps-after, tuple-is, tuple-long, ok-then}
+use Rattle.warehouse.proofs.Going.{apart-after, canonical-after, few-before, fewer-nodes, from-is, numbers-after, rest-of, steps-after, tuple-is, tuple-long}
 use Rattle.warehouse.proofs.deleting.take_out.Goals as goal
 
 pub group-rest-requires : goal.group-rest-requires
 group-rest-requires g c =
     let t = c.args.table.now in
     let u = c.in-Ok.taken.tuple in
-    tuple-long t c.args.id g.deletion c.is_valid.ensures c.requires.1.0 u (tuple-is t c.args.id g.deletion c.is_valid.ensures c.requires.1.0 u _ c.in-Ok.ensures.taken)
+    let is = c.is_valid.ensures in
+    let row = c.requires.1.0 c.in-Ok.ensures.there in
+    tuple-long t c.args.id g.deletion is row u (tuple-is t c.args.id g.deletion is row u _ c.in-Ok.ensures.taken)
     ∙ sym (ap (λ (t : Places). t.dims) c.in-Ok.ensures.ok)
 
 pub delete_row-requires : goal.delete_row-requires
@@ -16,7 +18,7 @@ delete_row-requires g c κs within =
     let t = c.args.table.now in
     let u = c.in-Ok.taken.tuple in
     let is = c.is_valid.ensures in
-    let row = c.requires.1.0 in
+    let row = c.requires.1.0 c.in-Ok.ensures.there in
     let same : u ≡ cell_of g.deletion.r.tuple = tuple-is t c.args.id g.deletion is row u _ c.in-Ok.ensures.taken in (
       within,
       (
@@ -37,33 +39,23 @@ delete_row-requires g c κs within =
       ),
     )
 
-pub returns-clause-tree : goal.returns-clause-tree
-returns-clause-tree g c =
+pub returns-in-Ok-delete_row-clause-gone : goal.returns-in-Ok-delete_row-clause-gone
+returns-in-Ok-delete_row-clause-gone g c = λ _.
     let t = c.args.table.now in
+    let t' = c.delete.new.self in
+    let b = c.args.tree.now.now in
+    let e = c.delete_row.new.arena.now in
     let u = c.in-Ok.taken.tuple in
-    let same : u ≡ cell_of g.deletion.r.tuple = tuple-is t c.args.id g.deletion c.is_valid.ensures c.requires.1.0 u _ c.in-Ok.ensures.taken in
-    ok-then c.delete_row.result (canonical-after t c.args.id g.deletion c.is_valid.ensures c.requires.1.0 c.delete.new.self c.in-Ok.ensures.rows u same c.args.tree.now.width c.delete_row.new.arena.now) c.delete_row.ensures.tree
-
-pub returns-clause-numbers : goal.returns-clause-numbers
-returns-clause-numbers g c =
-    let t = c.args.table.now in
-    let u = c.in-Ok.taken.tuple in
-    let same : u ≡ cell_of g.deletion.r.tuple = tuple-is t c.args.id g.deletion c.is_valid.ensures c.requires.1.0 u _ c.in-Ok.ensures.taken in
-    ok-then c.delete_row.result (numbers-after t c.args.id g.deletion c.is_valid.ensures c.requires.1.0 c.delete.new.self c.in-Ok.ensures.rows u same c.args.tree.now.now c.delete_row.new.arena.now) c.delete_row.ensures.numbers
-
-pub returns-clause-apart : goal.returns-clause-apart
-returns-clause-apart g c =
-    let t = c.args.table.now in
-    let u = c.in-Ok.taken.tuple in
-    let same : u ≡ cell_of g.deletion.r.tuple = tuple-is t c.args.id g.deletion c.is_valid.ensures c.requires.1.0 u _ c.in-Ok.ensures.taken in
-    apart-after t c.args.id g.deletion c.is_valid.ensures c.requires.1.0 c.delete.new.self c.in-Ok.ensures.rows u same c.args.tree.now.now c.delete_row.new.arena.now c.delete_row.ensures.apart
-
-pub returns-clause-steps : goal.returns-clause-steps
-returns-clause-steps g c =
-    let t = c.args.table.now in
-    let u = c.in-Ok.taken.tuple in
-    let same : u ≡ cell_of g.deletion.r.tuple = tuple-is t c.args.id g.deletion c.is_valid.ensures c.requires.1.0 u _ c.in-Ok.ensures.taken in
-    ok-then c.delete_row.result (steps-after t c.args.id g.deletion c.is_valid.ensures c.requires.1.0 c.delete.new.self c.in-Ok.ensures.rows u same c.args.steps.now c.delete_row.new.steps) c.delete_row.ensures.steps
-
-pub returns-clause-fewer : goal.returns-clause-fewer
-returns-clause-fewer g c = fewer-nodes c.args.table.now c.args.id g.deletion c.is_valid.ensures c.requires.1.0 (rows_of c.delete.new.self) c.in-Ok.ensures.rows
+    let is = c.is_valid.ensures in
+    let row = c.requires.1.0 c.in-Ok.ensures.there in
+    let rows = c.in-Ok.ensures.rows in
+    let same : u ≡ cell_of g.deletion.r.tuple = tuple-is t c.args.id g.deletion is row u _ c.in-Ok.ensures.taken in
+    record {
+      rows = rows;
+      fewer = fewer-nodes t c.args.id g.deletion is row (rows_of t') rows;
+      canonical = canonical-after t c.args.id g.deletion is row t' rows u same c.args.tree.now.width e c.in-Ok-delete_row.ensures.tree;
+      numbers = numbers-after t c.args.id g.deletion is row t' rows u same b e c.in-Ok-delete_row.ensures.numbers;
+      none_new = c.in-Ok-delete_row.ensures.none_new;
+      apart = apart-after t c.args.id g.deletion is row t' rows u same b e c.delete_row.ensures.apart;
+      steps = steps-after t c.args.id g.deletion is row t' rows u same c.args.steps.now c.delete_row.new.steps c.in-Ok-delete_row.ensures.steps;
+    }

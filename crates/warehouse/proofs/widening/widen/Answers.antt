@@ -30,9 +30,9 @@ use Rattle.warehouse.proofs.widening.widen.Goals as goal
 pub returns-in-Some-clause-gives : goal.returns-in-Some-clause-gives
 returns-in-Some-clause-gives g c =
     let schema = c.args.schema.now in
-    let dict = c.args.dict.now in
-    let table = c.args.table.now in
-    let tree = c.args.tree.now.now in
+    let dict = c.args.cube.now.dict in
+    let table = c.args.cube.now.table in
+    let tree = c.args.cube.now.tree.now in
     let stored = c.requires.parts.stored in
     let from = c.requires.parts.kept.from in
     let count : finmap.len tree + classes_in nat_cmp tree ≡ nodes_then (state_of schema dict table) =
@@ -42,8 +42,8 @@ returns-in-Some-clause-gives g c =
 pub widen_parts-requires : goal.widen_parts-requires
 widen_parts-requires g c =
     let schema = c.args.schema.now in
-    let table = c.args.table.now in
-    let tree = c.args.tree.now in
+    let table = c.args.cube.now.table in
+    let tree = c.args.cube.now.tree in
     let wide = c.in_ok-wide.wide in
     let stored = c.requires.parts.stored in
     let kept = c.requires.parts.kept in
@@ -69,7 +69,7 @@ pub returns-in-Err-clause-same : goal.returns-in-Err-clause-same
 returns-in-Err-clause-same g c =
     let schema = c.args.schema.now in
     let back = c.in-Err.ensures.back in
-    let state : state_of schema c.widen_parts.new.dict c.widen_parts.new.table ≡ state_of schema c.args.dict.now c.args.table.now =
+    let state : state_of schema c.widen_parts.new.cube.dict c.widen_parts.new.cube.table ≡ state_of schema c.args.cube.now.dict c.args.cube.now.table =
     ap₂ (λ (d : TextLists) (rs : List (Row ℕ)). let s : State = record { schema = schema; rows = map (decoded_row d.lists) rs; texts = d.lists } in s) back.texts back.rows in
     let tree = ap (λ (s : Shape). s.tree) back.shape in
     let images = c.widen_parts.ensures.closed.images ∙ sym c.requires.images in
@@ -78,9 +78,9 @@ returns-in-Err-clause-same g c =
 pub returns-in-Err-clause-parts : goal.returns-in-Err-clause-parts
 returns-in-Err-clause-parts g c =
     let schema = c.args.schema.now in
-    let dict = c.args.dict.now in
-    let table = c.args.table.now in
-    let now = c.widen_parts.new.table in
+    let dict = c.args.cube.now.dict in
+    let table = c.args.cube.now.table in
+    let now = c.widen_parts.new.cube.table in
     let stored = c.requires.parts.stored in
     let back = c.in-Err.ensures.back in
     let closes = c.widen_parts.ensures.closed in
@@ -90,20 +90,20 @@ returns-in-Err-clause-parts g c =
           subst (λ (d : TextLists). IsStored schema d now) (sym back.texts)
           (stored-next schema dict dict table now stored rest closes.valid refl refl stored.values (subst (λ (rs : List (Row ℕ)). RowsAreCodes dict.lists rs) (sym back.rows) stored.known) stored.dictionary);
       kept =
-          kept-back schema table now c.args.tree.now c.widen_parts.new.tree c.requires.parts.kept (ap (λ (rs : List (Row ℕ)). Some rs) back.rows) (ap (λ (s : Shape). Some s) back.shape)
+          kept-back schema table now c.args.cube.now.tree c.widen_parts.new.cube.tree c.requires.parts.kept (ap (λ (rs : List (Row ℕ)). Some rs) back.rows) (ap (λ (s : Shape). Some s) back.shape)
           closes.closed closes.max;
       indexed = subst (λ (t : Tree ℕ). IsIndexed schema t c.args.index.now) (sym (ap (λ (s : Shape). s.tree) back.shape)) c.requires.parts.indexed;
     }
 
 pub returns-clause-records : goal.returns-clause-records
-returns-clause-records g c = subst (λ (n : ℕ). KeepsWidened n c.args.tree.now.now c.widen_parts.new.tree.now) c.requires.parts.stored.dims c.in-Ok.ensures.widened.kept
+returns-clause-records g c = subst (λ (n : ℕ). KeepsWidened n c.args.cube.now.tree.now c.widen_parts.new.cube.tree.now) c.requires.parts.stored.dims c.in-Ok.ensures.widened.kept
 
 pub returns-clause-parts : goal.returns-clause-parts
 returns-clause-parts g c =
     let schema = c.args.schema.now in
-    let dict = c.args.dict.now in
-    let table = c.args.table.now in
-    let now = c.widen_parts.new.table in
+    let dict = c.args.cube.now.dict in
+    let table = c.args.cube.now.table in
+    let now = c.widen_parts.new.cube.table in
     let name = c.args.name.now in
     let value = c.args.value.now in
     let stored = c.requires.parts.stored in
@@ -111,7 +111,7 @@ returns-clause-parts g c =
     let wider = c.in-Ok.ensures.widened in
     let closes = c.widen_parts.ensures.closed in
     let longer : wide ≡ with_dim schema name = c.in_ok-wide.ensures in
-    let more : c.widen_parts.new.dict ≡ texts.with_dim dict value = wider.texts in
+    let more : c.widen_parts.new.cube.dict ≡ texts.with_dim dict value = wider.texts in
     let long : length wide.dims ≡ table.dims + 1 = ap (λ (l : Layout). length l.dims) longer ∙ length-append schema.dims (name ∷ []) ∙ ap (λ (n : ℕ). n + 1) (sym stored.dims) in
     let measures : table.measures ≡ length wide.measures = stored.measures ∙ sym (ap (λ (l : Layout). length l.measures) longer) in
     let max = closes.max ∙ c.requires.parts.kept.max ∙ sym (ap (λ (l : Layout). l.nodes) longer) in
@@ -119,41 +119,41 @@ returns-clause-parts g c =
     (subst IsLayout longer c.dims-dims.ensures.layout) closes.valid (subst IsDictionary more closes.dictionary)
     (record { utf8 = c.utf8.value; short = c.requires.value }) in
     record {
-      stored = subst (λ (l : Layout). IsStored l c.widen_parts.new.dict now) (sym longer) (subst (λ (d : TextLists). IsStored (with_dim schema name) d now) (sym more) is);
+      stored = subst (λ (l : Layout). IsStored l c.widen_parts.new.cube.dict now) (sym longer) (subst (λ (d : TextLists). IsStored (with_dim schema name) d now) (sym more) is);
       kept =
-          kept-wide wide now c.widen_parts.new.tree (table.dims + 1) long closes.closed wider.width max wider.few
-          (subst (λ (m : ℕ). IsTreeOf (table.dims + 1) c.widen_parts.new.tree.now (record { measures = m; rows = rows_of now })) measures wider.canonical);
+          kept-wide wide now c.widen_parts.new.cube.tree (table.dims + 1) long closes.closed wider.width max wider.few
+          (subst (λ (m : ℕ). IsTreeOf (table.dims + 1) c.widen_parts.new.cube.tree.now (record { measures = m; rows = rows_of now })) measures wider.canonical);
       indexed = c.in-Ok.ensures.index;
     }
 
 pub returns-clause-gives : goal.returns-clause-gives
 returns-clause-gives g c =
     let schema = c.args.schema.now in
-    let dict = c.args.dict.now in
-    let table = c.args.table.now in
-    let tree = c.args.tree.now.now in
+    let dict = c.args.cube.now.dict in
+    let table = c.args.cube.now.table in
+    let tree = c.args.cube.now.tree.now in
     let name = c.args.name.now in
     let value = c.args.value.now in
-    let now = c.widen_parts.new.table in
+    let now = c.widen_parts.new.cube.table in
     let stored = c.requires.parts.stored in
     let from = c.requires.parts.kept.from in
     let longer : c.in_ok-wide.wide ≡ with_dim schema name = c.in_ok-wide.ensures in
-    let more : c.widen_parts.new.dict ≡ texts.with_dim dict value = c.in-Ok.ensures.widened.texts in
+    let more : c.widen_parts.new.cube.dict ≡ texts.with_dim dict value = c.in-Ok.ensures.widened.texts in
     let old = state_of schema dict table in
     let count : finmap.len tree + classes_in nat_cmp tree ≡ nodes_then old =
     ap₂ (λ (m n : ℕ). m + n) (nodes-kept dict.lists (rows_of table) stored.known stored.dictionary.distinct _ _ tree from) (classes-kept dict.lists (rows_of table) stored.known stored.dictionary.distinct _ _ tree from) in
-    let made : state_of c.in_ok-wide.wide c.widen_parts.new.dict now ≡ widened name value old =
+    let made : state_of c.in_ok-wide.wide c.widen_parts.new.cube.dict now ≡ widened name value old =
     ap₂ (λ (l : Layout) (d : TextLists). state_of l d now) longer more ∙ state-wide schema dict table now name value stored from.wide c.in-Ok.ensures.widened.rows c.in-Ok.ensures.widened.frame in
-    let parts : AreParts c.in_ok-wide.wide c.widen_parts.new.dict now c.widen_parts.new.tree c.in-Ok.made = returns-clause-parts g c in
+    let parts : AreParts c.in_ok-wide.wide c.widen_parts.new.cube c.in-Ok.made = returns-clause-parts g c in
     let is = parts.stored in
     let kept = parts.kept in
     let many : c.class_count-classes.result ≡ length (classes text_cmp (widened name value old).rows) =
-    c.class_count-classes.ensures ∙ classes-kept c.widen_parts.new.dict.lists (rows_of now) is.known is.dictionary.distinct _ _ c.widen_parts.new.tree.now kept.from
+    c.class_count-classes.ensures ∙ classes-kept c.widen_parts.new.cube.dict.lists (rows_of now) is.known is.dictionary.distinct _ _ c.widen_parts.new.cube.tree.now kept.from
     ∙ ap (λ (s : State). length (classes text_cmp s.rows)) made in
     taken-free old name value _ count (sym c.in_default.is ∙ c.full_cause.ensures)
     ∙ ap₂ (λ (n : ℕ) (s : State). let x : Applied = record { records = 0; classes = n; state = s } in Ok x) (sym many) (sym made)
 
 pub returns-clause-steps : goal.returns-clause-steps
 returns-clause-steps g c =
-    let within : 16 * finmap.len c.args.tree.now.now ≤ cost_of_widening (length c.args.schema.now.dims) c.args.tree.now.now = cost-wide (length c.args.schema.now.dims) c.args.tree.now.now in
+    let within : 16 * finmap.len c.args.cube.now.tree.now ≤ cost_of_widening (length c.args.schema.now.dims) c.args.cube.now.tree.now = cost-wide (length c.args.schema.now.dims) c.args.cube.now.tree.now in
     omega (arith, within, c.in-Ok.ensures.steps)

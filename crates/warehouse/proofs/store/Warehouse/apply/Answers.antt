@@ -1,4 +1,4 @@
-use Rattle.std.proofs.Common.{Err, List, Ok, Result, ap, length, subst, sym, true, ◌+◌, ◌++◌, ◌∙◌, ◌≡◌, ◌≤◌}
+use Rattle.std.proofs.Common.{Err, List, Ok, Result, ap, length, refl, subst, sym, ◌+◌, ◌++◌, ◌∙◌, ◌≡◌, ◌≤◌}
 use Rattle.std.specs.Prelude.{IfSome, OnOk}
 use Rattle.cell_core.specs.Gives.{Gives}
 use Rattle.csv_load.specs.Batch.{Change, deleted, inserted}
@@ -6,13 +6,14 @@ use Rattle.csv_load.specs.Faults.{Fault}
 use Rattle.csv_load.specs.Files.{batch_in}
 use Rattle.cube_defs.specs.Text.{Text}
 use Rattle.warehouse.specs.Batch.{result_of}
+use Rattle.warehouse.specs.declared.changing.Building.TheVariants.{InPlace}
 use Rattle.warehouse.specs.InPlace.{KeepsApart, KeepsNodes, cost_in, gone, kept, with_codes}
 use Rattle.warehouse.specs.State.{Contents, State}
-use Rattle.warehouse.specs.Changing.{IsInPlace}
+use Rattle.warehouse.specs.Changing.{IsInPlace, state_in}
 use Rattle.warehouse.proofs.Going.{ok-then}
 use Rattle.warehouse.proofs.Images.{err-then, over-none}
 use Rattle.warehouse.proofs.Repairing.{of-batch}
-use Rattle.warehouse.specs.Stored.{applied_in, refusal_in, state_of}
+use Rattle.warehouse.specs.Stored.{applied_in, refusal_in}
 use Rattle.warehouse.proofs.Trees.{is-held}
 use Rattle.warehouse.proofs.store.Warehouse.apply.Goals as goal
 
@@ -21,7 +22,7 @@ returns-in-Err-clause-gives g c =
     let inside = c.self.inside in
     let state = ap (λ (w : Contents). w.state) (c.self.view_is ∙ c.drop_images.ensures.rest) in
     subst (λ (s : State). IfSome (refusal_in c.refused_file.result) (λ refusal. result_of s (batch_in s.schema c.args.bytes.now) ≡ Err refusal)) state
-    (c.refused_file.ensures (state_of inside.schema inside.dict inside.table) (batch_in inside.schema c.args.bytes.now) c.in-Err.ensures.gives)
+    (c.refused_file.ensures (state_in inside.schema inside.cube) (batch_in inside.schema c.args.bytes.now) c.in-Err.ensures.gives)
 
 pub returns-in-Ok-clause-gives : goal.returns-in-Ok-clause-gives
 returns-in-Ok-clause-gives g c =
@@ -33,7 +34,7 @@ returns-in-Ok-clause-gives g c =
     (subst (λ (s : State). Gives refusal_in (applied_in new) c.change.result (result_of s (Ok c.in-Ok.batch.changes))) was c.change.ensures.gives)
 
 pub returns-in-Err-clause-valid : goal.returns-in-Err-clause-valid
-returns-in-Err-clause-valid g c = rw (← c.self.view_is) (is-held c.self.inside.schema c.self.inside.dict c.self.inside.table c.self.inside.tree c.self.inside.index c.self.invariant.0 c.self.invariant.1 c.self.invariant.2)
+returns-in-Err-clause-valid g c = rw (← c.self.view_is) (is-held c.self.inside.schema c.self.inside.cube c.self.inside.index c.self.invariant)
 
 pub returns-in-Err-clause-images : goal.returns-in-Err-clause-images
 returns-in-Err-clause-images g c = rw (c.drop_images.ensures.rest) (over-none c.args.self.now.tree)
@@ -46,8 +47,8 @@ returns-in-Ok-clause-numbers g c =
     of-batch c.change.result c.args.self.now.state.schema c.args.bytes.now changes
     (λ xs. KeepsNodes (with_codes lists (kept (deleted xs) c.args.self.now.state.rows)) c.args.self.now.tree c.change.new.self.tree)
     (subst (λ (s : State). batch_in s.schema c.args.bytes.now ≡ Ok changes) state c.in-Ok.ensures.gives)
-    (ok-then c.change.result (λ (made : true ≡ true → IsInPlace c.args.self.now.state changes lists c.args.self.now.tree c.change.new.self.tree c.args.steps.now c.change.new.steps) place. (made place).numbers)
-    (subst (λ (w : Contents). OnOk c.change.result (true ≡ true → IsInPlace w.state changes lists w.tree c.change.new.self.tree c.args.steps.now c.change.new.steps)) c.drop_images.ensures.rest c.change.ensures.in_place))
+    (ok-then c.change.result (λ (made : InPlace ≡ InPlace → IsInPlace c.args.self.now.state changes lists c.args.self.now.tree c.change.new.self.tree c.args.steps.now c.change.new.steps). (made refl).numbers)
+    (subst (λ (w : Contents). OnOk c.change.result (InPlace ≡ InPlace → IsInPlace w.state changes lists w.tree c.change.new.self.tree c.args.steps.now c.change.new.steps)) c.drop_images.ensures.rest c.change.ensures.in_place))
 
 pub returns-in-Ok-clause-apart : goal.returns-in-Ok-clause-apart
 returns-in-Ok-clause-apart g c =
@@ -57,8 +58,8 @@ returns-in-Ok-clause-apart g c =
     of-batch c.change.result c.args.self.now.state.schema c.args.bytes.now changes
     (λ xs. KeepsApart (with_codes lists (gone (deleted xs) c.args.self.now.state.rows ++ inserted xs)) c.args.self.now.tree c.change.new.self.tree)
     (subst (λ (s : State). batch_in s.schema c.args.bytes.now ≡ Ok changes) state c.in-Ok.ensures.gives)
-    (ok-then c.change.result (λ (made : true ≡ true → IsInPlace c.args.self.now.state changes lists c.args.self.now.tree c.change.new.self.tree c.args.steps.now c.change.new.steps) place. (made place).apart)
-    (subst (λ (w : Contents). OnOk c.change.result (true ≡ true → IsInPlace w.state changes lists w.tree c.change.new.self.tree c.args.steps.now c.change.new.steps)) c.drop_images.ensures.rest c.change.ensures.in_place))
+    (ok-then c.change.result (λ (made : InPlace ≡ InPlace → IsInPlace c.args.self.now.state changes lists c.args.self.now.tree c.change.new.self.tree c.args.steps.now c.change.new.steps). (made refl).apart)
+    (subst (λ (w : Contents). OnOk c.change.result (InPlace ≡ InPlace → IsInPlace w.state changes lists w.tree c.change.new.self.tree c.args.steps.now c.change.new.steps)) c.drop_images.ensures.rest c.change.ensures.in_place))
 
 pub returns-in-Ok-clause-steps : goal.returns-in-Ok-clause-steps
 returns-in-Ok-clause-steps g c =
@@ -68,8 +69,8 @@ returns-in-Ok-clause-steps g c =
     of-batch c.change.result c.args.self.now.state.schema c.args.bytes.now changes
     (λ xs. c.change.new.steps ≤ c.args.steps.now + cost_in c.args.self.now.state xs)
     (subst (λ (s : State). batch_in s.schema c.args.bytes.now ≡ Ok changes) state c.in-Ok.ensures.gives)
-    (ok-then c.change.result (λ (made : true ≡ true → IsInPlace c.args.self.now.state changes lists c.args.self.now.tree c.change.new.self.tree c.args.steps.now c.change.new.steps) place. (made place).steps)
-    (subst (λ (w : Contents). OnOk c.change.result (true ≡ true → IsInPlace w.state changes lists w.tree c.change.new.self.tree c.args.steps.now c.change.new.steps)) c.drop_images.ensures.rest c.change.ensures.in_place))
+    (ok-then c.change.result (λ (made : InPlace ≡ InPlace → IsInPlace c.args.self.now.state changes lists c.args.self.now.tree c.change.new.self.tree c.args.steps.now c.change.new.steps). (made refl).steps)
+    (subst (λ (w : Contents). OnOk c.change.result (InPlace ≡ InPlace → IsInPlace w.state changes lists w.tree c.change.new.self.tree c.args.steps.now c.change.new.steps)) c.drop_images.ensures.rest c.change.ensures.in_place))
 
 pub returns-in-Ok-clause-state : goal.returns-in-Ok-clause-state
 returns-in-Ok-clause-state g c =

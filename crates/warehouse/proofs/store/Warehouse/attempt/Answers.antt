@@ -7,16 +7,17 @@ use Rattle.csv_load.specs.Files.{batch_in}
 use Rattle.cube_defs.specs.Text.{Text}
 use Rattle.warehouse.specs.Batch.{result_of}
 use Rattle.warehouse.specs.InPlace.{cost_in}
+use Rattle.warehouse.specs.Changing.{state_in}
 use Rattle.warehouse.specs.State.{Contents, State}
-use Rattle.warehouse.specs.Stored.{applied_in, refusal_in, state_of}
-use Rattle.warehouse.proofs.Repairing.{of-batch, on-premise}
+use Rattle.warehouse.specs.Stored.{applied_in, refusal_in}
+use Rattle.warehouse.proofs.Repairing.{of-batch}
 use Rattle.warehouse.proofs.Trees.{is-held}
 use Rattle.warehouse.proofs.store.Warehouse.attempt.Goals as goal
 
 pub returns-in-Err-clause-gives : goal.returns-in-Err-clause-gives
 returns-in-Err-clause-gives g c =
     let inside = c.self.inside in
-    let old = state_of inside.schema inside.dict inside.table in
+    let old = state_in inside.schema inside.cube in
     let state = ap (λ (w : Contents). w.state) (c.self.view_is ∙ c.drop_images.ensures.rest) in (
       old,
       subst (λ (s : State). IfSome (refusal_in c.refused_file.result) (λ refusal. result_of s (batch_in s.schema c.args.bytes.now) ≡ Err refusal)) state
@@ -32,7 +33,7 @@ returns-in-Ok-clause-gives g c =
     (subst (λ (s : State). (after : State) × Gives refusal_in (applied_in after) c.try_change.result (result_of s (Ok c.in-Ok.batch.changes))) was c.try_change.ensures.gives)
 
 pub returns-in-Err-clause-valid : goal.returns-in-Err-clause-valid
-returns-in-Err-clause-valid g c = rw (← c.self.view_is) (is-held c.self.inside.schema c.self.inside.dict c.self.inside.table c.self.inside.tree c.self.inside.index c.self.invariant.0 c.self.invariant.1 c.self.invariant.2)
+returns-in-Err-clause-valid g c = rw (← c.self.view_is) (is-held c.self.inside.schema c.self.inside.cube c.self.inside.index c.self.invariant)
 
 pub returns-in-Ok-clause-steps : goal.returns-in-Ok-clause-steps
 returns-in-Ok-clause-steps g c =
@@ -41,5 +42,4 @@ returns-in-Ok-clause-steps g c =
     of-batch c.try_change.result c.args.self.now.state.schema c.args.bytes.now changes
     (λ xs. c.try_change.new.steps ≤ c.args.steps.now + cost_in c.args.self.now.state xs)
     (subst (λ (s : State). batch_in s.schema c.args.bytes.now ≡ Ok changes) state c.in-Ok.ensures.gives)
-    (on-premise c.try_change.result _ _
-    (subst (λ (w : Contents). OnOk c.try_change.result (c.try_change.new.steps ≤ c.args.steps.now + cost_in w.state changes)) c.drop_images.ensures.rest c.try_change.ensures.steps))
+    (subst (λ (w : Contents). OnOk c.try_change.result (c.try_change.new.steps ≤ c.args.steps.now + cost_in w.state changes)) c.drop_images.ensures.rest c.try_change.ensures.steps)

@@ -5,9 +5,6 @@ use Rattle.warehouse.proofs.Images.{over-kept}
 use Rattle.warehouse.proofs.Trees.{is-held}
 use Rattle.warehouse.proofs.store.Warehouse.change.Goals as goal
 
-pub change-requires-clause-parts : goal.change-requires-clause-parts
-change-requires-clause-parts g c = record { stored = c.self.invariant.0; kept = c.self.invariant.1; indexed = c.self.invariant.2 }
-
 pub returns-clause-gives : goal.returns-clause-gives
 returns-clause-gives g c = rw (← c.self.view_is) c.change.ensures.gives
 
@@ -19,12 +16,11 @@ returns-clause-same g c = rw (← c.self.view_is) c.change.ensures.same
 
 pub returns-clause-valid : goal.returns-clause-valid
 returns-clause-valid g c =
-    let parts = c.change.ensures.parts in
-    is-held c.self.inside.schema c.change.new.dict c.change.new.table c.change.new.tree c.change.new.index parts.stored parts.kept parts.indexed
+    is-held c.self.inside.schema c.change.new.cube c.change.new.index c.change.ensures.parts
 
 pub returns-clause-images : goal.returns-clause-images
 returns-clause-images g c =
     let inside = c.self.inside in
     rw (← c.self.view_is)
-    (over-kept c.change.result (contents_of inside.schema c.change.new.dict c.change.new.table c.change.new.tree c.change.new.index) (contents_of inside.schema inside.dict inside.table inside.tree inside.index)
+    (over-kept c.change.result (contents_of inside.schema c.change.new.cube c.change.new.index) (contents_of inside.schema inside.cube inside.index)
     c.change.ensures.images c.change.ensures.same (ap (λ (w : Contents). w.images) c.self.view_is ∙ c.requires.images))

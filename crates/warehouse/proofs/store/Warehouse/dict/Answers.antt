@@ -2,4 +2,4 @@ use Rattle.warehouse.proofs.Trees.{is-held}
 use Rattle.warehouse.proofs.store.Warehouse.dict.Goals as goal
 
 pub returns-clause-valid : goal.returns-clause-valid
-returns-clause-valid c = rw (← c.self.view_is) (is-held c.self.inside.schema c.self.inside.dict c.self.inside.table c.self.inside.tree c.self.inside.index c.self.invariant.0 c.self.invariant.1 c.self.invariant.2)
+returns-clause-valid c = rw (← c.self.view_is) (is-held c.self.inside.schema c.self.inside.cube c.self.inside.index c.self.invariant)

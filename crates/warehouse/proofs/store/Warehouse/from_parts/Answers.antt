@@ -6,10 +6,12 @@ use Rattle.warehouse.proofs.Trees.{is-held}
 use Rattle.warehouse.proofs.store.Warehouse.from_parts.Goals as goal
 
 pub invariant_of-result : goal.invariant_of-result
-invariant_of-result g c = (c.requires, c.in-Ok.ensures.tree, c.in-Ok.ensures.index)
+invariant_of-result g c = record { stored = c.requires; kept = c.in-Ok.ensures.tree; indexed = c.in-Ok.ensures.index }
 
 pub returns-in-Ok-clause-valid : goal.returns-in-Ok-clause-valid
-returns-in-Ok-clause-valid g c = is-held c.args.schema c.args.dict c.args.table c.in-Ok.tree c.in-Ok.index c.requires c.in-Ok.ensures.tree c.in-Ok.ensures.index
+returns-in-Ok-clause-valid g c =
+    is-held c.args.schema (record { table = c.args.table; dict = c.args.dict; tree = c.in-Ok.tree; alloc = c.args.alloc }) c.in-Ok.index
+    (record { stored = c.requires; kept = c.in-Ok.ensures.tree; indexed = c.in-Ok.ensures.index })
 
 pub returns-in-Err-clause-nodes_full : goal.returns-in-Err-clause-nodes_full
 returns-in-Err-clause-nodes_full g c = λ e.

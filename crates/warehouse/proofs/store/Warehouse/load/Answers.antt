@@ -7,8 +7,9 @@ use Rattle.csv_load.specs.Faults.{Fault}
 use Rattle.csv_load.specs.Files.{base_in}
 use Rattle.cube_defs.specs.Text.{Text}
 use Rattle.warehouse.specs.Batch.{Load, result, result_of}
+use Rattle.warehouse.specs.Changing.{state_in}
 use Rattle.warehouse.specs.State.{Contents, State}
-use Rattle.warehouse.specs.Stored.{applied_in, decoded_rows, refusal_in, state_of}
+use Rattle.warehouse.specs.Stored.{applied_in, decoded_rows, refusal_in}
 use Rattle.warehouse.proofs.Decoding.{length-rows}
 use Rattle.warehouse.proofs.Images.{err-then, over-none}
 use Rattle.warehouse.proofs.Trees.{is-held}
@@ -18,9 +19,9 @@ pub returns-in-Err-clause-gives : goal.returns-in-Err-clause-gives
 returns-in-Err-clause-gives g c =
     let inside = c.self.inside in
     let state = ap (λ (w : Contents). w.state) (c.self.view_is ∙ c.drop_images.ensures.rest) in
-    let empty : nat_eq (length (decoded_rows inside.dict.lists inside.table)) 0 ≡ true = grind (arith, length-rows inside.dict.lists (rows_of inside.table), c.count.ensures.value, c.if-count-ne0.false) in
+    let empty : nat_eq (length (decoded_rows inside.cube.dict.lists inside.cube.table)) 0 ≡ true = grind (arith, length-rows inside.cube.dict.lists (rows_of inside.cube.table), c.count.ensures.value, c.if-count-ne0.false) in
     subst (λ (s : State). IfSome (refusal_in c.refused_file.result) (λ refusal. result s Load c.args.bytes.now ≡ Err refusal)) state
-    (rw empty (c.refused_file.ensures (state_of inside.schema inside.dict inside.table) (base_in inside.schema c.args.bytes.now) c.in-Err.ensures.gives))
+    (rw empty (c.refused_file.ensures (state_in inside.schema inside.cube) (base_in inside.schema c.args.bytes.now) c.in-Err.ensures.gives))
 
 pub returns-in-Ok-clause-gives : goal.returns-in-Ok-clause-gives
 returns-in-Ok-clause-gives g c =
@@ -28,7 +29,7 @@ returns-in-Ok-clause-gives g c =
     let state = ap (λ (w : Contents). w.state) (c.self.view_is ∙ c.drop_images.ensures.rest) in
     let was = ap (λ (w : Contents). w.state) c.drop_images.ensures.rest in
     let new = c.change.new.self.state in
-    let empty : nat_eq (length (decoded_rows inside.dict.lists inside.table)) 0 ≡ true = grind (arith, length-rows inside.dict.lists (rows_of inside.table), c.count.ensures.value, c.if-count-ne0.false) in
+    let empty : nat_eq (length (decoded_rows inside.cube.dict.lists inside.cube.table)) 0 ≡ true = grind (arith, length-rows inside.cube.dict.lists (rows_of inside.cube.table), c.count.ensures.value, c.if-count-ne0.false) in
     let none : nat_eq (length c.args.self.now.state.rows) 0 ≡ true = subst (λ (s : State). nat_eq (length s.rows) 0 ≡ true) state empty in
     let read : base_in c.args.self.now.state.schema c.args.bytes.now ≡ Ok c.in-Ok.batch.changes = subst (λ (s : State). base_in s.schema c.args.bytes.now ≡ Ok c.in-Ok.batch.changes) state c.in-Ok.ensures.gives in
     rw none
@@ -36,10 +37,10 @@ returns-in-Ok-clause-gives g c =
     (subst (λ (s : State). Gives refusal_in (applied_in new) c.change.result (result_of s (Ok c.in-Ok.batch.changes))) was c.change.ensures.gives))
 
 pub returns-then-count-ne0-clause-valid : goal.returns-then-count-ne0-clause-valid
-returns-then-count-ne0-clause-valid g c = rw (← c.self.view_is) (is-held c.self.inside.schema c.self.inside.dict c.self.inside.table c.self.inside.tree c.self.inside.index c.self.invariant.0 c.self.invariant.1 c.self.invariant.2)
+returns-then-count-ne0-clause-valid g c = rw (← c.self.view_is) (is-held c.self.inside.schema c.self.inside.cube c.self.inside.index c.self.invariant)
 
 pub returns-in-Err-clause-valid : goal.returns-in-Err-clause-valid
-returns-in-Err-clause-valid g c = rw (← c.self.view_is) (is-held c.self.inside.schema c.self.inside.dict c.self.inside.table c.self.inside.tree c.self.inside.index c.self.invariant.0 c.self.invariant.1 c.self.invariant.2)
+returns-in-Err-clause-valid g c = rw (← c.self.view_is) (is-held c.self.inside.schema c.self.inside.cube c.self.inside.index c.self.invariant)
 
 pub returns-then-count-ne0-clause-images : goal.returns-then-count-ne0-clause-images
 returns-then-count-ne0-clause-images g c = rw (c.drop_images.ensures.rest) (over-none c.args.self.now.tree)

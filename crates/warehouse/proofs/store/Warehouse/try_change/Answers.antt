@@ -13,5 +13,9 @@ returns-clause-steps g c = rw (← c.self.view_is) c.attempt.ensures.steps
 pub returns-clause-valid : goal.returns-clause-valid
 returns-clause-valid g c =
     let back = c.attempt.ensures.back in
-    is-held c.self.inside.schema c.attempt.new.dict c.attempt.new.table c.attempt.new.tree c.self.inside.index back.stored back.kept
-    (subst (λ (t : Tree ℕ). IsIndexed c.self.inside.schema t c.self.inside.index) (sym back.same_tree) c.self.invariant.2)
+    is-held c.self.inside.schema c.attempt.new.cube c.self.inside.index
+    (record {
+      stored = back.stored;
+      kept = back.kept;
+      indexed = subst (λ (t : Tree ℕ). IsIndexed c.self.inside.schema t c.self.inside.index) (sym back.same_tree) c.self.invariant.indexed;
+    })

@@ -1,29 +1,26 @@
 use Rattle.std.proofs.Common.{length, subst, ◌+◌, ◌∙◌, ◌≤◌}
 use Rattle.std.specs.Prelude.{OnOk}
 use Rattle.cell_core.specs.Gives.{Gives}
+use Rattle.warehouse.specs.Changing.{state_in}
 use Rattle.warehouse.specs.State.{Contents}
-use Rattle.warehouse.specs.Stored.{applied_in, state_of}
+use Rattle.warehouse.specs.Stored.{applied_in}
 use Rattle.warehouse.specs.Widening.{KeepsWidened, cost_of_widening, widen_refusal_in, widen_result}
 use Rattle.warehouse.proofs.Trees.{is-held}
 use Rattle.warehouse.proofs.store.Warehouse.widen.Goals as goal
 
 pub returns-clause-gives : goal.returns-clause-gives
 returns-clause-gives g c =
-    let then_state = state_of c.widen.new.schema c.widen.new.dict c.widen.new.table in
+    let then_state = state_in c.widen.new.schema c.widen.new.cube in
     subst (λ (w : Contents). Gives widen_refusal_in (applied_in then_state) c.widen.result (widen_result w.state c.args.name.now c.args.value.now)) (c.self.view_is ∙ c.drop_images.ensures.rest) c.widen.ensures.gives
 
 pub returns-clause-records : goal.returns-clause-records
 returns-clause-records g c =
-    subst (λ (w : Contents). OnOk c.widen.result (KeepsWidened (length w.state.schema.dims) w.tree c.widen.new.tree.now)) (c.self.view_is ∙ c.drop_images.ensures.rest) c.widen.ensures.records
+    subst (λ (w : Contents). OnOk c.widen.result (KeepsWidened (length w.state.schema.dims) w.tree c.widen.new.cube.tree.now)) (c.self.view_is ∙ c.drop_images.ensures.rest) c.widen.ensures.records
 
 pub returns-clause-steps : goal.returns-clause-steps
 returns-clause-steps g c =
     subst (λ (w : Contents). OnOk c.widen.result (c.widen.new.steps ≤ c.args.steps.now + cost_of_widening (length w.state.schema.dims) w.tree)) (c.self.view_is ∙ c.drop_images.ensures.rest) c.widen.ensures.steps
 
-pub widen-requires-clause-parts : goal.widen-requires-clause-parts
-widen-requires-clause-parts g c = record { stored = c.self.invariant.0; kept = c.self.invariant.1; indexed = c.self.invariant.2 }
-
 pub returns-clause-valid : goal.returns-clause-valid
 returns-clause-valid g c =
-    let parts = c.widen.ensures.parts in
-    is-held c.widen.new.schema c.widen.new.dict c.widen.new.table c.widen.new.tree c.widen.new.index parts.stored parts.kept parts.indexed
+    is-held c.widen.new.schema c.widen.new.cube c.widen.new.index c.widen.ensures.parts

@@ -14,4 +14,4 @@ invariant_of-result c =
     let stored : IsStored schema c.in-Ok.dict c.in-Ok.table = rw (rows.texts, rows.rows) (stored-empty schema c.no_rows.ensures.layout (subst IsDictionary rows.texts rows.dictionary)) in
     let kept : IsTreeOfTable schema c.in-Ok.table c.in-Ok-no_tree.tree = rw (rows.rows, made.tree) (kept-empty schema) in
     let indexed : IsIndexed schema c.in-Ok-no_tree.tree.now c.in-Ok-no_tree.index = rw (made.tree) made.index in
-    (stored, kept, indexed)
+    record { stored = stored; kept = kept; indexed = indexed }
