@@ -1,159 +1,157 @@
 // A list of keys that finds the last place of a key, and from each place the one before of the same key.
-ghost use Rattle.std.specs.Prelude.{◌≡◌, ℕ, ◌+◌, ◌-◌, ◌^◌, ◌<◌, ◌≤◌, length, Some, IfOk, OnOk, OnErr, slice_index_or, take, ◌++◌, ◌∷◌, [], is_some, true, Option, vec_capacity, vec_len};
-ghost use Rattle.std.specs.Option.{unwrap_or};
-ghost use Rattle.indexmap.specs.IndexMap.{get, IsUnchanged, Updates, UpdatesBy};
-ghost use Rattle.base_table.specs.Last.{last_of, AreChains, picked, HasKeys};
+ghost use Rattle.std.specs.Prelude.{OnErr, OnOk, [], length, slice_index, slice_index_or, take, vec_capacity, vec_len, ◌+◌, ◌++◌, ◌-◌, ◌<◌, ◌∷◌, ◌^◌, ◌≡◌, ◌≤◌, ℕ};
+ghost use Rattle.base_table.specs.Last.{AreChains, bucket_in, in_bucket, last_of, picked};
 
-use cell_core::HashKeys;
-use indexmap::IndexMap;
+use crate::numbered::Numbered;
 use std::alloc::{AllocError, Global};
-use std::hash::Hash;
 use std::marker::Model;
 
-// For each key one more than its last place.
-type Heads<K> = IndexMap<K, u32, HashKeys>;
-
-/// A list of keys. The last place of a key is found in one step, and from a place the one before of
-/// the same key.
+// Keys in buckets. A head is one more than the last place of its bucket, or 0. Each place has one
+// more than the place before of the same bucket, or 0.
 #[derive(Drop)]
-pub struct Chains<K: Eq + Hash> {
-    heads: Heads<K>,
+pub(crate) struct Links<K: Numbered> {
+    multiplier: u32,
+    heads: Vec<u32>,
     keys: Vec<K>,
     before: Vec<u32>,
 }
 
-impl<K: Eq + Hash> Model for Chains<K> {
+/// A list of keys. The last place of a key is found in a few steps, and from a place the one before
+/// of the same key.
+#[derive(Drop)]
+pub struct Chains<K: Numbered> {
+    links: Links<K>,
+}
+
+impl<K: Numbered> Model for Chains<K> {
     ghost use Rattle.std.specs.Prelude.{List};
     ghost use Rattle.base_table.specs.Last.{AreChains};
 
     ghost Value = { List K };
 
-    ghost view = { λ c. c.keys.items };
+    ghost view = { λ c. c.links.keys.items };
 
-    ghost invariant = { λ c. AreChains K.eq c.heads c.keys.items c.before.items };
+    ghost invariant = { λ c. AreChains K.number c.links.multiplier c.links.heads.items c.links.keys.items c.links.before.items };
 }
 
-// Writes the last place of a key that has one, or removes the key.
-fn set_head<K: Eq + Hash + Drop>(heads: &mut Heads<K>, key: &K, head: u32)
-    requires { 0 < unwrap_or (get K.eq heads.old key.now) 0 }
-    ensures { (w : Option ℕ) × UpdatesBy K.eq (K.eq key.now) heads.old heads.new w × (unwrap_or w 0 ≡ head) }
+// The bucket of a key.
+fn bucket<K: Numbered>(key: &K, multiplier: u32, heads: &Vec<u32>) -> usize
+    requires { 0 < length heads.now.items }
+    ensures bucket { result ≡ bucket_in K.number multiplier (length heads.now.items) key.now }
+    ensures within { result < length heads.now.items }
 {
-    if head == 0 {
-        heads.swap_remove(key);
-        return;
-    }
-    if let Some(place) = heads.get_mut(key) {
-        *place = head;
-    }
+    key.number(multiplier) as usize % heads.len()
 }
 
-// Writes no last place for every key. The keys stay.
-fn blank<K: Eq + Hash>(heads: &mut Heads<K>)
-    ensures zero { (k : K) → unwrap_or (get K.eq heads.new k) 0 ≡ 0 }
-    ensures held { (k : K) → is_some (get K.eq heads.new k) ≡ is_some (get K.eq heads.old k) }
+// One more than the last place of the key, or 0, by a walk that starts at the last place of its bucket.
+fn find_from<K: Numbered>(links: &Links<K>, key: &K, start: u32) -> u32
+    requires chains { AreChains K.number links.now.multiplier links.now.heads.items links.now.keys.items links.now.before.items }
+    requires within { start ≤ length links.now.keys.items }
+    requires last { last_of (in_bucket (bucket_in K.number links.now.multiplier (length links.now.heads.items)) key.now) (take start links.now.keys.items) ≡ start }
+    ensures { result ≡ last_of (K.eq key.now) (take start links.now.keys.items) }
 {
-    let len = heads.len();
-    for i in 0..len {
-        heads[i] = 0;
+    let mut at = start;
+    'places: while at > 0 && *key != links.keys[at as usize - 1] {
+        at = links.before[at as usize - 1];
     }
+    at
 }
 
-// Writes the last place of a key that the map has, and returns the old one.
-fn put_head<K: Eq + Hash>(heads: &mut Heads<K>, key: &K, head: u32) -> u32
-    requires { is_some (get K.eq heads.old key.now) ≡ true }
-    ensures was { result ≡ unwrap_or (get K.eq heads.old key.now) 0 }
-    ensures updates { UpdatesBy K.eq (K.eq key.now) heads.old heads.new (Some head) }
+// Links the first key that has no link yet.
+fn link_next<K: Numbered>(links: &mut Links<K>)
+    requires more { length links.old.before.items < length links.old.keys.items }
+    requires room { length links.old.before.items < vec_capacity links.old.before }
+    requires small { length links.old.keys.items < 2 ^ 32 }
+    requires some { 0 < length links.old.heads.items }
+    requires chains { AreChains K.number links.old.multiplier links.old.heads.items (take (length links.old.before.items) links.old.keys.items) links.old.before.items }
+    ensures chains { AreChains K.number links.new.multiplier links.new.heads.items (take (length links.new.before.items) links.new.keys.items) links.new.before.items }
+    ensures keys { links.new.keys ≡ links.old.keys }
+    ensures len { length links.new.before.items ≡ length links.old.before.items + 1 }
+    ensures room { vec_capacity links.new.before ≡ vec_capacity links.old.before }
+    ensures heads { length links.new.heads.items ≡ length links.old.heads.items }
 {
-    let mut was = 0;
-    if let Some(place) = heads.get_mut(key) {
-        was = *place;
-        *place = head;
-    }
-    was
+    let place = links.before.len();
+    let at = bucket(&links.keys[place], links.multiplier, &links.heads);
+    links.before.push_reserved(links.heads[at]);
+    links.heads[at] = place as u32 + 1;
 }
 
-// Makes room for one more key and its place.
+// Writes 0 at each head.
+fn blank(heads: &mut Vec<u32>)
+    ensures zero { (j : ℕ) → slice_index heads.new.items j ≡ 0 }
+    ensures len { length heads.new.items ≡ length heads.old.items }
+{
+    'heads: for at in 0..heads.len() {
+        heads[at] = 0;
+    }
+}
+
+// Links all keys anew. Takes no memory.
+fn relink<K: Numbered>(links: &mut Links<K>)
+    requires small { length links.old.keys.items < 2 ^ 32 }
+    requires some { 0 < length links.old.keys.items → 0 < length links.old.heads.items }
+    requires room { length links.old.keys.items ≤ vec_capacity links.old.before }
+    ensures chains { AreChains K.number links.new.multiplier links.new.heads.items links.new.keys.items links.new.before.items }
+    ensures keys { links.new.keys ≡ links.old.keys }
+    ensures room { vec_capacity links.new.before ≡ vec_capacity links.old.before }
+    ensures heads { length links.new.heads.items ≡ length links.old.heads.items }
+{
+    blank(&mut links.heads);
+    links.before.clear();
+    'keys: while links.before.len() < links.keys.len() {
+        link_next(links);
+    }
+}
+
+// Makes more buckets, if there are no more of them than keys.
+fn make_buckets<K: Numbered>(links: &mut Links<K>) -> Result<(), AllocError>
+    requires chains { AreChains K.number links.old.multiplier links.old.heads.items links.old.keys.items links.old.before.items }
+    ensures chains { AreChains K.number links.new.multiplier links.new.heads.items links.new.keys.items links.new.before.items }
+    ensures keys { links.new.keys ≡ links.old.keys }
+    ensures room { vec_capacity links.new.before ≡ vec_capacity links.old.before }
+    ensures ok { OnOk result (0 < length links.new.heads.items) }
+{
+    let keys = links.keys.len();
+    if keys < links.heads.len() {
+        return Ok(());
+    }
+    links.heads.resize(2 * keys + FEW_BUCKETS, 0)?;
+    relink(links);
+    Ok(())
+}
+
+// There are some more buckets than twice the keys, after they were made.
+const FEW_BUCKETS: usize = 16;
+
+// Makes room for one more key and its link.
 fn make_room<K>(keys: &mut Vec<K>, before: &mut Vec<u32>) -> Result<(), AllocError>
     ensures keys { keys.new.items ≡ keys.old.items }
     ensures before { before.new.items ≡ before.old.items }
     ensures key_room { OnOk result (vec_len keys.new < vec_capacity keys.new) }
-    ensures place_room { OnOk result (vec_len before.new < vec_capacity before.new) }
+    ensures link_room { OnOk result (vec_len before.new < vec_capacity before.new) }
 {
     keys.reserve(1)?;
     before.reserve(1)
 }
 
-// Writes the last place of a key, which is inserted if the map has no such key, and returns the old
-// one.
-fn write_head<K: Eq + Hash + Copy + Drop>(
-    heads: &mut Heads<K>,
-    key: K,
-    head: u32,
-) -> Result<u32, AllocError>
-    ensures was { IfOk result (λ was. was ≡ unwrap_or (get K.eq heads.old key) 0) }
-    ensures updates { OnOk result (Updates K.eq heads.old heads.new key (Some head)) }
-    ensures err { OnErr result (IsUnchanged heads.old heads.new) }
-{
-    match heads.insert(key, head) {
-        Ok(was) => Ok(was.unwrap_or(0)),
-        Err(_) => Err(AllocError),
-    }
-}
-
-// Moves the kept keys to the beginning, and rewrites their places.
-fn repack<K: Eq + Hash + Copy + Drop>(
-    heads: &mut Heads<K>,
-    keys: &mut [K],
-    before: &mut [u32],
-    kept: &[bool],
-) -> usize
-    requires few { length keys.old < 2 ^ 32 }
-    requires before { length before.old ≡ length keys.old }
-    requires kept { length kept.now ≡ length keys.old }
-    requires zero { (k : K) → unwrap_or (get K.eq heads.old k) 0 ≡ 0 }
-    requires held { HasKeys K.eq heads.old keys.old }
+// Moves the kept keys to the beginning, and gives their number.
+fn pack<K: Copy + Drop>(keys: &mut [K], kept: &[bool]) -> usize
+    requires { length kept.now ≡ length keys.old }
     ensures within { result ≤ length keys.old }
     ensures picked { take result keys.new ≡ picked kept.now keys.old }
-    ensures chains { AreChains K.eq heads.new (take result keys.new) (take result before.new) }
 {
     let mut len = 0;
-    for i in 0..kept.len() {
-        if !kept[i] {
-            continue;
+    'keys: for i in 0..kept.len() {
+        if kept[i] {
+            keys[len] = keys[i];
+            len += 1;
         }
-        let key = keys[i];
-        let head = put_head(heads, &key, len as u32 + 1);
-        keys[len] = key;
-        before[len] = head;
-        len += 1;
     }
     len
 }
 
-// Removes the keys that have no place.
-fn sweep<K: Eq + Hash + Drop>(heads: &mut Heads<K>)
-    ensures { (k : K) → unwrap_or (get K.eq heads.new k) 0 ≡ unwrap_or (get K.eq heads.old k) 0 }
-{
-    let mut i = heads.len();
-    while i > 0 {
-        i -= 1;
-        drop_blank(heads, i);
-    }
-}
-
-// Removes the key at the index if it has no place.
-fn drop_blank<K: Eq + Hash + Drop>(heads: &mut Heads<K>, index: usize)
-    ensures { (k : K) → unwrap_or (get K.eq heads.new k) 0 ≡ unwrap_or (get K.eq heads.old k) 0 }
-{
-    if let Some((_, place)) = heads.get_index(index) {
-        if *place == 0 {
-            heads.swap_remove_index(index);
-        }
-    }
-}
-
 // Removes keys down to a length. Takes no memory.
-pub(crate) fn cut<K: Eq + Hash + Copy + Drop>(chains: &mut Chains<K>, len: u32)
+pub(crate) fn cut<K: Numbered + Copy + Drop>(chains: &mut Chains<K>, len: u32)
     requires { len ≤ length chains.old }
     ensures { chains.new ≡ take len chains.old }
 {
@@ -162,28 +160,26 @@ pub(crate) fn cut<K: Eq + Hash + Copy + Drop>(chains: &mut Chains<K>, len: u32)
     }
 }
 
-impl<K: Eq + Hash + Copy + Drop> Chains<K> {
-    /// No keys.
-    pub fn new(alloc: Global, keys: HashKeys) -> Self
+impl<K: Numbered + Copy + Drop> Chains<K> {
+    /// No keys. They will have their numbers under the multiplier.
+    pub fn new(alloc: Global, multiplier: u32) -> Self
         ensures { result ≡ [] }
     {
         Chains {
-            heads: IndexMap::with_hasher(alloc, keys),
-            keys: Vec::new(alloc),
-            before: Vec::new(alloc),
+            links: Links {
+                multiplier,
+                heads: Vec::new(alloc),
+                keys: Vec::new(alloc),
+                before: Vec::new(alloc),
+            },
         }
-    }
-
-    /// What the keys are hashed under.
-    pub fn hash_keys(&self) -> HashKeys {
-        *self.heads.hasher()
     }
 
     /// The number of keys.
     pub fn len(&self) -> u32
         ensures { result ≡ length self.now }
     {
-        self.keys.len() as u32
+        self.links.keys.len() as u32
     }
 
     /// The key at a place.
@@ -191,14 +187,19 @@ impl<K: Eq + Hash + Copy + Drop> Chains<K> {
         requires { place < length self.now }
         ensures { (d : K) → result ≡ slice_index_or self.now place d }
     {
-        self.keys[place as usize]
+        self.links.keys[place as usize]
     }
 
     /// One more than the last place of the key, or 0.
     pub fn last(&self, key: &K) -> u32
         ensures value { result ≡ last_of (K.eq key.now) self.now }
     {
-        self.heads.get(key).copied().unwrap_or(0)
+        let links = &self.links;
+        if links.heads.is_empty() {
+            return 0;
+        }
+        let at = bucket(key, links.multiplier, &links.heads);
+        find_from(links, key, links.heads[at])
     }
 
     /// One more than the last place of the same key before the place, or 0.
@@ -206,7 +207,9 @@ impl<K: Eq + Hash + Copy + Drop> Chains<K> {
         requires { place < length self.now }
         ensures { (d : K) → result ≡ last_of (K.eq (slice_index_or self.now place d)) (take place self.now) }
     {
-        self.before[place as usize]
+        let links = &self.links;
+        let key = links.keys[place as usize];
+        find_from(links, &key, links.before[place as usize])
     }
 
     /// Appends a key.
@@ -215,11 +218,10 @@ impl<K: Eq + Hash + Copy + Drop> Chains<K> {
         ensures ok { OnOk result (self.new ≡ self.old ++ key ∷ []) }
         ensures err { OnErr result (self.new ≡ self.old) }
     {
-        make_room(&mut self.keys, &mut self.before)?;
-        let len = self.keys.len() as u32;
-        let before = write_head(&mut self.heads, key, len + 1)?;
-        self.before.push_reserved(before);
-        self.keys.push_reserved(key);
+        make_room(&mut self.links.keys, &mut self.links.before)?;
+        make_buckets(&mut self.links)?;
+        self.links.keys.push_reserved(key);
+        link_next(&mut self.links);
         Ok(())
     }
 
@@ -228,9 +230,10 @@ impl<K: Eq + Hash + Copy + Drop> Chains<K> {
         requires { 0 < length self.old }
         ensures { self.new ≡ take (length self.old - 1) self.old }
     {
-        let key = self.keys.pop().unwrap();
-        let head = self.before.pop().unwrap();
-        set_head(&mut self.heads, &key, head);
+        let key = self.links.keys.pop().unwrap();
+        let head = self.links.before.pop().unwrap();
+        let at = bucket(&key, self.links.multiplier, &self.links.heads);
+        self.links.heads[at] = head;
     }
 
     /// Keeps the marked places alone, in order. Takes no memory.
@@ -238,15 +241,8 @@ impl<K: Eq + Hash + Copy + Drop> Chains<K> {
         requires { length kept.now ≡ length self.old }
         ensures { self.new ≡ picked kept.now self.old }
     {
-        blank(&mut self.heads);
-        let len = repack(
-            &mut self.heads,
-            self.keys.as_mut_slice(),
-            self.before.as_mut_slice(),
-            kept,
-        );
-        self.keys.truncate(len);
-        self.before.truncate(len);
-        sweep(&mut self.heads);
+        let len = pack(self.links.keys.as_mut_slice(), kept);
+        self.links.keys.truncate(len);
+        relink(&mut self.links);
     }
 }

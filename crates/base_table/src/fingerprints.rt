@@ -7,7 +7,7 @@ use cell_core::{Cell, HashKeys};
 
 // A prime less than 2^32. Of the multipliers less than it, two tuples share a fingerprint under at
 // most as many as they have codes.
-const PRIME: u64 = 4_294_967_291;
+pub(crate) const PRIME: u64 = 4_294_967_291;
 
 /// How the fingerprint of a tuple is made: its codes are the coefficients of a polynomial, taken at
 /// the multiplier. Only the first codes count, so that a fingerprint stays when a dimension is

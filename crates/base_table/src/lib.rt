@@ -6,6 +6,7 @@ mod chains;
 mod fingerprints;
 mod group;
 mod lines;
+mod numbered;
 mod presence;
 mod store;
 mod table;

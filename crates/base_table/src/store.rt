@@ -25,6 +25,7 @@ pub struct Store {
     // It makes fingerprints of the codes that a tuple had from the start.
     printer: Fingerprinter,
     measures: u8,
+    keys: HashKeys,
     ids: Chains<u64>,
     // A fingerprint for each tuple. Equal tuples have equal ones.
     prints: Chains<u32>,
@@ -65,15 +66,16 @@ impl Store {
             dims_then: dims,
             printer: Fingerprinter::new(keys, dims),
             measures,
-            ids: Chains::new(alloc, keys),
-            prints: Chains::new(alloc, keys),
+            keys,
+            ids: Chains::new(alloc, keys.number()),
+            prints: Chains::new(alloc, keys.number()),
             codes: Vec::new(alloc),
             amounts: Vec::new(alloc),
         }
     }
 
     pub fn hash_keys(&self) -> HashKeys {
-        self.ids.hash_keys()
+        self.keys
     }
 
     pub fn dims(&self) -> u8

@@ -38,6 +38,11 @@ use std::marker::Model;
 use std::mem::replace;
 use std::sync::ledger::Ledger;
 
+/// A new arena has room for so many nodes. The C library gives each such list pages of its own, and
+/// makes it longer by mapping them elsewhere. A list that starts small is copied at each growth, and
+/// leaves holes.
+const FIRST_ROOM: usize = 8_192;
+
 /// Why a node was not added.
 #[derive(Clone, Copy)]
 pub enum ArenaRefused {
@@ -101,9 +106,20 @@ impl QcArena {
             classes: 0,
             edges: 0,
         };
+        let parts = match Parts::with_room(alloc, FIRST_ROOM) {
+            Ok(parts) => parts,
+            Err(error) => return Err(error),
+        };
+        let nodes = match Slab::with_capacity(alloc, FIRST_ROOM) {
+            Ok(nodes) => nodes,
+            Err(error) => {
+                drop(parts);
+                return Err(error);
+            }
+        };
         Ok(QcArena {
-            nodes: Slab::new(alloc),
-            parts: Parts::new(alloc),
+            nodes,
+            parts,
             images: Touched::new(alloc),
             last: Moved::none(alloc),
             is_open: false,

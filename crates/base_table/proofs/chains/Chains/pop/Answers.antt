@@ -1,15 +1,15 @@
-use Rattle.std.proofs.Common.{ℕ, ◌∙◌, ap, ◌++◌, [], Option}
+use Rattle.std.proofs.Common.{ℕ, ◌∙◌, ap, ◌++◌, ◌∷◌, [], List, Option, subst}
 use Rattle.std.specs.Option.{option_to_list}
-use Rattle.base_table.proofs.Chain.{has_last, popped_from}
+use Rattle.base_table.specs.Last.{AreChains}
+use Rattle.base_table.proofs.Chain.{popped}
 use Rattle.base_table.proofs.chains.Chains.pop.Goals as goal
-
-pub set_head-requires : goal.set_head-requires
-set_head-requires g c =
-    let m = c.self.inside in
-    has_last g.K.PartialEq.eq g.met.K.Eq.laws m.heads m.heads c.pop.new.self.items c.unwrap-key.result [] 0 m.keys.items m.before.items c.self.invariant (c.pop.ensures.items ∙ ap (λ (o : Option g.row.K.Denot). c.pop.new.self.items ++ option_to_list o) c.unwrap-key.ensures)
 
 pub invariant_of-self : goal.invariant_of-self
 invariant_of-self g c =
-    let m = c.self.inside in
-    popped_from g.K.PartialEq.eq g.met.K.Eq.laws m.heads c.set_head.new.heads c.pop.new.self.items c.unwrap-key.result c.pop-2.new.self.items c.unwrap-head.result
-    m.keys.items m.before.items c.set_head.ensures.0 c.self.invariant c.set_head.ensures.1 c.set_head.ensures.2 (c.pop.ensures.items ∙ ap (λ (o : Option g.row.K.Denot). c.pop.new.self.items ++ option_to_list o) c.unwrap-key.ensures) (c.pop-2.ensures.items ∙ ap (λ (o : Option ℕ). c.pop-2.new.self.items ++ option_to_list o) c.unwrap-head.ensures)
+    let l = c.self.inside.links in
+    let keys = c.pop.ensures.items ∙ ap (λ (o : Option g.row.K.Denot). c.pop.new.self.items ++ option_to_list o) c.unwrap-key.ensures in
+    let before = c.pop-2.ensures.items ∙ ap (λ (o : Option ℕ). c.pop-2.new.self.items ++ option_to_list o) c.unwrap-head.ensures in
+    popped g.K.Numbered.number l.multiplier l.heads.items c.pop.new.self.items c.unwrap-key.result c.pop-2.new.self.items c.unwrap-head.result c.bucket-at.result
+    (subst (λ (bs : List ℕ). AreChains g.K.Numbered.number l.multiplier l.heads.items (c.pop.new.self.items ++ c.unwrap-key.result ∷ []) bs) before
+    (subst (λ (ks : List g.row.K.Denot). AreChains g.K.Numbered.number l.multiplier l.heads.items ks l.before.items) keys c.self.invariant))
+    c.bucket-at.ensures.within c.bucket-at.ensures.bucket

@@ -1,4 +1,4 @@
-use Rattle.std.proofs.Common.{◌∙◌, ◌≡◌, arith, ℕ, List, ap, get_or}
+use Rattle.std.proofs.Common.{◌∙◌, arith, ℕ, List, ap, get_or}
 use Rattle.std.proofs.lemmas.List.{get_or-map}
 use Rattle.base_table.specs.Store.{id_of}
 use Rattle.base_table.proofs.Columns.{ids-view, length-view}
