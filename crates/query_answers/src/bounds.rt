@@ -51,7 +51,7 @@ fn class_asked<T: Nodes, L: Ledger>(
 
 /// Reports the bounds of the class of a cell, which has Any or a value in each dimension. With n
 /// dimensions it takes at most 7 (n + 1) 2^n steps.
-pub fn answer_bounds<T: Nodes, L: Ledger>(
+pub(crate) fn answer_bounds<T: Nodes, L: Ledger>(
     alloc: Global,
     source: &Source<T>,
     number: u32,

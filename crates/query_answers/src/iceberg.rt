@@ -93,7 +93,7 @@ fn classes_asked<T: Nodes, L: Ledger>(
 /// Reports the classes whose value, in the unit of the measure, is at least or at most the given
 /// one. If the index has the kind, it reads no more of the tree than these classes. With n
 /// dimensions it then takes at most 32 (n + 1)^2 2^n steps for each.
-pub fn answer_iceberg<T: Nodes, L: Ledger>(
+pub(crate) fn answer_iceberg<T: Nodes, L: Ledger>(
     alloc: Global,
     source: &Source<T>,
     number: u32,

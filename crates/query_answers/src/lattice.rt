@@ -74,7 +74,7 @@ fn told_reply<T: Nodes, L: Ledger>(
 }
 
 /// Reports the parents of the class of a cell, which has Any or a value in each dimension.
-pub fn answer_parents<T: Nodes, L: Ledger>(
+pub(crate) fn answer_parents<T: Nodes, L: Ledger>(
     alloc: Global,
     source: &Source<T>,
     number: u32,
@@ -100,7 +100,7 @@ pub fn answer_parents<T: Nodes, L: Ledger>(
 }
 
 /// Reports the children of the class of a cell, which has Any or a value in each dimension.
-pub fn answer_children<T: Nodes, L: Ledger>(
+pub(crate) fn answer_children<T: Nodes, L: Ledger>(
     alloc: Global,
     source: &Source<T>,
     number: u32,
@@ -128,7 +128,7 @@ pub fn answer_children<T: Nodes, L: Ledger>(
 /// Reports the most general classes that pass, among those that the class of the cell generalizes.
 /// A class passes if its value, in the unit of the measure, is at least or at most the given one.
 /// The cell has Any or a value in each dimension.
-pub fn answer_rollup<T: Nodes, L: Ledger>(
+pub(crate) fn answer_rollup<T: Nodes, L: Ledger>(
     alloc: Global,
     source: &Source<T>,
     number: u32,

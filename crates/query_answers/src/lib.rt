@@ -10,10 +10,7 @@ mod query;
 mod range;
 mod source;
 
-pub use bounds::answer_bounds;
-pub use iceberg::{answer_iceberg, empty_index};
-pub use lattice::{answer_children, answer_parents, answer_rollup};
-pub use point::{answer_coded, answer_point};
+pub use iceberg::empty_index;
+pub use point::answer_coded;
 pub use query::{answer_now, answer_query};
-pub use range::answer_range;
-pub use source::{Condition, Source};
+pub use source::Source;

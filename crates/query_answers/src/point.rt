@@ -55,7 +55,7 @@ fn total_asked<T: Nodes, L: Ledger>(
 
 /// Answers a point, which has Any or a value in each dimension. With n dimensions it takes at most
 /// 2n + 3 steps.
-pub fn answer_point<T: Nodes, L: Ledger>(
+pub(crate) fn answer_point<T: Nodes, L: Ledger>(
     alloc: Global,
     source: &Source<T>,
     number: u32,

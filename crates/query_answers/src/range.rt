@@ -52,7 +52,7 @@ fn hits_asked<T: Nodes, L: Ledger>(
 /// Reports the cells of a box that cover rows, if they are at most 100,000. It takes at most three
 /// steps, and three for each cell that is reached before a dimension and each known value that the
 /// box allows there.
-pub fn answer_range<T: Nodes, L: Ledger>(
+pub(crate) fn answer_range<T: Nodes, L: Ledger>(
     alloc: Global,
     source: &Source<T>,
     number: u32,

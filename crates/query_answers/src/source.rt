@@ -20,7 +20,7 @@ pub struct Source<'a, T: Nodes> {
 /// A class passes if its value of the kind, in the unit of the measure, is at least or at most the
 /// value.
 #[derive(Clone, Copy)]
-pub struct Condition {
+pub(crate) struct Condition {
     pub kind: AggKind,
     pub bound: Bound,
     pub value: Fraction,

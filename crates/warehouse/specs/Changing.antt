@@ -43,10 +43,6 @@ begun cube = record cube {
   tree = record cube.tree { was = Some (shape_of cube.tree); touched = set.empty; last = finmap.empty };
 }
 
--- a cube without before-images
-abbrev pub without_images : Cube → Cube
-without_images cube = record cube { tree = record cube.tree { last = finmap.empty } }
-
 -- a batch is open on rows and tree, and the tree is that of the rows
 pub record IsBegun (schema : Layout) (cube : Cube) : Type 0 where
   pub stored : IsStored schema cube.dict (closed cube.table)

@@ -2,13 +2,13 @@
 // rolled back.
 ghost use Rattle.std.specs.Prelude.{is_some, length, map, take, true, ◌≡◌};
 ghost use Rattle.qc_arena.specs.Map.{is_open};
-ghost use Rattle.warehouse.specs.Changing.{IsBegun, IsCommitted, IsTakenBack, begun, without_images};
+ghost use Rattle.warehouse.specs.Changing.{IsBegun, IsCommitted, IsTakenBack, begun};
 ghost use Rattle.warehouse.specs.Stored.{IsStored, IsTreeOfTable};
 
 use crate::learning::lengths;
 use base_table::Table;
 use cube_defs::MAX_DIMS;
-use qc_arena::{Images, QcArena};
+use qc_arena::QcArena;
 use qc_schema::Schema;
 use std::alloc::Global;
 use value_dict::Dict;
@@ -59,20 +59,5 @@ impl Cube {
         self.table.is_valid();
         self.dict.cut_back(lens);
         self.tree.rollback();
-    }
-
-    /// Drops the before-images of the last committed batch.
-    pub(crate) fn drop_images(&mut self)
-        ensures { self.new ≡ without_images self.old }
-    {
-        self.tree.drop_images();
-    }
-
-    /// Moves out the before-images of the last committed batch, by the numbers of their nodes.
-    pub(crate) fn last_images(&mut self) -> Images
-        ensures images { result ≡ self.old.tree.last }
-        ensures rest { self.new ≡ without_images self.old }
-    {
-        self.tree.last_images()
     }
 }

@@ -251,7 +251,7 @@ impl Warehouse {
     fn drop_images(&mut self)
         ensures rest { self.new ≡ record self.old { images = finmap.empty } }
     {
-        self.cube.drop_images();
+        self.cube.tree.drop_images();
     }
 
     /// Moves out the before-images of the nodes that the last `load` or `apply` touched, by their
@@ -262,7 +262,7 @@ impl Warehouse {
         ensures rest { self.new ≡ record self.old { images = finmap.empty } }
         ensures valid { AreContents self.new }
     {
-        self.cube.last_images()
+        self.cube.tree.last_images()
     }
 
     // Makes changes, all of them or none. No before-images of an earlier change are left.
