@@ -107,7 +107,8 @@ impl<'a> Failure<'a> {
     {
         match self {
             Failure::Usage => (
-                "usage: qcube run SCHEMA SCRIPT | qcube gen ROWS SEED | qcube pack SCHEMA SCRIPT | qcube open SNAPSHOT SCRIPT\n",
+                "usage: qcube run SCHEMA SCRIPT | qcube gen ROWS SEED | qcube pack SCHEMA SCRIPT \
+                 | qcube open SNAPSHOT SCRIPT\n",
                 "",
                 "",
             ),
