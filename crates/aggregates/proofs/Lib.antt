@@ -8,3 +8,4 @@ pub mod Aggregates
 pub mod Together
 pub mod ReadBack
 pub mod Values
+pub mod CallerLemmas

@@ -1,5 +1,6 @@
 -- The digits behind a point, one after another.
-use Rattle.std.proofs.Common.{◌≡◌, ◌≢◌, ℕ, zero, suc, ◌+◌, ◌-◌, ◌*◌, ◌/◌, ◌^◌, ◌<◌, ◌≤◌, Bool, true, false, List, [], ◌∷◌, Some, None, length, drop, get_or, refl, sym, ap, ◌∙◌, arith}
+use Rattle.std.proofs.Common.{◌≡◌, ◌≢◌, ℕ, zero, suc, ◌+◌, ◌-◌, ◌*◌, ◌/◌, ◌^◌, ◌<◌, ◌≤◌, Bool, true, false, List, [], ◌∷◌, Some, None}
+use Rattle.std.proofs.Common.{length, drop, get_or, refl, sym, ap, ◌∙◌, arith}
 use Rattle.std.specs.Prelude.{◌==◌, ◌&&◌}
 use Rattle.std.specs.Char.{is_ascii_digit}
 use Rattle.std.specs.List.{list_all}
@@ -43,11 +44,13 @@ place-start scale unit text e =
       room = omega arith;
     }
 
-pub place-end : (scale : ℕ) (text : List ℕ) (i value unit : ℕ) → i ≡ length text → 0 < length text → AtPlace scale text i value unit → places_in scale text ≡ Some value
+pub place-end : (scale : ℕ) (text : List ℕ) (i value unit : ℕ) → i ≡ length text → 0 < length text
+    → AtPlace scale text i value unit → places_in scale text ≡ Some value
 place-end scale text i value unit e h at =
     let none : drop i text ≡ [] = ap (λ k. drop k text) e ∙ drop-length text in
     let digits : is_number text ≡ true = is_number-all text h ∙ sym at.digits ∙ ap all_ascii_digits none in
-    let zeros : are_zeros (drop scale text) ≡ true = sym at.zeros ∙ ap (λ t. are_zeros (drop (scale - i) t)) none ∙ ap are_zeros (drop-none (scale - i)) in
+    let zeros : are_zeros (drop scale text) ≡ true = sym at.zeros ∙ ap (λ t. are_zeros (drop (scale - i) t)) none
+    ∙ ap are_zeros (drop-none (scale - i)) in
     let sum = ap (places (scale - i)) none ∙ places-none (scale - i) in
     rw digits (rw zeros (ap (λ n. Some n) (omega (arith, sum, at.sum))))
 
@@ -96,13 +99,14 @@ module _ (scale : ℕ) (text : List ℕ) (i value unit : ℕ) (h : i < length te
       let p = mul-le-mul_right (unit / 10) (let q : c - 48 ≤ 9 = omega arith in q) in
       omega (arith, p, at.room)
 
-  pub place-step : AtPlace scale text i value unit → is_ascii_digit c ≡ true → c ≤ 57 → (unit / 10 ≡ 0 → c ≡ 48) → AtPlace scale text (i + 1) (value + (c - 48) * (unit / 10)) (unit / 10)
+  pub place-step : AtPlace scale text i value unit → is_ascii_digit c ≡ true → c ≤ 57 → (unit / 10 ≡ 0 → c ≡ 48)
+      → AtPlace scale text (i + 1) (value + (c - 48) * (unit / 10)) (unit / 10)
   place-step at d low zero_if = record {
     digits = sym (ap all_ascii_digits split ∙ rw d refl) ∙ at.digits;
     zeros = zeros (scale - i) refl;
     sum = sum (scale - i) refl;
     unit_before = λ l. before l (scale - i) refl;
-    unit_behind = λ l. behind_one l (scale - i) refl;
+    unit_behind = λ l. after_one l (scale - i) refl;
     room = place-room at low;
   }
     where
@@ -123,7 +127,9 @@ module _ (scale : ℕ) (text : List ℕ) (i value unit : ℕ) (h : i < length te
           ap (λ k. are_zeros (drop k rest)) f ∙ sym g ∙ last at e
       zeros (suc k) e =
           let f : scale - (i + 1) ≡ k = omega arith in
-          ap (λ n. are_zeros (drop n rest)) f ∙ sym (ap (λ n. are_zeros (drop n (drop i text))) e ∙ ap (λ t. are_zeros (drop (suc k) t)) split) ∙ at.zeros
+          ap (λ n. are_zeros (drop n rest)) f
+          ∙ sym (ap (λ n. are_zeros (drop n (drop i text))) e ∙ ap (λ t. are_zeros (drop (suc k) t)) split)
+          ∙ at.zeros
 
       sum : (k : ℕ) → scale - i ≡ k → value + (c - 48) * (unit / 10) + places (scale - (i + 1)) rest ≡ places scale text
       sum zero e =
@@ -136,13 +142,14 @@ module _ (scale : ℕ) (text : List ℕ) (i value unit : ℕ) (h : i < length te
           let f : scale - (i + 1) ≡ k = omega arith in
           let p = ap (λ n. (c - 48) * n) (tenth k e) in
           let q = ap (λ n. places n rest) f in
-          let r : places (scale - i) (drop i text) ≡ (c - 48) * 10 ^ k + places k rest = ap (λ n. places n (drop i text)) e ∙ ap (places (suc k)) split in
+          let r : places (scale - i) (drop i text) ≡ (c - 48) * 10 ^ k + places k rest
+          = ap (λ n. places n (drop i text)) e ∙ ap (places (suc k)) split in
           omega (arith, p, q, r, at.sum)
 
       before : i + 1 ≤ scale → (k : ℕ) → scale - i ≡ k → unit / 10 ≡ 10 ^ (scale - (i + 1))
       before l zero e = absurd (omega arith)
       before l (suc k) e = let f : k ≡ scale - (i + 1) = omega arith in tenth k e ∙ ap (λ n. 10 ^ n) f
 
-      behind_one : scale ≤ i + 1 → (k : ℕ) → scale - i ≡ k → unit / 10 ≤ 1
-      behind_one l zero e = omega (arith, nothing e)
-      behind_one l (suc k) e = let f : k ≡ 0 = omega arith in let g = tenth k e ∙ ap (λ n. 10 ^ n) f in omega (arith, g)
+      after_one : scale ≤ i + 1 → (k : ℕ) → scale - i ≡ k → unit / 10 ≤ 1
+      after_one l zero e = omega (arith, nothing e)
+      after_one l (suc k) e = let f : k ≡ 0 = omega arith in let g = tenth k e ∙ ap (λ n. 10 ^ n) f in omega (arith, g)

@@ -8,8 +8,7 @@ use Rattle.std.proofs.Math.Nat.{div-le_self, mul-div_cancel'}
 use Rattle.std.proofs.lemmas.Nat.{mul-le}
 use Rattle.std.specs.Prelude.{int_div}
 use Rattle.cube_defs.specs.Rows.{gcd, lowest_terms}
-use Rattle.cube_laws.proofs.Divisors.{gcd-is, lowest_terms-coprime, lowest_terms-positive}
-use Rattle.cube_laws.proofs.FractionOrder.{mono, less_is, more_is}
+use Rattle.cube_laws.proofs.CallerLemmas.{gcd-is, lowest_terms-coprime, lowest_terms-positive, mono, less_is, more_is}
 use Rattle.aggregates.specs.Bounds.{IsRatio}
 
 pub gcd-positive : (a b : ℕ) → 0 < b → 0 < gcd a b
@@ -30,14 +29,16 @@ pub lowest_terms-ratio : (a : ℤ) (b : ℕ) → 0 < b → b ≤ 10 ^ 12 → IsR
 lowest_terms-ratio a b h small = record {
   positive = lowest_terms-positive a b h;
   small = smaller (gcd (nat_abs a) b);
-  lowest = same_from_IsGcd (nat_abs (lowest_terms a b).num) (lowest_terms a b).den _ _ (gcd-is _ _) (lowest_terms-coprime a b h);
+  lowest = same_from_IsGcd (nat_abs (lowest_terms a b).num) (lowest_terms a b).den _ _ (gcd-is _ _)
+      (lowest_terms-coprime a b h);
 }
   where
     smaller : (g : ℕ) → b / g ≤ 10 ^ 12
     smaller g = omega (arith, div-le_self b g)
 
 -- the same, where the parts are known by equations
-pub ratio-from : (a x y : ℤ) (b g : ℕ) → 0 < b → b ≤ 10 ^ 12 → g ≡ gcd (nat_abs a) b → x ≡ int_div a (pos g) → y ≡ x → IsRatio y (b / g)
+pub ratio-from : (a x y : ℤ) (b g : ℕ) → 0 < b → b ≤ 10 ^ 12 → g ≡ gcd (nat_abs a) b → x ≡ int_div a (pos g) → y ≡ x
+    → IsRatio y (b / g)
 ratio-from a x y b g h small e f d =
     let P : ℕ → Type 0 = λ (k : ℕ). IsRatio (int_div a (pos k)) (b / k) in
     let Q : ℤ → Type 0 = λ (z : ℤ). IsRatio z (b / g) in

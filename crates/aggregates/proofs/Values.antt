@@ -22,14 +22,16 @@ zeros-none : (cs : List ℕ) → list_all (λ c. c == 48) cs ≡ true → number
 zeros-none [] = λ e. refl
 zeros-none (c ∷ cs) = go (zeros-none cs) (c == 48) refl
   where
-    go : (list_all (λ c. c == 48) cs ≡ true → number cs ≡ 0) → (b : Bool) → (c == 48) ≡ b → list_all (λ c. c == 48) (c ∷ cs) ≡ true → number (c ∷ cs) ≡ 0
+    go : (list_all (λ c. c == 48) cs ≡ true → number cs ≡ 0) → (b : Bool) → (c == 48) ≡ b
+        → list_all (λ c. c == 48) (c ∷ cs) ≡ true → number (c ∷ cs) ≡ 0
     go more true f =
         let z : c ≡ 48 = grind (arith, nat_tests) in
         let p = ap (λ k. (k - 48) * 10 ^ length cs) z in
         rw f (λ e. omega (arith, number-more c cs, p, more e))
     go more false f = rw f (λ e. cc)
 
-pub places-number : (scale : ℕ) (cs : List ℕ) → list_all (λ c. c == 48) (drop scale cs) ≡ true → places scale cs * 10 ^ length cs ≡ number cs * 10 ^ scale
+pub places-number : (scale : ℕ) (cs : List ℕ) → list_all (λ c. c == 48) (drop scale cs) ≡ true
+    → places scale cs * 10 ^ length cs ≡ number cs * 10 ^ scale
 places-number zero cs e = omega (arith, zeros-none cs e)
 places-number (suc scale) [] e = omega arith
 places-number (suc scale) (c ∷ cs) e =

@@ -2,7 +2,7 @@
 use Rattle.std.specs.declared.cmp.Ordering.{Ordering}
 use Rattle.std.specs.Cmp.{IsTotalOrder}
 use Rattle.cube_defs.specs.Answers.{fraction_cmp}
-use Rattle.cube_laws.proofs.FractionOrder.{value_total}
+use Rattle.cube_laws.proofs.CallerLemmas.{value_total}
 use Rattle.aggregates.specs.declared.fraction.Ratio.{Ratio}
 use Rattle.aggregates.specs.Views.{ratio_in}
 

@@ -23,4 +23,5 @@ unit_of (kinds.Mean m) scale = 10 ^ scale
 
 -- the quotient in the unit of each scale, in lowest terms, is the value of the kind
 abbrev pub IsQuotient : AggKind → Agg → ℤ → ℕ → Type 0
-IsQuotient kind agg num den = (scale : ℕ) → lowest_terms num (den * unit_of kind scale) ≡ value_of (kind_in kind) scale (agg_in agg)
+IsQuotient kind agg num den = (scale : ℕ)
+    → lowest_terms num (den * unit_of kind scale) ≡ value_of (kind_in kind) scale (agg_in agg)

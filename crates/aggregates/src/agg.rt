@@ -120,7 +120,8 @@ fn add_amounts(parts: &mut [Part; MAX_MEASURES as usize], amounts: &[i64])
         + nat_abs (slice_index_or amounts.now k (pos 0)) < 2 ^ 63 }
     ensures joined { (k : ℕ) → k < length amounts.now →
         slice_index_or parts.new k zero_part
-        ≡ joined (slice_index_or parts.old k zero_part) (single (slice_index_or amounts.now k (pos 0))) }
+        ≡ joined (slice_index_or parts.old k zero_part)
+        (single (slice_index_or amounts.now k (pos 0))) }
     ensures others { (k : ℕ) → length amounts.now ≤ k →
         slice_index_or parts.new k zero_part ≡ slice_index_or parts.old k zero_part }
     ensures four { length parts.new ≡ MAX_MEASURES }

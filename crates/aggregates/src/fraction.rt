@@ -49,7 +49,8 @@ impl PartialOrd for Ratio {
 
     ghost partial_cmp = { as_partial_cmp ratio_cmp };
 
-    ghost laws = { partial_order_from_agreeing_total ratio_cmp ratio_total (λ x y. refl) (λ x y. refl) };
+    ghost laws = { partial_order_from_agreeing_total ratio_cmp ratio_total (λ x y. refl)
+        (λ x y. refl) };
 
     fn partial_cmp(&self, other: &Ratio) -> Option<Ordering> {
         Some(self.cmp(other))

@@ -15,7 +15,8 @@ use cube_laws::values::Value;
 /// their aggregates combined.
 pub fn aggregates_of_rows_put_together<V: Value>()
     ensures one { (row : Row V) → agg_of (length row.amounts) (row ∷ []) ≡ agg_of_row row.amounts }
-    ensures combined { (measures : ℕ) (rows more : List (Row V)) → 0 < length rows → 0 < length more →
+    ensures combined { (measures : ℕ) (rows more : List (Row V)) → 0 < length rows
+        → 0 < length more →
         agg_of measures (rows ++ more) ≡ combine (agg_of measures rows) (agg_of measures more) }
 {}
 
@@ -35,7 +36,8 @@ pub fn printed_amounts_are_read()
 
 /// A ratio that was printed is read as itself, if both its numbers have at most 18 digits.
 pub fn printed_ratios_are_read()
-    ensures { (ratio : Fraction) → nat_abs ratio.num < 10 ^ 18 → 0 < ratio.den → ratio.den < 10 ^ 18 →
+    ensures { (ratio : Fraction) → nat_abs ratio.num < 10 ^ 18 → 0 < ratio.den
+        → ratio.den < 10 ^ 18 →
         fraction_written (ratio_text ratio) ≡ Some ratio }
 {}
 

@@ -1,7 +1,7 @@
 // Numbers as they are read.
 ghost use Rattle.std.specs.Prelude.{◌≡◌, ◌<◌, ◌≤◌, ◌+◌, ◌*◌, ◌^◌, length, pos, IfSome, MatchOption};
 ghost use Rattle.std.specs.Option.{option_map};
-ghost use Rattle.aggregates.specs.Numbers.{amount_in, digits_front, fraction_written, id_in, magnitude_in, number, places_in, point_tail, positive_fraction, fraction_tail, slash_tail, tail_in};
+ghost use Rattle.aggregates.specs.Numbers.{amount_in, digit_prefix, fraction_written, id_in, magnitude_in, number, places_in, point_tail, positive_fraction, fraction_tail, slash_tail, tail_in};
 ghost use Rattle.aggregates.specs.Views.{fraction_in};
 
 use crate::Fraction;
@@ -172,8 +172,9 @@ struct Digits {
 
 // The number that the first digits write, and how many they are, unless the number is too large.
 fn leading_digits(text: &[u8]) -> Option<Digits>
-    ensures { MatchOption result (2 ^ 64 ≤ number (digits_front text.now))
-        (λ d. (d.value ≡ number (digits_front text.now)) × (d.len ≡ length (digits_front text.now))) }
+    ensures { MatchOption result (2 ^ 64 ≤ number (digit_prefix text.now))
+        (λ d. (d.value ≡ number (digit_prefix text.now))
+        × (d.len ≡ length (digit_prefix text.now))) }
 {
     let mut value: u64 = 0;
     let mut len = 0;

@@ -1,6 +1,8 @@
 -- A push and a pop keep the chains, and a walk along one finds the last place of a key.
-use Rattle.std.proofs.Common.{◌≡◌, ℕ, ◌+◌, ◌%◌, ◌<◌, ◌≤◌, ◌^◌, length, List, [], ◌∷◌, ◌++◌, Bool, true, false, cond, refl, ap, sym, subst, ◌∙◌, arith, take, get_or, set, length-append, inl, inr, zero, suc, nat_eq}
-use Rattle.std.proofs.lemmas.List.{get_or_append_left, get_or_push, get_or-set_other, get_or-set_same, get_or-take, length-take-le, take-append-le, take-take, take_more}
+use Rattle.std.proofs.Common.{◌≡◌, ℕ, ◌+◌, ◌%◌, ◌<◌, ◌≤◌, ◌^◌, length, List, [], ◌∷◌, ◌++◌, Bool, true, false, cond, refl, ap, sym, subst}
+use Rattle.std.proofs.Common.{◌∙◌, arith, take, get_or, set, length-append, inl, inr, zero, suc, nat_eq}
+use Rattle.std.proofs.lemmas.List.{get_or_append_left, get_or_push, get_or-set_other, get_or-set_same, get_or-take, length-take-le}
+use Rattle.std.proofs.lemmas.List.{take-append-le, take-take, take_more}
 use Rattle.std.proofs.lemmas.Bool.{cases_lt, eq-eqb, eqb-true}
 use Rattle.std.proofs.lemmas.Bool.Decides.{eqb_tells}
 use Rattle.std.proofs.Math.ListN.{length-set}
@@ -9,17 +11,22 @@ use Rattle.base_table.specs.Last.{last_of, AreChains, AreHeads, AreLinked, bucke
 use Rattle.base_table.proofs.LastPlaces.{last_passes, last_take, last_within, not_zero}
 
 -- the last place after one more element
-last_step : {A : Type 0} (p : A → Bool) (y x : A) (xs : List A) → last_of p (xs ++ x ∷ []) ≡ cond (p x) (suc (length xs)) (last_of p xs) → last_of p (y ∷ (xs ++ x ∷ [])) ≡ cond (p x) (suc (suc (length xs))) (last_of p (y ∷ xs))
+last_step : {A : Type 0} (p : A → Bool) (y x : A) (xs : List A)
+    → last_of p (xs ++ x ∷ []) ≡ cond (p x) (suc (length xs)) (last_of p xs)
+    → last_of p (y ∷ (xs ++ x ∷ [])) ≡ cond (p x) (suc (suc (length xs))) (last_of p (y ∷ xs))
 last_step p y x xs h = grind (arith, h)
 
-pub last_push : {A : Type 0} (p : A → Bool) (xs : List A) (x : A) → last_of p (xs ++ x ∷ []) ≡ cond (p x) (suc (length xs)) (last_of p xs)
+pub last_push : {A : Type 0} (p : A → Bool) (xs : List A) (x : A)
+    → last_of p (xs ++ x ∷ []) ≡ cond (p x) (suc (length xs)) (last_of p xs)
 last_push p [] x = refl
 last_push p (y ∷ xs) x = last_step p y x xs (last_push p xs x)
 
-narrow_none : {A : Type 0} (p q : A → Bool) (x : A) (xs : List A) → (p x ≡ true → q x ≡ true) → q x ≡ false → last_of p xs ≡ 0 → 0 ≡ last_of p (x ∷ xs)
+narrow_none : {A : Type 0} (p q : A → Bool) (x : A) (xs : List A) → (p x ≡ true → q x ≡ true) → q x ≡ false
+    → last_of p xs ≡ 0 → 0 ≡ last_of p (x ∷ xs)
 narrow_none p q x xs h f e = grind (arith, h, f, e)
 
-narrow_step : {A : Type 0} (p q : A → Bool) (x : A) (xs : List A) (n : ℕ) → (p x ≡ true → q x ≡ true) → last_of p (take n xs) ≡ last_of p xs
+narrow_step : {A : Type 0} (p q : A → Bool) (x : A) (xs : List A) (n : ℕ) → (p x ≡ true → q x ≡ true)
+    → last_of p (take n xs) ≡ last_of p xs
     → last_of p (take (cond (nat_eq n 0) (cond (q x) 1 0) (suc n)) (x ∷ xs)) ≡ last_of p (x ∷ xs)
 narrow_step p q x xs zero h e = by (q x) refl
   where
@@ -31,46 +38,59 @@ narrow_step p q x xs (suc n) h e =
     rw z (ap (λ m. cond (nat_eq m 0) (cond (p x) 1 0) (suc m)) e)
 
 -- no place that passes stands behind the last one that passes a wider test
-pub last_narrow : {A : Type 0} (p q : A → Bool) → ((x : A) → p x ≡ true → q x ≡ true) → (xs : List A) → last_of p (take (last_of q xs) xs) ≡ last_of p xs
+pub last_narrow : {A : Type 0} (p q : A → Bool) → ((x : A) → p x ≡ true → q x ≡ true) → (xs : List A)
+    → last_of p (take (last_of q xs) xs) ≡ last_of p xs
 last_narrow p q h [] = refl
 last_narrow p q h (x ∷ xs) = narrow_step p q x xs (last_of q xs) (h x) (last_narrow p q h xs)
 
 -- a walk that started at a place of the key's bucket stands at one, and no place of the key was passed
-pub record IsOnWay {K : Type 0} (eq : K → K → Bool) (bucket : K → ℕ) (key : K) (keys : List K) (start at : ℕ) : Type 0 where
+pub record IsOnWay {K : Type 0} (eq : K → K → Bool) (bucket : K → ℕ) (key : K) (keys : List K)
+    (start at : ℕ) : Type 0 where
   pub within : at ≤ length keys
   pub last : last_of (in_bucket bucket key) (take at keys) ≡ at
   pub same : last_of (eq key) (take at keys) ≡ last_of (eq key) (take start keys)
 
-module _ {K : Type 0} (eq : K → K → Bool) (bucket : K → ℕ) (respects : (x y : K) → eq x y ≡ true → bucket x ≡ bucket y) (key : K) (keys : List K) where
+module _ {K : Type 0} (eq : K → K → Bool) (bucket : K → ℕ) (respects : (x y : K) → eq x y ≡ true → bucket x ≡ bucket y)
+    (key : K) (keys : List K) where
   wider : (x : K) → eq key x ≡ true → in_bucket bucket key x ≡ true
   wider x h = eq-eqb (bucket key) (bucket x) (respects key x h)
 
   -- where the last place of the key's bucket leads
-  pub way_from : (n start : ℕ) → n ≤ length keys → start ≡ last_of (in_bucket bucket key) (take n keys) → IsOnWay eq bucket key keys n start
+  pub way_from : (n start : ℕ) → n ≤ length keys → start ≡ last_of (in_bucket bucket key) (take n keys)
+      → IsOnWay eq bucket key keys n start
   way_from n start few e =
-      let short : start ≤ n = omega (arith, e, last_within (in_bucket bucket key) (take n keys), length-take-le n keys few) in
+      let short : start ≤ n =
+      omega (arith, e, last_within (in_bucket bucket key) (take n keys), length-take-le n keys few) in
       let cut : take start (take n keys) ≡ take start keys = take-take start n keys short in
       record {
         within = omega (arith, short, few);
-        last = ap (last_of (in_bucket bucket key)) (sym cut) ∙ ap (λ m. last_of (in_bucket bucket key) (take m (take n keys))) e ∙ last_take (in_bucket bucket key) (take n keys) ∙ sym e;
-        same = ap (last_of (eq key)) (sym cut) ∙ ap (λ m. last_of (eq key) (take m (take n keys))) e ∙ last_narrow (eq key) (in_bucket bucket key) wider (take n keys);
+        last = ap (last_of (in_bucket bucket key)) (sym cut)
+            ∙ ap (λ m. last_of (in_bucket bucket key) (take m (take n keys))) e
+            ∙ last_take (in_bucket bucket key) (take n keys) ∙ sym e;
+        same = ap (last_of (eq key)) (sym cut) ∙ ap (λ m. last_of (eq key) (take m (take n keys))) e
+            ∙ last_narrow (eq key) (in_bucket bucket key) wider (take n keys);
       }
 
   module _ (start k : ℕ) (way : IsOnWay eq bucket key keys start (k + 1)) where
     at_key : (d : K) → bucket key ≡ bucket (get_or keys k d)
     at_key d =
-        let passes : in_bucket bucket key (get_or (take (k + 1) keys) k d) ≡ true = last_passes (in_bucket bucket key) (take (k + 1) keys) k d (way.last ∙ omega arith) in
-        eqb-true (bucket key) (bucket (get_or keys k d)) (ap (in_bucket bucket key) (sym (get_or-take (k + 1) keys k d (omega arith))) ∙ passes)
+        let passes : in_bucket bucket key (get_or (take (k + 1) keys) k d) ≡ true
+        = last_passes (in_bucket bucket key) (take (k + 1) keys) k d (way.last ∙ omega arith) in
+        eqb-true (bucket key) (bucket (get_or keys k d))
+        (ap (in_bucket bucket key) (sym (get_or-take (k + 1) keys k d (omega arith))) ∙ passes)
 
     -- the key is met
     pub met : (d : K) → eq key (get_or keys k d) ≡ true → k + 1 ≡ last_of (eq key) (take start keys)
     met d t =
-        sym (ap (λ (b : Bool). cond b (suc (length (take k keys))) (last_of (eq key) (take k keys))) t ∙ omega (arith, length-take-le k keys (omega (arith, way.within))))
-        ∙ sym (last_push (eq key) (take k keys) (get_or keys k d)) ∙ ap (last_of (eq key)) (sym (take_more keys k d (omega (arith, way.within)))) ∙ way.same
+        sym (ap (λ (b : Bool). cond b (suc (length (take k keys))) (last_of (eq key) (take k keys))) t
+        ∙ omega (arith, length-take-le k keys (omega (arith, way.within))))
+        ∙ sym (last_push (eq key) (take k keys) (get_or keys k d))
+        ∙ ap (last_of (eq key)) (sym (take_more keys k d (omega (arith, way.within)))) ∙ way.same
 
     module _ (before : List ℕ) (linked : AreLinked bucket keys before) where
       leads : (d : K) → get_or before k 0 ≡ last_of (in_bucket bucket key) (take k keys)
-      leads d = linked.chain k d (omega (arith, way.within)) ∙ ap (λ n. last_of (λ other. nat_eq n (bucket other)) (take k keys)) (sym (at_key d))
+      leads d = linked.chain k d (omega (arith, way.within))
+          ∙ ap (λ n. last_of (λ other. nat_eq n (bucket other)) (take k keys)) (sym (at_key d))
 
       -- another key is met
       pub onward : (d : K) → eq key (get_or keys k d) ≡ false → IsOnWay eq bucket key keys start (get_or before k 0)
@@ -79,36 +99,55 @@ module _ {K : Type 0} (eq : K → K → Bool) (bucket : K → ℕ) (respects : (
           record {
             within = on.within;
             last = on.last;
-            same = on.same ∙ sym (ap (λ (b : Bool). cond b (suc (length (take k keys))) (last_of (eq key) (take k keys))) f)
-                ∙ sym (last_push (eq key) (take k keys) (get_or keys k d)) ∙ ap (last_of (eq key)) (sym (take_more keys k d (omega (arith, way.within)))) ∙ way.same;
+            same = on.same ∙ sym (ap
+                (λ (b : Bool). cond b (suc (length (take k keys))) (last_of (eq key) (take k keys))) f)
+                ∙ sym (last_push (eq key) (take k keys) (get_or keys k d))
+                ∙ ap (last_of (eq key)) (sym (take_more keys k d (omega (arith, way.within)))) ∙ way.same;
           }
 
       pub nearer : (d : K) → get_or before k 0 < k + 1
-      nearer d = omega (arith, leads d, last_within (in_bucket bucket key) (take k keys), length-take-le k keys (omega (arith, way.within)))
+      nearer d = omega (
+        arith,
+        leads d,
+        last_within (in_bucket bucket key) (take k keys),
+        length-take-le k keys (omega (arith, way.within)),
+      )
 
 module _ {K : Type 0} (bucket : K → ℕ) (heads : List ℕ) (keys : List K) (key : K) (before : List ℕ) (head : ℕ) where
-  push_heads : bucket key < length heads → AreHeads bucket heads keys → AreHeads bucket (set heads (bucket key) (length keys + 1)) (keys ++ key ∷ [])
+  push_heads : bucket key < length heads → AreHeads bucket heads keys
+      → AreHeads bucket (set heads (bucket key) (length keys + 1)) (keys ++ key ∷ [])
   push_heads in_heads a = record {
     last = λ j h. elim (eqb_tells j (bucket key)) [
       | inl same ↦
           rw (same.1, get_or-set_same heads (bucket key) (length keys + 1) 0 in_heads)
-          (sym (last_push (λ k. nat_eq (bucket key) (bucket k)) keys key ∙ ap (λ (b : Bool). cond b (suc (length keys)) (last_of (λ k. nat_eq (bucket key) (bucket k)) keys)) (eq-eqb (bucket key) (bucket key) refl) ∙ omega arith))
+          (sym (last_push (λ k. nat_eq (bucket key) (bucket k)) keys key
+          ∙ ap (λ (b : Bool). cond b (suc (length keys)) (last_of (λ k. nat_eq (bucket key) (bucket k)) keys))
+          (eq-eqb (bucket key) (bucket key) refl) ∙ omega arith))
       | inr other ↦
-          get_or-set_other heads (bucket key) j (length keys + 1) 0 other.1 ∙ a.last j (omega (arith, h, length-set heads (bucket key) (length keys + 1)))
-          ∙ sym (last_push (λ k. nat_eq j (bucket k)) keys key ∙ ap (λ (b : Bool). cond b (suc (length keys)) (last_of (λ k. nat_eq j (bucket k)) keys)) other.0)
+          get_or-set_other heads (bucket key) j (length keys + 1) 0 other.1
+          ∙ a.last j (omega (arith, h, length-set heads (bucket key) (length keys + 1)))
+          ∙ sym (last_push (λ k. nat_eq j (bucket k)) keys key
+          ∙ ap (λ (b : Bool). cond b (suc (length keys)) (last_of (λ k. nat_eq j (bucket k)) keys)) other.0)
     ];
   }
 
-  push_link : AreLinked bucket keys before → head ≡ last_of (in_bucket bucket key) keys → AreLinked bucket (keys ++ key ∷ []) (before ++ head ∷ [])
+  push_link : AreLinked bucket keys before → head ≡ last_of (in_bucket bucket key) keys
+      → AreLinked bucket (keys ++ key ∷ []) (before ++ head ∷ [])
   push_link a e = record {
     len = omega (arith, a.len, length-append keys (key ∷ []), length-append before (head ∷ []));
     chain = λ i d h.
         let n : length before ≡ length keys = a.len in
         elim (cases_lt i (length keys)) [
-          | inl lt ↦ rw (get_or_append_left before (head ∷ []) 0 i (omega arith), get_or_append_left keys (key ∷ []) d i lt, take-append-le i keys (key ∷ []) (omega arith)) (a.chain i d lt)
+          | inl lt ↦ rw (
+            get_or_append_left before (head ∷ []) 0 i (omega arith),
+            get_or_append_left keys (key ∷ []) d i lt,
+            take-append-le i keys (key ∷ []) (omega arith),
+          )
+              (a.chain i d lt)
           | inr ge ↦
               let at : length keys ≡ i = omega (arith, length-append keys (key ∷ [])) in
-              let whole : take i (keys ++ key ∷ []) ≡ keys = ap (λ n. take n (keys ++ key ∷ [])) (sym at) ∙ take-append_seam keys (key ∷ []) in
+              let whole : take i (keys ++ key ∷ []) ≡ keys = ap (λ n. take n (keys ++ key ∷ [])) (sym at)
+              ∙ take-append_seam keys (key ∷ []) in
               rw (get_or_push before head 0 i (omega arith), get_or_push keys key d i at, whole) e
         ];
   }
@@ -117,48 +156,68 @@ module _ {K : Type 0} (bucket : K → ℕ) (heads : List ℕ) (keys : List K) (k
   pop_link a = record {
     len = omega (arith, a.len, length-append keys (key ∷ []), length-append before (head ∷ []));
     chain = λ i d h.
-        let n : length before ≡ length keys = omega (arith, a.len, length-append keys (key ∷ []), length-append before (head ∷ [])) in
+        let n : length before ≡ length keys
+        = omega (arith, a.len, length-append keys (key ∷ []), length-append before (head ∷ [])) in
         let more : i < length (keys ++ key ∷ []) = omega (arith, length-append keys (key ∷ [])) in
-        let was : get_or (before ++ head ∷ []) i 0 ≡ last_of (in_bucket bucket (get_or (keys ++ key ∷ []) i d)) (take i (keys ++ key ∷ [])) = a.chain i d more in
-        rw (get_or_append_left before (head ∷ []) 0 i (omega arith), get_or_append_left keys (key ∷ []) d i h, take-append-le i keys (key ∷ []) (omega arith)) at was;
+        let was : get_or (before ++ head ∷ []) i 0 ≡ last_of (in_bucket bucket (get_or (keys ++ key ∷ []) i d))
+        (take i (keys ++ key ∷ [])) = a.chain i d more in
+        rw (
+          get_or_append_left before (head ∷ []) 0 i (omega arith),
+          get_or_append_left keys (key ∷ []) d i h,
+          take-append-le i keys (key ∷ []) (omega arith),
+        ) at was;
   }
 
   -- the link of the last key
   last_link : AreLinked bucket (keys ++ key ∷ []) (before ++ head ∷ []) → head ≡ last_of (in_bucket bucket key) keys
   last_link a =
-      let n : length before ≡ length keys = omega (arith, a.len, length-append keys (key ∷ []), length-append before (head ∷ [])) in
+      let n : length before ≡ length keys
+      = omega (arith, a.len, length-append keys (key ∷ []), length-append before (head ∷ [])) in
       let whole : take (length keys) (keys ++ key ∷ []) ≡ keys = take-append_seam keys (key ∷ []) in
-      let at : get_or (before ++ head ∷ []) (length keys) 0 ≡ last_of (in_bucket bucket (get_or (keys ++ key ∷ []) (length keys) key)) (take (length keys) (keys ++ key ∷ [])) = a.chain (length keys) key (omega (arith, length-append keys (key ∷ []))) in
+      let at : get_or (before ++ head ∷ []) (length keys) 0
+      ≡ last_of (in_bucket bucket (get_or (keys ++ key ∷ []) (length keys) key))
+      (take (length keys) (keys ++ key ∷ []))
+      = a.chain (length keys) key (omega (arith, length-append keys (key ∷ []))) in
       rw (get_or_push before head 0 (length keys) n, get_or_push keys key key (length keys) refl, whole) at at
 
-  pop_heads : bucket key < length heads → head ≡ last_of (in_bucket bucket key) keys → AreHeads bucket heads (keys ++ key ∷ []) → AreHeads bucket (set heads (bucket key) head) keys
+  pop_heads : bucket key < length heads → head ≡ last_of (in_bucket bucket key) keys
+      → AreHeads bucket heads (keys ++ key ∷ []) → AreHeads bucket (set heads (bucket key) head) keys
   pop_heads in_heads e a = record {
     last = λ j h. elim (eqb_tells j (bucket key)) [
       | inl same ↦ rw (same.1, get_or-set_same heads (bucket key) head 0 in_heads) e
       | inr other ↦
-          get_or-set_other heads (bucket key) j head 0 other.1 ∙ a.last j (omega (arith, h, length-set heads (bucket key) head))
-          ∙ last_push (λ k. nat_eq j (bucket k)) keys key ∙ ap (λ (b : Bool). cond b (suc (length keys)) (last_of (λ k. nat_eq j (bucket k)) keys)) other.0
+          get_or-set_other heads (bucket key) j head 0 other.1
+          ∙ a.last j (omega (arith, h, length-set heads (bucket key) head))
+          ∙ last_push (λ k. nat_eq j (bucket k)) keys key
+          ∙ ap (λ (b : Bool). cond b (suc (length keys)) (last_of (λ k. nat_eq j (bucket k)) keys)) other.0
     ];
   }
 
-module _ {K : Type 0} (number : ℕ → K → ℕ) (multiplier : ℕ) (heads : List ℕ) (keys : List K) (key : K) (before : List ℕ) (head at : ℕ) where
+module _ {K : Type 0} (number : ℕ → K → ℕ) (multiplier : ℕ) (heads : List ℕ) (keys : List K) (key : K) (before : List ℕ)
+    (head at : ℕ) where
   -- with one more key, the new heads being of the old length
-  pub pushed : AreChains number multiplier heads keys before → length keys + 1 < 2 ^ 32 → at < length heads → at ≡ bucket_in number multiplier (length heads) key → head ≡ get_or heads at 0
+  pub pushed : AreChains number multiplier heads keys before → length keys + 1 < 2 ^ 32 → at < length heads
+      → at ≡ bucket_in number multiplier (length heads) key → head ≡ get_or heads at 0
       → AreChains number multiplier (set heads at (length keys + 1)) (keys ++ key ∷ []) (before ++ head ∷ [])
   pushed a small in_heads e h =
       let bucket = bucket_in number multiplier (length heads) in
       let n : length (set heads at (length keys + 1)) ≡ length heads = length-set heads at (length keys + 1) in
-      let is : head ≡ last_of (in_bucket bucket key) keys = h ∙ ap (λ j. get_or heads j 0) e ∙ a.heads_are.last (bucket key) (omega (arith, e, in_heads)) in
+      let is : head ≡ last_of (in_bucket bucket key) keys = h ∙ ap (λ j. get_or heads j 0) e
+      ∙ a.heads_are.last (bucket key) (omega (arith, e, in_heads)) in
       record {
         small = omega (arith, length-append keys (key ∷ []));
         some = λ _. omega (arith, n, in_heads);
-        heads_are = subst (λ m. AreHeads (bucket_in number multiplier m) (set heads at (length keys + 1)) (keys ++ key ∷ [])) (sym n)
-            (subst (λ j. AreHeads bucket (set heads j (length keys + 1)) (keys ++ key ∷ [])) (sym e) (push_heads bucket heads keys key before head (omega (arith, e, in_heads)) a.heads_are));
-        linked = subst (λ m. AreLinked (bucket_in number multiplier m) (keys ++ key ∷ []) (before ++ head ∷ [])) (sym n) (push_link bucket heads keys key before head a.linked is);
+        heads_are = subst (λ m. AreHeads (bucket_in number multiplier m) (set heads at (length keys + 1))
+            (keys ++ key ∷ [])) (sym n)
+            (subst (λ j. AreHeads bucket (set heads j (length keys + 1)) (keys ++ key ∷ [])) (sym e)
+            (push_heads bucket heads keys key before head (omega (arith, e, in_heads)) a.heads_are));
+        linked = subst (λ m. AreLinked (bucket_in number multiplier m) (keys ++ key ∷ []) (before ++ head ∷ [])) (sym n)
+            (push_link bucket heads keys key before head a.linked is);
       }
 
   -- without the last key
-  pub popped : AreChains number multiplier heads (keys ++ key ∷ []) (before ++ head ∷ []) → at < length heads → at ≡ bucket_in number multiplier (length heads) key
+  pub popped : AreChains number multiplier heads (keys ++ key ∷ []) (before ++ head ∷ []) → at < length heads
+      → at ≡ bucket_in number multiplier (length heads) key
       → AreChains number multiplier (set heads at head) keys before
   popped a in_heads e =
       let bucket = bucket_in number multiplier (length heads) in
@@ -168,12 +227,15 @@ module _ {K : Type 0} (number : ℕ → K → ℕ) (multiplier : ℕ) (heads : L
         small = omega (arith, a.small, length-append keys (key ∷ []));
         some = λ _. omega (arith, n, in_heads);
         heads_are = subst (λ m. AreHeads (bucket_in number multiplier m) (set heads at head) keys) (sym n)
-            (subst (λ j. AreHeads bucket (set heads j head) keys) (sym e) (pop_heads bucket heads keys key before head (omega (arith, e, in_heads)) is a.heads_are));
-        linked = subst (λ m. AreLinked (bucket_in number multiplier m) keys before) (sym n) (pop_link bucket heads keys key before head a.linked);
+            (subst (λ j. AreHeads bucket (set heads j head) keys) (sym e)
+            (pop_heads bucket heads keys key before head (omega (arith, e, in_heads)) is a.heads_are));
+        linked = subst (λ m. AreLinked (bucket_in number multiplier m) keys before) (sym n)
+            (pop_link bucket heads keys key before head a.linked);
       }
 
 -- no key is linked yet
-pub unlinked : {K : Type 0} (number : ℕ → K → ℕ) (multiplier : ℕ) (heads : List ℕ) → ((j : ℕ) → get_or heads j 0 ≡ 0) → AreChains number multiplier heads [] []
+pub unlinked : {K : Type 0} (number : ℕ → K → ℕ) (multiplier : ℕ) (heads : List ℕ) → ((j : ℕ) → get_or heads j 0 ≡ 0)
+    → AreChains number multiplier heads [] []
 unlinked number multiplier heads zero_at = record {
   small = omega arith;
   some = λ h. omega arith;
@@ -181,18 +243,23 @@ unlinked number multiplier heads zero_at = record {
   linked = record { len = refl; chain = λ i d h. omega arith };
 }
 
-module _ {K : Type 0} (eq : K → K → Bool) (number : ℕ → K → ℕ) (respects : (m : ℕ) (x y : K) → eq x y ≡ true → number m x ≡ number m y)
-    (multiplier : ℕ) (heads : List ℕ) (keys : List K) (before : List ℕ) (chains : AreChains number multiplier heads keys before) (key : K) (start : ℕ) where
-  alike : (x y : K) → eq x y ≡ true → bucket_in number multiplier (length heads) x ≡ bucket_in number multiplier (length heads) y
+module _ {K : Type 0} (eq : K → K → Bool) (number : ℕ → K → ℕ) (respects : (m : ℕ) (x y : K) → eq x y ≡ true
+    → number m x ≡ number m y)
+    (multiplier : ℕ) (heads : List ℕ) (keys : List K) (before : List ℕ)
+    (chains : AreChains number multiplier heads keys before) (key : K) (start : ℕ) where
+  alike : (x y : K) → eq x y ≡ true
+      → bucket_in number multiplier (length heads) x ≡ bucket_in number multiplier (length heads) y
   alike x y e = ap (λ n. n % length heads) (respects multiplier x y e)
 
   -- a walk from the head of the key's bucket
-  pub from_head : (at : ℕ) → at < length heads → at ≡ bucket_in number multiplier (length heads) key → start ≡ get_or heads at 0
+  pub from_head : (at : ℕ) → at < length heads → at ≡ bucket_in number multiplier (length heads) key
+      → start ≡ get_or heads at 0
       → IsOnWay eq (bucket_in number multiplier (length heads)) key keys (length keys) start
   from_head at within is e =
       let bucket = bucket_in number multiplier (length heads) in
       way_from eq bucket alike key keys (length keys) start (omega arith)
-      (e ∙ ap (λ j. get_or heads j 0) is ∙ chains.heads_are.last (bucket key) (omega (arith, within, is)) ∙ ap (last_of (in_bucket bucket key)) (sym (take-length keys)))
+      (e ∙ ap (λ j. get_or heads j 0) is ∙ chains.heads_are.last (bucket key) (omega (arith, within, is))
+      ∙ ap (last_of (in_bucket bucket key)) (sym (take-length keys)))
 
   -- a walk from the link of a place with the key
   pub from_place : (place : ℕ) → place < length keys → key ≡ get_or keys place key → start ≡ get_or before place 0
@@ -200,4 +267,5 @@ module _ {K : Type 0} (eq : K → K → Bool) (number : ℕ → K → ℕ) (resp
   from_place place within is e =
       let bucket = bucket_in number multiplier (length heads) in
       way_from eq bucket alike key keys place start (omega (arith, within))
-      (e ∙ chains.linked.chain place key within ∙ ap (λ (k : K). last_of (in_bucket bucket k) (take place keys)) (sym is))
+      (e ∙ chains.linked.chain place key within
+      ∙ ap (λ (k : K). last_of (in_bucket bucket k) (take place keys)) (sym is))

@@ -1,5 +1,6 @@
 -- Marked places are moved to the front, and the others taken away.
-use Rattle.std.proofs.Common.{◌≡◌, ℕ, ◌+◌, ◌<◌, ◌≤◌, length, List, [], ◌∷◌, ◌++◌, Bool, true, false, cond, refl, ap, sym, ◌∙◌, arith, take, get_or, set, zero, suc}
+use Rattle.std.proofs.Common.{◌≡◌, ℕ, ◌+◌, ◌<◌, ◌≤◌, length, List, [], ◌∷◌, ◌++◌, Bool, true, false, cond, refl, ap, sym, ◌∙◌, arith, take}
+use Rattle.std.proofs.Common.{get_or, set, zero, suc}
 use Rattle.std.proofs.lemmas.List.{get_or-set_other}
 use Rattle.std.proofs.Math.Seq.{take-suc-set}
 use Rattle.base_table.specs.Last.{picked}
@@ -16,7 +17,8 @@ pick_step (b ∷ bs) (x ∷ xs) zero d h l = refl
 pick_step (true ∷ bs) (x ∷ xs) (suc i) d h l = ap (λ r. x ∷ r) (pick_step bs xs i d (omega arith) (omega arith))
 pick_step (false ∷ bs) (x ∷ xs) (suc i) d h l = pick_step bs xs i d (omega arith) (omega arith)
 
-pub pick_skip : {A : Type 0} (bs : List Bool) (xs : List A) (i : ℕ) → i < length bs → get_or bs i false ≡ false → picked (take (suc i) bs) xs ≡ picked (take i bs) xs
+pub pick_skip : {A : Type 0} (bs : List Bool) (xs : List A) (i : ℕ) → i < length bs → get_or bs i false ≡ false
+    → picked (take (suc i) bs) xs ≡ picked (take i bs) xs
 pick_skip [] xs i h e = absurd (omega arith)
 pick_skip (b ∷ bs) [] zero h e = refl
 pick_skip (b ∷ bs) [] (suc i) h e = refl
@@ -30,7 +32,8 @@ pub record IsPacked {K : Type 0} (keys : List K) (kept : List Bool) (was : List 
   pub front : take len keys ≡ picked (take i kept) was
   pub rest : (m : ℕ) (d : K) → i ≤ m → get_or keys m d ≡ get_or was m d
 
-pub skip_pack : {K : Type 0} (keys : List K) (kept : List Bool) (was : List K) (i len : ℕ) → i < length kept → get_or kept i false ≡ false
+pub skip_pack : {K : Type 0} (keys : List K) (kept : List Bool) (was : List K) (i len : ℕ) → i < length kept
+    → get_or kept i false ≡ false
     → IsPacked keys kept was i len → IsPacked keys kept was (i + 1) len
 skip_pack keys kept was i len lk unmarked r = record {
   within = omega (arith, r.within);
@@ -39,11 +42,13 @@ skip_pack keys kept was i len lk unmarked r = record {
 }
 
 pub step_pack : {K : Type 0} (keys : List K) (kept : List Bool) (was : List K) (i len : ℕ) (key : K)
-    → i < length kept → length kept ≡ length was → length keys ≡ length was → get_or kept i false ≡ true → key ≡ get_or keys i key
+    → i < length kept → length kept ≡ length was → length keys ≡ length was → get_or kept i false ≡ true
+    → key ≡ get_or keys i key
     → IsPacked keys kept was i len → IsPacked (set keys len key) kept was (i + 1) (len + 1)
 step_pack {K = K} keys kept was i len key lk ek eks marked is r =
     let in_keys : len < length keys = omega (arith, r.within) in
-    let keys_are : take (len + 1) (set keys len key) ≡ take len keys ++ key ∷ [] = ap (λ n. take n (set keys len key)) (one len) ∙ take-suc-set keys len key in_keys in
+    let keys_are : take (len + 1) (set keys len key) ≡ take len keys ++ key ∷ []
+    = ap (λ n. take n (set keys len key)) (one len) ∙ take-suc-set keys len key in_keys in
     let more : picked (take (i + 1) kept) was ≡ picked (take i kept) was ++ key ∷ [] =
     ap (λ n. picked (take n kept) was) (one i) ∙ pick_step kept was i key lk (omega arith)
     ∙ ap (λ (b : Bool). picked (take i kept) was ++ cond b (get_or was i key ∷ []) []) marked

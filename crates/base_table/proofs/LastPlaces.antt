@@ -1,20 +1,24 @@
 -- What the last place of a list that passes says.
-use Rattle.std.proofs.Common.{◌≡◌, ℕ, ◌<◌, ◌≤◌, length, List, [], ◌∷◌, Bool, true, false, cond, refl, ap, arith, take, get_or, zero, suc, nat_eq, map, ◌∙◌}
+use Rattle.std.proofs.Common.{◌≡◌, ℕ, ◌<◌, ◌≤◌, length, List, [], ◌∷◌, Bool, true, false, cond, refl, ap, arith, take, get_or, zero, suc}
+use Rattle.std.proofs.Common.{nat_eq, map, ◌∙◌}
 use Rattle.base_table.specs.Last.{last_of}
 
 passes_first : {A : Type 0} (p : A → Bool) (x : A) (xs : List A) → last_of p (x ∷ xs) ≡ 1 → p x ≡ true
 passes_first p x xs h = grind (arith, h)
 
-passes_later : {A : Type 0} (p : A → Bool) (x : A) (xs : List A) (k : ℕ) → last_of p (x ∷ xs) ≡ suc (suc k) → last_of p xs ≡ suc k
+passes_later : {A : Type 0} (p : A → Bool) (x : A) (xs : List A) (k : ℕ) → last_of p (x ∷ xs) ≡ suc (suc k)
+    → last_of p xs ≡ suc k
 passes_later p x xs k h = grind (arith, h)
 
 -- the last place passes
-pub last_passes : {A : Type 0} (p : A → Bool) (xs : List A) (k : ℕ) (d : A) → last_of p xs ≡ suc k → p (get_or xs k d) ≡ true
+pub last_passes : {A : Type 0} (p : A → Bool) (xs : List A) (k : ℕ) (d : A) → last_of p xs ≡ suc k
+    → p (get_or xs k d) ≡ true
 last_passes p [] k d h = absurd (omega arith)
 last_passes p (x ∷ xs) zero d h = passes_first p x xs h
 last_passes p (x ∷ xs) (suc k) d h = last_passes p xs k d (passes_later p x xs k h)
 
-within_step : {A : Type 0} (p : A → Bool) (x : A) (xs : List A) → last_of p xs ≤ length xs → last_of p (x ∷ xs) ≤ suc (length xs)
+within_step : {A : Type 0} (p : A → Bool) (x : A) (xs : List A) → last_of p xs ≤ length xs
+    → last_of p (x ∷ xs) ≤ suc (length xs)
 within_step p x xs h = grind (arith, h)
 
 pub last_within : {A : Type 0} (p : A → Bool) (xs : List A) → last_of p xs ≤ length xs
@@ -28,20 +32,24 @@ none_later : {A : Type 0} (p : A → Bool) (x : A) (xs : List A) → last_of p (
 none_later p x xs h = grind (arith, h)
 
 -- where there is no last place, no place passes
-pub none_passes : {A : Type 0} (p : A → Bool) (xs : List A) → last_of p xs ≡ 0 → (i : ℕ) (d : A) → i < length xs → p (get_or xs i d) ≡ false
+pub none_passes : {A : Type 0} (p : A → Bool) (xs : List A) → last_of p xs ≡ 0 → (i : ℕ) (d : A) → i < length xs
+    → p (get_or xs i d) ≡ false
 none_passes p [] h i d lt = absurd (omega arith)
 none_passes p (x ∷ xs) h zero d lt = none_first p x xs h
 none_passes p (x ∷ xs) h (suc i) d lt = none_passes p xs (none_later p x xs h) i d (omega arith)
 
 -- the last place, once the list is read through f
-pub last_map : {A B : Type 0} (f : A → B) (p : B → Bool) (xs : List A) → last_of p (map f xs) ≡ last_of (λ x. p (f x)) xs
+pub last_map : {A B : Type 0} (f : A → B) (p : B → Bool) (xs : List A)
+    → last_of p (map f xs) ≡ last_of (λ x. p (f x)) xs
 last_map f p [] = refl
 last_map f p (x ∷ xs) = ap (λ n. cond (nat_eq n 0) (cond (p (f x)) 1 0) (suc n)) (last_map f p xs)
 
 pub not_zero : (n : ℕ) → nat_eq (suc n) 0 ≡ false
 not_zero n = grind arith
 
-last_take_step : {A : Type 0} (p : A → Bool) (x : A) (xs : List A) (n : ℕ) → last_of p xs ≡ n → last_of p (take n xs) ≡ n → last_of p (take (cond (nat_eq n 0) (cond (p x) 1 0) (suc n)) (x ∷ xs)) ≡ cond (nat_eq n 0) (cond (p x) 1 0) (suc n)
+last_take_step : {A : Type 0} (p : A → Bool) (x : A) (xs : List A) (n : ℕ) → last_of p xs ≡ n
+    → last_of p (take n xs) ≡ n → last_of p (take (cond (nat_eq n 0) (cond (p x) 1 0) (suc n)) (x ∷ xs))
+    ≡ cond (nat_eq n 0) (cond (p x) 1 0) (suc n)
 last_take_step p x xs zero e h = by (p x) refl
   where
     by : (b : Bool) → p x ≡ b → last_of p (take (cond b 1 0) (x ∷ xs)) ≡ cond b 1 0
@@ -49,7 +57,8 @@ last_take_step p x xs zero e h = by (p x) refl
     by false t = refl
 last_take_step p x xs (suc n) e h =
     let z : nat_eq (suc n) 0 ≡ false = not_zero n in
-    rw z (ap (λ m. cond (nat_eq m 0) (cond (p x) 1 0) (suc m)) h ∙ ap (λ (b : Bool). cond b (cond (p x) 1 0) (suc (suc n))) z)
+    rw z (ap (λ m. cond (nat_eq m 0) (cond (p x) 1 0) (suc m)) h
+    ∙ ap (λ (b : Bool). cond b (cond (p x) 1 0) (suc (suc n))) z)
 
 -- the last place stays the last of what stands up to it
 pub last_take : {A : Type 0} (p : A → Bool) (xs : List A) → last_of p (take (last_of p xs) xs) ≡ last_of p xs

@@ -10,3 +10,4 @@ pub mod Placed
 pub mod Stretched
 pub mod Wider
 pub mod Widths
+pub mod CallerLemmas

@@ -1,5 +1,7 @@
 -- What a contract sees of a table: places, each with a row or empty. A row's number is its place.
-use Rattle.std.specs.Prelude.{ℕ, ℤ, true, ◌≡◌, ◌<◌, ◌≤◌, ◌+◌, ◌^◌, ◌==◌, Bool, true, not, nat_abs, nat_eq, List, [], ◌∷◌, ◌++◌, length, filter, filter_map, map, slice_index_or, is_some, option_map, pos, replicate, take, ◌-◌, Option, Some, None, IfSome, if◌then◌else◌}
+use Rattle.std.specs.Prelude.{ℕ, ℤ, true, ◌≡◌, ◌<◌, ◌≤◌, ◌+◌, ◌^◌, ◌==◌, Bool, true, not, nat_abs, nat_eq, List, [], ◌∷◌, ◌++◌, length}
+use Rattle.std.specs.Prelude.{filter, filter_map, map, slice_index_or, is_some, option_map, pos, replicate, take, ◌-◌, Option, Some, None}
+use Rattle.std.specs.Prelude.{IfSome, if◌then◌else◌}
 use Rattle.std.specs.List.{All, IsDistinct, find, list_any, range_with_len}
 use Rattle.cube_defs.specs.Cell.{Cell, cell_of, cell_eq}
 use Rattle.cube_defs.specs.Rows.{Row, Agg, agg_of}

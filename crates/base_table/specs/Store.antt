@@ -1,6 +1,7 @@
 -- What a store of rows keeps: the ids, the codes and the amounts of its rows, each in one list; and
 -- what a table keeps: a store, and for each row of it whether the row is still there.
-use Rattle.std.specs.Prelude.{◌≡◌, ℕ, ℤ, ◌+◌, ◌*◌, ◌%◌, ◌^◌, ◌<◌, ◌≤◌, ◌++◌, Bool, true, false, cond, ◌&&◌, if◌then◌else◌, Option, Some, None, List, [], ◌∷◌, length, map, take, drop, fold, nat_eq, slice_index_or, slice_set, suc, zero}
+use Rattle.std.specs.Prelude.{◌≡◌, ℕ, ℤ, ◌+◌, ◌*◌, ◌%◌, ◌^◌, ◌<◌, ◌≤◌, ◌++◌, Bool, true, false, cond, ◌&&◌, if◌then◌else◌, Option, Some}
+use Rattle.std.specs.Prelude.{None, List, [], ◌∷◌, length, map, take, drop, fold, nat_eq, slice_index_or, slice_set, suc, zero}
 use Rattle.std.specs.List.{All}
 use Rattle.aggregates.specs.Rows.{agg_of_row}
 use Rattle.cube_defs.specs.Cell.{Cell, cell_eq, cell_of}
@@ -25,7 +26,8 @@ pub record StoredRows : Type 0 where
 abbrev pub rows_from : ℕ → ℕ → List ℕ → List ℕ → List ℤ → List (Row ℕ)
 rows_from dims measures [] codes amounts = []
 rows_from dims measures (id ∷ ids) codes amounts =
-    record { id = id; tuple = take dims codes; amounts = take measures amounts } ∷ rows_from dims measures ids (drop dims codes) (drop measures amounts)
+    record { id = id; tuple = take dims codes; amounts = take measures amounts }
+    ∷ rows_from dims measures ids (drop dims codes) (drop measures amounts)
 
 -- of lists of one width that lie one after another, those whose mark is set
 abbrev pub picked_lines : {A : Type 0} → ℕ → List Bool → List A → List A
@@ -63,7 +65,8 @@ shorter_lines width first zero cells = []
 shorter_lines width first (suc lines) cells = take first cells ++ shorter_lines width first lines (drop width cells)
 
 -- each row has its codes, its amounts and its tuple's number
-pub record IsStore (dims measures : ℕ) (printer : Fingerprinter) (dims_then : ℕ) (ids prints codes : List ℕ) (amounts : List ℤ) (room : ℕ) : Type 0 where
+pub record IsStore (dims measures : ℕ) (printer : Fingerprinter) (dims_then : ℕ) (ids prints codes : List ℕ)
+    (amounts : List ℤ) (room : ℕ) : Type 0 where
   pub few_dims : dims ≤ MAX_DIMS
   pub few_measures : measures ≤ MAX_MEASURES
   pub codes_len : length codes ≡ length ids * dims
@@ -93,18 +96,21 @@ marks_then here touched begun = restored touched (take begun here)
 abbrev pub added : List Bool → List (Row ℕ) → Cell ℕ → ℕ → Row ℕ → Option Agg
 added here rows tuple k d =
     let row = slice_index_or rows k d in
-    if slice_index_or here k false && cell_eq nat_eq (cell_of row.tuple) tuple then Some (agg_of_row row.amounts) else None
+    if slice_index_or here k false && cell_eq nat_eq (cell_of row.tuple) tuple
+    then Some (agg_of_row row.amounts) else None
 
 -- a row that is here is the last of its id
 pub record AreLast (here : List Bool) (rows : List (Row ℕ)) : Type 0 where
-  pub last : (k : ℕ) (d : Row ℕ) → k < length here → slice_index_or here k false ≡ true → last_of (nat_eq (slice_index_or rows k d).id) (map id_of rows) ≡ k + 1
+  pub last : (k : ℕ) (d : Row ℕ) → k < length here → slice_index_or here k false ≡ true
+      → last_of (nat_eq (slice_index_or rows k d).id) (map id_of rows) ≡ k + 1
 
 -- the row at k is the one that is here under the id
 pub record IsFound (here : List Bool) (rows : List (Row ℕ)) (id k : ℕ) : Type 0 where
   pub within : k < length here
   pub there : slice_index_or here k false ≡ true
   pub named : (d : Row ℕ) → (slice_index_or rows k d).id ≡ id
-  pub only : (i : ℕ) (d : Row ℕ) → i < length here → slice_index_or here i false ≡ true → (slice_index_or rows i d).id ≡ id → i ≡ k
+  pub only : (i : ℕ) (d : Row ℕ) → i < length here → slice_index_or here i false ≡ true
+      → (slice_index_or rows i d).id ≡ id → i ≡ k
 
 -- some rows, with the dimensions that there were when the rows were settled last
 abbrev pub base_then : StoredRows → List (Row ℕ) → Base
@@ -127,7 +133,8 @@ pub record HasShape (dims dims_then measures max : ℕ) : Type 0 where
   pub few_rows : max ≤ MAX_ROWS
 
 -- the table now, and as it was when the batch began, or where none is open, as it is
-pub record AreTableFields (store : StoredRows) (here : List Bool) (touched : List ℕ) (room begun count_then : ℕ) (is_open : Bool) (count max : ℕ) : Type 0 where
+pub record AreTableFields (store : StoredRows) (here : List Bool) (touched : List ℕ) (room begun count_then : ℕ)
+    (is_open : Bool) (count max : ℕ) : Type 0 where
   pub shape : HasShape store.dims store.dims_then store.measures max
   pub few_places : length here < 2 ^ 32
   pub places : length store.rows ≡ length here

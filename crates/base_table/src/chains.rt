@@ -1,4 +1,5 @@
-// A list of keys that finds the last place of a key, and from each place the one before of the same key.
+// A list of keys that finds the last place of a key, and from each place the one before of the same
+// key.
 ghost use Rattle.std.specs.Prelude.{OnErr, OnOk, [], length, slice_index, slice_index_or, take, vec_capacity, vec_len, ◌+◌, ◌++◌, ◌-◌, ◌<◌, ◌∷◌, ◌^◌, ◌≡◌, ◌≤◌, ℕ};
 ghost use Rattle.base_table.specs.Last.{AreChains, bucket_in, in_bucket, last_of, picked};
 
@@ -31,7 +32,8 @@ impl<K: Numbered> Model for Chains<K> {
 
     ghost view = { λ c. c.links.keys.items };
 
-    ghost invariant = { λ c. AreChains K.number c.links.multiplier c.links.heads.items c.links.keys.items c.links.before.items };
+    ghost invariant = { λ c. AreChains K.number c.links.multiplier c.links.heads.items
+        c.links.keys.items c.links.before.items };
 }
 
 // The bucket of a key.
@@ -43,11 +45,15 @@ fn bucket<K: Numbered>(key: &K, multiplier: u32, heads: &Vec<u32>) -> usize
     key.number(multiplier) as usize % heads.len()
 }
 
-// One more than the last place of the key, or 0, by a walk that starts at the last place of its bucket.
+// One more than the last place of the key, or 0, by a walk that starts at the last place of its
+// bucket.
 fn find_from<K: Numbered>(links: &Links<K>, key: &K, start: u32) -> u32
-    requires chains { AreChains K.number links.now.multiplier links.now.heads.items links.now.keys.items links.now.before.items }
+    requires chains { AreChains K.number links.now.multiplier links.now.heads.items
+        links.now.keys.items links.now.before.items }
     requires within { start ≤ length links.now.keys.items }
-    requires last { last_of (in_bucket (bucket_in K.number links.now.multiplier (length links.now.heads.items)) key.now) (take start links.now.keys.items) ≡ start }
+    requires last { last_of
+        (in_bucket (bucket_in K.number links.now.multiplier (length links.now.heads.items)) key.now)
+        (take start links.now.keys.items) ≡ start }
     ensures { result ≡ last_of (K.eq key.now) (take start links.now.keys.items) }
 {
     let mut at = start;
@@ -63,8 +69,10 @@ fn link_next<K: Numbered>(links: &mut Links<K>)
     requires room { length links.old.before.items < vec_capacity links.old.before }
     requires small { length links.old.keys.items < 2 ^ 32 }
     requires some { 0 < length links.old.heads.items }
-    requires chains { AreChains K.number links.old.multiplier links.old.heads.items (take (length links.old.before.items) links.old.keys.items) links.old.before.items }
-    ensures chains { AreChains K.number links.new.multiplier links.new.heads.items (take (length links.new.before.items) links.new.keys.items) links.new.before.items }
+    requires chains { AreChains K.number links.old.multiplier links.old.heads.items
+        (take (length links.old.before.items) links.old.keys.items) links.old.before.items }
+    ensures chains { AreChains K.number links.new.multiplier links.new.heads.items
+        (take (length links.new.before.items) links.new.keys.items) links.new.before.items }
     ensures keys { links.new.keys ≡ links.old.keys }
     ensures len { length links.new.before.items ≡ length links.old.before.items + 1 }
     ensures room { vec_capacity links.new.before ≡ vec_capacity links.old.before }
@@ -91,7 +99,8 @@ fn relink<K: Numbered>(links: &mut Links<K>)
     requires small { length links.old.keys.items < 2 ^ 32 }
     requires some { 0 < length links.old.keys.items → 0 < length links.old.heads.items }
     requires room { length links.old.keys.items ≤ vec_capacity links.old.before }
-    ensures chains { AreChains K.number links.new.multiplier links.new.heads.items links.new.keys.items links.new.before.items }
+    ensures chains { AreChains K.number links.new.multiplier links.new.heads.items
+        links.new.keys.items links.new.before.items }
     ensures keys { links.new.keys ≡ links.old.keys }
     ensures room { vec_capacity links.new.before ≡ vec_capacity links.old.before }
     ensures heads { length links.new.heads.items ≡ length links.old.heads.items }
@@ -105,8 +114,10 @@ fn relink<K: Numbered>(links: &mut Links<K>)
 
 // Makes more buckets, if there are no more of them than keys.
 fn make_buckets<K: Numbered>(links: &mut Links<K>) -> Result<(), AllocError>
-    requires chains { AreChains K.number links.old.multiplier links.old.heads.items links.old.keys.items links.old.before.items }
-    ensures chains { AreChains K.number links.new.multiplier links.new.heads.items links.new.keys.items links.new.before.items }
+    requires chains { AreChains K.number links.old.multiplier links.old.heads.items
+        links.old.keys.items links.old.before.items }
+    ensures chains { AreChains K.number links.new.multiplier links.new.heads.items
+        links.new.keys.items links.new.before.items }
     ensures keys { links.new.keys ≡ links.old.keys }
     ensures room { vec_capacity links.new.before ≡ vec_capacity links.old.before }
     ensures ok { OnOk result (0 < length links.new.heads.items) }
@@ -205,7 +216,8 @@ impl<K: Numbered + Copy + Drop> Chains<K> {
     /// One more than the last place of the same key before the place, or 0.
     pub fn before(&self, place: u32) -> u32
         requires { place < length self.now }
-        ensures { (d : K) → result ≡ last_of (K.eq (slice_index_or self.now place d)) (take place self.now) }
+        ensures { (d : K) → result ≡ last_of (K.eq (slice_index_or self.now place d))
+            (take place self.now) }
     {
         let links = &self.links;
         let key = links.keys[place as usize];

@@ -21,7 +21,8 @@ fn with_row(sum: Option<Agg>, amounts: &[i64]) -> Agg
     requires measures { IfSome sum (λ agg. agg.measures ≡ length amounts.now) }
     requires small { All (λ a. nat_abs a ≤ MAX_AMOUNT) amounts.now }
     requires few { IfSome sum (λ agg. agg.count < MAX_ROWS) }
-    ensures aggregate { Some (agg_in result) ≡ join_aggs (option_map agg_in sum) (Some (agg_of_row amounts.now)) }
+    ensures aggregate { Some (agg_in result) ≡ join_aggs (option_map agg_in sum)
+        (Some (agg_of_row amounts.now)) }
     ensures measures { result.measures ≡ length amounts.now }
 {
     match sum {
@@ -47,8 +48,11 @@ fn with_place(
     requires dims { length tuple.now ≡ store.now.dims }
     requires measures { IfSome sum (λ agg. agg.measures ≡ store.now.measures) }
     requires few { slice_index_or here.now.items place false ≡ true → (d : Row ℕ) →
-        cell_eq nat_eq (cell_of (slice_index_or store.now.rows place d).tuple) tuple.now ≡ true → IfSome sum (λ agg. agg.count < MAX_ROWS) }
-    ensures aggregate { (d : Row ℕ) → option_map agg_in result ≡ join_aggs (option_map agg_in sum) (added here.now.items store.now.rows tuple.now place d) }
+        cell_eq nat_eq (cell_of (slice_index_or store.now.rows place d).tuple) tuple.now ≡ true
+        → IfSome sum (λ agg. agg.count < MAX_ROWS) }
+    ensures aggregate { (d : Row ℕ)
+        → option_map agg_in result ≡ join_aggs (option_map agg_in sum)
+        (added here.now.items store.now.rows tuple.now place d) }
     ensures measures { IfSome result (λ agg. agg.measures ≡ store.now.measures) }
 {
     if !here[place as usize] || !store.has_tuple(place, tuple) {
@@ -64,14 +68,15 @@ pub(crate) fn group_in(store: &Store, here: &Vec<bool>, tuple: &Cell) -> Option<
     requires few { length (picked here.now.items store.now.rows) ≤ MAX_ROWS }
     requires each { All (IsRow store.now.dims store.now.measures) store.now.rows }
     requires dims { length tuple.now ≡ store.now.dims }
-    ensures value { option_map agg_in result ≡ total_of store.now.measures (with_tuple (picked here.now.items store.now.rows) tuple.now) }
+    ensures value { option_map agg_in result ≡ total_of store.now.measures
+        (with_tuple (picked here.now.items store.now.rows) tuple.now) }
     ensures measures { IfSome result (λ agg. agg.measures ≡ store.now.measures) }
 {
-    let mut at = store.last_alike(tuple);
+    let mut at = store.last_with_fingerprint(tuple);
     let mut sum = None;
     'rows: while at > 0 {
         sum = with_place(store, here, at - 1, tuple, sum);
-        at = store.alike_before(at - 1);
+        at = store.previous_with_fingerprint(at - 1);
     }
     sum
 }

@@ -54,9 +54,10 @@ pub(crate) fn restore(here: &mut Vec<bool>, touched: &Vec<u32>)
 }
 
 // Records the place of a deleted row, if it was there when the batch began.
-pub(crate) fn note(touched: &mut Vec<u32>, place: u32, begun: u32)
+pub(crate) fn push_touched(touched: &mut Vec<u32>, place: u32, begun: u32)
     requires { vec_len touched.old < vec_capacity touched.old }
-    ensures items { touched.new.items ≡ (if nat_lt place begun then touched.old.items ++ place ∷ [] else touched.old.items) }
+    ensures items { touched.new.items ≡ (if nat_lt place begun then touched.old.items ++ place ∷ []
+        else touched.old.items) }
     ensures capacity { vec_capacity touched.new ≡ vec_capacity touched.old }
 {
     if place < begun {
@@ -75,7 +76,7 @@ fn compact(store: &mut Store, here: &mut Vec<bool>)
 }
 
 // Removes the empty places if there are more of them than rows. Takes no memory.
-pub(crate) fn thin_out(store: &mut Store, here: &mut Vec<bool>, count: u32)
+pub(crate) fn compact_if_sparse(store: &mut Store, here: &mut Vec<bool>, count: u32)
     requires last { AreLast here.old.items store.old.rows }
     requires places { length store.old.rows ≡ length here.old.items }
     requires each { All (IsRow store.old.dims store.old.measures) store.old.rows }
@@ -97,7 +98,9 @@ pub(crate) fn thin_out(store: &mut Store, here: &mut Vec<bool>, count: u32)
 // The places of the marks that are set.
 pub(crate) fn numbers_in(alloc: Global, here: &Vec<bool>) -> Result<Vec<RowNo>, Memory>
     requires { length here.now.items < 2 ^ 32 }
-    ensures { IfOk result (λ nos. map (λ no. no.0) nos.items ≡ filter (λ k. slice_index_or here.now.items k false) (range_with_len 0 (length here.now.items))) }
+    ensures { IfOk result (λ nos. map (λ no. no.0) nos.items
+        ≡ filter (λ k. slice_index_or here.now.items k false)
+        (range_with_len 0 (length here.now.items))) }
 {
     let mut nos = Vec::new(alloc);
     'places: for place in 0..here.len() {

@@ -49,7 +49,8 @@ impl Model for Store {
       rows = rows_from s.dims s.measures s.ids s.codes.items s.amounts.items;
     } };
 
-    ghost invariant = { λ s. IsStore s.dims s.measures s.printer s.dims_then s.ids s.prints s.codes.items s.amounts.items (vec_capacity s.codes) };
+    ghost invariant = { λ s. IsStore s.dims s.measures s.printer s.dims_then s.ids s.prints
+        s.codes.items s.amounts.items (vec_capacity s.codes) };
 }
 
 impl Store {
@@ -113,17 +114,20 @@ impl Store {
     }
 
     /// One more than the last place of a tuple that shares its fingerprint with the cell, or 0.
-    pub fn last_alike(&self, tuple: &Cell) -> u32
+    pub fn last_with_fingerprint(&self, tuple: &Cell) -> u32
         requires { length tuple.now ≡ self.now.dims }
-        ensures { result ≡ last_of (nat_eq (print_in self.now.printer tuple.now)) (map (print_of self.now.printer) self.now.rows) }
+        ensures { result ≡ last_of (nat_eq (print_in self.now.printer tuple.now))
+            (map (print_of self.now.printer) self.now.rows) }
     {
         self.prints.last(&self.printer.of(tuple))
     }
 
-    /// One more than the last place before this one whose row has the fingerprint of the row here, or 0.
-    pub fn alike_before(&self, place: u32) -> u32
+    /// One more than the last place before this one whose row has the fingerprint of the row here,
+    /// or 0.
+    pub fn previous_with_fingerprint(&self, place: u32) -> u32
         requires { place < length self.now.rows }
-        ensures { (d : Row ℕ) → result ≡ last_of (nat_eq (print_of self.now.printer (slice_index_or self.now.rows place d)))
+        ensures { (d : Row ℕ) → result
+            ≡ last_of (nat_eq (print_of self.now.printer (slice_index_or self.now.rows place d)))
             (take place (map (print_of self.now.printer) self.now.rows)) }
     {
         self.prints.before(place)
@@ -155,7 +159,8 @@ impl Store {
     pub fn amount(&self, place: u32, measure: u8) -> i64
         requires place { place < length self.now.rows }
         requires measure { measure < self.now.measures }
-        ensures { (d : Row ℕ) → result ≡ slice_index_or (slice_index_or self.now.rows place d).amounts measure (pos 0) }
+        ensures { (d : Row ℕ) → result ≡ slice_index_or
+            (slice_index_or self.now.rows place d).amounts measure (pos 0) }
     {
         self.amounts(place)[measure as usize]
     }
@@ -164,7 +169,8 @@ impl Store {
     pub fn code(&self, place: u32, dim: u8) -> u32
         requires place { place < length self.now.rows }
         requires dim { dim < self.now.dims }
-        ensures value { (d : Row ℕ) → result ≡ slice_index_or (slice_index_or self.now.rows place d).tuple dim 0 }
+        ensures value { (d : Row ℕ)
+            → result ≡ slice_index_or (slice_index_or self.now.rows place d).tuple dim 0 }
         ensures small { IsCode result }
     {
         self.codes(place)[dim as usize]
@@ -173,7 +179,8 @@ impl Store {
     /// The tuple of a row.
     pub fn tuple(&self, place: u32) -> Cell
         requires { place < length self.now.rows }
-        ensures value { (d : Row ℕ) → result ≡ cell_of (slice_index_or self.now.rows place d).tuple }
+        ensures value { (d : Row ℕ)
+            → result ≡ cell_of (slice_index_or self.now.rows place d).tuple }
         ensures dims { length result ≡ self.now.dims }
     {
         lines::cell_with(*self.codes.allocator(), self.codes(place))
@@ -183,7 +190,8 @@ impl Store {
     pub fn has_tuple(&self, place: u32, tuple: &Cell) -> bool
         requires place { place < length self.now.rows }
         requires dims { length tuple.now ≡ self.now.dims }
-        ensures { (d : Row ℕ) → result ≡ cell_eq nat_eq (cell_of (slice_index_or self.now.rows place d).tuple) tuple.now }
+        ensures { (d : Row ℕ) → result ≡ cell_eq nat_eq
+            (cell_of (slice_index_or self.now.rows place d).tuple) tuple.now }
     {
         lines::is_cell(self.codes(place), tuple)
     }
@@ -195,8 +203,13 @@ impl Store {
         requires measures { length amounts.now ≡ self.old.measures }
         requires small { All (λ a. nat_abs a ≤ MAX_AMOUNT) amounts.now }
         requires few { length self.old.rows + 1 < 2 ^ 32 }
-        ensures ok { OnOk result (self.new ≡ record self.old { rows = self.old.rows ++ row_of id tuple.now amounts.now ∷ [] }) }
-        ensures row { OnOk result (IsRow self.old.dims self.old.measures (row_of id tuple.now amounts.now)) }
+        ensures ok { OnOk result
+            (self.new ≡ record self.old {
+              rows
+                  = self.old.rows ++ row_of id tuple.now amounts.now ∷ [];
+            }) }
+        ensures row { OnOk result
+            (IsRow self.old.dims self.old.measures (row_of id tuple.now amounts.now)) }
         ensures err { OnErr result (self.new ≡ self.old) }
     {
         let most = (self.ids.len() as usize + 1) * MAX_DIMS as usize;
@@ -238,7 +251,11 @@ impl Store {
     pub fn widen(&mut self, code: u32)
         requires few { self.old.dims < MAX_DIMS }
         requires small { IsCode code }
-        ensures { self.new ≡ record self.old { dims = self.old.dims + 1; rows = map (with_code code) self.old.rows } }
+        ensures { self.new ≡ record self.old {
+          dims = self.old.dims + 1;
+          rows
+              = map (with_code code) self.old.rows;
+        } }
     {
         let rows = self.ids.len() as usize;
         lines::lengthen(&mut self.codes, self.dims as usize, rows, code);
@@ -247,7 +264,11 @@ impl Store {
 
     /// Drops the dimensions that were added since the rows were settled last. Takes no memory.
     pub fn narrow(&mut self)
-        ensures { self.new ≡ record self.old { dims = self.old.dims_then; rows = map (narrowed self.old.dims_then) self.old.rows } }
+        ensures { self.new ≡ record self.old {
+          dims = self.old.dims_then;
+          rows
+              = map (narrowed self.old.dims_then) self.old.rows;
+        } }
     {
         if self.dims_then < self.dims {
             let rows = self.ids.len() as usize;

@@ -67,7 +67,8 @@ impl Model for Table {
 
     ghost view = { λ t. places_with t.store t.here.items t.touched.items t.begun t.is_open t.max };
 
-    ghost invariant = { λ t. AreTableFields t.store t.here.items t.touched.items (vec_capacity t.touched) t.begun t.count_then t.is_open t.count t.max };
+    ghost invariant = { λ t. AreTableFields t.store t.here.items t.touched.items
+        (vec_capacity t.touched) t.begun t.count_then t.is_open t.count t.max };
 }
 
 // The most places that have numbers. Only a batch that inserts and deletes rows without end needs
@@ -75,7 +76,8 @@ impl Model for Table {
 const MOST_PLACES: usize = 4_000_000_000;
 
 impl Table {
-    /// A table without rows, under fixed hash keys: ids and tuples that are chosen to collide make it
+    /// A table without rows, under fixed hash keys: ids and tuples that are chosen to collide make
+    /// it
     /// slow. No batch is open.
     pub fn new(alloc: Global, dims: u8, measures: u8, max: u32) -> Result<Table, Memory>
         requires some_dims { 0 < dims }
@@ -83,7 +85,14 @@ impl Table {
         requires few_measures { measures ≤ MAX_MEASURES }
         requires some_rows { 0 < max }
         requires few_rows { max ≤ MAX_ROWS }
-        ensures value { IfOk result (λ table. table ≡ record { dims = dims; measures = measures; max = max; places = []; was = None }) }
+        ensures value { IfOk result (λ table. table ≡ record {
+          dims = dims;
+          measures = measures;
+          max
+              = max;
+          places = [];
+          was = None;
+        }) }
     {
         Table::with_keys(alloc, HashKeys::fixed(), dims, measures, max)
     }
@@ -101,7 +110,14 @@ impl Table {
         requires few_measures { measures ≤ MAX_MEASURES }
         requires some_rows { 0 < max }
         requires few_rows { max ≤ MAX_ROWS }
-        ensures value { IfOk result (λ table. table ≡ record { dims = dims; measures = measures; max = max; places = []; was = None }) }
+        ensures value { IfOk result (λ table. table ≡ record {
+          dims = dims;
+          measures = measures;
+          max
+              = max;
+          places = [];
+          was = None;
+        }) }
     {
         Ok(Table {
             store: Store::new(alloc, keys, dims, measures),
@@ -137,7 +153,7 @@ impl Table {
     }
 
     /// Gives a proof what is true of every table. At run time it does nothing.
-    pub fn is_valid(&self)
+    pub fn recall_invariant(&self)
         ensures { IsTable self.now }
     {
         let _read = self.max;
@@ -172,7 +188,8 @@ impl Table {
     /// The row at a place, counted from 0, if there is one.
     pub fn at(&self, place: u32) -> Option<RowNo>
         requires { place < length self.now.places }
-        ensures some { IfSome result (λ no. (no.0 ≡ place) × (is_some (row_at self.now place) ≡ true)) }
+        ensures some { IfSome result (λ no. (no.0 ≡ place)
+            × (is_some (row_at self.now place) ≡ true)) }
         ensures none { result ≡ None → row_at self.now place ≡ None }
     {
         if self.here[place as usize] {
@@ -194,7 +211,8 @@ impl Table {
     pub fn code(&self, row: RowNo, dim: u8) -> Code
         requires row { is_some (row_at self.now row.0) ≡ true }
         requires dim { dim < self.now.dims }
-        ensures value { IfSome (row_at self.now row.0) (λ r. result ≡ slice_index_or r.tuple dim 0) }
+        ensures value { IfSome (row_at self.now row.0)
+            (λ r. result ≡ slice_index_or r.tuple dim 0) }
         ensures small { IsCode result }
     {
         self.store.code(row.0, dim)
@@ -213,7 +231,8 @@ impl Table {
     pub fn amount(&self, row: RowNo, measure: u8) -> i64
         requires row { is_some (row_at self.now row.0) ≡ true }
         requires measure { measure < self.now.measures }
-        ensures { IfSome (row_at self.now row.0) (λ r. result ≡ slice_index_or r.amounts measure (pos 0)) }
+        ensures { IfSome (row_at self.now row.0)
+            (λ r. result ≡ slice_index_or r.amounts measure (pos 0)) }
     {
         self.store.amount(row.0, measure)
     }
@@ -231,7 +250,8 @@ impl Table {
     /// The aggregate of the rows with exactly this tuple. None if there is no such row.
     pub fn group(&self, tuple: &Cell) -> Option<Agg>
         requires { length tuple.now ≡ self.now.dims }
-        ensures value { option_map agg_in result ≡ total_of self.now.measures (with_tuple (rows_of self.now) tuple.now) }
+        ensures value { option_map agg_in result ≡ total_of self.now.measures
+            (with_tuple (rows_of self.now) tuple.now) }
         ensures measures { IfSome result (λ agg. agg.measures ≡ self.now.measures) }
     {
         group::group_in(&self.store, &self.here, tuple)
@@ -262,11 +282,19 @@ impl Table {
         requires no_any { All (λ entry. is_some entry ≡ true) tuple.now }
         requires measures { length amounts.now ≡ self.old.measures }
         requires small { All (λ a. nat_abs a ≤ MAX_AMOUNT) amounts.now }
-        ensures ok { OnOk result (self.new ≡ record self.old { places = self.old.places ++ Some (row_of id tuple.now amounts.now) ∷ [] }) }
-        ensures rows { OnOk result (rows_of self.new ≡ rows_of self.old ++ row_of id tuple.now amounts.now ∷ []) }
+        ensures ok { OnOk result
+            (self.new ≡ record self.old {
+              places
+                  = self.old.places ++ Some (row_of id tuple.now amounts.now) ∷ [];
+            }) }
+        ensures rows { OnOk result (rows_of self.new ≡ rows_of self.old
+            ++ row_of id tuple.now amounts.now ∷ []) }
         ensures err { OnErr result (self.new ≡ self.old) }
-        ensures present { (result ≡ Err TableRefused.Present) ↔ (has_id (rows_of self.old) id ≡ true) }
-        ensures full { (result ≡ Err TableRefused.Full) ↔ ((has_id (rows_of self.old) id ≡ false) × (length (rows_of self.old) ≡ self.old.max)) }
+        ensures present { (result ≡ Err TableRefused.Present)
+            ↔ (has_id (rows_of self.old) id ≡ true) }
+        ensures full { (result ≡ Err TableRefused.Full)
+            ↔ ((has_id (rows_of self.old) id ≡ false)
+            × (length (rows_of self.old) ≡ self.old.max)) }
     {
         if self.has(id) {
             return Err(TableRefused::Present);
@@ -283,7 +311,8 @@ impl Table {
     /// Deletes the row of an id. No other row moves, and it takes no memory.
     pub fn delete(&mut self, id: u64) -> Result<Taken, Missing>
         requires is_open { is_some self.old.was ≡ true }
-        ensures ok { OnOk result (self.new ≡ record self.old { places = map (cleared id) self.old.places }) }
+        ensures ok { OnOk result
+            (self.new ≡ record self.old { places = map (cleared id) self.old.places }) }
         ensures rows { OnOk result (rows_of self.new ≡ without_id (rows_of self.old) id) }
         ensures taken { IfOk result (λ taken. IfSome (row_with_id (rows_of self.old) id)
             (λ row. (taken.tuple ≡ cell_of row.tuple) × (taken.amounts ≡ padded row.amounts))) }
@@ -292,7 +321,7 @@ impl Table {
         ensures err { OnErr result (self.new ≡ self.old) }
     {
         match presence::find(&self.store, &self.here, id) {
-            Some(place) => Ok(self.take_out(place)),
+            Some(place) => Ok(self.delete_at(place)),
             None => Err(Missing),
         }
     }
@@ -320,7 +349,7 @@ impl Table {
     {
         self.is_open = false;
         self.touched.clear();
-        presence::thin_out(&mut self.store, &mut self.here, self.count);
+        presence::compact_if_sparse(&mut self.store, &mut self.here, self.count);
         self.store.settle();
         self.begun = self.here.len() as u32;
         self.count_then = self.count;
@@ -352,7 +381,11 @@ impl Table {
         requires small { All (λ a. nat_abs a ≤ MAX_AMOUNT) amounts.now }
         requires absent { has_id (rows_of self.old) id ≡ false }
         requires room { length (rows_of self.old) < self.old.max }
-        ensures ok { OnOk result (self.new ≡ record self.old { places = self.old.places ++ Some (row_of id tuple.now amounts.now) ∷ [] }) }
+        ensures ok { OnOk result
+            (self.new ≡ record self.old {
+              places
+                  = self.old.places ++ Some (row_of id tuple.now amounts.now) ∷ [];
+            }) }
         ensures err { OnErr result (self.new ≡ self.old) }
     {
         if self.here.len() >= MOST_PLACES {
@@ -368,17 +401,19 @@ impl Table {
     }
 
     // Deletes the row at a place.
-    fn take_out(&mut self, place: u32) -> Taken
+    fn delete_at(&mut self, place: u32) -> Taken
         requires is_open { is_some self.old.was ≡ true }
         requires there { is_some (row_at self.old place) ≡ true }
-        ensures table { IfSome (row_at self.old place) (λ row. self.new ≡ record self.old { places = map (cleared row.id) self.old.places }) }
-        ensures taken { IfSome (row_at self.old place) (λ row. (result.tuple ≡ cell_of row.tuple) × (result.amounts ≡ padded row.amounts)) }
+        ensures table { IfSome (row_at self.old place)
+            (λ row. self.new ≡ record self.old { places = map (cleared row.id) self.old.places }) }
+        ensures taken { IfSome (row_at self.old place) (λ row. (result.tuple ≡ cell_of row.tuple)
+            × (result.amounts ≡ padded row.amounts)) }
     {
         let taken = Taken {
             tuple: self.store.tuple(place),
             amounts: presence::padded(self.store.amounts(place)),
         };
-        presence::note(&mut self.touched, place, self.begun);
+        presence::push_touched(&mut self.touched, place, self.begun);
         self.here[place as usize] = false;
         self.count -= 1;
         taken

@@ -1,16 +1,17 @@
 -- What a class has at the labels of its front in one dimension where it has Any.
-use Rattle.std.proofs.Common.{◌≡◌, ◌<◌, ◌≤◌, ◌+◌, ◌*◌, ◌∙◌, true, ℕ, List, Option, Some, None, ◌∷◌, arith, get_or, length, nat_cmp, slice_get, subst, sym, take}
+use Rattle.std.proofs.Common.{◌≡◌, ◌<◌, ◌≤◌, ◌+◌, ◌*◌, ◌∙◌, true, ℕ, List, Option, Some, None, ◌∷◌, arith, get_or, length, nat_cmp}
+use Rattle.std.proofs.Common.{slice_get, subst, sym, take}
 use Rattle.std.specs.Ordering.{eq_by_cmp}
-use Rattle.cube_defs.specs.Cell.{Cell, cell_front, cell_of, with_value}
+use Rattle.cube_defs.specs.Cell.{Cell, cell_prefix, cell_of, with_value}
 use Rattle.cube_defs.specs.Rows.{closure}
 use Rattle.cube_defs.specs.Tree.{Edge, Tree, cell_at}
 use Rattle.aggregates.specs.declared.agg.Agg.{Agg}
 use Rattle.qc_arena.specs.Edges.{rises}
 use Rattle.qc_arena.specs.Map.{Arena}
-use Rattle.qc_arena.specs.Seen.{record_at}
+use Rattle.qc_arena.specs.RecordReaders.{record_at}
 use Rattle.tree_search.specs.Found.{IsTreeOf, closure_in}
 use Rattle.batch_delete.specs.declared.parts.Rest.{Rest}
-use Rattle.batch_delete.specs.Going.{AtFront, IsClass, IsGoing}
+use Rattle.batch_delete.specs.DeletedRow.{IsPrefixNode, IsClass, IsDeletedRow}
 use Rattle.batch_delete.specs.Rests.{Deletion, IsRest, IsTotal, other_values, rows_after, rows_before, source_before}
 use Rattle.batch_delete.proofs.Others.{others_taken}
 use Rattle.batch_delete.proofs.Paid.{label_steps, own_label}
@@ -24,12 +25,25 @@ pub record AtLabels (dims : ℕ) (nodes : Tree ℕ) (d : Deletion) (t u : Cell �
   pub class : IsClass d u
   pub any : slice_get u i ≡ Some None
   pub dim : i < length u
-  pub front : cell_at nodes number ≡ Some (cell_front i u)
+  pub front : cell_at nodes number ≡ Some (cell_prefix i u)
 
-pub at_labels : (a : Arena) (d : Deletion) (t : Cell ℕ) (before after : Option Agg) (u : Cell ℕ) (i number : ℕ) → IsGoing d a t before after → AtFront d a u i number → AtLabels a.width a.now d t u i number
-at_labels a d t before after u i number row at = record { tree = row.tree; long = at.long; tuple = row.long; row = row.tuple; class = at.class; any = at.any; dim = at.dim; front = at.front }
+pub at_labels : (a : Arena) (d : Deletion) (t : Cell ℕ) (before after : Option Agg) (u : Cell ℕ) (i number : ℕ)
+    → IsDeletedRow d a t before after → IsPrefixNode d a u i number → AtLabels a.width a.now d t u i number
+at_labels a d t before after u i number row at
+    = record {
+      tree = row.tree;
+      long = at.long;
+      tuple = row.long;
+      row = row.tuple;
+      class = at.class;
+      any = at.any;
+      dim
+          = at.dim;
+      front = at.front;
+    }
 
-module _ {dims : ℕ} {nodes : Tree ℕ} {d : Deletion} {t u : Cell ℕ} {i number : ℕ} (is : AtLabels dims nodes d t u i number) where
+module _ {dims : ℕ} {nodes : Tree ℕ} {d : Deletion} {t u : Cell ℕ} {i number : ℕ}
+    (is : AtLabels dims nodes d t u i number) where
   abbrev pub edges : List (Edge ℕ ℕ)
   edges = (record_at nodes number).edges
 
@@ -42,18 +56,25 @@ module _ {dims : ℕ} {nodes : Tree ℕ} {d : Deletion} {t u : Cell ℕ} {i numb
   closes = own_closes dims nodes d is.tree u i is.any value.0 value.1 is.class.below
 
   -- the rest, once all labels with another value have been taken
-  pub rest_is : rises edges ≡ true → (k : ℕ) (rest : Option Rest) → other_values i value.0 (take k edges) ≡ other_values i value.0 edges
-      → ((v : ℕ) (w : Cell ℕ) → get_or t i None ≡ Some v → closure_in (source_before d) (with_value u i v) ≡ Some w → IsTotal d u i v w (v ∷ other_values i v (take k edges)) rest)
+  pub rest_is : rises edges ≡ true → (k : ℕ) (rest : Option Rest)
+      → other_values i value.0 (take k edges) ≡ other_values i value.0 edges
+      → ((v : ℕ) (w : Cell ℕ) → get_or t i None ≡ Some v → closure_in (source_before d) (with_value u i v) ≡ Some w
+      → IsTotal d u i v w (v ∷ other_values i v (take k edges)) rest)
       → IsRest d.measures (rows_after d) u rest
   rest_is rising k rest all total =
-      all_rest dims nodes d is.tree u i is.any value.0 value.1 is.class.below closes.0 closes.1 is.long is.class.own number is.front rising rest
-      (subst (λ (l : List ℕ). IsTotal d u i value.0 closes.0 (value.0 ∷ l) rest) all (total value.0 closes.0 value.2 closes.1))
+      all_rest dims nodes d is.tree u i is.any value.0 value.1 is.class.below closes.0 closes.1 is.long is.class.own
+      number is.front rising rest
+      (subst (λ (l : List ℕ). IsTotal d u i value.0 closes.0 (value.0 ∷ l) rest) all
+      (total value.0 closes.0 value.2 closes.1))
 
   -- the steps of the labels before the k-th
   pub paid : (k steps old : ℕ) → k ≤ length edges
-      → ((v : ℕ) → get_or t i None ≡ Some v → steps ≤ old + (3 + length edges + k + (4 * length u + 5) * length (other_values i v (take k edges))))
+      → ((v : ℕ) → get_or t i None ≡ Some v
+      → steps ≤ old + (3 + length edges + k + (4 * length u + 5) * length (other_values i v (take k edges))))
       → steps + (4 * length u + 5) ≤ old + (3 + (4 * length u + 7) * length edges)
   paid k steps old within had =
-      let own = own_label dims nodes d is.tree u i value.0 is.any is.long is.class.own number is.front is.class.below value.1 in
+      let own = own_label dims nodes d is.tree u i value.0 is.any is.long is.class.own number is.front
+      is.class.below value.1 in
       let some = others_taken i value.0 edges k in
-      label_steps (length u) (length edges) k (length (other_values i value.0 (take k edges))) steps old (had value.0 value.2) within (omega (arith, own, some))
+      label_steps (length u) (length edges) k (length (other_values i value.0 (take k edges))) steps old
+      (had value.0 value.2) within (omega (arith, own, some))

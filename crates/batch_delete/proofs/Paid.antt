@@ -1,21 +1,24 @@
 -- What the labels of a class's front cost: the one with the row's own value is not looked up.
 use Rattle.std.proofs.Common.{◌≡◌, ℕ, zero, suc, ◌+◌, ◌*◌, ◌≤◌, true, Some, None, arith, inl, length, nat_cmp, refl, slice_get, subst}
 use Rattle.std.specs.Ordering.{eq_by_cmp}
-use Rattle.cube_defs.specs.Cell.{Cell, cell_front}
+use Rattle.cube_defs.specs.Cell.{Cell, cell_prefix}
 use Rattle.cube_defs.specs.Rows.{closure, covers}
 use Rattle.cube_defs.specs.Tree.{Tree, cell_at}
-use Rattle.cube_laws.proofs.Lists.{among_insert}
-use Rattle.cube_laws.proofs.Numbers.{times_mono}
-use Rattle.qc_arena.specs.Seen.{record_at}
+use Rattle.cube_laws.proofs.CallerLemmas.{among_insert, times_mono}
+use Rattle.qc_arena.specs.RecordReaders.{record_at}
 use Rattle.tree_search.specs.Found.{IsTreeOf}
 use Rattle.batch_delete.specs.Rests.{Deletion, other_values, rows_before, source_before}
 use Rattle.batch_delete.proofs.HaveAll.{label_there}
 use Rattle.batch_delete.proofs.Others.{others_fewer, times_more}
 
-pub own_label : (dims : ℕ) (tree : Tree ℕ) (d : Deletion) (h : IsTreeOf dims tree (source_before d)) (u : Cell ℕ) (i v : ℕ) → slice_get u i ≡ Some None → length u ≡ dims → closure (eq_by_cmp nat_cmp) (rows_before d) u ≡ Some u
-    → (k : ℕ) → cell_at tree k ≡ Some (cell_front i u) → covers (eq_by_cmp nat_cmp) u d.r ≡ true → slice_get d.r.tuple i ≡ Some v → suc (length (other_values i v (record_at tree k).edges)) ≤ length (record_at tree k).edges
+pub own_label : (dims : ℕ) (tree : Tree ℕ) (d : Deletion) (h : IsTreeOf dims tree (source_before d)) (u : Cell ℕ)
+    (i v : ℕ) → slice_get u i ≡ Some None → length u ≡ dims → closure (eq_by_cmp nat_cmp) (rows_before d) u ≡ Some u
+    → (k : ℕ) → cell_at tree k ≡ Some (cell_prefix i u) → covers (eq_by_cmp nat_cmp) u d.r ≡ true
+    → slice_get d.r.tuple i ≡ Some v
+    → suc (length (other_values i v (record_at tree k).edges)) ≤ length (record_at tree k).edges
 own_label dims tree d h u i v any long own k at below has =
-    let l = label_there dims tree d h u i v any long own k at v d.r ((among_insert d.r d.xs d.r d.ys).1 (inl refl)) below has in
+    let l = label_there dims tree d h u i v any long own k at v d.r
+    ((among_insert d.r d.xs d.r d.ys).1 (inl refl)) below has in
     others_fewer i v (record_at tree k).edges (record { dim = i; value = v; target = l.0 }) refl l.1
 
 times_three : (d e : ℕ) → (d + 2) * e ≡ d * e + 2 * e
@@ -23,7 +26,8 @@ times_three zero e = omega arith
 times_three (suc d) e = let more = times_three d e in omega arith
 
 -- so many labels were read, and so many of them looked up
-pub label_steps : (n e k m s old : ℕ) → s ≤ old + (3 + e + k + (4 * n + 5) * m) → k ≤ e → suc m ≤ e → s + (4 * n + 5) ≤ old + (3 + (4 * n + 7) * e)
+pub label_steps : (n e k m s old : ℕ) → s ≤ old + (3 + e + k + (4 * n + 5) * m) → k ≤ e → suc m ≤ e
+    → s + (4 * n + 5) ≤ old + (3 + (4 * n + 7) * e)
 label_steps n e k m s old h a b =
     let up = times_mono (4 * n + 5) (m + 1) e (omega arith) in
     let one = times_more (4 * n + 5) m in

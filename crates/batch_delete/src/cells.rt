@@ -26,7 +26,7 @@ pub(crate) fn depth(cell: &Cell) -> u8
 /// The first entries of the cell, and Any after them.
 pub(crate) fn front(cell: &Cell, len: u8) -> Cell
     requires { len ≤ length cell.now }
-    ensures value { result ≡ defs.cell_front len cell.now }
+    ensures value { result ≡ defs.cell_prefix len cell.now }
     ensures dims { length result ≡ length cell.now }
 {
     let mut front = cell.copy();

@@ -1,7 +1,7 @@
 // The labels of a node by dimension.
 ghost use Rattle.std.specs.FinMap as map;
 ghost use Rattle.std.specs.Prelude.{IsSome, Some, length, slice_get, ℕ, ◌+◌, ◌<◌, ◌≡◌, ◌≤◌};
-ghost use Rattle.qc_arena.specs.Seen.{record_at};
+ghost use Rattle.qc_arena.specs.RecordReaders.{record_at};
 
 use cell_core::{NodeNo, Steps};
 use qc_arena::{Nodes, QcArena};
@@ -16,8 +16,10 @@ pub(crate) fn first_label<L: Ledger>(
 ) -> u32
     requires { IsSome (map.get arena.now.now node.0) }
     ensures within { result ≤ length (record_at arena.now.now node.0).edges }
-    ensures before { (k : ℕ) (x : _) → k < result → slice_get (record_at arena.now.now node.0).edges k ≡ Some x → x.dim < dim }
-    ensures behind { (k : ℕ) (x : _) → result ≤ k → slice_get (record_at arena.now.now node.0).edges k ≡ Some x → dim ≤ x.dim }
+    ensures before { (k : ℕ) (x : _) → k < result
+        → slice_get (record_at arena.now.now node.0).edges k ≡ Some x → x.dim < dim }
+    ensures behind { (k : ℕ) (x : _) → result ≤ k
+        → slice_get (record_at arena.now.now node.0).edges k ≡ Some x → dim ≤ x.dim }
     ensures steps { steps.new ≤ steps.old + (1 + length (record_at arena.now.now node.0).edges) }
 {
     let mut first = 0;

@@ -1,17 +1,17 @@
 //! Repairs a canonical tree in place when a row is deleted.
 #![tactic(auto)]
 
-mod below;
 mod cells;
 mod delete;
-mod going;
+mod deleted_row;
+mod generalizing;
 mod labels;
-mod less;
-mod mend;
-mod onward;
+mod partial_search;
 mod parts;
 mod plan;
+mod record_rewriting;
 mod stays;
+mod subtracting;
 
 pub use delete::delete_row;
 

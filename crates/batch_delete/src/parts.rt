@@ -3,25 +3,25 @@ ghost use Rattle.std.specs.FinMap as map;
 ghost use Rattle.std.specs.Prelude.{IfSome, IsSome, List, None, Some, [], false, length, nat_eq, slice_get, slice_index_or, ℕ, ◌*◌, ◌+◌, ◌++◌, ◌∷◌, ◌<◌, ◌≡◌, ◌≤◌};
 ghost use Rattle.cell_core.specs.Entry.{IsCode};
 ghost use Rattle.std.specs.Ordering.{eq_by_cmp, nat_cmp};
-ghost use Rattle.cube_defs.specs.Cell.{cell_front, with_value};
+ghost use Rattle.cube_defs.specs.Cell.{cell_prefix, with_value};
 ghost use Rattle.cube_laws.specs.Parts.{IsLastAny};
 ghost use Rattle.aggregates.specs.Views.{agg_in};
 ghost use Rattle.cube_defs.specs.Tree.{cell_at};
-ghost use Rattle.qc_arena.specs.Seen.{record_at};
+ghost use Rattle.qc_arena.specs.RecordReaders.{record_at};
 ghost use Rattle.cube_laws.specs.Total.{join_aggs, join_cells};
 ghost use Rattle.tree_search.specs.Found.{IsTreeOf, IsNumberOfCell, closure_in};
-ghost use Rattle.batch_delete.specs.declared.below.Below.{Below};
-ghost use Rattle.batch_delete.specs.Below.{AreBelow};
-ghost use Rattle.batch_delete.specs.Going.{AtFront, GoesOn, IsClassNode, IsGoing, IsKnown};
-ghost use Rattle.batch_delete.specs.Plan.{after_in, front_labels, is_value, last_any_of};
+ghost use Rattle.batch_delete.specs.declared.generalizing.NodeCell.{NodeCell};
+ghost use Rattle.batch_delete.specs.Generalizing.{AreGeneralizing};
+ghost use Rattle.batch_delete.specs.DeletedRow.{IsPrefixNode, GoesOn, IsClassNode, IsDeletedRow, IsKnown};
+ghost use Rattle.batch_delete.specs.Plan.{planned_rest_in, prefix_labels, is_value, last_any_of};
 ghost use Rattle.batch_delete.specs.Rests.{Deletion, IsRest, IsTotal, agg_of_rest, other_values, rows_after, rows_before, shared_of, source_before};
 
-use crate::below::Below;
 use crate::cells::{has, last_any};
-use crate::going::{Class, Going, class_of};
+use crate::deleted_row::{Class, DeletedRow, class_at_node};
+use crate::generalizing::NodeCell;
 use crate::labels::first_label;
-use crate::onward::{find_from, front_at};
-use crate::plan::{Fate, after_of};
+use crate::partial_search::{find_from, prefix_node};
+use crate::plan::{NodePlan, planned_rest};
 use crate::stays::settled;
 use aggregates::Agg;
 use cell_core::{Cell, Code, Entry, NodeNo, Steps, meet_into};
@@ -51,11 +51,13 @@ impl Rest {
 
 // The rest of two groups of rows, of which the first may be empty.
 fn joined(rest: Option<Rest>, part: Rest) -> Rest
-    requires parts { IfSome rest (λ some. length (agg_in part.agg).parts ≡ length (agg_in some.agg).parts) }
+    requires parts { IfSome rest
+        (λ some. length (agg_in part.agg).parts ≡ length (agg_in some.agg).parts) }
     requires few { IfSome rest (λ some. some.agg.count + part.agg.count ≤ MAX_ROWS) }
     requires long { IfSome rest (λ some. length some.shared ≡ length part.shared) }
     ensures cells { Some result.shared ≡ join_cells nat_eq (shared_of rest) (Some part.shared) }
-    ensures aggs { Some (agg_in result.agg) ≡ join_aggs (agg_of_rest rest) (Some (agg_in part.agg)) }
+    ensures aggs { Some (agg_in result.agg) ≡ join_aggs (agg_of_rest rest)
+        (Some (agg_in part.agg)) }
     ensures parts { length (agg_in result.agg).parts ≡ length (agg_in part.agg).parts }
     ensures long { length result.shared ≡ length part.shared }
 {
@@ -103,7 +105,8 @@ fn rest_at<L: Ledger>(
     requires tree { IsTreeOf arena.now.width arena.now.now (source_before d) }
     requires long { length cell.now ≡ arena.now.width }
     requires node { IsSome (map.get arena.now.now node.0) }
-    requires found { IsNumberOfCell arena.now.now (Some node.0) (closure_in (source_before d) cell.now) }
+    requires found { IsNumberOfCell arena.now.now (Some node.0)
+        (closure_in (source_before d) cell.now) }
     ensures rest { IsRest d.measures (rows_before d) cell.now result }
     ensures steps { steps.new ≤ steps.old + (2 * length cell.now + 3) }
 {
@@ -121,7 +124,7 @@ fn rest_at<L: Ledger>(
 // dimension.
 fn own_rest<L: Ledger>(
     arena: &QcArena,
-    plan: &IndexMap<u32, Fate>,
+    plan: &IndexMap<u32, NodePlan>,
     cell: &Cell,
     dim: u8,
     node: NodeNo,
@@ -133,33 +136,38 @@ fn own_rest<L: Ledger>(
     requires dim { dim < length cell.now }
     requires on { GoesOn d arena.now.now cell.now dim node.0 }
     requires some { IsSome (closure_in (source_before d) cell.now) }
-    requires planned { (q : ℕ) (w : _) → closure_in (source_before d) cell.now ≡ Some w → cell_at arena.now.now q ≡ Some w →
-        IsRest d.measures (rows_after d) w (after_in plan.now.entries q) }
+    requires planned { (q : ℕ) (w : _) → closure_in (source_before d) cell.now ≡ Some w
+        → cell_at arena.now.now q ≡ Some w →
+        IsRest d.measures (rows_after d) w (planned_rest_in plan.now.entries q) }
     ensures rest { IsRest d.measures (rows_after d) cell.now result }
     ensures steps { steps.new ≤ steps.old + 2 * length cell.now }
 {
     match find_from(arena, cell, dim, node, steps) {
         None => None,
-        Some(node) => after_of(plan, node),
+        Some(node) => planned_rest(plan, node),
     }
 }
 
 // The rest of those rows of a class that have the tuple's value in a dimension of Any. `front` is
 // the node of the class's prefix before that dimension.
 fn own_part<L: Ledger>(
-    row: &Going<'_>,
-    plan: &IndexMap<u32, Fate>,
+    row: &DeletedRow<'_>,
+    plan: &IndexMap<u32, NodePlan>,
     cell: &Cell,
     dim: u8,
     front: NodeNo,
     steps: &mut Steps<L>,
 ) -> Option<Rest>
     ghost d: { Deletion }
-    requires row { IsGoing d row.now.arena.now row.now.tuple.now row.now.all row.now.twins }
-    requires front { AtFront d row.now.arena.now cell.now dim front.0 }
-    requires planned { (v q : ℕ) (w : _) → slice_index_or row.now.tuple.now dim None ≡ Some v → closure_in (source_before d) (with_value cell.now dim v) ≡ Some w →
-        cell_at row.now.arena.now.now q ≡ Some w → IsRest d.measures (rows_after d) w (after_in plan.now.entries q) }
-    ensures rest { (v : ℕ) → slice_index_or row.now.tuple.now dim None ≡ Some v → IsRest d.measures (rows_after d) (with_value cell.now dim v) result }
+    requires row { IsDeletedRow d row.now.arena.now row.now.tuple.now row.now.all
+        row.now.duplicates }
+    requires front { IsPrefixNode d row.now.arena.now cell.now dim front.0 }
+    requires planned { (v q : ℕ) (w : _) → slice_index_or row.now.tuple.now dim None ≡ Some v
+        → closure_in (source_before d) (with_value cell.now dim v) ≡ Some w →
+        cell_at row.now.arena.now.now q ≡ Some w
+        → IsRest d.measures (rows_after d) w (planned_rest_in plan.now.entries q) }
+    ensures rest { (v : ℕ) → slice_index_or row.now.tuple.now dim None ≡ Some v
+        → IsRest d.measures (rows_after d) (with_value cell.now dim v) result }
     ensures steps { steps.new ≤ steps.old + (2 * length cell.now + 1) }
 {
     match row.tuple.get(dim) {
@@ -189,13 +197,15 @@ fn with_part<L: Ledger>(
     requires dim { label.0 < length cell.now }
     requires code { IsCode label.1 }
     requires on { GoesOn d arena.now.now (with_value cell.now label.0 label.1) label.0 label.2.0 }
-    requires few { (part : _) → IsRest d.measures (rows_before d) (with_value cell.now label.0 label.1) (Some part) →
+    requires few { (part : _)
+        → IsRest d.measures (rows_before d) (with_value cell.now label.0 label.1) (Some part) →
         IfSome rest (λ some. some.agg.count + part.agg.count ≤ MAX_ROWS) }
     requires parts { IfSome rest (λ some. length (agg_in some.agg).parts ≡ d.measures) }
     requires shared { IfSome rest (λ some. length some.shared ≡ length cell.now) }
     ensures parts { IfSome result (λ some. length (agg_in some.agg).parts ≡ d.measures) }
     ensures shared { IfSome result (λ some. length some.shared ≡ length cell.now) }
-    ensures total { (v : ℕ) (w : _) (vs : List ℕ) → eq_by_cmp nat_cmp label.1 v ≡ false → IsTotal d cell.now label.0 v w vs rest →
+    ensures total { (v : ℕ) (w : _) (vs : List ℕ) → eq_by_cmp nat_cmp label.1 v ≡ false
+        → IsTotal d cell.now label.0 v w vs rest →
         IsTotal d cell.now label.0 v w (vs ++ label.1 ∷ []) result }
     ensures steps { steps.new ≤ steps.old + (4 * length cell.now + 5) }
 {
@@ -210,29 +220,46 @@ fn with_part<L: Ledger>(
 
 // The rest joined with the rows of a label, unless the label has the tuple's value.
 fn with_label<L: Ledger>(
-    row: &Going<'_>,
+    row: &DeletedRow<'_>,
     cell: &Cell,
     label: (u8, Code, NodeNo),
     rest: Option<Rest>,
     steps: &mut Steps<L>,
 ) -> Option<Rest>
     ghost d: { Deletion }
-    requires row { IsGoing d row.now.arena.now row.now.tuple.now row.now.all row.now.twins }
+    requires row { IsDeletedRow d row.now.arena.now row.now.tuple.now row.now.all
+        row.now.duplicates }
     requires long { length cell.now ≡ row.now.arena.now.width }
     requires dim { label.0 < length cell.now }
     requires code { IsCode label.1 }
-    requires on { GoesOn d row.now.arena.now.now (with_value cell.now label.0 label.1) label.0 label.2.0 }
-    requires few { is_value (slice_index_or row.now.tuple.now label.0 None) label.1 ≡ false → (part : _) →
-        IsRest d.measures (rows_before d) (with_value cell.now label.0 label.1) (Some part) → IfSome rest (λ some. some.agg.count + part.agg.count ≤ MAX_ROWS) }
+    requires on { GoesOn d row.now.arena.now.now (with_value cell.now label.0 label.1)
+        label.0 label.2.0 }
+    requires few { is_value (slice_index_or row.now.tuple.now label.0 None) label.1 ≡ false
+        → (part : _) →
+        IsRest d.measures (rows_before d) (with_value cell.now label.0 label.1) (Some part)
+        → IfSome rest (λ some. some.agg.count + part.agg.count ≤ MAX_ROWS) }
     requires parts { IfSome rest (λ some. length (agg_in some.agg).parts ≡ d.measures) }
     requires shared { IfSome rest (λ some. length some.shared ≡ length cell.now) }
     ensures parts { IfSome result (λ some. length (agg_in some.agg).parts ≡ d.measures) }
     ensures shared { IfSome result (λ some. length some.shared ≡ length cell.now) }
-    ensures total { (v : ℕ) (w : _) (vs : List ℕ) → slice_index_or row.now.tuple.now label.0 None ≡ Some v → IsTotal d cell.now label.0 v w vs rest →
-        IsTotal d cell.now label.0 v w (vs ++ other_values label.0 v (record { dim = label.0; value = label.1; target = label.2.0 } ∷ [])) result }
+    ensures total { (v : ℕ) (w : _) (vs : List ℕ)
+        → slice_index_or row.now.tuple.now label.0 None ≡ Some v
+        → IsTotal d cell.now label.0 v w vs rest →
+        IsTotal d cell.now label.0 v w
+        (vs ++ other_values label.0 v (record {
+          dim = label.0;
+          value = label.1;
+          target
+              = label.2.0;
+        } ∷ [])) result }
     ensures steps { (v : ℕ) → slice_index_or row.now.tuple.now label.0 None ≡ Some v →
         steps.new ≤ steps.old + (4 * length cell.now + 5) * length
-        (other_values label.0 v (record { dim = label.0; value = label.1; target = label.2.0 } ∷ [])) }
+        (other_values label.0 v (record {
+          dim = label.0;
+          value = label.1;
+          target
+              = label.2.0;
+        } ∷ [])) }
 {
     if has(row.tuple, label.0, label.1) {
         return rest;
@@ -243,7 +270,7 @@ fn with_label<L: Ledger>(
 // The rest of a class. It begins with the rows that have the tuple's value in the dimension. Then
 // the rows of one label after another are joined, until the rest of the whole class is settled.
 fn with_labels<L: Ledger>(
-    row: &Going<'_>,
+    row: &DeletedRow<'_>,
     class: &Class,
     dim: u8,
     front: NodeNo,
@@ -251,13 +278,16 @@ fn with_labels<L: Ledger>(
     steps: &mut Steps<L>,
 ) -> Option<Rest>
     ghost d: { Deletion }
-    requires row { IsGoing d row.now.arena.now row.now.tuple.now row.now.all row.now.twins }
+    requires row { IsDeletedRow d row.now.arena.now row.now.tuple.now row.now.all
+        row.now.duplicates }
     requires class { IsKnown d class.now }
-    requires front { AtFront d row.now.arena.now class.now.cell dim front.0 }
-    requires rest { (v : ℕ) → slice_index_or row.now.tuple.now dim None ≡ Some v → IsRest d.measures (rows_after d) (with_value class.now.cell dim v) rest }
+    requires front { IsPrefixNode d row.now.arena.now class.now.cell dim front.0 }
+    requires rest { (v : ℕ) → slice_index_or row.now.tuple.now dim None ≡ Some v
+        → IsRest d.measures (rows_after d) (with_value class.now.cell dim v) rest }
     ensures rest { IsRest d.measures (rows_after d) class.now.cell result }
     ensures steps { steps.new + (4 * length class.now.cell + 5)
-        ≤ steps.old + (3 + (4 * length class.now.cell + 7) * length (record_at row.now.arena.now.now front.0).edges) }
+        ≤ steps.old + (3 + (4 * length class.now.cell + 7) * length
+        (record_at row.now.arena.now.now front.0).edges) }
 {
     let mut all = rest;
     let first = first_label(row.arena, front, dim, steps);
@@ -277,51 +307,61 @@ fn with_labels<L: Ledger>(
 
 // The rest of a class, joined from its parts by its last dimension of Any.
 fn all_parts<L: Ledger>(
-    row: &Going<'_>,
-    plan: &IndexMap<u32, Fate>,
-    below: &Below,
+    row: &DeletedRow<'_>,
+    plan: &IndexMap<u32, NodePlan>,
+    below: &NodeCell,
     dim: u8,
     steps: &mut Steps<L>,
 ) -> Option<Rest>
     ghost d: { Deletion }
-    requires row { IsGoing d row.now.arena.now row.now.tuple.now row.now.all row.now.twins }
+    requires row { IsDeletedRow d row.now.arena.now row.now.tuple.now row.now.all
+        row.now.duplicates }
     requires class { IsClassNode d row.now.arena.now below.now }
     requires last { IsLastAny below.now.cell dim }
     requires dim { dim < length below.now.cell }
     requires planned { (v q : ℕ) (w : _) → slice_index_or row.now.tuple.now dim None ≡ Some v →
-        closure_in (source_before d) (with_value below.now.cell dim v) ≡ Some w → cell_at row.now.arena.now.now q ≡ Some w →
-        IsRest d.measures (rows_after d) w (after_in plan.now.entries q) }
+        closure_in (source_before d) (with_value below.now.cell dim v) ≡ Some w
+        → cell_at row.now.arena.now.now q ≡ Some w →
+        IsRest d.measures (rows_after d) w (planned_rest_in plan.now.entries q) }
     ensures rest { IsRest d.measures (rows_after d) below.now.cell result }
-    ensures steps { (q : ℕ) → cell_at row.now.arena.now.now q ≡ Some (cell_front dim below.now.cell) →
-        steps.new ≤ steps.old + ((3 * length below.now.cell + 4) + (4 * length below.now.cell + 7) * length (record_at row.now.arena.now.now q).edges) }
+    ensures steps { (q : ℕ)
+        → cell_at row.now.arena.now.now q ≡ Some (cell_prefix dim below.now.cell) →
+        steps.new ≤ steps.old + ((3 * length below.now.cell + 4)
+        + (4 * length below.now.cell + 7) * length (record_at row.now.arena.now.now q).edges) }
 {
-    let class = class_of(row, below, steps);
-    let front = front_at(row.arena, &below.cell, dim, below.node, steps);
+    let class = class_at_node(row, below, steps);
+    let front = prefix_node(row.arena, &below.cell, dim, below.node, steps);
     let own = own_part(row, plan, &below.cell, dim, front, steps);
     with_labels(row, &class, dim, front, own, steps)
 }
 
 /// The rest of a class that generalizes the tuple.
 pub(crate) fn class_after<L: Ledger>(
-    row: &Going<'_>,
-    plan: &IndexMap<u32, Fate>,
-    below: &Below,
+    row: &DeletedRow<'_>,
+    plan: &IndexMap<u32, NodePlan>,
+    below: &NodeCell,
     steps: &mut Steps<L>,
 ) -> Option<Rest>
     ghost d: { Deletion }
-    requires row { IsGoing d row.now.arena.now row.now.tuple.now row.now.all row.now.twins }
+    requires row { IsDeletedRow d row.now.arena.now row.now.tuple.now row.now.all
+        row.now.duplicates }
     requires class { IsClassNode d row.now.arena.now below.now }
-    requires planned { (i v q : ℕ) (w : _) → slice_get below.now.cell i ≡ Some None → slice_index_or row.now.tuple.now i None ≡ Some v →
-        closure_in (source_before d) (with_value below.now.cell i v) ≡ Some w → cell_at row.now.arena.now.now q ≡ Some w →
-        IsRest d.measures (rows_after d) w (after_in plan.now.entries q) }
+    requires planned { (i v q : ℕ) (w : _) → slice_get below.now.cell i ≡ Some None
+        → slice_index_or row.now.tuple.now i None ≡ Some v →
+        closure_in (source_before d) (with_value below.now.cell i v) ≡ Some w
+        → cell_at row.now.arena.now.now q ≡ Some w →
+        IsRest d.measures (rows_after d) w (planned_rest_in plan.now.entries q) }
     ensures rest { IsRest d.measures (rows_after d) below.now.cell result }
-    ensures steps { (list : List Below) → AreBelow row.now.arena.now.now row.now.tuple.now (length row.now.tuple.now) list →
-        steps.new ≤ steps.old + ((3 * length below.now.cell + 4) + (4 * length below.now.cell + 7) * front_labels row.now.arena.now.now list below.now.cell
+    ensures steps { (list : List NodeCell)
+        → AreGeneralizing row.now.arena.now.now row.now.tuple.now (length row.now.tuple.now) list →
+        steps.new ≤ steps.old + ((3 * length below.now.cell + 4)
+        + (4 * length below.now.cell + 7) * prefix_labels row.now.arena.now.now list
+        below.now.cell
         (last_any_of below.now.cell)) }
 {
     match last_any(&below.cell) {
         Some(dim) => all_parts(row, plan, below, dim, steps),
-        None => match row.twins {
+        None => match row.duplicates {
             None => None,
             Some(agg) => Some(Rest {
                 shared: below.cell.copy(),

@@ -4,22 +4,22 @@ ghost use Rattle.std.specs.Option.{option_map};
 ghost use Rattle.std.specs.Ordering.{eq_by_cmp, nat_cmp};
 ghost use Rattle.aggregates.specs.Views.{agg_in};
 ghost use Rattle.cube_defs.specs.Cell as cells;
-ghost use Rattle.cube_defs.specs.Cell.{cell_of, cell_front, leq};
+ghost use Rattle.cube_defs.specs.Cell.{cell_of, cell_prefix, leq};
 ghost use Rattle.cube_defs.specs.Rows.{closure};
 ghost use Rattle.cube_defs.specs.Tree.{cell_at};
 ghost use Rattle.cube_laws.specs.Total.{agg_at};
-ghost use Rattle.qc_arena.specs.Seen.{number};
+ghost use Rattle.qc_arena.specs.RecordReaders.{number};
 ghost use Rattle.tree_search.specs.Found.{IsTreeOf, IsTree, IsNumberOfCell};
-ghost use Rattle.batch_delete.specs.declared.below.Below.{Below};
-ghost use Rattle.batch_delete.specs.Below.{AreBelow};
-ghost use Rattle.batch_delete.specs.Plan.{after_in, front_labels, heir_in, last_any_of, planning};
-ghost use Rattle.batch_delete.specs.Going.{IsGoing};
+ghost use Rattle.batch_delete.specs.declared.generalizing.NodeCell.{NodeCell};
+ghost use Rattle.batch_delete.specs.Generalizing.{AreGeneralizing};
+ghost use Rattle.batch_delete.specs.Plan.{planned_rest_in, prefix_labels, heir_in, last_any_of, planning_cost};
+ghost use Rattle.batch_delete.specs.DeletedRow.{IsDeletedRow};
 ghost use Rattle.batch_delete.specs.Rests.{AreGreaterPlanned, ArePlanned, Deletion, IsRest, rows_after, rows_before, source_before};
 
 use crate::Memory;
-use crate::below::Below;
 use crate::cells::{depth, front};
-use crate::going::Going;
+use crate::deleted_row::DeletedRow;
+use crate::generalizing::NodeCell;
 use crate::parts::{Rest, class_after};
 use aggregates::Agg;
 use cell_core::{Cell, Entry, NodeNo, Steps, leq};
@@ -34,7 +34,7 @@ use tree_search::total_at;
 /// The heir is the node of the prefix of what these rows share, as long as the node's cell. A node
 /// that stays is its own heir.
 #[derive(Drop)]
-pub(crate) struct Fate {
+pub(crate) struct NodePlan {
     pub after: Option<Rest>,
     pub heir: Option<NodeNo>,
 }
@@ -57,8 +57,8 @@ pub(crate) fn node_at<L: Ledger>(arena: &QcArena, cell: &Cell, steps: &mut Steps
 }
 
 /// The planned rest of a node's rows.
-pub(crate) fn after_of(plan: &IndexMap<u32, Fate>, node: NodeNo) -> Option<Rest>
-    ensures { result ≡ after_in plan.now.entries node.0 }
+pub(crate) fn planned_rest(plan: &IndexMap<u32, NodePlan>, node: NodeNo) -> Option<Rest>
+    ensures { result ≡ planned_rest_in plan.now.entries node.0 }
 {
     match plan.get(&node.0) {
         None => None,
@@ -77,7 +77,7 @@ fn copied(rest: &Option<Rest>) -> Option<Rest>
 }
 
 /// The heir of a node.
-pub(crate) fn heir_of(plan: &IndexMap<u32, Fate>, node: NodeNo) -> Option<NodeNo>
+pub(crate) fn heir_of(plan: &IndexMap<u32, NodePlan>, node: NodeNo) -> Option<NodeNo>
     ensures { option_map number result ≡ heir_in plan.now.entries node.0 }
 {
     match plan.get(&node.0) {
@@ -89,23 +89,28 @@ pub(crate) fn heir_of(plan: &IndexMap<u32, Fate>, node: NodeNo) -> Option<NodeNo
 // The rest of the rows of a node that generalizes the tuple. The nodes with more values are planned
 // already.
 fn rest_of<L: Ledger>(
-    row: &Going<'_>,
-    plan: &IndexMap<u32, Fate>,
-    below: &Below,
+    row: &DeletedRow<'_>,
+    plan: &IndexMap<u32, NodePlan>,
+    below: &NodeCell,
     steps: &mut Steps<L>,
 ) -> Option<Rest>
     ghost d: { Deletion }
-    requires row { IsGoing d row.now.arena.now row.now.tuple.now row.now.all row.now.twins }
+    requires row { IsDeletedRow d row.now.arena.now row.now.tuple.now row.now.all
+        row.now.duplicates }
     requires cell { cell_at row.now.arena.now.now below.now.node.0 ≡ Some below.now.cell }
     requires low { leq nat_eq below.now.cell row.now.tuple.now ≡ true }
-    requires planned { AreGreaterPlanned d row.now.arena.now.now row.now.tuple.now below.now.cell plan.now.entries }
+    requires planned { AreGreaterPlanned d row.now.arena.now.now row.now.tuple.now below.now.cell
+        plan.now.entries }
     ensures rest { IsRest d.measures (rows_after d) below.now.cell result }
-    ensures steps { (list : List Below) → AreBelow row.now.arena.now.now row.now.tuple.now (length row.now.tuple.now) list →
-        steps.new ≤ steps.old + ((3 * length row.now.tuple.now + 5) + (4 * length row.now.tuple.now + 7) * front_labels row.now.arena.now.now list below.now.cell
+    ensures steps { (list : List NodeCell)
+        → AreGeneralizing row.now.arena.now.now row.now.tuple.now (length row.now.tuple.now) list →
+        steps.new ≤ steps.old + ((3 * length row.now.tuple.now + 5)
+        + (4 * length row.now.tuple.now + 7) * prefix_labels row.now.arena.now.now list
+        below.now.cell
         (last_any_of below.now.cell)) }
 {
     match row.arena.forced(below.node, steps) {
-        Some(forced) => after_of(plan, forced.child),
+        Some(forced) => planned_rest(plan, forced.child),
         None => class_after(row, plan, below, steps),
     }
 }
@@ -114,7 +119,7 @@ fn rest_of<L: Ledger>(
 // its cell. It is the node itself if that is its cell.
 fn heir_at<L: Ledger>(
     arena: &QcArena,
-    below: &Below,
+    below: &NodeCell,
     after: &Option<Rest>,
     steps: &mut Steps<L>,
 ) -> Option<NodeNo>
@@ -124,7 +129,8 @@ fn heir_at<L: Ledger>(
     requires long { length below.now.cell ≡ arena.now.width }
     requires after { IsRest d.measures (rows_after d) below.now.cell after.now }
     ensures heir { IsNumberOfCell arena.now.now (option_map number result)
-        (option_map (cell_front (cells.depth below.now.cell)) (closure (eq_by_cmp nat_cmp) (rows_after d) below.now.cell)) }
+        (option_map (cell_prefix (cells.depth below.now.cell))
+        (closure (eq_by_cmp nat_cmp) (rows_after d) below.now.cell)) }
     ensures steps { steps.new ≤ steps.old + (length below.now.cell + 1) }
 {
     match after {
@@ -140,34 +146,46 @@ fn heir_at<L: Ledger>(
 }
 
 // The fate of a node that generalizes the tuple. The nodes with more values are planned already.
-fn fate_of<L: Ledger>(
-    row: &Going<'_>,
-    plan: &IndexMap<u32, Fate>,
-    below: &Below,
+fn node_plan_of<L: Ledger>(
+    row: &DeletedRow<'_>,
+    plan: &IndexMap<u32, NodePlan>,
+    below: &NodeCell,
     steps: &mut Steps<L>,
-) -> Fate
+) -> NodePlan
     ghost d: { Deletion }
-    requires row { IsGoing d row.now.arena.now row.now.tuple.now row.now.all row.now.twins }
+    requires row { IsDeletedRow d row.now.arena.now row.now.tuple.now row.now.all
+        row.now.duplicates }
     requires cell { cell_at row.now.arena.now.now below.now.node.0 ≡ Some below.now.cell }
     requires low { leq nat_eq below.now.cell row.now.tuple.now ≡ true }
-    requires planned { AreGreaterPlanned d row.now.arena.now.now row.now.tuple.now below.now.cell plan.now.entries }
+    requires planned { AreGreaterPlanned d row.now.arena.now.now row.now.tuple.now below.now.cell
+        plan.now.entries }
     ensures after { IsRest d.measures (rows_after d) below.now.cell result.after }
     ensures heir { IsNumberOfCell row.now.arena.now.now (option_map number result.heir)
-        (option_map (cell_front (cells.depth below.now.cell)) (closure (eq_by_cmp nat_cmp) (rows_after d) below.now.cell)) }
-    ensures steps { (list : List Below) → AreBelow row.now.arena.now.now row.now.tuple.now (length row.now.tuple.now) list →
-        steps.new ≤ steps.old + (4 * length row.now.tuple.now + 7) * (1 + front_labels row.now.arena.now.now list below.now.cell (last_any_of below.now.cell)) }
+        (option_map (cell_prefix (cells.depth below.now.cell))
+        (closure (eq_by_cmp nat_cmp) (rows_after d) below.now.cell)) }
+    ensures steps { (list : List NodeCell)
+        → AreGeneralizing row.now.arena.now.now row.now.tuple.now (length row.now.tuple.now) list →
+        steps.new ≤ steps.old + (4 * length row.now.tuple.now + 7)
+        * (1 + prefix_labels row.now.arena.now.now list below.now.cell
+        (last_any_of below.now.cell)) }
 {
     let after = rest_of(row, plan, below, steps);
     let heir = heir_at(row.arena, below, &after, steps);
-    Fate { after, heir }
+    NodePlan { after, heir }
 }
 
 // Plans for a node.
-fn add_fate(plan: &mut IndexMap<u32, Fate>, node: NodeNo, fate: Fate) -> Result<(), Memory>
-    ensures here { OnOk result (after_in plan.new.entries node.0 ≡ fate.after) }
+fn add_node_plan(
+    plan: &mut IndexMap<u32, NodePlan>,
+    node: NodeNo,
+    fate: NodePlan,
+) -> Result<(), Memory>
+    ensures here { OnOk result (planned_rest_in plan.new.entries node.0 ≡ fate.after) }
     ensures heir { OnOk result (heir_in plan.new.entries node.0 ≡ option_map number fate.heir) }
-    ensures others { OnOk result ((q : ℕ) → q ≢ node.0 → after_in plan.new.entries q ≡ after_in plan.old.entries q) }
-    ensures heirs { OnOk result ((q : ℕ) → q ≢ node.0 → heir_in plan.new.entries q ≡ heir_in plan.old.entries q) }
+    ensures others { OnOk result ((q : ℕ) → q ≢ node.0
+        → planned_rest_in plan.new.entries q ≡ planned_rest_in plan.old.entries q) }
+    ensures heirs { OnOk result ((q : ℕ) → q ≢ node.0
+        → heir_in plan.new.entries q ≡ heir_in plan.old.entries q) }
 {
     plan.insert(node.0, fate)?;
     Ok(())
@@ -176,23 +194,28 @@ fn add_fate(plan: &mut IndexMap<u32, Fate>, node: NodeNo, fate: Fate) -> Result<
 // Plans the fates of the nodes of a list, from the last one on. So each is planned after its
 // descendants.
 fn plan_row<L: Ledger>(
-    row: &Going<'_>,
-    list: &Vec<Below>,
-    plan: &mut IndexMap<u32, Fate>,
+    row: &DeletedRow<'_>,
+    list: &Vec<NodeCell>,
+    plan: &mut IndexMap<u32, NodePlan>,
     steps: &mut Steps<L>,
 ) -> Result<(), Memory>
     ghost d: { Deletion }
-    requires row { IsGoing d row.now.arena.now row.now.tuple.now row.now.all row.now.twins }
-    requires below { AreBelow row.now.arena.now.now row.now.tuple.now (length row.now.tuple.now) list.now.items }
-    ensures planned { OnOk result (ArePlanned d row.now.arena.now.now plan.new.entries list.now.items 0) }
-    ensures steps { OnOk result (steps.new ≤ steps.old + planning (length row.now.tuple.now) row.now.arena.now.now list.now.items list.now.items) }
+    requires row { IsDeletedRow d row.now.arena.now row.now.tuple.now row.now.all
+        row.now.duplicates }
+    requires below { AreGeneralizing row.now.arena.now.now row.now.tuple.now
+        (length row.now.tuple.now) list.now.items }
+    ensures planned { OnOk result
+        (ArePlanned d row.now.arena.now.now plan.new.entries list.now.items 0) }
+    ensures steps { OnOk result
+        (steps.new ≤ steps.old + planning_cost (length row.now.tuple.now) row.now.arena.now.now
+        list.now.items list.now.items) }
 {
     let many = list.len();
     plan.reserve(many)?;
     'nodes: for k in 0..many {
         let below = &list[many - 1 - k];
-        let fate = fate_of(row, plan, below, steps);
-        add_fate(plan, below.node, fate)?;
+        let fate = node_plan_of(row, plan, below, steps);
+        add_node_plan(plan, below.node, fate)?;
     }
     Ok(())
 }
@@ -202,27 +225,30 @@ pub(crate) fn plan_all<L: Ledger>(
     alloc: Global,
     arena: &QcArena,
     tuple: &Cell,
-    twins: Option<Agg>,
-    list: &Vec<Below>,
+    duplicates: Option<Agg>,
+    list: &Vec<NodeCell>,
     steps: &mut Steps<L>,
-) -> Result<IndexMap<u32, Fate>, Memory>
+) -> Result<IndexMap<u32, NodePlan>, Memory>
     ghost d: { Deletion }
     requires tree { IsTreeOf arena.now.width arena.now.now (source_before d) }
     requires tuple { length tuple.now ≡ arena.now.width }
     requires row { tuple.now ≡ cell_of d.r.tuple }
-    requires below { AreBelow arena.now.now tuple.now (length tuple.now) list.now.items }
-    requires twins { option_map agg_in twins ≡ agg_at (eq_by_cmp nat_cmp) d.measures (rows_after d) tuple.now }
+    requires below { AreGeneralizing arena.now.now tuple.now (length tuple.now) list.now.items }
+    requires duplicates { option_map agg_in duplicates ≡ agg_at (eq_by_cmp nat_cmp) d.measures
+        (rows_after d) tuple.now }
     requires few { length (rows_before d) ≤ MAX_ROWS }
-    ensures planned { IfOk result (λ plan. ArePlanned d arena.now.now plan.entries list.now.items 0) }
+    ensures planned { IfOk result
+        (λ plan. ArePlanned d arena.now.now plan.entries list.now.items 0) }
     ensures steps { IfOk result (λ plan. steps.new ≤ steps.old +
-        (2 * length tuple.now + 3 + planning (length tuple.now) arena.now.now list.now.items list.now.items)) }
+        (2 * length tuple.now + 3 + planning_cost (length tuple.now) arena.now.now list.now.items
+        list.now.items)) }
 {
     let all = total_at(arena, tuple, steps);
-    let row = Going {
+    let row = DeletedRow {
         arena,
         tuple,
         all,
-        twins,
+        duplicates,
     };
     let mut plan = IndexMap::new(alloc);
     match plan_row(&row, list, &mut plan, steps) {

@@ -2,11 +2,11 @@
 ghost use Rattle.std.specs.Ordering.{eq_by_cmp, nat_cmp};
 ghost use Rattle.std.specs.Prelude.{IfSome, None, Some, false, length, slice_get, true, ℕ, ◌+◌, ◌<◌, ◌≡◌};
 ghost use Rattle.cube_defs.specs.Rows.{cov};
-ghost use Rattle.batch_delete.specs.Going.{IsGoing, IsKnown};
-ghost use Rattle.batch_delete.specs.Rests.{Deletion, IsAbove, IsRest, rows_after};
+ghost use Rattle.batch_delete.specs.DeletedRow.{IsDeletedRow, IsKnown};
+ghost use Rattle.batch_delete.specs.Rests.{Deletion, SharesAtMost, IsRest, rows_after};
 
 use crate::cells::has;
-use crate::going::{Class, Going};
+use crate::deleted_row::{Class, DeletedRow};
 use crate::parts::Rest;
 use aggregates::Agg;
 use cell_core::{Cell, Entry};
@@ -17,7 +17,8 @@ fn is_new(tuple: &Cell, cell: &Cell, shared: &Cell, dim: u8) -> bool
     requires cell { dim < length cell.now }
     requires tuple { length tuple.now ≡ length cell.now }
     requires shared { length shared.now ≡ length cell.now }
-    ensures { result ≡ false → (v : ℕ) → slice_get cell.now dim ≡ Some None → slice_get shared.now dim ≡ Some (Some v) →
+    ensures { result ≡ false → (v : ℕ) → slice_get cell.now dim ≡ Some None
+        → slice_get shared.now dim ≡ Some (Some v) →
         slice_get tuple.now dim ≡ Some (Some v) }
 {
     match cell.get(dim) {
@@ -33,7 +34,8 @@ fn is_new(tuple: &Cell, cell: &Cell, shared: &Cell, dim: u8) -> bool
 fn is_settled(tuple: &Cell, cell: &Cell, shared: &Cell) -> bool
     requires tuple { length tuple.now ≡ length cell.now }
     requires shared { length shared.now ≡ length cell.now }
-    ensures { result ≡ true → (k v : ℕ) → slice_get cell.now k ≡ Some None → slice_get shared.now k ≡ Some (Some v) → slice_get tuple.now k ≡ Some (Some v) }
+    ensures { result ≡ true → (k v : ℕ) → slice_get cell.now k ≡ Some None
+        → slice_get shared.now k ≡ Some (Some v) → slice_get tuple.now k ≡ Some (Some v) }
 {
     'dims: for dim in 0..cell.dims() {
         if is_new(tuple, cell, shared, dim) {
@@ -44,8 +46,9 @@ fn is_settled(tuple: &Cell, cell: &Cell, shared: &Cell) -> bool
 }
 
 // Whether these are all rows of the class but one.
-fn are_all(some: &Rest, whole: Option<Agg>) -> bool
-    ensures { result ≡ true → (agg : Agg) × (whole ≡ Some agg) × (some.now.agg.count + 1 ≡ agg.count) }
+fn are_all_but_one(some: &Rest, whole: Option<Agg>) -> bool
+    ensures { result ≡ true → (agg : Agg) × (whole ≡ Some agg)
+        × (some.now.agg.count + 1 ≡ agg.count) }
 {
     match whole {
         None => false,
@@ -55,21 +58,24 @@ fn are_all(some: &Rest, whole: Option<Agg>) -> bool
 
 /// The rest of a class, if some of its rows settle it. They do if they are all rows but the deleted
 /// one. They also do if they show that the class stays, and its aggregate without the row is known.
-pub(crate) fn settled(row: &Going<'_>, class: &Class, some: &Option<Rest>) -> Option<Rest>
+pub(crate) fn settled(row: &DeletedRow<'_>, class: &Class, some: &Option<Rest>) -> Option<Rest>
     ghost d: { Deletion }
-    requires row { IsGoing d row.now.arena.now row.now.tuple.now row.now.all row.now.twins }
+    requires row { IsDeletedRow d row.now.arena.now row.now.tuple.now row.now.all
+        row.now.duplicates }
     requires long { length class.now.cell ≡ row.now.arena.now.width }
     requires class { IsKnown d class.now }
     requires shared { IfSome some.now (λ rest. length rest.shared ≡ length class.now.cell) }
-    requires above { IfSome some.now (λ rest. IsAbove d class.now.cell rest.shared) }
-    requires all { IfSome some.now (λ rest. rest.agg.count ≡ length (cov (eq_by_cmp nat_cmp) (rows_after d) class.now.cell) →
+    requires above { IfSome some.now (λ rest. SharesAtMost d class.now.cell rest.shared) }
+    requires all { IfSome some.now
+        (λ rest. rest.agg.count ≡ length (cov (eq_by_cmp nat_cmp) (rows_after d) class.now.cell) →
         IsRest d.measures (rows_after d) class.now.cell (Some rest)) }
-    ensures rest { IfSome result (λ rest. IsRest d.measures (rows_after d) class.now.cell (Some rest)) }
+    ensures rest { IfSome result
+        (λ rest. IsRest d.measures (rows_after d) class.now.cell (Some rest)) }
 {
     match some {
         None => None,
         Some(rest) => {
-            if are_all(rest, class.whole) {
+            if are_all_but_one(rest, class.whole) {
                 return Some(rest.copy());
             }
             match class.less {

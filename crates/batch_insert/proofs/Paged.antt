@@ -1,5 +1,6 @@
 -- A number that is noted in its page.
-use Rattle.std.proofs.Common.{◌≡◌, ◌≢◌, inl, inr, ℕ, zero, suc, ◌/◌, ◌%◌, ◌≤◌, ◌<◌, Option, Some, List, [], ◌∷◌, length, set, get_or, nat_eq, slice_get, if◌then◌else◌, refl, sym, ap, subst, ◌∙◌, arith}
+use Rattle.std.proofs.Common.{◌≡◌, ◌≢◌, inl, inr, ℕ, zero, suc, ◌/◌, ◌%◌, ◌≤◌, ◌<◌, Option, Some, List, [], ◌∷◌, length, set, get_or}
+use Rattle.std.proofs.Common.{nat_eq, slice_get, if◌then◌else◌, refl, sym, ap, subst, ◌∙◌, arith}
 use Rattle.std.specs.Prelude.{IfSome}
 use Rattle.std.specs.Option.{option_and_then, option_map}
 use Rattle.std.specs.Global.{Vec}
@@ -8,7 +9,7 @@ use Rattle.std.proofs.lemmas.Bool.{cond-true, cond-false}
 use Rattle.std.proofs.lemmas.Bool.Decides.{eqb_tells}
 use Rattle.std.proofs.lemmas.Option.{slice_get-get_or}
 use Rattle.cell_core.specs.declared.cell.NodeNo.{NodeNo}
-use Rattle.qc_arena.specs.Seen.{number}
+use Rattle.qc_arena.specs.RecordReaders.{number}
 
 set_there : {X : Type 0} → (xs : List X) (i : ℕ) (x : X) → i < length xs → slice_get (set xs i x) i ≡ Some x
 set_there [] i x h = absurd (omega arith)
@@ -29,12 +30,15 @@ in_page q page = option_and_then (option_map number) (slice_get page.items q)
 abbrev pub in_pages : List (Vec (Option NodeNo)) → ℕ → ℕ → Option ℕ
 in_pages pages p q = option_and_then (in_page q) (slice_get pages p)
 
-module _ (pages : List (Vec (Option NodeNo))) (page : Vec (Option NodeNo)) (m : ℕ) (k : NodeNo) (there : m / 64 < length pages) (is : page ≡ get_or pages (m / 64) page) (room : IfSome (slice_get pages (m / 64)) (λ places. 64 ≤ length places.items)) where
+module _ (pages : List (Vec (Option NodeNo))) (page : Vec (Option NodeNo)) (m : ℕ) (k : NodeNo)
+    (there : m / 64 < length pages) (is : page ≡ get_or pages (m / 64) page)
+    (room : IfSome (slice_get pages (m / 64)) (λ places. 64 ≤ length places.items)) where
   at : slice_get pages (m / 64) ≡ Some page
   at = slice_get-get_or pages (m / 64) page there ∙ ap (λ x. Some x) (sym is)
 
   wide : m % 64 < length page.items
-  wide = let r : 64 ≤ length page.items = subst (λ o. IfSome o (λ (places : Vec (Option NodeNo)). 64 ≤ length places.items)) at room in omega (arith, r)
+  wide = let r : 64 ≤ length page.items
+      = subst (λ o. IfSome o (λ (places : Vec (Option NodeNo)). 64 ≤ length places.items)) at room in omega (arith, r)
 
   abbrev pub new : Vec (Option NodeNo)
   new = with_item page (m % 64) (Some k)
@@ -51,10 +55,13 @@ module _ (pages : List (Vec (Option NodeNo))) (page : Vec (Option NodeNo)) (m : 
   ]
 
   here : in_pages (set pages (m / 64) new) (m / 64) (m % 64) ≡ Some k.0
-  here = ap (option_and_then (in_page (m % 64))) (set_there pages (m / 64) new there) ∙ ap (option_and_then (option_map number)) (set_there page.items (m % 64) (Some k) wide)
+  here = ap (option_and_then (in_page (m % 64))) (set_there pages (m / 64) new there)
+      ∙ ap (option_and_then (option_map number)) (set_there page.items (m % 64) (Some k) wide)
 
-  pub noted : (n : ℕ) → in_pages (set pages (m / 64) new) (n / 64) (n % 64) ≡ (if nat_eq m n then Some k.0 else in_pages pages (n / 64) (n % 64))
+  pub noted : (n : ℕ) → in_pages (set pages (m / 64) new) (n / 64) (n % 64) ≡ (if nat_eq m n then Some k.0
+      else in_pages pages (n / 64) (n % 64))
   noted n = elim (eqb_tells m n) [
-    | inl e ↦ subst (λ x. in_pages (set pages (m / 64) new) (x / 64) (x % 64) ≡ Some k.0) e.1 here ∙ sym (cond-true (nat_eq m n) _ _ e.0)
+    | inl e ↦ subst (λ x. in_pages (set pages (m / 64) new) (x / 64) (x % 64) ≡ Some k.0) e.1 here
+        ∙ sym (cond-true (nat_eq m n) _ _ e.0)
     | inr e ↦ beside n e.1 ∙ sym (cond-false (nat_eq m n) _ _ e.0)
   ]

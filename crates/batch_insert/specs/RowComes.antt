@@ -9,4 +9,5 @@ use Rattle.qc_arena.specs.Map.{Arena}
 abbrev pub ForRow : Cell ℕ → List ℤ → Arena → (List (Row ℕ) → Row ℕ → List (Row ℕ) → Type 0) → Type 0
 ForRow t amounts a Holds =
     (xs : List (Row ℕ)) (row : Row ℕ) (ys : List (Row ℕ)) → cell_of row.tuple ≡ t → row.amounts ≡ amounts
-    → IsTreeOf a.width a.now (record { measures = length amounts; rows = xs ++ ys }) → Holds (xs ++ ys) row (xs ++ row ∷ ys)
+    → IsTreeOf a.width a.now (record { measures = length amounts; rows = xs ++ ys })
+    → Holds (xs ++ ys) row (xs ++ row ∷ ys)

@@ -1,14 +1,14 @@
 -- Where the walk that plans stands.
 use Rattle.std.specs.Prelude.{All, ◌≡◌, ℕ, Some, IfSome, IsSome, true, is_some, length}
 use Rattle.std.specs.FinMap as map
-use Rattle.cube_defs.specs.Cell.{Cell, cell_front, depth, mask}
+use Rattle.cube_defs.specs.Cell.{Cell, cell_prefix, depth, mask}
 use Rattle.qc_arena.specs.Map.{Arena}
 use Rattle.batch_insert.specs.declared.plan.Plan.{Plan}
-use Rattle.batch_insert.specs.declared.shared.Chain.{Chain}
-use Rattle.batch_insert.specs.Cases.{Case, IsChain, IsFront, old_closure}
+use Rattle.batch_insert.specs.declared.shared.OldPrefix.{OldPrefix}
+use Rattle.batch_insert.specs.Cases.{Case, IsChain, IsPrefix, old_closure}
 use Rattle.batch_insert.specs.Masks.{Shares, part}
 use Rattle.batch_insert.specs.Planned.{IsPlan, IsReady}
-use Rattle.batch_insert.specs.Whole.{Grows, HasSpot}
+use Rattle.batch_insert.specs.Whole.{Grows, HasPlannedNode}
 
 -- a tuple of values comes to the tree of some rows, which is as wide
 pub record IsInsertion (t : Cell ℕ) (a : Arena) : Type 0 where
@@ -17,19 +17,20 @@ pub record IsInsertion (t : Cell ℕ) (a : Arena) : Type 0 where
   pub width : length t ≡ a.width
 
 -- the node with the mask m has no forced child before dimension i, and the chain is at this front of its old closure
-pub record StandsAt (t : Cell ℕ) (a : Arena) (m i : ℕ) (chain : Chain) : Type 0 where
+pub record StandsAt (t : Cell ℕ) (a : Arena) (m i : ℕ) (chain : OldPrefix) : Type 0 where
   pub masked : mask (part t m) ≡ m
   pub there : IfSome chain.node (λ k. IsSome (map.get a.now k.0))
   pub shares : IfSome chain.node (λ k. Shares t a.now m chain.is_own k.0)
-  pub front : (c : Case t a) → IsFront c (part t m) i
+  pub front : (c : Case t a) → IsPrefix c (part t m) i
   pub leads : (c : Case t a) → IsChain c (part t m) i chain.node
 
 -- so it is behind the last value of the node, which is planned
-pub record StartsAt (t : Cell ℕ) (a : Arena) (m i : ℕ) (chain : Chain) (plan : Plan) : Type 0 where
+pub record StartsAt (t : Cell ℕ) (a : Arena) (m i : ℕ) (chain : OldPrefix) (plan : Plan) : Type 0 where
   pub at : StandsAt t a m i chain
   pub deep : depth (part t m) ≡ i
-  pub own : chain.is_own ≡ true → (c : Case t a) (u : Cell ℕ) → old_closure c (part t m) ≡ Some u → cell_front i u ≡ part t m
-  pub spot : HasSpot plan (part t m)
+  pub own : chain.is_own ≡ true → (c : Case t a) (u : Cell ℕ) → old_closure c (part t m) ≡ Some u
+      → cell_prefix i u ≡ part t m
+  pub spot : HasPlannedNode plan (part t m)
 
 -- a plan has grown, and is still right
 pub record IsGrown (t : Cell ℕ) (a : Arena) (old new : Plan) : Type 0 where

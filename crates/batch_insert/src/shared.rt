@@ -8,7 +8,7 @@ ghost use Rattle.tree_laws.specs.Labels.{target_after_row};
 ghost use Rattle.batch_insert.specs.Masks.{Shares};
 ghost use Rattle.batch_insert.specs.Standing.{IsInsertion};
 
-use crate::tuples::{Insertion, code_of};
+use crate::tuples::{Insertion, tuple_code};
 use cell_core::{Cell, Code, NodeNo, Steps};
 use cube_defs::MAX_DIMS;
 use qc_arena::Nodes;
@@ -17,7 +17,7 @@ use std::sync::ledger::Ledger;
 /// The node of a prefix of a node's old closure, and whether it is the node itself. None if the
 /// node covered no row.
 #[derive(Clone, Copy)]
-pub(crate) struct Chain {
+pub(crate) struct OldPrefix {
     pub(crate) node: Option<NodeNo>,
     pub(crate) is_own: bool,
 }
@@ -28,7 +28,7 @@ pub(crate) struct Chain {
 pub(crate) fn shared<L: Ledger>(
     insertion: &Insertion<'_>,
     mask: u16,
-    chain: Chain,
+    chain: OldPrefix,
     old: Option<NodeNo>,
     dim: u8,
     steps: &mut Steps<L>,
@@ -36,21 +36,26 @@ pub(crate) fn shared<L: Ledger>(
     requires insertion { IsInsertion insertion.now.tuple.now insertion.now.arena.now }
     requires few { length insertion.now.tuple.now ≤ MAX_DIMS }
     requires dim { dim < length insertion.now.tuple.now }
-    requires chain { IfSome chain.node (λ k. Shares insertion.now.tuple.now insertion.now.arena.now.now mask chain.is_own k.0) }
+    requires chain { IfSome chain.node
+        (λ k. Shares insertion.now.tuple.now insertion.now.arena.now.now mask chain.is_own k.0) }
     requires old { IfSome old (λ k. IsSome (map.get insertion.now.arena.now.now k.0)) }
-    ensures mask { result.0 ≡ defs.mask (target_after_row nat_eq (option_and_then (λ k. cell_at insertion.now.arena.now.now k.0) old) insertion.now.tuple.now dim) }
-    ensures shares { IfSome old (λ k. Shares insertion.now.tuple.now insertion.now.arena.now.now result.0 result.1 k.0) }
+    ensures mask { result.0
+        ≡ defs.mask (target_after_row nat_eq
+        (option_and_then (λ k. cell_at insertion.now.arena.now.now k.0) old)
+        insertion.now.tuple.now dim) }
+    ensures shares { IfSome old
+        (λ k. Shares insertion.now.tuple.now insertion.now.arena.now.now result.0 result.1 k.0) }
     ensures none { IfNone old (result.1 ≡ false) }
     ensures steps { steps.new ≤ steps.old + (2 * length insertion.now.tuple.now + 2) }
 {
     match old {
-        None => (front_of(insertion.tuple, dim), false),
+        None => (prefix_mask(insertion.tuple, dim), false),
         Some(node) => common(insertion, mask, chain, node, steps),
     }
 }
 
 // The mask of all dimensions up to this one.
-fn front_of(tuple: &Cell, dim: u8) -> u16
+fn prefix_mask(tuple: &Cell, dim: u8) -> u16
     requires no_any { All (λ entry. is_some entry ≡ true) tuple.now }
     requires few { length tuple.now ≤ MAX_DIMS }
     requires dim { dim < length tuple.now }
@@ -65,15 +70,17 @@ fn front_of(tuple: &Cell, dim: u8) -> u16
 fn common<L: Ledger>(
     insertion: &Insertion<'_>,
     mask: u16,
-    chain: Chain,
+    chain: OldPrefix,
     node: NodeNo,
     steps: &mut Steps<L>,
 ) -> (u16, bool)
     requires insertion { IsInsertion insertion.now.tuple.now insertion.now.arena.now }
     requires few { length insertion.now.tuple.now ≤ MAX_DIMS }
-    requires chain { IfSome chain.node (λ k. Shares insertion.now.tuple.now insertion.now.arena.now.now mask chain.is_own k.0) }
+    requires chain { IfSome chain.node
+        (λ k. Shares insertion.now.tuple.now insertion.now.arena.now.now mask chain.is_own k.0) }
     requires node { IsSome (map.get insertion.now.arena.now.now node.0) }
-    ensures shares { Shares insertion.now.tuple.now insertion.now.arena.now.now result.0 result.1 node.0 }
+    ensures shares { Shares insertion.now.tuple.now insertion.now.arena.now.now result.0
+        result.1 node.0 }
     ensures steps { steps.new ≤ steps.old + (2 * length insertion.now.tuple.now + 2) }
 {
     let mut at = node;
@@ -105,9 +112,10 @@ fn bit_of(tuple: &Cell, dim: u8, code: Code) -> u16
     requires no_any { All (λ entry. is_some entry ≡ true) tuple.now }
     requires few { length tuple.now ≤ MAX_DIMS }
     requires dim { dim < length tuple.now }
-    ensures { result ≡ (if defs.entry_leq nat_eq (Some code) (slice_index_or tuple.now dim None) then 2 ^ dim else 0) }
+    ensures { result ≡ (if defs.entry_leq nat_eq (Some code) (slice_index_or tuple.now dim None)
+        then 2 ^ dim else 0) }
 {
-    if code == code_of(tuple, dim) {
+    if code == tuple_code(tuple, dim) {
         1 << dim
     } else {
         0

@@ -1,3 +1,4 @@
 mod Cuts
 mod Maps
 pub mod Steps
+pub mod CallerLemmas

@@ -9,7 +9,8 @@ use Rattle.build_trace.specs.Trace.{Act, trace, adds_of}
 use Rattle.build_trace.specs.Follows.{Follows}
 use Rattle.qc_arena.specs.Map.{Arena, is_open, is_touched}
 
--- the arena has just what was done, each of its nodes is touched, and what is to come is the rest of the trace of these rows
+-- the arena has just what was done, each of its nodes is touched, and what is to come is the rest of the trace of these
+-- rows
 pub record IsBuilding (measures : ℕ) (rows : List (Row ℕ)) (done rest : List Act) (a : Arena) : Type 0 where
   pub wide : AllByRecursion (λ row. length row.tuple ≡ a.width) rows
   pub some : 0 < length rows
@@ -27,5 +28,6 @@ pub record ActsComeNext (measures : ℕ) (rows : List (Row ℕ)) (es : List Act)
 
 -- from the one arena to the other these acts are done, and no node gets another cell
 pub record PerformsActs (measures : ℕ) (rows : List (Row ℕ)) (es : List Act) (before after : Arena) : Type 0 where
-  pub acts : (done rest : List Act) → IsBuilding measures rows done (es ++ rest) before → IsBuilding measures rows (done ++ es) rest after
+  pub acts : (done rest : List Act) → IsBuilding measures rows done (es ++ rest) before
+      → IsBuilding measures rows (done ++ es) rest after
   pub cells : (k : ℕ) (c : Cell ℕ) → cell_at before.now k ≡ Some c → cell_at after.now k ≡ Some c

@@ -16,7 +16,8 @@ use std::sync::ledger::Ledger;
 /// Marks the node as a class with the aggregate of its rows.
 pub fn mark_class<L: Ledger>(arena: &mut QcArena, node: NodeNo, agg: Agg, steps: &mut Steps<L>)
     requires change { CanChange arena.old node.0 }
-    ensures made { (measures : ℕ) (rows : List (Row ℕ)) (w : Cell ℕ) → cell_at arena.old.now node.0 ≡ Some w
+    ensures made { (measures : ℕ) (rows : List (Row ℕ)) (w : Cell ℕ)
+        → cell_at arena.old.now node.0 ≡ Some w
         → PerformsActs measures rows (Mark w (agg_in agg) ∷ []) arena.old arena.new }
     ensures frame { frame arena.new ≡ frame arena.old }
 {

@@ -27,7 +27,8 @@ pub fn set_link<L: Ledger>(
     requires target { IsSome (map.get arena.old.now target.0) }
     requires dim { dim < arena.old.width }
     requires code { IsCode code }
-    ensures made { OnOk result ((measures : ℕ) (rows : List (Row ℕ)) (f t : Cell ℕ) → cell_at arena.old.now node.0 ≡ Some f →
+    ensures made { OnOk result ((measures : ℕ) (rows : List (Row ℕ)) (f t : Cell ℕ)
+        → cell_at arena.old.now node.0 ≡ Some f →
         cell_at arena.old.now target.0 ≡ Some t
         → PerformsActs measures rows (Label false f dim code t ∷ []) arena.old arena.new) }
     ensures frame { frame arena.new ≡ frame arena.old }
@@ -47,9 +48,11 @@ pub(crate) fn put_label<L: Ledger>(
     requires target { IsSome (map.get arena.old.now label.2.0) }
     requires dim { label.0 < arena.old.width }
     requires code { IsCode label.1 }
-    ensures made { OnOk result ((measures : ℕ) (rows : List (Row ℕ)) (f t : Cell ℕ) → cell_at arena.old.now node.0 ≡ Some f →
+    ensures made { OnOk result ((measures : ℕ) (rows : List (Row ℕ)) (f t : Cell ℕ)
+        → cell_at arena.old.now node.0 ≡ Some f →
         cell_at arena.old.now label.2.0 ≡ Some t
-        → PerformsActs measures rows (Label is_forced f label.0 label.1 t ∷ []) arena.old arena.new) }
+        → PerformsActs measures rows (Label is_forced f label.0 label.1 t ∷ [])
+        arena.old arena.new) }
     ensures frame { frame arena.new ≡ frame arena.old }
 {
     match arena.set_edge(node, label.0, label.1, label.2, steps) {

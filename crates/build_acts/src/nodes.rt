@@ -7,7 +7,7 @@ ghost use Rattle.cube_defs.specs.Rows.{Row};
 ghost use Rattle.cube_defs.specs.Tree.{cell_at, nodes};
 ghost use Rattle.build_trace.specs.Trace.{Act.{Add, Label}};
 ghost use Rattle.qc_arena.specs.Map.{CanChange, frame, is_open};
-ghost use Rattle.qc_arena.specs.Seen.{record_at};
+ghost use Rattle.qc_arena.specs.RecordReaders.{record_at};
 ghost use Rattle.build_acts.specs.Building.{PerformsActs, ActsComeNext};
 
 use crate::labels::put_label;
@@ -23,8 +23,10 @@ pub fn add_root<L: Ledger>(
     requires opened { is_open arena.old ≡ true }
     requires none { (k : ℕ) → cell_at arena.old.now k ≢ Some (replicate arena.old.width None) }
     ensures made { OnOk result ((measures : ℕ) (rows : List (Row ℕ)) →
-        PerformsActs measures rows (Add (replicate arena.old.width None) ∷ []) arena.old arena.new) }
-    ensures here { IfOk result (λ k. cell_at arena.new.now k.0 ≡ Some (replicate arena.old.width None)) }
+        PerformsActs measures rows (Add (replicate arena.old.width None) ∷ [])
+        arena.old arena.new) }
+    ensures here { IfOk result
+        (λ k. cell_at arena.new.now k.0 ≡ Some (replicate arena.old.width None)) }
     ensures full { result ≡ Err ArenaRefused.Full → (measures : ℕ) (rows : List (Row ℕ)) →
         ActsComeNext measures rows (Add (replicate arena.old.width None) ∷ []) arena.old
         → arena.old.max < length (nodes nat_cmp rows) }
@@ -47,11 +49,19 @@ pub fn add_child<L: Ledger>(
     requires behind { depth (record_at arena.old.now parent.0).cell ≤ dim }
     requires dim { dim < arena.old.width }
     requires code { IsCode code }
-    ensures made { OnOk result ((measures : ℕ) (rows : List (Row ℕ)) (f : Cell ℕ) → cell_at arena.old.now parent.0 ≡ Some f
-        → PerformsActs measures rows (Add (with_value f dim code) ∷ Label is_forced f dim code (with_value f dim code) ∷ []) arena.old arena.new) }
-    ensures here { IfOk result (λ k. (f : Cell ℕ) → cell_at arena.old.now parent.0 ≡ Some f → cell_at arena.new.now k.0 ≡ Some (with_value f dim code)) }
-    ensures full { result ≡ Err ArenaRefused.Full → (measures : ℕ) (rows : List (Row ℕ)) (f : Cell ℕ) → cell_at arena.old.now parent.0 ≡ Some f
-        → ActsComeNext measures rows (Add (with_value f dim code) ∷ Label is_forced f dim code (with_value f dim code) ∷ []) arena.old
+    ensures made { OnOk result ((measures : ℕ) (rows : List (Row ℕ)) (f : Cell ℕ)
+        → cell_at arena.old.now parent.0 ≡ Some f
+        → PerformsActs measures rows
+        (Add (with_value f dim code) ∷ Label is_forced f dim code (with_value f dim code) ∷ [])
+        arena.old arena.new) }
+    ensures here { IfOk result (λ k. (f : Cell ℕ) → cell_at arena.old.now parent.0 ≡ Some f
+        → cell_at arena.new.now k.0 ≡ Some (with_value f dim code)) }
+    ensures full { result ≡ Err ArenaRefused.Full
+        → (measures : ℕ) (rows : List (Row ℕ)) (f : Cell ℕ)
+        → cell_at arena.old.now parent.0 ≡ Some f
+        → ActsComeNext measures rows
+        (Add (with_value f dim code) ∷ Label is_forced f dim code (with_value f dim code)
+        ∷ []) arena.old
         → arena.old.max < length (nodes nat_cmp rows) }
     ensures frame { frame arena.new ≡ frame arena.old }
 {

@@ -5,12 +5,9 @@ use Rattle.cube_defs.specs.Cell.{Cell}
 use Rattle.cube_defs.specs.Rows.{Row, is_node}
 use Rattle.cube_defs.specs.Tree.{nodes, covered}
 use Rattle.cube_laws.specs.Lists.{Among}
-use Rattle.cube_laws.proofs.Nodes.{nodes-is}
-use Rattle.tree_laws.proofs.Sums.{EachOnce, once_filter, covered_once, sum_ones, sum_same}
-use Rattle.cube_laws.proofs.Numbers.{nat_total, nat_anti}
-use Rattle.cube_laws.proofs.Shared.{IsShared, HaveDims}
+use Rattle.cube_laws.proofs.CallerLemmas.{nodes-is, nat_total, nat_anti, IsShared, HaveDims, one_test}
+use Rattle.tree_laws.proofs.CallerLemmas.{EachOnce, once_filter, covered_once, sum_ones, sum_same}
 use Rattle.cube_laws.specs.Parting.{shared_by}
-use Rattle.cube_laws.proofs.Orders.{one_test}
 use Rattle.build_trace.specs.Trace.{Act, Act.{Add, Label, Mark}, trace, adds_of}
 use Rattle.build_trace.proofs.Visits.{Visit.{Made}, visits_of, visit_add}
 use Rattle.build_trace.proofs.Steps.{adds_append}
@@ -34,25 +31,33 @@ adds_once (Add p ∷ es) h = (λ k. h.0 (adds_visits p es k), adds_once es h.1)
 adds_once (Label b f i v t ∷ es) h = adds_once es h
 adds_once (Mark w a ∷ es) h = adds_once es h.1
 
-module _ (measures n : ℕ) (table : List (Row ℕ)) (all_long : HaveDims n table) (shared : IsShared table (shared_by table)) where
+module _ (measures n : ℕ) (table : List (Row ℕ)) (all_long : HaveDims n table)
+    (shared : IsShared table (shared_by table)) where
   in_nodes : (q : Cell ℕ) → is_node nat_eq table q ≡ true → Among q (nodes nat_cmp table)
   in_nodes q h = (nodes-is nat_total nat_anti n table all_long q).1 (ap (λ eq. is_node eq table q) one_test ∙ h)
 
   nodes_once : EachOnce (nodes nat_cmp table)
-  nodes_once = once_filter (is_node (eq_by_cmp nat_cmp) table) (covered nat_cmp table) (covered_once nat_total nat_anti table)
+  nodes_once = once_filter (is_node (eq_by_cmp nat_cmp) table) (covered nat_cmp table)
+      (covered_once nat_total nat_anti table)
 
   pub adds_count : length (adds_of (trace measures n table)) ≡ length (nodes nat_cmp table)
   adds_count =
       sym (sum_ones (adds_of (trace measures n table)))
-      ∙ sum_same (λ c. 1) (adds_of (trace measures n table)) (nodes nat_cmp table) (adds_once (trace measures n table) (once_visits measures n table all_long shared)) nodes_once
-      (λ q a. in_nodes q ((adds_are measures n table all_long shared q).0 (visit_add q (trace measures n table) (adds_visits q (trace measures n table) a))))
-      (λ q a. among_adds q (trace measures n table) ((adds_are measures n table all_long shared q).1 (ap (λ eq. is_node eq table q) (sym one_test) ∙ (nodes-is nat_total nat_anti n table all_long q).0 a)))
+      ∙ sum_same (λ c. 1) (adds_of (trace measures n table)) (nodes nat_cmp table)
+      (adds_once (trace measures n table) (once_visits measures n table all_long shared)) nodes_once
+      (λ q a. in_nodes q ((adds_are measures n table all_long shared q).0
+      (visit_add q (trace measures n table) (adds_visits q (trace measures n table) a))))
+      (λ q a. among_adds q (trace measures n table)
+      ((adds_are measures n table all_long shared q).1 (ap (λ eq. is_node eq table q) (sym one_test)
+      ∙ (nodes-is nat_total nat_anti n table all_long q).0 a)))
       ∙ sum_ones (nodes nat_cmp table)
 
   -- where a node is to be added to so many, there are more nodes
-  pub more_nodes : (xs ys : List Act) (p : Cell ℕ) → trace measures n table ≡ xs ++ Add p ∷ ys → length (adds_of xs) < length (nodes nat_cmp table)
+  pub more_nodes : (xs ys : List Act) (p : Cell ℕ) → trace measures n table ≡ xs ++ Add p ∷ ys
+      → length (adds_of xs) < length (nodes nat_cmp table)
   more_nodes xs ys p e =
-      let a : length (adds_of (trace measures n table)) ≡ length (adds_of xs ++ p ∷ adds_of ys) = ap length (ap adds_of e ∙ adds_append xs (Add p ∷ ys)) in
+      let a : length (adds_of (trace measures n table)) ≡ length (adds_of xs ++ p ∷ adds_of ys)
+      = ap length (ap adds_of e ∙ adds_append xs (Add p ∷ ys)) in
       let c = adds_count in
       let b : length (adds_of xs) < length (adds_of xs ++ p ∷ adds_of ys) = longer (adds_of xs) p (adds_of ys) in
       omega arith

@@ -1,5 +1,5 @@
 mod Lists
-pub mod Fronts
+pub mod Prefixes
 pub mod Parting
 mod Names
 pub mod Steps
@@ -19,3 +19,4 @@ mod Descending
 mod Down
 mod Counting
 pub mod Wanted
+pub mod CallerLemmas

@@ -7,14 +7,15 @@ use Rattle.cube_laws.specs.Lists.{Among}
 use Rattle.build_trace.specs.Trace.{Act, Act.{Add}, read}
 
 -- the record of each number, if it has one
-abbrev pub Look : Type 0
-Look = ℕ → Option (Node ℕ ℕ)
+abbrev pub RecordLookup : Type 0
+RecordLookup = ℕ → Option (Node ℕ ℕ)
 
-abbrev pub cell_by : Look → ℕ → Option (Cell ℕ)
+abbrev pub cell_by : RecordLookup → ℕ → Option (Cell ℕ)
 cell_by look k = option_map (λ n. n.cell) (look k)
 
 -- each number's cell was added and has the record that is read off the acts; each added cell has one number
-pub record Follows (es : List Act) (look : Look) : Type 0 where
-  pub each : (k : ℕ) (n : Node ℕ ℕ) → look k ≡ Some n → Among (Add n.cell) es × (renamed (cell_by look) n ≡ renamed (λ c. Some c) (read es n.cell))
+pub record Follows (es : List Act) (look : RecordLookup) : Type 0 where
+  pub each : (k : ℕ) (n : Node ℕ ℕ) → look k ≡ Some n → Among (Add n.cell) es
+      × (renamed (cell_by look) n ≡ renamed (λ c. Some c) (read es n.cell))
   pub once : (k l : ℕ) (c : Cell ℕ) → cell_by look k ≡ Some c → cell_by look l ≡ Some c → k ≡ l
   pub all : (c : Cell ℕ) → Among (Add c) es → (k : ℕ) × (cell_by look k ≡ Some c)

@@ -1,37 +1,44 @@
 -- The acts of building, depth first: nodes that are added, labels that are set, classes that are marked.
-use Rattle.std.specs.Prelude.{ℕ, zero, suc, Bool, true, false, Option, Some, None, List, [], ◌∷◌, ◌++◌, map, nat_eq, slice_index_or, flat_map, if◌then◌else◌}
+use Rattle.std.specs.Prelude.{ℕ, zero, suc, Bool, true, false, Option, Some, None, List, [], ◌∷◌, ◌++◌, map, nat_eq, slice_index_or}
+use Rattle.std.specs.Prelude.{flat_map, if◌then◌else◌}
 use Rattle.std.specs.Ordering.{nat_cmp}
-use Rattle.cube_defs.specs.Cell.{Cell, cell_front, cell_eq}
+use Rattle.cube_defs.specs.Cell.{Cell, cell_prefix, cell_eq}
 use Rattle.cube_defs.specs.Rows.{Row, Agg, agg_of}
-use Rattle.cube_defs.specs.Tree.{Edge, Node, cut_last}
+use Rattle.cube_defs.specs.Tree.{Edge, Node, parent_cell_of}
 use Rattle.cube_laws.specs.Parting.{shared_by, part_at, codes_in}
-use Rattle.build_trace.specs.Walk.{same_front}
+use Rattle.build_trace.specs.Walk.{same_prefix}
 
--- a node is added; a label of a node is set, first whether to its forced child, then the node, the dimension, the value and the target; a class is marked
+-- a node is added; a label of a node is set, first whether to its forced child, then the node, the dimension, the value
+-- and the target; a class is marked
 pub data Act : Type 0 where
   Add : Cell ℕ → Act
   Label : Bool → Cell ℕ → ℕ → ℕ → Cell ℕ → Act
   Mark : Cell ℕ → Agg → Act
 
--- a part with the value v in dimension k: its label, and where its rows share no more before k than u has, its node before and its acts behind
+-- a part with the value v in dimension k: its label, and where its rows share no more before k than u has, its node
+-- before and its acts behind
 abbrev pub part_acts : (List (Row ℕ) → List Act) → ℕ → Cell ℕ → ℕ → List (Row ℕ) → List Act
 part_acts more k u v rows =
-    (if same_front k (shared_by rows) u then Add (cell_front (suc k) (shared_by rows)) ∷ [] else [])
-    ++ (Label false (cell_front k u) k v (cell_front (suc k) (shared_by rows)) ∷ (if same_front k (shared_by rows) u then more rows else []))
+    (if same_prefix k (shared_by rows) u then Add (cell_prefix (suc k) (shared_by rows)) ∷ [] else [])
+    ++ (Label false (cell_prefix k u) k v (cell_prefix (suc k) (shared_by rows)) ∷ (if same_prefix k (shared_by rows) u
+    then more rows else []))
 
 -- where u has a value in dimension k the node of its front, and else each part
 abbrev pub acts_at : (List (Row ℕ) → List Act) → ℕ → Cell ℕ → Option ℕ → List (Row ℕ) → List Act
 acts_at more k u None rows = flat_map (λ v. part_acts more k u v (part_at k rows v)) (codes_in k rows)
-acts_at more k u (Some x) rows = Add (cell_front (suc k) u) ∷ Label true (cell_front k u) k x (cell_front (suc k) u) ∷ []
+acts_at more k u (Some x) rows
+    = Add (cell_prefix (suc k) u) ∷ Label true (cell_prefix k u) k x (cell_prefix (suc k) u) ∷ []
 
 -- for some rows, from dimension k on, of which m are left
 unfoldable pub acts : ℕ → ℕ → ℕ → List (Row ℕ) → List Act
 acts measures zero k rows = Mark (shared_by rows) (agg_of measures rows) ∷ []
-acts measures (suc m) k rows = acts_at (acts measures m (suc k)) k (shared_by rows) (slice_index_or (shared_by rows) k None) rows ++ acts measures m (suc k) rows
+acts measures (suc m) k rows
+    = acts_at (acts measures m (suc k)) k (shared_by rows) (slice_index_or (shared_by rows) k None) rows
+    ++ acts measures m (suc k) rows
 
 -- for a table of n dimensions that has a row
 abbrev pub trace : ℕ → ℕ → List (Row ℕ) → List Act
-trace measures n table = Add (cell_front 0 (shared_by table)) ∷ acts measures n 0 table
+trace measures n table = Add (cell_prefix 0 (shared_by table)) ∷ acts measures n 0 table
 
 -- a label, and whether it leads to the forced child
 pub record Put : Type 0 where
@@ -73,7 +80,14 @@ mark_of q (Mark w a ∷ es) = mark_by (mark_of q es) (cell_eq nat_eq w q) a
 
 -- the record of q by what was done
 abbrev pub read : List Act → Cell ℕ → Node ℕ (Cell ℕ)
-read es q = record { cell = q; parent = cut_last nat_cmp q; class = mark_of q es; forced = forced_in (puts_of q es); edges = labels_of q es }
+read es q = record {
+  cell = q;
+  parent = parent_cell_of nat_cmp q;
+  class = mark_of q es;
+  forced
+      = forced_in (puts_of q es);
+  edges = labels_of q es;
+}
 
 -- the cells that are added
 abbrev pub adds_of : List Act → List (Cell ℕ)

@@ -6,3 +6,4 @@ pub mod Stable
 mod Counting
 mod Swapped
 mod Widths
+pub mod CallerLemmas

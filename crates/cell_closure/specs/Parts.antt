@@ -17,13 +17,13 @@ abbrev pub no_part : PartOf
 no_part = record { code = 0; rows = [] }
 
 -- the row's code in dimension k, and 0 where there is no row
-abbrev pub code_of : ℕ → Option (Row ℕ) → ℕ
-code_of k None = 0
-code_of k (Some row) = code_in k row
+abbrev pub row_code : ℕ → Option (Row ℕ) → ℕ
+row_code k None = 0
+row_code k (Some row) = code_in k row
 
 -- the code in dimension k of the row with this number
 abbrev pub code_at : Places → ℕ → RowNo → ℕ
-code_at t k row = code_of k (row_at t row.0)
+code_at t k row = row_code k (row_at t row.0)
 
 -- those of the rows that have the code v, in their order
 abbrev pub with_code : Places → List RowNo → ℕ → ℕ → PartOf

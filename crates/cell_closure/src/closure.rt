@@ -33,7 +33,8 @@ pub fn shared_entry(table: &Table, rows: &[RowNo], dim: u8) -> Entry
     requires some { 0 < length rows.now }
     requires there { AreThere table.now rows.now }
     requires dim { dim < table.now.dims }
-    ensures value { value_in result ≡ slice_index_or (shared_by (named table.now rows.now)) dim None }
+    ensures value { value_in result ≡ slice_index_or
+        (shared_by (named table.now rows.now)) dim None }
     ensures small { IsSmall result }
 {
     let code = table.code(rows[0], dim);
@@ -61,7 +62,8 @@ macro_rules! closure_by_width {
 pub fn closure_of(table: &Table, rows: &[RowNo]) -> Cell
     requires some { 0 < length rows.now }
     requires there { AreThere table.now rows.now }
-    ensures closure { Some result ≡ meet_all nat_eq (map (λ row. cell_of row.tuple) (named table.now rows.now)) }
+    ensures closure { Some result ≡ meet_all nat_eq
+        (map (λ row. cell_of row.tuple) (named table.now rows.now)) }
     ensures dims { length result ≡ table.now.dims }
 {
     closure_by_width!(table, rows, 4 8 12);

@@ -78,7 +78,7 @@ impl Parts {
 
     /// Groups rows by their codes in a dimension, in place of the earlier groups. Each part has its
     /// rows in the given order. After a refusal there are no parts.
-    pub fn part_into(&mut self, table: &Table, rows: &[RowNo], dim: u8) -> Result<(), Memory>
+    pub fn regroup(&mut self, table: &Table, rows: &[RowNo], dim: u8) -> Result<(), Memory>
         requires there { AreThere table.now rows.now }
         requires dim { dim < table.now.dims }
         ensures ok { IfOk result (λ _. self.new ≡ parted table.now rows.now dim) }
@@ -100,7 +100,7 @@ pub fn part(alloc: Global, table: &Table, rows: &[RowNo], dim: u8) -> Result<Par
     ensures { IfOk result (λ parts. parts ≡ parted table.now rows.now dim) }
 {
     let mut parts = Parts::new(alloc);
-    parts.part_into(table, rows, dim)?;
+    parts.regroup(table, rows, dim)?;
     Ok(parts)
 }
 
@@ -122,7 +122,8 @@ fn run_end(keyed: &[Keyed], start: usize) -> usize
     ensures same { (k : ℕ) → start ≤ k → k < result →
         (slice_index_or keyed.now k no_row).code ≡ (slice_index_or keyed.now start no_row).code }
     ensures other { result < length keyed.now →
-        (slice_index_or keyed.now result no_row).code ≡ (slice_index_or keyed.now start no_row).code → ⊥ }
+        (slice_index_or keyed.now result no_row).code ≡ (slice_index_or keyed.now start no_row).code
+        → ⊥ }
 {
     let code = keyed[start].code;
     'rows: for i in start + 1..keyed.len() {
@@ -135,8 +136,10 @@ fn run_end(keyed: &[Keyed], start: usize) -> usize
 
 /// Makes a cut for each run of equal codes. After a refusal there are none.
 fn list_cuts(cuts: &mut Vec<Cut>, keyed: &[Keyed]) -> Result<(), Memory>
-    ensures runs { IfOk result (λ _. pieces cuts.new.items (map (λ k. k.row) keyed.now) ≡ runs keyed.now) }
-    ensures within { IfOk result (λ _. All (λ c. (c.start ≤ c.end) × (c.end ≤ length keyed.now)) cuts.new.items) }
+    ensures runs { IfOk result (λ _. pieces cuts.new.items (map (λ k. k.row) keyed.now)
+        ≡ runs keyed.now) }
+    ensures within { IfOk result
+        (λ _. All (λ c. (c.start ≤ c.end) × (c.end ≤ length keyed.now)) cuts.new.items) }
     ensures err { OnErr result (cuts.new.items ≡ []) }
 {
     cuts.clear();

@@ -18,7 +18,8 @@ use cube_defs::MAX_DIMS;
 pub fn meet_fixed<const N: usize>(acc: &mut [u32; N], row: &[u32; N])
     ensures meet { entries_of acc.new ≡ meet nat_eq (entries_of acc.old) (entries_of row.now) }
     ensures width { length acc.new ≡ N }
-    ensures codes { (i : ℕ) → i < N → slice_index acc.new i ≡ met (slice_index acc.old i) (slice_index row.now i) }
+    ensures codes { (i : ℕ) → i < N
+        → slice_index acc.new i ≡ met (slice_index acc.old i) (slice_index row.now i) }
 {
     'entries: for i in 0..N {
         if acc[i] != row[i] {
@@ -61,7 +62,8 @@ fn shared_codes<const N: usize>(table: &Table, rows: &[RowNo]) -> [u32; N]
     requires there { AreThere table.now rows.now }
     requires width { table.now.dims ≤ N }
     ensures value { (j : ℕ) → j < table.now.dims →
-        entry_of (slice_index result j) ≡ slice_index_or (shared_by (named table.now rows.now)) j None }
+        entry_of (slice_index result j) ≡ slice_index_or
+        (shared_by (named table.now rows.now)) j None }
     ensures kept { (j : ℕ) → j < table.now.dims → is_kept (slice_index result j) ≡ true }
 {
     let mut shared = codes_of(table, rows[0]);
@@ -81,10 +83,11 @@ pub(crate) fn closure_in<const N: usize>(table: &Table, rows: &[RowNo]) -> Cell
     requires there { AreThere table.now rows.now }
     requires width { table.now.dims ≤ N }
     requires small { N ≤ MAX_DIMS }
-    ensures closure { Some result ≡ meet_all nat_eq (map (λ row. cell_of row.tuple) (named table.now rows.now)) }
+    ensures closure { Some result ≡ meet_all nat_eq
+        (map (λ row. cell_of row.tuple) (named table.now rows.now)) }
     ensures dims { length result ≡ table.now.dims }
 {
-    table.is_valid();
+    table.recall_invariant();
     let codes: [u32; N] = shared_codes(table, rows);
     let mut shared = table.tuple(rows[0]);
     'dims: for dim in 0..table.dims() {

@@ -100,7 +100,7 @@ impl Cell {
         ensures value { self.new ≡ slice_set self.old dim (value_in entry) }
         ensures dims { length self.new ≡ length self.old }
     {
-        self.codes[dim as usize] = codes::code_of(entry);
+        self.codes[dim as usize] = codes::stored_code(entry);
     }
 
     pub fn copy(&self) -> Cell

@@ -7,7 +7,7 @@ ghost use Rattle.cube_defs.specs.Cell as defs;
 use crate::{ANY, Entry};
 use cube_defs::MAX_DIMS;
 
-pub(crate) fn code_of(entry: Entry) -> u32
+pub(crate) fn stored_code(entry: Entry) -> u32
     requires { IsSmall entry }
     ensures value { entry_of result ≡ value_in entry }
     ensures kept { IsTrue (is_kept result) }
@@ -33,7 +33,8 @@ pub(crate) fn leq(c: &[u32], d: &[u32]) -> bool
 pub(crate) fn meet_into(c: &mut [u32], d: &[u32])
     requires { length c.old ≡ length d.now }
     ensures meet { entries_of c.new ≡ defs.meet nat_eq (entries_of c.old) (entries_of d.now) }
-    ensures kept { All (λ code. IsTrue (is_kept code)) c.old → All (λ code. IsTrue (is_kept code)) c.new }
+    ensures kept { All (λ code. IsTrue (is_kept code)) c.old
+        → All (λ code. IsTrue (is_kept code)) c.new }
 {
     for i in 0..c.len() {
         if c[i] != d[i] {
@@ -57,7 +58,8 @@ pub(crate) fn last(c: &[u32]) -> Option<usize>
 pub(crate) fn upto(c: &mut [u32], j: usize)
     requires { j < length c.old }
     ensures upto { entries_of c.new ≡ defs.upto (entries_of c.old) j }
-    ensures kept { All (λ code. IsTrue (is_kept code)) c.old → All (λ code. IsTrue (is_kept code)) c.new }
+    ensures kept { All (λ code. IsTrue (is_kept code)) c.old
+        → All (λ code. IsTrue (is_kept code)) c.new }
 {
     for i in j + 1..c.len() {
         c[i] = ANY;

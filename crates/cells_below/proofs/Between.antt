@@ -1,6 +1,7 @@
 -- The cells between a cell and its closure have its closure, and so a number is marked where one with
 -- one bit less is.
-use Rattle.std.proofs.Common.{◌≡◌, ◌≢◌, ℕ, ◌+◌, ◌^◌, ◌<◌, Bool, true, false, not, ◌||◌, ◌&&◌, nat_eq, eqb-true, eq-eqb, Some, List, map, filter, length, set, refl, sym, ap, ap₂, ◌∙◌, subst, arith, true≢false}
+use Rattle.std.proofs.Common.{◌≡◌, ◌≢◌, ℕ, ◌+◌, ◌^◌, ◌<◌, Bool, true, false, not, ◌||◌, ◌&&◌, nat_eq, eqb-true, eq-eqb, Some, List, map}
+use Rattle.std.proofs.Common.{filter, length, set, refl, sym, ap, ap₂, ◌∙◌, subst, arith, true≢false}
 use Rattle.std.specs.Cmp.{nat_cmp_total}
 use Rattle.std.proofs.lemmas.List.{get_or-set_other, get_or-set_same}
 use Rattle.std.specs.FinMap as map
@@ -10,14 +11,12 @@ use Rattle.std.proofs.Math.Bool.{and-false}
 use Rattle.cube_defs.specs.Answers.{lower_bounds}
 use Rattle.cube_defs.specs.Cell.{Cell, leq}
 use Rattle.cube_defs.specs.Rows.{Row, closure, is_lower_bound}
-use Rattle.cube_laws.proofs.Cells.{IsEquality, leq_antisymm}
-use Rattle.cube_laws.proofs.Closures.{closure_idem, closure_mono, closure_some, option_eq-is}
-use Rattle.cube_laws.proofs.Lists.{map-filter}
-use Rattle.cube_laws.proofs.Orders.{code_equality}
+use Rattle.cube_laws.proofs.CallerLemmas.{IsEquality, leq_antisymm, closure_idem, closure_mono, closure_some, option_eq-is, map-filter}
+use Rattle.cube_laws.proofs.CallerLemmas.{code_equality}
 use Rattle.cube_laws.specs.Parts.{value_count}
-use Rattle.tree_laws.proofs.LowerBounds.{lower_bounds-below}
+use Rattle.tree_laws.proofs.CallerLemmas.{lower_bounds-below}
 use Rattle.tree_search.specs.Found.{TreeRows}
-use Rattle.cells_below.specs.Closed.{IsMarkedBelow, bounds, closes, has_closure_in}
+use Rattle.cells_below.specs.Closed.{IsMarkedBefore, bounds, closes, has_closure_in}
 use Rattle.cells_below.specs.Marks.{is_least, is_marked}
 use Rattle.cells_below.specs.Numbers.{cell_of_number, has_bit, turned}
 use Rattle.cells_below.proofs.Turned.{turned_below, turned_other}
@@ -26,11 +25,13 @@ use Rattle.cells_below.proofs.Cells.{cell_below, cells_below, more_bits}
 use Rattle.cells_below.proofs.Minimal.{none_smaller-is}
 
 module _ {A : Type 0} {eq : A → A → Bool} (law : IsEquality eq) where
-  pub between : (rows : List (Row A)) (c d u : Cell A) → leq eq c d ≡ true → leq eq d u ≡ true → closure eq rows c ≡ Some u → closure eq rows d ≡ Some u
+  pub between : (rows : List (Row A)) (c d u : Cell A) → leq eq c d ≡ true → leq eq d u ≡ true
+      → closure eq rows c ≡ Some u → closure eq rows d ≡ Some u
   between rows c d u h k e =
       let own : closure eq rows u ≡ Some u = closure_idem law rows c u e in
       let r : (w : Cell A) × (closure eq rows d ≡ Some w) = closure_some law rows d u u k own in
-      r.1 ∙ ap (λ x. Some x) (leq_antisymm law r.0 u (closure_mono law rows d u r.0 u k r.1 own) (closure_mono law rows c d u r.0 h e r.1))
+      r.1 ∙ ap (λ x. Some x) (leq_antisymm law r.0 u (closure_mono law rows d u r.0 u k r.1 own)
+      (closure_mono law rows c d u r.0 h e r.1))
 
 module _ (source : TreeRows) (u : Cell ℕ) where
   pub closed : (c : Cell ℕ) → has_closure_in source u c ≡ true → closure (eq_by_cmp nat_cmp) source.rows c ≡ Some u
@@ -48,9 +49,10 @@ module _ (source : TreeRows) (u : Cell ℕ) where
   closes_more m k e h =
       (option_eq-is code_equality (closure (eq_by_cmp nat_cmp) source.rows (cell_of_number u m)) u).1
       (between code_equality source.rows (cell_of_number u (turned m k)) (cell_of_number u m) u
-      (more_bits code_equality u (turned m k) m (λ j h. with_bit m k j e h)) (cell_below code_equality u m) (closed (cell_of_number u (turned m k)) h))
+      (more_bits code_equality u (turned m k) m (λ j h. with_bit m k j e h)) (cell_below code_equality u m)
+      (closed (cell_of_number u (turned m k)) h))
 
-  module _ (marks : List Bool) (m : ℕ) (l : m < 2 ^ value_count u) (below : IsMarkedBelow source u marks m) where
+  module _ (marks : List Bool) (m : ℕ) (l : m < 2 ^ value_count u) (below : IsMarkedBefore source u marks m) where
     least_if : closes source u m ≡ false → is_least marks (value_count u) m ≡ true
     least_if c = list_all_each _ 0 (value_count u) (λ k q r. go k (has_bit m k) refl)
       where
@@ -72,9 +74,11 @@ module _ (source : TreeRows) (u : Cell ℕ) where
 
     -- the test of a lower bound, number by number
     pub bound_is : bounds source u m ≡ (closes source u m && is_least marks (value_count u) m)
-    bound_is = ap (λ b. closes source u m && b) (none_smaller-is (has_closure_in source u) u m ∙ list_all_range _ _ 0 (value_count u) (λ k q r. go k (has_bit m k) refl))
+    bound_is = ap (λ b. closes source u m && b) (none_smaller-is (has_closure_in source u) u m
+        ∙ list_all_range _ _ 0 (value_count u) (λ k q r. go k (has_bit m k) refl))
       where
-        go : (k : ℕ) (b : Bool) → has_bit m k ≡ b → (not b || not (closes source u (turned m k))) ≡ (not b || not (is_marked marks (turned m k)))
+        go : (k : ℕ) (b : Bool) → has_bit m k ≡ b
+            → (not b || not (closes source u (turned m k))) ≡ (not b || not (is_marked marks (turned m k)))
         go k false e = refl
         go k true e = ap not (sym (below (turned m k) (turned_below m k e)))
 
@@ -85,16 +89,20 @@ module _ (source : TreeRows) (u : Cell ℕ) where
     is_bound c e = sym (bound_is ∙ ap₂ (λ x y. x && y) c e)
 
     -- one number more is marked
-    pub marked_more : m < length marks → closes source u m ≡ true → IsMarkedBelow source u (set marks m true) (m + 1)
+    pub marked_more : m < length marks → closes source u m ≡ true → IsMarkedBefore source u (set marks m true) (m + 1)
     marked_more w c j k = go (nat_eq j m) refl
       where
         go : (b : Bool) → nat_eq j m ≡ b → is_marked (set marks m true) j ≡ closes source u j
-        go true e = subst (λ i. is_marked (set marks m true) i ≡ closes source u i) (sym (eqb-true j m e)) (get_or-set_same marks m true false w ∙ sym c)
-        go false e = let ne : j ≢ m = λ s. true≢false (sym (eq-eqb j m s) ∙ e) in get_or-set_other marks m j true false ne ∙ below j (omega arith)
+        go true e = subst (λ i. is_marked (set marks m true) i ≡ closes source u i) (sym (eqb-true j m e))
+            (get_or-set_same marks m true false w ∙ sym c)
+        go false e = let ne : j ≢ m = λ s. true≢false (sym (eq-eqb j m s) ∙ e) in
+            get_or-set_other marks m j true false ne ∙ below j (omega arith)
 
   pub bounds_are : (dims : ℕ) → AllByRecursion (λ row. length row.tuple ≡ dims) source.rows → length u ≡ dims
-      → map (cell_of_number u) (filter (bounds source u) (range_with_len 0 (2 ^ value_count u))) ≡ lower_bounds nat_cmp source.rows u
+      → map (cell_of_number u) (filter (bounds source u) (range_with_len 0 (2 ^ value_count u)))
+      ≡ lower_bounds nat_cmp source.rows u
   bounds_are dims wide long =
-      map-filter (cell_of_number u) (is_lower_bound (eq_by_cmp nat_cmp) source.rows u) (range_with_len 0 (2 ^ value_count u))
+      map-filter (cell_of_number u) (is_lower_bound (eq_by_cmp nat_cmp) source.rows u)
+      (range_with_len 0 (2 ^ value_count u))
       ∙ ap (filter (is_lower_bound (eq_by_cmp nat_cmp) source.rows u)) (cells_below u)
       ∙ sym (lower_bounds-below nat_cmp_total map.nat_cmp-IsAntisymmetric dims source.rows u wide long)

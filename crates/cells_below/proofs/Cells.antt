@@ -1,6 +1,7 @@
 -- The cells of numbers are the cells below a cell, in order.
 use Rattle.std.proofs.lemmas.Nat.{pow_pos}
-use Rattle.std.proofs.Common.{◌≡◌, ℕ, suc, ◌+◌, ◌-◌, ◌*◌, ◌^◌, ◌<◌, ◌≤◌, pow-suc, Bool, true, false, Option, Some, None, [], ◌∷◌, ◌++◌, map, length, refl, sym, ap, ap₂, ◌∙◌, arith, true≢false}
+use Rattle.std.proofs.Common.{◌≡◌, ℕ, suc, ◌+◌, ◌-◌, ◌*◌, ◌^◌, ◌<◌, ◌≤◌, pow-suc, Bool, true, false, Option, Some, None, [], ◌∷◌, ◌++◌, map}
+use Rattle.std.proofs.Common.{length, refl, sym, ap, ap₂, ◌∙◌, arith, true≢false}
 use Rattle.std.specs.Prelude.{if◌then◌else◌, nat_eq}
 use Rattle.std.proofs.lemmas.Bool.{and_from}
 use Rattle.std.specs.Int.{bit_at}
@@ -9,10 +10,9 @@ use Rattle.std.proofs.lemmas.Nat.Bits.{bit_at_above, bit_at_cat_low, bit_at_cat_
 use Rattle.std.proofs.lemmas.Simd.{map-map}
 use Rattle.std.proofs.lemmas.List.{map-append}
 use Rattle.cube_defs.specs.Cell.{Cell, leq, entry_leq}
-use Rattle.cube_laws.proofs.Cells.{IsEquality}
-use Rattle.cube_laws.proofs.Lists.{map_same}
+use Rattle.cube_laws.proofs.CallerLemmas.{IsEquality, map_same}
 use Rattle.cube_laws.specs.Parts.{value_count}
-use Rattle.tree_laws.specs.Below.{below}
+use Rattle.tree_laws.specs.GeneralizingCells.{below}
 use Rattle.cells_below.specs.Numbers.{cell_of_number, has_bit}
 use Rattle.cells_below.proofs.Ranges.{range-append, range-shift, map_range}
 
@@ -26,23 +26,30 @@ values-le (None ∷ u) = let l = values-le u in omega arith
 values-le (Some v ∷ u) = let l = values-le u in omega arith
 
 low_bits : (d m k : ℕ) → k < d → has_bit (2 ^ d + m) k ≡ has_bit m k
-low_bits d m k l = let e : 2 ^ d + m ≡ 1 * 2 ^ d + m = omega arith in ap (λ b. nat_eq b 1) (ap (λ n. bit_at n k) e ∙ bit_at_cat_low 1 d m k l)
+low_bits d m k l = let e : 2 ^ d + m ≡ 1 * 2 ^ d + m = omega arith in
+    ap (λ b. nat_eq b 1) (ap (λ n. bit_at n k) e ∙ bit_at_cat_low 1 d m k l)
 
 high_bit : (d m : ℕ) → m < 2 ^ d → has_bit (2 ^ d + m) d ≡ true
 high_bit d m l =
     let e : 2 ^ d + m ≡ 1 * 2 ^ d + m = omega arith in
     let f : d - d ≡ 0 = omega arith in
-    ap (λ b. nat_eq b 1) (ap (λ n. bit_at n d) e ∙ bit_at_cat_high 1 d m d l (omega arith) ∙ ap (bit_at 1) f ∙ bit_at_lowest 1)
+    ap (λ b. nat_eq b 1) (ap (λ n. bit_at n d) e ∙ bit_at_cat_high 1 d m d l (omega arith) ∙ ap (bit_at 1) f
+    ∙ bit_at_lowest 1)
 
 no_bit : (d m : ℕ) → m < 2 ^ d → has_bit m d ≡ false
 no_bit d m l = ap (λ b. nat_eq b 1) (bit_at_above m d d l (omega arith))
 
 module _ {A : Type 0} where
   -- the bits of the values alone count
-  pub same_cell : (u : Cell A) (m n : ℕ) → ((k : ℕ) → k < value_count u → has_bit m k ≡ has_bit n k) → cell_of_number u m ≡ cell_of_number u n
+  pub same_cell : (u : Cell A) (m n : ℕ) → ((k : ℕ) → k < value_count u → has_bit m k ≡ has_bit n k)
+      → cell_of_number u m ≡ cell_of_number u n
   same_cell [] m n h = refl
-  same_cell (None ∷ u) m n h = ap₂ (λ e c. e ∷ c) (none_kept (has_bit m (value_count u)) ∙ sym (none_kept (has_bit n (value_count u)))) (same_cell u m n h)
-  same_cell (Some v ∷ u) m n h = ap₂ (λ e c. e ∷ c) (ap (λ b. if b then Some v else None) (h (value_count u) (omega arith))) (same_cell u m n (λ k l. h k (omega arith)))
+  same_cell (None ∷ u) m n h
+      = ap₂ (λ e c. e ∷ c) (none_kept (has_bit m (value_count u)) ∙ sym (none_kept (has_bit n (value_count u))))
+      (same_cell u m n h)
+  same_cell (Some v ∷ u) m n h
+      = ap₂ (λ e c. e ∷ c) (ap (λ b. if b then Some v else None) (h (value_count u) (omega arith)))
+      (same_cell u m n (λ k l. h k (omega arith)))
 
   -- all bits make the cell itself
   pub whole_cell : (u : Cell A) (m : ℕ) → m + 1 ≡ 2 ^ value_count u → cell_of_number u m ≡ u
@@ -54,37 +61,50 @@ module _ {A : Type 0} where
       let twice : m + 1 ≡ 2 ^ value_count u + 2 ^ value_count u = h ∙ omega (arith, pow-suc 2 (value_count u)) in
       let is : m ≡ 2 ^ value_count u + rest = omega (arith, one, twice) in
       let less : rest + 1 ≡ 2 ^ value_count u = omega (arith, one, twice) in
-      ap₂ (λ b c. (if b then Some v else None) ∷ c) (ap (λ n. has_bit n (value_count u)) is ∙ high_bit (value_count u) rest (omega (arith, less)))
-      (same_cell u m rest (λ k l. ap (λ n. has_bit n k) is ∙ low_bits (value_count u) rest k l) ∙ whole_cell u rest less)
+      ap₂ (λ b c. (if b then Some v else None) ∷ c) (ap (λ n. has_bit n (value_count u)) is
+      ∙ high_bit (value_count u) rest (omega (arith, less)))
+      (same_cell u m rest (λ k l. ap (λ n. has_bit n k) is ∙ low_bits (value_count u) rest k l)
+      ∙ whole_cell u rest less)
 
-  low : (v : A) (u : Cell A) → map (cell_of_number (Some v ∷ u)) (range_with_len 0 (2 ^ value_count u)) ≡ map (λ c. None ∷ c) (map (cell_of_number u) (range_with_len 0 (2 ^ value_count u)))
+  low : (v : A) (u : Cell A) → map (cell_of_number (Some v ∷ u)) (range_with_len 0 (2 ^ value_count u))
+      ≡ map (λ c. None ∷ c) (map (cell_of_number u) (range_with_len 0 (2 ^ value_count u)))
   low v u =
-      map_range (cell_of_number (Some v ∷ u)) (λ m. None ∷ cell_of_number u m) 0 (2 ^ value_count u) (λ m l k. ap (λ b. (if b then Some v else None) ∷ cell_of_number u m) (no_bit (value_count u) m (omega arith)))
+      map_range (cell_of_number (Some v ∷ u)) (λ m. None ∷ cell_of_number u m) 0 (2 ^ value_count u)
+      (λ m l k. ap (λ b. (if b then Some v else None) ∷ cell_of_number u m)
+      (no_bit (value_count u) m (omega arith)))
       ∙ sym (map-map (λ c. None ∷ c) (cell_of_number u) (range_with_len 0 (2 ^ value_count u)))
 
-  high : (v : A) (u : Cell A) → map (cell_of_number (Some v ∷ u)) (range_with_len (0 + 2 ^ value_count u) (2 ^ value_count u)) ≡ map (λ c. Some v ∷ c) (map (cell_of_number u) (range_with_len 0 (2 ^ value_count u)))
+  high : (v : A) (u : Cell A)
+      → map (cell_of_number (Some v ∷ u)) (range_with_len (0 + 2 ^ value_count u) (2 ^ value_count u))
+      ≡ map (λ c. Some v ∷ c) (map (cell_of_number u) (range_with_len 0 (2 ^ value_count u)))
   high v u =
       let e : 0 + 2 ^ value_count u ≡ 2 ^ value_count u + 0 = omega arith in
       ap (λ a. map (cell_of_number (Some v ∷ u)) (range_with_len a (2 ^ value_count u))) e
       ∙ ap (map (cell_of_number (Some v ∷ u))) (range-shift (2 ^ value_count u) 0 (2 ^ value_count u))
       ∙ map-map (cell_of_number (Some v ∷ u)) (λ m. 2 ^ value_count u + m) (range_with_len 0 (2 ^ value_count u))
-      ∙ map_range (λ m. cell_of_number (Some v ∷ u) (2 ^ value_count u + m)) (λ m. Some v ∷ cell_of_number u m) 0 (2 ^ value_count u)
-      (λ m l k. ap₂ (λ b c. (if b then Some v else None) ∷ c) (high_bit (value_count u) m (omega arith)) (same_cell u (2 ^ value_count u + m) m (λ j q. low_bits (value_count u) m j q)))
+      ∙ map_range (λ m. cell_of_number (Some v ∷ u) (2 ^ value_count u + m)) (λ m. Some v ∷ cell_of_number u m) 0
+      (2 ^ value_count u)
+      (λ m l k. ap₂ (λ b c. (if b then Some v else None) ∷ c) (high_bit (value_count u) m (omega arith))
+      (same_cell u (2 ^ value_count u + m) m (λ j q. low_bits (value_count u) m j q)))
       ∙ sym (map-map (λ c. Some v ∷ c) (cell_of_number u) (range_with_len 0 (2 ^ value_count u)))
 
   -- the cells of all numbers are the cells below, in their order
   pub cells_below : (u : Cell A) → map (cell_of_number u) (range_with_len 0 (2 ^ value_count u)) ≡ below u
   cells_below [] = refl
   cells_below (None ∷ u) =
-      map_same _ (λ m. None ∷ cell_of_number u m) (range_with_len 0 (2 ^ value_count u)) (λ m. ap (λ e. e ∷ cell_of_number u m) (none_kept (has_bit m (value_count u))))
+      map_same _ (λ m. None ∷ cell_of_number u m) (range_with_len 0 (2 ^ value_count u))
+      (λ m. ap (λ e. e ∷ cell_of_number u m) (none_kept (has_bit m (value_count u))))
       ∙ sym (map-map (λ c. None ∷ c) (cell_of_number u) (range_with_len 0 (2 ^ value_count u)))
       ∙ ap (map (λ c. None ∷ c)) (cells_below u)
   cells_below (Some v ∷ u) =
-      let twice : 2 ^ suc (value_count u) ≡ 2 ^ value_count u + 2 ^ value_count u = omega (arith, pow-suc 2 (value_count u)) in
+      let twice : 2 ^ suc (value_count u) ≡ 2 ^ value_count u + 2 ^ value_count u
+      = omega (arith, pow-suc 2 (value_count u)) in
       ap (λ n. map (cell_of_number (Some v ∷ u)) (range_with_len 0 n)) twice
       ∙ ap (map (cell_of_number (Some v ∷ u))) (range-append 0 (2 ^ value_count u) (2 ^ value_count u))
-      ∙ map-append (cell_of_number (Some v ∷ u)) (range_with_len 0 (2 ^ value_count u)) (range_with_len (0 + 2 ^ value_count u) (2 ^ value_count u))
-      ∙ ap₂ (λ xs ys. xs ++ ys) (low v u ∙ ap (map (λ c. None ∷ c)) (cells_below u)) (high v u ∙ ap (map (λ c. Some v ∷ c)) (cells_below u))
+      ∙ map-append (cell_of_number (Some v ∷ u)) (range_with_len 0 (2 ^ value_count u))
+      (range_with_len (0 + 2 ^ value_count u) (2 ^ value_count u))
+      ∙ ap₂ (λ xs ys. xs ++ ys) (low v u ∙ ap (map (λ c. None ∷ c)) (cells_below u)) (high v u
+      ∙ ap (map (λ c. Some v ∷ c)) (cells_below u))
 
 module _ {A : Type 0} {eq : A → A → Bool} (law : IsEquality eq) where
   entry_below : (b : Bool) (e : Option A) → entry_leq eq (if b then e else None) e ≡ true
@@ -97,18 +117,27 @@ module _ {A : Type 0} {eq : A → A → Bool} (law : IsEquality eq) where
   cell_below [] m = refl
   cell_below (e ∷ u) m = and_from _ _ (entry_below (has_bit m (value_count u)) e) (cell_below u m)
 
-  entry_more : (b d : Bool) (e : Option A) → (b ≡ true → d ≡ true) → entry_leq eq (if b then e else None) (if d then e else None) ≡ true
+  entry_more : (b d : Bool) (e : Option A) → (b ≡ true → d ≡ true)
+      → entry_leq eq (if b then e else None) (if d then e else None) ≡ true
   entry_more false d e h = refl
   entry_more true false e h = absurd (true≢false (sym (h refl)))
   entry_more true true None h = refl
   entry_more true true (Some v) h = law.same v
 
-  pub more_bits : (u : Cell A) (m n : ℕ) → ((k : ℕ) → has_bit m k ≡ true → has_bit n k ≡ true) → leq eq (cell_of_number u m) (cell_of_number u n) ≡ true
+  pub more_bits : (u : Cell A) (m n : ℕ) → ((k : ℕ) → has_bit m k ≡ true → has_bit n k ≡ true)
+      → leq eq (cell_of_number u m) (cell_of_number u n) ≡ true
   more_bits [] m n h = refl
-  more_bits (e ∷ u) m n h = and_from _ _ (entry_more (has_bit m (value_count u)) (has_bit n (value_count u)) e (h (value_count u))) (more_bits u m n h)
+  more_bits (e ∷ u) m n h
+      = and_from _ _ (entry_more (has_bit m (value_count u)) (has_bit n (value_count u)) e (h (value_count u)))
+      (more_bits u m n h)
 
   -- only the bits of values count
-  pub more_values : (u : Cell A) (m n : ℕ) → ((k : ℕ) → k < value_count u → has_bit m k ≡ true → has_bit n k ≡ true) → leq eq (cell_of_number u m) (cell_of_number u n) ≡ true
+  pub more_values : (u : Cell A) (m n : ℕ) → ((k : ℕ) → k < value_count u → has_bit m k ≡ true → has_bit n k ≡ true)
+      → leq eq (cell_of_number u m) (cell_of_number u n) ≡ true
   more_values [] m n h = refl
-  more_values (None ∷ u) m n h = and_from _ _ (ap₂ (entry_leq eq) (none_kept (has_bit m (value_count u))) (none_kept (has_bit n (value_count u)))) (more_values u m n h)
-  more_values (Some v ∷ u) m n h = and_from _ _ (entry_more (has_bit m (value_count u)) (has_bit n (value_count u)) (Some v) (h (value_count u) (omega arith))) (more_values u m n (λ k l. h k (omega (arith, l))))
+  more_values (None ∷ u) m n h
+      = and_from _ _ (ap₂ (entry_leq eq) (none_kept (has_bit m (value_count u)))
+      (none_kept (has_bit n (value_count u)))) (more_values u m n h)
+  more_values (Some v ∷ u) m n h
+      = and_from _ _ (entry_more (has_bit m (value_count u)) (has_bit n (value_count u)) (Some v)
+      (h (value_count u) (omega arith))) (more_values u m n (λ k l. h k (omega (arith, l))))

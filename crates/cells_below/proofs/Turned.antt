@@ -1,5 +1,6 @@
 -- A number with one bit the other way.
-use Rattle.std.proofs.Common.{◌≡◌, ◌≢◌, ℕ, zero, suc, ◌+◌, ◌%◌, ◌^◌, ◌<◌, ◌≤◌, max, Bool, true, false, not, nat_eq, eqb-true, eq-eqb, refl, sym, ap, ◌∙◌, subst, arith, true≢false}
+use Rattle.std.proofs.Common.{◌≡◌, ◌≢◌, ℕ, zero, suc, ◌+◌, ◌%◌, ◌^◌, ◌<◌, ◌≤◌, max, Bool, true, false, not, nat_eq, eqb-true, eq-eqb, refl}
+use Rattle.std.proofs.Common.{sym, ap, ◌∙◌, subst, arith, true≢false}
 use Rattle.std.specs.Int.{bit_at}
 use Rattle.std.specs.Int.Bits.{bit_xor, xor_assoc, xor_self, xor_zero_r}
 use Rattle.std.specs.Int.RustNames.{bit_or}
@@ -19,10 +20,13 @@ flips (suc zero) h = refl
 flips (suc (suc b)) h = absurd (omega arith)
 
 pub turned_other : (m k j : ℕ) → j ≢ k → has_bit (turned m k) j ≡ has_bit m j
-turned_other m k j ne = ap (λ b. nat_eq b 1) (bit_at_xor m (2 ^ k) j ∙ ap (λ b. (bit_at m j + b) % 2) (bit_at-pow_other k j ne) ∙ stays (bit_at m j) (bit_at-lt m j))
+turned_other m k j ne =
+    ap (λ b. nat_eq b 1) (bit_at_xor m (2 ^ k) j ∙ ap (λ b. (bit_at m j + b) % 2) (bit_at-pow_other k j ne)
+    ∙ stays (bit_at m j) (bit_at-lt m j))
 
 pub turned_same : (m k : ℕ) → has_bit (turned m k) k ≡ not (has_bit m k)
-turned_same m k = ap (λ b. nat_eq b 1) (bit_at_xor m (2 ^ k) k ∙ ap (λ b. (bit_at m k + b) % 2) (bit_at-pow_same k)) ∙ flips (bit_at m k) (bit_at-lt m k)
+turned_same m k = ap (λ b. nat_eq b 1) (bit_at_xor m (2 ^ k) k ∙ ap (λ b. (bit_at m k + b) % 2) (bit_at-pow_same k))
+    ∙ flips (bit_at m k) (bit_at-lt m k)
 
 pub turned-lt : (d m k : ℕ) → m < 2 ^ d → k < d → turned m k < 2 ^ d
 turned-lt d m k h l = xor_lt d m (2 ^ k) h (pow-lt l)
@@ -39,19 +43,23 @@ kept_of (suc (suc b)) h = absurd (omega arith)
 
 -- where the number lacks the bit, it is put in
 turned_is_or : (m k : ℕ) → has_bit m k ≡ false → turned m k ≡ bit_or m (2 ^ k)
-turned_is_or m k e = same_from_bits _ _ (λ i. bit_at_xor m (2 ^ k) i ∙ go i (nat_eq i k) refl ∙ sym (bit_at_or m (2 ^ k) i))
+turned_is_or m k e = same_from_bits _ _ (λ i. bit_at_xor m (2 ^ k) i ∙ go i (nat_eq i k) refl
+    ∙ sym (bit_at_or m (2 ^ k) i))
   where
     none : bit_at m k ≡ 0
     none = zero_of (bit_at m k) (bit_at-lt m k) e
 
     at_k : (bit_at m k + bit_at (2 ^ k) k) % 2 ≡ max (bit_at m k) (bit_at (2 ^ k) k)
-    at_k = ap (λ b. (bit_at m k + b) % 2) (bit_at-pow_same k) ∙ ap (λ b. (b + 1) % 2) none ∙ sym (ap (λ b. max (bit_at m k) b) (bit_at-pow_same k) ∙ ap (λ b. max b 1) none)
+    at_k = ap (λ b. (bit_at m k + b) % 2) (bit_at-pow_same k) ∙ ap (λ b. (b + 1) % 2) none
+        ∙ sym (ap (λ b. max (bit_at m k) b) (bit_at-pow_same k) ∙ ap (λ b. max b 1) none)
 
     go : (i : ℕ) (t : Bool) → nat_eq i k ≡ t → (bit_at m i + bit_at (2 ^ k) i) % 2 ≡ max (bit_at m i) (bit_at (2 ^ k) i)
-    go i true q = subst (λ j. (bit_at m j + bit_at (2 ^ k) j) % 2 ≡ max (bit_at m j) (bit_at (2 ^ k) j)) (sym (eqb-true i k q)) at_k
+    go i true q = subst (λ j. (bit_at m j + bit_at (2 ^ k) j) % 2 ≡ max (bit_at m j) (bit_at (2 ^ k) j))
+        (sym (eqb-true i k q)) at_k
     go i false q =
         let ne : i ≢ k = λ s. true≢false (sym (eq-eqb i k s) ∙ q) in
-        ap (λ b. (bit_at m i + b) % 2) (bit_at-pow_other k i ne) ∙ kept_of (bit_at m i) (bit_at-lt m i) ∙ sym (ap (λ b. max (bit_at m i) b) (bit_at-pow_other k i ne))
+        ap (λ b. (bit_at m i + b) % 2) (bit_at-pow_other k i ne) ∙ kept_of (bit_at m i) (bit_at-lt m i)
+        ∙ sym (ap (λ b. max (bit_at m i) b) (bit_at-pow_other k i ne))
 
 -- a bit more makes a greater number
 turned_above : (m k : ℕ) → has_bit m k ≡ false → m < turned m k
@@ -65,4 +73,5 @@ turned_back m k = xor_assoc m (2 ^ k) (2 ^ k) ∙ ap (bit_xor m) (xor_self (2 ^ 
 
 -- a bit less makes a smaller number
 pub turned_below : (m k : ℕ) → has_bit m k ≡ true → turned m k < m
-turned_below m k e = subst (λ n. turned m k < n) (turned_back m k) (turned_above (turned m k) k (turned_same m k ∙ ap not e))
+turned_below m k e = subst (λ n. turned m k < n) (turned_back m k)
+    (turned_above (turned m k) k (turned_same m k ∙ ap not e))

@@ -20,8 +20,8 @@ abbrev pub bounds : TreeRows → Cell ℕ → ℕ → Bool
 bounds source u m = is_lower_bound (eq_by_cmp nat_cmp) source.rows u (cell_of_number u m)
 
 -- of the numbers below n, just those are marked whose cells have the closure u
-abbrev pub IsMarkedBelow : TreeRows → Cell ℕ → List Bool → ℕ → Type 0
-IsMarkedBelow source u marks n = (m : ℕ) → m < n → is_marked marks m ≡ closes source u m
+abbrev pub IsMarkedBefore : TreeRows → Cell ℕ → List Bool → ℕ → Type 0
+IsMarkedBefore source u marks n = (m : ℕ) → m < n → is_marked marks m ≡ closes source u m
 
 -- no number that lacks one of the bits has a cell with the closure u
 abbrev pub AreNeeded : TreeRows → Cell ℕ → ℕ → Type 0

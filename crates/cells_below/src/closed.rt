@@ -1,16 +1,16 @@
 // Tests whether a cell that generalizes a class is a lower bound of it.
 ghost use Rattle.std.specs.Prelude.{IsTrue, false, length, ℕ, ◌*◌, ◌+◌, ◌<◌, ◌^◌, ◌≡◌, ◌≤◌};
 ghost use Rattle.tree_search.specs.Found.{IsTreeOf, TreeRows};
-ghost use Rattle.cells_below.specs.Closed.{AreNeeded, IsMarkedBelow, bounds, closes, has_closure_in};
+ghost use Rattle.cells_below.specs.Closed.{AreNeeded, IsMarkedBefore, bounds, closes, has_closure_in};
 ghost use Rattle.cells_below.specs.Marks.{is_marked};
 ghost use Rattle.cells_below.specs.Numbers.{cell_of_number};
 ghost use Rattle.cells_below.specs.Upper.{IsCellOfNode, IsUpperBound};
 
 use crate::marks::Marks;
-use crate::numbers::put_cell;
-use crate::pruned::least;
+use crate::numbers::write_cell;
+use crate::pruned::is_minimal;
 use crate::upper::UpperBound;
-use crate::without::lacks;
+use crate::without::lacks_needed_bit;
 use cell_core::{Cell, Steps};
 use qc_arena::Nodes;
 use std::sync::ledger::Ledger;
@@ -49,13 +49,13 @@ pub(crate) fn closes_at<T: Nodes, L: Ledger>(
     ensures dims { length cell.new ≡ length upper.now.cell.now }
     ensures steps { steps.new ≤ steps.old + (2 * length upper.now.cell.now + 2) }
 {
-    put_cell(upper.cell, m, cell);
+    write_cell(upper.cell, m, cell);
     leads_to(upper, cell, steps)
 }
 
 // The same for a number of as many bits as there are values. The cell of the largest is the upper
 // bound itself.
-fn closes_below<T: Nodes, L: Ledger>(
+fn closes_for_number<T: Nodes, L: Ledger>(
     upper: &UpperBound<T>,
     m: u32,
     cell: &mut Cell,
@@ -73,7 +73,7 @@ fn closes_below<T: Nodes, L: Ledger>(
     ensures steps { steps.new ≤ steps.old + (2 * length upper.now.cell.now + 2) }
 {
     if m + 1 == 1 << upper.values {
-        put_cell(upper.cell, m, cell);
+        write_cell(upper.cell, m, cell);
         return true;
     }
     closes_at(upper, m, cell, steps)
@@ -101,7 +101,7 @@ pub fn bounds_at<T: Nodes, L: Ledger>(
     requires room { 2 ^ upper.now.values ≤ length marks.old }
     requires below { (source : TreeRows) →
         IsTreeOf (T.width upper.now.tree.now) (T.tree upper.now.tree.now) source →
-        IsMarkedBelow source upper.now.cell.now marks.old m }
+        IsMarkedBefore source upper.now.cell.now marks.old m }
     requires above { (j : ℕ) → m ≤ j → is_marked marks.old j ≡ false }
     ensures value { (source : TreeRows) →
         IsTreeOf (T.width upper.now.tree.now) (T.tree upper.now.tree.now) source →
@@ -111,18 +111,18 @@ pub fn bounds_at<T: Nodes, L: Ledger>(
     ensures room { length marks.new ≡ length marks.old }
     ensures below { (source : TreeRows) →
         IsTreeOf (T.width upper.now.tree.now) (T.tree upper.now.tree.now) source →
-        IsMarkedBelow source upper.now.cell.now marks.new (m + 1) }
+        IsMarkedBefore source upper.now.cell.now marks.new (m + 1) }
     ensures above { (j : ℕ) → m + 1 ≤ j → is_marked marks.new j ≡ false }
     ensures steps { steps.new ≤ steps.old + (2 * length upper.now.cell.now + 2) }
 {
-    if lacks(m, needed, upper.values) {
+    if lacks_needed_bit(m, needed, upper.values) {
         return false;
     }
-    if !least(marks, upper.values, m) {
+    if !is_minimal(marks, upper.values, m) {
         marks.set(m);
         return false;
     }
-    if !closes_below(upper, m, cell, steps) {
+    if !closes_for_number(upper, m, cell, steps) {
         return false;
     }
     marks.set(m);

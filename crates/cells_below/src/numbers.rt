@@ -8,7 +8,7 @@ use cell_core::{Cell, Entry};
 use cube_defs::MAX_DIMS;
 
 /// Whether bit k of a number is set.
-pub fn has(m: u32, k: u32) -> bool
+pub fn is_bit_set(m: u32, k: u32) -> bool
     requires { k < 32 }
     ensures { result ≡ has_bit m k }
 {
@@ -16,7 +16,7 @@ pub fn has(m: u32, k: u32) -> bool
 }
 
 /// The number with bit k flipped.
-pub fn turn(m: u32, k: u32) -> u32
+pub fn flip_bit(m: u32, k: u32) -> u32
     requires { k < 32 }
     ensures { result ≡ turned m k }
 {
@@ -38,17 +38,17 @@ pub fn count_values(u: &Cell) -> u32
 }
 
 // The entry if bit k of the number is set, else Any.
-fn kept(entry: Entry, m: u32, k: u32) -> Entry
+fn entry_if_bit(entry: Entry, m: u32, k: u32) -> Entry
     requires bit { k < 32 }
     requires small { IsSmall entry }
     ensures value { value_in result ≡ (if has_bit m k then value_in entry else None) }
     ensures small { IsSmall result }
 {
-    if has(m, k) { entry } else { Entry::Any }
+    if is_bit_set(m, k) { entry } else { Entry::Any }
 }
 
 /// Writes the cell of a number, which generalizes u, over `out`.
-pub fn put_cell(u: &Cell, m: u32, out: &mut Cell)
+pub fn write_cell(u: &Cell, m: u32, out: &mut Cell)
     requires { length out.old ≡ length u.now }
     ensures value { out.new ≡ cell_of_number u.now m }
     ensures dims { length out.new ≡ length u.now }
@@ -56,7 +56,7 @@ pub fn put_cell(u: &Cell, m: u32, out: &mut Cell)
     let mut k = 0;
     'dims: for dim in (0..u.dims()).rev() {
         let entry = u.get(dim);
-        out.set(dim, kept(entry, m, k));
+        out.set(dim, entry_if_bit(entry, m, k));
         if entry != Entry::Any {
             k += 1;
         }

@@ -6,7 +6,7 @@ ghost use Rattle.cells_below.specs.Numbers.{Lacks, turned};
 ghost use Rattle.cells_below.specs.Upper.{IsCellOfNode};
 
 use crate::closed::closes_at;
-use crate::numbers::{has, turn};
+use crate::numbers::{flip_bit, is_bit_set};
 use crate::upper::UpperBound;
 use cell_core::{Cell, Steps};
 use cube_defs::MAX_DIMS;
@@ -14,11 +14,11 @@ use qc_arena::Nodes;
 use std::sync::ledger::Ledger;
 
 // The needed bits, with bit k added if the cell without its value has another closure.
-fn noted(needed: u32, k: u32, closes: bool) -> u32
+fn with_needed_bit(needed: u32, k: u32, closes: bool) -> u32
     requires { k < 32 }
     ensures { result ≡ (if closes then needed else turned needed k) }
 {
-    if closes { needed } else { turn(needed, k) }
+    if closes { needed } else { flip_bit(needed, k) }
 }
 
 /// The bits of the values that each cell of the class has. A value is needed if the upper bound
@@ -40,19 +40,19 @@ pub fn needed<T: Nodes, L: Ledger>(
 {
     let mut needed = 0;
     'bits: for k in 0..upper.values {
-        let closes = closes_at(upper, turn(u32::MAX, k), cell, steps);
-        needed = noted(needed, k, closes);
+        let closes = closes_at(upper, flip_bit(u32::MAX, k), cell, steps);
+        needed = with_needed_bit(needed, k, closes);
     }
     needed
 }
 
 /// Whether one of the needed bits is missing in a number. Only the first d bits count.
-pub fn lacks(m: u32, needed: u32, d: u32) -> bool
+pub fn lacks_needed_bit(m: u32, needed: u32, d: u32) -> bool
     requires { d ≤ MAX_DIMS }
     ensures { result ≡ true → Lacks needed m }
 {
     'bits: for k in 0..d {
-        if has(needed, k) && !has(m, k) {
+        if is_bit_set(needed, k) && !is_bit_set(m, k) {
             return true;
         }
     }

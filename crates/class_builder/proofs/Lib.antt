@@ -1,4 +1,4 @@
-mod Fronts
+mod Prefixes
 mod Uppers
 mod Adding
 mod Building

@@ -1,3 +1,3 @@
 pub mod Walk
-pub mod Noted
+pub mod PrefixNodes
 pub mod Stands

@@ -5,19 +5,20 @@ use Rattle.base_table.specs.Places.{Places, rows_of}
 use Rattle.build_trace.specs.Trace.{Act}
 use Rattle.build_acts.specs.Building.{PerformsActs, ActsComeNext}
 use Rattle.qc_arena.specs.Map.{Arena}
-use Rattle.class_builder.specs.Noted.{AreNoted}
+use Rattle.class_builder.specs.PrefixNodes.{ArePrefixNodes}
 use Rattle.class_builder.specs.Walk.{IsOnPath}
-use Rattle.class_builder.specs.declared.noted.Fronts.{Fronts}
+use Rattle.class_builder.specs.declared.prefix_nodes.PrefixNodes.{PrefixNodes}
 use Rattle.class_builder.specs.declared.path.Path.{Path}
 
 -- these acts come next, and the walk is at u's front with k dimensions
-pub record StandsAt (t : Places) (u : Cell ℕ) (k : ℕ) (es : List Act) (a : Arena) (p : Path) (f : Fronts) : Type 0 where
+pub record StandsAt (t : Places) (u : Cell ℕ) (k : ℕ) (es : List Act) (a : Arena) (p : Path)
+    (f : PrefixNodes) : Type 0 where
   pub width : a.width ≡ t.dims
   pub next : ActsComeNext t.measures (rows_of t) es a
   pub path : IsOnPath a p u k
-  pub fronts : AreNoted t a f
+  pub fronts : ArePrefixNodes t a f
 
 -- these acts are done from the one arena to the other
-pub record HasDone (t : Places) (es : List Act) (a b : Arena) (f : Fronts) : Type 0 where
+pub record HasDone (t : Places) (es : List Act) (a b : Arena) (f : PrefixNodes) : Type 0 where
   pub does : PerformsActs t.measures (rows_of t) es a b
-  pub fronts : AreNoted t b f
+  pub fronts : ArePrefixNodes t b f

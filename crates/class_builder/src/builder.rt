@@ -1,8 +1,8 @@
 // The state of the walk.
 ghost use Rattle.std.specs.Prelude.{◌≡◌};
 
-use crate::noted::Fronts;
 use crate::pool::PartsPool;
+use crate::prefix_nodes::PrefixNodes;
 use cell_core::Steps;
 use qc_arena::QcArena;
 use std::sync::ledger::Ledger;
@@ -11,7 +11,7 @@ use std::sync::ledger::Ledger;
 /// parts, and the steps so far.
 pub(crate) struct Builder<'a, L: Ledger> {
     pub(crate) arena: &'a mut QcArena,
-    pub(crate) fronts: &'a mut Fronts,
+    pub(crate) fronts: &'a mut PrefixNodes,
     pub(crate) room: &'a mut PartsPool,
     pub(crate) steps: &'a mut Steps<L>,
 }

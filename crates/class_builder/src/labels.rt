@@ -2,23 +2,23 @@
 ghost use Rattle.cell_core.specs.Entry.{IsCode};
 ghost use Rattle.std.specs.Ordering.{nat_cmp};
 ghost use Rattle.std.specs.Prelude.{Err, IfSome, None, OnOk, Some, [], false, length, slice_index_or, suc, true, ◌+◌, ◌<◌, ◌∷◌, ◌≡◌};
-ghost use Rattle.cube_defs.specs.Cell.{cell_front};
+ghost use Rattle.cube_defs.specs.Cell.{cell_prefix};
 ghost use Rattle.cube_defs.specs.Tree.{cell_at, nodes};
 ghost use Rattle.base_table.specs.Places.{named, rows_of};
 ghost use Rattle.cube_laws.specs.Parting.{shared_by};
 ghost use Rattle.build_trace.specs.Trace.{Act.{Label}};
-ghost use Rattle.build_trace.specs.Walk.{same_front};
+ghost use Rattle.build_trace.specs.Walk.{same_prefix};
 ghost use Rattle.qc_arena.specs.Map.{Arena, frame};
-ghost use Rattle.class_builder.specs.Walk.{IsGroup, IsOnPath, IsPart, front_acts};
-ghost use Rattle.class_builder.specs.Noted.{AreNoted};
+ghost use Rattle.class_builder.specs.Walk.{IsGroup, IsOnPath, IsPart, prefix_acts};
+ghost use Rattle.class_builder.specs.PrefixNodes.{ArePrefixNodes};
 ghost use Rattle.class_builder.specs.Stands.{HasDone, StandsAt};
 
 use crate::Memory;
 use crate::builder::Builder;
-use crate::noted::Fronts;
-use crate::part::{ChildEdge, Group, Part};
+use crate::part::{ChildEdge, Group, Partition};
 use crate::path::Path;
-use crate::upper::front_of;
+use crate::prefix_nodes::PrefixNodes;
+use crate::upper::shared_prefix;
 use build_acts::{add_child, set_link};
 use cell_core::NodeNo;
 use drill_links::descend;
@@ -27,9 +27,9 @@ use std::sync::ledger::Ledger;
 
 /// Adds the node of the prefix through dimension `dim` of what the rows share. All rows have the
 /// edge's code there. Its parent is the node before it on the path, and the path goes on to it.
-pub(crate) fn add_front<L: Ledger>(
+pub(crate) fn add_prefix_node<L: Ledger>(
     builder: &mut Builder<'_, L>,
-    part: &Part<'_>,
+    part: &Partition<'_>,
     dim: u8,
     edge: ChildEdge,
     path: &mut Path,
@@ -38,12 +38,15 @@ pub(crate) fn add_front<L: Ledger>(
     requires dim { dim < part.now.table.now.dims }
     requires value { slice_index_or part.now.shared dim None ≡ Some edge.code }
     requires small { IsCode edge.code }
-    requires stands { StandsAt part.now.table.now part.now.shared dim (front_acts edge.is_forced part.now.shared dim edge.code)
+    requires stands { StandsAt part.now.table.now part.now.shared dim
+        (prefix_acts edge.is_forced part.now.shared dim edge.code)
         builder.old.arena.now path.old builder.old.fronts.now }
-    ensures done { OnOk result (HasDone part.now.table.now (front_acts edge.is_forced part.now.shared dim edge.code)
+    ensures done { OnOk result
+        (HasDone part.now.table.now (prefix_acts edge.is_forced part.now.shared dim edge.code)
         builder.old.arena.now builder.new.arena.now builder.new.fronts.now) }
     ensures path { OnOk result (IsOnPath builder.new.arena.now path.new part.now.shared (dim + 1)) }
-    ensures full { result ≡ Err ArenaRefused.Full → builder.old.arena.now.max < length (nodes nat_cmp (rows_of part.now.table.now)) }
+    ensures full { result ≡ Err ArenaRefused.Full
+        → builder.old.arena.now.max < length (nodes nat_cmp (rows_of part.now.table.now)) }
     ensures frame { frame builder.new.arena.now ≡ frame builder.old.arena.now }
     ensures same { builder.new.arena.ghost_name ≡ builder.old.arena.ghost_name }
 {
@@ -66,10 +69,14 @@ pub(crate) fn add_front<L: Ledger>(
 
 /// The node of the prefix through `dim` of a group's only row, if it is stored. None if the group
 /// has more rows.
-fn lone_front(fronts: &Fronts, group: &Group<'_>, dim: u8) -> Option<NodeNo>
-    requires group { IsGroup group.now.table.now group.now.rows.now group.now.code group.now.upper.now dim }
-    ensures { IfSome result (λ node. (arena : Arena) → AreNoted group.now.table.now arena fronts.now →
-        cell_at arena.now node.0 ≡ Some (cell_front (suc dim) (shared_by (named group.now.table.now group.now.rows.now)))) }
+fn prefix_node_of_row(fronts: &PrefixNodes, group: &Group<'_>, dim: u8) -> Option<NodeNo>
+    requires group { IsGroup group.now.table.now group.now.rows.now group.now.code
+        group.now.upper.now dim }
+    ensures { IfSome result (λ node. (arena : Arena)
+        → ArePrefixNodes group.now.table.now arena fronts.now →
+        cell_at arena.now node.0
+        ≡ Some (cell_prefix (suc dim)
+        (shared_by (named group.now.table.now group.now.rows.now)))) }
 {
     if group.rows.len() != 1 {
         return None;
@@ -80,30 +87,34 @@ fn lone_front(fronts: &Fronts, group: &Group<'_>, dim: u8) -> Option<NodeNo>
 /// The node of the prefix through `dim` of what a group's rows share. They share a value in
 /// dimension `at`, where `upper` has Any. So the node exists already: it is stored, or found by a
 /// descent from the path.
-fn shared_front<L: Ledger>(
+fn shared_prefix_node<L: Ledger>(
     builder: &mut Builder<'_, L>,
     group: &Group<'_>,
     at: u8,
     dim: u8,
     path: &Path,
 ) -> NodeNo
-    requires group { IsGroup group.now.table.now group.now.rows.now group.now.code group.now.upper.now dim }
+    requires group { IsGroup group.now.table.now group.now.rows.now group.now.code
+        group.now.upper.now dim }
     requires at { at < dim }
-    requires front { same_front at (shared_by (named group.now.table.now group.now.rows.now)) group.now.upper.now ≡ true }
-    requires gains { same_front (suc at) (shared_by (named group.now.table.now group.now.rows.now)) group.now.upper.now ≡ false }
+    requires front { same_prefix at (shared_by (named group.now.table.now group.now.rows.now))
+        group.now.upper.now ≡ true }
+    requires gains { same_prefix (suc at) (shared_by (named group.now.table.now group.now.rows.now))
+        group.now.upper.now ≡ false }
     requires stands { StandsAt group.now.table.now group.now.upper.now dim
-        (Label false (cell_front dim group.now.upper.now) dim group.now.code
-        (cell_front (suc dim) (shared_by (named group.now.table.now group.now.rows.now))) ∷ [])
+        (Label false (cell_prefix dim group.now.upper.now) dim group.now.code
+        (cell_prefix (suc dim) (shared_by (named group.now.table.now group.now.rows.now))) ∷ [])
         builder.old.arena.now path.now builder.old.fronts.now }
-    ensures node { cell_at builder.old.arena.now.now result.0 ≡ Some (cell_front (suc dim) (shared_by (named group.now.table.now group.now.rows.now))) }
+    ensures node { cell_at builder.old.arena.now.now result.0
+        ≡ Some (cell_prefix (suc dim) (shared_by (named group.now.table.now group.now.rows.now))) }
     ensures arena { builder.new.arena.now ≡ builder.old.arena.now }
     ensures fronts { builder.new.fronts.now ≡ builder.old.fronts.now }
     ensures same { builder.new.arena.ghost_name ≡ builder.old.arena.ghost_name }
 {
-    if let Some(node) = lone_front(builder.fronts, group, dim) {
+    if let Some(node) = prefix_node_of_row(builder.fronts, group, dim) {
         return node;
     }
-    let target = front_of(group.table, group.rows, group.upper, at, dim);
+    let target = shared_prefix(group.table, group.rows, group.upper, at, dim);
     match builder.fronts.find(group.rows[0], &target, dim) {
         Some(node) => node,
         None => descend(builder.arena, path.at(at), &target, at, dim, builder.steps),
@@ -119,22 +130,25 @@ pub(crate) fn link_part<L: Ledger>(
     dim: u8,
     path: &Path,
 ) -> Result<(), Memory>
-    requires group { IsGroup group.now.table.now group.now.rows.now group.now.code group.now.upper.now dim }
+    requires group { IsGroup group.now.table.now group.now.rows.now group.now.code
+        group.now.upper.now dim }
     requires at { at < dim }
-    requires front { same_front at (shared_by (named group.now.table.now group.now.rows.now)) group.now.upper.now ≡ true }
-    requires gains { same_front (suc at) (shared_by (named group.now.table.now group.now.rows.now)) group.now.upper.now ≡ false }
+    requires front { same_prefix at (shared_by (named group.now.table.now group.now.rows.now))
+        group.now.upper.now ≡ true }
+    requires gains { same_prefix (suc at) (shared_by (named group.now.table.now group.now.rows.now))
+        group.now.upper.now ≡ false }
     requires stands { StandsAt group.now.table.now group.now.upper.now dim
-        (Label false (cell_front dim group.now.upper.now) dim group.now.code
-        (cell_front (suc dim) (shared_by (named group.now.table.now group.now.rows.now))) ∷ [])
+        (Label false (cell_prefix dim group.now.upper.now) dim group.now.code
+        (cell_prefix (suc dim) (shared_by (named group.now.table.now group.now.rows.now))) ∷ [])
         builder.old.arena.now path.now builder.old.fronts.now }
     ensures done { OnOk result (HasDone group.now.table.now
-        (Label false (cell_front dim group.now.upper.now) dim group.now.code
-        (cell_front (suc dim) (shared_by (named group.now.table.now group.now.rows.now))) ∷ [])
+        (Label false (cell_prefix dim group.now.upper.now) dim group.now.code
+        (cell_prefix (suc dim) (shared_by (named group.now.table.now group.now.rows.now))) ∷ [])
         builder.old.arena.now builder.new.arena.now builder.new.fronts.now) }
     ensures frame { frame builder.new.arena.now ≡ frame builder.old.arena.now }
     ensures same { builder.new.arena.ghost_name ≡ builder.old.arena.ghost_name }
 {
-    let to = shared_front(builder, group, at, dim, path);
+    let to = shared_prefix_node(builder, group, at, dim, path);
     set_link(
         builder.arena,
         path.at(dim),

@@ -3,10 +3,10 @@
 
 mod builder;
 mod labels;
-mod noted;
 mod part;
 mod path;
 mod pool;
+mod prefix_nodes;
 mod total;
 mod tree;
 mod upper;

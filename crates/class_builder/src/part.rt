@@ -4,7 +4,7 @@ use cell_core::{Cell, Code};
 
 /// Rows of a table, and the values that they share.
 #[derive(Drop)]
-pub(crate) struct Part<'a> {
+pub(crate) struct Partition<'a> {
     pub(crate) table: &'a Table,
     pub(crate) rows: &'a [RowNo],
     pub(crate) shared: Cell,

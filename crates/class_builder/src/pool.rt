@@ -33,7 +33,7 @@ impl PartsPool {
             Some(parts) => parts,
             None => Parts::new(self.alloc),
         };
-        parts.part_into(table, rows, dim)?;
+        parts.regroup(table, rows, dim)?;
         Ok(parts)
     }
 

@@ -6,13 +6,13 @@ ghost use Rattle.cube_defs.specs.Tree.{IsCanonical, nodes};
 ghost use Rattle.base_table.specs.Places.{named, rows_of};
 ghost use Rattle.qc_arena.specs.Map.{frame, is_open};
 ghost use Rattle.class_builder.specs.Walk.{IsPart};
-ghost use Rattle.class_builder.specs.Noted.{AreNoted};
+ghost use Rattle.class_builder.specs.PrefixNodes.{ArePrefixNodes};
 
 use crate::builder::Builder;
-use crate::noted::Fronts;
-use crate::part::Part;
+use crate::part::Partition;
 use crate::path::Path;
 use crate::pool::PartsPool;
+use crate::prefix_nodes::PrefixNodes;
 use crate::walk::drill;
 use base_table::Table;
 use build_acts::add_root;
@@ -33,9 +33,11 @@ pub fn build_classes<L: Ledger>(
     requires opened { is_open arena.old ≡ true }
     requires empty { arena.old.now ≡ map.empty }
     requires width { arena.old.width ≡ table.now.dims }
-    ensures tree { OnOk result (IsCanonical nat_cmp table.now.measures (rows_of table.now) arena.new.now) }
+    ensures tree { OnOk result
+        (IsCanonical nat_cmp table.now.measures (rows_of table.now) arena.new.now) }
     ensures fits { OnOk result (length (nodes nat_cmp (rows_of table.now)) ≤ arena.old.max) }
-    ensures full { result ≡ Err ArenaRefused.Full → arena.old.max < length (nodes nat_cmp (rows_of table.now)) }
+    ensures full { result ≡ Err ArenaRefused.Full
+        → arena.old.max < length (nodes nat_cmp (rows_of table.now)) }
     ensures frame { frame arena.new ≡ frame arena.old }
 {
     if table.count() == 0 {
@@ -44,12 +46,12 @@ pub fn build_classes<L: Ledger>(
     let Ok(rows) = table.all(alloc) else {
         return Err(ArenaRefused::Memory);
     };
-    let part = Part {
+    let part = Partition {
         table,
         rows: &rows,
         shared: closure_of(table, &rows),
     };
-    let Ok(mut fronts) = Fronts::new(alloc, table) else {
+    let Ok(mut fronts) = PrefixNodes::new(alloc, table) else {
         return Err(ArenaRefused::Memory);
     };
     let mut room = PartsPool::new(alloc);
@@ -63,16 +65,24 @@ pub fn build_classes<L: Ledger>(
 }
 
 /// Builds the tree: first the root, then its descendants. The part has all rows of the table.
-fn build_all<L: Ledger>(builder: &mut Builder<'_, L>, part: &Part<'_>) -> Result<(), ArenaRefused>
+fn build_all<L: Ledger>(
+    builder: &mut Builder<'_, L>,
+    part: &Partition<'_>,
+) -> Result<(), ArenaRefused>
     requires part { IsPart part.now.table.now part.now.rows.now part.now.shared }
     requires all { named part.now.table.now part.now.rows.now ≡ rows_of part.now.table.now }
     requires opened { is_open builder.old.arena.now ≡ true }
     requires empty { builder.old.arena.now.now ≡ map.empty }
     requires width { builder.old.arena.now.width ≡ part.now.table.now.dims }
-    requires fronts { AreNoted part.now.table.now builder.old.arena.now builder.old.fronts.now }
-    ensures tree { OnOk result (IsCanonical nat_cmp part.now.table.now.measures (rows_of part.now.table.now) builder.new.arena.now.now) }
-    ensures fits { OnOk result (length (nodes nat_cmp (rows_of part.now.table.now)) ≤ builder.old.arena.now.max) }
-    ensures full { result ≡ Err ArenaRefused.Full → builder.old.arena.now.max < length (nodes nat_cmp (rows_of part.now.table.now)) }
+    requires fronts { ArePrefixNodes part.now.table.now builder.old.arena.now
+        builder.old.fronts.now }
+    ensures tree { OnOk result
+        (IsCanonical nat_cmp part.now.table.now.measures
+        (rows_of part.now.table.now) builder.new.arena.now.now) }
+    ensures fits { OnOk result
+        (length (nodes nat_cmp (rows_of part.now.table.now)) ≤ builder.old.arena.now.max) }
+    ensures full { result ≡ Err ArenaRefused.Full
+        → builder.old.arena.now.max < length (nodes nat_cmp (rows_of part.now.table.now)) }
     ensures frame { frame builder.new.arena.now ≡ frame builder.old.arena.now }
     ensures same { builder.new.arena.ghost_name ≡ builder.old.arena.ghost_name }
 {

@@ -1,11 +1,11 @@
 // The values that the rows of a part share.
 ghost use Rattle.std.specs.Prelude.{IfNone, IfSome, None, false, is_some, length, slice_index_or, suc, true, ◌<◌, ◌≡◌, ◌≤◌};
-ghost use Rattle.cube_defs.specs.Cell.{cell_front};
+ghost use Rattle.cube_defs.specs.Cell.{cell_prefix};
 ghost use Rattle.cell_core.specs.Entry.{IsSmall, value_in};
 ghost use Rattle.base_table.specs.Places.{AreThere, IsTable, named};
 ghost use Rattle.cube_laws.specs.Parting.{shared_by};
-ghost use Rattle.build_trace.specs.Walk.{same_front};
-ghost use Rattle.class_builder.specs.Walk.{AreUnder};
+ghost use Rattle.build_trace.specs.Walk.{same_prefix};
+ghost use Rattle.class_builder.specs.Walk.{AreCoveredRows};
 
 use base_table::{RowNo, Table};
 use cell_closure::shared_entry;
@@ -13,9 +13,10 @@ use cell_core::{Cell, Entry};
 
 /// The value that the rows share in the dimension, or Any. `upper` covers all of them.
 fn entry_of(table: &Table, rows: &[RowNo], upper: &Cell, dim: u8) -> Entry
-    requires under { AreUnder table.now rows.now upper.now }
+    requires under { AreCoveredRows table.now rows.now upper.now }
     requires dim { dim < table.now.dims }
-    ensures value { value_in result ≡ slice_index_or (shared_by (named table.now rows.now)) dim None }
+    ensures value { value_in result ≡ slice_index_or
+        (shared_by (named table.now rows.now)) dim None }
     ensures small { IsSmall result }
 {
     match upper.get(dim) {
@@ -44,12 +45,14 @@ fn is_shared(table: &Table, rows: &[RowNo], dim: u8) -> bool
 
 /// Whether the rows share a value in the dimension, and `upper`, which covers them, has Any there.
 fn gains(table: &Table, rows: &[RowNo], upper: &Cell, dim: u8) -> bool
-    requires under { AreUnder table.now rows.now upper.now }
+    requires under { AreCoveredRows table.now rows.now upper.now }
     requires dim { dim < table.now.dims }
     ensures same { result ≡ false →
-        slice_index_or (shared_by (named table.now rows.now)) dim None ≡ slice_index_or upper.now dim None }
+        slice_index_or (shared_by (named table.now rows.now)) dim None
+        ≡ slice_index_or upper.now dim None }
     ensures other { result ≡ true →
-        slice_index_or (shared_by (named table.now rows.now)) dim None ≡ slice_index_or upper.now dim None → ⊥ }
+        slice_index_or (shared_by (named table.now rows.now)) dim None
+        ≡ slice_index_or upper.now dim None → ⊥ }
 {
     match upper.get(dim) {
         Entry::Is(_) => false,
@@ -60,12 +63,15 @@ fn gains(table: &Table, rows: &[RowNo], upper: &Cell, dim: u8) -> bool
 /// The first dimension before `dim` in which the rows share a value and `upper`, which covers them,
 /// has Any. None if there is no such dimension.
 pub(crate) fn first_new_value(table: &Table, rows: &[RowNo], upper: &Cell, dim: u8) -> Option<u8>
-    requires under { AreUnder table.now rows.now upper.now }
+    requires under { AreCoveredRows table.now rows.now upper.now }
     requires dim { dim < table.now.dims }
-    ensures none { IfNone result (same_front dim (shared_by (named table.now rows.now)) upper.now ≡ true) }
+    ensures none { IfNone result
+        (same_prefix dim (shared_by (named table.now rows.now)) upper.now ≡ true) }
     ensures before { IfSome result (λ at. at < dim) }
-    ensures front { IfSome result (λ at. same_front at (shared_by (named table.now rows.now)) upper.now ≡ true) }
-    ensures gains { IfSome result (λ at. same_front (suc at) (shared_by (named table.now rows.now)) upper.now ≡ false) }
+    ensures front { IfSome result
+        (λ at. same_prefix at (shared_by (named table.now rows.now)) upper.now ≡ true) }
+    ensures gains { IfSome result
+        (λ at. same_prefix (suc at) (shared_by (named table.now rows.now)) upper.now ≡ false) }
 {
     'dims: for i in 0..dim {
         if gains(table, rows, upper, i) {
@@ -77,10 +83,11 @@ pub(crate) fn first_new_value(table: &Table, rows: &[RowNo], upper: &Cell, dim: 
 
 /// The closure of rows that share a value in the dimension, and before it no more than `upper` has.
 pub(crate) fn closure_of_part(table: &Table, rows: &[RowNo], upper: &Cell, dim: u8) -> Cell
-    requires under { AreUnder table.now rows.now upper.now }
+    requires under { AreCoveredRows table.now rows.now upper.now }
     requires dim { dim < table.now.dims }
-    requires value { is_some (slice_index_or (shared_by (named table.now rows.now)) dim None) ≡ true }
-    requires front { same_front dim (shared_by (named table.now rows.now)) upper.now ≡ true }
+    requires value { is_some (slice_index_or (shared_by (named table.now rows.now)) dim None)
+        ≡ true }
+    requires front { same_prefix dim (shared_by (named table.now rows.now)) upper.now ≡ true }
     ensures { result ≡ shared_by (named table.now rows.now) }
 {
     let mut next = upper.copy();
@@ -94,12 +101,13 @@ pub(crate) fn closure_of_part(table: &Table, rows: &[RowNo], upper: &Cell, dim: 
 
 /// The prefix through `dim` of what the rows share. Before dimension `at` they share no more than
 /// `upper` has. The later entries are those of `upper`.
-pub(crate) fn front_of(table: &Table, rows: &[RowNo], upper: &Cell, at: u8, dim: u8) -> Cell
-    requires under { AreUnder table.now rows.now upper.now }
+pub(crate) fn shared_prefix(table: &Table, rows: &[RowNo], upper: &Cell, at: u8, dim: u8) -> Cell
+    requires under { AreCoveredRows table.now rows.now upper.now }
     requires at { at ≤ dim }
     requires dim { dim < table.now.dims }
-    requires front { same_front at (shared_by (named table.now rows.now)) upper.now ≡ true }
-    ensures front { cell_front (suc dim) result ≡ cell_front (suc dim) (shared_by (named table.now rows.now)) }
+    requires front { same_prefix at (shared_by (named table.now rows.now)) upper.now ≡ true }
+    ensures front { cell_prefix (suc dim) result ≡ cell_prefix (suc dim)
+        (shared_by (named table.now rows.now)) }
     ensures dims { length result ≡ table.now.dims }
 {
     let mut front = upper.copy();

@@ -12,8 +12,8 @@ ghost use Rattle.class_builder.specs.Stands.{HasDone, StandsAt};
 
 use crate::Memory;
 use crate::builder::Builder;
-use crate::labels::{add_front, link_part};
-use crate::part::{ChildEdge, Group, Part};
+use crate::labels::{add_prefix_node, link_part};
+use crate::part::{ChildEdge, Group, Partition};
 use crate::path::Path;
 use crate::total::total;
 use crate::upper::{closure_of_part, first_new_value};
@@ -28,7 +28,7 @@ use std::sync::ledger::Ledger;
 #[cycle(drilling)]
 pub(crate) fn drill<L: Ledger>(
     builder: &mut Builder<'_, L>,
-    part: &Part<'_>,
+    part: &Partition<'_>,
     first: u8,
     mut path: Path,
 ) -> Result<(), ArenaRefused>
@@ -40,7 +40,8 @@ pub(crate) fn drill<L: Ledger>(
     ensures done { OnOk result (HasDone part.now.table.now
         (acts_from part.now.table.now first (named part.now.table.now part.now.rows.now))
         builder.old.arena.now builder.new.arena.now builder.new.fronts.now) }
-    ensures full { result ≡ Err ArenaRefused.Full → builder.old.arena.now.max < length (nodes nat_cmp (rows_of part.now.table.now)) }
+    ensures full { result ≡ Err ArenaRefused.Full
+        → builder.old.arena.now.max < length (nodes nat_cmp (rows_of part.now.table.now)) }
     ensures frame { frame builder.new.arena.now ≡ frame builder.old.arena.now }
     ensures same { builder.new.arena.ghost_name ≡ builder.old.arena.ghost_name }
 {
@@ -68,20 +69,23 @@ pub(crate) fn drill<L: Ledger>(
 #[cycle(drilling)]
 fn drill_at<L: Ledger>(
     builder: &mut Builder<'_, L>,
-    part: &Part<'_>,
+    part: &Partition<'_>,
     dim: u8,
     path: &mut Path,
 ) -> Result<(), ArenaRefused>
     requires part { IsPart part.now.table.now part.now.rows.now part.now.shared }
     requires dim { dim < part.now.table.now.dims }
     requires stands { StandsAt part.now.table.now part.now.shared dim
-        (acts_at (acts_from part.now.table.now (dim + 1)) dim part.now.shared (slice_index_or part.now.shared dim None) (named part.now.table.now part.now.rows.now))
+        (acts_at (acts_from part.now.table.now (dim + 1)) dim part.now.shared
+        (slice_index_or part.now.shared dim None) (named part.now.table.now part.now.rows.now))
         builder.old.arena.now path.old builder.old.fronts.now }
     ensures done { OnOk result (HasDone part.now.table.now
-        (acts_at (acts_from part.now.table.now (dim + 1)) dim part.now.shared (slice_index_or part.now.shared dim None) (named part.now.table.now part.now.rows.now))
+        (acts_at (acts_from part.now.table.now (dim + 1)) dim part.now.shared
+        (slice_index_or part.now.shared dim None) (named part.now.table.now part.now.rows.now))
         builder.old.arena.now builder.new.arena.now builder.new.fronts.now) }
     ensures path { OnOk result (IsOnPath builder.new.arena.now path.new part.now.shared (dim + 1)) }
-    ensures full { result ≡ Err ArenaRefused.Full → builder.old.arena.now.max < length (nodes nat_cmp (rows_of part.now.table.now)) }
+    ensures full { result ≡ Err ArenaRefused.Full
+        → builder.old.arena.now.max < length (nodes nat_cmp (rows_of part.now.table.now)) }
     ensures frame { frame builder.new.arena.now ≡ frame builder.old.arena.now }
     ensures same { builder.new.arena.ghost_name ≡ builder.old.arena.ghost_name }
 {
@@ -91,7 +95,7 @@ fn drill_at<L: Ledger>(
                 code,
                 is_forced: true,
             };
-            add_front(builder, part, dim, edge, path)
+            add_prefix_node(builder, part, dim, edge, path)
         }
         Entry::Any => match drill_in(builder, part, dim, path) {
             Ok(()) => {
@@ -106,7 +110,7 @@ fn drill_at<L: Ledger>(
 /// Groups the rows by their codes in the dimension. Makes room at the node for one edge a group.
 fn groups_of<L: Ledger>(
     builder: &mut Builder<'_, L>,
-    part: &Part<'_>,
+    part: &Partition<'_>,
     dim: u8,
     node: NodeNo,
 ) -> Result<Parts, Memory>
@@ -130,19 +134,22 @@ fn groups_of<L: Ledger>(
 #[cycle(drilling)]
 fn drill_in<L: Ledger>(
     builder: &mut Builder<'_, L>,
-    part: &Part<'_>,
+    part: &Partition<'_>,
     dim: u8,
     path: &Path,
 ) -> Result<(), ArenaRefused>
     requires part { IsPart part.now.table.now part.now.rows.now part.now.shared }
     requires dim { dim < part.now.table.now.dims }
     requires stands { StandsAt part.now.table.now part.now.shared dim
-        (acts_at (acts_from part.now.table.now (dim + 1)) dim part.now.shared None (named part.now.table.now part.now.rows.now))
+        (acts_at (acts_from part.now.table.now (dim + 1)) dim part.now.shared None
+        (named part.now.table.now part.now.rows.now))
         builder.old.arena.now path.now builder.old.fronts.now }
     ensures done { OnOk result (HasDone part.now.table.now
-        (acts_at (acts_from part.now.table.now (dim + 1)) dim part.now.shared None (named part.now.table.now part.now.rows.now))
+        (acts_at (acts_from part.now.table.now (dim + 1)) dim part.now.shared None
+        (named part.now.table.now part.now.rows.now))
         builder.old.arena.now builder.new.arena.now builder.new.fronts.now) }
-    ensures full { result ≡ Err ArenaRefused.Full → builder.old.arena.now.max < length (nodes nat_cmp (rows_of part.now.table.now)) }
+    ensures full { result ≡ Err ArenaRefused.Full
+        → builder.old.arena.now.max < length (nodes nat_cmp (rows_of part.now.table.now)) }
     ensures frame { frame builder.new.arena.now ≡ frame builder.old.arena.now }
     ensures same { builder.new.arena.ghost_name ≡ builder.old.arena.ghost_name }
 {
@@ -176,14 +183,18 @@ fn drill_part<L: Ledger>(
     dim: u8,
     path: &Path,
 ) -> Result<(), ArenaRefused>
-    requires group { IsGroup group.now.table.now group.now.rows.now group.now.code group.now.upper.now dim }
+    requires group { IsGroup group.now.table.now group.now.rows.now group.now.code
+        group.now.upper.now dim }
     requires stands { StandsAt group.now.table.now group.now.upper.now dim
-        (part_acts (acts_from group.now.table.now (dim + 1)) dim group.now.upper.now group.now.code (named group.now.table.now group.now.rows.now))
+        (part_acts (acts_from group.now.table.now (dim + 1)) dim group.now.upper.now group.now.code
+        (named group.now.table.now group.now.rows.now))
         builder.old.arena.now path.now builder.old.fronts.now }
     ensures done { OnOk result (HasDone group.now.table.now
-        (part_acts (acts_from group.now.table.now (dim + 1)) dim group.now.upper.now group.now.code (named group.now.table.now group.now.rows.now))
+        (part_acts (acts_from group.now.table.now (dim + 1)) dim group.now.upper.now group.now.code
+        (named group.now.table.now group.now.rows.now))
         builder.old.arena.now builder.new.arena.now builder.new.fronts.now) }
-    ensures full { result ≡ Err ArenaRefused.Full → builder.old.arena.now.max < length (nodes nat_cmp (rows_of group.now.table.now)) }
+    ensures full { result ≡ Err ArenaRefused.Full
+        → builder.old.arena.now.max < length (nodes nat_cmp (rows_of group.now.table.now)) }
     ensures frame { frame builder.new.arena.now ≡ frame builder.old.arena.now }
     ensures same { builder.new.arena.ghost_name ≡ builder.old.arena.ghost_name }
 {
@@ -193,7 +204,7 @@ fn drill_part<L: Ledger>(
             Err(_) => Err(ArenaRefused::Memory),
         },
         None => {
-            let part = Part {
+            let part = Partition {
                 table: group.table,
                 rows: group.rows,
                 shared: closure_of_part(group.table, group.rows, group.upper, dim),
@@ -203,7 +214,7 @@ fn drill_part<L: Ledger>(
                 is_forced: false,
             };
             let mut below = *path;
-            match add_front(builder, &part, dim, edge, &mut below) {
+            match add_prefix_node(builder, &part, dim, edge, &mut below) {
                 Ok(()) => drill(builder, &part, dim + 1, below),
                 Err(error) => Err(error),
             }

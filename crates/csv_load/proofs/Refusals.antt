@@ -8,10 +8,12 @@ abbrev pub ok_with : {X : Type 0} → List X → Result (List X) Fault → Resul
 ok_with before (Err fault) = Err fault
 ok_with before (Ok more) = Ok (before ++ more)
 
-pub fails-cons : {X : Type 0} (named : Option Fault) (first : Result X Fault) (more : Result (List X) Fault) → IfSome named (λ fault. first ≡ Err fault) → IfSome named (λ fault. cons_ok first more ≡ Err fault)
+pub fails-cons : {X : Type 0} (named : Option Fault) (first : Result X Fault) (more : Result (List X) Fault)
+    → IfSome named (λ fault. first ≡ Err fault) → IfSome named (λ fault. cons_ok first more ≡ Err fault)
 fails-cons None first more h = tt
 fails-cons (Some fault) first more h = rw h refl
 
-pub fails-with : {X : Type 0} (named : Option Fault) (before : List X) (more : Result (List X) Fault) → IfSome named (λ fault. more ≡ Err fault) → IfSome named (λ fault. ok_with before more ≡ Err fault)
+pub fails-with : {X : Type 0} (named : Option Fault) (before : List X) (more : Result (List X) Fault)
+    → IfSome named (λ fault. more ≡ Err fault) → IfSome named (λ fault. ok_with before more ≡ Err fault)
 fails-with None before more h = tt
 fails-with (Some fault) before more h = rw h refl

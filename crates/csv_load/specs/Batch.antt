@@ -1,9 +1,10 @@
 -- A batch of changes as contracts see it.
-use Rattle.std.specs.Prelude.{◌≡◌, ◌≤◌, ◌<◌, ◌^◌, ◌-◌, ◌*◌, ◌+◌, ℕ, Bool, true, false, List, [], ◌∷◌, ◌++◌, length, ℤ, pos, nat_abs, map, slice_index, slice_index_or, slice_range, IsUtf8}
+use Rattle.std.specs.Prelude.{◌≡◌, ◌≤◌, ◌<◌, ◌^◌, ◌-◌, ◌*◌, ◌+◌, ℕ, Bool, true, false, List, [], ◌∷◌, ◌++◌, length, ℤ, pos, nat_abs, map}
+use Rattle.std.specs.Prelude.{slice_index, slice_index_or, slice_range, IsUtf8}
 use Rattle.std.specs.List.{All, range_with_len}
 use Rattle.cube_defs.specs.Rows.{Row}
 use Rattle.cube_defs.specs.Text.{Text}
-use Rattle.csv_load.specs.declared.changes.Changes.{Changes}
+use Rattle.csv_load.specs.declared.changes.ChangeColumns.{ChangeColumns}
 use Rattle.cube_defs.specs.declared.limits.TheConstants.{MAX_AMOUNT, MAX_TEXT}
 
 -- the row with an id goes, or a row comes
@@ -11,7 +12,8 @@ pub data Change (A : Type 0) : Type 0 where
   Delete : ℕ → Change A
   Insert : Row A → Change A
 
--- changes that are not yet made to a table, each row with as many texts as there are dimensions, and as many amounts as measures
+-- changes that are not yet made to a table, each row with as many texts as there are dimensions, and as many amounts as
+-- measures
 pub record Batch : Type 0 where
   pub dims : ℕ
   pub measures : ℕ
@@ -94,7 +96,7 @@ pub record IsBatch (batch : Batch) : Type 0 where
   pub loaded : All (IsChange batch.dims batch.measures) batch.changes
 
 -- the row at a place, counted from 0, of changes that lie one behind the other; of a deletion it says the id alone
-abbrev pub row_at_place : ℕ → ℕ → Changes → ℕ → Row Text
+abbrev pub row_at_place : ℕ → ℕ → ChangeColumns → ℕ → Row Text
 row_at_place dims measures changes k = record {
   id = slice_index changes.ids.items k;
   tuple = slice_range changes.texts (k * dims) (k * dims + dims);
@@ -102,22 +104,29 @@ row_at_place dims measures changes k = record {
 }
 
 -- the change at that place
-abbrev pub change_at_place : ℕ → ℕ → Changes → ℕ → Change Text
-change_at_place dims measures changes k = change_with (slice_index_or changes.deletes.items k false) (row_at_place dims measures changes k)
+abbrev pub change_at_place : ℕ → ℕ → ChangeColumns → ℕ → Change Text
+change_at_place dims measures changes k
+    = change_with (slice_index_or changes.deletes.items k false) (row_at_place dims measures changes k)
 
 -- all of them, as a batch
-abbrev pub batch_of : ℕ → ℕ → Changes → Batch
-batch_of dims measures changes = record { dims = dims; measures = measures; changes = map (change_at_place dims measures changes) (range_with_len 0 (length changes.ids.items)) }
+abbrev pub batch_of : ℕ → ℕ → ChangeColumns → Batch
+batch_of dims measures changes
+    = record {
+      dims = dims;
+      measures = measures;
+      changes
+          = map (change_at_place dims measures changes) (range_with_len 0 (length changes.ids.items));
+    }
 
 -- the columns are whole, and the changes are those of a batch
-pub record AreChanges (dims measures : ℕ) (changes : Changes) : Type 0 where
+pub record AreChanges (dims measures : ℕ) (changes : ChangeColumns) : Type 0 where
   pub deletes_fit : length changes.deletes.items ≡ length changes.ids.items
   pub texts_fit : length changes.texts ≡ length changes.ids.items * dims
   pub amounts_fit : length changes.amounts.items ≡ length changes.ids.items * measures
   pub is_batch : IsBatch (batch_of dims measures changes)
 
 -- the columns after what stands for a deletion, or an insertion, was put behind them
-pub record Adds (deletes : Bool) (row : Row Text) (changes changes' : Changes) : Type 0 where
+pub record Adds (deletes : Bool) (row : Row Text) (changes changes' : ChangeColumns) : Type 0 where
   pub with_id : changes'.ids.items ≡ changes.ids.items ++ row.id ∷ []
   pub with_kind : changes'.deletes.items ≡ changes.deletes.items ++ deletes ∷ []
   pub with_texts : changes'.texts ≡ changes.texts ++ row.tuple

@@ -1,5 +1,6 @@
 -- The changes that a file brings, or its first fault.
-use Rattle.std.specs.Prelude.{◌≡◌, ℕ, Bool, true, false, ◌==◌, ◌+◌, List, [], ◌∷◌, length, drop, nat_le, codes, Option, Some, None, Result, Ok, Err, ℤ, slice_index_or, slice_range, if◌then◌else◌}
+use Rattle.std.specs.Prelude.{◌≡◌, ℕ, Bool, true, false, ◌==◌, ◌+◌, List, [], ◌∷◌, length, drop, nat_le, codes, Option, Some, None, Result}
+use Rattle.std.specs.Prelude.{Ok, Err, ℤ, slice_index_or, slice_range, if◌then◌else◌}
 use Rattle.std.specs.List.{list_all}
 use Rattle.std.specs.Str.{bytes_eq, is_utf8}
 use Rattle.csv.specs.Reading.{default_config, records}
@@ -20,11 +21,13 @@ is_short text = nat_le (length text) MAX_TEXT
 abbrev pub amounts_in : List Measure → List (List ℕ) → Option (List ℤ)
 amounts_in [] fields = Some []
 amounts_in (measure ∷ measures) [] = None
-amounts_in (measure ∷ measures) (field ∷ fields) = cons_some (amount_in measure.scale field) (amounts_in measures fields)
+amounts_in (measure ∷ measures) (field ∷ fields)
+    = cons_some (amount_in measure.scale field) (amounts_in measures fields)
 
 -- whether an op is a deletion, `-`, or an insertion, `+`
 abbrev pub deletion_in : List ℕ → Option Bool
-deletion_in text = if bytes_eq text (codes "-") then Some true else (if bytes_eq text (codes "+") then Some false else None)
+deletion_in text = if bytes_eq text (codes "-") then Some true
+    else (if bytes_eq text (codes "+") then Some false else None)
 
 -- the texts of the dimensions, of a record's needed fields in the schema's order
 abbrev pub tuple_of : Layout → List (List ℕ) → List Text
@@ -42,7 +45,8 @@ deletion_of true layout fields = deletion_in (slice_index_or fields (length (nam
 -- the insertion of an id, texts and amounts, where these are there and the texts are short
 abbrev pub insertion : ℕ → ℕ → List Text → Option (List ℤ) → Result (Change Text) Fault
 insertion k id tuple None = Err (Amount k)
-insertion k id tuple (Some amounts) = if list_all is_short tuple then Ok (Insert (record { id = id; tuple = tuple; amounts = amounts })) else Err (Value k)
+insertion k id tuple (Some amounts) = if list_all is_short tuple
+    then Ok (Insert (record { id = id; tuple = tuple; amounts = amounts })) else Err (Value k)
 
 -- the change that deletes or not, and its id, where these are there; of a deletion texts and amounts count for nothing
 abbrev pub change_with_id : ℕ → Option Bool → Option ℕ → List Text → Option (List ℤ) → Result (Change Text) Fault
@@ -55,31 +59,37 @@ change_with_id k (Some false) (Some id) tuple amounts = insertion k id tuple amo
 abbrev pub change_of : Bool → Layout → ℕ → List (List ℕ) → Result (Change Text) Fault
 change_of has_op layout k fields =
     if list_all is_utf8 (tuple_of layout fields)
-    then change_with_id k (deletion_of has_op layout fields) (id_in (slice_index_or fields 0 [])) (tuple_of layout fields) (amounts_of layout fields)
+    then change_with_id k (deletion_of has_op layout fields) (id_in (slice_index_or fields 0 []))
+    (tuple_of layout fields) (amounts_of layout fields)
     else Err (Utf8 k)
 
 -- the same, in a file whose header has so many fields and these needed places
 abbrev pub change_in : Bool → Layout → ℕ → List ℕ → ℕ → List (List ℕ) → Result (Change Text) Fault
-change_in has_op layout width places k fields = if length fields == width then change_of has_op layout k (fields_at places fields) else Err (Fields k)
+change_in has_op layout width places k fields = if length fields == width
+    then change_of has_op layout k (fields_at places fields) else Err (Fields k)
 
 -- the changes of the k-th record and of those behind it
 abbrev pub changes_from : Bool → Layout → ℕ → List ℕ → ℕ → List (List (List ℕ)) → Result (List (Change Text)) Fault
 changes_from has_op layout width places k [] = Ok []
-changes_from has_op layout width places k (fields ∷ more) = cons_ok (change_in has_op layout width places k fields) (changes_from has_op layout width places (k + 1) more)
+changes_from has_op layout width places k (fields ∷ more)
+    = cons_ok (change_in has_op layout width places k fields) (changes_from has_op layout width places (k + 1) more)
 
 -- the changes behind a header, in which each needed column stands once
-abbrev pub changes_under : Bool → Layout → ℕ → Option (List ℕ) → List (List (List ℕ)) → Result (List (Change Text)) Fault
+abbrev pub changes_under : Bool → Layout → ℕ → Option (List ℕ) → List (List (List ℕ))
+    → Result (List (Change Text)) Fault
 changes_under has_op layout width None more = Err Header
 changes_under has_op layout width (Some places) more = changes_from has_op layout width places 1 more
 
 -- the changes of all records, of which the first is the header
 abbrev pub changes_of : Bool → Layout → List (List (List ℕ)) → Result (List (Change Text)) Fault
 changes_of has_op layout [] = Err Header
-changes_of has_op layout (header ∷ more) = changes_under has_op layout (length header) (places_in header (needed_names has_op layout)) more
+changes_of has_op layout (header ∷ more)
+    = changes_under has_op layout (length header) (places_in header (needed_names has_op layout)) more
 
 -- the changes of a file, with the column `op` or without it; one byte order mark may stand in front
 abbrev pub file_in : Bool → Layout → List ℕ → Result (List (Change Text)) Fault
-file_in has_op layout text = if begins_with_two_marks text then Err Header else changes_of has_op layout (records default_config (without_mark text))
+file_in has_op layout text = if begins_with_two_marks text then Err Header
+    else changes_of has_op layout (records default_config (without_mark text))
 
 -- the insertions of a base file, in its order
 abbrev pub base_in : Layout → List ℕ → Result (List (Change Text)) Fault
@@ -92,4 +102,5 @@ batch_in = file_in true
 -- with these amounts, and any id, the record makes a change; a deletion whatever they are
 abbrev pub Makes : Layout → ℕ → List (List ℕ) → Bool → List ℤ → Type 0
 Makes layout k fields deletes amounts =
-    (id : ℕ) → change_with_id k (Some deletes) (Some id) (tuple_of layout fields) (amounts_of layout fields) ≡ Ok (change_with deletes (record { id = id; tuple = tuple_of layout fields; amounts = amounts }))
+    (id : ℕ) → change_with_id k (Some deletes) (Some id) (tuple_of layout fields) (amounts_of layout fields)
+    ≡ Ok (change_with deletes (record { id = id; tuple = tuple_of layout fields; amounts = amounts }))

@@ -2,7 +2,7 @@
 ghost use Rattle.std.specs.Prelude.{◌≡◌, ◌≤◌, ◌<◌, [], length, false, not, count_by};
 ghost use Rattle.csv_load.specs.Batch.{AreChanges, IsBatch, amount_at, batch_of, change_at, id_of, inserted, is_deletion, row_of, text_at};
 
-use crate::changes::Changes;
+use crate::changes::ChangeColumns;
 use std::alloc::Global;
 use std::marker::Model;
 
@@ -13,7 +13,7 @@ use std::marker::Model;
 pub struct RawBatch {
     dims: u8,
     measures: u8,
-    changes: Changes,
+    changes: ChangeColumns,
 }
 
 impl Model for RawBatch {
@@ -38,7 +38,7 @@ impl RawBatch {
     pub fn empty(alloc: Global, dims: u8, measures: u8) -> RawBatch
         ensures { result ≡ record { dims = dims; measures = measures; changes = [] } }
     {
-        let changes = Changes::new(alloc);
+        let changes = ChangeColumns::new(alloc);
         RawBatch {
             dims,
             measures,
@@ -47,7 +47,7 @@ impl RawBatch {
     }
 
     /// The changes that are stored one after another.
-    pub(crate) fn of_changes(dims: u8, measures: u8, changes: Changes) -> RawBatch
+    pub(crate) fn of_changes(dims: u8, measures: u8, changes: ChangeColumns) -> RawBatch
         requires { AreChanges dims measures changes }
         ensures { result ≡ batch_of dims measures changes }
     {

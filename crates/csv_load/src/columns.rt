@@ -24,8 +24,10 @@ pub struct Columns {
 /// The field of a record in a needed column, counted from 0 in the schema's order.
 pub fn needed_field<'a>(columns: &Columns, row: &'a ByteRecord, column: usize) -> &'a [u8]
     requires there { column < length columns.now.places.items }
-    requires within { slice_index_or columns.now.places.items column 0 < length (fields_of row.now) }
-    ensures { result.now ≡ slice_index_or (fields_at columns.now.places.items (fields_of row.now)) column [] }
+    requires within { slice_index_or columns.now.places.items column 0 < length
+        (fields_of row.now) }
+    ensures { result.now ≡ slice_index_or
+        (fields_at columns.now.places.items (fields_of row.now)) column [] }
 {
     field(row, columns.places[column])
 }
@@ -82,7 +84,8 @@ pub fn find_columns(
 ) -> Result<Option<Columns>, AllocError>
     ensures found { IfOk result (λ found. option_map (λ columns. columns.places.items) found
         ≡ places_in (fields_of header.now) (needed_names has_op schema.now)) }
-    ensures width { IfOk result (λ found. IfSome found (λ columns. columns.width ≡ length (fields_of header.now))) }
+    ensures width { IfOk result
+        (λ found. IfSome found (λ columns. columns.width ≡ length (fields_of header.now))) }
     ensures op { IfOk result (λ found. IfSome found (λ columns. columns.has_op ≡ has_op)) }
     ensures are { IfOk result (λ found. IfSome found (λ columns. AreColumns schema.now columns)) }
 {

@@ -7,14 +7,14 @@ ghost use Rattle.csv_load.specs.Faults.{fault_in};
 ghost use Rattle.text_lines.specs.Records.{bytes_in_all};
 
 use crate::batch::RawBatch;
-use crate::changes::Changes;
+use crate::changes::ChangeColumns;
 use crate::columns::find_columns;
 use crate::reading::read_changes;
 use csv::ByteRecord;
 use cube_defs::MAX_FILE;
 use qc_schema::Schema;
 use std::alloc::{AllocError, AllocFailed, Global};
-use text_lines::{RecordReader, has_two_marks, trim_mark};
+use text_lines::{RecordReader, has_two_byte_order_marks, trim_byte_order_mark};
 
 /// Why a file gives no changes. A number is that of the first wrong record, counted from 1 after
 /// the header. If several faults hold, the first in this order is reported.
@@ -69,7 +69,8 @@ fn read_records(
 ) -> Result<RawBatch, LoadRefused>
     requires few { length rows.old < 2 ^ 32 }
     requires room { bytes_in_all rows.old < 2 ^ 32 }
-    ensures gives { Gives fault_in (λ batch. batch.changes) result (changes_of has_op schema.now rows.old) }
+    ensures gives { Gives fault_in (λ batch. batch.changes) result
+        (changes_of has_op schema.now rows.old) }
     ensures dims { IfOk result (λ batch. batch.dims ≡ length schema.now.dims) }
     ensures measures { IfOk result (λ batch. batch.measures ≡ length schema.now.measures) }
 {
@@ -79,12 +80,12 @@ fn read_records(
     let Some(columns) = find_columns(alloc, schema, row, has_op)? else {
         return Err(LoadRefused::Header);
     };
-    let changes = Changes::with_room(alloc, size)?;
+    let changes = ChangeColumns::with_room(alloc, size)?;
     read_changes(schema, &columns, rows, row, changes)
 }
 
 // Reads a file whose records have an operation, or are all insertions.
-#[tactic(auto, using(text_lines::proofs::Unmarked::no_second))]
+#[tactic(auto, using(text_lines::proofs::CallerLemmas::no_second))]
 fn read_file(
     alloc: Global,
     schema: &Schema,
@@ -92,14 +93,15 @@ fn read_file(
     has_op: bool,
 ) -> Result<RawBatch, LoadRefused>
     requires { length bytes.now ≤ MAX_FILE }
-    ensures gives { Gives fault_in (λ batch. batch.changes) result (file_in has_op schema.now bytes.now) }
+    ensures gives { Gives fault_in (λ batch. batch.changes) result
+        (file_in has_op schema.now bytes.now) }
     ensures dims { IfOk result (λ batch. batch.dims ≡ length schema.now.dims) }
     ensures measures { IfOk result (λ batch. batch.measures ≡ length schema.now.measures) }
 {
-    if has_two_marks(bytes) {
+    if has_two_byte_order_marks(bytes) {
         return Err(LoadRefused::Header);
     }
-    let mut rows = RecordReader::new(alloc, trim_mark(bytes));
+    let mut rows = RecordReader::new(alloc, trim_byte_order_mark(bytes));
     let mut row = ByteRecord::new(alloc);
     read_records(alloc, schema, &mut rows, &mut row, has_op, bytes.len())
 }

@@ -13,7 +13,7 @@ ghost use Rattle.csv_load.specs.Files.{Makes, amounts_of, change_in, change_with
 ghost use Rattle.text_lines.specs.Records.{bytes_in, bytes_in_all};
 
 use crate::batch::RawBatch;
-use crate::changes::Changes;
+use crate::changes::ChangeColumns;
 use crate::columns::{Columns, needed_field};
 use crate::files::LoadRefused;
 use crate::texts::FieldTexts;
@@ -34,12 +34,20 @@ fn push_texts(
 ) -> Result<bool, LoadRefused>
     requires columns { AreColumns schema.now columns.now }
     requires width { length (fields_of row.now) ≡ columns.now.width }
-    requires room { bytes_in texts.old + bytes_in (fields_at columns.now.places.items (fields_of row.now)) < 2 ^ 32 }
-    ensures ok { OnOk result (texts.new ≡ texts.old ++ tuple_of schema.now (fields_at columns.now.places.items (fields_of row.now))) }
-    ensures utf8 { OnOk result (list_all is_utf8 (tuple_of schema.now (fields_at columns.now.places.items (fields_of row.now))) ≡ true) }
-    ensures short { IfOk result (λ short. short ≡ list_all is_short (tuple_of schema.now (fields_at columns.now.places.items (fields_of row.now)))) }
+    requires room { bytes_in texts.old
+        + bytes_in (fields_at columns.now.places.items (fields_of row.now)) < 2 ^ 32 }
+    ensures ok { OnOk result
+        (texts.new ≡ texts.old ++ tuple_of schema.now
+        (fields_at columns.now.places.items (fields_of row.now))) }
+    ensures utf8 { OnOk result
+        (list_all is_utf8 (tuple_of schema.now
+        (fields_at columns.now.places.items (fields_of row.now))) ≡ true) }
+    ensures short { IfOk result
+        (λ short. short ≡ list_all is_short
+        (tuple_of schema.now (fields_at columns.now.places.items (fields_of row.now)))) }
     ensures err { IfErr result (λ e. IfSome (fault_in e) (λ fault. (fault ≡ Utf8 number)
-        × (list_all is_utf8 (tuple_of schema.now (fields_at columns.now.places.items (fields_of row.now))) ≡ false))) }
+        × (list_all is_utf8 (tuple_of schema.now
+        (fields_at columns.now.places.items (fields_of row.now))) ≡ false))) }
 {
     let mut are_short = true;
     for dim in 0..schema.dims() {
@@ -59,7 +67,8 @@ fn push_texts(
 fn read_kind(schema: &Schema, columns: &Columns, row: &ByteRecord) -> Option<bool>
     requires columns { AreColumns schema.now columns.now }
     requires width { length (fields_of row.now) ≡ columns.now.width }
-    ensures { result ≡ deletion_of columns.now.has_op schema.now (fields_at columns.now.places.items (fields_of row.now)) }
+    ensures { result ≡ deletion_of columns.now.has_op schema.now
+        (fields_at columns.now.places.items (fields_of row.now)) }
 {
     if !columns.has_op {
         return Some(false);
@@ -82,10 +91,13 @@ fn push_amounts(
 ) -> Result<(), LoadRefused>
     requires columns { AreColumns schema.now columns.now }
     requires width { length (fields_of row.now) ≡ columns.now.width }
-    ensures ok { OnOk result ((more : List ℤ) × (amounts_of schema.now (fields_at columns.now.places.items (fields_of row.now)) ≡ Some more)
+    ensures ok { OnOk result ((more : List ℤ)
+        × (amounts_of schema.now (fields_at columns.now.places.items (fields_of row.now))
+        ≡ Some more)
         × (amounts.new.items ≡ amounts.old.items ++ more)) }
     ensures err { IfErr result (λ e. IfSome (fault_in e) (λ fault. (fault ≡ Amount number)
-        × (amounts_of schema.now (fields_at columns.now.places.items (fields_of row.now)) ≡ None))) }
+        × (amounts_of schema.now (fields_at columns.now.places.items (fields_of row.now))
+        ≡ None))) }
 {
     let first = 1 + schema.dims() as usize;
     for measure in 0..schema.measures() {
@@ -100,7 +112,8 @@ fn push_amounts(
 
 // Appends zeros.
 fn push_zeros(count: u8, amounts: &mut Vec<i64>) -> Result<(), AllocError>
-    ensures { OnOk result ((zeros : List ℤ) × (length zeros ≡ count) × (amounts.new.items ≡ amounts.old.items ++ zeros)) }
+    ensures { OnOk result ((zeros : List ℤ) × (length zeros ≡ count)
+        × (amounts.new.items ≡ amounts.old.items ++ zeros)) }
 {
     'zeros: for _ in 0..count {
         amounts.push(0)?;
@@ -126,12 +139,17 @@ fn push_amounts_or_zeros(
 ) -> Result<(), LoadRefused>
     requires columns { AreColumns schema.now columns.now }
     requires width { length (fields_of row.now) ≡ columns.now.width }
-    requires short { operation.are_short ≡ list_all is_short (tuple_of schema.now (fields_at columns.now.places.items (fields_of row.now))) }
-    ensures ok { OnOk result ((more : List ℤ) × (length more ≡ length schema.now.measures) × (amounts.new.items ≡ amounts.old.items ++ more)
-        × Makes schema.now number (fields_at columns.now.places.items (fields_of row.now)) operation.deletes more) }
+    requires short { operation.are_short ≡ list_all is_short
+        (tuple_of schema.now (fields_at columns.now.places.items (fields_of row.now))) }
+    ensures ok { OnOk result ((more : List ℤ) × (length more ≡ length schema.now.measures)
+        × (amounts.new.items ≡ amounts.old.items ++ more)
+        × Makes schema.now number (fields_at columns.now.places.items (fields_of row.now))
+        operation.deletes more) }
     ensures err { IfErr result (λ e. (id : ℕ) → IfSome (fault_in e)
-        (λ fault. change_with_id number (Some operation.deletes) (Some id) (tuple_of schema.now (fields_at columns.now.places.items (fields_of row.now)))
-        (amounts_of schema.now (fields_at columns.now.places.items (fields_of row.now))) ≡ Err fault)) }
+        (λ fault. change_with_id number (Some operation.deletes) (Some id)
+        (tuple_of schema.now (fields_at columns.now.places.items (fields_of row.now)))
+        (amounts_of schema.now (fields_at columns.now.places.items (fields_of row.now)))
+        ≡ Err fault)) }
 {
     if operation.deletes {
         push_zeros(schema.measures(), amounts)?;
@@ -150,15 +168,23 @@ fn push_change(
     columns: &Columns,
     row: &ByteRecord,
     number: u32,
-    changes: &mut Changes,
+    changes: &mut ChangeColumns,
 ) -> Result<(), LoadRefused>
     requires columns { AreColumns schema.now columns.now }
-    requires room { bytes_in changes.old.texts + bytes_in (fields_at columns.now.places.items (fields_of row.now)) < 2 ^ 32 }
+    requires room { bytes_in changes.old.texts
+        + bytes_in (fields_at columns.now.places.items (fields_of row.now)) < 2 ^ 32 }
     ensures ok { OnOk result ((deletes : Bool) × (added : Row Text)
-        × (change_in columns.now.has_op schema.now columns.now.width columns.now.places.items number (fields_of row.now) ≡ Ok (change_with deletes added))
-        × (length added.tuple ≡ length schema.now.dims) × (length added.amounts ≡ length schema.now.measures) × Adds deletes added changes.old changes.new) }
-    ensures size { OnOk result (bytes_in changes.new.texts ≤ bytes_in changes.old.texts + bytes_in (fields_at columns.now.places.items (fields_of row.now))) }
-    ensures err { IfErr result (λ e. IfSome (fault_in e) (λ fault. change_in columns.now.has_op schema.now columns.now.width columns.now.places.items number
+        × (change_in columns.now.has_op schema.now columns.now.width columns.now.places.items number
+        (fields_of row.now) ≡ Ok (change_with deletes added))
+        × (length added.tuple ≡ length schema.now.dims)
+        × (length added.amounts ≡ length schema.now.measures)
+        × Adds deletes added changes.old changes.new) }
+    ensures size { OnOk result (bytes_in changes.new.texts ≤ bytes_in changes.old.texts
+        + bytes_in (fields_at columns.now.places.items (fields_of row.now))) }
+    ensures err { IfErr result
+        (λ e. IfSome (fault_in e)
+        (λ fault. change_in columns.now.has_op schema.now columns.now.width
+        columns.now.places.items number
         (fields_of row.now) ≡ Err fault)) }
 {
     if row.len() != columns.width {
@@ -184,7 +210,7 @@ pub fn read_changes(
     columns: &Columns,
     rows: &mut RecordReader,
     row: &mut ByteRecord,
-    mut changes: Changes,
+    mut changes: ChangeColumns,
 ) -> Result<RawBatch, LoadRefused>
     requires columns { AreColumns schema.now columns.now }
     requires ids { changes.ids.items ≡ [] }
@@ -194,7 +220,8 @@ pub fn read_changes(
     requires few { length rows.old + 1 < 2 ^ 32 }
     requires room { bytes_in_all rows.old < 2 ^ 32 }
     ensures gives { Gives fault_in (λ batch. batch.changes) result
-        (changes_from columns.now.has_op schema.now columns.now.width columns.now.places.items 1 rows.old) }
+        (changes_from columns.now.has_op schema.now columns.now.width
+        columns.now.places.items 1 rows.old) }
     ensures dims { IfOk result (λ batch. batch.dims ≡ length schema.now.dims) }
     ensures measures { IfOk result (λ batch. batch.measures ≡ length schema.now.measures) }
 {

@@ -29,8 +29,10 @@ fn push_text(bytes: &mut String, ends: &mut Vec<u32>, text: &str) -> Result<(), 
     requires cut { IsCut ends.old.items (string_bytes bytes.old) }
     requires room { length (string_bytes bytes.old) + length text.now < 2 ^ 32 }
     ensures cut { IsCut ends.new.items (string_bytes bytes.new) }
-    ensures ok { OnOk result (texts_of ends.new.items (string_bytes bytes.new) ≡ texts_of ends.old.items (string_bytes bytes.old) ++ text.now ∷ []) }
-    ensures err { OnErr result (texts_of ends.new.items (string_bytes bytes.new) ≡ texts_of ends.old.items (string_bytes bytes.old)) }
+    ensures ok { OnOk result (texts_of ends.new.items (string_bytes bytes.new)
+        ≡ texts_of ends.old.items (string_bytes bytes.old) ++ text.now ∷ []) }
+    ensures err { OnErr result (texts_of ends.new.items (string_bytes bytes.new)
+        ≡ texts_of ends.old.items (string_bytes bytes.old)) }
 {
     let end = bytes.len() + text.len();
     ends.reserve(1)?;

@@ -22,7 +22,8 @@ pub has_a_node_twice : IsCanonical nat_cmp 1 (base shop_codes) doubled_table →
 unfolding doubled_table root
 has_a_node_twice w = cc (w.once 0 11 root (there 0 refl) (there 11 refl))
   where
-    there : (k : ℕ) → option_map (λ n. n.cell) (find nat_cmp k ((11, bare_root) ∷ entries)) ≡ Some root → cell_at doubled_table k ≡ Some root
+    there : (k : ℕ) → option_map (λ n. n.cell) (find nat_cmp k ((11, bare_root) ∷ entries)) ≡ Some root
+        → cell_at doubled_table k ≡ Some root
     there k e = ap (option_map (λ n. n.cell)) (get-from_entries nat_cmp_total ((11, bare_root) ∷ entries) k) ∙ e
 
 none_in : {S : Type 0} → List (Edge ℕ S) → Bool
@@ -35,4 +36,5 @@ lacks_edges (Some n) = none_in n.edges
 
 pub has_a_wrong_record : IsCanonical nat_cmp 1 (base shop_codes) altered_table → ⊥
 unfolding altered_table lacks_edges none_in
-has_a_wrong_record w = true≢false (ap lacks_edges (w.each 0 bare_root (get-from_entries nat_cmp_total ((0, bare_root) ∷ entries) 0)).1)
+has_a_wrong_record w = true≢false
+    (ap lacks_edges (w.each 0 bare_root (get-from_entries nat_cmp_total ((0, bare_root) ∷ entries) 0)).1)

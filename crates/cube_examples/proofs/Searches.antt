@@ -19,16 +19,20 @@ to_all = simp look refl
 pub along_link : walk (eq_by_cmp nat_cmp) numbered_table (code_cell None (Some shop_codes.P2) None) 0 0 ≡ Some 7
 along_link = simp look refl
 
-pub against_forced : walk (eq_by_cmp nat_cmp) numbered_table (code_cell None (Some shop_codes.P2) (Some shop_codes.f)) 0 0 ≡ None
+pub against_forced : walk (eq_by_cmp nat_cmp) numbered_table
+    (code_cell None (Some shop_codes.P2) (Some shop_codes.f)) 0 0 ≡ None
 against_forced = simp look refl
 
-pub without_edge : walk (eq_by_cmp nat_cmp) numbered_table (code_cell (Some shop_codes.S2) (Some shop_codes.P2) None) 0 0 ≡ None
+pub without_edge : walk (eq_by_cmp nat_cmp) numbered_table
+    (code_cell (Some shop_codes.S2) (Some shop_codes.P2) None) 0 0 ≡ None
 without_edge = simp look refl
 
-pub upwards : climb numbered_table 3 7 (code_cell None None None) ≡ code_cell (Some shop_codes.S1) (Some shop_codes.P2) (Some shop_codes.s)
+pub upwards : climb numbered_table 3 7 (code_cell None None None) ≡ code_cell (Some shop_codes.S1) (Some shop_codes.P2)
+    (Some shop_codes.s)
 upwards = simp look refl
 
-pub past_forced : walk (eq_by_cmp nat_cmp) numbered_table (code_cell (Some shop_codes.S1) (Some shop_codes.P1) None) 0 0 ≡ Some 5
+pub past_forced : walk (eq_by_cmp nat_cmp) numbered_table (code_cell (Some shop_codes.S1) (Some shop_codes.P1) None) 0 0
+    ≡ Some 5
 past_forced = simp look refl
 
 pub to_no_store : walk (eq_by_cmp nat_cmp) numbered_table (code_cell (Some 2) None None) 0 0 ≡ None

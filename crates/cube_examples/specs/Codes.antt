@@ -43,11 +43,18 @@ numbered_store = record {
   parent = Some 0;
   class = None;
   forced = Some (record { dim = 2; value = 0; target = 3 });
-  edges = record { dim = 1; value = 0; target = 4 } ∷ record { dim = 1; value = 1; target = 6 } ∷ record { dim = 2; value = 0; target = 3 } ∷ [];
+  edges = record { dim = 1; value = 0; target = 4 } ∷ record { dim = 1; value = 1; target = 6 }
+      ∷ record { dim = 2; value = 0; target = 3 } ∷ [];
 }
 
 abbrev pub bare_root : Node ℕ ℕ
-bare_root = record { cell = code_cell None None None; parent = None; class = Some (sums 3 (pos 27) (pos 6) (pos 12)); forced = None; edges = [] }
+bare_root = record {
+  cell = code_cell None None None;
+  parent = None;
+  class = Some (sums 3 (pos 27) (pos 6) (pos 12));
+  forced = None;
+  edges = [];
+}
 
 -- no nodes at all; the root under a second number; the root without its edges
 unfoldable pub no_tree : Tree ℕ

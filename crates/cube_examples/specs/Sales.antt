@@ -1,5 +1,6 @@
 -- A cube of four dimensions with values from outside. For each set of dimensions sqlite3 3.40.1 was asked
---   SELECT .., COUNT(*), SUM(amount), MIN(amount), MAX(amount), CASE WHEN MIN(a) = MAX(a) THEN MIN(a) END, .. FROM sales GROUP BY ..
+-- SELECT .., COUNT(*), SUM(amount), MIN(amount), MAX(amount), CASE WHEN MIN(a) = MAX(a) THEN MIN(a) END, .. FROM sales
+-- GROUP BY ..
 -- the last column once for each dimension, and the groups of all 16 sets were put in cell order.
 use Rattle.std.specs.Prelude.{ℕ, Option, Some, None, List, [], ◌∷◌, ℤ, pos, negsuc}
 use Rattle.cube_defs.specs.Cell.{Cell}
@@ -22,7 +23,8 @@ pub record Group : Type 0 where
   pub closure : Option (Cell ℕ)
 
 abbrev pub group : Cell ℕ → ℕ → ℤ → ℤ → ℤ → Cell ℕ → Group
-group cell count sum least greatest closure = record { cell = cell; agg = sums count sum least greatest; closure = Some closure }
+group cell count sum least greatest closure
+    = record { cell = cell; agg = sums count sum least greatest; closure = Some closure }
 
 -- nine sales, the fifth and the last of one tuple; negsuc n is - (n + 1)
 abbrev pub sales : List (Row ℕ)
@@ -57,7 +59,8 @@ groups =
     ∷ group (at o (Some 0) (Some 0) (Some 0)) 2 (pos 7) (pos 2) (pos 5) (at o (Some 0) (Some 0) (Some 0))
     ∷ group (at o (Some 0) (Some 0) (Some 1)) 2 (pos 2) (negsuc 2) (pos 5) (at o (Some 0) (Some 0) (Some 1))
     ∷ group (at o (Some 0) (Some 1) o) 1 (negsuc 2) (negsuc 2) (negsuc 2) (at (Some 0) (Some 0) (Some 1) (Some 0))
-    ∷ group (at o (Some 0) (Some 1) (Some 0)) 1 (negsuc 2) (negsuc 2) (negsuc 2) (at (Some 0) (Some 0) (Some 1) (Some 0))
+    ∷ group (at o (Some 0) (Some 1) (Some 0)) 1 (negsuc 2) (negsuc 2) (negsuc 2)
+    (at (Some 0) (Some 0) (Some 1) (Some 0))
     ∷ group (at o (Some 1) o o) 4 (pos 15) (negsuc 5) (pos 10) (at o (Some 1) o (Some 1))
     ∷ group (at o (Some 1) o (Some 1)) 4 (pos 15) (negsuc 5) (pos 10) (at o (Some 1) o (Some 1))
     ∷ group (at o (Some 1) (Some 0) o) 1 (pos 7) (pos 7) (pos 7) (at (Some 0) (Some 1) (Some 0) (Some 1))
@@ -71,15 +74,18 @@ groups =
     ∷ group (at (Some 0) o (Some 0) (Some 0)) 1 (pos 5) (pos 5) (pos 5) (at (Some 0) (Some 0) (Some 0) (Some 0))
     ∷ group (at (Some 0) o (Some 0) (Some 1)) 2 (pos 12) (pos 5) (pos 7) (at (Some 0) o (Some 0) (Some 1))
     ∷ group (at (Some 0) o (Some 1) o) 1 (negsuc 2) (negsuc 2) (negsuc 2) (at (Some 0) (Some 0) (Some 1) (Some 0))
-    ∷ group (at (Some 0) o (Some 1) (Some 0)) 1 (negsuc 2) (negsuc 2) (negsuc 2) (at (Some 0) (Some 0) (Some 1) (Some 0))
+    ∷ group (at (Some 0) o (Some 1) (Some 0)) 1 (negsuc 2) (negsuc 2) (negsuc 2)
+    (at (Some 0) (Some 0) (Some 1) (Some 0))
     ∷ group (at (Some 0) (Some 0) o o) 3 (pos 7) (negsuc 2) (pos 5) (at (Some 0) (Some 0) o o)
     ∷ group (at (Some 0) (Some 0) o (Some 0)) 2 (pos 2) (negsuc 2) (pos 5) (at (Some 0) (Some 0) o (Some 0))
     ∷ group (at (Some 0) (Some 0) o (Some 1)) 1 (pos 5) (pos 5) (pos 5) (at (Some 0) (Some 0) (Some 0) (Some 1))
     ∷ group (at (Some 0) (Some 0) (Some 0) o) 2 (pos 10) (pos 5) (pos 5) (at (Some 0) (Some 0) (Some 0) o)
     ∷ group (at (Some 0) (Some 0) (Some 0) (Some 0)) 1 (pos 5) (pos 5) (pos 5) (at (Some 0) (Some 0) (Some 0) (Some 0))
     ∷ group (at (Some 0) (Some 0) (Some 0) (Some 1)) 1 (pos 5) (pos 5) (pos 5) (at (Some 0) (Some 0) (Some 0) (Some 1))
-    ∷ group (at (Some 0) (Some 0) (Some 1) o) 1 (negsuc 2) (negsuc 2) (negsuc 2) (at (Some 0) (Some 0) (Some 1) (Some 0))
-    ∷ group (at (Some 0) (Some 0) (Some 1) (Some 0)) 1 (negsuc 2) (negsuc 2) (negsuc 2) (at (Some 0) (Some 0) (Some 1) (Some 0))
+    ∷ group (at (Some 0) (Some 0) (Some 1) o) 1 (negsuc 2) (negsuc 2) (negsuc 2)
+    (at (Some 0) (Some 0) (Some 1) (Some 0))
+    ∷ group (at (Some 0) (Some 0) (Some 1) (Some 0)) 1 (negsuc 2) (negsuc 2) (negsuc 2)
+    (at (Some 0) (Some 0) (Some 1) (Some 0))
     ∷ group (at (Some 0) (Some 1) o o) 1 (pos 7) (pos 7) (pos 7) (at (Some 0) (Some 1) (Some 0) (Some 1))
     ∷ group (at (Some 0) (Some 1) o (Some 1)) 1 (pos 7) (pos 7) (pos 7) (at (Some 0) (Some 1) (Some 0) (Some 1))
     ∷ group (at (Some 0) (Some 1) (Some 0) o) 1 (pos 7) (pos 7) (pos 7) (at (Some 0) (Some 1) (Some 0) (Some 1))
@@ -98,19 +104,25 @@ groups =
     ∷ group (at (Some 1) (Some 1) o o) 2 (negsuc 1) (negsuc 5) (pos 4) (at (Some 1) (Some 1) (Some 2) (Some 1))
     ∷ group (at (Some 1) (Some 1) o (Some 1)) 2 (negsuc 1) (negsuc 5) (pos 4) (at (Some 1) (Some 1) (Some 2) (Some 1))
     ∷ group (at (Some 1) (Some 1) (Some 2) o) 2 (negsuc 1) (negsuc 5) (pos 4) (at (Some 1) (Some 1) (Some 2) (Some 1))
-    ∷ group (at (Some 1) (Some 1) (Some 2) (Some 1)) 2 (negsuc 1) (negsuc 5) (pos 4) (at (Some 1) (Some 1) (Some 2) (Some 1))
+    ∷ group (at (Some 1) (Some 1) (Some 2) (Some 1)) 2 (negsuc 1) (negsuc 5) (pos 4)
+    (at (Some 1) (Some 1) (Some 2) (Some 1))
     ∷ group (at (Some 2) o o o) 2 (pos 7) (negsuc 2) (pos 10) (at (Some 2) o o (Some 1))
     ∷ group (at (Some 2) o o (Some 1)) 2 (pos 7) (negsuc 2) (pos 10) (at (Some 2) o o (Some 1))
     ∷ group (at (Some 2) o (Some 0) o) 1 (negsuc 2) (negsuc 2) (negsuc 2) (at (Some 2) (Some 0) (Some 0) (Some 1))
-    ∷ group (at (Some 2) o (Some 0) (Some 1)) 1 (negsuc 2) (negsuc 2) (negsuc 2) (at (Some 2) (Some 0) (Some 0) (Some 1))
+    ∷ group (at (Some 2) o (Some 0) (Some 1)) 1 (negsuc 2) (negsuc 2) (negsuc 2)
+    (at (Some 2) (Some 0) (Some 0) (Some 1))
     ∷ group (at (Some 2) o (Some 2) o) 1 (pos 10) (pos 10) (pos 10) (at (Some 2) (Some 1) (Some 2) (Some 1))
     ∷ group (at (Some 2) o (Some 2) (Some 1)) 1 (pos 10) (pos 10) (pos 10) (at (Some 2) (Some 1) (Some 2) (Some 1))
     ∷ group (at (Some 2) (Some 0) o o) 1 (negsuc 2) (negsuc 2) (negsuc 2) (at (Some 2) (Some 0) (Some 0) (Some 1))
-    ∷ group (at (Some 2) (Some 0) o (Some 1)) 1 (negsuc 2) (negsuc 2) (negsuc 2) (at (Some 2) (Some 0) (Some 0) (Some 1))
-    ∷ group (at (Some 2) (Some 0) (Some 0) o) 1 (negsuc 2) (negsuc 2) (negsuc 2) (at (Some 2) (Some 0) (Some 0) (Some 1))
-    ∷ group (at (Some 2) (Some 0) (Some 0) (Some 1)) 1 (negsuc 2) (negsuc 2) (negsuc 2) (at (Some 2) (Some 0) (Some 0) (Some 1))
+    ∷ group (at (Some 2) (Some 0) o (Some 1)) 1 (negsuc 2) (negsuc 2) (negsuc 2)
+    (at (Some 2) (Some 0) (Some 0) (Some 1))
+    ∷ group (at (Some 2) (Some 0) (Some 0) o) 1 (negsuc 2) (negsuc 2) (negsuc 2)
+    (at (Some 2) (Some 0) (Some 0) (Some 1))
+    ∷ group (at (Some 2) (Some 0) (Some 0) (Some 1)) 1 (negsuc 2) (negsuc 2) (negsuc 2)
+    (at (Some 2) (Some 0) (Some 0) (Some 1))
     ∷ group (at (Some 2) (Some 1) o o) 1 (pos 10) (pos 10) (pos 10) (at (Some 2) (Some 1) (Some 2) (Some 1))
     ∷ group (at (Some 2) (Some 1) o (Some 1)) 1 (pos 10) (pos 10) (pos 10) (at (Some 2) (Some 1) (Some 2) (Some 1))
     ∷ group (at (Some 2) (Some 1) (Some 2) o) 1 (pos 10) (pos 10) (pos 10) (at (Some 2) (Some 1) (Some 2) (Some 1))
-    ∷ group (at (Some 2) (Some 1) (Some 2) (Some 1)) 1 (pos 10) (pos 10) (pos 10) (at (Some 2) (Some 1) (Some 2) (Some 1))
+    ∷ group (at (Some 2) (Some 1) (Some 2) (Some 1)) 1 (pos 10) (pos 10) (pos 10)
+    (at (Some 2) (Some 1) (Some 2) (Some 1))
     ∷ []

@@ -16,7 +16,8 @@ pub record ShopValues (A : Type 0) : Type 0 where
 
 -- an aggregate of one measure
 abbrev pub sums : ℕ → ℤ → ℤ → ℤ → Agg
-sums count sum least greatest = record { count = count; parts = record { sum = sum; least = least; greatest = greatest } ∷ [] }
+sums count sum least greatest
+    = record { count = count; parts = record { sum = sum; least = least; greatest = greatest } ∷ [] }
 
 module _ {A : Type 0} where
   abbrev pub any : Option A
@@ -37,7 +38,14 @@ module _ {A : Type 0} where
 
   -- a node that is none, with its forced child
   abbrev pub inner : Cell A → Cell A → Edge A (Cell A) → List (Edge A (Cell A)) → Node A (Cell A)
-  inner cell parent forced edges = record { cell = cell; parent = Some parent; class = None; forced = Some forced; edges = edges ++ forced ∷ [] }
+  inner cell parent forced edges = record {
+    cell = cell;
+    parent = Some parent;
+    class = None;
+    forced = Some forced;
+    edges
+        = edges ++ forced ∷ [];
+  }
 
   abbrev pub hit : Cell A → Agg → Hit A
   hit cell agg = record { cell = cell; agg = agg }
@@ -68,16 +76,24 @@ module _ {A : Type 0} where
         ∷ edge 1 n.P1 (cell any (Some n.P1) any) ∷ edge 1 n.P2 (cell (Some n.S1) (Some n.P2) any)
         ∷ ordered (edge 2 n.s (cell (Some n.S1) any (Some n.s))) (edge 2 n.f (cell (Some n.S2) (Some n.P1) (Some n.f))))
         ∷ class (cell any (Some n.P1) any) (Some (cell any any any)) (sums 2 (pos 15) (pos 6) (pos 9))
-        (ordered (edge 2 n.s (cell (Some n.S1) (Some n.P1) (Some n.s))) (edge 2 n.f (cell (Some n.S2) (Some n.P1) (Some n.f))))
+        (ordered (edge 2 n.s (cell (Some n.S1) (Some n.P1) (Some n.s)))
+        (edge 2 n.f (cell (Some n.S2) (Some n.P1) (Some n.f))))
         ∷ store_record
-        ∷ class (cell (Some n.S1) any (Some n.s)) (Some (cell (Some n.S1) any any)) (sums 2 (pos 18) (pos 6) (pos 12)) []
-        ∷ inner (cell (Some n.S1) (Some n.P1) any) (cell (Some n.S1) any any) (edge 2 n.s (cell (Some n.S1) (Some n.P1) (Some n.s))) []
-        ∷ class (cell (Some n.S1) (Some n.P1) (Some n.s)) (Some (cell (Some n.S1) (Some n.P1) any)) (sums 1 (pos 6) (pos 6) (pos 6)) []
-        ∷ inner (cell (Some n.S1) (Some n.P2) any) (cell (Some n.S1) any any) (edge 2 n.s (cell (Some n.S1) (Some n.P2) (Some n.s))) []
-        ∷ class (cell (Some n.S1) (Some n.P2) (Some n.s)) (Some (cell (Some n.S1) (Some n.P2) any)) (sums 1 (pos 12) (pos 12) (pos 12)) []
+        ∷ class (cell (Some n.S1) any (Some n.s)) (Some (cell (Some n.S1) any any))
+        (sums 2 (pos 18) (pos 6) (pos 12)) []
+        ∷ inner (cell (Some n.S1) (Some n.P1) any) (cell (Some n.S1) any any)
+        (edge 2 n.s (cell (Some n.S1) (Some n.P1) (Some n.s))) []
+        ∷ class (cell (Some n.S1) (Some n.P1) (Some n.s)) (Some (cell (Some n.S1) (Some n.P1) any))
+        (sums 1 (pos 6) (pos 6) (pos 6)) []
+        ∷ inner (cell (Some n.S1) (Some n.P2) any) (cell (Some n.S1) any any)
+        (edge 2 n.s (cell (Some n.S1) (Some n.P2) (Some n.s))) []
+        ∷ class (cell (Some n.S1) (Some n.P2) (Some n.s)) (Some (cell (Some n.S1) (Some n.P2) any))
+        (sums 1 (pos 12) (pos 12) (pos 12)) []
         ∷ inner (cell (Some n.S2) any any) (cell any any any) (edge 1 n.P1 (cell (Some n.S2) (Some n.P1) any)) []
-        ∷ inner (cell (Some n.S2) (Some n.P1) any) (cell (Some n.S2) any any) (edge 2 n.f (cell (Some n.S2) (Some n.P1) (Some n.f))) []
-        ∷ class (cell (Some n.S2) (Some n.P1) (Some n.f)) (Some (cell (Some n.S2) (Some n.P1) any)) (sums 1 (pos 9) (pos 9) (pos 9)) []
+        ∷ inner (cell (Some n.S2) (Some n.P1) any) (cell (Some n.S2) any any)
+        (edge 2 n.f (cell (Some n.S2) (Some n.P1) (Some n.f))) []
+        ∷ class (cell (Some n.S2) (Some n.P1) (Some n.f)) (Some (cell (Some n.S2) (Some n.P1) any))
+        (sums 1 (pos 9) (pos 9) (pos 9)) []
         ∷ []
 
     -- the same after the fourth row: 15 nodes, 14 edges to children and 6 links
@@ -88,22 +104,33 @@ module _ {A : Type 0} where
         ∷ edge 1 n.P1 (cell any (Some n.P1) any) ∷ edge 1 n.P2 (cell any (Some n.P2) any)
         ∷ ordered (edge 2 n.s (cell (Some n.S1) any (Some n.s))) (edge 2 n.f (cell (Some n.S2) any (Some n.f))))
         ∷ class (cell any (Some n.P1) any) (Some (cell any any any)) (sums 2 (pos 15) (pos 6) (pos 9))
-        (ordered (edge 2 n.s (cell (Some n.S1) (Some n.P1) (Some n.s))) (edge 2 n.f (cell (Some n.S2) (Some n.P1) (Some n.f))))
+        (ordered (edge 2 n.s (cell (Some n.S1) (Some n.P1) (Some n.s)))
+        (edge 2 n.f (cell (Some n.S2) (Some n.P1) (Some n.f))))
         ∷ class (cell any (Some n.P2) any) (Some (cell any any any)) (sums 2 (pos 15) (pos 3) (pos 12))
-        (ordered (edge 2 n.s (cell (Some n.S1) (Some n.P2) (Some n.s))) (edge 2 n.f (cell (Some n.S2) (Some n.P2) (Some n.f))))
+        (ordered (edge 2 n.s (cell (Some n.S1) (Some n.P2) (Some n.s)))
+        (edge 2 n.f (cell (Some n.S2) (Some n.P2) (Some n.f))))
         ∷ store_record
-        ∷ class (cell (Some n.S1) any (Some n.s)) (Some (cell (Some n.S1) any any)) (sums 2 (pos 18) (pos 6) (pos 12)) []
-        ∷ inner (cell (Some n.S1) (Some n.P1) any) (cell (Some n.S1) any any) (edge 2 n.s (cell (Some n.S1) (Some n.P1) (Some n.s))) []
-        ∷ class (cell (Some n.S1) (Some n.P1) (Some n.s)) (Some (cell (Some n.S1) (Some n.P1) any)) (sums 1 (pos 6) (pos 6) (pos 6)) []
-        ∷ inner (cell (Some n.S1) (Some n.P2) any) (cell (Some n.S1) any any) (edge 2 n.s (cell (Some n.S1) (Some n.P2) (Some n.s))) []
-        ∷ class (cell (Some n.S1) (Some n.P2) (Some n.s)) (Some (cell (Some n.S1) (Some n.P2) any)) (sums 1 (pos 12) (pos 12) (pos 12)) []
+        ∷ class (cell (Some n.S1) any (Some n.s)) (Some (cell (Some n.S1) any any))
+        (sums 2 (pos 18) (pos 6) (pos 12)) []
+        ∷ inner (cell (Some n.S1) (Some n.P1) any) (cell (Some n.S1) any any)
+        (edge 2 n.s (cell (Some n.S1) (Some n.P1) (Some n.s))) []
+        ∷ class (cell (Some n.S1) (Some n.P1) (Some n.s)) (Some (cell (Some n.S1) (Some n.P1) any))
+        (sums 1 (pos 6) (pos 6) (pos 6)) []
+        ∷ inner (cell (Some n.S1) (Some n.P2) any) (cell (Some n.S1) any any)
+        (edge 2 n.s (cell (Some n.S1) (Some n.P2) (Some n.s))) []
+        ∷ class (cell (Some n.S1) (Some n.P2) (Some n.s)) (Some (cell (Some n.S1) (Some n.P2) any))
+        (sums 1 (pos 12) (pos 12) (pos 12)) []
         ∷ inner (cell (Some n.S2) any any) (cell any any any) (edge 2 n.f (cell (Some n.S2) any (Some n.f)))
         (edge 1 n.P1 (cell (Some n.S2) (Some n.P1) any) ∷ edge 1 n.P2 (cell (Some n.S2) (Some n.P2) any) ∷ [])
         ∷ class (cell (Some n.S2) any (Some n.f)) (Some (cell (Some n.S2) any any)) (sums 2 (pos 12) (pos 3) (pos 9)) []
-        ∷ inner (cell (Some n.S2) (Some n.P1) any) (cell (Some n.S2) any any) (edge 2 n.f (cell (Some n.S2) (Some n.P1) (Some n.f))) []
-        ∷ class (cell (Some n.S2) (Some n.P1) (Some n.f)) (Some (cell (Some n.S2) (Some n.P1) any)) (sums 1 (pos 9) (pos 9) (pos 9)) []
-        ∷ inner (cell (Some n.S2) (Some n.P2) any) (cell (Some n.S2) any any) (edge 2 n.f (cell (Some n.S2) (Some n.P2) (Some n.f))) []
-        ∷ class (cell (Some n.S2) (Some n.P2) (Some n.f)) (Some (cell (Some n.S2) (Some n.P2) any)) (sums 1 (pos 3) (pos 3) (pos 3)) []
+        ∷ inner (cell (Some n.S2) (Some n.P1) any) (cell (Some n.S2) any any)
+        (edge 2 n.f (cell (Some n.S2) (Some n.P1) (Some n.f))) []
+        ∷ class (cell (Some n.S2) (Some n.P1) (Some n.f)) (Some (cell (Some n.S2) (Some n.P1) any))
+        (sums 1 (pos 9) (pos 9) (pos 9)) []
+        ∷ inner (cell (Some n.S2) (Some n.P2) any) (cell (Some n.S2) any any)
+        (edge 2 n.f (cell (Some n.S2) (Some n.P2) (Some n.f))) []
+        ∷ class (cell (Some n.S2) (Some n.P2) (Some n.f)) (Some (cell (Some n.S2) (Some n.P2) any))
+        (sums 1 (pos 3) (pos 3) (pos 3)) []
         ∷ []
 
     -- the classes of two rows or more, all equal but the first
@@ -111,25 +138,32 @@ module _ {A : Type 0} where
     twos =
         class_hit (cell any any any) (sums 3 (pos 27) (pos 6) (pos 12)) (cell any any any ∷ [])
         ∷ class_hit (cell any (Some n.P1) any) (sums 2 (pos 15) (pos 6) (pos 9)) (cell any (Some n.P1) any ∷ [])
-        ∷ class_hit (cell (Some n.S1) any (Some n.s)) (sums 2 (pos 18) (pos 6) (pos 12)) (cell any any (Some n.s) ∷ cell (Some n.S1) any any ∷ [])
+        ∷ class_hit (cell (Some n.S1) any (Some n.s)) (sums 2 (pos 18) (pos 6) (pos 12))
+        (cell any any (Some n.s) ∷ cell (Some n.S1) any any ∷ [])
         ∷ []
 
     -- the classes with a mean sale of at least 15/2: 12, 9 three times, 15/2
     abbrev pub high_means : List (ClassHit A)
     high_means =
-        class_hit (cell (Some n.S1) (Some n.P2) (Some n.s)) (sums 1 (pos 12) (pos 12) (pos 12)) (cell any (Some n.P2) any ∷ [])
+        class_hit (cell (Some n.S1) (Some n.P2) (Some n.s)) (sums 1 (pos 12) (pos 12) (pos 12))
+        (cell any (Some n.P2) any ∷ [])
         ∷ class_hit (cell any any any) (sums 3 (pos 27) (pos 6) (pos 12)) (cell any any any ∷ [])
-        ∷ class_hit (cell (Some n.S1) any (Some n.s)) (sums 2 (pos 18) (pos 6) (pos 12)) (cell any any (Some n.s) ∷ cell (Some n.S1) any any ∷ [])
-        ∷ class_hit (cell (Some n.S2) (Some n.P1) (Some n.f)) (sums 1 (pos 9) (pos 9) (pos 9)) (cell any any (Some n.f) ∷ cell (Some n.S2) any any ∷ [])
+        ∷ class_hit (cell (Some n.S1) any (Some n.s)) (sums 2 (pos 18) (pos 6) (pos 12))
+        (cell any any (Some n.s) ∷ cell (Some n.S1) any any ∷ [])
+        ∷ class_hit (cell (Some n.S2) (Some n.P1) (Some n.f)) (sums 1 (pos 9) (pos 9) (pos 9))
+        (cell any any (Some n.f) ∷ cell (Some n.S2) any any ∷ [])
         ∷ class_hit (cell any (Some n.P1) any) (sums 2 (pos 15) (pos 6) (pos 9)) (cell any (Some n.P1) any ∷ [])
         ∷ []
 
     -- the classes with a sum of sales of at most 15: 6, 9, 12, 15
     abbrev pub low_sums : List (ClassHit A)
     low_sums =
-        class_hit (cell (Some n.S1) (Some n.P1) (Some n.s)) (sums 1 (pos 6) (pos 6) (pos 6)) (cell any (Some n.P1) (Some n.s) ∷ cell (Some n.S1) (Some n.P1) any ∷ [])
-        ∷ class_hit (cell (Some n.S2) (Some n.P1) (Some n.f)) (sums 1 (pos 9) (pos 9) (pos 9)) (cell any any (Some n.f) ∷ cell (Some n.S2) any any ∷ [])
-        ∷ class_hit (cell (Some n.S1) (Some n.P2) (Some n.s)) (sums 1 (pos 12) (pos 12) (pos 12)) (cell any (Some n.P2) any ∷ [])
+        class_hit (cell (Some n.S1) (Some n.P1) (Some n.s)) (sums 1 (pos 6) (pos 6) (pos 6))
+        (cell any (Some n.P1) (Some n.s) ∷ cell (Some n.S1) (Some n.P1) any ∷ [])
+        ∷ class_hit (cell (Some n.S2) (Some n.P1) (Some n.f)) (sums 1 (pos 9) (pos 9) (pos 9))
+        (cell any any (Some n.f) ∷ cell (Some n.S2) any any ∷ [])
+        ∷ class_hit (cell (Some n.S1) (Some n.P2) (Some n.s)) (sums 1 (pos 12) (pos 12) (pos 12))
+        (cell any (Some n.P2) any ∷ [])
         ∷ class_hit (cell any (Some n.P1) any) (sums 2 (pos 15) (pos 6) (pos 9)) (cell any (Some n.P1) any ∷ [])
         ∷ []
 

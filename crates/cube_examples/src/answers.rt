@@ -9,15 +9,22 @@ ghost use Rattle.cube_examples.specs.Codes.{shop_codes};
 
 /// The cells of a box that cover a row, in cell order.
 pub fn ranges()
-    ensures one_product { range nat_cmp 1 (base shop_codes) (Some (shop_codes.S2 ∷ shop_codes.S1 ∷ []) ∷ Some (shop_codes.P1 ∷ []) ∷ None ∷ [])
+    ensures one_product { range nat_cmp 1 (base shop_codes)
+        (Some (shop_codes.S2 ∷ shop_codes.S1 ∷ []) ∷ Some (shop_codes.P1 ∷ []) ∷ None ∷ [])
         ≡ hit (cell (Some shop_codes.S1) (Some shop_codes.P1) any) (sums 1 (pos 6) (pos 6) (pos 6))
-        ∷ hit (cell (Some shop_codes.S2) (Some shop_codes.P1) any) (sums 1 (pos 9) (pos 9) (pos 9)) ∷ [] }
-    ensures two_products { range nat_cmp 1 (base shop_codes) (Some (shop_codes.S2 ∷ shop_codes.S1 ∷ []) ∷ Some (shop_codes.P1 ∷ shop_codes.P2 ∷ []) ∷ None ∷ [])
+        ∷ hit (cell (Some shop_codes.S2) (Some shop_codes.P1) any) (sums 1 (pos 9) (pos 9) (pos 9))
+        ∷ [] }
+    ensures two_products { range nat_cmp 1 (base shop_codes)
+        (Some (shop_codes.S2 ∷ shop_codes.S1 ∷ [])
+        ∷ Some (shop_codes.P1 ∷ shop_codes.P2 ∷ []) ∷ None ∷ [])
         ≡ hit (cell (Some shop_codes.S1) (Some shop_codes.P1) any) (sums 1 (pos 6) (pos 6) (pos 6))
-        ∷ hit (cell (Some shop_codes.S1) (Some shop_codes.P2) any) (sums 1 (pos 12) (pos 12) (pos 12))
-        ∷ hit (cell (Some shop_codes.S2) (Some shop_codes.P1) any) (sums 1 (pos 9) (pos 9) (pos 9)) ∷ [] }
+        ∷ hit (cell (Some shop_codes.S1) (Some shop_codes.P2) any)
+        (sums 1 (pos 12) (pos 12) (pos 12))
+        ∷ hit (cell (Some shop_codes.S2) (Some shop_codes.P1) any) (sums 1 (pos 9) (pos 9) (pos 9))
+        ∷ [] }
     ensures no_product { range nat_cmp 1 (base shop_codes) (None ∷ Some [] ∷ None ∷ []) ≡ [] }
-    ensures any_alone { range nat_cmp 1 (base shop_codes) (None ∷ Some (shop_codes.P1 ∷ []) ∷ None ∷ [])
+    ensures any_alone { range nat_cmp 1 (base shop_codes)
+        (None ∷ Some (shop_codes.P1 ∷ []) ∷ None ∷ [])
         ≡ hit (cell any (Some shop_codes.P1) any) (sums 2 (pos 15) (pos 6) (pos 9)) ∷ [] }
 {}
 
@@ -41,9 +48,12 @@ pub fn iceberg_by_sum()
 pub fn values()
     ensures count { value_of Count 2 (sums 2 (pos 1250) (pos 600) (pos 650)) ≡ fraction (pos 2) 1 }
     ensures sum { value_of (Sum 0) 2 (sums 2 (pos 1250) (pos 600) (pos 650)) ≡ fraction (pos 25) 2 }
-    ensures least { value_of (Least 0) 2 (sums 2 (pos 1250) (pos 600) (pos 650)) ≡ fraction (pos 6) 1 }
-    ensures greatest { value_of (Greatest 0) 2 (sums 2 (pos 1250) (pos 600) (pos 650)) ≡ fraction (pos 13) 2 }
-    ensures mean { value_of (Mean 0) 2 (sums 2 (pos 1250) (pos 600) (pos 650)) ≡ fraction (pos 25) 4 }
+    ensures least { value_of (Least 0) 2 (sums 2 (pos 1250) (pos 600) (pos 650))
+        ≡ fraction (pos 6) 1 }
+    ensures greatest { value_of (Greatest 0) 2 (sums 2 (pos 1250) (pos 600) (pos 650))
+        ≡ fraction (pos 13) 2 }
+    ensures mean { value_of (Mean 0) 2 (sums 2 (pos 1250) (pos 600) (pos 650))
+        ≡ fraction (pos 25) 4 }
 {}
 
 /// Fractions compare by value.

@@ -26,31 +26,43 @@ pub fn parts_of_a_cell()
 
 /// A cell generalizes another if the other has each of its values.
 pub fn order_of_cells()
-    ensures more_general { leq (eq_by_cmp nat_cmp) (code_cell any (Some 5) any) (code_cell (Some 3) (Some 5) any) ≡ true }
-    ensures more_special { leq (eq_by_cmp nat_cmp) (code_cell (Some 3) (Some 5) any) (code_cell any (Some 5) any) ≡ false }
-    ensures other_value { leq (eq_by_cmp nat_cmp) (code_cell any (Some 5) any) (code_cell (Some 3) (Some 6) any) ≡ false }
-    ensures itself { leq (eq_by_cmp nat_cmp) (code_cell any (Some 5) any) (code_cell any (Some 5) any) ≡ true }
+    ensures more_general { leq (eq_by_cmp nat_cmp) (code_cell any (Some 5) any)
+        (code_cell (Some 3) (Some 5) any) ≡ true }
+    ensures more_special { leq (eq_by_cmp nat_cmp) (code_cell (Some 3) (Some 5) any)
+        (code_cell any (Some 5) any) ≡ false }
+    ensures other_value { leq (eq_by_cmp nat_cmp) (code_cell any (Some 5) any)
+        (code_cell (Some 3) (Some 6) any) ≡ false }
+    ensures itself { leq (eq_by_cmp nat_cmp) (code_cell any (Some 5) any)
+        (code_cell any (Some 5) any) ≡ true }
 {}
 
 /// The meet has the values on which both agree.
 pub fn meet_of_cells()
-    ensures { meet (eq_by_cmp nat_cmp) (code_cell (Some 3) (Some 5) any) (code_cell (Some 3) (Some 6) (Some 7)) ≡ code_cell (Some 3) any any }
+    ensures { meet (eq_by_cmp nat_cmp) (code_cell (Some 3) (Some 5) any)
+        (code_cell (Some 3) (Some 6) (Some 7)) ≡ code_cell (Some 3) any any }
 {}
 
 /// Two cells are equal if all their entries are.
 pub fn equality_of_cells()
-    ensures same { cell_eq (eq_by_cmp nat_cmp) (code_cell (Some 3) any (Some 7)) (code_cell (Some 3) any (Some 7)) ≡ true }
-    ensures other_value { cell_eq (eq_by_cmp nat_cmp) (code_cell (Some 3) any (Some 7)) (code_cell (Some 3) any (Some 8)) ≡ false }
-    ensures any_is_none { cell_eq (eq_by_cmp nat_cmp) (code_cell (Some 3) any any) (code_cell (Some 3) any (Some 0)) ≡ false }
+    ensures same { cell_eq (eq_by_cmp nat_cmp) (code_cell (Some 3) any (Some 7))
+        (code_cell (Some 3) any (Some 7)) ≡ true }
+    ensures other_value { cell_eq (eq_by_cmp nat_cmp) (code_cell (Some 3) any (Some 7))
+        (code_cell (Some 3) any (Some 8)) ≡ false }
+    ensures any_is_none { cell_eq (eq_by_cmp nat_cmp) (code_cell (Some 3) any any)
+        (code_cell (Some 3) any (Some 0)) ≡ false }
 {}
 
 /// Cell order compares in the first dimension in which the cells differ. Any comes before each
 /// value.
 pub fn cell_order()
-    ensures any_first { cell_cmp nat_cmp (code_cell any (Some 9) any) (code_cell (Some 0) any any) ≡ Less }
-    ensures first_dimension { cell_cmp nat_cmp (code_cell (Some 2) any any) (code_cell (Some 1) (Some 9) (Some 9)) ≡ Greater }
-    ensures later_dimension { cell_cmp nat_cmp (code_cell (Some 2) (Some 1) (Some 4)) (code_cell (Some 2) (Some 1) (Some 5)) ≡ Less }
-    ensures same { cell_cmp nat_cmp (code_cell (Some 2) any (Some 4)) (code_cell (Some 2) any (Some 4)) ≡ Equal }
+    ensures any_first { cell_cmp nat_cmp (code_cell any (Some 9) any)
+        (code_cell (Some 0) any any) ≡ Less }
+    ensures first_dimension { cell_cmp nat_cmp (code_cell (Some 2) any any)
+        (code_cell (Some 1) (Some 9) (Some 9)) ≡ Greater }
+    ensures later_dimension { cell_cmp nat_cmp (code_cell (Some 2) (Some 1) (Some 4))
+        (code_cell (Some 2) (Some 1) (Some 5)) ≡ Less }
+    ensures same { cell_cmp nat_cmp (code_cell (Some 2) any (Some 4))
+        (code_cell (Some 2) any (Some 4)) ≡ Equal }
 {}
 
 /// Bit i stands for dimension i.

@@ -9,7 +9,12 @@ ghost use Rattle.cube_examples.specs.Sales.{sales, groups};
 
 /// Each cell that covers a sale, with the aggregate and the closure.
 pub fn sales_groups()
-    ensures { map (λ c. record { cell = c; agg = agg (eq_by_cmp nat_cmp) 1 sales c; closure = closure (eq_by_cmp nat_cmp) sales c })
+    ensures { map (λ c. record {
+      cell = c;
+      agg = agg (eq_by_cmp nat_cmp) 1 sales c;
+      closure
+          = closure (eq_by_cmp nat_cmp) sales c;
+    })
         (covered nat_cmp sales) ≡ groups }
 {}
 

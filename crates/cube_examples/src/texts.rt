@@ -36,7 +36,8 @@ pub fn text_records_of_plus4()
 
 /// A range answer, in the order of texts. The box has them in another order.
 pub fn text_range()
-    ensures { range text_cmp 1 (base named) (Some (named.S2 ∷ named.S1 ∷ []) ∷ Some (named.P1 ∷ named.P2 ∷ []) ∷ None ∷ [])
+    ensures { range text_cmp 1 (base named) (Some (named.S2 ∷ named.S1 ∷ [])
+        ∷ Some (named.P1 ∷ named.P2 ∷ []) ∷ None ∷ [])
         ≡ hit (cell (Some named.S1) (Some named.P1) any) (sums 1 (pos 6) (pos 6) (pos 6))
         ∷ hit (cell (Some named.S1) (Some named.P2) any) (sums 1 (pos 12) (pos 12) (pos 12))
         ∷ hit (cell (Some named.S2) (Some named.P1) any) (sums 1 (pos 9) (pos 9) (pos 9)) ∷ [] }

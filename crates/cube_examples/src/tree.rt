@@ -2,7 +2,7 @@
 
 ghost use Rattle.std.specs.Prelude.{◌≡◌, ◌∷◌, [], length, pos, negsuc};
 ghost use Rattle.std.specs.Ordering.{nat_cmp};
-ghost use Rattle.cube_defs.specs.Tree.{classes, nodes, tree_edges, links, tree, above, renamed, IsCanonical};
+ghost use Rattle.cube_defs.specs.Tree.{classes, nodes, tree_edges, links, tree, affected_size, renamed, IsCanonical};
 ghost use Rattle.cube_examples.specs.Shop.{base, plus4, base_table, plus4_table, row, store_record};
 ghost use Rattle.cube_examples.specs.Codes.{shop_codes, s_first, table, place_from, numbered_table, numbered_store, no_tree, doubled_table, altered_table};
 
@@ -24,9 +24,11 @@ pub fn plus4_counts()
 
 /// Two rows with the same tuple make one class, and four nodes in a line.
 pub fn twin_counts()
-    ensures classes { length (classes nat_cmp (row 1 0 0 0 (pos 5) ∷ row 2 0 0 0 (negsuc 4) ∷ [])) ≡ 1 }
+    ensures classes { length (classes nat_cmp (row 1 0 0 0 (pos 5) ∷ row 2 0 0 0 (negsuc 4) ∷ []))
+        ≡ 1 }
     ensures nodes { length (nodes nat_cmp (row 1 0 0 0 (pos 5) ∷ row 2 0 0 0 (negsuc 4) ∷ [])) ≡ 4 }
-    ensures tree_edges { tree_edges nat_cmp (row 1 0 0 0 (pos 5) ∷ row 2 0 0 0 (negsuc 4) ∷ []) ≡ 3 }
+    ensures tree_edges { tree_edges nat_cmp (row 1 0 0 0 (pos 5) ∷ row 2 0 0 0 (negsuc 4) ∷ [])
+        ≡ 3 }
     ensures links { links nat_cmp (row 1 0 0 0 (pos 5) ∷ row 2 0 0 0 (negsuc 4) ∷ []) ≡ 0 }
 {}
 
@@ -42,8 +44,9 @@ pub fn plus4_records()
 
 /// Before the fourth row is inserted, two nodes with seven edges generalize its tuple. Afterwards
 /// six nodes with twelve edges do.
-pub fn above_the_fourth()
-    ensures { above nat_cmp (base shop_codes) (plus4 shop_codes) (shop_codes.S2 ∷ shop_codes.P2 ∷ shop_codes.f ∷ []) ≡ 27 }
+pub fn generalizations_of_the_fourth()
+    ensures { affected_size nat_cmp (base shop_codes) (plus4 shop_codes)
+        (shop_codes.S2 ∷ shop_codes.P2 ∷ shop_codes.f ∷ []) ≡ 27 }
 {}
 
 /// The records, with their places as numbers, are the canonical tree.

@@ -25,10 +25,17 @@ int_mul_assoc a b c =
     same_in _ _ (λ i. ups i + sym downs i)
 
 pub swap : (a : ℤ) (m n : ℕ) → (a *ℤ pos m) *ℤ pos n ≡ (a *ℤ pos n) *ℤ pos m
-swap a m n = int_mul_assoc a (pos m) (pos n) ∙ ap (λ (k : ℕ). a *ℤ pos k) (mul_comm m n) ∙ sym (int_mul_assoc a (pos n) (pos m))
+swap a m n = int_mul_assoc a (pos m) (pos n) ∙ ap (λ (k : ℕ). a *ℤ pos k) (mul_comm m n)
+    ∙ sym (int_mul_assoc a (pos n) (pos m))
 
 pub mono : (a b : ℤ) (k : ℕ) → 0 < k → a <ℤ b → (a *ℤ pos k) <ℤ (b *ℤ pos k)
-mono a b k p q = omega (arith, ints, product_is a (pos k), product_is b (pos k), mul-lt-mul_of_pos_right {m = up a + down b} {n = up b + down a} {k = k} (omega (arith, ints)) p)
+mono a b k p q = omega (
+  arith,
+  ints,
+  product_is a (pos k),
+  product_is b (pos k),
+  mul-lt-mul_of_pos_right {m = up a + down b} {n = up b + down a} {k = k} (omega (arith, ints)) p,
+)
 
 pub less_is : (a b : ℤ) → a <ℤ b → int_cmp a b ≡ Less
 less_is a b h = grind (arith, ints)
@@ -49,7 +56,8 @@ module _ {K : Type 0} (value : K → Fraction) (positive : (x : K) → 0 < (valu
 
   -- the answer at x and y, over any third denominator
   over : (x y z : K) → fraction_cmp (value x) (value y) ≡ int_cmp (times x y z) (times y x z)
-  over x y z = sym (scale ((value x).num *ℤ pos (value y).den) ((value y).num *ℤ pos (value x).den) (value z).den (positive z))
+  over x y z = sym (scale ((value x).num *ℤ pos (value y).den) ((value y).num *ℤ pos (value x).den)
+      (value z).den (positive z))
 
   turn : (x y z : K) → times x y z ≡ times x z y
   turn x y z = swap (value x).num (value y).den (value z).den
@@ -58,13 +66,16 @@ module _ {K : Type 0} (value : K → Fraction) (positive : (x : K) → 0 < (valu
   value_total = record {
     antisymm = λ x y. int_cmp_total.antisymm ((value x).num *ℤ pos (value y).den) ((value y).num *ℤ pos (value x).den);
     trans = λ x y z p q. over x z y ∙ int_cmp_total.trans (times x z y) (times y z x) (times z x y)
-        (ap (λ (a : ℤ). int_cmp a (times y z x)) (turn x z y) ∙ ap (int_cmp (times x y z)) (turn y z x) ∙ sym (over x y z) ∙ p)
+        (ap (λ (a : ℤ). int_cmp a (times y z x)) (turn x z y) ∙ ap (int_cmp (times x y z)) (turn y z x)
+        ∙ sym (over x y z) ∙ p)
         (ap (int_cmp (times y z x)) (turn z x y) ∙ sym (over y z x) ∙ q);
     congr = λ x y z p. over x z y ∙ int_cmp_total.congr (times x z y) (times y z x) (times z x y)
-        (ap (λ (a : ℤ). int_cmp a (times y z x)) (turn x z y) ∙ ap (int_cmp (times x y z)) (turn y z x) ∙ sym (over x y z) ∙ p)
+        (ap (λ (a : ℤ). int_cmp a (times y z x)) (turn x z y) ∙ ap (int_cmp (times x y z)) (turn y z x)
+        ∙ sym (over x y z) ∙ p)
         ∙ ap (int_cmp (times y z x)) (turn z x y) ∙ sym (over y z x);
   }
 
 -- the greater first
-pub falling_total : {K : Type 0} {R : K → K → Ordering} → IsTotalOrder R → IsTotalOrder (λ x y. ordering_reverse (R x y))
+pub falling_total : {K : Type 0} {R : K → K → Ordering} → IsTotalOrder R
+    → IsTotalOrder (λ x y. ordering_reverse (R x y))
 falling_total total = subst IsTotalOrder (λ i x y. total.antisymm y x i) (back_total total)

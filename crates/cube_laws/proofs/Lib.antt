@@ -27,3 +27,4 @@ pub mod Icebergs
 pub mod IcebergOrder
 pub mod Divisors
 pub mod FractionOrder
+pub mod CallerLemmas

@@ -20,15 +20,23 @@ then_equal Equal b h = h
 then_equal Greater b h = cc
 
 -- an order that tells values apart gives an equality
-pub equality_by : {A : Type 0} {cmp : A → A → Ordering} → IsTotalOrder cmp → IsAntisymmetric cmp → IsEquality (eq_by_cmp cmp)
-equality_by {cmp = cmp} total anti = record { exact = λ x y h. anti x y (is_equal (cmp x y) h); same = λ x. ap is_eq (tied_itself total x) }
+pub equality_by : {A : Type 0} {cmp : A → A → Ordering} → IsTotalOrder cmp → IsAntisymmetric cmp
+    → IsEquality (eq_by_cmp cmp)
+equality_by {cmp = cmp} total anti
+    = record { exact = λ x y h. anti x y (is_equal (cmp x y) h); same = λ x. ap is_eq (tied_itself total x) }
 
 -- and so does the test that goes by it
-pub equality_of : {A : Type 0} {cmp : A → A → Ordering} {eq : A → A → Bool} → IsTotalOrder cmp → IsAntisymmetric cmp → ((x y : A) → eq x y ≡ is_eq (cmp x y)) → IsEquality eq
-equality_of total anti by = record { exact = λ x y h. (equality_by total anti).exact x y (sym (by x y) ∙ h); same = λ x. by x x ∙ (equality_by total anti).same x }
+pub equality_of : {A : Type 0} {cmp : A → A → Ordering} {eq : A → A → Bool} → IsTotalOrder cmp → IsAntisymmetric cmp
+    → ((x y : A) → eq x y ≡ is_eq (cmp x y)) → IsEquality eq
+equality_of total anti by = record {
+  exact = λ x y h. (equality_by total anti).exact x y (sym (by x y) ∙ h);
+  same
+      = λ x. by x x ∙ (equality_by total anti).same x;
+}
 
 -- both are one test
-pub equality-path : {A : Type 0} (cmp : A → A → Ordering) {eq : A → A → Bool} → ((x y : A) → eq x y ≡ is_eq (cmp x y)) → eq_by_cmp cmp ≡ eq
+pub equality-path : {A : Type 0} (cmp : A → A → Ordering) {eq : A → A → Bool} → ((x y : A) → eq x y ≡ is_eq (cmp x y))
+    → eq_by_cmp cmp ≡ eq
 equality-path cmp by = λ i x y. sym (by x y) i
 
 -- codes by their order, and both tests of them

@@ -1,5 +1,6 @@
 -- What rows share, by their columns.
-use Rattle.std.proofs.Common.{◌≡◌, ◌↔◌, ℕ, zero, suc, ◌<◌, true, Option, Some, None, List, [], ◌∷◌, length, nat_eq, slice_get, slice_index_or, refl, sym, ap, ap₂, subst, ◌∙◌, arith}
+use Rattle.std.proofs.Common.{◌≡◌, ◌↔◌, ℕ, zero, suc, ◌<◌, true, Option, Some, None, List, [], ◌∷◌, length, nat_eq, slice_get}
+use Rattle.std.proofs.Common.{slice_index_or, refl, sym, ap, ap₂, subst, ◌∙◌, arith}
 use Rattle.std.specs.List.{AllByRecursion}
 use Rattle.cube_defs.specs.Cell.{Cell, leq}
 use Rattle.cube_defs.specs.Rows.{Row, covers, cov, closure, meet_all}
@@ -26,8 +27,10 @@ pub shared_some : (rows : List (Row ℕ)) → 0 < length rows → IsShared rows 
 shared_some [] h = absurd (omega arith)
 shared_some (x ∷ rows) h = refl
 
-pub shared_covers : (rows : List (Row ℕ)) (u : Cell ℕ) → IsShared rows u → AllByRecursion (λ r. covers nat_eq u r ≡ true) rows
-shared_covers rows u e = (all_cells (λ d. leq nat_eq u d ≡ true) rows).0 (meet_all_below nat_equality (cells_of rows) u e)
+pub shared_covers : (rows : List (Row ℕ)) (u : Cell ℕ) → IsShared rows u
+    → AllByRecursion (λ r. covers nat_eq u r ≡ true) rows
+shared_covers rows u e =
+    (all_cells (λ d. leq nat_eq u d ≡ true) rows).0 (meet_all_below nat_equality (cells_of rows) u e)
 
 pub cov-shared : (rows : List (Row ℕ)) (u : Cell ℕ) → IsShared rows u → cov nat_eq rows u ≡ rows
 cov-shared rows u e = filter_all (covers nat_eq u) rows (shared_covers rows u e)
@@ -49,7 +52,8 @@ get_entry (x ∷ c) zero v e = ap (λ o. Some o) e
 get_entry (x ∷ c) (suc k) v e = get_entry c k v e
 
 -- rows share a value in a dimension just where each of them has it
-pub shared-entry : (rows : List (Row ℕ)) (u : Cell ℕ) (k v : ℕ) → IsShared rows u → (entry u k ≡ Some v) ↔ AllByRecursion (λ row. slice_get row.tuple k ≡ Some v) rows
+pub shared-entry : (rows : List (Row ℕ)) (u : Cell ℕ) (k v : ℕ) → IsShared rows u → (entry u k ≡ Some v)
+    ↔ AllByRecursion (λ row. slice_get row.tuple k ≡ Some v) rows
 shared-entry rows u k v e =
     let f = closure-entry nat_equality rows u u k v (closure-shared rows u e) in
     let is : cov nat_eq rows u ≡ rows = cov-shared rows u e in (
@@ -62,4 +66,5 @@ pub same_entries : (c d : Cell ℕ) → length c ≡ length d → ((j : ℕ) →
 same_entries [] [] l h = refl
 same_entries [] (y ∷ d) l h = absurd (omega arith)
 same_entries (x ∷ c) [] l h = absurd (omega arith)
-same_entries (x ∷ c) (y ∷ d) l h = ap₂ (λ a b. a ∷ b) (h 0 (omega arith)) (same_entries c d (omega arith) (λ j m. h (suc j) (omega arith)))
+same_entries (x ∷ c) (y ∷ d) l h
+    = ap₂ (λ a b. a ∷ b) (h 0 (omega arith)) (same_entries c d (omega arith) (λ j m. h (suc j) (omega arith)))

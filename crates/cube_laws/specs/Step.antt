@@ -7,7 +7,8 @@ use Rattle.cube_laws.specs.Parts.{HasAll, value_count}
 use Rattle.cube_laws.specs.Total.{total, join_cells, join_aggs, agg_at}
 
 -- r goes from the rows xs ++ r ∷ ys; u covers it and has Any in dimension i, where r has t
-pub record IsStep {A : Type 0} (eq : A → A → Bool) (xs : List (Row A)) (r : Row A) (ys : List (Row A)) (u : Cell A) (i : ℕ) (t : A) (w : Cell A) : Type 0 where
+pub record IsStep {A : Type 0} (eq : A → A → Bool) (xs : List (Row A)) (r : Row A) (ys : List (Row A)) (u : Cell A)
+    (i : ℕ) (t : A) (w : Cell A) : Type 0 where
   -- w was the closure of u + (i, t); it covers r too, and has more values than u
   pub closes : closure eq (xs ++ r ∷ ys) (with_value u i t) ≡ Some w
   pub covers_r : covers eq w r ≡ true
@@ -19,6 +20,8 @@ pub record IsStep {A : Type 0} (eq : A → A → Bool) (xs : List (Row A)) (r : 
   pub others : (v : A) → eq v t ≡ false → covers eq (with_value u i v) r ≡ false
   -- the new closure and aggregate of u, from the new ones of w and the old ones of the other parts
   pub new_closure : (vs : List A) → IsDistinct eq vs → HasAll eq (xs ++ ys) u i vs
-      → closure eq (xs ++ ys) u ≡ total (join_cells eq) None (λ v. if eq v t then closure eq (xs ++ ys) w else closure eq (xs ++ r ∷ ys) (with_value u i v)) vs
+      → closure eq (xs ++ ys) u ≡ total (join_cells eq) None (λ v. if eq v t then closure eq (xs ++ ys) w
+      else closure eq (xs ++ r ∷ ys) (with_value u i v)) vs
   pub new_aggregate : (measures : ℕ) (vs : List A) → IsDistinct eq vs → HasAll eq (xs ++ ys) u i vs
-      → agg_at eq measures (xs ++ ys) u ≡ total join_aggs None (λ v. if eq v t then agg_at eq measures (xs ++ ys) w else agg_at eq measures (xs ++ r ∷ ys) (with_value u i v)) vs
+      → agg_at eq measures (xs ++ ys) u ≡ total join_aggs None (λ v. if eq v t then agg_at eq measures (xs ++ ys) w
+      else agg_at eq measures (xs ++ r ∷ ys) (with_value u i v)) vs

@@ -5,7 +5,12 @@ use Rattle.cube_defs.specs.Cell.{Cell}
 use Rattle.cube_defs.specs.Rows.{Row, Agg, Part, agg_of, cov, meet_after}
 
 abbrev pub combine_part : Part → Part → Part
-combine_part p q = record { sum = p.sum +ℤ q.sum; least = int_min p.least q.least; greatest = int_max p.greatest q.greatest }
+combine_part p q = record {
+  sum = p.sum +ℤ q.sum;
+  least = int_min p.least q.least;
+  greatest
+      = int_max p.greatest q.greatest;
+}
 
 abbrev pub combine_parts : List Part → List Part → List Part
 combine_parts [] qs = []

@@ -1,6 +1,6 @@
 //! Cells ordered by generalization. Each two cells have a greatest lower bound.
 ghost use Rattle.std.specs.Prelude.{IsTrue, List, [], length, suc, ℕ, ◌++◌, ◌↔◌, ◌∷◌, ◌≡◌, ◌≤◌};
-ghost use Rattle.cube_defs.specs.Cell.{Cell, cell_eq, depth, cell_front, last, leq, meet};
+ghost use Rattle.cube_defs.specs.Cell.{Cell, cell_eq, depth, cell_prefix, last, leq, meet};
 ghost use Rattle.cube_defs.specs.Rows.{meet_all, meet_with};
 
 use super::values::Value;
@@ -37,11 +37,11 @@ pub fn meet_of_cells<V: Value>()
 /// The prefix of a cell generalizes the cell. If a cell generalizes another, its prefix generalizes
 /// the other's. A cell is its own prefix through its last value (Lakshmanan, Pei, Zhao, SIGMOD
 /// 2003).
-pub fn fronts_of_cells<V: Value>()
-    ensures below { (n : ℕ) (c : Cell V) → IsTrue (leq V.eq (cell_front n c) c) }
+pub fn prefixes_of_cells<V: Value>()
+    ensures below { (n : ℕ) (c : Cell V) → IsTrue (leq V.eq (cell_prefix n c) c) }
     ensures monotone { (n : ℕ) (c d : Cell V) →
-        IsTrue (leq V.eq c d) → IsTrue (leq V.eq (cell_front n c) (cell_front n d)) }
-    ensures whole { (c : Cell V) → cell_front (depth c) c ≡ c }
+        IsTrue (leq V.eq c d) → IsTrue (leq V.eq (cell_prefix n c) (cell_prefix n d)) }
+    ensures whole { (c : Cell V) → cell_prefix (depth c) c ≡ c }
 {}
 
 /// The depth of a cell is one more than its last dimension with a value, or 0 if it has no value. A
@@ -50,7 +50,8 @@ pub fn depth_of_cells<V: Value>()
     ensures last { (c : Cell V) (j : ℕ) → last c ≡ Some j → depth c ≡ suc j }
     ensures none { (c : Cell V) → last c ≡ None → depth c ≡ 0 }
     ensures within { (c : Cell V) → depth c ≤ length c }
-    ensures front { (n : ℕ) (c : Cell V) → cell_front (depth (cell_front n c)) c ≡ cell_front n c }
+    ensures front { (n : ℕ) (c : Cell V)
+        → cell_prefix (depth (cell_prefix n c)) c ≡ cell_prefix n c }
 {}
 
 /// The meet of a list with one more cell at its end is the list's meet, met with the cell (own).

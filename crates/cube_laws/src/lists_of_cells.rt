@@ -52,8 +52,10 @@ pub fn range_has_the_covered_cells_of_the_box<V: Value>()
 /// The lists of covered cells, of upper bounds, of nodes and of lower bounds rise in cell order, as
 /// do the cells of a range answer. No other list of the same cells does (own).
 pub fn lists_are_in_cell_order<V: Value>()
-    ensures covered { (rows : List (Row V)) → IsStrictlySortedBy (cell_cmp V.cmp) (covered V.cmp rows) }
-    ensures upper_bounds { (rows : List (Row V)) → IsStrictlySortedBy (cell_cmp V.cmp) (classes V.cmp rows) }
+    ensures covered { (rows : List (Row V))
+        → IsStrictlySortedBy (cell_cmp V.cmp) (covered V.cmp rows) }
+    ensures upper_bounds { (rows : List (Row V))
+        → IsStrictlySortedBy (cell_cmp V.cmp) (classes V.cmp rows) }
     ensures nodes { (rows : List (Row V)) → IsStrictlySortedBy (cell_cmp V.cmp) (nodes V.cmp rows) }
     ensures lower_bounds { (rows : List (Row V)) (u : Cell V) →
         IsStrictlySortedBy (cell_cmp V.cmp) (lower_bounds V.cmp rows u) }

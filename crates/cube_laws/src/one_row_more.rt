@@ -66,12 +66,14 @@ pub fn measures_with_one_row_more<V: Value>()
         m < measures →
         IsTrue (covers V.eq c r) → closure V.eq (xs ++ ys) c ≡ Some u →
         (part (agg V.eq measures (xs ++ r ∷ ys) c) m).least
-        ≡ int_min (slice_index_or r.amounts m (pos 0)) (part (agg V.eq measures (xs ++ ys) c) m).least }
+        ≡ int_min (slice_index_or r.amounts m (pos 0))
+        (part (agg V.eq measures (xs ++ ys) c) m).least }
     ensures greatest { (measures m : ℕ) (xs ys : List (Row V)) (r : Row V) (c u : Cell V) →
         m < measures →
         IsTrue (covers V.eq c r) → closure V.eq (xs ++ ys) c ≡ Some u →
         (part (agg V.eq measures (xs ++ r ∷ ys) c) m).greatest
-        ≡ int_max (slice_index_or r.amounts m (pos 0)) (part (agg V.eq measures (xs ++ ys) c) m).greatest }
+        ≡ int_max (slice_index_or r.amounts m (pos 0))
+        (part (agg V.eq measures (xs ++ ys) c) m).greatest }
 {}
 
 /// The measures of a cell that covers the deleted row and others. SUM is less by the amount. MIN
@@ -81,7 +83,8 @@ pub fn measures_with_one_row_less<V: Value>()
         m < measures →
         IsTrue (covers V.eq c r) → closure V.eq (xs ++ ys) c ≡ Some u →
         (part (agg V.eq measures (xs ++ ys) c) m).sum
-        ≡ ((part (agg V.eq measures (xs ++ r ∷ ys) c) m).sum -ℤ slice_index_or r.amounts m (pos 0)) }
+        ≡ ((part (agg V.eq measures (xs ++ r ∷ ys) c) m).sum -ℤ slice_index_or
+        r.amounts m (pos 0)) }
     ensures least { (measures m : ℕ) (xs ys : List (Row V)) (r : Row V) (c u : Cell V) →
         m < measures →
         IsTrue (covers V.eq c r) → closure V.eq (xs ++ ys) c ≡ Some u →

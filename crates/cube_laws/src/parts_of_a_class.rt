@@ -42,7 +42,8 @@ pub fn aggregate_where_rows_are_covered<V: Value>()
 /// The values that the rows have in a dimension, each once, give such parts. They also do for each
 /// more specific cell, and for fewer rows (own).
 pub fn column_parts_the_rows<V: Value>()
-    ensures once { (rows : List (Row V)) (p : Cell V) (i : ℕ) → IsDistinct V.eq (values_at V.cmp rows p i) }
+    ensures once { (rows : List (Row V)) (p : Cell V) (i : ℕ)
+        → IsDistinct V.eq (values_at V.cmp rows p i) }
     ensures enough { (rows some : List (Row V)) (p u : Cell V) (i : ℕ) → IsTrue (leq V.eq p u) →
         ((s : Row V) → Among s some → Among s rows) →
         ((s : Row V) → Among s rows → i < length s.tuple) →

@@ -18,7 +18,8 @@ pub fn cells_under_recoding<A: Value, B: Value>()
         leq B.eq (coded_cell codes 0 c) (coded_cell codes 0 d) ≡ leq A.eq c d }
     ensures meet { (known : ℕ → A → Bool) (codes : ℕ → A → B) → TellsApart known codes →
         (c d : Cell A) → AreKnown known 0 c → AreKnown known 0 d →
-        meet B.eq (coded_cell codes 0 c) (coded_cell codes 0 d) ≡ coded_cell codes 0 (meet A.eq c d) }
+        meet B.eq (coded_cell codes 0 c) (coded_cell codes 0 d) ≡ coded_cell codes 0
+        (meet A.eq c d) }
     ensures apart { (known : ℕ → A → Bool) (codes : ℕ → A → B) → TellsApart known codes →
         (c d : Cell A) → AreKnown known 0 c → AreKnown known 0 d →
         coded_cell codes 0 c ≡ coded_cell codes 0 d → c ≡ d }
@@ -38,7 +39,8 @@ pub fn closure_under_recoding<A: Value, B: Value>()
     ensures aggregate { (known : ℕ → A → Bool) (codes : ℕ → A → B) → TellsApart known codes →
         (measures : ℕ) (rows : List (Row A)) (c : Cell A) → RowsAreKnown known rows →
         AreKnown known 0 c →
-        agg B.eq measures (map (coded_row codes) rows) (coded_cell codes 0 c) ≡ agg A.eq measures rows c }
+        agg B.eq measures (map (coded_row codes) rows) (coded_cell codes 0 c)
+        ≡ agg A.eq measures rows c }
 {}
 
 /// The code of a cell is an upper bound, a node or a lower bound if and only if the cell is (own).
@@ -52,7 +54,8 @@ pub fn classes_under_recoding<A: Value, B: Value>()
     ensures lower_bound { (known : ℕ → A → Bool) (codes : ℕ → A → B) → TellsApart known codes →
         (rows : List (Row A)) (u c : Cell A) → RowsAreKnown known rows →
         AreKnown known 0 u → AreKnown known 0 c →
-        is_lower_bound B.eq (map (coded_row codes) rows) (coded_cell codes 0 u) (coded_cell codes 0 c)
+        is_lower_bound B.eq (map (coded_row codes) rows) (coded_cell codes 0 u)
+        (coded_cell codes 0 c)
         ≡ is_lower_bound A.eq rows u c }
 {}
 

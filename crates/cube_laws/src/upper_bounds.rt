@@ -1,6 +1,6 @@
 //! The upper bounds of the classes: the cells that are their own closures.
 ghost use Rattle.std.specs.Prelude.{IsTrue, List, length, ℕ, ◌++◌, ◌↔◌, ◌∷◌, ◌≡◌};
-ghost use Rattle.cube_defs.specs.Cell.{Cell, cell_of, depth, cell_front};
+ghost use Rattle.cube_defs.specs.Cell.{Cell, cell_of, depth, cell_prefix};
 ghost use Rattle.cube_defs.specs.Rows.{Row, covers, is_class, is_node, meet_all};
 ghost use Rattle.cube_laws.specs.Lists.{Among};
 ghost use Rattle.cube_laws.specs.Tuples.{cells_of};
@@ -18,11 +18,11 @@ pub fn upper_bounds_are_meets_of_rows<V: Value>()
 {}
 
 /// The nodes are exactly the prefixes of the upper bounds (Lakshmanan, Pei, Zhao, SIGMOD 2003).
-pub fn nodes_are_fronts_of_upper_bounds<V: Value>()
+pub fn nodes_are_prefixes_of_upper_bounds<V: Value>()
     ensures fronts { (rows : List (Row V)) (n : ℕ) (u : Cell V) →
-        IsTrue (is_class V.eq rows u) → IsTrue (is_node V.eq rows (cell_front n u)) }
+        IsTrue (is_class V.eq rows u) → IsTrue (is_node V.eq rows (cell_prefix n u)) }
     ensures no_others { (rows : List (Row V)) (p : Cell V) → IsTrue (is_node V.eq rows p) →
-        (u : Cell V) × IsTrue (is_class V.eq rows u) × (cell_front (depth p) u ≡ p) }
+        (u : Cell V) × IsTrue (is_class V.eq rows u) × (cell_prefix (depth p) u ≡ p) }
 {}
 
 /// An inserted row removes no upper bound and no node, wherever it stands. So a deleted row adds

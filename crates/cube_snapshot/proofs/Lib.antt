@@ -7,3 +7,4 @@ pub mod Putting
 pub mod SnapshotLaws
 pub mod Stages
 pub mod StateLaws
+pub mod CallerLemmas

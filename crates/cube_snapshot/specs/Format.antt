@@ -1,5 +1,6 @@
 -- Formats: how a value is spelled as bytes, and how it is read from the front of some bytes.
-use Rattle.std.specs.Prelude.{◌<◌, slice_index_or, ℕ, zero, suc, List, [], ◌∷◌, ◌++◌, length, take, drop, Option, Some, None, nat_lt, if◌then◌else◌}
+use Rattle.std.specs.Prelude.{◌<◌, slice_index_or, ℕ, zero, suc, List, [], ◌∷◌, ◌++◌, length, take, drop, Option, Some, None, nat_lt}
+use Rattle.std.specs.Prelude.{if◌then◌else◌}
 use Rattle.std.specs.List.{flat_map}
 use Rattle.std.specs.Option.{option_map, option_and_then}
 use Rattle.std.specs.Int.{Width, byte_len, from_be_bytes, to_be_bytes}
@@ -18,7 +19,8 @@ pub record Format (X : Type 0) : Type 0 where
 abbrev pub number : Width → Format ℕ
 number w = record {
   put = λ n. to_be_bytes w n;
-  get = λ bytes. if nat_lt (length bytes) (byte_len w) then None else Some (from_be_bytes w (take (byte_len w) bytes), drop (byte_len w) bytes);
+  get = λ bytes. if nat_lt (length bytes) (byte_len w) then None
+      else Some (from_be_bytes w (take (byte_len w) bytes), drop (byte_len w) bytes);
 }
 
 -- a number below 256
@@ -38,15 +40,15 @@ run n = record {
 
 module _ {X Y : Type 0} where
   -- one value and then another, whose format may rest on the first
-  abbrev pub followed : Format X → (X → Format Y) → Format (X × Y)
-  followed a f = record {
+  abbrev pub then_format : Format X → (X → Format Y) → Format (X × Y)
+  then_format a f = record {
     put = λ p. a.put p.0 ++ (f p.0).put p.1;
     get = λ bytes. option_and_then (λ p. option_map (λ q. ((p.0, q.0), q.1)) ((f p.0).get p.1)) (a.get bytes);
   }
 
   -- a value that another one stands for; nothing where none does
-  abbrev pub seen_as : Format X → (Y → X) → (X → Option Y) → Format Y
-  seen_as a from to = record {
+  abbrev pub mapped_format : Format X → (Y → X) → (X → Option Y) → Format Y
+  mapped_format a from to = record {
     put = λ y. a.put (from y);
     get = λ bytes. option_and_then (λ p. option_map (λ y. (y, p.1)) (to p.0)) (a.get bytes);
   }
@@ -57,12 +59,12 @@ module _ {X : Type 0} (a : Format X) where
   get_times (suc n) bytes = option_and_then (λ p. option_map (λ q. (p.0 ∷ q.0, q.1)) (get_times n p.1)) (a.get bytes)
 
   -- so many values
-  abbrev pub times : ℕ → Format (List X)
-  times n = record { put = λ xs. flat_map a.put xs; get = get_times n }
+  abbrev pub repeated : ℕ → Format (List X)
+  repeated n = record { put = λ xs. flat_map a.put xs; get = get_times n }
 
   -- their number and then the values
-  abbrev pub counted : Format ℕ → Format (List X)
-  counted len = record {
+  abbrev pub with_count : Format ℕ → Format (List X)
+  with_count len = record {
     put = λ xs. len.put (length xs) ++ flat_map a.put xs;
     get = λ bytes. option_and_then (λ n. get_times n.0 n.1) (len.get bytes);
   }

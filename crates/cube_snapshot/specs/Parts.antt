@@ -5,7 +5,7 @@ use Rattle.std.specs.List.{AllByRecursion}
 use Rattle.cube_defs.specs.Text.{Text}
 use Rattle.cube_defs.specs.Rows.{Row}
 use Rattle.cube_defs.specs.declared.limits.TheConstants.{MAX_AMOUNT}
-use Rattle.cube_snapshot.specs.Format.{Format, byte, counted, followed, number, seen_as, sized, times}
+use Rattle.cube_snapshot.specs.Format.{Format, byte, with_count, then_format, number, mapped_format, sized, repeated}
 
 -- a text whose length takes one byte
 abbrev pub text : Format Text
@@ -13,14 +13,14 @@ text = sized byte
 
 -- the texts of a dimension
 abbrev pub texts : Format (List Text)
-texts = counted text (number w32)
+texts = with_count text (number w32)
 
 -- an amount in two's complement
 abbrev pub amount_of : ℕ → Option ℤ
 amount_of n = if nat_le (nat_abs (cast_signed w64 n)) MAX_AMOUNT then Some (cast_signed w64 n) else None
 
 abbrev pub amount : Format ℤ
-amount = seen_as (number w64) (cast_unsigned w64) amount_of
+amount = mapped_format (number w64) (cast_unsigned w64) amount_of
 
 abbrev pub row_of : ℕ × (List ℕ × List ℤ) → Row ℕ
 row_of p = record { id = p.0; tuple = p.1.0; amounts = p.1.1 }
@@ -28,11 +28,12 @@ row_of p = record { id = p.0; tuple = p.1.0; amounts = p.1.1 }
 -- a row with so many dimensions and measures
 abbrev pub row : ℕ → ℕ → Format (Row ℕ)
 row dims measures =
-    seen_as (followed (number w64) (λ _. followed (times (number w32) dims) (λ _. times amount measures)))
+    mapped_format (then_format (number w64)
+    (λ _. then_format (repeated (number w32) dims) (λ _. repeated amount measures)))
     (λ r. (r.id, (r.tuple, r.amounts))) (λ p. Some (row_of p))
 
 abbrev pub rows : ℕ → ℕ → Format (List (Row ℕ))
-rows dims measures = counted (row dims measures) (number w32)
+rows dims measures = with_count (row dims measures) (number w32)
 
 -- the texts that have a spelling
 abbrev pub AreTexts : List Text → Type 0

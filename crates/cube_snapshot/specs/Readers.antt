@@ -1,5 +1,6 @@
 -- What readers of the parts of a snapshot answer.
-use Rattle.std.specs.Prelude.{◌≡◌, ◌<◌, ◌≤◌, ℕ, ⊤, [], ◌∷◌, ◌++◌, List, Option, None, Some, Result, Ok, Err, false, true, is_some, length, map, nat_eq}
+use Rattle.std.specs.Prelude.{◌≡◌, ◌<◌, ◌≤◌, ℕ, ⊤, [], ◌∷◌, ◌++◌, List, Option, None, Some, Result, Ok, Err, false, true, is_some, length}
+use Rattle.std.specs.Prelude.{map, nat_eq}
 use Rattle.std.specs.List.{All, IsDistinct}
 use Rattle.std.specs.Str.{bytes_eq}
 use Rattle.base_table.specs.Places.{IsTable, Places, has_id, rows_of}
@@ -8,7 +9,7 @@ use Rattle.cube_defs.specs.Text.{Text}
 use Rattle.csv_load.specs.Batch.{IsValue}
 use Rattle.qc_schema.specs.Schema.{IsLayout, Layout}
 use Rattle.value_dict.specs.TextLists.{IsDictionary, TextLists, no_texts}
-use Rattle.value_dict.specs.Told.{AreCodes, RowsAreCodes}
+use Rattle.value_dict.specs.Decoded.{AreCodes, RowsAreCodes}
 use Rattle.cube_snapshot.specs.Parts as format
 use Rattle.cube_snapshot.specs.Snapshot.{Parts}
 use Rattle.cube_snapshot.specs.declared.refused.PartRefused.{PartRefused}
@@ -30,8 +31,8 @@ Finds IsAllowed view (Some x) read = (read ≡ Some (view x)) × IsAllowed (view
 Finds {Y = Y} IsAllowed view None read = (y : Y) → read ≡ Some y → IsAllowed y → ⊥
 
 -- a table but for its rows
-abbrev pub frame : Places → Places
-frame table = record table { places = [] }
+abbrev pub table_frame : Places → Places
+table_frame table = record table { places = [] }
 
 -- the texts that a dimension may have
 pub record AreAllowed (max : ℕ) (texts : List Text) : Type 0 where
@@ -57,15 +58,15 @@ pub record IsNextRow (lists : List (List Text)) (table table' : Places) (bytes r
   pub read : (format.row table.dims table.measures).get bytes ≡ Some (row, rest)
   pub came : MayCome lists table.max (rows_of table) row
   pub rows : rows_of table' ≡ rows_of table ++ row ∷ []
-  pub kept : frame table' ≡ frame table
+  pub kept : table_frame table' ≡ table_frame table
 
 -- the texts and the rows of a state with this schema, but for the number of its nodes
-abbrev pub MayBeBehind : Layout → List (List Text) × List (Row ℕ) → Type 0
-MayBeBehind schema q = All (AreAllowed schema.values) q.0 × MayBeRows q.0 schema.rows q.1
+abbrev pub MayFollowSchema : Layout → List (List Text) × List (Row ℕ) → Type 0
+MayFollowSchema schema q = All (AreAllowed schema.values) q.0 × MayBeRows q.0 schema.rows q.1
 
 -- the parts of such a state
 abbrev pub AreWithin : Parts → Type 0
-AreWithin p = IsLayout p.schema × MayBeBehind p.schema (p.texts, p.rows)
+AreWithin p = IsLayout p.schema × MayFollowSchema p.schema (p.texts, p.rows)
 
 -- the parts that are a schema, the lists of a dictionary and the rows of a table
 abbrev pub parts_made : Layout → TextLists → Places → Parts

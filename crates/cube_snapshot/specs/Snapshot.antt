@@ -8,7 +8,7 @@ use Rattle.cube_defs.specs.Rows.{Row}
 use Rattle.qc_schema.specs.Schema.{Layout}
 use Rattle.qc_schema.specs.Grammar.{schema_in}
 use Rattle.qc_schema.specs.Spelling.{layout_text}
-use Rattle.cube_snapshot.specs.Format.{Format, followed, number, run, seen_as, sized, times}
+use Rattle.cube_snapshot.specs.Format.{Format, then_format, number, run, mapped_format, sized, repeated}
 use Rattle.cube_snapshot.specs.Parts.{AreTexts, IsRow, rows, texts}
 
 -- the bytes at the front of each snapshot
@@ -19,7 +19,7 @@ abbrev pub mark_in : List ℕ → Option (Unit {0})
 mark_in bytes = if bytes_eq bytes mark_text then Some tt else None
 
 abbrev pub mark : Format (Unit {0})
-mark = seen_as (run 8) (λ _. mark_text) mark_in
+mark = mapped_format (run 8) (λ _. mark_text) mark_in
 
 -- the schema that a text is the canonical text of
 abbrev pub if_canonical : {E : Type 0} → List ℕ → Result Layout E → Option Layout
@@ -31,7 +31,7 @@ schema_of bytes = if_canonical bytes (schema_in bytes)
 
 -- a schema by its canonical text, behind the length of that
 abbrev pub schema : Format Layout
-schema = seen_as (sized (number w32)) layout_text schema_of
+schema = mapped_format (sized (number w32)) layout_text schema_of
 
 -- a schema, and for each of its dimensions the texts, whose places are their codes; and rows by their codes
 pub record Parts : Type 0 where
@@ -50,19 +50,22 @@ abbrev pub parts_of : Sequence → Parts
 parts_of s = record { schema = s.1.0; texts = s.1.1.0; rows = s.1.1.1 }
 
 -- the texts and the rows that stand behind a schema
-abbrev pub behind : Layout → Format (List (List Text) × List (Row ℕ))
-behind layout = followed (times texts (length layout.dims)) (λ _. rows (length layout.dims) (length layout.measures))
+abbrev pub texts_and_rows : Layout → Format (List (List Text) × List (Row ℕ))
+texts_and_rows layout =
+    then_format (repeated texts (length layout.dims)) (λ _. rows (length layout.dims) (length layout.measures))
 
 abbrev pub sequence : Format Sequence
-sequence = followed mark (λ _. followed schema behind)
+sequence = then_format mark (λ _. then_format schema texts_and_rows)
 
 -- the whole of them; nothing follows
 abbrev pub snapshot : Format Parts
-snapshot = seen_as sequence sequence_of (λ s. Some (parts_of s))
+snapshot = mapped_format sequence sequence_of (λ s. Some (parts_of s))
 
 -- the spelling of parts, by the text of their schema and its numbers of dimensions and measures
-abbrev pub laid : List ℕ → List (List Text) → ℕ → ℕ → List (Row ℕ) → List ℕ
-laid text lists dims measures list = mark_text ++ (((number w32).put (length text) ++ text) ++ ((times texts dims).put lists ++ (rows dims measures).put list))
+abbrev pub parts_format : List ℕ → List (List Text) → ℕ → ℕ → List (Row ℕ) → List ℕ
+parts_format text lists dims measures list
+    = mark_text ++ (((number w32).put (length text) ++ text)
+    ++ ((repeated texts dims).put lists ++ (rows dims measures).put list))
 
 -- a schema whose canonical text is read as it
 pub record IsSpelled (layout : Layout) : Type 0 where

@@ -13,7 +13,8 @@ parts_in s = record { schema = s.schema; texts = s.texts; rows = coded_rows s }
 abbrev pub spelling : State → List ℕ
 spelling s = snapshot.put (parts_in s)
 
--- the bytes are the spelling of the state, which is within all limits but that of its nodes, and has more of them than it may have
+-- the bytes are the spelling of the state, which is within all limits but that of its nodes, and has more of them than
+-- it may have
 pub record HasTooManyNodes (bytes : List ℕ) (s : State) : Type 0 where
   pub spelled : bytes ≡ spelling s
   pub consistent : IsConsistent s

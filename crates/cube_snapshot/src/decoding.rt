@@ -11,7 +11,8 @@ use std::alloc::Global;
 use std::sync::ledger::Ledger;
 use warehouse::{PartsRefused, Warehouse};
 
-/// Does what `decode_with_keys` does, under fixed keys: a file of texts that are chosen to collide is
+/// Does what `decode_with_keys` does, under fixed keys: a file of texts that are chosen to collide
+/// is
 /// slow.
 pub fn decode<L: Ledger>(
     alloc: Global,
@@ -21,9 +22,12 @@ pub fn decode<L: Ledger>(
     requires { length bytes.now ≤ MAX_FILE }
     ensures spelled { IfOk result (λ warehouse. bytes.now ≡ spelling warehouse.state) }
     ensures valid { IfOk result (λ warehouse. AreContents warehouse) }
-    ensures found { (s : State) → IsState s → bytes.now ≡ spelling s → MatchResult result (λ warehouse. warehouse.state ≡ s) (λ e. e ≡ DecodeRefused.Memory) }
-    ensures form { result ≡ Err DecodeRefused.Form → (s : State) → IsConsistent s → bytes.now ≢ spelling s }
-    ensures nodes_full { result ≡ Err DecodeRefused.NodesFull → (s : State) × HasTooManyNodes bytes.now s }
+    ensures found { (s : State) → IsState s → bytes.now ≡ spelling s
+        → MatchResult result (λ warehouse. warehouse.state ≡ s) (λ e. e ≡ DecodeRefused.Memory) }
+    ensures form { result ≡ Err DecodeRefused.Form → (s : State) → IsConsistent s
+        → bytes.now ≢ spelling s }
+    ensures nodes_full { result ≡ Err DecodeRefused.NodesFull → (s : State)
+        × HasTooManyNodes bytes.now s }
 {
     decode_with_keys(alloc, HashKeys::fixed(), bytes, steps)
 }
@@ -41,9 +45,12 @@ pub fn decode_with_keys<L: Ledger>(
     requires { length bytes.now ≤ MAX_FILE }
     ensures spelled { IfOk result (λ warehouse. bytes.now ≡ spelling warehouse.state) }
     ensures valid { IfOk result (λ warehouse. AreContents warehouse) }
-    ensures found { (s : State) → IsState s → bytes.now ≡ spelling s → MatchResult result (λ warehouse. warehouse.state ≡ s) (λ e. e ≡ DecodeRefused.Memory) }
-    ensures form { result ≡ Err DecodeRefused.Form → (s : State) → IsConsistent s → bytes.now ≢ spelling s }
-    ensures nodes_full { result ≡ Err DecodeRefused.NodesFull → (s : State) × HasTooManyNodes bytes.now s }
+    ensures found { (s : State) → IsState s → bytes.now ≡ spelling s
+        → MatchResult result (λ warehouse. warehouse.state ≡ s) (λ e. e ≡ DecodeRefused.Memory) }
+    ensures form { result ≡ Err DecodeRefused.Form → (s : State) → IsConsistent s
+        → bytes.now ≢ spelling s }
+    ensures nodes_full { result ≡ Err DecodeRefused.NodesFull → (s : State)
+        × HasTooManyNodes bytes.now s }
 {
     let (schema, dict, table) = match read_parts(alloc, keys, bytes) {
         Ok(made) => made,

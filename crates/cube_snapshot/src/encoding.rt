@@ -22,7 +22,8 @@ use warehouse::Warehouse;
 pub fn encode(alloc: Global, warehouse: &Warehouse) -> Result<Vec<u8>, EncodeRefused>
     ensures bytes { IfOk result (λ bytes. bytes.items ≡ spelling warehouse.now.state) }
     ensures fits { IfOk result (λ bytes. length bytes.items ≤ MAX_FILE) }
-    ensures too_long { result ≡ Err EncodeRefused.TooLong → MAX_FILE < length (spelling warehouse.now.state) }
+    ensures too_long { result ≡ Err EncodeRefused.TooLong
+        → MAX_FILE < length (spelling warehouse.now.state) }
 {
     let schema = schema_text(alloc, warehouse.schema())?;
     let dict = warehouse.dict();

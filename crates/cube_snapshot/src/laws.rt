@@ -10,7 +10,10 @@ ghost use Rattle.cube_snapshot.specs.States.{spelling};
 /// encoding of at most one value, and values with one encoding are equal. Two states are equal
 /// exactly if their snapshots are, if these are no longer than a file may be.
 pub fn a_snapshot_has_one_spelling()
-    ensures read { (bytes : List ℕ) (p : Parts) → IsBytes bytes → (whole snapshot bytes ≡ Some p) ↔ ((bytes ≡ snapshot.put p) × IsSnapshot p) }
-    ensures same { (p q : Parts) → IsSnapshot p → IsSnapshot q → snapshot.put p ≡ snapshot.put q → p ≡ q }
-    ensures states { (s t : State) → IsState s → IsState t → length (spelling s) ≤ MAX_FILE → spelling s ≡ spelling t → s ≡ t }
+    ensures read { (bytes : List ℕ) (p : Parts) → IsBytes bytes → (whole snapshot bytes ≡ Some p)
+        ↔ ((bytes ≡ snapshot.put p) × IsSnapshot p) }
+    ensures same { (p q : Parts) → IsSnapshot p → IsSnapshot q
+        → snapshot.put p ≡ snapshot.put q → p ≡ q }
+    ensures states { (s t : State) → IsState s → IsState t → length (spelling s) ≤ MAX_FILE
+        → spelling s ≡ spelling t → s ≡ t }
 {}

@@ -4,10 +4,10 @@ ghost use Rattle.std.specs.Option.{option_map};
 ghost use Rattle.std.specs.Prelude.{All, Err, IfOk, List, None, OnOk, Some, [], is_some, length, nat_abs, slice_index_or, take, true, ℕ, ◌<◌, ◌≡◌, ◌≢◌, ◌≤◌};
 ghost use Rattle.base_table.specs.Places.{rows_of, values_of};
 ghost use Rattle.cube_defs.specs.Rows.{Row};
-ghost use Rattle.value_dict.specs.Told.{AreCodes};
+ghost use Rattle.value_dict.specs.Decoded.{AreCodes};
 ghost use Rattle.cube_snapshot.specs.Format.{get_times, number};
 ghost use Rattle.cube_snapshot.specs.Parts.{amount, row, rows};
-ghost use Rattle.cube_snapshot.specs.Readers.{Finds, IsNextRow, MayBeRows, MayCome, Reads, frame};
+ghost use Rattle.cube_snapshot.specs.Readers.{Finds, IsNextRow, MayBeRows, MayCome, Reads, table_frame};
 
 use crate::reading::{amount_at, u32_at, u64_at};
 use crate::refused::PartRefused;
@@ -20,7 +20,8 @@ use value_dict::Dict;
 // A code of a dimension that has a text, and the bytes after it.
 fn code_at<'a>(dict: &Dict, dim: u8, bytes: &'a [u8]) -> Option<(Code, &'a [u8])>
     requires { dim < length dict.now.lists }
-    ensures { Finds (λ y. y.0 < length (slice_index_or dict.now.lists dim [])) (λ x. (x.0, x.1.now)) result ((number w32).get bytes.now) }
+    ensures { Finds (λ y. y.0 < length (slice_index_or dict.now.lists dim []))
+        (λ x. (x.0, x.1.now)) result ((number w32).get bytes.now) }
 {
     let (code, rest) = u32_at(bytes)?;
     if code < dict.len(dim) {
@@ -33,7 +34,8 @@ fn code_at<'a>(dict: &Dict, dim: u8, bytes: &'a [u8]) -> Option<(Code, &'a [u8])
 // A code in each dimension, each with a text, and the bytes after them.
 fn codes_at<'a>(dict: &Dict, cell: &mut Cell, bytes: &'a [u8]) -> Option<&'a [u8]>
     requires { length cell.old ≡ length dict.now.lists }
-    ensures finds { Finds (λ y. AreCodes dict.now.lists y.0) (λ rest. (values_of cell.new, rest.now)) result
+    ensures finds { Finds (λ y. AreCodes dict.now.lists y.0)
+        (λ rest. (values_of cell.new, rest.now)) result
         (get_times (number w32) (length dict.now.lists) bytes.now) }
     ensures full { result ≢ None → All (λ entry. is_some entry ≡ true) cell.new }
     ensures dims { length cell.new ≡ length cell.old }
@@ -54,7 +56,8 @@ fn amounts_at<'a>(
     bytes: &'a [u8],
 ) -> Option<&'a [u8]>
     requires { count ≤ MAX_MEASURES }
-    ensures read { option_map (λ rest. (take count amounts.new, rest.now)) result ≡ get_times amount count bytes.now }
+    ensures read { option_map (λ rest. (take count amounts.new, rest.now)) result
+        ≡ get_times amount count bytes.now }
     ensures small { result ≢ None → All (λ a. nat_abs a ≤ MAX_AMOUNT) (take count amounts.new) }
 {
     let mut rest = bytes;
@@ -76,8 +79,10 @@ fn read_row<'a>(
     requires is_open { is_some table.old.was ≡ true }
     requires lists { length dict.now.lists ≡ table.old.dims }
     requires cell_dims { length cell.old ≡ table.old.dims }
-    ensures row { IfOk result (λ rest. IsNextRow dict.now.lists table.old table.new bytes.now rest.now) }
-    ensures form { result ≡ Err PartRefused.Form → (y : Row ℕ × List ℕ) → (row table.old.dims table.old.measures).get bytes.now ≡ Some y →
+    ensures row { IfOk result
+        (λ rest. IsNextRow dict.now.lists table.old table.new bytes.now rest.now) }
+    ensures form { result ≡ Err PartRefused.Form → (y : Row ℕ × List ℕ)
+        → (row table.old.dims table.old.measures).get bytes.now ≡ Some y →
         MayCome dict.now.lists table.old.max (rows_of table.old) y.0 → ⊥ }
     ensures cell_dims { length cell.new ≡ length cell.old }
 {
@@ -111,9 +116,10 @@ fn rows_at<'a>(
     requires is_open { is_some table.old.was ≡ true }
     requires empty { rows_of table.old ≡ [] }
     requires lists { length dict.now.lists ≡ table.old.dims }
-    ensures reads { Reads (λ y. MayBeRows dict.now.lists table.old.max y.0) (λ rest. (rows_of table.new, rest.now)) result
+    ensures reads { Reads (λ y. MayBeRows dict.now.lists table.old.max y.0)
+        (λ rest. (rows_of table.new, rest.now)) result
         (get_times (row table.old.dims table.old.measures) count bytes.now) }
-    ensures kept { OnOk result (frame table.new ≡ frame table.old) }
+    ensures kept { OnOk result (table_frame table.new ≡ table_frame table.old) }
 {
     let mut cell = Cell::any(alloc, table.dims());
     let mut rest = bytes;
@@ -123,7 +129,7 @@ fn rows_at<'a>(
             Err(refused) => return Err(refused),
         }
     }
-    table.is_valid();
+    table.recall_invariant();
     Ok(rest)
 }
 
@@ -137,9 +143,10 @@ pub(crate) fn read_rows<'a>(
     requires is_open { is_some table.old.was ≡ true }
     requires empty { rows_of table.old ≡ [] }
     requires lists { length dict.now.lists ≡ table.old.dims }
-    ensures reads { Reads (λ y. MayBeRows dict.now.lists table.old.max y.0) (λ rest. (rows_of table.new, rest.now)) result
+    ensures reads { Reads (λ y. MayBeRows dict.now.lists table.old.max y.0)
+        (λ rest. (rows_of table.new, rest.now)) result
         ((rows table.old.dims table.old.measures).get bytes.now) }
-    ensures kept { OnOk result (frame table.new ≡ frame table.old) }
+    ensures kept { OnOk result (table_frame table.new ≡ table_frame table.old) }
 {
     match u32_at(bytes) {
         Some((count, rest)) => rows_at(alloc, table, dict, count, rest),

@@ -3,7 +3,7 @@ ghost use Rattle.std.specs.Prelude.{All, length, ◌+◌, ◌*◌, ◌<◌, ◌�
 ghost use Rattle.std.specs.List.{flat_map};
 ghost use Rattle.base_table.specs.Places.{rows_of};
 ghost use Rattle.cube_snapshot.specs.Parts.{rows, text, texts};
-ghost use Rattle.cube_snapshot.specs.Snapshot.{laid};
+ghost use Rattle.cube_snapshot.specs.Snapshot.{parts_format};
 ghost use Rattle.value_dict.specs.TextLists.{list_at};
 
 use base_table::Table;
@@ -39,7 +39,8 @@ fn dict_len(dict: &Dict) -> usize
 
 // The bytes of the rows, with their number.
 fn rows_len(table: &Table) -> usize
-    ensures value { result ≡ length ((rows table.now.dims table.now.measures).put (rows_of table.now)) }
+    ensures value { result ≡ length
+        ((rows table.now.dims table.now.measures).put (rows_of table.now)) }
     ensures small { result ≤ 4 + MAX_ROWS * (8 + 4 * MAX_DIMS + 8 * MAX_MEASURES) }
 {
     let row = 8 + 4 * usize::from(table.dims()) + 8 * usize::from(table.measures());
@@ -49,7 +50,9 @@ fn rows_len(table: &Table) -> usize
 /// The bytes of a whole snapshot.
 pub(crate) fn snapshot_len(schema: &Vec<u8>, dict: &Dict, table: &Table) -> u64
     requires { All (All (λ t. length t ≤ MAX_TEXT)) dict.now.lists }
-    ensures { result ≡ length (laid schema.now.items dict.now.lists table.now.dims table.now.measures (rows_of table.now)) }
+    ensures { result ≡ length
+        (parts_format schema.now.items dict.now.lists table.now.dims table.now.measures
+        (rows_of table.now)) }
 {
     12 + schema.len() as u64 + dict_len(dict) as u64 + rows_len(table) as u64
 }

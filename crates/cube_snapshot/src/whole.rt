@@ -6,8 +6,8 @@ ghost use Rattle.base_table.specs.Places.{IsTable, rows_of};
 ghost use Rattle.qc_schema.specs.Schema.{IsLayout};
 ghost use Rattle.value_dict.specs.TextLists.{IsDictionary};
 ghost use Rattle.cube_snapshot.specs.Format.{number, sized, whole};
-ghost use Rattle.cube_snapshot.specs.Readers.{AreWithin, IsBegun, IsMade, MayBeBehind, Reads, parts_made};
-ghost use Rattle.cube_snapshot.specs.Snapshot.{behind, mark, schema, schema_of, snapshot};
+ghost use Rattle.cube_snapshot.specs.Readers.{AreWithin, IsBegun, IsMade, MayFollowSchema, Reads, parts_made};
+ghost use Rattle.cube_snapshot.specs.Snapshot.{texts_and_rows, mark, schema, schema_of, snapshot};
 
 use crate::reading::u32_at;
 use crate::refused::PartRefused;
@@ -38,7 +38,8 @@ fn mark_at(bytes: &[u8]) -> Option<&[u8]>
 
 // Bytes with their number before them, and the bytes after them.
 fn sized_at(bytes: &[u8]) -> Option<(&[u8], &[u8])>
-    ensures read { option_map (λ x. (x.0.now, x.1.now)) result ≡ (sized (number w32)).get bytes.now }
+    ensures read { option_map (λ x. (x.0.now, x.1.now)) result
+        ≡ (sized (number w32)).get bytes.now }
     ensures within { IfSome result (λ x. length x.0.now ≤ length bytes.now) }
 {
     let (len, rest) = u32_at(bytes)?;
@@ -114,7 +115,7 @@ fn start(alloc: Global, keys: HashKeys, schema: &Schema) -> Result<(Dict, Table)
 }
 
 // The texts and the rows, which are all of the bytes.
-fn read_behind(
+fn read_texts_and_rows(
     alloc: Global,
     schema: &Schema,
     dict: &mut Dict,
@@ -122,7 +123,8 @@ fn read_behind(
     bytes: &[u8],
 ) -> Result<(), PartRefused>
     requires { IsBegun schema.now dict.old table.old }
-    ensures reads { Reads (MayBeBehind schema.now) (λ _. (dict.new.lists, rows_of table.new)) result (whole (behind schema.now) bytes.now) }
+    ensures reads { Reads (MayFollowSchema schema.now) (λ _. (dict.new.lists, rows_of table.new))
+        result (whole (texts_and_rows schema.now) bytes.now) }
     ensures made { OnOk result (IsMade schema.now dict.new table.new) }
 {
     let rest = match read_dict(dict, bytes) {
@@ -138,19 +140,20 @@ fn read_behind(
         return Err(PartRefused::Form);
     }
     table.commit();
-    table.is_valid();
+    table.recall_invariant();
     Ok(())
 }
 
 // The parts after a schema that was read.
-fn parts_behind(
+fn parts_after_schema(
     alloc: Global,
     keys: HashKeys,
     schema: Schema,
     bytes: &[u8],
 ) -> Result<(Schema, Dict, Table), PartRefused>
     requires { IsLayout schema }
-    ensures reads { Reads (MayBeBehind schema) (λ made. (made.1.lists, rows_of made.2)) result (whole (behind schema) bytes.now) }
+    ensures reads { Reads (MayFollowSchema schema) (λ made. (made.1.lists, rows_of made.2)) result
+        (whole (texts_and_rows schema) bytes.now) }
     ensures schema { IfOk result (λ made. made.0 ≡ schema) }
     ensures made { IfOk result (λ made. IsMade made.0 made.1 made.2) }
 {
@@ -161,7 +164,7 @@ fn parts_behind(
             return Err(refused);
         }
     };
-    match read_behind(alloc, &schema, &mut dict, &mut table, bytes) {
+    match read_texts_and_rows(alloc, &schema, &mut dict, &mut table, bytes) {
         Ok(()) => Ok((schema, dict, table)),
         Err(refused) => {
             drop(schema);
@@ -180,14 +183,15 @@ pub(crate) fn read_parts(
     bytes: &[u8],
 ) -> Result<(Schema, Dict, Table), PartRefused>
     requires { length bytes.now ≤ MAX_FILE }
-    ensures reads { Reads AreWithin (λ made. parts_made made.0 made.1 made.2) result (whole snapshot bytes.now) }
+    ensures reads { Reads AreWithin (λ made. parts_made made.0 made.1 made.2) result
+        (whole snapshot bytes.now) }
     ensures made { IfOk result (λ made. IsMade made.0 made.1 made.2) }
 {
     let Some(rest) = mark_at(bytes) else {
         return Err(PartRefused::Form);
     };
     match schema_at(alloc, rest) {
-        Ok((schema, rest)) => parts_behind(alloc, keys, schema, rest),
+        Ok((schema, rest)) => parts_after_schema(alloc, keys, schema, rest),
         Err(refused) => Err(refused),
     }
 }

@@ -6,7 +6,7 @@ ghost use Rattle.base_table.specs.Places.{row_at, rows_in, rows_of};
 ghost use Rattle.cube_defs.specs.Rows.{Row};
 ghost use Rattle.cube_snapshot.specs.Format.{number};
 ghost use Rattle.cube_snapshot.specs.Parts.{amount, row, rows, text, texts};
-ghost use Rattle.cube_snapshot.specs.Snapshot.{laid, mark_text};
+ghost use Rattle.cube_snapshot.specs.Snapshot.{parts_format, mark_text};
 ghost use Rattle.value_dict.specs.TextLists.{list_at};
 
 use base_table::{RowNo, Table};
@@ -71,7 +71,8 @@ pub(crate) fn put_dict(out: &mut Vec<u8>, dict: &Dict) -> Result<(), Memory>
 // Appends the codes of a row.
 fn put_codes(out: &mut Vec<u8>, table: &Table, no: RowNo) -> Result<(), Memory>
     requires { is_some (row_at table.now no.0) ≡ true }
-    ensures { OnOk result ((r : Row ℕ) → row_at table.now no.0 ≡ Some r → out.new.items ≡ out.old.items ++ flat_map (number w32).put r.tuple) }
+    ensures { OnOk result ((r : Row ℕ) → row_at table.now no.0 ≡ Some r
+        → out.new.items ≡ out.old.items ++ flat_map (number w32).put r.tuple) }
 {
     'dims: for dim in 0..table.dims() {
         put_u32(out, table.code(no, dim))?;
@@ -93,7 +94,8 @@ fn put_amounts(out: &mut Vec<u8>, amounts: &[i64]) -> Result<(), Memory>
 // Appends a row.
 fn put_row(out: &mut Vec<u8>, table: &Table, no: RowNo) -> Result<(), Memory>
     requires { is_some (row_at table.now no.0) ≡ true }
-    ensures { OnOk result ((r : Row ℕ) → row_at table.now no.0 ≡ Some r → out.new.items ≡ out.old.items ++ (row table.now.dims table.now.measures).put r) }
+    ensures { OnOk result ((r : Row ℕ) → row_at table.now no.0 ≡ Some r
+        → out.new.items ≡ out.old.items ++ (row table.now.dims table.now.measures).put r) }
 {
     put_u64(out, table.id(no))?;
     put_codes(out, table, no)?;
@@ -103,7 +105,9 @@ fn put_row(out: &mut Vec<u8>, table: &Table, no: RowNo) -> Result<(), Memory>
 // Appends the row at a place, if there is one.
 fn put_place(out: &mut Vec<u8>, table: &Table, place: u32) -> Result<(), Memory>
     requires { place < length table.now.places }
-    ensures { OnOk result (out.new.items ≡ out.old.items ++ flat_map (row table.now.dims table.now.measures).put (rows_in (row_at table.now place ∷ []))) }
+    ensures { OnOk result (out.new.items ≡ out.old.items
+        ++ flat_map (row table.now.dims table.now.measures).put
+        (rows_in (row_at table.now place ∷ []))) }
 {
     match table.at(place) {
         Some(no) => put_row(out, table, no),
@@ -113,7 +117,8 @@ fn put_place(out: &mut Vec<u8>, table: &Table, place: u32) -> Result<(), Memory>
 
 /// Appends the rows, with their number before them.
 pub(crate) fn put_rows(out: &mut Vec<u8>, table: &Table) -> Result<(), Memory>
-    ensures { OnOk result (out.new.items ≡ out.old.items ++ (rows table.now.dims table.now.measures).put (rows_of table.now)) }
+    ensures { OnOk result (out.new.items ≡ out.old.items
+        ++ (rows table.now.dims table.now.measures).put (rows_of table.now)) }
 {
     put_u32(out, table.count())?;
     'places: for place in 0..table.places() {
@@ -125,7 +130,8 @@ pub(crate) fn put_rows(out: &mut Vec<u8>, table: &Table) -> Result<(), Memory>
 // Appends the mark and the text of the schema.
 fn put_schema(out: &mut Vec<u8>, schema: &Vec<u8>) -> Result<(), Memory>
     requires { length schema.now.items ≤ MAX_FILE }
-    ensures { OnOk result (out.new.items ≡ (out.old.items ++ mark_text) ++ ((number w32).put (length schema.now.items) ++ schema.now.items)) }
+    ensures { OnOk result (out.new.items ≡ (out.old.items ++ mark_text)
+        ++ ((number w32).put (length schema.now.items) ++ schema.now.items)) }
 {
     out.extend_from_slice(b"QCUBESN1")?;
     put_u32(out, schema.len() as u32)?;
@@ -142,7 +148,8 @@ pub(crate) fn put_all(
 ) -> Result<Vec<u8>, Memory>
     requires schema { length schema.now.items ≤ MAX_FILE }
     requires short { All (All (λ t. length t ≤ MAX_TEXT)) dict.now.lists }
-    ensures { IfOk result (λ out. out.items ≡ laid schema.now.items dict.now.lists table.now.dims table.now.measures (rows_of table.now)) }
+    ensures { IfOk result (λ out. out.items ≡ parts_format schema.now.items dict.now.lists
+        table.now.dims table.now.measures (rows_of table.now)) }
 {
     let mut out = Vec::with_capacity(alloc, len)?;
     put_schema(&mut out, schema)?;

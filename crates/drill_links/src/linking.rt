@@ -21,7 +21,8 @@ pub fn link_all<L: Ledger>(
     requires opened { is_open arena.old ≡ true }
     requires built { IsCanonical nat_cmp table.now.measures (rows_of table.now) arena.old.now }
     ensures same { OnOk result (arena.new ≡ arena.old) }
-    ensures tree { OnOk result (IsCanonical nat_cmp table.now.measures (rows_of table.now) arena.new.now) }
+    ensures tree { OnOk result
+        (IsCanonical nat_cmp table.now.measures (rows_of table.now) arena.new.now) }
     ensures frame { frame arena.new ≡ frame arena.old }
 {
     Ok(())

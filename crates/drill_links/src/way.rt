@@ -1,6 +1,6 @@
 // The way down to an existing node.
 ghost use Rattle.std.specs.Prelude.{Some, length, suc, ◌<◌, ◌≡◌, ◌≤◌};
-ghost use Rattle.cube_defs.specs.Cell.{cell_front};
+ghost use Rattle.cube_defs.specs.Cell.{cell_prefix};
 ghost use Rattle.cube_defs.specs.Tree.{cell_at};
 ghost use Rattle.drill_links.specs.Way.{IsWay};
 
@@ -20,9 +20,9 @@ pub fn descend<L: Ledger>(
 ) -> NodeNo
     requires order { first ≤ last }
     requires last { last < length target.now }
-    requires from { cell_at arena.now.now from.0 ≡ Some (cell_front first target.now) }
+    requires from { cell_at arena.now.now from.0 ≡ Some (cell_prefix first target.now) }
     requires way { IsWay arena.now.now target.now first last }
-    ensures { cell_at arena.now.now result.0 ≡ Some (cell_front (suc last) target.now) }
+    ensures { cell_at arena.now.now result.0 ≡ Some (cell_prefix (suc last) target.now) }
 {
     let mut node = from;
     'down: for dim in first..=last {

@@ -1,5 +1,6 @@
 -- A generated run: the state that its files leave, and the record that tells it.
-use Rattle.std.specs.Prelude.{ℕ, zero, suc, ◌+◌, List, [], ◌∷◌, ◌++◌, length, replicate, ℤ, pos, Option, Some, None, Result, Ok, Err, codes, decimal}
+use Rattle.std.specs.Prelude.{ℕ, zero, suc, ◌+◌, List, [], ◌∷◌, ◌++◌, length, replicate, ℤ, pos, Option, Some, None, Result, Ok, Err, codes}
+use Rattle.std.specs.Prelude.{decimal}
 use Rattle.aggregates.specs.Texts.{amount_text}
 use Rattle.aggregates.specs.declared.kind.AggKind.TheVariants as kinds
 use Rattle.cube_defs.specs.Answers.{part}
@@ -41,11 +42,13 @@ file_taken state kind bytes = state_after state (result state kind bytes)
 unfoldable pub batches_taken : ℕ → ℕ → ℕ → ℕ → State → State
 batches_taken zero rows before draws state = state
 batches_taken (suc k) rows before draws state =
-    batches_taken k rows (before + 1) (after_rows (batch_rows rows) draws) (file_taken state Apply (batch_text rows before draws))
+    batches_taken k rows (before + 1) (after_rows (batch_rows rows) draws)
+    (file_taken state Apply (batch_text rows before draws))
 
 -- the base file of so many rows, drawn from a seed, and then the batches
 unfoldable pub filled : ℕ → ℕ → State → State
-filled rows seed state = batches_taken BATCHES rows 0 (after_rows rows seed) (file_taken state Load (base_text rows seed))
+filled rows seed state =
+    batches_taken BATCHES rows 0 (after_rows rows seed) (file_taken state Load (base_text rows seed))
 
 unfoldable pub generated_state : ℕ → ℕ → State
 generated_state rows seed = filled rows seed (empty layout)

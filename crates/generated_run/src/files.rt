@@ -50,7 +50,9 @@ pub fn load_base<L: Ledger>(
 ) -> Result<(), Memory>
     requires { rows ≤ MAX_ROWS }
     ensures draws { OnOk result (draws.new.state ≡ after_rows rows draws.old.state) }
-    ensures state { OnOk result (warehouse.new.state ≡ file_taken warehouse.old.state Load (base_text rows draws.old.state)) }
+    ensures state { OnOk result
+        (warehouse.new.state ≡ file_taken warehouse.old.state Load
+        (base_text rows draws.old.state)) }
 {
     write_base(file, rows, draws)?;
     settled(warehouse.load(file, steps))
@@ -68,7 +70,8 @@ fn apply_batch<L: Ledger>(
     requires rows { rows ≤ MAX_ROWS }
     requires before { before < BATCHES }
     ensures draws { OnOk result (draws.new.state ≡ after_rows (batch_rows rows) draws.old.state) }
-    ensures state { OnOk result (warehouse.new.state ≡ file_taken warehouse.old.state Apply (batch_text rows before draws.old.state)) }
+    ensures state { OnOk result (warehouse.new.state ≡ file_taken warehouse.old.state Apply
+        (batch_text rows before draws.old.state)) }
 {
     write_batch(file, rows, before, draws)?;
     settled(warehouse.apply(file, steps))
@@ -83,7 +86,8 @@ pub fn apply_batches<L: Ledger>(
     steps: &mut Steps<L>,
 ) -> Result<(), Memory>
     requires { rows ≤ MAX_ROWS }
-    ensures { OnOk result (warehouse.new.state ≡ batches_taken BATCHES rows 0 draws.old.state warehouse.old.state) }
+    ensures { OnOk result (warehouse.new.state ≡ batches_taken BATCHES rows 0 draws.old.state
+        warehouse.old.state) }
 {
     'batches: for before in 0..BATCHES {
         apply_batch(warehouse, rows, before, draws, file, steps)?;

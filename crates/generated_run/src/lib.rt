@@ -3,6 +3,6 @@
 
 mod files;
 mod run;
-mod telling;
+mod run_record;
 
 pub use run::{Generated, generate};

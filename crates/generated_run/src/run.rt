@@ -4,7 +4,7 @@ ghost use Rattle.cube_defs.specs.declared.limits.TheConstants.{MAX_ROWS};
 ghost use Rattle.generated_run.specs.Generated.{filled, generated_record, generated_state, record_text};
 
 use crate::files::{apply_batches, load_base, new_warehouse};
-use crate::telling::write_record;
+use crate::run_record::write_record;
 use cell_core::Steps;
 use cube_defs::Memory;
 use row_generator::Draws;

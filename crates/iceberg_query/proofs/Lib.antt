@@ -6,9 +6,10 @@ pub mod Ordered
 pub mod Bounded
 pub mod Picks
 pub mod Sorted
-pub mod Told
+pub mod DecodedClasses
 pub mod Index
 pub mod Fractions
 pub mod Parts
 pub mod Farther
 pub mod Pruned
+pub mod CallerLemmas

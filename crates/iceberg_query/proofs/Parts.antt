@@ -1,5 +1,6 @@
 -- What some of the rows come to lies within what all come to.
-use Rattle.std.proofs.Common.{◌≡◌, ℕ, suc, ◌+◌, ◌≤◌, Bool, true, false, cond, List, [], ◌∷◌, length, map, filter, fold, ℤ, pos, ◌+ℤ◌, ◌*ℤ◌, refl, sym, ap, subst, ◌∙◌, arith}
+use Rattle.std.proofs.Common.{◌≡◌, ℕ, suc, ◌+◌, ◌≤◌, Bool, true, false, cond, List, [], ◌∷◌, length, map, filter, fold, ℤ, pos, ◌+ℤ◌, ◌*ℤ◌}
+use Rattle.std.proofs.Common.{refl, sym, ap, subst, ◌∙◌, arith}
 use Rattle.std.specs.Int.{int_max, int_min}
 use Rattle.std.specs.Int.Signed.{◌≤ℤ◌, ≤ℤ_refl}
 use Rattle.std.specs.List.{AllByRecursion}
@@ -7,8 +8,7 @@ use Rattle.std.proofs.Math.IntN.{*ℤ_comm, *ℤ-one, suc_ℤ-*ℤ}
 use Rattle.std.proofs.lemmas.Int.{int_max_is, int_min_is, ints}
 use Rattle.cube_defs.specs.Rows.{Part, Row, agg_of, amounts_of, part_of}
 use Rattle.cube_defs.specs.Answers.{part}
-use Rattle.cube_laws.proofs.Lists.{filter-le}
-use Rattle.cube_laws.proofs.RowTotals.{part-agg_of}
+use Rattle.cube_laws.proofs.CallerLemmas.{filter-le, part-agg_of}
 use Rattle.iceberg_query.specs.Reach.{IsOfSome, IsPartWithin}
 
 record IsBetween (low high x : ℤ) : Type 0 where
@@ -27,11 +27,13 @@ min_between low high x y a b = record {
   at_most = omega (arith, ints, int_min_is x y, a.at_most, b.at_most);
 }
 
-fold_max : (low high x : ℤ) (xs : List ℤ) → IsBetween low high x → AllByRecursion (IsBetween low high) xs → IsBetween low high (fold int_max x xs)
+fold_max : (low high x : ℤ) (xs : List ℤ) → IsBetween low high x → AllByRecursion (IsBetween low high) xs
+    → IsBetween low high (fold int_max x xs)
 fold_max low high x [] a all = a
 fold_max low high x (y ∷ xs) a all = fold_max low high (int_max x y) xs (max_between low high x y a all.0) all.1
 
-fold_min : (low high x : ℤ) (xs : List ℤ) → IsBetween low high x → AllByRecursion (IsBetween low high) xs → IsBetween low high (fold int_min x xs)
+fold_min : (low high x : ℤ) (xs : List ℤ) → IsBetween low high x → AllByRecursion (IsBetween low high) xs
+    → IsBetween low high (fold int_min x xs)
 fold_min low high x [] a all = a
 fold_min low high x (y ∷ xs) a all = fold_min low high (int_min x y) xs (min_between low high x y a all.0) all.1
 
@@ -39,8 +41,11 @@ fold_min low high x (y ∷ xs) a all = fold_min low high (int_min x y) xs (min_b
 pub times_more : (z : ℤ) (n : ℕ) → z *ℤ pos (suc n) ≡ (z *ℤ pos n) +ℤ z
 times_more z n = *ℤ_comm z (pos (suc n)) ∙ suc_ℤ-*ℤ (pos n) z ∙ ap (λ w. w +ℤ z) (*ℤ_comm (pos n) z)
 
-fold_sum : (low high x : ℤ) (n : ℕ) (xs : List ℤ) → IsBetween (low *ℤ pos n) (high *ℤ pos n) x → AllByRecursion (IsBetween low high) xs → IsBetween (low *ℤ pos (n + length xs)) (high *ℤ pos (n + length xs)) (fold (λ a b. a +ℤ b) x xs)
-fold_sum low high x n [] a all = let e : n ≡ n + 0 = omega arith in subst (λ (m : ℕ). IsBetween (low *ℤ pos m) (high *ℤ pos m) x) e a
+fold_sum : (low high x : ℤ) (n : ℕ) (xs : List ℤ) → IsBetween (low *ℤ pos n) (high *ℤ pos n) x
+    → AllByRecursion (IsBetween low high) xs
+    → IsBetween (low *ℤ pos (n + length xs)) (high *ℤ pos (n + length xs)) (fold (λ a b. a +ℤ b) x xs)
+fold_sum low high x n [] a all = let e : n ≡ n + 0 = omega arith in
+    subst (λ (m : ℕ). IsBetween (low *ℤ pos m) (high *ℤ pos m) x) e a
 fold_sum low high x n (y ∷ xs) a all =
     let e : suc n + length xs ≡ n + suc (length xs) = omega arith in
     let l : low *ℤ pos (suc n) ≡ (low *ℤ pos n) +ℤ low = times_more low n in
@@ -74,15 +79,18 @@ all_between : (xs : List ℤ) → AllByRecursion (IsBetween (part_of xs).least (
 all_between [] = tt
 all_between (x ∷ xs) = (record { at_least = fold_min_below x xs; at_most = fold_max_above x xs }, all_folded x x xs)
 
-some_of : {X : Type 0} (P : ℤ → Type 0) (f : X → ℤ) (test : X → Bool) (xs : List X) → AllByRecursion P (map f xs) → AllByRecursion P (map f (filter test xs))
+some_of : {X : Type 0} (P : ℤ → Type 0) (f : X → ℤ) (test : X → Bool) (xs : List X) → AllByRecursion P (map f xs)
+    → AllByRecursion P (map f (filter test xs))
 some_of P f test [] all = tt
 some_of P f test (x ∷ xs) all = go (test x) (some_of P f test xs all.1)
   where
-    go : (b : Bool) → AllByRecursion P (map f (filter test xs)) → AllByRecursion P (map f (cond b (x ∷ filter test xs) (filter test xs)))
+    go : (b : Bool) → AllByRecursion P (map f (filter test xs))
+        → AllByRecursion P (map f (cond b (x ∷ filter test xs) (filter test xs)))
     go true more = (all.0, more)
     go false more = more
 
-within : (whole : Part) (xs : List ℤ) → 1 ≤ length xs → AllByRecursion (IsBetween whole.least whole.greatest) xs → IsPartWithin whole (length xs) (part_of xs)
+within : (whole : Part) (xs : List ℤ) → 1 ≤ length xs → AllByRecursion (IsBetween whole.least whole.greatest) xs
+    → IsPartWithin whole (length xs) (part_of xs)
 within whole [] h all = absurd (omega arith)
 within whole (x ∷ xs) h all =
     let low = fold_min whole.least whole.greatest x xs all.0 all.1 in
@@ -106,14 +114,17 @@ length-amounts : (m : ℕ) (rows : List (Row ℕ)) → length (amounts_of m rows
 length-amounts m [] = refl
 length-amounts m (r ∷ rows) = ap suc (length-amounts m rows)
 
-pub of_some : (measures : ℕ) (rows : List (Row ℕ)) (test : Row ℕ → Bool) → 1 ≤ length (filter test rows) → IsOfSome measures (agg_of measures rows) (agg_of measures (filter test rows))
+pub of_some : (measures : ℕ) (rows : List (Row ℕ)) (test : Row ℕ → Bool) → 1 ≤ length (filter test rows)
+    → IsOfSome measures (agg_of measures rows) (agg_of measures (filter test rows))
 of_some measures rows test h = record {
   any = h;
   few = filter-le test rows;
   each = λ m l.
       let some = filter test rows in
       let long = length-amounts m some in
-      let is = within (part_of (amounts_of m rows)) (amounts_of m some) (omega (arith, long, h)) (some_of (IsBetween (part_of (amounts_of m rows)).least (part_of (amounts_of m rows)).greatest) _ test rows (all_between (amounts_of m rows))) in
+      let is = within (part_of (amounts_of m rows)) (amounts_of m some) (omega (arith, long, h))
+      (some_of (IsBetween (part_of (amounts_of m rows)).least (part_of (amounts_of m rows)).greatest) _ test rows
+      (all_between (amounts_of m rows))) in
       subst (λ p. IsPartWithin p (length some) (part (agg_of measures some) m)) (sym (part-agg_of measures m rows l))
       (subst (λ p. IsPartWithin (part_of (amounts_of m rows)) (length some) p) (sym (part-agg_of measures m some l))
       (subst (λ n. IsPartWithin (part_of (amounts_of m rows)) n (part_of (amounts_of m some))) long is));

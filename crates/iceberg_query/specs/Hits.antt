@@ -8,16 +8,16 @@ use Rattle.cube_defs.specs.Answers as answers
 use Rattle.aggregates.specs.Views.{agg_in, kind_in, ratio_in}
 use Rattle.lower_bounds.specs.Classes.{hit_in}
 use Rattle.lower_bounds.specs.declared.class.Class.{Class}
-use Rattle.qc_arena.specs.Seen.{record_at}
+use Rattle.qc_arena.specs.RecordReaders.{record_at}
 use Rattle.tree_search.specs.Found.{TreeRows}
-use Rattle.value_dict.specs.Told.{told_hit}
+use Rattle.value_dict.specs.Decoded.{decoded_class}
 use Rattle.iceberg_query.specs.declared.ask.Ask.{Ask}
-use Rattle.iceberg_query.specs.declared.hits.Valued.{Valued}
+use Rattle.iceberg_query.specs.declared.hits.ValuedClass.{ValuedClass}
 
-abbrev pub class_of : Valued → Class
-class_of v = v.class
+abbrev pub valued_class : ValuedClass → Class
+valued_class v = v.class
 
-abbrev pub valued_of : Valued → answers.ClassHit ℕ
+abbrev pub valued_of : ValuedClass → answers.ClassHit ℕ
 valued_of v = hit_in v.class
 
 -- the class of a node
@@ -29,9 +29,9 @@ abbrev pub AreClasses : Tree ℕ → List ℕ → Type 0
 AreClasses tree ks = All (λ k. IsSome (record_at tree k).class) ks
 
 -- the value is that of the class
-abbrev pub IsValued : Ask → Valued → Type 0
+abbrev pub IsValued : Ask → ValuedClass → Type 0
 IsValued ask v = ratio_in v.value ≡ answers.value_of (kind_in ask.kind) ask.scale (agg_in v.class.total)
 
 -- classes with the texts of their codes
-abbrev pub told_classes : List (List Text) → List Class → List (answers.ClassHit Text)
-told_classes lists classes = map (λ class. told_hit lists (hit_in class)) classes
+abbrev pub decoded_classes : List (List Text) → List Class → List (answers.ClassHit Text)
+decoded_classes lists classes = map (λ class. decoded_class lists (hit_in class)) classes

@@ -39,8 +39,8 @@ farther bounds.AtLeast = int_max
 farther bounds.AtMost = int_min
 
 -- the sum of the measure passes
-abbrev pub is_sum_asked : Ask → ℕ → Agg → Bool
-is_sum_asked ask measure some = answers.is_asked (record (ask_in ask) { kind = answers.Sum measure }) some
+abbrev pub sum_passes : Ask → ℕ → Agg → Bool
+sum_passes ask measure some = answers.passes_bound (record (ask_in ask) { kind = answers.Sum measure }) some
 
 abbrev pub is_reached : Bound → Ordering → Bool
 is_reached bounds.AtLeast o = is_ge o

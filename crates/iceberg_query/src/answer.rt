@@ -5,21 +5,21 @@ ghost use Rattle.cube_defs.specs.Text.{text_cmp};
 ghost use Rattle.cube_laws.specs.Recoding.{RowsAreKnown};
 ghost use Rattle.lower_bounds.specs.Classes.{hit_in};
 ghost use Rattle.tree_search.specs.Found.{IsTreeOf, IsTree, TreeRows};
-ghost use Rattle.value_dict.specs.Recoded.{has_code, told_rows};
+ghost use Rattle.value_dict.specs.Recoded.{has_code, decoded_row_list};
 ghost use Rattle.value_dict.specs.TextLists.{IsDictionary};
-ghost use Rattle.value_dict.specs.Told.{IsTellableClass};
+ghost use Rattle.value_dict.specs.Decoded.{IsDecodableClass};
 ghost use Rattle.measure_index.specs.Index.{ranking_of};
 ghost use Rattle.measure_index.specs.Rankings.{IsIndex};
 ghost use Rattle.iceberg_query.specs.Asked.{HasMeasure, ask_in};
-ghost use Rattle.iceberg_query.specs.Below.{numbers};
-ghost use Rattle.iceberg_query.specs.Hits.{told_classes};
+ghost use Rattle.iceberg_query.specs.Subtree.{numbers};
+ghost use Rattle.iceberg_query.specs.Hits.{decoded_classes};
 ghost use Rattle.iceberg_query.specs.Indexed.{class_of_node};
 ghost use Rattle.iceberg_query.specs.Picked.{ArePicked};
 
 use crate::hits::{values_at, without_values};
 use crate::indexed::indexed_nodes;
 use crate::order::sort;
-use crate::pick::pick_below;
+use crate::pick::pick_descendants;
 use crate::{Ask, Class, Memory};
 use cell_core::{NodeNo, Steps};
 use measure_index::Index;
@@ -42,13 +42,19 @@ fn in_order<T: Nodes, L: Ledger>(
     requires dictionary { IsDictionary dict.now }
     requires picked { ArePicked (T.tree tree.now) ask.now (numbers nodes.now) }
     requires measure { HasMeasure (T.width tree.now) (T.tree tree.now) ask.now.kind }
-    ensures classes { (source : TreeRows) → IsTreeOf (T.width tree.now) (T.tree tree.now) source → RowsAreKnown (has_code dict.now.lists) source.rows →
-        IfOk result (λ classes. told_classes dict.now.lists classes.items
-        ≡ answers.iceberg text_cmp source.measures (told_rows dict.now.lists source.rows) (ask_in ask.now)) }
-    ensures told { (source : TreeRows) → IsTreeOf (T.width tree.now) (T.tree tree.now) source → RowsAreKnown (has_code dict.now.lists) source.rows →
-        IfOk result (λ classes. All (λ class. IsTellableClass dict.now.lists source.measures (hit_in class)) classes.items) }
+    ensures classes { (source : TreeRows) → IsTreeOf (T.width tree.now) (T.tree tree.now) source
+        → RowsAreKnown (has_code dict.now.lists) source.rows →
+        IfOk result (λ classes. decoded_classes dict.now.lists classes.items
+        ≡ answers.iceberg text_cmp source.measures (decoded_row_list dict.now.lists source.rows)
+        (ask_in ask.now)) }
+    ensures told { (source : TreeRows) → IsTreeOf (T.width tree.now) (T.tree tree.now) source
+        → RowsAreKnown (has_code dict.now.lists) source.rows →
+        IfOk result (λ classes. All
+        (λ class. IsDecodableClass dict.now.lists source.measures (hit_in class))
+        classes.items) }
     ensures count { IfOk result (λ classes. length classes.items ≡ length nodes.now) }
-    ensures steps { steps.new ≤ steps.old + length nodes.now * (32 * (T.width tree.now + 1) ^ 2 * 2 ^ T.width tree.now) }
+    ensures steps { steps.new ≤ steps.old
+        + length nodes.now * (32 * (T.width tree.now + 1) ^ 2 * 2 ^ T.width tree.now) }
 {
     let mut values = match values_at(alloc, tree, ask, nodes, steps) {
         Ok(values) => values,
@@ -75,7 +81,7 @@ fn picked<T: Nodes, L: Ledger>(
     let Some(root) = tree.root(steps) else {
         return Ok(nodes);
     };
-    match pick_below(tree, ask, root, tree.dims(), &mut nodes, steps) {
+    match pick_descendants(tree, ask, root, tree.dims(), &mut nodes, steps) {
         Ok(()) => Ok(nodes),
         Err(error) => Err(error),
     }
@@ -93,7 +99,8 @@ fn nodes_of<T: Nodes, L: Ledger>(
     requires index { IsIndex (class_of_node (T.tree tree.now)) index.now }
     requires unit { IfSome (ranking_of ask.now.kind index.now) (λ r. r.scale ≡ ask.now.scale) }
     requires measure { HasMeasure (T.width tree.now) (T.tree tree.now) ask.now.kind }
-    ensures picked { IfOk result (λ nodes. ArePicked (T.tree tree.now) ask.now (numbers nodes.items)) }
+    ensures picked { IfOk result
+        (λ nodes. ArePicked (T.tree tree.now) ask.now (numbers nodes.items)) }
     ensures steps { IsSome (ranking_of ask.now.kind index.now) → steps.new ≡ steps.old }
 {
     if index.has(ask.kind) {
@@ -123,13 +130,19 @@ pub fn iceberg<T: Nodes, L: Ledger>(
     requires unit { IfSome (ranking_of ask.now.kind index.now) (λ r. r.scale ≡ ask.now.scale) }
     requires dims { length dict.now.lists ≡ T.width tree.now }
     requires measure { HasMeasure (T.width tree.now) (T.tree tree.now) ask.now.kind }
-    ensures classes { (source : TreeRows) → IsTreeOf (T.width tree.now) (T.tree tree.now) source → RowsAreKnown (has_code dict.now.lists) source.rows →
-        IfOk result (λ classes. told_classes dict.now.lists classes.items
-        ≡ answers.iceberg text_cmp source.measures (told_rows dict.now.lists source.rows) (ask_in ask.now)) }
-    ensures told { (source : TreeRows) → IsTreeOf (T.width tree.now) (T.tree tree.now) source → RowsAreKnown (has_code dict.now.lists) source.rows →
-        IfOk result (λ classes. All (λ class. IsTellableClass dict.now.lists source.measures (hit_in class)) classes.items) }
+    ensures classes { (source : TreeRows) → IsTreeOf (T.width tree.now) (T.tree tree.now) source
+        → RowsAreKnown (has_code dict.now.lists) source.rows →
+        IfOk result (λ classes. decoded_classes dict.now.lists classes.items
+        ≡ answers.iceberg text_cmp source.measures (decoded_row_list dict.now.lists source.rows)
+        (ask_in ask.now)) }
+    ensures told { (source : TreeRows) → IsTreeOf (T.width tree.now) (T.tree tree.now) source
+        → RowsAreKnown (has_code dict.now.lists) source.rows →
+        IfOk result (λ classes. All
+        (λ class. IsDecodableClass dict.now.lists source.measures (hit_in class))
+        classes.items) }
     ensures steps { IsSome (ranking_of ask.now.kind index.now) →
-        IfOk result (λ classes. steps.new ≤ steps.old + length classes.items * (32 * (T.width tree.now + 1) ^ 2 * 2 ^ T.width tree.now)) }
+        IfOk result (λ classes. steps.new ≤ steps.old
+        + length classes.items * (32 * (T.width tree.now + 1) ^ 2 * 2 ^ T.width tree.now)) }
 {
     let _dims = dict.dims();
     match nodes_of(alloc, tree, index, ask, steps) {

@@ -1,10 +1,10 @@
 // The classes of nodes, with their values.
 ghost use Rattle.std.specs.Prelude.{All, IfOk, IsSome, length, map, ◌*◌, ◌+◌, ◌^◌, ◌≡◌, ◌≤◌};
-ghost use Rattle.qc_arena.specs.Seen.{record_at};
+ghost use Rattle.qc_arena.specs.RecordReaders.{record_at};
 ghost use Rattle.tree_search.specs.Found.{IsTreeOf, IsTree, TreeRows};
 ghost use Rattle.iceberg_query.specs.Asked.{HasMeasure};
-ghost use Rattle.iceberg_query.specs.Below.{numbers};
-ghost use Rattle.iceberg_query.specs.Hits.{AreClasses, IsValued, class_at, class_of, valued_of};
+ghost use Rattle.iceberg_query.specs.Subtree.{numbers};
+ghost use Rattle.iceberg_query.specs.Hits.{AreClasses, IsValued, class_at, valued_class, valued_of};
 
 use crate::{Ask, Memory};
 use aggregates::{Ratio, value_of};
@@ -17,7 +17,7 @@ use tree_search::upper_into;
 
 /// A class with its value.
 #[derive(Drop)]
-pub(crate) struct Valued {
+pub(crate) struct ValuedClass {
     pub(crate) value: Ratio,
     pub(crate) class: Class,
 }
@@ -29,7 +29,7 @@ fn value_at<T: Nodes, L: Ledger>(
     ask: &Ask,
     node: NodeNo,
     steps: &mut Steps<L>,
-) -> Result<Valued, Memory>
+) -> Result<ValuedClass, Memory>
     requires tree { IsTree (T.width tree.now) (T.tree tree.now) }
     requires class { IsSome (record_at (T.tree tree.now) node.0).class }
     requires measure { HasMeasure (T.width tree.now) (T.tree tree.now) ask.now.kind }
@@ -42,7 +42,7 @@ fn value_at<T: Nodes, L: Ledger>(
     upper_into(tree, node, &mut upper, steps);
     let total = tree.class(node, steps).unwrap();
     match lower_bounds(alloc, tree, node, steps) {
-        Ok(lowers) => Ok(Valued {
+        Ok(lowers) => Ok(ValuedClass {
             value: value_of(&total, ask.kind, ask.scale),
             class: Class {
                 upper,
@@ -61,14 +61,16 @@ pub(crate) fn values_at<T: Nodes, L: Ledger>(
     ask: &Ask,
     nodes: &[NodeNo],
     steps: &mut Steps<L>,
-) -> Result<Vec<Valued>, Memory>
+) -> Result<Vec<ValuedClass>, Memory>
     requires tree { IsTree (T.width tree.now) (T.tree tree.now) }
     requires classes { AreClasses (T.tree tree.now) (numbers nodes.now) }
     requires measure { HasMeasure (T.width tree.now) (T.tree tree.now) ask.now.kind }
     ensures hits { (source : TreeRows) → IsTreeOf (T.width tree.now) (T.tree tree.now) source →
-        IfOk result (λ vs. map valued_of vs.items ≡ map (class_at source (T.tree tree.now)) (numbers nodes.now)) }
+        IfOk result (λ vs. map valued_of vs.items ≡ map (class_at source (T.tree tree.now))
+        (numbers nodes.now)) }
     ensures values { IfOk result (λ vs. All (IsValued ask.now) vs.items) }
-    ensures steps { steps.new ≤ steps.old + length nodes.now * (32 * (T.width tree.now + 1) ^ 2 * 2 ^ T.width tree.now) }
+    ensures steps { steps.new ≤ steps.old
+        + length nodes.now * (32 * (T.width tree.now + 1) ^ 2 * 2 ^ T.width tree.now) }
 {
     let mut values = match Vec::with_capacity(alloc, nodes.len()) {
         Ok(values) => values,
@@ -88,8 +90,8 @@ pub(crate) fn values_at<T: Nodes, L: Ledger>(
 }
 
 /// The classes without their values.
-pub(crate) fn without_values(alloc: Global, values: Vec<Valued>) -> Result<Vec<Class>, Memory>
-    ensures { IfOk result (λ classes. classes.items ≡ map class_of values.items) }
+pub(crate) fn without_values(alloc: Global, values: Vec<ValuedClass>) -> Result<Vec<Class>, Memory>
+    ensures { IfOk result (λ classes. classes.items ≡ map valued_class values.items) }
 {
     values.into_iter().map(|value| value.class).collect(alloc)
 }

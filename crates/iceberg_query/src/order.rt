@@ -3,12 +3,12 @@ ghost use Rattle.std.specs.List.Sorted.{IsPermutation, IsSortedBy};
 ghost use Rattle.std.specs.Prelude.{OnOk, ◌≡◌};
 ghost use Rattle.iceberg_query.specs.Order.{is_before, valued_cmp};
 
-use crate::hits::Valued;
+use crate::hits::ValuedClass;
 use crate::{Bound, Memory};
 use std::cmp::Ordering;
 use value_dict::Dict;
 
-fn order(dict: &Dict, bound: Bound, x: &Valued, y: &Valued) -> Ordering
+fn order(dict: &Dict, bound: Bound, x: &ValuedClass, y: &ValuedClass) -> Ordering
     ensures { result ≡ valued_cmp dict.now.lists bound x.now y.now }
 {
     let values = x.value.cmp(&y.value);
@@ -20,7 +20,7 @@ fn order(dict: &Dict, bound: Bound, x: &Valued, y: &Valued) -> Ordering
 }
 
 /// Puts classes in order.
-pub(crate) fn sort(dict: &Dict, bound: Bound, values: &mut Vec<Valued>) -> Result<(), Memory>
+pub(crate) fn sort(dict: &Dict, bound: Bound, values: &mut Vec<ValuedClass>) -> Result<(), Memory>
     ensures same { IsPermutation values.old.items values.new.items }
     ensures sorted { OnOk result (IsSortedBy (is_before dict.now.lists bound) values.new.items) }
 {

@@ -10,7 +10,7 @@ use aggregates::{Agg, compare, value_of};
 /// Whether a class with this aggregate passes.
 pub fn passes(ask: &Ask, agg: &Agg) -> bool
     requires { IsThere agg.now.measures ask.now.kind }
-    ensures { result ≡ answers.is_asked (ask_in ask.now) (agg_in agg.now) }
+    ensures { result ≡ answers.passes_bound (ask_in ask.now) (agg_in agg.now) }
 {
     let order = compare(&value_of(agg, ask.kind, ask.scale), &ask.value);
     match ask.bound {

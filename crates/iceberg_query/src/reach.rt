@@ -5,14 +5,14 @@ ghost use Rattle.cube_defs.specs.Answers as answers;
 ghost use Rattle.cube_defs.specs.Rows as defs;
 ghost use Rattle.aggregates.specs.Views.{IsThere, agg_in};
 ghost use Rattle.iceberg_query.specs.Asked.{ask_in};
-ghost use Rattle.iceberg_query.specs.Reach.{IsOfSome, farther, is_reached, is_sum_asked, outer};
+ghost use Rattle.iceberg_query.specs.Reach.{IsOfSome, farther, is_reached, sum_passes, outer};
 
 use crate::passing::passes;
 use crate::{Ask, Bound};
 use aggregates::{Agg, AggKind, value_of};
 
 // The kind that bounds each amount: the greatest or the least.
-fn outer_kind(bound: Bound, measure: u8) -> AggKind
+fn extreme_kind(bound: Bound, measure: u8) -> AggKind
     ensures { result ≡ outer bound measure }
 {
     match bound {
@@ -21,7 +21,7 @@ fn outer_kind(bound: Bound, measure: u8) -> AggKind
     }
 }
 
-fn farther_of(bound: Bound, one: i128, all: i128) -> i128
+fn more_extreme(bound: Bound, one: i128, all: i128) -> i128
     ensures { result ≡ farther bound one all }
 {
     match bound {
@@ -36,7 +36,7 @@ fn times(amount: i64, count: u32) -> i128
     i128::from(amount) * i128::from(count)
 }
 
-fn reaches(bound: Bound, reached: i128, wanted: i128) -> bool
+fn is_past_bound(bound: Bound, reached: i128, wanted: i128) -> bool
     ensures { result ≡ is_reached bound (int_cmp reached wanted) }
 {
     let order = reached.cmp(&wanted);
@@ -50,27 +50,29 @@ fn reaches(bound: Bound, reached: i128, wanted: i128) -> bool
 // many as there are rows.
 fn may_pass_by_sum(ask: &Ask, agg: &Agg, measure: u8) -> bool
     requires { measure < agg.now.measures }
-    ensures { result ≡ false → (measures : ℕ) (some : defs.Agg) → measure < measures → IsOfSome measures (agg_in agg.now) some →
-        is_sum_asked ask.now measure some ≡ false }
+    ensures { result ≡ false → (measures : ℕ) (some : defs.Agg) → measure < measures
+        → IsOfSome measures (agg_in agg.now) some →
+        sum_passes ask.now measure some ≡ false }
 {
-    let end = value_of(agg, outer_kind(ask.bound, measure), ask.scale);
+    let end = value_of(agg, extreme_kind(ask.bound, measure), ask.scale);
     let all = times(end.num, agg.count);
-    let most = farther_of(ask.bound, i128::from(end.num), all);
+    let most = more_extreme(ask.bound, i128::from(end.num), all);
     let Some(reached) = most.checked_mul(i128::from(ask.value.den)) else {
         return true;
     };
     let Some(wanted) = ask.value.num.checked_mul(i128::from(end.den)) else {
         return true;
     };
-    reaches(ask.bound, reached, wanted)
+    is_past_bound(ask.bound, reached, wanted)
 }
 
 /// Whether the aggregate of some of the rows may pass, where that of all is given. If it can't, no
 /// more special class passes.
 pub(crate) fn may_pass(ask: &Ask, agg: &Agg) -> bool
     requires { IsThere agg.now.measures ask.now.kind }
-    ensures { result ≡ false → (measures : ℕ) (some : defs.Agg) → IsThere measures ask.now.kind → IsOfSome measures (agg_in agg.now) some →
-        answers.is_asked (ask_in ask.now) some ≡ false }
+    ensures { result ≡ false → (measures : ℕ) (some : defs.Agg) → IsThere measures ask.now.kind
+        → IsOfSome measures (agg_in agg.now) some →
+        answers.passes_bound (ask_in ask.now) some ≡ false }
 {
     match ask.kind {
         AggKind::Count => match ask.bound {
@@ -80,7 +82,7 @@ pub(crate) fn may_pass(ask: &Ask, agg: &Agg) -> bool
         AggKind::Sum(measure) => may_pass_by_sum(ask, agg, measure),
         AggKind::Least(measure) | AggKind::Greatest(measure) | AggKind::Mean(measure) => {
             let outermost = Ask {
-                kind: outer_kind(ask.bound, measure),
+                kind: extreme_kind(ask.bound, measure),
                 scale: ask.scale,
                 bound: ask.bound,
                 value: ask.value,

@@ -9,26 +9,28 @@ use Rattle.aggregates.specs.Views.{agg_in}
 use Rattle.cube_defs.specs.Cell.{Cell}
 use Rattle.cube_defs.specs.Rows.{Agg, agg}
 use Rattle.cube_defs.specs.Tree.{Tree, cell_at}
-use Rattle.cube_laws.proofs.Closures.{closure_idem}
-use Rattle.qc_arena.specs.Seen.{record_at}
-use Rattle.tree_laws.proofs.Climbs.{class_is}
-use Rattle.tree_laws.proofs.Lists.{some_same}
+use Rattle.cube_laws.proofs.CallerLemmas.{closure_idem, code_equality}
+use Rattle.qc_arena.specs.RecordReaders.{record_at}
+use Rattle.tree_laws.proofs.CallerLemmas.{class_is, some_same}
 use Rattle.tree_search.specs.Found.{IsTreeOf, IsNumberOfCell, TreeRows, closure_in}
-use Rattle.tree_search.proofs.Walked.{cell_of, there_is}
-use Rattle.cube_laws.proofs.Orders.{code_equality}
+use Rattle.tree_search.proofs.CallerLemmas.{cell_of, there_is}
 
-module _ (dims : ℕ) (tree : Tree ℕ) (source : TreeRows) (h : IsTreeOf dims tree source) (c : Cell ℕ) (k : ℕ) (t : IsSome (map.get tree k)) (e : IsNumberOfCell tree (Some k) (closure_in source c)) where
+module _ (dims : ℕ) (tree : Tree ℕ) (source : TreeRows) (h : IsTreeOf dims tree source) (c : Cell ℕ) (k : ℕ)
+    (t : IsSome (map.get tree k)) (e : IsNumberOfCell tree (Some k) (closure_in source c)) where
   -- the node's cell is the closure
   closed : closure_in source c ≡ Some (record_at tree k).cell
   closed = go (closure_in source c) refl e
     where
-      go : (o : Option (Cell ℕ)) → closure_in source c ≡ o → Some (cell_at tree k) ≡ option_map (λ d. Some d) o → closure_in source c ≡ Some (record_at tree k).cell
+      go : (o : Option (Cell ℕ)) → closure_in source c ≡ o → Some (cell_at tree k) ≡ option_map (λ d. Some d) o
+          → closure_in source c ≡ Some (record_at tree k).cell
       go None q s = cc
       go (Some u) q s = q ∙ ap (λ x. Some x) (sym (cell_of tree k u (some_same s)))
 
-  pub class-there : (record_at tree k).class ≡ Some (agg (eq_by_cmp nat_cmp) source.measures source.rows (record_at tree k).cell)
+  pub class-there : (record_at tree k).class
+      ≡ Some (agg (eq_by_cmp nat_cmp) source.measures source.rows (record_at tree k).cell)
   class-there =
-      class_is nat_cmp_total map.nat_cmp-IsAntisymmetric dims source.measures source.rows h.wide tree h.canonical k (record_at tree k) (there_is tree k t) (record_at tree k).cell
+      class_is nat_cmp_total map.nat_cmp-IsAntisymmetric dims source.measures source.rows h.wide tree h.canonical k
+      (record_at tree k) (there_is tree k t) (record_at tree k).cell
       (closure_idem code_equality source.rows c (record_at tree k).cell closed)
 
 -- what is seen of a total tells that there is one

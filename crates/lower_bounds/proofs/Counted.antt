@@ -4,7 +4,7 @@ use Rattle.std.proofs.Math.Pow.{pow_mono}
 use Rattle.std.proofs.Math.Nat.{mul-le-mul_right}
 use Rattle.cube_defs.specs.Cell.{Cell}
 use Rattle.cube_laws.specs.Parts.{value_count}
-use Rattle.cube_laws.proofs.Numbers.{square}
+use Rattle.cube_laws.proofs.CallerLemmas.{square}
 
 -- a cell has no more values than dimensions
 pub few_values : (u : Cell ℕ) → value_count u ≤ length u
@@ -37,8 +37,10 @@ steps_in_all n d le =
 pub steps_of_bounds : (n d : ℕ) → d ≤ n → (2 * n + 2) + (d + 2 ^ d) * (2 * n + 2) ≤ 16 * (n + 1) ^ 2 * 2 ^ d
 steps_of_bounds n d le =
     let more : d + 1 ≤ 2 ^ d = more_than d in
-    let twice : (1 + (d + 2 ^ d)) * (2 * n + 2) ≤ (2 * 2 ^ d) * (2 * n + 2) = mul-le-mul_right (2 * n + 2) (omega (arith, more)) in
-    let one : 1 * (4 * ((n + 1) * 2 ^ d)) ≤ (n + 1) * (4 * ((n + 1) * 2 ^ d)) = mul-le-mul_right (4 * ((n + 1) * 2 ^ d)) (omega arith) in
+    let twice : (1 + (d + 2 ^ d)) * (2 * n + 2) ≤ (2 * 2 ^ d) * (2 * n + 2)
+    = mul-le-mul_right (2 * n + 2) (omega (arith, more)) in
+    let one : 1 * (4 * ((n + 1) * 2 ^ d)) ≤ (n + 1) * (4 * ((n + 1) * 2 ^ d))
+    = mul-le-mul_right (4 * ((n + 1) * 2 ^ d)) (omega arith) in
     let split : (1 + (d + 2 ^ d)) * (2 * n + 2) ≡ (2 * n + 2) + (d + 2 ^ d) * (2 * n + 2) = grind arith in
     let small : (2 * 2 ^ d) * (2 * n + 2) ≡ 1 * (4 * ((n + 1) * 2 ^ d)) = grind arith in
     let large : 4 * ((n + 1) * (4 * ((n + 1) * 2 ^ d))) ≡ 16 * ((n + 1) * (n + 1)) * 2 ^ d = grind arith in

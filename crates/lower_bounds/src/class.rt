@@ -6,7 +6,7 @@ ghost use Rattle.cube_defs.specs.Answers.{class_of};
 ghost use Rattle.tree_search.specs.Found.{IsTreeOf, IsTree, TreeRows};
 
 use crate::Memory;
-use crate::bounds::bounds_below;
+use crate::bounds::bounds_of_cell;
 use aggregates::Agg;
 use cell_core::{Cell, Cells, Steps};
 use qc_arena::Nodes;
@@ -38,7 +38,8 @@ pub fn find_class<T: Nodes, L: Ledger>(
     requires dims { length cell.now ≡ T.width tree.now }
     requires tree { IsTree (T.width tree.now) (T.tree tree.now) }
     ensures class { (source : TreeRows) → IsTreeOf (T.width tree.now) (T.tree tree.now) source →
-        IfOk result (λ class. option_map hit_in class ≡ class_of nat_cmp source.measures source.rows cell.now) }
+        IfOk result (λ class. option_map hit_in class
+        ≡ class_of nat_cmp source.measures source.rows cell.now) }
     ensures steps { steps.new ≤ steps.old + 7 * (T.width tree.now + 1) * 2 ^ T.width tree.now }
 {
     let Some(node) = find(tree, cell, steps) else {
@@ -47,7 +48,7 @@ pub fn find_class<T: Nodes, L: Ledger>(
     let mut upper = Cell::any(alloc, tree.dims());
     upper_into(tree, node, &mut upper, steps);
     let total = tree.class(node, steps).unwrap();
-    let lowers = bounds_below(alloc, tree, node, &upper, steps)?;
+    let lowers = bounds_of_cell(alloc, tree, node, &upper, steps)?;
     Ok(Some(Class {
         upper,
         total,

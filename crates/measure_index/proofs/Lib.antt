@@ -10,3 +10,4 @@ pub mod Keyed
 pub mod Filled
 pub mod Units
 pub mod FillingLemmas
+pub mod CallerLemmas

@@ -2,7 +2,8 @@
 use mathlib.Core.HLevel.{is_prop→PathP}
 use native.Mathlib.Bridge.{le_prop}
 use Prim.Native.Nat.{◌∣◌}
-use Rattle.std.proofs.Common.{◌≡◌, ℕ, zero, suc, ◌+◌, ◌*◌, ◌/◌, ◌%◌, ◌^◌, ◌<◌, ◌≤◌, ℤ, pos, negsuc, ◌*ℤ◌, ◌<ℤ◌, refl, sym, ap, subst, ◌∙◌, arith, nat_abs}
+use Rattle.std.proofs.Common.{◌≡◌, ℕ, zero, suc, ◌+◌, ◌*◌, ◌/◌, ◌%◌, ◌^◌, ◌<◌, ◌≤◌, ℤ, pos, negsuc, ◌*ℤ◌, ◌<ℤ◌, refl, sym, ap, subst, ◌∙◌}
+use Rattle.std.proofs.Common.{arith, nat_abs}
 use Rattle.std.specs.declared.cmp.Ordering.TheVariants.{Equal}
 use Rattle.std.specs.Int.{IsGcd}
 use Rattle.std.specs.Ordering.{int_cmp}
@@ -15,8 +16,7 @@ use Rattle.std.proofs.lemmas.Nat.Gcd.{IsGcd-from_mod, IsGcd-from_zero, dvd_antis
 use Rattle.cube_defs.specs.Rows.{gcd, gcd_within}
 use Rattle.aggregates.specs.Order.{ratio_cmp}
 use Rattle.aggregates.specs.declared.fraction.Ratio.{Ratio}
-use Rattle.cube_laws.proofs.Divisors.{nat_abs-neg}
-use Rattle.cube_laws.proofs.FractionOrder.{mono}
+use Rattle.cube_laws.proofs.CallerLemmas.{nat_abs-neg, mono}
 
 mod-times : (m a b : ℕ) → 0 < m → 0 < b → (m * a) % (m * b) ≡ m * (a % b)
 mod-times m a b p q =
@@ -30,7 +30,8 @@ gcd-times m (suc n) a zero p h = IsGcd-from_zero (m * a) (m * 0) (mul-zero m)
 gcd-times m (suc n) a (suc b) p h =
     let less : a % suc b < suc b = mod-lt a (omega arith) in
     IsGcd-from_mod (m * a) (m * suc b) (m * gcd_within n (suc b) (a % suc b))
-    (subst (λ r. IsGcd (m * suc b) r (m * gcd_within n (suc b) (a % suc b))) (sym (mod-times m a (suc b) p (omega arith))) (gcd-times m n (suc b) (a % suc b) p (omega (arith, less, h))))
+    (subst (λ r. IsGcd (m * suc b) r (m * gcd_within n (suc b) (a % suc b)))
+    (sym (mod-times m a (suc b) p (omega arith))) (gcd-times m n (suc b) (a % suc b) p (omega (arith, less, h))))
 
 -- what divides a product, and has no divisor with the one factor, divides the other
 coprime_divides : (a b c : ℕ) → 0 < c → gcd a b ≡ 1 → b ∣ a * c → b ∣ c
@@ -54,8 +55,10 @@ module _ (x y : Ratio) (same : x.num *ℤ pos y.den ≡ y.num *ℤ pos x.den) wh
 
   dens : x.den ≡ y.den
   dens = dvd_antisymm
-      (coprime_divides (nat_abs x.num) x.den y.den y.lowest.positive x.lowest.lowest (subst (λ n. x.den ∣ n) (sym products) (dvd-mul_left x.den (nat_abs y.num))))
-      (coprime_divides (nat_abs y.num) y.den x.den x.lowest.positive y.lowest.lowest (subst (λ n. y.den ∣ n) products (dvd-mul_left y.den (nat_abs x.num))))
+      (coprime_divides (nat_abs x.num) x.den y.den y.lowest.positive x.lowest.lowest
+      (subst (λ n. x.den ∣ n) (sym products) (dvd-mul_left x.den (nat_abs y.num))))
+      (coprime_divides (nat_abs y.num) y.den x.den x.lowest.positive y.lowest.lowest
+      (subst (λ n. y.den ∣ n) products (dvd-mul_left y.den (nat_abs x.num))))
 
   nums : x.num ≡ y.num
   nums = times_cancels x.num y.num x.den x.lowest.positive (ap (λ (n : ℕ). x.num *ℤ pos n) dens ∙ same)

@@ -8,10 +8,13 @@ use Rattle.cube_defs.specs.declared.limits.TheConstants.{MAX_SCALE}
 
 ten : (scale : ℕ) → (0 < 10 ^ min scale MAX_SCALE) × (10 ^ min scale MAX_SCALE ≤ 10 ^ MAX_SCALE)
 ten scale =
-    let few = min-le_right scale MAX_SCALE in
-    (one-le-pow (min scale MAX_SCALE) 10 (zero-lt-suc 9), pow-le-pow_right {n = 10} (zero-lt-suc 9) {i = min scale MAX_SCALE} {j = MAX_SCALE} few)
+    let few = min-le_right scale MAX_SCALE in (
+      one-le-pow (min scale MAX_SCALE) 10 (zero-lt-suc 9),
+      pow-le-pow_right {n = 10} (zero-lt-suc 9) {i = min scale MAX_SCALE} {j = MAX_SCALE} few,
+    )
 
-pub some : (kind : AggKind) (scale : ℕ) → (0 < unit_of kind (min scale MAX_SCALE)) × (unit_of kind (min scale MAX_SCALE) ≤ 10 ^ MAX_SCALE)
+pub some : (kind : AggKind) (scale : ℕ) → (0 < unit_of kind (min scale MAX_SCALE))
+    × (unit_of kind (min scale MAX_SCALE) ≤ 10 ^ MAX_SCALE)
 some kinds.Count scale = (zero-lt-suc 0, one-le-pow MAX_SCALE 10 (zero-lt-suc 9))
 some (kinds.Sum m) scale = ten scale
 some (kinds.Least m) scale = ten scale

@@ -10,20 +10,21 @@ use Rattle.aggregates.specs.Views.{IsThere, agg_in, kind_in, ratio_in}
 use Rattle.aggregates.specs.declared.agg.Agg.{Agg}
 use Rattle.aggregates.specs.declared.kind.AggKind.{AggKind}
 use Rattle.cell_core.specs.declared.cell.NodeNo.{NodeNo}
-use Rattle.measure_index.specs.declared.entry.Entry.{Entry}
+use Rattle.measure_index.specs.declared.entry.IndexEntry.{IndexEntry}
 
 -- by value and then by node
-abbrev pub entry_cmp : Entry → Entry → Ordering
+abbrev pub entry_cmp : IndexEntry → IndexEntry → Ordering
 entry_cmp x y = ordering_then (ratio_cmp x.value y.value) (nat_cmp x.node y.node)
 
 pub entry_total : IsTotalOrder entry_cmp
-entry_total = then_total (on_total (λ (e : Entry). e.value) ratio_total) (on_total (λ (e : Entry). e.node) nat_cmp_total)
+entry_total = then_total (on_total (λ (e : IndexEntry). e.value) ratio_total)
+    (on_total (λ (e : IndexEntry). e.node) nat_cmp_total)
 
 -- the entry is that of the class, for a kind in the unit of its measure's scale
-abbrev pub IsEntry : AggKind → ℕ → NodeNo × Agg → Entry → Type 0
+abbrev pub IsEntry : AggKind → ℕ → NodeNo × Agg → IndexEntry → Type 0
 IsEntry kind scale class e = (e.node ≡ class.0.0) × (ratio_in e.value ≡ value_of (kind_in kind) scale (agg_in class.1))
 
-abbrev pub AreEntries : AggKind → ℕ → List (NodeNo × Agg) → List Entry → Type 0
+abbrev pub AreEntries : AggKind → ℕ → List (NodeNo × Agg) → List IndexEntry → Type 0
 AreEntries kind scale classes entries = AllZip (IsEntry kind scale) classes entries
 
 -- each class has the measure of the kind

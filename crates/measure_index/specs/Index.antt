@@ -4,18 +4,18 @@ use Rattle.std.specs.List.{find}
 use Rattle.aggregates.specs.declared.kind.AggKind.{AggKind}
 use Rattle.aggregates.specs.Views.{same_kind}
 use Rattle.aggregates.specs.declared.kind.AggKind.TheVariants as kinds
-use Rattle.measure_index.specs.declared.entry.Entry.{Entry}
+use Rattle.measure_index.specs.declared.entry.IndexEntry.{IndexEntry}
 use Rattle.measure_index.specs.Rankings.{Ranking, no_entries}
 
 abbrev pub ranking_of : AggKind → List Ranking → Option Ranking
 ranking_of kind index = find (λ r. same_kind kind r.kind) index
 
-abbrev pub entries_in : Option Ranking → List Entry
+abbrev pub entries_in : Option Ranking → List IndexEntry
 entries_in None = []
 entries_in (Some r) = r.entries
 
 -- the entries of a kind
-abbrev pub entries_of : AggKind → List Ranking → List Entry
+abbrev pub entries_of : AggKind → List Ranking → List IndexEntry
 entries_of kind index = entries_in (ranking_of kind index)
 
 -- the kinds with the scales of their measures

@@ -3,7 +3,7 @@ pub mod Entries
 pub mod Rankings
 pub mod Changes
 pub mod Divisors
-pub mod Kept
-pub mod Filling
+pub mod ColumnKeys
+pub mod Builder
 pub mod Index
 pub mod Walks

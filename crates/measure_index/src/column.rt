@@ -2,14 +2,14 @@
 ghost use Rattle.std.specs.Prelude.{IfOk, OnErr, OnOk, length, ◌<◌, ◌^◌, ◌≡◌, ◌≤◌};
 ghost use Rattle.measure_index.specs.Entries.{HaveMeasure};
 ghost use Rattle.measure_index.specs.Rankings.{IsRising, Ranking, no_entries};
-ghost use Rattle.measure_index.specs.Changes.{AreFresh, ArePlanned, Came, Went};
-ghost use Rattle.measure_index.specs.Filling.{IsRankingOf};
-ghost use Rattle.measure_index.specs.Kept.{entries_at};
+ghost use Rattle.measure_index.specs.Changes.{AreFresh, ArePlanned, EntriesAdded, EntriesRemoved};
+ghost use Rattle.measure_index.specs.Builder.{IsRankingOf};
+ghost use Rattle.measure_index.specs.ColumnKeys.{entries_at};
 ghost use Rattle.measure_index.specs.Walks.{qualifying};
 
 use crate::key::Key;
 use crate::keying::keys_of;
-use crate::keys::{insert_all, lacked_by, set_of, take_out};
+use crate::keys::{insert_all, lacked_by, remove_keys, set_of};
 use crate::walk::{Direction, Walk};
 use aggregates::{Agg, AggKind, Fraction};
 use cell_core::NodeNo;
@@ -27,14 +27,19 @@ pub(crate) struct Column {
 }
 
 impl Model for Column {
-    ghost use Rattle.measure_index.specs.Kept.{AreKept, entries_at};
+    ghost use Rattle.measure_index.specs.ColumnKeys.{AreColumnKeys, entries_at};
     ghost use Rattle.measure_index.specs.Rankings.{Ranking};
 
     ghost Value = { Ranking };
 
-    ghost view = { λ c. record { kind = c.kind; scale = c.scale; entries = entries_at c.kind c.scale c.keys.keys } };
+    ghost view = { λ c. record {
+      kind = c.kind;
+      scale = c.scale;
+      entries
+          = entries_at c.kind c.scale c.keys.keys;
+    } };
 
-    ghost invariant = { λ c. AreKept c.scale c.keys.keys };
+    ghost invariant = { λ c. AreColumnKeys c.scale c.keys.keys };
 }
 
 /// The keys that a change adds to a column and takes out of it.
@@ -66,7 +71,8 @@ impl Column {
         keys: Vec<Key>,
     ) -> Result<Column, Memory>
         requires { scale ≤ MAX_SCALE }
-        ensures { IfOk result (λ column. IsRankingOf (record { kind = kind; scale = scale; keys = keys.items }) column) }
+        ensures { IfOk result (λ column. IsRankingOf
+            (record { kind = kind; scale = scale; keys = keys.items }) column) }
     {
         let set = match set_of(alloc, keys) {
             Ok(set) => set,
@@ -114,7 +120,8 @@ impl Column {
     ) -> Result<Plan, Memory>
         requires add { HaveMeasure self.now.kind add.now }
         requires remove { HaveMeasure self.now.kind remove.now }
-        ensures { IfOk result (λ plan. ArePlanned self.now add.now remove.now (entries_at self.now.kind self.now.scale plan.added.items)
+        ensures { IfOk result (λ plan. ArePlanned self.now add.now remove.now
+            (entries_at self.now.kind self.now.scale plan.added.items)
             (entries_at self.now.kind self.now.scale plan.going.items)) }
     {
         let mut added = match keys_of(alloc, self.kind, add) {
@@ -134,8 +141,10 @@ impl Column {
     /// Adds entries, up to 4,294,967,295 in all, and gives those that were not there. A refusal
     /// leaves the column as it was.
     pub(crate) fn put(&mut self, alloc: Global, added: &[Key]) -> Result<Vec<Key>, Memory>
-        ensures came { OnOk result (Came (entries_at self.old.kind self.old.scale added.now) self.old self.new) }
-        ensures fresh { IfOk result (λ came. AreFresh self.old (entries_at self.old.kind self.old.scale added.now)
+        ensures came { OnOk result
+            (EntriesAdded (entries_at self.old.kind self.old.scale added.now) self.old self.new) }
+        ensures fresh { IfOk result
+            (λ came. AreFresh self.old (entries_at self.old.kind self.old.scale added.now)
             (entries_at self.old.kind self.old.scale came.items)) }
         ensures err { OnErr result (self.new ≡ self.old) }
     {
@@ -147,8 +156,9 @@ impl Column {
 
     /// Takes out the entries that are there.
     pub(crate) fn take(&mut self, going: &[Key])
-        ensures { Went (entries_at self.old.kind self.old.scale going.now) self.old self.new }
+        ensures { EntriesRemoved (entries_at self.old.kind self.old.scale going.now)
+            self.old self.new }
     {
-        take_out(&mut self.keys, going);
+        remove_keys(&mut self.keys, going);
     }
 }

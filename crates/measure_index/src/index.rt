@@ -147,7 +147,8 @@ impl Index {
         requires add { All (λ r. HaveMeasure r.kind add.now) self.old }
         requires remove { All (λ r. HaveMeasure r.kind remove.now) self.old }
         ensures entries { OnOk result (AllZip (HasChanged add.now remove.now) self.old self.new) }
-        ensures classes { OnOk result ((from to : ℕ → Option defs.Agg) → AreNew from to add.now → AreNew to from remove.now → IsIndex from self.old →
+        ensures classes { OnOk result ((from to : ℕ → Option defs.Agg) → AreNew from to add.now
+            → AreNew to from remove.now → IsIndex from self.old →
             IsIndex to self.new) }
         ensures units { units self.new ≡ units self.old }
         ensures err { OnErr result (self.new ≡ self.old) }
@@ -160,7 +161,8 @@ impl Index {
     /// kind's measure. Takes no memory, and reads only as far as the walk goes.
     pub fn at_least(&self, kind: AggKind, value: &Fraction) -> Walk<'_>
         requires { IsSome (ranking_of kind self.now) }
-        ensures left { result.left ≡ reverse (filter (is_at_least value.now) (entries_of kind self.now)) }
+        ensures left { result.left
+            ≡ reverse (filter (is_at_least value.now) (entries_of kind self.now)) }
         ensures rising { IsRising (entries_of kind self.now) }
         ensures given { result.given ≡ 0 }
         ensures taken { result.taken ≡ 0 }

@@ -26,7 +26,7 @@ fn times(num: i128, den: u64) -> i128
 impl PartialEq for Key {
     ghost use Rattle.std.specs.Cmp.{partial_equiv_from_equiv, eq_by_cmp_equiv};
     ghost use Rattle.std.specs.Ordering.{eq_by_cmp};
-    ghost use Rattle.measure_index.specs.Kept.{key_cmp, key_total};
+    ghost use Rattle.measure_index.specs.ColumnKeys.{key_cmp, key_total};
 
     ghost eq = { eq_by_cmp key_cmp };
 
@@ -39,7 +39,7 @@ impl PartialEq for Key {
 
 impl Eq for Key {
     ghost use Rattle.std.specs.Cmp.{eq_by_cmp_equiv};
-    ghost use Rattle.measure_index.specs.Kept.{key_total};
+    ghost use Rattle.measure_index.specs.ColumnKeys.{key_total};
 
     ghost laws = { eq_by_cmp_equiv key_total };
 }
@@ -48,11 +48,12 @@ impl PartialOrd for Key {
     ghost use Rattle.std.specs.Prelude.{refl};
     ghost use Rattle.std.specs.Cmp.{partial_order_from_agreeing_total};
     ghost use Rattle.std.specs.Ordering.{as_partial_cmp};
-    ghost use Rattle.measure_index.specs.Kept.{key_cmp, key_total};
+    ghost use Rattle.measure_index.specs.ColumnKeys.{key_cmp, key_total};
 
     ghost partial_cmp = { as_partial_cmp key_cmp };
 
-    ghost laws = { partial_order_from_agreeing_total key_cmp key_total (λ x y. refl) (λ x y. refl) };
+    ghost laws = { partial_order_from_agreeing_total key_cmp key_total (λ x y. refl)
+        (λ x y. refl) };
 
     fn partial_cmp(&self, other: &Key) -> Option<Ordering> {
         Some(self.cmp(other))
@@ -61,7 +62,7 @@ impl PartialOrd for Key {
 
 impl Ord for Key {
     ghost use Rattle.std.specs.Prelude.{refl};
-    ghost use Rattle.measure_index.specs.Kept.{key_cmp, key_total};
+    ghost use Rattle.measure_index.specs.ColumnKeys.{key_cmp, key_total};
 
     ghost cmp = { key_cmp };
 

@@ -3,9 +3,9 @@ ghost use Rattle.std.specs.List.{AllZip};
 ghost use Rattle.std.specs.Prelude.{IfOk, ◌≡◌, ◌≤◌};
 ghost use Rattle.aggregates.specs.Views.{IsThere};
 ghost use Rattle.measure_index.specs.Entries.{HaveMeasure};
-ghost use Rattle.measure_index.specs.Kept.{IsKey, entry_of};
+ghost use Rattle.measure_index.specs.ColumnKeys.{IsKey, entry_of};
 
-use crate::entry::Entry;
+use crate::entry::IndexEntry;
 use crate::key::Key;
 use aggregates::{Agg, AggKind, Quotient};
 use cell_core::NodeNo;
@@ -36,11 +36,11 @@ impl Key {
     }
 
     /// The entry of a key. `scale` is that of the kind's measure.
-    pub(crate) fn entry(self, kind: AggKind, scale: u8) -> Entry
+    pub(crate) fn entry(self, kind: AggKind, scale: u8) -> IndexEntry
         requires { scale ≤ MAX_SCALE }
         ensures { result ≡ entry_of kind scale self }
     {
-        Entry {
+        IndexEntry {
             value: self.value().in_lowest_terms(kind, scale),
             node: self.node,
         }

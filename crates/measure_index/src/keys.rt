@@ -9,9 +9,10 @@ use std::alloc::{AllocError, Global};
 use std::collections::BTreeSet;
 
 /// Takes out the keys that are there.
-pub(crate) fn take_out<K: Ord + Copy>(set: &mut BTreeSet<K, Global>, items: &[K])
+pub(crate) fn remove_keys<K: Ord + Copy>(set: &mut BTreeSet<K, Global>, items: &[K])
     requires { IsOrdered K.cmp set.old }
-    ensures has { (q : K) → contains K.cmp set.new q ≡ (contains K.cmp set.old q && not (among K.cmp items.now q)) }
+    ensures has { (q : K) → contains K.cmp set.new q
+        ≡ (contains K.cmp set.old q && not (among K.cmp items.now q)) }
     ensures few { btree_set_len set.new ≤ btree_set_len set.old }
     ensures ordered { IsOrdered K.cmp set.new }
 {
@@ -42,8 +43,10 @@ pub(crate) fn insert_all<K: Ord + Copy>(
     items: &[K],
 ) -> Result<Vec<K>, Memory>
     requires ordered { IsOrdered K.cmp set.old }
-    ensures has { OnOk result ((q : K) → contains K.cmp set.new q ≡ (contains K.cmp set.old q || among K.cmp items.now q)) }
-    ensures fresh { IfOk result (λ came. (q : K) → among K.cmp came.items q ≡ (among K.cmp items.now q && not (contains K.cmp set.old q))) }
+    ensures has { OnOk result ((q : K)
+        → contains K.cmp set.new q ≡ (contains K.cmp set.old q || among K.cmp items.now q)) }
+    ensures fresh { IfOk result (λ came. (q : K)
+        → among K.cmp came.items q ≡ (among K.cmp items.now q && not (contains K.cmp set.old q))) }
     ensures err { OnErr result (IsSameSet K.cmp set.old set.new) }
     ensures few { btree_set_len set.new ≤ btree_set_len set.old + length items.now }
     ensures now_ordered { IsOrdered K.cmp set.new }
@@ -56,7 +59,7 @@ pub(crate) fn insert_all<K: Ord + Copy>(
         match set.insert(*item) {
             Ok(added) => note(&mut came, *item, added),
             Err(_) => {
-                take_out(set, &came);
+                remove_keys(set, &came);
                 return Err(AllocError);
             }
         }
@@ -91,7 +94,9 @@ pub(crate) fn lacked_by<K: Ord + Copy>(
     items: &Vec<K>,
 ) -> Result<Vec<K>, Memory>
     requires { IsSorted K.cmp others.now }
-    ensures has { IfOk result (λ v. (q : K) → among K.cmp v.items q ≡ (among K.cmp items.now.items q && not (among K.cmp others.now q))) }
+    ensures has { IfOk result (λ v. (q : K)
+        → among K.cmp v.items q
+        ≡ (among K.cmp items.now.items q && not (among K.cmp others.now q))) }
 {
     let mut out = Vec::new(alloc);
     for item in items {

@@ -1,10 +1,10 @@
 // Entries in order of value, up to a bound.
 ghost use Rattle.std.specs.List.Sorted.{IsStrictlySortedBy};
 ghost use Rattle.std.specs.Prelude.{MatchOption, [], length, ◌+◌, ◌∷◌, ◌<◌, ◌^◌, ◌≡◌, ◌≤◌};
-ghost use Rattle.measure_index.specs.Kept.{entries_at, key_cmp};
+ghost use Rattle.measure_index.specs.ColumnKeys.{entries_at, key_cmp};
 ghost use Rattle.measure_index.specs.Walks.{directed, passing, qualifying};
 
-use crate::entry::Entry;
+use crate::entry::IndexEntry;
 use crate::key::Key;
 use aggregates::{AggKind, Fraction, Ratio, compare};
 use cell_core::NodeNo;
@@ -36,7 +36,7 @@ pub struct Walk<'a> {
 
 impl<'a> Model for Walk<'a> {
     ghost use Rattle.std.specs.Prelude.{◌+◌, ◌-◌, ◌<◌, ◌≤◌, ◌^◌, cond, length};
-    ghost use Rattle.measure_index.specs.Kept.{entries_at};
+    ghost use Rattle.measure_index.specs.ColumnKeys.{entries_at};
     ghost use Rattle.measure_index.specs.Walks.{Walking, left_of};
     ghost use Rattle.cube_defs.specs.declared.limits.TheConstants.{MAX_SCALE};
 
@@ -49,10 +49,11 @@ impl<'a> Model for Walk<'a> {
       taken = w.taken;
     } };
 
-    ghost invariant = { λ w. (w.taken + length w.keys < 2 ^ 63) × (cond w.stopped 1 0 ≤ w.taken) × (w.scale ≤ MAX_SCALE) };
+    ghost invariant = { λ w. (w.taken + length w.keys < 2 ^ 63) × (cond w.stopped 1 0 ≤ w.taken)
+        × (w.scale ≤ MAX_SCALE) };
 }
 
-fn passes(entry: &Entry, direction: Direction, bound: &Fraction) -> bool
+fn passes(entry: &IndexEntry, direction: Direction, bound: &Fraction) -> bool
     ensures { result ≡ passing direction bound.now entry.now }
 {
     let order = compare(&entry.value, bound);
@@ -64,9 +65,11 @@ fn passes(entry: &Entry, direction: Direction, bound: &Fraction) -> bool
 
 // The next key from the direction's end.
 fn next_of<'a>(keys: &mut Iter<'a, Key>, direction: Direction) -> Option<&'a Key>
-    ensures key { MatchOption result ((directed direction keys.old ≡ []) × (directed direction keys.new ≡ []))
+    ensures key { MatchOption result ((directed direction keys.old ≡ [])
+        × (directed direction keys.new ≡ []))
         (λ k. directed direction keys.old ≡ k.now ∷ directed direction keys.new) }
-    ensures count { MatchOption result (length keys.new ≡ length keys.old) (λ _. length keys.old ≡ length keys.new + 1) }
+    ensures count { MatchOption result (length keys.new ≡ length keys.old)
+        (λ _. length keys.old ≡ length keys.new + 1) }
 {
     match direction {
         Direction::Falling => keys.next_back(),
@@ -80,12 +83,14 @@ fn next_entry(
     direction: Direction,
     kind: AggKind,
     scale: u8,
-) -> Option<Entry>
+) -> Option<IndexEntry>
     requires { scale ≤ MAX_SCALE }
     ensures entry { MatchOption result ((directed direction (entries_at kind scale keys.old) ≡ [])
         × (directed direction (entries_at kind scale keys.new) ≡ []))
-        (λ e. directed direction (entries_at kind scale keys.old) ≡ e ∷ directed direction (entries_at kind scale keys.new)) }
-    ensures count { MatchOption result (length keys.new ≡ length keys.old) (λ _. length keys.old ≡ length keys.new + 1) }
+        (λ e. directed direction (entries_at kind scale keys.old) ≡ e
+        ∷ directed direction (entries_at kind scale keys.new)) }
+    ensures count { MatchOption result (length keys.new ≡ length keys.old)
+        (λ _. length keys.old ≡ length keys.new + 1) }
 {
     let key = next_of(keys, direction)?;
     Some(key.entry(kind, scale))
@@ -103,7 +108,8 @@ impl<'a> Walk<'a> {
         requires rising { IsStrictlySortedBy key_cmp keys }
         requires few { length keys < 2 ^ 63 }
         requires scale { scale ≤ MAX_SCALE }
-        ensures left { result.left ≡ qualifying direction bound.now (entries_at kind scale keys.entry) }
+        ensures left { result.left ≡ qualifying direction bound.now
+            (entries_at kind scale keys.entry) }
         ensures given { result.given ≡ 0 }
         ensures taken { result.taken ≡ 0 }
     {
@@ -122,7 +128,8 @@ impl<'a> Walk<'a> {
     pub fn next(&mut self) -> Option<(NodeNo, Ratio)>
         ensures pair { MatchOption result ((self.old.left ≡ []) × (self.new.left ≡ []))
             (λ p. self.old.left ≡ record { value = p.1; node = p.0.0 } ∷ self.new.left) }
-        ensures given { MatchOption result (self.new.given ≡ self.old.given) (λ _. self.new.given ≡ self.old.given + 1) }
+        ensures given { MatchOption result (self.new.given ≡ self.old.given)
+            (λ _. self.new.given ≡ self.old.given + 1) }
     {
         if self.stopped {
             return None;

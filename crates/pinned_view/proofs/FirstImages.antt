@@ -3,22 +3,25 @@ use Rattle.std.proofs.Common.{◌≡◌, ℕ, refl, sym, ap, ◌∙◌, Option, 
 use Rattle.std.specs.FinMap as map
 use Rattle.cube_defs.specs.Tree.{Tree}
 use Rattle.qc_arena.specs.Map.{ImageMap, Known, or_image}
-use Rattle.qc_arena.proofs.Imaged.{get-over}
-use Rattle.qc_arena.proofs.ImagesOver.{or_twice}
-use Rattle.pinned_view.specs.Past.{first_image, past}
+use Rattle.qc_arena.proofs.CallerLemmas.{get-over, or_twice}
+use Rattle.pinned_view.specs.Past.{first_image, with_all_images}
 
-pub get-past : (images : List ImageMap) (tree : Tree ℕ) (q : ℕ) → map.get (past images tree) q ≡ or_image (first_image images q) (map.get tree q)
+pub get-past : (images : List ImageMap) (tree : Tree ℕ) (q : ℕ)
+    → map.get (with_all_images images tree) q ≡ or_image (first_image images q) (map.get tree q)
 get-past [] tree q = refl
 get-past (i ∷ later) tree q =
-    get-over i (past later tree) q ∙ ap (or_image (map.get i q)) (get-past later tree q) ∙ or_twice (map.get i q) (first_image later q) (map.get tree q)
+    get-over i (with_all_images later tree) q ∙ ap (or_image (map.get i q)) (get-past later tree q)
+    ∙ or_twice (map.get i q) (first_image later q) (map.get tree q)
 
 -- where the first image is at hand
-pub past_is : (images : List ImageMap) (tree : Tree ℕ) (q : ℕ) (o : Option (Option Known)) → o ≡ first_image images q → map.get (past images tree) q ≡ or_image o (map.get tree q)
+pub past_is : (images : List ImageMap) (tree : Tree ℕ) (q : ℕ) (o : Option (Option Known)) → o ≡ first_image images q
+    → map.get (with_all_images images tree) q ≡ or_image o (map.get tree q)
 past_is images tree q o e = get-past images tree q ∙ ap (λ i. or_image i (map.get tree q)) (sym e)
 
 -- a node that was there isn't gone
-pub not_gone : (images : List ImageMap) (tree : Tree ℕ) (q : ℕ) → Some None ≡ first_image images q → IsSome (map.get (past images tree) q) → ⊥
-not_gone images tree q e h = by (map.get (past images tree) q) (past_is images tree q (Some None) e) h
+pub not_gone : (images : List ImageMap) (tree : Tree ℕ) (q : ℕ) → Some None ≡ first_image images q
+    → IsSome (map.get (with_all_images images tree) q) → ⊥
+not_gone images tree q e h = by (map.get (with_all_images images tree) q) (past_is images tree q (Some None) e) h
   where
     by : (o : Option Known) → o ≡ None → IsSome o → ⊥
     by None e h = true≢false (sym h)

@@ -1,5 +1,6 @@
 -- What is true of pins stays true as the warehouse changes, and as pins come and go.
-use Rattle.std.proofs.Common.{◌≡◌, ℕ, ◌+◌, ◌-◌, ◌<◌, ◌≤◌, refl, sym, ap, ◌∙◌, subst, Bool, true, false, not, Some, None, List, [], ◌∷◌, ◌++◌, cond, drop, length, map, arith, length-append, length-drop, drop-drop}
+use Rattle.std.proofs.Common.{◌≡◌, ℕ, ◌+◌, ◌-◌, ◌<◌, ◌≤◌, refl, sym, ap, ◌∙◌, subst, Bool, true, false, not, Some, None, List, [], ◌∷◌}
+use Rattle.std.proofs.Common.{◌++◌, cond, drop, length, map, arith, length-append, length-drop, drop-drop}
 use Rattle.std.specs.Prelude.{filter, option_map}
 use Rattle.std.proofs.Math.Seq.{drop-length}
 use Rattle.std.proofs.lemmas.List.{length-map, map-append}
@@ -11,10 +12,10 @@ use Rattle.std.specs.Str.{bytes_eq}
 use Rattle.cube_defs.specs.Rows.{Row}
 use Rattle.cube_defs.specs.Text.{Text}
 use Rattle.cube_defs.specs.Tree.{Tree}
-use Rattle.qc_arena.specs.Map.{ImageMap, over}
+use Rattle.qc_arena.specs.Map.{ImageMap, overlaid}
 use Rattle.qc_schema.specs.Schema.{Layout}
-use Rattle.pinned_view.specs.Past.{past}
-use Rattle.pinned_view.specs.Pins.{ArePins, AreWithin, IsPin, ReadSame, bears, moved_back, version_in, was_in}
+use Rattle.pinned_view.specs.Past.{with_all_images}
+use Rattle.pinned_view.specs.Pins.{ArePins, AreWithin, IsPin, ReadSame, has_name, moved_back, version_in, was_in}
 use Rattle.pinned_view.specs.Versions.{AreVersions, Version, version_now, version_of, without}
 use Rattle.pinned_view.specs.Views.{IsRootOf}
 use Rattle.warehouse.specs.Counted.{AreCounted}
@@ -24,10 +25,13 @@ use Rattle.warehouse.specs.State.{AreContents, Contents, HasTree, State, with_ro
 
 -- the trees of rows that a state had are those of its rows in another state
 abbrev pub KeepsTrees : State → State → Type 0
-KeepsTrees was now = (rows : List (Row Text)) (tree : Tree ℕ) → HasTree (with_rows was rows) tree → HasTree (with_rows now rows) tree
+KeepsTrees was now = (rows : List (Row Text)) (tree : Tree ℕ) → HasTree (with_rows was rows) tree
+    → HasTree (with_rows now rows) tree
 
-module _ (was now : Contents) (kept kept' : List ImageMap) (schema : now.state.schema ≡ was.state.schema) (trees : KeepsTrees was.state now.state) where
-  each_stays : (pins : List Pin) → ReadSame kept was.tree kept' now.tree pins → AreWithin (length kept') pins → AllByRecursion (IsPin was kept) pins → AllByRecursion (IsPin now kept') pins
+module _ (was now : Contents) (kept kept' : List ImageMap) (schema : now.state.schema ≡ was.state.schema)
+    (trees : KeepsTrees was.state now.state) where
+  each_stays : (pins : List Pin) → ReadSame kept was.tree kept' now.tree pins → AreWithin (length kept') pins
+      → AllByRecursion (IsPin was kept) pins → AllByRecursion (IsPin now kept') pins
   each_stays [] same within are = tt
   each_stays (pin ∷ pins) same within are = (
     record {
@@ -41,7 +45,8 @@ module _ (was now : Contents) (kept kept' : List ImageMap) (schema : now.state.s
   )
 
   -- a change after which each pin reads what it read
-  pub pins_stay : (pins : List Pin) → ReadSame kept was.tree kept' now.tree pins → AreWithin (length kept') pins → now.images ≡ finmap.empty → ArePins was kept pins → ArePins now kept' pins
+  pub pins_stay : (pins : List Pin) → ReadSame kept was.tree kept' now.tree pins → AreWithin (length kept') pins
+      → now.images ≡ finmap.empty → ArePins was kept pins → ArePins now kept' pins
   pins_stay pins same within plain are = record {
     each = each_stays pins same within are.each;
     few = are.few;
@@ -50,25 +55,33 @@ module _ (was now : Contents) (kept kept' : List ImageMap) (schema : now.state.s
   }
 
 -- a file that is taken: what it made of the nodes is kept, and the warehouse has it no more
-pub after_change : (was mid now : Contents) (kept reserved kept' : List ImageMap) (images : ImageMap) (pins : List Pin) → reserved ≡ kept → over mid.images mid.tree ≡ was.tree → images ≡ mid.images
-    → now ≡ record mid { images = finmap.empty } → ((tree : Tree ℕ) → ReadSame reserved (over images tree) kept' tree pins) → AreWithin (length kept') pins → mid.state.schema ≡ was.state.schema
+pub after_change : (was mid now : Contents) (kept reserved kept' : List ImageMap) (images : ImageMap) (pins : List Pin)
+    → reserved ≡ kept → overlaid mid.images mid.tree ≡ was.tree → images ≡ mid.images
+    → now ≡ record mid { images = finmap.empty }
+    → ((tree : Tree ℕ) → ReadSame reserved (overlaid images tree) kept' tree pins) → AreWithin (length kept') pins
+    → mid.state.schema ≡ was.state.schema
     → KeepsTrees was.state mid.state → ArePins was kept pins → ArePins now kept' pins
 after_change was mid now kept reserved kept' images pins room back moved rest same within schema trees are =
     let left : Contents = record mid { images = finmap.empty } in
-    let before : over images mid.tree ≡ was.tree = ap (λ (i : ImageMap). over i mid.tree) moved ∙ back in
+    let before : overlaid images mid.tree ≡ was.tree = ap (λ (i : ImageMap). overlaid i mid.tree) moved ∙ back in
     let read : ReadSame kept was.tree kept' mid.tree pins =
-    subst (λ (k : List ImageMap). ReadSame k was.tree kept' mid.tree pins) room (subst (λ (t : Tree ℕ). ReadSame reserved t kept' mid.tree pins) before (same mid.tree)) in
-    subst (λ (n : Contents). ArePins n kept' pins) (sym rest) (pins_stay was left kept kept' schema trees pins read within refl are)
+    subst (λ (k : List ImageMap). ReadSame k was.tree kept' mid.tree pins) room
+    (subst (λ (t : Tree ℕ). ReadSame reserved t kept' mid.tree pins) before (same mid.tree)) in
+    subst (λ (n : Contents). ArePins n kept' pins) (sym rest)
+    (pins_stay was left kept kept' schema trees pins read within refl are)
 
 -- what is pinned now
-pub pin_now : (now : Contents) (kept : List ImageMap) (pin : Pin) (name : Text) → version_in pin ≡ version_now name now → pin.from ≡ length kept
-    → IsRootOf (length now.state.schema.dims) now.tree pin.root → AreCounted now.state.rows pin.stats → AreContents now → IsPin now kept pin
+pub pin_now : (now : Contents) (kept : List ImageMap) (pin : Pin) (name : Text) → version_in pin ≡ version_now name now
+    → pin.from ≡ length kept
+    → IsRootOf (length now.state.schema.dims) now.tree pin.root → AreCounted now.state.rows pin.stats → AreContents now
+    → IsPin now kept pin
 pin_now now kept pin name is from root stats valid =
     let rows : (was_in pin).state.rows ≡ now.state.rows = ap (λ (v : Version). v.rows) is in
     let tree : (was_in pin).tree ≡ now.tree = ap (λ (v : Version). v.tree) is in
     record {
       within = omega (arith, from);
-      tree = ap (λ n. past (drop n kept) now.tree) from ∙ ap (λ (k : List ImageMap). past k now.tree) (drop-length kept) ∙ sym tree;
+      tree = ap (λ n. with_all_images (drop n kept) now.tree) from
+          ∙ ap (λ (k : List ImageMap). with_all_images k now.tree) (drop-length kept) ∙ sym tree;
       root = subst (λ (t : Tree ℕ). IsRootOf (length now.state.schema.dims) t pin.root) (sym tree) root;
       stats = subst (λ (r : List (Row Text)). AreCounted r pin.stats) (sym rows) stats;
       has =
@@ -77,88 +90,116 @@ pin_now now kept pin name is from root stats valid =
     }
 
 -- where there are no pins
-pub no_pins : (now : Contents) (kept : List ImageMap) (pins : List Pin) → length pins ≡ 0 → now.images ≡ finmap.empty → ArePins now kept pins
+pub no_pins : (now : Contents) (kept : List ImageMap) (pins : List Pin) → length pins ≡ 0 → now.images ≡ finmap.empty
+    → ArePins now kept pins
 unfolding IsDistinct
 no_pins now kept [] none plain = record { each = tt; few = omega arith; distinct = tt; plain = plain }
 no_pins now kept (pin ∷ pins) none plain = absurd (omega (arith, none))
 
-pub within_all : (now : Contents) (kept : List ImageMap) (pins : List Pin) → AllByRecursion (IsPin now kept) pins → AreWithin (length kept) pins
+pub within_all : (now : Contents) (kept : List ImageMap) (pins : List Pin) → AllByRecursion (IsPin now kept) pins
+    → AreWithin (length kept) pins
 within_all now kept [] are = tt
 within_all now kept (pin ∷ pins) are = (are.0.within, within_all now kept pins are.1)
 
 -- what is found of the versions is what is found of the pins
-pub find-map : (pins : List Pin) (name : Text) → version_of (map version_in pins) name ≡ option_map version_in (find (bears name) pins)
+pub find-map : (pins : List Pin) (name : Text)
+    → version_of (map version_in pins) name ≡ option_map version_in (find (has_name name) pins)
 find-map [] name = refl
-find-map (pin ∷ pins) name = go (bears name pin) (find-map pins name)
+find-map (pin ∷ pins) name = go (has_name name pin) (find-map pins name)
   where
-    go : (b : Bool) → version_of (map version_in pins) name ≡ option_map version_in (find (bears name) pins)
-        → cond b (Some (version_in pin)) (version_of (map version_in pins) name) ≡ option_map version_in (cond b (Some pin) (find (bears name) pins))
+    go : (b : Bool) → version_of (map version_in pins) name ≡ option_map version_in (find (has_name name) pins)
+        → cond b (Some (version_in pin)) (version_of (map version_in pins) name) ≡ option_map version_in
+        (cond b (Some pin) (find (has_name name) pins))
     go true more = refl
     go false more = more
 
 -- a pin that is found is one of them
-pub found_one : (P : Pin → Type 0) (name : Text) (pins : List Pin) (pin : Pin) → find (bears name) pins ≡ Some pin → AllByRecursion P pins → P pin
+pub found_one : (P : Pin → Type 0) (name : Text) (pins : List Pin) (pin : Pin) → find (has_name name) pins ≡ Some pin
+    → AllByRecursion P pins → P pin
 found_one P name [] pin is are = absurd cc
-found_one P name (p ∷ pins) pin is are = go (bears name p) is (λ rest. found_one P name pins pin rest are.1)
+found_one P name (p ∷ pins) pin is are = go (has_name name p) is (λ rest. found_one P name pins pin rest are.1)
   where
-    go : (b : Bool) → cond b (Some p) (find (bears name) pins) ≡ Some pin → (find (bears name) pins ≡ Some pin → P pin) → P pin
+    go : (b : Bool) → cond b (Some p) (find (has_name name) pins) ≡ Some pin
+        → (find (has_name name) pins ≡ Some pin → P pin) → P pin
     go true is more = let same : p ≡ pin = cc in subst P same are.0
     go false is more = more is
 
 -- a name that no pin bears
-none_bears : (name : Text) (pins : List Pin) → find (bears name) pins ≡ None → AllByRecursion (λ (other : Text). bytes_eq other name ≡ false) (map (λ (pin : Pin). pin.name.bytes) pins)
+none_bears : (name : Text) (pins : List Pin) → find (has_name name) pins ≡ None
+    → AllByRecursion (λ (other : Text). bytes_eq other name ≡ false) (map (λ (pin : Pin). pin.name.bytes) pins)
 none_bears name [] none = tt
-none_bears name (pin ∷ pins) none = go (bears name pin) refl none (none_bears name pins)
+none_bears name (pin ∷ pins) none = go (has_name name pin) refl none (none_bears name pins)
   where
-    go : (b : Bool) → bears name pin ≡ b → cond b (Some pin) (find (bears name) pins) ≡ None
-        → (find (bears name) pins ≡ None → AllByRecursion (λ (other : Text). bytes_eq other name ≡ false) (map (λ (p : Pin). p.name.bytes) pins)) → AllByRecursion (λ (other : Text). bytes_eq other name ≡ false) (pin.name.bytes ∷ map (λ (p : Pin). p.name.bytes) pins)
+    go : (b : Bool) → has_name name pin ≡ b → cond b (Some pin) (find (has_name name) pins) ≡ None
+        → (find (has_name name) pins ≡ None
+        → AllByRecursion (λ (other : Text). bytes_eq other name ≡ false) (map (λ (p : Pin). p.name.bytes) pins))
+        → AllByRecursion (λ (other : Text). bytes_eq other name ≡ false)
+        (pin.name.bytes ∷ map (λ (p : Pin). p.name.bytes) pins)
     go true is none more = absurd cc
     go false is none more = (is, more none)
 
-all-push : {X : Type 0} (P : X → Type 0) (xs : List X) (x : X) → AllByRecursion P xs → P x → AllByRecursion P (xs ++ x ∷ [])
+all-push : {X : Type 0} (P : X → Type 0) (xs : List X) (x : X) → AllByRecursion P xs → P x
+    → AllByRecursion P (xs ++ x ∷ [])
 all-push P [] x all here = (here, tt)
 all-push P (y ∷ xs) x all here = (all.0, all-push P xs x all.1 here)
 
-distinct-push : (names : List Text) (name : Text) → IsDistinct bytes_eq names → AllByRecursion (λ (other : Text). bytes_eq other name ≡ false) names → IsDistinct bytes_eq (names ++ name ∷ [])
+distinct-push : (names : List Text) (name : Text) → IsDistinct bytes_eq names
+    → AllByRecursion (λ (other : Text). bytes_eq other name ≡ false) names → IsDistinct bytes_eq (names ++ name ∷ [])
 unfolding IsDistinct
 distinct-push [] name are apart = (tt, tt)
-distinct-push (other ∷ names) name are apart = (all-push (λ (y : Text). bytes_eq other y ≡ false) names name are.0 apart.0, distinct-push names name are.1 apart.1)
+distinct-push (other ∷ names) name are apart
+    = (
+      all-push (λ (y : Text). bytes_eq other y ≡ false) names name are.0 apart.0,
+      distinct-push names name are.1 apart.1,
+    )
 
 -- one pin more, of another name
-pub one_more : (now : Contents) (kept : List ImageMap) (pins : List Pin) (pin : Pin) → find (bears pin.name.bytes) pins ≡ None → length pins < MAX_PINS → IsPin now kept pin → ArePins now kept pins → ArePins now kept (pins ++ pin ∷ [])
+pub one_more : (now : Contents) (kept : List ImageMap) (pins : List Pin) (pin : Pin)
+    → find (has_name pin.name.bytes) pins ≡ None → length pins < MAX_PINS → IsPin now kept pin → ArePins now kept pins
+    → ArePins now kept (pins ++ pin ∷ [])
 one_more now kept pins pin new room is are = record {
   each = all-push (IsPin now kept) pins pin are.each is;
   few = omega (arith, length-append pins (pin ∷ []), room);
-  distinct = subst (IsDistinct bytes_eq) (sym (map-append (λ (p : Pin). p.name.bytes) pins (pin ∷ []))) (distinct-push (map (λ (p : Pin). p.name.bytes) pins) pin.name.bytes are.distinct (none_bears pin.name.bytes pins new));
+  distinct = subst (IsDistinct bytes_eq) (sym (map-append (λ (p : Pin). p.name.bytes) pins (pin ∷ [])))
+      (distinct-push (map (λ (p : Pin). p.name.bytes) pins) pin.name.bytes are.distinct
+      (none_bears pin.name.bytes pins new));
   plain = are.plain;
 }
 
 -- some of a list
-all-filter : {X : Type 0} (P : X → Type 0) (keeps : X → Bool) (xs : List X) → AllByRecursion P xs → AllByRecursion P (filter keeps xs)
+all-filter : {X : Type 0} (P : X → Type 0) (keeps : X → Bool) (xs : List X) → AllByRecursion P xs
+    → AllByRecursion P (filter keeps xs)
 all-filter P keeps [] all = tt
 all-filter P keeps (x ∷ xs) all = go (keeps x) (all-filter P keeps xs all.1)
   where
-    go : (b : Bool) → AllByRecursion P (filter keeps xs) → AllByRecursion P (cond b (x ∷ filter keeps xs) (filter keeps xs))
+    go : (b : Bool) → AllByRecursion P (filter keeps xs)
+        → AllByRecursion P (cond b (x ∷ filter keeps xs) (filter keeps xs))
     go true rest = (all.0, rest)
     go false rest = rest
 
 abbrev names : List Pin → List Text
 names pins = map (λ (pin : Pin). pin.name.bytes) pins
 
-names-filter : (P : Text → Type 0) (keeps : Pin → Bool) (pins : List Pin) → AllByRecursion P (names pins) → AllByRecursion P (names (filter keeps pins))
+names-filter : (P : Text → Type 0) (keeps : Pin → Bool) (pins : List Pin) → AllByRecursion P (names pins)
+    → AllByRecursion P (names (filter keeps pins))
 names-filter P keeps [] all = tt
 names-filter P keeps (pin ∷ pins) all = go (keeps pin) (names-filter P keeps pins all.1)
   where
-    go : (b : Bool) → AllByRecursion P (names (filter keeps pins)) → AllByRecursion P (names (cond b (pin ∷ filter keeps pins) (filter keeps pins)))
+    go : (b : Bool) → AllByRecursion P (names (filter keeps pins))
+        → AllByRecursion P (names (cond b (pin ∷ filter keeps pins) (filter keeps pins)))
     go true rest = (all.0, rest)
     go false rest = rest
 
-distinct-filter : (keeps : Pin → Bool) (pins : List Pin) → IsDistinct bytes_eq (names pins) → IsDistinct bytes_eq (names (filter keeps pins))
+distinct-filter : (keeps : Pin → Bool) (pins : List Pin) → IsDistinct bytes_eq (names pins)
+    → IsDistinct bytes_eq (names (filter keeps pins))
 unfolding IsDistinct
 distinct-filter keeps [] are = tt
-distinct-filter keeps (pin ∷ pins) are = go (keeps pin) (names-filter (λ (y : Text). bytes_eq pin.name.bytes y ≡ false) keeps pins are.0) (distinct-filter keeps pins are.1)
+distinct-filter keeps (pin ∷ pins) are
+    = go (keeps pin) (names-filter (λ (y : Text). bytes_eq pin.name.bytes y ≡ false) keeps pins are.0)
+    (distinct-filter keeps pins are.1)
   where
-    go : (b : Bool) → AllByRecursion (λ (y : Text). bytes_eq pin.name.bytes y ≡ false) (names (filter keeps pins)) → IsDistinct bytes_eq (names (filter keeps pins))
+    go : (b : Bool) → AllByRecursion (λ (y : Text). bytes_eq pin.name.bytes y ≡ false) (names (filter keeps pins))
+        → IsDistinct bytes_eq (names (filter keeps pins))
         → IsDistinct bytes_eq (names (cond b (pin ∷ filter keeps pins) (filter keeps pins)))
     go true apart rest = (apart, rest)
     go false apart rest = rest
@@ -170,50 +211,71 @@ module _ (now : Contents) (kept : List ImageMap) (first : ℕ) where
       let e : first + (pin.from - first) ≡ pin.from = omega (arith, room) in
       record {
         within = omega (arith, length-drop first kept, is.within, room);
-        tree = ap (λ (k : List ImageMap). past k now.tree) (drop-drop (pin.from - first) first kept ∙ ap (λ n. drop n kept) e) ∙ is.tree;
+        tree = ap (λ (k : List ImageMap). with_all_images k now.tree) (drop-drop (pin.from - first) first kept
+            ∙ ap (λ n. drop n kept) e) ∙ is.tree;
         root = is.root;
         stats = is.stats;
         has = is.has;
       }
 
-  all_moved : (pins : List Pin) → AllByRecursion (λ (pin : Pin). first ≤ pin.from) pins → AllByRecursion (IsPin now kept) pins → AllByRecursion (IsPin now (drop first kept)) (map (moved_back first) pins)
+  all_moved : (pins : List Pin) → AllByRecursion (λ (pin : Pin). first ≤ pin.from) pins
+      → AllByRecursion (IsPin now kept) pins
+      → AllByRecursion (IsPin now (drop first kept)) (map (moved_back first) pins)
   all_moved [] room are = tt
   all_moved (pin ∷ pins) room are = (moved_is pin room.0 are.0, all_moved pins room.1 are.1)
 
 -- some pins are left, and images in front that they don't read are cut off
-pub some_left : (now : Contents) (kept : List ImageMap) (pins : List Pin) (keeps : Pin → Bool) (first : ℕ) → AllByRecursion (λ (pin : Pin). first ≤ pin.from) (filter keeps pins)
+pub some_left : (now : Contents) (kept : List ImageMap) (pins : List Pin) (keeps : Pin → Bool) (first : ℕ)
+    → AllByRecursion (λ (pin : Pin). first ≤ pin.from) (filter keeps pins)
     → ArePins now kept pins → ArePins now (drop first kept) (map (moved_back first) (filter keeps pins))
 some_left now kept pins keeps first room are =
     let left = filter keeps pins in
     record {
       each = all_moved now kept first left room (all-filter (IsPin now kept) keeps pins are.each);
-      few = omega (arith, length-map left (moved_back first), length-filter_both keeps (λ (pin : Pin). not (keeps pin)) (λ pin. refl) pins, are.few);
-      distinct = subst (IsDistinct bytes_eq) (sym (map-map (λ (pin : Pin). pin.name.bytes) (moved_back first) left)) (distinct-filter keeps pins are.distinct);
+      few = omega (
+        arith,
+        length-map left (moved_back first),
+        length-filter_both keeps (λ (pin : Pin). not (keeps pin)) (λ pin. refl) pins,
+        are.few,
+      );
+      distinct = subst (IsDistinct bytes_eq) (sym (map-map (λ (pin : Pin). pin.name.bytes) (moved_back first) left))
+          (distinct-filter keeps pins are.distinct);
       plain = are.plain;
     }
 
-versions-without : (name : Text) (pins : List Pin) → map version_in (filter (λ (pin : Pin). not (bears name pin)) pins) ≡ without (map version_in pins) name
+versions-without : (name : Text) (pins : List Pin)
+    → map version_in (filter (λ (pin : Pin). not (has_name name pin)) pins) ≡ without (map version_in pins) name
 versions-without name [] = refl
-versions-without name (pin ∷ pins) = go (not (bears name pin)) (versions-without name pins)
+versions-without name (pin ∷ pins) = go (not (has_name name pin)) (versions-without name pins)
   where
-    go : (b : Bool) → map version_in (filter (λ (p : Pin). not (bears name p)) pins) ≡ without (map version_in pins) name
-        → map version_in (cond b (pin ∷ filter (λ (p : Pin). not (bears name p)) pins) (filter (λ (p : Pin). not (bears name p)) pins))
+    go : (b : Bool) → map version_in (filter (λ (p : Pin). not (has_name name p)) pins)
+        ≡ without (map version_in pins) name
+        → map version_in (cond b (pin ∷ filter (λ (p : Pin). not (has_name name p)) pins)
+        (filter (λ (p : Pin). not (has_name name p)) pins))
         ≡ cond b (version_in pin ∷ without (map version_in pins) name) (without (map version_in pins) name)
     go true more = ap (λ (vs : List Version). version_in pin ∷ vs) more
     go false more = more
 
-pub versions_left : (first : ℕ) (name : Text) (pins : List Pin) → map version_in (map (moved_back first) (filter (λ (pin : Pin). not (bears name pin)) pins)) ≡ without (map version_in pins) name
-versions_left first name pins = map-map version_in (moved_back first) (filter (λ (pin : Pin). not (bears name pin)) pins) ∙ versions-without name pins
+pub versions_left : (first : ℕ) (name : Text) (pins : List Pin)
+    → map version_in (map (moved_back first) (filter (λ (pin : Pin). not (has_name name pin)) pins))
+    ≡ without (map version_in pins) name
+versions_left first name pins
+    = map-map version_in (moved_back first) (filter (λ (pin : Pin). not (has_name name pin)) pins)
+    ∙ versions-without name pins
 
 -- what is known of the pins, said of the versions
-trees_of : (now : Contents) (kept : List ImageMap) (pins : List Pin) → AllByRecursion (IsPin now kept) pins → AllByRecursion (λ (version : Version). HasTree (with_rows now.state version.rows) version.tree) (map version_in pins)
+trees_of : (now : Contents) (kept : List ImageMap) (pins : List Pin) → AllByRecursion (IsPin now kept) pins
+    → AllByRecursion (λ (version : Version). HasTree (with_rows now.state version.rows) version.tree)
+    (map version_in pins)
 trees_of now kept [] are = tt
 trees_of now kept (pin ∷ pins) are = (are.0.has, trees_of now kept pins are.1)
 
-pub are_versions : (now : Contents) (kept : List ImageMap) (pins : List Pin) → ArePins now kept pins → AreVersions (record { now = now; pins = map version_in pins })
+pub are_versions : (now : Contents) (kept : List ImageMap) (pins : List Pin) → ArePins now kept pins
+    → AreVersions (record { now = now; pins = map version_in pins })
 are_versions now kept pins are = record {
   few = omega (arith, length-map pins version_in, are.few);
-  distinct = subst (IsDistinct bytes_eq) (sym (map-map (λ (version : Version). version.name) version_in pins)) are.distinct;
+  distinct = subst (IsDistinct bytes_eq)
+      (sym (map-map (λ (version : Version). version.name) version_in pins)) are.distinct;
   trees = trees_of now kept pins are.each;
   plain = are.plain;
 }

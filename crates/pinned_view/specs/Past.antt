@@ -3,12 +3,12 @@ use Rattle.std.specs.Prelude.{ℕ, Option, None, List, [], ◌∷◌}
 use Rattle.std.specs.FinMap as map
 use Rattle.std.specs.Option.{option_or}
 use Rattle.cube_defs.specs.Tree.{Tree}
-use Rattle.qc_arena.specs.Map.{ImageMap, Known, over}
+use Rattle.qc_arena.specs.Map.{ImageMap, Known, overlaid}
 
 -- a tree with several images put over it, of which the oldest stand first and are put over last
-abbrev pub past : List ImageMap → Tree ℕ → Tree ℕ
-past [] tree = tree
-past (images ∷ later) tree = over images (past later tree)
+abbrev pub with_all_images : List ImageMap → Tree ℕ → Tree ℕ
+with_all_images [] tree = tree
+with_all_images (images ∷ later) tree = overlaid images (with_all_images later tree)
 
 -- what the first images say that say something of the number
 abbrev pub first_image : List ImageMap → ℕ → Option (Option Known)

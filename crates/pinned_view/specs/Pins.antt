@@ -7,7 +7,7 @@ use Rattle.std.specs.Str.{bytes_eq}
 use Rattle.cube_defs.specs.Text.{Text}
 use Rattle.cube_defs.specs.Tree.{Tree}
 use Rattle.qc_arena.specs.Map.{ImageMap}
-use Rattle.pinned_view.specs.Past.{past}
+use Rattle.pinned_view.specs.Past.{with_all_images}
 use Rattle.pinned_view.specs.Versions.{Version}
 use Rattle.pinned_view.specs.Views.{IsRootOf}
 use Rattle.warehouse.specs.Counted.{AreCounted}
@@ -24,16 +24,16 @@ abbrev pub version_in : Pin → Version
 version_in pin = record { name = pin.name.bytes; rows = (was_in pin).state.rows; tree = (was_in pin).tree }
 
 -- whether a pin has the name
-abbrev pub bears : Text → Pin → Bool
-bears name pin = bytes_eq pin.name.bytes name
+abbrev pub has_name : Text → Pin → Bool
+has_name name pin = bytes_eq pin.name.bytes name
 
 -- a pin with so many images less before it
 abbrev pub moved_back : ℕ → Pin → Pin
 moved_back by pin = record pin { from = pin.from - by }
 
 -- the tree that a pin reads: that of now under the images that were kept since
-abbrev pub tree_under : List ImageMap → Tree ℕ → Pin → Tree ℕ
-tree_under kept now pin = past (drop pin.from kept) now
+abbrev pub tree_at_pin : List ImageMap → Tree ℕ → Pin → Tree ℕ
+tree_at_pin kept now pin = with_all_images (drop pin.from kept) now
 
 -- each pin reads from a place before this one, or up to this one
 abbrev pub AreBefore : ℕ → List Pin → Type 0
@@ -44,12 +44,13 @@ AreWithin place pins = AllByRecursion (λ pin. pin.from ≤ place) pins
 
 -- each pin reads the same tree as it did under other images
 abbrev pub ReadSame : List ImageMap → Tree ℕ → List ImageMap → Tree ℕ → List Pin → Type 0
-ReadSame kept before kept' now pins = AllByRecursion (λ pin. tree_under kept' now pin ≡ tree_under kept before pin) pins
+ReadSame kept before kept' now pins
+    = AllByRecursion (λ pin. tree_at_pin kept' now pin ≡ tree_at_pin kept before pin) pins
 
 -- what is true of a pin: it reads the tree that it remembers, which is still the canonical tree of its rows
 pub record IsPin (now : Contents) (kept : List ImageMap) (pin : Pin) : Type 0 where
   pub within : pin.from ≤ length kept
-  pub tree : tree_under kept now.tree pin ≡ (was_in pin).tree
+  pub tree : tree_at_pin kept now.tree pin ≡ (was_in pin).tree
   pub root : IsRootOf (length now.state.schema.dims) (was_in pin).tree pin.root
   pub stats : AreCounted (was_in pin).state.rows pin.stats
   pub has : HasTree (with_rows now.state (was_in pin).state.rows) (was_in pin).tree

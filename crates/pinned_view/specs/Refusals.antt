@@ -12,7 +12,8 @@ use Rattle.warehouse.specs.Widening.{WidenRefusal, DimsFull, NodesFull}
 -- why a version isn't pinned: the first cause that holds
 abbrev pub pin_refusal : List Version → Text → Result (Unit {0}) PinRefused
 pin_refusal versions name =
-    if is_some (version_of versions name) then Err NameTaken else (if nat_lt (length versions) MAX_PINS then Ok tt else Err AllPinned)
+    if is_some (version_of versions name) then Err NameTaken
+    else (if nat_lt (length versions) MAX_PINS then Ok tt else Err AllPinned)
 
 -- what a refusal to add a dimension says where no version is pinned, but for want of memory
 abbrev pub widen_refusal_in : PinnedWiden → Option WidenRefusal

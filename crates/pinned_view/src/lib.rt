@@ -2,10 +2,10 @@
 //! the before-images that were stored since.
 #![tactic(auto)]
 
-mod kept;
 mod pinned;
 mod pins;
 mod refused;
+mod stored_images;
 mod view;
 
 pub use pinned::Pinned;

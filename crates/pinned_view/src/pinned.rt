@@ -7,15 +7,15 @@ ghost use Rattle.pinned_view.specs.Refusals.{pin_refusal, widen_refusal_in};
 ghost use Rattle.pinned_view.specs.Versions.{AreVersions, Version, version_now, version_of, without};
 ghost use Rattle.pinned_view.specs.Views.{IsViewOf};
 ghost use Rattle.warehouse.specs.Batch as batches;
-ghost use Rattle.warehouse.specs.InPlace.{IsWithinCost, LeavesApart, LeavesNumbers};
+ghost use Rattle.warehouse.specs.InPlace.{IsWithinCost, LeavesOtherRecords, LeavesNumbers};
 ghost use Rattle.warehouse.specs.State.{AreContents, State};
 ghost use Rattle.warehouse.specs.Stored.{applied_in, refusal_in};
 ghost use Rattle.warehouse.specs.Widening as widening;
 ghost use Rattle.warehouse.specs.Widening.{KeepsWidened, cost_of_widening, widen_result};
 
-use crate::kept::{cut_front, keep, reserve_one, since};
-use crate::pins::{MAX_PINS, Pin, drop_named, move_back, oldest, pin_of};
+use crate::pins::{MAX_PINS, Pin, drop_named, oldest, pin_of, shift_places};
 use crate::refused::{NotPinned, PinRefused, PinnedWiden};
+use crate::stored_images::{drop_oldest, images_since, reserve_one, store_images};
 use crate::view::PinnedView;
 use cell_core::Steps;
 use cube_defs::{MAX_FILE, MAX_TEXT, Memory};
@@ -51,13 +51,17 @@ impl Model for Pinned {
 
     ghost view = { λ p. record { now = p.warehouse; pins = map version_in p.pins.items } };
 
-    ghost invariant = { λ p. ArePins p.warehouse p.kept.items p.pins.items × (MAX_PINS ≤ vec_capacity p.pins) };
+    ghost invariant = { λ p. ArePins p.warehouse p.kept.items p.pins.items
+        × (MAX_PINS ≤ vec_capacity p.pins) };
 }
 
 impl Pinned {
     /// A warehouse with no version. Drops the before-images of the last change.
     pub fn new(alloc: Global, warehouse: Warehouse) -> Result<Pinned, Memory>
-        ensures { IfOk result (λ p. p ≡ record { now = record warehouse { images = finmap.empty }; pins = [] }) }
+        ensures { IfOk result (λ p. p ≡ record {
+          now = record warehouse { images = finmap.empty };
+          pins = [];
+        }) }
     {
         let Ok(pins) = Vec::with_capacity(alloc, MAX_PINS) else {
             warehouse.discard();
@@ -78,7 +82,7 @@ impl Pinned {
         ensures valid { AreContents self.now.now }
         ensures versions { AreVersions self.now }
     {
-        self.warehouse.is_valid();
+        self.warehouse.recall_invariant();
         &self.warehouse
     }
 
@@ -111,11 +115,12 @@ impl Pinned {
     /// The tree of a version, and its counts. None if no version has the name. Takes no memory.
     pub fn view(&self, name: &str) -> Option<PinnedView<'_>>
         ensures none { IfNone result (version_of self.now.pins name.now ≡ None) }
-        ensures some { IfSome result (λ view. (version : Version) × (version_of self.now.pins name.now ≡ Some version)
+        ensures some { IfSome result (λ view. (version : Version)
+            × (version_of self.now.pins name.now ≡ Some version)
             × IsViewOf self.now.now.state version view) }
     {
         let pin = pin_of(&self.pins, name)?;
-        let over = since(&self.kept, pin.from);
+        let over = images_since(&self.kept, pin.from);
         Some(PinnedView::over(self.warehouse.tree(), over, pin.root, pin.stats))
     }
 
@@ -123,7 +128,11 @@ impl Pinned {
     pub fn pin(&mut self, name: &str) -> Result<(), PinRefused>
         requires { length name.now ≤ 32 }
         ensures refused { result ≡ pin_refusal self.old.pins name.now }
-        ensures ok { OnOk result (self.new ≡ record self.old { pins = self.old.pins ++ version_now name.now self.old.now ∷ [] }) }
+        ensures ok { OnOk result
+            (self.new ≡ record self.old {
+              pins
+                  = self.old.pins ++ version_now name.now self.old.now ∷ [];
+            }) }
         ensures err { OnErr result (self.new ≡ self.old) }
     {
         if pin_of(&self.pins, name).is_some() {
@@ -140,7 +149,8 @@ impl Pinned {
     /// Drops a version, and the before-images that only it needs. Takes no memory.
     pub fn unpin(&mut self, name: &str) -> Result<(), NotPinned>
         ensures found { OnOk result (IsSome (version_of self.old.pins name.now)) }
-        ensures ok { OnOk result (self.new ≡ record self.old { pins = without self.old.pins name.now }) }
+        ensures ok { OnOk result
+            (self.new ≡ record self.old { pins = without self.old.pins name.now }) }
         ensures missing { OnErr result (version_of self.old.pins name.now ≡ None) }
         ensures err { OnErr result (self.new ≡ self.old) }
     {
@@ -149,8 +159,8 @@ impl Pinned {
         }
         drop_named(&mut self.pins, name);
         let first = oldest(&self.pins, self.kept.len());
-        cut_front(&mut self.kept, first);
-        move_back(&mut self.pins, first);
+        drop_oldest(&mut self.kept, first);
+        shift_places(&mut self.pins, first);
         Ok(())
     }
 
@@ -162,7 +172,8 @@ impl Pinned {
         steps: &mut Steps<L>,
     ) -> Result<Applied, Refused>
         requires { length bytes.now ≤ MAX_FILE }
-        ensures gives { Gives refusal_in (applied_in self.new.now.state) result (batches.result self.old.now.state batches.Load bytes.now) }
+        ensures gives { Gives refusal_in (applied_in self.new.now.state) result
+            (batches.result self.old.now.state batches.Load bytes.now) }
         ensures valid { AreContents self.new.now }
         ensures pins { self.new.pins ≡ self.old.pins }
         ensures err { OnErr result (self.new ≡ self.old) }
@@ -170,13 +181,13 @@ impl Pinned {
         match reserve_one(&mut self.kept, &self.pins) {
             Ok(()) => {}
             Err(_) => {
-                self.warehouse.is_valid();
+                self.warehouse.recall_invariant();
                 return Err(Refused::Memory);
             }
         }
         match self.warehouse.load(bytes, steps) {
             Ok(applied) => {
-                keep(&mut self.kept, &self.pins, self.warehouse.last_images());
+                store_images(&mut self.kept, &self.pins, self.warehouse.last_images());
                 Ok(applied)
             }
             Err(refused) => Err(refused),
@@ -191,10 +202,12 @@ impl Pinned {
         steps: &mut Steps<L>,
     ) -> Result<Applied, Refused>
         requires { length bytes.now ≤ MAX_FILE }
-        ensures gives { Gives refusal_in (applied_in self.new.now.state) result (batches.result self.old.now.state batches.Apply bytes.now) }
+        ensures gives { Gives refusal_in (applied_in self.new.now.state) result
+            (batches.result self.old.now.state batches.Apply bytes.now) }
         ensures numbers { OnOk result (LeavesNumbers self.old.now bytes.now self.new.now) }
-        ensures apart { OnOk result (LeavesApart self.old.now bytes.now self.new.now) }
-        ensures steps { OnOk result (IsWithinCost self.old.now.state bytes.now steps.old steps.new) }
+        ensures apart { OnOk result (LeavesOtherRecords self.old.now bytes.now self.new.now) }
+        ensures steps { OnOk result
+            (IsWithinCost self.old.now.state bytes.now steps.old steps.new) }
         ensures valid { AreContents self.new.now }
         ensures pins { self.new.pins ≡ self.old.pins }
         ensures err { OnErr result (self.new ≡ self.old) }
@@ -202,13 +215,13 @@ impl Pinned {
         match reserve_one(&mut self.kept, &self.pins) {
             Ok(()) => {}
             Err(_) => {
-                self.warehouse.is_valid();
+                self.warehouse.recall_invariant();
                 return Err(Refused::Memory);
             }
         }
         match self.warehouse.apply(bytes, steps) {
             Ok(applied) => {
-                keep(&mut self.kept, &self.pins, self.warehouse.last_images());
+                store_images(&mut self.kept, &self.pins, self.warehouse.last_images());
                 Ok(applied)
             }
             Err(refused) => Err(refused),
@@ -223,8 +236,11 @@ impl Pinned {
         steps: &mut Steps<L>,
     ) -> Result<Applied, Refused>
         requires { length bytes.now ≤ MAX_FILE }
-        ensures gives { (then : State) × Gives refusal_in (applied_in then) result (batches.result self.old.now.state batches.Apply bytes.now) }
-        ensures steps { OnOk result (IsWithinCost self.old.now.state bytes.now steps.old steps.new) }
+        ensures gives { (then : State)
+            × Gives refusal_in (applied_in then) result
+            (batches.result self.old.now.state batches.Apply bytes.now) }
+        ensures steps { OnOk result
+            (IsWithinCost self.old.now.state bytes.now steps.old steps.new) }
         ensures same { self.new ≡ self.old }
     {
         match reserve_one(&mut self.kept, &self.pins) {
@@ -246,15 +262,20 @@ impl Pinned {
         requires value { length value.now ≤ MAX_TEXT }
         ensures pinned { (result ≡ Err PinnedWiden.Pinned) ↔ (0 < length self.old.pins) }
         ensures gives { length self.old.pins ≡ 0 →
-            Gives widen_refusal_in (applied_in self.new.now.state) result (widen_result self.old.now.state name.now value.now) }
-        ensures records { OnOk result (KeepsWidened (length self.old.now.state.schema.dims) self.old.now.tree self.new.now.tree) }
-        ensures steps { OnOk result (steps.new ≤ steps.old + cost_of_widening (length self.old.now.state.schema.dims) self.old.now.tree) }
+            Gives widen_refusal_in (applied_in self.new.now.state) result
+            (widen_result self.old.now.state name.now value.now) }
+        ensures records { OnOk result
+            (KeepsWidened (length self.old.now.state.schema.dims) self.old.now.tree
+            self.new.now.tree) }
+        ensures steps { OnOk result
+            (steps.new ≤ steps.old + cost_of_widening (length self.old.now.state.schema.dims)
+            self.old.now.tree) }
         ensures valid { AreContents self.new.now }
         ensures pins { self.new.pins ≡ self.old.pins }
         ensures err { OnErr result (self.new ≡ self.old) }
     {
         if !self.pins.is_empty() {
-            self.warehouse.is_valid();
+            self.warehouse.recall_invariant();
             return Err(PinnedWiden::Pinned);
         }
         match self.warehouse.widen(name, value, steps) {

@@ -1,7 +1,7 @@
 // Pinned versions.
 ghost use Rattle.std.specs.Prelude.{filter, length, map, not, option_copied, vec_capacity, ◌<◌, ◌==◌, ◌≡◌, ◌≤◌};
 ghost use Rattle.std.specs.List.{All, find, list_any};
-ghost use Rattle.pinned_view.specs.Pins.{bears, moved_back, version_in};
+ghost use Rattle.pinned_view.specs.Pins.{has_name, moved_back, version_in};
 ghost use Rattle.pinned_view.specs.Versions.{version_now};
 ghost use Rattle.pinned_view.specs.Views.{IsRootOf};
 ghost use Rattle.warehouse.specs.Counted.{AreCounted};
@@ -37,7 +37,8 @@ impl Pin {
         requires { length name.now ≤ 32 }
         ensures version { version_in result ≡ version_now name.now warehouse.now }
         ensures from { result.from ≡ from }
-        ensures root { IsRootOf (length warehouse.now.state.schema.dims) warehouse.now.tree result.root }
+        ensures root { IsRootOf (length warehouse.now.state.schema.dims)
+            warehouse.now.tree result.root }
         ensures stats { AreCounted warehouse.now.state.rows result.stats }
         ensures valid { AreContents warehouse.now }
     {
@@ -72,21 +73,21 @@ fn root_on<L: Ledger>(tree: &QcArena, blank: Blank) -> Option<NodeNo>
 
 /// The version of a name, if there is one.
 pub(crate) fn pin_of<'a>(pins: &'a Vec<Pin>, name: &str) -> Option<&'a Pin>
-    ensures { option_copied result ≡ find (bears name.now) pins.now.items }
+    ensures { option_copied result ≡ find (has_name name.now) pins.now.items }
 {
     pins.iter().find(|pin| pin.name.as_str() == name)
 }
 
 /// Drops the versions of a name.
 pub(crate) fn drop_named(pins: &mut Vec<Pin>, name: &str)
-    ensures items { pins.new.items ≡ filter (λ pin. not (bears name.now pin)) pins.old.items }
+    ensures items { pins.new.items ≡ filter (λ pin. not (has_name name.now pin)) pins.old.items }
     ensures capacity { vec_capacity pins.new ≡ vec_capacity pins.old }
 {
     pins.retain(|pin| pin.name.as_str() != name);
 }
 
 /// Whether a version reads from a place on.
-pub(crate) fn stands_at(pins: &Vec<Pin>, place: usize) -> bool
+pub(crate) fn is_read_from(pins: &Vec<Pin>, place: usize) -> bool
     ensures { result ≡ list_any (λ pin. pin.from == place) pins.now.items }
 {
     pins.iter().any(|pin| pin.from == place)
@@ -105,7 +106,7 @@ pub(crate) fn oldest(pins: &Vec<Pin>, end: usize) -> usize
 }
 
 /// Moves the places of all versions back by so many.
-pub(crate) fn move_back(pins: &mut Vec<Pin>, by: usize)
+pub(crate) fn shift_places(pins: &mut Vec<Pin>, by: usize)
     requires { All (λ pin. by ≤ pin.from) pins.old.items }
     ensures items { pins.new.items ≡ map (moved_back by) pins.old.items }
     ensures capacity { vec_capacity pins.new ≡ vec_capacity pins.old }

@@ -1,8 +1,8 @@
 // The tree of a version, read over the present tree.
 ghost use Rattle.std.specs.FinMap as map;
 ghost use Rattle.std.specs.Prelude.{IfNone, IfSome, IsSome, Some, ◌≡◌};
-ghost use Rattle.qc_arena.specs.Looks.{seen};
-ghost use Rattle.pinned_view.specs.Past.{first_image, past};
+ghost use Rattle.qc_arena.specs.Looks.{look_of_image};
+ghost use Rattle.pinned_view.specs.Past.{first_image, with_all_images};
 ghost use Rattle.pinned_view.specs.Views.{IsRootOf};
 
 use aggregates::Agg;
@@ -26,16 +26,22 @@ pub struct PinnedView<'a> {
 impl<'a> Model for PinnedView<'a> {
     ghost use Rattle.std.specs.Coded.{codes};
     ghost use Rattle.qc_arena.specs.Codes.{tree_code};
-    ghost use Rattle.pinned_view.specs.Past.{past};
+    ghost use Rattle.pinned_view.specs.Past.{with_all_images};
     ghost use Rattle.pinned_view.specs.Views.{CountedTree, IsRootOf};
 
     ghost Value = { CountedTree };
 
     ghost coded = { Prim.hlevel (codes, tree_code) };
 
-    ghost view = { λ v. record { width = v.tree.now.width; tree = past v.over.now v.tree.now.now; stats = v.stats } };
+    ghost view = { λ v. record {
+      width = v.tree.now.width;
+      tree
+          = with_all_images v.over.now v.tree.now.now;
+      stats = v.stats;
+    } };
 
-    ghost invariant = { λ v. IsRootOf v.tree.now.width (past v.over.now v.tree.now.now) v.root };
+    ghost invariant = { λ v. IsRootOf v.tree.now.width
+        (with_all_images v.over.now v.tree.now.now) v.root };
 }
 
 impl<'a> PinnedView<'a> {
@@ -46,8 +52,8 @@ impl<'a> PinnedView<'a> {
         root: Option<NodeNo>,
         stats: Stats,
     ) -> PinnedView<'a>
-        requires { IsRootOf tree.now.width (past over.now tree.now.now) root }
-        ensures tree { result.tree ≡ past over.now tree.now.now }
+        requires { IsRootOf tree.now.width (with_all_images over.now tree.now.now) root }
+        ensures tree { result.tree ≡ with_all_images over.now tree.now.now }
         ensures width { result.width ≡ tree.now.width }
         ensures stats { result.stats ≡ stats }
     {
@@ -69,7 +75,7 @@ impl<'a> PinnedView<'a> {
 
 // What the first before-images that have the number say of it.
 fn look_in<'a>(over: &'a [Images], node: NodeNo) -> Look<'a>
-    ensures { seen result ≡ first_image over.now node.0 }
+    ensures { look_of_image result ≡ first_image over.now node.0 }
 {
     'images: for images in over {
         match images.look(node) {
@@ -82,9 +88,11 @@ fn look_in<'a>(over: &'a [Images], node: NodeNo) -> Look<'a>
 
 // The record that a node had, if it isn't the present one.
 fn image_of<'a>(tree: &QcArena, over: &'a [Images], node: NodeNo) -> Option<&'a Record>
-    requires { IsSome (map.get (past over.now tree.now.now) node.0) }
-    ensures some { IfSome result (λ r. map.get (past over.now tree.now.now) node.0 ≡ Some r.now) }
-    ensures none { IfNone result (map.get (past over.now tree.now.now) node.0 ≡ map.get tree.now.now node.0) }
+    requires { IsSome (map.get (with_all_images over.now tree.now.now) node.0) }
+    ensures some { IfSome result (λ r. map.get (with_all_images over.now tree.now.now) node.0
+        ≡ Some r.now) }
+    ensures none { IfNone result (map.get (with_all_images over.now tree.now.now) node.0
+        ≡ map.get tree.now.now node.0) }
 {
     match look_in(over, node) {
         Look::Same => None,

@@ -4,7 +4,7 @@ use Rattle.std.specs.FinMap as map
 use Rattle.std.specs.Option.{option_or}
 use Rattle.std.specs.Ordering.{nat_cmp}
 use Rattle.cube_defs.specs.Tree.{Tree}
-use Rattle.qc_arena.specs.Map.{ImageMap, Known, or_image, over}
+use Rattle.qc_arena.specs.Map.{ImageMap, Known, or_image, overlaid}
 use Rattle.qc_arena.proofs.Imaged.{get-over}
 use Rattle.qc_arena.proofs.SlotMaps.{map_is}
 
@@ -14,14 +14,17 @@ or_twice None b n = refl
 or_twice (Some image) b n = refl
 
 -- images over later ones over a tree are both over the tree
-pub over_both : (older later both : ImageMap) (tree : Tree ℕ) → ((q : ℕ) → map.get both q ≡ option_or (map.get older q) (map.get later q)) → over older (over later tree) ≡ over both tree
-over_both older later both tree put = map_is (over older (over later tree)) (over both tree) (λ q.
-    get-over older (over later tree) q
+pub over_both : (older later both : ImageMap) (tree : Tree ℕ)
+    → ((q : ℕ) → map.get both q ≡ option_or (map.get older q) (map.get later q))
+    → overlaid older (overlaid later tree) ≡ overlaid both tree
+over_both older later both tree put = map_is (overlaid older (overlaid later tree)) (overlaid both tree) (λ q.
+    get-over older (overlaid later tree) q
     ∙ ap (or_image (map.get older q)) (get-over later tree q)
     ∙ or_twice (map.get older q) (map.get later q) (map.get tree q)
     ∙ ap (λ i. or_image i (map.get tree q)) (sym (put q))
     ∙ sym (get-over both tree q))
 
 -- no images over a tree are the tree
-pub over_none : (tree : Tree ℕ) → over map.empty tree ≡ tree
-over_none tree = map_is (over map.empty tree) tree (λ q. get-over map.empty tree q ∙ ap (λ i. or_image i (map.get tree q)) (map.get-empty nat_cmp q))
+pub over_none : (tree : Tree ℕ) → overlaid map.empty tree ≡ tree
+over_none tree = map_is (overlaid map.empty tree) tree (λ q. get-over map.empty tree q
+    ∙ ap (λ i. or_image i (map.get tree q)) (map.get-empty nat_cmp q))

@@ -1,5 +1,6 @@
 -- Maps whose records all get cells of another length.
-use Rattle.std.proofs.Common.{◌≡◌, ℕ, suc, ◌+◌, ◌≤◌, Bool, true, false, cond, ◌&&◌, T, Option, Some, None, List, [], ◌∷◌, map, length, refl, sym, ap, ap₂, subst, ◌∙◌, arith, nat_cmp, replicate, true≢false}
+use Rattle.std.proofs.Common.{◌≡◌, ℕ, suc, ◌+◌, ◌≤◌, Bool, true, false, cond, ◌&&◌, T, Option, Some, None, List, [], ◌∷◌, map, length, refl}
+use Rattle.std.proofs.Common.{sym, ap, ap₂, subst, ◌∙◌, arith, nat_cmp, replicate, true≢false}
 use Rattle.std.specs.Prelude.{IfSome}
 use Rattle.std.specs.Ordering.{eq_by_cmp, is_lt}
 use Rattle.std.specs.List.{sum_by}
@@ -10,7 +11,7 @@ use Rattle.slab.specs.Slab as slots
 use Rattle.cell_core.specs.declared.cell.NodeNo.{NodeNo}
 use Rattle.cube_defs.specs.Cell.{Cell, depth}
 use Rattle.cube_defs.specs.Tree.{Tree, cell_at}
-use Rattle.widen_laws.specs.Widened.{kept_by_number}
+use Rattle.widen_laws.specs.Widened.{with_any_by_number}
 use Rattle.qc_arena.specs.declared.tree_totals.TreeTotals.{TreeTotals}
 use Rattle.qc_arena.specs.Changes.{class_in}
 use Rattle.qc_arena.specs.Codes.{Shape}
@@ -21,19 +22,25 @@ use Rattle.qc_arena.proofs.Sizes.{depth-resize, depth_long, length-resize, resiz
 use Rattle.qc_arena.proofs.SlotMaps.{get_now, map_is}
 use Rattle.qc_arena.proofs.TotalsSteps.{has_class, width_of}
 
-picked : (n : ℕ) (b : Bool) (x : Known) (o o' : Option Known) → o' ≡ option_map (resized n) o → cond b (Some (resized n x)) o' ≡ option_map (resized n) (cond b (Some x) o)
+picked : (n : ℕ) (b : Bool) (x : Known) (o o' : Option Known) → o' ≡ option_map (resized n) o
+    → cond b (Some (resized n x)) o' ≡ option_map (resized n) (cond b (Some x) o)
 picked n true x o o' h = refl
 picked n false x o o' h = h
 
-find_resized : (n : ℕ) (es : List (ℕ × Known)) (q : ℕ) → maps.find nat_cmp q (map (entry_resized n) es) ≡ option_map (resized n) (maps.find nat_cmp q es)
+find_resized : (n : ℕ) (es : List (ℕ × Known)) (q : ℕ)
+    → maps.find nat_cmp q (map (entry_resized n) es) ≡ option_map (resized n) (maps.find nat_cmp q es)
 find_resized n [] q = refl
-find_resized n (e ∷ es) q = picked n (eq_by_cmp nat_cmp q e.0) e.1 (maps.find nat_cmp q es) (maps.find nat_cmp q (map (entry_resized n) es)) (find_resized n es q)
+find_resized n (e ∷ es) q
+    = picked n (eq_by_cmp nat_cmp q e.0) e.1 (maps.find nat_cmp q es) (maps.find nat_cmp q (map (entry_resized n) es))
+    (find_resized n es q)
 
-below_resized : (n k : ℕ) (es : List (ℕ × Known)) → maps.Entries.below_all nat_cmp k (map (entry_resized n) es) ≡ maps.Entries.below_all nat_cmp k es
+below_resized : (n k : ℕ) (es : List (ℕ × Known))
+    → maps.Entries.below_all nat_cmp k (map (entry_resized n) es) ≡ maps.Entries.below_all nat_cmp k es
 below_resized n k [] = refl
 below_resized n k (e ∷ es) = ap (λ b. is_lt (nat_cmp k e.0) && b) (below_resized n k es)
 
-sorted_resized : (n : ℕ) (es : List (ℕ × Known)) → maps.is_sorted nat_cmp (map (entry_resized n) es) ≡ maps.is_sorted nat_cmp es
+sorted_resized : (n : ℕ) (es : List (ℕ × Known))
+    → maps.is_sorted nat_cmp (map (entry_resized n) es) ≡ maps.is_sorted nat_cmp es
 sorted_resized n [] = refl
 sorted_resized n (e ∷ es) = ap₂ (λ a b. a && b) (below_resized n e.0 es) (sorted_resized n es)
 
@@ -45,22 +52,27 @@ entries-resized n t = maps.entries-from_sorted nat_cmp (map (entry_resized n) (m
 
 pub get-resized : (n : ℕ) (t : Tree ℕ) (q : ℕ) → maps.get (all_resized n t) q ≡ option_map (resized n) (maps.get t q)
 get-resized n t q =
-    maps.get-from_sorted nat_cmp (map (entry_resized n) (maps.entries t)) q (sorted_still n t) ∙ find_resized n (maps.entries t) q ∙ ap (option_map (resized n)) (sym (maps.get-entries t q))
+    maps.get-from_sorted nat_cmp (map (entry_resized n) (maps.entries t)) q (sorted_still n t)
+    ∙ find_resized n (maps.entries t) q ∙ ap (option_map (resized n)) (sym (maps.get-entries t q))
 
 -- a map that says so at each number
 all_is : (n : ℕ) (s t : Tree ℕ) → ((q : ℕ) → maps.get s q ≡ option_map (resized n) (maps.get t q)) → s ≡ all_resized n t
 all_is n s t h = map_is s (all_resized n t) (λ q. h q ∙ sym (get-resized n t q))
 
 -- and slots that do
-pub now_resized : (n : ℕ) (s t : slots.Slab (Option Known)) → ((q : ℕ) → join (slots.get t q) ≡ option_map (resized n) (join (slots.get s q))) → now_of t ≡ all_resized n (now_of s)
-now_resized n s t h = all_is n (now_of t) (now_of s) (λ q. get_now t q ∙ h q ∙ ap (option_map (resized n)) (sym (get_now s q)))
+pub now_resized : (n : ℕ) (s t : slots.Slab (Option Known))
+    → ((q : ℕ) → join (slots.get t q) ≡ option_map (resized n) (join (slots.get s q)))
+    → now_of t ≡ all_resized n (now_of s)
+now_resized n s t h = all_is n (now_of t) (now_of s) (λ q. get_now t q ∙ h q
+    ∙ ap (option_map (resized n)) (sym (get_now s q)))
 
 -- a record with a cell of that length
 abbrev IsLong : ℕ → Option Known → Type 0
 IsLong w o = (c : Cell ℕ) → option_map (λ (x : Known). x.cell) o ≡ Some c → length c ≡ w
 
 -- what holds of a record's cell, where there is a record
-pub if_cell : (o : Option Known) (P : Cell ℕ → Type 0) → ((c : Cell ℕ) → option_map (λ (x : Known). x.cell) o ≡ Some c → P c) → IfSome o (λ n. P n.cell)
+pub if_cell : (o : Option Known) (P : Cell ℕ → Type 0)
+    → ((c : Cell ℕ) → option_map (λ (x : Known). x.cell) o ≡ Some c → P c) → IfSome o (λ n. P n.cell)
 if_cell None P h = tt
 if_cell (Some n) P h = h n.cell refl
 
@@ -72,33 +84,43 @@ pub same_long : (w : ℕ) (o : Option Known) → IsLong w o → option_map (resi
 same_long w None h = refl
 same_long w (Some n) h = ap (λ (c : Cell ℕ). Some (record n { cell = c })) (resize_whole w n.cell (h n.cell refl))
 
-pub kept_long : (w n : ℕ) (o : Option Known) → n ≡ w + 1 → IsLong w o → option_map (resized n) o ≡ option_map kept_by_number o
+pub kept_long : (w n : ℕ) (o : Option Known) → n ≡ w + 1 → IsLong w o
+    → option_map (resized n) o ≡ option_map with_any_by_number o
 kept_long w n None e h = refl
-kept_long w n (Some r) e h = let long = h r.cell refl in ap (λ (c : Cell ℕ). Some (record r { cell = c })) (resize_more n r.cell (omega arith))
+kept_long w n (Some r) e h = let long = h r.cell refl in
+    ap (λ (c : Cell ℕ). Some (record r { cell = c })) (resize_more n r.cell (omega arith))
 
-again_at : (v n : ℕ) (o : Option Known) → v ≤ n → option_map (resized v) (option_map (resized n) o) ≡ option_map (resized v) o
+again_at : (v n : ℕ) (o : Option Known) → v ≤ n
+    → option_map (resized v) (option_map (resized n) o) ≡ option_map (resized v) o
 again_at v n None h = refl
 again_at v n (Some r) h = ap (λ (c : Cell ℕ). Some (record r { cell = c })) (resize_again v n r.cell h)
 
 pub again : (v n : ℕ) (t : Tree ℕ) → v ≤ n → all_resized v (all_resized n t) ≡ all_resized v t
 again v n t h = map_is _ _ (λ q.
-    get-resized v (all_resized n t) q ∙ ap (option_map (resized v)) (get-resized n t q) ∙ again_at v n (maps.get t q) h ∙ sym (get-resized v t q))
+    get-resized v (all_resized n t) q ∙ ap (option_map (resized v)) (get-resized n t q) ∙ again_at v n (maps.get t q) h
+    ∙ sym (get-resized v t q))
 
-pub resized_same : (w : ℕ) (t : Tree ℕ) → ((k : ℕ) (c : Cell ℕ) → cell_at t k ≡ Some c → length c ≡ w) → all_resized w t ≡ t
+pub resized_same : (w : ℕ) (t : Tree ℕ) → ((k : ℕ) (c : Cell ℕ) → cell_at t k ≡ Some c → length c ≡ w)
+    → all_resized w t ≡ t
 resized_same w t level = map_is _ _ (λ q. get-resized w t q ∙ same_long w (maps.get t q) (level q))
 
 -- the cell at a number is that of before
-was_cell : (n : ℕ) (t : Tree ℕ) (q : ℕ) (c : Cell ℕ) → cell_at (all_resized n t) q ≡ Some c → (x : Cell ℕ) × (cell_at t q ≡ Some x) × (c ≡ resize n x)
+was_cell : (n : ℕ) (t : Tree ℕ) (q : ℕ) (c : Cell ℕ) → cell_at (all_resized n t) q ≡ Some c → (x : Cell ℕ)
+    × (cell_at t q ≡ Some x) × (c ≡ resize n x)
 was_cell n t q c e = go (maps.get t q) refl (sym (ap (option_map (λ (x : Known). x.cell)) (get-resized n t q)) ∙ e)
   where
-    go : (o : Option Known) → maps.get t q ≡ o → option_map (λ (x : Known). x.cell) (option_map (resized n) o) ≡ Some c → (x : Cell ℕ) × (cell_at t q ≡ Some x) × (c ≡ resize n x)
+    go : (o : Option Known) → maps.get t q ≡ o → option_map (λ (x : Known). x.cell) (option_map (resized n) o) ≡ Some c
+        → (x : Cell ℕ) × (cell_at t q ≡ Some x) × (c ≡ resize n x)
     go None e h = cc
-    go (Some r) e h = let same : resize n r.cell ≡ c = cc in (r.cell, ap (option_map (λ (x : Known). x.cell)) e, sym same)
+    go (Some r) e h = let same : resize n r.cell ≡ c = cc in
+        (r.cell, ap (option_map (λ (x : Known). x.cell)) e, sym same)
 
-now_cell : (n : ℕ) (t : Tree ℕ) (q : ℕ) (x : Cell ℕ) → cell_at t q ≡ Some x → cell_at (all_resized n t) q ≡ Some (resize n x)
+now_cell : (n : ℕ) (t : Tree ℕ) (q : ℕ) (x : Cell ℕ) → cell_at t q ≡ Some x
+    → cell_at (all_resized n t) q ≡ Some (resize n x)
 now_cell n t q x e = ap (option_map (λ (x : Known). x.cell)) (get-resized n t q) ∙ go (maps.get t q) e
   where
-    go : (o : Option Known) → option_map (λ (x : Known). x.cell) o ≡ Some x → option_map (λ (x : Known). x.cell) (option_map (resized n) o) ≡ Some (resize n x)
+    go : (o : Option Known) → option_map (λ (x : Known). x.cell) o ≡ Some x
+        → option_map (λ (x : Known). x.cell) (option_map (resized n) o) ≡ Some (resize n x)
     go None h = cc
     go (Some r) h = let same : r.cell ≡ x = cc in ap (λ (c : Cell ℕ). Some (resize n c)) same
 
@@ -108,16 +130,20 @@ length_mapped n [] = refl
 length_mapped n (e ∷ es) = ap suc (length_mapped n es)
 
 len-resized : (n : ℕ) (t : Tree ℕ) → maps.len (all_resized n t) ≡ maps.len t
-len-resized n t = maps.len-entries (all_resized n t) ∙ ap (λ (es : List (ℕ × Known)). length es) (entries-resized n t) ∙ length_mapped n (maps.entries t) ∙ sym (maps.len-entries t)
+len-resized n t = maps.len-entries (all_resized n t) ∙ ap (λ (es : List (ℕ × Known)). length es) (entries-resized n t)
+    ∙ length_mapped n (maps.entries t) ∙ sym (maps.len-entries t)
 
 module _ (f : Known → ℕ) (n : ℕ) (same : (r : Known) → f (resized n r) ≡ f r) where
-  sum_mapped : (es : List (ℕ × Known)) → sum_by f (map (λ e. e.1) (map (entry_resized n) es)) ≡ sum_by f (map (λ e. e.1) es)
+  sum_mapped : (es : List (ℕ × Known))
+      → sum_by f (map (λ e. e.1) (map (entry_resized n) es)) ≡ sum_by f (map (λ e. e.1) es)
   sum_mapped [] = refl
   sum_mapped (e ∷ es) =
-      sum_by-cons f (resized n e.1) (map (λ e. e.1) (map (entry_resized n) es)) ∙ ap₂ (λ a b. a + b) (same e.1) (sum_mapped es) ∙ sym (sum_by-cons f e.1 (map (λ e. e.1) es))
+      sum_by-cons f (resized n e.1) (map (λ e. e.1) (map (entry_resized n) es))
+      ∙ ap₂ (λ a b. a + b) (same e.1) (sum_mapped es) ∙ sym (sum_by-cons f e.1 (map (λ e. e.1) es))
 
   sum-resized : (t : Tree ℕ) → sum_by f (maps.values (all_resized n t)) ≡ sum_by f (maps.values t)
-  sum-resized t = ap (λ (es : List (ℕ × Known)). sum_by f (map (λ e. e.1) es)) (entries-resized n t) ∙ sum_mapped (maps.entries t)
+  sum-resized t = ap (λ (es : List (ℕ × Known)). sum_by f (map (λ e. e.1) es)) (entries-resized n t)
+      ∙ sum_mapped (maps.entries t)
 
 any_back : (w n : ℕ) (c : Cell ℕ) → w ≤ n → length c ≡ w → resize n c ≡ replicate n None → c ≡ replicate w None
 any_back w n c h long e = sym (resize_whole w c long) ∙ sym (resize_again w n c h) ∙ ap (resize w) e ∙ resize_any w n
@@ -130,7 +156,10 @@ module _ (w n m : ℕ) (t : Tree ℕ) (kept : TreeTotals) (is : AreTotals w m t 
 
   root_longer : (r : Option NodeNo) → IsRoot w r t → IsRoot n r (all_resized n t)
   root_longer None none = λ q e. none q (root_back q e)
-  root_longer (Some k) one = (now_cell n t k.0 (replicate w None) one.0 ∙ ap (λ (c : Cell ℕ). Some c) (resize_any n w), λ q e. one.1 q (root_back q e))
+  root_longer (Some k) one = (
+    now_cell n t k.0 (replicate w None) one.0 ∙ ap (λ (c : Cell ℕ). Some c) (resize_any n w),
+    λ q e. one.1 q (root_back q e),
+  )
 
   -- what is kept of a map is right of that with more dimensions
   pub kept_longer : AreTotals n m (all_resized n t) kept
@@ -154,7 +183,8 @@ begun_level b w m t kept is = record {
 }
 
 -- dimensions come
-pub begun_longer : (b : Bool) (w v n m : ℕ) (t : Tree ℕ) (kept : TreeTotals) → b ≡ true → w ≤ n → AreBegun b w v m t kept → AreBegun b n v m (all_resized n t) kept
+pub begun_longer : (b : Bool) (w v n m : ℕ) (t : Tree ℕ) (kept : TreeTotals) → b ≡ true → w ≤ n
+    → AreBegun b w v m t kept → AreBegun b n v m (all_resized n t) kept
 begun_longer b w v n m t kept opened h is =
     let narrow = is.narrow in
     record {
@@ -175,7 +205,8 @@ begun_same true v t u e = ap (λ (x : Tree ℕ). Some (record { width = v; tree 
 begun_same false v t u e = refl
 
 -- what was there at the begin of a batch
-pub at_begin : (b : Bool) (v : ℕ) (t : Tree ℕ) (q : ℕ) → b ≡ true → option_and_then (λ (s : Shape). maps.get s.tree q) (begun b v t) ≡ option_map (resized v) (maps.get t q)
+pub at_begin : (b : Bool) (v : ℕ) (t : Tree ℕ) (q : ℕ) → b ≡ true
+    → option_and_then (λ (s : Shape). maps.get s.tree q) (begun b v t) ≡ option_map (resized v) (maps.get t q)
 at_begin true v t q opened = get-resized v t q
 at_begin false v t q opened = absurd (true≢false (sym opened))
 
@@ -184,9 +215,18 @@ class_resized v None = refl
 class_resized v (Some n) = refl
 
 -- a class is what it was
-pub class_at_begin : (b : Bool) (v : ℕ) (t : Tree ℕ) (q : ℕ) → b ≡ true → class_in (maps.get t q) ≡ class_in (option_and_then (λ (s : Shape). maps.get s.tree q) (begun b v t))
+pub class_at_begin : (b : Bool) (v : ℕ) (t : Tree ℕ) (q : ℕ) → b ≡ true
+    → class_in (maps.get t q) ≡ class_in (option_and_then (λ (s : Shape). maps.get s.tree q) (begun b v t))
 class_at_begin b v t q opened = class_resized v (maps.get t q) ∙ ap class_in (sym (at_begin b v t q opened))
 
 -- a batch is opened
-pub begun_opened : (b : Bool) (w v m : ℕ) (t : Tree ℕ) (kept : TreeTotals) → AreBegun b w v m t kept → AreBegun true w v m t kept
-begun_opened b w v m t kept is = record { totals = is.totals; level = is.level; deep = is.deep; narrow = is.narrow; closed = λ e. absurd (true≢false e) }
+pub begun_opened : (b : Bool) (w v m : ℕ) (t : Tree ℕ) (kept : TreeTotals) → AreBegun b w v m t kept
+    → AreBegun true w v m t kept
+begun_opened b w v m t kept is = record {
+  totals = is.totals;
+  level = is.level;
+  deep = is.deep;
+  narrow
+      = is.narrow;
+  closed = λ e. absurd (true≢false e);
+}

@@ -1,8 +1,9 @@
 -- Cells of another length, and their trails.
-use Rattle.std.proofs.Common.{◌≡◌, ◌≢◌, ℕ, zero, suc, ◌+◌, ◌<◌, ◌≤◌, Option, Some, None, List, [], ◌∷◌, ◌++◌, length, set, length-set, refl, sym, ap, subst, ◌∙◌, arith, replicate}
+use Rattle.std.proofs.Common.{◌≡◌, ◌≢◌, ℕ, zero, suc, ◌+◌, ◌<◌, ◌≤◌, Option, Some, None, List, [], ◌∷◌, ◌++◌, length, set, length-set, refl}
+use Rattle.std.proofs.Common.{sym, ap, subst, ◌∙◌, arith, replicate}
 use Rattle.std.specs.Prelude.{slice_index_or}
 use Rattle.std.specs.Option.{option_and_then, option_map}
-use Rattle.cube_defs.specs.Cell.{Cell, depth, index_below, one_deeper, with_value}
+use Rattle.cube_defs.specs.Cell.{Cell, depth, depth_index, depth_with, with_value}
 use Rattle.tree_laws.specs.Walk.{last_label}
 use Rattle.qc_arena.specs.NodeRecord.{IsInside, IsTrail, cell_on, with_labels}
 use Rattle.qc_arena.specs.Resized.{resize, with_first}
@@ -44,35 +45,36 @@ resize-set (suc n) (e ∷ c) zero x h = refl
 resize-set (suc n) (e ∷ c) (suc i) x h = ap (λ (l : Cell ℕ). e ∷ l) (resize-set n c i x (omega arith))
 
 -- depths
-less_deep : (e : Option ℕ) (d n : ℕ) → one_deeper e d ≤ suc n → d ≤ n
+less_deep : (e : Option ℕ) (d n : ℕ) → depth_with e d ≤ suc n → d ≤ n
 less_deep None zero n h = omega arith
 less_deep None (suc d) n h = omega arith
 less_deep (Some v) d n h = omega arith
 
 pub depth-resize : (n : ℕ) (c : Cell ℕ) → depth c ≤ n → depth (resize n c) ≡ depth c
 depth-resize zero c h = omega arith
-depth-resize (suc n) [] h = ap (one_deeper {A = ℕ} None) (depth-resize n [] (omega arith))
-depth-resize (suc n) (e ∷ c) h = ap (one_deeper e) (depth-resize n c (less_deep e (depth c) n h))
+depth-resize (suc n) [] h = ap (depth_with {A = ℕ} None) (depth-resize n [] (omega arith))
+depth-resize (suc n) (e ∷ c) h = ap (depth_with e) (depth-resize n c (less_deep e (depth c) n h))
 
-one_more : (e : Option ℕ) (d : ℕ) → one_deeper e d ≤ suc d
+one_more : (e : Option ℕ) (d : ℕ) → depth_with e d ≤ suc d
 one_more None zero = omega arith
 one_more None (suc d) = omega arith
 one_more (Some v) d = omega arith
 
-deeper_still : (e : Option ℕ) (a b : ℕ) → a ≤ b → one_deeper e a ≤ one_deeper e b
+deeper_still : (e : Option ℕ) (a b : ℕ) → a ≤ b → depth_with e a ≤ depth_with e b
 deeper_still None zero b h = omega arith
 deeper_still None (suc a) zero h = absurd (omega arith)
 deeper_still None (suc a) (suc b) h = omega arith
 deeper_still (Some v) a b h = omega arith
 
-below_deeper : (e : Option ℕ) (i d : ℕ) → i < d → suc i < one_deeper e d
+below_deeper : (e : Option ℕ) (i d : ℕ) → i < d → suc i < depth_with e d
 below_deeper e i zero h = absurd (omega arith)
 below_deeper None i (suc d) h = omega arith
 below_deeper (Some v) i (suc d) h = omega arith
 
 pub depth_long : (c : Cell ℕ) → depth c ≤ length c
 depth_long [] = omega arith
-depth_long (e ∷ c) = let rest = depth_long c in let one = deeper_still e (depth c) (length c) rest in let all = one_more e (length c) in omega arith
+depth_long (e ∷ c) = let rest = depth_long c in let one = deeper_still e (depth c) (length c) rest in
+    let all = one_more e (length c) in omega arith
 
 set_deeper : (c : Cell ℕ) (i v : ℕ) → i < length c → depth c ≤ depth (with_value c i v)
 set_deeper [] i v h = absurd (omega arith)
@@ -93,7 +95,7 @@ entry_at (suc n) (e ∷ c) zero h = refl
 entry_at (suc n) (e ∷ c) (suc i) h = entry_at n c i (omega arith)
 
 abbrev label_below : Cell ℕ → ℕ → Option (ℕ × ℕ)
-label_below c d = option_and_then (λ i. option_map (λ v. (i, v)) (slice_index_or c i None)) (index_below d)
+label_below c d = option_and_then (λ i. option_map (λ v. (i, v)) (slice_index_or c i None)) (depth_index d)
 
 pub label-resize : (n : ℕ) (c : Cell ℕ) → depth c ≤ n → last_label (resize n c) ≡ last_label c
 label-resize n c h = ap (label_below (resize n c)) (depth-resize n c h) ∙ at (depth c) h
@@ -114,26 +116,31 @@ length-any : (n : ℕ) → length (replicate {A = Option ℕ} n None) ≡ n
 length-any zero = refl
 length-any (suc n) = ap suc (length-any n)
 
-labels_resized : (n : ℕ) (c : Cell ℕ) (labels : List (ℕ × ℕ)) → IsInside (length c) labels → with_labels (resize n c) labels ≡ resize n (with_labels c labels)
+labels_resized : (n : ℕ) (c : Cell ℕ) (labels : List (ℕ × ℕ)) → IsInside (length c) labels
+    → with_labels (resize n c) labels ≡ resize n (with_labels c labels)
 labels_resized n c [] h = refl
 labels_resized n c (l ∷ rest) h =
     ap (λ (x : Cell ℕ). with_labels x rest) (resize-set n c l.0 (Some l.1) h.0)
     ∙ labels_resized n (with_value c l.0 l.1) rest (inside_same _ _ rest (sym (length-set c l.0 (Some l.1))) h.1)
 
-pub cell_on-resized : (n v : ℕ) (trail : List (ℕ × ℕ)) → trail ≢ [] → IsTrail trail → cell_on (with_first (n, v) trail) ≡ resize n (cell_on trail)
+pub cell_on-resized : (n v : ℕ) (trail : List (ℕ × ℕ)) → trail ≢ [] → IsTrail trail
+    → cell_on (with_first (n, v) trail) ≡ resize n (cell_on trail)
 cell_on-resized n v [] h w = absurd (h refl)
 cell_on-resized n v (first ∷ labels) h w =
     ap (λ (x : Cell ℕ). with_labels x labels) (sym (resize_any n first.0))
     ∙ labels_resized n (replicate first.0 None) labels (inside_same _ _ labels (sym (length-any first.0)) w)
 
-labels_deeper : (c : Cell ℕ) (labels : List (ℕ × ℕ)) → IsInside (length c) labels → depth c ≤ depth (with_labels c labels)
+labels_deeper : (c : Cell ℕ) (labels : List (ℕ × ℕ)) → IsInside (length c) labels
+    → depth c ≤ depth (with_labels c labels)
 labels_deeper c [] h = omega arith
 labels_deeper c (l ∷ rest) h =
     let one = set_deeper c l.0 l.1 h.0 in
-    let more = labels_deeper (with_value c l.0 l.1) rest (inside_same _ _ rest (sym (length-set c l.0 (Some l.1))) h.1) in
+    let more = labels_deeper (with_value c l.0 l.1) rest
+    (inside_same _ _ rest (sym (length-set c l.0 (Some l.1))) h.1) in
     omega arith
 
-labels_inside : (c : Cell ℕ) (labels : List (ℕ × ℕ)) (n : ℕ) → IsInside (length c) labels → depth (with_labels c labels) ≤ n → IsInside n labels
+labels_inside : (c : Cell ℕ) (labels : List (ℕ × ℕ)) (n : ℕ) → IsInside (length c) labels
+    → depth (with_labels c labels) ≤ n → IsInside n labels
 labels_inside c [] n h d = tt
 labels_inside c (l ∷ rest) n h d =
     let still = inside_same _ _ rest (sym (length-set c l.0 (Some l.1))) h.1 in
@@ -142,19 +149,23 @@ labels_inside c (l ∷ rest) n h d =
     (omega arith, labels_inside (with_value c l.0 l.1) rest n still d)
 
 -- the labels are of the dimensions that are left
-pub within_first : (n v : ℕ) (trail : List (ℕ × ℕ)) → IsTrail trail → depth (cell_on trail) ≤ n → IsTrail (with_first (n, v) trail)
+pub within_first : (n v : ℕ) (trail : List (ℕ × ℕ)) → IsTrail trail → depth (cell_on trail) ≤ n
+    → IsTrail (with_first (n, v) trail)
 within_first n v [] w d = tt
-within_first n v (first ∷ labels) w d = labels_inside (replicate first.0 None) labels n (inside_same _ _ labels (sym (length-any first.0)) w) d
+within_first n v (first ∷ labels) w d
+    = labels_inside (replicate first.0 None) labels n (inside_same _ _ labels (sym (length-any first.0)) w) d
 
 pub first_begun : (x : ℕ × ℕ) (trail : List (ℕ × ℕ)) → with_first x trail ≢ []
 first_begun x [] e = cc
 first_begun x (y ∷ rest) e = cc
 
-inside_more : (n : ℕ) (labels : List (ℕ × ℕ)) (label : ℕ × ℕ) → IsInside n labels → label.0 < n → IsInside n (labels ++ label ∷ [])
+inside_more : (n : ℕ) (labels : List (ℕ × ℕ)) (label : ℕ × ℕ) → IsInside n labels → label.0 < n
+    → IsInside n (labels ++ label ∷ [])
 inside_more n [] label h l = (l, tt)
 inside_more n (x ∷ rest) label h l = (h.0, inside_more n rest label h.1 l)
 
-pub within_more : (trail : List (ℕ × ℕ)) (label : ℕ × ℕ) → trail ≢ [] → IsTrail trail → label.0 < length (cell_on trail) → IsTrail (trail ++ label ∷ [])
+pub within_more : (trail : List (ℕ × ℕ)) (label : ℕ × ℕ) → trail ≢ [] → IsTrail trail → label.0 < length (cell_on trail)
+    → IsTrail (trail ++ label ∷ [])
 within_more [] label h w l = absurd (h refl)
 within_more (first ∷ labels) label h w l =
     let long = length-labels (replicate first.0 None) labels ∙ length-any first.0 in

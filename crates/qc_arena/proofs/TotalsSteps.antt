@@ -1,5 +1,6 @@
 -- What is kept of a map, as a record comes or changes.
-use Rattle.std.proofs.Common.{◌≡◌, ◌≢◌, ℕ, zero, suc, ◌+◌, ◌<◌, ◌≤◌, Bool, true, false, cond, Option, Some, None, IsSome, is_some, List, [], ◌∷◌, map, length, refl, sym, ap, subst, ◌∙◌, arith, true≢false, nat_cmp, set, length-set, replicate, inl, inr}
+use Rattle.std.proofs.Common.{◌≡◌, ◌≢◌, ℕ, zero, suc, ◌+◌, ◌<◌, ◌≤◌, Bool, true, false, cond, Option, Some, None, IsSome, is_some, List, []}
+use Rattle.std.proofs.Common.{◌∷◌, map, length, refl, sym, ap, subst, ◌∙◌, arith, true≢false, nat_cmp, set, length-set, replicate, inl, inr}
 use Rattle.std.proofs.lemmas.Bool.Decides.{eqb_tells}
 use Rattle.std.proofs.lemmas.Bool.{cond-true, cond-false, eq-eqb}
 use Rattle.std.specs.Cmp.{nat_cmp_total}
@@ -12,13 +13,13 @@ use Rattle.cube_defs.specs.Tree.{Tree, cell_at}
 use Rattle.tree_laws.specs.Counts.{classes_in}
 use Rattle.cell_core.specs.declared.cell.NodeNo.{NodeNo}
 use Rattle.qc_arena.specs.declared.tree_totals.TreeTotals.{TreeTotals}
-use Rattle.qc_arena.specs.Seen.{record_at, record_or}
+use Rattle.qc_arena.specs.RecordReaders.{record_at, record_or}
 use Rattle.qc_arena.specs.Map.{Known, IsPlace, edges_in, new_record}
 use Rattle.qc_arena.specs.Counted.{root_after, root_without}
 use Rattle.qc_arena.specs.Inside.{AreTotals, IsRoot}
 use Rattle.qc_arena.proofs.Imaged.{eq_apart}
 use Rattle.qc_arena.proofs.Totals.{total-few, total-insert, worth}
-use Rattle.cube_laws.proofs.Orders.{eq_cmp}
+use Rattle.cube_laws.proofs.CallerLemmas.{eq_cmp}
 
 pub at_added : (t : Tree ℕ) (k : ℕ) (n : Known) → map.get (map.insert t k n) k ≡ Some n
 at_added t k n = map.get-insert nat_cmp_total t k n k ∙ cond-true _ _ _ (eq_cmp k k ∙ eq-eqb k k refl)
@@ -34,12 +35,15 @@ off_removed t k q h = map.get-remove nat_cmp_total t k q ∙ cond-false _ _ _ (e
 
 -- a map with a record taken out and put in again
 back_in : (t : Tree ℕ) (k : ℕ) (n : Known) → map.get t k ≡ Some n → map.insert (map.remove t k) k n ≡ t
-back_in t k n h = map.same_map nat_cmp_total map.nat_cmp-IsAntisymmetric (map.insert (map.remove t k) k n) t (λ q. elim (eqb_tells q k) [
-  | inl s ↦ ap (map.get (map.insert (map.remove t k) k n)) s.1 ∙ at_added (map.remove t k) k n ∙ sym (ap (map.get t) s.1 ∙ h)
-  | inr s ↦ off_added (map.remove t k) k n q s.1 ∙ off_removed t k q s.1
-])
+back_in t k n h = map.same_map nat_cmp_total map.nat_cmp-IsAntisymmetric (map.insert (map.remove t k) k n) t
+    (λ q. elim (eqb_tells q k) [
+      | inl s ↦ ap (map.get (map.insert (map.remove t k) k n)) s.1 ∙ at_added (map.remove t k) k n
+          ∙ sym (ap (map.get t) s.1 ∙ h)
+      | inr s ↦ off_added (map.remove t k) k n q s.1 ∙ off_removed t k q s.1
+    ])
 
-total-remove : (f : Known → ℕ) (t : Tree ℕ) (k : ℕ) (n : Known) → map.get t k ≡ Some n → sum_by f (map.values (map.remove t k)) + f n ≡ sum_by f (map.values t)
+total-remove : (f : Known → ℕ) (t : Tree ℕ) (k : ℕ) (n : Known) → map.get t k ≡ Some n
+    → sum_by f (map.values (map.remove t k)) + f n ≡ sum_by f (map.values t)
 total-remove f t k n h =
     let put = total-insert f (map.remove t k) k n in
     let none = ap (worth f) (at_removed t k) in
@@ -48,19 +52,23 @@ total-remove f t k n h =
 
 len_less : (t : Tree ℕ) (k : ℕ) (n : Known) → map.get t k ≡ Some n → map.len (map.remove t k) + 1 ≡ map.len t
 len_less t k n h =
-    let put = map.len-insert nat_cmp_total (map.remove t k) k n ∙ cond-false _ _ _ (ap (λ (o : Option Known). is_some o) (at_removed t k)) in
+    let put = map.len-insert nat_cmp_total (map.remove t k) k n
+    ∙ cond-false _ _ _ (ap (λ (o : Option Known). is_some o) (at_removed t k)) in
     let same = ap (λ (x : Tree ℕ). map.len x) (back_in t k n h) in
     omega arith
 
 -- a record that keeps its cell changes no cell
-pub same_cells : (t : Tree ℕ) (k : ℕ) (n n' : Known) → map.get t k ≡ Some n → n'.cell ≡ n.cell → (q : ℕ) → cell_at (map.insert t k n') q ≡ cell_at t q
+pub same_cells : (t : Tree ℕ) (k : ℕ) (n n' : Known) → map.get t k ≡ Some n → n'.cell ≡ n.cell → (q : ℕ)
+    → cell_at (map.insert t k n') q ≡ cell_at t q
 same_cells t k n n' h c q = elim (eqb_tells q k) [
-  | inl s ↦ ap (λ x. cell_at (map.insert t k n') x) s.1 ∙ ap (option_map (λ (x : Known). x.cell)) (at_added t k n') ∙ ap (λ (x : Cell ℕ). Some x) c
+  | inl s ↦ ap (λ x. cell_at (map.insert t k n') x) s.1 ∙ ap (option_map (λ (x : Known). x.cell)) (at_added t k n')
+      ∙ ap (λ (x : Cell ℕ). Some x) c
       ∙ sym (ap (λ x. cell_at t x) s.1 ∙ ap (option_map (λ (x : Known). x.cell)) h)
   | inr s ↦ ap (option_map (λ (x : Known). x.cell)) (off_added t k n' q s.1)
 ]
 
-root_same : (w : ℕ) (r : Option NodeNo) (t t' : Tree ℕ) → ((q : ℕ) → cell_at t' q ≡ cell_at t q) → IsRoot w r t → IsRoot w r t'
+root_same : (w : ℕ) (r : Option NodeNo) (t t' : Tree ℕ) → ((q : ℕ) → cell_at t' q ≡ cell_at t q) → IsRoot w r t
+    → IsRoot w r t'
 root_same w None t t' h r = λ q e. r q (sym (h q) ∙ e)
 root_same w (Some k) t t' h r = (h k.0 ∙ r.0, λ q e. r.1 q (sym (h q) ∙ e))
 
@@ -68,17 +76,20 @@ root_same w (Some k) t t' h r = (h k.0 ∙ r.0, λ q e. r.1 q (sym (h q) ∙ e))
 abbrev pub has_class : Known → ℕ
 has_class n = cond (is_some n.class) 1 0
 
-classes_put : (t : Tree ℕ) (k : ℕ) (n : Known) → classes_in nat_cmp (map.insert t k n) + worth has_class (map.get t k) ≡ classes_in nat_cmp t + has_class n
+classes_put : (t : Tree ℕ) (k : ℕ) (n : Known)
+    → classes_in nat_cmp (map.insert t k n) + worth has_class (map.get t k) ≡ classes_in nat_cmp t + has_class n
 classes_put t k n = total-insert has_class t k n
 
 -- how many edges a node has
 abbrev pub width_of : Known → ℕ
 width_of n = length n.edges
 
-edges_put : (t : Tree ℕ) (k : ℕ) (n : Known) → edges_in (map.insert t k n) + worth width_of (map.get t k) ≡ edges_in t + width_of n
+edges_put : (t : Tree ℕ) (k : ℕ) (n : Known)
+    → edges_in (map.insert t k n) + worth width_of (map.get t k) ≡ edges_in t + width_of n
 edges_put t k n = total-insert width_of t k n
 
-pub kept_change : (w m : ℕ) (t : Tree ℕ) (kept kept' : TreeTotals) (k : ℕ) (n n' : Known) → AreTotals w m t kept → map.get t k ≡ Some n → n'.cell ≡ n.cell
+pub kept_change : (w m : ℕ) (t : Tree ℕ) (kept kept' : TreeTotals) (k : ℕ) (n n' : Known) → AreTotals w m t kept
+    → map.get t k ≡ Some n → n'.cell ≡ n.cell
     → kept'.root ≡ kept.root → kept'.nodes ≡ kept.nodes → kept'.classes + has_class n ≡ kept.classes + has_class n'
     → kept'.edges + width_of n ≡ kept.edges + width_of n' → AreTotals w m (map.insert t k n') kept'
 kept_change w m t kept kept' k n n' is h c r a b d =
@@ -91,7 +102,8 @@ kept_change w m t kept kept' k n n' is h c r a b d =
     let was = ap (worth width_of) h in
     let all = is.edges in
     record {
-      root = subst (λ x. IsRoot w x (map.insert t k n')) (sym r) (root_same w kept.root t (map.insert t k n') cells is.root);
+      root = subst (λ x. IsRoot w x (map.insert t k n')) (sym r)
+          (root_same w kept.root t (map.insert t k n') cells is.root);
       nodes = a ∙ is.nodes ∙ sym long;
       classes = omega arith;
       edges = omega arith;
@@ -104,7 +116,8 @@ not_all_any [] i v w l e = absurd (omega arith)
 not_all_any (x ∷ c) zero v zero l e = cc
 not_all_any (x ∷ c) zero v (suc w) l e = cc
 not_all_any (x ∷ c) (suc i) v zero l e = cc
-not_all_any (x ∷ c) (suc i) v (suc w) l e = let rest : set c i (Some v) ≡ replicate w None = cc in not_all_any c i v w (omega arith) rest
+not_all_any (x ∷ c) (suc i) v (suc w) l e = let rest : set c i (Some v) ≡ replicate w None = cc in
+    not_all_any c i v w (omega arith) rest
 
 length-replicate : (w : ℕ) → length (replicate {A = Option ℕ} w None) ≡ w
 length-replicate zero = refl
@@ -124,22 +137,31 @@ module _ (w m : ℕ) (t : Tree ℕ) (kept : TreeTotals) (is : AreTotals w m t ke
   length-new (Some u) p = length-set (record_at t u.0.0).cell u.1 (Some u.2) ∙ is.cells u.0.0 _ (cell_there t u.0.0 p.0)
 
   not_root : (u : NodeNo × ℕ × ℕ) → IsPlace w t (Some u) → (new_record w t (Some u)).cell ≡ replicate w None → ⊥
-  not_root u p e = not_all_any (record_at t u.0.0).cell u.1 u.2 w (let long = is.cells u.0.0 _ (cell_there t u.0.0 p.0) in let low = p.2 in omega arith) e
+  not_root u p e = not_all_any (record_at t u.0.0).cell u.1 u.2 w (let long
+      = is.cells u.0.0 _ (cell_there t u.0.0 p.0) in let low = p.2 in omega arith) e
 
-  off_root : (u : NodeNo × ℕ × ℕ) (k : ℕ) (n : Known) → n.cell ≢ replicate w None → map.get t k ≡ None → (r : Option NodeNo) → IsRoot w r t → IsRoot w r (map.insert t k n)
+  off_root : (u : NodeNo × ℕ × ℕ) (k : ℕ) (n : Known) → n.cell ≢ replicate w None → map.get t k ≡ None
+      → (r : Option NodeNo) → IsRoot w r t → IsRoot w r (map.insert t k n)
   off_root u k n deep none None h = λ q e. elim (eqb_tells q k) [
-    | inl s ↦ let at : Some n.cell ≡ Some (replicate {A = Option ℕ} w None) = ap (option_map (λ (y : Known). y.cell)) (sym (ap (map.get (map.insert t k n)) s.1 ∙ at_added t k n)) ∙ e in let same : n.cell ≡ replicate w None = cc in deep same
+    | inl s ↦ let at : Some n.cell ≡ Some (replicate {A = Option ℕ} w None)
+        = ap (option_map (λ (y : Known). y.cell)) (sym (ap (map.get (map.insert t k n)) s.1 ∙ at_added t k n)) ∙ e in
+        let same : n.cell ≡ replicate w None = cc in deep same
     | inr s ↦ h q (sym (ap (option_map (λ (y : Known). y.cell)) (off_added t k n q s.1)) ∙ e)
   ]
   off_root u k n deep none (Some r) h = (
-    ap (option_map (λ (y : Known). y.cell)) (off_added t k n r.0 (λ s. let gone : cell_at t r.0 ≡ None = ap (λ x. cell_at t x) s ∙ ap (option_map (λ (y : Known). y.cell)) none in let both : None ≡ Some (replicate {A = Option ℕ} w None) = sym gone ∙ h.0 in cc)) ∙ h.0,
+    ap (option_map (λ (y : Known). y.cell)) (off_added t k n r.0 (λ s. let gone : cell_at t r.0 ≡ None
+        = ap (λ x. cell_at t x) s ∙ ap (option_map (λ (y : Known). y.cell)) none in
+        let both : None ≡ Some (replicate {A = Option ℕ} w None) = sym gone ∙ h.0 in cc)) ∙ h.0,
     λ q e. elim (eqb_tells q k) [
-      | inl s ↦ let at : Some n.cell ≡ Some (replicate {A = Option ℕ} w None) = ap (option_map (λ (y : Known). y.cell)) (sym (ap (map.get (map.insert t k n)) s.1 ∙ at_added t k n)) ∙ e in let same : n.cell ≡ replicate w None = cc in absurd (deep same)
+      | inl s ↦ let at : Some n.cell ≡ Some (replicate {A = Option ℕ} w None)
+          = ap (option_map (λ (y : Known). y.cell)) (sym (ap (map.get (map.insert t k n)) s.1 ∙ at_added t k n)) ∙ e in
+          let same : n.cell ≡ replicate w None = cc in absurd (deep same)
       | inr s ↦ h.1 q (sym (ap (option_map (λ (y : Known). y.cell)) (off_added t k n q s.1)) ∙ e)
     ],
   )
 
-  root_added : (u : Option (NodeNo × ℕ × ℕ)) (k : ℕ) → map.get t k ≡ None → IsPlace w t u → IsRoot w (root_after kept.root u k) (map.insert t k (new_record w t u))
+  root_added : (u : Option (NodeNo × ℕ × ℕ)) (k : ℕ) → map.get t k ≡ None → IsPlace w t u
+      → IsRoot w (root_after kept.root u k) (map.insert t k (new_record w t u))
   root_added None k none p =
       let n = new_record w t None in (
         ap (option_map (λ (n : Known). n.cell)) (at_added t k n),
@@ -158,7 +180,8 @@ module _ (w m : ℕ) (t : Tree ℕ) (kept : TreeTotals) (is : AreTotals w m t ke
   edges_free None = refl
   edges_free (Some u) = refl
 
-  pub kept_add : (kept' : TreeTotals) (u : Option (NodeNo × ℕ × ℕ)) (k : ℕ) → map.get t k ≡ None → IsPlace w t u → kept.nodes < m
+  pub kept_add : (kept' : TreeTotals) (u : Option (NodeNo × ℕ × ℕ)) (k : ℕ) → map.get t k ≡ None → IsPlace w t u
+      → kept.nodes < m
       → kept'.root ≡ root_after kept.root u k → kept'.nodes ≡ kept.nodes + 1 → kept'.classes ≡ kept.classes
       → kept'.edges ≡ kept.edges → AreTotals w m (map.insert t k (new_record w t u)) kept'
   kept_add kept' u k none p room r a b d =
@@ -180,7 +203,9 @@ module _ (w m : ℕ) (t : Tree ℕ) (kept : TreeTotals) (is : AreTotals w m t ke
         edges = omega arith;
         few = omega arith;
         cells = λ q x e. elim (eqb_tells q k) [
-          | inl s ↦ let at : Some n.cell ≡ Some x = ap (option_map (λ (y : Known). y.cell)) (sym (ap (map.get (map.insert t k n)) s.1 ∙ at_added t k n)) ∙ e in let same : n.cell ≡ x = cc in ap length (sym same) ∙ length-new u p
+          | inl s ↦ let at : Some n.cell ≡ Some x
+              = ap (option_map (λ (y : Known). y.cell)) (sym (ap (map.get (map.insert t k n)) s.1 ∙ at_added t k n))
+              ∙ e in let same : n.cell ≡ x = cc in ap length (sym same) ∙ length-new u p
           | inr s ↦ is.cells q x (sym (ap (option_map (λ (y : Known). y.cell)) (off_added t k n q s.1)) ∙ e)
         ];
       }
@@ -189,7 +214,8 @@ module _ (w m : ℕ) (t : Tree ℕ) (kept : TreeTotals) (is : AreTotals w m t ke
   off_gone k q h = ap (option_map (λ (y : Known). y.cell)) (off_removed t k q h)
 
   no_cell : (k : ℕ) (c : Cell ℕ) → cell_at (map.remove t k) k ≡ Some c → ⊥
-  no_cell k c e = let gone : None ≡ Some c = sym (ap (option_map (λ (y : Known). y.cell)) (at_removed t k)) ∙ e in true≢false (sym (ap is_some gone))
+  no_cell k c e = let gone : None ≡ Some c = sym (ap (option_map (λ (y : Known). y.cell)) (at_removed t k)) ∙ e in
+      true≢false (sym (ap is_some gone))
 
   root_gone : (k : ℕ) (r : Option NodeNo) → IsRoot w r t → IsRoot w (root_without r k) (map.remove t k)
   root_gone k None h = λ q e. elim (eqb_tells q k) [
@@ -197,10 +223,11 @@ module _ (w m : ℕ) (t : Tree ℕ) (kept : TreeTotals) (is : AreTotals w m t ke
     | inr s ↦ h q (sym (off_gone k q s.1) ∙ e)
   ]
   root_gone k (Some r) h = elim (eqb_tells r.0 k) [
-    | inl s ↦ subst (λ (x : Option NodeNo). IsRoot w x (map.remove t k)) (sym (cond-true _ _ _ s.0)) (λ q e. elim (eqb_tells q k) [
-      | inl d ↦ no_cell k (replicate w None) (ap (λ x. cell_at (map.remove t k) x) (sym d.1) ∙ e)
-      | inr d ↦ d.1 (h.1 q (sym (off_gone k q d.1) ∙ e) ∙ s.1)
-    ])
+    | inl s ↦ subst (λ (x : Option NodeNo). IsRoot w x (map.remove t k)) (sym (cond-true _ _ _ s.0))
+        (λ q e. elim (eqb_tells q k) [
+          | inl d ↦ no_cell k (replicate w None) (ap (λ x. cell_at (map.remove t k) x) (sym d.1) ∙ e)
+          | inr d ↦ d.1 (h.1 q (sym (off_gone k q d.1) ∙ e) ∙ s.1)
+        ])
     | inr s ↦ subst (λ (x : Option NodeNo). IsRoot w x (map.remove t k)) (sym (cond-false _ _ _ s.0)) (
       off_gone k r.0 s.1 ∙ h.0,
       λ q e. elim (eqb_tells q k) [
@@ -211,8 +238,10 @@ module _ (w m : ℕ) (t : Tree ℕ) (kept : TreeTotals) (is : AreTotals w m t ke
   ]
 
   -- a record goes
-  pub kept_gone : (kept' : TreeTotals) (k : ℕ) (n : Known) → map.get t k ≡ Some n → kept'.root ≡ root_without kept.root k → kept'.nodes + 1 ≡ kept.nodes
-      → kept'.classes + has_class n ≡ kept.classes → kept'.edges + width_of n ≡ kept.edges → AreTotals w m (map.remove t k) kept'
+  pub kept_gone : (kept' : TreeTotals) (k : ℕ) (n : Known) → map.get t k ≡ Some n
+      → kept'.root ≡ root_without kept.root k → kept'.nodes + 1 ≡ kept.nodes
+      → kept'.classes + has_class n ≡ kept.classes → kept'.edges + width_of n ≡ kept.edges
+      → AreTotals w m (map.remove t k) kept'
   kept_gone kept' k n h r a b d =
       let gone = total-remove has_class t k n h in
       let wide = total-remove width_of t k n h in
@@ -233,13 +262,16 @@ module _ (w m : ℕ) (t : Tree ℕ) (kept : TreeTotals) (is : AreTotals w m t ke
       }
 
 pub no_entries : map.entries (map.empty {X = Known} {R = nat_cmp}) ≡ []
-no_entries = nil_from_length _ (sym (map.len-entries (map.empty {X = Known} {R = nat_cmp})) ∙ map.len-empty nat_cmp Known)
+no_entries = nil_from_length _ (sym (map.len-entries (map.empty {X = Known} {R = nat_cmp}))
+    ∙ map.len-empty nat_cmp Known)
 
 pub none_there : {X : Type 0} (q : ℕ) (c : Cell ℕ) → cell_at map.empty q ≡ Some c → X
-none_there q c e = let gone : None ≡ Some c = sym (ap (option_map (λ (n : Known). n.cell)) (map.get-empty nat_cmp q)) ∙ e in absurd (true≢false (sym (ap is_some gone)))
+none_there q c e = let gone : None ≡ Some c = sym (ap (option_map (λ (n : Known). n.cell)) (map.get-empty nat_cmp q))
+    ∙ e in absurd (true≢false (sym (ap is_some gone)))
 
 -- nothing is kept of no nodes
-pub kept_none : (w m : ℕ) (kept : TreeTotals) → kept.root ≡ None → kept.nodes ≡ 0 → kept.classes ≡ 0 → kept.edges ≡ 0 → AreTotals w m map.empty kept
+pub kept_none : (w m : ℕ) (kept : TreeTotals) → kept.root ≡ None → kept.nodes ≡ 0 → kept.classes ≡ 0 → kept.edges ≡ 0
+    → AreTotals w m map.empty kept
 kept_none w m kept r a b d = record {
   root = subst (λ x. IsRoot w x map.empty) (sym r) (λ q e. none_there q (replicate w None) e);
   nodes = a ∙ sym (map.len-empty nat_cmp Known);
@@ -262,7 +294,8 @@ classes_few w m t kept is =
     at_most false = omega arith
 
 -- a node's class is counted
-pub class_counted : (w m : ℕ) (t : Tree ℕ) (kept : TreeTotals) (k : ℕ) (n : Known) → AreTotals w m t kept → map.get t k ≡ Some n → has_class n ≤ kept.classes
+pub class_counted : (w m : ℕ) (t : Tree ℕ) (kept : TreeTotals) (k : ℕ) (n : Known) → AreTotals w m t kept
+    → map.get t k ≡ Some n → has_class n ≤ kept.classes
 class_counted w m t kept k n is h =
     let put = classes_put t k (record n { class = None }) in
     let had = ap (worth has_class) h in
@@ -274,7 +307,8 @@ some_map f None = refl
 some_map f (Some x) = refl
 
 -- a node's edges are counted
-pub edges_counted : (w m : ℕ) (t : Tree ℕ) (kept : TreeTotals) (k : ℕ) (n : Known) → AreTotals w m t kept → map.get t k ≡ Some n → width_of n ≤ kept.edges
+pub edges_counted : (w m : ℕ) (t : Tree ℕ) (kept : TreeTotals) (k : ℕ) (n : Known) → AreTotals w m t kept
+    → map.get t k ≡ Some n → width_of n ≤ kept.edges
 edges_counted w m t kept k n is h =
     let put = edges_put t k (record n { edges = [] }) in
     let had = ap (worth width_of) h in
@@ -282,7 +316,8 @@ edges_counted w m t kept k n is h =
     omega arith
 
 -- where a node is there, some are
-pub nodes_counted : (w m : ℕ) (t : Tree ℕ) (kept : TreeTotals) (k : ℕ) (n : Known) → AreTotals w m t kept → map.get t k ≡ Some n → 0 < kept.nodes
+pub nodes_counted : (w m : ℕ) (t : Tree ℕ) (kept : TreeTotals) (k : ℕ) (n : Known) → AreTotals w m t kept
+    → map.get t k ≡ Some n → 0 < kept.nodes
 nodes_counted w m t kept k n is h =
     let less = len_less t k n h in
     let all = is.nodes in

@@ -17,7 +17,8 @@ module _ (s : slots.Slab (Option Known)) (k : ℕ) (was now : Option Known) (val
   pub written : slots.get (slots.with_value s k now) k ≡ Some now
   written = updates.changed
 
-  pub written_by : (f : Known → Known) → now ≡ option_map f was → join (slots.get (slots.with_value s k now) k) ≡ option_map f (join (slots.get s k))
+  pub written_by : (f : Known → Known) → now ≡ option_map f was
+      → join (slots.get (slots.with_value s k now) k) ≡ option_map f (join (slots.get s k))
   written_by f e = ap join written ∙ e ∙ sym (ap (λ (o : Option (Option Known)). option_map f (join o)) value)
 
   pub written_same : now ≡ was → join (slots.get (slots.with_value s k now) k) ≡ join (slots.get s k)
@@ -28,6 +29,8 @@ pub stands : (o : Option (Option Known)) (was : Option Known) → o ≡ Some was
 stands o None e n = absurd (n e)
 stands o (Some r) e n = refl
 
-pub stands_still : (f : Known → Known) (was now : Option Known) → now ≡ option_map f was → IsSome was → (o : Option (Option Known)) → o ≡ Some now → o ≢ Some None
+pub stands_still : (f : Known → Known) (was now : Option Known) → now ≡ option_map f was → IsSome was
+    → (o : Option (Option Known)) → o ≡ Some now → o ≢ Some None
 stands_still f None now e h o is g = absurd (true≢false (sym h))
-stands_still f (Some r) now e h o is g = let bad : Some (Some (f r)) ≡ Some None = ap (λ (x : Option Known). Some x) (sym e) ∙ sym is ∙ g in cc
+stands_still f (Some r) now e h o is g = let bad : Some (Some (f r)) ≡ Some None
+    = ap (λ (x : Option Known). Some x) (sym e) ∙ sym is ∙ g in cc

@@ -5,7 +5,7 @@ use Rattle.qc_arena.specs.declared.images.Look.{Look}
 use Rattle.qc_arena.specs.declared.images.Look.TheVariants.{Same, Gone, Was}
 
 -- nothing, an image without a node, or a record
-abbrev pub seen : Look → Option (Option Known)
-seen Same = None
-seen Gone = Some None
-seen (Was r) = Some (Some r.now)
+abbrev pub look_of_image : Look → Option (Option Known)
+look_of_image Same = None
+look_of_image Gone = Some None
+look_of_image (Was r) = Some (Some r.now)

@@ -39,7 +39,8 @@ abbrev pub parent_in : ℕ → ℕ → Option ℕ
 parent_in dim parent = if nat_eq dim 255 then None else Some parent
 
 abbrev pub forced_in : ℕ → ℕ → ℕ → Option (Edge ℕ ℕ)
-forced_in dim code child = if nat_eq code 4294967295 then None else Some (record { dim = dim; value = code; target = child })
+forced_in dim code child = if nat_eq code 4294967295 then None
+    else Some (record { dim = dim; value = code; target = child })
 
 -- the class that is noted, if one is
 abbrev pub class_on : List (ℕ × Agg) → Option defs.Agg
@@ -49,10 +50,12 @@ class_on (e ∷ rest) = Some (agg_in e.1)
 -- its rows and measures, and no rows where there is none
 abbrev pub IsHeading : List (ℕ × Agg) → ℕ → ℕ → Type 0
 IsHeading [] count measures = count ≡ 0
-IsHeading (e ∷ rest) count measures = (count ≡ e.1.count) × (measures ≡ e.1.measures) × (length e.1.parts ≡ MAX_MEASURES)
+IsHeading (e ∷ rest) count measures = (count ≡ e.1.count) × (measures ≡ e.1.measures)
+    × (length e.1.parts ≡ MAX_MEASURES)
 
 -- the last label is that of the trail, the heading that of the class, labels rise, and codes are small
-pub record IsRec (trail : List (ℕ × ℕ)) (noted : List (ℕ × Agg)) (dim code forced_code count measures : ℕ) (edges : List StoredEdge) : Type 0 where
+pub record IsNodeRecord (trail : List (ℕ × ℕ)) (noted : List (ℕ × Agg)) (dim code forced_code count measures : ℕ)
+    (edges : List StoredEdge) : Type 0 where
   pub heading : IsHeading noted count measures
   pub end : last_label (cell_on trail) ≡ label_in dim code
   pub small_end : IsCode code

@@ -9,8 +9,9 @@ pub record Slot : Type 0 where
   pub node : Node ℕ ℕ
   pub is_killed : Bool
 
-abbrev pub held_code : Coded Slot
-held_code = code_by (Node ℕ ℕ × Bool) (coded× node_code coded_bool) (λ h. (h.node, h.is_killed)) (λ p. record { node = p.0; is_killed = p.1 }) (λ _. refl)
+abbrev pub slot_code : Coded Slot
+slot_code = code_by (Node ℕ ℕ × Bool) (coded× node_code coded_bool) (λ h. (h.node, h.is_killed))
+    (λ p. record { node = p.0; is_killed = p.1 }) (λ _. refl)
 
 abbrev pub node_in : Slot → Node ℕ ℕ
 node_in h = h.node

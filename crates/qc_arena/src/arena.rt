@@ -7,28 +7,28 @@ ghost use Rattle.std.specs.Option.{option_map};
 ghost use Rattle.std.specs.Ordering.{nat_cmp};
 ghost use Rattle.aggregates.specs.Views.{agg_in};
 ghost use Rattle.tree_laws.specs.Counts.{classes_in, links_in, tree_edges_in};
-ghost use Rattle.widen_laws.specs.Widened.{kept_by_number};
+ghost use Rattle.widen_laws.specs.Widened.{with_any_by_number};
 ghost use Rattle.qc_arena.specs.Changes.{AreNew, class_now, class_was};
 ghost use Rattle.qc_arena.specs.Edges.{with_edge, without_edge};
-ghost use Rattle.qc_arena.specs.Map.{AreRooted, CanChange, IsPlace, edges_in, frame, is_open, is_touched, new_record, no_nodes, over, shape_of, was_at, with_class, with_forced};
-ghost use Rattle.qc_arena.specs.Seen.{edge_of, record_at};
+ghost use Rattle.qc_arena.specs.Map.{AreRooted, CanChange, IsPlace, edges_in, frame, is_open, is_touched, new_record, no_nodes, overlaid, shape_of, was_at, with_class, with_forced};
+ghost use Rattle.qc_arena.specs.RecordReaders.{edge_of, record_at};
 
 use crate::Memory;
-use crate::changes::{changed, class_in_place};
+use crate::class_changes::{changed, class_in_place};
 use crate::counted::{record_in, tree_edges_of};
 use crate::edges::StoredEdge;
 use crate::images::Images;
-use crate::moved::Moved;
+use crate::measure_columns::MeasureColumns;
 use crate::nodes::{Forced, Nodes};
-use crate::parts::Parts;
-use crate::place::Place;
+use crate::place::NodeSlot;
 use crate::records::NodeRecord;
 use crate::slots::{
-    add_record, class_at, clear_all, copy_at, drop_edge_at, kill_at, put_back, record_of,
-    reserve_edges_at, resize_all, resize_from, set_class_at, set_edge_at, set_forced_at,
+    add_record, class_at, copy_at, drop_edge_at, free_killed, kill_at, record_of, reserve_edges_at,
+    resize_all, resize_from, restore_all, set_class_at, set_edge_at, set_forced_at,
 };
 use crate::touched::Touched;
 use crate::tree_totals::{Counts, TreeTotals};
+use crate::unsorted_images::UnsortedImages;
 use aggregates::Agg;
 use cell_core::{Code, NodeNo, Steps};
 use cube_defs::{MAX_DIMS, MAX_NODES};
@@ -39,7 +39,8 @@ use std::mem::replace;
 use std::sync::ledger::Ledger;
 
 /// A new arena has room for so many nodes. The C library gives each such list pages of its own, and
-/// makes it longer by mapping them elsewhere. A list that starts small is copied at each growth, and
+/// makes it longer by mapping them elsewhere. A list that starts small is copied at each growth,
+/// and
 /// leaves holes.
 const FIRST_ROOM: usize = 8_192;
 
@@ -56,10 +57,10 @@ pub enum ArenaRefused {
 /// before-image. So a rollback takes no memory.
 #[derive(Drop)]
 pub struct QcArena {
-    nodes: Slab<Place>,
-    parts: Parts,
+    nodes: Slab<NodeSlot>,
+    parts: MeasureColumns,
     images: Touched,
-    last: Moved,
+    last: UnsortedImages,
     is_open: bool,
     dims: u8,
     dims_then: u8,
@@ -87,7 +88,8 @@ impl Model for QcArena {
       last = a.last;
     } };
 
-    ghost invariant = { λ a. IsArena a.dims a.dims_then a.max a.nodes a.images a.is_open a.kept a.was × IsStored a.nodes a.parts };
+    ghost invariant = { λ a. IsArena a.dims a.dims_then a.max a.nodes a.images a.is_open a.kept
+        a.was × IsStored a.nodes a.parts };
 }
 
 impl QcArena {
@@ -106,7 +108,7 @@ impl QcArena {
             classes: 0,
             edges: 0,
         };
-        let parts = match Parts::with_room(alloc, FIRST_ROOM) {
+        let parts = match MeasureColumns::with_room(alloc, FIRST_ROOM) {
             Ok(parts) => parts,
             Err(error) => return Err(error),
         };
@@ -121,7 +123,7 @@ impl QcArena {
             nodes,
             parts,
             images: Touched::new(alloc),
-            last: Moved::none(alloc),
+            last: UnsortedImages::none(alloc),
             is_open: false,
             dims,
             dims_then: dims,
@@ -134,9 +136,14 @@ impl QcArena {
     /// Opens a batch. No node is touched yet.
     pub fn begin(&mut self)
         requires { is_open self.old ≡ false }
-        ensures { self.new ≡ record self.old { was = Some (shape_of self.old); touched = set.empty; last = map.empty } }
+        ensures { self.new ≡ record self.old {
+          was = Some (shape_of self.old);
+          touched
+              = set.empty;
+          last = map.empty;
+        } }
     {
-        self.last = Moved::none(self.images.allocator());
+        self.last = UnsortedImages::none(self.images.allocator());
         self.is_open = true;
     }
 
@@ -146,8 +153,13 @@ impl QcArena {
         requires opened { is_open self.old ≡ true }
         requires untouched { self.old.touched ≡ set.empty }
         requires few { self.old.width < MAX_DIMS }
-        ensures value { self.new ≡ record self.old { width = self.old.width + 1; now = self.new.now } }
-        ensures nodes { (q : ℕ) → map.get self.new.now q ≡ option_map kept_by_number (map.get self.old.now q) }
+        ensures value { self.new ≡ record self.old {
+          width = self.old.width + 1;
+          now
+              = self.new.now;
+        } }
+        ensures nodes { (q : ℕ)
+            → map.get self.new.now q ≡ option_map with_any_by_number (map.get self.old.now q) }
     {
         let dims = self.dims + 1;
         resize_all(&mut self.nodes, dims);
@@ -176,12 +188,15 @@ impl QcArena {
     ) -> Result<NodeNo, ArenaRefused>
         requires opened { is_open self.old ≡ true }
         requires under { IsPlace self.old.width self.old.now under }
-        ensures here { IfOk result (λ k. map.get self.new.now k.0 ≡ Some (new_record self.old.width self.old.now under)) }
-        ensures others { IfOk result (λ k. (q : ℕ) → q ≢ k.0 → map.get self.new.now q ≡ map.get self.old.now q) }
+        ensures here { IfOk result
+            (λ k. map.get self.new.now k.0 ≡ Some (new_record self.old.width self.old.now under)) }
+        ensures others { IfOk result (λ k. (q : ℕ) → q ≢ k.0
+            → map.get self.new.now q ≡ map.get self.old.now q) }
         ensures free { IfOk result (λ k. map.get self.old.now k.0 ≡ None) }
         ensures untouched { IfOk result (λ k. is_touched self.old k.0 ≡ false) }
         ensures unused { IfOk result (λ k. was_at self.old k.0 ≡ None) }
-        ensures touched { IfOk result (λ k. (q : ℕ) → is_touched self.new q ≡ (nat_eq k.0 q || is_touched self.old q)) }
+        ensures touched { IfOk result (λ k. (q : ℕ)
+            → is_touched self.new q ≡ (nat_eq k.0 q || is_touched self.old q)) }
         ensures frame { frame self.new ≡ frame self.old }
         ensures full { (result ≡ Err ArenaRefused.Full) ↔ (map.len self.old.now ≡ self.old.max) }
         ensures err { OnErr result (self.new ≡ self.old) }
@@ -205,7 +220,8 @@ impl QcArena {
     pub fn touch<L: Ledger>(&mut self, node: NodeNo, steps: &mut Steps<L>) -> Result<(), Memory>
         requires opened { is_open self.old ≡ true }
         requires node { IsSome (map.get self.old.now node.0) }
-        ensures touched { OnOk result ((q : ℕ) → is_touched self.new q ≡ (nat_eq node.0 q || is_touched self.old q)) }
+        ensures touched { OnOk result ((q : ℕ)
+            → is_touched self.new q ≡ (nat_eq node.0 q || is_touched self.old q)) }
         ensures now { self.new.now ≡ self.old.now }
         ensures frame { frame self.new ≡ frame self.old }
         ensures err { OnErr result (self.new ≡ self.old) }
@@ -243,7 +259,8 @@ impl QcArena {
         requires dim { dim < self.old.width }
         requires code { IsCode code }
         ensures here { OnOk result (map.get self.new.now node.0
-            ≡ option_map (with_edge (record { dim = dim; value = code; target = target.0 })) (map.get self.old.now node.0)) }
+            ≡ option_map (with_edge (record { dim = dim; value = code; target = target.0 }))
+            (map.get self.old.now node.0)) }
         ensures others { (q : ℕ) → q ≢ node.0 → map.get self.new.now q ≡ map.get self.old.now q }
         ensures touched { (q : ℕ) → is_touched self.new q ≡ is_touched self.old q }
         ensures frame { frame self.new ≡ frame self.old }
@@ -271,7 +288,8 @@ impl QcArena {
     /// Removes the edge with this label, if there is one.
     pub fn drop_edge<L: Ledger>(&mut self, node: NodeNo, dim: u8, code: Code, steps: &mut Steps<L>)
         requires change { CanChange self.old node.0 }
-        ensures here { map.get self.new.now node.0 ≡ option_map (without_edge dim code) (map.get self.old.now node.0) }
+        ensures here { map.get self.new.now node.0 ≡ option_map (without_edge dim code)
+            (map.get self.old.now node.0) }
         ensures others { (q : ℕ) → q ≢ node.0 → map.get self.new.now q ≡ map.get self.old.now q }
         ensures touched { (q : ℕ) → is_touched self.new q ≡ is_touched self.old q }
         ensures frame { frame self.new ≡ frame self.old }
@@ -301,7 +319,8 @@ impl QcArena {
     fn clear_place<L: Ledger>(&mut self, place: usize, steps: &mut Steps<L>) -> Result<(), Memory>
         requires { is_open self.old ≡ true }
         ensures here { OnOk result (map.get self.new.now place ≡ None) }
-        ensures others { OnOk result ((q : ℕ) → q ≢ place → map.get self.new.now q ≡ map.get self.old.now q) }
+        ensures others { OnOk result ((q : ℕ) → q ≢ place
+            → map.get self.new.now q ≡ map.get self.old.now q) }
         ensures frame { frame self.new ≡ frame self.old }
     {
         // So many nodes don't fit in memory.
@@ -345,7 +364,8 @@ impl QcArena {
     )
         requires change { CanChange self.old node.0 }
         requires code { IfSome forced (λ f. IsCode f.code) }
-        ensures here { map.get self.new.now node.0 ≡ option_map (with_forced (option_map edge_of forced)) (map.get self.old.now node.0) }
+        ensures here { map.get self.new.now node.0
+            ≡ option_map (with_forced (option_map edge_of forced)) (map.get self.old.now node.0) }
         ensures others { (q : ℕ) → q ≢ node.0 → map.get self.new.now q ≡ map.get self.old.now q }
         ensures touched { (q : ℕ) → is_touched self.new q ≡ is_touched self.old q }
         ensures frame { frame self.new ≡ frame self.old }
@@ -358,7 +378,8 @@ impl QcArena {
     /// Sets the aggregate of the node's class, or marks the node as no class.
     pub fn set_class<L: Ledger>(&mut self, node: NodeNo, class: Option<Agg>, steps: &mut Steps<L>)
         requires change { CanChange self.old node.0 }
-        ensures here { map.get self.new.now node.0 ≡ option_map (with_class (option_map agg_in class)) (map.get self.old.now node.0) }
+        ensures here { map.get self.new.now node.0
+            ≡ option_map (with_class (option_map agg_in class)) (map.get self.old.now node.0) }
         ensures others { (q : ℕ) → q ≢ node.0 → map.get self.new.now q ≡ map.get self.old.now q }
         ensures touched { (q : ℕ) → is_touched self.new q ≡ is_touched self.old q }
         ensures frame { frame self.new ≡ frame self.old }
@@ -375,12 +396,19 @@ impl QcArena {
     /// they are moved out. They are of no use if the batch added a dimension.
     pub fn commit(&mut self)
         requires { is_open self.old ≡ true }
-        ensures value { self.new ≡ record self.old { was = None; touched = set.empty; last = self.new.last } }
+        ensures value { self.new ≡ record self.old {
+          was = None;
+          touched = set.empty;
+          last
+              = self.new.last;
+        } }
         ensures last { IfSome self.old.was (λ shape. shape.width ≡ self.old.width →
-            (q : ℕ) → map.get self.new.last q ≡ (if is_touched self.old q then Some (was_at self.old q) else None)) }
-        ensures back { IfSome self.old.was (λ shape. shape.width ≡ self.old.width → over self.new.last self.new.now ≡ shape.tree) }
+            (q : ℕ) → map.get self.new.last q ≡ (if is_touched self.old q
+            then Some (was_at self.old q) else None)) }
+        ensures back { IfSome self.old.was (λ shape. shape.width ≡ self.old.width
+            → overlaid self.new.last self.new.now ≡ shape.tree) }
     {
-        clear_all(&mut self.nodes, &self.images);
+        free_killed(&mut self.nodes, &self.images);
         self.last = self.images.take();
         self.is_open = false;
         self.dims_then = self.dims;
@@ -396,7 +424,7 @@ impl QcArena {
         ensures max { self.new.max ≡ self.old.max }
         ensures last { self.new.last ≡ self.old.last }
     {
-        put_back(&mut self.nodes, &mut self.parts, &mut self.images);
+        restore_all(&mut self.nodes, &mut self.parts, &mut self.images);
         resize_from(&mut self.nodes, self.dims, self.dims_then);
         self.dims = self.dims_then;
         self.is_open = false;
@@ -409,7 +437,7 @@ impl QcArena {
         ensures images { result ≡ self.old.last }
         ensures rest { self.new ≡ record self.old { last = map.empty } }
     {
-        let none = Moved::none(self.images.allocator());
+        let none = UnsortedImages::none(self.images.allocator());
         replace(&mut self.last, none).sorted()
     }
 
@@ -417,7 +445,7 @@ impl QcArena {
     pub fn drop_images(&mut self)
         ensures { self.new ≡ record self.old { last = map.empty } }
     {
-        self.last = Moved::none(self.images.allocator());
+        self.last = UnsortedImages::none(self.images.allocator());
     }
 
     /// Whether there is a node with the number.
@@ -446,7 +474,8 @@ impl QcArena {
     /// class with a new aggregate counts.
     pub fn classes_added(&self, alloc: Global) -> Result<Vec<(NodeNo, Agg)>, Memory>
         requires { is_open self.now ≡ true }
-        ensures { IfOk result (λ pairs. AreNew (class_was self.now) (class_now self.now) pairs.items) }
+        ensures { IfOk result (λ pairs. AreNew (class_was self.now)
+            (class_now self.now) pairs.items) }
     {
         changed(alloc, &self.nodes, &self.parts, &self.images, true)
     }
@@ -455,7 +484,8 @@ impl QcArena {
     /// class with a new aggregate counts.
     pub fn classes_removed(&self, alloc: Global) -> Result<Vec<(NodeNo, Agg)>, Memory>
         requires { is_open self.now ≡ true }
-        ensures { IfOk result (λ pairs. AreNew (class_now self.now) (class_was self.now) pairs.items) }
+        ensures { IfOk result (λ pairs. AreNew (class_now self.now)
+            (class_was self.now) pairs.items) }
     {
         changed(alloc, &self.nodes, &self.parts, &self.images, false)
     }
@@ -489,7 +519,8 @@ impl QcArena {
     /// The number of edges, tree edges and links together.
     pub fn edge_total(&self) -> u64
         ensures value { result ≡ edges_in self.now.now }
-        ensures kinds { result ≡ tree_edges_in nat_cmp self.now.now + links_in nat_cmp self.now.now }
+        ensures kinds { result ≡ tree_edges_in nat_cmp self.now.now
+            + links_in nat_cmp self.now.now }
     {
         self.kept.edges
     }

@@ -6,11 +6,11 @@ ghost use Rattle.std.specs.Option.{option_or};
 ghost use Rattle.std.specs.List.Sorted.{IsSorted, IsSortedByKey};
 ghost use Rattle.std.specs.Ordering.{nat_cmp};
 ghost use Rattle.qc_arena.specs.Entries.{IsOnce, all_new, entry_number};
-ghost use Rattle.qc_arena.specs.Looks.{seen};
+ghost use Rattle.qc_arena.specs.Looks.{look_of_image};
 
 use crate::image::{Image, Record};
-use crate::lists::Lists;
 use crate::merge::Merge;
+use crate::sorted_images::SortedImages;
 use cell_core::NodeNo;
 use std::marker::Model;
 use std::mem::replace;
@@ -47,7 +47,8 @@ impl Model for Images {
 
     ghost view = { λ i. map.from_entries (i.changed.items ++ all_new i.added.items) };
 
-    ghost invariant = { λ i. IsOnce (i.changed.items ++ all_new i.added.items) × IsSortedByKey entry_number nat_cmp i.changed.items
+    ghost invariant = { λ i. IsOnce (i.changed.items ++ all_new i.added.items)
+        × IsSortedByKey entry_number nat_cmp i.changed.items
         × IsSorted nat_cmp i.added.items };
 }
 
@@ -64,7 +65,7 @@ impl Images {
 
     /// The before-image of a number, by two binary searches.
     pub fn look(&self, node: NodeNo) -> Look<'_>
-        ensures { seen result ≡ map.get self.now node.0 }
+        ensures { look_of_image result ≡ map.get self.now node.0 }
     {
         if let Some(at) = place_of(&self.changed, node.0) {
             let (_, image) = &self.changed[at];
@@ -88,22 +89,23 @@ impl Images {
 
     /// Merges the before-images of a later batch into these. If both have an image of a number, the
     /// earlier one stays. If memory runs out, the later ones are given back and nothing changes.
-    pub fn take_in(&mut self, later: Images) -> Result<(), Images>
-        ensures ok { OnOk result ((q : ℕ) → map.get self.new q ≡ option_or (map.get self.old q) (map.get later q)) }
+    pub fn merge_later(&mut self, later: Images) -> Result<(), Images>
+        ensures ok { OnOk result ((q : ℕ)
+            → map.get self.new q ≡ option_or (map.get self.old q) (map.get later q)) }
         ensures err { IfErr result (λ same. same ≡ later) }
         ensures kept { OnErr result (self.new ≡ self.old) }
     {
         let alloc = *self.added.allocator();
         let changed = self.changed.len() + later.changed.len();
         let added = self.added.len() + later.added.len();
-        let Ok(room) = Lists::with_room(alloc, changed, added) else {
+        let Ok(room) = SortedImages::with_room(alloc, changed, added) else {
             return Err(later);
         };
-        let older = Lists {
+        let older = SortedImages {
             changed: replace(&mut self.changed, Vec::new(alloc)),
             added: replace(&mut self.added, Vec::new(alloc)),
         };
-        let later = Lists {
+        let later = SortedImages {
             changed: later.changed,
             added: later.added,
         };
@@ -116,7 +118,8 @@ impl Images {
 fn place_of(changed: &Vec<(u32, Image)>, node: u32) -> Option<usize>
     requires { IsSortedByKey entry_number nat_cmp changed.now.items }
     ensures within { IfSome result (λ k. k < length changed.now.items) }
-    ensures some { IfSome result (λ k. (d : _) → entry_number (slice_index_or changed.now.items k d) ≡ node) }
+    ensures some { IfSome result (λ k. (d : _)
+        → entry_number (slice_index_or changed.now.items k d) ≡ node) }
     ensures none { IfNone result (lookup (nat_eq node) changed.now.items ≡ None) }
 {
     match changed.binary_search_by_key(&node, |entry| entry.0) {
@@ -128,7 +131,8 @@ fn place_of(changed: &Vec<(u32, Image)>, node: u32) -> Option<usize>
 // Whether a number is among sorted ones.
 fn is_new(added: &Vec<u32>, node: u32) -> bool
     requires { IsSorted nat_cmp added.now.items }
-    ensures { lookup (nat_eq node) (all_new added.now.items) ≡ (if result then Some None else None) }
+    ensures { lookup (nat_eq node) (all_new added.now.items)
+        ≡ (if result then Some None else None) }
 {
     match added.binary_search(&node) {
         Ok(_) => true,

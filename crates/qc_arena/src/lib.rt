@@ -2,23 +2,23 @@
 #![tactic(auto)]
 
 mod arena;
-mod changes;
+mod class_changes;
 mod counted;
 mod edges;
 mod image;
 mod images;
-mod lists;
+mod label_path;
+mod measure_columns;
 mod merge;
-mod moved;
 mod nodes;
-mod parts;
 mod place;
 mod records;
 mod same;
 mod slots;
+mod sorted_images;
 mod touched;
-mod trail;
 mod tree_totals;
+mod unsorted_images;
 
 pub use arena::{ArenaRefused, QcArena};
 pub use cube_defs::Memory;

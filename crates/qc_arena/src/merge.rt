@@ -8,16 +8,16 @@ ghost use Rattle.qc_arena.specs.Entries.{IsOnce};
 ghost use Rattle.qc_arena.specs.Merges.{AreRising, IsMerge, all_in, count_in};
 
 use crate::images::Images;
-use crate::lists::{Entry, Lists, larger};
-use crate::moved::Moved;
+use crate::sorted_images::{Entry, SortedImages, larger};
+use crate::unsorted_images::UnsortedImages;
 use std::marker::Model;
 
 /// The lists to be merged, the entries that are merged already, and how many are left.
 #[derive(Drop)]
 pub(crate) struct Merge {
-    older: Lists,
-    later: Lists,
-    merged: Lists,
+    older: SortedImages,
+    later: SortedImages,
+    merged: SortedImages,
 }
 
 impl Model for Merge {
@@ -33,7 +33,10 @@ impl Model for Merge {
 
     ghost coded = { coded× images_code coded_ℕ };
 
-    ghost view = { λ m. (map.from_entries (all_in m.merged ++ (all_in m.older ++ all_in m.later)), count_in m.older + count_in m.later) };
+    ghost view = { λ m. (
+      map.from_entries (all_in m.merged ++ (all_in m.older ++ all_in m.later)),
+      count_in m.older + count_in m.later,
+    ) };
 
     ghost invariant = { λ m. IsMerge m.older m.later m.merged };
 }
@@ -50,12 +53,14 @@ fn first(older: Option<Entry>, later: Option<Entry>) -> Option<Entry>
 
 impl Merge {
     // A merge that hasn't begun.
-    pub(crate) fn of(older: Lists, later: Lists, merged: Lists) -> Merge
+    pub(crate) fn of(older: SortedImages, later: SortedImages, merged: SortedImages) -> Merge
         requires older { AreRising older }
         requires later { AreRising later }
         requires none { all_in merged ≡ [] }
-        requires changed { length older.changed.items + length later.changed.items ≤ vec_capacity merged.changed }
-        requires added { length older.added.items + length later.added.items ≤ vec_capacity merged.added }
+        requires changed { length older.changed.items + length later.changed.items
+            ≤ vec_capacity merged.changed }
+        requires added { length older.added.items + length later.added.items
+            ≤ vec_capacity merged.added }
         ensures { result.0 ≡ map.from_entries (all_in older ++ all_in later) }
     {
         Merge {
@@ -89,7 +94,7 @@ impl Merge {
         requires { self.1 ≡ 0 }
         ensures { result ≡ self.0 }
     {
-        Moved::of(self.merged.changed, self.merged.added).sorted()
+        UnsortedImages::of(self.merged.changed, self.merged.added).sorted()
     }
 
     // Merges all entries.

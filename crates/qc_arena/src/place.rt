@@ -8,7 +8,7 @@ ghost use Rattle.qc_arena.specs.Slot.{node_in};
 ghost use Rattle.qc_arena.specs.Map.{with_class, with_forced};
 ghost use Rattle.cube_defs.specs.Cell.{depth};
 ghost use Rattle.qc_arena.specs.Resized.{resized};
-ghost use Rattle.qc_arena.specs.Seen.{edge_of, record_or};
+ghost use Rattle.qc_arena.specs.RecordReaders.{edge_of, record_or};
 
 use crate::Memory;
 use crate::edges::StoredEdge;
@@ -22,13 +22,13 @@ use std::marker::Model;
 /// The place of a number: the record of its node, or nothing after the node was killed. The record
 /// of a killed node stays in memory, but no reader sees it.
 #[derive(Drop)]
-pub(crate) struct Place {
+pub(crate) struct NodeSlot {
     rec: NodeRecord,
 }
 
-const _: () = prove!(size_of::<Place>() == 56);
+const _: () = prove!(size_of::<NodeSlot>() == 56);
 
-impl Model for Place {
+impl Model for NodeSlot {
     ghost use Rattle.std.specs.Prelude.{Option, ℕ};
     ghost use Rattle.std.specs.Coded.{coded_option};
     ghost use Rattle.cube_defs.specs.Tree.{Node};
@@ -43,11 +43,11 @@ impl Model for Place {
     ghost view = { λ p. standing p.rec };
 }
 
-impl Place {
-    pub(crate) fn of(rec: NodeRecord) -> Place
+impl NodeSlot {
+    pub(crate) fn of(rec: NodeRecord) -> NodeSlot
         ensures { result ≡ Some rec.node }
     {
-        Place { rec: rec.alive() }
+        NodeSlot { rec: rec.alive() }
     }
 
     pub(crate) fn is_killed(&self) -> bool

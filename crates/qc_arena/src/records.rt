@@ -9,12 +9,12 @@ ghost use Rattle.tree_laws.specs.Walk.{last_label, target_at};
 ghost use Rattle.qc_arena.specs.Edges.{edge_to, rises, with_edge, without_edge};
 ghost use Rattle.qc_arena.specs.Map.{bare, with_class, with_forced};
 ghost use Rattle.qc_arena.specs.Resized.{resized};
-ghost use Rattle.qc_arena.specs.Seen.{edge_of, label_lt, number};
+ghost use Rattle.qc_arena.specs.RecordReaders.{edge_of, label_lt, number};
 
 use crate::Memory;
 use crate::edges::{StoredEdge, put, take, target_in};
+use crate::label_path::LabelPath;
 use crate::nodes::Forced;
-use crate::trail::Trail;
 use aggregates::Agg;
 use cell_core::{Code, NodeNo};
 use cube_defs::{MAX_DIMS, MAX_MEASURES};
@@ -34,8 +34,8 @@ const NO_CODE: u32 = u32::MAX;
 /// in the record itself, and more edges lie in a list.
 #[derive(Drop)]
 pub(crate) struct NodeRecord {
-    trail: Trail<u8, u32>,
-    noted: Trail<u32, Agg>,
+    trail: LabelPath<u8, u32>,
+    noted: LabelPath<u32, Agg>,
     edges: SmallVec<StoredEdge, 1>,
     parent: u32,
     code: Code,
@@ -52,18 +52,30 @@ impl Model for NodeRecord {
     ghost use Rattle.std.specs.Prelude.{ℕ};
     ghost use Rattle.std.specs.Option.{option_map};
     ghost use Rattle.aggregates.specs.Views.{agg_in};
-    ghost use Rattle.qc_arena.specs.Slot.{Slot, held_code};
+    ghost use Rattle.qc_arena.specs.Slot.{Slot, slot_code};
 
     ghost Value = { Slot };
 
-    ghost coded = { held_code };
+    ghost coded = { slot_code };
 
     ghost use Rattle.qc_arena.specs.Edges.{edges_to};
-    ghost use Rattle.qc_arena.specs.NodeRecord.{IsRec, cell_on, class_on, forced_in, parent_in};
+    ghost use Rattle.qc_arena.specs.NodeRecord.{IsNodeRecord, cell_on, class_on, forced_in, parent_in};
 
-    ghost view = { λ r. record { node = record { cell = cell_on r.trail.items; parent = parent_in r.dim r.parent; class = class_on r.noted.items; forced = forced_in r.forced_dim r.forced_code r.forced_child; edges = edges_to r.edges.items }; is_killed = r.is_killed } };
+    ghost view = { λ r. record {
+      node
+          = record {
+            cell = cell_on r.trail.items;
+            parent = parent_in r.dim r.parent;
+            class
+                = class_on r.noted.items;
+            forced = forced_in r.forced_dim r.forced_code r.forced_child;
+            edges = edges_to r.edges.items;
+          };
+      is_killed = r.is_killed;
+    } };
 
-    ghost invariant = { λ r. IsRec r.trail.items r.noted.items r.dim r.code r.forced_code r.count r.measures r.edges.items };
+    ghost invariant = { λ r. IsNodeRecord r.trail.items r.noted.items r.dim r.code r.forced_code
+        r.count r.measures r.edges.items };
 }
 
 impl NodeRecord {
@@ -72,10 +84,10 @@ impl NodeRecord {
         requires { dims ≤ MAX_DIMS }
         ensures { result.node ≡ bare (replicate dims None) None }
     {
-        let nothing = Trail::<u8, u32>::new();
+        let nothing = LabelPath::<u8, u32>::new();
         NodeRecord {
             trail: nothing.and(&dims, &0),
-            noted: Trail::<u32, Agg>::new(),
+            noted: LabelPath::<u32, Agg>::new(),
             edges: SmallVec::new(alloc),
             parent: 0,
             code: 0,
@@ -98,7 +110,7 @@ impl NodeRecord {
     {
         NodeRecord {
             trail: self.trail.and(&dim, &code),
-            noted: Trail::<u32, Agg>::new(),
+            noted: LabelPath::<u32, Agg>::new(),
             edges: SmallVec::new(*self.edges.allocator()),
             parent: node.0,
             code,
@@ -139,7 +151,8 @@ impl NodeRecord {
     // edges before and after.
     pub(crate) fn set_edge(&mut self, edge: StoredEdge) -> Result<(u32, u32), Memory>
         requires { IsCode edge.code }
-        ensures ok { OnOk result (self.new ≡ record self.old { node = with_edge (edge_to edge) self.old.node }) }
+        ensures ok { OnOk result
+            (self.new ≡ record self.old { node = with_edge (edge_to edge) self.old.node }) }
         ensures had { IfOk result (λ n. n.0 ≡ length self.old.node.edges) }
         ensures has { IfOk result (λ n. n.1 ≡ length self.new.node.edges) }
         ensures err { OnErr result (self.new ≡ self.old) }
@@ -160,7 +173,10 @@ impl NodeRecord {
 
     // Removes the edge with a label, if there is one. Gives the number of edges before and after.
     pub(crate) fn drop_edge(&mut self, dim: u8, code: Code) -> (u32, u32)
-        ensures dropped { self.new ≡ record self.old { node = without_edge dim code self.old.node } }
+        ensures dropped { self.new ≡ record self.old {
+          node
+              = without_edge dim code self.old.node;
+        } }
         ensures had { result.0 ≡ length self.old.node.edges }
         ensures has { result.1 ≡ length self.new.node.edges }
     {
@@ -171,7 +187,10 @@ impl NodeRecord {
 
     pub(crate) fn set_forced(&mut self, forced: Option<Forced>)
         requires { IfSome forced (λ f. IsCode f.code) }
-        ensures { self.new ≡ record self.old { node = with_forced (option_map edge_of forced) self.old.node } }
+        ensures { self.new ≡ record self.old {
+          node
+              = with_forced (option_map edge_of forced) self.old.node;
+        } }
     {
         match forced {
             Some(edge) => {
@@ -186,9 +205,12 @@ impl NodeRecord {
     // Sets COUNT and the number of measures. The other parts of the aggregate are stored elsewhere.
     pub(crate) fn set_class(&mut self, class: Option<Agg>)
         requires { IfSome class (λ a. length a.parts ≡ MAX_MEASURES) }
-        ensures { self.new ≡ record self.old { node = with_class (option_map agg_in class) self.old.node } }
+        ensures { self.new ≡ record self.old {
+          node
+              = with_class (option_map agg_in class) self.old.node;
+        } }
     {
-        let none = Trail::<u32, Agg>::new();
+        let none = LabelPath::<u32, Agg>::new();
         match class {
             Some(agg) => {
                 self.noted = none.and(&0, &agg);
@@ -246,8 +268,10 @@ impl NodeRecord {
 
     // Whether two nodes have the same last value, or none each.
     pub(crate) fn shares_end(&self, other: &NodeRecord) -> bool
-        ensures same { result ≡ true → last_label self.now.node.cell ≡ last_label other.now.node.cell }
-        ensures apart { result ≡ false → last_label self.now.node.cell ≢ last_label other.now.node.cell }
+        ensures same { result ≡ true
+            → last_label self.now.node.cell ≡ last_label other.now.node.cell }
+        ensures apart { result ≡ false
+            → last_label self.now.node.cell ≢ last_label other.now.node.cell }
     {
         match self.end_of() {
             None => other.end_of().is_none(),
@@ -289,8 +313,10 @@ impl NodeRecord {
 
     // COUNT and the number of measures. None if the node is no class.
     pub(crate) fn heading(&self) -> Option<(u32, u8)>
-        ensures count { option_map (λ h. h.0) result ≡ option_map (λ a. a.count) self.now.node.class }
-        ensures measures { option_map (λ h. h.1) result ≡ option_map (λ a. length a.parts) self.now.node.class }
+        ensures count { option_map (λ h. h.0) result
+            ≡ option_map (λ a. a.count) self.now.node.class }
+        ensures measures { option_map (λ h. h.1) result
+            ≡ option_map (λ a. length a.parts) self.now.node.class }
     {
         if self.count == 0 {
             return None;
@@ -299,7 +325,8 @@ impl NodeRecord {
     }
 
     pub(crate) fn edge(&self, dim: u8, code: Code) -> Option<NodeNo>
-        ensures value { option_map number result ≡ target_at (eq_by_cmp nat_cmp) dim code self.now.node.edges }
+        ensures value { option_map number result
+            ≡ target_at (eq_by_cmp nat_cmp) dim code self.now.node.edges }
         ensures rising { rises self.now.node.edges ≡ true }
     {
         target_in(self.edges.as_slice(), dim, code)
@@ -307,7 +334,8 @@ impl NodeRecord {
 
     pub(crate) fn edge_count(&self) -> u32
         ensures value { result ≡ length self.now.node.edges }
-        ensures rising { (i j : ℕ) (e f : _) → i < j → slice_get self.now.node.edges i ≡ Some e → slice_get self.now.node.edges j ≡ Some f →
+        ensures rising { (i j : ℕ) (e f : _) → i < j → slice_get self.now.node.edges i ≡ Some e
+            → slice_get self.now.node.edges j ≡ Some f →
             label_lt e f ≡ true }
     {
         self.edges.len() as u32
@@ -315,7 +343,8 @@ impl NodeRecord {
 
     pub(crate) fn edge_at(&self, k: u32) -> (u8, Code, NodeNo)
         requires { k < length self.now.node.edges }
-        ensures value { slice_get self.now.node.edges k ≡ Some (record { dim = result.0; value = result.1; target = result.2.0 }) }
+        ensures value { slice_get self.now.node.edges k
+            ≡ Some (record { dim = result.0; value = result.1; target = result.2.0 }) }
         ensures small { IsCode result.1 }
     {
         let edges = self.edges.as_slice();

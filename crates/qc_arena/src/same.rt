@@ -23,7 +23,8 @@ fn same_parts(
     ensures same { result ≡ true → (k : ℕ) → k < measures →
         part_in (slice_index_or a.now k zero_part) ≡ part_in (slice_index_or b.now k zero_part) }
     ensures other { result ≡ false → (k : ℕ) × (k < measures)
-        × (part_in (slice_index_or a.now k zero_part) ≢ part_in (slice_index_or b.now k zero_part)) }
+        × (part_in (slice_index_or a.now k zero_part)
+        ≢ part_in (slice_index_or b.now k zero_part)) }
     ensures four_a { length a.now ≡ MAX_MEASURES }
     ensures four_b { length b.now ≡ MAX_MEASURES }
 {

@@ -6,20 +6,20 @@ ghost use Rattle.std.specs.Ordering.{nat_cmp};
 ghost use Rattle.aggregates.specs.Views.{agg_in};
 ghost use Rattle.slab.specs.Slab as slots;
 ghost use Rattle.cube_defs.specs.Cell.{cell_eq, depth};
-ghost use Rattle.tree_laws.specs.Counts.{is_under};
+ghost use Rattle.tree_laws.specs.Counts.{is_parent_of};
 ghost use Rattle.qc_arena.specs.Edges.{edge_to, with_edge, without_edge};
 ghost use Rattle.qc_arena.specs.Inside.{IsRooted, image_at, image_or, join};
 ghost use Rattle.qc_arena.specs.Map.{with_class, with_forced};
 ghost use Rattle.qc_arena.specs.Parts.{HasRoom, IsShown, IsStored, shown};
 ghost use Rattle.qc_arena.specs.Resized.{resized};
-ghost use Rattle.qc_arena.specs.Seen.{edge_of, record_or};
+ghost use Rattle.qc_arena.specs.RecordReaders.{edge_of, record_or};
 
 use crate::Memory;
 use crate::edges::StoredEdge;
 use crate::image::{Image, Record};
+use crate::measure_columns::MeasureColumns;
 use crate::nodes::Forced;
-use crate::parts::Parts;
-use crate::place::Place;
+use crate::place::NodeSlot;
 use crate::records::NodeRecord;
 use crate::touched::Touched;
 use aggregates::Agg;
@@ -29,16 +29,16 @@ use slab::Slab;
 use std::alloc::AllocError;
 
 // Writes a record into a place.
-fn write_slot(nodes: &mut Slab<Place>, node: u32, rec: NodeRecord)
+fn write_slot(nodes: &mut Slab<NodeSlot>, node: u32, rec: NodeRecord)
     requires { slots.ContainsKey nodes.old node }
     ensures here { slots.get nodes.new node ≡ Some (Some rec.node) }
     ensures others { (q : ℕ) → q ≢ node → slots.get nodes.new q ≡ slots.get nodes.old q }
 {
-    nodes[node as usize] = Place::of(rec);
+    nodes[node as usize] = NodeSlot::of(rec);
 }
 
 // Restores a node from its before-image: the record that it had, or none.
-fn put_image(nodes: &mut Slab<Place>, parts: &mut Parts, node: u32, image: Image)
+fn put_image(nodes: &mut Slab<NodeSlot>, parts: &mut MeasureColumns, node: u32, image: Image)
     requires placed { slots.ContainsKey nodes.old node }
     requires stored { IsStored nodes.old parts.old }
     ensures now { join (slots.get nodes.new node) ≡ image }
@@ -59,7 +59,7 @@ fn put_image(nodes: &mut Slab<Place>, parts: &mut Parts, node: u32, image: Image
 }
 
 // Frees the place of a killed node.
-fn clear_killed(nodes: &mut Slab<Place>, node: u32)
+fn clear_killed(nodes: &mut Slab<NodeSlot>, node: u32)
     requires { slots.ContainsKey nodes.old node }
     ensures now { (q : ℕ) → join (slots.get nodes.new q) ≡ join (slots.get nodes.old q) }
     ensures here { slots.get nodes.new node ≢ Some None }
@@ -71,7 +71,11 @@ fn clear_killed(nodes: &mut Slab<Place>, node: u32)
 }
 
 // Restores each touched node from its before-image, and removes the new nodes.
-pub(crate) fn put_back(nodes: &mut Slab<Place>, parts: &mut Parts, images: &mut Touched)
+pub(crate) fn restore_all(
+    nodes: &mut Slab<NodeSlot>,
+    parts: &mut MeasureColumns,
+    images: &mut Touched,
+)
     requires stored { IsStored nodes.old parts.old }
     requires placed { (q : ℕ) → IsSome (image_at images.old q) → slots.ContainsKey nodes.old q }
     requires killed { (q : ℕ) → slots.get nodes.old q ≡ Some None → IsSome (image_at images.old q) }
@@ -86,7 +90,7 @@ pub(crate) fn put_back(nodes: &mut Slab<Place>, parts: &mut Parts, images: &mut 
 }
 
 // Frees the places of the killed nodes.
-pub(crate) fn clear_all(nodes: &mut Slab<Place>, images: &Touched)
+pub(crate) fn free_killed(nodes: &mut Slab<NodeSlot>, images: &Touched)
     requires placed { (q : ℕ) → IsSome (image_at images.now q) → slots.ContainsKey nodes.old q }
     requires killed { (q : ℕ) → slots.get nodes.old q ≡ Some None → IsSome (image_at images.now q) }
     ensures nodes { (q : ℕ) → join (slots.get nodes.new q) ≡ join (slots.get nodes.old q) }
@@ -98,11 +102,12 @@ pub(crate) fn clear_all(nodes: &mut Slab<Place>, images: &Touched)
 }
 
 // Gives the cell of the node at a place another number of dimensions, if there is one.
-fn resize_at(nodes: &mut Slab<Place>, place: usize, dims: u8)
+fn resize_at(nodes: &mut Slab<NodeSlot>, place: usize, dims: u8)
     requires few { dims ≤ MAX_DIMS }
     requires none_killed { slots.get nodes.old place ≢ Some None }
     requires deep { IfSome (join (slots.get nodes.old place)) (λ n. depth n.cell ≤ dims) }
-    ensures here { join (slots.get nodes.new place) ≡ option_map (resized dims) (join (slots.get nodes.old place)) }
+    ensures here { join (slots.get nodes.new place) ≡ option_map (resized dims)
+        (join (slots.get nodes.old place)) }
     ensures none_killed { slots.get nodes.new place ≢ Some None }
     ensures others { (q : ℕ) → q ≢ place → slots.get nodes.new q ≡ slots.get nodes.old q }
 {
@@ -112,11 +117,12 @@ fn resize_at(nodes: &mut Slab<Place>, place: usize, dims: u8)
 }
 
 // Gives each cell another number of dimensions.
-pub(crate) fn resize_all(nodes: &mut Slab<Place>, dims: u8)
+pub(crate) fn resize_all(nodes: &mut Slab<NodeSlot>, dims: u8)
     requires few { dims ≤ MAX_DIMS }
     requires none_killed { (q : ℕ) → slots.get nodes.old q ≢ Some None }
     requires deep { (q : ℕ) → IfSome (join (slots.get nodes.old q)) (λ n. depth n.cell ≤ dims) }
-    ensures nodes { (q : ℕ) → join (slots.get nodes.new q) ≡ option_map (resized dims) (join (slots.get nodes.old q)) }
+    ensures nodes { (q : ℕ)
+        → join (slots.get nodes.new q) ≡ option_map (resized dims) (join (slots.get nodes.old q)) }
     ensures none_killed { (q : ℕ) → slots.get nodes.new q ≢ Some None }
 {
     'places: for place in 0..nodes.capacity() {
@@ -125,12 +131,13 @@ pub(crate) fn resize_all(nodes: &mut Slab<Place>, dims: u8)
 }
 
 // Gives each cell another number of dimensions, if the number differs.
-pub(crate) fn resize_from(nodes: &mut Slab<Place>, had: u8, dims: u8)
+pub(crate) fn resize_from(nodes: &mut Slab<NodeSlot>, had: u8, dims: u8)
     requires few { dims ≤ MAX_DIMS }
     requires none_killed { (q : ℕ) → slots.get nodes.old q ≢ Some None }
     requires deep { (q : ℕ) → IfSome (join (slots.get nodes.old q)) (λ n. depth n.cell ≤ dims) }
     requires had { (q : ℕ) → IfSome (join (slots.get nodes.old q)) (λ n. length n.cell ≡ had) }
-    ensures nodes { (q : ℕ) → join (slots.get nodes.new q) ≡ option_map (resized dims) (join (slots.get nodes.old q)) }
+    ensures nodes { (q : ℕ)
+        → join (slots.get nodes.new q) ≡ option_map (resized dims) (join (slots.get nodes.old q)) }
     ensures none_killed { (q : ℕ) → slots.get nodes.new q ≢ Some None }
 {
     if had != dims {
@@ -139,7 +146,7 @@ pub(crate) fn resize_from(nodes: &mut Slab<Place>, had: u8, dims: u8)
 }
 
 // Makes room for a node, and gives its number.
-fn reserve_slot(nodes: &mut Slab<Place>) -> Result<u32, Memory>
+fn reserve_slot(nodes: &mut Slab<NodeSlot>) -> Result<u32, Memory>
     ensures number { IfOk result (λ k. k ≡ nodes.new.vacant_key) }
     ensures free { IfOk result (λ k. slots.get nodes.new k ≡ None) }
     ensures room { OnOk result (slots.HasRoomFor nodes.new 1) }
@@ -158,8 +165,8 @@ fn reserve_slot(nodes: &mut Slab<Place>) -> Result<u32, Memory>
 
 // Makes room for a node, and marks its number as new.
 fn reserve_node(
-    nodes: &mut Slab<Place>,
-    parts: &mut Parts,
+    nodes: &mut Slab<NodeSlot>,
+    parts: &mut MeasureColumns,
     images: &mut Touched,
 ) -> Result<u32, Memory>
     requires { (q : ℕ) → IsSome (image_at images.old q) → slots.ContainsKey nodes.old q }
@@ -170,7 +177,8 @@ fn reserve_node(
     ensures free { IfOk result (λ k. slots.get nodes.old k ≡ None) }
     ensures slot { OnOk result (slots.HasRoomFor nodes.new 1) }
     ensures slots { nodes.new.slots ≡ nodes.old.slots }
-    ensures images { IfOk result (λ k. (q : ℕ) → image_at images.new q ≡ (if nat_eq k q then Some None else image_at images.old q)) }
+    ensures images { IfOk result (λ k. (q : ℕ)
+        → image_at images.new q ≡ (if nat_eq k q then Some None else image_at images.old q)) }
     ensures err_images { OnErr result (images.new ≡ images.old) }
 {
     let node = match reserve_slot(nodes) {
@@ -189,8 +197,8 @@ fn reserve_node(
 
 // Puts a new record at a free number, and marks it as new.
 pub(crate) fn add_record(
-    nodes: &mut Slab<Place>,
-    parts: &mut Parts,
+    nodes: &mut Slab<NodeSlot>,
+    parts: &mut MeasureColumns,
     images: &mut Touched,
     new: NodeRecord,
 ) -> Result<u32, Memory>
@@ -200,14 +208,16 @@ pub(crate) fn add_record(
     ensures room_here { IfOk result (λ k. HasRoom parts.new k) }
     ensures free { IfOk result (λ k. slots.get nodes.old k ≡ None) }
     ensures here { IfOk result (λ k. slots.get nodes.new k ≡ Some (Some new.node)) }
-    ensures others { IfOk result (λ k. (q : ℕ) → q ≢ k → slots.get nodes.new q ≡ slots.get nodes.old q) }
-    ensures images { IfOk result (λ k. (q : ℕ) → image_at images.new q ≡ (if nat_eq k q then Some None else image_at images.old q)) }
+    ensures others { IfOk result (λ k. (q : ℕ) → q ≢ k
+        → slots.get nodes.new q ≡ slots.get nodes.old q) }
+    ensures images { IfOk result (λ k. (q : ℕ)
+        → image_at images.new q ≡ (if nat_eq k q then Some None else image_at images.old q)) }
     ensures err_nodes { OnErr result (nodes.new.slots ≡ nodes.old.slots) }
     ensures err_images { OnErr result (images.new ≡ images.old) }
 {
     match reserve_node(nodes, parts, images) {
         Ok(node) => {
-            nodes.insert_reserved(Place::of(new));
+            nodes.insert_reserved(NodeSlot::of(new));
             Ok(node)
         }
         Err(error) => {
@@ -218,7 +228,7 @@ pub(crate) fn add_record(
 }
 
 // The record of a node.
-pub(crate) fn record_of(nodes: &Slab<Place>, node: usize) -> &NodeRecord
+pub(crate) fn record_of(nodes: &Slab<NodeSlot>, node: usize) -> &NodeRecord
     requires { IsSome (join (slots.get nodes.now node)) }
     ensures { join (slots.get nodes.now node) ≡ Some result.now.node }
 {
@@ -229,13 +239,15 @@ pub(crate) fn record_of(nodes: &Slab<Place>, node: usize) -> &NodeRecord
 }
 
 // Whether two nodes have the same cell. Compares the labels on the way up.
-fn same_cell(nodes: &Slab<Place>, node: usize, other: usize) -> bool
+fn same_cell(nodes: &Slab<NodeSlot>, node: usize, other: usize) -> bool
     requires node { IsSome (join (slots.get nodes.now node)) }
     requires other { IsSome (join (slots.get nodes.now other)) }
     requires cells { (k : ℕ) → IsSome (join (slots.get nodes.now k)) →
-        length (record_or (join (slots.get nodes.now k))).cell ≡ length (record_or (join (slots.get nodes.now node))).cell }
+        length (record_or (join (slots.get nodes.now k))).cell
+        ≡ length (record_or (join (slots.get nodes.now node))).cell }
     requires rooted { IsRooted nodes.now }
-    ensures { result ≡ cell_eq nat_eq (record_or (join (slots.get nodes.now node))).cell (record_or (join (slots.get nodes.now other))).cell }
+    ensures { result ≡ cell_eq nat_eq (record_or (join (slots.get nodes.now node))).cell
+        (record_or (join (slots.get nodes.now other))).cell }
 {
     let mut left = node;
     let mut right = other;
@@ -258,13 +270,15 @@ fn same_cell(nodes: &Slab<Place>, node: usize, other: usize) -> bool
 }
 
 // Whether an edge between two nodes is a tree edge.
-pub(crate) fn is_child(nodes: &Slab<Place>, node: usize, target: u32) -> bool
+pub(crate) fn is_child(nodes: &Slab<NodeSlot>, node: usize, target: u32) -> bool
     requires node { IsSome (join (slots.get nodes.now node)) }
     requires target { IsSome (join (slots.get nodes.now target)) }
     requires cells { (k : ℕ) → IsSome (join (slots.get nodes.now k)) →
-        length (record_or (join (slots.get nodes.now k))).cell ≡ length (record_or (join (slots.get nodes.now node))).cell }
+        length (record_or (join (slots.get nodes.now k))).cell
+        ≡ length (record_or (join (slots.get nodes.now node))).cell }
     requires rooted { IsRooted nodes.now }
-    ensures { result ≡ is_under nat_cmp (record_or (join (slots.get nodes.now node))).cell (Some (record_or (join (slots.get nodes.now target))).cell) }
+    ensures { result ≡ is_parent_of nat_cmp (record_or (join (slots.get nodes.now node))).cell
+        (Some (record_or (join (slots.get nodes.now target))).cell) }
 {
     match record_of(nodes, target as usize).parent() {
         None => false,
@@ -273,9 +287,10 @@ pub(crate) fn is_child(nodes: &Slab<Place>, node: usize, target: u32) -> bool
 }
 
 // The aggregate of a node, if it is a class.
-pub(crate) fn class_at(nodes: &Slab<Place>, parts: &Parts, node: u32) -> Option<Agg>
+pub(crate) fn class_at(nodes: &Slab<NodeSlot>, parts: &MeasureColumns, node: u32) -> Option<Agg>
     requires node { IsSome (join (slots.get nodes.now node)) }
-    requires parts { IfSome (record_or (join (slots.get nodes.now node))).class (λ a. IsShown (shown parts.now node) a) }
+    requires parts { IfSome (record_or (join (slots.get nodes.now node))).class
+        (λ a. IsShown (shown parts.now node) a) }
     ensures { option_map agg_in result ≡ (record_or (join (slots.get nodes.now node))).class }
 {
     match record_of(nodes, node as usize).heading() {
@@ -289,9 +304,14 @@ pub(crate) fn class_at(nodes: &Slab<Place>, parts: &Parts, node: u32) -> Option<
 }
 
 // A copy of a node's record and aggregate.
-pub(crate) fn copy_at(nodes: &Slab<Place>, parts: &Parts, node: u32) -> Result<Record, Memory>
+pub(crate) fn copy_at(
+    nodes: &Slab<NodeSlot>,
+    parts: &MeasureColumns,
+    node: u32,
+) -> Result<Record, Memory>
     requires node { IsSome (join (slots.get nodes.now node)) }
-    requires parts { IfSome (record_or (join (slots.get nodes.now node))).class (λ a. IsShown (shown parts.now node) a) }
+    requires parts { IfSome (record_or (join (slots.get nodes.now node))).class
+        (λ a. IsShown (shown parts.now node) a) }
     ensures { IfOk result (λ w. join (slots.get nodes.now node) ≡ Some w) }
 {
     match record_of(nodes, node as usize).copy() {
@@ -302,7 +322,7 @@ pub(crate) fn copy_at(nodes: &Slab<Place>, parts: &Parts, node: u32) -> Result<R
 
 // Sets an edge of a node. Gives the number of edges before and after.
 pub(crate) fn set_edge_at(
-    nodes: &mut Slab<Place>,
+    nodes: &mut Slab<NodeSlot>,
     node: u32,
     edge: StoredEdge,
 ) -> Result<(u32, u32), Memory>
@@ -310,16 +330,24 @@ pub(crate) fn set_edge_at(
     requires code { IsCode edge.code }
     ensures others { (q : ℕ) → q ≢ node → slots.get nodes.new q ≡ slots.get nodes.old q }
     ensures here { IsSome (join (slots.get nodes.new node)) }
-    ensures ok { OnOk result (join (slots.get nodes.new node) ≡ option_map (with_edge (edge_to edge)) (join (slots.get nodes.old node))) }
-    ensures had { IfOk result (λ n. n.0 ≡ length (record_or (join (slots.get nodes.old node))).edges) }
-    ensures has { IfOk result (λ n. n.1 ≡ length (record_or (join (slots.get nodes.new node))).edges) }
+    ensures ok { OnOk result
+        (join (slots.get nodes.new node) ≡ option_map (with_edge (edge_to edge))
+        (join (slots.get nodes.old node))) }
+    ensures had { IfOk result
+        (λ n. n.0 ≡ length (record_or (join (slots.get nodes.old node))).edges) }
+    ensures has { IfOk result
+        (λ n. n.1 ≡ length (record_or (join (slots.get nodes.new node))).edges) }
     ensures err { OnErr result (join (slots.get nodes.new node) ≡ join (slots.get nodes.old node)) }
 {
     nodes[node as usize].set_edge(edge)
 }
 
 // Makes room for so many more edges of a node.
-pub(crate) fn reserve_edges_at(nodes: &mut Slab<Place>, node: u32, more: u32) -> Result<(), Memory>
+pub(crate) fn reserve_edges_at(
+    nodes: &mut Slab<NodeSlot>,
+    node: u32,
+    more: u32,
+) -> Result<(), Memory>
     requires { IsSome (join (slots.get nodes.old node)) }
     ensures others { (q : ℕ) → q ≢ node → slots.get nodes.new q ≡ slots.get nodes.old q }
     ensures there { IsSome (join (slots.get nodes.new node)) }
@@ -329,10 +357,11 @@ pub(crate) fn reserve_edges_at(nodes: &mut Slab<Place>, node: u32, more: u32) ->
 }
 
 // Removes an edge of a node. Gives the number of edges before and after.
-pub(crate) fn drop_edge_at(nodes: &mut Slab<Place>, node: u32, dim: u8, code: Code) -> (u32, u32)
+pub(crate) fn drop_edge_at(nodes: &mut Slab<NodeSlot>, node: u32, dim: u8, code: Code) -> (u32, u32)
     requires { IsSome (join (slots.get nodes.old node)) }
     ensures others { (q : ℕ) → q ≢ node → slots.get nodes.new q ≡ slots.get nodes.old q }
-    ensures here { join (slots.get nodes.new node) ≡ option_map (without_edge dim code) (join (slots.get nodes.old node)) }
+    ensures here { join (slots.get nodes.new node) ≡ option_map (without_edge dim code)
+        (join (slots.get nodes.old node)) }
     ensures had { result.0 ≡ length (record_or (join (slots.get nodes.old node))).edges }
     ensures has { result.1 ≡ length (record_or (join (slots.get nodes.new node))).edges }
 {
@@ -340,7 +369,7 @@ pub(crate) fn drop_edge_at(nodes: &mut Slab<Place>, node: u32, dim: u8, code: Co
 }
 
 // Removes a node from its place. Gives whether it was a class, and the number of its edges.
-pub(crate) fn kill_at(nodes: &mut Slab<Place>, node: u32) -> (bool, u32)
+pub(crate) fn kill_at(nodes: &mut Slab<NodeSlot>, node: u32) -> (bool, u32)
     requires { IsSome (join (slots.get nodes.old node)) }
     ensures others { (q : ℕ) → q ≢ node → slots.get nodes.new q ≡ slots.get nodes.old q }
     ensures here { slots.get nodes.new node ≡ Some None }
@@ -351,21 +380,23 @@ pub(crate) fn kill_at(nodes: &mut Slab<Place>, node: u32) -> (bool, u32)
 }
 
 // Sets the forced child of a node.
-pub(crate) fn set_forced_at(nodes: &mut Slab<Place>, node: u32, forced: Option<Forced>)
+pub(crate) fn set_forced_at(nodes: &mut Slab<NodeSlot>, node: u32, forced: Option<Forced>)
     requires node { IsSome (join (slots.get nodes.old node)) }
     requires code { IfSome forced (λ f. IsCode f.code) }
     ensures others { (q : ℕ) → q ≢ node → slots.get nodes.new q ≡ slots.get nodes.old q }
-    ensures here { join (slots.get nodes.new node) ≡ option_map (with_forced (option_map edge_of forced)) (join (slots.get nodes.old node)) }
+    ensures here { join (slots.get nodes.new node)
+        ≡ option_map (with_forced (option_map edge_of forced)) (join (slots.get nodes.old node)) }
 {
     nodes[node as usize].set_forced(forced);
 }
 
 // Sets the class of a node.
-pub(crate) fn set_class_at(nodes: &mut Slab<Place>, node: u32, class: Option<Agg>)
+pub(crate) fn set_class_at(nodes: &mut Slab<NodeSlot>, node: u32, class: Option<Agg>)
     requires node { IsSome (join (slots.get nodes.old node)) }
     requires four { IfSome class (λ a. length a.parts ≡ MAX_MEASURES) }
     ensures others { (q : ℕ) → q ≢ node → slots.get nodes.new q ≡ slots.get nodes.old q }
-    ensures here { join (slots.get nodes.new node) ≡ option_map (with_class (option_map agg_in class)) (join (slots.get nodes.old node)) }
+    ensures here { join (slots.get nodes.new node)
+        ≡ option_map (with_class (option_map agg_in class)) (join (slots.get nodes.old node)) }
 {
     nodes[node as usize].set_class(class);
 }

@@ -85,7 +85,8 @@ impl TreeTotals {
         ensures root { result.root ≡ self.root }
         ensures nodes { result.nodes ≡ self.nodes }
         ensures edges { result.edges ≡ self.edges }
-        ensures classes { result.classes + (if had then 1 else 0) ≡ self.classes + (if has then 1 else 0) }
+        ensures classes { result.classes + (if had then 1 else 0) ≡ self.classes
+            + (if has then 1 else 0) }
     {
         let mut classes = self.classes;
         if had {

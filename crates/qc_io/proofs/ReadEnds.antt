@@ -1,11 +1,13 @@
 -- How the reading of a file ends, by the file that is told.
-use Rattle.std.proofs.Common.{◌≡◌, ◌∙◌, ◌≤◌, ◌<◌, ◌+◌, ◌++◌, ℕ, List, Some, None, append-nil, ap, arith, drop, false, is_some, length, refl, subst, sym, take, take-append-drop}
+use Rattle.std.proofs.Common.{◌≡◌, ◌∙◌, ◌≤◌, ◌<◌, ◌+◌, ◌++◌, ℕ, List, Some, None, append-nil, ap, arith, drop, false, is_some, length, refl}
+use Rattle.std.proofs.Common.{subst, sym, take, take-append-drop}
 use Rattle.std.specs.Prelude.{IfSome, IsSomeAnd, Option, ◌↔◌}
-use Rattle.qc_io.specs.Outside.{Cursor, ReadsFront, Told, bytes_left}
+use Rattle.qc_io.specs.Outside.{Cursor, ReadsPrefix, FileContents, bytes_left}
 use Rattle.qc_io.proofs.Reading.{HasRead}
 
 -- a file that couldn't be opened isn't there
-pub unopened : (told : Option Told) (name : List ℕ) (Failed : Type 0) → Failed → IfSome told (λ t. false ≡ is_some (t name)) → IfSome told (λ t. Failed ↔ (t name ≡ None))
+pub unopened : (told : Option FileContents) (name : List ℕ) (Failed : Type 0) → Failed
+    → IfSome told (λ t. false ≡ is_some (t name)) → IfSome told (λ t. Failed ↔ (t name ≡ None))
 unopened None name Failed failed h = tt
 unopened (Some t) name Failed failed h = (λ _. none (t name) h, λ _. failed)
   where
@@ -13,39 +15,52 @@ unopened (Some t) name Failed failed h = (λ _. none (t name) h, λ _. failed)
     none None e = refl
     none (Some x) e = absurd (cc e)
 
-module _ (told before : Option Told) (cursor : Option Cursor) (name bytes : List ℕ) (same : told ≡ before) (read : HasRead told cursor name bytes) where
+module _ (told before : Option FileContents) (cursor : Option Cursor) (name bytes : List ℕ) (same : told ≡ before)
+    (read : HasRead told cursor name bytes) where
   -- a file that is read is there
   pub opened : (Failed : Type 0) → (Failed → ⊥) → IfSome before (λ t. Failed ↔ (t name ≡ None))
   opened Failed fine = subst (λ o. IfSome o (λ t. Failed ↔ (t name ≡ None))) same (by told read)
     where
-      by : (o : Option Told) → HasRead o cursor name bytes → IfSome o (λ t. Failed ↔ (t name ≡ None))
+      by : (o : Option FileContents) → HasRead o cursor name bytes → IfSome o (λ t. Failed ↔ (t name ≡ None))
       by None h = tt
-      by (Some t) h = (λ failed. absurd (fine failed), λ none. let clash : Some h.whole ≡ None = sym h.is_whole ∙ none in absurd (cc clash))
+      by (Some t) h = (
+        λ failed. absurd (fine failed),
+        λ none. let clash : Some h.whole ≡ None
+            = sym h.is_whole ∙ none in absurd (cc clash),
+      )
 
   -- at its end all of it is read
-  pub read-whole : (n : ℕ) (buf : List ℕ) → IfSome cursor (λ c. ReadsFront (bytes_left c) n buf) → n ≡ 0 → IfSome before (λ t. t name ≡ Some bytes)
+  pub read-whole : (n : ℕ) (buf : List ℕ) → IfSome cursor (λ c. ReadsPrefix (bytes_left c) n buf) → n ≡ 0
+      → IfSome before (λ t. t name ≡ Some bytes)
   read-whole n buf gives zero = subst (λ o. IfSome o (λ t. t name ≡ Some bytes)) same (by told read)
     where
-      by : (o : Option Told) → HasRead o cursor name bytes → IfSome o (λ t. t name ≡ Some bytes)
+      by : (o : Option FileContents) → HasRead o cursor name bytes → IfSome o (λ t. t name ≡ Some bytes)
       by None h = tt
       by (Some t) h =
-          let g : ReadsFront (drop (length bytes) h.whole) n buf = rw h.place at gives in
+          let g : ReadsPrefix (drop (length bytes) h.whole) n buf = rw h.place at gives in
           let front : List ℕ = take (length bytes) h.whole in
-          let whole : bytes ≡ h.whole = h.front ∙ sym (append-nil front) ∙ ap (λ (more : List ℕ). front ++ more) (sym (g.at_end zero)) ∙ take-append-drop (length bytes) h.whole in
+          let whole : bytes ≡ h.whole = h.front ∙ sym (append-nil front)
+          ∙ ap (λ (more : List ℕ). front ++ more) (sym (g.at_end zero)) ∙ take-append-drop (length bytes) h.whole in
           h.is_whole ∙ ap (λ (x : List ℕ). Some x) (sym whole)
 
   -- more was read than the limit
-  pub read-longer : (limit : ℕ) → limit < length bytes → IfSome before (λ t. IsSomeAnd (t name) (λ whole. limit < length whole))
-  read-longer limit lt = subst (λ o. IfSome o (λ t. IsSomeAnd (t name) (λ whole. limit < length whole))) same (by told read)
+  pub read-longer : (limit : ℕ) → limit < length bytes
+      → IfSome before (λ t. IsSomeAnd (t name) (λ whole. limit < length whole))
+  read-longer limit lt = subst (λ o. IfSome o (λ t. IsSomeAnd (t name) (λ whole. limit < length whole))) same
+      (by told read)
     where
-      by : (o : Option Told) → HasRead o cursor name bytes → IfSome o (λ t. IsSomeAnd (t name) (λ whole. limit < length whole))
+      by : (o : Option FileContents) → HasRead o cursor name bytes
+          → IfSome o (λ t. IsSomeAnd (t name) (λ whole. limit < length whole))
       by None h = tt
       by (Some t) h = rw h.is_whole (omega (arith, h.within, lt))
 
   -- and no more than a byte past it
-  pub read-to : (limit : ℕ) → length bytes ≡ limit + 1 → IfSome before (λ t. IfSome (t name) (λ whole. cursor ≡ Some (whole, limit + 1)))
-  read-to limit len = subst (λ o. IfSome o (λ t. IfSome (t name) (λ whole. cursor ≡ Some (whole, limit + 1)))) same (by told read)
+  pub read-to : (limit : ℕ) → length bytes ≡ limit + 1
+      → IfSome before (λ t. IfSome (t name) (λ whole. cursor ≡ Some (whole, limit + 1)))
+  read-to limit len = subst (λ o. IfSome o (λ t. IfSome (t name) (λ whole. cursor ≡ Some (whole, limit + 1)))) same
+      (by told read)
     where
-      by : (o : Option Told) → HasRead o cursor name bytes → IfSome o (λ t. IfSome (t name) (λ whole. cursor ≡ Some (whole, limit + 1)))
+      by : (o : Option FileContents) → HasRead o cursor name bytes
+          → IfSome o (λ t. IfSome (t name) (λ whole. cursor ≡ Some (whole, limit + 1)))
       by None h = tt
       by (Some t) h = rw h.is_whole (h.place ∙ ap (λ (k : ℕ). Some (h.whole, k)) len)

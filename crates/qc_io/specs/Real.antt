@@ -8,5 +8,5 @@ pub record SystemFiles : Type 0 where
   pub faults : ℕ
 
 -- no place in an open file is told
-abbrev pub untold : Option Cursor
-untold = None
+abbrev pub no_cursor : Option Cursor
+no_cursor = None

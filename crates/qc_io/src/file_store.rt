@@ -1,9 +1,9 @@
 // Files in memory that never fail.
 ghost use Rattle.std.specs.Prelude.{◌≡◌, ◌≢◌, ◌≤◌, ◌<◌, Some, IsSome, IfSome, OnOk, OnErr, is_some, length, map, position, string_bytes};
 ghost use Rattle.std.specs.Str.{bytes_eq};
-ghost use Rattle.qc_io.specs.Outside.{ReadsFront, bytes_left};
+ghost use Rattle.qc_io.specs.Outside.{ReadsPrefix, bytes_left};
 ghost use Rattle.qc_io.specs.Memory.{Store, adding, closed_store, empty_store, lookup, opened_store, read_count, read_store, sure_store};
-ghost use Rattle.qc_io.specs.Kept.{Finds, entry_of};
+ghost use Rattle.qc_io.specs.StoreEntries.{Finds, entry_of};
 
 use crate::outside::Memory;
 use std::alloc::Global;
@@ -38,7 +38,7 @@ impl Model for FileStore {
 
     ghost Value = { Store };
 
-    ghost use Rattle.qc_io.specs.Kept.{entry_of, current_of, open_name_of, IsPlaced};
+    ghost use Rattle.qc_io.specs.StoreEntries.{entry_of, current_of, open_name_of, IsPlaced};
 
     ghost view = { λ s. record {
       entries = map entry_of s.files.items;
@@ -47,7 +47,8 @@ impl Model for FileStore {
       piece = s.piece;
     } };
 
-    ghost invariant = { λ s. (1 ≤ s.piece) × IsPlaced (map entry_of s.files.items) s.opened s.place };
+    ghost invariant = { λ s. (1 ≤ s.piece)
+        × IsPlaced (map entry_of s.files.items) s.opened s.place };
 }
 
 fn position_of(files: &[Named], name: &str) -> Option<usize>
@@ -63,7 +64,8 @@ fn find(files: &[Named], name: &str) -> Option<usize>
 }
 
 fn put(alloc: Global, files: &mut Vec<Named>, name: &str, bytes: &[u8]) -> Result<(), Memory>
-    ensures ok { OnOk result (map entry_of files.new.items ≡ adding name.now bytes.now (map entry_of files.old.items)) }
+    ensures ok { OnOk result
+        (map entry_of files.new.items ≡ adding name.now bytes.now (map entry_of files.old.items)) }
     ensures err { OnErr result (files.new.items ≡ files.old.items) }
 {
     let bytes = Vec::from_slice(alloc, bytes)?;
@@ -94,7 +96,8 @@ impl FileStore {
     /// Adds a file. It replaces one of that name.
     pub(crate) fn add(&mut self, name: &str, bytes: &[u8]) -> Result<(), Memory>
         requires { self.old.open_name ≢ Some name.now }
-        ensures ok { OnOk result (self.new ≡ record self.old { entries = adding name.now bytes.now self.old.entries }) }
+        ensures ok { OnOk result
+            (self.new ≡ record self.old { entries = adding name.now bytes.now self.old.entries }) }
         ensures err { OnErr result (self.new ≡ self.old) }
     {
         put(self.alloc, &mut self.files, name, bytes)?;
@@ -140,7 +143,7 @@ impl FileStore {
         requires room { 0 < length buf.old }
         ensures count { result ≡ read_count self.old (length buf.old) }
         ensures bound { result ≤ length buf.new }
-        ensures bytes { IfSome self.old.current (λ c. ReadsFront (bytes_left c) result buf.new) }
+        ensures bytes { IfSome self.old.current (λ c. ReadsPrefix (bytes_left c) result buf.new) }
         ensures after { self.new ≡ read_store result self.old }
     {
         let Opened::At(i) = self.opened else {

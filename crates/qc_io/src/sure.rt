@@ -1,6 +1,6 @@
 // Files and a sink that never fail.
 ghost use Rattle.std.specs.Prelude.{◌≡◌, ◌≢◌, ◌≤◌, ◌<◌, [], Some, None, Ok, IfOk, IfSome, IsOk, IsSome, OnErr, OnOk, is_some, length, refl, true, unwrap_or};
-ghost use Rattle.qc_io.specs.Outside.{ReadsFront, bytes_left};
+ghost use Rattle.qc_io.specs.Outside.{ReadsPrefix, bytes_left};
 ghost use Rattle.qc_io.specs.Memory.{Store, adding, empty_store, lookup, sure_store, read_count, read_store};
 
 use crate::file_store::FileStore;
@@ -36,7 +36,8 @@ impl SureFiles {
     /// Adds a file. It replaces one of that name.
     pub fn add(&mut self, name: &str, bytes: &[u8]) -> Result<(), Memory>
         requires { self.old.open_name ≢ Some name.now }
-        ensures ok { OnOk result (self.new ≡ record self.old { entries = adding name.now bytes.now self.old.entries }) }
+        ensures ok { OnOk result
+            (self.new ≡ record self.old { entries = adding name.now bytes.now self.old.entries }) }
         ensures err { OnErr result (self.new ≡ self.old) }
     {
         self.store.add(name, bytes)
@@ -54,9 +55,9 @@ impl Files for SureFiles {
 
     ghost cursor = { λ s. s.current };
 
-    ghost steady_tells = { λ s h. refl };
+    ghost steady_has_contents = { λ s h. refl };
 
-    ghost open_tells = { λ s h. refl };
+    ghost contents_give_cursor = { λ s h. refl };
 
     fn open(&mut self, name: &str) -> Result<(), Failed>
         ensures opens { IsOk result }
@@ -70,7 +71,8 @@ impl Files for SureFiles {
         requires is_open { IsSome self.old.current }
         requires room { 0 < length buf.old }
         ensures count { result ≡ Ok (read_count self.old (length buf.old)) }
-        ensures bytes { IfOk result (λ n. IfSome self.old.current (λ c. ReadsFront (bytes_left c) n buf.new)) }
+        ensures bytes { IfOk result
+            (λ n. IfSome self.old.current (λ c. ReadsPrefix (bytes_left c) n buf.new)) }
         ensures after { self.new ≡ read_store (read_count self.old (length buf.old)) self.old }
     {
         Ok(self.store.read(buf))

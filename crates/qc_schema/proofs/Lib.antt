@@ -7,3 +7,4 @@ mod Wording
 pub mod Returning
 mod Spelled
 pub mod Widening
+pub mod CallerLemmas

@@ -21,14 +21,18 @@ bytes-ascii (b ∷ bs) h (suc i) = bytes-ascii bs (and_parts (is_name_byte b) (l
 
 pub name-bytes : (name : List ℕ) → is_name name ≡ true → list_all is_name_byte name ≡ true
 name-bytes name h =
-    let p = and_parts (is_ascii_alphabetic (get_or name 0 0) && list_all is_name_byte name && nat_le (length name) 32) (not (bytes_eq name (codes "op"))) h in
-    let q = and_parts (is_ascii_alphabetic (get_or name 0 0) && list_all is_name_byte name) (nat_le (length name) 32) p.0 in
+    let p = and_parts (is_ascii_alphabetic (get_or name 0 0) && list_all is_name_byte name && nat_le (length name) 32)
+    (not (bytes_eq name (codes "op"))) h in
+    let q = and_parts (is_ascii_alphabetic (get_or name 0 0) && list_all is_name_byte name)
+    (nat_le (length name) 32) p.0 in
     (and_parts (is_ascii_alphabetic (get_or name 0 0)) (list_all is_name_byte name) q.0).1
 
 pub name-utf8 : (name : List ℕ) → is_name name ≡ true → IsUtf8 name
 name-utf8 name h = IsUtf8-from_ascii name (bytes-ascii name (name-bytes name h))
 
 -- what is known to be text is read as text
-pub text-known : {E : Type 0} (r : Result (Bor (List ℕ)) E) (text : List ℕ) (Q : E → Type 0) → MatchResult r (λ s. (s.now ≡ text) × IsUtf8 text) (λ e. ¬ (IsUtf8 text) × Q e) → IsUtf8 text → option_map (λ s. s.now) (result_ok r) ≡ Some text
+pub text-known : {E : Type 0} (r : Result (Bor (List ℕ)) E) (text : List ℕ) (Q : E → Type 0)
+    → MatchResult r (λ s. (s.now ≡ text) × IsUtf8 text) (λ e. ¬ (IsUtf8 text) × Q e) → IsUtf8 text
+    → option_map (λ s. s.now) (result_ok r) ≡ Some text
 text-known (Ok s) text Q h utf8 = ap Some h.0
 text-known (Err e) text Q h utf8 = absurd (h.0 utf8)

@@ -1,5 +1,6 @@
 -- The grammar of a schema: what each line adds to the lines before, or the first cause that holds.
-use Rattle.std.specs.Prelude.{ℕ, Bool, true, false, not, ◌&&◌, ◌==◌, ◌+◌, List, [], ◌∷◌, ◌++◌, length, codes, nat_lt, nat_le, Option, Some, None, Result, Ok, Err, if◌then◌else◌}
+use Rattle.std.specs.Prelude.{ℕ, Bool, true, false, not, ◌&&◌, ◌==◌, ◌+◌, List, [], ◌∷◌, ◌++◌, length, codes, nat_lt, nat_le, Option, Some}
+use Rattle.std.specs.Prelude.{None, Result, Ok, Err, if◌then◌else◌}
 use Rattle.std.specs.List.{list_any}
 use Rattle.std.specs.Str.{bytes_eq, is_utf8, all_ascii_digits}
 use Rattle.std.specs.Str.Parse.{digits_value}
@@ -12,8 +13,8 @@ use Rattle.text_lines.specs.Cuts.{words_of}
 use Rattle.text_lines.specs.Lines.{is_comment}
 use Rattle.qc_schema.specs.Schema.{Layout, Measure, is_name, max_dims, max_measures, names_of, version_word}
 use Rattle.qc_schema.specs.Progress.{Progress, Fault, NotUtf8, Line}
-use Rattle.qc_schema.specs.declared.reader.Stage.{Stage}
-use Rattle.qc_schema.specs.declared.reader.Stage.TheVariants as stages
+use Rattle.qc_schema.specs.declared.reader.LastLine.{LastLine}
+use Rattle.qc_schema.specs.declared.reader.LastLine.TheVariants as stages
 use Rattle.qc_schema.specs.declared.refusal.SchemaCause.{SchemaCause}
 use Rattle.qc_schema.specs.declared.refusal.SchemaCause.TheVariants.{Version, Order, Words, Name, Number, End}
 use Rattle.qc_schema.specs.declared.limits.SchemaVersion.{SchemaVersion}
@@ -27,36 +28,36 @@ abbrev pub ◌>>=◌ : {A B : Type 0} → Result A SchemaCause → (A → Result
 (Err e) >>= f = Err e
 
 -- which lines may stand behind the last one
-abbrev pub may_id : Stage → Bool
+abbrev pub may_id : LastLine → Bool
 may_id stages.Qcube = true
 may_id stage = false
 
-abbrev pub may_dim : Stage → Bool
+abbrev pub may_dim : LastLine → Bool
 may_dim stages.Id = true
 may_dim stages.Dim = true
 may_dim stage = false
 
-abbrev pub may_measure : Stage → Bool
+abbrev pub may_measure : LastLine → Bool
 may_measure stages.Dim = true
 may_measure stages.Measure = true
 may_measure stage = false
 
-abbrev pub may_index : Stage → Bool
+abbrev pub may_index : LastLine → Bool
 may_index stages.Dim = true
 may_index stages.Measure = true
 may_index stages.Index = true
 may_index stage = false
 
-abbrev pub may_rows : Stage → Bool
+abbrev pub may_rows : LastLine → Bool
 may_rows stages.Nodes = true
 may_rows stage = may_index stage
 
-abbrev pub may_values : Stage → Bool
+abbrev pub may_values : LastLine → Bool
 may_values stages.Rows = true
 may_values stage = may_rows stage
 
 -- a schema may end once it has a dimension
-abbrev pub may_end : Stage → Bool
+abbrev pub may_end : LastLine → Bool
 may_end stages.Values = true
 may_end stage = may_values stage
 
@@ -84,11 +85,14 @@ new_name l word = if is_name word && not (is_used l word) then Ok word else Err 
 
 -- one digit, up to MAX_SCALE
 abbrev pub scale_in : Text → Result ℕ SchemaCause
-scale_in word = if (length word == 1) && all_ascii_digits word && nat_le (digits_value 10 word) MAX_SCALE then Ok (digits_value 10 word) else Err Number
+scale_in word = if (length word == 1) && all_ascii_digits word && nat_le (digits_value 10 word) MAX_SCALE
+    then Ok (digits_value 10 word) else Err Number
 
 -- 1 to 7 digits, of a value from 1 to the most
 abbrev pub limit_in : ℕ → Text → Result ℕ SchemaCause
-limit_in most word = if nat_lt 0 (length word) && nat_le (length word) 7 && all_ascii_digits word && nat_lt 0 (digits_value 10 word) && nat_le (digits_value 10 word) most then Ok (digits_value 10 word) else Err Number
+limit_in most word = if nat_lt 0 (length word) && nat_le (length word) 7 && all_ascii_digits word
+    && nat_lt 0 (digits_value 10 word) && nat_le (digits_value 10 word) most then Ok (digits_value 10 word)
+    else Err Number
 
 -- the place of a measure, counted from the first of these
 abbrev pub measure_from : List Measure → ℕ → Text → Option ℕ
@@ -139,7 +143,11 @@ measure_line s words = do
   pair ← two_words words
   name ← new_name s.layout pair.0
   scale ← scale_in pair.1
-  Ok (record { stage = stages.Measure; layout = record s.layout { measures = s.layout.measures ++ (record { name = name; scale = scale }) ∷ [] } })
+  Ok (record {
+    stage = stages.Measure;
+    layout
+        = record s.layout { measures = s.layout.measures ++ (record { name = name; scale = scale }) ∷ [] };
+  })
 
 unfoldable pub index_line : Progress → List Text → Result Progress SchemaCause
 index_line s words = do
@@ -196,7 +204,7 @@ named_line s word words =
     else if bytes_eq word (codes "values") then values_line s words
     else Err Order
 
-abbrev pub is_start : Stage → Bool
+abbrev pub is_start : LastLine → Bool
 is_start stages.Start = true
 is_start stage = false
 
@@ -219,7 +227,21 @@ read_lines (line ∷ lines) n s = and_on n (take_line s line) (λ t. read_lines 
 
 -- nothing read yet, and what holds by default
 abbrev pub start : Progress
-start = record { stage = stages.Start; layout = record { version = versions.One; id = []; dims = []; measures = []; indexes = []; nodes = DEFAULT_NODES; rows = MAX_ROWS; values = MAX_CODES } }
+start = record {
+  stage = stages.Start;
+  layout
+      = record {
+        version = versions.One;
+        id = [];
+        dims = [];
+        measures = [];
+        indexes = [];
+        nodes = DEFAULT_NODES;
+        rows
+            = MAX_ROWS;
+        values = MAX_CODES;
+      };
+}
 
 -- The schema that a text spells, or its fault.
 abbrev pub schema_in : List ℕ → Result Layout Fault

@@ -4,7 +4,7 @@ use Rattle.qc_schema.specs.Schema.{Layout, Measure}
 use Rattle.qc_schema.specs.declared.draft.Measure as declared
 use Rattle.qc_schema.specs.declared.draft.Draft.{Draft}
 use Rattle.qc_schema.specs.declared.reader.SchemaReader.{SchemaReader}
-use Rattle.qc_schema.specs.declared.reader.Stage.{Stage}
+use Rattle.qc_schema.specs.declared.reader.LastLine.{LastLine}
 use Rattle.qc_schema.specs.declared.refusal.SchemaCause.{SchemaCause}
 use Rattle.qc_schema.specs.declared.refusal.SchemaRefused.{SchemaRefused}
 use Rattle.qc_schema.specs.declared.refusal.SchemaRefused.TheVariants as refusals
@@ -13,7 +13,7 @@ use Rattle.qc_schema.specs.declared.refusal.SchemaLineRefused.TheVariants as fau
 
 -- the kind of the last line, and what the lines so far say
 pub record Progress : Type 0 where
-  pub stage : Stage
+  pub stage : LastLine
   pub layout : Layout
 
 abbrev pub measure_in : declared.Measure → Measure

@@ -52,7 +52,8 @@ abbrev pub is_name_byte : ℕ → Bool
 is_name_byte b = is_ascii_alphanumeric b || (b == 95)
 
 abbrev pub is_name : List ℕ → Bool
-is_name name = is_ascii_alphabetic (slice_index name 0) && list_all is_name_byte name && nat_le (length name) 32 && not (bytes_eq name (codes "op"))
+is_name name = is_ascii_alphabetic (slice_index name 0) && list_all is_name_byte name && nat_le (length name) 32
+    && not (bytes_eq name (codes "op"))
 
 -- the names of the id, the dimensions and the measures
 abbrev pub names_of : Layout → List Text

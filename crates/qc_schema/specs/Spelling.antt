@@ -29,11 +29,14 @@ index_words measures (kinds.Greatest m) = codes "index" ∷ codes "greatest" ∷
 index_words measures (kinds.Mean m) = codes "index" ∷ codes "mean" ∷ name_at measures m ∷ []
 
 abbrev pub limit_words : Layout → List (List Text)
-limit_words l = (codes "nodes" ∷ decimal l.nodes ∷ []) ∷ (codes "rows" ∷ decimal l.rows ∷ []) ∷ (codes "values" ∷ decimal l.values ∷ []) ∷ []
+limit_words l = (codes "nodes" ∷ decimal l.nodes ∷ []) ∷ (codes "rows" ∷ decimal l.rows ∷ [])
+    ∷ (codes "values" ∷ decimal l.values ∷ []) ∷ []
 
 -- the words of each line
 abbrev pub layout_words : Layout → List (List Text)
-layout_words l = (codes "qcube" ∷ version_word l.version ∷ []) ∷ (codes "id" ∷ l.id ∷ []) ∷ (map dim_words l.dims ++ (map measure_words l.measures ++ (map (index_words l.measures) l.indexes ++ limit_words l)))
+layout_words l = (codes "qcube" ∷ version_word l.version ∷ []) ∷ (codes "id" ∷ l.id ∷ [])
+    ∷ (map dim_words l.dims
+    ++ (map measure_words l.measures ++ (map (index_words l.measures) l.indexes ++ limit_words l)))
 
 abbrev pub layout_text : Layout → List ℕ
 layout_text l = flat_map line_text (layout_words l)

@@ -52,7 +52,8 @@ fn has_name(names: &Vec<String>, name: &[u8]) -> bool
 
 // Whether a measure has this name.
 fn has_measure(measures: &Vec<Measure>, name: &[u8]) -> bool
-    ensures { result ≡ list_any (λ y. bytes_eq y name.now) (map (λ m. m.name) (map measure_in measures.now.items)) }
+    ensures { result ≡ list_any (λ y. bytes_eq y name.now)
+        (map (λ m. m.name) (map measure_in measures.now.items)) }
 {
     for measure in measures {
         if measure.name.as_bytes() == name {
@@ -109,7 +110,8 @@ fn has_kind(kinds: &Vec<AggKind>, kind: AggKind) -> bool
 
 // The names, copied, with one more at the end.
 fn names_and(alloc: Global, names: &Vec<String>, last: &str) -> Result<Vec<String>, Memory>
-    ensures { IfOk result (λ more. map string_bytes more.items ≡ map string_bytes names.now.items ++ last.now ∷ []) }
+    ensures { IfOk result (λ more. map string_bytes more.items ≡ map string_bytes names.now.items
+        ++ last.now ∷ []) }
 {
     let mut more = Vec::with_capacity(alloc, names.len() + 1)?;
     for name in names {
@@ -204,7 +206,8 @@ impl Draft {
     #[tactic(auto, unfolding(crate::specs::Grammar::kind_of))]
     pub fn kind_in(&self, words: &[u8]) -> Result<AggKind, SchemaLineRefused>
         requires { length self.now.measures.items ≤ MAX_MEASURES }
-        ensures { Gives cause_in (λ kind. kind) result (kind_of (layout_in self.now).measures (words_of words.now)) }
+        ensures { Gives cause_in (λ kind. kind) result
+            (kind_of (layout_in self.now).measures (words_of words.now)) }
     {
         let Some((aggregate, rest)) = split_word(words) else {
             return Err(SchemaLineRefused::Cause(SchemaCause::Words));

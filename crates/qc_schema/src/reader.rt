@@ -17,7 +17,7 @@ use text_lines::{is_comment_line, split_word};
 
 /// The kind of the last line that was read.
 #[derive(Clone, Copy)]
-pub enum Stage {
+pub enum LastLine {
     Start,
     Qcube,
     Id,
@@ -29,61 +29,61 @@ pub enum Stage {
     Values,
 }
 
-impl Stage {
+impl LastLine {
     fn is_start(self) -> bool
         ensures { result ≡ is_start self }
     {
-        matches!(self, Stage::Start)
+        matches!(self, LastLine::Start)
     }
 
     fn may_id(self) -> bool
         ensures { result ≡ may_id self }
     {
-        matches!(self, Stage::Qcube)
+        matches!(self, LastLine::Qcube)
     }
 
     fn may_dim(self) -> bool
         ensures { result ≡ may_dim self }
     {
-        matches!(self, Stage::Id | Stage::Dim)
+        matches!(self, LastLine::Id | LastLine::Dim)
     }
 
     fn may_measure(self) -> bool
         ensures { result ≡ may_measure self }
     {
-        matches!(self, Stage::Dim | Stage::Measure)
+        matches!(self, LastLine::Dim | LastLine::Measure)
     }
 
     // Whether an `index` line may come next. A `nodes` line may come at the same places.
     fn may_index(self) -> bool
         ensures { result ≡ may_index self }
     {
-        matches!(self, Stage::Dim | Stage::Measure | Stage::Index)
+        matches!(self, LastLine::Dim | LastLine::Measure | LastLine::Index)
     }
 
     fn may_rows(self) -> bool
         ensures { result ≡ may_rows self }
     {
-        matches!(self, Stage::Nodes) || self.may_index()
+        matches!(self, LastLine::Nodes) || self.may_index()
     }
 
     fn may_values(self) -> bool
         ensures { result ≡ may_values self }
     {
-        matches!(self, Stage::Rows) || self.may_rows()
+        matches!(self, LastLine::Rows) || self.may_rows()
     }
 
     fn may_end(self) -> bool
         ensures { result ≡ may_end self }
     {
-        matches!(self, Stage::Values) || self.may_values()
+        matches!(self, LastLine::Values) || self.may_values()
     }
 }
 
 /// A schema that is being read.
 #[derive(Drop)]
 pub struct SchemaReader {
-    pub stage: Stage,
+    pub stage: LastLine,
     pub draft: Draft,
 }
 
@@ -118,14 +118,15 @@ impl SchemaReader {
         ensures { progress_in result ≡ start }
     {
         SchemaReader {
-            stage: Stage::Start,
+            stage: LastLine::Start,
             draft: Draft::new(alloc),
         }
     }
 
     #[tactic(auto, unfolding(crate::specs::Grammar::version_line))]
     fn read_version(&mut self, word: &[u8], words: &[u8]) -> Result<(), SchemaLineRefused>
-        ensures { Gives cause_in (λ _. progress_in self.new) result (version_line (progress_in self.old) word.now (words_of words.now)) }
+        ensures { Gives cause_in (λ _. progress_in self.new) result
+            (version_line (progress_in self.old) word.now (words_of words.now)) }
     {
         if word != b"qcube".as_slice() {
             return Err(SchemaLineRefused::Cause(SchemaCause::Version));
@@ -134,43 +135,48 @@ impl SchemaReader {
             return Err(SchemaLineRefused::Cause(SchemaCause::Version));
         };
         self.draft.version = version;
-        self.stage = Stage::Qcube;
+        self.stage = LastLine::Qcube;
         Ok(())
     }
 
     #[tactic(auto, unfolding(crate::specs::Grammar::id_line))]
     fn read_id(&mut self, alloc: Global, words: &[u8]) -> Result<(), SchemaLineRefused>
-        ensures { Gives cause_in (λ _. progress_in self.new) result (id_line (progress_in self.old) (words_of words.now)) }
+        ensures { Gives cause_in (λ _. progress_in self.new) result
+            (id_line (progress_in self.old) (words_of words.now)) }
     {
         check_order(self.stage.may_id())?;
         let name = self.draft.unused_name(only_word(words)?)?;
         self.draft.id = String::from_str(alloc, name)?;
-        self.stage = Stage::Id;
+        self.stage = LastLine::Id;
         Ok(())
     }
 
     // Whether a `dim` line may come next.
     fn may_add_dim(&self) -> bool
-        ensures { result ≡ (may_dim self.now.stage && nat_lt (length (layout_in self.now.draft).dims) (max_dims self.now.draft.version)) }
+        ensures { result ≡ (may_dim self.now.stage
+            && nat_lt (length (layout_in self.now.draft).dims) (max_dims self.now.draft.version)) }
     {
         self.stage.may_dim() && self.draft.dims.len() < self.draft.version.max_dims() as usize
     }
 
     #[tactic(auto, unfolding(crate::specs::Grammar::dim_line))]
     fn read_dim(&mut self, alloc: Global, words: &[u8]) -> Result<(), SchemaLineRefused>
-        ensures { Gives cause_in (λ _. progress_in self.new) result (dim_line (progress_in self.old) (words_of words.now)) }
+        ensures { Gives cause_in (λ _. progress_in self.new) result
+            (dim_line (progress_in self.old) (words_of words.now)) }
     {
         check_order(self.may_add_dim())?;
         let name = self.draft.unused_name(only_word(words)?)?;
         let dim = String::from_str(alloc, name)?;
         self.draft.dims.push(dim)?;
-        self.stage = Stage::Dim;
+        self.stage = LastLine::Dim;
         Ok(())
     }
 
     // Whether a `measure` line may come next.
     fn may_add_measure(&self) -> bool
-        ensures { result ≡ (may_measure self.now.stage && nat_lt (length (layout_in self.now.draft).measures) (max_measures self.now.draft.version)) }
+        ensures { result ≡ (may_measure self.now.stage
+            && nat_lt (length (layout_in self.now.draft).measures)
+            (max_measures self.now.draft.version)) }
     {
         self.stage.may_measure()
             && self.draft.measures.len() < self.draft.version.max_measures() as usize
@@ -178,7 +184,8 @@ impl SchemaReader {
 
     #[tactic(auto, unfolding(crate::specs::Grammar::measure_line))]
     fn read_measure(&mut self, alloc: Global, words: &[u8]) -> Result<(), SchemaLineRefused>
-        ensures { Gives cause_in (λ _. progress_in self.new) result (measure_line (progress_in self.old) (words_of words.now)) }
+        ensures { Gives cause_in (λ _. progress_in self.new) result
+            (measure_line (progress_in self.old) (words_of words.now)) }
     {
         check_order(self.may_add_measure())?;
         let (word, digit) = only_words(words)?;
@@ -186,50 +193,54 @@ impl SchemaReader {
         let scale = read_scale(digit)?;
         let name = String::from_str(alloc, name)?;
         self.draft.measures.push(Measure { name, scale })?;
-        self.stage = Stage::Measure;
+        self.stage = LastLine::Measure;
         Ok(())
     }
 
     #[tactic(auto, unfolding(crate::specs::Grammar::index_line))]
     fn read_index(&mut self, words: &[u8]) -> Result<(), SchemaLineRefused>
         requires { length self.old.draft.measures.items ≤ MAX_MEASURES }
-        ensures { Gives cause_in (λ _. progress_in self.new) result (index_line (progress_in self.old) (words_of words.now)) }
+        ensures { Gives cause_in (λ _. progress_in self.new) result
+            (index_line (progress_in self.old) (words_of words.now)) }
     {
         check_order(self.stage.may_index())?;
         let kind = self.draft.kind_in(words)?;
         let fresh = self.draft.unused_kind(kind)?;
         self.draft.indexes.push(fresh)?;
-        self.stage = Stage::Index;
+        self.stage = LastLine::Index;
         Ok(())
     }
 
     #[tactic(auto, unfolding(crate::specs::Grammar::nodes_line))]
     fn read_nodes(&mut self, words: &[u8]) -> Result<(), SchemaLineRefused>
-        ensures { Gives cause_in (λ _. progress_in self.new) result (nodes_line (progress_in self.old) (words_of words.now)) }
+        ensures { Gives cause_in (λ _. progress_in self.new) result
+            (nodes_line (progress_in self.old) (words_of words.now)) }
     {
         check_order(self.stage.may_index())?;
         self.draft.nodes = read_limit(MAX_NODES, only_word(words)?)?;
-        self.stage = Stage::Nodes;
+        self.stage = LastLine::Nodes;
         Ok(())
     }
 
     #[tactic(auto, unfolding(crate::specs::Grammar::rows_line))]
     fn read_rows(&mut self, words: &[u8]) -> Result<(), SchemaLineRefused>
-        ensures { Gives cause_in (λ _. progress_in self.new) result (rows_line (progress_in self.old) (words_of words.now)) }
+        ensures { Gives cause_in (λ _. progress_in self.new) result
+            (rows_line (progress_in self.old) (words_of words.now)) }
     {
         check_order(self.stage.may_rows())?;
         self.draft.rows = read_limit(MAX_ROWS, only_word(words)?)?;
-        self.stage = Stage::Rows;
+        self.stage = LastLine::Rows;
         Ok(())
     }
 
     #[tactic(auto, unfolding(crate::specs::Grammar::values_line))]
     fn read_values(&mut self, words: &[u8]) -> Result<(), SchemaLineRefused>
-        ensures { Gives cause_in (λ _. progress_in self.new) result (values_line (progress_in self.old) (words_of words.now)) }
+        ensures { Gives cause_in (λ _. progress_in self.new) result
+            (values_line (progress_in self.old) (words_of words.now)) }
     {
         check_order(self.stage.may_values())?;
         self.draft.values = read_limit(MAX_CODES, only_word(words)?)?;
-        self.stage = Stage::Values;
+        self.stage = LastLine::Values;
         Ok(())
     }
 
@@ -242,7 +253,8 @@ impl SchemaReader {
         words: &[u8],
     ) -> Result<(), SchemaLineRefused>
         requires { length self.old.draft.measures.items ≤ MAX_MEASURES }
-        ensures { Gives cause_in (λ _. progress_in self.new) result (named_line (progress_in self.old) word.now (words_of words.now)) }
+        ensures { Gives cause_in (λ _. progress_in self.new) result
+            (named_line (progress_in self.old) word.now (words_of words.now)) }
     {
         if word == b"id".as_slice() {
             self.read_id(alloc, words)
@@ -267,7 +279,8 @@ impl SchemaReader {
     #[tactic(auto, unfolding(crate::specs::Grammar::take_line))]
     pub fn read_line(&mut self, alloc: Global, line: &[u8]) -> Result<(), SchemaLineRefused>
         requires { length self.old.draft.measures.items ≤ MAX_MEASURES }
-        ensures { Gives cause_in (λ _. progress_in self.new) result (take_line (progress_in self.old) line.now) }
+        ensures { Gives cause_in (λ _. progress_in self.new) result
+            (take_line (progress_in self.old) line.now) }
     {
         if is_comment_line(line) {
             return Ok(());

@@ -13,7 +13,7 @@ use aggregates::AggKind;
 use cube_defs::{MAX_FILE, Memory};
 use std::alloc::Global;
 use std::marker::Model;
-use text_lines::{split_line, trim_cr, trim_mark};
+use text_lines::{split_line, trim_byte_order_mark, trim_cr};
 
 /// The names of a cube's columns, the aggregates that are indexed, and the limits.
 #[derive(Drop)]
@@ -157,7 +157,8 @@ impl Schema {
 // Reads all lines of a text without a byte order mark.
 fn read_draft(alloc: Global, text: &[u8]) -> Result<Draft, SchemaRefused>
     requires { length text.now ≤ MAX_FILE }
-    ensures { Gives schema_fault_in layout_in result (read_lines (map without_cr (lines_of text.now)) 1 start) }
+    ensures { Gives schema_fault_in layout_in result
+        (read_lines (map without_cr (lines_of text.now)) 1 start) }
 {
     let mut reader = SchemaReader::new(alloc);
     let mut rest = text;
@@ -193,6 +194,6 @@ pub fn read_schema(alloc: Global, bytes: &[u8]) -> Result<Schema, SchemaRefused>
     let Ok(text) = str::from_utf8(bytes) else {
         return Err(SchemaRefused::NotUtf8);
     };
-    let draft = read_draft(alloc, trim_mark(text.as_bytes()))?;
+    let draft = read_draft(alloc, trim_byte_order_mark(text.as_bytes()))?;
     Ok(Schema { draft })
 }

@@ -14,7 +14,8 @@ use std::alloc::Global;
 
 // Adds a line of two words.
 fn push_pair(text: &mut Vec<u8>, first: &[u8], second: &[u8]) -> Result<(), Memory>
-    ensures { OnOk result (text.new.items ≡ text.old.items ++ line_text (first.now ∷ second.now ∷ [])) }
+    ensures { OnOk result (text.new.items ≡ text.old.items
+        ++ line_text (first.now ∷ second.now ∷ [])) }
 {
     text.extend_from_slice(first)?;
     text.extend_from_slice(b" ")?;
@@ -25,7 +26,8 @@ fn push_pair(text: &mut Vec<u8>, first: &[u8], second: &[u8]) -> Result<(), Memo
 
 // Adds a line of three words.
 fn push_triple(text: &mut Vec<u8>, first: &[u8], second: &[u8], third: &[u8]) -> Result<(), Memory>
-    ensures { OnOk result (text.new.items ≡ text.old.items ++ line_text (first.now ∷ second.now ∷ third.now ∷ [])) }
+    ensures { OnOk result (text.new.items ≡ text.old.items
+        ++ line_text (first.now ∷ second.now ∷ third.now ∷ [])) }
 {
     text.extend_from_slice(first)?;
     text.extend_from_slice(b" ")?;
@@ -33,19 +35,22 @@ fn push_triple(text: &mut Vec<u8>, first: &[u8], second: &[u8], third: &[u8]) ->
 }
 
 fn push_number(text: &mut Vec<u8>, word: &[u8], number: u32) -> Result<(), Memory>
-    ensures { OnOk result (text.new.items ≡ text.old.items ++ line_text (word.now ∷ decimal number ∷ [])) }
+    ensures { OnOk result (text.new.items ≡ text.old.items
+        ++ line_text (word.now ∷ decimal number ∷ [])) }
 {
     push_pair(text, word, Buffer::new().format(number).as_bytes())
 }
 
 fn push_version(text: &mut Vec<u8>, schema: &Schema) -> Result<(), Memory>
-    ensures { OnOk result (text.new.items ≡ text.old.items ++ line_text (codes "qcube" ∷ version_word schema.now.version ∷ [])) }
+    ensures { OnOk result (text.new.items ≡ text.old.items
+        ++ line_text (codes "qcube" ∷ version_word schema.now.version ∷ [])) }
 {
     push_pair(text, b"qcube", schema.version_word().as_bytes())
 }
 
 fn push_dims(text: &mut Vec<u8>, schema: &Schema) -> Result<(), Memory>
-    ensures { OnOk result (text.new.items ≡ text.old.items ++ flat_map line_text (map dim_words schema.now.dims)) }
+    ensures { OnOk result (text.new.items ≡ text.old.items
+        ++ flat_map line_text (map dim_words schema.now.dims)) }
 {
     for dim in 0..schema.dims() {
         push_pair(text, b"dim", schema.dim_name(dim).as_bytes())?;
@@ -54,7 +59,8 @@ fn push_dims(text: &mut Vec<u8>, schema: &Schema) -> Result<(), Memory>
 }
 
 fn push_measures(text: &mut Vec<u8>, schema: &Schema) -> Result<(), Memory>
-    ensures { OnOk result (text.new.items ≡ text.old.items ++ flat_map line_text (map measure_words schema.now.measures)) }
+    ensures { OnOk result (text.new.items ≡ text.old.items
+        ++ flat_map line_text (map measure_words schema.now.measures)) }
 {
     for k in 0..schema.measures() {
         let mut digits = Buffer::new();
@@ -66,7 +72,8 @@ fn push_measures(text: &mut Vec<u8>, schema: &Schema) -> Result<(), Memory>
 
 fn push_index(text: &mut Vec<u8>, schema: &Schema, kind: AggKind) -> Result<(), Memory>
     requires { IsThere (length schema.now.measures) kind }
-    ensures { OnOk result (text.new.items ≡ text.old.items ++ line_text (index_words schema.now.measures kind)) }
+    ensures { OnOk result (text.new.items ≡ text.old.items
+        ++ line_text (index_words schema.now.measures kind)) }
 {
     let (word, measure) = match kind {
         AggKind::Count => return push_pair(text, b"index", b"count"),
@@ -85,7 +92,8 @@ fn push_index(text: &mut Vec<u8>, schema: &Schema, kind: AggKind) -> Result<(), 
 
 fn push_indexes(text: &mut Vec<u8>, schema: &Schema) -> Result<(), Memory>
     requires { IsLayout schema.now }
-    ensures { OnOk result (text.new.items ≡ text.old.items ++ flat_map line_text (map (index_words schema.now.measures) schema.now.indexes)) }
+    ensures { OnOk result (text.new.items ≡ text.old.items
+        ++ flat_map line_text (map (index_words schema.now.measures) schema.now.indexes)) }
 {
     for kind in schema.indexes() {
         push_index(text, schema, *kind)?;
@@ -94,7 +102,8 @@ fn push_indexes(text: &mut Vec<u8>, schema: &Schema) -> Result<(), Memory>
 }
 
 fn push_limits(text: &mut Vec<u8>, schema: &Schema) -> Result<(), Memory>
-    ensures { OnOk result (text.new.items ≡ text.old.items ++ flat_map line_text (limit_words schema.now)) }
+    ensures { OnOk result (text.new.items ≡ text.old.items
+        ++ flat_map line_text (limit_words schema.now)) }
 {
     push_number(text, b"nodes", schema.nodes())?;
     push_number(text, b"rows", schema.rows())?;

@@ -40,7 +40,8 @@ pub fn name_in(word: &[u8]) -> Option<&str>
 // The number that at most 7 digits write.
 fn short_number(word: &[u8]) -> Option<u32>
     requires { length word.now ≤ 7 }
-    ensures { result ≡ (if all_ascii_digits word.now then Some (digits_value 10 word.now) else None) }
+    ensures { result ≡ (if all_ascii_digits word.now
+        then Some (digits_value 10 word.now) else None) }
 {
     let mut value: u32 = 0;
     for digit in word {

@@ -2,35 +2,39 @@
 use Rattle.std.proofs.Common.{◌≡◌, ◌≢◌, ℕ, Option, Some, None, List, refl, true}
 use Rattle.std.specs.Prelude.{Err, IfSome, Ok, OnErr, OnOk, Result}
 use Rattle.cell_core.specs.declared.fields.Field.{Field}
-use Rattle.qc_io.specs.Outside.{Told}
-use Rattle.query_answers.specs.Queries.{cell_asked, pointed}
+use Rattle.qc_io.specs.Outside.{FileContents}
+use Rattle.query_answers.specs.Queries.{cell_of_fields, point_answer}
 use Rattle.query_script.specs.Commands.{command_in, query_wants}
 use Rattle.query_script.specs.Queries as queries
 use Rattle.query_script.specs.Queries.{Point, Query}
 use Rattle.query_script.specs.Questions.{Ask}
 use Rattle.qc_session.specs.Answers.{answer}
-use Rattle.qc_session.specs.Pins.{PinnedState, keeps}
+use Rattle.qc_session.specs.Pins.{PinnedState, unchanged_with_pins}
 
 pub on-ok : {T E : Type 0} (r : Result T E) (P : Type 0) → P → OnOk r P
 on-ok (Ok x) P p = p
 on-ok (Err e) P p = tt
 
 -- what holds whatever the files tell holds of what they tell
-pub for_told : (told : Option Told) (P : Told → Type 0) → ((t : Told) → P t) → IfSome told P
+pub for_told : (told : Option FileContents) (P : FileContents → Type 0) → ((t : FileContents) → P t) → IfSome told P
 for_told None P h = tt
 for_told (Some t) P h = h t
 
 -- a line that asks a point is answered by what it comes to
-pub point-is : (s : PinnedState) (line : List ℕ) (number : ℕ) (reply : List ℕ) → (asked : List Field) × (command_in s.state.schema line ≡ Ok (Ask (Point asked))) × (reply ≡ pointed s.state number (cell_asked asked))
-    → (told : Told) → answer s told number line ≡ Some (keeps s reply)
+pub point-is : (s : PinnedState) (line : List ℕ) (number : ℕ) (reply : List ℕ) → (asked : List Field)
+    × (command_in s.state.schema line ≡ Ok (Ask (Point asked)))
+    × (reply ≡ point_answer s.state number (cell_of_fields asked))
+    → (told : FileContents) → answer s told number line ≡ Some (unchanged_with_pins s reply)
 point-is s line number reply (asked, command, e) told = rw (command, e) refl
 
 -- a reply beside a state that stays
-pub kept : (s : PinnedState) (text reply : List ℕ) → reply ≡ text → Some (keeps s text) ≡ Some (record { state = s; reply = reply })
+pub kept : (s : PinnedState) (text reply : List ℕ) → reply ≡ text
+    → Some (unchanged_with_pins s text) ≡ Some (record { state = s; reply = reply })
 kept s text reply e = rw e refl
 
 -- an answer to a query that runs out of memory may want it
-pub wants-all : {T E : Type 0} (r : Result T E) (query : Query) → OnErr r (query ≢ queries.Stats) → OnErr r (query_wants query ≡ true)
+pub wants-all : {T E : Type 0} (r : Result T E) (query : Query) → OnErr r (query ≢ queries.Stats)
+    → OnErr r (query_wants query ≡ true)
 wants-all (Ok x) query other = tt
 wants-all (Err e) query other = by query other
   where

@@ -3,14 +3,15 @@ use Rattle.std.proofs.Common.{◌≡◌, ◌≤◌, ◌<◌, ◌^◌, ℕ, List,
 use Rattle.cube_defs.specs.declared.limits.TheConstants.{MAX_FILE}
 use Rattle.qc_session.specs.Lines.{lines_of}
 use Rattle.text_lines.specs.Lines.{without_mark}
-use Rattle.text_lines.proofs.Unmarked.{no_longer}
+use Rattle.text_lines.proofs.CallerLemmas.{no_longer}
 
 pub bare-short : (script bare : List ℕ) → bare ≡ without_mark script → length script ≤ MAX_FILE → length bare ≤ MAX_FILE
 bare-short script bare is short =
     let same = ap (λ (bs : List ℕ). length bs) is in
     omega (arith, same, short, no_longer script)
 
-pub bare-few : (script bare : List ℕ) → bare ≡ without_mark script → length script ≤ MAX_FILE → length (lines_of bare) ≤ length bare → length (lines_of bare) < 2 ^ 32
+pub bare-few : (script bare : List ℕ) → bare ≡ without_mark script → length script ≤ MAX_FILE
+    → length (lines_of bare) ≤ length bare → length (lines_of bare) < 2 ^ 32
 bare-few script bare is short few =
     let most : MAX_FILE ≡ 268435456 = refl in
     let within = bare-short script bare is short in

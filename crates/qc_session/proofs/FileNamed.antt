@@ -38,14 +38,17 @@ module _ (layout : Layout) where
   at-words : (rest : List ℕ) → NamesNone (at_in layout rest)
   at-words rest = by (is_pin_name (word_of rest))
     where
-      by : (named : Bool) → NamesNone (cond named (asked_with (At (word_of rest)) (query_in_line layout (rest_of rest))) (Err (faults.Field 1)))
+      by : (named : Bool) → NamesNone (cond named (asked_with (At (word_of rest)) (query_in_line layout (rest_of rest)))
+          (Err (faults.Field 1)))
       by true = of-at (word_of rest) (query_in_line layout (rest_of rest))
       by false = refl
 
   widen-words : (rest : List ℕ) → NamesNone (widen_in layout rest)
   widen-words rest = by (is_new_name layout (word_of rest)) (has_value rest)
     where
-      by : (new valued : Bool) → NamesNone (cond new (cond valued (Ok (Widen (word_of rest) (rest_of rest))) (Err (faults.Field 2))) (Err (faults.Field 1)))
+      by : (new valued : Bool)
+          → NamesNone (cond new (cond valued (Ok (Widen (word_of rest) (rest_of rest))) (Err (faults.Field 2)))
+          (Err (faults.Field 1)))
       by true true = refl
       by true false = refl
       by false valued = refl
@@ -57,15 +60,22 @@ named_by word rest =
     (cond (bytes_eq word (codes "apply")) (file_named (asked_with Apply (name_in rest)))
     (cond (bytes_eq word (codes "try")) (file_named (asked_with Try (name_in rest))) None))
 
-named-same : (layout : Layout) (word : Text) (rest : List ℕ) → file_named (command_named layout word rest) ≡ named_by word rest
+named-same : (layout : Layout) (word : Text) (rest : List ℕ)
+    → file_named (command_named layout word rest) ≡ named_by word rest
 named-same layout word rest =
-    by (bytes_eq word (codes "load")) (bytes_eq word (codes "apply")) (bytes_eq word (codes "try")) (bytes_eq word (codes "widen")) (bytes_eq word (codes "pin")) (bytes_eq word (codes "unpin")) (bytes_eq word (codes "at"))
+    by (bytes_eq word (codes "load")) (bytes_eq word (codes "apply")) (bytes_eq word (codes "try"))
+    (bytes_eq word (codes "widen")) (bytes_eq word (codes "pin")) (bytes_eq word (codes "unpin"))
+    (bytes_eq word (codes "at"))
   where
     by : (load apply tried widen pin unpin at : Bool)
-        → file_named (cond load (asked_with Load (name_in rest)) (cond apply (asked_with Apply (name_in rest)) (cond tried (asked_with Try (name_in rest))
-        (cond widen (widen_in layout rest) (cond pin (asked_with Pin (pin_name_in rest)) (cond unpin (asked_with Unpin (pin_name_in rest))
+        → file_named (cond load (asked_with Load (name_in rest))
+        (cond apply (asked_with Apply (name_in rest)) (cond tried (asked_with Try (name_in rest))
+        (cond widen (widen_in layout rest)
+        (cond pin (asked_with Pin (pin_name_in rest)) (cond unpin (asked_with Unpin (pin_name_in rest))
         (cond at (at_in layout rest) (asked_with Ask (query_named layout word rest)))))))))
-        ≡ cond load (file_named (asked_with Load (name_in rest))) (cond apply (file_named (asked_with Apply (name_in rest))) (cond tried (file_named (asked_with Try (name_in rest))) None))
+        ≡ cond load (file_named (asked_with Load (name_in rest)))
+        (cond apply (file_named (asked_with Apply (name_in rest)))
+        (cond tried (file_named (asked_with Try (name_in rest))) None))
     by true apply tried widen pin unpin at = refl
     by false true tried widen pin unpin at = refl
     by false false true widen pin unpin at = refl
@@ -77,12 +87,15 @@ named-same layout word rest =
 
 -- the file that a line names, whatever the schema
 abbrev line_names : List ℕ → Option Text
-line_names line = cond (is_utf8 line) (cond (bytes_eq line stats_line) None (named_by (word_of line) (rest_of line))) None
+line_names line = cond (is_utf8 line)
+    (cond (bytes_eq line stats_line) None (named_by (word_of line) (rest_of line))) None
 
 line-same : (layout : Layout) (line : List ℕ) → file_of layout line ≡ line_names line
 line-same layout line = by (is_utf8 line) (bytes_eq line stats_line)
   where
-    by : (text stats : Bool) → file_named (cond text (cond stats (Ok (Ask queries.Stats)) (command_named layout (word_of line) (rest_of line))) (Err faults.Utf8))
+    by : (text stats : Bool)
+        → file_named (cond text
+        (cond stats (Ok (Ask queries.Stats)) (command_named layout (word_of line) (rest_of line))) (Err faults.Utf8))
         ≡ cond text (cond stats None (named_by (word_of line) (rest_of line))) None
     by true true = refl
     by true false = named-same layout (word_of line) (rest_of line)

@@ -4,7 +4,7 @@ mod Completed
 mod Ended
 mod FileNamed
 mod Found
-mod Handed
+mod FlushLemmas
 mod Named
 mod Packed
 mod PinAnswers

@@ -1,5 +1,6 @@
 -- Files and lines that are refused.
-use Rattle.std.proofs.Common.{◌==◌, ◌≡◌, ◌<◌, ◌∙◌, ℕ, suc, Bool, true, false, cond, Option, Some, None, IfSome, List, [], ◌∷◌, length, refl, ap, arith, Result, Ok, Err}
+use Rattle.std.proofs.Common.{◌==◌, ◌≡◌, ◌<◌, ◌∙◌, ℕ, suc, Bool, true, false, cond, Option, Some, None, IfSome, List, [], ◌∷◌, length, refl}
+use Rattle.std.proofs.Common.{ap, arith, Result, Ok, Err}
 use Rattle.std.specs.Prelude.{nat_lt, fold, option_map}
 use Rattle.std.specs.List.{position_or_len}
 use Rattle.std.proofs.lemmas.Bool.{ltb-true}
@@ -10,7 +11,8 @@ use Rattle.csv_load.specs.Batch.{Change, deleted, inserted}
 use Rattle.csv_load.specs.Files.{base_in, batch_in}
 use Rattle.csv_load.specs.Faults.{Fault}
 use Rattle.warehouse.specs.Batch as batches
-use Rattle.warehouse.specs.Batch.{Applied, FileUse, Refusal, after, first_number, first_twice, full_dim, is_missing, is_present, or_else, refusal_of, result, result_of, rows_after, texts_after, unless, with_row, with_tuple}
+use Rattle.warehouse.specs.Batch.{Applied, FileUse, Refusal, after, first_number, first_twice, full_dim, is_missing, is_present, or_else}
+use Rattle.warehouse.specs.Batch.{refusal_of, result, result_of, rows_after, texts_after, unless, with_row, with_tuple}
 use Rattle.warehouse.specs.State.{IsState, State, ids_of}
 use Rattle.warehouse.specs.Stored.{refusal_in}
 use Rattle.warehouse.specs.declared.refused.Refused.{Refused}
@@ -57,19 +59,26 @@ not-nodes : (b : Bool) (dim : ℕ) → cond b (Some batches.NodesFull) None ≡ 
 not-nodes true dim e = cc
 not-nodes false dim e = cc
 
-values-within : (s : State) (changes : List (Change Text)) (dim : ℕ) → IsState s → refusal_of s changes ≡ Some (batches.ValuesFull dim) → dim < length s.schema.dims
+values-within : (s : State) (changes : List (Change Text)) (dim : ℕ) → IsState s
+    → refusal_of s changes ≡ Some (batches.ValuesFull dim) → dim < length s.schema.dims
 values-within s changes dim is e =
-    let rest = or-second (option_map (λ k. batches.Twice k) (first_twice changes)) _ _ (not-numbered _ _ (first_twice changes) (λ k h. cc)) e in
-    let rest2 = or-second (option_map (λ k. batches.Missing k) (first_number (is_missing (ids_of s.rows)) changes)) _ _ (not-numbered _ _ (first_number (is_missing (ids_of s.rows)) changes) (λ k h. cc)) rest in
-    let rest3 = or-second (option_map (λ k. batches.Present k) (first_number (is_present (ids_of s.rows) (deleted changes)) changes)) _ _ (not-numbered _ _ (first_number (is_present (ids_of s.rows) (deleted changes)) changes) (λ k h. cc)) rest2 in
-    let rest4 = or-second (cond (nat_lt s.schema.rows (length (rows_after s.rows changes))) (Some batches.RowsFull) None) _ _ (not-rows _ dim) rest3 in
+    let rest = or-second (option_map (λ k. batches.Twice k) (first_twice changes)) _ _
+    (not-numbered _ _ (first_twice changes) (λ k h. cc)) e in
+    let rest2 = or-second (option_map (λ k. batches.Missing k) (first_number (is_missing (ids_of s.rows)) changes)) _ _
+    (not-numbered _ _ (first_number (is_missing (ids_of s.rows)) changes) (λ k h. cc)) rest in
+    let rest3 = or-second (option_map (λ k. batches.Present k)
+    (first_number (is_present (ids_of s.rows) (deleted changes)) changes)) _ _
+    (not-numbered _ _ (first_number (is_present (ids_of s.rows) (deleted changes)) changes) (λ k h. cc)) rest2 in
+    let rest4 = or-second (cond (nat_lt s.schema.rows (length (rows_after s.rows changes)))
+    (Some batches.RowsFull) None) _ _ (not-rows _ dim) rest3 in
     values (full_dim s.schema.values (texts_after s.texts changes)) refl rest4
   where
     full : Bool
     full = nat_lt s.schema.nodes (length (nodes text_cmp (rows_after s.rows changes)))
 
     values : (o : Option ℕ) → full_dim s.schema.values (texts_after s.texts changes) ≡ o
-        → or_else (option_map (λ d. batches.ValuesFull d) o) (cond full (Some batches.NodesFull) None) ≡ Some (batches.ValuesFull dim) → dim < length s.schema.dims
+        → or_else (option_map (λ d. batches.ValuesFull d) o) (cond full (Some batches.NodesFull) None)
+        ≡ Some (batches.ValuesFull dim) → dim < length s.schema.dims
     values None e h = absurd (not-nodes full dim h)
     values (Some d) e h =
         let same : d ≡ dim = cc in
@@ -83,19 +92,31 @@ unless-err (Some q) applied r e = ap (λ x. Some x) (same e)
     same : {x y : Refusal} → (let u : Result Applied Refusal = Err x in u) ≡ Err y → x ≡ y
     same e = cc
 
-of-within : (s : State) (read : Result (List (Change Text)) Fault) (dim : ℕ) → IsState s → result_of s read ≡ Err (batches.ValuesFull dim) → dim < length s.schema.dims
+of-within : (s : State) (read : Result (List (Change Text)) Fault) (dim : ℕ) → IsState s
+    → result_of s read ≡ Err (batches.ValuesFull dim) → dim < length s.schema.dims
 of-within s (Err fault) dim is e = cc
-of-within s (Ok changes) dim is e = values-within s changes dim is (unless-err (refusal_of s changes) (record { records = length changes; classes = length (classes text_cmp (rows_after s.rows changes)); state = after s changes }) _ e)
+of-within s (Ok changes) dim is e
+    = values-within s changes dim is
+    (unless-err (refusal_of s changes)
+    (record {
+      records = length changes;
+      classes = length (classes text_cmp (rows_after s.rows changes));
+      state
+          = after s changes;
+    }) _ e)
 
-result-within : (s : State) (kind : FileUse) (bytes : List ℕ) (dim : ℕ) → IsState s → result s kind bytes ≡ Err (batches.ValuesFull dim) → dim < length s.schema.dims
+result-within : (s : State) (kind : FileUse) (bytes : List ℕ) (dim : ℕ) → IsState s
+    → result s kind bytes ≡ Err (batches.ValuesFull dim) → dim < length s.schema.dims
 result-within s batches.Load bytes dim is e = go (length s.rows == 0) e
   where
-    go : (b : Bool) → cond b (result_of s (base_in s.schema bytes)) (Err batches.NotEmpty) ≡ Err (batches.ValuesFull dim) → dim < length s.schema.dims
+    go : (b : Bool) → cond b (result_of s (base_in s.schema bytes)) (Err batches.NotEmpty)
+        ≡ Err (batches.ValuesFull dim) → dim < length s.schema.dims
     go true h = of-within s (base_in s.schema bytes) dim is h
     go false h = cc
 result-within s batches.Apply bytes dim is e = of-within s (batch_in s.schema bytes) dim is e
 
-pub dim-within : (s : State) (kind : FileUse) (bytes : List ℕ) (e : Refused) → IsState s → IfSome (refusal_in e) (λ r. result s kind bytes ≡ Err r) → IsDimension e (length s.schema.dims)
+pub dim-within : (s : State) (kind : FileUse) (bytes : List ℕ) (e : Refused) → IsState s
+    → IfSome (refusal_in e) (λ r. result s kind bytes ≡ Err r) → IsDimension e (length s.schema.dims)
 dim-within s kind bytes files.NotEmpty is h = tt
 dim-within s kind bytes files.Header is h = tt
 dim-within s kind bytes (files.Fields k) is h = tt

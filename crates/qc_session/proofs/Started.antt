@@ -1,38 +1,51 @@
 -- The state at which a run starts, by what its first file gives.
 use Rattle.std.proofs.Common.{◌≡◌, ◌⊎◌, List, Option, Some, None, IfSome, inl, inr, ℕ}
-use Rattle.qc_io.specs.Outside.{Told}
+use Rattle.qc_io.specs.Outside.{FileContents}
 use Rattle.warehouse.specs.State.{State}
 use Rattle.qc_session.specs.Forms.{FileNames, FromSchema, FromSnapshot, Source}
-use Rattle.qc_session.specs.Runs.{Begins, BeginsNot, CannotRead, CannotWrite, Cause, HasNoStart, IsNever, IsScriptOf, IsStartOf, LongSnapshot, NoSchema, NoSnapshot, OutOfMemory, ReadFails, TooLong, Usage}
+use Rattle.qc_session.specs.Runs.{Begins, BeginsNot, CannotRead, CannotWrite, Cause, HasNoStart, IsNever, IsScriptOf, IsStartOf}
+use Rattle.qc_session.specs.Runs.{LongSnapshot, NoSchema, NoSnapshot, OutOfMemory, ReadFails, TooLong, Usage}
 
 -- the first file is read and tells a start
-pub started : (told : Option Told) (names : FileNames) (bytes : List ℕ) (start : State) → IfSome told (λ t. IsScriptOf t names.first bytes) → Begins names.source bytes start → IfSome told (λ t. IsStartOf t names start)
+pub started : (told : Option FileContents) (names : FileNames) (bytes : List ℕ) (start : State)
+    → IfSome told (λ t. IsScriptOf t names.first bytes) → Begins names.source bytes start
+    → IfSome told (λ t. IsStartOf t names start)
 started None names bytes start read begins = tt
-started (Some t) names bytes start read begins = record { bytes = bytes; is_told = read.is_told; within = read.within; begins = begins }
+started (Some t) names bytes start read begins
+    = record { bytes = bytes; is_told = read.is_told; within = read.within; begins = begins }
 
 -- it is read and tells none
-no-start : (t : Told) (names : FileNames) (bytes : List ℕ) (cause : Cause) → IsScriptOf t names.first bytes → BeginsNot names.source bytes cause → HasNoStart names cause t
+no-start : (t : FileContents) (names : FileNames) (bytes : List ℕ) (cause : Cause) → IsScriptOf t names.first bytes
+    → BeginsNot names.source bytes cause → HasNoStart names cause t
 no-start t names bytes cause read none = rw read.is_told (read.within, none)
 
-told-none : (told : Option Told) (names : FileNames) (bytes : List ℕ) (cause : Cause) → IfSome told (λ t. IsScriptOf t names.first bytes) → BeginsNot names.source bytes cause → IfSome told (HasNoStart names cause)
+told-none : (told : Option FileContents) (names : FileNames) (bytes : List ℕ) (cause : Cause)
+    → IfSome told (λ t. IsScriptOf t names.first bytes) → BeginsNot names.source bytes cause
+    → IfSome told (HasNoStart names cause)
 told-none None names bytes cause read none = tt
 told-none (Some t) names bytes cause read none = no-start t names bytes cause read none
 
-pub start-fails : (told : Option Told) (names : FileNames) (rose sure : Type 0) (bytes : List ℕ) (cause : Cause) → IfSome told (λ t. IsScriptOf t names.first bytes)
-    → (cause ≡ OutOfMemory) ⊎ BeginsNot names.source bytes cause → ReadFails told names.first rose sure (HasNoStart names) cause
+pub start-fails : (told : Option FileContents) (names : FileNames) (rose sure : Type 0) (bytes : List ℕ) (cause : Cause)
+    → IfSome told (λ t. IsScriptOf t names.first bytes)
+    → (cause ≡ OutOfMemory) ⊎ BeginsNot names.source bytes cause
+    → ReadFails told names.first rose sure (HasNoStart names) cause
 start-fails told names rose sure bytes cause read (inl is) = rw is tt
-start-fails told names rose sure bytes cause read (inr none) = by names.source none (told-none told names bytes cause read none)
+start-fails told names rose sure bytes cause read (inr none)
+    = by names.source none (told-none told names bytes cause read none)
   where
-    by : (source : Source) → BeginsNot source bytes cause → IfSome told (HasNoStart names cause) → ReadFails told names.first rose sure (HasNoStart names) cause
+    by : (source : Source) → BeginsNot source bytes cause → IfSome told (HasNoStart names cause)
+        → ReadFails told names.first rose sure (HasNoStart names) cause
     by FromSchema (fault, is, why) h = rw why (rw why at h)
     by FromSnapshot (every, why) h = rw why (rw why at h)
 
-never : (told : Option Told) (names : FileNames) (cause : Cause) → IfSome told (IsNever cause) → IfSome told (HasNoStart names cause)
+never : (told : Option FileContents) (names : FileNames) (cause : Cause) → IfSome told (IsNever cause)
+    → IfSome told (HasNoStart names cause)
 never None names cause h = tt
 never (Some t) names cause h = absurd h
 
 -- it isn't read
-pub first-fails : (told : Option Told) (names : FileNames) (rose sure : Type 0) (cause : Cause) → ReadFails told names.first rose sure IsNever cause → ReadFails told names.first rose sure (HasNoStart names) cause
+pub first-fails : (told : Option FileContents) (names : FileNames) (rose sure : Type 0) (cause : Cause)
+    → ReadFails told names.first rose sure IsNever cause → ReadFails told names.first rose sure (HasNoStart names) cause
 first-fails told names rose sure Usage h = h
 first-fails told names rose sure (CannotRead file) h = h
 first-fails told names rose sure CannotWrite h = h

@@ -6,23 +6,28 @@ use Rattle.qc_session.specs.Stops.{MatchLineStop}
 use Rattle.qc_session.specs.declared.answer.LineStop.{LineStop}
 use Rattle.qc_session.specs.declared.answer.LineStop.TheVariants as stops
 
-pub fault-alone : (stop : LineStop) (F : Type 0) (named : Option Text) → MatchLineStop stop ⊤ (λ file. (named ≡ Some file) × F) → MatchLineStop stop ⊤ (λ file. F)
+pub fault-alone : (stop : LineStop) (F : Type 0) (named : Option Text)
+    → MatchLineStop stop ⊤ (λ file. (named ≡ Some file) × F) → MatchLineStop stop ⊤ (λ file. F)
 fault-alone stops.Memory F named h = tt
 fault-alone (stops.Fault name) F named h = h.1
 
-pub line-skips : {T : Type 0} (r : Result T LineStop) (Wanted Wanted2 F : Type 0) (named named2 : Option Text) → (Wanted → Wanted2) → named2 ≡ named → IfErr r (λ stop. MatchLineStop stop Wanted (λ file. ⊤))
-    → IfErr r (λ stop. MatchLineStop stop ⊤ (λ file. (named ≡ Some file) × F)) → IfErr r (λ stop. MatchLineStop stop Wanted2 (λ file. named2 ≡ Some file))
+pub line-skips : {T : Type 0} (r : Result T LineStop) (Wanted Wanted2 F : Type 0) (named named2 : Option Text)
+    → (Wanted → Wanted2) → named2 ≡ named → IfErr r (λ stop. MatchLineStop stop Wanted (λ file. ⊤))
+    → IfErr r (λ stop. MatchLineStop stop ⊤ (λ file. (named ≡ Some file) × F))
+    → IfErr r (λ stop. MatchLineStop stop Wanted2 (λ file. named2 ≡ Some file))
 line-skips (Ok x) Wanted Wanted2 F named named2 wider same memory fault = tt
 line-skips (Err stops.Memory) Wanted Wanted2 F named named2 wider same memory fault = wider memory
 line-skips (Err (stops.Fault name)) Wanted Wanted2 F named named2 wider same memory fault = same ∙ fault.0
 
 -- of a line that names a file
-pub memory-wanted : {T : Type 0} (r : Result T LineStop) (Wanted : Type 0) → Wanted → IfErr r (λ stop. MatchLineStop stop Wanted (λ file. ⊤))
+pub memory-wanted : {T : Type 0} (r : Result T LineStop) (Wanted : Type 0) → Wanted
+    → IfErr r (λ stop. MatchLineStop stop Wanted (λ file. ⊤))
 memory-wanted (Ok x) Wanted wanted = tt
 memory-wanted (Err stops.Memory) Wanted wanted = wanted
 memory-wanted (Err (stops.Fault name)) Wanted wanted = tt
 
-pub fault-named : {T : Type 0} (r : Result T LineStop) (name : Text) (F : Type 0) → IfErr r (λ stop. MatchLineStop stop ⊤ (λ file. (file ≡ name) × F))
+pub fault-named : {T : Type 0} (r : Result T LineStop) (name : Text) (F : Type 0)
+    → IfErr r (λ stop. MatchLineStop stop ⊤ (λ file. (file ≡ name) × F))
     → IfErr r (λ stop. MatchLineStop stop ⊤ (λ file. (Some name ≡ Some file) × F))
 fault-named (Ok x) name F h = tt
 fault-named (Err stops.Memory) name F h = tt

@@ -27,11 +27,13 @@ pub data Form : Type 0 where
   Pack : FileNames → Form
   Gen : Drawing → Form
 
--- from one row to the most that a cube may have; the numbers are there where the words are decimal digits alone, of a value below 2 ^ 64
+-- from one row to the most that a cube may have; the numbers are there where the words are decimal digits alone, of a
+-- value below 2 ^ 64
 abbrev pub drawing_of : Option ℕ → Option ℕ → Option Form
 drawing_of None seed = None
 drawing_of (Some rows) None = None
-drawing_of (Some rows) (Some seed) = if nat_lt 0 rows && nat_le rows MAX_ROWS then Some (Gen (record { rows = rows; seed = seed })) else None
+drawing_of (Some rows) (Some seed) = if nat_lt 0 rows && nat_le rows MAX_ROWS
+    then Some (Gen (record { rows = rows; seed = seed })) else None
 
 -- the form of the words, where they are one
 abbrev pub form_of : List (String Global) → Option Form
@@ -39,9 +41,12 @@ form_of [] = None
 form_of (a ∷ []) = None
 form_of (a ∷ b ∷ []) = None
 form_of (a ∷ b ∷ c ∷ []) =
-    if bytes_eq (string_bytes a) (codes "run") then Some (Run (record { source = FromSchema; first = string_bytes b; script = string_bytes c }))
-    else if bytes_eq (string_bytes a) (codes "open") then Some (Run (record { source = FromSnapshot; first = string_bytes b; script = string_bytes c }))
-    else if bytes_eq (string_bytes a) (codes "pack") then Some (Pack (record { source = FromSchema; first = string_bytes b; script = string_bytes c }))
+    if bytes_eq (string_bytes a) (codes "run")
+    then Some (Run (record { source = FromSchema; first = string_bytes b; script = string_bytes c }))
+    else if bytes_eq (string_bytes a) (codes "open")
+    then Some (Run (record { source = FromSnapshot; first = string_bytes b; script = string_bytes c }))
+    else if bytes_eq (string_bytes a) (codes "pack")
+    then Some (Pack (record { source = FromSchema; first = string_bytes b; script = string_bytes c }))
     else if bytes_eq (string_bytes a) (codes "gen") then drawing_of (id_in (string_bytes b)) (id_in (string_bytes c))
     else None
 form_of (a ∷ b ∷ c ∷ d ∷ more) = None

@@ -1,5 +1,5 @@
 pub mod Lines
-pub mod Handed
+pub mod Flushed
 pub mod Pins
 pub mod Answers
 pub mod Transcript

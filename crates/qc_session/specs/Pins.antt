@@ -42,27 +42,28 @@ pub record PinnedAnswer : Type 0 where
   pub state : PinnedState
   pub reply : List ℕ
 
-abbrev pub keeps : PinnedState → List ℕ → PinnedAnswer
-keeps s reply = record { state = s; reply = reply }
+abbrev pub unchanged_with_pins : PinnedState → List ℕ → PinnedAnswer
+unchanged_with_pins s reply = record { state = s; reply = reply }
 
 -- the answer to `pin`: the rows of the state go under a new name, behind the other pins
 abbrev pub pin_with : PinnedState → ℕ → Text → Option (List (Row Text)) → PinnedAnswer
-pin_with s line name (Some rows) = keeps s (refused_text line name_taken_texts)
+pin_with s line name (Some rows) = unchanged_with_pins s (refused_text line name_taken_texts)
 pin_with s line name None =
     if nat_lt (length s.pins) MAX_PINS
     then record {
       state = record s { pins = s.pins ++ record { name = name; rows = s.state.rows } ∷ [] };
       reply = pinned_text line name (length (classes text_cmp s.state.rows));
     }
-    else keeps s (refused_text line all_pinned_texts)
+    else unchanged_with_pins s (refused_text line all_pinned_texts)
 
 abbrev pub pin_answer : PinnedState → ℕ → Text → PinnedAnswer
 pin_answer s line name = pin_with s line name (rows_at s.pins name)
 
 -- the answer to `unpin`: the pin goes
 abbrev pub unpin_with : PinnedState → ℕ → Text → Option (List (Row Text)) → PinnedAnswer
-unpin_with s line name None = keeps s (refused_text line not_pinned_texts)
-unpin_with s line name (Some rows) = record { state = record s { pins = without_pin s.pins name }; reply = unpinned_text line name }
+unpin_with s line name None = unchanged_with_pins s (refused_text line not_pinned_texts)
+unpin_with s line name (Some rows)
+    = record { state = record s { pins = without_pin s.pins name }; reply = unpinned_text line name }
 
 abbrev pub unpin_answer : PinnedState → ℕ → Text → PinnedAnswer
 unpin_answer s line name = unpin_with s line name (rows_at s.pins name)
@@ -79,5 +80,5 @@ at_reply s line name query = reply_over s.state line query (rows_at s.pins name)
 abbrev pub pin_in : Version → Pin
 pin_in version = record { name = version.name; rows = version.rows }
 
-abbrev pub held_in : Versions → PinnedState
-held_in held = record { state = held.now.state; pins = map pin_in held.pins }
+abbrev pub pinned_state_in : Versions → PinnedState
+pinned_state_in held = record { state = held.now.state; pins = map pin_in held.pins }

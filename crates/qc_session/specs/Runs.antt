@@ -1,8 +1,9 @@
 -- How a run ends.
-use Rattle.std.specs.Prelude.{◌≡◌, ◌≢◌, ◌≤◌, ◌<◌, ◌&&◌, ◌⊎◌, ◌++◌, ℕ, zero, suc, Bool, true, not, List, [], ◌∷◌, length, take, Option, Some, None, IfSome, IsSome, IsSomeAnd, codes, slice_index_or, decimal, Ok, Err, option_map, ⊤}
+use Rattle.std.specs.Prelude.{◌≡◌, ◌≢◌, ◌≤◌, ◌<◌, ◌&&◌, ◌⊎◌, ◌++◌, ℕ, zero, suc, Bool, true, not, List, [], ◌∷◌, length, take, Option, Some}
+use Rattle.std.specs.Prelude.{None, IfSome, IsSome, IsSomeAnd, codes, slice_index_or, decimal, Ok, Err, option_map, ⊤}
 use Rattle.std.specs.List.{All, AllByRecursion}
 use Rattle.cube_defs.specs.declared.limits.TheConstants.{MAX_FILE}
-use Rattle.qc_io.specs.Outside.{Told, taking}
+use Rattle.qc_io.specs.Outside.{FileContents, with_taken}
 use Rattle.qc_schema.specs.Grammar.{schema_in}
 use Rattle.qc_schema.specs.Schema.{Layout}
 use Rattle.qc_schema.specs.Progress as schemas
@@ -60,7 +61,8 @@ fault_text (schemas.Line line cause) = codes "line " ++ decimal line ++ codes ":
 
 -- the line that tells it
 abbrev pub error_text : Cause → List ℕ
-error_text Usage = codes "usage: qcube run SCHEMA SCRIPT | qcube gen ROWS SEED | qcube pack SCHEMA SCRIPT | qcube open SNAPSHOT SCRIPT\n"
+error_text Usage = codes
+    "usage: qcube run SCHEMA SCRIPT | qcube gen ROWS SEED | qcube pack SCHEMA SCRIPT | qcube open SNAPSHOT SCRIPT\n"
 error_text (CannotRead name) = codes "qcube: cannot read " ++ name ++ 10 ∷ []
 error_text CannotWrite = codes "qcube: cannot write\n"
 error_text OutOfMemory = codes "qcube: out of memory\n"
@@ -80,31 +82,34 @@ BeginsNot FromSchema bytes cause = (fault : schemas.Fault) × (schema_in bytes �
 BeginsNot FromSnapshot bytes cause = ((s : State) → IsState s → bytes ≢ spelling s) × (cause ≡ NoSnapshot)
 
 -- a start that is read: the first file is there, is no longer than a file may be, and tells it
-pub record IsStartOf (told : Told) (names : FileNames) (start : State) : Type 0 where
+pub record IsStartOf (told : FileContents) (names : FileNames) (start : State) : Type 0 where
   pub bytes : List ℕ
   pub is_told : told names.first ≡ Some bytes
   pub within : length bytes ≤ MAX_FILE
   pub begins : Begins names.source bytes start
 
 -- a script that is read
-pub record IsScriptOf (told : Told) (name bytes : List ℕ) : Type 0 where
+pub record IsScriptOf (told : FileContents) (name bytes : List ℕ) : Type 0 where
   pub is_told : told name ≡ Some bytes
   pub within : length bytes ≤ MAX_FILE
 
 -- the file of a name is longer than a file may be
-abbrev pub IsLong : Told → List ℕ → Cause → Type 0
+abbrev pub IsLong : FileContents → List ℕ → Cause → Type 0
 IsLong told name cause = IsSomeAnd (told name) (λ bytes. MAX_FILE < length bytes) × (cause ≡ TooLong name)
 
 -- the first file tells no start
-abbrev pub HasNoStart : FileNames → Cause → Told → Type 0
-HasNoStart names cause told = IsSomeAnd (told names.first) (λ bytes. (length bytes ≤ MAX_FILE) × BeginsNot names.source bytes cause)
+abbrev pub HasNoStart : FileNames → Cause → FileContents → Type 0
+HasNoStart names cause told
+    = IsSomeAnd (told names.first) (λ bytes. (length bytes ≤ MAX_FILE) × BeginsNot names.source bytes cause)
 
--- Why a run is refused before its first line: the first file is too long or tells no start, or else the script is too long.
-abbrev pub IsRefused : Told → FileNames → Cause → Type 0
+-- Why a run is refused before its first line: the first file is too long or tells no start, or else the script is too
+-- long.
+abbrev pub IsRefused : FileContents → FileNames → Cause → Type 0
 IsRefused told names cause =
-    IsLong told names.first cause ⊎ HasNoStart names cause told ⊎ ((start : State) × IsStartOf told names start × IsLong told names.script cause)
+    IsLong told names.first cause ⊎ HasNoStart names cause told
+    ⊎ ((start : State) × IsStartOf told names start × IsLong told names.script cause)
 
-abbrev pub IsUnrefused : Told → FileNames → Type 0
+abbrev pub IsUnrefused : FileContents → FileNames → Type 0
 IsUnrefused told names = (cause : Cause) → IsRefused told names cause → ⊥
 
 -- the line with a number, counted from 1, and no bytes where there is none
@@ -130,31 +135,36 @@ abbrev pub state_in : Option Contents → Option State
 state_in end = option_map (λ held. held.state) end
 
 -- these lines were taken, and these were their replies
-pub record Took (told : Told) (start : State) (skipped : List ℕ) (lines : List (List ℕ)) (state : PinnedState) (replies : List ℕ) : Type 0 where
+pub record Took (told : FileContents) (start : State) (skipped : List ℕ) (lines : List (List ℕ)) (state : PinnedState)
+    (replies : List ℕ) : Type 0 where
   pub is : transcript told start skipped lines ≡ run_at state replies
 
 -- out took the replies of these lines
-pub record Wrote (told : Told) (start : State) (skipped : List ℕ) (lines : List (List ℕ)) (before now : Option (List ℕ)) : Type 0 where
+pub record Wrote (told : FileContents) (start : State) (skipped : List ℕ) (lines : List (List ℕ))
+    (before now : Option (List ℕ)) : Type 0 where
   pub state : PinnedState
   pub replies : List ℕ
   pub took : Took told start skipped lines state replies
-  pub wrote : now ≡ taking replies before
+  pub wrote : now ≡ with_taken replies before
 
 -- the same, and this is the state that they left
-pub record WroteAll (told : Told) (start : State) (skipped : List ℕ) (lines : List (List ℕ)) (end : Option State) (before now : Option (List ℕ)) : Type 0 where
+pub record WroteAll (told : FileContents) (start : State) (skipped : List ℕ) (lines : List (List ℕ))
+    (end : Option State) (before now : Option (List ℕ)) : Type 0 where
   pub wrote : Wrote told start skipped lines before now
   pub ended : end ≡ Some wrote.state.state
 
 -- out took a front of the replies of these lines
-pub record WroteFront (told : Told) (start : State) (skipped : List ℕ) (lines : List (List ℕ)) (before now : Option (List ℕ)) : Type 0 where
+pub record WrotePrefix (told : FileContents) (start : State) (skipped : List ℕ) (lines : List (List ℕ))
+    (before now : Option (List ℕ)) : Type 0 where
   pub state : PinnedState
   pub replies : List ℕ
   pub count : ℕ
   pub took : Took told start skipped lines state replies
-  pub wrote : now ≡ taking (take count replies) before
+  pub wrote : now ≡ with_taken (take count replies) before
 
 -- out took the replies of the lines before one whose file couldn't be read
-pub record StoppedAt (told : Told) (sure : Type 0) (start : State) (skipped : List ℕ) (lines : List (List ℕ)) (name : List ℕ) (before now : Option (List ℕ)) : Type 0 where
+pub record StoppedAt (told : FileContents) (sure : Type 0) (start : State) (skipped : List ℕ) (lines : List (List ℕ))
+    (name : List ℕ) (before now : Option (List ℕ)) : Type 0 where
   pub done : List (List ℕ)
   pub line : List ℕ
   pub rest : List (List ℕ)
@@ -164,18 +174,19 @@ pub record StoppedAt (told : Told) (sure : Type 0) (start : State) (skipped : Li
   pub untold : sure → told name ≡ None
 
 -- out took a front of the replies of some first lines
-pub record StoppedWriting (told : Told) (start : State) (skipped : List ℕ) (lines : List (List ℕ)) (before now : Option (List ℕ)) : Type 0 where
+pub record StoppedWriting (told : FileContents) (start : State) (skipped : List ℕ) (lines : List (List ℕ))
+    (before now : Option (List ℕ)) : Type 0 where
   pub done : List (List ℕ)
   pub rest : List (List ℕ)
   pub split : lines ≡ done ++ rest
-  pub wrote : WroteFront told start skipped done before now
+  pub wrote : WrotePrefix told start skipped done before now
 
 -- where err's count didn't rise, it took the line that tells a cause
-abbrev pub Said : Type 0 → Cause → Option (List ℕ) → Option (List ℕ) → Type 0
-Said rose cause before now = (rose → ⊥) → now ≡ taking (error_text cause) before
+abbrev pub HasReported : Type 0 → Cause → Option (List ℕ) → Option (List ℕ) → Type 0
+HasReported rose cause before now = (rose → ⊥) → now ≡ with_taken (error_text cause) before
 
 -- why a file of the words wasn't read: a fault, want of memory, or what it holds
-abbrev pub ReadFails : Option Told → List ℕ → Type 0 → Type 0 → (Cause → Told → Type 0) → Cause → Type 0
+abbrev pub ReadFails : Option FileContents → List ℕ → Type 0 → Type 0 → (Cause → FileContents → Type 0) → Cause → Type 0
 ReadFails told name rose sure form Usage = ⊥
 ReadFails told name rose sure form (CannotRead file) = (file ≡ name) × rose × IfSome told (λ t. sure → t name ≡ None)
 ReadFails told name rose sure form CannotWrite = ⊥
@@ -183,13 +194,15 @@ ReadFails told name rose sure form OutOfMemory = ⊤
 ReadFails told name rose sure form (NoSchema fault) = IfSome told (form (NoSchema fault))
 ReadFails told name rose sure form NoSnapshot = IfSome told (form NoSnapshot)
 ReadFails told name rose sure form LongSnapshot = ⊥
-ReadFails told name rose sure form (TooLong file) = (file ≡ name) × IfSome told (λ t. IsSomeAnd (t name) (λ bytes. MAX_FILE < length bytes))
+ReadFails told name rose sure form (TooLong file) = (file ≡ name)
+    × IfSome told (λ t. IsSomeAnd (t name) (λ bytes. MAX_FILE < length bytes))
 
-abbrev pub IsNever : Cause → Told → Type 0
+abbrev pub IsNever : Cause → FileContents → Type 0
 IsNever cause t = ⊥
 
 -- the whole transcript of the script's lines was written, and the run hands back the state at its end
-pub record Finished (told : Told) (names : FileNames) (skipped : List ℕ) (end : Option State) (before now : Option (List ℕ)) : Type 0 where
+pub record Finished (told : FileContents) (names : FileNames) (skipped : List ℕ) (end : Option State)
+    (before now : Option (List ℕ)) : Type 0 where
   pub start : State
   pub script : List ℕ
   pub start_read : IsStartOf told names start
@@ -197,7 +210,8 @@ pub record Finished (told : Told) (names : FileNames) (skipped : List ℕ) (end 
   pub wrote : WroteAll told start skipped (script_lines script) end before now
 
 -- a reply couldn't be written
-pub record BrokenOff (told : Told) (names : FileNames) (skipped : List ℕ) (before now : Option (List ℕ)) : Type 0 where
+pub record BrokenOff (told : FileContents) (names : FileNames) (skipped : List ℕ)
+    (before now : Option (List ℕ)) : Type 0 where
   pub start : State
   pub script : List ℕ
   pub start_read : IsStartOf told names start
@@ -205,7 +219,8 @@ pub record BrokenOff (told : Told) (names : FileNames) (skipped : List ℕ) (bef
   pub wrote : StoppedWriting told start skipped (script_lines script) before now
 
 -- a file that a line names couldn't be read
-pub record LineUnread (told : Told) (sure : Type 0) (names : FileNames) (skipped : List ℕ) (name : List ℕ) (before now : Option (List ℕ)) : Type 0 where
+pub record LineUnread (told : FileContents) (sure : Type 0) (names : FileNames) (skipped : List ℕ) (name : List ℕ)
+    (before now : Option (List ℕ)) : Type 0 where
   pub start : State
   pub script : List ℕ
   pub start_read : IsStartOf told names start
@@ -213,37 +228,43 @@ pub record LineUnread (told : Told) (sure : Type 0) (names : FileNames) (skipped
   pub stopped : StoppedAt told sure start skipped (script_lines script) name before now
 
 -- the first file couldn't be read
-pub record FirstUnread (told : Told) (sure : Type 0) (names : FileNames) (name : List ℕ) (before now : Option (List ℕ)) : Type 0 where
+pub record FirstUnread (told : FileContents) (sure : Type 0) (names : FileNames) (name : List ℕ)
+    (before now : Option (List ℕ)) : Type 0 where
   pub is_first : name ≡ names.first
   pub nothing : now ≡ before
   pub untold : sure → told name ≡ None
 
 -- the script couldn't be read, and the first file was
-pub record ScriptUnread (told : Told) (sure : Type 0) (names : FileNames) (name : List ℕ) (before now : Option (List ℕ)) : Type 0 where
+pub record ScriptUnread (told : FileContents) (sure : Type 0) (names : FileNames) (name : List ℕ)
+    (before now : Option (List ℕ)) : Type 0 where
   pub is_script : name ≡ names.script
   pub start : State
   pub start_read : IsStartOf told names start
   pub nothing : now ≡ before
   pub untold : sure → told name ≡ None
 
-abbrev pub Unread : Told → Type 0 → FileNames → List ℕ → List ℕ → Option (List ℕ) → Option (List ℕ) → Type 0
+abbrev pub Unread : FileContents → Type 0 → FileNames → List ℕ → List ℕ → Option (List ℕ) → Option (List ℕ) → Type 0
 Unread told sure names skipped name before now =
-    FirstUnread told sure names name before now ⊎ ScriptUnread told sure names name before now ⊎ LineUnread told sure names skipped name before now
+    FirstUnread told sure names name before now ⊎ ScriptUnread told sure names name before now
+    ⊎ LineUnread told sure names skipped name before now
 
 -- the file that a line names is told, where it names one
-abbrev pub IsLineTold : Told → Layout → List ℕ → Type 0
-IsLineTold told schema line = IfSome (file_of schema line) (λ name. IsSome (told name))
+abbrev pub IsLineFileKnown : FileContents → Layout → List ℕ → Type 0
+IsLineFileKnown told schema line = IfSome (file_of schema line) (λ name. IsSome (told name))
 
 -- each file that the words and the lines name is told
-pub record AllTold (told : Told) (names : FileNames) : Type 0 where
+pub record AllFilesKnown (told : FileContents) (names : FileNames) : Type 0 where
   pub first : IsSome (told names.first)
   pub script : IsSome (told names.script)
-  pub lines : (start : State) (script : List ℕ) → IsStartOf told names start → IsScriptOf told names.script script → All (IsLineTold told start.schema) (script_lines script)
+  pub lines : (start : State) (script : List ℕ) → IsStartOf told names start → IsScriptOf told names.script script
+      → All (IsLineFileKnown told start.schema) (script_lines script)
 
 -- why no line of a script was begun: a file of the words couldn't be read, memory lacked, or one of them is refused
-pub record NotBegun (told : Option Told) (names : FileNames) (faulted sure : Type 0) (cause : Cause) : Type 0 where
+pub record NotBegun (told : Option FileContents) (names : FileNames) (faulted sure : Type 0)
+    (cause : Cause) : Type 0 where
   pub known : (status_of cause ≡ 3) ⊎ (status_of cause ≡ 5) ⊎ (status_of cause ≡ 6)
   pub rose : status_of cause ≡ 3 → faulted
   pub unread : status_of cause ≡ 3
-      → IfSome told (λ t. (name : List ℕ) × (cause ≡ CannotRead name) × ((skipped : List ℕ) (bytes : Option (List ℕ)) → Unread t sure names skipped name bytes bytes))
+      → IfSome told (λ t. (name : List ℕ) × (cause ≡ CannotRead name)
+      × ((skipped : List ℕ) (bytes : Option (List ℕ)) → Unread t sure names skipped name bytes bytes))
   pub refused : status_of cause ≡ 6 → IfSome told (λ t. IsRefused t names cause)

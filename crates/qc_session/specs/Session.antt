@@ -1,11 +1,12 @@
 -- How one line goes on from those before it.
-use Rattle.std.specs.Prelude.{◌≡◌, ◌≤◌, ◌⊎◌, ◌+◌, ◌++◌, ℕ, true, List, [], ◌∷◌, Option, Some, None, IfSome, Result, MatchResult, vec_capacity, ⊤}
-use Rattle.qc_io.specs.Outside.{Told}
+use Rattle.std.specs.Prelude.{◌≡◌, ◌≤◌, ◌⊎◌, ◌+◌, ◌++◌, ℕ, true, List, [], ◌∷◌, Option, Some, None, IfSome, Result, MatchResult}
+use Rattle.std.specs.Prelude.{vec_capacity, ⊤}
+use Rattle.qc_io.specs.Outside.{FileContents}
 use Rattle.warehouse.specs.State.{State}
 use Rattle.qc_session.specs.Answers.{file_of}
-use Rattle.qc_session.specs.Pins.{PinnedState, held_in}
+use Rattle.qc_session.specs.Pins.{PinnedState, pinned_state_in}
 use Rattle.qc_session.specs.Transcript.{item, run_at, step}
-use Rattle.qc_session.specs.Handed.{IsHandedOn, TookFront}
+use Rattle.qc_session.specs.Flushed.{IsFlushed, TookPrefix}
 use Rattle.qc_session.specs.Runs.{AreSkipped, StoppedAt, StoppedWriting, Took, WroteAll, may_skip}
 use Rattle.qc_session.specs.declared.session.Session.{Session}
 use Rattle.qc_session.specs.declared.session.Stop.{Stop}
@@ -26,47 +27,63 @@ abbrev pub Skips : List ℕ → ℕ → List ℕ → List ℕ → Type 0
 Skips old number line new = (new ≡ old) ⊎ ((new ≡ old ++ number ∷ []) × (may_skip line ≡ true))
 
 -- a line that leads from this state to that gives this reply
-pub record Replies (told : Told) (skipped : List ℕ) (number : ℕ) (state : PinnedState) (line : List ℕ) (state2 : PinnedState) (reply : List ℕ) : Type 0 where
-  pub is : (replies : List ℕ) → step told (run_at state replies) (item skipped number line) ≡ run_at state2 (replies ++ reply)
+pub record Replies (told : FileContents) (skipped : List ℕ) (number : ℕ) (state : PinnedState) (line : List ℕ)
+    (state2 : PinnedState) (reply : List ℕ) : Type 0 where
+  pub is : (replies : List ℕ)
+      → step told (run_at state replies) (item skipped number line) ≡ run_at state2 (replies ++ reply)
 
 -- out took a front of what was kept and of the reply of a line, and the rest is kept
-abbrev pub WroteLine : Option Told → List ℕ → ℕ → PinnedState → List ℕ → PinnedState → List ℕ → List ℕ → Option (List ℕ) → Option (List ℕ) → Type 0
+abbrev pub WroteLine : Option FileContents → List ℕ → ℕ → PinnedState → List ℕ → PinnedState → List ℕ → List ℕ
+    → Option (List ℕ) → Option (List ℕ) → Type 0
 WroteLine told skipped number state line state2 kept kept2 before now =
-    IfSome told (λ t. (reply : List ℕ) × Replies t skipped number state line state2 reply × IsHandedOn (kept ++ reply) kept2 before now)
+    IfSome told (λ t. (reply : List ℕ) × Replies t skipped number state line state2 reply
+    × IsFlushed (kept ++ reply) kept2 before now)
 
 -- out refused the rest: of what was kept before the line, or of that and the line's reply
-abbrev pub WrotePart : Option Told → List ℕ → List ℕ → ℕ → PinnedState → List ℕ → PinnedState → List ℕ → Option (List ℕ) → Option (List ℕ) → Type 0
+abbrev pub WrotePart : Option FileContents → List ℕ → List ℕ → ℕ → PinnedState → List ℕ → PinnedState → List ℕ
+    → Option (List ℕ) → Option (List ℕ) → Type 0
 WrotePart told old new number state line state2 kept before now =
-    IfSome told (λ t. ((new ≡ old) × TookFront kept before now)
-    ⊎ ((reply : List ℕ) × Replies t new number state line state2 reply × TookFront (kept ++ reply) before now))
+    IfSome told (λ t. ((new ≡ old) × TookPrefix kept before now)
+    ⊎ ((reply : List ℕ) × Replies t new number state line state2 reply × TookPrefix (kept ++ reply) before now))
 
 -- these lines were taken, out took a front of their replies, and the rest is kept
-pub record Gathered (told : Told) (start : State) (skipped : List ℕ) (lines : List (List ℕ)) (state : PinnedState) (kept : List ℕ) (before now : Option (List ℕ)) : Type 0 where
+pub record Gathered (told : FileContents) (start : State) (skipped : List ℕ) (lines : List (List ℕ))
+    (state : PinnedState) (kept : List ℕ) (before now : Option (List ℕ)) : Type 0 where
   pub replies : List ℕ
   pub took : Took told start skipped lines state replies
-  pub handed : IsHandedOn replies kept before now
+  pub handed : IsFlushed replies kept before now
 
 -- how a reply was gathered: out took a front of these bytes, and the rest is kept, or it is refused where out failed
-pub record Puts {T : Type 0} (broke : Type 0) (bytes kept : List ℕ) (before now : Option (List ℕ)) (result : Result T Stop) : Type 0 where
-  pub by : MatchResult result (λ done. IsHandedOn bytes kept before now) (λ stop. IfStop stop (λ name. ⊥) (broke × TookFront bytes before now))
+pub record Puts {T : Type 0} (broke : Type 0) (bytes kept : List ℕ) (before now : Option (List ℕ))
+    (result : Result T Stop) : Type 0 where
+  pub by : MatchResult result (λ done. IsFlushed bytes kept before now)
+      (λ stop. IfStop stop (λ name. ⊥) (broke × TookPrefix bytes before now))
 
--- how a line was taken: whole; or its file couldn't be read, where the files failed; or a reply couldn't be written, where out broke
-pub record LineEnds {T : Type 0} (told : Option Told) (sure failed broke : Type 0) (line : List ℕ) (old new : Session) (before now : Option (List ℕ)) (result : Result T Stop) : Type 0 where
+-- how a line was taken: whole; or its file couldn't be read, where the files failed; or a reply couldn't be written,
+-- where out broke
+pub record LineEnds {T : Type 0} (told : Option FileContents) (sure failed broke : Type 0) (line : List ℕ)
+    (old new : Session) (before now : Option (List ℕ)) (result : Result T Stop) : Type 0 where
   pub number : new.number ≡ old.number
   pub capacity : vec_capacity old.skipped ≤ vec_capacity new.skipped
   pub skips : Skips old.skipped.items (old.number + 1) line new.skipped.items
   pub by : MatchResult result
-      (λ done. WroteLine told new.skipped.items (old.number + 1) (held_in old.pinned) line (held_in new.pinned) old.pending new.pending before now)
+      (λ done. WroteLine told new.skipped.items (old.number + 1) (pinned_state_in old.pinned) line
+      (pinned_state_in new.pinned) old.pending new.pending before now)
       (λ stop. IfStop stop
-      (λ name. failed × (file_of old.pinned.now.state.schema line ≡ Some name) × (sure → IfSome told (λ t. t name ≡ None))
-      × IsHandedOn old.pending [] before now × (new.skipped.items ≡ old.skipped.items))
-      (broke × WrotePart told old.skipped.items new.skipped.items (old.number + 1) (held_in old.pinned) line (held_in new.pinned) old.pending before now))
+      (λ name. failed × (file_of old.pinned.now.state.schema line ≡ Some name)
+      × (sure → IfSome told (λ t. t name ≡ None))
+      × IsFlushed old.pending [] before now × (new.skipped.items ≡ old.skipped.items))
+      (broke × WrotePart told old.skipped.items new.skipped.items (old.number + 1) (pinned_state_in old.pinned) line
+      (pinned_state_in new.pinned) old.pending before now))
 
 -- how all lines were taken, in the same three ways
-pub record LinesEnd {T : Type 0} (told : Option Told) (sure failed broke : Type 0) (lines : List (List ℕ)) (old new : Session) (before now : Option (List ℕ)) (result : Result T Stop) : Type 0 where
+pub record LinesEnd {T : Type 0} (told : Option FileContents) (sure failed broke : Type 0) (lines : List (List ℕ))
+    (old new : Session) (before now : Option (List ℕ)) (result : Result T Stop) : Type 0 where
   pub skipped : AreSkipped lines new.skipped.items
   pub by : MatchResult result
-      (λ done. IfSome told (λ t. WroteAll t old.pinned.now.state new.skipped.items lines (Some new.pinned.now.state) before now))
+      (λ done. IfSome told (λ t. WroteAll t old.pinned.now.state new.skipped.items lines
+      (Some new.pinned.now.state) before now))
       (λ stop. IfStop stop
-      (λ name. failed × IfSome told (λ t. StoppedAt t sure old.pinned.now.state new.skipped.items lines name before now))
+      (λ name. failed × IfSome told
+      (λ t. StoppedAt t sure old.pinned.now.state new.skipped.items lines name before now))
       (broke × IfSome told (λ t. StoppedWriting t old.pinned.now.state new.skipped.items lines before now)))

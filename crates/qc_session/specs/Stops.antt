@@ -2,7 +2,7 @@
 use Rattle.std.specs.Prelude.{ℕ, List}
 use Rattle.warehouse.specs.Batch as batches
 use Rattle.warehouse.specs.State.{State}
-use Rattle.qc_session.specs.Answers.{Answered}
+use Rattle.qc_session.specs.Answers.{StateAnswer}
 use Rattle.qc_session.specs.declared.answer.FileUse.{FileUse}
 use Rattle.qc_session.specs.declared.answer.FileUse.TheVariants as kinds
 use Rattle.qc_session.specs.declared.answer.LineStop.{LineStop}
@@ -18,11 +18,11 @@ kind_in kinds.Apply = batches.Apply
 kind_in kinds.Try = batches.Apply
 
 -- the state that is left: that before a file that is only tried, and else that after it
-abbrev pub left_by : FileUse → State → State → State
-left_by kinds.Load before then = then
-left_by kinds.Apply before then = then
-left_by kinds.Try before then = before
+abbrev pub state_by_use : FileUse → State → State → State
+state_by_use kinds.Load before then = then
+state_by_use kinds.Apply before then = then
+state_by_use kinds.Try before then = before
 
 -- an answer with the state that is left
-abbrev pub leaving : FileUse → State → Answered → Answered
-leaving kind before a = record { state = left_by kind before a.state; reply = a.reply }
+abbrev pub answer_by_use : FileUse → State → StateAnswer → StateAnswer
+answer_by_use kind before a = record { state = state_by_use kind before a.state; reply = a.reply }

@@ -1,7 +1,7 @@
 -- What a script answers, over the files that are told.
 use Rattle.std.specs.Prelude.{◌+◌, ◌==◌, ◌++◌, ℕ, Bool, true, false, List, [], ◌∷◌, Option, Some, None, if◌then◌else◌, fold}
 use Rattle.std.specs.List.{list_any}
-use Rattle.qc_io.specs.Outside.{Told}
+use Rattle.qc_io.specs.Outside.{FileContents}
 use Rattle.qc_session.specs.Lines.{is_passed}
 use Rattle.reply_text.specs.Replies.{memory_text}
 use Rattle.warehouse.specs.State.{State}
@@ -41,7 +41,7 @@ answered run (Some a) = record run { state = a.state; replies = run.replies ++ a
 
 -- One line more. A line that is passed over adds nothing, a skipped one adds the reply on memory and keeps the state
 -- and its pins, and each other one adds its answer. Where a file lacks, the transcript ends before that line.
-abbrev pub step : Told → Run → Item → Run
+abbrev pub step : FileContents → Run → Item → Run
 step told run item =
     if run.lacked then run
     else if is_passed item.line then run
@@ -49,5 +49,5 @@ step told run item =
     else answered run (answer run.state told item.number item.line)
 
 -- from the state at which a run starts, where no name is pinned
-unfoldable pub transcript : Told → State → List ℕ → List (List ℕ) → Run
+unfoldable pub transcript : FileContents → State → List ℕ → List (List ℕ) → Run
 transcript told start skipped lines = fold (step told) (run_at (unpinned start) []) (items skipped 0 lines)

@@ -1,14 +1,14 @@
 // The answer to one line.
 ghost use Rattle.std.specs.Prelude.{Err, IfErr, IfOk, IfSome, IsTrue, None, Ok, OnErr, OnOk, Some, length, option_map, true, ⊤, ◌≡◌, ◌≢◌, ◌≤◌};
-ghost use Rattle.qc_io.specs.Outside.{Rose, Told};
+ghost use Rattle.qc_io.specs.Outside.{Rose, FileContents};
 ghost use Rattle.query_script.specs.Commands.{IsQuestion, wants_memory};
 ghost use Rattle.query_script.specs.Lines.{may_want_memory};
 ghost use Rattle.query_script.specs.Questions.{question_in};
 ghost use Rattle.warehouse.specs.Batch as batches;
-ghost use Rattle.warehouse.specs.InPlace.{IsTaken, IsWithinCost, LeavesApart, LeavesNumbers};
+ghost use Rattle.warehouse.specs.InPlace.{IsAccepted, IsWithinCost, LeavesOtherRecords, LeavesNumbers};
 ghost use Rattle.warehouse.specs.State.{State};
-ghost use Rattle.qc_session.specs.Answers.{answer, answer_to, beside, changed, file_answer, file_named, file_of};
-ghost use Rattle.qc_session.specs.Pins.{held_in};
+ghost use Rattle.qc_session.specs.Answers.{answer, answer_to, with_pins, change_answer, file_answer, file_named, file_of};
+ghost use Rattle.qc_session.specs.Pins.{pinned_state_in};
 ghost use Rattle.query_answers.specs.Queries.{query_reply};
 ghost use Rattle.query_script.specs.Commands.{IsQuery};
 ghost use Rattle.query_script.specs.Queries as queries;
@@ -21,10 +21,10 @@ use cell_core::{Memory, Steps, Text};
 use cube_defs::MAX_FILE;
 use pinned_view::Pinned;
 use qc_io::{Files, ReadRefused, read_all};
-use query_answers::answer_now;
+use query_answers::answer_present;
 use query_script::{Command, Query, read_line};
 use reply_text::{
-    Reply, ShortReply, applied, refused, words_of_file, words_of_line, words_of_size,
+    Reply, ShortReply, applied_reply, file_refusal, line_refusal, refused, size_refusal,
 };
 use std::alloc::{AllocError, Global};
 use std::sync::ledger::Ledger;
@@ -61,7 +61,7 @@ impl From<AllocError> for LineStop {
     }
 }
 
-ghost use Rattle.qc_session.specs.Stops.{MatchLineStop, kind_in, leaving, left_by};
+ghost use Rattle.qc_session.specs.Stops.{MatchLineStop, kind_in, answer_by_use, state_by_use};
 ghost use Rattle.reply_text.specs.Words.{reply_bytes};
 ghost use Rattle.cell_core.specs.Gives.{Gives};
 ghost use Rattle.warehouse.specs.Stored.{applied_in, refusal_in};
@@ -74,13 +74,18 @@ fn take_file<L: Ledger>(
     steps: &mut Steps<L>,
 ) -> Result<Applied, Refused>
     requires { length bytes.now ≤ MAX_FILE }
-    ensures gives { (then : State) × Gives refusal_in (applied_in then) result (batches.result pinned.old.now.state (kind_in kind) bytes.now)
-        × OnOk result (pinned.new.now.state ≡ left_by kind pinned.old.now.state then) }
+    ensures gives { (then : State)
+        × Gives refusal_in (applied_in then) result
+        (batches.result pinned.old.now.state (kind_in kind) bytes.now)
+        × OnOk result (pinned.new.now.state ≡ state_by_use kind pinned.old.now.state then) }
     ensures pins { pinned.new.pins ≡ pinned.old.pins }
     ensures tried { kind ≡ FileUse.Try → pinned.new ≡ pinned.old }
-    ensures numbers { OnOk result (kind ≡ FileUse.Apply → LeavesNumbers pinned.old.now bytes.now pinned.new.now) }
-    ensures apart { OnOk result (kind ≡ FileUse.Apply → LeavesApart pinned.old.now bytes.now pinned.new.now) }
-    ensures steps { OnOk result (kind_in kind ≡ batches.Apply → IsWithinCost pinned.old.now.state bytes.now steps.old steps.new) }
+    ensures numbers { OnOk result (kind ≡ FileUse.Apply
+        → LeavesNumbers pinned.old.now bytes.now pinned.new.now) }
+    ensures apart { OnOk result (kind ≡ FileUse.Apply
+        → LeavesOtherRecords pinned.old.now bytes.now pinned.new.now) }
+    ensures steps { OnOk result (kind_in kind ≡ batches.Apply
+        → IsWithinCost pinned.old.now.state bytes.now steps.old steps.new) }
     ensures same { OnErr result (pinned.new ≡ pinned.old) }
 {
     match kind {
@@ -91,7 +96,7 @@ fn take_file<L: Ledger>(
 }
 
 // Takes the bytes of a file, and makes the reply to its line.
-fn change<L: Ledger>(
+fn file_reply<L: Ledger>(
     pinned: &mut Pinned,
     number: u32,
     kind: FileUse,
@@ -100,19 +105,23 @@ fn change<L: Ledger>(
 ) -> Result<ShortReply, Memory>
     requires { length bytes.now ≤ MAX_FILE }
     ensures ok { IfOk result (λ reply.
-        leaving kind pinned.old.now.state (changed pinned.old.now.state number (batches.result pinned.old.now.state (kind_in kind) bytes.now))
+        answer_by_use kind pinned.old.now.state
+        (change_answer pinned.old.now.state number
+        (batches.result pinned.old.now.state (kind_in kind) bytes.now))
         ≡ record { state = pinned.new.now.state; reply = reply }) }
     ensures pins { pinned.new.pins ≡ pinned.old.pins }
     ensures tried { kind ≡ FileUse.Try → pinned.new ≡ pinned.old }
     ensures numbers { kind ≡ FileUse.Apply → LeavesNumbers pinned.old.now bytes.now pinned.new.now }
-    ensures apart { kind ≡ FileUse.Apply → LeavesApart pinned.old.now bytes.now pinned.new.now }
-    ensures steps { OnOk result (kind_in kind ≡ batches.Apply → IsTaken pinned.old.now.state bytes.now →
+    ensures apart { kind ≡ FileUse.Apply
+        → LeavesOtherRecords pinned.old.now bytes.now pinned.new.now }
+    ensures steps { OnOk result (kind_in kind ≡ batches.Apply
+        → IsAccepted pinned.old.now.state bytes.now →
         IsWithinCost pinned.old.now.state bytes.now steps.old steps.new) }
     ensures same { OnErr result (pinned.new ≡ pinned.old) }
 {
     match take_file(pinned, kind, bytes, steps) {
-        Ok(taken) => Ok(applied(number, taken.records, taken.classes)),
-        Err(cause) => match words_of_file(cause, pinned.now().schema()) {
+        Ok(taken) => Ok(applied_reply(number, taken.records, taken.classes)),
+        Err(cause) => match file_refusal(cause, pinned.now().schema()) {
             Some(words) => Ok(refused(number, words)),
             None => Err(AllocError),
         },
@@ -139,34 +148,40 @@ fn answer_file<F: Files, L: Ledger>(
     ensures told { F.told files.new ≡ F.told files.old }
     ensures steady { IsTrue (F.steady files.old) → IsTrue (F.steady files.new) }
     ensures same { OnErr result (pinned.new ≡ pinned.old) }
-    ensures fault { IfErr result (λ stop. MatchLineStop stop ⊤ (λ file. (file ≡ line.name) × Rose (F.faults files.old) (F.faults files.new))) }
-    ensures untold { IfErr result (λ stop. MatchLineStop stop ⊤ (λ file. IsTrue (F.steady files.old) → IfSome (F.told files.old) (λ t. t file ≡ None))) }
+    ensures fault { IfErr result (λ stop. MatchLineStop stop ⊤ (λ file. (file ≡ line.name)
+        × Rose (F.faults files.old) (F.faults files.new))) }
+    ensures untold { IfErr result (λ stop. MatchLineStop stop ⊤ (λ file. IsTrue (F.steady files.old)
+        → IfSome (F.told files.old) (λ t. t file ≡ None))) }
     ensures answered { IfOk result (λ reply. IfSome (F.told files.old)
-        (λ t. option_map (λ bytes. beside (held_in pinned.old) (leaving line.kind pinned.old.now.state
+        (λ t. option_map (λ bytes. with_pins (pinned_state_in pinned.old)
+        (answer_by_use line.kind pinned.old.now.state
         (file_answer pinned.old.now.state number (kind_in line.kind) bytes))) (t line.name)
-        ≡ Some (record { state = held_in pinned.new; reply = reply_bytes reply }))) }
+        ≡ Some (record { state = pinned_state_in pinned.new; reply = reply_bytes reply }))) }
     ensures tried { line.kind ≡ FileUse.Try → pinned.new ≡ pinned.old }
     ensures numbers { IfSome (F.told files.old) (λ t. IfSome (t line.name)
         (λ bytes. line.kind ≡ FileUse.Apply → LeavesNumbers pinned.old.now bytes pinned.new.now)) }
-    ensures apart { IfSome (F.told files.old) (λ t. IfSome (t line.name) (λ bytes. line.kind ≡ FileUse.Apply → LeavesApart pinned.old.now bytes pinned.new.now)) }
+    ensures apart { IfSome (F.told files.old)
+        (λ t. IfSome (t line.name) (λ bytes. line.kind ≡ FileUse.Apply
+        → LeavesOtherRecords pinned.old.now bytes pinned.new.now)) }
     ensures steps { OnOk result (IfSome (F.told files.old)
-        (λ t. IfSome (t line.name) (λ bytes. kind_in line.kind ≡ batches.Apply → IsTaken pinned.old.now.state bytes →
+        (λ t. IfSome (t line.name) (λ bytes. kind_in line.kind ≡ batches.Apply
+        → IsAccepted pinned.old.now.state bytes →
         IsWithinCost pinned.old.now.state bytes steps.old steps.new))) }
 {
     let FileLine { kind, name } = line;
     match read_all(alloc, files, name.as_str(), MAX_FILE) {
-        Ok(bytes) => match change(pinned, number, kind, &bytes, steps) {
+        Ok(bytes) => match file_reply(pinned, number, kind, &bytes, steps) {
             Ok(reply) => Ok(Reply::Short(reply)),
             Err(_) => Err(LineStop::Memory),
         },
-        Err(ReadRefused::TooLong) => Ok(Reply::Short(refused(number, words_of_size()))),
+        Err(ReadRefused::TooLong) => Ok(Reply::Short(refused(number, size_refusal()))),
         Err(ReadRefused::Failed) => Err(LineStop::Fault(name)),
         Err(ReadRefused::Memory) => Err(LineStop::Memory),
     }
 }
 
 // Answers a query of the present rows.
-fn ask<L: Ledger>(
+fn present_reply<L: Ledger>(
     alloc: Global,
     pinned: &Pinned,
     number: u32,
@@ -174,14 +189,15 @@ fn ask<L: Ledger>(
     steps: &mut Steps<L>,
 ) -> Result<Reply, Memory>
     requires { IsQuery pinned.now.now.state.schema (query_in query) }
-    ensures reply { IfOk result (λ reply. reply_bytes reply ≡ query_reply pinned.now.now.state number (query_in query)) }
+    ensures reply { IfOk result
+        (λ reply. reply_bytes reply ≡ query_reply pinned.now.now.state number (query_in query)) }
     ensures memory { OnErr result (query_in query ≢ queries.Stats) }
 {
-    answer_now(alloc, pinned.now(), number, &query, steps)
+    answer_present(alloc, pinned.now(), number, &query, steps)
 }
 
 // Carries out a command that names no file, and makes its reply.
-fn answer_held<L: Ledger>(
+fn answer_without_file<L: Ledger>(
     alloc: Global,
     pinned: &mut Pinned,
     number: u32,
@@ -192,15 +208,16 @@ fn answer_held<L: Ledger>(
     requires unnamed { file_named (Ok (question_in command)) ≡ None }
     ensures same { OnErr result (pinned.new ≡ pinned.old) }
     ensures memory { OnErr result (wants_memory (question_in command) ≡ true) }
-    ensures answered { IfOk result (λ reply. (t : Told) → answer_to (held_in pinned.old) t number (Ok (question_in command))
-        ≡ Some (record { state = held_in pinned.new; reply = reply_bytes reply })) }
+    ensures answered { IfOk result (λ reply. (t : FileContents)
+        → answer_to (pinned_state_in pinned.old) t number (Ok (question_in command))
+        ≡ Some (record { state = pinned_state_in pinned.new; reply = reply_bytes reply })) }
 {
     match command {
         Command::Widen(name, value) => answer_widen(pinned, number, &name, &value, steps),
         Command::Pin(name) => Ok(Reply::Short(answer_pin(pinned, number, &name))),
         Command::Unpin(name) => Ok(Reply::Short(answer_unpin(pinned, number, &name))),
         Command::At(name, query) => answer_at(alloc, pinned, number, &name, query, steps),
-        Command::Ask(query) => ask(alloc, pinned, number, query, steps),
+        Command::Ask(query) => present_reply(alloc, pinned, number, query, steps),
         Command::Load(_) | Command::Apply(_) | Command::Try(_) => unreachable!(),
     }
 }
@@ -219,12 +236,16 @@ fn answer_command<F: Files, L: Ledger>(
     ensures told { F.told files.new ≡ F.told files.old }
     ensures steady { IsTrue (F.steady files.old) → IsTrue (F.steady files.new) }
     ensures same { OnErr result (pinned.new ≡ pinned.old) }
-    ensures memory { IfErr result (λ stop. MatchLineStop stop (wants_memory (question_in command) ≡ true) (λ file. ⊤)) }
+    ensures memory { IfErr result
+        (λ stop. MatchLineStop stop (wants_memory (question_in command) ≡ true) (λ file. ⊤)) }
     ensures fault { IfErr result (λ stop. MatchLineStop stop ⊤
-        (λ file. (file_named (Ok (question_in command)) ≡ Some file) × Rose (F.faults files.old) (F.faults files.new))) }
-    ensures untold { IfErr result (λ stop. MatchLineStop stop ⊤ (λ file. IsTrue (F.steady files.old) → IfSome (F.told files.old) (λ t. t file ≡ None))) }
+        (λ file. (file_named (Ok (question_in command)) ≡ Some file)
+        × Rose (F.faults files.old) (F.faults files.new))) }
+    ensures untold { IfErr result (λ stop. MatchLineStop stop ⊤ (λ file. IsTrue (F.steady files.old)
+        → IfSome (F.told files.old) (λ t. t file ≡ None))) }
     ensures answered { IfOk result (λ reply. IfSome (F.told files.old)
-        (λ t. answer_to (held_in pinned.old) t number (Ok (question_in command)) ≡ Some (record { state = held_in pinned.new; reply = reply_bytes reply }))) }
+        (λ t. answer_to (pinned_state_in pinned.old) t number (Ok (question_in command))
+        ≡ Some (record { state = pinned_state_in pinned.new; reply = reply_bytes reply }))) }
 {
     match command {
         Command::Load(name) => {
@@ -239,7 +260,7 @@ fn answer_command<F: Files, L: Ledger>(
             let line = FileLine { kind: Try, name };
             answer_file(alloc, files, pinned, number, line, steps)
         }
-        other => match answer_held(alloc, pinned, number, other, steps) {
+        other => match answer_without_file(alloc, pinned, number, other, steps) {
             Ok(reply) => Ok(reply),
             Err(_) => Err(LineStop::Memory),
         },
@@ -262,14 +283,17 @@ pub fn answer_line<F: Files, L: Ledger>(
     ensures same { OnErr result (pinned.new ≡ pinned.old) }
     ensures skips { IfErr result (λ stop. MatchLineStop stop (may_want_memory line.now ≡ true)
         (λ file. file_of pinned.old.now.state.schema line.now ≡ Some file)) }
-    ensures fault { IfErr result (λ stop. MatchLineStop stop ⊤ (λ file. Rose (F.faults files.old) (F.faults files.new))) }
-    ensures untold { IfErr result (λ stop. MatchLineStop stop ⊤ (λ file. IsTrue (F.steady files.old) → IfSome (F.told files.old) (λ t. t file ≡ None))) }
+    ensures fault { IfErr result
+        (λ stop. MatchLineStop stop ⊤ (λ file. Rose (F.faults files.old) (F.faults files.new))) }
+    ensures untold { IfErr result (λ stop. MatchLineStop stop ⊤ (λ file. IsTrue (F.steady files.old)
+        → IfSome (F.told files.old) (λ t. t file ≡ None))) }
     ensures answered { IfOk result (λ reply. IfSome (F.told files.old)
-        (λ t. answer (held_in pinned.old) t number line.now ≡ Some (record { state = held_in pinned.new; reply = reply_bytes reply }))) }
+        (λ t. answer (pinned_state_in pinned.old) t number line.now
+        ≡ Some (record { state = pinned_state_in pinned.new; reply = reply_bytes reply }))) }
 {
     match read_line(alloc, pinned.now().schema(), line) {
         Ok(command) => answer_command(alloc, files, pinned, number, command, steps),
-        Err(cause) => match words_of_line(cause) {
+        Err(cause) => match line_refusal(cause) {
             Some(words) => Ok(Reply::Short(refused(number, words))),
             None => Err(LineStop::Memory),
         },

@@ -1,7 +1,7 @@
 // Why a run ended before the end of its script, and the line on standard error that says so.
 ghost use Rattle.std.specs.Prelude.{◌≡◌, ◌≤◌, ◌++◌, OnOk, length};
-ghost use Rattle.qc_io.specs.Outside.{HasCause, Rose, taking};
-ghost use Rattle.qc_session.specs.Runs.{Said, cause_text, error_text, status_of};
+ghost use Rattle.qc_io.specs.Outside.{HasCause, Rose, with_taken};
+ghost use Rattle.qc_session.specs.Runs.{HasReported, cause_text, error_text, status_of};
 
 use arrayvec::ArrayString;
 use itoa::Buffer;
@@ -46,7 +46,7 @@ fn cause_word(cause: SchemaCause) -> &'static str
 }
 
 // The words for why bytes are no schema, if that isn't 'out of memory'.
-fn fault_words(refused: SchemaRefused) -> ArrayString<32>
+fn schema_fault_text(refused: SchemaRefused) -> ArrayString<32>
     ensures { TellsFault refused result.bytes }
 {
     let mut text = ArrayString::new();
@@ -95,7 +95,7 @@ impl<'a> Failure<'a> {
         ensures { TellsSchema self.now result.bytes }
     {
         match self {
-            Failure::NoSchema(refused) => fault_words(*refused),
+            Failure::NoSchema(refused) => schema_fault_text(*refused),
             _ => ArrayString::new(),
         }
     }
@@ -127,7 +127,8 @@ impl<'a> Failure<'a> {
 // Writes three parts, one after another.
 fn write_parts<E: Sink>(err: &mut E, front: &str, name: &str, back: &str) -> Result<(), WriteFailed>
     ensures cause { HasCause (E.faults err.old) (E.faults err.new) result }
-    ensures all { OnOk result (E.taken err.new ≡ taking (front.now ++ (name.now ++ back.now)) (E.taken err.old)) }
+    ensures all { OnOk result (E.taken err.new ≡ with_taken (front.now ++ (name.now ++ back.now))
+        (E.taken err.old)) }
 {
     write_all(err, front.as_bytes())?;
     write_all(err, name.as_bytes())?;
@@ -136,9 +137,10 @@ fn write_parts<E: Sink>(err: &mut E, front: &str, name: &str, back: &str) -> Res
 }
 
 /// Writes the line for a failure. If a write fails, nothing more is written.
-pub fn tell<E: Sink>(err: &mut E, failure: &Failure<'_>)
+pub fn report<E: Sink>(err: &mut E, failure: &Failure<'_>)
     ensures later { E.faults err.old ≤ E.faults err.new }
-    ensures said { Said (Rose (E.faults err.old) (E.faults err.new)) (cause_of failure.now) (E.taken err.old) (E.taken err.new) }
+    ensures said { HasReported (Rose (E.faults err.old) (E.faults err.new)) (cause_of failure.now)
+        (E.taken err.old) (E.taken err.new) }
 {
     let schema_text = failure.schema_text();
     let (front, name, back) = failure.parts(schema_text.as_str());

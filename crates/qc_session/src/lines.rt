@@ -3,7 +3,7 @@ ghost use Rattle.std.specs.Prelude.{◌≡◌};
 ghost use Rattle.qc_session.specs.Lines.{is_passed};
 
 /// Whether a line has no bytes or is a comment.
-pub fn is_passed_over(line: &[u8]) -> bool
+pub fn is_ignored(line: &[u8]) -> bool
     ensures { result ≡ is_passed line.now }
 {
     matches!(line, [] | [b'#', ..])

@@ -1,7 +1,7 @@
 // Replies that are gathered until they are flushed.
 ghost use Rattle.std.specs.Prelude.{◌≡◌, ◌++◌, [], IfOk, OnErr, OnOk};
 ghost use Rattle.qc_io.specs.Outside.{HasCause};
-ghost use Rattle.qc_session.specs.Handed.{IsHandedOn, TookFront};
+ghost use Rattle.qc_session.specs.Flushed.{IsFlushed, TookPrefix};
 
 use cube_defs::Memory;
 use qc_io::{Sink, WriteFailed, write_all};
@@ -39,11 +39,11 @@ impl Pending {
     }
 
     /// Flushes all replies.
-    pub fn hand_on<O: Sink>(&mut self, out: &mut O) -> Result<(), WriteFailed>
+    pub fn flush<O: Sink>(&mut self, out: &mut O) -> Result<(), WriteFailed>
         ensures cause { HasCause (O.faults out.old) (O.faults out.new) result }
-        ensures ok { OnOk result (IsHandedOn self.old [] (O.taken out.old) (O.taken out.new)) }
+        ensures ok { OnOk result (IsFlushed self.old [] (O.taken out.old) (O.taken out.new)) }
         ensures none { OnOk result (self.new ≡ []) }
-        ensures err { OnErr result (TookFront self.old (O.taken out.old) (O.taken out.new)) }
+        ensures err { OnErr result (TookPrefix self.old (O.taken out.old) (O.taken out.new)) }
     {
         write_all(out, &self.bytes)?;
         self.bytes.clear();
@@ -51,25 +51,27 @@ impl Pending {
     }
 
     /// Flushes all replies, each of them once, if that is due.
-    pub fn hand_on_if<O: Sink>(&mut self, out: &mut O, due: bool) -> Result<(), WriteFailed>
+    pub fn flush_if<O: Sink>(&mut self, out: &mut O, due: bool) -> Result<(), WriteFailed>
         ensures cause { HasCause (O.faults out.old) (O.faults out.new) result }
-        ensures ok { OnOk result (IsHandedOn self.old self.new (O.taken out.old) (O.taken out.new)) }
-        ensures err { OnErr result (TookFront self.old (O.taken out.old) (O.taken out.new)) }
+        ensures ok { OnOk result (IsFlushed self.old self.new (O.taken out.old) (O.taken out.new)) }
+        ensures err { OnErr result (TookPrefix self.old (O.taken out.old) (O.taken out.new)) }
     {
-        if due { self.hand_on(out) } else { Ok(()) }
+        if due { self.flush(out) } else { Ok(()) }
     }
 
     // Appends a reply. If it has no room, the gathered ones are flushed first.
     fn add<O: Sink>(&mut self, out: &mut O, reply: &[u8]) -> Result<(), WriteFailed>
         ensures cause { HasCause (O.faults out.old) (O.faults out.new) result }
-        ensures ok { OnOk result (IsHandedOn (self.old ++ reply.now) self.new (O.taken out.old) (O.taken out.new)) }
-        ensures err { OnErr result (TookFront (self.old ++ reply.now) (O.taken out.old) (O.taken out.new)) }
+        ensures ok { OnOk result (IsFlushed (self.old ++ reply.now) self.new (O.taken out.old)
+            (O.taken out.new)) }
+        ensures err { OnErr result
+            (TookPrefix (self.old ++ reply.now) (O.taken out.old) (O.taken out.new)) }
     {
         if reply.len() <= ROOM - self.bytes.len() {
             self.bytes.extend_from_slice(reply).unwrap();
             return Ok(());
         }
-        self.hand_on(out)?;
+        self.flush(out)?;
         if reply.len() <= ROOM {
             self.bytes.extend_from_slice(reply).unwrap();
             return Ok(());
@@ -85,10 +87,12 @@ impl Pending {
         at_once: bool,
     ) -> Result<(), WriteFailed>
         ensures cause { HasCause (O.faults out.old) (O.faults out.new) result }
-        ensures ok { OnOk result (IsHandedOn (self.old ++ reply.now) self.new (O.taken out.old) (O.taken out.new)) }
-        ensures err { OnErr result (TookFront (self.old ++ reply.now) (O.taken out.old) (O.taken out.new)) }
+        ensures ok { OnOk result (IsFlushed (self.old ++ reply.now) self.new (O.taken out.old)
+            (O.taken out.new)) }
+        ensures err { OnErr result
+            (TookPrefix (self.old ++ reply.now) (O.taken out.old) (O.taken out.new)) }
     {
         self.add(out, reply)?;
-        self.hand_on_if(out, at_once)
+        self.flush_if(out, at_once)
     }
 }

@@ -3,15 +3,15 @@ ghost use Rattle.std.specs.Prelude.{IfOk, length, ◌≡◌, ◌≤◌};
 ghost use Rattle.query_script.specs.Commands.{IsQuery};
 ghost use Rattle.query_script.specs.Queries.{query_in};
 ghost use Rattle.reply_text.specs.Words.{reply_bytes};
-ghost use Rattle.qc_session.specs.Pins.{at_reply, held_in, pin_answer, unpin_answer};
+ghost use Rattle.qc_session.specs.Pins.{at_reply, pinned_state_in, pin_answer, unpin_answer};
 
 use cell_core::{Memory, Steps, Text};
 use pinned_view::{NotPinned, PinRefused, Pinned};
 use query_answers::{Source, answer_query, empty_index};
 use query_script::Query;
 use reply_text::{
-    Reply, ShortReply, pinned, refused, unpinned, words_of_all_pinned, words_of_name_taken,
-    words_of_not_pinned,
+    Reply, ShortReply, all_pinned_refusal, name_taken_refusal, not_pinned_refusal, pinned_reply,
+    refused, unpinned_reply,
 };
 use std::alloc::{AllocError, Global};
 use std::sync::ledger::Ledger;
@@ -19,23 +19,31 @@ use std::sync::ledger::Ledger;
 /// Pins the present rows under a name, and makes the reply to its line. Takes no memory.
 pub fn answer_pin(held: &mut Pinned, number: u32, name: &Text) -> ShortReply
     requires { length name.now ≤ 32 }
-    ensures { pin_answer (held_in held.old) number name.now ≡ record { state = held_in held.new; reply = result } }
+    ensures { pin_answer (pinned_state_in held.old) number name.now ≡ record {
+      state
+          = pinned_state_in held.new;
+      reply = result;
+    } }
 {
     match held.pin(name.as_str()) {
-        Ok(()) => pinned(number, name.as_str(), held.now().stats().classes),
-        Err(PinRefused::NameTaken) => refused(number, words_of_name_taken()),
-        Err(PinRefused::AllPinned) => refused(number, words_of_all_pinned()),
+        Ok(()) => pinned_reply(number, name.as_str(), held.now().stats().classes),
+        Err(PinRefused::NameTaken) => refused(number, name_taken_refusal()),
+        Err(PinRefused::AllPinned) => refused(number, all_pinned_refusal()),
     }
 }
 
 /// Drops a pin, and makes the reply to its line. Takes no memory.
 pub fn answer_unpin(held: &mut Pinned, number: u32, name: &Text) -> ShortReply
     requires { length name.now ≤ 32 }
-    ensures { unpin_answer (held_in held.old) number name.now ≡ record { state = held_in held.new; reply = result } }
+    ensures { unpin_answer (pinned_state_in held.old) number name.now ≡ record {
+      state
+          = pinned_state_in held.new;
+      reply = result;
+    } }
 {
     match held.unpin(name.as_str()) {
-        Ok(()) => unpinned(number, name.as_str()),
-        Err(NotPinned) => refused(number, words_of_not_pinned()),
+        Ok(()) => unpinned_reply(number, name.as_str()),
+        Err(NotPinned) => refused(number, not_pinned_refusal()),
     }
 }
 
@@ -49,11 +57,12 @@ pub fn answer_at<L: Ledger>(
     steps: &mut Steps<L>,
 ) -> Result<Reply, Memory>
     requires { IsQuery held.now.now.state.schema (query_in query) }
-    ensures { IfOk result (λ reply. reply_bytes reply ≡ at_reply (held_in held.now) number name.now (query_in query)) }
+    ensures { IfOk result (λ reply. reply_bytes reply ≡ at_reply (pinned_state_in held.now) number
+        name.now (query_in query)) }
 {
     let Some(view) = held.view(name.as_str()) else {
         drop(query);
-        return Ok(Reply::Short(refused(number, words_of_not_pinned())));
+        return Ok(Reply::Short(refused(number, not_pinned_refusal())));
     };
     let Ok(index) = empty_index(alloc) else {
         drop(query);

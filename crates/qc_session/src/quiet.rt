@@ -12,7 +12,7 @@ use std::sync::ledger::Ledger;
 
 /// Why a script without replies didn't end.
 #[derive(Drop)]
-pub enum QuietStop {
+pub enum SilentStop {
     /// The file of this name couldn't be read.
     Read(Text),
     /// A line ran out of memory.
@@ -22,18 +22,21 @@ pub enum QuietStop {
 ghost use Rattle.qc_session.specs.Quiet.{QuietEnds};
 
 /// Carries out the lines of a script in order, without their replies.
-pub fn take_quietly<F: Files, L: Ledger>(
+pub fn run_silently<F: Files, L: Ledger>(
     alloc: Global,
     files: &mut F,
     session: &mut Session,
     script: &[u8],
     steps: &mut Steps<L>,
-) -> Result<(), QuietStop>
+) -> Result<(), SilentStop>
     requires room { length (lines_of script.now) ≤ vec_capacity session.old.skipped }
     requires few { length (lines_of script.now) < 2 ^ 32 }
     requires short { length script.now ≤ MAX_FILE }
-    requires fresh { (session.old.number ≡ 0) × (session.old.skipped.items ≡ []) × (session.old.pending ≡ []) × (session.old.pinned.pins ≡ []) }
-    ensures { QuietEnds (F.told files.old) (IsTrue (F.steady files.old)) (Rose (F.faults files.old) (F.faults files.new)) (map without_cr (lines_of script.now)) session.old session.new result }
+    requires fresh { (session.old.number ≡ 0) × (session.old.skipped.items ≡ [])
+        × (session.old.pending ≡ []) × (session.old.pinned.pins ≡ []) }
+    ensures { QuietEnds (F.told files.old) (IsTrue (F.steady files.old))
+        (Rose (F.faults files.old) (F.faults files.new)) (map without_cr (lines_of script.now))
+        session.old session.new result }
 {
     let mut out = SureSink::new();
     match take_lines(alloc, files, &mut out, session, script, steps) {
@@ -41,14 +44,14 @@ pub fn take_quietly<F: Files, L: Ledger>(
             if session.skipped.is_empty() {
                 Ok(())
             } else {
-                Err(QuietStop::Memory)
+                Err(SilentStop::Memory)
             }
         }
         Err(Stop::Read(name)) => {
             if session.skipped.is_empty() {
-                Err(QuietStop::Read(name))
+                Err(SilentStop::Read(name))
             } else {
-                Err(QuietStop::Memory)
+                Err(SilentStop::Memory)
             }
         }
         Err(Stop::Write) => unreachable!(),

@@ -1,19 +1,19 @@
 // The top call.
 ghost use Rattle.std.specs.Prelude.{◌≡◌, ◌≤◌, ◌<◌, ◌⊎◌, ◌↔◌, ℕ, List, [], Some, None, IfOk, IfErr, IfSome, IsNone, IsTrue, is_some, true, MatchOption, length, take};
 ghost use Rattle.cube_defs.specs.declared.limits.TheConstants.{MAX_ROWS};
-ghost use Rattle.qc_io.specs.Outside.{IsOpenAs, Rose, taking};
+ghost use Rattle.qc_io.specs.Outside.{IsOpenAs, Rose, with_taken};
 ghost use Rattle.qc_session.specs.Lines.{script_lines};
 ghost use Rattle.generated_run.specs.Generated.{generated_record, generated_state};
 ghost use Rattle.qc_session.specs.Forms.{IfGen, IfPack, IfRun, form_of};
-ghost use Rattle.qc_session.specs.Runs.{AllTold, AreSkipped, Begins, BeginsNot, BrokenOff, Cause, CannotRead, CannotWrite, Finished, HasNoStart, IsNever, IsRefused, IsScriptOf, IsScriptStatus, IsStartOf, IsStatus, IsUnrefused, LongSnapshot, NotBegun, OutOfMemory, ReadFails, Said, StoppedAt, StoppedWriting, Unread, Usage, WroteAll, state_in, status_of};
-ghost use Rattle.qc_session.specs.Packs.{IsPackRefused, IsPackUnrefused, LeadsTooFar, Packed, PackedFront, WroteSnapshot, WroteSnapshotFront};
+ghost use Rattle.qc_session.specs.Runs.{AllFilesKnown, AreSkipped, Begins, BeginsNot, BrokenOff, Cause, CannotRead, CannotWrite, Finished, HasNoStart, IsNever, IsRefused, IsScriptOf, IsScriptStatus, IsStartOf, IsStatus, IsUnrefused, LongSnapshot, NotBegun, OutOfMemory, ReadFails, HasReported, StoppedAt, StoppedWriting, Unread, Usage, WroteAll, state_in, status_of};
+ghost use Rattle.qc_session.specs.Packs.{IsPackRefused, IsPackUnrefused, LeadsTooFar, Packed, PackedPrefix, WroteSnapshot, WroteSnapshotPrefix};
 ghost use Rattle.cube_snapshot.specs.States.{spelling};
 ghost use Rattle.warehouse.specs.State.{AreContents};
 
-use crate::failure::{Failure, tell};
-use crate::quiet::{QuietStop, take_quietly};
+use crate::failure::{Failure, report};
+use crate::quiet::{SilentStop, run_silently};
 use crate::session::{Session, Stop, begin, take_lines};
-use crate::words::{Form, Names, Source, read_words};
+use crate::words::{Form, InputFiles, Source, read_words};
 use cell_core::{HashKeys, Steps};
 use cube_defs::MAX_FILE;
 use cube_snapshot::{DecodeRefused, EncodeRefused, decode_with_keys, encode};
@@ -23,7 +23,7 @@ use qc_schema::read_schema;
 use std::alloc::Global;
 use std::marker::Brand;
 use std::sync::ledger::{Blank, Ledger};
-use text_lines::trim_mark;
+use text_lines::trim_byte_order_mark;
 use warehouse::Warehouse;
 
 /// How a run ended.
@@ -48,7 +48,7 @@ impl Outcome {
     }
 }
 
-ghost use Rattle.qc_session.specs.Ends.{GenEnds, HandsBack, PackEnds, PackScriptEnds, RunEnds, ScriptEnds, SnapshotEnds, files_over, sink_over};
+ghost use Rattle.qc_session.specs.Ends.{GenEnds, ReturnsWarehouse, PackEnds, PackScriptEnds, RunEnds, ScriptEnds, SnapshotEnds, files_over, sink_over};
 ghost use Rattle.qc_session.specs.Failures.{cause_of};
 ghost use Rattle.qc_session.specs.Quiet.{IfQuietStop};
 ghost use Rattle.qc_session.specs.Ran.{Ran};
@@ -60,10 +60,11 @@ ghost use Rattle.qc_session.specs.Words.{names_in, source_in};
 fn fail<E: Sink>(alloc: Global, err: &mut E, failure: &Failure<'_>) -> Outcome
     ensures status { result.status ≡ status_of (cause_of failure.now) }
     ensures skipped { result.skipped.items ≡ [] }
-    ensures said { Said (Rose (E.faults err.old) (E.faults err.new)) (cause_of failure.now) (E.taken err.old) (E.taken err.new) }
-    ensures hands { HandsBack result }
+    ensures said { HasReported (Rose (E.faults err.old) (E.faults err.new)) (cause_of failure.now)
+        (E.taken err.old) (E.taken err.new) }
+    ensures hands { ReturnsWarehouse result }
 {
-    tell(err, failure);
+    report(err, failure);
     Outcome {
         status: failure.status(),
         skipped: Vec::new(alloc),
@@ -77,11 +78,14 @@ fn read_named<'a, F: Files>(
     files: &mut F,
     name: &'a str,
 ) -> Result<Vec<u8>, Failure<'a>>
-    ensures stay { FilesStay (F.faults files.old) (F.faults files.new) (F.told files.old) (F.told files.new) (F.steady files.old) (F.steady files.new) }
-    ensures ok { IfOk result (λ bytes. IfSome (F.told files.old) (λ t. IsScriptOf t name.now bytes.items)) }
+    ensures stay { FilesStay (F.faults files.old) (F.faults files.new) (F.told files.old)
+        (F.told files.new) (F.steady files.old) (F.steady files.new) }
+    ensures ok { IfOk result
+        (λ bytes. IfSome (F.told files.old) (λ t. IsScriptOf t name.now bytes.items)) }
     ensures short { IfOk result (λ bytes. length bytes.items ≤ MAX_FILE) }
     ensures open_file { IsOpenAs (F.told files.old) (F.cursor files.new) name.now }
-    ensures err { IfErr result (λ f. ReadFails (F.told files.old) name.now (Rose (F.faults files.old) (F.faults files.new))
+    ensures err { IfErr result
+        (λ f. ReadFails (F.told files.old) name.now (Rose (F.faults files.old) (F.faults files.new))
         (IsTrue (F.steady files.old)) IsNever (cause_of f)) }
 {
     match read_all(alloc, files, name, MAX_FILE) {
@@ -93,7 +97,7 @@ fn read_named<'a, F: Files>(
 }
 
 // The state that the bytes of the first file give.
-fn start_of<'a, L: Ledger>(
+fn initial_state<'a, L: Ledger>(
     alloc: Global,
     keys: HashKeys,
     source: Source,
@@ -101,8 +105,10 @@ fn start_of<'a, L: Ledger>(
     steps: &mut Steps<L>,
 ) -> Result<Warehouse, Failure<'a>>
     requires { length bytes.now ≤ MAX_FILE }
-    ensures begins { IfOk result (λ warehouse. Begins (source_in source) bytes.now warehouse.state) }
-    ensures none { IfErr result (λ f. (cause_of f ≡ OutOfMemory) ⊎ BeginsNot (source_in source) bytes.now (cause_of f)) }
+    ensures begins { IfOk result
+        (λ warehouse. Begins (source_in source) bytes.now warehouse.state) }
+    ensures none { IfErr result (λ f. (cause_of f ≡ OutOfMemory)
+        ⊎ BeginsNot (source_in source) bytes.now (cause_of f)) }
 {
     match source {
         Source::FromSchema => {
@@ -128,21 +134,26 @@ fn read_start<'a, F: Files, L: Ledger>(
     alloc: Global,
     keys: HashKeys,
     files: &mut F,
-    names: Names<'a>,
+    names: InputFiles<'a>,
     blank: Blank,
 ) -> Result<Warehouse, Failure<'a>>
     requires name { blank.name ≡ L.name }
     requires parts { blank.parts ≡ L.parts }
     requires some { 0 < L.parts }
-    ensures stay { FilesStay (F.faults files.old) (F.faults files.new) (F.told files.old) (F.told files.new) (F.steady files.old) (F.steady files.new) }
-    ensures ok { IfOk result (λ warehouse. IfSome (F.told files.old) (λ t. IsStartOf t (names_in names.entry) warehouse.state)) }
+    ensures stay { FilesStay (F.faults files.old) (F.faults files.new) (F.told files.old)
+        (F.told files.new) (F.steady files.old) (F.steady files.new) }
+    ensures ok { IfOk result
+        (λ warehouse. IfSome (F.told files.old)
+        (λ t. IsStartOf t (names_in names.entry) warehouse.state)) }
     ensures open_file { IsOpenAs (F.told files.old) (F.cursor files.new) names.entry.first.now }
-    ensures err { IfErr result (λ f. ReadFails (F.told files.old) names.entry.first.now (Rose (F.faults files.old) (F.faults files.new))
+    ensures err { IfErr result
+        (λ f. ReadFails (F.told files.old) names.entry.first.now
+        (Rose (F.faults files.old) (F.faults files.new))
         (IsTrue (F.steady files.old)) (HasNoStart (names_in names.entry)) (cause_of f)) }
 {
     let mut steps = Steps::<L>::start(blank);
     match read_named(alloc, files, names.first) {
-        Ok(bytes) => start_of(alloc, keys, names.source, &bytes, &mut steps),
+        Ok(bytes) => initial_state(alloc, keys, names.source, &bytes, &mut steps),
         Err(failure) => Err(failure),
     }
 }
@@ -155,18 +166,21 @@ struct Loaded {
 }
 
 // Reads the script after the first file, and passes the warehouse on.
-fn read_behind<'a, F: Files>(
+fn read_script<'a, F: Files>(
     alloc: Global,
     files: &mut F,
     start: Warehouse,
     name: &'a str,
 ) -> Result<Loaded, Failure<'a>>
     ensures kept { IfOk result (λ loaded. loaded.start ≡ start) }
-    ensures stay { FilesStay (F.faults files.old) (F.faults files.new) (F.told files.old) (F.told files.new) (F.steady files.old) (F.steady files.new) }
-    ensures ok { IfOk result (λ loaded. IfSome (F.told files.old) (λ t. IsScriptOf t name.now loaded.script.items)) }
+    ensures stay { FilesStay (F.faults files.old) (F.faults files.new) (F.told files.old)
+        (F.told files.new) (F.steady files.old) (F.steady files.new) }
+    ensures ok { IfOk result
+        (λ loaded. IfSome (F.told files.old) (λ t. IsScriptOf t name.now loaded.script.items)) }
     ensures short { IfOk result (λ loaded. length loaded.script.items ≤ MAX_FILE) }
     ensures open_file { IsOpenAs (F.told files.old) (F.cursor files.new) name.now }
-    ensures err { IfErr result (λ f. ReadFails (F.told files.old) name.now (Rose (F.faults files.old) (F.faults files.new))
+    ensures err { IfErr result
+        (λ f. ReadFails (F.told files.old) name.now (Rose (F.faults files.old) (F.faults files.new))
         (IsTrue (F.steady files.old)) IsNever (cause_of f)) }
 {
     match read_named(alloc, files, name) {
@@ -184,23 +198,30 @@ fn read_files<'a, F: Files, L: Ledger>(
     alloc: Global,
     keys: HashKeys,
     files: &mut F,
-    names: Names<'a>,
+    names: InputFiles<'a>,
     blank: Blank,
 ) -> Result<Loaded, Failure<'a>>
     requires name { blank.name ≡ L.name }
     requires parts { blank.parts ≡ L.parts }
     requires some { 0 < L.parts }
-    ensures stay { FilesStay (F.faults files.old) (F.faults files.new) (F.told files.old) (F.told files.new) (F.steady files.old) (F.steady files.new) }
-    ensures start { IfOk result (λ loaded. IfSome (F.told files.old) (λ t. IsStartOf t (names_in names.entry) loaded.start.state)) }
-    ensures script { IfOk result (λ loaded. IfSome (F.told files.old) (λ t. IsScriptOf t names.entry.script.now loaded.script.items)) }
+    ensures stay { FilesStay (F.faults files.old) (F.faults files.new) (F.told files.old)
+        (F.told files.new) (F.steady files.old) (F.steady files.new) }
+    ensures start { IfOk result
+        (λ loaded. IfSome (F.told files.old)
+        (λ t. IsStartOf t (names_in names.entry) loaded.start.state)) }
+    ensures script { IfOk result
+        (λ loaded. IfSome (F.told files.old)
+        (λ t. IsScriptOf t names.entry.script.now loaded.script.items)) }
     ensures short { IfOk result (λ loaded. length loaded.script.items ≤ MAX_FILE) }
     ensures open_file { IsOpenAs (F.told files.old) (F.cursor files.new) names.entry.first.now
         ⊎ IsOpenAs (F.told files.old) (F.cursor files.new) names.entry.script.now }
-    ensures err { IfErr result (λ f. NotBegun (F.told files.old) (names_in names.entry) (Rose (F.faults files.old) (F.faults files.new))
+    ensures err { IfErr result
+        (λ f. NotBegun (F.told files.old) (names_in names.entry)
+        (Rose (F.faults files.old) (F.faults files.new))
         (IsTrue (F.steady files.old)) (cause_of f)) }
 {
     match read_start::<F, L>(alloc, keys, files, names, blank) {
-        Ok(start) => read_behind(alloc, files, start, names.script),
+        Ok(start) => read_script(alloc, files, start, names.script),
         Err(failure) => Err(failure),
     }
 }
@@ -210,10 +231,10 @@ fn finished(session: Session) -> Outcome
     ensures status { result.status ≡ 0 }
     ensures skipped { result.skipped.items ≡ session.skipped.items }
     ensures end { state_in result.end ≡ Some session.pinned.now.state }
-    ensures hands { HandsBack result }
+    ensures hands { ReturnsWarehouse result }
 {
     let warehouse = session.pinned.finish();
-    warehouse.is_valid();
+    warehouse.recall_invariant();
     Outcome {
         status: 0,
         skipped: session.skipped,
@@ -226,7 +247,7 @@ fn stopped(status: u8, session: Session) -> Outcome
     requires { 0 < status }
     ensures status { result.status ≡ status }
     ensures skipped { result.skipped.items ≡ session.skipped.items }
-    ensures hands { HandsBack result }
+    ensures hands { ReturnsWarehouse result }
 {
     session.pinned.discard();
     Outcome {
@@ -240,17 +261,20 @@ fn stopped(status: u8, session: Session) -> Outcome
 fn broken_off<E: Sink>(err: &mut E, stop: Stop, session: Session) -> Outcome
     ensures skipped { result.skipped.items ≡ session.skipped.items }
     ensures ends { IfStop stop
-        (λ name. (result.status ≡ 3) × Said (Rose (E.faults err.old) (E.faults err.new)) (CannotRead name) (E.taken err.old) (E.taken err.new))
-        ((result.status ≡ 4) × Said (Rose (E.faults err.old) (E.faults err.new)) CannotWrite (E.taken err.old) (E.taken err.new)) }
-    ensures hands { HandsBack result }
+        (λ name. (result.status ≡ 3)
+        × HasReported (Rose (E.faults err.old) (E.faults err.new)) (CannotRead name)
+        (E.taken err.old) (E.taken err.new))
+        ((result.status ≡ 4) × HasReported (Rose (E.faults err.old) (E.faults err.new)) CannotWrite
+        (E.taken err.old) (E.taken err.new)) }
+    ensures hands { ReturnsWarehouse result }
 {
     match stop {
         Stop::Read(name) => {
-            tell(err, &Failure::CannotRead(name.as_str()));
+            report(err, &Failure::CannotRead(name.as_str()));
             stopped(3, session)
         }
         Stop::Write => {
-            tell(err, &Failure::CannotWrite);
+            report(err, &Failure::CannotWrite);
             stopped(4, session)
         }
     }
@@ -271,14 +295,15 @@ fn run_script<F: Files, O: Sink, E: Sink, L: Ledger>(
     requires parts { blank.parts ≡ L.parts }
     requires some { 0 < L.parts }
     ensures ends { ScriptEnds loaded.start.state loaded.script.items
-        (files_over (F.told files.old) (F.steady files.old) (F.faults files.old) (F.faults files.new) (F.cursor files.old) (F.cursor files.new))
+        (files_over (F.told files.old) (F.steady files.old) (F.faults files.old)
+        (F.faults files.new) (F.cursor files.old) (F.cursor files.new))
         (sink_over (O.faults out.old) (O.faults out.new) (O.taken out.old) (O.taken out.new))
         (sink_over (E.faults err.old) (E.faults err.new) (E.taken err.old) (E.taken err.new))
         (err.new ≡ err.old) result }
-    ensures hands { HandsBack result }
+    ensures hands { ReturnsWarehouse result }
 {
     let Loaded { start, script } = loaded;
-    let script = trim_mark(&script);
+    let script = trim_byte_order_mark(&script);
     let Ok(mut session) = begin(alloc, start, script) else {
         return fail(alloc, err, &Failure::OutOfMemory);
     };
@@ -290,13 +315,13 @@ fn run_script<F: Files, O: Sink, E: Sink, L: Ledger>(
 }
 
 // Ends a generated run.
-fn filled(alloc: Global, warehouse: Warehouse) -> Outcome
+fn generated_outcome(alloc: Global, warehouse: Warehouse) -> Outcome
     ensures status { result.status ≡ 0 }
     ensures skipped { result.skipped.items ≡ [] }
     ensures end { state_in result.end ≡ Some warehouse.state }
-    ensures hands { HandsBack result }
+    ensures hands { ReturnsWarehouse result }
 {
-    warehouse.is_valid();
+    warehouse.recall_invariant();
     Outcome {
         status: 0,
         skipped: Vec::new(alloc),
@@ -322,7 +347,7 @@ fn run_generated<O: Sink, E: Sink, L: Ledger>(
         (sink_over (O.faults out.old) (O.faults out.new) (O.taken out.old) (O.taken out.new))
         (sink_over (E.faults err.old) (E.faults err.new) (E.taken err.old) (E.taken err.new))
         (err.new ≡ err.old) result }
-    ensures hands { HandsBack result }
+    ensures hands { ReturnsWarehouse result }
 {
     let mut steps = Steps::<L>::start(blank);
     let Ok(generated) = generate(alloc, rows, seed, &mut steps) else {
@@ -331,7 +356,7 @@ fn run_generated<O: Sink, E: Sink, L: Ledger>(
     let text = generated.text;
     let warehouse = generated.warehouse;
     match write_all(out, &text) {
-        Ok(()) => filled(alloc, warehouse),
+        Ok(()) => generated_outcome(alloc, warehouse),
         Err(_) => {
             warehouse.discard();
             fail(alloc, err, &Failure::CannotWrite)
@@ -340,7 +365,7 @@ fn run_generated<O: Sink, E: Sink, L: Ledger>(
 }
 
 // Ends a run of `pack`, and writes its snapshot.
-fn packed<O: Sink, E: Sink>(
+fn pack_finished<O: Sink, E: Sink>(
     alloc: Global,
     out: &mut O,
     err: &mut E,
@@ -350,11 +375,11 @@ fn packed<O: Sink, E: Sink>(
         (sink_over (O.faults out.old) (O.faults out.new) (O.taken out.old) (O.taken out.new))
         (sink_over (E.faults err.old) (E.faults err.new) (E.taken err.old) (E.taken err.new))
         (err.new ≡ err.old) result }
-    ensures hands { HandsBack result }
+    ensures hands { ReturnsWarehouse result }
 {
     match encode(alloc, &warehouse) {
         Ok(bytes) => match write_all(out, &bytes) {
-            Ok(()) => filled(alloc, warehouse),
+            Ok(()) => generated_outcome(alloc, warehouse),
             Err(_) => {
                 warehouse.discard();
                 fail(alloc, err, &Failure::CannotWrite)
@@ -372,16 +397,19 @@ fn packed<O: Sink, E: Sink>(
 }
 
 // Ends a run of `pack` before the end of its script, and reports why.
-fn unpacked<E: Sink>(alloc: Global, err: &mut E, stop: QuietStop) -> Outcome
+fn pack_stopped<E: Sink>(alloc: Global, err: &mut E, stop: SilentStop) -> Outcome
     ensures skipped { result.skipped.items ≡ [] }
     ensures ends { IfQuietStop stop
-        (λ name. (result.status ≡ 3) × Said (Rose (E.faults err.old) (E.faults err.new)) (CannotRead name) (E.taken err.old) (E.taken err.new))
-        ((result.status ≡ 5) × Said (Rose (E.faults err.old) (E.faults err.new)) OutOfMemory (E.taken err.old) (E.taken err.new)) }
-    ensures hands { HandsBack result }
+        (λ name. (result.status ≡ 3)
+        × HasReported (Rose (E.faults err.old) (E.faults err.new)) (CannotRead name)
+        (E.taken err.old) (E.taken err.new))
+        ((result.status ≡ 5) × HasReported (Rose (E.faults err.old) (E.faults err.new)) OutOfMemory
+        (E.taken err.old) (E.taken err.new)) }
+    ensures hands { ReturnsWarehouse result }
 {
     match stop {
-        QuietStop::Read(name) => fail(alloc, err, &Failure::CannotRead(name.as_str())),
-        QuietStop::Memory => fail(alloc, err, &Failure::OutOfMemory),
+        SilentStop::Read(name) => fail(alloc, err, &Failure::CannotRead(name.as_str())),
+        SilentStop::Memory => fail(alloc, err, &Failure::OutOfMemory),
     }
 }
 
@@ -400,23 +428,24 @@ fn pack_script<F: Files, O: Sink, E: Sink, L: Ledger>(
     requires parts { blank.parts ≡ L.parts }
     requires some { 0 < L.parts }
     ensures ends { PackScriptEnds loaded.start.state loaded.script.items
-        (files_over (F.told files.old) (F.steady files.old) (F.faults files.old) (F.faults files.new) (F.cursor files.old) (F.cursor files.new))
+        (files_over (F.told files.old) (F.steady files.old) (F.faults files.old)
+        (F.faults files.new) (F.cursor files.old) (F.cursor files.new))
         (sink_over (O.faults out.old) (O.faults out.new) (O.taken out.old) (O.taken out.new))
         (sink_over (E.faults err.old) (E.faults err.new) (E.taken err.old) (E.taken err.new))
         (err.new ≡ err.old) result }
-    ensures hands { HandsBack result }
+    ensures hands { ReturnsWarehouse result }
 {
     let Loaded { start, script } = loaded;
-    let script = trim_mark(&script);
+    let script = trim_byte_order_mark(&script);
     let Ok(mut session) = begin(alloc, start, script) else {
         return fail(alloc, err, &Failure::OutOfMemory);
     };
     let mut steps = Steps::<L>::start(blank);
-    match take_quietly(alloc, files, &mut session, script, &mut steps) {
-        Ok(()) => packed(alloc, out, err, session.pinned.finish()),
+    match run_silently(alloc, files, &mut session, script, &mut steps) {
+        Ok(()) => pack_finished(alloc, out, err, session.pinned.finish()),
         Err(stop) => {
             session.discard();
-            unpacked(alloc, err, stop)
+            pack_stopped(alloc, err, stop)
         }
     }
 }
@@ -428,14 +457,15 @@ fn pack_files<F: Files, O: Sink, E: Sink>(
     files: &mut F,
     out: &mut O,
     err: &mut E,
-    names: Names<'_>,
+    names: InputFiles<'_>,
 ) -> Outcome
     ensures ends { PackEnds (names_in names.entry)
-        (files_over (F.told files.old) (F.steady files.old) (F.faults files.old) (F.faults files.new) (F.cursor files.old) (F.cursor files.new))
+        (files_over (F.told files.old) (F.steady files.old) (F.faults files.old)
+        (F.faults files.new) (F.cursor files.old) (F.cursor files.new))
         (sink_over (O.faults out.old) (O.faults out.new) (O.taken out.old) (O.taken out.new))
         (sink_over (E.faults err.old) (E.faults err.new) (E.taken err.old) (E.taken err.new))
         (err.new ≡ err.old) result }
-    ensures hands { HandsBack result }
+    ensures hands { ReturnsWarehouse result }
 {
     match read_files::<F, Brand>(alloc, keys, files, names, Blank::new(1)) {
         Ok(loaded) => {
@@ -452,14 +482,15 @@ fn run_files<F: Files, O: Sink, E: Sink>(
     files: &mut F,
     out: &mut O,
     err: &mut E,
-    names: Names<'_>,
+    names: InputFiles<'_>,
 ) -> Outcome
     ensures ends { RunEnds (names_in names.entry)
-        (files_over (F.told files.old) (F.steady files.old) (F.faults files.old) (F.faults files.new) (F.cursor files.old) (F.cursor files.new))
+        (files_over (F.told files.old) (F.steady files.old) (F.faults files.old)
+        (F.faults files.new) (F.cursor files.old) (F.cursor files.new))
         (sink_over (O.faults out.old) (O.faults out.new) (O.taken out.old) (O.taken out.new))
         (sink_over (E.faults err.old) (E.faults err.new) (E.taken err.old) (E.taken err.new))
         (err.new ≡ err.old) result }
-    ensures hands { HandsBack result }
+    ensures hands { ReturnsWarehouse result }
 {
     match read_files::<F, Brand>(alloc, keys, files, names, Blank::new(1)) {
         Ok(loaded) => run_script::<F, O, E, Brand>(alloc, files, out, err, loaded, Blank::new(1)),
@@ -477,7 +508,8 @@ pub fn run_with_keys<F: Files, O: Sink, E: Sink>(
     err: &mut E,
 ) -> Outcome
     ensures { Ran (form_of words.now)
-        (files_over (F.told files.old) (F.steady files.old) (F.faults files.old) (F.faults files.new) (F.cursor files.old) (F.cursor files.new))
+        (files_over (F.told files.old) (F.steady files.old) (F.faults files.old)
+        (F.faults files.new) (F.cursor files.old) (F.cursor files.new))
         (sink_over (O.faults out.old) (O.faults out.new) (O.taken out.old) (O.taken out.new))
         (sink_over (E.faults err.old) (E.faults err.new) (E.taken err.old) (E.taken err.new))
         (files.new ≡ files.old) (out.new ≡ out.old) (err.new ≡ err.old) result }
@@ -488,7 +520,7 @@ pub fn run_with_keys<F: Files, O: Sink, E: Sink>(
         Form::Gen(rows, seed) => {
             run_generated::<O, E, Brand>(alloc, out, err, rows, seed, Blank::new(1))
         }
-        Form::Unlisted => fail(alloc, err, &Failure::Usage),
+        Form::Invalid => fail(alloc, err, &Failure::Usage),
     }
 }
 
@@ -519,86 +551,128 @@ pub fn run<F: Files, O: Sink, E: Sink>(
     ensures known { IsStatus result.status }
 
     // Status 0: the transcript, whole.
-    ensures transcript { result.status ≡ 0 → IfRun (form_of words.now) (λ names. IfSome (F.told files.old)
-        (λ t. Finished t names result.skipped.items (state_in result.end) (O.taken out.old) (O.taken out.new))) }
+    ensures transcript { result.status ≡ 0
+        → IfRun (form_of words.now) (λ names. IfSome (F.told files.old)
+        (λ t. Finished t names result.skipped.items (state_in result.end) (O.taken out.old)
+        (O.taken out.new))) }
     ensures silent { result.status ≡ 0 → err.new ≡ err.old }
     ensures ended { result.status ≡ 0 → is_some result.end ≡ true }
     ensures held { IfSome result.end AreContents }
     ensures no_end { (result.status ≡ 0 → ⊥) → result.end ≡ None }
     ensures skipped { IfRun (form_of words.now) (λ names. IfSome (F.told files.old)
-        (λ t. MatchOption (t names.script) (result.skipped.items ≡ []) (λ script. AreSkipped (script_lines script) result.skipped.items))) }
+        (λ t. MatchOption (t names.script) (result.skipped.items ≡ [])
+        (λ script. AreSkipped (script_lines script) result.skipped.items))) }
 
     // Status 2: the words.
     ensures usage { result.status ≡ 2 ↔ IsNone (form_of words.now) }
-    ensures unopened { result.status ≡ 2 → (files.new ≡ files.old) × (out.new ≡ out.old) × (result.skipped.items ≡ []) }
-    ensures said_usage { result.status ≡ 2 → Said (Rose (E.faults err.old) (E.faults err.new)) Usage (E.taken err.old) (E.taken err.new) }
+    ensures unopened { result.status ≡ 2 → (files.new ≡ files.old) × (out.new ≡ out.old)
+        × (result.skipped.items ≡ []) }
+    ensures said_usage { result.status ≡ 2
+        → HasReported (Rose (E.faults err.old) (E.faults err.new)) Usage (E.taken err.old)
+        (E.taken err.new) }
 
     // Status 3: a fault of the files.
     ensures read_fault { result.status ≡ 3 → Rose (F.faults files.old) (F.faults files.new) }
-    ensures unread { result.status ≡ 3 → IfRun (form_of words.now) (λ names. IfSome (F.told files.old) (λ t. (name : List ℕ)
-        × Unread t (IsTrue (F.steady files.old)) names result.skipped.items name (O.taken out.old) (O.taken out.new)
-        × Said (Rose (E.faults err.old) (E.faults err.new)) (CannotRead name) (E.taken err.old) (E.taken err.new))) }
+    ensures unread { result.status ≡ 3
+        → IfRun (form_of words.now) (λ names. IfSome (F.told files.old) (λ t. (name : List ℕ)
+        × Unread t (IsTrue (F.steady files.old)) names result.skipped.items name (O.taken out.old)
+        (O.taken out.new)
+        × HasReported (Rose (E.faults err.old) (E.faults err.new)) (CannotRead name)
+        (E.taken err.old) (E.taken err.new))) }
 
     // Status 4: a fault of out.
     ensures write_fault { result.status ≡ 4 → Rose (O.faults out.old) (O.faults out.new) }
-    ensures broken_off { result.status ≡ 4 → IfRun (form_of words.now) (λ names. IfSome (F.told files.old)
+    ensures broken_off { result.status ≡ 4
+        → IfRun (form_of words.now) (λ names. IfSome (F.told files.old)
         (λ t. BrokenOff t names result.skipped.items (O.taken out.old) (O.taken out.new))) }
-    ensures said_write { result.status ≡ 4 → Said (Rose (E.faults err.old) (E.faults err.new)) CannotWrite (E.taken err.old) (E.taken err.new) }
+    ensures said_write { result.status ≡ 4
+        → HasReported (Rose (E.faults err.old) (E.faults err.new)) CannotWrite (E.taken err.old)
+        (E.taken err.new) }
 
     // Status 5 and 6: nothing was begun.
-    ensures nothing { (result.status ≡ 5) ⊎ (result.status ≡ 6) → (O.taken out.new ≡ O.taken out.old) × (result.skipped.items ≡ []) }
+    ensures nothing { (result.status ≡ 5) ⊎ (result.status ≡ 6)
+        → (O.taken out.new ≡ O.taken out.old) × (result.skipped.items ≡ []) }
     ensures unbegun { result.status ≡ 5 → IfRun (form_of words.now) (λ names.
-        IsOpenAs (F.told files.old) (F.cursor files.new) names.first ⊎ IsOpenAs (F.told files.old) (F.cursor files.new) names.script) }
-    ensures said_memory { result.status ≡ 5 → Said (Rose (E.faults err.old) (E.faults err.new)) OutOfMemory (E.taken err.old) (E.taken err.new) }
-    ensures refused { result.status ≡ 6 → IfRun (form_of words.now) (λ names. IfSome (F.told files.old) (λ t. (cause : Cause)
+        IsOpenAs (F.told files.old) (F.cursor files.new) names.first
+        ⊎ IsOpenAs (F.told files.old) (F.cursor files.new) names.script) }
+    ensures said_memory { result.status ≡ 5
+        → HasReported (Rose (E.faults err.old) (E.faults err.new)) OutOfMemory (E.taken err.old)
+        (E.taken err.new) }
+    ensures refused { result.status ≡ 6
+        → IfRun (form_of words.now) (λ names. IfSome (F.told files.old) (λ t. (cause : Cause)
         × IsRefused t names cause
-        × Said (Rose (E.faults err.old) (E.faults err.new)) cause (E.taken err.old) (E.taken err.new))) }
+        × HasReported (Rose (E.faults err.old) (E.faults err.new)) cause (E.taken err.old)
+        (E.taken err.new))) }
 
-    // A refused schema or script ends with 6, unless memory or a fault came first. All else is carried out.
+    // A refused schema or script ends with 6, unless memory or a fault came first. All else is
+    // carried out.
     ensures refusal { IfRun (form_of words.now) (λ names. IfSome (F.told files.old) (λ t.
-        (cause : Cause) → IsRefused t names cause → (result.status ≡ 6) ⊎ (result.status ≡ 5) ⊎ (result.status ≡ 3))) }
+        (cause : Cause) → IsRefused t names cause → (result.status ≡ 6) ⊎ (result.status ≡ 5)
+        ⊎ (result.status ≡ 3))) }
     ensures complete { IfRun (form_of words.now) (λ names. IfSome (F.told files.old) (λ t.
         IsUnrefused t names
-        → (Rose (F.faults files.old) (F.faults files.new) → ⊥) → (Rose (O.faults out.old) (O.faults out.new) → ⊥)
+        → (Rose (F.faults files.old) (F.faults files.new) → ⊥)
+        → (Rose (O.faults out.old) (O.faults out.new) → ⊥)
         → (result.status ≡ 0) ⊎ (result.status ≡ 5))) }
     ensures found { IsTrue (F.steady files.old) → IfRun (form_of words.now)
-        (λ names. IfSome (F.told files.old) (λ t. AllTold t names → result.status ≡ 3 → ⊥)) }
-    ensures complete_steady { IsTrue (F.steady files.old) → IfRun (form_of words.now) (λ names. IfSome (F.told files.old) (λ t.
-        AllTold t names → IsUnrefused t names
-        → (Rose (O.faults out.old) (O.faults out.new) → ⊥) → (result.status ≡ 0) ⊎ (result.status ≡ 5))) }
+        (λ names. IfSome (F.told files.old) (λ t. AllFilesKnown t names → result.status ≡ 3 → ⊥)) }
+    ensures complete_steady { IsTrue (F.steady files.old)
+        → IfRun (form_of words.now) (λ names. IfSome (F.told files.old) (λ t.
+        AllFilesKnown t names → IsUnrefused t names
+        → (Rose (O.faults out.old) (O.faults out.new) → ⊥) → (result.status ≡ 0)
+        ⊎ (result.status ≡ 5))) }
 
     // The words `pack SCHEMA SCRIPT`: the snapshot of the state at the script's end.
-    ensures pack_known { IfPack (form_of words.now) (λ names. IsScriptStatus result.status × (result.skipped.items ≡ [])) }
-    ensures pack_all { result.status ≡ 0 → IfPack (form_of words.now) (λ names. IfSome (F.told files.old)
+    ensures pack_known { IfPack (form_of words.now) (λ names. IsScriptStatus result.status
+        × (result.skipped.items ≡ [])) }
+    ensures pack_all { result.status ≡ 0
+        → IfPack (form_of words.now) (λ names. IfSome (F.told files.old)
         (λ t. Packed t names (state_in result.end) (O.taken out.old) (O.taken out.new))) }
-    ensures pack_nothing { result.status ≡ 3 → IfPack (form_of words.now) (λ names. O.taken out.new ≡ O.taken out.old) }
-    ensures pack_unread { result.status ≡ 3 → IfPack (form_of words.now) (λ names. IfSome (F.told files.old) (λ t. (name : List ℕ)
+    ensures pack_nothing { result.status ≡ 3
+        → IfPack (form_of words.now) (λ names. O.taken out.new ≡ O.taken out.old) }
+    ensures pack_unread { result.status ≡ 3
+        → IfPack (form_of words.now) (λ names. IfSome (F.told files.old) (λ t. (name : List ℕ)
         × Unread t (IsTrue (F.steady files.old)) names [] name None None
-        × Said (Rose (E.faults err.old) (E.faults err.new)) (CannotRead name) (E.taken err.old) (E.taken err.new))) }
-    ensures pack_front { result.status ≡ 4 → IfPack (form_of words.now) (λ names. IfSome (F.told files.old)
-        (λ t. PackedFront t names (O.taken out.old) (O.taken out.new))) }
-    ensures pack_refused { result.status ≡ 6 → IfPack (form_of words.now) (λ names. IfSome (F.told files.old) (λ t. (cause : Cause)
+        × HasReported (Rose (E.faults err.old) (E.faults err.new)) (CannotRead name)
+        (E.taken err.old) (E.taken err.new))) }
+    ensures pack_front { result.status ≡ 4
+        → IfPack (form_of words.now) (λ names. IfSome (F.told files.old)
+        (λ t. PackedPrefix t names (O.taken out.old) (O.taken out.new))) }
+    ensures pack_refused { result.status ≡ 6
+        → IfPack (form_of words.now) (λ names. IfSome (F.told files.old) (λ t. (cause : Cause)
         × IsPackRefused t names cause
-        × Said (Rose (E.faults err.old) (E.faults err.new)) cause (E.taken err.old) (E.taken err.new))) }
-    ensures pack_refusal { IfPack (form_of words.now) (λ names. IfSome (F.told files.old) (λ t. (cause : Cause) → IsPackRefused t names cause
+        × HasReported (Rose (E.faults err.old) (E.faults err.new)) cause (E.taken err.old)
+        (E.taken err.new))) }
+    ensures pack_refusal { IfPack (form_of words.now)
+        (λ names. IfSome (F.told files.old) (λ t. (cause : Cause) → IsPackRefused t names cause
         → (result.status ≡ 6) ⊎ (result.status ≡ 5) ⊎ (result.status ≡ 3))) }
-    ensures pack_complete { IfPack (form_of words.now) (λ names. IfSome (F.told files.old) (λ t. IsPackUnrefused t names
-        → (Rose (F.faults files.old) (F.faults files.new) → ⊥) → (Rose (O.faults out.old) (O.faults out.new) → ⊥)
+    ensures pack_complete { IfPack (form_of words.now)
+        (λ names. IfSome (F.told files.old) (λ t. IsPackUnrefused t names
+        → (Rose (F.faults files.old) (F.faults files.new) → ⊥)
+        → (Rose (O.faults out.old) (O.faults out.new) → ⊥)
         → (result.status ≡ 0) ⊎ (result.status ≡ 5))) }
     ensures pack_found { IsTrue (F.steady files.old) → IfPack (form_of words.now)
-        (λ names. IfSome (F.told files.old) (λ t. AllTold t names → result.status ≡ 3 → ⊥)) }
-    ensures pack_complete_steady { IsTrue (F.steady files.old) → IfPack (form_of words.now) (λ names. IfSome (F.told files.old) (λ t.
-        AllTold t names → IsPackUnrefused t names
-        → (Rose (O.faults out.old) (O.faults out.new) → ⊥) → (result.status ≡ 0) ⊎ (result.status ≡ 5))) }
+        (λ names. IfSome (F.told files.old) (λ t. AllFilesKnown t names → result.status ≡ 3 → ⊥)) }
+    ensures pack_complete_steady { IsTrue (F.steady files.old)
+        → IfPack (form_of words.now) (λ names. IfSome (F.told files.old) (λ t.
+        AllFilesKnown t names → IsPackUnrefused t names
+        → (Rose (O.faults out.old) (O.faults out.new) → ⊥) → (result.status ≡ 0)
+        ⊎ (result.status ≡ 5))) }
 
     // The words `gen ROWS SEED`: the record of the generated state, and no other status.
-    ensures gen_known { IfGen (form_of words.now) (λ drawing. ((result.status ≡ 0) ⊎ (result.status ≡ 4) ⊎ (result.status ≡ 5)) × (result.skipped.items ≡ [])) }
+    ensures gen_known { IfGen (form_of words.now)
+        (λ drawing. ((result.status ≡ 0) ⊎ (result.status ≡ 4) ⊎ (result.status ≡ 5))
+        × (result.skipped.items ≡ [])) }
     ensures gen_files { IfGen (form_of words.now) (λ drawing. files.new ≡ files.old) }
-    ensures gen_end { result.status ≡ 0 → IfGen (form_of words.now) (λ drawing. state_in result.end ≡ Some (generated_state drawing.rows drawing.seed)) }
+    ensures gen_end { result.status ≡ 0
+        → IfGen (form_of words.now)
+        (λ drawing. state_in result.end ≡ Some (generated_state drawing.rows drawing.seed)) }
     ensures gen_all { result.status ≡ 0 → IfGen (form_of words.now)
-        (λ drawing. O.taken out.new ≡ taking (generated_record drawing.rows drawing.seed) (O.taken out.old)) }
+        (λ drawing. O.taken out.new ≡ with_taken (generated_record drawing.rows drawing.seed)
+        (O.taken out.old)) }
     ensures gen_front { result.status ≡ 4 → IfGen (form_of words.now) (λ drawing. (n : ℕ)
-        × (O.taken out.new ≡ taking (take n (generated_record drawing.rows drawing.seed)) (O.taken out.old))) }
+        × (O.taken out.new ≡ with_taken (take n (generated_record drawing.rows drawing.seed))
+        (O.taken out.old))) }
 {
     run_with_keys(alloc, HashKeys::fixed(), words, files, out, err)
 }

@@ -5,14 +5,14 @@ ghost use Rattle.qc_session.specs.Lines.{is_passed, lines_of, without_cr};
 ghost use Rattle.qc_session.specs.Reading.{FilesStay};
 
 use crate::answer::{LineStop, answer_line};
-use crate::lines::{is_passed_over, names_file};
+use crate::lines::{is_ignored, names_file};
 use crate::pending::Pending;
 use cell_core::{Steps, Text};
 use cube_defs::{MAX_FILE, Memory};
 use pinned_view::Pinned;
 use qc_io::{Files, Sink};
-use query_answers::answer_coded;
-use reply_text::memory;
+use query_answers::answer_plain_point;
+use reply_text::memory_reply;
 use std::alloc::Global;
 use std::sync::ledger::Ledger;
 use text_lines::{split_line, trim_cr};
@@ -56,7 +56,8 @@ fn put_reply<O: Sink>(
     at_once: bool,
 ) -> Result<(), Stop>
     ensures later { O.faults out.old ≤ O.faults out.new }
-    ensures puts { Puts (Rose (O.faults out.old) (O.faults out.new)) (pending.old ++ reply.now) pending.new (O.taken out.old) (O.taken out.new) result }
+    ensures puts { Puts (Rose (O.faults out.old) (O.faults out.new))
+        (pending.old ++ reply.now) pending.new (O.taken out.old) (O.taken out.new) result }
 {
     match pending.put(out, reply, at_once) {
         Ok(()) => Ok(()),
@@ -64,7 +65,8 @@ fn put_reply<O: Sink>(
     }
 }
 
-// Carries out a line that isn't ignored, and gathers its reply. Before and after a line that names a
+// Carries out a line that isn't ignored, and gathers its reply. Before and after a line that names
+// a
 // file all replies are flushed, and at a stop none is left.
 fn carry_out<F: Files, O: Sink, L: Ledger>(
     alloc: Global,
@@ -79,24 +81,27 @@ fn carry_out<F: Files, O: Sink, L: Ledger>(
     requires number { session.old.number + 1 < 2 ^ 32 }
     requires up_to { AreUpTo session.old.number session.old.skipped.items }
     requires taken { is_passed line.now ≡ false }
-    ensures stay { FilesStay (F.faults files.old) (F.faults files.new) (F.told files.old) (F.told files.new) (F.steady files.old) (F.steady files.new) }
+    ensures stay { FilesStay (F.faults files.old) (F.faults files.new) (F.told files.old)
+        (F.told files.new) (F.steady files.old) (F.steady files.new) }
     ensures later { O.faults out.old ≤ O.faults out.new }
-    ensures ends { LineEnds (F.told files.old) (IsTrue (F.steady files.old)) (Rose (F.faults files.old) (F.faults files.new)) (Rose (O.faults out.old) (O.faults out.new))
+    ensures ends { LineEnds (F.told files.old) (IsTrue (F.steady files.old))
+        (Rose (F.faults files.old) (F.faults files.new))
+        (Rose (O.faults out.old) (O.faults out.new))
         line.now session.old session.new (O.taken out.old) (O.taken out.new) result }
 {
     let number = session.number + 1;
     let alone = names_file(line);
-    let Ok(()) = session.pending.hand_on_if(out, alone) else {
+    let Ok(()) = session.pending.flush_if(out, alone) else {
         return Err(Stop::Write);
     };
     match answer_line(alloc, files, &mut session.pinned, number, line, steps) {
         Ok(reply) => put_reply(&mut session.pending, out, reply.as_bytes(), alone),
         Err(LineStop::Memory) => {
             session.skipped.push(number).unwrap();
-            let reply = memory(number);
+            let reply = memory_reply(number);
             put_reply(&mut session.pending, out, reply.as_bytes(), alone)
         }
-        Err(LineStop::Fault(name)) => match session.pending.hand_on(out) {
+        Err(LineStop::Fault(name)) => match session.pending.flush(out) {
             Ok(()) => Err(Stop::Read(name)),
             Err(_) => Err(Stop::Write),
         },
@@ -116,16 +121,19 @@ fn take_line<F: Files, O: Sink, L: Ledger>(
     requires short { length line.now ≤ MAX_FILE }
     requires number { session.old.number + 1 < 2 ^ 32 }
     requires up_to { AreUpTo session.old.number session.old.skipped.items }
-    ensures stay { FilesStay (F.faults files.old) (F.faults files.new) (F.told files.old) (F.told files.new) (F.steady files.old) (F.steady files.new) }
+    ensures stay { FilesStay (F.faults files.old) (F.faults files.new) (F.told files.old)
+        (F.told files.new) (F.steady files.old) (F.steady files.new) }
     ensures later { O.faults out.old ≤ O.faults out.new }
-    ensures ends { LineEnds (F.told files.old) (IsTrue (F.steady files.old)) (Rose (F.faults files.old) (F.faults files.new)) (Rose (O.faults out.old) (O.faults out.new))
+    ensures ends { LineEnds (F.told files.old) (IsTrue (F.steady files.old))
+        (Rose (F.faults files.old) (F.faults files.new))
+        (Rose (O.faults out.old) (O.faults out.new))
         line.now session.old session.new (O.taken out.old) (O.taken out.new) result }
 {
-    if is_passed_over(line) {
+    if is_ignored(line) {
         return Ok(());
     }
     let number = session.number + 1;
-    if answer_coded(
+    if answer_plain_point(
         alloc,
         session.pinned.now(),
         number,
@@ -154,7 +162,7 @@ fn count_lines(text: &[u8]) -> usize
 }
 
 // The memory for the number of each line, and for the replies.
-fn rooms(alloc: Global, script: &[u8]) -> Result<(Vec<u32>, Pending), Memory>
+fn reserve_buffers(alloc: Global, script: &[u8]) -> Result<(Vec<u32>, Pending), Memory>
     ensures fresh { IfOk result (λ made. (made.0.items ≡ []) × (made.1 ≡ [])) }
     ensures room { IfOk result (λ made. length (lines_of script.now) ≤ vec_capacity made.0) }
     ensures few { length (lines_of script.now) ≤ length script.now }
@@ -167,11 +175,13 @@ fn rooms(alloc: Global, script: &[u8]) -> Result<(Vec<u32>, Pending), Memory>
 /// A session before the first line of a script, with the memory for the number of each line.
 pub fn begin(alloc: Global, warehouse: Warehouse, script: &[u8]) -> Result<Session, Memory>
     ensures state { IfOk result (λ session. session.pinned.now.state ≡ warehouse.state) }
-    ensures fresh { IfOk result (λ session. (session.number ≡ 0) × (session.skipped.items ≡ []) × (session.pending ≡ []) × (session.pinned.pins ≡ [])) }
-    ensures room { IfOk result (λ session. length (lines_of script.now) ≤ vec_capacity session.skipped) }
+    ensures fresh { IfOk result (λ session. (session.number ≡ 0) × (session.skipped.items ≡ [])
+        × (session.pending ≡ []) × (session.pinned.pins ≡ [])) }
+    ensures room { IfOk result
+        (λ session. length (lines_of script.now) ≤ vec_capacity session.skipped) }
     ensures few { length (lines_of script.now) ≤ length script.now }
 {
-    match rooms(alloc, script) {
+    match reserve_buffers(alloc, script) {
         Ok((skipped, pending)) => {
             let pinned = Pinned::new(alloc, warehouse)?;
             Ok(Session {
@@ -201,9 +211,13 @@ pub fn take_lines<F: Files, O: Sink, L: Ledger>(
     requires room { length (lines_of script.now) ≤ vec_capacity session.old.skipped }
     requires few { length (lines_of script.now) < 2 ^ 32 }
     requires short { length script.now ≤ MAX_FILE }
-    requires fresh { (session.old.number ≡ 0) × (session.old.skipped.items ≡ []) × (session.old.pending ≡ []) × (session.old.pinned.pins ≡ []) }
-    ensures { LinesEnd (F.told files.old) (IsTrue (F.steady files.old)) (Rose (F.faults files.old) (F.faults files.new)) (Rose (O.faults out.old) (O.faults out.new))
-        (map without_cr (lines_of script.now)) session.old session.new (O.taken out.old) (O.taken out.new) result }
+    requires fresh { (session.old.number ≡ 0) × (session.old.skipped.items ≡ [])
+        × (session.old.pending ≡ []) × (session.old.pinned.pins ≡ []) }
+    ensures { LinesEnd (F.told files.old) (IsTrue (F.steady files.old))
+        (Rose (F.faults files.old) (F.faults files.new))
+        (Rose (O.faults out.old) (O.faults out.new))
+        (map without_cr (lines_of script.now)) session.old session.new (O.taken out.old)
+        (O.taken out.new) result }
 {
     let mut rest = script;
     'lines: while !rest.is_empty() {
@@ -216,7 +230,7 @@ pub fn take_lines<F: Files, O: Sink, L: Ledger>(
             Err(stop) => return Err(stop),
         }
     }
-    match session.pending.hand_on(out) {
+    match session.pending.flush(out) {
         Ok(()) => Ok(()),
         Err(_) => Err(Stop::Write),
     }

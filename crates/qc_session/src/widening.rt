@@ -5,21 +5,22 @@ ghost use Rattle.reply_text.specs.Replies.{refused_text, widen_texts};
 ghost use Rattle.reply_text.specs.Words.{reply_bytes};
 ghost use Rattle.warehouse.specs.Widening.{widen_refusal_in};
 ghost use Rattle.qc_session.specs.Answers.{widen_with};
-ghost use Rattle.qc_session.specs.Pins.{held_in};
+ghost use Rattle.qc_session.specs.Pins.{pinned_state_in};
 
 use cell_core::{Memory, Steps, Text};
 use cube_defs::MAX_TEXT;
 use pinned_view::{Pinned, PinnedWiden};
-use reply_text::{Reply, refused, widened, words_of_pinned, words_of_widening};
+use reply_text::{Reply, pinned_refusal, refused, widen_refusal, widened_reply};
 use std::alloc::AllocError;
 use std::sync::ledger::Ledger;
 use warehouse::WidenRefused;
 
 // Why no dimension is added.
 fn refused_widening(number: u32, cause: WidenRefused) -> Result<Reply, Memory>
-    ensures { IfOk result (λ reply. IfSome (widen_refusal_in cause) (λ refusal. reply_bytes reply ≡ refused_text number (widen_texts refusal))) }
+    ensures { IfOk result (λ reply. IfSome (widen_refusal_in cause)
+        (λ refusal. reply_bytes reply ≡ refused_text number (widen_texts refusal))) }
 {
-    match words_of_widening(cause) {
+    match widen_refusal(cause) {
         Some(words) => Ok(Reply::Short(refused(number, words))),
         None => Err(AllocError),
     }
@@ -36,16 +37,18 @@ pub fn answer_widen<L: Ledger>(
 ) -> Result<Reply, Memory>
     requires name { is_new_name pinned.old.now.state.schema name.now ≡ true }
     requires value { length value.now ≤ MAX_TEXT }
-    ensures ok { IfOk result (λ reply. widen_with (held_in pinned.old) (held_in pinned.old).pins number name.now value.now
-        ≡ record { state = held_in pinned.new; reply = reply_bytes reply }) }
+    ensures ok { IfOk result
+        (λ reply. widen_with (pinned_state_in pinned.old) (pinned_state_in pinned.old).pins number
+        name.now value.now
+        ≡ record { state = pinned_state_in pinned.new; reply = reply_bytes reply }) }
     ensures same { OnErr result (pinned.new ≡ pinned.old) }
 {
     match pinned.widen(name.as_str(), value.as_str(), steps) {
         Ok(taken) => {
             let dims = pinned.now().schema().dims();
-            Ok(Reply::Short(widened(number, dims, taken.classes)))
+            Ok(Reply::Short(widened_reply(number, dims, taken.classes)))
         }
-        Err(PinnedWiden::Pinned) => Ok(Reply::Short(refused(number, words_of_pinned()))),
+        Err(PinnedWiden::Pinned) => Ok(Reply::Short(refused(number, pinned_refusal()))),
         Err(PinnedWiden::DimsFull) => refused_widening(number, WidenRefused::DimsFull),
         Err(PinnedWiden::NodesFull) => refused_widening(number, WidenRefused::NodesFull),
         Err(PinnedWiden::Memory) => Err(AllocError),

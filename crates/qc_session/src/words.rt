@@ -17,7 +17,7 @@ pub enum Source {
 
 /// The names of the first file and of the script, and the kind of the first.
 #[derive(Clone, Copy)]
-pub struct Names<'a> {
+pub struct InputFiles<'a> {
     pub source: Source,
     pub first: &'a str,
     pub script: &'a str,
@@ -27,13 +27,13 @@ pub struct Names<'a> {
 #[derive(Clone, Copy)]
 pub enum Form<'a> {
     /// `run SCHEMA SCRIPT` or `open SNAPSHOT SCRIPT`: the names of two files.
-    Run(Names<'a>),
+    Run(InputFiles<'a>),
     /// `pack SCHEMA SCRIPT`: the names of two files.
-    Pack(Names<'a>),
+    Pack(InputFiles<'a>),
     /// `gen ROWS SEED`: the number of rows, and the seed from which they are drawn.
     Gen(u32, u64),
     /// Usage error: the words have no listed form.
-    Unlisted,
+    Invalid,
 }
 
 ghost use Rattle.qc_session.specs.Words.{HasFewRows, form_in};
@@ -47,7 +47,7 @@ fn read_numbers<'a>(rows: &str, seed: &str) -> Form<'a>
         (Some(rows), Some(seed)) if rows > 0 && rows <= u64::from(MAX_ROWS) => {
             Form::Gen(rows as u32, seed)
         }
-        _ => Form::Unlisted,
+        _ => Form::Invalid,
     }
 }
 
@@ -58,23 +58,23 @@ fn read_three<'a>(word: &String, first: &'a String, script: &'a String) -> Form<
 {
     let (first, script) = (first.as_str(), script.as_str());
     match word.as_str() {
-        "run" => Form::Run(Names {
+        "run" => Form::Run(InputFiles {
             source: Source::FromSchema,
             first,
             script,
         }),
-        "open" => Form::Run(Names {
+        "open" => Form::Run(InputFiles {
             source: Source::FromSnapshot,
             first,
             script,
         }),
-        "pack" => Form::Pack(Names {
+        "pack" => Form::Pack(InputFiles {
             source: Source::FromSchema,
             first,
             script,
         }),
         "gen" => read_numbers(first, script),
-        _ => Form::Unlisted,
+        _ => Form::Invalid,
     }
 }
 
@@ -84,7 +84,7 @@ pub fn read_words(words: &[String]) -> Form<'_>
     ensures few { HasFewRows result }
 {
     let [word, first, script] = words else {
-        return Form::Unlisted;
+        return Form::Invalid;
     };
     read_three(word, first, script)
 }

@@ -1,5 +1,5 @@
 mod Asked
-mod ClassTold
+mod DecodedClasses
 mod Measured
 mod Pointed
 mod Recoded

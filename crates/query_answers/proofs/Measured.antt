@@ -24,7 +24,8 @@ measure-there measures (kinds.Mean m) h = h
 pub scale-is : (schema : Layout) (kind : AggKind) → scale_in schema kind ≡ scale_of schema.measures (kind_in kind)
 scale-is schema kind = go kind
   where
-    at : (measures : List Measure) (m : ℕ) → get_or (map (λ x. x.scale) measures) m 0 ≡ (get_or measures m no_measure).scale
+    at : (measures : List Measure) (m : ℕ)
+        → get_or (map (λ x. x.scale) measures) m 0 ≡ (get_or measures m no_measure).scale
     at [] m = refl
     at (x ∷ measures) zero = refl
     at (x ∷ measures) (suc m) = at measures m
@@ -37,15 +38,22 @@ scale-is schema kind = go kind
     go (kinds.Mean m) = at schema.measures m
 
 -- a kind that the schema names is in the index
-pub named-kept : (schema : Layout) (kind : AggKind) (index : List Ranking) (kinds : List AggKind) → units index ≡ map (λ k. (k, scale_in schema k)) kinds → list_any (same_kind kind) kinds ≡ true → IsSome (ranking_of kind index)
+pub named-kept : (schema : Layout) (kind : AggKind) (index : List Ranking) (kinds : List AggKind)
+    → units index ≡ map (λ k. (k, scale_in schema k)) kinds → list_any (same_kind kind) kinds ≡ true
+    → IsSome (ranking_of kind index)
 named-kept schema kind [] [] e named = cc
 named-kept schema kind [] (k ∷ kinds) e named = cc
 named-kept schema kind (r ∷ index) [] e named = cc
 named-kept schema kind (r ∷ index) (k ∷ kinds) e named =
     let first : ◌≡◌ {A = AggKind × ℕ} (r.kind, r.scale) (k, scale_in schema k) = cc in
     let rest : units index ≡ map (λ k. (k, scale_in schema k)) kinds = cc in
-    go (same_kind kind r.kind) refl (ap (λ q. same_kind kind q || list_any (same_kind kind) kinds) (ap (λ p. p.0) first) ∙ named) (λ later. named-kept schema kind index kinds rest later)
+    go (same_kind kind r.kind) refl (ap (λ q. same_kind kind q || list_any (same_kind kind) kinds) (ap (λ p. p.0) first)
+    ∙ named) (λ later. named-kept schema kind index kinds rest later)
   where
-    go : (b : Bool) → same_kind kind r.kind ≡ b → (same_kind kind r.kind || list_any (same_kind kind) kinds) ≡ true → (list_any (same_kind kind) kinds ≡ true → IsSome (ranking_of kind index)) → IsSome (ranking_of kind (r ∷ index))
+    go : (b : Bool) → same_kind kind r.kind ≡ b → (same_kind kind r.kind || list_any (same_kind kind) kinds) ≡ true
+        → (list_any (same_kind kind) kinds ≡ true → IsSome (ranking_of kind index))
+        → IsSome (ranking_of kind (r ∷ index))
     go true f known more = subst (λ o. IsSome o) (sym (cond-true _ _ _ f)) refl
-    go false f known more = subst (λ o. IsSome o) (sym (cond-false _ _ _ f)) (more (ap (λ b. b || list_any (same_kind kind) kinds) (sym f) ∙ known))
+    go false f known more =
+        subst (λ o. IsSome o) (sym (cond-false _ _ _ f))
+        (more (ap (λ b. b || list_any (same_kind kind) kinds) (sym f) ∙ known))

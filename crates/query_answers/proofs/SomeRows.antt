@@ -8,7 +8,8 @@ use Rattle.tree_search.specs.Found.{IsTree, IsTreeOf}
 use Rattle.warehouse.specs.State.{Contents, HasTree, source_of, with_rows}
 
 module _ (held : Contents) (width : ℕ) (tree : Tree ℕ) (is : IsTreeOfRows held width tree) where
-  pub tree-of : (rows : List (Row Text)) → HasTree (with_rows held.state rows) tree → IsTreeOf width tree (source_of (with_rows held.state rows))
+  pub tree-of : (rows : List (Row Text)) → HasTree (with_rows held.state rows) tree
+      → IsTreeOf width tree (source_of (with_rows held.state rows))
   tree-of rows has = rw is.wide has.canonical
 
   pub some-tree : IsTree width tree

@@ -6,7 +6,9 @@ use Rattle.query_script.specs.declared.query.Query.{Query}
 use Rattle.query_script.specs.declared.query.Query.TheVariants as queries
 use Rattle.warehouse.specs.State.{State}
 
-pub within-named : (s : State) (kept named : AggKind → Bool) → ((kind : AggKind) → named kind ≡ true → kept kind ≡ true) → (query : Query) (before after : ℕ) → IsWithinSteps s kept query before after → IsWithinSteps s named query before after
+pub within-named : (s : State) (kept named : AggKind → Bool) → ((kind : AggKind) → named kind ≡ true → kept kind ≡ true)
+    → (query : Query) (before after : ℕ) → IsWithinSteps s kept query before after
+    → IsWithinSteps s named query before after
 within-named s kept named more (queries.Point asked) before after w = w
 within-named s kept named more (queries.Range asked) before after w = w
 within-named s kept named more (queries.Bounds asked) before after w = w

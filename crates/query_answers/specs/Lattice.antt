@@ -10,7 +10,9 @@ use Rattle.warehouse.specs.State.{State}
 
 -- the reply that tells classes without their lower bounds
 abbrev pub uppers_text : State → ℕ → List (Cell Text) → List ℕ
-uppers_text state line uppers = iceberg_text line state.schema.measures (map (class_alone text_cmp (length state.schema.measures) state.rows) uppers)
+uppers_text state line uppers
+    = iceberg_text line state.schema.measures
+    (map (class_alone text_cmp (length state.schema.measures) state.rows) uppers)
 
 -- what stands in some relation to the upper bound, or that no row is covered
 abbrev pub related : State → ℕ → (Cell Text → List (Cell Text)) → Option (Cell Text) → List ℕ
@@ -22,13 +24,14 @@ abbrev pub upper_of : State → Cell Text → Option (Cell Text)
 upper_of state cell = closure text_eq state.rows cell
 
 -- the answer to `parents`
-abbrev pub parented : State → ℕ → Cell Text → List ℕ
-parented state line cell = related state line (parents text_cmp state.rows) (upper_of state cell)
+abbrev pub parents_answer : State → ℕ → Cell Text → List ℕ
+parents_answer state line cell = related state line (parents text_cmp state.rows) (upper_of state cell)
 
 -- the answer to `children`
-abbrev pub followed : State → ℕ → Cell Text → List ℕ
-followed state line cell = related state line (children text_cmp state.rows) (upper_of state cell)
+abbrev pub children_answer : State → ℕ → Cell Text → List ℕ
+children_answer state line cell = related state line (children text_cmp state.rows) (upper_of state cell)
 
 -- the answer to `rollup`
-abbrev pub rolled : State → ℕ → Ask → Cell Text → List ℕ
-rolled state line ask cell = related state line (rollup text_cmp (length state.schema.measures) state.rows ask) (upper_of state cell)
+abbrev pub rollup_answer : State → ℕ → Ask → Cell Text → List ℕ
+rollup_answer state line ask cell
+    = related state line (rollup text_cmp (length state.schema.measures) state.rows ask) (upper_of state cell)

@@ -24,9 +24,9 @@ use Rattle.query_script.specs.declared.query.Query as code
 use Rattle.query_script.specs.declared.query.Query.TheVariants as queries
 use Rattle.range_query.specs.Work.{work}
 use Rattle.reply_text.specs.Replies.{bounds_reply, iceberg_text, point_reply, range_reply, stats_text}
-use Rattle.value_dict.specs.Boxes.{asked_box}
-use Rattle.value_dict.specs.Told.{has_text}
-use Rattle.query_answers.specs.Lattice.{followed, parented, rolled}
+use Rattle.value_dict.specs.Boxes.{fields_box}
+use Rattle.value_dict.specs.Decoded.{has_text}
+use Rattle.query_answers.specs.Lattice.{children_answer, parents_answer, rollup_answer}
 use Rattle.warehouse.specs.State.{Contents, HasTree, State, scale_in, with_rows}
 
 -- the tree is that of some rows of the schema, whose texts are among those of now
@@ -42,35 +42,37 @@ pub record IsSource (held : Contents) (width : ℕ) (tree : Tree ℕ) (index : L
   pub unit : (kind : Kinds) → IfSome (ranking_of kind index) (λ r. r.scale ≡ scale_in held.state.schema kind)
 
 -- what a field of a point asks of its dimension: Any, or a value
-abbrev pub entry_asked : Field → Option Text
-entry_asked fields.Any = None
-entry_asked fields.All = None
-entry_asked (fields.One text) = Some text
-entry_asked (fields.Among texts) = None
-entry_asked (fields.Between low high) = None
+abbrev pub entry_of_field : Field → Option Text
+entry_of_field fields.Any = None
+entry_of_field fields.All = None
+entry_of_field (fields.One text) = Some text
+entry_of_field (fields.Among texts) = None
+entry_of_field (fields.Between low high) = None
 
-abbrev pub cell_asked : List Field → Cell Text
-cell_asked asked = map entry_asked asked
+abbrev pub cell_of_fields : List Field → Cell Text
+cell_of_fields asked = map entry_of_field asked
 
 -- the answer to a point
-abbrev pub pointed : State → ℕ → Cell Text → List ℕ
-pointed state line cell = point_reply state.schema line cell (agg_at text_eq (length state.schema.measures) state.rows cell)
+abbrev pub point_answer : State → ℕ → Cell Text → List ℕ
+point_answer state line cell
+    = point_reply state.schema line cell (agg_at text_eq (length state.schema.measures) state.rows cell)
 
 -- the answer to `bounds`
-abbrev pub bounded : State → ℕ → Cell Text → List ℕ
-bounded state line cell = bounds_reply state.schema line (class_of text_cmp (length state.schema.measures) state.rows cell)
+abbrev pub bounds_answer : State → ℕ → Cell Text → List ℕ
+bounds_answer state line cell
+    = bounds_reply state.schema line (class_of text_cmp (length state.schema.measures) state.rows cell)
 
 -- the cells that cover rows, of the box that fields ask for
 abbrev pub hits_of : State → List Field → List (Hit Text)
-hits_of state asked = range text_cmp (length state.schema.measures) state.rows (asked_box state.texts 0 asked)
+hits_of state asked = range text_cmp (length state.schema.measures) state.rows (fields_box state.texts 0 asked)
 
 -- how much is looked at for them
 abbrev pub work_of : State → List Field → ℕ
-work_of state asked = work text_cmp state.rows (known_box (has_text state.texts) 0 (asked_box state.texts 0 asked))
+work_of state asked = work text_cmp state.rows (known_box (has_text state.texts) 0 (fields_box state.texts 0 asked))
 
 -- the answer to `range`
-abbrev pub ranged : State → ℕ → List Field → List ℕ
-ranged state line asked = range_reply state.schema line (hits_of state asked)
+abbrev pub range_answer : State → ℕ → List Field → List ℕ
+range_answer state line asked = range_reply state.schema line (hits_of state asked)
 
 -- the scale of the measure of a kind; a count has none
 abbrev pub scale_of : List Measure → AggKind → ℕ
@@ -86,7 +88,8 @@ ask_of measures kind bound value = record { kind = kind; scale = scale_of measur
 
 -- the classes that pass
 abbrev pub classes_of : State → AggKind → Bound → Fraction → List (ClassHit Text)
-classes_of state kind bound value = iceberg text_cmp (length state.schema.measures) state.rows (ask_of state.schema.measures kind bound value)
+classes_of state kind bound value
+    = iceberg text_cmp (length state.schema.measures) state.rows (ask_of state.schema.measures kind bound value)
 
 -- the schema has an index of the kind
 abbrev pub names_kind : Layout → Kinds → Bool
@@ -97,32 +100,38 @@ abbrev pub steps_of_class : Layout → ℕ
 steps_of_class schema = 32 * (length schema.dims + 1) ^ 2 * 2 ^ length schema.dims
 
 -- the answer to `iceberg`
-abbrev pub passing : State → ℕ → AggKind → Bound → Fraction → List ℕ
-passing state line kind bound value = iceberg_text line state.schema.measures (classes_of state kind bound value)
+abbrev pub iceberg_answer : State → ℕ → AggKind → Bound → Fraction → List ℕ
+iceberg_answer state line kind bound value = iceberg_text line state.schema.measures (classes_of state kind bound value)
 
 -- the reply to `stats`: what is counted of the rows and of their canonical tree
-abbrev pub counted : State → ℕ → List ℕ
-counted state line =
-    stats_text line (length state.rows) (length (trees.classes text_cmp state.rows)) (length (trees.nodes text_cmp state.rows)) (trees.tree_edges text_cmp state.rows) (trees.links text_cmp state.rows)
+abbrev pub stats_answer : State → ℕ → List ℕ
+stats_answer state line =
+    stats_text line (length state.rows) (length (trees.classes text_cmp state.rows))
+    (length (trees.nodes text_cmp state.rows)) (trees.tree_edges text_cmp state.rows)
+    (trees.links text_cmp state.rows)
 
 -- the answer to a query
 abbrev pub query_reply : State → ℕ → Query → List ℕ
-query_reply state line (asks.Point asked) = pointed state line (cell_asked asked)
-query_reply state line (asks.Range asked) = ranged state line asked
-query_reply state line (asks.Bounds asked) = bounded state line (cell_asked asked)
-query_reply state line (asks.Iceberg kind bound value) = passing state line kind bound value
-query_reply state line asks.Stats = counted state line
-query_reply state line (asks.Parents asked) = parented state line (cell_asked asked)
-query_reply state line (asks.Children asked) = followed state line (cell_asked asked)
-query_reply state line (asks.Rollup kind bound value asked) = rolled state line (ask_of state.schema.measures kind bound value) (cell_asked asked)
+query_reply state line (asks.Point asked) = point_answer state line (cell_of_fields asked)
+query_reply state line (asks.Range asked) = range_answer state line asked
+query_reply state line (asks.Bounds asked) = bounds_answer state line (cell_of_fields asked)
+query_reply state line (asks.Iceberg kind bound value) = iceberg_answer state line kind bound value
+query_reply state line asks.Stats = stats_answer state line
+query_reply state line (asks.Parents asked) = parents_answer state line (cell_of_fields asked)
+query_reply state line (asks.Children asked) = children_answer state line (cell_of_fields asked)
+query_reply state line (asks.Rollup kind bound value asked)
+    = rollup_answer state line (ask_of state.schema.measures kind bound value) (cell_of_fields asked)
 
--- the steps before an answer and behind it are no further apart than is promised of the query; an iceberg is told so of a kind that has an index
+-- the steps before an answer and behind it are no further apart than is promised of the query; an iceberg is told so of
+-- a kind that has an index
 abbrev pub IsWithinSteps : State → (Kinds → Bool) → code.Query → ℕ → ℕ → Type 0
 IsWithinSteps state has_index (queries.Point asked) before after = after ≤ before + (2 * length state.schema.dims + 3)
 IsWithinSteps state has_index (queries.Range asked) before after = after ≤ before + 3 * (1 + work_of state asked)
-IsWithinSteps state has_index (queries.Bounds asked) before after = after ≤ before + 7 * (length state.schema.dims + 1) * 2 ^ length state.schema.dims
+IsWithinSteps state has_index (queries.Bounds asked) before after
+    = after ≤ before + 7 * (length state.schema.dims + 1) * 2 ^ length state.schema.dims
 IsWithinSteps state has_index (queries.Iceberg kind bound value) before after =
-    has_index kind ≡ true → after ≤ before + length (classes_of state (kind_in kind) (bound_in bound) (fraction_in value)) * steps_of_class state.schema
+    has_index kind ≡ true → after ≤ before
+    + length (classes_of state (kind_in kind) (bound_in bound) (fraction_in value)) * steps_of_class state.schema
 IsWithinSteps state has_index queries.Stats before after = ⊤
 IsWithinSteps state has_index (queries.Parents asked) before after = ⊤
 IsWithinSteps state has_index (queries.Children asked) before after = ⊤

@@ -5,15 +5,15 @@ ghost use Rattle.aggregates.specs.declared.kind.AggKind as kinds;
 ghost use Rattle.cube_defs.specs.Rows.{Agg, Row};
 ghost use Rattle.cube_defs.specs.Text.{Text};
 ghost use Rattle.iceberg_query.specs.Asked.{bound_in};
-ghost use Rattle.iceberg_query.specs.Hits.{told_classes};
+ghost use Rattle.iceberg_query.specs.Hits.{decoded_classes};
 ghost use Rattle.lower_bounds.specs.Classes.{hit_in};
 ghost use Rattle.measure_index.specs.Index.{ranking_of};
 ghost use Rattle.measure_index.specs.Rankings.{IsIndex};
 ghost use Rattle.qc_schema.specs.Schema.{IsLayout};
 ghost use Rattle.query_script.specs.Commands.{IsMeasured};
 ghost use Rattle.reply_text.specs.Words.{reply_bytes};
-ghost use Rattle.value_dict.specs.Told.{IsTellableClass};
-ghost use Rattle.query_answers.specs.Queries.{IsSource, classes_of, passing, scale_of, steps_of_class};
+ghost use Rattle.value_dict.specs.Decoded.{IsDecodableClass};
+ghost use Rattle.query_answers.specs.Queries.{IsSource, classes_of, iceberg_answer, scale_of, steps_of_class};
 ghost use Rattle.warehouse.specs.State.{HasTree, with_rows};
 
 use crate::source::{Condition, Source};
@@ -52,7 +52,7 @@ pub fn empty_index(alloc: Global) -> Result<Index, Memory>
 }
 
 // The classes that pass.
-fn classes_asked<T: Nodes, L: Ledger>(
+fn find_classes<T: Nodes, L: Ledger>(
     alloc: Global,
     source: &Source<T>,
     condition: Condition,
@@ -64,11 +64,11 @@ fn classes_asked<T: Nodes, L: Ledger>(
         (T.tree source.now.tree.now) source.now.index.now }
     ensures classes { (rows : List (Row Text)) →
         HasTree (with_rows source.now.warehouse.now.state rows) (T.tree source.now.tree.now) →
-        IfOk result (λ classes. told_classes source.now.warehouse.now.state.texts classes.items
+        IfOk result (λ classes. decoded_classes source.now.warehouse.now.state.texts classes.items
         ≡ classes_of (with_rows source.now.warehouse.now.state rows)
         (kind_in condition.kind) (bound_in condition.bound) (fraction_in condition.value)) }
     ensures told { IfOk result (λ classes. All (λ class.
-        IsTellableClass source.now.warehouse.now.state.texts
+        IsDecodableClass source.now.warehouse.now.state.texts
         (length source.now.warehouse.now.state.schema.measures) (hit_in class)) classes.items) }
     ensures steps { IsSome (ranking_of condition.kind source.now.index.now) →
         IfOk result (λ classes. steps.new ≤ steps.old
@@ -107,7 +107,7 @@ pub(crate) fn answer_iceberg<T: Nodes, L: Ledger>(
     ensures reply { (rows : List (Row Text)) →
         HasTree (with_rows source.now.warehouse.now.state rows) (T.tree source.now.tree.now) →
         IfOk result (λ reply. reply_bytes reply
-        ≡ passing (with_rows source.now.warehouse.now.state rows) number
+        ≡ iceberg_answer (with_rows source.now.warehouse.now.state rows) number
         (kind_in condition.kind) (bound_in condition.bound) (fraction_in condition.value)) }
     ensures steps { IsSome (ranking_of condition.kind source.now.index.now) →
         (rows : List (Row Text)) →
@@ -117,7 +117,7 @@ pub(crate) fn answer_iceberg<T: Nodes, L: Ledger>(
         (kind_in condition.kind) (bound_in condition.bound) (fraction_in condition.value))
         * steps_of_class source.now.warehouse.now.state.schema) }
 {
-    let classes = classes_asked(alloc, source, condition, steps)?;
+    let classes = find_classes(alloc, source, condition, steps)?;
     let reply = iceberg_reply(
         alloc,
         number,

@@ -4,13 +4,13 @@ ghost use Rattle.aggregates.specs.Views.{fraction_in, kind_in};
 ghost use Rattle.cube_defs.specs.Rows.{Row};
 ghost use Rattle.cube_defs.specs.Text.{Text};
 ghost use Rattle.iceberg_query.specs.Asked.{bound_in};
-ghost use Rattle.qc_arena.specs.Seen.{record_at};
+ghost use Rattle.qc_arena.specs.RecordReaders.{record_at};
 ghost use Rattle.query_script.specs.Commands.{IsCellField, IsMeasured};
-ghost use Rattle.quotient_lattice.specs.Told.{told_nodes};
+ghost use Rattle.quotient_lattice.specs.DecodedNodes.{decoded_nodes};
 ghost use Rattle.reply_text.specs.Words.{reply_bytes};
-ghost use Rattle.value_dict.specs.Told.{told_cell};
-ghost use Rattle.query_answers.specs.Queries.{IsSource, ask_of, cell_asked};
-ghost use Rattle.query_answers.specs.Lattice.{followed, parented, rolled, upper_of, uppers_text};
+ghost use Rattle.value_dict.specs.Decoded.{decoded_cell};
+ghost use Rattle.query_answers.specs.Queries.{IsSource, ask_of, cell_of_fields};
+ghost use Rattle.query_answers.specs.Lattice.{children_answer, parents_answer, rollup_answer, upper_of, uppers_text};
 ghost use Rattle.warehouse.specs.State.{HasTree, with_rows};
 
 use crate::iceberg::scale_of_kind;
@@ -19,13 +19,13 @@ use cell_core::{Fields, Memory, NodeNo, Steps};
 use iceberg_query::Ask;
 use qc_arena::Nodes;
 use quotient_lattice::{children, classes_alone, parents, rollup};
-use reply_text::{Reply, iceberg_reply, none};
+use reply_text::{Reply, iceberg_reply, none_reply};
 use std::alloc::Global;
 use std::sync::ledger::Ledger;
 use tree_search::find;
 
 // The node of the class of the fields' cell. None if the cell covers no row.
-fn upper_asked<T: Nodes, L: Ledger>(
+fn find_upper_node<T: Nodes, L: Ledger>(
     source: &Source<T>,
     asked: &Fields,
     steps: &mut Steps<L>,
@@ -38,9 +38,9 @@ fn upper_asked<T: Nodes, L: Ledger>(
         IsSome (record_at (T.tree source.now.tree.now) node.0).class) }
     ensures upper { (rows : List (Row Text)) →
         HasTree (with_rows source.now.warehouse.now.state rows) (T.tree source.now.tree.now) →
-        option_map (λ node. told_cell source.now.warehouse.now.state.texts
+        option_map (λ node. decoded_cell source.now.warehouse.now.state.texts
         (record_at (T.tree source.now.tree.now) node.0).cell) result
-        ≡ upper_of (with_rows source.now.warehouse.now.state rows) (cell_asked asked.now) }
+        ≡ upper_of (with_rows source.now.warehouse.now.state rows) (cell_of_fields asked.now) }
 {
     let Some(cell) = source.warehouse.dict().cell_of(asked) else {
         return None;
@@ -49,7 +49,7 @@ fn upper_asked<T: Nodes, L: Ledger>(
 }
 
 // Reports the classes of some nodes.
-fn told_reply<T: Nodes, L: Ledger>(
+fn nodes_reply<T: Nodes, L: Ledger>(
     alloc: Global,
     source: &Source<T>,
     number: u32,
@@ -64,7 +64,8 @@ fn told_reply<T: Nodes, L: Ledger>(
         HasTree (with_rows source.now.warehouse.now.state rows) (T.tree source.now.tree.now) →
         IfOk result (λ reply. reply_bytes reply
         ≡ uppers_text (with_rows source.now.warehouse.now.state rows) number
-        (told_nodes source.now.warehouse.now.state.texts (T.tree source.now.tree.now) nodes.now)) }
+        (decoded_nodes source.now.warehouse.now.state.texts
+        (T.tree source.now.tree.now) nodes.now)) }
 {
     let dict = source.warehouse.dict();
     let _dims = dict.dims();
@@ -88,13 +89,14 @@ pub(crate) fn answer_parents<T: Nodes, L: Ledger>(
     ensures { (rows : List (Row Text)) →
         HasTree (with_rows source.now.warehouse.now.state rows) (T.tree source.now.tree.now) →
         IfOk result (λ reply. reply_bytes reply
-        ≡ parented (with_rows source.now.warehouse.now.state rows) number (cell_asked asked.now)) }
+        ≡ parents_answer (with_rows source.now.warehouse.now.state rows) number
+        (cell_of_fields asked.now)) }
 {
-    let Some(node) = upper_asked(source, asked, steps) else {
-        return Ok(Reply::Short(none(number)));
+    let Some(node) = find_upper_node(source, asked, steps) else {
+        return Ok(Reply::Short(none_reply(number)));
     };
     match parents(alloc, source.tree, source.warehouse.dict(), node, steps) {
-        Ok(nodes) => told_reply(alloc, source, number, &nodes, steps),
+        Ok(nodes) => nodes_reply(alloc, source, number, &nodes, steps),
         Err(error) => Err(error),
     }
 }
@@ -114,13 +116,14 @@ pub(crate) fn answer_children<T: Nodes, L: Ledger>(
     ensures { (rows : List (Row Text)) →
         HasTree (with_rows source.now.warehouse.now.state rows) (T.tree source.now.tree.now) →
         IfOk result (λ reply. reply_bytes reply
-        ≡ followed (with_rows source.now.warehouse.now.state rows) number (cell_asked asked.now)) }
+        ≡ children_answer (with_rows source.now.warehouse.now.state rows) number
+        (cell_of_fields asked.now)) }
 {
-    let Some(node) = upper_asked(source, asked, steps) else {
-        return Ok(Reply::Short(none(number)));
+    let Some(node) = find_upper_node(source, asked, steps) else {
+        return Ok(Reply::Short(none_reply(number)));
     };
     match children(alloc, source.tree, source.warehouse.dict(), node, steps) {
-        Ok(nodes) => told_reply(alloc, source, number, &nodes, steps),
+        Ok(nodes) => nodes_reply(alloc, source, number, &nodes, steps),
         Err(error) => Err(error),
     }
 }
@@ -145,13 +148,13 @@ pub(crate) fn answer_rollup<T: Nodes, L: Ledger>(
     ensures { (rows : List (Row Text)) →
         HasTree (with_rows source.now.warehouse.now.state rows) (T.tree source.now.tree.now) →
         IfOk result (λ reply. reply_bytes reply
-        ≡ rolled (with_rows source.now.warehouse.now.state rows) number
+        ≡ rollup_answer (with_rows source.now.warehouse.now.state rows) number
         (ask_of source.now.warehouse.now.state.schema.measures
         (kind_in condition.kind) (bound_in condition.bound) (fraction_in condition.value))
-        (cell_asked asked.now)) }
+        (cell_of_fields asked.now)) }
 {
-    let Some(node) = upper_asked(source, asked, steps) else {
-        return Ok(Reply::Short(none(number)));
+    let Some(node) = find_upper_node(source, asked, steps) else {
+        return Ok(Reply::Short(none_reply(number)));
     };
     let ask = Ask {
         kind: condition.kind,
@@ -167,7 +170,7 @@ pub(crate) fn answer_rollup<T: Nodes, L: Ledger>(
         &ask,
         steps,
     ) {
-        Ok(nodes) => told_reply(alloc, source, number, &nodes, steps),
+        Ok(nodes) => nodes_reply(alloc, source, number, &nodes, steps),
         Err(error) => Err(error),
     }
 }

@@ -11,6 +11,6 @@ mod range;
 mod source;
 
 pub use iceberg::empty_index;
-pub use point::answer_coded;
-pub use query::{answer_now, answer_query};
+pub use point::answer_plain_point;
+pub use query::{answer_present, answer_query};
 pub use source::Source;

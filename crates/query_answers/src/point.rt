@@ -8,25 +8,25 @@ ghost use Rattle.cube_laws.specs.Total.{agg_at};
 ghost use Rattle.query_script.specs.Commands.{IsCellField, command_in};
 ghost use Rattle.query_script.specs.Queries.{Point};
 ghost use Rattle.query_script.specs.Questions.{Ask};
-ghost use Rattle.query_answers.specs.Queries.{IsSource, cell_asked, pointed};
+ghost use Rattle.query_answers.specs.Queries.{IsSource, cell_of_fields, point_answer};
 ghost use Rattle.reply_text.specs.Replies.{none_text, point_text};
 ghost use Rattle.reply_text.specs.Words.{reply_bytes};
-ghost use Rattle.value_dict.specs.Told.{HasTexts, told_cell};
+ghost use Rattle.value_dict.specs.Decoded.{HasTexts, decoded_cell};
 ghost use Rattle.warehouse.specs.State.{HasTree, with_rows};
 
 use crate::source::Source;
 use aggregates::Agg;
 use cell_core::{Cell, Fields, Memory, Steps};
 use qc_arena::Nodes;
-use query_script::{Coded, read_codes};
-use reply_text::{Reply, none, point_reply, push_point};
+use query_script::{PointRead, read_point_codes};
+use reply_text::{Reply, none_reply, point_reply, push_point};
 use std::alloc::Global;
 use std::sync::ledger::Ledger;
 use tree_search::total_at;
 use warehouse::Warehouse;
 
 // The fields' cell in codes, and its aggregate. None if it covers no row.
-fn total_asked<T: Nodes, L: Ledger>(
+fn find_total<T: Nodes, L: Ledger>(
     source: &Source<T>,
     asked: &Fields,
     steps: &mut Steps<L>,
@@ -39,11 +39,11 @@ fn total_asked<T: Nodes, L: Ledger>(
         HasTree (with_rows source.now.warehouse.now.state rows) (T.tree source.now.tree.now) →
         option_map (λ found. agg_in found.1) result
         ≡ agg_at text_eq (length source.now.warehouse.now.state.schema.measures) rows
-        (cell_asked asked.now) }
+        (cell_of_fields asked.now) }
     ensures measures { IfSome result (λ found.
         length (agg_in found.1).parts ≡ length source.now.warehouse.now.state.schema.measures) }
     ensures told { IfSome result (λ found.
-        told_cell source.now.warehouse.now.state.texts found.0 ≡ cell_asked asked.now) }
+        decoded_cell source.now.warehouse.now.state.texts found.0 ≡ cell_of_fields asked.now) }
     ensures texts { IfSome result (λ found. HasTexts source.now.warehouse.now.state.texts found.0) }
     ensures steps { steps.new
         ≤ steps.old + (2 * length source.now.warehouse.now.state.schema.dims + 3) }
@@ -69,12 +69,13 @@ pub(crate) fn answer_point<T: Nodes, L: Ledger>(
     ensures reply { (rows : List (Row Text)) →
         HasTree (with_rows source.now.warehouse.now.state rows) (T.tree source.now.tree.now) →
         IfOk result (λ reply. reply_bytes reply
-        ≡ pointed (with_rows source.now.warehouse.now.state rows) number (cell_asked asked.now)) }
+        ≡ point_answer (with_rows source.now.warehouse.now.state rows) number
+        (cell_of_fields asked.now)) }
     ensures steps { steps.new
         ≤ steps.old + (2 * length source.now.warehouse.now.state.schema.dims + 3) }
 {
-    let Some((cell, total)) = total_asked(source, asked, steps) else {
-        return Ok(Reply::Short(none(number)));
+    let Some((cell, total)) = find_total(source, asked, steps) else {
+        return Ok(Reply::Short(none_reply(number)));
     };
     let reply = point_reply(
         alloc,
@@ -87,12 +88,14 @@ pub(crate) fn answer_point<T: Nodes, L: Ledger>(
     Ok(Reply::Long(reply))
 }
 
-// Replaces the reply by `none`. False if out of memory.
+// Replaces the reply by `none_reply`. False if out of memory.
 fn put_none(number: u32, reply: &mut Vec<u8>) -> bool
     ensures { result ≡ true → reply.new.items ≡ none_text number }
 {
     reply.clear();
-    reply.extend_from_slice(none(number).as_bytes()).is_ok()
+    reply
+        .extend_from_slice(none_reply(number).as_bytes())
+        .is_ok()
 }
 
 // Replaces the reply by that of a cell with this aggregate. False if out of memory.
@@ -105,7 +108,9 @@ fn put_total(
 ) -> bool
     requires texts { HasTexts warehouse.now.state.texts cell.now }
     requires parts { length (agg_in total.now).parts ≡ length warehouse.now.state.schema.measures }
-    ensures { result ≡ true → reply.new.items ≡ point_text number (told_cell warehouse.now.state.texts cell.now) warehouse.now.state.schema.measures
+    ensures { result ≡ true
+        → reply.new.items ≡ point_text number (decoded_cell warehouse.now.state.texts cell.now)
+        warehouse.now.state.schema.measures
         (agg_in total.now) }
 {
     reply.clear();
@@ -123,7 +128,7 @@ fn put_total(
 /// Answers a line that is a point without quotes, over the present rows, and replaces the reply by
 /// its own. False if the line isn't one, or if out of memory. With n dimensions it takes at most 2n
 /// + 3 steps.
-pub fn answer_coded<L: Ledger>(
+pub fn answer_plain_point<L: Ledger>(
     alloc: Global,
     warehouse: &Warehouse,
     number: u32,
@@ -131,16 +136,17 @@ pub fn answer_coded<L: Ledger>(
     reply: &mut Vec<u8>,
     steps: &mut Steps<L>,
 ) -> bool
-    ensures answered { result ≡ true → (asked : List asks.Field) × (command_in warehouse.now.state.schema line.now ≡ Ok (Ask (Point asked)))
-        × (reply.new.items ≡ pointed warehouse.now.state number (cell_asked asked)) }
+    ensures answered { result ≡ true → (asked : List asks.Field)
+        × (command_in warehouse.now.state.schema line.now ≡ Ok (Ask (Point asked)))
+        × (reply.new.items ≡ point_answer warehouse.now.state number (cell_of_fields asked)) }
     ensures steps { steps.new ≤ steps.old + (2 * length warehouse.now.state.schema.dims + 3) }
 {
     let dict = warehouse.dict();
     let mut cell = Cell::any(alloc, dict.dims());
-    match read_codes(warehouse.schema(), dict, line, &mut cell) {
-        Coded::Unread => false,
-        Coded::Unknown => put_none(number, reply),
-        Coded::Known => match total_at(warehouse.tree(), &cell, steps) {
+    match read_point_codes(warehouse.schema(), dict, line, &mut cell) {
+        PointRead::Unread => false,
+        PointRead::Unknown => put_none(number, reply),
+        PointRead::Known => match total_at(warehouse.tree(), &cell, steps) {
             Some(total) => put_total(warehouse, number, &cell, &total, reply),
             None => put_none(number, reply),
         },

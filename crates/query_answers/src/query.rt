@@ -20,7 +20,7 @@ use crate::source::{Condition, Source};
 use cell_core::{Memory, Steps};
 use qc_arena::Nodes;
 use query_script::Query;
-use reply_text::{Reply, stats};
+use reply_text::{Reply, stats_reply};
 use std::alloc::Global;
 use std::sync::ledger::Ledger;
 use warehouse::Warehouse;
@@ -59,7 +59,7 @@ pub fn answer_query<T: Nodes, L: Ledger>(
             };
             answer_iceberg(alloc, source, number, condition, steps)
         }
-        Query::Stats => Ok(Reply::Short(stats(number, source.counts))),
+        Query::Stats => Ok(Reply::Short(stats_reply(number, source.counts))),
         Query::Parents(asked) => answer_parents(alloc, source, number, asked, steps),
         Query::Children(asked) => answer_children(alloc, source, number, asked, steps),
         Query::Rollup(kind, bound, value, asked) => {
@@ -74,7 +74,7 @@ pub fn answer_query<T: Nodes, L: Ledger>(
 }
 
 /// Answers a query of the present rows.
-pub fn answer_now<L: Ledger>(
+pub fn answer_present<L: Ledger>(
     alloc: Global,
     warehouse: &Warehouse,
     number: u32,
@@ -82,8 +82,11 @@ pub fn answer_now<L: Ledger>(
     steps: &mut Steps<L>,
 ) -> Result<Reply, Memory>
     requires query { IsQuery warehouse.now.state.schema (query_in query.now) }
-    ensures reply { IfOk result (λ reply. reply_bytes reply ≡ query_reply warehouse.now.state number (query_in query.now)) }
-    ensures steps { OnOk result (IsWithinSteps warehouse.now.state (names_kind warehouse.now.state.schema) query.now steps.old steps.new) }
+    ensures reply { IfOk result (λ reply. reply_bytes reply ≡ query_reply warehouse.now.state number
+        (query_in query.now)) }
+    ensures steps { OnOk result
+        (IsWithinSteps warehouse.now.state (names_kind warehouse.now.state.schema) query.now
+        steps.old steps.new) }
     ensures memory { OnErr result (query_in query.now ≢ queries.Stats) }
 {
     let source = Source {

@@ -2,21 +2,21 @@
 ghost use Rattle.std.specs.Prelude.{All, Err, IfOk, List, length, ◌*◌, ◌+◌, ◌<◌, ◌≡◌, ◌≤◌};
 ghost use Rattle.cube_defs.specs.Rows.{Row};
 ghost use Rattle.cube_defs.specs.Text.{Text};
-ghost use Rattle.range_query.specs.Told.{IsTellableHit, hit_in, told_hits};
+ghost use Rattle.range_query.specs.DecodedHits.{IsDecodableHit, hit_in, decoded_hits};
 ghost use Rattle.reply_text.specs.Words.{reply_bytes};
-ghost use Rattle.query_answers.specs.Queries.{IsSource, hits_of, ranged, work_of};
+ghost use Rattle.query_answers.specs.Queries.{IsSource, hits_of, range_answer, work_of};
 ghost use Rattle.warehouse.specs.State.{HasTree, with_rows};
 
 use crate::source::Source;
 use cell_core::{Fields, Memory, Steps};
 use qc_arena::Nodes;
 use range_query::{Hit, MAX_RANGE_CELLS, RangeRefused, range};
-use reply_text::{Reply, range_reply, refused, words_of_many};
+use reply_text::{Reply, many_refusal, range_reply, refused};
 use std::alloc::{AllocError, Global};
 use std::sync::ledger::Ledger;
 
 // The cells of the fields' box that cover rows.
-fn hits_asked<T: Nodes, L: Ledger>(
+fn find_hits<T: Nodes, L: Ledger>(
     alloc: Global,
     source: &Source<T>,
     asked: &Fields,
@@ -27,10 +27,10 @@ fn hits_asked<T: Nodes, L: Ledger>(
         (T.tree source.now.tree.now) source.now.index.now }
     ensures hits { (rows : List (Row Text)) →
         HasTree (with_rows source.now.warehouse.now.state rows) (T.tree source.now.tree.now) →
-        IfOk result (λ hits. told_hits source.now.warehouse.now.state.texts hits.items
+        IfOk result (λ hits. decoded_hits source.now.warehouse.now.state.texts hits.items
         ≡ hits_of (with_rows source.now.warehouse.now.state rows) asked.now) }
     ensures told { IfOk result (λ hits. All (λ hit.
-        IsTellableHit source.now.warehouse.now.state.texts
+        IsDecodableHit source.now.warehouse.now.state.texts
         (length source.now.warehouse.now.state.schema.measures) (hit_in hit)) hits.items) }
     ensures few { IfOk result (λ hits. length hits.items ≤ MAX_RANGE_CELLS) }
     ensures too_many { result ≡ Err RangeRefused.TooMany → (rows : List (Row Text)) →
@@ -65,19 +65,19 @@ pub(crate) fn answer_range<T: Nodes, L: Ledger>(
     ensures reply { (rows : List (Row Text)) →
         HasTree (with_rows source.now.warehouse.now.state rows) (T.tree source.now.tree.now) →
         IfOk result (λ reply. reply_bytes reply
-        ≡ ranged (with_rows source.now.warehouse.now.state rows) number asked.now) }
+        ≡ range_answer (with_rows source.now.warehouse.now.state rows) number asked.now) }
     ensures steps { (rows : List (Row Text)) →
         HasTree (with_rows source.now.warehouse.now.state rows) (T.tree source.now.tree.now) →
         steps.new ≤ steps.old
         + 3 * (1 + work_of (with_rows source.now.warehouse.now.state rows) asked.now) }
 {
-    match hits_asked(alloc, source, asked, steps) {
+    match find_hits(alloc, source, asked, steps) {
         Ok(hits) => {
             let warehouse = source.warehouse;
             let reply = range_reply(alloc, number, warehouse.schema(), warehouse.dict(), &hits)?;
             Ok(Reply::Long(reply))
         }
-        Err(RangeRefused::TooMany) => Ok(Reply::Short(refused(number, words_of_many()))),
+        Err(RangeRefused::TooMany) => Ok(Reply::Short(refused(number, many_refusal()))),
         Err(RangeRefused::Memory) => Err(AllocError),
     }
 }

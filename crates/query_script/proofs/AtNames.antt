@@ -15,27 +15,35 @@ abbrev refused : LineFault → Result Question LineFault
 refused fault = Err fault
 
 -- both are there
-pub at-asks : (layout : Layout) (rest : List ℕ) (name : Text) (q : Query) → pin_name_in (word_of rest) ≡ Ok name → query_in_line layout (rest_of rest) ≡ Ok q → at_in layout rest ≡ Ok (At name q)
+pub at-asks : (layout : Layout) (rest : List ℕ) (name : Text) (q : Query) → pin_name_in (word_of rest) ≡ Ok name
+    → query_in_line layout (rest_of rest) ≡ Ok q → at_in layout rest ≡ Ok (At name q)
 at-asks layout rest name q named asked = rw asked (by (is_pin_name (word_of rest)) named)
   where
-    by : (b : Bool) → cond b (Ok (word_of rest)) (Err (faults.Field 1)) ≡ Ok name → cond b (Ok (At (word_of rest) q)) (Err (faults.Field 1)) ≡ Ok (At name q)
+    by : (b : Bool) → cond b (Ok (word_of rest)) (Err (faults.Field 1)) ≡ Ok name
+        → cond b (Ok (At (word_of rest) q)) (Err (faults.Field 1)) ≡ Ok (At name q)
     by true e = let same : word_of rest ≡ name = cc in rw same refl
     by false e = absurd (cc e)
 
 -- the name is refused
-pub at-unnamed : (o : Option LineFault) (layout : Layout) (rest : List ℕ) → IfSome o (λ fault. pin_name_in (word_of rest) ≡ Err fault) → IfSome o (λ fault. at_in layout rest ≡ Err fault)
+pub at-unnamed : (o : Option LineFault) (layout : Layout) (rest : List ℕ)
+    → IfSome o (λ fault. pin_name_in (word_of rest) ≡ Err fault) → IfSome o (λ fault. at_in layout rest ≡ Err fault)
 at-unnamed None layout rest h = tt
 at-unnamed (Some fault) layout rest h = by (is_pin_name (word_of rest)) h
   where
-    by : (b : Bool) → cond b (Ok (word_of rest)) (Err (faults.Field 1)) ≡ Err fault → cond b (asked_with (At (word_of rest)) (query_in_line layout (rest_of rest))) (Err (faults.Field 1)) ≡ Err fault
+    by : (b : Bool) → cond b (Ok (word_of rest)) (Err (faults.Field 1)) ≡ Err fault
+        → cond b (asked_with (At (word_of rest)) (query_in_line layout (rest_of rest)))
+        (Err (faults.Field 1)) ≡ Err fault
     by true e = absurd (cc e)
     by false e = let same : faults.Field 1 ≡ fault = cc in rw same refl
 
 -- the query is refused
-pub at-unasked : (o : Option LineFault) (layout : Layout) (rest : List ℕ) (name : Text) → pin_name_in (word_of rest) ≡ Ok name → IfSome o (λ fault. query_in_line layout (rest_of rest) ≡ Err fault) → IfSome o (λ fault. at_in layout rest ≡ Err fault)
+pub at-unasked : (o : Option LineFault) (layout : Layout) (rest : List ℕ) (name : Text)
+    → pin_name_in (word_of rest) ≡ Ok name → IfSome o (λ fault. query_in_line layout (rest_of rest) ≡ Err fault)
+    → IfSome o (λ fault. at_in layout rest ≡ Err fault)
 at-unasked None layout rest name named h = tt
 at-unasked (Some fault) layout rest name named h = rw h (by (is_pin_name (word_of rest)) named)
   where
-    by : (b : Bool) → cond b (Ok (word_of rest)) (Err (faults.Field 1)) ≡ Ok name → cond b (refused fault) (refused (faults.Field 1)) ≡ refused fault
+    by : (b : Bool) → cond b (Ok (word_of rest)) (Err (faults.Field 1)) ≡ Ok name
+        → cond b (refused fault) (refused (faults.Field 1)) ≡ refused fault
     by true e = refl
     by false e = absurd (cc e)

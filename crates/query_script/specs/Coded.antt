@@ -11,8 +11,8 @@ use Rattle.query_script.specs.Fields.{field_of, fields_from}
 use Rattle.query_script.specs.Queries.{Point}
 use Rattle.query_script.specs.Questions.{Ask}
 use Rattle.query_script.specs.declared.record.Shape.TheVariants as shapes
-use Rattle.query_script.specs.declared.coded.Coded.{Coded}
-use Rattle.query_script.specs.declared.coded.Coded.TheVariants as coded
+use Rattle.query_script.specs.declared.coded.PointRead.{PointRead}
+use Rattle.query_script.specs.declared.coded.PointRead.TheVariants as coded
 
 -- what stands between the commas of a text, where one is left
 abbrev pub pieces_left : Bool → List ℕ → List Text
@@ -20,16 +20,16 @@ pieces_left true text = pieces text
 pieces_left false text = []
 
 -- fields that ask for the cell of these codes, or for none that is known
-pub record AskFor (lists : List (List Text)) (texts : List Text) (found : Option (Cell ℕ)) : Type 0 where
+pub record AskForCell (lists : List (List Text)) (texts : List Text) (found : Option (Cell ℕ)) : Type 0 where
   pub asked : List Field
   pub fields : fields_from (field_of shapes.Cell) 1 (length lists) texts ≡ Ok asked
   pub codes : cell_in lists asked ≡ found
 
 -- what is known of fields that were read so
-abbrev pub AreCoded : Coded → List (List Text) → List Text → Cell ℕ → Type 0
+abbrev pub AreCoded : PointRead → List (List Text) → List Text → Cell ℕ → Type 0
 AreCoded coded.Unread lists texts cell = ⊤
-AreCoded coded.Unknown lists texts cell = AskFor lists texts None
-AreCoded coded.Known lists texts cell = AskFor lists texts (Some cell)
+AreCoded coded.Unknown lists texts cell = AskForCell lists texts None
+AreCoded coded.Known lists texts cell = AskForCell lists texts (Some cell)
 
 -- a point that asks for the cell of these codes, or for none that is known
 pub record IsPoint (layout : Layout) (lists : List (List Text)) (line : List ℕ) (found : Option (Cell ℕ)) : Type 0 where
@@ -40,7 +40,7 @@ pub record IsPoint (layout : Layout) (lists : List (List Text)) (line : List ℕ
   pub codes : cell_in lists asked ≡ found
 
 -- what is known of a line that was read so
-abbrev pub IsCoded : Coded → Layout → List (List Text) → List ℕ → Cell ℕ → Type 0
+abbrev pub IsCoded : PointRead → Layout → List (List Text) → List ℕ → Cell ℕ → Type 0
 IsCoded coded.Unread layout lists line cell = ⊤
 IsCoded coded.Unknown layout lists line cell = IsPoint layout lists line None
 IsCoded coded.Known layout lists line cell = IsPoint layout lists line (Some cell)

@@ -1,5 +1,6 @@
 -- What a line asks, or its fault.
-use Rattle.std.specs.Prelude.{◌≡◌, ◌<◌, ◌≤◌, ◌||◌, ⊤, ℕ, Bool, true, false, List, [], ◌∷◌, length, codes, All, Result, Ok, Err, if◌then◌else◌}
+use Rattle.std.specs.Prelude.{◌≡◌, ◌<◌, ◌≤◌, ◌||◌, ⊤, ℕ, Bool, true, false, List, [], ◌∷◌, length, codes, All, Result, Ok, Err}
+use Rattle.std.specs.Prelude.{if◌then◌else◌}
 use Rattle.std.specs.Str.{bytes_eq, is_utf8}
 use Rattle.cube_defs.specs.Text.{Text}
 use Rattle.cube_defs.specs.Answers as answers
@@ -35,16 +36,20 @@ abbrev pub query_named : Layout → Text → List ℕ → Result Query LineFault
 query_named layout word rest =
     if bytes_eq word (codes "point") then asked_with queries.Point (record_in shapes.Cell (length layout.dims) rest)
     else if bytes_eq word (codes "range") then asked_with queries.Range (record_in shapes.Box (length layout.dims) rest)
-    else if bytes_eq word (codes "bounds") then asked_with queries.Bounds (record_in shapes.Cell (length layout.dims) rest)
+    else if bytes_eq word (codes "bounds")
+    then asked_with queries.Bounds (record_in shapes.Cell (length layout.dims) rest)
     else if bytes_eq word (codes "iceberg") then iceberg_in layout rest
-    else if bytes_eq word (codes "parents") then asked_with queries.Parents (record_in shapes.Cell (length layout.dims) rest)
-    else if bytes_eq word (codes "children") then asked_with queries.Children (record_in shapes.Cell (length layout.dims) rest)
+    else if bytes_eq word (codes "parents")
+    then asked_with queries.Parents (record_in shapes.Cell (length layout.dims) rest)
+    else if bytes_eq word (codes "children")
+    then asked_with queries.Children (record_in shapes.Cell (length layout.dims) rest)
     else if bytes_eq word (codes "rollup") then rollup_in layout rest
     else Err faults.Command
 
 -- what a line that is a query asks; `stats` with anything behind it is none
 abbrev pub query_in_line : Layout → List ℕ → Result Query LineFault
-query_in_line layout line = if bytes_eq line stats_line then Ok queries.Stats else query_named layout (word_of line) (rest_of line)
+query_in_line layout line = if bytes_eq line stats_line then Ok queries.Stats
+    else query_named layout (word_of line) (rest_of line)
 
 -- what may name a pin: a name, and also `op`
 abbrev pub is_pin_name : List ℕ → Bool
@@ -54,10 +59,12 @@ is_pin_name name = is_name name || bytes_eq name (codes "op")
 abbrev pub pin_name_in : List ℕ → Result Text LineFault
 pin_name_in name = if is_pin_name name then Ok name else Err (faults.Field 1)
 
--- what a line asks behind the word `at`: the name runs to the first space or to the end, and what follows that space is a query
+-- what a line asks behind the word `at`: the name runs to the first space or to the end, and what follows that space is
+-- a query
 abbrev pub at_in : Layout → List ℕ → Result Question LineFault
 at_in layout rest =
-    if is_pin_name (word_of rest) then asked_with (At (word_of rest)) (query_in_line layout (rest_of rest)) else Err (faults.Field 1)
+    if is_pin_name (word_of rest) then asked_with (At (word_of rest)) (query_in_line layout (rest_of rest))
+    else Err (faults.Field 1)
 
 -- what a command word and its rest ask of a cube of this schema
 abbrev pub command_named : Layout → Text → List ℕ → Result Question LineFault
@@ -74,7 +81,8 @@ command_named layout word rest =
 -- what a line asks of a cube of this schema; `stats` with anything behind it is no command
 abbrev pub command_in : Layout → List ℕ → Result Question LineFault
 command_in layout line =
-    if is_utf8 line then (if bytes_eq line stats_line then Ok (Ask queries.Stats) else command_named layout (word_of line) (rest_of line))
+    if is_utf8 line then (if bytes_eq line stats_line then Ok (Ask queries.Stats)
+    else command_named layout (word_of line) (rest_of line))
     else Err faults.Utf8
 
 -- whether an answer to a query may want memory

@@ -3,7 +3,8 @@ use Rattle.std.specs.Prelude.{ℕ, Option, Some, None}
 use Rattle.query_script.specs.declared.line.LineRefused.{LineRefused}
 use Rattle.query_script.specs.declared.line.LineRefused.TheVariants as refusals
 
--- the line isn't UTF-8, its word is no command, the field at a place is missing, not allowed or one too many, or a value is no number
+-- the line isn't UTF-8, its word is no command, the field at a place is missing, not allowed or one too many, or a
+-- value is no number
 pub data LineFault : Type 0 where
   Utf8 : LineFault
   Command : LineFault

@@ -1,5 +1,6 @@
 -- What the fields of a line ask.
-use Rattle.std.specs.Prelude.{ℕ, zero, suc, Bool, false, ◌+◌, ◌==◌, ◌||◌, ◌&&◌, List, [], ◌∷◌, codes, Option, Some, None, Result, Ok, Err, if◌then◌else◌}
+use Rattle.std.specs.Prelude.{ℕ, zero, suc, Bool, false, ◌+◌, ◌==◌, ◌||◌, ◌&&◌, List, [], ◌∷◌, codes, Option, Some, None, Result, Ok, Err}
+use Rattle.std.specs.Prelude.{if◌then◌else◌}
 use Rattle.std.specs.Str.{bytes_eq}
 use Rattle.cube_defs.specs.Text.{Text}
 use Rattle.cell_core.specs.declared.fields.Field as asked
@@ -26,18 +27,21 @@ between_of (low ∷ []) = None
 between_of (low ∷ high ∷ []) = Some (asks.Between low high)
 between_of (low ∷ high ∷ more ∷ texts) = None
 
--- what a field of several values asks: behind `|` these values, cut at each further `|`; behind `~` the values between two texts with
+-- what a field of several values asks: behind `|` these values, cut at each further `|`; behind `~` the values between
+-- two texts with
 -- one `~` between them; and `?` each value
 abbrev pub several_of : Text → Option asked.Field
 several_of [] = Some asks.All
-several_of (b ∷ bs) = if b == 124 then Some (asks.Among (cut_at 124 bs)) else if b == 126 then between_of (cut_at 126 bs) else Some asks.All
+several_of (b ∷ bs) = if b == 124 then Some (asks.Among (cut_at 124 bs)) else if b == 126
+    then between_of (cut_at 126 bs) else Some asks.All
 
 -- only a record that asks for a box may ask for several values
 abbrev pub several_in : Shape → Text → Option asked.Field
 several_in shapes.Cell field = None
 several_in shapes.Box field = several_of field
 
--- what a field asks of its dimension, if it is allowed there: `*` is Any, and what doesn't stand for several values is one value
+-- what a field asks of its dimension, if it is allowed there: `*` is Any, and what doesn't stand for several values is
+-- one value
 abbrev pub field_of : Shape → Text → Option asked.Field
 field_of shape field =
     if bytes_eq field (codes "*") then Some asks.Any
@@ -45,7 +49,8 @@ field_of shape field =
     else Some (asks.One (value_of field))
 
 -- what a field asks in front of what the others ask, or the fault at its place
-abbrev pub cons_asked : ℕ → Option asked.Field → Result (List asked.Field) LineFault → Result (List asked.Field) LineFault
+abbrev pub cons_asked : ℕ → Option asked.Field → Result (List asked.Field) LineFault
+    → Result (List asked.Field) LineFault
 cons_asked k None more = Err (Field k)
 cons_asked k (Some field) (Err fault) = Err fault
 cons_asked k (Some field) (Ok fields) = Ok (field ∷ fields)

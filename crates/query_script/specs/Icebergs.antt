@@ -12,8 +12,8 @@ use Rattle.query_script.specs.Faults.{LineFault, Field, Number}
 use Rattle.query_script.specs.Queries.{Iceberg, Query}
 
 -- the aggregate of a measure that a word names
-abbrev pub makes : Text → Option (ℕ → AggKind)
-makes word =
+abbrev pub measure_kind : Text → Option (ℕ → AggKind)
+measure_kind word =
     if bytes_eq word (codes "sum") then Some Sum
     else if bytes_eq word (codes "least") then Some Least
     else if bytes_eq word (codes "greatest") then Some Greatest
@@ -21,7 +21,8 @@ makes word =
     else None
 
 abbrev pub bound_named : Text → Option Bound
-bound_named word = if bytes_eq word (codes ">=") then Some AtLeast else if bytes_eq word (codes "<=") then Some AtMost else None
+bound_named word = if bytes_eq word (codes ">=") then Some AtLeast else if bytes_eq word (codes "<=")
+    then Some AtMost else None
 
 abbrev pub with_value : AggKind → Bound → Option Fraction → Result Query LineFault
 with_value kind bound None = Err Number
@@ -51,10 +52,12 @@ with_aggregate measures words None = Err (Field 1)
 with_aggregate measures [] (Some make) = Err (Field 2)
 with_aggregate measures (name ∷ words) (Some make) = with_measure make words (measure_from measures 0 name)
 
--- what some words ask, or the first place at which a word is missing, isn't allowed or is one too many; only then is the value looked at
+-- what some words ask, or the first place at which a word is missing, isn't allowed or is one too many; only then is
+-- the value looked at
 abbrev pub iceberg_of : List Measure → List Text → Result Query LineFault
 iceberg_of measures [] = Err (Field 1)
-iceberg_of measures (word ∷ words) = if bytes_eq word (codes "count") then bound_at Count 2 words else with_aggregate measures words (makes word)
+iceberg_of measures (word ∷ words) = if bytes_eq word (codes "count") then bound_at Count 2 words
+    else with_aggregate measures words (measure_kind word)
 
 -- what a line asks behind the word `iceberg`
 abbrev pub iceberg_in : Layout → List ℕ → Result Query LineFault

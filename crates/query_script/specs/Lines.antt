@@ -22,13 +22,15 @@ stats_line = codes "stats"
 -- the words of the queries that name something behind them
 abbrev pub names_query : List ℕ → Bool
 names_query word =
-    bytes_eq word (codes "point") || bytes_eq word (codes "range") || bytes_eq word (codes "bounds") || bytes_eq word (codes "iceberg")
+    bytes_eq word (codes "point") || bytes_eq word (codes "range") || bytes_eq word (codes "bounds")
+    || bytes_eq word (codes "iceberg")
     || bytes_eq word (codes "parents") || bytes_eq word (codes "children") || bytes_eq word (codes "rollup")
 
 -- the words of the commands that name something behind them
 abbrev pub names_more : List ℕ → Bool
 names_more word =
-    bytes_eq word (codes "load") || bytes_eq word (codes "apply") || bytes_eq word (codes "try") || bytes_eq word (codes "widen")
+    bytes_eq word (codes "load") || bytes_eq word (codes "apply") || bytes_eq word (codes "try")
+    || bytes_eq word (codes "widen")
     || bytes_eq word (codes "pin") || bytes_eq word (codes "unpin") || bytes_eq word (codes "at") || names_query word
 
 -- Whether a line may want memory: it is UTF-8 and begins with such a word. The line `stats` wants none.

@@ -11,5 +11,6 @@ ok_with before (Err fault) = Err fault
 ok_with before (Ok more) = Ok (before ++ more)
 
 -- the fields before, which were read, and then what these texts ask of the dimensions that are left
-abbrev pub asked_after : (Text → Option asked.Field) → ℕ → List asked.Field → List Text → Result (List asked.Field) LineFault
+abbrev pub asked_after : (Text → Option asked.Field) → ℕ → List asked.Field → List Text
+    → Result (List asked.Field) LineFault
 asked_after ask dims before texts = ok_with before (fields_from ask (length before + 1) (dims - length before) texts)

@@ -8,7 +8,8 @@ use Rattle.iceberg_query.specs.Asked.{bound_in}
 use Rattle.query_script.specs.declared.query.Query as code
 use Rattle.query_script.specs.declared.query.Query.TheVariants as queries
 
--- The cell, the box or the class of the cell of some fields; the classes whose aggregate is bounded by a value; what is counted; the
+-- The cell, the box or the class of the cell of some fields; the classes whose aggregate is bounded by a value; what is
+-- counted; the
 -- parents or the children of the class of a cell, or how far up it can be rolled.
 pub data Query : Type 0 where
   Point : List asked.Field → Query

@@ -4,8 +4,10 @@ use Rattle.query_script.specs.Queries.{Query, query_in}
 use Rattle.query_script.specs.declared.line.Command.{Command}
 use Rattle.query_script.specs.declared.line.Command.TheVariants as commands
 
--- The rows of a file come in place of none, are changed, or would be changed; a dimension of a name comes, with a value of each row; the
--- present rows get a name, a name goes, or something is asked of the rows of a name; or it is asked of the present rows.
+-- The rows of a file come in place of none, are changed, or would be changed; a dimension of a name comes, with a value
+-- of each row; the
+-- present rows get a name, a name goes, or something is asked of the rows of a name; or it is asked of the present
+-- rows.
 pub data Question : Type 0 where
   Load : Text → Question
   Apply : Text → Question

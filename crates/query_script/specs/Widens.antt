@@ -14,5 +14,6 @@ has_value rest = nat_lt (length (word_of rest)) (length rest) && nat_le (length 
 -- what a line asks behind the word `widen`: the name is a new one, and all behind that one space is the value
 abbrev pub widen_in : Layout → List ℕ → Result Question LineFault
 widen_in layout rest =
-    if is_new_name layout (word_of rest) then (if has_value rest then Ok (Widen (word_of rest) (rest_of rest)) else Err (Field 2))
+    if is_new_name layout (word_of rest)
+    then (if has_value rest then Ok (Widen (word_of rest) (rest_of rest)) else Err (Field 2))
     else Err (Field 1)

@@ -11,12 +11,12 @@ use crate::record::named_value;
 use cell_core::{Cell, Entry};
 use cube_defs::MAX_FILE;
 use qc_schema::Schema;
-use text_lines::{has_mark, is_plain};
+use text_lines::{has_byte_order_mark, is_plain};
 use value_dict::Dict;
 
 /// The outcome of reading a line as a point.
 #[derive(Clone, Copy)]
-pub enum Coded {
+pub enum PointRead {
     /// The line is no point, or one that has to be read field by field.
     Unread,
     /// A value of the point isn't known, so its cell covers no row.
@@ -31,7 +31,8 @@ ghost use Rattle.query_script.specs.Coded.{AreCoded, IsCoded, pieces_left};
 // value isn't known.
 fn entry_of(dict: &Dict, dim: u8, field: &str) -> Option<Option<Entry>>
     requires { dim < length dict.now.lists }
-    ensures value { option_map (λ found. option_map value_in found) result ≡ option_map (entry_in (list_at dict.now dim)) (field_of shapes.Cell field.now) }
+    ensures value { option_map (λ found. option_map value_in found) result
+        ≡ option_map (entry_in (list_at dict.now dim)) (field_of shapes.Cell field.now) }
     ensures small { IfSome result (λ found. IfSome found IsSmall) }
 {
     match field.as_bytes() {
@@ -48,7 +49,8 @@ fn entry_of(dict: &Dict, dim: u8, field: &str) -> Option<Option<Entry>>
 fn put_entry(cell: &mut Cell, dim: u8, found: Option<Entry>, known: bool) -> bool
     requires dim { dim < length cell.old }
     requires small { IfSome found IsSmall }
-    ensures value { MatchOption found (result ≡ false) (λ entry. (result ≡ known) × (cell.new ≡ slice_set cell.old dim (value_in entry))) }
+    ensures value { MatchOption found (result ≡ false) (λ entry. (result ≡ known)
+        × (cell.new ≡ slice_set cell.old dim (value_in entry))) }
     ensures dims { length cell.new ≡ length cell.old }
 {
     match found {
@@ -72,7 +74,7 @@ fn split_piece(text: &str) -> (&str, &str, bool)
 }
 
 // Puts the codes of the pieces between commas into a cell.
-fn put_codes(dict: &Dict, text: &str, cell: &mut Cell) -> Coded
+fn put_codes(dict: &Dict, text: &str, cell: &mut Cell) -> PointRead
     requires { length cell.old ≡ length dict.now.lists }
     ensures coded { AreCoded result dict.now.lists (pieces text.now) cell.new }
     ensures dims { length cell.new ≡ length cell.old }
@@ -82,24 +84,28 @@ fn put_codes(dict: &Dict, text: &str, cell: &mut Cell) -> Coded
     let mut known = true;
     'dims: for dim in 0..dict.dims() {
         if !more {
-            return Coded::Unread;
+            return PointRead::Unread;
         }
         let (field, behind, comma) = split_piece(left);
         let Some(found) = entry_of(dict, dim, field) else {
-            return Coded::Unread;
+            return PointRead::Unread;
         };
         known = put_entry(cell, dim, found, known);
         left = behind;
         more = comma;
     }
     if more {
-        return Coded::Unread;
+        return PointRead::Unread;
     }
-    if known { Coded::Known } else { Coded::Unknown }
+    if known {
+        PointRead::Known
+    } else {
+        PointRead::Unknown
+    }
 }
 
 // What follows the command word of a point.
-fn behind_point(line: &[u8]) -> Option<&[u8]>
+fn after_point(line: &[u8]) -> Option<&[u8]>
     ensures { IfSome result (λ rest. line.now ≡ codes "point " ++ rest.now) }
 {
     match line {
@@ -110,20 +116,20 @@ fn behind_point(line: &[u8]) -> Option<&[u8]>
 
 /// Reads a line that is a point without quotes into the codes of its cell. It reads no line that
 /// `read_line` refuses.
-pub fn read_codes(schema: &Schema, dict: &Dict, line: &[u8], cell: &mut Cell) -> Coded
+pub fn read_point_codes(schema: &Schema, dict: &Dict, line: &[u8], cell: &mut Cell) -> PointRead
     requires dims { length cell.old ≡ length dict.now.lists }
     requires schema { length schema.now.dims ≡ length dict.now.lists }
     ensures coded { IsCoded result schema.now dict.now.lists line.now cell.new }
     ensures dims { length cell.new ≡ length cell.old }
 {
-    let Some(rest) = behind_point(line) else {
-        return Coded::Unread;
+    let Some(rest) = after_point(line) else {
+        return PointRead::Unread;
     };
-    if rest.is_empty() || has_mark(rest) {
-        return Coded::Unread;
+    if rest.is_empty() || has_byte_order_mark(rest) {
+        return PointRead::Unread;
     }
     match str::from_utf8(rest) {
         Ok(text) if is_plain(text) => put_codes(dict, text, cell),
-        _ => Coded::Unread,
+        _ => PointRead::Unread,
     }
 }

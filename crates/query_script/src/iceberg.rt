@@ -6,7 +6,7 @@ ghost use Rattle.aggregates.specs.Views.{kind_in};
 ghost use Rattle.text_lines.specs.Cuts.{words_of};
 ghost use Rattle.iceberg_query.specs.Asked.{bound_in};
 ghost use Rattle.query_script.specs.Faults.{line_fault_in};
-ghost use Rattle.query_script.specs.Icebergs.{bound_at, bound_named, iceberg_in, makes, value_at};
+ghost use Rattle.query_script.specs.Icebergs.{bound_at, bound_named, iceberg_in, measure_kind, value_at};
 ghost use Rattle.query_script.specs.Queries.{query_in};
 
 use crate::line::LineRefused;
@@ -18,7 +18,7 @@ use text_lines::split_word;
 
 /// The aggregates of a measure.
 #[derive(Clone, Copy)]
-pub(crate) enum OfMeasure {
+pub(crate) enum MeasureKind {
     Sum,
     Least,
     Greatest,
@@ -27,19 +27,19 @@ pub(crate) enum OfMeasure {
 
 ghost use Rattle.query_script.specs.Makes.{make_of};
 
-impl OfMeasure {
+impl MeasureKind {
     /// The aggregate that a word names.
-    pub(crate) fn named(word: &[u8]) -> Option<OfMeasure>
-        ensures { option_map make_of result ≡ makes word.now }
+    pub(crate) fn named(word: &[u8]) -> Option<MeasureKind>
+        ensures { option_map make_of result ≡ measure_kind word.now }
     {
         if word == b"sum".as_slice() {
-            Some(OfMeasure::Sum)
+            Some(MeasureKind::Sum)
         } else if word == b"least".as_slice() {
-            Some(OfMeasure::Least)
+            Some(MeasureKind::Least)
         } else if word == b"greatest".as_slice() {
-            Some(OfMeasure::Greatest)
+            Some(MeasureKind::Greatest)
         } else if word == b"mean".as_slice() {
-            Some(OfMeasure::Mean)
+            Some(MeasureKind::Mean)
         } else {
             None
         }
@@ -50,10 +50,10 @@ impl OfMeasure {
         ensures { kind_in result ≡ make_of self measure }
     {
         match self {
-            OfMeasure::Sum => AggKind::Sum(measure),
-            OfMeasure::Least => AggKind::Least(measure),
-            OfMeasure::Greatest => AggKind::Greatest(measure),
-            OfMeasure::Mean => AggKind::Mean(measure),
+            MeasureKind::Sum => AggKind::Sum(measure),
+            MeasureKind::Least => AggKind::Least(measure),
+            MeasureKind::Greatest => AggKind::Greatest(measure),
+            MeasureKind::Mean => AggKind::Mean(measure),
         }
     }
 }
@@ -74,7 +74,8 @@ pub(crate) fn named_bound(word: &[u8]) -> Option<Bound>
 // The value, at a place. No word may follow it.
 fn read_value(kind: AggKind, bound: Bound, place: u32, words: &[u8]) -> Result<Query, LineRefused>
     requires { place < 10 }
-    ensures { Gives line_fault_in query_in result (value_at (kind_in kind) (bound_in bound) place (words_of words.now)) }
+    ensures { Gives line_fault_in query_in result
+        (value_at (kind_in kind) (bound_in bound) place (words_of words.now)) }
 {
     let Some((word, behind)) = split_word(words) else {
         return Err(LineRefused::Field(place));
@@ -91,7 +92,8 @@ fn read_value(kind: AggKind, bound: Bound, place: u32, words: &[u8]) -> Result<Q
 // The bound, at a place, and the value after it.
 fn read_bound(kind: AggKind, place: u32, words: &[u8]) -> Result<Query, LineRefused>
     requires { place < 9 }
-    ensures { Gives line_fault_in query_in result (bound_at (kind_in kind) place (words_of words.now)) }
+    ensures { Gives line_fault_in query_in result
+        (bound_at (kind_in kind) place (words_of words.now)) }
 {
     let Some((word, behind)) = split_word(words) else {
         return Err(LineRefused::Field(place));
@@ -112,7 +114,7 @@ pub fn read_iceberg(schema: &Schema, rest: &str) -> Result<Query, LineRefused>
     if word == b"count".as_slice() {
         return read_bound(AggKind::Count, 2, behind);
     }
-    let Some(aggregate) = OfMeasure::named(word) else {
+    let Some(aggregate) = MeasureKind::named(word) else {
         return Err(LineRefused::Field(1));
     };
     let Some((name, behind)) = split_word(behind) else {

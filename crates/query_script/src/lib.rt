@@ -12,6 +12,6 @@ mod rollup;
 mod values;
 mod widen;
 
-pub use coded::{Coded, read_codes};
+pub use coded::{PointRead, read_point_codes};
 pub use line::{Command, LineRefused, read_line};
 pub use query::Query;

@@ -84,14 +84,15 @@ fn read_name(alloc: Global, rest: &str) -> Result<Text, LineRefused>
 }
 
 // The command that asks a query of the present rows.
-fn read_asked(
+fn read_present_query(
     alloc: Global,
     schema: &Schema,
     word: &str,
     rest: &str,
 ) -> Result<Command, LineRefused>
     requires { length rest.now ≤ MAX_FILE }
-    ensures gives { Gives line_fault_in question_in result (asked_with Ask (query_named schema.now word.now rest.now)) }
+    ensures gives { Gives line_fault_in question_in result
+        (asked_with Ask (query_named schema.now word.now rest.now)) }
     ensures memory { IfErr result (λ e. e ≡ LineRefused.Memory → names_query word.now ≡ true) }
 {
     match read_query(alloc, schema, word, rest) {
@@ -115,7 +116,8 @@ fn read_command(
     rest: &str,
 ) -> Result<Command, LineRefused>
     requires { length rest.now ≤ MAX_FILE }
-    ensures gives { Gives line_fault_in question_in result (command_named schema.now word.now rest.now) }
+    ensures gives { Gives line_fault_in question_in result
+        (command_named schema.now word.now rest.now) }
     ensures memory { IfErr result (λ e. e ≡ LineRefused.Memory → names_more word.now ≡ true) }
 {
     match word {
@@ -126,7 +128,7 @@ fn read_command(
         "pin" => read_pin(alloc, rest),
         "unpin" => read_unpin(alloc, rest),
         "at" => read_at(alloc, schema, rest),
-        _ => read_asked(alloc, schema, word, rest),
+        _ => read_present_query(alloc, schema, word, rest),
     }
 }
 
@@ -154,7 +156,8 @@ pub fn read_line(alloc: Global, schema: &Schema, line: &[u8]) -> Result<Command,
     ensures gives { Gives line_fault_in question_in result (command_in schema.now line.now) }
     ensures memory { IfErr result (λ e. e ≡ LineRefused.Memory → may_want_memory line.now ≡ true) }
     ensures question { IfOk result (λ command. IsQuestion schema.now (question_in command)) }
-    ensures wants { IfOk result (λ command. wants_memory (question_in command) ≡ true → may_want_memory line.now ≡ true) }
+    ensures wants { IfOk result (λ command. wants_memory (question_in command) ≡ true
+        → may_want_memory line.now ≡ true) }
 {
     match str::from_utf8(line) {
         Ok(text) => {

@@ -29,7 +29,8 @@ fn push_pieces(
         ≡ asked_after (field_of shape) dims fields.old (pieces text.now ++ more)) }
     ensures few { OnOk result (length fields.new ≤ dims) }
     ensures err { IfErr result (λ e. (more : List Text) → IfSome (line_fault_in e)
-        (λ fault. asked_after (field_of shape) dims fields.old (pieces text.now ++ more) ≡ Err fault)) }
+        (λ fault. asked_after (field_of shape) dims fields.old (pieces text.now ++ more)
+        ≡ Err fault)) }
 {
     let mut left = text;
     'pieces: while let Some((piece, behind)) = left.split_once(',') {
@@ -43,7 +44,8 @@ fn push_pieces(
 pub fn read_plain(alloc: Global, shape: Shape, dims: u8, text: &str) -> Result<Fields, LineRefused>
     requires plain { list_all is_plain_byte text.now ≡ true }
     requires size { length text.now ≤ MAX_FILE }
-    ensures { Gives line_fault_in (λ fields. fields) result (fields_from (field_of shape) 1 dims (fields_in text.now)) }
+    ensures { Gives line_fault_in (λ fields. fields) result
+        (fields_from (field_of shape) 1 dims (fields_in text.now)) }
 {
     let mut fields = Fields::new(alloc);
     if text.is_empty() {

@@ -19,7 +19,7 @@ use csv::ByteRecord;
 use cube_defs::MAX_FILE;
 use qc_schema::Schema;
 use std::alloc::Global;
-use text_lines::{RecordReader, field, has_mark, is_plain};
+use text_lines::{RecordReader, field, has_byte_order_mark, is_plain};
 
 /// What the fields of a record ask for together.
 #[derive(Clone, Copy)]
@@ -97,7 +97,8 @@ fn push_fields(
         ≡ asked_after (field_of shape) dims fields.old (fields_of row.now ++ more)) }
     ensures few { OnOk result (length fields.new ≤ dims) }
     ensures err { IfErr result (λ e. (more : List Text) → IfSome (line_fault_in e)
-        (λ fault. asked_after (field_of shape) dims fields.old (fields_of row.now ++ more) ≡ Err fault)) }
+        (λ fault. asked_after (field_of shape) dims fields.old (fields_of row.now ++ more)
+        ≡ Err fault)) }
 {
     'fields: for at in 0..row.len() {
         let text = str::from_utf8(field(row, at)).unwrap();
@@ -110,7 +111,8 @@ fn push_fields(
 /// Returns the fields if none is missing.
 pub fn check_count(shape: Shape, dims: u8, fields: Fields) -> Result<Fields, LineRefused>
     requires { length fields ≤ dims }
-    ensures { Gives line_fault_in (λ fields. fields) result (asked_after (field_of shape) dims fields []) }
+    ensures { Gives line_fault_in (λ fields. fields) result
+        (asked_after (field_of shape) dims fields []) }
 {
     let count = fields.len();
     if count < u32::from(dims) {
@@ -135,7 +137,8 @@ fn push_records(
         ≡ asked_after (field_of shape) dims fields.old (flat_map (λ fields. fields) rows.old)) }
     ensures few { OnOk result (length fields.new ≤ dims) }
     ensures err { IfErr result (λ e. IfSome (line_fault_in e)
-        (λ fault. asked_after (field_of shape) dims fields.old (flat_map (λ fields. fields) rows.old) ≡ Err fault)) }
+        (λ fault. asked_after (field_of shape) dims fields.old
+        (flat_map (λ fields. fields) rows.old) ≡ Err fault)) }
 {
     'records: while rows.next(row)? {
         push_fields(alloc, shape, dims, row, fields)?;
@@ -171,9 +174,10 @@ pub fn read_fields(
     rest: &str,
 ) -> Result<Fields, LineRefused>
     requires { length rest.now ≤ MAX_FILE }
-    ensures { Gives line_fault_in (λ fields. fields) result (record_in shape (length schema.now.dims) rest.now) }
+    ensures { Gives line_fault_in (λ fields. fields) result
+        (record_in shape (length schema.now.dims) rest.now) }
 {
-    if has_mark(rest.as_bytes()) {
+    if has_byte_order_mark(rest.as_bytes()) {
         return Err(LineRefused::Field(1));
     }
     let dims = schema.dims();

@@ -9,9 +9,9 @@ ghost use Rattle.query_script.specs.Faults.{line_fault_in};
 ghost use Rattle.query_script.specs.Lines.{rest_of, word_of};
 ghost use Rattle.query_script.specs.Queries.{query_in};
 ghost use Rattle.query_script.specs.Makes.{make_of};
-ghost use Rattle.query_script.specs.Rollups.{IsLow, behind_words, bound_at, rollup_in, value_at, with_measure};
+ghost use Rattle.query_script.specs.Rollups.{IsLow, after_words, bound_at, rollup_in, value_at, with_measure};
 
-use crate::iceberg::{OfMeasure, named_bound};
+use crate::iceberg::{MeasureKind, named_bound};
 use crate::line::{LineRefused, split_command};
 use crate::query::Query;
 use crate::record::{Shape, read_fields};
@@ -22,10 +22,10 @@ use qc_schema::Schema;
 use std::alloc::Global;
 
 // The refusal of a record that follows so many words.
-fn moved(cause: LineRefused, words: u32) -> LineRefused
+fn shift_field(cause: LineRefused, words: u32) -> LineRefused
     requires few { words < 10 }
     requires low { IfSome (line_fault_in cause) IsLow }
-    ensures { line_fault_in result ≡ option_map (behind_words words) (line_fault_in cause) }
+    ensures { line_fault_in result ≡ option_map (after_words words) (line_fault_in cause) }
 {
     match cause {
         LineRefused::Field(place) => LineRefused::Field(words + place),
@@ -48,7 +48,8 @@ fn read_value(
     requires few { place < 10 }
     requires size { length words.now ≤ MAX_FILE }
     ensures { Gives line_fault_in query_in result
-        (value_at (length schema.now.dims) (kind_in kind) (bound_in bound) place (word_of words.now) (rest_of words.now)) }
+        (value_at (length schema.now.dims) (kind_in kind) (bound_in bound) place (word_of words.now)
+        (rest_of words.now)) }
 {
     let _dims = schema.dims();
     let (word, rest) = split_command(words);
@@ -57,7 +58,7 @@ fn read_value(
     }
     let fields = match read_fields(alloc, Shape::Cell, schema, rest) {
         Ok(fields) => fields,
-        Err(cause) => return Err(moved(cause, place)),
+        Err(cause) => return Err(shift_field(cause, place)),
     };
     match read_fraction(word.as_bytes()) {
         Some(value) => Ok(Query::Rollup(kind, bound, value, fields)),
@@ -75,7 +76,8 @@ fn read_bound(
 ) -> Result<Query, LineRefused>
     requires few { place < 9 }
     requires size { length words.now ≤ MAX_FILE }
-    ensures { Gives line_fault_in query_in result (bound_at (length schema.now.dims) (kind_in kind) place words.now) }
+    ensures { Gives line_fault_in query_in result
+        (bound_at (length schema.now.dims) (kind_in kind) place words.now) }
 {
     let (word, rest) = split_command(words);
     match named_bound(word.as_bytes()) {
@@ -88,12 +90,13 @@ fn read_bound(
 fn read_measured(
     alloc: Global,
     schema: &Schema,
-    aggregate: OfMeasure,
+    aggregate: MeasureKind,
     words: &str,
 ) -> Result<Query, LineRefused>
     requires { length words.now ≤ MAX_FILE }
     ensures { Gives line_fault_in query_in result
-        (with_measure (length schema.now.dims) (make_of aggregate) (rest_of words.now) (measure_from schema.now.measures 0 (word_of words.now))) }
+        (with_measure (length schema.now.dims) (make_of aggregate) (rest_of words.now)
+        (measure_from schema.now.measures 0 (word_of words.now))) }
 {
     let (name, behind) = split_command(words);
     match schema.measure_named(name.as_bytes()) {
@@ -111,7 +114,7 @@ pub(crate) fn read_rollup(alloc: Global, schema: &Schema, rest: &str) -> Result<
     if word == "count" {
         return read_bound(alloc, schema, AggKind::Count, 2, behind);
     }
-    match OfMeasure::named(word.as_bytes()) {
+    match MeasureKind::named(word.as_bytes()) {
         Some(aggregate) => read_measured(alloc, schema, aggregate, behind),
         None => Err(LineRefused::Field(1)),
     }

@@ -10,7 +10,8 @@ more_than (suc n) = omega (arith, more_than n, pow-suc 2 n)
 pub steps_of_parents : (n d : ℕ) → (2 * n + 2) + (d + 2 * 2 ^ d) * (2 * n + 2) ≤ 16 * (n + 1) * 2 ^ d
 steps_of_parents n d =
     let more : d + 1 ≤ 2 ^ d = more_than d in
-    let all : (1 + (d + 2 * 2 ^ d)) * (2 * n + 2) ≤ (8 * 2 ^ d) * (2 * n + 2) = mul-le-mul_right (2 * n + 2) (omega (arith, more)) in
+    let all : (1 + (d + 2 * 2 ^ d)) * (2 * n + 2) ≤ (8 * 2 ^ d) * (2 * n + 2)
+    = mul-le-mul_right (2 * n + 2) (omega (arith, more)) in
     let split : (1 + (d + 2 * 2 ^ d)) * (2 * n + 2) ≡ (2 * n + 2) + (d + 2 * 2 ^ d) * (2 * n + 2) = grind arith in
     let whole : (8 * 2 ^ d) * (2 * n + 2) ≡ 16 * (n + 1) * 2 ^ d = grind arith in
     omega (arith, all, split, whole)
@@ -30,11 +31,16 @@ steps_up m old start own rest way all new on values h l =
     let a : (2 * m + 3) * (own + rest) ≡ (2 * m + 3) * own + (2 * m + 3) * rest = grind arith in
     let b : (2 * m + 3) * (way + own) ≡ (2 * m + 3) * way + (2 * m + 3) * own = grind arith in
     let c : (2 * m + 3) * (way + on) ≡ (2 * m + 3) * way + on * (2 * m + 3) = grind arith in
-    let h' : old + ((2 * m + 3) * own + (2 * m + 3) * rest) + 3 * suc values ≤ start + ((2 * m + 3) * way + (2 * m + 3) * own) + 3 * all + 1
-    = subst (λ y. old + ((2 * m + 3) * own + (2 * m + 3) * rest) + 3 * suc values ≤ start + y + 3 * all + 1) b (subst (λ x. old + x + 3 * suc values ≤ start + (2 * m + 3) * (way + own) + 3 * all + 1) a h) in
-    subst (λ y. new + (2 * m + 3) * rest + 3 * values ≤ start + y + 3 * all + 1) (sym c) (total new old start ((2 * m + 3) * own) ((2 * m + 3) * rest) ((2 * m + 3) * way) (on * (2 * m + 3)) values all h' l)
+    let h' : old + ((2 * m + 3) * own + (2 * m + 3) * rest) + 3 * suc values ≤ start
+    + ((2 * m + 3) * way + (2 * m + 3) * own) + 3 * all + 1
+    = subst (λ y. old + ((2 * m + 3) * own + (2 * m + 3) * rest) + 3 * suc values ≤ start + y + 3 * all + 1) b
+    (subst (λ x. old + x + 3 * suc values ≤ start + (2 * m + 3) * (way + own) + 3 * all + 1) a h) in
+    subst (λ y. new + (2 * m + 3) * rest + 3 * values ≤ start + y + 3 * all + 1) (sym c)
+    (total new old start ((2 * m + 3) * own) ((2 * m + 3) * rest) ((2 * m + 3) * way)
+    (on * (2 * m + 3)) values all h' l)
   where
-    total : (new old start o r w e values all : ℕ) → old + (o + r) + 3 * suc values ≤ start + (w + o) + 3 * all + 1 → new ≤ old + 2 + (1 + e) → new + r + 3 * values ≤ start + (w + e) + 3 * all + 1
+    total : (new old start o r w e values all : ℕ) → old + (o + r) + 3 * suc values ≤ start + (w + o) + 3 * all + 1
+        → new ≤ old + 2 + (1 + e) → new + r + 3 * values ≤ start + (w + e) + 3 * all + 1
     total new old start o r w e values all h l = omega arith
 
 -- at the root, or where memory ran out
@@ -46,7 +52,9 @@ steps_end m n start rest way all new on values same few le h =
     let h' : new + (2 * m + 3) * rest + 3 * values ≤ start + ((2 * m + 3) * way + on * (2 * m + 3)) + 3 * all + 1
     = subst (λ y. new + (2 * m + 3) * rest + 3 * values ≤ start + y + 3 * all + 1) c h in
     subst (λ k. new + 1 ≤ start + ((2 * k + 3) * way + 3 * k + 2)) same
-    (total new start ((2 * m + 3) * rest) ((2 * m + 3) * way) (on * (2 * m + 3)) values all m few (times_more m on rest le) h')
+    (total new start ((2 * m + 3) * rest) ((2 * m + 3) * way) (on * (2 * m + 3)) values all m few
+    (times_more m on rest le) h')
   where
-    total : (new start r w e values all m : ℕ) → all ≤ m → e ≤ r → new + r + 3 * values ≤ start + (w + e) + 3 * all + 1 → new + 1 ≤ start + (w + 3 * m + 2)
+    total : (new start r w e values all m : ℕ) → all ≤ m → e ≤ r → new + r + 3 * values ≤ start + (w + e) + 3 * all + 1
+        → new + 1 ≤ start + (w + 3 * m + 2)
     total new start r w e values all m a b h = omega arith

@@ -15,7 +15,8 @@ mod ChildNodes
 mod Rolled
 mod Visited
 mod Lowest
-pub mod AloneTold
-mod ToldNodes
+pub mod DecodedAlone
+mod NodesDecoded
 mod ParentNodes
 mod Turns
+pub mod CallerLemmas

@@ -9,7 +9,8 @@ pub steps_all : (i n one now start : ℕ) → i ≤ n → now ≤ start + i * on
 steps_all i n one now start l a = let m : i * one ≤ n * one = mul-le-mul l (omega arith) in omega (arith, a, m)
 
 -- one element more of each of two lists
-pub map_more : {A B C : Type 0} (f : A → C) (g : B → C) (before now : List A) (x : A) (ys : List B) (i : ℕ) (d : B) → i < length ys → now ≡ before ++ x ∷ [] → map f before ≡ map g (take i ys) → f x ≡ g (get_or ys i d)
+pub map_more : {A B C : Type 0} (f : A → C) (g : B → C) (before now : List A) (x : A) (ys : List B) (i : ℕ) (d : B)
+    → i < length ys → now ≡ before ++ x ∷ [] → map f before ≡ map g (take i ys) → f x ≡ g (get_or ys i d)
     → map f now ≡ map g (take (i + 1) ys)
 map_more f g before now x ys i d l e is one =
     let next : suc i ≡ i + 1 = omega arith in

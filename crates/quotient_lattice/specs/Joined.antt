@@ -10,7 +10,8 @@ use Rattle.cube_laws.specs.Parts.{value_count}
 
 -- the cell of the number has another closure than u, and with one bit more it has u
 abbrev pub joins : TreeRows → Cell ℕ → ℕ → Bool
-joins source u m = not (closes source u m) && list_all (λ k. has_bit m k || closes source u (turned m k)) (range_with_len 0 (value_count u))
+joins source u m = not (closes source u m) && list_all (λ k. has_bit m k || closes source u (turned m k))
+    (range_with_len 0 (value_count u))
 
 -- of numbers with d bits: with one bit more each is marked
 abbrev pub is_most : List Bool → ℕ → ℕ → Bool

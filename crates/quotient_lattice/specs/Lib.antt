@@ -1,7 +1,7 @@
 pub mod Neighbours
 pub mod Joined
-pub mod LeadsHome
-pub mod Led
-pub mod Told
-pub mod Placed
+pub mod ValuesLead
+pub mod Candidates
+pub mod DecodedNodes
+pub mod NodeCells
 pub mod Visits

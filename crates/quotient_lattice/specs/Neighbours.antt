@@ -3,7 +3,7 @@ use Rattle.std.specs.Prelude.{ℕ, Bool, not, ◌&&◌, ◌||◌, List, [], filt
 use Rattle.std.specs.declared.cmp.Ordering.{Ordering}
 use Rattle.std.specs.Ordering.{eq_by_cmp}
 use Rattle.std.specs.List.{list_all}
-use Rattle.cube_defs.specs.Answers.{Ask, ClassHit, is_asked}
+use Rattle.cube_defs.specs.Answers.{Ask, ClassHit, passes_bound}
 use Rattle.cube_defs.specs.Cell.{Cell, cell_eq, leq}
 use Rattle.cube_defs.specs.Rows.{Row, agg}
 use Rattle.cube_defs.specs.Tree.{classes}
@@ -11,11 +11,13 @@ use Rattle.cube_defs.specs.Tree.{classes}
 module _ {A : Type 0} (cmp : A → A → Ordering) where
   -- q is no third cell between p and u
   abbrev pub is_apart : Cell A → Cell A → Cell A → Bool
-  is_apart p u q = not (leq (eq_by_cmp cmp) p q && leq (eq_by_cmp cmp) q u) || (cell_eq (eq_by_cmp cmp) q p || cell_eq (eq_by_cmp cmp) q u)
+  is_apart p u q = not (leq (eq_by_cmp cmp) p q && leq (eq_by_cmp cmp) q u)
+      || (cell_eq (eq_by_cmp cmp) q p || cell_eq (eq_by_cmp cmp) q u)
 
   -- p <= u, p is another cell than u, and no third class stands between
   abbrev pub is_parent : List (Row A) → Cell A → Cell A → Bool
-  is_parent rows p u = leq (eq_by_cmp cmp) p u && not (cell_eq (eq_by_cmp cmp) p u) && list_all (is_apart p u) (classes cmp rows)
+  is_parent rows p u = leq (eq_by_cmp cmp) p u && not (cell_eq (eq_by_cmp cmp) p u)
+      && list_all (is_apart p u) (classes cmp rows)
 
   -- the parents of a class, in cell order
   abbrev pub parents : List (Row A) → Cell A → List (Cell A)
@@ -27,15 +29,17 @@ module _ {A : Type 0} (cmp : A → A → Ordering) where
 
   -- a class from u on that is asked for
   abbrev pub qualifies : ℕ → List (Row A) → Ask → Cell A → Cell A → Bool
-  qualifies measures rows ask u d = leq (eq_by_cmp cmp) u d && is_asked ask (agg (eq_by_cmp cmp) measures rows d)
+  qualifies measures rows ask u d = leq (eq_by_cmp cmp) u d && passes_bound ask (agg (eq_by_cmp cmp) measures rows d)
 
   -- e is no other class below d that qualifies
   abbrev pub is_no_other : ℕ → List (Row A) → Ask → Cell A → Cell A → Cell A → Bool
-  is_no_other measures rows ask u d e = not (qualifies measures rows ask u e && leq (eq_by_cmp cmp) e d) || cell_eq (eq_by_cmp cmp) e d
+  is_no_other measures rows ask u d e = not (qualifies measures rows ask u e && leq (eq_by_cmp cmp) e d)
+      || cell_eq (eq_by_cmp cmp) e d
 
   -- it qualifies, and no other class below it does
   abbrev pub is_rolled : ℕ → List (Row A) → Ask → Cell A → Cell A → Bool
-  is_rolled measures rows ask u d = qualifies measures rows ask u d && list_all (is_no_other measures rows ask u d) (classes cmp rows)
+  is_rolled measures rows ask u d
+      = qualifies measures rows ask u d && list_all (is_no_other measures rows ask u d) (classes cmp rows)
 
   -- the most general classes from u on that are asked for, in cell order
   abbrev pub rollup : ℕ → List (Row A) → Ask → Cell A → List (Cell A)

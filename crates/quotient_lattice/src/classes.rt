@@ -2,7 +2,7 @@
 ghost use Rattle.std.specs.Ordering.{nat_cmp};
 ghost use Rattle.std.specs.Prelude.{All, IfOk, IsSome, length, map, ◌≡◌};
 ghost use Rattle.lower_bounds.specs.Classes.{hit_in};
-ghost use Rattle.qc_arena.specs.Seen.{record_at};
+ghost use Rattle.qc_arena.specs.RecordReaders.{record_at};
 ghost use Rattle.tree_search.specs.Found.{IsTreeOf, IsTree, TreeRows};
 ghost use Rattle.quotient_lattice.specs.Neighbours as lattice;
 
@@ -24,7 +24,8 @@ fn class_alone<T: Nodes, L: Ledger>(
     requires tree { IsTree (T.width tree.now) (T.tree tree.now) }
     requires class { IsSome (record_at (T.tree tree.now) node.0).class }
     ensures { (source : TreeRows) → IsTreeOf (T.width tree.now) (T.tree tree.now) source →
-        hit_in result ≡ lattice.class_alone nat_cmp source.measures source.rows (record_at (T.tree tree.now) node.0).cell }
+        hit_in result ≡ lattice.class_alone nat_cmp source.measures source.rows
+        (record_at (T.tree tree.now) node.0).cell }
 {
     let mut upper = Cell::any(alloc, tree.dims());
     upper_into(tree, node, &mut upper, steps);
@@ -47,7 +48,8 @@ pub fn classes_alone<T: Nodes, L: Ledger>(
     requires classes { All (λ node. IsSome (record_at (T.tree tree.now) node.0).class) nodes.now }
     ensures { (source : TreeRows) → IsTreeOf (T.width tree.now) (T.tree tree.now) source →
         IfOk result (λ classes. map hit_in classes.items
-        ≡ map (λ node. lattice.class_alone nat_cmp source.measures source.rows (record_at (T.tree tree.now) node.0).cell) nodes.now) }
+        ≡ map (λ node. lattice.class_alone nat_cmp source.measures source.rows
+        (record_at (T.tree tree.now) node.0).cell) nodes.now) }
 {
     let mut classes = match Vec::with_capacity(alloc, nodes.len()) {
         Ok(classes) => classes,

@@ -8,19 +8,19 @@ ghost use Rattle.cube_defs.specs.Text.{text_cmp};
 ghost use Rattle.cube_laws.specs.Lists.{Among};
 ghost use Rattle.cube_laws.specs.Parts.{value_count};
 ghost use Rattle.cube_laws.specs.Recoding.{RowsAreKnown};
-ghost use Rattle.qc_arena.specs.Seen.{record_at};
+ghost use Rattle.qc_arena.specs.RecordReaders.{record_at};
 ghost use Rattle.tree_search.specs.Found.{IsTreeOf, IsTree, TreeRows};
-ghost use Rattle.value_dict.specs.Recoded.{has_code, told_rows};
-ghost use Rattle.value_dict.specs.Told.{told_cell};
-ghost use Rattle.quotient_lattice.specs.Led.{AreThere, edges_on_way};
+ghost use Rattle.value_dict.specs.Recoded.{has_code, decoded_row_list};
+ghost use Rattle.value_dict.specs.Decoded.{decoded_cell};
+ghost use Rattle.quotient_lattice.specs.Candidates.{AreThere, edges_on_way};
 ghost use Rattle.quotient_lattice.specs.Neighbours as lattice;
-ghost use Rattle.quotient_lattice.specs.Placed as places;
-ghost use Rattle.quotient_lattice.specs.Placed.{AreAt, IsPassing, IsPicked, number_of};
-ghost use Rattle.quotient_lattice.specs.Told.{told_nodes};
+ghost use Rattle.quotient_lattice.specs.NodeCells as places;
+ghost use Rattle.quotient_lattice.specs.NodeCells.{AreAt, IsPassing, IsPicked, number_of};
+ghost use Rattle.quotient_lattice.specs.DecodedNodes.{decoded_nodes};
 
 use crate::Memory;
-use crate::led::led_from;
-use crate::placed::{Placed, sort, without_cells};
+use crate::candidates::child_candidates;
+use crate::node_cells::{NodeCell, nodes_alone, sort};
 use cell_core::{Cell, NodeNo, Steps};
 use cells_below::count_values;
 use qc_arena::Nodes;
@@ -43,21 +43,24 @@ fn push_child<T: Nodes, L: Ledger>(
     node: NodeNo,
     values: u32,
     more: usize,
-    children: &mut Vec<Placed>,
+    children: &mut Vec<NodeCell>,
     steps: &mut Steps<L>,
 ) -> Result<(), Memory>
     requires tree { IsTree (T.width tree.now) (T.tree tree.now) }
     requires node { IsSome (map.get (T.tree tree.now) node.0) }
     ensures numbers { OnOk result (mapped number_of children.new.items
-        ≡ mapped number_of children.old.items ++ cond (nat_eq (more + values) (value_count (record_at (T.tree tree.now) node.0).cell)) (node.0 ∷ []) []) }
-    ensures cells { AreAt (T.tree tree.now) children.old.items → OnOk result (AreAt (T.tree tree.now) children.new.items) }
+        ≡ mapped number_of children.old.items
+        ++ cond (nat_eq (more + values) (value_count (record_at (T.tree tree.now) node.0).cell))
+        (node.0 ∷ []) []) }
+    ensures cells { AreAt (T.tree tree.now) children.old.items
+        → OnOk result (AreAt (T.tree tree.now) children.new.items) }
     ensures steps { steps.new ≤ steps.old + (2 * T.width tree.now + 2) }
 {
     let mut cell = Cell::any(*children.allocator(), tree.dims());
     upper_into(tree, node, &mut cell, steps);
     let all = count_values(&cell) as usize;
     if more <= all && all - more == values as usize {
-        return match children.push(Placed { node, cell }) {
+        return match children.push(NodeCell { node, cell }) {
             Ok(()) => Ok(()),
             Err(_) => Err(AllocError),
         };
@@ -68,13 +71,13 @@ fn push_child<T: Nodes, L: Ledger>(
 // The children among sorted candidates. A number is there once for each value that, added to u,
 // gives its class. A child is a class with exactly that many values more than u, which has
 // `values`.
-fn picked<T: Nodes, L: Ledger>(
+fn children_among<T: Nodes, L: Ledger>(
     alloc: Global,
     tree: &T,
     values: u32,
     led: &Vec<u32>,
     steps: &mut Steps<L>,
-) -> Result<Vec<Placed>, Memory>
+) -> Result<Vec<NodeCell>, Memory>
     requires tree { IsTree (T.width tree.now) (T.tree tree.now) }
     requires there { AreThere (T.tree tree.now) led.now.items }
     requires sorted { IsSorted nat_cmp led.now.items }
@@ -105,28 +108,33 @@ pub(crate) fn found_children<T: Nodes, L: Ledger>(
     tree: &T,
     node: NodeNo,
     steps: &mut Steps<L>,
-) -> Result<Vec<Placed>, Memory>
+) -> Result<Vec<NodeCell>, Memory>
     requires tree { IsTree (T.width tree.now) (T.tree tree.now) }
     requires class { IsSome (record_at (T.tree tree.now) node.0).class }
     ensures each { (source : TreeRows) → IsTreeOf (T.width tree.now) (T.tree tree.now) source →
         IfOk result (λ found. (k : ℕ) → Among k (mapped number_of found.items)
-        ↔ IsPassing (T.tree tree.now) source (λ d. lattice.is_parent nat_cmp source.rows (record_at (T.tree tree.now) node.0).cell d) k) }
+        ↔ IsPassing (T.tree tree.now) source
+        (λ d. lattice.is_parent nat_cmp source.rows (record_at (T.tree tree.now) node.0).cell d)
+        k) }
     ensures once { IfOk result (λ found. IsDistinct nat_eq (mapped number_of found.items)) }
     ensures cells { IfOk result (λ found. AreAt (T.tree tree.now) found.items) }
-    ensures steps { steps.new ≤ steps.old + 16 * (T.width tree.now + 1) * (edges_on_way (T.tree tree.now) node.0 + 1) }
+    ensures steps { steps.new ≤ steps.old
+        + 16 * (T.width tree.now + 1) * (edges_on_way (T.tree tree.now) node.0 + 1) }
 {
     let mut u = Cell::any(alloc, tree.dims());
     upper_into(tree, node, &mut u, steps);
-    let mut led = match led_from(alloc, tree, node, &mut u, steps) {
+    let mut led = match child_candidates(alloc, tree, node, &mut u, steps) {
         Ok(led) => led,
         Err(error) => return Err(error),
     };
     led.sort_unstable();
-    picked(alloc, tree, count_values(&u), &led, steps)
+    children_among(alloc, tree, count_values(&u), &led, steps)
 }
 
-/// The nodes of all children of a class, in cell order by the texts of the dictionary. With n dimensions,
-/// and E edges at the nodes from the root to the class's, it takes at most 16 (n + 1) (E + 1) steps.
+/// The nodes of all children of a class, in cell order by the texts of the dictionary. With n
+/// dimensions,
+/// and E edges at the nodes from the root to the class's, it takes at most 16 (n + 1) (E + 1)
+/// steps.
 pub fn children<T: Nodes, L: Ledger>(
     alloc: Global,
     tree: &T,
@@ -137,11 +145,15 @@ pub fn children<T: Nodes, L: Ledger>(
     requires tree { IsTree (T.width tree.now) (T.tree tree.now) }
     requires class { IsSome (record_at (T.tree tree.now) node.0).class }
     requires dims { length dict.now.lists ≡ T.width tree.now }
-    ensures nodes { (source : TreeRows) → IsTreeOf (T.width tree.now) (T.tree tree.now) source → RowsAreKnown (has_code dict.now.lists) source.rows →
-        IfOk result (λ nodes. told_nodes dict.now.lists (T.tree tree.now) nodes.items
-        ≡ lattice.children text_cmp (told_rows dict.now.lists source.rows) (told_cell dict.now.lists (record_at (T.tree tree.now) node.0).cell)) }
-    ensures classes { IfOk result (λ nodes. All (λ node. IsSome (record_at (T.tree tree.now) node.0).class) nodes.items) }
-    ensures steps { steps.new ≤ steps.old + 16 * (T.width tree.now + 1) * (edges_on_way (T.tree tree.now) node.0 + 1) }
+    ensures nodes { (source : TreeRows) → IsTreeOf (T.width tree.now) (T.tree tree.now) source
+        → RowsAreKnown (has_code dict.now.lists) source.rows →
+        IfOk result (λ nodes. decoded_nodes dict.now.lists (T.tree tree.now) nodes.items
+        ≡ lattice.children text_cmp (decoded_row_list dict.now.lists source.rows)
+        (decoded_cell dict.now.lists (record_at (T.tree tree.now) node.0).cell)) }
+    ensures classes { IfOk result
+        (λ nodes. All (λ node. IsSome (record_at (T.tree tree.now) node.0).class) nodes.items) }
+    ensures steps { steps.new ≤ steps.old
+        + 16 * (T.width tree.now + 1) * (edges_on_way (T.tree tree.now) node.0 + 1) }
 {
     let _dims = dict.dims();
     let mut found = match found_children(alloc, tree, node, steps) {
@@ -149,7 +161,7 @@ pub fn children<T: Nodes, L: Ledger>(
         Err(error) => return Err(error),
     };
     match sort(dict, &mut found) {
-        Ok(()) => without_cells(alloc, found),
+        Ok(()) => nodes_alone(alloc, found),
         Err(error) => Err(error),
     }
 }

@@ -3,12 +3,12 @@
 //! the tree.
 #![tactic(auto)]
 
+mod candidates;
 mod classes;
 mod downward;
-mod joined;
 pub mod laws;
-mod led;
-mod placed;
+mod node_cells;
+mod parent_test;
 mod rolling;
 mod upward;
 

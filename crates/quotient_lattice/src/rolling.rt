@@ -8,19 +8,19 @@ ghost use Rattle.cube_laws.specs.Lists.{Among};
 ghost use Rattle.cube_laws.specs.Recoding.{RowsAreKnown};
 ghost use Rattle.iceberg_query.specs.Asked.{HasMeasure, ask_in};
 ghost use Rattle.indexmap.specs.IndexSet.{insert_all};
-ghost use Rattle.qc_arena.specs.Seen.{record_at};
+ghost use Rattle.qc_arena.specs.RecordReaders.{record_at};
 ghost use Rattle.tree_search.specs.Found.{IsTreeOf, IsTree, TreeRows};
-ghost use Rattle.value_dict.specs.Recoded.{has_code, told_rows};
-ghost use Rattle.value_dict.specs.Told.{told_cell};
+ghost use Rattle.value_dict.specs.Recoded.{has_code, decoded_row_list};
+ghost use Rattle.value_dict.specs.Decoded.{decoded_cell};
 ghost use Rattle.quotient_lattice.specs.Neighbours as lattice;
-ghost use Rattle.quotient_lattice.specs.Placed.{AreAt, IsPassing, number_of};
-ghost use Rattle.quotient_lattice.specs.Told.{told_nodes};
+ghost use Rattle.quotient_lattice.specs.NodeCells.{AreAt, IsPassing, number_of};
+ghost use Rattle.quotient_lattice.specs.DecodedNodes.{decoded_nodes};
 ghost use Rattle.quotient_lattice.specs.Visits as visits;
 ghost use Rattle.quotient_lattice.specs.Visits.{AreMet, IsVisited};
 
 use crate::Memory;
 use crate::downward::found_children;
-use crate::placed::{Placed, sort, without_cells};
+use crate::node_cells::{NodeCell, nodes_alone, sort};
 use cell_core::{Cell, NodeNo, Steps, leq};
 use iceberg_query::{Ask, passes};
 use indexmap::IndexSet;
@@ -41,8 +41,9 @@ fn wants<T: Nodes, L: Ledger>(tree: &T, ask: &Ask, node: NodeNo, steps: &mut Ste
 }
 
 // Inserts the numbers that are not there yet.
-fn insert_each(seen: &mut IndexSet<u32>, found: &Vec<Placed>) -> Result<(), Memory>
-    ensures { OnOk result (seen.new.keys ≡ insert_all nat_eq seen.old.keys (mapped number_of found.now.items)) }
+fn insert_each(seen: &mut IndexSet<u32>, found: &Vec<NodeCell>) -> Result<(), Memory>
+    ensures { OnOk result (seen.new.keys ≡ insert_all nat_eq seen.old.keys
+        (mapped number_of found.now.items)) }
 {
     'found: for k in 0..found.len() {
         match seen.insert(found[k].node.0) {
@@ -57,17 +58,19 @@ fn insert_each(seen: &mut IndexSet<u32>, found: &Vec<Placed>) -> Result<(), Memo
 fn push_placed<T: Nodes, L: Ledger>(
     tree: &T,
     node: NodeNo,
-    met: &mut Vec<Placed>,
+    met: &mut Vec<NodeCell>,
     steps: &mut Steps<L>,
 ) -> Result<(), Memory>
     requires tree { IsTree (T.width tree.now) (T.tree tree.now) }
     requires node { IsSome (map.get (T.tree tree.now) node.0) }
-    ensures numbers { OnOk result (mapped number_of met.new.items ≡ mapped number_of met.old.items ++ node.0 ∷ []) }
-    ensures cells { AreAt (T.tree tree.now) met.old.items → OnOk result (AreAt (T.tree tree.now) met.new.items) }
+    ensures numbers { OnOk result (mapped number_of met.new.items ≡ mapped number_of met.old.items
+        ++ node.0 ∷ []) }
+    ensures cells { AreAt (T.tree tree.now) met.old.items
+        → OnOk result (AreAt (T.tree tree.now) met.new.items) }
 {
     let mut cell = Cell::any(*met.allocator(), tree.dims());
     upper_into(tree, node, &mut cell, steps);
-    match met.push(Placed { node, cell }) {
+    match met.push(NodeCell { node, cell }) {
         Ok(()) => Ok(()),
         Err(_) => Err(AllocError),
     }
@@ -79,7 +82,7 @@ fn visit<T: Nodes, L: Ledger>(
     ask: &Ask,
     node: NodeNo,
     seen: &mut IndexSet<u32>,
-    met: &mut Vec<Placed>,
+    met: &mut Vec<NodeCell>,
     steps: &mut Steps<L>,
 ) -> Result<(), Memory>
     requires tree { IsTree (T.width tree.now) (T.tree tree.now) }
@@ -88,7 +91,8 @@ fn visit<T: Nodes, L: Ledger>(
     ensures visited { (source : TreeRows) → IsTreeOf (T.width tree.now) (T.tree tree.now) source →
         OnOk result (IsVisited (T.tree tree.now) source ask.now node.0 seen.old.keys seen.new.keys
         (mapped number_of met.old.items) (mapped number_of met.new.items)) }
-    ensures cells { AreAt (T.tree tree.now) met.old.items → OnOk result (AreAt (T.tree tree.now) met.new.items) }
+    ensures cells { AreAt (T.tree tree.now) met.old.items
+        → OnOk result (AreAt (T.tree tree.now) met.new.items) }
 {
     if wants(tree, ask, node, steps) {
         return push_placed(tree, node, met, steps);
@@ -105,7 +109,7 @@ fn meet_all<T: Nodes, L: Ledger>(
     ask: &Ask,
     node: NodeNo,
     seen: &mut IndexSet<u32>,
-    met: &mut Vec<Placed>,
+    met: &mut Vec<NodeCell>,
     steps: &mut Steps<L>,
 ) -> Result<(), Memory>
     requires tree { IsTree (T.width tree.now) (T.tree tree.now) }
@@ -114,7 +118,8 @@ fn meet_all<T: Nodes, L: Ledger>(
     requires none_seen { seen.old.keys ≡ [] }
     requires none_met { met.old.items ≡ [] }
     ensures met { (source : TreeRows) → IsTreeOf (T.width tree.now) (T.tree tree.now) source →
-        OnOk result (AreMet (T.tree tree.now) source ask.now node.0 (mapped number_of met.new.items)) }
+        OnOk result (AreMet (T.tree tree.now) source ask.now node.0
+        (mapped number_of met.new.items)) }
     ensures once { OnOk result (IsDistinct nat_eq (mapped number_of met.new.items)) }
     ensures cells { OnOk result (AreAt (T.tree tree.now) met.new.items) }
 {
@@ -140,12 +145,13 @@ fn met_from<T: Nodes, L: Ledger>(
     ask: &Ask,
     node: NodeNo,
     steps: &mut Steps<L>,
-) -> Result<Vec<Placed>, Memory>
+) -> Result<Vec<NodeCell>, Memory>
     requires tree { IsTree (T.width tree.now) (T.tree tree.now) }
     requires class { IsSome (record_at (T.tree tree.now) node.0).class }
     requires measure { HasMeasure (T.width tree.now) (T.tree tree.now) ask.now.kind }
     ensures met { (source : TreeRows) → IsTreeOf (T.width tree.now) (T.tree tree.now) source →
-        IfOk result (λ met. AreMet (T.tree tree.now) source ask.now node.0 (mapped number_of met.items)) }
+        IfOk result (λ met. AreMet (T.tree tree.now) source ask.now node.0
+        (mapped number_of met.items)) }
     ensures once { IfOk result (λ met. IsDistinct nat_eq (mapped number_of met.items)) }
     ensures cells { IfOk result (λ met. AreAt (T.tree tree.now) met.items) }
 {
@@ -158,9 +164,9 @@ fn met_from<T: Nodes, L: Ledger>(
 }
 
 // Whether no other of some nodes generalizes this one.
-fn is_lowest(met: &Vec<Placed>, x: &Placed) -> bool
+fn is_most_general(met: &Vec<NodeCell>, x: &NodeCell) -> bool
     requires { All (λ y. length y.cell ≡ length x.now.cell) met.now.items }
-    ensures { result ≡ visits.is_lowest met.now.items x.now }
+    ensures { result ≡ visits.is_most_general_among met.now.items x.now }
 {
     'met: for k in 0..met.len() {
         let y = &met[k];
@@ -172,15 +178,16 @@ fn is_lowest(met: &Vec<Placed>, x: &Placed) -> bool
 }
 
 // The nodes that no other of them generalizes.
-fn lowest(alloc: Global, met: &Vec<Placed>) -> Result<Vec<Placed>, Memory>
+fn most_general_of(alloc: Global, met: &Vec<NodeCell>) -> Result<Vec<NodeCell>, Memory>
     requires { All (λ x. All (λ y. length y.cell ≡ length x.cell) met.now.items) met.now.items }
-    ensures { IfOk result (λ kept. kept.items ≡ filter (visits.is_lowest met.now.items) met.now.items) }
+    ensures { IfOk result (λ kept. kept.items ≡ filter (visits.is_most_general_among met.now.items)
+        met.now.items) }
 {
     let mut kept = Vec::new(alloc);
     'met: for k in 0..met.len() {
         let x = &met[k];
-        if is_lowest(met, x) {
-            let placed = Placed {
+        if is_most_general(met, x) {
+            let placed = NodeCell {
                 node: x.node,
                 cell: x.cell.copy(),
             };
@@ -208,23 +215,26 @@ pub fn rollup<T: Nodes, L: Ledger>(
     requires class { IsSome (record_at (T.tree tree.now) node.0).class }
     requires dims { length dict.now.lists ≡ T.width tree.now }
     requires measure { HasMeasure (T.width tree.now) (T.tree tree.now) ask.now.kind }
-    ensures nodes { (source : TreeRows) → IsTreeOf (T.width tree.now) (T.tree tree.now) source → RowsAreKnown (has_code dict.now.lists) source.rows →
-        IfOk result (λ nodes. told_nodes dict.now.lists (T.tree tree.now) nodes.items
-        ≡ lattice.rollup text_cmp source.measures (told_rows dict.now.lists source.rows) (ask_in ask.now)
-        (told_cell dict.now.lists (record_at (T.tree tree.now) node.0).cell)) }
-    ensures classes { IfOk result (λ nodes. All (λ node. IsSome (record_at (T.tree tree.now) node.0).class) nodes.items) }
+    ensures nodes { (source : TreeRows) → IsTreeOf (T.width tree.now) (T.tree tree.now) source
+        → RowsAreKnown (has_code dict.now.lists) source.rows →
+        IfOk result (λ nodes. decoded_nodes dict.now.lists (T.tree tree.now) nodes.items
+        ≡ lattice.rollup text_cmp source.measures (decoded_row_list dict.now.lists source.rows)
+        (ask_in ask.now)
+        (decoded_cell dict.now.lists (record_at (T.tree tree.now) node.0).cell)) }
+    ensures classes { IfOk result
+        (λ nodes. All (λ node. IsSome (record_at (T.tree tree.now) node.0).class) nodes.items) }
 {
     let _dims = dict.dims();
     let met = match met_from(alloc, tree, ask, node, steps) {
         Ok(met) => met,
         Err(error) => return Err(error),
     };
-    let mut kept = match lowest(alloc, &met) {
+    let mut kept = match most_general_of(alloc, &met) {
         Ok(kept) => kept,
         Err(error) => return Err(error),
     };
     match sort(dict, &mut kept) {
-        Ok(()) => without_cells(alloc, kept),
+        Ok(()) => nodes_alone(alloc, kept),
         Err(error) => Err(error),
     }
 }

@@ -3,23 +3,23 @@ ghost use Rattle.std.specs.List.{range_with_len};
 ghost use Rattle.std.specs.Ordering.{nat_cmp};
 ghost use Rattle.std.specs.Prelude.{All, IfOk, IsSome, OnOk, Some, false, true, filter, length, map, ℕ, ◌*◌, ◌+◌, ◌++◌, ◌<◌, ◌^◌, ◌≡◌, ◌≤◌};
 ghost use Rattle.cube_defs.specs.Tree.{as_list, cell_at};
-ghost use Rattle.qc_arena.specs.Seen.{record_at};
+ghost use Rattle.qc_arena.specs.RecordReaders.{record_at};
 ghost use Rattle.tree_search.specs.Found.{IsTreeOf, IsTree, TreeRows};
-ghost use Rattle.cells_below.specs.Closed.{IsMarkedBelow, has_closure_in};
+ghost use Rattle.cells_below.specs.Closed.{IsMarkedBefore, has_closure_in};
 ghost use Rattle.cells_below.specs.Marks.{is_marked};
 ghost use Rattle.cells_below.specs.Numbers.{cell_of_number};
 ghost use Rattle.cells_below.specs.Upper.{IsUpperBound};
 ghost use Rattle.cube_laws.specs.Parts.{value_count};
 ghost use Rattle.quotient_lattice.specs.Neighbours as lattice;
-ghost use Rattle.quotient_lattice.specs.Told.{told_nodes};
+ghost use Rattle.quotient_lattice.specs.DecodedNodes.{decoded_nodes};
 ghost use Rattle.cube_defs.specs.Text.{text_cmp};
 ghost use Rattle.cube_laws.specs.Recoding.{RowsAreKnown};
-ghost use Rattle.value_dict.specs.Recoded.{has_code, told_rows};
-ghost use Rattle.value_dict.specs.Told.{told_cell};
+ghost use Rattle.value_dict.specs.Recoded.{has_code, decoded_row_list};
+ghost use Rattle.value_dict.specs.Decoded.{decoded_cell};
 ghost use Rattle.quotient_lattice.specs.Joined.{joins};
 
 use crate::Memory;
-use crate::joined::joined_at;
+use crate::parent_test::parent_at;
 use cell_core::{Cell, NodeNo, Steps};
 use cells_below::{Marks, UpperBound, bounds_at, count_values, needed};
 use qc_arena::Nodes;
@@ -41,20 +41,24 @@ pub fn parents<T: Nodes, L: Ledger>(
     requires tree { IsTree (T.width tree.now) (T.tree tree.now) }
     requires class { IsSome (record_at (T.tree tree.now) node.0).class }
     requires dims { length dict.now.lists ≡ T.width tree.now }
-    ensures nodes { (source : TreeRows) → IsTreeOf (T.width tree.now) (T.tree tree.now) source → RowsAreKnown (has_code dict.now.lists) source.rows →
-        IfOk result (λ nodes. told_nodes dict.now.lists (T.tree tree.now) nodes.items
-        ≡ lattice.parents text_cmp (told_rows dict.now.lists source.rows) (told_cell dict.now.lists (record_at (T.tree tree.now) node.0).cell)) }
-    ensures classes { IfOk result (λ nodes. All (λ node. IsSome (record_at (T.tree tree.now) node.0).class) nodes.items) }
-    ensures steps { steps.new ≤ steps.old + 16 * (T.width tree.now + 1) * 2 ^ value_count (record_at (T.tree tree.now) node.0).cell }
+    ensures nodes { (source : TreeRows) → IsTreeOf (T.width tree.now) (T.tree tree.now) source
+        → RowsAreKnown (has_code dict.now.lists) source.rows →
+        IfOk result (λ nodes. decoded_nodes dict.now.lists (T.tree tree.now) nodes.items
+        ≡ lattice.parents text_cmp (decoded_row_list dict.now.lists source.rows)
+        (decoded_cell dict.now.lists (record_at (T.tree tree.now) node.0).cell)) }
+    ensures classes { IfOk result
+        (λ nodes. All (λ node. IsSome (record_at (T.tree tree.now) node.0).class) nodes.items) }
+    ensures steps { steps.new ≤ steps.old + 16 * (T.width tree.now + 1) * 2 ^ value_count
+        (record_at (T.tree tree.now) node.0).cell }
 {
     let _dims = dict.dims();
     let mut u = Cell::any(alloc, tree.dims());
     upper_into(tree, node, &mut u, steps);
-    parents_below(alloc, tree, node, &u, steps)
+    parents_of_cell(alloc, tree, node, &u, steps)
 }
 
 // The parents of the node's cell u.
-fn parents_below<T: Nodes, L: Ledger>(
+fn parents_of_cell<T: Nodes, L: Ledger>(
     alloc: Global,
     tree: &T,
     node: NodeNo,
@@ -66,8 +70,10 @@ fn parents_below<T: Nodes, L: Ledger>(
     requires own { (source : TreeRows) → IsTreeOf (T.width tree.now) (T.tree tree.now) source →
         has_closure_in source u.now u.now ≡ true }
     ensures nodes { (source : TreeRows) → IsTreeOf (T.width tree.now) (T.tree tree.now) source →
-        IfOk result (λ nodes. map (λ k. cell_at (T.tree tree.now) k.0) nodes.items ≡ map (λ c. Some c) (lattice.parents nat_cmp source.rows u.now)) }
-    ensures steps { steps.new ≤ steps.old + (value_count u.now + 2 * 2 ^ value_count u.now) * (2 * length u.now + 2) }
+        IfOk result (λ nodes. map (λ k. cell_at (T.tree tree.now) k.0) nodes.items
+        ≡ map (λ c. Some c) (lattice.parents nat_cmp source.rows u.now)) }
+    ensures steps { steps.new ≤ steps.old + (value_count u.now + 2 * 2 ^ value_count u.now)
+        * (2 * length u.now + 2) }
 {
     let d = count_values(u);
     match Marks::new(alloc, 1 << d) {
@@ -79,7 +85,7 @@ fn parents_below<T: Nodes, L: Ledger>(
                 values: d,
             };
             mark_all(&upper, &mut marks, steps);
-            joined(alloc, &upper, &marks, steps)
+            parents_by_marks(alloc, &upper, &marks, steps)
         }
         Err(error) => Err(error),
     }
@@ -93,7 +99,7 @@ fn mark_all<T: Nodes, L: Ledger>(upper: &UpperBound<T>, marks: &mut Marks, steps
     requires none { (j : ℕ) → is_marked marks.old j ≡ false }
     ensures marked { (source : TreeRows) →
         IsTreeOf (T.width upper.now.tree.now) (T.tree upper.now.tree.now) source →
-        IsMarkedBelow source upper.now.cell.now marks.new (2 ^ upper.now.values) }
+        IsMarkedBefore source upper.now.cell.now marks.new (2 ^ upper.now.values) }
     ensures room { 2 ^ upper.now.values ≤ length marks.new }
     ensures steps { steps.new ≤ steps.old
         + (upper.now.values + 2 ^ upper.now.values) * (2 * length upper.now.cell.now + 2) }
@@ -106,7 +112,7 @@ fn mark_all<T: Nodes, L: Ledger>(upper: &UpperBound<T>, marks: &mut Marks, steps
 }
 
 // The nodes of the numbers that are parents of the class.
-fn joined<T: Nodes, L: Ledger>(
+fn parents_by_marks<T: Nodes, L: Ledger>(
     alloc: Global,
     upper: &UpperBound<T>,
     marks: &Marks,
@@ -117,7 +123,7 @@ fn joined<T: Nodes, L: Ledger>(
     requires room { 2 ^ upper.now.values ≤ length marks.now }
     requires marked { (source : TreeRows) →
         IsTreeOf (T.width upper.now.tree.now) (T.tree upper.now.tree.now) source →
-        IsMarkedBelow source upper.now.cell.now marks.now (2 ^ upper.now.values) }
+        IsMarkedBefore source upper.now.cell.now marks.now (2 ^ upper.now.values) }
     ensures nodes { (source : TreeRows) →
         IsTreeOf (T.width upper.now.tree.now) (T.tree upper.now.tree.now) source →
         IfOk result (λ nodes. map (λ k. cell_at (T.tree upper.now.tree.now) k.0) nodes.items
@@ -128,7 +134,7 @@ fn joined<T: Nodes, L: Ledger>(
 {
     let mut nodes = Vec::new(alloc);
     'numbers: for m in 0..1 << upper.values {
-        let node = joined_at(upper, marks, m, steps);
+        let node = parent_at(upper, marks, m, steps);
         match push_some(&mut nodes, node) {
             Ok(()) => {}
             Err(error) => return Err(error),

@@ -1,5 +1,6 @@
 -- Where a walk goes on from a node, and where it ends.
-use Rattle.std.proofs.Common.{◌≡◌, ℕ, zero, suc, ◌+◌, ◌<◌, ◌≤◌, true, false, Option, Some, None, List, [], ◌∷◌, length, drop, get_or, set, slice_get, flat_map, refl, sym, ap, subst, ◌∙◌, arith, true≢false}
+use Rattle.std.proofs.Common.{◌≡◌, ℕ, zero, suc, ◌+◌, ◌<◌, ◌≤◌, true, false, Option, Some, None, List, [], ◌∷◌, length, drop, get_or, set}
+use Rattle.std.proofs.Common.{slice_get, flat_map, refl, sym, ap, subst, ◌∙◌, arith, true≢false}
 use Rattle.std.specs.Prelude.{IsSome, is_some, sum_by}
 use Rattle.std.proofs.lemmas.Bool.{cond-true, cond-false}
 use Rattle.std.proofs.lemmas.List.{length-set, set-set}
@@ -8,20 +9,17 @@ use Rattle.std.specs.Cmp.{nat_cmp_total}
 use Rattle.std.specs.FinMap as numbers
 use Rattle.std.specs.Option.{option_map}
 use Rattle.std.specs.Ordering.{nat_cmp, eq_by_cmp}
-use Rattle.cube_defs.specs.Cell.{Cell, depth, cell_front, one_deeper}
+use Rattle.cube_defs.specs.Cell.{Cell, depth, cell_prefix, depth_with}
 use Rattle.cube_defs.specs.Tree.{Tree, cell_at}
 use Rattle.cube_defs.specs.Answers.{Box}
-use Rattle.cube_laws.proofs.Cells.{depth-le, one_deeper-le}
-use Rattle.cube_laws.proofs.Covered.{closure_length}
-use Rattle.qc_arena.specs.Seen.{record_at}
-use Rattle.tree_laws.specs.Walk.{closure_front, walk_on}
-use Rattle.tree_laws.proofs.Fronts.{any_behind, cell_front-beyond, shallower}
-use Rattle.tree_laws.proofs.Lists.{some_same, there}
-use Rattle.tree_laws.proofs.Walks.{walk_step}
+use Rattle.cube_laws.proofs.CallerLemmas.{depth-le, one_deeper-le, closure_length}
+use Rattle.qc_arena.specs.RecordReaders.{record_at}
+use Rattle.tree_laws.specs.Walk.{closure_prefix, walk_on}
+use Rattle.tree_laws.proofs.CallerLemmas.{any_after, cell_prefix-beyond, shallower, some_same, there, walk_step}
 use Rattle.tree_search.specs.Found.{IsTreeOf, IsTree, TreeRows, closure_in}
-use Rattle.tree_search.proofs.Walked.{cell_of, there_is}
+use Rattle.tree_search.proofs.CallerLemmas.{cell_of, there_is}
 use Rattle.range_query.specs.Met.{is_covered}
-use Rattle.range_query.specs.Walk.{Stands, cost, entered, entry_cost, met}
+use Rattle.range_query.specs.Walk.{StandsAtNode, cost, entered, entry_cost, met}
 
 -- an entry put in its own place
 pub set-own : {X : Type 0} (xs : List X) (i : ℕ) (x : X) → slice_get xs i ≡ Some x → set xs i x ≡ xs
@@ -35,39 +33,43 @@ module _ {A : Type 0} where
   set-get (f ∷ p) zero e l = refl
   set-get (f ∷ p) (suc i) e l = set-get p i e (omega arith)
 
-  pub cell_front-set : (p : Cell A) (i : ℕ) (e : Option A) → cell_front i (set p i e) ≡ cell_front i p
-  cell_front-set [] i e = refl
-  cell_front-set (f ∷ p) zero e = refl
-  cell_front-set (f ∷ p) (suc i) e = ap (λ x. f ∷ x) (cell_front-set p i e)
+  pub cell_prefix-set : (p : Cell A) (i : ℕ) (e : Option A) → cell_prefix i (set p i e) ≡ cell_prefix i p
+  cell_prefix-set [] i e = refl
+  cell_prefix-set (f ∷ p) zero e = refl
+  cell_prefix-set (f ∷ p) (suc i) e = ap (λ x. f ∷ x) (cell_prefix-set p i e)
 
   pub depth-set : (p : Cell A) (i : ℕ) (e : Option A) → depth p ≤ i → depth (set p i e) ≤ suc i
   depth-set [] i e h = omega arith
   depth-set (f ∷ p) zero e h = one_deeper-le e (depth p) 0 (shallower_zero f (depth p) h)
     where
-      shallower_zero : (f : Option A) (n : ℕ) → one_deeper f n ≤ 0 → n ≤ 0
+      shallower_zero : (f : Option A) (n : ℕ) → depth_with f n ≤ 0 → n ≤ 0
       shallower_zero None zero h = omega arith
       shallower_zero None (suc n) h = absurd (omega arith)
       shallower_zero (Some v) n h = absurd (omega arith)
-  depth-set (f ∷ p) (suc i) e h = one_deeper-le f (depth (set p i e)) (suc i) (depth-set p i e (shallower f (depth p) i h))
+  depth-set (f ∷ p) (suc i) e h
+      = one_deeper-le f (depth (set p i e)) (suc i) (depth-set p i e (shallower f (depth p) i h))
 
 -- the same entry again
-pub back : {dims : ℕ} {tree : Tree ℕ} {node : ℕ} {p : Cell ℕ} {i : ℕ} (e : Option ℕ) → Stands dims tree node p i → i < dims → set (set p i e) i None ≡ p
-back {p = p} {i = i} e s l = set-set p i e None ∙ set-own p i None (any_behind p i s.behind (omega (arith, s.long)))
+pub back : {dims : ℕ} {tree : Tree ℕ} {node : ℕ} {p : Cell ℕ} {i : ℕ} (e : Option ℕ) → StandsAtNode dims tree node p i
+    → i < dims → set (set p i e) i None ≡ p
+back {p = p} {i = i} e s l = set-set p i e None ∙ set-own p i None (any_after p i s.behind (omega (arith, s.long)))
 
-module _ (dims : ℕ) (tree : Tree ℕ) (node : ℕ) (p : Cell ℕ) (i : ℕ) (s : Stands dims tree node p i) where
+module _ (dims : ℕ) (tree : Tree ℕ) (node : ℕ) (p : Cell ℕ) (i : ℕ) (s : StandsAtNode dims tree node p i) where
   module _ (source : TreeRows) (h : IsTreeOf dims tree source) where
-    own : cell_front i p ≡ p
-    own = cell_front-beyond i p s.behind
+    own : cell_prefix i p ≡ p
+    own = cell_prefix-beyond i p s.behind
 
-    pub stands_closure : (u : Cell ℕ) × (closure_in source p ≡ Some u) × (cell_at tree node ≡ Some (cell_front i u))
+    pub stands_closure : (u : Cell ℕ) × (closure_in source p ≡ Some u) × (cell_at tree node ≡ Some (cell_prefix i u))
     stands_closure = go (closure_in source p) refl
       where
-        front_is : cell_at tree node ≡ option_map (cell_front i) (closure_in source p)
-        front_is = s.front source h ∙ ap (λ c. option_map (cell_front i) (closure_in source c)) own
+        prefix_is : cell_at tree node ≡ option_map (cell_prefix i) (closure_in source p)
+        prefix_is = s.front source h ∙ ap (λ c. option_map (cell_prefix i) (closure_in source c)) own
 
-        go : (o : Option (Cell ℕ)) → closure_in source p ≡ o → (u : Cell ℕ) × (closure_in source p ≡ Some u) × (cell_at tree node ≡ Some (cell_front i u))
-        go None e = let none : cell_at tree node ≡ None = front_is ∙ ap (option_map (cell_front i)) e in absurd (true≢false (sym s.there ∙ ap is_some none))
-        go (Some u) e = (u, e, front_is ∙ ap (option_map (cell_front i)) e)
+        go : (o : Option (Cell ℕ)) → closure_in source p ≡ o → (u : Cell ℕ) × (closure_in source p ≡ Some u)
+            × (cell_at tree node ≡ Some (cell_prefix i u))
+        go None e = let none : cell_at tree node ≡ None = prefix_is ∙ ap (option_map (cell_prefix i)) e in
+            absurd (true≢false (sym s.there ∙ ap is_some none))
+        go (Some u) e = (u, e, prefix_is ∙ ap (option_map (cell_prefix i)) e)
 
     pub stands_covered : is_covered (eq_by_cmp nat_cmp) source.rows p ≡ true
     stands_covered = ap is_some stands_closure.1
@@ -75,47 +77,70 @@ module _ (dims : ℕ) (tree : Tree ℕ) (node : ℕ) (p : Cell ℕ) (i : ℕ) (s
     -- at the end
     pub stands_whole : dims ≤ i → cell_at tree node ≡ closure_in source p
     stands_whole l =
-        let u : (u : Cell ℕ) × (closure_in source p ≡ Some u) × (cell_at tree node ≡ Some (cell_front i u)) = stands_closure in
+        let u : (u : Cell ℕ) × (closure_in source p ≡ Some u) × (cell_at tree node ≡ Some (cell_prefix i u))
+        = stands_closure in
         let wide_u : length u.0 ≡ dims = closure_length (eq_by_cmp nat_cmp) dims p u.0 source.rows h.wide u.1 in
-        u.2 ∙ ap (λ x. Some x) (cell_front-beyond i u.0 (omega (arith, depth-le u.0))) ∙ sym u.1
+        u.2 ∙ ap (λ x. Some x) (cell_prefix-beyond i u.0 (omega (arith, depth-le u.0))) ∙ sym u.1
 
     module _ (e : Option ℕ) (l : i < dims) where
       abbrev q : Cell ℕ
       q = set p i e
 
-      kept : cell_front (suc i) q ≡ q
-      kept = cell_front-beyond (suc i) q (depth-set p i e s.behind)
+      kept : cell_prefix (suc i) q ≡ q
+      kept = cell_prefix-beyond (suc i) q (depth-set p i e s.behind)
 
-      stepped : option_map (cell_at tree) (walk_on (eq_by_cmp nat_cmp) node (record_at tree node) i e) ≡ option_map (λ c. Some c) (closure_front (eq_by_cmp nat_cmp) source.rows q (suc i))
+      stepped : option_map (cell_at tree) (walk_on (eq_by_cmp nat_cmp) node (record_at tree node) i e)
+          ≡ option_map (λ c. Some c) (closure_prefix (eq_by_cmp nat_cmp) source.rows q (suc i))
       stepped =
-          let u : (u : Cell ℕ) × (closure_in source p ≡ Some u) × (cell_at tree node ≡ Some (cell_front i u)) = stands_closure in
-          let at : Some (record_at tree node).cell ≡ closure_front (eq_by_cmp nat_cmp) source.rows q i
-          = ap (λ c. Some c) (cell_of tree node (cell_front i u.0) u.2) ∙ sym u.2 ∙ s.front source h ∙ ap (λ c. option_map (cell_front i) (closure_in source c)) (sym (cell_front-set p i e)) in
-          walk_step nat_cmp_total numbers.nat_cmp-IsAntisymmetric dims source.measures source.rows h.wide tree h.canonical node (record_at tree node) q i e
-          (length-set p i e ∙ s.long) (set-get p i e (omega (arith, s.long))) l (there_is tree node (there tree node (cell_front i u.0) u.2)) at
+          let u : (u : Cell ℕ) × (closure_in source p ≡ Some u) × (cell_at tree node ≡ Some (cell_prefix i u))
+          = stands_closure in
+          let at : Some (record_at tree node).cell ≡ closure_prefix (eq_by_cmp nat_cmp) source.rows q i
+          = ap (λ c. Some c) (cell_of tree node (cell_prefix i u.0) u.2) ∙ sym u.2 ∙ s.front source h
+          ∙ ap (λ c. option_map (cell_prefix i) (closure_in source c)) (sym (cell_prefix-set p i e)) in
+          walk_step nat_cmp_total numbers.nat_cmp-IsAntisymmetric dims source.measures source.rows h.wide tree
+          h.canonical node (record_at tree node) q i e
+          (length-set p i e ∙ s.long) (set-get p i e (omega (arith, s.long))) l
+          (there_is tree node (there tree node (cell_prefix i u.0) u.2)) at
 
-      pub next_none : walk_on (eq_by_cmp nat_cmp) node (record_at tree node) i e ≡ None → is_covered (eq_by_cmp nat_cmp) source.rows q ≡ false
-      next_none w = go (closure_in source (cell_front (suc i) q)) refl
+      pub next_none : walk_on (eq_by_cmp nat_cmp) node (record_at tree node) i e ≡ None
+          → is_covered (eq_by_cmp nat_cmp) source.rows q ≡ false
+      next_none w = go (closure_in source (cell_prefix (suc i) q)) refl
         where
-          go : (o : Option (Cell ℕ)) → closure_in source (cell_front (suc i) q) ≡ o → is_covered (eq_by_cmp nat_cmp) source.rows q ≡ false
+          go : (o : Option (Cell ℕ)) → closure_in source (cell_prefix (suc i) q) ≡ o
+              → is_covered (eq_by_cmp nat_cmp) source.rows q ≡ false
           go None f = ap (λ c. is_some (closure_in source c)) (sym kept) ∙ ap is_some f
-          go (Some u) f = let bad : None ≡ Some (Some (cell_front (suc i) u)) = ap (option_map (cell_at tree)) (sym w) ∙ stepped ∙ ap (λ o. option_map (λ c. Some c) (option_map (cell_front (suc i)) o)) f in cc
+          go (Some u) f = let bad : None ≡ Some (Some (cell_prefix (suc i) u)) = ap (option_map (cell_at tree)) (sym w)
+              ∙ stepped ∙ ap (λ o. option_map (λ c. Some c) (option_map (cell_prefix (suc i)) o)) f in cc
 
-      pub next_some : (j : ℕ) → walk_on (eq_by_cmp nat_cmp) node (record_at tree node) i e ≡ Some j → (cell_at tree j ≡ closure_front (eq_by_cmp nat_cmp) source.rows q (suc i)) × IsSome (cell_at tree j) × (is_covered (eq_by_cmp nat_cmp) source.rows q ≡ true)
-      next_some j w = go (closure_in source (cell_front (suc i) q)) refl
+      pub next_some : (j : ℕ) → walk_on (eq_by_cmp nat_cmp) node (record_at tree node) i e ≡ Some j
+          → (cell_at tree j ≡ closure_prefix (eq_by_cmp nat_cmp) source.rows q (suc i)) × IsSome (cell_at tree j)
+          × (is_covered (eq_by_cmp nat_cmp) source.rows q ≡ true)
+      next_some j w = go (closure_in source (cell_prefix (suc i) q)) refl
         where
-          by : Some (cell_at tree j) ≡ option_map (λ c. Some c) (closure_front (eq_by_cmp nat_cmp) source.rows q (suc i))
+          by : Some (cell_at tree j) ≡ option_map (λ c. Some c)
+              (closure_prefix (eq_by_cmp nat_cmp) source.rows q (suc i))
           by = ap (option_map (cell_at tree)) (sym w) ∙ stepped
 
-          go : (o : Option (Cell ℕ)) → closure_in source (cell_front (suc i) q) ≡ o → (cell_at tree j ≡ closure_front (eq_by_cmp nat_cmp) source.rows q (suc i)) × IsSome (cell_at tree j) × (is_covered (eq_by_cmp nat_cmp) source.rows q ≡ true)
-          go None f = let bad : Some (cell_at tree j) ≡ None = by ∙ ap (λ o. option_map (λ c. Some c) (option_map (cell_front (suc i)) o)) f in cc
+          go : (o : Option (Cell ℕ)) → closure_in source (cell_prefix (suc i) q) ≡ o
+              → (cell_at tree j ≡ closure_prefix (eq_by_cmp nat_cmp) source.rows q (suc i)) × IsSome (cell_at tree j)
+              × (is_covered (eq_by_cmp nat_cmp) source.rows q ≡ true)
+          go None f = let bad : Some (cell_at tree j) ≡ None
+              = by ∙ ap (λ o. option_map (λ c. Some c) (option_map (cell_prefix (suc i)) o)) f in cc
           go (Some u) f =
-              let is : closure_front (eq_by_cmp nat_cmp) source.rows q (suc i) ≡ Some (cell_front (suc i) u) = ap (option_map (cell_front (suc i))) f in
-              let at : cell_at tree j ≡ Some (cell_front (suc i) u) = some_same (by ∙ ap (option_map (λ c. Some c)) is) in
-              (at ∙ sym is, subst (λ o. IsSome o) (sym at) refl, ap (λ c. is_some (closure_in source c)) (sym kept) ∙ ap is_some f)
+              let is : closure_prefix (eq_by_cmp nat_cmp) source.rows q (suc i) ≡ Some (cell_prefix (suc i) u)
+              = ap (option_map (cell_prefix (suc i))) f in
+              let at : cell_at tree j ≡ Some (cell_prefix (suc i) u)
+              = some_same (by ∙ ap (option_map (λ c. Some c)) is) in (
+                at ∙ sym is,
+                subst (λ o. IsSome o) (sym at) refl,
+                ap (λ c. is_some (closure_in source c)) (sym kept)
+                    ∙ ap is_some f,
+              )
 
   -- the walk stands at the next node
-  stands_next : (t : IsTree dims tree) (e : Option ℕ) (l : i < dims) (j : ℕ) → walk_on (eq_by_cmp nat_cmp) node (record_at tree node) i e ≡ Some j → Stands dims tree j (set p i e) (suc i)
+  stands_next : (t : IsTree dims tree) (e : Option ℕ) (l : i < dims) (j : ℕ)
+      → walk_on (eq_by_cmp nat_cmp) node (record_at tree node) i e ≡ Some j
+      → StandsAtNode dims tree j (set p i e) (suc i)
   stands_next t e l j w = record {
     long = length-set p i e ∙ s.long;
     within = omega arith;
@@ -124,46 +149,61 @@ module _ (dims : ℕ) (tree : Tree ℕ) (node : ℕ) (p : Cell ℕ) (i : ℕ) (s
     front = λ source h. (next_some source h e l j w).0;
   }
 
-  pub stands_after : (t : IsTree dims tree) (e : Option ℕ) (l : i < dims) (j : ℕ) (q : Cell ℕ) → walk_on (eq_by_cmp nat_cmp) node (record_at tree node) i e ≡ Some j → q ≡ set p i e → Stands dims tree j q (i + 1)
+  pub stands_after : (t : IsTree dims tree) (e : Option ℕ) (l : i < dims) (j : ℕ) (q : Cell ℕ)
+      → walk_on (eq_by_cmp nat_cmp) node (record_at tree node) i e ≡ Some j → q ≡ set p i e
+      → StandsAtNode dims tree j q (i + 1)
   stands_after t e l j q w is =
       let next : suc i ≡ i + 1 = omega arith in
-      subst (λ c. Stands dims tree j c (i + 1)) (sym is) (subst (λ k. Stands dims tree j (set p i e) k) next (stands_next t e l j w))
+      subst (λ c. StandsAtNode dims tree j c (i + 1)) (sym is)
+      (subst (λ k. StandsAtNode dims tree j (set p i e) k) next (stands_next t e l j w))
 
   -- with Any, whether the walk stays or goes to the forced child
-  pub stands_any : (t : IsTree dims tree) (l : i < dims) (j : ℕ) → walk_on (eq_by_cmp nat_cmp) node (record_at tree node) i None ≡ Some j → Stands dims tree j p (i + 1)
-  stands_any t l j w = stands_after t None l j p w (sym (set-own p i None (any_behind p i s.behind (omega (arith, s.long)))))
+  pub stands_any : (t : IsTree dims tree) (l : i < dims) (j : ℕ)
+      → walk_on (eq_by_cmp nat_cmp) node (record_at tree node) i None ≡ Some j → StandsAtNode dims tree j p (i + 1)
+  stands_any t l j w = stands_after t None l j p w
+      (sym (set-own p i None (any_after p i s.behind (omega (arith, s.long)))))
 
   module _ (source : TreeRows) (h : IsTreeOf dims tree source) (box : Box ℕ) where
     -- one entry: nothing where no row is left with it, and else what is met from there
     module _ (e : Option ℕ) (l : i < dims) where
-      pub entered_none : walk_on (eq_by_cmp nat_cmp) node (record_at tree node) i e ≡ None → entered source box p i e ≡ []
+      pub entered_none : walk_on (eq_by_cmp nat_cmp) node (record_at tree node) i e ≡ None
+          → entered source box p i e ≡ []
       entered_none w = cond-false _ _ _ (next_none source h e l w)
 
-      module _ (j : ℕ) (w : walk_on (eq_by_cmp nat_cmp) node (record_at tree node) i e ≡ Some j) (after : Cell ℕ) (is : after ≡ set p i e) where
+      module _ (j : ℕ) (w : walk_on (eq_by_cmp nat_cmp) node (record_at tree node) i e ≡ Some j) (after : Cell ℕ)
+          (is : after ≡ set p i e) where
         pub entered_some : entered source box p i e ≡ met source box after (i + 1)
-        entered_some = cond-true _ _ _ (next_some source h e l j w).2 ∙ ap (λ p. met source box p (suc i)) (sym is) ∙ (let next : suc i ≡ i + 1 = omega arith in ap (met source box after) next)
+        entered_some = cond-true _ _ _ (next_some source h e l j w).2 ∙ ap (λ p. met source box p (suc i)) (sym is)
+            ∙ (let next : suc i ≡ i + 1 = omega arith in ap (met source box after) next)
 
         pub entry_cost_some : entry_cost source box p i e ≡ 1 + cost source box after (i + 1)
-        entry_cost_some = ap (λ n. 1 + n) (cond-true _ _ _ (next_some source h e l j w).2 ∙ ap (λ p. cost source box p (suc i)) (sym is) ∙ (let next : suc i ≡ i + 1 = omega arith in ap (cost source box after) next))
+        entry_cost_some = ap (λ n. 1 + n) (cond-true _ _ _ (next_some source h e l j w).2
+            ∙ ap (λ p. cost source box p (suc i)) (sym is) ∙ (let next : suc i ≡ i + 1 = omega arith in
+            ap (cost source box after) next))
 
     -- one dimension of a box
     module _ (l : i < length box) where
-      front_of : drop i box ≡ get_or box i None ∷ drop (i + 1) box
-      front_of = let next : suc i ≡ i + 1 = omega arith in drop-cons box i None l ∙ ap (λ n. get_or box i None ∷ drop n box) next
+      prefix_of : drop i box ≡ get_or box i None ∷ drop (i + 1) box
+      prefix_of = let next : suc i ≡ i + 1 = omega arith in
+          drop-cons box i None l ∙ ap (λ n. get_or box i None ∷ drop n box) next
 
       pub any_met : get_or box i None ≡ None → met source (drop (i + 1) box) p (i + 1) ≡ met source (drop i box) p i
       any_met is =
           let next : i + 1 ≡ suc i = omega arith in
-          ap (λ n. met source (drop (i + 1) box) p n) next ∙ sym (ap (λ b. met source b p i) (front_of ∙ ap (λ a. a ∷ drop (i + 1) box) is))
+          ap (λ n. met source (drop (i + 1) box) p n) next
+          ∙ sym (ap (λ b. met source b p i) (prefix_of ∙ ap (λ a. a ∷ drop (i + 1) box) is))
 
-      pub any_cost : get_or box i None ≡ None → cost source (drop i box) p i ≡ 1 + cost source (drop (i + 1) box) p (i + 1)
+      pub any_cost : get_or box i None ≡ None
+          → cost source (drop i box) p i ≡ 1 + cost source (drop (i + 1) box) p (i + 1)
       any_cost is =
           let next : suc i ≡ i + 1 = omega arith in
-          ap (λ b. cost source b p i) (front_of ∙ ap (λ a. a ∷ drop (i + 1) box) is) ∙ ap (λ n. 1 + cost source (drop (i + 1) box) p n) next
+          ap (λ b. cost source b p i) (prefix_of ∙ ap (λ a. a ∷ drop (i + 1) box) is)
+          ∙ ap (λ n. 1 + cost source (drop (i + 1) box) p n) next
 
       module _ (vs : List ℕ) (is : get_or box i None ≡ Some vs) where
         pub codes_met : met source (drop i box) p i ≡ flat_map (λ v. entered source (drop (i + 1) box) p i (Some v)) vs
-        codes_met = ap (λ b. met source b p i) (front_of ∙ ap (λ a. a ∷ drop (i + 1) box) is)
+        codes_met = ap (λ b. met source b p i) (prefix_of ∙ ap (λ a. a ∷ drop (i + 1) box) is)
 
-        pub codes_cost : cost source (drop i box) p i ≡ 1 + sum_by (λ v. entry_cost source (drop (i + 1) box) p i (Some v)) vs
-        codes_cost = ap (λ b. cost source b p i) (front_of ∙ ap (λ a. a ∷ drop (i + 1) box) is)
+        pub codes_cost : cost source (drop i box) p i ≡ 1
+            + sum_by (λ v. entry_cost source (drop (i + 1) box) p i (Some v)) vs
+        codes_cost = ap (λ b. cost source b p i) (prefix_of ∙ ap (λ a. a ∷ drop (i + 1) box) is)

@@ -19,7 +19,8 @@ module _ {A : Type 0} (eq : A → A → Bool) (rows : List (Row A)) where
   met (None ∷ box) p i = met box p (suc i)
   met (Some vs ∷ box) p i = flat_map (λ v. if_covered [] (λ q. met box q (suc i)) (with_value p i v)) vs
 
-  -- at most so many steps: one for the forced child of a node that is reached, one for each label that is looked up, and one for
+  -- at most so many steps: one for the forced child of a node that is reached, one for each label that is looked up,
+  -- and one for
   -- a cell's aggregate
   abbrev pub cost : Box A → Cell A → ℕ → ℕ
   cost [] p i = 2

@@ -7,10 +7,10 @@ use Rattle.cube_defs.specs.Tree.{covered}
 use Rattle.cube_defs.specs.Answers.{Box, in_box}
 
 -- the choices of the first j dimensions, and Any alone behind them
-abbrev pub front_box : {A : Type 0} → ℕ → Box A → Box A
-front_box j [] = []
-front_box zero (a ∷ box) = None ∷ front_box zero box
-front_box (suc j) (a ∷ box) = a ∷ front_box j box
+abbrev pub prefix_box : {A : Type 0} → ℕ → Box A → Box A
+prefix_box j [] = []
+prefix_box zero (a ∷ box) = None ∷ prefix_box zero box
+prefix_box (suc j) (a ∷ box) = a ∷ prefix_box j box
 
 -- how many values are allowed beside Any
 abbrev pub choices : {A : Type 0} → Option (List A) → ℕ
@@ -25,7 +25,7 @@ total_over reached (a ∷ box) = reached 0 * (1 + choices a) + total_over (λ j.
 module _ {A : Type 0} (cmp : A → A → Ordering) where
   -- the cells that cover a row, have in the first j dimensions what the box allows, and Any behind
   abbrev pub reached : List (Row A) → Box A → ℕ → ℕ
-  reached rows box j = length (filter (in_box (eq_by_cmp cmp) (front_box j box)) (covered cmp rows))
+  reached rows box j = length (filter (in_box (eq_by_cmp cmp) (prefix_box j box)) (covered cmp rows))
 
   abbrev pub work : List (Row A) → Box A → ℕ
   work rows box = total_over (reached rows box) box

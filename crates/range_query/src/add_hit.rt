@@ -36,7 +36,8 @@ pub(crate) fn add_hit<T: Nodes, L: Ledger>(
     requires tree { IsTree (T.width tree.now) (T.tree tree.now) }
     requires ends { Ends (T.width tree.now) (T.tree tree.now) node.0 cell.now }
     requires few { length hits.old.items ≤ limit }
-    ensures { Finds (T.width tree.now) (T.tree tree.now) limit (λ source. cell.now ∷ []) (λ source. 1)
+    ensures { Finds (T.width tree.now) (T.tree tree.now) limit
+        (λ source. cell.now ∷ []) (λ source. 1)
         hits.old.items hits.new.items cell.now cell.now steps.old steps.new result }
 {
     let agg = tree.class(node, steps).unwrap();

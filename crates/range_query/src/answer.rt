@@ -3,9 +3,9 @@ ghost use Rattle.std.specs.Prelude.{All, Err, IfOk, length, ◌*◌, ◌+◌, �
 ghost use Rattle.cube_defs.specs.Text.{text_cmp};
 ghost use Rattle.cube_laws.specs.Recoding.{BoxIsKnown, RowsAreKnown};
 ghost use Rattle.tree_search.specs.Found.{IsTreeOf, IsTree, TreeRows};
-ghost use Rattle.value_dict.specs.Boxes.{IsOrdered, told_box};
+ghost use Rattle.value_dict.specs.Boxes.{IsOrdered, decoded_box};
 ghost use Rattle.value_dict.specs.Recoded.{has_code};
-ghost use Rattle.range_query.specs.Told.{IsTellableHit, hit_in, told_hits, told_range, told_work};
+ghost use Rattle.range_query.specs.DecodedHits.{IsDecodableHit, hit_in, decoded_hits, decoded_range, decoded_work};
 
 use crate::walk::{Scan, visit};
 use crate::{Hit, RangeRefused};
@@ -31,18 +31,27 @@ pub fn range<T: Nodes, L: Ledger>(
     requires dims { length cells.now ≡ T.width tree.now }
     requires dict_dims { length dict.now.lists ≡ T.width tree.now }
     requires known { BoxIsKnown (has_code dict.now.lists) 0 cells.now }
-    requires order { IsOrdered text_cmp (told_box dict.now.lists cells.now) }
-    ensures hits { (source : TreeRows) → IsTreeOf (T.width tree.now) (T.tree tree.now) source → RowsAreKnown (has_code dict.now.lists) source.rows →
-        IfOk result (λ hits. told_hits dict.now.lists hits.items ≡ told_range dict.now.lists source cells.now) }
-    ensures told { (source : TreeRows) → IsTreeOf (T.width tree.now) (T.tree tree.now) source → RowsAreKnown (has_code dict.now.lists) source.rows →
-        IfOk result (λ hits. All (λ hit. IsTellableHit dict.now.lists source.measures (hit_in hit)) hits.items) }
+    requires order { IsOrdered text_cmp (decoded_box dict.now.lists cells.now) }
+    ensures hits { (source : TreeRows) → IsTreeOf (T.width tree.now) (T.tree tree.now) source
+        → RowsAreKnown (has_code dict.now.lists) source.rows →
+        IfOk result (λ hits. decoded_hits dict.now.lists hits.items
+        ≡ decoded_range dict.now.lists source cells.now) }
+    ensures told { (source : TreeRows) → IsTreeOf (T.width tree.now) (T.tree tree.now) source
+        → RowsAreKnown (has_code dict.now.lists) source.rows →
+        IfOk result (λ hits. All
+        (λ hit. IsDecodableHit dict.now.lists source.measures (hit_in hit)) hits.items) }
     ensures few { IfOk result (λ hits. length hits.items ≤ limit) }
-    ensures too_many { result ≡ Err RangeRefused.TooMany → (source : TreeRows) → IsTreeOf (T.width tree.now) (T.tree tree.now) source →
-        RowsAreKnown (has_code dict.now.lists) source.rows → limit < length (told_range dict.now.lists source cells.now) }
-    ensures steps { (source : TreeRows) → IsTreeOf (T.width tree.now) (T.tree tree.now) source → RowsAreKnown (has_code dict.now.lists) source.rows →
-        steps.new ≤ steps.old + (1 + told_work dict.now.lists source cells.now + 2 * length (told_range dict.now.lists source cells.now)) }
-    ensures bounded { (source : TreeRows) → IsTreeOf (T.width tree.now) (T.tree tree.now) source → RowsAreKnown (has_code dict.now.lists) source.rows →
-        steps.new ≤ steps.old + 3 * (1 + told_work dict.now.lists source cells.now) }
+    ensures too_many { result ≡ Err RangeRefused.TooMany → (source : TreeRows)
+        → IsTreeOf (T.width tree.now) (T.tree tree.now) source →
+        RowsAreKnown (has_code dict.now.lists) source.rows
+        → limit < length (decoded_range dict.now.lists source cells.now) }
+    ensures steps { (source : TreeRows) → IsTreeOf (T.width tree.now) (T.tree tree.now) source
+        → RowsAreKnown (has_code dict.now.lists) source.rows →
+        steps.new ≤ steps.old + (1 + decoded_work dict.now.lists source cells.now
+        + 2 * length (decoded_range dict.now.lists source cells.now)) }
+    ensures bounded { (source : TreeRows) → IsTreeOf (T.width tree.now) (T.tree tree.now) source
+        → RowsAreKnown (has_code dict.now.lists) source.rows →
+        steps.new ≤ steps.old + 3 * (1 + decoded_work dict.now.lists source cells.now) }
 {
     let dims = dict.dims();
     let mut hits = Vec::new(alloc);

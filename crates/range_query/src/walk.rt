@@ -6,16 +6,16 @@ ghost use Rattle.std.specs.Ordering.{eq_by_cmp, nat_cmp};
 ghost use Rattle.std.specs.Prelude.{All, IfNone, IfSome, None, Some, drop, length, slice_index_or, ℕ, ◌+◌, ◌<◌, ◌≡◌, ◌≤◌};
 ghost use Rattle.cell_core.specs.Entry.{IsCode};
 ghost use Rattle.cube_defs.specs.Tree.{Node};
-ghost use Rattle.qc_arena.specs.Seen.{edge_of, record_at};
+ghost use Rattle.qc_arena.specs.RecordReaders.{edge_of, record_at};
 ghost use Rattle.tree_laws.specs.Walk.{by_forced};
-ghost use Rattle.range_query.specs.Walk.{CanWalk, Finds, Stands, cost, entered, entry_cost, met};
+ghost use Rattle.range_query.specs.Walk.{CanWalk, Finds, StandsAtNode, cost, entered, entry_cost, met};
 
 use crate::add_hit::add_hit;
 use crate::{Hit, RangeRefused};
 use cell_core::{Cell, Code, Entry, NodeNo, Steps};
 use qc_arena::{Forced, Nodes};
 use std::sync::ledger::Ledger;
-use tree_search::step_by;
+use tree_search::step_with_forced;
 use value_dict::CellBox;
 
 /// What a walk reads, and how many hits it may have.
@@ -28,7 +28,7 @@ pub(crate) struct Scan<'a, T: Nodes> {
 
 /// A position of the walk: the next dimension, and a node whose forced child was read.
 #[derive(Clone, Copy)]
-struct Stand {
+struct Position {
     node: NodeNo,
     forced: Option<Forced>,
     dim: u8,
@@ -36,8 +36,10 @@ struct Stand {
 
 // The forced child, if it is in the dimension. Without one, the walk stays at its node for Any.
 fn child_in(forced: Option<Forced>, dim: u8) -> Option<NodeNo>
-    ensures child { IfSome result (λ child. (k : ℕ) (n : Node ℕ ℕ) → by_forced (eq_by_cmp nat_cmp) k n dim None (option_map edge_of forced) ≡ Some child.0) }
-    ensures stays { IfNone result ((k : ℕ) (n : Node ℕ ℕ) → by_forced (eq_by_cmp nat_cmp) k n dim None (option_map edge_of forced) ≡ Some k) }
+    ensures child { IfSome result (λ child. (k : ℕ) (n : Node ℕ ℕ)
+        → by_forced (eq_by_cmp nat_cmp) k n dim None (option_map edge_of forced) ≡ Some child.0) }
+    ensures stays { IfNone result ((k : ℕ) (n : Node ℕ ℕ)
+        → by_forced (eq_by_cmp nat_cmp) k n dim None (option_map edge_of forced) ≡ Some k) }
 {
     match forced {
         Some(forced) if forced.dim == dim => Some(forced.child),
@@ -45,7 +47,8 @@ fn child_in(forced: Option<Forced>, dim: u8) -> Option<NodeNo>
     }
 }
 
-// All hits of the box whose entries before the dimension are the cell's, from a node that is reached.
+// All hits of the box whose entries before the dimension are the cell's, from a node that is
+// reached.
 #[cycle(walking)]
 pub(crate) fn visit<T: Nodes, L: Ledger>(
     scan: &Scan<T>,
@@ -55,8 +58,10 @@ pub(crate) fn visit<T: Nodes, L: Ledger>(
     hits: &mut Vec<Hit>,
     steps: &mut Steps<L>,
 ) -> Result<(), RangeRefused>
-    requires scan { CanWalk (T.width scan.now.tree.now) (T.tree scan.now.tree.now) scan.now.cells.now }
-    requires stands { Stands (T.width scan.now.tree.now) (T.tree scan.now.tree.now) node.0 cell.old dim }
+    requires scan { CanWalk (T.width scan.now.tree.now)
+        (T.tree scan.now.tree.now) scan.now.cells.now }
+    requires stands { StandsAtNode (T.width scan.now.tree.now) (T.tree scan.now.tree.now) node.0
+        cell.old dim }
     requires few { length hits.old.items ≤ scan.now.limit }
     ensures { Finds (T.width scan.now.tree.now) (T.tree scan.now.tree.now) scan.now.limit
         (λ source. met source (drop dim scan.now.cells.now) cell.old dim)
@@ -67,21 +72,24 @@ pub(crate) fn visit<T: Nodes, L: Ledger>(
         return add_hit(scan.tree, scan.limit, node, cell, hits, steps);
     }
     let forced = scan.tree.forced(node, steps);
-    go_on(scan, Stand { node, forced, dim }, cell, hits, steps)
+    visit_dimension(scan, Position { node, forced, dim }, cell, hits, steps)
 }
 
 // Continues in the box from a dimension.
 #[cycle(walking)]
-fn go_on<T: Nodes, L: Ledger>(
+fn visit_dimension<T: Nodes, L: Ledger>(
     scan: &Scan<T>,
-    at: Stand,
+    at: Position,
     cell: &mut Cell,
     hits: &mut Vec<Hit>,
     steps: &mut Steps<L>,
 ) -> Result<(), RangeRefused>
-    requires scan { CanWalk (T.width scan.now.tree.now) (T.tree scan.now.tree.now) scan.now.cells.now }
-    requires stands { Stands (T.width scan.now.tree.now) (T.tree scan.now.tree.now) at.node.0 cell.old at.dim }
-    requires forced { option_map edge_of at.forced ≡ (record_at (T.tree scan.now.tree.now) at.node.0).forced }
+    requires scan { CanWalk (T.width scan.now.tree.now)
+        (T.tree scan.now.tree.now) scan.now.cells.now }
+    requires stands { StandsAtNode (T.width scan.now.tree.now) (T.tree scan.now.tree.now) at.node.0
+        cell.old at.dim }
+    requires forced { option_map edge_of at.forced
+        ≡ (record_at (T.tree scan.now.tree.now) at.node.0).forced }
     requires few { length hits.old.items ≤ scan.now.limit }
     ensures { Finds (T.width scan.now.tree.now) (T.tree scan.now.tree.now) scan.now.limit
         (λ source. met source (drop at.dim scan.now.cells.now) cell.old at.dim)
@@ -97,7 +105,7 @@ fn go_on<T: Nodes, L: Ledger>(
     let dim = at.dim + 1;
     match child_in(at.forced, at.dim) {
         Some(child) => visit(scan, child, dim, cell, hits, steps),
-        None => go_on(scan, Stand { dim, ..at }, cell, hits, steps),
+        None => visit_dimension(scan, Position { dim, ..at }, cell, hits, steps),
     }
 }
 
@@ -105,18 +113,21 @@ fn go_on<T: Nodes, L: Ledger>(
 #[cycle(walking)]
 fn visit_codes<T: Nodes, L: Ledger>(
     scan: &Scan<T>,
-    at: Stand,
+    at: Position,
     codes: &[Code],
     cell: &mut Cell,
     hits: &mut Vec<Hit>,
     steps: &mut Steps<L>,
 ) -> Result<(), RangeRefused>
-    requires scan { CanWalk (T.width scan.now.tree.now) (T.tree scan.now.tree.now) scan.now.cells.now }
+    requires scan { CanWalk (T.width scan.now.tree.now)
+        (T.tree scan.now.tree.now) scan.now.cells.now }
     requires dim { at.dim < T.width scan.now.tree.now }
     requires codes { slice_index_or scan.now.cells.now at.dim None ≡ Some codes.now }
     requires small { All IsCode codes.now }
-    requires stands { Stands (T.width scan.now.tree.now) (T.tree scan.now.tree.now) at.node.0 cell.old at.dim }
-    requires forced { option_map edge_of at.forced ≡ (record_at (T.tree scan.now.tree.now) at.node.0).forced }
+    requires stands { StandsAtNode (T.width scan.now.tree.now) (T.tree scan.now.tree.now) at.node.0
+        cell.old at.dim }
+    requires forced { option_map edge_of at.forced
+        ≡ (record_at (T.tree scan.now.tree.now) at.node.0).forced }
     requires few { length hits.old.items ≤ scan.now.limit }
     ensures { Finds (T.width scan.now.tree.now) (T.tree scan.now.tree.now) scan.now.limit
         (λ source. met source (drop at.dim scan.now.cells.now) cell.old at.dim)
@@ -136,25 +147,30 @@ fn visit_codes<T: Nodes, L: Ledger>(
 #[cycle(walking)]
 fn enter<T: Nodes, L: Ledger>(
     scan: &Scan<T>,
-    at: Stand,
+    at: Position,
     code: Code,
     cell: &mut Cell,
     hits: &mut Vec<Hit>,
     steps: &mut Steps<L>,
 ) -> Result<(), RangeRefused>
-    requires scan { CanWalk (T.width scan.now.tree.now) (T.tree scan.now.tree.now) scan.now.cells.now }
+    requires scan { CanWalk (T.width scan.now.tree.now)
+        (T.tree scan.now.tree.now) scan.now.cells.now }
     requires dim { at.dim < T.width scan.now.tree.now }
     requires small { IsCode code }
-    requires stands { Stands (T.width scan.now.tree.now) (T.tree scan.now.tree.now) at.node.0 cell.old at.dim }
-    requires forced { option_map edge_of at.forced ≡ (record_at (T.tree scan.now.tree.now) at.node.0).forced }
+    requires stands { StandsAtNode (T.width scan.now.tree.now) (T.tree scan.now.tree.now) at.node.0
+        cell.old at.dim }
+    requires forced { option_map edge_of at.forced
+        ≡ (record_at (T.tree scan.now.tree.now) at.node.0).forced }
     requires few { length hits.old.items ≤ scan.now.limit }
     ensures { Finds (T.width scan.now.tree.now) (T.tree scan.now.tree.now) scan.now.limit
-        (λ source. entered source (drop (at.dim + 1) scan.now.cells.now) cell.old at.dim (Some code))
-        (λ source. entry_cost source (drop (at.dim + 1) scan.now.cells.now) cell.old at.dim (Some code))
+        (λ source. entered source (drop (at.dim + 1) scan.now.cells.now) cell.old
+        at.dim (Some code))
+        (λ source. entry_cost source (drop (at.dim + 1) scan.now.cells.now) cell.old
+        at.dim (Some code))
         hits.old.items hits.new.items cell.old cell.new steps.old steps.new result }
 {
     let entry = Entry::Is(code);
-    let Some(child) = step_by(scan.tree, at.node, at.forced, at.dim, entry, steps) else {
+    let Some(child) = step_with_forced(scan.tree, at.node, at.forced, at.dim, entry, steps) else {
         return Ok(());
     };
     cell.set(at.dim, entry);

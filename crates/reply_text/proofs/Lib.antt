@@ -1,4 +1,4 @@
 mod Names
 mod Records
-mod Told
+mod DecodedCells
 mod ShortFields

@@ -1,5 +1,6 @@
 -- The bytes of replies.
-use Rattle.std.specs.Prelude.{ℕ, Bool, false, ◌==◌, ◌||◌, Option, Some, None, List, [], ◌∷◌, ◌++◌, length, map, codes, decimal, nat_lt, slice_index_or, if◌then◌else◌}
+use Rattle.std.specs.Prelude.{ℕ, Bool, false, ◌==◌, ◌||◌, Option, Some, None, List, [], ◌∷◌, ◌++◌, length, map, codes, decimal, nat_lt}
+use Rattle.std.specs.Prelude.{slice_index_or, if◌then◌else◌}
 use Rattle.std.specs.List.{flat_map, join_with_byte, list_any}
 use Rattle.std.specs.Str.{bytes_eq}
 use Rattle.cube_defs.specs.Text.{Text}
@@ -87,7 +88,8 @@ abbrev pub refused_text : ℕ → List Text → List ℕ
 refused_text line refusal = record_text (codes "refused" ∷ decimal line ∷ refusal)
 
 abbrev pub applied_text : ℕ → ℕ → ℕ → List ℕ
-applied_text line records classes = record_text (codes "applied" ∷ decimal line ∷ decimal records ∷ decimal classes ∷ [])
+applied_text line records classes
+    = record_text (codes "applied" ∷ decimal line ∷ decimal records ∷ decimal classes ∷ [])
 
 -- a dimension came: how many dimensions and classes there are after it
 abbrev pub widened_text : ℕ → ℕ → ℕ → List ℕ
@@ -104,7 +106,8 @@ unpinned_text line name = record_text (codes "unpinned" ∷ decimal line ∷ nam
 -- how many rows, classes and nodes there are, how many edges lead to a node with one value more, and how many others
 abbrev pub stats_text : ℕ → ℕ → ℕ → ℕ → ℕ → ℕ → List ℕ
 stats_text line rows classes nodes tree_edges links =
-    record_text (codes "stats" ∷ decimal line ∷ decimal rows ∷ decimal classes ∷ decimal nodes ∷ decimal tree_edges ∷ decimal links ∷ [])
+    record_text (codes "stats" ∷ decimal line ∷ decimal rows ∷ decimal classes ∷ decimal nodes ∷ decimal tree_edges
+    ∷ decimal links ∷ [])
 
 abbrev pub none_text : ℕ → List ℕ
 none_text line = record_text (codes "none" ∷ decimal line ∷ [])
@@ -144,13 +147,15 @@ entry_text (Some value) = quoted (value_text value)
 -- sum, least, greatest and mean of a measure of this scale
 abbrev pub part_texts : ℕ → ℕ → Part → List Text
 part_texts count scale part =
-    amount_text scale part.sum ∷ amount_text scale part.least ∷ amount_text scale part.greatest ∷ ratio_text (mean_of part count scale) ∷ []
+    amount_text scale part.sum ∷ amount_text scale part.least ∷ amount_text scale part.greatest
+    ∷ ratio_text (mean_of part count scale) ∷ []
 
 -- the same of each measure
 abbrev pub parts_texts : ℕ → List Measure → List Part → List Text
 parts_texts count [] parts = []
 parts_texts count (measure ∷ measures) [] = []
-parts_texts count (measure ∷ measures) (part ∷ parts) = part_texts count measure.scale part ++ parts_texts count measures parts
+parts_texts count (measure ∷ measures) (part ∷ parts)
+    = part_texts count measure.scale part ++ parts_texts count measures parts
 
 -- the count, and then the four numbers of each measure
 abbrev pub agg_texts : List Measure → Agg → List Text
@@ -168,7 +173,8 @@ lower_text line cell = cell_text (codes "lower") line cell []
 
 -- a class: its upper bound with what its rows come to, and then its lower bounds
 abbrev pub class_text : ℕ → List Measure → ClassHit Text → List ℕ
-class_text line measures class = cell_text (codes "class") line class.upper (agg_texts measures class.agg) ++ flat_map (lower_text line) class.lowers
+class_text line measures class = cell_text (codes "class") line class.upper (agg_texts measures class.agg)
+    ++ flat_map (lower_text line) class.lowers
 
 -- the last record of a reply with so many classes
 abbrev pub end_text : ℕ → ℕ → List ℕ
@@ -200,4 +206,5 @@ bounds_reply schema line (Some class) = bounds_text line schema.measures class
 
 -- the reply to `range`, where these cells of the box cover rows, if they are not too many
 abbrev pub range_reply : Layout → ℕ → List (Hit Text) → List ℕ
-range_reply schema line hits = if nat_lt MAX_RANGE_CELLS (length hits) then refused_text line many_texts else range_text line schema.measures hits
+range_reply schema line hits = if nat_lt MAX_RANGE_CELLS (length hits) then refused_text line many_texts
+    else range_text line schema.measures hits

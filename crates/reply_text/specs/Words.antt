@@ -5,7 +5,7 @@ use Rattle.warehouse.specs.declared.refused.Refused.{Refused}
 use Rattle.warehouse.specs.declared.refused.Refused.TheVariants as files
 use Rattle.reply_text.specs.declared.refusals.Detail.{Detail}
 use Rattle.reply_text.specs.declared.refusals.Detail.TheVariants as details
-use Rattle.reply_text.specs.declared.refusals.RefusalWords.{RefusalWords}
+use Rattle.reply_text.specs.declared.refusals.RefusalReport.{RefusalReport}
 use Rattle.reply_text.specs.declared.short.Reply.{Reply}
 use Rattle.reply_text.specs.declared.short.Reply.TheVariants as replies
 
@@ -15,7 +15,7 @@ detail_texts details.Nothing = []
 detail_texts (details.Number k) = decimal k ∷ []
 detail_texts (details.Name name) = name.now ∷ []
 
-abbrev pub texts_of : RefusalWords → List Text
+abbrev pub texts_of : RefusalReport → List Text
 texts_of words = words.code.now ∷ detail_texts words.detail
 
 -- a name that stands in a reply is short
@@ -23,7 +23,7 @@ abbrev pub IsShortDetail : Detail → Type 0
 IsShortDetail (details.Name name) = length name.now ≤ 32
 IsShortDetail detail = ⊤
 
-pub record IsShort (words : RefusalWords) : Type 0 where
+pub record IsShort (words : RefusalReport) : Type 0 where
   pub code : length words.code.now ≤ 14
   pub detail : IsShortDetail words.detail
 

@@ -3,7 +3,7 @@ ghost use Rattle.std.specs.Option.{option_map};
 ghost use Rattle.std.specs.Prelude.{None, OnOk, decimal, length, map, slice_index_or, ◌++◌, ◌<◌, ◌∷◌, ◌≡◌};
 ghost use Rattle.reply_text.specs.Replies.{entry_text, fields_text};
 ghost use Rattle.value_dict.specs.TextLists.{list_at};
-ghost use Rattle.value_dict.specs.Told.{HasTexts, text_of, told_cell};
+ghost use Rattle.value_dict.specs.Decoded.{HasTexts, text_of, decoded_cell};
 
 use crate::fields::{push_field, push_number};
 use crate::values::push_value;
@@ -14,7 +14,9 @@ use value_dict::Dict;
 fn push_entry(out: &mut Vec<u8>, dict: &Dict, cell: &Cell, dim: u8) -> Result<(), Memory>
     requires dim { dim < length cell.now }
     requires texts { HasTexts dict.now.lists cell.now }
-    ensures { OnOk result (out.new.items ≡ out.old.items ++ 44 ∷ entry_text (option_map (text_of (list_at dict.now dim)) (slice_index_or cell.now dim None))) }
+    ensures { OnOk result (out.new.items ≡ out.old.items ++ 44
+        ∷ entry_text (option_map (text_of (list_at dict.now dim))
+        (slice_index_or cell.now dim None))) }
 {
     match cell.get(dim) {
         Entry::Any => push_field(out, b"*"),
@@ -25,7 +27,8 @@ fn push_entry(out: &mut Vec<u8>, dict: &Dict, cell: &Cell, dim: u8) -> Result<()
 /// Appends the cell's fields, each with a comma before it.
 pub fn push_cell(out: &mut Vec<u8>, dict: &Dict, cell: &Cell) -> Result<(), Memory>
     requires { HasTexts dict.now.lists cell.now }
-    ensures { OnOk result (out.new.items ≡ out.old.items ++ fields_text (map entry_text (told_cell dict.now.lists cell.now))) }
+    ensures { OnOk result (out.new.items ≡ out.old.items
+        ++ fields_text (map entry_text (decoded_cell dict.now.lists cell.now))) }
 {
     'dims: for dim in 0..cell.dims() {
         push_entry(out, dict, cell, dim)?;
@@ -34,7 +37,7 @@ pub fn push_cell(out: &mut Vec<u8>, dict: &Dict, cell: &Cell) -> Result<(), Memo
 }
 
 /// Appends the first fields of a record: a word, the line's number and a cell.
-pub fn push_head(
+pub fn push_record_start(
     out: &mut Vec<u8>,
     word: &[u8],
     line: u32,
@@ -42,7 +45,8 @@ pub fn push_head(
     cell: &Cell,
 ) -> Result<(), Memory>
     requires { HasTexts dict.now.lists cell.now }
-    ensures { OnOk result (out.new.items ≡ out.old.items ++ word.now ++ fields_text (decimal line ∷ map entry_text (told_cell dict.now.lists cell.now))) }
+    ensures { OnOk result (out.new.items ≡ out.old.items ++ word.now
+        ++ fields_text (decimal line ∷ map entry_text (decoded_cell dict.now.lists cell.now))) }
 {
     out.extend_from_slice(word)?;
     push_number(out, u64::from(line))?;

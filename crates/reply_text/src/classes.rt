@@ -1,12 +1,12 @@
 // The replies that report classes with their bounds.
 ghost use Rattle.std.specs.List.{All, flat_map};
 ghost use Rattle.std.specs.Prelude.{IfOk, OnOk, length, map, ◌++◌, ◌≡◌};
-ghost use Rattle.iceberg_query.specs.Hits.{told_classes};
+ghost use Rattle.iceberg_query.specs.Hits.{decoded_classes};
 ghost use Rattle.lower_bounds.specs.Classes.{hit_in};
 ghost use Rattle.reply_text.specs.Replies.{bounds_text, class_text, iceberg_text, lower_text};
-ghost use Rattle.value_dict.specs.Told.{HasTexts, IsTellableClass, told_cell, told_hit};
+ghost use Rattle.value_dict.specs.Decoded.{HasTexts, IsDecodableClass, decoded_cell, decoded_class};
 
-use crate::cells::push_head;
+use crate::cells::push_record_start;
 use crate::fields::push_end;
 use crate::totals::push_agg;
 use cell_core::{Cell, Cells, Memory};
@@ -18,9 +18,10 @@ use value_dict::Dict;
 // The record of a lower bound.
 fn push_lower(out: &mut Vec<u8>, line: u32, dict: &Dict, cell: &Cell) -> Result<(), Memory>
     requires { HasTexts dict.now.lists cell.now }
-    ensures { OnOk result (out.new.items ≡ out.old.items ++ lower_text line (told_cell dict.now.lists cell.now)) }
+    ensures { OnOk result (out.new.items ≡ out.old.items
+        ++ lower_text line (decoded_cell dict.now.lists cell.now)) }
 {
-    push_head(out, b"lower", line, dict, cell)?;
+    push_record_start(out, b"lower", line, dict, cell)?;
     out.push(b'\n')?;
     Ok(())
 }
@@ -28,7 +29,8 @@ fn push_lower(out: &mut Vec<u8>, line: u32, dict: &Dict, cell: &Cell) -> Result<
 // The records of all lower bounds.
 fn push_lowers(out: &mut Vec<u8>, line: u32, dict: &Dict, cells: &Cells) -> Result<(), Memory>
     requires { All (HasTexts dict.now.lists) cells.now }
-    ensures { OnOk result (out.new.items ≡ out.old.items ++ flat_map (lower_text line) (map (told_cell dict.now.lists) cells.now)) }
+    ensures { OnOk result (out.new.items ≡ out.old.items ++ flat_map (lower_text line)
+        (map (decoded_cell dict.now.lists) cells.now)) }
 {
     'cells: for k in 0..cells.len() {
         push_lower(out, line, dict, cells.get(k))?;
@@ -44,10 +46,11 @@ fn push_class(
     dict: &Dict,
     class: &Class,
 ) -> Result<(), Memory>
-    requires { IsTellableClass dict.now.lists (length schema.now.measures) (hit_in class.now) }
-    ensures { OnOk result (out.new.items ≡ out.old.items ++ class_text line schema.now.measures (told_hit dict.now.lists (hit_in class.now))) }
+    requires { IsDecodableClass dict.now.lists (length schema.now.measures) (hit_in class.now) }
+    ensures { OnOk result (out.new.items ≡ out.old.items ++ class_text line schema.now.measures
+        (decoded_class dict.now.lists (hit_in class.now))) }
 {
-    push_head(out, b"class", line, dict, &class.upper)?;
+    push_record_start(out, b"class", line, dict, &class.upper)?;
     push_agg(out, schema, &class.total)?;
     out.push(b'\n')?;
     push_lowers(out, line, dict, &class.lowers)
@@ -61,8 +64,11 @@ fn push_classes(
     dict: &Dict,
     classes: &[Class],
 ) -> Result<(), Memory>
-    requires { All (λ class. IsTellableClass dict.now.lists (length schema.now.measures) (hit_in class)) classes.now }
-    ensures { OnOk result (out.new.items ≡ out.old.items ++ flat_map (class_text line schema.now.measures) (told_classes dict.now.lists classes.now)) }
+    requires { All (λ class. IsDecodableClass dict.now.lists (length schema.now.measures)
+        (hit_in class)) classes.now }
+    ensures { OnOk result (out.new.items ≡ out.old.items
+        ++ flat_map (class_text line schema.now.measures)
+        (decoded_classes dict.now.lists classes.now)) }
 {
     'classes: for class in classes {
         push_class(out, line, schema, dict, class)?;
@@ -78,8 +84,9 @@ pub fn bounds_reply(
     dict: &Dict,
     class: &Class,
 ) -> Result<Vec<u8>, Memory>
-    requires { IsTellableClass dict.now.lists (length schema.now.measures) (hit_in class.now) }
-    ensures { IfOk result (λ reply. reply.items ≡ bounds_text line schema.now.measures (told_hit dict.now.lists (hit_in class.now))) }
+    requires { IsDecodableClass dict.now.lists (length schema.now.measures) (hit_in class.now) }
+    ensures { IfOk result (λ reply. reply.items ≡ bounds_text line schema.now.measures
+        (decoded_class dict.now.lists (hit_in class.now))) }
 {
     let mut out = Vec::new(alloc);
     push_class(&mut out, line, schema, dict, class)?;
@@ -95,8 +102,10 @@ pub fn iceberg_reply(
     dict: &Dict,
     classes: &[Class],
 ) -> Result<Vec<u8>, Memory>
-    requires { All (λ class. IsTellableClass dict.now.lists (length schema.now.measures) (hit_in class)) classes.now }
-    ensures { IfOk result (λ reply. reply.items ≡ iceberg_text line schema.now.measures (told_classes dict.now.lists classes.now)) }
+    requires { All (λ class. IsDecodableClass dict.now.lists (length schema.now.measures)
+        (hit_in class)) classes.now }
+    ensures { IfOk result (λ reply. reply.items ≡ iceberg_text line schema.now.measures
+        (decoded_classes dict.now.lists classes.now)) }
 {
     let mut out = Vec::new(alloc);
     push_classes(&mut out, line, schema, dict, classes)?;

@@ -15,9 +15,10 @@ pub use classes::{bounds_reply, iceberg_reply};
 pub use points::{point_reply, push_point};
 pub use ranges::range_reply;
 pub use refusals::{
-    Detail, RefusalWords, words_of_all_pinned, words_of_file, words_of_line, words_of_many,
-    words_of_name_taken, words_of_not_pinned, words_of_pinned, words_of_size, words_of_widening,
+    Detail, RefusalReport, all_pinned_refusal, file_refusal, line_refusal, many_refusal,
+    name_taken_refusal, not_pinned_refusal, pinned_refusal, size_refusal, widen_refusal,
 };
 pub use short::{
-    Reply, ShortReply, applied, memory, none, pinned, refused, stats, unpinned, widened,
+    Reply, ShortReply, applied_reply, memory_reply, none_reply, pinned_reply, refused, stats_reply,
+    unpinned_reply, widened_reply,
 };

@@ -2,9 +2,9 @@
 ghost use Rattle.std.specs.Prelude.{IfOk, OnOk, length, ◌++◌, ◌≡◌};
 ghost use Rattle.aggregates.specs.Views.{agg_in};
 ghost use Rattle.reply_text.specs.Replies.{point_text};
-ghost use Rattle.value_dict.specs.Told.{HasTexts, told_cell};
+ghost use Rattle.value_dict.specs.Decoded.{HasTexts, decoded_cell};
 
-use crate::cells::push_head;
+use crate::cells::push_record_start;
 use crate::totals::push_agg;
 use aggregates::Agg;
 use cell_core::{Cell, Memory};
@@ -26,9 +26,11 @@ pub fn push_point(
 ) -> Result<(), Memory>
     requires texts { HasTexts dict.now.lists cell.now }
     requires parts { length (agg_in total.now).parts ≡ length schema.now.measures }
-    ensures { OnOk result (out.new.items ≡ out.old.items ++ point_text line (told_cell dict.now.lists cell.now) schema.now.measures (agg_in total.now)) }
+    ensures { OnOk result (out.new.items ≡ out.old.items
+        ++ point_text line (decoded_cell dict.now.lists cell.now) schema.now.measures
+        (agg_in total.now)) }
 {
-    push_head(out, b"point", line, dict, cell)?;
+    push_record_start(out, b"point", line, dict, cell)?;
     push_agg(out, schema, total)?;
     out.push(b'\n')?;
     Ok(())
@@ -45,7 +47,8 @@ pub fn point_reply(
 ) -> Result<Vec<u8>, Memory>
     requires texts { HasTexts dict.now.lists cell.now }
     requires parts { length (agg_in total.now).parts ≡ length schema.now.measures }
-    ensures { IfOk result (λ reply. reply.items ≡ point_text line (told_cell dict.now.lists cell.now) schema.now.measures (agg_in total.now)) }
+    ensures { IfOk result (λ reply. reply.items ≡ point_text line
+        (decoded_cell dict.now.lists cell.now) schema.now.measures (agg_in total.now)) }
 {
     let mut out = Vec::with_capacity(alloc, ROOM)?;
     push_point(&mut out, line, schema, dict, cell, total)?;

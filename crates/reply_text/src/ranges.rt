@@ -1,10 +1,10 @@
 // The reply that reports the cells of a box.
 ghost use Rattle.std.specs.List.{All, flat_map};
 ghost use Rattle.std.specs.Prelude.{IfOk, OnOk, length, ◌++◌, ◌≡◌};
-ghost use Rattle.range_query.specs.Told.{IsTellableHit, hit_in, told_hit, told_hits};
+ghost use Rattle.range_query.specs.DecodedHits.{IsDecodableHit, hit_in, decoded_hit, decoded_hits};
 ghost use Rattle.reply_text.specs.Replies.{hit_text, range_text};
 
-use crate::cells::push_head;
+use crate::cells::push_record_start;
 use crate::fields::push_end;
 use crate::totals::push_agg;
 use cell_core::Memory;
@@ -21,10 +21,11 @@ fn push_hit(
     dict: &Dict,
     hit: &Hit,
 ) -> Result<(), Memory>
-    requires { IsTellableHit dict.now.lists (length schema.now.measures) (hit_in hit.now) }
-    ensures { OnOk result (out.new.items ≡ out.old.items ++ hit_text line schema.now.measures (told_hit dict.now.lists (hit_in hit.now))) }
+    requires { IsDecodableHit dict.now.lists (length schema.now.measures) (hit_in hit.now) }
+    ensures { OnOk result (out.new.items ≡ out.old.items ++ hit_text line schema.now.measures
+        (decoded_hit dict.now.lists (hit_in hit.now))) }
 {
-    push_head(out, b"cell", line, dict, &hit.cell)?;
+    push_record_start(out, b"cell", line, dict, &hit.cell)?;
     push_agg(out, schema, &hit.agg)?;
     out.push(b'\n')?;
     Ok(())
@@ -38,8 +39,10 @@ fn push_hits(
     dict: &Dict,
     hits: &[Hit],
 ) -> Result<(), Memory>
-    requires { All (λ hit. IsTellableHit dict.now.lists (length schema.now.measures) (hit_in hit)) hits.now }
-    ensures { OnOk result (out.new.items ≡ out.old.items ++ flat_map (hit_text line schema.now.measures) (told_hits dict.now.lists hits.now)) }
+    requires { All (λ hit. IsDecodableHit dict.now.lists (length schema.now.measures)
+        (hit_in hit)) hits.now }
+    ensures { OnOk result (out.new.items ≡ out.old.items
+        ++ flat_map (hit_text line schema.now.measures) (decoded_hits dict.now.lists hits.now)) }
 {
     'hits: for hit in hits {
         push_hit(out, line, schema, dict, hit)?;
@@ -55,8 +58,10 @@ pub fn range_reply(
     dict: &Dict,
     hits: &[Hit],
 ) -> Result<Vec<u8>, Memory>
-    requires { All (λ hit. IsTellableHit dict.now.lists (length schema.now.measures) (hit_in hit)) hits.now }
-    ensures { IfOk result (λ reply. reply.items ≡ range_text line schema.now.measures (told_hits dict.now.lists hits.now)) }
+    requires { All (λ hit. IsDecodableHit dict.now.lists (length schema.now.measures)
+        (hit_in hit)) hits.now }
+    ensures { IfOk result (λ reply. reply.items ≡ range_text line schema.now.measures
+        (decoded_hits dict.now.lists hits.now)) }
 {
     let mut out = Vec::new(alloc);
     push_hits(&mut out, line, schema, dict, hits)?;

@@ -2,7 +2,7 @@
 ghost use Rattle.std.specs.Prelude.{[], decimal, length, ◌+◌, ◌++◌, ◌<◌, ◌∷◌, ◌≡◌, ◌≤◌};
 ghost use Rattle.reply_text.specs.Replies.{applied_text, fields_text, memory_text, none_text, pinned_text, refused_text, stats_text, unpinned_text, widened_text};
 
-use crate::refusals::{Detail, RefusalWords};
+use crate::refusals::{Detail, RefusalReport};
 use arrayvec::ArrayString;
 use itoa::Buffer;
 use std::marker::Model;
@@ -120,21 +120,21 @@ impl ShortReply {
 }
 
 /// The reply to a line that ran out of memory and changed nothing.
-pub fn memory(line: u32) -> ShortReply
+pub fn memory_reply(line: u32) -> ShortReply
     ensures { result ≡ memory_text line }
 {
     begun("memory", line).ended()
 }
 
 /// The reply to a query of a cell that covers no row.
-pub fn none(line: u32) -> ShortReply
+pub fn none_reply(line: u32) -> ShortReply
     ensures { result ≡ none_text line }
 {
     begun("none", line).ended()
 }
 
 /// The reply to a file that was applied: its number of records, and the number of classes after it.
-pub fn applied(line: u32, records: u32, classes: u32) -> ShortReply
+pub fn applied_reply(line: u32, records: u32, classes: u32) -> ShortReply
     ensures { result ≡ applied_text line records classes }
 {
     let mut reply = begun("applied", line);
@@ -144,7 +144,7 @@ pub fn applied(line: u32, records: u32, classes: u32) -> ShortReply
 }
 
 /// The reply to `widen`: the numbers of dimensions and classes after it.
-pub fn widened(line: u32, dims: u8, classes: u32) -> ShortReply
+pub fn widened_reply(line: u32, dims: u8, classes: u32) -> ShortReply
     ensures { result ≡ widened_text line dims classes }
 {
     let mut reply = begun("widened", line);
@@ -154,7 +154,7 @@ pub fn widened(line: u32, dims: u8, classes: u32) -> ShortReply
 }
 
 /// The reply to `pin`: the name, and the number of classes of the rows that it pins.
-pub fn pinned(line: u32, name: &str, classes: u32) -> ShortReply
+pub fn pinned_reply(line: u32, name: &str, classes: u32) -> ShortReply
     requires { length name.now ≤ 32 }
     ensures { result ≡ pinned_text line name.now classes }
 {
@@ -165,7 +165,7 @@ pub fn pinned(line: u32, name: &str, classes: u32) -> ShortReply
 }
 
 /// The reply to `unpin`, with the name that was dropped.
-pub fn unpinned(line: u32, name: &str) -> ShortReply
+pub fn unpinned_reply(line: u32, name: &str) -> ShortReply
     requires { length name.now ≤ 32 }
     ensures { result ≡ unpinned_text line name.now }
 {
@@ -175,8 +175,9 @@ pub fn unpinned(line: u32, name: &str) -> ShortReply
 }
 
 /// The counts of the rows and of their tree.
-pub fn stats(line: u32, counts: Stats) -> ShortReply
-    ensures { result ≡ stats_text line counts.rows counts.classes counts.nodes counts.tree_edges counts.links }
+pub fn stats_reply(line: u32, counts: Stats) -> ShortReply
+    ensures { result ≡ stats_text line counts.rows counts.classes counts.nodes counts.tree_edges
+        counts.links }
 {
     let mut reply = begun("stats", line);
     reply.number(counts.rows);
@@ -188,7 +189,7 @@ pub fn stats(line: u32, counts: Stats) -> ShortReply
 }
 
 /// The reply to a line that was refused and changed nothing.
-pub fn refused(line: u32, words: RefusalWords<'_>) -> ShortReply
+pub fn refused(line: u32, words: RefusalReport<'_>) -> ShortReply
     requires { IsShort words }
     ensures { result ≡ refused_text line (texts_of words.entry) }
 {

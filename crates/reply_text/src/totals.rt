@@ -41,7 +41,8 @@ fn push_part(out: &mut Vec<u8>, agg: &Agg, measure: u8, scale: u8) -> Result<(),
     requires there { measure < agg.now.measures }
     requires scale { scale ≤ MAX_SCALE }
     ensures there { measure < length (agg_in agg.now).parts }
-    ensures numbers { OnOk result (out.new.items ≡ out.old.items ++ fields_text (part_texts agg.now.count scale (part (agg_in agg.now) measure))) }
+    ensures numbers { OnOk result (out.new.items ≡ out.old.items
+        ++ fields_text (part_texts agg.now.count scale (part (agg_in agg.now) measure))) }
 {
     let part = part_at(agg, measure);
     push_amount(out, part.sum, scale)?;
@@ -61,7 +62,8 @@ fn measures_of(agg: &Agg) -> u8
 // The four numbers of each measure.
 fn push_parts(out: &mut Vec<u8>, schema: &Schema, agg: &Agg) -> Result<(), Memory>
     requires { length (agg_in agg.now).parts ≡ length schema.now.measures }
-    ensures { OnOk result (out.new.items ≡ out.old.items ++ fields_text (parts_texts agg.now.count schema.now.measures (agg_in agg.now).parts)) }
+    ensures { OnOk result (out.new.items ≡ out.old.items
+        ++ fields_text (parts_texts agg.now.count schema.now.measures (agg_in agg.now).parts)) }
 {
     let dims = schema.dims();
     for measure in 0..measures_of(agg) {
@@ -73,7 +75,8 @@ fn push_parts(out: &mut Vec<u8>, schema: &Schema, agg: &Agg) -> Result<(), Memor
 /// Appends the aggregate of some rows: their count, and the four numbers of each measure.
 pub fn push_agg(out: &mut Vec<u8>, schema: &Schema, agg: &Agg) -> Result<(), Memory>
     requires { length (agg_in agg.now).parts ≡ length schema.now.measures }
-    ensures { OnOk result (out.new.items ≡ out.old.items ++ fields_text (agg_texts schema.now.measures (agg_in agg.now))) }
+    ensures { OnOk result (out.new.items ≡ out.old.items
+        ++ fields_text (agg_texts schema.now.measures (agg_in agg.now))) }
 {
     push_number(out, u64::from(agg.count))?;
     push_parts(out, schema, agg)

@@ -11,7 +11,7 @@ pub struct Draws {
 
 impl Draws {
     /// Draws the next number, which is smaller than `most`.
-    pub fn next_below(&mut self, most: u32) -> u32
+    pub fn next_less_than(&mut self, most: u32) -> u32
         requires { 0 < most }
         ensures state { self.new.state ≡ after_draw self.old.state }
         ensures number { result ≡ number_drawn most self.new.state }

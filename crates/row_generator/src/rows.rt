@@ -20,10 +20,11 @@ fn push_number(out: &mut Vec<u8>, number: u32) -> Result<(), Memory>
 fn push_value(out: &mut Vec<u8>, name: u8, most: u32, draws: &mut Draws) -> Result<(), Memory>
     requires { 0 < most }
     ensures state { draws.new.state ≡ after_draw draws.old.state }
-    ensures text { OnOk result (out.new.items ≡ out.old.items ++ value_text name most draws.old.state) }
+    ensures text { OnOk result (out.new.items ≡ out.old.items
+        ++ value_text name most draws.old.state) }
     ensures short { OnOk result (length out.new.items ≤ length out.old.items + 12) }
 {
-    let number = draws.next_below(most);
+    let number = draws.next_less_than(most);
     out.push(b',')?;
     out.push(name)?;
     push_number(out, number)
@@ -51,7 +52,8 @@ fn amount(id: u32) -> i64
 
 // Appends a comma and the field of the amount.
 fn push_amount(out: &mut Vec<u8>, id: u32) -> Result<(), Memory>
-    ensures text { OnOk result (out.new.items ≡ out.old.items ++ 44 ∷ amount_text 2 (amount_of id)) }
+    ensures text { OnOk result (out.new.items ≡ out.old.items ++ 44
+        ∷ amount_text 2 (amount_of id)) }
     ensures short { OnOk result (length out.new.items ≤ length out.old.items + 49) }
 {
     let mut text = [0; 48];
@@ -85,7 +87,8 @@ pub fn push_rows(
     requires ids { first + count < 2 ^ 32 }
     requires front { length front.now ≤ 8 }
     ensures state { OnOk result (draws.new.state ≡ after_rows count draws.old.state) }
-    ensures text { OnOk result (out.new.items ≡ out.old.items ++ rows_text front.now count first draws.old.state) }
+    ensures text { OnOk result (out.new.items ≡ out.old.items
+        ++ rows_text front.now count first draws.old.state) }
     ensures short { OnOk result (length out.new.items ≤ length out.old.items + 128 * count) }
 {
     let mut left = count;

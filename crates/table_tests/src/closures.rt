@@ -48,7 +48,7 @@ fn are_parts(
     }
     let nos = table.all(alloc)?;
     let mut parts = Parts::new(alloc);
-    parts.part_into(table, &nos, dim)?;
+    parts.regroup(table, &nos, dim)?;
     let pairs = pairs_of(alloc, &parts)?;
     Ok(pairs.as_slice() == want)
 }

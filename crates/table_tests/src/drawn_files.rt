@@ -3,7 +3,8 @@ use cube_defs::MAX_ROWS;
 use row_generator::{BATCHES, Draws, write_base, write_batch};
 use std::alloc::Global;
 
-// Rows, a seed, their base file, how many batches come before the one that follows, and the draws after it.
+// Rows, a seed, their base file, how many batches come before the one that follows, and the draws
+// after it.
 type Drawn = (u32, u64, &'static str, u32, &'static str, u64);
 
 static FILES: [Drawn; 5] = [

@@ -214,7 +214,8 @@ fn are_ordered(alloc: Global, dict: &Dict) -> bool {
     true
 }
 
-/// Whether fields ask for the cells and the boxes that they should, and cells are ordered by their texts.
+/// Whether fields ask for the cells and the boxes that they should, and cells are ordered by their
+/// texts.
 pub(crate) fn are_right(alloc: Global) -> bool {
     let Ok(dict) = letters(alloc) else {
         return false;

@@ -46,7 +46,8 @@ fn all_end<F: Files>(alloc: Global, files: &mut F, readings: &[Reading]) -> bool
 // A file: its name, and its bytes.
 type File<'a> = (&'a str, &'a [u8]);
 
-// These files in memory, which give so many bytes a read. Of their calls those that are listed fail.
+// These files in memory, which give so many bytes a read. Of their calls those that are listed
+// fail.
 fn files_of(alloc: Global, fails: &[u64], piece: usize, given: &[File<'_>]) -> Option<MemoryFiles>
     ensures { IfSome result (λ files. files.store.open_name ≡ None) }
 {
@@ -90,7 +91,8 @@ static LIMITS: [Reading; 5] = [
 
 static PIECES: [usize; 4] = [1, 3, 10, 100];
 
-// A whole reading in pieces of three is one `open` and five `read`s, the last at the end. The call that fails is of the first
+// A whole reading in pieces of three is one `open` and five `read`s, the last at the end. The call
+// that fails is of the first
 // reading or of the second, and the third has none.
 static FIRST_FAILS: [Reading; 3] = [
     ("ten", 10, End::Failed),

@@ -2,11 +2,12 @@
 use csv::ByteRecord;
 use std::alloc::Global;
 use text_lines::{
-    RecordReader, field, has_two_marks, is_comment_line, is_plain, split_line, trim_cr, trim_mark,
+    RecordReader, field, has_two_byte_order_marks, is_comment_line, is_plain, split_line,
+    trim_byte_order_mark, trim_cr,
 };
 
 fn are_lines_cut() -> bool {
-    let text = trim_mark(b"\xef\xbb\xbf# x\r\ny");
+    let text = trim_byte_order_mark(b"\xef\xbb\xbf# x\r\ny");
     let (first, after) = split_line(text);
     text.len() == 6
         && trim_cr(first) == b"# x".as_slice()
@@ -15,8 +16,8 @@ fn are_lines_cut() -> bool {
 }
 
 fn are_marks_and_quotes_seen() -> bool {
-    !has_two_marks(b"\xef\xbb\xbfx")
-        && has_two_marks(b"\xef\xbb\xbf\xef\xbb\xbf")
+    !has_two_byte_order_marks(b"\xef\xbb\xbfx")
+        && has_two_byte_order_marks(b"\xef\xbb\xbf\xef\xbb\xbf")
         && is_plain("a,b c")
         && !is_plain("a,\"b\"")
 }

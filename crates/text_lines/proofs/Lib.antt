@@ -6,3 +6,4 @@ mod Splits
 mod WordSplits
 pub mod Pieces
 mod Fields
+pub mod CallerLemmas

@@ -25,14 +25,16 @@ unmarked (a ∷ b ∷ c ∷ rest) e = by (is_bom a b c) refl
     by false m = refl
 
 -- so the records are those of the text as it stands
-pub as_it_stands : (text : List ℕ) → begins_with_mark text ≡ false → records default_config (strip_bom text) ≡ records default_config text
+pub as_it_stands : (text : List ℕ) → begins_with_mark text ≡ false
+    → records default_config (strip_bom text) ≡ records default_config text
 as_it_stands text e = ap (records default_config) (unmarked text e)
 
 -- no mark stands behind the one that is dropped, where there aren't two
 pub no_second : (text : List ℕ) → begins_with_two_marks text ≡ false → begins_with_mark (without_mark text) ≡ false
 no_second text e = by (begins_with_mark text) refl e
   where
-    by : (b : Bool) → begins_with_mark text ≡ b → (b && begins_with_mark (drop 3 text)) ≡ false → begins_with_mark (cond b (drop 3 text) text) ≡ false
+    by : (b : Bool) → begins_with_mark text ≡ b → (b && begins_with_mark (drop 3 text)) ≡ false
+        → begins_with_mark (cond b (drop 3 text) text) ≡ false
     by true is m = m
     by false is m = is
 

@@ -3,21 +3,21 @@ ghost use Rattle.std.specs.Prelude.{◌≡◌, ◌≤◌};
 ghost use Rattle.text_lines.specs.Lines.{begins_with_mark, begins_with_two_marks, without_mark};
 
 /// Whether a text begins with a byte order mark.
-pub fn has_mark(text: &[u8]) -> bool
+pub fn has_byte_order_mark(text: &[u8]) -> bool
     ensures { result ≡ begins_with_mark text.now }
 {
     matches!(text, [0xEF, 0xBB, 0xBF, ..])
 }
 
 /// Whether a text begins with two byte order marks.
-pub fn has_two_marks(text: &[u8]) -> bool
+pub fn has_two_byte_order_marks(text: &[u8]) -> bool
     ensures { result ≡ begins_with_two_marks text.now }
 {
-    has_mark(text) && has_mark(&text[3..])
+    has_byte_order_mark(text) && has_byte_order_mark(&text[3..])
 }
 
 /// A text without the byte order mark at its start.
-pub fn trim_mark(text: &[u8]) -> &[u8]
+pub fn trim_byte_order_mark(text: &[u8]) -> &[u8]
     ensures { result.now ≡ without_mark text.now }
 {
     match text {

@@ -8,7 +8,7 @@ mod plain;
 mod record_reader;
 mod words;
 
-pub use byte_order_mark::{has_mark, has_two_marks, trim_mark};
+pub use byte_order_mark::{has_byte_order_mark, has_two_byte_order_marks, trim_byte_order_mark};
 pub use lines::{is_comment_line, split_line, trim_cr};
 pub use plain::is_plain;
 pub use record_reader::{RecordReader, field};

@@ -75,7 +75,9 @@ impl<'a> RecordReader<'a> {
 
     /// Reads the next record. False if there is none. After an `Err` no record is left.
     pub fn next(&mut self, row: &mut ByteRecord) -> Result<bool, AllocError>
-        ensures next { IfOk result (λ found. MatchBool found (self.old ≡ fields_of row.new ∷ self.new) ((self.old ≡ []) × (self.new ≡ []))) }
+        ensures next { IfOk result
+            (λ found. MatchBool found (self.old ≡ fields_of row.new ∷ self.new) ((self.old ≡ [])
+            × (self.new ≡ []))) }
         ensures err { OnErr result (self.new ≡ []) }
     {
         if self.done {

@@ -17,7 +17,8 @@ fn trim_spaces(line: &[u8]) -> &[u8]
 
 /// The first word, and the text after it. None if there is no word.
 pub fn split_word(line: &[u8]) -> Option<(&[u8], &[u8])>
-    ensures { MatchOption result (words_of line.now ≡ []) (λ p. words_of line.now ≡ p.0.now ∷ words_of p.1.now) }
+    ensures { MatchOption result (words_of line.now ≡ []) (λ p. words_of line.now ≡ p.0.now
+        ∷ words_of p.1.now) }
 {
     let text = trim_spaces(line);
     if text.is_empty() {

@@ -1,5 +1,5 @@
 pub mod Lists
-pub mod Fronts
+pub mod Prefixes
 pub mod Nexts
 pub mod Leads
 pub mod Edges
@@ -26,3 +26,4 @@ pub mod MoreCounts
 pub mod TreeEdges
 pub mod Targets
 pub mod EdgeLists
+pub mod CallerLemmas

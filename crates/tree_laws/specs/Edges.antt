@@ -22,4 +22,5 @@ pub record IsCodedNode {A B : Type 0} (codes : ℕ → A → B) (n : Node A (Cel
   pub parent : m.parent ≡ option_map (coded_cell codes 0) n.parent
   pub class : m.class ≡ n.class
   pub forced : m.forced ≡ option_map (coded_edge codes) n.forced
-  pub edges : (y : Edge B (Cell B)) → Among y m.edges ↔ ((x : Edge A (Cell A)) × Among x n.edges × (y ≡ coded_edge codes x))
+  pub edges : (y : Edge B (Cell B)) → Among y m.edges
+      ↔ ((x : Edge A (Cell A)) × Among x n.edges × (y ≡ coded_edge codes x))

@@ -23,7 +23,8 @@ pub record IsWithin {A : Type 0} (p : Cell A) (e : ℕ) (i : ℕ) : Type 0 where
   pub within : i < length p
 
 -- an edge of p's record
-pub record IsLabel {A : Type 0} (cmp : A → A → Ordering) (rows : List (Row A)) (p : Cell A) (e : ℕ) (x : Edge A (Cell A)) : Type 0 where
+pub record IsLabel {A : Type 0} (cmp : A → A → Ordering) (rows : List (Row A)) (p : Cell A) (e : ℕ)
+    (x : Edge A (Cell A)) : Type 0 where
   pub place : IsWithin p e x.dim
   pub leads : target_of_label (eq_by_cmp cmp) rows p x.dim x.value ≡ Some x.target
 

@@ -3,4 +3,4 @@ pub mod Walk
 pub mod Renaming
 pub mod Counts
 pub mod Edges
-pub mod Below
+pub mod GeneralizingCells

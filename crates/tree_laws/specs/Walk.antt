@@ -2,7 +2,7 @@
 use Rattle.std.specs.Prelude.{ℕ, zero, suc, Bool, ◌&&◌, Option, Some, None, List, [], ◌∷◌, nat_eq, slice_index_or, if◌then◌else◌}
 use Rattle.std.specs.Option.{option_map, option_and_then}
 use Rattle.std.specs.FinMap as map
-use Rattle.cube_defs.specs.Cell.{Cell, cell_front, last, with_value}
+use Rattle.cube_defs.specs.Cell.{Cell, cell_prefix, last, with_value}
 use Rattle.cube_defs.specs.Rows.{Row, closure}
 use Rattle.cube_defs.specs.Tree.{Edge, Node, Tree}
 
@@ -34,11 +34,12 @@ module _ {A : Type 0} (eq : A → A → Bool) where
   -- on from the node k through the dimensions from i, by the entries that are asked in them
   abbrev pub walk : Tree A → Cell A → ℕ → ℕ → Option ℕ
   walk tree [] k i = Some k
-  walk tree (a ∷ c) k i = option_and_then (λ n. option_and_then (λ l. walk tree c l (suc i)) (walk_on k n i a)) (map.get tree k)
+  walk tree (a ∷ c) k i =
+      option_and_then (λ n. option_and_then (λ l. walk tree c l (suc i)) (walk_on k n i a)) (map.get tree k)
 
   -- where a walk to c stands before dimension i: the front, i dimensions long, of the closure of c's front
-  abbrev pub closure_front : List (Row A) → Cell A → ℕ → Option (Cell A)
-  closure_front rows c i = option_map (cell_front i) (closure eq rows (cell_front i c))
+  abbrev pub closure_prefix : List (Row A) → Cell A → ℕ → Option (Cell A)
+  closure_prefix rows c i = option_map (cell_prefix i) (closure eq rows (cell_prefix i c))
 
 -- a cell's last dimension with a value, and that value
 abbrev pub last_label : {A : Type 0} → Cell A → Option (ℕ × A)

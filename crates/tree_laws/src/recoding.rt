@@ -20,7 +20,8 @@ pub fn records_under_recoding<A: Value, B: Value>()
         (measures : ℕ) (rows : List (Row A)) (p : Cell A) (n : Node A (Cell A)) →
         RowsAreKnown known rows → IsTrue (is_node (eq_by_cmp A.cmp) rows p) →
         node_of A.cmp measures rows p ≡ Some n →
-        (m : Node B (Cell B)) × (node_of B.cmp measures (map (coded_row codes) rows) (coded_cell codes 0 p) ≡ Some m) × IsCodedNode codes n m }
+        (m : Node B (Cell B)) × (node_of B.cmp measures (map (coded_row codes) rows)
+        (coded_cell codes 0 p) ≡ Some m) × IsCodedNode codes n m }
 {}
 
 /// Coded rows have as many classes, nodes, tree edges and links as the rows have.
@@ -44,7 +45,8 @@ pub fn counts_under_recoding<A: Value, B: Value>()
 pub fn lower_bounds_under_recoding<A: Value, B: Value>()
     ensures { (known : ℕ → A → Bool) (codes : ℕ → A → B) → TellsApart known codes →
         (dims : ℕ) (rows : List (Row A)) (u : Cell A) → RowsAreKnown known rows →
-        AllByRecursion (λ row. length row.tuple ≡ dims) rows → AreKnown known 0 u → length u ≡ dims →
+        AllByRecursion (λ row. length row.tuple ≡ dims) rows → AreKnown known 0 u
+        → length u ≡ dims →
         lower_bounds B.cmp (map (coded_row codes) rows) (coded_cell codes 0 u)
         ≡ map (coded_cell codes 0) (lower_bounds A.cmp rows u) }
 {}

@@ -23,9 +23,12 @@ pub fn trees_of_the_same_rows<V: Value>()
 /// Rows with the same tuples, in any order and with any repetition, have the same records except
 /// for the aggregates. If the aggregates are the same too, so are the whole records (own).
 pub fn records_of_the_same_tuples<V: Value>()
-    ensures shapes { (measures : ℕ) (rows more : List (Row V)) (p : Cell V) → TuplesAmong rows more → TuplesAmong more rows →
-        option_map shape (node_of V.cmp measures rows p) ≡ option_map shape (node_of V.cmp measures more p) }
-    ensures records { (measures : ℕ) (rows more : List (Row V)) (p : Cell V) → TuplesAmong rows more → TuplesAmong more rows →
+    ensures shapes { (measures : ℕ) (rows more : List (Row V)) (p : Cell V) → TuplesAmong rows more
+        → TuplesAmong more rows →
+        option_map shape (node_of V.cmp measures rows p) ≡ option_map shape
+        (node_of V.cmp measures more p) }
+    ensures records { (measures : ℕ) (rows more : List (Row V)) (p : Cell V) → TuplesAmong rows more
+        → TuplesAmong more rows →
         agg (eq_by_cmp V.cmp) measures rows p ≡ agg (eq_by_cmp V.cmp) measures more p →
         node_of V.cmp measures rows p ≡ node_of V.cmp measures more p }
 {}
@@ -34,12 +37,14 @@ pub fn records_of_the_same_tuples<V: Value>()
 pub fn rows_in_any_order<V: Value>()
     ensures records { (measures : ℕ) (rows more : List (Row V)) (p : Cell V) → Reordered rows more →
         node_of V.cmp measures rows p ≡ node_of V.cmp measures more p }
-    ensures trees { (measures : ℕ) (rows more : List (Row V)) (tree : Tree V) → Reordered rows more →
+    ensures trees { (measures : ℕ) (rows more : List (Row V)) (tree : Tree V)
+        → Reordered rows more →
         IsCanonical V.cmp measures rows tree ↔ IsCanonical V.cmp measures more tree }
 {}
 
 /// If all rows have as many values as there are dimensions, they have a canonical tree (own).
 pub fn rows_have_a_tree<V: Value>()
-    ensures { (dims measures : ℕ) (rows : List (Row V)) → AllByRecursion (λ row. length row.tuple ≡ dims) rows →
+    ensures { (dims measures : ℕ) (rows : List (Row V))
+        → AllByRecursion (λ row. length row.tuple ≡ dims) rows →
         (tree : Tree V) × IsCanonical V.cmp measures rows tree }
 {}

@@ -141,7 +141,8 @@ fn is_class_same<L: Ledger>(
     }
 }
 
-// Whether the node has the one number of its cell, and the record of that cell's node in the other tree.
+// Whether the node has the one number of its cell, and the record of that cell's node in the other
+// tree.
 fn is_record_same<L: Ledger>(
     one: &QcArena,
     node: NodeNo,

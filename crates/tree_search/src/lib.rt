@@ -7,5 +7,5 @@ mod search;
 mod totals;
 
 pub use climb::upper_into;
-pub use search::{find, step, step_by};
+pub use search::{find, step, step_with_forced};
 pub use totals::total_at;

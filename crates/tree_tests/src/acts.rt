@@ -134,7 +134,8 @@ fn read_root<L: Ledger>(arena: &QcArena, root: NodeNo, steps: &mut Steps<L>) -> 
     }
 }
 
-// Gives a root two children, the second forced, a link to the second, and its class. The numbers of both.
+// Gives a root two children, the second forced, a link to the second, and its class. The numbers of
+// both.
 fn act_on<L: Ledger>(
     arena: &mut QcArena,
     root: NodeNo,

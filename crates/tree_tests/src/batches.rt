@@ -2,7 +2,7 @@
 ghost use Rattle.std.specs.Prelude.{true, ℕ, ◌≡◌};
 ghost use Rattle.std.specs.FinMap as map;
 ghost use Rattle.std.specs.Option.{option_map};
-ghost use Rattle.widen_laws.specs.Widened.{kept_by_number};
+ghost use Rattle.widen_laws.specs.Widened.{with_any_by_number};
 ghost use Rattle.qc_arena.specs.Map.{CanChange, is_open};
 
 use crate::grown::{grown, planted};
@@ -43,7 +43,8 @@ fn widen_kept(arena: &mut QcArena)
     requires few { arena.old.width ≡ 3 }
     ensures opened { is_open arena.new ≡ true }
     ensures width { arena.new.width ≡ 4 }
-    ensures nodes { (q : ℕ) → map.get arena.new.now q ≡ option_map kept_by_number (map.get arena.old.now q) }
+    ensures nodes { (q : ℕ)
+        → map.get arena.new.now q ≡ option_map with_any_by_number (map.get arena.old.now q) }
 {
     arena.commit();
     arena.begin();
@@ -61,7 +62,8 @@ fn close(arena: &mut QcArena, keep: bool)
     }
 }
 
-// Adds a node with a value in a new dimension, and keeps that or takes it back. How many dimensions and nodes
+// Adds a node with a value in a new dimension, and keeps that or takes it back. How many dimensions
+// and nodes
 // there are before and after.
 fn widened<L: Ledger>(alloc: Global, keep: bool, steps: &mut Steps<L>) -> [(u8, u32); 2] {
     let Some((mut arena, root)) = planted(alloc, steps) else {
@@ -79,7 +81,8 @@ fn widened<L: Ledger>(alloc: Global, keep: bool, steps: &mut Steps<L>) -> [(u8, 
     [inside, after]
 }
 
-// Kills the node to which an edge leads, and takes that back. Whether the node is out at once, with its edge still there.
+// Kills the node to which an edge leads, and takes that back. Whether the node is out at once, with
+// its edge still there.
 fn is_killed<L: Ledger>(alloc: Global, steps: &mut Steps<L>) -> bool {
     let Some((mut arena, _, child)) = grown(alloc, steps) else {
         return false;
@@ -138,7 +141,8 @@ fn added_and_removed(alloc: Global, arena: &QcArena) -> Option<(usize, usize)>
     Some((added.len(), removed.len()))
 }
 
-// Keeps the class of a node, and takes it away in a batch of its own. How many classes were added and removed before,
+// Keeps the class of a node, and takes it away in a batch of its own. How many classes were added
+// and removed before,
 // and how many with the node touched and then without its class.
 fn class_taken<L: Ledger>(
     alloc: Global,
@@ -170,7 +174,8 @@ fn are_classes_told<L: Ledger>(alloc: Global, steps: &mut Steps<L>) -> bool {
     told == [Some((1, 0)), Some((0, 0)), Some((0, 1))]
 }
 
-/// Whether batches are kept and taken back: an edge, a dimension that stays, one that goes, a node, an edge that is dropped, and
+/// Whether batches are kept and taken back: an edge, a dimension that stays, one that goes, a node,
+/// an edge that is dropped, and
 /// classes.
 pub(crate) fn are_right<L: Ledger>(alloc: Global, steps: &mut Steps<L>) -> bool {
     is_taken_back(alloc, steps)

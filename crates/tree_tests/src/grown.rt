@@ -12,7 +12,8 @@ use std::sync::ledger::Ledger;
 pub(crate) fn planted<L: Ledger>(alloc: Global, steps: &mut Steps<L>) -> Option<(QcArena, NodeNo)>
     ensures width { IfSome result (λ p. p.0.width ≡ 3) }
     ensures opened { IfSome result (λ p. is_open p.0 ≡ true) }
-    ensures root { IfSome result (λ p. map.get p.0.now p.1.0 ≡ Some (bare (replicate 3 None) None)) }
+    ensures root { IfSome result
+        (λ p. map.get p.0.now p.1.0 ≡ Some (bare (replicate 3 None) None)) }
     ensures alone { IfSome result (λ p. (q : ℕ) → q ≢ p.1.0 → map.get p.0.now q ≡ None) }
     ensures touched { IfSome result (λ p. is_touched p.0 p.1.0 ≡ true) }
 {

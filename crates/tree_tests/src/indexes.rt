@@ -4,7 +4,7 @@ ghost use Rattle.aggregates.specs.Views.{IsThere};
 use aggregates::{Agg, AggKind, read_fraction};
 use cell_core::NodeNo;
 use cube_defs::{MAX_AMOUNT, Memory};
-use measure_index::{Filling, Index, Walk};
+use measure_index::{Index, IndexBuilder, Walk};
 use std::alloc::Global;
 
 // Classes of one row, by the numbers of their nodes and their amounts.
@@ -42,7 +42,7 @@ fn filled(alloc: Global, kinds: &[AggKind], add: &[(u32, i64)]) -> Result<Index,
     requires kinds { All (IsThere 1) kinds.now }
     requires add { All (λ class. nat_abs class.1 ≤ MAX_AMOUNT) add.now }
 {
-    let mut filling = Filling::new(alloc, kinds, &[2], add.len())?;
+    let mut filling = IndexBuilder::new(alloc, kinds, &[2], add.len())?;
     'told: for k in 0..add.len() {
         let (node, amount) = add[k];
         filling.push(NodeNo(node), &Agg::one(&[amount]))?;
@@ -61,7 +61,8 @@ fn nodes_left(walk: &mut Walk<'_>) -> [u32; 6] {
     nodes
 }
 
-// What qualifies with at least a value, and with at most the value, each with the entries read. None where the value is no
+// What qualifies with at least a value, and with at most the value, each with the entries read.
+// None where the value is no
 // fraction, or the index doesn't have the kind.
 fn asked(index: &Index, kind: AggKind, value: &[u8]) -> Option<[([u32; 6], u64); 2]> {
     let value = read_fraction(value)?;
@@ -219,7 +220,8 @@ fn has_named_kinds(alloc: Global) -> Result<bool, Memory> {
     Ok(is_right)
 }
 
-/// Whether classes are walked from either end, come and go, and only the kinds that were named are there.
+/// Whether classes are walked from either end, come and go, and only the kinds that were named are
+/// there.
 pub(crate) fn are_right(alloc: Global) -> Result<bool, Memory> {
     Ok(
         are_classes_walked(alloc)?

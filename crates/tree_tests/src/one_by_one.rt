@@ -1,4 +1,5 @@
-// Rows come one by one: each to the tree that is built of all of them, and with fewer nodes to none.
+// Rows come one by one: each to the tree that is built of all of them, and with fewer nodes to
+// none.
 ghost use Rattle.std.specs.Prelude.{length, ◌<◌, ◌≡◌, ◌≤◌};
 
 use crate::draw::Draw;

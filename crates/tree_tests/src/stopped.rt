@@ -44,7 +44,7 @@ fn built<L: Ledger>(alloc: Global, table: &Table, steps: &mut Steps<L>) -> Optio
         }
     }
     arena.commit();
-    table.is_valid();
+    table.recall_invariant();
     Some(arena)
 }
 
@@ -129,7 +129,8 @@ fn rebuilt<L: Ledger>(
     }
 }
 
-// Stops a batch in building another tree, where that has too many nodes, and else after its last edge.
+// Stops a batch in building another tree, where that has too many nodes, and else after its last
+// edge.
 fn stopped_in_building<L: Ledger>(
     alloc: Global,
     table: &Table,
@@ -147,7 +148,8 @@ fn stopped_in_building<L: Ledger>(
     fits
 }
 
-// The numbers of all cells in a tree of few rows at first, after a kill, after a tree that was built in part,
+// The numbers of all cells in a tree of few rows at first, after a kill, after a tree that was
+// built in part,
 // and after one that was built whole.
 fn found_each<L: Ledger>(
     alloc: Global,
@@ -211,7 +213,8 @@ pub(crate) fn are_right<L: Ledger>(alloc: Global, steps: &mut Steps<L>) -> bool 
         return false;
     };
     let first = numbers[0];
-    // No row has the value 1 in both dimensions. The closure of the value 1 alone has 0 in the other dimension, and the reverse.
+    // No row has the value 1 in both dimensions. The closure of the value 1 alone has 0 in the
+    // other dimension, and the reverse.
     first[4].is_none()
         && first[7].is_some()
         && first[7] == first[1]

@@ -16,7 +16,8 @@ enum Change {
     Killed,
 }
 
-// Adds a root and a node under it with the value 7 in dimension 1, and the edge to it, if there is no root.
+// Adds a root and a node under it with the value 7 in dimension 1, and the edge to it, if there is
+// no root.
 fn plant<L: Ledger>(arena: &mut QcArena, steps: &mut Steps<L>)
     requires { is_open arena.old ≡ true }
     ensures { is_open arena.new ≡ true }
@@ -47,7 +48,8 @@ fn edit<L: Ledger>(arena: &mut QcArena, node: NodeNo, what: Change, steps: &mut 
     }
 }
 
-// One of seven batches. The numbers of the root and of the node under it are 0 and 1, also where both were
+// One of seven batches. The numbers of the root and of the node under it are 0 and 1, also where
+// both were
 // killed and are added again.
 fn batch<L: Ledger>(arena: &mut QcArena, number: u8, steps: &mut Steps<L>)
     requires { is_open arena.old ≡ false }
@@ -79,7 +81,8 @@ fn images_of<L: Ledger>(alloc: Global, last: u8, steps: &mut Steps<L>) -> Option
     Some(images)
 }
 
-// The images of an older batch put over those of a later one, of how many numbers they speak, and what they say of
+// The images of an older batch put over those of a later one, of how many numbers they speak, and
+// what they say of
 // the root and of the node under it.
 type Case = (u8, u8, usize, Told, Told);
 
@@ -123,7 +126,7 @@ fn say(images: Images, count: usize, of_root: Told, of_child: Told) -> bool {
 // The images put over later ones, if memory is there.
 fn put_over(images: Images, later: Images) -> Option<Images> {
     let mut images = images;
-    match images.take_in(later) {
+    match images.merge_later(later) {
         Ok(()) => Some(images),
         Err(later) => {
             drop(later);

@@ -14,7 +14,7 @@ use std::sync::ledger::Ledger;
 
 // An arena with its root, a node under it with the value 7 in dimension 1, and the edge to that.
 fn grown<L: Ledger>(alloc: Global, steps: &mut Steps<L>) -> Option<(QcArena, NodeNo)>
-    ensures root { IfSome result (λ p. cell_at p.0.now p.1.0 ≡ Some (defs.cell_front 0 single)) }
+    ensures root { IfSome result (λ p. cell_at p.0.now p.1.0 ≡ Some (defs.cell_prefix 0 single)) }
     ensures way { IfSome result (λ p. IsWay p.0.now single 0 2) }
 {
     let (mut arena, root) = planted(alloc, steps)?;

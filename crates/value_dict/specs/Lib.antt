@@ -1,4 +1,4 @@
 pub mod TextLists
-pub mod Told
+pub mod Decoded
 pub mod Recoded
 pub mod Boxes

@@ -17,5 +17,5 @@ abbrev pub HaveTexts : List (List Text) → ℕ → List ℕ → Type 0
 HaveTexts lists dim codes = All (λ code. code < length (slice_index_or lists dim [])) codes
 
 -- rows with the texts of their codes
-abbrev pub told_rows : List (List Text) → List (Row ℕ) → List (Row Text)
-told_rows lists rows = map (coded_row (text_in lists)) rows
+abbrev pub decoded_row_list : List (List Text) → List (Row ℕ) → List (Row Text)
+decoded_row_list lists rows = map (coded_row (text_in lists)) rows

@@ -1,5 +1,6 @@
 -- What a contract sees of a dictionary.
-use Rattle.std.specs.Prelude.{ℕ, ◌<◌, ◌≤◌, ◌-◌, All, List, [], map, length, slice_index_or, slice_set, replicate, ◌++◌, ◌∷◌, take, Option, Some, None, String, string_bytes, position, is_some, if◌then◌else◌}
+use Rattle.std.specs.Prelude.{ℕ, ◌<◌, ◌≤◌, ◌-◌, All, List, [], map, length, slice_index_or, slice_set, replicate, ◌++◌, ◌∷◌, take, Option}
+use Rattle.std.specs.Prelude.{Some, None, String, string_bytes, position, is_some, if◌then◌else◌}
 use Rattle.std.specs.List.{IsDistinct}
 use Rattle.std.specs.Option.{option_map, option_and_then}
 use Rattle.std.specs.Str.{bytes_eq}
@@ -73,4 +74,5 @@ abbrev pub cell_in : List (List Text) → List Field → Option (Cell ℕ)
 cell_in [] [] = Some []
 cell_in [] (field ∷ fields) = None
 cell_in (texts ∷ lists) [] = None
-cell_in (texts ∷ lists) (field ∷ fields) = option_and_then (λ e. option_map (λ c. e ∷ c) (cell_in lists fields)) (entry_in texts field)
+cell_in (texts ∷ lists) (field ∷ fields)
+    = option_and_then (λ e. option_map (λ c. e ∷ c) (cell_in lists fields)) (entry_in texts field)

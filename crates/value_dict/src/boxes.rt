@@ -41,7 +41,8 @@ impl CellBox {
         requires few { length self.old < MAX_DIMS }
         requires small { IfSome choice (λ codes. All IsCode codes.items) }
         ensures any { choice ≡ None → OnOk result (self.new ≡ self.old ++ None ∷ []) }
-        ensures among { IfSome choice (λ codes. OnOk result (self.new ≡ self.old ++ Some codes.items ∷ [])) }
+        ensures among { IfSome choice
+            (λ codes. OnOk result (self.new ≡ self.old ++ Some codes.items ∷ [])) }
         ensures err { OnErr result (self.new ≡ self.old) }
     {
         self.choices.push(choice)?;

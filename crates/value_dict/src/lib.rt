@@ -7,7 +7,7 @@ ghost use Rattle.std.specs.Option.{option_map};
 ghost use Rattle.std.specs.Prelude.{Err, IfOk, IfSome, None, OnErr, OnOk, Some, length, slice_get, ◌<◌, ◌≡◌, ◌≤◌, ◌↔◌};
 ghost use Rattle.value_dict.specs.TextLists.{IsDictionary, cell_in, code_in, cut, entry_in, learnt, list_at, no_texts, with_dim, without_last_dim};
 
-mod asked;
+mod box_of_fields;
 mod boxes;
 mod law;
 mod order;
@@ -18,7 +18,7 @@ use cell_core::{Cell, Code, Entry, Field, Fields, HashKeys};
 pub use cube_defs::Memory;
 use cube_defs::{MAX_CODES, MAX_DIMS};
 use indexmap::IndexSet;
-pub use law::a_dimension_that_came_goes;
+pub use law::an_added_dimension_is_dropped;
 use sets::TextSet;
 use std::alloc::{AllocError, Global};
 use std::marker::Model;
@@ -49,7 +49,8 @@ impl Model for Dict {
 
     ghost view = { λ d. record { lists = map texts_of d.lists.items; max = d.max } };
 
-    ghost invariant = { λ d. IsDictionary (record { lists = map texts_of d.lists.items; max = d.max }) };
+    ghost invariant = { λ d. IsDictionary
+        (record { lists = map texts_of d.lists.items; max = d.max }) };
 }
 
 impl Dict {
@@ -128,7 +129,9 @@ impl Dict {
         ensures small { IfOk result IsCode }
         ensures ok { OnOk result (self.new ≡ learnt self.old dim text.now) }
         ensures err { OnErr result (self.new ≡ self.old) }
-        ensures full { (result ≡ Err Learn.Full) ↔ ((code_in (list_at self.old dim) text.now ≡ None) × (length (list_at self.old dim) ≡ self.old.max)) }
+        ensures full { (result ≡ Err Learn.Full)
+            ↔ ((code_in (list_at self.old dim) text.now ≡ None)
+            × (length (list_at self.old dim) ≡ self.old.max)) }
         ensures dims { length self.new.lists ≡ length self.old.lists }
         ensures dictionary { IsDictionary self.new }
     {

@@ -22,7 +22,8 @@ fn text_or_none(dict: &Dict, dim: u8, code: Code) -> &str
 }
 
 fn entry_cmp(dict: &Dict, dim: u8, a: Entry, b: Entry) -> Ordering
-    ensures { result ≡ option_cmp text_cmp (option_map (text_in dict.now.lists dim) (value_in a)) (option_map (text_in dict.now.lists dim) (value_in b)) }
+    ensures { result ≡ option_cmp text_cmp (option_map (text_in dict.now.lists dim) (value_in a))
+        (option_map (text_in dict.now.lists dim) (value_in b)) }
 {
     match (a, b) {
         (Entry::Any, Entry::Any) => Ordering::Equal,
@@ -43,7 +44,8 @@ impl Dict {
 
     /// The cell order: dimension by dimension, Any before each text.
     pub fn cell_cmp(&self, a: &Cell, b: &Cell) -> Ordering
-        ensures { result ≡ defs.cell_cmp text_cmp (coded_cell (text_in self.now.lists) 0 a.now) (coded_cell (text_in self.now.lists) 0 b.now) }
+        ensures { result ≡ defs.cell_cmp text_cmp (coded_cell (text_in self.now.lists) 0 a.now)
+            (coded_cell (text_in self.now.lists) 0 b.now) }
     {
         'dims: for dim in 0..a.dims().min(b.dims()) {
             let order = entry_cmp(self, dim, a.get(dim), b.get(dim));

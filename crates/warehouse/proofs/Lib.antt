@@ -2,11 +2,11 @@ mod Counted
 mod Causes
 mod Changes
 pub mod Decoding
-mod Going
+mod Deletions
 mod Growing
 mod Indexed
 mod ListedClasses
-mod Repairing
+mod TreeInsertions
 mod Inserting
 mod Texts
 mod Values
@@ -14,7 +14,8 @@ mod Rows
 pub mod Pinned
 pub mod States
 mod Trees
-mod Handed
+mod MovedClasses
 mod Wider
 mod Images
 mod Batches
+pub mod CallerLemmas

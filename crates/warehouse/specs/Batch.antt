@@ -1,5 +1,6 @@
 -- What a file of changes does to a state: the first refusal that holds, or the state after it.
-use Rattle.std.specs.Prelude.{ℕ, suc, ◌+◌, ◌==◌, ◌&&◌, Bool, false, not, nat_lt, List, [], ◌∷◌, ◌++◌, length, filter, fold, position, Option, Some, None, option_map, Result, Ok, Err, if◌then◌else◌}
+use Rattle.std.specs.Prelude.{ℕ, suc, ◌+◌, ◌==◌, ◌&&◌, Bool, false, not, nat_lt, List, [], ◌∷◌, ◌++◌, length, filter, fold, position}
+use Rattle.std.specs.Prelude.{Option, Some, None, option_map, Result, Ok, Err, if◌then◌else◌}
 use Rattle.std.specs.List.{list_any}
 use Rattle.cube_defs.specs.Text.{Text, text_cmp}
 use Rattle.cube_defs.specs.Rows.{Row}
@@ -40,7 +41,8 @@ module _ {A : Type 0} where
   -- the number of the first change that stands among those before it, where the changes are counted from k
   abbrev pub twice_from : ℕ → List (Change A) → List (Change A) → Option ℕ
   twice_from k before [] = None
-  twice_from k before (change ∷ changes) = if list_any (same_change change) before then Some k else twice_from (k + 1) (before ++ change ∷ []) changes
+  twice_from k before (change ∷ changes) = if list_any (same_change change) before then Some k
+      else twice_from (k + 1) (before ++ change ∷ []) changes
 
   abbrev pub first_twice : List (Change A) → Option ℕ
   first_twice changes = twice_from 1 [] changes
@@ -112,7 +114,14 @@ unless (Some refusal) applied = Err refusal
 -- what these changes do, or the first fault of the file that should hold them
 abbrev pub result_of : State → Result (List (Change Text)) Fault → Result Applied Refusal
 result_of s (Err fault) = Err (File fault)
-result_of s (Ok changes) = unless (refusal_of s changes) (record { records = length changes; classes = length (classes text_cmp (rows_after s.rows changes)); state = after s changes })
+result_of s (Ok changes)
+    = unless (refusal_of s changes)
+    (record {
+      records = length changes;
+      classes = length (classes text_cmp (rows_after s.rows changes));
+      state
+          = after s changes;
+    })
 
 -- what a file does to a state; a base file is loaded only where there are no rows
 abbrev pub result : State → FileUse → List ℕ → Result Applied Refusal

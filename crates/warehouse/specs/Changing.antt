@@ -11,14 +11,14 @@ use Rattle.cube_defs.specs.Text.{Text}
 use Rattle.cube_defs.specs.Tree.{IsCanonical, Tree, cell_at, nodes}
 use Rattle.measure_index.specs.Rankings.{Ranking}
 use Rattle.qc_arena.specs.Map as arena
-use Rattle.qc_arena.specs.Map.{Arena, is_open, over, shape_of}
+use Rattle.qc_arena.specs.Map.{Arena, is_open, overlaid, shape_of}
 use Rattle.qc_schema.specs.Schema.{Layout}
 use Rattle.value_dict.specs.TextLists.{IsDictionary, TextLists, cut}
-use Rattle.value_dict.specs.Told.{RowsAreCodes}
+use Rattle.value_dict.specs.Decoded.{RowsAreCodes}
 use Rattle.warehouse.specs.Batch.{after, first_twice, refusal_of}
-use Rattle.warehouse.specs.InPlace.{KeepsApart, KeepsNodes, cost_in, cost_of_going, cost_without, gone, kept, with_codes}
+use Rattle.warehouse.specs.InPlace.{KeepsOtherRecords, KeepsNodes, cost_in, cost_of_deletions, cost_without, gone, kept, with_codes}
 use Rattle.warehouse.specs.State.{Contents, IsIndexed, State}
-use Rattle.warehouse.specs.Steps.{AreLonger, HasFront, IsTreeBefore, closed, frame, last_refusal, rows_before}
+use Rattle.warehouse.specs.Steps.{AreLonger, HasPrefix, IsTreeBefore, closed, frame, last_refusal, rows_before}
 use Rattle.warehouse.specs.Stored.{IsStored, IsTreeOfTable, decoded_rows, state_of}
 use Rattle.warehouse.specs.declared.cube.Cube.{Cube}
 
@@ -34,7 +34,13 @@ pub record AreParts (schema : Layout) (cube : Cube) (index : List Ranking) : Typ
 
 -- what the parts stand for
 abbrev pub contents_of : Layout → Cube → List Ranking → Contents
-contents_of schema cube index = record { state = state_in schema cube; tree = cube.tree.now; index = index; images = cube.tree.last }
+contents_of schema cube index = record {
+  state = state_in schema cube;
+  tree = cube.tree.now;
+  index = index;
+  images
+      = cube.tree.last;
+}
 
 -- a cube on which a batch was opened, and nothing is changed yet
 abbrev pub begun : Cube → Cube
@@ -67,10 +73,11 @@ pub record IsCommitted (cube cube' : Cube) : Type 0 where
   pub frame : frame cube'.table ≡ frame (closed cube.table)
   pub valid : IsTable cube'.table
   pub of_tree : cube'.tree ≡ record cube.tree { was = None; touched = set.empty; last = cube'.tree.last }
-  pub images : IfSome cube.tree.was (λ shape. shape.width ≡ cube.tree.width → over cube'.tree.last cube'.tree.now ≡ shape.tree)
+  pub images : IfSome cube.tree.was (λ shape. shape.width ≡ cube.tree.width
+      → overlaid cube'.tree.last cube'.tree.now ≡ shape.tree)
 
 -- an open batch was taken back, and each dimension was cut to so many texts
-pub record IsTakenBack (lens : List ℕ) (cube cube' : Cube) : Type 0 where
+pub record IsRolledBack (lens : List ℕ) (cube cube' : Cube) : Type 0 where
   pub rows : Some (base_of cube'.table) ≡ cube.table.was
   pub frame : frame cube'.table ≡ record (frame (closed cube.table)) { dims = cube'.table.dims }
   pub valid : IsTable cube'.table
@@ -97,28 +104,30 @@ pub record IsTakenOut (id : ℕ) (row : Row ℕ) (table table' : Places) (tree t
   pub canonical : IsCanonical nat_cmp table.measures (rows_of table') tree'
   pub numbers : KeepsNodes (rows_of table') tree tree'
   pub none_new : (k : ℕ) (c : Cell ℕ) → cell_at tree' k ≡ Some c → cell_at tree k ≡ Some c
-  pub apart : KeepsApart (row ∷ []) tree tree'
+  pub apart : KeepsOtherRecords (row ∷ []) tree tree'
   pub steps : to ≤ from + cost_without table.dims (rows_of table) (row_with_id (rows_of table) id)
 
 -- the rows of the deletions are gone, and the tree is that of the rows that are left
-pub record AreDeleted (changes : List (Change Text)) (table table' : Places) (tree tree' : Arena) (from to : ℕ) : Type 0 where
+pub record AreDeleted (changes : List (Change Text)) (table table' : Places) (tree tree' : Arena)
+    (from to : ℕ) : Type 0 where
   pub rows : rows_of table' ≡ kept (deleted changes) (rows_of table)
   pub canonical : IsCanonical nat_cmp table.measures (rows_of table') tree'.now
   pub fits : length (nodes nat_cmp (rows_of table')) ≤ tree.max
   pub numbers : KeepsNodes (rows_of table') tree.now tree'.now
-  pub apart : KeepsApart (gone (deleted changes) (rows_of table)) tree.now tree'.now
-  pub steps : to ≤ from + cost_of_going table.dims (rows_of table) (deleted changes)
+  pub apart : KeepsOtherRecords (gone (deleted changes) (rows_of table)) tree.now tree'.now
+  pub steps : to ≤ from + cost_of_deletions table.dims (rows_of table) (deleted changes)
 
 -- the rows and texts are changed, and the tree is that of the rows before a place, which are those that are left
-pub record RowsAreMade (schema : Layout) (changes : List (Change Text)) (first : ℕ) (cube cube' : Cube) (from to : ℕ) : Type 0 where
+pub record RowsAreMade (schema : Layout) (changes : List (Change Text)) (first : ℕ) (cube cube' : Cube)
+    (from to : ℕ) : Type 0 where
   pub last : refusal_of (state_in schema cube) changes ≡ last_refusal (state_in schema cube) changes
   pub made : state_in schema cube' ≡ after (state_in schema cube) changes
   pub known : RowsAreCodes cube'.dict.lists (rows_of cube'.table)
   pub left : rows_before cube'.table first ≡ kept (deleted changes) (rows_of cube.table)
   pub before : IsTreeBefore cube'.table cube'.tree first
   pub numbers : KeepsNodes (kept (deleted changes) (rows_of cube.table)) cube.tree.now cube'.tree.now
-  pub apart : KeepsApart (gone (deleted changes) (rows_of cube.table)) cube.tree.now cube'.tree.now
-  pub steps : to ≤ from + cost_of_going cube.table.dims (rows_of cube.table) (deleted changes)
+  pub apart : KeepsOtherRecords (gone (deleted changes) (rows_of cube.table)) cube.tree.now cube'.tree.now
+  pub steps : to ≤ from + cost_of_deletions cube.table.dims (rows_of cube.table) (deleted changes)
 
 -- the changes are made, and the tree is that of the rows after them
 pub record AreMade (schema : Layout) (changes : List (Change Text)) (cube cube' : Cube) : Type 0 where
@@ -129,9 +138,10 @@ pub record AreMade (schema : Layout) (changes : List (Change Text)) (cube cube' 
   pub known : RowsAreCodes cube'.dict.lists (rows_of cube'.table)
 
 -- what the changes of a state leave of the tree where they are made in place, and what they cost
-pub record IsInPlace (s : State) (changes : List (Change Text)) (lists : List (List Text)) (tree tree' : Tree ℕ) (from to : ℕ) : Type 0 where
+pub record IsInPlace (s : State) (changes : List (Change Text)) (lists : List (List Text)) (tree tree' : Tree ℕ)
+    (from to : ℕ) : Type 0 where
   pub numbers : KeepsNodes (with_codes lists (kept (deleted changes) s.rows)) tree tree'
-  pub apart : KeepsApart (with_codes lists (gone (deleted changes) s.rows ++ inserted changes)) tree tree'
+  pub apart : KeepsOtherRecords (with_codes lists (gone (deleted changes) s.rows ++ inserted changes)) tree tree'
   pub steps : to ≤ from + cost_in s changes
 
 -- rows, texts and tree are as they were, and there are no before-images
@@ -153,7 +163,8 @@ pub record CanInsert (dict : TextLists) (table : Places) (batch : Batch) : Type 
   pub valid : IsBatch batch
 
 -- rows came after the others, and the texts are these
-pub record AreInserted (texts : List (List Text)) (came : List (Row Text)) (dict dict' : TextLists) (table table' : Places) : Type 0 where
+pub record AreInserted (texts : List (List Text)) (came : List (Row Text)) (dict dict' : TextLists)
+    (table table' : Places) : Type 0 where
   pub rows : decoded_rows dict'.lists table' ≡ decoded_rows dict.lists table ++ came
   pub lists : dict'.lists ≡ texts
   pub known : RowsAreCodes dict'.lists (rows_of table')
@@ -163,5 +174,5 @@ pub record OnlyAdds (dict dict' : TextLists) (table table' : Places) : Type 0 wh
   pub longer : AreLonger dict.lists dict'.lists
   pub most_texts : dict'.max ≡ dict.max
   pub dictionary : IsDictionary dict'
-  pub front : HasFront table table'
+  pub front : HasPrefix table table'
   pub frame : frame table' ≡ frame table

@@ -17,13 +17,14 @@ pub record AreWidened (value : Text) (cube cube' : Cube) : Type 0 where
   pub texts : cube'.dict ≡ with_dim cube.dict value
   pub rows : rows_of cube'.table ≡ map (with_code 0) (rows_of cube.table)
   pub frame : frame cube'.table ≡ record (frame cube.table) { dims = cube.table.dims + 1 }
-  pub canonical : IsTreeOf (cube.table.dims + 1) cube'.tree.now (record { measures = cube.table.measures; rows = rows_of cube'.table })
+  pub canonical : IsTreeOf (cube.table.dims + 1) cube'.tree.now
+      (record { measures = cube.table.measures; rows = rows_of cube'.table })
   pub kept : KeepsWidened cube.table.dims cube.tree.now cube'.tree.now
   pub few : finmap.len cube'.tree.now ≤ cube'.tree.max
   pub width : cube'.tree.width ≡ cube.table.dims + 1
 
 -- all is as it was
-pub record AreBack (cube cube' : Cube) : Type 0 where
+pub record AreRestored (cube cube' : Cube) : Type 0 where
   pub texts : cube'.dict ≡ cube.dict
   pub rows : rows_of cube'.table ≡ rows_of cube.table
   pub frame : frame cube'.table ≡ frame cube.table
@@ -40,7 +41,8 @@ pub record CanWiden (wide : Layout) (cube : Cube) : Type 0 where
   pub is_closed : cube.table.was ≡ None
   pub closed : is_open cube.tree ≡ false
   pub width : cube.tree.width ≡ cube.table.dims
-  pub source : IsTreeOf cube.table.dims cube.tree.now (record { measures = cube.table.measures; rows = rows_of cube.table })
+  pub source : IsTreeOf cube.table.dims cube.tree.now
+      (record { measures = cube.table.measures; rows = rows_of cube.table })
   pub images : cube.tree.last ≡ finmap.empty
 
 -- no batch is open any more, and there are no before-images

@@ -1,5 +1,6 @@
 -- What a batch leaves of the tree as it was, and what it may cost.
-use Rattle.std.specs.Prelude.{ℕ, ◌+◌, ◌*◌, ◌^◌, ◌≡◌, ◌≤◌, IsOk, length, not, true, false, nat_eq, List, [], ◌∷◌, ◌++◌, filter, map, Option, None, Some, Ok}
+use Rattle.std.specs.Prelude.{ℕ, ◌+◌, ◌*◌, ◌^◌, ◌≡◌, ◌≤◌, IsOk, length, not, true, false, nat_eq, List, [], ◌∷◌, ◌++◌, filter, map, Option}
+use Rattle.std.specs.Prelude.{None, Some, Ok}
 use Rattle.std.specs.List.{All}
 use Rattle.std.specs.FinMap as finmap
 use Rattle.std.specs.Ordering.{nat_cmp, eq_by_cmp}
@@ -10,10 +11,10 @@ use Rattle.csv_load.specs.Files.{batch_in}
 use Rattle.cube_defs.specs.Cell.{Cell, cell_of, leq}
 use Rattle.cube_defs.specs.Rows.{Row, is_node}
 use Rattle.cube_defs.specs.Text.{Text}
-use Rattle.cube_defs.specs.Tree.{Node, Tree, above, cell_at}
+use Rattle.cube_defs.specs.Tree.{Node, Tree, affected_size, cell_at}
 use Rattle.cube_laws.specs.Recoding.{coded_row}
 use Rattle.qc_schema.specs.Schema.{Layout}
-use Rattle.value_dict.specs.Told.{place_in}
+use Rattle.value_dict.specs.Decoded.{place_in}
 use Rattle.warehouse.specs.Batch.{Apply, is_among, result, texts_after}
 use Rattle.warehouse.specs.State.{Contents, State}
 
@@ -31,21 +32,24 @@ KeepsNumbers before now = (k : ℕ) (c : Cell ℕ) → cell_at before k ≡ Some
 
 -- each node that is one of these rows too keeps its number
 abbrev pub KeepsNodes : List (Row ℕ) → Tree ℕ → Tree ℕ → Type 0
-KeepsNodes rows before now = (k : ℕ) (c : Cell ℕ) → cell_at before k ≡ Some c → is_node (eq_by_cmp nat_cmp) rows c ≡ true → cell_at now k ≡ Some c
+KeepsNodes rows before now = (k : ℕ) (c : Cell ℕ) → cell_at before k ≡ Some c
+    → is_node (eq_by_cmp nat_cmp) rows c ≡ true → cell_at now k ≡ Some c
 
 -- each node that is below none of these rows' tuples keeps its whole record
-abbrev pub KeepsApart : List (Row ℕ) → Tree ℕ → Tree ℕ → Type 0
-KeepsApart rows before now =
-    (k : ℕ) (n : Node ℕ ℕ) → finmap.get before k ≡ Some n → All (λ row. leq nat_eq n.cell (cell_of row.tuple) ≡ false) rows → finmap.get now k ≡ Some n
+abbrev pub KeepsOtherRecords : List (Row ℕ) → Tree ℕ → Tree ℕ → Type 0
+KeepsOtherRecords rows before now =
+    (k : ℕ) (n : Node ℕ ℕ) → finmap.get before k ≡ Some n
+    → All (λ row. leq nat_eq n.cell (cell_of row.tuple) ≡ false) rows → finmap.get now k ≡ Some n
 
 -- the most steps for one row that comes or goes, by what stands above its tuple in the rows before and after
 abbrev pub cost_of_row : ℕ → List (Row ℕ) → List (Row ℕ) → Row ℕ → ℕ
-cost_of_row dims before after row = 256 * (dims + 1) ^ 2 * (above nat_cmp before after row.tuple + 1)
+cost_of_row dims before after row = 256 * (dims + 1) ^ 2 * (affected_size nat_cmp before after row.tuple + 1)
 
 -- the most steps for rows that come one after another to others
-abbrev pub cost_of : ℕ → List (Row ℕ) → List (Row ℕ) → ℕ
-cost_of dims before [] = 0
-cost_of dims before (row ∷ came) = cost_of_row dims before (before ++ row ∷ []) row + cost_of dims (before ++ row ∷ []) came
+abbrev pub cost_of_insertions : ℕ → List (Row ℕ) → List (Row ℕ) → ℕ
+cost_of_insertions dims before [] = 0
+cost_of_insertions dims before (row ∷ came)
+    = cost_of_row dims before (before ++ row ∷ []) row + cost_of_insertions dims (before ++ row ∷ []) came
 
 -- the most steps for a row that goes, if there is one
 abbrev pub cost_without : ℕ → List (Row ℕ) → Option (Row ℕ) → ℕ
@@ -53,9 +57,10 @@ cost_without dims before None = 0
 cost_without dims before (Some row) = cost_of_row dims before (without_id before row.id) row
 
 -- the most steps for rows that go one after another, by their ids
-abbrev pub cost_of_going : ℕ → List (Row ℕ) → List ℕ → ℕ
-cost_of_going dims before [] = 0
-cost_of_going dims before (id ∷ ids) = cost_without dims before (row_with_id before id) + cost_of_going dims (without_id before id) ids
+abbrev pub cost_of_deletions : ℕ → List (Row ℕ) → List ℕ → ℕ
+cost_of_deletions dims before [] = 0
+cost_of_deletions dims before (id ∷ ids)
+    = cost_without dims before (row_with_id before id) + cost_of_deletions dims (without_id before id) ids
 
 -- rows with the place of each text in place of the text
 abbrev pub with_codes : List (List Text) → List (Row Text) → List (Row ℕ)
@@ -64,7 +69,8 @@ with_codes lists rows = map (coded_row (place_in lists)) rows
 -- the most steps for a batch: for its deletions, and then for its insertions
 abbrev pub cost_of_batch : ℕ → List (List Text) → List (Row Text) → List (Change Text) → ℕ
 cost_of_batch dims lists rows changes =
-    cost_of_going dims (with_codes lists rows) (deleted changes) + cost_of dims (with_codes lists (kept (deleted changes) rows)) (with_codes lists (inserted changes))
+    cost_of_deletions dims (with_codes lists rows) (deleted changes) + cost_of_insertions dims
+    (with_codes lists (kept (deleted changes) rows)) (with_codes lists (inserted changes))
 
 -- the most steps for the changes that a state takes, whether or not they stay
 abbrev pub cost_in : State → List (Change Text) → ℕ
@@ -77,20 +83,25 @@ OfBatch schema bytes Holds = (changes : List (Change Text)) → batch_in schema 
 -- a file that is taken as a batch: each node of the rows that are left after its deletions keeps its number
 abbrev pub LeavesNumbers : Contents → List ℕ → Contents → Type 0
 LeavesNumbers before bytes now =
-    OfBatch before.state.schema bytes (λ changes. KeepsNodes (with_codes now.state.texts (kept (deleted changes) before.state.rows)) before.tree now.tree)
+    OfBatch before.state.schema bytes
+    (λ changes. KeepsNodes (with_codes now.state.texts (kept (deleted changes) before.state.rows))
+    before.tree now.tree)
 
 -- each node that is below the tuple of no row that goes or comes keeps its whole record
-abbrev pub LeavesApart : Contents → List ℕ → Contents → Type 0
-LeavesApart before bytes now =
-    OfBatch before.state.schema bytes (λ changes. KeepsApart (with_codes now.state.texts (gone (deleted changes) before.state.rows ++ inserted changes)) before.tree now.tree)
+abbrev pub LeavesOtherRecords : Contents → List ℕ → Contents → Type 0
+LeavesOtherRecords before bytes now =
+    OfBatch before.state.schema bytes
+    (λ changes. KeepsOtherRecords
+    (with_codes now.state.texts (gone (deleted changes) before.state.rows ++ inserted changes))
+    before.tree now.tree)
 
 -- and no more steps are taken than a batch may cost, from one count of them to another
 abbrev pub IsWithinCost : State → List ℕ → ℕ → ℕ → Type 0
 IsWithinCost before bytes from to = OfBatch before.schema bytes (λ changes. to ≤ from + cost_in before changes)
 
 -- the file is a batch that a state takes
-abbrev pub IsTaken : State → List ℕ → Type 0
-IsTaken before bytes = IsOk (result before Apply bytes)
+abbrev pub IsAccepted : State → List ℕ → Type 0
+IsAccepted before bytes = IsOk (result before Apply bytes)
 
 -- the row with an id goes out of a table
 pub record IsDeletion (table : Places) (id : ℕ) (d : Deletion) : Type 0 where

@@ -4,7 +4,7 @@ pub mod Stored
 pub mod InPlace
 pub mod Steps
 pub mod Widening
-pub mod Handing
+pub mod ClassMoves
 pub mod Counted
 pub mod Dimensions
 pub mod Changing

@@ -14,9 +14,10 @@ use Rattle.measure_index.specs.Rankings.{IsIndex, Ranking}
 use Rattle.qc_arena.specs.Map.{ImageMap}
 use Rattle.qc_schema.specs.Schema.{Layout, IsLayout}
 use Rattle.tree_search.specs.Found.{TreeRows, IsTreeOf}
-use Rattle.value_dict.specs.Told.{has_text, place_in}
+use Rattle.value_dict.specs.Decoded.{has_text, place_in}
 
--- a schema, the rows in the order in which they were accepted, and for each dimension the texts that were ever accepted, in that order
+-- a schema, the rows in the order in which they were accepted, and for each dimension the texts that were ever
+-- accepted, in that order
 pub record State : Type 0 where
   pub schema : Layout
   pub rows : List (Row Text)

@@ -1,5 +1,6 @@
 -- The steps of a change, as far as they have come.
-use Rattle.std.specs.Prelude.{ℕ, ◌≡◌, Bool, true, false, ◌≤◌, List, [], ◌∷◌, drop, length, map, fold, is_some, nat_lt, slice_index_or, take, Option, IfSome, Some, None, if◌then◌else◌}
+use Rattle.std.specs.Prelude.{ℕ, ◌≡◌, Bool, true, false, ◌≤◌, List, [], ◌∷◌, drop, length, map, fold, is_some, nat_lt, slice_index_or, take}
+use Rattle.std.specs.Prelude.{Option, IfSome, Some, None, if◌then◌else◌}
 use Rattle.std.specs.List.{All}
 use Rattle.std.specs.Ordering.{nat_cmp}
 use Rattle.cube_defs.specs.Cell.{Cell}
@@ -13,7 +14,7 @@ use Rattle.value_dict.specs.TextLists.{cut, learnt_in}
 use Rattle.warehouse.specs.Batch as batches
 use Rattle.warehouse.specs.Batch.{Refusal, full_dim, refusal_of, rows_after, with_tuple}
 use Rattle.warehouse.specs.State.{State, ids_of}
-use Rattle.value_dict.specs.Told.{AreCodes, decoded}
+use Rattle.value_dict.specs.Decoded.{AreCodes, decoded}
 use Rattle.warehouse.specs.Stored.{refusal_in}
 use Rattle.warehouse.specs.declared.refused.Refused.{Refused}
 
@@ -30,8 +31,8 @@ abbrev pub rows_before : Places → ℕ → List (Row ℕ)
 rows_before table place = rows_in (take place table.places)
 
 -- those from a place on, and those between two places
-abbrev pub rows_behind : Places → ℕ → List (Row ℕ)
-rows_behind table place = rows_in (drop place table.places)
+abbrev pub rows_from_place : Places → ℕ → List (Row ℕ)
+rows_from_place table place = rows_in (drop place table.places)
 
 abbrev pub rows_between : Places → ℕ → ℕ → List (Row ℕ)
 rows_between table first place = rows_in (drop first (take place table.places))
@@ -47,11 +48,11 @@ pub record IsTreeBefore (table : Places) (tree : Arena) (place : ℕ) : Type 0 w
   pub fits : length (nodes nat_cmp (rows_before table place)) ≤ tree.max
 
 -- all places are as they were, and others may stand behind them
-abbrev pub HasFront : Places → Places → Type 0
-HasFront before now = take (length before.places) now.places ≡ before.places
+abbrev pub HasPrefix : Places → Places → Type 0
+HasPrefix before now = take (length before.places) now.places ≡ before.places
 
 -- the ids of some deletions, and those of some insertions
-pub record AreSeen (gone come : List ℕ) (changes : List (Change Text)) : Type 0 where
+pub record AreChangeIds (gone come : List ℕ) (changes : List (Change Text)) : Type 0 where
   pub deletions : gone ≡ deleted changes
   pub insertions : come ≡ ids_of (inserted changes)
 
@@ -82,7 +83,8 @@ IsOver max lists = is_some (full_dim max lists) ≡ true
 
 -- the last of the causes: what is refused where there is no other
 abbrev pub last_refusal : State → List (Change Text) → Option Refusal
-last_refusal s changes = if nat_lt s.schema.nodes (length (nodes text_cmp (rows_after s.rows changes))) then Some batches.NodesFull else None
+last_refusal s changes = if nat_lt s.schema.nodes (length (nodes text_cmp (rows_after s.rows changes)))
+    then Some batches.NodesFull else None
 
 -- why changes are refused, unless memory ran out
 abbrev pub IsCause : Refused → State → List (Change Text) → Type 0

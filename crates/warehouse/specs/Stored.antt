@@ -13,7 +13,7 @@ use Rattle.qc_arena.specs.Map.{Arena, is_open}
 use Rattle.qc_schema.specs.Schema.{Layout, IsLayout}
 use Rattle.tree_search.specs.Found.{IsTreeOf}
 use Rattle.value_dict.specs.TextLists.{IsDictionary, TextLists}
-use Rattle.value_dict.specs.Told.{RowsAreCodes, decoded_row}
+use Rattle.value_dict.specs.Decoded.{RowsAreCodes, decoded_row}
 use Rattle.warehouse.specs.Batch as batches
 use Rattle.warehouse.specs.State.{State}
 use Rattle.warehouse.specs.declared.refused.Applied.{Applied}
@@ -60,7 +60,8 @@ pub record IsNewTree (schema : Layout) (table : Places) (tree : Arena) : Type 0 
 
 -- the tree is that of some rows that fit the schema
 abbrev pub IsTreeOfSome : Layout → Tree ℕ → Type 0
-IsTreeOfSome schema tree = (rows : List (Row ℕ)) × IsTreeOf (length schema.dims) tree (record { measures = length schema.measures; rows = rows })
+IsTreeOfSome schema tree = (rows : List (Row ℕ))
+    × IsTreeOf (length schema.dims) tree (record { measures = length schema.measures; rows = rows })
 
 -- what a file did that was taken, with the state after it
 abbrev pub applied_in : State → Applied → batches.Applied

@@ -18,7 +18,12 @@ pub data WidenRefusal : Type 0 where
 
 -- one dimension more behind the others, in which each row has the value, and whose only text this is
 abbrev pub widened : Text → Text → State → State
-widened name value s = record { schema = with_dim s.schema name; rows = all_longer value s.rows; texts = s.texts ++ (value ∷ []) ∷ [] }
+widened name value s = record {
+  schema = with_dim s.schema name;
+  rows = all_longer value s.rows;
+  texts
+      = s.texts ++ (value ∷ []) ∷ [];
+}
 
 -- how many nodes the tree has then: those of before, and one for each class
 abbrev pub nodes_then : State → ℕ
@@ -31,7 +36,12 @@ widen_result s name value =
     then Err DimsFull
     else (if nat_lt s.schema.nodes (nodes_then s)
     then Err NodesFull
-    else Ok (record { records = 0; classes = length (classes text_cmp (widened name value s).rows); state = widened name value s }))
+    else Ok (record {
+      records = 0;
+      classes = length (classes text_cmp (widened name value s).rows);
+      state
+          = widened name value s;
+    }))
 
 -- what a refusal of the code says, but for want of memory
 abbrev pub widen_refusal_in : WidenRefused → Option WidenRefusal

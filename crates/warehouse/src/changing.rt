@@ -7,14 +7,14 @@ ghost use Rattle.cell_core.specs.Gives.{Gives};
 ghost use Rattle.csv_load.specs.Batch.{change_at, id_of, inserted, is_deletion, row_of};
 ghost use Rattle.cube_defs.specs.Tree.{IsCanonical, nodes};
 ghost use Rattle.qc_arena.specs.Map as arena;
-ghost use Rattle.qc_arena.specs.Map.{is_open, over};
+ghost use Rattle.qc_arena.specs.Map.{is_open, overlaid};
 ghost use Rattle.std.specs.Ordering.{nat_cmp};
 ghost use Rattle.warehouse.specs.Batch as batches;
 ghost use Rattle.warehouse.specs.Batch.{first_number, first_twice, full_dim, result_of, texts_after, with_tuple};
 ghost use Rattle.warehouse.specs.Changing.{AreAsBefore, AreFit, AreInserted, AreMade, AreParts, CanInsert, IsBegun, IsInPlace, LeavesFrames, OnlyAdds, RowsAreMade, contents_of, state_in};
-ghost use Rattle.warehouse.specs.InPlace.{KeepsApart, KeepsNumbers, cost_in, cost_of};
+ghost use Rattle.warehouse.specs.InPlace.{KeepsOtherRecords, KeepsNumbers, cost_in, cost_of_insertions};
 ghost use Rattle.warehouse.specs.State.{IsIndexed, State};
-ghost use Rattle.warehouse.specs.Steps.{IsCause, IsOver, IsTreeBefore, is_there, rows_before, rows_behind};
+ghost use Rattle.warehouse.specs.Steps.{IsCause, IsOver, IsTreeBefore, is_there, rows_before, rows_from_place};
 ghost use Rattle.warehouse.specs.Stored.{IsTreeOfTable, IsStored, IsTreeOfSome, applied_in, refusal_in};
 
 use crate::checks::{check_once, first_present, is_full};
@@ -23,7 +23,7 @@ use crate::deleting::delete_rows;
 use crate::indexing::change_index;
 use crate::learning::{learn_tuple, lengths, values_full};
 use crate::refused::{Applied, Refused};
-use crate::repair::repair;
+use crate::row_insertion::insert_in_tree;
 use base_table::{Table, TableRefused};
 use cell_core::{Cell, Steps};
 use class_builder::build_classes;
@@ -46,7 +46,7 @@ pub(crate) enum Building {
 }
 
 // Inserts a row whose id isn't there, if there is room.
-fn insert_row(
+fn insert_table_row(
     table: &mut Table,
     dict: &mut Dict,
     cell: &mut Cell,
@@ -60,9 +60,12 @@ fn insert_row(
     requires can { CanInsert dict.old table.old batch.now }
     requires new { has_id (rows_of table.old) (id_of (change_at batch.now.changes k)) ≡ false }
     requires room { length (rows_of table.old) < table.old.max }
-    ensures inserted { OnOk result (AreInserted (with_tuple dict.old.lists (row_of (change_at batch.now.changes k)).tuple)
+    ensures inserted { OnOk result
+        (AreInserted (with_tuple dict.old.lists (row_of (change_at batch.now.changes k)).tuple)
         (inserted (change_at batch.now.changes k ∷ [])) dict.old dict.new table.old table.new) }
-    ensures full { result ≡ Err Learn.Full → IsOver dict.old.max (with_tuple dict.old.lists (row_of (change_at batch.now.changes k)).tuple) }
+    ensures full { result ≡ Err Learn.Full
+        → IsOver dict.old.max (with_tuple dict.old.lists
+        (row_of (change_at batch.now.changes k)).tuple) }
     ensures adds { OnlyAdds dict.old dict.new table.old table.new }
     ensures cell_dims { length cell.new ≡ length cell.old }
 {
@@ -78,7 +81,7 @@ fn insert_row(
 }
 
 // Inserts the rows of the file. None of their ids is there, and there is room.
-fn insert_rows(
+fn insert_table_rows(
     table: &mut Table,
     dict: &mut Dict,
     cell: &mut Cell,
@@ -88,15 +91,18 @@ fn insert_rows(
     requires can { CanInsert dict.old table.old batch.now }
     requires once { first_twice batch.now.changes ≡ None }
     requires new { first_number (is_there (rows_of table.old)) batch.now.changes ≡ None }
-    requires room { length (rows_of table.old) + length (inserted batch.now.changes) ≤ table.old.max }
-    ensures inserted { OnOk result (AreInserted (texts_after dict.old.lists batch.now.changes) (inserted batch.now.changes) dict.old dict.new table.old table.new) }
-    ensures full { result ≡ Err Learn.Full → IsOver dict.old.max (texts_after dict.old.lists batch.now.changes) }
+    requires room { length (rows_of table.old) + length (inserted batch.now.changes)
+        ≤ table.old.max }
+    ensures inserted { OnOk result (AreInserted (texts_after dict.old.lists batch.now.changes)
+        (inserted batch.now.changes) dict.old dict.new table.old table.new) }
+    ensures full { result ≡ Err Learn.Full
+        → IsOver dict.old.max (texts_after dict.old.lists batch.now.changes) }
     ensures adds { OnlyAdds dict.old dict.new table.old table.new }
 {
     'changes: for before in 0..batch.len() {
         let number = before + 1;
         if !batch.is_delete(number) {
-            match insert_row(table, dict, cell, batch, number) {
+            match insert_table_row(table, dict, cell, batch, number) {
                 Ok(()) => {}
                 Err(refused) => return Err(refused),
             }
@@ -118,16 +124,20 @@ fn add_rows(
     requires can { CanInsert dict.old table.old batch.now }
     requires once { first_twice batch.now.changes ≡ None }
     requires new { first_number (is_there (rows_of table.old)) batch.now.changes ≡ None }
-    requires room { length (rows_of table.old) + length (inserted batch.now.changes) ≤ table.old.max }
-    ensures inserted { OnOk result (AreInserted (texts_after dict.old.lists batch.now.changes) (inserted batch.now.changes) dict.old dict.new table.old table.new) }
+    requires room { length (rows_of table.old) + length (inserted batch.now.changes)
+        ≤ table.old.max }
+    ensures inserted { OnOk result (AreInserted (texts_after dict.old.lists batch.now.changes)
+        (inserted batch.now.changes) dict.old dict.new table.old table.new) }
     ensures full { IfErr result (λ refused. IfSome (refusal_in refused)
-        (λ refusal. option_map (λ dim. batches.ValuesFull dim) (full_dim dict.old.max (texts_after dict.old.lists batch.now.changes)) ≡ Some refusal)) }
+        (λ refusal. option_map (λ dim. batches.ValuesFull dim)
+        (full_dim dict.old.max (texts_after dict.old.lists batch.now.changes))
+        ≡ Some refusal)) }
     ensures adds { OnlyAdds dict.old dict.new table.old table.new }
 {
     let dims = schema.dims();
     let lens = lengths(dict, dims);
     let mut cell = Cell::any(alloc, dims);
-    match insert_rows(table, dict, &mut cell, batch) {
+    match insert_table_rows(table, dict, &mut cell, batch) {
         Ok(()) => Ok(()),
         Err(Learn::Full) => {
             let lens = &lens[..usize::from(dims)];
@@ -181,9 +191,11 @@ pub(crate) fn rebuild<L: Ledger>(
 ) -> Result<(), ArenaRefused>
     requires opened { is_open tree.old ≡ true }
     requires width { tree.old.width ≡ table.now.dims }
-    ensures tree { OnOk result (IsCanonical nat_cmp table.now.measures (rows_of table.now) tree.new.now) }
+    ensures tree { OnOk result
+        (IsCanonical nat_cmp table.now.measures (rows_of table.now) tree.new.now) }
     ensures fits { OnOk result (length (nodes nat_cmp (rows_of table.now)) ≤ tree.old.max) }
-    ensures full { result ≡ Err ArenaRefused.Full → tree.old.max < length (nodes nat_cmp (rows_of table.now)) }
+    ensures full { result ≡ Err ArenaRefused.Full
+        → tree.old.max < length (nodes nat_cmp (rows_of table.now)) }
     ensures frame { arena.frame tree.new ≡ arena.frame tree.old }
 {
     match tree.clear(steps) {
@@ -213,18 +225,21 @@ fn make_tree<L: Ledger>(
     requires opened { is_open tree.old ≡ true }
     requires width { tree.old.width ≡ table.now.dims }
     requires tree { IsTreeBefore table.now tree.old first }
-    ensures tree { OnOk result (IsCanonical nat_cmp table.now.measures (rows_of table.now) tree.new.now) }
+    ensures tree { OnOk result
+        (IsCanonical nat_cmp table.now.measures (rows_of table.now) tree.new.now) }
     ensures fits { OnOk result (length (nodes nat_cmp (rows_of table.now)) ≤ tree.old.max) }
-    ensures full { result ≡ Err ArenaRefused.Full → tree.old.max < length (nodes nat_cmp (rows_of table.now)) }
+    ensures full { result ≡ Err ArenaRefused.Full
+        → tree.old.max < length (nodes nat_cmp (rows_of table.now)) }
     ensures numbers { building ≡ Building.InPlace → KeepsNumbers tree.old.now tree.new.now }
     ensures apart { building ≡ Building.InPlace →
-        KeepsApart (rows_behind table.now first) tree.old.now tree.new.now }
+        KeepsOtherRecords (rows_from_place table.now first) tree.old.now tree.new.now }
     ensures steps { OnOk result (building ≡ Building.InPlace → steps.new ≤ steps.old
-        + cost_of table.now.dims (rows_before table.now first) (rows_behind table.now first)) }
+        + cost_of_insertions table.now.dims (rows_before table.now first)
+        (rows_from_place table.now first)) }
     ensures frame { arena.frame tree.new ≡ arena.frame tree.old }
 {
     match building {
-        Building::InPlace => repair(table, tree, first, alloc, steps),
+        Building::InPlace => insert_in_tree(table, tree, first, alloc, steps),
         Building::FromScratch => rebuild(table, tree, alloc, steps),
     }
 }
@@ -299,7 +314,7 @@ fn change_and_index<L: Ledger>(
         Ok(()) => {}
         Err(refused) => return Err(refused),
     }
-    cube.table.is_valid();
+    cube.table.recall_invariant();
     match change_index(schema, &cube.tree, index, cube.alloc) {
         Ok(()) => Ok(()),
         Err(_) => Err(Refused::Memory),
@@ -308,7 +323,7 @@ fn change_and_index<L: Ledger>(
 
 /// Makes the changes in a batch of their own, all of them or none, with the tree of the rows after
 /// them and the index of its classes.
-pub(crate) fn change<L: Ledger>(
+pub(crate) fn make_changes<L: Ledger>(
     schema: &Schema,
     cube: &mut Cube,
     index: &mut Index,
@@ -328,7 +343,8 @@ pub(crate) fn change<L: Ledger>(
         IsInPlace (state_in schema.now cube.old) batch.changes cube.new.dict.lists
         cube.old.tree.now cube.new.tree.now steps.old steps.new) }
     ensures parts { AreParts schema.now cube.new index.new }
-    ensures images { OnOk result (over cube.new.tree.last cube.new.tree.now ≡ cube.old.tree.now) }
+    ensures images { OnOk result (overlaid cube.new.tree.last cube.new.tree.now
+        ≡ cube.old.tree.now) }
 {
     match check_once(cube.alloc, cube.table.hash_keys(), &batch) {
         Ok(()) => {}
@@ -380,7 +396,7 @@ pub(crate) fn attempt<L: Ledger>(
     let records = batch.len();
     let lens = cube.begin(schema);
     let built = change_and_build(schema, cube, batch, Building::InPlace, steps);
-    cube.table.is_valid();
+    cube.table.recall_invariant();
     let classes = cube.tree.class_count();
     let dims = usize::from(schema.dims());
     cube.roll_back(&lens[..dims]);

@@ -5,7 +5,7 @@ ghost use Rattle.base_table.specs.Places.{rows_of};
 ghost use Rattle.csv_load.specs.Batch.{change_at, inserted};
 ghost use Rattle.warehouse.specs.Batch.{first_number, first_twice, same_change};
 ghost use Rattle.warehouse.specs.State.{State};
-ghost use Rattle.warehouse.specs.Steps.{AreSeen, IsCause, is_there};
+ghost use Rattle.warehouse.specs.Steps.{AreChangeIds, IsCause, is_there};
 
 use crate::Memory;
 use crate::refused::Refused;
@@ -17,15 +17,15 @@ use std::alloc::{AllocError, Global};
 
 // The ids of the deletions so far, and those of the insertions.
 #[derive(Drop)]
-struct Seen {
+struct ChangeIds {
     gone: IndexSet<u64, HashKeys>,
     come: IndexSet<u64, HashKeys>,
 }
 
-impl Seen {
+impl ChangeIds {
     // No change so far, with room for those of the batch.
-    fn of_batch(alloc: Global, keys: HashKeys, batch: &RawBatch) -> Result<Seen, Memory>
-        ensures { IfOk result (λ seen. AreSeen seen.gone.keys seen.come.keys []) }
+    fn of_batch(alloc: Global, keys: HashKeys, batch: &RawBatch) -> Result<ChangeIds, Memory>
+        ensures { IfOk result (λ seen. AreChangeIds seen.gone.keys seen.come.keys []) }
     {
         let insertions = batch.insertions();
         let deletions = batch.len().saturating_sub(insertions);
@@ -34,16 +34,20 @@ impl Seen {
             drop(gone);
             return Err(AllocError);
         };
-        Ok(Seen { gone, come })
+        Ok(ChangeIds { gone, come })
     }
 
     // Whether no earlier change has the same operation and id. Stores the id for later changes.
     fn is_new(&mut self, batch: &RawBatch, k: u32) -> Result<bool, Memory>
         requires first { 1 ≤ k }
         requires last { k ≤ length batch.now.changes }
-        requires seen { AreSeen self.old.gone.keys self.old.come.keys (take (k - 1) batch.now.changes) }
-        ensures new { IfOk result (λ new. new ≡ not (list_any (same_change (change_at batch.now.changes k)) (take (k - 1) batch.now.changes))) }
-        ensures seen { result ≡ Ok true → AreSeen self.new.gone.keys self.new.come.keys (take k batch.now.changes) }
+        requires seen { AreChangeIds self.old.gone.keys self.old.come.keys
+            (take (k - 1) batch.now.changes) }
+        ensures new { IfOk result
+            (λ new. new ≡ not (list_any (same_change (change_at batch.now.changes k))
+            (take (k - 1) batch.now.changes))) }
+        ensures seen { result ≡ Ok true
+            → AreChangeIds self.new.gone.keys self.new.come.keys (take k batch.now.changes) }
     {
         let id = batch.id(k);
         let new = if batch.is_delete(k) {
@@ -56,8 +60,8 @@ impl Seen {
 }
 
 // The number of the first change that repeats an earlier operation and id. No id is stored yet.
-fn first_seen(seen: &mut Seen, batch: &RawBatch) -> Result<Option<u32>, Memory>
-    requires { AreSeen seen.old.gone.keys seen.old.come.keys [] }
+fn first_repeated(seen: &mut ChangeIds, batch: &RawBatch) -> Result<Option<u32>, Memory>
+    requires { AreChangeIds seen.old.gone.keys seen.old.come.keys [] }
     ensures { IfOk result (λ k. k ≡ first_twice batch.now.changes) }
 {
     let count = batch.len();
@@ -74,8 +78,8 @@ fn first_seen(seen: &mut Seen, batch: &RawBatch) -> Result<Option<u32>, Memory>
 fn first_repeat(alloc: Global, keys: HashKeys, batch: &RawBatch) -> Result<Option<u32>, Memory>
     ensures { IfOk result (λ k. k ≡ first_twice batch.now.changes) }
 {
-    let mut seen = Seen::of_batch(alloc, keys, batch)?;
-    let found = first_seen(&mut seen, batch);
+    let mut seen = ChangeIds::of_batch(alloc, keys, batch)?;
+    let found = first_repeated(&mut seen, batch);
     drop(seen);
     found
 }
@@ -112,7 +116,8 @@ pub(crate) fn first_present(table: &Table, batch: &RawBatch) -> Option<u32>
 
 /// Whether the rows of a table and the new ones are too many.
 pub(crate) fn is_full(table: &Table, batch: &RawBatch, most: u32) -> bool
-    ensures { result ≡ nat_lt most (length (rows_of table.now) + length (inserted batch.now.changes)) }
+    ensures { result ≡ nat_lt most
+        (length (rows_of table.now) + length (inserted batch.now.changes)) }
 {
     u64::from(table.count()) + u64::from(batch.insertions()) > u64::from(most)
 }

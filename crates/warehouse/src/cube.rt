@@ -2,7 +2,7 @@
 // rolled back.
 ghost use Rattle.std.specs.Prelude.{is_some, length, map, take, true, ◌≡◌};
 ghost use Rattle.qc_arena.specs.Map.{is_open};
-ghost use Rattle.warehouse.specs.Changing.{IsBegun, IsCommitted, IsTakenBack, begun};
+ghost use Rattle.warehouse.specs.Changing.{IsBegun, IsCommitted, IsRolledBack, begun};
 ghost use Rattle.warehouse.specs.Stored.{IsStored, IsTreeOfTable};
 
 use crate::learning::lengths;
@@ -43,20 +43,21 @@ impl Cube {
         ensures { IsCommitted self.old self.new }
     {
         self.table.commit();
-        self.table.is_valid();
+        self.table.recall_invariant();
         self.tree.commit();
     }
 
-    /// Rolls the batch back: rows and tree are again those at its begin, and each dimension is cut to
+    /// Rolls the batch back: rows and tree are again those at its begin, and each dimension is cut
+    /// to
     /// so many texts.
     pub(crate) fn roll_back(&mut self, lens: &[u32])
         requires rows { is_some self.old.table.was ≡ true }
         requires tree { is_open self.old.tree ≡ true }
         requires lens { length lens.now ≡ length self.old.dict.lists }
-        ensures { IsTakenBack lens.now self.old self.new }
+        ensures { IsRolledBack lens.now self.old self.new }
     {
         self.table.rollback();
-        self.table.is_valid();
+        self.table.recall_invariant();
         self.dict.cut_back(lens);
         self.tree.rollback();
     }

@@ -26,7 +26,7 @@ use std::sync::ledger::Ledger;
 
 // Deletes the row of an id, if there is one, from the table, and from the tree of the table's rows.
 // Returns whether there was one. After a refusal nothing is known of the tree.
-fn take_out<L: Ledger>(
+fn delete_id<L: Ledger>(
     table: &mut Table,
     tree: &mut QcArena,
     id: u64,
@@ -41,11 +41,12 @@ fn take_out<L: Ledger>(
     requires tree { IsCanonical nat_cmp table.old.measures (rows_of table.old) tree.old.now }
     ensures there { IfOk result (λ there. there ≡ has_id (rows_of table.old) id) }
     ensures gone { IfOk result (λ there. there ≡ true →
-        IsTakenOut id deletion.r table.old table.new tree.old.now tree.new.now steps.old steps.new) }
+        IsTakenOut id deletion.r table.old table.new tree.old.now tree.new.now
+        steps.old steps.new) }
     ensures frame { frame table.new ≡ frame table.old }
     ensures tree_frame { arena.frame tree.new ≡ arena.frame tree.old }
 {
-    table.is_valid();
+    table.recall_invariant();
     match table.delete(id) {
         Ok(taken) => {
             let rest = table.group(&taken.tuple);
@@ -74,17 +75,21 @@ pub(crate) fn delete_rows<L: Ledger>(
     requires width { tree.old.width ≡ table.old.dims }
     requires tree { IsCanonical nat_cmp table.old.measures (rows_of table.old) tree.old.now }
     requires few_nodes { length (nodes nat_cmp (rows_of table.old)) ≤ tree.old.max }
-    ensures none { OnOk result (first_number (is_missing (ids_of (rows_of table.old))) batch.now.changes ≡ None) }
-    ensures deleted { OnOk result (AreDeleted batch.now.changes table.old table.new tree.old tree.new steps.old steps.new) }
+    ensures none { OnOk result
+        (first_number (is_missing (ids_of (rows_of table.old))) batch.now.changes ≡ None) }
+    ensures deleted { OnOk result
+        (AreDeleted batch.now.changes table.old table.new tree.old tree.new steps.old steps.new) }
     ensures missing { IfErr result (λ refused. IfSome (refusal_in refused)
-        (λ refusal. option_map (λ k. batches.Missing k) (first_number (is_missing (ids_of (rows_of table.old))) batch.now.changes) ≡ Some refusal)) }
+        (λ refusal. option_map (λ k. batches.Missing k)
+        (first_number (is_missing (ids_of (rows_of table.old))) batch.now.changes)
+        ≡ Some refusal)) }
     ensures frame { frame table.new ≡ frame table.old }
     ensures tree_frame { arena.frame tree.new ≡ arena.frame tree.old }
 {
     'changes: for before in 0..batch.len() {
         let number = before + 1;
         if batch.is_delete(number) {
-            match take_out(table, tree, batch.id(number), alloc, steps) {
+            match delete_id(table, tree, batch.id(number), alloc, steps) {
                 Ok(true) => {}
                 Ok(false) => return Err(Refused::Missing(number)),
                 Err(_) => return Err(Refused::Memory),

@@ -4,7 +4,7 @@ ghost use Rattle.std.specs.Prelude.{All, IfOk, IfSome, List, MatchOption, OnErr,
 ghost use Rattle.aggregates.specs.Views.{IsThere};
 ghost use Rattle.aggregates.specs.declared.agg.Agg as aggs;
 ghost use Rattle.cell_core.specs.declared.cell.NodeNo as numbers;
-ghost use Rattle.measure_index.specs.Filling.{AreKeysOf, coming_units};
+ghost use Rattle.measure_index.specs.Builder.{AreKeysOf, gathered_units};
 ghost use Rattle.qc_arena.specs.Map.{is_open};
 ghost use Rattle.qc_schema.specs.Schema.{IsLayout};
 ghost use Rattle.warehouse.specs.State.{IsIndexed};
@@ -14,7 +14,7 @@ use crate::Memory;
 use aggregates::Agg;
 use cell_core::NodeNo;
 use cube_defs::MAX_MEASURES;
-use measure_index::{Filling, Index};
+use measure_index::{Index, IndexBuilder};
 use qc_arena::QcArena;
 use qc_schema::Schema;
 use std::alloc::Global;
@@ -42,11 +42,15 @@ pub(crate) fn new_index(alloc: Global, schema: &Schema) -> Result<Index, Memory>
 }
 
 // Puts the class of a number into an index that is being filled, if it is one.
-fn push_class(filling: &mut Filling, number: u32, class: &Option<Agg>) -> Result<(), Memory>
-    requires { IfSome class.now (λ class. All (λ unit. IsThere class.measures unit.0) (coming_units filling.old)) }
-    ensures units { coming_units filling.new ≡ coming_units filling.old }
-    ensures classes { OnOk result (MatchOption class.now (filling.new ≡ filling.old) (λ class. (before : List (numbers.NodeNo × aggs.Agg)) →
-        AreKeysOf before filling.old → AreKeysOf (before ++ (record { 0 = number }, class) ∷ []) filling.new)) }
+fn push_class(filling: &mut IndexBuilder, number: u32, class: &Option<Agg>) -> Result<(), Memory>
+    requires { IfSome class.now
+        (λ class. All (λ unit. IsThere class.measures unit.0) (gathered_units filling.old)) }
+    ensures units { gathered_units filling.new ≡ gathered_units filling.old }
+    ensures classes { OnOk result
+        (MatchOption class.now (filling.new ≡ filling.old)
+        (λ class. (before : List (numbers.NodeNo × aggs.Agg)) →
+        AreKeysOf before filling.old
+        → AreKeysOf (before ++ (record { 0 = number }, class) ∷ []) filling.new)) }
 {
     match class {
         None => Ok(()),
@@ -63,7 +67,7 @@ pub(crate) fn filled_index(alloc: Global, schema: &Schema, tree: &QcArena) -> Re
     let all = scales(schema);
     let count = usize::from(schema.measures());
     let room = tree.class_count() as usize;
-    let mut filling = Filling::new(alloc, schema.indexes(), &all[..count], room)?;
+    let mut filling = IndexBuilder::new(alloc, schema.indexes(), &all[..count], room)?;
     let numbers = tree.numbers()?;
     'numbers: for number in 0..numbers {
         push_class(&mut filling, number, &tree.class_at(number))?;
@@ -82,7 +86,8 @@ pub(crate) fn change_index(
 ) -> Result<(), Memory>
     requires layout { IsLayout schema.now }
     requires opened { is_open tree.now ≡ true }
-    requires before { IfSome tree.now.was (λ before. IsTreeOfSome schema.now before.tree × IsIndexed schema.now before.tree index.old) }
+    requires before { IfSome tree.now.was (λ before. IsTreeOfSome schema.now before.tree
+        × IsIndexed schema.now before.tree index.old) }
     requires now { IsTreeOfSome schema.now tree.now.now }
     ensures indexed { OnOk result (IsIndexed schema.now tree.now.now index.new) }
     ensures err { OnErr result (index.new ≡ index.old) }

@@ -42,8 +42,12 @@ pub(crate) fn learn_tuple(
     requires cell_dims { length cell.old ≡ batch.now.dims }
     requires dictionary { IsDictionary dict.old }
     requires valid { IsBatch batch.now }
-    ensures learnt { OnOk result (IsLearnt dict.old.lists dict.new.lists (row_of (change_at batch.now.changes k)).tuple cell.new) }
-    ensures full { result ≡ Err Learn.Full → IsOver dict.old.max (with_tuple dict.old.lists (row_of (change_at batch.now.changes k)).tuple) }
+    ensures learnt { OnOk result
+        (IsLearnt dict.old.lists dict.new.lists
+        (row_of (change_at batch.now.changes k)).tuple cell.new) }
+    ensures full { result ≡ Err Learn.Full
+        → IsOver dict.old.max (with_tuple dict.old.lists
+        (row_of (change_at batch.now.changes k)).tuple) }
     ensures longer { AreLonger dict.old.lists dict.new.lists }
     ensures max { dict.new.max ≡ dict.old.max }
     ensures cell_dims { length cell.new ≡ length cell.old }
@@ -63,8 +67,11 @@ fn learn_column(dict: &mut Dict, batch: &RawBatch, dim: u8) -> Result<(), Learn>
     requires dim { dim < batch.now.dims }
     requires dims { length dict.old.lists ≡ batch.now.dims }
     requires dictionary { IsDictionary dict.old }
-    ensures ok { OnOk result (dict.new.lists ≡ slice_set dict.old.lists dim (column_after (list_at dict.old dim) dim batch.now.changes)) }
-    ensures full { result ≡ Err Learn.Full → dict.old.max < length (column_after (list_at dict.old dim) dim batch.now.changes) }
+    ensures ok { OnOk result
+        (dict.new.lists ≡ slice_set dict.old.lists dim
+        (column_after (list_at dict.old dim) dim batch.now.changes)) }
+    ensures full { result ≡ Err Learn.Full
+        → dict.old.max < length (column_after (list_at dict.old dim) dim batch.now.changes) }
     ensures longer { AreLonger dict.old.lists dict.new.lists }
     ensures max { dict.new.max ≡ dict.old.max }
     ensures dictionary { IsDictionary dict.new }
@@ -88,7 +95,8 @@ fn first_full(dict: &mut Dict, batch: &RawBatch, dims: u8) -> Result<u8, Memory>
     requires dictionary { IsDictionary dict.old }
     requires valid { IsBatch batch.now }
     requires over { IsOver dict.old.max (texts_after dict.old.lists batch.now.changes) }
-    ensures first { IfOk result (λ dim. full_dim dict.old.max (texts_after dict.old.lists batch.now.changes) ≡ Some dim) }
+    ensures first { IfOk result
+        (λ dim. full_dim dict.old.max (texts_after dict.old.lists batch.now.changes) ≡ Some dim) }
     ensures longer { AreLonger dict.old.lists dict.new.lists }
     ensures max { dict.new.max ≡ dict.old.max }
     ensures dictionary { IsDictionary dict.new }
@@ -110,7 +118,8 @@ pub(crate) fn values_full(dict: &mut Dict, batch: &RawBatch, lens: &[u32]) -> Re
     requires dictionary { IsDictionary dict.old }
     requires valid { IsBatch batch.now }
     requires over { IsOver dict.old.max (texts_after dict.old.lists batch.now.changes) }
-    ensures refusal { IfSome (refusal_in result) (λ refusal. option_map (λ dim. batches.ValuesFull dim)
+    ensures refusal { IfSome (refusal_in result)
+        (λ refusal. option_map (λ dim. batches.ValuesFull dim)
         (full_dim dict.old.max (texts_after dict.old.lists batch.now.changes)) ≡ Some refusal) }
     ensures dict { dict.new ≡ dict.old }
 {

@@ -10,7 +10,7 @@ mod indexing;
 mod learning;
 mod parts;
 mod refused;
-mod repair;
+mod row_insertion;
 mod store;
 mod widening;
 

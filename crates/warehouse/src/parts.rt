@@ -1,4 +1,5 @@
-// The parts of a warehouse without rows; and the tree of rows that were made elsewhere, and the index of its classes.
+// The parts of a warehouse without rows; and the tree of rows that were made elsewhere, and the
+// index of its classes.
 ghost use Rattle.std.specs.FinMap as finmap;
 ghost use Rattle.std.specs.Ordering.{nat_cmp};
 ghost use Rattle.std.specs.Prelude.{Err, IfOk, None, [], length, ◌<◌, ◌≡◌};
@@ -29,9 +30,17 @@ pub(crate) fn no_rows(
     keys: HashKeys,
     schema: &Schema,
 ) -> Result<(Dict, Table), Memory>
-    ensures texts { IfOk result (λ made. made.0 ≡ no_texts (length schema.now.dims) schema.now.values) }
+    ensures texts { IfOk result
+        (λ made. made.0 ≡ no_texts (length schema.now.dims) schema.now.values) }
     ensures dictionary { IfOk result (λ made. IsDictionary made.0) }
-    ensures rows { IfOk result (λ made. made.1 ≡ record { dims = length schema.now.dims; measures = length schema.now.measures; max = schema.now.rows; places = []; was = None }) }
+    ensures rows { IfOk result (λ made. made.1 ≡ record {
+      dims = length schema.now.dims;
+      measures
+          = length schema.now.measures;
+      max = schema.now.rows;
+      places = [];
+      was = None;
+    }) }
     ensures layout { IsLayout schema.now }
 {
     let dict = Dict::with_keys(alloc, keys, schema.dims(), schema.values())?;
@@ -46,7 +55,8 @@ pub(crate) fn no_rows(
 
 /// A tree without nodes, and the index of no classes.
 pub(crate) fn no_tree(alloc: Global, schema: &Schema) -> Result<(QcArena, Index), Memory>
-    ensures tree { IfOk result (λ made. made.0 ≡ no_nodes (length schema.now.dims) schema.now.nodes) }
+    ensures tree { IfOk result
+        (λ made. made.0 ≡ no_nodes (length schema.now.dims) schema.now.nodes) }
     ensures index { IfOk result (λ made. IsIndexed schema.now finmap.empty made.1) }
 {
     let tree = QcArena::new(alloc, schema.dims(), schema.nodes())?;
@@ -68,7 +78,8 @@ fn open_tree<L: Ledger>(
 ) -> Result<QcArena, PartsRefused>
     requires { table.now.dims ≡ length schema.now.dims }
     ensures tree { IfOk result (λ tree. IsNewTree schema.now table.now tree) }
-    ensures full { result ≡ Err PartsRefused.NodesFull → schema.now.nodes < length (nodes nat_cmp (rows_of table.now)) }
+    ensures full { result ≡ Err PartsRefused.NodesFull
+        → schema.now.nodes < length (nodes nat_cmp (rows_of table.now)) }
 {
     let mut tree = QcArena::new(alloc, schema.dims(), schema.nodes())?;
     tree.begin();
@@ -98,7 +109,8 @@ pub(crate) fn tree_and_index<L: Ledger>(
     requires measures { table.now.measures ≡ length schema.now.measures }
     ensures tree { IfOk result (λ made. IsTreeOfTable schema.now table.now made.0) }
     ensures index { IfOk result (λ made. IsIndexed schema.now made.0.now made.1) }
-    ensures full { result ≡ Err PartsRefused.NodesFull → schema.now.nodes < length (nodes nat_cmp (rows_of table.now)) }
+    ensures full { result ≡ Err PartsRefused.NodesFull
+        → schema.now.nodes < length (nodes nat_cmp (rows_of table.now)) }
 {
     let mut index = new_index(alloc, schema)?;
     let mut tree = match open_tree(alloc, schema, table, steps) {

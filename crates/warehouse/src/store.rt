@@ -12,18 +12,18 @@ ghost use Rattle.aggregates.specs.declared.kind.AggKind.{AggKind};
 ghost use Rattle.iceberg_query.specs.Indexed.{class_of_node};
 ghost use Rattle.measure_index.specs.Index.{ranking_of};
 ghost use Rattle.measure_index.specs.Rankings.{IsIndex};
-ghost use Rattle.qc_arena.specs.Map.{over};
+ghost use Rattle.qc_arena.specs.Map.{overlaid};
 ghost use Rattle.warehouse.specs.Batch as batches;
 ghost use Rattle.warehouse.specs.Batch.{result_of};
 ghost use Rattle.warehouse.specs.Changing.{IsInPlace};
-ghost use Rattle.warehouse.specs.InPlace.{IsWithinCost, LeavesApart, LeavesNumbers, cost_in};
+ghost use Rattle.warehouse.specs.InPlace.{IsWithinCost, LeavesOtherRecords, LeavesNumbers, cost_in};
 ghost use Rattle.warehouse.specs.State.{AreContents, State, coded_rows, empty, scale_in};
 ghost use Rattle.warehouse.specs.Stored.{IsStored, applied_in, decoded_rows, refusal_in, state_of};
 ghost use Rattle.warehouse.specs.Widening.{KeepsWidened, cost_of_widening, widen_refusal_in, widen_result};
 ghost use Rattle.qc_schema.specs.Grammar.{is_new_name};
 
 use crate::Memory;
-use crate::changing::{Building, attempt, change};
+use crate::changing::{Building, attempt, make_changes};
 use crate::cube::Cube;
 use crate::parts::{no_rows, no_tree, tree_and_index};
 use crate::refused::{Applied, PartsRefused, Refused, Stats, WidenRefused};
@@ -70,7 +70,8 @@ impl Model for Warehouse {
 
 // The refusal for a file that gives no rows.
 fn refused_file(refused: LoadRefused) -> Refused
-    ensures { (s : State) (read : Result (List (Change Text)) Fault) → IfSome (fault_in refused) (λ fault. read ≡ Err fault) →
+    ensures { (s : State) (read : Result (List (Change Text)) Fault)
+        → IfSome (fault_in refused) (λ fault. read ≡ Err fault) →
         IfSome (refusal_in result) (λ refusal. result_of s read ≡ Err refusal) }
 {
     match refused {
@@ -137,7 +138,8 @@ impl Warehouse {
         requires { IsStored schema dict table }
         ensures state { IfOk result (λ warehouse. warehouse.state ≡ state_of schema dict table) }
         ensures valid { IfOk result (λ warehouse. AreContents warehouse) }
-        ensures nodes_full { result ≡ Err PartsRefused.NodesFull → schema.nodes < length (trees.nodes text_cmp (decoded_rows dict.lists table)) }
+        ensures nodes_full { result ≡ Err PartsRefused.NodesFull
+            → schema.nodes < length (trees.nodes text_cmp (decoded_rows dict.lists table)) }
     {
         match tree_and_index(alloc, &schema, &table, steps) {
             Ok((tree, index)) => Ok(Warehouse {
@@ -194,7 +196,7 @@ impl Warehouse {
     }
 
     /// Gives a proof what is true of every warehouse. At run time it does nothing.
-    pub fn is_valid(&self)
+    pub fn recall_invariant(&self)
         ensures { AreContents self.now }
     {
         let _read = &self.cube.tree;
@@ -221,7 +223,9 @@ impl Warehouse {
     pub fn index(&self) -> &Index
         ensures value { result.now ≡ self.now.index }
         ensures index { IsIndex (class_of_node self.now.tree) result.now }
-        ensures unit { (kind : AggKind) → IfSome (ranking_of kind result.now) (λ r. r.scale ≡ scale_in self.now.state.schema kind) }
+        ensures unit { (kind : AggKind)
+            → IfSome (ranking_of kind result.now)
+            (λ r. r.scale ≡ scale_in self.now.state.schema kind) }
         ensures valid { AreContents self.now }
     {
         &self.index
@@ -266,7 +270,7 @@ impl Warehouse {
     }
 
     // Makes changes, all of them or none. No before-images of an earlier change are left.
-    fn change<L: Ledger>(
+    fn make_changes<L: Ledger>(
         &mut self,
         batch: RawBatch,
         building: Building,
@@ -275,15 +279,16 @@ impl Warehouse {
         requires dims { batch.dims ≡ length self.old.state.schema.dims }
         requires measures { batch.measures ≡ length self.old.state.schema.measures }
         requires images { self.old.images ≡ finmap.empty }
-        ensures gives { Gives refusal_in (applied_in self.new.state) result (result_of self.old.state (Ok batch.changes)) }
+        ensures gives { Gives refusal_in (applied_in self.new.state) result
+            (result_of self.old.state (Ok batch.changes)) }
         ensures in_place { OnOk result (building ≡ Building.InPlace →
             IsInPlace self.old.state batch.changes self.new.state.texts
             self.old.tree self.new.tree steps.old steps.new) }
         ensures valid { AreContents self.new }
         ensures same { OnErr result (self.new ≡ self.old) }
-        ensures images { over self.new.images self.new.tree ≡ self.old.tree }
+        ensures images { overlaid self.new.images self.new.tree ≡ self.old.tree }
     {
-        change(
+        make_changes(
             &self.schema,
             &mut self.cube,
             &mut self.index,
@@ -300,12 +305,13 @@ impl Warehouse {
         steps: &mut Steps<L>,
     ) -> Result<Applied, Refused>
         requires { length bytes.now ≤ MAX_FILE }
-        ensures gives { Gives refusal_in (applied_in self.new.state) result (batches.result self.old.state batches.Load bytes.now) }
+        ensures gives { Gives refusal_in (applied_in self.new.state) result
+            (batches.result self.old.state batches.Load bytes.now) }
         ensures valid { AreContents self.new }
         ensures state { OnErr result (self.new.state ≡ self.old.state) }
         ensures tree { OnErr result (self.new.tree ≡ self.old.tree) }
         ensures index { OnErr result (self.new.index ≡ self.old.index) }
-        ensures images { over self.new.images self.new.tree ≡ self.old.tree }
+        ensures images { overlaid self.new.images self.new.tree ≡ self.old.tree }
         ensures no_images { OnErr result (self.new.images ≡ finmap.empty) }
     {
         self.drop_images();
@@ -313,7 +319,7 @@ impl Warehouse {
             return Err(Refused::NotEmpty);
         }
         match read_base(self.cube.alloc, &self.schema, bytes) {
-            Ok(batch) => self.change(batch, Building::FromScratch, steps),
+            Ok(batch) => self.make_changes(batch, Building::FromScratch, steps),
             Err(refused) => Err(refused_file(refused)),
         }
     }
@@ -328,27 +334,28 @@ impl Warehouse {
         steps: &mut Steps<L>,
     ) -> Result<Applied, Refused>
         requires { length bytes.now ≤ MAX_FILE }
-        ensures gives { Gives refusal_in (applied_in self.new.state) result (batches.result self.old.state batches.Apply bytes.now) }
+        ensures gives { Gives refusal_in (applied_in self.new.state) result
+            (batches.result self.old.state batches.Apply bytes.now) }
         ensures numbers { OnOk result (LeavesNumbers self.old bytes.now self.new) }
-        ensures apart { OnOk result (LeavesApart self.old bytes.now self.new) }
+        ensures apart { OnOk result (LeavesOtherRecords self.old bytes.now self.new) }
         ensures steps { OnOk result (IsWithinCost self.old.state bytes.now steps.old steps.new) }
         ensures valid { AreContents self.new }
         ensures state { OnErr result (self.new.state ≡ self.old.state) }
         ensures tree { OnErr result (self.new.tree ≡ self.old.tree) }
         ensures index { OnErr result (self.new.index ≡ self.old.index) }
-        ensures images { over self.new.images self.new.tree ≡ self.old.tree }
+        ensures images { overlaid self.new.images self.new.tree ≡ self.old.tree }
         ensures no_images { OnErr result (self.new.images ≡ finmap.empty) }
     {
         self.drop_images();
         match read_batch(self.cube.alloc, &self.schema, bytes) {
-            Ok(batch) => self.change(batch, Building::InPlace, steps),
+            Ok(batch) => self.make_changes(batch, Building::InPlace, steps),
             Err(refused) => Err(refused_file(refused)),
         }
     }
 
     // A dry run of changes: they are made and rolled back. No before-images of an earlier change
     // are left.
-    fn try_change<L: Ledger>(
+    fn attempt_changes<L: Ledger>(
         &mut self,
         batch: RawBatch,
         steps: &mut Steps<L>,
@@ -356,7 +363,9 @@ impl Warehouse {
         requires dims { batch.dims ≡ length self.old.state.schema.dims }
         requires measures { batch.measures ≡ length self.old.state.schema.measures }
         requires images { self.old.images ≡ finmap.empty }
-        ensures gives { (then : State) × Gives refusal_in (applied_in then) result (result_of self.old.state (Ok batch.changes)) }
+        ensures gives { (then : State)
+            × Gives refusal_in (applied_in then) result
+            (result_of self.old.state (Ok batch.changes)) }
         ensures steps { OnOk result (steps.new ≤ steps.old + cost_in self.old.state batch.changes) }
         ensures same { self.new ≡ self.old }
         ensures valid { AreContents self.new }
@@ -374,14 +383,16 @@ impl Warehouse {
         steps: &mut Steps<L>,
     ) -> Result<Applied, Refused>
         requires { length bytes.now ≤ MAX_FILE }
-        ensures gives { (then : State) × Gives refusal_in (applied_in then) result (batches.result self.old.state batches.Apply bytes.now) }
+        ensures gives { (then : State)
+            × Gives refusal_in (applied_in then) result
+            (batches.result self.old.state batches.Apply bytes.now) }
         ensures steps { OnOk result (IsWithinCost self.old.state bytes.now steps.old steps.new) }
         ensures same { self.new ≡ record self.old { images = finmap.empty } }
         ensures valid { AreContents self.new }
     {
         self.drop_images();
         match read_batch(self.cube.alloc, &self.schema, bytes) {
-            Ok(batch) => self.try_change(batch, steps),
+            Ok(batch) => self.attempt_changes(batch, steps),
             Err(refused) => Err(refused_file(refused)),
         }
     }
@@ -404,9 +415,13 @@ impl Warehouse {
     ) -> Result<Applied, WidenRefused>
         requires name { is_new_name self.old.state.schema name.now ≡ true }
         requires value { length value.now ≤ MAX_TEXT }
-        ensures gives { Gives widen_refusal_in (applied_in self.new.state) result (widen_result self.old.state name.now value.now) }
-        ensures records { OnOk result (KeepsWidened (length self.old.state.schema.dims) self.old.tree self.new.tree) }
-        ensures steps { OnOk result (steps.new ≤ steps.old + cost_of_widening (length self.old.state.schema.dims) self.old.tree) }
+        ensures gives { Gives widen_refusal_in (applied_in self.new.state) result
+            (widen_result self.old.state name.now value.now) }
+        ensures records { OnOk result
+            (KeepsWidened (length self.old.state.schema.dims) self.old.tree self.new.tree) }
+        ensures steps { OnOk result
+            (steps.new ≤ steps.old + cost_of_widening (length self.old.state.schema.dims)
+            self.old.tree) }
         ensures valid { AreContents self.new }
         ensures state { OnErr result (self.new.state ≡ self.old.state) }
         ensures tree { OnErr result (self.new.tree ≡ self.old.tree) }

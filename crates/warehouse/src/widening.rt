@@ -11,15 +11,15 @@ ghost use Rattle.cell_core.specs.Gives.{Gives};
 ghost use Rattle.cube_defs.specs.Cell.{depth};
 ghost use Rattle.cube_defs.specs.Tree.{Tree};
 ghost use Rattle.qc_arena.specs.Map.{CanChange, frame, is_open, is_touched};
-ghost use Rattle.qc_arena.specs.Seen.{record_at};
+ghost use Rattle.qc_arena.specs.RecordReaders.{record_at};
 ghost use Rattle.qc_schema.specs.Grammar.{is_new_name};
 ghost use Rattle.qc_schema.specs.Schema.{IsLayout, max_dims};
 ghost use Rattle.tree_laws.specs.Counts.{classes_in};
 ghost use Rattle.tree_laws.specs.Walk.{last_label};
 ghost use Rattle.tree_search.specs.Found.{IsTreeOf};
 ghost use Rattle.warehouse.specs.Changing.{AreParts, contents_of, state_in};
-ghost use Rattle.warehouse.specs.Dimensions.{AreBack, AreClosed, AreWidened, CanWiden};
-ghost use Rattle.warehouse.specs.Handing.{HandsOn, HandsTo, HasChild, IsWide, is_in, led_to};
+ghost use Rattle.warehouse.specs.Dimensions.{AreRestored, AreClosed, AreWidened, CanWiden};
+ghost use Rattle.warehouse.specs.ClassMoves.{MovesClasses, MovesClassTo, HasChild, IsWide, is_in, with_forced_child};
 ghost use Rattle.warehouse.specs.State.{IsIndexed};
 ghost use Rattle.warehouse.specs.Stored.{applied_in};
 ghost use Rattle.warehouse.specs.Widening.{KeepsWidened, cost_of_widening, widen_refusal_in, widen_result};
@@ -52,8 +52,10 @@ fn add_child<L: Ledger>(
     requires node { IsSome (finmap.get tree.old.now node.0) }
     requires room { depth (record_at tree.old.now node.0).cell ≤ dim }
     requires dim { dim < tree.old.width }
-    ensures child { IfOk result (λ child. HasChild dim node.0 (agg_in class) tree.old.now tree.new.now child.0) }
-    ensures touched { IfOk result (λ child. (q : ℕ) → is_touched tree.old q ≡ true → is_touched tree.new q ≡ true) }
+    ensures child { IfOk result
+        (λ child. HasChild dim node.0 (agg_in class) tree.old.now tree.new.now child.0) }
+    ensures touched { IfOk result (λ child. (q : ℕ) → is_touched tree.old q ≡ true
+        → is_touched tree.new q ≡ true) }
     ensures frame { frame tree.new ≡ frame tree.old }
     ensures steps { steps.new ≤ steps.old + 2 }
 {
@@ -67,7 +69,7 @@ fn add_child<L: Ledger>(
 }
 
 // Makes a child the forced one of its parent, which is no longer a class.
-fn lead_to<L: Ledger>(
+fn set_forced_child<L: Ledger>(
     tree: &mut QcArena,
     node: NodeNo,
     dim: u8,
@@ -77,7 +79,9 @@ fn lead_to<L: Ledger>(
     requires change { CanChange tree.old node.0 }
     requires child { IsSome (finmap.get tree.old.now child.0) }
     requires dim { dim < tree.old.width }
-    ensures here { OnOk result (finmap.get tree.new.now node.0 ≡ option_map (led_to dim child.0) (finmap.get tree.old.now node.0)) }
+    ensures here { OnOk result
+        (finmap.get tree.new.now node.0 ≡ option_map (with_forced_child dim child.0)
+        (finmap.get tree.old.now node.0)) }
     ensures others { (q : ℕ) → q ≢ node.0 → finmap.get tree.new.now q ≡ finmap.get tree.old.now q }
     ensures frame { frame tree.new ≡ frame tree.old }
     ensures steps { steps.new ≤ steps.old + 3 }
@@ -93,7 +97,7 @@ fn lead_to<L: Ledger>(
 }
 
 // Moves the class of a node to a new child. After a refusal nothing is known of the tree.
-fn hand_on<L: Ledger>(
+fn move_class_to_child<L: Ledger>(
     tree: &mut QcArena,
     node: NodeNo,
     dim: u8,
@@ -104,7 +108,8 @@ fn hand_on<L: Ledger>(
     requires node { IsSome (finmap.get tree.old.now node.0) }
     requires room { depth (record_at tree.old.now node.0).cell ≤ dim }
     requires dim { dim < tree.old.width }
-    ensures handed { IfOk result (λ child. HandsTo dim node.0 (agg_in class) tree.old.now tree.new.now child.0) }
+    ensures handed { IfOk result
+        (λ child. MovesClassTo dim node.0 (agg_in class) tree.old.now tree.new.now child.0) }
     ensures frame { frame tree.new ≡ frame tree.old }
     ensures steps { steps.new ≤ steps.old + 6 }
 {
@@ -113,14 +118,14 @@ fn hand_on<L: Ledger>(
         Ok(child) => child,
         Err(error) => return Err(error),
     };
-    match lead_to(tree, node, dim, child, steps) {
+    match set_forced_child(tree, node, dim, child, steps) {
         Ok(()) => Ok(child),
         Err(error) => Err(error),
     }
 }
 
 // Whether a node's last value is in the dimension.
-fn ends_in<L: Ledger>(tree: &QcArena, node: NodeNo, dim: u8, steps: &mut Steps<L>) -> bool
+fn has_last_value_in<L: Ledger>(tree: &QcArena, node: NodeNo, dim: u8, steps: &mut Steps<L>) -> bool
     requires { IsSome (finmap.get tree.now.now node.0) }
     ensures value { result ≡ is_in dim (last_label (record_at tree.now.now node.0).cell) }
     ensures steps { steps.new ≡ steps.old + 1 }
@@ -133,7 +138,7 @@ fn ends_in<L: Ledger>(tree: &QcArena, node: NodeNo, dim: u8, steps: &mut Steps<L
 
 // Moves the class of a number to a new child, if it has one and is no new child itself. Returns how
 // many classes may still be met.
-fn hand_on_at<L: Ledger>(
+fn move_class_at<L: Ledger>(
     tree: &mut QcArena,
     number: u32,
     dim: u8,
@@ -142,9 +147,11 @@ fn hand_on_at<L: Ledger>(
 ) -> Result<u64, Memory>
     requires opened { is_open tree.old ≡ true }
     requires width { tree.old.width ≡ dim + 1 }
-    requires before { (before : Tree ℕ) × IsWide dim before × HandsOn number dim before tree.old.now }
-    ensures next { OnOk result ((before : Tree ℕ) → IsWide dim before → HandsOn number dim before tree.old.now
-        → HandsOn (number + 1) dim before tree.new.now) }
+    requires before { (before : Tree ℕ) × IsWide dim before
+        × MovesClasses number dim before tree.old.now }
+    ensures next { OnOk result ((before : Tree ℕ) → IsWide dim before
+        → MovesClasses number dim before tree.old.now
+        → MovesClasses (number + 1) dim before tree.new.now) }
     ensures frame { frame tree.new ≡ frame tree.old }
     ensures steps { IfOk result (λ now. steps.new + 8 * now ≤ steps.old + 8 * left) }
 {
@@ -156,10 +163,10 @@ fn hand_on_at<L: Ledger>(
         return Err(AllocError);
     }
     let node = NodeNo(number);
-    if ends_in(tree, node, dim, steps) {
+    if has_last_value_in(tree, node, dim, steps) {
         return Ok(left - 1);
     }
-    match hand_on(tree, node, dim, class, steps) {
+    match move_class_to_child(tree, node, dim, class, steps) {
         Ok(_) => Ok(left - 1),
         Err(error) => Err(error),
     }
@@ -167,7 +174,7 @@ fn hand_on_at<L: Ledger>(
 
 // Moves all classes to new children, of which so many may be met. After a refusal nothing is known
 // of the tree.
-fn hand_all_on<L: Ledger>(
+fn move_all_classes<L: Ledger>(
     tree: &mut QcArena,
     dim: u8,
     most: u64,
@@ -175,15 +182,17 @@ fn hand_all_on<L: Ledger>(
 ) -> Result<(), Memory>
     requires opened { is_open tree.old ≡ true }
     requires width { tree.old.width ≡ dim + 1 }
-    requires before { (before : Tree ℕ) × IsWide dim before × HandsOn 0 dim before tree.old.now }
-    ensures kept { OnOk result ((before : Tree ℕ) → IsWide dim before → HandsOn 0 dim before tree.old.now → KeepsWidened dim before tree.new.now) }
+    requires before { (before : Tree ℕ) × IsWide dim before
+        × MovesClasses 0 dim before tree.old.now }
+    ensures kept { OnOk result ((before : Tree ℕ) → IsWide dim before
+        → MovesClasses 0 dim before tree.old.now → KeepsWidened dim before tree.new.now) }
     ensures frame { frame tree.new ≡ frame tree.old }
     ensures steps { OnOk result (steps.new ≤ steps.old + 8 * most) }
 {
     let numbers = tree.numbers()?;
     let mut left = most;
     'numbers: for number in 0..numbers {
-        left = match hand_on_at(tree, number, dim, left, steps) {
+        left = match move_class_at(tree, number, dim, left, steps) {
             Ok(left) => left,
             Err(error) => return Err(error),
         };
@@ -205,7 +214,7 @@ fn widen_tree<L: Ledger>(tree: &mut QcArena, steps: &mut Steps<L>) -> Result<(),
     let dim = tree.dims();
     let most = 2 * u64::from(tree.live());
     tree.widen();
-    hand_all_on(tree, dim, most, steps)
+    move_all_classes(tree, dim, most, steps)
 }
 
 // Gives a proof that the tree has no more nodes than it may have. At run time it does nothing.
@@ -232,7 +241,8 @@ fn widen_both<L: Ledger>(
     requires opened { is_open tree.old ≡ true }
     requires untouched { tree.old.touched ≡ set.empty }
     requires width { tree.old.width ≡ table.old.dims }
-    requires tree { IsTreeOf table.old.dims tree.old.now (record { measures = table.old.measures; rows = rows_of table.old }) }
+    requires tree { IsTreeOf table.old.dims tree.old.now
+        (record { measures = table.old.measures; rows = rows_of table.old }) }
     ensures table { table.new ≡ widened 0 table.old }
     ensures rows { rows_of table.new ≡ map (with_code 0) (rows_of table.old) }
     ensures tree { OnOk result (IsTreeOf (table.old.dims + 1) tree.new.now
@@ -263,7 +273,7 @@ fn widen_parts<L: Ledger>(
 ) -> Result<Index, Memory>
     requires { CanWiden wide.now cube.old }
     ensures widened { OnOk result (AreWidened value.now cube.old cube.new) }
-    ensures back { OnErr result (AreBack cube.old cube.new) }
+    ensures back { OnErr result (AreRestored cube.old cube.new) }
     ensures closed { AreClosed cube.old cube.new }
     ensures index { IfOk result (λ index. IsIndexed wide.now cube.new.tree.now index) }
     ensures steps { OnOk result (steps.new ≤ steps.old + 16 * finmap.len cube.old.tree.now) }
@@ -280,7 +290,7 @@ fn widen_parts<L: Ledger>(
         }
         Err(error) => {
             cube.table.rollback();
-            cube.table.is_valid();
+            cube.table.recall_invariant();
             cube.tree.rollback();
             cube.dict.drop_dim();
             Err(error)
@@ -289,9 +299,11 @@ fn widen_parts<L: Ledger>(
 }
 
 // Why no dimension can be added, if that is so.
-fn full_cause(schema: &Schema, tree: &QcArena) -> Option<WidenRefused>
-    ensures { result ≡ (if nat_le (max_dims schema.now.version) (length schema.now.dims) then Some WidenRefused.DimsFull
-        else (if nat_lt schema.now.nodes (finmap.len tree.now.now + classes_in nat_cmp tree.now.now) then Some WidenRefused.NodesFull else None)) }
+fn widen_refusal(schema: &Schema, tree: &QcArena) -> Option<WidenRefused>
+    ensures { result ≡ (if nat_le (max_dims schema.now.version) (length schema.now.dims)
+        then Some WidenRefused.DimsFull
+        else (if nat_lt schema.now.nodes (finmap.len tree.now.now + classes_in nat_cmp tree.now.now)
+        then Some WidenRefused.NodesFull else None)) }
 {
     if schema.max_dims() <= schema.dims() {
         return Some(WidenRefused::DimsFull);
@@ -327,7 +339,7 @@ pub(crate) fn widen<L: Ledger>(
     ensures parts { AreParts schema.new cube.new index.new }
     ensures images { cube.new.tree.last ≡ finmap.empty }
 {
-    if let Some(refused) = full_cause(schema, &cube.tree) {
+    if let Some(refused) = widen_refusal(schema, &cube.tree) {
         return Err(refused);
     }
     let wide = schema.with_dim(cube.alloc, name)?;

@@ -102,7 +102,8 @@ fn is_left<L: Ledger>(
         && are_kept(alloc, pinned, text, asking, steps)
 }
 
-// Whether two pins are let go, and the others are left by that, and by a further batch with its pin.
+// Whether two pins are let go, and the others are left by that, and by a further batch with its
+// pin.
 fn goes_on<L: Ledger>(
     alloc: Global,
     pinned: &mut Pinned,

@@ -2,8 +2,8 @@
 ghost use Rattle.std.specs.Prelude.{IfOk, length, ◌≡◌};
 ghost use Rattle.cube_defs.specs.Answers as defs;
 ghost use Rattle.cube_defs.specs.Text.{text_cmp};
-ghost use Rattle.range_query.specs.Told.{told_hits};
-ghost use Rattle.value_dict.specs.Boxes.{asked_box};
+ghost use Rattle.range_query.specs.DecodedHits.{decoded_hits};
+ghost use Rattle.value_dict.specs.Boxes.{fields_box};
 
 use crate::range_fields::fields;
 use crate::shops::{base, filled};
@@ -25,8 +25,9 @@ fn answer<L: Ledger>(
     steps: &mut Steps<L>,
 ) -> Result<Vec<Hit>, RangeRefused>
     requires { length asked.now ≡ length shop.now.state.schema.dims }
-    ensures { IfOk result (λ hits. told_hits shop.now.state.texts hits.items
-        ≡ defs.range text_cmp (length shop.now.state.schema.measures) shop.now.state.rows (asked_box shop.now.state.texts 0 asked.now)) }
+    ensures { IfOk result (λ hits. decoded_hits shop.now.state.texts hits.items
+        ≡ defs.range text_cmp (length shop.now.state.schema.measures) shop.now.state.rows
+        (fields_box shop.now.state.texts 0 asked.now)) }
 {
     match shop.dict().box_of(alloc, asked) {
         Ok(cells) => {

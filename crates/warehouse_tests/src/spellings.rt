@@ -131,7 +131,8 @@ fn are_changed_well<L: Ledger>(alloc: Global, steps: &mut Steps<L>) -> Result<bo
     Ok(true)
 }
 
-/// Whether a snapshot is one, and a tree with too many nodes, a prefix, and more or other bytes are none.
+/// Whether a snapshot is one, and a tree with too many nodes, a prefix, and more or other bytes are
+/// none.
 pub fn are_right<L: Ledger>(alloc: Global, steps: &mut Steps<L>) -> Result<bool, AllocError> {
     Ok(
         answer(alloc, FULL, steps) == Verdict::Spelled

@@ -1,4 +1,5 @@
-// Scripts of base files, batches and new dimensions. Each has its answer, and a base file of the rows after it.
+// Scripts of base files, batches and new dimensions. Each has its answer, and a base file of the
+// rows after it.
 
 use crate::shops::{File, base, batch, change, filled};
 use crate::tree_text::text_of;
@@ -9,7 +10,8 @@ use std::sync::ledger::Ledger;
 use tree_records::{Line, are_kept, are_same, cells};
 use warehouse::{Refused, Warehouse, WidenRefused};
 
-// What a script begins with: its schema, the schema of warehouses that load the rows after a step, and a base file and a batch by
+// What a script begins with: its schema, the schema of warehouses that load the rows after a step,
+// and a base file and a batch by
 // which the values in these get their codes.
 #[derive(Clone, Copy)]
 struct Start<'a> {
@@ -19,7 +21,8 @@ struct Start<'a> {
     gone: &'a str,
 }
 
-// A command with its answer. Base files of the rows that stay, and of the rows after it; the texts of the dimensions; and the tree.
+// A command with its answer. Base files of the rows that stay, and of the rows after it; the texts
+// of the dimensions; and the tree.
 #[derive(Clone, Copy)]
 struct Step<'a> {
     command: &'a str,

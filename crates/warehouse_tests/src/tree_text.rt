@@ -1,4 +1,5 @@
-// The tree of a warehouse of up to six dimensions as a text: the counts, and a line for each node, in the order of bytes.
+// The tree of a warehouse of up to six dimensions as a text: the counts, and a line for each node,
+// in the order of bytes.
 ghost use Rattle.std.specs.FinMap as map;
 ghost use Rattle.std.specs.Prelude.{IsSome, length, ◌≡◌, ◌≤◌};
 
@@ -90,7 +91,8 @@ fn push_edges<L: Ledger>(
     Ok(())
 }
 
-// Writes a node's record: its cell, that of its parent, its class, the cell of its forced child, and its edges.
+// Writes a node's record: its cell, that of its parent, its class, the cell of its forced child,
+// and its edges.
 fn push_record<L: Ledger>(
     alloc: Global,
     text: &mut String,

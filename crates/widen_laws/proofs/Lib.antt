@@ -3,3 +3,4 @@ pub mod LongerRows
 pub mod LongerRecords
 pub mod LongerNodes
 pub mod WidenedTrees
+pub mod CallerLemmas

@@ -22,8 +22,8 @@ module _ {A : Type 0} where
   and_value v c = c ++ Some v ∷ []
 
   -- the record with Any in the new dimension
-  abbrev pub kept : Node A (Cell A) → Node A (Cell A)
-  kept n = record {
+  abbrev pub with_any : Node A (Cell A) → Node A (Cell A)
+  with_any n = record {
     cell = and_any n.cell;
     parent = option_map and_any n.parent;
     class = n.class;
@@ -36,8 +36,8 @@ module _ {A : Type 0} where
   edge_to_value dim v c = record { dim = dim; value = v; target = and_value v c }
 
   -- the record of a class's node: its child has the class, and is forced
-  abbrev pub handed_on : ℕ → A → Node A (Cell A) → Node A (Cell A)
-  handed_on dim v n = record (kept n) {
+  abbrev pub with_forced_value : ℕ → A → Node A (Cell A) → Node A (Cell A)
+  with_forced_value dim v n = record (with_any n) {
     class = None;
     forced = Some (edge_to_value dim v n.cell);
     edges = map (renamed_edge and_any) n.edges ++ edge_to_value dim v n.cell ∷ [];
@@ -45,18 +45,25 @@ module _ {A : Type 0} where
 
   -- the record of the child
   abbrev pub child_of : A → Node A (Cell A) → Node A (Cell A)
-  child_of v n = record { cell = and_value v n.cell; parent = Some (and_any n.cell); class = n.class; forced = None; edges = [] }
+  child_of v n = record {
+    cell = and_value v n.cell;
+    parent = Some (and_any n.cell);
+    class = n.class;
+    forced
+        = None;
+    edges = [];
+  }
 
   -- the record with Any in the new dimension of a node, whether it is a class's or not
   abbrev pub widened : ℕ → A → Node A (Cell A) → Node A (Cell A)
-  widened dim v n = if is_some n.class then handed_on dim v n else kept n
+  widened dim v n = if is_some n.class then with_forced_value dim v n else with_any n
 
   -- the records by numbers: with Any in the new dimension, of a class, and of its child
-  abbrev pub kept_by_number : Node A ℕ → Node A ℕ
-  kept_by_number n = record n { cell = and_any n.cell }
+  abbrev pub with_any_by_number : Node A ℕ → Node A ℕ
+  with_any_by_number n = record n { cell = and_any n.cell }
 
-  abbrev pub handed_on_by_number : ℕ → A → ℕ → Node A ℕ → Node A ℕ
-  handed_on_by_number dim v child n = record n {
+  abbrev pub with_forced_value_by_number : ℕ → A → ℕ → Node A ℕ → Node A ℕ
+  with_forced_value_by_number dim v child n = record n {
     cell = and_any n.cell;
     class = None;
     forced = Some (record { dim = dim; value = v; target = child });
@@ -64,12 +71,23 @@ module _ {A : Type 0} where
   }
 
   abbrev pub child_by_number : A → ℕ → Node A ℕ → Node A ℕ
-  child_by_number v parent n = record { cell = and_value v n.cell; parent = Some parent; class = n.class; forced = None; edges = [] }
+  child_by_number v parent n = record {
+    cell = and_value v n.cell;
+    parent = Some parent;
+    class = n.class;
+    forced
+        = None;
+    edges = [];
+  }
 
   -- each node keeps its number, and each class has a child under a number of its own
   pub record IsWidened (dim : ℕ) (v : A) (child : ℕ → ℕ) (tree wide : Tree A) : Type 0 where
-    pub others : (k : ℕ) (n : Node A ℕ) → maps.get tree k ≡ Some n → is_some n.class ≡ false → maps.get wide k ≡ Some (kept_by_number n)
-    pub classes : (k : ℕ) (n : Node A ℕ) → maps.get tree k ≡ Some n → is_some n.class ≡ true → maps.get wide k ≡ Some (handed_on_by_number dim v (child k) n)
-    pub children : (k : ℕ) (n : Node A ℕ) → maps.get tree k ≡ Some n → is_some n.class ≡ true → maps.get wide (child k) ≡ Some (child_by_number v k n)
+    pub others : (k : ℕ) (n : Node A ℕ) → maps.get tree k ≡ Some n → is_some n.class ≡ false
+        → maps.get wide k ≡ Some (with_any_by_number n)
+    pub classes : (k : ℕ) (n : Node A ℕ) → maps.get tree k ≡ Some n → is_some n.class ≡ true
+        → maps.get wide k ≡ Some (with_forced_value_by_number dim v (child k) n)
+    pub children : (k : ℕ) (n : Node A ℕ) → maps.get tree k ≡ Some n → is_some n.class ≡ true
+        → maps.get wide (child k) ≡ Some (child_by_number v k n)
     pub only : (q : ℕ) (m : Node A ℕ) → maps.get wide q ≡ Some m
-        → ((n : Node A ℕ) × (maps.get tree q ≡ Some n)) ⊎ ((k : ℕ) × (n : Node A ℕ) × (maps.get tree k ≡ Some n) × (is_some n.class ≡ true) × (q ≡ child k))
+        → ((n : Node A ℕ) × (maps.get tree q ≡ Some n))
+        ⊎ ((k : ℕ) × (n : Node A ℕ) × (maps.get tree k ≡ Some n) × (is_some n.class ≡ true) × (q ≡ child k))

@@ -1,4 +1,5 @@
-// A worked script with each call of its files refused in turn, and each write: files and sinks move one byte a call.
+// A worked script with each call of its files refused in turn, and each write: files and sinks move
+// one byte a call.
 ghost use Rattle.std.specs.Prelude.{IfOk, None, ◌≡◌};
 
 use crate::runs::{Ran, run_over, run_words, sink, words_of};
@@ -106,7 +107,8 @@ pub fn stops_at_each_call(alloc: Global) -> Result<bool, AllocError> {
     Ok(true)
 }
 
-// Whether the run ends after as many bytes of its transcript as are written before the write that fails.
+// Whether the run ends after as many bytes of its transcript as are written before the write that
+// fails.
 fn stops_at_write(alloc: Global, transcript: &[u8], write: usize) -> Result<bool, AllocError> {
     let ran = run_failing(alloc, &RUN, &[], &[write as u64], &[])?;
     if write < transcript.len() {

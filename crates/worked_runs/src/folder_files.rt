@@ -1,7 +1,7 @@
 // The files of a folder, by their names in it.
 ghost use Rattle.std.specs.Prelude.{None, false, is_some, length, ◌≡◌, ◌≤◌};
 ghost use Rattle.std.proofs.Common.{rules};
-ghost use Rattle.qc_io.specs.Real.{untold};
+ghost use Rattle.qc_io.specs.Real.{no_cursor};
 
 use crate::expected::Padded;
 use qc_io::{Failed, Files};
@@ -70,11 +70,11 @@ impl<'a, R: std::rt::Files> Files for FolderFiles<'a, R> {
 
     ghost told = { λ _. None };
 
-    ghost cursor = { λ _. untold };
+    ghost cursor = { λ _. no_cursor };
 
-    ghost steady_tells = { Prim.search rules };
+    ghost steady_has_contents = { Prim.search rules };
 
-    ghost open_tells = { Prim.search rules };
+    ghost contents_give_cursor = { Prim.search rules };
 
     fn open(&mut self, name: &str) -> Result<(), Failed> {
         self.file = self.opened(name);

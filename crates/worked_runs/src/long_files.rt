@@ -1,5 +1,7 @@
-// The files of some folders that are too long to be kept: as many values as a range may have cells, with the reply that has them
-// all; half a million rows of one dimension, with as many points and their replies; and values that share their hash if it has no
+// The files of some folders that are too long to be kept: as many values as a range may have cells,
+// with the reply that has them
+// all; half a million rows of one dimension, with as many points and their replies; and values that
+// share their hash if it has no
 // keys.
 
 use std::alloc::{AllocError, Global};
@@ -18,7 +20,8 @@ enum Line {
     Point,
     /// The reply to the point.
     Reply,
-    /// A row whose value has the same hash as the others under the kit's default hasher: after the first 24 bytes its state is 0,
+    /// A row whose value has the same hash as the others under the kit's default hasher: after the
+    /// first 24 bytes its state is 0,
     /// and the next 8 don't change it.
     OneHash,
 }
@@ -33,7 +36,8 @@ struct Long {
     last: &'static str,
 }
 
-// In the second folder each value stands in 500 rows. The root and the values are the nodes, and each is a class.
+// In the second folder each value stands in 500 rows. The root and the values are the nodes, and
+// each is a class.
 static FILES: [Long; 6] = [
     Long {
         path: "runs/as-many-cells-as-a-range-answers/base.csv",

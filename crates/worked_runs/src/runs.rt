@@ -60,7 +60,8 @@ pub struct Ran {
 }
 
 impl Ran {
-    /// Whether it ended with this status, out and err took these bytes, and no line was skipped. A warehouse is left at status
+    /// Whether it ended with this status, out and err took these bytes, and no line was skipped. A
+    /// warehouse is left at status
     /// 0 alone.
     pub fn ended_with(&self, status: u8, out: &[u8], err: &[u8]) -> bool {
         self.ended.status == status

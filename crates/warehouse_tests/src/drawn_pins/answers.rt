@@ -49,7 +49,8 @@ fn are_points<T: Nodes, L: Ledger>(
     true
 }
 
-// Whether a class is that of a cell. Its lower bounds are looked at where the cell is its upper bound.
+// Whether a class is that of a cell. Its lower bounds are looked at where the cell is its upper
+// bound.
 fn is_class_of(class: &Class, cell: &Line, sales: &[Sale]) -> bool {
     let upper = line_of(&class.upper);
     closes(cell, &upper, sales)

@@ -11,7 +11,8 @@ use std::alloc::Global;
 use std::sync::ledger::Ledger;
 use value_dict::Dict;
 
-// What each dimension is asked: 0 for Any, 1 for the text a, 2 for each text, 3 for b or c, and 4 for those from
+// What each dimension is asked: 0 for Any, 1 for the text a, 2 for each text, 3 for b or c, and 4
+// for those from
 // a to b.
 type Choices = [u8; 3];
 

@@ -6,7 +6,9 @@ use Rattle.cube_defs.specs.declared.limits.TheConstants.{MAX_MEASURES}
 
 abbrev pub invariant-parts : goal.invariant-parts
 invariant-parts l = record {
-  joined : (k : ℕ) → k < l.i → slice_index_or l.parts k zero_part ≡ joined (slice_index_or l.fn.parts k zero_part) (single (slice_index_or l.amounts k (pos 0)));
+  joined : (k : ℕ) → k < l.i
+      → slice_index_or l.parts k zero_part ≡ joined (slice_index_or l.fn.parts k zero_part)
+      (single (slice_index_or l.amounts k (pos 0)));
   others : (k : ℕ) → l.i ≤ k → slice_index_or l.parts k zero_part ≡ slice_index_or l.fn.parts k zero_part;
   four : length l.parts ≡ MAX_MEASURES;
 }

@@ -1,4 +1,5 @@
-use Rattle.std.proofs.Common.{◌∙◌, ap, pos, rules, slice_index_or, w64, ◌≢◌, ◌<◌, length, arith, below_more, get_or-set_other, get_or-set_same, length-set}
+use Rattle.std.proofs.Common.{◌∙◌, ap, pos, rules, slice_index_or, w64, ◌≢◌, ◌<◌, length, arith, below_more, get_or-set_other}
+use Rattle.std.proofs.Common.{get_or-set_same, length-set}
 use Rattle.std.proofs.lemmas.Int.{to_z-of_z}
 use Rattle.aggregates.specs.Rows.{single}
 use Rattle.aggregates.proofs.agg.set_parts.Goals as goal
@@ -7,7 +8,10 @@ pub parts-preserved : goal.parts-preserved
 parts-preserved c = record {
   set = below_more _ _
       (λ k h. let ne : k ≢ c.parts.i = omega arith in rw get_or-set_other (c.parts.invariant.set k h))
-      (let lt : c.parts.i < length c.parts.parts = omega arith in rw get_or-set_same (c.single.ensures ∙ ap single (to_z-of_z w64 (slice_index_or c.args.amounts.now c.parts.i (pos 0)) (search rules))));
-  others = λ k h. let ne : k ≢ c.parts.i = omega arith in rw get_or-set_other (c.parts.invariant.others k (omega arith));
+      (let lt : c.parts.i < length c.parts.parts = omega arith in
+      rw get_or-set_same (c.single.ensures
+      ∙ ap single (to_z-of_z w64 (slice_index_or c.args.amounts.now c.parts.i (pos 0)) (search rules))));
+  others = λ k h. let ne : k ≢ c.parts.i = omega arith in
+      rw get_or-set_other (c.parts.invariant.others k (omega arith));
   four = rw length-set c.parts.invariant.four;
 }

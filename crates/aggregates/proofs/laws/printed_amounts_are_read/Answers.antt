@@ -5,7 +5,8 @@ use Rattle.aggregates.proofs.laws.printed_amounts_are_read.Goals as goal
 
 pub returns-clause-apart : goal.returns-clause-apart
 returns-clause-apart c = λ scale amount other h l e.
-    let same : Some amount ≡ Some other = sym (amount_in-text scale amount h) ∙ ap (amount_in scale) e ∙ amount_in-text scale other l in
+    let same : Some amount ≡ Some other = sym (amount_in-text scale amount h) ∙ ap (amount_in scale) e
+    ∙ amount_in-text scale other l in
     cc
 
 pub returns-clause-read : goal.returns-clause-read

@@ -11,6 +11,7 @@ digits-preserved c =
       from = omega arith;
       to = omega arith;
       left = digit-left c.args.value k c.digits.left m (omega arith) c.digits.invariant.left;
-      out = digit-out c.args.out.now c.digits.out (drop end c.args.out.now) c.args.value c.digits.left c.digits.place k m
+      out = digit-out c.args.out.now c.digits.out (drop end c.args.out.now) c.args.value c.digits.left
+          c.digits.place k m
           (omega arith) (omega arith) (omega arith) c.digits.invariant.left c.digits.invariant.out;
     }

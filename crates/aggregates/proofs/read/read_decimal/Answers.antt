@@ -15,14 +15,17 @@ pub numerator-requires : goal.numerator-requires
 numerator-requires c =
     let n = length c.args.places.now in
     let small = number-read n c.args.places.now c.in_ok-value.value (omega arith) (sym c.in_ok-value.ensures) in
-    numerator-small c.args.whole c.power_of_ten-den.result c.in_ok-value.value n c.requires (omega arith) c.power_of_ten-den.ensures.value small
+    numerator-small c.args.whole c.power_of_ten-den.result c.in_ok-value.value n c.requires
+    (omega arith) c.power_of_ten-den.ensures.value small
 
 pub invariant_of-result : goal.invariant_of-result
 invariant_of-result c =
     let n = length c.args.places.now in
     let small = number-read n c.args.places.now c.in_ok-value.value (omega arith) (sym c.in_ok-value.ensures) in
-    let fits = numerator-small c.args.whole c.power_of_ten-den.result c.in_ok-value.value n c.requires (omega arith) c.power_of_ten-den.ensures.value small in
+    let fits = numerator-small c.args.whole c.power_of_ten-den.result c.in_ok-value.value n c.requires
+    (omega arith) c.power_of_ten-den.ensures.value small in
     record {
-      in_range = fraction-from _ (c.args.whole * c.power_of_ten-den.result + c.in_ok-value.value) c.power_of_ten-den.result (omega (arith, ints))
+      in_range = fraction-from _ (c.args.whole * c.power_of_ten-den.result + c.in_ok-value.value)
+          c.power_of_ten-den.result (omega (arith, ints))
           c.power_of_ten-den.ensures.positive (omega (arith, c.power_of_ten-den.ensures.small)) fits;
     }

@@ -13,4 +13,7 @@ returns-in_err-den c =
 pub invariant_of-result : goal.invariant_of-result
 invariant_of-result c =
     let small = number-read 18 c.args.digits.now c.in_ok-den.den (omega arith) (sym c.in_ok-den.ensures) in
-    record { in_range = fraction-from _ c.args.whole c.in_ok-den.den (omega (arith, ints)) (omega arith) small (omega arith) }
+    record {
+      in_range = fraction-from _ c.args.whole c.in_ok-den.den (omega (arith, ints)) (omega arith) small
+          (omega arith);
+    }

@@ -1,7 +1,7 @@
 use Rattle.std.proofs.Common.{◌≡◌, arith, sym, subst, ◌<◌, ◌≤◌, ℕ}
 use Rattle.std.proofs.lemmas.Nat.Gcd.{IsGcd-from_mod, IsGcd-from_zero, same_from_IsGcd}
 use Rattle.cube_defs.specs.Rows.{gcd}
-use Rattle.cube_laws.proofs.Divisors.{gcd-is}
+use Rattle.cube_laws.proofs.CallerLemmas.{gcd-is}
 use Rattle.aggregates.proofs.Ratios.{gcd-positive, gcd-small}
 use Rattle.aggregates.proofs.value.greatest_common_divisor.Goals as goal
 
@@ -20,5 +20,6 @@ returns c =
     record {
       value = e;
       positive = λ h. let P : ℕ → Type 0 = λ n. 0 < n in subst P (sym e) (gcd-positive c.args.first c.args.second h);
-      small = λ h. let P : ℕ → Type 0 = λ n. n ≤ c.args.second in subst P (sym e) (gcd-small c.args.first c.args.second h);
+      small = λ h. let P : ℕ → Type 0 = λ n. n ≤ c.args.second in
+          subst P (sym e) (gcd-small c.args.first c.args.second h);
     }

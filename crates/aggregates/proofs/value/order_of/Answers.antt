@@ -12,7 +12,9 @@ returns-then-den-other_den c =
     ∙ ap (λ (k : ℕ). int_cmp (c.args.num *ℤ pos k) (c.args.other_num *ℤ pos c.args.den)) c.if-den-other_den.true
 
 pub cross-requires : goal.cross-requires
-cross-requires c = small-product _ _ 9223372036854775808 18446744073709551615 _ (omega (arith, ints, c.from.ensures)) (omega arith) (omega arith)
+cross-requires c = small-product _ _ 9223372036854775808 18446744073709551615 _ (omega (arith, ints, c.from.ensures))
+    (omega arith) (omega arith)
 
 pub cross-requires-2 : goal.cross-requires-2
-cross-requires-2 c = small-product _ _ 9223372036854775808 18446744073709551615 _ (omega (arith, ints, c.from-2.ensures)) (omega arith) (omega arith)
+cross-requires-2 c = small-product _ _ 9223372036854775808 18446744073709551615 _
+    (omega (arith, ints, c.from-2.ensures)) (omega arith) (omega arith)

@@ -5,7 +5,8 @@ use Rattle.base_table.proofs.chains.find_from.Given as goal
 
 abbrev pub invariant-places : goal.invariant-places
 invariant-places g l =
-    IsOnWay g.K.PartialEq.eq (bucket_in g.K.Numbered.number l.links.multiplier (length l.links.heads.items)) l.key l.links.keys.items l.start l.at
+    IsOnWay g.K.PartialEq.eq (bucket_in g.K.Numbered.number l.links.multiplier (length l.links.heads.items)) l.key
+    l.links.keys.items l.start l.at
 
 abbrev pub decreases-places : goal.decreases-places
 decreases-places g l = l.at

@@ -4,7 +4,8 @@ use Rattle.base_table.proofs.chains.relink.Given as goal
 
 abbrev pub invariant-keys : goal.invariant-keys
 invariant-keys g l = record {
-  chains : AreChains g.K.Numbered.number l.links.multiplier l.links.heads.items (take (length l.links.before.items) l.links.keys.items) l.links.before.items;
+  chains : AreChains g.K.Numbered.number l.links.multiplier l.links.heads.items
+      (take (length l.links.before.items) l.links.keys.items) l.links.before.items;
   keys : l.links.keys ≡ l.initial.links.keys;
   few : length l.links.before.items ≤ length l.links.keys.items;
   heads : length l.links.heads.items ≡ length l.initial.links.heads.items;

@@ -15,7 +15,9 @@ few_in (Some agg) h = h
 
 pub rows-init : goal.rows-init
 rows-init c = record {
-  sum = begin_sum c.args.store.now.printer c.args.tuple.now c.args.store.now.dims c.args.store.now.measures c.args.here.now.items c.args.store.now.rows c.requires.places c.requires.each c.last_alike-at.result c.last_alike-at.ensures;
+  sum = begin_sum c.args.store.now.printer c.args.tuple.now c.args.store.now.dims c.args.store.now.measures
+      c.args.here.now.items c.args.store.now.rows c.requires.places c.requires.each c.last_with_fingerprint-at.result
+      c.last_with_fingerprint-at.ensures;
   measures = tt;
 }
 
@@ -27,16 +29,21 @@ with_place-sum-requires-clause-measures c = c.rows.invariant.measures
 
 pub with_place-sum-requires-clause-few : goal.with_place-sum-requires-clause-few
 with_place-sum-requires-clause-few c = λ there d it.
-    few_in c.rows.sum (sum_few c.args.store.now.printer c.args.tuple.now c.args.store.now.dims c.args.store.now.measures c.args.here.now.items c.args.store.now.rows c.requires.places c.requires.each (option_map agg_in c.rows.sum) (c.rows.at - 1) c.rows.at d (omega arith)
+    few_in c.rows.sum (sum_few c.args.store.now.printer c.args.tuple.now c.args.store.now.dims c.args.store.now.measures
+    c.args.here.now.items c.args.store.now.rows c.requires.places c.requires.each (option_map agg_in c.rows.sum)
+    (c.rows.at - 1) c.rows.at d (omega arith)
     c.rows.invariant.sum c.requires.few there it)
 
-pub alike_before-at-requires : goal.alike_before-at-requires
-alike_before-at-requires c = omega (arith, c.rows.invariant.sum.within, c.requires.places)
+pub previous_with_fingerprint-at-requires : goal.previous_with_fingerprint-at-requires
+previous_with_fingerprint-at-requires c = omega (arith, c.rows.invariant.sum.within, c.requires.places)
 
 pub rows-preserved : goal.rows-preserved
 rows-preserved c = record {
-  sum = (step_sum c.args.store.now.printer c.args.tuple.now c.args.store.now.dims c.args.store.now.measures c.args.here.now.items c.args.store.now.rows c.requires.places c.requires.each (option_map agg_in c.rows.sum) (option_map agg_in c.with_place-sum.result)
-      (c.rows.at - 1) c.rows.at c.alike_before-at.result no_row (omega arith) c.rows.invariant.sum (c.with_place-sum.ensures.aggregate no_row) (c.alike_before-at.ensures no_row)).0;
+  sum = (step_sum c.args.store.now.printer c.args.tuple.now c.args.store.now.dims c.args.store.now.measures
+      c.args.here.now.items c.args.store.now.rows c.requires.places c.requires.each (option_map agg_in c.rows.sum)
+      (option_map agg_in c.with_place-sum.result)
+      (c.rows.at - 1) c.rows.at c.previous_with_fingerprint-at.result no_row (omega arith) c.rows.invariant.sum
+      (c.with_place-sum.ensures.aggregate no_row) (c.previous_with_fingerprint-at.ensures no_row)).0;
   measures = c.with_place-sum.ensures.measures;
 }
 
@@ -44,12 +51,17 @@ pub rows-smaller : goal.rows-smaller
 rows-smaller c =
     omega (
       arith,
-      (step_sum c.args.store.now.printer c.args.tuple.now c.args.store.now.dims c.args.store.now.measures c.args.here.now.items c.args.store.now.rows c.requires.places c.requires.each (option_map agg_in c.rows.sum) (option_map agg_in c.with_place-sum.result)
-          (c.rows.at - 1) c.rows.at c.alike_before-at.result no_row (omega arith) c.rows.invariant.sum (c.with_place-sum.ensures.aggregate no_row) (c.alike_before-at.ensures no_row)).1,
+      (step_sum c.args.store.now.printer c.args.tuple.now c.args.store.now.dims c.args.store.now.measures
+          c.args.here.now.items c.args.store.now.rows c.requires.places c.requires.each (option_map agg_in c.rows.sum)
+          (option_map agg_in c.with_place-sum.result)
+          (c.rows.at - 1) c.rows.at c.previous_with_fingerprint-at.result no_row (omega arith) c.rows.invariant.sum
+          (c.with_place-sum.ensures.aggregate no_row) (c.previous_with_fingerprint-at.ensures no_row)).1,
     )
 
 pub returns : goal.returns
 returns c = record {
-  value = end_sum c.args.store.now.printer c.args.tuple.now c.args.store.now.dims c.args.store.now.measures c.args.here.now.items c.args.store.now.rows c.requires.places c.requires.each (option_map agg_in c.rows.sum) c.rows.at (omega arith) c.rows.invariant.sum;
+  value = end_sum c.args.store.now.printer c.args.tuple.now c.args.store.now.dims c.args.store.now.measures
+      c.args.here.now.items c.args.store.now.rows c.requires.places c.requires.each
+      (option_map agg_in c.rows.sum) c.rows.at (omega arith) c.rows.invariant.sum;
   measures = c.rows.invariant.measures;
 }

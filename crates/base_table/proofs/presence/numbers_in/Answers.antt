@@ -9,6 +9,9 @@ places-preserved c =
     let items = λ (v : Vec RowNo Global). v.items in
     let lt : c.places.place < length c.args.here.now.items = omega arith in
     elim c.if-index.branch [
-      | then-index+in_ok-push w ↦ number_more c.args.here.now.items c.places.place c.index.result.now c.places.nos.items c.if-index.nos.items c.index.ensures w.if-index.true (ap items w.nos-is ∙ w.in_ok-push.ensures.items) lt c.places.invariant
-      | else-index w ↦ number_less c.args.here.now.items c.places.place c.index.result.now c.places.nos.items c.if-index.nos.items c.index.ensures w.if-index.false (ap items w.nos-is) lt c.places.invariant
+      | then-index+in_ok-push w ↦ number_more c.args.here.now.items c.places.place c.index.result.now c.places.nos.items
+          c.if-index.nos.items c.index.ensures w.if-index.true (ap items w.nos-is
+          ∙ w.in_ok-push.ensures.items) lt c.places.invariant
+      | else-index w ↦ number_less c.args.here.now.items c.places.place c.index.result.now c.places.nos.items
+          c.if-index.nos.items c.index.ensures w.if-index.false (ap items w.nos-is) lt c.places.invariant
     ]

@@ -8,14 +8,18 @@ dims-init c = λ j l e. absurd (omega (arith, l, slice_get_within c.args.cell.no
 
 pub dims-preserved : goal.dims-preserved
 dims-preserved c =
-    let lt = subst (λ n. c.dims.k < n) (c.dims-k-end.ensures.value ∙ sym c.dims-in-dims.ensures.value) c.dims-test.true in
-    last_more c.args.cell.now c.dims-in-dims.result c.dims.k c.in-Is.field-0 c.dims-in-dims.ensures.value lt c.dims.invariant (sym c.in-Is.ensures.value)
+    let lt = subst (λ n. c.dims.k < n) (c.dims-k-end.ensures.value ∙ sym c.dims-in-dims.ensures.value)
+    c.dims-test.true in
+    last_more c.args.cell.now c.dims-in-dims.result c.dims.k c.in-Is.field-0 c.dims-in-dims.ensures.value lt
+    c.dims.invariant (sym c.in-Is.ensures.value)
 
 pub returns-in-Any : goal.returns-in-Any
 returns-in-Any c =
-    let lt : c.dims.k < c.dims-in-dims.result = subst (λ n. c.dims.k < n) (c.dims-k-end.ensures.value ∙ sym c.dims-in-dims.ensures.value) c.dims-test.true in
+    let lt : c.dims.k < c.dims-in-dims.result
+    = subst (λ n. c.dims.k < n) (c.dims-k-end.ensures.value ∙ sym c.dims-in-dims.ensures.value) c.dims-test.true in
     record {
       none = tt;
-      some = last_is c.args.cell.now c.dims-in-dims.result c.dims.k c.dims-in-dims.ensures.value lt c.dims.invariant (sym c.in-Any.ensures.value);
+      some = last_is c.args.cell.now c.dims-in-dims.result c.dims.k c.dims-in-dims.ensures.value lt c.dims.invariant
+          (sym c.in-Any.ensures.value);
       within = omega (arith, lt, c.dims-in-dims.ensures.value);
     }

@@ -11,8 +11,9 @@ plan_row-requires g c κs within = (
       tree = c.requires.1.0;
       long = c.requires.1.1.0;
       tuple = c.requires.1.1.1.0;
-      all = c.total_at-all.ensures.value (source_before g.d) c.requires.1.0 ∙ total_agg g.d.measures (rows_before g.d) c.args.tuple.now;
-      twins = c.requires.1.1.1.1.1.0;
+      all = c.total_at-all.ensures.value (source_before g.d) c.requires.1.0
+          ∙ total_agg g.d.measures (rows_before g.d) c.args.tuple.now;
+      duplicates = c.requires.1.1.1.1.1.0;
       few = c.requires.1.1.1.1.1.1;
     },
     c.requires.1.1.1.1.0,

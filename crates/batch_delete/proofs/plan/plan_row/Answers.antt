@@ -1,13 +1,13 @@
 use Rattle.std.proofs.Common.{◌≡◌, ◌∙◌, ◌≤◌, ◌+◌, ◌-◌, suc, Some, ap, arith, drop, length, subst, sym}
 use Rattle.std.proofs.lemmas.Option.{slice_get_within}
-use Rattle.batch_delete.specs.Plan.{planning}
+use Rattle.batch_delete.specs.Plan.{planning_cost}
 use Rattle.batch_delete.specs.Rests.{ArePlanned}
-use Rattle.batch_delete.proofs.Fated.{greater_planned, planned_more, planning_more}
+use Rattle.batch_delete.proofs.NodePlans.{greater_planned, planned_more, planning_more}
 use Rattle.batch_delete.proofs.Growing.{item_at}
 use Rattle.batch_delete.proofs.plan.plan_row.Goals as goal
 
-pub fate_of-fate-requires : goal.fate_of-fate-requires
-fate_of-fate-requires g c κs within =
+pub node_plan_of-fate-requires : goal.node_plan_of-fate-requires
+node_plan_of-fate-requires g c κs within =
     let a = c.args.row.now.arena.now in
     let xs = c.args.list.now.items in
     let j = c.len-many.result - 1 - c.nodes.k in
@@ -19,7 +19,8 @@ fate_of-fate-requires g c κs within =
     let row = c.requires.1.0 in
     let are = c.requires.1.1 in
     let had = subst (ArePlanned g.d a.now c.nodes.plan.entries xs) next c.nodes.invariant.planned in
-    let greater = greater_planned a.width a.now g.d row.tree c.args.row.now.tuple.now row.long xs are j b at c.nodes.plan.entries had in
+    let greater = greater_planned a.width a.now g.d row.tree c.args.row.now.tuple.now row.long xs are j b at
+    c.nodes.plan.entries had in
     (within, (row, (are.cells j b at, (are.below j b at, greater))))
 
 pub nodes-preserved : goal.nodes-preserved
@@ -36,16 +37,20 @@ nodes-preserved g c =
     let here : j ≡ length xs - (c.nodes.k + 1) = omega arith in
     let are = c.requires.1.1 in
     let had = subst (ArePlanned g.d a.now c.nodes.plan.entries xs) next c.nodes.invariant.planned in
-    let made = c.in_ok-add_fate.ensures in
-    let fate = c.fate_of-fate.ensures in
-    let all = planned_more a.width a.now g.d c.requires.1.0.tree c.args.row.now.tuple.now c.requires.1.0.long xs are j b at c.nodes.plan.entries had c.add_fate.new.plan.entries c.fate_of-fate.result fate.after fate.heir made.here made.heir made.others made.heirs in
+    let made = c.in_ok-add_node_plan.ensures in
+    let fate = c.node_plan_of-fate.ensures in
+    let all = planned_more a.width a.now g.d c.requires.1.0.tree c.args.row.now.tuple.now c.requires.1.0.long xs are j b
+    at c.nodes.plan.entries had c.add_node_plan.new.plan.entries c.node_plan_of-fate.result fate.after fate.heir
+    made.here made.heir made.others made.heirs in
     let more = planning_more n a.now xs xs j b at in
     let before = c.nodes.invariant.steps in
-    let left : planning n a.now xs (drop (length xs - c.nodes.k) xs) ≡ planning n a.now xs (drop (suc j) xs) = ap (λ m. planning n a.now xs (drop m xs)) next in
-    let now : planning n a.now xs (drop j xs) ≡ planning n a.now xs (drop (length xs - (c.nodes.k + 1)) xs) = ap (λ m. planning n a.now xs (drop m xs)) here in
+    let left : planning_cost n a.now xs (drop (length xs - c.nodes.k) xs) ≡ planning_cost n a.now xs (drop (suc j) xs)
+    = ap (λ m. planning_cost n a.now xs (drop m xs)) next in
+    let now : planning_cost n a.now xs (drop j xs) ≡ planning_cost n a.now xs (drop (length xs - (c.nodes.k + 1)) xs)
+    = ap (λ m. planning_cost n a.now xs (drop m xs)) here in
     let took = fate.steps xs are in
     record {
-      planned = subst (ArePlanned g.d a.now c.add_fate.new.plan.entries xs) here all;
+      planned = subst (ArePlanned g.d a.now c.add_node_plan.new.plan.entries xs) here all;
       steps = omega (arith, before, took, left, now, more);
     }
 
@@ -56,10 +61,15 @@ returns-clause-planned g c =
     λ j b l e. c.nodes.invariant.planned j b (omega arith) e
 
 pub nodes-init : goal.nodes-init
-nodes-init g c = record { planned = λ j b l e. absurd (omega (arith, l, slice_get_within c.args.list.now.items j b e)); steps = omega arith }
+nodes-init g c = record {
+  planned = λ j b l e. absurd (omega (arith, l, slice_get_within c.args.list.now.items j b e));
+  steps = omega arith;
+}
 
 pub returns-clause-steps : goal.returns-clause-steps
 returns-clause-steps g c =
     let xs = c.args.list.now.items in
     let z : length xs - c.nodes.k ≡ 0 = omega (arith, c.len-many.ensures, c.nodes-test.false) in
-    subst (λ m. c.nodes.steps ≤ c.args.steps.now + planning (length c.args.row.now.tuple.now) c.args.row.now.arena.now.now xs (drop m xs)) z c.nodes.invariant.steps
+    subst (λ m. c.nodes.steps ≤ c.args.steps.now
+    + planning_cost (length c.args.row.now.tuple.now) c.args.row.now.arena.now.now xs (drop m xs)) z
+    c.nodes.invariant.steps

@@ -1,11 +1,11 @@
 use Rattle.std.proofs.Common.{◌+◌, ◌*◌, ◌≤◌, ◌≡◌, ◌∙◌, ap, arith, length, subst, sym}
 use Rattle.std.specs.Option.{option_map}
-use Rattle.qc_arena.specs.Seen.{edge_of}
-use Rattle.batch_delete.specs.Going.{IsClassNode}
-use Rattle.batch_delete.specs.Plan.{after_in, front_labels, last_any_of}
+use Rattle.qc_arena.specs.RecordReaders.{edge_of}
+use Rattle.batch_delete.specs.DeletedRow.{IsClassNode}
+use Rattle.batch_delete.specs.Plan.{planned_rest_in, prefix_labels, last_any_of}
 use Rattle.batch_delete.specs.Rests.{IsRest, rows_after}
 use Rattle.batch_delete.proofs.Childs.{cell_wide}
-use Rattle.batch_delete.proofs.Fating.{covered, forced_rest, part_planned, row_value, unforced}
+use Rattle.batch_delete.proofs.PlanningNodes.{covered, forced_rest, part_planned, row_value, unforced}
 use Rattle.batch_delete.proofs.plan.rest_of.Goals as goal
 
 pub class_after-requires : goal.class_after-requires
@@ -21,20 +21,32 @@ class_after-requires g c κs within =
     let class : IsClassNode g.d a c.args.below.now = record {
       class = record {
         below = covered a.width a.now g.d tree k p at t row.tuple low;
-        own = unforced a.width a.now g.d tree k p at (sym c.forced.ensures.value ∙ ap (option_map edge_of) c.in-None.is);
+        own = unforced a.width a.now g.d tree k p at (sym c.forced.ensures.value
+            ∙ ap (option_map edge_of) c.in-None.is);
       };
       long = cell_wide a.width a.now _ tree k p at;
       node = at;
-    } in
-    (within, (row, (class, (λ i v q w any has closes there. part_planned a.width a.now g.d tree k p at t row.tuple low (after_in c.args.plan.now.entries) c.requires.1.1.1.1 i v q w any (row_value t g.d.r.tuple i v row.tuple has) closes there))))
+    } in (
+      within,
+      (
+        row,
+        (
+          class,
+          (λ i v q w any has closes there. part_planned a.width a.now g.d tree k p at t row.tuple low
+              (planned_rest_in c.args.plan.now.entries) c.requires.1.1.1.1 i v q w any
+              (row_value t g.d.r.tuple i v row.tuple has) closes there),
+        ),
+      ),
+    )
 
 pub returns-in-Some-clause-rest : goal.returns-in-Some-clause-rest
 returns-in-Some-clause-rest g c =
     let a = c.args.row.now.arena.now in
     let k = c.args.below.now.node.0 in
     let p = c.args.below.now.cell in
-    subst (IsRest g.d.measures (rows_after g.d) p) (sym c.after_of.ensures)
-    (forced_rest a.width a.now g.d c.requires.1.0.tree k p c.requires.1.1.0 c.args.row.now.tuple.now c.requires.1.0.tuple c.requires.1.1.1.0 (after_in c.args.plan.now.entries) c.requires.1.1.1.1
+    subst (IsRest g.d.measures (rows_after g.d) p) (sym c.planned_rest.ensures)
+    (forced_rest a.width a.now g.d c.requires.1.0.tree k p c.requires.1.1.0 c.args.row.now.tuple.now
+    c.requires.1.0.tuple c.requires.1.1.1.0 (planned_rest_in c.args.plan.now.entries) c.requires.1.1.1.1
     (edge_of c.in-Some.forced) (sym c.forced.ensures.value ∙ ap (option_map edge_of) c.in-Some.is))
 
 pub returns-in-None-clause-steps : goal.returns-in-None-clause-steps
@@ -45,4 +57,5 @@ returns-in-None-clause-steps g c = λ list are.
     let long : length p ≡ length c.args.row.now.tuple.now = wide ∙ sym c.requires.1.0.long in
     let one = c.forced.ensures.steps in
     let took = c.class_after.ensures.steps list are in
-    subst (λ n. c.class_after.new.steps ≤ c.args.steps.now + ((3 * n + 5) + (4 * n + 7) * front_labels a.now list p (last_any_of p))) long (omega arith)
+    subst (λ n. c.class_after.new.steps ≤ c.args.steps.now
+    + ((3 * n + 5) + (4 * n + 7) * prefix_labels a.now list p (last_any_of p))) long (omega arith)

@@ -5,13 +5,11 @@ use Rattle.aggregates.specs.Views.{agg_in}
 use Rattle.cube_defs.specs.Cell.{Cell}
 use Rattle.cube_defs.specs.Rows.{cov}
 use Rattle.cube_laws.specs.Total.{agg_at}
-use Rattle.cube_laws.proofs.Witness.{count_one_less}
+use Rattle.cube_laws.proofs.CallerLemmas.{count_one_less, slice_get-cell_of, some_of}
 use Rattle.batch_delete.specs.declared.parts.Rest.{Rest}
 use Rattle.batch_delete.specs.Rests.{IsRest, rows_after, rows_before}
 use Rattle.batch_delete.proofs.Counted.{counted, counted_at}
 use Rattle.batch_delete.proofs.Labelled.{law}
-use Rattle.cube_laws.proofs.Columns.{slice_get-cell_of}
-use Rattle.cube_laws.proofs.Lists.{some_of}
 use Rattle.batch_delete.proofs.Settled.{class_stays}
 use Rattle.batch_delete.proofs.stays.settled.Goals as goal
 
@@ -21,17 +19,24 @@ returns-then-is_settled g c =
     let u = c.args.class.now.cell in
     let above = some_of _ c.args.some.now c.in-Some.rest c.in-Some.is c.requires.1.1.1.1.0 in
     let agg = some_of _ c.args.class.now.less c.in-Some-less.agg c.in-Some-less.is c.requires.1.1.0.less in
-    let stays = class_stays a.width a.now g.d c.requires.0.tree u c.in-Some.rest.shared c.requires.1.0 c.requires.1.1.0.is.below c.requires.1.1.0.is.own above (λ k v any has.
-    (slice_get-cell_of g.d.r.tuple k v).0 (ap (λ (c : Cell ℕ). slice_get c k) (sym c.requires.0.tuple) ∙ c.is_settled.ensures c.if-is_settled.true k v any has)) in
+    let stays = class_stays a.width a.now g.d c.requires.0.tree u c.in-Some.rest.shared c.requires.1.0
+    c.requires.1.1.0.is.below c.requires.1.1.0.is.own above (λ k v any has.
+    (slice_get-cell_of g.d.r.tuple k v).0 (ap (λ (c : Cell ℕ). slice_get c k) (sym c.requires.0.tuple)
+    ∙ c.is_settled.ensures c.if-is_settled.true k v any has)) in
     record { rest = record { cells = ap (λ c. Some c) c.copy-then-is_settled.ensures.value ∙ sym stays; aggs = agg } }
 
-pub returns-then-are_all : goal.returns-then-are_all
-returns-then-are_all g c =
+pub returns-then-are_all_but_one : goal.returns-then-are_all_but_one
+returns-then-are_all_but_one g c =
     let u = c.args.class.now.cell in
     let all = some_of _ c.args.some.now c.in-Some.rest c.in-Some.is c.requires.1.1.1.1.1 in
-    let found = c.are_all.ensures c.if-are_all.true in
-    let whole : Some (agg_in found.0) ≡ agg_at (eq_by_cmp nat_cmp) g.d.measures (rows_before g.d) u = ap (option_map agg_in) (sym found.1) ∙ c.requires.1.1.0.whole in
-    let many : found.0.count ≡ length (cov (eq_by_cmp nat_cmp) (rows_before g.d) u) = ap counted whole ∙ counted_at g.d.measures (rows_before g.d) u in
+    let found = c.are_all_but_one.ensures c.if-are_all_but_one.true in
+    let whole : Some (agg_in found.0) ≡ agg_at (eq_by_cmp nat_cmp) g.d.measures (rows_before g.d) u
+    = ap (option_map agg_in) (sym found.1) ∙ c.requires.1.1.0.whole in
+    let many : found.0.count ≡ length (cov (eq_by_cmp nat_cmp) (rows_before g.d) u) = ap counted whole
+    ∙ counted_at g.d.measures (rows_before g.d) u in
     let less = count_one_less law g.d.xs g.d.r g.d.ys u c.requires.1.1.0.is.below in
     let one = found.2 in
-    record { rest = subst (λ (rest : Rest). IsRest g.d.measures (rows_after g.d) u (Some rest)) (sym c.copy.ensures) (all (omega arith)) }
+    record {
+      rest = subst (λ (rest : Rest). IsRest g.d.measures (rows_after g.d) u (Some rest)) (sym c.copy.ensures)
+          (all (omega arith));
+    }

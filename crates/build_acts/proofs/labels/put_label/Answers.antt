@@ -8,7 +8,7 @@ use Rattle.qc_arena.specs.Map.{with_forced}
 use Rattle.build_acts.specs.Building.{PerformsActs}
 use Rattle.build_acts.proofs.Steps.{does_label}
 use Rattle.build_acts.proofs.labels.put_label.Goals as goal
-use Rattle.tree_laws.proofs.Lists.{some_there}
+use Rattle.tree_laws.proofs.CallerLemmas.{some_there}
 
 pub returns-then-is_forced-clause-made : goal.returns-then-is_forced-clause-made
 returns-then-is_forced-clause-made g c = λ measures rows f t at target.
@@ -18,7 +18,8 @@ returns-then-is_forced-clause-made g c = λ measures rows f t at target.
     let e : Edge ℕ ℕ = record { dim = c.args.label.0; value = c.args.label.1; target = c.args.label.2.0 } in
     let m = some_there (map.get a.now k) c.requires.change.there in
     let edged = c.in-Ok.ensures.here ∙ ap (option_map (with_edge e)) m.1 in
-    subst (λ forced. PerformsActs measures rows (Label forced f c.args.label.0 c.args.label.1 t ∷ []) a b) (sym c.if-is_forced.true)
+    subst (λ forced. PerformsActs measures rows (Label forced f c.args.label.0 c.args.label.1 t ∷ []) a b)
+    (sym c.if-is_forced.true)
     (does_label measures rows a b k true f t c.args.label.0 c.args.label.1 c.args.label.2.0 at target m.0 m.1
     (record {
       here = c.set_forced.ensures.here ∙ ap (option_map (with_forced (Some e))) edged;
@@ -34,7 +35,13 @@ returns-else-is_forced-clause-made g c = λ measures rows f t at target.
     let k = c.args.node.0 in
     let e : Edge ℕ ℕ = record { dim = c.args.label.0; value = c.args.label.1; target = c.args.label.2.0 } in
     let m = some_there (map.get a.now k) c.requires.change.there in
-    subst (λ forced. PerformsActs measures rows (Label forced f c.args.label.0 c.args.label.1 t ∷ []) a b) (sym c.if-is_forced.false)
+    subst (λ forced. PerformsActs measures rows (Label forced f c.args.label.0 c.args.label.1 t ∷ []) a b)
+    (sym c.if-is_forced.false)
     (does_label measures rows a b k false f t c.args.label.0 c.args.label.1 c.args.label.2.0 at target m.0 m.1
-    (record { here = c.in-Ok.ensures.here ∙ ap (option_map (with_edge e)) m.1; others = c.in-Ok.ensures.others; rest = c.in-Ok.ensures.frame })
+    (record {
+      here = c.in-Ok.ensures.here ∙ ap (option_map (with_edge e)) m.1;
+      others = c.in-Ok.ensures.others;
+      rest
+          = c.in-Ok.ensures.frame;
+    })
     c.in-Ok.ensures.touched)

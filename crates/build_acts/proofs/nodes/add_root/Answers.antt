@@ -8,4 +8,5 @@ returns-clause-made g c =
     root_made c.add_node.result c.args.arena.now c.add_node.new.self e.free e.here e.others e.touched e.frame
 
 pub returns-clause-full : goal.returns-clause-full
-returns-clause-full g c = λ full measures rows next. more_next measures rows (replicate c.args.arena.now.width None) [] c.args.arena.now next (c.add_node.ensures.full.0 full)
+returns-clause-full g c = λ full measures rows next. more_next measures rows (replicate c.args.arena.now.width None)
+    [] c.args.arena.now next (c.add_node.ensures.full.0 full)

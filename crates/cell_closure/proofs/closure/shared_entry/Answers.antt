@@ -8,14 +8,28 @@ use Rattle.cell_closure.proofs.closure.shared_entry.Goals as goal
 
 pub returns-then-all_have-clause-value : goal.returns-then-all_have-clause-value
 returns-then-all_have-clause-value c =
-    let here : is_some (row_at c.args.table.now (get_or c.args.rows.now 0 zeroth).0) ≡ true = c.requires.there 0 zeroth c.requires.some in
-    let code : c.code-code.result ≡ code_at c.args.table.now c.args.dim (get_or c.args.rows.now 0 zeroth) = code_is (row_at c.args.table.now (get_or c.args.rows.now 0 zeroth).0) c.args.dim c.code-code.result here c.code-code.ensures.value in
-    let all : list_all (λ n. code_at c.args.table.now c.args.dim n == c.code-code.result) c.args.rows.now ≡ true = sym (rest_decides c.args.table.now c.args.dim c.code-code.result c.args.rows.now c.requires.some code) ∙ sym c.all_have.ensures ∙ c.if-all_have.true in
-    sym (all_share c.args.table.now c.requires.table c.args.rows.now (there c.args.table.now c.args.rows.now c.requires.there) c.requires.some c.args.dim c.code-code.result c.requires.dim all)
+    let here : is_some (row_at c.args.table.now (get_or c.args.rows.now 0 zeroth).0) ≡ true
+    = c.requires.there 0 zeroth c.requires.some in
+    let code : c.code-code.result ≡ code_at c.args.table.now c.args.dim (get_or c.args.rows.now 0 zeroth)
+    = code_is (row_at c.args.table.now (get_or c.args.rows.now 0 zeroth).0) c.args.dim c.code-code.result here
+    c.code-code.ensures.value in
+    let all : list_all (λ n. code_at c.args.table.now c.args.dim n == c.code-code.result) c.args.rows.now ≡ true
+    = sym (rest_decides c.args.table.now c.args.dim c.code-code.result c.args.rows.now c.requires.some code)
+    ∙ sym c.all_have.ensures ∙ c.if-all_have.true in
+    sym (all_share c.args.table.now c.requires.table c.args.rows.now
+    (there c.args.table.now c.args.rows.now c.requires.there) c.requires.some c.args.dim c.code-code.result
+    c.requires.dim all)
 
 pub returns-else-all_have-clause-value : goal.returns-else-all_have-clause-value
 returns-else-all_have-clause-value c =
-    let here : is_some (row_at c.args.table.now (get_or c.args.rows.now 0 zeroth).0) ≡ true = c.requires.there 0 zeroth c.requires.some in
-    let code : c.code-code.result ≡ code_at c.args.table.now c.args.dim (get_or c.args.rows.now 0 zeroth) = code_is (row_at c.args.table.now (get_or c.args.rows.now 0 zeroth).0) c.args.dim c.code-code.result here c.code-code.ensures.value in
-    let other : list_all (λ n. code_at c.args.table.now c.args.dim n == c.code-code.result) c.args.rows.now ≡ false = sym (rest_decides c.args.table.now c.args.dim c.code-code.result c.args.rows.now c.requires.some code) ∙ sym c.all_have.ensures ∙ c.if-all_have.false in
-    sym (none_share c.args.table.now c.requires.table c.args.rows.now (there c.args.table.now c.args.rows.now c.requires.there) c.requires.some c.args.dim c.code-code.result code other)
+    let here : is_some (row_at c.args.table.now (get_or c.args.rows.now 0 zeroth).0) ≡ true
+    = c.requires.there 0 zeroth c.requires.some in
+    let code : c.code-code.result ≡ code_at c.args.table.now c.args.dim (get_or c.args.rows.now 0 zeroth)
+    = code_is (row_at c.args.table.now (get_or c.args.rows.now 0 zeroth).0) c.args.dim c.code-code.result here
+    c.code-code.ensures.value in
+    let other : list_all (λ n. code_at c.args.table.now c.args.dim n == c.code-code.result) c.args.rows.now ≡ false
+    = sym (rest_decides c.args.table.now c.args.dim c.code-code.result c.args.rows.now c.requires.some code)
+    ∙ sym c.all_have.ensures ∙ c.if-all_have.false in
+    sym (none_share c.args.table.now c.requires.table c.args.rows.now
+    (there c.args.table.now c.args.rows.now c.requires.there) c.requires.some c.args.dim
+    c.code-code.result code other)

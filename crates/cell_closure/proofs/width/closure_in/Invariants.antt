@@ -1,7 +1,7 @@
 use Rattle.std.proofs.Common.{◌≡◌, ℕ, ◌<◌, length}
 use Rattle.base_table.specs.Places.{named}
 use Rattle.cube_laws.specs.Parting.{shared_by}
-use Rattle.cube_laws.proofs.Shared.{entry}
+use Rattle.cube_laws.proofs.CallerLemmas.{entry}
 use Rattle.cell_closure.proofs.width.closure_in.Given as goal
 
 abbrev pub invariant-dims : goal.invariant-dims

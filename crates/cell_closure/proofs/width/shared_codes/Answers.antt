@@ -9,7 +9,7 @@ use Rattle.cell_closure.specs.Parts.{code_at}
 use Rattle.cell_closure.specs.Widths.{met}
 use Rattle.cell_closure.proofs.Closing.{zeroth}
 use Rattle.cell_closure.proofs.Rows.{there}
-use Rattle.cell_closure.proofs.Widths.{code-kept, shared-front, shared-more, shared-whole, shared_code}
+use Rattle.cell_closure.proofs.Widths.{code-kept, shared-prefix, shared-more, shared-whole, shared_code}
 use Rattle.cell_closure.proofs.width.shared_codes.Goals as goal
 
 pub rows-preserved : goal.rows-preserved
@@ -18,8 +18,10 @@ rows-preserved g c =
     let rest : List RowNo = take (length c.args.rows.now - 1) (drop 1 c.args.rows.now) in
     record {
       long = c.meet_fixed.ensures.width;
-      done = λ j lt. c.meet_fixed.ensures.codes j (omega (arith, lt, c.requires.width)) ∙ ap₂ met (c.rows.invariant.done j lt) (c.codes_of.ensures.value j lt)
-          ∙ shared-more c.args.table.now j first (take c.rows.row-index rest) _ ∙ ap (shared_code c.args.table.now j first) (sym (take_more rest c.rows.row-index _ c.rows-test.true));
+      done = λ j lt. c.meet_fixed.ensures.codes j (omega (arith, lt, c.requires.width))
+          ∙ ap₂ met (c.rows.invariant.done j lt) (c.codes_of.ensures.value j lt)
+          ∙ shared-more c.args.table.now j first (take c.rows.row-index rest) _
+          ∙ ap (shared_code c.args.table.now j first) (sym (take_more rest c.rows.row-index _ c.rows-test.true));
     }
 
 pub returns : goal.returns
@@ -28,12 +30,18 @@ returns g c =
     let nos = c.args.rows.now in
     let first : RowNo = get_or nos 0 zeroth in
     let rest : List RowNo = take (length nos - 1) (drop 1 nos) in
-    let small : (j : ℕ) → j < t.dims → IsCode (code_at t j first) = λ j lt. subst IsCode (c.codes_of-shared.ensures.value j lt) (c.codes_of-shared.ensures.small j lt) in
-    let whole : take c.rows.row-index rest ≡ rest = ap (λ (n : ℕ). take n rest) (omega (arith, c.rows-test.false, c.rows.auto.row-index-end)) ∙ take-length rest in
-    let all : (j : ℕ) → j < t.dims → get_or c.rows.shared j 0 ≡ shared_code t j first rest = λ j lt. c.rows.invariant.done j lt ∙ ap (shared_code t j first) whole in
+    let small : (j : ℕ) → j < t.dims → IsCode (code_at t j first)
+    = λ j lt. subst IsCode (c.codes_of-shared.ensures.value j lt) (c.codes_of-shared.ensures.small j lt) in
+    let whole : take c.rows.row-index rest ≡ rest
+    = ap (λ (n : ℕ). take n rest) (omega (arith, c.rows-test.false, c.rows.auto.row-index-end))
+    ∙ take-length rest in
+    let all : (j : ℕ) → j < t.dims → get_or c.rows.shared j 0 ≡ shared_code t j first rest
+    = λ j lt. c.rows.invariant.done j lt ∙ ap (shared_code t j first) whole in
     record {
-      value = λ j lt. ap entry_of (all j lt) ∙ shared-whole t c.requires.table nos (there t nos c.requires.there) c.requires.some j lt (small j lt);
-      kept = λ j lt. ap is_kept (all j lt) ∙ code-kept (list_all (λ n. code_at t j n == code_at t j first) rest) (code_at t j first) (small j lt);
+      value = λ j lt. ap entry_of (all j lt)
+          ∙ shared-whole t c.requires.table nos (there t nos c.requires.there) c.requires.some j lt (small j lt);
+      kept = λ j lt. ap is_kept (all j lt)
+          ∙ code-kept (list_all (λ n. code_at t j n == code_at t j first) rest) (code_at t j first) (small j lt);
     }
 
 pub returns-then-not-has_value : goal.returns-then-not-has_value
@@ -41,11 +49,15 @@ returns-then-not-has_value g c =
     let t = c.args.table.now in
     let nos = c.args.rows.now in
     let first : RowNo = get_or nos 0 zeroth in
-    let small : (j : ℕ) → j < t.dims → IsCode (code_at t j first) = λ j lt. subst IsCode (c.codes_of-shared.ensures.value j lt) (c.codes_of-shared.ensures.small j lt) in
-    let any : (j : ℕ) → j < t.dims → get_or c.rows.shared j 0 ≡ 4294967295 = λ j lt. c.has_value.ensures c.if-not-has_value.true j (omega (arith, lt, c.dims.ensures.value)) in
+    let small : (j : ℕ) → j < t.dims → IsCode (code_at t j first)
+    = λ j lt. subst IsCode (c.codes_of-shared.ensures.value j lt) (c.codes_of-shared.ensures.small j lt) in
+    let any : (j : ℕ) → j < t.dims → get_or c.rows.shared j 0 ≡ 4294967295
+    = λ j lt. c.has_value.ensures c.if-not-has_value.true j (omega (arith, lt, c.dims.ensures.value)) in
     record {
       value = λ j lt. ap entry_of (c.rows.invariant.done j lt)
-          ∙ shared-front t c.requires.table nos (there t nos c.requires.there) c.requires.some j c.rows.row-index lt (small j lt) (sym (c.rows.invariant.done j lt) ∙ any j lt);
+          ∙ shared-prefix t c.requires.table nos (there t nos c.requires.there) c.requires.some j c.rows.row-index lt
+          (small j lt) (sym (c.rows.invariant.done j lt) ∙ any j lt);
       kept = λ j lt. ap is_kept (c.rows.invariant.done j lt)
-          ∙ code-kept (list_all (λ n. code_at t j n == code_at t j first) (take c.rows.row-index (take (length nos - 1) (drop 1 nos)))) (code_at t j first) (small j lt);
+          ∙ code-kept (list_all (λ n. code_at t j n == code_at t j first)
+          (take c.rows.row-index (take (length nos - 1) (drop 1 nos)))) (code_at t j first) (small j lt);
     }

@@ -3,7 +3,7 @@ use Rattle.std.proofs.lemmas.List.{length-map, length-take-le}
 use Rattle.std.proofs.lemmas.List.Elements.{All-append, All-drop, All-take}
 use Rattle.cube_defs.specs.Cell.{meet}
 use Rattle.cell_core.specs.Codes.{entry_of, is_kept}
-use Rattle.cell_core.proofs.CodesLemmas.{entries-front}
+use Rattle.cell_core.proofs.CodesLemmas.{entries-prefix}
 use Rattle.cell_core.proofs.cell.meet_into.Goals as goal
 
 long : (c : goal.After-meet_into) → length c.meet_into.new.c ≡ c.c.inside.dims
@@ -12,11 +12,12 @@ long c =
     c.meet_into.auto.c ∙ length-take-le c.c.inside.dims c.c.inside.codes (omega (arith, few, c.c.told))
 
 pub returns-clause-value : goal.returns-clause-value
-returns-clause-value c = entries-front c.meet_into.new.c _ c.c.inside.dims (long c) ∙ c.meet_into.ensures.meet ∙ ap₂ (λ (x y : List (Option ℕ)). meet nat_eq x y) c.c.view_is c.d.view_is
+returns-clause-value c = entries-prefix c.meet_into.new.c _ c.c.inside.dims (long c) ∙ c.meet_into.ensures.meet
+    ∙ ap₂ (λ (x y : List (Option ℕ)). meet nat_eq x y) c.c.view_is c.d.view_is
 
 pub returns-clause-dims : goal.returns-clause-dims
 returns-clause-dims c =
-    ap (λ (es : List (Option ℕ)). length es) (entries-front c.meet_into.new.c _ c.c.inside.dims (long c))
+    ap (λ (es : List (Option ℕ)). length es) (entries-prefix c.meet_into.new.c _ c.c.inside.dims (long c))
     ∙ length-map c.meet_into.new.c entry_of
     ∙ c.meet_into.auto.c
     ∙ sym (length-map (take c.c.inside.dims c.c.inside.codes) entry_of)

@@ -5,4 +5,5 @@ use Rattle.cells_below.proofs.closed.closes_at.Goals as goal
 pub leads_to-requires-clause-dims : goal.leads_to-requires-clause-dims
 leads_to-requires-clause-dims g c =
     let upper = c.args.upper.now in
-    c.put_cell.ensures.dims ∙ upper_wide _ _ upper.node.0 upper.cell.now c.requires.upper.cell c.requires.upper.is_tree
+    c.write_cell.ensures.dims
+    ∙ upper_wide _ _ upper.node.0 upper.cell.now c.requires.upper.cell c.requires.upper.is_tree

@@ -4,4 +4,5 @@ use Rattle.cells_below.proofs.closed.leads_to.Goals as goal
 pub returns-in-Some-clause-value : goal.returns-in-Some-clause-value
 returns-in-Some-clause-value g c = λ source h.
     let upper = c.args.upper.now in
-    leads_some _ _ upper.node.0 upper.cell.now c.requires.upper.cell source h c.args.cell.now c.in-Some.found.0 (c.in-Some.ensures.found source h)
+    leads_some _ _ upper.node.0 upper.cell.now c.requires.upper.cell source h c.args.cell.now c.in-Some.found.0
+    (c.in-Some.ensures.found source h)

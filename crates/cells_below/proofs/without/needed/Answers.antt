@@ -16,8 +16,9 @@ bits-preserved g c = record {
   are = λ source h.
       let u = c.args.upper.now.cell.now in
       let few = subst (λ d. d ≤ 16) c.requires.upper.values c.requires.upper.few in
-      subst (AreNeeded source u) (sym c.noted-needed.ensures)
+      subst (AreNeeded source u) (sym c.with_needed_bit-needed.ensures)
       (needed_if source u c.bits.k few c.bits.needed c.closes_at-closes.result
-      (c.closes_at-closes.ensures.value source h ∙ ap (closes source u) c.turn.ensures) (c.bits.invariant.are source h));
+      (c.closes_at-closes.ensures.value source h ∙ ap (closes source u) c.flip_bit.ensures)
+      (c.bits.invariant.are source h));
   steps = omega (arith, c.bits.invariant.steps, c.closes_at-closes.ensures.steps);
 }

@@ -3,11 +3,11 @@ use Rattle.std.proofs.lemmas.Result.{on_ok_weaker}
 use Rattle.std.specs.FinMap as map
 use Rattle.cube_defs.specs.Tree.{cell_at, nodes}
 use Rattle.base_table.specs.Places.{named, rows_of}
-use Rattle.cell_closure.proofs.Rows.{there}
+use Rattle.cell_closure.proofs.CallerLemmas.{there}
 use Rattle.build_trace.specs.Trace.{Act.{Add}}
 use Rattle.qc_arena.specs.Map.{Arena}
 use Rattle.class_builder.specs.Walk.{acts_from}
-use Rattle.class_builder.proofs.Building.{does_then, err_again, next_behind, next_front}
+use Rattle.class_builder.proofs.Building.{does_then, err_again, next_behind, next_prefix}
 use Rattle.class_builder.proofs.Notes.{noted_stay}
 use Rattle.class_builder.proofs.Standing.{part_long}
 use Rattle.class_builder.specs.Stands.{HasDone}
@@ -15,47 +15,81 @@ use Rattle.class_builder.proofs.Whole.{first_next, no_cell, nodes_counted, root_
 use Rattle.class_builder.proofs.tree.build_all.Goals as goal
 
 pub add_root-requires-clause-none : goal.add_root-requires-clause-none
-add_root-requires-clause-none g c = no_cell c.args.builder.now.arena.now.now (replicate c.args.builder.now.arena.now.width None) c.requires.empty
+add_root-requires-clause-none g c
+    = no_cell c.args.builder.now.arena.now.now (replicate c.args.builder.now.arena.now.width None) c.requires.empty
 
 pub drill-built-requires-clause-stands : goal.drill-built-requires-clause-stands
 drill-built-requires-clause-stands g c =
     let rows = named c.args.part.now.table.now c.args.part.now.rows.now in
-    let going = root_going c.args.part.now.table.now c.args.part.now.rows.now c.args.builder.now.arena.now (there c.args.part.now.table.now c.args.part.now.rows.now c.requires.part.there) c.requires.all c.requires.part.table c.requires.part.some c.requires.width c.requires.opened c.requires.empty in
+    let going = root_going c.args.part.now.table.now c.args.part.now.rows.now c.args.builder.now.arena.now
+    (there c.args.part.now.table.now c.args.part.now.rows.now c.requires.part.there) c.requires.all
+    c.requires.part.table c.requires.part.some c.requires.width c.requires.opened c.requires.empty in
     let root = Add (replicate c.args.builder.now.arena.now.width None) ∷ [] in
     record {
       width = ap (λ (a : Arena). a.width) c.in-Ok.ensures.frame ∙ c.requires.width;
-      next = next_behind root (acts_from c.args.part.now.table.now 0 rows) c.args.builder.now.arena.now c.add_root.new.arena (first_next c.args.part.now.table.now.measures (rows_of c.args.part.now.table.now) _ c.args.builder.now.arena.now going) (c.in-Ok.ensures.made c.args.part.now.table.now.measures (rows_of c.args.part.now.table.now));
-      path = root_path c.add_root.new.arena c.start.result c.args.part.now.shared c.args.builder.now.arena.now.width (part_long c.args.part.now.table.now c.args.part.now.rows.now c.args.part.now.shared c.requires.part ∙ sym c.requires.width) (ap (λ k. cell_at c.add_root.new.arena.now k) c.start.ensures ∙ c.in-Ok.ensures.here);
-      fronts = noted_stay c.args.part.now.table.now c.args.builder.now.arena.now c.add_root.new.arena c.args.builder.now.fronts.now (c.in-Ok.ensures.made 0 []).cells c.requires.fronts;
+      next = next_behind root (acts_from c.args.part.now.table.now 0 rows) c.args.builder.now.arena.now
+          c.add_root.new.arena (first_next c.args.part.now.table.now.measures (rows_of c.args.part.now.table.now) _
+          c.args.builder.now.arena.now going)
+          (c.in-Ok.ensures.made c.args.part.now.table.now.measures (rows_of c.args.part.now.table.now));
+      path = root_path c.add_root.new.arena c.start.result c.args.part.now.shared c.args.builder.now.arena.now.width
+          (part_long c.args.part.now.table.now c.args.part.now.rows.now c.args.part.now.shared c.requires.part
+          ∙ sym c.requires.width) (ap (λ k. cell_at c.add_root.new.arena.now k) c.start.ensures ∙ c.in-Ok.ensures.here);
+      fronts = noted_stay c.args.part.now.table.now c.args.builder.now.arena.now c.add_root.new.arena
+          c.args.builder.now.fronts.now (c.in-Ok.ensures.made 0 []).cells c.requires.fronts;
     }
 
 pub returns-in-Ok-clause-tree : goal.returns-in-Ok-clause-tree
 returns-in-Ok-clause-tree g c =
     let rows = named c.args.part.now.table.now c.args.part.now.rows.now in
-    let going = root_going c.args.part.now.table.now c.args.part.now.rows.now c.args.builder.now.arena.now (there c.args.part.now.table.now c.args.part.now.rows.now c.requires.part.there) c.requires.all c.requires.part.table c.requires.part.some c.requires.width c.requires.opened c.requires.empty in
+    let going = root_going c.args.part.now.table.now c.args.part.now.rows.now c.args.builder.now.arena.now
+    (there c.args.part.now.table.now c.args.part.now.rows.now c.requires.part.there) c.requires.all
+    c.requires.part.table c.requires.part.some c.requires.width c.requires.opened c.requires.empty in
     let root = Add (replicate c.args.builder.now.arena.now.width None) ∷ [] in
     on_ok_weaker c.drill-built.result
-    (λ (d : HasDone c.args.part.now.table.now (acts_from c.args.part.now.table.now 0 (named c.args.part.now.table.now c.args.part.now.rows.now)) c.add_root.new.arena c.drill-built.new.builder.arena.now c.drill-built.new.builder.fronts.now). tree_built c.args.part.now.table.now.measures (rows_of c.args.part.now.table.now) _ c.args.builder.now.arena.now c.drill-built.new.builder.arena.now going
-    (does_then root (acts_from c.args.part.now.table.now 0 rows) c.args.builder.now.arena.now c.add_root.new.arena c.drill-built.new.builder.arena.now (c.in-Ok.ensures.made c.args.part.now.table.now.measures (rows_of c.args.part.now.table.now)) d.does))
+    (λ (d : HasDone c.args.part.now.table.now
+    (acts_from c.args.part.now.table.now 0 (named c.args.part.now.table.now c.args.part.now.rows.now))
+    c.add_root.new.arena c.drill-built.new.builder.arena.now c.drill-built.new.builder.fronts.now). tree_built
+    c.args.part.now.table.now.measures (rows_of c.args.part.now.table.now) _ c.args.builder.now.arena.now
+    c.drill-built.new.builder.arena.now going
+    (does_then root (acts_from c.args.part.now.table.now 0 rows) c.args.builder.now.arena.now c.add_root.new.arena
+    c.drill-built.new.builder.arena.now
+    (c.in-Ok.ensures.made c.args.part.now.table.now.measures (rows_of c.args.part.now.table.now)) d.does))
     c.drill-built.ensures.done
 
 pub returns-in-Ok-clause-fits : goal.returns-in-Ok-clause-fits
 returns-in-Ok-clause-fits g c =
     let rows = named c.args.part.now.table.now c.args.part.now.rows.now in
-    let going = root_going c.args.part.now.table.now c.args.part.now.rows.now c.args.builder.now.arena.now (there c.args.part.now.table.now c.args.part.now.rows.now c.requires.part.there) c.requires.all c.requires.part.table c.requires.part.some c.requires.width c.requires.opened c.requires.empty in
+    let going = root_going c.args.part.now.table.now c.args.part.now.rows.now c.args.builder.now.arena.now
+    (there c.args.part.now.table.now c.args.part.now.rows.now c.requires.part.there) c.requires.all
+    c.requires.part.table c.requires.part.some c.requires.width c.requires.opened c.requires.empty in
     let root = Add (replicate c.args.builder.now.arena.now.width None) ∷ [] in
-    let few : map.len c.drill-built.new.builder.arena.now.now ≤ c.drill-built.new.builder.arena.now.max = c.is_within.ensures in
-    let max : c.drill-built.new.builder.arena.now.max ≡ c.args.builder.now.arena.now.max = ap (λ (a : Arena). a.max) (c.drill-built.ensures.frame ∙ c.in-Ok.ensures.frame) in
+    let few : map.len c.drill-built.new.builder.arena.now.now ≤ c.drill-built.new.builder.arena.now.max
+    = c.is_within.ensures in
+    let max : c.drill-built.new.builder.arena.now.max ≡ c.args.builder.now.arena.now.max
+    = ap (λ (a : Arena). a.max) (c.drill-built.ensures.frame ∙ c.in-Ok.ensures.frame) in
     on_ok_weaker c.drill-built.result
-    (λ (d : HasDone c.args.part.now.table.now (acts_from c.args.part.now.table.now 0 (named c.args.part.now.table.now c.args.part.now.rows.now)) c.add_root.new.arena c.drill-built.new.builder.arena.now c.drill-built.new.builder.fronts.now).
-    let count : map.len c.drill-built.new.builder.arena.now.now ≡ length (nodes nat_cmp (rows_of c.args.part.now.table.now)) = nodes_counted c.args.part.now.table.now.measures (rows_of c.args.part.now.table.now) _ c.args.builder.now.arena.now c.drill-built.new.builder.arena.now going
-    (does_then root (acts_from c.args.part.now.table.now 0 rows) c.args.builder.now.arena.now c.add_root.new.arena c.drill-built.new.builder.arena.now (c.in-Ok.ensures.made c.args.part.now.table.now.measures (rows_of c.args.part.now.table.now)) d.does) in
+    (λ (d : HasDone c.args.part.now.table.now
+    (acts_from c.args.part.now.table.now 0 (named c.args.part.now.table.now c.args.part.now.rows.now))
+    c.add_root.new.arena c.drill-built.new.builder.arena.now c.drill-built.new.builder.fronts.now).
+    let count : map.len c.drill-built.new.builder.arena.now.now
+    ≡ length (nodes nat_cmp (rows_of c.args.part.now.table.now))
+    = nodes_counted c.args.part.now.table.now.measures (rows_of c.args.part.now.table.now) _
+    c.args.builder.now.arena.now c.drill-built.new.builder.arena.now going
+    (does_then root (acts_from c.args.part.now.table.now 0 rows) c.args.builder.now.arena.now c.add_root.new.arena
+    c.drill-built.new.builder.arena.now
+    (c.in-Ok.ensures.made c.args.part.now.table.now.measures (rows_of c.args.part.now.table.now)) d.does) in
     omega arith)
     c.drill-built.ensures.done
 
 pub returns-in-Err-clause-full : goal.returns-in-Err-clause-full
 returns-in-Err-clause-full g c = λ e.
     let rows = named c.args.part.now.table.now c.args.part.now.rows.now in
-    let going = root_going c.args.part.now.table.now c.args.part.now.rows.now c.args.builder.now.arena.now (there c.args.part.now.table.now c.args.part.now.rows.now c.requires.part.there) c.requires.all c.requires.part.table c.requires.part.some c.requires.width c.requires.opened c.requires.empty in
-    c.in-Err.ensures.full (err_again c.in-Err.error _ e) c.args.part.now.table.now.measures (rows_of c.args.part.now.table.now)
-    (next_front (Add (replicate c.args.builder.now.arena.now.width None) ∷ []) (acts_from c.args.part.now.table.now 0 rows) c.args.builder.now.arena.now (first_next c.args.part.now.table.now.measures (rows_of c.args.part.now.table.now) _ c.args.builder.now.arena.now going))
+    let going = root_going c.args.part.now.table.now c.args.part.now.rows.now c.args.builder.now.arena.now
+    (there c.args.part.now.table.now c.args.part.now.rows.now c.requires.part.there) c.requires.all
+    c.requires.part.table c.requires.part.some c.requires.width c.requires.opened c.requires.empty in
+    c.in-Err.ensures.full (err_again c.in-Err.error _ e) c.args.part.now.table.now.measures
+    (rows_of c.args.part.now.table.now)
+    (next_prefix (Add (replicate c.args.builder.now.arena.now.width None) ∷ [])
+    (acts_from c.args.part.now.table.now 0 rows) c.args.builder.now.arena.now
+    (first_next c.args.part.now.table.now.measures (rows_of c.args.part.now.table.now) _
+    c.args.builder.now.arena.now going))

@@ -1,7 +1,7 @@
 use Rattle.std.proofs.Common.{◌≡◌, ◌<◌, ◌∙◌, arith, ap, length, subst, sym}
 use Rattle.base_table.specs.Places.{AreThere, named, rows_of}
 use Rattle.cube_laws.specs.Parting.{or_empty, shared_by}
-use Rattle.cell_closure.proofs.Rows.{length-named, there}
+use Rattle.cell_closure.proofs.CallerLemmas.{length-named, there}
 use Rattle.class_builder.proofs.Whole.{none_built, rows_few}
 use Rattle.class_builder.proofs.tree.build_classes.Goals as goal
 
@@ -16,12 +16,14 @@ build_all-requires-clause-part g c =
     let rows = c.deref.result.now in
     let are : AreThere table rows = subst (AreThere table) (sym c.deref.ensures.value) c.in-Ok.ensures.there in
     let all : named table rows ≡ rows_of table = ap (named table) c.deref.ensures.value ∙ c.in-Ok.ensures.rows in
-    let count : length (rows_of table) ≡ length rows = ap length (sym all) ∙ length-named table rows (there table rows are) in
+    let count : length (rows_of table) ≡ length rows = ap length (sym all)
+    ∙ length-named table rows (there table rows are) in
     let some : 0 < length rows = omega (arith, c.if-count-eq0.false, c.count.ensures.value) in
     record {
       table = c.count.ensures.valid;
       some = some;
       few = rows_few table c.count.ensures.valid rows (there table rows are) all;
       there = are;
-      shared = ap or_empty c.closure_of.ensures.closure ∙ ap (λ nos. shared_by (named table nos)) (c.deref-2.ensures.value ∙ sym c.deref.ensures.value);
+      shared = ap or_empty c.closure_of.ensures.closure
+          ∙ ap (λ nos. shared_by (named table nos)) (c.deref-2.ensures.value ∙ sym c.deref.ensures.value);
     }

@@ -1,11 +1,14 @@
 use Rattle.std.proofs.Common.{◌∙◌, sym, suc, ◌<◌, arith}
-use Rattle.cell_closure.proofs.Rows.{there}
-use Rattle.cell_closure.proofs.Closing.{shared_long}
+use Rattle.cell_closure.proofs.CallerLemmas.{there, shared_long}
 use Rattle.class_builder.proofs.Uppers.{same_at, differs_at}
 use Rattle.class_builder.proofs.upper.first_new_value.Goals as goal
 
 pub returns-then-gains-clause-front : goal.returns-then-gains-clause-front
-returns-then-gains-clause-front c = same_at c.dims.i _ c.args.upper.now (shared_long c.args.table.now c.requires.under.table c.args.rows.now (there c.args.table.now c.args.rows.now c.requires.under.there) c.requires.under.some ∙ sym c.requires.under.long) c.dims.invariant
+returns-then-gains-clause-front c
+    = same_at c.dims.i _ c.args.upper.now
+    (shared_long c.args.table.now c.requires.under.table c.args.rows.now
+    (there c.args.table.now c.args.rows.now c.requires.under.there) c.requires.under.some
+    ∙ sym c.requires.under.long) c.dims.invariant
 
 pub returns-then-gains-clause-gains : goal.returns-then-gains-clause-gains
 returns-then-gains-clause-gains c =
@@ -13,4 +16,8 @@ returns-then-gains-clause-gains c =
     differs_at (suc c.dims.i) c.dims.i _ c.args.upper.now lt (c.gains.ensures.other c.if-gains.true)
 
 pub returns-clause-none : goal.returns-clause-none
-returns-clause-none c = same_at c.args.dim _ c.args.upper.now (shared_long c.args.table.now c.requires.under.table c.args.rows.now (there c.args.table.now c.args.rows.now c.requires.under.there) c.requires.under.some ∙ sym c.requires.under.long) (λ j l. c.dims.invariant j (omega arith))
+returns-clause-none c =
+    same_at c.args.dim _ c.args.upper.now
+    (shared_long c.args.table.now c.requires.under.table c.args.rows.now
+    (there c.args.table.now c.args.rows.now c.requires.under.there) c.requires.under.some ∙ sym c.requires.under.long)
+    (λ j l. c.dims.invariant j (omega arith))

@@ -1,7 +1,7 @@
 use Rattle.std.proofs.Common.{◌≡◌, ℕ, ◌<◌}
 use Rattle.base_table.specs.Places.{named}
 use Rattle.cube_laws.specs.Parting.{shared_by}
-use Rattle.cube_laws.proofs.Shared.{entry}
+use Rattle.cube_laws.proofs.CallerLemmas.{entry}
 use Rattle.class_builder.proofs.upper.first_new_value.Given as goal
 
 abbrev pub invariant-dims : goal.invariant-dims

@@ -1,29 +1,29 @@
-use Rattle.std.proofs.Common.{◌≡◌, ◌<◌, ◌≤◌, ◌+◌, ◌++◌, [], ◌∷◌, ◌∙◌, Some, ap, ap₂, refl, sym, subst, arith, length, get_or, is_some, true, false, rules, None}
+use Rattle.std.proofs.Common.{◌≡◌, ◌<◌, ◌≤◌, ◌+◌, ◌++◌, [], ◌∷◌, ◌∙◌, Some, ap, ap₂, refl, sym, subst, arith, length, get_or, is_some, true}
+use Rattle.std.proofs.Common.{false, rules, None}
 use Rattle.std.specs.Prelude.{OnOk}
 use Rattle.std.proofs.Math.Numerals.{add-one-le}
 use Rattle.std.proofs.lemmas.Result.{on_ok_weaker}
-use Rattle.cube_defs.specs.Cell.{cell_front}
-use Rattle.cube_laws.proofs.Cells.{nat_equality, cell_eq-exact}
+use Rattle.cube_defs.specs.Cell.{cell_prefix}
+use Rattle.cube_laws.proofs.CallerLemmas.{nat_equality, cell_eq-exact, entry}
 use Rattle.base_table.specs.Places.{named, row_at, rows_of}
 use Rattle.cell_closure.specs.Parts.{no_part, parted}
 use Rattle.cube_laws.specs.Parting.{shared_by}
-use Rattle.cube_laws.proofs.Shared.{entry}
-use Rattle.tree_laws.proofs.Lists as lists
-use Rattle.cell_closure.proofs.Rows.{There, there, recursion_all}
-use Rattle.cell_closure.proofs.Closing.{shared_there}
+use Rattle.tree_laws.proofs.CallerLemmas as lists
+use Rattle.cell_closure.proofs.CallerLemmas.{There, there, recursion_all, shared_there}
 use Rattle.build_trace.specs.Trace.{Act.{Mark}, acts_at, part_acts}
 use Rattle.build_acts.specs.Building.{PerformsActs}
 use Rattle.cell_core.specs.Entry.{IsCode}
 use Rattle.qc_arena.specs.Map.{Arena, frame}
-use Rattle.class_builder.specs.declared.noted.Fronts.{Fronts}
+use Rattle.class_builder.specs.declared.prefix_nodes.PrefixNodes.{PrefixNodes}
 use Rattle.class_builder.specs.Stands.{HasDone, StandsAt}
-use Rattle.class_builder.specs.Walk.{IsGroup, IsPart, acts_from, front_acts, node_on}
-use Rattle.build_trace.proofs.Fronts.{cell_front_all, cell_front_still}
-use Rattle.class_builder.proofs.Uppers.{AreCovered, differs_behind}
+use Rattle.class_builder.specs.Walk.{IsGroup, IsPart, acts_from, prefix_acts, node_on}
+use Rattle.build_trace.proofs.CallerLemmas.{cell_prefix_all, cell_prefix_still}
+use Rattle.class_builder.proofs.Uppers.{AreCovered, differs_after}
 use Rattle.class_builder.proofs.Building.{path_stays, on_end, on_path, path_on, path_of}
 use Rattle.class_builder.proofs.Notes.{noted_stay}
-use Rattle.class_builder.proofs.Standing.{done_nothing, done_then, on_change, part_long, stands_behind, stands_front}
-use Rattle.class_builder.proofs.Steps.{acts_here, acts_end, part_new, part_old, parts_from, part_there, part_some, part_few, part_covered, part_value, part_is, part_small, parts_here, parts_end}
+use Rattle.class_builder.proofs.Standing.{done_nothing, done_then, on_change, part_long, stands_behind, stands_prefix}
+use Rattle.class_builder.proofs.Steps.{acts_here, acts_end, part_new, part_old, parts_from, part_there, part_some, part_few, part_covered}
+use Rattle.class_builder.proofs.Steps.{part_value, part_is, part_small, parts_here, parts_end}
 use Rattle.class_builder.proofs.walk.+drilling.Goals as goal
 
 pub drill-drill_at-requires : goal.drill-drill_at-requires
@@ -31,7 +31,8 @@ drill-drill_at-requires g t c =
     let table = c.args.part.now.table.now in
     let rows = named table c.args.part.now.rows.now in
     let lt : c.dims.dim < table.dims = subst (λ n. c.dims.dim < n) c.dims-dim-end.ensures.value c.dims-test.true in
-    let es = acts_at (acts_from table (c.dims.dim + 1)) c.dims.dim c.args.part.now.shared (entry c.args.part.now.shared c.dims.dim) rows in
+    let es = acts_at (acts_from table (c.dims.dim + 1)) c.dims.dim c.args.part.now.shared
+    (entry c.args.part.now.shared c.dims.dim) rows in
     let fs = acts_from table (c.dims.dim + 1) rows in
     λ κs h. (
       search rules,
@@ -41,8 +42,12 @@ drill-drill_at-requires g t c =
           c.requires.part,
           (
             lt,
-            stands_front table es fs c.args.part.now.shared c.dims.dim c.dims.builder.arena.now c.dims.path c.dims.builder.fronts.now
-                (subst (λ xs. StandsAt table c.args.part.now.shared c.dims.dim xs c.dims.builder.arena.now c.dims.path c.dims.builder.fronts.now) (acts_here table c.dims.dim c.args.part.now.shared rows lt c.requires.part.shared) c.dims.invariant.stands),
+            stands_prefix table es fs c.args.part.now.shared c.dims.dim c.dims.builder.arena.now c.dims.path
+                c.dims.builder.fronts.now
+                (subst (λ xs. StandsAt table c.args.part.now.shared c.dims.dim xs c.dims.builder.arena.now c.dims.path
+                c.dims.builder.fronts.now)
+                (acts_here table c.dims.dim c.args.part.now.shared rows lt c.requires.part.shared)
+                c.dims.invariant.stands),
           ),
         ),
       ),
@@ -57,23 +62,32 @@ drill-dims-preserved g t c =
     let rows = named table c.args.part.now.rows.now in
     let lt : c.dims.dim < table.dims = subst (λ n. c.dims.dim < n) c.dims-dim-end.ensures.value c.dims-test.true in
     let here = acts_here table c.dims.dim c.args.part.now.shared rows lt c.requires.part.shared in
-    let es = acts_at (acts_from table (c.dims.dim + 1)) c.dims.dim c.args.part.now.shared (entry c.args.part.now.shared c.dims.dim) rows in
+    let es = acts_at (acts_from table (c.dims.dim + 1)) c.dims.dim c.args.part.now.shared
+    (entry c.args.part.now.shared c.dims.dim) rows in
     let fs = acts_from table (c.dims.dim + 1) rows in
     let a = c.dims.builder.arena.now in
     let b = c.drill_at.new.builder.arena.now in
     record {
-      whole = λ d f e. c.dims.invariant.whole d f (subst (λ xs. HasDone table xs a d f) (sym here) (done_then table es fs a b d c.drill_at.new.builder.fronts.now f c.in-Ok.ensures.done e));
-      stands = stands_behind table es fs c.args.part.now.shared c.args.part.now.shared c.dims.dim (c.dims.dim + 1) a b c.dims.path c.drill_at.new.path c.dims.builder.fronts.now c.drill_at.new.builder.fronts.now
-          (subst (λ xs. StandsAt table c.args.part.now.shared c.dims.dim xs a c.dims.path c.dims.builder.fronts.now) here c.dims.invariant.stands) c.in-Ok.ensures.done c.in-Ok.ensures.frame c.in-Ok.ensures.path;
+      whole = λ d f e. c.dims.invariant.whole d f
+          (subst (λ xs. HasDone table xs a d f) (sym here)
+          (done_then table es fs a b d c.drill_at.new.builder.fronts.now f c.in-Ok.ensures.done e));
+      stands = stands_behind table es fs c.args.part.now.shared c.args.part.now.shared c.dims.dim
+          (c.dims.dim + 1) a b c.dims.path c.drill_at.new.path c.dims.builder.fronts.now
+          c.drill_at.new.builder.fronts.now
+          (subst (λ xs. StandsAt table c.args.part.now.shared c.dims.dim xs a c.dims.path c.dims.builder.fronts.now)
+          here c.dims.invariant.stands) c.in-Ok.ensures.done c.in-Ok.ensures.frame c.in-Ok.ensures.path;
       rest = c.in-Ok.ensures.frame ∙ c.dims.invariant.rest;
       same = c.in-Ok.ensures.same ∙ c.dims.invariant.same;
     }
 
 pub drill-mark_class-requires : goal.drill-mark_class-requires
 drill-mark_class-requires g t c =
-    let most : c.dims-2.result ≤ c.dims.dim = subst (λ n. n ≤ c.dims.dim) (c.dims-dim-end.ensures.value ∙ sym c.dims-2.ensures.value) c.dims-test.false in
+    let most : c.dims-2.result ≤ c.dims.dim
+    = subst (λ n. n ≤ c.dims.dim) (c.dims-dim-end.ensures.value ∙ sym c.dims-2.ensures.value) c.dims-test.false in
     record {
-      change = on_change c.dims.builder.arena.now c.at.result.0 (cell_front c.dims-2.result c.args.part.now.shared) (on_path c.dims.builder.arena.now c.dims.path c.args.part.now.shared c.dims.dim c.dims-2.result c.at.result.0 c.dims.invariant.stands.path most c.at.ensures)
+      change = on_change c.dims.builder.arena.now c.at.result.0 (cell_prefix c.dims-2.result c.args.part.now.shared)
+          (on_path c.dims.builder.arena.now c.dims.path c.args.part.now.shared c.dims.dim c.dims-2.result c.at.result.0
+          c.dims.invariant.stands.path most c.at.ensures)
           c.dims.invariant.stands.next.going.opened c.dims.invariant.stands.next.going.touched;
     }
 
@@ -85,28 +99,42 @@ drill-returns-clause-done g t c =
     let most : c.dims-2.result ≤ c.dims.dim = subst (λ n. n ≤ c.dims.dim) (sym c.dims-2.ensures.value) le in
     let long = part_long table c.args.part.now.rows.now c.args.part.now.shared c.requires.part in
     let all : length c.args.part.now.shared ≤ c.dims-2.result = omega (arith, long, c.dims-2.ensures.value) in
-    let at = on_path c.dims.builder.arena.now c.dims.path c.args.part.now.shared c.dims.dim c.dims-2.result c.at.result.0 c.dims.invariant.stands.path most c.at.ensures
-    ∙ ap (λ u. Some u) (cell_front_all c.dims-2.result c.args.part.now.shared all ∙ c.requires.part.shared) in
+    let at = on_path c.dims.builder.arena.now c.dims.path c.args.part.now.shared c.dims.dim c.dims-2.result
+    c.at.result.0 c.dims.invariant.stands.path most c.at.ensures
+    ∙ ap (λ u. Some u) (cell_prefix_all c.dims-2.result c.args.part.now.shared all ∙ c.requires.part.shared) in
     c.dims.invariant.whole c.mark_class.new.arena c.dims.builder.fronts.now (record {
-      does = subst (λ xs. PerformsActs table.measures (rows_of table) xs c.dims.builder.arena.now c.mark_class.new.arena)
+      does = subst (λ xs. PerformsActs table.measures (rows_of table) xs c.dims.builder.arena.now
+          c.mark_class.new.arena)
           (ap (λ a. Mark (shared_by rows) a ∷ []) c.total-agg.ensures ∙ sym (acts_end table c.dims.dim rows le))
           (c.mark_class.ensures.made table.measures (rows_of table) (shared_by rows) at);
-      fronts = noted_stay table c.dims.builder.arena.now c.mark_class.new.arena c.dims.builder.fronts.now (c.mark_class.ensures.made 0 [] (shared_by rows) at).cells c.dims.invariant.stands.fronts;
+      fronts = noted_stay table c.dims.builder.arena.now c.mark_class.new.arena c.dims.builder.fronts.now
+          (c.mark_class.ensures.made 0 [] (shared_by rows) at).cells c.dims.invariant.stands.fronts;
     })
 
 pub drill_at-get-requires : goal.drill_at-get-requires
-drill_at-get-requires g t c = subst (λ n. c.args.dim < n) (sym (part_long c.args.part.now.table.now c.args.part.now.rows.now c.args.part.now.shared c.requires.part)) c.requires.dim
+drill_at-get-requires g t c
+    = subst (λ n. c.args.dim < n)
+    (sym (part_long c.args.part.now.table.now c.args.part.now.rows.now c.args.part.now.shared c.requires.part))
+    c.requires.dim
 
-pub drill_at-add_front-requires-clause-value : goal.drill_at-add_front-requires-clause-value
-drill_at-add_front-requires-clause-value g t c = sym c.in-Is.ensures.value
+pub drill_at-add_prefix_node-requires-clause-value : goal.drill_at-add_prefix_node-requires-clause-value
+drill_at-add_prefix_node-requires-clause-value g t c = sym c.in-Is.ensures.value
 
-pub drill_at-add_front-requires-clause-stands : goal.drill_at-add_front-requires-clause-stands
-drill_at-add_front-requires-clause-stands g t c =
-    subst (λ o. StandsAt c.args.part.now.table.now c.args.part.now.shared c.args.dim (acts_at (acts_from c.args.part.now.table.now (c.args.dim + 1)) c.args.dim c.args.part.now.shared o (named c.args.part.now.table.now c.args.part.now.rows.now)) c.args.builder.now.arena.now c.args.path.now c.args.builder.now.fronts.now) (sym c.in-Is.ensures.value) c.requires.stands
+pub drill_at-add_prefix_node-requires-clause-stands : goal.drill_at-add_prefix_node-requires-clause-stands
+drill_at-add_prefix_node-requires-clause-stands g t c =
+    subst (λ o. StandsAt c.args.part.now.table.now c.args.part.now.shared c.args.dim
+    (acts_at (acts_from c.args.part.now.table.now (c.args.dim + 1)) c.args.dim c.args.part.now.shared o
+    (named c.args.part.now.table.now c.args.part.now.rows.now)) c.args.builder.now.arena.now c.args.path.now
+    c.args.builder.now.fronts.now) (sym c.in-Is.ensures.value) c.requires.stands
 
 pub drill_at-returns-in-Is-clause-done : goal.drill_at-returns-in-Is-clause-done
 drill_at-returns-in-Is-clause-done g t c =
-    subst (λ o. OnOk c.add_front.result (HasDone c.args.part.now.table.now (acts_at (acts_from c.args.part.now.table.now (c.args.dim + 1)) c.args.dim c.args.part.now.shared o (named c.args.part.now.table.now c.args.part.now.rows.now)) c.args.builder.now.arena.now c.add_front.new.builder.arena.now c.add_front.new.builder.fronts.now)) c.in-Is.ensures.value c.add_front.ensures.done
+    subst (λ o. OnOk c.add_prefix_node.result
+    (HasDone c.args.part.now.table.now
+    (acts_at (acts_from c.args.part.now.table.now (c.args.dim + 1)) c.args.dim c.args.part.now.shared o
+    (named c.args.part.now.table.now c.args.part.now.rows.now)) c.args.builder.now.arena.now
+    c.add_prefix_node.new.builder.arena.now c.add_prefix_node.new.builder.fronts.now)) c.in-Is.ensures.value
+    c.add_prefix_node.ensures.done
 
 pub drill_at-drill_in-requires : goal.drill_at-drill_in-requires
 drill_at-drill_in-requires g t c = λ κs h. (
@@ -117,7 +145,10 @@ drill_at-drill_in-requires g t c = λ κs h. (
       c.requires.part,
       (
         c.requires.dim,
-        subst (λ o. StandsAt c.args.part.now.table.now c.args.part.now.shared c.args.dim (acts_at (acts_from c.args.part.now.table.now (c.args.dim + 1)) c.args.dim c.args.part.now.shared o (named c.args.part.now.table.now c.args.part.now.rows.now)) c.args.builder.now.arena.now c.args.path.now c.args.builder.now.fronts.now) (sym c.in-Any.ensures.value) c.requires.stands,
+        subst (λ o. StandsAt c.args.part.now.table.now c.args.part.now.shared c.args.dim
+            (acts_at (acts_from c.args.part.now.table.now (c.args.dim + 1)) c.args.dim c.args.part.now.shared o
+            (named c.args.part.now.table.now c.args.part.now.rows.now)) c.args.builder.now.arena.now c.args.path.now
+            c.args.builder.now.fronts.now) (sym c.in-Any.ensures.value) c.requires.stands,
       ),
     ),
   ),
@@ -125,58 +156,98 @@ drill_at-drill_in-requires g t c = λ κs h. (
 
 pub drill_at-returns-in-Ok-clause-done : goal.drill_at-returns-in-Ok-clause-done
 drill_at-returns-in-Ok-clause-done g t c =
-    subst (λ o. HasDone c.args.part.now.table.now (acts_at (acts_from c.args.part.now.table.now (c.args.dim + 1)) c.args.dim c.args.part.now.shared o (named c.args.part.now.table.now c.args.part.now.rows.now)) c.args.builder.now.arena.now c.drill_in.new.builder.arena.now c.drill_in.new.builder.fronts.now) c.in-Any.ensures.value c.in-Ok.ensures.done
+    subst (λ o. HasDone c.args.part.now.table.now
+    (acts_at (acts_from c.args.part.now.table.now (c.args.dim + 1)) c.args.dim c.args.part.now.shared o
+    (named c.args.part.now.table.now c.args.part.now.rows.now)) c.args.builder.now.arena.now
+    c.drill_in.new.builder.arena.now c.drill_in.new.builder.fronts.now) c.in-Any.ensures.value c.in-Ok.ensures.done
 
 pub drill_at-returns-in-Ok-clause-path : goal.drill_at-returns-in-Ok-clause-path
 drill_at-returns-in-Ok-clause-path g t c =
-    let on = path_stays c.args.builder.now.arena.now c.drill_in.new.builder.arena.now c.args.path.now c.args.part.now.shared c.args.dim c.in-Ok.ensures.done.does.cells c.requires.stands.path in
-    path_on c.drill_in.new.builder.arena.now c.args.path.now c.set.new.self c.args.part.now.shared c.args.dim on c.set.ensures.others
-    (on_end c.drill_in.new.builder.arena.now c.args.path.now c.args.part.now.shared c.args.dim (node_on c.set.new.self (c.args.dim + 1)) on (c.set.ensures.here ∙ c.at.ensures)
-    ∙ ap (λ p. Some p) (sym (cell_front_still c.args.dim c.args.part.now.shared (sym c.in-Any.ensures.value))))
+    let on = path_stays c.args.builder.now.arena.now c.drill_in.new.builder.arena.now c.args.path.now
+    c.args.part.now.shared c.args.dim c.in-Ok.ensures.done.does.cells c.requires.stands.path in
+    path_on c.drill_in.new.builder.arena.now c.args.path.now c.set.new.self c.args.part.now.shared c.args.dim on
+    c.set.ensures.others
+    (on_end c.drill_in.new.builder.arena.now c.args.path.now c.args.part.now.shared c.args.dim
+    (node_on c.set.new.self (c.args.dim + 1)) on (c.set.ensures.here ∙ c.at.ensures)
+    ∙ ap (λ p. Some p) (sym (cell_prefix_still c.args.dim c.args.part.now.shared (sym c.in-Any.ensures.value))))
 
 pub drill_in-groups_of-requires-clause-node : goal.drill_in-groups_of-requires-clause-node
-drill_in-groups_of-requires-clause-node g t c = lists.there c.args.builder.now.arena.now.now c.at.result.0 (cell_front c.args.dim c.args.part.now.shared) (on_end c.args.builder.now.arena.now c.args.path.now c.args.part.now.shared c.args.dim c.at.result.0 c.requires.stands.path c.at.ensures)
+drill_in-groups_of-requires-clause-node g t c
+    = lists.there c.args.builder.now.arena.now.now c.at.result.0 (cell_prefix c.args.dim c.args.part.now.shared)
+    (on_end c.args.builder.now.arena.now c.args.path.now c.args.part.now.shared c.args.dim c.at.result.0
+    c.requires.stands.path c.at.ensures)
 
 pub drill_in-drill_part-requires : goal.drill_in-drill_part-requires
 drill_in-drill_part-requires g t c =
     let table = c.args.part.now.table.now in
     let nos = c.args.part.now.rows.now in
     let l : length c.in-Ok.parts ≡ length (parted table nos c.args.dim) = ap length c.in-Ok.ensures.parts in
-    let lt : c.parts.k < length (parted table nos c.args.dim) = subst (λ n. c.parts.k < n) (c.len-k-end.ensures ∙ l) c.parts-test.true in
-    let is : c.rows.result.now ≡ (get_or (parted table nos c.args.dim) c.parts.k no_part).rows = c.rows.ensures ∙ ap (λ p. (get_or p c.parts.k no_part).rows) c.in-Ok.ensures.parts in
-    let code : c.code.result ≡ (get_or (parted table nos c.args.dim) c.parts.k no_part).code = c.code.ensures ∙ ap (λ p. (get_or p c.parts.k no_part).code) c.in-Ok.ensures.parts in
+    let lt : c.parts.k < length (parted table nos c.args.dim)
+    = subst (λ n. c.parts.k < n) (c.len-k-end.ensures ∙ l) c.parts-test.true in
+    let is : c.rows.result.now ≡ (get_or (parted table nos c.args.dim) c.parts.k no_part).rows
+    = c.rows.ensures ∙ ap (λ p. (get_or p c.parts.k no_part).rows) c.in-Ok.ensures.parts in
+    let code : c.code.result ≡ (get_or (parted table nos c.args.dim) c.parts.k no_part).code
+    = c.code.ensures ∙ ap (λ p. (get_or p c.parts.k no_part).code) c.in-Ok.ensures.parts in
     let here : There table nos = there table nos c.requires.part.there in
-    let few : length c.rows.result.now ≤ length nos = subst (λ r. length r ≤ length nos) (sym is) (part_few table c.requires.part.table nos here c.args.dim c.parts.k lt) in
+    let few : length c.rows.result.now ≤ length nos
+    = subst (λ r. length r ≤ length nos) (sym is)
+    (part_few table c.requires.part.table nos here c.args.dim c.parts.k lt) in
     let v = code ∙ part_is table c.requires.part.table nos here c.args.dim c.parts.k lt in
     let more = acts_from table (c.args.dim + 1) in
     let acts = ap₂ (λ x r. part_acts more c.args.dim c.args.part.now.shared x (named table r)) (sym code) (sym is) in
     let part = get_or (parted table nos c.args.dim) c.parts.k no_part in
-    let stands = stands_front table (part_acts more c.args.dim c.args.part.now.shared part.code (named table part.rows)) (parts_from table c.args.dim c.args.part.now.shared (named table nos) (c.parts.k + 1)) c.args.part.now.shared c.args.dim c.parts.builder.arena.now c.args.path.now c.parts.builder.fronts.now
-    (subst (λ xs. StandsAt table c.args.part.now.shared c.args.dim xs c.parts.builder.arena.now c.args.path.now c.parts.builder.fronts.now) (parts_here table c.requires.part.table nos here c.args.dim c.parts.k lt c.args.part.now.shared) c.parts.invariant.stands) in
+    let stands = stands_prefix table
+    (part_acts more c.args.dim c.args.part.now.shared part.code (named table part.rows))
+    (parts_from table c.args.dim c.args.part.now.shared (named table nos) (c.parts.k + 1)) c.args.part.now.shared
+    c.args.dim c.parts.builder.arena.now c.args.path.now c.parts.builder.fronts.now
+    (subst (λ xs. StandsAt table c.args.part.now.shared c.args.dim xs c.parts.builder.arena.now c.args.path.now
+    c.parts.builder.fronts.now)
+    (parts_here table c.requires.part.table nos here c.args.dim c.parts.k lt c.args.part.now.shared)
+    c.parts.invariant.stands) in
     let group : IsGroup table c.rows.result.now c.code.result c.args.part.now.shared c.args.dim = record {
       under = record {
         table = c.requires.part.table;
-        some = subst (λ r. 0 < length r) (sym is) (part_some table c.requires.part.table nos here c.args.dim c.parts.k lt);
-        there = recursion_all (λ n. is_some (row_at table n.0) ≡ true) c.rows.result.now (subst (There table) (sym is) (part_there table c.requires.part.table nos here c.args.dim c.parts.k lt));
-        covered = subst (λ r. AreCovered c.args.part.now.shared (named table r)) (sym is) (part_covered table c.requires.part.table nos here c.args.dim c.parts.k lt c.args.part.now.shared
-            (shared_there table c.requires.part.table nos here c.requires.part.some ∙ ap (λ u. Some u) (sym c.requires.part.shared)));
+        some = subst (λ r. 0 < length r) (sym is)
+            (part_some table c.requires.part.table nos here c.args.dim c.parts.k lt);
+        there = recursion_all (λ n. is_some (row_at table n.0) ≡ true) c.rows.result.now
+            (subst (There table) (sym is) (part_there table c.requires.part.table nos here c.args.dim c.parts.k lt));
+        covered = subst (λ r. AreCovered c.args.part.now.shared (named table r)) (sym is)
+            (part_covered table c.requires.part.table nos here c.args.dim c.parts.k lt c.args.part.now.shared
+            (shared_there table c.requires.part.table nos here c.requires.part.some
+            ∙ ap (λ u. Some u) (sym c.requires.part.shared)));
         long = part_long table nos c.args.part.now.shared c.requires.part;
       };
       few = let most = c.requires.part.few in omega (arith, few, most);
       dim = c.requires.dim;
-      value = ap (λ r. entry (shared_by (named table r)) c.args.dim) is ∙ part_value table c.requires.part.table nos here c.args.dim c.parts.k lt c.requires.dim ∙ ap (λ x. Some x) (sym v);
-      small = subst IsCode (sym v) (part_small table c.requires.part.table nos here c.args.dim c.parts.k lt c.requires.dim);
+      value = ap (λ r. entry (shared_by (named table r)) c.args.dim) is
+          ∙ part_value table c.requires.part.table nos here c.args.dim c.parts.k lt c.requires.dim
+          ∙ ap (λ x. Some x) (sym v);
+      small = subst IsCode (sym v)
+          (part_small table c.requires.part.table nos here c.args.dim c.parts.k lt c.requires.dim);
     } in
-    λ κs h. (search rules, (h, (group, subst (λ xs. StandsAt table c.args.part.now.shared c.args.dim xs c.parts.builder.arena.now c.args.path.now c.parts.builder.fronts.now) acts stands)))
+    λ κs h. (
+      search rules,
+      (
+        h,
+        (
+          group,
+          subst (λ xs. StandsAt table c.args.part.now.shared c.args.dim xs c.parts.builder.arena.now
+              c.args.path.now c.parts.builder.fronts.now) acts stands,
+        ),
+      ),
+    )
 
 pub drill_in-parts-preserved : goal.drill_in-parts-preserved
 drill_in-parts-preserved g t c =
     let table = c.args.part.now.table.now in
     let nos = c.args.part.now.rows.now in
     let l : length c.in-Ok.parts ≡ length (parted table nos c.args.dim) = ap length c.in-Ok.ensures.parts in
-    let lt : c.parts.k < length (parted table nos c.args.dim) = subst (λ n. c.parts.k < n) (c.len-k-end.ensures ∙ l) c.parts-test.true in
-    let is : c.rows.result.now ≡ (get_or (parted table nos c.args.dim) c.parts.k no_part).rows = c.rows.ensures ∙ ap (λ p. (get_or p c.parts.k no_part).rows) c.in-Ok.ensures.parts in
-    let code : c.code.result ≡ (get_or (parted table nos c.args.dim) c.parts.k no_part).code = c.code.ensures ∙ ap (λ p. (get_or p c.parts.k no_part).code) c.in-Ok.ensures.parts in
+    let lt : c.parts.k < length (parted table nos c.args.dim)
+    = subst (λ n. c.parts.k < n) (c.len-k-end.ensures ∙ l) c.parts-test.true in
+    let is : c.rows.result.now ≡ (get_or (parted table nos c.args.dim) c.parts.k no_part).rows
+    = c.rows.ensures ∙ ap (λ p. (get_or p c.parts.k no_part).rows) c.in-Ok.ensures.parts in
+    let code : c.code.result ≡ (get_or (parted table nos c.args.dim) c.parts.k no_part).code
+    = c.code.ensures ∙ ap (λ p. (get_or p c.parts.k no_part).code) c.in-Ok.ensures.parts in
     let here : There table nos = there table nos c.requires.part.there in
     let more = acts_from table (c.args.dim + 1) in
     let es = part_acts more c.args.dim c.args.part.now.shared c.code.result (named table c.rows.result.now) in
@@ -186,10 +257,16 @@ drill_in-parts-preserved g t c =
     let a = c.parts.builder.arena.now in
     let b = c.drill_part.new.builder.arena.now in
     record {
-      whole = λ d f e. c.parts.invariant.whole d f (subst (λ xs. HasDone table xs a d f) (sym split) (done_then table es fs a b d c.drill_part.new.builder.fronts.now f c.in-Ok-drill_part.ensures.done e));
-      stands = stands_behind table es fs c.args.part.now.shared c.args.part.now.shared c.args.dim c.args.dim a b c.args.path.now c.args.path.now c.parts.builder.fronts.now c.drill_part.new.builder.fronts.now
-          (subst (λ xs. StandsAt table c.args.part.now.shared c.args.dim xs a c.args.path.now c.parts.builder.fronts.now) split c.parts.invariant.stands) c.in-Ok-drill_part.ensures.done c.in-Ok-drill_part.ensures.frame
-          (path_stays a b c.args.path.now c.args.part.now.shared c.args.dim c.in-Ok-drill_part.ensures.done.does.cells c.parts.invariant.stands.path);
+      whole = λ d f e. c.parts.invariant.whole d f
+          (subst (λ xs. HasDone table xs a d f) (sym split)
+          (done_then table es fs a b d c.drill_part.new.builder.fronts.now f c.in-Ok-drill_part.ensures.done e));
+      stands = stands_behind table es fs c.args.part.now.shared c.args.part.now.shared c.args.dim c.args.dim a b
+          c.args.path.now c.args.path.now c.parts.builder.fronts.now c.drill_part.new.builder.fronts.now
+          (subst (λ xs. StandsAt table c.args.part.now.shared c.args.dim xs a c.args.path.now
+          c.parts.builder.fronts.now) split c.parts.invariant.stands) c.in-Ok-drill_part.ensures.done
+          c.in-Ok-drill_part.ensures.frame
+          (path_stays a b c.args.path.now c.args.part.now.shared c.args.dim c.in-Ok-drill_part.ensures.done.does.cells
+          c.parts.invariant.stands.path);
       rest = c.in-Ok-drill_part.ensures.frame ∙ c.parts.invariant.rest;
       same = c.in-Ok-drill_part.ensures.same ∙ c.parts.invariant.same;
     }
@@ -199,25 +276,33 @@ drill_in-returns-in-Ok-give_back-clause-done g t c =
     let table = c.args.part.now.table.now in
     let nos = c.args.part.now.rows.now in
     let l : length c.in-Ok.parts ≡ length (parted table nos c.args.dim) = ap length c.in-Ok.ensures.parts in
-    let le : length (parted table nos c.args.dim) ≤ c.parts.k = subst (λ n. n ≤ c.parts.k) (c.len-k-end.ensures ∙ l) c.parts-test.false in
+    let le : length (parted table nos c.args.dim) ≤ c.parts.k
+    = subst (λ n. n ≤ c.parts.k) (c.len-k-end.ensures ∙ l) c.parts-test.false in
     c.parts.invariant.whole c.parts.builder.arena.now c.parts.builder.fronts.now
-    (subst (λ xs. HasDone table xs c.parts.builder.arena.now c.parts.builder.arena.now c.parts.builder.fronts.now) (sym (parts_end table c.requires.part.table nos (there table nos c.requires.part.there) c.args.dim c.parts.k c.args.part.now.shared le))
+    (subst (λ xs. HasDone table xs c.parts.builder.arena.now c.parts.builder.arena.now c.parts.builder.fronts.now)
+    (sym (parts_end table c.requires.part.table nos (there table nos c.requires.part.there) c.args.dim c.parts.k
+    c.args.part.now.shared le))
     (done_nothing table c.parts.builder.arena.now c.parts.builder.fronts.now c.parts.invariant.stands.fronts))
 
 -- what comes next for a part with its own node
-pub drill_part-add_front-requires-clause-stands : goal.drill_part-add_front-requires-clause-stands
-drill_part-add_front-requires-clause-stands g t c =
+pub drill_part-add_prefix_node-requires-clause-stands : goal.drill_part-add_prefix_node-requires-clause-stands
+drill_part-add_prefix_node-requires-clause-stands g t c =
     let table = c.args.group.now.table.now in
     let part = named table c.args.group.now.rows.now in
     let more = acts_from table (c.args.dim + 1) in
     let split = part_new more c.args.dim c.args.group.now.upper.now c.args.group.now.code part c.in-None.ensures.none
-    ∙ ap (λ s. front_acts false s c.args.dim c.args.group.now.code ++ more part) (sym c.closure_of_part.ensures) in
-    let s = stands_front table (front_acts false c.closure_of_part.result c.args.dim c.args.group.now.code) (more part) c.args.group.now.upper.now c.args.dim c.args.builder.now.arena.now c.args.path.now c.args.builder.now.fronts.now
-    (subst (λ xs. StandsAt table c.args.group.now.upper.now c.args.dim xs c.args.builder.now.arena.now c.args.path.now c.args.builder.now.fronts.now) split c.requires.stands) in
+    ∙ ap (λ s. prefix_acts false s c.args.dim c.args.group.now.code ++ more part) (sym c.closure_of_part.ensures) in
+    let s = stands_prefix table (prefix_acts false c.closure_of_part.result c.args.dim c.args.group.now.code)
+    (more part) c.args.group.now.upper.now c.args.dim c.args.builder.now.arena.now c.args.path.now
+    c.args.builder.now.fronts.now
+    (subst (λ xs. StandsAt table c.args.group.now.upper.now c.args.dim xs c.args.builder.now.arena.now c.args.path.now
+    c.args.builder.now.fronts.now) split c.requires.stands) in
     record {
       width = s.width;
       next = s.next;
-      path = path_of c.args.builder.now.arena.now c.args.path.now c.args.group.now.upper.now c.closure_of_part.result c.args.dim (sym (cell_eq-exact nat_equality _ _ c.in-None.ensures.none) ∙ ap (cell_front c.args.dim) (sym c.closure_of_part.ensures)) s.path;
+      path = path_of c.args.builder.now.arena.now c.args.path.now c.args.group.now.upper.now c.closure_of_part.result
+          c.args.dim (sym (cell_eq-exact nat_equality _ _ c.in-None.ensures.none)
+          ∙ ap (cell_prefix c.args.dim) (sym c.closure_of_part.ensures)) s.path;
       fronts = s.fronts;
     }
 
@@ -227,9 +312,14 @@ drill_part-drill-requires g t c =
     let part = named table c.args.group.now.rows.now in
     let more = acts_from table (c.args.dim + 1) in
     let split = part_new more c.args.dim c.args.group.now.upper.now c.args.group.now.code part c.in-None.ensures.none
-    ∙ ap (λ s. front_acts false s c.args.dim c.args.group.now.code ++ more part) (sym c.closure_of_part.ensures) in
-    let stands = stands_behind table (front_acts false c.closure_of_part.result c.args.dim c.args.group.now.code) (more part) c.args.group.now.upper.now c.closure_of_part.result c.args.dim (c.args.dim + 1) c.args.builder.now.arena.now c.add_front.new.builder.arena.now c.args.path.now c.add_front.new.path c.args.builder.now.fronts.now c.add_front.new.builder.fronts.now
-    (subst (λ xs. StandsAt table c.args.group.now.upper.now c.args.dim xs c.args.builder.now.arena.now c.args.path.now c.args.builder.now.fronts.now) split c.requires.stands) c.in-Ok-add_front.ensures.done c.in-Ok-add_front.ensures.frame c.in-Ok-add_front.ensures.path in
+    ∙ ap (λ s. prefix_acts false s c.args.dim c.args.group.now.code ++ more part) (sym c.closure_of_part.ensures) in
+    let stands = stands_behind table (prefix_acts false c.closure_of_part.result c.args.dim c.args.group.now.code)
+    (more part) c.args.group.now.upper.now c.closure_of_part.result c.args.dim
+    (c.args.dim + 1) c.args.builder.now.arena.now c.add_prefix_node.new.builder.arena.now c.args.path.now
+    c.add_prefix_node.new.path c.args.builder.now.fronts.now c.add_prefix_node.new.builder.fronts.now
+    (subst (λ xs. StandsAt table c.args.group.now.upper.now c.args.dim xs c.args.builder.now.arena.now c.args.path.now
+    c.args.builder.now.fronts.now) split c.requires.stands) c.in-Ok-add_prefix_node.ensures.done
+    c.in-Ok-add_prefix_node.ensures.frame c.in-Ok-add_prefix_node.ensures.path in
     let is_part : IsPart table c.args.group.now.rows.now c.closure_of_part.result = record {
       table = c.requires.group.under.table;
       some = c.requires.group.under.some;
@@ -239,35 +329,54 @@ drill_part-drill-requires g t c =
     } in
     λ κs h. (search rules, (h, (is_part, (add-one-le c.requires.group.dim, stands))))
 
-pub drill_part-returns-in-Ok-add_front-clause-done : goal.drill_part-returns-in-Ok-add_front-clause-done
-drill_part-returns-in-Ok-add_front-clause-done g t c =
+pub drill_part-returns-in-Ok-add_prefix_node-clause-done : goal.drill_part-returns-in-Ok-add_prefix_node-clause-done
+drill_part-returns-in-Ok-add_prefix_node-clause-done g t c =
     let table = c.args.group.now.table.now in
     let part = named table c.args.group.now.rows.now in
     let more = acts_from table (c.args.dim + 1) in
     let split = part_new more c.args.dim c.args.group.now.upper.now c.args.group.now.code part c.in-None.ensures.none
-    ∙ ap (λ s. front_acts false s c.args.dim c.args.group.now.code ++ more part) (sym c.closure_of_part.ensures) in
+    ∙ ap (λ s. prefix_acts false s c.args.dim c.args.group.now.code ++ more part) (sym c.closure_of_part.ensures) in
     on_ok_weaker c.drill.result
-    (λ e. subst (λ xs. HasDone table xs c.args.builder.now.arena.now c.drill.new.builder.arena.now c.drill.new.builder.fronts.now) (sym split)
-    (done_then table (front_acts false c.closure_of_part.result c.args.dim c.args.group.now.code) (more part) c.args.builder.now.arena.now c.add_front.new.builder.arena.now c.drill.new.builder.arena.now c.add_front.new.builder.fronts.now c.drill.new.builder.fronts.now c.in-Ok-add_front.ensures.done e))
+    (λ e. subst (λ xs. HasDone table xs c.args.builder.now.arena.now c.drill.new.builder.arena.now
+    c.drill.new.builder.fronts.now) (sym split)
+    (done_then table (prefix_acts false c.closure_of_part.result c.args.dim c.args.group.now.code)
+    (more part) c.args.builder.now.arena.now c.add_prefix_node.new.builder.arena.now c.drill.new.builder.arena.now
+    c.add_prefix_node.new.builder.fronts.now c.drill.new.builder.fronts.now c.in-Ok-add_prefix_node.ensures.done e))
     c.drill.ensures.done
 
 pub drill_part-link_part-requires-clause-stands : goal.drill_part-link_part-requires-clause-stands
 drill_part-link_part-requires-clause-stands g t c =
-    subst (λ xs. StandsAt c.args.group.now.table.now c.args.group.now.upper.now c.args.dim xs c.args.builder.now.arena.now c.args.path.now c.args.builder.now.fronts.now)
-    (part_old (acts_from c.args.group.now.table.now (c.args.dim + 1)) c.args.dim c.args.group.now.upper.now c.args.group.now.code (named c.args.group.now.table.now c.args.group.now.rows.now) (differs_behind c.in-Some.at c.args.dim _ c.args.group.now.upper.now c.in-Some.ensures.before c.in-Some.ensures.gains))
+    subst (λ xs. StandsAt c.args.group.now.table.now c.args.group.now.upper.now c.args.dim xs
+    c.args.builder.now.arena.now c.args.path.now c.args.builder.now.fronts.now)
+    (part_old (acts_from c.args.group.now.table.now (c.args.dim + 1)) c.args.dim c.args.group.now.upper.now
+    c.args.group.now.code (named c.args.group.now.table.now c.args.group.now.rows.now)
+    (differs_after c.in-Some.at c.args.dim _ c.args.group.now.upper.now c.in-Some.ensures.before
+    c.in-Some.ensures.gains))
     c.requires.stands
 
 pub drill_part-returns-in-Ok-clause-done : goal.drill_part-returns-in-Ok-clause-done
 drill_part-returns-in-Ok-clause-done g t c =
-    subst (λ xs. HasDone c.args.group.now.table.now xs c.args.builder.now.arena.now c.link_part.new.builder.arena.now c.link_part.new.builder.fronts.now)
-    (sym (part_old (acts_from c.args.group.now.table.now (c.args.dim + 1)) c.args.dim c.args.group.now.upper.now c.args.group.now.code (named c.args.group.now.table.now c.args.group.now.rows.now) (differs_behind c.in-Some.at c.args.dim _ c.args.group.now.upper.now c.in-Some.ensures.before c.in-Some.ensures.gains)))
+    subst (λ xs. HasDone c.args.group.now.table.now xs c.args.builder.now.arena.now c.link_part.new.builder.arena.now
+    c.link_part.new.builder.fronts.now)
+    (sym (part_old (acts_from c.args.group.now.table.now (c.args.dim + 1)) c.args.dim c.args.group.now.upper.now
+    c.args.group.now.code (named c.args.group.now.table.now c.args.group.now.rows.now)
+    (differs_after c.in-Some.at c.args.dim _ c.args.group.now.upper.now c.in-Some.ensures.before
+    c.in-Some.ensures.gains)))
     c.in-Ok.ensures.done
 
 pub drill_in-parts-init : goal.drill_in-parts-init
 drill_in-parts-init g t c = record {
-  whole = λ b f d. subst (λ (a : Arena). HasDone c.args.part.now.table.now (acts_at (acts_from c.args.part.now.table.now (c.args.dim + 1)) c.args.dim c.args.part.now.shared None (named c.args.part.now.table.now c.args.part.now.rows.now)) a b f) c.groups_of.ensures.arena d;
-  stands = subst (λ (a : Arena). StandsAt c.args.part.now.table.now c.args.part.now.shared c.args.dim (acts_at (acts_from c.args.part.now.table.now (c.args.dim + 1)) c.args.dim c.args.part.now.shared None (named c.args.part.now.table.now c.args.part.now.rows.now)) a c.args.path.now c.groups_of.new.builder.fronts.now) (sym c.groups_of.ensures.arena)
-      (subst (λ (f : Fronts). StandsAt c.args.part.now.table.now c.args.part.now.shared c.args.dim (acts_at (acts_from c.args.part.now.table.now (c.args.dim + 1)) c.args.dim c.args.part.now.shared None (named c.args.part.now.table.now c.args.part.now.rows.now)) c.args.builder.now.arena.now c.args.path.now f) (sym c.groups_of.ensures.fronts) c.requires.stands);
+  whole = λ b f d. subst (λ (a : Arena). HasDone c.args.part.now.table.now
+      (acts_at (acts_from c.args.part.now.table.now (c.args.dim + 1)) c.args.dim c.args.part.now.shared None
+      (named c.args.part.now.table.now c.args.part.now.rows.now)) a b f) c.groups_of.ensures.arena d;
+  stands = subst (λ (a : Arena). StandsAt c.args.part.now.table.now c.args.part.now.shared c.args.dim
+      (acts_at (acts_from c.args.part.now.table.now (c.args.dim + 1)) c.args.dim c.args.part.now.shared None
+      (named c.args.part.now.table.now c.args.part.now.rows.now)) a c.args.path.now c.groups_of.new.builder.fronts.now)
+      (sym c.groups_of.ensures.arena)
+      (subst (λ (f : PrefixNodes). StandsAt c.args.part.now.table.now c.args.part.now.shared c.args.dim
+      (acts_at (acts_from c.args.part.now.table.now (c.args.dim + 1)) c.args.dim c.args.part.now.shared None
+      (named c.args.part.now.table.now c.args.part.now.rows.now)) c.args.builder.now.arena.now c.args.path.now f)
+      (sym c.groups_of.ensures.fronts) c.requires.stands);
   rest = ap frame c.groups_of.ensures.arena;
   same = c.groups_of.ensures.same;
 }
@@ -276,19 +385,33 @@ pub drill_part-first_new_value-requires : goal.drill_part-first_new_value-requir
 drill_part-first_new_value-requires g t c = record { under = c.requires.group.under; dim = c.requires.group.dim }
 
 pub drill_part-closure_of_part-requires : goal.drill_part-closure_of_part-requires
-drill_part-closure_of_part-requires g t c = record { under = c.requires.group.under; dim = c.requires.group.dim; value = ap is_some c.requires.group.value; front = c.in-None.ensures.none }
+drill_part-closure_of_part-requires g t c = record {
+  under = c.requires.group.under;
+  dim = c.requires.group.dim;
+  value
+      = ap is_some c.requires.group.value;
+  front = c.in-None.ensures.none;
+}
 
-pub drill_part-add_front-requires-clause-part : goal.drill_part-add_front-requires-clause-part
-drill_part-add_front-requires-clause-part g t c = record { table = c.requires.group.under.table; some = c.requires.group.under.some; few = c.requires.group.few; there = c.requires.group.under.there; shared = c.closure_of_part.ensures }
+pub drill_part-add_prefix_node-requires-clause-part : goal.drill_part-add_prefix_node-requires-clause-part
+drill_part-add_prefix_node-requires-clause-part g t c
+    = record {
+      table = c.requires.group.under.table;
+      some = c.requires.group.under.some;
+      few = c.requires.group.few;
+      there = c.requires.group.under.there;
+      shared = c.closure_of_part.ensures;
+    }
 
-pub drill_part-add_front-requires-clause-dim : goal.drill_part-add_front-requires-clause-dim
-drill_part-add_front-requires-clause-dim g t c = c.requires.group.dim
+pub drill_part-add_prefix_node-requires-clause-dim : goal.drill_part-add_prefix_node-requires-clause-dim
+drill_part-add_prefix_node-requires-clause-dim g t c = c.requires.group.dim
 
-pub drill_part-add_front-requires-clause-value : goal.drill_part-add_front-requires-clause-value
-drill_part-add_front-requires-clause-value g t c = ap (λ u. entry u c.args.dim) c.closure_of_part.ensures ∙ c.requires.group.value
+pub drill_part-add_prefix_node-requires-clause-value : goal.drill_part-add_prefix_node-requires-clause-value
+drill_part-add_prefix_node-requires-clause-value g t c = ap (λ u. entry u c.args.dim) c.closure_of_part.ensures
+    ∙ c.requires.group.value
 
-pub drill_part-add_front-requires-clause-small : goal.drill_part-add_front-requires-clause-small
-drill_part-add_front-requires-clause-small g t c = c.requires.group.small
+pub drill_part-add_prefix_node-requires-clause-small : goal.drill_part-add_prefix_node-requires-clause-small
+drill_part-add_prefix_node-requires-clause-small g t c = c.requires.group.small
 
 pub drill_part-link_part-requires-clause-group : goal.drill_part-link_part-requires-clause-group
 drill_part-link_part-requires-clause-group g t c = c.requires.group
@@ -303,4 +426,10 @@ pub drill_part-link_part-requires-clause-gains : goal.drill_part-link_part-requi
 drill_part-link_part-requires-clause-gains g t c = c.in-Some.ensures.gains
 
 pub drill-total-agg-requires : goal.drill-total-agg-requires
-drill-total-agg-requires g t c = record { table = c.requires.part.table; some = c.requires.part.some; few = c.requires.part.few; there = c.requires.part.there }
+drill-total-agg-requires g t c = record {
+  table = c.requires.part.table;
+  some = c.requires.part.some;
+  few
+      = c.requires.part.few;
+  there = c.requires.part.there;
+}

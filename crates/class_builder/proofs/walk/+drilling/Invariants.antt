@@ -4,7 +4,7 @@ use Rattle.build_trace.specs.Trace.{acts_at}
 use Rattle.qc_arena.specs.Map.{Arena, frame}
 use Rattle.class_builder.specs.Stands.{HasDone, StandsAt}
 use Rattle.class_builder.specs.Walk.{acts_from}
-use Rattle.class_builder.specs.declared.noted.Fronts.{Fronts}
+use Rattle.class_builder.specs.declared.prefix_nodes.PrefixNodes.{PrefixNodes}
 use Rattle.class_builder.proofs.Steps.{parts_from}
 use Rattle.class_builder.proofs.walk.+drilling.Given as goal
 
@@ -23,18 +23,29 @@ decreases-drill_part g l = 4 * (l.group.now.table.now.dims - l.dim)
 -- who does what is to come has done the whole
 abbrev pub invariant-drill-dims : goal.invariant-drill-dims
 invariant-drill-dims g l = record {
-  whole : (c : Arena) (f : Fronts) → HasDone l.part.table.now (acts_from l.part.table.now l.dim (named l.part.table.now l.part.rows.now)) l.builder.arena.now c f
-      → HasDone l.part.table.now (acts_from l.part.table.now l.first (named l.part.table.now l.part.rows.now)) l.fn.builder.arena.now c f;
-  stands : StandsAt l.part.table.now l.part.shared l.dim (acts_from l.part.table.now l.dim (named l.part.table.now l.part.rows.now)) l.builder.arena.now l.path l.builder.fronts.now;
+  whole : (c : Arena) (f : PrefixNodes)
+      → HasDone l.part.table.now (acts_from l.part.table.now l.dim (named l.part.table.now l.part.rows.now))
+      l.builder.arena.now c f
+      → HasDone l.part.table.now (acts_from l.part.table.now l.first (named l.part.table.now l.part.rows.now))
+      l.fn.builder.arena.now c f;
+  stands : StandsAt l.part.table.now l.part.shared l.dim
+      (acts_from l.part.table.now l.dim (named l.part.table.now l.part.rows.now)) l.builder.arena.now l.path
+      l.builder.fronts.now;
   rest : frame l.builder.arena.now ≡ frame l.fn.builder.arena.now;
   same : l.builder.arena.ghost_name ≡ l.fn.builder.arena.ghost_name;
 }
 
 abbrev pub invariant-drill_in-parts : goal.invariant-drill_in-parts
 invariant-drill_in-parts g l = record {
-  whole : (c : Arena) (f : Fronts) → HasDone l.part.table.now (parts_from l.part.table.now l.dim l.part.shared (named l.part.table.now l.part.rows.now) l.k) l.builder.arena.now c f
-      → HasDone l.part.table.now (acts_at (acts_from l.part.table.now (l.dim + 1)) l.dim l.part.shared None (named l.part.table.now l.part.rows.now)) l.fn.builder.arena.now c f;
-  stands : StandsAt l.part.table.now l.part.shared l.dim (parts_from l.part.table.now l.dim l.part.shared (named l.part.table.now l.part.rows.now) l.k) l.builder.arena.now l.path l.builder.fronts.now;
+  whole : (c : Arena) (f : PrefixNodes)
+      → HasDone l.part.table.now
+      (parts_from l.part.table.now l.dim l.part.shared (named l.part.table.now l.part.rows.now) l.k)
+      l.builder.arena.now c f
+      → HasDone l.part.table.now (acts_at (acts_from l.part.table.now (l.dim + 1)) l.dim l.part.shared None
+      (named l.part.table.now l.part.rows.now)) l.fn.builder.arena.now c f;
+  stands : StandsAt l.part.table.now l.part.shared l.dim
+      (parts_from l.part.table.now l.dim l.part.shared (named l.part.table.now l.part.rows.now) l.k) l.builder.arena.now
+      l.path l.builder.fronts.now;
   rest : frame l.builder.arena.now ≡ frame l.fn.builder.arena.now;
   same : l.builder.arena.ghost_name ≡ l.fn.builder.arena.ghost_name;
 }

@@ -5,4 +5,5 @@ use Rattle.csv_load.proofs.Names.{place_left}
 use Rattle.csv_load.proofs.columns.place_of.Given as goal
 
 abbrev pub invariant-loop-place : goal.invariant-loop-place
-invariant-loop-place l = place_left l.found l.place l.name (drop l.place (fields_of l.header)) ≡ place_from 0 l.name (fields_of l.header)
+invariant-loop-place l = place_left l.found l.place l.name (drop l.place (fields_of l.header)) ≡ place_from 0 l.name
+    (fields_of l.header)

@@ -9,4 +9,5 @@ abbrev pub invariant-loop-measure : goal.invariant-loop-measure
 invariant-loop-measure l =
     let fields = fields_at l.columns.places.items (fields_of l.row) in
     let first = 1 + length l.schema.dims in
-    amounts_with l.amounts.items (amounts_in (drop l.measure l.schema.measures) (drop (first + l.measure) fields)) ≡ amounts_with l.initial.amounts.items (amounts_in l.schema.measures (drop first fields))
+    amounts_with l.amounts.items (amounts_in (drop l.measure l.schema.measures) (drop (first + l.measure) fields))
+    ≡ amounts_with l.initial.amounts.items (amounts_in l.schema.measures (drop first fields))

@@ -11,5 +11,10 @@ returns-clause-ok c =
     let layout = c.args.schema.now in
     let fields = fields_at c.args.columns.now.places.items (fields_of c.args.row.now) in
     let e = c.in_ok-push_amounts.ensures.ok in
-    let are = amounts-are layout.measures (drop (1 + length layout.dims) fields) e.0 e.1 in
-    (e.0, are.0, e.2, makes-insertion layout c.args.number fields c.args.operation.deletes e.0 c.if-operation.false e.1 (sym c.requires.short ∙ not-false c.args.operation.are_short c.if-not-operation.false))
+    let are = amounts-are layout.measures (drop (1 + length layout.dims) fields) e.0 e.1 in (
+      e.0,
+      are.0,
+      e.2,
+      makes-insertion layout c.args.number fields c.args.operation.deletes e.0 c.if-operation.false e.1
+          (sym c.requires.short ∙ not-false c.args.operation.are_short c.if-not-operation.false),
+    )

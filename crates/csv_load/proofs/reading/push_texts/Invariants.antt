@@ -14,5 +14,6 @@ invariant-loop-dim l =
     record {
       texts : l.texts ++ slice_range fields (1 + l.dim) end ≡ l.initial.texts ++ slice_range fields 1 end;
       utf8 : list_all is_utf8 (slice_range fields (1 + l.dim) end) ≡ list_all is_utf8 (slice_range fields 1 end);
-      short : (l.are_short && list_all is_short (slice_range fields (1 + l.dim) end)) ≡ list_all is_short (slice_range fields 1 end);
+      short : (l.are_short && list_all is_short (slice_range fields (1 + l.dim) end)) ≡ list_all is_short
+          (slice_range fields 1 end);
     }

@@ -16,7 +16,8 @@ use Rattle.csv_load.proofs.reading.read_changes.Goals as goal
 
 pub push_change-requires-clause-room : goal.push_change-requires-clause-room
 push_change-requires-clause-room c =
-    let left : c.records.rows ≡ fields_of c.next.new.row ∷ c.next.new.self = rw c.if-branch.true at c.in_ok-next.ensures.next in
+    let left : c.records.rows ≡ fields_of c.next.new.row ∷ c.next.new.self
+    = rw c.if-branch.true at c.in_ok-next.ensures.next in
     omega (arith, c.records.invariant.room, ap bytes_in_all left, c.requires.columns.size (fields_of c.next.new.row))
 
 pub records-preserved : goal.records-preserved
@@ -31,19 +32,36 @@ records-preserved c =
     let change = change_with e.0 e.1 in
     let left : c.records.rows ≡ fields ∷ c.next.new.self = rw c.if-branch.true at c.in_ok-next.ensures.next in
     let number : c.len.result + 1 ≡ 1 + length c.records.changes.ids.items = omega (arith, c.len.ensures) in
-    let made : change_in columns.has_op layout columns.width columns.places.items (1 + length c.records.changes.ids.items) fields ≡ Ok change = rw number at e.2 in
-    let more : length c.push_change.new.changes.ids.items ≡ length c.records.changes.ids.items + 1 = ap length e.5.with_id ∙ length_push c.records.changes.ids.items e.1.id in
-    let next : 1 + length c.push_change.new.changes.ids.items ≡ 1 + length c.records.changes.ids.items + 1 = omega (arith, more) in
+    let made : change_in columns.has_op layout columns.width columns.places.items
+    (1 + length c.records.changes.ids.items) fields ≡ Ok change = rw number at e.2 in
+    let more : length c.push_change.new.changes.ids.items ≡ length c.records.changes.ids.items + 1
+    = ap length e.5.with_id ∙ length_push c.records.changes.ids.items e.1.id in
+    let next : 1 + length c.push_change.new.changes.ids.items ≡ 1 + length c.records.changes.ids.items + 1
+    = omega (arith, more) in
     let all = all-push dims measures e.0 e.1 c.records.changes c.push_change.new.changes inv.columns e.3 e.4 e.5 in
-    let good = good-change columns.has_op layout columns.width columns.places.items (1 + length c.records.changes.ids.items) fields change (omega (arith, c.requires.columns.all, needed-some columns.has_op layout)) made in
-    let room : length c.records.changes.ids.items + 1 < 2 ^ 32 = omega (arith, inv.count, ap length left, c.requires.few) in
+    let good = good-change columns.has_op layout columns.width columns.places.items
+    (1 + length c.records.changes.ids.items) fields change
+    (omega (arith, c.requires.columns.all, needed-some columns.has_op layout)) made in
+    let room : length c.records.changes.ids.items + 1 < 2 ^ 32
+    = omega (arith, inv.count, ap length left, c.requires.few) in
     record {
       changes = rw next
-          (ap (λ (changes : List (Change Text)). ok_with changes (changes_from columns.has_op layout columns.width columns.places.items (1 + length c.records.changes.ids.items + 1) c.next.new.self)) all
-          ∙ sym (with-more columns.has_op layout columns.width columns.places.items (1 + length c.records.changes.ids.items) (all_in dims measures c.records.changes) fields c.next.new.self change made) ∙ rw left at inv.changes);
+          (ap (λ (changes : List (Change Text)). ok_with changes
+          (changes_from columns.has_op layout columns.width columns.places.items
+          (1 + length c.records.changes.ids.items + 1) c.next.new.self)) all
+          ∙ sym (with-more columns.has_op layout columns.width columns.places.items
+          (1 + length c.records.changes.ids.items) (all_in dims measures c.records.changes) fields c.next.new.self
+          change made) ∙ rw left at inv.changes);
       count = omega (arith, inv.count, ap length left, more);
-      columns = are-push dims measures e.0 e.1 c.records.changes c.push_change.new.changes inv.columns e.3 e.4 e.5 good room;
-      room = omega (arith, inv.room, ap bytes_in_all left, c.in_ok-push_change.ensures.size, c.requires.columns.size fields);
+      columns = are-push dims measures e.0 e.1 c.records.changes c.push_change.new.changes inv.columns e.3 e.4
+          e.5 good room;
+      room = omega (
+        arith,
+        inv.room,
+        ap bytes_in_all left,
+        c.in_ok-push_change.ensures.size,
+        c.requires.columns.size fields,
+      );
     }
 
 pub returns-in_err-push_change-clause-gives : goal.returns-in_err-push_change-clause-gives
@@ -55,11 +73,19 @@ returns-in_err-push_change-clause-gives c =
     let fields = fields_of c.next.new.row in
     let left : c.records.rows ≡ fields ∷ c.next.new.self = rw c.if-branch.true at c.in_ok-next.ensures.next in
     let number : c.len.result + 1 ≡ 1 + length c.records.changes.ids.items = omega (arith, c.len.ensures) in
-    let first : IfSome named (λ fault. change_in columns.has_op layout columns.width columns.places.items (1 + length c.records.changes.ids.items) fields ≡ Err fault) = rw number at c.in_err-push_change.ensures.err in
+    let first : IfSome named (λ fault. change_in columns.has_op layout columns.width columns.places.items
+    (1 + length c.records.changes.ids.items) fields ≡ Err fault) = rw number at c.in_err-push_change.ensures.err in
     let whole = rw left at c.records.invariant.changes in
-    let gives : IfSome named (λ fault. changes_from columns.has_op layout columns.width columns.places.items 1 c.args.rows.now ≡ Err fault)
+    let gives : IfSome named
+    (λ fault. changes_from columns.has_op layout columns.width columns.places.items 1 c.args.rows.now ≡ Err fault)
     = rw (← whole)
-    (fails-with named before (changes_from columns.has_op layout columns.width columns.places.items (1 + length c.records.changes.ids.items) (fields ∷ c.next.new.self))
-    (fails-cons named (change_in columns.has_op layout columns.width columns.places.items (1 + length c.records.changes.ids.items) fields) (changes_from columns.has_op layout columns.width columns.places.items (1 + length c.records.changes.ids.items + 1) c.next.new.self) first)) in
-    let p = err_from_is_err_and c.from_residual-in_err-push_change.result c.from_residual-in_err-push_change.ensures.1 in
+    (fails-with named before
+    (changes_from columns.has_op layout columns.width columns.places.items (1 + length c.records.changes.ids.items)
+    (fields ∷ c.next.new.self))
+    (fails-cons named (change_in columns.has_op layout columns.width columns.places.items
+    (1 + length c.records.changes.ids.items) fields)
+    (changes_from columns.has_op layout columns.width columns.places.items
+    (1 + length c.records.changes.ids.items + 1) c.next.new.self) first)) in
+    let p = err_from_is_err_and c.from_residual-in_err-push_change.result
+    c.from_residual-in_err-push_change.ensures.1 in
     rw (p.1, p.2) gives

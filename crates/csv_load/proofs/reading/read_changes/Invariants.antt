@@ -11,7 +11,10 @@ invariant-records l =
     let dims = length l.schema.dims in
     let measures = length l.schema.measures in
     record {
-      changes : ok_with (all_in dims measures l.changes) (changes_from l.columns.has_op l.schema l.columns.width l.columns.places.items (1 + length l.changes.ids.items) l.rows) ≡ changes_from l.columns.has_op l.schema l.columns.width l.columns.places.items 1 l.initial.rows;
+      changes : ok_with (all_in dims measures l.changes)
+          (changes_from l.columns.has_op l.schema l.columns.width l.columns.places.items
+          (1 + length l.changes.ids.items) l.rows) ≡ changes_from l.columns.has_op l.schema l.columns.width
+          l.columns.places.items 1 l.initial.rows;
       count : length l.changes.ids.items + length l.rows ≡ length l.initial.rows;
       columns : AreChanges dims measures l.changes;
       room : bytes_in l.changes.texts + bytes_in_all l.rows < 2 ^ 32;

@@ -1,4 +1,4 @@
-use Rattle.cube_laws.proofs.Cells.{depth-le, depth_of_last, depth_of_none, cell_front-depth_cell_front}
+use Rattle.cube_laws.proofs.Cells.{depth-le, depth_of_last, depth_of_none, cell_prefix-depth_cell_prefix}
 use Rattle.cube_laws.proofs.lattice.depth_of_cells.Goals as goal
 
 pub returns-clause-last : goal.returns-clause-last
@@ -11,4 +11,4 @@ pub returns-clause-within : goal.returns-clause-within
 returns-clause-within g c = depth-le
 
 pub returns-clause-front : goal.returns-clause-front
-returns-clause-front g c = cell_front-depth_cell_front
+returns-clause-front g c = cell_prefix-depth_cell_prefix

@@ -19,4 +19,5 @@ pub returns-clause-range : goal.returns-clause-range
 returns-clause-range g c = λ measures rows box. range_rises g.met.V.Ord.total g.met.V.Value.apart rows measures box
 
 pub returns-clause-only_one : goal.returns-clause-only_one
-returns-clause-only_one g c = rises_same (cell_total g.met.V.Ord.total g.met.V.Value.apart) (cell_anti g.met.V.Ord.total g.met.V.Value.apart)
+returns-clause-only_one g c
+    = rises_same (cell_total g.met.V.Ord.total g.met.V.Value.apart) (cell_anti g.met.V.Ord.total g.met.V.Value.apart)

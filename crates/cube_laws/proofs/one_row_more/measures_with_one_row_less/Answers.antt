@@ -9,8 +9,10 @@ returns-clause-sum g c = let law = equality_of g.met.V.Ord.total g.met.V.Value.a
 
 pub returns-clause-least : goal.returns-clause-least
 returns-clause-least g c = let law = equality_of g.met.V.Ord.total g.met.V.Value.apart g.met.V.Ord.matches_eq in
-    λ measures m xs ys r c' u l h e apart. least_left (slice_index_or r.amounts m (pos 0)) _ _ (least-insert law xs r ys measures m c' u l h e) apart
+    λ measures m xs ys r c' u l h e apart. least_left (slice_index_or r.amounts m (pos 0)) _ _
+    (least-insert law xs r ys measures m c' u l h e) apart
 
 pub returns-clause-greatest : goal.returns-clause-greatest
 returns-clause-greatest g c = let law = equality_of g.met.V.Ord.total g.met.V.Value.apart g.met.V.Ord.matches_eq in
-    λ measures m xs ys r c' u l h e apart. greatest_left (slice_index_or r.amounts m (pos 0)) _ _ (greatest-insert law xs r ys measures m c' u l h e) apart
+    λ measures m xs ys r c' u l h e apart. greatest_left (slice_index_or r.amounts m (pos 0)) _ _
+    (greatest-insert law xs r ys measures m c' u l h e) apart

@@ -11,7 +11,14 @@ use Rattle.std.specs.List.{IsDistinct}
 use Rattle.cube_laws.proofs.parts_of_a_class.column_parts_the_rows.Goals as goal
 
 pub returns-clause-once : goal.returns-clause-once
-returns-clause-once g c = λ rows p i. subst (λ e. IsDistinct e (values_at g.V.Ord.cmp rows p i)) (equality-path _ g.met.V.Ord.matches_eq) (column_once g.met.V.Ord.total g.met.V.Value.apart rows p i)
+returns-clause-once g c
+    = λ rows p i. subst (λ e. IsDistinct e (values_at g.V.Ord.cmp rows p i)) (equality-path _ g.met.V.Ord.matches_eq)
+    (column_once g.met.V.Ord.total g.met.V.Value.apart rows p i)
 
 pub returns-clause-enough : goal.returns-clause-enough
-returns-clause-enough g c = λ rows some p u i. subst (λ e. leq e p u ≡ true → ((s : Row _) → Among s some → Among s rows) → ((s : Row _) → Among s rows → i < length s.tuple) → HasAll e some u i (values_at g.V.Ord.cmp rows p i)) (equality-path _ g.met.V.Ord.matches_eq) (λ low within long. column_all g.met.V.Ord.total g.met.V.Value.apart rows p u i low some within (all_from _ rows long))
+returns-clause-enough g c
+    = λ rows some p u i. subst (λ e. leq e p u ≡ true → ((s : Row _) → Among s some → Among s rows)
+    → ((s : Row _) → Among s rows → i < length s.tuple) → HasAll e some u i (values_at g.V.Ord.cmp rows p i))
+    (equality-path _ g.met.V.Ord.matches_eq)
+    (λ low within long. column_all g.met.V.Ord.total g.met.V.Value.apart rows p u i low some within
+    (all_from _ rows long))

@@ -6,4 +6,5 @@ use Rattle.cube_laws.proofs.witnesses.class_that_stays.Goals as goal
 
 pub returns : goal.returns
 returns g c = let law = equality_of g.met.V.Ord.total g.met.V.Value.apart g.met.V.Ord.matches_eq in
-    λ n xs ys r u c' z long e h up apart f none. unchanged law xs r ys n u c' z (all_from _ (xs ++ r ∷ ys) long) e h up apart f none
+    λ n xs ys r u c' z long e h up apart f none. unchanged law xs r ys n u c' z (all_from _ (xs ++ r ∷ ys) long) e h
+    up apart f none

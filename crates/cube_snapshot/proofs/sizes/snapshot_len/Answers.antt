@@ -6,4 +6,9 @@ use Rattle.cube_snapshot.proofs.sizes.snapshot_len.Goals as goal
 pub returns : goal.returns
 returns c =
     let t = c.args.table.now in
-    omega (arith, laid-len c.args.schema.now.items c.args.dict.now.lists t.dims t.measures (rows_of t), c.dict_len.ensures.value, c.rows_len.ensures.value)
+    omega (
+      arith,
+      laid-len c.args.schema.now.items c.args.dict.now.lists t.dims t.measures (rows_of t),
+      c.dict_len.ensures.value,
+      c.rows_len.ensures.value,
+    )

@@ -11,10 +11,12 @@ texts-preserved c =
     let list = list_at c.args.dict.now c.args.dim in
     let k = c.texts.code in
     let lt : k < length list = omega (arith, c.texts-test.true, c.len-code-end.ensures.value) in
-    let is : get_or list k [] ≡ c.text.result.now = get_or_from_slice_get list k c.text.result.now [] c.text.ensures.value in
+    let is : get_or list k [] ≡ c.text.result.now
+    = get_or_from_slice_get list k c.text.result.now [] c.text.ensures.value in
     let short : length (get_or list k []) ≤ MAX_TEXT = c.requires.short k [] lt in
     let step : 1 + length c.text.result.now ≡ suc (length (get_or list k [])) = omega (arith, ap length is) in
     record {
-      value = len_next text.put c.texts.len (c.texts.len + (1 + length c.text.result.now)) (1 + length c.text.result.now) list k [] lt c.texts.invariant.value step refl;
+      value = len_next text.put c.texts.len (c.texts.len + (1 + length c.text.result.now))
+          (1 + length c.text.result.now) list k [] lt c.texts.invariant.value step refl;
       small = omega (arith, c.texts.invariant.small, ap length is, short);
     }

@@ -12,5 +12,6 @@ amounts-preserved c =
     let lt : k < length c.args.amounts.now = omega (arith, c.amounts-test.true) in
     let small : IsAmount z = c.requires k (pos 0) lt in
     let same = to_z-of_z w64 z (fits_signed_from_abs w64 z (omega (arith, small))) in
-    put_next amount.put c.amounts.out.items c.put_amount.new.out.items c.args.out.now.items c.args.amounts.now k (pos 0) lt c.amounts.invariant
+    put_next amount.put c.amounts.out.items c.put_amount.new.out.items c.args.out.now.items c.args.amounts.now k
+    (pos 0) lt c.amounts.invariant
     (c.in_ok-put_amount.ensures ∙ ap (λ a. c.amounts.out.items ++ amount.put a) same)

@@ -7,7 +7,9 @@ pub dims-preserved : goal.dims-preserved
 dims-preserved c =
     let lists = c.args.dict.now.lists in
     let lt : c.dims.dim < length lists = omega (arith, c.dims-test.true, c.dims-dim-end.ensures.value) in
-    put_next texts.put c.dims.out.items c.put_texts.new.out.items c.args.out.now.items lists c.dims.dim [] lt c.dims.invariant c.in_ok-put_texts.ensures
+    put_next texts.put c.dims.out.items c.put_texts.new.out.items c.args.out.now.items lists c.dims.dim
+    [] lt c.dims.invariant c.in_ok-put_texts.ensures
 
 pub returns : goal.returns
-returns c = put_all texts.put c.dims.out.items c.args.out.now.items c.args.dict.now.lists c.dims.dim (omega (arith, c.dims-test.false, c.dims-dim-end.ensures.value)) c.dims.invariant
+returns c = put_all texts.put c.dims.out.items c.args.out.now.items c.args.dict.now.lists c.dims.dim
+    (omega (arith, c.dims-test.false, c.dims-dim-end.ensures.value)) c.dims.invariant

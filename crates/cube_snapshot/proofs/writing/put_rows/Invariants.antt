@@ -7,4 +7,5 @@ use Rattle.cube_snapshot.specs.Parts.{row}
 use Rattle.cube_snapshot.proofs.writing.put_rows.Given as goal
 
 abbrev pub invariant-places : goal.invariant-places
-invariant-places l = l.out.items ≡ (l.fn.out.items ++ (number w32).put (length (rows_of l.table))) ++ flat_map (row l.table.dims l.table.measures).put (rows_in (take l.place l.table.places))
+invariant-places l = l.out.items ≡ (l.fn.out.items ++ (number w32).put (length (rows_of l.table)))
+    ++ flat_map (row l.table.dims l.table.measures).put (rows_in (take l.place l.table.places))

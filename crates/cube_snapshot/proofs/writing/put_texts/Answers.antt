@@ -15,19 +15,24 @@ texts-preserved c =
     let list = list_at c.args.dict.now c.args.dim in
     let k = c.texts.code in
     let lt : k < length list = omega (arith, c.texts-test.true, c.len-code-end.ensures.value) in
-    let is : get_or list k [] ≡ c.text.result.now = get_or_from_slice_get list k c.text.result.now [] c.text.ensures.value in
-    put_next text.put c.texts.out.items c.put_text.new.out.items (c.args.out.now.items ++ (number w32).put (length list)) list k [] lt c.texts.invariant
+    let is : get_or list k [] ≡ c.text.result.now
+    = get_or_from_slice_get list k c.text.result.now [] c.text.ensures.value in
+    put_next text.put c.texts.out.items c.put_text.new.out.items
+    (c.args.out.now.items ++ (number w32).put (length list)) list k [] lt c.texts.invariant
     (c.in_ok-put_text.ensures ∙ ap (λ t. c.texts.out.items ++ text.put t) (sym is))
 
 pub put_text-requires : goal.put_text-requires
 put_text-requires c =
     let list = list_at c.args.dict.now c.args.dim in
     let lt : c.texts.code < length list = omega (arith, c.texts-test.true, c.len-code-end.ensures.value) in
-    subst (λ (t : Text). length t ≤ MAX_TEXT) (get_or_from_slice_get list c.texts.code c.text.result.now [] c.text.ensures.value) (c.requires.short c.texts.code [] lt)
+    subst (λ (t : Text). length t ≤ MAX_TEXT)
+    (get_or_from_slice_get list c.texts.code c.text.result.now [] c.text.ensures.value)
+    (c.requires.short c.texts.code [] lt)
 
 pub returns : goal.returns
 returns c =
     let list = list_at c.args.dict.now c.args.dim in
     let count = (number w32).put (length list) in
-    put_all text.put c.texts.out.items (c.args.out.now.items ++ count) list c.texts.code (omega (arith, c.texts-test.false, c.len-code-end.ensures.value)) c.texts.invariant
+    put_all text.put c.texts.out.items (c.args.out.now.items ++ count) list c.texts.code
+    (omega (arith, c.texts-test.false, c.len-code-end.ensures.value)) c.texts.invariant
     ∙ append_assoc c.args.out.now.items count (flat_map text.put list)

@@ -1,6 +1,6 @@
 use Rattle.std.proofs.Common.{◌≡◌, ◌+◌, ◌∙◌, Some, ap, arith, suc}
 use Rattle.cell_core.specs.declared.cell.NodeNo.{NodeNo}
-use Rattle.cube_defs.specs.Cell.{cell_front}
+use Rattle.cube_defs.specs.Cell.{cell_prefix}
 use Rattle.cube_defs.specs.Tree.{cell_at}
 use Rattle.drill_links.proofs.Downward.{edge_there, edge_to, stays}
 use Rattle.drill_links.proofs.way.descend.Goals as goal
@@ -8,16 +8,21 @@ use Rattle.drill_links.proofs.way.descend.Goals.{in-Any, in-Is}
 
 pub unwrap-node-requires : goal.unwrap-node-requires
 unwrap-node-requires g c =
-    edge_there c.args.arena.now.now c.args.target.now c.args.first c.args.last c.requires.way c.down.dim c.down.node.0 c.in-Is.code (omega arith) (omega arith) c.in-Is.ensures.value c.down.invariant c.edge.result c.edge.ensures.value
+    edge_there c.args.arena.now.now c.args.target.now c.args.first c.args.last c.requires.way c.down.dim c.down.node.0
+    c.in-Is.code (omega arith) (omega arith) c.in-Is.ensures.value c.down.invariant c.edge.result
+    c.edge.ensures.value
 
 pub down-preserved : goal.down-preserved
 down-preserved g c = elim c.match-get.branch [
   | in-Any w ↦
       ap (λ (k : NodeNo). cell_at c.args.arena.now.now k.0) w.node-is
-      ∙ stays c.args.target.now c.down.dim (cell_at c.args.arena.now.now c.down.node.0) w.in-Any.ensures.value c.down.invariant
+      ∙ stays c.args.target.now c.down.dim (cell_at c.args.arena.now.now c.down.node.0) w.in-Any.ensures.value
+      c.down.invariant
   | in-Is w ↦
       ap (λ (k : NodeNo). cell_at c.args.arena.now.now k.0) w.node-is
-      ∙ edge_to c.args.arena.now.now c.args.target.now c.args.first c.args.last c.requires.way c.down.dim c.down.node.0 w.in-Is.code (omega arith) (omega arith) w.in-Is.ensures.value c.down.invariant w.edge.result w.unwrap-node.result w.edge.ensures.value w.unwrap-node.ensures
+      ∙ edge_to c.args.arena.now.now c.args.target.now c.args.first c.args.last c.requires.way c.down.dim c.down.node.0
+      w.in-Is.code (omega arith) (omega arith) w.in-Is.ensures.value c.down.invariant w.edge.result
+      w.unwrap-node.result w.edge.ensures.value w.unwrap-node.ensures
 ]
 
 pub returns-after-get : goal.returns-after-get
@@ -26,10 +31,13 @@ returns-after-get g c =
     elim c.match-get.branch [
       | in-Any w ↦
           ap (λ (k : NodeNo). cell_at c.args.arena.now.now k.0) w.node-is
-          ∙ stays c.args.target.now c.down.dim (cell_at c.args.arena.now.now c.down.node.0) w.in-Any.ensures.value c.down.invariant
-          ∙ ap (λ i. Some (cell_front i c.args.target.now)) next
+          ∙ stays c.args.target.now c.down.dim (cell_at c.args.arena.now.now c.down.node.0) w.in-Any.ensures.value
+          c.down.invariant
+          ∙ ap (λ i. Some (cell_prefix i c.args.target.now)) next
       | in-Is w ↦
           ap (λ (k : NodeNo). cell_at c.args.arena.now.now k.0) w.node-is
-          ∙ edge_to c.args.arena.now.now c.args.target.now c.args.first c.args.last c.requires.way c.down.dim c.down.node.0 w.in-Is.code (omega arith) (omega arith) w.in-Is.ensures.value c.down.invariant w.edge.result w.unwrap-node.result w.edge.ensures.value w.unwrap-node.ensures
-          ∙ ap (λ i. Some (cell_front i c.args.target.now)) next
+          ∙ edge_to c.args.arena.now.now c.args.target.now c.args.first c.args.last c.requires.way c.down.dim
+          c.down.node.0 w.in-Is.code (omega arith) (omega arith) w.in-Is.ensures.value c.down.invariant
+          w.edge.result w.unwrap-node.result w.edge.ensures.value w.unwrap-node.ensures
+          ∙ ap (λ i. Some (cell_prefix i c.args.target.now)) next
     ]

@@ -7,5 +7,6 @@ use Rattle.generated_run.proofs.files.apply_batch.Goals as goal
 pub returns-clause-state : goal.returns-clause-state
 returns-clause-state g c =
     on_ok_weaker c.settled.result
-    (λ known. file-left c.args.warehouse.now.state c.apply.new.self.state Apply c.deref.result.now _ c.apply.result (c.deref.ensures.value ∙ c.in_ok-write_batch.ensures.text) c.apply.ensures.gives c.apply.ensures.state known)
+    (λ known. file-left c.args.warehouse.now.state c.apply.new.self.state Apply c.deref.result.now _ c.apply.result
+    (c.deref.ensures.value ∙ c.in_ok-write_batch.ensures.text) c.apply.ensures.gives c.apply.ensures.state known)
     c.settled.ensures

@@ -9,7 +9,8 @@ batches-preserved g c =
     let most : BATCHES ≡ 40 = refl in
     let e : BATCHES - c.batches.before ≡ suc (BATCHES - (c.batches.before + 1)) = omega (arith, most) in
     rw (c.in_ok-apply_batch.ensures.draws, c.in_ok-apply_batch.ensures.state)
-    (sym (batches-more (BATCHES - (c.batches.before + 1)) (BATCHES - c.batches.before) c.args.rows c.batches.before c.batches.draws.state c.batches.warehouse.state e) ∙ c.batches.invariant)
+    (sym (batches-more (BATCHES - (c.batches.before + 1)) (BATCHES - c.batches.before) c.args.rows c.batches.before
+    c.batches.draws.state c.batches.warehouse.state e) ∙ c.batches.invariant)
 
 pub returns : goal.returns
 returns g c =
@@ -18,4 +19,5 @@ returns g c =
     let rows = c.args.rows in
     let draws = c.batches.draws.state in
     let state = c.batches.warehouse.state in
-    sym (batches-none rows c.batches.before draws state) ∙ ap (λ (k : ℕ). batches_taken k rows c.batches.before draws state) none ∙ c.batches.invariant
+    sym (batches-none rows c.batches.before draws state)
+    ∙ ap (λ (k : ℕ). batches_taken k rows c.batches.before draws state) none ∙ c.batches.invariant

@@ -5,4 +5,5 @@ use Rattle.generated_run.proofs.files.apply_batches.Given as goal
 
 -- what is to come leads on to the whole
 abbrev pub invariant-batches : goal.invariant-batches
-invariant-batches g l = batches_taken (BATCHES - l.before) l.rows l.before l.draws.state l.warehouse.state ≡ batches_taken BATCHES l.rows 0 l.fn.draws.state l.fn.warehouse.state
+invariant-batches g l = batches_taken (BATCHES - l.before) l.rows l.before l.draws.state l.warehouse.state
+    ≡ batches_taken BATCHES l.rows 0 l.fn.draws.state l.fn.warehouse.state

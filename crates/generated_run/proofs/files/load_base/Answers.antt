@@ -7,5 +7,6 @@ use Rattle.generated_run.proofs.files.load_base.Goals as goal
 pub returns-clause-state : goal.returns-clause-state
 returns-clause-state g c =
     on_ok_weaker c.settled.result
-    (λ known. file-left c.args.warehouse.now.state c.load.new.self.state Load c.deref.result.now _ c.load.result (c.deref.ensures.value ∙ c.in_ok-write_base.ensures.text) c.load.ensures.gives c.load.ensures.state known)
+    (λ known. file-left c.args.warehouse.now.state c.load.new.self.state Load c.deref.result.now _ c.load.result
+    (c.deref.ensures.value ∙ c.in_ok-write_base.ensures.text) c.load.ensures.gives c.load.ensures.state known)
     c.settled.ensures

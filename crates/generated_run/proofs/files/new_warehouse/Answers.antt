@@ -12,4 +12,5 @@ same-layout read l m e f = cc
 
 pub returns-in-Ok : goal.returns-in-Ok
 returns-in-Ok c =
-    subst (λ (l : Layout). IfOk c.new.result (λ warehouse. warehouse.state ≡ empty l)) (same-layout _ c.in-Ok.schema layout c.in-Ok.ensures spelt) c.new.ensures
+    subst (λ (l : Layout). IfOk c.new.result (λ warehouse. warehouse.state ≡ empty l))
+    (same-layout _ c.in-Ok.schema layout c.in-Ok.ensures spelt) c.new.ensures

@@ -7,4 +7,5 @@ unfolding generated_state
 returns-in-Ok-clause-state g c = c.in-Ok.ensures.state ∙ ap (filled c.args.rows c.args.seed) c.in_ok-warehouse.ensures
 
 pub returns-in-Ok-clause-text : goal.returns-in-Ok-clause-text
-returns-in-Ok-clause-text g c = c.in-Ok.ensures.text ∙ ap (record_text c.args.rows c.args.seed) (returns-in-Ok-clause-state g c)
+returns-in-Ok-clause-text g c = c.in-Ok.ensures.text
+    ∙ ap (record_text c.args.rows c.args.seed) (returns-in-Ok-clause-state g c)

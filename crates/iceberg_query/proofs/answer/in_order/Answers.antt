@@ -1,5 +1,5 @@
 use Rattle.std.proofs.lemmas.Result.{IfOk-weaker}
-use Rattle.iceberg_query.proofs.Told.{hits_count, iceberg_is_told, iceberg_told}
+use Rattle.iceberg_query.proofs.DecodedClasses.{hits_count, iceberg_is_told, iceberg_told}
 use Rattle.std.proofs.lemmas.List.Sorted.{length_permutation}
 use Rattle.iceberg_query.proofs.Picks.{picked_classes}
 use Rattle.iceberg_query.proofs.answer.in_order.Goals as goal
@@ -10,20 +10,23 @@ values_at-requires-clause-classes g c = picked_classes _ c.args.ask.now _ c.requ
 pub returns-in-Ok-sort-clause-classes : goal.returns-in-Ok-sort-clause-classes
 returns-in-Ok-sort-clause-classes g c = λ source h known.
     IfOk-weaker c.without_values.result _ _
-    (λ hits e. iceberg_told _ _ c.args.dict.now c.args.ask.now source h c.requires.dictionary known _ c.requires.picked c.requires.dims c.in-Ok.values.items c.sort.new.values.items hits.items
+    (λ hits e. iceberg_told _ _ c.args.dict.now c.args.ask.now source h c.requires.dictionary known _ c.requires.picked
+    c.requires.dims c.in-Ok.values.items c.sort.new.values.items hits.items
     (c.in-Ok.ensures.hits source h) c.in-Ok.ensures.values c.in-Ok-sort.ensures.same c.in-Ok-sort.ensures.sorted e)
     c.without_values.ensures
 
 pub returns-in-Ok-sort-clause-count : goal.returns-in-Ok-sort-clause-count
 returns-in-Ok-sort-clause-count g c =
     IfOk-weaker c.without_values.result _ _
-    (λ hits e. hits_count c.requires.tree.0 _ c.in-Ok.values.items c.sort.new.values.items hits.items c.args.nodes.now (c.in-Ok.ensures.hits c.requires.tree.0 c.requires.tree.1)
+    (λ hits e. hits_count c.requires.tree.0 _ c.in-Ok.values.items c.sort.new.values.items hits.items c.args.nodes.now
+    (c.in-Ok.ensures.hits c.requires.tree.0 c.requires.tree.1)
     (length_permutation c.in-Ok.values.items c.sort.new.values.items c.in-Ok-sort.ensures.same) e)
     c.without_values.ensures
 
 pub returns-in-Ok-sort-clause-told : goal.returns-in-Ok-sort-clause-told
 returns-in-Ok-sort-clause-told g c = λ source h known.
     IfOk-weaker c.without_values.result _ _
-    (λ hits e. iceberg_is_told _ _ c.args.dict.now c.args.ask.now source h c.requires.dictionary known _ c.requires.picked c.requires.dims c.in-Ok.values.items c.sort.new.values.items hits.items
+    (λ hits e. iceberg_is_told _ _ c.args.dict.now c.args.ask.now source h c.requires.dictionary known _
+    c.requires.picked c.requires.dims c.in-Ok.values.items c.sort.new.values.items hits.items
     (c.in-Ok.ensures.hits source h) c.in-Ok-sort.ensures.same e)
     c.without_values.ensures

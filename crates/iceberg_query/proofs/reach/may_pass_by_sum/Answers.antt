@@ -14,13 +14,18 @@ returns c = λ no measures some l is.
     let ask = c.args.ask.now in
     let num-is = to_z-of_z w64 end.num (search rules) in
     let one = to_z-of_z w128 c.from.result (search rules) ∙ c.from.ensures ∙ num-is in
-    let all = to_z-of_z w128 c.times-all.result (search rules) ∙ c.times-all.ensures ∙ ap (λ (x : ℤ). x *ℤ pos c.args.agg.now.count) num-is in
-    let most : c.farther_of-most.result ≡ farther ask.bound end.num (end.num *ℤ pos c.args.agg.now.count) = c.farther_of-most.ensures ∙ ap₂ (farther ask.bound) one all in
+    let all = to_z-of_z w128 c.times-all.result (search rules) ∙ c.times-all.ensures
+    ∙ ap (λ (x : ℤ). x *ℤ pos c.args.agg.now.count) num-is in
+    let most : c.more_extreme-most.result ≡ farther ask.bound end.num (end.num *ℤ pos c.args.agg.now.count)
+    = c.more_extreme-most.ensures ∙ ap₂ (farther ask.bound) one all in
     let den = to_z-of_z w128 c.from-2.result (search rules) ∙ c.from-2.ensures in
-    let reached = to_z-of_z w128 c.in-Some.reached (search rules) ∙ c.in-Some.ensures.1 ∙ ap₂ (λ (x y : ℤ). x *ℤ y) (to_z-of_z w128 c.farther_of-most.result (search rules) ∙ most) den in
+    let reached = to_z-of_z w128 c.in-Some.reached (search rules) ∙ c.in-Some.ensures.1
+    ∙ ap₂ (λ (x y : ℤ). x *ℤ y) (to_z-of_z w128 c.more_extreme-most.result (search rules) ∙ most) den in
     let num = to_z-of_z w128 ask.value.num (search rules) in
     let low = to_z-of_z w128 c.from-3.result (search rules) ∙ c.from-3.ensures in
-    let wanted = to_z-of_z w128 c.in-Some-checked_mul.wanted (search rules) ∙ c.in-Some-checked_mul.ensures.1 ∙ ap₂ (λ (x y : ℤ). x *ℤ y) num low in
-    sum_fails measures (agg_in c.args.agg.now) some is c.args.measure l ask.scale ask.bound (fraction_in ask.value) (ratio_in end)
-    (c.value_of-end.ensures ∙ ap (λ k. value_of (kind_in k) ask.scale (agg_in c.args.agg.now)) c.outer_kind.ensures)
-    (sym (ap₂ (λ (x y : ℤ). is_reached ask.bound (int_cmp x y)) reached wanted) ∙ sym c.reaches.ensures ∙ no)
+    let wanted = to_z-of_z w128 c.in-Some-checked_mul.wanted (search rules) ∙ c.in-Some-checked_mul.ensures.1
+    ∙ ap₂ (λ (x y : ℤ). x *ℤ y) num low in
+    sum_fails measures (agg_in c.args.agg.now) some is c.args.measure l ask.scale ask.bound (fraction_in ask.value)
+    (ratio_in end)
+    (c.value_of-end.ensures ∙ ap (λ k. value_of (kind_in k) ask.scale (agg_in c.args.agg.now)) c.extreme_kind.ensures)
+    (sym (ap₂ (λ (x y : ℤ). is_reached ask.bound (int_cmp x y)) reached wanted) ∙ sym c.is_past_bound.ensures ∙ no)

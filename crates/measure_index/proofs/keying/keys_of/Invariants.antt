@@ -1,6 +1,6 @@
 use Rattle.std.proofs.Common.{take}
 use Rattle.std.specs.List.{AllZip}
-use Rattle.measure_index.specs.Kept.{IsKey}
+use Rattle.measure_index.specs.ColumnKeys.{IsKey}
 use Rattle.measure_index.proofs.keying.keys_of.Given as goal
 
 abbrev pub invariant-classes : goal.invariant-classes

@@ -3,15 +3,17 @@ use Rattle.std.specs.BTreeSet.{btree_set_len, contains}
 use Rattle.std.specs.List.{list_any}
 use Rattle.std.specs.Ordering.{is_eq}
 use Rattle.measure_index.specs.Keys.{among}
-use Rattle.cube_laws.proofs.Lists.{take_all}
+use Rattle.cube_laws.proofs.CallerLemmas.{take_all}
 use Rattle.measure_index.proofs.KeyLemmas.{back_again, came_in, none_in, noted, one_at_most}
 use Rattle.measure_index.proofs.keys.insert_all.Goals as goal
 
 pub returns-in-Err-insert-clause-err : goal.returns-in-Err-insert-clause-err
 returns-in-Err-insert-clause-err g c = λ q.
-    let same : contains g.K.Ord.cmp c.insert.new.self q ≡ contains g.K.Ord.cmp c.loop-item.set q = ap (list_any (λ k. is_eq (g.K.Ord.cmp q k))) c.in-Err-insert.ensures.err in
+    let same : contains g.K.Ord.cmp c.insert.new.self q ≡ contains g.K.Ord.cmp c.loop-item.set q
+    = ap (list_any (λ k. is_eq (g.K.Ord.cmp q k))) c.in-Err-insert.ensures.err in
     back_again _ _ _ _ _ (same ∙ c.loop-item.invariant.has q) (c.loop-item.invariant.fresh q)
-    (c.take_out.ensures.has q ∙ ap (λ xs. contains g.K.Ord.cmp c.insert.new.self q && not (among g.K.Ord.cmp xs q)) c.deref.ensures.value)
+    (c.remove_keys.ensures.has q
+    ∙ ap (λ xs. contains g.K.Ord.cmp c.insert.new.self q && not (among g.K.Ord.cmp xs q)) c.deref.ensures.value)
 
 pub loop-item-preserved : goal.loop-item-preserved
 loop-item-preserved g c =
@@ -21,13 +23,16 @@ loop-item-preserved g c =
     let o = g.met.K.Ord.total in
     let was = c.loop-item.invariant in
     let within = c.loop-item-test.true in
-    let more = one_at_most c.in-Ok-insert.added (btree_set_len c.loop-item.set) (btree_set_len c.insert.new.self) c.in-Ok-insert.ensures.len in
+    let more = one_at_most c.in-Ok-insert.added (btree_set_len c.loop-item.set)
+    (btree_set_len c.insert.new.self) c.in-Ok-insert.ensures.len in
     let few = was.few in
     let noted_len = c.note.ensures.len in
     let noted_before = was.noted in
     record {
       has = λ q. came_in o xs i x within c.item-item.is q _ _ _ (was.has q) (c.in-Ok-insert.ensures.updates.0 q);
-      fresh = λ q. noted o xs i x within c.item-item.is c.args.set.now.keys _ (was.has x) c.in-Ok-insert.added c.in-Ok-insert.ensures.added q c.loop-item.came.items c.note.new.came.items (was.fresh q) c.note.ensures.items;
+      fresh = λ q. noted o xs i x within c.item-item.is c.args.set.now.keys _
+          (was.has x) c.in-Ok-insert.added c.in-Ok-insert.ensures.added q c.loop-item.came.items c.note.new.came.items
+          (was.fresh q) c.note.ensures.items;
       noted = omega (arith, noted_len, noted_before);
       room = c.note.ensures.room ∙ was.room;
       few = omega (arith, more, few);
@@ -51,18 +56,21 @@ note-requires g c = omega (arith, c.loop-item.invariant.noted, c.loop-item.invar
 
 pub returns-in-Err-insert-clause-few : goal.returns-in-Err-insert-clause-few
 returns-in-Err-insert-clause-few g c =
-    let same : btree_set_len c.insert.new.self ≡ btree_set_len c.loop-item.set = ap length c.in-Err-insert.ensures.err in
-    omega (arith, c.take_out.ensures.few, same, c.loop-item.invariant.few, c.loop-item-test.true)
+    let same : btree_set_len c.insert.new.self ≡ btree_set_len c.loop-item.set
+    = ap length c.in-Err-insert.ensures.err in
+    omega (arith, c.remove_keys.ensures.few, same, c.loop-item.invariant.few, c.loop-item-test.true)
 
 pub returns-clause-has : goal.returns-clause-has
 returns-clause-has g c = λ q.
     c.loop-item.invariant.has q
-    ∙ ap (λ xs. contains g.K.Ord.cmp c.args.set.now q || among g.K.Ord.cmp xs q) (take_all c.args.items.now c.loop-item.item-index (omega (arith, c.loop-item-test.false)))
+    ∙ ap (λ xs. contains g.K.Ord.cmp c.args.set.now q || among g.K.Ord.cmp xs q)
+    (take_all c.args.items.now c.loop-item.item-index (omega (arith, c.loop-item-test.false)))
 
 pub returns-clause-fresh : goal.returns-clause-fresh
 returns-clause-fresh g c = λ q.
     c.loop-item.invariant.fresh q
-    ∙ ap (λ xs. among g.K.Ord.cmp xs q && not (contains g.K.Ord.cmp c.args.set.now q)) (take_all c.args.items.now c.loop-item.item-index (omega (arith, c.loop-item-test.false)))
+    ∙ ap (λ xs. among g.K.Ord.cmp xs q && not (contains g.K.Ord.cmp c.args.set.now q))
+    (take_all c.args.items.now c.loop-item.item-index (omega (arith, c.loop-item-test.false)))
 
 pub returns-clause-few : goal.returns-clause-few
 returns-clause-few g c = omega (arith, c.loop-item.invariant.few, c.loop-item.auto.item-index-end)

@@ -10,8 +10,12 @@ pub returns-clause-has : goal.returns-clause-has
 returns-clause-has g c =
     IfOk-weaker c.from_iter.result _ _
     (λ s h. let sorted = c.sort_unstable.new.self.items in
-    let all : IsFromIterResult g.K.Ord.cmp sorted s = subst (λ (l : List _). IsFromIterResult g.K.Ord.cmp l s) (All-taken h.0 h.1 ((h.3.2 tt).0, (h.3.0, h.3.1, (h.3.2 tt).1)) ∙ (h.2.0 ∙ (search rules))) h.4 in
-    λ q. all.0 q ∙ any_turned g.met.K.Ord.total sorted q ∙ sym (list_any-IsPermutation (λ x. is_eq (g.K.Ord.cmp x q)) c.args.items.items sorted c.sort_unstable.ensures.permutation)) c.from_iter.ensures.ran
+    let all : IsFromIterResult g.K.Ord.cmp sorted s
+    = subst (λ (l : List _). IsFromIterResult g.K.Ord.cmp l s)
+    (All-taken h.0 h.1 ((h.3.2 tt).0, (h.3.0, h.3.1, (h.3.2 tt).1)) ∙ (h.2.0 ∙ (search rules))) h.4 in
+    λ q. all.0 q ∙ any_turned g.met.K.Ord.total sorted q
+    ∙ sym (list_any-IsPermutation (λ x. is_eq (g.K.Ord.cmp x q)) c.args.items.items sorted
+    c.sort_unstable.ensures.permutation)) c.from_iter.ensures.ran
 
 pub returns-clause-ordered : goal.returns-clause-ordered
 returns-clause-ordered g c = IfOk-weaker c.from_iter.result _ _ (λ s h. h.4.1) c.from_iter.ensures.ran

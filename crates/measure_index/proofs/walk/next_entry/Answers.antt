@@ -1,5 +1,5 @@
 use Rattle.std.proofs.Common.{◌∷◌, ap, ap₂, sym, ◌∙◌, map}
-use Rattle.measure_index.specs.Kept.{entry_of}
+use Rattle.measure_index.specs.ColumnKeys.{entry_of}
 use Rattle.measure_index.proofs.Keyed.{read}
 use Rattle.measure_index.proofs.walk.next_entry.Goals as goal
 

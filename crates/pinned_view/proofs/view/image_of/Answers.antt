@@ -9,4 +9,5 @@ pub returns-in-Same-clause-none : goal.returns-in-Same-clause-none
 returns-in-Same-clause-none c = past_is c.args.over.now c.args.tree.now.now c.args.node.0 None c.in-Same.ensures
 
 pub returns-in-Was-clause-some : goal.returns-in-Was-clause-some
-returns-in-Was-clause-some c = past_is c.args.over.now c.args.tree.now.now c.args.node.0 (Some (Some c.in-Was.record.now)) c.in-Was.ensures
+returns-in-Was-clause-some c
+    = past_is c.args.over.now c.args.tree.now.now c.args.node.0 (Some (Some c.in-Was.record.now)) c.in-Was.ensures

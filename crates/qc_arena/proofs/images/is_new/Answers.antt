@@ -8,10 +8,12 @@ use Rattle.qc_arena.proofs.images.is_new.Goals as goal
 pub returns-in-Ok : goal.returns-in-Ok
 returns-in-Ok c =
     let same = search_found (λ (x : ℕ). x) c.args.node c.deref.result.now c.in-Ok.field-0 0 c.in-Ok.ensures.position in
-    ap (λ xs. lookup (nat_eq c.args.node) (all_new xs)) (sym c.deref.ensures.value) ∙ new_found c.args.node c.deref.result.now c.in-Ok.field-0 c.in-Ok.ensures.bound same
+    ap (λ xs. lookup (nat_eq c.args.node) (all_new xs)) (sym c.deref.ensures.value)
+    ∙ new_found c.args.node c.deref.result.now c.in-Ok.field-0 c.in-Ok.ensures.bound same
 
 pub returns-in-Err : goal.returns-in-Err
 returns-in-Err c =
     let sorted = subst (IsSorted nat_cmp) (sym c.deref.ensures.value) c.requires in
     ap (λ xs. lookup (nat_eq c.args.node) (all_new xs)) (sym c.deref.ensures.value)
-    ∙ new_missed c.args.node c.deref.result.now (search_missed (λ (x : ℕ). x) c.args.node c.deref.result.now c.in-Err.field-0 sorted c.in-Err.ensures.position)
+    ∙ new_missed c.args.node c.deref.result.now
+    (search_missed (λ (x : ℕ). x) c.args.node c.deref.result.now c.in-Err.field-0 sorted c.in-Err.ensures.position)

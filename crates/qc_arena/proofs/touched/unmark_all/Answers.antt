@@ -2,17 +2,33 @@ use Rattle.std.proofs.Common.{◌++◌, ◌≡◌, ◌∙◌, List, Option, ap, 
 use Rattle.std.specs.Map.{lookup}
 use Rattle.qc_arena.specs.Entries.{all_new}
 use Rattle.qc_arena.specs.Map.{Known}
-use Rattle.qc_arena.proofs.Behind.{length-all_new, marked_behind, none_behind}
+use Rattle.qc_arena.proofs.Suffixes.{length-all_new, marked_after, none_behind}
 use Rattle.qc_arena.proofs.touched.unmark_all.Goals as goal
-use Rattle.cube_laws.proofs.Lists.{item_at, some_of}
+use Rattle.cube_laws.proofs.CallerLemmas.{item_at, some_of}
 
 pub entries-preserved : goal.entries-preserved
 entries-preserved c =
     let es : List (ℕ × Option Known) = c.args.changed.now.items ++ all_new c.args.added.now.items in
-    let e = item_at es c.entries.k (omega (arith, length-append c.args.changed.now.items (all_new c.args.added.now.items), length-all_new c.args.added.now.items, c.entries-test.true)) in
-    marked_behind es c.entries.touched.items c.unmark.new.touched.items c.entries.k c.number_at.result e.0 e.1 (some_of (λ (x : ℕ × Option Known). c.number_at.result ≡ x.0) _ e.0 e.1 c.number_at.ensures) c.entries.invariant c.unmark.ensures
+    let e = item_at es c.entries.k
+    (omega (
+      arith,
+      length-append c.args.changed.now.items (all_new c.args.added.now.items),
+      length-all_new c.args.added.now.items,
+      c.entries-test.true,
+    )) in
+    marked_after es c.entries.touched.items c.unmark.new.touched.items c.entries.k c.number_at.result e.0 e.1
+    (some_of (λ (x : ℕ × Option Known). c.number_at.result ≡ x.0) _ e.0 e.1 c.number_at.ensures) c.entries.invariant
+    c.unmark.ensures
 
 pub returns : goal.returns
 returns c =
     let es : List (ℕ × Option Known) = c.args.changed.now.items ++ all_new c.args.added.now.items in
-    λ q. c.entries.invariant.marked q ∙ ap (λ (l : List (ℕ × Option Known)). is_some (lookup (nat_eq q) l)) (none_behind es c.entries.k (omega (arith, length-append c.args.changed.now.items (all_new c.args.added.now.items), length-all_new c.args.added.now.items, c.entries-test.false)))
+    λ q. c.entries.invariant.marked q
+    ∙ ap (λ (l : List (ℕ × Option Known)). is_some (lookup (nat_eq q) l))
+    (none_behind es c.entries.k
+    (omega (
+      arith,
+      length-append c.args.changed.now.items (all_new c.args.added.now.items),
+      length-all_new c.args.added.now.items,
+      c.entries-test.false,
+    )))

@@ -4,4 +4,5 @@ use Rattle.aggregates.specs.Views.{same_kind}
 use Rattle.qc_schema.proofs.draft.has_kind.Given as goal
 
 abbrev pub invariant-loop-other : goal.invariant-loop-other
-invariant-loop-other l = list_any (λ k. same_kind k l.kind) (drop l.other-index l.kinds.items) ≡ list_any (λ k. same_kind k l.kind) l.kinds.items
+invariant-loop-other l = list_any (λ k. same_kind k l.kind) (drop l.other-index l.kinds.items)
+    ≡ list_any (λ k. same_kind k l.kind) l.kinds.items

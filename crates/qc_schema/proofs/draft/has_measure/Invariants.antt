@@ -5,4 +5,6 @@ use Rattle.qc_schema.specs.Progress.{measure_in}
 use Rattle.qc_schema.proofs.draft.has_measure.Given as goal
 
 abbrev pub invariant-loop-measure : goal.invariant-loop-measure
-invariant-loop-measure l = list_any (λ y. bytes_eq y l.name) (map (λ m. m.name) (map measure_in (drop l.measure-index l.measures.items))) ≡ list_any (λ y. bytes_eq y l.name) (map (λ m. m.name) (map measure_in l.measures.items))
+invariant-loop-measure l
+    = list_any (λ y. bytes_eq y l.name) (map (λ m. m.name) (map measure_in (drop l.measure-index l.measures.items)))
+    ≡ list_any (λ y. bytes_eq y l.name) (map (λ m. m.name) (map measure_in l.measures.items))

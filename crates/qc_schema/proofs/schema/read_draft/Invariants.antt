@@ -7,7 +7,8 @@ use Rattle.qc_schema.proofs.schema.read_draft.Given as goal
 
 abbrev pub invariant-lines : goal.invariant-lines
 invariant-lines l = record {
-  read : read_lines (map without_cr (lines_of l.rest)) l.line (progress_in l.reader) ≡ read_lines (map without_cr (lines_of l.text)) 1 start;
+  read : read_lines (map without_cr (lines_of l.rest)) l.line (progress_in l.reader)
+      ≡ read_lines (map without_cr (lines_of l.text)) 1 start;
   keeps : Keeps (progress_in l.reader);
   small : l.line + length l.rest ≤ length l.text + 1;
 }

@@ -15,13 +15,21 @@ invariant_of-result c = read-layout _ _ _ _ start-kept c.in_ok-draft.ensures
 
 pub returns : goal.returns
 returns c =
-    let same : schema_lines c.args.bytes.now ≡ map without_cr (lines_of c.trim_mark.result.now) = ap (λ (bs : List ℕ). map without_cr (lines_of bs)) (ap without_mark (sym c.in-Ok.ensures.cases.0 ∙ sym c.as_bytes.ensures.value) ∙ sym c.trim_mark.ensures) in
-    schema-text c.args.bytes.now c.in-Ok.ensures.cases.1 ∙ ap (λ (ls : List (List ℕ)). read_lines ls 1 start) same ∙ c.in_ok-draft.ensures
+    let same : schema_lines c.args.bytes.now ≡ map without_cr (lines_of c.trim_byte_order_mark.result.now)
+    = ap (λ (bs : List ℕ). map without_cr (lines_of bs))
+    (ap without_mark (sym c.in-Ok.ensures.cases.0 ∙ sym c.as_bytes.ensures.value)
+    ∙ sym c.trim_byte_order_mark.ensures) in
+    schema-text c.args.bytes.now c.in-Ok.ensures.cases.1 ∙ ap (λ (ls : List (List ℕ)). read_lines ls 1 start) same
+    ∙ c.in_ok-draft.ensures
 
 pub returns-in_err-draft : goal.returns-in_err-draft
 returns-in_err-draft c =
-    let same : schema_lines c.args.bytes.now ≡ map without_cr (lines_of c.trim_mark.result.now) = ap (λ (bs : List ℕ). map without_cr (lines_of bs)) (ap without_mark (sym c.in-Ok.ensures.cases.0 ∙ sym c.as_bytes.ensures.value) ∙ sym c.trim_mark.ensures) in
-    let whole : schema_in c.args.bytes.now ≡ read_lines (map without_cr (lines_of c.trim_mark.result.now)) 1 start =
+    let same : schema_lines c.args.bytes.now ≡ map without_cr (lines_of c.trim_byte_order_mark.result.now)
+    = ap (λ (bs : List ℕ). map without_cr (lines_of bs))
+    (ap without_mark (sym c.in-Ok.ensures.cases.0 ∙ sym c.as_bytes.ensures.value)
+    ∙ sym c.trim_byte_order_mark.ensures) in
+    let whole : schema_in c.args.bytes.now
+    ≡ read_lines (map without_cr (lines_of c.trim_byte_order_mark.result.now)) 1 start =
     schema-text c.args.bytes.now c.in-Ok.ensures.cases.1 ∙ ap (λ (ls : List (List ℕ)). read_lines ls 1 start) same in
     let p = err_from_is_err_and c.from_residual.result c.from_residual.ensures.1 in
     rw (p.1, p.2, whole) c.in_err-draft.ensures

@@ -12,7 +12,8 @@ spelled c =
     let version_line : List ℕ = line_text (codes "qcube" ∷ version_word c.args.schema.now.version ∷ []) in
     text-spelled c.args.schema.now _ _ _ _ _ _
     (c.in_ok-push_version.ensures ∙ ap (λ (xs : List ℕ). xs ++ version_line) c.in_ok-text.ensures.items)
-    (c.in_ok-push_pair.ensures ∙ ap (λ (x : List ℕ). c.push_version.new.text.items ++ line_text (codes "id" ∷ x ∷ [])) (c.as_bytes.ensures.value ∙ c.id_name.ensures))
+    (c.in_ok-push_pair.ensures ∙ ap (λ (x : List ℕ). c.push_version.new.text.items ++ line_text (codes "id" ∷ x ∷ []))
+    (c.as_bytes.ensures.value ∙ c.id_name.ensures))
     (c.in_ok-push_dims.ensures)
     (c.in_ok-push_measures.ensures)
     (c.in_ok-push_indexes.ensures)

@@ -5,8 +5,9 @@ use Rattle.qc_session.proofs.NoFile.{names-none}
 use Rattle.qc_session.proofs.Stopped.{fault-named, memory-wanted}
 use Rattle.qc_session.proofs.answer.answer_command.Goals as goal
 
-pub answer_held-requires-clause-unnamed : goal.answer_held-requires-clause-unnamed
-answer_held-requires-clause-unnamed g c = names-none c.args.command c.in_default.not-Load c.in_default.not-Apply c.in_default.not-Try
+pub answer_without_file-requires-clause-unnamed : goal.answer_without_file-requires-clause-unnamed
+answer_without_file-requires-clause-unnamed g c
+    = names-none c.args.command c.in_default.not-Load c.in_default.not-Apply c.in_default.not-Try
 
 pub returns-in-Ok-clause-answered : goal.returns-in-Ok-clause-answered
 returns-in-Ok-clause-answered g c = for_told (g.F.Files.told c.args.files.now) _ c.in-Ok.ensures.answered
@@ -20,7 +21,8 @@ returns-in-Load g c =
       steady = e.steady;
       same = e.same;
       memory = memory-wanted c.answer_file.result _ refl;
-      fault = fault-named c.answer_file.result c.in-Load.name (Rose (g.F.Files.faults c.args.files.now) (g.F.Files.faults c.answer_file.new.files)) e.fault;
+      fault = fault-named c.answer_file.result c.in-Load.name
+          (Rose (g.F.Files.faults c.args.files.now) (g.F.Files.faults c.answer_file.new.files)) e.fault;
       untold = e.untold;
       answered = e.answered;
     })
@@ -34,7 +36,8 @@ returns-in-Apply g c =
       steady = e.steady;
       same = e.same;
       memory = memory-wanted c.answer_file-in-Apply.result _ refl;
-      fault = fault-named c.answer_file-in-Apply.result c.in-Apply.name (Rose (g.F.Files.faults c.args.files.now) (g.F.Files.faults c.answer_file-in-Apply.new.files)) e.fault;
+      fault = fault-named c.answer_file-in-Apply.result c.in-Apply.name
+          (Rose (g.F.Files.faults c.args.files.now) (g.F.Files.faults c.answer_file-in-Apply.new.files)) e.fault;
       untold = e.untold;
       answered = e.answered;
     })
@@ -48,7 +51,8 @@ returns-in-Try g c =
       steady = e.steady;
       same = e.same;
       memory = memory-wanted c.answer_file-in-Try.result _ refl;
-      fault = fault-named c.answer_file-in-Try.result c.in-Try.name (Rose (g.F.Files.faults c.args.files.now) (g.F.Files.faults c.answer_file-in-Try.new.files)) e.fault;
+      fault = fault-named c.answer_file-in-Try.result c.in-Try.name
+          (Rose (g.F.Files.faults c.args.files.now) (g.F.Files.faults c.answer_file-in-Try.new.files)) e.fault;
       untold = e.untold;
       answered = e.answered;
     })

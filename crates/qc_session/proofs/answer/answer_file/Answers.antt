@@ -1,11 +1,20 @@
 use Rattle.qc_session.proofs.Named.{of_name}
 use Rattle.qc_session.proofs.answer.answer_file.Goals as goal
 
-pub returns-in-Ok-change-clause-numbers : goal.returns-in-Ok-change-clause-numbers
-returns-in-Ok-change-clause-numbers g c = of_name (g.F.Files.told c.args.files.now) c.args.line.name c.as_str.result.now c.in-Ok.bytes.items c.deref.result.now _ c.as_str.ensures.value c.in-Ok.ensures.bytes c.deref.ensures.value c.in-Ok-change.ensures.numbers
+pub returns-in-Ok-file_reply-clause-numbers : goal.returns-in-Ok-file_reply-clause-numbers
+returns-in-Ok-file_reply-clause-numbers g c
+    = of_name (g.F.Files.told c.args.files.now) c.args.line.name c.as_str.result.now c.in-Ok.bytes.items
+    c.deref.result.now _ c.as_str.ensures.value c.in-Ok.ensures.bytes c.deref.ensures.value
+    c.in-Ok-file_reply.ensures.numbers
 
-pub returns-in-Ok-change-clause-apart : goal.returns-in-Ok-change-clause-apart
-returns-in-Ok-change-clause-apart g c = of_name (g.F.Files.told c.args.files.now) c.args.line.name c.as_str.result.now c.in-Ok.bytes.items c.deref.result.now _ c.as_str.ensures.value c.in-Ok.ensures.bytes c.deref.ensures.value c.in-Ok-change.ensures.apart
+pub returns-in-Ok-file_reply-clause-apart : goal.returns-in-Ok-file_reply-clause-apart
+returns-in-Ok-file_reply-clause-apart g c
+    = of_name (g.F.Files.told c.args.files.now) c.args.line.name c.as_str.result.now c.in-Ok.bytes.items
+    c.deref.result.now _ c.as_str.ensures.value c.in-Ok.ensures.bytes c.deref.ensures.value
+    c.in-Ok-file_reply.ensures.apart
 
-pub returns-in-Ok-change-clause-steps : goal.returns-in-Ok-change-clause-steps
-returns-in-Ok-change-clause-steps g c = of_name (g.F.Files.told c.args.files.now) c.args.line.name c.as_str.result.now c.in-Ok.bytes.items c.deref.result.now _ c.as_str.ensures.value c.in-Ok.ensures.bytes c.deref.ensures.value c.in-Ok-change.ensures.steps
+pub returns-in-Ok-file_reply-clause-steps : goal.returns-in-Ok-file_reply-clause-steps
+returns-in-Ok-file_reply-clause-steps g c
+    = of_name (g.F.Files.told c.args.files.now) c.args.line.name c.as_str.result.now c.in-Ok.bytes.items
+    c.deref.result.now _ c.as_str.ensures.value c.in-Ok.ensures.bytes c.deref.ensures.value
+    c.in-Ok-file_reply.ensures.steps

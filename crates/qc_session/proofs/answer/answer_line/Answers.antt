@@ -19,8 +19,10 @@ returns-in-Ok g c =
       told = e.told;
       steady = e.steady;
       same = e.same;
-      skips = line-skips c.answer_command.result (wants_memory question ≡ true) (may_want_memory c.args.line.now ≡ true) rose (file_named (Ok question)) _ c.in-Ok.ensures.wants (ap file_named gives) e.memory e.fault;
-      fault = IfErr-weaker c.answer_command.result _ _ (λ stop h. fault-alone stop rose (file_named (Ok question)) h) e.fault;
+      skips = line-skips c.answer_command.result (wants_memory question ≡ true) (may_want_memory c.args.line.now ≡ true)
+          rose (file_named (Ok question)) _ c.in-Ok.ensures.wants (ap file_named gives) e.memory e.fault;
+      fault = IfErr-weaker c.answer_command.result _ _
+          (λ stop h. fault-alone stop rose (file_named (Ok question)) h) e.fault;
       untold = e.untold;
       answered = rw gives e.answered;
     }

@@ -10,14 +10,20 @@ use Rattle.qc_session.proofs.pins.answer_at.Goals as goal
 pub returns-in_default : goal.returns-in_default
 returns-in_default g c =
     c.refused.ensures
-    ∙ ap (λ (texts : List Text). refused_text c.args.number texts) c.words_of_not_pinned.ensures.texts
-    ∙ sym (at-none c.args.held.now c.args.number c.args.name.now (query_in c.args.query) (rw c.as_str.ensures.value at c.in_default.ensures.none))
+    ∙ ap (λ (texts : List Text). refused_text c.args.number texts) c.not_pinned_refusal.ensures.texts
+    ∙ sym (at-none c.args.held.now c.args.number c.args.name.now (query_in c.args.query)
+    (rw c.as_str.ensures.value at c.in_default.ensures.none))
 
 pub answer_query-reply-requires-clause-source : goal.answer_query-reply-requires-clause-source
 answer_query-reply-requires-clause-source g c =
     let (version, found, is) = c.in-Some.ensures.some in
     record {
-      rows = record { rows = version.rows; kept = rw (c.now.ensures.value, is.tree) is.has; wide = rw c.now.ensures.value is.width };
+      rows = record {
+        rows = version.rows;
+        kept = rw (c.now.ensures.value, is.tree) is.has;
+        wide
+            = rw c.now.ensures.value is.width;
+      };
       indexed = c.in-Ok.ensures.index _;
       unit = λ kind. rw (c.in-Ok.ensures.kinds kind) tt;
     }
@@ -25,7 +31,8 @@ answer_query-reply-requires-clause-source g c =
 pub returns : goal.returns
 returns g c =
     let (version, found, is) = rw c.as_str.ensures.value at c.in-Some.ensures.some in
-    let has : HasTree (with_rows c.now.result.now.state version.rows) c.in-Some.view.tree = rw (c.now.ensures.value, is.tree) is.has in
+    let has : HasTree (with_rows c.now.result.now.state version.rows) c.in-Some.view.tree
+    = rw (c.now.ensures.value, is.tree) is.has in
     let counted : AreCounted version.rows c.stats.result = rw c.stats.ensures is.stats in
     let reply = rw c.now.ensures.value at (c.answer_query-reply.ensures.reply version.rows has counted) in
     rw (at-version c.args.held.now c.args.number c.args.name.now (query_in c.args.query) version found) reply

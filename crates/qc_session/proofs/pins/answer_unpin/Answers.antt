@@ -6,11 +6,13 @@ use Rattle.qc_session.proofs.pins.answer_unpin.Goals as goal
 
 pub returns-in-Ok : goal.returns-in-Ok
 returns-in-Ok c =
-    unpin-done c.args.held.now c.args.number c.args.name.now c.unpin.new.self c.unpinned.result
-    (rw c.as_str.ensures.value at c.in-Ok.ensures.found) (rw c.as_str.ensures.value at c.in-Ok.ensures.ok) (rw c.as_str-in-Ok.ensures.value at c.unpinned.ensures)
+    unpin-done c.args.held.now c.args.number c.args.name.now c.unpin.new.self c.unpinned_reply.result
+    (rw c.as_str.ensures.value at c.in-Ok.ensures.found) (rw c.as_str.ensures.value at c.in-Ok.ensures.ok)
+    (rw c.as_str-in-Ok.ensures.value at c.unpinned_reply.ensures)
 
 pub returns-in-Err : goal.returns-in-Err
 returns-in-Err c =
     unpin-none c.args.held.now c.args.number c.args.name.now c.unpin.new.self c.refused.result
     (rw c.as_str.ensures.value at c.in-Err.ensures.missing) c.in-Err.ensures.err
-    (c.refused.ensures ∙ ap (λ (texts : List Text). refused_text c.args.number texts) c.words_of_not_pinned.ensures.texts)
+    (c.refused.ensures ∙ ap (λ (texts : List Text). refused_text c.args.number texts)
+    c.not_pinned_refusal.ensures.texts)

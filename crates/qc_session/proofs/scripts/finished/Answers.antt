@@ -7,4 +7,4 @@ pub returns-clause-end : goal.returns-clause-end
 returns-clause-end c = ap (λ (h : Contents). Some h.state) c.finish-warehouse.ensures
 
 pub returns-clause-hands : goal.returns-clause-hands
-returns-clause-hands c = hands-end _ c.finish-warehouse.result refl refl c.is_valid.ensures
+returns-clause-hands c = hands-end _ c.finish-warehouse.result refl refl c.recall_invariant.ensures

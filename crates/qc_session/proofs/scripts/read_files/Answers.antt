@@ -14,7 +14,8 @@ returns-in-Err g c = record {
   script = tt;
   short = tt;
   open_file = inl c.in-Err.ensures.open_file;
-  err = first-not-begun (g.F.Files.told c.args.files.now) (names_in c.args.names) _ _ (cause_of c.in-Err.failure) c.in-Err.ensures.err;
+  err = first-not-begun (g.F.Files.told c.args.files.now) (names_in c.args.names) _ _
+      (cause_of c.in-Err.failure) c.in-Err.ensures.err;
 }
 
 pub returns-in-Ok : goal.returns-in-Ok
@@ -22,11 +23,14 @@ returns-in-Ok g c =
     let told = g.F.Files.told c.args.files.now in
     let stay = c.in-Ok.ensures.stay in
     record {
-      stay = stay-then stay c.read_behind.ensures.stay;
-      start = IfOk-weaker c.read_behind.result _ _ (λ loaded kept. rw kept c.in-Ok.ensures.ok) c.read_behind.ensures.kept;
-      script = rw stay.told at c.read_behind.ensures.ok;
-      short = c.read_behind.ensures.short;
-      open_file = inr (rw stay.told at c.read_behind.ensures.open_file);
-      err = IfErr-weaker c.read_behind.result _ _ (λ f h. script-not-begun told (names_in c.args.names) _ _ _ _ _ (cause_of f) c.in-Ok.ensures.ok stay.steady (rose-later _ _ _ stay.later) h)
-          (rw stay.told at c.read_behind.ensures.err);
+      stay = stay-then stay c.read_script.ensures.stay;
+      start = IfOk-weaker c.read_script.result _ _ (λ loaded kept. rw kept c.in-Ok.ensures.ok)
+          c.read_script.ensures.kept;
+      script = rw stay.told at c.read_script.ensures.ok;
+      short = c.read_script.ensures.short;
+      open_file = inr (rw stay.told at c.read_script.ensures.open_file);
+      err = IfErr-weaker c.read_script.result _ _
+          (λ f h. script-not-begun told (names_in c.args.names) _ _ _ _ _ (cause_of f) c.in-Ok.ensures.ok stay.steady
+          (rose-later _ _ _ stay.later) h)
+          (rw stay.told at c.read_script.ensures.err);
     }

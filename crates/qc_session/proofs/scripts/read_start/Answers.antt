@@ -9,16 +9,24 @@ returns-in-Ok g c =
     let told = g.F.Files.told c.args.files.now in
     let names = names_in c.args.names in
     let e = c.in-Ok.ensures in
-    let begins = rw c.deref.ensures.value at c.start_of.ensures.begins in
-    let none = rw c.deref.ensures.value at c.start_of.ensures.none in
+    let begins = rw c.deref.ensures.value at c.initial_state.ensures.begins in
+    let none = rw c.deref.ensures.value at c.initial_state.ensures.none in
     record {
       stay = e.stay;
-      ok = IfOk-weaker c.start_of.result _ _ (λ warehouse h. started told names c.in-Ok.bytes.items warehouse.state e.ok h) begins;
+      ok = IfOk-weaker c.initial_state.result _ _
+          (λ warehouse h. started told names c.in-Ok.bytes.items warehouse.state e.ok h) begins;
       open_file = e.open_file;
-      err = IfErr-weaker c.start_of.result _ _ (λ failure h. start-fails told names _ _ c.in-Ok.bytes.items (cause_of failure) e.ok h) none;
+      err = IfErr-weaker c.initial_state.result _ _
+          (λ failure h. start-fails told names _ _ c.in-Ok.bytes.items (cause_of failure) e.ok h) none;
     }
 
 pub returns : goal.returns
 returns g c =
     let e = c.in-Err.ensures in
-    record { stay = e.stay; ok = tt; open_file = e.open_file; err = first-fails (g.F.Files.told c.args.files.now) (names_in c.args.names) _ _ (cause_of c.in-Err.failure) e.err }
+    record {
+      stay = e.stay;
+      ok = tt;
+      open_file = e.open_file;
+      err
+          = first-fails (g.F.Files.told c.args.files.now) (names_in c.args.names) _ _ (cause_of c.in-Err.failure) e.err;
+    }

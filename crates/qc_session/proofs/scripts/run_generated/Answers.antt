@@ -1,18 +1,20 @@
 use Rattle.std.proofs.Common.{◌∙◌, List, Some, ap, refl, take, ℕ}
-use Rattle.qc_io.specs.Outside.{taking}
+use Rattle.qc_io.specs.Outside.{with_taken}
 use Rattle.qc_session.proofs.Ends.{by-end, by-memory, by-write}
 use Rattle.qc_session.proofs.scripts.run_generated.Goals as goal
 
 pub returns-in_default-clause-ends : goal.returns-in_default-clause-ends
-returns-in_default-clause-ends g c = record { skipped = c.fail.ensures.skipped; by = by-memory c.fail.ensures.status (refl, c.fail.ensures.said) }
+returns-in_default-clause-ends g c
+    = record { skipped = c.fail.ensures.skipped; by = by-memory c.fail.ensures.status (refl, c.fail.ensures.said) }
 
 pub returns-in-Ok-write_all-clause-ends : goal.returns-in-Ok-write_all-clause-ends
 returns-in-Ok-write_all-clause-ends g c = record {
-  skipped = c.filled.ensures.skipped;
-  by = by-end c.filled.ensures.status (
+  skipped = c.generated_outcome.ensures.skipped;
+  by = by-end c.generated_outcome.ensures.status (
     tt,
-    c.in-Ok-write_all.ensures.all ∙ ap (λ (bytes : List ℕ). taking bytes (g.O.Sink.taken c.args.out.now)) (c.deref.ensures.value ∙ c.in-Ok.ensures.text),
-    c.filled.ensures.end ∙ ap Some c.in-Ok.ensures.state,
+    c.in-Ok-write_all.ensures.all ∙ ap (λ (bytes : List ℕ). with_taken bytes (g.O.Sink.taken c.args.out.now))
+        (c.deref.ensures.value ∙ c.in-Ok.ensures.text),
+    c.generated_outcome.ensures.end ∙ ap Some c.in-Ok.ensures.state,
     refl,
   );
 }
@@ -25,7 +27,8 @@ returns-clause-ends g c = record {
     c.in-Err.ensures.cause.failed,
     (
       c.in-Err.field-0.written,
-      c.in-Err.ensures.part ∙ ap (λ (bytes : List ℕ). taking (take c.in-Err.field-0.written bytes) (g.O.Sink.taken c.args.out.now)) (c.deref.ensures.value ∙ c.in-Ok.ensures.text),
+      c.in-Err.ensures.part ∙ ap (λ (bytes : List ℕ). with_taken (take c.in-Err.field-0.written bytes)
+          (g.O.Sink.taken c.args.out.now)) (c.deref.ensures.value ∙ c.in-Ok.ensures.text),
     ),
     c.fail-in-Err.ensures.said,
   );

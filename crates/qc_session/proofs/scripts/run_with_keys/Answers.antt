@@ -9,7 +9,10 @@ pub returns-in-Pack : goal.returns-in-Pack
 returns-in-Pack g c = rw (← c.in-Pack.ensures.form) (ran-pack c.pack_files.ensures.ends c.pack_files.ensures.hands)
 
 pub returns-in-Gen : goal.returns-in-Gen
-returns-in-Gen g c = rw (← c.in-Gen.ensures.form) (ran-gen refl c.run_generated.ensures.ends c.run_generated.ensures.hands)
+returns-in-Gen g c = rw (← c.in-Gen.ensures.form)
+    (ran-gen refl c.run_generated.ensures.ends c.run_generated.ensures.hands)
 
-pub returns-in-Unlisted : goal.returns-in-Unlisted
-returns-in-Unlisted g c = rw (← c.in-Unlisted.ensures.form) (ran-usage refl refl c.fail.ensures.status c.fail.ensures.skipped c.fail.ensures.said c.fail.ensures.hands)
+pub returns-in-Invalid : goal.returns-in-Invalid
+returns-in-Invalid g c =
+    rw (← c.in-Invalid.ensures.form)
+    (ran-usage refl refl c.fail.ensures.status c.fail.ensures.skipped c.fail.ensures.said c.fail.ensures.hands)

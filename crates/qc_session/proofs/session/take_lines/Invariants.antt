@@ -1,7 +1,7 @@
 use Rattle.std.proofs.Common.{◌≡◌, ◌≤◌, ◌<◌, ◌+◌, ◌++◌, ◌^◌, ℕ, List, length, map, true, vec_len, vec_capacity}
 use Rattle.cube_defs.specs.declared.limits.TheConstants.{MAX_FILE}
 use Rattle.qc_session.specs.Lines.{lines_of, without_cr}
-use Rattle.qc_session.specs.Pins.{held_in}
+use Rattle.qc_session.specs.Pins.{pinned_state_in}
 use Rattle.qc_session.specs.Runs.{AreSkipped}
 use Rattle.qc_session.specs.Session.{AreUpTo}
 use Rattle.qc_session.proofs.Steps.{GatheredSoFar}
@@ -20,7 +20,8 @@ invariant-lines g l = record {
   so_far : (done : List (List ℕ)) × (map without_cr (lines_of l.script) ≡ done ++ map without_cr (lines_of l.rest))
       × (length done ≡ l.session.number)
       × AreSkipped done l.session.skipped.items
-      × GatheredSoFar (g.F.Files.told l.fn.files) l.fn.session.pinned.now.state l.session.skipped.items done (held_in l.session.pinned) l.session.pending (g.O.Sink.taken l.fn.out) (g.O.Sink.taken l.out);
+      × GatheredSoFar (g.F.Files.told l.fn.files) l.fn.session.pinned.now.state l.session.skipped.items done
+      (pinned_state_in l.session.pinned) l.session.pending (g.O.Sink.taken l.fn.out) (g.O.Sink.taken l.out);
 }
 
 abbrev pub decreases-lines : goal.decreases-lines

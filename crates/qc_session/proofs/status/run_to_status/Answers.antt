@@ -7,7 +7,11 @@ returns g c =
     record {
       known = e.known;
       usage = e.usage;
-      transcript = λ zero. (c.run_with_keys-outcome.result.skipped.items, state_in c.run_with_keys-outcome.result.end, e.transcript zero);
+      transcript = λ zero. (
+        c.run_with_keys-outcome.result.skipped.items,
+        state_in c.run_with_keys-outcome.result.end,
+        e.transcript zero,
+      );
       pack_all = λ zero. (state_in c.run_with_keys-outcome.result.end, e.pack_all zero);
       gen_all = e.gen_all;
       silent = e.silent;

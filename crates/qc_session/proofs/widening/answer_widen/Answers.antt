@@ -3,7 +3,7 @@ use Rattle.std.proofs.lemmas.Result.{IfOk-weaker}
 use Rattle.cube_defs.specs.Text.{Text}
 use Rattle.reply_text.specs.Replies.{refused_text}
 use Rattle.warehouse.specs.Widening.{DimsFull, NodesFull}
-use Rattle.qc_session.proofs.Handed.{on_err}
+use Rattle.qc_session.proofs.FlushLemmas.{on_err}
 use Rattle.qc_session.proofs.Widened.{widen-pinned, widen-refused}
 use Rattle.qc_session.proofs.widening.answer_widen.Goals as goal
 
@@ -11,8 +11,10 @@ pub returns-in-Err-Pinned : goal.returns-in-Err-Pinned
 returns-in-Err-Pinned g c =
     let e = c.in-Err-Pinned.ensures in
     record {
-      ok = rw e.err (widen-pinned c.args.pinned.now c.args.number c.args.name.now c.args.value.now c.refused.result (e.pinned.0 (ap Err c.in-Err-Pinned.field-0-is))
-          (c.refused.ensures ∙ ap (λ (texts : List Text). refused_text c.args.number texts) c.words_of_pinned.ensures.texts));
+      ok = rw e.err (widen-pinned c.args.pinned.now c.args.number c.args.name.now c.args.value.now c.refused.result
+          (e.pinned.0 (ap Err c.in-Err-Pinned.field-0-is))
+          (c.refused.ensures ∙ ap (λ (texts : List Text). refused_text c.args.number texts)
+          c.pinned_refusal.ensures.texts));
       same = tt;
     }
 
@@ -22,7 +24,9 @@ returns-in-Err-DimsFull g c =
     let gives = rw (c.as_str.ensures.value, c.as_str-2.ensures.value, c.in-Err-DimsFull.field-0-is) at e.gives in
     let other = rw c.in-Err-DimsFull.field-0-is at e.pinned.1 in
     record {
-      ok = rw e.err (IfOk-weaker c.refused_widening.result _ _ (λ reply made. widen-refused c.args.pinned.now c.args.number c.args.name.now c.args.value.now DimsFull _ (λ some. cc (other some)) gives made) c.refused_widening.ensures);
+      ok = rw e.err (IfOk-weaker c.refused_widening.result _ _
+          (λ reply made. widen-refused c.args.pinned.now c.args.number c.args.name.now c.args.value.now DimsFull _
+          (λ some. cc (other some)) gives made) c.refused_widening.ensures);
       same = on_err c.refused_widening.result e.err;
     }
 
@@ -32,6 +36,8 @@ returns-in-Err-NodesFull g c =
     let gives = rw (c.as_str.ensures.value, c.as_str-2.ensures.value, c.in-Err-NodesFull.field-0-is) at e.gives in
     let other = rw c.in-Err-NodesFull.field-0-is at e.pinned.1 in
     record {
-      ok = rw e.err (IfOk-weaker c.refused_widening-in-Err-NodesFull.result _ _ (λ reply made. widen-refused c.args.pinned.now c.args.number c.args.name.now c.args.value.now NodesFull _ (λ some. cc (other some)) gives made) c.refused_widening-in-Err-NodesFull.ensures);
+      ok = rw e.err (IfOk-weaker c.refused_widening-in-Err-NodesFull.result _ _
+          (λ reply made. widen-refused c.args.pinned.now c.args.number c.args.name.now c.args.value.now NodesFull _
+          (λ some. cc (other some)) gives made) c.refused_widening-in-Err-NodesFull.ensures);
       same = on_err c.refused_widening-in-Err-NodesFull.result e.err;
     }

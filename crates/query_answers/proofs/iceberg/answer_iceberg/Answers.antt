@@ -8,6 +8,8 @@ use Rattle.query_answers.proofs.iceberg.answer_iceberg.Goals as goal
 
 pub returns-clause-steps : goal.returns-clause-steps
 returns-clause-steps g c = λ is rows has.
-    let asked = classes_of (with_rows c.args.source.now.warehouse.now.state rows) (kind_in c.args.condition.kind) (bound_in c.args.condition.bound) (fraction_in c.args.condition.value) in
-    let count : length asked ≡ length c.in_ok-classes.classes.items = ap length (sym (c.in_ok-classes.ensures.classes rows has)) ∙ length-map c.in_ok-classes.classes.items _ in
+    let asked = classes_of (with_rows c.args.source.now.warehouse.now.state rows) (kind_in c.args.condition.kind)
+    (bound_in c.args.condition.bound) (fraction_in c.args.condition.value) in
+    let count : length asked ≡ length c.in_ok-classes.classes.items
+    = ap length (sym (c.in_ok-classes.ensures.classes rows has)) ∙ length-map c.in_ok-classes.classes.items _ in
     rw count (c.in_ok-classes.ensures.steps is)

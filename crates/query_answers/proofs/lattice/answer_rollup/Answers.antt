@@ -6,12 +6,12 @@ use Rattle.cube_defs.specs.Text.{text_cmp}
 use Rattle.iceberg_query.specs.Asked.{bound_in}
 use Rattle.qc_schema.specs.Schema.{Layout}
 use Rattle.quotient_lattice.specs.Neighbours as lattice
-use Rattle.quotient_lattice.specs.Told.{told_nodes}
-use Rattle.qc_arena.specs.Seen.{record_at}
+use Rattle.quotient_lattice.specs.DecodedNodes.{decoded_nodes}
+use Rattle.qc_arena.specs.RecordReaders.{record_at}
 use Rattle.reply_text.specs.Words.{reply_bytes}
-use Rattle.value_dict.specs.Told.{told_cell}
+use Rattle.value_dict.specs.Decoded.{decoded_cell}
 use Rattle.warehouse.specs.State.{source_of, with_rows}
-use Rattle.query_answers.specs.Queries.{cell_asked, scale_of}
+use Rattle.query_answers.specs.Queries.{cell_of_fields, scale_of}
 use Rattle.query_answers.proofs.Measured.{measure-there}
 use Rattle.query_answers.proofs.Recoded.{rows-known}
 use Rattle.query_answers.proofs.SomeRows.{some-tree, tree-of}
@@ -23,20 +23,34 @@ rollup-requires-clause-tree g c = some-tree _ _ _ c.requires.source.rows
 
 pub rollup-requires-clause-measure : goal.rollup-requires-clause-measure
 rollup-requires-clause-measure g c =
-    let s = with_rows c.args.source.now.warehouse.now.state c.requires.source.rows.rows in
-    (source_of s, tree-of _ _ _ c.requires.source.rows s.rows c.requires.source.rows.kept, measure-there (length s.schema.measures) c.args.condition.kind c.requires.measured)
+    let s = with_rows c.args.source.now.warehouse.now.state c.requires.source.rows.rows in (
+      source_of s,
+      tree-of _ _ _ c.requires.source.rows s.rows c.requires.source.rows.kept,
+      measure-there (length s.schema.measures) c.args.condition.kind c.requires.measured,
+    )
 
 pub returns-in-Ok : goal.returns-in-Ok
 returns-in-Ok g c = λ rows has.
     let s = with_rows c.args.source.now.warehouse.now.state rows in
     let tree = g.T.Nodes.tree c.args.source.now.tree.now in
     let lists = c.dict.result.now.lists in
-    let asked : answers.Ask = record { kind = kind_in c.args.condition.kind; scale = c.scale_of_kind.result; bound = bound_in c.args.condition.bound; value = fraction_in c.args.condition.value } in
-    let scale = c.scale_of_kind.ensures.value ∙ ap (λ (l : Layout). scale_of l.measures (kind_in c.args.condition.kind)) c.schema.ensures.value in
-    let found = c.in-Ok.ensures.nodes (source_of s) (tree-of _ _ _ c.requires.source.rows rows has) (rows-known s has.state lists c.dict.ensures.texts) in
-    let here = ap (told_nodes s.texts tree) c.deref.ensures.value
-    ∙ moved (λ rows u. lattice.rollup text_cmp (length s.schema.measures) rows asked u) s has.state lists c.dict.ensures.texts tree c.in-Some.node c.in-Ok.nodes.items found in
-    IfOk-weaker c.told_reply.result _ _
-    (λ reply told. rolled-told s c.args.number (kind_in c.args.condition.kind) (bound_in c.args.condition.bound) (fraction_in c.args.condition.value) c.scale_of_kind.result (cell_asked c.args.asked.now)
-    (told_cell s.texts (record_at tree c.in-Some.node.0).cell) (told_nodes s.texts tree c.deref.result.now) (reply_bytes reply) told here (c.in-Some.ensures.upper rows has) scale)
-    (c.told_reply.ensures rows has)
+    let asked : answers.Ask = record {
+      kind = kind_in c.args.condition.kind;
+      scale = c.scale_of_kind.result;
+      bound
+          = bound_in c.args.condition.bound;
+      value = fraction_in c.args.condition.value;
+    } in
+    let scale = c.scale_of_kind.ensures.value
+    ∙ ap (λ (l : Layout). scale_of l.measures (kind_in c.args.condition.kind)) c.schema.ensures.value in
+    let found = c.in-Ok.ensures.nodes (source_of s) (tree-of _ _ _ c.requires.source.rows rows has)
+    (rows-known s has.state lists c.dict.ensures.texts) in
+    let here = ap (decoded_nodes s.texts tree) c.deref.ensures.value
+    ∙ moved (λ rows u. lattice.rollup text_cmp (length s.schema.measures) rows asked u) s has.state lists
+    c.dict.ensures.texts tree c.in-Some.node c.in-Ok.nodes.items found in
+    IfOk-weaker c.nodes_reply.result _ _
+    (λ reply told. rolled-told s c.args.number (kind_in c.args.condition.kind) (bound_in c.args.condition.bound)
+    (fraction_in c.args.condition.value) c.scale_of_kind.result (cell_of_fields c.args.asked.now)
+    (decoded_cell s.texts (record_at tree c.in-Some.node.0).cell) (decoded_nodes s.texts tree c.deref.result.now)
+    (reply_bytes reply) told here (c.in-Some.ensures.upper rows has) scale)
+    (c.nodes_reply.ensures rows has)

@@ -11,7 +11,8 @@ on-err (Ok x) p = tt
 on-err (Err e) p = p
 
 -- what holds where there is a ranking
-ranked : {T E X : Type 0} (r : Result T E) (o : Option X) (P : Type 0) → (IsSome o → IfOk r (λ _. P)) → OnOk r (is_some o ≡ true → P)
+ranked : {T E X : Type 0} (r : Result T E) (o : Option X) (P : Type 0) → (IsSome o → IfOk r (λ _. P))
+    → OnOk r (is_some o ≡ true → P)
 ranked (Ok x) None P h = λ e. cc
 ranked (Ok x) (Some y) P h = λ e. h (search rules)
 ranked (Err e) o P h = tt

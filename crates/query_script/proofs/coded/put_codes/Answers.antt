@@ -9,15 +9,23 @@ pub dims-preserved : goal.dims-preserved
 dims-preserved c = record {
   dims = c.put_entry-known.ensures.dims ∙ c.dims.invariant.dims;
   read =
-      one-more c.args.dict.now.lists _ c.dims.known c.put_entry-known.result c.dims.more c.split_piece-comma.result.2 c.dims.left.now c.split_piece-comma.result.0.now c.split_piece-comma.result.1.now c.dims.cell c.put_entry-known.new.cell c.dims.dim c.in-Some.found
-      (omega (arith, c.dims-dim-end.ensures.value, c.dims-test.true)) c.dims.invariant.dims (search rules) c.split_piece-comma.ensures.pieces c.in-Some.ensures.value c.put_entry-known.ensures.value c.dims.invariant.read;
+      one-more c.args.dict.now.lists _ c.dims.known c.put_entry-known.result c.dims.more c.split_piece-comma.result.2
+      c.dims.left.now c.split_piece-comma.result.0.now c.split_piece-comma.result.1.now c.dims.cell
+      c.put_entry-known.new.cell c.dims.dim c.in-Some.found
+      (omega (arith, c.dims-dim-end.ensures.value, c.dims-test.true)) c.dims.invariant.dims
+      (search rules) c.split_piece-comma.ensures.pieces c.in-Some.ensures.value c.put_entry-known.ensures.value
+      c.dims.invariant.read;
   text = c.split_piece-comma.ensures.utf8;
 }
 
 pub returns-then-known-clause-coded : goal.returns-then-known-clause-coded
 returns-then-known-clause-coded c =
-    all-known c.args.dict.now.lists _ _ c.dims.cell c.dims.dim c.dims.known c.dims.invariant.read (rw c.if-more.false refl) (omega (arith, c.dims-dim-end.ensures.value, c.dims.auto.dim-end, c.dims-test.false)) c.dims.invariant.dims c.if-known.true
+    all-known c.args.dict.now.lists _ _ c.dims.cell c.dims.dim c.dims.known c.dims.invariant.read
+    (rw c.if-more.false refl) (omega (arith, c.dims-dim-end.ensures.value, c.dims.auto.dim-end, c.dims-test.false))
+    c.dims.invariant.dims c.if-known.true
 
 pub returns-else-known-clause-coded : goal.returns-else-known-clause-coded
 returns-else-known-clause-coded c =
-    one-unknown c.args.dict.now.lists _ _ c.dims.cell c.dims.dim c.dims.known c.dims.invariant.read (rw c.if-more.false refl) (omega (arith, c.dims-dim-end.ensures.value, c.dims.auto.dim-end, c.dims-test.false)) c.if-known.false
+    one-unknown c.args.dict.now.lists _ _ c.dims.cell c.dims.dim c.dims.known c.dims.invariant.read
+    (rw c.if-more.false refl) (omega (arith, c.dims-dim-end.ensures.value, c.dims.auto.dim-end, c.dims-test.false))
+    c.if-known.false

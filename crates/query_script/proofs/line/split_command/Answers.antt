@@ -5,8 +5,10 @@ use Rattle.query_script.proofs.line.split_command.Goals as goal
 
 pub returns-in-Some : goal.returns-in-Some
 returns-in-Some c =
-    let first = split_once_first 32 c.args.line.now (Some (c.in-Some.word, c.in-Some.rest)) c.in-Some.ensures.cases (omega arith) in
-    let parts = split_parts 32 c.args.line.now (Some (c.in-Some.word, c.in-Some.rest)) c.in-Some.ensures.cases (omega arith) in
+    let first = split_once_first 32 c.args.line.now (Some (c.in-Some.word, c.in-Some.rest)) c.in-Some.ensures.cases
+    (omega arith) in
+    let parts = split_parts 32 c.args.line.now (Some (c.in-Some.word, c.in-Some.rest)) c.in-Some.ensures.cases
+    (omega arith) in
     record {
       word = first.1;
       rest = first.2;

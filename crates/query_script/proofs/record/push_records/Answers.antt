@@ -8,30 +8,39 @@ use Rattle.query_script.proofs.record.push_records.Goals as goal
 
 pub push_fields-requires-clause-text : goal.push_fields-requires-clause-text
 push_fields-requires-clause-text c =
-    let left : c.records.rows ≡ fields_of c.next.new.row ∷ c.next.new.self = rw c.if-branch.true at c.in_ok-next.ensures.next in
-    All-head (All IsUtf8) (fields_of c.next.new.row) c.next.new.self (All-same (All IsUtf8) (fields_of c.next.new.row ∷ c.next.new.self) c.records.rows (sym left) c.records.invariant.text)
+    let left : c.records.rows ≡ fields_of c.next.new.row ∷ c.next.new.self
+    = rw c.if-branch.true at c.in_ok-next.ensures.next in
+    All-head (All IsUtf8) (fields_of c.next.new.row) c.next.new.self
+    (All-same (All IsUtf8) (fields_of c.next.new.row ∷ c.next.new.self) c.records.rows
+    (sym left) c.records.invariant.text)
 
 pub push_fields-requires-clause-size : goal.push_fields-requires-clause-size
 push_fields-requires-clause-size c =
-    let left : c.records.rows ≡ fields_of c.next.new.row ∷ c.next.new.self = rw c.if-branch.true at c.in_ok-next.ensures.next in
+    let left : c.records.rows ≡ fields_of c.next.new.row ∷ c.next.new.self
+    = rw c.if-branch.true at c.in_ok-next.ensures.next in
     omega (arith, ap bytes_in_all left, c.records.invariant.size)
 
 pub records-preserved : goal.records-preserved
 records-preserved c =
-    let left : c.records.rows ≡ fields_of c.next.new.row ∷ c.next.new.self = rw c.if-branch.true at c.in_ok-next.ensures.next in
+    let left : c.records.rows ≡ fields_of c.next.new.row ∷ c.next.new.self
+    = rw c.if-branch.true at c.in_ok-next.ensures.next in
     record {
-      asked = c.in_ok-push_fields.ensures.ok (flat_map (λ fields. fields) c.next.new.self) ∙ rw left at c.records.invariant.asked;
+      asked = c.in_ok-push_fields.ensures.ok (flat_map (λ fields. fields) c.next.new.self)
+          ∙ rw left at c.records.invariant.asked;
       few = c.in_ok-push_fields.ensures.few;
-      text = All-rest (All IsUtf8) (fields_of c.next.new.row) c.next.new.self c.records.rows left c.records.invariant.text;
+      text = All-rest (All IsUtf8) (fields_of c.next.new.row) c.next.new.self c.records.rows left
+          c.records.invariant.text;
       size = omega (arith, ap bytes_in_all left, c.records.invariant.size);
     }
 
 pub returns-in_err-push_fields-clause-err : goal.returns-in_err-push_fields-clause-err
 returns-in_err-push_fields-clause-err c =
-    let left : c.records.rows ≡ fields_of c.next.new.row ∷ c.next.new.self = rw c.if-branch.true at c.in_ok-next.ensures.next in
+    let left : c.records.rows ≡ fields_of c.next.new.row ∷ c.next.new.self
+    = rw c.if-branch.true at c.in_ok-next.ensures.next in
     let so_far = rw left at c.records.invariant.asked in
     let fails = c.in_err-push_fields.ensures.err (flat_map (λ fields. fields) c.next.new.self) in
-    let p = err_from_is_err_and c.from_residual-in_err-push_fields.result c.from_residual-in_err-push_fields.ensures.1 in
+    let p = err_from_is_err_and c.from_residual-in_err-push_fields.result
+    c.from_residual-in_err-push_fields.ensures.1 in
     rw (p.1, p.2, sym so_far) fails
 
 pub returns-clause-ok : goal.returns-clause-ok

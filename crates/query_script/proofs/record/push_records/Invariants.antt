@@ -8,7 +8,8 @@ use Rattle.query_script.proofs.record.push_records.Given as goal
 
 abbrev pub invariant-records : goal.invariant-records
 invariant-records l = record {
-  asked : asked_after (field_of l.shape) l.dims l.fields (flat_map (λ fields. fields) l.rows) ≡ asked_after (field_of l.shape) l.dims l.initial.fields (flat_map (λ fields. fields) l.initial.rows);
+  asked : asked_after (field_of l.shape) l.dims l.fields (flat_map (λ fields. fields) l.rows)
+      ≡ asked_after (field_of l.shape) l.dims l.initial.fields (flat_map (λ fields. fields) l.initial.rows);
   few : length l.fields ≤ l.dims;
   text : All (All IsUtf8) l.rows;
   size : bytes_in_all l.rows ≤ MAX_FILE;

@@ -3,11 +3,13 @@ use Rattle.std.specs.Ordering.{nat_cmp}
 use Rattle.tree_search.specs.Found.{IsTreeOf, TreeRows}
 use Rattle.lower_bounds.specs.Classes.{hit_in}
 use Rattle.cell_core.specs.declared.cell.NodeNo.{NodeNo}
-use Rattle.qc_arena.specs.Seen.{record_at}
+use Rattle.qc_arena.specs.RecordReaders.{record_at}
 use Rattle.quotient_lattice.specs.Neighbours as lattice
 use Rattle.quotient_lattice.proofs.classes.classes_alone.Given as goal
 
 abbrev pub invariant-nodes : goal.invariant-nodes
 invariant-nodes g l =
     (source : TreeRows) → IsTreeOf (g.T.Nodes.width l.tree) (g.T.Nodes.tree l.tree) source
-    → map hit_in l.classes.items ≡ map (λ (node : NodeNo). lattice.class_alone nat_cmp source.measures source.rows (record_at (g.T.Nodes.tree l.tree) node.0).cell) (take l.node-index l.nodes)
+    → map hit_in l.classes.items
+    ≡ map (λ (node : NodeNo). lattice.class_alone nat_cmp source.measures source.rows
+    (record_at (g.T.Nodes.tree l.tree) node.0).cell) (take l.node-index l.nodes)

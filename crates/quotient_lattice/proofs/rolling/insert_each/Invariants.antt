@@ -1,6 +1,6 @@
 use Rattle.std.proofs.Common.{◌≡◌, map, nat_eq, take}
 use Rattle.indexmap.specs.IndexSet.{insert_all}
-use Rattle.quotient_lattice.specs.Placed.{number_of}
+use Rattle.quotient_lattice.specs.NodeCells.{number_of}
 use Rattle.quotient_lattice.proofs.rolling.insert_each.Given as goal
 
 abbrev pub invariant-found : goal.invariant-found

@@ -1,16 +1,18 @@
-use Rattle.std.proofs.Common.{true, false, true≢false, ◌≡◌, ◌<◌, Some, [], ◌∷◌, length, map, nat_eq, take, get_or, refl, sym, ap, subst, ◌∙◌, arith, inl}
+use Rattle.std.proofs.Common.{true, false, true≢false, ◌≡◌, ◌<◌, Some, [], ◌∷◌, length, map, nat_eq, take, get_or, refl, sym, ap, subst}
+use Rattle.std.proofs.Common.{◌∙◌, arith, inl}
 use Rattle.std.specs.Prelude.{Err, Ok, OnOk, Result, is_err, slice_get}
 use Rattle.std.specs.Option.{option_copied}
 use Rattle.std.specs.List.{IsDistinct}
 use Rattle.cube_laws.specs.Lists.{Among}
-use Rattle.cube_laws.proofs.Lists.{get_among, got}
+use Rattle.cube_laws.proofs.CallerLemmas.{get_among, got}
 use Rattle.indexmap.specs.IndexSet.{insert_key}
-use Rattle.tree_laws.proofs.Lists.{some_same}
-use Rattle.quotient_lattice.specs.Placed.{number_of}
-use Rattle.quotient_lattice.specs.Visits.{AreSeen, wants}
+use Rattle.tree_laws.proofs.CallerLemmas.{some_same}
+use Rattle.quotient_lattice.specs.NodeCells.{number_of}
+use Rattle.quotient_lattice.specs.Visits.{AreQueued, wants}
 use Rattle.quotient_lattice.proofs.ChildNodes.{once_none}
 use Rattle.quotient_lattice.proofs.ParentNodes.{class_some}
-use Rattle.quotient_lattice.proofs.Visited.{inserted_among, all_met, all_once, alone, first_seen, grown, none_met, visited_met, visited_once, visited_seen}
+use Rattle.quotient_lattice.proofs.Visited.{inserted_among, all_met, all_once, alone, first_seen, grown, none_met, visited_met}
+use Rattle.quotient_lattice.proofs.Visited.{visited_once, visited_seen}
 use Rattle.quotient_lattice.proofs.rolling.meet_all.Goals as goal
 
 ok_gives : {T E P : Type 0} (r : Result T E) → is_err r ≡ false → OnOk r P → P
@@ -21,7 +23,8 @@ pub seen-init : goal.seen-init
 seen-init g c =
     let tree = g.T.Nodes.tree c.args.tree.now in
     let keys = c.insert.new.self.keys in
-    let is : keys ≡ c.args.node.0 ∷ [] = ok_gives c.insert.result (sym c.if-is_err.ensures.value) c.insert.ensures.keys ∙ ap (λ ks. insert_key nat_eq ks c.args.node.0) c.requires.none_seen in
+    let is : keys ≡ c.args.node.0 ∷ [] = ok_gives c.insert.result (sym c.if-is_err.ensures.value) c.insert.ensures.keys
+    ∙ ap (λ ks. insert_key nat_eq ks c.args.node.0) c.requires.none_seen in
     record {
       within = omega arith;
       first = subst (Among c.args.node.0) (sym is) (inl refl);
@@ -35,8 +38,10 @@ seen-init g c =
 pub visit-requires-clause-class : goal.visit-requires-clause-class
 visit-requires-clause-class g c =
     let keys = c.seen.seen.keys in
-    let at : slice_get keys c.seen.i ≡ Some c.unwrap-number.result.now = sym c.get_index.ensures.key ∙ ap option_copied c.unwrap-number.ensures in
-    let p = (c.seen.invariant.seen c.requires.tree.0 c.requires.tree.1).above c.unwrap-number.result.now (get_among keys c.seen.i c.unwrap-number.result.now at) in
+    let at : slice_get keys c.seen.i ≡ Some c.unwrap-number.result.now = sym c.get_index.ensures.key
+    ∙ ap option_copied c.unwrap-number.ensures in
+    let p = (c.seen.invariant.seen c.requires.tree.0 c.requires.tree.1).above c.unwrap-number.result.now
+    (get_among keys c.seen.i c.unwrap-number.result.now at) in
     class_some _ _ c.requires.tree.0 c.requires.tree.1 c.unwrap-number.result.now p.there p.class
 
 pub seen-preserved : goal.seen-preserved
@@ -51,18 +56,23 @@ seen-preserved g c =
     let more = map number_of c.visit.new.met.items in
     let inv = c.seen.invariant in
     let l : c.seen.i < length seen = omega (arith, c.seen-test.true, c.len.ensures.len) in
-    let here : slice_get seen c.seen.i ≡ Some x = sym c.get_index.ensures.key ∙ ap option_copied c.unwrap-number.ensures in
+    let here : slice_get seen c.seen.i ≡ Some x = sym c.get_index.ensures.key
+    ∙ ap option_copied c.unwrap-number.ensures in
     let at : get_or seen c.seen.i 0 ≡ x = some_same (sym (got seen c.seen.i 0 l) ∙ here) in
     let source = c.requires.tree.0 in
     let h = c.requires.tree.1 in
     let v = c.in-Ok.ensures.visited source h in
     record {
       within = omega (arith, l, grown seen after v.found v.seen_more);
-      first = subst (Among c.args.node.0) (sym v.seen_more) ((inserted_among seen v.found c.args.node.0).1 (inl inv.first));
+      first = subst (Among c.args.node.0) (sym v.seen_more)
+          ((inserted_among seen v.found c.args.node.0).1 (inl inv.first));
       apart = subst (IsDistinct nat_eq) (sym v.seen_more) (all_once seen v.found inv.apart);
-      seen = λ source h. visited_seen n tree source h ask c.args.node.0 seen after c.seen.i x l at met more (inv.seen source h) (c.in-Ok.ensures.visited source h);
-      each = visited_met n tree source h ask c.args.node.0 seen after c.seen.i x l at met more (inv.seen source h) v inv.apart inv.each;
-      once = visited_once n tree source h ask c.args.node.0 seen after c.seen.i x l at met more (inv.seen source h) v inv.apart inv.each inv.once;
+      seen = λ source h. visited_seen n tree source h ask c.args.node.0 seen after c.seen.i x l at met more
+          (inv.seen source h) (c.in-Ok.ensures.visited source h);
+      each = visited_met n tree source h ask c.args.node.0 seen after c.seen.i x l at met more
+          (inv.seen source h) v inv.apart inv.each;
+      once = visited_once n tree source h ask c.args.node.0 seen after c.seen.i x l at met more
+          (inv.seen source h) v inv.apart inv.each inv.once;
       cells = c.in-Ok.ensures.cells inv.cells;
     }
 
@@ -73,5 +83,6 @@ returns-clause-met g c = λ source h.
     let met = map number_of c.seen.met.items in
     let end : c.seen.i ≡ length seen = omega (arith, c.seen-test.false, c.len.ensures.len, c.seen.invariant.within) in
     all_met _ tree source h c.args.ask.now c.args.node.0 seen met c.seen.invariant.first
-    (subst (λ i. AreSeen tree source c.args.ask.now c.args.node.0 seen i) end (c.seen.invariant.seen source h))
-    (λ k. subst (λ i. (Among k met → Among k (take i seen) × (wants tree c.args.ask.now k ≡ true)) × (Among k (take i seen) × (wants tree c.args.ask.now k ≡ true) → Among k met)) end (c.seen.invariant.each k))
+    (subst (λ i. AreQueued tree source c.args.ask.now c.args.node.0 seen i) end (c.seen.invariant.seen source h))
+    (λ k. subst (λ i. (Among k met → Among k (take i seen) × (wants tree c.args.ask.now k ≡ true))
+    × (Among k (take i seen) × (wants tree c.args.ask.now k ≡ true) → Among k met)) end (c.seen.invariant.each k))

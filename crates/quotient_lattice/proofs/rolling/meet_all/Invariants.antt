@@ -2,8 +2,8 @@ use Rattle.std.proofs.Common.{◌≡◌, ◌↔◌, ℕ, ◌^◌, ◌-◌, ◌�
 use Rattle.std.specs.List.{IsDistinct}
 use Rattle.cube_laws.specs.Lists.{Among}
 use Rattle.tree_search.specs.Found.{IsTreeOf, TreeRows}
-use Rattle.quotient_lattice.specs.Placed.{AreAt, number_of}
-use Rattle.quotient_lattice.specs.Visits.{AreSeen, wants}
+use Rattle.quotient_lattice.specs.NodeCells.{AreAt, number_of}
+use Rattle.quotient_lattice.specs.Visits.{AreQueued, wants}
 use Rattle.quotient_lattice.proofs.rolling.meet_all.Given as goal
 
 abbrev pub invariant-seen : goal.invariant-seen
@@ -11,8 +11,10 @@ invariant-seen g l = record {
   within : l.i ≤ length l.seen.keys;
   first : Among l.fn.node.0 l.seen.keys;
   apart : IsDistinct nat_eq l.seen.keys;
-  seen : (source : TreeRows) → IsTreeOf (g.T.Nodes.width l.tree) (g.T.Nodes.tree l.tree) source → AreSeen (g.T.Nodes.tree l.tree) source l.ask l.fn.node.0 l.seen.keys l.i;
-  each : (k : ℕ) → Among k (map number_of l.met.items) ↔ (Among k (take l.i l.seen.keys) × (wants (g.T.Nodes.tree l.tree) l.ask k ≡ true));
+  seen : (source : TreeRows) → IsTreeOf (g.T.Nodes.width l.tree) (g.T.Nodes.tree l.tree) source
+      → AreQueued (g.T.Nodes.tree l.tree) source l.ask l.fn.node.0 l.seen.keys l.i;
+  each : (k : ℕ) → Among k (map number_of l.met.items)
+      ↔ (Among k (take l.i l.seen.keys) × (wants (g.T.Nodes.tree l.tree) l.ask k ≡ true));
   once : IsDistinct nat_eq (map number_of l.met.items);
   cells : AreAt (g.T.Nodes.tree l.tree) l.met.items;
 }

@@ -6,22 +6,22 @@ use Rattle.std.proofs.lemmas.Result.{IfOk-weaker}
 use Rattle.cube_defs.specs.Text.{text_cmp}
 use Rattle.cube_laws.specs.Recoding.{coded_cell}
 use Rattle.iceberg_query.specs.Asked.{ask_in}
-use Rattle.qc_arena.specs.Seen.{record_at}
-use Rattle.tree_search.proofs.Climbed.{wide}
-use Rattle.tree_search.proofs.Walked.{cell_there}
-use Rattle.value_dict.specs.Recoded.{text_in, told_rows}
-use Rattle.value_dict.proofs.TextsApart.{told-known}
-use Rattle.lower_bounds.proofs.OwnClosure.{class_there, own_closure}
+use Rattle.qc_arena.specs.RecordReaders.{record_at}
+use Rattle.tree_search.proofs.CallerLemmas.{wide, cell_there}
+use Rattle.value_dict.specs.Recoded.{text_in, decoded_row_list}
+use Rattle.value_dict.proofs.CallerLemmas.{told-known}
+use Rattle.lower_bounds.proofs.CallerLemmas.{class_there, own_closure}
 use Rattle.quotient_lattice.specs.Neighbours as lattice
 use Rattle.quotient_lattice.proofs.Coded.{is_rolled-coded}
 use Rattle.quotient_lattice.proofs.Lowest.{all_wide, lowest_kept}
 use Rattle.quotient_lattice.proofs.PlacedOrder.{nodes_are_classes, nodes_told}
-use Rattle.quotient_lattice.proofs.ToldNodes.{class_known, tells, text_anti, text_total}
+use Rattle.quotient_lattice.proofs.NodesDecoded.{class_known, tells, text_anti, text_total}
 use Rattle.quotient_lattice.proofs.rolling.rollup.Goals as goal
 
-pub lowest-requires : goal.lowest-requires
-lowest-requires g c =
-    all_wide _ _ c.requires.tree.0 c.requires.tree.1 c.args.ask.now c.args.node.0 c.in-Ok.met.items c.in-Ok.ensures.cells (c.in-Ok.ensures.met c.requires.tree.0 c.requires.tree.1)
+pub most_general_of-requires : goal.most_general_of-requires
+most_general_of-requires g c =
+    all_wide _ _ c.requires.tree.0 c.requires.tree.1 c.args.ask.now c.args.node.0 c.in-Ok.met.items
+    c.in-Ok.ensures.cells (c.in-Ok.ensures.met c.requires.tree.0 c.requires.tree.1)
 
 pub returns-in-Ok-sort-clause-nodes : goal.returns-in-Ok-sort-clause-nodes
 returns-in-Ok-sort-clause-nodes g c = λ source h known.
@@ -33,16 +33,23 @@ returns-in-Ok-sort-clause-nodes g c = λ source h known.
     let t = class_there tree c.args.node.0 c.requires.class in
     let long = wide n tree source h c.args.node.0 t in
     let own = own_closure _ _ source h c.args.node.0 u (cell_there tree c.args.node.0 t) c.requires.class in
-    let kept = c.in-Ok-lowest.kept.items in
-    let low = lowest_kept n tree source h c.args.ask.now c.args.node.0 c.in-Ok.met.items c.in-Ok.ensures.cells (c.in-Ok.ensures.met source h) kept c.in-Ok-lowest.ensures c.in-Ok.ensures.once in
-    IfOk-weaker c.without_cells.result _ _
-    (λ nodes are. nodes_told n tree source h (lattice.is_rolled nat_cmp source.measures source.rows ask u) kept c.sort.new.found.items nodes.items low.0 low.1 c.in-Ok-sort.ensures.same are low.2
-    dict c.dims-dims.ensures.dictionary known c.requires.dims (lattice.is_rolled text_cmp source.measures (told_rows dict.lists source.rows) ask (coded_cell (text_in dict.lists) 0 u))
-    (λ d k. is_rolled-coded nat_cmp_total numbers.nat_cmp-IsAntisymmetric text_total text_anti (tells n tree dict source h c.dims-dims.ensures.dictionary known c.requires.dims) source.rows known source.measures ask u
+    let kept = c.in-Ok-most_general_of.kept.items in
+    let low = lowest_kept n tree source h c.args.ask.now c.args.node.0 c.in-Ok.met.items c.in-Ok.ensures.cells
+    (c.in-Ok.ensures.met source h) kept c.in-Ok-most_general_of.ensures c.in-Ok.ensures.once in
+    IfOk-weaker c.nodes_alone.result _ _
+    (λ nodes are. nodes_told n tree source h (lattice.is_rolled nat_cmp source.measures source.rows ask u) kept
+    c.sort.new.found.items nodes.items low.0 low.1 c.in-Ok-sort.ensures.same are low.2
+    dict c.dims-dims.ensures.dictionary known c.requires.dims
+    (lattice.is_rolled text_cmp source.measures (decoded_row_list dict.lists source.rows) ask
+    (coded_cell (text_in dict.lists) 0 u))
+    (λ d k. is_rolled-coded nat_cmp_total numbers.nat_cmp-IsAntisymmetric text_total text_anti
+    (tells n tree dict source h c.dims-dims.ensures.dictionary known c.requires.dims) source.rows known
+    source.measures ask u
     (class_known n tree dict source h c.dims-dims.ensures.dictionary known c.requires.dims u own) d k)
     c.in-Ok-sort.ensures.sorted
-    ∙ ap (lattice.rollup text_cmp source.measures (told_rows dict.lists source.rows) ask) (sym (told-known dict.lists u (omega (arith, long, c.requires.dims)))))
-    c.without_cells.ensures
+    ∙ ap (lattice.rollup text_cmp source.measures (decoded_row_list dict.lists source.rows) ask)
+    (sym (told-known dict.lists u (omega (arith, long, c.requires.dims)))))
+    c.nodes_alone.ensures
 
 pub returns-in-Ok-sort-clause-classes : goal.returns-in-Ok-sort-clause-classes
 returns-in-Ok-sort-clause-classes g c =
@@ -52,8 +59,10 @@ returns-in-Ok-sort-clause-classes g c =
     let n = g.T.Nodes.width c.args.tree.now in
     let ask = ask_in c.args.ask.now in
     let u = (record_at tree c.args.node.0).cell in
-    let kept = c.in-Ok-lowest.kept.items in
-    let low = lowest_kept n tree source h c.args.ask.now c.args.node.0 c.in-Ok.met.items c.in-Ok.ensures.cells (c.in-Ok.ensures.met source h) kept c.in-Ok-lowest.ensures c.in-Ok.ensures.once in
-    IfOk-weaker c.without_cells.result _ _
-    (λ nodes are. nodes_are_classes n tree source h (lattice.is_rolled nat_cmp source.measures source.rows ask u) kept c.sort.new.found.items nodes.items low.0 low.1 c.in-Ok-sort.ensures.same are low.2)
-    c.without_cells.ensures
+    let kept = c.in-Ok-most_general_of.kept.items in
+    let low = lowest_kept n tree source h c.args.ask.now c.args.node.0 c.in-Ok.met.items c.in-Ok.ensures.cells
+    (c.in-Ok.ensures.met source h) kept c.in-Ok-most_general_of.ensures c.in-Ok.ensures.once in
+    IfOk-weaker c.nodes_alone.result _ _
+    (λ nodes are. nodes_are_classes n tree source h (lattice.is_rolled nat_cmp source.measures source.rows ask u) kept
+    c.sort.new.found.items nodes.items low.0 low.1 c.in-Ok-sort.ensures.same are low.2)
+    c.nodes_alone.ensures

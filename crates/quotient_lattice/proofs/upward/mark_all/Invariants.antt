@@ -1,6 +1,6 @@
 use Rattle.std.proofs.Common.{◌≡◌, ℕ, ◌+◌, ◌*◌, ◌^◌, ◌≤◌, false, length}
 use Rattle.tree_search.specs.Found.{IsTreeOf, TreeRows}
-use Rattle.cells_below.specs.Closed.{IsMarkedBelow}
+use Rattle.cells_below.specs.Closed.{IsMarkedBefore}
 use Rattle.cells_below.specs.Marks.{is_marked}
 use Rattle.quotient_lattice.proofs.upward.mark_all.Given as goal
 
@@ -9,7 +9,7 @@ invariant-numbers g l = record {
   room : 2 ^ l.upper.values ≤ length l.marks;
   dims : length l.cell ≡ length l.upper.cell.now;
   below : (source : TreeRows) → IsTreeOf (g.T.Nodes.width l.upper.tree.now) (g.T.Nodes.tree l.upper.tree.now) source →
-      IsMarkedBelow source l.upper.cell.now l.marks l.m;
+      IsMarkedBefore source l.upper.cell.now l.marks l.m;
   above : (j : ℕ) → l.m ≤ j → is_marked l.marks j ≡ false;
   steps : l.steps ≤ l.fn.steps + (l.upper.values + l.m) * (2 * length l.upper.cell.now + 2);
 }

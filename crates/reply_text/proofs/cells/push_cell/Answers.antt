@@ -1,8 +1,8 @@
 use Rattle.std.proofs.Common.{◌∙◌, sym, ap, arith, ◌++◌, ◌∷◌, [], ℕ, List, append_assoc, take, map, slice_index_or, None}
 use Rattle.std.specs.Prelude.{option_map}
-use Rattle.value_dict.specs.Told.{text_of, told_cell}
+use Rattle.value_dict.specs.Decoded.{text_of, decoded_cell}
 use Rattle.reply_text.specs.Replies.{entry_text, fields_text}
-use Rattle.reply_text.proofs.Told.{told-behind}
+use Rattle.reply_text.proofs.DecodedCells.{told-after}
 use Rattle.reply_text.proofs.cells.push_cell.Goals as goal
 
 pub dims-preserved : goal.dims-preserved
@@ -13,5 +13,5 @@ dims-preserved c =
     let next = 44 ∷ entry_text (option_map (text_of (slice_index_or lists k [])) (slice_index_or cell k None)) in
     c.in_ok-push_entry.ensures
     ∙ ap (λ (z : List ℕ). z ++ next) c.dims.invariant
-    ∙ append_assoc c.args.out.now.items (fields_text (map entry_text (told_cell lists (take k cell)))) next
-    ∙ ap (λ (z : List ℕ). c.args.out.now.items ++ z) (sym (told-behind lists cell k (omega arith) c.requires))
+    ∙ append_assoc c.args.out.now.items (fields_text (map entry_text (decoded_cell lists (take k cell)))) next
+    ∙ ap (λ (z : List ℕ). c.args.out.now.items ++ z) (sym (told-after lists cell k (omega arith) c.requires))

@@ -1,16 +1,19 @@
 use Rattle.std.proofs.Common.{◌≡◌, arith}
-use Rattle.value_dict.specs.Told.{text_of}
-use Rattle.reply_text.proofs.Told.{told-long, told-text, told-within}
+use Rattle.value_dict.specs.Decoded.{text_of}
+use Rattle.reply_text.proofs.DecodedCells.{told-long, told-text, told-within}
 use Rattle.value_dict.specs.TextLists.{list_at}
 use Rattle.reply_text.proofs.cells.push_entry.Goals as goal
 
 pub text-requires-clause-dim : goal.text-requires-clause-dim
-text-requires-clause-dim c = omega (arith, told-long c.args.dict.now.lists c.args.cell.now c.requires.texts, c.requires.dim)
+text-requires-clause-dim c
+    = omega (arith, told-long c.args.dict.now.lists c.args.cell.now c.requires.texts, c.requires.dim)
 
 pub text-requires-clause-code : goal.text-requires-clause-code
-text-requires-clause-code c = told-within c.args.dict.now.lists c.args.cell.now c.args.dim c.in-Is.code c.requires.texts c.in-Is.ensures.value
+text-requires-clause-code c
+    = told-within c.args.dict.now.lists c.args.cell.now c.args.dim c.in-Is.code c.requires.texts c.in-Is.ensures.value
 
 pub returns-in-Is : goal.returns-in-Is
 returns-in-Is c =
-    let same : text_of (list_at c.args.dict.now c.args.dim) c.in-Is.code ≡ c.text.result.now = told-text (list_at c.args.dict.now c.args.dim) c.in-Is.code c.text.result.now c.text.ensures.value in
+    let same : text_of (list_at c.args.dict.now c.args.dim) c.in-Is.code ≡ c.text.result.now
+    = told-text (list_at c.args.dict.now c.args.dim) c.in-Is.code c.text.result.now c.text.ensures.value in
     rw (← c.in-Is.ensures.value, same) (rw c.as_bytes.ensures.value at c.push_value.ensures)

@@ -2,12 +2,12 @@ use Rattle.std.proofs.Common.{◌∙◌, sym, ap, ◌++◌, ℕ, List, Some, app
 use Rattle.std.specs.List.{flat_map}
 use Rattle.std.proofs.lemmas.List.{take_all}
 use Rattle.std.proofs.lemmas.Option.{slice_get-get_or}
-use Rattle.iceberg_query.specs.Hits.{told_classes}
+use Rattle.iceberg_query.specs.Hits.{decoded_classes}
 use Rattle.lower_bounds.specs.Classes.{hit_in}
 use Rattle.lower_bounds.specs.declared.class.Class.{Class}
-use Rattle.value_dict.specs.Told.{told_hit}
+use Rattle.value_dict.specs.Decoded.{decoded_class}
 use Rattle.reply_text.specs.Replies.{class_text}
-use Rattle.reply_text.proofs.Told.{item-behind}
+use Rattle.reply_text.proofs.DecodedCells.{item-after}
 use Rattle.reply_text.proofs.classes.push_classes.Goals as goal
 
 pub classes-preserved : goal.classes-preserved
@@ -19,11 +19,15 @@ classes-preserved c =
     let text = class_text c.args.line c.args.schema.now.measures in
     let at = slice_get-get_or classes k class c.classes-test.true ∙ ap (λ (x : Class). Some x) (sym c.class-item.is) in
     c.in_ok-push_class.ensures
-    ∙ ap (λ (z : List ℕ). z ++ text (told_hit lists (hit_in class))) c.classes.invariant
-    ∙ append_assoc c.args.out.now.items (flat_map text (told_classes lists (take k classes))) (text (told_hit lists (hit_in class)))
-    ∙ ap (λ (z : List ℕ). c.args.out.now.items ++ z) (sym (item-behind text (λ (x : Class). told_hit lists (hit_in x)) classes k class at))
+    ∙ ap (λ (z : List ℕ). z ++ text (decoded_class lists (hit_in class))) c.classes.invariant
+    ∙ append_assoc c.args.out.now.items (flat_map text (decoded_classes lists (take k classes)))
+    (text (decoded_class lists (hit_in class)))
+    ∙ ap (λ (z : List ℕ). c.args.out.now.items ++ z)
+    (sym (item-after text (λ (x : Class). decoded_class lists (hit_in x)) classes k class at))
 
 pub returns : goal.returns
 returns c =
     c.classes.invariant
-    ∙ ap (λ (classes : List Class). c.args.out.now.items ++ flat_map (class_text c.args.line c.args.schema.now.measures) (told_classes c.args.dict.now.lists classes)) (take_all c.classes.class-index c.args.classes.now c.classes-test.false)
+    ∙ ap (λ (classes : List Class). c.args.out.now.items ++ flat_map (class_text c.args.line c.args.schema.now.measures)
+    (decoded_classes c.args.dict.now.lists classes))
+    (take_all c.classes.class-index c.args.classes.now c.classes-test.false)

@@ -2,10 +2,10 @@ use Rattle.std.proofs.Common.{◌∙◌, sym, ap, ◌++◌, ℕ, List, Some, app
 use Rattle.std.specs.List.{flat_map}
 use Rattle.std.proofs.lemmas.List.{take_all}
 use Rattle.std.proofs.lemmas.Option.{slice_get-get_or}
-use Rattle.range_query.specs.Told.{hit_in, told_hit, told_hits}
+use Rattle.range_query.specs.DecodedHits.{hit_in, decoded_hit, decoded_hits}
 use Rattle.range_query.specs.declared.hit.Hit.{Hit}
 use Rattle.reply_text.specs.Replies.{hit_text}
-use Rattle.reply_text.proofs.Told.{item-behind}
+use Rattle.reply_text.proofs.DecodedCells.{item-after}
 use Rattle.reply_text.proofs.ranges.push_hits.Goals as goal
 
 pub hits-preserved : goal.hits-preserved
@@ -17,11 +17,14 @@ hits-preserved c =
     let text = hit_text c.args.line c.args.schema.now.measures in
     let at = slice_get-get_or hits k hit c.hits-test.true ∙ ap (λ (h : Hit). Some h) (sym c.hit-item.is) in
     c.in_ok-push_hit.ensures
-    ∙ ap (λ (z : List ℕ). z ++ text (told_hit lists (hit_in hit))) c.hits.invariant
-    ∙ append_assoc c.args.out.now.items (flat_map text (told_hits lists (take k hits))) (text (told_hit lists (hit_in hit)))
-    ∙ ap (λ (z : List ℕ). c.args.out.now.items ++ z) (sym (item-behind text (λ (h : Hit). told_hit lists (hit_in h)) hits k hit at))
+    ∙ ap (λ (z : List ℕ). z ++ text (decoded_hit lists (hit_in hit))) c.hits.invariant
+    ∙ append_assoc c.args.out.now.items (flat_map text (decoded_hits lists (take k hits)))
+    (text (decoded_hit lists (hit_in hit)))
+    ∙ ap (λ (z : List ℕ). c.args.out.now.items ++ z)
+    (sym (item-after text (λ (h : Hit). decoded_hit lists (hit_in h)) hits k hit at))
 
 pub returns : goal.returns
 returns c =
     c.hits.invariant
-    ∙ ap (λ (hits : List Hit). c.args.out.now.items ++ flat_map (hit_text c.args.line c.args.schema.now.measures) (told_hits c.args.dict.now.lists hits)) (take_all c.hits.hit-index c.args.hits.now c.hits-test.false)
+    ∙ ap (λ (hits : List Hit). c.args.out.now.items ++ flat_map (hit_text c.args.line c.args.schema.now.measures)
+    (decoded_hits c.args.dict.now.lists hits)) (take_all c.hits.hit-index c.args.hits.now c.hits-test.false)

@@ -11,5 +11,7 @@ returns c =
     let amount : to_z w64 (of_z w64 c.args.amount) ≡ c.args.amount = omega (arith, ints) in
     let printed = amount_text c.args.scale (to_z w64 (of_z w64 c.args.amount)) in
     let cut : take len c.print_amount-len.new.out ≡ amount_text c.args.scale c.args.amount =
-    ap (take len) c.print_amount-len.ensures.text ∙ take_at printed _ len (sym c.print_amount-len.ensures.len) ∙ ap (amount_text c.args.scale) amount in
-    on_ok_weaker c.push_field.result (λ e. e ∙ ap (λ (field : List ℕ). c.args.out.now.items ++ 44 ∷ field) cut) c.push_field.ensures
+    ap (take len) c.print_amount-len.ensures.text ∙ take_at printed _ len (sym c.print_amount-len.ensures.len)
+    ∙ ap (amount_text c.args.scale) amount in
+    on_ok_weaker c.push_field.result (λ e. e ∙ ap (λ (field : List ℕ). c.args.out.now.items ++ 44 ∷ field) cut)
+    c.push_field.ensures

@@ -25,4 +25,6 @@ returns-clause-numbers c =
     ∙ ap (λ (f : Fraction). c.push_amount-3.new.out.items ++ 44 ∷ ratio_text f) c.mean.ensures
     ∙ ap (λ (z : List ℕ). z ++ 44 ∷ ratio) three
     ∙ four-fields out (amount_text scale p.sum) (amount_text scale p.least) (amount_text scale p.greatest) ratio
-    ∙ ap (λ (x : Part). out ++ fields_text (amount_text scale x.sum ∷ amount_text scale x.least ∷ amount_text scale x.greatest ∷ ratio ∷ [])) c.part_at-part.ensures.part
+    ∙ ap (λ (x : Part). out
+    ++ fields_text (amount_text scale x.sum ∷ amount_text scale x.least ∷ amount_text scale x.greatest ∷ ratio
+    ∷ [])) c.part_at-part.ensures.part

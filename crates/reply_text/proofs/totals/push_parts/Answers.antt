@@ -21,16 +21,20 @@ loop-measure-preserved c =
     let first = parts_texts agg.count (take k measures) (take k parts) in
     let next = part_texts agg.count (slice_index_or measures k no_measure).scale (part (agg_in agg) k) in
     c.in_ok-push_part.ensures.numbers
-    ∙ ap (λ (s : ℕ). c.loop-measure.out.items ++ fields_text (part_texts agg.count s (part (agg_in agg) k))) c.scale.ensures
+    ∙ ap (λ (s : ℕ). c.loop-measure.out.items ++ fields_text (part_texts agg.count s (part (agg_in agg) k)))
+    c.scale.ensures
     ∙ ap (λ (z : List ℕ). z ++ fields_text next) c.loop-measure.invariant
     ∙ append_assoc out (fields_text first) (fields_text next)
-    ∙ ap (λ (z : List ℕ). out ++ z) (sym (fields-append first next) ∙ ap fields_text (sym (parts-more agg.count measures parts k (omega arith) c.push_part.ensures.there)))
+    ∙ ap (λ (z : List ℕ). out ++ z) (sym (fields-append first next)
+    ∙ ap fields_text (sym (parts-more agg.count measures parts k (omega arith) c.push_part.ensures.there)))
 
 pub push_part-requires-clause-scale : goal.push_part-requires-clause-scale
 push_part-requires-clause-scale c =
     let measures = c.args.schema.now.measures in
-    let lt : c.loop-measure.measure < length measures = omega (arith, c.requires, c.measures_of-measure-end.ensures.parts) in
-    rw c.scale.ensures (All-from_recursion (λ (m : Measure). m.scale ≤ MAX_SCALE) measures c.dims-dims.ensures.layout.scales c.loop-measure.measure no_measure lt)
+    let lt : c.loop-measure.measure < length measures
+    = omega (arith, c.requires, c.measures_of-measure-end.ensures.parts) in
+    rw c.scale.ensures (All-from_recursion (λ (m : Measure). m.scale ≤ MAX_SCALE) measures
+    c.dims-dims.ensures.layout.scales c.loop-measure.measure no_measure lt)
 
 pub returns : goal.returns
 returns c =
@@ -40,4 +44,6 @@ returns c =
     let k = c.loop-measure.measure in
     let end : length measures ≤ k = omega (arith, c.requires, c.measures_of-measure-end.ensures.parts) in
     let end2 : length parts ≤ k = omega (arith, c.measures_of-measure-end.ensures.parts) in
-    c.loop-measure.invariant ∙ ap₂ (λ (ms : List Measure) (ps : List Part). c.args.out.now.items ++ fields_text (parts_texts agg.count ms ps)) (take_all k measures end) (take_all k parts end2)
+    c.loop-measure.invariant
+    ∙ ap₂ (λ (ms : List Measure) (ps : List Part). c.args.out.now.items
+    ++ fields_text (parts_texts agg.count ms ps)) (take_all k measures end) (take_all k parts end2)

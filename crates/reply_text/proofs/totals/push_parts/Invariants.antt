@@ -4,4 +4,6 @@ use Rattle.reply_text.specs.Replies.{fields_text, parts_texts}
 use Rattle.reply_text.proofs.totals.push_parts.Given as goal
 
 abbrev pub invariant-loop-measure : goal.invariant-loop-measure
-invariant-loop-measure l = l.out.items ≡ l.fn.out.items ++ fields_text (parts_texts l.agg.count (take l.measure l.schema.measures) (take l.measure (agg_in l.agg).parts))
+invariant-loop-measure l
+    = l.out.items ≡ l.fn.out.items
+    ++ fields_text (parts_texts l.agg.count (take l.measure l.schema.measures) (take l.measure (agg_in l.agg).parts))

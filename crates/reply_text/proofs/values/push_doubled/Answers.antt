@@ -16,4 +16,6 @@ loop-b-preserved c =
     ∙ ap (λ (z : List ℕ). out ++ flat_map doubled z) (sym (take_more value k 0 (omega arith)))
 
 pub returns : goal.returns
-returns c = c.loop-b.invariant ∙ ap (λ (z : List ℕ). c.args.out.now.items ++ flat_map doubled z) (take_all c.loop-b.b-index c.args.value.now (omega arith))
+returns c = c.loop-b.invariant
+    ∙ ap (λ (z : List ℕ). c.args.out.now.items ++ flat_map doubled z)
+    (take_all c.loop-b.b-index c.args.value.now (omega arith))

@@ -7,4 +7,5 @@ pub returns : goal.returns
 unfolding amount_of
 returns c =
     let small : c.args.id % 1001 < 1001 = omega arith in
-    rw c.from.ensures (rw (to_z-of_z w64 (pos (c.args.id % 1001)) (search rules)) (to_z-of_z w64 (pos (c.args.id % 1001) -ℤ pos 500) (grind (arith, ints, small))))
+    rw c.from.ensures (rw (to_z-of_z w64 (pos (c.args.id % 1001)) (search rules))
+    (to_z-of_z w64 (pos (c.args.id % 1001) -ℤ pos 500) (grind (arith, ints, small))))

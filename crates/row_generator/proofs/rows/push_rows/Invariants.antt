@@ -6,7 +6,8 @@ use Rattle.row_generator.proofs.rows.push_rows.Given as goal
 abbrev pub invariant-rows : goal.invariant-rows
 invariant-rows l = record {
   state : after_rows l.left l.draws.state ≡ after_rows l.count l.fn.draws.state;
-  text : l.out.items ++ rows_text l.front l.left l.id l.draws.state ≡ l.fn.out.items ++ rows_text l.front l.count l.first l.fn.draws.state;
+  text : l.out.items ++ rows_text l.front l.left l.id l.draws.state ≡ l.fn.out.items
+      ++ rows_text l.front l.count l.first l.fn.draws.state;
   short : length l.out.items + 128 * l.left ≤ length l.fn.out.items + 128 * l.count;
   ids : l.id + l.left ≡ l.first + l.count;
 }

@@ -1,4 +1,4 @@
-use Rattle.cube_laws.proofs.Orders.{equality_by}
+use Rattle.cube_laws.proofs.CallerLemmas.{equality_by}
 use Rattle.tree_laws.proofs.Apart.{record_stays}
 use Rattle.tree_laws.proofs.apart_from_a_row.record_apart_from_a_row_stays.Goals as goal
 

@@ -7,4 +7,5 @@ returns-clause-nodes g c =
 
 pub returns-clause-apart : goal.returns-clause-apart
 returns-clause-apart g c =
-    λ measures rows r p n x node is h m. target_apart g.met.V.Ord.total g.met.V.Value.apart measures rows p n node is r x h m
+    λ measures rows r p n x node is h m. target_apart g.met.V.Ord.total g.met.V.Value.apart measures rows p n
+    node is r x h m

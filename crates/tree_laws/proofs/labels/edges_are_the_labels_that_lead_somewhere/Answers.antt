@@ -3,4 +3,5 @@ use Rattle.tree_laws.proofs.labels.edges_are_the_labels_that_lead_somewhere.Goal
 
 pub returns : goal.returns
 returns g c =
-    λ measures rows p u n x node e is. record_edges g.met.V.Ord.total g.met.V.Value.apart measures rows p n node is u x e
+    λ measures rows p u n x node e is. record_edges g.met.V.Ord.total g.met.V.Value.apart measures rows p
+    n node is u x e

@@ -7,8 +7,10 @@ returns-clause-reach g c =
 
 pub returns-clause-other : goal.returns-clause-other
 returns-clause-other g c =
-    λ measures xs ys r p u w x k e f node o. other_edge_less g.met.V.Ord.total g.met.V.Value.apart measures xs r ys p u w k e f node x o
+    λ measures xs ys r p u w x k e f node o. other_edge_less g.met.V.Ord.total g.met.V.Value.apart measures xs r ys p u
+    w k e f node x o
 
 pub returns-clause-led : goal.returns-clause-led
 returns-clause-led g c =
-    λ measures xs ys r p u w t x k e f node m. own_edge_less g.met.V.Ord.total g.met.V.Value.apart measures xs r ys p u w k e f node x t m
+    λ measures xs ys r p u w t x k e f node m. own_edge_less g.met.V.Ord.total g.met.V.Value.apart measures xs r ys p u
+    w k e f node x t m

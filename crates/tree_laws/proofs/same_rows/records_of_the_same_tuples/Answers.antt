@@ -7,4 +7,5 @@ returns-clause-shapes g c =
 
 pub returns-clause-records : goal.returns-clause-records
 returns-clause-records g c =
-    λ measures rows more p f h same. record_by_tuples g.met.V.Ord.total g.met.V.Value.apart measures rows more f h p same
+    λ measures rows more p f h same. record_by_tuples g.met.V.Ord.total g.met.V.Value.apart measures rows
+    more f h p same

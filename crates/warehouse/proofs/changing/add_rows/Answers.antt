@@ -7,11 +7,18 @@ use Rattle.warehouse.proofs.changing.add_rows.Goals as goal
 
 pub returns-in-Err-Full-clause-adds : goal.returns-in-Err-Full-clause-adds
 returns-in-Err-Full-clause-adds c =
-    let adds = c.insert_rows.ensures.adds in
+    let adds = c.insert_table_rows.ensures.adds in
     let dict : c.values_full.new.dict ≡ c.args.dict.now =
     c.values_full.ensures.dict
-    ∙ cut-back c.args.dict.now c.insert_rows.new.dict c.cut_back.new.self (take c.from.result c.lengths-lens.result)
+    ∙ cut-back c.args.dict.now c.insert_table_rows.new.dict c.cut_back.new.self
+    (take c.from.result c.lengths-lens.result)
     (ap (λ (n : ℕ). take n c.lengths-lens.result) c.from.ensures ∙ c.lengths-lens.ensures.lengths)
     c.cut_back.ensures.lists c.cut_back.ensures.max adds.most_texts adds.longer in
-    subst (λ (d : TextLists). OnlyAdds c.args.dict.now d c.args.table.now c.insert_rows.new.table) (sym dict)
-    (record { longer = longer-same c.args.dict.now.lists; most_texts = refl; dictionary = c.requires.can.dictionary; front = adds.front; frame = adds.frame })
+    subst (λ (d : TextLists). OnlyAdds c.args.dict.now d c.args.table.now c.insert_table_rows.new.table) (sym dict)
+    (record {
+      longer = longer-same c.args.dict.now.lists;
+      most_texts = refl;
+      dictionary = c.requires.can.dictionary;
+      front = adds.front;
+      frame = adds.frame;
+    })

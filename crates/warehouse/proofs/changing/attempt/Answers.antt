@@ -15,40 +15,66 @@ returns-in-Err-clause-gives g c =
     (old, refused-so old c.args.batch.changes (refusal_in c.in-Err.refused) (c.in-Err.ensures.cause old))
 
 pub returns-in-Err-clause-back : goal.returns-in-Err-clause-back
-returns-in-Err-clause-back g c = record { stored = c.requires.stored; kept = c.requires.kept; same_state = refl; same_tree = refl; images = c.requires.images }
+returns-in-Err-clause-back g c = record {
+  stored = c.requires.stored;
+  kept = c.requires.kept;
+  same_state
+      = refl;
+  same_tree = refl;
+  images = c.requires.images;
+}
 
 pub change_and_build-built-requires-clause-fit : goal.change_and_build-built-requires-clause-fit
-change_and_build-built-requires-clause-fit g c = record { dims = c.requires.dims; measures = c.requires.measures; once = c.in-Ok.ensures.once; valid = c.len-records.ensures.valid }
+change_and_build-built-requires-clause-fit g c
+    = record {
+      dims = c.requires.dims;
+      measures = c.requires.measures;
+      once = c.in-Ok.ensures.once;
+      valid
+          = c.len-records.ensures.valid;
+    }
 
 pub returns-in-Ok-built-clause-gives : goal.returns-in-Ok-built-clause-gives
 returns-in-Ok-built-clause-gives g c =
     let built = c.change_and_build-built in (
       after (state_in c.args.schema.now c.args.cube.now) c.args.batch.changes,
-      made-gives c.args.schema.now c.args.cube.now c.begin-lens.new.self built.new.cube c.requires.stored c.requires.kept c.begin-lens.ensures.opened built.ensures.frames
-          c.args.batch c.len-records.ensures.valid c.in-Ok-built.ensures.made c.len-records.result c.class_count-classes.result c.is_valid.ensures c.len-records.ensures.count c.class_count-classes.ensures,
+      made-gives c.args.schema.now c.args.cube.now c.begin-lens.new.self built.new.cube c.requires.stored
+          c.requires.kept c.begin-lens.ensures.opened built.ensures.frames
+          c.args.batch c.len-records.ensures.valid c.in-Ok-built.ensures.made c.len-records.result
+          c.class_count-classes.result c.recall_invariant.ensures c.len-records.ensures.count
+          c.class_count-classes.ensures,
     )
 
 pub returns-in-Ok-built-clause-steps : goal.returns-in-Ok-built-clause-steps
 returns-in-Ok-built-clause-steps g c =
-    subst (λ (cube : Cube). c.change_and_build-built.new.steps ≤ c.args.steps.now + cost_in (state_in c.args.schema.now cube) c.args.batch.changes) c.begin-lens.ensures.opened
+    subst (λ (cube : Cube). c.change_and_build-built.new.steps ≤ c.args.steps.now
+    + cost_in (state_in c.args.schema.now cube) c.args.batch.changes) c.begin-lens.ensures.opened
     (c.in-Ok-built.ensures.in_place refl).steps
 
 pub returns-in-Ok-built-clause-back : goal.returns-in-Ok-built-clause-back
 returns-in-Ok-built-clause-back g c =
     let built = c.change_and_build-built in
-    taken-back c.args.schema.now c.args.cube.now c.begin-lens.new.self built.new.cube c.requires.stored c.requires.kept c.begin-lens.ensures.opened built.ensures.frames
-    c.roll_back.new.self (take c.from-dims.result c.begin-lens.result) (ap (λ (n : ℕ). take n c.begin-lens.result) (c.from-dims.ensures ∙ c.dims.ensures.count) ∙ c.begin-lens.ensures.lens) c.roll_back.ensures
+    taken-back c.args.schema.now c.args.cube.now c.begin-lens.new.self built.new.cube c.requires.stored c.requires.kept
+    c.begin-lens.ensures.opened built.ensures.frames
+    c.roll_back.new.self (take c.from-dims.result c.begin-lens.result)
+    (ap (λ (n : ℕ). take n c.begin-lens.result) (c.from-dims.ensures ∙ c.dims.ensures.count)
+    ∙ c.begin-lens.ensures.lens) c.roll_back.ensures
 
 pub returns-in-Err-built-clause-gives : goal.returns-in-Err-built-clause-gives
 returns-in-Err-built-clause-gives g c =
     let old = state_in c.args.schema.now c.args.cube.now in (
       old,
       refused-so old c.args.batch.changes (refusal_in c.in-Err-built.refused)
-          (subst (λ (cube : Cube). IsCause c.in-Err-built.refused (state_in c.args.schema.now cube) c.args.batch.changes) c.begin-lens.ensures.opened c.in-Err-built.ensures.cause),
+          (subst (λ (cube : Cube). IsCause c.in-Err-built.refused
+          (state_in c.args.schema.now cube) c.args.batch.changes) c.begin-lens.ensures.opened
+          c.in-Err-built.ensures.cause),
     )
 
 pub returns-in-Err-built-clause-back : goal.returns-in-Err-built-clause-back
 returns-in-Err-built-clause-back g c =
     let built = c.change_and_build-built in
-    taken-back c.args.schema.now c.args.cube.now c.begin-lens.new.self built.new.cube c.requires.stored c.requires.kept c.begin-lens.ensures.opened built.ensures.frames
-    c.roll_back.new.self (take c.from-dims.result c.begin-lens.result) (ap (λ (n : ℕ). take n c.begin-lens.result) (c.from-dims.ensures ∙ c.dims.ensures.count) ∙ c.begin-lens.ensures.lens) c.roll_back.ensures
+    taken-back c.args.schema.now c.args.cube.now c.begin-lens.new.self built.new.cube c.requires.stored c.requires.kept
+    c.begin-lens.ensures.opened built.ensures.frames
+    c.roll_back.new.self (take c.from-dims.result c.begin-lens.result)
+    (ap (λ (n : ℕ). take n c.begin-lens.result) (c.from-dims.ensures ∙ c.dims.ensures.count)
+    ∙ c.begin-lens.ensures.lens) c.roll_back.ensures

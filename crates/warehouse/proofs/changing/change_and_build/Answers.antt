@@ -7,13 +7,13 @@ use Rattle.cube_defs.specs.Tree.{nodes}
 use Rattle.qc_arena.specs.Map.{Arena, is_open}
 use Rattle.warehouse.specs.Batch.{rows_after}
 use Rattle.warehouse.specs.Changing.{state_in}
-use Rattle.warehouse.specs.InPlace.{cost_of, cost_of_batch, cost_of_going}
+use Rattle.warehouse.specs.InPlace.{cost_of_insertions, cost_of_batch, cost_of_deletions}
 use Rattle.warehouse.specs.State.{State}
-use Rattle.warehouse.specs.Steps.{rows_before, rows_behind}
+use Rattle.warehouse.specs.Steps.{rows_before, rows_from_place}
 use Rattle.warehouse.specs.Stored.{decoded_rows}
 use Rattle.warehouse.proofs.Causes.{last-full, last-none}
 use Rattle.warehouse.proofs.Counted.{nodes-decoded}
-use Rattle.warehouse.proofs.Repairing.{batch-apart, batch-numbers, batch-steps}
+use Rattle.warehouse.proofs.TreeInsertions.{batch-apart, batch-numbers, batch-steps}
 use Rattle.warehouse.proofs.changing.change_and_build.Goals as goal
 
 pub returns-in-Ok-make_tree-clause-made : goal.returns-in-Ok-make_tree-clause-made
@@ -22,11 +22,14 @@ returns-in-Ok-make_tree-clause-made g c =
     let dict = c.change_rows.new.cube.dict in
     let table = c.change_rows.new.cube.table in
     let is = c.in-Ok.ensures.made in
-    let max : c.change_rows.new.cube.tree.max ≡ c.args.schema.now.nodes = ap (λ (a : Arena). a.max) c.change_rows.ensures.frames.of_tree ∙ c.requires.begun.most_nodes in
-    let fits : length (nodes nat_cmp (rows_of table)) ≤ c.args.schema.now.nodes = subst (λ (max : ℕ). length (nodes nat_cmp (rows_of table)) ≤ max) max c.in-Ok-make_tree.ensures.fits in
+    let max : c.change_rows.new.cube.tree.max ≡ c.args.schema.now.nodes
+    = ap (λ (a : Arena). a.max) c.change_rows.ensures.frames.of_tree ∙ c.requires.begun.most_nodes in
+    let fits : length (nodes nat_cmp (rows_of table)) ≤ c.args.schema.now.nodes
+    = subst (λ (max : ℕ). length (nodes nat_cmp (rows_of table)) ≤ max) max c.in-Ok-make_tree.ensures.fits in
     record {
       none = is.last
-          ∙ last-none s c.args.batch.changes (decoded_rows dict.lists table) (length (nodes nat_cmp (rows_of table))) (ap (λ (t : State). t.rows) is.made)
+          ∙ last-none s c.args.batch.changes (decoded_rows dict.lists table) (length (nodes nat_cmp (rows_of table)))
+          (ap (λ (t : State). t.rows) is.made)
           (nodes-decoded dict.lists (rows_of table) is.known c.change_rows.ensures.frames.dictionary.distinct) fits;
       made = is.made;
       canonical = c.in-Ok-make_tree.ensures.tree;
@@ -46,20 +49,30 @@ returns-in-Ok-make_tree-clause-in_place g c = λ in_place.
     let here = c.change_rows.new.steps in
     let end = c.make_tree.new.steps in
     let known = c.requires.begun.stored.known in
-    let rows : decoded_rows now t' ≡ rows_after (decoded_rows lists t) c.args.batch.changes = ap (λ (s : State). s.rows) is.made in
+    let rows : decoded_rows now t' ≡ rows_after (decoded_rows lists t) c.args.batch.changes
+    = ap (λ (s : State). s.rows) is.made in
     let dims : t.dims ≡ length c.args.schema.now.dims = c.requires.begun.stored.dims in
     let dims' : t'.dims ≡ length c.args.schema.now.dims = ap (λ (t : Places). t.dims) frames.of_table ∙ dims in
-    let going : here ≤ begun + cost_of_going (length c.args.schema.now.dims) (rows_of t) (deleted c.args.batch.changes) =
-    subst (λ (n : ℕ). here ≤ begun + cost_of_going n (rows_of t) (deleted c.args.batch.changes)) dims is.steps in
-    let coming : end ≤ here + cost_of (length c.args.schema.now.dims) (rows_before t' c.in-Ok.first) (rows_behind t' c.in-Ok.first) =
-    subst (λ (n : ℕ). end ≤ here + cost_of n (rows_before t' c.in-Ok.first) (rows_behind t' c.in-Ok.first)) dims' (c.in-Ok-make_tree.ensures.steps in_place) in
+    let going : here ≤ begun + cost_of_deletions (length c.args.schema.now.dims) (rows_of t)
+    (deleted c.args.batch.changes) =
+    subst (λ (n : ℕ). here ≤ begun + cost_of_deletions n (rows_of t) (deleted c.args.batch.changes)) dims is.steps in
+    let coming : end ≤ here + cost_of_insertions (length c.args.schema.now.dims) (rows_before t' c.in-Ok.first)
+    (rows_from_place t' c.in-Ok.first) =
+    subst (λ (n : ℕ). end ≤ here + cost_of_insertions n (rows_before t' c.in-Ok.first)
+    (rows_from_place t' c.in-Ok.first)) dims' (c.in-Ok-make_tree.ensures.steps in_place) in
     record {
-      numbers = batch-numbers (rows_of t) t' c.in-Ok.first lists now c.args.batch.changes frames.longer known is.known frames.dictionary.distinct is.left rows
-          c.args.cube.now.tree.now c.change_rows.new.cube.tree.now c.make_tree.new.tree.now is.numbers (c.make_tree.ensures.numbers in_place);
-      apart = batch-apart (rows_of t) t' c.in-Ok.first lists now c.args.batch.changes frames.longer known is.known frames.dictionary.distinct is.left rows
-          c.args.cube.now.tree.now c.change_rows.new.cube.tree.now c.make_tree.new.tree.now is.apart (c.make_tree.ensures.apart in_place);
-      steps = subst (λ (ls : List (List Text)). end ≤ begun + cost_of_batch (length c.args.schema.now.dims) ls (decoded_rows lists t) c.args.batch.changes) (ap (λ (s : State). s.texts) is.made)
-          (batch-steps (rows_of t) t' c.in-Ok.first lists now c.args.batch.changes frames.longer known is.known frames.dictionary.distinct is.left rows
+      numbers = batch-numbers (rows_of t) t' c.in-Ok.first lists now c.args.batch.changes frames.longer known is.known
+          frames.dictionary.distinct is.left rows
+          c.args.cube.now.tree.now c.change_rows.new.cube.tree.now c.make_tree.new.tree.now is.numbers
+          (c.make_tree.ensures.numbers in_place);
+      apart = batch-apart (rows_of t) t' c.in-Ok.first lists now c.args.batch.changes frames.longer known is.known
+          frames.dictionary.distinct is.left rows
+          c.args.cube.now.tree.now c.change_rows.new.cube.tree.now c.make_tree.new.tree.now is.apart
+          (c.make_tree.ensures.apart in_place);
+      steps = subst (λ (ls : List (List Text)). end ≤ begun + cost_of_batch (length c.args.schema.now.dims) ls
+          (decoded_rows lists t) c.args.batch.changes) (ap (λ (s : State). s.texts) is.made)
+          (batch-steps (rows_of t) t' c.in-Ok.first lists now c.args.batch.changes frames.longer known is.known
+          frames.dictionary.distinct is.left rows
           (length c.args.schema.now.dims) begun here end going coming);
     }
 
@@ -77,24 +90,50 @@ make_tree-requires-clause-tree g c = c.in-Ok.ensures.made.before
 pub returns-in-Ok-make_tree-clause-frames : goal.returns-in-Ok-make_tree-clause-frames
 returns-in-Ok-make_tree-clause-frames g c =
     let frames = c.change_rows.ensures.frames in
-    record { longer = frames.longer; most_texts = frames.most_texts; dictionary = frames.dictionary; of_table = frames.of_table; of_tree = c.make_tree.ensures.frame ∙ frames.of_tree }
+    record {
+      longer = frames.longer;
+      most_texts = frames.most_texts;
+      dictionary = frames.dictionary;
+      of_table
+          = frames.of_table;
+      of_tree = c.make_tree.ensures.frame ∙ frames.of_tree;
+    }
 
 pub returns-in-Err-Full-clause-frames : goal.returns-in-Err-Full-clause-frames
 returns-in-Err-Full-clause-frames g c =
     let frames = c.change_rows.ensures.frames in
-    record { longer = frames.longer; most_texts = frames.most_texts; dictionary = frames.dictionary; of_table = frames.of_table; of_tree = c.make_tree.ensures.frame ∙ frames.of_tree }
+    record {
+      longer = frames.longer;
+      most_texts = frames.most_texts;
+      dictionary = frames.dictionary;
+      of_table
+          = frames.of_table;
+      of_tree = c.make_tree.ensures.frame ∙ frames.of_tree;
+    }
 
 pub returns-in-Err-Memory-clause-frames : goal.returns-in-Err-Memory-clause-frames
 returns-in-Err-Memory-clause-frames g c =
     let frames = c.change_rows.ensures.frames in
-    record { longer = frames.longer; most_texts = frames.most_texts; dictionary = frames.dictionary; of_table = frames.of_table; of_tree = c.make_tree.ensures.frame ∙ frames.of_tree }
+    record {
+      longer = frames.longer;
+      most_texts = frames.most_texts;
+      dictionary = frames.dictionary;
+      of_table
+          = frames.of_table;
+      of_tree = c.make_tree.ensures.frame ∙ frames.of_tree;
+    }
 
 pub returns-in-Err-Full-clause-cause : goal.returns-in-Err-Full-clause-cause
 returns-in-Err-Full-clause-cause g c =
     let s = state_in c.args.schema.now c.args.cube.now in
     let dict = c.change_rows.new.cube.dict in
     let table = c.change_rows.new.cube.table in
-    let max : c.change_rows.new.cube.tree.max ≡ c.args.schema.now.nodes = ap (λ (a : Arena). a.max) c.change_rows.ensures.frames.of_tree ∙ c.requires.begun.most_nodes in
+    let max : c.change_rows.new.cube.tree.max ≡ c.args.schema.now.nodes
+    = ap (λ (a : Arena). a.max) c.change_rows.ensures.frames.of_tree ∙ c.requires.begun.most_nodes in
     c.in-Ok.ensures.made.last
-    ∙ last-full s c.args.batch.changes (decoded_rows dict.lists table) (length (nodes nat_cmp (rows_of table))) (ap (λ (t : State). t.rows) c.in-Ok.ensures.made.made)
-    (nodes-decoded dict.lists (rows_of table) c.in-Ok.ensures.made.known c.change_rows.ensures.frames.dictionary.distinct) (subst (λ (max : ℕ). max < length (nodes nat_cmp (rows_of table))) max (c.in-Err-Full.ensures.full (ap Err c.in-Err-Full.field-0-is)))
+    ∙ last-full s c.args.batch.changes (decoded_rows dict.lists table) (length (nodes nat_cmp (rows_of table)))
+    (ap (λ (t : State). t.rows) c.in-Ok.ensures.made.made)
+    (nodes-decoded dict.lists (rows_of table) c.in-Ok.ensures.made.known
+    c.change_rows.ensures.frames.dictionary.distinct)
+    (subst (λ (max : ℕ). max < length (nodes nat_cmp (rows_of table))) max
+    (c.in-Err-Full.ensures.full (ap Err c.in-Err-Full.field-0-is)))

@@ -13,10 +13,13 @@ change_index-requires-clause-now g c =
     let table = c.change_and_build.new.cube.table in
     let frame = c.change_and_build.ensures.frames.of_table in (
       rows_of table,
-      tree-from c.args.schema.now table c.change_and_build.new.cube.tree.now c.is_valid.ensures (ap (λ (t : Places). t.dims) frame ∙ c.requires.begun.stored.dims)
+      tree-from c.args.schema.now table c.change_and_build.new.cube.tree.now c.recall_invariant.ensures
+          (ap (λ (t : Places). t.dims) frame ∙ c.requires.begun.stored.dims)
           (ap (λ (t : Places). t.measures) frame ∙ c.requires.begun.stored.measures) c.in-Ok.ensures.made.canonical,
     )
 
 pub change_index-requires-clause-before : goal.change_index-requires-clause-before
 change_index-requires-clause-before g c =
-    subst (λ (o : Option Shape). IfSome o (λ before. IsTreeOfSome c.args.schema.now before.tree × IsIndexed c.args.schema.now before.tree c.args.index.now)) (sym (ap (λ (a : Arena). a.was) c.change_and_build.ensures.frames.of_tree)) c.requires.before
+    subst (λ (o : Option Shape). IfSome o (λ before. IsTreeOfSome c.args.schema.now before.tree
+    × IsIndexed c.args.schema.now before.tree c.args.index.now))
+    (sym (ap (λ (a : Arena). a.was) c.change_and_build.ensures.frames.of_tree)) c.requires.before

@@ -17,11 +17,14 @@ returns-then-has c =
     let changes = c.args.batch.now.changes in
     let k = c.changes.before in
     let lt : k < length changes = omega (arith, c.changes-test.true, c.len-before-end.ensures.count) in
-    let is : is_deletion (change_at changes (k + 1)) ≡ false = grind (arith, c.is_delete.ensures, c.if-not-is_delete.true) in
+    let is : is_deletion (change_at changes (k + 1)) ≡ false
+    = grind (arith, c.is_delete.ensures, c.if-not-is_delete.true) in
     sym (number-here (is_there rows) changes k lt c.changes.invariant
-    (insertion-there rows (change_at changes (k + 1)) is ∙ sym (c.has.ensures ∙ ap (has_id rows) c.id.ensures) ∙ c.if-has.true))
+    (insertion-there rows (change_at changes (k + 1)) is ∙ sym (c.has.ensures ∙ ap (has_id rows) c.id.ensures)
+    ∙ c.if-has.true))
 
 pub returns : goal.returns
 returns c =
     let changes = c.args.batch.now.changes in
-    sym (number-none (is_there (rows_of c.args.table.now)) changes (λ j lt. c.changes.invariant j (omega (arith, lt, c.changes-test.false, c.len-before-end.ensures.count))))
+    sym (number-none (is_there (rows_of c.args.table.now)) changes
+    (λ j lt. c.changes.invariant j (omega (arith, lt, c.changes-test.false, c.len-before-end.ensures.count))))

@@ -5,14 +5,14 @@ use Rattle.csv_load.specs.Batch.{Delete, deleted}
 use Rattle.cube_defs.specs.Tree.{IsCanonical, nodes}
 use Rattle.qc_arena.specs.Map as arena
 use Rattle.warehouse.specs.Batch.{is_missing}
-use Rattle.warehouse.specs.InPlace.{KeepsApart, KeepsNodes, cost_of_going, gone, kept}
+use Rattle.warehouse.specs.InPlace.{KeepsOtherRecords, KeepsNodes, cost_of_deletions, gone, kept}
 use Rattle.warehouse.specs.State.{ids_of}
 use Rattle.warehouse.specs.Steps.{frame}
-use Rattle.warehouse.proofs.Going.{deletion_of}
+use Rattle.warehouse.proofs.Deletions.{deletion_of}
 use Rattle.warehouse.proofs.deleting.delete_rows.Given as goal
 
-abbrev pub ghost-take_out : goal.ghost-take_out
-ghost-take_out g a = deletion_of a.table.now a.id
+abbrev pub ghost-delete_id : goal.ghost-delete_id
+ghost-delete_id g a = deletion_of a.table.now a.id
 
 abbrev pub invariant-changes : goal.invariant-changes
 invariant-changes g l =
@@ -25,7 +25,7 @@ invariant-changes g l =
       canonical : IsCanonical nat_cmp l.initial.table.measures (kept ids begun) l.tree.now;
       fits : length (nodes nat_cmp (kept ids begun)) ≤ l.initial.tree.max;
       numbers : KeepsNodes (kept ids begun) l.initial.tree.now l.tree.now;
-      apart : KeepsApart (gone ids begun) l.initial.tree.now l.tree.now;
-      steps : l.steps ≤ l.initial.steps + cost_of_going l.initial.table.dims begun ids;
+      apart : KeepsOtherRecords (gone ids begun) l.initial.tree.now l.tree.now;
+      steps : l.steps ≤ l.initial.steps + cost_of_deletions l.initial.table.dims begun ids;
       tree_frame : arena.frame l.tree ≡ arena.frame l.initial.tree;
     }

@@ -12,27 +12,36 @@ use Rattle.warehouse.proofs.indexing.change_index.Goals as goal
 pub change-requires-clause-add : goal.change-requires-clause-add
 change-requires-clause-add c =
     let tree = c.args.tree.now in
-    let b : IsBegun c.args.schema.now tree c.args.index.now = begun c.args.schema.now tree c.args.index.now c.requires.opened c.requires.before in
+    let b : IsBegun c.args.schema.now tree c.args.index.now
+    = begun c.args.schema.now tree c.args.index.now c.requires.opened c.requires.before in
     subst (λ (ps : List (NodeNo × Agg)). All (λ r. HaveMeasure r.kind ps) c.args.index.now) (sym c.deref.ensures.value)
-    (measured c.args.schema.now tree.now c.args.index.now c.requires.layout c.requires.now b.indexed.kinds (class_was tree) c.in_ok-added.added.items c.in_ok-added.ensures)
+    (measured c.args.schema.now tree.now c.args.index.now c.requires.layout c.requires.now b.indexed.kinds
+    (class_was tree) c.in_ok-added.added.items c.in_ok-added.ensures)
 
 pub change-requires-clause-remove : goal.change-requires-clause-remove
 change-requires-clause-remove c =
     let tree = c.args.tree.now in
-    let b : IsBegun c.args.schema.now tree c.args.index.now = begun c.args.schema.now tree c.args.index.now c.requires.opened c.requires.before in
-    subst (λ (ps : List (NodeNo × Agg)). All (λ r. HaveMeasure r.kind ps) c.args.index.now) (sym c.deref-2.ensures.value)
-    (measured c.args.schema.now b.tree c.args.index.now c.requires.layout b.is b.indexed.kinds (class_now tree) c.in_ok-removed.removed.items
-    (subst (λ (class : ℕ → Option defs.Agg). AreNew (class_now tree) class c.in_ok-removed.removed.items) b.was c.in_ok-removed.ensures))
+    let b : IsBegun c.args.schema.now tree c.args.index.now
+    = begun c.args.schema.now tree c.args.index.now c.requires.opened c.requires.before in
+    subst (λ (ps : List (NodeNo × Agg)). All (λ r. HaveMeasure r.kind ps) c.args.index.now)
+    (sym c.deref-2.ensures.value)
+    (measured c.args.schema.now b.tree c.args.index.now c.requires.layout b.is b.indexed.kinds
+    (class_now tree) c.in_ok-removed.removed.items
+    (subst (λ (class : ℕ → Option defs.Agg). AreNew (class_now tree) class c.in_ok-removed.removed.items) b.was
+    c.in_ok-removed.ensures))
 
 pub returns-clause-indexed : goal.returns-clause-indexed
 returns-clause-indexed c =
     let tree = c.args.tree.now in
-    let b : IsBegun c.args.schema.now tree c.args.index.now = begun c.args.schema.now tree c.args.index.now c.requires.opened c.requires.before in
+    let b : IsBegun c.args.schema.now tree c.args.index.now
+    = begun c.args.schema.now tree c.args.index.now c.requires.opened c.requires.before in
     record {
       classes =
           c.in_ok-change.ensures.classes (class_was tree) (class_now tree)
-          (subst (λ (ps : List (NodeNo × Agg)). AreNew (class_was tree) (class_now tree) ps) (sym c.deref.ensures.value) c.in_ok-added.ensures)
-          (subst (λ (ps : List (NodeNo × Agg)). AreNew (class_now tree) (class_was tree) ps) (sym c.deref-2.ensures.value) c.in_ok-removed.ensures)
+          (subst (λ (ps : List (NodeNo × Agg)). AreNew (class_was tree) (class_now tree) ps)
+          (sym c.deref.ensures.value) c.in_ok-added.ensures)
+          (subst (λ (ps : List (NodeNo × Agg)). AreNew (class_now tree) (class_was tree) ps)
+          (sym c.deref-2.ensures.value) c.in_ok-removed.ensures)
           (subst (λ (class : ℕ → Option defs.Agg). IsIndex class c.args.index.now) (sym b.was) b.indexed.classes);
       kinds = c.in_ok-change.ensures.units ∙ b.indexed.kinds;
     }

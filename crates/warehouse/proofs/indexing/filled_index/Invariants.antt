@@ -1,7 +1,7 @@
 use Rattle.std.proofs.Common.{◌≡◌, List, map}
 use Rattle.aggregates.specs.declared.agg.Agg.{Agg}
 use Rattle.cell_core.specs.declared.cell.NodeNo.{NodeNo}
-use Rattle.measure_index.specs.Filling.{AreKeysOf, coming_units}
+use Rattle.measure_index.specs.Builder.{AreKeysOf, gathered_units}
 use Rattle.qc_arena.specs.Changes.{class_now}
 use Rattle.warehouse.proofs.Indexed.{unit-in}
 use Rattle.warehouse.proofs.ListedClasses.{AreListed}
@@ -9,6 +9,6 @@ use Rattle.warehouse.proofs.indexing.filled_index.Given as goal
 
 abbrev pub invariant-numbers : goal.invariant-numbers
 invariant-numbers l = record {
-  units : coming_units l.filling ≡ map (unit-in l.schema) l.schema.indexes;
+  units : gathered_units l.filling ≡ map (unit-in l.schema) l.schema.indexes;
   classes : (pairs : List (NodeNo × Agg)) × AreKeysOf pairs l.filling × AreListed (class_now l.tree) l.number pairs;
 }

@@ -17,4 +17,5 @@ returns c =
     let measures = c.args.schema.now.measures in
     let same : take c.from-count.result c.scales-all.result ≡ map (λ (m : Measure). m.scale) measures =
     ap (λ (n : ℕ). take n c.scales-all.result) (c.from-count.ensures ∙ c.measures.ensures) ∙ c.scales-all.ensures in
-    made-empty c.args.schema.now (take c.from-count.result c.scales-all.result) c.indexes.result.now c.new.result same c.indexes.ensures c.new.ensures.value c.new.ensures.classes
+    made-empty c.args.schema.now (take c.from-count.result c.scales-all.result) c.indexes.result.now c.new.result same
+    c.indexes.ensures c.new.ensures.value c.new.ensures.classes

@@ -18,10 +18,14 @@ columns-init c = record {
 }
 
 pub returns-in-Err-Full-clause-longer : goal.returns-in-Err-Full-clause-longer
-returns-in-Err-Full-clause-longer c = longer-longer c.args.dict.now.lists c.columns.dict.lists c.learn_column.new.dict.lists c.columns.invariant.longer c.in-Err-Full.ensures.longer
+returns-in-Err-Full-clause-longer c
+    = longer-longer c.args.dict.now.lists c.columns.dict.lists c.learn_column.new.dict.lists c.columns.invariant.longer
+    c.in-Err-Full.ensures.longer
 
 pub returns-in-Err-Memory-clause-longer : goal.returns-in-Err-Memory-clause-longer
-returns-in-Err-Memory-clause-longer c = longer-longer c.args.dict.now.lists c.columns.dict.lists c.learn_column.new.dict.lists c.columns.invariant.longer c.in-Err-Memory.ensures.longer
+returns-in-Err-Memory-clause-longer c
+    = longer-longer c.args.dict.now.lists c.columns.dict.lists c.learn_column.new.dict.lists c.columns.invariant.longer
+    c.in-Err-Memory.ensures.longer
 
 pub returns-in-Err-Full-clause-first : goal.returns-in-Err-Full-clause-first
 returns-in-Err-Full-clause-first c =
@@ -34,9 +38,16 @@ returns-in-Err-Full-clause-first c =
     let over = c.learn_column.ensures.full (c.in-Err-Full.is ∙ ap Err c.in-Err-Full.field-0-is) in
     let here : get_or c.columns.dict.lists dim [] ≡ get_or lists dim [] = inv.left dim (omega arith) in
     let at = λ (k : ℕ) (below : k < batch.dims). texts-at batch lists k c.requires.valid c.requires.lists below in
-    full-first max (texts_after lists batch.changes) dim (omega (arith, lt, length-after lists batch.changes, c.requires.lists))
+    full-first max (texts_after lists batch.changes) dim
+    (omega (arith, lt, length-after lists batch.changes, c.requires.lists))
     (λ k below. omega (arith, inv.within k below, ap (λ (texts : List Text). length texts) (at k (omega arith))))
-    (omega (arith, over, inv.max, ap (λ (texts : List Text). length (column_after texts dim batch.changes)) here, ap (λ (texts : List Text). length texts) (at dim lt)))
+    (omega (
+      arith,
+      over,
+      inv.max,
+      ap (λ (texts : List Text). length (column_after texts dim batch.changes)) here,
+      ap (λ (texts : List Text). length texts) (at dim lt),
+    ))
 
 pub columns-preserved : goal.columns-preserved
 columns-preserved c =
@@ -45,19 +56,29 @@ columns-preserved c =
     let lists = c.args.dict.now.lists in
     let dim = c.columns.dim in
     let here : get_or c.columns.dict.lists dim [] ≡ get_or lists dim [] = inv.left dim (omega arith) in
-    let there : dim < length c.columns.dict.lists = omega (arith, c.columns-test.true, c.requires.dims, c.requires.lists, inv.longer.dims) in
+    let there : dim < length c.columns.dict.lists
+    = omega (arith, c.columns-test.true, c.requires.dims, c.requires.lists, inv.longer.dims) in
     let learnt : get_or c.learn_column.new.dict.lists dim [] ≡ column_after (get_or lists dim []) dim batch.changes =
     ap (λ (ls : List (List Text)). get_or ls dim []) c.in-Ok.ensures.ok
-    ∙ get_or-set_same c.columns.dict.lists dim (column_after (get_or c.columns.dict.lists dim []) dim batch.changes) [] there
+    ∙ get_or-set_same c.columns.dict.lists dim
+    (column_after (get_or c.columns.dict.lists dim []) dim batch.changes) [] there
     ∙ ap (λ (texts : List Text). column_after texts dim batch.changes) here in
     let last : length (column_after (get_or lists dim []) dim batch.changes) ≤ c.args.dict.now.max =
-    omega (arith, c.in-Ok.ensures.dictionary.within dim [] (omega (arith, there, c.in-Ok.ensures.longer.dims)), ap (λ (texts : List Text). length texts) learnt, c.learn_column.ensures.max, inv.max) in
+    omega (
+      arith,
+      c.in-Ok.ensures.dictionary.within dim [] (omega (arith, there, c.in-Ok.ensures.longer.dims)),
+      ap (λ (texts : List Text). length texts) learnt,
+      c.learn_column.ensures.max,
+      inv.max,
+    ) in
     record {
       max = c.learn_column.ensures.max ∙ inv.max;
       dictionary = c.in-Ok.ensures.dictionary;
       longer = longer-longer lists c.columns.dict.lists c.learn_column.new.dict.lists inv.longer c.in-Ok.ensures.longer;
-      left = λ k le. ap (λ (ls : List (List Text)). get_or ls k []) c.in-Ok.ensures.ok ∙ get_or-set_other c.columns.dict.lists dim k _ [] (omega arith) ∙ inv.left k (omega arith);
-      within = below_more (λ (k : ℕ). length (column_after (get_or lists k []) k batch.changes) ≤ c.args.dict.now.max) dim inv.within last;
+      left = λ k le. ap (λ (ls : List (List Text)). get_or ls k []) c.in-Ok.ensures.ok
+          ∙ get_or-set_other c.columns.dict.lists dim k _ [] (omega arith) ∙ inv.left k (omega arith);
+      within = below_more (λ (k : ℕ). length (column_after (get_or lists k []) k batch.changes) ≤ c.args.dict.now.max)
+          dim inv.within last;
     }
 
 pub unreachable-requires : goal.unreachable-requires
@@ -70,7 +91,11 @@ unreachable-requires c =
     let within : All (λ (texts : List Text). length texts ≤ max) after =
     All-from_get_or (λ (texts : List Text). length texts ≤ max) after [] (λ k lt.
     let below : k < batch.dims = omega (arith, lt, length-after lists batch.changes, c.requires.lists) in
-    omega (arith, inv.within k (omega (arith, below, c.columns-test.false, c.requires.dims)), ap (λ (texts : List Text). length texts) (texts-at batch lists k c.requires.valid c.requires.lists below)))
+    omega (
+      arith,
+      inv.within k (omega (arith, below, c.columns-test.false, c.requires.dims)),
+      ap (λ (texts : List Text). length texts) (texts-at batch lists k c.requires.valid c.requires.lists below),
+    ))
     in
     let none : full_dim max after ≡ None = full-none max after within in
     let over = rw none at c.requires.over in

@@ -9,5 +9,6 @@ invariant-columns l = record {
   dictionary : IsDictionary l.dict;
   longer : AreLonger l.initial.dict.lists l.dict.lists;
   left : (k : ℕ) → l.dim ≤ k → get_or l.dict.lists k [] ≡ get_or l.initial.dict.lists k [];
-  within : (k : ℕ) → k < l.dim → length (column_after (list_at l.initial.dict k) k l.batch.changes) ≤ l.initial.dict.max;
+  within : (k : ℕ) → k < l.dim
+      → length (column_after (list_at l.initial.dict k) k l.batch.changes) ≤ l.initial.dict.max;
 }

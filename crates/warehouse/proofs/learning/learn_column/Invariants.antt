@@ -6,7 +6,8 @@ use Rattle.warehouse.proofs.learning.learn_column.Given as goal
 
 abbrev pub invariant-changes : goal.invariant-changes
 invariant-changes l = record {
-  lists : l.dict.lists ≡ slice_set l.initial.dict.lists l.dim (column_after (list_at l.initial.dict l.dim) l.dim (take l.before l.batch.changes));
+  lists : l.dict.lists ≡ slice_set l.initial.dict.lists l.dim
+      (column_after (list_at l.initial.dict l.dim) l.dim (take l.before l.batch.changes));
   max : l.dict.max ≡ l.initial.dict.max;
   dictionary : IsDictionary l.dict;
   longer : AreLonger l.initial.dict.lists l.dict.lists;

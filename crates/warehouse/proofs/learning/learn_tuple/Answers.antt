@@ -24,13 +24,17 @@ returns-in-Err-clause-full c = λ e.
     let lists = c.args.dict.now.lists in
     let dim = c.dims.dim in
     let tuple = tuple_of (change_at batch.changes c.args.k) in
-    let wide : length tuple ≡ batch.dims = insertion-wide batch.dims batch.measures (change_at batch.changes c.args.k) c.requires.inserts (loaded-at batch c.args.k c.requires.valid c.requires.first c.requires.last) in
-    let lt : dim < length lists = omega (arith, c.dims-test.true, c.dims-dim-end.ensures.value, c.requires.dims, c.requires.cell_dims) in
+    let wide : length tuple ≡ batch.dims
+    = insertion-wide batch.dims batch.measures (change_at batch.changes c.args.k) c.requires.inserts
+    (loaded-at batch c.args.k c.requires.valid c.requires.first c.requires.last) in
+    let lt : dim < length lists
+    = omega (arith, c.dims-test.true, c.dims-dim-end.ensures.value, c.requires.dims, c.requires.cell_dims) in
     let same : c.in-Err.refused ≡ Full = cc in
     let both = c.in-Err.ensures.full.0 (ap Err same) in
     let here : get_or c.dims.dict.lists dim [] ≡ get_or lists dim [] = c.dims.invariant.left dim (omega arith) in
     over-tuple lists tuple dim c.args.dict.now.max lt (omega (arith, lt, wide, c.requires.dims))
-    (ap₂ code_in (sym here) (sym c.text.ensures) ∙ both.0) (ap (λ (ts : List Text). length ts) (sym here) ∙ both.1 ∙ c.dims.invariant.max)
+    (ap₂ code_in (sym here) (sym c.text.ensures) ∙ both.0) (ap (λ (ts : List Text). length ts) (sym here) ∙ both.1
+    ∙ c.dims.invariant.max)
 
 pub dims-preserved : goal.dims-preserved
 dims-preserved c =
@@ -39,25 +43,49 @@ dims-preserved c =
     let first = c.args.dict.now.lists in
     let lists = c.dims.dict.lists in
     let dim = c.dims.dim in
-    let lt : dim < length lists = omega (arith, c.dims-test.true, c.dims-dim-end.ensures.value, c.requires.dims, c.requires.cell_dims, inv.longer.dims) in
+    let lt : dim < length lists
+    = omega (
+      arith,
+      c.dims-test.true,
+      c.dims-dim-end.ensures.value,
+      c.requires.dims,
+      c.requires.cell_dims,
+      inv.longer.dims,
+    ) in
     let in_cell : dim < length c.dims.cell = omega (arith, c.dims-test.true, c.dims-dim-end.ensures.value, inv.cell) in
     let more : c.learn.new.self.lists ≡ set lists dim (learnt_in (get_or lists dim []) (text_at changes c.args.k dim)) =
-    ap (λ (d : TextLists). d.lists) c.in-Ok.ensures.ok ∙ ap (λ (text : Text). set lists dim (learnt_in (get_or lists dim []) text)) c.text.ensures in
-    let code : code_in (get_or c.learn.new.self.lists dim []) (text_at changes c.args.k dim) ≡ Some c.in-Ok.code = ap (code_in (get_or c.learn.new.self.lists dim [])) (sym c.text.ensures) ∙ c.in-Ok.ensures.code in
+    ap (λ (d : TextLists). d.lists) c.in-Ok.ensures.ok
+    ∙ ap (λ (text : Text). set lists dim (learnt_in (get_or lists dim []) text)) c.text.ensures in
+    let code : code_in (get_or c.learn.new.self.lists dim []) (text_at changes c.args.k dim) ≡ Some c.in-Ok.code
+    = ap (code_in (get_or c.learn.new.self.lists dim [])) (sym c.text.ensures) ∙ c.in-Ok.ensures.code in
     record {
       cell = c.set.ensures.dims ∙ inv.cell;
       max = ap (λ (d : TextLists). d.max) c.in-Ok.ensures.ok ∙ inv.max;
       dictionary = c.in-Ok.ensures.dictionary;
-      longer = longer-longer first lists c.learn.new.self.lists inv.longer (rw more (longer-set lists dim (text_at changes c.args.k dim)));
-      done = learnt-more first lists c.learn.new.self.lists c.dims.cell c.set.new.self (text_at changes c.args.k) dim c.in-Ok.code lt in_cell (inv.left dim (omega arith)) more code c.set.ensures.value inv.done;
-      left = λ k le. ap (λ (ls : List (List Text)). get_or ls k []) more ∙ get_or-set_other lists dim k _ [] (omega arith) ∙ inv.left k (omega arith);
+      longer = longer-longer first lists c.learn.new.self.lists inv.longer
+          (rw more (longer-set lists dim (text_at changes c.args.k dim)));
+      done = learnt-more first lists c.learn.new.self.lists c.dims.cell c.set.new.self
+          (text_at changes c.args.k) dim c.in-Ok.code lt in_cell (inv.left dim (omega arith)) more code
+          c.set.ensures.value inv.done;
+      left = λ k le. ap (λ (ls : List (List Text)). get_or ls k []) more
+          ∙ get_or-set_other lists dim k _ [] (omega arith) ∙ inv.left k (omega arith);
     }
 
 pub returns-clause-learnt : goal.returns-clause-learnt
 returns-clause-learnt c =
     let batch = c.args.batch.now in
     let inv = c.dims.invariant in
-    let wide : length (tuple_of (change_at batch.changes c.args.k)) ≡ batch.dims = insertion-wide batch.dims batch.measures (change_at batch.changes c.args.k) c.requires.inserts (loaded-at batch c.args.k c.requires.valid c.requires.first c.requires.last) in
-    learnt-all c.args.dict.now.lists c.dims.dict.lists (tuple_of (change_at batch.changes c.args.k)) c.dims.cell inv.longer.dims
+    let wide : length (tuple_of (change_at batch.changes c.args.k)) ≡ batch.dims
+    = insertion-wide batch.dims batch.measures (change_at batch.changes c.args.k) c.requires.inserts
+    (loaded-at batch c.args.k c.requires.valid c.requires.first c.requires.last) in
+    learnt-all c.args.dict.now.lists c.dims.dict.lists (tuple_of (change_at batch.changes c.args.k)) c.dims.cell
+    inv.longer.dims
     (omega (arith, wide, c.requires.dims)) (omega (arith, inv.cell, c.requires.dims, c.requires.cell_dims))
-    (λ k lt. inv.done k (omega (arith, lt, c.dims-test.false, c.dims-dim-end.ensures.value, c.requires.dims, c.requires.cell_dims)))
+    (λ k lt. inv.done k (omega (
+      arith,
+      lt,
+      c.dims-test.false,
+      c.dims-dim-end.ensures.value,
+      c.requires.dims,
+      c.requires.cell_dims,
+    )))

@@ -11,6 +11,8 @@ invariant-dims l = record {
   max : l.dict.max ≡ l.initial.dict.max;
   dictionary : IsDictionary l.dict;
   longer : AreLonger l.initial.dict.lists l.dict.lists;
-  done : (k : ℕ) → k < l.dim → IsTextLearnt (get_or l.initial.dict.lists k []) (get_or l.dict.lists k []) (text_at l.batch.changes l.k k) (get_or l.cell k None);
+  done : (k : ℕ) → k < l.dim
+      → IsTextLearnt (get_or l.initial.dict.lists k []) (get_or l.dict.lists k []) (text_at l.batch.changes l.k k)
+      (get_or l.cell k None);
   left : (k : ℕ) → l.dim ≤ k → get_or l.dict.lists k [] ≡ get_or l.initial.dict.lists k [];
 }

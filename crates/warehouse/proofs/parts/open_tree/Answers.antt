@@ -14,26 +14,31 @@ opened a = record a { was = Some (shape_of a); touched = set.empty; last = finma
 pub rebuild-requires-clause-width : goal.rebuild-requires-clause-width
 rebuild-requires-clause-width g c =
     let l = c.args.schema.now in
-    let made : c.in_ok-tree.tree ≡ no_nodes (length l.dims) l.nodes = c.in_ok-tree.ensures ∙ ap₂ no_nodes c.dims.ensures.count c.nodes.ensures in
+    let made : c.in_ok-tree.tree ≡ no_nodes (length l.dims) l.nodes = c.in_ok-tree.ensures
+    ∙ ap₂ no_nodes c.dims.ensures.count c.nodes.ensures in
     ap (λ (a : Arena). a.width) (c.begin.ensures ∙ ap opened made) ∙ sym c.requires
 
 pub returns-in-Ok-clause-tree : goal.returns-in-Ok-clause-tree
 returns-in-Ok-clause-tree g c =
     let l = c.args.schema.now in
-    let made : c.in_ok-tree.tree ≡ no_nodes (length l.dims) l.nodes = c.in_ok-tree.ensures ∙ ap₂ no_nodes c.dims.ensures.count c.nodes.ensures in
+    let made : c.in_ok-tree.tree ≡ no_nodes (length l.dims) l.nodes = c.in_ok-tree.ensures
+    ∙ ap₂ no_nodes c.dims.ensures.count c.nodes.ensures in
     let begun : c.begin.new.self ≡ opened (no_nodes (length l.dims) l.nodes) = c.begin.ensures ∙ ap opened made in
     let same = c.rebuild.ensures.frame in
     record {
       was = ap (λ (a : Arena). a.was) same ∙ ap (λ (a : Arena). a.was) begun;
       width = ap (λ (a : Arena). a.width) same ∙ ap (λ (a : Arena). a.width) begun;
       max = ap (λ (a : Arena). a.max) same ∙ ap (λ (a : Arena). a.max) begun;
-      few = subst (λ (n : ℕ). length (nodes nat_cmp (rows_of c.args.table.now)) ≤ n) (ap (λ (a : Arena). a.max) begun) c.in-Ok.ensures.fits;
+      few = subst (λ (n : ℕ). length (nodes nat_cmp (rows_of c.args.table.now)) ≤ n)
+          (ap (λ (a : Arena). a.max) begun) c.in-Ok.ensures.fits;
       canonical = c.in-Ok.ensures.tree;
     }
 
 pub returns-in-Err-Full-clause-full : goal.returns-in-Err-Full-clause-full
 returns-in-Err-Full-clause-full g c = λ _.
     let l = c.args.schema.now in
-    let made : c.in_ok-tree.tree ≡ no_nodes (length l.dims) l.nodes = c.in_ok-tree.ensures ∙ ap₂ no_nodes c.dims.ensures.count c.nodes.ensures in
+    let made : c.in_ok-tree.tree ≡ no_nodes (length l.dims) l.nodes = c.in_ok-tree.ensures
+    ∙ ap₂ no_nodes c.dims.ensures.count c.nodes.ensures in
     let begun : c.begin.new.self ≡ opened (no_nodes (length l.dims) l.nodes) = c.begin.ensures ∙ ap opened made in
-    subst (λ (n : ℕ). n < length (nodes nat_cmp (rows_of c.args.table.now))) (ap (λ (a : Arena). a.max) begun) (c.in-Err-Full.ensures.full (ap Err c.in-Err-Full.field-0-is))
+    subst (λ (n : ℕ). n < length (nodes nat_cmp (rows_of c.args.table.now))) (ap (λ (a : Arena). a.max) begun)
+    (c.in-Err-Full.ensures.full (ap Err c.in-Err-Full.field-0-is))

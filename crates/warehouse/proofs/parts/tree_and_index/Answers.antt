@@ -14,24 +14,31 @@ use Rattle.std.specs.Prelude.{ℕ}
 pub change_index-requires-clause-before : goal.change_index-requires-clause-before
 change_index-requires-clause-before g c =
     let l = c.args.schema.now in
-    subst (λ (was : Option Shape). IfSome was (λ before. IsTreeOfSome l before.tree × IsIndexed l before.tree c.in_ok-index.index)) (sym c.in-Ok.ensures.tree.was)
+    subst (λ (was : Option Shape). IfSome was (λ before. IsTreeOfSome l before.tree
+    × IsIndexed l before.tree c.in_ok-index.index)) (sym c.in-Ok.ensures.tree.was)
     (([], (kept-empty l).from), c.in_ok-index.ensures)
 
 pub change_index-requires-clause-now : goal.change_index-requires-clause-now
 change_index-requires-clause-now g c =
-    let t = c.args.table.now in
-    (rows_of t, tree-from c.args.schema.now t c.in-Ok.tree.now c.requires.valid c.requires.dims c.requires.measures c.in-Ok.ensures.tree.canonical)
+    let t = c.args.table.now in (
+      rows_of t,
+      tree-from c.args.schema.now t c.in-Ok.tree.now c.requires.valid c.requires.dims c.requires.measures
+          c.in-Ok.ensures.tree.canonical,
+    )
 
 pub returns-clause-tree : goal.returns-clause-tree
 returns-clause-tree g c =
     let t = c.args.table.now in
     let is = c.in-Ok.ensures.tree in
     let now = ap (λ (a : Arena). a.now) c.drop_images.ensures ∙ ap (λ (a : Arena). a.now) c.commit.ensures.value in
-    kept-canonical c.args.schema.now t c.drop_images.new.self c.requires.valid c.requires.dims c.requires.measures (ap is_open c.drop_images.ensures ∙ ap is_open c.commit.ensures.value)
-    (ap (λ (a : Arena). a.width) c.drop_images.ensures ∙ ap (λ (a : Arena). a.width) c.commit.ensures.value ∙ is.width) (ap (λ (a : Arena). a.max) c.drop_images.ensures ∙ ap (λ (a : Arena). a.max) c.commit.ensures.value ∙ is.max)
+    kept-canonical c.args.schema.now t c.drop_images.new.self c.requires.valid c.requires.dims c.requires.measures
+    (ap is_open c.drop_images.ensures ∙ ap is_open c.commit.ensures.value)
+    (ap (λ (a : Arena). a.width) c.drop_images.ensures ∙ ap (λ (a : Arena). a.width) c.commit.ensures.value ∙ is.width)
+    (ap (λ (a : Arena). a.max) c.drop_images.ensures ∙ ap (λ (a : Arena). a.max) c.commit.ensures.value ∙ is.max)
     is.few (subst (λ (tree : Tree ℕ). IsCanonical nat_cmp t.measures (rows_of t) tree) (sym now) is.canonical)
 
 pub returns-clause-index : goal.returns-clause-index
 returns-clause-index g c =
     let now = ap (λ (a : Arena). a.now) c.drop_images.ensures ∙ ap (λ (a : Arena). a.now) c.commit.ensures.value in
-    subst (λ (tree : Tree ℕ). IsIndexed c.args.schema.now tree c.change_index.new.index) (sym now) c.in-Ok-change_index.ensures.indexed
+    subst (λ (tree : Tree ℕ). IsIndexed c.args.schema.now tree c.change_index.new.index)
+    (sym now) c.in-Ok-change_index.ensures.indexed

@@ -8,13 +8,13 @@ use Rattle.cube_defs.specs.Rows.{Row}
 use Rattle.cube_defs.specs.Text.{text_cmp}
 use Rattle.cube_defs.specs.Tree.{Tree, classes}
 use Rattle.qc_arena.specs.Codes.{Shape}
-use Rattle.qc_schema.proofs.Keeping.{dims-few}
+use Rattle.qc_schema.proofs.CallerLemmas.{dims-few}
 use Rattle.qc_schema.specs.Schema.{IsLayout, Layout, with_dim}
 use Rattle.tree_laws.specs.Counts.{classes_in}
 use Rattle.tree_search.specs.Found.{IsTreeOf}
 use Rattle.value_dict.specs.TextLists as texts
 use Rattle.value_dict.specs.TextLists.{IsDictionary, TextLists}
-use Rattle.value_dict.specs.Told.{RowsAreCodes, decoded_row}
+use Rattle.value_dict.specs.Decoded.{RowsAreCodes, decoded_row}
 use Rattle.warehouse.specs.Batch.{Applied}
 use Rattle.warehouse.specs.Changing.{AreParts}
 use Rattle.warehouse.specs.State.{Contents, IsIndexed, State}
@@ -36,8 +36,11 @@ returns-in-Some-clause-gives g c =
     let stored = c.requires.parts.stored in
     let from = c.requires.parts.kept.from in
     let count : finmap.len tree + classes_in nat_cmp tree ≡ nodes_then (state_of schema dict table) =
-    ap₂ (λ (m n : ℕ). m + n) (nodes-kept dict.lists (rows_of table) stored.known stored.dictionary.distinct _ _ tree from) (classes-kept dict.lists (rows_of table) stored.known stored.dictionary.distinct _ _ tree from) in
-    refused-full (state_of schema dict table) c.args.name.now c.args.value.now _ count c.in-Some.refused (sym c.in-Some.is ∙ c.full_cause.ensures)
+    ap₂ (λ (m n : ℕ). m + n)
+    (nodes-kept dict.lists (rows_of table) stored.known stored.dictionary.distinct _ _ tree from)
+    (classes-kept dict.lists (rows_of table) stored.known stored.dictionary.distinct _ _ tree from) in
+    refused-full (state_of schema dict table) c.args.name.now c.args.value.now _ count c.in-Some.refused
+    (sym c.in-Some.is ∙ c.widen_refusal.ensures)
 
 pub widen_parts-requires : goal.widen_parts-requires
 widen_parts-requires g c =
@@ -48,7 +51,8 @@ widen_parts-requires g c =
     let stored = c.requires.parts.stored in
     let kept = c.requires.parts.kept in
     let longer : wide ≡ with_dim schema c.args.name.now = c.in_ok-wide.ensures in
-    let long : length wide.dims ≡ table.dims + 1 = ap (λ (l : Layout). length l.dims) longer ∙ length-append schema.dims (c.args.name.now ∷ []) ∙ ap (λ (n : ℕ). n + 1) (sym stored.dims) in
+    let long : length wide.dims ≡ table.dims + 1 = ap (λ (l : Layout). length l.dims) longer
+    ∙ length-append schema.dims (c.args.name.now ∷ []) ∙ ap (λ (n : ℕ). n + 1) (sym stored.dims) in
     record {
       layout = c.dims-dims.ensures.layout;
       dims = long;
@@ -60,8 +64,10 @@ widen_parts-requires g c =
       closed = kept.closed;
       width = kept.width ∙ sym stored.dims;
       source =
-          subst (λ (n : ℕ). IsTreeOf n tree.now (record { measures = table.measures; rows = rows_of table })) (sym stored.dims)
-          (subst (λ (m : ℕ). IsTreeOf (length schema.dims) tree.now (record { measures = m; rows = rows_of table })) (sym stored.measures) kept.from);
+          subst (λ (n : ℕ). IsTreeOf n tree.now (record { measures = table.measures; rows = rows_of table }))
+          (sym stored.dims)
+          (subst (λ (m : ℕ). IsTreeOf (length schema.dims) tree.now (record { measures = m; rows = rows_of table }))
+          (sym stored.measures) kept.from);
       images = c.requires.images;
     }
 
@@ -69,11 +75,14 @@ pub returns-in-Err-clause-same : goal.returns-in-Err-clause-same
 returns-in-Err-clause-same g c =
     let schema = c.args.schema.now in
     let back = c.in-Err.ensures.back in
-    let state : state_of schema c.widen_parts.new.cube.dict c.widen_parts.new.cube.table ≡ state_of schema c.args.cube.now.dict c.args.cube.now.table =
-    ap₂ (λ (d : TextLists) (rs : List (Row ℕ)). let s : State = record { schema = schema; rows = map (decoded_row d.lists) rs; texts = d.lists } in s) back.texts back.rows in
+    let state : state_of schema c.widen_parts.new.cube.dict c.widen_parts.new.cube.table
+    ≡ state_of schema c.args.cube.now.dict c.args.cube.now.table =
+    ap₂ (λ (d : TextLists) (rs : List (Row ℕ)). let s : State
+    = record { schema = schema; rows = map (decoded_row d.lists) rs; texts = d.lists } in s) back.texts back.rows in
     let tree = ap (λ (s : Shape). s.tree) back.shape in
     let images = c.widen_parts.ensures.closed.images ∙ sym c.requires.images in
-    λ j. let held : Contents = record { state = state j; tree = tree j; index = c.args.index.now; images = images j } in held
+    λ j. let held : Contents = record { state = state j; tree = tree j; index = c.args.index.now; images = images j } in
+    held
 
 pub returns-in-Err-clause-parts : goal.returns-in-Err-clause-parts
 returns-in-Err-clause-parts g c =
@@ -84,19 +93,26 @@ returns-in-Err-clause-parts g c =
     let stored = c.requires.parts.stored in
     let back = c.in-Err.ensures.back in
     let closes = c.widen_parts.ensures.closed in
-    let rest : frame now ≡ frame (closed table) = back.frame ∙ ap (λ w. let t : Places = record (frame table) { was = w } in t) stored.closed in
+    let rest : frame now ≡ frame (closed table)
+    = back.frame ∙ ap (λ w. let t : Places = record (frame table) { was = w } in t) stored.closed in
     record {
       stored =
           subst (λ (d : TextLists). IsStored schema d now) (sym back.texts)
-          (stored-next schema dict dict table now stored rest closes.valid refl refl stored.values (subst (λ (rs : List (Row ℕ)). RowsAreCodes dict.lists rs) (sym back.rows) stored.known) stored.dictionary);
+          (stored-next schema dict dict table now stored rest closes.valid refl refl stored.values
+          (subst (λ (rs : List (Row ℕ)). RowsAreCodes dict.lists rs) (sym back.rows) stored.known)
+          stored.dictionary);
       kept =
-          kept-back schema table now c.args.cube.now.tree c.widen_parts.new.cube.tree c.requires.parts.kept (ap (λ (rs : List (Row ℕ)). Some rs) back.rows) (ap (λ (s : Shape). Some s) back.shape)
+          kept-back schema table now c.args.cube.now.tree c.widen_parts.new.cube.tree c.requires.parts.kept
+          (ap (λ (rs : List (Row ℕ)). Some rs) back.rows) (ap (λ (s : Shape). Some s) back.shape)
           closes.closed closes.max;
-      indexed = subst (λ (t : Tree ℕ). IsIndexed schema t c.args.index.now) (sym (ap (λ (s : Shape). s.tree) back.shape)) c.requires.parts.indexed;
+      indexed = subst (λ (t : Tree ℕ). IsIndexed schema t c.args.index.now)
+          (sym (ap (λ (s : Shape). s.tree) back.shape)) c.requires.parts.indexed;
     }
 
 pub returns-clause-records : goal.returns-clause-records
-returns-clause-records g c = subst (λ (n : ℕ). KeepsWidened n c.args.cube.now.tree.now c.widen_parts.new.cube.tree.now) c.requires.parts.stored.dims c.in-Ok.ensures.widened.kept
+returns-clause-records g c
+    = subst (λ (n : ℕ). KeepsWidened n c.args.cube.now.tree.now c.widen_parts.new.cube.tree.now)
+    c.requires.parts.stored.dims c.in-Ok.ensures.widened.kept
 
 pub returns-clause-parts : goal.returns-clause-parts
 returns-clause-parts g c =
@@ -112,17 +128,21 @@ returns-clause-parts g c =
     let closes = c.widen_parts.ensures.closed in
     let longer : wide ≡ with_dim schema name = c.in_ok-wide.ensures in
     let more : c.widen_parts.new.cube.dict ≡ texts.with_dim dict value = wider.texts in
-    let long : length wide.dims ≡ table.dims + 1 = ap (λ (l : Layout). length l.dims) longer ∙ length-append schema.dims (name ∷ []) ∙ ap (λ (n : ℕ). n + 1) (sym stored.dims) in
-    let measures : table.measures ≡ length wide.measures = stored.measures ∙ sym (ap (λ (l : Layout). length l.measures) longer) in
+    let long : length wide.dims ≡ table.dims + 1 = ap (λ (l : Layout). length l.dims) longer
+    ∙ length-append schema.dims (name ∷ []) ∙ ap (λ (n : ℕ). n + 1) (sym stored.dims) in
+    let measures : table.measures ≡ length wide.measures = stored.measures
+    ∙ sym (ap (λ (l : Layout). length l.measures) longer) in
     let max = closes.max ∙ c.requires.parts.kept.max ∙ sym (ap (λ (l : Layout). l.nodes) longer) in
     let is = stored-wide schema dict table now name value stored c.requires.parts.kept.from.wide wider.rows wider.frame
     (subst IsLayout longer c.dims-dims.ensures.layout) closes.valid (subst IsDictionary more closes.dictionary)
     (record { utf8 = c.utf8.value; short = c.requires.value }) in
     record {
-      stored = subst (λ (l : Layout). IsStored l c.widen_parts.new.cube.dict now) (sym longer) (subst (λ (d : TextLists). IsStored (with_dim schema name) d now) (sym more) is);
+      stored = subst (λ (l : Layout). IsStored l c.widen_parts.new.cube.dict now) (sym longer)
+          (subst (λ (d : TextLists). IsStored (with_dim schema name) d now) (sym more) is);
       kept =
           kept-wide wide now c.widen_parts.new.cube.tree (table.dims + 1) long closes.closed wider.width max wider.few
-          (subst (λ (m : ℕ). IsTreeOf (table.dims + 1) c.widen_parts.new.cube.tree.now (record { measures = m; rows = rows_of now })) measures wider.canonical);
+          (subst (λ (m : ℕ). IsTreeOf (table.dims + 1) c.widen_parts.new.cube.tree.now
+          (record { measures = m; rows = rows_of now })) measures wider.canonical);
       indexed = c.in-Ok.ensures.index;
     }
 
@@ -141,19 +161,28 @@ returns-clause-gives g c =
     let more : c.widen_parts.new.cube.dict ≡ texts.with_dim dict value = c.in-Ok.ensures.widened.texts in
     let old = state_of schema dict table in
     let count : finmap.len tree + classes_in nat_cmp tree ≡ nodes_then old =
-    ap₂ (λ (m n : ℕ). m + n) (nodes-kept dict.lists (rows_of table) stored.known stored.dictionary.distinct _ _ tree from) (classes-kept dict.lists (rows_of table) stored.known stored.dictionary.distinct _ _ tree from) in
+    ap₂ (λ (m n : ℕ). m + n)
+    (nodes-kept dict.lists (rows_of table) stored.known stored.dictionary.distinct _ _ tree from)
+    (classes-kept dict.lists (rows_of table) stored.known stored.dictionary.distinct _ _ tree from) in
     let made : state_of c.in_ok-wide.wide c.widen_parts.new.cube.dict now ≡ widened name value old =
-    ap₂ (λ (l : Layout) (d : TextLists). state_of l d now) longer more ∙ state-wide schema dict table now name value stored from.wide c.in-Ok.ensures.widened.rows c.in-Ok.ensures.widened.frame in
+    ap₂ (λ (l : Layout) (d : TextLists). state_of l d now) longer more
+    ∙ state-wide schema dict table now name value stored from.wide c.in-Ok.ensures.widened.rows
+    c.in-Ok.ensures.widened.frame in
     let parts : AreParts c.in_ok-wide.wide c.widen_parts.new.cube c.in-Ok.made = returns-clause-parts g c in
     let is = parts.stored in
     let kept = parts.kept in
     let many : c.class_count-classes.result ≡ length (classes text_cmp (widened name value old).rows) =
-    c.class_count-classes.ensures ∙ classes-kept c.widen_parts.new.cube.dict.lists (rows_of now) is.known is.dictionary.distinct _ _ c.widen_parts.new.cube.tree.now kept.from
+    c.class_count-classes.ensures
+    ∙ classes-kept c.widen_parts.new.cube.dict.lists (rows_of now) is.known is.dictionary.distinct _ _
+    c.widen_parts.new.cube.tree.now kept.from
     ∙ ap (λ (s : State). length (classes text_cmp s.rows)) made in
-    taken-free old name value _ count (sym c.in_default.is ∙ c.full_cause.ensures)
-    ∙ ap₂ (λ (n : ℕ) (s : State). let x : Applied = record { records = 0; classes = n; state = s } in Ok x) (sym many) (sym made)
+    taken-free old name value _ count (sym c.in_default.is ∙ c.widen_refusal.ensures)
+    ∙ ap₂ (λ (n : ℕ) (s : State). let x : Applied = record { records = 0; classes = n; state = s } in
+    Ok x) (sym many) (sym made)
 
 pub returns-clause-steps : goal.returns-clause-steps
 returns-clause-steps g c =
-    let within : 16 * finmap.len c.args.cube.now.tree.now ≤ cost_of_widening (length c.args.schema.now.dims) c.args.cube.now.tree.now = cost-wide (length c.args.schema.now.dims) c.args.cube.now.tree.now in
+    let within : 16 * finmap.len c.args.cube.now.tree.now ≤ cost_of_widening
+    (length c.args.schema.now.dims) c.args.cube.now.tree.now
+    = cost-wide (length c.args.schema.now.dims) c.args.cube.now.tree.now in
     omega (arith, within, c.in-Ok.ensures.steps)

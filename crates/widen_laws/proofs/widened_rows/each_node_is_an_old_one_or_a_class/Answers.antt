@@ -1,4 +1,4 @@
-use Rattle.cube_laws.proofs.Orders.{equality_by}
+use Rattle.cube_laws.proofs.CallerLemmas.{equality_by}
 use Rattle.widen_laws.proofs.LongerNodes.{each-node}
 use Rattle.widen_laws.proofs.widened_rows.each_node_is_an_old_one_or_a_class.Goals as goal
 

@@ -1,6 +1,4 @@
-use Rattle.cube_laws.proofs.Closures.{is_class-is}
-use Rattle.cube_laws.proofs.Nodes.{node_closed}
-use Rattle.cube_laws.proofs.Orders.{equality_by}
+use Rattle.cube_laws.proofs.CallerLemmas.{is_class-is, node_closed, equality_by}
 use Rattle.widen_laws.proofs.LongerRecords.{record-any, record-value}
 use Rattle.widen_laws.proofs.widened_rows.records_are_kept_or_handed_on.Goals as goal
 
@@ -14,4 +12,5 @@ returns-clause-any g c =
 pub returns-clause-value : goal.returns-clause-value
 returns-clause-value g c =
     let equality = equality_by g.met.V.Ord.total g.met.V.Value.apart in
-    λ n measures rows v u wide long class. record-value g.met.V.Ord.total g.met.V.Value.apart v n rows wide measures u long ((is_class-is equality rows u).0 class)
+    λ n measures rows v u wide long class. record-value g.met.V.Ord.total g.met.V.Value.apart v n rows wide measures u
+    long ((is_class-is equality rows u).0 class)

@@ -10,6 +10,9 @@ returns-clause-aggregate c =
     let own = c.args.self.now.parts in
     let others = c.args.other.now.parts in
     let measures = c.args.self.now.measures in
-    let same = ap (λ (n : ℕ). combine_parts (map part_in (take measures own)) (map part_in (take n others))) (sym c.requires.measures) in
-    ap (λ (ps : List Part). let a : Agg = record { count = c.args.self.now.count + c.args.other.now.count; parts = ps } in a)
-    (parts-joined own others c.join_parts.new.parts measures (omega arith) (omega arith) (omega arith) c.join_parts.ensures.joined ∙ same)
+    let same = ap (λ (n : ℕ). combine_parts (map part_in (take measures own)) (map part_in (take n others)))
+    (sym c.requires.measures) in
+    ap (λ (ps : List Part). let a : Agg
+    = record { count = c.args.self.now.count + c.args.other.now.count; parts = ps } in a)
+    (parts-joined own others c.join_parts.new.parts measures (omega arith) (omega arith)
+    (omega arith) c.join_parts.ensures.joined ∙ same)

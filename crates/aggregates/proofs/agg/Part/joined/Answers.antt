@@ -12,5 +12,7 @@ returns c =
     let e : FitsSigned w64 c.args.other.greatest = search rules in
     part-same _ _
     (omega (arith, ints))
-    (to_z-of_z w64 c.min.result (search rules) ∙ c.min.ensures.value ∙ ap₂ int_min (to_z-of_z w64 c.args.self.least a) (to_z-of_z w64 c.args.other.least b))
-    (to_z-of_z w64 c.max.result (search rules) ∙ c.max.ensures.value ∙ ap₂ int_max (to_z-of_z w64 c.args.self.greatest d) (to_z-of_z w64 c.args.other.greatest e))
+    (to_z-of_z w64 c.min.result (search rules) ∙ c.min.ensures.value
+    ∙ ap₂ int_min (to_z-of_z w64 c.args.self.least a) (to_z-of_z w64 c.args.other.least b))
+    (to_z-of_z w64 c.max.result (search rules) ∙ c.max.ensures.value
+    ∙ ap₂ int_max (to_z-of_z w64 c.args.self.greatest d) (to_z-of_z w64 c.args.other.greatest e))

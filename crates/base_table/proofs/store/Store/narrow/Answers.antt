@@ -4,14 +4,19 @@ use Rattle.base_table.specs.Store.{IsStore, StoredRows, rows_from, shorter_lines
 use Rattle.base_table.proofs.Wider.{narrowed-all, rows-shorter, store_shorter}
 use Rattle.base_table.proofs.store.Store.narrow.Goals as goal
 
-codes : (c : goal.After-self-1) → c.shorten.new.cells.items ≡ shorter_lines c.self.inside.dims c.self.inside.dims_then (length c.self.inside.ids) c.self.inside.codes.items
-codes c = c.shorten.ensures.items ∙ ap (λ n. shorter_lines c.self.inside.dims c.self.inside.dims_then n c.self.inside.codes.items) c.len-rows.ensures
+codes : (c : goal.After-self-1)
+    → c.shorten.new.cells.items ≡ shorter_lines c.self.inside.dims c.self.inside.dims_then
+    (length c.self.inside.ids) c.self.inside.codes.items
+codes c = c.shorten.ensures.items
+    ∙ ap (λ n. shorter_lines c.self.inside.dims c.self.inside.dims_then n c.self.inside.codes.items) c.len-rows.ensures
 
 pub invariant_of-self : goal.invariant_of-self
 invariant_of-self c =
     let m = c.self.inside in
-    subst (λ (l : List ℕ). IsStore m.dims_then m.measures m.printer m.dims_then m.ids m.prints l m.amounts.items (vec_capacity c.shorten.new.cells)) (sym (codes c))
-    (store_shorter m.dims m.measures m.printer m.dims_then m.ids m.prints m.codes.items m.amounts.items _ _ (omega (arith, c.shorten.ensures.capacity)) c.self.invariant)
+    subst (λ (l : List ℕ). IsStore m.dims_then m.measures m.printer m.dims_then m.ids m.prints l m.amounts.items
+    (vec_capacity c.shorten.new.cells)) (sym (codes c))
+    (store_shorter m.dims m.measures m.printer m.dims_then m.ids m.prints m.codes.items m.amounts.items _ _
+    (omega (arith, c.shorten.ensures.capacity)) c.self.invariant)
 
 pub returns-then-self : goal.returns-then-self
 returns-then-self c =
@@ -21,7 +26,9 @@ returns-then-self c =
       dims_then = ap (λ (s : StoredRows). s.dims_then) c.self.view_is j;
       printer = ap (λ (s : StoredRows). s.printer) c.self.view_is j;
       measures = ap (λ (s : StoredRows). s.measures) c.self.view_is j;
-      rows = (ap (λ (l : List ℕ). rows_from m.dims_then m.measures m.ids l m.amounts.items) (codes c) ∙ rows-shorter m.dims m.measures m.dims_then m.ids m.codes.items m.amounts.items c.self.invariant.then_le c.self.invariant.codes_len
+      rows = (ap (λ (l : List ℕ). rows_from m.dims_then m.measures m.ids l m.amounts.items) (codes c)
+          ∙ rows-shorter m.dims m.measures m.dims_then m.ids m.codes.items m.amounts.items c.self.invariant.then_le
+          c.self.invariant.codes_len
           ∙ ap (λ (s : StoredRows). map (narrowed s.dims_then) s.rows) c.self.view_is) j;
     }
 
@@ -37,4 +44,5 @@ returns-else-self c =
       printer = m.printer;
       measures = m.measures;
       rows = (sym (narrowed-all m.dims m.measures rows c.self.invariant.each) ∙ ap (λ n. map (narrowed n) rows) same) j;
-    }) ∙ ap (λ (s : StoredRows). let t : StoredRows = record s { dims = s.dims_then; rows = map (narrowed s.dims_then) s.rows } in t) c.self.view_is
+    }) ∙ ap (λ (s : StoredRows). let t : StoredRows
+    = record s { dims = s.dims_then; rows = map (narrowed s.dims_then) s.rows } in t) c.self.view_is

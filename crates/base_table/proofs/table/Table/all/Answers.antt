@@ -9,16 +9,25 @@ pub returns-clause-numbers : goal.returns-clause-numbers
 returns-clause-numbers c =
     let m = c.self.inside in
     IfOk-weaker c.numbers_in.result _ _
-    (λ nos are. numbers-view c.args.self.now m.here.items m.store.rows c.self.invariant.places (ap (λ (t : Places). t.places) c.self.view_is) (length-view m.store m.here.items m.touched.items _ m.begun m.count_then m.is_open m.count m.max c.self.invariant c.args.self.now c.self.view_is) nos.items are) c.numbers_in.ensures
+    (λ nos are. numbers-view c.args.self.now m.here.items m.store.rows c.self.invariant.places
+    (ap (λ (t : Places). t.places) c.self.view_is)
+    (length-view m.store m.here.items m.touched.items _ m.begun m.count_then m.is_open m.count m.max
+    c.self.invariant c.args.self.now c.self.view_is) nos.items are) c.numbers_in.ensures
 
 pub returns-clause-rows : goal.returns-clause-rows
 returns-clause-rows c =
     let m = c.self.inside in
     IfOk-weaker c.numbers_in.result _ _
-    (λ nos are. named-view c.args.self.now m.here.items m.store.rows c.self.invariant.places (ap (λ (t : Places). t.places) c.self.view_is) (length-view m.store m.here.items m.touched.items _ m.begun m.count_then m.is_open m.count m.max c.self.invariant c.args.self.now c.self.view_is) nos.items are) c.numbers_in.ensures
+    (λ nos are. named-view c.args.self.now m.here.items m.store.rows c.self.invariant.places
+    (ap (λ (t : Places). t.places) c.self.view_is)
+    (length-view m.store m.here.items m.touched.items _ m.begun m.count_then m.is_open m.count m.max
+    c.self.invariant c.args.self.now c.self.view_is) nos.items are) c.numbers_in.ensures
 
 pub returns-clause-there : goal.returns-clause-there
 returns-clause-there c =
     let m = c.self.inside in
     IfOk-weaker c.numbers_in.result _ _
-    (λ nos are. there-view c.args.self.now m.here.items m.store.rows c.self.invariant.places (ap (λ (t : Places). t.places) c.self.view_is) (length-view m.store m.here.items m.touched.items _ m.begun m.count_then m.is_open m.count m.max c.self.invariant c.args.self.now c.self.view_is) nos.items are) c.numbers_in.ensures
+    (λ nos are. there-view c.args.self.now m.here.items m.store.rows c.self.invariant.places
+    (ap (λ (t : Places). t.places) c.self.view_is)
+    (length-view m.store m.here.items m.touched.items _ m.begun m.count_then m.is_open m.count m.max
+    c.self.invariant c.args.self.now c.self.view_is) nos.items are) c.numbers_in.ensures

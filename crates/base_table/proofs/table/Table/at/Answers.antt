@@ -8,18 +8,47 @@ use Rattle.std.proofs.Common.{is_some}
 pub index-requires : goal.index-requires
 index-requires c =
     let m = c.self.inside in
-    omega (arith, length-view m.store m.here.items m.touched.items _ m.begun m.count_then m.is_open m.count m.max c.self.invariant c.args.self.now c.self.view_is)
+    omega (
+      arith,
+      length-view m.store m.here.items m.touched.items _ m.begun m.count_then m.is_open m.count m.max
+          c.self.invariant c.args.self.now c.self.view_is,
+    )
 
 pub returns-then-index : goal.returns-then-index
 returns-then-index c =
     let m = c.self.inside in
     let d : Row ℕ = record { id = 0; tuple = []; amounts = [] } in
-    let lt : c.args.place < length m.here.items = omega (arith, length-view m.store m.here.items m.touched.items _ m.begun m.count_then m.is_open m.count m.max c.self.invariant c.args.self.now c.self.view_is) in
-    record { some = (refl, ap is_some (mark_read m.here.items m.store.rows c.args.place d c.index.result.now c.args.self.now lt c.self.invariant.places (ap (λ (t : Places). t.places) c.self.view_is) c.index.ensures ∙ ap (λ (b : Bool). cond b (Some (get_or m.store.rows c.args.place d)) None) c.if-index.true)); none = λ e. cc }
+    let lt : c.args.place < length m.here.items
+    = omega (
+      arith,
+      length-view m.store m.here.items m.touched.items _ m.begun m.count_then m.is_open m.count m.max
+          c.self.invariant c.args.self.now c.self.view_is,
+    ) in
+    record {
+      some = (
+        refl,
+        ap is_some
+            (mark_read m.here.items m.store.rows c.args.place d c.index.result.now c.args.self.now lt
+            c.self.invariant.places (ap (λ (t : Places). t.places) c.self.view_is) c.index.ensures
+            ∙ ap (λ (b : Bool). cond b (Some (get_or m.store.rows c.args.place d)) None) c.if-index.true),
+      );
+      none = λ e. cc;
+    }
 
 pub returns-else-index : goal.returns-else-index
 returns-else-index c =
     let m = c.self.inside in
     let d : Row ℕ = record { id = 0; tuple = []; amounts = [] } in
-    let lt : c.args.place < length m.here.items = omega (arith, length-view m.store m.here.items m.touched.items _ m.begun m.count_then m.is_open m.count m.max c.self.invariant c.args.self.now c.self.view_is) in
-    record { some = tt; none = λ e. mark_read m.here.items m.store.rows c.args.place d c.index.result.now c.args.self.now lt c.self.invariant.places (ap (λ (t : Places). t.places) c.self.view_is) c.index.ensures ∙ ap (λ (b : Bool). cond b (Some (get_or m.store.rows c.args.place d)) None) c.if-index.false }
+    let lt : c.args.place < length m.here.items
+    = omega (
+      arith,
+      length-view m.store m.here.items m.touched.items _ m.begun m.count_then m.is_open m.count m.max
+          c.self.invariant c.args.self.now c.self.view_is,
+    ) in
+    record {
+      some = tt;
+      none
+          = λ e. mark_read m.here.items m.store.rows c.args.place d c.index.result.now c.args.self.now lt
+          c.self.invariant.places (ap (λ (t : Places). t.places) c.self.view_is) c.index.ensures
+          ∙ ap (λ (b : Bool). cond b (Some (get_or m.store.rows c.args.place d)) None) c.if-index.false;
+    }

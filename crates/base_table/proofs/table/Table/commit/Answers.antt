@@ -9,9 +9,10 @@ pub invariant_of-self : goal.invariant_of-self
 invariant_of-self c =
     let m = c.self.inside in
     let h = c.self.invariant in
-    let t = c.thin_out.ensures in
-    let marked : IsMarked c.thin_out.new.here.items c.thin_out.new.store.rows m.count m.max = record { last = t.last; count_is = h.is_now.count_is ∙ ap length (sym t.rows); few = h.is_now.few } in
-    let store : StoredRows = record c.thin_out.new.store { dims_then = c.thin_out.new.store.dims } in
+    let t = c.compact_if_sparse.ensures in
+    let marked : IsMarked c.compact_if_sparse.new.here.items c.compact_if_sparse.new.store.rows m.count m.max
+    = record { last = t.last; count_is = h.is_now.count_is ∙ ap length (sym t.rows); few = h.is_now.few } in
+    let store : StoredRows = record c.compact_if_sparse.new.store { dims_then = c.compact_if_sparse.new.store.dims } in
     let s = h.shape in
     let shape : HasShape store.dims store.dims_then store.measures m.max = record {
       some_dims = omega (arith, t.dims, s.some_dims);
@@ -22,14 +23,20 @@ invariant_of-self c =
       some_rows = s.some_rows;
       few_rows = s.few_rows;
     } in
-    subst (λ (s : StoredRows). AreTableFields s c.thin_out.new.here.items c.clear.new.self.items (vec_capacity c.clear.new.self) c.len.result m.count false m.count m.max) (sym c.settle.ensures)
-    (subst (λ (l : List ℕ). AreTableFields store c.thin_out.new.here.items l (vec_capacity c.clear.new.self) c.len.result m.count false m.count m.max) (sym c.clear.ensures.items)
-    (settled_table store c.thin_out.new.here.items (vec_capacity c.clear.new.self) c.len.result m.count m.max
+    subst (λ (s : StoredRows). AreTableFields s c.compact_if_sparse.new.here.items c.clear.new.self.items
+    (vec_capacity c.clear.new.self) c.len.result m.count false m.count m.max) (sym c.settle.ensures)
+    (subst (λ (l : List ℕ). AreTableFields store c.compact_if_sparse.new.here.items l
+    (vec_capacity c.clear.new.self) c.len.result m.count false m.count m.max) (sym c.clear.ensures.items)
+    (settled_table store c.compact_if_sparse.new.here.items (vec_capacity c.clear.new.self) c.len.result m.count m.max
     shape (omega (arith, t.fewer, h.few_places))
-    t.places t.each marked (omega (arith, c.len.ensures)) t.dense (omega (arith, t.fewer, h.room_for_all, c.clear.ensures.capacity)) refl))
+    t.places t.each marked (omega (arith, c.len.ensures)) t.dense
+    (omega (arith, t.fewer, h.room_for_all, c.clear.ensures.capacity)) refl))
 
 pub returns-clause-rows : goal.returns-clause-rows
 returns-clause-rows c =
     let m = c.self.inside in
-    ap (λ (s : StoredRows). rows_in (placed c.thin_out.new.here.items s.rows)) c.settle.ensures
-    ∙ rows_in-placed c.thin_out.new.here.items c.thin_out.new.store.rows ∙ c.thin_out.ensures.rows ∙ rows-view m.store m.here.items m.touched.items _ m.begun m.count_then m.is_open m.count m.max c.self.invariant c.args.self.now c.self.view_is
+    ap (λ (s : StoredRows). rows_in (placed c.compact_if_sparse.new.here.items s.rows)) c.settle.ensures
+    ∙ rows_in-placed c.compact_if_sparse.new.here.items c.compact_if_sparse.new.store.rows
+    ∙ c.compact_if_sparse.ensures.rows
+    ∙ rows-view m.store m.here.items m.touched.items _ m.begun m.count_then m.is_open m.count m.max c.self.invariant
+    c.args.self.now c.self.view_is

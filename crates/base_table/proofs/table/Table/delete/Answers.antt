@@ -20,25 +20,35 @@ known_back o row P e h = subst (λ (o : Option (Row ℕ)). IfSome o P) (sym e) h
 pub find-requires : goal.find-requires
 find-requires c = record { last = c.self.invariant.is_now.last; places = c.self.invariant.places }
 
-pub take_out-requires-clause-there : goal.take_out-requires-clause-there
-take_out-requires-clause-there c =
+pub delete_at-requires-clause-there : goal.delete_at-requires-clause-there
+delete_at-requires-clause-there c =
     let m = c.self.inside in
-    ap is_some (row-view m.store m.here.items m.touched.items _ m.begun m.count_then m.is_open m.count m.max c.self.invariant c.args.self.now c.self.view_is c.in-Some.place no_row (found_at m.here.items m.store.rows c.args.id c.in-Some.place c.self.invariant.places c.in-Some.ensures.found))
+    ap is_some (row-view m.store m.here.items m.touched.items _ m.begun m.count_then m.is_open m.count m.max
+    c.self.invariant c.args.self.now c.self.view_is c.in-Some.place no_row
+    (found_at m.here.items m.store.rows c.args.id c.in-Some.place c.self.invariant.places c.in-Some.ensures.found))
 
 pub returns-in-Some : goal.returns-in-Some
 returns-in-Some c =
     let m = c.self.inside in
     let f = c.in-Some.ensures.found in
     let row = get_or m.store.rows c.in-Some.place no_row in
-    let at = row-view m.store m.here.items m.touched.items _ m.begun m.count_then m.is_open m.count m.max c.self.invariant c.args.self.now c.self.view_is c.in-Some.place no_row (found_at m.here.items m.store.rows c.args.id c.in-Some.place c.self.invariant.places f) in
-    let seen = rows-view m.store m.here.items m.touched.items _ m.begun m.count_then m.is_open m.count m.max c.self.invariant c.args.self.now c.self.view_is in
-    let new = known _ row _ at c.take_out.ensures.table ∙ ap (λ (id : ℕ). let t : Places = record c.args.self.now { places = map (cleared id) c.args.self.now.places } in t) (f.named no_row) in
+    let at = row-view m.store m.here.items m.touched.items _ m.begun m.count_then m.is_open m.count m.max
+    c.self.invariant c.args.self.now c.self.view_is c.in-Some.place no_row
+    (found_at m.here.items m.store.rows c.args.id c.in-Some.place c.self.invariant.places f) in
+    let seen = rows-view m.store m.here.items m.touched.items _ m.begun m.count_then m.is_open m.count m.max
+    c.self.invariant c.args.self.now c.self.view_is in
+    let new = known _ row _ at c.delete_at.ensures.table
+    ∙ ap (λ (id : ℕ). let t : Places
+    = record c.args.self.now { places = map (cleared id) c.args.self.now.places } in t) (f.named no_row) in
     record {
       ok = new;
       rows = ap rows_of new ∙ rows_cleared c.args.self.now.places c.args.id;
-      taken = known_back _ row _ (ap (λ (l : List (Row ℕ)). row_with_id l c.args.id) (sym seen) ∙ found_row m.here.items m.store.rows c.args.id c.in-Some.place no_row c.self.invariant.places f.within f.there (f.named no_row) f.only)
-          (known _ row _ at c.take_out.ensures.taken);
-      there = ap (λ (l : List (Row ℕ)). has_id l c.args.id) (sym seen) ∙ found_has m.here.items m.store.rows c.args.id c.in-Some.place c.self.invariant.places f;
+      taken = known_back _ row _ (ap (λ (l : List (Row ℕ)). row_with_id l c.args.id) (sym seen)
+          ∙ found_row m.here.items m.store.rows c.args.id c.in-Some.place no_row c.self.invariant.places f.within
+          f.there (f.named no_row) f.only)
+          (known _ row _ at c.delete_at.ensures.taken);
+      there = ap (λ (l : List (Row ℕ)). has_id l c.args.id) (sym seen)
+          ∙ found_has m.here.items m.store.rows c.args.id c.in-Some.place c.self.invariant.places f;
       missing = tt;
       err = tt;
     }
@@ -51,6 +61,8 @@ returns-in-None c =
       rows = tt;
       taken = tt;
       there = tt;
-      missing = ap (λ (l : List (Row ℕ)). has_id l c.args.id) (sym (rows-view m.store m.here.items m.touched.items _ m.begun m.count_then m.is_open m.count m.max c.self.invariant c.args.self.now c.self.view_is)) ∙ c.in-None.ensures.none;
+      missing = ap (λ (l : List (Row ℕ)). has_id l c.args.id)
+          (sym (rows-view m.store m.here.items m.touched.items _ m.begun m.count_then m.is_open m.count m.max
+          c.self.invariant c.args.self.now c.self.view_is)) ∙ c.in-None.ensures.none;
       err = refl;
     }

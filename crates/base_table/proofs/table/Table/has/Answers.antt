@@ -11,9 +11,16 @@ find-requires c = record { last = c.self.invariant.is_now.last; places = c.self.
 pub returns-in-Some : goal.returns-in-Some
 returns-in-Some c =
     let m = c.self.inside in
-    sym (found_has m.here.items m.store.rows c.args.id c.in-Some.field-0 c.self.invariant.places c.in-Some.ensures.found) ∙ ap (λ (l : List (Row ℕ)). has_id l c.args.id) (rows-view m.store m.here.items m.touched.items _ m.begun m.count_then m.is_open m.count m.max c.self.invariant c.args.self.now c.self.view_is)
+    sym (found_has m.here.items m.store.rows c.args.id c.in-Some.field-0 c.self.invariant.places
+    c.in-Some.ensures.found)
+    ∙ ap (λ (l : List (Row ℕ)). has_id l c.args.id)
+    (rows-view m.store m.here.items m.touched.items _ m.begun m.count_then m.is_open m.count m.max c.self.invariant
+    c.args.self.now c.self.view_is)
 
 pub returns-in-None : goal.returns-in-None
 returns-in-None c =
     let m = c.self.inside in
-    sym c.in-None.ensures.none ∙ ap (λ (l : List (Row ℕ)). has_id l c.args.id) (rows-view m.store m.here.items m.touched.items _ m.begun m.count_then m.is_open m.count m.max c.self.invariant c.args.self.now c.self.view_is)
+    sym c.in-None.ensures.none
+    ∙ ap (λ (l : List (Row ℕ)). has_id l c.args.id)
+    (rows-view m.store m.here.items m.touched.items _ m.begun m.count_then m.is_open m.count m.max c.self.invariant
+    c.args.self.now c.self.view_is)

@@ -9,23 +9,60 @@ use Rattle.base_table.specs.Places.{row_of}
 pub put-requires-clause-room : goal.put-requires-clause-room
 put-requires-clause-room c =
     let m = c.self.inside in
-    omega (arith, count-view m.store m.here.items m.touched.items _ m.begun m.count_then m.is_open m.count m.max c.self.invariant c.args.self.now c.self.view_is, max-view m.store m.here.items m.touched.items _ m.begun m.count_then m.is_open m.count m.max c.self.invariant c.args.self.now c.self.view_is)
+    omega (
+      arith,
+      count-view m.store m.here.items m.touched.items _ m.begun m.count_then m.is_open m.count m.max
+          c.self.invariant c.args.self.now c.self.view_is,
+      max-view m.store m.here.items m.touched.items _ m.begun m.count_then m.is_open m.count m.max c.self.invariant
+          c.args.self.now c.self.view_is,
+    )
 
 pub returns-then-self-clause-full : goal.returns-then-self-clause-full
 returns-then-self-clause-full c =
-    let m = c.self.inside in
-    (λ e. (sym c.has.ensures ∙ c.if-has.false, omega (arith, count-view m.store m.here.items m.touched.items _ m.begun m.count_then m.is_open m.count m.max c.self.invariant c.args.self.now c.self.view_is, max-view m.store m.here.items m.touched.items _ m.begun m.count_then m.is_open m.count m.max c.self.invariant c.args.self.now c.self.view_is, c.self.invariant.is_now.few)), λ e. refl)
+    let m = c.self.inside in (
+      λ e. (
+        sym c.has.ensures ∙ c.if-has.false,
+        omega (
+          arith,
+          count-view m.store m.here.items m.touched.items _ m.begun m.count_then m.is_open m.count m.max
+              c.self.invariant c.args.self.now c.self.view_is,
+          max-view m.store m.here.items m.touched.items _ m.begun m.count_then m.is_open m.count m.max c.self.invariant
+              c.args.self.now c.self.view_is,
+          c.self.invariant.is_now.few,
+        ),
+      ),
+      λ e. refl,
+    )
 
 pub returns-in-Ok-clause-rows : goal.returns-in-Ok-clause-rows
 returns-in-Ok-clause-rows c =
-    ap rows_of c.in-Ok.ensures.ok ∙ filter_map-append (λ (place : Option (Row ℕ)). place) c.args.self.now.places (Some (row_of c.args.id c.args.tuple.now c.args.amounts.now) ∷ [])
+    ap rows_of c.in-Ok.ensures.ok ∙ filter_map-append (λ (place : Option (Row ℕ)). place) c.args.self.now.places
+    (Some (row_of c.args.id c.args.tuple.now c.args.amounts.now) ∷ [])
 
 pub returns-in-Ok-clause-full : goal.returns-in-Ok-clause-full
 returns-in-Ok-clause-full c =
-    let m = c.self.inside in
-    (λ e. cc, λ e. absurd (omega (arith, e.1, count-view m.store m.here.items m.touched.items _ m.begun m.count_then m.is_open m.count m.max c.self.invariant c.args.self.now c.self.view_is, max-view m.store m.here.items m.touched.items _ m.begun m.count_then m.is_open m.count m.max c.self.invariant c.args.self.now c.self.view_is)))
+    let m = c.self.inside in (
+      λ e. cc,
+      λ e. absurd (omega (
+        arith,
+        e.1,
+        count-view m.store m.here.items m.touched.items _ m.begun m.count_then m.is_open m.count m.max c.self.invariant
+            c.args.self.now c.self.view_is,
+        max-view m.store m.here.items m.touched.items _ m.begun m.count_then m.is_open m.count m.max c.self.invariant
+            c.args.self.now c.self.view_is,
+      )),
+    )
 
 pub returns-in-Err-clause-full : goal.returns-in-Err-clause-full
 returns-in-Err-clause-full c =
-    let m = c.self.inside in
-    (λ e. cc, λ e. absurd (omega (arith, e.1, count-view m.store m.here.items m.touched.items _ m.begun m.count_then m.is_open m.count m.max c.self.invariant c.args.self.now c.self.view_is, max-view m.store m.here.items m.touched.items _ m.begun m.count_then m.is_open m.count m.max c.self.invariant c.args.self.now c.self.view_is)))
+    let m = c.self.inside in (
+      λ e. cc,
+      λ e. absurd (omega (
+        arith,
+        e.1,
+        count-view m.store m.here.items m.touched.items _ m.begun m.count_then m.is_open m.count m.max c.self.invariant
+            c.args.self.now c.self.view_is,
+        max-view m.store m.here.items m.touched.items _ m.begun m.count_then m.is_open m.count m.max c.self.invariant
+            c.args.self.now c.self.view_is,
+      )),
+    )

@@ -4,5 +4,7 @@ use Rattle.batch_insert.proofs.numbers.Numbers.note.Goals as goal
 
 pub returns : goal.returns
 returns c = λ m.
-    noted c.open.new.self.pages.items c.index_mut-places.result.now c.args.mask c.args.node c.in_ok-open.ensures.there c.index_mut-places.ensures.value c.in_ok-open.ensures.places m
-    ∙ ap (λ o. if nat_eq c.args.mask m then Some c.args.node.0 else o) (c.open.ensures.numbers m ∙ c.reach.ensures.numbers m)
+    noted c.open.new.self.pages.items c.index_mut-places.result.now c.args.mask c.args.node c.in_ok-open.ensures.there
+    c.index_mut-places.ensures.value c.in_ok-open.ensures.places m
+    ∙ ap (λ o. if nat_eq c.args.mask m then Some c.args.node.0 else o) (c.open.ensures.numbers m
+    ∙ c.reach.ensures.numbers m)

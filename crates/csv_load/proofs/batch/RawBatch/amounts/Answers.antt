@@ -9,15 +9,35 @@ use Rattle.csv_load.proofs.batch.RawBatch.amounts.Goals as goal
 pub slice_bounds-result-end : goal.slice_bounds-result-end
 slice_bounds-result-end c =
     let inside = c.self.inside in
-    let lt : c.args.k - 1 < length inside.changes.ids.items = omega (arith, c.requires.first, c.requires.last, length-all inside.dims inside.measures inside.changes, ap (λ (b : Batch). length b.changes) c.self.view_is) in
-    omega (arith, c.self.invariant.amounts_fit, below-all inside.measures (length inside.changes.ids.items) (c.args.k - 1) inside.measures lt (omega arith))
+    let lt : c.args.k - 1 < length inside.changes.ids.items
+    = omega (
+      arith,
+      c.requires.first,
+      c.requires.last,
+      length-all inside.dims inside.measures inside.changes,
+      ap (λ (b : Batch). length b.changes) c.self.view_is,
+    ) in
+    omega (
+      arith,
+      c.self.invariant.amounts_fit,
+      below-all inside.measures (length inside.changes.ids.items) (c.args.k - 1) inside.measures lt (omega arith),
+    )
 
 pub returns : goal.returns
 returns c =
     let inside = c.self.inside in
     let start = (c.args.k - 1) * inside.measures in
-    let lt : c.args.k - 1 < length inside.changes.ids.items = omega (arith, c.requires.first, c.requires.last, length-all inside.dims inside.measures inside.changes, ap (λ (b : Batch). length b.changes) c.self.view_is) in
-    let is : is_deletion (change_at (all_in inside.dims inside.measures inside.changes) c.args.k) ≡ false = ap (λ (b : Batch). is_deletion (change_at b.changes c.args.k)) c.self.view_is ∙ c.requires.insertion in
+    let lt : c.args.k - 1 < length inside.changes.ids.items
+    = omega (
+      arith,
+      c.requires.first,
+      c.requires.last,
+      length-all inside.dims inside.measures inside.changes,
+      ap (λ (b : Batch). length b.changes) c.self.view_is,
+    ) in
+    let is : is_deletion (change_at (all_in inside.dims inside.measures inside.changes) c.args.k) ≡ false
+    = ap (λ (b : Batch). is_deletion (change_at b.changes c.args.k)) c.self.view_is ∙ c.requires.insertion in
     ap (λ (xs : List ℤ). slice_range xs start (start + inside.measures)) c.deref.ensures.value
-    ∙ sym (ap (λ (row : Row Text). row.amounts) (row-at inside.dims inside.measures inside.changes (c.args.k - 1) (Delete 0) lt is))
+    ∙ sym (ap (λ (row : Row Text). row.amounts)
+    (row-at inside.dims inside.measures inside.changes (c.args.k - 1) (Delete 0) lt is))
     ∙ ap (λ (b : Batch). (row_of (change_at b.changes c.args.k)).amounts) c.self.view_is

@@ -8,8 +8,17 @@ use Rattle.csv_load.proofs.batch.RawBatch.insertions.Goals as goal
 pub overflow_cast-result : goal.overflow_cast-result
 overflow_cast-result c =
     let inside = c.self.inside in
-    let most : count_by not c.deref.result.now ≤ length c.deref.result.now = count_by-le-length not c.deref.result.now in
-    omega (arith, most, c.count_false.ensures, ap length c.deref.ensures.value, c.self.invariant.deletes_fit, c.self.invariant.is_batch.few, length-all inside.dims inside.measures inside.changes)
+    let most : count_by not c.deref.result.now ≤ length c.deref.result.now
+    = count_by-le-length not c.deref.result.now in
+    omega (
+      arith,
+      most,
+      c.count_false.ensures,
+      ap length c.deref.ensures.value,
+      c.self.invariant.deletes_fit,
+      c.self.invariant.is_batch.few,
+      length-all inside.dims inside.measures inside.changes,
+    )
 
 pub returns : goal.returns
 returns c =

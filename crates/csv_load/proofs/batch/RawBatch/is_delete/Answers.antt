@@ -6,12 +6,26 @@ use Rattle.csv_load.proofs.batch.RawBatch.is_delete.Goals as goal
 
 pub index-requires : goal.index-requires
 index-requires c =
-    omega (arith, c.requires.first, c.requires.last, c.self.invariant.deletes_fit, length-all c.self.inside.dims c.self.inside.measures c.self.inside.changes, ap (λ (b : Batch). length b.changes) c.self.view_is)
+    omega (
+      arith,
+      c.requires.first,
+      c.requires.last,
+      c.self.invariant.deletes_fit,
+      length-all c.self.inside.dims c.self.inside.measures c.self.inside.changes,
+      ap (λ (b : Batch). length b.changes) c.self.view_is,
+    )
 
 pub returns : goal.returns
 returns c =
     let inside = c.self.inside in
-    let lt : c.args.k - 1 < length inside.changes.ids.items = omega (arith, c.requires.first, c.requires.last, length-all inside.dims inside.measures inside.changes, ap (λ (b : Batch). length b.changes) c.self.view_is) in
+    let lt : c.args.k - 1 < length inside.changes.ids.items
+    = omega (
+      arith,
+      c.requires.first,
+      c.requires.last,
+      length-all inside.dims inside.measures inside.changes,
+      ap (λ (b : Batch). length b.changes) c.self.view_is,
+    ) in
     let within : c.args.k - 1 < length inside.changes.deletes.items = omega (arith, lt, c.self.invariant.deletes_fit) in
     get_or_read inside.changes.deletes.items (c.args.k - 1) c.index.result.now within c.index.ensures false
     ∙ sym (kind-at inside.dims inside.measures inside.changes (c.args.k - 1) (Delete 0) lt)

@@ -4,4 +4,9 @@ use Rattle.csv_load.proofs.Cutting.{length-texts_of}
 use Rattle.csv_load.proofs.texts.FieldTexts.len.Goals as goal
 
 pub returns : goal.returns
-returns c = omega (arith, c.len.ensures, length-texts_of c.self.inside.ends.items (string_bytes c.self.inside.bytes), ap length c.self.view_is)
+returns c = omega (
+  arith,
+  c.len.ensures,
+  length-texts_of c.self.inside.ends.items (string_bytes c.self.inside.bytes),
+  ap length c.self.view_is,
+)

@@ -5,4 +5,10 @@ use Rattle.csv_load.proofs.Sizes.{size-texts}
 use Rattle.csv_load.proofs.texts.FieldTexts.push.Goals as goal
 
 pub push_text-requires-clause-room : goal.push_text-requires-clause-room
-push_text-requires-clause-room c = omega (arith, c.requires, size-texts c.self.inside.ends.items (string_bytes c.self.inside.bytes) c.self.invariant, ap bytes_in c.self.view_is)
+push_text-requires-clause-room c
+    = omega (
+      arith,
+      c.requires,
+      size-texts c.self.inside.ends.items (string_bytes c.self.inside.bytes) c.self.invariant,
+      ap bytes_in c.self.view_is,
+    )

@@ -10,5 +10,6 @@ returns c =
     record {
       kind = refl;
       scale = refl;
-      classes = λ classes are. filled c.args.kind c.args.scale c.requires classes c.args.keys.items empty c.in-Ok.set are refl c.in-Ok.ensures.ordered c.in-Ok.ensures.has;
+      classes = λ classes are. filled c.args.kind c.args.scale c.requires classes c.args.keys.items empty c.in-Ok.set
+          are refl c.in-Ok.ensures.ordered c.in-Ok.ensures.has;
     }

@@ -1,7 +1,7 @@
 use Rattle.std.proofs.Common.{◌&&◌, ap, not, refl, subst, sym, ◌∙◌}
-use Rattle.measure_index.specs.Changes.{Went, lists}
+use Rattle.measure_index.specs.Changes.{EntriesRemoved, lists}
 use Rattle.measure_index.specs.Entries.{entry_total}
-use Rattle.measure_index.specs.Kept.{entries_at, key_cmp, key_total}
+use Rattle.measure_index.specs.ColumnKeys.{entries_at, key_cmp, key_total}
 use Rattle.measure_index.specs.Keys.{among}
 use Rattle.measure_index.specs.Rankings.{Ranking}
 use Rattle.measure_index.proofs.KeyLemmas.{any_turned}
@@ -13,12 +13,21 @@ returns c =
     let kind = c.self.inside.kind in
     let scale = c.self.inside.scale in
     let old = c.self.inside.keys.keys in
-    let new = c.take_out.new.set.keys in
+    let new = c.remove_keys.new.set.keys in
     let now : Ranking = record { kind = kind; scale = scale; entries = entries_at kind scale new } in
-    subst (λ r. Went (entries_at r.kind r.scale c.args.going.now) r now) c.self.view_is (record {
-      alike = record { kind = refl; scale = refl; was_rising = rising kind scale old c.self.invariant.rising; rising = rising kind scale new c.take_out.ensures.ordered };
+    subst (λ r. EntriesRemoved (entries_at r.kind r.scale c.args.going.now) r now) c.self.view_is (record {
+      alike = record {
+        kind = refl;
+        scale = refl;
+        was_rising = rising kind scale old c.self.invariant.rising;
+        rising
+            = rising kind scale new c.remove_keys.ensures.ordered;
+      };
       entry = λ q.
           any_turned entry_total (entries_at kind scale new) q
-          ∙ carried kind scale (λ a b. a && not b) refl old c.args.going.now new (λ k. sym (any_turned key_total new k) ∙ c.take_out.ensures.has k ∙ ap (λ a. a && not (among key_cmp c.args.going.now k)) (any_turned key_total old k)) q
-          ∙ ap (λ a. a && not (lists (entries_at kind scale c.args.going.now) q)) (sym (any_turned entry_total (entries_at kind scale old) q));
+          ∙ carried kind scale (λ a b. a && not b) refl old c.args.going.now new (λ k. sym (any_turned key_total new k)
+          ∙ c.remove_keys.ensures.has k
+          ∙ ap (λ a. a && not (among key_cmp c.args.going.now k)) (any_turned key_total old k)) q
+          ∙ ap (λ a. a && not (lists (entries_at kind scale c.args.going.now) q))
+          (sym (any_turned entry_total (entries_at kind scale old) q));
     })

@@ -4,10 +4,14 @@ use Rattle.measure_index.proofs.Classes.{empty_all, empty_index, empty_more}
 use Rattle.measure_index.proofs.index.Index.new.Goals as goal
 
 pub returns-clause-classes : goal.returns-clause-classes
-returns-clause-classes c = subst (IsIndex (λ _. None)) (sym c.kinds.invariant) (empty_index c.args.scales.now (take c.kinds.kind-index c.args.kinds.now))
+returns-clause-classes c
+    = subst (IsIndex (λ _. None)) (sym c.kinds.invariant)
+    (empty_index c.args.scales.now (take c.kinds.kind-index c.args.kinds.now))
 
 pub kinds-preserved : goal.kinds-preserved
-kinds-preserved c = empty_more c.args.scales.now c.args.kinds.now c.kinds.kind-index _ _ _ c.kinds-test.true c.new.ensures c.scale_in.ensures.value _ _ c.kinds.invariant c.in_ok-push.ensures.items
+kinds-preserved c = empty_more c.args.scales.now c.args.kinds.now c.kinds.kind-index _ _ _ c.kinds-test.true
+    c.new.ensures c.scale_in.ensures.value _ _ c.kinds.invariant c.in_ok-push.ensures.items
 
 pub returns-clause-value : goal.returns-clause-value
-returns-clause-value c = empty_all c.args.scales.now c.args.kinds.now c.kinds.kind-index c.kinds-test.false _ c.kinds.invariant
+returns-clause-value c =
+    empty_all c.args.scales.now c.args.kinds.now c.kinds.kind-index c.kinds-test.false _ c.kinds.invariant

@@ -1,8 +1,8 @@
 use Rattle.std.proofs.Common.{Err, ap, length, map, refl, subst, sym, ◌∙◌, ◌≡◌}
 use Rattle.std.specs.Prelude.{IfSome}
-use Rattle.warehouse.proofs.Pinned.{taken-of, tree-after}
+use Rattle.warehouse.proofs.CallerLemmas.{taken-of, tree-after}
 use Rattle.warehouse.specs.Batch.{Apply, result}
-use Rattle.warehouse.specs.InPlace.{LeavesApart, LeavesNumbers}
+use Rattle.warehouse.specs.InPlace.{LeavesOtherRecords, LeavesNumbers}
 use Rattle.warehouse.specs.State.{Contents, State}
 use Rattle.warehouse.specs.Stored.{applied_in, refusal_in}
 use Rattle.pinned_view.specs.Pins.{AreWithin, version_in}
@@ -10,10 +10,11 @@ use Rattle.pinned_view.specs.Versions.{Versions}
 use Rattle.pinned_view.proofs.Staying.{after_change, within_all}
 use Rattle.pinned_view.proofs.pinned.Pinned.apply.Goals as goal
 
-pub keep-requires-clause-within : goal.keep-requires-clause-within
-keep-requires-clause-within g c =
+pub store_images-requires-clause-within : goal.store_images-requires-clause-within
+store_images-requires-clause-within g c =
     let m = c.self.inside in
-    subst (λ n. AreWithin n m.pins.items) (sym (ap length c.in-Ok.ensures.items)) (within_all m.warehouse m.kept.items m.pins.items c.self.invariant.0.each)
+    subst (λ n. AreWithin n m.pins.items) (sym (ap length c.in-Ok.ensures.items))
+    (within_all m.warehouse m.kept.items m.pins.items c.self.invariant.0.each)
 
 pub invariant_of-self-in-Ok-apply : goal.invariant_of-self-in-Ok-apply
 invariant_of-self-in-Ok-apply g c =
@@ -22,10 +23,13 @@ invariant_of-self-in-Ok-apply g c =
     let now = c.apply.new.self.state in
     let file = c.args.bytes.now in
     let applied = applied_in now c.in-Ok-apply.applied in (
-      after_change m.warehouse c.apply.new.self c.last_images.new.self m.kept.items c.reserve_one.new.kept.items c.keep.new.kept.items c.last_images.result m.pins.items
-          c.in-Ok.ensures.items c.apply.ensures.images c.last_images.ensures.images c.last_images.ensures.rest c.keep.ensures.same c.keep.ensures.within
+      after_change m.warehouse c.apply.new.self c.last_images.new.self m.kept.items c.reserve_one.new.kept.items
+          c.store_images.new.kept.items c.last_images.result m.pins.items
+          c.in-Ok.ensures.items c.apply.ensures.images c.last_images.ensures.images c.last_images.ensures.rest
+          c.store_images.ensures.same c.store_images.ensures.within
           (ap (λ (s : State). s.schema) (taken-of was Apply file applied c.in-Ok-apply.ensures.gives).1)
-          (λ rows tree has. tree-after was now rows tree Apply file applied has c.in-Ok-apply.ensures.gives refl c.apply.ensures.valid.state) c.self.invariant.0,
+          (λ rows tree has. tree-after was now rows tree Apply file applied has c.in-Ok-apply.ensures.gives refl
+          c.apply.ensures.valid.state) c.self.invariant.0,
       c.self.invariant.1,
     )
 
@@ -39,8 +43,9 @@ returns-in-Ok-apply-clause-numbers g c =
 pub returns-in-Ok-apply-clause-apart : goal.returns-in-Ok-apply-clause-apart
 returns-in-Ok-apply-clause-apart g c =
     let m = c.self.inside in
-    subst (λ (v : Versions). LeavesApart v.now c.args.bytes.now c.last_images.new.self) c.self.view_is
-    (subst (LeavesApart m.warehouse c.args.bytes.now) (sym c.last_images.ensures.rest) c.in-Ok-apply.ensures.apart)
+    subst (λ (v : Versions). LeavesOtherRecords v.now c.args.bytes.now c.last_images.new.self) c.self.view_is
+    (subst (LeavesOtherRecords m.warehouse c.args.bytes.now)
+    (sym c.last_images.ensures.rest) c.in-Ok-apply.ensures.apart)
 
 pub returns-in-Err-clause-pins : goal.returns-in-Err-clause-pins
 returns-in-Err-clause-pins g c = ap (λ (v : Versions). v.pins) c.self.view_is
@@ -50,7 +55,9 @@ returns-in-Err-clause-err g c = c.self.view_is
 
 pub returns-in-Err-apply-clause-gives : goal.returns-in-Err-apply-clause-gives
 returns-in-Err-apply-clause-gives g c =
-    subst (λ (v : Versions). IfSome (refusal_in c.in-Err-apply.refused) (λ refusal. result v.now.state Apply c.args.bytes.now ≡ Err refusal)) c.self.view_is c.in-Err-apply.ensures.gives
+    subst (λ (v : Versions). IfSome (refusal_in c.in-Err-apply.refused)
+    (λ refusal. result v.now.state Apply c.args.bytes.now ≡ Err refusal)) c.self.view_is
+    c.in-Err-apply.ensures.gives
 
 pub returns-in-Err-apply-clause-pins : goal.returns-in-Err-apply-clause-pins
 returns-in-Err-apply-clause-pins g c = ap (λ (v : Versions). v.pins) c.self.view_is
@@ -59,8 +66,10 @@ pub returns-in-Err-apply-clause-err : goal.returns-in-Err-apply-clause-err
 returns-in-Err-apply-clause-err g c =
     let said = c.in-Err-apply.ensures in
     let images = said.no_images ∙ sym c.self.invariant.0.plain in
-    let same : c.apply.new.self ≡ c.self.inside.warehouse = λ j. let held : Contents = record { state = said.state j; tree = said.tree j; index = said.index j; images = images j } in held in
-    ap (λ (held : Contents). let v : Versions = record { now = held; pins = map version_in c.self.inside.pins.items } in v) same ∙ c.self.view_is
+    let same : c.apply.new.self ≡ c.self.inside.warehouse = λ j. let held : Contents
+    = record { state = said.state j; tree = said.tree j; index = said.index j; images = images j } in held in
+    ap (λ (held : Contents). let v : Versions = record { now = held; pins = map version_in c.self.inside.pins.items } in
+    v) same ∙ c.self.view_is
 
 pub returns-in-Ok-apply-clause-pins : goal.returns-in-Ok-apply-clause-pins
 returns-in-Ok-apply-clause-pins g c = ap (λ (v : Versions). v.pins) c.self.view_is

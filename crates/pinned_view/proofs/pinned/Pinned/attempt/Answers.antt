@@ -16,14 +16,27 @@ returns-in-Err-clause-same g c = c.self.view_is
 
 pub returns-clause-gives : goal.returns-clause-gives
 returns-clause-gives g c =
-    subst (λ (v : Versions). (after : State) × Gives refusal_in (applied_in after) c.attempt.result (result v.now.state Apply c.args.bytes.now)) c.self.view_is c.attempt.ensures.gives
+    subst (λ (v : Versions). (after : State)
+    × Gives refusal_in (applied_in after) c.attempt.result (result v.now.state Apply c.args.bytes.now))
+    c.self.view_is c.attempt.ensures.gives
 
 pub returns-clause-steps : goal.returns-clause-steps
-returns-clause-steps g c = subst (λ (v : Versions). OnOk c.attempt.result (IsWithinCost v.now.state c.args.bytes.now c.args.steps.now c.attempt.new.steps)) c.self.view_is c.attempt.ensures.steps
+returns-clause-steps g c
+    = subst (λ (v : Versions). OnOk c.attempt.result
+    (IsWithinCost v.now.state c.args.bytes.now c.args.steps.now c.attempt.new.steps)) c.self.view_is
+    c.attempt.ensures.steps
 
 pub returns-clause-same : goal.returns-clause-same
 returns-clause-same g c =
     let was = c.self.inside.warehouse in
     let plain = c.self.invariant.0.plain in
-    let same : c.attempt.new.self ≡ was = c.attempt.ensures.same ∙ (λ j. let held : Contents = record { state = was.state; tree = was.tree; index = was.index; images = (sym plain) j } in held) in
-    ap (λ (held : Contents). let v : Versions = record { now = held; pins = map version_in c.self.inside.pins.items } in v) same ∙ c.self.view_is
+    let same : c.attempt.new.self ≡ was = c.attempt.ensures.same
+    ∙ (λ j. let held : Contents = record {
+      state = was.state;
+      tree = was.tree;
+      index = was.index;
+      images
+          = (sym plain) j;
+    } in held) in
+    ap (λ (held : Contents). let v : Versions = record { now = held; pins = map version_in c.self.inside.pins.items } in
+    v) same ∙ c.self.view_is

@@ -1,6 +1,6 @@
 use Rattle.std.proofs.Common.{Err, ap, length, map, refl, subst, sym, ◌∙◌, ◌≡◌}
 use Rattle.std.specs.Prelude.{IfSome}
-use Rattle.warehouse.proofs.Pinned.{taken-of, tree-after}
+use Rattle.warehouse.proofs.CallerLemmas.{taken-of, tree-after}
 use Rattle.warehouse.specs.Batch.{Load, result}
 use Rattle.warehouse.specs.State.{Contents, State}
 use Rattle.warehouse.specs.Stored.{applied_in, refusal_in}
@@ -9,10 +9,11 @@ use Rattle.pinned_view.specs.Versions.{Versions}
 use Rattle.pinned_view.proofs.Staying.{after_change, within_all}
 use Rattle.pinned_view.proofs.pinned.Pinned.load.Goals as goal
 
-pub keep-requires-clause-within : goal.keep-requires-clause-within
-keep-requires-clause-within g c =
+pub store_images-requires-clause-within : goal.store_images-requires-clause-within
+store_images-requires-clause-within g c =
     let m = c.self.inside in
-    subst (λ n. AreWithin n m.pins.items) (sym (ap length c.in-Ok.ensures.items)) (within_all m.warehouse m.kept.items m.pins.items c.self.invariant.0.each)
+    subst (λ n. AreWithin n m.pins.items) (sym (ap length c.in-Ok.ensures.items))
+    (within_all m.warehouse m.kept.items m.pins.items c.self.invariant.0.each)
 
 pub invariant_of-self-in-Ok-load : goal.invariant_of-self-in-Ok-load
 invariant_of-self-in-Ok-load g c =
@@ -21,10 +22,13 @@ invariant_of-self-in-Ok-load g c =
     let now = c.load.new.self.state in
     let file = c.args.bytes.now in
     let applied = applied_in now c.in-Ok-load.applied in (
-      after_change m.warehouse c.load.new.self c.last_images.new.self m.kept.items c.reserve_one.new.kept.items c.keep.new.kept.items c.last_images.result m.pins.items
-          c.in-Ok.ensures.items c.load.ensures.images c.last_images.ensures.images c.last_images.ensures.rest c.keep.ensures.same c.keep.ensures.within
+      after_change m.warehouse c.load.new.self c.last_images.new.self m.kept.items c.reserve_one.new.kept.items
+          c.store_images.new.kept.items c.last_images.result m.pins.items
+          c.in-Ok.ensures.items c.load.ensures.images c.last_images.ensures.images c.last_images.ensures.rest
+          c.store_images.ensures.same c.store_images.ensures.within
           (ap (λ (s : State). s.schema) (taken-of was Load file applied c.in-Ok-load.ensures.gives).1)
-          (λ rows tree has. tree-after was now rows tree Load file applied has c.in-Ok-load.ensures.gives refl c.load.ensures.valid.state) c.self.invariant.0,
+          (λ rows tree has. tree-after was now rows tree Load file applied has c.in-Ok-load.ensures.gives refl
+          c.load.ensures.valid.state) c.self.invariant.0,
       c.self.invariant.1,
     )
 
@@ -36,7 +40,8 @@ returns-in-Err-clause-err g c = c.self.view_is
 
 pub returns-in-Err-load-clause-gives : goal.returns-in-Err-load-clause-gives
 returns-in-Err-load-clause-gives g c =
-    subst (λ (v : Versions). IfSome (refusal_in c.in-Err-load.refused) (λ refusal. result v.now.state Load c.args.bytes.now ≡ Err refusal)) c.self.view_is c.in-Err-load.ensures.gives
+    subst (λ (v : Versions). IfSome (refusal_in c.in-Err-load.refused)
+    (λ refusal. result v.now.state Load c.args.bytes.now ≡ Err refusal)) c.self.view_is c.in-Err-load.ensures.gives
 
 pub returns-in-Err-load-clause-pins : goal.returns-in-Err-load-clause-pins
 returns-in-Err-load-clause-pins g c = ap (λ (v : Versions). v.pins) c.self.view_is
@@ -45,8 +50,10 @@ pub returns-in-Err-load-clause-err : goal.returns-in-Err-load-clause-err
 returns-in-Err-load-clause-err g c =
     let said = c.in-Err-load.ensures in
     let images = said.no_images ∙ sym c.self.invariant.0.plain in
-    let same : c.load.new.self ≡ c.self.inside.warehouse = λ j. let held : Contents = record { state = said.state j; tree = said.tree j; index = said.index j; images = images j } in held in
-    ap (λ (held : Contents). let v : Versions = record { now = held; pins = map version_in c.self.inside.pins.items } in v) same ∙ c.self.view_is
+    let same : c.load.new.self ≡ c.self.inside.warehouse = λ j. let held : Contents
+    = record { state = said.state j; tree = said.tree j; index = said.index j; images = images j } in held in
+    ap (λ (held : Contents). let v : Versions = record { now = held; pins = map version_in c.self.inside.pins.items } in
+    v) same ∙ c.self.view_is
 
 pub returns-in-Ok-load-clause-pins : goal.returns-in-Ok-load-clause-pins
 returns-in-Ok-load-clause-pins g c = ap (λ (v : Versions). v.pins) c.self.view_is

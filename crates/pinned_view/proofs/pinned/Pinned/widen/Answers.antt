@@ -9,14 +9,18 @@ use Rattle.pinned_view.proofs.pinned.Pinned.widen.Goals.{in-Ok, in-Err}
 pub returns-clause-records : goal.returns-clause-records
 returns-clause-records g c =
     elim c.match-widen.branch [
-      | in-Ok w ↦ rw w.result-is (subst (λ (v : Versions). KeepsWidened (length v.now.state.schema.dims) v.now.tree c.widen.new.self.tree) c.self.view_is w.in-Ok.ensures.records)
+      | in-Ok w ↦ rw w.result-is
+          (subst (λ (v : Versions). KeepsWidened (length v.now.state.schema.dims) v.now.tree c.widen.new.self.tree)
+          c.self.view_is w.in-Ok.ensures.records)
       | in-Err w ↦ rw w.result-is tt
     ]
 
 pub returns-clause-steps : goal.returns-clause-steps
 returns-clause-steps g c =
     elim c.match-widen.branch [
-      | in-Ok w ↦ rw w.result-is (subst (λ (v : Versions). c.widen.new.steps ≤ c.args.steps.now + cost_of_widening (length v.now.state.schema.dims) v.now.tree) c.self.view_is w.in-Ok.ensures.steps)
+      | in-Ok w ↦ rw w.result-is
+          (subst (λ (v : Versions). c.widen.new.steps ≤ c.args.steps.now + cost_of_widening
+          (length v.now.state.schema.dims) v.now.tree) c.self.view_is w.in-Ok.ensures.steps)
       | in-Err w ↦ rw w.result-is tt
     ]
 
@@ -33,6 +37,8 @@ returns-clause-err g c =
       | in-Err w ↦
           let said = w.in-Err.ensures in
           let images = said.no_images ∙ sym c.self.invariant.0.plain in
-          let same : c.widen.new.self ≡ c.self.inside.warehouse = λ j. let held : Contents = record { state = said.state j; tree = said.tree j; index = said.index j; images = images j } in held in
-          rw w.result-is (ap (λ (held : Contents). let v : Versions = record { now = held; pins = map version_in c.self.inside.pins.items } in v) same ∙ c.self.view_is)
+          let same : c.widen.new.self ≡ c.self.inside.warehouse = λ j. let held : Contents
+          = record { state = said.state j; tree = said.tree j; index = said.index j; images = images j } in held in
+          rw w.result-is (ap (λ (held : Contents). let v : Versions
+          = record { now = held; pins = map version_in c.self.inside.pins.items } in v) same ∙ c.self.view_is)
     ]

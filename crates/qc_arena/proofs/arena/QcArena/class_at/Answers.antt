@@ -7,4 +7,5 @@ use Rattle.qc_arena.proofs.arena.QcArena.class_at.Goals as goal
 pub returns : goal.returns
 returns c =
     let m = c.self.inside in
-    c.class_in_place.ensures ∙ (λ j. class_in (sym (get_now m.nodes c.args.number) j)) ∙ ap (λ (v : Arena). class_now v c.args.number) c.self.view_is
+    c.class_in_place.ensures ∙ (λ j. class_in (sym (get_now m.nodes c.args.number) j))
+    ∙ ap (λ (v : Arena). class_now v c.args.number) c.self.view_is

@@ -19,4 +19,6 @@ places-preserved g c =
     }
 
 pub returns-clause-none : goal.returns-clause-none
-returns-clause-none g c = all_out c.places.self.now c.places.place c.places-place-end.result (omega (arith, c.places-test.false)) c.places.invariant.out c.places.invariant.none
+returns-clause-none g c
+    = all_out c.places.self.now c.places.place c.places-place-end.result (omega (arith, c.places-test.false))
+    c.places.invariant.out c.places.invariant.none

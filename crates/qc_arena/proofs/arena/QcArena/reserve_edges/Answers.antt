@@ -9,21 +9,35 @@ use Rattle.qc_arena.proofs.Stored.{as_is, set_stored}
 use Rattle.qc_arena.proofs.arena.QcArena.reserve_edges.Goals as goal
 
 pub reserve_edges_at-requires : goal.reserve_edges_at-requires
-reserve_edges_at-requires c = subst (λ (o : Option Known). IsSome o) (there c.self.inside.nodes c.args.self.now.now c.args.node.0 (ap (λ (v : Arena). v.now) c.self.view_is)) c.requires
+reserve_edges_at-requires c
+    = subst (λ (o : Option Known). IsSome o)
+    (there c.self.inside.nodes c.args.self.now.now c.args.node.0 (ap (λ (v : Arena). v.now) c.self.view_is)) c.requires
 
 pub invariant_of-self : goal.invariant_of-self
 invariant_of-self c =
     let m = c.self.inside in
     let t = c.reserve_edges_at.new.nodes in
     let k = c.args.node.0 in (
-      same_arena m.dims m.dims_then m.max m.nodes t m.images m.is_open m.kept m.was k c.self.invariant.0 c.reserve_edges_at.ensures.there c.reserve_edges_at.ensures.here c.reserve_edges_at.ensures.others,
-      set_stored m.nodes t m.parts k (λ n. n) c.self.invariant.1 (subst (λ (o : Option Known). IsSome o) (there m.nodes c.args.self.now.now k (ap (λ (v : Arena). v.now) c.self.view_is)) c.requires) (λ n. refl)
+      same_arena m.dims m.dims_then m.max m.nodes t m.images m.is_open m.kept m.was k c.self.invariant.0
+          c.reserve_edges_at.ensures.there c.reserve_edges_at.ensures.here c.reserve_edges_at.ensures.others,
+      set_stored m.nodes t m.parts k (λ n. n) c.self.invariant.1
+          (subst (λ (o : Option Known). IsSome o)
+          (there m.nodes c.args.self.now.now k (ap (λ (v : Arena). v.now) c.self.view_is)) c.requires) (λ n. refl)
           (c.reserve_edges_at.ensures.here ∙ as_is (join (slots.get m.nodes k))) c.reserve_edges_at.ensures.others,
     )
 
 pub returns : goal.returns
 returns c =
     let m = c.self.inside in
-    let same = slots_same m.nodes c.reserve_edges_at.new.nodes c.args.node.0 c.reserve_edges_at.ensures.here c.reserve_edges_at.ensures.others in
-    let with : Tree _ → Arena = λ t. record { width = m.dims; max = m.max; now = t; was = begun m.is_open m.dims_then (was_of t m.images); touched = touched_in m.images; last = m.last } in
+    let same = slots_same m.nodes c.reserve_edges_at.new.nodes c.args.node.0 c.reserve_edges_at.ensures.here
+    c.reserve_edges_at.ensures.others in
+    let with : Tree _ → Arena
+    = λ t. record {
+      width = m.dims;
+      max = m.max;
+      now = t;
+      was = begun m.is_open m.dims_then (was_of t m.images);
+      touched = touched_in m.images;
+      last = m.last;
+    } in
     ap with same ∙ c.self.view_is

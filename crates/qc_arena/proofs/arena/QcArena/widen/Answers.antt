@@ -3,7 +3,7 @@ use Rattle.std.specs.Option.{option_map}
 use Rattle.slab.specs.Slab as slots
 use Rattle.cube_defs.specs.Cell.{Cell, depth}
 use Rattle.cube_defs.specs.Tree.{Tree}
-use Rattle.widen_laws.specs.Widened.{kept_by_number}
+use Rattle.widen_laws.specs.Widened.{with_any_by_number}
 use Rattle.qc_arena.specs.Codes.{Shape}
 use Rattle.qc_arena.specs.Map.{Arena, Known, is_open}
 use Rattle.qc_arena.specs.Inside.{AreBegun, AreTotals, image_at, join, now_of, touched_in, was_of}
@@ -43,17 +43,21 @@ invariant_of-self c =
     let n = m.dims + 1 in
     let t = c.resize_all.new.nodes in
     let none = none_touched m.images (ap (λ (v : Arena). v.touched) c.self.view_is ∙ c.requires.untouched) in
-    let opened = sym (is_begun m.is_open m.dims_then (was_of (now_of m.nodes) m.images)) ∙ ap is_open c.self.view_is ∙ c.requires.opened in
+    let opened = sym (is_begun m.is_open m.dims_then (was_of (now_of m.nodes) m.images)) ∙ ap is_open c.self.view_is
+    ∙ c.requires.opened in
     let wide : m.dims ≡ c.args.self.now.width = ap (λ (v : Arena). v.width) c.self.view_is in
     let now = now_resized n m.nodes t c.resize_all.ensures.nodes in
-    let was = nothing_was (now_of t) m.images none ∙ now ∙ ap (all_resized n) (sym (nothing_was (now_of m.nodes) m.images none)) in (
+    let was = nothing_was (now_of t) m.images none ∙ now
+    ∙ ap (all_resized n) (sym (nothing_was (now_of m.nodes) m.images none)) in (
       record {
         few_dims = omega (arith, wide, c.requires.few);
         few_nodes = is.few_nodes;
         in_slots = closed_slots t m.images m.is_open c.resize_all.ensures.none_killed none;
-        is_kept = subst (λ (x : Tree ℕ). AreTotals n m.max x m.kept) (sym now) (kept_longer m.dims n m.max (now_of m.nodes) m.kept is.is_kept (omega arith));
+        is_kept = subst (λ (x : Tree ℕ). AreTotals n m.max x m.kept) (sym now)
+            (kept_longer m.dims n m.max (now_of m.nodes) m.kept is.is_kept (omega arith));
         was_kept = subst (λ (x : Tree ℕ). AreBegun m.is_open n m.dims_then m.max x m.was) (sym was)
-            (begun_longer m.is_open m.dims m.dims_then n m.max (was_of (now_of m.nodes) m.images) m.was opened (omega arith) is.was_kept);
+            (begun_longer m.is_open m.dims m.dims_then n m.max (was_of (now_of m.nodes) m.images) m.was opened
+            (omega arith) is.was_kept);
       },
       resized_stored n m.nodes t m.parts c.self.invariant.1 c.resize_all.ensures.nodes c.resize_all.ensures.none_killed,
     )
@@ -65,17 +69,29 @@ returns-clause-value c =
     let t = c.resize_all.new.nodes in
     let none = none_touched m.images (ap (λ (v : Arena). v.touched) c.self.view_is ∙ c.requires.untouched) in
     let now = now_resized n m.nodes t c.resize_all.ensures.nodes in
-    let was = nothing_was (now_of t) m.images none ∙ now ∙ ap (all_resized n) (sym (nothing_was (now_of m.nodes) m.images none)) in
+    let was = nothing_was (now_of t) m.images none ∙ now
+    ∙ ap (all_resized n) (sym (nothing_was (now_of m.nodes) m.images none)) in
     let narrow = c.self.invariant.0.was_kept.narrow in
     let same = begun_same m.is_open m.dims_then (was_of (now_of t) m.images) (was_of (now_of m.nodes) m.images)
     (ap (all_resized m.dims_then) was ∙ again m.dims_then n (was_of (now_of m.nodes) m.images) (omega arith)) in
-    let seen : Option Shape → Arena = λ o. record { width = n; max = m.max; now = now_of t; was = o; touched = touched_in m.images; last = m.last } in
+    let seen : Option Shape → Arena = λ o. record {
+      width = n;
+      max = m.max;
+      now = now_of t;
+      was = o;
+      touched
+          = touched_in m.images;
+      last = m.last;
+    } in
     ap seen same ∙ ap (λ (v : Arena). record v { width = v.width + 1; now = now_of t }) c.self.view_is
 
 pub returns-clause-nodes : goal.returns-clause-nodes
 returns-clause-nodes c = λ q.
     let m = c.self.inside in
     let t = c.resize_all.new.nodes in
-    let long = λ (x : Cell ℕ) (e : option_map (λ (n : Known). n.cell) (join (slots.get m.nodes q)) ≡ Some x). c.self.invariant.0.is_kept.cells q x (ap (option_map (λ (n : Known). n.cell)) (get_now m.nodes q) ∙ e) in
+    let long = λ (x : Cell ℕ) (e : option_map (λ (n : Known). n.cell) (join (slots.get m.nodes q))
+    ≡ Some x). c.self.invariant.0.is_kept.cells q x
+    (ap (option_map (λ (n : Known). n.cell)) (get_now m.nodes q) ∙ e) in
     get_now t q ∙ c.resize_all.ensures.nodes q ∙ kept_long m.dims (m.dims + 1) (join (slots.get m.nodes q)) refl long
-    ∙ ap (option_map kept_by_number) (sym (there m.nodes c.args.self.now.now q (ap (λ (v : Arena). v.now) c.self.view_is)))
+    ∙ ap (option_map with_any_by_number)
+    (sym (there m.nodes c.args.self.now.now q (ap (λ (v : Arena). v.now) c.self.view_is)))

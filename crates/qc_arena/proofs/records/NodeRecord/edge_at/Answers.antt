@@ -9,4 +9,6 @@ use Rattle.qc_arena.proofs.records.NodeRecord.edge_at.Goals as goal
 pub returns-clause-small : goal.returns-clause-small
 returns-clause-small c =
     let within : c.args.k < length c.as_slice-edges.result.now = grind (arith, common_steps, c.requires) in
-    small_at c.as_slice-edges.result.now c.args.k blank (subst (λ (l : List StoredEdge). list_all is_small (edges_to l) ≡ true) (sym c.as_slice-edges.ensures) c.self.invariant.small_edges) within
+    small_at c.as_slice-edges.result.now c.args.k blank
+    (subst (λ (l : List StoredEdge). list_all is_small (edges_to l) ≡ true)
+    (sym c.as_slice-edges.ensures) c.self.invariant.small_edges) within

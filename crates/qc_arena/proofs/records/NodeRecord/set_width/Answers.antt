@@ -20,8 +20,10 @@ invariant_of-self c =
       end = ap last_label cell ∙ label-resize c.args.dims (cell_on trail) deep ∙ is.end;
       small_end = is.small_end;
       small_forced = is.small_forced;
-      few_dims = let long = ap (λ (x : Cell ℕ). length x) cell ∙ length-resize c.args.dims (cell_on trail) in let few = c.requires.few in omega arith;
-      begun = subst (λ (x : List (ℕ × ℕ)). x ≢ []) (sym c.behind-self-inside.ensures) (first_begun (c.args.dims, 0) trail);
+      few_dims = let long = ap (λ (x : Cell ℕ). length x) cell ∙ length-resize c.args.dims (cell_on trail) in
+          let few = c.requires.few in omega arith;
+      begun = subst (λ (x : List (ℕ × ℕ)). x ≢ []) (sym c.behind-self-inside.ensures)
+          (first_begun (c.args.dims, 0) trail);
       within = subst IsTrail (sym c.behind-self-inside.ensures) (within_first c.args.dims 0 trail is.within deep);
       rising = is.rising;
       few = is.few;
@@ -35,5 +37,17 @@ returns c =
     let cell = ap cell_on c.behind-self-inside.ensures ∙ cell_on-resized c.args.dims 0 trail is.begun is.within in
     let m = c.self.inside in
     let with : Cell ℕ → Slot = λ x.
-    record { node = record { cell = x; parent = parent_in m.dim m.parent; class = class_on m.noted.items; forced = forced_in m.forced_dim m.forced_code m.forced_child; edges = edges_to m.edges.items }; is_killed = m.is_killed } in
-    ap with cell ∙ ap (λ (h : Slot). record h { node = record h.node { cell = resize c.args.dims h.node.cell } }) c.self.view_is
+    record {
+      node = record {
+        cell = x;
+        parent = parent_in m.dim m.parent;
+        class = class_on m.noted.items;
+        forced
+            = forced_in m.forced_dim m.forced_code m.forced_child;
+        edges = edges_to m.edges.items;
+      };
+      is_killed
+          = m.is_killed;
+    } in
+    ap with cell ∙ ap (λ (h : Slot). record h { node = record h.node { cell = resize c.args.dims h.node.cell } })
+    c.self.view_is

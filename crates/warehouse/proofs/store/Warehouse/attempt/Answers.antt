@@ -10,7 +10,7 @@ use Rattle.warehouse.specs.InPlace.{cost_in}
 use Rattle.warehouse.specs.Changing.{state_in}
 use Rattle.warehouse.specs.State.{Contents, State}
 use Rattle.warehouse.specs.Stored.{applied_in, refusal_in}
-use Rattle.warehouse.proofs.Repairing.{of-batch}
+use Rattle.warehouse.proofs.TreeInsertions.{of-batch}
 use Rattle.warehouse.proofs.Trees.{is-held}
 use Rattle.warehouse.proofs.store.Warehouse.attempt.Goals as goal
 
@@ -20,7 +20,8 @@ returns-in-Err-clause-gives g c =
     let old = state_in inside.schema inside.cube in
     let state = ap (λ (w : Contents). w.state) (c.self.view_is ∙ c.drop_images.ensures.rest) in (
       old,
-      subst (λ (s : State). IfSome (refusal_in c.refused_file.result) (λ refusal. result_of s (batch_in s.schema c.args.bytes.now) ≡ Err refusal)) state
+      subst (λ (s : State). IfSome (refusal_in c.refused_file.result)
+          (λ refusal. result_of s (batch_in s.schema c.args.bytes.now) ≡ Err refusal)) state
           (c.refused_file.ensures old (batch_in inside.schema c.args.bytes.now) c.in-Err.ensures.gives),
     )
 
@@ -28,18 +29,26 @@ pub returns-in-Ok-clause-gives : goal.returns-in-Ok-clause-gives
 returns-in-Ok-clause-gives g c =
     let state = ap (λ (w : Contents). w.state) (c.self.view_is ∙ c.drop_images.ensures.rest) in
     let was = ap (λ (w : Contents). w.state) c.drop_images.ensures.rest in
-    let read : batch_in c.args.self.now.state.schema c.args.bytes.now ≡ Ok c.in-Ok.batch.changes = subst (λ (s : State). batch_in s.schema c.args.bytes.now ≡ Ok c.in-Ok.batch.changes) state c.in-Ok.ensures.gives in
-    subst (λ (r : Result (List (Change Text)) Fault). (after : State) × Gives refusal_in (applied_in after) c.try_change.result (result_of c.args.self.now.state r)) (sym read)
-    (subst (λ (s : State). (after : State) × Gives refusal_in (applied_in after) c.try_change.result (result_of s (Ok c.in-Ok.batch.changes))) was c.try_change.ensures.gives)
+    let read : batch_in c.args.self.now.state.schema c.args.bytes.now ≡ Ok c.in-Ok.batch.changes
+    = subst (λ (s : State). batch_in s.schema c.args.bytes.now ≡ Ok c.in-Ok.batch.changes) state
+    c.in-Ok.ensures.gives in
+    subst (λ (r : Result (List (Change Text)) Fault). (after : State)
+    × Gives refusal_in (applied_in after) c.attempt_changes.result (result_of c.args.self.now.state r)) (sym read)
+    (subst (λ (s : State). (after : State)
+    × Gives refusal_in (applied_in after) c.attempt_changes.result (result_of s (Ok c.in-Ok.batch.changes))) was
+    c.attempt_changes.ensures.gives)
 
 pub returns-in-Err-clause-valid : goal.returns-in-Err-clause-valid
-returns-in-Err-clause-valid g c = rw (← c.self.view_is) (is-held c.self.inside.schema c.self.inside.cube c.self.inside.index c.self.invariant)
+returns-in-Err-clause-valid g c
+    = rw (← c.self.view_is) (is-held c.self.inside.schema c.self.inside.cube c.self.inside.index c.self.invariant)
 
 pub returns-in-Ok-clause-steps : goal.returns-in-Ok-clause-steps
 returns-in-Ok-clause-steps g c =
     let state = ap (λ (w : Contents). w.state) (c.self.view_is ∙ c.drop_images.ensures.rest) in
     let changes = c.in-Ok.batch.changes in
-    of-batch c.try_change.result c.args.self.now.state.schema c.args.bytes.now changes
-    (λ xs. c.try_change.new.steps ≤ c.args.steps.now + cost_in c.args.self.now.state xs)
+    of-batch c.attempt_changes.result c.args.self.now.state.schema c.args.bytes.now changes
+    (λ xs. c.attempt_changes.new.steps ≤ c.args.steps.now + cost_in c.args.self.now.state xs)
     (subst (λ (s : State). batch_in s.schema c.args.bytes.now ≡ Ok changes) state c.in-Ok.ensures.gives)
-    (subst (λ (w : Contents). OnOk c.try_change.result (c.try_change.new.steps ≤ c.args.steps.now + cost_in w.state changes)) c.drop_images.ensures.rest c.try_change.ensures.steps)
+    (subst (λ (w : Contents). OnOk c.attempt_changes.result
+    (c.attempt_changes.new.steps ≤ c.args.steps.now + cost_in w.state changes)) c.drop_images.ensures.rest
+    c.attempt_changes.ensures.steps)

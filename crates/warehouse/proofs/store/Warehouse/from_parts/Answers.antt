@@ -10,10 +10,18 @@ invariant_of-result g c = record { stored = c.requires; kept = c.in-Ok.ensures.t
 
 pub returns-in-Ok-clause-valid : goal.returns-in-Ok-clause-valid
 returns-in-Ok-clause-valid g c =
-    is-held c.args.schema (record { table = c.args.table; dict = c.args.dict; tree = c.in-Ok.tree; alloc = c.args.alloc }) c.in-Ok.index
+    is-held c.args.schema (record {
+      table = c.args.table;
+      dict = c.args.dict;
+      tree = c.in-Ok.tree;
+      alloc
+          = c.args.alloc;
+    }) c.in-Ok.index
     (record { stored = c.requires; kept = c.in-Ok.ensures.tree; indexed = c.in-Ok.ensures.index })
 
 pub returns-in-Err-clause-nodes_full : goal.returns-in-Err-clause-nodes_full
 returns-in-Err-clause-nodes_full g c = λ e.
     let same : c.in-Err.refused ≡ NodesFull = cc in
-    subst (λ (n : ℕ). c.args.schema.nodes < n) (nodes-decoded c.args.dict.lists (rows_of c.args.table) c.requires.known c.requires.dictionary.distinct) (c.in-Err.ensures.full (ap Err same))
+    subst (λ (n : ℕ). c.args.schema.nodes < n)
+    (nodes-decoded c.args.dict.lists (rows_of c.args.table) c.requires.known c.requires.dictionary.distinct)
+    (c.in-Err.ensures.full (ap Err same))

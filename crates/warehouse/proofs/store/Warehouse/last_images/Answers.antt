@@ -9,5 +9,6 @@ pub returns-clause-valid : goal.returns-clause-valid
 returns-clause-valid c =
     let inside = c.self.inside in
     let held = is-held inside.schema inside.cube inside.index c.self.invariant in
-    subst (λ (tree : Arena). AreContents (contents_of inside.schema (record inside.cube { tree = tree }) inside.index)) (sym c.last_images.ensures.rest)
+    subst (λ (tree : Arena). AreContents (contents_of inside.schema (record inside.cube { tree = tree }) inside.index))
+    (sym c.last_images.ensures.rest)
     (record { state = held.state; tree = held.tree; index = held.index })

@@ -19,28 +19,49 @@ pub returns-in-Err-clause-gives : goal.returns-in-Err-clause-gives
 returns-in-Err-clause-gives g c =
     let inside = c.self.inside in
     let state = ap (λ (w : Contents). w.state) (c.self.view_is ∙ c.drop_images.ensures.rest) in
-    let empty : nat_eq (length (decoded_rows inside.cube.dict.lists inside.cube.table)) 0 ≡ true = grind (arith, length-rows inside.cube.dict.lists (rows_of inside.cube.table), c.count.ensures.value, c.if-count-ne0.false) in
-    subst (λ (s : State). IfSome (refusal_in c.refused_file.result) (λ refusal. result s Load c.args.bytes.now ≡ Err refusal)) state
-    (rw empty (c.refused_file.ensures (state_in inside.schema inside.cube) (base_in inside.schema c.args.bytes.now) c.in-Err.ensures.gives))
+    let empty : nat_eq (length (decoded_rows inside.cube.dict.lists inside.cube.table)) 0 ≡ true
+    = grind (
+      arith,
+      length-rows inside.cube.dict.lists (rows_of inside.cube.table),
+      c.count.ensures.value,
+      c.if-count-ne0.false,
+    ) in
+    subst (λ (s : State). IfSome (refusal_in c.refused_file.result)
+    (λ refusal. result s Load c.args.bytes.now ≡ Err refusal)) state
+    (rw empty (c.refused_file.ensures (state_in inside.schema inside.cube) (base_in inside.schema c.args.bytes.now)
+    c.in-Err.ensures.gives))
 
 pub returns-in-Ok-clause-gives : goal.returns-in-Ok-clause-gives
 returns-in-Ok-clause-gives g c =
     let inside = c.self.inside in
     let state = ap (λ (w : Contents). w.state) (c.self.view_is ∙ c.drop_images.ensures.rest) in
     let was = ap (λ (w : Contents). w.state) c.drop_images.ensures.rest in
-    let new = c.change.new.self.state in
-    let empty : nat_eq (length (decoded_rows inside.cube.dict.lists inside.cube.table)) 0 ≡ true = grind (arith, length-rows inside.cube.dict.lists (rows_of inside.cube.table), c.count.ensures.value, c.if-count-ne0.false) in
-    let none : nat_eq (length c.args.self.now.state.rows) 0 ≡ true = subst (λ (s : State). nat_eq (length s.rows) 0 ≡ true) state empty in
-    let read : base_in c.args.self.now.state.schema c.args.bytes.now ≡ Ok c.in-Ok.batch.changes = subst (λ (s : State). base_in s.schema c.args.bytes.now ≡ Ok c.in-Ok.batch.changes) state c.in-Ok.ensures.gives in
+    let new = c.make_changes.new.self.state in
+    let empty : nat_eq (length (decoded_rows inside.cube.dict.lists inside.cube.table)) 0 ≡ true
+    = grind (
+      arith,
+      length-rows inside.cube.dict.lists (rows_of inside.cube.table),
+      c.count.ensures.value,
+      c.if-count-ne0.false,
+    ) in
+    let none : nat_eq (length c.args.self.now.state.rows) 0 ≡ true
+    = subst (λ (s : State). nat_eq (length s.rows) 0 ≡ true) state empty in
+    let read : base_in c.args.self.now.state.schema c.args.bytes.now ≡ Ok c.in-Ok.batch.changes
+    = subst (λ (s : State). base_in s.schema c.args.bytes.now ≡ Ok c.in-Ok.batch.changes) state
+    c.in-Ok.ensures.gives in
     rw none
-    (subst (λ (r : Result (List (Change Text)) Fault). Gives refusal_in (applied_in new) c.change.result (result_of c.args.self.now.state r)) (sym read)
-    (subst (λ (s : State). Gives refusal_in (applied_in new) c.change.result (result_of s (Ok c.in-Ok.batch.changes))) was c.change.ensures.gives))
+    (subst (λ (r : Result (List (Change Text)) Fault). Gives refusal_in (applied_in new) c.make_changes.result
+    (result_of c.args.self.now.state r)) (sym read)
+    (subst (λ (s : State). Gives refusal_in (applied_in new) c.make_changes.result
+    (result_of s (Ok c.in-Ok.batch.changes))) was c.make_changes.ensures.gives))
 
 pub returns-then-count-ne0-clause-valid : goal.returns-then-count-ne0-clause-valid
-returns-then-count-ne0-clause-valid g c = rw (← c.self.view_is) (is-held c.self.inside.schema c.self.inside.cube c.self.inside.index c.self.invariant)
+returns-then-count-ne0-clause-valid g c
+    = rw (← c.self.view_is) (is-held c.self.inside.schema c.self.inside.cube c.self.inside.index c.self.invariant)
 
 pub returns-in-Err-clause-valid : goal.returns-in-Err-clause-valid
-returns-in-Err-clause-valid g c = rw (← c.self.view_is) (is-held c.self.inside.schema c.self.inside.cube c.self.inside.index c.self.invariant)
+returns-in-Err-clause-valid g c
+    = rw (← c.self.view_is) (is-held c.self.inside.schema c.self.inside.cube c.self.inside.index c.self.invariant)
 
 pub returns-then-count-ne0-clause-images : goal.returns-then-count-ne0-clause-images
 returns-then-count-ne0-clause-images g c = rw (c.drop_images.ensures.rest) (over-none c.args.self.now.tree)
@@ -50,28 +71,39 @@ returns-in-Err-clause-images g c = rw (c.drop_images.ensures.rest) (over-none c.
 
 pub returns-in-Ok-clause-state : goal.returns-in-Ok-clause-state
 returns-in-Ok-clause-state g c =
-    err-then c.change.result (λ (same : c.change.new.self ≡ c.drop_images.new.self). ap (λ (w : Contents). w.state) (same ∙ c.drop_images.ensures.rest)) c.change.ensures.same
+    err-then c.make_changes.result
+    (λ (same : c.make_changes.new.self ≡ c.drop_images.new.self). ap (λ (w : Contents). w.state) (same
+    ∙ c.drop_images.ensures.rest)) c.make_changes.ensures.same
 
 pub returns-in-Ok-clause-tree : goal.returns-in-Ok-clause-tree
 returns-in-Ok-clause-tree g c =
-    err-then c.change.result (λ (same : c.change.new.self ≡ c.drop_images.new.self). ap (λ (w : Contents). w.tree) (same ∙ c.drop_images.ensures.rest)) c.change.ensures.same
+    err-then c.make_changes.result
+    (λ (same : c.make_changes.new.self ≡ c.drop_images.new.self). ap (λ (w : Contents). w.tree) (same
+    ∙ c.drop_images.ensures.rest)) c.make_changes.ensures.same
 
 pub returns-in-Ok-clause-index : goal.returns-in-Ok-clause-index
 returns-in-Ok-clause-index g c =
-    err-then c.change.result (λ (same : c.change.new.self ≡ c.drop_images.new.self). ap (λ (w : Contents). w.index) (same ∙ c.drop_images.ensures.rest)) c.change.ensures.same
+    err-then c.make_changes.result
+    (λ (same : c.make_changes.new.self ≡ c.drop_images.new.self). ap (λ (w : Contents). w.index) (same
+    ∙ c.drop_images.ensures.rest)) c.make_changes.ensures.same
 
 pub returns-in-Ok-clause-no_images : goal.returns-in-Ok-clause-no_images
 returns-in-Ok-clause-no_images g c =
-    err-then c.change.result (λ (same : c.change.new.self ≡ c.drop_images.new.self). ap (λ (w : Contents). w.images) (same ∙ c.drop_images.ensures.rest)) c.change.ensures.same
+    err-then c.make_changes.result
+    (λ (same : c.make_changes.new.self ≡ c.drop_images.new.self). ap (λ (w : Contents). w.images) (same
+    ∙ c.drop_images.ensures.rest)) c.make_changes.ensures.same
 
 pub returns-in-Ok-clause-images : goal.returns-in-Ok-clause-images
-returns-in-Ok-clause-images g c = c.change.ensures.images ∙ ap (λ (w : Contents). w.tree) c.drop_images.ensures.rest
+returns-in-Ok-clause-images g c = c.make_changes.ensures.images
+    ∙ ap (λ (w : Contents). w.tree) c.drop_images.ensures.rest
 
-pub change-requires-clause-dims : goal.change-requires-clause-dims
-change-requires-clause-dims g c = c.in-Ok.ensures.dims ∙ ap (λ (w : Contents). length w.state.schema.dims) c.self.view_is
+pub make_changes-requires-clause-dims : goal.make_changes-requires-clause-dims
+make_changes-requires-clause-dims g c = c.in-Ok.ensures.dims
+    ∙ ap (λ (w : Contents). length w.state.schema.dims) c.self.view_is
 
-pub change-requires-clause-measures : goal.change-requires-clause-measures
-change-requires-clause-measures g c = c.in-Ok.ensures.measures ∙ ap (λ (w : Contents). length w.state.schema.measures) c.self.view_is
+pub make_changes-requires-clause-measures : goal.make_changes-requires-clause-measures
+make_changes-requires-clause-measures g c = c.in-Ok.ensures.measures
+    ∙ ap (λ (w : Contents). length w.state.schema.measures) c.self.view_is
 
-pub change-requires-clause-images : goal.change-requires-clause-images
-change-requires-clause-images g c = ap (λ (w : Contents). w.images) c.drop_images.ensures.rest
+pub make_changes-requires-clause-images : goal.make_changes-requires-clause-images
+make_changes-requires-clause-images g c = ap (λ (w : Contents). w.images) c.drop_images.ensures.rest

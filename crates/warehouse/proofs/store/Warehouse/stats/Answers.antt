@@ -9,13 +9,17 @@ pub returns-clause-classes : goal.returns-clause-classes
 returns-clause-classes c =
     let inside = c.self.inside in
     let stored = c.self.invariant.stored in
-    rw (← c.self.view_is) (c.class_count.ensures ∙ classes-kept inside.cube.dict.lists (rows_of inside.cube.table) stored.known stored.dictionary.distinct _ _ inside.cube.tree.now c.self.invariant.kept.from)
+    rw (← c.self.view_is) (c.class_count.ensures
+    ∙ classes-kept inside.cube.dict.lists (rows_of inside.cube.table) stored.known stored.dictionary.distinct _ _
+    inside.cube.tree.now c.self.invariant.kept.from)
 
 pub returns-clause-nodes : goal.returns-clause-nodes
 returns-clause-nodes c =
     let inside = c.self.inside in
     let stored = c.self.invariant.stored in
-    rw (← c.self.view_is) (c.live-nodes.ensures.value ∙ nodes-kept inside.cube.dict.lists (rows_of inside.cube.table) stored.known stored.dictionary.distinct _ _ inside.cube.tree.now c.self.invariant.kept.from)
+    rw (← c.self.view_is) (c.live-nodes.ensures.value
+    ∙ nodes-kept inside.cube.dict.lists (rows_of inside.cube.table) stored.known stored.dictionary.distinct _ _
+    inside.cube.tree.now c.self.invariant.kept.from)
 
 pub returns-clause-tree_edges : goal.returns-clause-tree_edges
 returns-clause-tree_edges c =
@@ -23,8 +27,11 @@ returns-clause-tree_edges c =
     let stored = c.self.invariant.stored in
     let less : c.from-tree_edges.result ≡ tree_edges_in nat_cmp inside.cube.tree.now =
     c.from-tree_edges.ensures ∙ c.saturating_sub.ensures ∙ ap (λ (n : ℕ). n - 1) c.live-nodes.ensures.value
-    ∙ sym (tree_edges-less inside.cube.dict.lists (rows_of inside.cube.table) stored.known stored.dictionary.distinct _ _ inside.cube.tree.now c.self.invariant.kept.from) in
-    rw (← c.self.view_is) (less ∙ tree_edges-kept inside.cube.dict.lists (rows_of inside.cube.table) stored.known stored.dictionary.distinct _ _ inside.cube.tree.now c.self.invariant.kept.from)
+    ∙ sym (tree_edges-less inside.cube.dict.lists (rows_of inside.cube.table) stored.known stored.dictionary.distinct _
+    _ inside.cube.tree.now c.self.invariant.kept.from) in
+    rw (← c.self.view_is) (less
+    ∙ tree_edges-kept inside.cube.dict.lists (rows_of inside.cube.table) stored.known stored.dictionary.distinct _ _
+    inside.cube.tree.now c.self.invariant.kept.from)
 
 pub returns-clause-links : goal.returns-clause-links
 returns-clause-links c =
@@ -32,9 +39,13 @@ returns-clause-links c =
     let stored = c.self.invariant.stored in
     let less : c.from-tree_edges.result ≡ tree_edges_in nat_cmp inside.cube.tree.now =
     c.from-tree_edges.ensures ∙ c.saturating_sub.ensures ∙ ap (λ (n : ℕ). n - 1) c.live-nodes.ensures.value
-    ∙ sym (tree_edges-less inside.cube.dict.lists (rows_of inside.cube.table) stored.known stored.dictionary.distinct _ _ inside.cube.tree.now c.self.invariant.kept.from) in
-    let left : c.edge_total.result - c.from-tree_edges.result ≡ links_in nat_cmp inside.cube.tree.now = omega (arith, less, c.edge_total.ensures.kinds) in
-    rw (← c.self.view_is) (left ∙ links-kept inside.cube.dict.lists (rows_of inside.cube.table) stored.known stored.dictionary.distinct _ _ inside.cube.tree.now c.self.invariant.kept.from)
+    ∙ sym (tree_edges-less inside.cube.dict.lists (rows_of inside.cube.table) stored.known stored.dictionary.distinct _
+    _ inside.cube.tree.now c.self.invariant.kept.from) in
+    let left : c.edge_total.result - c.from-tree_edges.result ≡ links_in nat_cmp inside.cube.tree.now
+    = omega (arith, less, c.edge_total.ensures.kinds) in
+    rw (← c.self.view_is) (left
+    ∙ links-kept inside.cube.dict.lists (rows_of inside.cube.table) stored.known stored.dictionary.distinct _ _
+    inside.cube.tree.now c.self.invariant.kept.from)
 
 pub overflow_sub-result : goal.overflow_sub-result
 overflow_sub-result c =
@@ -42,5 +53,6 @@ overflow_sub-result c =
     let stored = c.self.invariant.stored in
     let less : c.from-tree_edges.result ≡ tree_edges_in nat_cmp inside.cube.tree.now =
     c.from-tree_edges.ensures ∙ c.saturating_sub.ensures ∙ ap (λ (n : ℕ). n - 1) c.live-nodes.ensures.value
-    ∙ sym (tree_edges-less inside.cube.dict.lists (rows_of inside.cube.table) stored.known stored.dictionary.distinct _ _ inside.cube.tree.now c.self.invariant.kept.from) in
+    ∙ sym (tree_edges-less inside.cube.dict.lists (rows_of inside.cube.table) stored.known stored.dictionary.distinct _
+    _ inside.cube.tree.now c.self.invariant.kept.from) in
     omega (arith, less, c.edge_total.ensures.kinds)

@@ -11,15 +11,21 @@ use Rattle.warehouse.proofs.store.Warehouse.widen.Goals as goal
 pub returns-clause-gives : goal.returns-clause-gives
 returns-clause-gives g c =
     let then_state = state_in c.widen.new.schema c.widen.new.cube in
-    subst (λ (w : Contents). Gives widen_refusal_in (applied_in then_state) c.widen.result (widen_result w.state c.args.name.now c.args.value.now)) (c.self.view_is ∙ c.drop_images.ensures.rest) c.widen.ensures.gives
+    subst (λ (w : Contents). Gives widen_refusal_in (applied_in then_state) c.widen.result
+    (widen_result w.state c.args.name.now c.args.value.now)) (c.self.view_is
+    ∙ c.drop_images.ensures.rest) c.widen.ensures.gives
 
 pub returns-clause-records : goal.returns-clause-records
 returns-clause-records g c =
-    subst (λ (w : Contents). OnOk c.widen.result (KeepsWidened (length w.state.schema.dims) w.tree c.widen.new.cube.tree.now)) (c.self.view_is ∙ c.drop_images.ensures.rest) c.widen.ensures.records
+    subst (λ (w : Contents). OnOk c.widen.result
+    (KeepsWidened (length w.state.schema.dims) w.tree c.widen.new.cube.tree.now)) (c.self.view_is
+    ∙ c.drop_images.ensures.rest) c.widen.ensures.records
 
 pub returns-clause-steps : goal.returns-clause-steps
 returns-clause-steps g c =
-    subst (λ (w : Contents). OnOk c.widen.result (c.widen.new.steps ≤ c.args.steps.now + cost_of_widening (length w.state.schema.dims) w.tree)) (c.self.view_is ∙ c.drop_images.ensures.rest) c.widen.ensures.steps
+    subst (λ (w : Contents). OnOk c.widen.result
+    (c.widen.new.steps ≤ c.args.steps.now + cost_of_widening (length w.state.schema.dims) w.tree)) (c.self.view_is
+    ∙ c.drop_images.ensures.rest) c.widen.ensures.steps
 
 pub returns-clause-valid : goal.returns-clause-valid
 returns-clause-valid g c =

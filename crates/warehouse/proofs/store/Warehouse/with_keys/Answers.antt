@@ -11,7 +11,10 @@ invariant_of-result c =
     let schema = c.args.schema in
     let rows = c.in-Ok.ensures in
     let made = c.in-Ok-no_tree.ensures in
-    let stored : IsStored schema c.in-Ok.dict c.in-Ok.table = rw (rows.texts, rows.rows) (stored-empty schema c.no_rows.ensures.layout (subst IsDictionary rows.texts rows.dictionary)) in
-    let kept : IsTreeOfTable schema c.in-Ok.table c.in-Ok-no_tree.tree = rw (rows.rows, made.tree) (kept-empty schema) in
+    let stored : IsStored schema c.in-Ok.dict c.in-Ok.table
+    = rw (rows.texts, rows.rows)
+    (stored-empty schema c.no_rows.ensures.layout (subst IsDictionary rows.texts rows.dictionary)) in
+    let kept : IsTreeOfTable schema c.in-Ok.table c.in-Ok-no_tree.tree
+    = rw (rows.rows, made.tree) (kept-empty schema) in
     let indexed : IsIndexed schema c.in-Ok-no_tree.tree.now c.in-Ok-no_tree.index = rw (made.tree) made.index in
     record { stored = stored; kept = kept; indexed = indexed }

@@ -1,0 +1,81 @@
+use Rattle.std.proofs.Common.{◌≡◌, ◌≤◌, Some, arith, get_or, length, subst, sym}
+use Rattle.cube_defs.specs.Cell.{depth}
+use Rattle.cube_defs.specs.Tree.{cell_at}
+use Rattle.batch_delete.specs.declared.generalizing.NodeCell.{NodeCell}
+use Rattle.batch_delete.specs.Generalizing.{AddsChildren, AddsChild, no_node_cell}
+use Rattle.batch_delete.proofs.Childs.{cell_wide}
+use Rattle.batch_delete.proofs.Growing.{grown_more, grown_none, item_at, item_is}
+use Rattle.batch_delete.proofs.generalizing.add_children.Goals as goal
+
+pub nodes-init : goal.nodes-init
+nodes-init g c =
+    let t = c.args.arena.now.now in
+    record {
+      grown = grown_none t c.args.arena.now.width c.args.dim c.args.code c.args.list.now.items c.requires.dim
+          c.requires.cells (cell_wide c.args.arena.now.width t c.requires.tree.0 c.requires.tree.1)
+          c.requires.tree.1.canonical.once c.requires.short c.requires.order;
+      steps = omega arith;
+    }
+
+pub add_child-requires-clause-cell : goal.add_child-requires-clause-cell
+add_child-requires-clause-cell g c =
+    let old = c.args.list.now.items in
+    let many = c.len-many.ensures in
+    let at = item_at old c.nodes.k no_node_cell (omega arith) in
+    let is = item_is c.nodes.list.items c.nodes.k no_node_cell (get_or old c.nodes.k no_node_cell)
+    (c.nodes.invariant.grown.kept c.nodes.k (get_or old c.nodes.k no_node_cell) at) in
+    subst (λ (b : NodeCell). cell_at c.args.arena.now.now b.node.0 ≡ Some b.cell) (sym is)
+    (c.requires.cells c.nodes.k (get_or old c.nodes.k no_node_cell) at)
+
+pub add_child-requires-clause-behind : goal.add_child-requires-clause-behind
+add_child-requires-clause-behind g c =
+    let old = c.args.list.now.items in
+    let many = c.len-many.ensures in
+    let at = item_at old c.nodes.k no_node_cell (omega arith) in
+    let is = item_is c.nodes.list.items c.nodes.k no_node_cell (get_or old c.nodes.k no_node_cell)
+    (c.nodes.invariant.grown.kept c.nodes.k (get_or old c.nodes.k no_node_cell) at) in
+    subst (λ (b : NodeCell). depth b.cell ≤ c.args.dim) (sym is)
+    (c.requires.short c.nodes.k (get_or old c.nodes.k no_node_cell) at)
+
+pub nodes-preserved : goal.nodes-preserved
+nodes-preserved g c =
+    let t = c.args.arena.now.now in
+    let old = c.args.list.now.items in
+    let many = c.len-many.ensures in
+    let at = item_at old c.nodes.k no_node_cell (omega arith) in
+    let is = item_is c.nodes.list.items c.nodes.k no_node_cell (get_or old c.nodes.k no_node_cell)
+    (c.nodes.invariant.grown.kept c.nodes.k (get_or old c.nodes.k no_node_cell) at) in
+    let two = c.add_child.ensures.steps in
+    let had = c.nodes.invariant.steps in
+    record {
+      grown = grown_more t c.args.arena.now.width c.args.dim c.args.code old c.requires.dim c.requires.cells
+          (cell_wide c.args.arena.now.width t c.requires.tree.0 c.requires.tree.1) c.requires.tree.1.canonical.once
+          c.requires.short c.requires.order
+          c.nodes.k (get_or old c.nodes.k no_node_cell) c.nodes.list.items c.add_child.new.list.items
+          (omega arith) at c.nodes.invariant.grown
+          (subst (λ (b : NodeCell). AddsChild t c.args.dim c.args.code b.cell c.nodes.list.items
+          c.add_child.new.list.items) is c.in_ok-add_child.ensures.grows);
+      steps = omega arith;
+    }
+
+pub add_child-requires-clause-tree : goal.add_child-requires-clause-tree
+add_child-requires-clause-tree g c = c.requires.tree
+
+pub add_child-requires-clause-k : goal.add_child-requires-clause-k
+add_child-requires-clause-k g c = omega (arith, c.len-many.ensures, c.nodes-test.true, c.nodes.invariant.grown.longer)
+
+pub add_child-requires-clause-dim : goal.add_child-requires-clause-dim
+add_child-requires-clause-dim g c = c.requires.dim
+
+pub add_child-requires-clause-code : goal.add_child-requires-clause-code
+add_child-requires-clause-code g c = c.requires.code
+
+pub returns-clause-grown : goal.returns-clause-grown
+returns-clause-grown g c =
+    let all : c.nodes.k ≡ length c.args.list.now.items
+    = omega (arith, c.len-many.ensures, c.nodes-test.false, c.nodes.auto.k-end) in
+    subst (λ n. AddsChildren c.args.arena.now.now c.args.dim c.args.code c.args.list.now.items n c.nodes.list.items) all
+    c.nodes.invariant.grown
+
+pub returns-clause-steps : goal.returns-clause-steps
+returns-clause-steps g c = omega (arith, c.nodes.invariant.steps, c.len-many.ensures, c.nodes.auto.k-end)

@@ -1,0 +1,57 @@
+-- The row that goes, and the classes that it is one of.
+use Rattle.std.specs.Prelude.{◌≡◌, ◌≤◌, ◌<◌, ℕ, suc, true, Option, Some, None, IfSome, length, slice_get}
+use Rattle.std.specs.Option.{option_map}
+use Rattle.std.specs.Ordering.{eq_by_cmp, nat_cmp}
+use Rattle.aggregates.specs.declared.agg.Agg.{Agg}
+use Rattle.aggregates.specs.Views.{agg_in}
+use Rattle.cube_defs.specs.Cell.{Cell, cell_prefix, cell_of}
+use Rattle.cube_defs.specs.Rows.{covers}
+use Rattle.cube_defs.specs.Tree.{Tree, cell_at}
+use Rattle.cube_defs.specs.declared.limits.TheConstants.{MAX_ROWS}
+use Rattle.cube_laws.specs.Total.{agg_at}
+use Rattle.qc_arena.specs.Map.{Arena}
+use Rattle.tree_laws.specs.Walk.{closure_prefix}
+use Rattle.tree_search.specs.Found.{IsNumberOfCell, IsTreeOf, closure_in}
+use Rattle.batch_delete.specs.declared.deleted_row.Class.{Class}
+use Rattle.batch_delete.specs.declared.generalizing.NodeCell.{NodeCell}
+use Rattle.batch_delete.specs.Rests.{Deletion, rows_after, rows_before, source_before}
+
+-- what is known of the row that goes: the tree before, its tuple, and what the tuple's rows come to before and
+-- afterwards
+pub record IsDeletedRow (d : Deletion) (a : Arena) (t : Cell ℕ) (before after : Option Agg) : Type 0 where
+  pub tree : IsTreeOf a.width a.now (source_before d)
+  pub long : length t ≡ a.width
+  pub tuple : t ≡ cell_of d.r.tuple
+  pub all : option_map agg_in before ≡ agg_at (eq_by_cmp nat_cmp) d.measures (rows_before d) t
+  pub duplicates : option_map agg_in after ≡ agg_at (eq_by_cmp nat_cmp) d.measures (rows_after d) t
+  pub few : length (rows_before d) ≤ MAX_ROWS
+
+-- a class that the row is one of
+pub record IsClass (d : Deletion) (c : Cell ℕ) : Type 0 where
+  pub below : covers (eq_by_cmp nat_cmp) c d.r ≡ true
+  pub own : closure_in (source_before d) c ≡ Some c
+
+-- such a class and its node
+pub record IsClassNode (d : Deletion) (a : Arena) (b : NodeCell) : Type 0 where
+  pub class : IsClass d b.cell
+  pub long : length b.cell ≡ a.width
+  pub node : cell_at a.now b.node.0 ≡ Some b.cell
+
+-- such a class at its front before a dimension in which it has Any
+pub record IsPrefixNode (d : Deletion) (a : Arena) (u : Cell ℕ) (i number : ℕ) : Type 0 where
+  pub class : IsClass d u
+  pub long : length u ≡ a.width
+  pub any : slice_get u i ≡ Some None
+  pub dim : i < length u
+  pub front : cell_at a.now number ≡ Some (cell_prefix i u)
+
+-- what is known of such a class: what its rows come to before, and perhaps afterwards
+pub record IsKnown (d : Deletion) (class : Class) : Type 0 where
+  pub is : IsClass d class.cell
+  pub whole : option_map agg_in class.whole ≡ agg_at (eq_by_cmp nat_cmp) d.measures (rows_before d) class.cell
+  pub less : IfSome class.less
+      (λ agg. Some (agg_in agg) ≡ agg_at (eq_by_cmp nat_cmp) d.measures (rows_after d) class.cell)
+
+-- a search for the cell goes on from the number behind dimension i
+abbrev pub GoesOn : Deletion → Tree ℕ → Cell ℕ → ℕ → ℕ → Type 0
+GoesOn d tree c i k = IsNumberOfCell tree (Some k) (closure_prefix (eq_by_cmp nat_cmp) (rows_before d) c (suc i))

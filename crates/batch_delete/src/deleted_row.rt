@@ -1,0 +1,53 @@
+// The deleted row and its classes.
+ghost use Rattle.std.specs.Prelude.{◌+◌, ◌≡◌, ◌≤◌};
+ghost use Rattle.batch_delete.specs.DeletedRow.{IsClassNode, IsDeletedRow, IsKnown};
+ghost use Rattle.batch_delete.specs.Rests.{Deletion};
+
+use crate::generalizing::NodeCell;
+use crate::subtracting::{agg_without_row, class_at};
+use aggregates::Agg;
+use cell_core::{Cell, Steps};
+use qc_arena::QcArena;
+use std::sync::ledger::Ledger;
+
+/// What is known of the deleted row: the tree before the deletion, its tuple, the aggregate of all
+/// rows with this tuple, and the aggregate of the others.
+#[derive(Drop)]
+pub(crate) struct DeletedRow<'a> {
+    pub arena: &'a QcArena,
+    pub tuple: &'a Cell,
+    pub all: Option<Agg>,
+    pub duplicates: Option<Agg>,
+}
+
+/// A class of the deleted row: its cell and its aggregate. `less` is the aggregate without the row,
+/// if it follows without a look at each row.
+#[derive(Drop)]
+pub(crate) struct Class {
+    pub cell: Cell,
+    pub whole: Option<Agg>,
+    pub less: Option<Agg>,
+}
+
+/// The class of a node.
+pub(crate) fn class_at_node<L: Ledger>(
+    row: &DeletedRow<'_>,
+    below: &NodeCell,
+    steps: &mut Steps<L>,
+) -> Class
+    ghost d: { Deletion }
+    requires row { IsDeletedRow d row.now.arena.now row.now.tuple.now row.now.all
+        row.now.duplicates }
+    requires class { IsClassNode d row.now.arena.now below.now }
+    ensures class { IsKnown d result }
+    ensures cell { result.cell ≡ below.now.cell }
+    ensures steps { steps.new ≤ steps.old + 1 }
+{
+    let whole = class_at(row.arena, &below.cell, below.node, steps);
+    let less = agg_without_row(row, &below.cell, whole);
+    Class {
+        cell: below.cell.copy(),
+        whole,
+        less,
+    }
+}

@@ -1,0 +1,66 @@
+// Searches that don't begin at the root.
+ghost use Rattle.std.specs.FinMap as map;
+ghost use Rattle.std.specs.Option.{option_map};
+ghost use Rattle.std.specs.Prelude.{IfSome, IsSome, Some, length, ◌*◌, ◌+◌, ◌<◌, ◌≡◌, ◌≤◌};
+ghost use Rattle.cube_defs.specs.Cell.{cell_prefix};
+ghost use Rattle.cube_defs.specs.Tree.{cell_at};
+ghost use Rattle.cube_laws.specs.Parts.{IsLastAny};
+ghost use Rattle.qc_arena.specs.RecordReaders.{number};
+ghost use Rattle.tree_search.specs.Found.{IsTreeOf, IsNumberOfCell, closure_in};
+ghost use Rattle.batch_delete.specs.DeletedRow.{GoesOn};
+ghost use Rattle.batch_delete.specs.Rests.{Deletion, source_before};
+
+use cell_core::{Cell, NodeNo, Steps};
+use qc_arena::{Nodes, QcArena};
+use std::sync::ledger::Ledger;
+use tree_search::step;
+
+/// The node of the cell's closure. The search for the cell goes on from a node, after a dimension.
+pub(crate) fn find_from<L: Ledger>(
+    arena: &QcArena,
+    cell: &Cell,
+    dim: u8,
+    node: NodeNo,
+    steps: &mut Steps<L>,
+) -> Option<NodeNo>
+    ghost d: { Deletion }
+    requires tree { IsTreeOf arena.now.width arena.now.now (source_before d) }
+    requires long { length cell.now ≡ arena.now.width }
+    requires dim { dim < length cell.now }
+    requires on { GoesOn d arena.now.now cell.now dim node.0 }
+    ensures found { IsNumberOfCell arena.now.now (option_map number result)
+        (closure_in (source_before d) cell.now) }
+    ensures there { IfSome result (λ node. IsSome (map.get arena.now.now node.0)) }
+    ensures steps { steps.new ≤ steps.old + 2 * length cell.now }
+{
+    let dims = cell.dims();
+    let mut node = node;
+    'dims: for next in dim + 1..dims {
+        node = step(arena, node, next, cell.get(next), steps)?;
+    }
+    Some(node)
+}
+
+/// The node of the prefix before the cell's last dimension of Any. Goes up from the cell's node
+/// through the later values.
+pub(crate) fn prefix_node<L: Ledger>(
+    arena: &QcArena,
+    cell: &Cell,
+    dim: u8,
+    node: NodeNo,
+    steps: &mut Steps<L>,
+) -> NodeNo
+    ghost d: { Deletion }
+    requires tree { IsTreeOf arena.now.width arena.now.now (source_before d) }
+    requires node { cell_at arena.now.now node.0 ≡ Some cell.now }
+    requires last { IsLastAny cell.now dim }
+    requires dim { dim < length cell.now }
+    ensures front { cell_at arena.now.now result.0 ≡ Some (cell_prefix dim cell.now) }
+    ensures steps { steps.new ≤ steps.old + length cell.now }
+{
+    let mut node = node;
+    'up: for _value in 0..cell.dims() - 1 - dim {
+        node = arena.parent(node, steps).unwrap();
+    }
+    node
+}

@@ -1,0 +1,55 @@
+use Rattle.batch_insert.proofs.Costed.{taken_le, taken_length}
+use Rattle.std.proofs.Common.{[], ◌∷◌, subst, arith}
+use Rattle.std.proofs.lemmas.List.{take_all}
+use Rattle.batch_insert.specs.Stages.{HaveEnded}
+use Rattle.batch_insert.proofs.Doing.{ended_none, ended_next}
+use Rattle.batch_insert.specs.Numbered.{numbered}
+use Rattle.batch_insert.proofs.Keeping.{keeps_same, keeps_then, repair_then}
+use Rattle.batch_insert.proofs.kinds.set_kinds.Goals as goal
+
+pub set_kind-requires-clause-repair : goal.set_kind-requires-clause-repair
+set_kind-requires-clause-repair g c
+    = repair_then c.args.tuple.now c.args.arena.now c.ends.arena (numbered c.args.numbers.now) c.ends.invariant.keeps
+    c.requires.repair
+
+pub returns-in-Err : goal.returns-in-Err
+returns-in-Err g c = record {
+  keeps
+      = keeps_then c.args.tuple.now c.args.arena.now c.ends.arena c.set_kind.new.arena c.ends.invariant.keeps
+      c.in-Err.ensures.keeps;
+  done = tt;
+  steps = tt;
+}
+
+pub ends-preserved : goal.ends-preserved
+ends-preserved g c = record {
+  steps = omega (
+    arith,
+    c.ends.invariant.steps,
+    c.in-Ok.ensures.steps,
+    taken_length c.args.ends.now c.ends.k c.index-ends-k.result c.ends-test.true,
+  );
+  keeps = keeps_then c.args.tuple.now c.args.arena.now c.ends.arena c.set_kind.new.arena c.ends.invariant.keeps
+      c.in-Ok.ensures.keeps;
+  done = ended_next c.args.tuple.now (numbered c.args.numbers.now) c.args.arena.now.now c.ends.arena.now
+      c.set_kind.new.arena.now c.args.amounts.now c.args.ends.now c.ends.k _ c.ends-test.true c.ends.invariant.done
+      (subst (λ x. HaveEnded c.args.tuple.now c.args.amounts.now (numbered c.args.numbers.now)
+      (x ∷ []) c.ends.arena.now c.set_kind.new.arena.now) c.index-ends-k.is c.in-Ok.ensures.done);
+}
+
+pub ends-init : goal.ends-init
+ends-init g c = record {
+  keeps = keeps_same c.args.tuple.now c.args.arena.now c.requires.repair.opened;
+  done
+      = ended_none c.args.tuple.now (numbered c.args.numbers.now) c.args.arena.now.now c.args.amounts.now;
+  steps
+      = omega arith;
+}
+
+pub returns-clause-done : goal.returns-clause-done
+returns-clause-done g c
+    = subst (λ xs. HaveEnded c.args.tuple.now c.args.amounts.now (numbered c.args.numbers.now) xs c.args.arena.now.now
+    c.ends.arena.now) (take_all c.ends.k c.args.ends.now (omega (arith, c.ends-test.false))) c.ends.invariant.done
+
+pub returns-clause-steps : goal.returns-clause-steps
+returns-clause-steps g c = omega (arith, c.ends.invariant.steps, taken_le c.args.ends.now c.ends.k)

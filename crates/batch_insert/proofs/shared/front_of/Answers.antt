@@ -1,7 +1,0 @@
-use Rattle.std.proofs.Common.{refl, arith}
-use Rattle.std.proofs.lemmas.Nat.{one_shl}
-use Rattle.batch_insert.proofs.Masks.{front_mask}
-use Rattle.batch_insert.proofs.shared.front_of.Goals as goal
-
-pub returns : goal.returns
-returns c = front_mask c.args.tuple.now c.args.dim _ _ c.requires.no_any c.requires.dim (one_shl c.args.dim 16 (omega (arith, c.requires.dim, c.requires.few))) refl

@@ -1,0 +1,145 @@
+// The forced children and the classes of the nodes that generalize the tuple.
+ghost use Rattle.std.specs.Prelude.{◌+◌, ◌*◌, All, IfSome, None, OnOk, Some, [], ◌∷◌, slice_index_or, ℕ, ◌≢◌, is_some, length, nat_abs, true, ◌≡◌, ◌≤◌};
+ghost use Rattle.aggregates.specs.Rows.{agg_of_row};
+ghost use Rattle.aggregates.specs.Views.{agg_in};
+ghost use Rattle.std.specs.Option.{option_map};
+ghost use Rattle.batch_insert.specs.Numbered.{numbered};
+ghost use Rattle.qc_arena.specs.Map.{CanChange, with_class, with_forced};
+ghost use Rattle.std.specs.FinMap as map;
+ghost use Rattle.batch_insert.specs.Stages.{HaveEnded};
+ghost use Rattle.batch_insert.specs.Invariants.{IsGeneralizing, IsInserting, KeepsNodes};
+ghost use Rattle.batch_insert.specs.Planned.{IsNodeKind, IsForcedChild, TakesMore, sum_with};
+
+use crate::Memory;
+use crate::numbers::Numbers;
+use crate::plan::{ForcedChild, NodeKind};
+use crate::tuples::tuple_code;
+use aggregates::Agg;
+use cell_core::{Cell, NodeNo, Steps};
+use cube_defs::{MAX_AMOUNT, MAX_MEASURES};
+use qc_arena::{Forced, QcArena};
+use std::sync::ledger::Ledger;
+
+/// Gives each node its forced child or its class.
+pub(crate) fn set_kinds<L: Ledger>(
+    ends: &[NodeKind],
+    tuple: &Cell,
+    amounts: &[i64],
+    numbers: &Numbers,
+    arena: &mut QcArena,
+    steps: &mut Steps<L>,
+) -> Result<(), Memory>
+    requires repair { IsInserting tuple.now arena.old (numbered numbers.now) }
+    requires few { length amounts.now ≤ MAX_MEASURES }
+    requires small { All (λ a. nat_abs a ≤ MAX_AMOUNT) amounts.now }
+    requires ends { All (λ e. IsNodeKind (length tuple.now) (length amounts.now) e) ends.now }
+    ensures keeps { KeepsNodes tuple.now arena.old arena.new }
+    ensures done { OnOk result
+        (HaveEnded tuple.now amounts.now (numbered numbers.now) ends.now arena.old.now
+        arena.new.now) }
+    ensures steps { OnOk result (steps.new ≤ steps.old + 2 * length ends.now) }
+{
+    'ends: for k in 0..ends.len() {
+        match set_kind(ends[k], tuple, amounts, numbers, arena, steps) {
+            Ok(()) => {}
+            Err(error) => return Err(error),
+        }
+    }
+    Ok(())
+}
+
+fn set_kind<L: Ledger>(
+    end: NodeKind,
+    tuple: &Cell,
+    amounts: &[i64],
+    numbers: &Numbers,
+    arena: &mut QcArena,
+    steps: &mut Steps<L>,
+) -> Result<(), Memory>
+    requires repair { IsInserting tuple.now arena.old (numbered numbers.now) }
+    requires few { length amounts.now ≤ MAX_MEASURES }
+    requires small { All (λ a. nat_abs a ≤ MAX_AMOUNT) amounts.now }
+    requires end { IsNodeKind (length tuple.now) (length amounts.now) end }
+    ensures keeps { KeepsNodes tuple.now arena.old arena.new }
+    ensures done { OnOk result
+        (HaveEnded tuple.now amounts.now (numbered numbers.now)
+        (end ∷ []) arena.old.now arena.new.now) }
+    ensures steps { OnOk result (steps.new ≤ steps.old + 2) }
+{
+    let node = match numbers.number_of(end.mask) {
+        Ok(node) => node,
+        Err(error) => return Err(error),
+    };
+    match end.forced {
+        Some(forcing) => set_forced_child(node, forcing, tuple, numbers, arena, steps),
+        None => {
+            let agg = with_row(end.before, amounts);
+            mark(node, agg, tuple, arena, steps);
+            Ok(())
+        }
+    }
+}
+
+fn set_forced_child<L: Ledger>(
+    node: NodeNo,
+    forcing: ForcedChild,
+    tuple: &Cell,
+    numbers: &Numbers,
+    arena: &mut QcArena,
+    steps: &mut Steps<L>,
+) -> Result<(), Memory>
+    requires no_any { All (λ entry. is_some entry ≡ true) tuple.now }
+    requires change { CanChange arena.old node.0 }
+    requires node { IsGeneralizing tuple.now arena.old node.0 }
+    requires dim { IsForcedChild (length tuple.now) forcing }
+    ensures keeps { KeepsNodes tuple.now arena.old arena.new }
+    ensures here { OnOk result ((l : ℕ) × (v : ℕ) × (numbered numbers.now forcing.child ≡ Some l)
+        × (slice_index_or tuple.now forcing.dim None ≡ Some v)
+        × (map.get arena.new.now node.0
+        ≡ option_map (with_forced (Some (record { dim = forcing.dim; value = v; target = l })))
+        (map.get arena.old.now node.0))) }
+    ensures others { (q : ℕ) → q ≢ node.0 → map.get arena.new.now q ≡ map.get arena.old.now q }
+    ensures steps { OnOk result (steps.new ≤ steps.old + 2) }
+{
+    let child = match numbers.number_of(forcing.child) {
+        Ok(child) => child,
+        Err(error) => return Err(error),
+    };
+    let forced = Forced {
+        dim: forcing.dim,
+        code: tuple_code(tuple, forcing.dim),
+        child,
+    };
+    arena.set_forced(node, Some(forced), steps);
+    Ok(())
+}
+
+// The aggregate with the row: that of the earlier rows, if there are any, and the row's amounts.
+fn with_row(before: Option<Agg>, amounts: &[i64]) -> Agg
+    requires few { length amounts.now ≤ MAX_MEASURES }
+    requires small { All (λ a. nat_abs a ≤ MAX_AMOUNT) amounts.now }
+    requires before { IfSome before (λ a. TakesMore (length amounts.now) a) }
+    ensures { agg_in result ≡ sum_with (option_map agg_in before) (agg_of_row amounts.now) }
+{
+    match before {
+        Some(agg) => {
+            let mut more = agg;
+            more.add_row(amounts);
+            more
+        }
+        None => Agg::one(amounts),
+    }
+}
+
+fn mark<L: Ledger>(node: NodeNo, agg: Agg, tuple: &Cell, arena: &mut QcArena, steps: &mut Steps<L>)
+    requires change { CanChange arena.old node.0 }
+    requires node { IsGeneralizing tuple.now arena.old node.0 }
+    ensures keeps { KeepsNodes tuple.now arena.old arena.new }
+    ensures here { map.get arena.new.now node.0 ≡ option_map (with_class (Some (agg_in agg)))
+        (option_map (with_forced None) (map.get arena.old.now node.0)) }
+    ensures others { (q : ℕ) → q ≢ node.0 → map.get arena.new.now q ≡ map.get arena.old.now q }
+    ensures steps { steps.new ≡ steps.old + 2 }
+{
+    arena.set_forced(node, None, steps);
+    arena.set_class(node, Some(agg), steps);
+}

@@ -1,9 +1,0 @@
-use Rattle.std.proofs.Common.{drop, arith, length-drop}
-use Rattle.cells_below.proofs.Cells.{values-le}
-use Rattle.cells_below.proofs.numbers.put_cell.Goals as goal
-
-pub kept-requires-clause-bit : goal.kept-requires-clause-bit
-kept-requires-clause-bit c = omega (arith, values-le (drop c.dims.dim c.args.u.now), length-drop c.dims.dim c.args.u.now)
-
-pub overflow_add-k : goal.overflow_add-k
-overflow_add-k c = omega (arith, values-le (drop c.dims.dim c.args.u.now), length-drop c.dims.dim c.args.u.now)

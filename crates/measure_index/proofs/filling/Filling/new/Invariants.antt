@@ -1,6 +1,0 @@
-use Rattle.std.proofs.Common.{◌≡◌, map, take}
-use Rattle.measure_index.proofs.FillingLemmas.{bare_coming}
-use Rattle.measure_index.proofs.filling.Filling.new.Given as goal
-
-abbrev pub invariant-kinds : goal.invariant-kinds
-invariant-kinds l = l.columns.items ≡ map (bare_coming l.scales) (take l.kind-index l.kinds)

@@ -1,9 +1,0 @@
-use Rattle.std.proofs.Common.{refl}
-use Rattle.qc_arena.proofs.Merges.{last_is, not_last}
-use Rattle.qc_arena.proofs.lists.pop_changed.Goals as goal
-
-pub returns-then-changed_end-node-clause-none : goal.returns-then-changed_end-node-clause-none
-returns-then-changed_end-node-clause-none c = (refl, not_last c.args.changed.now.items c.changed_end.result c.args.node c.requires.rising c.changed_end.ensures.end c.requires.most c.if-changed_end-node.true)
-
-pub returns-clause-some : goal.returns-clause-some
-returns-clause-some c = last_is c.args.changed.now.items c.pop.new.self.items c.in_ok-image.field-0-0 c.in_ok-image.image c.args.node c.changed_end.result c.changed_end.ensures.end c.if-changed_end-node.false c.in_ok-image.ensures.items

@@ -1,0 +1,17 @@
+use Rattle.std.proofs.Common.{◌≡◌, ◌∙◌, ap, subst}
+use Rattle.pinned_view.specs.Versions.{Versions}
+use Rattle.warehouse.specs.State.{Contents, IsState}
+use Rattle.qc_session.proofs.Refused.{dim-within}
+use Rattle.qc_session.proofs.answer.file_reply.Goals as goal
+
+pub file_refusal-requires-clause-dim : goal.file_refusal-requires-clause-dim
+file_refusal-requires-clause-dim g c =
+    let same : c.now.result.now.state ≡ c.args.pinned.now.now.state = ap (λ (h : Contents). h.state) c.now.ensures.value
+    ∙ ap (λ (v : Versions). v.now.state) c.in-Err.ensures.same in
+    let valid = subst IsState same c.schema.ensures.valid.state in
+    let within = dim-within c.args.pinned.now.now.state _ c.args.bytes.now c.in-Err.cause valid
+    c.in-Err.ensures.gives.1 in
+    rw (c.schema.ensures.value, same) within
+
+pub file_refusal-requires-clause-layout : goal.file_refusal-requires-clause-layout
+file_refusal-requires-clause-layout g c = rw c.schema.ensures.value c.schema.ensures.valid.state.consistent.layout

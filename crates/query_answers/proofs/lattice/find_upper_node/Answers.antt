@@ -1,0 +1,43 @@
+use Rattle.std.proofs.Common.{◌≡◌, length, sym, ◌∙◌}
+use Rattle.tree_search.specs.Found.{closure_in}
+use Rattle.warehouse.specs.State.{source_of, with_rows}
+use Rattle.query_answers.proofs.Asked.{length-found}
+use Rattle.query_answers.proofs.SomeRows.{some-tree, tree-of}
+use Rattle.query_answers.proofs.Uppers.{told-upper, upper-found, upper-none, upper-told}
+use Rattle.query_answers.proofs.lattice.find_upper_node.Goals as goal
+
+pub returns-in_default-clause-upper : goal.returns-in_default-clause-upper
+returns-in_default-clause-upper g c = λ rows has.
+    upper-none (with_rows c.args.source.now.warehouse.now.state rows) has.state c.dict.result.now.lists
+    c.args.asked.now c.dict.ensures.texts c.requires.point c.requires.dims (sym c.in_default.is ∙ c.cell_of.ensures)
+
+pub find-requires-clause-dims : goal.find-requires-clause-dims
+find-requires-clause-dims g c =
+    length-found c.dict.result.now.lists c.args.asked.now c.in-Some.cell (sym c.cell_of.ensures ∙ c.in-Some.is)
+    ∙ c.requires.dims ∙ sym c.requires.source.rows.wide
+
+pub find-requires-clause-tree : goal.find-requires-clause-tree
+find-requires-clause-tree g c = some-tree _ _ _ c.requires.source.rows
+
+pub returns-clause-class : goal.returns-clause-class
+returns-clause-class g c =
+    let some = some-tree _ _ _ c.requires.source.rows in
+    let long : length c.in-Some.cell ≡ g.T.Nodes.width c.args.source.now.tree.now
+    = length-found c.dict.result.now.lists c.args.asked.now c.in-Some.cell (sym c.cell_of.ensures ∙ c.in-Some.is)
+    ∙ c.requires.dims ∙ sym c.requires.source.rows.wide in
+    (upper-found _ _ some.0 some.1 c.in-Some.cell long c.find.result (c.find.ensures.found some.0 some.1)
+    c.find.ensures.there).class
+
+pub returns-clause-upper : goal.returns-clause-upper
+returns-clause-upper g c = λ rows has.
+    let s = with_rows c.args.source.now.warehouse.now.state rows in
+    let cell = c.in-Some.cell in
+    let from = tree-of _ _ _ c.requires.source.rows rows has in
+    let long : length cell ≡ g.T.Nodes.width c.args.source.now.tree.now
+    = length-found c.dict.result.now.lists c.args.asked.now cell (sym c.cell_of.ensures ∙ c.in-Some.is)
+    ∙ c.requires.dims ∙ sym c.requires.source.rows.wide in
+    told-upper s.texts (g.T.Nodes.tree c.args.source.now.tree.now) c.find.result (closure_in (source_of s) cell)
+    (upper-found _ _ (source_of s) from cell long c.find.result (c.find.ensures.found (source_of s) from)
+    c.find.ensures.there).upper
+    ∙ upper-told s has.state c.dict.result.now.lists c.args.asked.now c.dict.ensures.texts c.requires.point cell
+    (sym c.in-Some.is ∙ c.cell_of.ensures)

@@ -1,0 +1,48 @@
+use Rattle.std.proofs.Common.{◌∙◌, None, Some}
+use Rattle.warehouse.specs.State.{source_of}
+use Rattle.query_answers.proofs.Pointed.{point-known, point-parts, point-texts, point-unknown}
+use Rattle.query_answers.proofs.point.answer_plain_point.Goals as goal
+use Rattle.tree_search.proofs.CallerLemmas.{total-at}
+
+pub put_total-requires-clause-texts : goal.put_total-requires-clause-texts
+put_total-requires-clause-texts g c =
+    let s = c.args.warehouse.now.state in
+    let p = rw (c.schema.ensures.value, c.dict-dict.ensures.texts) at c.in-Known.ensures.coded in
+    point-texts s c.dict-dict.ensures.valid.state c.args.line.now c.read_point_codes.new.cell p
+
+pub put_total-requires-clause-parts : goal.put_total-requires-clause-parts
+put_total-requires-clause-parts g c =
+    let s = c.args.warehouse.now.state in
+    let p = rw (c.schema.ensures.value, c.dict-dict.ensures.texts) at c.in-Known.ensures.coded in
+    let at = c.in-Some.ensures.value (source_of s)
+    (rw (c.tree.ensures.width, c.tree.ensures.value) c.tree.ensures.valid.tree)
+    ∙ total-at (source_of s) c.read_point_codes.new.cell in
+    point-parts s c.dict-dict.ensures.valid.state c.args.line.now c.read_point_codes.new.cell p
+    (Some c.in-Some.total) at
+
+pub returns-in-Unknown-clause-answered : goal.returns-in-Unknown-clause-answered
+returns-in-Unknown-clause-answered g c = λ done.
+    let s = c.args.warehouse.now.state in
+    let p = rw (c.schema.ensures.value, c.dict-dict.ensures.texts) at c.in-Unknown.ensures.coded in
+    point-unknown s c.dict-dict.ensures.valid.state c.args.line.now c.args.number p c.put_none.new.reply.items
+    (c.put_none.ensures done)
+
+pub returns-in-Some-clause-answered : goal.returns-in-Some-clause-answered
+returns-in-Some-clause-answered g c = λ done.
+    let s = c.args.warehouse.now.state in
+    let p = rw (c.schema.ensures.value, c.dict-dict.ensures.texts) at c.in-Known.ensures.coded in
+    let at = c.in-Some.ensures.value (source_of s)
+    (rw (c.tree.ensures.width, c.tree.ensures.value) c.tree.ensures.valid.tree)
+    ∙ total-at (source_of s) c.read_point_codes.new.cell in
+    point-known s c.dict-dict.ensures.valid.state c.args.line.now c.args.number c.read_point_codes.new.cell p
+    (Some c.in-Some.total) at c.put_total.new.reply.items (c.put_total.ensures done)
+
+pub returns-in-None-clause-answered : goal.returns-in-None-clause-answered
+returns-in-None-clause-answered g c = λ done.
+    let s = c.args.warehouse.now.state in
+    let p = rw (c.schema.ensures.value, c.dict-dict.ensures.texts) at c.in-Known.ensures.coded in
+    let at = c.in-None.ensures.value (source_of s)
+    (rw (c.tree.ensures.width, c.tree.ensures.value) c.tree.ensures.valid.tree)
+    ∙ total-at (source_of s) c.read_point_codes.new.cell in
+    point-known s c.dict-dict.ensures.valid.state c.args.line.now c.args.number c.read_point_codes.new.cell p None at
+    c.put_none-in-None.new.reply.items (c.put_none-in-None.ensures done)

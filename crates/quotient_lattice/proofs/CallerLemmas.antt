@@ -1,0 +1,2 @@
+-- The lemmas that other crates cite.
+pub use Rattle.quotient_lattice.proofs.DecodedAlone.{alone_tellable, alone_told}

@@ -1,6 +1,0 @@
-use Rattle.std.proofs.Common.{arith}
-use Rattle.std.proofs.lemmas.List.{take_all}
-use Rattle.quotient_lattice.proofs.rolling.lowest.Goals as goal
-
-pub returns : goal.returns
-returns c = rw (take_all c.met.k c.args.met.now.items (omega arith)) at c.met.invariant

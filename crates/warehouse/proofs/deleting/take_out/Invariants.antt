@@ -1,4 +1,0 @@
-use Rattle.warehouse.proofs.deleting.take_out.Given as goal
-
-abbrev pub ghost-delete_row : goal.ghost-delete_row
-ghost-delete_row g a = g.deletion

@@ -1,0 +1,28 @@
+use Rattle.std.proofs.Common.{◌∙◌, ap}
+use Rattle.warehouse.specs.Changing.{contents_of}
+use Rattle.warehouse.specs.State.{Contents}
+use Rattle.warehouse.proofs.Images.{over-kept}
+use Rattle.warehouse.proofs.Trees.{is-held}
+use Rattle.warehouse.proofs.store.Warehouse.make_changes.Goals as goal
+
+pub returns-clause-gives : goal.returns-clause-gives
+returns-clause-gives g c = rw (← c.self.view_is) c.make_changes.ensures.gives
+
+pub returns-clause-in_place : goal.returns-clause-in_place
+returns-clause-in_place g c = rw (← c.self.view_is) c.make_changes.ensures.in_place
+
+pub returns-clause-same : goal.returns-clause-same
+returns-clause-same g c = rw (← c.self.view_is) c.make_changes.ensures.same
+
+pub returns-clause-valid : goal.returns-clause-valid
+returns-clause-valid g c =
+    is-held c.self.inside.schema c.make_changes.new.cube c.make_changes.new.index c.make_changes.ensures.parts
+
+pub returns-clause-images : goal.returns-clause-images
+returns-clause-images g c =
+    let inside = c.self.inside in
+    rw (← c.self.view_is)
+    (over-kept c.make_changes.result (contents_of inside.schema c.make_changes.new.cube c.make_changes.new.index)
+    (contents_of inside.schema inside.cube inside.index)
+    c.make_changes.ensures.images c.make_changes.ensures.same (ap (λ (w : Contents). w.images) c.self.view_is
+    ∙ c.requires.images))

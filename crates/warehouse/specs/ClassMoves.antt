@@ -1,0 +1,68 @@
+-- How far the classes of a tree are handed on to new children, as its numbers are gone through.
+use Rattle.std.specs.Prelude.{ℕ, Bool, true, false, ◌≡◌, ◌≢◌, ◌⊎◌, ◌<◌, ◌≤◌, Option, Some, None, [], length, is_some, nat_eq}
+use Rattle.std.specs.FinMap as map
+use Rattle.std.specs.List.{AllByRecursion}
+use Rattle.std.specs.Option.{option_map}
+use Rattle.cube_defs.specs.Cell.{Cell, with_value}
+use Rattle.cube_defs.specs.Rows.{Agg}
+use Rattle.cube_defs.specs.Tree.{Edge, Tree}
+use Rattle.qc_arena.specs.Edges.{with_edge}
+use Rattle.qc_arena.specs.Map.{Known, with_class, with_forced}
+use Rattle.qc_arena.specs.RecordReaders.{record_at}
+use Rattle.widen_laws.specs.Widened.{child_by_number, with_forced_value_by_number, with_any_by_number}
+
+-- whether a cell's last label is in the dimension
+abbrev pub is_in : ℕ → Option (ℕ × ℕ) → Bool
+is_in dim None = false
+is_in dim (Some label) = nat_eq label.0 dim
+
+-- the label of a new child
+abbrev pub label_to : ℕ → ℕ → Edge ℕ ℕ
+label_to dim child = record { dim = dim; value = 0; target = child }
+
+-- the record of a node that gets a forced child, and is no class any more
+abbrev pub with_forced_child : ℕ → ℕ → Known → Known
+with_forced_child dim child n
+    = with_edge (label_to dim child) (with_forced (Some (label_to dim child)) (with_class None n))
+
+-- the record of a child that is a class
+abbrev pub made_child : ℕ → ℕ → Agg → Cell ℕ → Known
+made_child dim parent class cell
+    = record { cell = with_value cell dim 0; parent = Some parent; class = Some class; forced = None; edges = [] }
+
+-- the cells have so many dimensions, and so have the labels of classes
+pub record IsWide (dims : ℕ) (tree : Tree ℕ) : Type 0 where
+  pub cells : (k : ℕ) (n : Known) → map.get tree k ≡ Some n → length n.cell ≡ dims
+  pub labels : (k : ℕ) (n : Known) → map.get tree k ≡ Some n → AllByRecursion (λ x. x.dim < dims) n.edges
+
+-- the classes whose numbers are less have handed their aggregates to children, and the other nodes have Any in the new
+-- dimension
+pub record HasMovedClasses (place dims : ℕ) (child : ℕ → ℕ) (tree wide : Tree ℕ) : Type 0 where
+  pub others : (k : ℕ) (n : Known) → map.get tree k ≡ Some n → is_some n.class ≡ false
+      → map.get wide k ≡ Some (with_any_by_number n)
+  pub later : (k : ℕ) (n : Known) → map.get tree k ≡ Some n → place ≤ k → map.get wide k ≡ Some (with_any_by_number n)
+  pub classes : (k : ℕ) (n : Known) → map.get tree k ≡ Some n → is_some n.class ≡ true → k < place
+      → map.get wide k ≡ Some (with_forced_value_by_number dims 0 (child k) n)
+  pub children : (k : ℕ) (n : Known) → map.get tree k ≡ Some n → is_some n.class ≡ true → k < place
+      → map.get wide (child k) ≡ Some (child_by_number 0 k n)
+  pub fresh : (k : ℕ) (n : Known) → map.get tree k ≡ Some n → is_some n.class ≡ true → k < place
+      → map.get tree (child k) ≡ None
+  pub only : (q : ℕ) (m : Known) → map.get wide q ≡ Some m
+      → ((n : Known) × (map.get tree q ≡ Some n))
+      ⊎ ((k : ℕ) × (n : Known) × (map.get tree k ≡ Some n) × (is_some n.class ≡ true) × (k < place) × (q ≡ child k))
+
+abbrev pub MovesClasses : ℕ → ℕ → Tree ℕ → Tree ℕ → Type 0
+MovesClasses place dims tree wide = (child : ℕ → ℕ) × HasMovedClasses place dims child tree wide
+
+-- a child with a class was added to a node
+pub record HasChild (dim node : ℕ) (class : Agg) (tree tree' : Tree ℕ) (to : ℕ) : Type 0 where
+  pub child : map.get tree' to ≡ Some (made_child dim node class (record_at tree node).cell)
+  pub free : map.get tree to ≡ None
+  pub others : (q : ℕ) → q ≢ to → map.get tree' q ≡ map.get tree q
+
+-- a node handed its class to a new child
+pub record MovesClassTo (dim node : ℕ) (class : Agg) (tree tree' : Tree ℕ) (to : ℕ) : Type 0 where
+  pub here : map.get tree' node ≡ option_map (with_forced_child dim to) (map.get tree node)
+  pub child : map.get tree' to ≡ Some (made_child dim node class (record_at tree node).cell)
+  pub free : map.get tree to ≡ None
+  pub others : (q : ℕ) → q ≢ node → q ≢ to → map.get tree' q ≡ map.get tree q
