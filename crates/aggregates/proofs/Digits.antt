@@ -1,4 +1,4 @@
--- Texts of digits, and the digits at the front of a text.
+-- Texts of digits, and the digits at the beginning of a text.
 use Rattle.std.proofs.Common.{◌≡◌, ℕ, suc, ◌+◌, ◌-◌, ◌*◌, ◌^◌, ◌<◌, ◌≤◌, Bool, true, false, List, [], ◌∷◌, length, drop, get_or, refl, ap}
 use Rattle.std.proofs.Common.{◌∙◌, arith, rules}
 use Rattle.std.specs.Char.{is_ascii_digit}
@@ -56,7 +56,7 @@ all_ascii_digits-prefix (c ∷ cs) = go (all_ascii_digits-prefix cs) (is_ascii_d
     go more true e = rw e (rw e more)
     go more false e = rw e refl
 
--- all are digits where no byte stands behind those at the front
+-- all are digits where no byte stands after those at the beginning
 pub digits_prefix-all : (text : List ℕ) → length (digit_prefix text) ≡ length text → digit_prefix text ≡ text
 digits_prefix-all [] = λ e. refl
 digits_prefix-all (c ∷ cs) = go (digits_prefix-all cs) (is_ascii_digit c) refl

@@ -7,7 +7,7 @@ use Rattle.std.proofs.lemmas.Slice.{drop-append-drop}
 use Rattle.std.proofs.Math.Nat.{div-div-eq-div-mul, pow-suc}
 use Rattle.aggregates.specs.Texts.{last_digits}
 
--- a text behind the one that stands at the front
+-- a text after the one that stands at the beginning
 pub put-on : (old front more mid out : List ℕ) (a e : ℕ) → mid ≡ front ++ drop a old → a ≡ length front → a ≤ e
     → out ≡ take a mid ++ more ++ drop e mid → out ≡ front ++ more ++ drop e old
 put-on old front more mid out a e m l h o =
@@ -38,7 +38,7 @@ digit-left v k left m e f =
     ap (λ n. n / 10) f ∙ div-div-eq-div-mul v (10 ^ k) 10
     ∙ ap (λ n. v / n) (sym (pow-suc 10 k) ∙ ap (λ n. 10 ^ n) (sym e))
 
--- the next digit, in front of those that are there
+-- the next digit, before those that are there
 pub digit-out : (xs out more : List ℕ) (v left place k m : ℕ) → 0 < place → place ≤ length xs → m ≡ suc k
     → left ≡ v / 10 ^ k → out ≡ take place xs ++ last_digits k v ++ more
     → set out (place - 1) (48 + left % 10) ≡ take (place - 1) xs ++ last_digits m v ++ more

@@ -1,4 +1,4 @@
--- The digits behind a point are a number over a power of ten.
+-- The digits after a point are a number over a power of ten.
 use Rattle.std.proofs.Common.{◌≡◌, ℕ, zero, suc, ◌+◌, ◌-◌, ◌*◌, ◌^◌, Bool, true, false, List, [], ◌∷◌, length, drop, refl, ap, arith}
 use Rattle.std.specs.Prelude.{◌==◌}
 use Rattle.std.specs.List.{list_all}
@@ -6,7 +6,7 @@ use Rattle.std.proofs.lemmas.Bool.Decides.{nat_tests}
 use Rattle.std.proofs.Math.Nat.{pow-succ'}
 use Rattle.aggregates.specs.Numbers.{number, number_after, places}
 
--- digits behind those of n
+-- digits after those of n
 number_after-is : (n : ℕ) (cs : List ℕ) → number_after n cs ≡ n * 10 ^ length cs + number cs
 number_after-is n [] = omega arith
 number_after-is n (c ∷ cs) =

@@ -26,7 +26,7 @@ pub record IsRatio (num : ℤ) (den : ℕ) : Type 0 where
   pub small : den ≤ 10 ^ 12
   pub lowest : gcd (nat_abs num) den ≡ 1
 
--- cross products with an aggregate's value stay below 10 ^ 37
+-- cross products with an aggregate's value stay less than 10 ^ 37
 pub record IsFraction (num : ℤ) (den : ℕ) : Type 0 where
   pub positive : 0 < den
   pub small : den < 10 ^ 18

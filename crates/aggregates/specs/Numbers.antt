@@ -8,7 +8,7 @@ use Rattle.std.specs.Str.{all_ascii_digits}
 use Rattle.cube_defs.specs.Rows.{Fraction}
 use Rattle.cube_defs.specs.declared.limits.TheConstants.{MAX_AMOUNT, MAX_SCALE}
 
--- the number that digits write behind those of n
+-- the number that digits write after those of n
 abbrev pub number_after : ℕ → List ℕ → ℕ
 number_after n [] = n
 number_after n (c ∷ cs) = number_after (10 * n + (c - 48)) cs
@@ -21,7 +21,7 @@ abbrev pub is_number : List ℕ → Bool
 is_number [] = false
 is_number (c ∷ cs) = all_ascii_digits (c ∷ cs)
 
--- the digits at the front
+-- the digits at the beginning
 abbrev pub digit_prefix : List ℕ → List ℕ
 digit_prefix [] = []
 digit_prefix (c ∷ cs) = if is_ascii_digit c then c ∷ digit_prefix cs else []
@@ -31,23 +31,23 @@ abbrev pub after_digits : List ℕ → List ℕ
 after_digits [] = []
 after_digits (c ∷ cs) = if is_ascii_digit c then after_digits cs else c ∷ cs
 
--- an id: one or more digits of a number below 2 ^ 64
+-- an id: one or more digits of a number less than 2 ^ 64
 abbrev pub id_in : List ℕ → Option ℕ
 id_in text = if is_number text && nat_lt (number text) (2 ^ 64) then Some (number text) else None
 
--- what the digits behind a point stand for, in units of the scale's last place; those behind that place count for
+-- what the digits after a point stand for, in units of the scale's last place; those after that place count for
 -- nothing
 abbrev pub places : ℕ → List ℕ → ℕ
 places zero text = 0
 places (suc scale) [] = 0
 places (suc scale) (c ∷ cs) = (c - 48) * 10 ^ scale + places scale cs
 
--- one or more digits, of which those behind the scale's last place are all 0
+-- one or more digits, of which those after the scale's last place are all 0
 abbrev pub places_in : ℕ → List ℕ → Option ℕ
 places_in scale text = if is_number text && list_all (λ c. c == 48) (drop scale text)
     then Some (places scale text) else None
 
--- behind the whole digits stands nothing, or a point and its digits
+-- after the whole digits stands nothing, or a point and its digits
 abbrev pub tail_in : ℕ → List ℕ → Option ℕ
 tail_in scale [] = Some 0
 tail_in scale (c ∷ cs) = if c == 46 then places_in scale cs else None
@@ -74,7 +74,7 @@ amount_in scale (c ∷ cs) =
 abbrev pub is_short : ℕ → List ℕ → Bool
 is_short most text = is_number text && nat_le (length text) most
 
--- n with the digits behind a point
+-- n with the digits after a point
 abbrev pub point_tail : ℕ → List ℕ → Option Fraction
 point_tail n text = if is_short MAX_SCALE text
     then Some (record { num = pos (n * 10 ^ length text + number text); den = 10 ^ length text }) else None

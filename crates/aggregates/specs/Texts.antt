@@ -8,7 +8,7 @@ abbrev pub last_digits : ℕ → ℕ → List ℕ
 last_digits zero n = []
 last_digits (suc k) n = (48 + n / 10 ^ k % 10) ∷ last_digits k n
 
--- a minus where the number is below 0
+-- a minus where the number is less than 0
 abbrev pub sign_text : ℤ → List ℕ
 sign_text (pos n) = []
 sign_text (negsuc n) = 45 ∷ []

@@ -37,7 +37,7 @@ narrow_step p q x xs (suc n) h e =
     let z : nat_eq (suc n) 0 ≡ false = not_zero n in
     rw z (ap (λ m. cond (nat_eq m 0) (cond (p x) 1 0) (suc m)) e)
 
--- no place that passes stands behind the last one that passes a wider test
+-- no place that passes stands after the last one that passes a wider test
 pub last_narrow : {A : Type 0} (p q : A → Bool) → ((x : A) → p x ≡ true → q x ≡ true) → (xs : List A)
     → last_of p (take (last_of q xs) xs) ≡ last_of p xs
 last_narrow p q h [] = refl

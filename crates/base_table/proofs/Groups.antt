@@ -97,7 +97,7 @@ module _ (printer : Fingerprinter) (tuple : Cell ℕ) where
   cut_step b row here rows (suc n) h = let z : nat_eq (suc n) 0 ≡ false = not_zero n in
       rw z (group_head b row (take (suc n) here) here rows h)
 
-  -- no row of the tuple stands behind the last that shares its number
+  -- no row of the tuple stands after the last that shares its number
   group_cut : (here : List Bool) (rows : List (Row ℕ))
       → group_rows (take (last_of is_alike rows) here) rows ≡ group_rows here rows
   group_cut [] rows = ap (λ (h : List Bool). group_rows h rows) (take-nil (last_of is_alike rows))
@@ -137,7 +137,7 @@ module _ (printer : Fingerprinter) (tuple : Cell ℕ) where
     abbrev sum_to : ℕ → Option Agg
     sum_to k = total_of measures (group_rows (take k here) rows)
 
-    -- the last place of the tuple's number below k
+    -- the last place of the tuple's number less than k
     last_below : (k : ℕ) → last_of (nat_eq (print_in printer tuple)) (take k (map (print_of printer) rows))
         ≡ last_of is_alike (take k rows)
     last_below k = ap (last_of (nat_eq (print_in printer tuple))) (take-map (print_of printer) k rows)

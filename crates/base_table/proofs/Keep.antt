@@ -1,4 +1,4 @@
--- Marked places are moved to the front, and the others taken away.
+-- Marked places are moved to the prefix, and the others taken away.
 use Rattle.std.proofs.Common.{◌≡◌, ℕ, ◌+◌, ◌<◌, ◌≤◌, length, List, [], ◌∷◌, ◌++◌, Bool, true, false, cond, refl, ap, sym, ◌∙◌, arith, take}
 use Rattle.std.proofs.Common.{get_or, set, zero, suc}
 use Rattle.std.proofs.lemmas.List.{get_or-set_other}

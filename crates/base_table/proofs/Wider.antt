@@ -60,7 +60,7 @@ narrowed-all n m rows h =
     (λ row r. same_tuple row (take n row.tuple) (take_all n row.tuple (omega (arith, r.tuple)))) rows h
     ∙ map-none rows
 
--- a code behind the first isn't seen among these
+-- a code after the first isn't seen among these
 pub narrowed-longer : (n m v code : ℕ) (rows : List (Row ℕ)) → v ≤ n → All (IsRow n m) rows
     → map (narrowed v) (map (with_code code) rows) ≡ map (narrowed v) rows
 narrowed-longer n m v code rows le h =

@@ -63,7 +63,7 @@ pub cell_stops : (codes : List ℕ) (tuple : Cell ℕ) (i : ℕ) → i < length 
 cell_stops codes tuple i l h
     = cell_differs (cell_of codes) tuple i (λ e. h (code_of_some _ _ (sym e ∙ cell_at codes i l)))
 
--- the part behind the lines that were moved stays as it was
+-- the part after the lines that were moved stays as it was
 pub drop_paste : {A : Type 0} (cells : List A) (to from n : ℕ) → to ≤ from → from + n ≤ length cells
     → drop (from + n) (take to cells ++ take n (drop from cells) ++ drop (to + n) cells) ≡ drop (from + n) cells
 drop_paste cells to from n le fits =

@@ -78,7 +78,7 @@ abbrev pub cleared : ℕ → Option (Row ℕ) → Option (Row ℕ)
 cleared id None = None
 cleared id (Some row) = if row.id == id then None else Some row
 
--- a row with one code more, behind the others
+-- a row with one code more, after the others
 abbrev pub with_code : ℕ → Row ℕ → Row ℕ
 with_code code row = record row { tuple = row.tuple ++ code ∷ [] }
 
@@ -86,11 +86,11 @@ with_code code row = record row { tuple = row.tuple ++ code ∷ [] }
 abbrev pub narrowed : ℕ → Row ℕ → Row ℕ
 narrowed dims row = record row { tuple = take dims row.tuple }
 
--- one dimension more behind the others, in which each row has the code
+-- one dimension more after the others, in which each row has the code
 abbrev pub widened : ℕ → Places → Places
 widened code t = record t { dims = t.dims + 1; places = map (option_map (with_code code)) t.places }
 
--- four amounts, those behind the measures zero
+-- four amounts, those after the measures zero
 abbrev pub padded : List ℤ → List ℤ
 padded amounts = amounts ++ replicate (MAX_MEASURES - length amounts) (pos 0)
 

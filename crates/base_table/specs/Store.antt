@@ -54,7 +54,7 @@ id_of row = row.id
 abbrev pub print_of : Fingerprinter → Row ℕ → ℕ
 print_of printer row = print_in printer (cell_of row.tuple)
 
--- of lists of one width that lie one after another, each with one element more behind it
+-- of lists of one width that lie one after another, each with one element more after it
 abbrev pub longer_lines : {A : Type 0} → ℕ → A → ℕ → List A → List A
 longer_lines width x zero cells = []
 longer_lines width x (suc lines) cells = (take width cells ++ x ∷ []) ++ longer_lines width x lines (drop width cells)

@@ -94,7 +94,7 @@ fn blank(heads: &mut Vec<u32>)
     }
 }
 
-// Links all keys anew. Takes no memory.
+// Links all keys from scratch. Takes no memory.
 fn relink<K: Numbered>(links: &mut Links<K>)
     requires small { length links.old.keys.items < 2 ^ 32 }
     requires some { 0 < length links.old.keys.items → 0 < length links.old.heads.items }

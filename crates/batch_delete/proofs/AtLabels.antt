@@ -1,4 +1,4 @@
--- What a class has at the labels of its front in one dimension where it has Any.
+-- What a class has at the labels of its prefix in one dimension where it has Any.
 use Rattle.std.proofs.Common.{◌≡◌, ◌<◌, ◌≤◌, ◌+◌, ◌*◌, ◌∙◌, true, ℕ, List, Option, Some, None, ◌∷◌, arith, get_or, length, nat_cmp}
 use Rattle.std.proofs.Common.{slice_get, subst, sym, take}
 use Rattle.std.specs.Ordering.{eq_by_cmp}

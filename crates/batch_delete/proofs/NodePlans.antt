@@ -23,7 +23,7 @@ module _ (dims : ℕ) (tree : Tree ℕ) (d : Deletion) (h : IsTreeOf dims tree (
     (wide : length tuple ≡ dims) (list : List NodeCell) (are : AreGeneralizing tree tuple (length tuple) list) where
   module _ (k : ℕ) (b : NodeCell) (at : slice_get list k ≡ Some b) (plan : List (ℕ × NodePlan))
       (had : ArePlanned d tree plan list (suc k)) where
-    -- a greater node stands behind
+    -- a greater node stands after
     pub greater_planned : (q : ℕ) (w : Cell ℕ) → cell_at tree q ≡ Some w → leq nat_eq w tuple ≡ true
         → leq nat_eq b.cell w ≡ true → leq nat_eq w b.cell ≡ false
         → IsRest d.measures (rows_after d) w (planned_rest_in plan q)

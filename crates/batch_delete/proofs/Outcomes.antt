@@ -1,4 +1,4 @@
--- Which nodes below the tuple stay, and what they need so that their records can be mended.
+-- Which nodes that generalize the tuple stay, and what they need so that their records can be mended.
 use Rattle.std.proofs.Common.{◌≡◌, ◌≢◌, ◌↔◌, ◌∙◌, ℕ, zero, suc, ◌<◌, ◌≤◌, Bool, true, false, Option, Some, None, List, [], ◌∷◌, length}
 use Rattle.std.proofs.Common.{slice_get, get_or, nat_eq, nat_cmp, is_some, refl, sym, ap, subst, arith, eqb-true, eq-eqb, true≢false}
 use Rattle.std.proofs.lemmas.Bool.{and_parts, cond-true, cond-false, false_from_ne_true}
@@ -84,7 +84,7 @@ module _ (width : ℕ) (tree : Tree ℕ) (tuple : Cell ℕ) (d : Deletion) (h : 
   wide_after c w e = closure_length (eq_by_cmp nat_cmp) width c w (rows_after d)
       (all-insert (λ row. length row.tuple ≡ width) d.xs d.r d.ys h.wide).0 e
 
-  -- where an edge of a node below the tuple leads
+  -- where an edge of a node that generalizes the tuple leads
   module _ (k : ℕ) (p : Cell ℕ) (at : cell_at tree k ≡ Some p) (low : leq nat_eq p tuple ≡ true) (x : Edge ℕ ℕ)
       (m : Among x (record_at tree k).edges) where
     pub edge_leads : (c : Cell ℕ) × (cell_at tree x.target ≡ Some c) × (depth p ≤ x.dim) × (x.dim < length p)
@@ -94,7 +94,7 @@ module _ (width : ℕ) (tree : Tree ℕ) (tuple : Cell ℕ) (d : Deletion) (h : 
         let l = edge_label width tree (source_before d) h k p at x m u.0 u.1 in
         (l.0, l.1, l.2.place.behind, l.2.place.within, l.2.leads)
 
-    -- with the tuple's value to a node below it, and with no other
+    -- with the tuple's value to a node that generalizes it, and with no other
     pub own_low : is_value (get_or tuple x.dim None) x.value ≡ true → leq nat_eq edge_leads.0 tuple ≡ true
     own_low own =
         let value = value_is d.r.tuple x.dim x.value
@@ -130,7 +130,7 @@ module _ (width : ℕ) (tree : Tree ℕ) (tuple : Cell ℕ) (d : Deletion) (h : 
 
   module _ (plan : List (ℕ × NodePlan)) (list : List NodeCell) (below : AreGeneralizing tree tuple (length tuple) list)
       (planned : ArePlanned d tree plan list 0) where
-    -- a node below the tuple stands in the list
+    -- a node that generalizes the tuple stands in the list
     pub place : (q : ℕ) (c : Cell ℕ) → cell_at tree q ≡ Some c → leq nat_eq c tuple ≡ true → (k : ℕ) × (b : NodeCell)
         × (slice_get list k ≡ Some b) × (b.node.0 ≡ q) × (b.cell ≡ c)
     place q c at low =
@@ -204,7 +204,7 @@ module _ (width : ℕ) (tree : Tree ℕ) (tuple : Cell ℕ) (d : Deletion) (h : 
           go true k = k
           go false k = absurd (none_some (sym (goes_if k) ∙ e))
 
-      -- its heir, where there are rows left, is the front of what they share
+      -- its heir, where there are rows left, is the prefix of what they share
       pub heir_cell : (t : ℕ) → heir_in plan q ≡ Some t → (w : Cell ℕ)
           × (closure (eq_by_cmp nat_cmp) (rows_after d) c ≡ Some w) × (cell_at tree t ≡ Some (cell_prefix (depth c) w))
       heir_cell t e = go (closure (eq_by_cmp nat_cmp) (rows_after d) c) refl
@@ -234,13 +234,13 @@ module _ (width : ℕ) (tree : Tree ℕ) (tuple : Cell ℕ) (d : Deletion) (h : 
               ∙ ap (λ o. option_map (λ x. Some x) (option_map (cell_prefix (depth c)) o)) k))
           go (Some t) e = (t, e)
 
-    -- the front of what rows share is a node of these
+    -- the prefix of what rows share is a node of these
     pub front_node : (c w : Cell ℕ) (i : ℕ) → closure (eq_by_cmp nat_cmp) (rows_after d) c ≡ Some w
         → is_node (eq_by_cmp nat_cmp) (rows_after d) (cell_prefix i w) ≡ true
     front_node c w i e = class_prefixes law (rows_after d) i w
         ((is_class-is law (rows_after d) w).1 (closure_idem law (rows_after d) c w e))
 
-    -- a record of a node that isn't below the tuple stays, where only those of the list change
+    -- a record of a node that doesn't generalize the tuple stays, where only those of the list change
     pub apart : (new : Tree ℕ) → ((q : ℕ) → ((k : ℕ) (b : NodeCell) → slice_get list k ≡ Some b → b.node.0 ≢ q)
         → fin.get new q ≡ fin.get tree q)
         → (q : ℕ) (n : Known) → fin.get tree q ≡ Some n → leq nat_eq n.cell tuple ≡ false → fin.get new q ≡ Some n

@@ -152,7 +152,7 @@ module _ (f g : Edge ℕ ℕ → Option ℕ) (i v : ℕ) (others : (y : Edge ℕ
       → (nat_eq x.dim i && nat_eq x.value v) ≡ false
   after_apart y x a h = grind (arith, nat_tests)
 
-  -- behind the label nothing changes
+  -- after the label nothing changes
   behind : (y : Edge ℕ ℕ) → (nat_eq y.dim i && nat_eq y.value v) ≡ true → (ys : List (Edge ℕ ℕ))
       → list_all (label_lt y) ys ≡ true → first_redirected f 0 ys ≡ first_redirected g 0 ys
   behind y s [] h = refl

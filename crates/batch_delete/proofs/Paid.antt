@@ -1,4 +1,4 @@
--- What the labels of a class's front cost: the one with the row's own value is not looked up.
+-- What the labels of a class's prefix cost: the one with the row's own value is not looked up.
 use Rattle.std.proofs.Common.{◌≡◌, ℕ, zero, suc, ◌+◌, ◌*◌, ◌≤◌, true, Some, None, arith, inl, length, nat_cmp, refl, slice_get, subst}
 use Rattle.std.specs.Ordering.{eq_by_cmp}
 use Rattle.cube_defs.specs.Cell.{Cell, cell_prefix}

@@ -1,4 +1,4 @@
--- Searches that begin at a node near by: behind a label, and up from a class to its front.
+-- Searches that begin at a node near by: after a label, and up from a class to its prefix.
 use Rattle.std.proofs.Common.{◌≡◌, ◌∙◌, ℕ, zero, suc, ◌<◌, ◌≤◌, Option, Some, None, [], ◌∷◌, get_or, length, nat_cmp, refl, slice_get, sym}
 use Rattle.std.proofs.Common.{ap, arith}
 use Rattle.std.specs.Cmp.{nat_cmp_total}
@@ -26,7 +26,7 @@ cell_prefix_with [] i v = refl
 cell_prefix_with (e ∷ p) zero v = refl
 cell_prefix_with (e ∷ p) (suc i) v = ap (λ c. e ∷ c) (cell_prefix_with p i v)
 
--- the front of a cell with a value more
+-- the prefix of a cell with a value more
 prefix_with : (u : Cell ℕ) (i v : ℕ) → i < length u
     → cell_prefix (suc i) (with_value u i v) ≡ with_value (cell_prefix i u) i v
 prefix_with u i v l = upto-entry (with_value u i v) i v (with_value-there u i v l)
@@ -51,7 +51,7 @@ module _ (dims : ℕ) (tree : Tree ℕ) (source : TreeRows) (h : IsTreeOf dims t
             ∙ walk_step nat_cmp_total fin.nat_cmp-IsAntisymmetric dims source.measures source.rows h.wide tree
             h.canonical k (record_at tree k) c i a long at l g.0 (ap (λ x. Some x) g.1 ∙ sym e)
 
-    -- where a front covers nothing, the cell covers nothing
+    -- where a prefix covers nothing, the cell covers nothing
     pub stops : (i : ℕ) → IsNumberOfCell tree None (closure_prefix (eq_by_cmp nat_cmp) source.rows c i)
         → IsNumberOfCell tree None (closure_in source c)
     stops i names = by (closure (eq_by_cmp nat_cmp) source.rows c) refl
@@ -66,7 +66,7 @@ module _ (dims : ℕ) (tree : Tree ℕ) (source : TreeRows) (h : IsTreeOf dims t
             = names ∙ ap (λ o. option_map (λ c. Some c) (option_map (cell_prefix i) o)) r.1 in
             cc
 
-    -- at the end the front is all
+    -- at the end the prefix is all
     pub ends : (o : Option ℕ) (i : ℕ) → dims ≤ i
         → IsNumberOfCell tree o (closure_prefix (eq_by_cmp nat_cmp) source.rows c i)
         → IsNumberOfCell tree o (closure_in source c)
@@ -81,7 +81,7 @@ module _ (dims : ℕ) (tree : Tree ℕ) (source : TreeRows) (h : IsTreeOf dims t
         by (Some u) e = let wide : length u ≡ dims = closure_length (eq_by_cmp nat_cmp) dims c u source.rows h.wide e in
             ap (λ x. Some x) (cell_prefix-beyond i u (omega (arith, depth-le u)))
 
-  -- an edge of a cell's front leads to where a search for the cell with the edge's label goes on
+  -- an edge of a cell's prefix leads to where a search for the cell with the edge's label goes on
   pub label_goes_on : (k : ℕ) (u : Cell ℕ) (x : Edge ℕ ℕ) → x.dim < length u
       → cell_at tree k ≡ Some (cell_prefix x.dim u) → Among x (record_at tree k).edges
       → IsNumberOfCell tree (Some x.target)
@@ -94,7 +94,7 @@ module _ (dims : ℕ) (tree : Tree ℕ) (source : TreeRows) (h : IsTreeOf dims t
       (option_map (cell_prefix (suc x.dim)) (closure (eq_by_cmp nat_cmp) source.rows c)))
       (prefix_with u x.dim x.value l) ∙ ap (option_map (λ c. Some c)) t.2.leads)
 
-  -- up from a front to that before its last value
+  -- up from a prefix to that before its last value
   pub one_up : (k : ℕ) (c : Cell ℕ) (i v : ℕ) → cell_at tree k ≡ Some (cell_prefix (suc i) c)
       → slice_get c i ≡ Some (Some v)
       → option_map (cell_at tree) (record_at tree k).parent ≡ Some (Some (cell_prefix i c))
@@ -121,7 +121,7 @@ module _ (dims : ℕ) (tree : Tree ℕ) (source : TreeRows) (h : IsTreeOf dims t
   up_to k c i v at has o m is got
       = some_same (ap (option_map (cell_at tree)) (ap (option_map number) (sym got) ∙ is) ∙ one_up k c i v at has)
 
--- behind the last dimension of Any there are values alone
+-- after the last dimension of Any there are values alone
 pub value_after : (c : Cell ℕ) (dim i : ℕ) → IsLastAny c dim → dim < i → i < length c → (v : ℕ)
     × (slice_get c i ≡ Some (Some v))
 value_after c dim i last l within = by c i within (last.last i l)

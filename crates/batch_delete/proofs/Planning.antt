@@ -1,4 +1,4 @@
--- What becomes of a class below the tuple: its front, its labels, and the other rows of the tuple.
+-- What becomes of a class that generalizes the tuple: its prefix, its labels, and the other rows of the tuple.
 use Rattle.std.proofs.Common.{◌≡◌, ◌≢◌, ◌∙◌, ℕ, zero, suc, ◌≤◌, true, inl, inr, Option, Some, None, List, [], ◌∷◌, ap, ap₂, arith, length}
 use Rattle.std.proofs.Common.{nat_cmp, nat_eq, refl, slice_get, subst, sym}
 use Rattle.std.proofs.lemmas.Bool.{and_parts, cond-true}
@@ -69,7 +69,7 @@ labels_counted tree (x ∷ list) c (suc k) b at same =
     else 0) x list in
     omega arith
 
--- a cell above a tuple is its cell
+-- a cell that specializes a tuple is its cell
 pub full_top : (t : List ℕ) (c : Cell ℕ) → leq (eq_by_cmp nat_cmp) (cell_of t) c ≡ true → length c ≡ length t
     → c ≡ cell_of t
 full_top [] [] h l = refl
@@ -109,7 +109,7 @@ module _ (dims : ℕ) (tree : Tree ℕ) (d : Deletion) (h : IsTreeOf dims tree (
   prefix_there own i = h.canonical.all (cell_prefix i u)
       (class_prefixes law (rows_before d) i u ((is_class-is law (rows_before d) u).1 own))
 
-  -- the labels of a class's front are counted
+  -- the labels of a class's prefix are counted
   pub prefix_counted : (list : List NodeCell) → AreGeneralizing tree tuple (length tuple) list → (i : ℕ) → IsLastAny u i
       → (q : ℕ) → cell_at tree q ≡ Some (cell_prefix i u)
       → length (record_at tree q).edges ≤ prefix_labels tree list u (last_any_of u)

@@ -116,7 +116,7 @@ module _ (dims : ℕ) (tree : Tree ℕ) (d : Deletion) (h : IsTreeOf dims tree (
     by_numbers : (c w : Cell ℕ) → leq (eq_by_cmp nat_cmp) c w ≡ true → leq nat_eq c w ≡ true
     by_numbers c w e = subst (λ eq. leq eq c w ≡ true) one_test e
 
-    -- a greater cell with a value where p has none is not below p
+    -- a greater cell with a value where p has none doesn't generalize p
     apart : (w : Cell ℕ) (i v : ℕ) → slice_get p i ≡ Some None → leq (eq_by_cmp nat_cmp) (one_value i v) w ≡ true
         → leq nat_eq w p ≡ false
     apart w i v any one = false_from_ne_true _ (λ e.
@@ -196,7 +196,7 @@ shared_long dims tree d h c rest closes
     = closure_length (eq_by_cmp nat_cmp) dims c rest.shared (rows_after d)
     (all-insert (λ row. length row.tuple ≡ dims) d.xs d.r d.ys h.wide).0 closes
 
--- where the front of what a cell's rows share, as long as the cell, is not above the cell, it is the cell
+-- where the prefix of what a cell's rows share, as long as the cell, doesn't specialize the cell, it is the cell
 pub own_prefix : (d : Deletion) (c shared front : Cell ℕ) → closure (eq_by_cmp nat_cmp) (rows_after d) c ≡ Some shared
     → front ≡ cell_prefix (depth c) shared → leq nat_eq front c ≡ true → cell_prefix (depth c) shared ≡ c
 own_prefix d c shared front closes is low =

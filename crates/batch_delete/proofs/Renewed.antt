@@ -216,7 +216,7 @@ module _ (width : ℕ) (old new : Tree ℕ) (tuple : Cell ℕ) (d : Deletion) (h
               at_now (Gone k f) = absurd (none_some (sym f ∙ at))
               at_now (Mended k l rest r f) = with_cell (ap (λ (x : Known). x.cell) (some_same (sym f ∙ at))) l
 
-  -- the record of a node that isn't below the tuple
+  -- the record of a node that doesn't generalize the tuple
   apart_right : (q : ℕ) (n : Known) → fin.get old q ≡ Some n → covers (eq_by_cmp nat_cmp) n.cell d.r ≡ false
       → Some (renamed (cell_at new) n) ≡ option_map (renamed (λ c. Some c))
       (node_of nat_cmp d.measures (rows_after d) n.cell)
@@ -249,7 +249,7 @@ module _ (width : ℕ) (old new : Tree ℕ) (tuple : Cell ℕ) (d : Deletion) (h
           (λ y f. to y f))
           ∙ ap (option_map (renamed (λ c. Some c))) (sym k)
 
-  -- the record of a node below it that stays
+  -- the record of a node that generalizes it that stays
   module _ (q : ℕ) (n : Known) (e : fin.get old q ≡ Some n) (over : covers (eq_by_cmp nat_cmp) n.cell d.r ≡ true)
       (node : is_node (eq_by_cmp nat_cmp) (rows_after d) n.cell ≡ true) (rest : Rest)
       (r : IsRest d.measures (rows_after d) n.cell (Some rest)) where

@@ -1,4 +1,4 @@
--- The steps of a deletion, by the nodes and edges below the tuple.
+-- The steps of a deletion, by the nodes that generalize the tuple, and their edges.
 use Rattle.std.proofs.Common.{◌≡◌, ◌≢◌, ◌∙◌, inl, inr, ℕ, zero, suc, ◌+◌, ◌*◌, ◌^◌, ◌<◌, ◌≤◌, Bool, true, false, ◌&&◌, Option, Some, None}
 use Rattle.std.proofs.Common.{List, [], ◌∷◌, ◌++◌, filter_map, length, map, sum, slice_get, nat_eq, nat_lt, nat_cmp, refl, sym, ap, ap₂}
 use Rattle.std.proofs.Common.{subst, arith, eqb-true, true≢false, ltb-true, ltb-false}
@@ -127,7 +127,7 @@ labels_within old (b ∷ list) ps h =
     else 0) b list in omega arith) in
     omega arith
 
--- a cell below a tuple is told by its last dimension of Any and its front before that
+-- a cell that generalizes a tuple is told by its last dimension of Any and its prefix before that
 full : (x z t : Cell ℕ) → length x ≡ length z → leq nat_eq x t ≡ true → leq nat_eq z t ≡ true → last_any_of x ≡ None
     → last_any_of z ≡ None → x ≡ z
 full [] [] t l a b p q = refl
@@ -216,7 +216,7 @@ module _ (width : ℕ) (old : Tree ℕ) (tuple : Cell ℕ) (d : Deletion) (h : I
       = h.canonical.once x.node.0 z.node.0 x.cell (at_place x m).0 ((at_place z n).0 ∙ ap (λ c. Some c) (sym e)) in
       λ i. record { node = record { 0 = number i }; cell = e i }
 
-  -- the fronts of the cells with their last Any in a dimension
+  -- the prefixes of the cells with their last Any in a dimension
   abbrev prefix_if : ℕ → Cell ℕ → Option ℕ → Option (Cell ℕ)
   prefix_if n c None = None
   prefix_if n c (Some i) = if nat_eq i n then Some (cell_prefix i c) else None
@@ -350,7 +350,7 @@ module _ (width : ℕ) (old : Tree ℕ) (tuple : Cell ℕ) (d : Deletion) (h : I
       by c None l = omega arith
       by c (Some i) l = tested i (labels_of old list (cell_prefix i c)) (nat_lt i (length tuple)) refl (l i refl)
 
-  -- the nodes of the list, with their edges, stand below the tuple in the tree of the definitions
+  -- the nodes of the list, with their edges, generalize the tuple in the tree of the definitions
   abbrev cell_or : Option (Cell ℕ) → Cell ℕ
   cell_or None = []
   cell_or (Some c) = c

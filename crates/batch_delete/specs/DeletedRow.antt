@@ -37,7 +37,7 @@ pub record IsClassNode (d : Deletion) (a : Arena) (b : NodeCell) : Type 0 where
   pub long : length b.cell ≡ a.width
   pub node : cell_at a.now b.node.0 ≡ Some b.cell
 
--- such a class at its front before a dimension in which it has Any
+-- such a class at its prefix before a dimension in which it has Any
 pub record IsPrefixNode (d : Deletion) (a : Arena) (u : Cell ℕ) (i number : ℕ) : Type 0 where
   pub class : IsClass d u
   pub long : length u ≡ a.width
@@ -52,6 +52,6 @@ pub record IsKnown (d : Deletion) (class : Class) : Type 0 where
   pub less : IfSome class.less
       (λ agg. Some (agg_in agg) ≡ agg_at (eq_by_cmp nat_cmp) d.measures (rows_after d) class.cell)
 
--- a search for the cell goes on from the number behind dimension i
+-- a search for the cell goes on from the number after dimension i
 abbrev pub GoesOn : Deletion → Tree ℕ → Cell ℕ → ℕ → ℕ → Type 0
 GoesOn d tree c i k = IsNumberOfCell tree (Some k) (closure_prefix (eq_by_cmp nat_cmp) (rows_before d) c (suc i))

@@ -1,4 +1,4 @@
--- The nodes of a tree below a tuple.
+-- The nodes of a tree that generalize a tuple.
 use Rattle.std.specs.Prelude.{◌≡◌, ◌⊎◌, ℕ, ◌<◌, ◌≤◌, false, true, Some, List, [], ◌∷◌, ◌++◌, length, nat_eq, slice_get}
 use Rattle.cube_defs.specs.Cell.{Cell, depth, leq, with_value}
 use Rattle.cube_defs.specs.Tree.{Tree, cell_at}
@@ -8,7 +8,7 @@ use Rattle.batch_delete.specs.declared.generalizing.NodeCell.{NodeCell}
 abbrev pub no_node_cell : NodeCell
 no_node_cell = record { node = record { 0 = 0 }; cell = [] }
 
--- the nodes below the tuple without a value from a dimension on; none stands behind one above it
+-- the nodes that generalize the tuple without a value from a dimension on; none stands after one that it generalizes
 pub record AreGeneralizing (tree : Tree ℕ) (tuple : Cell ℕ) (dim : ℕ) (list : List NodeCell) : Type 0 where
   pub cells : (k : ℕ) (b : NodeCell) → slice_get list k ≡ Some b → cell_at tree b.node.0 ≡ Some b.cell
   pub below : (k : ℕ) (b : NodeCell) → slice_get list k ≡ Some b → leq nat_eq b.cell tuple ≡ true

@@ -1,4 +1,4 @@
--- What becomes of the nodes below a tuple, and of their edges.
+-- What becomes of the nodes that generalize a tuple, and of their edges.
 use Rattle.std.specs.FinMap as map
 use Rattle.std.specs.List.{sum_by}
 use Rattle.std.specs.Prelude.{◌≡◌, ◌≢◌, ◌<◌, ◌≤◌, ◌+◌, ◌*◌, IsSome, length, slice_get, ℕ, zero, suc, [], ◌∷◌, filter_map, Bool, true, false}
@@ -140,7 +140,7 @@ pub record AreReady (width : ℕ) (tree : Tree ℕ) (tuple : Cell ℕ) (plan : L
 abbrev pub rewriting_cost : ℕ → Tree ℕ → List NodeCell → ℕ
 rewriting_cost dims tree list = sum_by (λ b. 5 + 2 * dims + 3 * length (record_at tree b.node.0).edges) list
 
--- the last dimension of Any of a cell with one entry more in front
+-- the last dimension of Any of a cell with one more entry at its beginning
 abbrev pub last_any_with : Option ℕ → Option ℕ → Option ℕ
 last_any_with e (Some i) = Some (suc i)
 last_any_with None None = Some 0
@@ -155,12 +155,12 @@ last_any_of (e ∷ c) = last_any_with e (last_any_of c)
 abbrev pub labels_of : Tree ℕ → List NodeCell → Cell ℕ → ℕ
 labels_of tree list c = sum_by (λ b. if cell_eq nat_eq b.cell c then length (record_at tree b.node.0).edges else 0) list
 
--- how many labels the node of the cell's front before its last Any has, if the cell has Any
+-- how many labels the node of the cell's prefix before its last Any has, if the cell has Any
 abbrev pub prefix_labels : Tree ℕ → List NodeCell → Cell ℕ → Option ℕ → ℕ
 prefix_labels tree list c None = 0
 prefix_labels tree list c (Some i) = labels_of tree list (cell_prefix i c)
 
--- how many steps the plan for the nodes from a place on takes: each reads what its front's labels lead to
+-- how many steps the plan for the nodes from a place on takes: each reads what its prefix's labels lead to
 abbrev pub planning_cost : ℕ → Tree ℕ → List NodeCell → List NodeCell → ℕ
 planning_cost dims tree list some
     = sum_by (λ b. (4 * dims + 7) * (1 + prefix_labels tree list b.cell (last_any_of b.cell))) some

@@ -14,7 +14,7 @@ use Rattle.batch_delete.specs.declared.plan.NodePlan.{NodePlan}
 use Rattle.batch_delete.specs.Plan.{planned_rest_in, heir_in}
 use Rattle.batch_delete.specs.declared.parts.Rest.{Rest}
 
--- the row r goes, and the rows before it and behind it stay
+-- the row r goes, and the rows before it and after it stay
 pub record Deletion : Type 0 where
   pub measures : ℕ
   pub xs : List (Row ℕ)
@@ -56,7 +56,7 @@ abbrev pub other_values : ℕ → ℕ → List (Edge ℕ ℕ) → List ℕ
 other_values i v xs = filter_map (λ x. if nat_eq x.dim i && not (nat_eq x.value v) then Some x.value else None) xs
 
 -- what is planned for a node: what its rows share and come to afterwards, and as its heir the node of the
--- front of what they share, as long as the node's cell
+-- prefix of what they share, as long as the node's cell
 pub record IsPlanned (d : Deletion) (tree : Tree ℕ) (plan : List (ℕ × NodePlan)) (b : NodeCell) : Type 0 where
   pub after : IsRest d.measures (rows_after d) b.cell (planned_rest_in plan b.node.0)
   pub heir : IsNumberOfCell tree (heir_in plan b.node.0)
@@ -66,12 +66,12 @@ pub record IsPlanned (d : Deletion) (tree : Tree ℕ) (plan : List (ℕ × NodeP
 abbrev pub ArePlanned : Deletion → Tree ℕ → List (ℕ × NodePlan) → List NodeCell → ℕ → Type 0
 ArePlanned d tree plan list k = (j : ℕ) (b : NodeCell) → k ≤ j → slice_get list j ≡ Some b → IsPlanned d tree plan b
 
--- the nodes below the tuple that are greater than a cell are planned for
+-- the nodes that generalize the tuple that are greater than a cell are planned for
 abbrev pub AreGreaterPlanned : Deletion → Tree ℕ → Cell ℕ → Cell ℕ → List (ℕ × NodePlan) → Type 0
 AreGreaterPlanned d tree tuple c plan = (q : ℕ) (w : Cell ℕ) → cell_at tree q ≡ Some w → leq nat_eq w tuple ≡ true
     → leq nat_eq c w ≡ true → leq nat_eq w c ≡ false → IsRest d.measures (rows_after d) w (planned_rest_in plan q)
 
--- what a cell's rows share afterwards is below the other cell, and they are some
+-- what a cell's rows share afterwards generalizes the other cell, and they are some
 abbrev pub SharesAtMost : Deletion → Cell ℕ → Cell ℕ → Type 0
 SharesAtMost d u s = (w : Cell ℕ) × (closure (eq_by_cmp nat_cmp) (rows_after d) u ≡ Some w)
     × (leq (eq_by_cmp nat_cmp) w s ≡ true)

@@ -187,7 +187,7 @@ target_old t a ready wide m own (Some k) h e = record {
   dims = ap mask (sym (meet_of_leq nat_equality h.cell t (h.below ∙ e))) ∙ h.common;
 }
 
--- the next front of the old closure has another value than t
+-- the next prefix of the old closure has another value than t
 pub shares_moved : (t : Cell ℕ) (a : Arena) (wide : length t ≡ a.width) (c : Case t a) (p : Cell ℕ) (i m v w : ℕ)
     (k n : NodeNo) → mask p ≡ m → slice_index_or t i None ≡ Some v → w ≢ v → IsChain c p i (Some k)
     → IsNext c p i (Some (w, n)) → IsPrefix c p (suc i) → Shares t a.now m false n.0

@@ -45,7 +45,7 @@ copying_more tree xs ys x s o e w h le
       sum_by-cons (copy_cost tree) x [],
     )
 
--- the copied labels of p's front are within its edges
+-- the copied labels of p's prefix are within its edges
 pub copying_within : (t : Cell ℕ) (a : Arena) (wide : length t ≡ a.width) (c : Case t a) (x : LabelCopy) → IsCopyOf c x
     → (p : Cell ℕ) (i : ℕ) → IsPrefix c p i → x.mask ≡ mask p → copy_cost a.now x ≤ 1 + 2 * edges_at c p
 copying_within t a wide c x is p i front dims =

@@ -1,4 +1,4 @@
--- A repair costs no more than the nodes and edges below the tuple allow.
+-- An insertion costs no more than the nodes that generalize the tuple, and their edges, allow.
 use Rattle.std.proofs.Common.{◌≡◌, inl, inr, ℕ, suc, ◌+◌, ◌*◌, ◌^◌, ◌<◌, ◌≤◌, Bool, true, false, cond, Option, Some, None, List, [], ◌∷◌}
 use Rattle.std.proofs.Common.{◌++◌, filter, map, sum, length, nat_cmp, refl, sym, ap, ap₂, subst, ◌∙◌, arith, true≢false}
 use Rattle.std.proofs.lemmas.Bool.{cond-true, cond-false}
@@ -85,14 +85,14 @@ cond_le true w = omega arith
 cond_le false w = omega arith
 
 module _ (t : Cell ℕ) (a : Arena) (wide : length t ≡ a.width) (c : Case t a) where
-  -- a node below t
+  -- a node that generalizes t
   listed : (p : Cell ℕ) → IsPrefix c p (depth p) → Among p (nodes_with c)
   listed p front =
       among_filter (λ q. leq (eq_by_cmp nat_cmp) q t) p (nodes nat_cmp (c.xs ++ c.row ∷ c.ys))
       ((nodes-is nat_cmp_total finmap.nat_cmp-IsAntisymmetric a.width (c.xs ++ c.row ∷ c.ys) (rows_wide t a wide c) p).1
       (node_of_prefix t a wide c p front)) (prefix_leq t a wide c p (depth p) front)
 
-  -- what it costs is within what all cost whose front it is
+  -- what it costs is within what all cost whose prefix it is
   pub own_cost : (p : Cell ℕ) (i : ℕ) → IsPrefix c p (depth p) → depth p ≤ i → weight c p ≤ generalizing_cost c p i
   unfolding generalizing_cost
   own_cost p i front deep =
@@ -181,7 +181,7 @@ module _ (t : Cell ℕ) (a : Arena) (wide : length t ≡ a.width) (c : Case t a)
             refl,
           )
 
-  -- the nodes and edges below the tuple
+  -- the nodes that generalize the tuple, and their edges
   abbrev table : List (defs.Row ℕ)
   table = c.xs ++ c.row ∷ c.ys
 

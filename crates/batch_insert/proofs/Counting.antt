@@ -23,7 +23,7 @@ use Rattle.batch_insert.proofs.Keeping.{cell_known}
 use Rattle.batch_insert.proofs.Started.{node_of_prefix}
 use Rattle.tree_search.specs.Found.{IsTreeOf}
 
--- a map of some nodes, each once, lacks a node
+-- a map of some nodes, each once, misses a node
 module _ (rows : List (Row ℕ)) (dims : ℕ) (wide : AllByRecursion (λ row. length row.tuple ≡ dims) rows) (b : Tree ℕ)
     (each : (k : ℕ) (n : Known) → numbers.get b k ≡ Some n → is_node (eq_by_cmp nat_cmp) rows n.cell ≡ true)
     (once : (k l : ℕ) (n m : Known) → numbers.get b k ≡ Some n → numbers.get b l ≡ Some m → n.cell ≡ m.cell

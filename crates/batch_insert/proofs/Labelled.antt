@@ -1,4 +1,4 @@
--- The labels of the node of a front of the old closure are labels of the node with the row, but for those with its
+-- The labels of the node of a prefix of the old closure are labels of the node with the row, but for those with its
 -- value.
 use Rattle.std.proofs.Common.{cond, ◌≡◌, ◌⊎◌, inl, inr, ℕ, zero, suc, ◌≤◌, ◌<◌, Bool, true, false, Option, Some, None, List, [], ◌∷◌, ◌++◌}
 use Rattle.std.proofs.Common.{map, length, nat_cmp, slice_get, slice_index_or, refl, sym, ap, ap₂, subst, ◌∙◌, arith}
@@ -113,7 +113,7 @@ module _ (t : Cell ℕ) (a : Arena) (wide : length t ≡ a.width) (c : Case t a)
       bad : false ≡ true → ⊥
       bad z = cc
 
-  -- the node of a front of p's old closure
+  -- the node of a prefix of p's old closure
   module _ (p u : Cell ℕ) (i : ℕ) (front : IsPrefix c p i) (e : old_closure c p ≡ Some u) where
     is : defs.closure (eq_by_cmp nat_cmp) (c.xs ++ c.ys) (cell_prefix i u) ≡ Some u
     is = (chain_node nat_cmp_total finmap.nat_cmp-IsAntisymmetric c.measures (c.xs ++ c.ys) p u i e

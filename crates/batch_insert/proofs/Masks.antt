@@ -1,4 +1,4 @@
--- Masks of what cells below a tuple, and a node and the tuple, have in common.
+-- Masks of what cells that generalize a tuple, and a node and the tuple, have in common.
 use Rattle.std.proofs.Common.{◌≡◌, ◌≢◌, ℕ, zero, suc, ◌+◌, ◌*◌, ◌-◌, ◌^◌, ◌%◌, ◌/◌, ◌≤◌, ◌<◌, All, Bool, true, false, ◌&&◌, Option, Some}
 use Rattle.std.proofs.Common.{None, [], ◌∷◌, is_some, length, nat_eq, slice_get, slice_index_or, replicate, if◌then◌else◌, refl, sym, ap}
 use Rattle.std.proofs.Common.{ap₂, subst, ◌∙◌, true≢false, arith, pow_mono, pow-suc}
@@ -28,7 +28,7 @@ even n = let e : (2 * n) % 2 ≡ 0 = omega arith in ap (λ x. nat_eq x 1) e
 odd : (n : ℕ) → nat_eq ((2 * n + 1) % 2) 1 ≡ true
 odd n = let e : (2 * n + 1) % 2 ≡ 1 = omega arith in ap (λ x. nat_eq x 1) e
 
--- a cell below t is the part with its mask
+-- a cell that generalizes t is the part with its mask
 pub part_of : (t p : Cell ℕ) → leq nat_eq p t ≡ true → length p ≡ length t → part t (mask p) ≡ p
 part_of [] [] h l = refl
 part_of [] (e ∷ p) h l = absurd (omega arith)
@@ -74,7 +74,7 @@ mask_with (None ∷ p) (suc i) v d l = let h = mask_with p i v (shallow None (de
 mask_with (Some w ∷ p) (suc i) v d l = let h = mask_with p i v (shallow (Some w) (depth p) i d) (omega arith) in
     rw pow-suc (omega arith)
 
--- t's front
+-- t's prefix
 prefix_more : (t : Cell ℕ) (i : ℕ) → All (λ e. is_some e ≡ true) t → i < length t
     → mask (cell_prefix (suc i) t) + 1 ≡ 2 ^ suc i
 prefix_more [] i full l = absurd (omega arith)
@@ -98,7 +98,7 @@ agrees t j v = entry_leq nat_eq (Some v) (slice_index_or t j None)
 abbrev pub bit_for : Cell ℕ → ℕ → ℕ → ℕ
 bit_for t j v = if agrees t j v then 2 ^ j else 0
 
--- an entry more in front
+-- an entry more before it
 abbrev entry_bit : Option ℕ → ℕ
 entry_bit None = 0
 entry_bit (Some v) = 1
@@ -178,7 +178,7 @@ flat_met x t d l =
     let r = any_met (length x) t l in
     (ap (λ y. mask (meet nat_eq y t)) (flat_is x d) ∙ r.0, ap (λ y. leq nat_eq y t) (flat_is x d) ∙ r.1)
 
--- what is above a cell that isn't below t
+-- what specializes a cell that doesn't generalize t
 pub apart_at : (c d : Cell ℕ) (i v w : ℕ) → slice_get c i ≡ Some (Some w) → slice_get d i ≡ Some (Some v) → w ≢ v
     → leq nat_eq c d ≡ false
 apart_at c d i v w e f o = false_from_ne_true _ (λ h. o (same c d i e f h))

@@ -1,4 +1,4 @@
--- The fronts of the closures that the cells below the tuple have with the row.
+-- The prefixes of the closures that the cells that generalize the tuple have with the row.
 use Rattle.std.proofs.Common.{◌≡◌, ◌⊎◌, inl, inr, ℕ, zero, suc, ◌≤◌, ◌<◌, true, Option, Some, None, [], ◌∷◌, ◌++◌, length, nat_cmp}
 use Rattle.std.proofs.Common.{slice_get, refl, sym, ap, ap₂, subst, ◌∙◌, arith}
 use Rattle.std.specs.Ordering.{eq_by_cmp}
@@ -55,7 +55,7 @@ module _ (t : Cell ℕ) (a : Arena) (wide : length t ≡ a.width) (c : Case t a)
   pub prefix_deep : (p : Cell ℕ) (i : ℕ) → IsPrefix c p i → depth p ≤ i
   prefix_deep p i h = subst (λ x. depth x ≤ i) h (depth-cell_prefix-le i (new_closure c p))
 
-  -- what is a front before a dimension is one before each between
+  -- what is a prefix before a dimension is one before each between
   pub prefix_before : (p : Cell ℕ) (j i : ℕ) → j ≤ i → depth p ≤ j → IsPrefix c p i → IsPrefix c p j
   prefix_before p j i h d f = sym (cell_prefix-cell_prefix j i (new_closure c p) h) ∙ ap (cell_prefix j) f
       ∙ cell_prefix-beyond j p d
@@ -101,7 +101,7 @@ module _ (t : Cell ℕ) (a : Arena) (wide : length t ≡ a.width) (c : Case t a)
   prefix_end p i h l = sym (cell_prefix-beyond i (new_closure c p) (let d = depth-le (new_closure c p) in
       omega (arith, d, l, new_long p))) ∙ h
 
-  -- a front of a node is a node
+  -- a prefix of a node is a node
   pub node_prefix : (q : Cell ℕ) (i : ℕ) → i ≤ depth q → IsPrefix c q (depth q) → IsPrefix c (cell_prefix i q) i
   node_prefix q i h f =
       let below : leq (eq_by_cmp nat_cmp) (cell_prefix i q) t ≡ true
@@ -121,7 +121,7 @@ module _ (t : Cell ℕ) (a : Arena) (wide : length t ≡ a.width) (c : Case t a)
       (subst (λ x. leq (eq_by_cmp nat_cmp) x (cell_prefix i (new_closure c (cell_prefix i q))) ≡ true)
       (cell_prefix-cell_prefix i i q (omega arith)) up)
 
-  -- a node whose front before i is p, and p's forced child stands in i: it is p
+  -- a node whose prefix before i is p, and p's forced child stands in i: it is p
   pub node_last : (p q : Cell ℕ) (i v : ℕ) → IsPrefix c p i → i < length t
       → slice_get (new_closure c p) i ≡ Some (Some v) → IsPrefix c q (depth q) → cell_prefix (suc i) q ≡ p → q ≡ p
   node_last p q i v fp l e fq k = go (le_or_lt (depth q) (suc i))
@@ -141,7 +141,7 @@ module _ (t : Cell ℕ) (a : Arena) (wide : length t ≡ a.width) (c : Case t a)
           = any_after p i (prefix_deep p i fp) (omega (arith, prefix_long p i fp, l)) in
           absurd (not_any (sym here ∙ none))
 
-  -- a node whose front before i is p: it has no value in i, or it has t's, and then p with this value is a node
+  -- a node whose prefix before i is p: it has no value in i, or it has t's, and then p with this value is a node
   pub branch : (p q : Cell ℕ) (i v : ℕ) → i < length t → slice_get t i ≡ Some (Some v) → IsPrefix c q (depth q)
       → cell_prefix i q ≡ p
       → (cell_prefix (suc i) q ≡ p)

@@ -171,7 +171,7 @@ module _ (t : Cell ℕ) (a : Arena) (wide : length t ≡ a.width) (c : Case t a)
         (k, number, λ i v h. subst (λ q. HasLabel i v (record_at b q).edges) e (stage.stays x.from.0 i v h)),
       )
 
-      -- another node's front that is below t is the node itself
+      -- another node's prefix that generalizes t is the node itself
       source : x.from.0 ≢ k → (r : Known) × (map.get a.now x.from.0 ≡ Some r) × (r.cell ≡ cell_prefix is.dim is.upper)
           × (map.get b x.from.0 ≡ Some r)
       source off =

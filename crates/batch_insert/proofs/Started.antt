@@ -36,7 +36,7 @@ module _ (t : Cell ℕ) (a : Arena) (wide : length t ≡ a.width) (c : Case t a)
       ∙ cond-true _ _ _ (ap (leq (eq_by_cmp nat_cmp) p) c.tuple ∙ leq_is p t ∙ h)
       ∙ ap (λ x. Some (defs.meet_after (eq_by_cmp nat_cmp) x (old_closure c p))) c.tuple
 
-  -- the nodes below t
+  -- the nodes that generalize t
   pub prefix_of_node : (p : Cell ℕ) → leq nat_eq p t ≡ true
       → defs.is_node (eq_by_cmp nat_cmp) (c.xs ++ c.row ∷ c.ys) p ≡ true → IsPrefix c p (depth p)
   prefix_of_node p h node

@@ -29,14 +29,14 @@ module _ {t : Cell ℕ} {a : Arena} (c : Case t a) where
   abbrev pub edges_at : Cell ℕ → ℕ
   edges_at p = edges_of (node_of nat_cmp 0 (c.xs ++ c.row ∷ c.ys) p)
 
-  -- what a node below t costs: its own plan and writes, without those of its children
+  -- what a node that generalizes t costs: its own plan and writes, without those of its children
   abbrev pub weight : Cell ℕ → ℕ
   weight p = 6 + 2 * edges_at p + length t * (2 * length t + 7 + 2 * edges_at p)
 
   abbrev pub nodes_with : List (Cell ℕ)
   nodes_with = filter (λ q. leq (eq_by_cmp nat_cmp) q t) (nodes nat_cmp (c.xs ++ c.row ∷ c.ys))
 
-  -- what all nodes below t cost whose front before i is p
+  -- what all nodes that generalize t cost whose prefix before i is p
   unfoldable pub generalizing_cost : Cell ℕ → ℕ → ℕ
   generalizing_cost p i =
       sum_by (λ q. if cell_eq (eq_by_cmp nat_cmp) (cell_prefix i q) p then weight q else 0) nodes_with

@@ -12,8 +12,8 @@ abbrev pub IsClosed : Arena → Type 0
 IsClosed a = (k : ℕ) (n : Known) (x : Edge ℕ ℕ) → map.get a.now k ≡ Some n → Among x n.edges
     → IsSome (map.get a.now x.target) × (x.dim < a.width)
 
--- from the one arena to the other each node keeps its number, and its whole record where it isn't below
--- t; each node that is touched by then and wasn't before is below t
+-- from the one arena to the other each node keeps its number, and its whole record where it doesn't generalize
+-- t; each node that is touched by then and wasn't before generalizes t
 pub record KeepsNodes (t : Cell ℕ) (before after : Arena) : Type 0 where
   pub cells : (k : ℕ) (c : Cell ℕ) → cell_at before.now k ≡ Some c → cell_at after.now k ≡ Some c
   pub apart : (k : ℕ) (n : Known) → map.get before.now k ≡ Some n → leq nat_eq n.cell t ≡ false
@@ -27,11 +27,11 @@ pub record KeepsNodes (t : Cell ℕ) (before after : Arena) : Type 0 where
   pub frame : frame after ≡ frame before
   pub opened : is_open after ≡ true
 
--- k is the number of a node below t
+-- k is the number of a node that generalizes t
 abbrev pub IsGeneralizing : Cell ℕ → Arena → ℕ → Type 0
 IsGeneralizing t a k = (c : Cell ℕ) × (cell_at a.now k ≡ Some c) × (leq nat_eq c t ≡ true)
 
--- k is the number of a touched node below t that has values in the dimensions of the mask m
+-- k is the number of a touched node that generalizes t that has values in the dimensions of the mask m
 pub record IsNumber (t : Cell ℕ) (a : Arena) (m k : ℕ) : Type 0 where
   pub cell : Cell ℕ
   pub at : cell_at a.now k ≡ Some cell

@@ -35,7 +35,7 @@ module _ {t : Cell ℕ} {a : Arena} (c : Case t a) where
   abbrev pub new_lead : Cell ℕ → ℕ → ℕ → Option (Cell ℕ)
   new_lead p i v = target_of_label (eq_by_cmp nat_cmp) (c.xs ++ c.row ∷ c.ys) p i v
 
-  -- a record below t: each edge leads where it is to lead with the row, or it has t's value; there is no class but
+  -- a record that generalizes t: each edge leads where it is to lead with the row, or it has t's value; there is no class but
   -- where the node is its own closure
   pub record IsSound (name : ℕ → Option (Cell ℕ)) (n : Known) : Type 0 where
     pub parent : option_map name n.parent ≡ option_map (λ x. Some x) (parent_cell_of nat_cmp n.cell)
@@ -45,7 +45,7 @@ module _ {t : Cell ℕ} {a : Arena} (c : Case t a) where
         ⊎ (slice_index_or t x.dim None ≡ Some x.value)
     pub class : (n.class ≡ None) ⊎ (new_closure c n.cell ≡ n.cell)
 
-  -- the nodes below t are those with the row, each with its number and a sound record; the others are as they were
+  -- the nodes that generalize t are those with the row, each with its number and a sound record; the others are as they were
   pub record IsStage (b : Tree ℕ) (numbers : ℕ → Option ℕ) : Type 0 where
     pub nodes : (m k : ℕ) → numbers m ≡ Some k → (p : Cell ℕ) × (cell_at b k ≡ Some p) × (mask p ≡ m)
         × IsPrefix c p (depth p)

@@ -16,7 +16,7 @@ pub record IsInsertion (t : Cell ℕ) (a : Arena) : Type 0 where
   pub no_any : All (λ entry. is_some entry ≡ true) t
   pub width : length t ≡ a.width
 
--- the node with the mask m has no forced child before dimension i, and the chain is at this front of its old closure
+-- the node with the mask m has no forced child before dimension i, and the chain is at this prefix of its old closure
 pub record StandsAt (t : Cell ℕ) (a : Arena) (m i : ℕ) (chain : OldPrefix) : Type 0 where
   pub masked : mask (part t m) ≡ m
   pub there : IfSome chain.node (λ k. IsSome (map.get a.now k.0))
@@ -24,7 +24,7 @@ pub record StandsAt (t : Cell ℕ) (a : Arena) (m i : ℕ) (chain : OldPrefix) :
   pub front : (c : Case t a) → IsPrefix c (part t m) i
   pub leads : (c : Case t a) → IsChain c (part t m) i chain.node
 
--- so it is behind the last value of the node, which is planned
+-- so it is after the last value of the node, which is planned
 pub record StartsAt (t : Cell ℕ) (a : Arena) (m i : ℕ) (chain : OldPrefix) (plan : Plan) : Type 0 where
   pub at : StandsAt t a m i chain
   pub deep : depth (part t m) ≡ i

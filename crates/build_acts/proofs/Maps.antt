@@ -43,7 +43,7 @@ len_same t t' k n m put was = ap (λ (m : Tree ℕ). map.len m) (inserted t t' k
 before : (e f : Edge ℕ ℕ) → (e.dim < f.dim) ⊎ ((e.dim ≡ f.dim) × (e.value < f.value)) → label_lt e f ≡ true
 before e f h = grind arith
 
--- an edge that comes behind all others is put last
+-- an edge that comes after all others is put last
 pub put_edge-last : (e : Edge ℕ ℕ) (es : List (Edge ℕ ℕ))
     → AllByRecursion (λ x. (x.dim < e.dim) ⊎ ((x.dim ≡ e.dim) × (x.value < e.value))) es → put_edge e es ≡ es ++ e ∷ []
 put_edge-last e [] h = refl

@@ -131,7 +131,7 @@ module _ (measures : ℕ) (rows : List (Row ℕ)) (a b : Arena) (k : ℕ) where
       = does_add (replicate a.width None) None free o touched
       (λ done rest g. sym (ap (option_map (λ c. Some c)) (cut-root a.width)))
 
-  -- a node is added below its parent
+  -- a node is added as a child of its parent
   pub does_child : (up : ℕ) (f : Cell ℕ) (i v : ℕ) → cell_at a.now up ≡ Some f → depth f ≤ i → map.get a.now k ≡ None
       → OneNew a b k (bare (with_value f i v) (Some up)) → ((q : ℕ) → is_touched b q ≡ (nat_eq k q || is_touched a q))
       → PerformsActs measures rows (Add (with_value f i v) ∷ []) a b

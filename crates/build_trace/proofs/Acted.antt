@@ -97,7 +97,7 @@ puts_none k u q (Label b f i v t ∷ es) h other =
     (false_from_ne_true _ (λ s. other (ap (cell_prefix k) (sym (cell_eq-exact nat_equality f q s)) ∙ h.0)))
     ∙ puts_none k u q es h.1 other
 
--- where u has a value in dimension k, no front of it that ends before has
+-- where u has a value in dimension k, no prefix of it that ends before has
 pub apart : (k x : ℕ) (u w : Cell ℕ) → entry w k ≡ Some x
     → cell_prefix (suc k) (cell_prefix k u) ≡ cell_prefix (suc k) w → ⊥
 apart k x u w e h = let a : entry (cell_prefix k u) k ≡ entry w k = cell_prefix_entry k (cell_prefix k u) w h in

@@ -1,4 +1,4 @@
--- A label comes behind those that its node has.
+-- A label comes after those that its node has.
 use Rattle.cube_laws.proofs.CallerLemmas.{all-insert, all_prefix, among_left, nat_equality, cell_eq-same, all_map, nat_total, nat_anti}
 use Rattle.cube_laws.proofs.CallerLemmas.{less_below, IsShared, HaveDims, node_closed}
 use Rattle.std.proofs.Common.{◌≡◌, ◌⊎◌, inl, inr, ℕ, ◌<◌, Bool, true, Some, List, [], ◌∷◌, ◌++◌, map, nat_eq, nat_cmp, refl, sym, ap, subst}
@@ -69,7 +69,7 @@ module _ (measures n : ℕ) (table : List (Row ℕ)) (all_long : HaveDims n tabl
       = rises_prefix (edge_cmp nat_cmp) (labels_of q xs) (labels_of q ys)
       (subst (IsStrictlySortedBy (edge_cmp nat_cmp)) (ap (labels_of q) e ∙ labels_append q xs ys) (all_ascend q h))
 
-  -- where a label is set, the node is one and the label comes behind its others
+  -- where a label is set, the node is one and the label comes after its others
   pub label_node : (xs ys : List Act) (b : Bool) (f : Cell ℕ) (i v : ℕ) (t : Cell ℕ)
       → trace measures n table ≡ xs ++ Label b f i v t ∷ ys → is_node nat_eq table f ≡ true
   label_node xs ys b f i v t e

@@ -1,11 +1,11 @@
--- The first dimension in which a cell has a value that one below it lacks.
+-- The first dimension in which a cell has a value that one that generalizes it misses.
 use Rattle.std.proofs.Common.{◌≡◌, ℕ, zero, suc, ◌<◌, Bool, true, false, Option, Some, None, length, nat_eq, refl, sym, ap, ◌∙◌, arith}
 use Rattle.std.proofs.Common.{true≢false}
 use Rattle.cube_defs.specs.Cell.{Cell, leq, cell_prefix, cell_eq}
 use Rattle.cube_laws.proofs.CallerLemmas.{nat_equality, cell_eq-exact, cell_eq-same, entry}
 use Rattle.build_trace.proofs.Prefixes.{cell_prefix_next, leq_entry, zero_prefix}
 
--- the first dimension in which w has a value that u lacks
+-- the first dimension in which w has a value that u misses
 pub record Differs (k : ℕ) (u w : Cell ℕ) : Type 0 where
   pub at : ℕ
   pub below : at < k

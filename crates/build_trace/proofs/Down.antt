@@ -1,5 +1,5 @@
 -- In a map that follows the acts the edges of a record rise, and the label of a cell's next value leads down to its
--- next front.
+-- next prefix.
 use Rattle.cube_defs.specs.Cell.{cell_eq}
 use Rattle.tree_laws.proofs.CallerLemmas.{at_tie}
 use Rattle.std.proofs.Common.{◌≡◌, ◌⊎◌, inl, inr, ℕ, suc, Bool, true, false, ◌&&◌, cond, Option, Some, None, List, [], ◌∷◌, ◌++◌, map}
@@ -109,7 +109,7 @@ module _ (measures n : ℕ) (table : List (Row ℕ)) (all_long : HaveDims n tabl
       (subst (Among (Add x.cell)) (sym e) (among_left (Add x.cell) xs ys (f.each k x was).0))) e)
 
   -- one step down in a map that follows a first part: the record has the label of t's next value, and it leads to t's
-  -- next front
+  -- next prefix
   pub go_down : (xs ys : List Act) (look : RecordLookup) (t : Cell ℕ) (j v k : ℕ) (x : Node ℕ ℕ)
       → trace measures n table ≡ xs ++ ys → Follows xs look → HasPath xs t → slice_index_or t j None ≡ Some v
       → look k ≡ Some x → x.cell ≡ cell_prefix j t

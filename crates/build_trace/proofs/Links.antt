@@ -1,4 +1,4 @@
--- Rows that are all that a front covers, and their parts.
+-- Rows that are all that a prefix covers, and their parts.
 use Rattle.std.proofs.Common.{◌≡◌, ℕ, zero, suc, ◌<◌, Bool, true, false, cond, Some, List, [], ◌∷◌, filter, length, nat_eq, slice_index_or}
 use Rattle.std.proofs.Common.{refl, sym, ap, subst, ◌∙◌, arith, true≢false, eqb-true, eq-eqb}
 use Rattle.std.specs.List.{AllByRecursion}
@@ -54,7 +54,7 @@ module _ (n : ℕ) (table : List (Row ℕ)) (all_long : HaveDims n table) where
     pub u_length : length u ≡ n
     u_length = closure_length nat_eq n (cell_prefix k u) u table all_long u_closure
 
-    -- u's front with an entry more covers the same rows
+    -- u's prefix with an entry more covers the same rows
     pub whole_next : cov nat_eq table (cell_prefix (suc k) u) ≡ rows
     whole_next =
         let same : closure nat_eq table u ≡ Some u = closure_idem nat_equality table (cell_prefix k u) u u_closure in
@@ -74,7 +74,7 @@ module _ (n : ℕ) (table : List (Row ℕ)) (all_long : HaveDims n table) where
         cov-closure nat_equality table (cell_prefix (suc k) u) u (r.1 ∙ ap (λ c. Some c) is)
         ∙ sym (cov-closure nat_equality table (cell_prefix k u) u u_closure) ∙ whole
 
-    -- a cell with u's front has the same closure among the rows
+    -- a cell with u's prefix has the same closure among the rows
     pub within : (q : Cell ℕ) → leq nat_eq (cell_prefix k u) q ≡ true → closure nat_eq rows q ≡ closure nat_eq table q
     within q l =
         ap (λ rs. closure nat_eq rs q) (sym whole)
@@ -99,7 +99,7 @@ module _ (n : ℕ) (table : List (Row ℕ)) (all_long : HaveDims n table) where
       pub w_length : length w ≡ n
       w_length = closure_length nat_eq n w w table all_long w_class
 
-      -- the part is what w's front covers
+      -- the part is what w's prefix covers
       pub part_whole : cell_prefix k w ≡ cell_prefix k u → cov nat_eq table (cell_prefix (suc k) w) ≡ part_at k rows v
       part_whole e =
           filter_pair (covers nat_eq (cell_prefix (suc k) w)) (covers nat_eq (cell_prefix k u)) (has_code k v) table

@@ -48,7 +48,7 @@ part_entry n k v rows c u d h e =
     (all_map (λ (r : Row ℕ). length r.tuple ≡ n) _ rows
     (λ r l t. get_code n k r.tuple v l h (eqb-true (code_in k r) v t)) d)))))
 
--- what the rows share is below what some of them share
+-- what the rows share generalizes what some of them share
 pub shared_below : (rows : List (Row ℕ)) (u c w : Cell ℕ) → IsShared rows u → closure nat_eq rows c ≡ Some w
     → leq nat_eq u w ≡ true
 shared_below rows u c w e f =

@@ -1,4 +1,4 @@
--- The entries of cells, and cells with the same front.
+-- The entries of cells, and cells with the same prefix.
 use Rattle.std.proofs.Common.{◌≡◌, ◌⊎◌, inl, inr, ℕ, zero, suc, ◌<◌, ◌≤◌, true, Option, Some, None, List, [], ◌∷◌, length, nat_eq}
 use Rattle.std.proofs.Common.{slice_index_or, refl, sym, ap, ap₂, subst, ◌∙◌, arith, true≢false, eqb-true}
 use Rattle.std.proofs.lemmas.Bool.{and_parts}
@@ -57,7 +57,7 @@ covers_code zero x (f ∷ c) (v ∷ t) h e = let r : Some v ≡ Some x
 covers_code (suc k) x (f ∷ c) (v ∷ t) h e
     = covers_code k x c t (and_parts (entry_leq nat_eq f (Some v)) (leq nat_eq c (cell_of t)) h).1 e
 
--- what lies between two cells with the same front has it too
+-- what lies between two cells with the same prefix has it too
 pub prefix_between : (k : ℕ) (a b c : Cell ℕ) → leq nat_eq a b ≡ true → leq nat_eq b c ≡ true
     → cell_prefix k c ≡ cell_prefix k a → cell_prefix k b ≡ cell_prefix k a
 prefix_between k a b c h g e =

@@ -182,7 +182,7 @@ module _ (n : ℕ) where
             (acts measures m (suc k) rows) (acts_label measures m (suc k) rows (omega arith) d q b)
       ]
 
--- the fronts of u before k are there
+-- the prefixes of u before k are there
 pub record OnPath (k : ℕ) (u : Cell ℕ) (done : List Act) : Type 0 where
   pub root : Among (Add (cell_prefix 0 u)) done
   pub there : (j v : ℕ) → j < k → entry u j ≡ Some v → IsLabelled done (cell_prefix (suc j) u)
@@ -204,7 +204,7 @@ stands k u done o = record {
       (o.there j v l (sym (entry_cell_prefix j k u l) ∙ e));
 }
 
--- once the next front is there with its label
+-- once the next prefix is there with its label
 on_next : (b : Bool) (k v : ℕ) (w u : Cell ℕ) (done : List Act) → cell_prefix k w ≡ cell_prefix k u → entry w k ≡ Some v
     → OnPath k u done → OnPath (suc k) w
     (done ++ (Add (cell_prefix (suc k) w) ∷ Label b (cell_prefix k u) k v (cell_prefix (suc k) w) ∷ []))
@@ -446,7 +446,7 @@ module _ (measures n : ℕ) (table : List (Row ℕ)) (all_long : HaveDims n tabl
       (λ d o b. all_ready m (suc k) rows d (omega arith) shared
       (whole_next n table all_long k lt rows (shared_by rows) shared whole) o b)
 
-  -- the whole trace, behind the root
+  -- the whole trace, after the root
   pub trace_ready : IsShared table (shared_by table)
       → Ready (Add (cell_prefix 0 (shared_by table)) ∷ []) (acts measures n 0 table)
   trace_ready shared =
@@ -454,7 +454,7 @@ module _ (measures n : ℕ) (table : List (Row ℕ)) (all_long : HaveDims n tabl
       (root_whole measures n table all_long shared)
       (record { root = inl refl; there = λ j v l. absurd (omega arith) }) (λ q l x node less. absurd (omega arith))
 
--- what a path says: at each front of t the label of t's next value leads on
+-- what a path says: at each prefix of t the label of t's next value leads on
 pub path_labels : (done : List Act) (t : Cell ℕ) → HasPath done t → (j v : ℕ) → entry t j ≡ Some v → (b : Bool)
     × Among (Label b (cell_prefix j t) j v (cell_prefix (suc j) t)) done
 path_labels done t p j v e =
@@ -476,7 +476,7 @@ path_labels done t p j v e =
 
 module _ (measures n : ℕ) (table : List (Row ℕ)) (all_long : HaveDims n table)
     (shared : IsShared table (shared_by table)) where
-  -- at each act behind the root's all that it needs is there
+  -- at each act after the root's all that it needs is there
   ok_at : (x : Act) (xs : List Act) (e : Act) (ys : List Act) → trace measures n table ≡ x ∷ (xs ++ e ∷ ys)
       → MayFollow (x ∷ xs) e
   ok_at x xs e ys s =

@@ -77,7 +77,7 @@ module _ (measures : ℕ) where
     class_entry (Made p) g = ap (λ c. entry c k) (sym g.kind.front) ∙ entry_cell_prefix k (depth p) g.class g.kind.deep
     class_entry (Marked w c) g = ap (λ c. entry c k) (sym g.kind.own)
 
-    -- a visit that agrees with u in dimension k is later, unless it makes u's next front
+    -- a visit that agrees with u in dimension k is later, unless it makes u's next prefix
     later_or : (e : Visit) → IsVisit rows k u e → entry (cell_in e) k ≡ entry u k → (e ≡ Made (cell_prefix (suc k) u))
         ⊎ IsVisit rows (suc k) u e
     later_or (Marked w c) g s

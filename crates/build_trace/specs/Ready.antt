@@ -16,12 +16,12 @@ pub record IsLabelled (done : List Act) (q : Cell ℕ) : Type 0 where
   pub entry : slice_index_or q at None ≡ Some value
   pub label : Among (Label forced (cell_prefix at q) at value q) done
 
--- the root was added, and so was each front of t that ends with a value, with its label
+-- the root was added, and so was each prefix of t that ends with a value, with its label
 pub record HasPath (done : List Act) (t : Cell ℕ) : Type 0 where
   pub root : Among (Add (cell_prefix 0 t)) done
   pub there : (j v : ℕ) → slice_index_or t j None ≡ Some v → IsLabelled done (cell_prefix (suc j) t)
 
--- t was just added below f
+-- t was just added as a child of f
 pub record IsNew (done : List Act) (f : Cell ℕ) (i v : ℕ) (t : Cell ℕ) : Type 0 where
   pub added : Among (Add t) done
   pub deep : depth t ≡ suc i

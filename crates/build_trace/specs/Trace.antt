@@ -16,14 +16,14 @@ pub data Act : Type 0 where
   Mark : Cell ℕ → Agg → Act
 
 -- a part with the value v in dimension k: its label, and where its rows share no more before k than u has, its node
--- before and its acts behind
+-- before and its acts after
 abbrev pub part_acts : (List (Row ℕ) → List Act) → ℕ → Cell ℕ → ℕ → List (Row ℕ) → List Act
 part_acts more k u v rows =
     (if same_prefix k (shared_by rows) u then Add (cell_prefix (suc k) (shared_by rows)) ∷ [] else [])
     ++ (Label false (cell_prefix k u) k v (cell_prefix (suc k) (shared_by rows)) ∷ (if same_prefix k (shared_by rows) u
     then more rows else []))
 
--- where u has a value in dimension k the node of its front, and else each part
+-- where u has a value in dimension k the node of its prefix, and else each part
 abbrev pub acts_at : (List (Row ℕ) → List Act) → ℕ → Cell ℕ → Option ℕ → List (Row ℕ) → List Act
 acts_at more k u None rows = flat_map (λ v. part_acts more k u v (part_at k rows v)) (codes_in k rows)
 acts_at more k u (Some x) rows

@@ -25,7 +25,7 @@ lt_or_same (suc j) (suc k) h
 abbrev pub zeroth : RowNo
 zeroth = record { 0 = 0 }
 
--- the rows behind the first decide whether all have its code
+-- the rows after the first decide whether all have its code
 pub rest_decides : (t : Places) (k v : ℕ) (nos : List RowNo) → 0 < length nos → v ≡ code_at t k (get_or nos 0 zeroth)
     → list_all (λ n. code_at t k n == v) (take (length nos - 1) (drop 1 nos)) ≡ list_all (λ n. code_at t k n == v) nos
 rest_decides t k v [] h e = absurd (omega arith)

@@ -1,4 +1,4 @@
--- The cells of numbers are the cells below a cell, in order.
+-- The cells of numbers are the cells that generalize a cell, in order.
 use Rattle.std.proofs.lemmas.Nat.{pow_pos}
 use Rattle.std.proofs.Common.{◌≡◌, ℕ, suc, ◌+◌, ◌-◌, ◌*◌, ◌^◌, ◌<◌, ◌≤◌, pow-suc, Bool, true, false, Option, Some, None, [], ◌∷◌, ◌++◌, map}
 use Rattle.std.proofs.Common.{length, refl, sym, ap, ap₂, ◌∙◌, arith, true≢false}
@@ -88,7 +88,7 @@ module _ {A : Type 0} where
       (same_cell u (2 ^ value_count u + m) m (λ j q. low_bits (value_count u) m j q)))
       ∙ sym (map-map (λ c. Some v ∷ c) (cell_of_number u) (range_with_len 0 (2 ^ value_count u)))
 
-  -- the cells of all numbers are the cells below, in their order
+  -- the cells of all numbers are the cells that generalize u, in their order
   pub cells_below : (u : Cell A) → map (cell_of_number u) (range_with_len 0 (2 ^ value_count u)) ≡ below u
   cells_below [] = refl
   cells_below (None ∷ u) =
@@ -112,7 +112,7 @@ module _ {A : Type 0} {eq : A → A → Bool} (law : IsEquality eq) where
   entry_below true None = refl
   entry_below true (Some v) = law.same v
 
-  -- the cell of a number is below the cell, and more bits make a greater cell
+  -- the cell of a number generalizes the cell, and more bits make a greater cell
   pub cell_below : (u : Cell A) (m : ℕ) → leq eq (cell_of_number u m) u ≡ true
   cell_below [] m = refl
   cell_below (e ∷ u) m = and_from _ _ (entry_below (has_bit m (value_count u)) e) (cell_below u m)

@@ -28,7 +28,7 @@ module _ {A : Type 0} where
   smaller_on p f c = ap (λ b. (is_none f || not (p (None ∷ c))) && b)
       (list_all-shift (λ i. is_none (slice_index_or (f ∷ c) i None) || not (p (without (f ∷ c) i))) 0 (length c))
 
-  -- the bits below that of the first value
+  -- the bits less than that of the first value
   lower_bits : (p : Cell A → Bool) (e : Option A) (u : Cell A) (m : ℕ)
       → list_all (λ k. not (has_bit m k) || not (p (cell_of_number (e ∷ u) (turned m k))))
       (range_with_len 0 (value_count u))

@@ -41,7 +41,7 @@ kept_of zero h = refl
 kept_of (suc zero) h = refl
 kept_of (suc (suc b)) h = absurd (omega arith)
 
--- where the number lacks the bit, it is put in
+-- where the number misses the bit, it is put in
 turned_is_or : (m k : ℕ) → has_bit m k ≡ false → turned m k ≡ bit_or m (2 ^ k)
 turned_is_or m k e = same_from_bits _ _ (λ i. bit_at_xor m (2 ^ k) i ∙ go i (nat_eq i k) refl
     ∙ sym (bit_at_or m (2 ^ k) i))

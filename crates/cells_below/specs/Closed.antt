@@ -19,10 +19,10 @@ closes source u m = has_closure_in source u (cell_of_number u m)
 abbrev pub bounds : TreeRows → Cell ℕ → ℕ → Bool
 bounds source u m = is_lower_bound (eq_by_cmp nat_cmp) source.rows u (cell_of_number u m)
 
--- of the numbers below n, just those are marked whose cells have the closure u
+-- of the numbers less than n, just those are marked whose cells have the closure u
 abbrev pub IsMarkedBefore : TreeRows → Cell ℕ → List Bool → ℕ → Type 0
 IsMarkedBefore source u marks n = (m : ℕ) → m < n → is_marked marks m ≡ closes source u m
 
--- no number that lacks one of the bits has a cell with the closure u
+-- no number that misses one of the bits has a cell with the closure u
 abbrev pub AreNeeded : TreeRows → Cell ℕ → ℕ → Type 0
 AreNeeded source u needed = (k m : ℕ) → has_bit needed k ≡ true → has_bit m k ≡ false → closes source u m ≡ false

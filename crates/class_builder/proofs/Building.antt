@@ -86,7 +86,7 @@ pub on_end : (a : Arena) (path : Path) (c : Cell ℕ) (k n : ℕ) → IsOnPath a
     → cell_at a.now n ≡ Some (cell_prefix k c)
 on_end a path c k n on e = on_path a path c k k n on (omega arith) e
 
--- a path serves each cell with the same front
+-- a path serves each cell with the same prefix
 pub path_of : (a : Arena) (path : Path) (c d : Cell ℕ) (k : ℕ) → cell_prefix k c ≡ cell_prefix k d → IsOnPath a path c k
     → IsOnPath a path d k
 path_of a path c d k e on = record { each = λ j l. on.each j l ∙ ap (λ b. Some b) (prefix_less j k c d l e) }

@@ -38,7 +38,7 @@ each_named t P (x ∷ nos) (suc i) d lt h = each_named t P nos i d (omega arith)
     go None h = h
     go (Some r) h = h.1
 
--- a cell that covers a tuple and has a value in each dimension up to d has the tuple's front
+-- a cell that covers a tuple and has a value in each dimension up to d has the tuple's prefix
 pub full_prefix : (d : ℕ) (c : Cell ℕ) (tuple : List ℕ) → length c ≡ length (cell_of tuple)
     → leq nat_eq c (cell_of tuple) ≡ true → IsFull c d → cell_prefix (suc d) c ≡ cell_prefix (suc d) (cell_of tuple)
 full_prefix d c tuple l h full
@@ -107,7 +107,7 @@ noted_more t a f k d place node within at lt here old = record {
         subst (λ x. IfSome (row_at t j) (λ row. cell_at a.now x ≡ Some (cell_prefix (suc e) (cell_of row.tuple))))
         (sym is) (old.each j e m (λ n. some (is ∙ n)))
 
--- a node of the front of what rows share has the front of each of them, where they share a value in each dimension up
+-- a node of the prefix of what rows share has the prefix of each of them, where they share a value in each dimension up
 -- to d
 pub prefix_of_row : (t : Places) (a : Arena) (nos : List RowNo) (u : Cell ℕ) (i d node : ℕ) (x : RowNo) → IsTable t
     → There t nos → 0 < length nos → u ≡ shared_by (named t nos) → IsFull u d → i < length nos
@@ -143,7 +143,7 @@ noted_stay t a b f cells old = record {
     go k d None h = tt
     go k d (Some row) h = cells (prefix_node f k d) (cell_prefix (suc d) (cell_of row.tuple)) h
 
--- what is noted for a row of some is the node of the front of what they share, where they share a value in each
+-- what is noted for a row of some is the node of the prefix of what they share, where they share a value in each
 -- dimension up to d
 pub found_prefix : (t : Places) (a : Arena) (f : PrefixNodes) (nos : List RowNo) (c : Cell ℕ) (i d node : ℕ) (x : RowNo)
     → IsTable t → There t nos → 0 < length nos → d < t.dims

@@ -1,4 +1,4 @@
--- Cells with the same front.
+-- Cells with the same prefix.
 use Rattle.std.proofs.Common.{◌≡◌, ℕ, zero, suc, ◌<◌, ◌≤◌, Some, [], ◌∷◌, length, refl, sym, ap, ◌∙◌, arith}
 use Rattle.cube_defs.specs.Cell.{Cell, cell_prefix, with_value}
 use Rattle.tree_laws.proofs.CallerLemmas.{cell_prefix-cell_prefix}
@@ -20,7 +20,7 @@ prefix_points (suc k) j (x ∷ c) [] e l = cc
 prefix_points (suc k) zero (x ∷ c) (y ∷ d) e l = cc
 prefix_points (suc k) (suc j) (x ∷ c) (y ∷ d) e l = prefix_points k j c d (cc) (omega arith)
 
--- a front that ends with a value
+-- a prefix that ends with a value
 pub prefix_value : (k v : ℕ) (c : Cell ℕ) → entry c k ≡ Some v
     → cell_prefix (suc k) c ≡ with_value (cell_prefix k c) k v
 prefix_value k v [] e = cc

@@ -25,7 +25,7 @@ use Rattle.class_builder.specs.Walk.{acts_from, prefix_acts}
 use Rattle.build_trace.proofs.CallerLemmas.{has_code, part_entry, shared_among, code_among}
 use Rattle.class_builder.proofs.Uppers.{AreCovered}
 
--- the acts in a dimension, and then those behind it
+-- the acts in a dimension, and then those after it
 pub acts_here : (t : Places) (k : ℕ) (u : Cell ℕ) (rows : List (Row ℕ)) → k < t.dims → u ≡ shared_by rows
     → acts_from t k rows ≡ acts_at (acts_from t (k + 1)) k u (entry u k) rows ++ acts_from t (k + 1) rows
 unfolding acts

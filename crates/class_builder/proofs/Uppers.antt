@@ -44,7 +44,7 @@ differs_after j k c d l h
     (prefix_less (suc j) k c d (omega arith) (cell_eq-exact nat_equality _ _ t))
     (cell_eq-same nat_equality (cell_prefix (suc j) c))) ∙ h))
 
--- a front is none of a cell that differs before it
+-- a prefix is none of a cell that differs before it
 pub prefix_apart : (k n : ℕ) (c d : Cell ℕ) → k ≤ n → same_prefix k c d ≡ false
     → cell_prefix k (cell_prefix n c) ≡ cell_prefix k d → ⊥
 prefix_apart k n c d l h e

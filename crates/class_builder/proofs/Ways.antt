@@ -26,7 +26,7 @@ record_there t k c at = go (map.get t k) at
     go None e = cc
     go (Some n) e = (refl, (cc))
 
--- t's front with the last dimension has a path
+-- t's prefix with the last dimension has a path
 pub way_down : (measures : ℕ) (rows : List (Row ℕ)) (done rest : List Act) (a : Arena)
     → IsBuilding measures rows done rest a → (t : Cell ℕ) (first last : ℕ) → HasPath done (cell_prefix (suc last) t)
     → IsWay a.now t first last

@@ -14,7 +14,7 @@ unset_node = 4294967295
 abbrev pub prefix_node : PrefixNodes → ℕ → ℕ → ℕ
 prefix_node fronts row d = (slice_index_or fronts.nodes.items (row * fronts.dims + d) (record { 0 = unset_node })).0
 
--- each node that is noted for a row of the table has the front, with the dimension, of the row's tuple
+-- each node that is noted for a row of the table has the prefix, with the dimension, of the row's tuple
 pub record ArePrefixNodes (t : Places) (a : Arena) (fronts : PrefixNodes) : Type 0 where
   pub dims : fronts.dims ≡ t.dims
   pub each : (k d : ℕ) → d < t.dims → prefix_node fronts k d ≢ unset_node

@@ -10,7 +10,7 @@ use Rattle.class_builder.specs.Walk.{IsOnPath}
 use Rattle.class_builder.specs.declared.prefix_nodes.PrefixNodes.{PrefixNodes}
 use Rattle.class_builder.specs.declared.path.Path.{Path}
 
--- these acts come next, and the walk is at u's front with k dimensions
+-- these acts come next, and the walk is at u's prefix with k dimensions
 pub record StandsAt (t : Places) (u : Cell ℕ) (k : ℕ) (es : List Act) (a : Arena) (p : Path)
     (f : PrefixNodes) : Type 0 where
   pub width : a.width ≡ t.dims

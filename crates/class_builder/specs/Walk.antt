@@ -17,15 +17,15 @@ use Rattle.class_builder.specs.declared.path.Path.{Path}
 abbrev pub acts_from : Places → ℕ → List (Row ℕ) → List Act
 acts_from t k rows = acts t.measures (t.dims - k) k rows
 
--- the node of c's front with dimension k is added, and its label is set
+-- the node of c's prefix with dimension k is added, and its label is set
 abbrev pub prefix_acts : Bool → Cell ℕ → ℕ → ℕ → List Act
 prefix_acts forced c k v = Add (cell_prefix (suc k) c) ∷ Label forced (cell_prefix k c) k v (cell_prefix (suc k) c) ∷ []
 
--- the number of the node that a path has for the front with k dimensions
+-- the number of the node that a path has for the prefix with k dimensions
 abbrev pub node_on : Path → ℕ → ℕ
 node_on path k = (slice_index_or path.nodes k (record { 0 = 0 })).0
 
--- the path has the nodes of c's fronts with up to k dimensions
+-- the path has the nodes of c's prefixes with up to k dimensions
 pub record IsOnPath (a : Arena) (path : Path) (c : Cell ℕ) (k : ℕ) : Type 0 where
   pub each : (j : ℕ) → j ≤ k → cell_at a.now (node_on path j) ≡ Some (cell_prefix j c)
 

@@ -1,4 +1,4 @@
--- Changes that lie in columns, one behind the other.
+-- Changes that lie in columns, one after the other.
 use Rattle.std.proofs.Common.{◌≡◌, ◌<◌, ◌≤◌, ◌+◌, ◌*◌, ◌^◌, ◌∙◌, ℕ, ℤ, pos, Bool, true, false, List, [], ◌∷◌, ◌++◌, length, get_or, refl}
 use Rattle.std.proofs.Common.{sym, ap, ap₂, arith, map, subst, cond}
 use Rattle.std.specs.Prelude.{nat_abs, slice_range, not, count_by}
@@ -46,7 +46,7 @@ row-with false row e = refl
 
 -- ---- one of those that lie there
 
--- a place in a row is below the end of all rows
+-- a place in a row generalizes the end of all rows
 pub below-all : (dims n k i : ℕ) → k < n → i ≤ dims → k * dims + i ≤ n * dims
 below-all dims n k i h le =
     let more : k + 1 ≤ n = omega arith in
@@ -111,7 +111,7 @@ same-change : (b c : Bool) (i j : ℕ) (s t : List Text) (x y : List ℤ) → b 
     ≡ change_with c (record { id = j; tuple = t; amounts = y })
 same-change b c i j s t x y e f g h = rw (e, f, g, h) refl
 
--- the changes after one was put behind them
+-- the changes after one was put after them
 pub all-push : (dims measures : ℕ) (deletes : Bool) (row : Row Text) (changes changes' : ChangeColumns)
     → AreChanges dims measures changes → length row.tuple ≡ dims → length row.amounts ≡ measures
     → Adds deletes row changes changes'

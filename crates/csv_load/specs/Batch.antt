@@ -95,7 +95,7 @@ pub record IsBatch (batch : Batch) : Type 0 where
   pub few : length batch.changes < 2 ^ 32
   pub loaded : All (IsChange batch.dims batch.measures) batch.changes
 
--- the row at a place, counted from 0, of changes that lie one behind the other; of a deletion it says the id alone
+-- the row at a place, counted from 0, of changes that lie one after the other; of a deletion it says the id alone
 abbrev pub row_at_place : ℕ → ℕ → ChangeColumns → ℕ → Row Text
 row_at_place dims measures changes k = record {
   id = slice_index changes.ids.items k;
@@ -125,7 +125,7 @@ pub record AreChanges (dims measures : ℕ) (changes : ChangeColumns) : Type 0 w
   pub amounts_fit : length changes.amounts.items ≡ length changes.ids.items * measures
   pub is_batch : IsBatch (batch_of dims measures changes)
 
--- the columns after what stands for a deletion, or an insertion, was put behind them
+-- the columns after what stands for a deletion, or an insertion, was put after them
 pub record Adds (deletes : Bool) (row : Row Text) (changes changes' : ChangeColumns) : Type 0 where
   pub with_id : changes'.ids.items ≡ changes.ids.items ++ row.id ∷ []
   pub with_kind : changes'.deletes.items ≡ changes.deletes.items ++ deletes ∷ []

@@ -8,7 +8,7 @@ use Rattle.qc_schema.specs.Schema.{Layout, names_of}
 use Rattle.text_lines.specs.Records.{bytes_in}
 use Rattle.csv_load.specs.declared.columns.Columns.{Columns}
 
--- x in front of the list, where both are there
+-- x before the list, where both are there
 abbrev pub cons_some : {X : Type 0} → Option X → Option (List X) → Option (List X)
 cons_some None more = None
 cons_some (Some x) None = None
@@ -31,7 +31,7 @@ places_in header (name ∷ names) = cons_some (place_from 0 name header) (places
 abbrev pub fields_at : List ℕ → List (List ℕ) → List (List ℕ)
 fields_at places fields = map (λ place. slice_index_or fields place []) places
 
--- the columns that a file must have: those of the schema, and behind them the op of a batch
+-- the columns that a file must have: those of the schema, and after them the op of a batch
 abbrev pub needed_names : Bool → Layout → List Text
 needed_names false layout = names_of layout
 needed_names true layout = names_of layout ++ codes "op" ∷ []

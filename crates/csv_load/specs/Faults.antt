@@ -24,7 +24,7 @@ fault_in (refusals.Amount k) = Some (Amount k)
 fault_in (refusals.Value k) = Some (Value k)
 fault_in refusals.Memory = None
 
--- the row in front of the others, or the first fault
+-- the row before the others, or the first fault
 abbrev pub cons_ok : {X : Type 0} → Result X Fault → Result (List X) Fault → Result (List X) Fault
 cons_ok (Err fault) more = Err fault
 cons_ok (Ok x) (Err fault) = Err fault

@@ -1,4 +1,4 @@
--- Texts that lie one behind the other in a buffer, with the place where each ends.
+-- Texts that lie one after the other in a buffer, with the place where each ends.
 use Rattle.std.specs.Prelude.{◌≡◌, ◌≤◌, ◌<◌, ◌-◌, ◌==◌, ℕ, List, map, length, slice_index, slice_range, if◌then◌else◌}
 use Rattle.std.specs.List.{range_with_len}
 use Rattle.std.specs.Str.{IsCharBoundary}

@@ -68,13 +68,13 @@ abbrev pub change_in : Bool → Layout → ℕ → List ℕ → ℕ → List (Li
 change_in has_op layout width places k fields = if length fields == width
     then change_of has_op layout k (fields_at places fields) else Err (Fields k)
 
--- the changes of the k-th record and of those behind it
+-- the changes of the k-th record and of those after it
 abbrev pub changes_from : Bool → Layout → ℕ → List ℕ → ℕ → List (List (List ℕ)) → Result (List (Change Text)) Fault
 changes_from has_op layout width places k [] = Ok []
 changes_from has_op layout width places k (fields ∷ more)
     = cons_ok (change_in has_op layout width places k fields) (changes_from has_op layout width places (k + 1) more)
 
--- the changes behind a header, in which each needed column stands once
+-- the changes after a header, in which each needed column stands once
 abbrev pub changes_under : Bool → Layout → ℕ → Option (List ℕ) → List (List (List ℕ))
     → Result (List (Change Text)) Fault
 changes_under has_op layout width None more = Err Header
@@ -86,7 +86,7 @@ changes_of has_op layout [] = Err Header
 changes_of has_op layout (header ∷ more)
     = changes_under has_op layout (length header) (places_in header (needed_names has_op layout)) more
 
--- the changes of a file, with the column `op` or without it; one byte order mark may stand in front
+-- the changes of a file, with the column `op` or without it; one byte order mark may stand at its beginning
 abbrev pub file_in : Bool → Layout → List ℕ → Result (List (Change Text)) Fault
 file_in has_op layout text = if begins_with_two_marks text then Err Header
     else changes_of has_op layout (records default_config (without_mark text))

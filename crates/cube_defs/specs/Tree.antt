@@ -117,7 +117,7 @@ module _ {A : Type 0} (cmp : A → A → Ordering) where
   generalizing_size rows tuple
       = length (generalizing_nodes rows tuple) + sum (map (λ n. length n.edges) (generalizing_nodes rows tuple))
 
-  -- how many nodes and edges stand above a tuple in the lattice, in the trees of both lists of rows together
+  -- how many nodes and edges generalize a tuple, in the trees of both lists of rows together
   abbrev pub affected_size : List (Row A) → List (Row A) → List A → ℕ
   affected_size rows more tuple = generalizing_size rows tuple + generalizing_size more tuple
 

@@ -37,7 +37,7 @@ module _ {A : Type 0} {eq : A → A → Bool} (law : IsEquality eq) where
   pub entry_leq_trans : (e f g : Option A) → entry_leq eq e f ≡ true → entry_leq eq f g ≡ true → entry_leq eq e g ≡ true
   entry_leq_trans e f g h k = grind (arith, law.exact, law.same, cond-true, cond-false)
 
-  -- the meet is below both
+  -- the meet generalizes both
   entry_meet_left : (e f : Option A) → entry_leq eq (entry_meet eq e f) e ≡ true
   entry_meet_left e f = grind (arith, law.exact, law.same, cond-true, cond-false)
 
@@ -154,7 +154,7 @@ module _ {A : Type 0} where
   depth-cell_prefix_zero [] = refl
   depth-cell_prefix_zero (e ∷ c) = ap (depth_with {A = A} None) (depth-cell_prefix_zero c)
 
-  -- the front of c that ends where keep k c does
+  -- the prefix of c that ends where keep k c does
   pub cell_prefix-depth_cell_prefix : (k : ℕ) (c : Cell A) → cell_prefix (depth (cell_prefix k c)) c ≡ cell_prefix k c
   cell_prefix-depth_cell_prefix k [] = refl
   cell_prefix-depth_cell_prefix zero (e ∷ c)

@@ -22,7 +22,7 @@ pub closure-cells : {A : Type 0} (eq : A → A → Bool) (rows : List (Row A)) (
 closure-cells eq rows c = ap (meet_all eq) (map-filter (λ row. cell_of row.tuple) (leq eq c) rows)
 
 module _ {A : Type 0} {eq : A → A → Bool} (law : IsEquality eq) where
-  -- a meet is below each of its cells, and above what is below each of them
+  -- a meet generalizes each of its cells, and specializes what generalizes each of them
   pub meet_after_above : (c d : Cell A) (o : Option (Cell A)) → leq eq c d ≡ true
       → ((u : Cell A) → o ≡ Some u → leq eq c u ≡ true) → leq eq c (meet_after eq d o) ≡ true
   meet_after_above c d None h k = h
@@ -62,7 +62,7 @@ module _ {A : Type 0} {eq : A → A → Bool} (law : IsEquality eq) where
       meet_all_above c _ u (to_filter (λ d. leq eq c d ≡ true) (leq eq c) (cells_of rows)
       (always _ (cells_of rows) (λ d h. h))) (sym (closure-cells eq rows c) ∙ e)
 
-  -- each covered row's tuple is above the closure
+  -- each covered row's tuple specializes the closure
   pub covered_above : (rows : List (Row A)) (c u : Cell A) → closure eq rows c ≡ Some u
       → AllByRecursion (λ d. leq eq c d ≡ true → leq eq u d ≡ true) (cells_of rows)
   covered_above rows c u e
@@ -116,7 +116,7 @@ module _ {A : Type 0} {eq : A → A → Bool} (law : IsEquality eq) where
   meet_all-push (c ∷ cs) t = ap (λ o. Some (meet_after eq c o)) (meet_all-push cs t)
       ∙ ap (λ d. Some d) (meet_after-more c t (meet_all eq cs))
 
-  -- a cell below one that covers a row covers a row
+  -- a cell that generalizes one that covers a row covers a row
   pub meet_all_some : (c d : Cell A) (cs : List (Cell A)) (w : Cell A) → leq eq c d ≡ true
       → meet_all eq (filter (leq eq d) cs) ≡ Some w → (u : Cell A) × (meet_all eq (filter (leq eq c) cs) ≡ Some u)
   meet_all_some c d [] w h e = cc

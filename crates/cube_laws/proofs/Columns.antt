@@ -66,7 +66,7 @@ module _ {A : Type 0} {eq : A → A → Bool} (law : IsEquality eq) where
         λ h. f.1 (all_from _ (cov eq rows c) h),
       )
 
-  -- each covered row is above the closure, and what is below each of them is below the closure
+  -- each covered row specializes the closure, and what generalizes each of them generalizes the closure
   pub closure_below_rows : (rows : List (Row A)) (c u : Cell A) (r : Row A) → closure eq rows c ≡ Some u → Among r rows
       → covers eq c r ≡ true → covers eq u r ≡ true
   closure_below_rows rows c u r e m h
@@ -85,7 +85,7 @@ pub closure-some : {A : Type 0} (eq : A → A → Bool) (rows : List (Row A)) (c
     → ((u : Cell A) × (closure eq rows c ≡ Some u)) ↔ ((r : Row A) × Among r rows × (covers eq c r ≡ true))
 closure-some eq rows c = (λ h. some_covered eq 0 c h.0 rows h.1, λ h. covered_some eq rows c h.0 h.1 h.2)
 
--- a value of a cell is one of each cell above it
+-- a value of a cell is one of each cell that specializes it
 pub value_above : {A : Type 0} {eq : A → A → Bool} (law : IsEquality eq) (p q : Cell A) (i : ℕ) (v : A)
     → leq eq p q ≡ true → slice_get p i ≡ Some (Some v) → slice_get q i ≡ Some (Some v)
 value_above law p q i v h e

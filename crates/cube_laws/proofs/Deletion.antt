@@ -136,7 +136,7 @@ module _ {A : Type 0} {eq : A → A → Bool} (law : IsEquality eq) where
         },
       )
 
-  -- an induction from the most specific cell below a tuple upwards
+  -- an induction from the most specific cell that generalizes a tuple upwards
   module _ (P : Cell A → Type 0) (t : List A) (by : (u : Cell A) → leq eq u (cell_of t) ≡ true
       → ((w : Cell A) → leq eq w (cell_of t) ≡ true → value_count u < value_count w → P w) → P u) where
     within : (n : ℕ) (u : Cell A) → leq eq u (cell_of t) ≡ true → length t ≤ value_count u + n → P u

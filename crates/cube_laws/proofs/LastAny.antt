@@ -1,4 +1,4 @@
--- The last dimension of Any of a cell below a tuple.
+-- The last dimension of Any of a cell that generalizes a tuple.
 use Rattle.std.proofs.Common.{◌≡◌, ◌⊎◌, ℕ, zero, suc, ◌<◌, Bool, true, Option, Some, None, List, [], ◌∷◌, length, refl, sym, subst, ap, ap₂}
 use Rattle.std.proofs.Common.{◌∙◌, true≢false, arith, slice_get, inl, inr}
 use Rattle.std.proofs.lemmas.Bool.{and_parts}
@@ -7,7 +7,7 @@ use Rattle.cube_laws.specs.Parts.{IsLastAny}
 use Rattle.cube_laws.proofs.Cells.{IsEquality}
 
 module _ {A : Type 0} {eq : A → A → Bool} (law : IsEquality eq) where
-  -- below one tuple, i and the front before it say which class it is
+  -- among the cells that generalize one tuple, i and the prefix before it say which class it is
   pub determined : (t : List A) (u w : Cell A) (i : ℕ) → leq eq u (cell_of t) ≡ true → leq eq w (cell_of t) ≡ true
       → length u ≡ length w → IsLastAny u i → IsLastAny w i → cell_prefix i u ≡ cell_prefix i w → u ≡ w
   determined t [] [] i h g l p q k = refl
@@ -54,7 +54,7 @@ module _ {A : Type 0} {eq : A → A → Bool} (law : IsEquality eq) where
       behind zero l m = absurd (omega arith)
       behind (suc k) l m = h.last k (omega arith) m
 
-  -- a cell below a tuple is the tuple, or has a last dimension of Any
+  -- a cell that generalizes a tuple is the tuple, or has a last dimension of Any
   pub tuple_or_last_any : (u : Cell A) (t : List A) → leq eq u (cell_of t) ≡ true → length u ≡ length t
       → (u ≡ cell_of t) ⊎ ((i : ℕ) × IsLastAny u i)
   tuple_or_last_any [] [] h l = inl refl

@@ -19,7 +19,7 @@ use Rattle.cube_laws.proofs.Orders.{equality_by}
 use Rattle.cube_laws.proofs.Closures.{is_class-is, option_eq-is}
 use Rattle.cube_laws.proofs.Covered.{covered-is, covered_rises, closure_length, some_covered, covered_some}
 
--- what stands below each item, stands below each of those that pass
+-- what comes before each item comes before each of those that pass
 all-filter : {X : Type 0} (P : X → Type 0) (p : X → Bool) (xs : List X) → AllByRecursion P xs
     → AllByRecursion P (filter p xs)
 all-filter P p [] h = tt

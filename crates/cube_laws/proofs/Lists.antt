@@ -124,7 +124,7 @@ pub filter_none : {X : Type 0} (p : X → Bool) (xs : List X) → AllByRecursion
 filter_none p [] h = refl
 filter_none p (x ∷ xs) h = cond-false _ _ _ h.0 ∙ filter_none p xs h.1
 
--- a filter behind one that it implies
+-- a filter after one that it implies
 pub filter_filter : {X : Type 0} (p q : X → Bool) (xs : List X) → ((x : X) → p x ≡ true → q x ≡ true)
     → filter p (filter q xs) ≡ filter p xs
 filter_filter p q [] h = refl

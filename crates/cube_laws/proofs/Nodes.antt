@@ -1,4 +1,4 @@
--- A node is the front of a class.
+-- A node is the prefix of a class.
 use Rattle.std.proofs.Common.{◌≡◌, ◌↔◌, ℕ, Bool, true, Option, Some, None, List, length, refl, sym, ap, subst, ◌∙◌}
 use Rattle.std.specs.declared.cmp.Ordering.{Ordering}
 use Rattle.std.specs.Ordering.{eq_by_cmp}
@@ -18,12 +18,12 @@ use Rattle.cube_laws.proofs.Lists.{among_filter, filter_among, all_at}
 use Rattle.cube_laws.proofs.Orders.{equality_by}
 
 module _ {A : Type 0} {eq : A → A → Bool} (law : IsEquality eq) where
-  -- a node is its closure's front
+  -- a node is its closure's prefix
   pub is_node-is : (rows : List (Row A)) (p : Cell A) → (is_node eq rows p ≡ true)
       ↔ (option_map (cell_prefix (depth p)) (closure eq rows p) ≡ Some p)
   is_node-is rows p = option_eq-is law _ p
 
-  -- the nodes are the fronts of the classes
+  -- the nodes are the prefixes of the classes
   pub prefix_of_class : (rows : List (Row A)) (p u : Cell A) → closure eq rows p ≡ Some u → is_node eq rows p ≡ true
       → (is_class eq rows u ≡ true) × (cell_prefix (depth p) u ≡ p)
   prefix_of_class rows p u e h =
@@ -51,7 +51,7 @@ module _ {A : Type 0} {eq : A → A → Bool} (law : IsEquality eq) where
           (is_node-is rows (cell_prefix k u)).1 (ap (option_map (cell_prefix (depth (cell_prefix k u)))) e
           ∙ ap (λ x. Some x) (leq_antisymm law _ _ high low))
 
-  -- a node has a closure, whose front it is
+  -- a node has a closure, whose prefix it is
   pub node_closed : (rows : List (Row A)) (p : Cell A) → is_node eq rows p ≡ true → (u : Cell A)
       × (closure eq rows p ≡ Some u) × (cell_prefix (depth p) u ≡ p)
   node_closed rows p h = go (closure eq rows p) refl ((is_node-is rows p).0 h)

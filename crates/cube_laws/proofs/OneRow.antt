@@ -57,7 +57,7 @@ module _ {A : Type 0} {eq : A → A → Bool} (law : IsEquality eq) where
         ∙ ap (λ o. cond (covers eq c r) (join_aggs (row_agg measures r) o) o)
         (sym (agg_total measures (cov eq (xs ++ ys) c)))
 
-    -- the closure of a cell that covers r is below r
+    -- the closure of a cell that covers r generalizes r
     pub below_row : (c w : Cell A) → covers eq c r ≡ true → closure eq (xs ++ r ∷ ys) c ≡ Some w → covers eq w r ≡ true
     below_row c w h e =
         let is : meet_after eq (cell_of r.tuple) (closure eq (xs ++ ys) c) ≡ w

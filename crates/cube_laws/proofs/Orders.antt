@@ -52,6 +52,6 @@ one_test = λ i x y. eq_cmp x y i
 pub nat_eq-turned : (m n : ℕ) → nat_eq m n ≡ nat_eq n m
 nat_eq-turned m n = grind arith
 
--- by their order or by their equality, codes tell the same cells below one another
+-- by their order or by their equality, codes tell the same cells that generalize one another
 pub leq_is : (c t : Cell ℕ) → leq (eq_by_cmp nat_cmp) c t ≡ leq nat_eq c t
 leq_is c t = ap (λ e. leq e c t) one_test

@@ -22,7 +22,7 @@ use Rattle.cube_laws.proofs.Recoded.{same_test}
 use Rattle.cube_laws.proofs.RecodedRows.{length-coded, covers-coded, agg-coded, is_class-coded, is_node-coded, is_lower_bound-coded}
 
 module _ {A : Type 0} {eq : A → A → Bool} (law : IsEquality eq) (known : ℕ → A → Bool) where
-  -- the values of a cell below one of known values are known
+  -- the values of a cell that generalizes one of known values are known
   pub known-below : (k : ℕ) (c d : Cell A) → leq eq c d ≡ true → AreKnown known k d → AreKnown known k c
   known-below k [] d h g = tt
   known-below k (e ∷ c) [] h g = absurd (true≢false (sym h))
@@ -35,7 +35,7 @@ module _ {A : Type 0} {eq : A → A → Bool} (law : IsEquality eq) (known : ℕ
 
 module _ {A B : Type 0} {eq : A → A → Bool} {eq' : B → B → Bool} (law : IsEquality eq) (law' : IsEquality eq')
     (codes : ℕ → A → B) where
-  -- a cell of codes below a coded tuple is the code of a cell below the tuple
+  -- a cell of codes less than a coded tuple is the code of a cell that generalizes the tuple
   pub decoded : (k : ℕ) (d : Cell B) (t : List A) → length d ≡ length (coded_tuple codes k t)
       → leq eq' d (cell_of (coded_tuple codes k t)) ≡ true
       → (c : Cell A) × (d ≡ coded_cell codes k c) × (length c ≡ length t) × (leq eq c (cell_of t) ≡ true)

@@ -68,7 +68,7 @@ module _ {X M : Type 0} (op : M → M → M) (none : M) (law : IsAddition op non
   total-insert (x ∷ xs) r ys = ap (op (f x)) (total-insert xs r ys)
       ∙ swap op none law f (f x) (f r) (total op none f (xs ++ ys))
 
-  -- added up from the front
+  -- added up from the beginning
   pub total-push : (xs : List X) (x : X) → total op none f (xs ++ x ∷ []) ≡ op (total op none f xs) (f x)
   total-push [] x = law.comm (f x) none
   total-push (y ∷ xs) x = ap (op (f y)) (total-push xs x) ∙ sym (law.assoc _ _ _)

@@ -54,7 +54,7 @@ module _ {A : Type 0} {eq : A → A → Bool} (law : IsEquality eq) where
     pub count_one_less : (u : Cell A) → covers eq u r ≡ true → count eq (xs ++ r ∷ ys) u ≡ suc (count eq (xs ++ ys) u)
     count_one_less u h = length_filter-insert (covers eq u) xs r ys h
 
-    -- a cell above u that does not cover r and covers all of u's rows but one is u's heir: its rows before are u's rows
+    -- a cell that specializes u, doesn't cover r, and covers all of u's rows but one is u's heir: its rows before are u's rows
     -- afterwards
     pub heir : (u c : Cell A) → covers eq u r ≡ true → leq eq u c ≡ true → covers eq c r ≡ false
         → suc (count eq (xs ++ r ∷ ys) c) ≡ count eq (xs ++ r ∷ ys) u → cov eq (xs ++ r ∷ ys) c ≡ cov eq (xs ++ ys) u
@@ -135,7 +135,7 @@ module _ {A : Type 0} {eq : A → A → Bool} (law : IsEquality eq) where
         none k v any (witness u c z w k v up apart f is value) gone
         ((count_decides_before u w k v any h gone is).0 value))))
 
-    -- a class above u that covers another row with r's value there rules the dimension out
+    -- a class that specializes u and covers another row with r's value there rules the dimension out
     pub ruled_out : (u w d : Cell A) (k : ℕ) (v t : A) → closure eq (xs ++ r ∷ ys) u ≡ Some u
         → slice_get u k ≡ Some None → covers eq u r ≡ true → closure eq (xs ++ ys) u ≡ Some w
         → slice_get w k ≡ Some (Some v)

@@ -1,4 +1,4 @@
--- Values read one behind another, as a loop does.
+-- Values read one after another, as a loop does.
 use Rattle.std.proofs.Common.{◌≡◌, ℕ, suc, ◌-◌, ◌+◌, ◌≤◌, ◌<◌, List, [], ◌∷◌, ◌++◌, Option, Some, None, length, refl, sym, ap, ◌∙◌}
 use Rattle.std.proofs.Common.{append_assoc, arith, subst, length-append}
 use Rattle.std.proofs.lemmas.List.{append-nil, get_or_at}

@@ -1,4 +1,4 @@
--- A row that comes behind others.
+-- A row that comes after others.
 use Rattle.std.proofs.Common.{◌≡◌, ◌<◌, ℕ, List, [], ◌∷◌, ◌++◌, Some, None, false, get_or, length, map, nat_eq, refl, ap, subst, arith}
 use Rattle.std.proofs.Common.{length-append}
 use Rattle.std.specs.List.{AllByRecursion, IsDistinct}

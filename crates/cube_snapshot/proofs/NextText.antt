@@ -22,7 +22,7 @@ unfolding IsDistinct
 none_allowed max = record { values = All-nil IsValue; distinct = tt; few = omega arith }
 
 module _ (list : List Text) (text : Text) where
-  -- a text that is known can't stand behind them
+  -- a text that is known can't stand after them
   pub known_again : (max code : ℕ) → code_in list text ≡ Some code → (more : List Text)
       → AreAllowed max (list ++ text ∷ more) → ⊥
   known_again max code is more allowed =
@@ -50,7 +50,7 @@ module _ (list : List Text) (text : Text) where
       = subst IsValue (get_or_at list text more [] (length list) refl)
       (allowed.values (length list) [] (omega (arith, length-append list (text ∷ more))))
 
-  -- the place behind them is that of a text that wasn't there
+  -- the place after them is that of a text that wasn't there
   pub was_new : (code : ℕ) → code_in (learnt_in list text) text ≡ Some code → code ≡ length list
       → code_in list text ≡ None
   was_new code is last = go (code_in list text) refl

@@ -1,4 +1,4 @@
--- Values put one behind another, as a loop does.
+-- Values put one after another, as a loop does.
 use Rattle.std.proofs.Common.{◌≡◌, ℕ, suc, ◌+◌, ◌*◌, ◌<◌, ◌≤◌, List, [], ◌∷◌, ◌++◌, Option, None, Some, length, take, get_or, refl, sym, ap}
 use Rattle.std.proofs.Common.{ap₂, ◌∙◌, arith, append_assoc, length-append, subst}
 use Rattle.std.specs.Prelude.{IfSome, ℤ}

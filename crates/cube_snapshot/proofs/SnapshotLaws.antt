@@ -49,7 +49,7 @@ schema-is = seen-is (sized (number w32)) layout_text schema_of (λ text. length 
         let same : layout_text l ≡ x = ap layout_text (sym p.1) ∙ sym ((bytes_decides x (layout_text k)).0 p.0) in
         (same, ap read same ∙ q ∙ ap (λ y. Ok y) p.1)
 
--- what holds of the parts that have a spelling, one behind another
+-- what holds of the parts that have a spelling, one after another
 abbrev FitsBehind : Layout → List (List Text) × List (Row ℕ) → Type 0
 FitsBehind l q = AreLists (length l.dims) q.0 × AreRows (length l.dims) (length l.measures) q.1
 

@@ -26,7 +26,7 @@ abbrev finished : Option (Sequence × List ℕ) → Option Parts
 finished o = only snapshot
     (option_and_then (λ (p : Sequence × List ℕ). option_map (λ (y : Parts). (y, p.1)) (Some (parts_of p.0))) o)
 
--- what follows from what is read of the mark, and from what is read of the schema behind it
+-- what follows from what is read of the mark, and from what is read of the schema after it
 abbrev from_mark : Option (Unit {0} × List ℕ) → Option Parts
 from_mark o = finished (option_and_then
     (λ (p : Unit {0} × List ℕ). option_map (λ (q : (Layout × Behind) × List ℕ). ((p.0, q.0), q.1))
@@ -90,7 +90,7 @@ refuse_schema bytes text rest e found = refuse_by (λ _. ⊤) (λ _. ⊤) e (sch
     (λ z is _. let p = map_some (schema_of text) (λ y. (y, rest)) z
     (sym (ap (option_and_then (λ p. option_map (λ y. (y, p.1)) (schema_of p.0))) found) ∙ is) in (p.0, p.1, tt))
 
--- the texts and the rows behind it
+-- the texts and the rows after it
 module _ (l : Layout) (bytes : List ℕ) where
   abbrev lists_read : Option (List (List Text) × List ℕ)
   lists_read = (repeated texts (length l.dims)).get bytes

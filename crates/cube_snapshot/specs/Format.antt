@@ -1,4 +1,4 @@
--- Formats: how a value is spelled as bytes, and how it is read from the front of some bytes.
+-- Formats: how a value is spelled as bytes, and how it is read from the beginning of some bytes.
 use Rattle.std.specs.Prelude.{◌<◌, slice_index_or, ℕ, zero, suc, List, [], ◌∷◌, ◌++◌, length, take, drop, Option, Some, None, nat_lt}
 use Rattle.std.specs.Prelude.{if◌then◌else◌}
 use Rattle.std.specs.List.{flat_map}
@@ -12,7 +12,7 @@ IsBytes bytes = (i : ℕ) → slice_index_or bytes i 0 < 256
 pub record Format (X : Type 0) : Type 0 where
   -- the spelling of a value
   pub put : X → List ℕ
-  -- the value at the front, and the bytes behind it
+  -- the value at the beginning, and the bytes after it
   pub get : List ℕ → Option (X × List ℕ)
 
 -- a number of a fixed width, its highest byte first
@@ -23,7 +23,7 @@ number w = record {
       else Some (from_be_bytes w (take (byte_len w) bytes), drop (byte_len w) bytes);
 }
 
--- a number below 256
+-- a number less than 256
 abbrev pub first_byte : List ℕ → Option (ℕ × List ℕ)
 first_byte [] = None
 first_byte (b ∷ rest) = Some (b, rest)
@@ -78,7 +78,7 @@ module _ {X : Type 0} (a : Format X) where
   abbrev pub whole : List ℕ → Option X
   whole bytes = only (a.get bytes)
 
--- a text behind its length
+-- a text after its length
 abbrev pub sized : Format ℕ → Format (List ℕ)
 sized len = record {
   put = λ text. len.put (length text) ++ text;

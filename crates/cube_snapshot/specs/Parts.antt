@@ -1,4 +1,4 @@
--- The parts of a snapshot behind its schema.
+-- The parts of a snapshot after its schema.
 use Rattle.std.specs.Prelude.{◌≡◌, ℕ, ◌<◌, ◌≤◌, ◌^◌, List, Option, Some, None, ℤ, length, nat_abs, nat_le, if◌then◌else◌}
 use Rattle.std.specs.Int.{w32, w64, cast_signed, cast_unsigned}
 use Rattle.std.specs.List.{AllByRecursion}

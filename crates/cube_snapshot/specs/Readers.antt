@@ -46,13 +46,13 @@ pub record MayBeRows (lists : List (List Text)) (max : ℕ) (rows : List (Row �
   pub ids : IsDistinct nat_eq (map (λ row. row.id) rows)
   pub few : length rows ≤ max
 
--- a row that may come behind others
+-- a row that may come after others
 pub record MayCome (lists : List (List Text)) (max : ℕ) (rows : List (Row ℕ)) (row : Row ℕ) : Type 0 where
   pub known : AreCodes lists row.tuple
   pub new : has_id rows row.id ≡ false
   pub room : length rows < max
 
--- the rows of a table before and after a row that was read, and the bytes behind it
+-- the rows of a table before and after a row that was read, and the bytes after it
 pub record IsNextRow (lists : List (List Text)) (table table' : Places) (bytes rest : List ℕ) : Type 0 where
   pub row : Row ℕ
   pub read : (format.row table.dims table.measures).get bytes ≡ Some (row, rest)

@@ -11,7 +11,7 @@ use Rattle.qc_schema.specs.Spelling.{layout_text}
 use Rattle.cube_snapshot.specs.Format.{Format, then_format, number, run, mapped_format, sized, repeated}
 use Rattle.cube_snapshot.specs.Parts.{AreTexts, IsRow, rows, texts}
 
--- the bytes at the front of each snapshot
+-- the bytes at the beginning of each snapshot
 abbrev pub mark_text : List ℕ
 mark_text = codes "QCUBESN1"
 
@@ -29,7 +29,7 @@ if_canonical bytes (Ok layout) = if bytes_eq bytes (layout_text layout) then Som
 abbrev pub schema_of : List ℕ → Option Layout
 schema_of bytes = if_canonical bytes (schema_in bytes)
 
--- a schema by its canonical text, behind the length of that
+-- a schema by its canonical text, after the length of that
 abbrev pub schema : Format Layout
 schema = mapped_format (sized (number w32)) layout_text schema_of
 
@@ -39,7 +39,7 @@ pub record Parts : Type 0 where
   pub texts : List (List Text)
   pub rows : List (Row ℕ)
 
--- the parts as they stand one behind another, from the mark on
+-- the parts as they stand one after another, from the mark on
 abbrev pub Sequence : Type 0
 Sequence = Unit {0} × (Layout × (List (List Text) × List (Row ℕ)))
 
@@ -49,7 +49,7 @@ sequence_of p = (tt, (p.schema, (p.texts, p.rows)))
 abbrev pub parts_of : Sequence → Parts
 parts_of s = record { schema = s.1.0; texts = s.1.1.0; rows = s.1.1.1 }
 
--- the texts and the rows that stand behind a schema
+-- the texts and the rows that stand after a schema
 abbrev pub texts_and_rows : Layout → Format (List (List Text) × List (Row ℕ))
 texts_and_rows layout =
     then_format (repeated texts (length layout.dims)) (λ _. rows (length layout.dims) (length layout.measures))

@@ -10,7 +10,7 @@ use Rattle.tree_laws.specs.Walk.{target_at}
 use Rattle.qc_arena.specs.RecordReaders.{number, record_at}
 use Rattle.drill_links.specs.Way.{IsWay, LeadsTo}
 
--- a front without a value at its end is the one before it
+-- a prefix without a value at its end is the one before it
 prefix_same : (j : ℕ) (t : Cell ℕ) → slice_index_or t j None ≡ None → cell_prefix (suc j) t ≡ cell_prefix j t
 prefix_same j [] e = refl
 prefix_same zero (x ∷ t) e = ap (λ y. y ∷ cell_prefix 0 t) e

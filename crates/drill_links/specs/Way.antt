@@ -12,7 +12,7 @@ pub record LeadsTo (tree : Tree ℕ) (node dim value : ℕ) (cell : Cell ℕ) : 
   pub edge : target_at (eq_by_cmp nat_cmp) dim value (record_at tree node).edges ≡ Some target
   pub is : cell_at tree target ≡ Some cell
 
--- in each of these dimensions that has a value in t, t's front before it has an edge with the value to t's front with
+-- in each of these dimensions that has a value in t, t's prefix before it has an edge with the value to t's prefix with
 -- it
 pub record IsWay (tree : Tree ℕ) (t : Cell ℕ) (first last : ℕ) : Type 0 where
   pub leads : (dim value node : ℕ) → first ≤ dim → dim ≤ last → slice_index_or t dim None ≡ Some value

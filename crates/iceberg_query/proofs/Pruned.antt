@@ -37,7 +37,7 @@ module _ (dims : ℕ) (tree : Tree ℕ) (source : TreeRows) (h : IsTreeOf dims t
       go [] u e = cc
       go (x ∷ xs) u e = omega arith
 
-  -- a node below another covers some of its rows
+  -- a node that generalizes another covers some of its rows
   some_below : (k l : ℕ) → IsBelow dims tree source h k l
       → IsOfSome source.measures (agg (eq_by_cmp nat_cmp) source.measures source.rows (cell k))
       (agg (eq_by_cmp nat_cmp) source.measures source.rows (cell l))

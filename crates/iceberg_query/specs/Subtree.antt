@@ -1,4 +1,4 @@
--- The nodes below a node, and those that are asked for.
+-- The descendants of a node, and those that are asked for.
 use Rattle.std.specs.Prelude.{ℕ, zero, suc, Bool, false, Option, Some, None, List, [], ◌∷◌, flat_map, filter, map, nat_eq, if◌then◌else◌}
 use Rattle.std.specs.Option.{option_eq}
 use Rattle.cube_defs.specs.Rows.{Agg}
@@ -17,7 +17,7 @@ is_parent_node tree k l = option_eq nat_eq (record_at tree l).parent (Some k)
 abbrev pub is_child : Tree ℕ → ℕ → Edge ℕ ℕ → Bool
 is_child tree k x = is_parent_node tree k x.target
 
--- a node and all below it, depth first, down to so many values more
+-- a node and all that generalize it, depth first, down to so many values more
 abbrev pub subtree : Tree ℕ → ℕ → ℕ → List ℕ
 subtree tree zero k = k ∷ []
 subtree tree (suc n) k =

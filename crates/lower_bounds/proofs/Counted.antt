@@ -16,7 +16,7 @@ more_than : (n : ℕ) → n + 1 ≤ 2 ^ n
 more_than zero = omega arith
 more_than (suc n) = omega (arith, more_than n, pow-suc 2 n)
 
--- a search, the way up, a look and the bounds below: no more than seven times a search
+-- a search, the way up, a look and the lower bounds: no more than seven times a search
 pub steps_in_all : (n d : ℕ) → d ≤ n → (2 * n + 2) + (2 * n + 2) + 1 + (d + 2 ^ d) * (2 * n + 2) ≤ 7 * (n + 1) * 2 ^ n
 steps_in_all n d le =
     let low : d + 2 ^ d ≤ n + 2 ^ n = omega (arith, le, pow_mono le) in
@@ -33,7 +33,7 @@ steps_in_all n d le =
         let right : (n + 1) * (5 * (n + 1)) ≡ 5 * (n * n) + 10 * n + 5 = grind arith in
         omega (arith, left, right)
 
--- the way up and the bounds below
+-- the way up and the lower bounds
 pub steps_of_bounds : (n d : ℕ) → d ≤ n → (2 * n + 2) + (d + 2 ^ d) * (2 * n + 2) ≤ 16 * (n + 1) ^ 2 * 2 ^ d
 steps_of_bounds n d le =
     let more : d + 1 ≤ 2 ^ d = more_than d in

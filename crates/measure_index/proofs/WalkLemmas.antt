@@ -90,7 +90,7 @@ module _ (bound : Fraction) where
   abbrev of : IndexEntry → Quotient
   of e = record { value = ratio_in e.value; positive = e.value.lowest.positive }
 
-  -- what stands behind an entry with at least the bound has it too
+  -- what stands after an entry with at least the bound has it too
   behind : (x y : IndexEntry) → entry_cmp x y ≡ Less → is_at_least bound x ≡ true → is_at_least bound y ≡ true
   behind x y h p =
       ge_in (by_value (of y) asked)

@@ -30,7 +30,7 @@ abbrev pub directed : {X : Type 0} → Direction → List X → List X
 directed Falling items = reverse items
 directed Rising items = items
 
--- the items at the front that pass
+-- the items at the beginning that pass
 abbrev pub run_of : {X : Type 0} → (X → Bool) → List X → List X
 run_of test [] = []
 run_of test (x ∷ xs) = cond (test x) (x ∷ run_of test xs) []

@@ -204,7 +204,7 @@ distinct-filter keeps (pin ∷ pins) are
     go true apart rest = (apart, rest)
     go false apart rest = rest
 
--- a place from which images in front are gone
+-- a place from which images before it are gone
 module _ (now : Contents) (kept : List ImageMap) (first : ℕ) where
   moved_is : (pin : Pin) → first ≤ pin.from → IsPin now kept pin → IsPin now (drop first kept) (moved_back first pin)
   moved_is pin room is =
@@ -224,7 +224,7 @@ module _ (now : Contents) (kept : List ImageMap) (first : ℕ) where
   all_moved [] room are = tt
   all_moved (pin ∷ pins) room are = (moved_is pin room.0 are.0, all_moved pins room.1 are.1)
 
--- some pins are left, and images in front that they don't read are cut off
+-- some pins are left, and images before it that they don't read are cut off
 pub some_left : (now : Contents) (kept : List ImageMap) (pins : List Pin) (keeps : Pin → Bool) (first : ℕ)
     → AllByRecursion (λ (pin : Pin). first ≤ pin.from) (filter keeps pins)
     → ArePins now kept pins → ArePins now (drop first kept) (map (moved_back first) (filter keeps pins))

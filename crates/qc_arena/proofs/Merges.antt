@@ -73,7 +73,7 @@ module _ {X : Type 0} where
     | inr s ↦ sym (cond-false _ _ _ s.0 ∙ found_more es fs k v q none ∙ cond-false _ _ _ s.0)
   ]
 
-  -- the front of a list that rises
+  -- the prefix of a list that rises
   pub rise_prefix : (n : X → ℕ) (xs ys : List X) → IsNonDecreasingBy n (xs ++ ys) → IsNonDecreasingBy n xs
   rise_prefix n xs ys rise = λ i j d l within.
       let a = get_or_append_left xs ys d i (omega arith) in

@@ -21,7 +21,7 @@ moved_open n None cursor name h = tt
 moved_open n (Some t) None name h = tt
 moved_open n (Some t) (Some c) name h = h
 
--- and so it is behind a read
+-- and so it is after a read
 pub still_open : (n : ℕ) (told before : Option FileContents) (cursor after : Option Cursor) (name bytes : List ℕ)
     → told ≡ before → HasRead told cursor name bytes → after ≡ advanced n cursor → IsOpenAs before after name
 still_open n told before cursor after name bytes same h e =

@@ -30,7 +30,7 @@ use Rattle.qc_schema.specs.declared.refusal.SchemaCause.{SchemaCause}
 use Rattle.qc_schema.specs.declared.refusal.SchemaCause.TheVariants.{End, Name, Number, Order, Version}
 use Rattle.qc_schema.proofs.Widening.{bytes-flip, push-all, push-different, wider}
 
--- what holds behind a line of each kind
+-- what holds after a line of each kind
 abbrev pub AtStage : LastLine → Layout → Type 0
 AtStage stages.Start l = l ≡ start.layout
 AtStage stages.Qcube l = l ≡ record start.layout { version = l.version }
@@ -275,7 +275,7 @@ with-limits l nodes rows values h n r v = record {
   };
 }
 
--- what stands behind a dimension is a layout
+-- what stands after a dimension is a layout
 layout-after : (stage : LastLine) (l : Layout) → may_end stage ≡ true → AtStage stage l → IsLayout l
 layout-after stages.Start l may h = absurd (cc may)
 layout-after stages.Qcube l may h = absurd (cc may)

@@ -52,7 +52,7 @@ at version stage id dims ms ks
       };
     }
 
--- the state behind lines of these words
+-- the state after lines of these words
 abbrev after : List (List Text) → Progress → Result Progress SchemaCause
 after [] s = Ok s
 after (words ∷ lines) s = line_of_words s words >>= λ t. after lines t
@@ -142,7 +142,7 @@ limit-again most n some few small =
       le-leb n most few,
     ) refl
 
--- the kind of the last line, behind lines of one kind
+-- the kind of the last line, after lines of one kind
 abbrev stage_after : {X : Type 0} → LastLine → LastLine → List X → LastLine
 stage_after before stage [] = before
 stage_after before stage (x ∷ xs) = stage

@@ -27,7 +27,7 @@ abbrev pub ◌>>=◌ : {A B : Type 0} → Result A SchemaCause → (A → Result
 (Ok x) >>= f = f x
 (Err e) >>= f = Err e
 
--- which lines may stand behind the last one
+-- which lines may stand after the last one
 abbrev pub may_id : LastLine → Bool
 may_id stages.Qcube = true
 may_id stage = false

@@ -59,11 +59,11 @@ is_name name = is_ascii_alphabetic (slice_index name 0) && list_all is_name_byte
 abbrev pub names_of : Layout → List Text
 names_of l = l.id ∷ (l.dims ++ map (λ m. m.name) l.measures)
 
--- one more dimension behind the others
+-- one more dimension after the others
 abbrev pub with_dim : Layout → Text → Layout
 with_dim l name = record l { dims = l.dims ++ name ∷ [] }
 
--- no element is equal to one behind it
+-- no element is equal to one after it
 abbrev pub all_different : {X : Type 0} → (X → X → Bool) → List X → Bool
 all_different eq [] = true
 all_different eq (x ∷ xs) = not (list_any (λ y. eq y x) xs) && all_different eq xs

@@ -1,4 +1,4 @@
--- A script without a mark in front is no longer than it was, and has few lines.
+-- A script without a mark before it is no longer than it was, and has few lines.
 use Rattle.std.proofs.Common.{◌≡◌, ◌≤◌, ◌<◌, ◌^◌, ℕ, List, ap, arith, length, refl}
 use Rattle.cube_defs.specs.declared.limits.TheConstants.{MAX_FILE}
 use Rattle.qc_session.specs.Lines.{lines_of}

@@ -170,7 +170,7 @@ so_far-push (Some t) start skipped new lines line number state state2 kept kept2
       handed = handed-on w.replies reply kept kept2 first before now w.handed on;
     }
 
--- out took a front of the replies of the lines so far
+-- out took a prefix of the replies of the lines so far
 stopped-writing : (t : FileContents) (start : State) (skipped : List ℕ) (lines rest all : List (List ℕ))
     (state : PinnedState) (replies : List ℕ) (first now : Option (List ℕ)) → Took t start skipped lines state replies
     → TookPrefix replies first now → all ≡ lines ++ rest
@@ -304,7 +304,7 @@ line_at-end [] line (suc k) e = absurd (omega arith)
 line_at-end (l ∷ ls) line zero e = absurd (omega arith)
 line_at-end (l ∷ ls) line (suc k) e = line_at-end ls line k (omega arith)
 
--- numbers of lines that may be skipped stay such where lines come behind
+-- numbers of lines that may be skipped stay such where lines come after
 commands-prefix : (lines more : List (List ℕ)) (ks : List ℕ) → AreUpTo (length lines) ks
     → AllByRecursion (λ k. may_skip (line_at lines k) ≡ true) ks
     → AllByRecursion (λ k. may_skip (line_at (lines ++ more) k) ≡ true) ks

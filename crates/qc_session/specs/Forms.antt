@@ -1,4 +1,4 @@
--- What the words behind the program's name ask for.
+-- What the words after the program's name ask for.
 use Rattle.std.specs.Prelude.{ℕ, ◌&&◌, nat_le, nat_lt, List, [], ◌∷◌, Option, Some, None, codes, string_bytes, ⊤, String, if◌then◌else◌}
 use Rattle.std.specs.declared.alloc.Global.{Global}
 use Rattle.std.specs.Str.{bytes_eq}
@@ -28,7 +28,7 @@ pub data Form : Type 0 where
   Gen : Drawing → Form
 
 -- from one row to the most that a cube may have; the numbers are there where the words are decimal digits alone, of a
--- value below 2 ^ 64
+-- value less than 2 ^ 64
 abbrev pub drawing_of : Option ℕ → Option ℕ → Option Form
 drawing_of None seed = None
 drawing_of (Some rows) None = None

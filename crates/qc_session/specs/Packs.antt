@@ -30,7 +30,7 @@ pub record WroteSnapshot (told : FileContents) (start : State) (lines : List (Li
   pub wrote : now ≡ with_taken (spelling state) before
   pub ended : end ≡ Some state
 
--- out took a front of that snapshot
+-- out took a prefix of that snapshot
 pub record WroteSnapshotPrefix (told : FileContents) (start : State) (lines : List (List ℕ))
     (before now : Option (List ℕ)) : Type 0 where
   pub state : State

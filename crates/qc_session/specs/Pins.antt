@@ -45,7 +45,7 @@ pub record PinnedAnswer : Type 0 where
 abbrev pub unchanged_with_pins : PinnedState → List ℕ → PinnedAnswer
 unchanged_with_pins s reply = record { state = s; reply = reply }
 
--- the answer to `pin`: the rows of the state go under a new name, behind the other pins
+-- the answer to `pin`: the rows of the state go under a new name, after the other pins
 abbrev pub pin_with : PinnedState → ℕ → Text → Option (List (Row Text)) → PinnedAnswer
 pin_with s line name (Some rows) = unchanged_with_pins s (refused_text line name_taken_texts)
 pin_with s line name None =

@@ -153,7 +153,7 @@ pub record WroteAll (told : FileContents) (start : State) (skipped : List ℕ) (
   pub wrote : Wrote told start skipped lines before now
   pub ended : end ≡ Some wrote.state.state
 
--- out took a front of the replies of these lines
+-- out took a prefix of the replies of these lines
 pub record WrotePrefix (told : FileContents) (start : State) (skipped : List ℕ) (lines : List (List ℕ))
     (before now : Option (List ℕ)) : Type 0 where
   pub state : PinnedState
@@ -173,7 +173,7 @@ pub record StoppedAt (told : FileContents) (sure : Type 0) (start : State) (skip
   pub names : file_of wrote.state.state.schema line ≡ Some name
   pub untold : sure → told name ≡ None
 
--- out took a front of the replies of some first lines
+-- out took a prefix of the replies of some first lines
 pub record StoppedWriting (told : FileContents) (start : State) (skipped : List ℕ) (lines : List (List ℕ))
     (before now : Option (List ℕ)) : Type 0 where
   pub done : List (List ℕ)

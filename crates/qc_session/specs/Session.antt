@@ -32,7 +32,7 @@ pub record Replies (told : FileContents) (skipped : List ℕ) (number : ℕ) (st
   pub is : (replies : List ℕ)
       → step told (run_at state replies) (item skipped number line) ≡ run_at state2 (replies ++ reply)
 
--- out took a front of what was kept and of the reply of a line, and the rest is kept
+-- out took a prefix of what was kept and of the reply of a line, and the rest is kept
 abbrev pub WroteLine : Option FileContents → List ℕ → ℕ → PinnedState → List ℕ → PinnedState → List ℕ → List ℕ
     → Option (List ℕ) → Option (List ℕ) → Type 0
 WroteLine told skipped number state line state2 kept kept2 before now =
@@ -46,14 +46,14 @@ WrotePart told old new number state line state2 kept before now =
     IfSome told (λ t. ((new ≡ old) × TookPrefix kept before now)
     ⊎ ((reply : List ℕ) × Replies t new number state line state2 reply × TookPrefix (kept ++ reply) before now))
 
--- these lines were taken, out took a front of their replies, and the rest is kept
+-- these lines were taken, out took a prefix of their replies, and the rest is kept
 pub record Gathered (told : FileContents) (start : State) (skipped : List ℕ) (lines : List (List ℕ))
     (state : PinnedState) (kept : List ℕ) (before now : Option (List ℕ)) : Type 0 where
   pub replies : List ℕ
   pub took : Took told start skipped lines state replies
   pub handed : IsFlushed replies kept before now
 
--- how a reply was gathered: out took a front of these bytes, and the rest is kept, or it is refused where out failed
+-- how a reply was gathered: out took a prefix of these bytes, and the rest is kept, or it is refused where out failed
 pub record Puts {T : Type 0} (broke : Type 0) (bytes kept : List ℕ) (before now : Option (List ℕ))
     (result : Result T Stop) : Type 0 where
   pub by : MatchResult result (λ done. IsFlushed bytes kept before now)

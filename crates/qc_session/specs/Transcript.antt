@@ -30,7 +30,7 @@ is_skipped skipped number = list_any (λ k. k == number) skipped
 abbrev pub item : List ℕ → ℕ → List ℕ → Item
 item skipped number line = record { number = number; line = line; skipped = is_skipped skipped number }
 
--- the lines behind so many others
+-- the lines after so many others
 unfoldable pub items : List ℕ → ℕ → List (List ℕ) → List Item
 items skipped n [] = []
 items skipped n (line ∷ lines) = item skipped (n + 1) line ∷ items skipped (n + 1) lines
@@ -40,7 +40,7 @@ answered run None = record run { lacked = true }
 answered run (Some a) = record run { state = a.state; replies = run.replies ++ a.reply }
 
 -- One line more. A line that is passed over adds nothing, a skipped one adds the reply on memory and keeps the state
--- and its pins, and each other one adds its answer. Where a file lacks, the transcript ends before that line.
+-- and its pins, and each other one adds its answer. Where a file is missing, the transcript ends before that line.
 abbrev pub step : FileContents → Run → Item → Run
 step told run item =
     if run.lacked then run

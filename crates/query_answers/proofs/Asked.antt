@@ -75,7 +75,7 @@ entry-missing texts (fields.One text) v is e h
       any-within (bytes_eq text) texts (subst (λ x. list_any (bytes_eq x) texts ≡ true) (same h.0) h.1),
     )
 
--- an entry, and the cell behind it
+-- an entry, and the cell after it
 abbrev joined : Option (Option ℕ) → Option (Cell ℕ) → Option (Cell ℕ)
 joined entry rest = option_and_then (λ e. option_map (λ c. e ∷ c) rest) entry
 

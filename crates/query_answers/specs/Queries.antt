@@ -122,7 +122,7 @@ query_reply state line (asks.Children asked) = children_answer state line (cell_
 query_reply state line (asks.Rollup kind bound value asked)
     = rollup_answer state line (ask_of state.schema.measures kind bound value) (cell_of_fields asked)
 
--- the steps before an answer and behind it are no further apart than is promised of the query; an iceberg is told so of
+-- the steps before an answer and after it are no further apart than is promised of the query; an iceberg is told so of
 -- a kind that has an index
 abbrev pub IsWithinSteps : State → (Kinds → Bool) → code.Query → ℕ → ℕ → Type 0
 IsWithinSteps state has_index (queries.Point asked) before after = after ≤ before + (2 * length state.schema.dims + 3)

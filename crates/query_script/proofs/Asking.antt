@@ -1,4 +1,4 @@
--- The fields that were asked so far, and those behind them.
+-- The fields that were asked so far, and those after them.
 use Rattle.std.proofs.Common.{◌≡◌, ◌<◌, ◌+◌, ◌-◌, ℕ, suc, List, [], ◌∷◌, ◌++◌, length, refl, ap, arith, Some, Ok, Err, append_assoc}
 use Rattle.std.proofs.Common.{append-nil, true, false, Bool, cond, eqb-true}
 use Rattle.std.specs.Prelude.{Option, Result, ◌==◌}
@@ -49,7 +49,7 @@ asks-first ask dims texts =
     by (Err fault) = refl
     by (Ok fields) = refl
 
--- a field with no `=` in front is its own value
+-- a field with no `=` before it is its own value
 pub plain-value : (text : Text) → ((rest : List ℕ) → text ≡ 61 ∷ rest → ⊥) → text ≡ value_of text
 plain-value [] h = refl
 plain-value (b ∷ bs) h = by (b == 61) refl

@@ -46,7 +46,7 @@ query_named layout word rest =
     else if bytes_eq word (codes "rollup") then rollup_in layout rest
     else Err faults.Command
 
--- what a line that is a query asks; `stats` with anything behind it is none
+-- what a line that is a query asks; `stats` with anything after it is none
 abbrev pub query_in_line : Layout → List ℕ → Result Query LineFault
 query_in_line layout line = if bytes_eq line stats_line then Ok queries.Stats
     else query_named layout (word_of line) (rest_of line)
@@ -59,7 +59,7 @@ is_pin_name name = is_name name || bytes_eq name (codes "op")
 abbrev pub pin_name_in : List ℕ → Result Text LineFault
 pin_name_in name = if is_pin_name name then Ok name else Err (faults.Field 1)
 
--- what a line asks behind the word `at`: the name runs to the first space or to the end, and what follows that space is
+-- what a line asks after the word `at`: the name runs to the first space or to the end, and what follows that space is
 -- a query
 abbrev pub at_in : Layout → List ℕ → Result Question LineFault
 at_in layout rest =
@@ -78,7 +78,7 @@ command_named layout word rest =
     else if bytes_eq word (codes "at") then at_in layout rest
     else asked_with Ask (query_named layout word rest)
 
--- what a line asks of a cube of this schema; `stats` with anything behind it is no command
+-- what a line asks of a cube of this schema; `stats` with anything after it is no command
 abbrev pub command_in : Layout → List ℕ → Result Question LineFault
 command_in layout line =
     if is_utf8 line then (if bytes_eq line stats_line then Ok (Ask queries.Stats)

@@ -15,7 +15,7 @@ abbrev pub is_several : Text → Bool
 is_several [] = false
 is_several (b ∷ bs) = (b == 124) || (b == 126) || ((b == 63) && bytes_eq bs [])
 
--- the value that a field names: what is behind `=` whatever its bytes, and else all of it
+-- the value that a field names: what is after `=` whatever its bytes, and else all of it
 abbrev pub value_of : Text → Text
 value_of [] = []
 value_of (b ∷ bs) = if b == 61 then bs else b ∷ bs
@@ -27,7 +27,7 @@ between_of (low ∷ []) = None
 between_of (low ∷ high ∷ []) = Some (asks.Between low high)
 between_of (low ∷ high ∷ more ∷ texts) = None
 
--- what a field of several values asks: behind `|` these values, cut at each further `|`; behind `~` the values between
+-- what a field of several values asks: after `|` these values, cut at each further `|`; after `~` the values between
 -- two texts with
 -- one `~` between them; and `?` each value
 abbrev pub several_of : Text → Option asked.Field
@@ -48,7 +48,7 @@ field_of shape field =
     else if is_several field then several_in shape field
     else Some (asks.One (value_of field))
 
--- what a field asks in front of what the others ask, or the fault at its place
+-- what a field asks before what the others ask, or the fault at its place
 abbrev pub cons_asked : ℕ → Option asked.Field → Result (List asked.Field) LineFault
     → Result (List asked.Field) LineFault
 cons_asked k None more = Err (Field k)

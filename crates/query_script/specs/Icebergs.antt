@@ -28,7 +28,7 @@ abbrev pub with_value : AggKind → Bound → Option Fraction → Result Query L
 with_value kind bound None = Err Number
 with_value kind bound (Some value) = Ok (Iceberg kind bound value)
 
--- the value, at the place k, behind which no word may stand
+-- the value, at the place k, after which no word may stand
 abbrev pub value_at : AggKind → Bound → ℕ → List Text → Result Query LineFault
 value_at kind bound k [] = Err (Field k)
 value_at kind bound k (word ∷ []) = with_value kind bound (fraction_written word)
@@ -38,7 +38,7 @@ abbrev pub with_bound : AggKind → ℕ → List Text → Option Bound → Resul
 with_bound kind k words None = Err (Field k)
 with_bound kind k words (Some bound) = value_at kind bound (k + 1) words
 
--- the bound, at the place k, and the value behind it
+-- the bound, at the place k, and the value after it
 abbrev pub bound_at : AggKind → ℕ → List Text → Result Query LineFault
 bound_at kind k [] = Err (Field k)
 bound_at kind k (word ∷ words) = with_bound kind k words (bound_named word)
@@ -59,6 +59,6 @@ iceberg_of measures [] = Err (Field 1)
 iceberg_of measures (word ∷ words) = if bytes_eq word (codes "count") then bound_at Count 2 words
     else with_aggregate measures words (measure_kind word)
 
--- what a line asks behind the word `iceberg`
+-- what a line asks after the word `iceberg`
 abbrev pub iceberg_in : Layout → List ℕ → Result Query LineFault
 iceberg_in layout rest = iceberg_of layout.measures (words_of rest)

@@ -19,14 +19,14 @@ rest_of line = after_first is_space line
 abbrev pub stats_line : List ℕ
 stats_line = codes "stats"
 
--- the words of the queries that name something behind them
+-- the words of the queries that name something after them
 abbrev pub names_query : List ℕ → Bool
 names_query word =
     bytes_eq word (codes "point") || bytes_eq word (codes "range") || bytes_eq word (codes "bounds")
     || bytes_eq word (codes "iceberg")
     || bytes_eq word (codes "parents") || bytes_eq word (codes "children") || bytes_eq word (codes "rollup")
 
--- the words of the commands that name something behind them
+-- the words of the commands that name something after them
 abbrev pub names_more : List ℕ → Bool
 names_more word =
     bytes_eq word (codes "load") || bytes_eq word (codes "apply") || bytes_eq word (codes "try")

@@ -14,7 +14,7 @@ use Rattle.query_script.specs.declared.record.Shape.{Shape}
 abbrev pub fields_in : List ℕ → List Text
 fields_in rest = flat_map (λ fields. fields) (records default_config rest)
 
--- what a record asks of so many dimensions; a byte order mark in front makes the first field none that is allowed
+-- what a record asks of so many dimensions; a byte order mark before it makes the first field none that is allowed
 abbrev pub record_in : Shape → ℕ → List ℕ → Result (List asked.Field) LineFault
 record_in shape dims rest = if begins_with_mark rest then Err (faults.Field 1)
     else fields_from (field_of shape) 1 dims (fields_in rest)

@@ -16,7 +16,7 @@ use Rattle.query_script.specs.Queries.{Query, Rollup}
 use Rattle.query_script.specs.Records.{record_in}
 use Rattle.query_script.specs.declared.record.Shape.TheVariants as shapes
 
--- a fault of a record that stands behind k words
+-- a fault of a record that stands after k words
 abbrev pub after_words : ℕ → LineFault → LineFault
 after_words k Utf8 = Utf8
 after_words k Command = Command
@@ -39,7 +39,7 @@ abbrev pub with_record : AggKind → Bound → ℕ → Text → Result (List ask
 with_record kind bound k word (Err fault) = Err (after_words k fault)
 with_record kind bound k word (Ok fields) = with_value kind bound fields (fraction_written word)
 
--- the value, at the place k, and the record behind it, of so many dimensions; a word without bytes is missing
+-- the value, at the place k, and the record after it, of so many dimensions; a word without bytes is missing
 abbrev pub value_at : ℕ → AggKind → Bound → ℕ → Text → List ℕ → Result Query LineFault
 value_at dims kind bound k [] rest = Err (Field k)
 value_at dims kind bound k (b ∷ bs) rest = with_record kind bound k (b ∷ bs) (record_in shapes.Cell dims rest)
@@ -48,7 +48,7 @@ abbrev pub with_bound : ℕ → AggKind → ℕ → List ℕ → Option Bound �
 with_bound dims kind k rest None = Err (Field k)
 with_bound dims kind k rest (Some bound) = value_at dims kind bound (k + 1) (word_of rest) (rest_of rest)
 
--- the bound, at the place k, and what stands behind it
+-- the bound, at the place k, and what stands after it
 abbrev pub bound_at : ℕ → AggKind → ℕ → List ℕ → Result Query LineFault
 bound_at dims kind k rest = with_bound dims kind k (rest_of rest) (bound_named (word_of rest))
 
@@ -61,7 +61,7 @@ with_aggregate layout rest None = Err (Field 1)
 with_aggregate layout rest (Some make)
     = with_measure (length layout.dims) make (rest_of rest) (measure_from layout.measures 0 (word_of rest))
 
--- what a line asks behind the word `rollup`: each word runs to the first space or to the end
+-- what a line asks after the word `rollup`: each word runs to the first space or to the end
 abbrev pub rollup_in : Layout → List ℕ → Result Query LineFault
 rollup_in layout rest =
     if bytes_eq (word_of rest) (codes "count") then bound_at (length layout.dims) Count 2 (rest_of rest)

@@ -38,7 +38,7 @@ put_there (f ∷ c) zero v e = refl
 put_there (f ∷ c) (suc i) v e = put_there c i v e
 
 module _ (rows : List (Row ℕ)) (u : Cell ℕ) where
-  -- the closure of u with a value of a class above it lies between
+  -- the closure of u with a value of a class that specializes it lies between
   pub record IsBetween (e : Cell ℕ) (i v : ℕ) (w : Cell ℕ) : Type 0 where
     pub is : closure (eq_by_cmp nat_cmp) rows (with_value u i v) ≡ Some w
     pub low : leq (eq_by_cmp nat_cmp) u w ≡ true
@@ -105,7 +105,7 @@ module _ (rows : List (Row ℕ)) (u : Cell ℕ) where
                 absurd (ne (sym (no_new code_equality u q a (omega arith)
                 (λ k v none some. true≢false (sym (reach q c a b k v none some) ∙ e)))))
 
--- where a class with a value more covers a row, its front's record has that label
+-- where a class with a value more covers a row, its prefix's record has that label
 module _ (rows : List (Row ℕ)) (u : Cell ℕ) (class : closure (eq_by_cmp nat_cmp) rows u ≡ Some u) (i v : ℕ)
     (none : slice_get u i ≡ Some None) where
   label_place : (x : Cell ℕ) → closure (eq_by_cmp nat_cmp) rows (cell_prefix i u) ≡ Some x

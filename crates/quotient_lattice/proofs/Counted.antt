@@ -6,7 +6,7 @@ more_than : (n : ℕ) → n + 1 ≤ 2 ^ n
 more_than zero = omega arith
 more_than (suc n) = omega (arith, more_than n, pow-suc 2 n)
 
--- the way up, and the searches below
+-- the way up, and the searches of the cells that generalize it
 pub steps_of_parents : (n d : ℕ) → (2 * n + 2) + (d + 2 * 2 ^ d) * (2 * n + 2) ≤ 16 * (n + 1) * 2 ^ d
 steps_of_parents n d =
     let more : d + 1 ≤ 2 ^ d = more_than d in

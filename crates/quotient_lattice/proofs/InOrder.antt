@@ -36,7 +36,7 @@ module _ (dims : ℕ) (rows : List (Row ℕ)) (wide : AllByRecursion (λ row. le
       let b = and_parts (leq (eq_by_cmp nat_cmp) p u) _ a.0 in
       (b.0, b.1, a.1)
 
-  -- a parent is another cell below
+  -- a parent is another cell that generalizes the child
   pub parent_above : (p u : Cell ℕ) → is_parent nat_cmp rows p u ≡ true → (leq (eq_by_cmp nat_cmp) p u ≡ true) × (p ≢ u)
   parent_above p u h = (
     (parts p u h).0,

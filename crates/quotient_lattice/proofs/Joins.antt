@@ -1,4 +1,4 @@
--- The parents of a class are the cells below it that have another closure and no value to spare.
+-- The parents of a class are the cells that generalize it that have another closure and no value to spare.
 use Rattle.std.proofs.Common.{◌≡◌, ◌≢◌, ℕ, ◌<◌, Bool, true, false, not, ◌||◌, Some, List, refl, sym, ap, ◌∙◌, subst, arith, true≢false}
 use Rattle.std.proofs.lemmas.Bool.{and_parts, and_from}
 use Rattle.std.specs.List.{list_all, range_with_len}
@@ -18,7 +18,7 @@ use Rattle.quotient_lattice.proofs.StepUp.{length-cell, leq-length, not_below, s
 eq : ℕ → ℕ → Bool
 eq = eq_by_cmp nat_cmp
 
--- p is below u and another, and each class between is one of both
+-- p generalizes u and another, and each class between is one of both
 pub record IsJoin (rows : List (Row ℕ)) (p u : Cell ℕ) : Type 0 where
   pub own : closure (eq_by_cmp nat_cmp) rows p ≡ Some p
   pub below : leq (eq_by_cmp nat_cmp) p u ≡ true
@@ -86,7 +86,7 @@ module _ (source : TreeRows) (u : Cell ℕ) (class : closure (eq_by_cmp nat_cmp)
       open_ : closes source u m ≡ true → ⊥
       open_ e = true≢false (sym p.0 ∙ ap not e)
 
-      -- a class above with another value is u
+      -- a class that specializes u without another value is u
       alone : (q : Cell ℕ) → closure (eq_by_cmp nat_cmp) source.rows q ≡ Some q
           → leq (eq_by_cmp nat_cmp) (cell_of_number u m) q ≡ true → leq (eq_by_cmp nat_cmp) q u ≡ true
           → q ≢ cell_of_number u m → q ≡ u

@@ -31,7 +31,7 @@ use Rattle.quotient_lattice.specs.Candidates.{label_leads, lead_count, leads_to}
 use Rattle.quotient_lattice.proofs.ChildLaws.{label_there, put_there}
 use Rattle.quotient_lattice.proofs.NewValues.{Leads, leads-from, leads_is}
 
--- behind a front's last value and before its end the cell has none
+-- after a prefix's last value and before its end the cell has none
 pub any_between : (u : Cell ℕ) (end i : ℕ) → depth (cell_prefix end u) ≤ i → i < end → i < length u
     → slice_get u i ≡ Some None
 any_between [] end i h l k = absurd (omega arith)
@@ -244,7 +244,7 @@ module _ (dims : ℕ) (tree : Tree ℕ) (source : TreeRows) (h : IsTreeOf dims t
       ≡ lead_count source u d low end
   labels_count = counted node_closure.0 node_closure.1
 
-  -- and with those behind them they are those from the node's depth on
+  -- and with those after them they are those from the node's depth on
   pub count_on : lead_count source u d low end + lead_count source u d end dims ≡ lead_count source u d low dims
   count_on =
       let l = low_end in
@@ -257,7 +257,7 @@ module _ (dims : ℕ) (tree : Tree ℕ) (source : TreeRows) (h : IsTreeOf dims t
       ∙ ap (λ a. length (filter (leads_to source u d) (range_with_len low (end - low)))
       + length (filter (leads_to source u d) (range_with_len a (dims - end)))) at)
 
--- each edge of a node lies behind its last value
+-- each edge of a node lies after its last value
 module _ (dims : ℕ) (tree : Tree ℕ) (source : TreeRows) (h : IsTreeOf dims tree source) (k : ℕ)
     (t : IsSome (map.get tree k)) where
   abbrev at : Cell ℕ

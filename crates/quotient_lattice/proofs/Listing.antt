@@ -66,7 +66,7 @@ module _ (xs : List ℕ) (sorted : IsSorted nat_cmp xs) where
   pub one_more : (k i : ℕ) → i < length xs → so_far k (i + 1) ≡ so_far k i + cond (nat_eq k (get_or xs i 0)) 1 0
   one_more k i l = ap (times k) (take_more xs i 0 l) ∙ times-push k (get_or xs i 0) (take i xs)
 
-  -- behind the last place of a number it doesn't stand
+  -- after the last place of a number it doesn't stand
   pub none_behind : (i : ℕ) → i < length xs → (i + 1 < length xs → get_or xs (i + 1) 0 ≢ get_or xs i 0)
       → times (get_or xs i 0) xs ≡ so_far (get_or xs i 0) (i + 1)
   none_behind i l last =

@@ -1,4 +1,4 @@
--- Of what is met, those that have no other below are the most general classes that are asked for.
+-- Of what is met, those that no other generalizes are the most general classes that are asked for.
 use Rattle.std.proofs.Common.{◌≡◌, ◌↔◌, ℕ, Bool, true, false, not, ◌&&◌, ◌||◌, cond, nat_eq, eqb-true, eq-eqb, Some, List, [], ◌∷◌, map}
 use Rattle.std.proofs.Common.{filter, length, refl, sym, ap, ap₂, ◌∙◌, subst, arith}
 use Rattle.std.specs.Prelude.{IsSome}

@@ -1,4 +1,4 @@
--- A class above another is a child of it just where each of its new values leads to it.
+-- A class that specializes another is a child of it just where each of its new values leads to it.
 use Rattle.std.proofs.Common.{◌≡◌, ◌≢◌, ℕ, zero, suc, ◌+◌, ◌-◌, ◌<◌, Bool, true, Option, Some, None, List, [], ◌∷◌, filter, length, is_some}
 use Rattle.std.proofs.Common.{refl, sym, ap, ap₂, ◌∙◌, subst, arith, true≢false, inl}
 use Rattle.std.specs.Prelude.{slice_get}
@@ -48,7 +48,7 @@ count-shift p q n same =
     ∙ ap length (filter_same (λ m. p (1 + m)) q (range_with_len 0 n)
     (all_from _ (range_with_len 0 n) (λ i m. let s : 1 + i ≡ suc i = omega arith in ap p s ∙ same i)))
 
--- a cell above another has its values and the new ones
+-- a cell that specializes another has its values and the new ones
 pub news_count : (u d : Cell ℕ) → leq (eq_by_cmp nat_cmp) u d ≡ true → length u ≡ length d
     → news u d (length u) + value_count u ≡ value_count d
 news_count [] [] h l = refl
@@ -111,7 +111,7 @@ module _ (source : TreeRows) (u d : Cell ℕ) where
   leads_new : (i : ℕ) → leads_to source u d i ≡ true → is_new u d i ≡ true
   leads_new i h = let l = leads_is i h in ap is_some (new_at u d i l.value l.any l.has)
 
-  -- where a value leads, the class is another above
+  -- where a value leads, the class is another that specializes it
   pub led_above : (i : ℕ) → Leads i → leq (eq_by_cmp nat_cmp) u d ≡ true
   led_above i l = leq_trans code_equality u (with_value u i l.value) d (leq_with_any code_equality u i l.value l.any)
       (leq-closure code_equality source.rows (with_value u i l.value) d l.home)

@@ -153,7 +153,7 @@ pub root_edges : (tree : Tree ℕ) (k : ℕ) → last_label (record_at tree k).c
 root_edges tree k e = ap (λ n. edges_up tree n k) (flat (record_at tree k).cell (label_none (record_at tree k).cell e))
 
 module _ (source : TreeRows) (u d : Cell ℕ) (end : ℕ) (x : Edge ℕ ℕ) where
-  -- a label before the dimension leads where its value does, and one behind it isn't looked at
+  -- a label before the dimension leads where its value does, and one after it isn't looked at
   pub before_end : x.dim < end
       → ◌≡◌ {A = ℕ} (cond (label_leads source u d end x) 1 0)
       (cond (has_closure_in source d (with_value u x.dim x.value)) 1 0)

@@ -32,7 +32,7 @@ use Rattle.quotient_lattice.specs.DecodedNodes.{decoded_nodes}
 use Rattle.quotient_lattice.proofs.Coded.{is_parent-coded}
 use Rattle.quotient_lattice.proofs.NodesDecoded.{Passes, class_known, nodes_alike, tells, text_anti, text_total, told_passing}
 
--- cells below one cell stand in the same order by any values
+-- cells that generalize one cell stand in the same order by any values
 below_order : (lists : List (List Text)) (j : ℕ) (u c d : Cell ℕ) → leq (eq_by_cmp nat_cmp) c u ≡ true
     → leq (eq_by_cmp nat_cmp) d u ≡ true → cell_cmp nat_cmp c d ≡ Less
     → cell_cmp text_cmp (coded_cell (text_in lists) j c) (coded_cell (text_in lists) j d) ≡ Less

@@ -53,7 +53,7 @@ module _ (dims : ℕ) (rows : List (Row ℕ)) (wide : AllByRecursion (λ row. le
   class_long c m = covered-length nat_cmp_total numbers.nat_cmp-IsAntisymmetric rows dims wide c
       (filter_among (is_class (eq_by_cmp nat_cmp) rows) c _ m).0
 
-  -- another cell below has fewer values
+  -- another cell that generalizes it has fewer values
   pub fewer : (c d : Cell ℕ) → length c ≡ dims → length d ≡ dims → leq (eq_by_cmp nat_cmp) c d ≡ true → c ≢ d
       → value_count c < value_count d
   fewer c d k l low ne = go (cases_le (value_count d) (value_count c))
@@ -63,7 +63,7 @@ module _ (dims : ℕ) (rows : List (Row ℕ)) (wide : AllByRecursion (λ row. le
           absurd (ne (only_same c d low (k ∙ sym l) (omega (arith, n, le))))
       go (inr less) = less
 
-  -- between a class and another above it there is a child
+  -- between a class and another that specializes it there is a child
   pub child_below : (fuel : ℕ) (c d : Cell ℕ) → Among c (classes nat_cmp rows) → Among d (classes nat_cmp rows)
       → leq (eq_by_cmp nat_cmp) c d ≡ true → c ≢ d → value_count d ≤ fuel
       → (e : Cell ℕ) × Among e (classes nat_cmp rows) × (is_parent nat_cmp rows c e ≡ true)
@@ -107,7 +107,7 @@ module _ (dims : ℕ) (rows : List (Row ℕ)) (wide : AllByRecursion (λ row. le
     abbrev asks : Cell ℕ → Bool
     asks d = qualifies nat_cmp measures rows ask u d
 
-    -- another class below that qualifies, where there is one
+    -- another class that generalizes it and qualifies, where there is one
     lower : (d : Cell ℕ) → list_all (is_no_other nat_cmp measures rows ask u d) (classes nat_cmp rows) ≡ false
         → (e : Cell ℕ) × Among e (classes nat_cmp rows) × (qualifies nat_cmp measures rows ask u e ≡ true)
         × (leq (eq_by_cmp nat_cmp) e d ≡ true) × (e ≢ d)
@@ -121,7 +121,7 @@ module _ (dims : ℕ) (rows : List (Row ℕ)) (wide : AllByRecursion (λ row. le
     Below d = (e : Cell ℕ) × Among e (classes nat_cmp rows) × (is_rolled nat_cmp measures rows ask u e ≡ true)
         × (leq (eq_by_cmp nat_cmp) e d ≡ true)
 
-    -- below each class that qualifies there is a most general one
+    -- each class that qualifies is generalized by a most general one
     pub most_general : (fuel : ℕ) (d : Cell ℕ) → Among d (classes nat_cmp rows)
         → qualifies nat_cmp measures rows ask u d ≡ true → value_count d ≤ fuel → Below d
     most_general zero d m q le = go (list_all (is_no_other nat_cmp measures rows ask u d) (classes nat_cmp rows)) refl
@@ -153,7 +153,7 @@ module _ (dims : ℕ) (rows : List (Row ℕ)) (wide : AllByRecursion (λ row. le
           → is_rolled nat_cmp measures rows ask u d ≡ true → leq (eq_by_cmp nat_cmp) c d ≡ true
           → value_count d ≤ value_count c + fuel → Seen d
 
-      -- a class that is seen and another below one of the most general doesn't qualify
+      -- a class that is seen and generalizes one of the most general, which is another, doesn't qualify
       out : (c d : Cell ℕ) → Seen c → is_rolled nat_cmp measures rows ask u d ≡ true
           → leq (eq_by_cmp nat_cmp) c d ≡ true → c ≢ d → (b : Bool)
           → qualifies nat_cmp measures rows ask u c ≡ b → b ≡ false
@@ -166,7 +166,7 @@ module _ (dims : ℕ) (rows : List (Row ℕ)) (wide : AllByRecursion (λ row. le
           = sym (ap₂ (λ a b. not (a && b) || cell_eq (eq_by_cmp nat_cmp) c d) e low) ∙ t in
           absurd (ne (cell_eq-exact code_equality c d f))
 
-      -- a most general class above a class that is seen is seen
+      -- a most general class that specializes a class that is seen is seen
       pub reached : (fuel : ℕ) → Reaches fuel
       reached zero c d s m r low le = go (cell_eq (eq_by_cmp nat_cmp) c d) refl
         where

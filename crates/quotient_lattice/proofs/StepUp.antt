@@ -1,4 +1,4 @@
--- From one cell below a cell up to another, value by value.
+-- From one cell that generalizes a cell up to another, value by value.
 use Rattle.std.proofs.Common.{◌≡◌, ◌≢◌, ℕ, suc, ◌<◌, ◌≤◌, Bool, true, false, not, Option, Some, None, [], ◌∷◌, length, refl, sym, ap, ap₂}
 use Rattle.std.proofs.Common.{◌∙◌, subst, arith, nat_eq, eqb-true, eq-eqb, true≢false}
 use Rattle.std.specs.Prelude.{if◌then◌else◌}
@@ -10,14 +10,14 @@ use Rattle.cube_laws.specs.Parts.{value_count}
 use Rattle.cells_below.proofs.CallerLemmas.{none_kept, same_cell, turned_other, turned_same}
 
 module _ {A : Type 0} {eq : A → A → Bool} (law : IsEquality eq) where
-  -- a bit that the number lacks, whose value q has, where the number's cell is below q, which is below u
+  -- a bit that the number misses, whose value q has, where the number's cell generalizes q, which generalizes u
   abbrev pub Step : Cell A → Cell A → ℕ → Type 0
   Step u q m = (k : ℕ) × (k < value_count u) × (has_bit m k ≡ false) × (leq eq (cell_of_number u (turned m k)) q ≡ true)
 
   same_value : (v w : A) → eq w v ≡ true → Some v ≡ Some w
   same_value v w h = ap (λ x. Some x) (sym (law.exact w v h))
 
-  -- behind an entry that both have
+  -- after an entry that both have
   behind : (e f : Option A) (u q : Cell A) (m : ℕ)
       → ((k : ℕ) → k < value_count u → entry_leq eq (if has_bit (turned m k) (value_count u) then e else None) f ≡ true)
       → value_count u < suc (value_count (e ∷ u)) → Step u q m → Step (e ∷ u) (f ∷ q) m
@@ -73,7 +73,7 @@ module _ {A : Type 0} {eq : A → A → Bool} (law : IsEquality eq) where
                 sym (turned_other m (value_count u) j apart))) p.1),
           )
 
-  -- a cell below another is no longer
+  -- a cell that generalizes another is no longer
   pub leq-length : (c d : Cell A) → leq eq c d ≡ true → length c ≤ length d
   leq-length [] d h = omega arith
   leq-length (e ∷ c) [] h = absurd (true≢false (sym h))

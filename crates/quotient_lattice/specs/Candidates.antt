@@ -1,4 +1,4 @@
--- Which values lead from a class to a class above it.
+-- Which values lead from a class to a class that specializes it.
 use Rattle.std.specs.Prelude.{◌≡◌, ℕ, zero, suc, ◌+◌, ◌-◌, Bool, false, ◌&&◌, Option, Some, None, List, filter, length, nat_eq, nat_lt}
 use Rattle.std.specs.Prelude.{slice_get, IsSome}
 use Rattle.std.specs.FinMap as map
@@ -50,7 +50,7 @@ abbrev pub ancestor_count : (ℕ → ℕ) → Option ℕ → ℕ
 ancestor_count f None = 0
 ancestor_count f (Some k) = f k
 
--- how many edges the records have of a node and of so many nodes above it on the way to the root
+-- how many edges the records have of a node and of so many of its ancestors
 abbrev pub edges_up : Tree ℕ → ℕ → ℕ → ℕ
 edges_up tree zero k = length (record_at tree k).edges
 edges_up tree (suc n) k = length (record_at tree k).edges + ancestor_count (edges_up tree n) (record_at tree k).parent

@@ -31,12 +31,12 @@ module _ {A : Type 0} (cmp : A → A → Ordering) where
   abbrev pub qualifies : ℕ → List (Row A) → Ask → Cell A → Cell A → Bool
   qualifies measures rows ask u d = leq (eq_by_cmp cmp) u d && passes_bound ask (agg (eq_by_cmp cmp) measures rows d)
 
-  -- e is no other class below d that qualifies
+  -- e is no other class that generalizes d that qualifies
   abbrev pub is_no_other : ℕ → List (Row A) → Ask → Cell A → Cell A → Cell A → Bool
   is_no_other measures rows ask u d e = not (qualifies measures rows ask u e && leq (eq_by_cmp cmp) e d)
       || cell_eq (eq_by_cmp cmp) e d
 
-  -- it qualifies, and no other class below it does
+  -- it qualifies, and no other class that generalizes it does
   abbrev pub is_rolled : ℕ → List (Row A) → Ask → Cell A → Cell A → Bool
   is_rolled measures rows ask u d
       = qualifies measures rows ask u d && list_all (is_no_other measures rows ask u d) (classes cmp rows)

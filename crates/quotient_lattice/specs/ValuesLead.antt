@@ -1,4 +1,4 @@
--- Classes above a class, by the values that they have and it has not.
+-- Classes that specialize a class, by the values that they have and it has not.
 use Rattle.std.specs.Prelude.{◌≡◌, slice_get, ℕ, Some, None, List}
 use Rattle.std.specs.Ordering.{nat_cmp, eq_by_cmp}
 use Rattle.cube_defs.specs.Cell.{Cell, with_value}

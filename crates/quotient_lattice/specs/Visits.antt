@@ -29,11 +29,11 @@ pub record IsVisited (tree : Tree ℕ) (source : TreeRows) (ask : Ask) (k : ℕ)
       ↔ ((wants tree ask k ≡ false)
       × IsPassing tree source (λ d. is_parent nat_cmp source.rows (record_at tree k).cell d) j)
 
--- y is no other below x
+-- y is no other that generalizes x
 abbrev pub is_no_generalization : NodeCell → NodeCell → Bool
 is_no_generalization x y = not (defs.leq nat_eq y.cell x.cell) || nat_eq y.node.0 x.node.0
 
--- none of them is another below it
+-- none of them is another that generalizes it
 abbrev pub is_most_general_among : List NodeCell → NodeCell → Bool
 is_most_general_among xs x = list_all (is_no_generalization x) xs
 

@@ -69,7 +69,7 @@ module _ {A : Type 0} (eq : A → A → Bool) (rows : List (Row A)) where
   labels_any : (box : Box A) (p : Cell A) (i : ℕ) → labels (None ∷ box) p i ≡ 1 + labels box p (suc i)
   labels_any box p i = ap (λ n. n * 1 + labels box p (suc i)) (any_one (None ∷ box) p i)
 
-  -- the work behind one value
+  -- the work after one value
   abbrev behind : Box A → Cell A → ℕ → A → ℕ
   behind box p i v = if_covered eq rows 0 (λ q. labels box q (suc i)) (with_value p i v)
 

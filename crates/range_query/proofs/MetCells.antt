@@ -40,7 +40,7 @@ module _ {A : Type 0} {cmp : A → A → Ordering} (total : IsTotalOrder cmp) (a
       go None e = absurd (true≢false (sym h ∙ ap is_some e))
       go (Some u) e = (u, e)
 
-  -- what is below a cell that covers a row covers it too
+  -- what generalizes a cell that covers a row covers it too
   covered_below : (p c : Cell A) → leq eq p c ≡ true → is_covered eq rows c ≡ true → is_covered eq rows p ≡ true
   covered_below p c l h = let u = some_of c h in ap is_some (closure_some law rows p c u.0 l u.1).1
 

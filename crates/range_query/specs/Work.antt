@@ -6,7 +6,7 @@ use Rattle.cube_defs.specs.Rows.{Row}
 use Rattle.cube_defs.specs.Tree.{covered}
 use Rattle.cube_defs.specs.Answers.{Box, in_box}
 
--- the choices of the first j dimensions, and Any alone behind them
+-- the choices of the first j dimensions, and Any alone after them
 abbrev pub prefix_box : {A : Type 0} → ℕ → Box A → Box A
 prefix_box j [] = []
 prefix_box zero (a ∷ box) = None ∷ prefix_box zero box
@@ -23,7 +23,7 @@ total_over reached [] = 0
 total_over reached (a ∷ box) = reached 0 * (1 + choices a) + total_over (λ j. reached (suc j)) box
 
 module _ {A : Type 0} (cmp : A → A → Ordering) where
-  -- the cells that cover a row, have in the first j dimensions what the box allows, and Any behind
+  -- the cells that cover a row, have in the first j dimensions what the box allows, and Any after
   abbrev pub reached : List (Row A) → Box A → ℕ → ℕ
   reached rows box j = length (filter (in_box (eq_by_cmp cmp) (prefix_box j box)) (covered cmp rows))
 

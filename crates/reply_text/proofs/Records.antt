@@ -23,7 +23,7 @@ fields-append [] ys = refl
 fields-append (x ∷ xs) ys = ap (λ (z : List ℕ). 44 ∷ x ++ z) (fields-append xs ys)
     ∙ ap (λ (z : List ℕ). 44 ∷ z) (sym (append_assoc x (fields_text xs) (fields_text ys)))
 
--- the first field, and each other behind a comma
+-- the first field, and each other after a comma
 pub record-fields : (x : Text) (xs : List Text) → join_with_byte 44 (x ∷ xs) ≡ x ++ fields_text xs
 record-fields x [] = sym (append-nil x)
 record-fields x (y ∷ ys) = ap (λ (z : List ℕ). x ++ 44 ∷ z) (record-fields y ys)
@@ -52,7 +52,7 @@ parts-more count measures parts k h l = rw add-one (by measures parts k h l)
 pub part-there : (a : Agg) (k : ℕ) → k < a.measures → k < length a.parts → k < length (agg_in a).parts
 part-there a k h l = omega (arith, length-map (take a.measures a.parts) part_in, length-take a.measures a.parts)
 
--- a record behind other bytes, whose first fields were written before
+-- a record after other bytes, whose first fields were written before
 pub record-more : (out word line : Text) (cell more : List Text)
     → (((out ++ word) ++ fields_text (line ∷ cell)) ++ fields_text more) ++ 10 ∷ [] ≡ out
     ++ record_text (word ∷ line ∷ cell ++ more)

@@ -20,11 +20,11 @@ use Rattle.warehouse.specs.Widening as widenings
 abbrev pub record_text : List Text → List ℕ
 record_text fields = join_with_byte 44 fields ++ 10 ∷ []
 
--- fields behind others, each with its comma
+-- fields after others, each with its comma
 abbrev pub fields_text : List Text → List ℕ
 fields_text fields = flat_map (λ field. 44 ∷ field) fields
 
--- a word, and a number behind it
+-- a word, and a number after it
 abbrev pub numbered : Text → ℕ → List Text
 numbered word k = word ∷ decimal k ∷ []
 
@@ -135,7 +135,7 @@ begins_with_equals (b ∷ bs) = b == 61
 abbrev pub is_marked : Text → Bool
 is_marked value = bytes_eq value (codes "*") || is_several value || begins_with_equals value
 
--- a value as it is asked: such a one has `=` in front
+-- a value as it is asked: such a one has `=` before it
 abbrev pub value_text : Text → Text
 value_text value = if is_marked value then 61 ∷ value else value
 

@@ -11,7 +11,7 @@ abbrev pub after_draws : ℕ → ℕ → ℕ
 after_draws zero s = s
 after_draws (suc k) s = after_draws k (after_draw s)
 
--- the number below `most` that a draw gives, from the high bits of the state behind it
+-- the number less than `most` that a draw gives, from the high bits of the state after it
 unfoldable pub number_drawn : ℕ → ℕ → ℕ
 number_drawn most s = s / 2 ^ 33 % most
 
@@ -36,7 +36,7 @@ amount_of id = pos (id % 1001) -ℤ pos 500
 unfoldable pub row_text : ℕ → ℕ → List ℕ
 row_text id s = decimal id ++ values_text s ++ 44 ∷ amount_text 2 (amount_of id) ++ 10 ∷ []
 
--- the records of so many rows, of which the first has this id, each behind the same front
+-- the records of so many rows, of which the first has this id, each after the same prefix
 abbrev pub rows_text : List ℕ → ℕ → ℕ → ℕ → List ℕ
 rows_text front zero id s = []
 rows_text front (suc k) id s = front ++ row_text id s ++ rows_text front k (id + 1) (after_draws 5 s)
@@ -63,11 +63,11 @@ base_text rows s = codes "id,a,b,c,d,e,amount\n" ++ rows_text [] rows 1 s
 unfoldable pub batch_rows : ℕ → ℕ
 batch_rows rows = min rows 50
 
--- the id of the oldest row behind so many batches
+-- the id of the oldest row after so many batches
 abbrev pub oldest_id : ℕ → ℕ → ℕ
 oldest_id rows before = before * batch_rows rows + 1
 
--- The batch that so many others stand before: the oldest rows go, and as many come behind the newest.
+-- The batch that so many others stand before: the oldest rows go, and as many come after the newest.
 unfoldable pub batch_text : ℕ → ℕ → ℕ → List ℕ
 batch_text rows before s =
     codes "op,id,a,b,c,d,e,amount\n"

@@ -19,7 +19,7 @@ use Rattle.text_lines.specs.Plain.{is_plain_byte, pieces}
 
 -- ---- the machine
 
--- the bytes of a field in front of the first piece
+-- the bytes of a field before the first piece
 abbrev behind : Text → List Text → List Text
 behind field [] = field ∷ []
 behind field (piece ∷ more) = (field ++ piece) ∷ more
@@ -53,7 +53,7 @@ start-field b h = grind (arith, nat_tests)
 in-field : IsInside st.InField
 in-field b h = grind (arith, nat_tests)
 
--- the read of a plain text behind the fields so far and the bytes of the field at hand
+-- the read of a plain text after the fields so far and the bytes of the field at hand
 abbrev ReadsPieces : List ℕ → State → Type 0
 ReadsPieces text s = (fields : List Text) (field : Text)
     → next_record default_config s fields field text ≡ Some (fields ++ behind field (pieces text), st.StartRecord, [])

@@ -13,7 +13,7 @@ use Rattle.csv.specs.declared.parser.Action.{Action}
 use Rattle.csv.specs.declared.parser.Action.TheVariants as act
 use Rattle.csv.specs.declared.parser.Terminator.TheVariants as term
 
--- behind a record the machine is between records
+-- after a record the machine is between records
 record IsGood (x : State × Action) : Type 0 where
   is : is_end x.1 ≡ true → ends_at_end x.0 ≡ false
 

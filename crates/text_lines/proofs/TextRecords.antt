@@ -86,7 +86,7 @@ is-text a p e h =
     let same : a ≡ p = ap (λ (o : Option Read). unwrap_or o p) e in
     rw (← same) h
 
--- what is read behind some bytes is text
+-- what is read after some bytes is text
 abbrev ReadsText : List ℕ → Read → Type 0
 ReadsText rest p = (s : State) (fields : List (List ℕ)) (field : List ℕ) → All IsUtf8 fields → IsUtf8 field
     → next_record default_config s fields field rest ≡ Some p → IsText p

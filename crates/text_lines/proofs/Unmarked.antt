@@ -1,4 +1,4 @@
--- What csv drops at the front of a text.
+-- What csv drops at the beginning of a text.
 use Rattle.std.proofs.Common.{◌≡◌, ◌≤◌, arith, length, ◌∙◌, ℕ, List, [], ◌∷◌, refl, sym, ap, true, false, Bool, cond, eqb-true}
 use Rattle.std.specs.Prelude.{◌&&◌, ◌==◌, drop}
 use Rattle.std.proofs.lemmas.Bool.{and_parts}
@@ -12,7 +12,7 @@ is-mark a b c rest h =
     let q = and_parts (a == 0xEF) (b == 0xBB) p.0 in
     rw (eqb-true a 0xEF q.0, eqb-true b 0xBB q.1, eqb-true c 0xBF p.1) refl
 
--- where no mark stands in front, nothing is dropped
+-- where no mark stands before it, nothing is dropped
 pub unmarked : (text : List ℕ) → begins_with_mark text ≡ false → strip_bom text ≡ text
 unfolding strip_bom
 unmarked [] e = refl
@@ -29,7 +29,7 @@ pub as_it_stands : (text : List ℕ) → begins_with_mark text ≡ false
     → records default_config (strip_bom text) ≡ records default_config text
 as_it_stands text e = ap (records default_config) (unmarked text e)
 
--- no mark stands behind the one that is dropped, where there aren't two
+-- no mark stands after the one that is dropped, where there aren't two
 pub no_second : (text : List ℕ) → begins_with_two_marks text ≡ false → begins_with_mark (without_mark text) ≡ false
 no_second text e = by (begins_with_mark text) refl e
   where

@@ -20,7 +20,7 @@ piece-whole [] none = refl
 piece-whole (b ∷ bs) none
     = rw (ne_eqb b 32 (none 0 (omega arith)), piece-whole bs (λ k h. none (suc k) (omega arith))) refl
 
--- spaces in front of the words
+-- spaces before the words
 pub words-skip : (xs : List ℕ) (i : ℕ) → i ≤ length xs → ((k : ℕ) → k < i → get_or xs k 0 ≡ 32)
     → words_of (drop i xs) ≡ words_of xs
 unfolding words_of

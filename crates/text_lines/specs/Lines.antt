@@ -1,8 +1,8 @@
--- The lines of a text, and the byte order mark in front of it.
+-- The lines of a text, and the byte order mark before it.
 use Rattle.std.specs.Prelude.{ℕ, Bool, false, List, [], ◌∷◌, ◌==◌, ◌&&◌, take, drop, length, slice_index, ◌-◌, nat_eq, if◌then◌else◌}
 use Rattle.std.specs.List.{starts_with}
 
--- a byte in front of the first of some pieces
+-- a byte before the first of some pieces
 abbrev pub with_first : ℕ → List (List ℕ) → List (List ℕ)
 with_first b [] = (b ∷ []) ∷ []
 with_first b (piece ∷ pieces) = (b ∷ piece) ∷ pieces
@@ -28,10 +28,10 @@ mark = 0xEF ∷ 0xBB ∷ 0xBF ∷ []
 abbrev pub begins_with_mark : List ℕ → Bool
 begins_with_mark text = starts_with nat_eq text mark
 
--- the byte order mark, and directly behind it another
+-- the byte order mark, and directly after it another
 abbrev pub begins_with_two_marks : List ℕ → Bool
 begins_with_two_marks text = begins_with_mark text && begins_with_mark (drop 3 text)
 
--- a text without the byte order mark at its front, where it has one
+-- a text without the byte order mark at its beginning, where it has one
 abbrev pub without_mark : List ℕ → List ℕ
 without_mark text = if begins_with_mark text then drop 3 text else text

@@ -17,7 +17,7 @@ use Rattle.tree_laws.proofs.Prefixes.{cell_prefix-cell_prefix, any_after, leq-wi
 use Rattle.tree_laws.proofs.Nexts.{next-ge, next-entry}
 
 module _ {A : Type 0} {eq : A → A → Bool} (law : IsEquality eq) (rows : List (Row A)) where
-  -- each front of a node is a node
+  -- each prefix of a node is a node
   pub node_prefixes : (c : Cell A) (k : ℕ) → is_node eq rows c ≡ true → is_node eq rows (cell_prefix k c) ≡ true
   node_prefixes c k h =
       let u = node_closed law rows c h in
@@ -37,7 +37,7 @@ module _ {A : Type 0} {eq : A → A → Bool} (law : IsEquality eq) (rows : List
       (class_prefixes law rows (suc i) f.0
       ((is_class-is law rows f.0).1 (closure_idem law rows (with_value p i v) f.0 f.1)))
 
-  -- which is above p with the value
+  -- which specializes p with the value
   pub lead_above : (p : Cell A) (i : ℕ) (v : A) (c : Cell A) → depth p ≤ i → i < length p
       → target_of_label eq rows p i v ≡ Some c → leq eq (with_value p i v) c ≡ true
   lead_above p i v c d l h =

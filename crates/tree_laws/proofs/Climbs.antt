@@ -1,4 +1,4 @@
--- A cell read from its end to its front, and a node's cell on the way up to the root.
+-- A cell read from its end to its prefix, and a node's cell on the way up to the root.
 use Rattle.std.proofs.Common.{◌≡◌, ℕ, zero, suc, ◌-◌, ◌≤◌, ◌==◌, Option, Some, None, List, [], ◌∷◌, length, replicate, refl, sym, ap, ap₂}
 use Rattle.std.proofs.Common.{subst, ◌∙◌, slice_get, arith, eqb-true, eq-eqb}
 use Rattle.std.specs.Prelude.{slice_index_or}
@@ -37,7 +37,7 @@ module _ {A : Type 0} where
   from_value (e ∷ c) zero v h = ap₂ (λ x y. x ∷ y) (sym (cc)) (from_zero c)
   from_value (e ∷ c) (suc j) v h = ap (λ x. None ∷ x) (from_value c j v h)
 
-  -- nothing stands between a front's end and its length
+  -- nothing stands between a prefix's end and its length
   from_prefix : (c : Cell A) (j : ℕ) → from_on j c ≡ from_on (depth (cell_prefix j c)) c
   from_prefix [] j = refl
   from_prefix (e ∷ c) zero = ap (λ n. from_on n (e ∷ c)) (sym flat)
@@ -94,7 +94,7 @@ module _ {A : Type 0} where
           let second : r.0 ≡ v = ap (λ x. x.1) p in
           (e ∙ ap suc first, ap (slice_get c) (sym first) ∙ r.2 ∙ ap (λ w. Some (Some w)) second)
 
-  -- out has what the cell has behind its front p
+  -- out has what the cell has after its prefix p
   pub record Shows (cell p out : Cell A) : Type 0 where
     pub front : p ≡ cell_prefix (depth p) cell
     pub rest : out ≡ from_on (depth p) cell
@@ -131,7 +131,7 @@ module _ {A : Type 0} {cmp : A → A → Ordering} (total : IsTotalOrder cmp) (a
   law = equality_by total anti
 
   module _ (k : ℕ) (n : Node A ℕ) (g : map.get tree k ≡ Some n) where
-    -- a node has a closure, whose front it is
+    -- a node has a closure, whose prefix it is
     node_closure : (u : Cell A) × (closure (eq_by_cmp cmp) rows n.cell ≡ Some u)
         × (cell_prefix (depth n.cell) u ≡ n.cell)
     node_closure = node_closed law rows n.cell (canonical.each k n g).0

@@ -1,4 +1,4 @@
--- The lower bounds of a class stand among the cells below it.
+-- The lower bounds of a class stand among the cells that generalize it.
 use Rattle.std.proofs.Common.{◌≡◌, ◌↔◌, ℕ, suc, true, Some, None, List, [], ◌∷◌, map, filter, length, refl, sym, ap, subst, ◌∙◌, inl, inr}
 use Rattle.std.proofs.Common.{arith, true≢false}
 use Rattle.std.specs.List.Sorted.{IsStrictlySortedBy}
@@ -35,7 +35,7 @@ module _ {X Y : Type 0} (f : X → Y) where
       = (all_map_from (λ y. cmp x y ≡ Less) (λ y. dmp (f x) y ≡ Less) xs (λ y. g x y) h.0, rises_map cmp dmp xs g h.1)
 
 module _ {A : Type 0} {cmp : A → A → Ordering} (total : IsTotalOrder cmp) where
-  -- the cells below a cell stand in order
+  -- the cells that generalize a cell stand in order
   pub below_rises : (u : Cell A) → IsStrictlySortedBy (cell_cmp cmp) (below u)
   unfolding IsStrictlySortedBy
   below_rises [] = (tt, tt)
@@ -53,7 +53,7 @@ module _ {A : Type 0} {cmp : A → A → Ordering} (total : IsTotalOrder cmp) wh
       same_first : (x y : Cell A) → cell_cmp cmp x y ≡ Less → cell_cmp cmp (Some v ∷ x) (Some v ∷ y) ≡ Less
       same_first x y h = ap (λ o. ordering_then o (cell_cmp cmp x y)) (tied_itself total v) ∙ h
 
-  -- they are just the cells of its length that are below it
+  -- they are just the cells of its length that generalize it
   below_is : (law : IsEquality (eq_by_cmp cmp)) (c u : Cell A) → Among c (below u) → (length c ≡ length u)
       × (leq (eq_by_cmp cmp) c u ≡ true)
   below_is law c [] h = elim h [ inl e ↦ (ap length e, ap (λ x. leq (eq_by_cmp cmp) x []) e) | inr k ↦ absurd k ]
@@ -97,7 +97,7 @@ module _ {A : Type 0} {cmp : A → A → Ordering} (total : IsTotalOrder cmp) (a
   pub below-is : (c u : Cell A) → Among c (below u) ↔ ((length c ≡ length u) × (leq (eq_by_cmp cmp) c u ≡ true))
   below-is c u = (λ m. below_is total law c u m, λ h. is_below total law c u h.0 h.1)
 
-  -- the lower bounds of a class are the tested cells below it, in their order
+  -- the lower bounds of a class are the tested cells that generalize it, in their order
   pub lower_bounds-below : (dims : ℕ) (rows : List (Row A)) (u : Cell A)
       → AllByRecursion (λ row. length row.tuple ≡ dims) rows → length u ≡ dims
       → lower_bounds cmp rows u ≡ filter (is_lower_bound (eq_by_cmp cmp) rows u) (below u)

@@ -1,4 +1,4 @@
--- The next value of a cell, and the fronts up to it.
+-- The next value of a cell, and the prefixes up to it.
 use Rattle.std.proofs.Common.{◌≡◌, ℕ, zero, suc, ◌≤◌, ◌<◌, Option, Some, None, [], ◌∷◌, length, slice_get, refl, ap, ◌∙◌, arith}
 use Rattle.std.specs.declared.cmp.Ordering.{Ordering}
 use Rattle.cube_defs.specs.Cell.{Cell, depth, depth_with, cell_prefix}
@@ -66,7 +66,7 @@ module _ {A : Type 0} (cmp : A → A → Ordering) where
   next-chain zero (e ∷ u) h = omega arith
   next-chain (suc i) (e ∷ u) h = next-deeper e (depth (cell_prefix i u)) i u (next-chain i u (omega arith))
 
-  -- all fronts between are the same
+  -- all prefixes between are the same
   pub cell_prefix-between : (d i : ℕ) (u : Cell A) → d ≤ i → i ≤ next_value cmp d u → cell_prefix i u ≡ cell_prefix d u
   cell_prefix-between d i [] h k = refl
   cell_prefix-between zero zero (e ∷ u) h k = refl

@@ -150,7 +150,7 @@ module _ {A : Type 0} {cmp : A → A → Ordering} (total : IsTotalOrder cmp) (a
             (xs ++ ys) (cell_prefix x.dim u) x.dim x.value
         led w = lead_other (equality_by total anti) xs r ys p x.dim x.value c w.behind w.within o ∙ chain w
 
-    -- the one with the row's value leads to what the old chain node's target and the row share, or to the row's front
+    -- the one with the row's value leads to what the old chain node's target and the row share, or to the row's prefix
     pub own_edge : slice_get r.tuple x.dim ≡ Some x.value
         → Among x (record_of cmp measures (xs ++ r ∷ ys) p (meet (eq_by_cmp cmp) u (cell_of r.tuple))).edges
         ↔ (IsWithin p (next_value cmp (depth p) (meet (eq_by_cmp cmp) u (cell_of r.tuple))) x.dim

@@ -1,4 +1,4 @@
--- The fronts of cells, and cells with a value more.
+-- The prefixes of cells, and cells with a value more.
 use Rattle.std.proofs.Common.{◌≡◌, ◌==◌, ℕ, zero, suc, ◌-◌, ◌≤◌, ◌<◌, nat_cmp, nat_eq, replicate, Bool, false, true, ◌&&◌, Option, Some}
 use Rattle.std.proofs.Common.{None, [], ◌∷◌, length, slice_get, refl, sym, ap, ◌∙◌, arith}
 use Rattle.std.proofs.lemmas.Bool.{and_parts, and_from, cond-false}
@@ -43,7 +43,7 @@ module _ {A : Type 0} where
       deep None = refl
       deep (Some w) = refl
 
-  -- a cell's last value stands behind its front
+  -- a cell's last value stands after its prefix
   pub split_last : (c : Cell A) (i : ℕ) → depth c ≡ suc i → (v : A) × (c ≡ with_value (cell_prefix i c) i v)
       × (slice_get c i ≡ Some (Some v))
   split_last [] i h = absurd (omega arith)
@@ -68,14 +68,14 @@ module _ {A : Type 0} where
   cell_prefix-cell_prefix (suc k) zero (e ∷ u) h = absurd (omega arith)
   cell_prefix-cell_prefix (suc k) (suc n) (e ∷ u) h = ap (λ x. e ∷ x) (cell_prefix-cell_prefix k n u (omega arith))
 
-  -- behind a cell's last value there is Any
+  -- after a cell's last value there is Any
   pub any_after : (p : Cell A) (i : ℕ) → depth p ≤ i → i < length p → slice_get p i ≡ Some None
   any_after [] i h l = absurd (omega arith)
   any_after (None ∷ p) zero h l = refl
   any_after (Some v ∷ p) zero h l = absurd (omega arith)
   any_after (e ∷ p) (suc i) h l = any_after p i (shallower e (depth p) i h) (omega arith)
 
-  -- a front one longer
+  -- a prefix one longer
   pub upto-entry : (u : Cell A) (e : ℕ) (w : A) → slice_get u e ≡ Some (Some w)
       → upto u e ≡ with_value (cell_prefix e u) e w
   upto-entry [] e w h = cc
@@ -88,7 +88,7 @@ module _ {A : Type 0} where
   upto-none (f ∷ u) (suc e) h = ap (λ x. f ∷ x) (upto-none u e h)
 
 module _ {A : Type 0} {eq : A → A → Bool} (law : IsEquality eq) where
-  -- p + (i, v) is below what p and the value are below
+  -- p + (i, v) generalizes what p and the value generalize
   pub with_value-leq : (p d : Cell A) (i : ℕ) (v : A) → depth p ≤ i → i < length p
       → leq eq (with_value p i v) d ≡ (leq eq p d && leq eq (one_value i v) d)
   with_value-leq [] d i v h l = absurd (omega arith)
@@ -106,7 +106,7 @@ module _ {A : Type 0} {eq : A → A → Bool} (law : IsEquality eq) where
       grouped : (a b c : Bool) → (a && (b && c)) ≡ ((a && b) && c)
       grouped a b c = grind arith
 
-  -- a value behind a cell's last leads to a greater cell
+  -- a value after a cell's last leads to a greater cell
   pub leq-with_value : (p : Cell A) (i : ℕ) (v : A) → depth p ≤ i → leq eq p (with_value p i v) ≡ true
   leq-with_value [] i v h = refl
   leq-with_value (None ∷ p) zero v h = leq_refl law p
@@ -144,7 +144,7 @@ module _ {A : Type 0} where
   get-cell_prefix zero (suc n) (e ∷ c) h = refl
   get-cell_prefix (suc k) (suc n) (e ∷ c) h = get-cell_prefix k n c (omega arith)
 
--- the front before a new last value
+-- the prefix before a new last value
 pub cell_prefix-with_value : {A : Type 0} (p : Cell A) (i : ℕ) (v : A) → depth p ≤ i
     → cell_prefix i (with_value p i v) ≡ p
 cell_prefix-with_value [] i v h = refl

@@ -51,7 +51,7 @@ module _ {A : Type 0} {eq : A → A → Bool} (law : IsEquality eq) where
         λ k. ap₂ (λ x y. x ∷ y) s (r.1 (omega arith)),
       )
 
-  -- where p was a node with the closure u, and has w now: it stays a node just where w's first new value is behind p's
+  -- where p was a node with the closure u, and has w now: it stays a node just where w's first new value is after p's
   -- last
   pub node_after : (before after : List (Row A)) (p u w : Cell A) → is_node eq before p ≡ true
       → closure eq before p ≡ Some u → closure eq after p ≡ Some w → leq eq u w ≡ true → length u ≡ length w
@@ -155,7 +155,7 @@ module _ {A : Type 0} {cmp : A → A → Ordering} (total : IsTotalOrder cmp) (a
             (xs ++ ys) p x.dim x.value
         same i = lead_other law_by xs r ys p x.dim x.value c i.behind i.within o
 
-    -- the one with the row's value leads from its old target to the front of what closure that has now
+    -- the one with the row's value leads from its old target to the prefix of what closure that has now
     pub own_edge_less : (t : Cell A)
         → Among (record { dim = x.dim; value = x.value; target = t }) (record_of cmp measures (xs ++ r ∷ ys) p u).edges
         → Among x (record_of cmp measures (xs ++ ys) p w).edges

@@ -1,4 +1,4 @@
--- One step of a search, from the front of a closure to the next.
+-- One step of a search, from the beginning of a closure to the next.
 use Rattle.std.proofs.Common.{◌≡◌, inl, inr, ℕ, zero, suc, ◌<◌, Bool, true, false, cond, Option, Some, None, List, [], ◌∷◌, length}
 use Rattle.std.proofs.Common.{slice_get, refl, sym, ap, ap₂, subst, ◌∙◌, arith, nat_eq, eqb-true, eq-eqb, true≢false}
 use Rattle.std.proofs.lemmas.Bool.{cond-true, cond-false, false_from_ne_true}
@@ -66,7 +66,7 @@ module _ {A : Type 0} {cmp : A → A → Ordering} (total : IsTotalOrder cmp) (a
     within : i < length (cell_prefix i u)
     within = omega (arith, length-cell_prefix i u)
 
-    -- the front has the same closure
+    -- the prefix has the same closure
     pub prefix_closure : closure (eq_by_cmp cmp) rows (cell_prefix i u) ≡ Some u
     prefix_closure = closure_between law rows (cell_prefix i c) (cell_prefix i u) u is
         (leq-chain law rows (cell_prefix i c) u i is (depth-cell_prefix-le i c)) (cell_prefix-leq law i u)
@@ -98,7 +98,7 @@ module _ {A : Type 0} {cmp : A → A → Ordering} (total : IsTotalOrder cmp) (a
         both : slice_get u i ≡ slice_get u (next_value cmp (depth (cell_prefix i u)) u) → ⊥
         both q = cc
 
-    -- the front one dimension on
+    -- the prefix one dimension on
     prefix_any : slice_get c i ≡ Some None
         → closure_prefix (eq_by_cmp cmp) rows c (suc i) ≡ Some (cell_prefix (suc i) u)
     prefix_any h = ap (λ d. option_map (cell_prefix (suc i)) (closure (eq_by_cmp cmp) rows d)) (upto-none c i h)

@@ -71,7 +71,7 @@ module _ {A : Type 0} {cmp : A → A → Ordering} (total : IsTotalOrder cmp) (a
         ∙ walk_on-renamed law (λ c. Some c) (cell_prefix i u) (record_of cmp measures rows (cell_prefix i u) u) i a
         ∙ ap (option_map (λ c. Some c)) (step total anti measures rows c u i is lc lu a q)
 
-  -- one dimension on: from the front of c's closure to the front that is one longer
+  -- one dimension on: from the beginning of c's closure to the prefix that is one longer
   pub walk_step : (k : ℕ) (n : Node A ℕ) (c : Cell A) (i : ℕ) (a : Option A) → length c ≡ dims → slice_get c i ≡ Some a
       → i < dims → map.get tree k ≡ Some n → Some n.cell ≡ closure_prefix (eq_by_cmp cmp) rows c i
       → option_map (cell_at tree) (walk_on (eq_by_cmp cmp) k n i a) ≡ option_map (λ c. Some c)
@@ -87,7 +87,7 @@ module _ {A : Type 0} {cmp : A → A → Ordering} (total : IsTotalOrder cmp) (a
           = closure_length (eq_by_cmp cmp) dims (cell_prefix i c) u rows wide is in
           stepped k n c u i g is (some_same at) (omega arith) (omega arith) a q
 
-  -- at the end the front is all
+  -- at the end the prefix is all
   walk_end : (c : Cell A) (i : ℕ) → length c ≡ dims → dims ≤ i
       → closure_prefix (eq_by_cmp cmp) rows c i ≡ closure (eq_by_cmp cmp) rows c
   walk_end c i long l = ap (λ d. option_map (cell_prefix i) (closure (eq_by_cmp cmp) rows d))
@@ -98,7 +98,7 @@ module _ {A : Type 0} {cmp : A → A → Ordering} (total : IsTotalOrder cmp) (a
       go (Some u) e = let wide_u : length u ≡ dims = closure_length (eq_by_cmp cmp) dims c u rows wide e in
           ap (λ x. Some x) (cell_prefix-beyond i u (omega (arith, depth-le u)))
 
-  -- where a front covers nothing, the cell covers nothing
+  -- where a prefix covers nothing, the cell covers nothing
   walk_stops : (c : Cell A) (i : ℕ) → closure_prefix (eq_by_cmp cmp) rows c i ≡ None
       → closure (eq_by_cmp cmp) rows c ≡ None
   walk_stops c i e = go (closure (eq_by_cmp cmp) rows c) refl
@@ -111,7 +111,7 @@ module _ {A : Type 0} {cmp : A → A → Ordering} (total : IsTotalOrder cmp) (a
           = ap (option_map (cell_prefix i)) r.1 in
           cc
 
-  -- from the front that is i dimensions long to the closure
+  -- from the beginning that is i dimensions long to the closure
   walk_rest : (s c : Cell A) (i k : ℕ) (p : Cell A) → length c ≡ dims → drop i c ≡ s → cell_at tree k ≡ Some p
       → closure_prefix (eq_by_cmp cmp) rows c i ≡ Some p
       → option_map (cell_at tree) (walk (eq_by_cmp cmp) tree s k i) ≡ option_map (λ u. Some u)

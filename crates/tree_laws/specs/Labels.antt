@@ -7,7 +7,7 @@ use Rattle.cube_defs.specs.Cell.{Cell, meet, depth, upto, with_value}
 use Rattle.cube_defs.specs.Rows.{Row, closure}
 use Rattle.cube_defs.specs.Tree.{Edge, Node, node_with, next_value}
 
--- the closure of p with the value v in dimension i, cut behind i, where p + (i, v) covers a row
+-- the closure of p with the value v in dimension i, cut after i, where p + (i, v) covers a row
 abbrev pub target_of_label : {A : Type 0} → (A → A → Bool) → List (Row A) → Cell A → ℕ → A → Option (Cell A)
 target_of_label eq rows p i v = option_map (λ u. upto u i) (closure eq rows (with_value p i v))
 

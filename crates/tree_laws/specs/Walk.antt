@@ -37,7 +37,7 @@ module _ {A : Type 0} (eq : A → A → Bool) where
   walk tree (a ∷ c) k i =
       option_and_then (λ n. option_and_then (λ l. walk tree c l (suc i)) (walk_on k n i a)) (map.get tree k)
 
-  -- where a walk to c stands before dimension i: the front, i dimensions long, of the closure of c's front
+  -- where a walk to c stands before dimension i: the prefix, i dimensions long, of the closure of c's prefix
   abbrev pub closure_prefix : List (Row A) → Cell A → ℕ → Option (Cell A)
   closure_prefix rows c i = option_map (cell_prefix i) (closure eq rows (cell_prefix i c))
 

@@ -15,7 +15,7 @@ use Rattle.cube_laws.proofs.CallerLemmas.{among_distinct, rises-map, rises_disti
 use Rattle.cube_laws.proofs.CallerLemmas.{filter_among, map_among, contains_among, among_contains}
 
 module _ {X : Type 0} {cmp : X → X → Ordering} (total : IsTotalOrder cmp) (anti : IsAntisymmetric cmp) where
-  -- a test may come before or behind the sorting
+  -- a test may come before or after the sorting
   pub filter-distinct : (p : X → Bool) (xs : List X) → distinct cmp (filter p xs) ≡ filter p (distinct cmp xs)
   filter-distinct p xs =
       rises_same total anti (distinct cmp (filter p xs)) (filter p (distinct cmp xs))

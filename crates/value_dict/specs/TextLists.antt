@@ -55,7 +55,7 @@ cut [] lens = []
 cut (texts ∷ lists) [] = texts ∷ lists
 cut (texts ∷ lists) (len ∷ lens) = take len texts ∷ cut lists lens
 
--- one more dimension behind the others, whose list is this text
+-- one more dimension after the others, whose list is this text
 abbrev pub with_dim : TextLists → Text → TextLists
 with_dim d text = record d { lists = d.lists ++ (text ∷ []) ∷ [] }
 

@@ -1,4 +1,4 @@
--- A row that goes: the rows before it and behind it, and what its tree keeps and costs.
+-- A row that goes: the rows before it and after it, and what its tree keeps and costs.
 use Rattle.std.proofs.Common.{◌≡◌, ◌∙◌, ◌≤◌, ◌+◌, ◌*◌, ◌^◌, ℕ, List, [], ◌∷◌, ◌++◌, Bool, true, false, Option, Some, None, arith, length}
 use Rattle.std.proofs.Common.{refl, sym, ap, ap₂, subst, suc, true≢false, if◌then◌else◌}
 use Rattle.std.specs.Prelude.{◌||◌, ◌&&◌, ◌==◌, IfSome, nat_eq, option_map, Err, Ok, OnOk, Result}
@@ -28,7 +28,7 @@ use Rattle.warehouse.proofs.Rows.{kept-none, among-more}
 use Rattle.warehouse.proofs.Trees.{rows-wide}
 use Rattle.warehouse.proofs.TreeInsertions.{plus-more}
 
--- the rows before the first with an id, and those behind it
+-- the rows before the first with an id, and those after it
 abbrev before_id : List (Row ℕ) → ℕ → List (Row ℕ)
 before_id [] id = []
 before_id (row ∷ rows) id = if row.id == id then [] else row ∷ before_id rows id

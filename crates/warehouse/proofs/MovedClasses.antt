@@ -24,7 +24,7 @@ use Rattle.widen_laws.specs.Widened.{and_any, and_value, child_by_number, with_f
 earlier : (x e : Edge ℕ ℕ) → x.dim < e.dim → label_lt x e ≡ true
 earlier x e h = grind (arith, h)
 
--- a label in a dimension behind all others comes last
+-- a label in a dimension after all others comes last
 put-last : (e : Edge ℕ ℕ) (es : List (Edge ℕ ℕ)) → AllByRecursion (λ x. x.dim < e.dim) es → put_edge e es ≡ es ++ e ∷ []
 put-last e [] h = refl
 put-last e (x ∷ es) h = cond-true (label_lt x e) _ _ (earlier x e h.0) ∙ ap (λ xs. x ∷ xs) (put-last e es h.1)
@@ -49,7 +49,7 @@ child-made dims parent class n long is =
     ap₂ (λ (c : Cell ℕ) (a : Option Agg). let m : Known
     = record { cell = c; parent = Some parent; class = a; forced = None; edges = [] } in m) cell (sym is)
 
--- the last label of a cell with Any behind it, and with a value
+-- the last label of a cell with Any after it, and with a value
 any-in : (dims : ℕ) (c : Cell ℕ) → length c ≡ dims → is_in dims (last_label (and_any c)) ≡ false
 any-in dims c long = go (last_label (and_any c)) refl
   where
@@ -113,7 +113,7 @@ module _ (dims i : ℕ) (tree wide : Tree ℕ) (child : ℕ → ℕ) (is_wide : 
         | inr f ↦ (let apart = f.1 in omega (arith, l, apart))
       ]
 
-  -- an old node is still there, with Any behind its cell
+  -- an old node is still there, with Any after its cell
   still : (n : Known) → map.get tree i ≡ Some n → map.get wide i ≡ Some (with_any_by_number n)
   still n at = was.later i n at (omega arith)
 

@@ -21,7 +21,7 @@ use Rattle.warehouse.specs.State.{HasTree, IsState, State, with_rows}
 use Rattle.warehouse.specs.Steps.{AreLonger}
 use Rattle.warehouse.proofs.Texts.{longer-head, longer-rows, longer-tail}
 
--- what is found in a list is found at the same place where others stand behind it
+-- what is found in a list is found at the same place where others stand after it
 any-after : (p : Text → Bool) (xs ys : List Text) → list_any p xs ≡ true → list_any p (xs ++ ys) ≡ true
 any-after p [] ys h = absurd (true≢false (sym h))
 any-after p (x ∷ xs) ys h = go (p x) h (any-after p xs ys)
@@ -42,7 +42,7 @@ place-after p (x ∷ xs) ys h = go (p x) refl h (place-after p xs ys)
     go true is h rest = rw is refl
     go false is h rest = rw is (ap (λ (n : ℕ). 1 + n) (rest h))
 
--- the texts of a dimension, with others behind them
+-- the texts of a dimension, with others after them
 prefix-at : (before now : List (List Text)) (k : ℕ) → AreLonger before now
     → get_or now k [] ≡ get_or before k [] ++ drop (length (get_or before k [])) (get_or now k [])
 prefix-at [] now k longer = refl
@@ -88,7 +88,7 @@ module _ (before now : List (List Text)) (longer : AreLonger before now) where
       r) (tuple-longer 0 row.tuple known.0))
       (codes-stay rows known.1)
 
--- a tree stays that of the rows where the texts of a state get others behind them
+-- a tree stays that of the rows where the texts of a state get others after them
 pub tree-stays : (s s2 : State) (rows : List (Row Text)) (tree : Tree ℕ) → HasTree (with_rows s rows) tree
     → s2.schema ≡ s.schema → AreLonger s.texts s2.texts → IsState s2 → HasTree (with_rows s2 rows) tree
 tree-stays s s2 rows tree has schema longer is =

@@ -46,7 +46,7 @@ longer-same [] = record { dims = refl; fronts = refl }
 longer-same (texts ∷ lists)
     = longer-cons texts texts lists lists (take_all (length texts) texts (omega arith)) (longer-same lists)
 
--- the front of a longer list
+-- the prefix of a longer list
 pub prefix-length : (b n : List Text) → take (length b) n ≡ b → length b ≤ length n
 prefix-length b n front = omega (arith, ap (λ (ts : List Text). length ts) front, length-take (length b) n)
 

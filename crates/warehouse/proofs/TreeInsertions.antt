@@ -1,4 +1,4 @@
--- Rows that come stand behind those that were there, and the tree takes them one after another.
+-- Rows that come stand after those that were there, and the tree takes them one after another.
 use Rattle.std.proofs.Common.{◌≡◌, ◌∙◌, ◌≤◌, ◌<◌, ◌+◌, ◌*◌, ◌^◌, ℕ, ℤ, List, [], ◌∷◌, ◌++◌, Option, Some, None, true, false, append-nil}
 use Rattle.std.proofs.Common.{append_assoc, arith, drop, get_or, is_some, length, map, nat_eq, refl, sym, ap, ap₂, filter, subst, Bool}
 use Rattle.std.proofs.Common.{take, true≢false}

@@ -61,7 +61,7 @@ module _ {A : Type 0} where
   is_present ids gone (Delete id) = false
   is_present ids gone (Insert row) = is_among row.id ids && not (is_among row.id gone)
 
-  -- the rows without those that are deleted, and behind them those that are inserted
+  -- the rows without those that are deleted, and after them those that are inserted
   abbrev pub rows_after : List (Row A) → List (Change A) → List (Row A)
   rows_after rows changes = filter (λ row. not (is_among row.id (deleted changes))) rows ++ inserted changes
 

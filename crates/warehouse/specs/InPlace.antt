@@ -35,13 +35,13 @@ abbrev pub KeepsNodes : List (Row ℕ) → Tree ℕ → Tree ℕ → Type 0
 KeepsNodes rows before now = (k : ℕ) (c : Cell ℕ) → cell_at before k ≡ Some c
     → is_node (eq_by_cmp nat_cmp) rows c ≡ true → cell_at now k ≡ Some c
 
--- each node that is below none of these rows' tuples keeps its whole record
+-- each node that generalizes none of these rows' tuples keeps its whole record
 abbrev pub KeepsOtherRecords : List (Row ℕ) → Tree ℕ → Tree ℕ → Type 0
 KeepsOtherRecords rows before now =
     (k : ℕ) (n : Node ℕ ℕ) → finmap.get before k ≡ Some n
     → All (λ row. leq nat_eq n.cell (cell_of row.tuple) ≡ false) rows → finmap.get now k ≡ Some n
 
--- the most steps for one row that comes or goes, by what stands above its tuple in the rows before and after
+-- the most steps for one row that comes or goes, by the nodes that generalize its tuple in the rows before and after
 abbrev pub cost_of_row : ℕ → List (Row ℕ) → List (Row ℕ) → Row ℕ → ℕ
 cost_of_row dims before after row = 256 * (dims + 1) ^ 2 * (affected_size nat_cmp before after row.tuple + 1)
 
@@ -87,7 +87,7 @@ LeavesNumbers before bytes now =
     (λ changes. KeepsNodes (with_codes now.state.texts (kept (deleted changes) before.state.rows))
     before.tree now.tree)
 
--- each node that is below the tuple of no row that goes or comes keeps its whole record
+-- each node that generalizes the tuple of no row that goes or comes keeps its whole record
 abbrev pub LeavesOtherRecords : Contents → List ℕ → Contents → Type 0
 LeavesOtherRecords before bytes now =
     OfBatch before.state.schema bytes

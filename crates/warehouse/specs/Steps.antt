@@ -47,7 +47,7 @@ pub record IsTreeBefore (table : Places) (tree : Arena) (place : ℕ) : Type 0 w
   pub canonical : IsCanonical nat_cmp table.measures (rows_before table place) tree.now
   pub fits : length (nodes nat_cmp (rows_before table place)) ≤ tree.max
 
--- all places are as they were, and others may stand behind them
+-- all places are as they were, and others may stand after them
 abbrev pub HasPrefix : Places → Places → Type 0
 HasPrefix before now = take (length before.places) now.places ≡ before.places
 
@@ -68,7 +68,7 @@ pub record IsLearnt (before now : List (List Text)) (tuple : List Text) (cell : 
   pub codes : AreCodes now (values_of cell)
   pub whole : All (λ entry. is_some entry ≡ true) cell
 
--- all texts are where they were, and others may stand behind them
+-- all texts are where they were, and others may stand after them
 pub record AreLonger (before now : List (List Text)) : Type 0 where
   pub dims : length now ≡ length before
   pub fronts : cut now (map length before) ≡ before

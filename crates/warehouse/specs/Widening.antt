@@ -16,7 +16,7 @@ pub data WidenRefusal : Type 0 where
   DimsFull : WidenRefusal
   NodesFull : WidenRefusal
 
--- one dimension more behind the others, in which each row has the value, and whose only text this is
+-- one dimension more after the others, in which each row has the value, and whose only text this is
 abbrev pub widened : Text → Text → State → State
 widened name value s = record {
   schema = with_dim s.schema name;

@@ -50,7 +50,7 @@ module _ {A : Type 0} where
   depth-value_after [] v = refl
   depth-value_after (e ∷ c) v = ap (depth_with e) (depth-value_after c v) ∙ deeper_suc e (length c)
 
-  -- a front that ends before the new entry
+  -- a prefix that ends before the new entry
   pub prefix-any : (k : ℕ) (c : Cell A) (e : Option A) → k ≤ length c
       → cell_prefix k (c ++ e ∷ []) ≡ cell_prefix k c ++ None ∷ []
   prefix-any zero [] e h = refl

@@ -264,7 +264,7 @@ module _ {A : Type 0} {cmp : A → A → Ordering} (total : IsTotalOrder cmp) (a
             ∙ append-nil (labels p n)))) j;
       }
 
-  -- a class has no value behind its own
+  -- a class has no value after its own
   next_past : (u : Cell A) → length u ≤ next_value cmp (depth u) u
   next_past u = elim (cases_lt (next_value cmp (depth u) u) (length u)) [
     | inl lt ↦ let r = next-entry cmp (depth u) u lt in

@@ -20,7 +20,7 @@ use Rattle.warehouse.proofs.Indexed.{class-measured, small-scales, unit-in}
 use Rattle.warehouse.proofs.ListedClasses.{AreListed, all_listed, listed_more, listed_same, none_listed}
 use Rattle.warehouse.proofs.indexing.filled_index.Goals as goal
 
--- the classes below a number, and that of the number
+-- the classes before a number, and that of the number
 next_class : (class : ℕ → Option defs.Agg) (n : ℕ) (filling next : List GatheredKeys) → (pairs : List (NodeNo × Agg))
     × AreKeysOf pairs filling × AreListed class n pairs → (o : Option Agg) → option_map agg_in o ≡ class n
     → MatchOption o (next ≡ filling) (λ a. (before : List (NodeNo × Agg)) → AreKeysOf before filling
