@@ -21,9 +21,9 @@ fn with_needed_bit(needed: u32, k: u32, closes: bool) -> u32
     if closes { needed } else { flip_bit(needed, k) }
 }
 
-/// The bits of the values that each cell of the class has. A value is needed if the upper bound
-/// without it alone has another closure. `cell` is left as some cell that generalizes the upper
-/// bound.
+/// A bit mask of the needed values: those that each cell of the class has. A value is needed if the
+/// upper bound without it alone has another closure. `cell` is left as some cell that generalizes
+/// the upper bound.
 pub fn needed<T: Nodes, L: Ledger>(
     upper: &UpperBound<T>,
     cell: &mut Cell,

@@ -135,7 +135,7 @@ impl Schema {
         self.draft.version.max_dims()
     }
 
-    /// Whether a new dimension may have this name. It is in the grammar of names, isn't `op`, and
+    /// Whether the name is free for a new dimension: it is in the grammar of names, isn't `op`, and
     /// isn't the name of the id, a dimension or a measure.
     pub fn may_name(&self, name: &[u8]) -> bool
         ensures { result ≡ is_new_name self.now name.now }

@@ -17,7 +17,8 @@ use value_dict::Dict;
 /// The outcome of reading a line as a point.
 #[derive(Clone, Copy)]
 pub enum PointRead {
-    /// The line is no point, or one that has to be read field by field.
+    /// Not read into codes, which is no error: the line is no point, or one that has to be read
+    /// field by field.
     Unread,
     /// A value of the point isn't known, so its cell covers no row.
     Unknown,

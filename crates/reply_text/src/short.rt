@@ -188,7 +188,8 @@ pub fn stats_reply(line: u32, counts: Stats) -> ShortReply
     reply.ended()
 }
 
-/// The reply to a line that was refused and changed nothing.
+/// Makes the reply to a line that was refused and changed nothing: `refused`, the number of the
+/// line, the word of the refusal and its detail.
 pub fn refused(line: u32, words: RefusalReport<'_>) -> ShortReply
     requires { IsShort words }
     ensures { result ≡ refused_text line (texts_of words.entry) }

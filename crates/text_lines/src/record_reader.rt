@@ -30,7 +30,7 @@ impl<'a> Model for RecordReader<'a> {
 
 ghost use Rattle.text_lines.specs.Records.{IsPlain, Steps};
 
-/// The field at a place, counted from 0.
+/// The bytes of the field of a record at a place, counted from 0.
 pub fn field(row: &ByteRecord, at: usize) -> &[u8]
     requires { at < length (fields_of row.now) }
     ensures { result.now ≡ slice_index_or (fields_of row.now) at [] }
