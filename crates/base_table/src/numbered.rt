@@ -36,8 +36,9 @@ fn step(number: u64, multiplier: u32, coefficient: u32) -> u64
     (number * u64::from(multiplier) + u64::from(coefficient)) % PRIME
 }
 
-/// The number of an id is a polynomial at the multiplier, so that nobody can choose ids that share
-/// a bucket. Its coefficients are the two halves of the id and 0.
+/// The number of an id is a polynomial at the multiplier. Its coefficients are the two halves of
+/// the id and 0. So ids that share a bucket can't be chosen without the multiplier. No contract
+/// says so.
 impl Numbered for u64 {
     ghost number = { id_number };
 
