@@ -120,7 +120,8 @@ impl IndexBuilder {
     {
         let mut columns = Vec::with_capacity(alloc, kinds.len())?;
         'kinds: for kind in kinds {
-            columns.push(ColumnBuilder::new(alloc, *kind, scale_in(scales, *kind), room)?)?;
+            let column = ColumnBuilder::new(alloc, *kind, scale_in(scales, *kind), room)?;
+            columns.push_reserved(column);
         }
         Ok(IndexBuilder { columns })
     }

@@ -98,7 +98,8 @@ impl Index {
     {
         let mut columns = Vec::with_capacity(alloc, kinds.len())?;
         'kinds: for kind in kinds {
-            columns.push(Column::new(alloc, *kind, scale_in(scales, *kind)))?;
+            let column = Column::new(alloc, *kind, scale_in(scales, *kind));
+            columns.push_reserved(column);
         }
         Ok(Index { columns })
     }

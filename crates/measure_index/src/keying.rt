@@ -10,7 +10,7 @@ use crate::key::Key;
 use aggregates::{Agg, AggKind, Quotient};
 use cell_core::NodeNo;
 use cube_defs::{MAX_SCALE, Memory};
-use std::alloc::{AllocError, Global};
+use std::alloc::Global;
 
 impl Key {
     pub(crate) fn of(kind: AggKind, node: NodeNo, class: &Agg) -> Key
@@ -56,15 +56,9 @@ pub(crate) fn keys_of(
     requires { HaveMeasure kind classes.now }
     ensures { IfOk result (λ keys. AllZip (IsKey kind) classes.now keys.items) }
 {
-    let mut keys = match Vec::with_capacity(alloc, classes.len()) {
-        Ok(keys) => keys,
-        Err(error) => return Err(error),
-    };
+    let mut keys = Vec::with_capacity(alloc, classes.len())?;
     'classes: for class in classes {
-        match keys.push(Key::of(kind, class.0, &class.1)) {
-            Ok(()) => {}
-            Err(_) => return Err(AllocError),
-        }
+        keys.push_reserved(Key::of(kind, class.0, &class.1));
     }
     Ok(keys)
 }

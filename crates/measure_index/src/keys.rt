@@ -98,14 +98,9 @@ pub(crate) fn lacked_by<K: Ord + Copy>(
         → among K.cmp v.items q
         ≡ (among K.cmp items.now.items q && not (among K.cmp others.now q))) }
 {
-    let mut out = Vec::new(alloc);
+    let mut out = Vec::with_capacity(alloc, items.len())?;
     for item in items {
-        if !is_among(others, item) {
-            match out.push(*item) {
-                Ok(()) => {}
-                Err(_) => return Err(AllocError),
-            }
-        }
+        note(&mut out, *item, !is_among(others, item));
     }
     Ok(out)
 }

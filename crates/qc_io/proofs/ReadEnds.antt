@@ -1,9 +1,31 @@
 -- How the reading of a file ends, by the file that is told.
 use Rattle.std.proofs.Common.{◌≡◌, ◌∙◌, ◌≤◌, ◌<◌, ◌+◌, ◌++◌, ℕ, List, Some, None, append-nil, ap, arith, drop, false, is_some, length, refl}
 use Rattle.std.proofs.Common.{subst, sym, take, take-append-drop}
-use Rattle.std.specs.Prelude.{IfSome, IsSomeAnd, Option, ◌↔◌}
-use Rattle.qc_io.specs.Outside.{Cursor, ReadsPrefix, FileContents, bytes_left}
+use Rattle.std.specs.Prelude.{Err, IfSome, IsErrOf, IsSomeAnd, Ok, Option, ◌↔◌}
+use Rattle.qc_io.specs.Outside.{Cursor, ReadsPrefix, Rose, FileContents, bytes_left}
+use Rattle.qc_io.specs.declared.whole.ReadRefused.{ReadRefused}
+use Rattle.qc_io.specs.declared.whole.ReadRefused.TheVariants as refused
 use Rattle.qc_io.proofs.Reading.{HasRead}
+
+-- an answer is no refusal, and a refusal is no other
+pub ok-is-no-refusal : {T : Type 0} (x : T) (e : ReadRefused) → IsErrOf (Ok x) e → ⊥
+ok-is-no-refusal x e q = cc q
+
+pub failed-is-not-long : {T : Type 0} → IsErrOf {T = T} (Err refused.Failed) refused.TooLong → ⊥
+failed-is-not-long q = cc q
+
+pub memory-is-not-failed : {T : Type 0} → IsErrOf {T = T} (Err refused.Memory) refused.Failed → ⊥
+memory-is-not-failed q = cc q
+
+pub memory-is-not-long : {T : Type 0} → IsErrOf {T = T} (Err refused.Memory) refused.TooLong → ⊥
+memory-is-not-long q = cc q
+
+pub long-is-not-failed : {T : Type 0} → IsErrOf {T = T} (Err refused.TooLong) refused.Failed → ⊥
+long-is-not-failed q = cc q
+
+-- a count that rises later rises
+pub rises-later : (before now after : ℕ) → before ≤ now → Rose now after → Rose before after
+rises-later before now after le rose = omega arith
 
 -- a file that couldn't be opened isn't there
 pub unopened : (told : Option FileContents) (name : List ℕ) (Failed : Type 0) → Failed

@@ -115,9 +115,9 @@ fn names_and(alloc: Global, names: &Vec<String>, last: &str) -> Result<Vec<Strin
 {
     let mut more = Vec::with_capacity(alloc, names.len() + 1)?;
     for name in names {
-        more.push(String::from_str(alloc, name.as_str())?)?;
+        more.push_reserved(String::from_str(alloc, name.as_str())?);
     }
-    more.push(String::from_str(alloc, last)?)?;
+    more.push_reserved(String::from_str(alloc, last)?);
     Ok(more)
 }
 
@@ -129,7 +129,7 @@ fn copied_measures(alloc: Global, measures: &Vec<Measure>) -> Result<Vec<Measure
     for measure in measures {
         let name = String::from_str(alloc, measure.name.as_str())?;
         let scale = measure.scale;
-        copy.push(Measure { name, scale })?;
+        copy.push_reserved(Measure { name, scale });
     }
     Ok(copy)
 }

@@ -1,4 +1,4 @@
-use Rattle.std.proofs.Common.{[], arith, subst, sym}
+use Rattle.std.proofs.Common.{[], ℕ, ◌+◌, ◌∙◌, ap, arith, subst, sym}
 use Rattle.std.specs.List.{AllZip}
 use Rattle.cube_laws.proofs.CallerLemmas.{take_all}
 use Rattle.std.proofs.lemmas.List.Elements.{All-get_or}
@@ -15,13 +15,25 @@ of-requires c =
 
 pub classes-preserved : goal.classes-preserved
 classes-preserved c =
-    zip_next (IsKey c.args.kind) c.args.classes.now c.classes.class-index c.class-item.result c.class-item.result
-    c.classes.keys.items c.push.new.self.items _ c.classes-test.true c.class-item.is c.classes.invariant
-    c.in-Ok-push.ensures.items c.of.ensures
+    let was = c.classes.invariant in
+    let pushed = c.push_reserved.ensures in
+    record {
+      made = zip_next (IsKey c.args.kind) c.args.classes.now c.classes.class-index c.class-item.result
+          c.class-item.result c.classes.keys.items c.push_reserved.new.self.items _ c.classes-test.true
+          c.class-item.is was.made pushed.items c.of.ensures;
+      len = pushed.len ∙ ap (λ (n : ℕ). n + 1) was.len;
+      room = rw (pushed.capacity) was.room;
+    }
 
 pub returns : goal.returns
 returns c = subst (λ xs. AllZip (IsKey c.args.kind) xs c.classes.keys.items)
-    (take_all c.args.classes.now c.classes.class-index (omega (arith, c.classes-test.false))) c.classes.invariant
+    (take_all c.args.classes.now c.classes.class-index (omega (arith, c.classes-test.false))) c.classes.invariant.made
 
 pub classes-init : goal.classes-init
-classes-init c = subst (AllZip (IsKey c.args.kind) []) (sym c.in-Ok.ensures.items) tt
+classes-init c =
+    let made = c.in_ok-keys.ensures in
+    record {
+      made = subst (AllZip (IsKey c.args.kind) []) (sym made.items) tt;
+      len = made.len;
+      room = omega (arith, made.exact);
+    }
