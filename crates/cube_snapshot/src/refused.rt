@@ -31,7 +31,7 @@ pub(crate) enum PartRefused {
 }
 
 /// Why bytes are no snapshot of a state.
-#[derive(Clone, Copy, PartialEq, Eq)]
+#[derive(Clone, Copy)]
 pub enum DecodeRefused {
     /// The bytes encode no state.
     Form,

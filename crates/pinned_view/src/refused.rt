@@ -1,7 +1,7 @@
 // Why a version isn't pinned or dropped, or no dimension is added.
 
 /// Why a version isn't pinned. If both causes hold, the first is reported.
-#[derive(Clone, Copy, PartialEq)]
+#[derive(Clone, Copy)]
 pub enum PinRefused {
     /// There is a version of this name.
     NameTaken,

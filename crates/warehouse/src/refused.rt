@@ -2,7 +2,7 @@
 use crate::Memory;
 
 /// The result of a file of changes that was applied.
-#[derive(Clone, Copy, PartialEq)]
+#[derive(Clone, Copy)]
 pub struct Applied {
     /// The number of records of the file.
     pub records: u32,
@@ -12,7 +12,7 @@ pub struct Applied {
 
 /// Why a file of changes is refused. If several causes hold, the first in this order is reported. A
 /// number is that of a record, counted from 1 after the header. A dimension is counted from 0.
-#[derive(Clone, Copy, PartialEq)]
+#[derive(Clone, Copy)]
 pub enum Refused {
     /// A base file is loaded, and a row is present.
     NotEmpty,

@@ -29,7 +29,7 @@ fn grows<L: Ledger>(
     batch: u32,
     steps: &mut Steps<L>,
 ) -> bool {
-    takes(pinned, text, batch, steps) && pin(alloc, pinned, batch) == Some(Ok(()))
+    takes(pinned, text, batch, steps) && matches!(pin(alloc, pinned, batch), Some(Ok(())))
 }
 
 // Whether 16 batches are taken, with a pin after each.
@@ -76,8 +76,8 @@ fn are_kept<L: Ledger>(
 
 // Whether no more is pinned.
 fn is_full(alloc: Global, pinned: &mut Pinned) -> bool {
-    pin(alloc, pinned, 16) == Some(Err(PinRefused::AllPinned))
-        && pin(alloc, pinned, 5) == Some(Err(PinRefused::NameTaken))
+    matches!(pin(alloc, pinned, 16), Some(Err(PinRefused::AllPinned)))
+        && matches!(pin(alloc, pinned, 5), Some(Err(PinRefused::NameTaken)))
 }
 
 // Whether two pins are let go, once each.

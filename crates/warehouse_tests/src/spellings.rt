@@ -30,7 +30,7 @@ const CROWDED: &[u8] = b"QCUBESN1\x00\x00\x00c\
     \x00\x00\x00\x00\x00\x00\x00\x03\x00\x00\x00\x01\x00\x00\x00\x00\x00\x00\x00\x01\x00\x00\x00\x00\x00\x00\x00\x09";
 
 // What bytes are.
-#[derive(Clone, Copy, PartialEq, Eq)]
+#[derive(Clone, Copy)]
 enum Verdict {
     /// The snapshot of a state.
     Spelled,
@@ -63,10 +63,20 @@ fn answer<L: Ledger>(alloc: Global, bytes: &[u8], steps: &mut Steps<L>) -> Verdi
     }
 }
 
+// Whether the bytes are no snapshot.
+fn is_refused<L: Ledger>(alloc: Global, bytes: &[u8], steps: &mut Steps<L>) -> bool {
+    matches!(answer(alloc, bytes, steps), Verdict::Refused(DecodeRefused::Form))
+}
+
+// Whether the bytes are those of a tree with too many nodes.
+fn is_crowded<L: Ledger>(alloc: Global, bytes: &[u8], steps: &mut Steps<L>) -> bool {
+    matches!(answer(alloc, bytes, steps), Verdict::Refused(DecodeRefused::NodesFull))
+}
+
 // Whether the first bytes of a snapshot, so many of them, are refused.
 fn is_cut_refused<L: Ledger>(alloc: Global, len: usize, steps: &mut Steps<L>) -> bool {
     match FULL.get(..len) {
-        Some(front) => answer(alloc, front, steps) == Verdict::Refused(DecodeRefused::Form),
+        Some(front) => is_refused(alloc, front, steps),
         None => false,
     }
 }
@@ -89,7 +99,7 @@ fn is_longer_refused<L: Ledger>(
 ) -> Result<bool, AllocError> {
     let mut bytes = Vec::from_slice(alloc, FULL)?;
     bytes.push(byte)?;
-    Ok(answer(alloc, &bytes, steps) == Verdict::Refused(DecodeRefused::Form))
+    Ok(is_refused(alloc, &bytes, steps))
 }
 
 // Whether nothing may stand after a snapshot.
@@ -135,8 +145,8 @@ fn are_changed_well<L: Ledger>(alloc: Global, steps: &mut Steps<L>) -> Result<bo
 /// none.
 pub fn are_right<L: Ledger>(alloc: Global, steps: &mut Steps<L>) -> Result<bool, AllocError> {
     Ok(
-        answer(alloc, FULL, steps) == Verdict::Spelled
-            && answer(alloc, CROWDED, steps) == Verdict::Refused(DecodeRefused::NodesFull)
+        matches!(answer(alloc, FULL, steps), Verdict::Spelled)
+            && is_crowded(alloc, CROWDED, steps)
             && are_cuts_refused(alloc, steps)
             && are_longer_refused(alloc, steps)?
             && are_changed_well(alloc, steps)?,

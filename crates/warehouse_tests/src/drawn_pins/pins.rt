@@ -102,5 +102,5 @@ pub fn is_kept<L: Ledger>(
 pub fn refuses_and_tries<L: Ledger>(pinned: &mut Pinned, steps: &mut Steps<L>) -> bool {
     let refused = pinned.apply(MISSING, steps);
     let tried = pinned.attempt(MORE, steps);
-    refused == Err(Refused::Missing(2)) && tried.is_ok()
+    matches!(refused, Err(Refused::Missing(2))) && tried.is_ok()
 }

@@ -1,8 +1,8 @@
-use Rattle.std.proofs.Common.{Err, ap, length, map, refl, subst, sym, ◌∙◌, ◌≡◌}
+use Rattle.std.proofs.Common.{Err, Ok, ap, length, map, refl, subst, sym, ◌∙◌, ◌≡◌}
 use Rattle.std.specs.Prelude.{IfSome}
 use Rattle.warehouse.proofs.CallerLemmas.{taken-of, tree-after}
 use Rattle.warehouse.specs.Batch.{Apply, result}
-use Rattle.warehouse.specs.InPlace.{LeavesOtherRecords, LeavesNumbers}
+use Rattle.warehouse.specs.InPlace.{IsWithinCost, LeavesOtherRecords, LeavesNumbers}
 use Rattle.warehouse.specs.State.{Contents, State}
 use Rattle.warehouse.specs.Stored.{applied_in, refusal_in}
 use Rattle.pinned_view.specs.Pins.{AreWithin, version_in}
@@ -76,3 +76,18 @@ returns-in-Ok-apply-clause-pins g c = ap (λ (v : Versions). v.pins) c.self.view
 
 pub returns-in-Ok-apply-clause-valid : goal.returns-in-Ok-apply-clause-valid
 returns-in-Ok-apply-clause-valid g c = c.last_images.ensures.valid
+
+pub returns-in-Ok-apply-clause-gives : goal.returns-in-Ok-apply-clause-gives
+returns-in-Ok-apply-clause-gives g c =
+    let was = c.self.inside.warehouse in
+    let file = c.args.bytes.now in
+    let applied = c.in-Ok-apply.applied in
+    subst (λ (v : Versions). result v.now.state Apply file ≡ Ok (applied_in c.last_images.new.self.state applied))
+    c.self.view_is
+    (subst (λ (now : Contents). result was.state Apply file ≡ Ok (applied_in now.state applied))
+    (sym c.last_images.ensures.rest) c.in-Ok-apply.ensures.gives)
+
+pub returns-in-Ok-apply-clause-steps : goal.returns-in-Ok-apply-clause-steps
+returns-in-Ok-apply-clause-steps g c =
+    subst (λ (v : Versions). IsWithinCost v.now.state c.args.bytes.now c.args.steps.now c.apply.new.steps)
+    c.self.view_is c.in-Ok-apply.ensures.steps

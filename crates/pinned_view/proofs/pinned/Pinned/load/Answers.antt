@@ -1,4 +1,4 @@
-use Rattle.std.proofs.Common.{Err, ap, length, map, refl, subst, sym, ◌∙◌, ◌≡◌}
+use Rattle.std.proofs.Common.{Err, Ok, ap, length, map, refl, subst, sym, ◌∙◌, ◌≡◌}
 use Rattle.std.specs.Prelude.{IfSome}
 use Rattle.warehouse.proofs.CallerLemmas.{taken-of, tree-after}
 use Rattle.warehouse.specs.Batch.{Load, result}
@@ -60,3 +60,13 @@ returns-in-Ok-load-clause-pins g c = ap (λ (v : Versions). v.pins) c.self.view_
 
 pub returns-in-Ok-load-clause-valid : goal.returns-in-Ok-load-clause-valid
 returns-in-Ok-load-clause-valid g c = c.last_images.ensures.valid
+
+pub returns-in-Ok-load-clause-gives : goal.returns-in-Ok-load-clause-gives
+returns-in-Ok-load-clause-gives g c =
+    let was = c.self.inside.warehouse in
+    let file = c.args.bytes.now in
+    let applied = c.in-Ok-load.applied in
+    subst (λ (v : Versions). result v.now.state Load file ≡ Ok (applied_in c.last_images.new.self.state applied))
+    c.self.view_is
+    (subst (λ (now : Contents). result was.state Load file ≡ Ok (applied_in now.state applied))
+    (sym c.last_images.ensures.rest) c.in-Ok-load.ensures.gives)

@@ -1,6 +1,8 @@
-use Rattle.std.proofs.Common.{ap, length, map, subst, sym, ◌∙◌, ◌+◌, ◌≡◌, ◌≤◌}
+use Rattle.std.proofs.Common.{Err, IfSome, Ok, ap, length, map, subst, sym, ◌∙◌, ◌+◌, ◌≡◌, ◌≤◌}
 use Rattle.warehouse.specs.State.{Contents}
-use Rattle.warehouse.specs.Widening.{KeepsWidened, cost_of_widening}
+use Rattle.warehouse.specs.Stored.{applied_in}
+use Rattle.warehouse.specs.Widening as widening
+use Rattle.warehouse.specs.Widening.{KeepsWidened, cost_of_widening, widen_result}
 use Rattle.pinned_view.specs.Pins.{version_in}
 use Rattle.pinned_view.specs.Versions.{Versions}
 use Rattle.pinned_view.proofs.pinned.Pinned.widen.Goals as goal
@@ -41,4 +43,16 @@ returns-clause-err g c =
           = record { state = said.state j; tree = said.tree j; index = said.index j; images = images j } in held in
           rw w.result-is (ap (λ (held : Contents). let v : Versions
           = record { now = held; pins = map version_in c.self.inside.pins.items } in v) same ∙ c.self.view_is)
+    ]
+
+pub returns-clause-gives : goal.returns-clause-gives
+returns-clause-gives g c = λ _.
+    elim c.match-widen.branch [
+      | in-Ok w ↦ rw w.result-is
+          (subst (λ (v : Versions). widen_result v.now.state c.args.name.now c.args.value.now
+          ≡ Ok (applied_in c.widen.new.self.state w.in-Ok.applied)) c.self.view_is w.in-Ok.ensures.gives)
+      | in-Err w ↦ rw (w.result-is, w.widen_refused.ensures.same)
+          (subst (λ (v : Versions). IfSome (widening.widen_refusal_in w.in-Err.refused)
+          (λ refusal. widen_result v.now.state c.args.name.now c.args.value.now ≡ Err refusal)) c.self.view_is
+          w.in-Err.ensures.gives)
     ]
