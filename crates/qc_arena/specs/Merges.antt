@@ -62,4 +62,4 @@ pub record IsMerge (older later merged : SortedImages) : Type 0 where
   pub changed : length merged.changed.items + (length older.changed.items + length later.changed.items)
       ≤ vec_capacity merged.changed
   pub added : length merged.added.items + (length older.added.items + length later.added.items)
-      ≤ vec_capacity merged.added
+      ≤ merged.added.capacity

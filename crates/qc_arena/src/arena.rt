@@ -16,7 +16,7 @@ ghost use Rattle.qc_arena.specs.RecordReaders.{edge_of, record_at};
 use crate::Memory;
 use crate::class_changes::{changed, class_in_place};
 use crate::counted::{record_in, tree_edges_of};
-use crate::edges::StoredEdge;
+use crate::edges::PlainEdge;
 use crate::images::Images;
 use crate::measure_columns::MeasureColumns;
 use crate::nodes::{Forced, Nodes};
@@ -268,7 +268,7 @@ impl QcArena {
         ensures steps { steps.new ≡ steps.old + 1 }
     {
         steps.tick();
-        let edge = StoredEdge {
+        let edge = PlainEdge {
             dim,
             code,
             target: target.0,

@@ -10,6 +10,7 @@ ghost use Rattle.qc_arena.specs.Looks.{look_of_image};
 
 use crate::image::{Image, Record};
 use crate::merge::Merge;
+use crate::number_list::NumberList;
 use crate::sorted_images::SortedImages;
 use cell_core::NodeNo;
 use std::marker::Model;
@@ -30,7 +31,7 @@ pub enum Look<'a> {
 #[derive(Drop)]
 pub struct Images {
     changed: Vec<(u32, Image)>,
-    added: Vec<u32>,
+    added: NumberList,
 }
 
 impl Model for Images {
@@ -54,7 +55,7 @@ impl Model for Images {
 
 impl Images {
     // The images of entries that are sorted by number.
-    pub(crate) fn of(changed: Vec<(u32, Image)>, added: Vec<u32>) -> Images
+    pub(crate) fn of(changed: Vec<(u32, Image)>, added: NumberList) -> Images
         requires once { IsOnce (changed.items ++ all_new added.items) }
         requires changed { IsSortedByKey entry_number nat_cmp changed.items }
         requires added { IsSorted nat_cmp added.items }
@@ -74,7 +75,7 @@ impl Images {
                 None => Look::Gone,
             };
         }
-        if is_new(&self.added, node.0) {
+        if self.added.has(node.0) {
             return Look::Gone;
         }
         Look::Same
@@ -95,7 +96,7 @@ impl Images {
         ensures err { IfErr result (λ same. same ≡ later) }
         ensures kept { OnErr result (self.new ≡ self.old) }
     {
-        let alloc = *self.added.allocator();
+        let alloc = self.added.allocator();
         let changed = self.changed.len() + later.changed.len();
         let added = self.added.len() + later.added.len();
         let Ok(room) = SortedImages::with_room(alloc, changed, added) else {
@@ -103,7 +104,7 @@ impl Images {
         };
         let older = SortedImages {
             changed: replace(&mut self.changed, Vec::new(alloc)),
-            added: replace(&mut self.added, Vec::new(alloc)),
+            added: replace(&mut self.added, NumberList::new(alloc)),
         };
         let later = SortedImages {
             changed: later.changed,
@@ -125,17 +126,5 @@ fn place_of(changed: &Vec<(u32, Image)>, node: u32) -> Option<usize>
     match changed.binary_search_by_key(&node, |entry| entry.0) {
         Ok(at) => Some(at),
         Err(_) => None,
-    }
-}
-
-// Whether a number is among sorted ones.
-fn is_new(added: &Vec<u32>, node: u32) -> bool
-    requires { IsSorted nat_cmp added.now.items }
-    ensures { lookup (nat_eq node) (all_new added.now.items)
-        ≡ (if result then Some None else None) }
-{
-    match added.binary_search(&node) {
-        Ok(_) => true,
-        Err(_) => false,
     }
 }

@@ -11,6 +11,7 @@ mod label_path;
 mod measure_columns;
 mod merge;
 mod nodes;
+mod number_list;
 mod place;
 mod records;
 mod same;

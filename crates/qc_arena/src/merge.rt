@@ -60,7 +60,7 @@ impl Merge {
         requires changed { length older.changed.items + length later.changed.items
             ≤ vec_capacity merged.changed }
         requires added { length older.added.items + length later.added.items
-            ≤ vec_capacity merged.added }
+            ≤ merged.added.capacity }
         ensures { result.0 ≡ map.from_entries (all_in older ++ all_in later) }
     {
         Merge {

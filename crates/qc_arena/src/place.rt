@@ -3,7 +3,7 @@ ghost use Rattle.std.specs.Prelude.{IfOk, IfSome, IsSome, None, OnErr, OnOk, Som
 ghost use Rattle.cell_core.specs.Entry.{IsCode};
 ghost use Rattle.std.specs.Option.{option_copied, option_map};
 ghost use Rattle.aggregates.specs.Views.{agg_in};
-ghost use Rattle.qc_arena.specs.Edges.{edge_to, with_edge, without_edge};
+ghost use Rattle.qc_arena.specs.Edges.{edge_in, with_edge, without_edge};
 ghost use Rattle.qc_arena.specs.Slot.{node_in};
 ghost use Rattle.qc_arena.specs.Map.{with_class, with_forced};
 ghost use Rattle.cube_defs.specs.Cell.{depth};
@@ -11,7 +11,7 @@ ghost use Rattle.qc_arena.specs.Resized.{resized};
 ghost use Rattle.qc_arena.specs.RecordReaders.{edge_of, record_or};
 
 use crate::Memory;
-use crate::edges::StoredEdge;
+use crate::edges::PlainEdge;
 use crate::nodes::Forced;
 use crate::records::NodeRecord;
 use aggregates::Agg;
@@ -87,11 +87,11 @@ impl NodeSlot {
     }
 
     // Sets an edge. Gives the number of edges before and after.
-    pub(crate) fn set_edge(&mut self, edge: StoredEdge) -> Result<(u32, u32), Memory>
+    pub(crate) fn set_edge(&mut self, edge: PlainEdge) -> Result<(u32, u32), Memory>
         requires there { IsSome self.old }
         requires code { IsCode edge.code }
         ensures here { IsSome self.new }
-        ensures ok { OnOk result (self.new ≡ option_map (with_edge (edge_to edge)) self.old) }
+        ensures ok { OnOk result (self.new ≡ option_map (with_edge (edge_in edge)) self.old) }
         ensures had { IfOk result (λ n. n.0 ≡ length (record_or self.old).edges) }
         ensures has { IfOk result (λ n. n.1 ≡ length (record_or self.new).edges) }
         ensures err { OnErr result (self.new ≡ self.old) }

@@ -6,13 +6,13 @@ ghost use Rattle.std.specs.Ordering.{eq_by_cmp, nat_cmp};
 ghost use Rattle.aggregates.specs.Views.{agg_in};
 ghost use Rattle.cube_defs.specs.Cell.{depth, with_value};
 ghost use Rattle.tree_laws.specs.Walk.{last_label, target_at};
-ghost use Rattle.qc_arena.specs.Edges.{edge_to, rises, with_edge, without_edge};
+ghost use Rattle.qc_arena.specs.Edges.{edge_in, rises, with_edge, without_edge};
 ghost use Rattle.qc_arena.specs.Map.{bare, with_class, with_forced};
 ghost use Rattle.qc_arena.specs.Resized.{resized};
 ghost use Rattle.qc_arena.specs.RecordReaders.{edge_of, label_lt, number};
 
 use crate::Memory;
-use crate::edges::{StoredEdge, put, take, target_in};
+use crate::edges::{Edges, PlainEdge, put, take, target_in};
 use crate::label_path::LabelPath;
 use crate::nodes::Forced;
 use aggregates::Agg;
@@ -30,13 +30,13 @@ const NO_CODE: u32 = u32::MAX;
 
 /// The record of a node. Its cell isn't stored: it follows from the labels on the way down from the
 /// root. The record has the last label and the parent. For a class it has COUNT and the number of
-/// measures; COUNT is 0 in other nodes. A killed node keeps its record under a mark. One edge lies
-/// in the record itself, and more edges lie in a list.
+/// measures; COUNT is 0 in other nodes. A killed node keeps its record under a mark. Up to two
+/// edges lie in the record itself, and more edges lie in a list.
 #[derive(Drop)]
 pub(crate) struct NodeRecord {
     trail: LabelPath<u8, u32>,
     noted: LabelPath<u32, Agg>,
-    edges: SmallVec<StoredEdge, 1>,
+    edges: Edges,
     parent: u32,
     code: Code,
     forced_code: u32,
@@ -149,10 +149,10 @@ impl NodeRecord {
 
     // Adds an edge in its place, or gives the edge with its label a new target. Gives the number of
     // edges before and after.
-    pub(crate) fn set_edge(&mut self, edge: StoredEdge) -> Result<(u32, u32), Memory>
+    pub(crate) fn set_edge(&mut self, edge: PlainEdge) -> Result<(u32, u32), Memory>
         requires { IsCode edge.code }
         ensures ok { OnOk result
-            (self.new ≡ record self.old { node = with_edge (edge_to edge) self.old.node }) }
+            (self.new ≡ record self.old { node = with_edge (edge_in edge) self.old.node }) }
         ensures had { IfOk result (λ n. n.0 ≡ length self.old.node.edges) }
         ensures has { IfOk result (λ n. n.1 ≡ length self.new.node.edges) }
         ensures err { OnErr result (self.new ≡ self.old) }
@@ -348,7 +348,7 @@ impl NodeRecord {
         ensures small { IsCode result.1 }
     {
         let edges = self.edges.as_slice();
-        let edge = edges[k as usize];
+        let edge = edges[k as usize].plain();
         (edge.dim, edge.code, NodeNo(edge.target))
     }
 }

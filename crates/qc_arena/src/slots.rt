@@ -7,7 +7,7 @@ ghost use Rattle.aggregates.specs.Views.{agg_in};
 ghost use Rattle.slab.specs.Slab as slots;
 ghost use Rattle.cube_defs.specs.Cell.{cell_eq, depth};
 ghost use Rattle.tree_laws.specs.Counts.{is_parent_of};
-ghost use Rattle.qc_arena.specs.Edges.{edge_to, with_edge, without_edge};
+ghost use Rattle.qc_arena.specs.Edges.{edge_in, with_edge, without_edge};
 ghost use Rattle.qc_arena.specs.Inside.{IsRooted, image_at, image_or, join};
 ghost use Rattle.qc_arena.specs.Map.{with_class, with_forced};
 ghost use Rattle.qc_arena.specs.Parts.{HasRoom, IsShown, IsStored, shown};
@@ -15,7 +15,7 @@ ghost use Rattle.qc_arena.specs.Resized.{resized};
 ghost use Rattle.qc_arena.specs.RecordReaders.{edge_of, record_or};
 
 use crate::Memory;
-use crate::edges::StoredEdge;
+use crate::edges::PlainEdge;
 use crate::image::{Image, Record};
 use crate::measure_columns::MeasureColumns;
 use crate::nodes::Forced;
@@ -324,14 +324,14 @@ pub(crate) fn copy_at(
 pub(crate) fn set_edge_at(
     nodes: &mut Slab<NodeSlot>,
     node: u32,
-    edge: StoredEdge,
+    edge: PlainEdge,
 ) -> Result<(u32, u32), Memory>
     requires node { IsSome (join (slots.get nodes.old node)) }
     requires code { IsCode edge.code }
     ensures others { (q : ℕ) → q ≢ node → slots.get nodes.new q ≡ slots.get nodes.old q }
     ensures here { IsSome (join (slots.get nodes.new node)) }
     ensures ok { OnOk result
-        (join (slots.get nodes.new node) ≡ option_map (with_edge (edge_to edge))
+        (join (slots.get nodes.new node) ≡ option_map (with_edge (edge_in edge))
         (join (slots.get nodes.old node))) }
     ensures had { IfOk result
         (λ n. n.0 ≡ length (record_or (join (slots.get nodes.old node))).edges) }

@@ -10,6 +10,7 @@ ghost use Rattle.qc_arena.specs.Merges.{AreRising, IsEnd, IsMost, added_in, all_
 
 use crate::Memory;
 use crate::image::Image;
+use crate::number_list::NumberList;
 use std::alloc::Global;
 
 /// The entry of one number: its before-image, or that its node is new.
@@ -23,7 +24,7 @@ pub(crate) enum Entry {
 #[derive(Drop)]
 pub(crate) struct SortedImages {
     pub(crate) changed: Vec<(u32, Image)>,
-    pub(crate) added: Vec<u32>,
+    pub(crate) added: NumberList,
 }
 
 // One more than the last number, or 0.
@@ -38,14 +39,15 @@ fn changed_end(changed: &Vec<(u32, Image)>) -> u64
 }
 
 // One more than the last number of a new node, or 0.
-fn added_end(added: &Vec<u32>) -> u64
+fn added_end(added: &NumberList) -> u64
     ensures end { IsEnd (all_new added.now.items) result }
     ensures small { result ≤ 4294967296 }
 {
-    match added.last() {
-        None => 0,
-        Some(node) => *node as u64 + 1,
+    let len = added.len();
+    if len == 0 {
+        return 0;
     }
+    added.at(len - 1) as u64 + 1
 }
 
 // Takes out the last image, if it belongs to the number.
@@ -65,7 +67,7 @@ fn pop_changed(changed: &mut Vec<(u32, Image)>, node: u32) -> Option<Image>
 }
 
 // Takes out the last number, if it is this one.
-fn pop_added(added: &mut Vec<u32>, node: u32) -> bool
+fn pop_added(added: &mut NumberList, node: u32) -> bool
     requires rising { IsNonDecreasingBy entry_number (all_new added.old.items) }
     requires most { IsMost (all_new added.old.items) node }
     ensures some { OnTrue result (added.old.items ≡ added.new.items ++ node ∷ []) }
@@ -99,9 +101,9 @@ impl SortedImages {
     ) -> Result<SortedImages, Memory>
         ensures none { IfOk result (λ e. all_in e ≡ []) }
         ensures changed { IfOk result (λ e. changed ≤ vec_capacity e.changed) }
-        ensures added { IfOk result (λ e. added ≤ vec_capacity e.added) }
+        ensures added { IfOk result (λ e. added ≤ e.added.capacity) }
     {
-        let added = match Vec::with_capacity(alloc, added) {
+        let added = match NumberList::with_room(alloc, added) {
             Ok(added) => added,
             Err(error) => return Err(error),
         };
@@ -150,7 +152,7 @@ impl SortedImages {
         requires changed { length self.old.changed.items + changed_in (Some entry)
             ≤ vec_capacity self.old.changed }
         requires added { length self.old.added.items + added_in (Some entry)
-            ≤ vec_capacity self.old.added }
+            ≤ self.old.added.capacity }
         ensures once { IsOnce (all_in self.new) }
         ensures put { (q : ℕ) → lookup (nat_eq q) (all_in self.new) ≡ (if nat_eq node q
             then Some (entry_image entry) else lookup (nat_eq q) (all_in self.old)) }
@@ -159,7 +161,7 @@ impl SortedImages {
         ensures added { length self.new.added.items ≡ length self.old.added.items
             + added_in (Some entry) }
         ensures changed_room { vec_capacity self.new.changed ≡ vec_capacity self.old.changed }
-        ensures added_room { vec_capacity self.new.added ≡ vec_capacity self.old.added }
+        ensures added_room { self.new.added.capacity ≡ self.old.added.capacity }
     {
         match entry {
             Entry::Changed(image) => self.changed.push_reserved((node, image)),

@@ -7,6 +7,7 @@ ghost use Rattle.qc_arena.specs.Entries.{IsOnce, all_new, entry_number};
 
 use crate::image::Image;
 use crate::images::Images;
+use crate::number_list::NumberList;
 use std::alloc::Global;
 use std::marker::Model;
 
@@ -14,7 +15,7 @@ use std::marker::Model;
 #[derive(Drop)]
 pub(crate) struct UnsortedImages {
     changed: Vec<(u32, Image)>,
-    added: Vec<u32>,
+    added: NumberList,
 }
 
 impl Model for UnsortedImages {
@@ -39,12 +40,12 @@ impl UnsortedImages {
     {
         UnsortedImages {
             changed: Vec::new(alloc),
-            added: Vec::new(alloc),
+            added: NumberList::new(alloc),
         }
     }
 
     // The before-images of these entries. Each number has at most one.
-    pub(crate) fn of(changed: Vec<(u32, Image)>, added: Vec<u32>) -> UnsortedImages
+    pub(crate) fn of(changed: Vec<(u32, Image)>, added: NumberList) -> UnsortedImages
         requires { IsOnce (changed.items ++ all_new added.items) }
         ensures { result ≡ map.from_entries (changed.items ++ all_new added.items) }
     {
@@ -58,7 +59,7 @@ impl UnsortedImages {
         let mut changed = self.changed;
         let mut added = self.added;
         sort_changed(&mut changed);
-        added.sort_unstable();
+        added.sort();
         Images::of(changed, added)
     }
 }
@@ -72,7 +73,7 @@ fn sort_changed(changed: &mut Vec<(u32, Image)>)
 }
 
 // The number of an entry.
-pub(crate) fn number_at(changed: &Vec<(u32, Image)>, added: &Vec<u32>, k: usize) -> u32
+pub(crate) fn number_at(changed: &Vec<(u32, Image)>, added: &NumberList, k: usize) -> u32
     requires { k < length (changed.now.items ++ all_new added.now.items) }
     ensures { IfSome (slice_get (changed.now.items ++ all_new added.now.items) k)
         (λ e. result ≡ e.0) }
@@ -81,5 +82,5 @@ pub(crate) fn number_at(changed: &Vec<(u32, Image)>, added: &Vec<u32>, k: usize)
         let (node, _) = &changed[k];
         return *node;
     }
-    added[k - changed.len()]
+    added.at(k - changed.len())
 }

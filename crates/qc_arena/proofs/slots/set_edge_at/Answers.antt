@@ -1,7 +1,7 @@
 use Rattle.std.proofs.Common.{◌∙◌, Option, ap, length, subst, sym}
 use Rattle.std.specs.Prelude.{IsSome}
 use Rattle.std.proofs.lemmas.Result.{IfOk-weaker, on_err_weaker, on_ok_weaker}
-use Rattle.qc_arena.specs.Edges.{edge_to, with_edge}
+use Rattle.qc_arena.specs.Edges.{edge_in, with_edge}
 use Rattle.qc_arena.specs.Inside.{join}
 use Rattle.qc_arena.specs.Map.{Known}
 use Rattle.qc_arena.specs.RecordReaders.{record_or}
@@ -21,7 +21,7 @@ returns-clause-here c =
 pub returns-clause-ok : goal.returns-clause-ok
 returns-clause-ok c = on_ok_weaker c.set_edge.result
     (written_by c.args.nodes.now c.args.node c.index_mut.result.now c.set_edge.new.self c.index_mut.ensures.value
-    (with_edge (edge_to c.args.edge))) c.set_edge.ensures.ok
+    (with_edge (edge_in c.args.edge))) c.set_edge.ensures.ok
 
 pub returns-clause-had : goal.returns-clause-had
 returns-clause-had c = IfOk-weaker c.set_edge.result _ _ (λ n e. e

@@ -23,16 +23,16 @@ returns-in-None c =
     ∙ looked c.args.self.now _ c.args.node.0 _ c.self.view_is
     (look_before c.args.node.0 m.changed.items (all_new m.added.items) _ found)
 
-pub returns-then-is_new : goal.returns-then-is_new
-returns-then-is_new c =
+pub returns-then-has : goal.returns-then-has
+returns-then-has c =
     let m = c.self.inside in
     looked c.args.self.now _ c.args.node.0 _ c.self.view_is
     (look_after c.args.node.0 m.changed.items (all_new m.added.items) c.in_default.ensures.none
-    ∙ c.if-is_new.ensures)
+    ∙ c.if-has.ensures)
 
 pub returns : goal.returns
 returns c =
     let m = c.self.inside in
     looked c.args.self.now _ c.args.node.0 _ c.self.view_is
     (look_after c.args.node.0 m.changed.items (all_new m.added.items) c.in_default.ensures.none
-    ∙ c.if-is_new.ensures)
+    ∙ c.if-has.ensures)

@@ -4,10 +4,10 @@ use Rattle.qc_arena.proofs.unsorted_images.UnsortedImages.sorted.Goals as goal
 
 pub of-requires-clause-once : goal.of-requires-clause-once
 of-requires-clause-once c
-    = once_moved _ _ (both_moved _ _ _ _ c.sort_changed.ensures.moved c.sort_unstable.ensures.permutation)
+    = once_moved _ _ (both_moved _ _ _ _ c.sort_changed.ensures.moved c.sort.ensures.permutation)
     c.self.invariant
 
 pub returns : goal.returns
 returns c = c.of.ensures
-    ∙ map_moved _ _ (both_moved _ _ _ _ c.sort_changed.ensures.moved c.sort_unstable.ensures.permutation)
+    ∙ map_moved _ _ (both_moved _ _ _ _ c.sort_changed.ensures.moved c.sort.ensures.permutation)
     c.self.invariant ∙ c.self.view_is
