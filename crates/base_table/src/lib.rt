@@ -12,4 +12,5 @@ mod store;
 mod table;
 
 pub use cube_defs::Memory;
+pub use lines::line;
 pub use table::{Missing, RowNo, Table, TableRefused, Taken};

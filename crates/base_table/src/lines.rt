@@ -9,8 +9,8 @@ use cell_core::{ANY, Cell, Entry};
 use cube_defs::MAX_DIMS;
 use std::alloc::Global;
 
-// The list at a place.
-pub(crate) fn line<T: Copy>(cells: &Vec<T>, place: u32, width: u8) -> &[T]
+/// The list at a place, counted from 0.
+pub fn line<T: Copy>(cells: &Vec<T>, place: u32, width: u8) -> &[T]
     requires { place * width + width ≤ length cells.now.items }
     ensures value { result.now ≡ take width (drop (place * width) cells.now.items) }
     ensures len { length result.now ≡ width }

@@ -133,8 +133,8 @@ impl Store {
         self.prints.before(place)
     }
 
-    // The codes of a row.
-    fn codes(&self, place: u32) -> &[u32]
+    /// The codes of a row.
+    pub fn codes(&self, place: u32) -> &[u32]
         requires { place < length self.now.rows }
         ensures value { (d : Row ℕ) → result.now ≡ (slice_index_or self.now.rows place d).tuple }
         ensures dims { length result.now ≡ self.now.dims }

@@ -218,6 +218,15 @@ impl Table {
         self.store.code(row.0, dim)
     }
 
+    /// The codes of a row, one for each dimension.
+    pub fn codes(&self, row: RowNo) -> &[Code]
+        requires row { is_some (row_at self.now row.0) ≡ true }
+        ensures value { IfSome (row_at self.now row.0) (λ r. result.now ≡ r.tuple) }
+        ensures dims { length result.now ≡ self.now.dims }
+    {
+        self.store.codes(row.0)
+    }
+
     /// The tuple of a row.
     pub fn tuple(&self, row: RowNo) -> Cell
         requires row { is_some (row_at self.now row.0) ≡ true }

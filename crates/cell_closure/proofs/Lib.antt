@@ -1,6 +1,8 @@
 pub mod Rows
 pub mod Closing
 mod Runs
+mod Reordering
+mod Copies
 mod Sorted
 pub mod Stable
 mod Counting

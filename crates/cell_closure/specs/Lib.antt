@@ -1,4 +1,5 @@
 pub mod Parts
 pub mod Runs
+pub mod Copies
 pub mod Counts
 pub mod Widths

@@ -8,13 +8,14 @@ ghost use Rattle.base_table.specs.Places.{AreThere, IsTable, named};
 ghost use Rattle.cell_closure.specs.Parts.{code_at};
 ghost use Rattle.cube_laws.specs.Parting.{shared_by};
 
+use crate::sorted_rows::SortedRows;
 use crate::width::closure_in;
-use base_table::{RowNo, Table};
+use base_table::RowNo;
 use cell_core::{Cell, Code, Entry};
 use cube_defs::MAX_DIMS;
 
 /// Whether all the rows have the code in the dimension.
-fn all_have(table: &Table, rows: &[RowNo], dim: u8, code: Code) -> bool
+fn all_have(table: &SortedRows, rows: &[RowNo], dim: u8, code: Code) -> bool
     requires there { AreThere table.now rows.now }
     requires dim { dim < table.now.dims }
     ensures { result ≡ list_all (λ no. code_at table.now dim no == code) rows.now }
@@ -28,7 +29,7 @@ fn all_have(table: &Table, rows: &[RowNo], dim: u8, code: Code) -> bool
 }
 
 /// The value that all the rows have in the dimension. Any if they differ.
-pub fn shared_entry(table: &Table, rows: &[RowNo], dim: u8) -> Entry
+pub fn shared_entry(table: &SortedRows, rows: &[RowNo], dim: u8) -> Entry
     requires table { IsTable table.now }
     requires some { 0 < length rows.now }
     requires there { AreThere table.now rows.now }
@@ -59,7 +60,7 @@ macro_rules! closure_by_width {
 
 /// The values that all the rows have, and Any in the other dimensions. It reads rows only until
 /// they share no value any more.
-pub fn closure_of(table: &Table, rows: &[RowNo]) -> Cell
+pub fn closure_of(table: &SortedRows, rows: &[RowNo]) -> Cell
     requires some { 0 < length rows.now }
     requires there { AreThere table.now rows.now }
     ensures closure { Some result ≡ meet_all nat_eq

@@ -1,12 +1,16 @@
-//! The values that rows share, and groups of rows by their codes in a dimension.
+//! Rows in the order of their tuples, the values that rows share, and groups of rows by their codes
+//! in a dimension.
 #![tactic(auto)]
 
 mod by_code;
 mod closure;
+mod order;
 mod parts;
+mod sorted_rows;
 mod width;
 
 pub use closure::{closure_of, shared_entry};
 pub use cube_defs::Memory;
 pub use parts::{Parts, part};
+pub use sorted_rows::SortedRows;
 pub use width::meet_fixed;

@@ -6,7 +6,8 @@ ghost use Rattle.cell_closure.specs.Runs.{no_row, pieces, runs};
 
 use crate::Memory;
 use crate::by_code::{Keyed, Sorter, read_codes, sort_by_code};
-use base_table::{RowNo, Table};
+use crate::sorted_rows::SortedRows;
+use base_table::RowNo;
 use cell_core::Code;
 use std::alloc::Global;
 use std::marker::Model;
@@ -78,7 +79,7 @@ impl Parts {
 
     /// Groups rows by their codes in a dimension, in place of the earlier groups. Each part has its
     /// rows in the given order. After a refusal there are no parts.
-    pub fn regroup(&mut self, table: &Table, rows: &[RowNo], dim: u8) -> Result<(), Memory>
+    pub fn regroup(&mut self, table: &SortedRows, rows: &[RowNo], dim: u8) -> Result<(), Memory>
         requires there { AreThere table.now rows.now }
         requires dim { dim < table.now.dims }
         ensures ok { IfOk result (λ _. self.new ≡ parted table.now rows.now dim) }
@@ -94,7 +95,7 @@ impl Parts {
 }
 
 /// Groups rows by their codes in the dimension. Each part has its rows in the given order.
-pub fn part(alloc: Global, table: &Table, rows: &[RowNo], dim: u8) -> Result<Parts, Memory>
+pub fn part(alloc: Global, table: &SortedRows, rows: &[RowNo], dim: u8) -> Result<Parts, Memory>
     requires there { AreThere table.now rows.now }
     requires dim { dim < table.now.dims }
     ensures { IfOk result (λ parts. parts ≡ parted table.now rows.now dim) }
@@ -104,7 +105,8 @@ pub fn part(alloc: Global, table: &Table, rows: &[RowNo], dim: u8) -> Result<Par
     Ok(parts)
 }
 
-fn list_rows(rows: &mut Vec<RowNo>, keyed: &[Keyed]) -> Result<(), Memory>
+/// Lists the rows without their codes.
+pub(crate) fn list_rows(rows: &mut Vec<RowNo>, keyed: &[Keyed]) -> Result<(), Memory>
     ensures { IfOk result (λ _. rows.new.items ≡ map (λ k. k.row) keyed.now) }
 {
     rows.clear();

@@ -1,12 +1,14 @@
 -- The acts for all rows, from an arena without nodes to the canonical tree.
-use Rattle.std.proofs.Common.{◌≡◌, ℕ, ◌-◌, ◌<◌, ◌≤◌, true, Some, None, List, [], ◌∷◌, length, replicate, nat_cmp, append-nil, refl, sym, ap}
+use Rattle.std.proofs.Common.{◌≡◌, ℕ, ◌-◌, ◌<◌, ◌≤◌, true, Some, None, List, [], ◌∷◌, ◌++◌, length, replicate, nat_cmp, append-nil, length-append, refl, sym, ap}
 use Rattle.std.proofs.Common.{ap₂, subst, ◌∙◌, arith, is_some, true≢false}
 use Rattle.std.specs.FinMap as map
 use Rattle.std.specs.Option.{option_map}
 use Rattle.cube_defs.specs.Cell.{Cell, cell_prefix}
 use Rattle.cube_defs.specs.Rows.{Row}
 use Rattle.cube_defs.specs.Tree.{IsCanonical, Node, Tree, cell_at, nodes}
-use Rattle.cube_laws.proofs.CallerLemmas.{cell_prefix_zero, all_map, HaveDims, length-shared, shared_some}
+use Rattle.cube_laws.specs.Lists.{Reordered}
+use Rattle.cube_laws.specs.Tuples.{TuplesAmong}
+use Rattle.cube_laws.proofs.CallerLemmas.{among-reordered, cell_prefix_zero, all_map, HaveDims, length-shared, shared_some}
 use Rattle.cube_defs.specs.declared.limits.TheConstants.{MAX_ROWS}
 use Rattle.base_table.specs.Places.{IsRow, IsTable, Places, named, rows_of}
 use Rattle.base_table.specs.declared.table.RowNo.{RowNo}
@@ -104,3 +106,16 @@ pub none_built : (measures : ℕ) (rows : List (Row ℕ)) (tree : Tree ℕ) → 
     → IsCanonical nat_cmp measures rows tree
 none_built measures [] tree h e = none_canonical measures tree (no_node tree e)
 none_built measures (r ∷ rows) tree h e = absurd (omega arith)
+
+-- rows in another order are no fewer
+pub some_left : (rows more : List (Row ℕ)) → Reordered rows more → 0 < length rows → 0 < length more
+some_left [] more h l = absurd (omega arith)
+some_left (r ∷ rows) more (front, back, e, rest) l
+    = subst (λ rs. 0 < length rs) (sym e) (omega (arith, length-append front (r ∷ back)))
+
+module _ (rows more : List (Row ℕ)) (h : Reordered rows more) where
+  pub tuples_there : TuplesAmong rows more
+  tuples_there r m = (r, (among-reordered rows more h r).1 m, refl)
+
+  pub tuples_back : TuplesAmong more rows
+  tuples_back r m = (r, (among-reordered rows more h r).0 m, refl)

@@ -1,11 +1,12 @@
 // Rows that the walk visits together.
-use base_table::{RowNo, Table};
+use base_table::RowNo;
+use cell_closure::SortedRows;
 use cell_core::{Cell, Code};
 
-/// Rows of a table, and the values that they share.
+/// Some of the rows, and the values that they share.
 #[derive(Drop)]
 pub(crate) struct Partition<'a> {
-    pub(crate) table: &'a Table,
+    pub(crate) table: &'a SortedRows,
     pub(crate) rows: &'a [RowNo],
     pub(crate) shared: Cell,
 }
@@ -14,7 +15,7 @@ pub(crate) struct Partition<'a> {
 /// share.
 #[derive(Drop)]
 pub(crate) struct Group<'a> {
-    pub(crate) table: &'a Table,
+    pub(crate) table: &'a SortedRows,
     pub(crate) rows: &'a [RowNo],
     pub(crate) code: Code,
     pub(crate) upper: &'a Cell,

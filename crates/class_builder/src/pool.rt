@@ -4,8 +4,8 @@ ghost use Rattle.base_table.specs.Places.{AreThere};
 ghost use Rattle.cell_closure.specs.Parts.{parted};
 
 use crate::Memory;
-use base_table::{RowNo, Table};
-use cell_closure::Parts;
+use base_table::RowNo;
+use cell_closure::{Parts, SortedRows};
 use std::alloc::Global;
 
 /// Parts that are no longer used.
@@ -24,7 +24,12 @@ impl PartsPool {
     }
 
     /// Groups the rows by their codes in the dimension.
-    pub(crate) fn part(&mut self, table: &Table, rows: &[RowNo], dim: u8) -> Result<Parts, Memory>
+    pub(crate) fn part(
+        &mut self,
+        table: &SortedRows,
+        rows: &[RowNo],
+        dim: u8,
+    ) -> Result<Parts, Memory>
         requires there { AreThere table.now rows.now }
         requires dim { dim < table.now.dims }
         ensures { IfOk result (λ parts. parts ≡ parted table.now rows.now dim) }

@@ -8,7 +8,8 @@ ghost use Rattle.class_builder.specs.Walk.{IsPart};
 
 use crate::Memory;
 use crate::part::Partition;
-use base_table::{RowNo, Table};
+use base_table::RowNo;
+use cell_closure::SortedRows;
 use cell_core::{Cell, Entry, NodeNo};
 use std::alloc::Global;
 
@@ -25,7 +26,7 @@ const NO_NODE: NodeNo = NodeNo(u32::MAX);
 
 impl PrefixNodes {
     /// No node is stored yet. Takes memory for a node for each row and dimension.
-    pub(crate) fn new(alloc: Global, table: &Table) -> Result<PrefixNodes, Memory>
+    pub(crate) fn new(alloc: Global, table: &SortedRows) -> Result<PrefixNodes, Memory>
         ensures none { IfOk result (λ fronts. (no d : ℕ) → prefix_node fronts no d ≡ unset_node) }
         ensures dims { IfOk result (λ fronts. fronts.dims ≡ table.now.dims) }
     {

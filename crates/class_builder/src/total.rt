@@ -5,11 +5,12 @@ ghost use Rattle.base_table.specs.Places.{AreThere, IsTable, named};
 ghost use Rattle.aggregates.specs.Views.{agg_in};
 
 use aggregates::Agg;
-use base_table::{RowNo, Table};
+use base_table::RowNo;
+use cell_closure::SortedRows;
 use cube_defs::MAX_ROWS;
 
 /// The aggregate of the rows.
-pub(crate) fn total(table: &Table, rows: &[RowNo]) -> Agg
+pub(crate) fn total(table: &SortedRows, rows: &[RowNo]) -> Agg
     requires table { IsTable table.now }
     requires some { 0 < length rows.now }
     requires few { length rows.now ≤ MAX_ROWS }

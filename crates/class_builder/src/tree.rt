@@ -16,11 +16,13 @@ use crate::prefix_nodes::PrefixNodes;
 use crate::walk::drill;
 use base_table::Table;
 use build_acts::add_root;
-use cell_closure::closure_of;
-use cell_core::Steps;
+use cell_closure::{SortedRows, closure_of};
+use cell_core::{Code, Steps};
+use cube_laws::same_rows::lists_of_cells_in_order;
 use qc_arena::{ArenaRefused, QcArena};
 use std::alloc::Global;
 use std::sync::ledger::Ledger;
+use tree_laws::same_rows::rows_in_any_order;
 
 /// Makes the canonical tree of the table's rows in an open arena without nodes. It is refused as
 /// full if and only if the tree has more nodes than the arena allows.
@@ -43,6 +45,36 @@ pub fn build_classes<L: Ledger>(
     if table.count() == 0 {
         return Ok(());
     }
+    let Ok(rows) = SortedRows::of(alloc, table) else {
+        return Err(ArenaRefused::Memory);
+    };
+    // Laws for the proof: the order of the rows makes no difference. They do nothing at run time.
+    rows_in_any_order::<Code>();
+    lists_of_cells_in_order::<Code>();
+    let built = build_sorted(alloc, &rows, arena, steps);
+    drop(rows);
+    built
+}
+
+/// Makes the tree of sorted rows, of which there are some.
+fn build_sorted<L: Ledger>(
+    alloc: Global,
+    table: &SortedRows,
+    arena: &mut QcArena,
+    steps: &mut Steps<L>,
+) -> Result<(), ArenaRefused>
+    requires some { 0 < length (rows_of table.now) }
+    requires opened { is_open arena.old ≡ true }
+    requires empty { arena.old.now ≡ map.empty }
+    requires width { arena.old.width ≡ table.now.dims }
+    ensures tree { OnOk result
+        (IsCanonical nat_cmp table.now.measures (rows_of table.now) arena.new.now) }
+    ensures fits { OnOk result (length (nodes nat_cmp (rows_of table.now)) ≤ arena.old.max) }
+    ensures full { result ≡ Err ArenaRefused.Full
+        → arena.old.max < length (nodes nat_cmp (rows_of table.now)) }
+    ensures frame { frame arena.new ≡ frame arena.old }
+{
+    table.recall_invariant();
     let Ok(rows) = table.all(alloc) else {
         return Err(ArenaRefused::Memory);
     };

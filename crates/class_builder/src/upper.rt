@@ -7,12 +7,12 @@ ghost use Rattle.cube_laws.specs.Parting.{shared_by};
 ghost use Rattle.build_trace.specs.Walk.{same_prefix};
 ghost use Rattle.class_builder.specs.Walk.{AreCoveredRows};
 
-use base_table::{RowNo, Table};
-use cell_closure::shared_entry;
+use base_table::RowNo;
+use cell_closure::{SortedRows, shared_entry};
 use cell_core::{Cell, Entry};
 
 /// The value that the rows share in the dimension, or Any. `upper` covers all of them.
-fn entry_of(table: &Table, rows: &[RowNo], upper: &Cell, dim: u8) -> Entry
+fn entry_of(table: &SortedRows, rows: &[RowNo], upper: &Cell, dim: u8) -> Entry
     requires under { AreCoveredRows table.now rows.now upper.now }
     requires dim { dim < table.now.dims }
     ensures value { value_in result ≡ slice_index_or
@@ -27,7 +27,7 @@ fn entry_of(table: &Table, rows: &[RowNo], upper: &Cell, dim: u8) -> Entry
 
 /// Whether the rows share a value in the dimension. A single row isn't read: most groups have only
 /// one.
-fn is_shared(table: &Table, rows: &[RowNo], dim: u8) -> bool
+fn is_shared(table: &SortedRows, rows: &[RowNo], dim: u8) -> bool
     requires table { IsTable table.now }
     requires some { 0 < length rows.now }
     requires there { AreThere table.now rows.now }
@@ -44,7 +44,7 @@ fn is_shared(table: &Table, rows: &[RowNo], dim: u8) -> bool
 }
 
 /// Whether the rows share a value in the dimension, and `upper`, which covers them, has Any there.
-fn gains(table: &Table, rows: &[RowNo], upper: &Cell, dim: u8) -> bool
+fn gains(table: &SortedRows, rows: &[RowNo], upper: &Cell, dim: u8) -> bool
     requires under { AreCoveredRows table.now rows.now upper.now }
     requires dim { dim < table.now.dims }
     ensures same { result ≡ false →
@@ -62,7 +62,12 @@ fn gains(table: &Table, rows: &[RowNo], upper: &Cell, dim: u8) -> bool
 
 /// The first dimension before `dim` in which the rows share a value and `upper`, which covers them,
 /// has Any. None if there is no such dimension.
-pub(crate) fn first_new_value(table: &Table, rows: &[RowNo], upper: &Cell, dim: u8) -> Option<u8>
+pub(crate) fn first_new_value(
+    table: &SortedRows,
+    rows: &[RowNo],
+    upper: &Cell,
+    dim: u8,
+) -> Option<u8>
     requires under { AreCoveredRows table.now rows.now upper.now }
     requires dim { dim < table.now.dims }
     ensures none { IfNone result
@@ -82,7 +87,12 @@ pub(crate) fn first_new_value(table: &Table, rows: &[RowNo], upper: &Cell, dim: 
 }
 
 /// The closure of rows that share a value in the dimension, and before it no more than `upper` has.
-pub(crate) fn closure_of_part(table: &Table, rows: &[RowNo], upper: &Cell, dim: u8) -> Cell
+pub(crate) fn closure_of_part(
+    table: &SortedRows,
+    rows: &[RowNo],
+    upper: &Cell,
+    dim: u8,
+) -> Cell
     requires under { AreCoveredRows table.now rows.now upper.now }
     requires dim { dim < table.now.dims }
     requires value { is_some (slice_index_or (shared_by (named table.now rows.now)) dim None)
@@ -101,7 +111,13 @@ pub(crate) fn closure_of_part(table: &Table, rows: &[RowNo], upper: &Cell, dim: 
 
 /// The prefix through `dim` of what the rows share. Before dimension `at` they share no more than
 /// `upper` has. The later entries are those of `upper`.
-pub(crate) fn shared_prefix(table: &Table, rows: &[RowNo], upper: &Cell, at: u8, dim: u8) -> Cell
+pub(crate) fn shared_prefix(
+    table: &SortedRows,
+    rows: &[RowNo],
+    upper: &Cell,
+    at: u8,
+    dim: u8,
+) -> Cell
     requires under { AreCoveredRows table.now rows.now upper.now }
     requires at { at ≤ dim }
     requires dim { dim < table.now.dims }
