@@ -1,6 +1,7 @@
 -- The nodes of a tree that generalize a tuple.
 use Rattle.std.specs.FinMap as map
-use Rattle.std.specs.Prelude.{◌≡◌, ◌⊎◌, ℕ, ◌<◌, ◌≤◌, false, true, IsSome, Some, List, [], ◌∷◌, ◌++◌, length, nat_eq, slice_get, slice_index_or}
+use Rattle.std.specs.Prelude.{◌≡◌, ◌⊎◌, ℕ, ◌<◌, ◌≤◌, false, true, IsSome, Some, List, [], ◌∷◌, ◌++◌, length, nat_eq, slice_get}
+use Rattle.std.specs.Prelude.{slice_index_or}
 use Rattle.cell_core.specs.Entry.{IsCode}
 use Rattle.cube_defs.specs.Cell.{Cell, depth, leq, with_value}
 use Rattle.cube_defs.specs.Tree.{Tree, cell_at}

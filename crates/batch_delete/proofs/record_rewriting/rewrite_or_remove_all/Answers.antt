@@ -2,7 +2,8 @@ use Rattle.std.proofs.Common.{length, ◌∙◌, ◌<◌, ◌+◌, Some, ap, ari
 use Rattle.qc_arena.specs.Map.{Arena, is_open}
 use Rattle.std.proofs.lemmas.Option.{slice_get_within}
 use Rattle.batch_delete.proofs.Growing.{item_at}
-use Rattle.batch_delete.proofs.Settling.{can_rewrite, done_more, new_rest, others_all, others_more, same_long, settling_more, settling_taken, there_more}
+use Rattle.batch_delete.proofs.Settling.{can_rewrite, done_more, new_rest, others_all, others_more, same_long, settling_more}
+use Rattle.batch_delete.proofs.Settling.{settling_taken, there_more}
 use Rattle.batch_delete.proofs.record_rewriting.rewrite_or_remove_all.Goals as goal
 
 pub rewrite_or_remove-requires-clause-node : goal.rewrite_or_remove-requires-clause-node
