@@ -12,10 +12,10 @@ use Rattle.cube_defs.specs.Tree.{Edge, Tree}
 use Rattle.std.proofs.lemmas.Option.{slice_get_within}
 use Rattle.batch_delete.proofs.Growing.{item_at}
 use Rattle.qc_arena.specs.Edges.{drop_label, put_edge, rises, same_label}
-use Rattle.qc_arena.specs.Map.{Arena, CanChange, Known, frame, is_open, is_touched}
+use Rattle.qc_arena.specs.Map.{Arena, CanChange, Known, is_open}
 use Rattle.qc_arena.specs.RecordReaders.{label_lt}
 use Rattle.qc_arena.proofs.CallerLemmas.{all_at, drop_none, lt_apart, lt_apart_back}
-use Rattle.batch_delete.specs.Plan.{redirected_edge, first_redirected, with_target, with_mixed}
+use Rattle.batch_delete.specs.Plan.{ChangesOnly, redirected_edge, first_redirected, with_target, with_mixed}
 
 not_before : (x : Edge ℕ ℕ) (t : ℕ) → label_lt x (record { dim = x.dim; value = x.value; target = t }) ≡ false
 not_before x t = grind (arith, nat_tests)
@@ -157,9 +157,19 @@ mapped f None m e h = absurd (true≢false (sym h))
 mapped f (Some x) m e h = ap is_some e
 
 pub changed : (a b : Arena) (k : ℕ) (f : Known → Known) → map.get b.now k ≡ option_map f (map.get a.now k)
-    → ((q : ℕ) → is_touched b q ≡ is_touched a q) → frame b ≡ frame a → CanChange a k → CanChange b k
-changed a b k f here touched framed can = record {
-  opened = ap is_open framed ∙ can.opened;
+    → ChangesOnly k a b → CanChange a k → CanChange b k
+changed a b k f here only can = record {
+  opened = ap is_open only.frame ∙ can.opened;
   there = mapped f (map.get a.now k) (map.get b.now k) here can.there;
-  touched = touched k ∙ can.touched;
+  touched = only.touched k ∙ can.touched;
+}
+
+pub no_change : (k : ℕ) (a : Arena) → ChangesOnly k a a
+no_change k a = record { others = λ q off. refl; touched = λ q. refl; frame = refl }
+
+pub more_changes : (k : ℕ) (a b c : Arena) → ChangesOnly k a b → ChangesOnly k b c → ChangesOnly k a c
+more_changes k a b c had more = record {
+  others = λ q off. more.others q off ∙ had.others q off;
+  touched = λ q. more.touched q ∙ had.touched q;
+  frame = more.frame ∙ had.frame;
 }

@@ -1,11 +1,13 @@
 -- The row that goes, and the classes that it is one of.
-use Rattle.std.specs.Prelude.{◌≡◌, ◌≤◌, ◌<◌, ℕ, suc, true, Option, Some, None, IfSome, length, slice_get}
+use Rattle.std.specs.FinMap as map
+use Rattle.std.specs.Prelude.{◌≡◌, ◌≤◌, ◌<◌, ℕ, suc, true, Option, Some, None, IfSome, IsSome, List, length, nat_eq, slice_get}
 use Rattle.std.specs.Option.{option_map}
 use Rattle.std.specs.Ordering.{eq_by_cmp, nat_cmp}
 use Rattle.aggregates.specs.declared.agg.Agg.{Agg}
 use Rattle.aggregates.specs.Views.{agg_in}
-use Rattle.cube_defs.specs.Cell.{Cell, cell_prefix, cell_of}
-use Rattle.cube_defs.specs.Rows.{covers}
+use Rattle.cell_core.specs.Entry.{IsCode}
+use Rattle.cube_defs.specs.Cell.{Cell, cell_of, cell_prefix, leq, with_value}
+use Rattle.cube_defs.specs.Rows.{cov, covers}
 use Rattle.cube_defs.specs.Tree.{Tree, cell_at}
 use Rattle.cube_defs.specs.declared.limits.TheConstants.{MAX_ROWS}
 use Rattle.cube_laws.specs.Total.{agg_at}
@@ -14,7 +16,17 @@ use Rattle.tree_laws.specs.Walk.{closure_prefix}
 use Rattle.tree_search.specs.Found.{IsNumberOfCell, IsTreeOf, closure_in}
 use Rattle.batch_delete.specs.declared.deleted_row.Class.{Class}
 use Rattle.batch_delete.specs.declared.generalizing.NodeCell.{NodeCell}
-use Rattle.batch_delete.specs.Rests.{Deletion, rows_after, rows_before, source_before}
+use Rattle.batch_delete.specs.declared.parts.Rest.{Rest}
+use Rattle.batch_delete.specs.declared.plan.NodePlan.{NodePlan}
+use Rattle.batch_delete.specs.Rests.{AreGreaterPlanned, Deletion, IsRest, SharesAtMost, rows_after, rows_before, source_before}
+
+-- the row that goes: the tree before, its tuple, and what the other rows of the tuple come to
+pub record IsDeletion (d : Deletion) (a : Arena) (t : Cell ℕ) (after : Option Agg) : Type 0 where
+  pub tree : IsTreeOf a.width a.now (source_before d)
+  pub long : length t ≡ a.width
+  pub tuple : t ≡ cell_of d.r.tuple
+  pub duplicates : option_map agg_in after ≡ agg_at (eq_by_cmp nat_cmp) d.measures (rows_after d) t
+  pub few : length (rows_before d) ≤ MAX_ROWS
 
 -- what is known of the row that goes: the tree before, its tuple, and what the tuple's rows come to before and
 -- afterwards
@@ -33,6 +45,7 @@ pub record IsClass (d : Deletion) (c : Cell ℕ) : Type 0 where
 
 -- such a class and its node
 pub record IsClassNode (d : Deletion) (a : Arena) (b : NodeCell) : Type 0 where
+  pub tree : IsTreeOf a.width a.now (source_before d)
   pub class : IsClass d b.cell
   pub long : length b.cell ≡ a.width
   pub node : cell_at a.now b.node.0 ≡ Some b.cell
@@ -55,3 +68,51 @@ pub record IsKnown (d : Deletion) (class : Class) : Type 0 where
 -- a search for the cell goes on from the number after dimension i
 abbrev pub GoesOn : Deletion → Tree ℕ → Cell ℕ → ℕ → ℕ → Type 0
 GoesOn d tree c i k = IsNumberOfCell tree (Some k) (closure_prefix (eq_by_cmp nat_cmp) (rows_before d) c (suc i))
+
+-- so it does in the tree before, for a cell that is as wide
+pub record IsSearch (d : Deletion) (a : Arena) (c : Cell ℕ) (i k : ℕ) : Type 0 where
+  pub tree : IsTreeOf a.width a.now (source_before d)
+  pub long : length c ≡ a.width
+  pub dim : i < length c
+  pub on : GoesOn d a.now c i k
+
+-- the search for the cell has found a node, that of its closure
+pub record HasFound (d : Deletion) (a : Arena) (c : Cell ℕ) (k : ℕ) : Type 0 where
+  pub tree : IsTreeOf a.width a.now (source_before d)
+  pub long : length c ≡ a.width
+  pub there : IsSome (map.get a.now k)
+  pub found : IsNumberOfCell a.now (Some k) (closure_in (source_before d) c)
+
+-- a label with a code in dimension i leads to where the search for a part of the class goes on
+pub record IsPartLabel (d : Deletion) (a : Arena) (u : Cell ℕ) (i v k : ℕ) : Type 0 where
+  pub tree : IsTreeOf a.width a.now (source_before d)
+  pub long : length u ≡ a.width
+  pub dim : i < length u
+  pub code : IsCode v
+  pub on : GoesOn d a.now (with_value u i v) i k
+
+-- some rows of the class, if there are any: they have all its measures, and what they share is as wide
+pub record ArePartOf (d : Deletion) (u : Cell ℕ) (rest : Option Rest) : Type 0 where
+  pub parts : IfSome rest (λ some. length (agg_in some.agg).parts ≡ d.measures)
+  pub shared : IfSome rest (λ some. length some.shared ≡ length u)
+
+-- some rows of the class that stay: what they share, and that they are its rest if they are so many
+pub record MaySettle (d : Deletion) (u : Cell ℕ) (rest : Rest) : Type 0 where
+  pub shared : length rest.shared ≡ length u
+  pub above : SharesAtMost d u rest.shared
+  pub all : rest.agg.count ≡ length (cov (eq_by_cmp nat_cmp) (rows_after d) u)
+      → IsRest d.measures (rows_after d) u (Some rest)
+
+-- a node that generalizes the tuple, all greater ones being planned for
+pub record IsNextPlanned (d : Deletion) (a : Arena) (t : Cell ℕ) (plan : List (ℕ × NodePlan))
+    (b : NodeCell) : Type 0 where
+  pub cell : cell_at a.now b.node.0 ≡ Some b.cell
+  pub low : leq nat_eq b.cell t ≡ true
+  pub planned : AreGreaterPlanned d a.now t b.cell plan
+
+-- what is left of a node's rows afterwards
+pub record IsRestOfNode (d : Deletion) (a : Arena) (b : NodeCell) (rest : Option Rest) : Type 0 where
+  pub tree : IsTreeOf a.width a.now (source_before d)
+  pub cell : cell_at a.now b.node.0 ≡ Some b.cell
+  pub long : length b.cell ≡ a.width
+  pub after : IsRest d.measures (rows_after d) b.cell rest

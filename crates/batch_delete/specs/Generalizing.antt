@@ -1,12 +1,49 @@
 -- The nodes of a tree that generalize a tuple.
-use Rattle.std.specs.Prelude.{◌≡◌, ◌⊎◌, ℕ, ◌<◌, ◌≤◌, false, true, Some, List, [], ◌∷◌, ◌++◌, length, nat_eq, slice_get}
+use Rattle.std.specs.FinMap as map
+use Rattle.std.specs.Prelude.{◌≡◌, ◌⊎◌, ℕ, ◌<◌, ◌≤◌, false, true, IsSome, Some, List, [], ◌∷◌, ◌++◌, length, nat_eq, slice_get}
+use Rattle.std.specs.Prelude.{slice_index_or}
+use Rattle.cell_core.specs.Entry.{IsCode}
 use Rattle.cube_defs.specs.Cell.{Cell, depth, leq, with_value}
 use Rattle.cube_defs.specs.Tree.{Tree, cell_at}
+use Rattle.qc_arena.specs.Map.{Arena}
+use Rattle.qc_arena.specs.RecordReaders.{record_at}
+use Rattle.tree_search.specs.Found.{IsTree}
 use Rattle.batch_delete.specs.declared.generalizing.NodeCell.{NodeCell}
 
 -- stands for what a list has past its end
 abbrev pub no_node_cell : NodeCell
 no_node_cell = record { node = record { 0 = 0 }; cell = [] }
+
+-- a tuple and the tree of some rows, which is as wide
+pub record IsAsWide (a : Arena) (tuple : Cell ℕ) : Type 0 where
+  pub tree : IsTree a.width a.now
+  pub long : length tuple ≡ a.width
+
+-- the node may have a child in dimension i
+pub record CanHaveChild (a : Arena) (k i : ℕ) : Type 0 where
+  pub tree : IsTree a.width a.now
+  pub node : IsSome (map.get a.now k)
+  pub behind : depth (record_at a.now k).cell ≤ i
+  pub dim : i < a.width
+
+-- the node at place j of the list may have a child with the code v in dimension i
+pub record HasParent (a : Arena) (list : List NodeCell) (j i v : ℕ) : Type 0 where
+  pub tree : IsTree a.width a.now
+  pub place : j < length list
+  pub cell : cell_at a.now (slice_index_or list j no_node_cell).node.0 ≡ Some (slice_index_or list j no_node_cell).cell
+  pub behind : depth (slice_index_or list j no_node_cell).cell ≤ i
+  pub dim : i < a.width
+  pub code : IsCode v
+
+-- each node of the list may; none stands after one that it generalizes
+pub record AreParents (a : Arena) (list : List NodeCell) (i v : ℕ) : Type 0 where
+  pub tree : IsTree a.width a.now
+  pub cells : (k : ℕ) (b : NodeCell) → slice_get list k ≡ Some b → cell_at a.now b.node.0 ≡ Some b.cell
+  pub short : (k : ℕ) (b : NodeCell) → slice_get list k ≡ Some b → depth b.cell ≤ i
+  pub order : (j k : ℕ) (b c : NodeCell) → j < k → slice_get list j ≡ Some b → slice_get list k ≡ Some c
+      → leq nat_eq c.cell b.cell ≡ false
+  pub dim : i < a.width
+  pub code : IsCode v
 
 -- the nodes that generalize the tuple without a value from a dimension on; none stands after one that it generalizes
 pub record AreGeneralizing (tree : Tree ℕ) (tuple : Cell ℕ) (dim : ℕ) (list : List NodeCell) : Type 0 where

@@ -1,19 +1,21 @@
 -- What becomes of the nodes that generalize a tuple, and of their edges.
 use Rattle.std.specs.FinMap as map
 use Rattle.std.specs.List.{sum_by}
-use Rattle.std.specs.Prelude.{◌≡◌, ◌≢◌, ◌<◌, ◌≤◌, ◌+◌, ◌*◌, IsSome, length, slice_get, ℕ, zero, suc, [], ◌∷◌, filter_map, Bool, true, false}
+use Rattle.std.specs.Prelude.{◌≡◌, ◌≢◌, ◌<◌, ◌≤◌, ◌+◌, ◌*◌, IfSome, IsSome, length, slice_get, ℕ, zero, suc, [], ◌∷◌, filter_map, Bool}
+use Rattle.std.specs.Prelude.{true, false}
 use Rattle.std.specs.Prelude.{◌&&◌, ◌||◌, Option, Some, None, List, nat_eq, nat_lt, slice_index_or, if◌then◌else◌}
 use Rattle.std.specs.Option.{option_and_then, option_map}
 use Rattle.std.specs.Map.{lookup}
 use Rattle.aggregates.specs.Views.{agg_in}
+use Rattle.cell_core.specs.Entry.{IsCode}
 use Rattle.cell_core.specs.declared.cell.NodeNo.{NodeNo}
 use Rattle.cube_defs.specs.Cell.{Cell, cell_eq, depth, cell_prefix, leq}
 use Rattle.cube_defs.specs.Rows.{Agg}
 use Rattle.cube_defs.specs.Tree.{Edge, Tree, next_value}
 use Rattle.std.specs.Ordering.{eq_by_cmp, nat_cmp}
 use Rattle.tree_laws.specs.Walk.{target_at}
-use Rattle.qc_arena.specs.Edges.{with_edge, without_edge}
-use Rattle.qc_arena.specs.Map.{Known, with_class, with_forced}
+use Rattle.qc_arena.specs.Edges.{rises, with_edge, without_edge}
+use Rattle.qc_arena.specs.Map.{Arena, CanChange, Known, frame, is_open, is_touched, with_class, with_forced}
 use Rattle.qc_arena.specs.RecordReaders.{number, record_at}
 use Rattle.batch_delete.specs.declared.generalizing.NodeCell.{NodeCell}
 use Rattle.batch_delete.specs.declared.parts.Rest.{Rest}
@@ -113,6 +115,53 @@ abbrev pub outcome : Cell ℕ → List (ℕ × NodePlan) → NodeCell → Known 
 outcome tuple plan b n =
     option_map (λ rest. rewritten tuple (heir_in plan) b.cell rest n) (rest_if_stays_in plan b.node.0)
 
+-- no node has changed but the one with the number
+pub record ChangesOnly (k : ℕ) (before after : Arena) : Type 0 where
+  pub others : (q : ℕ) → q ≢ k → map.get after.now q ≡ map.get before.now q
+  pub touched : (q : ℕ) → is_touched after q ≡ is_touched before q
+  pub frame : frame after ≡ frame before
+
+-- an edge may get this target, or go if there is none
+pub record CanRedirect (a : Arena) (x : Edge ℕ ℕ) (to : Option NodeNo) : Type 0 where
+  pub target : IfSome to (λ t. IsSome (map.get a.now t.0))
+  pub dim : x.dim < a.width
+  pub code : IsCode x.value
+
+-- the node's edge with the tuple's value in a dimension may be redirected: an heir of its target is a node
+pub record CanRedirectIn (a : Arena) (tuple : Cell ℕ) (plan : List (ℕ × NodePlan)) (k i : ℕ) : Type 0 where
+  pub change : CanChange a k
+  pub long : length tuple ≡ a.width
+  pub dim : i < a.width
+  pub target : (v t y : ℕ) → slice_index_or tuple i None ≡ Some v
+      → target_at (eq_by_cmp nat_cmp) i v (record_at a.now k).edges ≡ Some y → heir_in plan y ≡ Some t
+      → IsSome (map.get a.now t)
+
+-- all of the node's edges with the tuple's values may be redirected; none is before dimension i
+pub record CanRedirectFrom (a : Arena) (tuple : Cell ℕ) (plan : List (ℕ × NodePlan)) (k i : ℕ) : Type 0 where
+  pub change : CanChange a k
+  pub long : length tuple ≡ a.width
+  pub from : i ≤ length tuple
+  pub rises : rises (record_at a.now k).edges ≡ true
+  pub dims : (j : ℕ) (x : Edge ℕ ℕ) → slice_get (record_at a.now k).edges j ≡ Some x → x.dim < a.width
+  pub behind : (j : ℕ) (x : Edge ℕ ℕ) → slice_get (record_at a.now k).edges j ≡ Some x → i ≤ x.dim
+  pub targets : (j t : ℕ) (x : Edge ℕ ℕ) → slice_get (record_at a.now k).edges j ≡ Some x
+      → heir_target tuple (heir_in plan) x ≡ Some t → IsSome (map.get a.now t)
+
+-- the node may be changed; it and the tuple are as wide as the tree, and its edges are after its last value
+pub record CanRewrite (a : Arena) (tuple : Cell ℕ) (b : NodeCell) : Type 0 where
+  pub change : CanChange a b.node.0
+  pub long : length tuple ≡ a.width
+  pub cell : length b.cell ≡ a.width
+  pub dims : (j : ℕ) (x : Edge ℕ ℕ) → slice_get (record_at a.now b.node.0).edges j ≡ Some x → x.dim < a.width
+  pub behind : (j : ℕ) (x : Edge ℕ ℕ) → slice_get (record_at a.now b.node.0).edges j ≡ Some x → depth b.cell ≤ x.dim
+
+-- what the node's rows share afterwards is as wide, and where its edges lead afterwards there are nodes
+pub record IsNewRest (a : Arena) (tuple : Cell ℕ) (plan : List (ℕ × NodePlan)) (b : NodeCell)
+    (rest : Rest) : Type 0 where
+  pub shared : length rest.shared ≡ a.width
+  pub targets : (j t : ℕ) (x : Edge ℕ ℕ) → slice_get (record_at a.now b.node.0).edges j ≡ Some x
+      → new_target tuple (heir_in plan) (next_entry (depth b.cell) rest.shared) x ≡ Some t → IsSome (map.get a.now t)
+
 -- whether a number stays, if it is one of the list
 abbrev pub Stays : List NodeCell → List (ℕ × NodePlan) → ℕ → Type 0
 Stays list plan t = (k : ℕ) (b : NodeCell) → slice_get list k ≡ Some b → b.node.0 ≡ t → IsSome (rest_if_stays_in plan t)
@@ -135,6 +184,13 @@ pub record AreReady (width : ℕ) (tree : Tree ℕ) (tuple : Cell ℕ) (plan : L
       → rest_if_stays_in plan b.node.0 ≡ Some rest → slice_get (record_at tree b.node.0).edges j ≡ Some x
       → new_target tuple (heir_in plan) (next_entry (depth b.cell) rest.shared) x ≡ Some t → IsSome (map.get tree t)
       × Stays list plan t
+
+-- the nodes of the list are touched in an open batch, and are ready
+pub record CanRewriteAll (a : Arena) (tuple : Cell ℕ) (plan : List (ℕ × NodePlan)) (list : List NodeCell) : Type 0 where
+  pub opened : is_open a ≡ true
+  pub touched : (k : ℕ) (b : NodeCell) → slice_get list k ≡ Some b → is_touched a b.node.0 ≡ true
+  pub long : length tuple ≡ a.width
+  pub ready : AreReady a.width a.now tuple plan list
 
 -- how many steps the records of some nodes take
 abbrev pub rewriting_cost : ℕ → Tree ℕ → List NodeCell → ℕ

@@ -1,5 +1,6 @@
 -- What rows share and come to, before and after a row has gone.
-use Rattle.std.specs.Prelude.{◌≡◌, ◌≤◌, ℕ, slice_get, false, true, Option, Some, None, List, ◌∷◌, ◌++◌, nat_eq, not, ◌&&◌, filter_map}
+use Rattle.std.specs.Prelude.{◌≡◌, ◌≤◌, ◌+◌, ℕ, length, slice_get, false, true, Option, Some, None, List, ◌∷◌, ◌++◌, nat_eq, not, ◌&&◌}
+use Rattle.std.specs.Prelude.{filter_map}
 use Rattle.std.specs.Prelude.{if◌then◌else◌}
 use Rattle.std.specs.Option.{option_map}
 use Rattle.std.specs.Ordering.{eq_by_cmp, nat_cmp}
@@ -7,6 +8,7 @@ use Rattle.aggregates.specs.Views.{agg_in}
 use Rattle.cube_defs.specs.Cell.{Cell, depth, cell_prefix, leq, with_value}
 use Rattle.cube_defs.specs.Rows.{Agg, Row, closure}
 use Rattle.cube_defs.specs.Tree.{Edge, Tree, cell_at}
+use Rattle.cube_defs.specs.declared.limits.TheConstants.{MAX_ROWS}
 use Rattle.cube_laws.specs.Total.{agg_at, join_aggs, join_cells, total}
 use Rattle.tree_search.specs.Found.{IsNumberOfCell, TreeRows}
 use Rattle.batch_delete.specs.declared.generalizing.NodeCell.{NodeCell}
@@ -75,3 +77,9 @@ AreGreaterPlanned d tree tuple c plan = (q : ℕ) (w : Cell ℕ) → cell_at tre
 abbrev pub SharesAtMost : Deletion → Cell ℕ → Cell ℕ → Type 0
 SharesAtMost d u s = (w : Cell ℕ) × (closure (eq_by_cmp nat_cmp) (rows_after d) u ≡ Some w)
     × (leq (eq_by_cmp nat_cmp) w s ≡ true)
+
+-- two groups of rows can be joined: they have the same measures and dimensions, and are few enough
+pub record CanJoin (some part : Rest) : Type 0 where
+  pub parts : length (agg_in part.agg).parts ≡ length (agg_in some.agg).parts
+  pub few : some.agg.count + part.agg.count ≤ MAX_ROWS
+  pub long : length some.shared ≡ length part.shared

@@ -43,7 +43,7 @@ pub(crate) fn class_at_node<L: Ledger>(
     ensures cell { result.cell ≡ below.now.cell }
     ensures steps { steps.new ≤ steps.old + 1 }
 {
-    let whole = class_at(row.arena, &below.cell, below.node, steps);
+    let whole = class_at(row.arena, below, steps);
     let less = agg_without_row(row, &below.cell, whole);
     Class {
         cell: below.cell.copy(),

@@ -1,14 +1,12 @@
 // The nodes that generalize a tuple.
 ghost use Rattle.std.specs.FinMap as map;
-ghost use Rattle.std.specs.Prelude.{IfNone, IfOk, IfSome, IsSome, OnOk, Some, [], false, length, nat_eq, slice_index_or, slice_get, true, ℕ, ◌++◌, ◌∷◌, ◌*◌, ◌+◌, ◌<◌, ◌≡◌, ◌≤◌};
-ghost use Rattle.cube_defs.specs.Cell.{depth, leq, with_value};
+ghost use Rattle.std.specs.Prelude.{IfNone, IfOk, IfSome, IsSome, OnOk, Some, [], false, length, slice_index_or, slice_get, true, ℕ, ◌++◌, ◌∷◌, ◌*◌, ◌+◌, ◌≡◌, ◌≤◌};
+ghost use Rattle.cube_defs.specs.Cell.{with_value};
 ghost use Rattle.cube_defs.specs.Tree.{cell_at};
-ghost use Rattle.cell_core.specs.Entry.{IsCode};
 ghost use Rattle.qc_arena.specs.Map.{frame, is_open, is_touched};
 ghost use Rattle.qc_arena.specs.RecordReaders.{record_at};
-ghost use Rattle.tree_search.specs.Found.{IsTree};
 ghost use Rattle.batch_delete.specs.declared.generalizing.NodeCell.{NodeCell};
-ghost use Rattle.batch_delete.specs.Generalizing.{AreGeneralizing, AddsChildren, AddsChild, no_node_cell};
+ghost use Rattle.batch_delete.specs.Generalizing.{AddsChild, AddsChildren, AreGeneralizing, AreParents, CanHaveChild, HasParent, IsAsWide, no_node_cell};
 
 use crate::Memory;
 use cell_core::{Cell, Code, Entry, NodeNo, Steps};
@@ -34,10 +32,7 @@ fn child<L: Ledger>(
     code: Code,
     steps: &mut Steps<L>,
 ) -> Option<NodeNo>
-    requires tree { IsTree arena.now.width arena.now.now }
-    requires node { IsSome (map.get arena.now.now node.0) }
-    requires behind { depth (record_at arena.now.now node.0).cell ≤ dim }
-    requires dim { dim < arena.now.width }
+    requires { CanHaveChild arena.now node.0 dim }
     ensures none { IfNone result ((q : ℕ)
         → cell_at arena.now.now q ≡ Some (with_value (record_at arena.now.now node.0).cell dim code)
         → ⊥) }
@@ -78,13 +73,7 @@ fn add_child<L: Ledger>(
     code: Code,
     steps: &mut Steps<L>,
 ) -> Result<(), Memory>
-    requires tree { IsTree arena.now.width arena.now.now }
-    requires k { k < length list.old.items }
-    requires cell { cell_at arena.now.now (slice_index_or list.old.items k no_node_cell).node.0
-        ≡ Some (slice_index_or list.old.items k no_node_cell).cell }
-    requires behind { depth (slice_index_or list.old.items k no_node_cell).cell ≤ dim }
-    requires dim { dim < arena.now.width }
-    requires code { IsCode code }
+    requires { HasParent arena.now list.old.items k dim code }
     ensures grows { OnOk result
         (AddsChild arena.now.now dim code (slice_index_or list.old.items k no_node_cell).cell
         list.old.items list.new.items) }
@@ -109,16 +98,7 @@ fn add_children<L: Ledger>(
     code: Code,
     steps: &mut Steps<L>,
 ) -> Result<(), Memory>
-    requires tree { IsTree arena.now.width arena.now.now }
-    requires cells { (k : ℕ) (b : NodeCell) → slice_get list.old.items k ≡ Some b
-        → cell_at arena.now.now b.node.0 ≡ Some b.cell }
-    requires short { (k : ℕ) (b : NodeCell) → slice_get list.old.items k ≡ Some b
-        → depth b.cell ≤ dim }
-    requires order { (i j : ℕ) (b c : NodeCell) → i < j → slice_get list.old.items i ≡ Some b
-        → slice_get list.old.items j ≡ Some c →
-        leq nat_eq c.cell b.cell ≡ false }
-    requires dim { dim < arena.now.width }
-    requires code { IsCode code }
+    requires { AreParents arena.now list.old.items dim code }
     ensures grown { OnOk result
         (AddsChildren arena.now.now dim code list.old.items
         (length list.old.items) list.new.items) }
@@ -138,8 +118,7 @@ fn start<L: Ledger>(
     tuple: &Cell,
     steps: &mut Steps<L>,
 ) -> Result<Vec<NodeCell>, Memory>
-    requires tree { IsTree arena.now.width arena.now.now }
-    requires long { length tuple.now ≡ arena.now.width }
+    requires { IsAsWide arena.now tuple.now }
     ensures below { IfOk result (λ list. AreGeneralizing arena.now.now tuple.now 0 list.items) }
     ensures steps { steps.new ≤ steps.old + 1 }
 {
@@ -163,8 +142,7 @@ pub(crate) fn collect<L: Ledger>(
     tuple: &Cell,
     steps: &mut Steps<L>,
 ) -> Result<Vec<NodeCell>, Memory>
-    requires tree { IsTree arena.now.width arena.now.now }
-    requires long { length tuple.now ≡ arena.now.width }
+    requires { IsAsWide arena.now tuple.now }
     ensures below { IfOk result
         (λ list. AreGeneralizing arena.now.now tuple.now (length tuple.now) list.items) }
     ensures steps { IfOk result

@@ -1,15 +1,16 @@
 // Searches that don't begin at the root.
 ghost use Rattle.std.specs.FinMap as map;
 ghost use Rattle.std.specs.Option.{option_map};
-ghost use Rattle.std.specs.Prelude.{IfSome, IsSome, Some, length, ◌*◌, ◌+◌, ◌<◌, ◌≡◌, ◌≤◌};
+ghost use Rattle.std.specs.Prelude.{IfSome, IsSome, Some, length, ◌*◌, ◌+◌, ◌≡◌, ◌≤◌};
 ghost use Rattle.cube_defs.specs.Cell.{cell_prefix};
 ghost use Rattle.cube_defs.specs.Tree.{cell_at};
 ghost use Rattle.cube_laws.specs.Parts.{IsLastAny};
 ghost use Rattle.qc_arena.specs.RecordReaders.{number};
-ghost use Rattle.tree_search.specs.Found.{IsTreeOf, IsNumberOfCell, closure_in};
-ghost use Rattle.batch_delete.specs.DeletedRow.{GoesOn};
+ghost use Rattle.tree_search.specs.Found.{IsNumberOfCell, closure_in};
+ghost use Rattle.batch_delete.specs.DeletedRow.{IsClassNode, IsSearch};
 ghost use Rattle.batch_delete.specs.Rests.{Deletion, source_before};
 
+use crate::generalizing::NodeCell;
 use cell_core::{Cell, NodeNo, Steps};
 use qc_arena::{Nodes, QcArena};
 use std::sync::ledger::Ledger;
@@ -24,10 +25,7 @@ pub(crate) fn find_from<L: Ledger>(
     steps: &mut Steps<L>,
 ) -> Option<NodeNo>
     ghost d: { Deletion }
-    requires tree { IsTreeOf arena.now.width arena.now.now (source_before d) }
-    requires long { length cell.now ≡ arena.now.width }
-    requires dim { dim < length cell.now }
-    requires on { GoesOn d arena.now.now cell.now dim node.0 }
+    requires { IsSearch d arena.now cell.now dim node.0 }
     ensures found { IsNumberOfCell arena.now.now (option_map number result)
         (closure_in (source_before d) cell.now) }
     ensures there { IfSome result (λ node. IsSome (map.get arena.now.now node.0)) }
@@ -41,25 +39,22 @@ pub(crate) fn find_from<L: Ledger>(
     Some(node)
 }
 
-/// The node of the prefix before the cell's last dimension of Any. Goes up from the cell's node
+/// The node of the prefix before a class's last dimension of Any. Goes up from the class's node
 /// through the later values.
 pub(crate) fn prefix_node<L: Ledger>(
     arena: &QcArena,
-    cell: &Cell,
+    class: &NodeCell,
     dim: u8,
-    node: NodeNo,
     steps: &mut Steps<L>,
 ) -> NodeNo
     ghost d: { Deletion }
-    requires tree { IsTreeOf arena.now.width arena.now.now (source_before d) }
-    requires node { cell_at arena.now.now node.0 ≡ Some cell.now }
-    requires last { IsLastAny cell.now dim }
-    requires dim { dim < length cell.now }
-    ensures front { cell_at arena.now.now result.0 ≡ Some (cell_prefix dim cell.now) }
-    ensures steps { steps.new ≤ steps.old + length cell.now }
+    requires class { IsClassNode d arena.now class.now }
+    requires last { IsLastAny class.now.cell dim }
+    ensures front { cell_at arena.now.now result.0 ≡ Some (cell_prefix dim class.now.cell) }
+    ensures steps { steps.new ≤ steps.old + length class.now.cell }
 {
-    let mut node = node;
-    'up: for _value in 0..cell.dims() - 1 - dim {
+    let mut node = class.node;
+    'up: for _value in 0..class.cell.dims() - 1 - dim {
         node = arena.parent(node, steps).unwrap();
     }
     node

@@ -1,7 +1,5 @@
 // The closure and the aggregate of a class after the deletion.
-ghost use Rattle.std.specs.FinMap as map;
 ghost use Rattle.std.specs.Prelude.{IfSome, IsSome, List, None, Some, [], false, length, nat_eq, slice_get, slice_index_or, ℕ, ◌*◌, ◌+◌, ◌++◌, ◌∷◌, ◌<◌, ◌≡◌, ◌≤◌};
-ghost use Rattle.cell_core.specs.Entry.{IsCode};
 ghost use Rattle.std.specs.Ordering.{eq_by_cmp, nat_cmp};
 ghost use Rattle.cube_defs.specs.Cell.{cell_prefix, with_value};
 ghost use Rattle.cube_laws.specs.Parts.{IsLastAny};
@@ -9,12 +7,12 @@ ghost use Rattle.aggregates.specs.Views.{agg_in};
 ghost use Rattle.cube_defs.specs.Tree.{cell_at};
 ghost use Rattle.qc_arena.specs.RecordReaders.{record_at};
 ghost use Rattle.cube_laws.specs.Total.{join_aggs, join_cells};
-ghost use Rattle.tree_search.specs.Found.{IsTreeOf, IsNumberOfCell, closure_in};
+ghost use Rattle.tree_search.specs.Found.{closure_in};
 ghost use Rattle.batch_delete.specs.declared.generalizing.NodeCell.{NodeCell};
 ghost use Rattle.batch_delete.specs.Generalizing.{AreGeneralizing};
-ghost use Rattle.batch_delete.specs.DeletedRow.{IsPrefixNode, GoesOn, IsClassNode, IsDeletedRow, IsKnown};
+ghost use Rattle.batch_delete.specs.DeletedRow.{ArePartOf, HasFound, IsClassNode, IsDeletedRow, IsKnown, IsPartLabel, IsPrefixNode, IsSearch};
 ghost use Rattle.batch_delete.specs.Plan.{planned_rest_in, prefix_labels, is_value, last_any_of};
-ghost use Rattle.batch_delete.specs.Rests.{Deletion, IsRest, IsTotal, agg_of_rest, other_values, rows_after, rows_before, shared_of, source_before};
+ghost use Rattle.batch_delete.specs.Rests.{CanJoin, Deletion, IsRest, IsTotal, agg_of_rest, other_values, rows_after, rows_before, shared_of, source_before};
 
 use crate::cells::{has, last_any};
 use crate::deleted_row::{Class, DeletedRow, class_at_node};
@@ -51,10 +49,7 @@ impl Rest {
 
 // The rest of two groups of rows, of which the first may be empty.
 fn joined(rest: Option<Rest>, part: Rest) -> Rest
-    requires parts { IfSome rest
-        (λ some. length (agg_in part.agg).parts ≡ length (agg_in some.agg).parts) }
-    requires few { IfSome rest (λ some. some.agg.count + part.agg.count ≤ MAX_ROWS) }
-    requires long { IfSome rest (λ some. length some.shared ≡ length part.shared) }
+    requires { IfSome rest (λ some. CanJoin some part) }
     ensures cells { Some result.shared ≡ join_cells nat_eq (shared_of rest) (Some part.shared) }
     ensures aggs { Some (agg_in result.agg) ≡ join_aggs (agg_of_rest rest)
         (Some (agg_in part.agg)) }
@@ -81,10 +76,7 @@ fn part_of<L: Ledger>(
     steps: &mut Steps<L>,
 ) -> Option<Rest>
     ghost d: { Deletion }
-    requires tree { IsTreeOf arena.now.width arena.now.now (source_before d) }
-    requires long { length cell.now ≡ arena.now.width }
-    requires dim { dim < length cell.now }
-    requires on { GoesOn d arena.now.now cell.now dim node.0 }
+    requires { IsSearch d arena.now cell.now dim node.0 }
     ensures rest { IsRest d.measures (rows_before d) cell.now result }
     ensures steps { steps.new ≤ steps.old + (4 * length cell.now + 5) }
 {
@@ -102,11 +94,7 @@ fn rest_at<L: Ledger>(
     steps: &mut Steps<L>,
 ) -> Option<Rest>
     ghost d: { Deletion }
-    requires tree { IsTreeOf arena.now.width arena.now.now (source_before d) }
-    requires long { length cell.now ≡ arena.now.width }
-    requires node { IsSome (map.get arena.now.now node.0) }
-    requires found { IsNumberOfCell arena.now.now (Some node.0)
-        (closure_in (source_before d) cell.now) }
+    requires { HasFound d arena.now cell.now node.0 }
     ensures rest { IsRest d.measures (rows_before d) cell.now result }
     ensures steps { steps.new ≤ steps.old + (2 * length cell.now + 3) }
 {
@@ -131,10 +119,7 @@ fn own_rest<L: Ledger>(
     steps: &mut Steps<L>,
 ) -> Option<Rest>
     ghost d: { Deletion }
-    requires tree { IsTreeOf arena.now.width arena.now.now (source_before d) }
-    requires long { length cell.now ≡ arena.now.width }
-    requires dim { dim < length cell.now }
-    requires on { GoesOn d arena.now.now cell.now dim node.0 }
+    requires search { IsSearch d arena.now cell.now dim node.0 }
     requires some { IsSome (closure_in (source_before d) cell.now) }
     requires planned { (q : ℕ) (w : _) → closure_in (source_before d) cell.now ≡ Some w
         → cell_at arena.now.now q ≡ Some w →
@@ -192,18 +177,12 @@ fn with_part<L: Ledger>(
     steps: &mut Steps<L>,
 ) -> Option<Rest>
     ghost d: { Deletion }
-    requires tree { IsTreeOf arena.now.width arena.now.now (source_before d) }
-    requires long { length cell.now ≡ arena.now.width }
-    requires dim { label.0 < length cell.now }
-    requires code { IsCode label.1 }
-    requires on { GoesOn d arena.now.now (with_value cell.now label.0 label.1) label.0 label.2.0 }
+    requires label { IsPartLabel d arena.now cell.now label.0 label.1 label.2.0 }
     requires few { (part : _)
         → IsRest d.measures (rows_before d) (with_value cell.now label.0 label.1) (Some part) →
         IfSome rest (λ some. some.agg.count + part.agg.count ≤ MAX_ROWS) }
-    requires parts { IfSome rest (λ some. length (agg_in some.agg).parts ≡ d.measures) }
-    requires shared { IfSome rest (λ some. length some.shared ≡ length cell.now) }
-    ensures parts { IfSome result (λ some. length (agg_in some.agg).parts ≡ d.measures) }
-    ensures shared { IfSome result (λ some. length some.shared ≡ length cell.now) }
+    requires rest { ArePartOf d cell.now rest }
+    ensures rest { ArePartOf d cell.now result }
     ensures total { (v : ℕ) (w : _) (vs : List ℕ) → eq_by_cmp nat_cmp label.1 v ≡ false
         → IsTotal d cell.now label.0 v w vs rest →
         IsTotal d cell.now label.0 v w (vs ++ label.1 ∷ []) result }
@@ -229,19 +208,13 @@ fn with_label<L: Ledger>(
     ghost d: { Deletion }
     requires row { IsDeletedRow d row.now.arena.now row.now.tuple.now row.now.all
         row.now.duplicates }
-    requires long { length cell.now ≡ row.now.arena.now.width }
-    requires dim { label.0 < length cell.now }
-    requires code { IsCode label.1 }
-    requires on { GoesOn d row.now.arena.now.now (with_value cell.now label.0 label.1)
-        label.0 label.2.0 }
+    requires label { IsPartLabel d row.now.arena.now cell.now label.0 label.1 label.2.0 }
     requires few { is_value (slice_index_or row.now.tuple.now label.0 None) label.1 ≡ false
         → (part : _) →
         IsRest d.measures (rows_before d) (with_value cell.now label.0 label.1) (Some part)
         → IfSome rest (λ some. some.agg.count + part.agg.count ≤ MAX_ROWS) }
-    requires parts { IfSome rest (λ some. length (agg_in some.agg).parts ≡ d.measures) }
-    requires shared { IfSome rest (λ some. length some.shared ≡ length cell.now) }
-    ensures parts { IfSome result (λ some. length (agg_in some.agg).parts ≡ d.measures) }
-    ensures shared { IfSome result (λ some. length some.shared ≡ length cell.now) }
+    requires rest { ArePartOf d cell.now rest }
+    ensures rest { ArePartOf d cell.now result }
     ensures total { (v : ℕ) (w : _) (vs : List ℕ)
         → slice_index_or row.now.tuple.now label.0 None ≡ Some v
         → IsTotal d cell.now label.0 v w vs rest →
@@ -318,7 +291,6 @@ fn all_parts<L: Ledger>(
         row.now.duplicates }
     requires class { IsClassNode d row.now.arena.now below.now }
     requires last { IsLastAny below.now.cell dim }
-    requires dim { dim < length below.now.cell }
     requires planned { (v q : ℕ) (w : _) → slice_index_or row.now.tuple.now dim None ≡ Some v →
         closure_in (source_before d) (with_value below.now.cell dim v) ≡ Some w
         → cell_at row.now.arena.now.now q ≡ Some w →
@@ -330,7 +302,7 @@ fn all_parts<L: Ledger>(
         + (4 * length below.now.cell + 7) * length (record_at row.now.arena.now.now q).edges) }
 {
     let class = class_at_node(row, below, steps);
-    let front = prefix_node(row.arena, &below.cell, dim, below.node, steps);
+    let front = prefix_node(row.arena, below, dim, steps);
     let own = own_part(row, plan, &below.cell, dim, front, steps);
     with_labels(row, &class, dim, front, own, steps)
 }

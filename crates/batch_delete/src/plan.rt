@@ -13,7 +13,7 @@ ghost use Rattle.tree_search.specs.Found.{IsTreeOf, IsTree, IsNumberOfCell};
 ghost use Rattle.batch_delete.specs.declared.generalizing.NodeCell.{NodeCell};
 ghost use Rattle.batch_delete.specs.Generalizing.{AreGeneralizing};
 ghost use Rattle.batch_delete.specs.Plan.{planned_rest_in, prefix_labels, heir_in, last_any_of, planning_cost};
-ghost use Rattle.batch_delete.specs.DeletedRow.{IsDeletedRow};
+ghost use Rattle.batch_delete.specs.DeletedRow.{IsDeletedRow, IsDeletion, IsNextPlanned, IsRestOfNode};
 ghost use Rattle.batch_delete.specs.Rests.{AreGreaterPlanned, ArePlanned, Deletion, IsRest, rows_after, rows_before, source_before};
 
 use crate::Memory;
@@ -97,10 +97,7 @@ fn rest_of<L: Ledger>(
     ghost d: { Deletion }
     requires row { IsDeletedRow d row.now.arena.now row.now.tuple.now row.now.all
         row.now.duplicates }
-    requires cell { cell_at row.now.arena.now.now below.now.node.0 ≡ Some below.now.cell }
-    requires low { leq nat_eq below.now.cell row.now.tuple.now ≡ true }
-    requires planned { AreGreaterPlanned d row.now.arena.now.now row.now.tuple.now below.now.cell
-        plan.now.entries }
+    requires next { IsNextPlanned d row.now.arena.now row.now.tuple.now plan.now.entries below.now }
     ensures rest { IsRest d.measures (rows_after d) below.now.cell result }
     ensures steps { (list : List NodeCell)
         → AreGeneralizing row.now.arena.now.now row.now.tuple.now (length row.now.tuple.now) list →
@@ -124,10 +121,7 @@ fn heir_at<L: Ledger>(
     steps: &mut Steps<L>,
 ) -> Option<NodeNo>
     ghost d: { Deletion }
-    requires tree { IsTreeOf arena.now.width arena.now.now (source_before d) }
-    requires cell { cell_at arena.now.now below.now.node.0 ≡ Some below.now.cell }
-    requires long { length below.now.cell ≡ arena.now.width }
-    requires after { IsRest d.measures (rows_after d) below.now.cell after.now }
+    requires { IsRestOfNode d arena.now below.now after.now }
     ensures heir { IsNumberOfCell arena.now.now (option_map number result)
         (option_map (cell_prefix (cells.depth below.now.cell))
         (closure (eq_by_cmp nat_cmp) (rows_after d) below.now.cell)) }
@@ -155,10 +149,7 @@ fn node_plan_of<L: Ledger>(
     ghost d: { Deletion }
     requires row { IsDeletedRow d row.now.arena.now row.now.tuple.now row.now.all
         row.now.duplicates }
-    requires cell { cell_at row.now.arena.now.now below.now.node.0 ≡ Some below.now.cell }
-    requires low { leq nat_eq below.now.cell row.now.tuple.now ≡ true }
-    requires planned { AreGreaterPlanned d row.now.arena.now.now row.now.tuple.now below.now.cell
-        plan.now.entries }
+    requires next { IsNextPlanned d row.now.arena.now row.now.tuple.now plan.now.entries below.now }
     ensures after { IsRest d.measures (rows_after d) below.now.cell result.after }
     ensures heir { IsNumberOfCell row.now.arena.now.now (option_map number result.heir)
         (option_map (cell_prefix (cells.depth below.now.cell))
@@ -230,13 +221,8 @@ pub(crate) fn plan_all<L: Ledger>(
     steps: &mut Steps<L>,
 ) -> Result<IndexMap<u32, NodePlan>, Memory>
     ghost d: { Deletion }
-    requires tree { IsTreeOf arena.now.width arena.now.now (source_before d) }
-    requires tuple { length tuple.now ≡ arena.now.width }
-    requires row { tuple.now ≡ cell_of d.r.tuple }
+    requires row { IsDeletion d arena.now tuple.now duplicates }
     requires below { AreGeneralizing arena.now.now tuple.now (length tuple.now) list.now.items }
-    requires duplicates { option_map agg_in duplicates ≡ agg_at (eq_by_cmp nat_cmp) d.measures
-        (rows_after d) tuple.now }
-    requires few { length (rows_before d) ≤ MAX_ROWS }
     ensures planned { IfOk result
         (λ plan. ArePlanned d arena.now.now plan.entries list.now.items 0) }
     ensures steps { IfOk result (λ plan. steps.new ≤ steps.old +

@@ -2,16 +2,13 @@
 ghost use Rattle.std.specs.FinMap as map;
 ghost use Rattle.std.specs.Prelude.{IfSome, IsSome, None, OnOk, Some, length, slice_get, slice_index_or, true, ℕ, ◌*◌, ◌+◌, ◌<◌, ◌≡◌, ◌≢◌, ◌≤◌};
 ghost use Rattle.aggregates.specs.Views.{agg_in};
-ghost use Rattle.cube_defs.specs.Cell.{depth};
 ghost use Rattle.batch_delete.specs.declared.generalizing.NodeCell.{NodeCell};
-ghost use Rattle.qc_arena.specs.Map.{CanChange, frame, is_open, is_touched, with_forced};
+ghost use Rattle.qc_arena.specs.Map.{CanChange, frame, is_touched, with_forced};
 ghost use Rattle.cell_core.specs.Entry.{IsCode};
 ghost use Rattle.std.specs.Option.{option_and_then, option_copied, option_map};
-ghost use Rattle.std.specs.Ordering.{eq_by_cmp, nat_cmp};
 ghost use Rattle.qc_arena.specs.Edges.{rises};
-ghost use Rattle.tree_laws.specs.Walk.{target_at};
 ghost use Rattle.qc_arena.specs.RecordReaders.{edge_of, number, record_at};
-ghost use Rattle.batch_delete.specs.Plan.{class_by, forced_by, heir_in, rest_if_own_heir_of, is_left, left_to, new_target, rewritten, next_entry, outcome, rewriting_cost, rest_if_stays_in, heir_target, AreReady, with_target, with_mixed, with_own};
+ghost use Rattle.batch_delete.specs.Plan.{CanRedirect, CanRedirectFrom, CanRedirectIn, CanRewrite, CanRewriteAll, ChangesOnly, IsNewRest, class_by, forced_by, heir_in, heir_target, is_left, left_to, outcome, rest_if_own_heir_of, rest_if_stays_in, rewriting_cost, rewritten, with_mixed, with_own, with_target};
 
 use crate::Memory;
 use crate::cells::{depth, next_value};
@@ -69,9 +66,7 @@ fn cut_edge<L: Ledger>(
         (with_target (record { dim = edge.0; value = edge.1; target = edge.2.0 })
         (left_to next (record { dim = edge.0; value = edge.1; target = edge.2.0 })))
         (map.get arena.old.now node.0) }
-    ensures others { (q : ℕ) → q ≢ node.0 → map.get arena.new.now q ≡ map.get arena.old.now q }
-    ensures touched { (q : ℕ) → is_touched arena.new q ≡ is_touched arena.old q }
-    ensures frame { frame arena.new ≡ frame arena.old }
+    ensures only { ChangesOnly node.0 arena.old arena.new }
     ensures steps { steps.new ≤ steps.old + 1 }
 {
     if !is_left(next, edge.0, edge.1) {
@@ -90,9 +85,7 @@ fn cut_edges<L: Ledger>(
     ensures here { map.get arena.new.now node.0 ≡ option_map (with_mixed (left_to next) 0)
         (map.get arena.old.now node.0) }
     ensures rises { rises (record_at arena.old.now node.0).edges ≡ true }
-    ensures others { (q : ℕ) → q ≢ node.0 → map.get arena.new.now q ≡ map.get arena.old.now q }
-    ensures touched { (q : ℕ) → is_touched arena.new q ≡ is_touched arena.old q }
-    ensures frame { frame arena.new ≡ frame arena.old }
+    ensures only { ChangesOnly node.0 arena.old arena.new }
     ensures steps { steps.new ≤ steps.old
         + (2 + 3 * length (record_at arena.old.now node.0).edges) }
 {
@@ -113,15 +106,12 @@ fn redirect_edge<L: Ledger>(
     steps: &mut Steps<L>,
 ) -> Result<(), Memory>
     requires change { CanChange arena.old node.0 }
-    requires target { IfSome to (λ t. IsSome (map.get arena.old.now t.0)) }
-    requires dim { edge.0 < arena.old.width }
-    requires code { IsCode edge.1 }
+    requires edge { CanRedirect arena.old
+        (record { dim = edge.0; value = edge.1; target = edge.2.0 }) to }
     ensures here { OnOk result (map.get arena.new.now node.0
         ≡ option_map (with_target (record { dim = edge.0; value = edge.1; target = edge.2.0 })
         (option_map number to)) (map.get arena.old.now node.0)) }
-    ensures others { (q : ℕ) → q ≢ node.0 → map.get arena.new.now q ≡ map.get arena.old.now q }
-    ensures touched { (q : ℕ) → is_touched arena.new q ≡ is_touched arena.old q }
-    ensures frame { frame arena.new ≡ frame arena.old }
+    ensures only { ChangesOnly node.0 arena.old arena.new }
     ensures steps { steps.new ≤ steps.old + 1 }
 {
     match to {
@@ -149,19 +139,11 @@ fn redirect_tuple_edge<L: Ledger>(
     dim: u8,
     steps: &mut Steps<L>,
 ) -> Result<(), Memory>
-    requires change { CanChange arena.old node.0 }
-    requires long { length tuple.now ≡ arena.old.width }
-    requires dim { dim < arena.old.width }
-    requires target { (v t y : ℕ) → slice_index_or tuple.now dim None ≡ Some v →
-        target_at (eq_by_cmp nat_cmp) dim v (record_at arena.old.now node.0).edges ≡ Some y
-        → heir_in plan.now.entries y ≡ Some t →
-        IsSome (map.get arena.old.now t) }
+    requires { CanRedirectIn arena.old tuple.now plan.now.entries node.0 dim }
     ensures here { OnOk result (map.get arena.new.now node.0
         ≡ option_map (with_own (heir_in plan.now.entries) dim (slice_index_or tuple.now dim None))
         (map.get arena.old.now node.0)) }
-    ensures others { (q : ℕ) → q ≢ node.0 → map.get arena.new.now q ≡ map.get arena.old.now q }
-    ensures touched { (q : ℕ) → is_touched arena.new q ≡ is_touched arena.old q }
-    ensures frame { frame arena.new ≡ frame arena.old }
+    ensures only { ChangesOnly node.0 arena.old arena.new }
     ensures steps { steps.new ≤ steps.old + 2 }
 {
     match tuple.get(dim) {
@@ -186,24 +168,11 @@ fn redirect_tuple_edges<L: Ledger>(
     from: u8,
     steps: &mut Steps<L>,
 ) -> Result<(), Memory>
-    requires change { CanChange arena.old node.0 }
-    requires long { length tuple.now ≡ arena.old.width }
-    requires from { from ≤ length tuple.now }
-    requires rises { rises (record_at arena.old.now node.0).edges ≡ true }
-    requires dims { (k : ℕ) (x : _) → slice_get (record_at arena.old.now node.0).edges k ≡ Some x
-        → x.dim < arena.old.width }
-    requires behind { (k : ℕ) (x : _) → slice_get (record_at arena.old.now node.0).edges k ≡ Some x
-        → from ≤ x.dim }
-    requires targets { (k t : ℕ) (x : _)
-        → slice_get (record_at arena.old.now node.0).edges k ≡ Some x →
-        heir_target tuple.now (heir_in plan.now.entries) x ≡ Some t
-        → IsSome (map.get arena.old.now t) }
+    requires { CanRedirectFrom arena.old tuple.now plan.now.entries node.0 from }
     ensures here { OnOk result (map.get arena.new.now node.0
         ≡ option_map (with_mixed (heir_target tuple.now (heir_in plan.now.entries)) 0)
         (map.get arena.old.now node.0)) }
-    ensures others { (q : ℕ) → q ≢ node.0 → map.get arena.new.now q ≡ map.get arena.old.now q }
-    ensures touched { (q : ℕ) → is_touched arena.new q ≡ is_touched arena.old q }
-    ensures frame { frame arena.new ≡ frame arena.old }
+    ensures only { ChangesOnly node.0 arena.old arena.new }
     ensures steps { steps.new ≤ steps.old + 2 * length tuple.now }
 {
     'dims: for dim in from..tuple.dims() {
@@ -246,9 +215,7 @@ fn rewrite_forced<L: Ledger>(
     ensures here { map.get arena.new.now node.0
         ≡ option_map (with_forced (forced_by next (record_at arena.old.now node.0)))
         (map.get arena.old.now node.0) }
-    ensures others { (q : ℕ) → q ≢ node.0 → map.get arena.new.now q ≡ map.get arena.old.now q }
-    ensures touched { (q : ℕ) → is_touched arena.new q ≡ is_touched arena.old q }
-    ensures frame { frame arena.new ≡ frame arena.old }
+    ensures only { ChangesOnly node.0 arena.old arena.new }
     ensures steps { steps.new ≤ steps.old + 2 }
 {
     let forced = forced_of(arena, node, next, steps);
@@ -276,26 +243,12 @@ fn rewrite_record<L: Ledger>(
     rest: &Rest,
     steps: &mut Steps<L>,
 ) -> Result<(), Memory>
-    requires change { CanChange arena.old below.now.node.0 }
-    requires long { length tuple.now ≡ arena.old.width }
-    requires cell { length below.now.cell ≡ arena.old.width }
-    requires shared { length rest.now.shared ≡ arena.old.width }
-    requires dims { (k : ℕ) (x : _) → slice_get (record_at arena.old.now below.now.node.0).edges k
-        ≡ Some x → x.dim < arena.old.width }
-    requires behind { (k : ℕ) (x : _) → slice_get (record_at arena.old.now below.now.node.0).edges k
-        ≡ Some x → depth below.now.cell ≤ x.dim }
-    requires targets { (k t : ℕ) (x : _)
-        → slice_get (record_at arena.old.now below.now.node.0).edges k ≡ Some x →
-        new_target tuple.now (heir_in plan.now.entries)
-        (next_entry (depth below.now.cell) rest.now.shared) x ≡ Some t
-        → IsSome (map.get arena.old.now t) }
+    requires node { CanRewrite arena.old tuple.now below.now }
+    requires rest { IsNewRest arena.old tuple.now plan.now.entries below.now rest.now }
     ensures here { OnOk result (map.get arena.new.now below.now.node.0
         ≡ option_map (rewritten tuple.now (heir_in plan.now.entries) below.now.cell rest.now)
         (map.get arena.old.now below.now.node.0)) }
-    ensures others { (q : ℕ) → q ≢ below.now.node.0
-        → map.get arena.new.now q ≡ map.get arena.old.now q }
-    ensures touched { (q : ℕ) → is_touched arena.new q ≡ is_touched arena.old q }
-    ensures frame { frame arena.new ≡ frame arena.old }
+    ensures only { ChangesOnly below.now.node.0 arena.old arena.new }
     ensures steps { steps.new ≤ steps.old
         + (5 + 2 * length tuple.now + 3 * length (record_at arena.old.now below.now.node.0).edges) }
 {
@@ -346,28 +299,13 @@ fn rewrite_or_remove<L: Ledger>(
     below: &NodeCell,
     steps: &mut Steps<L>,
 ) -> Result<(), Memory>
-    requires change { CanChange arena.old below.now.node.0 }
-    requires long { length tuple.now ≡ arena.old.width }
-    requires cell { length below.now.cell ≡ arena.old.width }
-    requires shared { IfSome (rest_if_stays_in plan.now.entries below.now.node.0)
-        (λ rest. length rest.shared ≡ arena.old.width) }
-    requires dims { (k : ℕ) (x : _) → slice_get (record_at arena.old.now below.now.node.0).edges k
-        ≡ Some x → x.dim < arena.old.width }
-    requires behind { (k : ℕ) (x : _) → slice_get (record_at arena.old.now below.now.node.0).edges k
-        ≡ Some x → depth below.now.cell ≤ x.dim }
-    requires targets { IfSome (rest_if_stays_in plan.now.entries below.now.node.0)
-        (λ rest. (k t : ℕ) (x : _)
-        → slice_get (record_at arena.old.now below.now.node.0).edges k ≡ Some x →
-        new_target tuple.now (heir_in plan.now.entries)
-        (next_entry (depth below.now.cell) rest.shared) x ≡ Some t
-        → IsSome (map.get arena.old.now t)) }
+    requires node { CanRewrite arena.old tuple.now below.now }
+    requires rest { IfSome (rest_if_stays_in plan.now.entries below.now.node.0)
+        (λ rest. IsNewRest arena.old tuple.now plan.now.entries below.now rest) }
     ensures here { OnOk result (map.get arena.new.now below.now.node.0
         ≡ option_and_then (outcome tuple.now plan.now.entries below.now)
         (map.get arena.old.now below.now.node.0)) }
-    ensures others { (q : ℕ) → q ≢ below.now.node.0
-        → map.get arena.new.now q ≡ map.get arena.old.now q }
-    ensures touched { (q : ℕ) → is_touched arena.new q ≡ is_touched arena.old q }
-    ensures frame { frame arena.new ≡ frame arena.old }
+    ensures only { ChangesOnly below.now.node.0 arena.old arena.new }
     ensures steps { steps.new ≤ steps.old
         + (5 + 2 * length tuple.now + 3 * length (record_at arena.old.now below.now.node.0).edges) }
 {
@@ -388,12 +326,7 @@ pub(crate) fn rewrite_or_remove_all<L: Ledger>(
     list: &Vec<NodeCell>,
     steps: &mut Steps<L>,
 ) -> Result<(), Memory>
-    requires opened { is_open arena.old ≡ true }
-    requires touched { (k : ℕ) (b : NodeCell) → slice_get list.now.items k ≡ Some b
-        → is_touched arena.old b.node.0 ≡ true }
-    requires long { length tuple.now ≡ arena.old.width }
-    requires ready { AreReady arena.old.width arena.old.now tuple.now plan.now.entries
-        list.now.items }
+    requires { CanRewriteAll arena.old tuple.now plan.now.entries list.now.items }
     ensures here { OnOk result ((k : ℕ) (b : NodeCell) → slice_get list.now.items k ≡ Some b →
         map.get arena.new.now b.node.0 ≡ option_and_then (outcome tuple.now plan.now.entries b)
         (map.get arena.old.now b.node.0)) }

@@ -1,9 +1,7 @@
 // Whether a class stays when the row is deleted.
-ghost use Rattle.std.specs.Ordering.{eq_by_cmp, nat_cmp};
 ghost use Rattle.std.specs.Prelude.{IfSome, None, Some, false, length, slice_get, true, ℕ, ◌+◌, ◌<◌, ◌≡◌};
-ghost use Rattle.cube_defs.specs.Rows.{cov};
-ghost use Rattle.batch_delete.specs.DeletedRow.{IsDeletedRow, IsKnown};
-ghost use Rattle.batch_delete.specs.Rests.{Deletion, SharesAtMost, IsRest, rows_after};
+ghost use Rattle.batch_delete.specs.DeletedRow.{IsDeletedRow, IsKnown, MaySettle};
+ghost use Rattle.batch_delete.specs.Rests.{Deletion, IsRest, rows_after};
 
 use crate::cells::has;
 use crate::deleted_row::{Class, DeletedRow};
@@ -64,11 +62,7 @@ pub(crate) fn settled(row: &DeletedRow<'_>, class: &Class, some: &Option<Rest>) 
         row.now.duplicates }
     requires long { length class.now.cell ≡ row.now.arena.now.width }
     requires class { IsKnown d class.now }
-    requires shared { IfSome some.now (λ rest. length rest.shared ≡ length class.now.cell) }
-    requires above { IfSome some.now (λ rest. SharesAtMost d class.now.cell rest.shared) }
-    requires all { IfSome some.now
-        (λ rest. rest.agg.count ≡ length (cov (eq_by_cmp nat_cmp) (rows_after d) class.now.cell) →
-        IsRest d.measures (rows_after d) class.now.cell (Some rest)) }
+    requires rest { IfSome some.now (λ rest. MaySettle d class.now.cell rest) }
     ensures rest { IfSome result
         (λ rest. IsRest d.measures (rows_after d) class.now.cell (Some rest)) }
 {

@@ -4,15 +4,14 @@ ghost use Rattle.std.specs.Ordering.{eq_by_cmp, nat_cmp};
 ghost use Rattle.std.specs.Prelude.{IfSome, Some, length, nat_abs, true, ◌*◌, ◌+◌, ◌<◌, ◌^◌, ◌≡◌, ◌≤◌};
 ghost use Rattle.aggregates.specs.Views.{agg_in, part_in};
 ghost use Rattle.cube_defs.specs.Rows as defs;
-ghost use Rattle.cube_defs.specs.Tree.{cell_at};
 ghost use Rattle.cube_laws.specs.Total.{agg_at, combine, combine_part, join_aggs};
-ghost use Rattle.tree_search.specs.Found.{IsTreeOf, closure_in};
-ghost use Rattle.batch_delete.specs.DeletedRow.{IsDeletedRow};
-ghost use Rattle.batch_delete.specs.Rests.{Deletion, rows_after, rows_before, source_before};
+ghost use Rattle.batch_delete.specs.DeletedRow.{IsClassNode, IsDeletedRow};
+ghost use Rattle.batch_delete.specs.Rests.{Deletion, rows_after, rows_before};
 
 use crate::deleted_row::DeletedRow;
+use crate::generalizing::NodeCell;
 use aggregates::{Agg, Part};
-use cell_core::{Cell, NodeNo, Steps};
+use cell_core::{Cell, Steps};
 use cube_defs::{MAX_AMOUNT, MAX_ROWS};
 use qc_arena::{Nodes, QcArena};
 use std::sync::ledger::Ledger;
@@ -89,20 +88,16 @@ fn with_twins(duplicates: Option<Agg>, others: Agg) -> Agg
 /// The aggregate of a class.
 pub(crate) fn class_at<L: Ledger>(
     arena: &QcArena,
-    cell: &Cell,
-    node: NodeNo,
+    class: &NodeCell,
     steps: &mut Steps<L>,
 ) -> Option<Agg>
     ghost d: { Deletion }
-    requires tree { IsTreeOf arena.now.width arena.now.now (source_before d) }
-    requires long { length cell.now ≡ arena.now.width }
-    requires node { cell_at arena.now.now node.0 ≡ Some cell.now }
-    requires own { closure_in (source_before d) cell.now ≡ Some cell.now }
+    requires { IsClassNode d arena.now class.now }
     ensures agg { option_map agg_in result ≡ agg_at (eq_by_cmp nat_cmp) d.measures
-        (rows_before d) cell.now }
+        (rows_before d) class.now.cell }
     ensures steps { steps.new ≤ steps.old + 1 }
 {
-    arena.class(node, steps)
+    arena.class(class.node, steps)
 }
 
 /// The aggregate of a class without the row. None if a row with its tuple has the MIN or the MAX of

@@ -5,7 +5,8 @@ use Rattle.cube_defs.specs.Cell.{Cell, leq, mask}
 use Rattle.cube_defs.specs.Tree.{Edge, cell_at}
 use Rattle.cube_laws.specs.Lists.{Among}
 use Rattle.qc_arena.specs.Edges.{put_edge}
-use Rattle.qc_arena.specs.Map.{Arena, Known, frame, is_open, is_touched}
+use Rattle.cell_core.specs.Entry.{IsCode}
+use Rattle.qc_arena.specs.Map.{Arena, CanChange, Known, frame, is_open, is_touched}
 
 -- each edge has a dimension that there is, and leads to a node
 abbrev pub IsClosed : Arena → Type 0
@@ -39,6 +40,17 @@ pub record IsNumber (t : Cell ℕ) (a : Arena) (m k : ℕ) : Type 0 where
   pub below : leq nat_eq cell t ≡ true
   pub dims : mask cell ≡ m
   pub touched : is_touched a k ≡ true
+
+-- such a node may be changed
+pub record CanRewrite (t : Cell ℕ) (a : Arena) (k : ℕ) : Type 0 where
+  pub change : CanChange a k
+  pub node : IsGeneralizing t a k
+
+-- a label with the code v in dimension i may lead to the number k
+pub record CanLead (a : Arena) (i v k : ℕ) : Type 0 where
+  pub target : IsSome (map.get a.now k)
+  pub dim : i < a.width
+  pub code : IsCode v
 
 -- each number that is kept by a mask is that of such a node
 abbrev pub AreNumbers : Cell ℕ → Arena → (ℕ → Option ℕ) → Type 0

@@ -1,7 +1,10 @@
 -- Where the walk that plans stands.
-use Rattle.std.specs.Prelude.{All, ◌≡◌, ℕ, Some, IfSome, IsSome, true, is_some, length}
+use Rattle.std.specs.Prelude.{All, ◌≡◌, ◌≢◌, ◌<◌, ◌≤◌, ℕ, Option, None, Some, IfNone, IfSome, IsSome, true, is_some, length, replicate}
 use Rattle.std.specs.FinMap as map
+use Rattle.cell_core.specs.declared.cell.NodeNo.{NodeNo}
 use Rattle.cube_defs.specs.Cell.{Cell, cell_prefix, depth, mask}
+use Rattle.cube_defs.specs.Tree.{cell_at}
+use Rattle.cube_defs.specs.declared.limits.TheConstants.{MAX_DIMS}
 use Rattle.qc_arena.specs.Map.{Arena}
 use Rattle.batch_insert.specs.declared.plan.Plan.{Plan}
 use Rattle.batch_insert.specs.declared.shared.OldPrefix.{OldPrefix}
@@ -15,6 +18,19 @@ pub record IsInsertion (t : Cell ℕ) (a : Arena) : Type 0 where
   pub ready : IsReady a
   pub no_any : All (λ entry. is_some entry ≡ true) t
   pub width : length t ≡ a.width
+  pub few : length t ≤ MAX_DIMS
+
+-- the mask is that of some values of the tuple, all before one of its dimensions
+pub record IsMaskBefore (t : Cell ℕ) (m i : ℕ) : Type 0 where
+  pub masked : mask (part t m) ≡ m
+  pub behind : depth (part t m) ≤ i
+  pub dim : i < length t
+
+-- the number, if there is one, is that of the root
+pub record IsRoot (a : Arena) (root : Option NodeNo) : Type 0 where
+  pub there : IfSome root (λ k. IsSome (map.get a.now k.0))
+  pub top : IfSome root (λ k. cell_at a.now k.0 ≡ Some (replicate a.width None))
+  pub none : IfNone root ((k : ℕ) → cell_at a.now k ≢ Some (replicate a.width None))
 
 -- the node with the mask m has no forced child before dimension i, and the chain is at this prefix of its old closure
 pub record StandsAt (t : Cell ℕ) (a : Arena) (m i : ℕ) (chain : OldPrefix) : Type 0 where

@@ -1,14 +1,14 @@
 // The forced children and the classes of the nodes that generalize the tuple.
-ghost use Rattle.std.specs.Prelude.{◌+◌, ◌*◌, All, IfSome, None, OnOk, Some, [], ◌∷◌, slice_index_or, ℕ, ◌≢◌, is_some, length, nat_abs, true, ◌≡◌, ◌≤◌};
+ghost use Rattle.std.specs.Prelude.{◌+◌, ◌*◌, All, IfSome, None, OnOk, Some, [], ◌∷◌, slice_index_or, ℕ, ◌≢◌, is_some, length, true, ◌≡◌, ◌≤◌};
 ghost use Rattle.aggregates.specs.Rows.{agg_of_row};
 ghost use Rattle.aggregates.specs.Views.{agg_in};
 ghost use Rattle.std.specs.Option.{option_map};
 ghost use Rattle.batch_insert.specs.Numbered.{numbered};
-ghost use Rattle.qc_arena.specs.Map.{CanChange, with_class, with_forced};
+ghost use Rattle.qc_arena.specs.Map.{with_class, with_forced};
 ghost use Rattle.std.specs.FinMap as map;
 ghost use Rattle.batch_insert.specs.Stages.{HaveEnded};
-ghost use Rattle.batch_insert.specs.Invariants.{IsGeneralizing, IsInserting, KeepsNodes};
-ghost use Rattle.batch_insert.specs.Planned.{IsNodeKind, IsForcedChild, TakesMore, sum_with};
+ghost use Rattle.batch_insert.specs.Invariants.{CanRewrite, IsInserting, KeepsNodes};
+ghost use Rattle.batch_insert.specs.Planned.{AreAmounts, IsNodeKind, IsForcedChild, TakesMore, sum_with};
 
 use crate::Memory;
 use crate::numbers::Numbers;
@@ -16,7 +16,6 @@ use crate::plan::{ForcedChild, NodeKind};
 use crate::tuples::tuple_code;
 use aggregates::Agg;
 use cell_core::{Cell, NodeNo, Steps};
-use cube_defs::{MAX_AMOUNT, MAX_MEASURES};
 use qc_arena::{Forced, QcArena};
 use std::sync::ledger::Ledger;
 
@@ -30,8 +29,7 @@ pub(crate) fn set_kinds<L: Ledger>(
     steps: &mut Steps<L>,
 ) -> Result<(), Memory>
     requires repair { IsInserting tuple.now arena.old (numbered numbers.now) }
-    requires few { length amounts.now ≤ MAX_MEASURES }
-    requires small { All (λ a. nat_abs a ≤ MAX_AMOUNT) amounts.now }
+    requires amounts { AreAmounts amounts.now }
     requires ends { All (λ e. IsNodeKind (length tuple.now) (length amounts.now) e) ends.now }
     ensures keeps { KeepsNodes tuple.now arena.old arena.new }
     ensures done { OnOk result
@@ -57,8 +55,7 @@ fn set_kind<L: Ledger>(
     steps: &mut Steps<L>,
 ) -> Result<(), Memory>
     requires repair { IsInserting tuple.now arena.old (numbered numbers.now) }
-    requires few { length amounts.now ≤ MAX_MEASURES }
-    requires small { All (λ a. nat_abs a ≤ MAX_AMOUNT) amounts.now }
+    requires amounts { AreAmounts amounts.now }
     requires end { IsNodeKind (length tuple.now) (length amounts.now) end }
     ensures keeps { KeepsNodes tuple.now arena.old arena.new }
     ensures done { OnOk result
@@ -89,8 +86,7 @@ fn set_forced_child<L: Ledger>(
     steps: &mut Steps<L>,
 ) -> Result<(), Memory>
     requires no_any { All (λ entry. is_some entry ≡ true) tuple.now }
-    requires change { CanChange arena.old node.0 }
-    requires node { IsGeneralizing tuple.now arena.old node.0 }
+    requires node { CanRewrite tuple.now arena.old node.0 }
     requires dim { IsForcedChild (length tuple.now) forcing }
     ensures keeps { KeepsNodes tuple.now arena.old arena.new }
     ensures here { OnOk result ((l : ℕ) × (v : ℕ) × (numbered numbers.now forcing.child ≡ Some l)
@@ -116,8 +112,7 @@ fn set_forced_child<L: Ledger>(
 
 // The aggregate with the row: that of the earlier rows, if there are any, and the row's amounts.
 fn with_row(before: Option<Agg>, amounts: &[i64]) -> Agg
-    requires few { length amounts.now ≤ MAX_MEASURES }
-    requires small { All (λ a. nat_abs a ≤ MAX_AMOUNT) amounts.now }
+    requires amounts { AreAmounts amounts.now }
     requires before { IfSome before (λ a. TakesMore (length amounts.now) a) }
     ensures { agg_in result ≡ sum_with (option_map agg_in before) (agg_of_row amounts.now) }
 {
@@ -132,8 +127,7 @@ fn with_row(before: Option<Agg>, amounts: &[i64]) -> Agg
 }
 
 fn mark<L: Ledger>(node: NodeNo, agg: Agg, tuple: &Cell, arena: &mut QcArena, steps: &mut Steps<L>)
-    requires change { CanChange arena.old node.0 }
-    requires node { IsGeneralizing tuple.now arena.old node.0 }
+    requires { CanRewrite tuple.now arena.old node.0 }
     ensures keeps { KeepsNodes tuple.now arena.old arena.new }
     ensures here { map.get arena.new.now node.0 ≡ option_map (with_class (Some (agg_in agg)))
         (option_map (with_forced None) (map.get arena.old.now node.0)) }

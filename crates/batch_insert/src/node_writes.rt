@@ -1,12 +1,11 @@
 // The changes of one node that generalizes the tuple. Each leaves all other nodes as they are.
 ghost use Rattle.std.specs.FinMap as map;
-ghost use Rattle.std.specs.Prelude.{Err, IfOk, IsSome, None, OnOk, Some, nat_eq, true, ℕ, ◌+◌, ◌<◌, ◌↔◌, ◌≡◌, ◌≢◌};
+ghost use Rattle.std.specs.Prelude.{Err, IfOk, None, OnOk, Some, nat_eq, true, ℕ, ◌+◌, ◌↔◌, ◌≡◌, ◌≢◌};
 ghost use Rattle.std.specs.Option.{option_map};
-ghost use Rattle.cell_core.specs.Entry.{IsCode};
 ghost use Rattle.cube_defs.specs.Cell.{leq};
 ghost use Rattle.qc_arena.specs.Edges.{with_edge};
-ghost use Rattle.qc_arena.specs.Map.{CanChange, IsPlace, is_open, is_touched, new_record};
-ghost use Rattle.batch_insert.specs.Invariants.{IsGeneralizing, KeepsNodes};
+ghost use Rattle.qc_arena.specs.Map.{IsPlace, is_open, is_touched, new_record};
+ghost use Rattle.batch_insert.specs.Invariants.{CanLead, CanRewrite, IsGeneralizing, KeepsNodes};
 
 use crate::Memory;
 use cell_core::{Cell, Code, NodeNo, Steps};
@@ -68,11 +67,8 @@ pub(crate) fn put_label<L: Ledger>(
     label: (u8, Code, NodeNo),
     steps: &mut Steps<L>,
 ) -> Result<(), Memory>
-    requires change { CanChange arena.old node.0 }
-    requires node { IsGeneralizing tuple.now arena.old node.0 }
-    requires target { IsSome (map.get arena.old.now label.2.0) }
-    requires dim { label.0 < arena.old.width }
-    requires code { IsCode label.1 }
+    requires node { CanRewrite tuple.now arena.old node.0 }
+    requires label { CanLead arena.old label.0 label.1 label.2.0 }
     ensures keeps { KeepsNodes tuple.now arena.old arena.new }
     ensures here { OnOk result (map.get arena.new.now node.0
         ≡ option_map (with_edge (record { dim = label.0; value = label.1; target = label.2.0 }))

@@ -1,6 +1,6 @@
 // The values that the target of an old label and the tuple share.
 ghost use Rattle.std.specs.FinMap as map;
-ghost use Rattle.std.specs.Prelude.{All, IfNone, IfSome, IsSome, None, Some, false, if◌then◌else◌, is_some, length, nat_eq, slice_index_or, true, ℕ, ◌*◌, ◌+◌, ◌<◌, ◌≡◌, ◌≤◌, ◌^◌};
+ghost use Rattle.std.specs.Prelude.{IfNone, IfSome, IsSome, None, Some, false, if◌then◌else◌, length, nat_eq, slice_index_or, true, ℕ, ◌*◌, ◌+◌, ◌<◌, ◌≡◌, ◌≤◌, ◌^◌};
 ghost use Rattle.std.specs.Option.{option_and_then};
 ghost use Rattle.cube_defs.specs.Cell as defs;
 ghost use Rattle.cube_defs.specs.Tree.{cell_at};
@@ -9,8 +9,7 @@ ghost use Rattle.batch_insert.specs.Masks.{Shares};
 ghost use Rattle.batch_insert.specs.Standing.{IsInsertion};
 
 use crate::tuples::{Insertion, tuple_code};
-use cell_core::{Cell, Code, NodeNo, Steps};
-use cube_defs::MAX_DIMS;
+use cell_core::{Code, NodeNo, Steps};
 use qc_arena::Nodes;
 use std::sync::ledger::Ledger;
 
@@ -34,7 +33,6 @@ pub(crate) fn shared<L: Ledger>(
     steps: &mut Steps<L>,
 ) -> (u16, bool)
     requires insertion { IsInsertion insertion.now.tuple.now insertion.now.arena.now }
-    requires few { length insertion.now.tuple.now ≤ MAX_DIMS }
     requires dim { dim < length insertion.now.tuple.now }
     requires chain { IfSome chain.node
         (λ k. Shares insertion.now.tuple.now insertion.now.arena.now.now mask chain.is_own k.0) }
@@ -49,17 +47,16 @@ pub(crate) fn shared<L: Ledger>(
     ensures steps { steps.new ≤ steps.old + (2 * length insertion.now.tuple.now + 2) }
 {
     match old {
-        None => (prefix_mask(insertion.tuple, dim), false),
+        None => (prefix_mask(insertion, dim), false),
         Some(node) => common(insertion, mask, chain, node, steps),
     }
 }
 
 // The mask of all dimensions up to this one.
-fn prefix_mask(tuple: &Cell, dim: u8) -> u16
-    requires no_any { All (λ entry. is_some entry ≡ true) tuple.now }
-    requires few { length tuple.now ≤ MAX_DIMS }
-    requires dim { dim < length tuple.now }
-    ensures { result ≡ defs.mask (defs.upto tuple.now dim) }
+fn prefix_mask(insertion: &Insertion<'_>, dim: u8) -> u16
+    requires insertion { IsInsertion insertion.now.tuple.now insertion.now.arena.now }
+    requires dim { dim < length insertion.now.tuple.now }
+    ensures { result ≡ defs.mask (defs.upto insertion.now.tuple.now dim) }
 {
     let bit = 1 << dim;
     bit + (bit - 1)
@@ -75,7 +72,6 @@ fn common<L: Ledger>(
     steps: &mut Steps<L>,
 ) -> (u16, bool)
     requires insertion { IsInsertion insertion.now.tuple.now insertion.now.arena.now }
-    requires few { length insertion.now.tuple.now ≤ MAX_DIMS }
     requires chain { IfSome chain.node
         (λ k. Shares insertion.now.tuple.now insertion.now.arena.now.now mask chain.is_own k.0) }
     requires node { IsSome (map.get insertion.now.arena.now.now node.0) }
@@ -90,7 +86,7 @@ fn common<L: Ledger>(
         let Some((dim, code)) = insertion.arena.end_of(at, steps) else {
             return (values, is_below);
         };
-        let bit = bit_of(insertion.tuple, dim, code);
+        let bit = bit_of(insertion, dim, code);
         values += bit;
         is_below &= bit != 0;
         at = insertion.arena.parent(at, steps).unwrap();
@@ -108,14 +104,13 @@ fn is_at(chain: Option<NodeNo>, at: NodeNo) -> bool
 }
 
 // The dimension's bit if the tuple has the value there, else 0.
-fn bit_of(tuple: &Cell, dim: u8, code: Code) -> u16
-    requires no_any { All (λ entry. is_some entry ≡ true) tuple.now }
-    requires few { length tuple.now ≤ MAX_DIMS }
-    requires dim { dim < length tuple.now }
-    ensures { result ≡ (if defs.entry_leq nat_eq (Some code) (slice_index_or tuple.now dim None)
-        then 2 ^ dim else 0) }
+fn bit_of(insertion: &Insertion<'_>, dim: u8, code: Code) -> u16
+    requires insertion { IsInsertion insertion.now.tuple.now insertion.now.arena.now }
+    requires dim { dim < length insertion.now.tuple.now }
+    ensures { result ≡ (if defs.entry_leq nat_eq (Some code)
+        (slice_index_or insertion.now.tuple.now dim None) then 2 ^ dim else 0) }
 {
-    if code == tuple_code(tuple, dim) {
+    if code == tuple_code(insertion.tuple, dim) {
         1 << dim
     } else {
         0

@@ -8,7 +8,7 @@ ghost use Rattle.cell_core.specs.Entry.{IsCode};
 ghost use Rattle.cube_defs.specs.Tree.{Node};
 ghost use Rattle.qc_arena.specs.RecordReaders.{edge_of, record_at};
 ghost use Rattle.tree_laws.specs.Walk.{by_forced};
-ghost use Rattle.range_query.specs.Walk.{CanWalk, Finds, StandsAtNode, cost, entered, entry_cost, met};
+ghost use Rattle.range_query.specs.Walk.{Finds, GoesOn, cost, entered, entry_cost, met};
 
 use crate::add_hit::add_hit;
 use crate::{Hit, RangeRefused};
@@ -58,11 +58,8 @@ pub(crate) fn visit<T: Nodes, L: Ledger>(
     hits: &mut Vec<Hit>,
     steps: &mut Steps<L>,
 ) -> Result<(), RangeRefused>
-    requires scan { CanWalk (T.width scan.now.tree.now)
-        (T.tree scan.now.tree.now) scan.now.cells.now }
-    requires stands { StandsAtNode (T.width scan.now.tree.now) (T.tree scan.now.tree.now) node.0
-        cell.old dim }
-    requires few { length hits.old.items ≤ scan.now.limit }
+    requires { GoesOn (T.width scan.now.tree.now) (T.tree scan.now.tree.now) scan.now.cells.now
+        scan.now.limit node.0 cell.old dim hits.old.items }
     ensures { Finds (T.width scan.now.tree.now) (T.tree scan.now.tree.now) scan.now.limit
         (λ source. met source (drop dim scan.now.cells.now) cell.old dim)
         (λ source. cost source (drop dim scan.now.cells.now) cell.old dim)
@@ -84,13 +81,10 @@ fn visit_dimension<T: Nodes, L: Ledger>(
     hits: &mut Vec<Hit>,
     steps: &mut Steps<L>,
 ) -> Result<(), RangeRefused>
-    requires scan { CanWalk (T.width scan.now.tree.now)
-        (T.tree scan.now.tree.now) scan.now.cells.now }
-    requires stands { StandsAtNode (T.width scan.now.tree.now) (T.tree scan.now.tree.now) at.node.0
-        cell.old at.dim }
+    requires on { GoesOn (T.width scan.now.tree.now) (T.tree scan.now.tree.now) scan.now.cells.now
+        scan.now.limit at.node.0 cell.old at.dim hits.old.items }
     requires forced { option_map edge_of at.forced
         ≡ (record_at (T.tree scan.now.tree.now) at.node.0).forced }
-    requires few { length hits.old.items ≤ scan.now.limit }
     ensures { Finds (T.width scan.now.tree.now) (T.tree scan.now.tree.now) scan.now.limit
         (λ source. met source (drop at.dim scan.now.cells.now) cell.old at.dim)
         (λ source. cost source (drop at.dim scan.now.cells.now) cell.old at.dim)
@@ -119,16 +113,13 @@ fn visit_codes<T: Nodes, L: Ledger>(
     hits: &mut Vec<Hit>,
     steps: &mut Steps<L>,
 ) -> Result<(), RangeRefused>
-    requires scan { CanWalk (T.width scan.now.tree.now)
-        (T.tree scan.now.tree.now) scan.now.cells.now }
+    requires on { GoesOn (T.width scan.now.tree.now) (T.tree scan.now.tree.now) scan.now.cells.now
+        scan.now.limit at.node.0 cell.old at.dim hits.old.items }
     requires dim { at.dim < T.width scan.now.tree.now }
     requires codes { slice_index_or scan.now.cells.now at.dim None ≡ Some codes.now }
     requires small { All IsCode codes.now }
-    requires stands { StandsAtNode (T.width scan.now.tree.now) (T.tree scan.now.tree.now) at.node.0
-        cell.old at.dim }
     requires forced { option_map edge_of at.forced
         ≡ (record_at (T.tree scan.now.tree.now) at.node.0).forced }
-    requires few { length hits.old.items ≤ scan.now.limit }
     ensures { Finds (T.width scan.now.tree.now) (T.tree scan.now.tree.now) scan.now.limit
         (λ source. met source (drop at.dim scan.now.cells.now) cell.old at.dim)
         (λ source. cost source (drop at.dim scan.now.cells.now) cell.old at.dim)
@@ -153,15 +144,12 @@ fn enter<T: Nodes, L: Ledger>(
     hits: &mut Vec<Hit>,
     steps: &mut Steps<L>,
 ) -> Result<(), RangeRefused>
-    requires scan { CanWalk (T.width scan.now.tree.now)
-        (T.tree scan.now.tree.now) scan.now.cells.now }
+    requires on { GoesOn (T.width scan.now.tree.now) (T.tree scan.now.tree.now) scan.now.cells.now
+        scan.now.limit at.node.0 cell.old at.dim hits.old.items }
     requires dim { at.dim < T.width scan.now.tree.now }
     requires small { IsCode code }
-    requires stands { StandsAtNode (T.width scan.now.tree.now) (T.tree scan.now.tree.now) at.node.0
-        cell.old at.dim }
     requires forced { option_map edge_of at.forced
         ≡ (record_at (T.tree scan.now.tree.now) at.node.0).forced }
-    requires few { length hits.old.items ≤ scan.now.limit }
     ensures { Finds (T.width scan.now.tree.now) (T.tree scan.now.tree.now) scan.now.limit
         (λ source. entered source (drop (at.dim + 1) scan.now.cells.now) cell.old
         at.dim (Some code))

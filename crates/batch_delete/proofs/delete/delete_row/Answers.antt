@@ -23,17 +23,24 @@ still_from : (old new : Arena) (source : TreeRows) → new.now ≡ old.now → n
 still_from old new source now width h
     = subst (λ t. IsTreeOf new.width t source) (sym now) (subst (λ w. IsTreeOf w old.now source) (sym width) h)
 
-pub rewrite_or_remove_all-requires-clause-ready : goal.rewrite_or_remove_all-requires-clause-ready
-rewrite_or_remove_all-requires-clause-ready g c =
+pub rewrite_or_remove_all-requires : goal.rewrite_or_remove_all-requires
+rewrite_or_remove_all-requires g c =
     let a = c.touch_all.new.arena in
+    let tuple = c.args.tuple.now in
     let list = c.in-Ok.list.items in
     let width = ap (λ (x : Arena). x.width) c.touch_all.ensures.frame in
     let from = still_from c.args.arena.now a (source_before g.deletion) c.touch_all.ensures.now width
     c.requires.1.1.1.0 in
-    let below = subst (λ t. AreGeneralizing t c.args.tuple.now (length c.args.tuple.now) list)
-    (sym c.touch_all.ensures.now) c.in-Ok.ensures.below in
-    ready a.width a.now c.args.tuple.now g.deletion from (c.requires.1.1.0
-    ∙ sym width) c.requires.1.1.1.1.0 c.in-Ok-plan_all.plan.entries list below c.in-Ok-plan_all.ensures.planned
+    let below = subst (λ t. AreGeneralizing t tuple (length tuple) list) (sym c.touch_all.ensures.now)
+    c.in-Ok.ensures.below in
+    let long = c.requires.1.1.0 ∙ sym width in
+    record {
+      opened = ap is_open c.touch_all.ensures.frame ∙ c.requires.1.0;
+      touched = c.in-Ok-touch_all.ensures.touched;
+      long = long;
+      ready = ready a.width a.now tuple g.deletion from long c.requires.1.1.1.1.0 c.in-Ok-plan_all.plan.entries list
+          below c.in-Ok-plan_all.ensures.planned;
+    }
 
 pub returns : goal.returns
 returns g c =
@@ -93,31 +100,18 @@ plan_all-requires g c κs within =
     let width = ap (λ (x : Arena). x.width) c.touch_all.ensures.frame in (
       within,
       (
-        still_from c.args.arena.now c.touch_all.new.arena (source_before g.deletion) c.touch_all.ensures.now width
-            c.requires.1.1.1.0,
-        (
-          c.requires.1.1.0 ∙ sym width,
-          (
-            c.requires.1.1.1.1.0,
-            (
-              subst (λ t. AreGeneralizing t c.args.tuple.now (length c.args.tuple.now) c.in-Ok.list.items)
-                  (sym c.touch_all.ensures.now) c.in-Ok.ensures.below,
-              (c.requires.1.1.1.1.1.1, c.requires.1.1.1.1.1.0),
-            ),
-          ),
-        ),
+        record {
+          tree = still_from c.args.arena.now c.touch_all.new.arena (source_before g.deletion) c.touch_all.ensures.now
+              width c.requires.1.1.1.0;
+          long = c.requires.1.1.0 ∙ sym width;
+          tuple = c.requires.1.1.1.1.0;
+          duplicates = c.requires.1.1.1.1.1.1;
+          few = c.requires.1.1.1.1.1.0;
+        },
+        subst (λ t. AreGeneralizing t c.args.tuple.now (length c.args.tuple.now) c.in-Ok.list.items)
+            (sym c.touch_all.ensures.now) c.in-Ok.ensures.below,
       ),
     )
-
-pub rewrite_or_remove_all-requires-clause-opened : goal.rewrite_or_remove_all-requires-clause-opened
-rewrite_or_remove_all-requires-clause-opened g c = ap is_open c.touch_all.ensures.frame ∙ c.requires.1.0
-
-pub rewrite_or_remove_all-requires-clause-touched : goal.rewrite_or_remove_all-requires-clause-touched
-rewrite_or_remove_all-requires-clause-touched g c = c.in-Ok-touch_all.ensures.touched
-
-pub rewrite_or_remove_all-requires-clause-long : goal.rewrite_or_remove_all-requires-clause-long
-rewrite_or_remove_all-requires-clause-long g c = c.requires.1.1.0
-    ∙ sym (ap (λ (x : Arena). x.width) c.touch_all.ensures.frame)
 
 pub returns-in-Err : goal.returns-in-Err
 returns-in-Err g c = record {

@@ -9,7 +9,7 @@ pub set-requires-clause-dim : goal.set-requires-clause-dim
 set-requires-clause-dim g c =
     let xs = c.args.list.now.items in
     let here = c.index-parent.result.now in
-    let is = item_is xs c.args.k no_node_cell (get_or xs c.args.k here) (item_at xs c.args.k here c.requires.k) in
+    let is = item_is xs c.args.k no_node_cell (get_or xs c.args.k here) (item_at xs c.args.k here c.requires.place) in
     let wide = cell_wide c.args.arena.now.width c.args.arena.now.now c.requires.tree.0 c.requires.tree.1 _ _
     c.requires.cell in
     let same = c.copy-cell.ensures.dims in

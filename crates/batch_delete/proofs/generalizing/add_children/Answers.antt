@@ -17,25 +17,23 @@ nodes-init g c =
       steps = omega arith;
     }
 
-pub add_child-requires-clause-cell : goal.add_child-requires-clause-cell
-add_child-requires-clause-cell g c =
+pub add_child-requires : goal.add_child-requires
+add_child-requires g c =
     let old = c.args.list.now.items in
     let many = c.len-many.ensures in
+    let longer = c.nodes.invariant.grown.longer in
     let at = item_at old c.nodes.k no_node_cell (omega arith) in
-    let is = item_is c.nodes.list.items c.nodes.k no_node_cell (get_or old c.nodes.k no_node_cell)
-    (c.nodes.invariant.grown.kept c.nodes.k (get_or old c.nodes.k no_node_cell) at) in
-    subst (λ (b : NodeCell). cell_at c.args.arena.now.now b.node.0 ≡ Some b.cell) (sym is)
-    (c.requires.cells c.nodes.k (get_or old c.nodes.k no_node_cell) at)
-
-pub add_child-requires-clause-behind : goal.add_child-requires-clause-behind
-add_child-requires-clause-behind g c =
-    let old = c.args.list.now.items in
-    let many = c.len-many.ensures in
-    let at = item_at old c.nodes.k no_node_cell (omega arith) in
-    let is = item_is c.nodes.list.items c.nodes.k no_node_cell (get_or old c.nodes.k no_node_cell)
-    (c.nodes.invariant.grown.kept c.nodes.k (get_or old c.nodes.k no_node_cell) at) in
-    subst (λ (b : NodeCell). depth b.cell ≤ c.args.dim) (sym is)
-    (c.requires.short c.nodes.k (get_or old c.nodes.k no_node_cell) at)
+    let b = get_or old c.nodes.k no_node_cell in
+    let is = item_is c.nodes.list.items c.nodes.k no_node_cell b (c.nodes.invariant.grown.kept c.nodes.k b at) in
+    record {
+      tree = c.requires.tree;
+      place = omega (arith, many, c.nodes-test.true, longer);
+      cell = subst (λ (b : NodeCell). cell_at c.args.arena.now.now b.node.0 ≡ Some b.cell) (sym is)
+          (c.requires.cells c.nodes.k b at);
+      behind = subst (λ (b : NodeCell). depth b.cell ≤ c.args.dim) (sym is) (c.requires.short c.nodes.k b at);
+      dim = c.requires.dim;
+      code = c.requires.code;
+    }
 
 pub nodes-preserved : goal.nodes-preserved
 nodes-preserved g c =
@@ -57,18 +55,6 @@ nodes-preserved g c =
           c.add_child.new.list.items) is c.in_ok-add_child.ensures.grows);
       steps = omega arith;
     }
-
-pub add_child-requires-clause-tree : goal.add_child-requires-clause-tree
-add_child-requires-clause-tree g c = c.requires.tree
-
-pub add_child-requires-clause-k : goal.add_child-requires-clause-k
-add_child-requires-clause-k g c = omega (arith, c.len-many.ensures, c.nodes-test.true, c.nodes.invariant.grown.longer)
-
-pub add_child-requires-clause-dim : goal.add_child-requires-clause-dim
-add_child-requires-clause-dim g c = c.requires.dim
-
-pub add_child-requires-clause-code : goal.add_child-requires-clause-code
-add_child-requires-clause-code g c = c.requires.code
 
 pub returns-clause-grown : goal.returns-clause-grown
 returns-clause-grown g c =

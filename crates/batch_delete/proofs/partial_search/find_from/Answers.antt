@@ -11,21 +11,21 @@ pub returns-in_err-node-clause-found : goal.returns-in_err-node-clause-found
 returns-in_err-node-clause-found g c =
     let a = c.args.arena.now in
     let cell = c.args.cell.now in
-    let long = c.requires.1.1.0 in
+    let long = c.requires.1.long in
     let many = c.dims-dims.ensures.value in
     let at = entry_at cell c.dims.next (omega arith) ∙ ap (λ x. Some x) (sym c.get.ensures.value) in
-    let on = goes_on a.width a.now (source_before g.d) c.requires.1.0 cell long c.dims.node.0 c.dims.next
+    let on = goes_on a.width a.now (source_before g.d) c.requires.1.tree cell long c.dims.node.0 c.dims.next
     (value_in c.get.result) _ (omega arith) at c.dims.invariant.on (sym c.in_err-node.ensures.value) in
-    rw c.from_residual.ensures (stops a.width a.now (source_before g.d) c.requires.1.0 cell long (suc c.dims.next) on)
+    rw c.from_residual.ensures (stops a.width a.now (source_before g.d) c.requires.1.tree cell long (suc c.dims.next) on)
 
 pub dims-preserved : goal.dims-preserved
 dims-preserved g c =
     let a = c.args.arena.now in
     let cell = c.args.cell.now in
-    let long = c.requires.1.1.0 in
+    let long = c.requires.1.long in
     let many = c.dims-dims.ensures.value in
     let at = entry_at cell c.dims.next (omega arith) ∙ ap (λ x. Some x) (sym c.get.ensures.value) in
-    let on = goes_on a.width a.now (source_before g.d) c.requires.1.0 cell long c.dims.node.0 c.dims.next
+    let on = goes_on a.width a.now (source_before g.d) c.requires.1.tree cell long c.dims.node.0 c.dims.next
     (value_in c.get.result) _ (omega arith) at c.dims.invariant.on (sym c.in_ok-node.ensures.value) in
     let next : suc c.dims.next ≡ c.dims.next + 1 = omega arith in
     let from = c.dims.invariant.from in
@@ -41,8 +41,8 @@ dims-preserved g c =
 pub returns-clause-found : goal.returns-clause-found
 returns-clause-found g c =
     let a = c.args.arena.now in
-    let long = c.requires.1.1.0 in
+    let long = c.requires.1.long in
     let many = c.dims-dims.ensures.value in
     let past = c.dims-test.false in
-    ends a.width a.now (source_before g.d) c.requires.1.0 c.args.cell.now long (Some c.dims.node.0) c.dims.next
+    ends a.width a.now (source_before g.d) c.requires.1.tree c.args.cell.now long (Some c.dims.node.0) c.dims.next
     (omega arith) c.dims.invariant.on

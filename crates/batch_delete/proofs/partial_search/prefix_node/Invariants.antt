@@ -5,6 +5,6 @@ use Rattle.batch_delete.proofs.partial_search.prefix_node.Given as goal
 
 abbrev pub invariant-up : goal.invariant-up
 invariant-up g l = record {
-  at : cell_at l.arena.now l.node.0 ≡ Some (cell_prefix (length l.cell - l._value) l.cell);
+  at : cell_at l.arena.now l.node.0 ≡ Some (cell_prefix (length l.class.cell - l._value) l.class.cell);
   steps : l.steps ≤ l.fn.steps + l._value;
 }

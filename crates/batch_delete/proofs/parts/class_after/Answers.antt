@@ -15,13 +15,7 @@ all_parts-requires g c κs within =
         c.requires.1.0,
         (
           c.requires.1.1.0,
-          (
-            last,
-            (
-              c.in-Some.ensures.within,
-              (λ v q w has closes at. c.requires.1.1.1 c.in-Some.dim v q w last.any has closes at),
-            ),
-          ),
+          (last, (λ v q w has closes at. c.requires.1.1.1 c.in-Some.dim v q w last.any has closes at)),
         ),
       ),
     )

@@ -6,47 +6,47 @@ use Rattle.batch_delete.proofs.plan.heir_at.Goals as goal
 
 pub front-front-requires : goal.front-front-requires
 front-front-requires g c =
-    let closes = shared_closes g.d c.args.below.now.cell c.args.after.now c.in-Some.rest c.requires.1.1.1.1
+    let closes = shared_closes g.d c.args.below.now.cell c.args.after.now c.in-Some.rest c.requires.1.after
     c.in-Some.is in
-    let long = shared_long c.args.arena.now.width c.args.arena.now.now g.d c.requires.1.0 c.args.below.now.cell
+    let long = shared_long c.args.arena.now.width c.args.arena.now.now g.d c.requires.1.tree c.args.below.now.cell
     c.in-Some.rest closes in
-    let wide = c.requires.1.1.1.0 in
+    let wide = c.requires.1.long in
     let within = c.depth.ensures.within in
     omega arith
 
 pub leq-requires : goal.leq-requires
 leq-requires g c =
-    let closes = shared_closes g.d c.args.below.now.cell c.args.after.now c.in-Some.rest c.requires.1.1.1.1
+    let closes = shared_closes g.d c.args.below.now.cell c.args.after.now c.in-Some.rest c.requires.1.after
     c.in-Some.is in
-    let long = shared_long c.args.arena.now.width c.args.arena.now.now g.d c.requires.1.0 c.args.below.now.cell
+    let long = shared_long c.args.arena.now.width c.args.arena.now.now g.d c.requires.1.tree c.args.below.now.cell
     c.in-Some.rest closes in
-    c.front-front.ensures.dims ∙ long ∙ sym c.requires.1.1.1.0
+    c.front-front.ensures.dims ∙ long ∙ sym c.requires.1.long
 
 pub returns-then-leq-clause-heir : goal.returns-then-leq-clause-heir
 returns-then-leq-clause-heir g c =
-    let closes = shared_closes g.d c.args.below.now.cell c.args.after.now c.in-Some.rest c.requires.1.1.1.1
+    let closes = shared_closes g.d c.args.below.now.cell c.args.after.now c.in-Some.rest c.requires.1.after
     c.in-Some.is in
     let is = c.front-front.ensures.value ∙ ap (λ n. cell_prefix n c.in-Some.rest.shared) c.depth.ensures.value in
     let own = own_prefix g.d c.args.below.now.cell c.in-Some.rest.shared c.front-front.result closes is
     (sym c.leq.ensures ∙ c.if-leq.true) in
-    ap (λ x. Some x) (c.requires.1.1.0 ∙ ap (λ x. Some x) (sym own))
+    ap (λ x. Some x) (c.requires.1.cell ∙ ap (λ x. Some x) (sym own))
     ∙ sym (ap (λ o. option_map (λ x. Some x) (option_map (cell_prefix (depth c.args.below.now.cell)) o)) closes)
 
 pub node_at-requires-clause-node : goal.node_at-requires-clause-node
 node_at-requires-clause-node g c =
-    let closes = shared_closes g.d c.args.below.now.cell c.args.after.now c.in-Some.rest c.requires.1.1.1.1
+    let closes = shared_closes g.d c.args.below.now.cell c.args.after.now c.in-Some.rest c.requires.1.after
     c.in-Some.is in
-    let at = heir_there c.args.arena.now.width c.args.arena.now.now g.d c.requires.1.0 c.args.below.now.cell
+    let at = heir_there c.args.arena.now.width c.args.arena.now.now g.d c.requires.1.tree c.args.below.now.cell
     c.in-Some.rest.shared c.depth.result closes in
     (at.0, at.1 ∙ ap (λ c. Some c) (sym c.front-front.ensures.value))
 
 pub returns-else-leq-clause-steps : goal.returns-else-leq-clause-steps
 returns-else-leq-clause-steps g c =
-    let closes = shared_closes g.d c.args.below.now.cell c.args.after.now c.in-Some.rest c.requires.1.1.1.1
+    let closes = shared_closes g.d c.args.below.now.cell c.args.after.now c.in-Some.rest c.requires.1.after
     c.in-Some.is in
-    let long = shared_long c.args.arena.now.width c.args.arena.now.now g.d c.requires.1.0 c.args.below.now.cell
+    let long = shared_long c.args.arena.now.width c.args.arena.now.now g.d c.requires.1.tree c.args.below.now.cell
     c.in-Some.rest closes in
-    let wide = c.requires.1.1.1.0 in
+    let wide = c.requires.1.long in
     let dims = c.front-front.ensures.dims in
     let took = c.node_at.ensures.steps in
     omega arith

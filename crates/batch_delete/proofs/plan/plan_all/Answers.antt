@@ -8,14 +8,14 @@ plan_row-requires g c κs within = (
   within,
   (
     record {
-      tree = c.requires.1.0;
-      long = c.requires.1.1.0;
-      tuple = c.requires.1.1.1.0;
-      all = c.total_at-all.ensures.value (source_before g.d) c.requires.1.0
+      tree = c.requires.1.0.tree;
+      long = c.requires.1.0.long;
+      tuple = c.requires.1.0.tuple;
+      all = c.total_at-all.ensures.value (source_before g.d) c.requires.1.0.tree
           ∙ total_agg g.d.measures (rows_before g.d) c.args.tuple.now;
-      duplicates = c.requires.1.1.1.1.1.0;
-      few = c.requires.1.1.1.1.1.1;
+      duplicates = c.requires.1.0.duplicates;
+      few = c.requires.1.0.few;
     },
-    c.requires.1.1.1.1.0,
+    c.requires.1.1,
   ),
 )

@@ -6,7 +6,7 @@ use Rattle.qc_arena.specs.Map.{Known, is_open}
 use Rattle.qc_arena.specs.RecordReaders.{record_at, record_or}
 use Rattle.tree_search.proofs.CallerLemmas.{there_is}
 use Rattle.batch_delete.specs.Plan.{left_to, with_target, with_mixed}
-use Rattle.batch_delete.proofs.Rewriting.{all_mixed, looked, mended_more, mixed_long, rises_from}
+use Rattle.batch_delete.proofs.Rewriting.{all_mixed, looked, mended_more, mixed_long, more_changes, no_change, rises_from}
 use Rattle.batch_delete.proofs.OwnLabels.{mixed_kept}
 use Rattle.batch_delete.proofs.record_rewriting.cut_edges.Goals as goal
 
@@ -22,10 +22,8 @@ edges-init g c =
     record {
       here = here ∙ ap (λ (x : Known). Some x) (sym (all_mixed f n (c.edge_count-many.result - 0) (omega arith)))
           ∙ ap (option_map (with_mixed f (c.edge_count-many.result - 0))) (sym here);
-      others = λ q h. refl;
-      touched = λ q. refl;
+      only = no_change c.args.node.0 c.args.arena.now;
       opened = c.requires.opened;
-      frame = refl;
       steps = omega arith;
     }
 
@@ -72,10 +70,8 @@ edges-preserved g c =
           (mended_more f j n x (f x) (rises_from n.edges c.edge_count-many.ensures.rising) at refl)
           ∙ ap (λ j. Some (with_mixed f j n)) next
           ∙ sym (ap (option_map (with_mixed f (c.edge_count-many.result - (c.edges.k + 1)))) old);
-      others = λ q h. c.cut_edge.ensures.others q h ∙ c.edges.invariant.others q h;
-      touched = λ q. c.cut_edge.ensures.touched q ∙ c.edges.invariant.touched q;
-      opened = ap is_open c.cut_edge.ensures.frame ∙ c.edges.invariant.opened;
-      frame = c.cut_edge.ensures.frame ∙ c.edges.invariant.frame;
+      only = more_changes c.args.node.0 _ _ _ c.edges.invariant.only c.cut_edge.ensures.only;
+      opened = ap is_open c.cut_edge.ensures.only.frame ∙ c.edges.invariant.opened;
       steps = omega arith;
     }
 

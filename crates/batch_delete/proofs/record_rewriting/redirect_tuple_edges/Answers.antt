@@ -7,7 +7,7 @@ use Rattle.tree_laws.specs.Walk.{target_at}
 use Rattle.tree_search.proofs.CallerLemmas.{there_is}
 use Rattle.batch_delete.specs.Plan.{heir_in, first_redirected, heir_target, with_mixed, with_own}
 use Rattle.batch_delete.proofs.Redirecting.{all_led, label_was, leads_to, none_led, not_yet, own_before, own_more}
-use Rattle.batch_delete.proofs.Rewriting.{there_still}
+use Rattle.batch_delete.proofs.Rewriting.{more_changes, no_change, there_still}
 use Rattle.batch_delete.proofs.record_rewriting.redirect_tuple_edges.Goals as goal
 use Rattle.cube_laws.proofs.CallerLemmas.{one_test}
 
@@ -19,30 +19,41 @@ dims-init g c =
     record {
       here = old ∙ ap (λ (m : Known). Some m) (sym (none_led c.args.tuple.now heirs c.args.from n c.requires.behind))
           ∙ sym (ap (option_map (with_mixed (own_before c.args.tuple.now heirs c.args.from) 0)) old);
-      others = λ q h. refl;
-      touched = λ q. refl;
+      only = no_change c.args.node.0 c.args.arena.now;
       opened = c.requires.change.opened;
       width = refl;
-      frame = refl;
       from = omega arith;
       steps = omega arith;
     }
 
-pub redirect_tuple_edge-requires-clause-target : goal.redirect_tuple_edge-requires-clause-target
-redirect_tuple_edge-requires-clause-target g c = λ v t y has found heir.
+pub redirect_tuple_edge-requires : goal.redirect_tuple_edge-requires
+redirect_tuple_edge-requires g c =
     let tuple = c.args.tuple.now in
     let heirs = heir_in c.args.plan.now.entries in
     let n = record_at c.args.arena.now.now c.args.node.0 in
     let old = there_is c.args.arena.now.now c.args.node.0 c.requires.change.there in
     let is = c.dims.invariant.here ∙ ap (option_map (with_mixed (own_before tuple heirs c.dims.dim) 0)) old in
-    let at : target_at nat_eq c.dims.dim v (first_redirected (own_before tuple heirs c.dims.dim) 0 n.edges) ≡ Some y =
-    ap (λ (e : ℕ → ℕ → Bool). target_at e c.dims.dim v (first_redirected (own_before tuple heirs c.dims.dim) 0 n.edges))
-    (sym one_test)
-    ∙ sym (ap (λ (o : Option Known). target_at (eq_by_cmp nat_cmp) c.dims.dim v (record_or o).edges) is) ∙ found in
-    let x = label_was (own_before tuple heirs c.dims.dim) c.dims.dim v (not_yet tuple heirs c.dims.dim v has)
-    n.edges y at in
-    there_still c.args.arena.now.now c.dims.arena.now c.args.node.0 c.dims.invariant.others (ap is_some is) t
-    (c.requires.targets x.0 t _ x.1 (leads_to tuple heirs c.dims.dim v has t y heir))
+    let long = c.requires.long ∙ sym c.dims.invariant.width in
+    let before = c.dims-test.true in
+    let ends = c.dims-dim-end.ensures.value in
+    record {
+      change = record {
+        opened = c.dims.invariant.opened;
+        there = ap is_some is;
+        touched = c.dims.invariant.only.touched c.args.node.0 ∙ c.requires.change.touched;
+      };
+      long = long;
+      dim = omega arith;
+      target = λ v t y has found heir.
+          let at : target_at nat_eq c.dims.dim v (first_redirected (own_before tuple heirs c.dims.dim) 0 n.edges) ≡ Some y
+          = ap (λ (e : ℕ → ℕ → Bool). target_at e c.dims.dim v
+          (first_redirected (own_before tuple heirs c.dims.dim) 0 n.edges)) (sym one_test)
+          ∙ sym (ap (λ (o : Option Known). target_at (eq_by_cmp nat_cmp) c.dims.dim v (record_or o).edges) is) ∙ found in
+          let x = label_was (own_before tuple heirs c.dims.dim) c.dims.dim v (not_yet tuple heirs c.dims.dim v has)
+          n.edges y at in
+          there_still c.args.arena.now.now c.dims.arena.now c.args.node.0 c.dims.invariant.only.others (ap is_some is) t
+          (c.requires.targets x.0 t _ x.1 (leads_to tuple heirs c.dims.dim v has t y heir));
+    }
 
 pub dims-preserved : goal.dims-preserved
 dims-preserved g c =
@@ -59,11 +70,9 @@ dims-preserved g c =
           ∙ ap (option_map (with_own heirs c.dims.dim (get_or tuple c.dims.dim None))) is
           ∙ ap (λ (m : Known). Some m) (own_more tuple heirs c.dims.dim n c.requires.rises)
           ∙ sym (ap (option_map (with_mixed (own_before tuple heirs (c.dims.dim + 1)) 0)) old);
-      others = λ q h. c.redirect_tuple_edge.ensures.others q h ∙ c.dims.invariant.others q h;
-      touched = λ q. c.redirect_tuple_edge.ensures.touched q ∙ c.dims.invariant.touched q;
-      opened = ap is_open c.redirect_tuple_edge.ensures.frame ∙ c.dims.invariant.opened;
-      width = ap (λ (a : Arena). a.width) c.redirect_tuple_edge.ensures.frame ∙ c.dims.invariant.width;
-      frame = c.redirect_tuple_edge.ensures.frame ∙ c.dims.invariant.frame;
+      only = more_changes c.args.node.0 _ _ _ c.dims.invariant.only c.redirect_tuple_edge.ensures.only;
+      opened = ap is_open c.redirect_tuple_edge.ensures.only.frame ∙ c.dims.invariant.opened;
+      width = ap (λ (a : Arena). a.width) c.redirect_tuple_edge.ensures.only.frame ∙ c.dims.invariant.width;
       from = omega arith;
       steps = omega arith;
     }

@@ -7,6 +7,7 @@ use Rattle.cube_defs.specs.Rows.{cov}
 use Rattle.cube_laws.specs.Total.{agg_at}
 use Rattle.cube_laws.proofs.CallerLemmas.{count_one_less, slice_get-cell_of, some_of}
 use Rattle.batch_delete.specs.declared.parts.Rest.{Rest}
+use Rattle.batch_delete.specs.DeletedRow.{MaySettle}
 use Rattle.batch_delete.specs.Rests.{IsRest, rows_after, rows_before}
 use Rattle.batch_delete.proofs.Counted.{counted, counted_at}
 use Rattle.batch_delete.proofs.Labelled.{law}
@@ -17,7 +18,8 @@ pub returns-then-is_settled : goal.returns-then-is_settled
 returns-then-is_settled g c =
     let a = c.args.row.now.arena.now in
     let u = c.args.class.now.cell in
-    let above = some_of _ c.args.some.now c.in-Some.rest c.in-Some.is c.requires.1.1.1.1.0 in
+    let above = (some_of (λ (rest : Rest). MaySettle g.d u rest) c.args.some.now c.in-Some.rest c.in-Some.is
+    c.requires.1.1.1).above in
     let agg = some_of _ c.args.class.now.less c.in-Some-less.agg c.in-Some-less.is c.requires.1.1.0.less in
     let stays = class_stays a.width a.now g.d c.requires.0.tree u c.in-Some.rest.shared c.requires.1.0
     c.requires.1.1.0.is.below c.requires.1.1.0.is.own above (λ k v any has.
@@ -28,7 +30,8 @@ returns-then-is_settled g c =
 pub returns-then-are_all_but_one : goal.returns-then-are_all_but_one
 returns-then-are_all_but_one g c =
     let u = c.args.class.now.cell in
-    let all = some_of _ c.args.some.now c.in-Some.rest c.in-Some.is c.requires.1.1.1.1.1 in
+    let all = (some_of (λ (rest : Rest). MaySettle g.d u rest) c.args.some.now c.in-Some.rest c.in-Some.is
+    c.requires.1.1.1).all in
     let found = c.are_all_but_one.ensures c.if-are_all_but_one.true in
     let whole : Some (agg_in found.0) ≡ agg_at (eq_by_cmp nat_cmp) g.d.measures (rows_before g.d) u
     = ap (option_map agg_in) (sym found.1) ∙ c.requires.1.1.0.whole in

@@ -2,10 +2,10 @@ use Rattle.batch_insert.proofs.Keeping.{keeps_forced, keeps_same}
 use Rattle.batch_insert.proofs.kinds.set_forced_child.Goals as goal
 
 pub returns-in-Err-clause-keeps : goal.returns-in-Err-clause-keeps
-returns-in-Err-clause-keeps g c = keeps_same c.args.tuple.now c.args.arena.now c.requires.change.opened
+returns-in-Err-clause-keeps g c = keeps_same c.args.tuple.now c.args.arena.now c.requires.node.change.opened
 
 pub returns-clause-keeps : goal.returns-clause-keeps
 returns-clause-keeps g c
-    = keeps_forced c.args.tuple.now c.args.arena.now c.set_forced.new.self c.args.node.0 _ c.requires.node
+    = keeps_forced c.args.tuple.now c.args.arena.now c.set_forced.new.self c.args.node.0 _ c.requires.node.node
     c.set_forced.ensures.here c.set_forced.ensures.others c.set_forced.ensures.touched c.set_forced.ensures.frame
-    c.requires.change.opened
+    c.requires.node.change.opened

@@ -1,7 +1,7 @@
 use Rattle.batch_insert.specs.Numbered.{numbered}
 use Rattle.batch_insert.proofs.Each.{one_class, one_forced}
 use Rattle.batch_insert.proofs.Reading.{ok_then}
-use Rattle.batch_insert.proofs.Keeping.{keeps_same, number_below, number_change}
+use Rattle.batch_insert.proofs.Keeping.{keeps_same, number_rewrite}
 use Rattle.batch_insert.proofs.kinds.set_kind.Goals as goal
 
 pub returns-in-Err-clause-keeps : goal.returns-in-Err-clause-keeps
@@ -9,23 +9,12 @@ returns-in-Err-clause-keeps g c = keeps_same c.args.tuple.now c.args.arena.now c
 
 pub set_forced_child-requires-clause-node : goal.set_forced_child-requires-clause-node
 set_forced_child-requires-clause-node g c
-    = number_below c.args.tuple.now c.args.arena.now (numbered c.args.numbers.now) _ _ c.requires.repair.numbers
+    = number_rewrite c.args.tuple.now c.args.arena.now (numbered c.args.numbers.now) _ _ c.requires.repair
     c.in-Ok.ensures
 
-pub set_forced_child-requires-clause-change : goal.set_forced_child-requires-clause-change
-set_forced_child-requires-clause-change g c
-    = number_change c.args.tuple.now c.args.arena.now (numbered c.args.numbers.now) _ _ c.requires.repair
-    c.in-Ok.ensures
-
-pub mark-requires-clause-node : goal.mark-requires-clause-node
-mark-requires-clause-node g c
-    = number_below c.args.tuple.now c.args.arena.now (numbered c.args.numbers.now) _ _ c.requires.repair.numbers
-    c.in-Ok.ensures
-
-pub mark-requires-clause-change : goal.mark-requires-clause-change
-mark-requires-clause-change g c
-    = number_change c.args.tuple.now c.args.arena.now (numbered c.args.numbers.now) _ _ c.requires.repair
-    c.in-Ok.ensures
+pub mark-requires : goal.mark-requires
+mark-requires g c = number_rewrite c.args.tuple.now c.args.arena.now (numbered c.args.numbers.now) _ _
+    c.requires.repair c.in-Ok.ensures
 
 pub returns-in-Some-clause-done : goal.returns-in-Some-clause-done
 returns-in-Some-clause-done g c

@@ -20,7 +20,7 @@ up-init g c =
 pub returns-in_default-clause-shares : goal.returns-in_default-clause-shares
 returns-in_default-clause-shares g c
     = shares_root c.args.insertion.now.tuple.now c.args.insertion.now.arena.now c.requires.insertion.ready
-    c.requires.insertion.width c.requires.few c.args.node.0 c.up.at.0 c.up.values c.up.is_below c.requires.node
+    c.requires.insertion.width c.requires.insertion.few c.args.node.0 c.up.at.0 c.up.values c.up.is_below c.requires.node
     c.up.invariant.there (sym c.in_default.ensures.value) c.up.invariant.common c.up.invariant.below
 
 pub bit_of-bit-requires-clause-dim : goal.bit_of-bit-requires-clause-dim
@@ -50,10 +50,10 @@ up-preserved g c =
     record {
       there = up.there;
       common = common_on c.args.insertion.now.tuple.now c.args.insertion.now.arena.now c.requires.insertion.ready
-          c.requires.insertion.width c.requires.few c.up.at.0 c.in-Some.dim c.in-Some.code c.unwrap-at.result.0
+          c.requires.insertion.width c.requires.insertion.few c.up.at.0 c.in-Some.dim c.in-Some.code c.unwrap-at.result.0
           c.args.node.0 c.bit_of-bit.result c.up.values c.up.is_below up c.bit_of-bit.ensures c.up.invariant.common;
       below = below_on c.args.insertion.now.tuple.now c.args.insertion.now.arena.now c.requires.insertion.ready
-          c.requires.insertion.width c.requires.few c.up.at.0 c.in-Some.dim c.in-Some.code c.unwrap-at.result.0
+          c.requires.insertion.width c.requires.insertion.few c.up.at.0 c.in-Some.dim c.in-Some.code c.unwrap-at.result.0
           c.args.node.0 c.bit_of-bit.result c.up.values c.up.is_below up c.bit_of-bit.ensures c.up.invariant.below;
       steps = omega arith;
     }
@@ -64,7 +64,7 @@ overflow_add-values g c =
     c.requires.insertion.width c.up.at.0 c.in-Some.dim c.in-Some.code c.up.invariant.there
     (sym c.in-Some.ensures.value) in
     let fits = common_fits c.args.insertion.now.tuple.now c.args.insertion.now.arena.now c.requires.insertion.ready
-    c.requires.insertion.width c.requires.few c.args.node.0 c.requires.node in
+    c.requires.insertion.width c.requires.insertion.few c.args.node.0 c.requires.node in
     let h = c.up.invariant.common in
     let is = c.bit_of-bit.ensures in
     omega (arith, fits, bit, h, is)
@@ -72,9 +72,9 @@ overflow_add-values g c =
 pub overflow_add-result : goal.overflow_add-result
 overflow_add-result g c =
     let fits = common_fits c.args.insertion.now.tuple.now c.args.insertion.now.arena.now c.requires.insertion.ready
-    c.requires.insertion.width c.requires.few c.args.node.0 c.requires.node in
+    c.requires.insertion.width c.requires.insertion.few c.args.node.0 c.requires.node in
     let e = (shared_there c.args.insertion.now.tuple.now c.args.insertion.now.arena.now c.requires.insertion.ready
-    c.requires.insertion.width c.requires.few c.args.chain.node c.up.at c.args.mask c.args.chain.is_own
+    c.requires.insertion.width c.requires.insertion.few c.args.chain.node c.up.at c.args.mask c.args.chain.is_own
     (c.is_at.ensures c.up-test.false) c.requires.chain).0 in
     let h = c.up.invariant.common in
     omega (arith, fits, e, h)

@@ -1,4 +1,4 @@
-use Rattle.std.proofs.Common.{None, replicate, ap, ◌∙◌, arith}
+use Rattle.std.proofs.Common.{None, length, replicate, ap, ◌∙◌, arith}
 use Rattle.range_query.specs.DecodedHits.{decoded_hits}
 use Rattle.range_query.proofs.Answering.{answer_few, answer_is_told, answer_more, answer_steps, answer_told, range_none, stands_root}
 use Rattle.range_query.proofs.Lists.{err_other}
@@ -10,10 +10,19 @@ returns-in_default-clause-hits g c = λ source h known.
     ∙ range_none _ _ c.args.dict.now.lists c.args.cells.now source h c.dims-dims.ensures.dictionary.distinct
     c.requires.dict_dims c.requires.dims c.requires.known c.requires.order known c.in_default.ensures.none
 
-pub visit-requires-clause-stands : goal.visit-requires-clause-stands
-visit-requires-clause-stands g c
-    = stands_root _ _ c.in-Some.root.0 c.any-cell.result (c.any-cell.ensures.value
-    ∙ ap (λ n. replicate n None) (c.dims-dims.ensures.value ∙ c.requires.dict_dims)) c.in-Some.ensures.some
+pub visit-requires : goal.visit-requires
+visit-requires g c =
+    let wide = c.dims-dims.ensures.value ∙ c.requires.dict_dims in
+    record {
+      scan = record {
+        is_tree = c.requires.tree;
+        long = c.requires.dims;
+        few = omega (arith, c.requires.dict_dims, c.dims-dims.ensures.dictionary.few_dims);
+      };
+      stands = stands_root _ _ c.in-Some.root.0 c.any-cell.result (c.any-cell.ensures.value
+          ∙ ap (λ n. replicate n None) wide) c.in-Some.ensures.some;
+      few = omega (arith, ap length c.new-hits.ensures.items);
+    }
 
 pub returns-in-Ok-clause-hits : goal.returns-in-Ok-clause-hits
 returns-in-Ok-clause-hits g c = λ source h known.
