@@ -40,7 +40,9 @@ fn tell_of_the_root<L: Ledger>(shop: &mut Warehouse, steps: &mut Steps<L>) -> bo
     let refused = root_before(shop);
     let answers = matches!((came, went), (Ok(1), Ok(1)));
     let is_missing = matches!(missing, Err(Refused::Missing(1)));
-    answers && is_missing && (loaded, again, applied, refused) == (Some(None), None, Some(Some(1)), None)
+    answers
+        && is_missing
+        && (loaded, again, applied, refused) == (Some(None), None, Some(Some(1)), None)
 }
 
 /// Whether they say what they should.

@@ -65,12 +65,18 @@ fn answer<L: Ledger>(alloc: Global, bytes: &[u8], steps: &mut Steps<L>) -> Verdi
 
 // Whether the bytes are no snapshot.
 fn is_refused<L: Ledger>(alloc: Global, bytes: &[u8], steps: &mut Steps<L>) -> bool {
-    matches!(answer(alloc, bytes, steps), Verdict::Refused(DecodeRefused::Form))
+    matches!(
+        answer(alloc, bytes, steps),
+        Verdict::Refused(DecodeRefused::Form)
+    )
 }
 
 // Whether the bytes are those of a tree with too many nodes.
 fn is_crowded<L: Ledger>(alloc: Global, bytes: &[u8], steps: &mut Steps<L>) -> bool {
-    matches!(answer(alloc, bytes, steps), Verdict::Refused(DecodeRefused::NodesFull))
+    matches!(
+        answer(alloc, bytes, steps),
+        Verdict::Refused(DecodeRefused::NodesFull)
+    )
 }
 
 // Whether the first bytes of a snapshot, so many of them, are refused.

@@ -32,8 +32,13 @@ loop-item-init g c =
 
 pub note-requires : goal.note-requires
 note-requires g c =
-    omega (arith, c.loop-item.invariant.noted, c.loop-item.invariant.room, c.loop-item-test.true,
-    c.deref-item-items.ensures.len)
+    omega (
+      arith,
+      c.loop-item.invariant.noted,
+      c.loop-item.invariant.room,
+      c.loop-item-test.true,
+      c.deref-item-items.ensures.len,
+    )
 
 pub returns : goal.returns
 returns g c =
