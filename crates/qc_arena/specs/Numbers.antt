@@ -1,5 +1,5 @@
 -- Numbers of nodes, the last of which are a run.
-use Rattle.std.specs.Prelude.{ℕ, ◌-◌, ◌<◌, ◌≤◌, ◌&&◌, List, if◌then◌else◌, length, nat_eq, nat_lt, refl, slice_index_or}
+use Rattle.std.specs.Prelude.{ℕ, ◌-◌, ◌<◌, ◌≤◌, ◌&&◌, List, if◌then◌else◌, length, nat_eq, nat_lt, refl}
 use Rattle.std.specs.List.{All, range_with_len}
 use Rattle.std.specs.Coded.{Coded, code_by, coded×, coded_list, coded_ℕ}
 

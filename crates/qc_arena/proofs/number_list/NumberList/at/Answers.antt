@@ -1,4 +1,4 @@
-use Rattle.std.proofs.Common.{◌≡◌, ◌∙◌, ◌+◌, ◌-◌, ◌<◌, ◌≤◌, ℕ, ap, arith, get_or, length, sym}
+use Rattle.std.proofs.Common.{◌≡◌, ◌∙◌, ◌+◌, ◌-◌, ℕ, ap, arith, get_or, length, sym}
 use Rattle.qc_arena.specs.Numbers.{Numbers}
 use Rattle.qc_arena.proofs.Runs.{at_run, long}
 use Rattle.qc_arena.proofs.number_list.NumberList.at.Goals as goal

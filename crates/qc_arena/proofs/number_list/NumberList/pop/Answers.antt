@@ -1,4 +1,4 @@
-use Rattle.std.proofs.Common.{◌≡◌, ◌∙◌, ◌+◌, ◌-◌, ◌++◌, ℕ, List, ap, arith, length, sym}
+use Rattle.std.proofs.Common.{◌≡◌, ◌∙◌, ◌+◌, ◌-◌, ◌++◌, ℕ, ap, arith, length, sym}
 use Rattle.qc_arena.specs.Numbers.{Numbers, run}
 use Rattle.qc_arena.proofs.Runs.{long, push_run}
 use Rattle.qc_arena.proofs.number_list.NumberList.pop.Goals as goal
