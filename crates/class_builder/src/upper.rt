@@ -87,12 +87,7 @@ pub(crate) fn first_new_value(
 }
 
 /// The closure of rows that share a value in the dimension, and before it no more than `upper` has.
-pub(crate) fn closure_of_part(
-    table: &SortedRows,
-    rows: &[RowNo],
-    upper: &Cell,
-    dim: u8,
-) -> Cell
+pub(crate) fn closure_of_part(table: &SortedRows, rows: &[RowNo], upper: &Cell, dim: u8) -> Cell
     requires under { AreCoveredRows table.now rows.now upper.now }
     requires dim { dim < table.now.dims }
     requires value { is_some (slice_index_or (shared_by (named table.now rows.now)) dim None)

@@ -251,9 +251,10 @@ impl Warehouse {
         }
     }
 
-    // Drops the before-images of the last change.
-    fn drop_images(&mut self)
+    /// Drops the before-images of the last change. Takes no memory.
+    pub fn drop_images(&mut self)
         ensures rest { self.new ≡ record self.old { images = finmap.empty } }
+        ensures valid { AreContents self.new }
     {
         self.cube.tree.drop_images();
     }
