@@ -38,7 +38,7 @@ use Rattle.iceberg_query.specs.declared.ask.Ask.{Ask}
 use Rattle.iceberg_query.specs.declared.ask.Bound.{Bound}
 use Rattle.iceberg_query.specs.declared.ask.Bound.TheVariants as bounds
 use Rattle.lower_bounds.specs.Classes.{hit_in}
-use Rattle.lower_bounds.specs.declared.class.Class.{Class}
+use Rattle.lower_bounds.specs.declared.class.ClassHit.{ClassHit}
 use Rattle.iceberg_query.specs.declared.hits.ValuedClass.{ValuedClass}
 use Rattle.iceberg_query.specs.Asked.{ask_in, bound_in}
 use Rattle.iceberg_query.specs.Subtree.{is_wanted}
@@ -59,7 +59,7 @@ told_cell dict c = coded_cell (text_in dict.lists) 0 c
 abbrev told_hit : TextLists → answers.ClassHit ℕ → answers.ClassHit Text
 told_hit dict hit = record { upper = told_cell dict hit.upper; agg = hit.agg; lowers = map (told_cell dict) hit.lowers }
 
-abbrev told_hits : TextLists → List Class → List (answers.ClassHit Text)
+abbrev told_hits : TextLists → List ClassHit → List (answers.ClassHit Text)
 told_hits dict classes = map (λ class. told_hit dict (hit_in class)) classes
 
 text_law : IsEquality (eq_by_cmp text_cmp)
@@ -300,11 +300,11 @@ module _ (dims : ℕ) (tree : Tree ℕ) (dict : TextLists) (ask : Ask) (source :
             source.measures;
       }
 
-  abbrev IsToldClass : Class → Type 0
+  abbrev IsToldClass : ClassHit → Type 0
   IsToldClass class = telling.IsDecodableClass dict.lists source.measures (hit_in class)
 
   -- each class of the answer can be told
-  pub iceberg_is_told : (found_values values : List ValuedClass) (answer : List Class)
+  pub iceberg_is_told : (found_values values : List ValuedClass) (answer : List ClassHit)
       → map valued_of found_values ≡ map (class_at source tree) ks → IsPermutation found_values values
       → answer ≡ map hits.valued_class values → All IsToldClass answer
   iceberg_is_told found_values values answer e p is =
@@ -340,7 +340,7 @@ module _ (dims : ℕ) (tree : Tree ℕ) (dict : TextLists) (ask : Ask) (source :
           = among_map (class_at source tree) (valued_of v) ks m in
           ap (telling.decoded_class dict.lists) b.2 ∙ told_node b.0 (found b.0 b.1) ∙ ap (told_hit dict) (sym b.2)
 
-  pub iceberg_told : (found_values values : List ValuedClass) (answer : List Class)
+  pub iceberg_told : (found_values values : List ValuedClass) (answer : List ClassHit)
       → map valued_of found_values ≡ map (class_at source tree) ks → All (IsValued ask) found_values
       → IsPermutation found_values values → IsSortedBy (is_before dict.lists ask.bound) values
       → answer ≡ map hits.valued_class values
@@ -379,7 +379,7 @@ module _ (dims : ℕ) (tree : Tree ℕ) (dict : TextLists) (ask : Ask) (source :
             (map_among (told_hit dict) (valued_of b.0) (map valued_of values) (map_among valued_of b.0 values c)),
       ))
 
-pub hits_count : (source : TreeRows) (tree : Tree ℕ) (found_values values : List ValuedClass) (answer : List Class)
+pub hits_count : (source : TreeRows) (tree : Tree ℕ) (found_values values : List ValuedClass) (answer : List ClassHit)
     (nodes : List NodeNo) → map valued_of found_values ≡ map (class_at source tree) (map number nodes)
     → length values ≡ length found_values → answer ≡ map hits.valued_class values → length answer ≡ length nodes
 hits_count source tree found_values values answer nodes e l is =

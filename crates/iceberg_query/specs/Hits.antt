@@ -7,14 +7,14 @@ use Rattle.cube_defs.specs.Tree.{Tree}
 use Rattle.cube_defs.specs.Answers as answers
 use Rattle.aggregates.specs.Views.{agg_in, kind_in, ratio_in}
 use Rattle.lower_bounds.specs.Classes.{hit_in}
-use Rattle.lower_bounds.specs.declared.class.Class.{Class}
+use Rattle.lower_bounds.specs.declared.class.ClassHit.{ClassHit}
 use Rattle.qc_arena.specs.RecordReaders.{record_at}
 use Rattle.tree_search.specs.Found.{TreeRows}
 use Rattle.value_dict.specs.Decoded.{decoded_class}
 use Rattle.iceberg_query.specs.declared.ask.Ask.{Ask}
 use Rattle.iceberg_query.specs.declared.hits.ValuedClass.{ValuedClass}
 
-abbrev pub valued_class : ValuedClass → Class
+abbrev pub valued_class : ValuedClass → ClassHit
 valued_class v = v.class
 
 abbrev pub valued_of : ValuedClass → answers.ClassHit ℕ
@@ -30,8 +30,8 @@ AreClasses tree ks = All (λ k. IsSome (record_at tree k).class) ks
 
 -- the value is that of the class
 abbrev pub IsValued : Ask → ValuedClass → Type 0
-IsValued ask v = ratio_in v.value ≡ answers.value_of (kind_in ask.kind) ask.scale (agg_in v.class.total)
+IsValued ask v = ratio_in v.value ≡ answers.value_of (kind_in ask.kind) ask.scale (agg_in v.class.agg)
 
 -- classes with the texts of their codes
-abbrev pub decoded_classes : List (List Text) → List Class → List (answers.ClassHit Text)
+abbrev pub decoded_classes : List (List Text) → List ClassHit → List (answers.ClassHit Text)
 decoded_classes lists classes = map (λ class. decoded_class lists (hit_in class)) classes

@@ -20,7 +20,7 @@ use crate::hits::{values_at, without_values};
 use crate::indexed::indexed_nodes;
 use crate::order::sort;
 use crate::pick::pick_descendants;
-use crate::{Ask, Class, Memory};
+use crate::{Ask, ClassHit, Memory};
 use cell_core::{NodeNo, Steps};
 use measure_index::Index;
 use qc_arena::Nodes;
@@ -36,8 +36,7 @@ fn in_order<T: Nodes, L: Ledger>(
     ask: &Ask,
     nodes: &[NodeNo],
     steps: &mut Steps<L>,
-) -> Result<Vec<Class>, Memory>
-    requires tree { IsTree (T.width tree.now) (T.tree tree.now) }
+) -> Result<Vec<ClassHit>, Memory>
     requires dims { length dict.now.lists ≡ T.width tree.now }
     requires dictionary { IsDictionary dict.now }
     requires picked { ArePicked (T.tree tree.now) ask.now (numbers nodes.now) }
@@ -73,7 +72,6 @@ fn picked<T: Nodes, L: Ledger>(
     ask: &Ask,
     steps: &mut Steps<L>,
 ) -> Result<Vec<NodeNo>, Memory>
-    requires tree { IsTree (T.width tree.now) (T.tree tree.now) }
     requires measure { HasMeasure (T.width tree.now) (T.tree tree.now) ask.now.kind }
     ensures { IfOk result (λ nodes. ArePicked (T.tree tree.now) ask.now (numbers nodes.items)) }
 {
@@ -95,7 +93,6 @@ fn nodes_of<T: Nodes, L: Ledger>(
     ask: &Ask,
     steps: &mut Steps<L>,
 ) -> Result<Vec<NodeNo>, Memory>
-    requires tree { IsTree (T.width tree.now) (T.tree tree.now) }
     requires index { IsIndex (class_of_node (T.tree tree.now)) index.now }
     requires unit { IfSome (ranking_of ask.now.kind index.now) (λ r. r.scale ≡ ask.now.scale) }
     requires measure { HasMeasure (T.width tree.now) (T.tree tree.now) ask.now.kind }
@@ -124,7 +121,7 @@ pub fn iceberg<T: Nodes, L: Ledger>(
     dict: &Dict,
     ask: &Ask,
     steps: &mut Steps<L>,
-) -> Result<Vec<Class>, Memory>
+) -> Result<Vec<ClassHit>, Memory>
     requires tree { IsTree (T.width tree.now) (T.tree tree.now) }
     requires index { IsIndex (class_of_node (T.tree tree.now)) index.now }
     requires unit { IfSome (ranking_of ask.now.kind index.now) (λ r. r.scale ≡ ask.now.scale) }

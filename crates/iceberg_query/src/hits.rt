@@ -1,7 +1,7 @@
 // The classes of nodes, with their values.
 ghost use Rattle.std.specs.Prelude.{All, IfOk, IsSome, length, map, ◌*◌, ◌+◌, ◌^◌, ◌≡◌, ◌≤◌};
 ghost use Rattle.qc_arena.specs.RecordReaders.{record_at};
-ghost use Rattle.tree_search.specs.Found.{IsTreeOf, IsTree, TreeRows};
+ghost use Rattle.tree_search.specs.Found.{IsTreeOf, TreeRows};
 ghost use Rattle.iceberg_query.specs.Asked.{HasMeasure};
 ghost use Rattle.iceberg_query.specs.Subtree.{numbers};
 ghost use Rattle.iceberg_query.specs.Hits.{AreClasses, IsValued, class_at, valued_class, valued_of};
@@ -9,7 +9,7 @@ ghost use Rattle.iceberg_query.specs.Hits.{AreClasses, IsValued, class_at, value
 use crate::{Ask, Memory};
 use aggregates::{Ratio, value_of};
 use cell_core::{Cell, NodeNo, Steps};
-use lower_bounds::{Class, lower_bounds};
+use lower_bounds::{ClassHit, lower_bounds};
 use qc_arena::Nodes;
 use std::alloc::{AllocError, Global};
 use std::sync::ledger::Ledger;
@@ -19,7 +19,7 @@ use tree_search::upper_into;
 #[derive(Drop)]
 pub(crate) struct ValuedClass {
     pub(crate) value: Ratio,
-    pub(crate) class: Class,
+    pub(crate) class: ClassHit,
 }
 
 // The class of a node.
@@ -30,7 +30,6 @@ fn value_at<T: Nodes, L: Ledger>(
     node: NodeNo,
     steps: &mut Steps<L>,
 ) -> Result<ValuedClass, Memory>
-    requires tree { IsTree (T.width tree.now) (T.tree tree.now) }
     requires class { IsSome (record_at (T.tree tree.now) node.0).class }
     requires measure { HasMeasure (T.width tree.now) (T.tree tree.now) ask.now.kind }
     ensures hit { (source : TreeRows) → IsTreeOf (T.width tree.now) (T.tree tree.now) source →
@@ -44,9 +43,9 @@ fn value_at<T: Nodes, L: Ledger>(
     match lower_bounds(alloc, tree, node, steps) {
         Ok(lowers) => Ok(ValuedClass {
             value: value_of(&total, ask.kind, ask.scale),
-            class: Class {
+            class: ClassHit {
                 upper,
-                total,
+                agg: total,
                 lowers,
             },
         }),
@@ -62,7 +61,6 @@ pub(crate) fn values_at<T: Nodes, L: Ledger>(
     nodes: &[NodeNo],
     steps: &mut Steps<L>,
 ) -> Result<Vec<ValuedClass>, Memory>
-    requires tree { IsTree (T.width tree.now) (T.tree tree.now) }
     requires classes { AreClasses (T.tree tree.now) (numbers nodes.now) }
     requires measure { HasMeasure (T.width tree.now) (T.tree tree.now) ask.now.kind }
     ensures hits { (source : TreeRows) → IsTreeOf (T.width tree.now) (T.tree tree.now) source →
@@ -90,7 +88,10 @@ pub(crate) fn values_at<T: Nodes, L: Ledger>(
 }
 
 /// The classes without their values.
-pub(crate) fn without_values(alloc: Global, values: Vec<ValuedClass>) -> Result<Vec<Class>, Memory>
+pub(crate) fn without_values(
+    alloc: Global,
+    values: Vec<ValuedClass>,
+) -> Result<Vec<ClassHit>, Memory>
     ensures { IfOk result (λ classes. classes.items ≡ map valued_class values.items) }
 {
     values.into_iter().map(|value| value.class).collect(alloc)

@@ -13,5 +13,5 @@ mod reach;
 pub use answer::iceberg;
 pub use ask::{Ask, Bound};
 pub use cube_defs::Memory;
-pub use lower_bounds::Class;
+pub use lower_bounds::ClassHit;
 pub use passing::passes;

@@ -16,11 +16,11 @@ use tree_search::{find, upper_into};
 
 /// A class of the rows, in codes.
 #[derive(Drop)]
-pub struct Class {
+pub struct ClassHit {
     /// Its upper bound.
     pub upper: Cell,
     /// Its aggregate.
-    pub total: Agg,
+    pub agg: Agg,
     /// Its lower bounds, in cell order.
     pub lowers: Cells,
 }
@@ -34,7 +34,7 @@ pub fn find_class<T: Nodes, L: Ledger>(
     tree: &T,
     cell: &Cell,
     steps: &mut Steps<L>,
-) -> Result<Option<Class>, Memory>
+) -> Result<Option<ClassHit>, Memory>
     requires dims { length cell.now ≡ T.width tree.now }
     requires tree { IsTree (T.width tree.now) (T.tree tree.now) }
     ensures class { (source : TreeRows) → IsTreeOf (T.width tree.now) (T.tree tree.now) source →
@@ -49,9 +49,9 @@ pub fn find_class<T: Nodes, L: Ledger>(
     upper_into(tree, node, &mut upper, steps);
     let total = tree.class(node, steps).unwrap();
     let lowers = bounds_of_cell(alloc, tree, node, &upper, steps)?;
-    Ok(Some(Class {
+    Ok(Some(ClassHit {
         upper,
-        total,
+        agg: total,
         lowers,
     }))
 }

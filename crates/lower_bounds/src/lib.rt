@@ -6,5 +6,5 @@ mod bounds;
 mod class;
 
 pub use bounds::lower_bounds;
-pub use class::{Class, find_class};
+pub use class::{ClassHit, find_class};
 use cube_defs::Memory;

@@ -16,7 +16,7 @@ use Rattle.value_dict.specs.TextLists.{cell_in}
 use Rattle.value_dict.specs.Decoded.{HasTexts, IsDecodableClass, has_text, place_in, decoded_cell, decoded_class}
 use Rattle.value_dict.proofs.CallerLemmas.{fits, has-texts, told-coded, IsToldClass, class-missing, class-told}
 use Rattle.lower_bounds.specs.Classes.{hit_in}
-use Rattle.lower_bounds.specs.declared.class.Class.{Class}
+use Rattle.lower_bounds.specs.declared.class.ClassHit.{ClassHit}
 use Rattle.csv_load.specs.Batch.{IsLoaded}
 use Rattle.query_script.specs.Commands.{IsCellField}
 use Rattle.warehouse.specs.State.{IsState, State, source_of}
@@ -25,11 +25,11 @@ use Rattle.query_answers.proofs.Asked.{cell-found, cell-missing}
 
 -- what is found by codes is the class by texts
 pub record IsFoundClass (texts : List (List Text)) (measures : ℕ) (rows : List (Row Text)) (c : Cell Text)
-    (found : Option Class) : Type 0 where
+    (found : Option ClassHit) : Type 0 where
   pub value : option_map (λ k. decoded_class texts (hit_in k)) found ≡ class_of text_cmp measures rows c
   pub told : IfSome found (λ k. IsDecodableClass texts measures (hit_in k))
 
-found-of : (texts : List (List Text)) (measures : ℕ) (rows : List (Row Text)) (c : Cell Text) (found : Option Class)
+found-of : (texts : List (List Text)) (measures : ℕ) (rows : List (Row Text)) (c : Cell Text) (found : Option ClassHit)
     → IsToldClass texts measures rows c (option_map hit_in found) → IsFoundClass texts measures rows c found
 found-of texts measures rows c None is = record { value = is.value; told = tt }
 found-of texts measures rows c (Some k) is = record { value = is.value; told = is.told }
@@ -40,7 +40,7 @@ module _ (texts : List (List Text)) (measures : ℕ) (rows : List (Row Text)) (h
   codes_of = map (coded_row (place_in texts)) rows
 
   -- the class of what is asked
-  class-found : (lists : List (List Text)) (asked : List Field) (cell : Cell ℕ) (found : Option Class) → lists ≡ texts
+  class-found : (lists : List (List Text)) (asked : List Field) (cell : Cell ℕ) (found : Option ClassHit) → lists ≡ texts
       → All IsCellField asked → cell_in lists asked ≡ Some cell
       → option_map hit_in found ≡ class_of nat_cmp measures codes_of cell
       → IsFoundClass texts measures rows (cell_of_fields asked) found
@@ -65,7 +65,7 @@ module _ (s : State) (is : IsState s) where
       s.rows (λ row r. r.tuple ∙ sym is.consistent.lists)
       (recursion_from_All (IsLoaded (length s.schema.dims) (length s.schema.measures)) s.rows is.consistent.rows)
 
-  pub state-found : (lists : List (List Text)) (asked : List Field) (cell : Cell ℕ) (found : Option Class)
+  pub state-found : (lists : List (List Text)) (asked : List Field) (cell : Cell ℕ) (found : Option ClassHit)
       → lists ≡ s.texts → All IsCellField asked → Some cell ≡ cell_in lists asked
       → option_map hit_in found ≡ class_of nat_cmp (source_of s).measures (source_of s).rows cell
       → IsFoundClass s.texts (length s.schema.measures) s.rows (cell_of_fields asked) found

@@ -1,5 +1,5 @@
 -- What a query is answered: a filter and a sum over the rows of a state.
-use Rattle.std.specs.Prelude.{ℕ, ◌≡◌, ◌≤◌, ◌+◌, ◌*◌, ◌^◌, Bool, true, ⊤, Option, Some, None, IfSome, List, length, map, slice_index_or}
+use Rattle.std.specs.Prelude.{All, ℕ, ◌≡◌, ◌≤◌, ◌+◌, ◌*◌, ◌^◌, Bool, true, ⊤, Option, Some, None, IfSome, List, length, map, slice_index_or}
 use Rattle.std.specs.List.{list_any}
 use Rattle.aggregates.specs.declared.kind.AggKind.{AggKind as Kinds}
 use Rattle.aggregates.specs.Views.{fraction_in, kind_in, same_kind}
@@ -18,6 +18,7 @@ use Rattle.iceberg_query.specs.Asked.{bound_in}
 use Rattle.iceberg_query.specs.Indexed.{class_of_node}
 use Rattle.measure_index.specs.Index.{ranking_of}
 use Rattle.measure_index.specs.Rankings.{IsIndex, Ranking}
+use Rattle.query_script.specs.Commands.{IsCellField}
 use Rattle.query_script.specs.Queries as asks
 use Rattle.query_script.specs.Queries.{Query}
 use Rattle.query_script.specs.declared.query.Query as code
@@ -40,6 +41,13 @@ pub record IsSource (held : Contents) (width : ℕ) (tree : Tree ℕ) (index : L
   pub rows : IsTreeOfRows held width tree
   pub indexed : IsIndex (class_of_node tree) index
   pub unit : (kind : Kinds) → IfSome (ranking_of kind index) (λ r. r.scale ≡ scale_in held.state.schema kind)
+
+-- the fields ask a source for a cell: there is one for each dimension, Any or a value
+pub record AsksForCell (held : Contents) (width : ℕ) (tree : Tree ℕ) (index : List Ranking)
+    (asked : List Field) : Type 0 where
+  pub dims : length asked ≡ length held.state.schema.dims
+  pub point : All IsCellField asked
+  pub source : IsSource held width tree index
 
 -- what a field of a point asks of its dimension: Any, or a value
 abbrev pub entry_of_field : Field → Option Text

@@ -3,8 +3,7 @@ ghost use Rattle.std.specs.Option.{option_map};
 ghost use Rattle.std.specs.Prelude.{All, IfOk, IfSome, List, length, ◌*◌, ◌+◌, ◌^◌, ◌≡◌, ◌≤◌};
 ghost use Rattle.cube_defs.specs.Rows.{Row};
 ghost use Rattle.cube_defs.specs.Text.{Text, text_cmp};
-ghost use Rattle.query_script.specs.Commands.{IsCellField};
-ghost use Rattle.query_answers.specs.Queries.{IsSource, bounds_answer, cell_of_fields};
+ghost use Rattle.query_answers.specs.Queries.{AsksForCell, bounds_answer, cell_of_fields};
 ghost use Rattle.cube_defs.specs.Answers.{class_of};
 ghost use Rattle.lower_bounds.specs.Classes.{hit_in};
 ghost use Rattle.value_dict.specs.Decoded.{IsDecodableClass, decoded_class};
@@ -13,7 +12,7 @@ ghost use Rattle.warehouse.specs.State.{HasTree, with_rows};
 
 use crate::source::Source;
 use cell_core::{Fields, Memory, Steps};
-use lower_bounds::{Class, find_class};
+use lower_bounds::{ClassHit, find_class};
 use qc_arena::Nodes;
 use reply_text::{Reply, bounds_reply, none_reply};
 use std::alloc::Global;
@@ -25,11 +24,9 @@ fn find_fields_class<T: Nodes, L: Ledger>(
     source: &Source<T>,
     asked: &Fields,
     steps: &mut Steps<L>,
-) -> Result<Option<Class>, Memory>
-    requires dims { length asked.now ≡ length source.now.warehouse.now.state.schema.dims }
-    requires point { All IsCellField asked.now }
-    requires source { IsSource source.now.warehouse.now (T.width source.now.tree.now)
-        (T.tree source.now.tree.now) source.now.index.now }
+) -> Result<Option<ClassHit>, Memory>
+    requires { AsksForCell source.now.warehouse.now (T.width source.now.tree.now)
+        (T.tree source.now.tree.now) source.now.index.now asked.now }
     ensures value { (rows : List (Row Text)) →
         HasTree (with_rows source.now.warehouse.now.state rows) (T.tree source.now.tree.now) →
         IfOk result (λ class.
@@ -58,10 +55,8 @@ pub(crate) fn answer_bounds<T: Nodes, L: Ledger>(
     asked: &Fields,
     steps: &mut Steps<L>,
 ) -> Result<Reply, Memory>
-    requires dims { length asked.now ≡ length source.now.warehouse.now.state.schema.dims }
-    requires point { All IsCellField asked.now }
-    requires source { IsSource source.now.warehouse.now (T.width source.now.tree.now)
-        (T.tree source.now.tree.now) source.now.index.now }
+    requires { AsksForCell source.now.warehouse.now (T.width source.now.tree.now)
+        (T.tree source.now.tree.now) source.now.index.now asked.now }
     ensures reply { (rows : List (Row Text)) →
         HasTree (with_rows source.now.warehouse.now.state rows) (T.tree source.now.tree.now) →
         IfOk result (λ reply. reply_bytes reply

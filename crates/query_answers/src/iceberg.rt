@@ -20,7 +20,7 @@ use crate::source::{Condition, Source};
 use aggregates::AggKind;
 use cell_core::{Memory, Steps};
 use cube_defs::MAX_SCALE;
-use iceberg_query::{Ask, Class, iceberg};
+use iceberg_query::{Ask, ClassHit, iceberg};
 use measure_index::Index;
 use qc_arena::Nodes;
 use qc_schema::Schema;
@@ -57,7 +57,7 @@ fn find_classes<T: Nodes, L: Ledger>(
     source: &Source<T>,
     condition: Condition,
     steps: &mut Steps<L>,
-) -> Result<Vec<Class>, Memory>
+) -> Result<Vec<ClassHit>, Memory>
     requires measured { IsMeasured (length source.now.warehouse.now.state.schema.measures)
         (kind_in condition.kind) }
     requires source { IsSource source.now.warehouse.now (T.width source.now.tree.now)

@@ -5,11 +5,11 @@ ghost use Rattle.cube_defs.specs.Rows.{Row};
 ghost use Rattle.cube_defs.specs.Text.{Text};
 ghost use Rattle.iceberg_query.specs.Asked.{bound_in};
 ghost use Rattle.qc_arena.specs.RecordReaders.{record_at};
-ghost use Rattle.query_script.specs.Commands.{IsCellField, IsMeasured};
+ghost use Rattle.query_script.specs.Commands.{IsMeasured};
 ghost use Rattle.quotient_lattice.specs.DecodedNodes.{decoded_nodes};
 ghost use Rattle.reply_text.specs.Words.{reply_bytes};
 ghost use Rattle.value_dict.specs.Decoded.{decoded_cell};
-ghost use Rattle.query_answers.specs.Queries.{IsSource, ask_of, cell_of_fields};
+ghost use Rattle.query_answers.specs.Queries.{AsksForCell, IsSource, ask_of, cell_of_fields};
 ghost use Rattle.query_answers.specs.Lattice.{children_answer, parents_answer, rollup_answer, upper_of, uppers_text};
 ghost use Rattle.warehouse.specs.State.{HasTree, with_rows};
 
@@ -30,10 +30,8 @@ fn find_upper_node<T: Nodes, L: Ledger>(
     asked: &Fields,
     steps: &mut Steps<L>,
 ) -> Option<NodeNo>
-    requires dims { length asked.now ≡ length source.now.warehouse.now.state.schema.dims }
-    requires point { All IsCellField asked.now }
-    requires source { IsSource source.now.warehouse.now (T.width source.now.tree.now)
-        (T.tree source.now.tree.now) source.now.index.now }
+    requires { AsksForCell source.now.warehouse.now (T.width source.now.tree.now)
+        (T.tree source.now.tree.now) source.now.index.now asked.now }
     ensures class { IfSome result (λ node.
         IsSome (record_at (T.tree source.now.tree.now) node.0).class) }
     ensures upper { (rows : List (Row Text)) →
@@ -82,10 +80,8 @@ pub(crate) fn answer_parents<T: Nodes, L: Ledger>(
     asked: &Fields,
     steps: &mut Steps<L>,
 ) -> Result<Reply, Memory>
-    requires dims { length asked.now ≡ length source.now.warehouse.now.state.schema.dims }
-    requires point { All IsCellField asked.now }
-    requires source { IsSource source.now.warehouse.now (T.width source.now.tree.now)
-        (T.tree source.now.tree.now) source.now.index.now }
+    requires { AsksForCell source.now.warehouse.now (T.width source.now.tree.now)
+        (T.tree source.now.tree.now) source.now.index.now asked.now }
     ensures { (rows : List (Row Text)) →
         HasTree (with_rows source.now.warehouse.now.state rows) (T.tree source.now.tree.now) →
         IfOk result (λ reply. reply_bytes reply
@@ -109,10 +105,8 @@ pub(crate) fn answer_children<T: Nodes, L: Ledger>(
     asked: &Fields,
     steps: &mut Steps<L>,
 ) -> Result<Reply, Memory>
-    requires dims { length asked.now ≡ length source.now.warehouse.now.state.schema.dims }
-    requires point { All IsCellField asked.now }
-    requires source { IsSource source.now.warehouse.now (T.width source.now.tree.now)
-        (T.tree source.now.tree.now) source.now.index.now }
+    requires { AsksForCell source.now.warehouse.now (T.width source.now.tree.now)
+        (T.tree source.now.tree.now) source.now.index.now asked.now }
     ensures { (rows : List (Row Text)) →
         HasTree (with_rows source.now.warehouse.now.state rows) (T.tree source.now.tree.now) →
         IfOk result (λ reply. reply_bytes reply
@@ -141,10 +135,8 @@ pub(crate) fn answer_rollup<T: Nodes, L: Ledger>(
 ) -> Result<Reply, Memory>
     requires measured { IsMeasured (length source.now.warehouse.now.state.schema.measures)
         (kind_in condition.kind) }
-    requires dims { length asked.now ≡ length source.now.warehouse.now.state.schema.dims }
-    requires point { All IsCellField asked.now }
-    requires source { IsSource source.now.warehouse.now (T.width source.now.tree.now)
-        (T.tree source.now.tree.now) source.now.index.now }
+    requires asked { AsksForCell source.now.warehouse.now (T.width source.now.tree.now)
+        (T.tree source.now.tree.now) source.now.index.now asked.now }
     ensures { (rows : List (Row Text)) →
         HasTree (with_rows source.now.warehouse.now.state rows) (T.tree source.now.tree.now) →
         IfOk result (λ reply. reply_bytes reply

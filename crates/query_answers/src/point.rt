@@ -5,10 +5,10 @@ ghost use Rattle.cell_core.specs.declared.fields.Field as asks;
 ghost use Rattle.cube_defs.specs.Rows.{Row};
 ghost use Rattle.cube_defs.specs.Text.{Text, text_eq};
 ghost use Rattle.cube_laws.specs.Total.{agg_at};
-ghost use Rattle.query_script.specs.Commands.{IsCellField, command_in};
+ghost use Rattle.query_script.specs.Commands.{command_in};
 ghost use Rattle.query_script.specs.Queries.{Point};
 ghost use Rattle.query_script.specs.Questions.{Ask};
-ghost use Rattle.query_answers.specs.Queries.{IsSource, cell_of_fields, point_answer};
+ghost use Rattle.query_answers.specs.Queries.{AsksForCell, cell_of_fields, point_answer};
 ghost use Rattle.reply_text.specs.Replies.{none_text, point_text};
 ghost use Rattle.reply_text.specs.Words.{reply_bytes};
 ghost use Rattle.value_dict.specs.Decoded.{HasTexts, decoded_cell};
@@ -31,10 +31,8 @@ fn find_total<T: Nodes, L: Ledger>(
     asked: &Fields,
     steps: &mut Steps<L>,
 ) -> Option<(Cell, Agg)>
-    requires dims { length asked.now ≡ length source.now.warehouse.now.state.schema.dims }
-    requires point { All IsCellField asked.now }
-    requires source { IsSource source.now.warehouse.now (T.width source.now.tree.now)
-        (T.tree source.now.tree.now) source.now.index.now }
+    requires { AsksForCell source.now.warehouse.now (T.width source.now.tree.now)
+        (T.tree source.now.tree.now) source.now.index.now asked.now }
     ensures value { (rows : List (Row Text)) →
         HasTree (with_rows source.now.warehouse.now.state rows) (T.tree source.now.tree.now) →
         option_map (λ found. agg_in found.1) result
@@ -62,10 +60,8 @@ pub(crate) fn answer_point<T: Nodes, L: Ledger>(
     asked: &Fields,
     steps: &mut Steps<L>,
 ) -> Result<Reply, Memory>
-    requires dims { length asked.now ≡ length source.now.warehouse.now.state.schema.dims }
-    requires point { All IsCellField asked.now }
-    requires source { IsSource source.now.warehouse.now (T.width source.now.tree.now)
-        (T.tree source.now.tree.now) source.now.index.now }
+    requires { AsksForCell source.now.warehouse.now (T.width source.now.tree.now)
+        (T.tree source.now.tree.now) source.now.index.now asked.now }
     ensures reply { (rows : List (Row Text)) →
         HasTree (with_rows source.now.warehouse.now.state rows) (T.tree source.now.tree.now) →
         IfOk result (λ reply. reply_bytes reply

@@ -4,7 +4,7 @@ use Rattle.std.specs.Prelude.{IsSome}
 use Rattle.std.specs.List.{All}
 use Rattle.std.specs.Ordering.{nat_cmp, eq_by_cmp}
 use Rattle.std.proofs.lemmas.List.FromFn.{length-map-range_with_len}
-use Rattle.cube_defs.specs.Answers.{ClassHit}
+use Rattle.cube_defs.specs.Answers as answers
 use Rattle.cube_defs.specs.Rows.{Agg, agg, amounts_of, cov, part_of}
 use Rattle.cube_defs.specs.Text.{Text, text_cmp}
 use Rattle.cube_defs.specs.Tree.{Tree}
@@ -13,7 +13,7 @@ use Rattle.cube_laws.specs.Recoding.{RowsAreKnown}
 use Rattle.cube_laws.proofs.CallerLemmas.{code_equality, equality_by, agg-coded}
 use Rattle.cell_core.specs.declared.cell.NodeNo.{NodeNo}
 use Rattle.lower_bounds.specs.Classes.{hit_in}
-use Rattle.lower_bounds.specs.declared.class.Class.{Class}
+use Rattle.lower_bounds.specs.declared.class.ClassHit.{ClassHit}
 use Rattle.qc_arena.specs.RecordReaders.{record_at}
 use Rattle.tree_search.specs.Found.{IsTreeOf, TreeRows}
 use Rattle.tree_search.proofs.CallerLemmas.{wide, cell_there}
@@ -30,7 +30,7 @@ use Rattle.quotient_lattice.proofs.NodesDecoded.{class_known, tells, text_anti, 
 module _ (dims : ℕ) (tree : Tree ℕ) (dict : TextLists) (source : TreeRows) (h : IsTreeOf dims tree source)
     (dictionary : IsDictionary dict) (rows_known : RowsAreKnown (has_code dict.lists) source.rows)
     (same_dims : length dict.lists ≡ dims) where
-  abbrev alone : NodeNo → ClassHit ℕ
+  abbrev alone : NodeNo → answers.ClassHit ℕ
   alone node = class_alone nat_cmp source.measures source.rows (record_at tree node.0).cell
 
   one : (node : NodeNo) → IsSome (record_at tree node.0).class
@@ -41,7 +41,7 @@ module _ (dims : ℕ) (tree : Tree ℕ) (dict : TextLists) (source : TreeRows) (
       let own = own_closure dims tree source h node.0 (record_at tree node.0).cell (cell_there tree node.0 t) some in
       let known = class_known dims tree dict source h dictionary rows_known same_dims
       (record_at tree node.0).cell own in
-      ap (λ (a : Agg). let x : ClassHit Text
+      ap (λ (a : Agg). let x : answers.ClassHit Text
       = record { upper = decoded_node dict.lists tree node; agg = a; lowers = [] } in x)
       (sym (agg-coded code_equality (equality_by text_total text_anti)
       (tells dims tree dict source h dictionary rows_known same_dims) source.rows rows_known source.measures
@@ -64,7 +64,7 @@ module _ (dims : ℕ) (tree : Tree ℕ) (dict : TextLists) (source : TreeRows) (
             source.measures;
       }
 
-  pub alone_told : (nodes : List NodeNo) (classes : List Class)
+  pub alone_told : (nodes : List NodeNo) (classes : List ClassHit)
       → ((node : NodeNo) → Among node nodes → IsSome (record_at tree node.0).class)
       → map hit_in classes ≡ map alone nodes
       → decoded_classes dict.lists classes
@@ -76,10 +76,11 @@ module _ (dims : ℕ) (tree : Tree ℕ) (dict : TextLists) (source : TreeRows) (
   alone_told (n ∷ nodes) (x ∷ classes) f e =
       let first : hit_in x ≡ alone n = cc in
       let rest : map hit_in classes ≡ map alone nodes = cc in
-      ap₂ (λ (y : ClassHit Text) (ys : List (ClassHit Text)). y ∷ ys) (ap (telling.decoded_class dict.lists) first
+      ap₂ (λ (y : answers.ClassHit Text) (ys : List (answers.ClassHit Text)). y ∷ ys)
+      (ap (telling.decoded_class dict.lists) first
       ∙ one n (f n (inl refl))) (alone_told nodes classes (λ m k. f m (inr k)) rest)
 
-  pub alone_tellable : (nodes : List NodeNo) (classes : List Class)
+  pub alone_tellable : (nodes : List NodeNo) (classes : List ClassHit)
       → ((node : NodeNo) → Among node nodes → IsSome (record_at tree node.0).class)
       → map hit_in classes ≡ map alone nodes
       → All (λ class. telling.IsDecodableClass dict.lists source.measures (hit_in class)) classes

@@ -8,7 +8,7 @@ ghost use Rattle.quotient_lattice.specs.Neighbours as lattice;
 
 use crate::Memory;
 use cell_core::{Cell, Cells, NodeNo, Steps};
-use lower_bounds::Class;
+use lower_bounds::ClassHit;
 use qc_arena::Nodes;
 use std::alloc::{AllocError, Global};
 use std::sync::ledger::Ledger;
@@ -20,7 +20,7 @@ fn class_alone<T: Nodes, L: Ledger>(
     tree: &T,
     node: NodeNo,
     steps: &mut Steps<L>,
-) -> Class
+) -> ClassHit
     requires tree { IsTree (T.width tree.now) (T.tree tree.now) }
     requires class { IsSome (record_at (T.tree tree.now) node.0).class }
     ensures { (source : TreeRows) → IsTreeOf (T.width tree.now) (T.tree tree.now) source →
@@ -30,9 +30,9 @@ fn class_alone<T: Nodes, L: Ledger>(
     let mut upper = Cell::any(alloc, tree.dims());
     upper_into(tree, node, &mut upper, steps);
     let total = tree.class(node, steps).unwrap();
-    Class {
+    ClassHit {
         upper,
-        total,
+        agg: total,
         lowers: Cells::new(alloc),
     }
 }
@@ -43,7 +43,7 @@ pub fn classes_alone<T: Nodes, L: Ledger>(
     tree: &T,
     nodes: &[NodeNo],
     steps: &mut Steps<L>,
-) -> Result<Vec<Class>, Memory>
+) -> Result<Vec<ClassHit>, Memory>
     requires tree { IsTree (T.width tree.now) (T.tree tree.now) }
     requires classes { All (λ node. IsSome (record_at (T.tree tree.now) node.0).class) nodes.now }
     ensures { (source : TreeRows) → IsTreeOf (T.width tree.now) (T.tree tree.now) source →

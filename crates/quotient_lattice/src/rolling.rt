@@ -85,7 +85,6 @@ fn visit<T: Nodes, L: Ledger>(
     met: &mut Vec<NodeCell>,
     steps: &mut Steps<L>,
 ) -> Result<(), Memory>
-    requires tree { IsTree (T.width tree.now) (T.tree tree.now) }
     requires class { IsSome (record_at (T.tree tree.now) node.0).class }
     requires measure { HasMeasure (T.width tree.now) (T.tree tree.now) ask.now.kind }
     ensures visited { (source : TreeRows) → IsTreeOf (T.width tree.now) (T.tree tree.now) source →
@@ -112,7 +111,6 @@ fn meet_all<T: Nodes, L: Ledger>(
     met: &mut Vec<NodeCell>,
     steps: &mut Steps<L>,
 ) -> Result<(), Memory>
-    requires tree { IsTree (T.width tree.now) (T.tree tree.now) }
     requires class { IsSome (record_at (T.tree tree.now) node.0).class }
     requires measure { HasMeasure (T.width tree.now) (T.tree tree.now) ask.now.kind }
     requires none_seen { seen.old.keys ≡ [] }
@@ -146,7 +144,6 @@ fn met_from<T: Nodes, L: Ledger>(
     node: NodeNo,
     steps: &mut Steps<L>,
 ) -> Result<Vec<NodeCell>, Memory>
-    requires tree { IsTree (T.width tree.now) (T.tree tree.now) }
     requires class { IsSome (record_at (T.tree tree.now) node.0).class }
     requires measure { HasMeasure (T.width tree.now) (T.tree tree.now) ask.now.kind }
     ensures met { (source : TreeRows) → IsTreeOf (T.width tree.now) (T.tree tree.now) source →

@@ -10,7 +10,7 @@ use crate::cells::push_record_start;
 use crate::fields::push_end;
 use crate::totals::push_agg;
 use cell_core::{Cell, Cells, Memory};
-use lower_bounds::Class;
+use lower_bounds::ClassHit;
 use qc_schema::Schema;
 use std::alloc::Global;
 use value_dict::Dict;
@@ -44,14 +44,14 @@ fn push_class(
     line: u32,
     schema: &Schema,
     dict: &Dict,
-    class: &Class,
+    class: &ClassHit,
 ) -> Result<(), Memory>
     requires { IsDecodableClass dict.now.lists (length schema.now.measures) (hit_in class.now) }
     ensures { OnOk result (out.new.items ≡ out.old.items ++ class_text line schema.now.measures
         (decoded_class dict.now.lists (hit_in class.now))) }
 {
     push_record_start(out, b"class", line, dict, &class.upper)?;
-    push_agg(out, schema, &class.total)?;
+    push_agg(out, schema, &class.agg)?;
     out.push(b'\n')?;
     push_lowers(out, line, dict, &class.lowers)
 }
@@ -62,7 +62,7 @@ fn push_classes(
     line: u32,
     schema: &Schema,
     dict: &Dict,
-    classes: &[Class],
+    classes: &[ClassHit],
 ) -> Result<(), Memory>
     requires { All (λ class. IsDecodableClass dict.now.lists (length schema.now.measures)
         (hit_in class)) classes.now }
@@ -82,7 +82,7 @@ pub fn bounds_reply(
     line: u32,
     schema: &Schema,
     dict: &Dict,
-    class: &Class,
+    class: &ClassHit,
 ) -> Result<Vec<u8>, Memory>
     requires { IsDecodableClass dict.now.lists (length schema.now.measures) (hit_in class.now) }
     ensures { IfOk result (λ reply. reply.items ≡ bounds_text line schema.now.measures
@@ -100,7 +100,7 @@ pub fn iceberg_reply(
     line: u32,
     schema: &Schema,
     dict: &Dict,
-    classes: &[Class],
+    classes: &[ClassHit],
 ) -> Result<Vec<u8>, Memory>
     requires { All (λ class. IsDecodableClass dict.now.lists (length schema.now.measures)
         (hit_in class)) classes.now }

@@ -7,7 +7,7 @@ use crate::drawn_pins::icebergs::are_icebergs;
 use crate::drawn_pins::lines::{Line, Sale, cell_at, cell_of, closes, is_same, line_of, total_of};
 use crate::drawn_pins::ranges::are_ranges;
 use cell_core::{Memory, Steps};
-use lower_bounds::{Class, find_class};
+use lower_bounds::{ClassHit, find_class};
 use qc_arena::Nodes;
 use std::alloc::Global;
 use std::sync::ledger::Ledger;
@@ -51,10 +51,10 @@ fn are_points<T: Nodes, L: Ledger>(
 
 // Whether a class is that of a cell. Its lower bounds are looked at where the cell is its upper
 // bound.
-fn is_class_of(class: &Class, cell: &Line, sales: &[Sale]) -> bool {
+fn is_class_of(class: &ClassHit, cell: &Line, sales: &[Sale]) -> bool {
     let upper = line_of(&class.upper);
     closes(cell, &upper, sales)
-        && is_total(&class.total, &total_of(&upper, sales))
+        && is_total(&class.agg, &total_of(&upper, sales))
         && (!is_same(cell, &upper) || are_lowers(&upper, sales, &class.lowers))
 }
 

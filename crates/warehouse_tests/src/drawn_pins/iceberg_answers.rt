@@ -5,7 +5,7 @@ use crate::drawn_pins::lines::{
 };
 use aggregates::Agg;
 use cell_core::Cells;
-use iceberg_query::{Ask, Bound, Class};
+use iceberg_query::{Ask, Bound, ClassHit};
 
 // Whether the cell has the closure, and no cell with one value less.
 fn is_lower(cell: &Line, upper: &Line, rows: &[Sale]) -> bool {
@@ -23,7 +23,7 @@ fn is_lower(cell: &Line, upper: &Line, rows: &[Sale]) -> bool {
 }
 
 // Whether one class stands before another.
-fn is_before(ask: &Ask, rows: &[Sale], x: &Class, y: &Class) -> bool {
+fn is_before(ask: &Ask, rows: &[Sale], x: &ClassHit, y: &ClassHit) -> bool {
     let (c, d) = (line_of(&x.upper), line_of(&y.upper));
     let b = value(&total_of(&d, rows), ask.kind);
     let order = compare(
@@ -75,13 +75,13 @@ pub fn are_lowers(upper: &Line, rows: &[Sale], lowers: &Cells) -> bool {
     lowers.len() == count_lowers(upper, rows)
 }
 
-fn is_class_right(ask: &Ask, rows: &[Sale], class: &Class) -> bool {
+fn is_class_right(ask: &Ask, rows: &[Sale], class: &ClassHit) -> bool {
     let upper = line_of(&class.upper);
     let total = total_of(&upper, rows);
     class.upper.dims() == 3
         && closes(&upper, &upper, rows)
         && passes(ask, &total)
-        && is_total(&class.total, &total)
+        && is_total(&class.agg, &total)
         && are_lowers(&upper, rows, &class.lowers)
 }
 
@@ -97,7 +97,7 @@ fn count_classes(ask: &Ask, rows: &[Sale]) -> usize {
 }
 
 /// Whether just the classes are answered that are asked for, each right, and in order.
-pub fn is_right(ask: &Ask, rows: &[Sale], classes: &[Class]) -> bool {
+pub fn is_right(ask: &Ask, rows: &[Sale], classes: &[ClassHit]) -> bool {
     'classes: for k in 0..classes.len() {
         if !is_class_right(ask, rows, &classes[k]) {
             return false;

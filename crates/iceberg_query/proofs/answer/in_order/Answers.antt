@@ -18,8 +18,8 @@ returns-in-Ok-sort-clause-classes g c = λ source h known.
 pub returns-in-Ok-sort-clause-count : goal.returns-in-Ok-sort-clause-count
 returns-in-Ok-sort-clause-count g c =
     IfOk-weaker c.without_values.result _ _
-    (λ hits e. hits_count c.requires.tree.0 _ c.in-Ok.values.items c.sort.new.values.items hits.items c.args.nodes.now
-    (c.in-Ok.ensures.hits c.requires.tree.0 c.requires.tree.1)
+    (λ hits e. hits_count c.requires.measure.0 _ c.in-Ok.values.items c.sort.new.values.items hits.items c.args.nodes.now
+    (c.in-Ok.ensures.hits c.requires.measure.0 c.requires.measure.1)
     (length_permutation c.in-Ok.values.items c.sort.new.values.items c.in-Ok-sort.ensures.same) e)
     c.without_values.ensures
 

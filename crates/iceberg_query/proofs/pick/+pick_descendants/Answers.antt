@@ -6,7 +6,7 @@ use Rattle.iceberg_query.proofs.pick.+pick_descendants.Goals.{then-is_parent+in-
 
 pub is_parent-requires : goal.is_parent-requires
 is_parent-requires g t c
-    = target_there _ _ c.requires.tree.0 c.requires.tree.1 c.args.node.0 c.edges.k _ c.requires.node
+    = target_there _ _ c.requires.measure.0 c.requires.measure.1 c.args.node.0 c.edges.k _ c.requires.node
     c.edge_at-dim.ensures.value
 
 pub edges-preserved : goal.edges-preserved

@@ -19,13 +19,13 @@ use Rattle.query_answers.proofs.Uppers.{moved, rolled-told}
 use Rattle.query_answers.proofs.lattice.answer_rollup.Goals as goal
 
 pub rollup-requires-clause-tree : goal.rollup-requires-clause-tree
-rollup-requires-clause-tree g c = some-tree _ _ _ c.requires.source.rows
+rollup-requires-clause-tree g c = some-tree _ _ _ c.requires.asked.source.rows
 
 pub rollup-requires-clause-measure : goal.rollup-requires-clause-measure
 rollup-requires-clause-measure g c =
-    let s = with_rows c.args.source.now.warehouse.now.state c.requires.source.rows.rows in (
+    let s = with_rows c.args.source.now.warehouse.now.state c.requires.asked.source.rows.rows in (
       source_of s,
-      tree-of _ _ _ c.requires.source.rows s.rows c.requires.source.rows.kept,
+      tree-of _ _ _ c.requires.asked.source.rows s.rows c.requires.asked.source.rows.kept,
       measure-there (length s.schema.measures) c.args.condition.kind c.requires.measured,
     )
 
@@ -43,7 +43,7 @@ returns-in-Ok g c = λ rows has.
     } in
     let scale = c.scale_of_kind.ensures.value
     ∙ ap (λ (l : Layout). scale_of l.measures (kind_in c.args.condition.kind)) c.schema.ensures.value in
-    let found = c.in-Ok.ensures.nodes (source_of s) (tree-of _ _ _ c.requires.source.rows rows has)
+    let found = c.in-Ok.ensures.nodes (source_of s) (tree-of _ _ _ c.requires.asked.source.rows rows has)
     (rows-known s has.state lists c.dict.ensures.texts) in
     let here = ap (decoded_nodes s.texts tree) c.deref.ensures.value
     ∙ moved (λ rows u. lattice.rollup text_cmp (length s.schema.measures) rows asked u) s has.state lists

@@ -66,29 +66,21 @@ returns-in-Rollup g c = rw c.in-Rollup.is (record {
   memory = on-err c.answer_rollup.result (λ e. absurd (cc e));
 })
 
-pub answer_point-requires-clause-dims : goal.answer_point-requires-clause-dims
-answer_point-requires-clause-dims g c = let asked = rw c.in-Point.is at c.requires.query in asked.0
+pub answer_point-requires : goal.answer_point-requires
+answer_point-requires g c = let asked = rw c.in-Point.is at c.requires.query in
+    record { dims = asked.0; point = asked.1; source = c.requires.source }
 
-pub answer_point-requires-clause-point : goal.answer_point-requires-clause-point
-answer_point-requires-clause-point g c = let asked = rw c.in-Point.is at c.requires.query in asked.1
+pub answer_bounds-requires : goal.answer_bounds-requires
+answer_bounds-requires g c = let asked = rw c.in-Bounds.is at c.requires.query in
+    record { dims = asked.0; point = asked.1; source = c.requires.source }
 
-pub answer_bounds-requires-clause-dims : goal.answer_bounds-requires-clause-dims
-answer_bounds-requires-clause-dims g c = let asked = rw c.in-Bounds.is at c.requires.query in asked.0
+pub answer_parents-requires : goal.answer_parents-requires
+answer_parents-requires g c = let asked = rw c.in-Parents.is at c.requires.query in
+    record { dims = asked.0; point = asked.1; source = c.requires.source }
 
-pub answer_bounds-requires-clause-point : goal.answer_bounds-requires-clause-point
-answer_bounds-requires-clause-point g c = let asked = rw c.in-Bounds.is at c.requires.query in asked.1
-
-pub answer_parents-requires-clause-dims : goal.answer_parents-requires-clause-dims
-answer_parents-requires-clause-dims g c = let asked = rw c.in-Parents.is at c.requires.query in asked.0
-
-pub answer_parents-requires-clause-point : goal.answer_parents-requires-clause-point
-answer_parents-requires-clause-point g c = let asked = rw c.in-Parents.is at c.requires.query in asked.1
-
-pub answer_children-requires-clause-dims : goal.answer_children-requires-clause-dims
-answer_children-requires-clause-dims g c = let asked = rw c.in-Children.is at c.requires.query in asked.0
-
-pub answer_children-requires-clause-point : goal.answer_children-requires-clause-point
-answer_children-requires-clause-point g c = let asked = rw c.in-Children.is at c.requires.query in asked.1
+pub answer_children-requires : goal.answer_children-requires
+answer_children-requires g c = let asked = rw c.in-Children.is at c.requires.query in
+    record { dims = asked.0; point = asked.1; source = c.requires.source }
 
 pub answer_range-requires-clause-dims : goal.answer_range-requires-clause-dims
 answer_range-requires-clause-dims g c = rw c.in-Range.is at c.requires.query
@@ -99,8 +91,6 @@ answer_iceberg-requires-clause-measured g c = rw c.in-Iceberg.is at c.requires.q
 pub answer_rollup-requires-clause-measured : goal.answer_rollup-requires-clause-measured
 answer_rollup-requires-clause-measured g c = let asked = rw c.in-Rollup.is at c.requires.query in asked.0
 
-pub answer_rollup-requires-clause-dims : goal.answer_rollup-requires-clause-dims
-answer_rollup-requires-clause-dims g c = let asked = rw c.in-Rollup.is at c.requires.query in asked.1
-
-pub answer_rollup-requires-clause-point : goal.answer_rollup-requires-clause-point
-answer_rollup-requires-clause-point g c = let asked = rw c.in-Rollup.is at c.requires.query in asked.2
+pub answer_rollup-requires-clause-asked : goal.answer_rollup-requires-clause-asked
+answer_rollup-requires-clause-asked g c = let asked = rw c.in-Rollup.is at c.requires.query in
+    record { dims = asked.1; point = asked.2; source = c.requires.source }

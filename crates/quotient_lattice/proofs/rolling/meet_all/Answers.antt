@@ -40,9 +40,9 @@ visit-requires-clause-class g c =
     let keys = c.seen.seen.keys in
     let at : slice_get keys c.seen.i ≡ Some c.unwrap-number.result.now = sym c.get_index.ensures.key
     ∙ ap option_copied c.unwrap-number.ensures in
-    let p = (c.seen.invariant.seen c.requires.tree.0 c.requires.tree.1).above c.unwrap-number.result.now
+    let p = (c.seen.invariant.seen c.requires.measure.0 c.requires.measure.1).above c.unwrap-number.result.now
     (get_among keys c.seen.i c.unwrap-number.result.now at) in
-    class_some _ _ c.requires.tree.0 c.requires.tree.1 c.unwrap-number.result.now p.there p.class
+    class_some _ _ c.requires.measure.0 c.requires.measure.1 c.unwrap-number.result.now p.there p.class
 
 pub seen-preserved : goal.seen-preserved
 seen-preserved g c =
@@ -59,8 +59,8 @@ seen-preserved g c =
     let here : slice_get seen c.seen.i ≡ Some x = sym c.get_index.ensures.key
     ∙ ap option_copied c.unwrap-number.ensures in
     let at : get_or seen c.seen.i 0 ≡ x = some_same (sym (got seen c.seen.i 0 l) ∙ here) in
-    let source = c.requires.tree.0 in
-    let h = c.requires.tree.1 in
+    let source = c.requires.measure.0 in
+    let h = c.requires.measure.1 in
     let v = c.in-Ok.ensures.visited source h in
     record {
       within = omega (arith, l, grown seen after v.found v.seen_more);

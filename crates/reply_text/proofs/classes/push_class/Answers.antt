@@ -11,7 +11,7 @@ pub returns : goal.returns
 returns c =
     let lists = c.args.dict.now.lists in
     let upper = decoded_cell lists c.args.class.now.upper in
-    let agg = agg_texts c.args.schema.now.measures (agg_in c.args.class.now.total) in
+    let agg = agg_texts c.args.schema.now.measures (agg_in c.args.class.now.agg) in
     let out = c.args.out.now.items in
     let numbers = rw c.in_ok-push_record_start.ensures at c.in_ok-push_agg.ensures in
     let record_of = rw numbers at c.in_ok-push.ensures.items
