@@ -17,7 +17,7 @@ use Rattle.cube_laws.proofs.CallerLemmas.{all_map}
 use Rattle.csv_load.specs.Batch.{IsLoaded, IsSmall, IsValue}
 use Rattle.qc_schema.specs.Schema.{Layout}
 use Rattle.qc_schema.specs.Spelling.{layout_text}
-use Rattle.qc_schema.proofs.CallerLemmas.{read-again}
+use Rattle.qc_schema.proofs.CallerLemmas.{read-again, short-text}
 use Rattle.value_dict.specs.Recoded.{text_in}
 use Rattle.value_dict.specs.TextLists.{TextLists}
 use Rattle.value_dict.specs.Decoded.{AreCodes, RowsAreCodes, has_text, place_in}
@@ -33,18 +33,6 @@ use Rattle.cube_snapshot.specs.States.{parts_in, spelling}
 use Rattle.cube_snapshot.specs.declared.refused.PartRefused.TheVariants.{Form}
 use Rattle.cube_snapshot.proofs.Looping.{some_is}
 use Rattle.cube_snapshot.proofs.SnapshotLaws.{one_encoding, same_parts}
-
--- the text of the schema is a part of the whole
-schema-within : (s : State) → length (layout_text s.schema) ≤ length (spelling s)
-schema-within s =
-    let text = layout_text s.schema in
-    let rest = (texts_and_rows s.schema).put (s.texts, coded_rows s) in
-    omega (
-      arith,
-      length-append mark_text (((number w32).put (length text) ++ text) ++ rest),
-      length-append ((number w32).put (length text) ++ text) rest,
-      length-append ((number w32).put (length text)) text,
-    )
 
 texts-within : (max : ℕ) (texts : List Text) → max ≤ 4000000 → All IsValue texts → length texts ≤ max → AreTexts texts
 texts-within max texts few values long
@@ -100,10 +88,10 @@ each-few lists max few i = go lists (all_recursion (λ (texts : List Text). leng
     go (l ∷ ls) all zero = all.0
     go (l ∷ ls) all (suc k) = go ls all.1 k
 
--- the parts of a state whose spelling is no longer than a file may be have one
-pub state-spelled : (s : State) → IsConsistent s → length (spelling s) ≤ 268435456 → IsSnapshot (parts_in s)
-state-spelled s is short = record {
-  spelled = record { few = omega (arith, schema-within s, short); again = read-again s.schema is.layout };
+-- the parts of a state have a spelling
+pub state-spelled : (s : State) → IsConsistent s → IsSnapshot (parts_in s)
+state-spelled s is = record {
+  spelled = record { few = short-text s.schema is.layout; again = read-again s.schema is.layout };
   texts_are = record {
     dims_are = is.lists;
     each = lists-within s.schema.values s.texts is.layout.limits.few_values
@@ -127,12 +115,10 @@ same-state s t is it e =
     (ap (λ (p : Parts). p.rows) e) ∙ rows-back t.texts t.rows it.known in
     λ j. record { schema = (e j).schema; rows = rows j; texts = texts j }
 
-pub one-state : (s t : State) → IsState s → IsState t → length (spelling s) ≤ 268435456
-    → spelling s ≡ spelling t → s ≡ t
-one-state s t is it short e =
+pub one-state : (s t : State) → IsState s → IsState t → spelling s ≡ spelling t → s ≡ t
+one-state s t is it e =
     same-state s t is.consistent it.consistent
-    (same_parts (parts_in s) (parts_in t) (state-spelled s is.consistent short)
-    (state-spelled t it.consistent (subst (λ (l : List ℕ). length l ≤ 268435456) e short)) e)
+    (same_parts (parts_in s) (parts_in t) (state-spelled s is.consistent) (state-spelled t it.consistent) e)
 
 pub short-values : (lists : List (List Text)) → All (All IsValue) lists → All (All (λ t. length t ≤ MAX_TEXT)) lists
 short-values lists values k d lt i e l = (values k d lt i e l).short
@@ -202,13 +188,9 @@ parts-stored schema dict table is =
     let rows = sym (decoding.rows-back dict.lists (rows_of table) is.known is.dictionary.distinct) in
     λ j. let p : Parts = record { schema = schema; texts = dict.lists; rows = rows j } in p
 
--- bytes that are no longer than a file may be
-module _ (bytes : List ℕ) (bounded : IsBytes bytes) (short : length bytes ≤ 268435456) where
+module _ (bytes : List ℕ) (bounded : IsBytes bytes) where
   spelled-parts : (s : State) → IsConsistent s → bytes ≡ spelling s → whole snapshot bytes ≡ Some (parts_in s)
-  spelled-parts s is e = (one_encoding bytes (parts_in s) bounded).1 (
-    e,
-    state-spelled s is (subst (λ (l : List ℕ). length l ≤ 268435456) e short),
-  )
+  spelled-parts s is e = (one_encoding bytes (parts_in s) bounded).1 (e, state-spelled s is)
 
   -- they are the spelling of one state
   pub unique : (s t : State) → IsConsistent s → IsConsistent t → bytes ≡ spelling s → bytes ≡ spelling t → s ≡ t

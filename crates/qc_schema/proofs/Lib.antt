@@ -1,6 +1,7 @@
 mod Naming
 mod Numbers
 mod Searching
+mod Short
 pub mod Keeping
 mod Reading
 mod Wording

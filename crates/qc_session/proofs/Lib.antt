@@ -1,6 +1,7 @@
 mod Answered
 mod BareScripts
 mod Completed
+mod CutScripts
 mod Ended
 mod FileNamed
 mod Found

@@ -130,21 +130,21 @@ some-once {A = A} o x y e f = some (sym e ∙ f)
     some e = cc
 
 -- bytes tell one start at most
-begins-once : (source : Source) (bytes : List ℕ) (start other : State) → length bytes ≤ MAX_FILE
+begins-once : (source : Source) (bytes : List ℕ) (start other : State)
     → Begins source bytes start → Begins source bytes other → start ≡ other
-begins-once FromSchema bytes start other within (schema, is, same) (schema2, is2, same2)
+begins-once FromSchema bytes start other (schema, is, same) (schema2, is2, same2)
     = same ∙ ap empty (ok (sym is ∙ is2)) ∙ sym same2
   where
     ok : {x y : Layout} → (let u : Result Layout Fault = Ok x in u) ≡ Ok y → x ≡ y
     ok e = cc
-begins-once FromSnapshot bytes start other within (is, valid) (is2, valid2)
-    = one-state start other valid valid2 (subst (λ (bs : List ℕ). length bs ≤ MAX_FILE) is within) (sym is ∙ is2)
+begins-once FromSnapshot bytes start other (is, valid) (is2, valid2)
+    = one-state start other valid valid2 (sym is ∙ is2)
 
 start-once : (t : FileContents) (names : FileNames) (start other : State) → IsStartOf t names start
     → IsStartOf t names other → start ≡ other
 start-once t names start other a b =
     let same = some-once (t names.first) a.bytes b.bytes a.is_told b.is_told in
-    begins-once names.source a.bytes start other a.within a.begins
+    begins-once names.source a.bytes start other a.begins
     (subst (λ (bs : List ℕ). Begins names.source bs other) (sym same) b.begins)
 
 -- the same lines lead from the same state to one state at most

@@ -201,6 +201,7 @@ unread-line (Some t) names start script sure sure2 r skipped before now err err2
       line = s.line;
       rest = s.rest;
       split = s.split;
+      reached = s.reached;
       names = s.names;
       wrote
           = s.wrote;

@@ -13,8 +13,8 @@ use Rattle.reply_text.specs.Replies.{memory_text}
 use Rattle.qc_session.specs.Answers.{answer, file_of}
 use Rattle.warehouse.specs.State.{State}
 use Rattle.qc_session.specs.Transcript.{Item, Run, is_skipped, item, items, run_at, step, transcript}
-use Rattle.qc_session.specs.Runs.{AreRising, AreSkipped, StoppedAt, StoppedWriting, Took, WroteAll, line_at, may_skip}
-use Rattle.qc_session.specs.Session.{AreUpTo, Gathered, Replies, Skips, WroteLine, WrotePart}
+use Rattle.qc_session.specs.Runs.{AreRising, AreSkipped, AreUpTo, StoppedAt, StoppedWriting, Took, WroteAll, line_at, may_skip}
+use Rattle.qc_session.specs.Session.{Gathered, Replies, Skips, WroteLine, WrotePart}
 use Rattle.qc_session.proofs.FlushLemmas.{prefix-on, prefix-then, handed-none, handed-on, handed-then, taken-count}
 
 not_skipped : (number : ℕ) (skipped : List ℕ) → AreUpTo number skipped → is_skipped skipped (number + 1) ≡ false
@@ -170,17 +170,35 @@ so_far-push (Some t) start skipped new lines line number state state2 kept kept2
       handed = handed-on w.replies reply kept kept2 first before now w.handed on;
     }
 
+pub length-push : (done : List (List ℕ)) (line : List ℕ) (number number2 : ℕ) → length done ≡ number
+    → number2 ≡ number + 1 → length (done ++ line ∷ []) ≡ number2
+length-push done line number number2 e f = omega (arith, length-append done (line ∷ []), e, f)
+
+pub skips-up_to : (number : ℕ) (line old new : List ℕ) → AreUpTo number old → Skips old (number + 1) line new
+    → AreUpTo (number + 1) new
+skips-up_to number line old new up (inl same) = rw same (wider old up)
+  where
+    wider : (ks : List ℕ) → AreUpTo number ks → AreUpTo (number + 1) ks
+    wider [] h = tt
+    wider (k ∷ ks) h = (omega (arith, h.0), wider ks h.1)
+skips-up_to number line old new up (inr more) = rw more.0 (pushed old up)
+  where
+    pushed : (ks : List ℕ) → AreUpTo number ks → AreUpTo (number + 1) (ks ++ (number + 1) ∷ [])
+    pushed [] h = (omega arith, tt)
+    pushed (k ∷ ks) h = (omega (arith, h.0), pushed ks h.1)
+
 -- out took a prefix of the replies of the lines so far
 stopped-writing : (t : FileContents) (start : State) (skipped : List ℕ) (lines rest all : List (List ℕ))
     (state : PinnedState) (replies : List ℕ) (first now : Option (List ℕ)) → Took t start skipped lines state replies
-    → TookPrefix replies first now → all ≡ lines ++ rest
+    → TookPrefix replies first now → all ≡ lines ++ rest → AreUpTo (length lines) skipped
     → StoppedWriting t start skipped all first now
-stopped-writing t start skipped lines rest all state replies first now took front split =
+stopped-writing t start skipped lines rest all state replies first now took front split up =
     let (count, is) = taken-count replies first now front in
     record {
       done = lines;
       rest = rest;
       split = split;
+      reached = up;
       wrote
           = record { state = state; replies = replies; count = count; took = took; wrote = is };
     }
@@ -189,17 +207,18 @@ stopped-writing t start skipped lines rest all state replies first now took fron
 pub prefix-push : (told : Option FileContents) (start : State) (skipped new : List ℕ) (lines : List (List ℕ))
     (line : List ℕ) (rest : List (List ℕ)) (number : ℕ) (state state2 : PinnedState) (kept : List ℕ)
     (first before now : Option (List ℕ)) → length lines ≡ number
-    → Skips skipped (number + 1) line new → GatheredSoFar told start skipped lines state kept first before
+    → AreUpTo number skipped → Skips skipped (number + 1) line new
+    → GatheredSoFar told start skipped lines state kept first before
     → WrotePart told skipped new (number + 1) state line state2 kept before now → (all : List (List ℕ))
     → all ≡ lines ++ line ∷ rest
     → IfSome told (λ t. StoppedWriting t start new all first now)
-prefix-push None start skipped new lines line rest number state state2 kept first before now len skips w h all split
+prefix-push None start skipped new lines line rest number state state2 kept first before now len up skips w h all split
     = tt
-prefix-push (Some t) start skipped new lines line rest number state state2 kept first before now len skips w
+prefix-push (Some t) start skipped new lines line rest number state state2 kept first before now len up skips w
     (inl untaken) all split =
     stopped-writing t start new lines (line ∷ rest) all state w.replies first now (rw untaken.0 w.took)
-    (prefix-then w.replies kept first before now w.handed untaken.1) split
-prefix-push (Some t) start skipped new lines line rest number state state2 kept first before now len skips w
+    (prefix-then w.replies kept first before now w.handed untaken.1) split (rw (len, untaken.0) up)
+prefix-push (Some t) start skipped new lines line rest number state state2 kept first before now len up skips w
     (inr taken) all split =
     let (reply, gives, front) = taken in
     stopped-writing t start new (lines ++ line ∷ []) rest all state2 (w.replies ++ reply) first now
@@ -207,16 +226,18 @@ prefix-push (Some t) start skipped new lines line rest number state state2 kept 
     (took-skips t start skipped new lines line state w.replies (rw len skips) w.took) (rw len gives))
     (prefix-on w.replies reply kept first before now w.handed front)
     (split ∙ sym (append_assoc lines (line ∷ []) rest))
+    (rw (length-push lines line number (number + 1) len refl) (skips-up_to number line skipped new up skips))
 
 -- the same at the end of the lines
 pub prefix-end : (told : Option FileContents) (start : State) (skipped : List ℕ) (lines all : List (List ℕ))
     (state : PinnedState) (kept : List ℕ) (first before now : Option (List ℕ))
     → GatheredSoFar told start skipped lines state kept first before → TookPrefix kept before now
-    → all ≡ lines ++ [] → IfSome told (λ t. StoppedWriting t start skipped all first now)
-prefix-end None start skipped lines all state kept first before now w front split = tt
-prefix-end (Some t) start skipped lines all state kept first before now w front split =
+    → all ≡ lines ++ [] → AreUpTo (length lines) skipped
+    → IfSome told (λ t. StoppedWriting t start skipped all first now)
+prefix-end None start skipped lines all state kept first before now w front split up = tt
+prefix-end (Some t) start skipped lines all state kept first before now w front split up =
     stopped-writing t start skipped lines [] all state w.replies first now w.took
-    (prefix-then w.replies kept first before now w.handed front) split
+    (prefix-then w.replies kept first before now w.handed front) split up
 
 -- all that was kept is handed on
 all-handed : (replies kept : List ℕ) (first before now : Option (List ℕ)) → IsFlushed replies kept first before
@@ -231,15 +252,17 @@ pub stopped-at : (told : Option FileContents) (sure : Type 0) (start : State) (s
     → file_of state.state.schema line ≡ Some name → new ≡ skipped → IsFlushed kept [] before now
     → GatheredSoFar told start skipped lines state kept first before
     → (sure → IfSome told (λ t. t name ≡ None)) → (all : List (List ℕ)) → all ≡ lines ++ line ∷ rest
+    → AreUpTo (length lines) skipped
     → IfSome told (λ t. StoppedAt t sure start new all name first now)
 stopped-at None sure start skipped new lines line rest name state kept first before now names is end w untold all split
-    = tt
+    up = tt
 stopped-at (Some t) sure start skipped new lines line rest name state kept first before now names is end w untold all
-    split = record {
+    split up = record {
       done = lines;
       line = line;
       rest = rest;
       split = split;
+      reached = rw is up;
       names = names;
       wrote = record {
         state = state;
@@ -268,19 +291,6 @@ wrote-all (Some t) start skipped lines all state kept first before now e w end =
       };
       ended = refl;
     }
-
-pub skips-up_to : (number : ℕ) (line old new : List ℕ) → AreUpTo number old → Skips old (number + 1) line new
-    → AreUpTo (number + 1) new
-skips-up_to number line old new up (inl same) = rw same (wider old up)
-  where
-    wider : (ks : List ℕ) → AreUpTo number ks → AreUpTo (number + 1) ks
-    wider [] h = tt
-    wider (k ∷ ks) h = (omega (arith, h.0), wider ks h.1)
-skips-up_to number line old new up (inr more) = rw more.0 (pushed old up)
-  where
-    pushed : (ks : List ℕ) → AreUpTo number ks → AreUpTo (number + 1) (ks ++ (number + 1) ∷ [])
-    pushed [] h = (omega arith, tt)
-    pushed (k ∷ ks) h = (omega (arith, h.0), pushed ks h.1)
 
 -- rising numbers up to this one, and the next
 rising-push : (n number : ℕ) (ks : List ℕ) → n ≤ number → AreUpTo number ks → AreRising n ks
@@ -342,7 +352,3 @@ pub lines-regroup : (done : List (List ℕ)) (line : List ℕ) (all rest behind 
     → rest ≡ line ∷ behind → all ≡ (done ++ line ∷ []) ++ behind
 lines-regroup done line all rest behind e f = e ∙ ap (λ (xs : List (List ℕ)). done ++ xs) f
     ∙ sym (append_assoc done (line ∷ []) behind)
-
-pub length-push : (done : List (List ℕ)) (line : List ℕ) (number number2 : ℕ) → length done ≡ number
-    → number2 ≡ number + 1 → length (done ++ line ∷ []) ≡ number2
-length-push done line number number2 e f = omega (arith, length-append done (line ∷ []), e, f)

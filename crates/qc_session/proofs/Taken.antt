@@ -10,8 +10,8 @@ use Rattle.qc_session.specs.Flushed.{IsFlushed, TookPrefix}
 use Rattle.qc_session.specs.Lines.{is_passed}
 use Rattle.qc_session.specs.Pins.{pinned_state_in}
 use Rattle.qc_session.specs.Reading.{FilesStay}
-use Rattle.qc_session.specs.Runs.{may_skip}
-use Rattle.qc_session.specs.Session.{AreUpTo, IfStop, LineEnds, Puts, Skips}
+use Rattle.qc_session.specs.Runs.{AreUpTo, may_skip}
+use Rattle.qc_session.specs.Session.{IfStop, LineEnds, Puts, Skips}
 use Rattle.qc_session.specs.declared.session.Session.{Session}
 use Rattle.qc_session.specs.declared.session.Stop.{Stop}
 use Rattle.qc_session.specs.declared.session.Stop.TheVariants as stops

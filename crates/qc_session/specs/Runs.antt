@@ -121,6 +121,11 @@ line_at lines (suc k) = slice_index_or lines k []
 abbrev pub may_skip : List ℕ → Bool
 may_skip line = not (is_passed line) && may_want_memory line
 
+-- the numbers are of lines up to this one
+abbrev pub AreUpTo : ℕ → List ℕ → Type 0
+AreUpTo number [] = ⊤
+AreUpTo number (k ∷ ks) = (k ≤ number) × AreUpTo number ks
+
 -- rising numbers of lines that may be skipped
 abbrev pub AreRising : ℕ → List ℕ → Type 0
 AreRising n [] = ⊤
@@ -162,23 +167,25 @@ pub record WrotePrefix (told : FileContents) (start : State) (skipped : List ℕ
   pub took : Took told start skipped lines state replies
   pub wrote : now ≡ with_taken (take count replies) before
 
--- out took the replies of the lines before one whose file couldn't be read
+-- out took the replies of the lines before one whose file couldn't be read; only these may be skipped
 pub record StoppedAt (told : FileContents) (sure : Type 0) (start : State) (skipped : List ℕ) (lines : List (List ℕ))
     (name : List ℕ) (before now : Option (List ℕ)) : Type 0 where
   pub done : List (List ℕ)
   pub line : List ℕ
   pub rest : List (List ℕ)
   pub split : lines ≡ done ++ line ∷ rest
+  pub reached : AreUpTo (length done) skipped
   pub wrote : Wrote told start skipped done before now
   pub names : file_of wrote.state.state.schema line ≡ Some name
   pub untold : sure → told name ≡ None
 
--- out took a prefix of the replies of some first lines
+-- out took a prefix of the replies of some first lines; only these may be skipped
 pub record StoppedWriting (told : FileContents) (start : State) (skipped : List ℕ) (lines : List (List ℕ))
     (before now : Option (List ℕ)) : Type 0 where
   pub done : List (List ℕ)
   pub rest : List (List ℕ)
   pub split : lines ≡ done ++ rest
+  pub reached : AreUpTo (length done) skipped
   pub wrote : WrotePrefix told start skipped done before now
 
 -- where err's count didn't rise, it took the line that tells a cause

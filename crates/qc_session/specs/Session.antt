@@ -17,11 +17,6 @@ abbrev pub IfStop : Stop → (List ℕ → Type 0) → Type 0 → Type 0
 IfStop (stops.Read name) P Q = P name
 IfStop stops.Write P Q = Q
 
--- the numbers are of lines up to this one
-abbrev pub AreUpTo : ℕ → List ℕ → Type 0
-AreUpTo number [] = ⊤
-AreUpTo number (k ∷ ks) = (k ≤ number) × AreUpTo number ks
-
 -- the list of skipped lines stayed, or has this line too
 abbrev pub Skips : List ℕ → ℕ → List ℕ → List ℕ → Type 0
 Skips old number line new = (new ≡ old) ⊎ ((new ≡ old ++ number ∷ []) × (may_skip line ≡ true))

@@ -3,6 +3,7 @@
 
 mod answer;
 mod failure;
+pub mod laws;
 mod lines;
 mod pending;
 mod pins;

@@ -46,7 +46,8 @@ impl Session {
     }
 }
 
-ghost use Rattle.qc_session.specs.Session.{AreUpTo, LineEnds, LinesEnd, Puts};
+ghost use Rattle.qc_session.specs.Runs.{AreUpTo};
+ghost use Rattle.qc_session.specs.Session.{LineEnds, LinesEnd, Puts};
 
 // Gathers a reply, and flushes all if it is not to wait.
 fn put_reply<O: Sink>(

@@ -19,14 +19,14 @@ from_parts-requires g c
 
 pub returns-in-Err-Form-clause-form : goal.returns-in-Err-Form-clause-form
 returns-in-Err-Form-clause-form g c = λ _ s is e.
-    refused-state c.args.bytes.now (λ i. omega (arith, c.type_inv.bytes i)) c.requires
+    refused-state c.args.bytes.now (λ i. omega (arith, c.type_inv.bytes i))
     (subst (λ (e : PartRefused). Refuses AreWithin e (whole snapshot c.args.bytes.now)) c.in-Err-Form.field-0-is
     c.in-Err-Form.ensures.reads) s is e
 
 pub returns-in-Err-Form-clause-found : goal.returns-in-Err-Form-clause-found
 returns-in-Err-Form-clause-found g c = λ s is e.
     absurd
-    (refused-state c.args.bytes.now (λ i. omega (arith, c.type_inv.bytes i)) c.requires
+    (refused-state c.args.bytes.now (λ i. omega (arith, c.type_inv.bytes i))
     (subst (λ (e : PartRefused). Refuses AreWithin e (whole snapshot c.args.bytes.now)) c.in-Err-Form.field-0-is
     c.in-Err-Form.ensures.reads) s is.consistent e)
 
@@ -37,7 +37,7 @@ returns-in-Ok-from_parts-clause-spelled g c =
     let made = c.in-Ok.made in
     let stored : IsStored made.0 made.1 made.2
     = stored-made made.0 made.1 made.2 c.in-Ok.ensures.made c.in-Ok.ensures.reads.1 in
-    made-spelled bytes bounded c.requires made.0 made.1 made.2 stored c.in-Ok.ensures.reads.0
+    made-spelled bytes bounded made.0 made.1 made.2 stored c.in-Ok.ensures.reads.0
     ∙ ap spelling (sym c.in-Ok-from_parts.ensures.state)
 
 pub returns-in-Ok-from_parts-clause-found : goal.returns-in-Ok-from_parts-clause-found
@@ -48,8 +48,8 @@ returns-in-Ok-from_parts-clause-found g c = λ s is e.
     let stored : IsStored made.0 made.1 made.2
     = stored-made made.0 made.1 made.2 c.in-Ok.ensures.made c.in-Ok.ensures.reads.1 in
     c.in-Ok-from_parts.ensures.state
-    ∙ unique bytes bounded c.requires (state_of made.0 made.1 made.2) s (is-consistent made.0 made.1 made.2 stored)
-    is.consistent (made-spelled bytes bounded c.requires made.0 made.1 made.2 stored c.in-Ok.ensures.reads.0) e
+    ∙ unique bytes bounded (state_of made.0 made.1 made.2) s (is-consistent made.0 made.1 made.2 stored)
+    is.consistent (made-spelled bytes bounded made.0 made.1 made.2 stored c.in-Ok.ensures.reads.0) e
 
 pub returns-in-Err-NodesFull-clause-nodes_full : goal.returns-in-Err-NodesFull-clause-nodes_full
 returns-in-Err-NodesFull-clause-nodes_full g c = λ _.
@@ -60,7 +60,7 @@ returns-in-Err-NodesFull-clause-nodes_full g c = λ _.
     = stored-made made.0 made.1 made.2 c.in-Ok.ensures.made c.in-Ok.ensures.reads.1 in (
       state_of made.0 made.1 made.2,
       record {
-        spelled = made-spelled bytes bounded c.requires made.0 made.1 made.2 stored c.in-Ok.ensures.reads.0;
+        spelled = made-spelled bytes bounded made.0 made.1 made.2 stored c.in-Ok.ensures.reads.0;
         consistent = is-consistent made.0 made.1 made.2 stored;
         many = c.in-Err-NodesFull.ensures.nodes_full (ap Err c.in-Err-NodesFull.field-0-is);
       },
@@ -74,8 +74,8 @@ returns-in-Err-NodesFull-clause-found g c = λ s is e.
     let stored : IsStored made.0 made.1 made.2
     = stored-made made.0 made.1 made.2 c.in-Ok.ensures.made c.in-Ok.ensures.reads.1 in
     let same : state_of made.0 made.1 made.2 ≡ s
-    = unique bytes bounded c.requires (state_of made.0 made.1 made.2) s (is-consistent made.0 made.1 made.2 stored)
-    is.consistent (made-spelled bytes bounded c.requires made.0 made.1 made.2 stored c.in-Ok.ensures.reads.0) e in
+    = unique bytes bounded (state_of made.0 made.1 made.2) s (is-consistent made.0 made.1 made.2 stored)
+    is.consistent (made-spelled bytes bounded made.0 made.1 made.2 stored c.in-Ok.ensures.reads.0) e in
     let many = subst (λ (t : State). t.schema.nodes < length (nodes text_cmp t.rows)) same
     (c.in-Err-NodesFull.ensures.nodes_full (ap Err c.in-Err-NodesFull.field-0-is)) in
     absurd (omega (arith, many, is.few_nodes))

@@ -84,12 +84,12 @@ returns-in-Err g c =
             stopped-at told (IsTrue (g.F.Files.steady c.args.files.now)) _ c.lines.session.skipped.items _ done
                 c.trim_cr.result.now lines name _ _ _ _ _
                 h.1 h.4 h.3 so_far (λ k. h.2 (inv.steady k)) (map without_cr (lines_of c.args.script.now)) (all
-                ∙ ap (λ (xs : List (List ℕ)). done ++ xs) cut),
+                ∙ ap (λ (xs : List (List ℕ)). done ++ xs) cut) (rw len inv.up_to),
           ))
           (λ h. (
             rose-later _ _ _ inv.later_out h.0,
             prefix-push told _ _ _ done c.trim_cr.result.now lines c.lines.session.number _ _ _ _ _ _ len
-                e.skips so_far h.1
+                inv.up_to e.skips so_far h.1
                 (map without_cr (lines_of c.args.script.now)) (all ∙ ap (λ (xs : List (List ℕ)). done ++ xs) cut),
           ))
           (rw inv.told at e).by;
@@ -120,6 +120,7 @@ returns-in-Err-flush g c =
       skipped = skipped-prefix done [] _ c.lines.session.number _ len inv.up_to whole skipped;
       by = (
         rose-later _ _ _ inv.later_out c.in-Err-flush.ensures.cause.failed,
-        prefix-end (g.F.Files.told c.args.files.now) _ _ done _ _ _ _ _ _ so_far c.in-Err-flush.ensures.err whole,
+        prefix-end (g.F.Files.told c.args.files.now) _ _ done _ _ _ _ _ _ so_far c.in-Err-flush.ensures.err whole
+            (rw len inv.up_to),
       );
     }

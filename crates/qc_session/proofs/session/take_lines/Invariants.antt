@@ -2,8 +2,7 @@ use Rattle.std.proofs.Common.{◌≡◌, ◌≤◌, ◌<◌, ◌+◌, ◌++◌, 
 use Rattle.cube_defs.specs.declared.limits.TheConstants.{MAX_FILE}
 use Rattle.qc_session.specs.Lines.{lines_of, without_cr}
 use Rattle.qc_session.specs.Pins.{pinned_state_in}
-use Rattle.qc_session.specs.Runs.{AreSkipped}
-use Rattle.qc_session.specs.Session.{AreUpTo}
+use Rattle.qc_session.specs.Runs.{AreSkipped, AreUpTo}
 use Rattle.qc_session.proofs.Steps.{GatheredSoFar}
 use Rattle.qc_session.proofs.session.take_lines.Given as goal
 
