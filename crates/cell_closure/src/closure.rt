@@ -10,7 +10,7 @@ ghost use Rattle.cube_laws.specs.Parting.{shared_by};
 
 use crate::sorted_rows::SortedRows;
 use crate::width::closure_in;
-use base_table::RowNo;
+use base_table::{RowNo, Table};
 use cell_core::{Cell, Code, Entry};
 use cube_defs::MAX_DIMS;
 
@@ -60,7 +60,7 @@ macro_rules! closure_by_width {
 
 /// The values that all the rows have, and Any in the other dimensions. It reads rows only until
 /// they share no value any more.
-pub fn closure_of(table: &SortedRows, rows: &[RowNo]) -> Cell
+pub fn closure_of(table: &Table, rows: &[RowNo]) -> Cell
     requires some { 0 < length rows.now }
     requires there { AreThere table.now rows.now }
     ensures closure { Some result ≡ meet_all nat_eq

@@ -5,9 +5,9 @@ ghost use Rattle.cell_closure.specs.Parts.{no_part, parted};
 ghost use Rattle.cell_closure.specs.Runs.{no_row, pieces, runs};
 
 use crate::Memory;
-use crate::by_code::{Keyed, Sorter, read_codes, sort_by_code};
+use crate::by_code::{Keyed, Sorter, read_codes, read_table_codes, sort_by_code};
 use crate::sorted_rows::SortedRows;
-use base_table::RowNo;
+use base_table::{RowNo, Table};
 use cell_core::Code;
 use std::alloc::Global;
 use std::marker::Model;
@@ -92,16 +92,30 @@ impl Parts {
         list_cuts(&mut self.cuts, &self.sorter.keyed)?;
         Ok(())
     }
+
+    /// Groups rows of a table, as `regroup` does.
+    fn regroup_table(&mut self, table: &Table, rows: &[RowNo], dim: u8) -> Result<(), Memory>
+        requires there { AreThere table.now rows.now }
+        requires dim { dim < table.now.dims }
+        ensures { IfOk result (λ _. self.new ≡ parted table.now rows.now dim) }
+    {
+        self.cuts.clear();
+        let most = read_table_codes(&mut self.sorter.keyed, table, rows, dim)?;
+        sort_by_code(&mut self.sorter, most)?;
+        list_rows(&mut self.rows, &self.sorter.keyed)?;
+        list_cuts(&mut self.cuts, &self.sorter.keyed)?;
+        Ok(())
+    }
 }
 
 /// Groups rows by their codes in the dimension. Each part has its rows in the given order.
-pub fn part(alloc: Global, table: &SortedRows, rows: &[RowNo], dim: u8) -> Result<Parts, Memory>
+pub fn part(alloc: Global, table: &Table, rows: &[RowNo], dim: u8) -> Result<Parts, Memory>
     requires there { AreThere table.now rows.now }
     requires dim { dim < table.now.dims }
     ensures { IfOk result (λ parts. parts ≡ parted table.now rows.now dim) }
 {
     let mut parts = Parts::new(alloc);
-    parts.regroup(table, rows, dim)?;
+    parts.regroup_table(table, rows, dim)?;
     Ok(parts)
 }
 

@@ -7,7 +7,7 @@ ghost use Rattle.cube_laws.specs.Lists.{Reordered};
 use crate::Memory;
 use crate::order::sorted_numbers;
 use base_table::{RowNo, Table, line};
-use cell_core::{Cell, Code};
+use cell_core::Code;
 use cube_defs::MAX_AMOUNT;
 use std::alloc::Global;
 use std::marker::Model;
@@ -128,13 +128,6 @@ impl SortedRows {
             nos.push_reserved(RowNo(place));
         }
         Ok(nos)
-    }
-
-    /// The cell with Any in each dimension of the rows.
-    pub(crate) fn any_cell(&self) -> Cell
-        ensures { length result ≡ self.now.dims }
-    {
-        Cell::any(*self.codes.allocator(), self.dims)
     }
 }
 

@@ -9,8 +9,7 @@ ghost use Rattle.cell_closure.specs.Parts.{code_at};
 ghost use Rattle.cell_closure.specs.Widths.{met};
 ghost use Rattle.cube_laws.specs.Parting.{shared_by};
 
-use crate::sorted_rows::SortedRows;
-use base_table::RowNo;
+use base_table::{RowNo, Table};
 use cell_core::{ANY, Cell, Entry};
 use cube_defs::MAX_DIMS;
 
@@ -30,7 +29,7 @@ pub fn meet_fixed<const N: usize>(acc: &mut [u32; N], row: &[u32; N])
 }
 
 /// The codes of a row, and 0 in the places after them.
-fn codes_of<const N: usize>(table: &SortedRows, row: RowNo) -> [u32; N]
+fn codes_of<const N: usize>(table: &Table, row: RowNo) -> [u32; N]
     requires row { is_some (row_at table.now row.0) ≡ true }
     requires width { table.now.dims ≤ N }
     ensures value { (j : ℕ) → j < table.now.dims → slice_index result j ≡ code_at table.now j row }
@@ -57,7 +56,7 @@ fn has_value<const N: usize>(codes: &[u32; N], dims: u8) -> bool
 }
 
 /// The code that all the rows have in each dimension. [`ANY`] if they differ.
-fn shared_codes<const N: usize>(table: &SortedRows, rows: &[RowNo]) -> [u32; N]
+fn shared_codes<const N: usize>(table: &Table, rows: &[RowNo]) -> [u32; N]
     requires table { IsTable table.now }
     requires some { 0 < length rows.now }
     requires there { AreThere table.now rows.now }
@@ -79,7 +78,7 @@ fn shared_codes<const N: usize>(table: &SortedRows, rows: &[RowNo]) -> [u32; N]
 }
 
 /// The values that all the rows have, read as arrays of N codes.
-pub(crate) fn closure_in<const N: usize>(table: &SortedRows, rows: &[RowNo]) -> Cell
+pub(crate) fn closure_in<const N: usize>(table: &Table, rows: &[RowNo]) -> Cell
     requires some { 0 < length rows.now }
     requires there { AreThere table.now rows.now }
     requires width { table.now.dims ≤ N }
@@ -90,7 +89,7 @@ pub(crate) fn closure_in<const N: usize>(table: &SortedRows, rows: &[RowNo]) -> 
 {
     table.recall_invariant();
     let codes: [u32; N] = shared_codes(table, rows);
-    let mut shared = table.any_cell();
+    let mut shared = table.tuple(rows[0]);
     'dims: for dim in 0..table.dims() {
         shared.set(dim, Entry::of(codes[dim as usize]));
     }

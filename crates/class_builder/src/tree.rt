@@ -13,10 +13,11 @@ use crate::part::Partition;
 use crate::path::Path;
 use crate::pool::PartsPool;
 use crate::prefix_nodes::PrefixNodes;
+use crate::upper::closure_of_all;
 use crate::walk::drill;
 use base_table::Table;
 use build_acts::add_root;
-use cell_closure::{SortedRows, closure_of};
+use cell_closure::SortedRows;
 use cell_core::{Code, Steps};
 use cube_laws::same_rows::lists_of_cells_in_order;
 use qc_arena::{ArenaRefused, QcArena};
@@ -81,7 +82,7 @@ fn build_sorted<L: Ledger>(
     let part = Partition {
         table,
         rows: &rows,
-        shared: closure_of(table, &rows),
+        shared: closure_of_all(alloc, table, &rows),
     };
     let Ok(mut fronts) = PrefixNodes::new(alloc, table) else {
         return Err(ArenaRefused::Memory);

@@ -10,6 +10,7 @@ ghost use Rattle.class_builder.specs.Walk.{AreCoveredRows};
 use base_table::RowNo;
 use cell_closure::{SortedRows, shared_entry};
 use cell_core::{Cell, Entry};
+use std::alloc::Global;
 
 /// The value that the rows share in the dimension, or Any. `upper` covers all of them.
 fn entry_of(table: &SortedRows, rows: &[RowNo], upper: &Cell, dim: u8) -> Entry
@@ -84,6 +85,20 @@ pub(crate) fn first_new_value(
         }
     }
     None
+}
+
+/// The values that all the rows share. It reads a dimension at a time, until two codes differ.
+pub(crate) fn closure_of_all(alloc: Global, table: &SortedRows, rows: &[RowNo]) -> Cell
+    requires table { IsTable table.now }
+    requires some { 0 < length rows.now }
+    requires there { AreThere table.now rows.now }
+    ensures { result ≡ shared_by (named table.now rows.now) }
+{
+    let mut shared = Cell::any(alloc, table.dims());
+    'dims: for dim in 0..table.dims() {
+        shared.set(dim, shared_entry(table, rows, dim));
+    }
+    shared
 }
 
 /// The closure of rows that share a value in the dimension, and before it no more than `upper` has.
