@@ -1,8 +1,9 @@
-// Rows are parted by their codes, and share values.
+// Rows are ordered by their tuples and parted by their codes, and share values.
+ghost use Rattle.std.specs.Prelude.{◌<◌};
 
 use crate::rows::{Change, make};
 use base_table::Table;
-use cell_closure::{Parts, closure_of};
+use cell_closure::{Parts, SortedRows, closure_of};
 use cell_core::{Code, Entry};
 use std::alloc::{AllocError, Global};
 
@@ -36,22 +37,34 @@ fn pairs_of(alloc: Global, parts: &Parts) -> Result<Vec<(Code, u32)>, AllocError
     Ok(pairs)
 }
 
-// Whether the rows' codes in a dimension are these, each with the row's place, part by part.
-fn are_parts(
-    alloc: Global,
-    table: &Table,
-    dim: u8,
-    want: &[(Code, u32)],
-) -> Result<bool, AllocError> {
-    if dim >= table.dims() {
-        return Ok(false);
-    }
-    let nos = table.all(alloc)?;
+// The codes of the rows in a dimension, each with the row's place, part by part.
+fn pairs_in(alloc: Global, rows: &SortedRows, dim: u8) -> Result<Vec<(Code, u32)>, AllocError>
+    requires { dim < rows.now.dims }
+{
+    let nos = rows.all(alloc)?;
     let mut parts = Parts::new(alloc);
-    parts.regroup(table, &nos, dim)?;
-    let pairs = pairs_of(alloc, &parts)?;
-    Ok(pairs.as_slice() == want)
+    parts.regroup(rows, &nos, dim)?;
+    pairs_of(alloc, &parts)
 }
+
+// Whether the codes in a dimension are these, each with the row's place in the order of tuples,
+// part by part.
+fn are_parts(alloc: Global, table: &Table, dim: u8, want: &[(Code, u32)]) -> bool {
+    if dim >= table.dims() {
+        return false;
+    }
+    let Ok(rows) = SortedRows::of(alloc, table) else {
+        return false;
+    };
+    let pairs = pairs_in(alloc, &rows, dim);
+    drop(rows);
+    match pairs {
+        Ok(pairs) => pairs.as_slice() == want,
+        Err(_) => false,
+    }
+}
+
+const THREE: [(u8, u8); 3] = [(2, 9), (1, 3), (0, 9)];
 
 const FIVE: [(u8, u8); 5] = [(2, 7), (0, 7), (2, 8), (1, 7), (0, 7)];
 
@@ -83,22 +96,21 @@ const MANY: [(u8, u8); 24] = [
     (0, 0),
 ];
 
-// Rows, a dimension, and the codes with the places.
+// Rows, a dimension, and the codes with the places in the order of tuples.
 type Parted = (&'static [(u8, u8)], u8, &'static [(Code, u32)]);
 
-static PARTS: [Parted; 3] = [
-    (&FIVE, 0, &[(0, 1), (0, 4), (1, 3), (2, 0), (2, 2)]),
-    (&FIVE, 1, &[(7, 0), (7, 1), (7, 3), (7, 4), (8, 2)]),
+static PARTS: [Parted; 4] = [
+    (&THREE, 1, &[(3, 1), (9, 0), (9, 2)]),
+    (&FIVE, 0, &[(0, 0), (0, 1), (1, 2), (2, 3), (2, 4)]),
+    (&FIVE, 1, &[(7, 0), (7, 1), (7, 2), (7, 3), (8, 4)]),
     (
         &MANY,
         0,
         &[
-            (0, 23),
-            (4, 3),
-            (4, 20),
-            (9, 0),
-            (9, 1),
-            (9, 2),
+            (0, 0),
+            (4, 1),
+            (4, 2),
+            (9, 3),
             (9, 4),
             (9, 5),
             (9, 6),
@@ -115,8 +127,10 @@ static PARTS: [Parted; 3] = [
             (9, 17),
             (9, 18),
             (9, 19),
+            (9, 20),
             (9, 21),
             (9, 22),
+            (9, 23),
         ],
     ),
 ];
@@ -128,7 +142,7 @@ fn is_parted(alloc: Global, case: &Parted) -> bool {
     };
     let are_parts = are_parts(alloc, &table, dim, want);
     drop(table);
-    matches!(are_parts, Ok(true))
+    are_parts
 }
 
 fn are_all_parted(alloc: Global) -> bool {
@@ -141,15 +155,25 @@ fn are_all_parted(alloc: Global) -> bool {
 }
 
 // Whether all rows share just these entries.
-fn share(alloc: Global, table: &Table, first: Entry, second: Entry) -> bool {
-    let Ok(nos) = table.all(alloc) else {
+fn share(alloc: Global, rows: &SortedRows, first: Entry, second: Entry) -> bool {
+    let Ok(nos) = rows.all(alloc) else {
         return false;
     };
-    if nos.is_empty() || table.dims() != 2 {
+    if nos.is_empty() || rows.dims() != 2 {
         return false;
     }
-    let cell = closure_of(table, &nos);
+    let cell = closure_of(rows, &nos);
     cell.get(0) == first && cell.get(1) == second
+}
+
+// Whether the rows of the table share just these entries.
+fn share_in_order(alloc: Global, table: &Table, first: Entry, second: Entry) -> bool {
+    let Ok(rows) = SortedRows::of(alloc, table) else {
+        return false;
+    };
+    let share = share(alloc, &rows, first, second);
+    drop(rows);
+    share
 }
 
 // Rows, and what they share in both dimensions.
@@ -167,7 +191,7 @@ fn is_shared(alloc: Global, case: &Shared) -> bool {
     let Ok(table) = table_of(alloc, rows) else {
         return false;
     };
-    let is_shared = share(alloc, &table, first, second);
+    let is_shared = share_in_order(alloc, &table, first, second);
     drop(table);
     is_shared
 }

@@ -3,7 +3,7 @@ ghost use Rattle.std.specs.Prelude.{All, is_some, length, true, ◌<◌, ◌≡�
 
 use crate::rows::put;
 use base_table::Table;
-use cell_closure::{closure_of, meet_fixed};
+use cell_closure::{SortedRows, closure_of, meet_fixed};
 use cell_core::{ANY, Cell, Entry};
 use std::alloc::{AllocError, Global};
 
@@ -81,15 +81,25 @@ fn is_shared(cell: &Cell, rows: &[Ends], dims: u8) -> bool {
     true
 }
 
-// Whether the closure of all rows of a table is what a plain loop finds.
-fn is_closure(alloc: Global, table: &Table, rows: &[Ends], dims: u8) -> bool {
-    let Ok(nos) = table.all(alloc) else {
+// Whether the closure of all sorted rows is what a plain loop finds.
+fn is_closure_of(alloc: Global, sorted: &SortedRows, rows: &[Ends], dims: u8) -> bool {
+    let Ok(nos) = sorted.all(alloc) else {
         return false;
     };
     if nos.len() != rows.len() || nos.is_empty() {
         return false;
     }
-    is_shared(&closure_of(table, &nos), rows, dims)
+    is_shared(&closure_of(sorted, &nos), rows, dims)
+}
+
+// Whether the closure of all rows of a table is what a plain loop finds.
+fn is_closure(alloc: Global, table: &Table, rows: &[Ends], dims: u8) -> bool {
+    let Ok(sorted) = SortedRows::of(alloc, table) else {
+        return false;
+    };
+    let is_closure = is_closure_of(alloc, &sorted, rows, dims);
+    drop(sorted);
+    is_closure
 }
 
 fn agrees(alloc: Global, rows: &[Ends], dims: u8) -> bool {
