@@ -102,8 +102,9 @@ impl Parts {
         self.cuts.clear();
         let most = read_table_codes(&mut self.sorter.keyed, table, rows, dim)?;
         sort_by_code(&mut self.sorter, most)?;
-        list_rows(&mut self.rows, &self.sorter.keyed)?;
-        list_cuts(&mut self.cuts, &self.sorter.keyed)?;
+        let keyed = &self.sorter.keyed;
+        list_rows(&mut self.rows, keyed)?;
+        list_cuts(&mut self.cuts, keyed)?;
         Ok(())
     }
 }

@@ -15,7 +15,7 @@ ghost use Rattle.warehouse.specs.Widening.{KeepsWidened, cost_of_widening, widen
 
 use crate::pins::{MAX_PINS, Pin, drop_named, oldest, pin_of, shift_places};
 use crate::refused::{NotPinned, PinRefused, PinnedWiden};
-use crate::stored_images::{drop_oldest, images_since, reserve_one, store_images};
+use crate::stored_images::{drop_oldest, images_since, keep_images, reserve_one};
 use crate::view::PinnedView;
 use cell_core::Steps;
 use cube_defs::{MAX_FILE, MAX_TEXT, Memory};
@@ -68,7 +68,7 @@ impl Pinned {
             return Err(AllocError);
         };
         let mut warehouse = warehouse;
-        drop(warehouse.last_images());
+        warehouse.drop_images();
         Ok(Pinned {
             warehouse,
             kept: Vec::new(alloc),
@@ -187,7 +187,7 @@ impl Pinned {
         }
         match self.warehouse.load(bytes, steps) {
             Ok(applied) => {
-                store_images(&mut self.kept, &self.pins, self.warehouse.last_images());
+                keep_images(&mut self.kept, &self.pins, &mut self.warehouse);
                 Ok(applied)
             }
             Err(refused) => Err(refused),
@@ -221,7 +221,7 @@ impl Pinned {
         }
         match self.warehouse.apply(bytes, steps) {
             Ok(applied) => {
-                store_images(&mut self.kept, &self.pins, self.warehouse.last_images());
+                keep_images(&mut self.kept, &self.pins, &mut self.warehouse);
                 Ok(applied)
             }
             Err(refused) => Err(refused),

@@ -1,14 +1,17 @@
 // The before-images that are stored for the versions, the oldest first.
+ghost use Rattle.std.specs.FinMap as finmap;
 ghost use Rattle.std.specs.List.{list_any};
 ghost use Rattle.std.specs.Prelude.{IfErr, OnErr, OnOk, drop, false, length, true, vec_capacity, ℕ, ◌<◌, ◌==◌, ◌≡◌, ◌≤◌};
 ghost use Rattle.cube_defs.specs.Tree.{Tree};
 ghost use Rattle.qc_arena.specs.Map.{overlaid};
 ghost use Rattle.pinned_view.specs.Past.{with_all_images};
 ghost use Rattle.pinned_view.specs.Pins.{AreBefore, AreWithin, ReadSame};
+ghost use Rattle.warehouse.specs.State.{AreContents};
 
 use crate::pins::{Pin, is_read_from};
 use cube_defs::Memory;
 use qc_arena::Images;
+use warehouse::Warehouse;
 
 /// The before-images from a place on.
 pub(crate) fn images_since(kept: &Vec<Images>, from: usize) -> &[Images]
@@ -95,18 +98,33 @@ fn merge_last_two(kept: &mut Vec<Images>, pins: &Vec<Pin>) -> bool
     }
 }
 
-/// Stores the before-images of a change, if a version needs them.
-pub(crate) fn store_images(kept: &mut Vec<Images>, pins: &Vec<Pin>, images: Images)
+/// Moves the before-images of a warehouse's last change to the end of the list, if a version needs
+/// them. Else they are dropped.
+pub(crate) fn keep_images(kept: &mut Vec<Images>, pins: &Vec<Pin>, warehouse: &mut Warehouse)
     requires room { 0 < length pins.now.items → length kept.old.items < vec_capacity kept.old }
+    requires within { AreWithin (length kept.old.items) pins.now.items }
+    ensures within { AreWithin (length kept.new.items) pins.now.items }
+    ensures same { (tree : Tree ℕ) → ReadSame kept.old.items
+        (overlaid warehouse.old.images tree) kept.new.items tree pins.now.items }
+    ensures rest { warehouse.new ≡ record warehouse.old { images = finmap.empty } }
+    ensures valid { AreContents warehouse.new }
+{
+    if pins.is_empty() {
+        warehouse.drop_images();
+    } else {
+        let images = warehouse.last_images();
+        store_images(kept, pins, images);
+    }
+}
+
+/// Stores the before-images of a change.
+fn store_images(kept: &mut Vec<Images>, pins: &Vec<Pin>, images: Images)
+    requires room { length kept.old.items < vec_capacity kept.old }
     requires within { AreWithin (length kept.old.items) pins.now.items }
     ensures within { AreWithin (length kept.new.items) pins.now.items }
     ensures same { (tree : Tree ℕ)
         → ReadSame kept.old.items (overlaid images tree) kept.new.items tree pins.now.items }
 {
-    if pins.is_empty() {
-        drop(images);
-        return;
-    }
     kept.push(images).unwrap();
     'joins: while merge_last_two(kept, pins) {}
 }

@@ -1,8 +1,9 @@
-// Rows are parted by their codes, and share values.
+// Rows are ordered by their tuples and parted by their codes, and share values.
+ghost use Rattle.std.specs.Prelude.{◌<◌};
 
 use crate::rows::{Change, make};
 use base_table::Table;
-use cell_closure::{Parts, closure_of};
+use cell_closure::{Parts, SortedRows, closure_of, part};
 use cell_core::{Code, Entry};
 use std::alloc::{AllocError, Global};
 
@@ -47,8 +48,7 @@ fn are_parts(
         return Ok(false);
     }
     let nos = table.all(alloc)?;
-    let mut parts = Parts::new(alloc);
-    parts.regroup(table, &nos, dim)?;
+    let parts = part(alloc, table, &nos, dim)?;
     let pairs = pairs_of(alloc, &parts)?;
     Ok(pairs.as_slice() == want)
 }
@@ -140,6 +140,60 @@ fn are_all_parted(alloc: Global) -> bool {
     true
 }
 
+// The codes of the rows in a dimension, each with the row's place in the order of tuples.
+fn pairs_in(alloc: Global, rows: &SortedRows, dim: u8) -> Result<Vec<(Code, u32)>, AllocError>
+    requires { dim < rows.now.dims }
+{
+    let nos = rows.all(alloc)?;
+    let mut parts = Parts::new(alloc);
+    parts.regroup(rows, &nos, dim)?;
+    pairs_of(alloc, &parts)
+}
+
+const THREE: [(u8, u8); 3] = [(2, 9), (1, 3), (0, 9)];
+
+// Rows, a dimension, and the codes with the places in the order of tuples.
+static SORTED: [Parted; 3] = [
+    (&THREE, 1, &[(3, 1), (9, 0), (9, 2)]),
+    (&FIVE, 0, &[(0, 0), (0, 1), (1, 2), (2, 3), (2, 4)]),
+    (&FIVE, 1, &[(7, 0), (7, 1), (7, 2), (7, 3), (8, 4)]),
+];
+
+// Whether the parts of the sorted rows are these.
+fn are_sorted(alloc: Global, table: &Table, dim: u8, want: &[(Code, u32)]) -> bool {
+    if dim >= table.dims() {
+        return false;
+    }
+    let Ok(rows) = SortedRows::of(alloc, table) else {
+        return false;
+    };
+    let pairs = pairs_in(alloc, &rows, dim);
+    drop(rows);
+    match pairs {
+        Ok(pairs) => pairs.as_slice() == want,
+        Err(_) => false,
+    }
+}
+
+fn is_sorted(alloc: Global, case: &Parted) -> bool {
+    let (rows, dim, want) = *case;
+    let Ok(table) = table_of(alloc, rows) else {
+        return false;
+    };
+    let are_sorted = are_sorted(alloc, &table, dim, want);
+    drop(table);
+    are_sorted
+}
+
+fn are_all_sorted(alloc: Global) -> bool {
+    'cases: for case in &SORTED {
+        if !is_sorted(alloc, case) {
+            return false;
+        }
+    }
+    true
+}
+
 // Whether all rows share just these entries.
 fn share(alloc: Global, table: &Table, first: Entry, second: Entry) -> bool {
     let Ok(nos) = table.all(alloc) else {
@@ -172,12 +226,12 @@ fn is_shared(alloc: Global, case: &Shared) -> bool {
     is_shared
 }
 
-/// Whether rows are parted, and share their values.
+/// Whether rows are ordered and parted, and share their values.
 pub(crate) fn are_right(alloc: Global) -> bool {
     'cases: for case in &SHARED {
         if !is_shared(alloc, case) {
             return false;
         }
     }
-    are_all_parted(alloc)
+    are_all_parted(alloc) && are_all_sorted(alloc)
 }

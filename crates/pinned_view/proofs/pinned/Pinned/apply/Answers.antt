@@ -10,8 +10,8 @@ use Rattle.pinned_view.specs.Versions.{Versions}
 use Rattle.pinned_view.proofs.Staying.{after_change, within_all}
 use Rattle.pinned_view.proofs.pinned.Pinned.apply.Goals as goal
 
-pub store_images-requires-clause-within : goal.store_images-requires-clause-within
-store_images-requires-clause-within g c =
+pub keep_images-requires-clause-within : goal.keep_images-requires-clause-within
+keep_images-requires-clause-within g c =
     let m = c.self.inside in
     subst (λ n. AreWithin n m.pins.items) (sym (ap length c.in-Ok.ensures.items))
     (within_all m.warehouse m.kept.items m.pins.items c.self.invariant.0.each)
@@ -23,10 +23,10 @@ invariant_of-self-in-Ok-apply g c =
     let now = c.apply.new.self.state in
     let file = c.args.bytes.now in
     let applied = applied_in now c.in-Ok-apply.applied in (
-      after_change m.warehouse c.apply.new.self c.last_images.new.self m.kept.items c.reserve_one.new.kept.items
-          c.store_images.new.kept.items c.last_images.result m.pins.items
-          c.in-Ok.ensures.items c.apply.ensures.images c.last_images.ensures.images c.last_images.ensures.rest
-          c.store_images.ensures.same c.store_images.ensures.within
+      after_change m.warehouse c.apply.new.self c.keep_images.new.warehouse m.kept.items c.reserve_one.new.kept.items
+          c.keep_images.new.kept.items c.apply.new.self.images m.pins.items
+          c.in-Ok.ensures.items c.apply.ensures.images refl c.keep_images.ensures.rest
+          c.keep_images.ensures.same c.keep_images.ensures.within
           (ap (λ (s : State). s.schema) (taken-of was Apply file applied c.in-Ok-apply.ensures.gives).1)
           (λ rows tree has. tree-after was now rows tree Apply file applied has c.in-Ok-apply.ensures.gives refl
           c.apply.ensures.valid.state) c.self.invariant.0,
@@ -37,15 +37,15 @@ invariant_of-self-in-Ok-apply g c =
 pub returns-in-Ok-apply-clause-numbers : goal.returns-in-Ok-apply-clause-numbers
 returns-in-Ok-apply-clause-numbers g c =
     let m = c.self.inside in
-    subst (λ (v : Versions). LeavesNumbers v.now c.args.bytes.now c.last_images.new.self) c.self.view_is
-    (subst (LeavesNumbers m.warehouse c.args.bytes.now) (sym c.last_images.ensures.rest) c.in-Ok-apply.ensures.numbers)
+    subst (λ (v : Versions). LeavesNumbers v.now c.args.bytes.now c.keep_images.new.warehouse) c.self.view_is
+    (subst (LeavesNumbers m.warehouse c.args.bytes.now) (sym c.keep_images.ensures.rest) c.in-Ok-apply.ensures.numbers)
 
 pub returns-in-Ok-apply-clause-apart : goal.returns-in-Ok-apply-clause-apart
 returns-in-Ok-apply-clause-apart g c =
     let m = c.self.inside in
-    subst (λ (v : Versions). LeavesOtherRecords v.now c.args.bytes.now c.last_images.new.self) c.self.view_is
+    subst (λ (v : Versions). LeavesOtherRecords v.now c.args.bytes.now c.keep_images.new.warehouse) c.self.view_is
     (subst (LeavesOtherRecords m.warehouse c.args.bytes.now)
-    (sym c.last_images.ensures.rest) c.in-Ok-apply.ensures.apart)
+    (sym c.keep_images.ensures.rest) c.in-Ok-apply.ensures.apart)
 
 pub returns-in-Err-clause-pins : goal.returns-in-Err-clause-pins
 returns-in-Err-clause-pins g c = ap (λ (v : Versions). v.pins) c.self.view_is
@@ -75,6 +75,7 @@ pub returns-in-Ok-apply-clause-pins : goal.returns-in-Ok-apply-clause-pins
 returns-in-Ok-apply-clause-pins g c = ap (λ (v : Versions). v.pins) c.self.view_is
 
 pub returns-in-Ok-apply-clause-valid : goal.returns-in-Ok-apply-clause-valid
+<<<<<<< HEAD
 returns-in-Ok-apply-clause-valid g c = c.last_images.ensures.valid
 
 pub returns-in-Ok-apply-clause-gives : goal.returns-in-Ok-apply-clause-gives
@@ -91,3 +92,6 @@ pub returns-in-Ok-apply-clause-steps : goal.returns-in-Ok-apply-clause-steps
 returns-in-Ok-apply-clause-steps g c =
     subst (λ (v : Versions). IsWithinCost v.now.state c.args.bytes.now c.args.steps.now c.apply.new.steps)
     c.self.view_is c.in-Ok-apply.ensures.steps
+=======
+returns-in-Ok-apply-clause-valid g c = c.keep_images.ensures.valid
+>>>>>>> a07e070bcf90396eeffd41cd9edc6e927b51465d

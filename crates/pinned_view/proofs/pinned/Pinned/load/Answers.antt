@@ -9,8 +9,8 @@ use Rattle.pinned_view.specs.Versions.{Versions}
 use Rattle.pinned_view.proofs.Staying.{after_change, within_all}
 use Rattle.pinned_view.proofs.pinned.Pinned.load.Goals as goal
 
-pub store_images-requires-clause-within : goal.store_images-requires-clause-within
-store_images-requires-clause-within g c =
+pub keep_images-requires-clause-within : goal.keep_images-requires-clause-within
+keep_images-requires-clause-within g c =
     let m = c.self.inside in
     subst (λ n. AreWithin n m.pins.items) (sym (ap length c.in-Ok.ensures.items))
     (within_all m.warehouse m.kept.items m.pins.items c.self.invariant.0.each)
@@ -22,10 +22,10 @@ invariant_of-self-in-Ok-load g c =
     let now = c.load.new.self.state in
     let file = c.args.bytes.now in
     let applied = applied_in now c.in-Ok-load.applied in (
-      after_change m.warehouse c.load.new.self c.last_images.new.self m.kept.items c.reserve_one.new.kept.items
-          c.store_images.new.kept.items c.last_images.result m.pins.items
-          c.in-Ok.ensures.items c.load.ensures.images c.last_images.ensures.images c.last_images.ensures.rest
-          c.store_images.ensures.same c.store_images.ensures.within
+      after_change m.warehouse c.load.new.self c.keep_images.new.warehouse m.kept.items c.reserve_one.new.kept.items
+          c.keep_images.new.kept.items c.load.new.self.images m.pins.items
+          c.in-Ok.ensures.items c.load.ensures.images refl c.keep_images.ensures.rest
+          c.keep_images.ensures.same c.keep_images.ensures.within
           (ap (λ (s : State). s.schema) (taken-of was Load file applied c.in-Ok-load.ensures.gives).1)
           (λ rows tree has. tree-after was now rows tree Load file applied has c.in-Ok-load.ensures.gives refl
           c.load.ensures.valid.state) c.self.invariant.0,
@@ -59,6 +59,7 @@ pub returns-in-Ok-load-clause-pins : goal.returns-in-Ok-load-clause-pins
 returns-in-Ok-load-clause-pins g c = ap (λ (v : Versions). v.pins) c.self.view_is
 
 pub returns-in-Ok-load-clause-valid : goal.returns-in-Ok-load-clause-valid
+<<<<<<< HEAD
 returns-in-Ok-load-clause-valid g c = c.last_images.ensures.valid
 
 pub returns-in-Ok-load-clause-gives : goal.returns-in-Ok-load-clause-gives
@@ -70,3 +71,6 @@ returns-in-Ok-load-clause-gives g c =
     c.self.view_is
     (subst (λ (now : Contents). result was.state Load file ≡ Ok (applied_in now.state applied))
     (sym c.last_images.ensures.rest) c.in-Ok-load.ensures.gives)
+=======
+returns-in-Ok-load-clause-valid g c = c.keep_images.ensures.valid
+>>>>>>> a07e070bcf90396eeffd41cd9edc6e927b51465d

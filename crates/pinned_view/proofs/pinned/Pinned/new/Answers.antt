@@ -6,8 +6,8 @@ use Rattle.pinned_view.proofs.pinned.Pinned.new.Goals as goal
 
 pub invariant_of-result : goal.invariant_of-result
 invariant_of-result c = (
-  no_pins c.last_images.new.self c.new.result.items c.in-Ok.pins.items
+  no_pins c.drop_images.new.self c.new.result.items c.in-Ok.pins.items
       (ap (λ (pins : List Pin). length pins) c.in-Ok.ensures.items)
-      (ap (λ (held : Contents). held.images) c.last_images.ensures.rest),
+      (ap (λ (held : Contents). held.images) c.drop_images.ensures.rest),
   c.in-Ok.ensures.capacity,
 )
