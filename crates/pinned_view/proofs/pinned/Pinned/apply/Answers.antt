@@ -75,23 +75,19 @@ pub returns-in-Ok-apply-clause-pins : goal.returns-in-Ok-apply-clause-pins
 returns-in-Ok-apply-clause-pins g c = ap (λ (v : Versions). v.pins) c.self.view_is
 
 pub returns-in-Ok-apply-clause-valid : goal.returns-in-Ok-apply-clause-valid
-<<<<<<< HEAD
-returns-in-Ok-apply-clause-valid g c = c.last_images.ensures.valid
+returns-in-Ok-apply-clause-valid g c = c.keep_images.ensures.valid
 
 pub returns-in-Ok-apply-clause-gives : goal.returns-in-Ok-apply-clause-gives
 returns-in-Ok-apply-clause-gives g c =
     let was = c.self.inside.warehouse in
     let file = c.args.bytes.now in
     let applied = c.in-Ok-apply.applied in
-    subst (λ (v : Versions). result v.now.state Apply file ≡ Ok (applied_in c.last_images.new.self.state applied))
+    subst (λ (v : Versions). result v.now.state Apply file ≡ Ok (applied_in c.keep_images.new.warehouse.state applied))
     c.self.view_is
     (subst (λ (now : Contents). result was.state Apply file ≡ Ok (applied_in now.state applied))
-    (sym c.last_images.ensures.rest) c.in-Ok-apply.ensures.gives)
+    (sym c.keep_images.ensures.rest) c.in-Ok-apply.ensures.gives)
 
 pub returns-in-Ok-apply-clause-steps : goal.returns-in-Ok-apply-clause-steps
 returns-in-Ok-apply-clause-steps g c =
     subst (λ (v : Versions). IsWithinCost v.now.state c.args.bytes.now c.args.steps.now c.apply.new.steps)
     c.self.view_is c.in-Ok-apply.ensures.steps
-=======
-returns-in-Ok-apply-clause-valid g c = c.keep_images.ensures.valid
->>>>>>> a07e070bcf90396eeffd41cd9edc6e927b51465d

@@ -59,18 +59,14 @@ pub returns-in-Ok-load-clause-pins : goal.returns-in-Ok-load-clause-pins
 returns-in-Ok-load-clause-pins g c = ap (λ (v : Versions). v.pins) c.self.view_is
 
 pub returns-in-Ok-load-clause-valid : goal.returns-in-Ok-load-clause-valid
-<<<<<<< HEAD
-returns-in-Ok-load-clause-valid g c = c.last_images.ensures.valid
+returns-in-Ok-load-clause-valid g c = c.keep_images.ensures.valid
 
 pub returns-in-Ok-load-clause-gives : goal.returns-in-Ok-load-clause-gives
 returns-in-Ok-load-clause-gives g c =
     let was = c.self.inside.warehouse in
     let file = c.args.bytes.now in
     let applied = c.in-Ok-load.applied in
-    subst (λ (v : Versions). result v.now.state Load file ≡ Ok (applied_in c.last_images.new.self.state applied))
+    subst (λ (v : Versions). result v.now.state Load file ≡ Ok (applied_in c.keep_images.new.warehouse.state applied))
     c.self.view_is
     (subst (λ (now : Contents). result was.state Load file ≡ Ok (applied_in now.state applied))
-    (sym c.last_images.ensures.rest) c.in-Ok-load.ensures.gives)
-=======
-returns-in-Ok-load-clause-valid g c = c.keep_images.ensures.valid
->>>>>>> a07e070bcf90396eeffd41cd9edc6e927b51465d
+    (sym c.keep_images.ensures.rest) c.in-Ok-load.ensures.gives)
