@@ -1,5 +1,5 @@
 use Rattle.std.proofs.Common.{◌≡◌, ◌≤◌, take, vec_capacity, vec_len}
-use Rattle.base_table.specs.Places.{AreThere, named, rows_of}
+use Rattle.base_table.specs.Places.{named, rows_of}
 use Rattle.cell_closure.proofs.Rows.{There}
 use Rattle.cell_closure.proofs.sorted_rows.SortedRows.all.Given as goal
 
