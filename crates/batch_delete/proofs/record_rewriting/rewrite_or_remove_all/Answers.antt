@@ -1,4 +1,4 @@
-use Rattle.std.proofs.Common.{length, ◌∙◌, ◌<◌, ◌+◌, Some, ap, arith, subst, sym}
+use Rattle.std.proofs.Common.{length, ◌∙◌, ◌+◌, Some, ap, arith, sym}
 use Rattle.qc_arena.specs.Map.{Arena, is_open}
 use Rattle.std.proofs.lemmas.Option.{slice_get_within}
 use Rattle.batch_delete.proofs.Growing.{item_at}
