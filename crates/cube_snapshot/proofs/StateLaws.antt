@@ -1,7 +1,6 @@
 -- A state has one spelling.
-use Rattle.std.proofs.Common.{◌≡◌, ◌∙◌, ◌≤◌, ◌<◌, ◌^◌, ℕ, zero, suc, List, [], ◌∷◌, ◌++◌, Some, length, map, get_or, nat_eq, refl, sym, ap}
-use Rattle.std.proofs.Common.{ap₂, subst, arith, length-append}
-use Rattle.std.specs.Int.{w32}
+use Rattle.std.proofs.Common.{◌≡◌, ◌∙◌, ◌≤◌, ◌<◌, ◌^◌, ℕ, zero, suc, List, [], ◌∷◌, Some, length, map, get_or, nat_eq, refl, sym, ap}
+use Rattle.std.proofs.Common.{ap₂, subst, arith}
 use Rattle.std.specs.List.{All, AllByRecursion, IsDistinct}
 use Rattle.std.proofs.lemmas.List.Elements.{All-cons, All-nil}
 use Rattle.base_table.specs.Places.{Places, rows_of}
@@ -16,7 +15,6 @@ use Rattle.cube_laws.specs.Recoding.{AreKnown, RowsAreKnown, coded_row, coded_tu
 use Rattle.cube_laws.proofs.CallerLemmas.{all_map}
 use Rattle.csv_load.specs.Batch.{IsLoaded, IsSmall, IsValue}
 use Rattle.qc_schema.specs.Schema.{Layout}
-use Rattle.qc_schema.specs.Spelling.{layout_text}
 use Rattle.qc_schema.proofs.CallerLemmas.{read-again, short-text}
 use Rattle.value_dict.specs.Recoded.{text_in}
 use Rattle.value_dict.specs.TextLists.{TextLists}
@@ -25,10 +23,10 @@ use Rattle.value_dict.proofs.CallerLemmas.{Fits, fits, any-within, rows-back}
 use Rattle.warehouse.specs.State.{IsState, IsConsistent, State, coded_rows, ids_of}
 use Rattle.warehouse.specs.Stored.{IsStored, state_of}
 use Rattle.warehouse.proofs.CallerLemmas as decoding
-use Rattle.cube_snapshot.specs.Format.{IsBytes, number, whole}
+use Rattle.cube_snapshot.specs.Format.{IsBytes, whole}
 use Rattle.cube_snapshot.specs.Parts.{AreTexts, IsRow, rows, texts}
 use Rattle.cube_snapshot.specs.Readers.{AreWithin, IsMade, Refuses, parts_made}
-use Rattle.cube_snapshot.specs.Snapshot.{IsSnapshot, Parts, texts_and_rows, mark_text, snapshot}
+use Rattle.cube_snapshot.specs.Snapshot.{IsSnapshot, Parts, snapshot}
 use Rattle.cube_snapshot.specs.States.{parts_in, spelling}
 use Rattle.cube_snapshot.specs.declared.refused.PartRefused.TheVariants.{Form}
 use Rattle.cube_snapshot.proofs.Looping.{some_is}

@@ -1,10 +1,9 @@
 -- The text of a schema is short.
-use Rattle.std.proofs.Common.{◌≡◌, ◌<◌, ◌≤◌, ◌+◌, ◌*◌, ◌^◌, ◌∙◌, ℕ, zero, suc, List, [], ◌∷◌, ◌++◌, length, map, refl, sym, ap, arith, true, false, Bool}
-use Rattle.std.proofs.Common.{get_or, length-append, subst}
-use Rattle.std.specs.Prelude.{not, ◌&&◌, ◌||◌, eqb, codes, decimal, nat_le}
+use Rattle.std.proofs.Common.{◌≡◌, ◌<◌, ◌≤◌, ◌+◌, ◌*◌, ◌^◌, ◌∙◌, ℕ, zero, suc, List, [], ◌∷◌, ◌++◌, length, map, refl, sym, arith, true, false, Bool}
+use Rattle.std.proofs.Common.{length-append}
+use Rattle.std.specs.Prelude.{not, ◌||◌, eqb, codes, decimal}
 use Rattle.std.specs.List.{list_all, list_any, flat_map, AllByRecursion, IsDistinct}
-use Rattle.std.specs.Str.{bytes_eq}
-use Rattle.std.proofs.lemmas.Bool.{and_parts, leb-true, not-true}
+use Rattle.std.proofs.lemmas.Bool.{and_parts, not-true}
 use Rattle.std.proofs.lemmas.Bool.Decides.{nat_tests}
 use Rattle.std.proofs.lemmas.Fmt.{length-decimal-le_succ}
 use Rattle.std.proofs.lemmas.List.{length-map}
@@ -15,8 +14,7 @@ use Rattle.aggregates.specs.declared.kind.AggKind.{AggKind}
 use Rattle.aggregates.specs.declared.kind.AggKind.TheVariants as kinds
 use Rattle.cube_defs.specs.Text.{Text}
 use Rattle.cube_defs.specs.declared.limits.TheConstants.{MAX_SCALE}
-use Rattle.qc_schema.specs.Schema.{IsLayout, Layout, Measure, all_different, is_name, is_name_byte, names_of, no_measure, version_word}
-use Rattle.qc_schema.specs.Schema.{max_measures}
+use Rattle.qc_schema.specs.Schema.{IsLayout, Layout, Measure, all_different, is_name, version_word}
 use Rattle.qc_schema.specs.Spelling.{dim_words, index_words, layout_text, layout_words, limit_words, line_text, measure_words, name_at}
 use Rattle.qc_schema.specs.declared.limits.SchemaVersion.{SchemaVersion}
 use Rattle.qc_schema.specs.declared.limits.SchemaVersion.TheVariants as versions
@@ -124,8 +122,12 @@ two-words a b = omega (arith, length-append a (32 ∷ (b ++ 10 ∷ [])), length-
 
 three-words : (a b c : Text) → length (line_text (a ∷ b ∷ c ∷ [])) ≡ length a + length b + length c + 3
 three-words a b c
-    = omega (arith, length-append a (32 ∷ (b ++ 32 ∷ (c ++ 10 ∷ []))), length-append b (32 ∷ (c ++ 10 ∷ [])),
-      length-append c (10 ∷ []))
+    = omega (
+      arith,
+      length-append a (32 ∷ (b ++ 32 ∷ (c ++ 10 ∷ []))),
+      length-append b (32 ∷ (c ++ 10 ∷ [])),
+      length-append c (10 ∷ []),
+    )
 
 abbrev IsShortLine : List Text → Type 0
 IsShortLine words = length (line_text words) ≤ 5000000
@@ -157,8 +159,7 @@ short-measures [] h scales = tt
 short-measures (m ∷ ms) h scales =
     let parts = and_parts (is_name m.name) (list_all is_name (map (λ n. n.name) ms)) h in
     let word : length (codes "measure") ≡ 7 = refl in
-    let digits = length-decimal-le_succ m.scale (omega (arith, scales.0)) in
-    (
+    let digits = length-decimal-le_succ m.scale (omega (arith, scales.0)) in (
       omega (
         arith,
         three-words (codes "measure") m.name (decimal m.scale),

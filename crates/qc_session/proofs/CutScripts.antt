@@ -18,7 +18,7 @@ use Rattle.pinned_view.specs.declared.pins.TheConstants.{MAX_PINS}
 use Rattle.qc_session.specs.Answers.{answer, answer_to, attempt_answer, change_answer, file_answer, widen_with, widened_by, with_pins}
 use Rattle.qc_session.specs.Lines.{is_passed}
 use Rattle.qc_session.specs.Packs.{Leads}
-use Rattle.qc_session.specs.Pins.{Pin, PinnedAnswer, PinnedState, pin_answer, pin_with, rows_at, unpin_answer, unpin_with, unpinned}
+use Rattle.qc_session.specs.Pins.{Pin, PinnedAnswer, PinnedState, pin_with, rows_at, unpin_with, unpinned}
 use Rattle.qc_session.specs.Runs.{Took}
 use Rattle.qc_session.specs.Transcript.{Item, Run, answered, item, items, run_at, step, transcript}
 
@@ -160,7 +160,7 @@ whole-alike : (t : FileContents) (start mid : State) (first second : List (List 
 unfolding transcript
 whole-alike t start mid first second replies took =
     let cut : fold (step t) (run_at (unpinned start) []) (items [] 0 (first ++ second))
-        ≡ fold (step t) (run_at (unpinned mid) replies) (items [] (0 + length first) second) =
+    ≡ fold (step t) (run_at (unpinned mid) replies) (items [] (0 + length first) second) =
     ap (λ (xs : List Item). fold (step t) (run_at (unpinned start) []) xs) (items-append 0 first second)
     ∙ fold-append (step t) (run_at (unpinned start) []) (items [] 0 first) (items [] (0 + length first) second)
     ∙ ap (λ (r : Run). fold (step t) r (items [] (0 + length first) second)) took.is in

@@ -1,6 +1,6 @@
 -- How one line goes on from those before it.
 use Rattle.std.specs.Prelude.{◌≡◌, ◌≤◌, ◌⊎◌, ◌+◌, ◌++◌, ℕ, true, List, [], ◌∷◌, Option, Some, None, IfSome, Result, MatchResult}
-use Rattle.std.specs.Prelude.{vec_capacity, ⊤}
+use Rattle.std.specs.Prelude.{vec_capacity}
 use Rattle.qc_io.specs.Outside.{FileContents}
 use Rattle.warehouse.specs.State.{State}
 use Rattle.qc_session.specs.Answers.{file_of}

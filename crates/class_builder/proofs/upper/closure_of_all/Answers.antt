@@ -1,4 +1,4 @@
-use Rattle.std.proofs.Common.{◌≡◌, ◌≤◌, arith}
+use Rattle.std.proofs.Common.{◌≤◌, arith}
 use Rattle.cell_closure.proofs.CallerLemmas.{there, closing_end}
 use Rattle.class_builder.proofs.upper.closure_of_all.Goals as goal
 

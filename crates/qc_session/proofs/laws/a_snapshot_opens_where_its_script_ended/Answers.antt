@@ -1,12 +1,10 @@
-use Rattle.std.proofs.Common.{◌≡◌, ◌≤◌, ◌∙◌, ℕ, List, [], ◌++◌, length, Some, IfSome, refl, sym, subst}
+use Rattle.std.proofs.Common.{◌≡◌, ◌≤◌, ◌∙◌, ℕ, List, length, Some, IfSome, refl, sym, subst}
 use Rattle.std.specs.Prelude.{Option}
 use Rattle.cube_defs.specs.declared.limits.TheConstants.{MAX_FILE}
-use Rattle.qc_io.specs.Outside.{FileContents}
 use Rattle.warehouse.specs.State.{IsState, State}
 use Rattle.cube_snapshot.specs.States.{spelling}
 use Rattle.cube_snapshot.proofs.CallerLemmas.{one-state}
-use Rattle.qc_session.specs.Forms.{FileNames, FromSnapshot, Source}
-use Rattle.qc_session.specs.Packs.{Packed}
+use Rattle.qc_session.specs.Forms.{FromSnapshot, Source}
 use Rattle.qc_session.specs.Runs.{Begins, IsStartOf}
 use Rattle.qc_session.proofs.laws.a_snapshot_opens_where_its_script_ended.Goals as goal
 
