@@ -18,6 +18,13 @@ use Rattle.reply_text.specs.Replies.{all_pinned_texts, name_taken_texts, not_pin
 use Rattle.warehouse.specs.State.{with_rows}
 use Rattle.qc_session.specs.Pins.{Pin, at_reply, pinned_state_in, is_called, pin_answer, pin_in, rows_at, unpin_answer, without_pin}
 
+-- an answer is no refusal, and a refusal is no other
+answer-is-no-refusal : (r : Result (Unit {0}) PinRefused) (e : PinRefused) → r ≡ Ok tt → r ≡ Err e → ⊥
+answer-is-no-refusal r e ok err = cc
+
+taken-is-not-full : (r : Result (Unit {0}) PinRefused) → r ≡ Err NameTaken → r ≡ Err AllPinned → ⊥
+taken-is-not-full r taken full = cc
+
 -- the rows of a name are those of its version
 rows-of : (versions : List Version) (name : Text)
     → rows_at (map pin_in versions) name ≡ option_map (λ version. version.rows) (version_of versions name)
@@ -62,8 +69,8 @@ module _ (held : Versions) (number : ℕ) (name : Text) where
       by : (found : Option Version) → version_of held.pins name ≡ found → (room : Bool)
           → nat_lt (length held.pins) MAX_PINS ≡ room → Ok tt ≡ refused found room
           → pin_answer (pinned_state_in held) number name ≡ record { state = pinned_state_in new; reply = reply }
-      by (Some version) f room r e = cc
-      by None f false r e = cc
+      by (Some version) f room r e = absurd (answer-is-no-refusal _ _ refl e)
+      by None f false r e = absurd (answer-is-no-refusal _ _ refl e)
       by None f true r e = rw (
         rows-of held.pins name,
         f,
@@ -83,8 +90,8 @@ module _ (held : Versions) (number : ℕ) (name : Text) where
           → Err NameTaken ≡ refused found room
           → pin_answer (pinned_state_in held) number name ≡ record { state = pinned_state_in new; reply = reply }
       by (Some version) f room e = rw (rows-of held.pins name, f, is, told) refl
-      by None f true e = cc
-      by None f false e = cc
+      by None f true e = absurd (answer-is-no-refusal _ _ e refl)
+      by None f false e = absurd (taken-is-not-full _ refl e)
 
   pub pin-full : (new : Versions) (reply : List ℕ) → Err AllPinned ≡ pin_refusal held.pins name → new ≡ held
       → reply ≡ refused_text number all_pinned_texts
@@ -94,8 +101,8 @@ module _ (held : Versions) (number : ℕ) (name : Text) where
       by : (found : Option Version) → version_of held.pins name ≡ found → (room : Bool)
           → nat_lt (length held.pins) MAX_PINS ≡ room → Err AllPinned ≡ refused found room
           → pin_answer (pinned_state_in held) number name ≡ record { state = pinned_state_in new; reply = reply }
-      by (Some version) f room r e = cc
-      by None f true r e = cc
+      by (Some version) f room r e = absurd (taken-is-not-full _ e refl)
+      by None f true r e = absurd (answer-is-no-refusal _ _ e refl)
       by None f false r e = rw (rows-of held.pins name, f, length-map held.pins pin_in, r, is, told) refl
 
   pub unpin-done : (new : Versions) (reply : List ℕ) → IsSome (version_of held.pins name)
