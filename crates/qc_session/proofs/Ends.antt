@@ -242,7 +242,7 @@ module _ {names : FileNames} {told : Option FileContents} {steady : Bool} {first
       at_file = λ e. (
         h.rose (sym is ∙ e),
         begun-unread told names _ _ _ cause o.skipped.items bytes err.taken_before err.taken_after h
-            (sym is ∙ e) said,
+            (sym is ∙ e) none said,
       );
       at_write = λ e. absurd (no-write (status_of cause) h.known (sym is ∙ e));
       at_memory = λ e. (opened, refl, none, rw (memory-only cause (sym is ∙ e)) at said);

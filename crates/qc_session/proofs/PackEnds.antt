@@ -97,7 +97,7 @@ module _ {names : FileNames} {told : Option FileContents} {steady : Bool} {first
       at_file = λ e. (
         refl,
         h.rose (sym is ∙ e),
-        begun-unread told names _ _ _ cause [] None err.taken_before err.taken_after h (sym is ∙ e) said,
+        begun-unread told names _ _ _ cause [] None err.taken_before err.taken_after h (sym is ∙ e) refl said,
       );
       at_write = λ e. absurd (no-write (status_of cause) h.known (sym is ∙ e));
       at_memory = λ e. (refl, rw (memory-only cause (sym is ∙ e)) at said);

@@ -1,5 +1,5 @@
 -- What follows where a file of the words wasn't read, or is refused.
-use Rattle.std.proofs.Common.{◌≡◌, ◌<◌, ◌⊎◌, ℕ, List, refl, Option, Some, None, IfSome, inl, inr, arith, length, ap}
+use Rattle.std.proofs.Common.{◌≡◌, ◌<◌, ◌⊎◌, ℕ, List, [], refl, sym, subst, Option, Some, None, IfSome, inl, inr, arith, length, ap}
 use Rattle.std.specs.Prelude.{IsSomeAnd}
 use Rattle.cube_defs.specs.declared.limits.TheConstants.{MAX_FILE}
 use Rattle.qc_io.specs.Outside.{FileContents}
@@ -14,7 +14,7 @@ use Rattle.warehouse.specs.State.{State}
 abbrev IsUnread : Option FileContents → FileNames → Type 0 → Cause → Type 0
 IsUnread told names sure cause =
     IfSome told (λ t. (name : List ℕ) × (cause ≡ CannotRead name)
-    × ((skipped : List ℕ) (bytes : Option (List ℕ)) → Unread t sure names skipped name bytes bytes))
+    × ((bytes : Option (List ℕ)) → Unread t sure names [] name bytes bytes))
 
 module _ (told : Option FileContents) (names : FileNames) (rose sure : Type 0) where
   unread-named : (file : List ℕ) → rose → IsUnread told names sure (CannotRead file)
@@ -52,7 +52,7 @@ first-not-begun told names rose sure (CannotRead file) h = unread-named told nam
     by (Some t) u = (
       file,
       refl,
-      λ skipped bytes. inl (record { is_first = h.0; nothing = refl; untold = λ s. rw h.0 (u s) }),
+      λ bytes. inl (record { is_first = h.0; nothing = refl; unskipped = refl; untold = λ s. rw h.0 (u s) }),
     )
 first-not-begun told names rose sure CannotWrite h = absurd h
 first-not-begun told names rose sure OutOfMemory h = no-memory told names rose sure
@@ -91,11 +91,12 @@ script-not-begun told names start rose later sure sure2 (CannotRead file) is sur
     by (Some t) is u = (
       file,
       refl,
-      λ skipped bytes. inr (inl (record {
+      λ bytes. inr (inl (record {
         is_script = h.0;
         start = start;
         start_read = is;
         nothing = refl;
+        unskipped = refl;
         untold
             = λ s. rw h.0 (u (surer s));
       })),
@@ -137,16 +138,20 @@ begun-status told names rose sure cause status h is = rw is (by h.known)
 
 pub begun-unread : (told : Option FileContents) (names : FileNames) (rose sure r : Type 0) (cause : Cause)
     (skipped : List ℕ) (bytes err err2 : Option (List ℕ)) → NotBegun told names rose sure cause → status_of cause ≡ 3
-    → HasReported r cause err err2
+    → skipped ≡ [] → HasReported r cause err err2
     → IfSome told (λ t. (name : List ℕ) × Unread t sure names skipped name bytes bytes
     × HasReported r (CannotRead name) err err2)
-begun-unread told names rose sure r cause skipped bytes err err2 h is said = by told (h.unread is)
+begun-unread told names rose sure r cause skipped bytes err err2 h is none said = by told (h.unread is)
   where
     by : (told : Option FileContents) → IsUnread told names sure cause
         → IfSome told (λ t. (name : List ℕ) × Unread t sure names skipped name bytes bytes
         × HasReported r (CannotRead name) err err2)
     by None u = tt
-    by (Some t) (name, same, unread) = (name, unread skipped bytes, rw same at said)
+    by (Some t) (name, same, unread) = (
+      name,
+      subst (λ (ks : List ℕ). Unread t sure names ks name bytes bytes) (sym none) (unread bytes),
+      rw same at said,
+    )
 
 pub begun-refused : (told : Option FileContents) (names : FileNames) (rose sure r : Type 0) (cause : Cause)
     (err err2 : Option (List ℕ)) → NotBegun told names rose sure cause → status_of cause ≡ 6

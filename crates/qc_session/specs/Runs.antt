@@ -234,25 +234,27 @@ pub record LineUnread (told : FileContents) (sure : Type 0) (names : FileNames) 
   pub script_read : IsScriptOf told names.script script
   pub stopped : StoppedAt told sure start skipped (script_lines script) name before now
 
--- the first file couldn't be read
-pub record FirstUnread (told : FileContents) (sure : Type 0) (names : FileNames) (name : List ℕ)
+-- the first file couldn't be read; no line is skipped
+pub record FirstUnread (told : FileContents) (sure : Type 0) (names : FileNames) (skipped : List ℕ) (name : List ℕ)
     (before now : Option (List ℕ)) : Type 0 where
   pub is_first : name ≡ names.first
   pub nothing : now ≡ before
+  pub unskipped : skipped ≡ []
   pub untold : sure → told name ≡ None
 
--- the script couldn't be read, and the first file was
-pub record ScriptUnread (told : FileContents) (sure : Type 0) (names : FileNames) (name : List ℕ)
+-- the script couldn't be read, and the first file was; no line is skipped
+pub record ScriptUnread (told : FileContents) (sure : Type 0) (names : FileNames) (skipped : List ℕ) (name : List ℕ)
     (before now : Option (List ℕ)) : Type 0 where
   pub is_script : name ≡ names.script
   pub start : State
   pub start_read : IsStartOf told names start
   pub nothing : now ≡ before
+  pub unskipped : skipped ≡ []
   pub untold : sure → told name ≡ None
 
 abbrev pub Unread : FileContents → Type 0 → FileNames → List ℕ → List ℕ → Option (List ℕ) → Option (List ℕ) → Type 0
 Unread told sure names skipped name before now =
-    FirstUnread told sure names name before now ⊎ ScriptUnread told sure names name before now
+    FirstUnread told sure names skipped name before now ⊎ ScriptUnread told sure names skipped name before now
     ⊎ LineUnread told sure names skipped name before now
 
 -- the file that a line names is told, where it names one
@@ -273,5 +275,5 @@ pub record NotBegun (told : Option FileContents) (names : FileNames) (faulted su
   pub rose : status_of cause ≡ 3 → faulted
   pub unread : status_of cause ≡ 3
       → IfSome told (λ t. (name : List ℕ) × (cause ≡ CannotRead name)
-      × ((skipped : List ℕ) (bytes : Option (List ℕ)) → Unread t sure names skipped name bytes bytes))
+      × ((bytes : Option (List ℕ)) → Unread t sure names [] name bytes bytes))
   pub refused : status_of cause ≡ 6 → IfSome told (λ t. IsRefused t names cause)
