@@ -4,12 +4,14 @@
 
 mod by_code;
 mod closure;
+mod coded_rows;
 mod order;
 mod parts;
 mod sorted_rows;
 mod width;
 
 pub use closure::{closure_of, shared_entry};
+pub use coded_rows::CodedRows;
 pub use cube_defs::Memory;
 pub use parts::{Parts, part};
 pub use sorted_rows::SortedRows;

@@ -5,8 +5,8 @@ ghost use Rattle.cell_closure.specs.Parts.{no_part, parted};
 ghost use Rattle.cell_closure.specs.Runs.{no_row, pieces, runs};
 
 use crate::Memory;
-use crate::by_code::{Keyed, Sorter, read_codes, read_table_codes, sort_by_code};
-use crate::sorted_rows::SortedRows;
+use crate::by_code::{Keyed, Sorter, read_codes, sort_by_code};
+use crate::coded_rows::CodedRows;
 use base_table::{RowNo, Table};
 use cell_core::Code;
 use std::alloc::Global;
@@ -79,10 +79,15 @@ impl Parts {
 
     /// Groups rows by their codes in a dimension, in place of the earlier groups. Each part has its
     /// rows in the given order. After a refusal there are no parts.
-    pub fn regroup(&mut self, table: &SortedRows, rows: &[RowNo], dim: u8) -> Result<(), Memory>
-        requires there { AreThere table.now rows.now }
-        requires dim { dim < table.now.dims }
-        ensures ok { IfOk result (λ _. self.new ≡ parted table.now rows.now dim) }
+    pub fn regroup<R: CodedRows>(
+        &mut self,
+        table: &R,
+        rows: &[RowNo],
+        dim: u8,
+    ) -> Result<(), Memory>
+        requires there { AreThere (R.rows table.now) rows.now }
+        requires dim { dim < (R.rows table.now).dims }
+        ensures ok { IfOk result (λ _. self.new ≡ parted (R.rows table.now) rows.now dim) }
         ensures err { OnErr result (self.new ≡ []) }
     {
         self.cuts.clear();
@@ -90,21 +95,6 @@ impl Parts {
         sort_by_code(&mut self.sorter, most)?;
         list_rows(&mut self.rows, &self.sorter.keyed)?;
         list_cuts(&mut self.cuts, &self.sorter.keyed)?;
-        Ok(())
-    }
-
-    /// Groups rows of a table, as `regroup` does.
-    fn regroup_table(&mut self, table: &Table, rows: &[RowNo], dim: u8) -> Result<(), Memory>
-        requires there { AreThere table.now rows.now }
-        requires dim { dim < table.now.dims }
-        ensures { IfOk result (λ _. self.new ≡ parted table.now rows.now dim) }
-    {
-        self.cuts.clear();
-        let most = read_table_codes(&mut self.sorter.keyed, table, rows, dim)?;
-        sort_by_code(&mut self.sorter, most)?;
-        let keyed = &self.sorter.keyed;
-        list_rows(&mut self.rows, keyed)?;
-        list_cuts(&mut self.cuts, keyed)?;
         Ok(())
     }
 }
@@ -116,7 +106,7 @@ pub fn part(alloc: Global, table: &Table, rows: &[RowNo], dim: u8) -> Result<Par
     ensures { IfOk result (λ parts. parts ≡ parted table.now rows.now dim) }
 {
     let mut parts = Parts::new(alloc);
-    parts.regroup_table(table, rows, dim)?;
+    parts.regroup(table, rows, dim)?;
     Ok(parts)
 }
 

@@ -1,6 +1,6 @@
 -- The acts for all rows, from an arena without nodes to the canonical tree.
-use Rattle.std.proofs.Common.{◌≡◌, ℕ, ◌-◌, ◌<◌, ◌≤◌, true, Some, None, List, [], ◌∷◌, length, replicate, nat_cmp, append-nil, length-append, refl}
-use Rattle.std.proofs.Common.{sym, ap, ap₂, subst, ◌∙◌, arith, is_some, true≢false}
+use Rattle.std.proofs.Common.{◌≡◌, ℕ, ◌-◌, ◌<◌, ◌≤◌, true, Some, None, List, [], ◌∷◌, length, replicate, nat_cmp}
+use Rattle.std.proofs.Common.{append-nil, length-append, refl, sym, ap, ap₂, subst, ◌∙◌, arith, is_some, true≢false}
 use Rattle.std.specs.FinMap as map
 use Rattle.std.specs.Option.{option_map}
 use Rattle.cube_defs.specs.Cell.{Cell, cell_prefix}

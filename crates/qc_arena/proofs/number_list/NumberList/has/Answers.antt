@@ -5,7 +5,8 @@ use Rattle.qc_arena.specs.Entries.{all_new}
 use Rattle.qc_arena.specs.Numbers.{Numbers, run}
 use Rattle.qc_arena.proofs.Looked.{search_found, search_missed}
 use Rattle.qc_arena.proofs.Runs.{found_listed, found_run, missed, sorted_listed}
-use Rattle.qc_arena.proofs.number_list.NumberList.has.Goals.{else-self-number-via-else-self-number, else-self-number-via-then-self-number+else-number-self}
+use Rattle.qc_arena.proofs.number_list.NumberList.has.Goals.{else-self-number-via-else-self-number}
+use Rattle.qc_arena.proofs.number_list.NumberList.has.Goals.{else-self-number-via-then-self-number+else-number-self}
 use Rattle.qc_arena.proofs.number_list.NumberList.has.Goals as goal
 
 pub returns-then-number-self : goal.returns-then-number-self
