@@ -15,7 +15,8 @@ use std::mem::ManuallyDrop;
 use std::snapshot::Snapshot;
 
 /// A copy of the rows of a table in the order of their tuples: rows whose tuples begin alike lie
-/// next to each other. The number of a row is its place in this order.
+/// next to each other. Tuples of one dimension keep the order of the table, since a walk groups them
+/// only once. The number of a row is its place in this order.
 #[derive(Drop)]
 pub struct SortedRows {
     dims: u8,
@@ -44,7 +45,7 @@ impl Model for SortedRows {
 }
 
 impl SortedRows {
-    /// The rows of the table in the order of their tuples.
+    /// The rows of the table in the order of their tuples, or in its own if it has one dimension.
     pub fn of(alloc: Global, table: &Table) -> Result<SortedRows, Memory>
         ensures rows { IfOk result (λ rows. Reordered (rows_of table.now) (rows_of rows)) }
         ensures dims { IfOk result (λ rows. rows.dims ≡ table.now.dims) }
