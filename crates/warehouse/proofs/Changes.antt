@@ -21,7 +21,7 @@ tuple_of c = (row_of c).tuple
 abbrev pub amounts_of : Change Text → List ℤ
 amounts_of c = (row_of c).amounts
 
-change-at : (changes : List (Change Text)) (k : ℕ) → change_at changes (k + 1) ≡ get_or changes k (Delete 0)
+pub change-at : (changes : List (Change Text)) (k : ℕ) → change_at changes (k + 1) ≡ get_or changes k (Delete 0)
 change-at changes k = let same : k + 1 - 1 ≡ k = omega arith in ap (λ (n : ℕ). get_or changes n (Delete 0)) same
 
 pub one-before : (changes : List (Change Text)) (k : ℕ) → take (k + 1 - 1) changes ≡ take k changes

@@ -10,6 +10,7 @@ mod TreeInsertions
 mod Inserting
 mod Texts
 mod Values
+mod RisingIds
 mod Rows
 pub mod Pinned
 pub mod States

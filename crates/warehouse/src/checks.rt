@@ -74,10 +74,32 @@ fn first_repeated(seen: &mut ChangeIds, batch: &RawBatch) -> Result<Option<u32>,
     Ok(None)
 }
 
-// The number of the first change with the operation and the id of an earlier one.
+// Whether each id is larger than that of the change before. Then no change repeats an earlier one.
+fn do_ids_rise(batch: &RawBatch) -> bool
+    ensures { result ≡ true → first_twice batch.now.changes ≡ None }
+{
+    if batch.len() == 0 {
+        return true;
+    }
+    let mut last = batch.id(1);
+    'changes: for before in 1..batch.len() {
+        let id = batch.id(before + 1);
+        if id <= last {
+            return false;
+        }
+        last = id;
+    }
+    true
+}
+
+// The number of the first change with the operation and the id of an earlier one. Most files have
+// rising ids, and need no set of them.
 fn first_repeat(alloc: Global, keys: HashKeys, batch: &RawBatch) -> Result<Option<u32>, Memory>
     ensures { IfOk result (λ k. k ≡ first_twice batch.now.changes) }
 {
+    if do_ids_rise(batch) {
+        return Ok(None);
+    }
     let mut seen = ChangeIds::of_batch(alloc, keys, batch)?;
     let found = first_repeated(&mut seen, batch);
     drop(seen);
