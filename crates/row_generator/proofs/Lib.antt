@@ -1,1 +1,4 @@
 mod Pieces
+mod Fields
+mod Records
+mod Changes
