@@ -1,6 +1,6 @@
 -- The fields of the generated records, as the loader reads them.
-use Rattle.std.proofs.Common.{◌≡◌, ◌∙◌, ℕ, zero, suc, ◌+◌, ◌%◌, ◌/◌, ◌^◌, ◌<◌, ◌≤◌, List, [], ◌∷◌, ◌++◌, length, refl, sym, ap, arith, true, Bool}
-use Rattle.std.proofs.Common.{ℤ, pos, negsuc, ◌-ℤ◌, nat_abs, decimal, cond}
+use Rattle.std.proofs.Common.{◌≡◌, ◌∙◌, ℕ, zero, suc, ◌+◌, ◌-◌, ◌*◌, ◌%◌, ◌/◌, ◌^◌, ◌<◌, ◌≤◌, List, [], ◌∷◌, ◌++◌, length, refl}
+use Rattle.std.proofs.Common.{arith, rules, true, ℤ, pos, negsuc, ◌-ℤ◌, nat_abs, decimal}
 use Rattle.std.specs.Prelude.{◌==◌, ◌&&◌, not}
 use Rattle.std.specs.Char.{is_ascii_digit}
 use Rattle.std.specs.List.{list_all}
@@ -8,12 +8,13 @@ use Rattle.std.specs.Str.{all_ascii_digits, is_utf8}
 use Rattle.std.proofs.lemmas.Bool.{and_from, and_parts, le-leb}
 use Rattle.std.proofs.lemmas.Bool.Decides.{nat_tests}
 use Rattle.std.proofs.lemmas.Int.{ints}
-use Rattle.std.proofs.lemmas.Fmt.{IsAscii-decimal, length-decimal-le}
+use Rattle.std.proofs.lemmas.Fmt.{IsAscii-decimal, digits_decimal, length-decimal-le}
 use Rattle.std.proofs.lemmas.List.Folds.{list_all-append}
+use Rattle.std.proofs.lemmas.Str.Parse.{IsNumeralModel, numerals_by_fold}
 use Rattle.std.proofs.lemmas.Str.{IsUtf8-from_ascii, is_utf8-from_IsUtf8}
 use Rattle.std.proofs.lemmas.Str.Ascii.{IsAscii-cons}
 use Rattle.std.proofs.Math.Nat.{div-le_self}
-use Rattle.aggregates.proofs.ReadBack.{digits-decimal, digits-last_digits}
+use Rattle.aggregates.specs.Numbers.{number, number_after}
 use Rattle.aggregates.specs.Texts.{amount_text, last_digits, places_text, sign_text}
 use Rattle.cube_defs.specs.declared.limits.TheConstants.{MAX_AMOUNT, MAX_TEXT}
 use Rattle.csv_load.specs.Files.{is_short}
@@ -29,8 +30,18 @@ digits-bare (b ∷ bs) h =
     let p = and_parts (is_ascii_digit b) (all_ascii_digits bs) h in
     and_from (is_bare b) (list_all is_bare bs) (digit-bare b p.0) (digits-bare bs p.1)
 
+numerals : IsNumeralModel (λ ds. all_ascii_digits ds ≡ true) number
+numerals = numerals_by_fold _ (search rules) number_after (search rules)
+
+digit-is : (d : ℕ) → d < 10 → is_ascii_digit (48 + d) ≡ true
+digit-is d h = grind (arith, nat_tests)
+
+last-digits : (k n : ℕ) → all_ascii_digits (last_digits k n) ≡ true
+last-digits zero n = refl
+last-digits (suc k) n = rw (digit-is (n / 10 ^ k % 10) (omega arith)) (last-digits k n)
+
 pub decimal-bare : (n : ℕ) → n < 2 ^ 64 → list_all is_bare (decimal n) ≡ true
-decimal-bare n h = digits-bare (decimal n) (digits-decimal n h)
+decimal-bare n h = digits-bare (decimal n) (digits_decimal numerals n h)
 
 -- ---- amounts
 
@@ -55,7 +66,7 @@ amount-bare z h =
     both-bare (sign_text z ++ decimal (nat_abs z / 10 ^ 2)) (places_text 2 (nat_abs z))
     (both-bare (sign_text z) (decimal (nat_abs z / 10 ^ 2)) (sign-bare z)
     (decimal-bare (nat_abs z / 10 ^ 2) (omega (arith, whole, h))))
-    (digits-bare (last_digits 2 (nat_abs z)) (digits-last_digits 2 (nat_abs z)))
+    (digits-bare (last_digits 2 (nat_abs z)) (last-digits 2 (nat_abs z)))
 
 -- ---- values
 

@@ -2,4 +2,4 @@ mod Pieces
 mod Fields
 mod Records
 mod Changes
-pub mod Cells
+mod Cells
