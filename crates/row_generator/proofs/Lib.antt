@@ -1,1 +1,5 @@
 mod Pieces
+mod Fields
+mod Records
+mod Changes
+mod Cells

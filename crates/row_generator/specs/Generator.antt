@@ -15,9 +15,13 @@ after_draws (suc k) s = after_draws k (after_draw s)
 unfoldable pub number_drawn : ℕ → ℕ → ℕ
 number_drawn most s = s / 2 ^ 33 % most
 
--- a field with its comma: the name of the dimension, and the number that the next draw gives
+-- a value of a dimension: the dimension's name, and the number that the next draw gives
+abbrev pub drawn_value : ℕ → ℕ → ℕ → List ℕ
+drawn_value name most s = name ∷ decimal (number_drawn most (after_draw s))
+
+-- the value's field with its comma
 abbrev pub value_text : ℕ → ℕ → ℕ → List ℕ
-value_text name most s = 44 ∷ name ∷ decimal (number_drawn most (after_draw s))
+value_text name most s = 44 ∷ drawn_value name most s
 
 -- the fields of a row's five dimensions, a to e
 abbrev pub values_text : ℕ → List ℕ

@@ -4,6 +4,7 @@
 
 mod draws;
 mod files;
+pub mod laws;
 mod rows;
 
 pub use draws::Draws;

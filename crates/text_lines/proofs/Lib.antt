@@ -5,5 +5,6 @@ pub mod Unmarked
 mod Splits
 mod WordSplits
 pub mod Pieces
+pub mod PlainLines
 mod Fields
 pub mod CallerLemmas
